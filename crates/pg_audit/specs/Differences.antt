@@ -10,14 +10,12 @@ whole_lines [] = []
 whole_lines (b ∷ bs) = if is_line_feed b then (b ∷ []) ∷ whole_lines bs
     else onto_first b (whole_lines bs)
 
--- where two files differ: the number of a line, from 1, and the line that the given file has there,
--- which is empty where it has none
+-- where two files differ: the line's number, from 1, and the given line, empty where it is missing
 pub record Difference : Type 0 where
   pub line : ℕ
   pub found : List ℕ
 
--- the first line, where these have the numbers from `line` on, at which the given ones differ from
--- the wanted; a missing line differs from every line
+-- the first line, from number `line` on, at which given and wanted differ, or one of them has none
 abbrev pub difference_from : ℕ → List (List ℕ) → List (List ℕ) → Option Difference
 difference_from line [] [] = None
 difference_from line [] (wanted ∷ rest) = Some (record { line = line; found = [] })

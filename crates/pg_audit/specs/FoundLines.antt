@@ -11,8 +11,7 @@ has_feed line = is_line_feed (slice_index line (length line - 1))
 abbrev pub without_feed : List ℕ → List ℕ
 without_feed line = if has_feed line then take (length line - 1) line else line
 
--- what stands in place of a line that is due: no line, the first 200 bytes of a line that has more,
--- or the line, behind which the file may end
+-- what is printed in place of a line: none, the first 200 bytes of a longer one, or the line
 abbrev pub found_text : List ℕ → List ℕ
 found_text [] = codes " is missing"
 found_text line = let bare = without_feed line in

@@ -5,7 +5,7 @@ use Rattle.std.proofs.lemmas.List.{get_or_past, get_or_default}
 use Rattle.std.specs.List.{list_any}
 use Rattle.std.specs.Option.{option_map}
 use Rattle.std.specs.FinMap.{find, put, is_sorted}
-use Rattle.pg_types.specs.Placement.{Family, Families, family_at, without_family, is_used, least_base, with_one_sign, with_sign, placed, cell_of, base_of}
+use Rattle.pg_types.specs.Placement.{Family, Families, family_at, without_family, is_used, least_base, with_one_sign, with_sign, with_placed_family, cell_of, base_of}
 use Rattle.pg_cells.specs.declared.fit.Slot.{Slot}
 use Rattle.pg_cells.specs.Inside.Lists.{Row, sign_at, child_at, base_at, IsFree}
 use Rattle.pg_cells.specs.Inside.Store.{Extends}
@@ -54,10 +54,10 @@ pub sign_new : (few n : ℕ) (fs : Families) (p : List ℕ) (s : ℕ) → T (is_
 unfolding with_sign
 sign_new few n fs p s sorted none =
     ap (λ o. elim o as (λ _. Families) [
-      | None ↦ placed few n fs p (s ∷ [])
+      | None ↦ with_placed_family few n fs p (s ∷ [])
       | Some f ↦ elim (is_used fs (f.base + s)) as (λ _. Families) [
         | false ↦ put order p (record { base = f.base; signs = with_one_sign s f.signs }) fs
-        | true ↦ placed few n (without_family fs p) p (with_one_sign s f.signs)
+        | true ↦ with_placed_family few n (without_family fs p) p (with_one_sign s f.signs)
       ]
     ]) none
     ∙ ap (λ l. put order p (record { base = least_base few n l (s ∷ []); signs = s ∷ [] }) l) (sym (without_none fs p sorted none))
@@ -67,31 +67,31 @@ pub sign_joins : (few n : ℕ) (fs : Families) (p : List ℕ) (s : ℕ) (f : Fam
 unfolding with_sign
 sign_joins few n fs p s f at free =
     ap (λ o. elim o as (λ _. Families) [
-      | None ↦ placed few n fs p (s ∷ [])
+      | None ↦ with_placed_family few n fs p (s ∷ [])
       | Some f ↦ elim (is_used fs (f.base + s)) as (λ _. Families) [
         | false ↦ put order p (record { base = f.base; signs = with_one_sign s f.signs }) fs
-        | true ↦ placed few n (without_family fs p) p (with_one_sign s f.signs)
+        | true ↦ with_placed_family few n (without_family fs p) p (with_one_sign s f.signs)
       ]
     ]) at
     ∙ ap (λ b. elim b as (λ _. Families) [
       | false ↦ put order p (record { base = f.base; signs = with_one_sign s f.signs }) fs
-      | true ↦ placed few n (without_family fs p) p (with_one_sign s f.signs)
+      | true ↦ with_placed_family few n (without_family fs p) p (with_one_sign s f.signs)
     ]) free
 
 pub sign_moves : (few n : ℕ) (fs : Families) (p : List ℕ) (s : ℕ) (f : Family) → family_at fs p ≡ Some f → is_used fs (f.base + s) ≡ true
-    → with_sign few n fs p s ≡ placed few n (without_family fs p) p (with_one_sign s f.signs)
+    → with_sign few n fs p s ≡ with_placed_family few n (without_family fs p) p (with_one_sign s f.signs)
 unfolding with_sign
 sign_moves few n fs p s f at used =
     ap (λ o. elim o as (λ _. Families) [
-      | None ↦ placed few n fs p (s ∷ [])
+      | None ↦ with_placed_family few n fs p (s ∷ [])
       | Some f ↦ elim (is_used fs (f.base + s)) as (λ _. Families) [
         | false ↦ put order p (record { base = f.base; signs = with_one_sign s f.signs }) fs
-        | true ↦ placed few n (without_family fs p) p (with_one_sign s f.signs)
+        | true ↦ with_placed_family few n (without_family fs p) p (with_one_sign s f.signs)
       ]
     ]) at
     ∙ ap (λ b. elim b as (λ _. Families) [
       | false ↦ put order p (record { base = f.base; signs = with_one_sign s f.signs }) fs
-      | true ↦ placed few n (without_family fs p) p (with_one_sign s f.signs)
+      | true ↦ with_placed_family few n (without_family fs p) p (with_one_sign s f.signs)
     ]) used
 
 module _ {V : Type 0} (few n : ℕ) (r : Row V) (t : Trie V) (trie : IsTrie n r t) (p : List ℕ) (parent : ℕ) (parent_is : cell_of t.families p ≡ Some parent)

@@ -9,7 +9,7 @@ use Rattle.std.proofs.lemmas.Bool.{ne_eqb}
 use Rattle.pg_cells.specs.declared.cell.Cell.{Cell}
 use Rattle.pg_cells.specs.declared.cell.TheConstants.{HALF_COUNT}
 use Rattle.pg_cells.specs.declared.member.Member.{Member}
-use Rattle.pg_cells.specs.Inside.Lists.{lists, lone, bared, child_seen, member_seen, before_seen, pair_of, sign_at, child_at, base_at, before_at, after_at, IsFree, with_befores, with_afters, with_child, with_value, with_base, with_taken, with_free}
+use Rattle.pg_cells.specs.Inside.Lists.{lists, lone, bared, child_seen, member_seen, before_seen, pair_of, sign_at, child_at, base_at, before_at, after_at, IsFree, with_before, with_after, with_child, with_value, with_base, with_taken, with_free}
 
 -- a number is that of its halves
 halves : (x : ℕ) → pair_of (x / HALF_COUNT) (x % HALF_COUNT) ≡ x
@@ -54,7 +54,7 @@ module _ {V : Type 0} (cells : List (Cell V)) (i : ℕ) (d : Cell V) where
   free_member : (high low : ℕ) → old.sign ≡ 0 → member_seen (record old { next = high; first = low }) ≡ member_seen old
   free_member high low e = rw e refl
 
-  pub write_before : (x : ℕ) → i < length cells → IsFree (lists cells).row i → lists (set cells i (record old { next = x / HALF_COUNT; first = x % HALF_COUNT })) ≡ with_befores (lists cells) i x
+  pub write_before : (x : ℕ) → i < length cells → IsFree (lists cells).row i → lists (set cells i (record old { next = x / HALF_COUNT; first = x % HALF_COUNT })) ≡ with_before (lists cells) i x
   write_before x h free =
       let new : Cell V = record old { next = x / HALF_COUNT; first = x % HALF_COUNT } in
       let sign : old.sign ≡ 0 = sym (get_or-map (λ (c : Cell V). c.sign) cells i d 1 h) ∙ free in
@@ -73,7 +73,7 @@ module _ {V : Type 0} (cells : List (Cell V)) (i : ℕ) (d : Cell V) where
   free_child : (x : ℕ) → old.sign ≡ 0 → child_seen (record old { link = x }) ≡ child_seen old
   free_child x e = rw e refl
 
-  pub write_after : (x : ℕ) → i < length cells → IsFree (lists cells).row i → lists (set cells i (record old { link = x })) ≡ with_afters (lists cells) i x
+  pub write_after : (x : ℕ) → i < length cells → IsFree (lists cells).row i → lists (set cells i (record old { link = x })) ≡ with_after (lists cells) i x
   write_after x h free =
       let new : Cell V = record old { link = x } in
       let sign : old.sign ≡ 0 = sym (get_or-map (λ (c : Cell V). c.sign) cells i d 1 h) ∙ free in

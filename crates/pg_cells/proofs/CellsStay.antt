@@ -4,7 +4,7 @@ use Rattle.std.proofs.lemmas.Bool.{ne_eqb, eqb-true}
 use Rattle.std.proofs.lemmas.List.{same_from_push}
 use Rattle.std.specs.List.{list_any}
 use Rattle.std.specs.FinMap.{put}
-use Rattle.pg_types.specs.Placement.{Family, Families, family_at, without_family, is_used, least_base, placed, with_one_sign, with_sign, cell_of}
+use Rattle.pg_types.specs.Placement.{Family, Families, family_at, without_family, is_used, least_base, with_placed_family, with_one_sign, with_sign, cell_of}
 use Rattle.pg_types.specs.Inside.Placing.{without_sign}
 use Rattle.pg_cells.specs.Inside.OneTrie.{last_of}
 use Rattle.pg_cells.proofs.StringMaps.{order, equal_or_not, find_put_same, find_put_other, find_without_same, find_without_other}
@@ -78,7 +78,7 @@ other_families few n fs q s p other = by (family_at fs q)
   where
     used : (f : Family) (b : Bool) → family_at (elim b as (λ _. Families) [
       | false ↦ put order q (record { base = f.base; signs = with_one_sign s f.signs }) fs
-      | true ↦ placed few n (without_family fs q) q (with_one_sign s f.signs)
+      | true ↦ with_placed_family few n (without_family fs q) q (with_one_sign s f.signs)
     ]) p ≡ family_at fs p
     used f false = find_put_other p q (record { base = f.base; signs = with_one_sign s f.signs }) fs other
     used f true =
@@ -86,10 +86,10 @@ other_families few n fs q s p other = by (family_at fs q)
         ∙ find_without_other p q fs other
 
     by : (o : Option Family) → family_at (elim o as (λ _. Families) [
-      | None ↦ placed few n fs q (s ∷ [])
+      | None ↦ with_placed_family few n fs q (s ∷ [])
       | Some f ↦ elim (is_used fs (f.base + s)) as (λ _. Families) [
         | false ↦ put order q (record { base = f.base; signs = with_one_sign s f.signs }) fs
-        | true ↦ placed few n (without_family fs q) q (with_one_sign s f.signs)
+        | true ↦ with_placed_family few n (without_family fs q) q (with_one_sign s f.signs)
       ]
     ]) p ≡ family_at fs p
     by None = find_put_other p q (record { base = least_base few n fs (s ∷ []); signs = s ∷ [] }) fs other

@@ -6,7 +6,7 @@ use Rattle.std.proofs.lemmas.List.{get_or_default}
 use Rattle.std.proofs.lemmas.List.Folds.{list_all_more, list_all_at}
 use Rattle.pg_types.specs.Inside.Placing.{IsLeast}
 use Rattle.pg_cells.specs.Inside.Lists.{Row, sign_at, base_at, IsFree}
-use Rattle.pg_cells.specs.Inside.Linked.{Linked}
+use Rattle.pg_cells.specs.Inside.FreeList.{Linked}
 use Rattle.pg_cells.specs.Inside.Fit.{fits_row}
 
 -- one more element that passes

@@ -2,7 +2,7 @@
 use Rattle.std.proofs.Common.{◌≢◌, ℕ, ◌<◌, ◌≤◌, inl, inr, arith}
 use Rattle.std.proofs.lemmas.Bool.{cases_lt}
 use Rattle.pg_cells.specs.Inside.Lists.{Lists, after_at, IsFree}
-use Rattle.pg_cells.specs.Inside.Linked.{AreLinked}
+use Rattle.pg_cells.specs.Inside.FreeList.{AreLinked}
 
 module _ {V : Type 0} where
   -- a is a free cell, and none lies before it from the cell on

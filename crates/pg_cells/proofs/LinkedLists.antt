@@ -4,8 +4,8 @@ use Rattle.std.proofs.lemmas.Bool.{cases_eq, cases_lt}
 use Rattle.std.proofs.lemmas.List.{get_or-set_same, get_or-set_other, get_or_past, get_or_default, length-set, length-map, map_push, length_push, set_at}
 use Rattle.pg_cells.specs.declared.cell.Cell.{Cell}
 use Rattle.pg_cells.specs.declared.member.Member.{Member}
-use Rattle.pg_cells.specs.Inside.Lists.{Row, Lists, lists, row_of, lone, bared, child_seen, member_seen, before_seen, IsFree, sign_at, before_at, after_at, with_befores, with_afters, with_taken, with_free, with_more}
-use Rattle.pg_cells.specs.Inside.Linked.{Linked, AreLinked}
+use Rattle.pg_cells.specs.Inside.Lists.{Row, Lists, lists, row_of, lone, bared, child_seen, member_seen, before_seen, IsFree, sign_at, before_at, after_at, with_before, with_after, with_taken, with_free, with_more}
+use Rattle.pg_cells.specs.Inside.FreeList.{Linked, AreLinked}
 use Rattle.pg_cells.proofs.LinkedSteps.{Linked-take, Linked-put}
 
 -- the lists of the links are as long as that of the signs
@@ -110,23 +110,23 @@ module _ {V : Type 0} where
 module _ {V : Type 0} where
   -- the writes of a cell's taking, one after another
   pub after_taking : (l0 l1 l2 l3 : Lists V) (i b a sign : ℕ) (value : V) (child pair : ℕ) → b ≡ before_at l0 i → a ≡ after_at l0 i
-      → l1 ≡ with_afters l0 b a → l2 ≡ with_befores l1 a b → l3 ≡ record { row = with_taken l2.row i sign value child; befores = set l2.befores i pair; afters = set l2.afters i child }
+      → l1 ≡ with_after l0 b a → l2 ≡ with_before l1 a b → l3 ≡ record { row = with_taken l2.row i sign value child; befores = set l2.befores i pair; afters = set l2.afters i child }
       → AreLinked (lists_taken l0 i (before_at l0 i) (after_at l0 i) sign value child pair) → AreLinked l3
   after_taking l0 l1 l2 l3 i b a sign value child pair eb ea e1 e2 e3 linked =
       let last : Lists V → Lists V = λ ls. record { row = with_taken ls.row i sign value child; befores = set ls.befores i pair; afters = set ls.afters i child } in
       let whole : l3 ≡ lists_taken l0 i (before_at l0 i) (after_at l0 i) sign value child pair =
-      e3 ∙ ap last e2 ∙ ap (λ ls. last (with_befores ls a b)) e1 ∙ (λ t. lists_taken l0 i (eb t) (ea t) sign value child pair) in
+      e3 ∙ ap last e2 ∙ ap (λ ls. last (with_before ls a b)) e1 ∙ (λ t. lists_taken l0 i (eb t) (ea t) sign value child pair) in
       subst (λ ls. AreLinked ls) (sym whole) linked
 
 module _ {V : Type 0} where
   -- the writes of a cell's giving up, one after another
   pub after_freeing : (l0 l1 l2 l3 : Lists (Member V)) (i b a : ℕ) → a ≡ after_at l0 b
-      → l1 ≡ with_afters l0 b i → l2 ≡ with_befores l1 a i → l3 ≡ record { row = with_free l2.row i; befores = set l2.befores i b; afters = set l2.afters i a }
+      → l1 ≡ with_after l0 b i → l2 ≡ with_before l1 a i → l3 ≡ record { row = with_free l2.row i; befores = set l2.befores i b; afters = set l2.afters i a }
       → AreLinked (lists_freed l0 i b (after_at l0 b)) → AreLinked l3
   after_freeing l0 l1 l2 l3 i b a ea e1 e2 e3 linked =
       let last : Lists (Member V) → Lists (Member V) = λ ls. record { row = with_free ls.row i; befores = set ls.befores i b; afters = set ls.afters i a } in
       let whole : l3 ≡ lists_freed l0 i b (after_at l0 b) =
-      e3 ∙ ap last e2 ∙ ap (λ ls. last (with_befores ls a i)) e1 ∙ (λ t. lists_freed l0 i b (ea t)) in
+      e3 ∙ ap last e2 ∙ ap (λ ls. last (with_before ls a i)) e1 ∙ (λ t. lists_freed l0 i b (ea t)) in
       subst (λ ls. AreLinked ls) (sym whole) linked
 
 -- the default, put at the end, is not seen

@@ -2,7 +2,7 @@
 use Rattle.std.proofs.Common.{◌≡◌, ℕ, ◌≤◌, ◌^◌, List, [], ◌∷◌, length, refl, get_or, zero, suc, arith, false}
 use Rattle.pg_cells.specs.declared.cell.Cell.{Cell}
 use Rattle.pg_cells.specs.Inside.Lists.{lists, row_of}
-use Rattle.pg_cells.specs.Inside.Linked.{AreLinked}
+use Rattle.pg_cells.specs.Inside.FreeList.{AreLinked}
 use Rattle.pg_cells.specs.Inside.Store.{IsStore}
 use Rattle.pg_cells.proofs.BlockedLaws.{blocked_none}
 

@@ -9,7 +9,7 @@ use Rattle.std.specs.Ordering.{is_eq}
 use Rattle.std.specs.List.{list_any, flat_map}
 use Rattle.std.specs.FinMap.{find, put, is_sorted}
 use Rattle.std.specs.FinMap.Entries.{by_order}
-use Rattle.pg_types.specs.Placement.{Family, Families, family_at, without_family, used_cells, taken, top, is_used, is_base, first_from, cell_in, cell_after, cell_of}
+use Rattle.pg_types.specs.Placement.{Family, Families, family_at, without_family, used_cells, taken_count, top, is_used, is_base, first_from, cell_in, cell_after, cell_of}
 use Rattle.pg_types.specs.Inside.Placing.{cells_of}
 use Rattle.pg_types.proofs.LeastBase.{used_le_top}
 use Rattle.pg_cells.proofs.StringMaps.{order, equal_or_not, any_found, found_any, find_below, below_less, head_below, tail_sorted}
@@ -82,13 +82,13 @@ abbrev pub size_of : Option Family → ℕ
 size_of None = 0
 size_of (Some f) = length f.signs
 
-taken_cons : (e : List ℕ × Family) (es : Families) → taken (e ∷ es) ≡ length e.1.signs + taken es
-taken_cons e es = length-append (cells_of e.1) (used_cells es) ∙ ap (λ n. n + taken es) (length-map e.1.signs (λ s. e.1.base + s))
+taken_cons : (e : List ℕ × Family) (es : Families) → taken_count (e ∷ es) ≡ length e.1.signs + taken_count es
+taken_cons e es = length-append (cells_of e.1) (used_cells es) ∙ ap (λ n. n + taken_count es) (length-map e.1.signs (λ s. e.1.base + s))
 
-pub taken_put : (p : List ℕ) (f : Family) (fs : Families) → T (is_sorted order fs) → taken (put order p f fs) + size_of (family_at fs p) ≡ taken fs + length f.signs
+pub taken_put : (p : List ℕ) (f : Family) (fs : Families) → T (is_sorted order fs) → taken_count (put order p f fs) + size_of (family_at fs p) ≡ taken_count fs + length f.signs
 taken_put p f [] h = omega (arith, taken_cons (p, f) [])
 taken_put p f (e ∷ es) h =
-    elim (order p e.0) as (λ o. order p e.0 ≡ o → taken (by_order o ((p, f) ∷ e ∷ es) ((e.0, f) ∷ es) (e ∷ put order p f es)) + size_of (cond (is_eq o) (Some e.1) (find order p es)) ≡ taken (e ∷ es) + length f.signs) [
+    elim (order p e.0) as (λ o. order p e.0 ≡ o → taken_count (by_order o ((p, f) ∷ e ∷ es) ((e.0, f) ∷ es) (e ∷ put order p f es)) + size_of (cond (is_eq o) (Some e.1) (find order p es)) ≡ taken_count (e ∷ es) + length f.signs) [
       | Less ↦ λ is.
           let none : find order p es ≡ None = find_below p es (below_less p e.0 es is (head_below e es h)) in
           omega (arith, taken_cons (p, f) (e ∷ es), ap size_of none)
@@ -97,18 +97,18 @@ taken_put p f (e ∷ es) h =
     ] refl
 
 -- the cells left when a family is taken away
-pub taken_without : (p : List ℕ) (fs : Families) → T (is_sorted order fs) → taken (without_family fs p) + size_of (family_at fs p) ≡ taken fs
+pub taken_without : (p : List ℕ) (fs : Families) → T (is_sorted order fs) → taken_count (without_family fs p) + size_of (family_at fs p) ≡ taken_count fs
 taken_without p [] h = refl
 taken_without p (e ∷ es) h = elim (equal_or_not p e.0) [
   | inl same ↦
       let none : find order p es ≡ None = ap (λ q. find order q es) same.0 ∙ find_below e.0 es (head_below e es h) in
       let here : without_family (e ∷ es) p ≡ without_family es p = ap (λ b. cond (not b) (e ∷ without_family es p) (without_family es p)) same.1 in
       let found : family_at (e ∷ es) p ≡ Some e.1 = ap (λ b. cond b (Some e.1) (find order p es)) same.1 in
-      omega (arith, ap taken here, ap size_of found, ap size_of none, taken_cons e es, taken_without p es (tail_sorted e es h))
+      omega (arith, ap taken_count here, ap size_of found, ap size_of none, taken_cons e es, taken_without p es (tail_sorted e es h))
   | inr other ↦
       let here : without_family (e ∷ es) p ≡ e ∷ without_family es p = ap (λ b. cond (not b) (e ∷ without_family es p) (without_family es p)) other.1 in
       let found : family_at (e ∷ es) p ≡ find order p es = ap (λ b. cond b (Some e.1) (find order p es)) other.1 in
-      omega (arith, ap taken here, ap size_of found, taken_cons e es, taken_cons e (without_family es p), taken_without p es (tail_sorted e es h))
+      omega (arith, ap taken_count here, ap size_of found, taken_cons e es, taken_cons e (without_family es p), taken_without p es (tail_sorted e es h))
 ]
 
 -- the least of some numbers that passes a test

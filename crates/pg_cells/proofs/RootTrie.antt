@@ -9,7 +9,7 @@ use Rattle.std.specs.Cmp.{nat_cmp_is}
 use Rattle.std.specs.List.{list_any, range_with_len}
 use Rattle.std.specs.FinMap.{find, is_sorted}
 use Rattle.std.specs.FinMap.Entries.{below_all}
-use Rattle.pg_types.specs.Placement.{Family, family_at, root, cell_after, cell_of, taken}
+use Rattle.pg_types.specs.Placement.{Family, family_at, root, cell_after, cell_of, taken_count}
 use Rattle.pg_cells.specs.Inside.Lists.{Row, sign_at, base_at}
 use Rattle.pg_cells.specs.Inside.Writes.{SetsBase}
 use Rattle.pg_cells.specs.Inside.Layouts.{IsLayout, IsParent, IsTrie, standing, value_in}
@@ -138,7 +138,7 @@ module _ {V : Type 0} (blank : V) where
       has = has;
     }
       where
-        root_taken : taken (root n) ≡ n
+        root_taken : taken_count (root n) ≡ n
         root_taken = ap length (append-nil (map (λ s. 0 + s) (range_with_len 1 n))) ∙ length-map (range_with_len 1 n) (λ s. 0 + s) ∙ length-range_with_len 1 n
 
         value_here : (y : ℕ) (b : Bool) → list_any (nat_eq y) (range_with_len 1 n) ≡ b → cond b (Some blank) None ≡ value_in r (cond b (Some (0 + y)) None)

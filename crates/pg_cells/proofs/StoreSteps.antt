@@ -5,7 +5,7 @@ use Rattle.std.proofs.lemmas.List.{take_at, length-set, length-map, length_push,
 use Rattle.pg_cells.specs.declared.cell.Cell.{Cell}
 use Rattle.pg_cells.specs.declared.member.Member.{Member}
 use Rattle.pg_cells.specs.Inside.Lists.{Row, Lists, lists, row_of, lone, member_seen, sign_at, IsFree, with_taken, with_free, with_child, with_value, with_more}
-use Rattle.pg_cells.specs.Inside.Linked.{Linked, AreLinked}
+use Rattle.pg_cells.specs.Inside.FreeList.{Linked, AreLinked}
 use Rattle.pg_cells.proofs.LinkedLists.{taken_within, not_free}
 use Rattle.pg_cells.specs.Inside.Store.{IsTop, IsKept, Extends, how_many, taken_in}
 

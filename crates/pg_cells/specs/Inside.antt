@@ -5,7 +5,7 @@ pub mod Bounds
 pub mod Fit
 pub mod AreValuedFamilies
 pub mod Layouts
-pub mod Linked
+pub mod FreeList
 pub mod Links
 pub mod Lists
 pub mod Members

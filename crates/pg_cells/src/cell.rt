@@ -1,6 +1,6 @@
 //! One cell, and the reading and writing of its parts.
 ghost use Rattle.std.specs.Prelude.{◌≡◌, ◌≢◌, ◌<◌, ◌^◌, length, slice_get, set, Some};
-ghost use Rattle.pg_cells.specs.Inside.Lists.{lists, pair_of, with_befores, with_afters, with_child, with_value, with_base, with_taken, with_free, sign_at, IsFree, before_at, after_at, child_at, base_at};
+ghost use Rattle.pg_cells.specs.Inside.Lists.{lists, pair_of, with_before, with_after, with_child, with_value, with_base, with_taken, with_free, sign_at, IsFree, before_at, after_at, child_at, base_at};
 
 use crate::member::Member;
 use pg_types::Sign;
@@ -86,7 +86,7 @@ pub fn set_before<V: Copy>(cells: &mut [Cell<V>], cell: usize, before: usize)
     requires cell { cell < length cells.old }
     requires free { IsFree (lists cells.old).row cell }
     requires before { before < 2 ^ 32 }
-    ensures { lists cells.new ≡ with_befores (lists cells.old) cell before }
+    ensures { lists cells.new ≡ with_before (lists cells.old) cell before }
 {
     let free = &mut cells[cell];
     free.next = (before / HALF_COUNT) as Sign;
@@ -97,7 +97,7 @@ pub fn set_after<V: Copy>(cells: &mut [Cell<V>], cell: usize, after: usize)
     requires cell { cell < length cells.old }
     requires free { IsFree (lists cells.old).row cell }
     requires after { after < 2 ^ 32 }
-    ensures { lists cells.new ≡ with_afters (lists cells.old) cell after }
+    ensures { lists cells.new ≡ with_after (lists cells.old) cell after }
 {
     cells[cell].link = after as u32;
 }

@@ -3,7 +3,7 @@ ghost use Rattle.std.specs.Prelude.{◌≡◌, ◌≢◌, ℕ, ◌+◌, ◌<◌,
 ghost use Rattle.std.specs.FinMap.{find, put};
 ghost use Rattle.std.specs.Cmp.Lexicographic.{slice_cmp};
 ghost use Rattle.std.specs.Ordering.{nat_cmp};
-ghost use Rattle.pg_types.specs.Placement.{taken, top, cell_of, base_of, with_sign};
+ghost use Rattle.pg_types.specs.Placement.{taken_count, top, cell_of, base_of, with_sign};
 ghost use Rattle.pg_types.specs.Inside.Placing.{joins_at, without_sign};
 ghost use Rattle.pg_cells.specs.Inside.ValuedFamilies.{ValuedFamilies, without_key};
 ghost use Rattle.pg_cells.specs.Inside.AreValuedFamilies.{AreValuedFamilies};
@@ -24,8 +24,8 @@ use pg_types::{SIGNS_MAX, Sign};
 use std::alloc::{AllocError, Global};
 use std::marker::Model;
 
-/// Families of cells, each cell with a value, placed as [`Cells`](crate::Cells) says. The links from
-/// sign to sign are a part of the values here.
+/// Families of cells, each cell with a value, placed as [`Cells`](crate::Cells) says. The links
+/// from sign to sign are a part of the values here.
 #[derive(Drop)]
 pub struct Placed<V: Copy, const FEW: usize> {
     signs: u16,
@@ -154,9 +154,9 @@ impl<V: Copy, const FEW: usize> Placed<V, FEW> {
         joins(&self.store, base, s)
     }
 
-    /// Adds the sign to the family below the parent's string, with the value, and gives its cell, as
-    /// [`Cells::add`](crate::Cells::add) does. The members are the family's signs, where the sign
-    /// does not join it in place.
+    /// Adds the sign to the family below the parent's string, with the value, and gives its cell,
+    /// as [`Cells::add`](crate::Cells::add) does. The members are the family's signs, where the
+    /// sign does not join it in place.
     pub fn add(
         &mut self,
         parent: usize,
@@ -263,7 +263,7 @@ impl<V: Copy, const FEW: usize> Placed<V, FEW> {
 
     /// The number of taken cells.
     pub fn taken(&self) -> usize
-        ensures { result ≡ taken self.now.families }
+        ensures { result ≡ taken_count self.now.families }
     {
         self.store.taken()
     }

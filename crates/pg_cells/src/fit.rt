@@ -2,7 +2,7 @@
 ghost use Rattle.std.specs.Prelude.{◌≡◌, ◌≢◌, ℕ, ◌+◌, ◌<◌, ◌≤◌, ◌^◌, Bool, true, ◌∷◌, length, slice_index, map};
 ghost use Rattle.pg_types.specs.Inside.Placing.{IsLeast};
 ghost use Rattle.pg_cells.specs.Inside.Lists.{lists, sign_at, base_at};
-ghost use Rattle.pg_cells.specs.Inside.Linked.{AreLinked};
+ghost use Rattle.pg_cells.specs.Inside.FreeList.{AreLinked};
 ghost use Rattle.pg_cells.specs.Inside.Fit.{fits_row, signs_of};
 
 use crate::cell::{Cell, after_of, is_base_of, sign_of};

@@ -1,5 +1,25 @@
-//! The families of a trie in one row of cells, each at the least base that its placement allows;
-//! free cells are linked in rising order.
+//! The families of a trie in one row of cells, each at the least base that its placement allows.
+//!
+//! - A *cell* is a place for one string. It has the string's last sign, its value, and the base of
+//!   the family below it, 0 for none. A cell without a sign is free, and cell 0 is never taken.
+//! - A *family* is the strings that go on from one prefix by one sign. It has a *base*, and its
+//!   string with the sign s has the cell base + s. So a string is found by one addition a sign. No
+//!   two families have one base, and no cell belongs to two.
+//! - The *root* is the family of the empty prefix. Its base is 0, and it has every sign.
+//! - A sign that joins a family takes its cell. Where another family has that cell, the family
+//!   moves: it gives up its cells, and all its signs go to the least base at which they may stand.
+//!   From which base on that is sought depends on the number of signs, the greatest used cell, and
+//!   the parameter FEW: a family of up to so many signs is sought from base 1 on.
+//! - A *link* leads from sign to sign. A cell has the next sign of its own family, and the first
+//!   sign of the family below it. So the signs of a family are found without a look at every cell.
+//! - The free cells are linked too, in rising order and both ways, through cell 0. So the search
+//!   for a base passes over taken cells.
+//! - A *bound* of a sign is a base below which none is free with the cell of the sign, but for what
+//!   was given up since the bounds were last lowered. A search begins there.
+//!
+//! `cell`, `chain` and `store` are the row, its free cells and the bounds. `fit`, `adding`,
+//! `place`, `moves`, `prune` and `root` are the steps of a placement. `families` is the placement,
+//! `linked` adds the links, and `walks` goes from string to string.
 #![tactic(auto)]
 
 mod adding;

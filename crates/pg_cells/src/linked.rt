@@ -3,7 +3,7 @@ ghost use Rattle.std.specs.Prelude.{◌≡◌, ◌≢◌, ℕ, ◌+◌, ◌<◌,
 ghost use Rattle.std.specs.FinMap.{find, put};
 ghost use Rattle.std.specs.Cmp.Lexicographic.{slice_cmp};
 ghost use Rattle.std.specs.Ordering.{nat_cmp};
-ghost use Rattle.pg_types.specs.Placement.{taken, top, cell_of, base_of, with_sign};
+ghost use Rattle.pg_types.specs.Placement.{taken_count, top, cell_of, base_of, with_sign};
 ghost use Rattle.pg_types.specs.Inside.Placing.{without_sign};
 ghost use Rattle.pg_cells.specs.Inside.ValuedFamilies.{ValuedFamilies, without_key};
 ghost use Rattle.pg_cells.specs.Inside.AreValuedFamilies.{AreValuedFamilies};
@@ -227,7 +227,7 @@ impl<V: Copy, const FEW: usize> Cells<V, FEW> {
 
     /// The number of taken cells.
     pub fn taken(&self) -> usize
-        ensures { result ≡ taken self.now.families }
+        ensures { result ≡ taken_count self.now.families }
     {
         self.placed.taken()
     }

@@ -2,7 +2,7 @@
 ghost use Rattle.std.specs.Prelude.{◌≡◌, ◌≢◌, ℕ, ◌+◌, ◌-◌, ◌<◌, ◌≤◌, ◌^◌, true, ◌∷◌, length, slice_get, slice_index, Some, IfOk, OnOk, OnErr};
 ghost use Rattle.pg_types.specs.Inside.Placing.{IsLeast};
 ghost use Rattle.pg_cells.specs.Inside.Lists.{lists, row_of, lone, sign_at, child_at, base_at, IsFree};
-ghost use Rattle.pg_cells.specs.Inside.Linked.{AreLinked};
+ghost use Rattle.pg_cells.specs.Inside.FreeList.{AreLinked};
 ghost use Rattle.pg_cells.specs.Inside.Blocked.{AreBlocked};
 ghost use Rattle.pg_cells.specs.Inside.Bounds.{NoneFree};
 ghost use Rattle.pg_cells.specs.Inside.Fit.{fits_row, signs_of};

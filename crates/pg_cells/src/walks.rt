@@ -70,8 +70,8 @@ fn step_or_add<V: Copy, const FEW: usize>(
     cells.add(parent, s, blank)
 }
 
-// How many signs the longest prefix has that has a cell, and its cell. It only reads, so the walk is
-// short.
+// How many signs the longest prefix has that has a cell, and its cell. It only reads, so the walk
+// is short.
 fn known_prefix<V: Copy, const FEW: usize>(cells: &Cells<V, FEW>, signs: &[Sign]) -> (usize, usize)
     requires some { 0 < length signs.now }
     requires signs { All (λ s. (1 ≤ s) × (s ≤ cells.now.signs)) signs.now }

@@ -7,7 +7,7 @@ use Rattle.std.specs.Ordering.{is_lt, is_eq, ordering_reverse}
 use Rattle.std.specs.FinMap.{slice_cmp-IsAntisymmetric, nat_cmp-IsAntisymmetric}
 use Rattle.std.specs.FinMap.Entries.{find, is_sorted, below_all, find-where_key, is_sorted-where_key}
 use Rattle.pg_cells.proofs.StringMaps.{order, same_maps}
-use Rattle.pg_types.specs.Inside.Counts.{Counts, above}
+use Rattle.pg_types.specs.Inside.Counts.{Counts, windows_above}
 use Rattle.pg_types.proofs.BoolFacts.{both_halves}
 
 same_from : (q r : List ℕ) → order q r ≡ Equal → q ≡ r
@@ -16,23 +16,23 @@ same_from q r is = slice_cmp-IsAntisymmetric nat_cmp-IsAntisymmetric q r is
 turned : (q r : List ℕ) (o : Ordering) → order r q ≡ o → order q r ≡ ordering_reverse o
 turned q r o is = nat_list_cmp_total.antisymm q r ∙ ap ordering_reverse is
 
-find_above : (u r : List ℕ) (counts : Counts) → find order r (above u counts) ≡ cond (is_lt (order u r)) (find order r counts) None
+find_above : (u r : List ℕ) (counts : Counts) → find order r (windows_above u counts) ≡ cond (is_lt (order u r)) (find order r counts) None
 find_above u r counts = find-where_key order (λ k. is_lt (order u k)) r (λ x is. ap (λ k. is_lt (order u k)) (sym (same_from r x is))) counts
 
-sorted_above : (u : List ℕ) (counts : Counts) → T (is_sorted order counts) → T (is_sorted order (above u counts))
+sorted_above : (u : List ℕ) (counts : Counts) → T (is_sorted order counts) → T (is_sorted order (windows_above u counts))
 sorted_above u counts h = is_sorted-where_key order (λ k. is_lt (order u k)) counts h
 
-below_above : (u : List ℕ) (counts : Counts) → T (below_all order u (above u counts))
+below_above : (u : List ℕ) (counts : Counts) → T (below_all order u (windows_above u counts))
 below_above u [] = tt
 below_above u (e ∷ es) = by (is_lt (order u e.0)) refl (below_above u es)
   where
-    by : (b : Bool) → is_lt (order u e.0) ≡ b → T (below_all order u (above u es)) → T (below_all order u (cond b (e ∷ above u es) (above u es)))
-    by true is rest = subst (λ b. T (b && below_all order u (above u es))) (sym is) rest
+    by : (b : Bool) → is_lt (order u e.0) ≡ b → T (below_all order u (windows_above u es)) → T (below_all order u (cond b (e ∷ windows_above u es) (windows_above u es)))
+    by true is rest = subst (λ b. T (b && below_all order u (windows_above u es))) (sym is) rest
     by false is rest = rest
 
 -- no counted window is above u
-pub above_none : (u : List ℕ) (counts : Counts) → T (is_sorted order counts) → ((r : List ℕ) (n : ℕ × ℕ) → find order r counts ≡ Some n → order u r ≡ Less → ⊥) → above u counts ≡ []
-above_none u counts h none = same_maps (above u counts) [] (sorted_above u counts h) tt (λ r. find_above u r counts ∙ by r (order u r) refl (find order r counts) refl)
+pub above_none : (u : List ℕ) (counts : Counts) → T (is_sorted order counts) → ((r : List ℕ) (n : ℕ × ℕ) → find order r counts ≡ Some n → order u r ≡ Less → ⊥) → windows_above u counts ≡ []
+above_none u counts h none = same_maps (windows_above u counts) [] (sorted_above u counts h) tt (λ r. find_above u r counts ∙ by r (order u r) refl (find order r counts) refl)
   where
     by : (r : List ℕ) (o : Ordering) → order u r ≡ o → (x : Option (ℕ × ℕ)) → find order r counts ≡ x → cond (is_lt o) x None ≡ None
     by r Less is None at = refl
@@ -42,10 +42,10 @@ above_none u counts h none = same_maps (above u counts) [] (sorted_above u count
 
 -- the counted window q is above u, and none is between
 pub above_least : (u q : List ℕ) (n : ℕ × ℕ) (counts : Counts) → T (is_sorted order counts) → find order q counts ≡ Some n → order u q ≡ Less
-    → ((r : List ℕ) (m : ℕ × ℕ) → find order r counts ≡ Some m → order u r ≡ Less → order r q ≡ Less → ⊥) → above u counts ≡ (q, n) ∷ above q counts
+    → ((r : List ℕ) (m : ℕ × ℕ) → find order r counts ≡ Some m → order u r ≡ Less → order r q ≡ Less → ⊥) → windows_above u counts ≡ (q, n) ∷ windows_above q counts
 above_least u q n counts h found over least =
-    same_maps (above u counts) ((q, n) ∷ above q counts) (sorted_above u counts h)
-    (both_halves (below_all order q (above q counts)) (is_sorted order (above q counts)) (below_above q counts) (sorted_above q counts h))
+    same_maps (windows_above u counts) ((q, n) ∷ windows_above q counts) (sorted_above u counts h)
+    (both_halves (below_all order q (windows_above q counts)) (is_sorted order (windows_above q counts)) (below_above q counts) (sorted_above q counts h))
     (λ r. find_above u r counts ∙ by r (order r q) refl ∙ sym (ap (λ x. cond (is_eq (order r q)) (Some n) x) (find_above q r counts)))
   where
     between : (r : List ℕ) → order r q ≡ Less → (o : Ordering) → order u r ≡ o → (x : Option (ℕ × ℕ)) → find order r counts ≡ x → cond (is_lt o) x None ≡ None

@@ -3,7 +3,7 @@ use Rattle.std.proofs.Common.{◌≡◌, ◌≢◌, ℕ, ◌+◌, ◌<◌, ◌�
 use Rattle.std.proofs.lemmas.List.{append_assoc, append-nil}
 use Rattle.std.specs.FinMap.Entries.{find, put}
 use Rattle.pg_types.specs.Inside.Counts.{SignsWithin}
-use Rattle.pg_types.specs.Inside.Numbered.{Windows, HasNumber}
+use Rattle.pg_types.specs.Inside.NumberedWindows.{Windows, HasNumber}
 use Rattle.pg_types.proofs.Numbering.{get_left, get_seam}
 use Rattle.pg_types.proofs.StringEntries.{order, equal_or_not, find_put_same, find_put_other}
 use Rattle.pg_cells.specs.Inside.ValuedFamilies.{ValuedFamilies}

@@ -5,7 +5,7 @@ use Rattle.std.specs.FinMap.Entries.{find, is_sorted}
 use Rattle.pg_cells.specs.Inside.ValuedFamilies.{ValuedFamilies}
 use Rattle.pg_types.proofs.Numbering.{behind, first_at}
 use Rattle.pg_types.proofs.StringEntries.{order, tail_sorted}
-use Rattle.pg_types.specs.Inside.Numbered.{Windows, AreInOrder}
+use Rattle.pg_types.specs.Inside.NumberedWindows.{Windows, AreInOrder}
 use Rattle.pg_count.specs.Inside.Counting.{Tally, Tallies, counting_of, seen_in, number_seen, sums_seen, window_at, wholes}
 use Rattle.pg_count.specs.Inside.Leaves.{AreLeaves}
 use Rattle.pg_count.specs.Inside.Under.{numbers_under}

@@ -7,7 +7,7 @@ use Rattle.std.specs.FinMap.Entries.{find, put}
 use Rattle.std.specs.List.{list_all}
 use Rattle.pg_types.specs.Inside.Signs.{is_sign}
 use Rattle.pg_types.specs.Inside.Counts.{SignsWithin}
-use Rattle.pg_types.specs.Inside.Numbered.{Windows, HasNumber}
+use Rattle.pg_types.specs.Inside.NumberedWindows.{Windows, HasNumber}
 use Rattle.pg_types.specs.Placement.{cell_of}
 use Rattle.pg_types.proofs.StringEntries.{order, find_put_same, find_put_other}
 use Rattle.pg_cells.specs.Inside.ValuedFamilies.{ValuedFamilies}

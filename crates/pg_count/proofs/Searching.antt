@@ -10,7 +10,7 @@ use Rattle.std.specs.Ordering.{ordering_then}
 use Rattle.std.specs.List.{slice_get}
 use Rattle.std.specs.FinMap.Entries.{find}
 use Rattle.pg_types.specs.Inside.Counts.{SignsWithin}
-use Rattle.pg_types.specs.Inside.Numbered.{Windows, HasNumber}
+use Rattle.pg_types.specs.Inside.NumberedWindows.{Windows, HasNumber}
 use Rattle.pg_types.specs.Placement.{base_of}
 use Rattle.pg_types.proofs.StringEntries.{order}
 use Rattle.pg_cells.specs.Inside.ValuedFamilies.{ValuedFamilies}

@@ -16,7 +16,7 @@ use Rattle.pg_cells.specs.Inside.AreValuedFamilies.{AreValuedFamilies}
 use Rattle.pg_cells.specs.Inside.Members.{IsNextSign, goes_on}
 use Rattle.pg_cells.proofs.LinkLaws.{cell_goes}
 use Rattle.pg_cells.proofs.StringMaps.{order, equal_or_not, same_maps, head_below, tail_sorted}
-use Rattle.pg_types.specs.Inside.Numbers.{Numbers}
+use Rattle.pg_types.specs.Inside.NumberedStrings.{Numbers}
 use Rattle.pg_count.specs.Inside.Counting.{Tally, number_seen, numbers_in}
 use Rattle.pg_count.specs.Inside.Leaves.{AreLast, AreShort, IsLast}
 use Rattle.pg_count.specs.Inside.Under.{is_under, is_before, is_passed, numbers_where, numbers_under}

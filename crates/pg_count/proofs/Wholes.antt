@@ -7,7 +7,7 @@ use Rattle.std.specs.Ordering.{is_lt}
 use Rattle.std.specs.FinMap.Entries.{find, put, is_sorted, below_all}
 use Rattle.pg_types.specs.declared.limits.TheConstants.{LENGTH_MAX}
 use Rattle.pg_types.specs.Inside.Counts.{Counts, is_counted}
-use Rattle.pg_types.specs.Inside.Numbered.{Windows, AreNumbered, HasNumber}
+use Rattle.pg_types.specs.Inside.NumberedWindows.{Windows, AreNumbered, HasNumber}
 use Rattle.pg_types.proofs.BoolFacts.{both_halves, first_half, second_half, less_from}
 use Rattle.pg_types.proofs.Numbering.{behind, first_at}
 use Rattle.pg_types.proofs.StringEntries.{order, equal_or_not, same_maps, head_below, tail_sorted, put_from, found_mapped, sorted_mapped, unmapped}

@@ -1,8 +1,8 @@
 //! The windows that are counted in a pass.
 ghost use Rattle.std.specs.Prelude.{◌≡◌, ℕ, ◌≤◌, ◌<◌, true, List, [], ◌∷◌, ◌++◌, length, Some, IfOk, OnOk, OnErr, IsOk, MatchOption};
 ghost use Rattle.pg_types.specs.declared.limits.TheConstants.{LENGTH_MAX, SIGNS_MAX, WEIGHT_MAX};
-ghost use Rattle.pg_types.specs.Inside.Counts.{AreSmall, SignsWithin, counted_sums, sums_of, with_weight, is_counted, above};
-ghost use Rattle.pg_types.specs.Inside.Numbered.{AreInOrder, AreNumbered, HasNumber};
+ghost use Rattle.pg_types.specs.Inside.Counts.{AreSmall, SignsWithin, counted_sums, sums_of, with_weight, is_counted, windows_above};
+ghost use Rattle.pg_types.specs.Inside.NumberedWindows.{AreInOrder, AreNumbered, HasNumber};
 ghost use Rattle.pg_count.specs.Inside.Counting.{IsCounting, counted_more};
 
 use crate::leaf::count_new;
@@ -159,9 +159,9 @@ impl CountTrie {
     /// Moves the cursor to the least counted window that is greater, and gives its good and bad
     /// sums; none exactly where there is no such window, and the cursor stays. It takes no memory.
     pub fn next(&self, at: &mut Cursor) -> Option<(u64, u64)>
-        ensures { MatchOption result ((above at.old self.now.counts ≡ [])
-            × (at.new ≡ at.old)) (λ sums. above at.old self.now.counts
-            ≡ (at.new, sums) ∷ above at.new self.now.counts) }
+        ensures { MatchOption result ((windows_above at.old self.now.counts ≡ [])
+            × (at.new ≡ at.old)) (λ sums. windows_above at.old self.now.counts
+            ≡ (at.new, sums) ∷ windows_above at.new self.now.counts) }
     {
         if self.cells.has_none() {
             return None;

@@ -6,7 +6,7 @@ use Rattle.pg_types.specs.declared.marks.Mark.TheVariants.{Missed, Found, DontCa
 use Rattle.pg_types.specs.declared.refusals.Kind.TheVariants.{DictionaryTooLong}
 use Rattle.pg_types.specs.declared.refusals.Refusal.{Refusal}
 use Rattle.pg_types.specs.Lines.{lines}
-use Rattle.pg_types.specs.Reading.{refused}
+use Rattle.pg_types.specs.Reading.{refusal_at}
 use Rattle.pg_translate.specs.declared.items.Place.TheVariants.{Dictionary}
 use Rattle.pg_translate.specs.Alphabets.{Alphabet}
 use Rattle.pg_translate.specs.Tokens.{Token}
@@ -25,14 +25,11 @@ abbrev pub keeps_care : Mark → Bool
 keeps_care DontCare = false
 keeps_care mark = true
 
--- what a word has at its positions: one thing at the first two and at the last, and between two
--- letters what their gap gives
+-- what a word has at its positions: one thing at the first two and the last, else what the gap says
 abbrev pub at_positions : {X : Type 0} → X → (List Token → X) → List Token → List X
 at_positions plain of_gap items = plain ∷ plain ∷ (map of_gap (inner_gaps items) ++ plain ∷ [])
 
--- the word of a line with this word weight: its letters between two edges. The position between two
--- letters has a hyphen and care by the last mark of their gap, and the last number of the gap as
--- its weight, else that of the word
+-- the word of a line: its letters between edges; a gap's last mark and number are its position's
 abbrev pub word_of_items : ℕ → List Token → Word
 word_of_items weight items = record {
   signs = EDGE ∷ (signs_of items ++ EDGE ∷ []);
@@ -56,5 +53,5 @@ line_words before (line ∷ ls) = let weight = last_number before (slice_index_o
 
 -- the words of a dictionary file, or its first refusal
 abbrev pub words : Alphabet → List ℕ → Result (List Word) Refusal
-words t bytes = if nat_lt FILE_MAX (length bytes) then Err (refused 0 DictionaryTooLong 0)
+words t bytes = if nat_lt FILE_MAX (length bytes) then Err (refusal_at 0 DictionaryTooLong 0)
     else of_lines (line_words 1) t Dictionary (lines bytes)

@@ -2,7 +2,7 @@
 ghost use Rattle.std.specs.Prelude.{◌≡◌, ◌≤◌, ◌+◌, ◌-◌, length};
 ghost use Rattle.pg_types.specs.declared.limits.TheConstants.{FILE_MAX, WEIGHT_MAX};
 ghost use Rattle.pg_translate.specs.LineRefusals.{bad_kind};
-ghost use Rattle.pg_types.specs.Reading.{refused};
+ghost use Rattle.pg_types.specs.Reading.{refusal_at};
 ghost use Rattle.pg_translate.specs.declared.items.Place.TheVariants.{Dictionary};
 
 use pg_translate::Table;
@@ -38,7 +38,7 @@ impl Line<'_> {
     /// A refusal at the first byte of `rest`, the rest of the line.
     pub(crate) fn refuse(&self, kind: Kind, rest: &[u8]) -> Refusal
         requires { length rest.now ≤ self.now.size }
-        ensures { result ≡ refused self.now.number kind (self.now.size - length rest.now + 1) }
+        ensures { result ≡ refusal_at self.now.number kind (self.now.size - length rest.now + 1) }
     {
         Refusal {
             kind,

@@ -34,16 +34,17 @@ pub struct OpenDots {
 
 impl OpenDots {
     ghost use Rattle.pg_dots.specs.Inside.Bits.{IsNext};
-    ghost use Rattle.pg_dots.specs.Inside.Dots.{is_closed, places, HasWalk};
+    ghost use Rattle.pg_dots.specs.Inside.Dots.{is_closed, position_count, HasWalk};
     ghost use Rattle.pg_dots.specs.Inside.Walks.{IsAhead};
 
     /// Each dot is closed at each of `size` positions, and no dot is reached.
     pub fn closed(alloc: Global, size: usize) -> Result<OpenDots, AllocError>
         requires { size ≤ 2 ^ 32 }
-        ensures size { IfOk result (λ o. size ≤ places o) }
-        ensures few { IfOk result (λ o. places o ≤ size + 64) }
+        ensures size { IfOk result (λ o. size ≤ position_count o) }
+        ensures few { IfOk result (λ o. position_count o ≤ size + 64) }
         ensures none { IfOk result (λ o. o.reached ≡ 0) }
-        ensures closed { IfOk result (λ o. (dot i : ℕ) → i < places o → is_closed o dot i ≡ true) }
+        ensures closed { IfOk result (λ o. (dot i : ℕ) → i < position_count o → is_closed o dot i
+            ≡ true) }
     {
         let width = size / NUMBER_BITS + 1;
         Ok(OpenDots {
@@ -55,11 +56,11 @@ impl OpenDots {
 
     /// Opens each dot at a position. No dot is reached.
     pub fn open(&mut self, i: usize)
-        requires within { i < places self.old }
+        requires within { i < position_count self.old }
         requires none { self.old.reached ≡ 0 }
-        ensures places { places self.new ≡ places self.old }
+        ensures places { position_count self.new ≡ position_count self.old }
         ensures none { self.new.reached ≡ 0 }
-        ensures closed { (dot j : ℕ) → j < places self.old
+        ensures closed { (dot j : ℕ) → j < position_count self.old
             → is_closed self.new dot j ≡ (not (j == i) && is_closed self.old dot j) }
     {
         clear(&mut self.bits, i);
@@ -69,8 +70,8 @@ impl OpenDots {
     pub fn reach(&mut self, dot: u8) -> Result<(), AllocError>
         requires { dot ≤ LENGTH_MAX }
         ensures reached { OnOk result (dot < self.new.reached) }
-        ensures places { places self.new ≡ places self.old }
-        ensures closed { OnOk result ((d j : ℕ) → j < places self.old
+        ensures places { position_count self.new ≡ position_count self.old }
+        ensures closed { OnOk result ((d j : ℕ) → j < position_count self.old
             → is_closed self.new d j ≡ is_closed self.old d j) }
     {
         while self.reached <= usize::from(dot) {
@@ -83,8 +84,8 @@ impl OpenDots {
     fn reach_next(&mut self) -> Result<(), AllocError>
         requires { self.old.reached < LENGTH_MAX + 1 }
         ensures reached { OnOk result (self.new.reached ≡ self.old.reached + 1) }
-        ensures places { places self.new ≡ places self.old }
-        ensures closed { OnOk result ((d j : ℕ) → j < places self.old
+        ensures places { position_count self.new ≡ position_count self.old }
+        ensures closed { OnOk result ((d j : ℕ) → j < position_count self.old
             → is_closed self.new d j ≡ is_closed self.old d j) }
     {
         push_first(&mut self.bits, self.width)?;
@@ -101,16 +102,17 @@ impl OpenDots {
         Walk::start(self.row(dot))
     }
 
-    /// The next position of a walk over those at which a dot is open; the end of all positions where
-    /// there is none.
+    /// The next position of a walk over those at which a dot is open; the end of all positions
+    /// where there is none.
     pub fn next_open(&self, dot: u8, walk: &mut Walk) -> usize
         requires dot { dot < self.now.reached }
         requires within { HasWalk self.now walk.old }
         ensures within { HasWalk self.now walk.new }
         ensures next { (from : ℕ) → IsAhead (is_closed self.now dot) walk.old from
-            → IsNext (is_closed self.now dot) (places self.now) from result }
+            → IsNext (is_closed self.now dot) (position_count self.now) from result }
         ensures ahead { (from : ℕ) → IsAhead (is_closed self.now dot) walk.old from
-            → result < places self.now → IsAhead (is_closed self.now dot) walk.new (result + 1) }
+            → result < position_count self.now
+            → IsAhead (is_closed self.now dot) walk.new (result + 1) }
     {
         walk.next(self.row(dot))
     }
@@ -119,7 +121,7 @@ impl OpenDots {
     fn row(&self, dot: u8) -> &[u64]
         requires dot { dot < self.now.reached }
         ensures size { length result.now ≡ self.now.width }
-        ensures bits { (i : ℕ) → i < places self.now
+        ensures bits { (i : ℕ) → i < position_count self.now
             → has_bit result.now i ≡ is_closed self.now dot i }
     {
         let start = (usize::from(dot) + 1) * self.width;
@@ -129,10 +131,10 @@ impl OpenDots {
     /// Closes a dot at a position.
     pub fn close(&mut self, dot: u8, i: usize)
         requires dot { dot < self.old.reached }
-        requires within { i < places self.old }
-        ensures places { places self.new ≡ places self.old }
+        requires within { i < position_count self.old }
+        ensures places { position_count self.new ≡ position_count self.old }
         ensures reached { self.new.reached ≡ self.old.reached }
-        ensures closed { (d j : ℕ) → j < places self.old
+        ensures closed { (d j : ℕ) → j < position_count self.old
             → is_closed self.new d j ≡ ((d == dot && j == i) || is_closed self.old d j) }
     {
         let row = (usize::from(dot) + 1) * self.width;
@@ -141,10 +143,10 @@ impl OpenDots {
 
     /// Closes every dot at a position.
     pub fn close_all(&mut self, i: usize)
-        requires within { i < places self.old }
-        ensures places { places self.new ≡ places self.old }
+        requires within { i < position_count self.old }
+        ensures places { position_count self.new ≡ position_count self.old }
         ensures reached { self.new.reached ≡ self.old.reached }
-        ensures closed { (d j : ℕ) → j < places self.old
+        ensures closed { (d j : ℕ) → j < position_count self.old
             → is_closed self.new d j ≡ (j == i || is_closed self.old d j) }
     {
         set_in_rows(&mut self.bits, self.width, self.reached + 1, i);
@@ -152,8 +154,8 @@ impl OpenDots {
 
     /// Goes on to the next length: a dot is closed where it was, or where the dot before it was.
     pub fn next_length(&mut self) -> Result<(), AllocError>
-        ensures places { places self.new ≡ places self.old }
-        ensures closed { OnOk result ((d j : ℕ) → d ≤ LENGTH_MAX → j < places self.old
+        ensures places { position_count self.new ≡ position_count self.old }
+        ensures closed { OnOk result ((d j : ℕ) → d ≤ LENGTH_MAX → j < position_count self.old
             → is_closed self.new d j
             ≡ (is_closed self.old d j || (nat_le 1 d && is_closed self.old (d - 1) j))) }
     {

@@ -7,7 +7,7 @@ use Rattle.std.proofs.lemmas.Bool.{and_from, and_parts}
 use Rattle.std.proofs.lemmas.Option.{slice_get_past}
 use Rattle.pg_types.specs.declared.parameters.LevelParams.{LevelParams}
 use Rattle.pg_types.specs.Inside.Counts.{Counts, counted_sums, is_counted}
-use Rattle.pg_types.specs.Inside.Numbered.{Windows, HasNumber, AreNumbered}
+use Rattle.pg_types.specs.Inside.NumberedWindows.{Windows, HasNumber, AreNumbered}
 use Rattle.pg_dict.specs.Word.{Word}
 use Rattle.pg_select.specs.declared.choice.Choice.{Choice}
 use Rattle.pg_select.specs.declared.pass.Pass.{Pass}
@@ -19,14 +19,14 @@ use Rattle.pg_select.specs.Inside.Meanings.{Meaning, with_position}
 use Rattle.pg_select.specs.Inside.Positions.{Positions}
 use Rattle.pg_types.specs.declared.marks.Mark.{Mark}
 use Rattle.pg_select.specs.Statuses.{position_weight, status, status_at}
-use Rattle.pg_select.specs.Windows.{Hopeless, Patterns, covered, fits, window}
+use Rattle.pg_select.specs.Windows.{Hopeless, Patterns, is_covered, fits, window}
 use Rattle.pg_patterns.specs.Values.{value_at}
 use Rattle.pg_select.proofs.LawsRaised.{counted_uncovered}
 use Rattle.pg_select.proofs.LawsTally.{is_counted_window}
 use Rattle.pg_driver.specs.declared.above_positions.Kept.{Kept}
-use Rattle.pg_driver.specs.declared.pass_windows.Place.{Place}
+use Rattle.pg_driver.specs.declared.pass_windows.WordPosition.{WordPosition}
 use Rattle.pg_driver.specs.declared.pass_windows.TheConstants.{NOT_COUNTED}
-use Rattle.pg_driver.specs.Inside.Counting.{IsRead, counting}
+use Rattle.pg_driver.specs.Inside.Counting.{IsRead, meaning_after_counting}
 use Rattle.pg_driver.specs.Inside.OpenLevels.{open_as}
 use Rattle.pg_driver.specs.Inside.OpenPositions.{counted_in}
 use Rattle.pg_driver.specs.Inside.PassWindows.{AreFates, GetsNumber, HaveNumbers, IsNumbered, is_counted_at, uncovered_at}
@@ -51,7 +51,7 @@ numbered_by pass P H words ws w word p n at counts gets = record {
 }
   where
     test : Word → Bool
-    test x = fits x.signs p pass.len pass.dot && not (covered pass.level P H (window x.signs p pass.len pass.dot) pass.dot)
+    test x = fits x.signs p pass.len pass.dot && not (is_covered pass.level P H (window x.signs p pass.len pass.dot) pass.dot)
 
     by_true : (o : Option Bool) (b : Bool) → b ≡ true → is_some o ≡ true → GetsNumber (cond b o None) ws (window w.signs p pass.len pass.dot) n → HasNumber ws (window w.signs p pass.len pass.dot) n
     by_true None b is some gets = absurd (let wrong : false ≡ true = some in cc)
@@ -79,8 +79,8 @@ above_found m w found level p mark read within is =
     λ i. is_some (cond (nat_lt level (value i)) (counts_as level (same i)) None)
 
 -- the numbers after a position
-pub number_noted : (pass : Pass) (P : Patterns) (H : Hopeless) (words : List Word) (m n : Meaning) (seen : List CountedPosition) (entries : List Place) (ns more : List ℕ) (w : Word) (word p number : ℕ)
-    → n ≡ counting m seen → slice_get words word ≡ Some w → GetsNumber (counted_at pass P H w p) n.windows (window w.signs p pass.len pass.dot) number
+pub number_noted : (pass : Pass) (P : Patterns) (H : Hopeless) (words : List Word) (m n : Meaning) (seen : List CountedPosition) (entries : List WordPosition) (ns more : List ℕ) (w : Word) (word p number : ℕ)
+    → n ≡ meaning_after_counting m seen → slice_get words word ≡ Some w → GetsNumber (counted_at pass P H w p) n.windows (window w.signs p pass.len pass.dot) number
     → more ≡ cond (is_some (counts_above pass.level P w p)) (ns ++ number ∷ []) ns
     → HaveNumbers pass (uncovered_at pass P H) words m.windows entries ns
     → HaveNumbers pass (uncovered_at pass P H) words n.windows (entries ++ open_as word p (counts_above pass.level P w p)) more
@@ -89,14 +89,14 @@ number_noted pass P H words m n seen entries ns more w word p number is at gets 
     (by (counts_above pass.level P w p) (above_counts pass.level (value_at P w.signs p) (counts_as pass.level (status_at P w p))))
   where
     by : (o : Option Bool) → (is_some o ≡ true → is_some (counts_as pass.level (status_at P w p)) ≡ true) → HaveNumbers pass (uncovered_at pass P H) words n.windows (entries ++ open_as word p o) (cond (is_some o) (ns ++ number ∷ []) ns)
-    by None counts = subst (λ (es : List Place). HaveNumbers pass (uncovered_at pass P H) words n.windows es ns) (sym (append-nil entries)) (still_have pass (uncovered_at pass P H) words m n seen entries ns is have)
+    by None counts = subst (λ (es : List WordPosition). HaveNumbers pass (uncovered_at pass P H) words n.windows es ns) (sym (append-nil entries)) (still_have pass (uncovered_at pass P H) words m n seen entries ns is have)
     by (Some good) counts =
         have_more pass (uncovered_at pass P H) words n.windows entries ns (record { word = word; at = p }) number
         (still_have pass (uncovered_at pass P H) words m n seen entries ns is have)
         (numbered_by pass P H words n.windows w word p number at (counts refl) gets)
 
 -- once a pass is counted, what is not covered is what is counted
-covered_not_counted : (m : Minima) (words : List Word) (pass : Pass) (P : Patterns) (H : Hopeless) (counts : Counts) (u : List ℕ) → counts ≡ fold with_position [] (counted_positions m words pass P H) → covered pass.level P H u pass.dot ≡ true → is_counted counts u ≡ false
+covered_not_counted : (m : Minima) (words : List Word) (pass : Pass) (P : Patterns) (H : Hopeless) (counts : Counts) (u : List ℕ) → counts ≡ fold with_position [] (counted_positions m words pass P H) → is_covered pass.level P H u pass.dot ≡ true → is_counted counts u ≡ false
 covered_not_counted m words pass P H counts u are is =
     ap (λ (cs : Counts). is_counted cs u) are
     ∙ ap is_some (found_is (counted_positions m words pass P H) u)
@@ -106,7 +106,7 @@ covered_not_counted m words pass P H counts u are is =
     by true wrong = absurd (let clash : true ≡ false = wrong refl in cc)
     by false wrong = refl
 
-module _ (pass : Pass) (P : Patterns) (H : Hopeless) (words : List Word) (counts : Counts) (ws : Windows) (are : AreNumbered ws counts) (uncounted : (u : List ℕ) → covered pass.level P H u pass.dot ≡ true → is_counted counts u ≡ false) (e : Place) (n : ℕ) (is : IsNumbered pass (uncovered_at pass P H) words ws e n) where
+module _ (pass : Pass) (P : Patterns) (H : Hopeless) (words : List Word) (counts : Counts) (ws : Windows) (are : AreNumbered ws counts) (uncounted : (u : List ℕ) → is_covered pass.level P H u pass.dot ≡ true → is_counted counts u ≡ false) (e : WordPosition) (n : ℕ) (is : IsNumbered pass (uncovered_at pass P H) words ws e n) where
   is_uncovered : (w : Word) (f c : Bool) → (f && is_counted counts (window w.signs e.at pass.len pass.dot)) ≡ true → (c ≡ true → is_counted counts (window w.signs e.at pass.len pass.dot) ≡ false) → (f && not c) ≡ true
   is_uncovered w false c have lack = absurd (let wrong : false ≡ true = have in cc)
   is_uncovered w true true have lack = absurd (let wrong : false ≡ true = sym (lack refl) ∙ have in cc)
@@ -116,17 +116,17 @@ module _ (pass : Pass) (P : Patterns) (H : Hopeless) (words : List Word) (counts
   not_counted w at lack false free = is.uncounted w at free
   not_counted w at lack true free = absurd (
       let counted : is_counted counts (window w.signs e.at pass.len pass.dot) ≡ true = are.counted (window w.signs e.at pass.len pass.dot) n (is.counted w at free) in
-      let parts = and_parts (fits w.signs e.at pass.len pass.dot) (not (covered pass.level P H (window w.signs e.at pass.len pass.dot) pass.dot)) free in
+      let parts = and_parts (fits w.signs e.at pass.len pass.dot) (not (is_covered pass.level P H (window w.signs e.at pass.len pass.dot) pass.dot)) free in
       let wrong : false ≡ true = sym lack ∙ and_from (fits w.signs e.at pass.len pass.dot) (is_counted counts (window w.signs e.at pass.len pass.dot)) parts.0 counted in
       cc)
 
   as_counted : IsNumbered pass (is_counted_at pass counts) words ws e n
   as_counted = record {
-    counted = λ w at have. is.counted w at (is_uncovered w (fits w.signs e.at pass.len pass.dot) (covered pass.level P H (window w.signs e.at pass.len pass.dot) pass.dot) have (uncounted (window w.signs e.at pass.len pass.dot)));
+    counted = λ w at have. is.counted w at (is_uncovered w (fits w.signs e.at pass.len pass.dot) (is_covered pass.level P H (window w.signs e.at pass.len pass.dot) pass.dot) have (uncounted (window w.signs e.at pass.len pass.dot)));
     uncounted = λ w at lack. not_counted w at lack (uncovered_at pass P H w e) refl;
   }
 
-pub numbered_as_counted : (m : Minima) (words : List Word) (pass : Pass) (P : Patterns) (H : Hopeless) (counts : Counts) (ws : Windows) (entries : List Place) (ns : List ℕ) → AreNumbered ws counts → counts ≡ fold with_position [] (counted_positions m words pass P H)
+pub numbered_as_counted : (m : Minima) (words : List Word) (pass : Pass) (P : Patterns) (H : Hopeless) (counts : Counts) (ws : Windows) (entries : List WordPosition) (ns : List ℕ) → AreNumbered ws counts → counts ≡ fold with_position [] (counted_positions m words pass P H)
     → HaveNumbers pass (uncovered_at pass P H) words ws entries ns → HaveNumbers pass (is_counted_at pass counts) words ws entries ns
 numbered_as_counted m words pass P H counts ws entries ns are counted have = record {
   size = have.size;
@@ -135,7 +135,7 @@ numbered_as_counted m words pass P H counts ws entries ns are counted have = rec
 
 -- a listed position was chosen where its number says so
 pub chosen_by_number : (params : LevelParams) (counts : Counts) (ws : Windows) (fates : List Choice) → AreNumbered ws counts → AreFates params counts ws fates → length fates ≤ NOT_COUNTED
-    → (pass : Pass) (words : List Word) (e : Place) (n : ℕ) (w : Word) → slice_get words e.word ≡ Some w → IsNumbered pass (is_counted_at pass counts) words ws e n
+    → (pass : Pass) (words : List Word) (e : WordPosition) (n : ℕ) (w : Word) → slice_get words e.word ≡ Some w → IsNumbered pass (is_counted_at pass counts) words ws e n
     → option_map_or chooses (slice_get fates n) false ≡ (fits w.signs e.at pass.len pass.dot && was_chosen params counts (window w.signs e.at pass.len pass.dot))
 chosen_by_number params counts ws fates are decided few pass words e n w at is = by (is_counted_at pass counts w e) refl
   where
@@ -164,7 +164,7 @@ chosen_by_number params counts ws fates are decided few pass words e n w at is =
 
 -- the weights with those of a position more
 module _ (params : LevelParams) (pass : Pass) (counts : Counts) (words : List Word) where
-  module _ (e : Place) (w : Word) (at : slice_get words e.word ≡ Some w) where
+  module _ (e : WordPosition) (w : Word) (at : slice_get words e.word ≡ Some w) where
     abbrev here : CountedPosition
     here = record { window = window w.signs e.at pass.len pass.dot; good = is_good pass.level w e.at; weight = position_weight w e.at }
 

@@ -7,7 +7,7 @@ use Rattle.std.proofs.lemmas.List.{drop-append-le, drop-drop, drop_at, length-ma
 use Rattle.std.proofs.lemmas.List.Elements.{All-head, All-tail}
 use Rattle.std.proofs.lemmas.List.FromFn.{length-range_with_len}
 use Rattle.std.proofs.lemmas.Option.{get_or_from_slice_get, slice_get_within, slice_get-get_or, slice_get-map}
-use Rattle.pg_types.specs.Inside.Numbered.{HasNumber, Windows}
+use Rattle.pg_types.specs.Inside.NumberedWindows.{HasNumber, Windows}
 use Rattle.pg_dict.specs.declared.sites.Site.{Site}
 use Rattle.pg_dict.specs.Inside.Sites.{all_sites, site_of, sites_in}
 use Rattle.pg_dict.proofs.Told.{word_in}
@@ -20,7 +20,7 @@ use Rattle.pg_select.specs.Inside.Meanings.{Meaning, after_count}
 use Rattle.pg_select.specs.Statuses.{position_weight}
 use Rattle.pg_select.specs.Windows.{window, fits}
 use Rattle.pg_driver.specs.declared.pass_windows.TheConstants.{NOT_COUNTED}
-use Rattle.pg_driver.specs.Inside.Counting.{counting}
+use Rattle.pg_driver.specs.Inside.Counting.{meaning_after_counting}
 use Rattle.pg_driver.specs.Inside.OpenPositions.{counted_in, counted_of}
 use Rattle.pg_driver.specs.Inside.OpenSigns.{sign_count, start_of}
 use Rattle.pg_driver.specs.Inside.PassWindows.{IsNumbered, counts_at}
@@ -135,23 +135,23 @@ weight_at words weights sign d of are each =
 
 -- what a pass counts at a position of a word where its window fits
 module _ (m : Meaning) (level len dot : ℕ) (words : List Word) (n p : ℕ) (w : Word) (at : slice_get words n ≡ Some w) where
-  pub counted_there : counting m (counted_of level len dot words (record { word = n; at = p })) ≡ counting m (counted_in level len dot w p)
-  counted_there = ap (λ (o : Option Word). counting m (option_map_or (λ (v : Word). counted_in level len dot v p) o [])) at
+  pub counted_there : meaning_after_counting m (counted_of level len dot words (record { word = n; at = p })) ≡ meaning_after_counting m (counted_in level len dot w p)
+  counted_there = ap (λ (o : Option Word). meaning_after_counting m (option_map_or (λ (v : Word). counted_in level len dot v p) o [])) at
 
   pub counted_fit : (u : List ℕ) (good : Bool) (weight : ℕ) → fits w.signs p len dot ≡ true → u ≡ window w.signs p len dot → good ≡ is_good level w p → weight ≡ position_weight w p
-      → after_count m u good weight ≡ counting m (counted_of level len dot words (record { word = n; at = p }))
+      → after_count m u good weight ≡ meaning_after_counting m (counted_of level len dot words (record { word = n; at = p }))
   counted_fit u good weight fit u_is good_is weight_is =
       (λ i. after_count m (u_is i) (good_is i) (weight_is i)) ∙ sym (by (fits w.signs p len dot) fit) ∙ sym counted_there
     where
-      by : (b : Bool) → b ≡ true → counting m (option_map_or (λ good. record { window = window w.signs p len dot; good = good; weight = position_weight w p } ∷ []) (cond (b && true) (Some (is_good level w p)) None) []) ≡ after_count m (window w.signs p len dot) (is_good level w p) (position_weight w p)
+      by : (b : Bool) → b ≡ true → meaning_after_counting m (option_map_or (λ good. record { window = window w.signs p len dot; good = good; weight = position_weight w p } ∷ []) (cond (b && true) (Some (is_good level w p)) None) []) ≡ after_count m (window w.signs p len dot) (is_good level w p) (position_weight w p)
       by true e = refl
       by false e = absurd (let wrong : false ≡ true = e in cc)
 
   -- and where it does not
-  pub counted_none : fits w.signs p len dot ≡ false → counting m (counted_of level len dot words (record { word = n; at = p })) ≡ m
+  pub counted_none : fits w.signs p len dot ≡ false → meaning_after_counting m (counted_of level len dot words (record { word = n; at = p })) ≡ m
   counted_none other = counted_there ∙ by (fits w.signs p len dot) other
     where
-      by : (b : Bool) → b ≡ false → counting m (option_map_or (λ good. record { window = window w.signs p len dot; good = good; weight = position_weight w p } ∷ []) (cond (b && true) (Some (is_good level w p)) None) []) ≡ m
+      by : (b : Bool) → b ≡ false → meaning_after_counting m (option_map_or (λ good. record { window = window w.signs p len dot; good = good; weight = position_weight w p } ∷ []) (cond (b && true) (Some (is_good level w p)) None) []) ≡ m
       by true e = absurd (let wrong : true ≡ false = e in cc)
       by false e = refl
 

@@ -7,7 +7,7 @@ use Rattle.std.proofs.lemmas.Bool.Decides.{nat_tests}
 use Rattle.std.proofs.lemmas.List.Folds.{list_all-append}
 use Rattle.std.proofs.lemmas.List.Sums.{fold-append}
 use Rattle.pg_types.specs.declared.parameters.LevelParams.{LevelParams}
-use Rattle.pg_types.specs.Placement.{Families, taken, top}
+use Rattle.pg_types.specs.Placement.{Families, taken_count, top}
 use Rattle.pg_select.specs.Inside.Meanings.{Meaning}
 use Rattle.pg_select.specs.declared.pass.Pass.{Pass}
 use Rattle.pg_select.specs.CountedPositions.{Candidate}
@@ -15,10 +15,10 @@ use Rattle.pg_driver.specs.declared.records.PassRecord.{PassRecord}
 use Rattle.pg_driver.specs.Inside.AccountLines.{PassLine, left_none}
 use Rattle.pg_driver.specs.Dots.{dot_at}
 use Rattle.pg_driver.specs.Inside.CellsAccounts.{after_passes}
-use Rattle.pg_driver.specs.Inside.Levels.{AreClosed, ClosedDots, GoesOn, IsAt, LevelStart, Tells, all_made_by, is_set, layouts_in, point, unset}
+use Rattle.pg_driver.specs.Inside.Levels.{CountNothing, SkipFlags, GoesOn, IsAt, LevelStart, Tells, all_made_by, is_set, layouts_in, point, no_flags}
 use Rattle.pg_driver.specs.Inside.Sound.{Recorded, with_pass}
 use Rattle.pg_driver.specs.Inside.States.{DidPass, State, made_by, state_after, state_at_end, state_of}
-use Rattle.pg_driver.specs.Inside.Told.{known_of}
+use Rattle.pg_driver.specs.Inside.RunAccounts.{known_of}
 use Rattle.pg_driver.specs.Traces.{Known, PassTrace, Source, is_entered, known_after, pass_made, passes_made}
 use Rattle.pg_driver.specs.Inside.Passes.{known_at_end, passes_of_length}
 use Rattle.pg_driver.proofs.ChoiceSteps.{state_none, state_with}
@@ -62,7 +62,7 @@ no_layouts signs None xs = sym (append-nil xs)
 no_layouts signs (Some fs) xs = sym (append-nil xs)
 
 -- where a level begins
-pub at_level_start : (source : Source) (number len : ℕ) (m : Meaning) (r : Recorded) (flags : ClosedDots) → r.chosen ≡ 0 → flags.here ≡ unset → flags.longer ≡ unset → IsAt source number len (record { engine = m; records = r }) [] (point m r flags)
+pub at_level_start : (source : Source) (number len : ℕ) (m : Meaning) (r : Recorded) (flags : SkipFlags) → r.chosen ≡ 0 → flags.here ≡ no_flags → flags.longer ≡ no_flags → IsAt source number len (record { engine = m; records = r }) [] (point m r flags)
 at_level_start source number len m r flags chosen here longer = record {
   signs = refl;
   state = state_begins m.signs (state_of m);
@@ -78,7 +78,7 @@ at_level_start source number len m r flags chosen here longer = record {
   closed = λ n dot is. cc;
 }
 
-module _ (source : Source) (params : LevelParams) (number len dot : ℕ) (m : Meaning) (start : LevelStart) (ps : List PassTrace) (r : Recorded) (old : ClosedDots) (at : IsAt source number len start ps (point m r old)) where
+module _ (source : Source) (params : LevelParams) (number len dot : ℕ) (m : Meaning) (start : LevelStart) (ps : List PassTrace) (r : Recorded) (old : SkipFlags) (at : IsAt source number len start ps (point m r old)) where
   abbrev q : PassTrace
   q = made_by source params m (pass_with number len dot)
 
@@ -91,11 +91,11 @@ module _ (source : Source) (params : LevelParams) (number len dot : ℕ) (m : Me
   short_on : list_all (λ p. nat_le p.pass.len len) (ps ++ q ∷ []) ≡ true
   short_on = short_push len ps q refl at.short
 
-  tells_on : (b : Bool) (new : ClosedDots) → b ≡ left_none q → new.here ≡ old.here → Follows dot b old new → Tells number len new (ps ++ q ∷ [])
+  tells_on : (b : Bool) (new : SkipFlags) → b ≡ left_none q → new.here ≡ old.here → Follows dot b old new → Tells number len new (ps ++ q ∷ [])
   tells_on b new left here longer = tells_more number len dot source params (known_of m) old new ps at.tells here (subst (λ (b : Bool). Follows dot b old new) left longer)
 
-  closed_after : (n : Meaning) → state_of n ≡ state_after m.signs m.families q → AreClosed source number (ps ++ q ∷ []) (known_of n)
-  closed_after n state = subst (λ (known : Known). AreClosed source number (ps ++ q ∷ []) known) (sym (ap (λ (s : State). s.known) state)) (closed_on source params number len dot (known_of m) ps at.closed)
+  closed_after : (n : Meaning) → state_of n ≡ state_after m.signs m.families q → CountNothing source number (ps ++ q ∷ []) (known_of n)
+  closed_after n state = subst (λ (known : Known). CountNothing source number (ps ++ q ∷ []) known) (sym (ap (λ (s : State). s.known) state)) (closed_on source params number len dot (known_of m) ps at.closed)
 
 -- a pass that is skipped changes nothing
 state_stays : (source : Source) (params : LevelParams) (pass : Pass) (m : Meaning) → (made_by source params m pass).candidates ≡ [] → state_of m ≡ state_after m.signs m.families (made_by source params m pass)
@@ -104,7 +104,7 @@ state_stays source params pass m none = sym (state_none m.signs params pass (sta
 none_left : (params : LevelParams) (q : PassTrace) → q.candidates ≡ [] → true ≡ left_none q
 none_left params q none = ap (λ (cs : List Candidate). list_all (is_entered q.params) cs) (sym none)
 
-module _ (source : Source) (params : LevelParams) (number len dot : ℕ) (m : Meaning) (r : Recorded) (old new : ClosedDots) where
+module _ (source : Source) (params : LevelParams) (number len dot : ℕ) (m : Meaning) (r : Recorded) (old new : SkipFlags) where
   -- a pass that was skipped
   pub skipped_known : (start : LevelStart) (ps : List PassTrace) → is_set old.here dot ≡ true → IsAt source number len start ps (point m r old) → (made_by source params m (pass_with number len dot)).candidates ≡ []
   skipped_known start ps flag at = skipped_none source params number len dot (known_of m) ps at.closed (at.tells.here dot ∙ flag)
@@ -131,7 +131,7 @@ module _ (source : Source) (params : LevelParams) (number len dot : ℕ) (m : Me
       let q : PassTrace = made_by source params m (pass_with number len dot) in
       let none : b ≡ left_none q = left ∙ ap (λ (x : PassLine). x.chosen + x.hopeless == x.candidates) did.line ∙ left_none_is params q.candidates in
       let state : state_of n ≡ state_at_end start.engine.signs (state_of start.engine) (ps ++ q ∷ []) = did.state ∙ state_on source params number len dot m start ps r old at in
-      let layout = did.layout ∙ ap (λ (s : State). option_map (λ fs. (q.pass, taken fs, top fs)) s.families) state in
+      let layout = did.layout ∙ ap (λ (s : State). option_map (λ fs. (q.pass, taken_count fs, top fs)) s.families) state in
       let on : IsAt source number len start (ps ++ q ∷ []) (point n s new) = record {
         signs = signs ∙ at.signs;
         state = state;
@@ -143,7 +143,7 @@ module _ (source : Source) (params : LevelParams) (number len dot : ℕ) (m : Me
       (on, ap (λ (s : State). s.known) did.state)
 
 -- at the next length
-pub at_next : (source : Source) (number len : ℕ) (start : LevelStart) (ps : List PassTrace) (m : Meaning) (r : Recorded) (old new : ClosedDots) → new.here ≡ old.longer → new.longer ≡ unset → IsAt source number len start ps (point m r old) → IsAt source number (len + 1) start ps (point m r new)
+pub at_next : (source : Source) (number len : ℕ) (start : LevelStart) (ps : List PassTrace) (m : Meaning) (r : Recorded) (old new : SkipFlags) → new.here ≡ old.longer → new.longer ≡ no_flags → IsAt source number len start ps (point m r old) → IsAt source number (len + 1) start ps (point m r new)
 at_next source number len start ps m r old new here longer at = record {
   signs = at.signs;
   state = at.state;
@@ -154,7 +154,7 @@ at_next source number len start ps m r old new here longer at = record {
 }
 
 -- passes that were made, and those that are left and lead to a whole
-pub record Reaches (source : Source) (params : LevelParams) (number len : ℕ) (start : LevelStart) (m : Meaning) (r : Recorded) (flags : ClosedDots) (rest : List Pass) (whole : List PassTrace) (end : Known) : Type 0 where
+pub record Reaches (source : Source) (params : LevelParams) (number len : ℕ) (start : LevelStart) (m : Meaning) (r : Recorded) (flags : SkipFlags) (rest : List Pass) (whole : List PassTrace) (end : Known) : Type 0 where
   pub done : List PassTrace
   pub at : IsAt source number len start done (point m r flags)
   pub left : done ++ all_made_by source params m rest ≡ whole
@@ -206,7 +206,7 @@ pub no_lengths : (number end : ℕ) → lengths_from number end end ≡ []
 no_lengths number end = let none : end - end ≡ zero = omega arith in ap (λ n. flat_map (passes_of_length number) (range_with_len end n)) none
 
 -- some passes of those that are left
-pub reaches_on : (source : Source) (params : LevelParams) (number len : ℕ) (start : LevelStart) (m n : Meaning) (r s : Recorded) (old new : ClosedDots) (passes xs rest : List Pass) (whole : List PassTrace) (end : Known) → passes ≡ xs ++ rest
+pub reaches_on : (source : Source) (params : LevelParams) (number len : ℕ) (start : LevelStart) (m n : Meaning) (r s : Recorded) (old new : SkipFlags) (passes xs rest : List Pass) (whole : List PassTrace) (end : Known) → passes ≡ xs ++ rest
     → GoesOn source number len (all_made_by source params m xs) (point m r old) (point n s new) → Reaches source params number len start m r old passes whole end → Reaches source params number len start n s new rest whole end
 reaches_on source params number len start m n r s old new passes xs rest whole end are on before =
     let after = on start before.done before.at in
@@ -218,7 +218,7 @@ reaches_on source params number len start m n r s old new passes xs rest whole e
     }
 
 -- where no pass is left, all are done
-pub at_whole : (source : Source) (params : LevelParams) (number len : ℕ) (start : LevelStart) (m : Meaning) (r : Recorded) (flags : ClosedDots) (rest : List Pass) (whole : List PassTrace) (end : Known) → rest ≡ [] → Reaches source params number len start m r flags rest whole end
+pub at_whole : (source : Source) (params : LevelParams) (number len : ℕ) (start : LevelStart) (m : Meaning) (r : Recorded) (flags : SkipFlags) (rest : List Pass) (whole : List PassTrace) (end : Known) → rest ≡ [] → Reaches source params number len start m r flags rest whole end
     → IsAt source number len start whole (point m r flags) × (known_of m ≡ end)
 at_whole source params number len start m r flags rest whole end none reaches =
     let at : IsAt source number len start whole (point m r flags) =

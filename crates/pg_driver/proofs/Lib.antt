@@ -14,7 +14,7 @@ pub mod SkipFlags
 pub mod SkipLaw
 pub mod LevelSteps
 pub mod RunSteps
-pub mod ToldSteps
+pub mod RunAccountSteps
 pub mod OpenPositions
 pub mod OpenPlaces
 pub mod OpenSteps

@@ -15,7 +15,7 @@ use Rattle.pg_types.proofs.EntryLists.{below_get}
 use Rattle.pg_types.specs.declared.parameters.LevelParams.{LevelParams}
 use Rattle.pg_types.specs.Inside.Signs.{is_sign}
 use Rattle.pg_types.specs.Inside.Counts.{Counts, SignsWithin, counted_sums, is_counted}
-use Rattle.pg_types.specs.Inside.Numbered.{Windows, HasNumber, AreNumbered, with_window}
+use Rattle.pg_types.specs.Inside.NumberedWindows.{Windows, HasNumber, AreNumbered, with_window}
 use Rattle.pg_dict.specs.Word.{Word}
 use Rattle.pg_dict.specs.Inside.Store.{all_signs}
 use Rattle.pg_select.specs.declared.choice.Choice.{Choice}
@@ -24,11 +24,11 @@ use Rattle.pg_select.specs.Inside.Choices.{choice}
 use Rattle.pg_select.specs.Statuses.{position_weight}
 use Rattle.pg_select.specs.Inside.LawsClosedDots.{is_good}
 use Rattle.pg_select.specs.Windows.{window, fits}
-use Rattle.pg_driver.specs.declared.pass_windows.Place.{Place}
-use Rattle.pg_driver.specs.Inside.PassWindows.{IsNumbered, HaveNumbers, AreFates, IsPlace, ArePlaces, IsPart, window_from}
+use Rattle.pg_driver.specs.declared.pass_windows.WordPosition.{WordPosition}
+use Rattle.pg_driver.specs.Inside.PassWindows.{IsNumbered, HaveNumbers, AreFates, IsFirstSign, AreFirstSigns, IsPart, window_from}
 use Rattle.pg_select.specs.CountedPositions.{CountedPosition}
 use Rattle.pg_select.specs.Inside.Meanings.{Meaning, with_position}
-use Rattle.pg_driver.specs.Inside.Counting.{counting, windows_after}
+use Rattle.pg_driver.specs.Inside.Counting.{meaning_after_counting, windows_after}
 use Rattle.pg_driver.specs.Inside.OpenPositions.{counted_in}
 use Rattle.pg_driver.proofs.Puts.{cmp}
 
@@ -139,7 +139,7 @@ pub number_stays : (ws : Windows) (counts : Counts) (seen : List CountedPosition
 number_stays ws counts [] v n at = at
 number_stays ws counts (s ∷ seen) v n at = number_stays (with_window ws counts s.window) (with_position counts s) seen v n (window_stays ws counts s.window v n at)
 
-pub still_numbered : (pass : Pass) (test : Word → Place → Bool) (words : List Word) (m n : Meaning) (seen : List CountedPosition) (e : Place) (k : ℕ) → n ≡ counting m seen → IsNumbered pass test words m.windows e k → IsNumbered pass test words n.windows e k
+pub still_numbered : (pass : Pass) (test : Word → WordPosition → Bool) (words : List Word) (m n : Meaning) (seen : List CountedPosition) (e : WordPosition) (k : ℕ) → n ≡ meaning_after_counting m seen → IsNumbered pass test words m.windows e k → IsNumbered pass test words n.windows e k
 still_numbered pass test words m n seen e k is numbered =
     let grown : n.windows ≡ windows_after m.windows m.counts seen = ap (λ (x : Meaning). x.windows) is in
     record {
@@ -159,26 +159,26 @@ window_in ws counts level len dot w p fit = by (fits w.signs p len dot) fit
 
 -- a place more, where the window is new
 pub place_more : (pass : Pass) (words : List Word) (ws after : Windows) (counts now : Counts) (places more : List ℕ) (first n : ℕ)
-    → ArePlaces pass words ws places → AreNumbered after now → first + pass.len ≤ length (all_signs words)
+    → AreFirstSigns pass words ws places → AreNumbered after now → first + pass.len ≤ length (all_signs words)
     → after ≡ with_window ws counts (window_from pass words first) → HasNumber after (window_from pass words first) n
-    → more ≡ cond (nat_eq n (length places)) (places ++ first ∷ []) places → ArePlaces pass words after more
+    → more ≡ cond (nat_eq n (length places)) (places ++ first ∷ []) places → AreFirstSigns pass words after more
 place_more pass words ws after counts now places more first n are numbered inside grown at is = elim (cases_Bool (is_counted counts (window_from pass words first))) [ inl old ↦ was old | inr new ↦ came new ]
   where
-    was : is_counted counts (window_from pass words first) ≡ true → ArePlaces pass words after more
+    was : is_counted counts (window_from pass words first) ≡ true → AreFirstSigns pass words after more
     was old =
         let same : after ≡ ws = grown ∙ ap (λ b. cond b ws (ws ++ (window_from pass words first) ∷ [])) old in
         let lt : n < length ws = slice_get_within ws n (window_from pass words first) (subst (λ (x : Windows). HasNumber x (window_from pass words first) n) same at) in
         let other : n ≢ length places = (let size = are.size in omega arith) in
         let kept : more ≡ places = is ∙ ap (λ b. cond b (places ++ first ∷ []) places) (ne_eqb n (length places) other) in
-        subst (λ (x : Windows). ArePlaces pass words x more) (sym same) (subst (ArePlaces pass words ws) (sym kept) are)
+        subst (λ (x : Windows). AreFirstSigns pass words x more) (sym same) (subst (AreFirstSigns pass words ws) (sym kept) are)
 
-    came : is_counted counts (window_from pass words first) ≡ false → ArePlaces pass words after more
+    came : is_counted counts (window_from pass words first) ≡ false → AreFirstSigns pass words after more
     came new =
         let longer : after ≡ ws ++ (window_from pass words first) ∷ [] = grown ∙ ap (λ b. cond b ws (ws ++ (window_from pass words first) ∷ [])) new in
         let last : HasNumber after (window_from pass words first) (length ws) = subst (λ (x : Windows). HasNumber x (window_from pass words first) (length ws)) (sym longer) (get_seam ws (window_from pass words first) (length ws) refl) in
         let next : n ≡ length places = (let size = are.size in let once = numbered.once (window_from pass words first) n (length ws) at last in omega arith) in
         let added : more ≡ places ++ first ∷ [] = is ∙ ap (λ b. cond b (places ++ first ∷ []) places) (eq-eqb n (length places) next) in
-        subst (ArePlaces pass words after) (sym added) (record {
+        subst (AreFirstSigns pass words after) (sym added) (record {
           size = (let size = are.size in omega (arith, length-append places (first ∷ []), ap length longer, length-append ws ((window_from pass words first) ∷ [])));
           each = λ k q e. elim (cases_lt k (length places)) [
             | inl lt ↦
@@ -190,7 +190,7 @@ place_more pass words ws after counts now places more first n are numbered insid
             | inr le ↦
                 let here = get_last places first k q e (λ lt. omega arith) in
                 let number : HasNumber after (window_from pass words first) k = (let p = here.1 in let size = are.size in subst (HasNumber after (window_from pass words first)) (let z : length ws ≡ k = omega arith in z) last) in
-                subst (IsPlace pass words after k) (sym here.0) (record { within = inside; number = number })
+                subst (IsFirstSign pass words after k) (sym here.0) (record { within = inside; number = number })
           ];
         })
 
@@ -205,14 +205,14 @@ filter_from {X} test P (y ∷ xs) all k x at = by (test y) refl (λ j there. fil
     by false is later k at = later k at
 
 -- positions keep their numbers while more is counted
-pub still_have : (pass : Pass) (test : Word → Place → Bool) (words : List Word) (m n : Meaning) (seen : List CountedPosition) (entries : List Place) (ns : List ℕ) → n ≡ counting m seen → HaveNumbers pass test words m.windows entries ns → HaveNumbers pass test words n.windows entries ns
+pub still_have : (pass : Pass) (test : Word → WordPosition → Bool) (words : List Word) (m n : Meaning) (seen : List CountedPosition) (entries : List WordPosition) (ns : List ℕ) → n ≡ meaning_after_counting m seen → HaveNumbers pass test words m.windows entries ns → HaveNumbers pass test words n.windows entries ns
 still_have pass test words m n seen entries ns is have = record {
   size = have.size;
   each = λ k e x at to. still_numbered pass test words m n seen e x is (have.each k e x at to);
 }
 
 -- a position more
-pub have_more : (pass : Pass) (test : Word → Place → Bool) (words : List Word) (ws : Windows) (entries : List Place) (ns : List ℕ) (e : Place) (n : ℕ) → HaveNumbers pass test words ws entries ns → IsNumbered pass test words ws e n → HaveNumbers pass test words ws (entries ++ e ∷ []) (ns ++ n ∷ [])
+pub have_more : (pass : Pass) (test : Word → WordPosition → Bool) (words : List Word) (ws : Windows) (entries : List WordPosition) (ns : List ℕ) (e : WordPosition) (n : ℕ) → HaveNumbers pass test words ws entries ns → IsNumbered pass test words ws e n → HaveNumbers pass test words ws (entries ++ e ∷ []) (ns ++ n ∷ [])
 have_more pass test words ws entries ns e n have numbered = record {
   size = (let size = have.size in omega (arith, length-append entries (e ∷ []), length-append ns (n ∷ [])));
   each = λ k x y at to. elim (cases_lt k (length ns)) [
@@ -220,6 +220,6 @@ have_more pass test words ws entries ns e n have numbered = record {
     | inr le ↦
         let entry = get_last entries e k x at (λ lt. (let size = have.size in omega arith)) in
         let number = get_last ns n k y to (λ lt. omega arith) in
-        subst (λ (z : Place). IsNumbered pass test words ws z y) (sym entry.0) (subst (IsNumbered pass test words ws e) (sym number.0) numbered)
+        subst (λ (z : WordPosition). IsNumbered pass test words ws z y) (sym entry.0) (subst (IsNumbered pass test words ws e) (sym number.0) numbered)
   ];
 }

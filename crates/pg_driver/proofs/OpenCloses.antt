@@ -7,15 +7,15 @@ use Rattle.std.proofs.lemmas.Option.{slice_get_past, slice_get_within}
 use Rattle.std.proofs.lemmas.List.FromFn.{length-range_with_len}
 use Rattle.pg_types.specs.declared.parameters.LevelParams.{LevelParams}
 use Rattle.pg_types.specs.Inside.Counts.{Counts, counted_sums}
-use Rattle.pg_types.specs.Inside.Numbered.{Windows, HasNumber, AreNumbered}
+use Rattle.pg_types.specs.Inside.NumberedWindows.{Windows, HasNumber, AreNumbered}
 use Rattle.pg_dict.specs.Word.{Word}
 use Rattle.pg_select.specs.declared.choice.Choice.{Choice}
 use Rattle.pg_select.specs.declared.pass.Pass.{Pass}
 use Rattle.pg_select.specs.Inside.Choices.{choice}
 use Rattle.pg_select.specs.Windows.{window, fits}
-use Rattle.pg_driver.specs.declared.pass_windows.Place.{Place}
+use Rattle.pg_driver.specs.declared.pass_windows.WordPosition.{WordPosition}
 use Rattle.pg_driver.specs.declared.pass_windows.TheConstants.{NOT_COUNTED}
-use Rattle.pg_driver.specs.Inside.OpenSigns.{ClosesBy, closed_after, closed_by, closed_in, open_places, open_signs, place_from, sign_count}
+use Rattle.pg_driver.specs.Inside.OpenSigns.{ClosesBy, closed_after, closed_by, closed_in, open_word_positions, open_signs, position_from, sign_count}
 use Rattle.pg_driver.specs.Inside.PassWindows.{AreFates, HaveNumbers, IsNumbered, counts_at}
 use Rattle.pg_driver.proofs.NumberSteps.{filter_from}
 use Rattle.pg_driver.proofs.OpenSigns.{IsSignOf, place_of, range_get, sign_of}
@@ -65,24 +65,24 @@ module _ (params : LevelParams) (counts : Counts) (ws : Windows) (fates : List C
           ap (λ (o : Option Choice). closed_by (λ c. old c s) pass.dot o d) (decided.each (window w.signs p pass.len pass.dot) number sums has is)
           ∙ sym (ap (λ (o : Option (ℕ × ℕ)). option_map_or (λ (sums : ℕ × ℕ). closed_by (λ c. old c s) pass.dot (Some (choice params sums.0 sums.1)) d) o (old d s)) is)
 
-  pub closes_signs : (ns : List ℕ) → HaveNumbers pass (counts_at pass) words ws (open_places (old pass.dot) words) ns
+  pub closes_signs : (ns : List ℕ) → HaveNumbers pass (counts_at pass) words ws (open_word_positions (old pass.dot) words) ns
       → ClosesBy (closed_after params pass counts words old) pass.dot fates old (open_signs (old pass.dot) 0 (sign_count words)) ns
   closes_signs ns have = record {
-    stays = λ s shut d. by_word s d shut (slice_get words (place_from 0 words s).word);
+    stays = λ s shut d. by_word s d shut (slice_get words (position_from 0 words s).word);
     closes = λ k s n at to d.
         let is = is_open_sign (old pass.dot) (sign_count words) k s at in
         closes_sign k s n at to d (sign_of words s is.0) is.1;
   }
     where
-      by_word : (s d : ℕ) → old pass.dot s ≡ true → (o : Option Word) → option_map_or (λ (w : Word). closed_in params pass counts w (place_from 0 words s).at (λ c. old c s) d) o (old d s) ≡ old d s
+      by_word : (s d : ℕ) → old pass.dot s ≡ true → (o : Option Word) → option_map_or (λ (w : Word). closed_in params pass counts w (position_from 0 words s).at (λ c. old c s) d) o (old d s) ≡ old d s
       by_word s d shut None = refl
-      by_word s d shut (Some w) = ap (λ b. cond b (old d s) (cond (fits w.signs (place_from 0 words s).at pass.len pass.dot) (option_map_or (λ (sums : ℕ × ℕ). closed_by (λ c. old c s) pass.dot (Some (choice params sums.0 sums.1)) d) (counted_sums counts (window w.signs (place_from 0 words s).at pass.len pass.dot)) (old d s)) (old d s || nat_eq d pass.dot))) shut
+      by_word s d shut (Some w) = ap (λ b. cond b (old d s) (cond (fits w.signs (position_from 0 words s).at pass.len pass.dot) (option_map_or (λ (sums : ℕ × ℕ). closed_by (λ c. old c s) pass.dot (Some (choice params sums.0 sums.1)) d) (counted_sums counts (window w.signs (position_from 0 words s).at pass.len pass.dot)) (old d s)) (old d s || nat_eq d pass.dot))) shut
 
       closes_sign : (k s n : ℕ) → slice_get (open_signs (old pass.dot) 0 (sign_count words)) k ≡ Some s → slice_get ns k ≡ Some n → (d : ℕ) → IsSignOf words s → old pass.dot s ≡ false
           → closed_by (λ c. old c s) pass.dot (slice_get fates n) d ≡ closed_after params pass counts words old d s
       closes_sign k s n at to d of free =
           let place = place_of words s of in
-          let numbered = subst (λ (e : Place). IsNumbered pass (counts_at pass) words ws e n) place (have.each k (place_from 0 words s) n (get_map (place_from 0 words) (open_signs (old pass.dot) 0 (sign_count words)) k s at) to) in
+          let numbered = subst (λ (e : WordPosition). IsNumbered pass (counts_at pass) words ws e n) place (have.each k (position_from 0 words s) n (get_map (position_from 0 words) (open_signs (old pass.dot) 0 (sign_count words)) k s at) to) in
           closes_at of.number of.at s n of.word of.there free numbered d
-          ∙ sym (ap (λ (e : Place). option_map_or (λ (w : Word). closed_in params pass counts w e.at (λ c. old c s) d) (slice_get words e.word) (old d s)) place
+          ∙ sym (ap (λ (e : WordPosition). option_map_or (λ (w : Word). closed_in params pass counts w e.at (λ c. old c s) d) (slice_get words e.word) (old d s)) place
           ∙ ap (λ (o : Option Word). option_map_or (λ (w : Word). closed_in params pass counts w of.at (λ c. old c s) d) o (old d s)) of.there)

@@ -19,9 +19,9 @@ use Rattle.pg_select.specs.Statuses.{position_weight}
 use Rattle.pg_select.specs.Windows.{Patterns, Hopeless, window, fits}
 use Rattle.pg_select.proofs.LawsSums.{positions_within}
 use Rattle.pg_select.proofs.LawsTally.{counted_as}
-use Rattle.pg_driver.specs.declared.pass_windows.Place.{Place}
+use Rattle.pg_driver.specs.declared.pass_windows.WordPosition.{WordPosition}
 use Rattle.pg_driver.specs.Inside.OpenPositions.{counted_in, counted_of}
-use Rattle.pg_driver.specs.Inside.OpenSigns.{IsThere, IsTold, in_reach, open_places, open_signs, place_from, sign_count, start_of}
+use Rattle.pg_driver.specs.Inside.OpenSigns.{IsThere, IsTold, is_in_reach, open_word_positions, open_signs, position_from, sign_count, start_of}
 use Rattle.pg_driver.proofs.OpenSigns.{range_append, signs_cons}
 
 -- the same parts give the same whole
@@ -87,8 +87,8 @@ split f g false p xs = refl
 module _ (level len dot : ℕ) (m : Minima) (words : List Word) (P : Patterns) (H : Hopeless) (closed : ℕ → Bool) (dots : ℕ → ℕ → Bool) (is : (s : ℕ) → dots dot s ≡ closed s) (short : len ≤ LENGTH_MAX) (within : dot ≤ len) where
   -- a position
   counted_one : (n p : ℕ) (w : Word) (c : ℕ → Bool) → slice_get words n ≡ Some w → IsTold level len m P H w p c
-      → cond (in_reach m w p) (counted_positions_at (pass_at level len dot) P H w p) [] ≡ flat_map (counted_of level len dot words) (map (λ (q : ℕ). record { word = n; at = q }) (cond (not (c dot)) (p ∷ []) []))
-  counted_one n p w c at told = elim (cases_Bool (in_reach m w p)) [
+      → cond (is_in_reach m w p) (counted_positions_at (pass_at level len dot) P H w p) [] ≡ flat_map (counted_of level len dot words) (map (λ (q : ℕ). record { word = n; at = q }) (cond (not (c dot)) (p ∷ []) []))
+  counted_one n p w c at told = elim (cases_Bool (is_in_reach m w p)) [
     | inl reach ↦
         ap (λ b. cond b (counted_positions_at (pass_at level len dot) P H w p) []) reach
         ∙ ap (λ (o : Option Bool). counted_as (window w.signs p len dot) (position_weight w p) o) (told.inside reach dot (omega arith))
@@ -110,51 +110,51 @@ module _ (level len dot : ℕ) (m : Minima) (words : List Word) (P : Patterns) (
 
   -- the positions of a word
   counted_word : (n start : ℕ) (w : Word) (ws : List Word) → slice_get words n ≡ Some w → ((p : ℕ) → p < length w.signs → IsTold level len m P H w p (λ d. dots d (start + p))) → (a k : ℕ) → a + k ≤ length w.signs
-      → flat_map (λ (p : ℕ). cond (in_reach m w p) (counted_positions_at (pass_at level len dot) P H w p) []) (range_with_len a k) ≡ flat_map (counted_of level len dot words) (map (place_from n (w ∷ ws)) (filter (λ s. not (closed (start + s))) (range_with_len a k)))
+      → flat_map (λ (p : ℕ). cond (is_in_reach m w p) (counted_positions_at (pass_at level len dot) P H w p) []) (range_with_len a k) ≡ flat_map (counted_of level len dot words) (map (position_from n (w ∷ ws)) (filter (λ s. not (closed (start + s))) (range_with_len a k)))
   counted_word n start w ws at told a zero inside = refl
   counted_word n start w ws at told a (suc k) inside =
       (λ i. counted_one n a w (λ d. dots d (start + a)) at (told a (omega arith)) i ++ counted_word n start w ws at told (a + 1) k (omega arith) i)
       ∙ ap (λ b. flat_map (counted_of level len dot words) (map (λ (q : ℕ). record { word = n; at = q }) (cond (not b) (a ∷ []) [])) ++ rest) (is (start + a))
       ∙ ap (λ (ys : List CountedPosition). ys ++ rest) (places (not (closed (start + a))))
-      ∙ sym (split (counted_of level len dot words) (place_from n (w ∷ ws)) (not (closed (start + a))) a (filter (λ s. not (closed (start + s))) (range_with_len (a + 1) k)))
+      ∙ sym (split (counted_of level len dot words) (position_from n (w ∷ ws)) (not (closed (start + a))) a (filter (λ s. not (closed (start + s))) (range_with_len (a + 1) k)))
     where
       rest : List CountedPosition
-      rest = flat_map (counted_of level len dot words) (map (place_from n (w ∷ ws)) (filter (λ s. not (closed (start + s))) (range_with_len (a + 1) k)))
+      rest = flat_map (counted_of level len dot words) (map (position_from n (w ∷ ws)) (filter (λ s. not (closed (start + s))) (range_with_len (a + 1) k)))
 
-      places : (b : Bool) → flat_map (counted_of level len dot words) (map (λ (q : ℕ). record { word = n; at = q }) (cond b (a ∷ []) [])) ≡ flat_map (counted_of level len dot words) (map (place_from n (w ∷ ws)) (cond b (a ∷ []) []))
-      places true = ap (λ (e : Place). counted_of level len dot words e ++ []) (sym (ap (λ b. cond b (record { word = n; at = a }) (place_from (n + 1) ws (a - length w.signs))) (lt-ltb a (length w.signs) (omega arith))))
+      places : (b : Bool) → flat_map (counted_of level len dot words) (map (λ (q : ℕ). record { word = n; at = q }) (cond b (a ∷ []) [])) ≡ flat_map (counted_of level len dot words) (map (position_from n (w ∷ ws)) (cond b (a ∷ []) []))
+      places true = ap (λ (e : WordPosition). counted_of level len dot words e ++ []) (sym (ap (λ b. cond b (record { word = n; at = a }) (position_from (n + 1) ws (a - length w.signs))) (lt-ltb a (length w.signs) (omega arith))))
       places false = refl
 
   -- the signs behind a word
-  shift : (n start : ℕ) (w : Word) (ws : List Word) (a k : ℕ) → map (place_from n (w ∷ ws)) (filter (λ s. not (closed (start + s))) (range_with_len (length w.signs + a) k)) ≡ map (place_from (n + 1) ws) (filter (λ s. not (closed (start + length w.signs + s))) (range_with_len a k))
+  shift : (n start : ℕ) (w : Word) (ws : List Word) (a k : ℕ) → map (position_from n (w ∷ ws)) (filter (λ s. not (closed (start + s))) (range_with_len (length w.signs + a) k)) ≡ map (position_from (n + 1) ws) (filter (λ s. not (closed (start + length w.signs + s))) (range_with_len a k))
   shift n start w ws a zero = refl
   shift n start w ws a (suc k) =
       let sign : start + (length w.signs + a) ≡ start + length w.signs + a = omega arith in
       let next : length w.signs + a + 1 ≡ length w.signs + (a + 1) = omega arith in
-      ap (λ b. map (place_from n (w ∷ ws)) (cond (not (closed b)) ((length w.signs + a) ∷ filter (λ s. not (closed (start + s))) (range_with_len (length w.signs + a + 1) k)) (filter (λ s. not (closed (start + s))) (range_with_len (length w.signs + a + 1) k)))) sign
-      ∙ by (not (closed (start + length w.signs + a))) (ap (λ b. map (place_from n (w ∷ ws)) (filter (λ s. not (closed (start + s))) (range_with_len b k))) next ∙ shift n start w ws (a + 1) k)
+      ap (λ b. map (position_from n (w ∷ ws)) (cond (not (closed b)) ((length w.signs + a) ∷ filter (λ s. not (closed (start + s))) (range_with_len (length w.signs + a + 1) k)) (filter (λ s. not (closed (start + s))) (range_with_len (length w.signs + a + 1) k)))) sign
+      ∙ by (not (closed (start + length w.signs + a))) (ap (λ b. map (position_from n (w ∷ ws)) (filter (λ s. not (closed (start + s))) (range_with_len b k))) next ∙ shift n start w ws (a + 1) k)
     where
       back : length w.signs + a - length w.signs ≡ a
       back = omega arith
 
-      place : place_from n (w ∷ ws) (length w.signs + a) ≡ place_from (n + 1) ws a
+      place : position_from n (w ∷ ws) (length w.signs + a) ≡ position_from (n + 1) ws a
       place =
-          ap (λ b. cond b (record { word = n; at = length w.signs + a }) (place_from (n + 1) ws (length w.signs + a - length w.signs))) (le-ltb (length w.signs + a) (length w.signs) (omega arith))
-          ∙ ap (place_from (n + 1) ws) back
+          ap (λ b. cond b (record { word = n; at = length w.signs + a }) (position_from (n + 1) ws (length w.signs + a - length w.signs))) (le-ltb (length w.signs + a) (length w.signs) (omega arith))
+          ∙ ap (position_from (n + 1) ws) back
 
-      by : (b : Bool) → map (place_from n (w ∷ ws)) (filter (λ s. not (closed (start + s))) (range_with_len (length w.signs + a + 1) k)) ≡ map (place_from (n + 1) ws) (filter (λ s. not (closed (start + length w.signs + s))) (range_with_len (a + 1) k))
-          → map (place_from n (w ∷ ws)) (cond b ((length w.signs + a) ∷ filter (λ s. not (closed (start + s))) (range_with_len (length w.signs + a + 1) k)) (filter (λ s. not (closed (start + s))) (range_with_len (length w.signs + a + 1) k))) ≡ map (place_from (n + 1) ws) (cond b (a ∷ filter (λ s. not (closed (start + length w.signs + s))) (range_with_len (a + 1) k)) (filter (λ s. not (closed (start + length w.signs + s))) (range_with_len (a + 1) k)))
+      by : (b : Bool) → map (position_from n (w ∷ ws)) (filter (λ s. not (closed (start + s))) (range_with_len (length w.signs + a + 1) k)) ≡ map (position_from (n + 1) ws) (filter (λ s. not (closed (start + length w.signs + s))) (range_with_len (a + 1) k))
+          → map (position_from n (w ∷ ws)) (cond b ((length w.signs + a) ∷ filter (λ s. not (closed (start + s))) (range_with_len (length w.signs + a + 1) k)) (filter (λ s. not (closed (start + s))) (range_with_len (length w.signs + a + 1) k))) ≡ map (position_from (n + 1) ws) (cond b (a ∷ filter (λ s. not (closed (start + length w.signs + s))) (range_with_len (a + 1) k)) (filter (λ s. not (closed (start + length w.signs + s))) (range_with_len (a + 1) k)))
       by true rest = λ i. place i ∷ rest i
       by false rest = rest
 
   -- the words from one on
   counted_words : (n start : ℕ) (ws : List Word) → ((k : ℕ) (w : Word) → slice_get ws k ≡ Some w → slice_get words (n + k) ≡ Some w) → ((k p : ℕ) (w : Word) → slice_get ws k ≡ Some w → p < length w.signs → IsTold level len m P H w p (λ d. dots d (start + (start_of ws k + p))))
-      → flat_map (counted_positions_in m (pass_at level len dot) P H) ws ≡ flat_map (counted_of level len dot words) (map (place_from n ws) (filter (λ s. not (closed (start + s))) (range_with_len 0 (sign_count ws))))
+      → flat_map (counted_positions_in m (pass_at level len dot) P H) ws ≡ flat_map (counted_of level len dot words) (map (position_from n ws) (filter (λ s. not (closed (start + s))) (range_with_len 0 (sign_count ws))))
   counted_words n start [] place told = refl
   counted_words n start (w ∷ ws) place told =
       let size = length w.signs in
-      let f : Place → List CountedPosition = counted_of level len dot words in
-      let g : ℕ → Place = place_from n (w ∷ ws) in
+      let f : WordPosition → List CountedPosition = counted_of level len dot words in
+      let g : ℕ → WordPosition = position_from n (w ∷ ws) in
       let test : ℕ → Bool = λ s. not (closed (start + s)) in
       let here : slice_get words n ≡ Some w = ap (slice_get words) (let z : n ≡ n + 0 = omega arith in z) ∙ place 0 w refl in
       let behind : 0 + size ≡ size + 0 = omega arith in
@@ -170,11 +170,11 @@ module _ (level len dot : ℕ) (m : Minima) (words : List Word) (P : Patterns) (
 
 -- what a pass counts
 pub counted_there : (level len dot : ℕ) (m : Minima) (words : List Word) (P : Patterns) (H : Hopeless) (dots : ℕ → ℕ → Bool) → len ≤ LENGTH_MAX → dot ≤ len → IsThere level len m words P H dots
-    → counted_positions m words (pass_at level len dot) P H ≡ flat_map (counted_of level len dot words) (open_places (dots dot) words)
+    → counted_positions m words (pass_at level len dot) P H ≡ flat_map (counted_of level len dot words) (open_word_positions (dots dot) words)
 counted_there level len dot m words P H dots short within is =
     counted_words level len dot m words P H (dots dot) dots (λ s. refl) short within 0 0 words (λ k w at. ap (slice_get words) (zero_plus k) ∙ at)
     (λ k p w at low. subst (λ (s : ℕ). IsTold level len m P H w p (λ d. dots d s)) (sym (zero_plus (start_of words k + p))) (is.known k p w at low))
-    ∙ (λ i. flat_map (counted_of level len dot words) (map (place_from 0 words) (filter (λ s. not (dots dot (zero_plus s i))) (range_with_len 0 (less_none (sign_count words) i)))))
+    ∙ (λ i. flat_map (counted_of level len dot words) (map (position_from 0 words) (filter (λ s. not (dots dot (zero_plus s i))) (range_with_len 0 (less_none (sign_count words) i)))))
   where
     zero_plus : (k : ℕ) → 0 + k ≡ k
     zero_plus k = omega arith
@@ -198,13 +198,13 @@ singles : (xs : List ℕ) → length (flat_map (λ (p : ℕ). p ∷ []) xs) ≡ 
 singles [] = refl
 singles (x ∷ xs) = ap suc (singles xs)
 
-few_words : (m : Minima) (closed : ℕ → Bool) (start : ℕ) (ws : List Word) → ((k p : ℕ) (w : Word) → slice_get ws k ≡ Some w → p < length w.signs → in_reach m w p ≡ false → closed (start + (start_of ws k + p)) ≡ true)
+few_words : (m : Minima) (closed : ℕ → Bool) (start : ℕ) (ws : List Word) → ((k p : ℕ) (w : Word) → slice_get ws k ≡ Some w → p < length w.signs → is_in_reach m w p ≡ false → closed (start + (start_of ws k + p)) ≡ true)
     → length (filter (λ s. not (closed (start + s))) (range_with_len 0 (sign_count ws))) ≤ positions_in m ws
 few_words m closed start [] out = omega arith
 few_words m closed start (w ∷ ws) out =
     let size = length w.signs in
     let test : ℕ → Bool = λ s. not (closed (start + s)) in
-    let here = few_in test (in_reach m w) 0 size (λ p from before other. ap not (ap closed (let z : start + p ≡ start + (0 + p) = omega arith in z) ∙ out 0 p w refl (omega arith) other)) in
+    let here = few_in test (is_in_reach m w) 0 size (λ p from before other. ap not (ap closed (let z : start + p ≡ start + (0 + p) = omega arith in z) ∙ out 0 p w refl (omega arith) other)) in
     let reached = ap (λ (xs : List ℕ). length xs) (reach_flat (λ (p : ℕ). p ∷ []) m.left m.right size) in
     let later = few_words m closed (start + size) ws (λ k p v at low other. ap closed (let z : start + size + (start_of ws k + p) ≡ start + (size + start_of ws k + p) = omega arith in z) ∙ out (suc k) p v at low other) in
     let parts : length (filter test (range_with_len 0 (sign_count (w ∷ ws)))) ≡ length (filter test (range_with_len 0 size)) + length (filter test (range_with_len (0 + size) (sign_count ws))) =

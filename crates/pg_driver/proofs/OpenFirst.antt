@@ -8,7 +8,7 @@ use Rattle.pg_dict.specs.Word.{Word}
 use Rattle.pg_select.specs.CountedPositions.{Minima, counts_as}
 use Rattle.pg_select.specs.Statuses.{status_at}
 use Rattle.pg_select.specs.Windows.{Patterns}
-use Rattle.pg_driver.specs.Inside.OpenSigns.{in_reach, is_open_first}
+use Rattle.pg_driver.specs.Inside.OpenSigns.{is_in_reach, is_open_first}
 use Rattle.pg_driver.proofs.OpenCounted.{any_above, any_below, any_inside}
 
 -- the first place of a word is out of reach
@@ -20,10 +20,10 @@ zero_out left right size = by (nat_le (left + right + 2) size)
     by false = refl
 
 module _ (m : Minima) (level : ℕ) (P : Patterns) (w : Word) (first end : ℕ) (is : positions m.left m.right (length w.signs) ≡ range_with_len first (end - first)) where
-  reach_is : (q : ℕ) → in_reach m w q ≡ list_any (nat_eq q) (range_with_len first (end - first))
+  reach_is : (q : ℕ) → is_in_reach m w q ≡ list_any (nat_eq q) (range_with_len first (end - first))
   reach_is q = ap (list_any (nat_eq q)) is
 
-  not_open : (q : ℕ) → in_reach m w q ≡ false → is_open_first m level P w q ≡ false
+  not_open : (q : ℕ) → is_in_reach m w q ≡ false → is_open_first m level P w q ≡ false
   not_open q out = ap (λ b. b && is_some (counts_as level (status_at P w q))) out
 
   -- before the first position in reach, and behind the last one, nothing opens
@@ -88,5 +88,5 @@ opens_behind m level P w q old past =
 pub opens_before : (m : Minima) (level : ℕ) (P : Patterns) (w : Word) (start s : ℕ) (old : Bool) → s < start → (not (is_open_first m level P w (s - start)) && old) ≡ old
 opens_before m level P w start s old before =
     let none : s - start ≡ 0 = omega arith in
-    ap (λ q. not (in_reach m w q && is_some (counts_as level (status_at P w q))) && old) none
+    ap (λ q. not (is_in_reach m w q && is_some (counts_as level (status_at P w q))) && old) none
     ∙ ap (λ b. not (b && is_some (counts_as level (status_at P w 0))) && old) (zero_out m.left m.right (length w.signs))

@@ -11,15 +11,15 @@ use Rattle.pg_select.specs.declared.choice.Choice.TheVariants.{Hopeless as MadeH
 use Rattle.pg_select.specs.declared.pass.Pass.{Pass}
 use Rattle.pg_select.specs.Inside.Choices.{choice}
 use Rattle.pg_select.specs.Inside.LawsSteps.{IsBelow, IsUpTo, candidate_at, is_candidate, patterns_after_pass, hopeless_after_pass}
-use Rattle.pg_select.specs.Inside.LawsClosedDots.{counted_with, is_good, longer, pass_at, Tells, closed_after as dots_after_pass}
+use Rattle.pg_select.specs.Inside.LawsClosedDots.{counted_with, is_good, closed_at_next_length, pass_at, Tells, closed_after as dots_after_pass}
 use Rattle.pg_select.specs.Inside.Meanings.{with_position}
 use Rattle.pg_select.specs.CountedPositions.{Minima, Candidate, counted_at, counts_as, good_of, bad_of, counted_positions}
 use Rattle.pg_select.specs.Statuses.{status_at}
-use Rattle.pg_select.specs.Windows.{Patterns, Hopeless, window, fits, covered}
+use Rattle.pg_select.specs.Windows.{Patterns, Hopeless, window, fits, is_covered}
 use Rattle.pg_select.proofs.LawsBounds.{up_to_at_start, up_to_after, covers_up_to_at_start, covers_up_to_longer, covers_up_to_after}
 use Rattle.pg_select.proofs.LawsClosedDots.{tells_at_start, tells_longer, tells_after}
 use Rattle.pg_select.proofs.LawsTally.{is_counted_window}
-use Rattle.pg_driver.specs.declared.pass_windows.Place.{Place}
+use Rattle.pg_driver.specs.declared.pass_windows.WordPosition.{WordPosition}
 use Rattle.pg_driver.specs.Traces.{is_chosen, is_hopeless}
 use Rattle.pg_driver.specs.Inside.Fates.{choice_of, chooses, gives_up}
 use Rattle.pg_driver.proofs.FateLaws.{chosen_is, hopeless_is}
@@ -60,7 +60,7 @@ there_first level len m words P closed below is = record {
 
     by_status : (w : Word) (p : ℕ) (o : Option Bool) → counts_as level (status_at P w p) ≡ o → Tells level len P [] w p (λ d. not (is_some o))
     by_status w p None is = λ d within.
-        none (fits w.signs p len d && not (covered level P [] (window w.signs p len d) d)) (counts_as level (status_at P w p)) is
+        none (fits w.signs p len d && not (is_covered level P [] (window w.signs p len d) d)) (counts_as level (status_at P w p)) is
         ∙ sym (shut (fits w.signs p len d) (Some (is_good level w p)))
       where
         shut : (f : Bool) (o : Option Bool) → cond (f && false) o None ≡ None
@@ -84,7 +84,7 @@ there_longer level len m words P H old new on is = record {
   known = λ n p w at low.
       let before = is.known n p w at low in
       let s = start_of words n + p in
-      told_same level (len + 1) m P H w p (longer (λ d. old d s)) (λ d. new d s) (λ d within. sym (on d s within (sign_within words n p w at low))) (record {
+      told_same level (len + 1) m P H w p (closed_at_next_length (λ d. old d s)) (λ d. new d s) (λ d within. sym (on d s within (sign_within words n p w at low))) (record {
         inside = λ reach. tells_longer level len P H w p (λ d. old d s) is.short (before.inside reach);
         outside = λ reach d within. first (old d s) (nat_le 1 d && old (d - 1) s) (before.outside reach d within);
       });
@@ -215,7 +215,7 @@ module _ (level : LevelParams) (m : Minima) (words : List Word) (pass : Pass) (P
             ap (λ b. cond (b && not (closed pass.dot)) (is_candidate (λ (c : Candidate). is_chosen level c) (counted_positions m words pass P H) (window w.signs p pass.len pass.dot) || (closed d || (nat_eq d pass.dot && is_candidate (λ (c : Candidate). is_hopeless level c) (counted_positions m words pass P H) (window w.signs p pass.len pass.dot)))) (closed d)) other
 
         unfit : fits w.signs p pass.len pass.dot ≡ false → counted_at (pass_at pass.level pass.len pass.dot) (patterns_after_pass m words pass P H (λ c. is_chosen level c)) (hopeless_after_pass m words pass P H (λ c. is_hopeless level c)) w p ≡ None
-        unfit other = ap (λ b. cond (b && not (covered pass.level (patterns_after_pass m words pass P H (λ c. is_chosen level c)) (hopeless_after_pass m words pass P H (λ c. is_hopeless level c)) (window w.signs p pass.len pass.dot) pass.dot)) (counts_as pass.level (status_at (patterns_after_pass m words pass P H (λ c. is_chosen level c)) w p)) None) other
+        unfit other = ap (λ b. cond (b && not (is_covered pass.level (patterns_after_pass m words pass P H (λ c. is_chosen level c)) (hopeless_after_pass m words pass P H (λ c. is_hopeless level c)) (window w.signs p pass.len pass.dot) pass.dot)) (counts_as pass.level (status_at (patterns_after_pass m words pass P H (λ c. is_chosen level c)) w p)) None) other
 
   -- each position
   pub there_after : (old new : ℕ → ℕ → Bool) → ((d s : ℕ) → d ≤ LENGTH_MAX → s < sign_count words → new d s ≡ closed_after level pass counts words old d s)
@@ -229,7 +229,7 @@ module _ (level : LevelParams) (m : Minima) (words : List Word) (pass : Pass) (P
       here : (n p : ℕ) (w : Word) → slice_get words n ≡ Some w → p < length w.signs → (d : ℕ) → closed_after level pass counts words old d (start_of words n + p) ≡ closed_in level pass counts w p (λ c. old c (start_of words n + p)) d
       here n p w at lies d =
           let number : 0 + n ≡ n = omega arith in
-          ap (λ (e : Place). option_map_or (λ (u : Word). closed_in level pass counts u e.at (λ c. old c (start_of words n + p)) d) (slice_get words e.word) (old d (start_of words n + p))) (place_at 0 words n p w at lies)
+          ap (λ (e : WordPosition). option_map_or (λ (u : Word). closed_in level pass counts u e.at (λ c. old c (start_of words n + p)) d) (slice_get words e.word) (old d (start_of words n + p))) (place_at 0 words n p w at lies)
           ∙ ap (λ (o : Option Word). option_map_or (λ (u : Word). closed_in level pass counts u p (λ c. old c (start_of words n + p)) d) o (old d (start_of words n + p))) (ap (slice_get words) number ∙ at)
 
       each : (n p : ℕ) (w : Word) → slice_get words n ≡ Some w → p < length w.signs → IsTold pass.level pass.len m P H w p (λ d. old d (start_of words n + p))

@@ -13,7 +13,7 @@ use Rattle.pg_dict.specs.Inside.SoundWords.{letter_count}
 use Rattle.pg_select.specs.Inside.Laws.{positions_in}
 use Rattle.pg_select.specs.CountedPositions.{Minima}
 use Rattle.pg_select.proofs.LawsSums.{positions_within}
-use Rattle.pg_driver.specs.declared.pass_windows.Place.{Place}
+use Rattle.pg_driver.specs.declared.pass_windows.WordPosition.{WordPosition}
 use Rattle.pg_driver.specs.Inside.OpenPositions.{numbered_positions, open_with}
 use Rattle.pg_driver.specs.Inside.OpenPositions.{IsPlaced}
 
@@ -69,7 +69,7 @@ placed_with words listed s here_in = by_listed (listed s.0 s.1)
     by_listed (Some good) = All-cons (IsPlaced words) (record { word = s.0; at = s.1 }) [] (record { word = here_in.word; within = here_in.within }) (All-nil (IsPlaced words))
 
 -- entries stand in the words
-pub entries_placed : (m : Minima) (words : List Word) (listed : ℕ → ℕ → Option Bool) (entries : List Place) → entries ≡ flat_map (open_with listed) (numbered_positions m 0 words) → All (IsPlaced words) entries
+pub entries_placed : (m : Minima) (words : List Word) (listed : ℕ → ℕ → Option Bool) (entries : List WordPosition) → entries ≡ flat_map (open_with listed) (numbered_positions m 0 words) → All (IsPlaced words) entries
 entries_placed m words listed entries are =
     All-same (IsPlaced words) entries (flat_map (open_with listed) (numbered_positions m 0 words)) are
     (all_flat (IsPlaced words) (IsNumbered words) (open_with listed) (placed_with words listed) (numbered_positions m 0 words) (numbered_in m words 0 words (λ k w at. ap (slice_get words) (zero_plus k) ∙ at)))
@@ -84,7 +84,7 @@ few_open listed (s ∷ numbered) =
     let here : length (open_with listed s) ≤ 1 = one (listed s.0 s.1) in
     omega (arith, length-append (open_with listed s) (flat_map (open_with listed) numbered))
   where
-    one : (o : Option Bool) → length {A = Place} (option_map_or (λ (good : Bool). record { word = s.0; at = s.1 } ∷ []) o []) ≤ 1
+    one : (o : Option Bool) → length {A = WordPosition} (option_map_or (λ (good : Bool). record { word = s.0; at = s.1 } ∷ []) o []) ≤ 1
     one None = omega arith
     one (Some good) = omega arith
 
@@ -96,6 +96,6 @@ numbered_length m n (w ∷ words) =
     omega (arith, length-append (map (λ p. (n, p)) (positions m.left m.right (length w.signs))) (numbered_positions m (n + 1) words), sizes, sum_by-cons (λ (w : Word). length (positions m.left m.right (length w.signs))) w words)
 
 -- and there are no more than letters
-pub entries_few : (m : Minima) (words : List Word) (listed : ℕ → ℕ → Option Bool) (entries : List Place) → 1 ≤ m.left → entries ≡ flat_map (open_with listed) (numbered_positions m 0 words) → length entries ≤ sum_by letter_count words
+pub entries_few : (m : Minima) (words : List Word) (listed : ℕ → ℕ → Option Bool) (entries : List WordPosition) → 1 ≤ m.left → entries ≡ flat_map (open_with listed) (numbered_positions m 0 words) → length entries ≤ sum_by letter_count words
 entries_few m words listed entries low are =
-    omega (arith, ap (λ (es : List Place). length es) are, few_open listed (numbered_positions m 0 words), numbered_length m 0 words, positions_within m words low)
+    omega (arith, ap (λ (es : List WordPosition). length es) are, few_open listed (numbered_positions m 0 words), numbered_length m 0 words, positions_within m words low)

@@ -5,11 +5,11 @@ use Rattle.std.proofs.lemmas.List.Concat.{flat_map-append}
 use Rattle.pg_translate.specs.Reach.{positions}
 use Rattle.pg_dict.specs.Word.{Word}
 use Rattle.pg_select.specs.CountedPositions.{Minima, CountedPosition}
-use Rattle.pg_driver.specs.declared.pass_windows.Place.{Place}
+use Rattle.pg_driver.specs.declared.pass_windows.WordPosition.{WordPosition}
 use Rattle.pg_driver.specs.Inside.OpenPositions.{numbered_positions, open_with}
 
 -- what is counted at the positions of words, by the entries that stand for them
-module _ (m : Minima) (words : List Word) (listed : ℕ → ℕ → Option Bool) (at_entry : Place → List CountedPosition) (at_position : Word → ℕ → List CountedPosition)
+module _ (m : Minima) (words : List Word) (listed : ℕ → ℕ → Option Bool) (at_entry : WordPosition → List CountedPosition) (at_position : Word → ℕ → List CountedPosition)
     (each : (n p : ℕ) (w : Word) → slice_get words n ≡ Some w → at_position w p ≡ flat_map at_entry (open_with listed (n, p))) where
   counted_word : (n : ℕ) (w : Word) → slice_get words n ≡ Some w → (ps : List ℕ) → flat_map (at_position w) ps ≡ flat_map at_entry (flat_map (open_with listed) (map (λ p. (n, p)) ps))
   counted_word n w at [] = refl
@@ -34,7 +34,7 @@ module _ (m : Minima) (words : List Word) (listed : ℕ → ℕ → Option Bool)
       plus_one : (n k : ℕ) → n + 1 + k ≡ n + suc k
       plus_one n k = omega arith
 
-  pub counted_by_entries : (entries : List Place) → entries ≡ flat_map (open_with listed) (numbered_positions m 0 words) → flat_map in_reach words ≡ flat_map at_entry entries
+  pub counted_by_entries : (entries : List WordPosition) → entries ≡ flat_map (open_with listed) (numbered_positions m 0 words) → flat_map in_reach words ≡ flat_map at_entry entries
   counted_by_entries entries are = counted_words 0 words (λ k w at. ap (slice_get words) (zero_plus k) ∙ at) ∙ ap (flat_map at_entry) (sym are)
     where
       zero_plus : (k : ℕ) → 0 + k ≡ k

@@ -10,7 +10,7 @@ use Rattle.std.proofs.lemmas.List.Sums.{sum_by-cons}
 use Rattle.pg_dict.specs.Word.{Word}
 use Rattle.pg_dict.specs.Inside.SoundWords.{IsWord, letter_count}
 use Rattle.pg_select.proofs.Reaches.{range_step}
-use Rattle.pg_driver.specs.Inside.OpenSigns.{open_signs, place_from, sign_count, start_of}
+use Rattle.pg_driver.specs.Inside.OpenSigns.{open_signs, position_from, sign_count, start_of}
 
 -- a range in two parts
 pub range_append : (a n k : ℕ) → range_with_len a (n + k) ≡ range_with_len a n ++ range_with_len (a + n) k
@@ -173,21 +173,21 @@ signs_few (w ∷ words) all =
     omega (arith, signs_cons w words, sum_by-cons letter_count w words, word.long, signs_few words (All-tail IsWord w words all))
 
 -- the place of a sign
-pub place_at : (k : ℕ) (words : List Word) (n p : ℕ) (w : Word) → slice_get words n ≡ Some w → p < length w.signs → place_from k words (start_of words n + p) ≡ record { word = k + n; at = p }
+pub place_at : (k : ℕ) (words : List Word) (n p : ℕ) (w : Word) → slice_get words n ≡ Some w → p < length w.signs → position_from k words (start_of words n + p) ≡ record { word = k + n; at = p }
 place_at k [] n p w at low = absurd (let no : None ≡ Some w = at in cc)
 place_at k (v ∷ words) zero p w at low =
     let same : v ≡ w = (let both : Some v ≡ Some w = at in cc) in
     let size : length v.signs ≡ length w.signs = ap (λ (u : Word). length u.signs) same in
     let sign : zero + p ≡ p = omega arith in
     let number : k ≡ k + zero = omega arith in
-    ap (place_from k (v ∷ words)) sign
-    ∙ ap (λ b. cond b (record { word = k; at = p }) (place_from (k + 1) words (p - length v.signs))) (lt-ltb p (length v.signs) (omega arith))
+    ap (position_from k (v ∷ words)) sign
+    ∙ ap (λ b. cond b (record { word = k; at = p }) (position_from (k + 1) words (p - length v.signs))) (lt-ltb p (length v.signs) (omega arith))
     ∙ ap (λ (n : ℕ). record { word = n; at = p }) number
 place_at k (v ∷ words) (suc n) p w at low =
     let left : length v.signs + start_of words n + p - length v.signs ≡ start_of words n + p = omega arith in
     let number : k + 1 + n ≡ k + suc n = omega arith in
-    ap (λ b. cond b (record { word = k; at = length v.signs + start_of words n + p }) (place_from (k + 1) words (length v.signs + start_of words n + p - length v.signs))) (le-ltb (length v.signs + start_of words n + p) (length v.signs) (omega arith))
-    ∙ ap (place_from (k + 1) words) left
+    ap (λ b. cond b (record { word = k; at = length v.signs + start_of words n + p }) (position_from (k + 1) words (length v.signs + start_of words n + p - length v.signs))) (le-ltb (length v.signs + start_of words n + p) (length v.signs) (omega arith))
+    ∙ ap (position_from (k + 1) words) left
     ∙ place_at (k + 1) words n p w at low
     ∙ ap (λ (m : ℕ). record { word = m; at = p }) number
 
@@ -217,7 +217,7 @@ sign_of (w ∷ words) s low = elim (cases_lt s (length w.signs)) [
 ]
 
 -- and has its place there
-pub place_of : (words : List Word) (s : ℕ) (of : IsSignOf words s) → place_from 0 words s ≡ record { word = of.number; at = of.at }
+pub place_of : (words : List Word) (s : ℕ) (of : IsSignOf words s) → position_from 0 words s ≡ record { word = of.number; at = of.at }
 place_of words s of =
     let zero_plus : 0 + of.number ≡ of.number = omega arith in
-    ap (place_from 0 words) (sym of.is) ∙ place_at 0 words of.number of.at of.word of.there of.within ∙ ap (λ (n : ℕ). record { word = n; at = of.at }) zero_plus
+    ap (position_from 0 words) (sym of.is) ∙ place_at 0 words of.number of.at of.word of.there of.within ∙ ap (λ (n : ℕ). record { word = n; at = of.at }) zero_plus

@@ -12,13 +12,13 @@ use Rattle.pg_select.specs.Inside.Meanings.{Meaning, with_position}
 use Rattle.pg_select.specs.CountedPositions.{Minima}
 use Rattle.pg_select.specs.Statuses.{position_weight}
 use Rattle.pg_select.specs.Windows.{window, fits}
-use Rattle.pg_driver.specs.Inside.Counting.{counting, HasRoom, TookRoom}
+use Rattle.pg_driver.specs.Inside.Counting.{meaning_after_counting, HasRoom, TookRoom}
 use Rattle.pg_select.proofs.MarkSteps.{weight_small}
 use Rattle.pg_driver.proofs.Puts.{cmp, weight_found}
 use Rattle.pg_select.proofs.Reaches.{range_step}
 use Rattle.pg_driver.proofs.Rooms.{took_none, took_with, window_filled}
 use Rattle.pg_driver.proofs.WordSteps.{drop_place}
-use Rattle.pg_driver.specs.declared.pass_windows.Place.{Place}
+use Rattle.pg_driver.specs.declared.pass_windows.WordPosition.{WordPosition}
 use Rattle.pg_driver.specs.Inside.OpenLevels.{listed_in, listed_from}
 use Rattle.pg_select.specs.Inside.LawsClosedDots.{is_good}
 use Rattle.pg_driver.specs.Inside.OpenPositions.{counted_in}
@@ -47,7 +47,7 @@ found_small counts u n good bad room is =
     (omega (arith, weight_found u counts, room.light), omega (arith, weight_found u counts, room.light))
 
 -- and so for a meaning that counts it
-pub took_entry : (m n : Meaning) (level len dot : ℕ) (w : Word) (p k : ℕ) → 1 ≤ len → IsWord w → p < length w.signs → HasRoom m.counts k → n ≡ counting m (counted_in level len dot w p) → TookRoom m.counts n.counts 1
+pub took_entry : (m n : Meaning) (level len dot : ℕ) (w : Word) (p k : ℕ) → 1 ≤ len → IsWord w → p < length w.signs → HasRoom m.counts k → n ≡ meaning_after_counting m (counted_in level len dot w p) → TookRoom m.counts n.counts 1
 took_entry m n level len dot w p k long word within room is =
     subst (λ (cs : Counts). TookRoom m.counts cs 1) (ap (λ (x : Meaning). x.counts) (sym is)) (took_in m.counts level len dot w p k long word within room)
 
@@ -60,10 +60,10 @@ few_words (w ∷ words) all =
     omega (arith, sum_by-cons letter_count w words, word.long)
 
 -- the positions of one word more
-pub word_added : (m : Minima) (counts : Word → ℕ → Option Bool) (items more whole : List Place) (words : List Word) (i : ℕ) (w : Word) → slice_get words i ≡ Some w → more ≡ items ++ listed_in m counts i w → items ++ listed_from m counts i (drop i words) ≡ whole
+pub word_added : (m : Minima) (counts : Word → ℕ → Option Bool) (items more whole : List WordPosition) (words : List Word) (i : ℕ) (w : Word) → slice_get words i ≡ Some w → more ≡ items ++ listed_in m counts i w → items ++ listed_from m counts i (drop i words) ≡ whole
     → more ++ listed_from m counts (i + 1) (drop (i + 1) words) ≡ whole
 word_added m counts items more whole words i w at is left =
-    ap (λ (es : List Place). es ++ listed_from m counts (i + 1) (drop (i + 1) words)) is
+    ap (λ (es : List WordPosition). es ++ listed_from m counts (i + 1) (drop (i + 1) words)) is
     ∙ append_assoc items (listed_in m counts i w) (listed_from m counts (i + 1) (drop (i + 1) words))
     ∙ ap (λ (ws : List Word). items ++ listed_from m counts i ws) (sym (drop_place words i w at))
     ∙ left

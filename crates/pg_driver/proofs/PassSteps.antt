@@ -5,7 +5,7 @@ use Rattle.std.specs.Option.{option_map, MatchOption}
 use Rattle.pg_types.specs.declared.marks.Layout.{Layout}
 use Rattle.pg_types.specs.declared.marks.Totals.{Totals}
 use Rattle.pg_types.specs.declared.parameters.LevelParams.{LevelParams}
-use Rattle.pg_types.specs.Placement.{Families, taken, top}
+use Rattle.pg_types.specs.Placement.{Families, taken_count, top}
 use Rattle.pg_translate.specs.Alphabets.{Alphabet}
 use Rattle.pg_dict.specs.Word.{Word}
 use Rattle.pg_select.specs.Inside.Meanings.{Meaning, IsLayout, after_begin_pass, with_position}
@@ -16,9 +16,9 @@ use Rattle.pg_driver.specs.declared.records.PassRecord.{PassRecord}
 use Rattle.pg_driver.specs.Accounts.{totals_by}
 use Rattle.pg_driver.specs.Inside.AccountLines.{pass_line}
 use Rattle.pg_driver.specs.Inside.Choosing.{HasChosen, candidate_of, no_choices, with_candidates}
-use Rattle.pg_driver.specs.Inside.Counting.{counting}
+use Rattle.pg_driver.specs.Inside.Counting.{meaning_after_counting}
 use Rattle.pg_driver.specs.Inside.States.{DidPass, made_by, state_of, state_after}
-use Rattle.pg_driver.specs.Inside.Told.{layout_told, line_of}
+use Rattle.pg_driver.specs.Inside.RunAccounts.{layout_told, line_of}
 use Rattle.pg_driver.specs.Traces.{PassTrace, Source, over}
 use Rattle.pg_driver.specs.Inside.Fates.{chosen_of, hopeless_of}
 use Rattle.pg_driver.proofs.ChoiceSteps.{state_with}
@@ -31,7 +31,7 @@ seen_in t words pass m = counted_positions (minima_of t) words pass m.patterns m
 
 -- an engine after the walk of a pass
 abbrev pub counted_pass : Alphabet → List Word → Pass → Meaning → Meaning
-counted_pass t words pass m = counting (after_begin_pass m pass.level pass.len pass.dot) (seen_in t words pass m)
+counted_pass t words pass m = meaning_after_counting (after_begin_pass m pass.level pass.len pass.dot) (seen_in t words pass m)
 
 -- the pass, and its candidates
 abbrev pub pass_in : Alphabet → List Word → LevelParams → Pass → Meaning → PassTrace
@@ -78,12 +78,12 @@ line_is source params pass m before n layout totals numbers =
 abbrev told : Pass → ℕ → ℕ → Option (Pass × ℕ × ℕ)
 told pass a b = let p : Pass × ℕ × ℕ = (pass, a, b) in Some p
 
-some_layout : (pass : Pass) (o : Option Families) (l : Layout) → MatchOption o ⊥ (λ fs. (l.taken ≡ taken fs) × (l.top ≡ top fs)) → told pass l.taken l.top ≡ option_map (λ fs. (pass, taken fs, top fs)) o
+some_layout : (pass : Pass) (o : Option Families) (l : Layout) → MatchOption o ⊥ (λ fs. (l.taken ≡ taken_count fs) × (l.top ≡ top fs)) → told pass l.taken l.top ≡ option_map (λ fs. (pass, taken_count fs, top fs)) o
 some_layout pass None l is = absurd is
 some_layout pass (Some fs) l is = λ i. told pass (is.0 i) (is.1 i)
 
-layout_is : (pass : Pass) (before : Totals) (n : Choices) (m : Meaning) (o : Option Layout) → IsLayout m o → layout_told (record_with pass before n o) ≡ option_map (λ fs. (pass, taken fs, top fs)) m.families
-layout_is pass before n m None is = ap (option_map (λ fs. (pass, taken fs, top fs))) (sym is)
+layout_is : (pass : Pass) (before : Totals) (n : Choices) (m : Meaning) (o : Option Layout) → IsLayout m o → layout_told (record_with pass before n o) ≡ option_map (λ fs. (pass, taken_count fs, top fs)) m.families
+layout_is pass before n m None is = ap (option_map (λ fs. (pass, taken_count fs, top fs))) (sym is)
 layout_is pass before n m (Some l) is = some_layout pass m.families l is.0
 
 begun_kept : (params : LevelParams) (cs : List Candidate) (old new : Meaning) → HasChosen params cs old new → new.begun ≡ old.begun
@@ -101,8 +101,8 @@ did_pass t words params pass m m2 n before numbers layout counted totals has cho
 }
 
 -- an engine that counted what a pass counts, and then chose
-pub counted_as : (t : Alphabet) (words : List Word) (pass : Pass) (m m1 m2 : Meaning) → m1 ≡ after_begin_pass m pass.level pass.len pass.dot → m2 ≡ counting m1 (counted_positions (minima_of t) words pass m1.patterns m1.hopeless) → m2 ≡ counted_pass t words pass m
-counted_as t words pass m m1 m2 begins counts = counts ∙ ap (λ (x : Meaning). counting x (counted_positions (minima_of t) words pass x.patterns x.hopeless)) begins
+pub counted_as : (t : Alphabet) (words : List Word) (pass : Pass) (m m1 m2 : Meaning) → m1 ≡ after_begin_pass m pass.level pass.len pass.dot → m2 ≡ meaning_after_counting m1 (counted_positions (minima_of t) words pass m1.patterns m1.hopeless) → m2 ≡ counted_pass t words pass m
+counted_as t words pass m m1 m2 begins counts = counts ∙ ap (λ (x : Meaning). meaning_after_counting x (counted_positions (minima_of t) words pass x.patterns x.hopeless)) begins
 
 pub counts_kept : (t : Alphabet) (words : List Word) (params : LevelParams) (pass : Pass) (m m2 n : Meaning) → m2 ≡ counted_pass t words pass m → HasChosen params (map candidate_of m2.counts) m2 n → n.counts ≡ fold with_position [] (seen_in t words pass m)
 counts_kept t words params pass m m2 n counted has = ap (λ (x : Meaning). x.counts) has.kept ∙ ap (λ (x : Meaning). x.counts) counted

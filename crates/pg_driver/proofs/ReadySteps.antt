@@ -21,11 +21,11 @@ use Rattle.pg_driver.specs.Accounts.{totals_by}
 use Rattle.pg_driver.specs.Inside.Choosing.{no_choices, with_candidates}
 use Rattle.pg_driver.specs.Inside.Counting.{HasRoom}
 use Rattle.pg_driver.specs.Inside.LevelCounting.{ArePlaced, CanCarry, CanGoOn, Carries, GoesOnAfter, IsAfterPass, IsCounted, IsOpenAt, IsReady, TellsTotals}
-use Rattle.pg_dots.specs.Inside.Dots.{is_closed, places}
-use Rattle.pg_driver.specs.Inside.OpenSigns.{IsThere, is_open_first, open_places, open_signs, sign_count, start_of}
+use Rattle.pg_dots.specs.Inside.Dots.{is_closed, position_count}
+use Rattle.pg_driver.specs.Inside.OpenSigns.{IsThere, is_open_first, open_word_positions, open_signs, sign_count, start_of}
 use Rattle.pg_driver.specs.Inside.OpenPositions.{counted_of}
 use Rattle.pg_driver.specs.Inside.Sound.{IsSmall}
-use Rattle.pg_driver.specs.Inside.Told.{known_of}
+use Rattle.pg_driver.specs.Inside.RunAccounts.{known_of}
 use Rattle.pg_driver.specs.Traces.{Known, PassTrace, Source, chosen_in, known_after, pass_made}
 use Rattle.pg_driver.proofs.CarriedTotals.{carried_same, carried_small, carried_within, totals_are_small}
 use Rattle.pg_driver.proofs.Numbers.{zero_plus}
@@ -37,7 +37,7 @@ use Rattle.pg_driver.proofs.WordLevels.{words_after, words_can_move, words_place
 
 -- where a level begins
 pub ready_at_start : (source : Source) (level len : ℕ) (m : Meaning) (o : OpenLevel) → m.hopeless ≡ [] → IsBelow level m.patterns → 1 ≤ source.minima.left → All IsWord source.words → sum_by letter_count source.words ≤ FILE_MAX
-    → sign_count source.words ≤ places o.dots → ((d n p : ℕ) (w : Word) → slice_get source.words n ≡ Some w → p < length w.signs → is_closed o.dots d (start_of source.words n + p) ≡ not (is_open_first source.minima level m.patterns w p))
+    → sign_count source.words ≤ position_count o.dots → ((d n p : ℕ) (w : Word) → slice_get source.words n ≡ Some w → p < length w.signs → is_closed o.dots d (start_of source.words n + p) ≡ not (is_open_first source.minima level m.patterns w p))
     → o.totals ≡ totals_by source m.patterns → IsOpenAt source level len (known_of m) o
 ready_at_start source level len m o none below least words letters size are totals = record {
   least = least;
@@ -55,14 +55,14 @@ module _ (source : Source) (level len : ℕ) (known : Known) (o : OpenLevel) (re
       let letters : sum_by letter_count source.words ≤ FILE_MAX = ready.letters in
       subst (λ (cs : Counts). HasRoom cs (length (open_signs (is_closed o.dots dot) 0 (sign_count source.words)))) (sym none) (room_none (length (open_signs (is_closed o.dots dot) 0 (sign_count source.words))) (omega arith))
 
-  pub counts_all : (dot : ℕ) → len ≤ LENGTH_MAX → dot ≤ len → flat_map (counted_of level len dot source.words) (open_places (is_closed o.dots dot) source.words) ≡ counted_positions source.minima source.words (record { level = level; len = len; dot = dot }) known.patterns known.hopeless
+  pub counts_all : (dot : ℕ) → len ≤ LENGTH_MAX → dot ≤ len → flat_map (counted_of level len dot source.words) (open_word_positions (is_closed o.dots dot) source.words) ≡ counted_positions source.minima source.words (record { level = level; len = len; dot = dot }) known.patterns known.hopeless
   counts_all dot short within = sym (counted_there level len dot source.minima source.words known.patterns known.hopeless (is_closed o.dots) short within ready.dots)
 
   pub is_small : IsSmall o.totals
   is_small = subst IsSmall (sym ready.totals) (totals_are_small source.minima source.words known.patterns ready.least ready.words ready.letters)
 
   -- at the next length
-  pub ready_longer : (p : OpenLevel) → places p.dots ≡ places o.dots → ((d j : ℕ) → d ≤ LENGTH_MAX → j < places o.dots → is_closed p.dots d j ≡ (is_closed o.dots d j || (nat_le 1 d && is_closed o.dots (d - 1) j))) → p.totals ≡ o.totals → IsOpenAt source level (len + 1) known p
+  pub ready_longer : (p : OpenLevel) → position_count p.dots ≡ position_count o.dots → ((d j : ℕ) → d ≤ LENGTH_MAX → j < position_count o.dots → is_closed p.dots d j ≡ (is_closed o.dots d j || (nat_le 1 d && is_closed o.dots (d - 1) j))) → p.totals ≡ o.totals → IsOpenAt source level (len + 1) known p
   ready_longer p wide are totals = record {
     least = ready.least;
     words = ready.words;
@@ -73,7 +73,7 @@ module _ (source : Source) (level len : ℕ) (known : Known) (o : OpenLevel) (re
   }
 
   -- where the same dots are closed
-  pub ready_same : (p : OpenLevel) → places p.dots ≡ places o.dots → ((d j : ℕ) → j < places o.dots → is_closed p.dots d j ≡ is_closed o.dots d j) → p.totals ≡ o.totals → IsOpenAt source level len known p
+  pub ready_same : (p : OpenLevel) → position_count p.dots ≡ position_count o.dots → ((d j : ℕ) → j < position_count o.dots → is_closed p.dots d j ≡ is_closed o.dots d j) → p.totals ≡ o.totals → IsOpenAt source level len known p
   ready_same p wide are totals = record {
     least = ready.least;
     words = ready.words;

@@ -14,7 +14,7 @@ use Rattle.pg_select.specs.Inside.Meanings.{with_position}
 use Rattle.pg_select.specs.declared.pass.Pass.{Pass}
 use Rattle.pg_select.specs.CountedPositions.{CountedPosition, counted_positions_at, counts_as}
 use Rattle.pg_select.specs.Statuses.{status_at, position_weight}
-use Rattle.pg_select.specs.Windows.{Hopeless, window, fits, covered}
+use Rattle.pg_select.specs.Windows.{Hopeless, window, fits, is_covered}
 use Rattle.pg_driver.specs.Inside.Counting.{HasRoom, TookRoom}
 use Rattle.pg_driver.proofs.Puts.{weight_found, weight_put, length_put, all_put}
 use Rattle.pg_select.proofs.MarkSteps.{weight_small}
@@ -76,7 +76,7 @@ window_filled w p len d long fit =
 -- what a pass counts at a position takes the room of one
 pub took_position : (counts : Counts) (pass : Pass) (P : List ((List ℕ × ℕ) × ℕ)) (H : Hopeless) (w : Word) (p n : ℕ) → 1 ≤ pass.len → IsWord w → p < length w.signs → HasRoom counts n → TookRoom counts (fold with_position counts (counted_positions_at pass P H w p)) 1
 took_position counts pass P H w p n long word within room =
-    by_test (fits w.signs p pass.len pass.dot) (not (covered pass.level P H (window w.signs p pass.len pass.dot) pass.dot)) (counts_as pass.level (status_at P w p)) refl
+    by_test (fits w.signs p pass.len pass.dot) (not (is_covered pass.level P H (window w.signs p pass.len pass.dot) pass.dot)) (counts_as pass.level (status_at P w p)) refl
   where
     by_test : (a b : Bool) (o : Option Bool) → fits w.signs p pass.len pass.dot ≡ a → TookRoom counts (fold with_position counts (option_map_or (λ good. record { window = window w.signs p pass.len pass.dot; good = good; weight = position_weight w p } ∷ []) (cond (a && b) o None) [])) 1
     by_test false b o is = took_none counts n 1 room

@@ -8,7 +8,7 @@ use Rattle.pg_dict.specs.Word.{Word}
 use Rattle.pg_select.specs.declared.pass.Pass.{Pass}
 use Rattle.pg_select.specs.CountedPositions.{Candidate, tally, counted_positions}
 use Rattle.pg_driver.specs.Dots.{order}
-use Rattle.pg_driver.specs.Accounts.{begun}
+use Rattle.pg_driver.specs.Accounts.{begun_count}
 use Rattle.pg_driver.specs.Inside.AccountLines.{Account, LevelLine, PassLine, account}
 use Rattle.pg_driver.specs.Inside.CellsAccounts.{CellsAccount, cells_account}
 use Rattle.pg_select.specs.Windows.{Patterns}
@@ -147,7 +147,7 @@ dont_care_passes = refl
 
 -- the number of passes that cannot be skipped: all seven where each of length 2 left a candidate, three where there is no word
 abbrev begun_of : List Word → Parameters → ℕ
-begun_of words parameters = begun (trace (source words) parameters [])
+begun_of words parameters = begun_count (trace (source words) parameters [])
 
 passes_left : begun_of (a_b ∷ word (1 ∷ 2 ∷ 3 ∷ 1 ∷ []) (false ∷ false ∷ false ∷ false ∷ []) ∷ []) (one_level (level 2 3 1 1 1)) ≡ 7
 passes_left = refl

@@ -8,7 +8,7 @@ use Rattle.std.proofs.lemmas.List.Sums.{fold-append, sum_by_push}
 use Rattle.pg_types.specs.declared.marks.Layout.{Layout}
 use Rattle.pg_types.specs.declared.marks.Totals.{Totals}
 use Rattle.pg_types.specs.declared.parameters.LevelParams.{LevelParams}
-use Rattle.pg_types.specs.Placement.{Families, kept, taken, top}
+use Rattle.pg_types.specs.Placement.{Families, kept_families, taken_count, top}
 use Rattle.pg_types.specs.Tails.{tails}
 use Rattle.pg_select.specs.Inside.Meanings.{IsLayout, Meaning, after_end_level}
 use Rattle.pg_select.specs.declared.pass.Pass.{Pass}
@@ -18,7 +18,7 @@ use Rattle.pg_driver.specs.Accounts.{has_candidate, totals_by}
 use Rattle.pg_driver.specs.Inside.AccountLines.{LevelLine, begun_among, chosen_by, level_line, pass_line, pass_lines}
 use Rattle.pg_driver.specs.Layouts.{after_level, strings_in}
 use Rattle.pg_driver.specs.Inside.CellsAccounts.{after_passes, at_level_end, layout_of, level_layout, levels_with_families, pass_layouts}
-use Rattle.pg_driver.specs.Inside.Told.{final_families, known_of, layout_told, level_layout_told, level_line_of, line_of}
+use Rattle.pg_driver.specs.Inside.RunAccounts.{final_families, known_of, layout_told, level_layout_told, level_line_of, line_of}
 use Rattle.pg_driver.specs.Inside.Levels.{AreRecorded, DidLevel, DidRun, all_made_by, layouts_in, level_layouts, run_layouts}
 use Rattle.pg_driver.specs.Inside.Sound.{Recorded, with_level}
 use Rattle.pg_driver.specs.Inside.States.{State, state_at_end, state_of}
@@ -28,8 +28,8 @@ use Rattle.pg_driver.proofs.Numbers.{plus_zero, zero_plus}
 use Rattle.pg_driver.proofs.WordSteps.{drop_place}
 
 -- the end of a level
-families_end : (signs : ℕ) (l : LevelTrace) (P : Patterns) (o fo : Option Families) → P ≡ patterns_after l → o ≡ option_map (λ fs. after_passes signs fs l.passes) fo → option_map (kept (strings_in P)) o ≡ option_map (λ fs. after_level signs fs l) fo
-families_end signs l P o fo patterns families = ap (λ (Q : Patterns). option_map (kept (strings_in Q)) o) patterns ∙ ap (option_map (at_level_end l)) families ∙ composed fo
+families_end : (signs : ℕ) (l : LevelTrace) (P : Patterns) (o fo : Option Families) → P ≡ patterns_after l → o ≡ option_map (λ fs. after_passes signs fs l.passes) fo → option_map (kept_families (strings_in P)) o ≡ option_map (λ fs. after_level signs fs l) fo
+families_end signs l P o fo patterns families = ap (λ (Q : Patterns). option_map (kept_families (strings_in Q)) o) patterns ∙ ap (option_map (at_level_end l)) families ∙ composed fo
   where
     composed : (fo : Option Families) → option_map (at_level_end l) (option_map (λ fs. after_passes signs fs l.passes) fo) ≡ option_map (λ fs. after_level signs fs l) fo
     composed None = refl
@@ -38,7 +38,7 @@ families_end signs l P o fo patterns families = ap (λ (Q : Patterns). option_ma
 abbrev told : ℕ → Layout → Option (ℕ × Layout)
 told number l = let p : ℕ × Layout = (number, l) in Some p
 
-some_layout : (number : ℕ) (P : Patterns) (o : Option Families) (l : Layout) → MatchOption o ⊥ (λ fs. (l.taken ≡ taken fs) × (l.top ≡ top fs)) → l.tails ≡ tails P → told number l ≡ option_map (λ fs. (number, layout_of fs P)) o
+some_layout : (number : ℕ) (P : Patterns) (o : Option Families) (l : Layout) → MatchOption o ⊥ (λ fs. (l.taken ≡ taken_count fs) × (l.top ≡ top fs)) → l.tails ≡ tails P → told number l ≡ option_map (λ fs. (number, layout_of fs P)) o
 some_layout number P None l is of_tails = absurd is
 some_layout number P (Some fs) l is of_tails = λ i. told number (record { taken = is.0 i; top = is.1 i; tails = of_tails i })
 

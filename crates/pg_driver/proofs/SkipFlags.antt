@@ -3,7 +3,7 @@ use Rattle.std.proofs.Common.{◌≡◌, ℕ, zero, suc, ◌+◌, ◌≤◌, ◌
 use Rattle.std.proofs.lemmas.Bool.Decides.{nat_tests}
 use Rattle.pg_types.specs.declared.parameters.LevelParams.{LevelParams}
 use Rattle.pg_driver.specs.Inside.AccountLines.{is_skippable, left_none}
-use Rattle.pg_driver.specs.Inside.Levels.{ClosedDots, Tells, is_set, unset}
+use Rattle.pg_driver.specs.Inside.Levels.{SkipFlags, Tells, is_set, no_flags}
 use Rattle.pg_driver.specs.Traces.{Known, PassTrace, Source, pass_made}
 use Rattle.pg_driver.proofs.TraceSteps.{skippable_push}
 
@@ -12,11 +12,11 @@ unset_at zero i = refl
 unset_at (suc n) zero = refl
 unset_at (suc n) (suc i) = unset_at n i
 
-pub none_set : (flags : List Bool) (dot : ℕ) → flags ≡ unset → is_set flags dot ≡ false
+pub none_set : (flags : List Bool) (dot : ℕ) → flags ≡ no_flags → is_set flags dot ≡ false
 none_set flags dot is = ap (λ (fs : List Bool). is_set fs dot) is ∙ unset_at 17 dot
 
 -- where a level begins
-pub tells_none : (number len : ℕ) (flags : ClosedDots) → flags.here ≡ unset → flags.longer ≡ unset → Tells number len flags []
+pub tells_none : (number len : ℕ) (flags : SkipFlags) → flags.here ≡ no_flags → flags.longer ≡ no_flags → Tells number len flags []
 tells_none number len flags here longer = record {
   here = λ dot. sym (none_set flags.here dot here);
   longer = λ dot. sym (none_set flags.longer dot longer);
@@ -40,11 +40,11 @@ kept : (b t r s : Bool) → t ≡ true → ((b && (t && r)) || s) ≡ ((b && r) 
 kept b t r s on = ap (λ x. (b && (x && r)) || s) on
 
 -- what the flags tell after a pass
-abbrev pub Follows : ℕ → Bool → ClosedDots → ClosedDots → Type 0
+abbrev pub Follows : ℕ → Bool → SkipFlags → SkipFlags → Type 0
 Follows dot b old new = (d : ℕ) → is_set new.longer d ≡ (b && (dot == d || dot + 1 == d) || is_set old.longer d)
 
 -- after a pass of the length
-pub tells_more : (number len dot : ℕ) (source : Source) (params : LevelParams) (known : Known) (old new : ClosedDots) (ps : List PassTrace) → Tells number len old ps → new.here ≡ old.here
+pub tells_more : (number len dot : ℕ) (source : Source) (params : LevelParams) (known : Known) (old new : SkipFlags) (ps : List PassTrace) → Tells number len old ps → new.here ≡ old.here
     → Follows dot (left_none (pass_made source params known (record { level = number; len = len; dot = dot }))) old new → Tells number len new (ps ++ pass_made source params known (record { level = number; len = len; dot = dot }) ∷ [])
 tells_more number len dot source params known old new ps tells here longer =
     let q : PassTrace = pass_made source params known (record { level = number; len = len; dot = dot }) in
@@ -67,7 +67,7 @@ tells_more number len dot source params known old new ps tells here longer =
     }
 
 -- at the next length
-pub tells_next : (number len : ℕ) (old new : ClosedDots) (ps : List PassTrace) → Tells number len old ps → new.here ≡ old.longer → new.longer ≡ unset → Tells number (len + 1) new ps
+pub tells_next : (number len : ℕ) (old new : SkipFlags) (ps : List PassTrace) → Tells number len old ps → new.here ≡ old.longer → new.longer ≡ no_flags → Tells number (len + 1) new ps
 tells_next number len old new ps tells here longer = record {
   here = λ dot. tells.longer dot ∙ ap (λ (fs : List Bool). is_set fs dot) (sym here);
   longer = λ dot. tells.beyond (len + 1 + 1) dot (omega arith) ∙ sym (none_set new.longer dot longer);

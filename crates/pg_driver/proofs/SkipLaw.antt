@@ -5,7 +5,7 @@ use Rattle.std.proofs.lemmas.Bool.{and_parts, or_cases}
 use Rattle.std.proofs.lemmas.Bool.Decides.{Decides-eqb, nat_tests}
 use Rattle.pg_types.specs.declared.parameters.LevelParams.{LevelParams}
 use Rattle.pg_dict.specs.Word.{Word}
-use Rattle.pg_select.specs.Inside.Laws.{IsClosed}
+use Rattle.pg_select.specs.Inside.Laws.{CountsNothing}
 use Rattle.pg_select.specs.declared.pass.Pass.{Pass}
 use Rattle.pg_select.specs.CountedPositions.{Minima, Candidate, tally}
 use Rattle.pg_select.specs.Windows.{Hopeless as HopelessPlaces}
@@ -13,7 +13,7 @@ use Rattle.pg_select.proofs.LawsLater.{closed_later}
 use Rattle.pg_select.proofs.LawsLonger.{closed_behind, closed_before}
 use Rattle.pg_select.proofs.LawsClosed.{closed_at_end, later_after_pass}
 use Rattle.pg_driver.specs.Inside.AccountLines.{is_skippable, left_none}
-use Rattle.pg_driver.specs.Inside.Levels.{AreClosed}
+use Rattle.pg_driver.specs.Inside.Levels.{CountNothing}
 use Rattle.pg_driver.specs.Traces.{Known, PassTrace, Source, is_chosen, is_hopeless, is_entered, known_after, pass_made}
 use Rattle.pg_driver.specs.Inside.Fates.{chosen_of, hopeless_of}
 use Rattle.pg_driver.proofs.FateLaws.{by_fate}
@@ -31,13 +31,13 @@ all_chosen_or_hopeless params (c ∷ cs) = λ i. chosen_or_hopeless (is_hopeless
 
 module _ (m : Minima) (words : List Word) (P : List ((List ℕ × ℕ) × ℕ)) (H : HopelessPlaces) where
   -- a pass with the same numbers
-  same_pass : (number a b x y : ℕ) → a ≡ b → x ≡ y → IsClosed m words (record { level = number; len = a; dot = x }) P H → IsClosed m words (record { level = number; len = b; dot = y }) P H
+  same_pass : (number a b x y : ℕ) → a ≡ b → x ≡ y → CountsNothing m words (record { level = number; len = a; dot = x }) P H → CountsNothing m words (record { level = number; len = b; dot = y }) P H
   same_pass number a b x y len dot closed =
-      subst (λ (n : ℕ). IsClosed m words (record { level = number; len = n; dot = y }) P H) len
-      (subst (λ (d : ℕ). IsClosed m words (record { level = number; len = a; dot = d }) P H) dot closed)
+      subst (λ (n : ℕ). CountsNothing m words (record { level = number; len = n; dot = y }) P H) len
+      (subst (λ (d : ℕ). CountsNothing m words (record { level = number; len = a; dot = d }) P H) dot closed)
 
   -- the passes that are longer than a closed one by a sign
-  longer_closed : (number l d len dot : ℕ) → IsClosed m words (record { level = number; len = l; dot = d }) P H → (l + 1 == len && (d == dot || d + 1 == dot)) ≡ true → IsClosed m words (record { level = number; len = len; dot = dot }) P H
+  longer_closed : (number l d len dot : ℕ) → CountsNothing m words (record { level = number; len = l; dot = d }) P H → (l + 1 == len && (d == dot || d + 1 == dot)) ≡ true → CountsNothing m words (record { level = number; len = len; dot = dot }) P H
   longer_closed number l d len dot closed is =
       let parts = and_parts (l + 1 == len) (d == dot || d + 1 == dot) is in
       let longer : l + 1 ≡ len = (Decides-eqb (l + 1) len).0 parts.0 in
@@ -47,8 +47,8 @@ module _ (m : Minima) (words : List Word) (P : List ((List ℕ × ℕ) × ℕ)) 
       (or_cases (d == dot) (d + 1 == dot) parts.1)
 
 -- each pass that can be skipped counts nothing, after a pass too
-pub closed_on : (source : Source) (params : LevelParams) (number l d : ℕ) (known : Known) (ps : List PassTrace) → AreClosed source number ps known
-    → AreClosed source number (ps ++ pass_made source params known (record { level = number; len = l; dot = d }) ∷ []) (known_after (pass_made source params known (record { level = number; len = l; dot = d })))
+pub closed_on : (source : Source) (params : LevelParams) (number l d : ℕ) (known : Known) (ps : List PassTrace) → CountNothing source number ps known
+    → CountNothing source number (ps ++ pass_made source params known (record { level = number; len = l; dot = d }) ∷ []) (known_after (pass_made source params known (record { level = number; len = l; dot = d })))
 closed_on source params number l d known ps closed len dot is =
     let pass : Pass = record { level = number; len = l; dot = d } in
     let q : PassTrace = pass_made source params known pass in
@@ -66,7 +66,7 @@ closed_on source params number l d known ps closed len dot is =
     (or_cases (none && (l + 1 == len && (d == dot || d + 1 == dot))) (is_skippable ps (record { level = number; len = len; dot = dot })) (sym (skippable_push ps q (record { level = number; len = len; dot = dot })) ∙ is))
 
 -- so it has no candidate
-pub skipped_none : (source : Source) (params : LevelParams) (number len dot : ℕ) (known : Known) (ps : List PassTrace) → AreClosed source number ps known → is_skippable ps (record { level = number; len = len; dot = dot }) ≡ true
+pub skipped_none : (source : Source) (params : LevelParams) (number len dot : ℕ) (known : Known) (ps : List PassTrace) → CountNothing source number ps known → is_skippable ps (record { level = number; len = len; dot = dot }) ≡ true
     → (pass_made source params known (record { level = number; len = len; dot = dot })).candidates ≡ []
 skipped_none source params number len dot known ps closed is = ap tally (closed len dot is)
 

@@ -8,7 +8,7 @@ use Rattle.std.proofs.lemmas.List.{map-append, length-append}
 use Rattle.std.proofs.lemmas.List.Elements.{filter-append}
 use Rattle.std.proofs.lemmas.List.Folds.{list_any-append}
 use Rattle.std.proofs.lemmas.List.Sums.{fold-append, sum_by_push}
-use Rattle.pg_types.specs.Placement.{Families, taken, top}
+use Rattle.pg_types.specs.Placement.{Families, taken_count, top}
 use Rattle.pg_select.specs.declared.pass.Pass.{Pass}
 use Rattle.pg_driver.specs.Accounts.{has_candidate, makes_skippable}
 use Rattle.pg_driver.specs.Inside.AccountLines.{begun_among, chosen_by, is_skippable, left_none}
@@ -52,11 +52,11 @@ with_families_push signs fs [] q = refl
 with_families_push signs fs (p ∷ ps) q = ap (λ es. (p, after_pass signs fs p) ∷ es) (with_families_push signs (after_pass signs fs p) ps q)
 
 abbrev layout_after : PassTrace × Families → Pass × ℕ × ℕ
-layout_after e = (e.0.pass, taken e.1, top e.1)
+layout_after e = (e.0.pass, taken_count e.1, top e.1)
 
 -- the layouts of passes
 pub layouts_push : (signs : ℕ) (o : Option Families) (ps : List PassTrace) (q : PassTrace)
-    → layouts_in signs o (ps ++ q ∷ []) ≡ layouts_in signs o ps ++ cond (has_candidate q) (option_map (λ fs. (q.pass, taken fs, top fs)) (option_map (λ fs. after_passes signs fs (ps ++ q ∷ [])) o) ∷ []) []
+    → layouts_in signs o (ps ++ q ∷ []) ≡ layouts_in signs o ps ++ cond (has_candidate q) (option_map (λ fs. (q.pass, taken_count fs, top fs)) (option_map (λ fs. after_passes signs fs (ps ++ q ∷ [])) o) ∷ []) []
 layouts_push signs None ps q = filter_push (λ (_ : PassTrace). let none : Option (Pass × ℕ × ℕ) = None in none) has_candidate ps q
 layouts_push signs (Some fs) ps q =
     let last : PassTrace × Families = (q, after_passes signs fs (ps ++ q ∷ [])) in

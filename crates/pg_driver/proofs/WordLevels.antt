@@ -25,7 +25,7 @@ use Rattle.pg_select.proofs.LawsTally.{cmp, counted_as, is_counted_window}
 use Rattle.pg_select.proofs.LawsTotals.{above_stay, totals_after_above}
 use Rattle.pg_driver.specs.declared.above_positions.Kept.{Kept}
 use Rattle.pg_driver.specs.declared.choices.Choices.{Choices}
-use Rattle.pg_driver.specs.declared.pass_windows.Place.{Place}
+use Rattle.pg_driver.specs.declared.pass_windows.WordPosition.{WordPosition}
 use Rattle.pg_driver.specs.declared.word_level.WordLevel.{WordLevel}
 use Rattle.pg_driver.specs.Accounts.{totals_by}
 use Rattle.pg_driver.specs.Inside.LevelCounting.{CanMove, Carries, IsAfterWords}
@@ -73,16 +73,16 @@ words_counted source level known e f is counted more totals = record {
   least = is.least;
   words = is.words;
   letters = is.letters;
-  above = more ∙ ap (λ (es : List Place). es ++ listed (not e.is_counted)) is.above ∙ whole e.is_counted ∙ ap listed (sym counted);
+  above = more ∙ ap (λ (es : List WordPosition). es ++ listed (not e.is_counted)) is.above ∙ whole e.is_counted ∙ ap listed (sym counted);
   totals = λ _. totals;
 }
   where
-    listed : Bool → List Place
+    listed : Bool → List WordPosition
     listed b = listed_from source.minima (listing b level known.patterns) 0 source.words
 
     whole : (b : Bool) → listed_from source.minima (listing b level known.patterns) 0 source.words ++ listed_from source.minima (listing (not b) level known.patterns) 0 source.words ≡ listed_from source.minima (listing true level known.patterns) 0 source.words
-    whole true = ap (λ (es : List Place). listed_from source.minima (listing true level known.patterns) 0 source.words ++ es) (none_listed source.minima level known.patterns 0 source.words) ∙ append-nil (listed_from source.minima (listing true level known.patterns) 0 source.words)
-    whole false = ap (λ (es : List Place). es ++ listed_from source.minima (listing true level known.patterns) 0 source.words) (none_listed source.minima level known.patterns 0 source.words)
+    whole true = ap (λ (es : List WordPosition). listed_from source.minima (listing true level known.patterns) 0 source.words ++ es) (none_listed source.minima level known.patterns 0 source.words) ∙ append-nil (listed_from source.minima (listing true level known.patterns) 0 source.words)
+    whole false = ap (λ (es : List WordPosition). es ++ listed_from source.minima (listing true level known.patterns) 0 source.words) (none_listed source.minima level known.patterns 0 source.words)
 
 -- listed positions stand in the words, and are no more than letters
 pub words_placed : (source : Source) (level : ℕ) (known : Known) (e : WordLevel) → IsWordsAt source level known e → All (IsPlaced source.words) e.above.items × (length e.above.items ≤ FILE_MAX)
@@ -126,7 +126,7 @@ module _ (m : Minima) (words : List Word) (pass : Pass) (P : Patterns) where
           ∙ ap (λ (o : Option Word). option_map_or (λ (u : Word). counted_in pass.level pass.len pass.dot u p) o []) (sym at)
           ∙ sym (append-nil (window_of pass words (record { word = n; at = p })))
 
-  windows_are : (entries : List Place) → entries ≡ listed_from m above 0 words → flat_map (window_of pass words) entries ≡ above_positions m words pass P
+  windows_are : (entries : List WordPosition) → entries ≡ listed_from m above 0 words → flat_map (window_of pass words) entries ≡ above_positions m words pass P
   windows_are entries are = sym (counted_by_entries m words (start_at m words above) (window_of pass words) (above_at pass P) each entries (are ∙ listed_are m words above))
 
 -- a window was chosen where it is a candidate that is

@@ -15,13 +15,12 @@ totals_by source P = totals source.minima source.words P
 abbrev pub has_candidate : PassTrace → Bool
 has_candidate p = nat_lt 0 (length p.candidates)
 
--- a pass that left no candidate makes another skippable, which is longer by a sign and has the same
--- dot or the dot after
+-- a pass that left no candidate makes one longer by a sign skippable, at the same dot or the next
 abbrev pub makes_skippable : Pass → PassTrace → Bool
 makes_skippable q p = list_all (is_entered p.params) p.candidates
     && (p.pass.len + 1 == q.len && (p.pass.dot == q.dot || p.pass.dot + 1 == q.dot))
 
 -- how many passes of a run are begun: those that no pass of the same level makes skippable
-abbrev pub begun : Trace → ℕ
-begun run = sum_by (λ l. length
+abbrev pub begun_count : Trace → ℕ
+begun_count run = sum_by (λ l. length
     (filter (λ q. not (list_any (makes_skippable q.pass) l.passes)) l.passes)) run

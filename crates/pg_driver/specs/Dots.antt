@@ -2,8 +2,7 @@
 use Rattle.std.specs.Prelude.{ℕ, ◌+◌, ◌-◌, ◌/◌, ◌%◌, ◌==◌, if◌then◌else◌, List, map}
 use Rattle.std.specs.List.{range_with_len}
 
--- the dot with the index k in the order: from the middle outwards, for an even length to the left
--- first, for an odd length to the right first
+-- the k-th dot in the order: from the middle outwards, to the left first where the length is even
 abbrev pub dot_at : ℕ → ℕ → ℕ
 dot_at len k = if (len + k) % 2 == 0 then len / 2 + (k + 1) / 2 else len / 2 - (k + 1) / 2
 

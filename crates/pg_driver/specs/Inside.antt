@@ -10,7 +10,7 @@ pub mod WordLevels
 pub mod LevelCounting
 pub mod Levels
 pub mod Sound
-pub mod Told
+pub mod RunAccounts
 pub mod Fates
 pub mod Passes
 pub mod AccountLines

@@ -1,6 +1,6 @@
 -- Where the strings of a run lie in the cells of a trie, along its trace.
 use Rattle.std.specs.Prelude.{ℕ, List, map, filter, fold}
-use Rattle.pg_types.specs.Placement.{Families, enter, entered_families, kept}
+use Rattle.pg_types.specs.Placement.{Families, enter, entered_families, kept_families}
 use Rattle.pg_select.specs.Windows.{Patterns}
 use Rattle.pg_driver.specs.Traces.{PassTrace, LevelTrace, Trace, is_entered, patterns_after}
 
@@ -13,10 +13,10 @@ abbrev pub after_pass : ℕ → Families → PassTrace → Families
 after_pass signs fs p =
     fold (λ fs c. enter signs fs c.window) fs (filter (is_entered p.params) p.candidates)
 
--- the families after a level: behind its last pass, only strings of one sign and prefixes of the
--- patterns' strings keep their cells
+-- the families after a level: only signs and prefixes of the patterns' strings keep their cells
 abbrev pub after_level : ℕ → Families → LevelTrace → Families
-after_level signs fs l = kept (strings_in (patterns_after l)) (fold (after_pass signs) fs l.passes)
+after_level signs fs l =
+    kept_families (strings_in (patterns_after l)) (fold (after_pass signs) fs l.passes)
 
 -- the families at the end of a run from S, which begins with those of the strings of S
 abbrev pub families_at_end : ℕ → Patterns → Trace → Families

@@ -28,9 +28,7 @@ pub record Known : Type 0 where
   pub patterns : Patterns
   pub hopeless : HopelessPlaces
 
--- a pass of the run: its level, length and dot, the parameters of its level, what is known before
--- it, and its candidates, which are the windows that it counts, in the order of signs, each with
--- its sums of good and of bad
+-- a pass of the run: what it is, what is known before it, and its candidates in the order of signs
 pub record PassTrace : Type 0 where
   pub pass : Pass
   pub params : LevelParams
@@ -63,12 +61,11 @@ is_entered params c = is_hopeless params c || is_chosen params c
 abbrev pub chosen_in : PassTrace → List Candidate
 chosen_in p = filter (is_chosen p.params) p.candidates
 
--- those that it found hopeless
+-- the candidates that a pass found hopeless
 abbrev pub hopeless_in : PassTrace → List Candidate
 hopeless_in p = filter (is_hopeless p.params) p.candidates
 
--- what is known after a pass: each chosen window has the level as its value at the dot, and each
--- hopeless one is hopeless there
+-- what is known after a pass: chosen windows have the level as value, hopeless ones are hopeless
 abbrev pub known_after : PassTrace → Known
 known_after p = record {
   patterns = fold (λ P c. raise P (c.window, p.pass.dot) p.pass.level) p.before.patterns

@@ -6,7 +6,7 @@ ghost use Rattle.std.specs.Option.{option_map_or};
 ghost use Rattle.pg_types.specs.declared.limits.TheConstants.{FILE_MAX, WORD_LETTERS_MAX, WEIGHT_MAX};
 ghost use Rattle.pg_types.specs.declared.parameters.LevelParams.{LevelParams};
 ghost use Rattle.pg_types.specs.Inside.Counts.{Counts};
-ghost use Rattle.pg_types.specs.Inside.Numbered.{AreNumbered, Windows};
+ghost use Rattle.pg_types.specs.Inside.NumberedWindows.{AreNumbered, Windows};
 ghost use Rattle.pg_dict.specs.Inside.SoundWords.{IsWord};
 ghost use Rattle.pg_dict.specs.Inside.Lent.{lent_word};
 ghost use Rattle.pg_select.specs.CountedPositions.{counts_as as counts_as_of, minima_of};
@@ -23,7 +23,7 @@ ghost use Rattle.pg_driver.specs.Inside.WordLevels.{TookKept, kept_by, with_kept
 
 use crate::marks::counts_as;
 use crate::open_passes::is_good;
-use crate::pass_windows::Place;
+use crate::pass_windows::WordPosition;
 use pg_dict::{Dictionary, WordRef};
 use pg_select::marks::{mark_at, positions};
 use pg_select::{Choice, Pass, WordState};
@@ -60,7 +60,7 @@ fn list_at(
     w: &WordRef<'_>,
     found: &WordState,
     p: u8,
-    above: &mut Vec<Place>,
+    above: &mut Vec<WordPosition>,
 ) -> Result<(), AllocError>
     requires within { p < length w.now.signs.now }
     requires short { length w.now.signs.now ≤ WORD_LETTERS_MAX + 2 }
@@ -71,7 +71,7 @@ fn list_at(
 {
     let at = usize::from(p);
     if is_above(level, found, at, mark_at(w, found, at)) {
-        above.push(Place { word, at: p })?;
+        above.push(WordPosition { word, at: p })?;
     }
     Ok(())
 }
@@ -84,7 +84,7 @@ pub fn list_above(
     word: u32,
     w: &WordRef<'_>,
     found: &WordState,
-    above: &mut Vec<Place>,
+    above: &mut Vec<WordPosition>,
 ) -> Result<(), AllocError>
     requires { IsWord (lent_word w.now) }
     ensures { (P : Patterns) → HasValues P w.now.signs.now found.now.values
@@ -114,7 +114,7 @@ fn add_kept(
     pass: Pass,
     fates: &[Choice],
     number: u32,
-    position: Place,
+    position: WordPosition,
     kept: Kept,
 ) -> Kept
     requires placed { IsPlaced dictionary.now position }
@@ -152,7 +152,7 @@ pub fn kept_above(
     pass: Pass,
     fates: &[Choice],
     numbers: &[u32],
-    above: &[Place],
+    above: &[WordPosition],
 ) -> Kept
     requires placed { All (IsPlaced dictionary.now) above.now }
     requires above { length above.now ≤ FILE_MAX }

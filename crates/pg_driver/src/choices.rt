@@ -3,10 +3,10 @@ ghost use Rattle.std.specs.Prelude.{◌≡◌, ◌≤◌, ◌<◌, ◌+◌, ◌^
 ghost use Rattle.pg_types.specs.declared.limits.TheConstants.{FILE_MAX};
 ghost use Rattle.pg_types.specs.Inside.Ranges.{IsLevel};
 ghost use Rattle.pg_types.specs.Inside.Counts.{is_counted};
-ghost use Rattle.pg_types.specs.Inside.Numbered.{AreInOrder};
+ghost use Rattle.pg_types.specs.Inside.NumberedWindows.{AreInOrder};
 ghost use Rattle.pg_select.specs.Inside.Choices.{choice};
 ghost use Rattle.pg_driver.specs.Inside.States.{IsPass};
-ghost use Rattle.pg_driver.specs.Inside.PassWindows.{AreFates, ArePlaces, IsCandidate, IsPlace};
+ghost use Rattle.pg_driver.specs.Inside.PassWindows.{AreFates, AreFirstSigns, IsCandidate, IsFirstSign};
 ghost use Rattle.pg_driver.specs.Inside.Counting.{HasRoom};
 ghost use Rattle.pg_types.specs.Inside.Limits.{sums_limit};
 ghost use Rattle.pg_driver.specs.Inside.Choosing.{with_candidates, no_choices, candidate_of, HasChosen};
@@ -91,7 +91,7 @@ fn choose_one<E: Engine>(
 ) -> Result<(), AllocError>
     requires ranges { IsPass pass }
     requires level { IsLevel params.now }
-    requires place { IsPlace pass dictionary.now (E.meaning engine.old).windows number first }
+    requires place { IsFirstSign pass dictionary.now (E.meaning engine.old).windows number first }
     requires fate { (u : List ℕ) (sums : ℕ × ℕ) → IsCandidate (E.meaning engine.old) number u sums
         → fate ≡ choice params.now sums.0 sums.1 }
     requires sums { (u : List ℕ) (sums : ℕ × ℕ) → IsCandidate (E.meaning engine.old) number u sums
@@ -132,7 +132,7 @@ pub fn choose_all<E: Engine>(
     requires ranges { IsPass pass }
     requires level { IsLevel params.now }
     requires room { HasRoom (E.meaning engine.old).counts 0 }
-    requires places { ArePlaces pass dictionary.now (E.meaning engine.old).windows places.now }
+    requires places { AreFirstSigns pass dictionary.now (E.meaning engine.old).windows places.now }
     requires fates { AreFates params.now (E.meaning engine.old).counts
         (E.meaning engine.old).windows fates.now }
     requires order { AreInOrder (E.meaning engine.old).windows

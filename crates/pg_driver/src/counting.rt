@@ -4,13 +4,13 @@ ghost use Rattle.pg_dict.specs.Inside.SoundWords.{SignsAtMost};
 ghost use Rattle.pg_select.specs.Inside.LawsSteps.{IsBelow};
 ghost use Rattle.pg_select.specs.CountedPositions.{counted_positions, minima_of};
 ghost use Rattle.pg_driver.specs.Accounts.{totals_by};
-ghost use Rattle.pg_driver.specs.Inside.Counting.{counting, HasRoom};
+ghost use Rattle.pg_driver.specs.Inside.Counting.{meaning_after_counting, HasRoom};
 ghost use Rattle.pg_driver.specs.declared.pass_windows.TheConstants.{NOT_COUNTED};
 ghost use Rattle.pg_driver.specs.Inside.LevelCounting.{AreNumberedIn, ArePlaced, CanGoOn, GoesOnAfter, IsCounted, IsOverOpen, IsReady, totals_in};
-ghost use Rattle.pg_driver.specs.Inside.PassWindows.{AreFates, ArePlaces};
+ghost use Rattle.pg_driver.specs.Inside.PassWindows.{AreFates, AreFirstSigns};
 ghost use Rattle.pg_driver.specs.Inside.Sound.{IsSmall};
 ghost use Rattle.pg_driver.specs.Inside.States.{IsPass};
-ghost use Rattle.pg_driver.specs.Inside.Told.{known_of};
+ghost use Rattle.pg_driver.specs.Inside.RunAccounts.{known_of};
 ghost use Rattle.pg_driver.specs.Traces.{Known, Source, over};
 
 use crate::above_positions::kept_above;
@@ -84,7 +84,7 @@ impl Counting {
         requires ready { IsReady (over table.now dictionary.now) pass.level pass.len
             (known_of (E.meaning engine.old)) self.old }
         ensures ok { OnOk result (E.meaning engine.new
-            ≡ counting (E.meaning engine.old)
+            ≡ meaning_after_counting (E.meaning engine.old)
             (counted_positions (minima_of table.now) dictionary.now pass
             (E.meaning engine.old).patterns
             (E.meaning engine.old).hopeless)) }
@@ -98,7 +98,8 @@ impl Counting {
         ensures numbers { OnOk result
             (AreNumberedIn pass (E.meaning engine.new).counts dictionary.now
             (E.meaning engine.new).windows self.new windows.new.numbers.items) }
-        ensures places { OnOk result (ArePlaces pass dictionary.now (E.meaning engine.new).windows
+        ensures places { OnOk result (AreFirstSigns pass dictionary.now
+            (E.meaning engine.new).windows
             windows.new.places.items) }
         ensures signs { (E.meaning engine.new).signs ≡ (E.meaning engine.old).signs }
     {

@@ -10,16 +10,16 @@ ghost use Rattle.pg_driver.specs.Inside.Levels.{AreRecorded, DidLevel, GoesOn, W
 ghost use Rattle.pg_driver.specs.Inside.Sound.{IsSmall, IsSoundPass};
 ghost use Rattle.pg_types.specs.Inside.Limits.{begun_before_pass, length_passes, level_passes};
 ghost use Rattle.pg_driver.specs.Inside.States.{DidPass, IsPass, made_by, state_of, state_at_end};
-ghost use Rattle.pg_driver.specs.Inside.Told.{known_of};
+ghost use Rattle.pg_driver.specs.Inside.RunAccounts.{known_of};
 ghost use Rattle.pg_driver.specs.Traces.{level_made, passes_of, over};
 ghost use Rattle.pg_driver.specs.Inside.Passes.{passes_of_length};
 
 use crate::choices::choose_all;
-use crate::closed::Closed;
 use crate::counting::Counting;
 use crate::dots::dot_at;
 use crate::pass_windows::PassWindows;
 use crate::records::{PassRecord, Records};
+use crate::skippable::Skippable;
 use pg_dict::Dictionary;
 use pg_select::{Engine, Pass};
 use pg_translate::Table;
@@ -89,7 +89,7 @@ fn run_or_skip<E: Engine>(
     table: &Table,
     params: &LevelParams,
     pass: Pass,
-    closed: &mut Closed,
+    closed: &mut Skippable,
     counting: &mut Counting,
     windows: &mut PassWindows,
     records: &mut Records,
@@ -136,7 +136,7 @@ fn run_length<E: Engine>(
     params: &LevelParams,
     number: u8,
     len: u8,
-    closed: &mut Closed,
+    closed: &mut Skippable,
     counting: &mut Counting,
     windows: &mut PassWindows,
     records: &mut Records,
@@ -218,7 +218,7 @@ fn run_lengths<E: Engine>(
         counting.new) }
     ensures signs { (E.meaning engine.new).signs ≡ (E.meaning engine.old).signs }
 {
-    let mut closed = Closed::new();
+    let mut closed = Skippable::new();
     let end = params.pat_finish + 1;
     'lengths: for len in params.pat_start..end {
         run_length(

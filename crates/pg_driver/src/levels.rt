@@ -6,7 +6,7 @@ ghost use Rattle.pg_driver.specs.Accounts.{totals_by};
 ghost use Rattle.pg_driver.specs.Inside.Levels.{DidRun};
 ghost use Rattle.pg_driver.specs.Inside.Sound.{IsSmall};
 ghost use Rattle.pg_types.specs.Inside.Limits.{begun_before_run, level_passes};
-ghost use Rattle.pg_driver.specs.Inside.Told.{TellsCells, account_from, account_of, begun_from, cells_from, families_from, patterns_from, run_from};
+ghost use Rattle.pg_driver.specs.Inside.RunAccounts.{TellsCells, account_from, account_of, begun_from, cells_from, families_from, patterns_from, run_from};
 ghost use Rattle.pg_driver.specs.Traces.{over};
 
 use crate::level::run_level;

@@ -4,7 +4,6 @@
 mod above_positions;
 mod carried_totals;
 mod choices;
-mod closed;
 mod counting;
 mod dots;
 mod level;
@@ -15,6 +14,7 @@ mod open_positions;
 mod pass_windows;
 mod records;
 mod run;
+mod skippable;
 mod sums;
 mod word_level;
 mod words;

@@ -2,14 +2,14 @@
 //! dots after its choices.
 ghost use Rattle.std.specs.Prelude.{◌≡◌, ◌≢◌, ◌≤◌, ◌<◌, not, if◌then◌else◌, [], ℕ, Bool, length, slice_get, IfOk, OnOk};
 ghost use Rattle.std.specs.List.{flat_map};
-ghost use Rattle.pg_dots.specs.Inside.Dots.{is_closed, places as places_in};
+ghost use Rattle.pg_dots.specs.Inside.Dots.{is_closed, position_count as places_in};
 ghost use Rattle.pg_dict.specs.Inside.SoundWords.{SignsAtMost};
 ghost use Rattle.pg_select.specs.Statuses.{is_odd};
-ghost use Rattle.pg_driver.specs.Inside.Counting.{counting, HasRoom, TookRoom};
+ghost use Rattle.pg_driver.specs.Inside.Counting.{meaning_after_counting, HasRoom, TookRoom};
 ghost use Rattle.pg_driver.specs.Inside.States.{IsPass};
-ghost use Rattle.pg_driver.specs.Inside.OpenSigns.{ClosesBy, closed_by, open_places, open_signs, place_from, sign_count};
+ghost use Rattle.pg_driver.specs.Inside.OpenSigns.{ClosesBy, closed_by, open_word_positions, open_signs, position_from, sign_count};
 ghost use Rattle.pg_driver.specs.Inside.OpenPositions.{counted_of};
-ghost use Rattle.pg_driver.specs.Inside.PassWindows.{ArePlaces, HaveNumbers, IsNumbered, counts_at};
+ghost use Rattle.pg_driver.specs.Inside.PassWindows.{AreFirstSigns, HaveNumbers, IsNumbered, counts_at};
 
 use crate::pass_windows::{NOT_COUNTED, note_place};
 use pg_dict::Dictionary;
@@ -39,17 +39,17 @@ fn count_sign<E: Engine>(
     requires signs { SignsAtMost (E.meaning engine.old).signs dictionary.now }
     requires within { sign < sign_count dictionary.now }
     requires room { HasRoom (E.meaning engine.old).counts 1 }
-    requires places { ArePlaces pass dictionary.now
+    requires places { AreFirstSigns pass dictionary.now
         (E.meaning engine.old).windows places.old.items }
     ensures ok { OnOk result (E.meaning engine.new
-        ≡ counting (E.meaning engine.old)
+        ≡ meaning_after_counting (E.meaning engine.old)
         (counted_of pass.level pass.len pass.dot dictionary.now
-        (place_from 0 dictionary.now sign))) }
+        (position_from 0 dictionary.now sign))) }
     ensures took { OnOk result
         (TookRoom (E.meaning engine.old).counts (E.meaning engine.new).counts 1) }
     ensures number { IfOk result (λ n. IsNumbered pass (counts_at pass) dictionary.now
-        (E.meaning engine.new).windows (place_from 0 dictionary.now sign) n) }
-    ensures places { OnOk result (ArePlaces pass dictionary.now (E.meaning engine.new).windows
+        (E.meaning engine.new).windows (position_from 0 dictionary.now sign) n) }
+    ensures places { OnOk result (AreFirstSigns pass dictionary.now (E.meaning engine.new).windows
         places.new.items) }
     ensures signs { (E.meaning engine.new).signs ≡ (E.meaning engine.old).signs }
 {
@@ -88,18 +88,18 @@ pub fn count_open<E: Engine>(
     requires size { sign_count dictionary.now ≤ places_in dots.now }
     requires room { HasRoom (E.meaning engine.old).counts
         (length (open_signs (is_closed dots.now pass.dot) 0 (sign_count dictionary.now))) }
-    requires places { ArePlaces pass dictionary.now
+    requires places { AreFirstSigns pass dictionary.now
         (E.meaning engine.old).windows places.old.items }
     requires none { numbers.old.items ≡ [] }
     ensures ok { OnOk result (E.meaning engine.new
-        ≡ counting (E.meaning engine.old)
+        ≡ meaning_after_counting (E.meaning engine.old)
         (flat_map (counted_of pass.level pass.len pass.dot dictionary.now)
-        (open_places (is_closed dots.now pass.dot) dictionary.now))) }
+        (open_word_positions (is_closed dots.now pass.dot) dictionary.now))) }
     ensures room { OnOk result (HasRoom (E.meaning engine.new).counts 0) }
     ensures numbers { OnOk result
         (HaveNumbers pass (counts_at pass) dictionary.now (E.meaning engine.new).windows
-        (open_places (is_closed dots.now pass.dot) dictionary.now) numbers.new.items) }
-    ensures places { OnOk result (ArePlaces pass dictionary.now (E.meaning engine.new).windows
+        (open_word_positions (is_closed dots.now pass.dot) dictionary.now) numbers.new.items) }
+    ensures places { OnOk result (AreFirstSigns pass dictionary.now (E.meaning engine.new).windows
         places.new.items) }
     ensures signs { (E.meaning engine.new).signs ≡ (E.meaning engine.old).signs }
 {

@@ -3,7 +3,7 @@
 ghost use Rattle.std.specs.Prelude.{◌≡◌, ◌≤◌, ◌<◌, ◌+◌, ◌-◌, ◌^◌, ◌==◌, ◌&&◌, ℕ, not, length, slice_get, sum_by, Some, All, IfOk, OnOk, is_some};
 ghost use Rattle.pg_types.specs.declared.limits.TheConstants.{FILE_MAX};
 ghost use Rattle.pg_types.specs.Inside.Counts.{SignsWithin};
-ghost use Rattle.pg_dots.specs.Inside.Dots.{is_closed, places as places_in};
+ghost use Rattle.pg_dots.specs.Inside.Dots.{is_closed, position_count as places_in};
 ghost use Rattle.pg_dict.specs.Word.{Word};
 ghost use Rattle.pg_dict.specs.Inside.SoundWords.{IsWord, SignsAtMost, letter_count};
 ghost use Rattle.pg_dict.specs.Inside.Lent.{lent_word};
@@ -26,7 +26,7 @@ use std::alloc::{AllocError, Global};
 pub struct OpenLevel {
     /// Which dots are closed at each sign of the words, which are numbered through.
     pub dots: OpenDots,
-    /// The totals.
+    /// The totals by the patterns as they are now.
     pub totals: Totals,
 }
 

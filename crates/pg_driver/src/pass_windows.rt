@@ -2,13 +2,13 @@
 //! which positions it stands at.
 ghost use Rattle.std.specs.Prelude.{◌≡◌, ◌==◌, ◌<◌, ◌≤◌, ◌++◌, ◌∷◌, [], ℕ, List, if◌then◌else◌, length, Some, OnOk};
 ghost use Rattle.pg_types.specs.Inside.Counts.{counted_sums};
-ghost use Rattle.pg_types.specs.Inside.Numbered.{HasNumber};
+ghost use Rattle.pg_types.specs.Inside.NumberedWindows.{HasNumber};
 ghost use Rattle.pg_types.specs.Inside.Ranges.{IsLevel};
 ghost use Rattle.pg_select.specs.Inside.Choices.{choice};
 ghost use Rattle.pg_driver.specs.declared.pass_windows.TheConstants.{NOT_COUNTED};
 ghost use Rattle.pg_driver.specs.Inside.Counting.{HasRoom};
 ghost use Rattle.pg_driver.specs.Inside.States.{IsPass};
-ghost use Rattle.pg_driver.specs.Inside.PassWindows.{AreFates, IsPlace};
+ghost use Rattle.pg_driver.specs.Inside.PassWindows.{AreFates, IsFirstSign};
 
 use pg_dict::Dictionary;
 use pg_select::{Choice, Engine, Pass, decide};
@@ -20,7 +20,7 @@ pub const NOT_COUNTED: u32 = u32::MAX;
 
 /// A position of a word.
 #[derive(Clone, Copy)]
-pub struct Place {
+pub struct WordPosition {
     /// The number of the word in the dictionary, from 0.
     pub word: u32,
     /// The position in the word.
@@ -43,7 +43,7 @@ pub struct PassWindows {
 
 impl PassWindows {
     ghost use Rattle.std.specs.Prelude.{◌≡◌, ◌≤◌, [], length, OnOk};
-    ghost use Rattle.pg_types.specs.Inside.Numbered.{AreInOrder};
+    ghost use Rattle.pg_types.specs.Inside.NumberedWindows.{AreInOrder};
     ghost use Rattle.pg_types.specs.Inside.Ranges.{IsLevel};
     ghost use Rattle.pg_driver.specs.declared.pass_windows.TheConstants.{NOT_COUNTED};
     ghost use Rattle.pg_driver.specs.Inside.Counting.{HasRoom};
@@ -150,7 +150,7 @@ pub fn go_to<E: Engine>(
     at: &mut Cursor,
 )
     requires ranges { IsPass pass }
-    requires place { IsPlace pass dictionary.now (E.meaning engine.now).windows number first }
+    requires place { IsFirstSign pass dictionary.now (E.meaning engine.now).windows number first }
     ensures { HasNumber (E.meaning engine.now).windows at.new number }
 {
     engine.kept();

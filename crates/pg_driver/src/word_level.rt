@@ -3,15 +3,15 @@ ghost use Rattle.std.specs.Prelude.{◌≡◌, [], false, true, IfOk, OnOk};
 ghost use Rattle.pg_dict.specs.Inside.SoundWords.{SignsAtMost};
 ghost use Rattle.pg_select.specs.CountedPositions.{counted_positions, minima_of};
 ghost use Rattle.pg_driver.specs.Accounts.{totals_by};
-ghost use Rattle.pg_driver.specs.Inside.Counting.{counting, HasRoom};
-ghost use Rattle.pg_driver.specs.Inside.PassWindows.{ArePlaces, HaveNumbers, is_counted_at};
+ghost use Rattle.pg_driver.specs.Inside.Counting.{meaning_after_counting, HasRoom};
+ghost use Rattle.pg_driver.specs.Inside.PassWindows.{AreFirstSigns, HaveNumbers, is_counted_at};
 ghost use Rattle.pg_driver.specs.Inside.Sound.{IsSmall};
 ghost use Rattle.pg_driver.specs.Inside.States.{IsPass};
-ghost use Rattle.pg_driver.specs.Inside.Told.{known_of};
+ghost use Rattle.pg_driver.specs.Inside.RunAccounts.{known_of};
 ghost use Rattle.pg_driver.specs.Traces.{over};
 ghost use Rattle.pg_driver.specs.Inside.WordLevels.{IsWordsAt};
 
-use crate::pass_windows::{PassWindows, Place};
+use crate::pass_windows::{PassWindows, WordPosition};
 use crate::words::count_words;
 use pg_dict::Dictionary;
 use pg_select::marks::no_totals;
@@ -27,7 +27,7 @@ pub struct WordLevel {
     /// Whether a pass was counted.
     pub is_counted: bool,
     /// The positions that count and have a value above the level, once a pass was counted.
-    pub above: Vec<Place>,
+    pub above: Vec<WordPosition>,
     /// The totals, once a pass was counted.
     pub totals: Totals,
 }
@@ -59,7 +59,7 @@ impl WordLevel {
         requires ranges { IsPass pass }
         requires pass { (E.meaning engine.old).pass ≡ pass }
         requires fresh { (E.meaning engine.old).counts ≡ [] }
-        requires places { ArePlaces pass dictionary.now
+        requires places { AreFirstSigns pass dictionary.now
             (E.meaning engine.old).windows windows.old.places.items }
         requires numbers { windows.old.numbers.items ≡ [] }
         requires signs { SignsAtMost (E.meaning engine.old).signs dictionary.now }
@@ -67,7 +67,7 @@ impl WordLevel {
             (known_of (E.meaning engine.old))
             self.old }
         ensures ok { OnOk result (E.meaning engine.new
-            ≡ counting (E.meaning engine.old)
+            ≡ meaning_after_counting (E.meaning engine.old)
             (counted_positions (minima_of table.now) dictionary.now pass
             (E.meaning engine.old).patterns
             (E.meaning engine.old).hopeless)) }
@@ -82,7 +82,8 @@ impl WordLevel {
             (HaveNumbers pass (is_counted_at pass (E.meaning engine.new).counts)
             dictionary.now (E.meaning engine.new).windows
             self.new.above.items windows.new.numbers.items) }
-        ensures places { OnOk result (ArePlaces pass dictionary.now (E.meaning engine.new).windows
+        ensures places { OnOk result (AreFirstSigns pass dictionary.now
+            (E.meaning engine.new).windows
             windows.new.places.items) }
         ensures signs { (E.meaning engine.new).signs ≡ (E.meaning engine.old).signs }
     {

@@ -12,18 +12,18 @@ ghost use Rattle.pg_select.specs.Statuses.{status_at, position_weight};
 ghost use Rattle.pg_select.specs.Sums.{marks_in, totals as totals_of_words};
 ghost use Rattle.pg_select.specs.Inside.SumSteps.{with_mark, with_marks, HasRoomFor, TookRoomFor};
 ghost use Rattle.pg_select.specs.Windows.{fits as fits_in, window as window_of_word};
-ghost use Rattle.pg_driver.specs.Inside.Counting.{counting, HasRoom, TookRoom, IsRead};
-ghost use Rattle.pg_driver.specs.declared.pass_windows.Place.{Place};
+ghost use Rattle.pg_driver.specs.Inside.Counting.{meaning_after_counting, HasRoom, TookRoom, IsRead};
+ghost use Rattle.pg_driver.specs.declared.pass_windows.WordPosition.{WordPosition};
 ghost use Rattle.pg_driver.specs.Inside.OpenLevels.{listed_in, listed_from, open_as};
 ghost use Rattle.pg_driver.specs.Inside.OpenSigns.{start_of};
-ghost use Rattle.pg_driver.specs.Inside.PassWindows.{ArePlaces, GetsNumber, HaveNumbers, uncovered_at};
+ghost use Rattle.pg_driver.specs.Inside.PassWindows.{AreFirstSigns, GetsNumber, HaveNumbers, uncovered_at};
 ghost use Rattle.pg_driver.specs.Inside.Sound.{IsSmall};
 ghost use Rattle.pg_driver.specs.Inside.States.{IsPass};
 ghost use Rattle.pg_driver.specs.Inside.WordLevels.{listing};
 
 use crate::above_positions::{is_above, list_above};
 use crate::marks::{counts_as, fits};
-use crate::pass_windows::{NOT_COUNTED, PassWindows, Place, note_place};
+use crate::pass_windows::{NOT_COUNTED, PassWindows, WordPosition, note_place};
 use pg_dict::{Dictionary, WordRef};
 use pg_select::marks::{add_mark, mark_at, no_totals, positions};
 use pg_select::{Engine, Pass, WordState};
@@ -68,7 +68,7 @@ fn count_at<E: Engine>(
     requires mark { mark ≡ status_at (E.meaning engine.old).patterns (lent_word w.now) p }
     requires room { HasRoom (E.meaning engine.old).counts 1 }
     ensures ok { OnOk result (E.meaning engine.new
-        ≡ counting (E.meaning engine.old)
+        ≡ meaning_after_counting (E.meaning engine.old)
         (counted_positions_at (E.meaning engine.old).pass (E.meaning engine.old).patterns
         (E.meaning engine.old).hopeless (lent_word w.now) p)) }
     ensures number { IfOk result (λ n. GetsNumber
@@ -77,8 +77,8 @@ fn count_at<E: Engine>(
         (E.meaning engine.new).windows (window_of_word w.now.signs.now p pass.len pass.dot) n) }
     ensures places { OnOk result ((words : List Word) (n : ℕ)
         → slice_get words n ≡ Some (lent_word w.now) → start ≡ start_of words n
-        → ArePlaces pass words (E.meaning engine.old).windows places.old.items
-        → ArePlaces pass words (E.meaning engine.new).windows places.new.items) }
+        → AreFirstSigns pass words (E.meaning engine.old).windows places.old.items
+        → AreFirstSigns pass words (E.meaning engine.new).windows places.new.items) }
     ensures signs { (E.meaning engine.new).signs ≡ (E.meaning engine.old).signs }
 {
     let Some(good) = counted(pass, w, found, p, mark) else {
@@ -114,13 +114,13 @@ fn count_position<E: Engine>(
     requires room { HasRoom (E.meaning engine.old).counts 1 }
     requires room_for { HasRoomFor sums.old 1 }
     ensures ok { OnOk result (E.meaning engine.new
-        ≡ counting (E.meaning engine.old)
+        ≡ meaning_after_counting (E.meaning engine.old)
         (counted_positions_at (E.meaning engine.old).pass (E.meaning engine.old).patterns
         (E.meaning engine.old).hopeless (lent_word w.now) p)) }
     ensures sums { OnOk result (sums.new
         ≡ with_mark sums.old (status_at (E.meaning engine.old).patterns (lent_word w.now) p)
         (position_weight (lent_word w.now) p)) }
-    ensures numbers { OnOk result ((words : List Word) (entries : List Place)
+    ensures numbers { OnOk result ((words : List Word) (entries : List WordPosition)
         → slice_get words word ≡ Some (lent_word w.now)
         → HaveNumbers pass (uncovered_at pass (E.meaning engine.old).patterns
         (E.meaning engine.old).hopeless) words
@@ -134,8 +134,8 @@ fn count_position<E: Engine>(
     ensures places { OnOk result
         ((words : List Word) → slice_get words word ≡ Some (lent_word w.now)
         → start ≡ start_of words word
-        → ArePlaces pass words (E.meaning engine.old).windows windows.old.places.items
-        → ArePlaces pass words (E.meaning engine.new).windows windows.new.places.items) }
+        → AreFirstSigns pass words (E.meaning engine.old).windows windows.old.places.items
+        → AreFirstSigns pass words (E.meaning engine.new).windows windows.new.places.items) }
     ensures signs { (E.meaning engine.new).signs ≡ (E.meaning engine.old).signs }
 {
     let mark = mark_at(w, found, p);
@@ -160,7 +160,7 @@ fn count_word<E: Engine>(
     found: &mut WordState,
     sums: &mut Totals,
     lists: bool,
-    above: &mut Vec<Place>,
+    above: &mut Vec<WordPosition>,
     windows: &mut PassWindows,
 ) -> Result<(), AllocError>
     requires ranges { IsPass pass }
@@ -171,7 +171,7 @@ fn count_word<E: Engine>(
     requires room { HasRoom (E.meaning engine.old).counts (letter_count (lent_word w.now)) }
     requires room_for { HasRoomFor sums.old (letter_count (lent_word w.now)) }
     ensures ok { OnOk result (E.meaning engine.new
-        ≡ counting (E.meaning engine.old)
+        ≡ meaning_after_counting (E.meaning engine.old)
         (counted_positions_in (minima_of table.now)
         (E.meaning engine.old).pass (E.meaning engine.old).patterns
         (E.meaning engine.old).hopeless (lent_word w.now))) }
@@ -181,7 +181,7 @@ fn count_word<E: Engine>(
     ensures above { OnOk result
         (above.new.items ≡ above.old.items ++ listed_in (minima_of table.now)
         (listing lists pass.level (E.meaning engine.old).patterns) word (lent_word w.now)) }
-    ensures numbers { OnOk result ((words : List Word) (entries : List Place)
+    ensures numbers { OnOk result ((words : List Word) (entries : List WordPosition)
         → slice_get words word ≡ Some (lent_word w.now)
         → HaveNumbers pass (uncovered_at pass (E.meaning engine.old).patterns
         (E.meaning engine.old).hopeless) words
@@ -194,8 +194,8 @@ fn count_word<E: Engine>(
     ensures places { OnOk result
         ((words : List Word) → slice_get words word ≡ Some (lent_word w.now)
         → start ≡ start_of words word
-        → ArePlaces pass words (E.meaning engine.old).windows windows.old.places.items
-        → ArePlaces pass words (E.meaning engine.new).windows windows.new.places.items) }
+        → AreFirstSigns pass words (E.meaning engine.old).windows windows.old.places.items
+        → AreFirstSigns pass words (E.meaning engine.new).windows windows.new.places.items) }
     ensures took { OnOk result (TookRoom (E.meaning engine.old).counts (E.meaning engine.new).counts
         (letter_count (lent_word w.now))) }
     ensures took_for { OnOk result
@@ -225,18 +225,18 @@ pub fn count_words<E: Engine>(
     table: &Table,
     pass: Pass,
     lists: bool,
-    above: &mut Vec<Place>,
+    above: &mut Vec<WordPosition>,
     windows: &mut PassWindows,
 ) -> Result<Totals, AllocError>
     requires ranges { IsPass pass }
     requires pass { (E.meaning engine.old).pass ≡ pass }
     requires fresh { (E.meaning engine.old).counts ≡ [] }
-    requires places { ArePlaces pass dictionary.now
+    requires places { AreFirstSigns pass dictionary.now
         (E.meaning engine.old).windows windows.old.places.items }
     requires numbers { windows.old.numbers.items ≡ [] }
     requires signs { SignsAtMost (E.meaning engine.old).signs dictionary.now }
     ensures ok { OnOk result (E.meaning engine.new
-        ≡ counting (E.meaning engine.old)
+        ≡ meaning_after_counting (E.meaning engine.old)
         (counted_positions (minima_of table.now) dictionary.now (E.meaning engine.old).pass
         (E.meaning engine.old).patterns (E.meaning engine.old).hopeless)) }
     ensures totals { IfOk result (λ sums. sums
@@ -251,7 +251,7 @@ pub fn count_words<E: Engine>(
         (E.meaning engine.new).windows (listed_from (minima_of table.now)
         (counts_above pass.level
         (E.meaning engine.old).patterns) 0 dictionary.now) windows.new.numbers.items) }
-    ensures places { OnOk result (ArePlaces pass dictionary.now (E.meaning engine.new).windows
+    ensures places { OnOk result (AreFirstSigns pass dictionary.now (E.meaning engine.new).windows
         windows.new.places.items) }
     ensures room { OnOk result (HasRoom (E.meaning engine.new).counts 0) }
     ensures signs { (E.meaning engine.new).signs ≡ (E.meaning engine.old).signs }

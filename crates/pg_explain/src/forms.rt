@@ -20,7 +20,7 @@ pub(crate) enum Role {
     Input,
     /// The name of a file that is written.
     Output,
-    /// A number.
+    /// A number from one bound to another.
     Number(Range),
 }
 

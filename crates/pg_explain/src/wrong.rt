@@ -42,9 +42,9 @@ pub enum Wrong<'a> {
     /// An accepted pattern file. Nothing is said where none of its lines has more behind its first
     /// blank.
     Behind {
-        /// Its name.
+        /// The name of the file.
         patterns: &'a str,
-        /// Its bytes.
+        /// What the file holds.
         bytes: &'a [u8],
     },
 }
@@ -67,7 +67,7 @@ pub struct Refused<'a> {
 pub struct Letters<'a> {
     /// The name of the translate file.
     pub name: &'a str,
-    /// The table.
+    /// The letters that the file gives.
     pub table: &'a Table,
 }
 
@@ -107,7 +107,7 @@ pub struct Fault<'a> {
 pub struct Before<'a> {
     /// What was done.
     pub deed: Deed,
-    /// The name.
+    /// The name of the file.
     pub name: &'a str,
 }
 

@@ -6,9 +6,9 @@ use Rattle.std.proofs.lemmas.List.{get_or-replicate}
 use Rattle.pg_types.specs.declared.limits.TheConstants.{LEVEL_MAX, WORD_LETTERS_MAX}
 use Rattle.pg_patterns.specs.Values.{applies, value_at}
 use Rattle.pg_patterns.specs.Inside.PatternMaps.{is_entry}
-use Rattle.pg_select.specs.Windows.{window, fits, covered}
+use Rattle.pg_select.specs.Windows.{window, fits, is_covered}
 use Rattle.pg_select.specs.Inside.Within.{is_within}
-use Rattle.pg_trie.specs.declared.mark.TheConstants.{HOPELESS}
+use Rattle.pg_trie.specs.declared.hopeless.TheConstants.{HOPELESS}
 use Rattle.pg_trie.specs.Inside.Lists.{outputs_at}
 use Rattle.pg_trie.specs.Inside.Maps.{Maps, AreKept, is_dotted}
 use Rattle.pg_select.specs.declared.pass.Pass.{Pass}
@@ -98,7 +98,7 @@ module _ (m : Maps) (kept : AreKept m) where
 
   module _ (pass : Pass) (high : pass.level ≤ HOPELESS) (w : List ℕ) (p : ℕ) (fit : fits w p pass.len pass.dot ≡ true) where
     abbrev cover : Bool
-    cover = covered pass.level m.patterns m.hopeless (window w p pass.len pass.dot) pass.dot
+    cover = is_covered pass.level m.patterns m.hopeless (window w p pass.len pass.dot) pass.dot
 
     -- what covers in the lists of the word covers in the window
     covers_within : (q : List ℕ) (x : ℕ × ℕ) → Cut w q x.1 p → In x (lists q) → cover_by pass (length q) x ≤ bit cover
@@ -163,10 +163,10 @@ module _ (m : Maps) (kept : AreKept m) (w : List ℕ) (long : length w ≤ WORD_
   -- the covers of the windows that fit
   pub covers_end : (pass : Pass) → pass.level ≤ LEVEL_MAX → (x y : List Bool) → x ≡ replicate (WORD_LETTERS_MAX + 2) false
       → Raises (by_starts (cover_by pass) (outputs_at m.patterns m.hopeless) 0 w) (λ p. bit (get_or x p false)) (λ p. bit (get_or y p false))
-      → (p : ℕ) → p < length w → fits w p pass.len pass.dot ≡ true → get_or y p false ≡ covered pass.level m.patterns m.hopeless (window w p pass.len pass.dot) pass.dot
+      → (p : ℕ) → p < length w → fits w p pass.len pass.dot ≡ true → get_or y p false ≡ is_covered pass.level m.patterns m.hopeless (window w p pass.len pass.dot) pass.dot
   covers_end pass level x y start raised p inside fit =
       let room : p < WORD_LETTERS_MAX + 2 = omega arith in
       let none : bit (get_or x p false) ≡ 0 = ap (λ (ys : List Bool). bit (get_or ys p false)) start ∙ ap bit (get_or-replicate (WORD_LETTERS_MAX + 2) p false false room) in
       let high : pass.level ≤ HOPELESS = omega arith in
-      same_bits (get_or y p false) (covered pass.level m.patterns m.hopeless (window w p pass.len pass.dot) pass.dot)
+      same_bits (get_or y p false) (is_covered pass.level m.patterns m.hopeless (window w p pass.len pass.dot) pass.dot)
       (from_zero (bit (get_or x p false)) (bit (get_or y p false)) (by_starts (cover_by pass) (outputs_at m.patterns m.hopeless) 0 w p) none (raised p room) ∙ covers_law m kept pass high w p fit)

@@ -7,8 +7,8 @@ use Rattle.std.specs.FinMap.Entries.{find, is_sorted, below_all}
 use Rattle.std.specs.List.{flat_map, range_with_len, list_all, list_any}
 use Rattle.std.proofs.lemmas.Bool.{cases_lt, and_parts, or_cases, or_left, or_right}
 use Rattle.pg_patterns.specs.DottedSigns.{dotted_cmp}
-use Rattle.pg_patterns.specs.Inside.PlaceOrder.{dotted_total, dotted_exact}
-use Rattle.pg_patterns.specs.Values.{best}
+use Rattle.pg_patterns.specs.Inside.DottedOrder.{dotted_total, dotted_exact}
+use Rattle.pg_patterns.specs.Values.{greatest_value}
 use Rattle.pg_types.proofs.BoolFacts.{is_true, first_half, second_half, less_is, equal_is}
 use Rattle.pg_patterns.proofs.Ordered.{find_there}
 
@@ -128,23 +128,23 @@ most a b n p q = omega arith
 
 module _ (test : List ℕ × ℕ → Bool) where
   -- the greatest value is over each that passes
-  pub in_best : (P : List ((List ℕ × ℕ) × ℕ)) (e : (List ℕ × ℕ) × ℕ) → In e P → test e.0 ≡ true → e.1 ≤ best test P
+  pub in_best : (P : List ((List ℕ × ℕ) × ℕ)) (e : (List ℕ × ℕ) × ℕ) → In e P → test e.0 ≡ true → e.1 ≤ greatest_value test P
   in_best [] e here pass = absurd here
   in_best (y ∷ P) e here pass =
       elim here [
         | inl same ↦
             let passes : test y.0 ≡ true = ap (λ (x : (List ℕ × ℕ) × ℕ). test x.0) (sym same) ∙ pass in
             let is : cond (test y.0) y.1 0 ≡ e.1 = ap (λ b. cond b y.1 0) passes ∙ ap (λ (x : (List ℕ × ℕ) × ℕ). x.1) (sym same) in
-            most_first (cond (test y.0) y.1 0) (best test P) e.1 (omega (arith, is))
-        | inr later ↦ most_rest (cond (test y.0) y.1 0) (best test P) e.1 (in_best P e later pass)
+            most_first (cond (test y.0) y.1 0) (greatest_value test P) e.1 (omega (arith, is))
+        | inr later ↦ most_rest (cond (test y.0) y.1 0) (greatest_value test P) e.1 (in_best P e later pass)
       ]
 
   -- and within a bound on them
-  pub best_within : (P : List ((List ℕ × ℕ) × ℕ)) (n : ℕ) → ((e : (List ℕ × ℕ) × ℕ) → In e P → test e.0 ≡ true → e.1 ≤ n) → best test P ≤ n
+  pub best_within : (P : List ((List ℕ × ℕ) × ℕ)) (n : ℕ) → ((e : (List ℕ × ℕ) × ℕ) → In e P → test e.0 ≡ true → e.1 ≤ n) → greatest_value test P ≤ n
   best_within [] n each = omega arith
   best_within (y ∷ P) n each =
-      let rest : best test P ≤ n = best_within P n (λ e later pass. each e (inr later) pass) in
-      elim (test y.0) as (λ b. test y.0 ≡ b → max (cond b y.1 0) (best test P) ≤ n) [
-        | true ↦ λ pass. most y.1 (best test P) n (each y (inl refl) pass) rest
-        | false ↦ λ fail. most 0 (best test P) n (omega arith) rest
+      let rest : greatest_value test P ≤ n = best_within P n (λ e later pass. each e (inr later) pass) in
+      elim (test y.0) as (λ b. test y.0 ≡ b → max (cond b y.1 0) (greatest_value test P) ≤ n) [
+        | true ↦ λ pass. most y.1 (greatest_value test P) n (each y (inl refl) pass) rest
+        | false ↦ λ fail. most 0 (greatest_value test P) n (omega arith) rest
       ] refl

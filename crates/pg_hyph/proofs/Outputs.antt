@@ -3,8 +3,8 @@ use Rattle.std.proofs.Common.{◌≡◌, ℕ, ◌+◌, ◌≤◌, ◌⊎◌, inl
 use Rattle.std.specs.List.{range_with_len}
 use Rattle.std.specs.FinMap.Entries.{find}
 use Rattle.pg_patterns.specs.DottedSigns.{dotted_cmp}
-use Rattle.pg_trie.specs.declared.mark.TheConstants.{HOPELESS}
-use Rattle.pg_trie.specs.Inside.Lists.{value_part, mark_part, outputs_at_dot, outputs_at}
+use Rattle.pg_trie.specs.declared.hopeless.TheConstants.{HOPELESS}
+use Rattle.pg_trie.specs.Inside.Lists.{value_part, hopeless_part, outputs_at_dot, outputs_at}
 use Rattle.pg_hyph.proofs.Members.{In, in_left, in_right, in_either, in_flat, flat_in, in_range}
 
 value_in : (v d : ℕ) (o : Option ℕ) → o ≡ Some v → In (v, d) (value_part o d)
@@ -19,11 +19,11 @@ in_value x d (Some u) here =
       | inr none ↦ absurd none
     ]
 
-mark_in : (d : ℕ) (o : Option (Unit {0})) → o ≡ Some (tt {0}) → In (HOPELESS, d) (mark_part o d)
+mark_in : (d : ℕ) (o : Option (Unit {0})) → o ≡ Some (tt {0}) → In (HOPELESS, d) (hopeless_part o d)
 mark_in d None is = cc
 mark_in d (Some u) is = inl refl
 
-in_mark : (x : ℕ × ℕ) (d : ℕ) (o : Option (Unit {0})) → In x (mark_part o d) → (o ≡ Some (tt {0})) × (x.0 ≡ HOPELESS) × (x.1 ≡ d)
+in_mark : (x : ℕ × ℕ) (d : ℕ) (o : Option (Unit {0})) → In x (hopeless_part o d) → (o ≡ Some (tt {0})) × (x.0 ≡ HOPELESS) × (x.1 ≡ d)
 in_mark x d None here = absurd here
 in_mark x d (Some u) here =
     elim here [
@@ -37,7 +37,7 @@ module _ (P : List ((List ℕ × ℕ) × ℕ)) (H : List ((List ℕ × ℕ) × U
   unfolding outputs_at
   in_outputs x here =
       let at = flat_in (outputs_at_dot P H q) x (range_with_len 0 (length q + 1)) here in
-      elim (in_either x (value_part (find dotted_cmp (q, at.0) P) at.0) (mark_part (find dotted_cmp (q, at.0) H) at.0) at.1) [
+      elim (in_either x (value_part (find dotted_cmp (q, at.0) P) at.0) (hopeless_part (find dotted_cmp (q, at.0) H) at.0) at.1) [
         | inl value ↦
             let is = in_value x at.0 (find dotted_cmp (q, at.0) P) value in
             inl (subst (λ (d : ℕ). find dotted_cmp (q, d) P ≡ Some x.0) (sym is.1) is.0)
@@ -51,11 +51,11 @@ module _ (P : List ((List ℕ × ℕ) × ℕ)) (H : List ((List ℕ × ℕ) × U
   unfolding outputs_at
   outputs_value v d low found =
       in_flat (outputs_at_dot P H q) (v, d) d (range_with_len 0 (length q + 1)) (in_range d 0 (length q + 1) (omega arith) (omega arith))
-      (in_left (v, d) (value_part (find dotted_cmp (q, d) P) d) (mark_part (find dotted_cmp (q, d) H) d) (value_in v d (find dotted_cmp (q, d) P) found))
+      (in_left (v, d) (value_part (find dotted_cmp (q, d) P) d) (hopeless_part (find dotted_cmp (q, d) H) d) (value_in v d (find dotted_cmp (q, d) P) found))
 
   -- and so is a mark
   pub outputs_mark : (d : ℕ) → d ≤ length q → find dotted_cmp (q, d) H ≡ Some (tt {0}) → In (HOPELESS, d) (outputs_at P H q)
   unfolding outputs_at
   outputs_mark d low found =
       in_flat (outputs_at_dot P H q) (HOPELESS, d) d (range_with_len 0 (length q + 1)) (in_range d 0 (length q + 1) (omega arith) (omega arith))
-      (in_right (HOPELESS, d) (value_part (find dotted_cmp (q, d) P) d) (mark_part (find dotted_cmp (q, d) H) d) (mark_in d (find dotted_cmp (q, d) H) found))
+      (in_right (HOPELESS, d) (value_part (find dotted_cmp (q, d) P) d) (hopeless_part (find dotted_cmp (q, d) H) d) (mark_in d (find dotted_cmp (q, d) H) found))

@@ -10,8 +10,8 @@ ghost use Rattle.pg_hyph.specs.Inside.Walks.{by_list};
 use pg_select::{Pass, WordState};
 use pg_trie::{HOPELESS, PatternTrie};
 
-/// Raises the values and covers of a word by the values and marks of the list at `head`, that of a
-/// string of `len` signs which stands in the word from `start` on.
+/// Raises the values and covers of a word by the values and hopeless entries of the list at `head`,
+/// that of a string of `len` signs which stands in the word from `start` on.
 pub fn raise_by_list(
     trie: &PatternTrie,
     head: u64,
@@ -36,9 +36,9 @@ pub fn raise_by_list(
     }
 }
 
-/// Raises by one value or mark. A value raises the value of the position of its dot. A value or
-/// mark covers the window there where it is at least the level, as the mark always is, and the
-/// string stands in the window.
+/// Raises by one value or hopeless entry. A value raises the value of the position of its dot. A
+/// value or hopeless entry covers the window there where it is at least the level, as a hopeless
+/// entry always is, and the string stands in the window.
 fn raise_at(value: u8, dot: u8, start: usize, len: usize, pass: &Pass, out: &mut WordState)
     requires start { start ≤ WORD_LETTERS_MAX + 2 }
     requires len { len ≤ WORD_LETTERS_MAX + 2 }
@@ -51,7 +51,7 @@ fn raise_at(value: u8, dot: u8, start: usize, len: usize, pass: &Pass, out: &mut
     out.raise(start + usize::from(dot), given(value), covered);
 }
 
-/// Whether a value or mark covers the window at its dot.
+/// Whether a value or hopeless entry covers the window at its dot.
 fn is_covering(value: u8, dot: u8, len: usize, pass: &Pass) -> bool
     requires { len ≤ WORD_LETTERS_MAX + 2 }
     ensures { result ≡ (nat_le pass.now.level value
@@ -61,7 +61,7 @@ fn is_covering(value: u8, dot: u8, len: usize, pass: &Pass) -> bool
     is_high && pass.has_within(len, dot)
 }
 
-/// The value itself, and 0 for a mark.
+/// The value itself, and 0 for a hopeless entry.
 fn given(value: u8) -> u8
     ensures { result ≡ value_given value }
 {

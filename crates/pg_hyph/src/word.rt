@@ -12,7 +12,7 @@ use pg_trie::PatternTrie;
 
 /// The value of each position of a word by the patterns of a trie, and for each position whose
 /// window of the pass fits in the word, whether that window is covered by the patterns and the
-/// hopeless marks. Nothing is said of the cover of other positions. It takes no memory.
+/// hopeless entries. Nothing is said of the cover of other positions. It takes no memory.
 pub fn hyphenate(
     trie: &PatternTrie,
     w: WordRef<'_>,

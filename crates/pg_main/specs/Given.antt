@@ -9,8 +9,7 @@ use Rattle.std.specs.declared.vec.IntoIter.{IntoIter}
 use Rattle.pg_main.specs.declared.NoWords.{NoWords}
 use Rattle.pg_main.specs.declared.NoWords.TheVariants.{Memory, Unreadable}
 
--- the status where there are no words: 5 where there was no memory for them, 6 where the system
--- gave none
+-- the status where there are no words: 5 where memory was short, 6 where the system gave none
 abbrev pub code_of_none : NoWords → ℕ
 code_of_none Memory = 5
 code_of_none Unreadable = 6

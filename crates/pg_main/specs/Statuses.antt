@@ -1,7 +1,7 @@
 -- The status of a program.
 use Rattle.std.specs.Prelude.{◌≡◌, ℕ, List, String}
 use Rattle.std.specs.declared.alloc.Global.{Global}
-use Rattle.pg_words.specs.Commands.{asked}
+use Rattle.pg_words.specs.Commands.{request_of_call}
 use Rattle.pg_top.specs.Moments.{Moment}
 use Rattle.pg_top.specs.Statuses.{code_of}
 use Rattle.pg_top.specs.WholeCalls.{IsRun}
@@ -14,7 +14,7 @@ pub record IsCodeOfRun {F : Type 0} (words : List (String Global)) (code : ℕ)
     (before after : F) (old new : Moment) : Type 0 where
   pub answer : Status
   pub code_of_it : code ≡ code_of answer
-  pub run : IsRun (asked words) answer before after old new
+  pub run : IsRun (request_of_call words) answer before after old new
 
 -- there were no words: the status tells why, and neither the files nor the sink were touched
 pub record IsCodeOfNone {F O : Type 0} (reason : NoWords) (code : ℕ)

@@ -1,6 +1,6 @@
 //! An observer that shows on standard error where a call is, and keeps what explains its answer.
 #![tactic(auto)]
 
-mod told;
+mod messages;
 
-pub use told::{Reasons, SameFile, Told};
+pub use messages::{Messages, Reasons, SameFile};

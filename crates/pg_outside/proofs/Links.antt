@@ -1,7 +1,7 @@
 -- What following one link after the other has come to.
 use Rattle.std.proofs.Common.{◌≡◌, ◌+◌, ◌<◌, ◌≤◌, ⊎_elim, ℕ, List, true, Option, Some, None, refl, sym, ap, subst, ◌∙◌, arith, add-one}
 use Rattle.pg_outside.specs.Inside.Disk.{Disk, Told, AreOne, Keeps, Now, IsEntry, IsFollowedBy}
-use Rattle.pg_outside.specs.Inside.DiskWrites.{followed, IsDeep, StandsFor}
+use Rattle.pg_outside.specs.Inside.DiskWrites.{followed_name, IsDeep, StandsFor}
 use Rattle.pg_outside.specs.Inside.NewNames.{IsJoined}
 use Rattle.pg_outside.specs.declared.disk.system.Entry.TheVariants.{Missing, Link, File}
 use Rattle.pg_outside.specs.declared.disk.system.FileId.{FileId}
@@ -11,8 +11,8 @@ use Rattle.pg_outside.proofs.Runs.{keeps_now, now_both, now_weaker, now_always}
 -- the name was reached by so many links, and stands for what the first stands for
 pub record IsReached (name real : List ℕ) (count : ℕ) (disk : Disk) : Type 0 where
   pub one : AreOne disk real name
-  pub at : real ≡ followed disk count name
-  pub links : (before : ℕ) → before < count → disk.links.is_link (followed disk before name) ≡ true
+  pub at : real ≡ followed_name disk count name
+  pub links : (before : ℕ) → before < count → disk.links.is_link (followed_name disk before name) ≡ true
 
 pub not_followed : (told : Option Told) (name real : List ℕ) → real ≡ name → Now told (IsReached name real 0)
 not_followed told name real is = subst (λ (n : List ℕ). Now told (IsReached name n 0)) (sym is)
@@ -23,10 +23,10 @@ reached name real text joined count d so_far link text_of is_joined =
     let said = text_of joined is_joined in
     record {
       one = said.1 ∙ so_far.one;
-      at = said.0 ∙ ap (λ (n : List ℕ). d.links.next n) so_far.at ∙ sym (ap (λ (k : ℕ). followed d k name) (add-one count));
+      at = said.0 ∙ ap (λ (n : List ℕ). d.links.next n) so_far.at ∙ sym (ap (λ (k : ℕ). followed_name d k name) (add-one count));
       links = λ before below. ⊎_elim
           (λ (earlier : before < count). so_far.links before earlier)
-          (λ (last : before ≡ count). ap (λ (k : ℕ). d.links.is_link (followed d k name)) last ∙ ap (λ (n : List ℕ). d.links.is_link n) (sym so_far.at) ∙ link)
+          (λ (last : before ≡ count). ap (λ (k : ℕ). d.links.is_link (followed_name d k name)) last ∙ ap (λ (n : List ℕ). d.links.is_link n) (sym so_far.at) ∙ link)
           (below_or_last before count below);
     }
 

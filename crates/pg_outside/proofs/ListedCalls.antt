@@ -6,16 +6,16 @@ use Rattle.std.specs.Ordering.{nat_cmp}
 use Rattle.std.specs.Cmp.{unsigned_tied, nat_cmp_total}
 use Rattle.std.specs.FinMap as fin
 use Rattle.std.proofs.lemmas.Grind.{common_steps}
-use Rattle.pg_outside.specs.Inside.Calls.{listed_calls, planned}
+use Rattle.pg_outside.specs.Inside.Calls.{listed_calls, plan_entry}
 use Rattle.pg_outside.specs.declared.plans.Plan.{Plan}
 
-kept_found : (plans : List Plan) (number : ℕ) → option_map (λ plan. plan.keep) (find (λ plan. plan.call == number) plans) ≡ fin.find nat_cmp number (map planned plans)
+kept_found : (plans : List Plan) (number : ℕ) → option_map (λ plan. plan.keep) (find (λ plan. plan.call == number) plans) ≡ fin.find nat_cmp number (map plan_entry plans)
 kept_found [] number = refl
 kept_found (plan ∷ plans) number = grind (arith, common_steps, kept_found plans number, unsigned_tied number plan.call)
 
 -- what the plan of a call keeps, where it is listed
 pub kept_of : (plans : List Plan) (number : ℕ) → option_map (λ plan. plan.keep) (find (λ plan. plan.call == number) plans) ≡ fin.get (listed_calls plans) number
-kept_of plans number = kept_found plans number ∙ sym (fin.get-from_entries nat_cmp_total (map planned plans) number)
+kept_of plans number = kept_found plans number ∙ sym (fin.get-from_entries nat_cmp_total (map plan_entry plans) number)
 
 -- a call without a plan is not listed
 pub not_listed : {A B : Type 0} (f : A → B) (plan : Option A) (next : Option B) → option_map f plan ≡ next → plan ≡ None → IsSome next → ⊥

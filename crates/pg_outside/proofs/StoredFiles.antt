@@ -11,19 +11,19 @@ use Rattle.std.proofs.lemmas.List.Quantifiers.{position-Some}
 use Rattle.std.proofs.lemmas.Map.Text.{is_eq-slice_cmp}
 use Rattle.std.proofs.lemmas.Slice.Eq.{bytes_eq-Decides}
 use Rattle.pg_outside.specs.Content.{FileMap, file_at}
-use Rattle.pg_outside.specs.Inside.StoredFile.{has_name, named, file_map, of_name, room_in, IsPlace, IsMissing}
+use Rattle.pg_outside.specs.Inside.StoredFile.{has_name, name_and_bytes, file_map, of_name, room_in, IsPlace, IsMissing}
 use Rattle.pg_outside.specs.declared.stored.StoredFile.{StoredFile}
 
 -- the bytes of the first file of this name
 abbrev pub look : List StoredFile → List ℕ → Option (List ℕ)
 look files name = of_name (λ file. Some file.bytes.items) None files name
 
-found_named : (files : List StoredFile) (name : List ℕ) → fin.find (slice_cmp nat_cmp) name (map named files) ≡ look files name
+found_named : (files : List StoredFile) (name : List ℕ) → fin.find (slice_cmp nat_cmp) name (map name_and_bytes files) ≡ look files name
 found_named [] name = refl
 found_named (file ∷ files) name = grind (arith, common_steps, bytes_eq-Decides, is_eq-slice_cmp, found_named files name)
 
 pub file_at-file_map : (files : List StoredFile) (name : List ℕ) → file_at (file_map files) name ≡ look files name
-file_at-file_map files name = fin.get-from_entries nat_list_cmp_total (map named files) name ∙ found_named files name
+file_at-file_map files name = fin.get-from_entries nat_list_cmp_total (map name_and_bytes files) name ∙ found_named files name
 
 module _ {A : Type 0} (view : StoredFile → A) (none : A) where
   -- the first file of a name

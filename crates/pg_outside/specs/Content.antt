@@ -9,16 +9,14 @@ use Rattle.pg_outside.specs.FilesCalls.{FilesCall}
 abbrev pub FileMap : Type 0
 FileMap = map.FinMap (slice_cmp nat_cmp) (List ℕ)
 
--- what files show at a moment: what they hold, told or not, the counts of the faults of reading and
--- writing a name, and the calls that there were, in their order
+-- what files show at a moment: what they hold, the counts of their faults, and the calls so far
 pub record FilesShown : Type 0 where
   pub held : Option FileMap
   pub read_faults : List ℕ → ℕ
   pub write_faults : List ℕ → ℕ
   pub calls : List FilesCall
 
--- what a sink shows at a moment: what was put, told or not, the count of its faults, and how many
--- puts there were, which stands still at the last value of u64
+-- what a sink shows at a moment: what was put, the count of its faults, and the number of puts
 pub record SinkShown : Type 0 where
   pub text : Option (List ℕ)
   pub faults : ℕ
@@ -41,8 +39,7 @@ HasPart before after name bytes = (after ≡ before)
 abbrev pub WasPut : Option (List ℕ) → Option (List ℕ) → List ℕ → Type 0
 WasPut old new text = IfSome new (λ after. MatchOption old ⊥ (λ before. after ≡ before ++ text))
 
--- where the sink's bytes are told after the call, they are those told before it and then a prefix
--- of this text
+-- where the sink's bytes are told, they are those told before and then a prefix of this text
 abbrev pub WasPartPut : Option (List ℕ) → Option (List ℕ) → List ℕ → Type 0
 WasPartPut old new text = IfSome new (λ after. MatchOption old ⊥ (λ before.
     (kept : ℕ) × (after ≡ before ++ take kept text)))

@@ -25,7 +25,7 @@ pub(crate) enum Call<'a> {
 }
 
 impl CallLog {
-    ghost use Rattle.pg_outside.specs.Inside.CallLogs.{called};
+    ghost use Rattle.pg_outside.specs.Inside.CallLogs.{call_of};
 
     /// No call so far.
     pub(crate) fn new() -> CallLog
@@ -36,7 +36,7 @@ impl CallLog {
 
     /// These calls, and then one more.
     pub(crate) fn and(&self, _call: &Call<'_>) -> CallLog
-        ensures { result.made ≡ self.now.made ++ called _call.now ∷ [] }
+        ensures { result.made ≡ self.now.made ++ call_of _call.now ∷ [] }
     {
         CallLog {}
     }

@@ -8,7 +8,8 @@ use Rattle.std.specs.Cmp.Lexicographic.{slice_cmp}
 use Rattle.std.specs.FinMap.{nat_cmp-IsAntisymmetric, slice_cmp-IsAntisymmetric}
 use Rattle.std.specs.FinMap.Entries.{put, find, by_order}
 use Rattle.std.specs.List.{filter, list_all, list_any, range_with_len, starts_with}
-use Rattle.pg_types.specs.Placement.{Family, Families, keeps_cell, kept, least_base, placed, with_one_sign, with_sign, family_at, without_family, is_used, cell_in, enter_after, enter, root, few_signs}
+use Rattle.pg_types.specs.declared.limits.TheConstants.{FEW_SIGNS}
+use Rattle.pg_types.specs.Placement.{Family, Families, keeps_cell, kept_families, least_base, with_placed_family, with_one_sign, with_sign, family_at, without_family, is_used, cell_in, enter_after, enter, root}
 use Rattle.pg_packed.specs.Inside.Starts.{pattern_families}
 use Rattle.pg_types.proofs.EntryLists.{find_good, all_put}
 use Rattle.pg_types.proofs.BoolFacts.{and_first, and_second, all_weaker, some_is}
@@ -65,11 +66,11 @@ module _ (strings : List (List ℕ)) where
   kept_whole p base [] left is some = cc
   kept_whole p base (s ∷ signs) left is some = ap (λ (l : List ℕ). elim l as (λ _. Families) [ [] ↦ [] | x ∷ xs ↦ (p, record { base = base; signs = x ∷ xs }) ∷ [] ]) is
 
-  kept_same : (fs : Families) → list_all stays fs ≡ true → kept strings fs ≡ fs
+  kept_same : (fs : Families) → list_all stays fs ≡ true → kept_families strings fs ≡ fs
   kept_same [] all = refl
   kept_same (e ∷ es) all =
       let here : stays e ≡ true = and_first _ _ all in
-      ap (λ x. x ++ kept strings es) (kept_whole e.0 e.1.base e.1.signs _ (filter_all (λ s. keeps_cell strings (e.0 ++ s ∷ [])) e.1.signs (and_second _ _ here)) (and_first _ _ here))
+      ap (λ x. x ++ kept_families strings es) (kept_whole e.0 e.1.base e.1.signs _ (filter_all (λ s. keeps_cell strings (e.0 ++ s ∷ [])) e.1.signs (and_second _ _ here)) (and_first _ _ here))
       ∙ ap (λ r. e ∷ r) (kept_same es (and_second _ _ all))
 
   one_sign : (good : ℕ → Bool) (s : ℕ) (xs : List ℕ) → good s ≡ true → list_all good xs ≡ true → list_all good (with_one_sign s xs) ≡ true
@@ -97,7 +98,7 @@ module _ (strings : List (List ℕ)) where
       by_tests false true = omega arith
       by_tests false false = omega arith
 
-  placed_stays : (few n : ℕ) (fs : Families) (p signs : List ℕ) → 1 ≤ length signs → list_all (λ s. keeps_cell strings (p ++ s ∷ [])) signs ≡ true → list_all stays fs ≡ true → list_all stays (placed few n fs p signs) ≡ true
+  placed_stays : (few n : ℕ) (fs : Families) (p signs : List ℕ) → 1 ≤ length signs → list_all (λ s. keeps_cell strings (p ++ s ∷ [])) signs ≡ true → list_all stays fs ≡ true → list_all stays (with_placed_family few n fs p signs) ≡ true
   placed_stays few n fs p signs some keeps all =
       let base : ℕ = least_base few n fs signs in
       all_put (slice_cmp nat_cmp) stays same_string p (record { base = base; signs = signs }) fs (family_stays p base signs some keeps) all
@@ -110,16 +111,16 @@ module _ (strings : List (List ℕ)) where
   sign_stays few n fs p s new all = by_family (family_at fs p) refl
     where
       by_use : (f : Family) → stays (p, f) ≡ true → (b : Bool)
-          → list_all stays (elim b [ false ↦ put (slice_cmp nat_cmp) p (record { base = f.base; signs = with_one_sign s f.signs }) fs | true ↦ placed few n (without_family fs p) p (with_one_sign s f.signs) ]) ≡ true
+          → list_all stays (elim b [ false ↦ put (slice_cmp nat_cmp) p (record { base = f.base; signs = with_one_sign s f.signs }) fs | true ↦ with_placed_family few n (without_family fs p) p (with_one_sign s f.signs) ]) ≡ true
       by_use f here false = all_put (slice_cmp nat_cmp) stays same_string p (record { base = f.base; signs = with_one_sign s f.signs }) fs (family_stays p f.base (with_one_sign s f.signs) (one_more s f.signs) (one_sign (λ x. keeps_cell strings (p ++ x ∷ [])) s f.signs new (and_second _ _ here))) all
       by_use f here true = placed_stays few n (without_family fs p) p (with_one_sign s f.signs) (one_more s f.signs) (one_sign (λ x. keeps_cell strings (p ++ x ∷ [])) s f.signs new (and_second _ _ here)) (without_stays fs p all)
 
       by_family : (o : Option Family) → family_at fs p ≡ o
           → list_all stays (elim o [
-            | None ↦ placed few n fs p (s ∷ [])
+            | None ↦ with_placed_family few n fs p (s ∷ [])
             | Some f ↦ elim (is_used fs (f.base + s)) [
               | false ↦ put (slice_cmp nat_cmp) p (record { base = f.base; signs = with_one_sign s f.signs }) fs
-              | true ↦ placed few n (without_family fs p) p (with_one_sign s f.signs)
+              | true ↦ with_placed_family few n (without_family fs p) p (with_one_sign s f.signs)
             ]
           ]) ≡ true
       by_family None is = placed_stays few n fs p (s ∷ []) (omega arith) (and_from _ _ new refl) all
@@ -160,7 +161,7 @@ all_there (e ∷ es) =
     (λ x there. or_right (starts_with nat_eq e.0.0 x.0.0) _ there) (all_there es))
 
 -- the families after the patterns are entered have no cell that no pattern needs
-pub kept_entered : (n : ℕ) (P : List ((List ℕ × ℕ) × ℕ)) → 1 ≤ n → kept (map (λ e. e.0.0) P) (pattern_families n P) ≡ pattern_families n P
+pub kept_entered : (n : ℕ) (P : List ((List ℕ × ℕ) × ℕ)) → 1 ≤ n → kept_families (map (λ e. e.0.0) P) (pattern_families n P) ≡ pattern_families n P
 kept_entered n P some =
     let strings : List (List ℕ) = map (λ e. e.0.0) P in
     kept_same strings (pattern_families n P) (all_enter strings n (root n) P (all_there P) (root_stays strings n some))

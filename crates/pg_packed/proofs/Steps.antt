@@ -7,10 +7,10 @@ use Rattle.std.specs.declared.cmp.Ordering.TheVariants.{Less, Equal, Greater}
 use Rattle.std.specs.Ordering.{is_lt, is_eq, ordering_reverse}
 use Rattle.std.specs.FinMap.Entries.{put, find, is_sorted, below_all, by_order}
 use Rattle.std.specs.List.{All, list_all}
-use Rattle.pg_types.specs.Placement.{root, enter, kept}
+use Rattle.pg_types.specs.Placement.{root, enter, kept_families}
 use Rattle.pg_types.specs.Inside.Signs.{is_sign}
 use Rattle.pg_patterns.specs.DottedSigns.{dotted_cmp}
-use Rattle.pg_patterns.specs.Inside.PlaceOrder.{dotted_total}
+use Rattle.pg_patterns.specs.Inside.DottedOrder.{dotted_total}
 use Rattle.pg_patterns.specs.Values.{raise}
 use Rattle.pg_patterns.specs.Inside.PatternMaps.{IsPatternMap, SignsUpTo}
 use Rattle.pg_trie.specs.Inside.Maps.{Maps}
@@ -80,10 +80,10 @@ entered_next n P i k v old new map there so raised = record {
 }
 
 -- deleting the hopeless marks, of which there are none, leaves the families
-pub entered_tidy : (n : ℕ) (P : Entries) (old new : Maps) → 1 ≤ n → AreEntered n P old → new ≡ record old { hopeless = []; families = kept (map (λ e. e.0.0) old.patterns) old.families; records = new.records } → AreEntered n P new
+pub entered_tidy : (n : ℕ) (P : Entries) (old new : Maps) → 1 ≤ n → AreEntered n P old → new ≡ record old { hopeless = []; families = kept_families (map (λ e. e.0.0) old.patterns) old.families; records = new.records } → AreEntered n P new
 entered_tidy n P old new some so tidied = record {
   signs = ap (λ (m : Maps). m.signs) tidied ∙ so.signs;
-  families = ap (λ (m : Maps). m.families) tidied ∙ ap (λ es. kept (map (λ e. e.0.0) es) old.families) so.patterns ∙ ap (λ fs. kept (map (λ e. e.0.0) P) fs) so.families ∙ kept_entered n P some;
+  families = ap (λ (m : Maps). m.families) tidied ∙ ap (λ es. kept_families (map (λ e. e.0.0) es) old.families) so.patterns ∙ ap (λ fs. kept_families (map (λ e. e.0.0) P) fs) so.families ∙ kept_entered n P some;
   patterns = ap (λ (m : Maps). m.patterns) tidied ∙ so.patterns;
   hopeless = ap (λ (m : Maps). m.hopeless) tidied;
 }

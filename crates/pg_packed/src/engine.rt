@@ -15,9 +15,9 @@ use std::alloc::{AllocError, Global};
 
 /// An [`Engine`] over tries in packed cells, which tells its families.
 ///
-/// The patterns and the hopeless places share one trie, and the counts have another, whose windows
-/// have the length of the pass. To hyphenate a word, the engine goes from each of its positions
-/// along the word, from cell to cell.
+/// The patterns and the hopeless dotted strings share one trie, and the counts have another, whose
+/// windows have the length of the pass. To hyphenate a word, the engine goes from each of its
+/// positions along the word, from cell to cell.
 #[derive(Drop)]
 pub struct PackedEngine {
     trie: PatternTrie,

@@ -7,8 +7,8 @@ use Rattle.std.specs.FinMap.Entries.{find, find-put, find_tied, same_entries}
 use Rattle.std.specs.List.{list_all, All}
 use Rattle.std.specs.List.Sorted.{IsPermutation}
 use Rattle.pg_patterns.specs.DottedSigns.{dotted_cmp}
-use Rattle.pg_patterns.specs.Inside.PlaceOrder.{dotted_total, same_dotted, dotted_ties, dotted_exact}
-use Rattle.pg_patterns.specs.Values.{raise, value_of, best, map_of_entries}
+use Rattle.pg_patterns.specs.Inside.DottedOrder.{dotted_total, same_dotted, dotted_ties, dotted_exact}
+use Rattle.pg_patterns.specs.Values.{raise, value_of, greatest_value, map_of_entries}
 use Rattle.pg_patterns.specs.Inside.PatternMaps.{is_entry, IsPatternMap}
 use Rattle.pg_types.proofs.BoolFacts.{and_first, and_second, equal_is}
 use Rattle.pg_patterns.proofs.Sound.{raise_keeps, entry_bounds}
@@ -32,15 +32,15 @@ max_turned : (a b c : ℕ) → max b (max a c) ≡ max (max a b) c
 max_turned a b c = omega arith
 
 -- what was there and what is raised after it, in any order
-pub value_of_fold : (es P : List ((List ℕ × ℕ) × ℕ)) (k : List ℕ × ℕ) → value_of (fold (λ Q e. raise Q e.0 e.1) P es) k ≡ max (best (same_dotted k) es) (value_of P k)
+pub value_of_fold : (es P : List ((List ℕ × ℕ) × ℕ)) (k : List ℕ × ℕ) → value_of (fold (λ Q e. raise Q e.0 e.1) P es) k ≡ max (greatest_value (same_dotted k) es) (value_of P k)
 value_of_fold [] P k = omega arith
 value_of_fold (e ∷ es) P k =
     value_of_fold es (raise P e.0 e.1) k
-    ∙ ap (λ n. max (best (same_dotted k) es) n) (value_of_raise P e.0 k e.1)
-    ∙ max_turned (only (same_dotted k e.0) e.1) (best (same_dotted k) es) (value_of P k)
+    ∙ ap (λ n. max (greatest_value (same_dotted k) es) n) (value_of_raise P e.0 k e.1)
+    ∙ max_turned (only (same_dotted k e.0) e.1) (greatest_value (same_dotted k) es) (value_of P k)
 
-pub value_of_joined : (es : List ((List ℕ × ℕ) × ℕ)) (k : List ℕ × ℕ) → value_of (map_of_entries es) k ≡ best (same_dotted k) es
-value_of_joined es k = value_of_fold es [] k ∙ max_none (best (same_dotted k) es)
+pub value_of_joined : (es : List ((List ℕ × ℕ) × ℕ)) (k : List ℕ × ℕ) → value_of (map_of_entries es) k ≡ greatest_value (same_dotted k) es
+value_of_joined es k = value_of_fold es [] k ∙ max_none (greatest_value (same_dotted k) es)
   where
     max_none : (n : ℕ) → max n 0 ≡ n
     max_none n = omega arith
@@ -76,22 +76,22 @@ same_maps P Q left right values =
     same_entries dotted_cmp dotted_total dotted_exact P Q left.sorted right.sorted (λ k. find_found P k left.sound ∙ ap found (values k) ∙ sym (find_found Q k right.sound))
 
 -- the greatest value is that of any order of the entries
-all_upto : (t : List ℕ × ℕ → Bool) (es : List ((List ℕ × ℕ) × ℕ)) (n : ℕ) → best t es ≤ n → All (λ (e : (List ℕ × ℕ) × ℕ). only (t e.0) e.1 ≤ n) es
+all_upto : (t : List ℕ × ℕ → Bool) (es : List ((List ℕ × ℕ) × ℕ)) (n : ℕ) → greatest_value t es ≤ n → All (λ (e : (List ℕ × ℕ) × ℕ). only (t e.0) e.1 ≤ n) es
 all_upto t [] n bound = All-nil _
 all_upto t (e ∷ es) n bound = All-cons (λ (e : (List ℕ × ℕ) × ℕ). only (t e.0) e.1 ≤ n) e es (omega arith) (all_upto t es n (omega arith))
 
-pub best_upto : (t : List ℕ × ℕ → Bool) (es : List ((List ℕ × ℕ) × ℕ)) (n : ℕ) → All (λ (e : (List ℕ × ℕ) × ℕ). only (t e.0) e.1 ≤ n) es → best t es ≤ n
+pub best_upto : (t : List ℕ × ℕ → Bool) (es : List ((List ℕ × ℕ) × ℕ)) (n : ℕ) → All (λ (e : (List ℕ × ℕ) × ℕ). only (t e.0) e.1 ≤ n) es → greatest_value t es ≤ n
 best_upto t [] n all = omega arith
 best_upto t (e ∷ es) n all =
     let here : only (t e.0) e.1 ≤ n = All-head (λ (e : (List ℕ × ℕ) × ℕ). only (t e.0) e.1 ≤ n) e es all in
-    let rest : best t es ≤ n = best_upto t es n (All-tail (λ (e : (List ℕ × ℕ) × ℕ). only (t e.0) e.1 ≤ n) e es all) in
+    let rest : greatest_value t es ≤ n = best_upto t es n (All-tail (λ (e : (List ℕ × ℕ) × ℕ). only (t e.0) e.1 ≤ n) e es all) in
     omega arith
 
-best_kept : (t : List ℕ × ℕ → Bool) (es fs : List ((List ℕ × ℕ) × ℕ)) → IsPermutation es fs → best t fs ≤ best t es
-best_kept t es fs moved = best_upto t fs (best t es) (All-permutation (λ (e : (List ℕ × ℕ) × ℕ). only (t e.0) e.1 ≤ best t es) es fs moved (all_upto t es (best t es) (omega arith)))
+best_kept : (t : List ℕ × ℕ → Bool) (es fs : List ((List ℕ × ℕ) × ℕ)) → IsPermutation es fs → greatest_value t fs ≤ greatest_value t es
+best_kept t es fs moved = best_upto t fs (greatest_value t es) (All-permutation (λ (e : (List ℕ × ℕ) × ℕ). only (t e.0) e.1 ≤ greatest_value t es) es fs moved (all_upto t es (greatest_value t es) (omega arith)))
 
-pub best-IsPermutation : (t : List ℕ × ℕ → Bool) (es fs : List ((List ℕ × ℕ) × ℕ)) → IsPermutation es fs → best t fs ≡ best t es
+pub best-IsPermutation : (t : List ℕ × ℕ → Bool) (es fs : List ((List ℕ × ℕ) × ℕ)) → IsPermutation es fs → greatest_value t fs ≡ greatest_value t es
 best-IsPermutation t es fs moved =
-    let one : best t fs ≤ best t es = best_kept t es fs moved in
-    let other : best t es ≤ best t fs = best_kept t fs es (IsPermutation-sym es fs moved) in
+    let one : greatest_value t fs ≤ greatest_value t es = best_kept t es fs moved in
+    let other : greatest_value t es ≤ greatest_value t fs = best_kept t fs es (IsPermutation-sym es fs moved) in
     omega arith

@@ -12,8 +12,8 @@ use Rattle.std.specs.FinMap.Entries.{find, is_sorted, below_all}
 use Rattle.std.specs.List.{list_all, All, dedup_from, dedup}
 use Rattle.std.specs.List.Sorted.{IsPermutation, IsSortedBy}
 use Rattle.pg_patterns.specs.DottedSigns.{dotted_cmp}
-use Rattle.pg_patterns.specs.Inside.PlaceOrder.{dotted_total, same_dotted, dotted_ties, dotted_exact}
-use Rattle.pg_patterns.specs.Values.{value_of, best, map_of_entries}
+use Rattle.pg_patterns.specs.Inside.DottedOrder.{dotted_total, same_dotted, dotted_ties, dotted_exact}
+use Rattle.pg_patterns.specs.Values.{value_of, greatest_value, map_of_entries}
 use Rattle.pg_patterns.specs.Inside.PatternMaps.{is_entry, IsPatternMap}
 use Rattle.pg_patterns.specs.Inside.Search.{entry_cmp}
 use Rattle.pg_types.proofs.BoolFacts.{and_first, and_second, equal_is, less_is, is_true, holds, first_half, second_half}
@@ -90,13 +90,13 @@ below_rest x e (f ∷ es) less after =
     by_case (inr tied) = ap (λ k. dotted_cmp x k) (dotted_exact f.0 e.0 tied.0) ∙ less
 
 -- a place before all has no value
-best_below : (x k : List ℕ × ℕ) (es : List ((List ℕ × ℕ) × ℕ)) → same_dotted k x ≡ true → T (below_all dotted_cmp x es) → best (same_dotted k) es ≡ 0
+best_below : (x k : List ℕ × ℕ) (es : List ((List ℕ × ℕ) × ℕ)) → same_dotted k x ≡ true → T (below_all dotted_cmp x es) → greatest_value (same_dotted k) es ≡ 0
 best_below x k [] same below = refl
 best_below x k (e ∷ es) same below =
     let tied : dotted_cmp k x ≡ Equal = equal_is _ (sym (dotted_ties k x) ∙ same) in
     let less : dotted_cmp k e.0 ≡ Less = dotted_total.congr k x e.0 tied ∙ less_is _ (is_true _ (first_half _ _ below)) in
     let other : same_dotted k e.0 ≡ false = dotted_ties k e.0 ∙ ap is_eq less in
-    ap (λ t. max (only t e.1) (best (same_dotted k) es)) other ∙ ap (λ n. max 0 n) (best_below x k es same (second_half _ _ below))
+    ap (λ t. max (only t e.1) (greatest_value (same_dotted k) es)) other ∙ ap (λ n. max 0 n) (best_below x k es same (second_half _ _ below))
 
 -- the list that keeps the first of each place is a map, whose values are the greatest
 kept_below : (x : List ℕ × ℕ) (e : (List ℕ × ℕ) × ℕ) (es : List ((List ℕ × ℕ) × ℕ)) → InOrder (e ∷ es) → dotted_cmp x e.0 ≡ Less → T (below_all dotted_cmp x (dedup_from (λ f g. same_dotted f.0 g.0) e es))
@@ -137,29 +137,29 @@ value_within e f after same = by_case (later e f after)
     by_case (inl less) = cc (sym same ∙ dotted_ties f.0 e.0 ∙ ap is_eq (dotted_total.antisymm f.0 e.0 ∙ ap ordering_reverse less))
     by_case (inr tied) = tied.1
 
-kept_value : (e : (List ℕ × ℕ) × ℕ) (es : List ((List ℕ × ℕ) × ℕ)) (k : List ℕ × ℕ) → InOrder (e ∷ es) → value_of (dedup_from (λ f g. same_dotted f.0 g.0) e es) k ≡ best (same_dotted k) (e ∷ es)
+kept_value : (e : (List ℕ × ℕ) × ℕ) (es : List ((List ℕ × ℕ) × ℕ)) (k : List ℕ × ℕ) → InOrder (e ∷ es) → value_of (dedup_from (λ f g. same_dotted f.0 g.0) e es) k ≡ greatest_value (same_dotted k) (e ∷ es)
 kept_value e [] k order =
     ap (λ t. unwrap_or (cond t (Some e.1) None) 0) (sym (dotted_ties k e.0)) ∙ first_or_rest (same_dotted k e.0) e.1 0 None refl (λ _. refl)
 kept_value e (f ∷ es) k order =
-    elim (same_dotted f.0 e.0) as (λ t. same_dotted f.0 e.0 ≡ t → value_of (cond t (dedup_from (λ f g. same_dotted f.0 g.0) e es) (e ∷ dedup_from (λ f g. same_dotted f.0 g.0) f es)) k ≡ max (only (same_dotted k e.0) e.1) (max (only (same_dotted k f.0) f.1) (best (same_dotted k) es))) [
+    elim (same_dotted f.0 e.0) as (λ t. same_dotted f.0 e.0 ≡ t → value_of (cond t (dedup_from (λ f g. same_dotted f.0 g.0) e es) (e ∷ dedup_from (λ f g. same_dotted f.0 g.0) f es)) k ≡ max (only (same_dotted k e.0) e.1) (max (only (same_dotted k f.0) f.1) (greatest_value (same_dotted k) es))) [
       | true ↦ λ same.
           let one : f.0 ≡ e.0 = dotted_exact f.0 e.0 (equal_is _ (sym (dotted_ties f.0 e.0) ∙ same)) in
           kept_value e es k (and_second _ _ order.0, order.1.1)
-          ∙ smaller_hidden (same_dotted k e.0) (same_dotted k f.0) e.1 f.1 (best (same_dotted k) es) (ap (λ x. same_dotted k x) (sym one)) (value_within e f (and_first _ _ order.0) same)
+          ∙ smaller_hidden (same_dotted k e.0) (same_dotted k f.0) e.1 f.1 (greatest_value (same_dotted k) es) (ap (λ x. same_dotted k x) (sym one)) (value_within e f (and_first _ _ order.0) same)
       | false ↦ λ other.
           let less : dotted_cmp e.0 f.0 ≡ Less = apart e f (and_first _ _ order.0) other in
           ap (λ t. unwrap_or (cond t (Some e.1) (find dotted_cmp k (dedup_from (λ f g. same_dotted f.0 g.0) f es))) 0) (sym (dotted_ties k e.0))
-          ∙ first_or_rest (same_dotted k e.0) e.1 (best (same_dotted k) (f ∷ es)) (find dotted_cmp k (dedup_from (λ f g. same_dotted f.0 g.0) f es)) (kept_value f es k order.1) (λ same. best_below e.0 k (f ∷ es) same (holds _ (and_from _ _ (ap is_lt less) (is_true _ (below_rest e.0 f es less order.1.0)))))
+          ∙ first_or_rest (same_dotted k e.0) e.1 (greatest_value (same_dotted k) (f ∷ es)) (find dotted_cmp k (dedup_from (λ f g. same_dotted f.0 g.0) f es)) (kept_value f es k order.1) (λ same. best_below e.0 k (f ∷ es) same (holds _ (and_from _ _ (ap is_lt less) (is_true _ (below_rest e.0 f es less order.1.0)))))
     ] refl
 
 -- a strictly sorted list finds its greatest values
-pub value_of_sorted : (es : List ((List ℕ × ℕ) × ℕ)) (k : List ℕ × ℕ) → T (is_sorted dotted_cmp es) → value_of es k ≡ best (same_dotted k) es
+pub value_of_sorted : (es : List ((List ℕ × ℕ) × ℕ)) (k : List ℕ × ℕ) → T (is_sorted dotted_cmp es) → value_of es k ≡ greatest_value (same_dotted k) es
 value_of_sorted [] k sorted = refl
 value_of_sorted (e ∷ es) k sorted =
     ap (λ t. unwrap_or (cond t (Some e.1) (find dotted_cmp k es)) 0) (sym (dotted_ties k e.0))
-    ∙ first_or_rest (same_dotted k e.0) e.1 (best (same_dotted k) es) (find dotted_cmp k es) (value_of_sorted es k (second_half _ _ sorted)) (λ same. best_below e.0 k es same (first_half _ _ sorted))
+    ∙ first_or_rest (same_dotted k e.0) e.1 (greatest_value (same_dotted k) es) (find dotted_cmp k es) (value_of_sorted es k (second_half _ _ sorted)) (λ same. best_below e.0 k es same (first_half _ _ sorted))
 
-kept_whole : (es : List ((List ℕ × ℕ) × ℕ)) → InOrder es → T (is_sorted dotted_cmp (dedup (λ f g. same_dotted f.0 g.0) es)) × ((k : List ℕ × ℕ) → value_of (dedup (λ f g. same_dotted f.0 g.0) es) k ≡ best (same_dotted k) es)
+kept_whole : (es : List ((List ℕ × ℕ) × ℕ)) → InOrder es → T (is_sorted dotted_cmp (dedup (λ f g. same_dotted f.0 g.0) es)) × ((k : List ℕ × ℕ) → value_of (dedup (λ f g. same_dotted f.0 g.0) es) k ≡ greatest_value (same_dotted k) es)
 kept_whole [] order = (tt, λ k. refl)
 kept_whole (e ∷ es) order = (kept_sorted e es order, λ k. kept_value e es k order)
 

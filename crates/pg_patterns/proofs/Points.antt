@@ -12,7 +12,7 @@ use Rattle.std.specs.FinMap.Entries.{find, is_sorted}
 use Rattle.std.specs.List.{list_all}
 use Rattle.std.specs.Option.{option_map_or}
 use Rattle.pg_patterns.specs.DottedSigns.{dotted_cmp}
-use Rattle.pg_patterns.specs.Inside.PlaceOrder.{dotted_total, same_dotted, dotted_ties, dotted_exact}
+use Rattle.pg_patterns.specs.Inside.DottedOrder.{dotted_total, same_dotted, dotted_ties, dotted_exact}
 use Rattle.pg_patterns.specs.Inside.Search.{is_after, begins_with, HasRank, first_value}
 use Rattle.pg_patterns.specs.Texts.{value_digit}
 use Rattle.pg_types.proofs.BoolFacts.{greater_is, less_left, equal_is}

@@ -7,7 +7,7 @@ use Rattle.std.specs.Bool.{OnTrue}
 use Rattle.std.specs.List.{list_all, insert, All}
 use Rattle.std.specs.List.Sorted.{IsPartitionPoint, IsPartitionedBy}
 use Rattle.pg_patterns.specs.DottedSigns.{dotted_cmp}
-use Rattle.pg_patterns.specs.Inside.PlaceOrder.{same_dotted, dotted_total, dotted_ties}
+use Rattle.pg_patterns.specs.Inside.DottedOrder.{same_dotted, dotted_total, dotted_ties}
 use Rattle.pg_patterns.specs.Values.{raise, value_of}
 use Rattle.pg_patterns.specs.Inside.Search.{is_after, begins_with}
 use Rattle.pg_patterns.proofs.Ordered.{put_over, find_over, put_there, find_there, put_gap, find_gap, first_before, first_at, all_before, first_not_before, sorted_drop, after_at}

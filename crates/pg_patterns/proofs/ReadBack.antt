@@ -13,7 +13,7 @@ use Rattle.pg_translate.specs.Alphabets.{Alphabet, letters_of, spelling_of}
 use Rattle.pg_translate.specs.Inside.FirstSpellings.{first_spelling}
 use Rattle.pg_translate.specs.Tokens.{Token, Letter, Digit, Edge}
 use Rattle.pg_patterns.specs.DottedSigns.{dotted_cmp}
-use Rattle.pg_patterns.specs.Inside.PlaceOrder.{dotted_exact}
+use Rattle.pg_patterns.specs.Inside.DottedOrder.{dotted_exact}
 use Rattle.pg_patterns.specs.Inside.PatternMaps.{is_entry}
 use Rattle.pg_translate.specs.Gaps.{sign_of, signs_of}
 use Rattle.pg_patterns.specs.Inside.EntryLines.{digit_at_dot, entries_at, entries_of_items, entries_from}

@@ -8,8 +8,8 @@ use Rattle.std.specs.List.{All, list_any, list_all}
 use Rattle.std.specs.Option.{option_map_or}
 use Rattle.std.specs.Ordering.{eq_by_cmp}
 use Rattle.pg_patterns.specs.DottedSigns.{dotted_cmp}
-use Rattle.pg_patterns.specs.Inside.PlaceOrder.{same_dotted, dotted_equiv, dotted_ties, dotted_exact}
-use Rattle.pg_patterns.specs.Values.{value_of, best, map_of_entries}
+use Rattle.pg_patterns.specs.Inside.DottedOrder.{same_dotted, dotted_equiv, dotted_ties, dotted_exact}
+use Rattle.pg_patterns.specs.Values.{value_of, greatest_value, map_of_entries}
 use Rattle.pg_patterns.specs.Inside.PatternMaps.{IsPatternMap, is_entry}
 use Rattle.pg_patterns.specs.Inside.EntryLines.{entry_at, entries_at}
 use Rattle.pg_patterns.specs.Texts.{with_string, strings_of}
@@ -68,16 +68,16 @@ all_upto_value P (e ∷ es) k all =
     All-cons (λ (e : (List ℕ × ℕ) × ℕ). only (same_dotted k e.0) e.1 ≤ value_of P k) e es (value_upto P k e (All-head (IsOf P) e es all)) (all_upto_value P es k (All-tail (IsOf P) e es all))
 
 -- the value of each place is there
-best_left : (t : List ℕ × ℕ → Bool) (xs ys : List ((List ℕ × ℕ) × ℕ)) → best t xs ≤ best t (xs ++ ys)
+best_left : (t : List ℕ × ℕ → Bool) (xs ys : List ((List ℕ × ℕ) × ℕ)) → greatest_value t xs ≤ greatest_value t (xs ++ ys)
 best_left t [] ys = omega arith
-best_left t (x ∷ xs) ys = larger (only (t x.0) x.1) (best t xs) (best t (xs ++ ys)) (best_left t xs ys)
+best_left t (x ∷ xs) ys = larger (only (t x.0) x.1) (greatest_value t xs) (greatest_value t (xs ++ ys)) (best_left t xs ys)
   where
     larger : (a b c : ℕ) → b ≤ c → max a b ≤ max a c
     larger a b c upto = omega arith
 
-best_right : (t : List ℕ × ℕ → Bool) (xs ys : List ((List ℕ × ℕ) × ℕ)) → best t ys ≤ best t (xs ++ ys)
+best_right : (t : List ℕ × ℕ → Bool) (xs ys : List ((List ℕ × ℕ) × ℕ)) → greatest_value t ys ≤ greatest_value t (xs ++ ys)
 best_right t [] ys = omega arith
-best_right t (x ∷ xs) ys = farther (only (t x.0) x.1) (best t ys) (best t (xs ++ ys)) (best_right t xs ys)
+best_right t (x ∷ xs) ys = farther (only (t x.0) x.1) (greatest_value t ys) (greatest_value t (xs ++ ys)) (best_right t xs ys)
   where
     farther : (a b c : ℕ) → b ≤ c → b ≤ max a c
     farther a b c upto = omega arith
@@ -86,23 +86,23 @@ map_append : (q : List ℕ) (xs ys : List (ℕ × ℕ)) → map (entry_at q) (xs
 map_append q [] ys = refl
 map_append q (x ∷ xs) ys = ap (λ z. ((q, x.0), x.1) ∷ z) (map_append q xs ys)
 
-value_here : (P : List ((List ℕ × ℕ) × ℕ)) (q : List ℕ) (dot v : ℕ) → find dotted_cmp (q, dot) P ≡ Some v → v ≤ best (same_dotted (q, dot)) (map (entry_at q) (option_map_or (λ v. (dot, v) ∷ []) (find dotted_cmp (q, dot) P) []))
+value_here : (P : List ((List ℕ × ℕ) × ℕ)) (q : List ℕ) (dot v : ℕ) → find dotted_cmp (q, dot) P ≡ Some v → v ≤ greatest_value (same_dotted (q, dot)) (map (entry_at q) (option_map_or (λ v. (dot, v) ∷ []) (find dotted_cmp (q, dot) P) []))
 value_here P q dot v is =
-    subst (λ o. v ≤ best (same_dotted (q, dot)) (map (entry_at q) (option_map_or (λ v. (dot, v) ∷ []) o []))) (sym is)
+    subst (λ o. v ≤ greatest_value (same_dotted (q, dot)) (map (entry_at q) (option_map_or (λ v. (dot, v) ∷ []) o []))) (sym is)
     (let same : same_dotted (q, dot) (q, dot) ≡ true = dotted_equiv.refl (q, dot) in subst (λ b. v ≤ max (only b v) 0) (sym same) (omega arith))
 
-value_among : (P : List ((List ℕ × ℕ) × ℕ)) (q : List ℕ) (first dot v : ℕ) (ss : List ℕ) → first ≤ dot → dot ≤ first + length ss → find dotted_cmp (q, dot) P ≡ Some v → v ≤ best (same_dotted (q, dot)) (map (entry_at q) (values_from P q first ss))
+value_among : (P : List ((List ℕ × ℕ) × ℕ)) (q : List ℕ) (first dot v : ℕ) (ss : List ℕ) → first ≤ dot → dot ≤ first + length ss → find dotted_cmp (q, dot) P ≡ Some v → v ≤ greatest_value (same_dotted (q, dot)) (map (entry_at q) (values_from P q first ss))
 value_among P q first dot v [] low high is =
     let one : first ≡ dot = omega arith in
-    subst (λ n. v ≤ best (same_dotted (q, dot)) (map (entry_at q) (option_map_or (λ v. (n, v) ∷ []) (find dotted_cmp (q, n) P) []))) (sym one) (value_here P q dot v is)
+    subst (λ n. v ≤ greatest_value (same_dotted (q, dot)) (map (entry_at q) (option_map_or (λ v. (n, v) ∷ []) (find dotted_cmp (q, n) P) []))) (sym one) (value_here P q dot v is)
 value_among P q first dot v (s ∷ ss) low high is =
     let here : List (ℕ × ℕ) = option_map_or (λ v. (first, v) ∷ []) (find dotted_cmp (q, first) P) [] in
-    subst (λ x. v ≤ best (same_dotted (q, dot)) x) (sym (map_append q here (values_from P q (first + 1) ss)))
+    subst (λ x. v ≤ greatest_value (same_dotted (q, dot)) x) (sym (map_append q here (values_from P q (first + 1) ss)))
     (⊎_elim
     (λ later. within_of _ _ _ (value_among P q (first + 1) dot v ss (omega arith) (omega arith) is) (best_right (same_dotted (q, dot)) (map (entry_at q) here) (map (entry_at q) (values_from P q (first + 1) ss))))
     (λ upto.
     let one : first ≡ dot = omega arith in
-    let now : v ≤ best (same_dotted (q, dot)) (map (entry_at q) here) = subst (λ n. v ≤ best (same_dotted (q, dot)) (map (entry_at q) (option_map_or (λ v. (n, v) ∷ []) (find dotted_cmp (q, n) P) []))) (sym one) (value_here P q dot v is) in
+    let now : v ≤ greatest_value (same_dotted (q, dot)) (map (entry_at q) here) = subst (λ n. v ≤ greatest_value (same_dotted (q, dot)) (map (entry_at q) (option_map_or (λ v. (n, v) ∷ []) (find dotted_cmp (q, n) P) []))) (sym one) (value_here P q dot v is) in
     within_of _ _ _ now (best_left (same_dotted (q, dot)) (map (entry_at q) here) (map (entry_at q) (values_from P q (first + 1) ss))))
     (cases_lt first dot))
 
@@ -135,24 +135,24 @@ string_among (e ∷ es) k v is =
     or_true true b is = refl
     or_true false b is = is
 
-value_of_string : (P : List ((List ℕ × ℕ) × ℕ)) (q : List ℕ) (dot v : ℕ) → 1 ≤ length q → dot ≤ length q → find dotted_cmp (q, dot) P ≡ Some v → v ≤ best (same_dotted (q, dot)) (entries_of P q)
+value_of_string : (P : List ((List ℕ × ℕ) × ℕ)) (q : List ℕ) (dot v : ℕ) → 1 ≤ length q → dot ≤ length q → find dotted_cmp (q, dot) P ≡ Some v → v ≤ greatest_value (same_dotted (q, dot)) (entries_of P q)
 value_of_string P [] dot v some bound is = absurd (omega arith)
 value_of_string P (s ∷ q) dot v some bound is = value_among P (s ∷ q) 0 dot v (s ∷ q) (omega arith) (omega arith) is
 
-value_in_strings : (P : List ((List ℕ × ℕ) × ℕ)) (k : List ℕ × ℕ) (v : ℕ) (qs : List (List ℕ)) → 1 ≤ length k.0 → k.1 ≤ length k.0 → find dotted_cmp k P ≡ Some v → list_any (pointwise nat_eq k.0) qs ≡ true → v ≤ best (same_dotted k) (flat_map (entries_of P) qs)
+value_in_strings : (P : List ((List ℕ × ℕ) × ℕ)) (k : List ℕ × ℕ) (v : ℕ) (qs : List (List ℕ)) → 1 ≤ length k.0 → k.1 ≤ length k.0 → find dotted_cmp k P ≡ Some v → list_any (pointwise nat_eq k.0) qs ≡ true → v ≤ greatest_value (same_dotted k) (flat_map (entries_of P) qs)
 value_in_strings P k v [] some bound is among = cc
 value_in_strings P k v (q ∷ qs) some bound is among =
-    elim (pointwise nat_eq k.0 q) as (λ b. pointwise nat_eq k.0 q ≡ b → (b || list_any (pointwise nat_eq k.0) qs) ≡ true → v ≤ best (same_dotted k) (entries_of P q ++ flat_map (entries_of P) qs)) [
+    elim (pointwise nat_eq k.0 q) as (λ b. pointwise nat_eq k.0 q ≡ b → (b || list_any (pointwise nat_eq k.0) qs) ≡ true → v ≤ greatest_value (same_dotted k) (entries_of P q ++ flat_map (entries_of P) qs)) [
       | true ↦ λ same there.
           let one : k.0 ≡ q = equal_signs k.0 q (equal_is _ (sym (texts_ties k.0 q) ∙ same)) in
-          let here : v ≤ best (same_dotted k) (entries_of P q) = subst (λ x. v ≤ best (same_dotted k) (entries_of P x)) one (value_of_string P k.0 k.1 v some bound is) in
+          let here : v ≤ greatest_value (same_dotted k) (entries_of P q) = subst (λ x. v ≤ greatest_value (same_dotted k) (entries_of P x)) one (value_of_string P k.0 k.1 v some bound is) in
           within_of _ _ _ here (best_left (same_dotted k) (entries_of P q) (flat_map (entries_of P) qs))
       | false ↦ λ other further. within_of _ _ _ (value_in_strings P k v qs some bound is further) (best_right (same_dotted k) (entries_of P q) (flat_map (entries_of P) qs))
     ] refl among
 
-value_low : (P : List ((List ℕ × ℕ) × ℕ)) (k : List ℕ × ℕ) → list_all is_entry P ≡ true → value_of P k ≤ best (same_dotted k) (flat_map (entries_of P) (strings_of P))
+value_low : (P : List ((List ℕ × ℕ) × ℕ)) (k : List ℕ × ℕ) → list_all is_entry P ≡ true → value_of P k ≤ greatest_value (same_dotted k) (flat_map (entries_of P) (strings_of P))
 value_low P k sound =
-    elim (find dotted_cmp k P) as (λ o. find dotted_cmp k P ≡ o → unwrap_or o 0 ≤ best (same_dotted k) (flat_map (entries_of P) (strings_of P))) [
+    elim (find dotted_cmp k P) as (λ o. find dotted_cmp k P ≡ o → unwrap_or o 0 ≤ greatest_value (same_dotted k) (flat_map (entries_of P) (strings_of P))) [
       | None ↦ λ is. omega arith
       | Some v ↦ λ is.
           let bounds = entry_bounds (k, v) (found_entry P k v sound is) in

@@ -9,7 +9,7 @@ use Rattle.std.specs.List.{list_all, All}
 use Rattle.pg_types.specs.declared.limits.TheConstants.{LEVEL_MAX, PATTERN_SIGNS_MAX}
 use Rattle.pg_types.specs.Inside.Signs.{is_sign}
 use Rattle.pg_patterns.specs.DottedSigns.{dotted_cmp}
-use Rattle.pg_patterns.specs.Inside.PlaceOrder.{dotted_total}
+use Rattle.pg_patterns.specs.Inside.DottedOrder.{dotted_total}
 use Rattle.pg_patterns.specs.Values.{raise, value_of, largest}
 use Rattle.pg_patterns.specs.Inside.PatternMaps.{is_entry, IsPatternMap}
 use Rattle.pg_types.proofs.BoolFacts.{and_first, and_second}

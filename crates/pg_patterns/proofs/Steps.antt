@@ -6,7 +6,7 @@ use Rattle.std.proofs.lemmas.List.Elements.{All-push, All-append, All-weaker, Al
 use Rattle.std.specs.List.{All}
 use Rattle.pg_types.specs.declared.limits.TheConstants.{PATTERN_SIGNS_MAX}
 use Rattle.pg_types.specs.declared.refusals.Kind.TheVariants.{PatternTooLong}
-use Rattle.pg_types.specs.Reading.{unless, refused}
+use Rattle.pg_types.specs.Reading.{unless, refusal_at}
 use Rattle.pg_translate.specs.declared.items.Place.TheVariants.{Patterns}
 use Rattle.pg_translate.specs.Alphabets.{Alphabet}
 use Rattle.pg_translate.specs.Tokens.{Token}
@@ -32,7 +32,7 @@ sign_step t line size d rest after token sign takes bound is adds room =
     ∙ ap (λ r. unless r (fold with_token (with_token d token) (tokens_of behind))) (ap (λ m. refusal_with_room Patterns line m (with_item column token behind)) (room_less n room) ∙ refusal_sign Patterns line (PATTERN_SIGNS_MAX - (n + 1)) column token sign behind is ∙ ap (λ n. refusal_after n line behind) (sym (length_push d.signs sign)))
     ∙ ap (λ e. unless (refusal_after (length (d.signs ++ sign ∷ [])) line behind) (fold with_token e (tokens_of behind))) adds
 
-pub sign_refused : (t : Alphabet) (line size : ℕ) (d : Draft) (rest after : List ℕ) (token : Token) (sign : ℕ) → HasItem t Patterns rest token after → length rest ≤ size → sign_of token ≡ Some sign → PATTERN_SIGNS_MAX ≤ length d.signs → draft_left t line size d rest ≡ Err (refused line PatternTooLong (size - length rest + 1))
+pub sign_refused : (t : Alphabet) (line size : ℕ) (d : Draft) (rest after : List ℕ) (token : Token) (sign : ℕ) → HasItem t Patterns rest token after → length rest ≤ size → sign_of token ≡ Some sign → PATTERN_SIGNS_MAX ≤ length d.signs → draft_left t line size d rest ≡ Err (refusal_at line PatternTooLong (size - length rest + 1))
 sign_refused t line size d rest after token sign takes bound is full =
     let column : ℕ = size - length rest + 1 in
     let behind : Cut = cut_rest t Patterns size after in

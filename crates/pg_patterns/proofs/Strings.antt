@@ -11,7 +11,7 @@ use Rattle.std.specs.FinMap.{nat_cmp-IsAntisymmetric, slice_cmp-IsAntisymmetric}
 use Rattle.std.specs.FinMap.Entries.{is_sorted}
 use Rattle.pg_translate.specs.Alphabets.{Alphabet}
 use Rattle.pg_patterns.specs.DottedSigns.{dotted_cmp}
-use Rattle.pg_patterns.specs.Inside.PlaceOrder.{dotted_total}
+use Rattle.pg_patterns.specs.Inside.DottedOrder.{dotted_total}
 use Rattle.pg_patterns.specs.Inside.PatternMaps.{IsPatternMap, is_entry}
 use Rattle.pg_patterns.specs.Inside.Search.{is_after, HasRank}
 use Rattle.pg_patterns.specs.Texts.{with_string, strings_of, pattern_line}

@@ -3,4 +3,4 @@ pub mod Search
 pub mod Drafts
 pub mod EntryLines
 pub mod PatternMaps
-pub mod PlaceOrder
+pub mod DottedOrder

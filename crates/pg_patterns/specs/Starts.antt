@@ -5,7 +5,7 @@ use Rattle.pg_types.specs.declared.limits.TheConstants.{FILE_MAX}
 use Rattle.pg_types.specs.declared.refusals.Kind.TheVariants.{PatternsTooLong}
 use Rattle.pg_types.specs.declared.refusals.Refusal.{Refusal}
 use Rattle.pg_types.specs.Lines.{lines}
-use Rattle.pg_types.specs.Reading.{refused}
+use Rattle.pg_types.specs.Reading.{refusal_at}
 use Rattle.pg_translate.specs.declared.items.Place.TheVariants.{Patterns}
 use Rattle.pg_translate.specs.Alphabets.{Alphabet}
 use Rattle.pg_translate.specs.Tokens.{Token}
@@ -20,7 +20,7 @@ line_entries items = let signs = signs_of items in map (λ d. ((signs, d.0), d.1
     (filter (λ d. nat_lt 0 d.1 && nat_lt 0 (length signs))
     (enumerate_from 0 (map (last_number 0) (gaps items))))
 
--- the map of a pattern file: the entries of its lines, where equal places take the greatest value
+-- the map of a pattern file: the entries of its lines, equal ones joined by the greatest value
 abbrev pub start : Alphabet → List ℕ → Result (List ((List ℕ × ℕ) × ℕ)) Refusal
-start t bytes = if nat_lt FILE_MAX (length bytes) then Err (refused 0 PatternsTooLong 0)
+start t bytes = if nat_lt FILE_MAX (length bytes) then Err (refusal_at 0 PatternsTooLong 0)
     else of_lines (λ ls. map_of_entries (flat_map line_entries ls)) t Patterns (lines bytes)

@@ -16,12 +16,11 @@ abbrev pub strings_of : List ((List ℕ × ℕ) × ℕ) → List (List ℕ)
 strings_of [] = []
 strings_of (e ∷ es) = with_string e.0.0 (strings_of es)
 
--- the digit of a place, where it has a value
+-- the digit of a dotted string, where it has a value
 abbrev pub value_digit : List ((List ℕ × ℕ) × ℕ) → List ℕ × ℕ → List ℕ
 value_digit P k = option_map_or (λ v. (48 + v) ∷ []) (find dotted_cmp k P) []
 
--- the line of a string from a dot on, before the signs that are left: at each dot its digit, and
--- then the spelling of the sign
+-- the line of a string from a dot on: at each dot its digit, and then the spelling of the sign
 abbrev pub line_from : Alphabet → List ((List ℕ × ℕ) × ℕ) → List ℕ → ℕ → List ℕ → List ℕ
 line_from t P q dot [] = value_digit P (q, dot) ++ 10 ∷ []
 line_from t P q dot (s ∷ ss) = value_digit P (q, dot)

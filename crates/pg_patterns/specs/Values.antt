@@ -1,11 +1,11 @@
--- Patterns as a map from places, which are signs with a dot, to values, and the value that they
--- give to a position of a word.
+-- Patterns as a map from dotted strings, which are signs with a dot, to values, and the value that
+-- they give to a position of a word.
 use Rattle.std.specs.Prelude.{ℕ, ◌+◌, ◌-◌, Bool, true, ◌&&◌, if◌then◌else◌, List, [], ◌∷◌, length, drop, max, fold, unwrap_or, nat_le, nat_eq}
 use Rattle.std.specs.FinMap.Entries.{put, find}
 use Rattle.std.specs.List.{starts_with}
 use Rattle.pg_patterns.specs.DottedSigns.{dotted_cmp}
 
--- the value of a place, 0 where it has none
+-- the value of a dotted string, 0 where it has none
 abbrev pub value_of : List ((List ℕ × ℕ) × ℕ) → List ℕ × ℕ → ℕ
 value_of P k = unwrap_or (find dotted_cmp k P) 0
 
@@ -13,18 +13,18 @@ value_of P k = unwrap_or (find dotted_cmp k P) 0
 abbrev pub raise : List ((List ℕ × ℕ) × ℕ) → List ℕ × ℕ → ℕ → List ((List ℕ × ℕ) × ℕ)
 raise P k v = put dotted_cmp k (max v (value_of P k)) P
 
--- a list of entries as a map: equal places are joined by the greatest value
+-- a list of entries as a map: equal dotted strings are joined by the greatest value
 abbrev pub map_of_entries : List ((List ℕ × ℕ) × ℕ) → List ((List ℕ × ℕ) × ℕ)
 map_of_entries es = fold (λ P e. raise P e.0 e.1) [] es
 
--- the greatest value of the entries whose places pass the test, 0 where there is none
-abbrev pub best : (List ℕ × ℕ → Bool) → List ((List ℕ × ℕ) × ℕ) → ℕ
-best test [] = 0
-best test (e ∷ es) = max (if test e.0 then e.1 else 0) (best test es)
+-- the greatest value of the entries whose dotted strings pass the test, 0 where there is none
+abbrev pub greatest_value : (List ℕ × ℕ → Bool) → List ((List ℕ × ℕ) × ℕ) → ℕ
+greatest_value test [] = 0
+greatest_value test (e ∷ es) = max (if test e.0 then e.1 else 0) (greatest_value test es)
 
 -- the greatest value
 abbrev pub largest : List ((List ℕ × ℕ) × ℕ) → ℕ
-largest P = best (λ _. true) P
+largest P = greatest_value (λ _. true) P
 
 -- the signs q stand in w from i on
 abbrev pub stands_at : List ℕ → List ℕ → ℕ → Bool
@@ -36,4 +36,4 @@ applies w p k = nat_le k.1 p && stands_at k.0 w (p - k.1)
 
 -- the value of position p of w: the greatest of the entries that apply there
 abbrev pub value_at : List ((List ℕ × ℕ) × ℕ) → List ℕ → ℕ → ℕ
-value_at P w p = best (applies w p) P
+value_at P w p = greatest_value (applies w p) P

@@ -1,12 +1,12 @@
-//! The place of a value: the signs of a pattern, and a dot among them.
+//! Dotted strings: the signs of a pattern, and a dot among them.
 ghost use Rattle.std.specs.Prelude.{◌≡◌, ◌≤◌, length};
 
 use pg_types::{PATTERN_SIGNS_MAX, Sign};
 use std::cmp::Ordering;
 use std::marker::Model;
 
-/// Up to [`PATTERN_SIGNS_MAX`] signs and a dot, the number of signs before it. Places are ordered
-/// by their signs, a string before its extensions, and then by their dots.
+/// Up to [`PATTERN_SIGNS_MAX`] signs and a dot, the number of signs before it. Dotted strings are
+/// ordered by their signs, a string before its extensions, and then by their dots.
 #[derive(Drop)]
 pub struct DottedSigns {
     signs: [Sign; PATTERN_SIGNS_MAX],
@@ -26,7 +26,7 @@ impl Model for DottedSigns {
 }
 
 impl DottedSigns {
-    /// The place of `dot` among `signs`.
+    /// The dotted string of `dot` among `signs`.
     pub fn new(signs: &[Sign], dot: u8) -> DottedSigns
         requires { length signs.now ≤ PATTERN_SIGNS_MAX }
         ensures { result ≡ (signs.now, dot) }
@@ -57,7 +57,7 @@ impl DottedSigns {
 }
 
 impl PartialEq for DottedSigns {
-    ghost use Rattle.pg_patterns.specs.Inside.PlaceOrder.{same_dotted, dotted_partial_equiv};
+    ghost use Rattle.pg_patterns.specs.Inside.DottedOrder.{same_dotted, dotted_partial_equiv};
 
     ghost eq = { same_dotted };
 
@@ -69,7 +69,7 @@ impl PartialEq for DottedSigns {
 }
 
 impl Eq for DottedSigns {
-    ghost use Rattle.pg_patterns.specs.Inside.PlaceOrder.{dotted_equiv};
+    ghost use Rattle.pg_patterns.specs.Inside.DottedOrder.{dotted_equiv};
 
     ghost laws = { dotted_equiv };
 }
@@ -77,7 +77,7 @@ impl Eq for DottedSigns {
 impl PartialOrd for DottedSigns {
     ghost use Rattle.std.specs.Prelude.{Some};
     ghost use Rattle.pg_patterns.specs.DottedSigns.{dotted_cmp};
-    ghost use Rattle.pg_patterns.specs.Inside.PlaceOrder.{dotted_partial_order};
+    ghost use Rattle.pg_patterns.specs.Inside.DottedOrder.{dotted_partial_order};
 
     ghost partial_cmp = { λ a b. Some (dotted_cmp a b) };
 
@@ -91,7 +91,7 @@ impl PartialOrd for DottedSigns {
 impl Ord for DottedSigns {
     ghost use Rattle.std.specs.Prelude.{refl};
     ghost use Rattle.pg_patterns.specs.DottedSigns.{dotted_cmp};
-    ghost use Rattle.pg_patterns.specs.Inside.PlaceOrder.{dotted_total, dotted_ties};
+    ghost use Rattle.pg_patterns.specs.Inside.DottedOrder.{dotted_total, dotted_ties};
 
     ghost cmp = { dotted_cmp };
 

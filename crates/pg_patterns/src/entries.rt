@@ -1,4 +1,4 @@
-//! Lists of entries in the order of their places.
+//! Lists of entries in the order of their dotted strings.
 ghost use Rattle.std.specs.Prelude.{◌≡◌, ◌≤◌, true, false, T, drop, length, All, OnOk, OnErr};
 ghost use Rattle.std.specs.Bool.{OnTrue};
 ghost use Rattle.std.specs.FinMap.Entries.{is_sorted};
@@ -60,8 +60,8 @@ pub fn raise_in(
     Ok(())
 }
 
-/// Joins the entries of one place by the greatest value: they are sorted where they stand, by place
-/// and falling value, and the first of each place is kept.
+/// Joins the entries of one dotted string by the greatest value: they are sorted where they stand,
+/// by dotted strings and falling values, and the first of each is kept.
 pub fn join(entries: &mut Vec<(DottedSigns, u8)>)
     requires { list_all is_entry entries.old.items ≡ true }
     ensures { IsPatternMap entries.new.items

@@ -4,7 +4,7 @@ ghost use Rattle.std.specs.List.{list_all};
 ghost use Rattle.pg_types.specs.Lines.{lines};
 ghost use Rattle.pg_types.specs.Inside.Answers.{Gives};
 ghost use Rattle.pg_translate.specs.Alphabets.{letters_of};
-ghost use Rattle.pg_types.specs.Reading.{refused};
+ghost use Rattle.pg_types.specs.Reading.{refusal_at};
 ghost use Rattle.pg_patterns.specs.Inside.PatternMaps.{SignsUpTo, is_entry};
 ghost use Rattle.pg_patterns.specs.Inside.Drafts.{IsDraft, EndsWith, ReadsOn, draft_left, line_draft, draft_with_sign};
 ghost use Rattle.pg_patterns.specs.Inside.EntryLines.{entries_from};
@@ -110,7 +110,7 @@ fn add_sign(draft: &mut LineDraft, sign: Sign, line: u32, column: u32) -> Result
     ensures { MatchResult result (λ _. (length draft.old.signs < PATTERN_SIGNS_MAX)
         × (draft.new ≡ draft_with_sign draft.old sign))
         (λ r. (PATTERN_SIGNS_MAX ≤ length draft.old.signs)
-        × (r ≡ refused line Kind.PatternTooLong column)) }
+        × (r ≡ refusal_at line Kind.PatternTooLong column)) }
 {
     if draft.is_full() {
         return Err(Refusal {

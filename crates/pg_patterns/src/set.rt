@@ -35,7 +35,7 @@ impl Model for PatternSet {
 /// An entry of a [`PatternSet`].
 #[derive(Clone, Copy, Debug)]
 pub struct Entry<'a> {
-    /// The signs.
+    /// The signs of its string, 1 to 32.
     pub signs: &'a [Sign],
     /// How many signs stand before the dot.
     pub dot: u8,
@@ -83,9 +83,9 @@ impl PatternSet {
         Ok(PatternSet::from_entries(entries))
     }
 
-    /// The map of `entries`, which may stand in any order. Where a place has several, the greatest
-    /// value counts. The vector is sorted where it stands, in O(n log n) comparisons, or O(n) where
-    /// it is in order, and no memory is taken.
+    /// The map of `entries`, which may stand in any order. Where a dotted string has several, the
+    /// greatest value counts. The vector is sorted where it stands, in O(n log n) comparisons, or
+    /// O(n) where it is in order, and no memory is taken.
     pub fn from_entries(mut entries: Vec<(DottedSigns, u8)>) -> PatternSet
         requires { list_all is_entry entries.items ≡ true }
         ensures value { result ≡ map_of_entries entries.items }

@@ -1,7 +1,7 @@
 //! The text of a pattern file.
 ghost use Rattle.std.specs.Prelude.{◌≡◌, ◌+◌, ◌≤◌, ◌++◌, length, drop, All, OnOk, IfOk, IfSome};
 ghost use Rattle.pg_translate.specs.Alphabets.{letters_of};
-ghost use Rattle.pg_patterns.specs.Inside.PlaceOrder.{same_dotted};
+ghost use Rattle.pg_patterns.specs.Inside.DottedOrder.{same_dotted};
 ghost use Rattle.pg_patterns.specs.Inside.PatternMaps.{IsPatternMap, SignsUpTo};
 ghost use Rattle.pg_patterns.specs.Inside.Search.{HasRank, first_value};
 ghost use Rattle.pg_patterns.specs.Texts.{value_digit, pattern_line, pattern_text};
@@ -100,7 +100,7 @@ fn entry_value_at(
     }
 }
 
-/// Whether the place is that of `dot` among `signs`.
+/// Whether the dotted string is that of `dot` among `signs`.
 fn is_dotted(place: &DottedSigns, signs: &[Sign], dot: usize) -> bool
     ensures { result ≡ same_dotted (signs.now, dot) place.now }
 {

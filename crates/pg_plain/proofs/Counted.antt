@@ -11,8 +11,8 @@ use Rattle.std.specs.FinMap.Entries.{put, find, is_sorted}
 use Rattle.std.specs.List.{filter, list_all}
 use Rattle.std.specs.Ordering.{is_lt}
 use Rattle.pg_types.specs.Inside.Signs.{is_sign}
-use Rattle.pg_types.specs.Inside.Counts.{Counts, SignsWithin, is_counted, above}
-use Rattle.pg_types.specs.Inside.Numbers.{Numbers}
+use Rattle.pg_types.specs.Inside.Counts.{Counts, SignsWithin, is_counted, windows_above}
+use Rattle.pg_types.specs.Inside.NumberedStrings.{Numbers}
 use Rattle.pg_types.proofs.EntryLists.{all_put, find_good, above_next}
 use Rattle.pg_types.proofs.Numbering.{first_at, behind}
 use Rattle.pg_types.proofs.StringEntries.{mapped, tail_sorted}
@@ -53,29 +53,29 @@ between_above u (e ∷ es) =
     and_true false = refl
 
 module _ (tallies : List (ℕ × ℕ)) where
-  above_seen : (u : List ℕ) (numbers : Numbers) → above u (mapped (tally_at tallies) numbers) ≡ mapped (tally_at tallies) (filter (λ e. is_lt (slice_cmp nat_cmp u e.0)) numbers)
+  above_seen : (u : List ℕ) (numbers : Numbers) → windows_above u (mapped (tally_at tallies) numbers) ≡ mapped (tally_at tallies) (filter (λ e. is_lt (slice_cmp nat_cmp u e.0)) numbers)
   above_seen u [] = refl
   above_seen u (e ∷ es) =
-      elim (is_lt (slice_cmp nat_cmp u e.0)) as (λ b. cond b ((e.0, tally_at tallies e.1) ∷ above u (mapped (tally_at tallies) es)) (above u (mapped (tally_at tallies) es))
+      elim (is_lt (slice_cmp nat_cmp u e.0)) as (λ b. cond b ((e.0, tally_at tallies e.1) ∷ windows_above u (mapped (tally_at tallies) es)) (windows_above u (mapped (tally_at tallies) es))
       ≡ mapped (tally_at tallies) (cond b (e ∷ filter (λ x. is_lt (slice_cmp nat_cmp u x.0)) es) (filter (λ x. is_lt (slice_cmp nat_cmp u x.0)) es))) [
         | true ↦ ap (λ l. (e.0, tally_at tallies e.1) ∷ l) (above_seen u es)
         | false ↦ above_seen u es
       ]
 
   -- no window is above u
-  pub above_no : (u : List ℕ) (numbers r : Numbers) → r ≡ entries_between (slice_cmp nat_cmp) (Excluded u) Unbounded numbers → r ≡ [] → above u (mapped (tally_at tallies) numbers) ≡ []
+  pub above_no : (u : List ℕ) (numbers r : Numbers) → r ≡ entries_between (slice_cmp nat_cmp) (Excluded u) Unbounded numbers → r ≡ [] → windows_above u (mapped (tally_at tallies) numbers) ≡ []
   above_no u numbers r between none = above_seen u numbers ∙ ap (mapped (tally_at tallies)) (sym (between ∙ between_above u numbers) ∙ none)
 
   -- the least window above u
   pub next_above : (numbers rest r : Numbers) (u v : List ℕ) (e : List ℕ × ℕ) → T (is_sorted (slice_cmp nat_cmp) numbers) → r ≡ entries_between (slice_cmp nat_cmp) (Excluded u) Unbounded numbers → r ≡ e ∷ rest → v ≡ e.0
-      → above u (mapped (tally_at tallies) numbers) ≡ (v, tally_at tallies e.1) ∷ above v (mapped (tally_at tallies) numbers)
+      → windows_above u (mapped (tally_at tallies) numbers) ≡ (v, tally_at tallies e.1) ∷ windows_above v (mapped (tally_at tallies) numbers)
   next_above numbers rest r u v e sorted between cut is =
       let here : filter (λ x. is_lt (slice_cmp nat_cmp u x.0)) numbers ≡ e ∷ rest = sym (between ∙ between_above u numbers) ∙ cut in
       let after : filter (λ x. is_lt (slice_cmp nat_cmp e.0 x.0)) numbers ≡ rest = above_next (slice_cmp nat_cmp) nat_list_cmp_total u numbers rest e sorted here in
       above_seen u numbers ∙ ap (mapped (tally_at tallies)) here
       ∙ ap (λ l. (e.0, tally_at tallies e.1) ∷ mapped (tally_at tallies) l) (sym after)
       ∙ ap (λ l. (e.0, tally_at tallies e.1) ∷ l) (sym (above_seen e.0 numbers))
-      ∙ ap (λ x. (x, tally_at tallies e.1) ∷ above x (mapped (tally_at tallies) numbers)) (sym is)
+      ∙ ap (λ x. (x, tally_at tallies e.1) ∷ windows_above x (mapped (tally_at tallies) numbers)) (sym is)
 
 cut_found : (u : List ℕ) (es rest : Numbers) (e : List ℕ × ℕ) → T (is_sorted (slice_cmp nat_cmp) es) → filter (λ x. is_lt (slice_cmp nat_cmp u x.0)) es ≡ e ∷ rest → find (slice_cmp nat_cmp) e.0 es ≡ Some e.1
 cut_found u [] rest e h cut = cc

@@ -5,9 +5,9 @@ use Rattle.std.proofs.lemmas.List.{length-take-le, length-drop, take-take, drop-
 use Rattle.std.specs.Cmp.Lexicographic.{bytes_decides}
 use Rattle.std.specs.List.{starts_with, list_all, list_any}
 use Rattle.pg_types.specs.declared.limits.TheConstants.{WORD_LETTERS_MAX}
-use Rattle.pg_patterns.specs.Values.{stands_at, applies, best, value_at}
+use Rattle.pg_patterns.specs.Values.{stands_at, applies, greatest_value, value_at}
 use Rattle.pg_patterns.specs.Inside.PatternMaps.{is_entry}
-use Rattle.pg_select.specs.Windows.{Hopeless, window, fits, covered}
+use Rattle.pg_select.specs.Windows.{Hopeless, window, fits, is_covered}
 use Rattle.pg_plain.specs.Inside.Strings.{is_string}
 use Rattle.pg_select.specs.Inside.Positions.{bit}
 use Rattle.pg_select.specs.Inside.Within.{is_within}
@@ -103,7 +103,7 @@ joined_bits true false x y z p q r = omega arith
 joined_bits false true x y z p q r = omega arith
 joined_bits false false x y z p q r = omega arith
 
-best_greatest : (t : List ℕ × ℕ → Bool) (P : List ((List ℕ × ℕ) × ℕ)) → greatest (λ e. e.1) t P ≡ best t P
+best_greatest : (t : List ℕ × ℕ → Bool) (P : List ((List ℕ × ℕ) × ℕ)) → greatest (λ e. e.1) t P ≡ greatest_value t P
 best_greatest t [] = refl
 best_greatest t (e ∷ es) = ap (λ n. max (cond (t e.0) e.1 0) n) (best_greatest t es)
 
@@ -138,7 +138,7 @@ values_end P H w x y z long start first second p inside =
 pub covers_end : (P : List ((List ℕ × ℕ) × ℕ)) (H : Hopeless) (level len dot : ℕ) (w : List ℕ) (x y z : List Bool) → length w ≤ WORD_LETTERS_MAX + 2 → x ≡ replicate (WORD_LETTERS_MAX + 2) false
     → ((p : ℕ) → p < WORD_LETTERS_MAX + 2 → bit (get_or y p false) ≡ max (bit (get_or x p false)) (greatest (λ e. bit (nat_le level e.1 && is_within len dot (length e.0.0) e.0.1)) (applies w p) P))
     → ((p : ℕ) → p < WORD_LETTERS_MAX + 2 → bit (get_or z p false) ≡ max (bit (get_or y p false)) (greatest (λ e. bit (is_within len dot (length e.0.0) e.0.1)) (applies w p) H))
-    → (p : ℕ) → p < length w → fits w p len dot ≡ true → get_or z p false ≡ covered level P H (window w p len dot) dot
+    → (p : ℕ) → p < length w → fits w p len dot ≡ true → get_or z p false ≡ is_covered level P H (window w p len dot) dot
 covers_end P H level len dot w x y z long start first second p inside fit =
     let room : p < WORD_LETTERS_MAX + 2 = omega arith in
     let law : (k : List ℕ × ℕ) → applies (window w p len dot) dot k ≡ (applies w p k && is_within len dot (length k.0) k.1) = λ k. cover_law w p len dot k fit in
@@ -147,6 +147,6 @@ covers_end P H level len dot w x y z long start first second p inside fit =
     (λ e. ap (λ b. nat_le level e.1 && b) (law e.0) ∙ swap (nat_le level e.1) (applies w p e.0) (is_within len dot (length e.0.0) e.0.1)) in
     let hopeless : bit (list_any (λ e. applies (window w p len dot) dot e.0) H) ≡ greatest (λ e. bit (is_within len dot (length e.0.0) e.0.1)) (applies w p) H =
     any_bit (λ (e : (List ℕ × ℕ) × Unit {0}). applies (window w p len dot) dot e.0) (λ (e : (List ℕ × ℕ) × Unit {0}). is_within len dot (length e.0.0) e.0.1) (applies w p) H (λ e. law e.0) in
-    same_bits (get_or z p false) (covered level P H (window w p len dot) dot)
+    same_bits (get_or z p false) (is_covered level P H (window w p len dot) dot)
     (joined_bits (list_any (λ e. nat_le level e.1 && applies (window w p len dot) dot e.0) P) (list_any (λ e. applies (window w p len dot) dot e.0) H) (bit (get_or x p false)) (bit (get_or y p false)) (bit (get_or z p false))
     (start_cover x p start room) (first p room ∙ ap (λ n. max (bit (get_or x p false)) n) (sym patterns)) (second p room ∙ ap (λ n. max (bit (get_or y p false)) n) (sym hopeless)))

@@ -7,7 +7,7 @@ use Rattle.std.specs.FinMap.Entries.{put, find}
 use Rattle.std.specs.List.{list_all}
 use Rattle.pg_types.specs.Inside.Signs.{is_sign}
 use Rattle.pg_patterns.specs.DottedSigns.{dotted_cmp}
-use Rattle.pg_patterns.specs.Inside.PlaceOrder.{dotted_total, dotted_exact}
+use Rattle.pg_patterns.specs.Inside.DottedOrder.{dotted_total, dotted_exact}
 use Rattle.pg_patterns.specs.Values.{raise, value_of}
 use Rattle.pg_patterns.specs.Inside.PatternMaps.{is_entry, IsPatternMap}
 use Rattle.pg_plain.specs.Inside.Strings.{is_string}

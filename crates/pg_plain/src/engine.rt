@@ -6,7 +6,7 @@ ghost use Rattle.pg_patterns.specs.Inside.PatternMaps.{is_entry};
 ghost use Rattle.pg_plain.specs.Inside.Strings.{is_string, has_signs_up_to};
 
 use crate::counts::CountedWindows;
-use crate::places::{map_of, put_in, raise_in, set_of};
+use crate::dotted_maps::{map_of, put_in, raise_in, set_of};
 use crate::walk::walk;
 use pg_dict::WordRef;
 use pg_patterns::{DottedSigns, PatternSet};

@@ -2,9 +2,9 @@
 #![tactic(auto)]
 
 mod counts;
+mod dotted_entry;
+mod dotted_maps;
 pub mod engine;
-mod place_entry;
-mod places;
 mod walk;
 
 pub use engine::PlainEngine;

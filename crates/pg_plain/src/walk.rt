@@ -8,7 +8,7 @@ ghost use Rattle.pg_plain.specs.Inside.Greatest.{greatest_at, entry_value, entry
 ghost use Rattle.pg_plain.specs.Inside.Strings.{is_string};
 ghost use Rattle.pg_plain.specs.Inside.Walks.{has_signs_at, is_extension, applies_from};
 
-use crate::place_entry::PlaceEntry;
+use crate::dotted_entry::DottedEntry;
 use pg_patterns::DottedSigns;
 use pg_select::{Pass, WordState};
 use pg_types::{PATTERN_SIGNS_MAX, Sign};
@@ -20,7 +20,7 @@ use std::ops::Bound;
 /// signs stand in the window and it covers at the level of the pass. The walk takes no memory. From
 /// each sign on it looks up each string of the word in the map, up to the first with which no
 /// longer string of the map begins.
-pub fn walk<F: PlaceEntry>(
+pub fn walk<F: DottedEntry>(
     map: &BTreeMap<DottedSigns, F>,
     w: &[Sign],
     pass: &Pass,
@@ -43,7 +43,7 @@ pub fn walk<F: PlaceEntry>(
 }
 
 /// Raises them by the entries whose signs stand in the word from `i` on, the shorter ones first.
-fn raise_from<F: PlaceEntry>(
+fn raise_from<F: DottedEntry>(
     map: &BTreeMap<DottedSigns, F>,
     w: &[Sign],
     i: usize,
@@ -73,7 +73,7 @@ fn raise_from<F: PlaceEntry>(
 
 /// Raises them by the entries whose signs are `q`, which stand in the word from `i` on. It is false
 /// only where no longer string of the map begins with `q`.
-fn raise_by_string<F: PlaceEntry>(
+fn raise_by_string<F: DottedEntry>(
     map: &BTreeMap<DottedSigns, F>,
     q: &[Sign],
     i: usize,
@@ -102,7 +102,7 @@ fn raise_by_string<F: PlaceEntry>(
 }
 
 /// Raises them by an entry whose signs stand in the word from `i` on.
-fn raise_by_entry<F: PlaceEntry>(
+fn raise_by_entry<F: DottedEntry>(
     place: &DottedSigns,
     entry: &F,
     i: usize,

@@ -9,7 +9,7 @@ use Rattle.pg_types.proofs.BoolFacts.{and_first, and_second}
 use Rattle.pg_patterns.specs.Inside.PatternMaps.{is_entry}
 use Rattle.pg_select.specs.Windows.{Patterns}
 use Rattle.pg_prune.specs.Places.{WordPlace}
-use Rattle.pg_prune.specs.Inside.Standing.{standing}
+use Rattle.pg_prune.specs.Inside.Standing.{places_of_entry}
 use Rattle.pg_prune.specs.Inside.Turns.{Turn, with_entry, IsAwaited, IsTallied}
 use Rattle.pg_prune.specs.Inside.Picks.{IsGround}
 use Rattle.pg_prune.proofs.RoundSteps.{standing_at}
@@ -42,7 +42,7 @@ with_next places P i inside = take_more P i (([], 0), 0) inside
 pub turn_awaited : {V : Type 0} (items : V → List ℕ) (places : List WordPlace) (P : Patterns) (vs : List V) (count : ℕ) (holders : List (List ℕ)) (i : ℕ) (v : V) (numbers : List ℕ) (x : (List ℕ × ℕ) × ℕ) → IsGround places P (map items vs) count
     → list_all is_entry P ≡ true → IsTallied places (take i P) holders → i < length P → i < 2 ^ 64 - 1 → v ≡ get_or vs i v → numbers ≡ items v → slice_get P i ≡ Some x → IsAwaited (turn_after places P i) holders numbers x.1
 turn_awaited items places P vs count holders i v numbers x g sound tallied inside room is own entry =
-    let many : length vs ≡ length P = sym (length-map vs items) ∙ ap length g.all ∙ length-map P (standing places) in
+    let many : length vs ≡ length P = sym (length-map vs items) ∙ ap length g.all ∙ length-map P (places_of_entry places) in
     record {
       entry = record {
         stands = own ∙ ap items is ∙ sym (get_or-map items vs i v [] (omega arith)) ∙ ap (λ t. get_or t i []) g.all ∙ standing_at places P i inside;

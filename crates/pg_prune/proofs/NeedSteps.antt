@@ -10,7 +10,7 @@ use Rattle.pg_prune.specs.Places.{WordPlace}
 use Rattle.pg_prune.specs.Prunes.{need_at, needs_from, needs}
 use Rattle.pg_prune.specs.Inside.Findings.{need_list, first_difference}
 use Rattle.pg_prune.specs.Inside.Turns.{with_entry, without_entry, IsHeld, IsTallied, IsFound}
-use Rattle.pg_prune.specs.Inside.Picks.{picked, RoundStart}
+use Rattle.pg_prune.specs.Inside.Picks.{picked_entries, RoundStart}
 use Rattle.pg_prune.proofs.TurnSteps.{left_at, none_left}
 use Rattle.pg_prune.proofs.RoundSteps.{turn_of, turn_from}
 use Rattle.pg_prune.specs.Inside.Picks.{entry_of}
@@ -18,26 +18,26 @@ use Rattle.pg_prune.specs.Inside.Picks.{entry_of}
 module _ (places : List WordPlace) (P : Patterns) (kept : List ℕ) where
   -- these are the needs of the first i entries
   abbrev pub NeedsSoFar : List Need → ℕ → Type 0
-  NeedsSoFar found i = found ++ needs_from places (picked P (take i kept)) (picked P (drop i kept)) ≡ needs places (picked P kept)
+  NeedsSoFar found i = found ++ needs_from places (picked_entries P (take i kept)) (picked_entries P (drop i kept)) ≡ needs places (picked_entries P kept)
 
   pub needs_begin : NeedsSoFar [] 0
   unfolding needs
   needs_begin = refl
 
-  pub needs_end : (found : List Need) (i : ℕ) → length kept ≤ i → NeedsSoFar found i → found ≡ needs places (picked P kept)
+  pub needs_end : (found : List Need) (i : ℕ) → length kept ≤ i → NeedsSoFar found i → found ≡ needs places (picked_entries P kept)
   needs_end found i behind so =
-      sym (append-nil found) ∙ ap (λ left. found ++ needs_from places (picked P (take i kept)) (picked P left)) (sym (none_left kept i behind)) ∙ so
+      sym (append-nil found) ∙ ap (λ left. found ++ needs_from places (picked_entries P (take i kept)) (picked_entries P left)) (sym (none_left kept i behind)) ∙ so
 
   pub needs_step : (found : List Need) (i : ℕ) → i < length kept → NeedsSoFar found i
       → NeedsSoFar (found ++ need_list (first_difference places (with_entry (turn_of places P (take i kept) (get_or kept i 0) (drop (i + 1) kept))) (without_entry (turn_of places P (take i kept) (get_or kept i 0) (drop (i + 1) kept))))) (i + 1)
   needs_step found i inside so =
       let k = get_or kept i 0 in
-      let before = picked P (take i kept) in
-      let behind = picked P (drop (i + 1) kept) in
+      let before = picked_entries P (take i kept) in
+      let behind = picked_entries P (drop (i + 1) kept) in
       let need = need_list (first_difference places (before ++ entry_of P k ∷ behind) (before ++ behind)) in
-      let longer : picked P (take (i + 1) kept) ≡ before ++ entry_of P k ∷ [] = ap (picked P) (take_more kept i 0 inside) ∙ map-append (entry_of P) (take i kept) (k ∷ []) in
-      let left : picked P (drop i kept) ≡ entry_of P k ∷ behind = ap (picked P) (left_at kept i inside) in
-      append_assoc found need (needs_from places (picked P (take (i + 1) kept)) behind)
+      let longer : picked_entries P (take (i + 1) kept) ≡ before ++ entry_of P k ∷ [] = ap (picked_entries P) (take_more kept i 0 inside) ∙ map-append (entry_of P) (take i kept) (k ∷ []) in
+      let left : picked_entries P (drop i kept) ≡ entry_of P k ∷ behind = ap (picked_entries P) (left_at kept i inside) in
+      append_assoc found need (needs_from places (picked_entries P (take (i + 1) kept)) behind)
       ∙ ap (λ (q : Patterns). found ++ (need ++ needs_from places q behind)) longer
       ∙ ap (λ (q : Patterns). found ++ needs_from places before q) (sym left)
       ∙ so
@@ -46,8 +46,8 @@ module _ (places : List WordPlace) (P : Patterns) (kept : List ℕ) where
   pub need_turn : {V : Type 0} (items : V → List ℕ) (vs : List V) (holders : List (List ℕ)) (i : ℕ) (v : V) (numbers : List ℕ) (x : (List ℕ × ℕ) × ℕ) → RoundStart places P (map items vs) holders kept → i < length kept
       → v ≡ get_or vs (get_or kept i 0) v → numbers ≡ items v → slice_get P (get_or kept i 0) ≡ Some x → IsHeld (turn_of places P (take i kept) (get_or kept i 0) (drop (i + 1) kept)) holders numbers x.1
   need_turn items vs holders i v numbers x s inside is own entry =
-      let whole : picked P kept ≡ picked P (take i kept) ++ picked P (get_or kept i 0 ∷ drop (i + 1) kept) =
-      ap (picked P) (sym (take-append-drop i kept)) ∙ map-append (entry_of P) (take i kept) (drop i kept) ∙ ap (λ left. picked P (take i kept) ++ picked P left) (left_at kept i inside) in
+      let whole : picked_entries P kept ≡ picked_entries P (take i kept) ++ picked_entries P (get_or kept i 0 ∷ drop (i + 1) kept) =
+      ap (picked_entries P) (sym (take-append-drop i kept)) ∙ map-append (entry_of P) (take i kept) (drop i kept) ∙ ap (λ left. picked_entries P (take i kept) ++ picked_entries P left) (left_at kept i inside) in
       turn_from items places P vs holders (take i kept) (get_or kept i 0) (drop (i + 1) kept) v numbers x s.all s.sound
       (All-take (λ i. i < length P) i kept s.within) (subst (All (λ i. i < length P)) (left_at kept i inside) (All-drop (λ i. i < length P) i kept s.within))
       (subst (λ (Q : Patterns). IsTallied places Q holders) whole s.tallied) is own entry

@@ -4,12 +4,12 @@ use Rattle.std.specs.List.{All, range_with_len}
 use Rattle.std.proofs.lemmas.List.{map-append, take_more}
 use Rattle.std.proofs.lemmas.List.Elements.{All-nil, All-cons}
 use Rattle.pg_select.specs.Windows.{Patterns}
-use Rattle.pg_prune.specs.Inside.Picks.{picked}
+use Rattle.pg_prune.specs.Inside.Picks.{picked_entries}
 use Rattle.pg_prune.specs.Inside.Picks.{entry_of}
 
 -- one number more
-pub picked_more : (P : Patterns) (kept : List ℕ) (i : ℕ) → i < length kept → picked P (take (i + 1) kept) ≡ picked P (take i kept) ++ entry_of P (get_or kept i 0) ∷ []
-picked_more P kept i inside = ap (picked P) (take_more kept i 0 inside) ∙ map-append (entry_of P) (take i kept) (get_or kept i 0 ∷ [])
+pub picked_more : (P : Patterns) (kept : List ℕ) (i : ℕ) → i < length kept → picked_entries P (take (i + 1) kept) ≡ picked_entries P (take i kept) ++ entry_of P (get_or kept i 0) ∷ []
+picked_more P kept i inside = ap (picked_entries P) (take_more kept i 0 inside) ∙ map-append (entry_of P) (take i kept) (get_or kept i 0 ∷ [])
 
 -- all numbers from one on
 shifted : (e : (List ℕ × ℕ) × ℕ) (P : Patterns) (a n : ℕ) → map (entry_of (e ∷ P)) (range_with_len (suc a) n) ≡ map (entry_of P) (range_with_len a n)
@@ -17,7 +17,7 @@ shifted e P a zero = refl
 shifted e P a (suc n) = ap (λ t. entry_of P a ∷ t) (ap (λ b. map (entry_of (e ∷ P)) (range_with_len b n)) (omega arith) ∙ shifted e P (a + 1) n)
 
 -- all entries are the map
-pub picked_all : (P : Patterns) → picked P (range_with_len 0 (length P)) ≡ P
+pub picked_all : (P : Patterns) → picked_entries P (range_with_len 0 (length P)) ≡ P
 picked_all [] = refl
 picked_all (e ∷ P) = ap (λ t. e ∷ t) (ap (λ b. map (entry_of (e ∷ P)) (range_with_len b (length P))) (omega arith) ∙ shifted e P 0 (length P) ∙ picked_all P)
 

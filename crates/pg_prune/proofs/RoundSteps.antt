@@ -12,9 +12,9 @@ use Rattle.pg_patterns.specs.Inside.PatternMaps.{is_entry}
 use Rattle.pg_select.specs.Windows.{Patterns}
 use Rattle.pg_prune.specs.Places.{WordPlace}
 use Rattle.pg_prune.specs.Prunes.{break_alike, round_from, round}
-use Rattle.pg_prune.specs.Inside.Standing.{standing, all_standing}
+use Rattle.pg_prune.specs.Inside.Standing.{places_of_entry, places_of_entries}
 use Rattle.pg_prune.specs.Inside.Turns.{Turn, with_entry, without_entry, IsHeld, IsTallied}
-use Rattle.pg_prune.specs.Inside.Picks.{entry_of, picked, RoundStart, RoundDone}
+use Rattle.pg_prune.specs.Inside.Picks.{entry_of, picked_entries, RoundStart, RoundDone}
 use Rattle.pg_prune.proofs.RoundLaws.{regrouped}
 use Rattle.pg_prune.proofs.NeedLaws.{alike_over}
 use Rattle.pg_prune.proofs.TurnSteps.{left_at}
@@ -25,13 +25,13 @@ sound_at (e ∷ P) zero inside sound = and_first _ _ sound
 sound_at (e ∷ P) (suc k) inside sound = sound_at P k (omega arith) (and_second _ _ sound)
 
 -- entries of a map are sound
-pub picked_sound : (P : Patterns) (ks : List ℕ) → list_all is_entry P ≡ true → All (λ i. i < length P) ks → list_all is_entry (picked P ks) ≡ true
+pub picked_sound : (P : Patterns) (ks : List ℕ) → list_all is_entry P ≡ true → All (λ i. i < length P) ks → list_all is_entry (picked_entries P ks) ≡ true
 picked_sound P [] sound within = refl
 picked_sound P (k ∷ ks) sound within =
     and_from _ _ (sound_at P k (All-head (λ i. i < length P) k ks within) sound) (picked_sound P ks sound (All-tail (λ i. i < length P) k ks within))
 
 -- the places of the entry with a number
-pub standing_at : (places : List WordPlace) (P : Patterns) (k : ℕ) → k < length P → get_or (all_standing places P) k [] ≡ standing places (entry_of P k)
+pub standing_at : (places : List WordPlace) (P : Patterns) (k : ℕ) → k < length P → get_or (places_of_entries places P) k [] ≡ places_of_entry places (entry_of P k)
 standing_at places [] k inside = absurd (omega arith)
 standing_at places (e ∷ P) zero inside = refl
 standing_at places (e ∷ P) (suc k) inside = standing_at places P k (omega arith)
@@ -43,21 +43,21 @@ alike_back (x ∷ xs) P Q alike = and_from _ _ (eq-eqb _ _ (sym (eqb-true _ _ (a
 
 -- the turn of the entry with the number k, where those before it with the numbers `stay` stay
 abbrev pub turn_of : List WordPlace → Patterns → List ℕ → ℕ → List ℕ → Turn
-turn_of places P stay k left = record { places = places; before = picked P stay; entry = entry_of P k; behind = picked P left }
+turn_of places P stay k left = record { places = places; before = picked_entries P stay; entry = entry_of P k; behind = picked_entries P left }
 
 -- what an entry's turn has: its places, its value, and the holders of the map
 module _ {V : Type 0} (items : V → List ℕ) (places : List WordPlace) (P : Patterns) (vs : List V) where
-  pub turn_from : (holders : List (List ℕ)) (stay : List ℕ) (k : ℕ) (left : List ℕ) (v : V) (numbers : List ℕ) (x : (List ℕ × ℕ) × ℕ) → map items vs ≡ all_standing places P → list_all is_entry P ≡ true
-      → All (λ i. i < length P) stay → All (λ i. i < length P) (k ∷ left) → IsTallied places (picked P stay ++ picked P (k ∷ left)) holders
+  pub turn_from : (holders : List (List ℕ)) (stay : List ℕ) (k : ℕ) (left : List ℕ) (v : V) (numbers : List ℕ) (x : (List ℕ × ℕ) × ℕ) → map items vs ≡ places_of_entries places P → list_all is_entry P ≡ true
+      → All (λ i. i < length P) stay → All (λ i. i < length P) (k ∷ left) → IsTallied places (picked_entries P stay ++ picked_entries P (k ∷ left)) holders
       → v ≡ get_or vs k v → numbers ≡ items v → slice_get P k ≡ Some x → IsHeld (turn_of places P stay k left) holders numbers x.1
   turn_from holders stay k left v numbers x stands sound within rest tallied is own entry =
       let inside : k < length P = All-head (λ i. i < length P) k left rest in
-      let many : length vs ≡ length P = sym (length-map vs items) ∙ ap length stands ∙ length-map P (standing places) in
+      let many : length vs ≡ length P = sym (length-map vs items) ∙ ap length stands ∙ length-map P (places_of_entry places) in
       record {
         entry = record {
           stands = own ∙ ap items is ∙ sym (get_or-map items vs k v [] (omega arith)) ∙ ap (λ t. get_or t k []) stands ∙ standing_at places P k inside;
           gives = ap (λ (e : (List ℕ × ℕ) × ℕ). e.1) (sym (get_or_from_slice_get P k x (([], 0), 0) entry));
-          sound = list_all-append is_entry (picked P stay) (picked P (k ∷ left)) ∙ and_from _ _ (picked_sound P stay sound within) (picked_sound P (k ∷ left) sound rest);
+          sound = list_all-append is_entry (picked_entries P stay) (picked_entries P (k ∷ left)) ∙ and_from _ _ (picked_sound P stay sound within) (picked_sound P (k ∷ left) sound rest);
         };
         tallied = tallied;
       }
@@ -66,9 +66,9 @@ module _ {V : Type 0} (items : V → List ℕ) (places : List WordPlace) (P : Pa
 pub record Rounding (places : List WordPlace) (P : Patterns) (kept : List ℕ) (holders : List (List ℕ)) (stay left : List ℕ) : Type 0 where
   pub within : All (λ i. i < length P) stay
   pub rest : All (λ i. i < length P) left
-  pub tallied : IsTallied places (picked P stay ++ picked P left) holders
-  pub alike : break_alike places P (picked P stay ++ picked P left) ≡ true
-  pub so_far : round_from places P (picked P stay) (picked P left) ≡ round places P (picked P kept)
+  pub tallied : IsTallied places (picked_entries P stay ++ picked_entries P left) holders
+  pub alike : break_alike places P (picked_entries P stay ++ picked_entries P left) ≡ true
+  pub so_far : round_from places P (picked_entries P stay) (picked_entries P left) ≡ round places P (picked_entries P kept)
 
 continues_with : (places : List WordPlace) (P kept : Patterns) (e : (List ℕ × ℕ) × ℕ) (left : Patterns) → break_alike places P (kept ++ left) ≡ true → round_from places P kept (e ∷ left) ≡ round_from places P kept left
 continues_with places P kept e left goes = ap (λ b. cond b (round_from places P kept left) (round_from places P (kept ++ e ∷ []) left)) goes
@@ -96,29 +96,29 @@ module _ (places : List WordPlace) (P : Patterns) (stands : List (List ℕ)) (ke
   pub rounding_goes : (holders new : List (List ℕ)) (stay : List ℕ) (k : ℕ) (left : List ℕ) → Rounding places P kept holders stay (k ∷ left)
       → false ≡ not (break_alike places (with_entry (turn_of places P stay k left)) (without_entry (turn_of places P stay k left))) → IsTallied places (without_entry (turn_of places P stay k left)) new → Rounding places P kept new stay left
   rounding_goes holders new stay k left r answer tallied =
-      let goes : break_alike places P (picked P stay ++ picked P left) ≡ true = alike_over places P (with_entry (turn_of places P stay k left)) (without_entry (turn_of places P stay k left)) r.alike (is_alike _ answer) in
+      let goes : break_alike places P (picked_entries P stay ++ picked_entries P left) ≡ true = alike_over places P (with_entry (turn_of places P stay k left)) (without_entry (turn_of places P stay k left)) r.alike (is_alike _ answer) in
       record {
         within = r.within;
         rest = All-tail (λ i. i < length P) k left r.rest;
         tallied = tallied;
         alike = goes;
-        so_far = sym (continues_with places P (picked P stay) (entry_of P k) (picked P left) goes) ∙ r.so_far;
+        so_far = sym (continues_with places P (picked_entries P stay) (entry_of P k) (picked_entries P left) goes) ∙ r.so_far;
       }
 
   pub rounding_stays : (holders new : List (List ℕ)) (stay : List ℕ) (k : ℕ) (left : List ℕ) → Rounding places P kept holders stay (k ∷ left)
       → true ≡ not (break_alike places (with_entry (turn_of places P stay k left)) (without_entry (turn_of places P stay k left))) → IsTallied places (with_entry (turn_of places P stay k left)) new → Rounding places P kept new (stay ++ k ∷ []) left
   rounding_stays holders new stay k left r answer tallied =
       let t = turn_of places P stay k left in
-      let stays : break_alike places P (picked P stay ++ picked P left) ≡ false =
+      let stays : break_alike places P (picked_entries P stay ++ picked_entries P left) ≡ false =
       unlike (break_alike places P (without_entry t)) (break_alike places (with_entry t) (without_entry t)) (λ goes. alike_over places (with_entry t) P (without_entry t) (alike_back places P (with_entry t) r.alike) goes) (is_unlike _ answer) in
-      let longer : picked P (stay ++ k ∷ []) ≡ picked P stay ++ entry_of P k ∷ [] = map-append (entry_of P) stay (k ∷ []) in
-      let whole : picked P (stay ++ k ∷ []) ++ picked P left ≡ picked P stay ++ entry_of P k ∷ picked P left = ap (λ q. q ++ picked P left) longer ∙ regrouped (picked P stay) (entry_of P k) (picked P left) in
+      let longer : picked_entries P (stay ++ k ∷ []) ≡ picked_entries P stay ++ entry_of P k ∷ [] = map-append (entry_of P) stay (k ∷ []) in
+      let whole : picked_entries P (stay ++ k ∷ []) ++ picked_entries P left ≡ picked_entries P stay ++ entry_of P k ∷ picked_entries P left = ap (λ q. q ++ picked_entries P left) longer ∙ regrouped (picked_entries P stay) (entry_of P k) (picked_entries P left) in
       record {
         within = All-push (λ i. i < length P) stay k r.within (All-head (λ i. i < length P) k left r.rest);
         rest = All-tail (λ i. i < length P) k left r.rest;
         tallied = subst (λ (Q : Patterns). IsTallied places Q new) (sym whole) tallied;
         alike = subst (λ (Q : Patterns). break_alike places P Q ≡ true) (sym whole) r.alike;
-        so_far = ap (λ (q : Patterns). round_from places P q (picked P left)) longer ∙ sym (stays_on places P (picked P stay) (entry_of P k) (picked P left) stays) ∙ r.so_far;
+        so_far = ap (λ (q : Patterns). round_from places P q (picked_entries P left)) longer ∙ sym (stays_on places P (picked_entries P stay) (entry_of P k) (picked_entries P left) stays) ∙ r.so_far;
       }
 
   pub rounding_ends : (start holders : List (List ℕ)) (stay : List ℕ) → RoundStart places P stands start kept → Rounding places P kept holders stay [] → RoundDone places P stands holders kept stay
@@ -127,8 +127,8 @@ module _ (places : List WordPlace) (P : Patterns) (stands : List (List ℕ)) (ke
       all = s.all;
       sound = s.sound;
       within = r.within;
-      tallied = subst (λ (Q : Patterns). IsTallied places Q holders) (append-nil (picked P stay)) r.tallied;
-      alike = subst (λ (Q : Patterns). break_alike places P Q ≡ true) (append-nil (picked P stay)) r.alike;
+      tallied = subst (λ (Q : Patterns). IsTallied places Q holders) (append-nil (picked_entries P stay)) r.tallied;
+      alike = subst (λ (Q : Patterns). break_alike places P Q ≡ true) (append-nil (picked_entries P stay)) r.alike;
     };
     done = r.so_far;
   }

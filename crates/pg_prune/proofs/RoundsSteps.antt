@@ -10,7 +10,7 @@ use Rattle.pg_select.specs.Windows.{Patterns}
 use Rattle.pg_prune.specs.Places.{WordPlace}
 use Rattle.pg_prune.specs.Prunes.{break_alike, round, rounds_from, rounds, Rounds}
 use Rattle.pg_prune.specs.Inside.Turns.{IsTallied}
-use Rattle.pg_prune.specs.Inside.Picks.{picked, RoundStart, RoundDone, RoundsStart}
+use Rattle.pg_prune.specs.Inside.Picks.{picked_entries, RoundStart, RoundDone, RoundsStart}
 use Rattle.pg_prune.proofs.RoundLaws.{round_length, round_same}
 use Rattle.pg_prune.proofs.NeedLaws.{alike_self}
 use Rattle.pg_prune.specs.Inside.Picks.{entry_of}
@@ -21,7 +21,7 @@ pub record RoundsSoFar (places : List WordPlace) (P : Patterns) (stands : List (
   pub ready : RoundStart places P stands holders kept
   pub most : ℕ
   pub few : length kept ≤ most
-  pub so_far : rounds places P ≡ rounds_from places P count most (picked P kept)
+  pub so_far : rounds places P ≡ rounds_from places P count most (picked_entries P kept)
 
 module _ (places : List WordPlace) (P : Patterns) (stands : List (List ℕ)) where
   pub rounds_begin : (holders : List (List ℕ)) → RoundsStart places P stands holders → RoundsSoFar places P stands holders (range_with_len 0 (length P)) 0
@@ -40,15 +40,15 @@ module _ (places : List WordPlace) (P : Patterns) (stands : List (List ℕ)) whe
   }
 
   -- how many entries a round leaves
-  left_by : (holders : List (List ℕ)) (kept stay : List ℕ) → RoundDone places P stands holders kept stay → length stay ≡ length (round places P (picked P kept))
+  left_by : (holders : List (List ℕ)) (kept stay : List ℕ) → RoundDone places P stands holders kept stay → length stay ≡ length (round places P (picked_entries P kept))
   left_by holders kept stay d = sym (length-map stay (entry_of P)) ∙ ap length d.done
 
   pub round_fewer : (holders : List (List ℕ)) (kept stay : List ℕ) → RoundDone places P stands holders kept stay → length stay ≤ length kept
   unfolding round
   round_fewer holders kept stay d =
-      let left : length stay ≡ length (round places P (picked P kept)) = left_by holders kept stay d in
-      let fewer : length (round places P (picked P kept)) ≤ 0 + length (picked P kept) = round_length places P [] (picked P kept) in
-      let many : length (picked P kept) ≡ length kept = length-map kept (entry_of P) in
+      let left : length stay ≡ length (round places P (picked_entries P kept)) = left_by holders kept stay d in
+      let fewer : length (round places P (picked_entries P kept)) ≤ 0 + length (picked_entries P kept) = round_length places P [] (picked_entries P kept) in
+      let many : length (picked_entries P kept) ≡ length kept = length-map kept (entry_of P) in
       omega arith
 
   one_more : (count most : ℕ) (Q : Patterns) → length Q ≤ most → length (round places P Q) < length Q → (n : ℕ) × (length (round places P Q) ≤ n) × (rounds_from places P count most Q ≡ rounds_from places P (count + 1) n (round places P Q))
@@ -62,11 +62,11 @@ module _ (places : List WordPlace) (P : Patterns) (stands : List (List ℕ)) whe
 
   pub rounds_next : (old new : List (List ℕ)) (kept stay : List ℕ) (count : ℕ) → RoundsSoFar places P stands old kept count → RoundDone places P stands new kept stay → length stay ≢ length kept → RoundsSoFar places P stands new stay (count + 1)
   rounds_next old new kept stay count r d other =
-      let left : length stay ≡ length (round places P (picked P kept)) = left_by new kept stay d in
+      let left : length stay ≡ length (round places P (picked_entries P kept)) = left_by new kept stay d in
       let fewer = round_fewer new kept stay d in
-      let many : length (picked P kept) ≡ length kept = length-map kept (entry_of P) in
+      let many : length (picked_entries P kept) ≡ length kept = length-map kept (entry_of P) in
       let few : length kept ≤ r.most = r.few in
-      let more = one_more count r.most (picked P kept) (omega arith) (omega arith) in
+      let more = one_more count r.most (picked_entries P kept) (omega arith) (omega arith) in
       record {
         ready = d.next;
         most = more.0;
@@ -80,13 +80,13 @@ module _ (places : List WordPlace) (P : Patterns) (stands : List (List ℕ)) whe
       ap (λ b. cond {A = Rounds} b (record { patterns = Q; count = count + 1 }) (rounds_from places P (count + 1) most (round places P Q))) (eq-eqb (length (round places P Q)) (length Q) same)
 
   pub rounds_end_with : (old new : List (List ℕ)) (kept stay : List ℕ) (count : ℕ) → RoundsSoFar places P stands old kept count → RoundDone places P stands new kept stay → length stay ≡ length kept
-      → RoundStart places P stands new kept × (rounds places P ≡ record { patterns = picked P kept; count = count + 1 })
+      → RoundStart places P stands new kept × (rounds places P ≡ record { patterns = picked_entries P kept; count = count + 1 })
   unfolding round
   rounds_end_with old new kept stay count r d same =
-      let left : length stay ≡ length (round places P (picked P kept)) = left_by new kept stay d in
-      let many : length (picked P kept) ≡ length kept = length-map kept (entry_of P) in
-      let as_many : length (round places P (picked P kept)) ≡ length (picked P kept) = omega arith in
-      let is : picked P stay ≡ picked P kept = d.done ∙ round_same places P [] (picked P kept) (let all : length (round places P (picked P kept)) ≡ 0 + length (picked P kept) = omega arith in all) in (
+      let left : length stay ≡ length (round places P (picked_entries P kept)) = left_by new kept stay d in
+      let many : length (picked_entries P kept) ≡ length kept = length-map kept (entry_of P) in
+      let as_many : length (round places P (picked_entries P kept)) ≡ length (picked_entries P kept) = omega arith in
+      let is : picked_entries P stay ≡ picked_entries P kept = d.done ∙ round_same places P [] (picked_entries P kept) (let all : length (round places P (picked_entries P kept)) ≡ 0 + length (picked_entries P kept) = omega arith in all) in (
         record {
           all = r.ready.all;
           sound = r.ready.sound;
@@ -94,5 +94,5 @@ module _ (places : List WordPlace) (P : Patterns) (stands : List (List ℕ)) whe
           tallied = subst (λ (Q : Patterns). IsTallied places Q new) is d.next.tallied;
           alike = r.ready.alike;
         },
-        r.so_far ∙ no_more count r.most (picked P kept) as_many,
+        r.so_far ∙ no_more count r.most (picked_entries P kept) as_many,
       )

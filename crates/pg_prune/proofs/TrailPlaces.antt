@@ -15,9 +15,9 @@ use Rattle.pg_select.proofs.Reaches.{Reaches, reach_is}
 use Rattle.pg_prune.specs.Places.{WordPlace, places}
 use Rattle.pg_prune.specs.Inside.WordPlaces.{places_in, places_from}
 use Rattle.pg_prune.proofs.PlaceForms.{places_as}
-use Rattle.pg_prune.specs.Inside.Standing.{numbers_of, stands, standing}
+use Rattle.pg_prune.specs.Inside.Standing.{numbers_of, stands, places_of_entry}
 use Rattle.pg_prune.specs.declared.trail.Start.{Start}
-use Rattle.pg_prune.specs.Inside.Trails.{width_of, width, start_at, starts_in, starts_from, all_starts, begins_at, starts_of, place_in, place_of}
+use Rattle.pg_prune.specs.Inside.Trails.{position_count, place_count, start_at, starts_in, starts_from, all_starts, begins_at, starts_of, place_in, place_of}
 use Rattle.pg_prune.proofs.TrailLists.{range_parts, nothing_in, given_shifted}
 use Rattle.pg_prune.proofs.TrailStarts.{signs_at}
 
@@ -159,7 +159,7 @@ module _ (m : Minima) (all : List Word) (u : List ℕ) (v d : ℕ) where
       sym (numbered u v d w ends.0 ends.1 b number ends.0 (ends.1 + 1 - ends.0) b (omega arith) (omega arith) (omega arith)
       ∙ by_reach u v d w ends.0 ends.1 b (d + length w) (omega arith) (omega arith))
 
-  width_is : (w : Word) (number : ℕ) (r : Option (ℕ × ℕ)) → length (map (place_at number w.signs) (option_map_or (λ ends. range_with_len ends.0 (ends.1 + 1 - ends.0)) r [])) ≡ width_of r
+  width_is : (w : Word) (number : ℕ) (r : Option (ℕ × ℕ)) → length (map (place_at number w.signs) (option_map_or (λ ends. range_with_len ends.0 (ends.1 + 1 - ends.0)) r [])) ≡ position_count r
   width_is w number None = refl
   width_is w number (Some ends) = length-map-range_with_len (place_at number w.signs) ends.0 (ends.1 + 1 - ends.0)
 
@@ -167,7 +167,7 @@ module _ (m : Minima) (all : List Word) (u : List ℕ) (v d : ℕ) where
   in_words [] word b is = refl
   in_words (w ∷ ws) word b is =
       let first : List Start = starts_in word b (length w.signs) in
-      let behind : List Start = starts_from m (word + 1) (b + width m (length w.signs)) ws in
+      let behind : List Start = starts_from m (word + 1) (b + place_count m (length w.signs)) ws in
       let size : length all - word ≡ suc (length ws) = sym (length-drop word all) ∙ ap (λ (xs : List Word). length xs) is in
       let within : word < length all = omega arith in
       let more : w ∷ ws ≡ get_or all word w ∷ drop (word + 1) all = sym is ∙ drop_more all word w within in
@@ -177,7 +177,7 @@ module _ (m : Minima) (all : List Word) (u : List ℕ) (v d : ℕ) where
       let here : filter_map (place_of m all d) (filter (begins_at all u) first) ≡ numbers_of (stands ((u, d), v)) b (places_in m (word + 1) w) =
       in_word word b w at ∙ by_starts u d w.signs (reach m.left m.right (length w.signs)) b ∙ in_reach_of (word + 1) b w.signs (reach m.left m.right (length w.signs)) refl in
       let there : filter_map (place_of m all d) (filter (begins_at all u) behind) ≡ numbers_of (stands ((u, d), v)) (b + length (places_in m (word + 1) w)) (places_from m (word + 1 + 1) ws) =
-      in_words ws (word + 1) (b + width m (length w.signs)) next
+      in_words ws (word + 1) (b + place_count m (length w.signs)) next
       ∙ ap (λ n. numbers_of (stands ((u, d), v)) (b + n) (places_from m (word + 1 + 1) ws)) (sym (width_is w (word + 1) (reach m.left m.right (length w.signs)))) in
       ap (filter_map (place_of m all d)) (filter-append (begins_at all u) first behind)
       ∙ filter_map-append (place_of m all d) (filter (begins_at all u) first) (filter (begins_at all u) behind)
@@ -186,5 +186,5 @@ module _ (m : Minima) (all : List Word) (u : List ℕ) (v d : ℕ) where
       ∙ sym (numbers-append (stands ((u, d), v)) b (places_in m (word + 1) w) (places_from m (word + 1 + 1) ws))
 
   -- the places at which a string stands, by its starts
-  pub places_by_starts : filter_map (place_of m all d) (starts_of all (all_starts m all) u) ≡ standing (places m all) ((u, d), v)
-  places_by_starts = in_words all 0 0 refl ∙ ap (λ (xs : List WordPlace). standing xs ((u, d), v)) (places_as m all)
+  pub places_by_starts : filter_map (place_of m all d) (starts_of all (all_starts m all) u) ≡ places_of_entry (places m all) ((u, d), v)
+  places_by_starts = in_words all 0 0 refl ∙ ap (λ (xs : List WordPlace). places_of_entry xs ((u, d), v)) (places_as m all)

@@ -19,9 +19,7 @@ break_alike_at P Q x = nat_eq (value_at P x.signs x.position % 2)
 abbrev pub break_alike : List WordPlace → Patterns → Patterns → Bool
 break_alike places P Q = list_all (break_alike_at P Q) places
 
--- a round from its middle: of the map, `kept` are the entries that were looked at and stay, and
--- then come those to be looked at. An entry is taken out where the map without it breaks alike with
--- the first map P
+-- the rest of a round, behind the entries `kept`: an entry goes where the others break as P does
 abbrev pub round_from : List WordPlace → Patterns → Patterns → Patterns → Patterns
 round_from places P kept [] = kept
 round_from places P kept (e ∷ rest) = if break_alike places P (kept ++ rest)
@@ -36,8 +34,7 @@ pub record Rounds : Type 0 where
   pub patterns : Patterns
   pub count : ℕ
 
--- further rounds from the map Q, until one takes out nothing; that round is counted too. Q has at
--- most so many entries, and a round takes nothing out of a map without entries
+-- further rounds from Q, of at most so many entries, until one takes out nothing, which counts too
 abbrev pub rounds_from : List WordPlace → Patterns → ℕ → ℕ → Patterns → Rounds
 rounds_from places P count zero Q = record { patterns = Q; count = count + 1 }
 rounds_from places P count (suc most) Q =
@@ -52,8 +49,7 @@ rounds places P = rounds_from places P 0 (length P) P
 abbrev pub need_at : WordPlace → Need
 need_at x = record { word = x.word; position = x.position }
 
--- the needs of the entries from `rest` on, behind the entries `before`: for each, the first place
--- at which the map without it does not break alike with the map
+-- the need of each entry from `rest` on: the first place that breaks otherwise without it
 abbrev pub needs_from : List WordPlace → Patterns → Patterns → List Need
 needs_from places before [] = []
 needs_from places before (e ∷ rest) = option_to_list (option_map need_at (find
@@ -64,8 +60,7 @@ needs_from places before (e ∷ rest) = option_to_list (option_map need_at (find
 unfoldable pub needs : List WordPlace → Patterns → List Need
 needs places Q = needs_from places [] Q
 
--- what pruning comes to: the patterns that stay, the need of each, the number of rounds, and how
--- many entries were taken out
+-- what pruning comes to: the patterns that stay, their needs, and how many rounds and removals
 pub record Found : Type 0 where
   pub patterns : Patterns
   pub needs : List Need

@@ -2,7 +2,7 @@
 ghost use Rattle.std.specs.Prelude.{◌≡◌, map, IfOk};
 ghost use Rattle.pg_select.specs.CountedPositions.{minima_of};
 ghost use Rattle.pg_prune.specs.Places.{places as places_of};
-ghost use Rattle.pg_prune.specs.Inside.Standing.{all_standing};
+ghost use Rattle.pg_prune.specs.Inside.Standing.{places_of_entries};
 
 use crate::trail::{Trail, all_starts, standing};
 use pg_dict::Dictionary;
@@ -21,7 +21,7 @@ pub(crate) fn gather(
     patterns: &PatternSet,
 ) -> Result<Vec<Vec<usize>>, AllocError>
     ensures { IfOk result (λ lists. map (λ l. l.items) lists.items
-        ≡ all_standing (places_of (minima_of table.now) dictionary.now) patterns.now) }
+        ≡ places_of_entries (places_of (minima_of table.now) dictionary.now) patterns.now) }
 {
     let all = all_starts(alloc, dictionary, table)?;
     let mut trail = Trail::new(alloc);

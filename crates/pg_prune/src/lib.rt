@@ -3,7 +3,7 @@
 
 mod gather;
 mod holders;
-mod kept;
+mod kept_patterns;
 mod places;
 pub mod pruned;
 pub mod pruning;

@@ -12,7 +12,7 @@ ghost use Rattle.pg_prune.specs.Inside.Needs.{HasNeeds};
 
 use crate::gather::gather;
 use crate::holders::Holders;
-use crate::kept::kept_patterns;
+use crate::kept_patterns::kept_patterns;
 use crate::places::places;
 use crate::pruned::{Need, Pruned};
 use crate::rounds::{Rounds, Unseen, all_holders, all_rounds, needs};

@@ -3,8 +3,8 @@ ghost use Rattle.std.specs.Prelude.{◌≡◌, ◌<◌, ◌≤◌, not, [], ◌�
 ghost use Rattle.pg_prune.specs.Places.{WordPlace};
 ghost use Rattle.pg_prune.specs.Prunes.{break_alike, need_at, needs as needs_of};
 ghost use Rattle.pg_prune.specs.Inside.Findings.{first_difference};
-ghost use Rattle.pg_prune.specs.Inside.Standing.{all_standing};
-ghost use Rattle.pg_prune.specs.Inside.Picks.{picked, IsGround, RoundStart, RoundDone, RoundsStart};
+ghost use Rattle.pg_prune.specs.Inside.Standing.{places_of_entries};
+ghost use Rattle.pg_prune.specs.Inside.Picks.{picked_entries, IsGround, RoundStart, RoundDone, RoundsStart};
 ghost use Rattle.std.specs.List.{range_with_len};
 ghost use Rattle.pg_prune.specs.Inside.Ends.{RoundsDone};
 ghost use Rattle.pg_prune.specs.Inside.Turns.{Turn, with_entry, without_entry, IsHeld, IsAwaited, IsTallied, IsFound};
@@ -193,7 +193,7 @@ pub(crate) fn needs(
         × RoundStart all patterns.now (map (λ l. l.items) standing.now) holders.now kept.now }
     ensures { (all : List WordPlace) → (places.now ≡ map need_at all)
         → RoundStart all patterns.now (map (λ l. l.items) standing.now) holders.now kept.now
-        → IfOk result (λ needs. needs.items ≡ needs_of all (picked patterns.now kept.now)) }
+        → IfOk result (λ needs. needs.items ≡ needs_of all (picked_entries patterns.now kept.now)) }
 {
     let mut needs = Vec::new(alloc);
     'entries: for i in kept {

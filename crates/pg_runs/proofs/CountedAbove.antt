@@ -4,7 +4,7 @@ use Rattle.std.specs.Ordering.{is_lt, is_eq, eq_by_cmp}
 use Rattle.std.specs.Cmp.Lexicographic.{nat_list_cmp_total}
 use Rattle.std.specs.Cmp.{tied_itself}
 use Rattle.std.specs.FinMap.Entries.{find}
-use Rattle.pg_types.specs.Inside.Counts.{Counts, above, is_counted}
+use Rattle.pg_types.specs.Inside.Counts.{Counts, windows_above, is_counted}
 use Rattle.pg_driver.proofs.Puts.{cmp}
 
 abbrev Entry : Type 0
@@ -20,10 +20,10 @@ found_later true v o is = refl
 found_later false v o is = is
 
 -- the least window above another is counted
-pub counted_above : (u : List ℕ) (counts : Counts) (e : Entry) (rest : Counts) → above u counts ≡ e ∷ rest → is_counted counts e.0 ≡ true
+pub counted_above : (u : List ℕ) (counts : Counts) (e : Entry) (rest : Counts) → windows_above u counts ≡ e ∷ rest → is_counted counts e.0 ≡ true
 counted_above u [] e rest is = cc
 counted_above u (x ∷ xs) e rest is =
-    elim (is_lt (cmp u x.0)) as (λ (b : Bool). cond b (x ∷ above u xs) (above u xs) ≡ e ∷ rest → is_counted (x ∷ xs) e.0 ≡ true) [
+    elim (is_lt (cmp u x.0)) as (λ (b : Bool). cond b (x ∷ windows_above u xs) (windows_above u xs) ≡ e ∷ rest → is_counted (x ∷ xs) e.0 ≡ true) [
       | true ↦ λ same. let first : x ≡ e = cc in found_first e x xs first
       | false ↦ λ same. found_later (eq_by_cmp cmp e.0 x.0) x.1 (find cmp e.0 xs) (counted_above u xs e rest same)
     ] is

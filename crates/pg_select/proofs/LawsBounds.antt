@@ -8,7 +8,7 @@ use Rattle.std.specs.FinMap.Entries.{put, find, by_order}
 use Rattle.std.proofs.lemmas.Bool.{and_parts, and_from, or_right, le-leb, lt-leb, leb-true, leb-false, eqb-true, not-true}
 use Rattle.pg_dict.specs.Word.{Word}
 use Rattle.pg_patterns.specs.DottedSigns.{dotted_cmp}
-use Rattle.pg_patterns.specs.Inside.PlaceOrder.{dotted_exact}
+use Rattle.pg_patterns.specs.Inside.DottedOrder.{dotted_exact}
 use Rattle.pg_patterns.specs.Values.{value_of, raise, largest}
 use Rattle.pg_select.specs.declared.pass.Pass.{Pass}
 use Rattle.pg_select.specs.Inside.Laws.{raised_all, hopeless_all}

@@ -13,12 +13,12 @@ use Rattle.std.proofs.lemmas.List.Sums.{AllPass-from_list_all}
 use Rattle.pg_dict.specs.Word.{Word}
 use Rattle.pg_translate.specs.Reach.{positions}
 use Rattle.pg_patterns.specs.DottedSigns.{dotted_cmp}
-use Rattle.pg_patterns.specs.Inside.PlaceOrder.{same_dotted, dotted_exact}
+use Rattle.pg_patterns.specs.Inside.DottedOrder.{same_dotted, dotted_exact}
 use Rattle.pg_patterns.specs.Values.{value_of, raise, applies, stands_at}
 use Rattle.pg_types.proofs.BoolFacts.{equal_is}
 use Rattle.pg_patterns.proofs.Joins.{only, value_of_raise}
 use Rattle.pg_select.specs.Statuses.{status_at, position_weight}
-use Rattle.pg_select.specs.Windows.{Hopeless, window, fits, covered}
+use Rattle.pg_select.specs.Windows.{Hopeless, window, fits, is_covered}
 use Rattle.pg_select.specs.declared.pass.Pass.{Pass}
 use Rattle.pg_select.specs.CountedPositions.{Minima, CountedPosition, counts_as, counted_positions_at, counted_positions, with_window, candidates}
 use Rattle.pg_select.specs.Inside.WordCounts.{counted_positions_in}
@@ -95,7 +95,7 @@ below level (e ∷ es) u d low none =
     first false b is none = refl
 
 -- a window that is not covered has a value below the level
-pub low_uncovered : (level : ℕ) (P : List ((List ℕ × ℕ) × ℕ)) (H : Hopeless) (u : List ℕ) (d : ℕ) → 1 ≤ level → covered level P H u d ≡ false → value_of P (u, d) < level
+pub low_uncovered : (level : ℕ) (P : List ((List ℕ × ℕ) × ℕ)) (H : Hopeless) (u : List ℕ) (d : ℕ) → 1 ≤ level → is_covered level P H u d ≡ false → value_of P (u, d) < level
 low_uncovered level P H u d low none = below level P u d low (or_parts (list_any (λ (e : (List ℕ × ℕ) × ℕ). nat_le level e.1 && applies u d e.0) P) (list_any (λ (e : (List ℕ × ℕ) × Unit {0}). applies u d e.0) H) none).0
 
 -- what holds of all parts holds of the whole
@@ -104,7 +104,7 @@ all_flat test f [] each = refl
 all_flat test f (x ∷ xs) each = list_all-append test (f x) (flat_map f xs) ∙ and_from (list_all test (f x)) (list_all test (flat_map f xs)) (each x) (all_flat test f xs each)
 
 -- what holds of the windows that are not covered holds of those that are counted
-pub all_seen : (test : List ℕ → Bool) (m : Minima) (words : List Word) (pass : Pass) (P : List ((List ℕ × ℕ) × ℕ)) (H : Hopeless) → ((u : List ℕ) → covered pass.level P H u pass.dot ≡ false → test u ≡ true) → list_all (λ (s : CountedPosition). test s.window) (counted_positions m words pass P H) ≡ true
+pub all_seen : (test : List ℕ → Bool) (m : Minima) (words : List Word) (pass : Pass) (P : List ((List ℕ × ℕ) × ℕ)) (H : Hopeless) → ((u : List ℕ) → is_covered pass.level P H u pass.dot ≡ false → test u ≡ true) → list_all (λ (s : CountedPosition). test s.window) (counted_positions m words pass P H) ≡ true
 all_seen test m words pass P H each =
     all_flat (λ (s : CountedPosition). test s.window) (counted_positions_in m pass P H) words (λ w.
     all_flat (λ (s : CountedPosition). test s.window) (counted_positions_at pass P H w) (positions m.left m.right (length w.signs)) (λ p. at w p))
@@ -117,7 +117,7 @@ all_seen test m words pass P H each =
 
     at : (w : Word) (p : ℕ) → list_all (λ (s : CountedPosition). test s.window) (counted_positions_at pass P H w p) ≡ true
     at w p =
-        by_test (window w.signs p pass.len pass.dot) (position_weight w p) (fits w.signs p pass.len pass.dot) (covered pass.level P H (window w.signs p pass.len pass.dot) pass.dot) (counts_as pass.level (status_at P w p)) (each (window w.signs p pass.len pass.dot))
+        by_test (window w.signs p pass.len pass.dot) (position_weight w p) (fits w.signs p pass.len pass.dot) (is_covered pass.level P H (window w.signs p pass.len pass.dot) pass.dot) (counts_as pass.level (status_at P w p)) (each (window w.signs p pass.len pass.dot))
 
 -- so each candidate has at the dot a value below the level
 pub candidates_are_low : (m : Minima) (words : List Word) (pass : Pass) (P : List ((List ℕ × ℕ) × ℕ)) (H : Hopeless) → 1 ≤ pass.level → All (λ u. value_of P (u, pass.dot) < pass.level) (candidates (counted_positions m words pass P H))

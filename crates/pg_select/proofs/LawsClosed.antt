@@ -12,7 +12,7 @@ use Rattle.pg_translate.specs.Reach.{positions}
 use Rattle.pg_patterns.specs.DottedSigns.{dotted_cmp}
 use Rattle.pg_patterns.specs.Values.{raise, applies}
 use Rattle.pg_select.specs.Statuses.{status_at, position_weight}
-use Rattle.pg_select.specs.Windows.{Hopeless, window, fits, covered}
+use Rattle.pg_select.specs.Windows.{Hopeless, window, fits, is_covered}
 use Rattle.pg_select.specs.declared.pass.Pass.{Pass}
 use Rattle.pg_select.specs.CountedPositions.{Minima, CountedPosition, Candidate, counts_as, counted_at, counted_positions_at, counted_positions, same_signs, candidates, good_of, bad_of, tally}
 use Rattle.pg_select.specs.Inside.WordCounts.{counted_positions_in}
@@ -46,22 +46,22 @@ stands_same : (u v : List ℕ) (dot : ℕ) → same_signs u v ≡ true → appli
 stands_same u v dot same = ap (λ (x : List ℕ). applies u dot (x, dot)) (sym (same_window u v same)) ∙ applies_itself u dot
 
 -- each window that was raised is covered
-covered_all_raised : (level dot : ℕ) (P : List ((List ℕ × ℕ) × ℕ)) (H : Hopeless) (u : List ℕ) (cs : List Candidate) → is_among u cs ≡ true → covered level (raised_all level dot P cs) H u dot ≡ true
+covered_all_raised : (level dot : ℕ) (P : List ((List ℕ × ℕ) × ℕ)) (H : Hopeless) (u : List ℕ) (cs : List Candidate) → is_among u cs ≡ true → is_covered level (raised_all level dot P cs) H u dot ≡ true
 covered_all_raised level dot P H u [] among = cc
 covered_all_raised level dot P H u (c ∷ cs) among =
     ⊎_elim
     (λ (same : same_signs u c.window ≡ true). (later_all_raised level dot (raise P (c.window, dot) level) H cs).covers u dot
-    (covered_raised level P H (c.window, dot) u dot ∙ or_left (applies u dot (c.window, dot)) (covered level P H u dot) (stands_same u c.window dot same)))
+    (covered_raised level P H (c.window, dot) u dot ∙ or_left (applies u dot (c.window, dot)) (is_covered level P H u dot) (stands_same u c.window dot same)))
     (λ (rest : is_among u cs ≡ true). covered_all_raised level dot (raise P (c.window, dot) level) H u cs rest)
     (or_cases (same_signs u c.window) (is_among u cs) among)
 
 -- and so is each that was made hopeless
-covered_all_hopeless : (level dot : ℕ) (P : List ((List ℕ × ℕ) × ℕ)) (H : Hopeless) (u : List ℕ) (cs : List Candidate) → is_among u cs ≡ true → covered level P (hopeless_all dot H cs) u dot ≡ true
+covered_all_hopeless : (level dot : ℕ) (P : List ((List ℕ × ℕ) × ℕ)) (H : Hopeless) (u : List ℕ) (cs : List Candidate) → is_among u cs ≡ true → is_covered level P (hopeless_all dot H cs) u dot ≡ true
 covered_all_hopeless level dot P H u [] among = cc
 covered_all_hopeless level dot P H u (c ∷ cs) among =
     ⊎_elim
     (λ (same : same_signs u c.window ≡ true). (later_all_hopeless level dot P (put dotted_cmp (c.window, dot) (tt {0}) H) cs).covers u dot
-    (covered_hopeless level P H (c.window, dot) u dot ∙ or_left (applies u dot (c.window, dot)) (covered level P H u dot) (stands_same u c.window dot same)))
+    (covered_hopeless level P H (c.window, dot) u dot ∙ or_left (applies u dot (c.window, dot)) (is_covered level P H u dot) (stands_same u c.window dot same)))
     (λ (rest : is_among u cs ≡ true). covered_all_hopeless level dot P (put dotted_cmp (c.window, dot) (tt {0}) H) u cs rest)
     (or_cases (same_signs u c.window) (is_among u cs) among)
 
@@ -79,21 +79,21 @@ nil_tested {Y = Y} test f g each (x ∷ xs) all =
 
 -- where all that a pass counted is covered later, it counts nothing then
 pub closed_when_covered : (m : Minima) (words : List Word) (pass : Pass) (P P' : List ((List ℕ × ℕ) × ℕ)) (H H' : Hopeless) → Later pass.level P H P' H'
-    → list_all (λ u. covered pass.level P' H' u pass.dot) (candidates (counted_positions m words pass P H)) ≡ true → counted_positions m words pass P' H' ≡ []
+    → list_all (λ u. is_covered pass.level P' H' u pass.dot) (candidates (counted_positions m words pass P H)) ≡ true → counted_positions m words pass P' H' ≡ []
 closed_when_covered m words pass P P' H H' later all =
-    nil_tested (λ (s : CountedPosition). covered pass.level P' H' s.window pass.dot) (counted_positions_in m pass P H) (counted_positions_in m pass P' H') (λ w.
-    nil_tested (λ (s : CountedPosition). covered pass.level P' H' s.window pass.dot) (counted_positions_at pass P H w) (counted_positions_at pass P' H' w) (λ p.
-    seen_tested (λ (u : List ℕ). covered pass.level P' H' u pass.dot) (window w.signs p pass.len pass.dot) (position_weight w p) (counted_at pass P H w p) (counted_at pass P' H' w p)
+    nil_tested (λ (s : CountedPosition). is_covered pass.level P' H' s.window pass.dot) (counted_positions_in m pass P H) (counted_positions_in m pass P' H') (λ w.
+    nil_tested (λ (s : CountedPosition). is_covered pass.level P' H' s.window pass.dot) (counted_positions_at pass P H w) (counted_positions_at pass P' H' w) (λ p.
+    seen_tested (λ (u : List ℕ). is_covered pass.level P' H' u pass.dot) (window w.signs p pass.len pass.dot) (position_weight w p) (counted_at pass P H w p) (counted_at pass P' H' w p)
     (λ g counted. counted_back pass P P' H H' w p g later counted)
     (λ g counted. uncovered w p g counted))
     (positions m.left m.right (length w.signs)))
     words
-    (sym (all_candidates (λ (u : List ℕ). covered pass.level P' H' u pass.dot) (counted_positions m words pass P H)) ∙ all)
+    (sym (all_candidates (λ (u : List ℕ). is_covered pass.level P' H' u pass.dot) (counted_positions m words pass P H)) ∙ all)
   where
-    uncovered : (w : Word) (p : ℕ) (g : Bool) → counted_at pass P' H' w p ≡ Some g → covered pass.level P' H' (window w.signs p pass.len pass.dot) pass.dot ≡ false
+    uncovered : (w : Word) (p : ℕ) (g : Bool) → counted_at pass P' H' w p ≡ Some g → is_covered pass.level P' H' (window w.signs p pass.len pass.dot) pass.dot ≡ false
     uncovered w p g is =
-        let parts = some_parts (fits w.signs p pass.len pass.dot && not (covered pass.level P' H' (window w.signs p pass.len pass.dot) pass.dot)) (counts_as pass.level (status_at P' w p)) g is in
-        not-true (covered pass.level P' H' (window w.signs p pass.len pass.dot) pass.dot) (and_parts (fits w.signs p pass.len pass.dot) (not (covered pass.level P' H' (window w.signs p pass.len pass.dot) pass.dot)) parts.0).1
+        let parts = some_parts (fits w.signs p pass.len pass.dot && not (is_covered pass.level P' H' (window w.signs p pass.len pass.dot) pass.dot)) (counts_as pass.level (status_at P' w p)) g is in
+        not-true (is_covered pass.level P' H' (window w.signs p pass.len pass.dot) pass.dot) (and_parts (fits w.signs p pass.len pass.dot) (not (is_covered pass.level P' H' (window w.signs p pass.len pass.dot) pass.dot)) parts.0).1
 
 pub all_weaker : {X : Type 0} (t s : X → Bool) → ((x : X) → t x ≡ true → s x ≡ true) → (xs : List X) → list_all t xs ≡ true → list_all s xs ≡ true
 all_weaker t s more [] all = refl
@@ -135,11 +135,11 @@ all_decided raised hopeless (c ∷ cs) all =
 
 -- candidates that were each raised or made hopeless are covered
 decided_covered : (level dot : ℕ) (P : List ((List ℕ × ℕ) × ℕ)) (H : Hopeless) (raised hopeless : Candidate → Bool) (cs : List Candidate) → list_all (λ c. raised c || hopeless c) cs ≡ true
-    → list_all (λ c. covered level (raised_all level dot P (filter raised cs)) (hopeless_all dot H (filter hopeless cs)) c.window dot) cs ≡ true
+    → list_all (λ c. is_covered level (raised_all level dot P (filter raised cs)) (hopeless_all dot H (filter hopeless cs)) c.window dot) cs ≡ true
 decided_covered level dot P H raised hopeless cs all =
-    all_weaker (is_decided raised hopeless cs) (λ (c : Candidate). covered level (raised_all level dot P (filter raised cs)) (hopeless_all dot H (filter hopeless cs)) c.window dot) (λ c decided. covers c decided) cs (all_decided raised hopeless cs all)
+    all_weaker (is_decided raised hopeless cs) (λ (c : Candidate). is_covered level (raised_all level dot P (filter raised cs)) (hopeless_all dot H (filter hopeless cs)) c.window dot) (λ c decided. covers c decided) cs (all_decided raised hopeless cs all)
   where
-    covers : (c : Candidate) → is_decided raised hopeless cs c ≡ true → covered level (raised_all level dot P (filter raised cs)) (hopeless_all dot H (filter hopeless cs)) c.window dot ≡ true
+    covers : (c : Candidate) → is_decided raised hopeless cs c ≡ true → is_covered level (raised_all level dot P (filter raised cs)) (hopeless_all dot H (filter hopeless cs)) c.window dot ≡ true
     covers c decided =
         ⊎_elim
         (λ (among : is_among c.window (filter raised cs) ≡ true).
@@ -159,6 +159,6 @@ closed_at_end m words pass P H raised hopeless all = from (tally (counted_positi
     from : (cs : List Candidate) → tally (counted_positions m words pass P H) ≡ cs → list_all (λ c. raised c || hopeless c) cs ≡ true → counted_positions m words pass (raised_all pass.level pass.dot P (filter raised cs)) (hopeless_all pass.dot H (filter hopeless cs)) ≡ []
     from cs is all =
         closed_when_covered m words pass P (raised_all pass.level pass.dot P (filter raised cs)) H (hopeless_all pass.dot H (filter hopeless cs)) (later_after_pass pass.level pass.dot P H (filter raised cs) (filter hopeless cs))
-        (sym (windows_of (λ (u : List ℕ). covered pass.level (raised_all pass.level pass.dot P (filter raised cs)) (hopeless_all pass.dot H (filter hopeless cs)) u pass.dot) (counted_positions m words pass P H) (candidates (counted_positions m words pass P H)))
-        ∙ ap (λ (xs : List Candidate). list_all (λ (c : Candidate). covered pass.level (raised_all pass.level pass.dot P (filter raised cs)) (hopeless_all pass.dot H (filter hopeless cs)) c.window pass.dot) xs) is
+        (sym (windows_of (λ (u : List ℕ). is_covered pass.level (raised_all pass.level pass.dot P (filter raised cs)) (hopeless_all pass.dot H (filter hopeless cs)) u pass.dot) (counted_positions m words pass P H) (candidates (counted_positions m words pass P H)))
+        ∙ ap (λ (xs : List Candidate). list_all (λ (c : Candidate). is_covered pass.level (raised_all pass.level pass.dot P (filter raised cs)) (hopeless_all pass.dot H (filter hopeless cs)) c.window pass.dot) xs) is
         ∙ decided_covered pass.level pass.dot P H raised hopeless cs all)

@@ -6,11 +6,11 @@ use Rattle.pg_types.specs.declared.limits.TheConstants.{LENGTH_MAX}
 use Rattle.pg_types.specs.declared.marks.Mark.{Mark}
 use Rattle.pg_types.specs.declared.marks.Mark.TheVariants.{Nothing, Error, Missed, Found, DontCare}
 use Rattle.pg_dict.specs.Word.{Word}
-use Rattle.pg_patterns.specs.Values.{applies, best, value_at}
+use Rattle.pg_patterns.specs.Values.{applies, greatest_value, value_at}
 use Rattle.pg_patterns.proofs.Joins.{only}
 use Rattle.pg_select.specs.Inside.Laws.{Later}
 use Rattle.pg_select.specs.Statuses.{is_odd, status, status_at}
-use Rattle.pg_select.specs.Windows.{Hopeless, window, fits, covered, Patterns}
+use Rattle.pg_select.specs.Windows.{Hopeless, window, fits, is_covered, Patterns}
 use Rattle.pg_select.specs.declared.pass.Pass.{Pass}
 use Rattle.pg_select.specs.CountedPositions.{Minima, Candidate, counts_as, counted_at, counted_positions, tally}
 use Rattle.pg_select.proofs.LawsLater.{none_at_level, counted_back}
@@ -18,7 +18,7 @@ use Rattle.pg_select.proofs.LawsLonger.{counted_behind, counted_before}
 use Rattle.pg_select.proofs.LawsClosed.{later_after_pass}
 use Rattle.pg_select.proofs.LawsTally.{is_counted_window}
 use Rattle.pg_select.specs.Inside.LawsSteps.{CoversUpTo, IsBelow, IsUpTo, candidate_at, is_candidate, patterns_after_pass, hopeless_after_pass}
-use Rattle.pg_select.specs.Inside.LawsClosedDots.{longer}
+use Rattle.pg_select.specs.Inside.LawsClosedDots.{closed_at_next_length}
 use Rattle.pg_select.specs.Inside.LawsClosedDots.{is_good, pass_at, Tells, IsDone, closed_after, Stays}
 use Rattle.pg_select.proofs.LawsLengths.{length_step, nothing_covered, fits_parts, fits_from}
 use Rattle.pg_select.proofs.LawsRaised.{counted_uncovered, values_after, covers_after}
@@ -88,20 +88,20 @@ fits_behind w p len d fit = let sizes : (d ≤ p) × (p - d + (len + 1) ≤ leng
 fits_before : (w : List ℕ) (p len d : ℕ) → 1 ≤ d → fits w p (len + 1) d ≡ true → fits w p len (d - 1) ≡ true
 fits_before w p len d one fit = let sizes : (d ≤ p) × (p - d + (len + 1) ≤ length w) = fits_parts w p (len + 1) d fit in fits_from w p len (d - 1) (omega arith) (omega arith)
 
-pub tells_longer : (level len : ℕ) (P : Patterns) (H : Hopeless) (w : Word) (p : ℕ) (closed : ℕ → Bool) → CoversUpTo level len P H → Tells level len P H w p closed → Tells level (len + 1) P H w p (longer closed)
+pub tells_longer : (level len : ℕ) (P : Patterns) (H : Hopeless) (w : Word) (p : ℕ) (closed : ℕ → Bool) → CoversUpTo level len P H → Tells level len P H w p closed → Tells level (len + 1) P H w p (closed_at_next_length closed)
 tells_longer level len P H w p closed short tells d within = by_fit (fits w.signs p (len + 1) d) refl
   where
-    by_fit : (f : Bool) → fits w.signs p (len + 1) d ≡ f → cond (f && not (covered level P H (window w.signs p (len + 1) d) d)) (counts_as level (status_at P w p)) None ≡ cond (f && not (longer closed d)) (Some (is_good level w p)) None
+    by_fit : (f : Bool) → fits w.signs p (len + 1) d ≡ f → cond (f && not (is_covered level P H (window w.signs p (len + 1) d) d)) (counts_as level (status_at P w p)) None ≡ cond (f && not (closed_at_next_length closed d)) (Some (is_good level w p)) None
     by_fit false fit = refl
     by_fit true fit =
         ap (λ b. cond (not b) (counts_as level (status_at P w p)) None) (length_step level len P H w.signs p d short fit)
-        ∙ longer_step (covered level P H (window w.signs p len d) d) (closed d) (nat_le 1 d) (covered level P H (window w.signs p len (d - 1)) (d - 1)) (closed (d - 1)) (counts_as level (status_at P w p)) (is_good level w p)
-        (opened (fits w.signs p len d) (covered level P H (window w.signs p len d) d) (closed d) (counts_as level (status_at P w p)) (is_good level w p) (fits_behind w.signs p len d fit) (tells d within))
-        (λ one. opened (fits w.signs p len (d - 1)) (covered level P H (window w.signs p len (d - 1)) (d - 1)) (closed (d - 1)) (counts_as level (status_at P w p)) (is_good level w p) (fits_before w.signs p len d (leb-true 1 d one) fit) (tells (d - 1) (omega arith)))
+        ∙ longer_step (is_covered level P H (window w.signs p len d) d) (closed d) (nat_le 1 d) (is_covered level P H (window w.signs p len (d - 1)) (d - 1)) (closed (d - 1)) (counts_as level (status_at P w p)) (is_good level w p)
+        (opened (fits w.signs p len d) (is_covered level P H (window w.signs p len d) d) (closed d) (counts_as level (status_at P w p)) (is_good level w p) (fits_behind w.signs p len d fit) (tells d within))
+        (λ one. opened (fits w.signs p len (d - 1)) (is_covered level P H (window w.signs p len (d - 1)) (d - 1)) (closed (d - 1)) (counts_as level (status_at P w p)) (is_good level w p) (fits_before w.signs p len d (leb-true 1 d one) fit) (tells (d - 1) (omega arith)))
 
 -- what is done
 pub done_by_status : (level len : ℕ) (P : Patterns) (H : Hopeless) (w : Word) (p : ℕ) → counts_as level (status_at P w p) ≡ None → IsDone level len P H w p
-done_by_status level len P H w p is d within = none_either (fits w.signs p len d && not (covered level P H (window w.signs p len d) d)) (counts_as level (status_at P w p)) is
+done_by_status level len P H w p is d within = none_either (fits w.signs p len d && not (is_covered level P H (window w.signs p len d) d)) (counts_as level (status_at P w p)) is
 
 pub done_when_closed : (level len : ℕ) (P : Patterns) (H : Hopeless) (w : Word) (p : ℕ) (closed : ℕ → Bool) → len ≤ LENGTH_MAX → ((d : ℕ) → d ≤ len → fits w.signs p len d ≡ true → closed d ≡ true) → Tells level len P H w p closed → IsDone level len P H w p
 done_when_closed level len P H w p closed short all tells d within = tells d (omega arith) ∙ by_fit (fits w.signs p len d) (closed d) (λ fit. all d within fit)
@@ -130,12 +130,12 @@ module _ (m : Minima) (words : List Word) (pass : Pass) (P : Patterns) (H : Hope
       none_from (counted_at (pass_at pass.level pass.len d) (patterns_after_pass m words pass P H raised) (hopeless_after_pass m words pass P H hopeless) w p) (λ g counts.
       none_some (counted_at (pass_at pass.level pass.len d) P H w p) g (done d within) (counted_back (pass_at pass.level pass.len d) P (patterns_after_pass m words pass P H raised) H (hopeless_after_pass m words pass P H hopeless) w p g later counts))
 
-pub best_up_to : (level : ℕ) (t : List ℕ × ℕ → Bool) (P : Patterns) → IsUpTo level P → best t P ≤ level
+pub best_up_to : (level : ℕ) (t : List ℕ × ℕ → Bool) (P : Patterns) → IsUpTo level P → greatest_value t P ≤ level
 best_up_to level t [] upto = omega arith
 best_up_to level t (e ∷ es) upto =
     let parts = and_parts (nat_le e.1 level) (list_all (λ (x : (List ℕ × ℕ) × ℕ). nat_le x.1 level) es) upto in
     let here : e.1 ≤ level = leb-true e.1 level parts.0 in
-    let rest : best t es ≤ level = best_up_to level t es parts.1 in
+    let rest : greatest_value t es ≤ level = best_up_to level t es parts.1 in
     let one : only (t e.0) e.1 ≤ level = at_most (t e.0) e.1 here in
     omega arith
   where
@@ -166,10 +166,10 @@ status_same m words pass P H raised w p none =
 
 module _ (m : Minima) (words : List Word) (pass : Pass) (P : Patterns) (H : Hopeless) (raised hopeless : Candidate → Bool) (w : Word) (p : ℕ) where
   pub hopeless_stop : fits w.signs p pass.len pass.dot ≡ true → is_candidate hopeless (counted_positions m words pass P H) (window w.signs p pass.len pass.dot) ≡ true
-      → covered pass.level (patterns_after_pass m words pass P H raised) (hopeless_after_pass m words pass P H hopeless) (window w.signs p pass.len pass.dot) pass.dot ≡ true
+      → is_covered pass.level (patterns_after_pass m words pass P H raised) (hopeless_after_pass m words pass P H hopeless) (window w.signs p pass.len pass.dot) pass.dot ≡ true
   hopeless_stop fit is =
       covers_after m words pass P H raised hopeless w.signs p pass.dot fit
-      ∙ or_left (nat_eq pass.dot pass.dot && (is_candidate raised (counted_positions m words pass P H) (window w.signs p pass.len pass.dot) || is_candidate hopeless (counted_positions m words pass P H) (window w.signs p pass.len pass.dot))) (covered pass.level P H (window w.signs p pass.len pass.dot) pass.dot)
+      ∙ or_left (nat_eq pass.dot pass.dot && (is_candidate raised (counted_positions m words pass P H) (window w.signs p pass.len pass.dot) || is_candidate hopeless (counted_positions m words pass P H) (window w.signs p pass.len pass.dot))) (is_covered pass.level P H (window w.signs p pass.len pass.dot) pass.dot)
       (and_from (nat_eq pass.dot pass.dot) (is_candidate raised (counted_positions m words pass P H) (window w.signs p pass.len pass.dot) || is_candidate hopeless (counted_positions m words pass P H) (window w.signs p pass.len pass.dot)) (eq-eqb pass.dot pass.dot refl) (second (is_candidate raised (counted_positions m words pass P H) (window w.signs p pass.len pass.dot)) is))
     where
       second : (a : Bool) {b : Bool} → b ≡ true → (a || b) ≡ true
@@ -182,7 +182,7 @@ module _ (m : Minima) (words : List Word) (pass : Pass) (P : Patterns) (H : Hope
       → Stays pass.level pass.len P H (patterns_after_pass m words pass P H raised) (hopeless_after_pass m words pass P H hopeless) w p
   stays_from unraised others = record {
     status = status_same m words pass P H raised w p unraised;
-    covers = λ d fit. covers_after m words pass P H raised hopeless w.signs p d fit ∙ ap (λ b. b || covered pass.level P H (window w.signs p pass.len d) d) (others d fit);
+    covers = λ d fit. covers_after m words pass P H raised hopeless w.signs p d fit ∙ ap (λ b. b || is_covered pass.level P H (window w.signs p pass.len d) d) (others d fit);
   }
 
   pub left_stay : is_candidate raised (counted_positions m words pass P H) (window w.signs p pass.len pass.dot) ≡ false → is_candidate hopeless (counted_positions m words pass P H) (window w.signs p pass.len pass.dot) ≡ false
@@ -210,7 +210,7 @@ module _ (m : Minima) (words : List Word) (pass : Pass) (P : Patterns) (H : Hope
       clash d same fit = cc (unfit, same, fit)
 
   -- a window that is covered is not counted, so that it is not decided
-  unseen : (test : Candidate → Bool) → covered pass.level P H (window w.signs p pass.len pass.dot) pass.dot ≡ true → is_candidate test (counted_positions m words pass P H) (window w.signs p pass.len pass.dot) ≡ false
+  unseen : (test : Candidate → Bool) → is_covered pass.level P H (window w.signs p pass.len pass.dot) pass.dot ≡ true → is_candidate test (counted_positions m words pass P H) (window w.signs p pass.len pass.dot) ≡ false
   unseen test is =
       and_left (is_counted_window (counted_positions m words pass P H) (window w.signs p pass.len pass.dot)) (test (candidate_at (counted_positions m words pass P H) (window w.signs p pass.len pass.dot)))
       (⊎_elim
@@ -221,14 +221,14 @@ module _ (m : Minima) (words : List Word) (pass : Pass) (P : Patterns) (H : Hope
       clash : {b : Bool} → b ≡ false → b ≡ true → ⊥
       clash off on = cc (off, on)
 
-  covered_stay : covered pass.level P H (window w.signs p pass.len pass.dot) pass.dot ≡ true → Stays pass.level pass.len P H (patterns_after_pass m words pass P H raised) (hopeless_after_pass m words pass P H hopeless) w p
+  covered_stay : is_covered pass.level P H (window w.signs p pass.len pass.dot) pass.dot ≡ true → Stays pass.level pass.len P H (patterns_after_pass m words pass P H raised) (hopeless_after_pass m words pass P H hopeless) w p
   covered_stay is = left_stay (unseen raised is) (unseen hopeless is)
 
   pub uncounted_stay : (good : Bool) → counts_as pass.level (status_at P w p) ≡ Some good → counted_at pass P H w p ≡ None
       → Stays pass.level pass.len P H (patterns_after_pass m words pass P H raised) (hopeless_after_pass m words pass P H hopeless) w p
-  uncounted_stay good counts none = by_tests (fits w.signs p pass.len pass.dot) (covered pass.level P H (window w.signs p pass.len pass.dot) pass.dot) refl refl none
+  uncounted_stay good counts none = by_tests (fits w.signs p pass.len pass.dot) (is_covered pass.level P H (window w.signs p pass.len pass.dot) pass.dot) refl refl none
     where
-      by_tests : (f c : Bool) → fits w.signs p pass.len pass.dot ≡ f → covered pass.level P H (window w.signs p pass.len pass.dot) pass.dot ≡ c → cond (f && not c) (counts_as pass.level (status_at P w p)) None ≡ None
+      by_tests : (f c : Bool) → fits w.signs p pass.len pass.dot ≡ f → is_covered pass.level P H (window w.signs p pass.len pass.dot) pass.dot ≡ c → cond (f && not c) (counts_as pass.level (status_at P w p)) None ≡ None
           → Stays pass.level pass.len P H (patterns_after_pass m words pass P H raised) (hopeless_after_pass m words pass P H hopeless) w p
       by_tests false c fit cover is = unfit_stay fit
       by_tests true true fit cover is = covered_stay cover
@@ -239,8 +239,8 @@ module _ (m : Minima) (words : List Word) (pass : Pass) (P : Patterns) (H : Hope
       → Tells pass.level pass.len (patterns_after_pass m words pass P H raised) (hopeless_after_pass m words pass P H hopeless) w p closed
   tells_stay closed stays tells d within = by_fit (fits w.signs p pass.len d) refl (tells d within)
     where
-      by_fit : (f : Bool) → fits w.signs p pass.len d ≡ f → cond (f && not (covered pass.level P H (window w.signs p pass.len d) d)) (counts_as pass.level (status_at P w p)) None ≡ cond (f && not (closed d)) (Some (is_good pass.level w p)) None
-          → cond (f && not (covered pass.level (patterns_after_pass m words pass P H raised) (hopeless_after_pass m words pass P H hopeless) (window w.signs p pass.len d) d)) (counts_as pass.level (status_at (patterns_after_pass m words pass P H raised) w p)) None ≡ cond (f && not (closed d)) (Some (is_good pass.level w p)) None
+      by_fit : (f : Bool) → fits w.signs p pass.len d ≡ f → cond (f && not (is_covered pass.level P H (window w.signs p pass.len d) d)) (counts_as pass.level (status_at P w p)) None ≡ cond (f && not (closed d)) (Some (is_good pass.level w p)) None
+          → cond (f && not (is_covered pass.level (patterns_after_pass m words pass P H raised) (hopeless_after_pass m words pass P H hopeless) (window w.signs p pass.len d) d)) (counts_as pass.level (status_at (patterns_after_pass m words pass P H raised) w p)) None ≡ cond (f && not (closed d)) (Some (is_good pass.level w p)) None
       by_fit false fit is = refl
       by_fit true fit is = (λ i. cond (not (stays.covers d fit i)) (counts_as pass.level (stays.status i)) None) ∙ is
 
@@ -254,8 +254,8 @@ module _ (m : Minima) (words : List Word) (pass : Pass) (P : Patterns) (H : Hope
       by_status : counts_as pass.level (status_at P w p) ≡ None → Tells pass.level pass.len (patterns_after_pass m words pass P H raised) (hopeless_after_pass m words pass P H hopeless) w p closed
       by_status none d within =
           none_from (counted_at (pass_at pass.level pass.len d) (patterns_after_pass m words pass P H raised) (hopeless_after_pass m words pass P H hopeless) w p)
-          (λ g counts. none_some (counted_at (pass_at pass.level pass.len d) P H w p) g (none_either (fits w.signs p pass.len d && not (covered pass.level P H (window w.signs p pass.len d) d)) (counts_as pass.level (status_at P w p)) none) (counted_back (pass_at pass.level pass.len d) P (patterns_after_pass m words pass P H raised) H (hopeless_after_pass m words pass P H hopeless) w p g (later m words pass P H raised hopeless w p) counts))
-          ∙ sym (none_either (fits w.signs p pass.len d && not (covered pass.level P H (window w.signs p pass.len d) d)) (counts_as pass.level (status_at P w p)) none)
+          (λ g counts. none_some (counted_at (pass_at pass.level pass.len d) P H w p) g (none_either (fits w.signs p pass.len d && not (is_covered pass.level P H (window w.signs p pass.len d) d)) (counts_as pass.level (status_at P w p)) none) (counted_back (pass_at pass.level pass.len d) P (patterns_after_pass m words pass P H raised) H (hopeless_after_pass m words pass P H hopeless) w p g (later m words pass P H raised hopeless w p) counts))
+          ∙ sym (none_either (fits w.signs p pass.len d && not (is_covered pass.level P H (window w.signs p pass.len d) d)) (counts_as pass.level (status_at P w p)) none)
           ∙ tells d within
 
       -- where the position was not counted
@@ -281,13 +281,13 @@ module _ (m : Minima) (words : List Word) (pass : Pass) (P : Patterns) (H : Hope
           both false c true o g is = is
           both false c false o g is = is
 
-          by_fit : (f : Bool) → fits w.signs p pass.len d ≡ f → cond (f && not (covered pass.level P H (window w.signs p pass.len d) d)) (counts_as pass.level (status_at P w p)) None ≡ cond (f && not (closed d)) (Some (is_good pass.level w p)) None
-              → cond (f && not (covered pass.level (patterns_after_pass m words pass P H raised) (hopeless_after_pass m words pass P H hopeless) (window w.signs p pass.len d) d)) (counts_as pass.level (status_at (patterns_after_pass m words pass P H raised) w p)) None ≡ cond (f && not (closed d || (nat_eq d pass.dot && is_candidate hopeless (counted_positions m words pass P H) (window w.signs p pass.len pass.dot)))) (Some (is_good pass.level w p)) None
+          by_fit : (f : Bool) → fits w.signs p pass.len d ≡ f → cond (f && not (is_covered pass.level P H (window w.signs p pass.len d) d)) (counts_as pass.level (status_at P w p)) None ≡ cond (f && not (closed d)) (Some (is_good pass.level w p)) None
+              → cond (f && not (is_covered pass.level (patterns_after_pass m words pass P H raised) (hopeless_after_pass m words pass P H hopeless) (window w.signs p pass.len d) d)) (counts_as pass.level (status_at (patterns_after_pass m words pass P H raised) w p)) None ≡ cond (f && not (closed d || (nat_eq d pass.dot && is_candidate hopeless (counted_positions m words pass P H) (window w.signs p pass.len pass.dot)))) (Some (is_good pass.level w p)) None
           by_fit false fit is = refl
           by_fit true fit is =
               (λ i. cond (not (covers_after m words pass P H raised hopeless w.signs p d fit i)) (counts_as pass.level (status_same m words pass P H raised w p (ap (λ b. fits w.signs p pass.len pass.dot && b) unraised ∙ none (fits w.signs p pass.len pass.dot)) i)) None)
-              ∙ ap (λ b. cond (not ((nat_eq d pass.dot && (b || is_candidate hopeless (counted_positions m words pass P H) (window w.signs p pass.len pass.dot))) || covered pass.level P H (window w.signs p pass.len d) d)) (counts_as pass.level (status_at P w p)) None) unraised
-              ∙ both (nat_eq d pass.dot && is_candidate hopeless (counted_positions m words pass P H) (window w.signs p pass.len pass.dot)) (covered pass.level P H (window w.signs p pass.len d) d) (closed d) (counts_as pass.level (status_at P w p)) (is_good pass.level w p) is
+              ∙ ap (λ b. cond (not ((nat_eq d pass.dot && (b || is_candidate hopeless (counted_positions m words pass P H) (window w.signs p pass.len pass.dot))) || is_covered pass.level P H (window w.signs p pass.len d) d)) (counts_as pass.level (status_at P w p)) None) unraised
+              ∙ both (nat_eq d pass.dot && is_candidate hopeless (counted_positions m words pass P H) (window w.signs p pass.len pass.dot)) (is_covered pass.level P H (window w.signs p pass.len d) d) (closed d) (counts_as pass.level (status_at P w p)) (is_good pass.level w p) is
 
       by_tests : (f x r : Bool) → fits w.signs p pass.len pass.dot ≡ f → closed pass.dot ≡ x → is_candidate raised (counted_positions m words pass P H) (window w.signs p pass.len pass.dot) ≡ r
           → Tells pass.level pass.len (patterns_after_pass m words pass P H raised) (hopeless_after_pass m words pass P H hopeless) w p (λ d. cond (f && not x) (r || (closed d || (nat_eq d pass.dot && is_candidate hopeless (counted_positions m words pass P H) (window w.signs p pass.len pass.dot)))) (closed d))
@@ -295,7 +295,7 @@ module _ (m : Minima) (words : List Word) (pass : Pass) (P : Patterns) (H : Hope
       by_tests true true r fit shut is = uncounted true true fit shut refl
       by_tests true false false fit shut is = counted_left is
       by_tests true false true fit shut is = λ d within.
-          none_either (fits w.signs p pass.len d && not (covered pass.level (patterns_after_pass m words pass P H raised) (hopeless_after_pass m words pass P H hopeless) (window w.signs p pass.len d) d)) (counts_as pass.level (status_at (patterns_after_pass m words pass P H raised) w p)) (raised_stop m words pass P H raised w p upto fit is)
+          none_either (fits w.signs p pass.len d && not (is_covered pass.level (patterns_after_pass m words pass P H raised) (hopeless_after_pass m words pass P H hopeless) (window w.signs p pass.len d) d)) (counts_as pass.level (status_at (patterns_after_pass m words pass P H raised) w p)) (raised_stop m words pass P H raised w p upto fit is)
           ∙ shut_all (fits w.signs p pass.len d)
         where
           shut_all : (f : Bool) → None ≡ cond (f && not true) (Some (is_good pass.level w p)) None

@@ -9,7 +9,7 @@ use Rattle.pg_translate.specs.Reach.{positions}
 use Rattle.pg_patterns.specs.DottedSigns.{dotted_cmp}
 use Rattle.pg_patterns.specs.Values.{raise, applies, value_at}
 use Rattle.pg_select.specs.Statuses.{is_odd, status, status_at, position_weight}
-use Rattle.pg_select.specs.Windows.{Hopeless, window, fits, covered}
+use Rattle.pg_select.specs.Windows.{Hopeless, window, fits, is_covered}
 use Rattle.pg_select.specs.declared.pass.Pass.{Pass}
 use Rattle.pg_select.specs.CountedPositions.{Minima, counts_as, counted_at, counted_positions_at, counted_positions}
 use Rattle.pg_select.specs.Inside.WordCounts.{counted_positions_in}
@@ -43,13 +43,13 @@ later_still level P P' P'' H H' H'' first second = record {
 pub later_raised : (level : ℕ) (P : List ((List ℕ × ℕ) × ℕ)) (H : Hopeless) (k : List ℕ × ℕ) → Later level P H (raise P k level) H
 later_raised level P H k = record {
   values = λ w p. raised_to P k level w p;
-  covers = λ u d is. covered_raised level P H k u d ∙ or_right (applies u d k) (covered level P H u d) is;
+  covers = λ u d is. covered_raised level P H k u d ∙ or_right (applies u d k) (is_covered level P H u d) is;
 }
 
 pub later_hopeless : (level : ℕ) (P : List ((List ℕ × ℕ) × ℕ)) (H : Hopeless) (k : List ℕ × ℕ) → Later level P H P (put dotted_cmp k (tt {0}) H)
 later_hopeless level P H k = record {
   values = λ w p. inl refl;
-  covers = λ u d is. covered_hopeless level P H k u d ∙ or_right (applies u d k) (covered level P H u d) is;
+  covers = λ u d is. covered_hopeless level P H k u d ∙ or_right (applies u d k) (is_covered level P H u d) is;
 }
 
 -- what a test lets through
@@ -85,11 +85,11 @@ status_back level P P' H H' w p good later is =
 
 pub counted_back : (pass : Pass) (P P' : List ((List ℕ × ℕ) × ℕ)) (H H' : Hopeless) (w : Word) (p : ℕ) (good : Bool) → Later pass.level P H P' H' → counted_at pass P' H' w p ≡ Some good → counted_at pass P H w p ≡ Some good
 counted_back pass P P' H H' w p good later is =
-    let parts = some_parts (fits w.signs p pass.len pass.dot && not (covered pass.level P' H' (window w.signs p pass.len pass.dot) pass.dot)) (counts_as pass.level (status_at P' w p)) good is in
-    let tests = and_parts (fits w.signs p pass.len pass.dot) (not (covered pass.level P' H' (window w.signs p pass.len pass.dot) pass.dot)) parts.0 in
-    some_from (fits w.signs p pass.len pass.dot && not (covered pass.level P H (window w.signs p pass.len pass.dot) pass.dot)) (counts_as pass.level (status_at P w p)) good
-    (and_from (fits w.signs p pass.len pass.dot) (not (covered pass.level P H (window w.signs p pass.len pass.dot) pass.dot)) tests.0
-    (uncovered_back (covered pass.level P H (window w.signs p pass.len pass.dot) pass.dot) (covered pass.level P' H' (window w.signs p pass.len pass.dot) pass.dot) (later.covers (window w.signs p pass.len pass.dot) pass.dot) tests.1))
+    let parts = some_parts (fits w.signs p pass.len pass.dot && not (is_covered pass.level P' H' (window w.signs p pass.len pass.dot) pass.dot)) (counts_as pass.level (status_at P' w p)) good is in
+    let tests = and_parts (fits w.signs p pass.len pass.dot) (not (is_covered pass.level P' H' (window w.signs p pass.len pass.dot) pass.dot)) parts.0 in
+    some_from (fits w.signs p pass.len pass.dot && not (is_covered pass.level P H (window w.signs p pass.len pass.dot) pass.dot)) (counts_as pass.level (status_at P w p)) good
+    (and_from (fits w.signs p pass.len pass.dot) (not (is_covered pass.level P H (window w.signs p pass.len pass.dot) pass.dot)) tests.0
+    (uncovered_back (is_covered pass.level P H (window w.signs p pass.len pass.dot) pass.dot) (is_covered pass.level P' H' (window w.signs p pass.len pass.dot) pass.dot) (later.covers (window w.signs p pass.len pass.dot) pass.dot) tests.1))
     (status_back pass.level P P' H H' w p good later parts.1)
 
 nil_parts : {X : Type 0} (xs ys : List X) → xs ++ ys ≡ [] → (xs ≡ []) × (ys ≡ [])

@@ -3,7 +3,7 @@ use Rattle.std.proofs.Common.{◌≡◌, ℕ, ◌+◌, ◌-◌, ◌<◌, ◌≤�
 use Rattle.std.specs.List.{list_any, list_all}
 use Rattle.std.proofs.lemmas.Bool.{and_parts, and_from, le-leb, leb-true, or_left, or_right, or_cases, cases_lt}
 use Rattle.pg_patterns.specs.Values.{stands_at, applies}
-use Rattle.pg_select.specs.Windows.{Hopeless, window, fits, covered, Patterns}
+use Rattle.pg_select.specs.Windows.{Hopeless, window, fits, is_covered, Patterns}
 use Rattle.pg_select.proofs.LawsLonger.{stands_wider}
 use Rattle.pg_select.specs.Inside.LawsSteps.{CoversUpTo, IsBelow}
 use Rattle.std.specs.Cmp.{both_ways}
@@ -90,7 +90,7 @@ any_split limit f g h b each (x ∷ xs) all =
 
 -- the length step
 pub length_step : (level len : ℕ) (P : Patterns) (H : Hopeless) (w : List ℕ) (p d : ℕ) → CoversUpTo level len P H → fits w p (len + 1) d ≡ true
-    → covered level P H (window w p (len + 1) d) d ≡ (covered level P H (window w p len d) d || (nat_le 1 d && covered level P H (window w p len (d - 1)) (d - 1)))
+    → is_covered level P H (window w p (len + 1) d) d ≡ (is_covered level P H (window w p len d) d || (nat_le 1 d && is_covered level P H (window w p len (d - 1)) (d - 1)))
 length_step level len P H w p d short fit =
     (λ i. patterns i || places i)
     ∙ grouped (nat_le 1 d)
@@ -126,7 +126,7 @@ length_step level len P H w p d short fit =
         H short.hopeless
 
 -- at a level's start nothing is covered
-pub nothing_covered : (level : ℕ) (P : Patterns) (u : List ℕ) (d : ℕ) → IsBelow level P → covered level P [] u d ≡ false
+pub nothing_covered : (level : ℕ) (P : Patterns) (u : List ℕ) (d : ℕ) → IsBelow level P → is_covered level P [] u d ≡ false
 nothing_covered level [] u d all = refl
 nothing_covered level (e ∷ es) u d all =
     let parts = and_parts (not (nat_le level e.1)) (list_all (λ (x : (List ℕ × ℕ) × ℕ). not (nat_le level x.1)) es) all in

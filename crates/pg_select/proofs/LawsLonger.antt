@@ -7,7 +7,7 @@ use Rattle.std.proofs.lemmas.List.{take-take, drop-take, drop-drop}
 use Rattle.pg_dict.specs.Word.{Word}
 use Rattle.pg_patterns.specs.Values.{stands_at, applies}
 use Rattle.pg_select.specs.Statuses.{status_at}
-use Rattle.pg_select.specs.Windows.{Hopeless, window, fits, covered}
+use Rattle.pg_select.specs.Windows.{Hopeless, window, fits, is_covered}
 use Rattle.pg_select.specs.declared.pass.Pass.{Pass}
 use Rattle.pg_select.specs.CountedPositions.{Minima, counts_as, counted_at, counted_positions}
 use Rattle.pg_select.specs.Inside.Laws.{longer_behind, longer_before}
@@ -48,7 +48,7 @@ any_weaker t s more (x ∷ xs) is = by_test (t x) (s x) (list_any t xs) (list_an
     by_test false b c d here rest is = or_right b d (rest is)
 
 -- what covers a window covers another in which all stands that stands in it
-covered_wider : (level : ℕ) (P : List ((List ℕ × ℕ) × ℕ)) (H : Hopeless) (u v : List ℕ) (d e : ℕ) → ((k : List ℕ × ℕ) → applies u d k ≡ true → applies v e k ≡ true) → covered level P H u d ≡ true → covered level P H v e ≡ true
+covered_wider : (level : ℕ) (P : List ((List ℕ × ℕ) × ℕ)) (H : Hopeless) (u v : List ℕ) (d e : ℕ) → ((k : List ℕ × ℕ) → applies u d k ≡ true → applies v e k ≡ true) → is_covered level P H u d ≡ true → is_covered level P H v e ≡ true
 covered_wider level P H u v d e more is =
     by_test (list_any (λ (x : (List ℕ × ℕ) × ℕ). nat_le level x.1 && applies u d x.0) P) (list_any (λ (x : (List ℕ × ℕ) × ℕ). nat_le level x.1 && applies v e x.0) P) (list_any (λ (x : (List ℕ × ℕ) × Unit {0}). applies u d x.0) H) (list_any (λ (x : (List ℕ × ℕ) × Unit {0}). applies v e x.0) H)
     (any_weaker (λ (x : (List ℕ × ℕ) × ℕ). nat_le level x.1 && applies u d x.0) (λ (x : (List ℕ × ℕ) × ℕ). nat_le level x.1 && applies v e x.0) (λ x pass. let parts = and_parts (nat_le level x.1) (applies u d x.0) pass in and_from (nat_le level x.1) (applies v e x.0) parts.0 (more x.0 parts.1)) P)
@@ -64,13 +64,13 @@ counted_in : (pass other : Pass) (P : List ((List ℕ × ℕ) × ℕ)) (H : Hope
     → (fits w.signs p other.len other.dot ≡ true → (fits w.signs p pass.len pass.dot ≡ true) × ((k : List ℕ × ℕ) → applies (window w.signs p pass.len pass.dot) pass.dot k ≡ true → applies (window w.signs p other.len other.dot) other.dot k ≡ true))
     → counted_at other P H w p ≡ Some good → counted_at pass P H w p ≡ Some good
 counted_in pass other P H w p good level inner is =
-    let parts = some_parts (fits w.signs p other.len other.dot && not (covered other.level P H (window w.signs p other.len other.dot) other.dot)) (counts_as other.level (status_at P w p)) good is in
-    let tests = and_parts (fits w.signs p other.len other.dot) (not (covered other.level P H (window w.signs p other.len other.dot) other.dot)) parts.0 in
+    let parts = some_parts (fits w.signs p other.len other.dot && not (is_covered other.level P H (window w.signs p other.len other.dot) other.dot)) (counts_as other.level (status_at P w p)) good is in
+    let tests = and_parts (fits w.signs p other.len other.dot) (not (is_covered other.level P H (window w.signs p other.len other.dot) other.dot)) parts.0 in
     let inside = inner tests.0 in
-    some_from (fits w.signs p pass.len pass.dot && not (covered pass.level P H (window w.signs p pass.len pass.dot) pass.dot)) (counts_as pass.level (status_at P w p)) good
-    (and_from (fits w.signs p pass.len pass.dot) (not (covered pass.level P H (window w.signs p pass.len pass.dot) pass.dot)) inside.0
-    (uncovered_back (covered pass.level P H (window w.signs p pass.len pass.dot) pass.dot) (covered other.level P H (window w.signs p other.len other.dot) other.dot)
-    (λ cover. ap (λ (l : ℕ). covered l P H (window w.signs p other.len other.dot) other.dot) level ∙ covered_wider pass.level P H (window w.signs p pass.len pass.dot) (window w.signs p other.len other.dot) pass.dot other.dot inside.1 cover)
+    some_from (fits w.signs p pass.len pass.dot && not (is_covered pass.level P H (window w.signs p pass.len pass.dot) pass.dot)) (counts_as pass.level (status_at P w p)) good
+    (and_from (fits w.signs p pass.len pass.dot) (not (is_covered pass.level P H (window w.signs p pass.len pass.dot) pass.dot)) inside.0
+    (uncovered_back (is_covered pass.level P H (window w.signs p pass.len pass.dot) pass.dot) (is_covered other.level P H (window w.signs p other.len other.dot) other.dot)
+    (λ cover. ap (λ (l : ℕ). is_covered l P H (window w.signs p other.len other.dot) other.dot) level ∙ covered_wider pass.level P H (window w.signs p pass.len pass.dot) (window w.signs p other.len other.dot) pass.dot other.dot inside.1 cover)
     tests.1))
     (ap (λ (l : ℕ). counts_as l (status_at P w p)) (sym level) ∙ parts.1)
 

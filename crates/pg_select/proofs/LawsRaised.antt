@@ -15,7 +15,7 @@ use Rattle.pg_patterns.specs.Values.{raise, applies, stands_at, value_at}
 use Rattle.pg_patterns.proofs.Joins.{only}
 use Rattle.pg_select.specs.Inside.Laws.{raised_all, hopeless_all}
 use Rattle.pg_select.specs.Statuses.{status_at, position_weight}
-use Rattle.pg_select.specs.Windows.{Hopeless, window, fits, covered, Patterns}
+use Rattle.pg_select.specs.Windows.{Hopeless, window, fits, is_covered, Patterns}
 use Rattle.pg_select.specs.declared.pass.Pass.{Pass}
 use Rattle.pg_select.specs.CountedPositions.{Minima, CountedPosition, Candidate, counts_as, counted_positions_at, counted_positions, same_signs, candidates, tally}
 use Rattle.pg_select.specs.Inside.WordCounts.{counted_positions_in}
@@ -32,7 +32,7 @@ same_itself u = ap is_eq (tied_itself nat_list_cmp_total u)
 
 -- what holds of the windows that fit and are not covered holds of those that are counted
 pub all_seen : (test : List ℕ → Bool) (m : Minima) (words : List Word) (pass : Pass) (P : Patterns) (H : Hopeless)
-    → ((w : List ℕ) (p : ℕ) → fits w p pass.len pass.dot ≡ true → covered pass.level P H (window w p pass.len pass.dot) pass.dot ≡ false → test (window w p pass.len pass.dot) ≡ true) → list_all (λ (s : CountedPosition). test s.window) (counted_positions m words pass P H) ≡ true
+    → ((w : List ℕ) (p : ℕ) → fits w p pass.len pass.dot ≡ true → is_covered pass.level P H (window w p pass.len pass.dot) pass.dot ≡ false → test (window w p pass.len pass.dot) ≡ true) → list_all (λ (s : CountedPosition). test s.window) (counted_positions m words pass P H) ≡ true
 all_seen test m words pass P H each =
     all_flat (λ (s : CountedPosition). test s.window) (counted_positions_in m pass P H) words (λ w.
     all_flat (λ (s : CountedPosition). test s.window) (counted_positions_at pass P H w) (positions m.left m.right (length w.signs)) (λ p. at w p))
@@ -45,7 +45,7 @@ all_seen test m words pass P H each =
 
     at : (w : Word) (p : ℕ) → list_all (λ (s : CountedPosition). test s.window) (counted_positions_at pass P H w p) ≡ true
     at w p =
-        by_test (window w.signs p pass.len pass.dot) (position_weight w p) (fits w.signs p pass.len pass.dot) (covered pass.level P H (window w.signs p pass.len pass.dot) pass.dot) (counts_as pass.level (status_at P w p)) (each w.signs p)
+        by_test (window w.signs p pass.len pass.dot) (position_weight w p) (fits w.signs p pass.len pass.dot) (is_covered pass.level P H (window w.signs p pass.len pass.dot) pass.dot) (counts_as pass.level (status_at P w p)) (each w.signs p)
 
 -- what holds of all that is counted holds of a window that is counted
 all_of_seen : (test : List ℕ → Bool) (u : List ℕ) (counted : List CountedPosition) → list_all (λ (s : CountedPosition). test s.window) counted ≡ true → is_counted_window counted u ≡ true → test u ≡ true
@@ -58,16 +58,16 @@ all_of_seen test u (s ∷ counted) all is =
     (or_cases (same_signs u s.window) (is_counted_window counted u) is)
 
 -- the windows that are counted have the length of the pass, and none is covered
-pub counted_uncovered : (m : Minima) (words : List Word) (pass : Pass) (P : Patterns) (H : Hopeless) (u : List ℕ) → is_counted_window (counted_positions m words pass P H) u ≡ true → (length u ≡ pass.len) × (covered pass.level P H u pass.dot ≡ false)
+pub counted_uncovered : (m : Minima) (words : List Word) (pass : Pass) (P : Patterns) (H : Hopeless) (u : List ℕ) → is_counted_window (counted_positions m words pass P H) u ≡ true → (length u ≡ pass.len) × (is_covered pass.level P H u pass.dot ≡ false)
 counted_uncovered m words pass P H u is =
-    let tested = all_of_seen (λ (v : List ℕ). nat_eq (length v) pass.len && not (covered pass.level P H v pass.dot)) u (counted_positions m words pass P H)
-    (all_seen (λ (v : List ℕ). nat_eq (length v) pass.len && not (covered pass.level P H v pass.dot)) m words pass P H
-    (λ w p fit none. and_from (nat_eq (length (window w p pass.len pass.dot)) pass.len) (not (covered pass.level P H (window w p pass.len pass.dot) pass.dot))
+    let tested = all_of_seen (λ (v : List ℕ). nat_eq (length v) pass.len && not (is_covered pass.level P H v pass.dot)) u (counted_positions m words pass P H)
+    (all_seen (λ (v : List ℕ). nat_eq (length v) pass.len && not (is_covered pass.level P H v pass.dot)) m words pass P H
+    (λ w p fit none. and_from (nat_eq (length (window w p pass.len pass.dot)) pass.len) (not (is_covered pass.level P H (window w p pass.len pass.dot) pass.dot))
     (eq-eqb (length (window w p pass.len pass.dot)) pass.len (part_length w (p - pass.dot) pass.len (fits_parts w p pass.len pass.dot fit).1))
     (ap not none)))
     is in
-    let parts = and_parts (nat_eq (length u) pass.len) (not (covered pass.level P H u pass.dot)) tested in
-    (eqb-true (length u) pass.len parts.0, not-true (covered pass.level P H u pass.dot) parts.1)
+    let parts = and_parts (nat_eq (length u) pass.len) (not (is_covered pass.level P H u pass.dot)) tested in
+    (eqb-true (length u) pass.len parts.0, not-true (is_covered pass.level P H u pass.dot) parts.1)
 
 -- the candidates that pass a test are the windows that are counted and pass it
 among_windows : (test : Candidate → Bool) (counted : List CountedPosition) (u : List ℕ) (us : List (List ℕ)) → is_among u (filter test (map (candidate_at counted) us)) ≡ (list_any (same_signs u) us && test (candidate_at counted u))
@@ -208,19 +208,19 @@ turned true true c = refl
 turned true false c = refl
 turned false b c = refl
 
-cover_raised : (level dot : ℕ) (P : Patterns) (H : Hopeless) (u : List ℕ) (d : ℕ) (cs : List Candidate) → covered level (raised_all level dot P cs) H u d ≡ (list_any (λ (c : Candidate). applies u d (c.window, dot)) cs || covered level P H u d)
+cover_raised : (level dot : ℕ) (P : Patterns) (H : Hopeless) (u : List ℕ) (d : ℕ) (cs : List Candidate) → is_covered level (raised_all level dot P cs) H u d ≡ (list_any (λ (c : Candidate). applies u d (c.window, dot)) cs || is_covered level P H u d)
 cover_raised level dot P H u d [] = refl
 cover_raised level dot P H u d (c ∷ cs) =
     cover_raised level dot (raise P (c.window, dot) level) H u d cs
     ∙ ap (λ b. list_any (λ (x : Candidate). applies u d (x.window, dot)) cs || b) (covered_raised level P H (c.window, dot) u d)
-    ∙ turned (applies u d (c.window, dot)) (list_any (λ (x : Candidate). applies u d (x.window, dot)) cs) (covered level P H u d)
+    ∙ turned (applies u d (c.window, dot)) (list_any (λ (x : Candidate). applies u d (x.window, dot)) cs) (is_covered level P H u d)
 
-cover_hopeless : (level dot : ℕ) (P : Patterns) (H : Hopeless) (u : List ℕ) (d : ℕ) (cs : List Candidate) → covered level P (hopeless_all dot H cs) u d ≡ (list_any (λ (c : Candidate). applies u d (c.window, dot)) cs || covered level P H u d)
+cover_hopeless : (level dot : ℕ) (P : Patterns) (H : Hopeless) (u : List ℕ) (d : ℕ) (cs : List Candidate) → is_covered level P (hopeless_all dot H cs) u d ≡ (list_any (λ (c : Candidate). applies u d (c.window, dot)) cs || is_covered level P H u d)
 cover_hopeless level dot P H u d [] = refl
 cover_hopeless level dot P H u d (c ∷ cs) =
     cover_hopeless level dot P (put dotted_cmp (c.window, dot) (tt {0}) H) u d cs
     ∙ ap (λ b. list_any (λ (x : Candidate). applies u d (x.window, dot)) cs || b) (covered_hopeless level P H (c.window, dot) u d)
-    ∙ turned (applies u d (c.window, dot)) (list_any (λ (x : Candidate). applies u d (x.window, dot)) cs) (covered level P H u d)
+    ∙ turned (applies u d (c.window, dot)) (list_any (λ (x : Candidate). applies u d (x.window, dot)) cs) (is_covered level P H u d)
 
 pub values_after : (m : Minima) (words : List Word) (pass : Pass) (P : Patterns) (H : Hopeless) (raised : Candidate → Bool) (w : List ℕ) (p : ℕ)
     → value_at (patterns_after_pass m words pass P H raised) w p ≡ max (cond (fits w p pass.len pass.dot && is_candidate raised (counted_positions m words pass P H) (window w p pass.len pass.dot)) pass.level 0) (value_at P w p)
@@ -231,13 +231,13 @@ values_after m words pass P H raised w p =
     ∙ ap (λ b. fits w p pass.len pass.dot && b) (among_candidates raised (counted_positions m words pass P H) (window w p pass.len pass.dot)))
 
 pub covers_after : (m : Minima) (words : List Word) (pass : Pass) (P : Patterns) (H : Hopeless) (raised hopeless : Candidate → Bool) (w : List ℕ) (p d : ℕ) → fits w p pass.len d ≡ true
-    → covered pass.level (patterns_after_pass m words pass P H raised) (hopeless_after_pass m words pass P H hopeless) (window w p pass.len d) d
-    ≡ ((nat_eq d pass.dot && (is_candidate raised (counted_positions m words pass P H) (window w p pass.len pass.dot) || is_candidate hopeless (counted_positions m words pass P H) (window w p pass.len pass.dot))) || covered pass.level P H (window w p pass.len d) d)
+    → is_covered pass.level (patterns_after_pass m words pass P H raised) (hopeless_after_pass m words pass P H hopeless) (window w p pass.len d) d
+    ≡ ((nat_eq d pass.dot && (is_candidate raised (counted_positions m words pass P H) (window w p pass.len pass.dot) || is_candidate hopeless (counted_positions m words pass P H) (window w p pass.len pass.dot))) || is_covered pass.level P H (window w p pass.len d) d)
 covers_after m words pass P H raised hopeless w p d fit =
     cover_hopeless pass.level pass.dot (patterns_after_pass m words pass P H raised) H (window w p pass.len d) d (filter hopeless (tally (counted_positions m words pass P H)))
     ∙ ap (λ b. list_any (λ (x : Candidate). applies (window w p pass.len d) d (x.window, pass.dot)) (filter hopeless (tally (counted_positions m words pass P H))) || b) (cover_raised pass.level pass.dot P H (window w p pass.len d) d (filter raised (tally (counted_positions m words pass P H))))
-    ∙ (λ i. those hopeless i || (those raised i || covered pass.level P H (window w p pass.len d) d))
-    ∙ grouped (nat_eq d pass.dot) (is_candidate raised (counted_positions m words pass P H) (window w p pass.len pass.dot)) (is_candidate hopeless (counted_positions m words pass P H) (window w p pass.len pass.dot)) (covered pass.level P H (window w p pass.len d) d)
+    ∙ (λ i. those hopeless i || (those raised i || is_covered pass.level P H (window w p pass.len d) d))
+    ∙ grouped (nat_eq d pass.dot) (is_candidate raised (counted_positions m words pass P H) (window w p pass.len pass.dot)) (is_candidate hopeless (counted_positions m words pass P H) (window w p pass.len pass.dot)) (is_covered pass.level P H (window w p pass.len d) d)
   where
     those : (test : Candidate → Bool) → list_any (λ (x : Candidate). applies (window w p pass.len d) d (x.window, pass.dot)) (filter test (tally (counted_positions m words pass P H))) ≡ (nat_eq d pass.dot && is_candidate test (counted_positions m words pass P H) (window w p pass.len pass.dot))
     those test =

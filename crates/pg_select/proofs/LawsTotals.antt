@@ -18,7 +18,7 @@ use Rattle.pg_patterns.specs.Values.{applies, value_at}
 use Rattle.pg_select.specs.Statuses.{is_odd, status_at, position_weight}
 use Rattle.pg_select.specs.Sums.{weight_of, marks_in, totals}
 use Rattle.pg_select.specs.Inside.SumSteps.{is_found, is_error, is_missed}
-use Rattle.pg_select.specs.Windows.{Hopeless, window, fits, covered, Patterns}
+use Rattle.pg_select.specs.Windows.{Hopeless, window, fits, is_covered, Patterns}
 use Rattle.pg_select.specs.declared.pass.Pass.{Pass}
 use Rattle.pg_select.specs.CountedPositions.{Minima, CountedPosition, Candidate, counts_as, counted_at, counted_positions_at, counted_positions, same_signs, with_window, candidates, tally}
 use Rattle.pg_select.specs.Inside.WordCounts.{counted_positions_in}
@@ -330,7 +330,7 @@ module _ (m : Minima) (words : List Word) (pass : Pass) (P : Patterns) (H : Hope
   moved_is : (kind : Bool → Bool) → sum_by (part_of kind) (counted_positions_at pass P H w p) ≡ changed_weight kind (position_weight w p) rises counts_before
   moved_is kind =
       single kind (counted_at pass P H w p)
-      ∙ changed_one kind (position_weight w p) (fits w.signs p pass.len pass.dot) is_raised (covered pass.level P H (window w.signs p pass.len pass.dot) pass.dot) (counts_as pass.level (status_at P w p))
+      ∙ changed_one kind (position_weight w p) (fits w.signs p pass.len pass.dot) is_raised (is_covered pass.level P H (window w.signs p pass.len pass.dot) pass.dot) (counts_as pass.level (status_at P w p))
       (λ is. (counted_uncovered m words pass P H (window w.signs p pass.len pass.dot) (and_parts (is_counted_window (counted_positions m words pass P H) (window w.signs p pass.len pass.dot)) (raised (candidate_at (counted_positions m words pass P H) (window w.signs p pass.len pass.dot))) is).0).1)
       ∙ ap (λ (o : Option Bool). changed_weight kind (position_weight w p) rises o) (counts_by pass.level (status_at P w p))
 

@@ -7,28 +7,28 @@ use Rattle.std.specs.List.{list_any}
 use Rattle.std.specs.FinMap.Entries.{put, find, by_order}
 use Rattle.std.proofs.lemmas.Bool.{le-leb, cases_lt, and_parts}
 use Rattle.pg_patterns.specs.DottedSigns.{dotted_cmp}
-use Rattle.pg_patterns.specs.Inside.PlaceOrder.{dotted_exact}
-use Rattle.pg_patterns.specs.Values.{value_of, raise, best, applies, value_at}
+use Rattle.pg_patterns.specs.Inside.DottedOrder.{dotted_exact}
+use Rattle.pg_patterns.specs.Values.{value_of, raise, greatest_value, applies, value_at}
 use Rattle.pg_types.proofs.BoolFacts.{equal_is}
 use Rattle.pg_patterns.proofs.Joins.{only}
-use Rattle.pg_select.specs.Windows.{Hopeless, covered}
+use Rattle.pg_select.specs.Windows.{Hopeless, is_covered}
 
 -- a greater value at a place is the greatest wherever the place passes
-best_put : (t : List ℕ × ℕ → Bool) (k : List ℕ × ℕ) (v : ℕ) (es : List ((List ℕ × ℕ) × ℕ)) → value_of es k ≤ v → best t (put dotted_cmp k v es) ≡ max (only (t k) v) (best t es)
+best_put : (t : List ℕ × ℕ → Bool) (k : List ℕ × ℕ) (v : ℕ) (es : List ((List ℕ × ℕ) × ℕ)) → value_of es k ≤ v → greatest_value t (put dotted_cmp k v es) ≡ max (only (t k) v) (greatest_value t es)
 best_put t k v [] low = refl
 best_put t k v (e ∷ es) low =
-    elim (dotted_cmp k e.0) as (λ (r : Ordering). dotted_cmp k e.0 ≡ r → best t (by_order r ((k, v) ∷ e ∷ es) ((e.0, v) ∷ es) (e ∷ put dotted_cmp k v es)) ≡ max (only (t k) v) (max (only (t e.0) e.1) (best t es))) [
+    elim (dotted_cmp k e.0) as (λ (r : Ordering). dotted_cmp k e.0 ≡ r → greatest_value t (by_order r ((k, v) ∷ e ∷ es) ((e.0, v) ∷ es) (e ∷ put dotted_cmp k v es)) ≡ max (only (t k) v) (max (only (t e.0) e.1) (greatest_value t es))) [
       | Less ↦ λ r. refl
       | Equal ↦ λ r.
           let found : value_of (e ∷ es) k ≡ e.1 = ap (λ x. unwrap_or (cond (is_eq x) (Some e.1) (find dotted_cmp k es)) 0) r in
           let here : e.1 ≤ v = omega arith in
-          ap (λ x. max (only (t x) v) (best t es)) (sym (dotted_exact k e.0 r))
-          ∙ over (t k) e.1 v (best t es) here
-          ∙ ap (λ x. max (only (t k) v) (max (only (t x) e.1) (best t es))) (dotted_exact k e.0 r)
+          ap (λ x. max (only (t x) v) (greatest_value t es)) (sym (dotted_exact k e.0 r))
+          ∙ over (t k) e.1 v (greatest_value t es) here
+          ∙ ap (λ x. max (only (t k) v) (max (only (t x) e.1) (greatest_value t es))) (dotted_exact k e.0 r)
       | Greater ↦ λ r.
           let found : value_of (e ∷ es) k ≡ value_of es k = ap (λ x. unwrap_or (cond (is_eq x) (Some e.1) (find dotted_cmp k es)) 0) r in
-          let rest : best t (put dotted_cmp k v es) ≡ max (only (t k) v) (best t es) = best_put t k v es (omega arith) in
-          ap (λ n. max (only (t e.0) e.1) n) rest ∙ turned (only (t e.0) e.1) (only (t k) v) (best t es)
+          let rest : greatest_value t (put dotted_cmp k v es) ≡ max (only (t k) v) (greatest_value t es) = best_put t k v es (omega arith) in
+          ap (λ n. max (only (t e.0) e.1) n) rest ∙ turned (only (t e.0) e.1) (only (t k) v) (greatest_value t es)
     ] refl
   where
     over : (b : Bool) (u v n : ℕ) → u ≤ v → max (only b v) n ≡ max (only b v) (max (only b u) n)
@@ -39,14 +39,14 @@ best_put t k v (e ∷ es) low =
     turned a b c = omega arith
 
 -- the value of a place is within the greatest where the place passes
-value_within : (t : List ℕ × ℕ → Bool) (k : List ℕ × ℕ) (es : List ((List ℕ × ℕ) × ℕ)) → t k ≡ true → value_of es k ≤ best t es
+value_within : (t : List ℕ × ℕ → Bool) (k : List ℕ × ℕ) (es : List ((List ℕ × ℕ) × ℕ)) → t k ≡ true → value_of es k ≤ greatest_value t es
 value_within t k [] pass = omega arith
 value_within t k (e ∷ es) pass =
-    elim (eq_by_cmp dotted_cmp k e.0) as (λ (b : Bool). eq_by_cmp dotted_cmp k e.0 ≡ b → unwrap_or (cond b (Some e.1) (find dotted_cmp k es)) 0 ≤ max (only (t e.0) e.1) (best t es)) [
+    elim (eq_by_cmp dotted_cmp k e.0) as (λ (b : Bool). eq_by_cmp dotted_cmp k e.0 ≡ b → unwrap_or (cond b (Some e.1) (find dotted_cmp k es)) 0 ≤ max (only (t e.0) e.1) (greatest_value t es)) [
       | true ↦ λ b.
           let there : only (t e.0) e.1 ≡ e.1 = ap (λ x. only x e.1) (ap t (sym (dotted_exact k e.0 (equal_is (dotted_cmp k e.0) b))) ∙ pass) in
           omega arith
-      | false ↦ λ b. let rest : value_of es k ≤ best t es = value_within t k es pass in omega arith
+      | false ↦ λ b. let rest : value_of es k ≤ greatest_value t es = value_within t k es pass in omega arith
     ] refl
 
 -- a raise raises the values of the positions where its place applies, and no others
@@ -99,7 +99,7 @@ both_tests true b c = refl
 both_tests false b c = refl
 
 -- a place that is raised to the level covers where it applies
-pub covered_raised : (level : ℕ) (P : List ((List ℕ × ℕ) × ℕ)) (H : Hopeless) (k : List ℕ × ℕ) (u : List ℕ) (d : ℕ) → covered level (raise P k level) H u d ≡ (applies u d k || covered level P H u d)
+pub covered_raised : (level : ℕ) (P : List ((List ℕ × ℕ) × ℕ)) (H : Hopeless) (k : List ℕ × ℕ) (u : List ℕ) (d : ℕ) → is_covered level (raise P k level) H u d ≡ (applies u d k || is_covered level P H u d)
 covered_raised level P H k u d =
     let high : nat_le level (max level (value_of P k)) ≡ true = le-leb level (max level (value_of P k)) (omega arith) in
     let here : (nat_le level (max level (value_of P k)) && applies u d k) ≡ applies u d k = ap (λ b. b && applies u d k) high in
@@ -109,7 +109,7 @@ covered_raised level P H k u d =
     ∙ both_tests (applies u d k) (list_any (λ (e : (List ℕ × ℕ) × ℕ). nat_le level e.1 && applies u d e.0) P) (list_any (λ (e : (List ℕ × ℕ) × Unit {0}). applies u d e.0) H)
 
 -- and so does a hopeless place
-pub covered_hopeless : (level : ℕ) (P : List ((List ℕ × ℕ) × ℕ)) (H : Hopeless) (k : List ℕ × ℕ) (u : List ℕ) (d : ℕ) → covered level P (put dotted_cmp k (tt {0}) H) u d ≡ (applies u d k || covered level P H u d)
+pub covered_hopeless : (level : ℕ) (P : List ((List ℕ × ℕ) × ℕ)) (H : Hopeless) (k : List ℕ × ℕ) (u : List ℕ) (d : ℕ) → is_covered level P (put dotted_cmp k (tt {0}) H) u d ≡ (applies u d k || is_covered level P H u d)
 covered_hopeless level P H k u d =
     ap (λ b. list_any (λ (e : (List ℕ × ℕ) × ℕ). nat_le level e.1 && applies u d e.0) P || b) (any_put (λ (e : (List ℕ × ℕ) × Unit {0}). applies u d e.0) k (tt {0}) H (λ x pass. pass))
     ∙ turned (list_any (λ (e : (List ℕ × ℕ) × ℕ). nat_le level e.1 && applies u d e.0) P) (applies u d k) (list_any (λ (e : (List ℕ × ℕ) × Unit {0}). applies u d e.0) H)

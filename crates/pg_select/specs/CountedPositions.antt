@@ -12,7 +12,7 @@ use Rattle.pg_select.specs.declared.pass.Pass.{Pass}
 use Rattle.pg_translate.specs.Alphabets.{Alphabet}
 use Rattle.pg_translate.specs.Reach.{positions}
 use Rattle.pg_select.specs.Statuses.{is_odd, status_at, position_weight}
-use Rattle.pg_select.specs.Windows.{Patterns, Hopeless, window, fits, covered}
+use Rattle.pg_select.specs.Windows.{Patterns, Hopeless, window, fits, is_covered}
 
 -- the minima that say which positions are in reach
 pub record Minima : Type 0 where
@@ -40,7 +40,7 @@ counts_as level DontCare = None
 -- whether a position counts as good or bad in a pass: its window fits, and is not covered
 abbrev pub counted_at : Pass → Patterns → Hopeless → Word → ℕ → Option Bool
 counted_at pass P H w p = if fits w.signs p pass.len pass.dot
-    && not (covered pass.level P H (window w.signs p pass.len pass.dot) pass.dot)
+    && not (is_covered pass.level P H (window w.signs p pass.len pass.dot) pass.dot)
     then counts_as pass.level (status_at P w p) else None
 
 -- what a pass counts at a position

@@ -6,8 +6,7 @@ use Rattle.pg_dict.specs.Word.{Word}
 use Rattle.pg_patterns.specs.Values.{value_at}
 use Rattle.pg_select.specs.Windows.{Patterns}
 
--- whether a number is odd: an odd value breaks the word, and the patterns of an odd level find
--- breaks
+-- whether a number is odd: odd values break the word, and odd levels find breaks
 abbrev pub is_odd : ℕ → Bool
 is_odd n = n % 2 == 1
 

@@ -16,7 +16,7 @@ abbrev pub marks_by : Minima → (ℕ → ℕ) → Word → List (Mark × ℕ)
 marks_by m value w = map (λ p. (status_with w p (value p), position_weight w p))
     (positions m.left m.right (length w.signs))
 
--- the same by the patterns
+-- the mark and the weight of each position in reach, by the patterns
 abbrev pub marks_in : Minima → Patterns → Word → List (Mark × ℕ)
 marks_in m P w = marks_by m (value_at P w.signs) w
 

@@ -3,7 +3,7 @@ ghost use Rattle.std.specs.Prelude.{◌≡◌, ℕ, ◌≤◌, ◌<◌, ◌+◌,
 ghost use Rattle.pg_types.specs.declared.limits.TheConstants.{LEVEL_MAX, LENGTH_MAX, WEIGHT_MAX, WORD_LETTERS_MAX};
 ghost use Rattle.pg_types.specs.Inside.Limits.{begun_before_pass};
 ghost use Rattle.pg_types.specs.Inside.Counts.{AreSmall, IsNextAbove, SignsWithin, counted_sums, sums_of, with_weight, is_counted};
-ghost use Rattle.pg_types.specs.Inside.Numbered.{AreInOrder, HasNumber};
+ghost use Rattle.pg_types.specs.Inside.NumberedWindows.{AreInOrder, HasNumber};
 ghost use Rattle.pg_select.specs.Inside.Meanings.{Meaning, IsKept, KeepsButFamilies, SetsValues, SetsCovers, IsLayout, after_begin_pass, after_count, after_choose, after_give_up, after_end_level};
 
 use crate::word_state::WordState;
@@ -13,7 +13,7 @@ use pg_types::{Cursor, Layout, Sign, Weight};
 use std::alloc::{AllocError, Global};
 
 /// What the levels and passes of a run are made over: patterns that give values to positions,
-/// hopeless places that cover longer windows, and the counts of the windows of a pass.
+/// hopeless dotted strings that cover longer windows, and the counts of the windows of a pass.
 ///
 /// A run begins each pass, counts the windows of the positions that count, and chooses some of the
 /// counted windows and gives up others. It hyphenates each word once at the start of a level, or

@@ -1,6 +1,6 @@
 //! Laws of the definitions of this crate. A call does nothing; its contract is the law.
-ghost use Rattle.pg_select.specs.Inside.Laws.{CandidatesInOrder, CandidatesAreCounted, CountsAreTally, PositionsAreFew, CandidatesAreFew, TotalsAreSmall, CountedAreLight, SumsAreParts, CandidatesAreLow, ChosenGetLevel, OthersStay, NoneFalls, RaisesWhereItApplies, GivenUpKeepsValues, RaisedCovers, HopelessCovers, GivenUpCovers, LaterAtOnce, LaterStill, LaterRaised, LaterHopeless, StatusBack, CountedBack, ClosedLater, CountedShorter, ClosedLonger, LaterAfterPass, ClosedWhenCovered, ClosedAtEnd};
-ghost use Rattle.pg_select.specs.Inside.LawsSteps.{BelowByLargest, UpToLargest, UpToAtStart, NextIsBelow, UpToAfter, CoversUpToAtStart, CoversUpToLonger, CoversUpToAfter, LengthStep, NothingCovered, ValuesAfter, CoversAfter, CountedAreUncovered, TotalsAfter};
+ghost use Rattle.pg_select.specs.Inside.Laws.{CandidatesInOrder, CandidatesAreCounted, CountsAreTally, PositionsAreFew, CandidatesAreFew, TotalsAreSmall, CountedAreLight, SumsAreParts, CandidatesAreLow, ChosenGetLevel, OthersStay, NoneFalls, RaisesWhereItApplies, GivenUpKeepsValues, RaisedCovers, HopelessCovers, GivenUpCovers, LaterAtOnce, LaterStill, LaterRaised, LaterHopeless, StatusBack, CountedBack, CountsNothingLater, CountedShorter, CountsNothingLonger, LaterAfterPass, CountsNothingWhenCovered, CountsNothingAtEnd};
+ghost use Rattle.pg_select.specs.Inside.LawsSteps.{BelowByLargest, UpToLargest, UpToByBelow, NextIsBelow, UpToAfter, CoversUpToByBelow, CoversUpToLonger, CoversUpToAfter, LengthStep, NothingCovered, ValuesAfter, CoversAfter, CountedAreUncovered, TotalsAfter};
 ghost use Rattle.pg_select.specs.Inside.LawsAbove.{AboveStay, TotalsAfterAbove};
 ghost use Rattle.pg_select.specs.Inside.LawsClosedDots.{TellsAtStart, TellsLonger, TellsAfter, DoneByStatus, DoneWhenClosed, DoneLonger, DoneAfter, RaisedStop, HopelessStop, LeftStay, UncountedStay};
 
@@ -34,8 +34,8 @@ pub fn chosen_get_level()
     ensures chosen { ChosenGetLevel }
 {}
 
-/// An entry never falls: a raise leaves the values of the other places, and raises those of
-/// positions where its place applies.
+/// An entry never falls: a raise leaves the values of the other dotted strings, and raises those of
+/// positions where its dotted string applies.
 pub fn entries_never_fall()
     ensures others { OthersStay }
     ensures falls { NoneFalls }
@@ -65,7 +65,7 @@ pub fn levels_go_on()
 pub fn closed_stays_closed()
     ensures statuses { StatusBack }
     ensures counted { CountedBack }
-    ensures closed { ClosedLater }
+    ensures closed { CountsNothingLater }
 {}
 
 /// A position that is not counted with a window is not counted with a longer one, so where a pass
@@ -73,14 +73,14 @@ pub fn closed_stays_closed()
 /// nothing.
 pub fn closed_when_longer()
     ensures counted { CountedShorter }
-    ensures closed { ClosedLonger }
+    ensures closed { CountsNothingLonger }
 {}
 
 /// A pass that left no candidate, as it chose or gave up each of them, counts nothing from its end
 /// to the end of the level.
 pub fn closed_at_end()
-    ensures covered { ClosedWhenCovered }
-    ensures decided { ClosedAtEnd }
+    ensures covered { CountsNothingWhenCovered }
+    ensures decided { CountsNothingAtEnd }
 {}
 
 /// Where the starting patterns of a level have no value as great as it, its passes lead to none
@@ -88,7 +88,7 @@ pub fn closed_at_end()
 pub fn values_up_to_the_level()
     ensures largest { BelowByLargest }
     ensures up_to_largest { UpToLargest }
-    ensures start { UpToAtStart }
+    ensures start { UpToByBelow }
     ensures after { UpToAfter }
     ensures next { NextIsBelow }
 {}
@@ -97,7 +97,7 @@ pub fn values_up_to_the_level()
 /// the two shorter ones in it is.
 pub fn covers_by_length()
     ensures none { NothingCovered }
-    ensures start { CoversUpToAtStart }
+    ensures start { CoversUpToByBelow }
     ensures longer { CoversUpToLonger }
     ensures after { CoversUpToAfter }
     ensures step { LengthStep }

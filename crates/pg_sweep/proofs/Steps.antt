@@ -12,7 +12,7 @@ use Rattle.pg_dict.specs.Parts.{is_in_part, part_from}
 use Rattle.pg_sweep.specs.declared.rows.SweepRow.{SweepRow}
 use Rattle.pg_sweep.specs.Files.{row_data}
 use Rattle.pg_sweep.specs.Inside.Rows.{rows_data}
-use Rattle.pg_sweep.specs.Sweeps.{costs_of, summed}
+use Rattle.pg_sweep.specs.Sweeps.{costs_of, total_of}
 use Rattle.pg_sweep.specs.Inside.Least.{winner_from}
 
 -- a fact of a list that may begin with an element more
@@ -28,17 +28,17 @@ part_signs n folds fold inside i (w ∷ ws) most =
     all_if P (is_in_part folds fold inside i) w (part_from folds fold inside (i + 1) ws) (most 0 w (omega arith)) (part_signs n folds fold inside (i + 1) ws (All-tail P w ws most))
 
 -- the totals of one fold more
-totals_more : (f : ℕ → Totals) (n : ℕ) → record { good = (summed (map f (range_with_len 0 n))).good + (f n).good; bad = (summed (map f (range_with_len 0 n))).bad + (f n).bad; missed = (summed (map f (range_with_len 0 n))).missed + (f n).missed } ≡ summed (map f (range_with_len 0 (n + 1)))
+totals_more : (f : ℕ → Totals) (n : ℕ) → record { good = (total_of (map f (range_with_len 0 n))).good + (f n).good; bad = (total_of (map f (range_with_len 0 n))).bad + (f n).bad; missed = (total_of (map f (range_with_len 0 n))).missed + (f n).missed } ≡ total_of (map f (range_with_len 0 (n + 1)))
 totals_more f n =
     let good : sum_by (λ (t : Totals). t.good) (map f (range_with_len 0 (n + 1))) ≡ sum_by (λ (t : Totals). t.good) (map f (range_with_len 0 n)) + (f n).good = sum_by-map-range_with_len_more (λ (t : Totals). t.good) f 0 n n (omega arith) in
     let bad : sum_by (λ (t : Totals). t.bad) (map f (range_with_len 0 (n + 1))) ≡ sum_by (λ (t : Totals). t.bad) (map f (range_with_len 0 n)) + (f n).bad = sum_by-map-range_with_len_more (λ (t : Totals). t.bad) f 0 n n (omega arith) in
     let missed : sum_by (λ (t : Totals). t.missed) (map f (range_with_len 0 (n + 1))) ≡ sum_by (λ (t : Totals). t.missed) (map f (range_with_len 0 n)) + (f n).missed = sum_by-map-range_with_len_more (λ (t : Totals). t.missed) f 0 n n (omega arith) in
     rw (good, bad, missed) refl
 
-pub totals_step : (f : ℕ → Totals) (n : ℕ) (sums more : Totals) → sums ≡ summed (map f (range_with_len 0 n)) → more ≡ f n → record { good = sums.good + more.good; bad = sums.bad + more.bad; missed = sums.missed + more.missed } ≡ summed (map f (range_with_len 0 (n + 1)))
+pub totals_step : (f : ℕ → Totals) (n : ℕ) (sums more : Totals) → sums ≡ total_of (map f (range_with_len 0 n)) → more ≡ f n → record { good = sums.good + more.good; bad = sums.bad + more.bad; missed = sums.missed + more.missed } ≡ total_of (map f (range_with_len 0 (n + 1)))
 totals_step f n sums more so_far here =
     let both : Totals → Totals → Totals = λ (a b : Totals). record { good = a.good + b.good; bad = a.bad + b.bad; missed = a.missed + b.missed } in
-    ap (λ (a : Totals). both a more) so_far ∙ ap (λ (b : Totals). both (summed (map f (range_with_len 0 n))) b) here ∙ totals_more f n
+    ap (λ (a : Totals). both a more) so_far ∙ ap (λ (b : Totals). both (total_of (map f (range_with_len 0 n))) b) here ∙ totals_more f n
 
 -- the costs from a row on
 pub costs_from : (rows : List SweepRow) (i : ℕ) (d : SweepRow) → i < length rows → drop i (costs_of rows) ≡ (slice_index_or rows i d).cost ∷ drop (i + 1) (costs_of rows)

@@ -11,32 +11,29 @@ use Rattle.pg_driver.specs.Accounts.{totals_by}
 use Rattle.pg_driver.specs.Traces.{trace, final_patterns, over}
 use Rattle.pg_sweep.specs.declared.rows.SweepRow.{SweepRow}
 
--- what the runs of a sweep share: the table, the words, the patterns to start with, and the number
--- of folds
+-- what the runs of a sweep share: the table, the words, the starting patterns, the number of folds
 pub record Terms : Type 0 where
   pub table : Alphabet
   pub words : List Word
   pub start : Patterns
   pub folds : ℕ
 
--- the totals of the words of a fold by the patterns that are selected from all other words, all
--- under the minima of the table
+-- the totals of a fold by the patterns that are selected from all other words
 abbrev pub fold_totals : Terms → Parameters → ℕ → Totals
 fold_totals s set fold = totals_by (over s.table (part_of s.folds fold true s.words))
     (final_patterns s.start (trace (over s.table (part_of s.folds fold false s.words)) set s.start))
 
 -- the sums of several totals
-abbrev pub summed : List Totals → Totals
-summed ts = record {
+abbrev pub total_of : List Totals → Totals
+total_of ts = record {
   good = sum_by (λ (t : Totals). t.good) ts;
   bad = sum_by (λ (t : Totals). t.bad) ts;
   missed = sum_by (λ (t : Totals). t.missed) ts;
 }
 
--- the row of a set: the totals of all folds together, and what they cost, where a unit of bad and a
--- unit of missed cost this
+-- the row of a set: the totals of all folds together, and what they cost at these prices
 abbrev pub row_of : Terms → ℕ → ℕ → Parameters → SweepRow
-row_of s bad missed set = let t = summed (map (fold_totals s set) (range_with_len 0 s.folds)) in
+row_of s bad missed set = let t = total_of (map (fold_totals s set) (range_with_len 0 s.folds)) in
     record { totals = t; cost = bad * t.bad + missed * t.missed }
 
 -- what the rows cost

@@ -25,9 +25,9 @@ use Rattle.pg_cells.specs.Inside.Walks.{AddsBlanks}
 use Rattle.pg_cells.proofs.PlacementLaws.{cell_of_last}
 use Rattle.pg_cells.proofs.StringMaps.{order, same_string, same_from, equal_or_not, find_put_same, find_put_other}
 use Rattle.pg_table.specs.Inside.Packed.{IsGroup, IsReached, IsEntered, pairs}
-use Rattle.pg_table.specs.Inside.Sharing.{Lists, Shares, turned, with_ends}
-use Rattle.pg_table.specs.Texts.{recorded}
-use Rattle.pg_table.specs.Inside.Files.{layout}
+use Rattle.pg_table.specs.Inside.Sharing.{Lists, Shares, value_and_dot, with_ends}
+use Rattle.pg_table.specs.Texts.{recorded_lists}
+use Rattle.pg_table.specs.Inside.Files.{table_families}
 use Rattle.pg_table.proofs.Groups.{Entry, AreApart, apart_more, others_same, string_so_far, string_whole, strings_left, front_more, part_each}
 use Rattle.pg_table.proofs.RecordedStrings.{with_strings, recorded_is, recorded_ordered, recorded_known}
 use Rattle.pg_table.proofs.TableRecords.{head_is, records_are}
@@ -74,13 +74,13 @@ pub record EnteredTo (n : ℕ) (P : List Entry) (at : ℕ) (h : ValuedFamilies �
   pub within : at ≤ length P
   pub held : AreValuedFamilies h
   pub signs : h.signs ≡ n
-  pub families : h.families ≡ layout n (take at P)
-  pub values : (q : List ℕ) (v : ℕ) → find order q h.values ≡ Some v → (v ≤ length records) × (list_of records v ≡ map turned (outputs_of (take at P) q))
+  pub families : h.families ≡ table_families n (take at P)
+  pub values : (q : List ℕ) (v : ℕ) → find order q h.values ≡ Some v → (v ≤ length records) × (list_of records v ≡ map value_and_dot (outputs_of (take at P) q))
   pub reached : (q : List ℕ) (v : ℕ) → find order q h.values ≡ Some v → IsReached P at q
   pub entered : (q : List ℕ) → outputs_of (take at P) q ≢ [] → (c : ℕ) × (cell_of h.families q ≡ Some c)
   pub lists : Lists
   pub shares : Shares records lists
-  pub left : with_strings P lists (strings_of (drop at P)) ≡ recorded P
+  pub left : with_strings P lists (strings_of (drop at P)) ≡ recorded_lists P
   pub apart : AreApart P at
 
 -- none is entered at first
@@ -108,7 +108,7 @@ entered_none n P records none one_head held = record {
 
 module _ (n : ℕ) (P : List Entry) (sound : IsPatternMap P) (at end : ℕ) (q : List ℕ) (group : IsGroup P q at end) where
   module _ (h h1 h2 : ValuedFamilies ℕ) (rs new : List Record) (head c : ℕ) (to : EnteredTo n P at h rs)
-      (grows : Grows rs new) (inside : head ≤ length new) (list : list_of new head ≡ map turned (pairs P at end)) (shares : (lists : Lists) → Shares rs lists → Shares new (with_ends lists (pairs P at end)))
+      (grows : Grows rs new) (inside : head ≤ length new) (list : list_of new head ≡ map value_and_dot (pairs P at end)) (shares : (lists : Lists) → Shares rs lists → Shares new (with_ends lists (pairs P at end)))
       (held1 : AreValuedFamilies h1) (signs1 : h1.signs ≡ h.signs) (families1 : h1.families ≡ enter h.signs h.families q) (blanks : AddsBlanks q 0 h.values h1.values) (cell : cell_of h1.families q ≡ Some c)
       (held2 : AreValuedFamilies h2) (is2 : h2 ≡ record h1 { values = put order q head h1.values }) where
     families2 : h2.families ≡ h1.families
@@ -133,7 +133,7 @@ module _ (n : ℕ) (P : List Entry) (sound : IsPatternMap P) (at end : ℕ) (q :
         let here : h1.families ≡ enter n h.families q = families1 ∙ ap (λ m. enter m h.families q) to.signs in
         ap (λ fs. enter n fs q) (sym here) ∙ enter_there n h1 held1 q c cell ∙ here
 
-    families_more : h2.families ≡ layout n (take end P)
+    families_more : h2.families ≡ table_families n (take end P)
     families_more =
         let left : length (drop at P) ≡ length P - at = length-drop at P in
         let long : length (take (end - at) (drop at P)) ≡ end - at = length-take-le (end - at) (drop at P) (omega (arith, group.within)) in
@@ -143,19 +143,19 @@ module _ (n : ℕ) (P : List Entry) (sound : IsPatternMap P) (at end : ℕ) (q :
         ∙ ap (λ fs. fold (enter n) fs (map (λ e. e.0.0) (take (end - at) (drop at P)))) to.families
         ∙ sym (fold-append (enter n) (root n) (map (λ e. e.0.0) (take at P)) (map (λ e. e.0.0) (take (end - at) (drop at P))))
         ∙ ap (fold (enter n) (root n)) (sym (map-append (λ e. e.0.0) (take at P) (take (end - at) (drop at P))))
-        ∙ ap (layout n) (sym (front_more P sound.sorted q at end group))
+        ∙ ap (table_families n) (sym (front_more P sound.sorted q at end group))
 
-    values_more : (r : List ℕ) (v : ℕ) → find order r h2.values ≡ Some v → (v ≤ length new) × (list_of new v ≡ map turned (outputs_of (take end P) r))
+    values_more : (r : List ℕ) (v : ℕ) → find order r h2.values ≡ Some v → (v ≤ length new) × (list_of new v ≡ map value_and_dot (outputs_of (take end P) r))
     values_more r v is = elim (equal_or_not r q) [
       | inl same ↦
           let found : Some head ≡ Some v = sym (find_put_same q head h1.values) ∙ ap (find order q) (sym values2) ∙ ap (λ s. find order s h2.values) (sym same.0) ∙ is in
           let here : v ≡ head = cc in
-          (omega (arith, here), ap (list_of new) here ∙ list ∙ ap (map turned) (sym (string_so_far P sound.sorted q at end group to.apart)) ∙ ap (λ s. map turned (outputs_of (take end P) s)) (sym same.0))
+          (omega (arith, here), ap (list_of new) here ∙ list ∙ ap (map value_and_dot) (sym (string_so_far P sound.sorted q at end group to.apart)) ∙ ap (λ s. map value_and_dot (outputs_of (take end P) s)) (sym same.0))
       | inr other ↦ elim (was r v (other_value r v other.0 is)) [
         | inl old ↦
             let before = to.values r v old in
-            (omega (arith, before.0, grows.longer), grows.same v before.0 ∙ before.1 ∙ ap (map turned) (sym (others_same P sound.sorted q at end group r other.0)))
-        | inr fresh ↦ (omega (arith, fresh.0), ap (list_of new) fresh.0 ∙ list_of-zero new ∙ ap (map turned) (sym (others_same P sound.sorted q at end group r other.0 ∙ nothing r fresh.1)))
+            (omega (arith, before.0, grows.longer), grows.same v before.0 ∙ before.1 ∙ ap (map value_and_dot) (sym (others_same P sound.sorted q at end group r other.0)))
+        | inr fresh ↦ (omega (arith, fresh.0), ap (list_of new) fresh.0 ∙ list_of-zero new ∙ ap (map value_and_dot) (sym (others_same P sound.sorted q at end group r other.0 ∙ nothing r fresh.1)))
       ]
     ]
       where
@@ -220,24 +220,24 @@ pub entered_whole : (n : ℕ) (P : List Entry) (at : ℕ) (h : ValuedFamilies �
 entered_whole n P at h records sound past to =
     let whole : take at P ≡ P = take_all at P past in
     let none : drop at P ≡ [] = drop_all at P past in
-    let lists : to.lists ≡ recorded P = ap (λ l. with_strings P to.lists (strings_of l)) (sym none) ∙ to.left in
-    let shares : Shares records (recorded P) = subst (Shares records) lists to.shares in
+    let lists : to.lists ≡ recorded_lists P = ap (λ l. with_strings P to.lists (strings_of l)) (sym none) ∙ to.left in
+    let shares : Shares records (recorded_lists P) = subst (Shares records) lists to.shares in
     let ordered = recorded_ordered P sound.sound in
     record {
       packed = record {
         held = to.held;
         signs = to.signs;
-        families = to.families ∙ ap (layout n) whole;
+        families = to.families ∙ ap (table_families n) whole;
         entered = λ q some. to.entered q (λ e. some (ap (λ l. outputs_of l q) (sym whole) ∙ e));
       };
       heads = λ q v is.
           let value = to.values q v is in
-          head_is records (recorded P) ordered shares (outputs_of P q) v (recorded_known P sound.sound q) value.0 (value.1 ∙ ap (λ l. map turned (outputs_of l q)) whole);
+          head_is records (recorded_lists P) ordered shares (outputs_of P q) v (recorded_known P sound.sound q) value.0 (value.1 ∙ ap (λ l. map value_and_dot (outputs_of l q)) whole);
       reached = λ q v is. elim (to.reached q v is) [
         | inl short ↦ inl short
         | inr some ↦ inr (some.0, some.1, some.2, slice_get_within P some.0 some.2 some.4, some.4, some.5)
       ];
-      records_are = records_are records (recorded P) ordered shares;
+      records_are = records_are records (recorded_lists P) ordered shares;
     }
 
 -- the signs of an entry are signs of the table

@@ -8,8 +8,8 @@ use Rattle.std.proofs.lemmas.Option.{slice_get_within, get_or_from_slice_get}
 use Rattle.pg_types.specs.declared.limits.TheConstants.{PATTERN_SIGNS_MAX}
 use Rattle.pg_dict.specs.Word.{Word}
 use Rattle.pg_translate.specs.Reach.{positions}
-use Rattle.pg_patterns.specs.Inside.PlaceOrder.{same_dotted}
-use Rattle.pg_patterns.specs.Values.{best, applies, stands_at, value_at}
+use Rattle.pg_patterns.specs.Inside.DottedOrder.{same_dotted}
+use Rattle.pg_patterns.specs.Values.{greatest_value, applies, stands_at, value_at}
 use Rattle.pg_patterns.specs.Inside.PatternMaps.{IsPatternMap, is_entry}
 use Rattle.pg_patterns.proofs.Kept.{value_of_sorted}
 use Rattle.pg_patterns.proofs.Sound.{entry_bounds, entry_at}
@@ -38,23 +38,23 @@ greatest_over f a (suc n) i low high = elim (cases_eq i a) [
 ]
 
 -- the best value is within each bound on the entries that pass, and it grows with the test
-best_within : (test : List ℕ × ℕ → Bool) (m : ℕ) (es : List Entry) → ((k : ℕ) (e : Entry) → slice_get es k ≡ Some e → test e.0 ≡ true → e.1 ≤ m) → best test es ≤ m
+best_within : (test : List ℕ × ℕ → Bool) (m : ℕ) (es : List Entry) → ((k : ℕ) (e : Entry) → slice_get es k ≡ Some e → test e.0 ≡ true → e.1 ≤ m) → greatest_value test es ≤ m
 best_within test m [] each = omega arith
 best_within test m (e ∷ es) each =
-    let rest : best test es ≤ m = best_within test m es (λ k f at. each (suc k) f at) in
+    let rest : greatest_value test es ≤ m = best_within test m es (λ k f at. each (suc k) f at) in
     by (test e.0) refl rest
   where
-    by : (b : Bool) → test e.0 ≡ b → best test es ≤ m → max (cond (test e.0) e.1 0) (best test es) ≤ m
+    by : (b : Bool) → test e.0 ≡ b → greatest_value test es ≤ m → max (cond (test e.0) e.1 0) (greatest_value test es) ≤ m
     by true is rest = let here : e.1 ≤ m = each 0 e refl is in let one : cond (test e.0) e.1 0 ≡ e.1 = ap (λ t. cond t e.1 0) is in omega arith
     by false is rest = let one : cond (test e.0) e.1 0 ≡ 0 = ap (λ t. cond t e.1 0) is in omega arith
 
-best_over : (test : List ℕ × ℕ → Bool) (es : List Entry) (k : ℕ) (e : Entry) → slice_get es k ≡ Some e → test e.0 ≡ true → e.1 ≤ best test es
+best_over : (test : List ℕ × ℕ → Bool) (es : List Entry) (k : ℕ) (e : Entry) → slice_get es k ≡ Some e → test e.0 ≡ true → e.1 ≤ greatest_value test es
 best_over test [] k e at is = cc
 best_over test (f ∷ es) zero e at is =
     let same : f ≡ e = cc in
     let one : cond (test f.0) f.1 0 ≡ e.1 = ap (λ (g : Entry). cond (test g.0) g.1 0) same ∙ ap (λ t. cond t e.1 0) is in
     omega arith
-best_over test (f ∷ es) (suc k) e at is = let rest : e.1 ≤ best test es = best_over test es k e at is in omega arith
+best_over test (f ∷ es) (suc k) e at is = let rest : e.1 ≤ greatest_value test es = best_over test es k e at is in omega arith
 
 -- signs that stand in a word are its front there
 front_from : (q w : List ℕ) → starts_with nat_eq w q ≡ true → take (length q) w ≡ q
@@ -90,9 +90,9 @@ module _ (P : List Entry) (b : List ℕ) (sound : IsPatternMap P) (has : HasEntr
           let long : length (drop i w) ≡ length w - i = length-drop i w in
           let size : length q ≡ n = length-take-le n (drop i w) (omega arith) in
           let place : p - (p - i) ≡ i = omega arith in
-          let value : value_from b w p i n ≡ best (same_dotted (q, p - i)) P =
+          let value : value_from b w p i n ≡ greatest_value (same_dotted (q, p - i)) P =
           ap (λ t. cond t (table_entry b q (p - i)) 0) is ∙ has q (p - i) ∙ value_of_sorted P (q, p - i) sound.sorted in
-          let each : best (same_dotted (q, p - i)) P ≤ value_at P w p =
+          let each : greatest_value (same_dotted (q, p - i)) P ≤ value_at P w p =
           best_within (same_dotted (q, p - i)) (value_at P w p) P (λ k e at same.
           let tests = and_parts (pointwise nat_eq q e.0.0) (nat_eq (p - i) e.0.1) same in
           let signs : q ≡ e.0.0 = same_from q e.0.0 (sym (texts_ties q e.0.0) ∙ tests.0) in
@@ -118,9 +118,9 @@ module _ (P : List Entry) (b : List ℕ) (sound : IsPatternMap P) (has : HasEntr
       let dot : p - i ≡ e.0.1 = omega arith in
       let test : (nat_le (i + n) (length w) && (nat_le i p && nat_le (p - i) n)) ≡ true =
       and_from (nat_le (i + n) (length w)) (nat_le i p && nat_le (p - i) n) stands.0 (and_from (nat_le i p) (nat_le (p - i) n) (le-leb i p (omega arith)) (le-leb (p - i) n (omega (arith, ranges.dot)))) in
-      let value : value_from b w p i n ≡ best (same_dotted e.0) P =
+      let value : value_from b w p i n ≡ greatest_value (same_dotted e.0) P =
       ap (λ t. cond t (table_entry b (take n (drop i w)) (p - i)) 0) test ∙ ap (λ q. table_entry b q (p - i)) (front_from e.0.0 (drop i w) stands.1) ∙ ap (table_entry b e.0.0) dot ∙ has e.0.0 e.0.1 ∙ value_of_sorted P e.0 sound.sorted in
-      let own : e.1 ≤ best (same_dotted e.0) P =
+      let own : e.1 ≤ greatest_value (same_dotted e.0) P =
       best_over (same_dotted e.0) P k e at (and_from (pointwise nat_eq e.0.0 e.0.0) (nat_eq e.0.1 e.0.1) (texts_ties e.0.0 e.0.0 ∙ same_itself e.0.0) (eq-eqb e.0.1 e.0.1 refl)) in
       let strings : value_from b w p i n ≤ greatest (value_from b w p i) (range_with_len 1 PATTERN_SIGNS_MAX) = greatest_over (value_from b w p i) 1 PATTERN_SIGNS_MAX n ranges.some (omega (arith, ranges.few)) in
       let starts = greatest_over (λ j. greatest (value_from b w p j) (range_with_len 1 PATTERN_SIGNS_MAX)) 0 (length w) i (omega arith) (omega (arith, ranges.some)) in

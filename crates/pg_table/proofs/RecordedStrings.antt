@@ -12,7 +12,7 @@ use Rattle.pg_types.proofs.BoolFacts.{and_first, and_second}
 use Rattle.pg_patterns.proofs.Sound.{entry_bounds}
 use Rattle.pg_cells.proofs.StringMaps.{same_from}
 use Rattle.pg_table.specs.Inside.Sharing.{Lists, with_ends}
-use Rattle.pg_table.specs.Texts.{with_list, recorded}
+use Rattle.pg_table.specs.Texts.{with_list, recorded_lists}
 use Rattle.pg_table.proofs.Recorded.{Among, AreOrdered, Grows, ends_taken}
 use Rattle.pg_table.proofs.TableRecords.{IsGood}
 
@@ -25,7 +25,7 @@ fold_flat f g b (x ∷ xs) = fold-append f b (g x) (flat_map g xs) ∙ fold_flat
 abbrev pub with_strings : List ((List ℕ × ℕ) × ℕ) → Lists → List (List ℕ) → Lists
 with_strings P lists qs = fold (λ ls q. with_ends ls (outputs_of P q)) lists qs
 
-pub recorded_is : (P : List ((List ℕ × ℕ) × ℕ)) → recorded P ≡ with_strings P [] (strings_of P)
+pub recorded_is : (P : List ((List ℕ × ℕ) × ℕ)) → recorded_lists P ≡ with_strings P [] (strings_of P)
 recorded_is P = fold_flat with_list (λ q. reverse (suffixes (outputs_of P q))) [] (strings_of P)
 
 -- the values of a string are good
@@ -97,10 +97,10 @@ pub none_ordered : AreOrdered IsGood []
 none_ordered = record { each = λ i l at. cc }
 
 module _ (P : List ((List ℕ × ℕ) × ℕ)) (sound : list_all is_entry P ≡ true) where
-  pub recorded_ordered : AreOrdered IsGood (recorded P)
+  pub recorded_ordered : AreOrdered IsGood (recorded_lists P)
   recorded_ordered = subst (AreOrdered IsGood) (sym (recorded_is P)) (strings_taken P sound [] (strings_of P) none_ordered).ordered
 
-  pub recorded_known : (q : List ℕ) → (outputs_of P q ≡ []) ⊎ Among (recorded P) (outputs_of P q)
+  pub recorded_known : (q : List ℕ) → (outputs_of P q ≡ []) ⊎ Among (recorded_lists P) (outputs_of P q)
   recorded_known q = elim (no_outputs P q) [
     | inl none ↦ inl none
     | inr some ↦ subst (λ lists. (outputs_of P q ≡ []) ⊎ Among lists (outputs_of P q)) (sym (recorded_is P)) ((strings_taken P sound [] (strings_of P) none_ordered).there q some)

@@ -10,7 +10,7 @@ use Rattle.pg_outputs.specs.Inside.Records.{AreShared}
 use Rattle.pg_outputs.proofs.ListLaws.{list_of-at, list_of-old, list_of-new}
 use Rattle.pg_outputs.proofs.RecordLaws.{there_or_new}
 use Rattle.pg_table.specs.Inside.Packed.{pairs}
-use Rattle.pg_table.specs.Inside.Sharing.{Lists, turned, Shares}
+use Rattle.pg_table.specs.Inside.Sharing.{Lists, value_and_dot, Shares}
 use Rattle.pg_table.specs.Texts.{with_list}
 use Rattle.pg_table.proofs.Recorded.{test_among, with_cases, get_cases}
 use Rattle.pg_table.proofs.TableRecords.{turned_apart}
@@ -22,7 +22,7 @@ pub record Conses (rs new : List Record) (r : Record) : Type 0 where
   pub one_head : OneHeadEach new
   pub shared : AreShared new
 
-module _ (rs new : List Record) (lists : Lists) (x : ℕ × ℕ) (rest : List (ℕ × ℕ)) (head : ℕ) (shares : Shares rs lists) (inside : head ≤ length rs) (list : list_of rs head ≡ map turned rest) where
+module _ (rs new : List Record) (lists : Lists) (x : ℕ × ℕ) (rest : List (ℕ × ℕ)) (head : ℕ) (shares : Shares rs lists) (inside : head ≤ length rs) (list : list_of rs head ≡ map value_and_dot rest) where
   abbrev r : Record
   r = record { value = x.1; dot = x.0; next = head }
 
@@ -33,9 +33,9 @@ module _ (rs new : List Record) (lists : Lists) (x : ℕ × ℕ) (rest : List (�
       let s : Record = get_or rs i r in
       let s_at : slice_get rs i ≡ Some s = slice_get-get_or rs i r within in
       let back : s.next ≤ i = shares.shared.back i s s_at in
-      let same : (s.value, s.dot) ∷ list_of rs s.next ≡ turned x ∷ map turned rest = sym (list_of-at rs i s s_at back) ∙ shares.each i (x ∷ rest) at in
-      let first : (s.value, s.dot) ≡ turned x = cc in
-      let later : list_of rs s.next ≡ map turned rest = cc in
+      let same : (s.value, s.dot) ∷ list_of rs s.next ≡ value_and_dot x ∷ map value_and_dot rest = sym (list_of-at rs i s s_at back) ∙ shares.each i (x ∷ rest) at in
+      let first : (s.value, s.dot) ≡ value_and_dot x = cc in
+      let later : list_of rs s.next ≡ map value_and_dot rest = cc in
       let next : s.next ≡ head = shares.one_head s.next head (omega arith) inside (later ∙ sym list) in
       let is : s ≡ r = λ t. record { value = (first t).0; dot = (first t).1; next = next t } in
       s_at ∙ ap Some is
@@ -47,7 +47,7 @@ module _ (rs new : List Record) (lists : Lists) (x : ℕ × ℕ) (rest : List (�
       let l : List (ℕ × ℕ) = get_or lists i [] in
       let l_at : slice_get lists i ≡ Some l = slice_get-get_or lists i [] within in
       let back : head ≤ i = shares.shared.back i r at in
-      let same : map turned l ≡ map turned (x ∷ rest) = sym (shares.each i l l_at) ∙ list_of-at rs i r at back ∙ ap (λ m. turned x ∷ m) list in
+      let same : map value_and_dot l ≡ map value_and_dot (x ∷ rest) = sym (shares.each i l l_at) ∙ list_of-at rs i r at back ∙ ap (λ m. value_and_dot x ∷ m) list in
       l_at ∙ ap Some (turned_apart l (x ∷ rest) same)
 
   pub shares_more : Conses rs new r → Shares new (with_list lists (x ∷ rest))
@@ -72,14 +72,14 @@ module _ (rs new : List Record) (lists : Lists) (x : ℕ × ℕ) (rest : List (�
         ]
   ]
     where
-      each : (i : ℕ) (l : List (ℕ × ℕ)) → slice_get (lists ++ (x ∷ rest) ∷ []) i ≡ Some l → list_of (rs ++ r ∷ []) (i + 1) ≡ map turned l
+      each : (i : ℕ) (l : List (ℕ × ℕ)) → slice_get (lists ++ (x ∷ rest) ∷ []) i ≡ Some l → list_of (rs ++ r ∷ []) (i + 1) ≡ map value_and_dot l
       each i l at = elim (get_cases lists (x ∷ rest) i l at) [
         | inl old ↦
             let within = slice_get_within lists i l old in
             list_of-old rs r (i + 1) (omega (arith, shares.size)) ∙ shares.each i l old
         | inr last ↦
             let place : i + 1 ≡ length rs + 1 = omega (arith, last.0, shares.size) in
-            ap (list_of (rs ++ r ∷ [])) place ∙ list_of-new rs r ∙ ap (λ m. turned x ∷ m) list ∙ ap (map turned) (sym last.1)
+            ap (list_of (rs ++ r ∷ [])) place ∙ list_of-new rs r ∙ ap (λ m. value_and_dot x ∷ m) list ∙ ap (map value_and_dot) (sym last.1)
       ]
 
 -- the pairs from a place on

@@ -21,8 +21,8 @@ use Rattle.pg_table.specs.Lookups.{lookup, table_entry}
 use Rattle.pg_table.specs.Inside.Greatest.{value_in_list}
 use Rattle.pg_table.proofs.Greatest.{entry_as}
 use Rattle.pg_table.specs.Inside.Packed.{IsPacked, IsEntered}
-use Rattle.pg_table.specs.Inside.Sharing.{turned}
-use Rattle.pg_table.specs.Texts.{recorded, head_in, record_of, cell_of_table, table_text}
+use Rattle.pg_table.specs.Inside.Sharing.{value_and_dot}
+use Rattle.pg_table.specs.Texts.{recorded_lists, head_in, record_of, cell_of_table, table_text}
 use Rattle.pg_table.specs.Inside.Files.{table_cells, table_records, file_of}
 use Rattle.pg_table.proofs.FormLaws.{IsSoundCell, IsSoundRecord, form_from}
 use Rattle.pg_table.proofs.FileParts.{AreSmall, head_with, head_is, cell_is, file_sound, records_are_those, length-file_of}
@@ -49,10 +49,10 @@ module _ (n : ℕ) (P : List ((List ℕ × ℕ) × ℕ)) (h : ValuedFamilies ℕ
   length-cells : length cells ≡ top h.families + 1
   length-cells = length-map-range_with_len (cell_of_table h.families (head_in P)) 0 (top h.families + 1)
 
-  length-records : length records ≡ length (recorded P)
-  length-records = length-map (recorded P) (record_of (recorded P))
+  length-records : length records ≡ length (recorded_lists P)
+  length-records = length-map (recorded_lists P) (record_of (recorded_lists P))
 
-  pub length-text : length (table_text n P) ≡ 16 + 10 * (top h.families + 1) + 6 * length (recorded P)
+  pub length-text : length (table_text n P) ≡ 16 + 10 * (top h.families + 1) + 6 * length (recorded_lists P)
   length-text =
       ap length text_is ∙ length-file_of n cells records ∙ ap (λ k. 16 + 10 * k + 6 * length records) length-cells ∙ ap (λ k. 16 + 10 * (top h.families + 1) + 6 * k) length-records
 
@@ -70,14 +70,14 @@ module _ (n : ℕ) (P : List ((List ℕ × ℕ) × ℕ)) (h : ValuedFamilies ℕ
           let within : at < top h.families + 1 = omega (arith, length-cells) in
           let that : cell_of_table h.families (head_in P) at ≡ c = sym (cell_there at c within) ∙ is in
           subst (IsSoundCell (head_with n cells records) at) that
-          (cells_sound h packed.held (head_in P) (length records) (λ q. omega (arith, head_within (recorded P) (outputs_of P q), length-records)) (head_with n cells records) (sym packed.signs) length-cells refl at);
+          (cells_sound h packed.held (head_in P) (length records) (λ q. omega (arith, head_within (recorded_lists P) (outputs_of P q), length-records)) (head_with n cells records) (sym packed.signs) length-cells refl at);
       records_sound = λ i r inside is.
-          let within : i < length (recorded P) = omega (arith, length-records) in
-          let l : List (ℕ × ℕ) = get_or (recorded P) i [] in
-          let at : slice_get (recorded P) i ≡ Some l = slice_get-get_or (recorded P) i [] within in
-          let there : slice_get records i ≡ Some (record_of (recorded P) l) = slice_get-map (record_of (recorded P)) (recorded P) i ∙ ap (option_map (record_of (recorded P))) at in
-          let that : record_of (recorded P) l ≡ r = sym (get_or_from_slice_get records i (record_of (recorded P) l) r there) ∙ is in
-          subst (IsSoundRecord i) that (sound_record (recorded P) (recorded_ordered P sound.sound) i l at);
+          let within : i < length (recorded_lists P) = omega (arith, length-records) in
+          let l : List (ℕ × ℕ) = get_or (recorded_lists P) i [] in
+          let at : slice_get (recorded_lists P) i ≡ Some l = slice_get-get_or (recorded_lists P) i [] within in
+          let there : slice_get records i ≡ Some (record_of (recorded_lists P) l) = slice_get-map (record_of (recorded_lists P)) (recorded_lists P) i ∙ ap (option_map (record_of (recorded_lists P))) at in
+          let that : record_of (recorded_lists P) l ≡ r = sym (get_or_from_slice_get records i (record_of (recorded_lists P) l) r there) ∙ is in
+          subst (IsSoundRecord i) that (sound_record (recorded_lists P) (recorded_ordered P sound.sound) i l at);
     }
 
     pub text_sound : is_well_formed (table_text n P) ≡ true
@@ -91,16 +91,16 @@ module _ (n : ℕ) (P : List ((List ℕ × ℕ) × ℕ)) (h : ValuedFamilies ℕ
     }
 
     -- the list of each string
-    pub text_lists : (q : List ℕ) → lookup (table_text n P) q ≡ map turned (outputs_of P q)
+    pub text_lists : (q : List ℕ) → lookup (table_text n P) q ≡ map value_and_dot (outputs_of P q)
     text_lists q = ap (λ b. lookup b q) text_is ∙ by (cell_of h.families q) refl
       where
-        by : (o : Option ℕ) → cell_of h.families q ≡ o → lookup (file_of n cells records) q ≡ map turned (outputs_of P q)
+        by : (o : Option ℕ) → cell_of h.families q ≡ o → lookup (file_of n cells records) q ≡ map value_and_dot (outputs_of P q)
         by (Some c) is =
             lookup_with (file_of n cells records) h packed.held (head_in P) has_cells q c is
             ∙ ap (λ rs. list_of rs (head_in P q)) (records_are_those n cells records small)
-            ∙ listed (recorded P) (recorded_ordered P sound.sound) (outputs_of P q) (recorded_known P sound.sound q)
+            ∙ listed (recorded_lists P) (recorded_ordered P sound.sound) (outputs_of P q) (recorded_known P sound.sound q)
         by None none =
-            lookup_without (file_of n cells records) h packed.held (head_in P) has_cells q none ∙ sym (ap (map turned) nothing)
+            lookup_without (file_of n cells records) h packed.held (head_in P) has_cells q none ∙ sym (ap (map value_and_dot) nothing)
           where
             nothing : outputs_of P q ≡ []
             nothing = none_from (outputs_of P q) refl
@@ -116,7 +116,7 @@ module _ (n : ℕ) (P : List ((List ℕ × ℕ) × ℕ)) (h : ValuedFamilies ℕ
 -- the length of the file
 pub text_size : (n : ℕ) (P : List ((List ℕ × ℕ) × ℕ)) (h : ValuedFamilies ℕ) (rs : List Record) → IsPatternMap P → IsEntered n P h rs → length (table_text n P) ≡ 16 + 10 * (top h.families + 1) + 6 * length rs
 text_size n P h rs sound entered =
-    let size : length rs ≡ length (recorded P) = ap length entered.records_are ∙ length-map (recorded P) (record_of (recorded P)) in
+    let size : length rs ≡ length (recorded_lists P) = ap length entered.records_are ∙ length-map (recorded_lists P) (record_of (recorded_lists P)) in
     length-text n P h sound entered.packed ∙ ap (λ k. 16 + 10 * (top h.families + 1) + 6 * k) (sym size)
 
 pub length-table_cells : (n : ℕ) (P : List ((List ℕ × ℕ) × ℕ)) (h : ValuedFamilies ℕ) → IsPatternMap P → IsPacked n P h → length (table_cells n P) ≡ top h.families + 1

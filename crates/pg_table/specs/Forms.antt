@@ -22,8 +22,7 @@ abbrev pub cell_at : List ℕ → ℕ → Cell
 cell_at b at = let start = 16 + 10 * at in
     record { sign = u16_at b start; child = u32_at b (start + 2); head = u32_at b (start + 6) }
 
--- the record with this number, behind the cells. Records are numbered from 0 here, and the head of
--- the first is 1
+-- the record with this number, from 0; the record 0 has the head 1
 abbrev pub record_at : List ℕ → ℕ → Record
 record_at b i = let at = 16 + 10 * (head_of b).cells + 6 * i in
     record { value = slice_index b at; dot = slice_index b (at + 1); next = u32_at b (at + 2) }
@@ -32,23 +31,19 @@ record_at b i = let at = 16 + 10 * (head_of b).cells + 6 * i in
 abbrev pub records_of : List ℕ → List Record
 records_of b = map (record_at b) (range_with_len 0 (head_of b).records)
 
--- a file begins as it should, and the numbers of its head are in their ranges and agree with its
--- length
+-- a file begins as it should, and its head's numbers are in range and agree with its length
 abbrev pub has_head : List ℕ → Bool
 has_head b = let h = head_of b in starts_with nat_eq b file_mark
     && (nat_eq (length b) (16 + 10 * h.cells + 6 * h.records) && nat_le (length b) TABLE_MAX
     && nat_le 1 h.signs && nat_le h.signs SIGNS_MAX && nat_lt h.signs h.cells)
 
--- a cell may stand at its place: up to the greatest sign, cell 0 has no sign and each other has its
--- number as its sign; a cell without a sign is unused, so all of it is 0; and its numbers are in
--- their ranges
+-- a cell may stand here: all 0 where it is unused, its own sign in the root, numbers in range
 abbrev pub is_sound_cell : Head → ℕ → Cell → Bool
 is_sound_cell h at c = (nat_lt h.signs at || nat_eq c.sign at)
     && (not (nat_eq c.sign 0) || (nat_eq c.child 0 && nat_eq c.head 0))
     && nat_le c.sign h.signs && nat_lt c.child h.cells && nat_le c.head h.records
 
--- a record may stand at its place: its value is 1 to 9, its dot is at most 32, and it leads to an
--- earlier record or to none
+-- a record may stand at its place: value 1 to 9, dot to 32, and an earlier record or none behind it
 abbrev pub is_sound_record : ℕ → Record → Bool
 is_sound_record i r = nat_le 1 r.value && nat_le r.value LEVEL_MAX
     && nat_le r.dot PATTERN_SIGNS_MAX && nat_le r.next i

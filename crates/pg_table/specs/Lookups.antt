@@ -14,8 +14,7 @@ use Rattle.pg_table.specs.Forms.{head_of, cell_at, records_of}
 abbrev pub cell_has_sign : List ℕ → ℕ → ℕ → Bool
 cell_has_sign b base s = nat_lt (base + s) (head_of b).cells && nat_eq (cell_at b (base + s)).sign s
 
--- the list of the string q below the family at the base, each value with its dot. It is empty where
--- a cell is missing
+-- the list of the string q below the family at the base; it is empty where a cell is missing
 abbrev pub lookup_from : List ℕ → ℕ → List ℕ → List (ℕ × ℕ)
 lookup_from b base [] = []
 lookup_from b base (s ∷ []) = if cell_has_sign b base s

@@ -15,10 +15,10 @@ use Rattle.pg_table.specs.Forms.{file_mark}
 abbrev pub with_list : List (List (ℕ × ℕ)) → List (ℕ × ℕ) → List (List (ℕ × ℕ))
 with_list lists l = if list_any (pointwise same_pair l) lists then lists else lists ++ l ∷ []
 
--- the lists that get a record, each once, as they are first met: string by string, the ends of the
--- string's list of (dot, value), from the shortest on
-abbrev pub recorded : List ((List ℕ × ℕ) × ℕ) → List (List (ℕ × ℕ))
-recorded P = fold with_list [] (flat_map (λ q. reverse (suffixes (outputs_of P q))) (strings_of P))
+-- the lists that get a record, each once: string by string, the ends of its list, shortest first
+abbrev pub recorded_lists : List ((List ℕ × ℕ) × ℕ) → List (List (ℕ × ℕ))
+recorded_lists P =
+    fold with_list [] (flat_map (λ q. reverse (suffixes (outputs_of P q))) (strings_of P))
 
 -- the head of a list: the number of its record, counted from 1, and 0 for the empty list
 abbrev pub head_among : List (List (ℕ × ℕ)) → List (ℕ × ℕ) → ℕ
@@ -33,8 +33,7 @@ record_of lists (x ∷ l) = record { value = x.1; dot = x.0; next = head_among l
 abbrev pub cells_in_use : Families → List (ℕ × ℕ × List ℕ)
 cells_in_use fs = flat_map (λ e. map (λ s. (e.1.base + s, s, e.0 ++ s ∷ [])) e.1.signs) fs
 
--- the cell with this number: its sign, the base of the family below its string, and the head of the
--- string's list; all of it is 0 where it is not in use
+-- the cell with this number: its sign, base and head of its string; all 0 where it is not in use
 abbrev pub cell_of_table : Families → (List ℕ → ℕ) → ℕ → Cell
 cell_of_table fs heads at = option_map_or
     (λ c. record { sign = c.1; child = unwrap_or (base_of fs c.2) 0; head = heads c.2 })
@@ -50,12 +49,11 @@ record_bytes r = r.value ∷ r.dot ∷ u32_bytes r.next
 
 -- the head of every string's list
 abbrev pub head_in : List ((List ℕ × ℕ) × ℕ) → List ℕ → ℕ
-head_in P q = head_among (recorded P) (outputs_of P q)
+head_in P q = head_among (recorded_lists P) (outputs_of P q)
 
--- the packed table file of the patterns P, where n is the greatest sign: the head, the cells from 0
--- to the greatest used one, and the records of the lists that get one, in the order of these lists
+-- the packed table file of P with the greatest sign n: the head, the cells, and the records
 unfoldable pub table_text : ℕ → List ((List ℕ × ℕ) × ℕ) → List ℕ
-table_text n P = let fs = entered_families n (map (λ e. e.0.0) P) in let lists = recorded P in
+table_text n P = let fs = entered_families n (map (λ e. e.0.0) P) in let lists = recorded_lists P in
     let cells = map (cell_of_table fs (head_in P)) (range_with_len 0 (top fs + 1)) in
     let records = map (record_of lists) lists in
     file_mark ++ u32_bytes n ++ u32_bytes (length cells) ++ u32_bytes (length records)

@@ -5,7 +5,7 @@ ghost use Rattle.pg_patterns.specs.Inside.PatternMaps.{SignsUpTo};
 ghost use Rattle.pg_outputs.specs.Lists.{list_of};
 ghost use Rattle.pg_outputs.specs.Inside.Heads.{Grows};
 ghost use Rattle.pg_table.specs.Inside.Packed.{IsGroup, IsEntered, pairs};
-ghost use Rattle.pg_table.specs.Inside.Sharing.{Lists, Shares, turned, with_ends};
+ghost use Rattle.pg_table.specs.Inside.Sharing.{Lists, Shares, value_and_dot, with_ends};
 
 use pg_cells::{Cells, enter};
 use pg_outputs::Outputs;
@@ -16,7 +16,7 @@ use std::alloc::{AllocError, Global};
 /// The cells of the strings of patterns, each with the head of its string's list.
 #[derive(Drop)]
 pub struct Packed {
-    /// The cells.
+    /// A cell for each string, with the head of its list.
     pub cells: Cells<u64, FEW_SIGNS>,
     /// The lists, each value with its dot.
     pub outputs: Outputs,
@@ -71,7 +71,7 @@ fn share(
         Shares outputs.old lists
         → Shares outputs.new (with_ends lists (pairs patterns.now at end))) }
     ensures list { IfOk result
-        (λ head. list_of outputs.new head ≡ map turned (pairs patterns.now at end)) }
+        (λ head. list_of outputs.new head ≡ map value_and_dot (pairs patterns.now at end)) }
     ensures inside { IfOk result (λ head. head ≤ length outputs.new) }
     ensures grows { Grows outputs.old outputs.new }
 {

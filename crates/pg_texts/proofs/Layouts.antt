@@ -9,8 +9,8 @@ use Rattle.pg_driver.specs.declared.records.PassRecord.{PassRecord}
 use Rattle.pg_driver.specs.declared.records.LevelRecord.{LevelRecord}
 use Rattle.pg_driver.specs.Inside.Sound.{Finished}
 use Rattle.pg_driver.specs.Inside.CellsAccounts.{CellsAccount}
-use Rattle.pg_driver.specs.Inside.Told.{TellsCells}
-use Rattle.pg_texts.specs.Inside.Told.{HasLayouts, layout_there, pass_told, level_told, cells_told}
+use Rattle.pg_driver.specs.Inside.RunAccounts.{TellsCells}
+use Rattle.pg_texts.specs.Inside.CellsRecords.{HasLayouts, layout_there, pass_cells, level_cells, run_cells}
 
 -- a value that is some is what the layout gives
 there : {A : Type 0} (f : Layout → A) (layout : Option Layout) (a : A) → option_map f layout ≡ Some a → f (layout_there layout) ≡ a
@@ -33,11 +33,11 @@ same_account : {s z : Layout} {p q : List (Pass × ℕ × ℕ)} {l m : List (ℕ
 same_account a b c = cc
 
 -- a run tells the account of its cells
-pub account_told : (a : CellsAccount) (r : Finished) → TellsCells (Some a) r → cells_told r ≡ a
+pub account_told : (a : CellsAccount) (r : Finished) → TellsCells (Some a) r → run_cells r ≡ a
 account_told a r tells =
     let start : layout_there r.first_layout ≡ a.start = rw tells.0 refl in
-    let passes : map pass_told r.passes ≡ a.passes = each_there (λ p. p.layout) (λ p l. (record { level = p.level; len = p.len; dot = p.dot }, l.taken, l.top)) r.passes a.passes tells.1 in
-    let levels : map level_told r.levels ≡ a.levels = each_there (λ l. l.layout) (λ l layout. (l.level, layout)) r.levels a.levels tells.2 in
+    let passes : map pass_cells r.passes ≡ a.passes = each_there (λ p. p.layout) (λ p l. (record { level = p.level; len = p.len; dot = p.dot }, l.taken, l.top)) r.passes a.passes tells.1 in
+    let levels : map level_cells r.levels ≡ a.levels = each_there (λ l. l.layout) (λ l layout. (l.level, layout)) r.levels a.levels tells.2 in
     same_account start passes levels
 
 -- where a run tells the account of its cells, every layout is there

@@ -6,7 +6,7 @@ use Rattle.std.proofs.lemmas.List.Folds.{flat_map-map}
 use Rattle.pg_types.specs.declared.marks.Layout.{Layout}
 use Rattle.pg_types.specs.declared.parameters.LevelParams.{LevelParams}
 use Rattle.pg_types.specs.Parameters.{Parameters}
-use Rattle.pg_types.specs.Placement.{Families, entered_families, taken, top}
+use Rattle.pg_types.specs.Placement.{Families, entered_families, taken_count, top}
 use Rattle.pg_patterns.specs.Values.{largest}
 use Rattle.pg_select.specs.declared.pass.Pass.{Pass}
 use Rattle.pg_select.specs.Windows.{Patterns}
@@ -108,7 +108,7 @@ cells_rise : (signs n : ℕ) (fs : Families) (run : Trace) → AreNumbered n run
 cells_rise signs n fs [] are = tt
 cells_rise signs n fs (l ∷ ls) are = (
   are.0,
-  All-map (λ (x : Pass × ℕ × ℕ). x.0.level ≡ n) (λ (e : PassTrace × Families). (e.0.pass, taken e.1, top e.1)) (filter (λ e. has_candidate e.0) (passes_with_families signs fs l.passes))
+  All-map (λ (x : Pass × ℕ × ℕ). x.0.level ≡ n) (λ (e : PassTrace × Families). (e.0.pass, taken_count e.1, top e.1)) (filter (λ e. has_candidate e.0) (passes_with_families signs fs l.passes))
       (All-filter (λ (e : PassTrace × Families). has_candidate e.0) (λ e. e.0.pass.level ≡ n) (passes_with_families signs fs l.passes) (with_numbered signs n fs l.passes are.1)),
   cells_rise signs (n + 1) (after_level signs fs l) ls are.2,
 )
@@ -121,7 +121,7 @@ cells_passes signs fs (p ∷ ps) =
     after : Families
     after = after_pass signs fs p
 
-    by : (b : Bool) → flat_map pass_cells_text (map (λ (e : PassTrace × Families). (e.0.pass, taken e.1, top e.1)) (cond b ((p, after) ∷ filter (λ e. has_candidate e.0) (passes_with_families signs after ps)) (filter (λ e. has_candidate e.0) (passes_with_families signs after ps))))
+    by : (b : Bool) → flat_map pass_cells_text (map (λ (e : PassTrace × Families). (e.0.pass, taken_count e.1, top e.1)) (cond b ((p, after) ∷ filter (λ e. has_candidate e.0) (passes_with_families signs after ps)) (filter (λ e. has_candidate e.0) (passes_with_families signs after ps))))
         ≡ cond b (pass_front p.pass ++ used_text after ++ codes "\n") [] ++ flat_map pass_cells_text (pass_layouts signs after ps)
     by true = refl
     by false = refl

@@ -1,5 +1,5 @@
 -- What only contracts between layers and proofs need.
-pub mod Told
+pub mod CellsRecords
 pub mod ReportLines
 pub mod CellsLines
 pub mod Found

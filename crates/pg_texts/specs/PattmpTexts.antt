@@ -33,14 +33,12 @@ weight_text other weight = if weight == other then [] else number_text weight
 abbrev pub letter_text : Alphabet → Word → ℕ → List ℕ
 letter_text t w p = spelling_of t (slice_index w.signs (p - 1))
 
--- a position between two letters: the letter before it, its mark, and its weight where it is not
--- the word's
+-- a position between two letters: the letter before it, its mark, and its weight where it differs
 abbrev pub position_text : Alphabet → (ℕ → Mark) → Word → ℕ → List ℕ
 position_text t marks w p = letter_text t w p ++ mark_text t (marks p)
     ++ weight_text w.weight (position_weight w p)
 
--- a word of n letters, where its positions have these marks: the positions 2 to n, which stand
--- between two letters, and then the last letter
+-- a word of n letters with these marks: the positions 2 to n, and then the last letter
 abbrev pub word_text : Alphabet → (ℕ → Mark) → Word → List ℕ
 word_text t marks w = flat_map (position_text t marks w) (range_with_len 2 (length w.signs - 3))
     ++ letter_text t w (length w.signs - 1) ++ codes "\n"
@@ -50,8 +48,7 @@ abbrev pub statuses : Alphabet → Patterns → Word → ℕ → Mark
 statuses t P w p = if list_any (nat_eq p) (positions t.left t.right (length w.signs))
     then status_at P w p else status_with w p 0
 
--- a line for each word, behind a line with this word weight: the word's weight where it is another,
--- and the word
+-- a line for each word, behind this word weight: its own weight where it differs, and the word
 abbrev pub lines_behind : Alphabet → Patterns → ℕ → List Word → List ℕ
 lines_behind t P weight [] = []
 lines_behind t P weight (w ∷ ws) = weight_text weight w.weight

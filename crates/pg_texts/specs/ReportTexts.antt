@@ -20,8 +20,7 @@ warning_text largest p = if nat_le p.start p.finish && nat_le p.start largest
     then codes "warning: starting value " ++ decimal largest
     ++ codes " is not below level " ++ decimal p.start ++ codes "\n" else []
 
--- the line of a pass: the totals before it, how many candidates it has, chose, found hopeless and
--- left, and the sums of good and of bad over the chosen
+-- the line of a pass: the totals before it, the numbers of its candidates, the sums of the chosen
 abbrev pub pass_text : Source → PassTrace → List ℕ
 pass_text source p =
     let all = length p.candidates in let chosen = chosen_in p in let lost = hopeless_in p in
@@ -32,8 +31,7 @@ pass_text source p =
     ++ decimal (sum_by (λ c. c.good) chosen) ++ codes " good, "
     ++ decimal (sum_by (λ c. c.bad) chosen) ++ codes " bad\n"
 
--- the lines of a level: those of its passes that have a candidate, and then its own: how many
--- candidates its passes chose, and the totals after it
+-- the lines of a level: those of its passes that have a candidate, and then its own
 abbrev pub level_text : Source → LevelTrace → List ℕ
 level_text source l = flat_map (pass_text source) (filter has_candidate l.passes)
     ++ level_front l.number ++ decimal (sum_by (λ p. length (chosen_in p)) l.passes)

@@ -2,9 +2,9 @@
 ghost use Rattle.std.specs.Prelude.{◌≡◌, ◌++◌, map, All, IsSome, OnOk, IfOk, Some};
 ghost use Rattle.std.specs.List.{flat_map};
 ghost use Rattle.pg_driver.specs.Inside.CellsAccounts.{CellsAccount};
-ghost use Rattle.pg_driver.specs.Inside.Told.{TellsCells};
+ghost use Rattle.pg_driver.specs.Inside.RunAccounts.{TellsCells};
 ghost use Rattle.pg_texts.specs.Inside.CellsLines as cells;
-ghost use Rattle.pg_texts.specs.Inside.Told.{HasLayouts, layout_there, pass_told, level_told, cells_told};
+ghost use Rattle.pg_texts.specs.Inside.CellsRecords.{HasLayouts, layout_there, pass_cells, level_cells, run_cells};
 
 use crate::fronts::{push_level_front, push_pass_front};
 use pg_driver::{LevelRecord, PassRecord, Run};
@@ -44,7 +44,7 @@ fn push_layout(text: &mut Vec<u8>, layout: &Layout) -> Result<(), AllocError>
 fn push_pass(text: &mut Vec<u8>, pass: &PassRecord) -> Result<(), AllocError>
     requires { IsSome pass.now.layout }
     ensures { OnOk result
-        (text.new.items ≡ text.old.items ++ cells.pass_cells_text (pass_told pass.now)) }
+        (text.new.items ≡ text.old.items ++ cells.pass_cells_text (pass_cells pass.now)) }
 {
     push_pass_front(text, pass.level, pass.len, pass.dot)?;
     push_used(text, &layout_of(pass.layout))?;
@@ -55,7 +55,7 @@ fn push_pass(text: &mut Vec<u8>, pass: &PassRecord) -> Result<(), AllocError>
 fn push_passes(text: &mut Vec<u8>, passes: &[PassRecord], level: u8) -> Result<(), AllocError>
     requires { All (λ p. IsSome p.layout) passes.now }
     ensures { OnOk result (text.new.items
-        ≡ text.old.items ++ cells.pass_cells_lines (map pass_told passes.now) level) }
+        ≡ text.old.items ++ cells.pass_cells_lines (map pass_cells passes.now) level) }
 {
     'passes: for pass in passes {
         if pass.level == level {
@@ -69,7 +69,7 @@ fn push_passes(text: &mut Vec<u8>, passes: &[PassRecord], level: u8) -> Result<(
 fn push_level(text: &mut Vec<u8>, level: &LevelRecord) -> Result<(), AllocError>
     requires { IsSome level.now.layout }
     ensures { OnOk result
-        (text.new.items ≡ text.old.items ++ cells.level_cells_line (level_told level.now)) }
+        (text.new.items ≡ text.old.items ++ cells.level_cells_line (level_cells level.now)) }
 {
     push_level_front(text, level.level)?;
     push_layout(text, &layout_of(level.layout))
@@ -84,8 +84,8 @@ fn push_levels(
     requires passes { All (λ p. IsSome p.layout) passes.now }
     requires levels { All (λ l. IsSome l.layout) levels.now }
     ensures { OnOk result (text.new.items
-        ≡ text.old.items ++ flat_map (cells.level_cells_text (map pass_told passes.now))
-        (map level_told levels.now)) }
+        ≡ text.old.items ++ flat_map (cells.level_cells_text (map pass_cells passes.now))
+        (map level_cells levels.now)) }
 {
     'levels: for level in levels {
         push_passes(text, passes, level.level)?;
@@ -99,7 +99,7 @@ fn push_levels(
 /// after each level.
 pub fn cells_text(alloc: Global, run: &Run) -> Result<Vec<u8>, AllocError>
     requires { HasLayouts run.now }
-    ensures told { IfOk result (λ text. text.items ≡ cells.account_cells_text (cells_told run.now)) }
+    ensures told { IfOk result (λ text. text.items ≡ cells.account_cells_text (run_cells run.now)) }
     ensures text { IfOk result (λ text. (a : CellsAccount) → TellsCells (Some a) run.now
         → text.items ≡ cells.account_cells_text a) }
 {

@@ -2,7 +2,7 @@
 ghost use Rattle.std.specs.Prelude.{◌≡◌, ◌++◌, map, All, OnOk, IfOk};
 ghost use Rattle.std.specs.List.{flat_map};
 ghost use Rattle.pg_driver.specs.Inside.Sound.{IsSoundPass};
-ghost use Rattle.pg_driver.specs.Inside.Told.{line_of, level_line_of, account_of};
+ghost use Rattle.pg_driver.specs.Inside.RunAccounts.{line_of, level_line_of, account_of};
 ghost use Rattle.pg_texts.specs.Inside.ReportLines as lines;
 ghost use Rattle.pg_texts.specs.ReportTexts as report;
 
@@ -62,7 +62,8 @@ fn push_sums(text: &mut Vec<u8>, pass: &PassRecord) -> Result<(), AllocError>
 /// Appends the line of a pass.
 fn push_pass(text: &mut Vec<u8>, pass: &PassRecord) -> Result<(), AllocError>
     requires { IsSoundPass pass.now }
-    ensures { OnOk result (text.new.items ≡ text.old.items ++ lines.pass_line_text (line_of pass.now)) }
+    ensures { OnOk result (text.new.items
+        ≡ text.old.items ++ lines.pass_line_text (line_of pass.now)) }
 {
     push_pass_front(text, pass.level, pass.len, pass.dot)?;
     push_totals(text, &pass.before)?;

@@ -8,7 +8,7 @@ use Rattle.pg_outside.specs.Content.{FileMap, FilesShown, SinkShown, KeepsHeld, 
 use Rattle.pg_outside.specs.Faults.{Rose}
 use Rattle.pg_outside.specs.Inside.NameFaults.{NoneFell}
 use Rattle.pg_top.specs.Answers.{answers_to, IsAnswered, IsCall}
-use Rattle.pg_top.specs.Calls.{outcome, outcome_of, finished, reads_of, writes_of}
+use Rattle.pg_top.specs.Calls.{outcome, outcome_of, own_outcome, reads_of, writes_of}
 use Rattle.pg_top.specs.Counted.{MakesCalls, MakesPuts, read_calls, write_calls, PutsFault, ReadsUpTo, EndsAt, IsEndCounted}
 use Rattle.pg_top.specs.Inside.UnreadFiles.{IsUnreadAt}
 use Rattle.pg_top.specs.Inside.PutCounts.{PutsCounted, LinesCounted}
@@ -22,7 +22,7 @@ use Rattle.pg_words.specs.Requests.{Request, ToGenerate, ToAudit, ToSample, ToPa
 use Rattle.pg_top.specs.sample.Sampled.{sample_lines}
 use Rattle.pg_top.specs.Inside.Stops.{StopsWith, StopsReading, StopsCommandWith, StopsCommand, PutsAnswer, PutsLines, PutsStop, Finishes}
 use Rattle.pg_top.specs.Writings.{after_all, IsPartWritten}
-use Rattle.pg_top.specs.Inside.Written.{written_names, WroteAll, StoppedAt}
+use Rattle.pg_top.specs.Inside.WritesMade.{written_names, WroteAll, StoppedAt}
 use Rattle.pg_top.specs.declared.answers.Status.{Status}
 use Rattle.pg_top.specs.declared.answers.Status.TheVariants.{Done, Yes, No, Usage, Refused, Fault, Memory}
 use Rattle.pg_top.specs.declared.inputs.Input.{Input}
@@ -221,7 +221,7 @@ stops_reading request s0 s1 why stops = record { place = stops.place; read = sto
     why_command (stop.Refused input refusal) place stops =
         mapped s1.held (λ files. first_end (file_at files) (take (place + 1) (reads_of request)) ≡ Some (refuses input refusal)) (λ files. (outcome_of (file_at files) request ≡ refuses input refusal) × EndsAt request place (file_at files))
         (λ files is.
-        let end : outcome_of (file_at files) request ≡ refuses input refusal = ap (λ end. unwrap_or end (finished (file_at files) request)) (end_of_all (file_at files) (place + 1) (reads_of request) (refuses input refusal) is) in
+        let end : outcome_of (file_at files) request ≡ refuses input refusal = ap (λ end. unwrap_or end (own_outcome (file_at files) request)) (end_of_all (file_at files) (place + 1) (reads_of request) (refuses input refusal) is) in
         (end, inl (is ∙ ap Some (sym end)))) stops
     why_command (stop.Unread name) place stops = stops
     why_command stop.Memory place stops = tt

@@ -8,7 +8,7 @@ use Rattle.pg_top.specs.Inside.PutCounts.{PutsCounted}
 use Rattle.pg_top.specs.Outcomes.{Writing, refuses}
 use Rattle.pg_words.specs.Requests.{Request, ToSample}
 use Rattle.pg_top.specs.Inside.Stops.{StopsCommand, PutsAnswer, Finishes}
-use Rattle.pg_top.specs.Inside.Written.{written_names}
+use Rattle.pg_top.specs.Inside.WritesMade.{written_names}
 use Rattle.pg_top.specs.declared.answers.Status.{Status}
 use Rattle.pg_top.specs.declared.answers.Status.TheVariants.{Done, Refused, Fault, Memory}
 use Rattle.pg_top.specs.declared.inputs.Input.{Input}

@@ -11,8 +11,8 @@ use Rattle.pg_types.specs.declared.refusals.ReadingError.TheVariants as reader
 use Rattle.pg_types.specs.declared.refusals.Kind.TheVariants.{TranslateTooLong, ParametersTooLong, PatternsTooLong, DictionaryTooLong, TableTooLong, BadTable, OtherTable}
 use Rattle.pg_types.specs.Lines.{lines, pieces_at, is_line_feed, without_cr}
 use Rattle.pg_types.specs.Parameters.{parameters, parameters_of, items, demands, refusal_from}
-use Rattle.pg_types.specs.Inside.Parts.{refused_at}
-use Rattle.pg_types.specs.Reading.{unless, refused as refused_in}
+use Rattle.pg_types.specs.Inside.Parts.{refusal_of_item}
+use Rattle.pg_types.specs.Reading.{unless, refusal_at as refused_in}
 use Rattle.pg_types.specs.Inside.Answers.{Fails}
 use Rattle.pg_outside.specs.Content.{FileMap, FilesShown, file_at}
 use Rattle.pg_outside.specs.Inside.ToldFiles.{IsCut}
@@ -70,7 +70,7 @@ pub packed_table-front : (t : Alphabet) → IsReadUpTo TABLE_MAX (packed_table t
 packed_table-front t whole = limited (Err (table_refused TableTooLong)) (λ b. cond (not (is_well_formed b)) (Err (table_refused BadTable)) (cond (nat_eq (head_of b).signs (letters_of t + 1)) (Ok b) (Err (table_refused OtherTable)))) TABLE_MAX whole
 
 pub parameters-front : IsReadByFront parameters
-parameters-front whole = limited (Err (refused_at 0 ParametersTooLong)) (λ bytes. unless (refusal_from 1 (demands (items bytes)) (items bytes)) (parameters_of (items bytes))) FILE_MAX whole
+parameters-front whole = limited (Err (refusal_of_item 0 ParametersTooLong)) (λ bytes. unless (refusal_from 1 (demands (items bytes)) (items bytes)) (parameters_of (items bytes))) FILE_MAX whole
 
 pub words-front : (t : Alphabet) → IsReadByFront (words t)
 words-front t whole = limited (Err (refused_in 0 DictionaryTooLong 0)) (λ bytes. of_lines (line_words 1) t Dictionary (lines bytes)) FILE_MAX whole

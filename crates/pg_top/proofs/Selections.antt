@@ -5,12 +5,12 @@ use Rattle.pg_types.specs.declared.marks.Layout.{Layout}
 use Rattle.pg_types.specs.Placement.{Families}
 use Rattle.pg_select.specs.Inside.Meanings.{Meaning, new_engine}
 use Rattle.pg_driver.specs.declared.records.LevelRecord.{LevelRecord}
-use Rattle.pg_driver.specs.Accounts.{begun}
+use Rattle.pg_driver.specs.Accounts.{begun_count}
 use Rattle.pg_driver.specs.Layouts.{families_at_end}
 use Rattle.pg_driver.specs.Traces.{over}
 use Rattle.pg_driver.specs.Inside.CellsAccounts.{CellsAccount, layout_of}
 use Rattle.pg_driver.specs.Inside.Sound.{Finished}
-use Rattle.pg_driver.specs.Inside.Told.{patterns_from, account_from, begun_from, cells_from, TellsCells, level_layout_told}
+use Rattle.pg_driver.specs.Inside.RunAccounts.{patterns_from, account_from, begun_from, cells_from, TellsCells, level_layout_told}
 use Rattle.pg_driver.specs.Inside.AccountLines.{Account}
 use Rattle.pg_select.specs.Windows.{Patterns}
 use Rattle.pg_packed.specs.Inside.Starts.{pattern_families}
@@ -21,7 +21,7 @@ use Rattle.pg_texts.specs.Inside.CellsLines.{account_cells_text}
 use Rattle.pg_texts.specs.Inside.ReportLines.{account_text}
 use Rattle.pg_texts.specs.PattmpTexts.{pattmp_text}
 use Rattle.pg_texts.proofs.TraceTexts.{cells_same, last_same, report_same}
-use Rattle.pg_top.specs.Inside.Runs.{last_told}
+use Rattle.pg_top.specs.Inside.Runs.{last_layout_told}
 use Rattle.pg_top.specs.Selection.{signs_of, selection, selected, selected_totals, selected_text, selected_list, selected_cells_text, selected_report}
 use Rattle.pg_top.specs.Inside.SelectionAccounts.{selected_account, passes_begun, selected_cells_from, selected_cells, last_layout, work_line}
 use Rattle.pg_top.specs.declared.selection.Inputs.{Inputs}
@@ -64,7 +64,7 @@ last_of (l ∷ levels) (t ∷ told) first start is same =
         second None other = other
         second (Some x) other = x.1
 
-pub last_is : (a : CellsAccount) (r : Finished) → TellsCells (Some a) r → last_told r ≡ Some (last_layout a)
+pub last_is : (a : CellsAccount) (r : Finished) → TellsCells (Some a) r → last_layout_told r ≡ Some (last_layout a)
 last_is a r tells = last_of r.levels a.levels r.first_layout a.start tells.0 tells.2
 
 -- over the packed engine these are the cells
@@ -98,9 +98,9 @@ behind : (x a b c d : List ℕ) → x ++ (a ++ b ++ c ++ d) ≡ x ++ a ++ b ++ c
 behind x a b c d = simp append_assoc
 
 pub end_selected : (i : Inputs) (x : List ℕ) → x ++ work_line (passes_begun i) (last_layout (selected_cells i))
-    ≡ x ++ codes "work: " ++ decimal (begun (selection i)) ++ codes " passes, " ++ layout_text (families_at_end (signs_of i) i.start (selection i)) (selected i)
+    ≡ x ++ codes "work: " ++ decimal (begun_count (selection i)) ++ codes " passes, " ++ layout_text (families_at_end (signs_of i) i.start (selection i)) (selected i)
 unfolding selected passes_begun selected_cells selected_cells_from
 end_selected i x =
     let last : last_layout (selected_cells i) ≡ layout_of (families_at_end (signs_of i) i.start (selection i)) (selected i) = last_same (signs_of i) (pattern_families (signs_of i) i.start) i.start (selection i) in
-    ap (λ (l : Layout). x ++ work_line (begun (selection i)) l) last
-    ∙ behind x (codes "work: ") (decimal (begun (selection i))) (codes " passes, ") (layout_text (families_at_end (signs_of i) i.start (selection i)) (selected i))
+    ap (λ (l : Layout). x ++ work_line (begun_count (selection i)) l) last
+    ∙ behind x (codes "work: ") (decimal (begun_count (selection i))) (codes " passes, ") (layout_text (families_at_end (signs_of i) i.start (selection i)) (selected i))

@@ -10,8 +10,8 @@ use Rattle.pg_translate.specs.Alphabets.{Alphabet}
 use Rattle.pg_translate.specs.Tables.{table, default_alphabet}
 use Rattle.pg_top.specs.Counted.{MakesCalls}
 use Rattle.pg_top.specs.Outcomes.{unless_accepted, refuses}
-use Rattle.pg_top.specs.Readings.{Held, Reading, read_as, meant, input_file, table_named, translate_file}
-use Rattle.pg_top.specs.Inside.UnderTable.{file_under, meant_under}
+use Rattle.pg_top.specs.Readings.{Held, Reading, read_as, meaning, input_file, table_named, translate_file}
+use Rattle.pg_top.specs.Inside.UnderTable.{file_under, meaning_under}
 use Rattle.pg_top.specs.Inside.Stops.{StopsAt, StopsReading}
 use Rattle.pg_top.specs.declared.inputs.Input.{Input}
 use Rattle.pg_top.specs.declared.inputs.Input.TheVariants as input
@@ -24,7 +24,7 @@ pub accepted : {Y : Type 0} (input : Input) (parse : List ℕ → Result Y Refus
 accepted input parse None y is = cc
 accepted input parse (Some bytes) y is = let ok : parse bytes ≡ Ok y = cc in ap (λ got. Some (unless_accepted input got)) ok
 
-pub means : {Y : Type 0} (parse : List ℕ → Result Y Refusal) (other : Y) (files : Held) (name : List ℕ) (y : Y) → read_as parse files name ≡ Some (Ok y) → meant parse other files name ≡ y
+pub means : {Y : Type 0} (parse : List ℕ → Result Y Refusal) (other : Y) (files : Held) (name : List ℕ) (y : Y) → read_as parse files name ≡ Some (Ok y) → meaning parse other files name ≡ y
 means {Y} parse other files name y is = ap (λ (got : Option (Result Y Refusal)). option_map_or (λ (r : Result Y Refusal). result_unwrap_or r other) got other) is
 
 -- a stop at the first file
@@ -52,7 +52,7 @@ module _ (translate : List ℕ) (t : Alphabet) where
   pub accepted_under : {Y : Type 0} (parse : Alphabet → List ℕ → Result Y Refusal) (input : Input) (name : List ℕ) (y : Y) (files : FileMap) → HasTable files → read_as (parse t) (file_at files) name ≡ Some (Ok y) → IsAccepted (file_at files) (file_under translate input name parse)
   accepted_under parse input name y files h is = accepted input (parse (table_named translate (file_at files))) (file_at files name) y (under_table parse files name (Some (Ok y)) h is)
 
-  pub means_under : {Y : Type 0} (parse : Alphabet → List ℕ → Result Y Refusal) (other : Y) (name : List ℕ) (y : Y) (files : FileMap) → HasTable files → read_as (parse t) (file_at files) name ≡ Some (Ok y) → meant_under translate parse other (file_at files) name ≡ y
+  pub means_under : {Y : Type 0} (parse : Alphabet → List ℕ → Result Y Refusal) (other : Y) (name : List ℕ) (y : Y) (files : FileMap) → HasTable files → read_as (parse t) (file_at files) name ≡ Some (Ok y) → meaning_under translate parse other (file_at files) name ≡ y
   means_under parse other name y files h is = means (parse (table_named translate (file_at files))) other (file_at files) name y (under_table parse files name (Some (Ok y)) h is)
 
   -- a stop at an input that is read under the table

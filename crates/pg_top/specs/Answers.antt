@@ -19,8 +19,7 @@ answers_to (Some (ToAudit n)) = Yes ∷ No ∷ Refused ∷ Fault ∷ Memory ∷ 
 answers_to (Some (ToSample seed count)) = Done ∷ Fault ∷ Memory ∷ []
 answers_to (Some request) = Done ∷ Refused ∷ Fault ∷ Memory ∷ []
 
--- an answer that is neither a fault nor a lack of memory is that of the outcome, and all of the
--- outcome was done
+-- an answer that is no fault and no lack of memory is that of the outcome, all of which was done
 abbrev pub IsAnswered : Option Request → Status → Moment → Moment → Type 0
 IsAnswered asked Fault old new = Unit {0}
 IsAnswered asked Memory old new = Unit {0}
@@ -33,8 +32,7 @@ abbrev pub IsSampled : Option Request → Status → Moment → Moment → Type 
 IsSampled (Some (ToSample seed count)) Done old new = Puts old.1 new.1 (sample_lines seed count)
 IsSampled asked status old new = Unit {0}
 
--- the answer where no fault rose: usage where the words are no command, else that of the outcome,
--- or that memory was short
+-- where no fault rose the answer is usage, or that of the outcome, or a lack of memory
 abbrev pub IsComplete : Option Request → Status → Moment → Moment → Type 0
 IsComplete None status old new = status ≡ Usage
 IsComplete (Some request) status old new =

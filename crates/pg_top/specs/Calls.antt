@@ -5,17 +5,17 @@ use Rattle.pg_select.specs.CountedPositions.{minima_of}
 use Rattle.pg_table.specs.Lookups.{table_totals}
 use Rattle.pg_prune.specs.Prunes.{pruned}
 use Rattle.pg_texts.specs.ReportTexts.{ending_text}
-use Rattle.pg_top.specs.pack.Packed.{packed}
-use Rattle.pg_top.specs.prune.Pruned.{prune_ends}
+use Rattle.pg_top.specs.pack.Packed.{outcome_of_pack}
+use Rattle.pg_top.specs.prune.Pruned.{outcome_of_prune}
 use Rattle.pg_top.specs.audit.Audited.{given_files}
 use Rattle.pg_top.specs.Outcomes.{Outcome, Ends}
 use Rattle.pg_top.specs.totals.Totalled.{packed_table}
 use Rattle.pg_top.specs.PrintedLines.{usage_line}
-use Rattle.pg_top.specs.Readings.{Held, Reading, first_end, translate_file, patterns_file, words_file, input_file, words_under, patterns_under, table_named, meant}
+use Rattle.pg_top.specs.Readings.{Held, Reading, first_end, translate_file, patterns_file, words_file, input_file, words_under, patterns_under, table_named, meaning}
 use Rattle.pg_words.specs.Requests.{Request, ToGenerate, ToAudit, ToSample, ToPack, ToTotals, ToPrune, ToSweep, output_names}
 use Rattle.pg_top.specs.sample.Sampled.{sample_lines}
-use Rattle.pg_top.specs.generate.Generated.{inputs_of, inputs_in, generated}
-use Rattle.pg_top.specs.sweep.Swept.{set_files, sweep_ends, swept_rows, terms_in, sets_in}
+use Rattle.pg_top.specs.generate.Generated.{inputs_of, inputs_in, outcome_of_generate}
+use Rattle.pg_top.specs.sweep.Swept.{set_files, outcome_of_sweep, swept_rows, terms_in, sets_in}
 use Rattle.pg_top.specs.declared.answers.Status.TheVariants.{Done, Usage, Yes}
 use Rattle.pg_top.specs.declared.inputs.Input.TheVariants as input
 
@@ -41,24 +41,26 @@ writes_of (ToSweep s) = s.output ∷ []
 writes_of request = []
 
 -- what a command comes to where no file that it reads ends the call
-abbrev pub finished : Held → Request → Outcome
-finished files (ToGenerate n) = generated n (inputs_in files n)
-finished files (ToAudit n) = Ends Yes [] (codes "yes\n")
-finished files (ToSample seed count) = Ends Done [] (sample_lines seed count)
-finished files (ToPack p) =
-    packed p.table (table_named p.translate files) (patterns_under files p.translate p.patterns)
-finished files (ToTotals p) = Ends Done [] (ending_text (table_totals
+abbrev pub own_outcome : Held → Request → Outcome
+own_outcome files (ToGenerate n) = outcome_of_generate n (inputs_in files n)
+own_outcome files (ToAudit n) = Ends Yes [] (codes "yes\n")
+own_outcome files (ToSample seed count) = Ends Done [] (sample_lines seed count)
+own_outcome files (ToPack p) =
+    outcome_of_pack p.table (table_named p.translate files)
+    (patterns_under files p.translate p.patterns)
+own_outcome files (ToTotals p) = Ends Done [] (ending_text (table_totals
     (minima_of (table_named p.translate files)) (words_under files p.translate p.dict)
-    (meant (packed_table (table_named p.translate files)) [] files p.table)))
-finished files (ToPrune p) = let t = table_named p.translate files in
-    prune_ends p t (pruned (minima_of t) (words_under files p.translate p.dict)
+    (meaning (packed_table (table_named p.translate files)) [] files p.table)))
+own_outcome files (ToPrune p) = let t = table_named p.translate files in
+    outcome_of_prune p t (pruned (minima_of t) (words_under files p.translate p.dict)
     (patterns_under files p.translate p.patterns))
-finished files (ToSweep s) = sweep_ends s (swept_rows s (terms_in files s) (sets_in files s))
+own_outcome files (ToSweep s) =
+    outcome_of_sweep s (swept_rows s (terms_in files s) (sets_in files s))
 
--- the outcome of a command: that of the first file that ends the call, and where none does, what it
--- writes and prints
+-- the outcome of a command: that of the first file that ends the call, else its own
 abbrev pub outcome_of : Held → Request → Outcome
-outcome_of files request = unwrap_or (first_end files (reads_of request)) (finished files request)
+outcome_of files request =
+    unwrap_or (first_end files (reads_of request)) (own_outcome files request)
 
 -- the outcome of a call, where words that are no command come to usage
 abbrev pub outcome : Held → Option Request → Outcome

@@ -35,22 +35,19 @@ MakesPuts old new puts = new.puts ≡ after_calls old.puts puts
 abbrev pub PutsFault : SinkShown → SinkShown → Type 0
 PutsFault old new = (puts : ℕ) × (1 ≤ puts) × (puts ≤ 3) × MakesPuts old new puts
 
--- the files up to a place of the order were read once each, and no other; none before it ends the
--- call
+-- the files before a place of the order were read, each once, and none of them ends the call
 pub record ReadsUpTo (reads : List Reading) (at : ℕ) (old new : FilesShown) : Type 0 where
   pub within : at < length reads
   pub calls : MakesCalls old new (read_calls (take (at + 1) reads))
   pub before_it : IfSome new.held (λ files. first_end (file_at files) (take at reads) ≡ None)
 
--- the file at a place of the order is the one that ends the call; or all were read up to this
--- place, and none ends it
+-- the file at this place of the order ends the call; or the place is the end, and no file does
 abbrev pub EndsAt : Request → ℕ → Held → Type 0
 EndsAt request at files =
     (first_end files (take (at + 1) (reads_of request)) ≡ Some (outcome_of files request))
     ⊎ ((at + 1 ≡ length (reads_of request)) × (first_end files (reads_of request) ≡ None))
 
--- a file ended the call, or the command did after it had read all of them, and one line was put at
--- once
+-- a file ended the call, or the command did once all were read; one line was put at once
 abbrev pub IsEndedCounted : Request → Moment → Moment → Type 0
 IsEndedCounted request old new = (at : ℕ) × ReadsUpTo (reads_of request) at old.0 new.0
     × IfSome new.0.held (λ files. EndsAt request at (file_at files)) × MakesPuts old.1 new.1 1
@@ -79,7 +76,7 @@ IsCounted request status.Memory old new = IsWantCounted request old new
 IsCounted request status.Fault old new = Unit {0}
 IsCounted request answer old new = IsEndCounted request answer old new
 
--- the same of a call: words that are no command call no file, and their line is put at once
+-- the calls of a call of the program; words that are no command call no file and print one line
 abbrev pub IsCountedCall : Option Request → Status → Moment → Moment → Type 0
 IsCountedCall None answer old new = (new.0.calls ≡ old.0.calls) × MakesPuts old.1 new.1 1
 IsCountedCall (Some request) answer old new = IsCounted request answer old new

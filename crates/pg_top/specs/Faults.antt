@@ -12,8 +12,7 @@ use Rattle.pg_words.specs.Requests.{Request}
 use Rattle.pg_top.specs.Writings.{after_all, IsPartWritten}
 use Rattle.pg_top.specs.declared.answers.Status.{Status}
 
--- the faults of files rose: the read faults of a name that the command reads, or the write faults
--- of one that it writes
+-- the read faults of a name that the command reads rose, or the write faults of one that it writes
 abbrev pub FilesRose : Request → Moment → Moment → Type 0
 FilesRose request old new =
     Any (λ r. Rose (old.0.read_faults r.name) (new.0.read_faults r.name)) (reads_of request)
@@ -24,8 +23,7 @@ abbrev pub SomeRose : Option Request → Moment → Moment → Type 0
 SomeRose None old new = PutRose old.1 new.1
 SomeRose (Some request) old new = PutRose old.1 new.1 ⊎ FilesRose request old new
 
--- a file could not be read: no file behind it was, no file changed, and the line of its fault was
--- put
+-- a file could not be read: none behind it was, none changed, and the line of the fault was put
 pub record IsReadFault (request : Request) (old new : Moment) : Type 0 where
   pub place : ℕ
   pub read : ReadsUpTo (reads_of request) place old.0 new.0
@@ -36,8 +34,7 @@ pub record IsReadFault (request : Request) (old new : Moment) : Type 0 where
   pub line : PutOrRose old.1 new.1 (codes "fault: reading " ++ reading.name ++ codes "\n")
   pub puts : PutsFault old.1 new.1
 
--- a file could not be written: all were read, the writes before it are whole, nothing is written
--- behind it, and the line of its fault was put
+-- a file could not be written: the writes before it are whole, no other came, its line was put
 pub record IsWriteFault (request : Request) (old new : Moment) : Type 0 where
   pub place : ℕ
   pub name : List ℕ

@@ -9,4 +9,4 @@ pub mod PutCounts
 pub mod ReadCalls
 pub mod SelectionSigns
 pub mod SelectionAccounts
-pub mod Written
+pub mod WritesMade

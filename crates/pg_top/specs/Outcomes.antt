@@ -10,8 +10,7 @@ use Rattle.pg_top.specs.declared.inputs.Input.{Input}
 abbrev pub Writing : Type 0
 Writing = List (List ℕ × List ℕ)
 
--- what a call comes to: an answer, with the files that are written and the lines that are put;
--- unknown where a name that is due to be read is not held
+-- what a call comes to: an answer, files and lines; unknown where a file that is read is not held
 pub data Outcome : Type 0 where
   Unknown : Outcome
   Ends : Status → Writing → List ℕ → Outcome

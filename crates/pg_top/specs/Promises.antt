@@ -24,14 +24,12 @@ use Rattle.pg_words.specs.Requests.{Request, PackRequest, PruneRequest, SweepReq
 use Rattle.pg_top.specs.declared.answers.Status.{Status}
 use Rattle.pg_top.specs.declared.answers.Status.TheVariants.{Done}
 
--- the bytes of a packed table give each position of each word the value of the patterns, and each
--- word list their totals
+-- a packed table gives each position of each word the value of the patterns, and so their totals
 pub record GivesValues (bytes : List ℕ) (P : Patterns) : Type 0 where
   pub values : (w : List ℕ) (p : ℕ) → table_value bytes w p ≡ value_at P w p
   pub totals : (m : Minima) (ws : List Word) → table_totals m ws bytes ≡ totals m ws P
 
--- `pack` writes bytes that `totals` accepts under the same translate file, and that give the values
--- of the patterns
+-- `pack` writes bytes that `totals` accepts, and that give the values of the patterns
 pub record PackKeeps (files : Held) (p : PackRequest) : Type 0 where
   pub bytes : List ℕ
   pub lines : List ℕ
@@ -43,9 +41,7 @@ pub record PackKeeps (files : Held) (p : PackRequest) : Type 0 where
 abbrev pub ReadsBack : Alphabet → Patterns → Type 0
 ReadsBack t P = length (pattern_text t P) ≤ FILE_MAX → start t (pattern_text t P) ≡ Ok P
 
--- `prune` writes the text of patterns that are entries of those it read, and the text is read as
--- these patterns again. They break alike with those it read, at each position in reach of each
--- word, and none of them can go alone
+-- `prune` writes entries of what it read that break alike with it, and none of which can go alone
 pub record PruneKeeps (files : Held) (p : PruneRequest) : Type 0 where
   pub kept : Patterns
   pub report : List ℕ

@@ -24,12 +24,11 @@ abbrev pub read_as : {Y : Type 0} → (List ℕ → Result Y Refusal)
 read_as parse files name = option_map parse (files name)
 
 -- what the file of a name means, where it is held and accepted, and else this
-abbrev pub meant : {Y : Type 0} → (List ℕ → Result Y Refusal) → Y → Held → List ℕ → Y
-meant parse other files name = option_map_or (λ got. result_unwrap_or got other)
+abbrev pub meaning : {Y : Type 0} → (List ℕ → Result Y Refusal) → Y → Held → List ℕ → Y
+meaning parse other files name = option_map_or (λ got. result_unwrap_or got other)
     (read_as parse files name) other
 
--- a file that is read: its name, and the outcome where its bytes end the call, none where the call
--- goes on
+-- a file that is read: its name, and the outcome where its bytes end the call
 pub record Reading : Type 0 where
   pub name : List ℕ
   pub ends : Held → List ℕ → Option Outcome
@@ -47,7 +46,7 @@ first_end files (r ∷ rs) = option_map_or (λ bytes. option_or (r.ends files by
 
 -- the table of a translate file that is held
 abbrev pub table_named : List ℕ → Held → Alphabet
-table_named name files = meant table default_alphabet files name
+table_named name files = meaning table default_alphabet files name
 
 -- a translate file that is read
 abbrev pub translate_file : List ℕ → Reading
@@ -65,13 +64,13 @@ words_file translate name =
 
 -- the patterns of a pattern file, under the table of a translate file
 abbrev pub patterns_under : Held → List ℕ → List ℕ → Patterns
-patterns_under files translate name = meant (start (table_named translate files)) [] files name
+patterns_under files translate name = meaning (start (table_named translate files)) [] files name
 
 -- the parameters of a parameter file
 abbrev pub parameters_named : Held → List ℕ → Parameters
 parameters_named files name =
-    meant parameters (record { start = 1; finish = 1; levels = [] }) files name
+    meaning parameters (record { start = 1; finish = 1; levels = [] }) files name
 
 -- the words of a dictionary, under the table of a translate file
 abbrev pub words_under : Held → List ℕ → List ℕ → List Word
-words_under files translate name = meant (words (table_named translate files)) [] files name
+words_under files translate name = meaning (words (table_named translate files)) [] files name

@@ -9,8 +9,7 @@ abbrev pub after_all : FileMap → Writing → FileMap
 after_all files [] = files
 after_all files (w ∷ ws) = after_all (fin.insert files w.0 w.1) ws
 
--- writing stopped at this name: the writes before it are whole, its file is as it was or a prefix
--- of its text, and no other is written
+-- writing stopped at this name: those before it are whole, and its file is as it was or a prefix
 abbrev pub IsPartWritten : FileMap → FileMap → Writing → List ℕ → Type 0
 IsPartWritten before after [] name = ⊥
 IsPartWritten before after (w ∷ ws) name = ((w.0 ≡ name) × HasPart before after w.0 w.1)

@@ -8,7 +8,7 @@ ghost use Rattle.pg_top.specs.Counted.{MakesCalls, read_calls, IsCounted};
 ghost use Rattle.pg_top.specs.Outcomes.{Ends};
 ghost use Rattle.pg_words.specs.Requests.{ToGenerate};
 ghost use Rattle.pg_top.specs.Inside.Stops.{OnlyReads, StopsReading};
-ghost use Rattle.pg_top.specs.Inside.Written.{written_names, writing_of};
+ghost use Rattle.pg_top.specs.Inside.WritesMade.{written_names, writing_of};
 
 mod inputs;
 mod outputs;

@@ -9,7 +9,7 @@ ghost use Rattle.pg_top.specs.Promises.{PackKeeps, IsPromised};
 ghost use Rattle.pg_words.specs.Requests.{ToPack};
 ghost use Rattle.pg_top.specs.Inside.Stops.{OnlyReads, StopsCommand};
 ghost use Rattle.pg_top.specs.pack.Inside.Inputs.{pack_of};
-ghost use Rattle.pg_top.specs.Inside.Written.{written_names, writing_of};
+ghost use Rattle.pg_top.specs.Inside.WritesMade.{written_names, writing_of};
 ghost use Rattle.pg_top.specs.Answers.{IsCall};
 
 mod inputs;
@@ -28,7 +28,7 @@ use std::alloc::Global;
 /// The names that `pack` is given.
 #[derive(Clone, Copy)]
 pub struct PackNames<'a> {
-    /// The patterns.
+    /// The pattern file.
     pub patterns: &'a str,
     /// The translate file.
     pub translate: &'a str,

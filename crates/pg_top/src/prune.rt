@@ -8,7 +8,7 @@ ghost use Rattle.pg_top.specs.Outcomes.{Ends};
 ghost use Rattle.pg_top.specs.prune.Inside.Inputs.{prune_of};
 ghost use Rattle.pg_words.specs.Requests.{ToPrune};
 ghost use Rattle.pg_top.specs.Inside.Stops.{OnlyReads, StopsCommand};
-ghost use Rattle.pg_top.specs.Inside.Written.{written_names, writing_of};
+ghost use Rattle.pg_top.specs.Inside.WritesMade.{written_names, writing_of};
 ghost use Rattle.pg_top.specs.declared.answers.Status.TheVariants.{Done};
 ghost use Rattle.pg_top.specs.Answers.{IsCall};
 
@@ -30,7 +30,7 @@ use std::alloc::Global;
 pub struct PruneNames<'a> {
     /// The dictionary.
     pub dict: &'a str,
-    /// The patterns.
+    /// The pattern file.
     pub patterns: &'a str,
     /// Where the patterns that stay are written.
     pub output: &'a str,

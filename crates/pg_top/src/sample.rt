@@ -3,7 +3,7 @@ ghost use Rattle.std.specs.Prelude.{◌≡◌, ◌+◌, ◌≤◌, ◌<◌, ◌^
 ghost use Rattle.pg_translate.specs.Alphabets.{letters_of};
 ghost use Rattle.pg_translate.specs.Tables.{default_alphabet};
 ghost use Rattle.pg_dict.specs.Inside.SoundWords.{SignsAtMost};
-ghost use Rattle.pg_driver.specs.Inside.Told.{account_of};
+ghost use Rattle.pg_driver.specs.Inside.RunAccounts.{account_of};
 ghost use Rattle.pg_patterns.specs.Inside.PatternMaps.{SignsUpTo};
 ghost use Rattle.pg_select.specs.Inside.Meanings.{new_engine};
 ghost use Rattle.pg_top.specs.Inside.PutCounts.{LinesCounted};

@@ -7,8 +7,8 @@ ghost use Rattle.pg_top.specs.Selection.{signs_of, selected};
 ghost use Rattle.pg_top.specs.Inside.SelectionAccounts.{selected_account, passes_begun, selected_cells_from};
 ghost use Rattle.pg_top.specs.Inside.SelectionSigns.{HasSigns};
 ghost use Rattle.pg_select.specs.Inside.Meanings.{new_engine};
-ghost use Rattle.pg_driver.specs.Inside.Told.{account_of, TellsCells};
-ghost use Rattle.pg_top.specs.Inside.Runs.{last_told};
+ghost use Rattle.pg_driver.specs.Inside.RunAccounts.{account_of, TellsCells};
+ghost use Rattle.pg_top.specs.Inside.Runs.{last_layout_told};
 
 use pg_dict::Dictionary;
 use pg_driver::{Run, generate};
@@ -59,7 +59,7 @@ pub fn select<E: Engine>(alloc: Global, engine: &mut E, inputs: &Inputs) -> Resu
 /// The layout after the last level, or the one at the start where no level was run. It is `None`
 /// where the run tells no layouts.
 pub fn last_layout(run: &Run) -> Option<Layout>
-    ensures { result ≡ last_told run.now }
+    ensures { result ≡ last_layout_told run.now }
 {
     let levels = run.levels();
     if levels.is_empty() {

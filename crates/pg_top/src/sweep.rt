@@ -8,7 +8,7 @@ ghost use Rattle.pg_top.specs.Promises.{SweepNames, IsPromised};
 ghost use Rattle.pg_top.specs.Outcomes.{Ends};
 ghost use Rattle.pg_words.specs.Requests.{ToSweep};
 ghost use Rattle.pg_top.specs.Inside.Stops.{OnlyReads, StopsCommand};
-ghost use Rattle.pg_top.specs.Inside.Written.{written_names, writing_of};
+ghost use Rattle.pg_top.specs.Inside.WritesMade.{written_names, writing_of};
 ghost use Rattle.pg_top.specs.declared.answers.Status.TheVariants.{Done};
 ghost use Rattle.pg_top.specs.Answers.{IsCall};
 

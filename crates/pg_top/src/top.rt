@@ -2,7 +2,7 @@
 ghost use Rattle.std.specs.Prelude.{◌≡◌, Some, false};
 ghost use Rattle.pg_top.specs.Answers.{IsSampled, IsCall};
 ghost use Rattle.pg_top.specs.Calls.{has_files};
-ghost use Rattle.pg_words.specs.Commands.{asked};
+ghost use Rattle.pg_words.specs.Commands.{request_of_call};
 ghost use Rattle.pg_words.specs.Inside.Asked.{asked_by, KeepsLimits};
 ghost use Rattle.pg_top.specs.Counted.{IsCountedCall};
 ghost use Rattle.pg_top.specs.Promises.{IsPromised};
@@ -98,15 +98,15 @@ fn call<F: Files, O: Sink, W: Watch>(
     out: &mut O,
     watch: &W,
 ) -> Status
-    ensures call { IsCall (asked words.now) result
+    ensures call { IsCall (request_of_call words.now) result
         (F.shown files.old, O.shown out.old) (F.shown files.new, O.shown out.new) }
-    ensures sampled { IsSampled (asked words.now) result
+    ensures sampled { IsSampled (request_of_call words.now) result
         (F.shown files.old, O.shown out.old) (F.shown files.new, O.shown out.new) }
-    ensures counted { IsCountedCall (asked words.now) result
+    ensures counted { IsCountedCall (request_of_call words.now) result
         (F.shown files.old, O.shown out.old) (F.shown files.new, O.shown out.new) }
-    ensures promised { IsPromised (asked words.now) result
+    ensures promised { IsPromised (request_of_call words.now) result
         (F.shown files.old, O.shown out.old) (F.shown files.new, O.shown out.new) }
-    ensures same { has_files (asked words.now) ≡ false → files.new ≡ files.old }
+    ensures same { has_files (request_of_call words.now) ≡ false → files.new ≡ files.old }
 {
     match command(words) {
         None => answer(out, USAGE, Status::Usage, watch),
@@ -136,8 +136,8 @@ fn call<F: Files, O: Sink, W: Watch>(
 /// the end.
 ///
 /// - `Usage` comes exactly where the words are no command, unless the line cannot be put.
-/// - `Refused` comes only where an input is refused, the first in the order of reading, or where the
-///   table of `pack` would be too long. `sample` is never refused.
+/// - `Refused` comes only where an input is refused, the first in the order of reading, or where
+///   the table of `pack` would be too long. `sample` is never refused.
 /// - `Fault` comes only where the read faults of a name that the command reads, the write faults of
 ///   one that it writes, or the faults of `out` rose.
 /// - `Memory` may always come where the words are a command; nothing was written and nothing put
@@ -149,7 +149,7 @@ fn call<F: Files, O: Sink, W: Watch>(
 /// After all answers but `Done` and `Fault` the files are as they were. Where the words are no
 /// command, and for `sample`, `files` is not called.
 pub fn run<F: Files, O: Sink>(alloc: Global, words: &[String], files: &mut F, out: &mut O) -> Status
-    ensures { IsRun (asked words.now) result files.old files.new
+    ensures { IsRun (request_of_call words.now) result files.old files.new
         (F.shown files.old, O.shown out.old) (F.shown files.new, O.shown out.new) }
 {
     run_watched(alloc, words, files, out, &Quiet)
@@ -165,7 +165,7 @@ pub fn run_watched<F: Files, O: Sink, W: Watch>(
     out: &mut O,
     watch: &W,
 ) -> Status
-    ensures { IsRun (asked words.now) result files.old files.new
+    ensures { IsRun (request_of_call words.now) result files.old files.new
         (F.shown files.old, O.shown out.old) (F.shown files.new, O.shown out.new) }
 {
     call(alloc, words, files, out, watch)

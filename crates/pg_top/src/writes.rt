@@ -2,7 +2,7 @@
 ghost use Rattle.std.specs.Prelude.{◌≡◌, ◌+◌, ◌<◌, ◌++◌, ◌∷◌, [], OnOk, IfErr, length, take, slice_get, Some};
 ghost use Rattle.pg_outside.specs.Inside.NameFaults.{NoneFell};
 ghost use Rattle.pg_top.specs.Counted.{MakesCalls, write_calls};
-ghost use Rattle.pg_top.specs.Inside.Written.{writing_of, written_names, WroteAll, StoppedAt};
+ghost use Rattle.pg_top.specs.Inside.WritesMade.{writing_of, written_names, WroteAll, StoppedAt};
 ghost use Rattle.pg_top.specs.Inside.Stops.{Finishes};
 
 use crate::answers::Status;
@@ -15,9 +15,9 @@ use std::alloc::AllocError;
 /// A file that is to be written.
 #[derive(Drop)]
 pub struct Output<'a> {
-    /// The name.
+    /// The name that it gets.
     pub name: &'a str,
-    /// The text.
+    /// All of its bytes.
     pub text: Vec<u8>,
 }
 

@@ -7,7 +7,7 @@ use Rattle.std.proofs.lemmas.List.{drop_at}
 use Rattle.std.proofs.lemmas.Option.{slice_get_past}
 use Rattle.pg_types.specs.declared.marks.Mark.TheVariants.{Nothing, Error, Missed, Found, DontCare}
 use Rattle.pg_types.specs.declared.refusals.Refusal.{Refusal}
-use Rattle.pg_types.specs.Reading.{unless, refused}
+use Rattle.pg_types.specs.Reading.{unless, refusal_at}
 use Rattle.pg_translate.specs.declared.items.Place.{Place}
 use Rattle.pg_translate.specs.declared.items.Place.TheVariants.{Dictionary, Patterns}
 use Rattle.pg_translate.specs.Alphabets.{Alphabet}
@@ -70,7 +70,7 @@ length-sign_columns (item ∷ items) =
 pub not_refused : (place : Place) (line : ℕ) (c : Cut) → length (signs_of (tokens_of c)) ≤ signs_max place → c.rest ≡ [] → line_refusal place line c ≡ None
 not_refused place line c few ended =
     let short : length (sign_columns c) ≤ signs_max place = omega (arith, length-sign_columns c.items) in
-    ap (λ (column : Option ℕ). option_or (option_map (refused line (long_kind place)) column) (stop_refusal place line c)) (slice_get_past (sign_columns c) (signs_max place) short)
+    ap (λ (column : Option ℕ). option_or (option_map (refusal_at line (long_kind place)) column) (stop_refusal place line c)) (slice_get_past (sign_columns c) (signs_max place) short)
     ∙ ap (λ (rest : List ℕ). stop_refusal place line (record { items = c.items; column = c.column; rest = rest })) ended
 
 -- a line of items gives what the items give

@@ -12,7 +12,7 @@ use Rattle.pg_translate.specs.Inside.Answers.{HasItem}
 use Rattle.pg_translate.specs.Gaps.{sign_of}
 use Rattle.pg_translate.specs.LineRefusals.{sign_columns}
 use Rattle.pg_translate.specs.Inside.Refusing.{long_kind}
-use Rattle.pg_types.specs.Reading.{refused}
+use Rattle.pg_types.specs.Reading.{refusal_at}
 use Rattle.pg_translate.specs.Inside.Refusing.{stop_refusal, refusal_with_room}
 use Rattle.pg_translate.proofs.Cuts.{cut_takes}
 
@@ -42,10 +42,10 @@ along F G t place size item rest after takes within same = (
 pub refusal_sign : (place : Place) (line room column : ℕ) (item : Token) (sign : ℕ) (c : Cut) → sign_of item ≡ Some sign → refusal_with_room place line (room + 1) (with_item column item c) ≡ refusal_with_room place line room c
 refusal_sign place line room column item sign c is =
     let more : room + 1 ≡ suc room = omega arith in
-    ap (λ o. option_or (option_map (refused line (long_kind place)) (slice_get (cons_option (option_map (λ (_ : ℕ). column) o) (sign_columns c)) (room + 1))) (stop_refusal place line c)) is
-    ∙ ap (λ (n : ℕ). option_or (option_map (refused line (long_kind place)) (slice_get (column ∷ sign_columns c) n)) (stop_refusal place line c)) more
+    ap (λ o. option_or (option_map (refusal_at line (long_kind place)) (slice_get (cons_option (option_map (λ (_ : ℕ). column) o) (sign_columns c)) (room + 1))) (stop_refusal place line c)) is
+    ∙ ap (λ (n : ℕ). option_or (option_map (refusal_at line (long_kind place)) (slice_get (column ∷ sign_columns c) n)) (stop_refusal place line c)) more
 
 -- where there is no room, the sign is refused
-pub refusal_full : (place : Place) (line column : ℕ) (item : Token) (sign : ℕ) (c : Cut) → sign_of item ≡ Some sign → refusal_with_room place line 0 (with_item column item c) ≡ Some (refused line (long_kind place) column)
+pub refusal_full : (place : Place) (line column : ℕ) (item : Token) (sign : ℕ) (c : Cut) → sign_of item ≡ Some sign → refusal_with_room place line 0 (with_item column item c) ≡ Some (refusal_at line (long_kind place) column)
 refusal_full place line column item sign c is =
-    ap (λ o. option_or (option_map (refused line (long_kind place)) (slice_get (cons_option (option_map (λ (_ : ℕ). column) o) (sign_columns c)) 0)) (stop_refusal place line c)) is
+    ap (λ o. option_or (option_map (refusal_at line (long_kind place)) (slice_get (cons_option (option_map (λ (_ : ℕ). column) o) (sign_columns c)) 0)) (stop_refusal place line c)) is

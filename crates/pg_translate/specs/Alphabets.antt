@@ -2,8 +2,7 @@
 use Rattle.std.specs.Prelude.{ℕ, ◌-◌, ◌==◌, max, List, [], if◌then◌else◌, find, fold, codes, option_map, unwrap_or}
 use Rattle.pg_types.specs.declared.limits.TheConstants.{EDGE}
 
--- the minima, the bytes for an erroneous, a missed, a found and a don't-care position, and the
--- spellings, each with its sign, in the order of the file
+-- the minima, the four bytes of marks, and the spellings with their signs, in the order of the file
 pub record Alphabet : Type 0 where
   pub left : ℕ
   pub right : ℕ

@@ -15,8 +15,7 @@ pub record Cut : Type 0 where
   pub column : ℕ
   pub rest : List ℕ
 
--- the cut at a column: the item that begins there and the cut behind it; no item where none begins
--- there
+-- the cut at a column: the item that begins there and the cut behind it, or no item
 abbrev pub cut_at : ℕ → List ℕ → Option (Token × ℕ) → (ℕ → Cut) → Cut
 cut_at column text None behind = record { items = []; column = column; rest = text }
 cut_at column text (Some item) behind = let c = behind (item.1 - 1) in

@@ -17,8 +17,7 @@ sign_of item = None
 abbrev pub signs_of : List Token → List ℕ
 signs_of items = filter_map sign_of items
 
--- the gaps of a line: the items before its first sign, between each two signs, and behind its last
--- sign
+-- the gaps of a line: the items before its first sign, between two signs, and behind its last sign
 abbrev pub gaps : List Token → List (List Token)
 gaps items = slice_split (λ item. is_some (sign_of item)) items
 

@@ -6,7 +6,7 @@ use Rattle.pg_types.specs.declared.limits.TheConstants.{PATTERN_SIGNS_MAX, WORD_
 use Rattle.pg_types.specs.declared.refusals.Kind.{Kind}
 use Rattle.pg_types.specs.declared.refusals.Kind.TheVariants.{DictionaryCharacter, BadWeight, WordTooLong, PatternCharacter, PatternTooLong}
 use Rattle.pg_types.specs.declared.refusals.Refusal.{Refusal}
-use Rattle.pg_types.specs.Reading.{refused, unless}
+use Rattle.pg_types.specs.Reading.{refusal_at, unless}
 use Rattle.pg_translate.specs.declared.items.Place.{Place}
 use Rattle.pg_translate.specs.declared.items.Place.TheVariants.{Dictionary, Patterns}
 use Rattle.pg_translate.specs.Alphabets.{Alphabet}
@@ -29,12 +29,11 @@ bad_kind Patterns text = PatternCharacter
 abbrev pub sign_columns : Cut → List ℕ
 sign_columns c = filter_map (λ i. option_map (λ _. i.column) (sign_of i.token)) c.items
 
--- the refusal of a line: that of the sign too many, else where its cut stops, unless that is at its
--- end or before a blank or TAB
+-- the refusal of a line: the sign too many, else where its cut stops before the line's end
 abbrev pub line_refusal : Place → ℕ → Cut → Option Refusal
 line_refusal place line c = option_or
-    (option_map (refused line (limit place).1) (slice_get (sign_columns c) (limit place).0))
-    (if is_ended c.rest then None else Some (refused line (bad_kind place c.rest) c.column))
+    (option_map (refusal_at line (limit place).1) (slice_get (sign_columns c) (limit place).0))
+    (if is_ended c.rest then None else Some (refusal_at line (bad_kind place c.rest) c.column))
 
 -- what the items of lines give, or the refusal of the first line that has one
 abbrev pub of_lines : {X : Type 0} → (List (List Token) → X)

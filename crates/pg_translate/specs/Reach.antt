@@ -3,8 +3,7 @@ use Rattle.std.specs.Prelude.{ℕ, ◌+◌, ◌-◌, nat_le, if◌then◌else◌
 use Rattle.std.specs.Option.{option_map_or}
 use Rattle.std.specs.List.{range_with_len}
 
--- the first and the last position in reach of a word of so many signs; none where the word takes no
--- part, as it has fewer letters than both minima together
+-- the first and last position in reach of a word of so many signs; none where it takes no part
 abbrev pub reach : ℕ → ℕ → ℕ → Option (ℕ × ℕ)
 reach left right signs = if nat_le (left + right + 2) signs then Some (left + 1, signs - right - 1)
     else None

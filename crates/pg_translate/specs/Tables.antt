@@ -7,7 +7,7 @@ use Rattle.pg_types.specs.declared.refusals.Kind.TheVariants.{TranslateTooLong, 
 use Rattle.pg_types.specs.declared.refusals.Refusal.{Refusal}
 use Rattle.pg_types.specs.Lines.{lines, pieces_at}
 use Rattle.pg_types.specs.Parameters.{number, has_byte}
-use Rattle.pg_types.specs.Reading.{refused, unless}
+use Rattle.pg_types.specs.Reading.{refusal_at, unless}
 use Rattle.pg_translate.specs.declared.head.TheConstants.{DEFAULT_LEFT, DEFAULT_RIGHT, DEFAULT_ERROR, DEFAULT_MISSED, DEFAULT_FOUND, DEFAULT_DONT_CARE}
 use Rattle.pg_translate.specs.Alphabets.{Alphabet}
 use Rattle.pg_translate.specs.Spellings.{is_space, is_spelling, clash}
@@ -15,14 +15,13 @@ use Rattle.std.specs.Char.{is_ascii_digit}
 
 -- a refusal with its place, where a check fails
 abbrev pub check : Bool → Kind → ℕ → ℕ → List Refusal
-check fails kind line column = if fails then refused line kind column ∷ [] else []
+check fails kind line column = if fails then refusal_at line kind column ∷ [] else []
 
 -- the byte in a column of the head; a column past its end is blank
 abbrev pub in_column : List ℕ → ℕ → ℕ
 in_column head column = slice_index_or head (column - 1) 32
 
--- the minimum that begins at a column: the number that two bytes write where blanks are left out;
--- 0, which is no minimum, where they write none
+-- the minimum that begins at a column: the number in two bytes; 0 where they write none
 abbrev pub minimum_at : List ℕ → ℕ → ℕ
 minimum_at head column = unwrap_or (number (filter (λ b. not (b == 32))
     (in_column head column ∷ in_column head (column + 1) ∷ []))) 0
@@ -49,7 +48,7 @@ abbrev pub marks_of : List ℕ → List ℕ
 marks_of head = mark_in head 5 DEFAULT_ERROR ∷ mark_in head 6 DEFAULT_MISSED
     ∷ mark_in head 7 DEFAULT_FOUND ∷ mark_in head 8 DEFAULT_DONT_CARE ∷ []
 
--- a mark is no digit, blank, TAB, LF, CR or brace, and differs from those before it
+-- a mark fails where it is a digit, a blank, TAB, LF, CR or brace, or equals one before it
 abbrev pub mark_fails : List ℕ → ℕ → Bool
 mark_fails earlier mark = is_ascii_digit mark || is_space mark
     || mark == 123 || list_any (λ other. other == mark) earlier
@@ -61,8 +60,7 @@ head_checks head = check (minimum_fails head 1 3) BadMinima 1 1
     (λ m. check (mark_fails (take m.0 (marks_of head)) m.1) BadMark 1 (m.0 + 5))
     (enumerate_from 0 (marks_of head))
 
--- the spellings of a letter line without the blanks at its end: the pieces before the first empty
--- one, between which stands the byte that begins the line. A line without any is skipped
+-- the spellings of a letter line: the pieces that its first byte parts, up to an empty one
 abbrev pub line_pieces : List ℕ → List (List ℕ)
 line_pieces line = let text = take (length line - suffix_len (λ b. b == 32) line) line in
     take_while has_byte (pieces_at (λ b. b == slice_index text 0) (drop 1 text))
@@ -81,8 +79,7 @@ spellings_at line column letter (piece ∷ pieces) =
     record { line = line; column = column; letter = letter; text = piece } ∷ spellings_at line
     (column + (length piece + 1)) letter pieces
 
--- the spellings of the letter lines, which begin with the second line of the file. The lines that
--- are not skipped are numbered by their letters
+-- the spellings of the lines from the second on; lines that are not skipped have a letter each
 abbrev pub spellings_of : List (List ℕ) → List ListedSpelling
 spellings_of texts = flat_map (λ l. spellings_at l.1.0 2 l.0 l.1.1) (enumerate_from 1
     (filter (λ l. nat_lt 0 (length l.1)) (enumerate_from 2 (map line_pieces texts))))
@@ -91,8 +88,7 @@ spellings_of texts = flat_map (λ l. spellings_at l.1.0 2 l.0 l.1.1) (enumerate_
 abbrev pub spelling_with_sign : ListedSpelling → ℕ × List ℕ
 spelling_with_sign spelling = (spelling.letter + 1, spelling.text)
 
--- the checks of a spelling beside earlier ones: the number of letters, its own form, and its clash
--- with an earlier one
+-- the checks of a spelling: the number of letters, its own form, and its clash with an earlier one
 abbrev pub spelling_check : List ℕ → List (ℕ × List ℕ) → ListedSpelling → List Refusal
 spelling_check marks earlier s = check (nat_lt (SIGNS_MAX - 1) s.letter) TooManyLetters s.line 1
     ++ (check (not (is_spelling marks s.text)) BadSpelling s.line s.column
@@ -103,8 +99,7 @@ abbrev pub spelling_checks : List ℕ → List ListedSpelling → List Refusal
 spelling_checks marks all = flat_map (λ s. spelling_check marks
     (map spelling_with_sign (take s.0 all)) s.1) (enumerate_from 0 all)
 
--- all checks of a translate file of some size, with this head and these letter lines, in their
--- order
+-- all checks of a translate file of some size, with this head and these letter lines, in order
 abbrev pub checks : ℕ → List ℕ → List (List ℕ) → List Refusal
 checks size head letter_lines = check (nat_lt FILE_MAX size) TranslateTooLong 0 0
     ++ (head_checks head ++ spelling_checks (marks_of head) (spellings_of letter_lines))
@@ -127,8 +122,7 @@ abbrev pub default_alphabet : Alphabet
 default_alphabet =
     record (alphabet_of [] []) { spellings = flat_map default_letter (range_with_len 0 26) }
 
--- the table of a file of some size with these lines; a file of no bytes has no line, and means the
--- default table
+-- the table of a file of some size with these lines; a file of no bytes means the default table
 abbrev pub table_of : ℕ → List (List ℕ) → Result Alphabet Refusal
 table_of size [] = Ok default_alphabet
 table_of size (head ∷ letter_lines) =

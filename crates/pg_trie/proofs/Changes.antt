@@ -6,7 +6,7 @@ use Rattle.std.specs.FinMap.Entries.{find, put, is_sorted, find-put, is_sorted-p
 use Rattle.pg_types.specs.declared.limits.TheConstants.{PATTERN_SIGNS_MAX}
 use Rattle.pg_types.specs.Placement.{enter}
 use Rattle.pg_patterns.specs.DottedSigns.{dotted_cmp}
-use Rattle.pg_patterns.specs.Inside.PlaceOrder.{dotted_total, dotted_exact}
+use Rattle.pg_patterns.specs.Inside.DottedOrder.{dotted_total, dotted_exact}
 use Rattle.pg_patterns.specs.Values.{raise, value_of}
 use Rattle.pg_outputs.specs.declared.records.Record.{Record}
 use Rattle.pg_outputs.specs.Lists.{list_of}
@@ -16,10 +16,10 @@ use Rattle.pg_cells.specs.Inside.ValuedFamilies.{ValuedFamilies}
 use Rattle.pg_cells.specs.Inside.AreValuedFamilies.{AreValuedFamilies}
 use Rattle.pg_cells.specs.Inside.Walks.{AddsBlanks}
 use Rattle.pg_cells.proofs.StringMaps.{order, equal_or_not, find_put_same, find_put_other}
-use Rattle.pg_trie.specs.declared.mark.TheConstants.{HOPELESS}
+use Rattle.pg_trie.specs.declared.hopeless.TheConstants.{HOPELESS}
 use Rattle.pg_trie.specs.Inside.IsTrie.{IsTrie, IsListHead}
-use Rattle.pg_trie.specs.Inside.Lists.{entered, Rises, DotsUpTo}
-use Rattle.pg_trie.specs.Inside.Maps.{Maps, maps_of, as_value, as_mark, entries}
+use Rattle.pg_trie.specs.Inside.Lists.{list_with, Rises, DotsUpTo}
+use Rattle.pg_trie.specs.Inside.Maps.{Maps, maps_of, as_value, as_hopeless, entries}
 use Rattle.pg_trie.proofs.Found.{found_in, found_at, find-entries, sorted-entries, same_by_dots, other_place}
 use Rattle.pg_trie.proofs.Rising.{values_rise, marks_rise}
 use Rattle.pg_trie.proofs.Entered.{rises-entered, dots-entered, value-entered, marks_stay, mark-entered, values_stay}
@@ -29,7 +29,7 @@ pub sorted_values : (cells : ValuedFamilies ℕ) (records : List Record) → IsT
 sorted_values cells records is = sorted-entries as_value (list_of records) cells.values is.held.ordered (λ q head at. values_rise 0 0 (list_of records head) (omega arith) (is.heads q head at).rises)
 
 pub sorted_marks : (cells : ValuedFamilies ℕ) (records : List Record) → IsTrie cells records → T (is_sorted dotted_cmp (maps_of cells records).hopeless)
-sorted_marks cells records is = sorted-entries as_mark (list_of records) cells.values is.held.ordered (λ q head at. marks_rise 0 0 (list_of records head) (omega arith) (is.heads q head at).rises)
+sorted_marks cells records is = sorted-entries as_hopeless (list_of records) cells.values is.held.ordered (λ q head at. marks_rise 0 0 (list_of records head) (omega arith) (is.heads q head at).rises)
 
 module _ {X : Type 0} (pick : ℕ → Option X) where
   -- entries that find alike are the same
@@ -79,17 +79,17 @@ pub record SameMaps (cells : ValuedFamilies ℕ) (records : List Record) (cells'
 
 same_when : (cells : ValuedFamilies ℕ) (records : List Record) (cells' : ValuedFamilies ℕ) (records' : List Record) → IsTrie cells records → IsTrie cells' records'
     → ((q : List ℕ) (d : ℕ) → found_at as_value (list_of records') d (find order q cells'.values) ≡ found_at as_value (list_of records) d (find order q cells.values))
-    → ((q : List ℕ) (d : ℕ) → found_at as_mark (list_of records') d (find order q cells'.values) ≡ found_at as_mark (list_of records) d (find order q cells.values))
+    → ((q : List ℕ) (d : ℕ) → found_at as_hopeless (list_of records') d (find order q cells'.values) ≡ found_at as_hopeless (list_of records) d (find order q cells.values))
     → SameMaps cells records cells' records'
 same_when cells records cells' records' is is' same same_marks = record {
   trie = is';
   patterns = same_found as_value (list_of records') (list_of records) cells'.values cells.values is'.held.ordered is.held.ordered (sorted_values cells' records' is') (sorted_values cells records is) same;
-  hopeless = same_found as_mark (list_of records') (list_of records) cells'.values cells.values is'.held.ordered is.held.ordered (sorted_marks cells' records' is') (sorted_marks cells records is) same_marks;
+  hopeless = same_found as_hopeless (list_of records') (list_of records) cells'.values cells.values is'.held.ordered is.held.ordered (sorted_marks cells' records' is') (sorted_marks cells records is) same_marks;
 }
 
 -- new cells without a list
 pub blanks_stay : (cells cells' : ValuedFamilies ℕ) (records : List Record) (w : List ℕ) → IsTrie cells records → AreValuedFamilies cells' → cells'.signs ≡ cells.signs → length w ≤ PATTERN_SIGNS_MAX → AddsBlanks w 0 cells.values cells'.values → SameMaps cells records cells' records
-blanks_stay cells cells' records w is held signs short adds = same_when cells records cells' records is trie (same as_value) (same as_mark)
+blanks_stay cells cells' records w is held signs short adds = same_when cells records cells' records is trie (same as_value) (same as_hopeless)
   where
     blank : (k : ℕ) → IsListHead records (take k w) 0
     blank k = record {
@@ -125,7 +125,7 @@ blanks_stay cells cells' records w is held signs short adds = same_when cells re
 
 -- further records
 pub records_stay : (cells : ValuedFamilies ℕ) (records records' : List Record) → IsTrie cells records → Grows records records' → SameMaps cells records cells records'
-records_stay cells records records' is grows = same_when cells records cells records' is trie (same as_value) (same as_mark)
+records_stay cells records records' is grows = same_when cells records cells records' is trie (same as_value) (same as_hopeless)
   where
     heads : (q : List ℕ) (head : ℕ) → find order q cells.values ≡ Some head → IsListHead records' q head
     heads q head at =
@@ -158,7 +158,7 @@ pub record Enters (cells : ValuedFamilies ℕ) (records : List Record) (q : List
   pub marked : nat_lt x.0 HOPELESS ≡ false → ((maps_of cells' records).patterns ≡ (maps_of cells records).patterns) × ((maps_of cells' records).hopeless ≡ put dotted_cmp (q, x.1) (tt {0}) (maps_of cells records).hopeless)
 
 pub enters : (cells cells' : ValuedFamilies ℕ) (records : List Record) (q : List ℕ) (head new : ℕ) (x : ℕ × ℕ) → IsTrie cells records → AreValuedFamilies cells' → cells' ≡ record cells { values = put order q new cells.values }
-    → find order q cells.values ≡ Some head → new ≤ length records → list_of records new ≡ entered x (list_of records head) → 1 ≤ x.0 → x.0 ≤ HOPELESS → x.1 ≤ length q → Enters cells records q x cells'
+    → find order q cells.values ≡ Some head → new ≤ length records → list_of records new ≡ list_with x (list_of records head) → 1 ≤ x.0 → x.0 ≤ HOPELESS → x.1 ≤ length q → Enters cells records q x cells'
 enters cells cells' records q head new x is held put_is at inside list low high dot = record { trie = trie; raised = raised; marked = marked }
   where
     values : cells'.values ≡ put order q new cells.values
@@ -196,8 +196,8 @@ enters cells cells' records q head new x is held put_is at inside list low high 
     in_order : T (is_sorted dotted_cmp (entries as_value (list_of records) (put order q new cells.values)))
     in_order = subst (λ es. T (is_sorted dotted_cmp (entries as_value (list_of records) es))) values (sorted_values cells' records trie)
 
-    marks_in_order : T (is_sorted dotted_cmp (entries as_mark (list_of records) (put order q new cells.values)))
-    marks_in_order = subst (λ es. T (is_sorted dotted_cmp (entries as_mark (list_of records) es))) values (sorted_marks cells' records trie)
+    marks_in_order : T (is_sorted dotted_cmp (entries as_hopeless (list_of records) (put order q new cells.values)))
+    marks_in_order = subst (λ es. T (is_sorted dotted_cmp (entries as_hopeless (list_of records) es))) values (sorted_marks cells' records trie)
 
     raised : nat_lt x.0 HOPELESS ≡ true → ((maps_of cells' records).patterns ≡ raise (maps_of cells records).patterns (q, x.1) x.0) × ((maps_of cells' records).hopeless ≡ (maps_of cells records).hopeless)
     raised value = (
@@ -205,9 +205,9 @@ enters cells cells' records q head new x is held put_is at inside list low high 
           ∙ put_found as_value (list_of records) cells.values q head new x.1 (max x.0 (value_of (maps_of cells records).patterns (q, x.1))) is.held.ordered ordered (sorted_values cells records is) in_order at
           (λ d. ap (found_in as_value d) list ∙ value-entered x value d 0 (list_of records head) here.rises
           ∙ ap (λ o. cond (nat_eq d x.1) (Some (max x.0 (unwrap_or o 0))) (found_in as_value d (list_of records head))) (sym (find-entries as_value (list_of records) cells.values q x.1 is.held.ordered ∙ ap (found_at as_value (list_of records) x.1) at))),
-      ap (entries as_mark (list_of records)) values
-          ∙ kept_found as_mark (list_of records) cells.values q head new is.held.ordered ordered (sorted_marks cells records is) marks_in_order at
-          (λ d. ap (found_in as_mark d) list ∙ marks_stay x value d (list_of records head)),
+      ap (entries as_hopeless (list_of records)) values
+          ∙ kept_found as_hopeless (list_of records) cells.values q head new is.held.ordered ordered (sorted_marks cells records is) marks_in_order at
+          (λ d. ap (found_in as_hopeless d) list ∙ marks_stay x value d (list_of records head)),
     )
 
     marked : nat_lt x.0 HOPELESS ≡ false → ((maps_of cells' records).patterns ≡ (maps_of cells records).patterns) × ((maps_of cells' records).hopeless ≡ put dotted_cmp (q, x.1) (tt {0}) (maps_of cells records).hopeless)
@@ -215,9 +215,9 @@ enters cells cells' records q head new x is held put_is at inside list low high 
       ap (entries as_value (list_of records)) values
           ∙ kept_found as_value (list_of records) cells.values q head new is.held.ordered ordered (sorted_values cells records is) in_order at
           (λ d. ap (found_in as_value d) list ∙ values_stay x mark d (list_of records head)),
-      ap (entries as_mark (list_of records)) values
-          ∙ put_found as_mark (list_of records) cells.values q head new x.1 (tt {0}) is.held.ordered ordered (sorted_marks cells records is) marks_in_order at
-          (λ d. ap (found_in as_mark d) list ∙ mark-entered x mark d (list_of records head)),
+      ap (entries as_hopeless (list_of records)) values
+          ∙ put_found as_hopeless (list_of records) cells.values q head new x.1 (tt {0}) is.held.ordered ordered (sorted_marks cells records is) marks_in_order at
+          (λ d. ap (found_in as_hopeless d) list ∙ mark-entered x mark d (list_of records head)),
     )
 
 -- what is seen where the maps stay

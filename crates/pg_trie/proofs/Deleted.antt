@@ -4,9 +4,9 @@ use Rattle.std.proofs.lemmas.Bool.{cases_Bool, or_cases, or_left, or_right, le-l
 use Rattle.std.proofs.lemmas.List.{append-nil, length_push}
 use Rattle.std.specs.List.{list_any, starts_with}
 use Rattle.std.specs.FinMap.Entries.{find, same_entries}
-use Rattle.pg_types.specs.Placement.{cell_of, keeps_cell, kept}
+use Rattle.pg_types.specs.Placement.{cell_of, keeps_cell, kept_families}
 use Rattle.pg_patterns.specs.DottedSigns.{dotted_cmp}
-use Rattle.pg_patterns.specs.Inside.PlaceOrder.{dotted_total, dotted_exact}
+use Rattle.pg_patterns.specs.Inside.DottedOrder.{dotted_total, dotted_exact}
 use Rattle.pg_outputs.specs.declared.records.Record.{Record}
 use Rattle.pg_outputs.specs.Lists.{list_of}
 use Rattle.pg_outputs.specs.Inside.Heads.{OneHeadEach}
@@ -14,10 +14,10 @@ use Rattle.pg_outputs.proofs.ListLaws.{list_of-zero}
 use Rattle.pg_cells.specs.Inside.ValuedFamilies.{ValuedFamilies}
 use Rattle.pg_cells.specs.Inside.AreValuedFamilies.{AreValuedFamilies}
 use Rattle.pg_cells.proofs.StringMaps.{order}
-use Rattle.pg_trie.specs.declared.mark.TheConstants.{HOPELESS}
+use Rattle.pg_trie.specs.declared.hopeless.TheConstants.{HOPELESS}
 use Rattle.pg_trie.specs.Inside.IsTrie.{IsTrie}
 use Rattle.pg_trie.specs.Inside.Lists.{rank, Rises, DotsUpTo}
-use Rattle.pg_trie.specs.Inside.Maps.{Maps, maps_of, as_value, as_mark}
+use Rattle.pg_trie.specs.Inside.Maps.{Maps, maps_of, as_value, as_hopeless}
 use Rattle.pg_trie.specs.Inside.Pruned.{kept_by, IsKeep, Prunes}
 use Rattle.pg_trie.specs.Inside.Renewed.{values_in, AreFresh, Renews}
 use Rattle.pg_trie.proofs.Found.{found_first, found_in, found_at, find-entries}
@@ -52,13 +52,13 @@ values_found d (x ∷ xs) =
       | inr e ↦ ap (found_in as_value d) (mark_left x.0 x.1 xs e) ∙ more ∙ sym (ap (λ o. found_first d x.1 o (found_in as_value d xs)) (as_value_is x.0 false e))
     ]
 
-no_marks : (d : ℕ) (l : List (ℕ × ℕ)) → found_in as_mark d (values_in l) ≡ None
+no_marks : (d : ℕ) (l : List (ℕ × ℕ)) → found_in as_hopeless d (values_in l) ≡ None
 no_marks d [] = refl
 no_marks d (x ∷ xs) =
     let more = no_marks d xs in
     elim (cases_Bool (nat_lt x.0 HOPELESS)) [
-      | inl e ↦ ap (found_in as_mark d) (value_kept x.0 x.1 xs e) ∙ ap (λ o. found_first d x.1 o (found_in as_mark d (values_in xs))) (as_mark_is x.0 true e) ∙ more
-      | inr e ↦ ap (found_in as_mark d) (mark_left x.0 x.1 xs e) ∙ more
+      | inl e ↦ ap (found_in as_hopeless d) (value_kept x.0 x.1 xs e) ∙ ap (λ o. found_first d x.1 o (found_in as_hopeless d (values_in xs))) (as_mark_is x.0 true e) ∙ more
+      | inr e ↦ ap (found_in as_hopeless d) (mark_left x.0 x.1 xs e) ∙ more
     ]
 
 -- the strings with new heads for their values
@@ -217,33 +217,33 @@ module _ (cells : ValuedFamilies ℕ) (records : List Record) (is : IsTrie cells
     pub left_hopeless : (maps_of left fresh).hopeless ≡ []
     left_hopeless =
         same_entries dotted_cmp dotted_total dotted_exact (maps_of left fresh).hopeless [] (sorted_marks left fresh left_trie) tt
-        (λ k. find-entries as_mark (list_of fresh) left.values k.0 k.1 p.held.ordered ∙ none k.0 k.1 (find order k.0 left.values) refl)
+        (λ k. find-entries as_hopeless (list_of fresh) left.values k.0 k.1 p.held.ordered ∙ none k.0 k.1 (find order k.0 left.values) refl)
       where
-        none : (q : List ℕ) (d : ℕ) (o : Option ℕ) → find order q left.values ≡ o → found_at as_mark (list_of fresh) d (find order q left.values) ≡ None
-        none q d None at = ap (found_at as_mark (list_of fresh) d) at
+        none : (q : List ℕ) (d : ℕ) (o : Option ℕ) → find order q left.values ≡ o → found_at as_hopeless (list_of fresh) d (find order q left.values) ≡ None
+        none q d None at = ap (found_at as_hopeless (list_of fresh) d) at
         none q d (Some head) at =
             let at' = left_head q head at in
             let b = new.back q head at' in
             let l = new.lists q b.0 b.1 in
             let both : Some l.0 ≡ Some head = sym l.1 ∙ at' in
             let same : l.0 ≡ head = cc in
-            ap (found_at as_mark (list_of fresh) d) at ∙ ap (λ h. found_in as_mark d (list_of fresh h)) (sym same) ∙ ap (found_in as_mark d) l.3 ∙ no_marks d (list_of records b.0)
+            ap (found_at as_hopeless (list_of fresh) d) at ∙ ap (λ h. found_in as_hopeless d (list_of fresh h)) (sym same) ∙ ap (found_in as_hopeless d) l.3 ∙ no_marks d (list_of records b.0)
 
-    pub left_families : left.families ≡ kept strings_of cells.families
+    pub left_families : left.families ≡ kept_families strings_of cells.families
     left_families = p.families ∙ ap (kept_by keeps) new.families
 
     -- what is seen of the trie that is left
-    pub left_view : (m : Maps) → maps_of cells records ≡ m → maps_of left fresh ≡ record m { hopeless = []; families = kept (map (λ e. e.0.0) m.patterns) m.families; records = fresh }
+    pub left_view : (m : Maps) → maps_of cells records ≡ m → maps_of left fresh ≡ record m { hopeless = []; families = kept_families (map (λ e. e.0.0) m.patterns) m.families; records = fresh }
     left_view m seen =
         let signs_are : left.signs ≡ m.signs = p.signs ∙ new.signs ∙ ap (λ (m : Maps). m.signs) seen in
-        let families_are : left.families ≡ kept (map (λ e. e.0.0) m.patterns) m.families = left_families ∙ ap (λ (m : Maps). kept (map (λ e. e.0.0) m.patterns) m.families) seen in
+        let families_are : left.families ≡ kept_families (map (λ e. e.0.0) m.patterns) m.families = left_families ∙ ap (λ (m : Maps). kept_families (map (λ e. e.0.0) m.patterns) m.families) seen in
         let patterns_are : (maps_of left fresh).patterns ≡ m.patterns = left_patterns ∙ ap (λ (m : Maps). m.patterns) seen in
         λ i. record { signs = signs_are i; families = families_are i; patterns = patterns_are i; hopeless = left_hopeless i; records = fresh }
 
 -- what a trie is whose hopeless marks were deleted
 pub record IsDeleted (m : Maps) (left : ValuedFamilies ℕ) (fresh : List Record) : Type 0 where
   pub trie : IsTrie left fresh
-  pub view : maps_of left fresh ≡ record m { hopeless = []; families = kept (map (λ e. e.0.0) m.patterns) m.families; records = fresh }
+  pub view : maps_of left fresh ≡ record m { hopeless = []; families = kept_families (map (λ e. e.0.0) m.patterns) m.families; records = fresh }
 
 pub deleted : (cells : ValuedFamilies ℕ) (records : List Record) (is : IsTrie cells records) (cells' : ValuedFamilies ℕ) (fresh : List Record) (new : HasFresh cells records cells' fresh) (one_head : OneHeadEach fresh) (left : ValuedFamilies ℕ)
     → ((keep : List ℕ → Bool) → IsKeep keep cells' → Prunes keep cells' left) → (m : Maps) → maps_of cells records ≡ m → IsDeleted m left fresh

@@ -7,7 +7,7 @@ use Rattle.std.specs.Ordering.{nat_cmp, eq_by_cmp, is_eq, is_lt, ordering_then}
 use Rattle.std.specs.Cmp.{tied_itself, unsigned_tied}
 use Rattle.std.specs.FinMap.Entries.{find, is_sorted, below_all}
 use Rattle.pg_patterns.specs.DottedSigns.{dotted_cmp}
-use Rattle.pg_patterns.specs.Inside.PlaceOrder.{dotted_exact}
+use Rattle.pg_patterns.specs.Inside.DottedOrder.{dotted_exact}
 use Rattle.pg_types.proofs.BoolFacts.{equal_is, first_half, second_half, is_true, less_is, both_halves}
 use Rattle.pg_cells.proofs.StringMaps.{order, equal_or_not, find_below, head_below, tail_sorted}
 use Rattle.pg_trie.specs.Inside.Maps.{with_entry, entries_of, entries}

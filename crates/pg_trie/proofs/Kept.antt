@@ -18,10 +18,10 @@ use Rattle.pg_outputs.specs.Lists.{list_of}
 use Rattle.pg_cells.specs.Inside.ValuedFamilies.{ValuedFamilies}
 use Rattle.pg_cells.specs.Inside.AreValuedFamilies.{AreValuedFamilies}
 use Rattle.pg_cells.proofs.StringMaps.{order, equal_or_not, find_below, head_below, tail_sorted}
-use Rattle.pg_trie.specs.declared.mark.TheConstants.{HOPELESS}
+use Rattle.pg_trie.specs.declared.hopeless.TheConstants.{HOPELESS}
 use Rattle.pg_trie.specs.Inside.IsTrie.{IsTrie}
 use Rattle.pg_trie.specs.Inside.Lists.{rank, Rises, DotsUpTo}
-use Rattle.pg_trie.specs.Inside.Maps.{maps_of, entries_of, entries, with_entry, as_value, as_mark, is_dotted, AreKept}
+use Rattle.pg_trie.specs.Inside.Maps.{maps_of, entries_of, entries, with_entry, as_value, as_hopeless, is_dotted, AreKept}
 use Rattle.pg_trie.proofs.Rising.{as_value_is, as_mark_is}
 use Rattle.pg_trie.proofs.Changes.{sorted_values, sorted_marks}
 
@@ -97,15 +97,15 @@ values_entries n q s r (x ∷ xs) h dots =
       | inr e ↦ subst (λ o. All (λ e. is_entry e ≡ true) (with_entry as_value (q, x.1) o (entries_of as_value q xs))) (sym (as_value_is x.0 false e)) more
     ]
 
-marks_places : (n : ℕ) (q : List ℕ) → IsString n q → (xs : List (ℕ × ℕ)) → DotsUpTo (length q) xs → All (λ e. is_dotted n e.0 ≡ true) (entries_of as_mark q xs)
+marks_places : (n : ℕ) (q : List ℕ) → IsString n q → (xs : List (ℕ × ℕ)) → DotsUpTo (length q) xs → All (λ e. is_dotted n e.0 ≡ true) (entries_of as_hopeless q xs)
 marks_places n q s [] dots = All-nil (λ e. is_dotted n e.0 ≡ true)
 marks_places n q s (x ∷ xs) dots =
     let more = marks_places n q s xs dots.1 in
     elim (cases_Bool (nat_lt x.0 HOPELESS)) [
-      | inl e ↦ subst (λ o. All (λ e. is_dotted n e.0 ≡ true) (with_entry as_mark (q, x.1) o (entries_of as_mark q xs))) (sym (as_mark_is x.0 true e)) more
+      | inl e ↦ subst (λ o. All (λ e. is_dotted n e.0 ≡ true) (with_entry as_hopeless (q, x.1) o (entries_of as_hopeless q xs))) (sym (as_mark_is x.0 true e)) more
       | inr e ↦
-          subst (λ o. All (λ e. is_dotted n e.0 ≡ true) (with_entry as_mark (q, x.1) o (entries_of as_mark q xs))) (sym (as_mark_is x.0 false e))
-          (All-cons (λ e. is_dotted n e.0 ≡ true) ((q, x.1), tt {0}) (entries_of as_mark q xs)
+          subst (λ o. All (λ e. is_dotted n e.0 ≡ true) (with_entry as_hopeless (q, x.1) o (entries_of as_hopeless q xs))) (sym (as_mark_is x.0 false e))
+          (All-cons (λ e. is_dotted n e.0 ≡ true) ((q, x.1), tt {0}) (entries_of as_hopeless q xs)
           (and_from (nat_le 1 (length q) && nat_le (length q) PATTERN_SIGNS_MAX && list_all (is_known n) q) (nat_le x.1 (length q))
           (and_from (nat_le 1 (length q) && nat_le (length q) PATTERN_SIGNS_MAX) (list_all (is_known n) q)
           (and_from (nat_le 1 (length q)) (nat_le (length q) PATTERN_SIGNS_MAX) (le-leb 1 (length q) s.some) (le-leb (length q) PATTERN_SIGNS_MAX s.few)) s.signs)
@@ -133,7 +133,7 @@ are_kept cells records is = record {
   known = all-entries as_value (λ e. All (λ s. s ≤ cells.signs) e.0.0) (list_of records) cells.values is.held.ordered (λ q head at. values_known cells.signs q (string q head at) (list_of records head));
   sorted = sorted_marks cells records is;
   places = all_tests (λ e. is_dotted cells.signs e.0) (maps_of cells records).hopeless
-      (all-entries as_mark (λ e. is_dotted cells.signs e.0 ≡ true) (list_of records) cells.values is.held.ordered
+      (all-entries as_hopeless (λ e. is_dotted cells.signs e.0 ≡ true) (list_of records) cells.values is.held.ordered
       (λ q head at. let h = is.heads q head at in marks_places cells.signs q (string q head at) (list_of records head) h.dots));
 }
   where

@@ -10,7 +10,7 @@ use Rattle.std.specs.Cmp.Lexicographic.{pointwise, texts_ties}
 use Rattle.std.specs.List.{list_any, starts_with}
 use Rattle.std.specs.FinMap.Entries.{find, is_sorted}
 use Rattle.pg_cells.proofs.StringMaps.{order, same_from, equal_or_not, find_below, head_below, tail_sorted}
-use Rattle.pg_trie.specs.declared.mark.TheConstants.{HOPELESS}
+use Rattle.pg_trie.specs.declared.hopeless.TheConstants.{HOPELESS}
 use Rattle.pg_trie.specs.Inside.Maps.{entries_of, with_entry, entries, as_value}
 use Rattle.pg_trie.specs.Inside.Renewed.{values_in}
 use Rattle.pg_trie.proofs.Rising.{as_value_is}

@@ -8,20 +8,20 @@ use Rattle.pg_outputs.specs.Lists.{list_of}
 use Rattle.pg_cells.specs.Inside.ValuedFamilies.{ValuedFamilies}
 use Rattle.pg_cells.proofs.StringMaps.{order}
 use Rattle.pg_trie.specs.Inside.IsTrie.{IsTrie}
-use Rattle.pg_trie.specs.Inside.Lists.{outputs_at, outputs_at_dot, value_part, mark_part}
-use Rattle.pg_trie.specs.Inside.Maps.{maps_of, as_value, as_mark}
+use Rattle.pg_trie.specs.Inside.Lists.{outputs_at, outputs_at_dot, value_part, hopeless_part}
+use Rattle.pg_trie.specs.Inside.Maps.{maps_of, as_value, as_hopeless}
 use Rattle.pg_trie.proofs.Found.{found_at, find-entries}
 use Rattle.pg_trie.proofs.Rebuilt.{part, same_parts, rebuilt}
 
 -- what the maps have at a dot of a string, by the head of the string
 part_at : (ℕ → List (ℕ × ℕ)) → Option ℕ → ℕ → List (ℕ × ℕ)
-part_at f o d = value_part (found_at as_value f d o) d ++ mark_part (found_at as_mark f d o) d
+part_at f o d = value_part (found_at as_value f d o) d ++ hopeless_part (found_at as_hopeless f d o) d
 
 at_dot : (cells : ValuedFamilies ℕ) (records : List Record) → IsTrie cells records → (q : List ℕ) (d : ℕ) → outputs_at_dot (maps_of cells records).patterns (maps_of cells records).hopeless q d ≡ part_at (list_of records) (find order q cells.values) d
 unfolding part_at
 at_dot cells records is q d =
-    ap (λ o. value_part o d ++ mark_part (find dotted_cmp (q, d) (maps_of cells records).hopeless) d) (find-entries as_value (list_of records) cells.values q d is.held.ordered)
-    ∙ ap (λ o. value_part (found_at as_value (list_of records) d (find order q cells.values)) d ++ mark_part o d) (find-entries as_mark (list_of records) cells.values q d is.held.ordered)
+    ap (λ o. value_part o d ++ hopeless_part (find dotted_cmp (q, d) (maps_of cells records).hopeless) d) (find-entries as_value (list_of records) cells.values q d is.held.ordered)
+    ∙ ap (λ o. value_part (found_at as_value (list_of records) d (find order q cells.values)) d ++ hopeless_part o d) (find-entries as_hopeless (list_of records) cells.values q d is.held.ordered)
 
 pub list_is : (cells : ValuedFamilies ℕ) (records : List Record) → IsTrie cells records → (q : List ℕ) (head : ℕ) → find order q cells.values ≡ Some head → list_of records head ≡ outputs_at (maps_of cells records).patterns (maps_of cells records).hopeless q
 unfolding outputs_at part_at

@@ -12,7 +12,7 @@ use Rattle.pg_outputs.proofs.RecordLaws.{there_or_new}
 use Rattle.pg_cells.specs.Inside.ValuedFamilies.{ValuedFamilies}
 use Rattle.pg_cells.specs.Inside.AreValuedFamilies.{AreValuedFamilies}
 use Rattle.pg_cells.proofs.StringMaps.{order, same_string, equal_or_not, find_put_same, find_put_other}
-use Rattle.pg_trie.specs.declared.mark.TheConstants.{HOPELESS}
+use Rattle.pg_trie.specs.declared.hopeless.TheConstants.{HOPELESS}
 use Rattle.pg_trie.specs.Inside.Renewed.{values_in, AreNeeded, IsFreshHead, AreFreshTo, RenewsTo, Renews}
 
 pub value_kept : (v d : ℕ) (rest : List (ℕ × ℕ)) → nat_lt v HOPELESS ≡ true → values_in ((v, d) ∷ rest) ≡ (v, d) ∷ values_in rest

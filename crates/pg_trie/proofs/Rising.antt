@@ -1,9 +1,9 @@
 -- Lists that rise: what is found in them, also after a value or a mark is entered.
 use Rattle.std.proofs.Common.{◌≡◌, ◌≢◌, ℕ, ◌+◌, ◌*◌, ◌<◌, ◌≤◌, Bool, true, false, cond, nat_lt, List, [], ◌∷◌, None, Some, inl, inr, refl, sym, ◌∙◌, ap, subst, arith}
 use Rattle.std.proofs.lemmas.Bool.{ne_eqb, cases_Bool}
-use Rattle.pg_trie.specs.declared.mark.TheConstants.{HOPELESS}
+use Rattle.pg_trie.specs.declared.hopeless.TheConstants.{HOPELESS}
 use Rattle.pg_trie.specs.Inside.Lists.{rank, Rises}
-use Rattle.pg_trie.specs.Inside.Maps.{as_value, as_mark}
+use Rattle.pg_trie.specs.Inside.Maps.{as_value, as_hopeless}
 use Rattle.pg_trie.proofs.Found.{found_first, found_in, picks_rise, PicksRise}
 
 pub rank_value : (x : ℕ × ℕ) → nat_lt x.0 HOPELESS ≡ true → rank x ≡ 2 * x.1
@@ -15,7 +15,7 @@ rank_mark x e = rw e (omega arith)
 pub as_value_is : (v : ℕ) (b : Bool) → nat_lt v HOPELESS ≡ b → as_value v ≡ cond b (Some v) None
 as_value_is v b e = ap (λ t. cond t (Some v) None) e
 
-pub as_mark_is : (v : ℕ) (b : Bool) → nat_lt v HOPELESS ≡ b → as_mark v ≡ cond b None (Some (tt {0}))
+pub as_mark_is : (v : ℕ) (b : Bool) → nat_lt v HOPELESS ≡ b → as_hopeless v ≡ cond b None (Some (tt {0}))
 as_mark_is v b e = ap (λ t. cond t None (Some (tt {0}))) e
 
 -- a list that rises from r on rises from less on
@@ -38,16 +38,16 @@ values_rise r d (x ∷ xs) le h = elim (cases_Bool (nat_lt x.0 HOPELESS)) [
 ]
 
 -- and so do those of its marks
-pub marks_rise : (r d : ℕ) (xs : List (ℕ × ℕ)) → 2 * d ≤ r → Rises r xs → PicksRise as_mark xs d
+pub marks_rise : (r d : ℕ) (xs : List (ℕ × ℕ)) → 2 * d ≤ r → Rises r xs → PicksRise as_hopeless xs d
 marks_rise r d [] le h = tt
 marks_rise r d (x ∷ xs) le h = elim (cases_Bool (nat_lt x.0 HOPELESS)) [
   | inl e ↦
       let is : rank x ≡ 2 * x.1 = rank_value x e in
-      subst (λ o. picks_rise as_mark o d x.1 (PicksRise as_mark xs)) (sym (as_mark_is x.0 true e))
+      subst (λ o. picks_rise as_hopeless o d x.1 (PicksRise as_hopeless xs)) (sym (as_mark_is x.0 true e))
       (marks_rise (rank x + 1) d xs (omega (arith, h.0)) h.3)
   | inr e ↦
       let is : rank x ≡ 2 * x.1 + 1 = rank_mark x e in
-      subst (λ o. picks_rise as_mark o d x.1 (PicksRise as_mark xs)) (sym (as_mark_is x.0 false e))
+      subst (λ o. picks_rise as_hopeless o d x.1 (PicksRise as_hopeless xs)) (sym (as_mark_is x.0 false e))
       (omega (arith, h.0), marks_rise (rank x + 1) (x.1 + 1) xs (omega arith) h.3)
 ]
 
@@ -65,14 +65,14 @@ no_value r d (x ∷ xs) lt h =
     ]
 
 -- and no mark
-pub no_mark : (r d : ℕ) (xs : List (ℕ × ℕ)) → 2 * d + 1 < r → Rises r xs → found_in as_mark d xs ≡ None
+pub no_mark : (r d : ℕ) (xs : List (ℕ × ℕ)) → 2 * d + 1 < r → Rises r xs → found_in as_hopeless d xs ≡ None
 no_mark r d [] lt h = refl
 no_mark r d (x ∷ xs) lt h =
     let more = no_mark (rank x + 1) d xs (omega (arith, h.0)) h.3 in
     elim (cases_Bool (nat_lt x.0 HOPELESS)) [
-      | inl e ↦ ap (λ o. found_first d x.1 o (found_in as_mark d xs)) (as_mark_is x.0 true e) ∙ more
+      | inl e ↦ ap (λ o. found_first d x.1 o (found_in as_hopeless d xs)) (as_mark_is x.0 true e) ∙ more
       | inr e ↦
           let is : rank x ≡ 2 * x.1 + 1 = rank_mark x e in
           let other : d ≢ x.1 = λ z. omega (arith, h.0) in
-          ap (λ o. found_first d x.1 o (found_in as_mark d xs)) (as_mark_is x.0 false e) ∙ ap (λ b. cond b (Some (tt {0})) (found_in as_mark d xs)) (ne_eqb d x.1 other) ∙ more
+          ap (λ o. found_first d x.1 o (found_in as_hopeless d xs)) (as_mark_is x.0 false e) ∙ ap (λ b. cond b (Some (tt {0})) (found_in as_hopeless d xs)) (ne_eqb d x.1 other) ∙ more
     ]

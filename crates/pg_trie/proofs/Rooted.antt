@@ -13,7 +13,7 @@ use Rattle.pg_cells.specs.Inside.Root.{root_held}
 use Rattle.pg_cells.proofs.StringMaps.{order, equal_or_not}
 use Rattle.pg_trie.specs.Inside.IsTrie.{IsTrie}
 use Rattle.pg_trie.specs.Inside.Lists.{Rises, DotsUpTo}
-use Rattle.pg_trie.specs.Inside.Maps.{maps_of, entries_of, entries, as_value, as_mark}
+use Rattle.pg_trie.specs.Inside.Maps.{maps_of, entries_of, entries, as_value, as_hopeless}
 
 -- heads 0 of single signs
 abbrev singles : List ℕ → List (List ℕ × ℕ)
@@ -54,5 +54,5 @@ pub root_view : (n : ℕ) (cells : ValuedFamilies ℕ) (records : List Record) �
     → maps_of cells records ≡ record { signs = n; families = root n; patterns = []; hopeless = []; records = [] }
 root_view n cells records is none =
     let patterns_are : (maps_of cells records).patterns ≡ [] = ap (λ (h : ValuedFamilies ℕ). entries as_value (list_of records) h.values) is ∙ root_entries as_value (list_of records) (range_with_len 1 n) (list_of-zero records) in
-    let marks_are : (maps_of cells records).hopeless ≡ [] = ap (λ (h : ValuedFamilies ℕ). entries as_mark (list_of records) h.values) is ∙ root_entries as_mark (list_of records) (range_with_len 1 n) (list_of-zero records) in
+    let marks_are : (maps_of cells records).hopeless ≡ [] = ap (λ (h : ValuedFamilies ℕ). entries as_hopeless (list_of records) h.values) is ∙ root_entries as_hopeless (list_of records) (range_with_len 1 n) (list_of-zero records) in
     λ i. record { signs = (is i).signs; families = (is i).families; patterns = patterns_are i; hopeless = marks_are i; records = none i }

@@ -10,7 +10,7 @@ ghost use Rattle.pg_trie.specs.Inside.Maps.{maps_of, entries_of, as_value};
 ghost use Rattle.pg_trie.specs.Inside.Strings.{AreStrings};
 
 use crate::head::Head;
-use crate::mark::HOPELESS;
+use crate::hopeless::HOPELESS;
 use crate::strings::{strings, value_of};
 use pg_cells::Cells;
 use pg_outputs::Outputs;
@@ -40,7 +40,7 @@ fn push_values(
     Ok(())
 }
 
-// The values of the strings, each with its place.
+// The values of the strings, each with its dotted string.
 fn gather(
     alloc: Global,
     cells: &Cells<Head, FEW_SIGNS>,
@@ -61,7 +61,7 @@ fn gather(
     Ok(entries)
 }
 
-/// The values of all strings, each with its place.
+/// The values of all strings, each with its dotted string.
 pub fn entries(
     alloc: Global,
     cells: &Cells<Head, FEW_SIGNS>,

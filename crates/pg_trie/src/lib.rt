@@ -1,15 +1,15 @@
-//! The trie of the patterns and hopeless marks, in packed cells whose values are heads of shared
+//! The trie of the patterns and hopeless entries, in packed cells whose values are heads of shared
 //! lists.
 #![tactic(auto)]
 
 mod copy;
 mod head;
-mod mark;
+mod hopeless;
 mod prune;
 mod raise;
 mod renew;
 mod strings;
 mod trie;
 
-pub use mark::HOPELESS;
+pub use hopeless::HOPELESS;
 pub use trie::PatternTrie;

@@ -1,11 +1,11 @@
-//! The list of a string with one value or mark more.
+//! The list of a string with one value or hopeless entry more.
 ghost use Rattle.std.specs.Prelude.{◌≡◌, ◌<◌, ◌≤◌, ◌↔◌, length, IfOk, IsTrue};
 ghost use Rattle.pg_outputs.specs.Lists.{list_of};
 ghost use Rattle.pg_outputs.specs.Inside.Heads.{Grows, OneHeadEach};
-ghost use Rattle.pg_trie.specs.Inside.Lists.{rank, entered};
+ghost use Rattle.pg_trie.specs.Inside.Lists.{rank, list_with};
 
 use crate::head::{Head, in_four_bytes};
-use crate::mark::HOPELESS;
+use crate::hopeless::HOPELESS;
 use pg_outputs::Outputs;
 use std::alloc::AllocError;
 
@@ -17,7 +17,7 @@ fn stands_before(value: u8, dot: u8, other: u8, other_dot: u8) -> bool
     dot < other_dot || dot == other_dot && value < HOPELESS && other >= HOPELESS
 }
 
-// Whether two values at dots are both values of one dot, or both its mark.
+// Whether two values at dots are both values of one dot, or both its hopeless entry.
 fn stands_beside(value: u8, dot: u8, other: u8, other_dot: u8) -> bool
     ensures { IsTrue result ↔ (rank (value, dot) ≡ rank (other, other_dot)) }
 {
@@ -28,7 +28,7 @@ fn stands_beside(value: u8, dot: u8, other: u8, other_dot: u8) -> bool
 fn raised(outputs: &mut Outputs, head: u64, value: u8, dot: u8) -> Result<u64, AllocError>
     requires { head ≤ length outputs.old }
     ensures list { IfOk result
-        (λ h. list_of outputs.new h ≡ entered (value, dot) (list_of outputs.old head)) }
+        (λ h. list_of outputs.new h ≡ list_with (value, dot) (list_of outputs.old head)) }
     ensures inside { IfOk result (λ h. h ≤ length outputs.new) }
     ensures grows { Grows outputs.old outputs.new }
 {
@@ -50,7 +50,7 @@ fn raised(outputs: &mut Outputs, head: u64, value: u8, dot: u8) -> Result<u64, A
 pub fn raised_head(outputs: &mut Outputs, head: u64, value: u8, dot: u8) -> Result<Head, AllocError>
     requires { head ≤ length outputs.old }
     ensures list { IfOk result
-        (λ h. list_of outputs.new h ≡ entered (value, dot) (list_of outputs.old head)) }
+        (λ h. list_of outputs.new h ≡ list_with (value, dot) (list_of outputs.old head)) }
     ensures inside { IfOk result (λ h. h ≤ length outputs.new) }
     ensures grows { Grows outputs.old outputs.new }
 {

@@ -1,4 +1,4 @@
-//! The lists of the strings without their hopeless marks, in new records.
+//! The lists of the strings without their hopeless entries, in new records.
 ghost use Rattle.std.specs.Prelude.{◌≡◌, ◌+◌, ◌<◌, ◌≤◌, ℕ, List, length, Some, IfOk, OnOk};
 ghost use Rattle.std.specs.FinMap.{find};
 ghost use Rattle.std.specs.Cmp.Lexicographic.{slice_cmp};
@@ -10,13 +10,13 @@ ghost use Rattle.pg_trie.specs.Inside.IsTrie.{IsTrie};
 ghost use Rattle.pg_trie.specs.Inside.Renewed.{values_in, AreNeeded, AreFreshTo, AreFresh, Renews};
 
 use crate::head::{Head, in_four_bytes};
-use crate::mark::HOPELESS;
+use crate::hopeless::HOPELESS;
 use pg_cells::Cells;
 use pg_outputs::Outputs;
 use pg_types::FEW_SIGNS;
 use std::alloc::{AllocError, Global};
 
-// The head of a list's values without its mark, among the new records.
+// The head of a list's values without its hopeless entry, among the new records.
 fn fresh_head(outputs: &Outputs, head: u64, fresh: &mut Outputs) -> Result<u64, AllocError>
     requires { head ≤ length outputs.now }
     ensures list { IfOk result (λ h. list_of fresh.new h ≡ values_in (list_of outputs.now head)) }

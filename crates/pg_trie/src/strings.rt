@@ -40,7 +40,7 @@ pub fn value_of(cells: &Cells<Head, FEW_SIGNS>, signs: &[Sign]) -> u64
     }
 }
 
-// The place at dot 0 of the prefix with one sign more.
+// The prefix with one sign more, with the dot 0.
 fn longer(prefix: &[Sign], s: Sign) -> DottedSigns
     requires { length prefix.now < PATTERN_SIGNS_MAX }
     ensures { result ≡ (prefix.now ++ s ∷ [], 0) }

@@ -2,14 +2,14 @@
 ghost use Rattle.std.specs.Prelude.{◌≡◌, ℕ, ◌+◌, ◌<◌, ◌≤◌, List, [], ◌∷◌, ◌++◌, length, map, take, All, Some, None, IfOk, OnOk, OnErr};
 ghost use Rattle.std.specs.FinMap.Entries.{put};
 ghost use Rattle.pg_types.specs.declared.limits.TheConstants.{LEVEL_MAX, PATTERN_SIGNS_MAX, SIGNS_MAX};
-ghost use Rattle.pg_types.specs.Placement.{cell_of, root, enter, kept, taken, top};
+ghost use Rattle.pg_types.specs.Placement.{cell_of, root, enter, kept_families, taken_count, top};
 ghost use Rattle.pg_types.specs.Tails.{tails};
 ghost use Rattle.pg_patterns.specs.DottedSigns.{dotted_cmp};
 ghost use Rattle.pg_patterns.specs.Values.{raise};
 ghost use Rattle.pg_outputs.specs.Lists.{list_of};
 ghost use Rattle.pg_outputs.specs.Inside.Heads.{Grows};
 ghost use Rattle.pg_cells.specs.Inside.Walks.{IsAt};
-ghost use Rattle.pg_trie.specs.declared.mark.TheConstants.{HOPELESS};
+ghost use Rattle.pg_trie.specs.declared.hopeless.TheConstants.{HOPELESS};
 ghost use Rattle.pg_trie.specs.Inside.Lists.{outputs_at};
 ghost use Rattle.pg_trie.specs.Inside.Maps.{AreKept};
 
@@ -25,11 +25,11 @@ use pg_types::{FEW_SIGNS, Layout, Sign};
 use std::alloc::{AllocError, Global};
 use std::marker::Model;
 
-/// Two maps from places: the values of the patterns, and the hopeless marks.
+/// Two maps from dotted strings: the values of the patterns, and the hopeless entries.
 ///
-/// Each string has a cell, whose value is the head of the string's list: its values and marks by
-/// rising dot, a value before the mark [`HOPELESS`](crate::HOPELESS) of its dot. Equal ends of
-/// lists share their records.
+/// Each string has a cell, whose value is the head of the string's list: its values and hopeless
+/// entries by rising dot, a value before the entry [`HOPELESS`](crate::HOPELESS) of its dot. Equal
+/// ends of lists share their records.
 #[derive(Drop)]
 pub struct PatternTrie {
     alloc: Global,
@@ -49,7 +49,7 @@ impl Model for PatternTrie {
 }
 
 impl PatternTrie {
-    /// The trie of signs up to `signs`, with neither a value nor a mark.
+    /// The trie of signs up to `signs`, with neither a value nor a hopeless entry.
     pub fn new(alloc: Global, signs: u16) -> Result<PatternTrie, AllocError>
         requires { (1 ≤ signs) × (signs ≤ SIGNS_MAX) }
         ensures { IfOk result (λ t. t ≡ record {
@@ -108,7 +108,7 @@ impl PatternTrie {
 
     /// Goes from a cell, or from the start for `None`, to the cell of the string with the sign
     /// added. `None` tells that no string has a cell there; then no string that begins with this
-    /// one has a value or a mark. It takes no memory.
+    /// one has a value or a hopeless entry. It takes no memory.
     pub fn step(&self, at: Option<usize>, s: Sign) -> Option<usize>
         requires at { (q : List ℕ) × (IsAt self.now.families at q) }
         requires sign { (1 ≤ s) × (s ≤ self.now.signs) }
@@ -139,14 +139,14 @@ impl PatternTrie {
         &self.outputs
     }
 
-    /// Deletes the hopeless marks: a string of several signs that is no prefix of a pattern's loses
-    /// its cell, and there is no record that the values do not need. It takes its memory before it
-    /// changes anything.
+    /// Deletes the hopeless entries: a string of several signs that is no prefix of a pattern's
+    /// loses its cell, and there is no record that the values do not need. It takes its memory
+    /// before it changes anything.
     pub fn delete_hopeless(&mut self) -> Result<(), AllocError>
         ensures ok { OnOk result (self.new
             ≡ record self.old {
               hopeless = [];
-              families = kept (map (λ e. e.0.0) self.old.patterns) self.old.families;
+              families = kept_families (map (λ e. e.0.0) self.old.patterns) self.old.families;
               records = self.new.records;
             }) }
         ensures tails { OnOk result (length self.new.records ≡ tails self.old.patterns) }
@@ -175,7 +175,7 @@ impl PatternTrie {
     /// right after [`PatternTrie::delete_hopeless`]. It takes no memory.
     pub fn layout(&self) -> Layout
         ensures { result ≡ record {
-          taken = taken self.now.families;
+          taken = taken_count self.now.families;
           top = top self.now.families;
           tails = length self.now.records;
         } }

@@ -1,13 +1,13 @@
 -- The layout step by step, and the cells of small tables, computed. In the first table the edge is sign 1, `a` 2, `b` 3 and
 -- `c` 4.
 use Rattle.std.proofs.Common.{◌≡◌, ℕ, [], ◌∷◌, Some, refl}
-use Rattle.pg_types.specs.Placement.{Families, root, enter, with_sign, kept, taken, top, cell_of, base_of}
+use Rattle.pg_types.specs.Placement.{Families, root, enter, with_sign, kept_families, taken_count, top, cell_of, base_of}
 use Rattle.pg_types.specs.Inside.Placing.{without_sign}
 use Rattle.pg_types.specs.Tails.{tails}
 
 -- how many cells are used, and the greatest of them
 abbrev size : Families → ℕ × ℕ
-size fs = (taken fs, top fs)
+size fs = (taken_count fs, top fs)
 
 -- the steps in their order
 abbrev start : Families
@@ -38,7 +38,7 @@ abbrev ab_again : Families
 ab_again = enter 4 edge_a_in (2 ∷ 3 ∷ [])
 
 abbrev at_the_end : Families
-at_the_end = kept ((2 ∷ 3 ∷ []) ∷ []) ab_again
+at_the_end = kept_families ((2 ∷ 3 ∷ []) ∷ []) ab_again
 
 root_alone : size start ≡ (4, 4)
 root_alone = refl

@@ -1,10 +1,10 @@
 -- What only contracts between layers and proofs need.
 pub mod ItemSteps
-pub mod Numbers
+pub mod NumberedStrings
 pub mod Answers
 pub mod Counts
 pub mod Limits
-pub mod Numbered
+pub mod NumberedWindows
 pub mod Parts
 pub mod Placing
 pub mod Ranges

@@ -2,8 +2,7 @@
 use Rattle.std.specs.Prelude.{ℕ, ◌-◌, ◌==◌, Bool, if◌then◌else◌, List, [], ◌∷◌, length, map, take, slice_index}
 use Rattle.std.specs.List.{onto_first}
 
--- the pieces between the bytes that pass a test; a last piece without such a byte behind it counts
--- where it is not empty
+-- the pieces between the bytes that pass a test; an empty piece at the end does not count
 abbrev pub pieces_at : (ℕ → Bool) → List ℕ → List (List ℕ)
 pieces_at test [] = []
 pieces_at test (b ∷ bs) = if test b then [] ∷ pieces_at test bs

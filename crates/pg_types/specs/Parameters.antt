@@ -9,7 +9,7 @@ use Rattle.pg_types.specs.declared.refusals.Kind.TheVariants.{BadNumber, OutOfRa
 use Rattle.pg_types.specs.declared.refusals.Refusal.{Refusal}
 use Rattle.pg_types.specs.declared.parameters.LevelParams.{LevelParams}
 use Rattle.pg_types.specs.Lines.{pieces_at}
-use Rattle.pg_types.specs.Reading.{refused, unless}
+use Rattle.pg_types.specs.Reading.{refusal_at, unless}
 
 -- the parameters of a run: its first and last level, and what each level that is run is given
 pub record Parameters : Type 0 where
@@ -42,8 +42,7 @@ number item = if list_all is_ascii_digit item then Some (fold with_digit 0 item)
 abbrev pub number_at : List (List ℕ) → ℕ → ℕ
 number_at xs k = unwrap_or (option_and_then number (slice_get xs k)) 0
 
--- what a level demands of its five items: each is a number from the least to the greatest. These
--- are the lengths, of which the last is at least the first, the two weights and the threshold
+-- what a level demands of its five items: the lengths, two weights and the threshold, each in range
 abbrev pub level_demands : List (List ℕ) → List (ℕ × ℕ)
 level_demands xs = (1, LENGTH_MAX) ∷ (number_at xs 0, LENGTH_MAX)
     ∷ (1, COST_MAX) ∷ (1, COST_MAX) ∷ (1, COST_MAX) ∷ []
@@ -58,8 +57,7 @@ abbrev pub level_items : List (List ℕ) → List (List (List ℕ))
 level_items xs = map (λ i. drop (2 + 5 * i) xs)
     (range_with_len 0 (min (number_at xs 1) LEVEL_MAX + 1 - number_at xs 0))
 
--- what a file demands of its items: the first and the last level, and then five numbers for each
--- level that is run
+-- what a file demands of its items: the first and last level, then five numbers for each level
 abbrev pub demands : List (List ℕ) → List (ℕ × ℕ)
 demands xs = (1, LEVEL_MAX) ∷ (1, LEVEL_MAX) ∷ flat_map level_demands (level_items xs)
 
@@ -81,17 +79,17 @@ is_answer item = false
 -- the refusal of the first item behind the numbers, where one answer may stand
 abbrev pub surplus : ℕ → List (List ℕ) → Option Refusal
 surplus place [] = None
-surplus place (x ∷ []) = if is_answer x then None else Some (refused place Extra 0)
-surplus place (x ∷ y ∷ xs) = Some (refused (if is_answer x then place + 1 else place) Extra 0)
+surplus place (x ∷ []) = if is_answer x then None else Some (refusal_at place Extra 0)
+surplus place (x ∷ y ∷ xs) = Some (refusal_at (if is_answer x then place + 1 else place) Extra 0)
 
 -- the refusal of the first item that fails its demand, where the first item has the number place
 abbrev pub refusal_from : ℕ → List (ℕ × ℕ) → List (List ℕ) → Option Refusal
 refusal_from place [] xs = surplus place xs
-refusal_from place (d ∷ ds) [] = Some (refused place Missing 0)
-refusal_from place (d ∷ ds) (x ∷ xs) = option_map_or (λ kind. Some (refused place kind 0))
+refusal_from place (d ∷ ds) [] = Some (refusal_at place Missing 0)
+refusal_from place (d ∷ ds) (x ∷ xs) = option_map_or (λ kind. Some (refusal_at place kind 0))
     (failure d x) (refusal_from (place + 1) ds xs)
 
 -- the parameters that a file holds, or its refusal
 abbrev pub parameters : List ℕ → Result Parameters Refusal
-parameters bytes = if nat_lt FILE_MAX (length bytes) then Err (refused 0 ParametersTooLong 0)
+parameters bytes = if nat_lt FILE_MAX (length bytes) then Err (refusal_at 0 ParametersTooLong 0)
     else unless (refusal_from 1 (demands (items bytes)) (items bytes)) (parameters_of (items bytes))

@@ -33,8 +33,8 @@ abbrev pub used_cells : Families → List ℕ
 used_cells fs = flat_map (λ e. map (λ s. e.1.base + s) e.1.signs) fs
 
 -- the number of used cells
-abbrev pub taken : Families → ℕ
-taken fs = length (used_cells fs)
+abbrev pub taken_count : Families → ℕ
+taken_count fs = length (used_cells fs)
 
 -- the greatest used cell
 abbrev pub top : Families → ℕ
@@ -52,32 +52,27 @@ is_base fs b = list_any (λ e. nat_eq b e.1.base) fs
 abbrev pub fits_at : Families → List ℕ → ℕ → Bool
 fits_at fs signs b = not (is_base fs b) && list_all (λ s. not (is_used fs (b + s))) signs
 
--- how far below the greatest used cell the search begins for a family of more than few signs, in a
--- table of n signs. Patterns are never placed with few 0, and there the search begins near that
--- cell
+-- how far below the top a family of more than few signs is sought, in a table of n signs
 abbrev pub far_from_top : ℕ → ℕ → ℕ
 far_from_top few n = if nat_eq few 0 then NEAR_BELOW else max FAR_BELOW n
 
--- the lowest base that is tried for so many signs, where t is the greatest used cell and up to few
--- signs are placed from base 1 on
+-- the lowest base that is tried for so many signs, where t is the greatest used cell
 abbrev pub lowest_base : ℕ → ℕ → ℕ → ℕ → ℕ
 lowest_base few n count t = if nat_le count few then 1 else max 1 (t - far_from_top few n)
 
--- the first of b, b + 1 and so on that meets the test; after so many that do not, the next one,
--- untested
+-- the first of b, b + 1 and so on that meets the test; after so many that fail, the next one
 abbrev pub first_from : (ℕ → Bool) → ℕ → ℕ → ℕ
 first_from test zero b = b
 first_from test (suc more) b = elim (test b) [ true ↦ b | false ↦ first_from test more (b + 1) ]
 
--- the least base at which the signs may stand. The greatest used cell always serves, since the
--- family then lies past all others
+-- the least base at which the signs may stand; at the greatest used cell they always may
 abbrev pub least_base : ℕ → ℕ → Families → List ℕ → ℕ
 least_base few n fs signs = first_from (fits_at fs signs)
     (top fs) (lowest_base few n (length signs) (top fs))
 
 -- the families with one more, placed at the least base
-abbrev pub placed : ℕ → ℕ → Families → List ℕ → List ℕ → Families
-placed few n fs p signs = put (slice_cmp nat_cmp) p
+abbrev pub with_placed_family : ℕ → ℕ → Families → List ℕ → List ℕ → Families
+with_placed_family few n fs p signs = put (slice_cmp nat_cmp) p
     (record { base = least_base few n fs signs; signs = signs }) fs
 
 -- the signs, in rising order, with s
@@ -86,16 +81,14 @@ with_one_sign s [] = s ∷ []
 with_one_sign s (x ∷ xs) = if nat_lt s x then s ∷ x ∷ xs
     else (if nat_eq s x then x ∷ xs else x ∷ with_one_sign s xs)
 
--- the families of a table of n signs with s in the family of the prefix p: a new family is placed
--- with its one sign; a sign joins in place where its cell is unused; else the family gives up its
--- cells and its base, and is placed anew with s
+-- the families with s in that of p: it is placed with s, joined in place, or placed anew
 unfoldable pub with_sign : ℕ → ℕ → Families → List ℕ → ℕ → Families
 with_sign few n fs p s = elim (family_at fs p) [
-  | None ↦ placed few n fs p (s ∷ [])
+  | None ↦ with_placed_family few n fs p (s ∷ [])
   | Some f ↦ elim (is_used fs (f.base + s)) [
     | false ↦ put (slice_cmp nat_cmp) p
         (record { base = f.base; signs = with_one_sign s f.signs }) fs
-    | true ↦ placed few n (without_family fs p) p (with_one_sign s f.signs)
+    | true ↦ with_placed_family few n (without_family fs p) p (with_one_sign s f.signs)
   ]
 ]
 
@@ -124,15 +117,13 @@ cell_of fs q = cell_after fs [] q
 abbrev pub base_of : Families → List ℕ → Option ℕ
 base_of fs p = option_map (λ f. f.base) (family_at fs p)
 
--- the families with each sign of q, in turn, in the family of the string before it, which begins
--- with p
+-- the families with each sign of q, in turn, in the family of the string before it, from p on
 abbrev pub enter_after : ℕ → ℕ → Families → List ℕ → List ℕ → Families
 enter_after few n fs p [] = fs
 enter_after few n fs p (s ∷ q) = enter_after few n
     (elim (cell_in fs p s) [ Some cell ↦ fs | None ↦ with_sign few n fs p s ]) (p ++ s ∷ []) q
 
--- the families after the string is entered, where up to few signs are placed from base 1 on. Its
--- first sign is in the root
+-- the families after the string is entered; families of up to few signs are placed from base 1 on
 abbrev pub enter_by : ℕ → ℕ → Families → List ℕ → Families
 enter_by few n fs [] = fs
 enter_by few n fs (s ∷ q) = enter_after few n fs (s ∷ []) q
@@ -145,8 +136,7 @@ enter n fs q = enter_by FEW_SIGNS n fs q
 abbrev pub entered_families : ℕ → List (List ℕ) → Families
 entered_families n strings = fold (enter n) (root n) strings
 
--- whether a string keeps its cell at a level's end: it has one sign, or it is a prefix of one of
--- the strings of the patterns
+-- whether a string keeps its cell at a level's end: one sign, or a prefix of a pattern's string
 abbrev pub keeps_cell : List (List ℕ) → List ℕ → Bool
 keeps_cell strings q = nat_le (length q) 1 || list_any (λ t. starts_with nat_eq t q) strings
 
@@ -158,5 +148,5 @@ kept_family strings e = elim (filter (λ s. keeps_cell strings (e.0 ++ s ∷ [])
 ]
 
 -- the families at a level's end, where these are the strings of the patterns
-abbrev pub kept : List (List ℕ) → Families → Families
-kept strings fs = flat_map (kept_family strings) fs
+abbrev pub kept_families : List (List ℕ) → Families → Families
+kept_families strings fs = flat_map (kept_family strings) fs

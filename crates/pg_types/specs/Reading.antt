@@ -9,5 +9,5 @@ unless None y = Ok y
 unless (Some r) y = Err r
 
 -- the refusal of a line, at a column
-abbrev pub refused : ℕ → Kind → ℕ → Refusal
-refused line kind column = record { kind = kind; line = line; column = column }
+abbrev pub refusal_at : ℕ → Kind → ℕ → Refusal
+refusal_at line kind column = record { kind = kind; line = line; column = column }

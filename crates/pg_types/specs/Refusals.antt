@@ -3,8 +3,7 @@ use Rattle.std.specs.Prelude.{ℕ, List, codes}
 use Rattle.pg_types.specs.declared.refusals.Kind.{Kind}
 use Rattle.pg_types.specs.declared.refusals.Kind.TheVariants.{TranslateTooLong, BadMinima, BadMark, BadSpelling, SpellingClash, TooManyLetters, BadNumber, OutOfRange, Missing, Extra, ParametersTooLong, PatternCharacter, PatternTooLong, PatternsTooLong, DictionaryCharacter, WordTooLong, DictionaryTooLong, BadWeight, TableTooLong, BadTable, OtherTable}
 
--- the number and the name of a refusal. Of the number, hundreds tell the file, and the rest counts
--- the reasons
+-- the number and the name of a refusal; the hundreds of the number tell the file
 abbrev pub number_and_name : Kind → ℕ × List ℕ
 number_and_name TranslateTooLong = (101, codes "TranslateTooLong")
 number_and_name BadMinima = (102, codes "BadMinima")

@@ -4,8 +4,7 @@ use Rattle.std.specs.List.{flat_map}
 use Rattle.std.specs.Cmp.Lexicographic.{pointwise}
 use Rattle.std.specs.Set.{distinct_count}
 
--- the outputs of the string q: its (dot, value) by rising dot, where the patterns stand in the
--- order of signs and then dots
+-- the outputs of the string q: its (dot, value) by rising dot
 abbrev pub outputs_of : List ((List ℕ × ℕ) × ℕ) → List ℕ → List (ℕ × ℕ)
 outputs_of patterns q = map (λ e. (e.0.1, e.1)) (filter (λ e. pointwise nat_eq q e.0.0) patterns)
 

@@ -1,9 +1,9 @@
 //! The items of a parameters file, taken one after the other.
 ghost use Rattle.std.specs.Prelude.{◌≡◌, ◌<◌, ◌≤◌, ◌+◌, ◌++◌, ◌∷◌, [], List, length, drop, min, option_map, IfOk, OnOk, None, Some, IfErr, IfSome, MatchOption, not, position, ◌-◌, nat_lt, slice_index};
 ghost use Rattle.std.specs.List.{position_or_len};
-ghost use Rattle.pg_types.specs.Inside.ItemSteps.{Demand, between, Meets, Misses};
+ghost use Rattle.pg_types.specs.Inside.ItemSteps.{Demand, number_between, Meets, Misses};
 ghost use Rattle.pg_types.specs.Parameters.{items, is_separator as is_separator_byte, number, number_at, level_demands, level_of, refusal_from, surplus, is_answer as is_answer_item};
-ghost use Rattle.pg_types.specs.Inside.Parts.{refused_at};
+ghost use Rattle.pg_types.specs.Inside.Parts.{refusal_of_item};
 ghost use Rattle.pg_types.specs.Inside.Ranges.{IsLevel};
 
 use crate::limits::{COST_MAX, LENGTH_MAX};
@@ -112,8 +112,9 @@ impl<'a> Items<'a> {
         ensures high { IfOk result (λ n. n ≤ greatest) }
         ensures rest { OnOk result (items self.new.rest.now ≡ drop 1 (items self.old.rest.now)) }
         ensures place { OnOk result (self.new.place ≡ self.old.place + 1) }
-        ensures passed { OnOk result (Meets (between least greatest ∷ []) self.old self.new) }
-        ensures refused { IfErr result (Misses (between least greatest ∷ []) self.old) }
+        ensures passed { OnOk result (Meets (number_between least greatest
+            ∷ []) self.old self.new) }
+        ensures refused { IfErr result (Misses (number_between least greatest ∷ []) self.old) }
     {
         let Some((item, rest)) = next_item(self.rest) else {
             return Err(self.refusal(Kind::Missing));
@@ -137,8 +138,9 @@ impl<'a> Items<'a> {
         ensures high { IfOk result (λ n. n ≤ greatest) }
         ensures rest { OnOk result (items self.new.rest.now ≡ drop 1 (items self.old.rest.now)) }
         ensures place { OnOk result (self.new.place ≡ self.old.place + 1) }
-        ensures passed { OnOk result (Meets (between least greatest ∷ []) self.old self.new) }
-        ensures refused { IfErr result (Misses (between least greatest ∷ []) self.old) }
+        ensures passed { OnOk result (Meets (number_between least greatest
+            ∷ []) self.old self.new) }
+        ensures refused { IfErr result (Misses (number_between least greatest ∷ []) self.old) }
     {
         let number = self.number(u32::from(least), u32::from(greatest))?;
         Ok(number as u8)
@@ -195,7 +197,7 @@ impl<'a> Items<'a> {
 
     /// The refusal of the next item.
     fn refusal(&self, kind: Kind) -> Refusal
-        ensures { result ≡ refused_at self.now.place kind }
+        ensures { result ≡ refusal_of_item self.now.place kind }
     {
         Refusal {
             kind,

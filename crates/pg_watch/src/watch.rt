@@ -8,9 +8,9 @@ use pg_types::{Params, Refusal};
 /// The pass of a selection that begins.
 #[derive(Clone, Copy, Debug, PartialEq, Eq)]
 pub struct Pass {
-    /// The level.
+    /// Its level, 1 to 9.
     pub level: u8,
-    /// The last level.
+    /// The last level of the run.
     pub last: u8,
     /// How many signs its windows have.
     pub len: u8,

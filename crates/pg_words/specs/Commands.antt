@@ -8,5 +8,5 @@ abbrev pub words_of : List (String Global) → List (List ℕ)
 words_of words = map string_bytes words
 
 -- what the words of a call ask for, none where they are no command
-abbrev pub asked : List (String Global) → Option Request
-asked words = request_of (words_of words)
+abbrev pub request_of_call : List (String Global) → Option Request
+request_of_call words = request_of (words_of words)

@@ -6,8 +6,7 @@ use Rattle.std.specs.Str.{bytes_eq}
 use Rattle.pg_types.specs.Parameters.{number}
 use Rattle.pg_words.specs.declared.limits.TheConstants.{SEED_MAX, COUNT_MAX, DIGITS_MAX, FOLDS_MAX, PRICE_MAX, SETS_MAX}
 
--- the names of the files of `generate` and `audit`, each as its bytes. Those of the hyphenated list
--- and of the cells file are there where they are asked for
+-- the names of `generate` and `audit` as bytes; that of an option is there where it is asked for
 pub record FileNames : Type 0 where
   pub dict : List ℕ
   pub patterns : List ℕ
@@ -18,8 +17,7 @@ pub record FileNames : Type 0 where
   pub pattmp : Option (List ℕ)
   pub cells : Option (List ℕ)
 
--- what `sweep` is asked for: the names of its files, the number of folds, what a unit of bad and of
--- missed costs, and the names of the parameter files
+-- what `sweep` is asked for: its files, the number of folds, two prices, and the parameter files
 pub record SweepRequest : Type 0 where
   pub dict : List ℕ
   pub patterns : List ℕ
@@ -83,8 +81,7 @@ abbrev pub output_names : FileNames → List (List ℕ)
 output_names n = n.output ∷ if_asked n.pattmp (λ name. name)
     ++ if_asked n.cells (λ name. name) ++ n.report ∷ []
 
--- a request, where its names can be names, and each output name differs from the names of the other
--- outputs and of the inputs
+-- a request, where its names can be names, and each output differs from all other names
 abbrev pub where_taken : List (List ℕ) → List (List ℕ) → Request → Option Request
 where_taken inputs outputs request = if list_all is_name (inputs ++ outputs)
     && outputs_differ outputs inputs then Some request else None

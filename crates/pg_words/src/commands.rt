@@ -54,7 +54,7 @@ pub enum Command<'a> {
     Sample(u32, u32),
     /// To write the packed table of patterns.
     Pack {
-        /// The patterns.
+        /// The pattern file.
         patterns: &'a str,
         /// The translate file.
         translate: &'a str,
@@ -67,7 +67,7 @@ pub enum Command<'a> {
         dict: &'a str,
         /// The translate file.
         translate: &'a str,
-        /// The table.
+        /// The packed table.
         table: &'a str,
     },
     /// To take out the entries of patterns that change no break of a dictionary, and to write the
@@ -75,7 +75,7 @@ pub enum Command<'a> {
     Prune {
         /// The dictionary.
         dict: &'a str,
-        /// The patterns.
+        /// The pattern file.
         patterns: &'a str,
         /// Where the patterns that stay are written.
         output: &'a str,

@@ -4,8 +4,7 @@ use Rattle.pg_audit.specs.Differences.{Difference, first_false}
 use Rattle.pg_audit.specs.FoundLines.{has_feed, without_feed}
 use Rattle.pg_audit.specs.declared.lines.TheConstants.{SHOWN_MAX}
 
--- there is no such line; it has more than 200 bytes, and these are the first 200; it is this line,
--- and its line feed follows; or it is this line, and the file ends
+-- no line, the first 200 bytes of a longer one, a line with its line feed, or the file's last line
 pub data FoundLine : Type 0 where
   Missing : FoundLine
   Begins : List ℕ → FoundLine

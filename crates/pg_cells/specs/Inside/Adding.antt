@@ -11,8 +11,7 @@ use Rattle.pg_cells.specs.Inside.Layouts.{IsTrie}
 use Rattle.pg_cells.specs.Inside.Members.{ArePassing, has_sign}
 
 module _ {V : Type 0} where
-  -- the row holds the trie; the string p has the cell `parent`, and the family below p lacks the
-  -- sign s; the members are the signs of that family, where s does not join it in place
+  -- s can join the family below p: the family lacks s, its prefix has a cell, its signs are known
   pub record CanAdd (n : ℕ) (r : Row V) (t : Trie V) (p : List ℕ)
       (parent s : ℕ) (members : List ℕ) : Type 0 where
     pub trie : IsTrie n r t

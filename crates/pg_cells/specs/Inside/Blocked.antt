@@ -3,8 +3,7 @@ use Rattle.std.specs.Prelude.{◌≡◌, ◌≢◌, ℕ, ◌+◌, ◌<◌, ◌�
 use Rattle.pg_cells.specs.Inside.Lists.{Row, sign_at, base_at}
 
 module _ {V : Type 0} where
-  -- the base k can't take the family that stands at `placed`: it is a family's, or a cell that it
-  -- would have is taken, and not by the family itself
+  -- a family cannot move to the base k: it is taken, or a cell of another family is in the way
   abbrev pub IsBlocked : Row V → ℕ → ℕ → Type 0
   IsBlocked r placed k =
       (base_at r k ≡ true) ⊎

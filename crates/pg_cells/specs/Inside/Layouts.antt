@@ -5,7 +5,7 @@ use Rattle.std.specs.Ordering.{nat_cmp}
 use Rattle.std.specs.Cmp.Lexicographic.{slice_cmp}
 use Rattle.std.specs.FinMap.{find}
 use Rattle.std.specs.FinMap.Entries.{is_sorted}
-use Rattle.pg_types.specs.Placement.{Family, family_at, cell_of, taken}
+use Rattle.pg_types.specs.Placement.{Family, family_at, cell_of, taken_count}
 use Rattle.pg_cells.specs.Inside.Lists.{Row, sign_at, child_at, base_at}
 use Rattle.pg_cells.specs.Inside.Store.{taken_in}
 use Rattle.pg_types.specs.declared.limits.TheConstants.{SIGNS_MAX}
@@ -16,8 +16,7 @@ module _ {V : Type 0} where
   abbrev pub standing : ℕ → Row V → ℕ → List ℕ
   standing n r base = filter (λ x. nat_eq (sign_at r (base + x)) x) (range_with_len 1 n)
 
-  -- the parent of the family f is the cell of the sign x in the family at p, and tells the base of
-  -- f
+  -- the parent of the family f is the cell of the sign x in the family at p, and has its base
   pub record IsParent (r : Row V) (F : List ℕ → Option Family)
       (p : List ℕ) (x : ℕ) (f : Family) : Type 0 where
     pub above : Family
@@ -27,9 +26,7 @@ module _ {V : Type 0} where
     pub base : 0 < f.base
     pub positive : 0 < x
 
-  -- the families F, by their prefixes, lie in the row: each family's signs stand at its base; the
-  -- cell of a string tells the base of the family below it; no two families have one base; and each
-  -- taken cell and each flag belongs to a family
+  -- the families F lie in the row: their signs at their bases, no two of one base, and nothing else
   pub record IsLayout (n : ℕ) (r : Row V) (F : List ℕ → Option Family) : Type 0 where
     pub root : F [] ≡ Some (record { base = 0; signs = range_with_len 1 n })
     pub members : (p : List ℕ) (f : Family) → F p ≡ Some f → f.signs ≡ standing n r f.base
@@ -56,7 +53,7 @@ module _ {V : Type 0} where
   pub record IsTrie (n : ℕ) (r : Row V) (t : Trie V) : Type 0 where
     pub sorted : T (is_sorted (slice_cmp nat_cmp) t.families)
     pub layout : IsLayout n r (family_at t.families)
-    pub count : taken_in r ≡ taken t.families
+    pub count : taken_in r ≡ taken_count t.families
     pub ordered : T (is_sorted (slice_cmp nat_cmp) t.values)
     pub has : (q : List ℕ) → find (slice_cmp nat_cmp) q t.values ≡ value_in r (cell_of t.families q)
 

@@ -17,8 +17,7 @@ module _ {V : Type 0} where
     values = map (λ e. (e.0, e.1.value)) h.values;
   }
 
-  -- each string with a value has the link to the first sign below it, and each one that is longer
-  -- than a sign has the link to the next sign of its family
+  -- each string is linked to the first sign below it, and to the next sign of its own family
   pub record AreLinks (h : ValuedFamilies (Member V)) : Type 0 where
     pub held : AreValuedFamilies h
     pub first : (q : List ℕ) (m : Member V) → find (slice_cmp nat_cmp) q h.values ≡ Some m
@@ -27,8 +26,7 @@ module _ {V : Type 0} where
         → q ≢ [] → find (slice_cmp nat_cmp) (q ++ s ∷ []) h.values ≡ Some m
         → IsNextSign h.values q s m.next
 
-  -- b is the greatest sign below s by which a string with a value goes on from q, or 0 where there
-  -- is none
+  -- b is the greatest sign below s by which a string goes on from q, or 0 where there is none
   pub record IsBefore (values : List (List ℕ × Member V)) (q : List ℕ) (s b : ℕ) : Type 0 where
     pub less : b < s
     pub there : (b ≡ 0) ⊎ (goes_on values q b ≡ true)

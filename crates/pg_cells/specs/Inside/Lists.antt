@@ -4,8 +4,7 @@ use Rattle.pg_cells.specs.declared.cell.Cell.{Cell}
 use Rattle.pg_cells.specs.declared.cell.TheConstants.{HALF_COUNT}
 use Rattle.pg_cells.specs.declared.member.Member.{Member}
 
--- what the families see of the cells: the sign, 0 in a free cell; the base of the child family, 0
--- for none; the value; and whether the index is the base of a family
+-- what families see of the cells: signs, bases of child families, values, and which bases are taken
 pub record Row (V : Type 0) : Type 0 where
   pub signs : List ℕ
   pub children : List ℕ
@@ -87,13 +86,13 @@ module _ {V : Type 0} where
     afters = map (λ c. c.link) cells;
   }
 
-  -- with the free cell before a free cell
-  abbrev pub with_befores : Lists V → ℕ → ℕ → Lists V
-  with_befores ls cell before = record ls { befores = set ls.befores cell before }
+  -- the lists when `before` is set as the free cell before a cell
+  abbrev pub with_before : Lists V → ℕ → ℕ → Lists V
+  with_before ls cell before = record ls { befores = set ls.befores cell before }
 
-  -- with the free cell after a free cell
-  abbrev pub with_afters : Lists V → ℕ → ℕ → Lists V
-  with_afters ls cell after = record ls { afters = set ls.afters cell after }
+  -- the lists when `after` is set as the free cell after a cell
+  abbrev pub with_after : Lists V → ℕ → ℕ → Lists V
+  with_after ls cell after = record ls { afters = set ls.afters cell after }
 
   -- with the base of the child family of a taken cell
   abbrev pub with_child : Row V → ℕ → ℕ → Row V

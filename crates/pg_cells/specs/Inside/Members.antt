@@ -15,8 +15,7 @@ pub record IsNext (test : ℕ → Bool) (x y : ℕ) : Type 0 where
 abbrev pub goes_on : {X : Type 0} → List (List ℕ × X) → List ℕ → ℕ → Bool
 goes_on values p s = is_some (find (slice_cmp nat_cmp) (p ++ s ∷ []) values)
 
--- y is the least sign greater than s by which a string with a value goes on from p, or 0 where
--- there is none
+-- y is the least sign above s by which a string goes on from p, or 0 where there is none
 abbrev pub IsNextSign : {X : Type 0} → List (List ℕ × X) → List ℕ → ℕ → ℕ → Type 0
 IsNextSign values p s y = IsNext (goes_on values p) s y
 

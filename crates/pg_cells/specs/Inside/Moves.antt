@@ -64,8 +64,7 @@ module _ {V : Type 0} where
   abbrev pub Drops : Row V → Row V → ℕ → Type 0
   Drops old new was = ((was ≡ 0) × (new ≡ old)) ⊎ ((0 < was) × (SetsBase old new was false))
 
-  -- what a family needs to be placed: its slots stand in taken cells, there is room past the last
-  -- cell, and each other base has a taken cell
+  -- a family can be placed: its slots are in taken cells, and there is room past the last cell
   pub record CanPlace (n : ℕ) (r : Row V) (was : ℕ)
       (slots : List (Slot V)) (slot : Slot V) (parent : ℕ) : Type 0 where
     pub distinct : AreDistinct slots

@@ -96,13 +96,13 @@ Kept-prop {V} code n r a b =
     (∥∥₁_elim a.1 (Coded-set (trie_code code) a.0 b.0)
     (λ x. ∥∥₁_elim b.1 (Coded-set (trie_code code) a.0 b.0) (λ y. same_trie n r a.0 b.0 x y)))
 
--- a row holds only one trie, so each trie that it holds is the kept one
-pub settled : {V : Type 0} → Coded V → (n : ℕ) (r : Row V) (kept : Kept n r) (t : Trie V)
+-- each trie that a row holds is the kept one
+pub kept_is_only : {V : Type 0} → Coded V → (n : ℕ) (r : Row V) (kept : Kept n r) (t : Trie V)
     → IsTrie n r t → kept.0 ≡ t
-settled code n r kept t is = ∥∥₁_elim kept.1 (Coded-set (trie_code code) kept.0 t)
+kept_is_only code n r kept t is = ∥∥₁_elim kept.1 (Coded-set (trie_code code) kept.0 t)
     (λ x. same_trie n r kept.0 t x is)
 
--- so where the row holds a trie, it holds the kept one
-pub held : {V : Type 0} → Coded V → (n : ℕ) (r : Row V) (kept : Kept n r) (t : Trie V)
+-- a row that holds a trie holds the kept one
+pub held_is_kept : {V : Type 0} → Coded V → (n : ℕ) (r : Row V) (kept : Kept n r) (t : Trie V)
     → IsTrie n r t → IsTrie n r kept.0
-held code n r kept t is = subst (IsTrie n r) (sym (settled code n r kept t is)) is
+held_is_kept code n r kept t is = subst (IsTrie n r) (sym (kept_is_only code n r kept t is)) is

@@ -4,7 +4,7 @@ use Rattle.std.specs.Coded.{Coded, code_by, coded×, coded_ℕ, coded_bool, code
 use Rattle.pg_cells.specs.declared.cell.Cell.{Cell}
 use Rattle.pg_cells.specs.declared.member.Member.{Member}
 use Rattle.pg_cells.specs.Inside.Lists.{Row, lists, row_of, sign_at, child_at, base_at}
-use Rattle.pg_cells.specs.Inside.Linked.{AreLinked}
+use Rattle.pg_cells.specs.Inside.FreeList.{AreLinked}
 use Rattle.pg_cells.specs.Inside.Blocked.{AreBlocked}
 use Rattle.pg_cells.specs.Inside.Bounds.{AreBounds}
 
@@ -49,7 +49,7 @@ module _ {V : Type 0} where
     pub greatest : IsTop (row_of cells).signs top
     pub count : taken ≡ taken_in (row_of cells)
 
-  -- the same, with the bounds below which no base is free, and the bases that can't take a family
+  -- what a store keeps: its counts, its bounds, and the bases that can't take the last family
   pub record IsStore (cells : List (Cell V)) (top taken : ℕ)
       (lows : List ℕ) (freed dropped placed sought : ℕ) : Type 0 where
     pub kept : IsKept cells top taken

@@ -11,8 +11,7 @@ abbrev pub IsAt : Families → Option ℕ → List ℕ → Type 0
 IsAt fs None q = q ≡ []
 IsAt fs (Some cell) q = cell_of fs q ≡ Some cell
 
--- the first k signs of w need no new cell: to enter them changes nothing, and to enter w is to enter
--- the others after them
+-- to enter w is to enter what follows its first k signs, which need no new cell
 pub record IsKnown (few n : ℕ) (fs : Families) (w : List ℕ) (k : ℕ) : Type 0 where
   pub front : fs ≡ enter_by few n fs (take k w)
   pub rest : enter_after few n fs (take k w) (drop k w) ≡ enter_by few n fs w
@@ -35,8 +34,7 @@ module _ {V : Type 0} where
   abbrev pub Steps : ℕ → ValuedFamilies V → ValuedFamilies V → List ℕ → ℕ → V → Type 0
   Steps few old new q s v = StepsBy few (cell_of old.families (q ++ s ∷ [])) old new q s v
 
-  -- each string keeps its value, and a string that has one only now is a prefix of w, and its value
-  -- is the blank
+  -- each string keeps its value, and only prefixes of w are new, with the blank
   pub record AddsBlanks (w : List ℕ) (blank : V) (old new : List (List ℕ × V)) : Type 0 where
     pub keeps : (q : List ℕ) (v : V) → find (slice_cmp nat_cmp) q old ≡ Some v
         → find (slice_cmp nat_cmp) q new ≡ Some v

@@ -8,11 +8,10 @@ use Rattle.std.specs.FinMap.Entries.{find, is_sorted}
 use Rattle.pg_types.specs.declared.limits.TheConstants.{LENGTH_MAX}
 use Rattle.pg_cells.specs.Inside.ValuedFamilies.{ValuedFamilies}
 use Rattle.pg_types.specs.Inside.Counts.{Counts, SignsWithin, is_counted, with_count}
-use Rattle.pg_types.specs.Inside.Numbered.{Windows, with_window}
-use Rattle.pg_types.specs.Inside.Numbers.{Numbers}
+use Rattle.pg_types.specs.Inside.NumberedWindows.{Windows, with_window}
+use Rattle.pg_types.specs.Inside.NumberedStrings.{Numbers}
 
--- the number of signs of the table; how many signs a window has; the counts of the windows; and the
--- windows in the order of their numbers
+-- what a pass has counted: the counts of its windows, and the windows in the order of their numbers
 pub record Counting : Type 0 where
   pub signs : ℕ
   pub len : ℕ
@@ -65,7 +64,7 @@ number_seen t = t.0
 abbrev pub counts_in : Tallies → Counts
 counts_in tallies = seen_in sums_seen tallies
 
--- the same with their numbers
+-- the strings that are counted, with their numbers
 abbrev pub numbers_in : Tallies → Numbers
 numbers_in tallies = seen_in number_seen tallies
 
@@ -73,8 +72,7 @@ numbers_in tallies = seen_in number_seen tallies
 abbrev pub window_at : Windows → ℕ → List ℕ
 window_at windows n = get_or windows n []
 
--- the counted windows, each with its tally: a window is counted in the cell of a string with which
--- it begins
+-- the counted windows, each with its tally, which stands in the cell of one of its prefixes
 abbrev pub wholes : Windows → Tallies → List (List ℕ × Tally)
 wholes windows tallies = map (λ e. (window_at windows e.1.0, e.1)) (seen_in (λ t. t) tallies)
 

@@ -3,7 +3,7 @@ use Rattle.std.specs.Prelude.{◌≡◌, ℕ, List, ◌∷◌, ◌++◌, Option,
 use Rattle.std.specs.declared.cmp.Ordering.TheVariants.{Less}
 use Rattle.std.specs.Ordering.{nat_cmp}
 use Rattle.std.specs.Cmp.Lexicographic.{slice_cmp}
-use Rattle.pg_types.specs.Inside.Numbered.{Windows, HasNumber}
+use Rattle.pg_types.specs.Inside.NumberedWindows.{Windows, HasNumber}
 
 -- no window that begins with p is above u
 abbrev pub NoneUnder : Windows → List ℕ → List ℕ → Type 0
@@ -19,7 +19,7 @@ pub record LeastUnder (windows : Windows) (p u : List ℕ) (n : ℕ) : Type 0 wh
       → slice_cmp nat_cmp u (p ++ v) ≡ Less
       → slice_cmp nat_cmp (p ++ v) (p ++ rest) ≡ Less → ⊥
 
--- the same, or there is none
+-- the window with this number is the least above u that begins with p; none where none is above
 abbrev pub IsNearest : Windows → List ℕ → List ℕ → Option ℕ → Type 0
 IsNearest windows p u None = NoneUnder windows p u
 IsNearest windows p u (Some n) = LeastUnder windows p u n

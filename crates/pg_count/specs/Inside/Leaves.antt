@@ -6,7 +6,7 @@ use Rattle.std.specs.Ordering.{nat_cmp}
 use Rattle.std.specs.Cmp.Lexicographic.{slice_cmp}
 use Rattle.pg_types.specs.declared.limits.TheConstants.{LENGTH_MAX}
 use Rattle.pg_types.specs.Inside.Counts.{SignsWithin}
-use Rattle.pg_types.specs.Inside.Numbered.{Windows, HasNumber}
+use Rattle.pg_types.specs.Inside.NumberedWindows.{Windows, HasNumber}
 use Rattle.pg_types.specs.Placement.{cell_of}
 use Rattle.pg_cells.specs.Inside.ValuedFamilies.{ValuedFamilies}
 use Rattle.pg_cells.specs.Inside.AreValuedFamilies.{AreValuedFamilies}
@@ -88,8 +88,7 @@ pub record PushesDown (old new : ValuedFamilies (Option Tally)) (q : List ℕ) (
       (put (slice_cmp nat_cmp) (q ++ s ∷ []) (Some t) old.values)
   pub size : length (numbers_in new.values) ≡ length (numbers_in old.values)
 
--- the cell is that of a string with which w begins, which is not counted and below which there is
--- none
+-- the cell is that of a prefix of w, which is not counted and below which there is no other
 pub record IsFree (h : ValuedFamilies (Option Tally)) (w : List ℕ) (cell : ℕ) : Type 0 where
   pub string : List ℕ
   pub rest : List ℕ

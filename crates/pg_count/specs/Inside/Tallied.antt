@@ -9,8 +9,7 @@ use Rattle.pg_cells.specs.Inside.AreValuedFamilies.{AreValuedFamilies}
 use Rattle.pg_count.specs.Inside.Counting.{Tally, numbers_in}
 use Rattle.pg_count.specs.declared.tally.TheConstants.{NUMBERS_END}
 
--- the tally with the number of a cell, where the tallies are numbered from `first` on; no tally has
--- an earlier number
+-- the tally that a cell has by its number; those of the pass are numbered from `first` on
 abbrev pub tally_of : ℕ → List (ℕ × ℕ) → ℕ → Option Tally
 tally_of first tallies k = if nat_lt k first then None
     else option_map (λ sums. (k - first, sums)) (slice_get tallies (k - first))

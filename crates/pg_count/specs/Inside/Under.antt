@@ -3,7 +3,7 @@ use Rattle.std.specs.Prelude.{ℕ, Bool, true, false, nat_eq, nat_lt, ◌&&◌, 
 use Rattle.std.specs.Ordering.{nat_cmp}
 use Rattle.std.specs.Cmp.Lexicographic.{slice_cmp}
 use Rattle.std.specs.FinMap.Entries.{where_key}
-use Rattle.pg_types.specs.Inside.Numbers.{Numbers}
+use Rattle.pg_types.specs.Inside.NumberedStrings.{Numbers}
 use Rattle.pg_count.specs.Inside.Counting.{Tallies, numbers_in}
 
 -- the string r begins with p
@@ -12,7 +12,7 @@ is_under [] r = true
 is_under (y ∷ p) [] = false
 is_under (y ∷ p) (x ∷ r) = nat_eq y x && is_under p r
 
--- it begins with p and a sign below s
+-- the string r begins with p and a sign below s
 abbrev pub is_before : List ℕ → ℕ → List ℕ → Bool
 is_before [] s [] = false
 is_before [] s (x ∷ r) = nat_lt x s

@@ -12,7 +12,7 @@ pub record Entries : Type 0 where
   pub words : List Word
   pub weight : ℕ
 
--- these words, and behind them what a line gives
+-- words, and behind them what a line gives
 abbrev pub with_word : List Word → Result LineWord Refusal → Result Entries Refusal
 with_word words (Ok l) = Ok (record { words = words ++ option_to_list l.word; weight = l.weight })
 with_word words (Err r) = Err r

@@ -16,24 +16,22 @@ use Rattle.pg_dict.specs.declared.line_start.LineStart.TheVariants.{Word, Empty}
 use Rattle.pg_dict.specs.Inside.LineWords.{LineWord}
 use Rattle.pg_dict.specs.Inside.Running.{running_word}
 
--- what a line of this number and size gives, from its rest before the first letter and the word
--- weight so far
+-- what a line gives, from its rest before the first letter and the word weight so far
 abbrev pub rest_reading : Alphabet → ℕ → ℕ → ℕ → List ℕ → Result LineWord Refusal
 rest_reading t line size weight rest = let c = cut_rest t Dictionary size rest in
     unless (line_refusal Dictionary line c) (running_word weight (tokens_of c))
 
--- the same from its first letter and the rest behind it
+-- what a line gives, from its first letter and the rest behind it
 abbrev pub word_reading : Alphabet → ℕ → ℕ → ℕ → ℕ → List ℕ → Result LineWord Refusal
 word_reading t line size weight sign rest = let c = cut_rest t Dictionary size rest in
     unless (refusal_with_room Dictionary line (WORD_LETTERS_MAX - 1) c)
     (running_word weight (Letter sign ∷ tokens_of c))
 
--- the same of a line whose word weight is known
+-- what a line of a known word weight gives, from its first letter and the rest
 abbrev pub word_reading_by : Line → ℕ → List ℕ → Result LineWord Refusal
 word_reading_by l sign rest = word_reading l.table.now l.number l.size l.weight sign rest
 
--- the first letter, from which the line gives the whole; or the line gives no word; or it is
--- refused
+-- the first letter, from which the line gives the whole; or the line gives no word; or a refusal
 abbrev pub IsLineStart : Line → Result LineWord Refusal → Result LineStart Refusal → Type 0
 IsLineStart l whole (Ok (Word weight sign rest)) =
     (word_reading l.table.now l.number l.size weight sign rest.now ≡ whole)

@@ -15,9 +15,7 @@ use Rattle.pg_dict.specs.declared.line.Line.{Line}
 use Rattle.pg_dict.specs.Inside.PositionedSigns.{Columns, with_signs}
 use Rattle.pg_dict.specs.Inside.Running.{signs_behind}
 
--- the columns after the rest of a word is read. Given are the weight of the word, its line and the
--- line's size; the last mark and number behind the letter before; how many letters may still come;
--- the columns so far; and the rest of the line
+-- the columns after the rest of a word is read, as far as its reading has come
 abbrev pub columns_after : Alphabet → ℕ → ℕ → ℕ → Mark
     → ℕ → ℕ → Columns → List ℕ → Result Columns Refusal
 columns_after t weight line size mark number room done rest =

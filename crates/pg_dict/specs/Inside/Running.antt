@@ -9,9 +9,7 @@ use Rattle.pg_dict.specs.Inside.PositionedSigns.{PositionedSign, positioned_sign
 use Rattle.pg_dict.specs.Inside.SoundWords.{word_with}
 use Rattle.pg_dict.specs.Inside.LineWords.{LineWord}
 
--- the signs behind a letter, each with the position before it, up to the last edge: each letter
--- takes the last mark and the last number before it, or none and the weight of the word, and what
--- follows the last letter counts for nothing
+-- the signs behind a letter with the positions before them, up to the last edge
 abbrev pub signs_behind : ℕ → Mark → ℕ → List Token → List PositionedSign
 signs_behind weight mark number [] = positioned_sign Nothing weight EDGE ∷ []
 signs_behind weight mark number (Letter s ∷ items) =
@@ -22,15 +20,13 @@ signs_behind weight mark number (Marked m ∷ items) = signs_behind weight m num
 signs_behind weight mark number (Edge ∷ items) =
     positioned_sign mark number EDGE ∷ signs_behind weight Nothing weight items
 
--- the signs of a word, each with the position before it, with this weight and first letter: the
--- edge, the letter, and what comes behind it
+-- the signs of a word with the positions before them: the edge, the first letter, and the rest
 abbrev pub word_signs : ℕ → ℕ → List Token → List PositionedSign
 word_signs weight sign items =
     positioned_sign Nothing weight EDGE ∷ positioned_sign Nothing weight sign
     ∷ signs_behind weight Nothing weight items
 
--- the items of a line: a number before the first letter is the word weight, and a mark there counts
--- for nothing
+-- the word of a line: a number before its first letter is the word weight, a mark there is nothing
 abbrev pub running_word : ℕ → List Token → LineWord
 running_word weight [] = record { word = None; weight = weight }
 running_word weight (Letter s ∷ items) =

@@ -24,9 +24,7 @@ pub record IsPlainAt (w : Word) (p : ℕ) : Type 0 where
   pub weight : slice_get w.weights p ≡ Some w.weight
   pub care : slice_get w.cares p ≡ Some true
 
--- what every word of a dictionary keeps: it is an edge, 1 to 100 letters and an edge; all weights
--- are within their limit; a position without care has no hyphen; and the positions that do not
--- stand between two letters are plain
+-- a word is an edge, 1 to 100 letters and an edge; weights are in range, its end positions plain
 pub record IsWord (w : Word) : Type 0 where
   pub long : 3 ≤ length w.signs
   pub short : length w.signs ≤ WORD_LETTERS_MAX + 2

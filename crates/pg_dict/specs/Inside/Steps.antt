@@ -7,16 +7,14 @@ use Rattle.pg_dict.specs.declared.letters.At.{At}
 use Rattle.pg_dict.specs.Inside.PositionedSigns.{Columns}
 use Rattle.pg_dict.specs.Inside.ReadColumns.{columns_from}
 
--- after an item, the rest of the word still leads to the same columns, and it is shorter; or the
--- word is done; or the word is refused
+-- after an item the rest leads to the same columns and is shorter, or the word is done or refused
 abbrev pub IsStep : Line → At → Columns → Columns → Result (Option At) ReadingError → Type 0
 IsStep l at old new (Ok (Some next)) = (columns_from l next new ≡ columns_from l at old)
     × (length next.rest.now < length at.rest.now)
 IsStep l at old new (Ok None) = columns_from l at old ≡ Ok new
 IsStep l at old new (Err e) = Fails e (columns_from l at old)
 
--- an item adds at most one sign, and for that sign one letter less may come and a byte less is
--- left; the end of the word adds one sign
+-- an item adds at most one sign, and takes a letter and a byte for it; the word's end adds one sign
 abbrev pub AddsSigns : At → ℕ → ℕ → Result (Option At) ReadingError → Type 0
 AddsSigns at old new (Ok (Some next)) = (new + next.room ≡ old + at.room)
     × (new + length next.rest.now ≤ old + length at.rest.now)

@@ -40,8 +40,7 @@ letters_tokens weight letters =
     flat_map (λ (l : Written). mark_tokens l.mark
     ++ (weight_tokens weight l.weight ++ Letter l.sign ∷ [])) letters
 
--- the signs of a word, each with the position before it, with this weight, first letter and letters
--- behind it
+-- the signs of a word with the positions before them, from its weight and its letters
 abbrev pub written_signs : ℕ → ℕ → List Written → List PositionedSign
 written_signs weight sign letters =
     positioned_sign Nothing weight EDGE ∷ positioned_sign Nothing weight sign ∷
@@ -69,8 +68,7 @@ pub record AreMarksOf (w : Word) (marks : List Mark) : Type 0 where
 abbrev pub letters_with : List Mark → Word → List Written
 letters_with marks w = written_letters marks (between_letters w.weights) (between_letters w.signs)
 
--- a word with these marks, below a line with some word weight: its own weight where it differs, its
--- first letter, and the letters behind it
+-- a word with these marks: its weight where it differs, its first letter, and the letters behind it
 abbrev pub word_tokens : ℕ → List Mark → Word → List Token
 word_tokens before marks w = weight_tokens before w.weight
     ++ Letter (slice_index w.signs 1) ∷ letters_tokens w.weight (letters_with marks w)

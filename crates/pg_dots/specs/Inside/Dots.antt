@@ -5,8 +5,8 @@ use Rattle.pg_dots.specs.declared.open_dots.OpenDots.{OpenDots}
 use Rattle.pg_dots.specs.declared.walk.Walk.{Walk}
 
 -- how many positions there are bits for
-abbrev pub places : OpenDots → ℕ
-places o = 64 * o.width
+abbrev pub position_count : OpenDots → ℕ
+position_count o = 64 * o.width
 
 -- the row of a dot: that of the dots that are not reached is the first
 abbrev pub row_of : ℕ → ℕ → ℕ

@@ -8,8 +8,7 @@ use Rattle.pg_select.specs.Windows.{Patterns}
 use Rattle.pg_driver.specs.Accounts.{totals_by, has_candidate, makes_skippable}
 use Rattle.pg_driver.specs.Traces.{Source, PassTrace, LevelTrace, Trace, is_entered, chosen_in, hopeless_in, patterns_after, final_patterns}
 
--- the line of a pass: the totals before it, how many candidates it has, and how many of them it
--- chose and found hopeless, with the sums of good and of bad of the chosen
+-- the line of a pass: the totals before it, how many candidates, and the sums of the chosen
 pub record PassLine : Type 0 where
   pub pass : Pass
   pub before : Totals

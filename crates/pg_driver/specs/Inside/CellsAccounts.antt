@@ -2,7 +2,7 @@
 use Rattle.std.specs.Prelude.{ℕ, List, [], ◌∷◌, map, filter, fold}
 use Rattle.std.specs.List.{flat_map}
 use Rattle.pg_types.specs.declared.marks.Layout.{Layout}
-use Rattle.pg_types.specs.Placement.{Families, kept, taken, top}
+use Rattle.pg_types.specs.Placement.{Families, kept_families, taken_count, top}
 use Rattle.pg_types.specs.Tails.{tails}
 use Rattle.pg_select.specs.declared.pass.Pass.{Pass}
 use Rattle.pg_select.specs.Windows.{Patterns}
@@ -14,10 +14,9 @@ use Rattle.pg_driver.specs.Layouts.{strings_in, after_pass, after_level}
 abbrev pub after_passes : ℕ → Families → List PassTrace → Families
 after_passes signs fs ps = fold (after_pass signs) fs ps
 
--- the families at a level's end: only strings of one sign and prefixes of the patterns' strings
--- keep their cells
+-- the families at a level's end: only signs and prefixes of the patterns' strings keep their cells
 abbrev pub at_level_end : LevelTrace → Families → Families
-at_level_end l fs = kept (strings_in (patterns_after l)) fs
+at_level_end l fs = kept_families (strings_in (patterns_after l)) fs
 
 -- each pass with the families after it
 abbrev pub passes_with_families : ℕ → Families → List PassTrace → List (PassTrace × Families)
@@ -31,22 +30,19 @@ levels_with_families signs fs [] = []
 levels_with_families signs fs (l ∷ ls) =
     (l, fs) ∷ levels_with_families signs (after_level signs fs l) ls
 
--- the layout of families, where these are the patterns: how many cells are used, the greatest of
--- them, and the tails
+-- the layout of families with these patterns: how many cells are used, the greatest, and the tails
 abbrev pub layout_of : Families → Patterns → Layout
-layout_of fs P = record { taken = taken fs; top = top fs; tails = tails P }
+layout_of fs P = record { taken = taken_count fs; top = top fs; tails = tails P }
 
--- what is told of the cells along a run: the layout before it, how many cells are used and the
--- greatest after each pass that has a candidate, and the layout after each level
+-- the cells along a run: the layout before it, those of its passes, and those after its levels
 pub record CellsAccount : Type 0 where
   pub start : Layout
   pub passes : List (Pass × ℕ × ℕ)
   pub levels : List (ℕ × Layout)
 
--- the used cells and the greatest after each pass of a level that has a candidate, where the level
--- begins with these families
+-- the used cells and the greatest after each pass of a level that has a candidate
 abbrev pub pass_layouts : ℕ → Families → List PassTrace → List (Pass × ℕ × ℕ)
-pass_layouts signs fs ps = map (λ e. (e.0.pass, taken e.1, top e.1))
+pass_layouts signs fs ps = map (λ e. (e.0.pass, taken_count e.1, top e.1))
     (filter (λ e. has_candidate e.0) (passes_with_families signs fs ps))
 
 -- the layout after a level that begins with these families

@@ -7,7 +7,7 @@ use Rattle.pg_driver.specs.declared.choices.Choices.{Choices}
 use Rattle.pg_driver.specs.Traces.{PassTrace}
 use Rattle.pg_driver.specs.Inside.Fates.{chosen_of, hopeless_of}
 use Rattle.pg_driver.specs.Inside.States.{state_of, state_after}
-use Rattle.pg_driver.specs.Inside.Told.{known_of}
+use Rattle.pg_driver.specs.Inside.RunAccounts.{known_of}
 
 -- an entry of the counts as a candidate
 abbrev pub candidate_of : List ℕ × (ℕ × ℕ) → Candidate

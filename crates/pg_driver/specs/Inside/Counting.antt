@@ -8,7 +8,7 @@ use Rattle.pg_types.specs.declared.limits.TheConstants.{WEIGHT_MAX, FILE_MAX}
 use Rattle.pg_dict.specs.Word.{Word}
 use Rattle.pg_dict.specs.Inside.SoundWords.{IsWord}
 use Rattle.pg_types.specs.Inside.Counts.{Counts, SignsWithin}
-use Rattle.pg_types.specs.Inside.Numbered.{Windows, with_window}
+use Rattle.pg_types.specs.Inside.NumberedWindows.{Windows, with_window}
 use Rattle.pg_select.specs.Inside.Meanings.{Meaning, SetsValues, SetsCovers, with_position}
 use Rattle.pg_select.specs.Inside.Positions.{Positions}
 use Rattle.pg_select.specs.CountedPositions.{CountedPosition}
@@ -20,8 +20,8 @@ windows_after windows counts (s ∷ seen) =
     windows_after (with_window windows counts s.window) (with_position counts s) seen
 
 -- what an engine means after more positions are counted
-abbrev pub counting : Meaning → List CountedPosition → Meaning
-counting m seen = record m {
+abbrev pub meaning_after_counting : Meaning → List CountedPosition → Meaning
+meaning_after_counting m seen = record m {
   counts = fold with_position m.counts seen;
   windows = windows_after m.windows m.counts seen;
 }

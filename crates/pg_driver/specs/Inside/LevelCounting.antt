@@ -5,7 +5,7 @@ use Rattle.pg_types.specs.declared.limits.TheConstants.{FILE_MAX, LENGTH_MAX}
 use Rattle.pg_types.specs.declared.marks.Totals.{Totals}
 use Rattle.pg_types.specs.declared.parameters.LevelParams.{LevelParams}
 use Rattle.pg_types.specs.Inside.Counts.{Counts}
-use Rattle.pg_types.specs.Inside.Numbered.{Windows}
+use Rattle.pg_types.specs.Inside.NumberedWindows.{Windows}
 use Rattle.pg_dict.specs.Word.{Word}
 use Rattle.pg_dict.specs.Inside.SoundWords.{IsWord, letter_count}
 use Rattle.pg_select.specs.declared.pass.Pass.{Pass}
@@ -19,8 +19,8 @@ use Rattle.pg_driver.specs.declared.open_positions.OpenLevel.{OpenLevel}
 use Rattle.pg_driver.specs.declared.word_level.WordLevel.{WordLevel}
 use Rattle.pg_driver.specs.declared.above_positions.Kept.{Kept}
 use Rattle.pg_driver.specs.Accounts.{totals_by}
-use Rattle.pg_dots.specs.Inside.Dots.{is_closed, places}
-use Rattle.pg_driver.specs.Inside.OpenSigns.{IsThere, closed_after, open_places, sign_count}
+use Rattle.pg_dots.specs.Inside.Dots.{is_closed, position_count}
+use Rattle.pg_driver.specs.Inside.OpenSigns.{IsThere, closed_after, open_word_positions, sign_count}
 use Rattle.pg_driver.specs.Inside.OpenPositions.{IsPlaced}
 use Rattle.pg_driver.specs.Inside.PassWindows.{HaveNumbers, counts_at, is_counted_at}
 use Rattle.pg_driver.specs.Inside.Sound.{IsSmall}
@@ -33,7 +33,7 @@ pub record IsOpenAt (source : Source) (level len : ℕ) (known : Known) (o : Ope
   pub least : 1 ≤ source.minima.left
   pub words : All IsWord source.words
   pub letters : sum_by letter_count source.words ≤ FILE_MAX
-  pub size : sign_count source.words ≤ places o.dots
+  pub size : sign_count source.words ≤ position_count o.dots
   pub dots : IsThere level len source.minima source.words known.patterns known.hopeless
       (is_closed o.dots)
   pub totals : o.totals ≡ totals_by source known.patterns
@@ -62,24 +62,21 @@ totals_in (EachWord e) = e.totals
 abbrev pub TellsTotals : Source → Patterns → Counting → Type 0
 TellsTotals source P c = (totals_in c ≡ totals_by source P) × IsSmall (totals_in c)
 
--- there is a bit for each sign of the words; or each listed position stands in one of the words,
--- and there are at most as many of them as letters in a dictionary of the greatest size
+-- there is a bit for each sign; or each listed position is one of a word, and they are not too many
 abbrev pub ArePlaced : List Word → Counting → Type 0
-ArePlaced words (Open o) = sign_count words ≤ places o.dots
+ArePlaced words (Open o) = sign_count words ≤ position_count o.dots
 ArePlaced words (EachWord e) = All (IsPlaced words) e.above.items
     × (length e.above.items ≤ FILE_MAX)
 
--- the dot of the pass is reached, and each position at which it is open has the number of its
--- window
+-- the dot of the pass is reached, and each position where it is open has its window's number
 pub record AreNumberedOpen (pass : Pass) (words : List Word)
     (ws : Windows) (o : OpenLevel) (ns : List ℕ)
     : Type 0 where
   pub reached : pass.dot < o.dots.reached
   pub numbers : HaveNumbers pass (counts_at pass) words ws
-      (open_places (is_closed o.dots pass.dot) words) ns
+      (open_word_positions (is_closed o.dots pass.dot) words) ns
 
--- each position that is kept has the number of its window, where the pass counts that; an open one
--- has a number where the dot of the pass is open
+-- each position that is kept has its window's number, where the pass counts it
 abbrev pub AreNumberedIn : Pass → Counts → List Word → Windows → Counting → List ℕ → Type 0
 AreNumberedIn pass counts words ws (Open o) ns = AreNumberedOpen pass words ws o ns
 AreNumberedIn pass counts words ws (EachWord e) ns =
@@ -96,8 +93,7 @@ pub record CanCarry (odd : Bool) (totals : Totals) (good bad : ℕ) : Type 0 whe
   pub sums : (good < sums_limit) × (bad < sums_limit)
   pub within : MatchBool odd (good ≤ totals.missed) ((bad ≤ totals.good) × (good ≤ totals.bad))
 
--- a part of the choices of a pass changes no total, and the totals are large enough for what the
--- rest takes away
+-- some choices of a pass change no total, and the totals are large enough for the others
 pub record CanMove (odd : Bool) (totals : Totals) (n : Choices) (stays : Kept) : Type 0 where
   pub good : stays.good ≤ n.good
   pub bad : stays.bad ≤ n.bad
@@ -109,17 +105,15 @@ CanGoOn params pass counts words n (Open o) = CanCarry (is_odd pass.level) o.tot
 CanGoOn params pass counts words n (EachWord e) =
     CanMove (is_odd pass.level) e.totals n (kept_by params pass counts words e.above.items)
 
--- what the choices of a pass make of open positions: the dots are closed, and the totals are
--- carried on
+-- what the choices of a pass make of open positions: dots are closed, and the totals go on
 pub record IsAfterPass (params : LevelParams) (pass : Pass)
     (counts : Counts) (words : List Word) (n : Choices) (old new : OpenLevel) : Type 0 where
-  pub size : places new.dots ≡ places old.dots
+  pub size : position_count new.dots ≡ position_count old.dots
   pub dots : (d s : ℕ) → d ≤ LENGTH_MAX → s < sign_count words
       → is_closed new.dots d s ≡ closed_after params pass counts words (is_closed old.dots) d s
   pub totals : Carries (is_odd pass.level) old.totals new.totals n.good n.bad
 
--- what the choices of a pass make of a level in which each word is hyphenated: the totals are
--- carried on, and the listed positions stay
+-- what the choices of a pass make where words are hyphenated: totals go on, listed positions stay
 pub record IsAfterWords (odd : Bool) (n : Choices)
     (stays : Kept) (old new : WordLevel) : Type 0 where
   pub above : new.above.items ≡ old.above.items

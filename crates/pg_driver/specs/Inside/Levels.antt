@@ -8,17 +8,17 @@ use Rattle.pg_types.specs.declared.parameters.LevelParams.{LevelParams}
 use Rattle.pg_types.specs.Placement.{Families}
 use Rattle.pg_select.specs.Inside.Meanings.{Meaning}
 use Rattle.pg_select.specs.declared.pass.Pass.{Pass}
-use Rattle.pg_select.specs.Inside.Laws.{IsClosed}
+use Rattle.pg_select.specs.Inside.Laws.{CountsNothing}
 use Rattle.pg_select.specs.Windows.{Patterns}
 use Rattle.pg_driver.specs.declared.counting.Counting.{Counting}
 use Rattle.pg_driver.specs.Inside.LevelCounting.{IsCounted}
 use Rattle.pg_driver.specs.Traces.{Known, Source, PassTrace, LevelTrace, Trace, patterns_after, final_patterns, passes_made, at_start}
 use Rattle.pg_driver.specs.Inside.Passes.{known_at_end}
-use Rattle.pg_driver.specs.Accounts.{has_candidate, begun}
+use Rattle.pg_driver.specs.Accounts.{has_candidate, begun_count}
 use Rattle.pg_driver.specs.Inside.AccountLines.{pass_line, pass_lines, chosen_by, level_line, is_skippable, begun_among}
 use Rattle.pg_driver.specs.Layouts.{after_level}
 use Rattle.pg_driver.specs.Inside.CellsAccounts.{pass_layouts, levels_with_families, level_layout}
-use Rattle.pg_driver.specs.Inside.Told.{final_families, known_of, line_of, level_line_of, layout_told, level_layout_told}
+use Rattle.pg_driver.specs.Inside.RunAccounts.{final_families, known_of, line_of, level_line_of, layout_told, level_layout_told}
 use Rattle.pg_driver.specs.Inside.Sound.{Recorded}
 use Rattle.pg_driver.specs.Inside.States.{State, state_of, state_at_end}
 
@@ -39,25 +39,24 @@ pub record AreRecorded (source : Source) (signs : ℕ)
   pub levels : new.levels ≡ old.levels
 
 -- the flags of a length and of the next, by dot
-pub record ClosedDots : Type 0 where
+pub record SkipFlags : Type 0 where
   pub here : List Bool
   pub longer : List Bool
 
 -- no flag is set
-abbrev pub unset : List Bool
-unset = replicate (LENGTH_MAX + 2) false
+abbrev pub no_flags : List Bool
+no_flags = replicate (LENGTH_MAX + 2) false
 
 -- no pass of a length is skipped, or a pass was counted already
-abbrev pub WillCount : ClosedDots → Counting → Type 0
-WillCount flags counting = (flags.here ≡ unset) ⊎ IsCounted counting
+abbrev pub WillCount : SkipFlags → Counting → Type 0
+WillCount flags counting = (flags.here ≡ no_flags) ⊎ IsCounted counting
 
 -- the flag of a dot
 abbrev pub is_set : List Bool → ℕ → Bool
 is_set flags dot = slice_index_or flags dot false
 
--- after these passes the flags tell which passes of this length and of the next are skippable; no
--- pass of a greater length is
-pub record Tells (number len : ℕ) (flags : ClosedDots) (ps : List PassTrace) : Type 0 where
+-- after these passes the flags tell which passes of this length and of the next are skippable
+pub record Tells (number len : ℕ) (flags : SkipFlags) (ps : List PassTrace) : Type 0 where
   pub here : (dot : ℕ) → is_skippable ps (record { level = number; len = len; dot = dot })
       ≡ is_set flags.here dot
   pub longer : (dot : ℕ) → is_skippable ps (record { level = number; len = len + 1; dot = dot })
@@ -66,20 +65,20 @@ pub record Tells (number len : ℕ) (flags : ClosedDots) (ps : List PassTrace) :
       → is_skippable ps (record { level = number; len = n; dot = dot }) ≡ false
 
 -- where this is known, each skippable pass of the level counts no window
-abbrev pub AreClosed : Source → ℕ → List PassTrace → Known → Type 0
-AreClosed source number ps known = (len dot : ℕ)
+abbrev pub CountNothing : Source → ℕ → List PassTrace → Known → Type 0
+CountNothing source number ps known = (len dot : ℕ)
     → is_skippable ps (record { level = number; len = len; dot = dot }) ≡ true
-    → IsClosed source.minima source.words
+    → CountsNothing source.minima source.words
     (record { level = number; len = len; dot = dot }) known.patterns known.hopeless
 
 -- a point of a level: the engine, the records and the flags
 pub record Point : Type 0 where
   pub engine : Meaning
   pub records : Recorded
-  pub flags : ClosedDots
+  pub flags : SkipFlags
 
 -- the point with this engine, these records and these flags
-abbrev pub point : Meaning → Recorded → ClosedDots → Point
+abbrev pub point : Meaning → Recorded → SkipFlags → Point
 point m r flags = record { engine = m; records = r; flags = flags }
 
 -- where a level began: the engine and the records
@@ -96,9 +95,9 @@ pub record IsAt (source : Source) (number len : ℕ)
       start.records at.records
   pub short : list_all (λ p. nat_le p.pass.len len) ps ≡ true
   pub tells : Tells number len at.flags ps
-  pub closed : AreClosed source number ps (known_of at.engine)
+  pub closed : CountNothing source number ps (known_of at.engine)
 
--- these passes more lead from one point at a length to another
+-- further passes lead from one point at a length to another
 abbrev pub GoesOn : Source → ℕ → ℕ → List PassTrace → Point → Point → Type 0
 GoesOn source number len more old new = (start : LevelStart) (ps : List PassTrace)
     → IsAt source number len start ps old → IsAt source number len start (ps ++ more) new
@@ -116,8 +115,7 @@ state_after_level signs families l =
       families = option_map (λ fs. after_level signs fs l) families;
     }
 
--- a level was done: the engine has the state after it, and the records are those of its passes and
--- its own
+-- a level was done: the engine is as after it, and the records are those of its passes and its own
 pub record DidLevel (source : Source) (l : LevelTrace)
     (old new : Meaning) (r s : Recorded) : Type 0 where
   pub state : state_of new ≡ state_after_level old.signs old.families l
@@ -158,4 +156,4 @@ pub record DidRun (source : Source) (run : Trace) (old new : Meaning) (r : Recor
   pub layouts : map layout_told r.passes ≡ run_layouts old.signs old.families run
   pub levels : map level_line_of r.levels ≡ map (level_line source) run
   pub level_layouts : map level_layout_told r.levels ≡ level_layouts old.signs old.families run
-  pub begun : r.begun ≡ begun run
+  pub begun : r.begun ≡ begun_count run

@@ -5,18 +5,18 @@ use Rattle.std.specs.Option.{option_map_or}
 use Rattle.pg_translate.specs.Reach.{positions}
 use Rattle.pg_dict.specs.Word.{Word}
 use Rattle.pg_select.specs.CountedPositions.{Minima}
-use Rattle.pg_driver.specs.declared.pass_windows.Place.{Place}
+use Rattle.pg_driver.specs.declared.pass_windows.WordPosition.{WordPosition}
 
 -- position p of the word with the number n, where it counts; else nothing
-abbrev pub open_as : ℕ → ℕ → Option Bool → List Place
+abbrev pub open_as : ℕ → ℕ → Option Bool → List WordPosition
 open_as n p good = option_map_or (λ _. record { word = n; at = p } ∷ []) good []
 
 -- the positions in reach of the word with the number n that count as `counts` says
-abbrev pub listed_in : Minima → (Word → ℕ → Option Bool) → ℕ → Word → List Place
+abbrev pub listed_in : Minima → (Word → ℕ → Option Bool) → ℕ → Word → List WordPosition
 listed_in m counts n w = flat_map (λ p. open_as n p (counts w p))
     (positions m.left m.right (length w.signs))
 
--- such positions of words, which are numbered from n on
-abbrev pub listed_from : Minima → (Word → ℕ → Option Bool) → ℕ → List Word → List Place
+-- the positions in reach of words that count as `counts` says; the first word has the number n
+abbrev pub listed_from : Minima → (Word → ℕ → Option Bool) → ℕ → List Word → List WordPosition
 listed_from m counts n [] = []
 listed_from m counts n (w ∷ words) = listed_in m counts n w ++ listed_from m counts (n + 1) words

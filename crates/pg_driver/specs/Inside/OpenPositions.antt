@@ -6,7 +6,7 @@ use Rattle.pg_dict.specs.Word.{Word}
 use Rattle.pg_select.specs.CountedPositions.{Minima, CountedPosition}
 use Rattle.pg_select.specs.Statuses.{position_weight}
 use Rattle.pg_select.specs.Windows.{window}
-use Rattle.pg_driver.specs.declared.pass_windows.Place.{Place}
+use Rattle.pg_driver.specs.declared.pass_windows.WordPosition.{WordPosition}
 use Rattle.pg_select.specs.Inside.LawsClosedDots.{counted_with}
 
 -- the positions in reach of words, each with the number of its word, from a number on
@@ -16,7 +16,7 @@ numbered_positions m n (w ∷ words) = map (λ p. (n, p)) (positions m.left m.ri
     ++ numbered_positions m (n + 1) words
 
 -- what a position has among the listed ones: nothing, or itself
-abbrev pub open_with : (ℕ → ℕ → Option Bool) → ℕ × ℕ → List Place
+abbrev pub open_with : (ℕ → ℕ → Option Bool) → ℕ × ℕ → List WordPosition
 open_with listed s = option_map_or (λ _. record { word = s.0; at = s.1 } ∷ []) (listed s.0 s.1) []
 
 -- what a pass counts at an open position of a word
@@ -27,11 +27,11 @@ counted_in level len dot w p =
     (counted_with level w p len dot false) []
 
 -- what a pass counts at an open position that is given with the number of its word
-abbrev pub counted_of : ℕ → ℕ → ℕ → List Word → Place → List CountedPosition
+abbrev pub counted_of : ℕ → ℕ → ℕ → List Word → WordPosition → List CountedPosition
 counted_of level len dot words e = option_map_or
     (λ w. counted_in level len dot w e.at) (slice_get words e.word) []
 
 -- an open position stands in one of the words
-pub record IsPlaced (words : List Word) (e : Place) : Type 0 where
+pub record IsPlaced (words : List Word) (e : WordPosition) : Type 0 where
   pub word : e.word < length words
   pub within : (w : Word) → slice_get words e.word ≡ Some w → e.at < length w.signs

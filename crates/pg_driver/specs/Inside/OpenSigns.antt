@@ -18,7 +18,7 @@ use Rattle.pg_select.specs.Inside.LawsClosedDots.{Tells}
 use Rattle.pg_select.specs.Inside.LawsSteps.{CoversUpTo, IsUpTo}
 use Rattle.pg_select.specs.Statuses.{status_at}
 use Rattle.pg_select.specs.Windows.{Patterns, Hopeless, window, fits}
-use Rattle.pg_driver.specs.declared.pass_windows.Place.{Place}
+use Rattle.pg_driver.specs.declared.pass_windows.WordPosition.{WordPosition}
 
 -- how many signs words have together
 abbrev pub sign_count : List Word → ℕ
@@ -31,37 +31,36 @@ start_of (w ∷ words) zero = 0
 start_of (w ∷ words) (suc n) = length w.signs + start_of words n
 
 -- the position of a sign of words, which are numbered from a number on
-abbrev pub place_from : ℕ → List Word → ℕ → Place
-place_from n [] s = record { word = n; at = s }
-place_from n (w ∷ words) s =
+abbrev pub position_from : ℕ → List Word → ℕ → WordPosition
+position_from n [] s = record { word = n; at = s }
+position_from n (w ∷ words) s =
     if nat_lt s (length w.signs) then record { word = n; at = s }
-    else place_from (n + 1) words (s - length w.signs)
+    else position_from (n + 1) words (s - length w.signs)
 
 -- the signs from one on, up to an end, at which a dot is open
 abbrev pub open_signs : (ℕ → Bool) → ℕ → ℕ → List ℕ
 open_signs closed from end = filter (λ s. not (closed s)) (range_with_len from (end - from))
 
 -- the positions of words at which a dot is open, in order
-abbrev pub open_places : (ℕ → Bool) → List Word → List Place
-open_places closed words = map (place_from 0 words) (open_signs closed 0 (sign_count words))
+abbrev pub open_word_positions : (ℕ → Bool) → List Word → List WordPosition
+open_word_positions closed words =
+    map (position_from 0 words) (open_signs closed 0 (sign_count words))
 
 -- a position of a word is in reach
-abbrev pub in_reach : Minima → Word → ℕ → Bool
-in_reach m w p = list_any (nat_eq p) (positions m.left m.right (length w.signs))
+abbrev pub is_in_reach : Minima → Word → ℕ → Bool
+is_in_reach m w p = list_any (nat_eq p) (positions m.left m.right (length w.signs))
 
 -- a position is open where a level begins: it is in reach and counts by its status
 abbrev pub is_open_first : Minima → ℕ → Patterns → Word → ℕ → Bool
-is_open_first m level P w p = in_reach m w p && is_some (counts_as level (status_at P w p))
+is_open_first m level P w p = is_in_reach m w p && is_some (counts_as level (status_at P w p))
 
--- what is known of a position at a length: the closed dots tell what counts there; every dot of a
--- position out of reach is closed
+-- at a length the closed dots of a position tell what counts there; out of reach all are closed
 pub record IsTold (level len : ℕ) (m : Minima) (P : Patterns) (H : Hopeless) (w : Word) (p : ℕ)
     (closed : ℕ → Bool) : Type 0 where
-  pub inside : in_reach m w p ≡ true → Tells level len P H w p closed
-  pub outside : in_reach m w p ≡ false → (d : ℕ) → d ≤ LENGTH_MAX → closed d ≡ true
+  pub inside : is_in_reach m w p ≡ true → Tells level len P H w p closed
+  pub outside : is_in_reach m w p ≡ false → (d : ℕ) → d ≤ LENGTH_MAX → closed d ≡ true
 
--- how far a level is, where these dots are closed at the signs: no string that covers is longer
--- than the length, no value is above the level, and what is known of each position is so
+-- how far a level is: no string that covers is longer than the length, and no value above the level
 pub record IsThere (level len : ℕ) (m : Minima) (words : List Word) (P : Patterns) (H : Hopeless)
     (closed : ℕ → ℕ → Bool) : Type 0 where
   pub short : CoversUpTo level len P H
@@ -69,8 +68,7 @@ pub record IsThere (level len : ℕ) (m : Minima) (words : List Word) (P : Patte
   pub known : (n p : ℕ) (w : Word) → slice_get words n ≡ Some w → p < length w.signs
       → IsTold level len m P H w p (λ d. closed d (start_of words n + p))
 
--- the closed dots of a position at which a dot was open, by what became of its window with the dot.
--- Where no window fits there, the dot is closed, since no longer window with the dot fits either
+-- the closed dots of an open position, by what became of its window; one that does not fit closes
 abbrev pub closed_by : (ℕ → Bool) → ℕ → Option Choice → ℕ → Bool
 closed_by closed dot None d = closed d || nat_eq d dot
 closed_by closed dot (Some Left) d = closed d
@@ -89,12 +87,11 @@ closed_in level pass counts w p closed d =
 -- the closed dots of a sign after a pass, where signs are counted through all words
 abbrev pub closed_after : LevelParams → Pass → Counts → List Word → (ℕ → ℕ → Bool) → ℕ → ℕ → Bool
 closed_after level pass counts words closed d s =
-    let e = place_from 0 words s in
+    let e = position_from 0 words s in
     option_map_or (λ w. closed_in level pass counts w e.at (λ c. closed c s) d)
     (slice_get words e.word) (closed d s)
 
--- dots close at signs by what became of the windows with these numbers, which stand in the order of
--- the open signs. Where the dot was closed before, nothing changes
+-- open dots close by what became of the windows with these numbers; closed ones stay as they are
 pub record ClosesBy (after : ℕ → ℕ → Bool) (dot : ℕ) (fates : List Choice) (old : ℕ → ℕ → Bool)
     (signs ns : List ℕ) : Type 0 where
   pub stays : (s : ℕ) → old dot s ≡ true → (d : ℕ) → after d s ≡ old d s

@@ -2,35 +2,35 @@
 use Rattle.std.specs.Prelude.{◌≡◌, ℕ, ◌+◌, ◌≤◌, Bool, true, false, not, ◌&&◌, List, length, take, drop, slice_get, Option, None, Some}
 use Rattle.pg_types.specs.declared.parameters.LevelParams.{LevelParams}
 use Rattle.pg_types.specs.Inside.Counts.{Counts, counted_sums, is_counted}
-use Rattle.pg_types.specs.Inside.Numbered.{Windows, HasNumber}
+use Rattle.pg_types.specs.Inside.NumberedWindows.{Windows, HasNumber}
 use Rattle.pg_dict.specs.Word.{Word}
 use Rattle.pg_dict.specs.Inside.Store.{all_signs}
 use Rattle.pg_select.specs.declared.pass.Pass.{Pass}
 use Rattle.pg_select.specs.declared.choice.Choice.{Choice}
 use Rattle.pg_select.specs.Inside.Choices.{choice}
 use Rattle.pg_select.specs.Inside.Meanings.{Meaning}
-use Rattle.pg_select.specs.Windows.{Hopeless, Patterns, window, fits, covered}
-use Rattle.pg_driver.specs.declared.pass_windows.Place.{Place}
+use Rattle.pg_select.specs.Windows.{Hopeless, Patterns, window, fits, is_covered}
+use Rattle.pg_driver.specs.declared.pass_windows.WordPosition.{WordPosition}
 use Rattle.pg_driver.specs.declared.pass_windows.TheConstants.{NOT_COUNTED}
 
 -- whether a pass counts at an open position
-abbrev pub counts_at : Pass → Word → Place → Bool
+abbrev pub counts_at : Pass → Word → WordPosition → Bool
 counts_at pass w e = fits w.signs e.at pass.len pass.dot
 
 -- whether the window of a pass at a position fits and is not covered
-abbrev pub uncovered_at : Pass → Patterns → Hopeless → Word → Place → Bool
+abbrev pub uncovered_at : Pass → Patterns → Hopeless → Word → WordPosition → Bool
 uncovered_at pass P H w e =
     fits w.signs e.at pass.len pass.dot
-    && not (covered pass.level P H (window w.signs e.at pass.len pass.dot) pass.dot)
+    && not (is_covered pass.level P H (window w.signs e.at pass.len pass.dot) pass.dot)
 
 -- whether the window of a pass at a position fits and is counted
-abbrev pub is_counted_at : Pass → Counts → Word → Place → Bool
+abbrev pub is_counted_at : Pass → Counts → Word → WordPosition → Bool
 is_counted_at pass counts w e =
     fits w.signs e.at pass.len pass.dot && is_counted counts (window w.signs e.at pass.len pass.dot)
 
 -- n is the number of the position's window where the window counts, and else `NOT_COUNTED`
-pub record IsNumbered (pass : Pass) (counts : Word → Place → Bool) (words : List Word)
-    (ws : Windows) (e : Place) (n : ℕ) : Type 0 where
+pub record IsNumbered (pass : Pass) (counts : Word → WordPosition → Bool) (words : List Word)
+    (ws : Windows) (e : WordPosition) (n : ℕ) : Type 0 where
   pub counted : (w : Word) → slice_get words e.word ≡ Some w → counts w e ≡ true
       → HasNumber ws (window w.signs e.at pass.len pass.dot) n
   pub uncounted : (w : Word) → slice_get words e.word ≡ Some w → counts w e ≡ false
@@ -42,10 +42,10 @@ GetsNumber None ws u n = n ≡ NOT_COUNTED
 GetsNumber (Some good) ws u n = HasNumber ws u n
 
 -- each position has its number
-pub record HaveNumbers (pass : Pass) (counts : Word → Place → Bool) (words : List Word)
-    (ws : Windows) (entries : List Place) (ns : List ℕ) : Type 0 where
+pub record HaveNumbers (pass : Pass) (counts : Word → WordPosition → Bool) (words : List Word)
+    (ws : Windows) (entries : List WordPosition) (ns : List ℕ) : Type 0 where
   pub size : length ns ≡ length entries
-  pub each : (k : ℕ) (e : Place) (n : ℕ) → slice_get entries k ≡ Some e
+  pub each : (k : ℕ) (e : WordPosition) (n : ℕ) → slice_get entries k ≡ Some e
       → slice_get ns k ≡ Some n → IsNumbered pass counts words ws e n
 
 -- what becomes of the windows, by number
@@ -61,15 +61,15 @@ abbrev pub window_from : Pass → List Word → ℕ → List ℕ
 window_from pass words first = take pass.len (drop first (all_signs words))
 
 -- a window of the pass begins at this sign, and has the number
-pub record IsPlace (pass : Pass) (words : List Word) (ws : Windows) (n first : ℕ) : Type 0 where
+pub record IsFirstSign (pass : Pass) (words : List Word) (ws : Windows) (n first : ℕ) : Type 0 where
   pub within : first + pass.len ≤ length (all_signs words)
   pub number : HasNumber ws (window_from pass words first) n
 
 -- the first signs of the windows of a pass, by the number of the window
-pub record ArePlaces (pass : Pass) (words : List Word) (ws : Windows) (places : List ℕ)
+pub record AreFirstSigns (pass : Pass) (words : List Word) (ws : Windows) (places : List ℕ)
     : Type 0 where
   pub size : length places ≡ length ws
-  pub each : (n first : ℕ) → slice_get places n ≡ Some first → IsPlace pass words ws n first
+  pub each : (n first : ℕ) → slice_get places n ≡ Some first → IsFirstSign pass words ws n first
 
 -- each of the entries is one of the counts
 abbrev pub IsPart : Counts → Counts → Type 0

@@ -20,8 +20,7 @@ pub record IsSoundPass (r : PassRecord) : Type 0 where
 pub record IsSoundLevel (r : LevelRecord) : Type 0 where
   pub after : IsSmall r.after
 
--- what a run has recorded so far: the records of its passes and levels, how many windows were
--- chosen in the level that is not at its end, and how many passes were begun
+-- the records of a run so far, how many it chose in this level, and how many passes were begun
 pub record Recorded : Type 0 where
   pub passes : List PassRecord
   pub levels : List LevelRecord
@@ -46,8 +45,7 @@ with_level r level after layout =
       chosen = 0;
     }
 
--- a run that is done: its patterns, its records, the totals of the patterns, the layout at its
--- start, and how many passes were begun
+-- a run that is done: patterns, records, totals, the layout at its start, and the passes begun
 pub record Finished : Type 0 where
   pub patterns : List ((List ℕ × ℕ) × ℕ)
   pub passes : List PassRecord

@@ -3,7 +3,7 @@ use Rattle.std.specs.Prelude.{◌≡◌, ℕ, ◌+◌, ◌≤◌, List, Option}
 use Rattle.std.specs.Option.{option_map}
 use Rattle.pg_types.specs.declared.limits.TheConstants.{LENGTH_MAX, LEVEL_MAX}
 use Rattle.pg_types.specs.declared.parameters.LevelParams.{LevelParams}
-use Rattle.pg_types.specs.Placement.{Families, taken, top}
+use Rattle.pg_types.specs.Placement.{Families, taken_count, top}
 use Rattle.pg_select.specs.Inside.Meanings.{Meaning}
 use Rattle.pg_driver.specs.declared.records.PassRecord.{PassRecord}
 use Rattle.pg_select.specs.declared.pass.Pass.{Pass}
@@ -12,7 +12,7 @@ use Rattle.pg_driver.specs.Inside.Passes.{known_at_end}
 use Rattle.pg_driver.specs.Inside.AccountLines.{pass_line}
 use Rattle.pg_driver.specs.Layouts.{after_pass}
 use Rattle.pg_driver.specs.Inside.CellsAccounts.{after_passes}
-use Rattle.pg_driver.specs.Inside.Told.{known_of, line_of, layout_told}
+use Rattle.pg_driver.specs.Inside.RunAccounts.{known_of, line_of, layout_told}
 
 -- what an engine knows, and the families of its strings, where they are told
 pub record State : Type 0 where
@@ -48,11 +48,10 @@ pub record IsPass (pass : Pass) : Type 0 where
 abbrev pub made_by : Source → LevelParams → Meaning → Pass → PassTrace
 made_by source params m pass = pass_made source params (known_of m) pass
 
--- a pass was done: the engine has the state after it, and the record tells its line and the layout
--- after it
+-- a pass was done: the engine is as after it, and the record has its line and its layout
 pub record DidPass (source : Source) (params : LevelParams)
     (pass : Pass) (old new : Meaning) (r : PassRecord) : Type 0 where
   pub state : state_of new ≡ state_after old.signs old.families (made_by source params old pass)
   pub line : line_of r ≡ pass_line source (made_by source params old pass)
-  pub layout : layout_told r ≡ option_map (λ fs. (pass, taken fs, top fs)) new.families
+  pub layout : layout_told r ≡ option_map (λ fs. (pass, taken_count fs, top fs)) new.families
   pub begun : new.begun ≡ old.begun + 1

@@ -17,7 +17,7 @@ use Rattle.pg_select.specs.CountedPositions.{CountedPosition}
 use Rattle.pg_select.specs.Inside.LawsAbove.{counts_above}
 use Rattle.pg_select.specs.Windows.{Patterns}
 use Rattle.pg_driver.specs.declared.above_positions.Kept.{Kept}
-use Rattle.pg_driver.specs.declared.pass_windows.Place.{Place}
+use Rattle.pg_driver.specs.declared.pass_windows.WordPosition.{WordPosition}
 use Rattle.pg_driver.specs.declared.word_level.WordLevel.{WordLevel}
 use Rattle.pg_driver.specs.Accounts.{totals_by}
 use Rattle.pg_driver.specs.Inside.OpenLevels.{listed_from}
@@ -29,8 +29,7 @@ use Rattle.pg_driver.specs.Inside.Fates.{chooses}
 abbrev pub listing : Bool → ℕ → Patterns → Word → ℕ → Option Bool
 listing listed level P w p = if listed then counts_above level P w p else None
 
--- a level in which each word is hyphenated in each pass, at what is known: once a pass was counted,
--- the positions above the level are listed, and the totals are those by the patterns
+-- a level in which words are hyphenated in each pass: it lists positions above the level
 pub record IsWordsAt (source : Source) (level : ℕ) (known : Known) (e : WordLevel) : Type 0 where
   pub least : 1 ≤ source.minima.left
   pub words : All IsWord source.words
@@ -54,13 +53,13 @@ abbrev pub bad_kept : LevelParams → Counts → CountedPosition → ℕ
 bad_kept params counts s = if not s.good && was_chosen params counts s.window then s.weight else 0
 
 -- a listed position with its window of a pass, where that fits
-abbrev pub window_of : Pass → List Word → Place → List CountedPosition
+abbrev pub window_of : Pass → List Word → WordPosition → List CountedPosition
 window_of pass words e =
     option_map_or (λ w. counted_in pass.level pass.len pass.dot w e.at)
     (slice_get words e.word) []
 
 -- the weights of listed positions whose windows were chosen: of the good ones, and of the bad ones
-abbrev pub kept_by : LevelParams → Pass → Counts → List Word → List Place → Kept
+abbrev pub kept_by : LevelParams → Pass → Counts → List Word → List WordPosition → Kept
 kept_by params pass counts words above = record {
   good = sum_by (good_kept params counts) (flat_map (window_of pass words) above);
   bad = sum_by (bad_kept params counts) (flat_map (window_of pass words) above);

@@ -4,15 +4,14 @@ use Rattle.std.specs.Ordering.{nat_cmp}
 use Rattle.std.specs.FinMap as fin
 use Rattle.pg_outside.specs.declared.plans.Plan.{Plan}
 
--- the listed calls: from the number of a call to what it keeps of its bytes, none or a number of
--- them
+-- the calls that are to fail, by their numbers, with how many bytes each keeps
 abbrev pub ListedCalls : Type 0
 ListedCalls = fin.FinMap nat_cmp (Option ℕ)
 
 -- a plan as the number of its call and what it keeps
-abbrev pub planned : Plan → ℕ × Option ℕ
-planned plan = (plan.call, plan.keep)
+abbrev pub plan_entry : Plan → ℕ × Option ℕ
+plan_entry plan = (plan.call, plan.keep)
 
 -- the calls that these plans list; of two plans for one call the first counts
 abbrev pub listed_calls : List Plan → ListedCalls
-listed_calls plans = fin.from_entries (map planned plans)
+listed_calls plans = fin.from_entries (map plan_entry plans)

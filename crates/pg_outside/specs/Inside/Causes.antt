@@ -2,8 +2,7 @@
 use Rattle.pg_outside.specs.declared.disk.error.WriteError.{WriteError}
 use Rattle.pg_outside.specs.declared.disk.error.WriteError.TheVariants as error
 
--- what each error but a shortage of memory says: that a call failed, that the file was kept in
--- mind, that a link was not followed, or that each new name is taken
+-- what each error says: a failed call, a file kept in mind, a link not followed, or no free name
 abbrev pub Because : Type 0 → Type 0 → Type 0 → Type 0 → WriteError → Type 0
 Because failed kept unfollowed taken error.Failed = failed
 Because failed kept unfollowed taken error.Kept = kept

@@ -9,8 +9,7 @@ use Rattle.pg_outside.specs.declared.disk.system.Entry.TheVariants.{Missing, Lin
 use Rattle.pg_outside.specs.declared.disk.system.FileId.{FileId}
 use Rattle.pg_outside.specs.declared.disk.system.Seen.{Seen}
 
--- a file: its kind, its bytes, its permissions, whether it may be written, and whether the device
--- has all of it
+-- a file: its kind, its bytes, its permissions, whether it may be written, whether it is stored
 pub record Node : Type 0 where
   pub is_regular : Bool
   pub bytes : List ℕ
@@ -18,9 +17,7 @@ pub record Node : Type 0 where
   pub is_writable : Bool
   pub is_stored : Bool
 
--- what a name stands for once each link in it is followed, whether the name is a link itself, the
--- name that a link says, the permissions of a file that is made, and whether the disk is known to
--- have no link, no other name for one name, and no file but regular ones
+-- what links make of names, which permissions a new file has, and whether the disk is known plain
 pub record Links : Type 0 where
   pub real : List ℕ → List ℕ
   pub is_link : List ℕ → Bool
@@ -32,8 +29,7 @@ pub record Links : Type 0 where
 abbrev pub NameMap : Type 0
 NameMap = fin.FinMap (slice_cmp nat_cmp) FileId
 
--- a disk: the links, the names, what each file is, and the names that the system refused to remove,
--- the latest first
+-- a disk: the links, the names, the files, and the names that the system refused to remove
 pub record Disk : Type 0 where
   pub links : Links
   pub names : NameMap
@@ -181,8 +177,7 @@ IsEntry name Missing disk = (disk.links.is_link name ≡ false) × LeadsToNone n
 IsEntry name Link disk = disk.links.is_link name ≡ true
 IsEntry name (File id) disk = (disk.links.is_link name ≡ false) × LeadsTo name id disk
 
--- the text, seen from the folder of the link, is the name that the link says, and stands for what
--- the link stands for
+-- the text, seen from the link's folder, is the name that the link says
 abbrev pub IsFollowedBy : List ℕ → List ℕ → Disk → Type 0
 IsFollowedBy link text disk = (joined : List ℕ) → IsJoined link text joined
     → (joined ≡ disk.links.next link) × AreOne disk joined link
@@ -226,8 +221,7 @@ pub record HasNoLinks (disk : Disk) : Type 0 where
 abbrev pub KnowsPlain : Disk → Type 0
 KnowsPlain disk = disk.links.is_plain ≡ true → HasNoLinks disk
 
--- where neither a new file's own name nor the name beside it is a link, they stand for one only if
--- they are one name
+-- where two names beside each other are no links, they stand for one only if they are one name
 abbrev pub KnowsNewNames : Disk → Type 0
 KnowsNewNames disk = (own name : List ℕ) → IsNewName own name → disk.links.is_link name ≡ false
     → disk.links.is_link own ≡ false → AreOne disk own name → own ≡ name

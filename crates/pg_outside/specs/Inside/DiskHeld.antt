@@ -30,9 +30,9 @@ abbrev pub held_of : Option Told → Option FileMap
 held_of None = None
 held_of (Some told) = cond (is_shown told.now) (Some (file_map told.now)) None
 
--- the count of the faults of reads and writes, of all names together
-abbrev pub disk_faults : {S File : Type 0} → DiskFiles S File → ℕ
-disk_faults files = files.failed
+-- the count of all faults: of reads and of writes, of all names together
+abbrev pub all_faults : {S File : Type 0} → DiskFiles S File → ℕ
+all_faults files = files.failed
 
 -- the reads and writes that there were, in their order
 abbrev pub disk_calls : {S File : Type 0} → DiskFiles S File → List FilesCall

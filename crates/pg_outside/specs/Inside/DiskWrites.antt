@@ -68,15 +68,13 @@ pub record MayWrite (name : List ℕ) (kept : List FileId) (disk : Disk) : Type 
   pub writable : IfSome (node_at disk name) (λ node. node.is_writable ≡ true)
   pub free : (id : FileId) → IsProtected name kept id disk → ⊥
 
--- at each moment of a write that changes the disk: the file may be written; a regular file is the
--- old one or the new one, whole; and a device got a first part of the bytes
+-- at each moment of a write a regular file is the old one or the new one, whole
 pub record AtWrite (name bytes : List ℕ) (kept : List FileId) (first disk : Disk) : Type 0 where
   pub allowed : MayWrite name kept first
   pub plain : IsPlain name first → AtMoment name bytes (mode_at name first) first disk
   pub device : (id : FileId) → IsDevice name id first → WrotePart id bytes first disk
 
--- the name leads to a new file of these bytes with the old one's permissions, and this file alone
--- is kept in mind besides those before
+-- the name leads to a new file of these bytes, with the old permissions, which is kept in mind
 pub record IsWrittenAndKept (name bytes : List ℕ)
     (before kept : List FileId) (first last : Disk) : Type 0 where
   pub id : FileId
@@ -128,13 +126,14 @@ abbrev pub WasKept : List ℕ → List FileId → Disk → Type 0
 WasKept name kept disk = (id : FileId) × IsProtected name kept id disk
 
 -- the name that so many links in a row lead to, which the first name begins
-abbrev pub followed : Disk → ℕ → List ℕ → List ℕ
-followed disk zero name = name
-followed disk (suc count) name = disk.links.next (followed disk count name)
+abbrev pub followed_name : Disk → ℕ → List ℕ → List ℕ
+followed_name disk zero name = name
+followed_name disk (suc count) name = disk.links.next (followed_name disk count name)
 
 -- the name begins a row of more than 40 links
 abbrev pub IsDeep : List ℕ → Disk → Type 0
-IsDeep name disk = (count : ℕ) → count < 41 → disk.links.is_link (followed disk count name) ≡ true
+IsDeep name disk = (count : ℕ) → count < 41 → disk.links.is_link (followed_name disk count name)
+    ≡ true
 
 -- each of the thousand names of a new file beside this one is taken, or is this one
 pub record AllTaken (name : List ℕ) (disk : Disk) : Type 0 where

@@ -83,8 +83,7 @@ abbrev pub KeepsFront : MemoryFiles → MemoryFiles → List ℕ → List ℕ �
 KeepsFront old new name bytes = (keep : ℕ) → next_listed old ≡ Some (Some keep)
     → SameFiles old new ⊎ WasSet old new name (take keep bytes)
 
--- a listed write that keeps some first bytes sets a file that is there to these, where they are
--- within its room
+-- a listed write that keeps first bytes sets a file that is there to them, where it has room
 abbrev pub KeepsFrontWithin : MemoryFiles → MemoryFiles → List ℕ → List ℕ → Type 0
 KeepsFrontWithin old new name bytes = (keep : ℕ) → next_listed old ≡ Some (Some keep)
     → HasFile old name

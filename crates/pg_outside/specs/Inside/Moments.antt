@@ -10,16 +10,14 @@ abbrev pub Each : (Disk → Type 0) → List Disk → Type 0
 Each P [] = Unit {0}
 Each P (disk ∷ disks) = P disk × Each P disks
 
--- from one disk to another: each disk since the first stands to the first as P says, and the last
--- as Q says
+-- from one disk to another: each since the first stands to it as P says, and the last as Q says
 pub record Ran (P Q : Disk → Disk → Type 0) (old new : Told) : Type 0 where
   pub since : List Disk
   pub moments : new.now ∷ new.past ≡ since ++ old.now ∷ old.past
   pub each : Each (P old.now) since
   pub end : Q old.now new.now
 
--- where a disk is told after the call, one was told before it; each disk since stands to it as P
--- says, and the last as Q says
+-- a disk that is told was told before; each since stands to the first as P says, the last as Q says
 abbrev pub Runs : Option Told → Option Told → (Disk → Disk → Type 0)
     → (Disk → Disk → Type 0) → Type 0
 Runs old new P Q = IfSome new (λ after. MatchOption old ⊥ (λ before. Ran P Q before after))
@@ -30,8 +28,7 @@ HasMode id mode old new = (node : Node) → old.files id ≡ Some node
     → (after : Node) × FileSet id after old new × (after.is_regular ≡ node.is_regular)
     × (after.bytes ≡ node.bytes) × (after.mode ≡ unwrap_or mode node.mode)
 
--- the file got these bytes behind those that it had, and these permissions or its own, and the
--- device has all of it
+-- the file got these bytes and permissions, and the device has all of it
 abbrev pub Filled : FileId → Option ℕ → List ℕ → Disk → Disk → Type 0
 Filled id mode bytes old new = (node : Node) → old.files id ≡ Some node
     → (after : Node) × FileSet id after old new × (after.is_regular ≡ node.is_regular)
@@ -52,8 +49,7 @@ abbrev pub InPlacing : List ℕ → List ℕ → FileId → Option ℕ → List 
 InPlacing own name id mode bytes old new =
     Disturbed id old new ⊎ Placed own name id mode bytes old new
 
--- the name leads to a regular file of these bytes, and of these permissions or those of a file that
--- is made, and the device has all of it
+-- the name leads to a regular file of these bytes and permissions, and the device has all of it
 pub record IsWhole (whole : List ℕ) (given : Option ℕ) (disk : Disk) (name : List ℕ) : Type 0 where
   pub node : Node
   pub there : node_at disk name ≡ Some node
@@ -66,8 +62,7 @@ pub record IsWhole (whole : List ℕ) (given : Option ℕ) (disk : Disk) (name :
 abbrev pub WhereDirect : List ℕ → (Disk → Disk → Type 0) → Disk → Disk → Type 0
 WhereDirect name R first last = first.links.is_link name ≡ false → R first last
 
--- this is the name of a new file beside what the other name leads to. It is no file's, and does not
--- stand for the other name
+-- a new file's name beside what the other name leads to, which is no file's
 pub record IsBeside (own name : List ℕ) (first : Disk) : Type 0 where
   pub real : List ℕ
   pub direct : first.links.is_link real ≡ false
@@ -81,8 +76,7 @@ abbrev pub SameAt : Disk → Disk → List ℕ → Type 0
 SameAt first disk name = (id_at disk name ≡ id_at first name)
     × (node_at disk name ≡ node_at first name)
 
--- at a moment of a write: each name but a new file's leads to what it led to at first, unchanged,
--- or it is the written one and leads to the new bytes, whole and on the device
+-- at a moment of a write each name leads to its old file, or the written one to all new bytes
 pub record AtMoment (name bytes : List ℕ) (mode : Option ℕ) (first disk : Disk) : Type 0 where
   pub links : disk.links ≡ first.links
   pub own : List ℕ

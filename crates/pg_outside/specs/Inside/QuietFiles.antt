@@ -25,15 +25,15 @@ told_files quiet = cond (is_telling quiet) (Some (quiet_files_of quiet)) None
 abbrev pub told_file : QuietFiles → List ℕ → Option (List ℕ)
 told_file quiet name = cond (is_telling quiet) (file_at (quiet_files_of quiet) name) None
 
--- it stores a file of this name
+-- the files in memory have one of this name
 abbrev pub StoresFile : QuietFiles → List ℕ → Type 0
 StoresFile quiet name = IsSome (file_at (quiet_files_of quiet) name)
 
--- it stores no file of this name
+-- the files in memory have none of this name
 abbrev pub LacksFile : QuietFiles → List ℕ → Type 0
 LacksFile quiet name = file_at (quiet_files_of quiet) name ≡ None
 
--- it tells its files where it told them before, and else not
+-- files in memory are told where they were told before, and else not
 abbrev pub StaysTelling : QuietFiles → QuietFiles → Type 0
 StaysTelling old new = is_telling new ≡ is_telling old
 

@@ -11,12 +11,12 @@ abbrev pub has_name : List ℕ → StoredFile → Bool
 has_name name file = bytes_eq (string_bytes file.name) name
 
 -- a file as its name and its bytes
-abbrev pub named : StoredFile → List ℕ × List ℕ
-named file = (string_bytes file.name, file.bytes.items)
+abbrev pub name_and_bytes : StoredFile → List ℕ × List ℕ
+name_and_bytes file = (string_bytes file.name, file.bytes.items)
 
 -- what the files hold by name; of two files of one name the first counts
 abbrev pub file_map : List StoredFile → FileMap
-file_map files = fin.from_entries (map named files)
+file_map files = fin.from_entries (map name_and_bytes files)
 
 -- the view of the first file of this name, or the other value where there is none
 abbrev pub of_name : {A : Type 0} → (StoredFile → A) → A → List StoredFile → List ℕ → A

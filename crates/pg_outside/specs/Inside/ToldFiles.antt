@@ -12,19 +12,16 @@ IsCut file limit front = MatchOption file ⊥
 abbrev pub IsFile : Option FileMap → List ℕ → List ℕ → Type 0
 IsFile held name bytes = IfSome held (λ files. file_at files name ≡ Some bytes)
 
--- where files are told, the file of this name has more than the limit, and these are its first
--- limit + 1 bytes
+-- where files are told, this one is longer than the limit, and these are its first limit + 1 bytes
 abbrev pub IsFileCut : Option FileMap → List ℕ → ℕ → List ℕ → Type 0
 IsFileCut held name limit front = IfSome held (λ files. IsCut (file_at files name) limit front)
 
--- where files are told after the call, they are those told before it with this file set to these
--- bytes
+-- where files are told after the call, they are those told before with these bytes in this file
 abbrev pub WasWritten : Option FileMap → Option FileMap → List ℕ → List ℕ → Type 0
 WasWritten old new name bytes = IfSome new (λ after. MatchOption old ⊥ (λ before.
     after ≡ map.insert before name bytes))
 
--- where files are told after the call, they were told before it, and this file is as it was or a
--- prefix of these bytes
+-- where files are told, this one is as it was or a prefix of these bytes, and no other changed
 abbrev pub WasPartWritten : Option FileMap → Option FileMap → List ℕ → List ℕ → Type 0
 WasPartWritten old new name bytes = IfSome new (λ after. MatchOption old ⊥ (λ before.
     HasPart before after name bytes))

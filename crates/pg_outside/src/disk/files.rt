@@ -254,13 +254,13 @@ fn count_read(failed: &mut u64, outcome: &Result<(), ReadError>)
 }
 
 impl<S: System + Drop> DiskFiles<S> {
-    ghost use Rattle.pg_outside.specs.Inside.DiskHeld.{disk_faults, disk_calls};
+    ghost use Rattle.pg_outside.specs.Inside.DiskHeld.{all_faults, disk_calls};
 
     /// The files of this system, with no read, no write and no fault so far.
     pub fn new(alloc: Global, system: S) -> DiskFiles<S>
         ensures system { result.system ≡ system }
         ensures kept { result.kept.items ≡ [] }
-        ensures faults { disk_faults result ≡ 0 }
+        ensures faults { all_faults result ≡ 0 }
         ensures calls { disk_calls result ≡ [] }
     {
         DiskFiles {
@@ -314,10 +314,10 @@ impl<S: System + Drop> DiskFiles<S> {
             (S.failures self.new.system ≡ S.failures self.old.system) }
 
         // A write that fails is one fault, and no other write is one. The call is one more.
-        ensures later { disk_faults self.old ≤ disk_faults self.new }
+        ensures later { all_faults self.old ≤ all_faults self.new }
         ensures one_fault { OnErr result
-            (disk_faults self.new ≡ next_count (disk_faults self.old)) }
-        ensures ok_faults { OnOk result (disk_faults self.new ≡ disk_faults self.old) }
+            (all_faults self.new ≡ next_count (all_faults self.old)) }
+        ensures ok_faults { OnOk result (all_faults self.new ≡ all_faults self.old) }
         ensures calls { disk_calls self.new ≡ disk_calls self.old ++ Writes name.now ∷ [] }
     {
         self.calls = self.calls.and(&Call::Write(name));
@@ -330,12 +330,12 @@ impl<S: System + Drop> DiskFiles<S> {
 impl<S: System + Drop> Files for DiskFiles<S> {
     ghost use Rattle.pg_outside.specs.Content.{KeepsHeld};
     ghost use Rattle.pg_outside.specs.Inside.ToldFiles.{IsFile, IsFileCut, WasWritten, WasPartWritten};
-    ghost use Rattle.pg_outside.specs.Inside.DiskHeld.{held_of, disk_faults, disk_calls};
+    ghost use Rattle.pg_outside.specs.Inside.DiskHeld.{held_of, all_faults, disk_calls};
 
     ghost shown = { λ files. record {
       held = held_of (S.told files.system);
-      read_faults = λ _. disk_faults files;
-      write_faults = λ _. disk_faults files;
+      read_faults = λ _. all_faults files;
+      write_faults = λ _. all_faults files;
       calls = disk_calls files;
     } };
 
@@ -352,8 +352,8 @@ impl<S: System + Drop> Files for DiskFiles<S> {
         // As for all files.
         ensures held { KeepsHeld (held_of (S.told self.old.system))
             (held_of (S.told self.new.system)) }
-        ensures reads { List ℕ → disk_faults self.old ≤ disk_faults self.new }
-        ensures writes { List ℕ → disk_faults self.old ≤ disk_faults self.new }
+        ensures reads { List ℕ → all_faults self.old ≤ all_faults self.new }
+        ensures writes { List ℕ → all_faults self.old ≤ all_faults self.new }
         ensures fits { OnOk result (length into.new.items ≤ limit) }
         ensures cut { IsErrOf result ReadError.TooLong → length into.new.items ≡ limit + 1 }
         ensures file { OnOk result
@@ -361,7 +361,7 @@ impl<S: System + Drop> Files for DiskFiles<S> {
         ensures cut_file { IsErrOf result ReadError.TooLong
             → IsFileCut (held_of (S.told self.new.system)) name.now limit into.new.items }
         ensures failed { IsErrOf result ReadError.Failed
-            → Rose (disk_faults self.old) (disk_faults self.new) }
+            → Rose (all_faults self.old) (all_faults self.new) }
         ensures calls { disk_calls self.new ≡ disk_calls self.old ++ Reads name.now ∷ [] }
 
         // The disk is as before, and where it is told, the bytes are those of the file that the
@@ -392,12 +392,12 @@ impl<S: System + Drop> Files for DiskFiles<S> {
 
         // A read that fails is one fault, and no other read is one.
         ensures one_fault { IsErrOf result ReadError.Failed
-            → disk_faults self.new ≡ next_count (disk_faults self.old) }
-        ensures ok_faults { OnOk result (disk_faults self.new ≡ disk_faults self.old) }
+            → all_faults self.new ≡ next_count (all_faults self.old) }
+        ensures ok_faults { OnOk result (all_faults self.new ≡ all_faults self.old) }
         ensures long_faults { IsErrOf result ReadError.TooLong
-            → disk_faults self.new ≡ disk_faults self.old }
+            → all_faults self.new ≡ all_faults self.old }
         ensures memory_faults { IsErrOf result ReadError.Memory
-            → disk_faults self.new ≡ disk_faults self.old }
+            → all_faults self.new ≡ all_faults self.old }
     {
         self.calls = self.calls.and(&Call::Read(name));
         let result = read_named(&mut self.system, &mut self.kept, name, limit, into);
@@ -411,9 +411,9 @@ impl<S: System + Drop> Files for DiskFiles<S> {
             (held_of (S.told self.new.system)) name.now bytes.now) }
         ensures part { OnErr result (WasPartWritten (held_of (S.told self.old.system))
             (held_of (S.told self.new.system)) name.now bytes.now) }
-        ensures reads { List ℕ → disk_faults self.old ≤ disk_faults self.new }
-        ensures writes { List ℕ → disk_faults self.old ≤ disk_faults self.new }
-        ensures failed { OnErr result (Rose (disk_faults self.old) (disk_faults self.new)) }
+        ensures reads { List ℕ → all_faults self.old ≤ all_faults self.new }
+        ensures writes { List ℕ → all_faults self.old ≤ all_faults self.new }
+        ensures failed { OnErr result (Rose (all_faults self.old) (all_faults self.new)) }
         ensures calls { disk_calls self.new ≡ disk_calls self.old ++ Writes name.now ∷ [] }
 
         // At each moment between two calls of the system, and at the end.
@@ -433,8 +433,8 @@ impl<S: System + Drop> Files for DiskFiles<S> {
 
         // A write that fails is one fault, and no other write is one.
         ensures one_fault { OnErr result
-            (disk_faults self.new ≡ next_count (disk_faults self.old)) }
-        ensures ok_faults { OnOk result (disk_faults self.new ≡ disk_faults self.old) }
+            (all_faults self.new ≡ next_count (all_faults self.old)) }
+        ensures ok_faults { OnOk result (all_faults self.new ≡ all_faults self.old) }
     {
         match self.write_file(name, bytes) {
             Ok(()) => Ok(()),

@@ -12,8 +12,7 @@ use Rattle.pg_translate.specs.Inside.Rests.{cut_rest}
 use Rattle.pg_translate.specs.Inside.Refusing.{of_line, refusal_with_room}
 use Rattle.pg_patterns.specs.Inside.EntryLines.{digit_at_dot, entries_at}
 
--- the signs, the dots before them with their digits, and the last digit behind the last sign, where
--- 0 is none
+-- the signs, the dots before them with their digits, and the last digit behind the last sign
 pub record Draft : Type 0 where
   pub signs : List ℕ
   pub digits : List (ℕ × ℕ)
@@ -57,8 +56,7 @@ draft_left t line size d rest =
     let c = cut_rest t Patterns size rest in
     unless (refusal_after (length d.signs) line c) (fold with_token d (tokens_of c))
 
--- an item was taken: reading on from the new draft and rest gives the same as reading on from the
--- old ones, and less is left
+-- an item was taken: the new draft and rest read on to the same as the old ones, and less is left
 abbrev pub ReadsOn : (Draft → List ℕ → Result Draft Refusal)
     → Draft → List ℕ → Draft → List ℕ → Type 0
 ReadsOn read old rest new after = (read old rest ≡ read new after) × (length after < length rest)

@@ -5,8 +5,8 @@ use Rattle.std.specs.Ordering.{nat_cmp}
 use Rattle.std.specs.Cmp.Lexicographic.{slice_cmp}
 use Rattle.std.specs.FinMap.Entries.{is_sorted}
 use Rattle.pg_types.specs.Inside.Counts.{Counts, with_count}
-use Rattle.pg_types.specs.Inside.Numbered.{Windows, with_window}
-use Rattle.pg_types.specs.Inside.Numbers.{Numbers, AreNumbers, by_number}
+use Rattle.pg_types.specs.Inside.NumberedWindows.{Windows, with_window}
+use Rattle.pg_types.specs.Inside.NumberedStrings.{Numbers, AreNumbers, by_number}
 use Rattle.pg_plain.specs.declared.counts.TheConstants.{NUMBERS_MAX}
 
 -- the windows with their sums, and the windows in the order of their numbers

@@ -16,7 +16,7 @@ is_extension q r = starts_with nat_eq r q && not (pointwise nat_eq r q)
 abbrev pub applies_from : List ℕ → ℕ → ℕ → List ℕ × ℕ → Bool
 applies_from w i p k = nat_eq (i + k.1) p && stands_at k.0 w i
 
--- the same, for at least n signs
+-- k has n signs or more, which stand in w from i on, with its dot at position p
 abbrev pub applies_from_at_least : List ℕ → ℕ → ℕ → ℕ → List ℕ × ℕ → Bool
 applies_from_at_least w i n p k = applies_from w i p k && nat_le n (length k.0)
 

@@ -10,12 +10,11 @@ use Rattle.pg_prune.specs.Inside.Standing.{stands}
 abbrev pub count_at : Patterns → WordPlace → ℕ → ℕ
 count_at Q x v = count_by (λ e. stands e x && nat_eq e.1 v) Q
 
--- these numbers for the values 1 to 9
+-- how many entries of a map stand at a place and have the value 1, 2 and so on to 9
 abbrev pub holder_counts : Patterns → WordPlace → List ℕ
 holder_counts Q x = map (count_at Q x) (range_with_len 1 LEVEL_MAX)
 
--- the greatest value that some entry gives: the first number is how many give the value v + 1. It
--- is `best` where no number is above 0
+-- the greatest value above v that some entry gives, by how many give v + 1 and so on; else `best`
 abbrev pub greatest_value_from : ℕ → ℕ → List ℕ → ℕ
 greatest_value_from best v [] = best
 greatest_value_from best v (n ∷ ns) =

@@ -5,7 +5,7 @@ use Rattle.pg_patterns.specs.Inside.PatternMaps.{is_entry}
 use Rattle.pg_select.specs.Windows.{Patterns}
 use Rattle.pg_prune.specs.Places.{WordPlace}
 use Rattle.pg_prune.specs.Prunes.{break_alike, round}
-use Rattle.pg_prune.specs.Inside.Standing.{all_standing}
+use Rattle.pg_prune.specs.Inside.Standing.{places_of_entries}
 use Rattle.pg_prune.specs.Inside.Turns.{IsTallied}
 
 -- the entry of a map with a number
@@ -13,36 +13,33 @@ abbrev pub entry_of : Patterns → ℕ → (List ℕ × ℕ) × ℕ
 entry_of P i = slice_index_or P i (([], 0), 0)
 
 -- the entries of a map with these numbers
-abbrev pub picked : Patterns → List ℕ → Patterns
-picked P numbers = map (entry_of P) numbers
+abbrev pub picked_entries : Patterns → List ℕ → Patterns
+picked_entries P numbers = map (entry_of P) numbers
 
--- these are the numbers of the places at which the entries of a map stand, and there are so many
--- places
+-- the numbers of the places at which the entries of a map stand, and how many places there are
 pub record IsGround (places : List WordPlace) (P : Patterns)
     (stands : List (List ℕ)) (count : ℕ) : Type 0 where
-  pub all : stands ≡ all_standing places P
+  pub all : stands ≡ places_of_entries places P
   pub many : count ≡ length places
 
--- before a round through the entries with the numbers `kept` of the map P: the holders are those of
--- these entries, which break alike with P
+-- a round begins: the entries `kept` of P break alike with P, and the holders are theirs
 pub record RoundStart (places : List WordPlace) (P : Patterns)
     (stands : List (List ℕ)) (holders : List (List ℕ)) (kept : List ℕ) : Type 0 where
-  pub all : stands ≡ all_standing places P
+  pub all : stands ≡ places_of_entries places P
   pub sound : list_all is_entry P ≡ true
   pub within : All (λ i. i < length P) kept
-  pub tallied : IsTallied places (picked P kept) holders
-  pub alike : break_alike places P (picked P kept) ≡ true
+  pub tallied : IsTallied places (picked_entries P kept) holders
+  pub alike : break_alike places P (picked_entries P kept) ≡ true
 
--- after a round: the entries with the numbers `stay` are those that the round leaves, and the
--- holders are theirs
+-- a round is done: the entries `stay` are those that it leaves, and the holders are theirs
 pub record RoundDone (places : List WordPlace) (P : Patterns)
     (stands : List (List ℕ)) (holders : List (List ℕ)) (kept stay : List ℕ) : Type 0 where
   pub next : RoundStart places P stands holders stay
-  pub done : picked P stay ≡ round places P (picked P kept)
+  pub done : picked_entries P stay ≡ round places P (picked_entries P kept)
 
 -- before the first round: the holders are those of all entries
 pub record RoundsStart (places : List WordPlace) (P : Patterns)
     (stands : List (List ℕ)) (holders : List (List ℕ)) : Type 0 where
-  pub all : stands ≡ all_standing places P
+  pub all : stands ≡ places_of_entries places P
   pub sound : list_all is_entry P ≡ true
   pub tallied : IsTallied places P holders

@@ -15,9 +15,9 @@ abbrev pub stands : (List ℕ × ℕ) × ℕ → WordPlace → Bool
 stands e x = applies x.signs x.position e.0
 
 -- the numbers of the places at which an entry stands, counted from 0
-abbrev pub standing : List WordPlace → (List ℕ × ℕ) × ℕ → List ℕ
-standing places e = numbers_of (stands e) 0 places
+abbrev pub places_of_entry : List WordPlace → (List ℕ × ℕ) × ℕ → List ℕ
+places_of_entry places e = numbers_of (stands e) 0 places
 
--- these numbers for each entry of a map
-abbrev pub all_standing : List WordPlace → Patterns → List (List ℕ)
-all_standing places P = map (standing places) P
+-- the numbers of the places at which an entry stands, for each entry of a map
+abbrev pub places_of_entries : List WordPlace → Patterns → List (List ℕ)
+places_of_entries places P = map (places_of_entry places) P

@@ -14,19 +14,18 @@ abbrev pub signs_of : List Word → ℕ → List ℕ
 signs_of ws i = option_map_or (λ (w : Word). w.signs) (slice_get ws i) []
 
 -- how many positions there are from the first of these ends to the last, both included
-abbrev pub width_of : Option (ℕ × ℕ) → ℕ
-width_of r = option_map_or (λ ends. ends.1 + 1 - ends.0) r 0
+abbrev pub position_count : Option (ℕ × ℕ) → ℕ
+position_count r = option_map_or (λ ends. ends.1 + 1 - ends.0) r 0
 
 -- how many places a word with so many signs has
-abbrev pub width : Minima → ℕ → ℕ
-width m len = width_of (reach m.left m.right len)
+abbrev pub place_count : Minima → ℕ → ℕ
+place_count m len = position_count (reach m.left m.right len)
 
 -- a start at a sign of a word
 abbrev pub start_at : ℕ → ℕ → ℕ → Start
 start_at word places at = record { word = word; places = places; at = at }
 
--- each sign of a word as a start, where the word has this number, its first place has this number,
--- and it has so many signs
+-- each sign of a word as a start: the word and its first place have these numbers
 abbrev pub starts_in : ℕ → ℕ → ℕ → List Start
 starts_in word places len = map (start_at word places) (range_with_len 0 len)
 
@@ -34,7 +33,7 @@ starts_in word places len = map (start_at word places) (range_with_len 0 len)
 abbrev pub starts_from : Minima → ℕ → ℕ → List Word → List Start
 starts_from m word places [] = []
 starts_from m word places (w ∷ ws) = starts_in word places (length w.signs)
-    ++ starts_from m (word + 1) (places + width m (length w.signs)) ws
+    ++ starts_from m (word + 1) (places + place_count m (length w.signs)) ws
 
 -- each sign of all words as a start
 abbrev pub all_starts : Minima → List Word → List Start
@@ -72,8 +71,7 @@ abbrev pub last_of : List Start → List (List Start) → List Start
 last_of all lists = if nat_eq (length lists) 0 then all
     else slice_index_or lists (length lists - 1) []
 
--- the number of the place at this position, where the first place of the word has the number
--- `places`; none where it is out of reach
+-- the number of the place at a position of a word whose first place has this; none out of reach
 abbrev pub place_in : Option (ℕ × ℕ) → ℕ → ℕ → Option ℕ
 place_in None places p = None
 place_in (Some ends) places p = if nat_le ends.0 p && nat_le p ends.1

@@ -4,7 +4,7 @@ use Rattle.std.specs.List.{list_all}
 use Rattle.pg_patterns.specs.Inside.PatternMaps.{is_entry}
 use Rattle.pg_select.specs.Windows.{Patterns}
 use Rattle.pg_prune.specs.Places.{WordPlace}
-use Rattle.pg_prune.specs.Inside.Standing.{standing}
+use Rattle.pg_prune.specs.Inside.Standing.{places_of_entry}
 use Rattle.pg_prune.specs.Inside.Holders.{holder_counts}
 
 -- an entry between others
@@ -26,18 +26,18 @@ without_entry t = t.before ++ t.behind
 abbrev pub IsTallied : List WordPlace → Patterns → List (List ℕ) → Type 0
 IsTallied places Q holders = holders ≡ map (holder_counts Q) places
 
--- these are the numbers of the places at which the entry stands, and its value
+-- the entry stands at the places with these numbers, and has this value
 pub record IsOf (t : Turn) (numbers : List ℕ) (value : ℕ) : Type 0 where
-  pub stands : numbers ≡ standing t.places t.entry
+  pub stands : numbers ≡ places_of_entry t.places t.entry
   pub gives : value ≡ t.entry.1
   pub sound : list_all is_entry (with_entry t) ≡ true
 
--- the same, where the map with the entry has these holders
+-- the entry stands at these places with this value, and the map with it has these holders
 pub record IsHeld (t : Turn) (holders : List (List ℕ)) (numbers : List ℕ) (value : ℕ) : Type 0 where
   pub entry : IsOf t numbers value
   pub tallied : IsTallied t.places (with_entry t) holders
 
--- the same, where the map without the entry has them, and has room for it
+-- the entry stands at these places, and the map without it has these holders and room for it
 pub record IsAwaited (t : Turn) (holders : List (List ℕ))
     (numbers : List ℕ) (value : ℕ) : Type 0 where
   pub entry : IsOf t numbers value

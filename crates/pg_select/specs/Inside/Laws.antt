@@ -12,14 +12,14 @@ use Rattle.pg_translate.specs.Reach.{positions}
 use Rattle.pg_dict.specs.Word.{Word}
 use Rattle.pg_dict.specs.Inside.SoundWords.{IsWord, letter_count}
 use Rattle.pg_patterns.specs.DottedSigns.{dotted_cmp}
-use Rattle.pg_patterns.specs.Inside.PlaceOrder.{same_dotted}
+use Rattle.pg_patterns.specs.Inside.DottedOrder.{same_dotted}
 use Rattle.pg_patterns.specs.Values.{value_of, raise, applies, value_at}
 use Rattle.pg_select.specs.Inside.Meanings.{Meaning, with_position, after_give_up}
 use Rattle.pg_select.specs.declared.pass.Pass.{Pass}
 use Rattle.pg_select.specs.CountedPositions.{Minima, CountedPosition, Candidate, counted_positions, same_signs, candidates, good_of, bad_of, tally, counted_at, counts_as}
 use Rattle.pg_select.specs.Statuses.{status_at}
 use Rattle.pg_select.specs.Sums.{totals}
-use Rattle.pg_select.specs.Windows.{Patterns, Hopeless, covered}
+use Rattle.pg_select.specs.Windows.{Patterns, Hopeless, is_covered}
 
 -- each candidate comes in the order of signs before those behind it, so each stands once
 abbrev pub CandidatesInOrder : Type 0
@@ -37,14 +37,12 @@ CandidatesAreCounted = (counted : List CountedPosition) (u : List ℕ)
 abbrev pub entry_of : Candidate → List ℕ × (ℕ × ℕ)
 entry_of c = (c.window, (c.good, c.bad))
 
--- counting what is counted, one position after the other, gives the candidates with their sums, in
--- their order
+-- counting what is counted, position after position, gives the candidates in order with their sums
 abbrev pub CountsAreTally : Type 0
 CountsAreTally = (counted : List CountedPosition)
     → fold with_position [] counted ≡ map entry_of (tally counted)
 
--- words as those of a dictionary: together they have at most as many letters as the longest file
--- has bytes
+-- words have together at most as many letters as the longest dictionary has bytes
 pub record AreFew (words : List Word) : Type 0 where
   pub each : All IsWord words
   pub letters : sum_by letter_count words ≤ FILE_MAX
@@ -87,23 +85,23 @@ CandidatesAreLow = (m : Minima) (words : List Word) (pass : Pass) (P : Patterns)
     → All (λ u. value_of P (u, pass.dot) < pass.level)
     (candidates (counted_positions m words pass P H))
 
--- so a candidate that is chosen gets exactly the level as its value
+-- a candidate that is chosen gets exactly the level as its value
 abbrev pub ChosenGetLevel : Type 0
 ChosenGetLevel = (m : Minima) (words : List Word) (pass : Pass) (P : Patterns) (H : Hopeless)
     → 1 ≤ pass.level
     → All (λ u. value_of (raise P (u, pass.dot) pass.level) (u, pass.dot) ≡ pass.level)
     (candidates (counted_positions m words pass P H))
 
--- a raise leaves the value of every other place
+-- a raise leaves the value of every other dotted string
 abbrev pub OthersStay : Type 0
 OthersStay = (P : Patterns) (j k : List ℕ × ℕ) (v : ℕ) → same_dotted k j ≡ false
     → value_of (raise P j v) k ≡ value_of P k
 
--- a raise lowers the value of no place
+-- a raise lowers the value of no dotted string
 abbrev pub NoneFalls : Type 0
 NoneFalls = (P : Patterns) (j k : List ℕ × ℕ) (v : ℕ) → value_of P k ≤ value_of (raise P j v) k
 
--- a raise raises the values of the positions where its place applies, and no others
+-- a raise raises the values of the positions where its dotted string applies, and no others
 abbrev pub RaisesWhereItApplies : Type 0
 RaisesWhereItApplies = (P : Patterns) (k : List ℕ × ℕ) (v : ℕ) (w : List ℕ) (p : ℕ)
     → value_at (raise P k v) w p ≡ max (if applies w p k then v else 0) (value_at P w p)
@@ -116,30 +114,31 @@ GivenUpKeepsValues = (m : Meaning) (u : List ℕ) (tidy : Bool)
     × (status_at (after_give_up m u tidy).patterns w p ≡ status_at m.patterns w p)
     × (totals minima words (after_give_up m u tidy).patterns ≡ totals minima words m.patterns)
 
--- a place that is raised to the level covers exactly the windows in which it stands with their dot,
--- beside those covered before
+-- a dotted string that is raised to the level covers the windows in which it stands, and no others
 abbrev pub RaisedCovers : Type 0
 RaisedCovers = (level : ℕ) (P : Patterns) (H : Hopeless) (k : List ℕ × ℕ) (u : List ℕ) (d : ℕ)
-    → covered level (raise P k level) H u d ≡ (applies u d k || covered level P H u d)
+    → is_covered level (raise P k level) H u d ≡ (applies u d k || is_covered level P H u d)
 
--- a place that is made hopeless covers exactly the same windows
+-- a dotted string that is made hopeless covers exactly the same windows
 abbrev pub HopelessCovers : Type 0
 HopelessCovers = (level : ℕ) (P : Patterns) (H : Hopeless) (k : List ℕ × ℕ) (u : List ℕ) (d : ℕ)
-    → covered level P (put dotted_cmp k (tt {0}) H) u d ≡ (applies u d k || covered level P H u d)
+    → is_covered level P (put dotted_cmp k (tt {0}) H) u d ≡ (applies u d k
+    || is_covered level P H u d)
 
--- so a window that is given up covers each window in which it stands with its dot
+-- a window that is given up covers each window in which it stands with its dot
 abbrev pub GivenUpCovers : Type 0
 GivenUpCovers = (m : Meaning) (u x : List ℕ) (tidy : Bool) (d : ℕ)
     → applies x d (u, m.pass.dot) ≡ true
-    → covered m.pass.level (after_give_up m u tidy).patterns (after_give_up m u tidy).hopeless x d
+    → is_covered m.pass.level (after_give_up m u tidy).patterns
+    (after_give_up m u tidy).hopeless x d
     ≡ true
 
--- the patterns and hopeless places of a level, and those of a later point of it: each value is the
--- level or what it was, and what was covered is covered still
+-- a later point of a level: a value is the level or as it was, and what was covered is covered
 pub record Later (level : ℕ) (P : Patterns) (H : Hopeless)
     (P' : Patterns) (H' : Hopeless) : Type 0 where
   pub values : (w : List ℕ) (p : ℕ) → (value_at P' w p ≡ value_at P w p) ⊎ (value_at P' w p ≡ level)
-  pub covers : (u : List ℕ) (d : ℕ) → covered level P H u d ≡ true → covered level P' H' u d ≡ true
+  pub covers : (u : List ℕ) (d : ℕ) → is_covered level P H u d ≡ true
+      → is_covered level P' H' u d ≡ true
 
 -- every point of a level is as late as itself
 abbrev pub LaterAtOnce : Type 0
@@ -155,7 +154,7 @@ abbrev pub LaterRaised : Type 0
 LaterRaised = (level : ℕ) (P : Patterns) (H : Hopeless) (k : List ℕ × ℕ)
     → Later level P H (raise P k level) H
 
--- a place that is made hopeless leads to a later point
+-- a dotted string that is made hopeless leads to a later point
 abbrev pub LaterHopeless : Type 0
 LaterHopeless = (level : ℕ) (P : Patterns) (H : Hopeless) (k : List ℕ × ℕ)
     → Later level P H P (put dotted_cmp k (tt {0}) H)
@@ -166,20 +165,21 @@ StatusBack = (level : ℕ) (P P' : Patterns) (H H' : Hopeless) (w : Word) (p : �
     → Later level P H P' H' → counts_as level (status_at P' w p) ≡ Some good
     → counts_as level (status_at P w p) ≡ Some good
 
--- the same of a position whose window fits and is not covered
+-- a position that counts with its window later in a level counted before, and as the same
 abbrev pub CountedBack : Type 0
 CountedBack = (pass : Pass) (P P' : Patterns) (H H' : Hopeless) (w : Word) (p : ℕ) (good : Bool)
     → Later pass.level P H P' H' → counted_at pass P' H' w p ≡ Some good
     → counted_at pass P H w p ≡ Some good
 
 -- a pass counts nothing
-abbrev pub IsClosed : Minima → List Word → Pass → Patterns → Hopeless → Type 0
-IsClosed m words pass P H = counted_positions m words pass P H ≡ []
+abbrev pub CountsNothing : Minima → List Word → Pass → Patterns → Hopeless → Type 0
+CountsNothing m words pass P H = counted_positions m words pass P H ≡ []
 
 -- a pass that counts nothing counts nothing later in the level
-abbrev pub ClosedLater : Type 0
-ClosedLater = (m : Minima) (words : List Word) (pass : Pass) (P P' : Patterns) (H H' : Hopeless)
-    → Later pass.level P H P' H' → IsClosed m words pass P H → IsClosed m words pass P' H'
+abbrev pub CountsNothingLater : Type 0
+CountsNothingLater =
+    (m : Minima) (words : List Word) (pass : Pass) (P P' : Patterns) (H H' : Hopeless)
+    → Later pass.level P H P' H' → CountsNothing m words pass P H → CountsNothing m words pass P' H'
 
 -- the pass whose windows have one sign more behind them
 abbrev pub longer_behind : Pass → Pass
@@ -189,24 +189,24 @@ longer_behind pass = record pass { len = pass.len + 1 }
 abbrev pub longer_before : Pass → Pass
 longer_before pass = record pass { len = pass.len + 1; dot = pass.dot + 1 }
 
--- a position that is counted with a window of one sign more is counted with the shorter window, and
--- as the same
+-- where a position counts with a longer window, it counts alike with the one shorter by a sign
 abbrev pub CountedShorter : Type 0
 CountedShorter = (pass : Pass) (P : Patterns) (H : Hopeless) (w : Word) (p : ℕ) (good : Bool)
     → (counted_at (longer_behind pass) P H w p ≡ Some good → counted_at pass P H w p ≡ Some good)
     × (counted_at (longer_before pass) P H w p ≡ Some good → counted_at pass P H w p ≡ Some good)
 
 -- where a pass counts nothing, the two passes that are longer by a sign count nothing
-abbrev pub ClosedLonger : Type 0
-ClosedLonger = (m : Minima) (words : List Word) (pass : Pass) (P : Patterns) (H : Hopeless)
-    → IsClosed m words pass P H
-    → IsClosed m words (longer_behind pass) P H × IsClosed m words (longer_before pass) P H
+abbrev pub CountsNothingLonger : Type 0
+CountsNothingLonger = (m : Minima) (words : List Word) (pass : Pass) (P : Patterns) (H : Hopeless)
+    → CountsNothing m words pass P H
+    → CountsNothing m words (longer_behind pass) P H
+    × CountsNothing m words (longer_before pass) P H
 
 -- the patterns when the windows of these candidates are raised to the level at the dot
 abbrev pub raised_all : ℕ → ℕ → Patterns → List Candidate → Patterns
 raised_all level dot P cs = fold (λ P c. raise P (c.window, dot) level) P cs
 
--- the hopeless places when those windows are made hopeless at the dot
+-- the hopeless dotted strings when those windows are made hopeless at the dot
 abbrev pub hopeless_all : ℕ → Hopeless → List Candidate → Hopeless
 hopeless_all dot H cs = fold (λ H c. put dotted_cmp (c.window, dot) (tt {0}) H) H cs
 
@@ -216,20 +216,19 @@ LaterAfterPass = (level dot : ℕ) (P : Patterns) (H : Hopeless) (raised hopeles
     → Later level P H (raised_all level dot P raised) (hopeless_all dot H hopeless)
 
 -- a pass whose candidates are all covered later counts nothing then
-abbrev pub ClosedWhenCovered : Type 0
-ClosedWhenCovered = (m : Minima) (words : List Word)
+abbrev pub CountsNothingWhenCovered : Type 0
+CountsNothingWhenCovered = (m : Minima) (words : List Word)
     (pass : Pass) (P P' : Patterns) (H H' : Hopeless)
     → Later pass.level P H P' H'
-    → list_all (λ u. covered pass.level P' H' u pass.dot)
+    → list_all (λ u. is_covered pass.level P' H' u pass.dot)
     (candidates (counted_positions m words pass P H)) ≡ true
-    → IsClosed m words pass P' H'
+    → CountsNothing m words pass P' H'
 
--- a pass that left no candidate, as each was chosen or made hopeless, counts nothing from its end
--- on
-abbrev pub ClosedAtEnd : Type 0
-ClosedAtEnd = (m : Minima) (words : List Word) (pass : Pass) (P : Patterns) (H : Hopeless)
+-- a pass that left no candidate counts nothing from its end on
+abbrev pub CountsNothingAtEnd : Type 0
+CountsNothingAtEnd = (m : Minima) (words : List Word) (pass : Pass) (P : Patterns) (H : Hopeless)
     (raised hopeless : Candidate → Bool)
     → list_all (λ c. raised c || hopeless c) (tally (counted_positions m words pass P H)) ≡ true
-    → IsClosed m words pass
+    → CountsNothing m words pass
     (raised_all pass.level pass.dot P (filter raised (tally (counted_positions m words pass P H))))
     (hopeless_all pass.dot H (filter hopeless (tally (counted_positions m words pass P H))))

@@ -29,11 +29,11 @@ above_at pass P w p = option_map_or
     } ∷ [])
     (if fits w.signs p pass.len pass.dot then counts_above pass.level P w p else None) []
 
--- such positions of a word, of those in reach
+-- the positions in reach of a word that count above the level, with their windows
 abbrev pub above_in : Minima → Pass → Patterns → Word → List CountedPosition
 above_in m pass P w = flat_map (above_at pass P w) (positions m.left m.right (length w.signs))
 
--- such positions of all words
+-- the positions of all words that count above the level, with their windows
 abbrev pub above_positions : Minima → List Word → Pass → Patterns → List CountedPosition
 above_positions m words pass P = flat_map (above_in m pass P) words
 
@@ -47,7 +47,7 @@ abbrev pub bad_above : (Candidate → Bool) → List CountedPosition → List Co
 bad_above raised counted above = sum_by
     (λ s. if not s.good && is_candidate raised counted s.window then s.weight else 0) above
 
--- the same positions count so after a pass, and as the same
+-- the positions that count above the level are the same after a pass
 abbrev pub AboveStay : Type 0
 AboveStay = (m : Minima) (words : List Word) (pass : Pass) (P : Patterns) (H : Hopeless)
     (raised : Candidate → Bool) (w : Word) (p : ℕ)

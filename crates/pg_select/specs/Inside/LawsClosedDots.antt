@@ -6,11 +6,10 @@ use Rattle.pg_dict.specs.Word.{Word}
 use Rattle.pg_select.specs.declared.pass.Pass.{Pass}
 use Rattle.pg_select.specs.CountedPositions.{Minima, Candidate, counts_as, counted_at, counted_positions}
 use Rattle.pg_select.specs.Statuses.{is_odd, status_at}
-use Rattle.pg_select.specs.Windows.{Hopeless, window, fits, covered, Patterns}
+use Rattle.pg_select.specs.Windows.{Hopeless, window, fits, is_covered, Patterns}
 use Rattle.pg_select.specs.Inside.LawsSteps.{CoversUpTo, IsBelow, IsUpTo, is_candidate_at, patterns_after_pass, hopeless_after_pass}
 
--- whether a position counts as good at a level, where it counts: a hyphen at a level that finds,
--- none at one that prevents
+-- whether a position counts as good: one with a hyphen at a level that finds, without at the others
 abbrev pub is_good : ℕ → Word → ℕ → Bool
 is_good level w p = if is_odd level then slice_index_or w.hyphens p false
     else not (slice_index_or w.hyphens p false)
@@ -25,8 +24,8 @@ counted_with level w p len dot closed = if fits w.signs p len dot && not closed
     then Some (is_good level w p) else None
 
 -- the closed dots of the next length: a dot is closed where it or the dot before it was
-abbrev pub longer : (ℕ → Bool) → ℕ → Bool
-longer closed d = closed d || (nat_le 1 d && closed (d - 1))
+abbrev pub closed_at_next_length : (ℕ → Bool) → ℕ → Bool
+closed_at_next_length closed d = closed d || (nat_le 1 d && closed (d - 1))
 
 -- these closed dots tell what counts at a position in each pass of the length
 abbrev pub Tells : ℕ → ℕ → Patterns → Hopeless → Word → ℕ → (ℕ → Bool) → Type 0
@@ -46,7 +45,7 @@ TellsAtStart = (level len : ℕ) (P : Patterns) (w : Word) (p : ℕ) (good : Boo
 abbrev pub TellsLonger : Type 0
 TellsLonger = (level len : ℕ) (P : Patterns) (H : Hopeless) (w : Word) (p : ℕ) (closed : ℕ → Bool)
     → CoversUpTo level len P H → Tells level len P H w p closed
-    → Tells level (len + 1) P H w p (longer closed)
+    → Tells level (len + 1) P H w p (closed_at_next_length closed)
 
 -- the closed dots after a pass in which the window of the position was raised, or made hopeless
 abbrev pub closed_after : (ℕ → Bool) → ℕ → Bool → Bool → Bool → ℕ → Bool
@@ -104,7 +103,7 @@ HopelessStop = (m : Minima) (words : List Word) (pass : Pass) (P : Patterns) (H 
     (raised hopeless : Candidate → Bool) (w : Word) (p : ℕ)
     → fits w.signs p pass.len pass.dot ≡ true
     → is_candidate_at m words pass P H hopeless w.signs p ≡ true
-    → covered pass.level (patterns_after_pass m words pass P H raised)
+    → is_covered pass.level (patterns_after_pass m words pass P H raised)
     (hopeless_after_pass m words pass P H hopeless) (window w.signs p pass.len pass.dot) pass.dot
     ≡ true
 
@@ -114,8 +113,8 @@ pub record Stays (level len : ℕ) (P : Patterns) (H : Hopeless)
     (p : ℕ) : Type 0 where
   pub status : status_at P' w p ≡ status_at P w p
   pub covers : (d : ℕ) → fits w.signs p len d ≡ true
-      → covered level P' H' (window w.signs p len d) d
-      ≡ covered level P H (window w.signs p len d) d
+      → is_covered level P' H' (window w.signs p len d) d
+      ≡ is_covered level P H (window w.signs p len d) d
 
 -- a position whose window was neither raised nor made hopeless keeps its status and covers
 abbrev pub LeftStay : Type 0

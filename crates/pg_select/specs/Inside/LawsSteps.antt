@@ -10,7 +10,7 @@ use Rattle.pg_select.specs.declared.pass.Pass.{Pass}
 use Rattle.pg_select.specs.CountedPositions.{Minima, CountedPosition, Candidate, same_signs, good_of, bad_of, counted_positions, tally}
 use Rattle.pg_select.specs.Statuses.{is_odd}
 use Rattle.pg_select.specs.Sums.{totals}
-use Rattle.pg_select.specs.Windows.{Hopeless, window, fits, covered, Patterns}
+use Rattle.pg_select.specs.Windows.{Hopeless, window, fits, is_covered, Patterns}
 
 -- no value is as great as the level
 abbrev pub IsBelow : ℕ → Patterns → Type 0
@@ -26,18 +26,17 @@ abbrev pub CoversUpToLonger : Type 0
 CoversUpToLonger = (level len : ℕ) (P : Patterns) (H : Hopeless) → CoversUpTo level len P H
     → CoversUpTo level (len + 1) P H
 
--- at a level's start no string covers, and so none is longer than a length
-abbrev pub CoversUpToAtStart : Type 0
-CoversUpToAtStart = (level len : ℕ) (P : Patterns) → IsBelow level P → CoversUpTo level len P []
+-- where no value is as great as the level and nothing is hopeless, no string covers
+abbrev pub CoversUpToByBelow : Type 0
+CoversUpToByBelow = (level len : ℕ) (P : Patterns) → IsBelow level P → CoversUpTo level len P []
 
--- where no string longer than len covers, a window of one sign more is covered where the one
--- without its last sign is, or the one without its first
+-- a longer window is covered where it is covered without its last sign or without its first
 abbrev pub LengthStep : Type 0
 LengthStep = (level len : ℕ) (P : Patterns) (H : Hopeless) (w : List ℕ) (p d : ℕ)
     → CoversUpTo level len P H → fits w p (len + 1) d ≡ true
-    → covered level P H (window w p (len + 1) d) d
-    ≡ (covered level P H (window w p len d) d
-    || (nat_le 1 d && covered level P H (window w p len (d - 1)) (d - 1)))
+    → is_covered level P H (window w p (len + 1) d) d
+    ≡ (is_covered level P H (window w p len d) d
+    || (nat_le 1 d && is_covered level P H (window w p len (d - 1)) (d - 1)))
 
 -- where the greatest value is less than the level, no value is as great as the level
 abbrev pub BelowByLargest : Type 0
@@ -46,7 +45,7 @@ BelowByLargest = (level : ℕ) (P : Patterns) → largest P < level → IsBelow 
 -- where no value is as great as the level and nothing is hopeless, no window is covered
 abbrev pub NothingCovered : Type 0
 NothingCovered = (level : ℕ) (P : Patterns) (u : List ℕ) (d : ℕ)
-    → IsBelow level P → covered level P [] u d ≡ false
+    → IsBelow level P → is_covered level P [] u d ≡ false
 
 -- no value is greater than the level
 abbrev pub IsUpTo : ℕ → Patterns → Type 0
@@ -57,8 +56,8 @@ abbrev pub UpToLargest : Type 0
 UpToLargest = (P : Patterns) → IsUpTo (largest P) P
 
 -- where no value is as great as the level, none is greater
-abbrev pub UpToAtStart : Type 0
-UpToAtStart = (level : ℕ) (P : Patterns) → IsBelow level P → IsUpTo level P
+abbrev pub UpToByBelow : Type 0
+UpToByBelow = (level : ℕ) (P : Patterns) → IsBelow level P → IsUpTo level P
 
 -- where no value is greater than the level, none is as great as the next level
 abbrev pub NextIsBelow : Type 0
@@ -85,7 +84,7 @@ abbrev pub patterns_after_pass : Minima → List Word
 patterns_after_pass m words pass P H raised = raised_all pass.level pass.dot P
     (filter raised (tally (counted_positions m words pass P H)))
 
--- the hopeless places after a pass that made the candidates which meet a test hopeless
+-- the hopeless dotted strings after a pass that made those candidates hopeless which meet a test
 abbrev pub hopeless_after_pass : Minima → List Word
     → Pass → Patterns → Hopeless → (Candidate → Bool) → Hopeless
 hopeless_after_pass m words pass P H hopeless = hopeless_all pass.dot H
@@ -113,24 +112,23 @@ ValuesAfter = (m : Minima) (words : List Word) (pass : Pass) (P : Patterns) (H :
     then pass.level else 0)
     (value_at P w p)
 
--- of the windows of its length, a pass newly covers those that it raises or makes hopeless, with
--- its dot, and no others
+-- of the windows of its length a pass newly covers just those that it raises or makes hopeless
 abbrev pub CoversAfter : Type 0
 CoversAfter = (m : Minima) (words : List Word) (pass : Pass) (P : Patterns) (H : Hopeless)
     (raised hopeless : Candidate → Bool) (w : List ℕ) (p d : ℕ) → fits w p pass.len d ≡ true
-    → covered pass.level (patterns_after_pass m words pass P H raised)
+    → is_covered pass.level (patterns_after_pass m words pass P H raised)
     (hopeless_after_pass m words pass P H hopeless) (window w p pass.len d) d
     ≡ (nat_eq d pass.dot
     && (is_candidate_at m words pass P H raised w p
     || is_candidate_at m words pass P H hopeless w p)
-    || covered pass.level P H (window w p pass.len d) d)
+    || is_covered pass.level P H (window w p pass.len d) d)
 
 -- no window that is counted is covered, and each has the length of the pass
 abbrev pub CountedAreUncovered : Type 0
 CountedAreUncovered = (m : Minima) (words : List Word)
     (pass : Pass) (P : Patterns) (H : Hopeless) (u : List ℕ)
     → list_any (λ s. same_signs u s.window) (counted_positions m words pass P H) ≡ true
-    → (length u ≡ pass.len) × (covered pass.level P H u pass.dot ≡ false)
+    → (length u ≡ pass.len) × (is_covered pass.level P H u pass.dot ≡ false)
 
 -- the sum of the good weights of the candidates that a pass raised
 abbrev pub good_raised : (Candidate → Bool) → List CountedPosition → ℕ
@@ -140,15 +138,13 @@ good_raised raised counted = sum_by (λ c. c.good) (filter raised (tally counted
 abbrev pub bad_raised : (Candidate → Bool) → List CountedPosition → ℕ
 bad_raised raised counted = sum_by (λ c. c.bad) (filter raised (tally counted))
 
--- at a level that finds, the good that is raised is found and no longer missed, and the bad becomes
--- errors
+-- at a level that finds, the good that is raised is no more missed, and the bad becomes errors
 pub record FindsMore (old new : Totals) (good bad : ℕ) : Type 0 where
   pub found : new.good ≡ old.good + good
   pub errors : new.bad ≡ old.bad + bad
   pub missed : new.missed + good ≡ old.missed
 
--- at a level that prevents, the good that is raised is an error no more, and the bad is missed and
--- no longer found
+-- at a level that prevents, the good that is raised is an error no more, and the bad is missed
 pub record PreventsMore (old new : Totals) (good bad : ℕ) : Type 0 where
   pub found : new.good + bad ≡ old.good
   pub errors : new.bad + good ≡ old.bad

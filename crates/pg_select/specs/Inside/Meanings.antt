@@ -7,8 +7,8 @@ use Rattle.std.specs.Cmp.Lexicographic.{slice_cmp}
 use Rattle.std.specs.FinMap.Entries.{put, is_sorted}
 use Rattle.pg_types.specs.declared.marks.Layout.{Layout}
 use Rattle.pg_types.specs.Inside.Counts.{Counts, SignsWithin, with_count, is_counted}
-use Rattle.pg_types.specs.Inside.Numbered.{Windows, AreNumbered, with_window}
-use Rattle.pg_types.specs.Placement.{Families, taken, top, enter, kept}
+use Rattle.pg_types.specs.Inside.NumberedWindows.{Windows, AreNumbered, with_window}
+use Rattle.pg_types.specs.Placement.{Families, taken_count, top, enter, kept_families}
 use Rattle.pg_types.specs.Tails.{tails}
 use Rattle.pg_patterns.specs.DottedSigns.{dotted_cmp}
 use Rattle.pg_patterns.specs.Values.{raise}
@@ -18,10 +18,7 @@ use Rattle.pg_select.specs.Windows.{Patterns, Hopeless}
 use Rattle.pg_select.specs.declared.pass.Pass.{Pass}
 use Rattle.pg_select.specs.CountedPositions.{CountedPosition}
 
--- the greatest sign; the patterns and the hopeless places; the windows that are counted in the
--- pass, and the same in the order in which they were first counted; the pass; the families of the
--- strings, where they are told; how many passes were begun; and whether nothing was chosen or given
--- up since a level ended
+-- what an engine holds: patterns, hopeless dotted strings, the counts of the pass, and the families
 pub record Meaning : Type 0 where
   pub signs : ℕ
   pub patterns : Patterns
@@ -33,9 +30,7 @@ pub record Meaning : Type 0 where
   pub begun : ℕ
   pub tidy : Bool
 
--- what every engine keeps: its patterns are a map of patterns, so they stand in order and each
--- value is 1 to 9; its hopeless places and its counts stand in order; and no sign is above the
--- greatest
+-- what every engine keeps: its maps stand in order, each value is 1 to 9, and each sign is in range
 pub record IsKept (m : Meaning) : Type 0 where
   pub patterns : IsPatternMap m.patterns
   pub hopeless_order : T (is_sorted dotted_cmp m.hopeless)
@@ -45,8 +40,7 @@ pub record IsKept (m : Meaning) : Type 0 where
   pub numbered : AreNumbered m.windows m.counts
   pub counted_signs : (u : List ℕ) → is_counted m.counts u ≡ true → SignsWithin m.signs u
 
--- an engine that was just made: it has these patterns and tells these families; nothing is hopeless
--- or counted, no pass was begun, and it is tidy
+-- an engine that was just made: it has these patterns and families, and nothing else yet
 abbrev pub new_engine : ℕ → Patterns → Option Families → Meaning
 new_engine signs P families = record {
   signs = signs;
@@ -86,8 +80,7 @@ after_count m u good weight =
 abbrev pub families_with : Meaning → List ℕ → Option Families
 families_with m u = option_map (λ fs. enter m.signs fs u) m.families
 
--- a window was chosen: at the pass's dot it has at least the level as its value. Nothing is said of
--- tidiness
+-- a window was chosen: it has at the pass's dot at least the level as its value
 abbrev pub after_choose : Meaning → List ℕ → Bool → Meaning
 after_choose m u tidy =
     record m {
@@ -105,17 +98,15 @@ after_give_up m u tidy =
       tidy = tidy;
     }
 
--- a level ended: nothing is hopeless, and the families lose the cells of strings of several signs
--- that are no prefix of a pattern's
+-- a level ended: nothing is hopeless, and only signs and prefixes of patterns keep their cells
 abbrev pub after_end_level : Meaning → Meaning
 after_end_level m = record m {
   hopeless = [];
-  families = option_map (kept (map (λ e. e.0.0) m.patterns)) m.families;
+  families = option_map (kept_families (map (λ e. e.0.0) m.patterns)) m.families;
   tidy = true;
 }
 
--- all but the families and tidiness stayed as it was; a front of the string, its first k signs, was
--- entered into families that are told
+-- all but families and tidiness stayed; a first part of the string was entered into the families
 pub record KeepsButFamilies (u : List ℕ) (old new : Meaning) : Type 0 where
   pub kept : new ≡ record old { families = new.families; tidy = new.tidy }
   pub k : ℕ
@@ -129,10 +120,9 @@ SetsValues m w values = HasValues m.patterns w values
 abbrev pub SetsCovers : Meaning → List ℕ → List Bool → Type 0
 SetsCovers m w covers = HasCovers m.pass m.patterns m.hopeless w covers
 
--- the numbers of the families; none where they are not told. The tails are those of the patterns
--- where the engine is tidy
+-- the numbers of the families, where told; in a tidy engine the tails are those of the patterns
 abbrev pub IsLayout : Meaning → Option Layout → Type 0
 IsLayout m None = m.families ≡ None
 IsLayout m (Some layout) = MatchOption m.families ⊥
-    (λ fs. (layout.taken ≡ taken fs) × (layout.top ≡ top fs))
+    (λ fs. (layout.taken ≡ taken_count fs) × (layout.top ≡ top fs))
     × (m.tidy ≡ true → layout.tails ≡ tails m.patterns)

@@ -3,7 +3,7 @@ use Rattle.std.specs.Prelude.{◌≡◌, ℕ, ◌+◌, ◌<◌, Bool, true, fals
 use Rattle.pg_types.specs.declared.limits.TheConstants.{WORD_LETTERS_MAX}
 use Rattle.pg_patterns.specs.Values.{value_at}
 use Rattle.pg_select.specs.declared.pass.Pass.{Pass}
-use Rattle.pg_select.specs.Windows.{Patterns, Hopeless, window, fits, covered}
+use Rattle.pg_select.specs.Windows.{Patterns, Hopeless, window, fits, is_covered}
 
 -- the value of each position, and whether its window is covered
 pub record Positions : Type 0 where
@@ -17,7 +17,7 @@ HasValues P w values = (p : ℕ) → p < length w → get_or values p 0 ≡ valu
 -- the covers are right at each position whose window of the pass fits in the word
 abbrev pub HasCovers : Pass → Patterns → Hopeless → List ℕ → List Bool → Type 0
 HasCovers pass P H w covers = (p : ℕ) → p < length w → fits w p pass.len pass.dot ≡ true
-    → get_or covers p false ≡ covered pass.level P H (window w p pass.len pass.dot) pass.dot
+    → get_or covers p false ≡ is_covered pass.level P H (window w p pass.len pass.dot) pass.dot
 
 -- 1 where the test holds, else 0
 abbrev pub bit : Bool → ℕ
@@ -43,6 +43,6 @@ RaisesAt at n before after = Raises (λ p. if nat_eq at p then n else 0) before 
 abbrev pub RaisesValues : (ℕ → ℕ) → Positions → Positions → Type 0
 RaisesValues by old new = Raises by (values_of old) (values_of new)
 
--- the same of the covers: 1 where the window of a position is covered, else 0
+-- the cover of each position of a word became that of `by`, where that is 1
 abbrev pub RaisesCovers : (ℕ → ℕ) → Positions → Positions → Type 0
 RaisesCovers by old new = Raises by (covers_of old) (covers_of new)

@@ -1,7 +1,6 @@
 -- Strings that stand in a window.
 use Rattle.std.specs.Prelude.{ℕ, ◌+◌, nat_le, Bool, ◌&&◌}
 
--- a string of n signs, which stands in a word with its dot d at the dot of a window, stands in the
--- window
+-- a string of n signs stands in the window, where its dot d stands at the dot of the window
 abbrev pub is_within : ℕ → ℕ → ℕ → ℕ → Bool
 is_within len dot n d = nat_le d dot && nat_le (n + dot) (len + d)

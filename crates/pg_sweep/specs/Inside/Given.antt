@@ -10,7 +10,7 @@ use Rattle.pg_driver.specs.Accounts.{totals_by}
 use Rattle.pg_driver.specs.Traces.{trace, final_patterns, over}
 use Rattle.pg_patterns.specs.Inside.PatternMaps.{SignsUpTo}
 use Rattle.pg_types.specs.Inside.Limits.{sums_limit}
-use Rattle.pg_sweep.specs.Sweeps.{Terms, fold_totals, summed}
+use Rattle.pg_sweep.specs.Sweeps.{Terms, fold_totals, total_of}
 use Rattle.pg_sweep.specs.declared.folds.Given.{Given}
 
 -- the terms of a sweep
@@ -29,7 +29,7 @@ rest_totals s set rest left_out = totals_by (over s.table left_out)
 
 -- the totals of the first folds together
 abbrev pub totals_of_folds : Terms → Parameters → ℕ → Totals
-totals_of_folds s set count = summed (map (fold_totals s set) (range_with_len 0 count))
+totals_of_folds s set count = total_of (map (fold_totals s set) (range_with_len 0 count))
 
 -- the signs of the words and of the patterns are signs of the table
 abbrev pub HasSigns : Given → Type 0

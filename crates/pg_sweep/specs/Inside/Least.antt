@@ -1,8 +1,7 @@
 -- The winner among costs, found in one walk.
 use Rattle.std.specs.Prelude.{ℕ, ◌+◌, nat_lt, if◌then◌else◌, List, [], ◌∷◌}
 
--- the winner, where `best` with this cost is the winner of the costs before, and the next cost has
--- the number `number`
+-- the winner among `best` of the costs before and these costs, the next of which has this number
 abbrev pub winner_from : ℕ → ℕ → ℕ → List ℕ → ℕ
 winner_from best least number [] = best
 winner_from best least number (cost ∷ costs) =

@@ -9,7 +9,7 @@ use Rattle.pg_outputs.specs.declared.records.Record.{Record}
 use Rattle.pg_cells.specs.Inside.ValuedFamilies.{ValuedFamilies}
 use Rattle.pg_cells.specs.Inside.AreValuedFamilies.{AreValuedFamilies}
 use Rattle.pg_table.specs.Texts.{head_in}
-use Rattle.pg_table.specs.Inside.Files.{layout, table_records}
+use Rattle.pg_table.specs.Inside.Files.{table_families, table_records}
 
 -- the entries from `at` to `end` are those of the string q
 pub record IsGroup (P : List ((List ℕ × ℕ) × ℕ)) (q : List ℕ) (at end : ℕ) : Type 0 where
@@ -26,7 +26,7 @@ pairs P at end = map (λ e. (e.0.1, e.1)) (take (end - at) (drop at P))
 pub record IsPacked (n : ℕ) (P : List ((List ℕ × ℕ) × ℕ)) (h : ValuedFamilies ℕ) : Type 0 where
   pub held : AreValuedFamilies h
   pub signs : h.signs ≡ n
-  pub families : h.families ≡ layout n P
+  pub families : h.families ≡ table_families n P
   pub entered : (q : List ℕ) → outputs_of P q ≢ [] → (c : ℕ) × (cell_of h.families q ≡ Some c)
 
 -- a string has one sign, or begins the string of one of the first patterns
@@ -35,8 +35,7 @@ IsReached P n q = (length q ≤ 1) ⊎
     ((j : ℕ) × (k : ℕ) × (e : (List ℕ × ℕ) × ℕ) × (j < n)
     × (slice_get P j ≡ Some e) × (q ≡ take k e.0.0))
 
--- all patterns are entered: each string that has a cell is one of theirs, its value is the head of
--- its list, and the records are those of the table
+-- all patterns are entered: the strings with cells are theirs, with the heads of their lists
 pub record IsEntered (n : ℕ) (P : List ((List ℕ × ℕ) × ℕ))
     (h : ValuedFamilies ℕ) (records : List Record) : Type 0 where
   pub packed : IsPacked n P h

@@ -12,8 +12,8 @@ abbrev pub Lists : Type 0
 Lists = List (List (ℕ × ℕ))
 
 -- a dot with its value, in the other order
-abbrev pub turned : ℕ × ℕ → ℕ × ℕ
-turned x = (x.1, x.0)
+abbrev pub value_and_dot : ℕ × ℕ → ℕ × ℕ
+value_and_dot x = (x.1, x.0)
 
 -- lists, with the ends of one more, from the shortest on
 abbrev pub with_ends : Lists → List (ℕ × ℕ) → Lists
@@ -23,6 +23,6 @@ with_ends lists l = fold with_list lists (reverse (suffixes l))
 pub record Shares (records : List Record) (lists : Lists) : Type 0 where
   pub size : length records ≡ length lists
   pub each : (i : ℕ) (l : List (ℕ × ℕ)) → slice_get lists i ≡ Some l
-      → list_of records (i + 1) ≡ map turned l
+      → list_of records (i + 1) ≡ map value_and_dot l
   pub one_head : OneHeadEach records
   pub shared : AreShared records

@@ -4,8 +4,7 @@ use Rattle.pg_types.specs.declared.marks.Mark.{Mark}
 use Rattle.pg_dict.specs.Word.{Word}
 use Rattle.pg_select.specs.Statuses.{status}
 
--- the status of a position, where these values were found and reach goes from one position to
--- another; out of reach the value is 0
+-- the status of a position by the values that were found; out of reach its value is 0
 abbrev pub status_found : List ℕ → ℕ × ℕ → Word → ℕ → Mark
 status_found values reach w p = status (slice_index_or w.hyphens p false)
     (slice_index_or w.cares p true)

@@ -10,7 +10,6 @@ use Rattle.pg_texts.specs.PattmpTexts.{is_taking_part}
 abbrev pub words_taking_part : Alphabet → List Word → List Word
 words_taking_part t words = filter (is_taking_part t) words
 
--- a text of at most 2^26 bytes is a dictionary file, under the table, of those of the words that
--- take part
+-- a text of at most 2^26 bytes is read, under the table, as those words that take part
 abbrev pub ReadsBack : Alphabet → List Word → List ℕ → Type 0
 ReadsBack t words text = length text ≤ FILE_MAX → words_of t text ≡ Ok (words_taking_part t words)

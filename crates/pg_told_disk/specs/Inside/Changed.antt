@@ -11,7 +11,7 @@ use Rattle.pg_outside.specs.Inside.Disk as disk
 use Rattle.pg_outside.specs.Inside.Disk.{Node, Disk, NameMap, FileSet}
 use Rattle.pg_outside.specs.declared.disk.system.FileId.{FileId}
 use Rattle.pg_told_disk.specs.Inside.Cases.{eq_yes, eq_no, number_no, cond_yes, cond_no, none_some, some_same, of_cond}
-use Rattle.pg_told_disk.specs.Inside.Changes.{number_in, names_in, mode_in, kind_in, bytes_in, stored_in, node_in, node_with, file_in, id_of, given, disk_in}
+use Rattle.pg_told_disk.specs.Inside.Changes.{number_in, names_in, mode_in, kind_in, bytes_in, stored_in, node_in, node_with, file_in, id_of, with_name, disk_in}
 use Rattle.pg_told_disk.specs.Inside.Following.{not_link}
 use Rattle.pg_told_disk.specs.Inside.Linked.{link_in, real_in}
 use Rattle.pg_told_disk.specs.declared.change.Change.{Change}
@@ -30,7 +30,7 @@ get_cut m k q = fin.get-remove nat_list_cmp_total m k q ∙ grind (arith, is_eq-
 
 -- a name that was given a file or none leads to that; any other leads to what it did before
 get_given : (o : Option ℕ) (m : NameMap) (to q : List ℕ)
-    → fin.get (given o m to) q ≡ cond (bytes_eq q to) (option_map id_of o) (fin.get m q)
+    → fin.get (with_name o m to) q ≡ cond (bytes_eq q to) (option_map id_of o) (fin.get m q)
 get_given None m to q = get_cut m to q
 get_given (Some n) m to q = get_put m to q (id_of n)
 
@@ -101,47 +101,48 @@ below_of_some true k n o is older = let same : k ≡ n = some_same k n is in ome
 below_of_some false k n o is older = older is
 
 -- what is below k is below k + 1
-more : (n k : ℕ) → n < k → n < k + 1
-more n k lt = omega arith
+below_next : (n k : ℕ) → n < k → n < k + 1
+below_next n k lt = omega arith
 
--- the same, where k + 1 is written as suc k
-later : (n k : ℕ) → n < k → n < suc k
-later n k lt = omega arith
+-- what is below k is below suc k
+below_suc : (n k : ℕ) → n < k → n < suc k
+below_suc n k lt = omega arith
 
 -- what is below k + 1 is below suc k
-later_one : (n k : ℕ) → n < k + 1 → n < suc k
-later_one n k lt = omega arith
+next_below_suc : (n k : ℕ) → n < k + 1 → n < suc k
+next_below_suc n k lt = omega arith
 
 -- a name leads to a file that was made
 pub number_below : (log : List Change) (q : List ℕ) (n : ℕ)
     → number_in log q ≡ Some n → n < length log
 number_below [] q n is = absurd (none_some n is)
 number_below (Made own regular ∷ older) q n is =
-    later_one _ _ (below_of_some (bytes_eq q (string_bytes own))
-    (length older) n (number_in older q) is (λ e. more n (length older) (number_below older q n e)))
+    next_below_suc _ _ (below_of_some (bytes_eq q (string_bytes own))
+    (length older) n (number_in older q) is (λ e. below_next n (length older)
+    (number_below older q n e)))
 number_below (Renamed from to ∷ older) q n is =
     of_cond (bytes_eq q (string_bytes to)) n (number_in older (string_bytes from))
     (cond (bytes_eq q (string_bytes from)) None (number_in older q)) (n < suc (length older)) is
-    (λ e. later _ _ (number_below older (string_bytes from) n e))
+    (λ e. below_suc _ _ (number_below older (string_bytes from) n e))
     (λ e. of_cond (bytes_eq q (string_bytes from)) n None
     (number_in older q) (n < suc (length older)) e
-    (λ none. absurd (none_some n none)) (λ e2. later _ _ (number_below older q n e2)))
+    (λ none. absurd (none_some n none)) (λ e2. below_suc _ _ (number_below older q n e2)))
 number_below (Shared own old ∷ older) q n is =
     of_cond (bytes_eq q (string_bytes own)) n (number_in older (string_bytes old))
     (number_in older q) (n < suc (length older)) is
-    (λ e. later _ _ (number_below older (string_bytes old) n e))
-    (λ e. later _ _ (number_below older q n e))
+    (λ e. below_suc _ _ (number_below older (string_bytes old) n e))
+    (λ e. below_suc _ _ (number_below older q n e))
 number_below (Removed own ∷ older) q n is =
     of_cond (bytes_eq q (string_bytes own)) n None
     (number_in older q) (n < suc (length older)) is
-    (λ none. absurd (none_some n none)) (λ e. later n (length older) (number_below older q n e))
+    (λ none. absurd (none_some n none)) (λ e. below_suc n (length older) (number_below older q n e))
 number_below (GotMode number mode ∷ older) q n is =
-    later n (length older) (number_below older q n is)
+    below_suc n (length older) (number_below older q n is)
 number_below (Wrote number bytes ∷ older) q n is =
-    later n (length older) (number_below older q n is)
-number_below (Stored number ∷ older) q n is = later n (length older) (number_below older q n is)
-number_below (Refused own ∷ older) q n is = later n (length older) (number_below older q n is)
-number_below (Stayed ∷ older) q n is = later n (length older) (number_below older q n is)
+    below_suc n (length older) (number_below older q n is)
+number_below (Stored number ∷ older) q n is = below_suc n (length older) (number_below older q n is)
+number_below (Refused own ∷ older) q n is = below_suc n (length older) (number_below older q n is)
+number_below (Stayed ∷ older) q n is = below_suc n (length older) (number_below older q n is)
 
 -- no number is below itself
 not_below : (n : ℕ) → n < n → ⊥
@@ -171,7 +172,7 @@ pub id_in : (links : List Link) (log : List Change) (q : List ℕ)
     → disk.id_at (disk_in links log) q ≡ option_map id_of (number_in log (real_in links q))
 id_in links log q = get_names log (real_in links q)
 
--- the same of a name that stands for this one
+-- which file a name leads to that stands for this one
 id_real : (links : List Link) (log : List Change) (q r : List ℕ) → real_in links q ≡ r
     → disk.id_at (disk_in links log) q ≡ option_map id_of (number_in log r)
 id_real links log q r is = id_in links log q

@@ -34,18 +34,18 @@ abbrev pub id_of : ℕ → FileId
 id_of number = record { device = 1; inode = number }
 
 -- the names after a name was given to the file of another
-abbrev pub given : Option ℕ → NameMap → List ℕ → NameMap
-given None names to = fin.remove names to
-given (Some number) names to = fin.insert names to (id_of number)
+abbrev pub with_name : Option ℕ → NameMap → List ℕ → NameMap
+with_name None names to = fin.remove names to
+with_name (Some number) names to = fin.insert names to (id_of number)
 
 -- the names after the changes, each with the file that it leads to
 abbrev pub names_in : List Change → NameMap
 names_in [] = fin.empty
 names_in (Made own regular ∷ older) =
     fin.insert (names_in older) (string_bytes own) (id_of (length older))
-names_in (Shared own old ∷ older) = given (number_in older (string_bytes old))
+names_in (Shared own old ∷ older) = with_name (number_in older (string_bytes old))
     (names_in older) (string_bytes own)
-names_in (Renamed from to ∷ older) = given (number_in older (string_bytes from))
+names_in (Renamed from to ∷ older) = with_name (number_in older (string_bytes from))
     (fin.remove (names_in older) (string_bytes from)) (string_bytes to)
 names_in (Removed own ∷ older) = fin.remove (names_in older) (string_bytes own)
 names_in (GotMode number mode ∷ older) = names_in older

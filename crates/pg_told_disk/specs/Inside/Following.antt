@@ -12,7 +12,7 @@ use Rattle.std.proofs.lemmas.Slice.Eq.{bytes_eq-Decides}
 no_link : (link : Link) → Some link ≡ None → ⊥
 no_link link e = cc
 
--- the same, with its sides exchanged
+-- no option that holds a link is empty
 none_link : (link : Link) → None ≡ Some link → ⊥
 none_link link e = cc
 
@@ -31,33 +31,32 @@ none_both None link q is = (refl, by_test (bytes_eq q (string_bytes link.name)) 
     by_test false e = refl
 
 -- a name that is no link stands for itself
-pub direct : (links : List Link) (q : List ℕ) → link_in links q ≡ None → real_in links q ≡ q
-direct [] q none = refl
-direct (link ∷ older) q none =
+pub direct_name : (links : List Link) (q : List ℕ) → link_in links q ≡ None → real_in links q ≡ q
+direct_name [] q none = refl
+direct_name (link ∷ older) q none =
     let both = none_both (link_in older q) link q none in
     ap (λ (r : List ℕ). followed_by r (real_in older (string_bytes link.said)) link)
-    (direct older q both.0) ∙ cond_no _ _ _ both.1
+    (direct_name older q both.0) ∙ cond_no _ _ _ both.1
 
 -- where the test finds no link there is none
 not_some : (o : Option Link) → is_some o ≡ false → o ≡ None
 not_some None e = refl
 not_some (Some link) e = absurd (false≢true (sym e))
 
--- the same, by the test
+-- a name that the test finds to be no link stands for itself
 pub not_link : (links : List Link) (q : List ℕ) → is_some (link_in links q) ≡ false
     → real_in links q ≡ q
-not_link links q unlinked = direct links q (not_some (link_in links q) unlinked)
+not_link links q unlinked = direct_name links q (not_some (link_in links q) unlinked)
 
--- what the latest link says stands for what its name stands for, where no earlier link has this
--- name
-newest : (link : Link) (older : List Link) (q : List ℕ) → link_in older q ≡ None
+-- the latest link leads on to the name that it says, where no earlier link has its name
+newest_link : (link : Link) (older : List Link) (q : List ℕ) → link_in older q ≡ None
     → q ≡ string_bytes link.name
     → real_in (link ∷ older) (string_bytes link.said) ≡ real_in (link ∷ older) q
-newest link older q none named =
+newest_link link older q none named =
     cond_same (bytes_eq (real_in older (string_bytes link.said)) (string_bytes link.name))
     (real_in older (string_bytes link.said))
     ∙ sym (ap (λ (r : List ℕ). followed_by r (real_in older (string_bytes link.said)) link)
-    (direct older q none) ∙ cond_yes _ _ _ (eq_yes q (string_bytes link.name) named))
+    (direct_name older q none) ∙ cond_yes _ _ _ (eq_yes q (string_bytes link.name) named))
 
 -- what a link says stands for what the link stands for
 pub said_same : (links : List Link) (q : List ℕ) (link : Link) → link_in links q ≡ Some link
@@ -73,7 +72,7 @@ said_same (first ∷ older) q link is = by_older (link_in older q) refl is
     by_test true same none found =
         subst (λ (l : Link). real_in (first ∷ older) (string_bytes l.said)
         ≡ real_in (first ∷ older) q) (one_link first link found)
-        (newest first older q none ((bytes_eq-Decides q (string_bytes first.name)).0 same))
+        (newest_link first older q none ((bytes_eq-Decides q (string_bytes first.name)).0 same))
 
     by_older : (o : Option Link) → link_in older q ≡ o → or_this o first q ≡ Some link
         → (link_in older q ≡ Some link

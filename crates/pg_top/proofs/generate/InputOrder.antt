@@ -9,10 +9,10 @@ use Rattle.pg_translate.specs.Alphabets.{Alphabet}
 use Rattle.pg_dict.specs.Word.{Word}
 use Rattle.pg_dict.specs.Words.{words}
 use Rattle.pg_patterns.specs.Starts.{start}
-use Rattle.pg_top.specs.Calls.{outcome_of, finished}
-use Rattle.pg_top.specs.Readings.{Reading, read_as, input_file, translate_file, patterns_file, words_file}
+use Rattle.pg_top.specs.Calls.{outcome_of, own_outcome}
+use Rattle.pg_top.specs.Readings.{Reading, read_as, input_file, table_named, translate_file, patterns_file, words_file}
 use Rattle.pg_words.specs.Requests.{FileNames, ToGenerate}
-use Rattle.pg_top.specs.generate.Generated.{inputs_in, inputs_of, generated}
+use Rattle.pg_top.specs.generate.Generated.{inputs_in, inputs_of, outcome_of_generate}
 use Rattle.pg_top.specs.generate.Inside.Accepted.{HasInputs}
 use Rattle.pg_top.specs.Inside.Lists.{lists_under, HasLists}
 use Rattle.pg_top.specs.Inside.Stops.{StopsAt, StopsReading}
@@ -62,10 +62,10 @@ module _ (n : FileNames) (t : Alphabet) where
           (λ i. record { table = is_t i; params = is_p i; start = is_S i; dictionary = is_ws i })
 
 -- where all are read the outcome of `generate` is what it writes and prints
-pub outcome_generated : (n : FileNames) (i : Inputs) (files : FileMap) → HasInputs (file_at files) n i → outcome_of (file_at files) (ToGenerate n) ≡ generated n i
+pub outcome_generated : (n : FileNames) (i : Inputs) (files : FileMap) → HasInputs (file_at files) n i → outcome_of (file_at files) (ToGenerate n) ≡ outcome_of_generate n i
 outcome_generated n i files h =
-    ap (λ end. unwrap_or end (finished (file_at files) (ToGenerate n))) (accepted_all (file_at files) (inputs_of n) (inputs_accepted n i.table i.params i.start i.dictionary files h))
-    ∙ ap (generated n) (given n i.table i.params i.start i.dictionary files h)
+    ap (λ end. unwrap_or end (own_outcome (file_at files) (ToGenerate n))) (accepted_all (file_at files) (inputs_of n) (inputs_accepted n i.table i.params i.start i.dictionary files h))
+    ∙ ap (outcome_of_generate n) (given n i.table i.params i.start i.dictionary files h)
 
 -- one input is read after the other, and the files stay as they are
 pub two_read : (n : FileNames) (t : Alphabet) (p : Parameters) (h1 h2 : Option FileMap) → KeepsHeld h1 h2 → IfSome h1 (HasTable n t) → IfSome h2 (λ files. read_as parameters (file_at files) n.params ≡ Some (Ok p)) → IfSome h2 (HasTwo n t p)

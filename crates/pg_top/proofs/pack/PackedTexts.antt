@@ -9,7 +9,7 @@ use Rattle.pg_table.specs.declared.error.TableError.{TableError}
 use Rattle.pg_table.specs.declared.error.TableError.TheVariants as table_error
 use Rattle.pg_table.specs.declared.limits.TheConstants.{TABLE_MAX}
 use Rattle.pg_top.specs.Outcomes.{Ends, refuses}
-use Rattle.pg_top.specs.pack.Packed.{packed, table_refused, packed_line}
+use Rattle.pg_top.specs.pack.Packed.{outcome_of_pack, table_refused, packed_line}
 use Rattle.pg_top.specs.pack.Inside.Inputs.{stop_of_table, packed_text}
 use Rattle.pg_top.specs.Inside.Stops.{StopsMaking}
 use Rattle.pg_top.specs.declared.answers.Status.TheVariants.{Done}
@@ -17,14 +17,14 @@ use Rattle.pg_top.specs.declared.inputs.Input.TheVariants as input
 
 module _ (name : List ℕ) (t : Alphabet) (P : Patterns) where
   -- a table that is not too long is written
-  pub packed_short : length (packed_text t P) ≤ TABLE_MAX → packed name t P ≡ Ends Done ((name, packed_text t P) ∷ []) (packed_line (pattern_text t P) (packed_text t P))
+  pub packed_short : length (packed_text t P) ≤ TABLE_MAX → outcome_of_pack name t P ≡ Ends Done ((name, packed_text t P) ∷ []) (packed_line (pattern_text t P) (packed_text t P))
   packed_short short = ap (λ long. cond long (refuses input.Table (table_refused TableTooLong)) (Ends Done ((name, packed_text t P) ∷ []) (packed_line (pattern_text t P) (packed_text t P)))) (le-ltb TABLE_MAX (length (packed_text t P)) short)
 
   -- and one that is too long is refused
-  packed_long : TABLE_MAX < length (packed_text t P) → packed name t P ≡ refuses input.Table (table_refused TableTooLong)
+  packed_long : TABLE_MAX < length (packed_text t P) → outcome_of_pack name t P ≡ refuses input.Table (table_refused TableTooLong)
   packed_long long = ap (λ long. cond long (refuses input.Table (table_refused TableTooLong)) (Ends Done ((name, packed_text t P) ∷ []) (packed_line (pattern_text t P) (packed_text t P)))) (lt-ltb TABLE_MAX (length (packed_text t P)) long)
 
   -- why no table is made
-  pub stops_making : (error : TableError) → (error ≡ table_error.TooLong → TABLE_MAX < length (packed_text t P)) → StopsMaking (packed name t P) (stop_of_table error)
+  pub stops_making : (error : TableError) → (error ≡ table_error.TooLong → TABLE_MAX < length (packed_text t P)) → StopsMaking (outcome_of_pack name t P) (stop_of_table error)
   stops_making table_error.TooLong long = packed_long (long refl)
   stops_making table_error.Memory long = tt

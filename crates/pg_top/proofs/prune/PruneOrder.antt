@@ -9,7 +9,7 @@ use Rattle.pg_dict.specs.Word.{Word}
 use Rattle.pg_dict.specs.Words.{words}
 use Rattle.pg_patterns.specs.Starts.{start}
 use Rattle.pg_select.specs.Windows.{Patterns}
-use Rattle.pg_top.specs.Calls.{outcome_of, finished, reads_of}
+use Rattle.pg_top.specs.Calls.{outcome_of, own_outcome, reads_of}
 use Rattle.pg_top.specs.Counted.{MakesCalls}
 use Rattle.pg_top.specs.Readings.{table_named, translate_file, patterns_file, words_file, patterns_under, words_under}
 use Rattle.pg_top.specs.prune.Inside.Inputs.{HasPrune, line_of_pruned, pruned_by}
@@ -60,7 +60,7 @@ prune_outcome p i files h =
     let is_t = is_table p.translate t files h.table in
     let is_P = means_under p.translate t start [] p.patterns P files h.table h.patterns in
     let is_ws = means_under p.translate t words [] p.dict ws files h.table h.words in
-    ap (λ end. unwrap_or end (finished (file_at files) (ToPrune p))) (accepted_all (file_at files) (reads_of (ToPrune p)) (prune_accepted p i files h))
+    ap (λ end. unwrap_or end (own_outcome (file_at files) (ToPrune p))) (accepted_all (file_at files) (reads_of (ToPrune p)) (prune_accepted p i files h))
     ∙ (λ k. pruned_by p (is_t k) (is_ws k) (is_P k))
 
 -- what it promises
@@ -78,7 +78,7 @@ prune_keeps p i files back h =
       kept = (pruned m ws P).patterns;
       report = prune_report (table_named p.translate (file_at files)) (pruned m ws P);
       lines = line_of_pruned (pruned m ws P);
-      comes = ap (λ end. unwrap_or end (finished (file_at files) (ToPrune p))) (accepted_all (file_at files) (reads_of (ToPrune p)) (prune_accepted p i files h));
+      comes = ap (λ end. unwrap_or end (own_outcome (file_at files) (ToPrune p))) (accepted_all (file_at files) (reads_of (ToPrune p)) (prune_accepted p i files h));
       part = pruned_part m ws P;
       reads_back = subst (λ (t : Alphabet). ReadsBack t (pruned (minima_of t) ws P).patterns) (sym is_t) with_ws;
       alike = pruned_alike m ws P;

@@ -1,19 +1,19 @@
 -- The loops that make the dictionary of `sample`: what is made so far, with the rest behind it, is the whole.
 use Rattle.std.proofs.Common.{◌≡◌, ℕ, suc, ◌+◌, ◌-◌, ◌<◌, List, [], ◌∷◌, ◌++◌, sym, ap, ◌∙◌, append_assoc, arith}
-use Rattle.pg_top.specs.sample.Sampled.{Made, syllable, further, word, sample_text}
+use Rattle.pg_top.specs.sample.Sampled.{Made, syllable, further_syllables, word, sample_text}
 
 -- a syllable more
-further_next : (count i x : ℕ) → i < count → further (count - i) x ≡ further (suc (count - (i + 1))) x
-further_next count i x more = let same : count - i ≡ suc (count - (i + 1)) = omega arith in ap (λ n. further n x) same
+further_next : (count i x : ℕ) → i < count → further_syllables (count - i) x ≡ further_syllables (suc (count - (i + 1))) x
+further_next count i x more = let same : count - i ≡ suc (count - (i + 1)) = omega arith in ap (λ n. further_syllables n x) same
 
-pub syllable_more : (count i x : ℕ) (so_far whole : List ℕ) → i < count → so_far ++ (further (count - i) x).text ≡ whole → ((so_far ++ 45 ∷ []) ++ (syllable x).text) ++ (further (count - (i + 1)) (syllable x).state).text ≡ whole
+pub syllable_more : (count i x : ℕ) (so_far whole : List ℕ) → i < count → so_far ++ (further_syllables (count - i) x).text ≡ whole → ((so_far ++ 45 ∷ []) ++ (syllable x).text) ++ (further_syllables (count - (i + 1)) (syllable x).state).text ≡ whole
 syllable_more count i x so_far whole more is =
-    append_assoc (so_far ++ 45 ∷ []) (syllable x).text (further (count - (i + 1)) (syllable x).state).text
-    ∙ append_assoc so_far (45 ∷ []) ((syllable x).text ++ (further (count - (i + 1)) (syllable x).state).text)
+    append_assoc (so_far ++ 45 ∷ []) (syllable x).text (further_syllables (count - (i + 1)) (syllable x).state).text
+    ∙ append_assoc so_far (45 ∷ []) ((syllable x).text ++ (further_syllables (count - (i + 1)) (syllable x).state).text)
     ∙ ap (λ (m : Made). so_far ++ m.text) (sym (further_next count i x more))
     ∙ is
 
-pub state_more : (count i x whole : ℕ) → i < count → (further (count - i) x).state ≡ whole → (further (count - (i + 1)) (syllable x).state).state ≡ whole
+pub state_more : (count i x whole : ℕ) → i < count → (further_syllables (count - i) x).state ≡ whole → (further_syllables (count - (i + 1)) (syllable x).state).state ≡ whole
 state_more count i x whole more is = ap (λ (m : Made). m.state) (sym (further_next count i x more)) ∙ is
 
 -- a word more

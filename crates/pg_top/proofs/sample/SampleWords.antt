@@ -20,7 +20,7 @@ use Rattle.pg_dict.specs.Inside.LineWords.{word_weight}
 use Rattle.pg_dict.specs.Inside.LineWords.{line_reading, line_word}
 use Rattle.pg_dict.specs.Inside.Written.{letters_among, IsLine, file_of, LinesGive}
 use Rattle.pg_dict.proofs.LineLaws.{line_is_read, file_is_read, items_line}
-use Rattle.pg_top.specs.sample.Sampled.{Made, next_state, drawn, consonants, vowels, ending, syllable, further, word, words_made, sample_text}
+use Rattle.pg_top.specs.sample.Sampled.{Made, next_state, draw, consonants, vowels, ending, syllable, further_syllables, word, words_made, sample_text}
 use Rattle.pg_top.specs.sample.Inside.Lines.{closings}
 use Rattle.pg_types.proofs.BoolFacts.{and_first, and_second}
 
@@ -134,10 +134,10 @@ record IsPlainText (text : List ℕ) (most : ℕ) : Type 0 where
 
 ending_plain : (x : ℕ) → IsPlainText (ending x).text 1
 unfolding ending
-ending_plain x = by_draw (drawn 4 x == 0)
+ending_plain x = by_draw (draw 4 x == 0)
   where
-    by_draw : (closed : Bool) → let made : Made = if closed then (record { text = slice_index closings (drawn 3 (next_state x)) ∷ []; state = next_state x }) else (record { text = []; state = x }) in IsPlainText made.text 1
-    by_draw true = record { plain = rw (plain_letter (slice_index closings (drawn 3 (next_state x))) (letter_at closings (drawn 3 (next_state x)) refl (omega arith))) refl; short = omega arith }
+    by_draw : (closed : Bool) → let made : Made = if closed then (record { text = slice_index closings (draw 3 (next_state x)) ∷ []; state = next_state x }) else (record { text = []; state = x }) in IsPlainText made.text 1
+    by_draw true = record { plain = rw (plain_letter (slice_index closings (draw 3 (next_state x))) (letter_at closings (draw 3 (next_state x)) refl (omega arith))) refl; short = omega arith }
     by_draw false = record { plain = refl; short = omega arith }
 
 syllable_plain : (x : ℕ) → IsPlainText (syllable x).text 3
@@ -147,26 +147,26 @@ syllable_plain x =
     let v : ℕ = next_state c in
     let end = ending_plain (next_state v) in
     record {
-      plain = rw (plain_letter (slice_index consonants (drawn 12 c)) (letter_at consonants (drawn 12 c) refl (omega arith)), plain_letter (slice_index vowels (drawn 5 v)) (letter_at vowels (drawn 5 v) refl (omega arith)), end.plain) refl;
+      plain = rw (plain_letter (slice_index consonants (draw 12 c)) (letter_at consonants (draw 12 c) refl (omega arith)), plain_letter (slice_index vowels (draw 5 v)) (letter_at vowels (draw 5 v) refl (omega arith)), end.plain) refl;
       short = omega (arith, end.short);
     }
 
 syllable_begins : (x : ℕ) (more : List ℕ) → is_letter (slice_index ((syllable x).text ++ more) 0) ≡ true
 unfolding syllable
-syllable_begins x more = letter_at consonants (drawn 12 (next_state x)) refl (omega arith)
+syllable_begins x more = letter_at consonants (draw 12 (next_state x)) refl (omega arith)
 
 syllable_some : (x : ℕ) (more : List ℕ) → 0 < length ((syllable x).text ++ more)
 unfolding syllable
 syllable_some x more = omega arith
 
-further_plain : (n x : ℕ) → IsPlainText (further n x).text (4 * n)
+further_plain : (n x : ℕ) → IsPlainText (further_syllables n x).text (4 * n)
 further_plain zero x = record { plain = refl; short = omega arith }
 further_plain (suc n) x =
     let one = syllable_plain x in
     let more = further_plain n (syllable x).state in
     record {
-      plain = rw (list_all-append is_plain (syllable x).text (further n (syllable x).state).text, one.plain, more.plain) refl;
-      short = omega (arith, length-append (syllable x).text (further n (syllable x).state).text, one.short, more.short);
+      plain = rw (list_all-append is_plain (syllable x).text (further_syllables n (syllable x).state).text, one.plain, more.plain) refl;
+      short = omega (arith, length-append (syllable x).text (further_syllables n (syllable x).state).text, one.short, more.short);
     }
 
 word_line : (x : ℕ) → IsSampleLine (word x).text
@@ -174,12 +174,12 @@ unfolding word
 word_line x =
     let size : ℕ = next_state x in
     let one = syllable_plain size in
-    let more = further_plain (drawn 3 size + 1) (syllable size).state in
+    let more = further_plain (draw 3 size + 1) (syllable size).state in
     record {
-      some = syllable_some size (further (drawn 3 size + 1) (syllable size).state).text;
-      begins = syllable_begins size (further (drawn 3 size + 1) (syllable size).state).text;
-      plain = rw (list_all-append is_plain (syllable size).text (further (drawn 3 size + 1) (syllable size).state).text, one.plain, more.plain) refl;
-      short = omega (arith, length-append (syllable size).text (further (drawn 3 size + 1) (syllable size).state).text, one.short, more.short);
+      some = syllable_some size (further_syllables (draw 3 size + 1) (syllable size).state).text;
+      begins = syllable_begins size (further_syllables (draw 3 size + 1) (syllable size).state).text;
+      plain = rw (list_all-append is_plain (syllable size).text (further_syllables (draw 3 size + 1) (syllable size).state).text, one.plain, more.plain) refl;
+      short = omega (arith, length-append (syllable size).text (further_syllables (draw 3 size + 1) (syllable size).state).text, one.short, more.short);
     }
 
 words_lines : (n x : ℕ) → AllByRecursion IsSampleLine (words_made n x)

@@ -12,8 +12,8 @@ use Rattle.pg_dict.specs.Words.{words}
 use Rattle.pg_patterns.specs.Starts.{start}
 use Rattle.pg_select.specs.Windows.{Patterns}
 use Rattle.pg_sweep.specs.Sweeps.{Terms}
-use Rattle.pg_top.specs.sweep.Inside.Inputs.{swept}
-use Rattle.pg_top.specs.Calls.{outcome_of, finished, reads_of}
+use Rattle.pg_top.specs.sweep.Inside.Inputs.{outcome_of_sets}
+use Rattle.pg_top.specs.Calls.{outcome_of, own_outcome, reads_of}
 use Rattle.pg_top.specs.Counted.{MakesCalls, read_calls}
 use Rattle.pg_top.specs.Inside.ReadCalls.{read_call}
 use Rattle.pg_top.specs.Readings.{Reading, translate_file, patterns_file, words_file}
@@ -88,7 +88,7 @@ sweep_accepted s terms sets files h =
     accepted_both (file_at files) (set_front s) (patterns_file s.translate s.patterns ∷ words_file s.translate s.dict ∷ []) front rest
 
 -- then it comes to what the sweep writes and prints
-pub sweep_outcome : (s : SweepRequest) (terms : Terms) (sets : List Parameters) (files : FileMap) → HasSweep (file_at files) s terms sets → outcome_of (file_at files) (ToSweep s) ≡ swept s terms sets
+pub sweep_outcome : (s : SweepRequest) (terms : Terms) (sets : List Parameters) (files : FileMap) → HasSweep (file_at files) s terms sets → outcome_of (file_at files) (ToSweep s) ≡ outcome_of_sets s terms sets
 sweep_outcome s terms sets files h =
     let t : Alphabet = terms.table in
     let P : Patterns = terms.start in
@@ -97,5 +97,5 @@ sweep_outcome s terms sets files h =
     let is_P = means_under s.translate t start [] s.patterns P files h.table h.start in
     let is_ws = means_under s.translate t words [] s.dict ws files h.table h.words in
     let is_sets = sets_mean (file_at files) s.params sets h.sets in
-    ap (λ end. unwrap_or end (finished (file_at files) (ToSweep s))) (accepted_all (file_at files) (reads_of (ToSweep s)) (sweep_accepted s terms sets files h))
-    ∙ (λ k. swept s (record { table = is_t k; words = is_ws k; start = is_P k; folds = sym h.folds k }) (is_sets k))
+    ap (λ end. unwrap_or end (own_outcome (file_at files) (ToSweep s))) (accepted_all (file_at files) (reads_of (ToSweep s)) (sweep_accepted s terms sets files h))
+    ∙ (λ k. outcome_of_sets s (record { table = is_t k; words = is_ws k; start = is_P k; folds = sym h.folds k }) (is_sets k))

@@ -9,21 +9,21 @@ use Rattle.pg_sweep.specs.Inside.Found.{Found}
 use Rattle.pg_sweep.specs.Winners.{winner_of}
 use Rattle.pg_sweep.specs.declared.rows.SweepRow.{SweepRow}
 use Rattle.pg_sweep.proofs.Winners.{winner_wins}
-use Rattle.pg_top.specs.Calls.{finished, reads_of}
+use Rattle.pg_top.specs.Calls.{own_outcome, reads_of}
 use Rattle.pg_top.specs.Outcomes.{Ends}
-use Rattle.pg_top.specs.sweep.Swept.{winner_line, terms_in, sets_in, swept_rows, sweep_ends}
+use Rattle.pg_top.specs.sweep.Swept.{winner_line, terms_in, sets_in, swept_rows, outcome_of_sweep}
 use Rattle.pg_top.specs.Promises.{set_costs, SweepNames}
 use Rattle.pg_top.specs.Readings.{Held, first_end, parameters_named}
 use Rattle.pg_words.specs.Requests.{SweepRequest, ToSweep}
-use Rattle.pg_top.specs.sweep.Inside.Inputs.{line_of_sweep, swept}
+use Rattle.pg_top.specs.sweep.Inside.Inputs.{line_of_sweep, outcome_of_sets}
 use Rattle.pg_top.specs.declared.answers.Status.TheVariants.{Done}
 
 -- it is made of what was found
 pub sweep_made : (s : SweepRequest) (terms : Terms) (sets : List Parameters) (found : Found) (text line : List ℕ) → found.rows ≡ map (row_of terms s.bad s.missed) sets → found.winner ≡ winner_of (costs_of found.rows) → text ≡ sweep_file s.folds found.rows found.winner → line ≡ line_of_sweep found
-    → swept s terms sets ≡ Ends Done ((s.output, text) ∷ []) line
+    → outcome_of_sets s terms sets ≡ Ends Done ((s.output, text) ∷ []) line
 unfolding swept_rows
 sweep_made s terms sets found text line rows winner is_text is_line =
-    ap (sweep_ends s) (sym rows)
+    ap (outcome_of_sweep s) (sym rows)
     ∙ ap (λ (w : ℕ). Ends Done ((s.output, sweep_file s.folds found.rows w) ∷ []) (winner_line w (slice_index (costs_of found.rows) (w - 1)))) (sym winner)
     ∙ (λ k. Ends Done ((s.output, sym is_text k) ∷ []) (sym is_line k))
 
@@ -33,7 +33,7 @@ unfolding swept_rows
 sweep_names s files none some = record {
   winner = winner_of (set_costs files s);
   text = sweep_file s.folds (swept_rows s (terms_in files s) (sets_in files s)) (winner_of (set_costs files s));
-  comes = ap (λ end. unwrap_or end (finished files (ToSweep s))) none;
+  comes = ap (λ end. unwrap_or end (own_outcome files (ToSweep s))) none;
   wins = winner_wins (set_costs files s) (many (set_costs files s) (length-map (swept_rows s (terms_in files s) (sets_in files s)) (λ (r : SweepRow). r.cost) ∙ length-map (sets_in files s) (row_of (terms_in files s) s.bad s.missed) ∙ length-map s.params (parameters_named files)));
 }
   where

@@ -13,7 +13,7 @@ use Rattle.pg_dict.specs.Words.{words}
 use Rattle.pg_table.specs.declared.limits.TheConstants.{TABLE_MAX}
 use Rattle.pg_table.specs.Forms.{head_of, is_well_formed}
 use Rattle.pg_words.specs.Requests.{TotalsRequest, ToTotals}
-use Rattle.pg_top.specs.Calls.{outcome_of, finished, reads_of}
+use Rattle.pg_top.specs.Calls.{outcome_of, own_outcome, reads_of}
 use Rattle.pg_top.specs.Counted.{MakesCalls, read_calls}
 use Rattle.pg_top.specs.Outcomes.{Ends}
 use Rattle.pg_top.specs.Readings.{Reading, read_as, input_file}
@@ -43,7 +43,7 @@ totals_outcome p t ws lines files h is =
     let is_t = is_table p.translate t files h.0 in
     let is_ws = means_under p.translate t words [] p.dict ws files h.0 h.1 in
     let is_b = means_under p.translate t packed_table [] p.table b files h.0 is.1 in
-    ap (λ end. unwrap_or end (finished (file_at files) (ToTotals p))) (accepted_all (file_at files) (reads_of (ToTotals p)) accepted)
+    ap (λ end. unwrap_or end (own_outcome (file_at files) (ToTotals p))) (accepted_all (file_at files) (reads_of (ToTotals p)) accepted)
     ∙ (λ k. Ends Done [] (totals_lines (is_t k) (is_ws k) (is_b k)))
     ∙ ap (Ends Done []) (sym is.2)
 

@@ -6,8 +6,7 @@ use Rattle.pg_top.specs.declared.inputs.Stop.{Stop}
 use Rattle.pg_top.specs.declared.inputs.Stop.TheVariants.{Refused, Unread}
 use Rattle.pg_top.specs.Counted.{MakesPuts, PutsFault}
 
--- the puts of a command that stopped before it wrote: a refusal is one line, and the line of a
--- fault has three parts
+-- the puts of a command that stopped before it wrote: one of a refusal, three of a fault
 abbrev pub PutsCounted : Stop → Status → SinkShown → SinkShown → Type 0
 PutsCounted stop status.Memory old new = MakesPuts old new 0
 PutsCounted (Refused input refusal) status.Refused old new = MakesPuts old new 1
@@ -15,8 +14,7 @@ PutsCounted (Refused input refusal) status.Fault old new = MakesPuts old new 1
 PutsCounted (Unread name) status.Fault old new = PutsFault old new
 PutsCounted stop answer old new = ⊥
 
--- the puts of a command that reads and writes nothing: its lines are put at once, and nothing where
--- memory is short
+-- the puts of a command without files: its lines at once, or none where memory was short
 abbrev pub LinesCounted : Status → SinkShown → SinkShown → Type 0
 LinesCounted status.Memory old new = MakesPuts old new 0
 LinesCounted answer old new = MakesPuts old new 1

@@ -4,7 +4,7 @@ use Rattle.pg_types.specs.declared.marks.Layout.{Layout}
 use Rattle.pg_types.specs.Placement.{Families}
 use Rattle.pg_packed.specs.Inside.Starts.{pattern_families}
 use Rattle.pg_driver.specs.Traces.{over}
-use Rattle.pg_driver.specs.Accounts.{begun}
+use Rattle.pg_driver.specs.Accounts.{begun_count}
 use Rattle.pg_driver.specs.Inside.AccountLines.{Account, account}
 use Rattle.pg_driver.specs.Inside.CellsAccounts.{CellsAccount, cells_account}
 use Rattle.pg_texts.specs.Inside.CellsLines.{layout_line_text}
@@ -17,7 +17,7 @@ selected_account i = account (over i.table i.dictionary) i.start (selection i)
 
 -- how many passes of that run are begun
 unfoldable pub passes_begun : Inputs → ℕ
-passes_begun i = begun (selection i)
+passes_begun i = begun_count (selection i)
 
 -- what is told of the cells of that run, where it begins with these families
 unfoldable pub selected_cells_from : Inputs → Families → CellsAccount

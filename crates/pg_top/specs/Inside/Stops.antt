@@ -14,7 +14,7 @@ use Rattle.pg_top.specs.PrintedLines.{refused_line}
 use Rattle.pg_top.specs.Inside.FaultLines.{reading_line, writing_line}
 use Rattle.pg_top.specs.Readings.{Reading, first_end}
 use Rattle.pg_words.specs.Requests.{Request}
-use Rattle.pg_top.specs.Inside.Written.{written_names, WroteAll, StoppedAt}
+use Rattle.pg_top.specs.Inside.WritesMade.{written_names, WroteAll, StoppedAt}
 use Rattle.pg_top.specs.declared.answers.Status.{Status}
 use Rattle.pg_top.specs.declared.answers.Status.TheVariants as status
 use Rattle.pg_top.specs.declared.inputs.Input.{Input}
@@ -36,8 +36,7 @@ StopsAt r old new (Unread name) = (name.now ≡ r.name)
     × Rose (old.read_faults name.now) (new.read_faults name.now)
 StopsAt r old new Memory = Unit {0}
 
--- why reading files stopped at a place of the order: the file there is refused, it could not be
--- read, or memory was short
+-- why reading stopped at a place of the order: a refusal, a read that failed, or want of memory
 abbrev pub StopsWith : List Reading → ℕ → FilesShown → FilesShown → Stop → Type 0
 StopsWith reads at old new (Refused input refusal) = IfSome new.held (λ files.
     first_end (file_at files) (take (at + 1) reads) ≡ Some (refuses input refusal))
@@ -52,8 +51,7 @@ pub record StopsReading (reads : List Reading) (old new : FilesShown) (stop : St
   pub read : ReadsUpTo reads place old new
   pub why : StopsWith reads place old new stop
 
--- why a command stopped once it had read up to a place: it is refused, by the file there or by all
--- of them, the file there could not be read, or memory was short
+-- why a command stopped, with the files up to a place read: a refusal, a fault, or want of memory
 abbrev pub StopsCommandWith : Request → ℕ → FilesShown → FilesShown → Stop → Type 0
 StopsCommandWith request at old new (Refused input refusal) = IfSome new.held (λ files.
     (outcome_of (file_at files) request ≡ refuses input refusal)
@@ -64,8 +62,7 @@ StopsCommandWith request at old new (Unread name) =
     × Rose (old.read_faults name.now) (new.read_faults name.now)
 StopsCommandWith request at old new Memory = Unit {0}
 
--- a command stopped before it wrote: the files up to a place were read once each, and this is why
--- it stopped
+-- a command stopped before it wrote: the files up to a place were read once, and this is why
 pub record StopsCommand (request : Request) (old new : FilesShown) (stop : Stop) : Type 0 where
   pub place : ℕ
   pub read : ReadsUpTo (reads_of request) place old new
@@ -109,8 +106,7 @@ PutsStop (Unread name) answer old new = (answer ≡ status.Fault)
     × PutOrRose old new (reading_line name.now)
 PutsStop Memory answer old new = (answer ≡ status.Memory) × Puts old new []
 
--- all files were written, each once, and the lines put at once, or their put failed; or a write
--- failed, none was made behind it, and the line of its fault was put
+-- each file was written once and the lines were put; or a write or the put failed, and all stopped
 abbrev pub Finishes : Writing → List ℕ → Status → Moment → Moment → Type 0
 Finishes writing lines answer old new =
     (WroteAll old.0 new.0 writing × PutsAnswer lines status.Done answer old.1 new.1

@@ -2,7 +2,7 @@
 use Rattle.std.specs.Prelude.{ℕ, List, Result}
 use Rattle.pg_types.specs.declared.refusals.Refusal.{Refusal}
 use Rattle.pg_translate.specs.Alphabets.{Alphabet}
-use Rattle.pg_top.specs.Readings.{Held, Reading, input_file, meant, table_named}
+use Rattle.pg_top.specs.Readings.{Held, Reading, input_file, meaning, table_named}
 use Rattle.pg_top.specs.declared.inputs.Input.{Input}
 
 -- a file that is read under the table of the translate file of a name
@@ -12,7 +12,7 @@ file_under translate input name parse =
     input_file input name (λ files. parse (table_named translate files))
 
 -- what such a file means
-abbrev pub meant_under : {Y : Type 0} → List ℕ → (Alphabet → List ℕ → Result Y Refusal)
+abbrev pub meaning_under : {Y : Type 0} → List ℕ → (Alphabet → List ℕ → Result Y Refusal)
     → Y → Held → List ℕ → Y
-meant_under translate parse other files name =
-    meant (parse (table_named translate files)) other files name
+meaning_under translate parse other files name =
+    meaning (parse (table_named translate files)) other files name

@@ -35,8 +35,7 @@ given_file inputs g = let ends : Held → List ℕ → Option Outcome = λ files
     option_map (denies g.0) (first_false bytes (wanted_text (inputs files) g.0)) in
     record { name = g.1; ends = ends }
 
--- the given files in their order, each of which ends the call where a line of it is false: the
--- pattern file, the hyphenated list where it is asked for, and the report
+-- the given files in their order, each of which ends the call where a line of it is false
 abbrev pub given_files : (Held → Inputs) → FileNames → List Reading
 given_files inputs n = map (given_file inputs) ((given.Patterns, n.output)
     ∷ if_asked n.pattmp (λ name. (given.Pattmp, name)) ++ (given.Report, n.report) ∷ [])

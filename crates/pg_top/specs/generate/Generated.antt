@@ -1,11 +1,7 @@
 -- What `generate` reads, writes and prints.
 use Rattle.std.specs.Prelude.{ℕ, List, [], ◌∷◌, ◌++◌, codes, decimal}
 use Rattle.pg_types.specs.Parameters.{parameters}
-use Rattle.pg_translate.specs.Alphabets.{Alphabet}
-use Rattle.pg_translate.specs.Tables.{table}
-use Rattle.pg_dict.specs.Words.{words}
-use Rattle.pg_patterns.specs.Starts.{start}
-use Rattle.pg_driver.specs.Accounts.{begun}
+use Rattle.pg_driver.specs.Accounts.{begun_count}
 use Rattle.pg_driver.specs.Layouts.{families_at_end}
 use Rattle.pg_texts.specs.CellsTexts.{layout_text}
 use Rattle.pg_top.specs.Outcomes.{Outcome, Ends, Writing}
@@ -32,8 +28,7 @@ inputs_of n =
     translate_file n.translate ∷ input_file input.Parameters n.params (λ files. parameters)
     ∷ patterns_file n.translate n.patterns ∷ words_file n.translate n.dict ∷ []
 
--- the files that are written: the pattern file, the hyphenated list and the cells file where they
--- are asked for, and the report
+-- the files that are written: patterns, hyphenated list and cells if asked for, and the report
 abbrev pub selected_files : FileNames → Inputs → Writing
 selected_files n i = (n.output, selected_text i)
     ∷ if_asked n.pattmp (λ name. (name, selected_list i))
@@ -44,9 +39,9 @@ selected_files n i = (n.output, selected_text i)
 -- end
 abbrev pub selected_lines : Inputs → List ℕ
 selected_lines i = done_line (selected_text i) (selected_totals i)
-    ++ codes "work: " ++ decimal (begun (selection i)) ++ codes " passes, "
+    ++ codes "work: " ++ decimal (begun_count (selection i)) ++ codes " passes, "
     ++ layout_text (families_at_end (signs_of i) i.start (selection i)) (selected i)
 
 -- what is written and printed when all that is read is accepted
-abbrev pub generated : FileNames → Inputs → Outcome
-generated n i = Ends Done (selected_files n i) (selected_lines i)
+abbrev pub outcome_of_generate : FileNames → Inputs → Outcome
+outcome_of_generate n i = Ends Done (selected_files n i) (selected_lines i)

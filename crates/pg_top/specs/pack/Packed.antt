@@ -24,7 +24,7 @@ abbrev pub table_refused : Kind → Refusal
 table_refused kind = record { kind = kind; line = 0; column = 0 }
 
 -- what `pack` writes and prints: the table under its name, where the table is not too long
-abbrev pub packed : List ℕ → Alphabet → Patterns → Outcome
-packed name t P = let text = table_text (letters_of t + 1) P in
+abbrev pub outcome_of_pack : List ℕ → Alphabet → Patterns → Outcome
+outcome_of_pack name t P = let text = table_text (letters_of t + 1) P in
     if nat_lt TABLE_MAX (length text) then refuses input.Table (table_refused TableTooLong)
     else Ends Done ((name, text) ∷ []) (packed_line (pattern_text t P) text)

@@ -14,7 +14,7 @@ pruned_line rounds removed kept = codes "done: " ++ decimal rounds ++ codes " ro
     ++ decimal removed ++ codes " removed, " ++ decimal kept ++ codes " kept\n"
 
 -- what `prune` writes and prints where pruning finds this
-abbrev pub prune_ends : PruneRequest → Alphabet → Found → Outcome
-prune_ends p t found = Ends Done
+abbrev pub outcome_of_prune : PruneRequest → Alphabet → Found → Outcome
+outcome_of_prune p t found = Ends Done
     ((p.output, pattern_text t found.patterns) ∷ (p.report, prune_report t found) ∷ [])
     (pruned_line found.rounds found.removed (length found.patterns))

@@ -15,8 +15,8 @@ abbrev pub next_state : ℕ → ℕ
 next_state x = (1103515245 * x + 12345) % 2 ^ 31
 
 -- the number below m that is drawn with this state
-abbrev pub drawn : ℕ → ℕ → ℕ
-drawn m x = x / 65536 % m
+abbrev pub draw : ℕ → ℕ → ℕ
+draw m x = x / 65536 % m
 
 -- a text that was made, and the state behind it
 pub record Made : Type 0 where
@@ -31,29 +31,28 @@ consonants = codes "bdfgklmnprst"
 abbrev pub vowels : List ℕ
 vowels = codes "aeiou"
 
--- the end of a syllable, behind the draw that says whether it ends with a consonant: one of these
--- consonants where that draw is 0, else nothing
+-- the end of a syllable: one of these consonants where the draw before it is 0, else nothing
 unfoldable pub ending : ℕ → Made
-ending x = let y = next_state x in if drawn 4 x == 0
-    then record { text = slice_index (codes "nrs") (drawn 3 y) ∷ []; state = y }
+ending x = let y = next_state x in if draw 4 x == 0
+    then record { text = slice_index (codes "nrs") (draw 3 y) ∷ []; state = y }
     else record { text = []; state = x }
 
 -- a syllable: a consonant, a vowel, and its end
 unfoldable pub syllable : ℕ → Made
 syllable x = let c = next_state x in let v = next_state c in let end = ending (next_state v) in
-    let front = slice_index consonants (drawn 12 c) ∷ slice_index vowels (drawn 5 v) ∷ [] in
+    let front = slice_index consonants (draw 12 c) ∷ slice_index vowels (draw 5 v) ∷ [] in
     record { text = front ++ end.text; state = end.state }
 
 -- so many further syllables, each behind a hyphen
-abbrev pub further : ℕ → ℕ → Made
-further zero x = record { text = []; state = x }
-further (suc n) x = let one = syllable x in let more = further n one.state in
+abbrev pub further_syllables : ℕ → ℕ → Made
+further_syllables zero x = record { text = []; state = x }
+further_syllables (suc n) x = let one = syllable x in let more = further_syllables n one.state in
     record { text = 45 ∷ (one.text ++ more.text); state = more.state }
 
 -- a word of 2 to 4 syllables
 unfoldable pub word : ℕ → Made
 word x = let size = next_state x in let first = syllable size in
-    let more = further (drawn 3 size + 1) first.state in
+    let more = further_syllables (draw 3 size + 1) first.state in
     record { text = first.text ++ more.text; state = more.state }
 
 -- so many words, one after the other
@@ -65,8 +64,7 @@ words_made (suc n) x = (word x).text ∷ words_made n (word x).state
 abbrev pub sample_text : ℕ → ℕ → List ℕ
 sample_text seed count = flat_map (λ text. text ++ 10 ∷ []) (words_made count seed)
 
--- what the items of this file are: two levels, the first with lengths 1 to 3 and the second with
--- lengths 2 to 4
+-- the two levels of the file: the first with lengths 1 to 3, the second with lengths 2 to 4
 abbrev pub sample_parameters : Parameters
 sample_parameters = parameters_of (items (codes "1 2  1 3 1 2 20  2 4 2 1 8"))
 
@@ -81,8 +79,7 @@ abbrev pub is_printed : List ℕ → Bool
 is_printed line = starts_with nat_eq line (codes "level")
     || starts_with nat_eq line (codes "total") || starts_with nat_eq line (codes "rate")
 
--- the lines that `sample` prints: those lines of the report, each with its line's end, and the Done
--- line
+-- what `sample` prints: those lines of the report, and the Done line
 abbrev pub sample_lines : ℕ → ℕ → List ℕ
 sample_lines seed count = let i = sample_inputs seed count in
     flat_map (λ line. line ++ 10 ∷ []) (filter is_printed (lines (selected_report i)))

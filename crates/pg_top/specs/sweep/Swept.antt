@@ -40,7 +40,7 @@ winner_line winner cost = codes "winner: set " ++ decimal winner
     ++ codes ", cost " ++ decimal cost ++ codes "\n"
 
 -- what a sweep with these rows writes and prints: its file, and which set wins
-abbrev pub sweep_ends : SweepRequest → List SweepRow → Outcome
-sweep_ends s rows = let winner = winner_of (costs_of rows) in
+abbrev pub outcome_of_sweep : SweepRequest → List SweepRow → Outcome
+outcome_of_sweep s rows = let winner = winner_of (costs_of rows) in
     Ends Done ((s.output, sweep_file s.folds rows winner) ∷ [])
     (winner_line winner (slice_index (costs_of rows) (winner - 1)))

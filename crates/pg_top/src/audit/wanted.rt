@@ -1,6 +1,6 @@
 //! The texts that given files should be.
 ghost use Rattle.std.specs.Prelude.{◌≡◌, ◌++◌, ◌+◌, IfOk, OnOk};
-ghost use Rattle.pg_driver.specs.Inside.Told.{account_of};
+ghost use Rattle.pg_driver.specs.Inside.RunAccounts.{account_of};
 ghost use Rattle.pg_patterns.specs.Inside.PatternMaps.{SignsUpTo};
 ghost use Rattle.pg_select.specs.Inside.Meanings.{new_engine};
 ghost use Rattle.pg_top.specs.audit.Audited.{given_file, given_files};
@@ -26,7 +26,7 @@ use std::alloc::{AllocError, Global};
 pub struct Wanted<'a> {
     /// Which file it is.
     pub given: Given,
-    /// Its name.
+    /// The name of the file.
     pub name: &'a str,
     /// The text that it should be.
     pub text: Vec<u8>,

@@ -1,6 +1,6 @@
 //! What `generate` writes and prints.
 ghost use Rattle.std.specs.Prelude.{◌≡◌, ◌++◌, [], ◌∷◌, IfOk, OnOk, Some};
-ghost use Rattle.pg_driver.specs.Inside.Told.{account_of, TellsCells};
+ghost use Rattle.pg_driver.specs.Inside.RunAccounts.{account_of, TellsCells};
 ghost use Rattle.pg_packed.specs.Inside.Starts.{pattern_families};
 ghost use Rattle.pg_patterns.specs.Inside.PatternMaps.{SignsUpTo};
 ghost use Rattle.pg_select.specs.Inside.Meanings.{new_engine};
@@ -10,7 +10,7 @@ ghost use Rattle.pg_top.specs.Inside.SelectionAccounts.{work_line, selected_cell
 ghost use Rattle.pg_words.specs.Requests.{if_asked};
 ghost use Rattle.pg_top.specs.Selection.{signs_of, selected, selected_list, selected_cells_text, selected_text, selected_report};
 ghost use Rattle.pg_top.specs.Inside.SelectionSigns.{HasSigns};
-ghost use Rattle.pg_top.specs.Inside.Written.{writing_of};
+ghost use Rattle.pg_top.specs.Inside.WritesMade.{writing_of};
 ghost use Rattle.pg_types.specs.Lines.{lines};
 
 use crate::printed::done_line;

@@ -23,7 +23,7 @@ use std::alloc::Global;
 pub struct Source {
     /// The table of the translate file.
     pub table: Table,
-    /// The patterns.
+    /// What the pattern file holds.
     pub patterns: PatternSet,
 }
 

@@ -5,12 +5,12 @@ ghost use Rattle.pg_translate.specs.Alphabets.{letters_of};
 ghost use Rattle.pg_top.specs.Outcomes.{Ends};
 ghost use Rattle.pg_top.specs.declared.answers.Status.TheVariants.{Done};
 ghost use Rattle.pg_patterns.specs.Texts.{pattern_text};
-ghost use Rattle.pg_top.specs.pack.Packed.{packed, packed_line as packed_line_of};
+ghost use Rattle.pg_top.specs.pack.Packed.{outcome_of_pack, packed_line as packed_line_of};
 ghost use Rattle.pg_top.specs.totals.Totalled.{packed_table};
 ghost use Rattle.pg_top.specs.Promises.{GivesValues};
 ghost use Rattle.pg_top.specs.pack.Inside.Inputs.{stop_of_table, packed_text};
 ghost use Rattle.pg_top.specs.Inside.Stops.{StopsMaking};
-ghost use Rattle.pg_top.specs.Inside.Written.{written_names, writing_of};
+ghost use Rattle.pg_top.specs.Inside.WritesMade.{written_names, writing_of};
 ghost use Rattle.pg_types.specs.Lines.{lines};
 
 use crate::inputs::{Input, Stop};
@@ -87,7 +87,8 @@ pub fn make_table<'a, W: Watch>(
     watch: &W,
 ) -> Result<Outputs<'a>, Stop<'a>>
     requires { SignsUpTo (letters_of source.now.table + 1) source.now.patterns }
-    ensures made { IfOk result (λ made. packed name.now source.now.table source.now.patterns
+    ensures made { IfOk result
+        (λ made. outcome_of_pack name.now source.now.table source.now.patterns
         ≡ Ends Done (writing_of made.files.items) made.lines.items) }
     ensures named { IfOk result
         (λ made. written_names (writing_of made.files.items) ≡ name.now ∷ []) }
@@ -100,7 +101,7 @@ pub fn make_table<'a, W: Watch>(
     ensures gives { IfOk result (λ _.
         GivesValues (packed_text source.now.table source.now.patterns) source.now.patterns) }
     ensures stopped { IfErr result
-        (StopsMaking (packed name.now source.now.table source.now.patterns)) }
+        (StopsMaking (outcome_of_pack name.now source.now.table source.now.patterns)) }
 {
     let _kept = source.patterns.len();
     match table_text(alloc, source.table.letters() + 1, &source.patterns) {

@@ -22,9 +22,9 @@ use std::alloc::Global;
 pub struct PruneInputs {
     /// The table of the translate file.
     pub table: Table,
-    /// The patterns.
+    /// What the pattern file holds.
     pub patterns: PatternSet,
-    /// The words.
+    /// The words of the dictionary file.
     pub dictionary: Dictionary,
 }
 
@@ -40,7 +40,8 @@ pub fn read_prune<'a, F: Files, W: Watch>(
         HasPrune (file_at files) (prune_of names.now) inputs)) }
     ensures known { IfOk result HasKnownSigns }
     ensures stopped { IfErr result
-        (StopsReading (reads_of (ToPrune (prune_of names.now))) (F.shown files.old) (F.shown files.new)) }
+        (StopsReading (reads_of (ToPrune (prune_of names.now)))
+        (F.shown files.old) (F.shown files.new)) }
     ensures counted { IfOk result (λ _. MakesCalls (F.shown files.old) (F.shown files.new)
         (read_calls (reads_of (ToPrune (prune_of names.now))))) }
 {

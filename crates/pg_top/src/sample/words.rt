@@ -1,6 +1,6 @@
 //! The dictionary of `sample`: words made from a number.
 ghost use Rattle.std.specs.Prelude.{◌≡◌, ◌≤◌, ◌<◌, ◌^◌, ◌++◌, IfOk, OnOk};
-ghost use Rattle.pg_top.specs.sample.Sampled.{next_state, ending, syllable as syllable_of, further, word as word_of_state, sample_text as text_of};
+ghost use Rattle.pg_top.specs.sample.Sampled.{next_state, ending, syllable as syllable_of, further_syllables, word as word_of_state, sample_text as text_of};
 
 use std::alloc::{AllocError, Global};
 
@@ -22,13 +22,13 @@ struct Draws {
 
 impl Draws {
     ghost use Rattle.std.specs.Prelude.{◌≡◌, ◌<◌};
-    ghost use Rattle.pg_top.specs.sample.Sampled.{next_state, drawn};
+    ghost use Rattle.pg_top.specs.sample.Sampled.{next_state, draw};
 
     /// Draws a number below `most`.
     fn draw(&mut self, most: u32) -> u32
         requires { 0 < most }
         ensures state { self.new.state ≡ next_state self.old.state }
-        ensures drawn { result ≡ drawn most self.new.state }
+        ensures drawn { result ≡ draw most self.new.state }
         ensures below { result < most }
     {
         self.state = ((1_103_515_245 * u64::from(self.state) + 12_345) % (1 << 31)) as u32;
@@ -64,8 +64,9 @@ fn push_syllable(text: &mut Vec<u8>, draws: &mut Draws) -> Result<(), AllocError
 /// Appends further syllables, each behind a hyphen.
 fn push_further(text: &mut Vec<u8>, draws: &mut Draws, count: u32) -> Result<(), AllocError>
     ensures text { OnOk result
-        (text.new.items ≡ text.old.items ++ (further count draws.old.state).text) }
-    ensures state { OnOk result (draws.new.state ≡ (further count draws.old.state).state) }
+        (text.new.items ≡ text.old.items ++ (further_syllables count draws.old.state).text) }
+    ensures state { OnOk result (draws.new.state
+        ≡ (further_syllables count draws.old.state).state) }
 {
     'syllables: for i in 0..count {
         text.push(b'-')?;

@@ -50,7 +50,8 @@ pub fn read_sweep<'a, F: Files, W: Watch>(
     ensures count { IfOk result
         (λ inputs. (1 ≤ length inputs.sets.items) × (length inputs.sets.items ≤ 16)) }
     ensures stopped { IfErr result
-        (StopsReading (reads_of (ToSweep (sweep_of words.now))) (F.shown files.old) (F.shown files.new)) }
+        (StopsReading (reads_of (ToSweep (sweep_of words.now)))
+        (F.shown files.old) (F.shown files.new)) }
     ensures counted { IfOk result (λ _. MakesCalls (F.shown files.old) (F.shown files.new)
         (read_calls (reads_of (ToSweep (sweep_of words.now))))) }
 {

@@ -5,8 +5,8 @@ ghost use Rattle.pg_top.specs.sweep.Swept.{winner_line as winner_line_of};
 ghost use Rattle.pg_sweep.specs.Files.{sweep_file};
 ghost use Rattle.pg_words.specs.Inside.Asked.{sweep_of, KeepsSweepLimits};
 ghost use Rattle.pg_top.specs.Outcomes.{Ends};
-ghost use Rattle.pg_top.specs.sweep.Inside.Inputs.{terms_of, HasSigns, line_of_sweep, swept};
-ghost use Rattle.pg_top.specs.Inside.Written.{written_names, writing_of};
+ghost use Rattle.pg_top.specs.sweep.Inside.Inputs.{terms_of, HasSigns, line_of_sweep, outcome_of_sets};
+ghost use Rattle.pg_top.specs.Inside.WritesMade.{written_names, writing_of};
 ghost use Rattle.pg_top.specs.declared.answers.Status.TheVariants.{Done};
 
 use crate::sweep::engines::Packed;
@@ -67,7 +67,8 @@ pub fn make_sweep<'a, W: Watch>(
     requires signs { HasSigns inputs.now }
     requires count { (1 ≤ length inputs.now.sets.items) × (length inputs.now.sets.items ≤ 16) }
     ensures made { IfOk result (λ made.
-        swept (sweep_of words.now) (terms_of words.now.folds inputs.now) inputs.now.sets.items
+        outcome_of_sets (sweep_of words.now)
+        (terms_of words.now.folds inputs.now) inputs.now.sets.items
         ≡ Ends Done (writing_of made.files.items) made.lines.items) }
     ensures named { IfOk result (λ made.
         written_names (writing_of made.files.items) ≡ words.now.output.now ∷ []) }

@@ -22,8 +22,7 @@ pair_at head column = (in_column head column, in_column head (column + 1))
 abbrev pub is_blank_pair : ℕ × ℕ → Bool
 is_blank_pair pair = pair.0 == 32 && pair.1 == 32
 
--- the value of a digit and a blank, a blank and a digit, or two digits; 0, which is no minimum, for
--- other pairs
+-- the value of a digit and a blank, in either order, or of two digits; 0 for other pairs
 abbrev pub pair_value : ℕ → ℕ → ℕ
 pair_value first second =
     if is_ascii_digit first
@@ -105,8 +104,7 @@ spellings_behind line letter delimiter text = spellings_at line 2 letter (pieces
 abbrev pub spellings_of_line : ℕ → ℕ → List ℕ → List ListedSpelling
 spellings_of_line line letter text = spellings_at line 2 letter (pieces_in_line text)
 
--- the spellings of a line with these pieces, before those of the lines after it, which begin with
--- the next letter
+-- the spellings of a line with these pieces, before those of the lines after it
 abbrev pub with_line_spellings : ℕ → ℕ → List (List ℕ)
     → (ℕ → List ListedSpelling) → List ListedSpelling
 with_line_spellings line letter [] later = later letter
@@ -127,8 +125,7 @@ spelling_checks_from marks earlier (s ∷ later) =
     spelling_check marks earlier s ++ spelling_checks_from marks
     (earlier ++ spelling_with_sign s ∷ []) later
 
--- whether all spellings pass their checks beside earlier ones, or the refusal of the first that
--- fails
+-- whether all spellings pass beside earlier ones, or the refusal of the first that fails
 abbrev pub spellings_outcome : List ℕ → List (ℕ × List ℕ)
     → List ListedSpelling → Result (Unit {0}) Refusal
 spellings_outcome marks earlier spellings =

@@ -48,8 +48,7 @@ abbrev pub front_in : List (ℕ × List ℕ) → List ℕ → Option Front
 front_in [] text = None
 front_in (spelling ∷ spellings) text = option_or (front_in spellings text) (front_of spelling text)
 
--- an index that knows the fronts of its spellings, and their first spellings; the spellings do not
--- clash
+-- an index knows its spellings, their fronts and the first spellings; no two spellings clash
 pub record IsIndex (index : Index) : Type 0 where
   pub fronts : (text : List ℕ) → AreBytes text → 0 < length text
       → front_at index (front_code text) ≡ front_in (pairs index) text

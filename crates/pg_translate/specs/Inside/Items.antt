@@ -34,8 +34,7 @@ IsMark t Missed text = text ≡ mark_byte_of t Missed ∷ []
 IsMark t Found text = text ≡ mark_byte_of t Found ∷ []
 IsMark t DontCare text = text ≡ mark_byte_of t DontCare ∷ []
 
--- a text is an item: a spelling, a digit, in a dictionary also a weight or a mark, and in patterns
--- also the dot of the edge
+-- a text is an item: a spelling or digit, a weight or mark in a dictionary, the edge in patterns
 abbrev pub IsItem : Alphabet → Place → Token → List ℕ → Type 0
 IsItem t place (Letter sign) text = IsAmong (sign, text) t.spellings
 IsItem t place (Digit digit) text = (digit ≤ 9) × (text ≡ (48 + digit) ∷ [])
@@ -74,9 +73,7 @@ items_at column [] = []
 items_at column (item ∷ items) = record { column = column; token = item.0 } ∷ items_at
     (column + length item.1) items
 
--- a cut is the longest of a line whose first byte has this column: it has the items of a cut of
--- which every cut is a prefix, each with the column of its first byte, the column behind them, and
--- what stands there
+-- the longest cut of a line from this column on, of which every cut is a prefix
 pub record IsLongest (t : Alphabet) (place : Place)
     (column : ℕ) (line : List ℕ) (c : Cut) : Type 0 where
   pub items : List (Token × List ℕ)

@@ -4,7 +4,7 @@ use Rattle.std.specs.Option.{option_or}
 use Rattle.pg_types.specs.declared.refusals.Kind.{Kind}
 use Rattle.pg_types.specs.declared.refusals.Refusal.{Refusal}
 use Rattle.pg_translate.specs.declared.items.Place.{Place}
-use Rattle.pg_types.specs.Reading.{refused, unless}
+use Rattle.pg_types.specs.Reading.{refusal_at, unless}
 use Rattle.pg_translate.specs.Alphabets.{Alphabet}
 use Rattle.pg_translate.specs.Tokens.{Token, is_ended}
 use Rattle.pg_translate.specs.Cuts.{Placed, Cut, cut, tokens_of}
@@ -26,13 +26,12 @@ sign_column item = option_map (λ _. item.column) (sign_of item.token)
 -- the refusal where the cut of a line stops, unless that is at its end or before a blank or TAB
 abbrev pub stop_refusal : Place → ℕ → Cut → Option Refusal
 stop_refusal place line c = if is_ended c.rest then None
-    else Some (refused line (bad_kind place c.rest) c.column)
+    else Some (refusal_at line (bad_kind place c.rest) c.column)
 
--- the refusal of a line in which so many signs may still come: that of the sign too many, else
--- where its cut stops
+-- the refusal of a line with room for so many signs: the sign too many, else where its cut stops
 abbrev pub refusal_with_room : Place → ℕ → ℕ → Cut → Option Refusal
 refusal_with_room place line room c =
-    option_or (option_map (refused line (long_kind place)) (slice_get (sign_columns c) room))
+    option_or (option_map (refusal_at line (long_kind place)) (slice_get (sign_columns c) room))
     (stop_refusal place line c)
 
 -- what the items of a line give, or its refusal

@@ -19,8 +19,7 @@ alphabet_in head index =
       spellings = pairs index;
     }
 
--- the rules of the translate file on minima, marks, letters and spellings, and an index that knows
--- the spellings
+-- minima, marks, letters and spellings keep the rules, and an index knows the spellings
 pub record IsTable (head : Head) (index : Index) : Type 0 where
   pub head_sound : IsSoundHead head
   pub index_sound : IsIndex index

@@ -1,10 +1,10 @@
--- The list of a string: its values and hopeless marks by rising dot, each as a value and its dot. A
--- mark is the value HOPELESS, and of one dot the value stands before the mark.
+-- The list of a string: its values and hopeless entries by rising dot, each as a value and its dot.
+-- A hopeless one is the value HOPELESS, and of one dot the value stands before it.
 use Rattle.std.specs.Prelude.{ℕ, ◌+◌, ◌*◌, ◌≤◌, max, nat_lt, nat_eq, if◌then◌else◌, List, [], ◌∷◌, ◌++◌, length, Option, None, Some}
 use Rattle.std.specs.List.{flat_map, range_with_len}
 use Rattle.std.specs.FinMap.Entries.{find}
 use Rattle.pg_patterns.specs.DottedSigns.{dotted_cmp}
-use Rattle.pg_trie.specs.declared.mark.TheConstants.{HOPELESS}
+use Rattle.pg_trie.specs.declared.hopeless.TheConstants.{HOPELESS}
 pub use Rattle.pg_cells.specs.Inside.Walks.{IsAt}
 pub use Rattle.pg_outputs.specs.Lists.{list_of}
 
@@ -13,31 +13,31 @@ abbrev pub value_part : Option ℕ → ℕ → List (ℕ × ℕ)
 value_part None d = []
 value_part (Some v) d = (v, d) ∷ []
 
--- a hopeless mark at a dot, as a list
-abbrev pub mark_part : Option (Unit {0}) → ℕ → List (ℕ × ℕ)
-mark_part None d = []
-mark_part (Some _) d = (HOPELESS, d) ∷ []
+-- a hopeless entry at a dot, as a list
+abbrev pub hopeless_part : Option (Unit {0}) → ℕ → List (ℕ × ℕ)
+hopeless_part None d = []
+hopeless_part (Some _) d = (HOPELESS, d) ∷ []
 
 -- what the maps say of the string q at the dot d
 abbrev pub outputs_at_dot : List ((List ℕ × ℕ) × ℕ)
     → List ((List ℕ × ℕ) × Unit {0}) → List ℕ → ℕ → List (ℕ × ℕ)
 outputs_at_dot P H q d = value_part (find dotted_cmp (q, d) P) d
-    ++ mark_part (find dotted_cmp (q, d) H) d
+    ++ hopeless_part (find dotted_cmp (q, d) H) d
 
--- the list of the string q by the maps P of values and H of hopeless marks
+-- the list of the string q by the maps P of values and H of hopeless entries
 unfoldable pub outputs_at : List ((List ℕ × ℕ) × ℕ)
     → List ((List ℕ × ℕ) × Unit {0}) → List ℕ → List (ℕ × ℕ)
 outputs_at P H q = flat_map (outputs_at_dot P H q) (range_with_len 0 (length q + 1))
 
--- where a value and its dot stand in a list: by the dot, and at one dot the value before the mark
+-- where a value and its dot stand in a list: by the dot, a value before the hopeless entry
 abbrev pub rank : ℕ × ℕ → ℕ
 rank x = 2 * x.1 + (if nat_lt x.0 HOPELESS then 0 else 1)
 
 -- the list with x: of one rank the greater value counts
-abbrev pub entered : ℕ × ℕ → List (ℕ × ℕ) → List (ℕ × ℕ)
-entered x [] = x ∷ []
-entered x (y ∷ ys) = if nat_lt (rank x) (rank y) then x ∷ y ∷ ys
-    else (if nat_eq (rank x) (rank y) then (max x.0 y.0, y.1) ∷ ys else y ∷ entered x ys)
+abbrev pub list_with : ℕ × ℕ → List (ℕ × ℕ) → List (ℕ × ℕ)
+list_with x [] = x ∷ []
+list_with x (y ∷ ys) = if nat_lt (rank x) (rank y) then x ∷ y ∷ ys
+    else (if nat_eq (rank x) (rank y) then (max x.0 y.0, y.1) ∷ ys else y ∷ list_with x ys)
 
 -- the ranks rise from r on, and each value is 1 to HOPELESS
 abbrev pub Rises : ℕ → List (ℕ × ℕ) → Type 0

@@ -1,5 +1,5 @@
--- A pattern trie as two maps from places, the families of its strings, and the records of its
--- lists.
+-- A pattern trie as two maps from dotted strings, the families of its strings, and the records of
+-- its lists.
 use Rattle.std.specs.Prelude.{◌≡◌, ℕ, ◌≤◌, nat_lt, nat_le, if◌then◌else◌, Bool, true, ◌&&◌, T, List, [], ◌∷◌, length, Option, None, Some}
 use Rattle.std.specs.List.{flat_map, list_all}
 use Rattle.std.specs.FinMap.Entries.{is_sorted}
@@ -10,10 +10,9 @@ use Rattle.pg_patterns.specs.Inside.PatternMaps.{IsPatternMap, SignsUpTo}
 use Rattle.pg_outputs.specs.declared.records.Record.{Record}
 use Rattle.pg_outputs.specs.Lists.{list_of}
 use Rattle.pg_cells.specs.Inside.ValuedFamilies.{ValuedFamilies}
-use Rattle.pg_trie.specs.declared.mark.TheConstants.{HOPELESS}
+use Rattle.pg_trie.specs.declared.hopeless.TheConstants.{HOPELESS}
 
--- the greatest sign; the families of the strings; the values and the hopeless marks by their
--- places; and the records of the lists
+-- what a trie holds: its families, the values and the hopeless dotted strings, and the records
 pub record Maps : Type 0 where
   pub signs : ℕ
   pub families : Families
@@ -21,14 +20,13 @@ pub record Maps : Type 0 where
   pub hopeless : List ((List ℕ × ℕ) × Unit {0})
   pub records : List Record
 
--- what an entry of a list adds to the map of values: its value, or nothing where it is the hopeless
--- mark
+-- what an entry of a list adds to the map of values: its value, or nothing where it is hopeless
 abbrev pub as_value : ℕ → Option ℕ
 as_value v = if nat_lt v HOPELESS then Some v else None
 
--- what an entry of a list adds to the map of hopeless marks
-abbrev pub as_mark : ℕ → Option (Unit {0})
-as_mark v = if nat_lt v HOPELESS then None else Some (tt {0})
+-- what an entry of a list adds to the map of hopeless entries
+abbrev pub as_hopeless : ℕ → Option (Unit {0})
+as_hopeless v = if nat_lt v HOPELESS then None else Some (tt {0})
 
 module _ {X : Type 0} (pick : ℕ → Option X) where
   -- an entry before others, where there is one
@@ -51,17 +49,16 @@ maps_of cells records = record {
   signs = cells.signs;
   families = cells.families;
   patterns = entries as_value (list_of records) cells.values;
-  hopeless = entries as_mark (list_of records) cells.values;
+  hopeless = entries as_hopeless (list_of records) cells.values;
   records = records;
 }
 
--- a place has 1 to 32 signs, each 1 to n, and its dot is at most their number
+-- a dotted string has 1 to 32 signs, each 1 to n, and its dot is at most their number
 abbrev pub is_dotted : ℕ → List ℕ × ℕ → Bool
 is_dotted n k = nat_le 1 (length k.0) && nat_le (length k.0) PATTERN_SIGNS_MAX
     && list_all (λ s. nat_le 1 s && nat_le s n) k.0 && nat_le k.1 (length k.0)
 
--- what every trie keeps: the values are those of a map of patterns, and each hopeless mark stands
--- once, in order, at a place
+-- what every trie keeps: the values are a map of patterns, and the hopeless strings stand in order
 pub record AreKept (m : Maps) : Type 0 where
   pub signs : m.signs ≤ SIGNS_MAX
   pub patterns : IsPatternMap m.patterns

@@ -45,8 +45,7 @@ pub record Drops (old new : ValuedFamilies ℕ) (q : List ℕ) : Type 0 where
   pub either : ((new ≡ old) × IsNeeded old q) ⊎ IsDropped old new q
   pub cells : (r : List ℕ) → r ≢ q → cell_of new.families r ≡ cell_of old.families r
 
--- the test tells which strings are to keep their cells: those of one sign, those with a list, and
--- those from which a string that keeps its cell goes on
+-- the test tells which strings keep their cells: signs, strings with a list, and their prefixes
 pub record IsKeep (keep : List ℕ → Bool) (h : ValuedFamilies ℕ) : Type 0 where
   pub single : (q : List ℕ) → length q ≤ 1 → keep q ≡ true
   pub listed : (q : List ℕ) (v : ℕ) → find (slice_cmp nat_cmp) q h.values ≡ Some v
@@ -70,8 +69,7 @@ pub record PrunesSome (keep : List ℕ → Bool) (old new : ValuedFamilies ℕ) 
 abbrev pub IsBelow : List ℕ → List ℕ → Type 0
 IsBelow q r = (x : ℕ) × (more : List ℕ) × (r ≡ q ++ x ∷ more)
 
--- of the strings that go on from q by a sign before s, or by any where s is 0, those that are not
--- to keep their cells have lost them; other strings are as before
+-- of the strings that go on from q by a sign before s, those that are not to keep cells lost them
 pub record PrunesTo (old new : ValuedFamilies ℕ) (q : List ℕ) (s : ℕ) : Type 0 where
   pub held : AreValuedFamilies new
   pub signs : new.signs ≡ old.signs
@@ -88,7 +86,7 @@ pub record PrunesTo (old new : ValuedFamilies ℕ) (q : List ℕ) (s : ℕ) : Ty
       → (x : ℕ) (more : List ℕ) → (s ≡ 0) ⊎ (x < s)
       → keep (q ++ x ∷ more) ≡ false → find (slice_cmp nat_cmp) (q ++ x ∷ more) new.values ≡ None
 
--- the same for all strings that go on from q
+-- of the strings that go on from q, those that are not to keep their cells have lost them
 abbrev pub PrunesBelow : ValuedFamilies ℕ → ValuedFamilies ℕ → List ℕ → Type 0
 PrunesBelow old new q = PrunesTo old new q 0
 

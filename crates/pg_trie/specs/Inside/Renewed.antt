@@ -1,4 +1,4 @@
--- New records of the lists without their hopeless marks, and what the cells make of them.
+-- New records of the lists without their hopeless entries, and what the cells make of them.
 use Rattle.std.specs.Prelude.{◌≡◌, ℕ, ◌+◌, ◌<◌, ◌≤◌, nat_lt, if◌then◌else◌, List, ◌++◌, filter, length, get_or, Some}
 use Rattle.std.specs.Ordering.{nat_cmp}
 use Rattle.std.specs.Cmp.Lexicographic.{slice_cmp}
@@ -8,9 +8,9 @@ use Rattle.pg_outputs.specs.declared.records.Record.{Record}
 use Rattle.pg_outputs.specs.Lists.{list_of}
 use Rattle.pg_cells.specs.Inside.ValuedFamilies.{ValuedFamilies}
 use Rattle.pg_cells.specs.Inside.AreValuedFamilies.{AreValuedFamilies}
-use Rattle.pg_trie.specs.declared.mark.TheConstants.{HOPELESS}
+use Rattle.pg_trie.specs.declared.hopeless.TheConstants.{HOPELESS}
 
--- the list without its marks
+-- the list without its hopeless entries
 abbrev pub values_in : List (ℕ × ℕ) → List (ℕ × ℕ)
 values_in l = filter (λ x. nat_lt x.0 HOPELESS) l
 
@@ -18,7 +18,7 @@ values_in l = filter (λ x. nat_lt x.0 HOPELESS) l
 abbrev pub IsEnd : List (ℕ × ℕ) → List (ℕ × ℕ) → Type 0
 IsEnd l list = (front : List (ℕ × ℕ)) × (list ≡ front ++ l)
 
--- a head among the new records whose list is that of an old head without its marks
+-- a head among the new records whose list is that of an old head without its hopeless entries
 pub record IsFreshHead (records : List Record) (old : ℕ)
     (fresh : List Record) (head : ℕ) : Type 0 where
   pub inside : head ≤ length fresh
@@ -28,8 +28,7 @@ pub record IsFreshHead (records : List Record) (old : ℕ)
 abbrev pub AreNeeded : List Record → List Record → List (ℕ × ℕ) → Type 0
 AreNeeded old new list = (h : ℕ) → length old < h → h ≤ length new → IsEnd (list_of new h) list
 
--- beside each head of a string whose cell is below n stands the head of its values among the new
--- records, and there are no others
+-- beside each head of a string with a cell below n stands that of its values in the new records
 pub record AreFreshTo (cells : ValuedFamilies ℕ) (records : List Record)
     (n : ℕ) (fresh : List Record) (heads : List ℕ) : Type 0 where
   pub size : length heads ≡ length records + 1
@@ -40,13 +39,12 @@ pub record AreFreshTo (cells : ValuedFamilies ℕ) (records : List Record)
       → (q : List ℕ) × (old : ℕ) × (find (slice_cmp nat_cmp) q cells.values ≡ Some old)
       × IsEnd (list_of fresh h) (values_in (list_of records old))
 
--- the same for the heads of all strings
+-- beside each head of a string stands that of its values in the new records, and no other
 abbrev pub AreFresh : ValuedFamilies ℕ → List Record → List Record → List ℕ → Type 0
 AreFresh cells records fresh heads = (n : ℕ) × AreFreshTo cells records n fresh heads
     × ((q : List ℕ) (cell : ℕ) → cell_of cells.families q ≡ Some cell → cell < n)
 
--- the strings whose cells are below n have the heads that stand beside their old ones, and the
--- others their old heads
+-- strings with cells below n have the heads beside their old ones, and the others their old heads
 pub record RenewsTo (old : ValuedFamilies ℕ) (n : ℕ)
     (heads : List ℕ) (new : ValuedFamilies ℕ) : Type 0 where
   pub held : AreValuedFamilies new

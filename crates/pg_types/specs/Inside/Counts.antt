@@ -32,14 +32,14 @@ abbrev pub is_counted : Counts → List ℕ → Bool
 is_counted counts u = is_some (counted_sums counts u)
 
 -- the counts of the windows that are greater than u
-abbrev pub above : List ℕ → Counts → Counts
-above u counts = filter (λ e. is_lt (slice_cmp nat_cmp u e.0)) counts
+abbrev pub windows_above : List ℕ → Counts → Counts
+windows_above u counts = filter (λ e. is_lt (slice_cmp nat_cmp u e.0)) counts
 
--- what a look for the least window above `old` finds: that window and its sums; or none, where
--- there is none, and then `new` is `old`
+-- the least window above `old` was found, with its sums; or there is none, and `new` is `old`
 abbrev pub IsNextAbove : Counts → List ℕ → List ℕ → Option (ℕ × ℕ) → Type 0
-IsNextAbove counts old new None = (above old counts ≡ []) × (new ≡ old)
-IsNextAbove counts old new (Some sums) = above old counts ≡ (new, sums) ∷ above new counts
+IsNextAbove counts old new None = (windows_above old counts ≡ []) × (new ≡ old)
+IsNextAbove counts old new (Some sums) = windows_above old counts
+    ≡ (new, sums) ∷ windows_above new counts
 
 -- both sums are below their limit
 abbrev pub AreSmall : ℕ × ℕ → Type 0

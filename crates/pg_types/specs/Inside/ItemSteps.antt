@@ -11,32 +11,32 @@ abbrev pub Demand : Type 0
 Demand = ℕ × ℕ
 
 -- the demand of a number from the least to the greatest
-abbrev pub between : ℕ → ℕ → Demand
-between least greatest = (least, greatest)
+abbrev pub number_between : ℕ → ℕ → Demand
+number_between least greatest = (least, greatest)
 
 -- the items that are left
-abbrev pub left : Items → List (List ℕ)
-left i = items i.rest.now
+abbrev pub items_left : Items → List (List ℕ)
+items_left i = items i.rest.now
 
 -- items that met these demands were taken: the refusal is that of the others
 abbrev pub Meets : List Demand → Items → Items → Type 0
-Meets ds old new = (more : List Demand) → refusal_from old.place (ds ++ more) (left old)
-    ≡ refusal_from new.place more (left new)
+Meets ds old new = (more : List Demand) → refusal_from old.place (ds ++ more) (items_left old)
+    ≡ refusal_from new.place more (items_left new)
 
 -- an item fails one of these demands, with this refusal
 abbrev pub Misses : List Demand → Items → Refusal → Type 0
 Misses ds old refusal = (more : List Demand)
-    → refusal_from old.place (ds ++ more) (left old) ≡ Some refusal
+    → refusal_from old.place (ds ++ more) (items_left old) ≡ Some refusal
 
 -- what so many levels demand of these items
 abbrev pub demands_of_levels : ℕ → List (List ℕ) → List Demand
 demands_of_levels count xs = flat_map (λ i. level_demands (drop (5 * i) xs))
     (range_with_len 0 count)
 
--- so many levels from these items
+-- so many levels from items
 abbrev pub levels_of : ℕ → List (List ℕ) → List LevelParams
 levels_of count xs = map (λ i. level_of (drop (5 * i) xs)) (range_with_len 0 count)
 
 -- the refusal of the levels of a file, whose items begin with the third
 abbrev pub levels_refusal : ℕ → Items → Option Refusal
-levels_refusal count i = refusal_from 3 (demands_of_levels count (left i)) (left i)
+levels_refusal count i = refusal_from 3 (demands_of_levels count (items_left i)) (items_left i)

@@ -2,8 +2,7 @@
 use Rattle.std.specs.Prelude.{ℕ, ◌+◌, ◌*◌, ◌^◌}
 use Rattle.pg_types.specs.declared.limits.TheConstants.{LENGTH_MAX, LEVEL_MAX}
 
--- the number of the item behind the last of a parameters file: the first and the last level, and
--- five numbers for each level
+-- the number behind the last item of a parameters file: two, and five for each level
 abbrev pub items_end : ℕ
 items_end = 2 + 5 * LEVEL_MAX + 1
 
@@ -15,8 +14,7 @@ length_passes = LENGTH_MAX + 1
 abbrev pub level_passes : ℕ
 level_passes = LENGTH_MAX * length_passes
 
--- every sum of weights of positions is below this: the longest dictionary has FILE_MAX letters and
--- no more positions in reach, each with a weight of at most WEIGHT_MAX
+-- every sum of weights is below this: FILE_MAX letters, each position of at most WEIGHT_MAX
 abbrev pub sums_limit : ℕ
 sums_limit = 2 ^ 40
 

@@ -5,7 +5,7 @@ use Rattle.std.specs.List.{list_all}
 use Rattle.std.specs.Char.{is_ascii_digit}
 use Rattle.pg_types.specs.declared.refusals.Kind.{Kind}
 use Rattle.pg_types.specs.declared.refusals.Refusal.{Refusal}
-use Rattle.pg_types.specs.Reading.{refused}
+use Rattle.pg_types.specs.Reading.{refusal_at}
 use Rattle.pg_types.specs.Parameters.{with_digit}
 
 -- two parts of a list, one behind the other, or the first refusal
@@ -26,5 +26,5 @@ number_from n digits = if list_all is_ascii_digit digits then Some (fold with_di
     else None
 
 -- the refusal of the item with this number
-abbrev pub refused_at : ℕ → Kind → Refusal
-refused_at place kind = refused place kind 0
+abbrev pub refusal_of_item : ℕ → Kind → Refusal
+refusal_of_item place kind = refusal_at place kind 0

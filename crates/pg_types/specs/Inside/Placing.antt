@@ -12,13 +12,11 @@ pub record IsLeast (test : ℕ → Bool) (low b : ℕ) : Type 0 where
   pub meets : test b ≡ true
   pub first : (k : ℕ) → low ≤ k → k < b → test k ≡ false
 
--- whether s joins the family of the prefix p in place: there is a family, and the cell of s is
--- unused
+-- whether s joins the family of the prefix p in place: there is one, and the cell of s is unused
 abbrev pub joins_at : Families → List ℕ → ℕ → Bool
 joins_at fs p s = elim (family_at fs p) [ None ↦ false | Some f ↦ not (is_used fs (f.base + s)) ]
 
--- the families without s in the family of the prefix p. A family without a sign is gone, and the
--- others keep their bases
+-- the families without s in the family of p, which is gone where no sign is left
 unfoldable pub without_sign : Families → List ℕ → ℕ → Families
 without_sign fs p s = elim (family_at fs p) [
   | None ↦ fs

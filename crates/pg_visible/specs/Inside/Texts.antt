@@ -4,8 +4,7 @@ use Rattle.std.specs.List.{list_all}
 use Rattle.pg_visible.specs.declared.text.TheConstants.{LINES_MAX}
 use Rattle.pg_visible.specs.Inside.Bytes.{is_text_byte, line_count}
 
--- a few whole lines without a control byte in them. Each ends with a line feed, so the text is
--- empty or its last byte is a line feed
+-- a few whole lines without a control byte; each ends with a line feed
 pub record IsVisibleText (bytes : List ℕ) : Type 0 where
   pub printable : list_all is_text_byte bytes ≡ true
   pub whole : slice_index (10 ∷ bytes) (length bytes) ≡ 10

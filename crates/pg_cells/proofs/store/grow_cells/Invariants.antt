@@ -1,6 +1,6 @@
 use Rattle.std.proofs.Common.{◌<◌, ◌^◌, ◌-◌, length}
 use Rattle.pg_cells.specs.Inside.Lists.{lists, row_of}
-use Rattle.pg_cells.specs.Inside.Linked.{AreLinked}
+use Rattle.pg_cells.specs.Inside.FreeList.{AreLinked}
 use Rattle.pg_cells.specs.Inside.Store.{Extends}
 use Rattle.pg_cells.proofs.store.grow_cells.Given as goal
 

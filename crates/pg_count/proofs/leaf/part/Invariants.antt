@@ -1,6 +1,6 @@
 use Rattle.std.proofs.Common.{◌≡◌, ℕ, ◌-◌, ◌<◌, ◌≤◌, length, take, Some}
 use Rattle.std.specs.FinMap.{find}
-use Rattle.pg_types.specs.Inside.Numbered.{HasNumber}
+use Rattle.pg_types.specs.Inside.NumberedWindows.{HasNumber}
 use Rattle.pg_types.specs.Placement.{cell_of}
 use Rattle.pg_types.proofs.StringEntries.{order}
 use Rattle.pg_count.specs.Inside.Leaves.{AreLeaves, Keeps}

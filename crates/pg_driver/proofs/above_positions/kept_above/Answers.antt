@@ -1,13 +1,13 @@
 use Rattle.std.proofs.Common.{◌<◌, List, get_or, length, sym, ap, ◌∙◌, arith}
 use Rattle.std.proofs.lemmas.List.{drop_all}
 use Rattle.std.proofs.lemmas.Option.{slice_get-get_or}
-use Rattle.pg_driver.specs.declared.pass_windows.Place.{Place}
+use Rattle.pg_driver.specs.declared.pass_windows.WordPosition.{WordPosition}
 use Rattle.pg_driver.specs.Inside.WordLevels.{kept_by, with_kept}
 use Rattle.pg_driver.proofs.AboveNumbers.{kept_none}
 use Rattle.pg_driver.proofs.AbovePositions.{kept_step}
 use Rattle.pg_driver.proofs.above_positions.kept_above.Goals as goal
 
-no_position : Place
+no_position : WordPosition
 no_position = record { word = 0; at = 0 }
 
 pub add_kept-kept-requires-clause-room : goal.add_kept-kept-requires-clause-room
@@ -30,5 +30,5 @@ pub returns : goal.returns
 returns c = λ params counts ws are decided have.
     let words = c.args.dictionary.now in
     kept_none params c.args.pass counts words c.positions.kept
-    ∙ ap (λ (es : List Place). with_kept c.positions.kept (kept_by params c.args.pass counts words es)) (sym (drop_all c.positions.k c.args.above.now (omega (arith, c.positions-test.false))))
+    ∙ ap (λ (es : List WordPosition). with_kept c.positions.kept (kept_by params c.args.pass counts words es)) (sym (drop_all c.positions.k c.args.above.now (omega (arith, c.positions-test.false))))
     ∙ c.positions.invariant.whole params counts ws are decided have

@@ -1,7 +1,7 @@
 use Rattle.std.proofs.Common.{◌≡◌, drop}
 use Rattle.pg_types.specs.declared.parameters.LevelParams.{LevelParams}
 use Rattle.pg_types.specs.Inside.Counts.{Counts}
-use Rattle.pg_types.specs.Inside.Numbered.{AreNumbered, Windows}
+use Rattle.pg_types.specs.Inside.NumberedWindows.{AreNumbered, Windows}
 use Rattle.pg_driver.specs.Inside.PassWindows.{AreFates, HaveNumbers, is_counted_at}
 use Rattle.pg_driver.specs.Inside.WordLevels.{TookKept, kept_by, with_kept}
 use Rattle.pg_driver.proofs.above_positions.kept_above.Given as goal

@@ -4,12 +4,12 @@ use Rattle.std.proofs.lemmas.List.{length-map, drop_more}
 use Rattle.std.proofs.lemmas.List.Sums.{sum_by-cons}
 use Rattle.std.proofs.lemmas.Option.{slice_get_within, slice_get-get_or, get_or_from_slice_get}
 use Rattle.pg_types.specs.Inside.Counts.{Counts, counted_sums}
-use Rattle.pg_types.specs.Inside.Numbered.{HasNumber}
+use Rattle.pg_types.specs.Inside.NumberedWindows.{HasNumber}
 use Rattle.pg_select.specs.Inside.Meanings.{Meaning}
 use Rattle.pg_select.specs.CountedPositions.{Candidate}
 use Rattle.pg_driver.specs.declared.choices.Choices.{Choices}
 use Rattle.pg_driver.specs.Inside.Choosing.{HasChosen, with_candidates, candidate_of}
-use Rattle.pg_driver.specs.Inside.PassWindows.{IsCandidate, IsPlace}
+use Rattle.pg_driver.specs.Inside.PassWindows.{IsCandidate, IsFirstSign}
 use Rattle.pg_driver.specs.Inside.States.{state_of}
 use Rattle.pg_driver.proofs.ChoiceSteps.{bad_adds, bad_within, good_adds, good_within, keeps_on, numbers_append, state_step, state_with}
 use Rattle.pg_driver.proofs.NumberSteps.{Ahead, ahead, only_one, part_whole}
@@ -72,7 +72,7 @@ choose_one-requires-clause-place g c =
     let a : Ahead m0.windows m0.counts n more inv.rest = ahead m0.windows m0.counts n more inv.rest (sym (ap (map (slice_get m0.windows)) (drop_more c.args.order.now k 0 c.candidates-test.true)) ∙ inv.ahead) inv.part in
     let there : n < length m0.windows = slice_get_within m0.windows n a.entry.0 a.number in
     let within : n < length c.args.places.now = omega (arith, c.requires.places.size, there) in
-    subst (λ (ws : List (List ℕ)). IsPlace c.args.pass c.args.dictionary.now ws n (get_or c.args.places.now n 0)) (sym windows)
+    subst (λ (ws : List (List ℕ)). IsFirstSign c.args.pass c.args.dictionary.now ws n (get_or c.args.places.now n 0)) (sym windows)
     (c.requires.places.each n (get_or c.args.places.now n 0) (slice_get-get_or c.args.places.now n 0 within))
 
 pub choose_one-requires-clause-fate : goal.choose_one-requires-clause-fate

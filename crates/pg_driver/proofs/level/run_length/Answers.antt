@@ -1,7 +1,7 @@
 use Rattle.std.proofs.Common.{◌≡◌, ℕ, ◌+◌, ◌≤◌, inr, List, [], ◌∷◌, ◌++◌, refl, ap, subst, ◌∙◌, arith}
 use Rattle.pg_select.specs.declared.pass.Pass.{Pass}
 use Rattle.pg_driver.specs.Inside.Levels.{GoesOn, all_made_by, point}
-use Rattle.pg_driver.specs.Inside.Told.{known_of}
+use Rattle.pg_driver.specs.Inside.RunAccounts.{known_of}
 use Rattle.pg_driver.specs.Traces.{over}
 use Rattle.pg_driver.specs.Inside.Passes.{known_at_end, passes_of_length}
 use Rattle.pg_driver.proofs.LevelSteps.{all_from, at_whole, none_from, pass_with, passes_from, passes_step, reaches_on}

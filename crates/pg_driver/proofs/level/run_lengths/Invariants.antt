@@ -1,7 +1,7 @@
 use Rattle.std.proofs.Common.{◌≡◌, ◌+◌, ◌*◌, ◌^◌, ◌≤◌, ◌<◌}
 use Rattle.pg_driver.specs.Inside.LevelCounting.{IsCounted, IsReady}
 use Rattle.pg_driver.specs.Inside.Levels.{WillCount, all_made_by}
-use Rattle.pg_driver.specs.Inside.Told.{known_of}
+use Rattle.pg_driver.specs.Inside.RunAccounts.{known_of}
 use Rattle.pg_driver.specs.Traces.{passes_of, over}
 use Rattle.pg_driver.specs.Inside.Passes.{known_at_end}
 use Rattle.pg_driver.proofs.LevelSteps.{Reaches, lengths_from}

@@ -1,6 +1,6 @@
 use Rattle.std.proofs.Common.{◌≡◌, Bool, true, false, ⊎_elim, sym, ◌∙◌}
 use Rattle.pg_driver.specs.Inside.LevelCounting.{IsCounted}
-use Rattle.pg_driver.specs.Inside.Levels.{is_set, unset}
+use Rattle.pg_driver.specs.Inside.Levels.{is_set, no_flags}
 use Rattle.pg_driver.proofs.SkipFlags.{none_set}
 use Rattle.pg_driver.specs.Traces.{over}
 use Rattle.pg_driver.proofs.LevelSteps.{done_on, skipped_on}
@@ -27,7 +27,7 @@ returns-clause-ok g c =
 pub returns-then-is_skippable-clause-counted : goal.returns-then-is_skippable-clause-counted
 returns-then-is_skippable-clause-counted g c = λ will.
     ⊎_elim
-    (λ (none : c.args.closed.now.here ≡ unset). not_both (is_set c.args.closed.now.here c.args.pass.dot) (none_set c.args.closed.now.here c.args.pass.dot none) (sym c.is_skippable.ensures ∙ c.if-is_skippable.true))
+    (λ (none : c.args.closed.now.here ≡ no_flags). not_both (is_set c.args.closed.now.here c.args.pass.dot) (none_set c.args.closed.now.here c.args.pass.dot none) (sym c.is_skippable.ensures ∙ c.if-is_skippable.true))
     (λ (counted : IsCounted c.args.counting.now). counted)
     will
   where

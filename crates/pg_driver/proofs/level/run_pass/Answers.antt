@@ -3,7 +3,7 @@ use Rattle.pg_select.specs.Inside.Meanings.{Meaning}
 use Rattle.pg_driver.specs.Accounts.{totals_by}
 use Rattle.pg_driver.specs.Inside.LevelCounting.{IsReady}
 use Rattle.pg_driver.specs.Inside.States.{State}
-use Rattle.pg_driver.specs.Inside.Told.{known_of}
+use Rattle.pg_driver.specs.Inside.RunAccounts.{known_of}
 use Rattle.pg_driver.specs.Traces.{Known, over}
 use Rattle.pg_driver.proofs.PassSteps.{counted_as, counts_kept, did_pass, numbers_are, pass_state}
 use Rattle.pg_driver.proofs.ReadySteps.{are_of, can_go_on, counted_after, placed, ready_after}

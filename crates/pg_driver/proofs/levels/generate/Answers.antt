@@ -1,9 +1,9 @@
 use Rattle.std.proofs.Common.{ap, ◌∙◌, sym, subst, arith}
 use Rattle.pg_driver.specs.Inside.Sound.{Finished}
 use Rattle.pg_driver.specs.Inside.States.{State}
-use Rattle.pg_driver.specs.Inside.Told.{TellsCells, account_of, cells_from, run_from}
+use Rattle.pg_driver.specs.Inside.RunAccounts.{TellsCells, account_of, cells_from, run_from}
 use Rattle.pg_driver.specs.Traces.{over}
-use Rattle.pg_driver.proofs.ToldSteps.{told_account, told_cells}
+use Rattle.pg_driver.proofs.RunAccountSteps.{told_account, told_cells}
 use Rattle.pg_driver.proofs.levels.generate.Goals as goal
 
 pub returns-clause-patterns : goal.returns-clause-patterns

@@ -5,7 +5,7 @@ use Rattle.pg_patterns.specs.Values.{largest}
 use Rattle.pg_select.specs.Inside.LawsSteps.{IsUpTo}
 use Rattle.pg_driver.specs.Inside.Sound.{Recorded}
 use Rattle.pg_driver.specs.Inside.States.{State}
-use Rattle.pg_driver.specs.Inside.Told.{run_from}
+use Rattle.pg_driver.specs.Inside.RunAccounts.{run_from}
 use Rattle.pg_driver.specs.Traces.{levels_made, over}
 use Rattle.pg_driver.proofs.OpenTraces.{below_level, up_to_next, up_to_starting}
 use Rattle.pg_driver.proofs.RunSteps.{all_levels, level_on, levels_step, no_levels, run_begins, run_whole}

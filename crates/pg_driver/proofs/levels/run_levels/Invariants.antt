@@ -5,7 +5,7 @@ use Rattle.pg_select.specs.Inside.LawsSteps.{IsUpTo}
 use Rattle.pg_driver.specs.Accounts.{totals_by}
 use Rattle.pg_driver.specs.Inside.Sound.{IsSmall}
 use Rattle.pg_driver.specs.Traces.{over}
-use Rattle.pg_driver.specs.Inside.Told.{run_from}
+use Rattle.pg_driver.specs.Inside.RunAccounts.{run_from}
 use Rattle.pg_driver.proofs.RunSteps.{RunReaches}
 use Rattle.pg_driver.proofs.levels.run_levels.Given as goal
 use Rattle.pg_types.specs.Inside.Limits.{level_passes}

@@ -2,7 +2,7 @@ use Rattle.std.proofs.Common.{◌≡◌, ℕ, ◌+◌, ◌<◌, ◌≤◌, [], �
 use Rattle.std.proofs.lemmas.Bool.{cases_eq, cases_lt}
 use Rattle.std.proofs.lemmas.List.{drop_more, drop_all}
 use Rattle.std.proofs.lemmas.Option.{slice_get-get_or}
-use Rattle.pg_dots.specs.Inside.Dots.{is_closed, places as places_in}
+use Rattle.pg_dots.specs.Inside.Dots.{is_closed, position_count as places_in}
 use Rattle.pg_dots.proofs.Walks.{ahead_kept}
 use Rattle.pg_driver.specs.Inside.OpenSigns.{closed_by, open_signs}
 use Rattle.pg_driver.proofs.OpenSigns.{all_shut, open_first, open_skip, open_there}

@@ -1,5 +1,5 @@
 use Rattle.std.proofs.Common.{◌≡◌, ℕ, ◌≤◌, ◌<◌, Bool, drop}
-use Rattle.pg_dots.specs.Inside.Dots.{HasWalk, is_closed, places as places_in}
+use Rattle.pg_dots.specs.Inside.Dots.{HasWalk, is_closed, position_count as places_in}
 use Rattle.pg_dots.specs.Inside.Walks.{IsAhead}
 use Rattle.pg_driver.specs.Inside.OpenSigns.{ClosesBy, open_signs}
 use Rattle.pg_driver.proofs.open_passes.close_dots.Given as goal

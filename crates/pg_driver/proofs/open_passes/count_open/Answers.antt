@@ -2,13 +2,13 @@ use Rattle.std.proofs.Common.{◌≡◌, ℕ, ◌+◌, ◌<◌, ◌≤◌, [], �
 use Rattle.std.specs.List.{flat_map}
 use Rattle.std.proofs.lemmas.List.{map-append}
 use Rattle.pg_dots.specs.Inside.Dots.{is_closed}
-use Rattle.pg_driver.specs.Inside.Counting.{counting, HasRoom}
+use Rattle.pg_driver.specs.Inside.Counting.{meaning_after_counting, HasRoom}
 use Rattle.pg_driver.specs.Inside.PassWindows.{HaveNumbers, counts_at}
 use Rattle.pg_driver.proofs.Rooms.{room_left, room_less}
 use Rattle.pg_driver.proofs.Walks.{counted_step, kept_on}
-use Rattle.pg_driver.specs.declared.pass_windows.Place.{Place}
+use Rattle.pg_driver.specs.declared.pass_windows.WordPosition.{WordPosition}
 use Rattle.pg_driver.specs.Inside.OpenPositions.{counted_of}
-use Rattle.pg_driver.specs.Inside.OpenSigns.{open_signs, place_from, sign_count}
+use Rattle.pg_driver.specs.Inside.OpenSigns.{open_signs, position_from, sign_count}
 use Rattle.pg_driver.proofs.NumberSteps.{have_more, still_have}
 use Rattle.pg_driver.proofs.OpenSigns.{open_first, open_skip, open_upto, upto_all, upto_open, upto_skip}
 use Rattle.pg_driver.proofs.open_passes.count_open.Goals as goal
@@ -26,10 +26,10 @@ signs-init g c =
     let none : [] ≡ open_upto closed next = upto_skip closed 0 next later.after later.passes in
     record {
       kept = refl;
-      whole = ap (λ (xs : List ℕ). counting m0 (flat_map (counted_of pass.level pass.len pass.dot words) (map (place_from 0 words) xs))) (sym skipped);
+      whole = ap (λ (xs : List ℕ). meaning_after_counting m0 (flat_map (counted_of pass.level pass.len pass.dot words) (map (position_from 0 words) xs))) (sym skipped);
       placed = c.requires.places;
       numbered =
-          subst (λ (xs : List ℕ). HaveNumbers pass (counts_at pass) words m0.windows (map (place_from 0 words) xs) c.args.numbers.now.items) none
+          subst (λ (xs : List ℕ). HaveNumbers pass (counts_at pass) words m0.windows (map (position_from 0 words) xs) c.args.numbers.now.items) none
           (subst (HaveNumbers pass (counts_at pass) words m0.windows []) (sym c.requires.none) (record { size = refl; each = λ k e n at to. absurd (let no : None ≡ Some e = at in cc) }));
       room = subst (λ (xs : List ℕ). HasRoom m0.counts (length xs)) skipped c.requires.room;
       inside = later.within;
@@ -63,7 +63,7 @@ signs-preserved g c =
     let words = c.args.dictionary.now in
     let pass = c.args.pass in
     let f = counted_of pass.level pass.len pass.dot words in
-    let place : ℕ → Place = place_from 0 words in
+    let place : ℕ → WordPosition = position_from 0 words in
     let closed : ℕ → Bool = is_closed c.args.dots.now pass.dot in
     let total = sign_count words in
     let inv = c.signs.invariant in
@@ -75,14 +75,14 @@ signs-preserved g c =
     let low : s < total = omega (arith, c.signs-test.true) in
     let free : closed s ≡ false = inv.free (omega (arith, c.requires.size)) in
     let step : open_signs closed s total ≡ s ∷ open_signs closed t total = open_first closed total s low free ∙ ap (λ (xs : List ℕ). s ∷ xs) (open_skip closed total (s + 1) t later.after later.passes) in
-    let ok : after ≡ counting m (f (place s)) = c.in_ok-number.ensures.ok in
+    let ok : after ≡ meaning_after_counting m (f (place s)) = c.in_ok-number.ensures.ok in
     let front : map place (open_upto closed s) ++ place s ∷ [] ≡ map place (open_upto closed t) = sym (ap (map place) (sym (upto_skip closed (s + 1) t later.after later.passes) ∙ upto_open closed s free) ∙ map-append place (open_upto closed s) (s ∷ [])) in
     record {
       kept = kept_on m0 m after (f (place s)) inv.kept ok;
-      whole = counted_step f m after _ (place s) (map place (open_signs closed t total)) ok (ap (λ (xs : List ℕ). counting m (flat_map f (map place xs))) (sym step) ∙ inv.whole);
+      whole = counted_step f m after _ (place s) (map place (open_signs closed t total)) ok (ap (λ (xs : List ℕ). meaning_after_counting m (flat_map f (map place xs))) (sym step) ∙ inv.whole);
       placed = c.in_ok-number.ensures.places;
       numbered =
-          subst (λ (es : List Place). HaveNumbers pass (counts_at pass) words after.windows es c.push.new.self.items) front
+          subst (λ (es : List WordPosition). HaveNumbers pass (counts_at pass) words after.windows es c.push.new.self.items) front
           (subst (HaveNumbers pass (counts_at pass) words after.windows (map place (open_upto closed s) ++ place s ∷ [])) (sym c.in_ok-push.ensures.items)
           (have_more pass (counts_at pass) words after.windows (map place (open_upto closed s)) c.signs.numbers.items (place s) c.in_ok-number.number
           (still_have pass (counts_at pass) words m after (f (place s)) (map place (open_upto closed s)) c.signs.numbers.items ok inv.numbered) c.in_ok-number.ensures.number));
@@ -109,5 +109,5 @@ returns-clause-numbers g c =
     let total = sign_count words in
     let all = ap (λ (xs : List ℕ). length xs) c.all_signs-signs.ensures in
     let past : total ≤ c.signs.next = omega (arith, c.signs-test.false) in
-    subst (λ (xs : List ℕ). HaveNumbers pass (counts_at pass) words m.windows (map (place_from 0 words) xs) c.signs.numbers.items)
+    subst (λ (xs : List ℕ). HaveNumbers pass (counts_at pass) words m.windows (map (position_from 0 words) xs) c.signs.numbers.items)
     (sym (upto_skip closed total c.signs.next past c.signs.invariant.beyond) ∙ upto_all closed total) c.signs.invariant.numbered

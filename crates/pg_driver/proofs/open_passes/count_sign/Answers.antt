@@ -2,16 +2,16 @@ use Rattle.std.proofs.Common.{◌≡◌, ℕ, ◌+◌, ◌-◌, ◌≤◌, List,
 use Rattle.std.proofs.lemmas.List.Elements.{All-drop, All-take}
 use Rattle.pg_types.specs.declared.limits.TheConstants.{WEIGHT_MAX}
 use Rattle.pg_types.specs.Inside.Counts.{SignsWithin}
-use Rattle.pg_types.specs.Inside.Numbered.{HasNumber, with_window}
+use Rattle.pg_types.specs.Inside.NumberedWindows.{HasNumber, with_window}
 use Rattle.pg_dict.specs.declared.sites.Site.{Site}
 use Rattle.pg_dict.proofs.Told.{word_in}
 use Rattle.pg_select.proofs.MarkSteps.{weight_small}
 use Rattle.pg_select.specs.Inside.Meanings.{Meaning}
 use Rattle.pg_select.specs.Statuses.{is_odd}
 use Rattle.pg_select.specs.Windows.{fits, window}
-use Rattle.pg_driver.specs.declared.pass_windows.Place.{Place}
+use Rattle.pg_driver.specs.declared.pass_windows.WordPosition.{WordPosition}
 use Rattle.pg_driver.specs.declared.pass_windows.TheConstants.{NOT_COUNTED}
-use Rattle.pg_driver.specs.Inside.Counting.{counting}
+use Rattle.pg_driver.specs.Inside.Counting.{meaning_after_counting}
 use Rattle.pg_driver.specs.Inside.OpenPositions.{counted_of}
 use Rattle.pg_driver.specs.Inside.OpenSigns.{start_of}
 use Rattle.pg_driver.specs.Inside.PassWindows.{IsNumbered, counts_at, window_from}
@@ -48,7 +48,7 @@ returns-then-not-has_around-clause-ok g c =
     let w = s.of.word in
     let p = s.of.at in
     let other : fits w.signs p pass.len pass.dot ≡ false = sym (c.has_around.ensures w p s.of.within s.is) ∙ c.if-not-has_around.true in
-    sym (ap (λ (e : Place). counting m (counted_of pass.level pass.len pass.dot words e)) (place_of words c.args.sign s.of) ∙ counted_none m pass.level pass.len pass.dot words s.of.number p w s.of.there other)
+    sym (ap (λ (e : WordPosition). meaning_after_counting m (counted_of pass.level pass.len pass.dot words e)) (place_of words c.args.sign s.of) ∙ counted_none m pass.level pass.len pass.dot words s.of.number p w s.of.there other)
 
 pub returns-then-not-has_around-clause-number : goal.returns-then-not-has_around-clause-number
 returns-then-not-has_around-clause-number g c =
@@ -59,7 +59,7 @@ returns-then-not-has_around-clause-number g c =
     let w = s.of.word in
     let p = s.of.at in
     let other : fits w.signs p pass.len pass.dot ≡ false = sym (c.has_around.ensures w p s.of.within s.is) ∙ c.if-not-has_around.true in
-    subst (λ (e : Place). IsNumbered pass (counts_at pass) words m.windows e NOT_COUNTED) (sym (place_of words c.args.sign s.of)) (numbered_none pass words m.windows s.of.number p w NOT_COUNTED s.of.there other refl)
+    subst (λ (e : WordPosition). IsNumbered pass (counts_at pass) words m.windows e NOT_COUNTED) (sym (place_of words c.args.sign s.of)) (numbered_none pass words m.windows s.of.number p w NOT_COUNTED s.of.there other refl)
 
 pub overflow_sub-first : goal.overflow_sub-first
 overflow_sub-first g c =
@@ -141,7 +141,7 @@ returns-clause-ok g c =
     (λ i. take (long i) (drop first (c.all_signs-signs.ensures i))) ∙ flat_window words s.of.number p pass.len pass.dot first w s.of.there fit begins in
     let hyphens = ap (λ (b : Bool). cond (is_odd pass.level) b (not b)) (c.has_hyphen.ensures w p s.is) in
     let ok = c.in_ok-number.ensures.ok ∙ counted_fit m pass.level pass.len pass.dot words s.of.number p w s.of.there (take (first + c.from-2.result - first) (drop first c.all_signs-signs.result.now)) c.is_good-good.result (get_or c.all_weights-weights.result.now c.args.sign 0) fit lent (c.is_good-good.ensures ∙ hyphens) (weight_at words c.all_weights-weights.result.now c.args.sign 0 s.of c.all_weights-weights.ensures c.len-words.ensures.words) in
-    ok ∙ sym (ap (λ (e : Place). counting m (counted_of pass.level pass.len pass.dot words e)) (place_of words c.args.sign s.of))
+    ok ∙ sym (ap (λ (e : WordPosition). meaning_after_counting m (counted_of pass.level pass.len pass.dot words e)) (place_of words c.args.sign s.of))
 
 pub returns-clause-took : goal.returns-clause-took
 returns-clause-took g c =
@@ -178,7 +178,7 @@ returns-clause-number g c =
     let lent : take (first + c.from-2.result - first) (drop first c.all_signs-signs.result.now) ≡ window w.signs p pass.len pass.dot =
     (λ i. take (long i) (drop first (c.all_signs-signs.ensures i))) ∙ flat_window words s.of.number p pass.len pass.dot first w s.of.there fit begins in
     let number = c.in_ok-number.number in
-    subst (λ (e : Place). IsNumbered pass (counts_at pass) words after.windows e number) (sym (place_of words c.args.sign s.of))
+    subst (λ (e : WordPosition). IsNumbered pass (counts_at pass) words after.windows e number) (sym (place_of words c.args.sign s.of))
     (numbered_fit pass words after.windows s.of.number p w number s.of.there fit (subst (λ (u : List ℕ). HasNumber after.windows u number) lent c.in_ok-number.ensures.number))
 
 pub returns-clause-places : goal.returns-clause-places

@@ -1,5 +1,5 @@
 use Rattle.std.proofs.Common.{◌≡◌, ℕ, ◌≤◌, ◌<◌, ◌+◌, ◌^◌, true, not, drop, length, slice_get, Some}
-use Rattle.pg_dots.specs.Inside.Dots.{is_closed, places as places_in}
+use Rattle.pg_dots.specs.Inside.Dots.{is_closed, position_count as places_in}
 use Rattle.pg_select.specs.CountedPositions.{minima_of}
 use Rattle.std.specs.List.{flat_map, sum_by}
 use Rattle.pg_dict.specs.Word.{Word}

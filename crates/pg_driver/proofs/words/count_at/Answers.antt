@@ -1,5 +1,5 @@
 use Rattle.std.proofs.Common.{◌≡◌, ℕ, ◌+◌, ◌-◌, List, true, false, not, take, drop, slice_index_or, sym, ap, subst, ◌∙◌, arith}
-use Rattle.pg_types.specs.Inside.Numbered.{HasNumber, with_window}
+use Rattle.pg_types.specs.Inside.NumberedWindows.{HasNumber, with_window}
 use Rattle.pg_dict.specs.Inside.Lent.{lent_word}
 use Rattle.pg_select.specs.CountedPositions.{counts_as}
 use Rattle.pg_select.specs.Inside.Meanings.{Meaning}

@@ -4,7 +4,7 @@ use Rattle.pg_dict.specs.Inside.SoundWords.{letter_count}
 use Rattle.pg_select.specs.Inside.Meanings.{Meaning}
 use Rattle.pg_select.specs.declared.pass.Pass.{Pass}
 use Rattle.pg_select.specs.CountedPositions.{counted_positions_at, minima_of}
-use Rattle.pg_driver.specs.declared.pass_windows.Place.{Place}
+use Rattle.pg_driver.specs.declared.pass_windows.WordPosition.{WordPosition}
 use Rattle.pg_driver.specs.Inside.OpenLevels.{listed_in, open_as}
 use Rattle.pg_driver.specs.Inside.PassWindows.{HaveNumbers, uncovered_at}
 use Rattle.pg_driver.proofs.OpenSteps.{position_added}
@@ -40,7 +40,7 @@ positions-preserved g c =
     let n = g.E.Engine.meaning c.count_position.new.engine in
     let pass = c.args.pass in
     let kept = c.positions.invariant.kept in
-    let f : ℕ → List Place = λ q. open_as c.args.word q (counts_above c.args.pass.level m0.patterns w q) in
+    let f : ℕ → List WordPosition = λ q. open_as c.args.word q (counts_above c.args.pass.level m0.patterns w q) in
     let within : c.positions.p < length w.signs = omega (arith, c.positions-test.true, c.in-Some.ensures.within) in
     let long : 1 ≤ m.pass.len =
     let e : m.pass.len ≡ c.args.pass.len = ap (λ (m : Meaning). m.pass.len) kept ∙ ap (λ (pass : Pass). pass.len) c.requires.pass in
@@ -65,7 +65,7 @@ positions-preserved g c =
           let now : HaveNumbers pass (uncovered_at pass m.patterns m.hopeless) words m.windows (entries ++ c.positions.invariant.listed) c.positions.windows.numbers.items =
           subst (λ (x : Meaning). HaveNumbers pass (uncovered_at pass x.patterns x.hopeless) words m.windows (entries ++ c.positions.invariant.listed) c.positions.windows.numbers.items) (sym kept) (c.positions.invariant.numbers words entries at before) in
           let then = c.in_ok-count_position.ensures.numbers words (entries ++ c.positions.invariant.listed) at now in
-          subst (λ (es : List Place). HaveNumbers pass (uncovered_at pass m0.patterns m0.hopeless) words n.windows es c.count_position.new.windows.numbers.items) (append_assoc entries c.positions.invariant.listed (f c.positions.p))
+          subst (λ (es : List WordPosition). HaveNumbers pass (uncovered_at pass m0.patterns m0.hopeless) words n.windows es c.count_position.new.windows.numbers.items) (append_assoc entries c.positions.invariant.listed (f c.positions.p))
           (subst (λ (x : Meaning). HaveNumbers pass (uncovered_at pass x.patterns x.hopeless) words n.windows ((entries ++ c.positions.invariant.listed) ++ open_as c.args.word c.positions.p (counts_above pass.level x.patterns w c.positions.p)) c.count_position.new.windows.numbers.items) kept then);
       places = λ words at begins before. c.in_ok-count_position.ensures.places words at begins (c.positions.invariant.places words at begins before);
     }
@@ -83,7 +83,7 @@ returns-else-lists-clause-above g c =
     let w = lent_word c.args.w.now in
     let minima = minima_of c.args.table.now in
     sym (append-nil c.args.above.now.items)
-    ∙ ap (λ (es : List Place). c.args.above.now.items ++ es) (sym (none_listed_in minima c.args.pass.level P c.args.word w))
+    ∙ ap (λ (es : List WordPosition). c.args.above.now.items ++ es) (sym (none_listed_in minima c.args.pass.level P c.args.word w))
     ∙ ap (λ (lists : Bool). c.args.above.now.items ++ listed_in minima (listing lists c.args.pass.level P) c.args.word w) (sym c.if-lists.false)
 
 pub returns-in_ok-list_above-clause-ok : goal.returns-in_ok-list_above-clause-ok
@@ -102,9 +102,9 @@ returns-in_ok-list_above-clause-numbers g c = λ words entries at before.
     let m = g.E.Engine.meaning c.positions.engine in
     let pass = c.args.pass in
     let w = lent_word c.args.w.now in
-    let f : ℕ → List Place = λ q. open_as c.args.word q (counts_above pass.level m0.patterns w q) in
+    let f : ℕ → List WordPosition = λ q. open_as c.args.word q (counts_above pass.level m0.patterns w q) in
     let all = listed_done f c.positions.invariant.listed (listed_in (minima_of c.args.table.now) (counts_above pass.level m0.patterns) c.args.word w) c.positions.p c.in-Some.end c.positions-test.false c.positions.invariant.upto in
-    subst (λ (es : List Place). HaveNumbers pass (uncovered_at pass m0.patterns m0.hopeless) words m.windows (entries ++ es) c.positions.windows.numbers.items) all
+    subst (λ (es : List WordPosition). HaveNumbers pass (uncovered_at pass m0.patterns m0.hopeless) words m.windows (entries ++ es) c.positions.windows.numbers.items) all
     (c.positions.invariant.numbers words entries at before)
 
 pub returns-in_ok-list_above-clause-places : goal.returns-in_ok-list_above-clause-places
@@ -133,9 +133,9 @@ returns-else-lists-clause-numbers g c = λ words entries at before.
     let m = g.E.Engine.meaning c.positions.engine in
     let pass = c.args.pass in
     let w = lent_word c.args.w.now in
-    let f : ℕ → List Place = λ q. open_as c.args.word q (counts_above pass.level m0.patterns w q) in
+    let f : ℕ → List WordPosition = λ q. open_as c.args.word q (counts_above pass.level m0.patterns w q) in
     let all = listed_done f c.positions.invariant.listed (listed_in (minima_of c.args.table.now) (counts_above pass.level m0.patterns) c.args.word w) c.positions.p c.in-Some.end c.positions-test.false c.positions.invariant.upto in
-    subst (λ (es : List Place). HaveNumbers pass (uncovered_at pass m0.patterns m0.hopeless) words m.windows (entries ++ es) c.positions.windows.numbers.items) all
+    subst (λ (es : List WordPosition). HaveNumbers pass (uncovered_at pass m0.patterns m0.hopeless) words m.windows (entries ++ es) c.positions.windows.numbers.items) all
     (c.positions.invariant.numbers words entries at before)
 
 pub returns-else-lists-clause-places : goal.returns-else-lists-clause-places

@@ -9,11 +9,11 @@ use Rattle.pg_select.specs.CountedPositions.{counted_positions, minima_of}
 use Rattle.pg_select.specs.Inside.WordCounts.{counted_positions_in}
 use Rattle.pg_select.specs.Sums.{marks_in}
 use Rattle.pg_select.specs.Inside.SumSteps.{with_marks}
-use Rattle.pg_driver.specs.Inside.Counting.{HasRoom, counting}
+use Rattle.pg_driver.specs.Inside.Counting.{HasRoom, meaning_after_counting}
 use Rattle.pg_select.proofs.MarkSteps.{marks_word}
 use Rattle.pg_driver.specs.Inside.OpenLevels.{listed_in}
 use Rattle.pg_select.specs.Inside.LawsAbove.{counts_above}
-use Rattle.pg_driver.specs.declared.pass_windows.Place.{Place}
+use Rattle.pg_driver.specs.declared.pass_windows.WordPosition.{WordPosition}
 use Rattle.pg_driver.specs.Inside.PassWindows.{HaveNumbers, uncovered_at}
 use Rattle.pg_driver.specs.Inside.WordLevels.{listing}
 use Rattle.pg_driver.proofs.OpenSigns.{signs_few, start_before, start_next, start_past, start_zero}
@@ -79,11 +79,11 @@ words-preserved g c =
     let kept = c.words.invariant.kept in
     let place = drop_place c.args.dictionary.now c.words.i w c.word-w.ensures.lent in
     let letters = letters_left c.args.dictionary.now c.words.i w c.word-w.ensures.lent in
-    let here : List Place = listed_in minima (counts_above pass.level m0.patterns) c.words.i w in
+    let here : List WordPosition = listed_in minima (counts_above pass.level m0.patterns) c.words.i w in
     let sums = c.in_ok-count_word.ensures.sums ∙ ap (λ (x : Meaning). with_marks c.words.sums (marks_in minima x.patterns w)) kept in
     record {
       kept = kept_on m0 m _ (counted_positions_in minima m.pass m.patterns m.hopeless w) kept c.in_ok-count_word.ensures.ok;
-      whole = word_step m0 m _ _ minima w rest kept c.in_ok-count_word.ensures.ok (ap (λ (ws : List Word). counting m (counted_positions minima ws m0.pass m0.patterns m0.hopeless)) (sym place) ∙ c.words.invariant.whole);
+      whole = word_step m0 m _ _ minima w rest kept c.in_ok-count_word.ensures.ok (ap (λ (ws : List Word). meaning_after_counting m (counted_positions minima ws m0.pass m0.patterns m0.hopeless)) (sym place) ∙ c.words.invariant.whole);
       room = room_left m.counts _ (sum_by letter_count (drop c.words.i c.args.dictionary.now)) (letter_count w) (sum_by letter_count rest) c.words.invariant.room c.in_ok-count_word.ensures.took (omega (arith, letters));
       sums = marks_word c.words.sums _ _ minima m0.patterns w rest sums (ap (λ (ws : List Word). with_marks c.words.sums (flat_map (marks_in minima m0.patterns) ws)) (sym place) ∙ c.words.invariant.sums);
       above =

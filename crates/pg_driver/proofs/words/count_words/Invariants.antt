@@ -4,12 +4,12 @@ use Rattle.pg_dict.specs.Inside.SoundWords.{letter_count}
 use Rattle.pg_select.specs.CountedPositions.{counted_positions, minima_of}
 use Rattle.pg_select.specs.Sums.{marks_in, totals}
 use Rattle.pg_select.specs.Inside.SumSteps.{with_marks, HasRoomFor}
-use Rattle.pg_driver.specs.Inside.Counting.{counting, HasRoom}
+use Rattle.pg_driver.specs.Inside.Counting.{meaning_after_counting, HasRoom}
 use Rattle.pg_driver.specs.Inside.OpenLevels.{listed_from}
 use Rattle.pg_driver.specs.Inside.OpenSigns.{start_of}
 use Rattle.pg_select.specs.Inside.LawsAbove.{counts_above}
-use Rattle.pg_driver.specs.declared.pass_windows.Place.{Place}
-use Rattle.pg_driver.specs.Inside.PassWindows.{ArePlaces, HaveNumbers, uncovered_at}
+use Rattle.pg_driver.specs.declared.pass_windows.WordPosition.{WordPosition}
+use Rattle.pg_driver.specs.Inside.PassWindows.{AreFirstSigns, HaveNumbers, uncovered_at}
 use Rattle.pg_driver.specs.Inside.WordLevels.{listing}
 use Rattle.pg_driver.proofs.Walks.{KeepsButCounts}
 use Rattle.pg_driver.proofs.words.count_words.Given as goal
@@ -20,14 +20,14 @@ invariant-words g l =
     let m = g.E.Engine.meaning l.engine in
     record {
       kept : KeepsButCounts m0 m;
-      whole : counting m (counted_positions (minima_of l.table) (drop l.i l.dictionary) m0.pass m0.patterns m0.hopeless) ≡ counting m0 (counted_positions (minima_of l.table) l.dictionary m0.pass m0.patterns m0.hopeless);
+      whole : meaning_after_counting m (counted_positions (minima_of l.table) (drop l.i l.dictionary) m0.pass m0.patterns m0.hopeless) ≡ meaning_after_counting m0 (counted_positions (minima_of l.table) l.dictionary m0.pass m0.patterns m0.hopeless);
       room : HasRoom m.counts (sum_by letter_count (drop l.i l.dictionary));
       sums : with_marks l.sums (flat_map (marks_in (minima_of l.table) m0.patterns) (drop l.i l.dictionary)) ≡ totals (minima_of l.table) l.dictionary m0.patterns;
       above : (l.above.items ++ listed_from (minima_of l.table) (listing l.lists l.pass.level m0.patterns) l.i (drop l.i l.dictionary)) ≡ (l.fn.above.items ++ listed_from (minima_of l.table) (listing l.lists l.pass.level m0.patterns) 0 l.dictionary);
       room_for : HasRoomFor l.sums (sum_by letter_count (drop l.i l.dictionary));
-      listed : List Place;
+      listed : List WordPosition;
       upto : (listed ++ listed_from (minima_of l.table) (counts_above l.pass.level m0.patterns) l.i (drop l.i l.dictionary)) ≡ listed_from (minima_of l.table) (counts_above l.pass.level m0.patterns) 0 l.dictionary;
       numbers : HaveNumbers l.pass (uncovered_at l.pass m0.patterns m0.hopeless) l.dictionary m.windows listed l.windows.numbers.items;
-      places : ArePlaces l.pass l.dictionary m.windows l.windows.places.items;
+      places : AreFirstSigns l.pass l.dictionary m.windows l.windows.places.items;
       starts : l.start ≡ start_of l.dictionary l.i;
     }

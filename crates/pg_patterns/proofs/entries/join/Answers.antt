@@ -2,7 +2,7 @@ use Rattle.std.proofs.Common.{rules}
 use Rattle.std.proofs.lemmas.Fn.{dedup_same}
 use Rattle.std.proofs.lemmas.List.Sorted.{answers_always}
 use Rattle.std.specs.Ordering.{is_lt}
-use Rattle.pg_patterns.specs.Inside.PlaceOrder.{same_dotted}
+use Rattle.pg_patterns.specs.Inside.DottedOrder.{same_dotted}
 use Rattle.pg_patterns.specs.Inside.Search.{entry_cmp}
 use Rattle.pg_patterns.proofs.Kept.{entry_ranks, joined_by_sort}
 use Rattle.pg_patterns.proofs.entries.join.Goals as goal

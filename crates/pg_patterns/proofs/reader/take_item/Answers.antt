@@ -3,7 +3,7 @@ use Rattle.std.proofs.lemmas.Result.{err_from_is_err_and}
 use Rattle.pg_types.specs.declared.limits.TheConstants.{EDGE}
 use Rattle.pg_types.specs.declared.refusals.Kind.TheVariants.{PatternTooLong}
 use Rattle.pg_translate.specs.Alphabets.{letters_of}
-use Rattle.pg_types.specs.Reading.{refused}
+use Rattle.pg_types.specs.Reading.{refusal_at}
 use Rattle.pg_translate.specs.Tokens.{Letter, Edge}
 use Rattle.pg_patterns.specs.Inside.Drafts.{IsDraft, draft_left}
 use Rattle.pg_patterns.proofs.Steps.{sign_step, sign_refused, keeps_sign}
@@ -25,7 +25,7 @@ returns-in_ok-add_sign-in-Letter-clause-kept c =
 pub returns-in_err-add_sign-in-Letter-clause-step : goal.returns-in_err-add_sign-in-Letter-clause-step
 returns-in_err-add_sign-in-Letter-clause-step c =
     let p = err_from_is_err_and c.from_residual.result c.from_residual.ensures.1 in
-    rw (p.1, p.2) (sign_refused c.args.table.now c.args.line c.args.size c.args.draft.now c.args.rest.now c.in-Letter.after.now (Letter c.in-Letter.sign) c.in-Letter.sign c.in-Letter.ensures.item c.requires.rest refl c.in_err-add_sign-in-Letter.ensures.0 ∙ ap (λ (k : ℕ). Err (refused c.args.line PatternTooLong k)) (sym c.column_of-column.ensures) ∙ ap Err (sym c.in_err-add_sign-in-Letter.ensures.1))
+    rw (p.1, p.2) (sign_refused c.args.table.now c.args.line c.args.size c.args.draft.now c.args.rest.now c.in-Letter.after.now (Letter c.in-Letter.sign) c.in-Letter.sign c.in-Letter.ensures.item c.requires.rest refl c.in_err-add_sign-in-Letter.ensures.0 ∙ ap (λ (k : ℕ). Err (refusal_at c.args.line PatternTooLong k)) (sym c.column_of-column.ensures) ∙ ap Err (sym c.in_err-add_sign-in-Letter.ensures.1))
 
 pub returns-in_ok-add_sign-in-Edge-clause-step : goal.returns-in_ok-add_sign-in-Edge-clause-step
 returns-in_ok-add_sign-in-Edge-clause-step c = (
@@ -41,7 +41,7 @@ returns-in_ok-add_sign-in-Edge-clause-kept c =
 pub returns-in_err-add_sign-in-Edge-clause-step : goal.returns-in_err-add_sign-in-Edge-clause-step
 returns-in_err-add_sign-in-Edge-clause-step c =
     let p = err_from_is_err_and c.from_residual-in_err-add_sign-in-Edge.result c.from_residual-in_err-add_sign-in-Edge.ensures.1 in
-    rw (p.1, p.2) (sign_refused c.args.table.now c.args.line c.args.size c.args.draft.now c.args.rest.now c.in-Edge.after.now Edge EDGE c.in-Edge.ensures.item c.requires.rest refl c.in_err-add_sign-in-Edge.ensures.0 ∙ ap (λ (k : ℕ). Err (refused c.args.line PatternTooLong k)) (sym c.column_of-column.ensures) ∙ ap Err (sym c.in_err-add_sign-in-Edge.ensures.1))
+    rw (p.1, p.2) (sign_refused c.args.table.now c.args.line c.args.size c.args.draft.now c.args.rest.now c.in-Edge.after.now Edge EDGE c.in-Edge.ensures.item c.requires.rest refl c.in_err-add_sign-in-Edge.ensures.0 ∙ ap (λ (k : ℕ). Err (refusal_at c.args.line PatternTooLong k)) (sym c.column_of-column.ensures) ∙ ap Err (sym c.in_err-add_sign-in-Edge.ensures.1))
 
 pub returns-in-Bad-clause-step : goal.returns-in-Bad-clause-step
 returns-in-Bad-clause-step c = rw c.column_of-column.ensures (search rules)

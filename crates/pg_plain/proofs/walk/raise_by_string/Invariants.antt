@@ -3,4 +3,4 @@ use Rattle.pg_plain.proofs.OneString.{StringLeft}
 use Rattle.pg_plain.proofs.walk.raise_by_string.Given as goal
 
 abbrev pub invariant-loop-place : goal.invariant-loop-place
-invariant-loop-place g l = StringLeft (entry_value g.F.PlaceEntry.given) (entry_cover g.F.PlaceEntry.covers_at l.pass) l.q l.i l.map.entries l.place-iterator l.fn.out l.out
+invariant-loop-place g l = StringLeft (entry_value g.F.DottedEntry.given) (entry_cover g.F.DottedEntry.covers_at l.pass) l.q l.i l.map.entries l.place-iterator l.fn.out l.out

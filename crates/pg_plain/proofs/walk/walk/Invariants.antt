@@ -5,4 +5,4 @@ use Rattle.pg_plain.proofs.Starts.{Left}
 use Rattle.pg_plain.proofs.walk.walk.Given as goal
 
 abbrev pub invariant-loop-i : goal.invariant-loop-i
-invariant-loop-i g l = Left (entry_value g.F.PlaceEntry.given) (entry_cover g.F.PlaceEntry.covers_at l.pass) (applies_not_before l.w l.i) (applies l.w) l.map.entries l.fn.out l.out
+invariant-loop-i g l = Left (entry_value g.F.DottedEntry.given) (entry_cover g.F.DottedEntry.covers_at l.pass) (applies_not_before l.w l.i) (applies l.w) l.map.entries l.fn.out l.out

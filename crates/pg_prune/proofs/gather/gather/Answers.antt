@@ -5,7 +5,7 @@ use Rattle.std.proofs.lemmas.List.Elements.{All-filter, All-same}
 use Rattle.std.proofs.lemmas.Option.{get_or_from_slice_get}
 use Rattle.pg_select.specs.CountedPositions.{minima_of}
 use Rattle.pg_prune.specs.Places.{places as places_of}
-use Rattle.pg_prune.specs.Inside.Standing.{standing as standing_of}
+use Rattle.pg_prune.specs.Inside.Standing.{places_of_entry as standing_of}
 use Rattle.pg_prune.specs.declared.trail.Start.{Start}
 use Rattle.pg_prune.specs.Inside.Trails.{IsStart, IsTrail, begins_at, starts_of, trail_upto, last_of, place_of}
 use Rattle.pg_prune.proofs.TrailSteps.{whole_trail}

@@ -2,7 +2,7 @@ use Rattle.std.proofs.Common.{◌≡◌, ◌<◌, ◌+◌, ◌∙◌, ◌∷◌,
 use Rattle.std.proofs.lemmas.List.{length-map, append-nil}
 use Rattle.pg_prune.specs.Prunes.{need_at}
 use Rattle.pg_prune.specs.Inside.Findings.{need_list, first_difference}
-use Rattle.pg_prune.specs.Inside.Standing.{standing}
+use Rattle.pg_prune.specs.Inside.Standing.{places_of_entry}
 use Rattle.pg_prune.specs.Inside.Turns.{with_entry, without_entry}
 use Rattle.pg_prune.proofs.NeedSteps.{NeedsSoFar, needs_begin, needs_step, needs_end, need_turn, need_found}
 use Rattle.pg_prune.proofs.RoundSteps.{turn_of}
@@ -16,7 +16,7 @@ pub offset_bounds-standing-i : goal.offset_bounds-standing-i
 offset_bounds-standing-i c =
     let s = c.requires.2 in
     let inside : get_or c.args.kept.now c.entries.i-index 0 < length c.args.patterns.now = s.within c.entries.i-index 0 c.entries-test.true in
-    let many : length c.args.standing.now ≡ length c.args.patterns.now = sym (length-map c.args.standing.now (λ v. v.items)) ∙ ap length s.all ∙ length-map c.args.patterns.now (standing c.requires.0) in
+    let many : length c.args.standing.now ≡ length c.args.patterns.now = sym (length-map c.args.standing.now (λ v. v.items)) ∙ ap length s.all ∙ length-map c.args.patterns.now (places_of_entry c.requires.0) in
     omega arith
 
 pub first_need-requires : goal.first_need-requires

@@ -4,7 +4,7 @@ use Rattle.pg_dict.specs.Inside.Lent.{lent_word}
 use Rattle.pg_dict.specs.Inside.SoundWords.{letter_count}
 use Rattle.pg_dict.proofs.Parts.{letters_from}
 use Rattle.pg_select.specs.CountedPositions.{minima_of}
-use Rattle.pg_prune.specs.Inside.Trails.{IsStart, starts_in, starts_from, width, width_of}
+use Rattle.pg_prune.specs.Inside.Trails.{IsStart, starts_in, starts_from, place_count, position_count}
 use Rattle.pg_prune.specs.Inside.Trails.{all_starts as all_starts_of}
 use Rattle.pg_prune.proofs.TrailStarts.{word_more, known_in}
 use Rattle.pg_prune.proofs.trail.all_starts.Goals as goal
@@ -16,15 +16,15 @@ words-preserved c =
     let m = minima_of c.args.table.now in
     let w = lent_word c.word-w.result in
     let added : c.push_starts.new.starts.items ≡ c.words.starts.items ++ starts_in c.words.word c.words.places (length w.signs) = c.in_ok-push_starts.ensures in
-    let size : (c.match-reach.places ≡ c.words.places + width m (length w.signs)) × (width m (length w.signs) ≤ letter_count w) =
+    let size : (c.match-reach.places ≡ c.words.places + place_count m (length w.signs)) × (place_count m (length w.signs) ≤ letter_count w) =
     elim c.match-reach.branch [
       | in-Some v ↦
-          let wide : v.in-Some.last + 1 - v.in-Some.first ≡ width m (length w.signs) = ap width_of v.in-Some.ensures.value in
+          let wide : v.in-Some.last + 1 - v.in-Some.first ≡ place_count m (length w.signs) = ap position_count v.in-Some.ensures.value in
           (omega (arith, v.places-is), omega (arith, v.in-Some.ensures.between))
-      | in_default v ↦ let wide : 0 ≡ width m (length w.signs) = ap width_of v.in_default.ensures.value in (omega (arith, v.places-is), omega arith)
+      | in_default v ↦ let wide : 0 ≡ place_count m (length w.signs) = ap position_count v.in_default.ensures.value in (omega (arith, v.places-is), omega arith)
     ] in
-    let next : c.match-reach.places ≡ c.words.places + width m (length w.signs) = size.0 in
-    let fewer : width m (length w.signs) ≤ letter_count w = size.1 in
+    let next : c.match-reach.places ≡ c.words.places + place_count m (length w.signs) = size.0 in
+    let fewer : place_count m (length w.signs) ≤ letter_count w = size.1 in
     let letters : sum_by letter_count (drop c.words.word ws) ≡ letter_count w + sum_by letter_count (drop (c.words.word + 1) ws) = letters_from ws c.words.word w c.word-w.ensures.lent in
     record {
       whole =

@@ -1,7 +1,7 @@
 use Rattle.std.proofs.Common.{◌≡◌, ℕ, ◌+◌, ◌-◌, ◌∷◌, List, map, refl, sym, ap, subst, ◌∙◌, arith}
 use Rattle.pg_outputs.proofs.ListLaws.{list_of-zero}
 use Rattle.pg_table.specs.Inside.Packed.{pairs}
-use Rattle.pg_table.specs.Inside.Sharing.{Shares, turned, with_ends}
+use Rattle.pg_table.specs.Inside.Sharing.{Shares, value_and_dot, with_ends}
 use Rattle.pg_table.proofs.Recorded.{ends_more}
 use Rattle.pg_table.proofs.Sharing.{shares_more, pairs_none, pairs_more}
 use Rattle.pg_table.proofs.entering.share.Goals as goal
@@ -11,7 +11,7 @@ loop-i-init c = record {
   low = c.requires.order;
   high = omega arith;
   inside = omega arith;
-  list = list_of-zero c.args.outputs.now ∙ ap (map turned) (sym (pairs_none c.args.patterns.now c.args.end));
+  list = list_of-zero c.args.outputs.now ∙ ap (map value_and_dot) (sym (pairs_none c.args.patterns.now c.args.end));
   shares = λ lists shares. subst (λ l. Shares c.args.outputs.now (with_ends lists l)) (sym (pairs_none c.args.patterns.now c.args.end)) shares;
   grows = record { longer = omega arith; same = λ h le. refl };
 }
@@ -29,7 +29,7 @@ loop-i-preserved c =
       low = omega (arith, c.loop-i.invariant.low);
       high = omega (arith, c.loop-i.invariant.high);
       inside = c.in_ok-head.ensures.head.1;
-      list = c.in_ok-head.ensures.list ∙ ap (λ m. turned x ∷ m) c.loop-i.invariant.list ∙ ap (map turned) (sym more);
+      list = c.in_ok-head.ensures.list ∙ ap (λ m. value_and_dot x ∷ m) c.loop-i.invariant.list ∙ ap (map value_and_dot) (sym more);
       shares = λ lists shares.
           subst (λ ls. Shares c.cons.new.self ls) (sym (ap (with_ends lists) more ∙ ends_more lists x rest))
           (shares_more c.loop-i.outputs c.cons.new.self (with_ends lists rest) x rest c.loop-i.head (c.loop-i.invariant.shares lists shares) c.loop-i.invariant.inside c.loop-i.invariant.list (record {

@@ -2,7 +2,7 @@ use Rattle.std.proofs.Common.{◌≡◌, ◌-◌, ◌≤◌, length, map}
 use Rattle.pg_outputs.specs.Lists.{list_of}
 use Rattle.pg_outputs.specs.Inside.Heads.{Grows}
 use Rattle.pg_table.specs.Inside.Packed.{pairs}
-use Rattle.pg_table.specs.Inside.Sharing.{Lists, Shares, turned, with_ends}
+use Rattle.pg_table.specs.Inside.Sharing.{Lists, Shares, value_and_dot, with_ends}
 use Rattle.pg_table.proofs.entering.share.Given as goal
 
 abbrev pub invariant-loop-i : goal.invariant-loop-i
@@ -10,7 +10,7 @@ invariant-loop-i l = record {
   low : l.at ≤ l.i;
   high : l.i ≤ l.end;
   inside : l.head ≤ length l.outputs;
-  list : list_of l.outputs l.head ≡ map turned (pairs l.patterns l.i l.end);
+  list : list_of l.outputs l.head ≡ map value_and_dot (pairs l.patterns l.i l.end);
   shares : (lists : Lists) → Shares l.fn.outputs lists → Shares l.outputs (with_ends lists (pairs l.patterns l.i l.end));
   grows : Grows l.fn.outputs l.outputs;
 }

@@ -1,7 +1,7 @@
 use Rattle.std.proofs.Common.{arith, refl}
 use Rattle.pg_words.specs.Inside.Asked.{texts_of}
 use Rattle.pg_words.specs.Requests.{ToGenerate}
-use Rattle.pg_top.specs.Inside.Written.{writing_of}
+use Rattle.pg_top.specs.Inside.WritesMade.{writing_of}
 use Rattle.pg_top.proofs.CountedEnds.{counted_stop, counted_finish}
 use Rattle.pg_top.proofs.Calls.{finished_call, stopped_call, stops_reading}
 use Rattle.pg_top.proofs.generate.generate.Goals as goal

@@ -6,7 +6,7 @@ use Rattle.pg_words.specs.Inside.Asked.{texts_of}
 use Rattle.pg_top.specs.Outcomes.{Ends}
 use Rattle.pg_words.specs.Requests.{ToGenerate}
 use Rattle.pg_top.specs.generate.Inside.Accepted.{HasInputs}
-use Rattle.pg_top.specs.Inside.Written.{written_names, writing_of}
+use Rattle.pg_top.specs.Inside.WritesMade.{written_names, writing_of}
 use Rattle.pg_top.specs.declared.answers.Status.TheVariants.{Done}
 use Rattle.pg_top.proofs.generate.InputOrder.{outcome_generated, inputs_wanted}
 use Rattle.pg_top.proofs.Orders.{mapped}

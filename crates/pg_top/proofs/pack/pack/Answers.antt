@@ -1,7 +1,7 @@
 use Rattle.std.proofs.Common.{arith, refl}
 use Rattle.pg_words.specs.Requests.{ToPack}
 use Rattle.pg_top.specs.pack.Inside.Inputs.{pack_of}
-use Rattle.pg_top.specs.Inside.Written.{writing_of}
+use Rattle.pg_top.specs.Inside.WritesMade.{writing_of}
 use Rattle.pg_outside.specs.Content.{file_at}
 use Rattle.pg_top.specs.Promises.{PackKeeps}
 use Rattle.pg_top.proofs.Promised.{promised, stop_not_done}

@@ -6,7 +6,7 @@ use Rattle.pg_top.specs.Outcomes.{Ends}
 use Rattle.pg_top.specs.Promises.{PackKeeps}
 use Rattle.pg_words.specs.Requests.{ToPack}
 use Rattle.pg_top.specs.pack.Inside.Inputs.{pack_of, HasSource}
-use Rattle.pg_top.specs.Inside.Written.{writing_of}
+use Rattle.pg_top.specs.Inside.WritesMade.{writing_of}
 use Rattle.pg_top.specs.declared.answers.Status.TheVariants.{Done}
 use Rattle.pg_top.proofs.Calls.{stops_reading}
 use Rattle.pg_top.proofs.Orders.{mapped}

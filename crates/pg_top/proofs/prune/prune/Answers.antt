@@ -1,7 +1,7 @@
 use Rattle.std.proofs.Common.{arith, refl}
 use Rattle.pg_top.specs.prune.Inside.Inputs.{prune_of}
 use Rattle.pg_words.specs.Requests.{ToPrune}
-use Rattle.pg_top.specs.Inside.Written.{writing_of}
+use Rattle.pg_top.specs.Inside.WritesMade.{writing_of}
 use Rattle.pg_outside.specs.Content.{file_at}
 use Rattle.pg_top.specs.Promises.{PruneKeeps}
 use Rattle.pg_top.proofs.Promised.{promised, stop_not_done}

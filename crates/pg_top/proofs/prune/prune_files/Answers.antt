@@ -6,7 +6,7 @@ use Rattle.pg_top.specs.Outcomes.{Ends}
 use Rattle.pg_top.specs.prune.Inside.Inputs.{prune_of, HasPrune}
 use Rattle.pg_top.specs.Promises.{PruneKeeps}
 use Rattle.pg_words.specs.Requests.{PruneRequest, ToPrune}
-use Rattle.pg_top.specs.Inside.Written.{writing_of}
+use Rattle.pg_top.specs.Inside.WritesMade.{writing_of}
 use Rattle.pg_top.specs.declared.answers.Status.TheVariants.{Done}
 use Rattle.pg_top.specs.declared.inputs.Stop.TheVariants.{Memory}
 use Rattle.pg_top.proofs.Calls.{stops_reading}

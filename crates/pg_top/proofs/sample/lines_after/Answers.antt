@@ -1,5 +1,5 @@
 use Rattle.std.proofs.Common.{◌≡◌, ◌∙◌, ◌++◌, List, ℕ, ap}
-use Rattle.pg_driver.specs.Inside.Told.{account_of}
+use Rattle.pg_driver.specs.Inside.RunAccounts.{account_of}
 use Rattle.pg_driver.specs.Inside.AccountLines.{Account}
 use Rattle.pg_top.specs.PrintedLines.{done_line}
 use Rattle.pg_top.specs.sample.Inside.Lines.{printed_part}

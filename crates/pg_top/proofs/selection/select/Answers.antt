@@ -1,6 +1,6 @@
 use Rattle.std.proofs.Common.{◌≡◌, ◌∙◌, ap, subst, sym, arith}
 use Rattle.pg_dict.specs.Inside.SoundWords.{SignsAtMost}
-use Rattle.pg_driver.specs.Inside.Told.{TellsCells}
+use Rattle.pg_driver.specs.Inside.RunAccounts.{TellsCells}
 use Rattle.pg_patterns.specs.Inside.PatternMaps.{SignsUpTo}
 use Rattle.pg_select.specs.Inside.Meanings.{Meaning}
 use Rattle.pg_top.specs.Selection.{signs_of}

@@ -10,7 +10,7 @@ use Rattle.pg_top.specs.Promises.{SweepNames}
 use Rattle.pg_words.specs.Requests.{ToSweep}
 use Rattle.pg_top.specs.sweep.Inside.Inputs.{terms_of}
 use Rattle.pg_top.specs.sweep.Inside.Accepted.{HasSweep}
-use Rattle.pg_top.specs.Inside.Written.{writing_of}
+use Rattle.pg_top.specs.Inside.WritesMade.{writing_of}
 use Rattle.pg_top.specs.declared.answers.Status.TheVariants.{Done}
 use Rattle.pg_top.specs.declared.inputs.Stop.TheVariants.{Memory}
 use Rattle.pg_top.proofs.Calls.{stops_reading}

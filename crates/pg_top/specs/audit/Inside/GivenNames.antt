@@ -4,8 +4,7 @@ use Rattle.pg_words.specs.Requests.{FileNames, if_asked}
 use Rattle.pg_top.specs.declared.inputs.Given.{Given}
 use Rattle.pg_top.specs.declared.inputs.Given.TheVariants as given
 
--- the given files in their order, each with its name: the pattern file, the hyphenated list where
--- it is asked for, and the report
+-- the given files in their order: the pattern file, the hyphenated list if asked for, the report
 abbrev pub given_names : FileNames → List (Given × List ℕ)
 given_names n = (given.Patterns, n.output)
     ∷ if_asked n.pattmp (λ name. (given.Pattmp, name)) ++ (given.Report, n.report) ∷ []

@@ -38,8 +38,7 @@ end_of (False line) = Some (Ends No [] line.items)
 abbrev pub outcome_by : Verdict → Outcome
 outcome_by verdict = unwrap_or (end_of verdict) (Ends Yes [] yes_line)
 
--- how far the files were read where this was found: all of them, or up to the one with the false
--- line
+-- how far the files were read where this was found: all, or up to the one with the false line
 abbrev pub ReadsToFind : List Reading → Verdict → FilesShown → FilesShown → Type 0
 ReadsToFind reads Equal old new = MakesCalls old new (read_calls reads)
 ReadsToFind reads (False line) old new =
@@ -47,8 +46,7 @@ ReadsToFind reads (False line) old new =
     × IfSome new.held (λ files. first_end (file_at files) (take (at + 1) reads)
     ≡ Some (Ends No [] line.items))
 
--- these bytes are the whole file, or they are its first size + more + 1 bytes where the file is
--- longer than size + more bytes
+-- these bytes are the whole file, or its first size + more + 1 where it is longer than size + more
 abbrev pub IsFrontOf : Option (List ℕ) → ℕ → ℕ → List ℕ → Type 0
 IsFrontOf file size more bytes = MatchOption file ⊥ (λ whole.
     (bytes ≡ whole) ⊎ ((size + more < length whole) × (bytes ≡ take (size + (more + 1)) whole)))

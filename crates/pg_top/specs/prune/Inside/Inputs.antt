@@ -12,7 +12,7 @@ use Rattle.pg_select.specs.Windows.{Patterns}
 use Rattle.pg_prune.specs.Prunes.{Found, pruned}
 use Rattle.pg_prune.specs.Reports.{prune_report}
 use Rattle.pg_top.specs.Outcomes.{Outcome, Writing}
-use Rattle.pg_top.specs.prune.Pruned.{prune_ends, pruned_line}
+use Rattle.pg_top.specs.prune.Pruned.{outcome_of_prune, pruned_line}
 use Rattle.pg_top.specs.Readings.{Held, read_as}
 use Rattle.pg_words.specs.Requests.{PruneRequest}
 use Rattle.pg_top.specs.declared.prune.inputs.PruneInputs.{PruneInputs}
@@ -51,4 +51,4 @@ line_of_pruned found = pruned_line found.rounds found.removed (length found.patt
 
 -- what pruning these patterns by these words comes to
 abbrev pub pruned_by : PruneRequest → Alphabet → List Word → Patterns → Outcome
-pruned_by p t ws P = prune_ends p t (pruned (minima_of t) ws P)
+pruned_by p t ws P = outcome_of_prune p t (pruned (minima_of t) ws P)

@@ -8,7 +8,7 @@ use Rattle.pg_sweep.specs.Sweeps.{Terms, costs_of}
 use Rattle.pg_sweep.specs.Inside.Found.{Found}
 use Rattle.pg_words.specs.Requests.{SweepRequest}
 use Rattle.pg_top.specs.Outcomes.{Outcome}
-use Rattle.pg_top.specs.sweep.Swept.{winner_line, sweep_ends, swept_rows}
+use Rattle.pg_top.specs.sweep.Swept.{winner_line, outcome_of_sweep, swept_rows}
 use Rattle.pg_top.specs.declared.sweep.inputs.SweepInputs.{SweepInputs}
 
 -- what the runs of a sweep with so many folds share
@@ -26,5 +26,5 @@ line_of_sweep found = winner_line found.winner
     (slice_index (costs_of found.rows) (found.winner - 1))
 
 -- what a sweep of these sets writes and prints
-abbrev pub swept : SweepRequest → Terms → List Parameters → Outcome
-swept s terms sets = sweep_ends s (swept_rows s terms sets)
+abbrev pub outcome_of_sets : SweepRequest → Terms → List Parameters → Outcome
+outcome_of_sets s terms sets = outcome_of_sweep s (swept_rows s terms sets)

@@ -14,13 +14,11 @@ use Rattle.pg_top.specs.declared.totals.TotalsNames.{TotalsNames}
 abbrev pub totals_of : TotalsNames → TotalsRequest
 totals_of n = record { dict = n.dict.now; translate = n.translate.now; table = n.table.now }
 
--- what `totals` prints: the line of the totals of the words by a packed table, and that of the
--- rates
+-- what `totals` prints: the totals of the words by a packed table, and the rates
 abbrev pub totals_lines : Alphabet → List Word → List ℕ → List ℕ
 totals_lines t words b = ending_text (table_totals (minima_of t) words b)
 
--- the file of this name is accepted as a packed table, by which the totals of the words have these
--- lines
+-- the file of this name is accepted as a packed table, and the totals by it have these lines
 abbrev pub IsTotalled : Alphabet → List Word → Held → List ℕ → List ℕ → Type 0
 IsTotalled t words files name lines =
     (b : List ℕ) × (read_as (packed_table t) files name ≡ Some (Ok b))

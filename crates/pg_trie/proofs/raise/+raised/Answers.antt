@@ -2,11 +2,11 @@ use Rattle.std.proofs.Common.{◌≡◌, ℕ, List, ◌∷◌, max, refl, sym, a
 use Rattle.std.specs.Prelude.{IfOk}
 use Rattle.std.proofs.lemmas.Bool.{le-ltb, eq-eqb}
 use Rattle.pg_outputs.specs.Lists.{list_of}
-use Rattle.pg_trie.specs.Inside.Lists.{rank, entered}
+use Rattle.pg_trie.specs.Inside.Lists.{rank, list_with}
 use Rattle.pg_trie.proofs.raise.+raised.Goals as goal
 
 -- of one rank the greater value counts
-beside : (x y : ℕ × ℕ) (ys : List (ℕ × ℕ)) → rank x ≡ rank y → (max x.0 y.0, y.1) ∷ ys ≡ entered x (y ∷ ys)
+beside : (x y : ℕ × ℕ) (ys : List (ℕ × ℕ)) → rank x ≡ rank y → (max x.0 y.0, y.1) ∷ ys ≡ list_with x (y ∷ ys)
 beside x y ys same = rw (le-ltb (rank x) (rank y) (omega (arith, same)), eq-eqb (rank x) (rank y) same) refl
 
 pub returns-then-stands_beside-clause-list : goal.returns-then-stands_beside-clause-list
@@ -16,4 +16,4 @@ returns-then-stands_beside-clause-list t c =
     subst (λ (l : List (ℕ × ℕ)). IfOk c.cons-then-stands_beside.result (λ h. list_of c.cons-then-stands_beside.new.self h ≡ l))
     (ap (λ n. (n, c.in-Some.at) ∷ list_of old c.in-Some.next) c.max.ensures
     ∙ beside (c.args.value, c.args.dot) (c.in-Some.first, c.in-Some.at) (list_of old c.in-Some.next) same
-    ∙ ap (entered (c.args.value, c.args.dot)) (sym c.in-Some.ensures.list)) c.cons-then-stands_beside.ensures.list
+    ∙ ap (list_with (c.args.value, c.args.dot)) (sym c.in-Some.ensures.list)) c.cons-then-stands_beside.ensures.list

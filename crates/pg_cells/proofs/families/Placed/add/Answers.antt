@@ -6,7 +6,7 @@ use Rattle.pg_cells.specs.Inside.ValuedFamilies.{Trie, ValuedFamilies}
 use Rattle.pg_cells.specs.Inside.AreValuedFamilies.{AreValuedFamilies}
 use Rattle.pg_cells.specs.Inside.Adding.{added}
 use Rattle.pg_cells.specs.Inside.Layouts.{IsTrie, AreKept}
-use Rattle.pg_cells.specs.Inside.OneTrie.{Kept, settled, held}
+use Rattle.pg_cells.specs.Inside.OneTrie.{Kept, kept_is_only, held_is_kept}
 use Rattle.pg_cells.specs.declared.member.Member.{Member}
 use Rattle.pg_cells.specs.Inside.Store.{member_code, Extends}
 use Rattle.pg_cells.proofs.ValuedFamilyLaws.{is_held}
@@ -35,7 +35,7 @@ invariant_of-self g c =
     let can = can_add c.self.inside.signs c.self.inside.store c.self.inside.layout.0 c.self.invariant.trie c.args.self.now c.self.view_is c.requires.parent.0 c.requires.parent.0 c.args.parent c.args.s c.args.members.now c.requires.parent.1.0 c.requires.parent.1.1 c.requires.parent.1.0 c.requires.members in
     let trie = after_held g.row.FEW c.self.inside.signs c.self.inside.store c.add_slot-answer.new.store c.self.inside.layout.0 c.requires.parent.0 c.args.s c.args.v c.add_slot-answer.result c.self.invariant.trie (c.add_slot-answer.ensures.trie c.self.inside.layout.0 c.requires.parent.0 can) c.add_slot-answer.ensures.err in
     let all : (d : Kept c.self.inside.signs c.add_slot-answer.new.store) → AreKept c.self.inside.signs c.add_slot-answer.new.store d.0 =
-    λ d. record { trie = held (member_code g.row.V.coded) c.self.inside.signs c.add_slot-answer.new.store d _ trie; some = c.self.invariant.some; few = c.self.invariant.few } in
+    λ d. record { trie = held_is_kept (member_code g.row.V.coded) c.self.inside.signs c.add_slot-answer.new.store d _ trie; some = c.self.invariant.some; few = c.self.invariant.few } in
     search all
 
 pub returns-clause-held : goal.returns-clause-held
@@ -44,7 +44,7 @@ returns-clause-held g c q e =
     on_ok_weaker c.add_slot-answer.result
     (λ (trie : IsTrie c.self.inside.signs c.add_slot-answer.new.store (added g.row.FEW c.self.inside.signs c.self.inside.layout.0 q c.args.s c.args.v)).
     (let all : (d : Kept c.self.inside.signs c.add_slot-answer.new.store) → ◌≡◌ {A = ValuedFamilies (Member g.row.V.Denot)} (record { signs = c.self.inside.signs; families = d.0.families; values = d.0.values }) (record c.args.self.now { families = with_sign g.row.FEW c.args.self.now.signs c.args.self.now.families q c.args.s; values = put order (q ++ c.args.s ∷ []) c.args.v c.args.self.now.values }) =
-    λ d. ap (λ (t : Trie (Member g.row.V.Denot)). record { signs = c.self.inside.signs; families = t.families; values = t.values }) (settled (member_code g.row.V.coded) c.self.inside.signs c.add_slot-answer.new.store d _ trie)
+    λ d. ap (λ (t : Trie (Member g.row.V.Denot)). record { signs = c.self.inside.signs; families = t.families; values = t.values }) (kept_is_only (member_code g.row.V.coded) c.self.inside.signs c.add_slot-answer.new.store d _ trie)
     ∙ ap (λ (h : ValuedFamilies (Member g.row.V.Denot)). record h { families = with_sign g.row.FEW h.signs h.families q c.args.s; values = put order (q ++ c.args.s ∷ []) c.args.v h.values }) c.self.view_is in
     search all))
     (c.add_slot-answer.ensures.trie c.self.inside.layout.0 q can)
@@ -66,7 +66,7 @@ returns-clause-kept g c =
     let can = can_add c.self.inside.signs c.self.inside.store c.self.inside.layout.0 c.self.invariant.trie c.args.self.now c.self.view_is c.requires.parent.0 c.requires.parent.0 c.args.parent c.args.s c.args.members.now c.requires.parent.1.0 c.requires.parent.1.1 c.requires.parent.1.0 c.requires.members in
     let trie = after_held g.row.FEW c.self.inside.signs c.self.inside.store c.add_slot-answer.new.store c.self.inside.layout.0 c.requires.parent.0 c.args.s c.args.v c.add_slot-answer.result c.self.invariant.trie (c.add_slot-answer.ensures.trie c.self.inside.layout.0 c.requires.parent.0 can) c.add_slot-answer.ensures.err in
     let all : (d : Kept c.self.inside.signs c.add_slot-answer.new.store) → AreValuedFamilies (record { signs = c.self.inside.signs; families = d.0.families; values = d.0.values }) =
-    λ d. is_held c.self.inside.signs c.add_slot-answer.new.store d.0 (held (member_code g.row.V.coded) c.self.inside.signs c.add_slot-answer.new.store d _ trie) c.len-length.ensures.values in
+    λ d. is_held c.self.inside.signs c.add_slot-answer.new.store d.0 (held_is_kept (member_code g.row.V.coded) c.self.inside.signs c.add_slot-answer.new.store d _ trie) c.len-length.ensures.values in
     on_ok_weaker c.add_slot-answer.result (λ (trie : IsTrie c.self.inside.signs c.add_slot-answer.new.store (added g.row.FEW c.self.inside.signs c.self.inside.layout.0 c.requires.parent.0 c.args.s c.args.v)). search all) (c.add_slot-answer.ensures.trie c.self.inside.layout.0 c.requires.parent.0 can)
 
 pub returns-clause-err : goal.returns-clause-err
@@ -74,6 +74,6 @@ returns-clause-err g c =
     on_err_weaker c.add_slot-answer.result
     (λ (more : Extends c.self.inside.store c.add_slot-answer.new.store).
     (let all : (d : Kept c.self.inside.signs c.add_slot-answer.new.store) → ◌≡◌ {A = ValuedFamilies (Member g.row.V.Denot)} (record { signs = c.self.inside.signs; families = d.0.families; values = d.0.values }) c.args.self.now =
-    λ d. ap (λ (t : Trie (Member g.row.V.Denot)). record { signs = c.self.inside.signs; families = t.families; values = t.values }) (settled (member_code g.row.V.coded) c.self.inside.signs c.add_slot-answer.new.store d _ (trie_extended c.self.inside.signs c.self.inside.store c.add_slot-answer.new.store c.self.inside.layout.0 c.self.invariant.trie more)) ∙ c.self.view_is in
+    λ d. ap (λ (t : Trie (Member g.row.V.Denot)). record { signs = c.self.inside.signs; families = t.families; values = t.values }) (kept_is_only (member_code g.row.V.coded) c.self.inside.signs c.add_slot-answer.new.store d _ (trie_extended c.self.inside.signs c.self.inside.store c.add_slot-answer.new.store c.self.inside.layout.0 c.self.invariant.trie more)) ∙ c.self.view_is in
     search all))
     c.add_slot-answer.ensures.err

@@ -4,7 +4,7 @@ use Rattle.pg_types.specs.Placement.{root}
 use Rattle.pg_cells.specs.Inside.ValuedFamilies.{Trie, ValuedFamilies}
 use Rattle.pg_cells.specs.Inside.AreValuedFamilies.{AreValuedFamilies}
 use Rattle.pg_cells.specs.Inside.Layouts.{AreKept}
-use Rattle.pg_cells.specs.Inside.OneTrie.{Kept, settled, held}
+use Rattle.pg_cells.specs.Inside.OneTrie.{Kept, kept_is_only, held_is_kept}
 use Rattle.pg_cells.specs.Inside.Lists.{lone}
 use Rattle.pg_cells.specs.Inside.Root.{root_held, IsRootTo}
 use Rattle.pg_cells.specs.declared.member.Member.{Member}
@@ -32,19 +32,19 @@ pub invariant_of-result-2 : goal.invariant_of-result-2
 invariant_of-result-2 g c =
     let trie = root_trie c.args.blank c.args.signs c.take_root.new.store c.set_base.new.self c.requires.0 c.take_root.ensures.root_to c.set_base.ensures in
     let all : (d : Kept c.args.signs c.set_base.new.self) → AreKept c.args.signs c.set_base.new.self d.0 =
-    λ d. record { trie = held (member_code g.row.V.coded) c.args.signs c.set_base.new.self d _ trie; some = c.requires.0; few = c.requires.1 } in
+    λ d. record { trie = held_is_kept (member_code g.row.V.coded) c.args.signs c.set_base.new.self d _ trie; some = c.requires.0; few = c.requires.1 } in
     search all
 
 pub returns-clause-held : goal.returns-clause-held
 returns-clause-held g c =
     let trie = root_trie c.args.blank c.args.signs c.take_root.new.store c.set_base.new.self c.requires.0 c.take_root.ensures.root_to c.set_base.ensures in
     let all : (d : Kept c.args.signs c.set_base.new.self) → ◌≡◌ {A = ValuedFamilies (Member g.row.V.Denot)} (record { signs = c.args.signs; families = d.0.families; values = d.0.values }) (root_held c.args.signs c.args.blank) =
-    λ d. ap (λ (t : Trie (Member g.row.V.Denot)). record { signs = c.args.signs; families = t.families; values = t.values }) (settled (member_code g.row.V.coded) c.args.signs c.set_base.new.self d _ trie) in
+    λ d. ap (λ (t : Trie (Member g.row.V.Denot)). record { signs = c.args.signs; families = t.families; values = t.values }) (kept_is_only (member_code g.row.V.coded) c.args.signs c.set_base.new.self d _ trie) in
     search all
 
 pub returns-clause-kept : goal.returns-clause-kept
 returns-clause-kept g c =
     let trie = root_trie c.args.blank c.args.signs c.take_root.new.store c.set_base.new.self c.requires.0 c.take_root.ensures.root_to c.set_base.ensures in
     let all : (d : Kept c.args.signs c.set_base.new.self) → AreValuedFamilies (record { signs = c.args.signs; families = d.0.families; values = d.0.values }) =
-    λ d. is_held c.args.signs c.set_base.new.self d.0 (held (member_code g.row.V.coded) c.args.signs c.set_base.new.self d _ trie) c.len-length.ensures.values in
+    λ d. is_held c.args.signs c.set_base.new.self d.0 (held_is_kept (member_code g.row.V.coded) c.args.signs c.set_base.new.self d _ trie) c.len-length.ensures.values in
     search all

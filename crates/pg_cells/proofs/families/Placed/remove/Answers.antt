@@ -4,7 +4,7 @@ use Rattle.pg_types.specs.Inside.Placing.{without_sign}
 use Rattle.pg_cells.specs.Inside.ValuedFamilies.{Trie, ValuedFamilies, without_key}
 use Rattle.pg_cells.specs.Inside.AreValuedFamilies.{AreValuedFamilies}
 use Rattle.pg_cells.specs.Inside.Layouts.{AreKept}
-use Rattle.pg_cells.specs.Inside.OneTrie.{Kept, settled, held}
+use Rattle.pg_cells.specs.Inside.OneTrie.{Kept, kept_is_only, held_is_kept}
 use Rattle.pg_cells.specs.declared.member.Member.{Member}
 use Rattle.pg_cells.specs.Inside.Store.{member_code}
 use Rattle.pg_cells.proofs.CellsStay.{cells_stay}
@@ -71,7 +71,7 @@ invariant_of-self g c =
     let childless : base_of c.self.inside.layout.0.families (c.requires.parent.0 ++ c.args.s ∷ []) ≡ None = subst (λ (h : ValuedFamilies (Member g.row.V.Denot)). base_of h.families (c.requires.parent.0 ++ c.args.s ∷ []) ≡ None) (sym c.self.view_is) c.requires.parent.2.2 in
     let trie = trie_removed c.self.inside.signs c.self.inside.store c.self.inside.layout.0 c.self.invariant.trie c.requires.parent.0 c.args.parent at c.args.s c.requires.parent.1 there childless c.child-base.result c.child-base.ensures c.free.new.self c.drop_family.new.store c.free.ensures (c.drop_family.ensures c.self.inside.signs (removed_alone c.self.inside.signs c.self.inside.store c.self.inside.layout.0 c.self.invariant.trie c.requires.parent.0 c.args.parent at c.args.s c.requires.parent.1 there childless c.child-base.result c.child-base.ensures c.args.self.now c.self.view_is c.args.is_alone c.requires.alone c.free.new.self c.free.ensures)) in
     let all : (d : Kept c.self.inside.signs c.drop_family.new.store) → AreKept c.self.inside.signs c.drop_family.new.store d.0 =
-    λ d. record { trie = held (member_code g.row.V.coded) c.self.inside.signs c.drop_family.new.store d _ trie; some = c.self.invariant.some; few = c.self.invariant.few } in
+    λ d. record { trie = held_is_kept (member_code g.row.V.coded) c.self.inside.signs c.drop_family.new.store d _ trie; some = c.self.invariant.some; few = c.self.invariant.few } in
     search all
 
 pub returns-clause-held : goal.returns-clause-held
@@ -82,7 +82,7 @@ returns-clause-held g c q e =
     let trie = trie_removed c.self.inside.signs c.self.inside.store c.self.inside.layout.0 c.self.invariant.trie c.requires.parent.0 c.args.parent at c.args.s c.requires.parent.1 there childless c.child-base.result c.child-base.ensures c.free.new.self c.drop_family.new.store c.free.ensures (c.drop_family.ensures c.self.inside.signs (removed_alone c.self.inside.signs c.self.inside.store c.self.inside.layout.0 c.self.invariant.trie c.requires.parent.0 c.args.parent at c.args.s c.requires.parent.1 there childless c.child-base.result c.child-base.ensures c.args.self.now c.self.view_is c.args.is_alone c.requires.alone c.free.new.self c.free.ensures)) in
     let same : c.requires.parent.0 ≡ q = cells_apart c.self.inside.signs c.self.inside.store c.self.inside.layout.0 c.self.invariant.trie c.requires.parent.0 q c.args.parent at (subst (λ (h : ValuedFamilies (Member g.row.V.Denot)). cell_of h.families q ≡ Some c.args.parent) (sym c.self.view_is) e) in
     let all : (d : Kept c.self.inside.signs c.drop_family.new.store) → ◌≡◌ {A = ValuedFamilies (Member g.row.V.Denot)} (record { signs = c.self.inside.signs; families = d.0.families; values = d.0.values }) (record c.args.self.now { families = without_sign c.args.self.now.families q c.args.s; values = without_key (q ++ c.args.s ∷ []) c.args.self.now.values }) =
-    λ d. ap (λ (t : Trie (Member g.row.V.Denot)). record { signs = c.self.inside.signs; families = t.families; values = t.values }) (settled (member_code g.row.V.coded) c.self.inside.signs c.drop_family.new.store d _ trie)
+    λ d. ap (λ (t : Trie (Member g.row.V.Denot)). record { signs = c.self.inside.signs; families = t.families; values = t.values }) (kept_is_only (member_code g.row.V.coded) c.self.inside.signs c.drop_family.new.store d _ trie)
     ∙ ap (λ (h : ValuedFamilies (Member g.row.V.Denot)). record h { families = without_sign h.families c.requires.parent.0 c.args.s; values = without_key (c.requires.parent.0 ++ c.args.s ∷ []) h.values }) c.self.view_is
     ∙ ap (λ z. record c.args.self.now { families = without_sign c.args.self.now.families z c.args.s; values = without_key (z ++ c.args.s ∷ []) c.args.self.now.values }) same in
     search all
@@ -94,7 +94,7 @@ returns-clause-kept g c =
     let childless : base_of c.self.inside.layout.0.families (c.requires.parent.0 ++ c.args.s ∷ []) ≡ None = subst (λ (h : ValuedFamilies (Member g.row.V.Denot)). base_of h.families (c.requires.parent.0 ++ c.args.s ∷ []) ≡ None) (sym c.self.view_is) c.requires.parent.2.2 in
     let trie = trie_removed c.self.inside.signs c.self.inside.store c.self.inside.layout.0 c.self.invariant.trie c.requires.parent.0 c.args.parent at c.args.s c.requires.parent.1 there childless c.child-base.result c.child-base.ensures c.free.new.self c.drop_family.new.store c.free.ensures (c.drop_family.ensures c.self.inside.signs (removed_alone c.self.inside.signs c.self.inside.store c.self.inside.layout.0 c.self.invariant.trie c.requires.parent.0 c.args.parent at c.args.s c.requires.parent.1 there childless c.child-base.result c.child-base.ensures c.args.self.now c.self.view_is c.args.is_alone c.requires.alone c.free.new.self c.free.ensures)) in
     let all : (d : Kept c.self.inside.signs c.drop_family.new.store) → AreValuedFamilies (record { signs = c.self.inside.signs; families = d.0.families; values = d.0.values }) =
-    λ d. is_held c.self.inside.signs c.drop_family.new.store d.0 (held (member_code g.row.V.coded) c.self.inside.signs c.drop_family.new.store d _ trie) c.len-length.ensures.values in
+    λ d. is_held c.self.inside.signs c.drop_family.new.store d.0 (held_is_kept (member_code g.row.V.coded) c.self.inside.signs c.drop_family.new.store d _ trie) c.len-length.ensures.values in
     search all
 
 pub returns-clause-cells : goal.returns-clause-cells

@@ -4,7 +4,7 @@ use Rattle.pg_types.specs.Placement.{root, family_at}
 use Rattle.pg_cells.specs.Inside.ValuedFamilies.{Trie, ValuedFamilies}
 use Rattle.pg_cells.specs.Inside.AreValuedFamilies.{AreValuedFamilies}
 use Rattle.pg_cells.specs.Inside.Layouts.{AreKept}
-use Rattle.pg_cells.specs.Inside.OneTrie.{Kept, settled, held}
+use Rattle.pg_cells.specs.Inside.OneTrie.{Kept, kept_is_only, held_is_kept}
 use Rattle.pg_cells.specs.Inside.Root.{root_held}
 use Rattle.pg_cells.specs.declared.member.Member.{Member}
 use Rattle.pg_cells.specs.Inside.Store.{member_code}
@@ -31,14 +31,14 @@ pub invariant_of-self : goal.invariant_of-self
 invariant_of-self g c =
     let trie = root_trie c.args.blank c.self.inside.signs c.take_root.new.store c.set_base.new.self c.self.invariant.some c.take_root.ensures.root_to c.set_base.ensures in
     let all : (d : Kept c.self.inside.signs c.set_base.new.self) → AreKept c.self.inside.signs c.set_base.new.self d.0 =
-    λ d. record { trie = held (member_code g.row.V.coded) c.self.inside.signs c.set_base.new.self d _ trie; some = c.self.invariant.some; few = c.self.invariant.few } in
+    λ d. record { trie = held_is_kept (member_code g.row.V.coded) c.self.inside.signs c.set_base.new.self d _ trie; some = c.self.invariant.some; few = c.self.invariant.few } in
     search all
 
 pub returns-clause-held : goal.returns-clause-held
 returns-clause-held g c =
     let trie = root_trie c.args.blank c.self.inside.signs c.take_root.new.store c.set_base.new.self c.self.invariant.some c.take_root.ensures.root_to c.set_base.ensures in
     let all : (d : Kept c.self.inside.signs c.set_base.new.self) → ◌≡◌ {A = ValuedFamilies (Member g.row.V.Denot)} (record { signs = c.self.inside.signs; families = d.0.families; values = d.0.values }) (root_held c.args.self.now.signs c.args.blank) =
-    λ d. ap (λ (t : Trie (Member g.row.V.Denot)). record { signs = c.self.inside.signs; families = t.families; values = t.values }) (settled (member_code g.row.V.coded) c.self.inside.signs c.set_base.new.self d _ trie)
+    λ d. ap (λ (t : Trie (Member g.row.V.Denot)). record { signs = c.self.inside.signs; families = t.families; values = t.values }) (kept_is_only (member_code g.row.V.coded) c.self.inside.signs c.set_base.new.self d _ trie)
     ∙ ap (λ (h : ValuedFamilies (Member g.row.V.Denot)). root_held h.signs c.args.blank) c.self.view_is in
     search all
 
@@ -46,5 +46,5 @@ pub returns-clause-kept : goal.returns-clause-kept
 returns-clause-kept g c =
     let trie = root_trie c.args.blank c.self.inside.signs c.take_root.new.store c.set_base.new.self c.self.invariant.some c.take_root.ensures.root_to c.set_base.ensures in
     let all : (d : Kept c.self.inside.signs c.set_base.new.self) → AreValuedFamilies (record { signs = c.self.inside.signs; families = d.0.families; values = d.0.values }) =
-    λ d. is_held c.self.inside.signs c.set_base.new.self d.0 (held (member_code g.row.V.coded) c.self.inside.signs c.set_base.new.self d _ trie) c.len-length.ensures.values in
+    λ d. is_held c.self.inside.signs c.set_base.new.self d.0 (held_is_kept (member_code g.row.V.coded) c.self.inside.signs c.set_base.new.self d _ trie) c.len-length.ensures.values in
     search all

@@ -3,7 +3,7 @@ use Rattle.pg_types.specs.Inside.Placing.{IsLeast}
 use Rattle.pg_cells.specs.declared.cell.Cell.{Cell}
 use Rattle.pg_cells.specs.declared.member.Member.{Member}
 use Rattle.pg_cells.specs.Inside.Lists.{Row, lists, row_of}
-use Rattle.pg_cells.specs.Inside.Linked.{AreLinked}
+use Rattle.pg_cells.specs.Inside.FreeList.{AreLinked}
 use Rattle.pg_cells.specs.Inside.Fit.{fits_row, signs_of}
 use Rattle.pg_cells.proofs.ChainSteps.{signs_long}
 use Rattle.pg_cells.proofs.store.Store.find_base.Goals as goal

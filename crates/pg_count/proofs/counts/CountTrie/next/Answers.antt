@@ -1,6 +1,6 @@
 use Rattle.std.proofs.Common.{◌≡◌, ℕ, List, [], ◌∷◌, map, Some, refl, ap, sym, ◌∙◌, arith}
 use Rattle.std.proofs.lemmas.Option.{slice_get_within}
-use Rattle.pg_types.specs.Inside.Counts.{above}
+use Rattle.pg_types.specs.Inside.Counts.{windows_above}
 use Rattle.pg_types.proofs.StringEntries.{order}
 use Rattle.pg_cells.proofs.LinkLaws.{root_first}
 use Rattle.pg_count.specs.Inside.Counting.{Counting, Tally, sums_seen, window_at}
@@ -18,14 +18,14 @@ returns-then-has_none c =
     let counts : c.args.self.now.counts ≡ [] =
     sym (ap (λ (d : Counting). d.counts) c.self.view_is)
     ∙ ap (λ (es : List (List ℕ × Tally)). map (λ (e : List ℕ × Tally). (e.0, sums_seen e.1)) (map (λ (e : List ℕ × Tally). (window_at c.self.inside.windows.items e.1.0, e.1)) es)) none in
-    (ap (above c.args.at.now) counts, refl)
+    (ap (windows_above c.args.at.now) counts, refl)
 
 pub returns-in_err-number : goal.returns-in_err-number
 returns-in_err-number c =
     let leaves = c.self.invariant.leaves in
     let nearest = c.in_err-number.ensures [] leaves.held.root (λ q o at. (let l = leaves.short q o at in omega (arith, c.window_len-len.ensures))) in
     rw c.from_residual.ensures (
-      ap (λ (d : Counting). above c.args.at.now d.counts) (sym c.self.view_is) ∙ none_above c.self.inside.cells c.self.inside.windows.items c.self.inside.windows.len leaves c.args.at.now nearest,
+      ap (λ (d : Counting). windows_above c.args.at.now d.counts) (sym c.self.view_is) ∙ none_above c.self.inside.cells c.self.inside.windows.items c.self.inside.windows.len leaves c.args.at.now nearest,
       refl,
     )
 
@@ -52,7 +52,7 @@ returns c =
     let both : Some c.get.result.now ≡ Some l.rest = sym c.get.ensures ∙ l.there in
     let row : c.get.result.now ≡ l.rest = cc in
     let same : c.set.new.self ≡ l.rest = c.set.ensures ∙ row in
-    ap (λ (d : Counting). above c.args.at.now d.counts) (sym c.self.view_is)
+    ap (λ (d : Counting). windows_above c.args.at.now d.counts) (sym c.self.view_is)
     ∙ least_is c.self.inside.cells ws c.self.inside.windows.len leaves c.args.at.now c.in_ok-number.number l c.sums.result c.sums.ensures
-    ∙ ap (λ (d : Counting). (l.rest, c.sums.result) ∷ above l.rest d.counts) c.self.view_is
-    ∙ ap (λ (u : List ℕ). (u, c.sums.result) ∷ above u c.args.self.now.counts) (sym same)
+    ∙ ap (λ (d : Counting). (l.rest, c.sums.result) ∷ windows_above l.rest d.counts) c.self.view_is
+    ∙ ap (λ (u : List ℕ). (u, c.sums.result) ∷ windows_above u c.args.self.now.counts) (sym same)

@@ -1,6 +1,6 @@
 use Rattle.std.proofs.Common.{◌≡◌, ℕ, List, [], Some, map, arith, ap, sym, subst, ◌∙◌}
 use Rattle.std.proofs.lemmas.List.{append-nil}
-use Rattle.pg_types.specs.Inside.Numbered.{AreInOrder}
+use Rattle.pg_types.specs.Inside.NumberedWindows.{AreInOrder}
 use Rattle.pg_cells.proofs.LinkLaws.{root_first}
 use Rattle.pg_count.specs.Inside.Counting.{Counting, Tally, sums_seen, window_at}
 use Rattle.pg_count.specs.Inside.Under.{numbers_under}

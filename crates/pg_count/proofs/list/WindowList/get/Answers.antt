@@ -1,5 +1,5 @@
 use Rattle.std.proofs.Common.{◌≡◌, ◌+◌, ◌-◌, ◌*◌, ◌<◌, Some, length, take, drop, ap, sym, subst, ◌∙◌, arith}
-use Rattle.pg_types.specs.Inside.Numbered.{HasNumber}
+use Rattle.pg_types.specs.Inside.NumberedWindows.{HasNumber}
 use Rattle.pg_count.specs.Inside.Listed.{Listed}
 use Rattle.pg_count.proofs.Listing.{part_fits, part_is}
 use Rattle.pg_count.proofs.list.WindowList.get.Goals as goal

@@ -1,8 +1,8 @@
 use Rattle.std.proofs.Common.{refl, subst, ap, ◌∙◌}
 use Rattle.pg_driver.specs.declared.open_positions.OpenLevel.{OpenLevel}
-use Rattle.pg_driver.specs.Inside.Counting.{counting}
+use Rattle.pg_driver.specs.Inside.Counting.{meaning_after_counting}
 use Rattle.pg_driver.specs.Inside.LevelCounting.{IsOpenAt, IsReady}
-use Rattle.pg_driver.specs.Inside.Told.{known_of}
+use Rattle.pg_driver.specs.Inside.RunAccounts.{known_of}
 use Rattle.pg_driver.specs.Traces.{over}
 use Rattle.pg_driver.proofs.ReadySteps.{counts_all, has_room, is_small, ready_same}
 use Rattle.pg_driver.proofs.counting.Counting.count.Goals as goal
@@ -28,7 +28,7 @@ returns-in_ok-count_open-in-Open-clause-ok g c =
     let ready : IsOpenAt source pass.level pass.len (known_of m) o = subst (IsReady source pass.level pass.len (known_of m)) c.in-Open.is c.requires.ready in
     let now : IsOpenAt source pass.level pass.len (known_of m) p = ready_same source pass.level pass.len (known_of m) o ready p c.in_ok-reach-in-Open.ensures.places c.in_ok-reach-in-Open.ensures.closed refl in
     c.in_ok-count_open-in-Open.ensures.ok
-    ∙ ap (counting m) (counts_all source pass.level pass.len (known_of m) p now pass.dot c.requires.ranges.len_high c.requires.ranges.within)
+    ∙ ap (meaning_after_counting m) (counts_all source pass.level pass.len (known_of m) p now pass.dot c.requires.ranges.len_high c.requires.ranges.within)
 
 pub returns-in_ok-count_open-in-Open-clause-small : goal.returns-in_ok-count_open-in-Open-clause-small
 returns-in_ok-count_open-in-Open-clause-small g c =

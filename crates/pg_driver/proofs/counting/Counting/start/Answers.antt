@@ -1,5 +1,5 @@
 use Rattle.std.proofs.Common.{arith}
-use Rattle.pg_driver.specs.Inside.Told.{known_of}
+use Rattle.pg_driver.specs.Inside.RunAccounts.{known_of}
 use Rattle.pg_driver.specs.Traces.{over}
 use Rattle.pg_driver.proofs.WordLevels.{words_begin}
 use Rattle.pg_driver.proofs.ReadySteps.{ready_at_start}

@@ -2,10 +2,10 @@ use Rattle.std.proofs.Common.{◌≡◌, true, List, fold, refl, sym, ap, subst,
 use Rattle.pg_types.specs.Inside.Counts.{Counts}
 use Rattle.pg_select.specs.CountedPositions.{counted_positions, minima_of}
 use Rattle.pg_select.specs.Inside.Meanings.{Meaning, with_position}
-use Rattle.pg_driver.specs.declared.pass_windows.Place.{Place}
+use Rattle.pg_driver.specs.declared.pass_windows.WordPosition.{WordPosition}
 use Rattle.pg_driver.specs.declared.word_level.WordLevel.{WordLevel}
 use Rattle.pg_driver.specs.Inside.PassWindows.{HaveNumbers, is_counted_at}
-use Rattle.pg_driver.specs.Inside.Told.{known_of}
+use Rattle.pg_driver.specs.Inside.RunAccounts.{known_of}
 use Rattle.pg_driver.specs.Traces.{over}
 use Rattle.pg_driver.specs.Inside.WordLevels.{IsWordsAt}
 use Rattle.pg_driver.proofs.AboveNumbers.{numbered_as_counted}
@@ -30,5 +30,5 @@ returns-clause-numbers g c =
     ap (λ (x : Meaning). x.counts) c.in_ok-before.ensures.ok
     ∙ ap (λ (cs : Counts). fold with_position cs (counted_positions minima words m.pass m.patterns m.hopeless)) c.requires.fresh
     ∙ ap (λ p. fold with_position [] (counted_positions minima words p m.patterns m.hopeless)) c.requires.pass in
-    subst (λ (es : List Place). HaveNumbers pass (is_counted_at pass n.counts) words n.windows es c.count_words.new.windows.numbers.items) (sym ready.above)
+    subst (λ (es : List WordPosition). HaveNumbers pass (is_counted_at pass n.counts) words n.windows es c.count_words.new.windows.numbers.items) (sym ready.above)
     (numbered_as_counted minima words pass m.patterns m.hopeless n.counts n.windows _ _ c.kept.ensures.numbered counts c.in_ok-before.ensures.numbers)

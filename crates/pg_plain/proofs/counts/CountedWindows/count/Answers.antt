@@ -3,8 +3,8 @@ use Rattle.std.specs.Cmp.Lexicographic.{slice_cmp}
 use Rattle.std.specs.FinMap.Entries.{find}
 use Rattle.std.specs.List.{list_all}
 use Rattle.pg_types.specs.Inside.Counts.{AreSmall, sums_of, with_weight, is_counted}
-use Rattle.pg_types.specs.Inside.Numbered.{HasNumber}
-use Rattle.pg_types.specs.Inside.Numbers.{by_number}
+use Rattle.pg_types.specs.Inside.NumberedWindows.{HasNumber}
+use Rattle.pg_types.specs.Inside.NumberedStrings.{by_number}
 use Rattle.pg_plain.specs.Inside.Counted.{Counted, counted_more}
 use Rattle.pg_plain.proofs.Counted.{windows_put}
 use Rattle.pg_plain.proofs.Counting.{within, sums_there, has_number, set_seen, new_seen, new_are, new_number, absent_none}

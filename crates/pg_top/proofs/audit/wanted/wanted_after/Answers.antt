@@ -1,5 +1,5 @@
 use Rattle.std.proofs.Common.{◌≡◌, ◌∙◌, ◌++◌, ◌∷◌, [], List, ℕ, ap}
-use Rattle.pg_driver.specs.Inside.Told.{account_of}
+use Rattle.pg_driver.specs.Inside.RunAccounts.{account_of}
 use Rattle.pg_top.specs.audit.Audited.{given_file}
 use Rattle.pg_words.specs.Inside.Asked.{name_now}
 use Rattle.pg_top.specs.Readings.{Reading}

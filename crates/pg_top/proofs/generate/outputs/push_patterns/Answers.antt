@@ -1,6 +1,6 @@
 use Rattle.std.proofs.Common.{◌≡◌, ◌∙◌, ◌++◌, ◌∷◌, [], List, ℕ, ap}
 use Rattle.pg_top.specs.Selection.{selected_text}
-use Rattle.pg_top.specs.Inside.Written.{writing_of}
+use Rattle.pg_top.specs.Inside.WritesMade.{writing_of}
 use Rattle.pg_top.specs.declared.writes.Output.{Output}
 use Rattle.pg_top.proofs.Selections.{text_selected}
 use Rattle.pg_top.proofs.generate.outputs.push_patterns.Goals as goal

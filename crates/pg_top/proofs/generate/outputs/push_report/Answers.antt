@@ -1,7 +1,7 @@
 use Rattle.std.proofs.Common.{◌∙◌, ◌++◌, ◌∷◌, [], List, ℕ, ap}
 use Rattle.std.proofs.lemmas.Result.{on_ok_weaker}
-use Rattle.pg_driver.specs.Inside.Told.{account_of}
-use Rattle.pg_top.specs.Inside.Written.{writing_of}
+use Rattle.pg_driver.specs.Inside.RunAccounts.{account_of}
+use Rattle.pg_top.specs.Inside.WritesMade.{writing_of}
 use Rattle.pg_top.proofs.Selections.{report_selected}
 use Rattle.pg_top.proofs.generate.outputs.push_report.Goals as goal
 

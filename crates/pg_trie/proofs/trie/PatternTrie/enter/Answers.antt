@@ -6,8 +6,8 @@ use Rattle.pg_cells.specs.Inside.ValuedFamilies.{ValuedFamilies}
 use Rattle.pg_cells.specs.Inside.Walks.{AddsBlanks}
 use Rattle.std.specs.FinMap.{put}
 use Rattle.pg_cells.proofs.StringMaps.{order}
-use Rattle.pg_trie.specs.declared.mark.TheConstants.{HOPELESS}
-use Rattle.pg_trie.specs.Inside.Lists.{entered}
+use Rattle.pg_trie.specs.declared.hopeless.TheConstants.{HOPELESS}
+use Rattle.pg_trie.specs.Inside.Lists.{list_with}
 use Rattle.pg_trie.specs.Inside.Maps.{Maps}
 use Rattle.pg_trie.proofs.Changes.{SameMaps, blanks_stay, records_stay, both_stay, Enters, enters, same_view, raised_view, marked_view, part_seen, whole_seen}
 use Rattle.pg_trie.proofs.trie.PatternTrie.enter.Goals as goal
@@ -49,7 +49,7 @@ entering c =
     enters c.enter.new.cells c.set_value.new.self c.raised_head.new.outputs c.args.signs.now c.number-old.result c.in_ok-head.head (c.args.value, c.args.dot) more.trie c.set_value.ensures.kept
     (c.set_value.ensures.held c.args.signs.now c.in_ok-cell.ensures.cell)
     there c.in_ok-head.ensures.inside
-    (c.in_ok-head.ensures.list ∙ ap (entered (c.args.value, c.args.dot)) (sym (c.raised_head.ensures.grows.same c.number-old.result ((entered_cells c).trie.heads c.args.signs.now c.number-old.result there).inside)))
+    (c.in_ok-head.ensures.list ∙ ap (list_with (c.args.value, c.args.dot)) (sym (c.raised_head.ensures.grows.same c.number-old.result ((entered_cells c).trie.heads c.args.signs.now c.number-old.result there).inside)))
     c.requires.value.0 c.requires.value.1 c.requires.dot
   where
     entered_cells : (c : goal.After-set_value) → SameMaps c.self.inside.cells c.self.inside.outputs c.enter.new.cells c.self.inside.outputs

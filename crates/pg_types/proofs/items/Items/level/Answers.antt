@@ -3,25 +3,25 @@ use Rattle.std.proofs.lemmas.Result.{err_from_is_err_and}
 use Rattle.pg_types.specs.declared.refusals.Refusal.{Refusal}
 use Rattle.pg_types.specs.declared.limits.TheConstants.{LENGTH_MAX, COST_MAX}
 use Rattle.pg_types.specs.Parameters.{items, number_at, refusal_from}
-use Rattle.pg_types.specs.Inside.ItemSteps.{Demand, between}
+use Rattle.pg_types.specs.Inside.ItemSteps.{Demand, number_between}
 use Rattle.pg_types.proofs.items.Items.level.Goals as goal
 
 -- what is demanded behind each of the five numbers
 abbrev behind_bad : List Demand → List Demand
-behind_bad more = between 1 COST_MAX ∷ more
+behind_bad more = number_between 1 COST_MAX ∷ more
 
 abbrev behind_good : List Demand → List Demand
-behind_good more = between 1 COST_MAX ∷ behind_bad more
+behind_good more = number_between 1 COST_MAX ∷ behind_bad more
 
 abbrev behind_finish : List Demand → List Demand
-behind_finish more = between 1 COST_MAX ∷ behind_good more
+behind_finish more = number_between 1 COST_MAX ∷ behind_good more
 
 abbrev behind_start : ℕ → List Demand → List Demand
-behind_start least more = between least LENGTH_MAX ∷ behind_finish more
+behind_start least more = number_between least LENGTH_MAX ∷ behind_finish more
 
 -- the first number is the least that the second may be
-at_least_start : (place : ℕ) (xs : List (List ℕ)) (least : ℕ) (more : List Demand) (r : Option Refusal) → least ≡ number_at xs 0 → refusal_from place (between 1 LENGTH_MAX ∷ behind_start least more) xs ≡ r → refusal_from place (between 1 LENGTH_MAX ∷ behind_start (number_at xs 0) more) xs ≡ r
-at_least_start place xs least more r is h = subst (λ (n : ℕ). refusal_from place (between 1 LENGTH_MAX ∷ behind_start n more) xs ≡ r) is h
+at_least_start : (place : ℕ) (xs : List (List ℕ)) (least : ℕ) (more : List Demand) (r : Option Refusal) → least ≡ number_at xs 0 → refusal_from place (number_between 1 LENGTH_MAX ∷ behind_start least more) xs ≡ r → refusal_from place (number_between 1 LENGTH_MAX ∷ behind_start (number_at xs 0) more) xs ≡ r
+at_least_start place xs least more r is h = subst (λ (n : ℕ). refusal_from place (number_between 1 LENGTH_MAX ∷ behind_start n more) xs ≡ r) is h
 
 pub returns-in_err-pat_start-clause-refused : goal.returns-in_err-pat_start-clause-refused
 returns-in_err-pat_start-clause-refused c =

@@ -1,9 +1,9 @@
-//! What an entry of a map of places gives at its dot.
+//! What an entry of a map of dotted strings gives at its dot.
 ghost use Rattle.std.specs.Prelude.{◌≡◌, ℕ, Bool};
 
-/// What a map has at a place: in a word an entry gives a value to the position of its dot, and it
-/// may cover the window there.
-pub trait PlaceEntry {
+/// What a map has at a dotted string: in a word an entry gives a value to the position of its dot,
+/// and it may cover the window there.
+pub trait DottedEntry {
     ghost given: { Self → ℕ };
 
     ghost covers_at: { ℕ → Self → Bool };
@@ -18,7 +18,7 @@ pub trait PlaceEntry {
 }
 
 /// The value of a pattern covers at its level and at those below.
-impl PlaceEntry for u8 {
+impl DottedEntry for u8 {
     ghost use Rattle.std.specs.Prelude.{nat_le};
 
     ghost given = { λ value. value };
@@ -34,8 +34,8 @@ impl PlaceEntry for u8 {
     }
 }
 
-/// A hopeless place gives no value, and covers.
-impl PlaceEntry for () {
+/// A hopeless dotted string gives no value, and covers.
+impl DottedEntry for () {
     ghost use Rattle.std.specs.Prelude.{true};
 
     ghost given = { λ _. 0 };

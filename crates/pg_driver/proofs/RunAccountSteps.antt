@@ -5,7 +5,7 @@ use Rattle.std.specs.Option.{option_map, MatchOption}
 use Rattle.std.proofs.lemmas.List.Elements.{All-cons, All-nil}
 use Rattle.pg_types.specs.declared.marks.Layout.{Layout}
 use Rattle.pg_types.specs.declared.marks.Totals.{Totals}
-use Rattle.pg_types.specs.Placement.{Families, taken, top}
+use Rattle.pg_types.specs.Placement.{Families, taken_count, top}
 use Rattle.pg_types.specs.Tails.{tails}
 use Rattle.pg_select.specs.Inside.Meanings.{IsLayout, Meaning}
 use Rattle.pg_select.specs.declared.pass.Pass.{Pass}
@@ -16,7 +16,7 @@ use Rattle.pg_driver.specs.Inside.AccountLines.{account}
 use Rattle.pg_driver.specs.Inside.CellsAccounts.{cells_account, layout_of}
 use Rattle.pg_driver.specs.Inside.Levels.{DidRun, level_layouts, run_layouts}
 use Rattle.pg_driver.specs.Inside.Sound.{Finished, Recorded}
-use Rattle.pg_driver.specs.Inside.Told.{TellsCells, account_of, layout_told, level_layout_told}
+use Rattle.pg_driver.specs.Inside.RunAccounts.{TellsCells, account_of, layout_told, level_layout_told}
 use Rattle.pg_select.specs.Windows.{Patterns}
 use Rattle.pg_driver.specs.Traces.{LevelTrace, Source, Trace, final_patterns}
 
@@ -35,7 +35,7 @@ none_told layout f (r ∷ rs) (x ∷ xs) is =
 abbrev some_layout : Layout → Option Layout
 some_layout l = Some l
 
-first_layout : (P : Patterns) (o : Option Families) (l : Layout) → MatchOption o ⊥ (λ fs. (l.taken ≡ taken fs) × (l.top ≡ top fs)) → l.tails ≡ tails P → some_layout l ≡ option_map (λ fs. layout_of fs P) o
+first_layout : (P : Patterns) (o : Option Families) (l : Layout) → MatchOption o ⊥ (λ fs. (l.taken ≡ taken_count fs) × (l.top ≡ top fs)) → l.tails ≡ tails P → some_layout l ≡ option_map (λ fs. layout_of fs P) o
 first_layout P None l is of_tails = absurd is
 first_layout P (Some fs) l is of_tails = λ i. some_layout (record { taken = is.0 i; top = is.1 i; tails = of_tails i })
 

@@ -1,4 +1,4 @@
-//! Maps from places, in their order.
+//! Maps from dotted strings, in their order.
 ghost use Rattle.std.specs.Prelude.{◌≡◌, ℕ, Bool, true, List, OnOk, OnErr, IfOk};
 ghost use Rattle.std.specs.List.{list_all};
 ghost use Rattle.std.specs.FinMap.Entries.{put};
@@ -10,7 +10,7 @@ use pg_patterns::{DottedSigns, Entry, PatternSet};
 use std::alloc::{AllocError, Global};
 use std::collections::BTreeMap;
 
-/// The value of a place, 0 where it has none.
+/// The value of a dotted string, 0 where it has none.
 fn value_in(map: &BTreeMap<DottedSigns, u8>, place: &DottedSigns) -> u8
     ensures { result ≡ value_of map.now.entries place.now }
 {

@@ -1,6 +1,6 @@
 use Rattle.std.proofs.Common.{Some, sym, ap, ◌∙◌}
 use Rattle.pg_plain.proofs.Entered.{entered_next}
-use Rattle.pg_plain.proofs.places.map_of.Goals as goal
+use Rattle.pg_plain.proofs.dotted_maps.map_of.Goals as goal
 
 pub loop-i-preserved : goal.loop-i-preserved
 loop-i-preserved c =

@@ -18,18 +18,18 @@ abbrev pub layout_there : Option Layout → Layout
 layout_there layout = unwrap_or layout (record { taken = 0; top = 0; tails = 0 })
 
 -- what a record of a pass tells of the cells
-abbrev pub pass_told : PassRecord → Pass × ℕ × ℕ
-pass_told r = let l = layout_there r.layout in
+abbrev pub pass_cells : PassRecord → Pass × ℕ × ℕ
+pass_cells r = let l = layout_there r.layout in
     (record { level = r.level; len = r.len; dot = r.dot }, l.taken, l.top)
 
 -- what a record of a level tells of the cells
-abbrev pub level_told : LevelRecord → ℕ × Layout
-level_told r = (r.level, layout_there r.layout)
+abbrev pub level_cells : LevelRecord → ℕ × Layout
+level_cells r = (r.level, layout_there r.layout)
 
 -- what a run tells of the cells
-abbrev pub cells_told : Finished → CellsAccount
-cells_told r = record {
+abbrev pub run_cells : Finished → CellsAccount
+run_cells r = record {
   start = layout_there r.first_layout;
-  passes = map pass_told r.passes;
-  levels = map level_told r.levels;
+  passes = map pass_cells r.passes;
+  levels = map level_cells r.levels;
 }

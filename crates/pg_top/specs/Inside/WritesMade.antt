@@ -23,8 +23,7 @@ abbrev pub WroteAll : FilesShown → FilesShown → Writing → Type 0
 WroteAll old new ws = IfSome new.held
     (λ after. MatchOption old.held ⊥ (λ before. after ≡ after_all before ws))
 
--- the write at a place failed: its write faults rose, and where files are told, writing stopped at
--- its name
+-- the write at a place failed: its faults rose, and where files are told, writing stopped there
 pub record StoppedAt (old new : FilesShown) (ws : Writing) (at : ℕ) : Type 0 where
   pub write : List ℕ × List ℕ
   pub there : slice_get ws at ≡ Some write

@@ -1,7 +1,7 @@
 //! The patterns that stay.
 ghost use Rattle.std.specs.Prelude.{◌≡◌, ◌<◌, length, All, IfOk};
 ghost use Rattle.pg_patterns.specs.Inside.PatternMaps.{IsPatternMap};
-ghost use Rattle.pg_prune.specs.Inside.Picks.{picked};
+ghost use Rattle.pg_prune.specs.Inside.Picks.{picked_entries};
 
 use pg_patterns::{DottedSigns, PatternSet};
 use std::alloc::{AllocError, Global};
@@ -13,8 +13,8 @@ pub(crate) fn kept_patterns(
     kept: &[usize],
 ) -> Result<PatternSet, AllocError>
     requires within { All (λ i. i < length patterns.now) kept.now }
-    requires map { IsPatternMap (picked patterns.now kept.now) }
-    ensures { IfOk result (λ set. set ≡ picked patterns.now kept.now) }
+    requires map { IsPatternMap (picked_entries patterns.now kept.now) }
+    ensures { IfOk result (λ set. set ≡ picked_entries patterns.now kept.now) }
 {
     let mut entries = Vec::new(alloc);
     'entries: for i in kept {

@@ -15,7 +15,7 @@ use Rattle.pg_driver.specs.declared.records.PassRecord.{PassRecord}
 use Rattle.pg_driver.specs.declared.records.LevelRecord.{LevelRecord}
 use Rattle.pg_driver.specs.Inside.Sound.{Finished}
 use Rattle.pg_select.specs.Windows.{Patterns}
-use Rattle.pg_driver.specs.Accounts.{begun}
+use Rattle.pg_driver.specs.Accounts.{begun_count}
 use Rattle.pg_driver.specs.Inside.AccountLines.{Account, PassLine, LevelLine, account}
 
 -- the families at the end of a run that begins with these
@@ -30,25 +30,25 @@ known_of m = record { patterns = m.patterns; hopeless = m.hopeless }
 abbrev pub run_from : Alphabet → List Word → Parameters → Meaning → Trace
 run_from t words parameters m = trace (over t words) parameters m.patterns
 
--- the final patterns of that run
+-- the patterns at the end of the run from an engine's patterns
 abbrev pub patterns_from : Alphabet → List Word → Parameters → Meaning → Patterns
 patterns_from t words parameters m = final_patterns m.patterns (run_from t words parameters m)
 
--- what is told of that run
+-- what is told of the run from an engine's patterns
 abbrev pub account_from : Alphabet → List Word → Parameters → Meaning → Account
 account_from t words parameters m = account (over t words) m.patterns
     (run_from t words parameters m)
 
--- how many passes of that run are begun
+-- how many passes of the run from an engine's patterns are begun
 abbrev pub begun_from : Alphabet → List Word → Parameters → Meaning → ℕ
-begun_from t words parameters m = begun (run_from t words parameters m)
+begun_from t words parameters m = begun_count (run_from t words parameters m)
 
--- the families at the end of that run, where families are told
+-- the families at the end of the run from an engine's, where they are told
 abbrev pub families_from : Alphabet → List Word → Parameters → Meaning → Option Families
 families_from t words parameters m =
     option_map (λ fs. final_families m.signs fs (run_from t words parameters m)) m.families
 
--- what is told of the cells of that run, where families are told
+-- what is told of the cells of the run from an engine's families, where they are told
 abbrev pub cells_from : Alphabet → List Word → Parameters → Meaning → Option CellsAccount
 cells_from t words parameters m =
     option_map (λ fs. cells_account m.signs fs m.patterns
@@ -87,8 +87,7 @@ layout_told r = option_map
 abbrev pub level_layout_told : LevelRecord → Option (ℕ × Layout)
 level_layout_told r = option_map (λ l. (r.level, l)) r.layout
 
--- the layouts that a run tells are those of the account; and where there is none, the run tells no
--- layout
+-- the layouts that a run tells are those of the account, and none where there is no account
 abbrev pub TellsCells : Option CellsAccount → Finished → Type 0
 TellsCells (Some a) r = (r.first_layout ≡ Some a.start)
     × (map layout_told r.passes ≡ map Some a.passes)

@@ -1,5 +1,5 @@
 use Rattle.pg_plain.proofs.Entered.{put_is, places_in}
-use Rattle.pg_plain.proofs.places.put_in.Goals as goal
+use Rattle.pg_plain.proofs.dotted_maps.put_in.Goals as goal
 
 pub returns-clause-ok : goal.returns-clause-ok
 returns-clause-ok c = put_is c.args.set.now.entries c.insert.new.self.entries c.args.place _ c.in_ok-insert.ensures.entries

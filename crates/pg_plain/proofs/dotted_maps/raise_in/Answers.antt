@@ -2,7 +2,7 @@ use Rattle.std.proofs.Common.{◌≡◌, true, subst, sym}
 use Rattle.std.specs.List.{list_all}
 use Rattle.pg_patterns.specs.Inside.PatternMaps.{is_entry}
 use Rattle.pg_plain.proofs.Entered.{raised_in, entries_raise, places_in}
-use Rattle.pg_plain.proofs.places.raise_in.Goals as goal
+use Rattle.pg_plain.proofs.dotted_maps.raise_in.Goals as goal
 
 pub returns-clause-ok : goal.returns-clause-ok
 returns-clause-ok c =

@@ -1,5 +1,5 @@
 use Rattle.std.proofs.Common.{◌≡◌, take}
-use Rattle.pg_plain.proofs.places.map_of.Given as goal
+use Rattle.pg_plain.proofs.dotted_maps.map_of.Given as goal
 
 abbrev pub invariant-loop-i : goal.invariant-loop-i
 invariant-loop-i l = l.map.entries ≡ take l.i l.patterns

@@ -28,7 +28,7 @@ struct Call {
 /// An observer that shows where a call is, and keeps what explains its answer. Where memory is
 /// short, less is kept.
 #[derive(Drop)]
-pub struct Told<'a, C, E: Drop> {
+pub struct Messages<'a, C, E: Drop> {
     alloc: Global,
     screen: Screen<'a, C, E>,
     /// The first word.
@@ -81,10 +81,10 @@ fn shown_name(alloc: Global, name: &str) -> Vec<u8> {
     }
 }
 
-impl<'a, C: Clock, E: Write + Drop> Told<'a, C, E> {
+impl<'a, C: Clock, E: Write + Drop> Messages<'a, C, E> {
     /// An observer on standard error, which shows where a call is or does not.
-    pub fn new(alloc: Global, clock: &'a C, err: E, is_shown: bool) -> Told<'a, C, E> {
-        Told {
+    pub fn new(alloc: Global, clock: &'a C, err: E, is_shown: bool) -> Messages<'a, C, E> {
+        Messages {
             alloc,
             screen: Screen::new(clock, err, is_shown),
             command: RefCell::new(String::new(alloc)),
@@ -258,7 +258,7 @@ fn before_of<'b, S: SameFile>(earlier: &'b [Call], last: &Call, same: &S) -> Opt
     None
 }
 
-impl<'a, C: Clock, E: Write + Drop> Watch for Told<'a, C, E> {
+impl<'a, C: Clock, E: Write + Drop> Watch for Messages<'a, C, E> {
     fn reads(&self, name: &str) {
         self.call(Deed::Reading, &Step::Reading, name);
     }

@@ -8,30 +8,30 @@ const ROOM: usize = LENGTH_MAX as usize + 2;
 /// The passes of a length, and of the next, that can be skipped, since a pass of the same level
 /// that is shorter by a sign left no candidate. Each has a flag by its dot.
 #[derive(Drop)]
-pub struct Closed {
+pub struct Skippable {
     here: [bool; ROOM],
     longer: [bool; ROOM],
 }
 
-impl Model for Closed {
-    ghost use Rattle.pg_driver.specs.Inside.Levels.{ClosedDots};
+impl Model for Skippable {
+    ghost use Rattle.pg_driver.specs.Inside.Levels.{SkipFlags};
 
-    ghost Value = { ClosedDots };
+    ghost Value = { SkipFlags };
 
     ghost view = { λ c. record { here = c.here; longer = c.longer } };
 }
 
-impl Closed {
+impl Skippable {
     ghost use Rattle.std.specs.Prelude.{◌≡◌, ◌≤◌, ◌+◌, ◌==◌, ◌&&◌, ◌||◌, ℕ, false};
     ghost use Rattle.pg_types.specs.declared.limits.TheConstants.{LENGTH_MAX};
-    ghost use Rattle.pg_driver.specs.Inside.Levels.{is_set, unset};
+    ghost use Rattle.pg_driver.specs.Inside.Levels.{is_set, no_flags};
 
     /// No flag is set, as where a level begins.
-    pub fn new() -> Closed
-        ensures here { result.here ≡ unset }
-        ensures longer { result.longer ≡ unset }
+    pub fn new() -> Skippable
+        ensures here { result.here ≡ no_flags }
+        ensures longer { result.longer ≡ no_flags }
     {
-        Closed {
+        Skippable {
             here: [false; ROOM],
             longer: [false; ROOM],
         }
@@ -61,7 +61,7 @@ impl Closed {
     /// Goes on to the next length.
     pub fn next_length(&mut self)
         ensures here { self.new.here ≡ self.old.longer }
-        ensures longer { self.new.longer ≡ unset }
+        ensures longer { self.new.longer ≡ no_flags }
     {
         let longer = self.longer;
         self.here = longer;

@@ -1,5 +1,5 @@
 use Rattle.std.proofs.Common.{length}
-use Rattle.pg_messages.proofs.told.line_at.Given as goal
+use Rattle.pg_messages.proofs.messages.line_at.Given as goal
 
 abbrev pub decreases-lines : goal.decreases-lines
 decreases-lines l = length l.rest

@@ -3,9 +3,9 @@ use Rattle.std.proofs.lemmas.List.{take_all}
 use Rattle.std.proofs.lemmas.Option.{get_or_from_slice_get}
 use Rattle.std.specs.List.{list_all}
 use Rattle.pg_patterns.specs.Inside.PatternMaps.{is_entry}
-use Rattle.pg_prune.specs.Inside.Picks.{picked}
+use Rattle.pg_prune.specs.Inside.Picks.{picked_entries}
 use Rattle.pg_prune.proofs.Picking.{picked_more}
-use Rattle.pg_prune.proofs.kept.kept_patterns.Goals as goal
+use Rattle.pg_prune.proofs.kept_patterns.kept_patterns.Goals as goal
 
 pub entry-entry-requires : goal.entry-entry-requires
 entry-entry-requires c = c.requires.within c.entries.i-index 0 c.entries-test.true
@@ -17,10 +17,10 @@ entries-preserved c =
     c.in_ok-push.ensures.items
     ∙ ap (λ (p : List ℕ × ℕ). c.entries.entries.items ++ (p, c.entry-entry.result.value) ∷ []) c.new.ensures
     ∙ ap (λ es. es ++ ((c.entry-entry.result.signs.now, c.entry-entry.result.dot), c.entry-entry.result.value) ∷ []) c.entries.invariant
-    ∙ ap (λ e. picked c.args.patterns.now (take c.entries.i-index c.args.kept.now) ++ e ∷ []) (sym is)
+    ∙ ap (λ e. picked_entries c.args.patterns.now (take c.entries.i-index c.args.kept.now) ++ e ∷ []) (sym is)
     ∙ sym (picked_more c.args.patterns.now c.args.kept.now c.entries.i-index c.entries-test.true)
 
 pub from_entries-requires : goal.from_entries-requires
 from_entries-requires c =
-    let whole = c.entries.invariant ∙ ap (picked c.args.patterns.now) (take_all c.entries.i-index c.args.kept.now c.entries-test.false) in
+    let whole = c.entries.invariant ∙ ap (picked_entries c.args.patterns.now) (take_all c.entries.i-index c.args.kept.now c.entries-test.false) in
     subst (λ es. list_all is_entry es ≡ true) (sym whole) c.requires.map.sound

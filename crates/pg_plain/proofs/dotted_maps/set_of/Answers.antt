@@ -3,7 +3,7 @@ use Rattle.std.specs.FinMap.Entries.{is_sorted}
 use Rattle.pg_patterns.specs.DottedSigns.{dotted_cmp}
 use Rattle.pg_plain.proofs.Entered.{whole}
 use Rattle.pg_types.proofs.EntryLists.{sorted_from}
-use Rattle.pg_plain.proofs.places.set_of.Goals as goal
+use Rattle.pg_plain.proofs.dotted_maps.set_of.Goals as goal
 
 pub returns : goal.returns
 returns c =
