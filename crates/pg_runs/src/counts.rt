@@ -12,7 +12,7 @@ use pg_patterns::PatternSet;
 use pg_plain::PlainEngine;
 use pg_select::{Engine, Pass};
 use pg_translate::Table;
-use pg_types::Cursor;
+use pg_types::{Cursor, LENGTH_MAX, LEVEL_MAX};
 use std::alloc::{AllocError, Global};
 use std::test::Fail;
 
@@ -35,16 +35,19 @@ const TWO_WORDS: &[(u32, &[u8])] = &[(1, b"ab-c\n"), (1, b"ab-a\n")];
 /// A word with a hyphen, twice, and a longer one without.
 const THREE_WORDS: &[(u32, &[u8])] = &[(2, b"a-b\n"), (1, b"cab\n")];
 
+/// The pass of windows of two signs with the dot between them, at the first level.
+const PASS_BETWEEN: Pass = Pass {
+    level: 1,
+    len: 2,
+    dot: 1,
+};
+
 /// The edge is the sign 1, a 2, b 3 and c 4.
-const ROWS: [Row; 6] = [
+const ROWS: [Row; 11] = [
     Row {
         lines: TWO_WORDS,
         start: b"",
-        pass: Pass {
-            level: 1,
-            len: 2,
-            dot: 1,
-        },
+        pass: PASS_BETWEEN,
         windows: "[2, 3] 0 2\n[3, 2] 1 0\n[3, 4] 1 0\n",
     },
     Row {
@@ -98,6 +101,41 @@ const ROWS: [Row; 6] = [
             dot: 0,
         },
         windows: "[3] 0 4295\n[4] 4295 0\n",
+    },
+    // A window at both kinds of position, and twice in one word.
+    Row {
+        lines: &[(1, b"a-bab\n")],
+        start: b"",
+        pass: PASS_BETWEEN,
+        windows: "[2, 3] 1 1\n[3, 2] 0 1\n",
+    },
+    // A position of weight 0 gives a window too.
+    Row {
+        lines: &[(1, b"a-0bc\n")],
+        start: b"",
+        pass: PASS_BETWEEN,
+        windows: "[2, 3] 0 0\n[3, 4] 0 1\n",
+    },
+    // So does each position of a word of weight 0.
+    Row {
+        lines: &[(1, b"0ab-c\n")],
+        start: b"",
+        pass: PASS_BETWEEN,
+        windows: "[2, 3] 0 0\n[3, 4] 0 0\n",
+    },
+    // A word of weight 0 adds nothing to the sums of the same windows.
+    Row {
+        lines: &[(1, b"0ab-c\n"), (1, b"1ab-c\n")],
+        start: b"",
+        pass: PASS_BETWEEN,
+        windows: "[2, 3] 0 1\n[3, 4] 1 0\n",
+    },
+    // A window at both kinds of position, in two words.
+    Row {
+        lines: THREE_WORDS,
+        start: b"",
+        pass: PASS_BETWEEN,
+        windows: "[2, 3] 2 1\n[4, 2] 0 1\n",
     },
 ];
 
@@ -195,7 +233,12 @@ fn counted_under(alloc: Global, table: &Table, row: &Row) -> Result<String, Fail
 /// The windows that the pass of a row counts.
 fn counted(alloc: Global, row: &Row) -> Result<String, Fail> {
     let pass = row.pass;
-    if pass.level < 1 || 9 < pass.level || pass.len < 1 || 15 < pass.len || pass.len < pass.dot {
+    if pass.level < 1
+        || LEVEL_MAX < pass.level
+        || pass.len < 1
+        || LENGTH_MAX < pass.len
+        || pass.len < pass.dot
+    {
         return Err(Fail::new("a level, a length and a dot"));
     }
     let table = Table::read(alloc, LETTERS)?;
