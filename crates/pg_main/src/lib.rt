@@ -12,7 +12,7 @@ mod named;
 
 use crate::named::Named;
 pub use listen::Listen;
-use pg_messages::{Reasons, Told};
+use pg_messages::{Messages, Reasons};
 use pg_outside::{Files, HostFiles, HostSink, HostSystem, Sink};
 use pg_top::{exit_code, run_watched};
 use pg_watch::is_shown;
@@ -159,14 +159,14 @@ pub fn run_words<
     let is_shown = is_shown(choice.as_deref(), err.is_terminal());
     let mut files = HostFiles::new(alloc, HostSystem::new(rt));
     let mut sink = HostSink::new(out);
-    let told = Told::new(alloc, rt, err, is_shown);
-    let code = exit_of(alloc, env::args(rt), &mut files, &mut sink, &told);
+    let messages = Messages::new(alloc, rt, err, is_shown);
+    let code = exit_of(alloc, env::args(rt), &mut files, &mut sink, &messages);
     let of_files = reason_text(alloc, files.system().reason());
     let of_puts = reason_text(alloc, sink.reason());
     let reasons = Reasons {
         files: &of_files,
         puts: &of_puts,
     };
-    told.put_fault(&reasons, &Named::new(rt));
+    messages.put_fault(&reasons, &Named::new(rt));
     code
 }

@@ -1,6 +1,6 @@
 //! The observer of a program.
 use crate::NoWords;
-use pg_messages::Told;
+use pg_messages::Messages;
 use pg_top::Status;
 use pg_watch::Watch;
 use std::io::Write;
@@ -23,7 +23,7 @@ pub trait Listen: Watch {
 const UNREADABLE: &[u8] =
     b"patgen: the system did not give the words, or one of them is no UTF-8\n";
 
-impl<'a, C: Clock, E: Write + Drop> Listen for Told<'a, C, E> {
+impl<'a, C: Clock, E: Write + Drop> Listen for Messages<'a, C, E> {
     fn begins(&self, words: &[String]) {
         self.take_words(words);
     }
