@@ -3,7 +3,7 @@ use crate::arguments::{Given, Nowhere};
 use crate::quiet::words;
 use crate::scripted::Broken;
 use pg_main::{NoWords, run_words, status_of};
-use pg_messages::Told;
+use pg_messages::Messages;
 use pg_outside::{MemoryFiles, MemorySink};
 use std::alloc::{AllocError, Global};
 use std::process::ExitCode;
@@ -54,8 +54,8 @@ fn status_over<C: Clock>(
     out: &mut MemorySink,
     alloc: Global,
 ) -> u8 {
-    let told = Told::new(alloc, clock, io::sink(), false);
-    status_of(alloc, words, files, out, &told)
+    let messages = Messages::new(alloc, clock, io::sink(), false);
+    status_of(alloc, words, files, out, &messages)
 }
 
 /// The status for these words, or the reason why there are none.
