@@ -2,8 +2,8 @@
 use Rattle.std.proofs.Common.{◌≡◌, ℕ, Bool, true, false, nat_lt, cond, List, [], ◌∷◌, ◌++◌, length, take, codes, refl, ap}
 use Rattle.std.specs.Prelude.{◌-◌}
 use Rattle.std.proofs.lemmas.List.{append-nil}
-use Rattle.pg_audit.specs.FoundLines.{has_feed, without_feed, found_text}
-use Rattle.pg_audit.specs.Inside.FoundForms.{FoundLine, Missing, Begins, Ended, Unended, found_line}
+use Rattle.pg_audit.specs.FoundLines.{found_text}
+use Rattle.pg_audit.specs.Inside.FoundForms.{FoundLine, Missing, Begins, Ended, Unended, found_line, has_feed, without_feed}
 
 pub text_of : FoundLine → List ℕ
 text_of Missing = codes " is missing"

@@ -5,8 +5,7 @@ use Rattle.std.proofs.lemmas.Bool.Decides.{nat_tests}
 use Rattle.std.proofs.lemmas.List.{take_all, length-take}
 use Rattle.pg_audit.specs.Differences.{Difference, first_false}
 use Rattle.pg_audit.specs.Inside.FirstFalse.{shown}
-use Rattle.pg_audit.specs.FoundLines.{has_feed, without_feed}
-use Rattle.pg_audit.specs.Inside.FoundForms.{Begins, found_line, printed_of}
+use Rattle.pg_audit.specs.Inside.FoundForms.{Begins, found_line, printed_of, has_feed, without_feed}
 use Rattle.pg_audit.proofs.FirstPart.{take_within, first_part}
 
 -- a line has at most one byte more than without its line feed

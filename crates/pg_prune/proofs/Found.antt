@@ -3,7 +3,8 @@ use Rattle.std.proofs.Common.{◌≡◌, ℕ, Bool, true, false, not, List, [], 
 use Rattle.std.specs.Prelude.{MatchOption, is_some}
 use Rattle.pg_select.specs.Windows.{Patterns}
 use Rattle.pg_prune.specs.Places.{WordPlace}
-use Rattle.pg_prune.specs.Prunes.{break_alike, break_alike_at}
+use Rattle.pg_prune.specs.Prunes.{break_alike_at}
+use Rattle.pg_prune.specs.Inside.Alike.{break_alike}
 use Rattle.pg_prune.specs.Inside.Findings.{first_difference}
 use Rattle.pg_prune.specs.Inside.Turns.{IsFound}
 use Rattle.pg_prune.proofs.NeedLaws.{alike_where_none}

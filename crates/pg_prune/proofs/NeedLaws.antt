@@ -8,7 +8,8 @@ use Rattle.pg_patterns.specs.Values.{value_at}
 use Rattle.pg_select.specs.Windows.{Patterns}
 use Rattle.pg_prune.specs.declared.pruned.Need.{Need}
 use Rattle.pg_prune.specs.Places.{WordPlace}
-use Rattle.pg_prune.specs.Prunes.{break_alike_at, break_alike, need_at, needs_from}
+use Rattle.pg_prune.specs.Prunes.{break_alike_at, need_at, needs_from}
+use Rattle.pg_prune.specs.Inside.Alike.{break_alike}
 use Rattle.pg_prune.specs.Inside.Findings.{need_list, first_difference}
 use Rattle.pg_prune.proofs.RoundLaws.{by_test, regrouped, NoneGoes}
 use Rattle.pg_prune.proofs.Told.{IsBehind}

@@ -12,7 +12,8 @@ use Rattle.pg_select.specs.CountedPositions.{Minima}
 use Rattle.pg_select.specs.Windows.{Patterns}
 use Rattle.pg_prune.specs.Places.{places}
 use Rattle.pg_prune.proofs.PlaceForms.{places_as}
-use Rattle.pg_prune.specs.Prunes.{break_alike, round, rounds, needs, pruned}
+use Rattle.pg_prune.specs.Prunes.{round, rounds, needs, pruned}
+use Rattle.pg_prune.specs.Inside.Alike.{break_alike}
 use Rattle.pg_prune.specs.Promises.{BreakAlike, NoneCanGo}
 use Rattle.pg_prune.specs.Inside.Needs.{HasNeeds}
 use Rattle.pg_prune.proofs.RoundLaws.{rounds_keep, rounds_end, round_stays, NoneGoes}

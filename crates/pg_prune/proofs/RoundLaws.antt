@@ -5,7 +5,8 @@ use Rattle.std.proofs.lemmas.List.{append-nil}
 use Rattle.std.proofs.lemmas.Bool.{eq-eqb, eqb-true}
 use Rattle.pg_select.specs.Windows.{Patterns}
 use Rattle.pg_prune.specs.Places.{WordPlace}
-use Rattle.pg_prune.specs.Prunes.{break_alike, round_from, round, rounds_from, Rounds}
+use Rattle.pg_prune.specs.Prunes.{round_from, round, rounds_from, Rounds}
+use Rattle.pg_prune.specs.Inside.Alike.{break_alike}
 
 -- a fact of either of two values, as the test says
 pub by_test : {A : Type 0} (F : A → Type 0) (b : Bool) (x y : A) → (b ≡ true → F x) → (b ≡ false → F y) → F (cond b x y)

@@ -11,7 +11,8 @@ use Rattle.pg_types.proofs.BoolFacts.{and_first, and_second}
 use Rattle.pg_patterns.specs.Inside.PatternMaps.{is_entry}
 use Rattle.pg_select.specs.Windows.{Patterns}
 use Rattle.pg_prune.specs.Places.{WordPlace}
-use Rattle.pg_prune.specs.Prunes.{break_alike, round_from, round}
+use Rattle.pg_prune.specs.Prunes.{round_from, round}
+use Rattle.pg_prune.specs.Inside.Alike.{break_alike}
 use Rattle.pg_prune.specs.Inside.Standing.{places_of_entry, places_of_entries}
 use Rattle.pg_prune.specs.Inside.Turns.{Turn, with_entry, without_entry, IsHeld, IsTallied}
 use Rattle.pg_prune.specs.Inside.Picks.{entry_of, picked_entries, RoundStart, RoundDone}

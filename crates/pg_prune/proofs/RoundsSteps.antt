@@ -8,7 +8,8 @@ use Rattle.std.proofs.lemmas.Bool.{eq-eqb, eqb-true}
 use Rattle.pg_types.proofs.BoolFacts.{no_test}
 use Rattle.pg_select.specs.Windows.{Patterns}
 use Rattle.pg_prune.specs.Places.{WordPlace}
-use Rattle.pg_prune.specs.Prunes.{break_alike, round, rounds_from, rounds, Rounds}
+use Rattle.pg_prune.specs.Prunes.{round, rounds_from, rounds, Rounds}
+use Rattle.pg_prune.specs.Inside.Alike.{break_alike}
 use Rattle.pg_prune.specs.Inside.Turns.{IsTallied}
 use Rattle.pg_prune.specs.Inside.Picks.{picked_entries, RoundStart, RoundDone, RoundsStart}
 use Rattle.pg_prune.proofs.RoundLaws.{round_length, round_same}

@@ -14,7 +14,8 @@ use Rattle.pg_select.specs.Windows.{Patterns}
 use Rattle.pg_prune.specs.Places.{WordPlace, places}
 use Rattle.pg_prune.specs.Inside.WordPlaces.{places_in, places_from}
 use Rattle.pg_prune.proofs.PlaceForms.{places_as}
-use Rattle.pg_prune.specs.Prunes.{break_alike_at, break_alike}
+use Rattle.pg_prune.specs.Prunes.{break_alike_at}
+use Rattle.pg_prune.specs.Inside.Alike.{break_alike}
 use Rattle.pg_prune.specs.Promises.{BreakAlike}
 use Rattle.pg_prune.proofs.RoundLaws.{by_test}
 

@@ -1,4 +1,6 @@
 -- What only contracts between layers and proofs need.
+pub mod Alike
+pub mod EntryTexts
 pub mod Standing
 pub mod Holders
 pub mod Turns

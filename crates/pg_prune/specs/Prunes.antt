@@ -15,14 +15,10 @@ abbrev pub break_alike_at : Patterns → Patterns → WordPlace → Bool
 break_alike_at P Q x = nat_eq (value_at P x.signs x.position % 2)
     (value_at Q x.signs x.position % 2)
 
--- two maps break alike at all places
-abbrev pub break_alike : List WordPlace → Patterns → Patterns → Bool
-break_alike places P Q = list_all (break_alike_at P Q) places
-
 -- the rest of a round, behind the entries `kept`: an entry goes where the others break as P does
 abbrev pub round_from : List WordPlace → Patterns → Patterns → Patterns → Patterns
 round_from places P kept [] = kept
-round_from places P kept (e ∷ rest) = if break_alike places P (kept ++ rest)
+round_from places P kept (e ∷ rest) = if list_all (break_alike_at P (kept ++ rest)) places
     then round_from places P kept rest else round_from places P (kept ++ e ∷ []) rest
 
 -- a round through all entries of the map Q

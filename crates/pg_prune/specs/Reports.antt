@@ -6,14 +6,11 @@ use Rattle.pg_patterns.specs.Texts.{pattern_text}
 use Rattle.pg_prune.specs.declared.pruned.Need.{Need}
 use Rattle.pg_prune.specs.Prunes.{Found}
 
--- the text of an entry: the pattern file of this entry alone, without its line feed
-abbrev pub entry_text : Alphabet → (List ℕ × ℕ) × ℕ → List ℕ
-entry_text t e = let line = pattern_text t (e ∷ []) in take (length line - 1) line
-
--- `keep E: word N after L letters`
+-- `keep E: word N after L letters`, where E is the line of a pattern file without its line feed
 abbrev pub keep_line : Alphabet → (List ℕ × ℕ) × ℕ → Need → List ℕ
-keep_line t e n = codes "keep " ++ entry_text t e ++ codes ": word " ++ decimal n.word
-    ++ codes " after " ++ decimal (n.position - 1) ++ codes " letters\n"
+keep_line t e n = let line = pattern_text t (e ∷ []) in codes "keep " ++ take (length line - 1) line
+    ++ codes ": word " ++ decimal n.word ++ codes " after "
+    ++ decimal (n.position - 1) ++ codes " letters\n"
 
 -- `rounds: R, removed X, kept Y`
 abbrev pub last_line : Found → List ℕ

@@ -1,7 +1,8 @@
 //! The rounds.
 ghost use Rattle.std.specs.Prelude.{◌≡◌, ◌<◌, ◌≤◌, not, [], ◌∷◌, List, length, map, if◌then◌else◌, IfOk, None, MatchOption};
 ghost use Rattle.pg_prune.specs.Places.{WordPlace};
-ghost use Rattle.pg_prune.specs.Prunes.{break_alike, need_at, needs as needs_of};
+ghost use Rattle.pg_prune.specs.Prunes.{need_at, needs as needs_of};
+ghost use Rattle.pg_prune.specs.Inside.Alike.{break_alike};
 ghost use Rattle.pg_prune.specs.Inside.Findings.{first_difference};
 ghost use Rattle.pg_prune.specs.Inside.Standing.{places_of_entries};
 ghost use Rattle.pg_prune.specs.Inside.Picks.{picked_entries, IsGround, RoundStart, RoundDone, RoundsStart};

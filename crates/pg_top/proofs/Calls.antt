@@ -9,12 +9,14 @@ use Rattle.pg_outside.specs.Faults.{Rose}
 use Rattle.pg_outside.specs.Inside.NameFaults.{NoneFell}
 use Rattle.pg_top.specs.Answers.{answers_to, IsAnswered, IsCall}
 use Rattle.pg_top.specs.Calls.{outcome, outcome_of, own_outcome, reads_of, writes_of}
-use Rattle.pg_top.specs.Counted.{MakesCalls, MakesPuts, read_calls, write_calls, PutsFault, ReadsUpTo, EndsAt, IsEndCounted}
+use Rattle.pg_top.specs.Counted.{MakesCalls, MakesPuts, read_calls, PutsFault, ReadsUpTo, EndsAt, IsEndCounted}
+use Rattle.pg_top.specs.Inside.ReadCalls.{write_calls}
 use Rattle.pg_top.specs.Inside.UnreadFiles.{IsUnreadAt}
 use Rattle.pg_top.specs.Inside.PutCounts.{PutsCounted, LinesCounted}
-use Rattle.pg_top.specs.Faults.{FilesRose}
-use Rattle.pg_top.specs.Moments.{Moment, OfFiles, Puts, PutsPart, PutRose, PutOrRose}
-use Rattle.pg_top.specs.Outcomes.{Outcome, Ends, Writing, IsKnown, refuses}
+use Rattle.pg_top.specs.Moments.{Moment, OfFiles, PutOrRose}
+use Rattle.pg_top.specs.Inside.Puts.{Puts, PutsPart, PutRose, FilesRose}
+use Rattle.pg_top.specs.Outcomes.{Outcome, Ends, Writing, IsKnown}
+use Rattle.pg_top.specs.Inside.Refusing.{refuses}
 use Rattle.pg_top.specs.PrintedLines.{usage_line, refused_line}
 use Rattle.pg_top.specs.Inside.FaultLines.{reading_line, writing_line}
 use Rattle.pg_top.specs.Readings.{first_end}
@@ -67,18 +69,18 @@ pub may_fault : (request : Request) → Contains (answers_to (Some request)) Fau
 may_fault (ToGenerate n) = (2, omega arith, refl)
 may_fault (ToAudit n) = (3, omega arith, refl)
 may_fault (ToSample seed count) = (1, omega arith, refl)
-may_fault (ToPack p) = (2, omega arith, refl)
-may_fault (ToTotals p) = (2, omega arith, refl)
-may_fault (ToPrune p) = (2, omega arith, refl)
+may_fault (ToPack patterns translate table) = (2, omega arith, refl)
+may_fault (ToTotals dict translate table) = (2, omega arith, refl)
+may_fault (ToPrune dict patterns output translate report) = (2, omega arith, refl)
 may_fault (ToSweep s) = (2, omega arith, refl)
 
 pub may_want : (request : Request) → Contains (answers_to (Some request)) Memory
 may_want (ToGenerate n) = (3, omega arith, refl)
 may_want (ToAudit n) = (4, omega arith, refl)
 may_want (ToSample seed count) = (2, omega arith, refl)
-may_want (ToPack p) = (3, omega arith, refl)
-may_want (ToTotals p) = (3, omega arith, refl)
-may_want (ToPrune p) = (3, omega arith, refl)
+may_want (ToPack patterns translate table) = (3, omega arith, refl)
+may_want (ToTotals dict translate table) = (3, omega arith, refl)
+may_want (ToPrune dict patterns output translate report) = (3, omega arith, refl)
 may_want (ToSweep s) = (3, omega arith, refl)
 
 answered_as : (asked : Option Request) (status : Status) (old new : Moment) → OfFiles old new (λ before after. DoesAll old new status before after (outcome (file_at before) asked)) → IsAnswered asked status old new

@@ -9,7 +9,8 @@ use Rattle.pg_dict.specs.Words.{words}
 use Rattle.pg_patterns.specs.Starts.{start}
 use Rattle.pg_select.specs.Windows.{Patterns}
 use Rattle.pg_top.specs.Counted.{MakesCalls}
-use Rattle.pg_top.specs.Readings.{read_as, input_file, patterns_file, words_file}
+use Rattle.pg_top.specs.Readings.{input_file, patterns_file, words_file}
+use Rattle.pg_top.specs.Inside.ReadAs.{read_as}
 use Rattle.pg_top.specs.Inside.Lists.{lists_under, HasLists}
 use Rattle.pg_top.specs.Inside.Stops.{StopsAt, StopsReading}
 use Rattle.pg_top.specs.declared.inputs.Input.TheVariants as input

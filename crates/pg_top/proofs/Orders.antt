@@ -8,7 +8,8 @@ use Rattle.pg_outside.specs.Content.{FileMap, FilesShown, KeepsHeld, file_at}
 use Rattle.pg_outside.specs.Inside.NameFaults.{NoneFell}
 use Rattle.pg_top.specs.Counted.{MakesCalls, read_calls, ReadsUpTo}
 use Rattle.pg_top.specs.Inside.ReadCalls.{read_call}
-use Rattle.pg_top.specs.Outcomes.{Outcome, Unknown, refuses}
+use Rattle.pg_top.specs.Outcomes.{Outcome, Unknown}
+use Rattle.pg_top.specs.Inside.Refusing.{refuses}
 use Rattle.pg_top.specs.Readings.{Held, Reading, first_end}
 use Rattle.pg_top.specs.Inside.Stops.{OnlyReads, StopsAt, StopsWith, StopsReading}
 use Rattle.pg_top.specs.declared.inputs.Stop.{Stop}

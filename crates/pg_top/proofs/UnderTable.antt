@@ -9,8 +9,10 @@ use Rattle.pg_outside.specs.FilesCalls.{Reads}
 use Rattle.pg_translate.specs.Alphabets.{Alphabet}
 use Rattle.pg_translate.specs.Tables.{table, default_alphabet}
 use Rattle.pg_top.specs.Counted.{MakesCalls}
-use Rattle.pg_top.specs.Outcomes.{unless_accepted, refuses}
-use Rattle.pg_top.specs.Readings.{Held, Reading, read_as, meaning, input_file, table_named, translate_file}
+use Rattle.pg_top.specs.Outcomes.{unless_accepted}
+use Rattle.pg_top.specs.Inside.Refusing.{refuses}
+use Rattle.pg_top.specs.Readings.{Held, Reading, meaning, input_file, table_named, translate_file}
+use Rattle.pg_top.specs.Inside.ReadAs.{read_as}
 use Rattle.pg_top.specs.Inside.UnderTable.{file_under, meaning_under}
 use Rattle.pg_top.specs.Inside.Stops.{StopsAt, StopsReading}
 use Rattle.pg_top.specs.declared.inputs.Input.{Input}
@@ -25,7 +27,11 @@ accepted input parse None y is = cc
 accepted input parse (Some bytes) y is = let ok : parse bytes ≡ Ok y = cc in ap (λ got. Some (unless_accepted input got)) ok
 
 pub means : {Y : Type 0} (parse : List ℕ → Result Y Refusal) (other : Y) (files : Held) (name : List ℕ) (y : Y) → read_as parse files name ≡ Some (Ok y) → meaning parse other files name ≡ y
-means {Y} parse other files name y is = ap (λ (got : Option (Result Y Refusal)). option_map_or (λ (r : Result Y Refusal). result_unwrap_or r other) got other) is
+means {Y} parse other files name y is = by_file (files name) is
+  where
+    by_file : (file : Option (List ℕ)) → option_map parse file ≡ Some (Ok y) → option_map_or (λ bytes. result_unwrap_or (parse bytes) other) file other ≡ y
+    by_file None is = cc
+    by_file (Some bytes) is = let ok : parse bytes ≡ Ok y = cc in ap (λ (r : Result Y Refusal). result_unwrap_or r other) ok
 
 -- a stop at the first file
 pub stopped_first : (r : Reading) (rest : List Reading) (s0 s1 : FilesShown) (stop : Stop) → MakesCalls s0 s1 (Reads r.name ∷ []) → StopsAt r s0 s1 stop → StopsReading (r ∷ rest) s0 s1 stop

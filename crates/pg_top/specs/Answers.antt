@@ -1,9 +1,9 @@
 -- What each answer of a call says. A call goes from the moment old to the moment new.
 use Rattle.std.specs.Prelude.{◌≡◌, List, [], ◌∷◌, Contains, Option, None, Some, ◌⊎◌}
-use Rattle.pg_outside.specs.Content.{file_at}
+use Rattle.pg_outside.specs.Content.{KeepsHeld, WasPut, file_at}
 use Rattle.pg_top.specs.Calls.{outcome, outcome_of}
 use Rattle.pg_top.specs.Faults.{SomeRose, IsFault}
-use Rattle.pg_top.specs.Moments.{Moment, OfFiles, KeepsFiles, Puts}
+use Rattle.pg_top.specs.Moments.{Moment, OfFiles}
 use Rattle.pg_top.specs.Outcomes.{IsKnown}
 use Rattle.pg_top.specs.PrintedLines.{usage_line}
 use Rattle.pg_words.specs.Requests.{Request, ToAudit, ToSample}
@@ -25,26 +25,26 @@ IsAnswered asked Fault old new = Unit {0}
 IsAnswered asked Memory old new = Unit {0}
 IsAnswered asked status old new = OfFiles old new (λ before after.
     IsKnown (outcome (file_at before) asked) (λ wanted writing lines. (status ≡ wanted)
-    × (after ≡ after_all before writing) × Puts old.1 new.1 lines))
+    × (after ≡ after_all before writing) × WasPut old.1.text new.1.text lines))
 
 -- the lines of a `sample` that is done were put. This also holds where the files tell nothing
 abbrev pub IsSampled : Option Request → Status → Moment → Moment → Type 0
-IsSampled (Some (ToSample seed count)) Done old new = Puts old.1 new.1 (sample_lines seed count)
+IsSampled (Some (ToSample seed count)) Done old new =
+    WasPut old.1.text new.1.text (sample_lines seed count)
 IsSampled asked status old new = Unit {0}
 
 -- where no fault rose the answer is usage, or that of the outcome, or a lack of memory
 abbrev pub IsComplete : Option Request → Status → Moment → Moment → Type 0
 IsComplete None status old new = status ≡ Usage
-IsComplete (Some request) status old new =
-    (status ≡ Memory) ⊎ OfFiles old new (λ before after.
+IsComplete (Some request) status old new = (status ≡ Memory) ⊎ OfFiles old new (λ before after.
     IsKnown (outcome_of (file_at before) request) (λ wanted writing lines. status ≡ wanted))
 
 -- all that is said of the answer of a call
 pub record IsCall (asked : Option Request) (status : Status) (old new : Moment) : Type 0 where
   pub answers : Contains (answers_to asked) status
-  pub usage : status ≡ Usage → Puts old.1 new.1 usage_line
+  pub usage : status ≡ Usage → WasPut old.1.text new.1.text usage_line
   pub answered : IsAnswered asked status old new
-  pub memory : status ≡ Memory → KeepsFiles old new × Puts old.1 new.1 []
+  pub memory : status ≡ Memory → KeepsHeld old.0.held new.0.held × WasPut old.1.text new.1.text []
   pub fault : status ≡ Fault → SomeRose asked old new
   pub faulted : status ≡ Fault → IsFault asked old new
   pub complete : SomeRose asked old new ⊎ IsComplete asked status old new

@@ -1,5 +1,5 @@
 -- What a command reads and writes, and what a call comes to.
-use Rattle.std.specs.Prelude.{ℕ, List, [], ◌∷◌, ◌++◌, Option, Bool, true, false, None, Some, unwrap_or, codes}
+use Rattle.std.specs.Prelude.{ℕ, List, [], ◌∷◌, ◌++◌, Option, unwrap_or, codes}
 use Rattle.std.specs.Option.{option_map_or}
 use Rattle.pg_select.specs.CountedPositions.{minima_of}
 use Rattle.pg_table.specs.Lookups.{table_totals}
@@ -24,19 +24,20 @@ abbrev pub reads_of : Request → List Reading
 reads_of (ToGenerate n) = inputs_of n
 reads_of (ToSample seed count) = []
 reads_of (ToAudit n) = inputs_of n ++ given_files (λ files. inputs_in files n) n
-reads_of (ToPack p) = translate_file p.translate ∷ patterns_file p.translate p.patterns ∷ []
-reads_of (ToTotals p) = translate_file p.translate ∷ words_file p.translate p.dict
-    ∷ input_file input.Table p.table (λ files. packed_table (table_named p.translate files)) ∷ []
-reads_of (ToPrune p) = translate_file p.translate
-    ∷ patterns_file p.translate p.patterns ∷ words_file p.translate p.dict ∷ []
+reads_of (ToPack patterns translate table) =
+    translate_file translate ∷ patterns_file translate patterns ∷ []
+reads_of (ToTotals dict translate table) = translate_file translate ∷ words_file translate dict
+    ∷ input_file input.Table table (λ files. packed_table (table_named translate files)) ∷ []
+reads_of (ToPrune dict patterns output translate report) = translate_file translate
+    ∷ patterns_file translate patterns ∷ words_file translate dict ∷ []
 reads_of (ToSweep s) = translate_file s.translate ∷ set_files 1 s.params
     ++ patterns_file s.translate s.patterns ∷ words_file s.translate s.dict ∷ []
 
 -- the names that a command writes, in its order
 abbrev pub writes_of : Request → List (List ℕ)
 writes_of (ToGenerate n) = output_names n
-writes_of (ToPack p) = p.table ∷ []
-writes_of (ToPrune p) = p.output ∷ p.report ∷ []
+writes_of (ToPack patterns translate table) = table ∷ []
+writes_of (ToPrune dict patterns output translate report) = output ∷ report ∷ []
 writes_of (ToSweep s) = s.output ∷ []
 writes_of request = []
 
@@ -45,29 +46,21 @@ abbrev pub own_outcome : Held → Request → Outcome
 own_outcome files (ToGenerate n) = outcome_of_generate n (inputs_in files n)
 own_outcome files (ToAudit n) = Ends Yes [] (codes "yes\n")
 own_outcome files (ToSample seed count) = Ends Done [] (sample_lines seed count)
-own_outcome files (ToPack p) =
-    outcome_of_pack p.table (table_named p.translate files)
-    (patterns_under files p.translate p.patterns)
-own_outcome files (ToTotals p) = Ends Done [] (ending_text (table_totals
-    (minima_of (table_named p.translate files)) (words_under files p.translate p.dict)
-    (meaning (packed_table (table_named p.translate files)) [] files p.table)))
-own_outcome files (ToPrune p) = let t = table_named p.translate files in
-    outcome_of_prune p t (pruned (minima_of t) (words_under files p.translate p.dict)
-    (patterns_under files p.translate p.patterns))
+own_outcome files (ToPack patterns translate table) = outcome_of_pack table
+    (table_named translate files) (patterns_under files translate patterns)
+own_outcome files (ToTotals dict translate table) = let t = table_named translate files in
+    Ends Done [] (ending_text (table_totals (minima_of t) (words_under files translate dict)
+    (meaning (packed_table t) [] files table)))
+own_outcome files (ToPrune dict patterns output translate report) =
+    let t = table_named translate files in outcome_of_prune output report t (pruned (minima_of t)
+    (words_under files translate dict) (patterns_under files translate patterns))
 own_outcome files (ToSweep s) =
     outcome_of_sweep s (swept_rows s (terms_in files s) (sets_in files s))
 
 -- the outcome of a command: that of the first file that ends the call, else its own
 abbrev pub outcome_of : Held → Request → Outcome
-outcome_of files request =
-    unwrap_or (first_end files (reads_of request)) (own_outcome files request)
+outcome_of files asked = unwrap_or (first_end files (reads_of asked)) (own_outcome files asked)
 
 -- the outcome of a call, where words that are no command come to usage
 abbrev pub outcome : Held → Option Request → Outcome
 outcome files asked = option_map_or (outcome_of files) asked (Ends Usage [] usage_line)
-
--- whether a call reads or writes a file
-abbrev pub has_files : Option Request → Bool
-has_files None = false
-has_files (Some (ToSample seed count)) = false
-has_files (Some request) = true

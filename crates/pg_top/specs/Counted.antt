@@ -23,10 +23,6 @@ MakesCalls old new calls = new.calls ≡ old.calls ++ calls
 abbrev pub read_calls : List Reading → List FilesCall
 read_calls reads = map (λ r. Reads r.name) reads
 
--- the calls that write files of these names, in their order
-abbrev pub write_calls : List (List ℕ) → List FilesCall
-write_calls names = map Writes names
-
 -- so many puts were made
 abbrev pub MakesPuts : SinkShown → SinkShown → ℕ → Type 0
 MakesPuts old new puts = new.puts ≡ after_calls old.puts puts
@@ -55,12 +51,7 @@ IsEndedCounted request old new = (at : ℕ) × ReadsUpTo (reads_of request) at o
 -- each file was read once, then each written once, and the lines were put at once
 abbrev pub IsWholeCounted : Request → Moment → Moment → Type 0
 IsWholeCounted request old new = MakesCalls old.0 new.0
-    (read_calls (reads_of request) ++ write_calls (writes_of request)) × MakesPuts old.1 new.1 1
-
--- memory was short, before the first read or after some reads, and nothing was put
-abbrev pub IsWantCounted : Request → Moment → Moment → Type 0
-IsWantCounted request old new = ((new.0.calls ≡ old.0.calls)
-    ⊎ ((at : ℕ) × ReadsUpTo (reads_of request) at old.0 new.0)) × MakesPuts old.1 new.1 0
+    (read_calls (reads_of request) ++ map Writes (writes_of request)) × MakesPuts old.1 new.1 1
 
 -- the calls of an answer that comes from the outcome
 abbrev pub IsEndCounted : Request → Status → Moment → Moment → Type 0
@@ -70,13 +61,10 @@ IsEndCounted request status.No old new = IsEndedCounted request old new
 IsEndCounted request status.Refused old new = IsEndedCounted request old new
 IsEndCounted request answer old new = ⊥
 
--- the calls of each answer but a fault, whose own clauses tell its calls
-abbrev pub IsCounted : Request → Status → Moment → Moment → Type 0
-IsCounted request status.Memory old new = IsWantCounted request old new
-IsCounted request status.Fault old new = Unit {0}
-IsCounted request answer old new = IsEndCounted request answer old new
-
--- the calls of a call of the program; words that are no command call no file and print one line
+-- the calls of each answer but a fault, whose own clauses tell its calls; usage calls no file
 abbrev pub IsCountedCall : Option Request → Status → Moment → Moment → Type 0
 IsCountedCall None answer old new = (new.0.calls ≡ old.0.calls) × MakesPuts old.1 new.1 1
-IsCountedCall (Some request) answer old new = IsCounted request answer old new
+IsCountedCall (Some request) status.Memory old new = ((new.0.calls ≡ old.0.calls)
+    ⊎ ((at : ℕ) × ReadsUpTo (reads_of request) at old.0 new.0)) × MakesPuts old.1 new.1 0
+IsCountedCall (Some request) status.Fault old new = Unit {0}
+IsCountedCall (Some request) answer old new = IsEndCounted request answer old new

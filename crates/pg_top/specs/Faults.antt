@@ -1,10 +1,11 @@
 -- What stands after a fault. A call goes from the moment old to the moment new.
-use Rattle.std.specs.Prelude.{◌≡◌, ℕ, ◌+◌, ◌++◌, List, Option, None, Some, slice_get, take, codes, Any, ◌⊎◌}
-use Rattle.pg_outside.specs.Content.{file_at}
+use Rattle.std.specs.Prelude.{◌≡◌, ℕ, ◌+◌, ◌++◌, List, Option, None, Some, slice_get, map, take, codes, Any, ◌⊎◌}
+use Rattle.pg_outside.specs.Content.{KeepsHeld, WasPartPut, file_at}
 use Rattle.pg_outside.specs.Faults.{Rose}
+use Rattle.pg_outside.specs.FilesCalls.{Writes}
 use Rattle.pg_top.specs.Calls.{outcome_of, reads_of, writes_of}
-use Rattle.pg_top.specs.Counted.{MakesCalls, read_calls, write_calls, ReadsUpTo, PutsFault, IsEndCounted}
-use Rattle.pg_top.specs.Moments.{Moment, OfFiles, KeepsFiles, PutsPart, PutRose, PutOrRose}
+use Rattle.pg_top.specs.Counted.{MakesCalls, read_calls, ReadsUpTo, PutsFault, IsEndCounted}
+use Rattle.pg_top.specs.Moments.{Moment, OfFiles, PutOrRose}
 use Rattle.pg_top.specs.Outcomes.{IsKnown}
 use Rattle.pg_top.specs.Readings.{Reading}
 use Rattle.pg_top.specs.PrintedLines.{usage_line}
@@ -12,16 +13,12 @@ use Rattle.pg_words.specs.Requests.{Request}
 use Rattle.pg_top.specs.Writings.{after_all, IsPartWritten}
 use Rattle.pg_top.specs.declared.answers.Status.{Status}
 
--- the read faults of a name that the command reads rose, or the write faults of one that it writes
-abbrev pub FilesRose : Request → Moment → Moment → Type 0
-FilesRose request old new =
-    Any (λ r. Rose (old.0.read_faults r.name) (new.0.read_faults r.name)) (reads_of request)
-    ⊎ Any (λ name. Rose (old.0.write_faults name) (new.0.write_faults name)) (writes_of request)
-
--- some fault rose: one of the sink, or of the files of the command
+-- some fault rose: of the sink, of reading a file that is read, or of writing one that is written
 abbrev pub SomeRose : Option Request → Moment → Moment → Type 0
-SomeRose None old new = PutRose old.1 new.1
-SomeRose (Some request) old new = PutRose old.1 new.1 ⊎ FilesRose request old new
+SomeRose None old new = Rose old.1.faults new.1.faults
+SomeRose (Some request) old new = Rose old.1.faults new.1.faults
+    ⊎ (Any (λ r. Rose (old.0.read_faults r.name) (new.0.read_faults r.name)) (reads_of request)
+    ⊎ Any (λ name. Rose (old.0.write_faults name) (new.0.write_faults name)) (writes_of request))
 
 -- a file could not be read: none behind it was, none changed, and the line of the fault was put
 pub record IsReadFault (request : Request) (old new : Moment) : Type 0 where
@@ -30,7 +27,7 @@ pub record IsReadFault (request : Request) (old new : Moment) : Type 0 where
   pub reading : Reading
   pub there : slice_get (reads_of request) place ≡ Some reading
   pub rose : Rose (old.0.read_faults reading.name) (new.0.read_faults reading.name)
-  pub unchanged : KeepsFiles old new
+  pub unchanged : KeepsHeld old.0.held new.0.held
   pub line : PutOrRose old.1 new.1 (codes "fault: reading " ++ reading.name ++ codes "\n")
   pub puts : PutsFault old.1 new.1
 
@@ -41,7 +38,7 @@ pub record IsWriteFault (request : Request) (old new : Moment) : Type 0 where
   pub there : slice_get (writes_of request) place ≡ Some name
   pub rose : Rose (old.0.write_faults name) (new.0.write_faults name)
   pub calls : MakesCalls old.0 new.0
-      (read_calls (reads_of request) ++ write_calls (take (place + 1) (writes_of request)))
+      (read_calls (reads_of request) ++ map Writes (take (place + 1) (writes_of request)))
   pub part : OfFiles old new (λ before after. IsKnown (outcome_of (file_at before) request)
       (λ status writing lines. IsPartWritten before after writing name))
   pub line : PutOrRose old.1 new.1 (codes "fault: writing " ++ name ++ codes "\n")
@@ -51,13 +48,14 @@ pub record IsWriteFault (request : Request) (old new : Moment) : Type 0 where
 pub record IsPutFault (request : Request) (old new : Moment) : Type 0 where
   pub wanted : Status
   pub counted : IsEndCounted request wanted old new
-  pub rose : PutRose old.1 new.1
+  pub rose : Rose old.1.faults new.1.faults
   pub part : OfFiles old new (λ before after. IsKnown (outcome_of (file_at before) request)
-      (λ status writing lines. (wanted ≡ status)
-      × (after ≡ after_all before writing) × PutsPart old.1 new.1 lines))
+      (λ status writing lines. (wanted ≡ status) × (after ≡ after_all before writing)
+      × WasPartPut old.1.text new.1.text lines))
 
 -- what stands after a fault. Where the words are no command, the usage line could not be put
 abbrev pub IsFault : Option Request → Moment → Moment → Type 0
-IsFault None old new = KeepsFiles old new × PutRose old.1 new.1 × PutsPart old.1 new.1 usage_line
+IsFault None old new = KeepsHeld old.0.held new.0.held
+    × Rose old.1.faults new.1.faults × WasPartPut old.1.text new.1.text usage_line
 IsFault (Some request) old new =
     IsReadFault request old new ⊎ (IsWriteFault request old new ⊎ IsPutFault request old new)

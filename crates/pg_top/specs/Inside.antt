@@ -6,7 +6,10 @@ pub mod UnreadFiles
 pub mod FaultLines
 pub mod Lists
 pub mod PutCounts
+pub mod Puts
+pub mod ReadAs
 pub mod ReadCalls
+pub mod Refusing
 pub mod SelectionSigns
 pub mod SelectionAccounts
 pub mod WritesMade

@@ -1,6 +1,6 @@
 -- What files and a sink show before and after a call.
 use Rattle.std.specs.Prelude.{ℕ, List, MatchOption, IfSome, ◌⊎◌}
-use Rattle.pg_outside.specs.Content.{FileMap, FilesShown, SinkShown, KeepsHeld, WasPut, WasPartPut}
+use Rattle.pg_outside.specs.Content.{FileMap, FilesShown, SinkShown, WasPut, WasPartPut}
 use Rattle.pg_outside.specs.Faults.{Rose}
 
 -- what files and a sink show at a moment
@@ -11,22 +11,7 @@ Moment = FilesShown × SinkShown
 abbrev pub OfFiles : Moment → Moment → (FileMap → FileMap → Type 0) → Type 0
 OfFiles old new P = IfSome new.0.held (λ after. MatchOption old.0.held ⊥ (λ before. P before after))
 
--- the files are as they were
-abbrev pub KeepsFiles : Moment → Moment → Type 0
-KeepsFiles old new = KeepsHeld old.0.held new.0.held
-
--- where the bytes of the sink are told, this text was put
-abbrev pub Puts : SinkShown → SinkShown → List ℕ → Type 0
-Puts old new text = WasPut old.text new.text text
-
--- where the bytes of the sink are told, a prefix of this text was put
-abbrev pub PutsPart : SinkShown → SinkShown → List ℕ → Type 0
-PutsPart old new text = WasPartPut old.text new.text text
-
--- the faults of the sink rose
-abbrev pub PutRose : SinkShown → SinkShown → Type 0
-PutRose old new = Rose old.faults new.faults
-
 -- the text was put, or the faults of the sink rose and a prefix of it was put
 abbrev pub PutOrRose : SinkShown → SinkShown → List ℕ → Type 0
-PutOrRose old new text = Puts old new text ⊎ (PutRose old new × PutsPart old new text)
+PutOrRose old new text = WasPut old.text new.text text
+    ⊎ (Rose old.faults new.faults × WasPartPut old.text new.text text)

@@ -20,11 +20,7 @@ abbrev pub IsKnown : Outcome → (Status → Writing → List ℕ → Type 0) �
 IsKnown Unknown P = ⊥
 IsKnown (Ends status writing lines) P = P status writing lines
 
--- a file is refused
-abbrev pub refuses : Input → Refusal → Outcome
-refuses input refusal = Ends Refused [] (refused_line input refusal)
-
 -- the outcome where a file breaks the rules of its kind, none where it is accepted
 abbrev pub unless_accepted : {Y : Type 0} → Input → Result Y Refusal → Option Outcome
 unless_accepted input (Ok y) = None
-unless_accepted input (Err refusal) = Some (refuses input refusal)
+unless_accepted input (Err refusal) = Some (Ends Refused [] (refused_line input refusal))

@@ -1,6 +1,6 @@
 -- Files that are read one after the other, up to the first that ends the call.
 use Rattle.std.specs.Prelude.{ℕ, List, [], ◌∷◌, Option, None, Some, Result}
-use Rattle.std.specs.Option.{option_map, option_map_or, option_or}
+use Rattle.std.specs.Option.{option_map_or, option_or}
 use Rattle.std.specs.Result.{result_unwrap_or}
 use Rattle.pg_types.specs.declared.refusals.Refusal.{Refusal}
 use Rattle.pg_types.specs.Parameters.{Parameters, parameters}
@@ -18,15 +18,10 @@ use Rattle.pg_top.specs.declared.inputs.Input.TheVariants as input
 abbrev pub Held : Type 0
 Held = List ℕ → Option (List ℕ)
 
--- the file of a name, read by the rules of its kind; none where the name is not held
-abbrev pub read_as : {Y : Type 0} → (List ℕ → Result Y Refusal)
-    → Held → List ℕ → Option (Result Y Refusal)
-read_as parse files name = option_map parse (files name)
-
 -- what the file of a name means, where it is held and accepted, and else this
 abbrev pub meaning : {Y : Type 0} → (List ℕ → Result Y Refusal) → Y → Held → List ℕ → Y
-meaning parse other files name = option_map_or (λ got. result_unwrap_or got other)
-    (read_as parse files name) other
+meaning parse other files name =
+    option_map_or (λ bytes. result_unwrap_or (parse bytes) other) (files name) other
 
 -- a file that is read: its name, and the outcome where its bytes end the call
 pub record Reading : Type 0 where
@@ -54,13 +49,11 @@ translate_file translate = input_file input.Translate translate (λ files. table
 
 -- a pattern file that is read under the table of a translate file
 abbrev pub patterns_file : List ℕ → List ℕ → Reading
-patterns_file translate name =
-    input_file input.Patterns name (λ files. start (table_named translate files))
+patterns_file translate name = input_file input.Patterns name (λ f. start (table_named translate f))
 
 -- a dictionary that is read under the table of a translate file
 abbrev pub words_file : List ℕ → List ℕ → Reading
-words_file translate name =
-    input_file input.Dictionary name (λ files. words (table_named translate files))
+words_file translate name = input_file input.Dictionary name (λ f. words (table_named translate f))
 
 -- the patterns of a pattern file, under the table of a translate file
 abbrev pub patterns_under : Held → List ℕ → List ℕ → Patterns

@@ -1,7 +1,8 @@
 -- All that is said of a call of the program.
-use Rattle.std.specs.Prelude.{◌≡◌, Option, false}
+use Rattle.std.specs.Prelude.{◌≡◌, [], Option}
+use Rattle.std.specs.Option.{option_map_or}
 use Rattle.pg_top.specs.Answers.{IsCall, IsSampled}
-use Rattle.pg_top.specs.Calls.{has_files}
+use Rattle.pg_top.specs.Calls.{reads_of}
 use Rattle.pg_top.specs.Counted.{IsCountedCall}
 use Rattle.pg_top.specs.Moments.{Moment}
 use Rattle.pg_top.specs.Promises.{IsPromised}
@@ -15,4 +16,4 @@ pub record IsRun {F : Type 0} (asked : Option Request) (status : Status)
   pub sampled : IsSampled asked status old new
   pub counted : IsCountedCall asked status old new
   pub promised : IsPromised asked status old new
-  pub same : has_files asked ≡ false → after ≡ before
+  pub same : option_map_or reads_of asked [] ≡ [] → after ≡ before

@@ -8,7 +8,7 @@ ghost use Rattle.pg_words.specs.Requests.{ToAudit};
 ghost use Rattle.pg_top.specs.Inside.Stops.{OnlyReads, StopsReading};
 ghost use Rattle.pg_top.specs.audit.Inside.Verdicts.{outcome_by, ReadsToFind, PutsVerdict};
 ghost use Rattle.pg_top.specs.Answers.{IsCall};
-ghost use Rattle.pg_top.specs.Counted.{IsCounted};
+ghost use Rattle.pg_top.specs.Counted.{IsCountedCall};
 
 mod compare;
 mod no_lines;
@@ -73,7 +73,7 @@ pub fn audit<F: Files, O: Sink, W: Watch>(
 ) -> Status
     ensures call { IsCall (Some (ToAudit (texts_of names.now))) result
         (F.shown files.old, O.shown out.old) (F.shown files.new, O.shown out.new) }
-    ensures counted { IsCounted (ToAudit (texts_of names.now)) result
+    ensures counted { IsCountedCall (Some (ToAudit (texts_of names.now))) result
         (F.shown files.old, O.shown out.old) (F.shown files.new, O.shown out.new) }
 {
     match audit_files(alloc, names, files, watch) {

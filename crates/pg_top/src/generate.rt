@@ -4,7 +4,7 @@ ghost use Rattle.pg_outside.specs.Content.{file_at};
 ghost use Rattle.pg_top.specs.Answers.{IsCall};
 ghost use Rattle.pg_top.specs.Calls.{outcome_of, reads_of, writes_of};
 ghost use Rattle.pg_words.specs.Inside.Asked.{texts_of};
-ghost use Rattle.pg_top.specs.Counted.{MakesCalls, read_calls, IsCounted};
+ghost use Rattle.pg_top.specs.Counted.{MakesCalls, read_calls, IsCountedCall};
 ghost use Rattle.pg_top.specs.Outcomes.{Ends};
 ghost use Rattle.pg_words.specs.Requests.{ToGenerate};
 ghost use Rattle.pg_top.specs.Inside.Stops.{OnlyReads, StopsReading};
@@ -59,7 +59,7 @@ pub fn generate<F: Files, O: Sink, W: Watch>(
 ) -> Status
     ensures call { IsCall (Some (ToGenerate (texts_of names.now))) result
         (F.shown files.old, O.shown out.old) (F.shown files.new, O.shown out.new) }
-    ensures counted { IsCounted (ToGenerate (texts_of names.now)) result
+    ensures counted { IsCountedCall (Some (ToGenerate (texts_of names.now))) result
         (F.shown files.old, O.shown out.old) (F.shown files.new, O.shown out.new) }
 {
     match prepare(alloc, names, files, watch) {

@@ -2,13 +2,12 @@
 ghost use Rattle.std.specs.Prelude.{◌≡◌, IfOk, IfErr, IfSome, Some};
 ghost use Rattle.pg_outside.specs.Content.{file_at};
 ghost use Rattle.pg_top.specs.Calls.{outcome_of, reads_of, writes_of};
-ghost use Rattle.pg_top.specs.Counted.{MakesCalls, read_calls, IsCounted};
+ghost use Rattle.pg_top.specs.Counted.{MakesCalls, read_calls, IsCountedCall};
 ghost use Rattle.pg_top.specs.Outcomes.{Ends};
 ghost use Rattle.pg_top.specs.declared.answers.Status.TheVariants.{Done};
-ghost use Rattle.pg_top.specs.Promises.{PackKeeps, IsPromised};
-ghost use Rattle.pg_words.specs.Requests.{ToPack};
+ghost use Rattle.pg_top.specs.Promises.{IsPromised};
 ghost use Rattle.pg_top.specs.Inside.Stops.{OnlyReads, StopsCommand};
-ghost use Rattle.pg_top.specs.pack.Inside.Inputs.{pack_of};
+ghost use Rattle.pg_top.specs.pack.Inside.Inputs.{pack_of, to_pack, KeepsPack};
 ghost use Rattle.pg_top.specs.Inside.WritesMade.{written_names, writing_of};
 ghost use Rattle.pg_top.specs.Answers.{IsCall};
 
@@ -45,15 +44,15 @@ pub fn pack_files<'a, F: Files, W: Watch>(
 ) -> Result<Outputs<'a>, Stop<'a>>
     ensures only { OnlyReads (F.shown files.old) (F.shown files.new) }
     ensures ok { IfOk result (λ made. IfSome (F.shown files.new).held (λ files.
-        outcome_of (file_at files) (ToPack (pack_of names.now))
+        outcome_of (file_at files) (to_pack (pack_of names.now))
         ≡ Ends Done (writing_of made.files.items) made.lines.items)) }
     ensures named { IfOk result (λ made. written_names (writing_of made.files.items)
-        ≡ writes_of (ToPack (pack_of names.now))) }
+        ≡ writes_of (to_pack (pack_of names.now))) }
     ensures kept { IfOk result (λ _. IfSome (F.shown files.new).held (λ files.
-        PackKeeps (file_at files) (pack_of names.now))) }
+        KeepsPack (file_at files) (pack_of names.now))) }
     ensures counted { IfOk result (λ _. MakesCalls (F.shown files.old) (F.shown files.new)
-        (read_calls (reads_of (ToPack (pack_of names.now))))) }
-    ensures stopped { IfErr result (StopsCommand (ToPack (pack_of names.now))
+        (read_calls (reads_of (to_pack (pack_of names.now))))) }
+    ensures stopped { IfErr result (StopsCommand (to_pack (pack_of names.now))
         (F.shown files.old) (F.shown files.new)) }
 {
     let source = read_source(alloc, names, files, watch)?;
@@ -70,11 +69,11 @@ pub fn pack<F: Files, O: Sink, W: Watch>(
     out: &mut O,
     watch: &W,
 ) -> Status
-    ensures call { IsCall (Some (ToPack (pack_of names.now))) result
+    ensures call { IsCall (Some (to_pack (pack_of names.now))) result
         (F.shown files.old, O.shown out.old) (F.shown files.new, O.shown out.new) }
-    ensures counted { IsCounted (ToPack (pack_of names.now)) result
+    ensures counted { IsCountedCall (Some (to_pack (pack_of names.now))) result
         (F.shown files.old, O.shown out.old) (F.shown files.new, O.shown out.new) }
-    ensures promised { IsPromised (Some (ToPack (pack_of names.now))) result
+    ensures promised { IsPromised (Some (to_pack (pack_of names.now))) result
         (F.shown files.old, O.shown out.old) (F.shown files.new, O.shown out.new) }
 {
     match pack_files(alloc, names, files, watch) {

@@ -2,11 +2,10 @@
 ghost use Rattle.std.specs.Prelude.{◌≡◌, IfOk, IfErr, IfSome, Some};
 ghost use Rattle.pg_outside.specs.Content.{file_at};
 ghost use Rattle.pg_top.specs.Calls.{outcome_of, reads_of, writes_of};
-ghost use Rattle.pg_top.specs.Counted.{MakesCalls, read_calls, IsCounted};
-ghost use Rattle.pg_top.specs.Promises.{PruneKeeps, IsPromised};
+ghost use Rattle.pg_top.specs.Counted.{MakesCalls, read_calls, IsCountedCall};
+ghost use Rattle.pg_top.specs.Promises.{IsPromised};
 ghost use Rattle.pg_top.specs.Outcomes.{Ends};
-ghost use Rattle.pg_top.specs.prune.Inside.Inputs.{prune_of};
-ghost use Rattle.pg_words.specs.Requests.{ToPrune};
+ghost use Rattle.pg_top.specs.prune.Inside.Inputs.{prune_of, to_prune, KeepsPrune};
 ghost use Rattle.pg_top.specs.Inside.Stops.{OnlyReads, StopsCommand};
 ghost use Rattle.pg_top.specs.Inside.WritesMade.{written_names, writing_of};
 ghost use Rattle.pg_top.specs.declared.answers.Status.TheVariants.{Done};
@@ -49,16 +48,16 @@ pub fn prune_files<'a, F: Files, W: Watch>(
 ) -> Result<Outputs<'a>, Stop<'a>>
     ensures only { OnlyReads (F.shown files.old) (F.shown files.new) }
     ensures ok { IfOk result (λ made. IfSome (F.shown files.new).held (λ files.
-        outcome_of (file_at files) (ToPrune (prune_of names.now))
+        outcome_of (file_at files) (to_prune (prune_of names.now))
         ≡ Ends Done (writing_of made.files.items) made.lines.items)) }
     ensures named { IfOk result (λ made.
-        written_names (writing_of made.files.items) ≡ writes_of (ToPrune (prune_of names.now))) }
+        written_names (writing_of made.files.items) ≡ writes_of (to_prune (prune_of names.now))) }
     ensures kept { IfOk result (λ _. IfSome (F.shown files.new).held (λ files.
-        PruneKeeps (file_at files) (prune_of names.now))) }
+        KeepsPrune (file_at files) (prune_of names.now))) }
     ensures counted { IfOk result (λ _. MakesCalls (F.shown files.old) (F.shown files.new)
-        (read_calls (reads_of (ToPrune (prune_of names.now))))) }
+        (read_calls (reads_of (to_prune (prune_of names.now))))) }
     ensures stopped { IfErr result
-        (StopsCommand (ToPrune (prune_of names.now)) (F.shown files.old) (F.shown files.new)) }
+        (StopsCommand (to_prune (prune_of names.now)) (F.shown files.old) (F.shown files.new)) }
 {
     let inputs = read_prune(alloc, names, files, watch)?;
     let outputs = make_prune(alloc, names, &inputs, watch);
@@ -74,11 +73,11 @@ pub fn prune<F: Files, O: Sink, W: Watch>(
     out: &mut O,
     watch: &W,
 ) -> Status
-    ensures call { IsCall (Some (ToPrune (prune_of names.now))) result
+    ensures call { IsCall (Some (to_prune (prune_of names.now))) result
         (F.shown files.old, O.shown out.old) (F.shown files.new, O.shown out.new) }
-    ensures counted { IsCounted (ToPrune (prune_of names.now)) result
+    ensures counted { IsCountedCall (Some (to_prune (prune_of names.now))) result
         (F.shown files.old, O.shown out.old) (F.shown files.new, O.shown out.new) }
-    ensures promised { IsPromised (Some (ToPrune (prune_of names.now))) result
+    ensures promised { IsPromised (Some (to_prune (prune_of names.now))) result
         (F.shown files.old, O.shown out.old) (F.shown files.new, O.shown out.new) }
 {
     match prune_files(alloc, names, files, watch) {

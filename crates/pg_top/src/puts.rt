@@ -3,7 +3,8 @@ ghost use Rattle.std.specs.Prelude.{◌≡◌, ◌≤◌, ◌++◌, ◌∷◌, [
 ghost use Rattle.pg_outside.specs.Faults.{Rose, next_count};
 ghost use Rattle.pg_top.specs.Counted.{PutsFault};
 ghost use Rattle.pg_top.specs.Inside.PutCounts.{PutsCounted};
-ghost use Rattle.pg_top.specs.Moments.{Puts, PutsPart, PutOrRose};
+ghost use Rattle.pg_top.specs.Moments.{PutOrRose};
+ghost use Rattle.pg_top.specs.Inside.Puts.{Puts, PutsPart};
 ghost use Rattle.pg_top.specs.Inside.Stops.{PutsAnswer, PutsStop};
 
 use crate::answers::Status;

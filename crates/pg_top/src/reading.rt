@@ -11,7 +11,8 @@ ghost use Rattle.pg_dict.specs.Words.{words};
 ghost use Rattle.pg_patterns.specs.Starts.{start};
 ghost use Rattle.pg_patterns.specs.Inside.PatternMaps.{SignsUpTo};
 ghost use Rattle.pg_top.specs.Counted.{MakesCalls};
-ghost use Rattle.pg_top.specs.Readings.{read_as, input_file};
+ghost use Rattle.pg_top.specs.Readings.{input_file};
+ghost use Rattle.pg_top.specs.Inside.ReadAs.{read_as};
 ghost use Rattle.pg_top.specs.Inside.Lists.{lists_under, HasLists};
 ghost use Rattle.pg_top.specs.Inside.Stops.{OnlyReads, stop_of, StopsFront, StopsAt, StopsReading};
 

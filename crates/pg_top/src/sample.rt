@@ -9,9 +9,9 @@ ghost use Rattle.pg_select.specs.Inside.Meanings.{new_engine};
 ghost use Rattle.pg_top.specs.Inside.PutCounts.{LinesCounted};
 ghost use Rattle.pg_top.specs.sample.Sampled.{is_printed as is_printed_line, sample_inputs, sample_lines as lines_of, sample_parameters};
 ghost use Rattle.pg_top.specs.sample.Inside.Lines.{printed_part, selection_lines};
-ghost use Rattle.pg_top.specs.Selection.{signs_of, selected};
+ghost use Rattle.pg_top.specs.Selection.{selected};
 ghost use Rattle.pg_top.specs.Inside.SelectionAccounts.{selected_account};
-ghost use Rattle.pg_top.specs.Inside.SelectionSigns.{HasSigns};
+ghost use Rattle.pg_top.specs.Inside.SelectionSigns.{HasSigns, signs_of};
 ghost use Rattle.pg_top.specs.Inside.Stops.{PutsLines};
 
 mod words;

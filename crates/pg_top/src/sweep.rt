@@ -3,7 +3,7 @@ ghost use Rattle.std.specs.Prelude.{◌≡◌, ◌≤◌, length, IfOk, IfErr, I
 ghost use Rattle.pg_outside.specs.Content.{file_at};
 ghost use Rattle.pg_top.specs.Calls.{outcome_of, reads_of, writes_of};
 ghost use Rattle.pg_words.specs.Inside.Asked.{sweep_of, KeepsSweepLimits};
-ghost use Rattle.pg_top.specs.Counted.{MakesCalls, read_calls, IsCounted};
+ghost use Rattle.pg_top.specs.Counted.{MakesCalls, read_calls, IsCountedCall};
 ghost use Rattle.pg_top.specs.Promises.{SweepNames, IsPromised};
 ghost use Rattle.pg_top.specs.Outcomes.{Ends};
 ghost use Rattle.pg_words.specs.Requests.{ToSweep};
@@ -84,7 +84,7 @@ pub fn sweep<F: Files, O: Sink, W: Watch>(
     requires { KeepsSweepLimits words.now }
     ensures call { IsCall (Some (ToSweep (sweep_of words.now))) result
         (F.shown files.old, O.shown out.old) (F.shown files.new, O.shown out.new) }
-    ensures counted { IsCounted (ToSweep (sweep_of words.now)) result
+    ensures counted { IsCountedCall (Some (ToSweep (sweep_of words.now))) result
         (F.shown files.old, O.shown out.old) (F.shown files.new, O.shown out.new) }
     ensures promised { IsPromised (Some (ToSweep (sweep_of words.now))) result
         (F.shown files.old, O.shown out.old) (F.shown files.new, O.shown out.new) }

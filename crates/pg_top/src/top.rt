@@ -1,7 +1,8 @@
 //! The one call of the program.
-ghost use Rattle.std.specs.Prelude.{◌≡◌, Some, false};
+ghost use Rattle.std.specs.Prelude.{◌≡◌, Some, []};
+ghost use Rattle.std.specs.Option.{option_map_or};
 ghost use Rattle.pg_top.specs.Answers.{IsSampled, IsCall};
-ghost use Rattle.pg_top.specs.Calls.{has_files};
+ghost use Rattle.pg_top.specs.Calls.{reads_of};
 ghost use Rattle.pg_words.specs.Commands.{request_of_call};
 ghost use Rattle.pg_words.specs.Inside.Asked.{asked_by, KeepsLimits};
 ghost use Rattle.pg_top.specs.Counted.{IsCountedCall};
@@ -40,7 +41,7 @@ fn perform<F: Files, O: Sink, W: Watch>(
         (F.shown files.old, O.shown out.old) (F.shown files.new, O.shown out.new) }
     ensures promised { IsPromised (Some (asked_by command.now)) result
         (F.shown files.old, O.shown out.old) (F.shown files.new, O.shown out.new) }
-    ensures same { has_files (Some (asked_by command.now)) ≡ false → files.new ≡ files.old }
+    ensures same { reads_of (asked_by command.now) ≡ [] → files.new ≡ files.old }
 {
     match command {
         Command::Generate(names) => generate(alloc, names, files, out, watch),
@@ -106,7 +107,8 @@ fn call<F: Files, O: Sink, W: Watch>(
         (F.shown files.old, O.shown out.old) (F.shown files.new, O.shown out.new) }
     ensures promised { IsPromised (request_of_call words.now) result
         (F.shown files.old, O.shown out.old) (F.shown files.new, O.shown out.new) }
-    ensures same { has_files (request_of_call words.now) ≡ false → files.new ≡ files.old }
+    ensures same { option_map_or reads_of (request_of_call words.now) [] ≡ []
+        → files.new ≡ files.old }
 {
     match command(words) {
         None => answer(out, USAGE, Status::Usage, watch),

@@ -2,12 +2,11 @@
 ghost use Rattle.std.specs.Prelude.{◌≡◌, IfOk, IfErr, IfSome, Some, []};
 ghost use Rattle.pg_outside.specs.Content.{file_at};
 ghost use Rattle.pg_top.specs.Calls.{outcome_of, reads_of};
-ghost use Rattle.pg_top.specs.Counted.{MakesCalls, read_calls, IsCounted};
+ghost use Rattle.pg_top.specs.Counted.{MakesCalls, read_calls, IsCountedCall};
 ghost use Rattle.pg_top.specs.Outcomes.{Ends};
 ghost use Rattle.pg_top.specs.declared.answers.Status.TheVariants.{Done};
-ghost use Rattle.pg_words.specs.Requests.{ToTotals};
 ghost use Rattle.pg_top.specs.Inside.Stops.{OnlyReads, StopsCommand};
-ghost use Rattle.pg_top.specs.totals.Inside.Inputs.{totals_of};
+ghost use Rattle.pg_top.specs.totals.Inside.Inputs.{totals_of, to_totals};
 ghost use Rattle.pg_top.specs.Answers.{IsCall};
 
 mod table;
@@ -41,11 +40,11 @@ pub fn total_files<'a, F: Files, W: Watch>(
 ) -> Result<Vec<u8>, Stop<'a>>
     ensures only { OnlyReads (F.shown files.old) (F.shown files.new) }
     ensures ok { IfOk result (λ lines. IfSome (F.shown files.new).held (λ files.
-        outcome_of (file_at files) (ToTotals (totals_of names.now))
+        outcome_of (file_at files) (to_totals (totals_of names.now))
         ≡ Ends Done [] lines.items)) }
     ensures counted { IfOk result (λ _. MakesCalls (F.shown files.old) (F.shown files.new)
-        (read_calls (reads_of (ToTotals (totals_of names.now))))) }
-    ensures stopped { IfErr result (StopsCommand (ToTotals (totals_of names.now))
+        (read_calls (reads_of (to_totals (totals_of names.now))))) }
+    ensures stopped { IfErr result (StopsCommand (to_totals (totals_of names.now))
         (F.shown files.old) (F.shown files.new)) }
 {
     let letters = read_table(alloc, names.translate, files, watch)?;
@@ -64,9 +63,9 @@ pub fn totals<F: Files, O: Sink, W: Watch>(
     out: &mut O,
     watch: &W,
 ) -> Status
-    ensures call { IsCall (Some (ToTotals (totals_of names.now))) result
+    ensures call { IsCall (Some (to_totals (totals_of names.now))) result
         (F.shown files.old, O.shown out.old) (F.shown files.new, O.shown out.new) }
-    ensures counted { IsCounted (ToTotals (totals_of names.now)) result
+    ensures counted { IsCountedCall (Some (to_totals (totals_of names.now))) result
         (F.shown files.old, O.shown out.old) (F.shown files.new, O.shown out.new) }
 {
     match total_files(alloc, names, files, watch) {

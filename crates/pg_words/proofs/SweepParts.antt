@@ -3,7 +3,7 @@ use Rattle.std.proofs.Common.{◌≡◌, ℕ, ◌≤◌, nat_lt, nat_le, true, �
 use Rattle.std.specs.List.{list_all}
 use Rattle.std.specs.Prelude.{string_bytes}
 use Rattle.std.specs.declared.alloc.Global.{Global}
-use Rattle.pg_words.specs.Commands.{words_of}
+use Rattle.pg_words.specs.Inside.Names.{words_of}
 use Rattle.pg_words.specs.Requests.{ToSweep, is_name, outputs_differ, number_within, sweep_in}
 use Rattle.pg_words.specs.declared.limits.TheConstants.{FOLDS_MAX, PRICE_MAX, SETS_MAX}
 

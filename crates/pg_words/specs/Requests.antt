@@ -28,34 +28,14 @@ pub record SweepRequest : Type 0 where
   pub missed : ℕ
   pub params : List (List ℕ)
 
--- what `pack` is asked for: the names of its files
-pub record PackRequest : Type 0 where
-  pub patterns : List ℕ
-  pub translate : List ℕ
-  pub table : List ℕ
-
--- what `totals` is asked for: the names of its files
-pub record TotalsRequest : Type 0 where
-  pub dict : List ℕ
-  pub translate : List ℕ
-  pub table : List ℕ
-
--- what `prune` is asked for: the names of its files
-pub record PruneRequest : Type 0 where
-  pub dict : List ℕ
-  pub patterns : List ℕ
-  pub output : List ℕ
-  pub translate : List ℕ
-  pub report : List ℕ
-
--- what words ask for; `sample` has its number and how many words it makes
+-- what words ask for: the names of files, and for `sample` its seed and how many words it makes
 pub data Request : Type 0 where
   ToGenerate : FileNames → Request
   ToAudit : FileNames → Request
-  ToSample : ℕ → ℕ → Request
-  ToPack : PackRequest → Request
-  ToTotals : TotalsRequest → Request
-  ToPrune : PruneRequest → Request
+  ToSample : (seed count : ℕ) → Request
+  ToPack : (patterns translate table : List ℕ) → Request
+  ToTotals : (dict translate table : List ℕ) → Request
+  ToPrune : (dict patterns output translate report : List ℕ) → Request
   ToSweep : SweepRequest → Request
 
 -- one for what is asked for by an option, and none where it is not
@@ -138,19 +118,18 @@ sample_in words = None
 -- `pack PATTERNS TRANSLATE TABLE`, where the table is an output
 abbrev pub pack_in : List (List ℕ) → Option Request
 pack_in (patterns ∷ translate ∷ table ∷ []) = where_taken (patterns ∷ translate ∷ []) (table ∷ [])
-    (ToPack (record { patterns = patterns; translate = translate; table = table }))
+    (ToPack patterns translate table)
 pack_in words = None
 
 -- `totals DICT TRANSLATE TABLE`, whose names may be equal
 abbrev pub totals_in : List (List ℕ) → Option Request
 totals_in (dict ∷ translate ∷ table ∷ []) = where_taken (dict ∷ translate ∷ table ∷ []) []
-    (ToTotals (record { dict = dict; translate = translate; table = table }))
+    (ToTotals dict translate table)
 totals_in words = None
 
 -- `prune DICT PATTERNS OUT TRANSLATE REPORT`
 abbrev pub prune_in : List (List ℕ) → Option Request
-prune_in (d ∷ p ∷ o ∷ t ∷ r ∷ []) = where_taken (d ∷ p ∷ t ∷ []) (o ∷ r ∷ [])
-    (ToPrune (record { dict = d; patterns = p; output = o; translate = t; report = r }))
+prune_in (d ∷ p ∷ o ∷ t ∷ r ∷ []) = where_taken (d ∷ p ∷ t ∷ []) (o ∷ r ∷ []) (ToPrune d p o t r)
 prune_in words = None
 
 -- `sweep DICT PATTERNS OUT TRANSLATE K BAD MISSED`, then the names of 1 to 16 parameter files

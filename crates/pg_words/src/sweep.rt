@@ -2,8 +2,7 @@
 ghost use Rattle.std.specs.Prelude.{◌≡◌, ◌≤◌, ◌∷◌, length, IfSome};
 ghost use Rattle.std.specs.Option.{option_map};
 ghost use Rattle.pg_words.specs.Requests.{sweep_in};
-ghost use Rattle.pg_words.specs.Commands.{words_of};
-ghost use Rattle.pg_words.specs.Inside.Names.{texts};
+ghost use Rattle.pg_words.specs.Inside.Names.{texts, words_of};
 ghost use Rattle.pg_words.specs.Inside.Asked.{asked_by, KeepsLimits};
 
 use crate::commands::{Command, SweepWords};

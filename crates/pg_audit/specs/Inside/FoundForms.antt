@@ -1,8 +1,16 @@
 -- The four forms in which a found line is printed, and what is printed of the first false line.
-use Rattle.std.specs.Prelude.{ℕ, nat_lt, if◌then◌else◌, List, [], ◌∷◌, length, take, Option, option_map}
+use Rattle.std.specs.Prelude.{ℕ, ◌-◌, nat_lt, Bool, if◌then◌else◌, List, [], ◌∷◌, length, take, slice_index, Option, option_map}
+use Rattle.pg_types.specs.Lines.{is_line_feed}
 use Rattle.pg_audit.specs.Differences.{Difference, first_false}
-use Rattle.pg_audit.specs.FoundLines.{has_feed, without_feed}
 use Rattle.pg_audit.specs.declared.lines.TheConstants.{SHOWN_MAX}
+
+-- whether a line has its line feed
+abbrev pub has_feed : List ℕ → Bool
+has_feed line = is_line_feed (slice_index line (length line - 1))
+
+-- a line without its line feed
+abbrev pub without_feed : List ℕ → List ℕ
+without_feed line = if has_feed line then take (length line - 1) line else line
 
 -- no line, the first 200 bytes of a longer one, a line with its line feed, or the file's last line
 pub data FoundLine : Type 0 where

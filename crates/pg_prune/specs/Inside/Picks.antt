@@ -4,7 +4,8 @@ use Rattle.std.specs.List.{All, list_all}
 use Rattle.pg_patterns.specs.Inside.PatternMaps.{is_entry}
 use Rattle.pg_select.specs.Windows.{Patterns}
 use Rattle.pg_prune.specs.Places.{WordPlace}
-use Rattle.pg_prune.specs.Prunes.{break_alike, round}
+use Rattle.pg_prune.specs.Prunes.{round}
+use Rattle.pg_prune.specs.Inside.Alike.{break_alike}
 use Rattle.pg_prune.specs.Inside.Standing.{places_of_entries}
 use Rattle.pg_prune.specs.Inside.Turns.{IsTallied}
 

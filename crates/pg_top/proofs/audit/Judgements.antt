@@ -17,9 +17,10 @@ use Rattle.pg_top.specs.audit.Audited.{denies, given_file, given_files}
 use Rattle.pg_top.specs.audit.Inside.GivenNames.{given_names}
 use Rattle.pg_top.specs.audit.Inside.Verdicts.{yes_line, wanted_file, wanted_files, end_of, outcome_by, ReadsToFind, IsFrontOf, PutsVerdict}
 use Rattle.pg_top.specs.Calls.{outcome_of, reads_of}
-use Rattle.pg_top.specs.Counted.{MakesCalls, MakesPuts, read_calls, ReadsUpTo, EndsAt, IsEndedCounted, IsWholeCounted, IsCounted}
+use Rattle.pg_top.specs.Counted.{MakesCalls, MakesPuts, read_calls, ReadsUpTo, EndsAt, IsEndedCounted, IsWholeCounted, IsCountedCall}
 use Rattle.pg_top.specs.Inside.ReadCalls.{read_call}
-use Rattle.pg_top.specs.Outcomes.{Outcome, Unknown, Ends, refuses}
+use Rattle.pg_top.specs.Outcomes.{Outcome, Unknown, Ends}
+use Rattle.pg_top.specs.Inside.Refusing.{refuses}
 use Rattle.pg_top.specs.PrintedLines.{word_of}
 use Rattle.pg_top.specs.Readings.{Held, Reading, first_end}
 use Rattle.pg_words.specs.Requests.{FileNames, ToAudit, if_asked}
@@ -210,7 +211,7 @@ verdict_call n Equal s0 s1 o0 o1 answer keeps told read puts put = answered_call
 verdict_call n (False line) s0 s1 o0 o1 answer keeps told read puts put = answered_call (ToAudit n) No line.items s0 s1 o0 o1 answer tt (1, omega arith, refl) (false_counted n line s0 s1 o0 o1 told read put) keeps told puts
 
 -- and its calls
-pub verdict_counted : (n : FileNames) (verdict : Verdict) (s0 s1 : FilesShown) (o0 o1 : SinkShown) (answer : Status) → IfSome s1.held (λ files. outcome_of (file_at files) (ToAudit n) ≡ outcome_by verdict) → ReadsToFind (reads_of (ToAudit n)) verdict s0 s1 → PutsVerdict verdict answer o0 o1 → MakesPuts o0 o1 1 → IsCounted (ToAudit n) answer (s0, o0) (s1, o1)
+pub verdict_counted : (n : FileNames) (verdict : Verdict) (s0 s1 : FilesShown) (o0 o1 : SinkShown) (answer : Status) → IfSome s1.held (λ files. outcome_of (file_at files) (ToAudit n) ≡ outcome_by verdict) → ReadsToFind (reads_of (ToAudit n)) verdict s0 s1 → PutsVerdict verdict answer o0 o1 → MakesPuts o0 o1 1 → IsCountedCall (Some (ToAudit n)) answer (s0, o0) (s1, o1)
 verdict_counted n Equal s0 s1 o0 o1 answer told read puts put = counted_line (ToAudit n) Yes yes_line s0 s1 o0 o1 answer (equal_counted n s0 s1 o0 o1 read put) puts
 verdict_counted n (False line) s0 s1 o0 o1 answer told read puts put = counted_line (ToAudit n) No line.items s0 s1 o0 o1 answer (false_counted n line s0 s1 o0 o1 told read put) puts
 

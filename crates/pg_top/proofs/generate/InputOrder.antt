@@ -10,7 +10,8 @@ use Rattle.pg_dict.specs.Word.{Word}
 use Rattle.pg_dict.specs.Words.{words}
 use Rattle.pg_patterns.specs.Starts.{start}
 use Rattle.pg_top.specs.Calls.{outcome_of, own_outcome}
-use Rattle.pg_top.specs.Readings.{Reading, read_as, input_file, table_named, translate_file, patterns_file, words_file}
+use Rattle.pg_top.specs.Readings.{Reading, input_file, table_named, translate_file, patterns_file, words_file}
+use Rattle.pg_top.specs.Inside.ReadAs.{read_as}
 use Rattle.pg_words.specs.Requests.{FileNames, ToGenerate}
 use Rattle.pg_top.specs.generate.Generated.{inputs_in, inputs_of, outcome_of_generate}
 use Rattle.pg_top.specs.generate.Inside.Accepted.{HasInputs}

@@ -20,8 +20,8 @@ use Rattle.pg_dict.specs.Inside.LineWords.{word_weight}
 use Rattle.pg_dict.specs.Inside.LineWords.{line_reading, line_word}
 use Rattle.pg_dict.specs.Inside.Written.{letters_among, IsLine, file_of, LinesGive}
 use Rattle.pg_dict.proofs.LineLaws.{line_is_read, file_is_read, items_line}
-use Rattle.pg_top.specs.sample.Sampled.{Made, next_state, draw, consonants, vowels, ending, syllable, further_syllables, word, words_made, sample_text}
-use Rattle.pg_top.specs.sample.Inside.Lines.{closings}
+use Rattle.pg_top.specs.sample.Sampled.{Made, next_state, draw, ending, syllable, further_syllables, word, words_made, sample_text}
+use Rattle.pg_top.specs.sample.Inside.Lines.{closings, consonants, vowels}
 use Rattle.pg_types.proofs.BoolFacts.{and_first, and_second}
 
 -- letters, and hyphens beside them

@@ -7,9 +7,10 @@ use Rattle.pg_types.specs.Parameters.{Parameters, parameters}
 use Rattle.pg_outside.specs.Content.{FileMap, FilesShown, KeepsHeld, file_at}
 use Rattle.pg_outside.specs.Inside.NameFaults.{NoneFell}
 use Rattle.pg_outside.specs.FilesCalls.{Reads}
-use Rattle.pg_words.specs.Commands.{words_of}
+use Rattle.pg_words.specs.Inside.Names.{words_of}
 use Rattle.pg_top.specs.Counted.{MakesCalls, read_calls}
-use Rattle.pg_top.specs.Readings.{Held, Reading, read_as, parameters_named}
+use Rattle.pg_top.specs.Readings.{Held, Reading, parameters_named}
+use Rattle.pg_top.specs.Inside.ReadAs.{read_as}
 use Rattle.pg_top.specs.Inside.Stops.{StopsAt, StopsReading}
 use Rattle.pg_top.specs.sweep.Swept.{set_files}
 use Rattle.pg_top.specs.sweep.Inside.SetFiles.{set_file}

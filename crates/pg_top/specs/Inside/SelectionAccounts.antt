@@ -8,7 +8,8 @@ use Rattle.pg_driver.specs.Accounts.{begun_count}
 use Rattle.pg_driver.specs.Inside.AccountLines.{Account, account}
 use Rattle.pg_driver.specs.Inside.CellsAccounts.{CellsAccount, cells_account}
 use Rattle.pg_texts.specs.Inside.CellsLines.{layout_line_text}
-use Rattle.pg_top.specs.Selection.{signs_of, selection}
+use Rattle.pg_top.specs.Selection.{selection}
+use Rattle.pg_top.specs.Inside.SelectionSigns.{signs_of}
 use Rattle.pg_top.specs.declared.selection.Inputs.{Inputs}
 
 -- what is told of that run

@@ -1,8 +1,13 @@
 -- The signs of a selection's words and patterns.
+use Rattle.std.specs.Prelude.{ℕ, ◌+◌}
+use Rattle.pg_translate.specs.Alphabets.{letters_of}
 use Rattle.pg_dict.specs.Inside.SoundWords.{SignsAtMost}
 use Rattle.pg_patterns.specs.Inside.PatternMaps.{SignsUpTo}
 use Rattle.pg_top.specs.declared.selection.Inputs.{Inputs}
-use Rattle.pg_top.specs.Selection.{signs_of}
+
+-- the greatest sign
+abbrev pub signs_of : Inputs → ℕ
+signs_of i = letters_of i.table + 1
 
 -- the words and the starting patterns have no sign above the greatest one of the table
 pub record HasSigns (i : Inputs) : Type 0 where

@@ -7,9 +7,12 @@ use Rattle.pg_outside.specs.Content.{FilesShown, SinkShown, KeepsHeld, file_at}
 use Rattle.pg_outside.specs.Faults.{Rose}
 use Rattle.pg_outside.specs.Inside.NameFaults.{NoneFell}
 use Rattle.pg_top.specs.Calls.{outcome_of, reads_of}
-use Rattle.pg_top.specs.Counted.{MakesCalls, MakesPuts, PutsFault, write_calls, ReadsUpTo, EndsAt}
-use Rattle.pg_top.specs.Moments.{Moment, Puts, PutsPart, PutRose, PutOrRose}
-use Rattle.pg_top.specs.Outcomes.{Outcome, Writing, refuses}
+use Rattle.pg_top.specs.Counted.{MakesCalls, MakesPuts, PutsFault, ReadsUpTo, EndsAt}
+use Rattle.pg_top.specs.Inside.ReadCalls.{write_calls}
+use Rattle.pg_top.specs.Moments.{Moment, PutOrRose}
+use Rattle.pg_top.specs.Inside.Puts.{Puts, PutsPart, PutRose}
+use Rattle.pg_top.specs.Outcomes.{Outcome, Writing}
+use Rattle.pg_top.specs.Inside.Refusing.{refuses}
 use Rattle.pg_top.specs.PrintedLines.{refused_line}
 use Rattle.pg_top.specs.Inside.FaultLines.{reading_line, writing_line}
 use Rattle.pg_top.specs.Readings.{Reading, first_end}

@@ -14,20 +14,16 @@ use Rattle.pg_top.specs.declared.inputs.Given.TheVariants as given
 use Rattle.pg_top.specs.declared.inputs.Input.TheVariants as input
 use Rattle.pg_top.specs.declared.selection.Inputs.{Inputs}
 
--- where a line of a given file is false: its number, and what stands there
-abbrev pub no_line : Given → Difference → List ℕ
-no_line given d = codes "no: " ++ word_of (input.Given given) ++ codes " line "
-    ++ decimal d.line ++ found_text d.found ++ codes "\n"
-
 -- the text that a given file is to be
 abbrev pub wanted_text : Inputs → Given → List ℕ
 wanted_text i given.Patterns = selected_text i
 wanted_text i given.Pattmp = selected_list i
 wanted_text i given.Report = selected_report i
 
--- the outcome where a line of a given file is false
+-- the outcome where a line of a given file is false: its number, and what stands there
 abbrev pub denies : Given → Difference → Outcome
-denies given d = Ends No [] (no_line given d)
+denies given d = Ends No [] (codes "no: " ++ word_of (input.Given given) ++ codes " line "
+    ++ decimal d.line ++ found_text d.found ++ codes "\n")
 
 -- a given file, which ends the call where a line of it is false
 abbrev pub given_file : (Held → Inputs) → Given × List ℕ → Reading

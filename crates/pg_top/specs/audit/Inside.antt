@@ -1,3 +1,4 @@
+pub mod NoLines
 pub mod Verdicts
 pub mod FoundThere
 pub mod GivenNames

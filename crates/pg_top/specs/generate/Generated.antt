@@ -1,6 +1,7 @@
 -- What `generate` reads, writes and prints.
-use Rattle.std.specs.Prelude.{ℕ, List, [], ◌∷◌, ◌++◌, codes, decimal}
+use Rattle.std.specs.Prelude.{ℕ, ◌+◌, List, [], ◌∷◌, ◌++◌, codes, decimal}
 use Rattle.pg_types.specs.Parameters.{parameters}
+use Rattle.pg_translate.specs.Alphabets.{letters_of}
 use Rattle.pg_driver.specs.Accounts.{begun_count}
 use Rattle.pg_driver.specs.Layouts.{families_at_end}
 use Rattle.pg_texts.specs.CellsTexts.{layout_text}
@@ -8,7 +9,7 @@ use Rattle.pg_top.specs.Outcomes.{Outcome, Ends, Writing}
 use Rattle.pg_top.specs.PrintedLines.{done_line}
 use Rattle.pg_top.specs.Readings.{Held, Reading, input_file, table_named, parameters_named, patterns_under, words_under, translate_file, patterns_file, words_file}
 use Rattle.pg_words.specs.Requests.{FileNames, if_asked}
-use Rattle.pg_top.specs.Selection.{signs_of, selection, selected, selected_totals, selected_text, selected_list, selected_cells_text, selected_report}
+use Rattle.pg_top.specs.Selection.{selection, selected, selected_totals, selected_text, selected_list, selected_cells_text, selected_report}
 use Rattle.pg_top.specs.declared.answers.Status.TheVariants.{Done}
 use Rattle.pg_top.specs.declared.inputs.Input.TheVariants as input
 use Rattle.pg_top.specs.declared.selection.Inputs.{Inputs}
@@ -24,8 +25,7 @@ inputs_in files n = record {
 
 -- what `generate` reads, in its order
 abbrev pub inputs_of : FileNames → List Reading
-inputs_of n =
-    translate_file n.translate ∷ input_file input.Parameters n.params (λ files. parameters)
+inputs_of n = translate_file n.translate ∷ input_file input.Parameters n.params (λ _. parameters)
     ∷ patterns_file n.translate n.patterns ∷ words_file n.translate n.dict ∷ []
 
 -- the files that are written: patterns, hyphenated list and cells if asked for, and the report
@@ -40,7 +40,7 @@ selected_files n i = (n.output, selected_text i)
 abbrev pub selected_lines : Inputs → List ℕ
 selected_lines i = done_line (selected_text i) (selected_totals i)
     ++ codes "work: " ++ decimal (begun_count (selection i)) ++ codes " passes, "
-    ++ layout_text (families_at_end (signs_of i) i.start (selection i)) (selected i)
+    ++ layout_text (families_at_end (letters_of i.table + 1) i.start (selection i)) (selected i)
 
 -- what is written and printed when all that is read is accepted
 abbrev pub outcome_of_generate : FileNames → Inputs → Outcome

@@ -5,7 +5,6 @@ use Rattle.pg_patterns.specs.Texts.{pattern_text}
 use Rattle.pg_prune.specs.Prunes.{Found}
 use Rattle.pg_prune.specs.Reports.{prune_report}
 use Rattle.pg_top.specs.Outcomes.{Outcome, Ends}
-use Rattle.pg_words.specs.Requests.{PruneRequest}
 use Rattle.pg_top.specs.declared.answers.Status.TheVariants.{Done}
 
 -- where `prune` is done: how many rounds were made, and how many entries were taken out and stay
@@ -13,8 +12,8 @@ abbrev pub pruned_line : ℕ → ℕ → ℕ → List ℕ
 pruned_line rounds removed kept = codes "done: " ++ decimal rounds ++ codes " rounds, "
     ++ decimal removed ++ codes " removed, " ++ decimal kept ++ codes " kept\n"
 
--- what `prune` writes and prints where pruning finds this
-abbrev pub outcome_of_prune : PruneRequest → Alphabet → Found → Outcome
-outcome_of_prune p t found = Ends Done
-    ((p.output, pattern_text t found.patterns) ∷ (p.report, prune_report t found) ∷ [])
+-- what `prune` writes, its patterns and its report, and prints where pruning finds this
+abbrev pub outcome_of_prune : List ℕ → List ℕ → Alphabet → Found → Outcome
+outcome_of_prune output report t found = Ends Done
+    ((output, pattern_text t found.patterns) ∷ (report, prune_report t found) ∷ [])
     (pruned_line found.rounds found.removed (length found.patterns))

@@ -23,14 +23,6 @@ pub record Made : Type 0 where
   pub text : List ℕ
   pub state : ℕ
 
--- the consonants that a syllable begins with
-abbrev pub consonants : List ℕ
-consonants = codes "bdfgklmnprst"
-
--- the vowels of syllables
-abbrev pub vowels : List ℕ
-vowels = codes "aeiou"
-
 -- the end of a syllable: one of these consonants where the draw before it is 0, else nothing
 unfoldable pub ending : ℕ → Made
 ending x = let y = next_state x in if draw 4 x == 0
@@ -40,8 +32,8 @@ ending x = let y = next_state x in if draw 4 x == 0
 -- a syllable: a consonant, a vowel, and its end
 unfoldable pub syllable : ℕ → Made
 syllable x = let c = next_state x in let v = next_state c in let end = ending (next_state v) in
-    let front = slice_index consonants (draw 12 c) ∷ slice_index vowels (draw 5 v) ∷ [] in
-    record { text = front ++ end.text; state = end.state }
+    let front = slice_index (codes "aeiou") (draw 5 v) ∷ end.text in
+    record { text = slice_index (codes "bdfgklmnprst") (draw 12 c) ∷ front; state = end.state }
 
 -- so many further syllables, each behind a hyphen
 abbrev pub further_syllables : ℕ → ℕ → Made

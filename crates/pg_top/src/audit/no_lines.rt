@@ -1,7 +1,8 @@
 //! The line of `no`.
 ghost use Rattle.std.specs.Prelude.{◌≡◌, ◌++◌, ◌<◌, ◌≤◌, length, codes, IfOk, OnOk};
-ghost use Rattle.pg_audit.specs.FoundLines.{found_text, has_feed as has_feed_of, without_feed as line_without_feed};
-ghost use Rattle.pg_top.specs.audit.Audited.{no_line as no_line_of};
+ghost use Rattle.pg_audit.specs.FoundLines.{found_text};
+ghost use Rattle.pg_audit.specs.Inside.FoundForms.{has_feed as has_feed_of, without_feed as line_without_feed};
+ghost use Rattle.pg_top.specs.audit.Inside.NoLines.{no_line as no_line_of};
 ghost use Rattle.pg_top.specs.audit.Inside.FoundThere.{text_there};
 
 use crate::inputs::{Given, Input};

@@ -6,9 +6,9 @@ ghost use Rattle.pg_select.specs.Inside.Meanings.{new_engine};
 ghost use Rattle.pg_top.specs.audit.Audited.{given_file, given_files};
 ghost use Rattle.pg_words.specs.Inside.Asked.{name_now, texts_of};
 ghost use Rattle.pg_words.specs.Requests.{if_asked};
-ghost use Rattle.pg_top.specs.Selection.{signs_of, selected};
+ghost use Rattle.pg_top.specs.Selection.{selected};
 ghost use Rattle.pg_top.specs.Inside.SelectionAccounts.{selected_account};
-ghost use Rattle.pg_top.specs.Inside.SelectionSigns.{HasSigns};
+ghost use Rattle.pg_top.specs.Inside.SelectionSigns.{HasSigns, signs_of};
 ghost use Rattle.pg_top.specs.audit.Inside.Verdicts.{wanted_files};
 
 use crate::inputs::Given;

@@ -8,8 +8,8 @@ ghost use Rattle.pg_words.specs.Inside.Asked.{name_now, texts_of};
 ghost use Rattle.pg_top.specs.generate.Generated.{selected_files, selected_lines};
 ghost use Rattle.pg_top.specs.Inside.SelectionAccounts.{work_line, selected_cells, selected_account, passes_begun, last_layout as last_layout_of};
 ghost use Rattle.pg_words.specs.Requests.{if_asked};
-ghost use Rattle.pg_top.specs.Selection.{signs_of, selected, selected_list, selected_cells_text, selected_text, selected_report};
-ghost use Rattle.pg_top.specs.Inside.SelectionSigns.{HasSigns};
+ghost use Rattle.pg_top.specs.Selection.{selected, selected_list, selected_cells_text, selected_text, selected_report};
+ghost use Rattle.pg_top.specs.Inside.SelectionSigns.{HasSigns, signs_of};
 ghost use Rattle.pg_top.specs.Inside.WritesMade.{writing_of};
 ghost use Rattle.pg_types.specs.Lines.{lines};
 

@@ -3,10 +3,9 @@ ghost use Rattle.std.specs.Prelude.{◌+◌, IfOk, IfErr, IfSome};
 ghost use Rattle.pg_outside.specs.Content.{file_at};
 ghost use Rattle.pg_patterns.specs.Inside.PatternMaps.{SignsUpTo};
 ghost use Rattle.pg_translate.specs.Alphabets.{letters_of};
-ghost use Rattle.pg_words.specs.Requests.{ToPack};
 ghost use Rattle.pg_top.specs.Calls.{reads_of};
 ghost use Rattle.pg_top.specs.Counted.{MakesCalls, read_calls};
-ghost use Rattle.pg_top.specs.pack.Inside.Inputs.{pack_of, HasSource};
+ghost use Rattle.pg_top.specs.pack.Inside.Inputs.{pack_of, HasSource, to_pack};
 ghost use Rattle.pg_top.specs.Inside.Stops.{OnlyReads, StopsReading};
 
 use crate::inputs::Stop;
@@ -40,10 +39,10 @@ pub fn read_source<'a, F: Files, W: Watch>(
     ensures known { IfOk result
         (λ source. SignsUpTo (letters_of source.table + 1) source.patterns) }
     ensures stopped { IfErr result
-        (StopsReading (reads_of (ToPack (pack_of names.now)))
+        (StopsReading (reads_of (to_pack (pack_of names.now)))
         (F.shown files.old) (F.shown files.new)) }
     ensures counted { IfOk result (λ _. MakesCalls (F.shown files.old) (F.shown files.new)
-        (read_calls (reads_of (ToPack (pack_of names.now))))) }
+        (read_calls (reads_of (to_pack (pack_of names.now))))) }
 {
     let table = read_table(alloc, names.translate, files, watch)?;
     let patterns = read_start(alloc, &table, names.patterns, files, watch)?;

@@ -1,10 +1,9 @@
 //! What `prune` reads.
 ghost use Rattle.std.specs.Prelude.{IfOk, IfErr, IfSome};
 ghost use Rattle.pg_outside.specs.Content.{file_at};
-ghost use Rattle.pg_words.specs.Requests.{ToPrune};
 ghost use Rattle.pg_top.specs.Calls.{reads_of};
 ghost use Rattle.pg_top.specs.Counted.{MakesCalls, read_calls};
-ghost use Rattle.pg_top.specs.prune.Inside.Inputs.{prune_of, HasPrune, HasKnownSigns};
+ghost use Rattle.pg_top.specs.prune.Inside.Inputs.{prune_of, HasPrune, HasKnownSigns, to_prune};
 ghost use Rattle.pg_top.specs.Inside.Stops.{OnlyReads, StopsReading};
 
 use crate::inputs::Stop;
@@ -40,10 +39,10 @@ pub fn read_prune<'a, F: Files, W: Watch>(
         HasPrune (file_at files) (prune_of names.now) inputs)) }
     ensures known { IfOk result HasKnownSigns }
     ensures stopped { IfErr result
-        (StopsReading (reads_of (ToPrune (prune_of names.now)))
+        (StopsReading (reads_of (to_prune (prune_of names.now)))
         (F.shown files.old) (F.shown files.new)) }
     ensures counted { IfOk result (λ _. MakesCalls (F.shown files.old) (F.shown files.new)
-        (read_calls (reads_of (ToPrune (prune_of names.now))))) }
+        (read_calls (reads_of (to_prune (prune_of names.now))))) }
 {
     let table = read_table(alloc, names.translate, files, watch)?;
     let (patterns, dictionary) = read_lists(

@@ -1,7 +1,7 @@
 //! The parameter files of `sweep`, read one after the other.
 ghost use Rattle.std.specs.Prelude.{◌≡◌, ◌≤◌, length, IfOk, IfErr, IfSome};
 ghost use Rattle.pg_outside.specs.Content.{file_at};
-ghost use Rattle.pg_words.specs.Commands.{words_of};
+ghost use Rattle.pg_words.specs.Inside.Names.{words_of};
 ghost use Rattle.pg_top.specs.Counted.{MakesCalls, read_calls};
 ghost use Rattle.pg_top.specs.Inside.Stops.{OnlyReads, StopsReading};
 ghost use Rattle.pg_top.specs.sweep.Swept.{set_files};

@@ -8,7 +8,7 @@ ghost use Rattle.pg_texts.specs.ReportTexts.{ending_text};
 ghost use Rattle.pg_translate.specs.Alphabets.{letters_of};
 ghost use Rattle.pg_top.specs.Counted.{MakesCalls};
 ghost use Rattle.pg_top.specs.totals.Totalled.{packed_table};
-ghost use Rattle.pg_top.specs.pack.Packed.{table_refused};
+ghost use Rattle.pg_top.specs.pack.Inside.Inputs.{table_refused};
 ghost use Rattle.pg_top.specs.Readings.{input_file};
 ghost use Rattle.pg_top.specs.totals.Inside.Inputs.{IsTotalled};
 ghost use Rattle.pg_top.specs.Inside.Stops.{OnlyReads, StopsAt};

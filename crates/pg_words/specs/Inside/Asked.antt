@@ -8,7 +8,7 @@ use Rattle.pg_words.specs.declared.commands.SweepWords.{SweepWords}
 use Rattle.pg_words.specs.declared.commands.Command.{Command}
 use Rattle.pg_words.specs.declared.commands.Command.TheVariants.{Generate, Audit, Sample, Pack, Totals, Prune, Sweep}
 use Rattle.pg_words.specs.declared.limits.TheConstants.{SEED_MAX, COUNT_MAX, FOLDS_MAX, PRICE_MAX, SETS_MAX}
-use Rattle.pg_words.specs.Commands.{words_of}
+use Rattle.pg_words.specs.Inside.Names.{words_of}
 
 -- a name that may be asked for as its bytes
 abbrev pub name_now : Option (Bor (List ℕ)) → Option (List ℕ)
@@ -45,17 +45,10 @@ abbrev pub asked_by : Command → Request
 asked_by (Generate names) = ToGenerate (texts_of names)
 asked_by (Audit names) = ToAudit (texts_of names)
 asked_by (Sample seed count) = ToSample seed count
-asked_by (Pack patterns translate table) =
-    ToPack (record { patterns = patterns.now; translate = translate.now; table = table.now })
-asked_by (Totals dict translate table) =
-    ToTotals (record { dict = dict.now; translate = translate.now; table = table.now })
-asked_by (Prune dict patterns output translate report) = ToPrune (record {
-  dict = dict.now;
-  patterns = patterns.now;
-  output = output.now;
-  translate = translate.now;
-  report = report.now;
-})
+asked_by (Pack patterns translate table) = ToPack patterns.now translate.now table.now
+asked_by (Totals dict translate table) = ToTotals dict.now translate.now table.now
+asked_by (Prune dict patterns output translate report) =
+    ToPrune dict.now patterns.now output.now translate.now report.now
 asked_by (Sweep words) = ToSweep (sweep_of words)
 
 -- the numbers of `sweep` are within their limits

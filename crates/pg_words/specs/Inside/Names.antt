@@ -1,8 +1,13 @@
 -- Names as their bytes, and names that differ.
-use Rattle.std.specs.Prelude.{ℕ, Bool, not, List, map}
+use Rattle.std.specs.Prelude.{ℕ, Bool, not, List, map, String, string_bytes}
 use Rattle.std.specs.List.{list_all}
 use Rattle.std.specs.Str.{bytes_eq}
+use Rattle.std.specs.declared.alloc.Global.{Global}
 use denote.Ref.{Bor}
+
+-- words as their bytes
+abbrev pub words_of : List (String Global) → List (List ℕ)
+words_of words = map string_bytes words
 
 -- names as their bytes
 abbrev pub texts : List (Bor (List ℕ)) → List (List ℕ)

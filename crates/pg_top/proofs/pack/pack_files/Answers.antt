@@ -3,9 +3,7 @@ use Rattle.std.proofs.lemmas.Result.{err_from_is_err_and}
 use Rattle.pg_outside.specs.Content.{file_at}
 use Rattle.pg_top.specs.Calls.{outcome_of}
 use Rattle.pg_top.specs.Outcomes.{Ends}
-use Rattle.pg_top.specs.Promises.{PackKeeps}
-use Rattle.pg_words.specs.Requests.{ToPack}
-use Rattle.pg_top.specs.pack.Inside.Inputs.{pack_of, HasSource}
+use Rattle.pg_top.specs.pack.Inside.Inputs.{pack_of, HasSource, to_pack, KeepsPack}
 use Rattle.pg_top.specs.Inside.WritesMade.{writing_of}
 use Rattle.pg_top.specs.declared.answers.Status.TheVariants.{Done}
 use Rattle.pg_top.proofs.Calls.{stops_reading}
@@ -18,13 +16,13 @@ returns-clause-ok g c =
     let p = pack_of c.args.names.now in
     let s = c.in_ok-source.source in
     mapped (g.F.Files.shown c.read_source.new.files).held (λ files. HasSource (file_at files) p s)
-    (λ files. outcome_of (file_at files) (ToPack p) ≡ Ends Done (writing_of c.in_ok-outputs.field-0.files.items) c.in_ok-outputs.field-0.lines.items)
+    (λ files. outcome_of (file_at files) (to_pack p) ≡ Ends Done (writing_of c.in_ok-outputs.field-0.files.items) c.in_ok-outputs.field-0.lines.items)
     (λ files h. pack_outcome p s files h ∙ c.in_ok-outputs.ensures.made) c.in_ok-source.ensures.ok
 
 pub returns-in_err-source-clause-stopped : goal.returns-in_err-source-clause-stopped
 returns-in_err-source-clause-stopped g c =
     let err = err_from_is_err_and c.from_residual.result c.from_residual.ensures.1 in
-    rw (err.1, err.2) (stops_reading (ToPack (pack_of c.args.names.now)) (g.F.Files.shown c.args.files.now) (g.F.Files.shown c.read_source.new.files) c.in_err-source.field-0.0 c.in_err-source.ensures.stopped)
+    rw (err.1, err.2) (stops_reading (to_pack (pack_of c.args.names.now)) (g.F.Files.shown c.args.files.now) (g.F.Files.shown c.read_source.new.files) c.in_err-source.field-0.0 c.in_err-source.ensures.stopped)
 
 pub returns-in_err-outputs-clause-stopped : goal.returns-in_err-outputs-clause-stopped
 returns-in_err-outputs-clause-stopped g c =
@@ -36,7 +34,7 @@ returns-clause-kept g c =
     let p = pack_of c.args.names.now in
     let s = c.in_ok-source.source in
     let made = c.in_ok-outputs.field-0 in
-    mapped (g.F.Files.shown c.read_source.new.files).held (λ files. HasSource (file_at files) p s) (λ files. PackKeeps (file_at files) p)
+    mapped (g.F.Files.shown c.read_source.new.files).held (λ files. HasSource (file_at files) p s) (λ files. KeepsPack (file_at files) p)
     (λ files h. pack_keeps p s (writing_of made.files.items) made.lines.items files c.in_ok-outputs.ensures.made c.in_ok-outputs.ensures.table c.in_ok-outputs.ensures.accepted c.in_ok-outputs.ensures.gives h) c.in_ok-source.ensures.ok
 
 pub returns-in_err-source-clause-ok : goal.returns-in_err-source-clause-ok

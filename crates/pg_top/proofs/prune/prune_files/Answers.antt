@@ -3,9 +3,7 @@ use Rattle.std.proofs.lemmas.Result.{err_from_is_err_and}
 use Rattle.pg_outside.specs.Content.{file_at}
 use Rattle.pg_top.specs.Calls.{outcome_of, reads_of}
 use Rattle.pg_top.specs.Outcomes.{Ends}
-use Rattle.pg_top.specs.prune.Inside.Inputs.{prune_of, HasPrune}
-use Rattle.pg_top.specs.Promises.{PruneKeeps}
-use Rattle.pg_words.specs.Requests.{PruneRequest, ToPrune}
+use Rattle.pg_top.specs.prune.Inside.Inputs.{prune_of, HasPrune, PruneRequest, to_prune, KeepsPrune}
 use Rattle.pg_top.specs.Inside.WritesMade.{writing_of}
 use Rattle.pg_top.specs.declared.answers.Status.TheVariants.{Done}
 use Rattle.pg_top.specs.declared.inputs.Stop.TheVariants.{Memory}
@@ -19,13 +17,13 @@ returns-clause-ok g c =
     let p : PruneRequest = prune_of c.args.names.now in
     let i = c.in_ok-inputs.inputs in
     mapped (g.F.Files.shown c.read_prune.new.files).held (λ files. HasPrune (file_at files) p i)
-    (λ files. outcome_of (file_at files) (ToPrune p) ≡ Ends Done (writing_of c.in_ok-outputs.field-0.files.items) c.in_ok-outputs.field-0.lines.items)
+    (λ files. outcome_of (file_at files) (to_prune p) ≡ Ends Done (writing_of c.in_ok-outputs.field-0.files.items) c.in_ok-outputs.field-0.lines.items)
     (λ files h. prune_outcome p i files h ∙ c.in_ok-outputs.ensures.made) c.in_ok-inputs.ensures.ok
 
 pub returns-in_err-inputs-clause-stopped : goal.returns-in_err-inputs-clause-stopped
 returns-in_err-inputs-clause-stopped g c =
     let err = err_from_is_err_and c.from_residual.result c.from_residual.ensures.1 in
-    rw (err.1, err.2) (stops_reading (ToPrune (prune_of c.args.names.now)) (g.F.Files.shown c.args.files.now) (g.F.Files.shown c.read_prune.new.files) c.in_err-inputs.field-0.0 c.in_err-inputs.ensures.stopped)
+    rw (err.1, err.2) (stops_reading (to_prune (prune_of c.args.names.now)) (g.F.Files.shown c.args.files.now) (g.F.Files.shown c.read_prune.new.files) c.in_err-inputs.field-0.0 c.in_err-inputs.ensures.stopped)
 
 pub returns-in_err-outputs-clause-stopped : goal.returns-in_err-outputs-clause-stopped
 returns-in_err-outputs-clause-stopped g c =
@@ -33,15 +31,15 @@ returns-in_err-outputs-clause-stopped g c =
     let i = c.in_ok-inputs.inputs in
     let s0 = g.F.Files.shown c.args.files.now in
     let s1 = g.F.Files.shown c.read_prune.new.files in
-    let accepted = mapped s1.held (λ files. HasPrune (file_at files) p i) (λ files. AreAccepted (file_at files) (reads_of (ToPrune p))) (prune_accepted p i) c.in_ok-inputs.ensures.ok in
+    let accepted = mapped s1.held (λ files. HasPrune (file_at files) p i) (λ files. AreAccepted (file_at files) (reads_of (to_prune p))) (prune_accepted p i) c.in_ok-inputs.ensures.ok in
     let err = err_from_is_err_and c.from_residual-in_err-outputs.result c.from_residual-in_err-outputs.ensures.1 in
-    rw (err.1, err.2) (stops_reading (ToPrune p) s0 s1 Memory (wanted_after (reads_of (ToPrune p)) s0 s1 (omega arith) c.in_ok-inputs.ensures.counted accepted))
+    rw (err.1, err.2) (stops_reading (to_prune p) s0 s1 Memory (wanted_after (reads_of (to_prune p)) s0 s1 (omega arith) c.in_ok-inputs.ensures.counted accepted))
 
 pub returns-clause-kept : goal.returns-clause-kept
 returns-clause-kept g c =
     let p : PruneRequest = prune_of c.args.names.now in
     let i = c.in_ok-inputs.inputs in
-    mapped (g.F.Files.shown c.read_prune.new.files).held (λ files. HasPrune (file_at files) p i) (λ files. PruneKeeps (file_at files) p) (λ files h. prune_keeps p i files c.in_ok-outputs.ensures.reads_back h) c.in_ok-inputs.ensures.ok
+    mapped (g.F.Files.shown c.read_prune.new.files).held (λ files. HasPrune (file_at files) p i) (λ files. KeepsPrune (file_at files) p) (λ files h. prune_keeps p i files c.in_ok-outputs.ensures.reads_back h) c.in_ok-inputs.ensures.ok
 
 pub returns-in_err-inputs-clause-ok : goal.returns-in_err-inputs-clause-ok
 returns-in_err-inputs-clause-ok g c = rw (err_from_is_err_and c.from_residual.result c.from_residual.ensures.1).1 tt

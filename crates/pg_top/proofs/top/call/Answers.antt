@@ -1,6 +1,7 @@
-use Rattle.std.proofs.Common.{◌≡◌, false, subst, refl}
+use Rattle.std.proofs.Common.{◌≡◌, [], subst, refl}
+use Rattle.std.specs.Option.{option_map_or}
 use Rattle.pg_top.specs.Answers.{IsCall, IsSampled}
-use Rattle.pg_top.specs.Calls.{has_files}
+use Rattle.pg_top.specs.Calls.{reads_of}
 use Rattle.pg_top.specs.Counted.{IsCountedCall}
 use Rattle.pg_top.specs.Promises.{IsPromised}
 use Rattle.pg_top.proofs.Calls.{usage_call}
@@ -19,7 +20,7 @@ returns-in-Some-clause-call g c =
 
 pub returns-in-Some-clause-same : goal.returns-in-Some-clause-same
 returns-in-Some-clause-same g c =
-    subst (λ asked. has_files asked ≡ false → c.perform.new.files ≡ c.args.files.now) c.in-Some.ensures.value c.perform.ensures.same
+    subst (λ asked. option_map_or reads_of asked [] ≡ [] → c.perform.new.files ≡ c.args.files.now) c.in-Some.ensures.value c.perform.ensures.same
 
 pub returns-in-Some-clause-sampled : goal.returns-in-Some-clause-sampled
 returns-in-Some-clause-sampled g c =

@@ -7,8 +7,7 @@ use Rattle.pg_translate.specs.Tables.{table}
 use Rattle.pg_top.specs.Readings.{input_file}
 use Rattle.pg_top.specs.Inside.UnderTable.{file_under}
 use Rattle.pg_top.specs.totals.Totalled.{packed_table}
-use Rattle.pg_words.specs.Requests.{ToTotals}
-use Rattle.pg_top.specs.totals.Inside.Inputs.{totals_of}
+use Rattle.pg_top.specs.totals.Inside.Inputs.{totals_of, to_totals}
 use Rattle.pg_top.specs.declared.inputs.Input.TheVariants as input
 use Rattle.pg_top.proofs.Calls.{stops_reading}
 use Rattle.pg_top.proofs.CountedCalls.{calls_on}
@@ -39,7 +38,7 @@ returns-in_err-letters-clause-stopped g c =
     let s1 : FilesShown = g.F.Files.shown c.read_table.new.files in
     let reading = stopped_first (input_file input.Translate t (λ _. table)) (file_under t input.Dictionary d words ∷ file_under t input.Table n packed_table ∷ []) s0 s1 c.in_err-letters.field-0.0 c.read_table.ensures.calls c.in_err-letters.ensures.stopped in
     let err = err_from_is_err_and c.from_residual.result c.from_residual.ensures.1 in
-    rw (err.1, err.2) (stops_reading (ToTotals (totals_of c.args.names.now)) s0 s1 c.in_err-letters.field-0.0 reading)
+    rw (err.1, err.2) (stops_reading (to_totals (totals_of c.args.names.now)) s0 s1 c.in_err-letters.field-0.0 reading)
 
 pub returns-in_err-dictionary-clause-stopped : goal.returns-in_err-dictionary-clause-stopped
 returns-in_err-dictionary-clause-stopped g c =
@@ -52,7 +51,7 @@ returns-in_err-dictionary-clause-stopped g c =
     let letters = c.in_ok-letters.letters in
     let reading = stopped_second t letters words input.Dictionary d (file_under t input.Table n packed_table ∷ []) s0 s1 s2 c.in_err-dictionary.field-0.0 c.read_table.ensures.only.reads (calls_on (Reads t ∷ []) (Reads d ∷ []) s0 s1 s2 c.read_table.ensures.calls c.read_dictionary.ensures.calls) c.read_dictionary.ensures.only.held c.in_ok-letters.ensures.ok c.in_err-dictionary.ensures.stopped in
     let err = err_from_is_err_and c.from_residual-in_err-dictionary.result c.from_residual-in_err-dictionary.ensures.1 in
-    rw (err.1, err.2) (stops_reading (ToTotals (totals_of c.args.names.now)) s0 s2 c.in_err-dictionary.field-0.0 reading)
+    rw (err.1, err.2) (stops_reading (to_totals (totals_of c.args.names.now)) s0 s2 c.in_err-dictionary.field-0.0 reading)
 
 pub returns-in_err-lines-clause-stopped : goal.returns-in_err-lines-clause-stopped
 returns-in_err-lines-clause-stopped g c =
@@ -68,7 +67,7 @@ returns-in_err-lines-clause-stopped g c =
     let two : IfSome s2.held (HasWords (totals_of c.args.names.now) letters ws) = words_read (totals_of c.args.names.now) letters ws s1.held s2.held c.read_dictionary.ensures.only.held c.in_ok-letters.ensures.ok c.in_ok-dictionary.ensures.ok in
     let reading = stopped_table (totals_of c.args.names.now) letters ws s0 s2 s3 c.in_err-lines.field-0.0 (none_fell s0.read_faults s1.read_faults s2.read_faults c.read_table.ensures.only.reads c.read_dictionary.ensures.only.reads) (calls_on (Reads t ∷ Reads d ∷ []) (Reads n ∷ []) s0 s2 s3 (calls_on (Reads t ∷ []) (Reads d ∷ []) s0 s1 s2 c.read_table.ensures.calls c.read_dictionary.ensures.calls) c.total_by-lines.ensures.calls) c.total_by-lines.ensures.only.held two c.in_err-lines.ensures.stopped in
     let err = err_from_is_err_and c.from_residual-in_err-lines.result c.from_residual-in_err-lines.ensures.1 in
-    rw (err.1, err.2) (stops_reading (ToTotals (totals_of c.args.names.now)) s0 s3 c.in_err-lines.field-0.0 reading)
+    rw (err.1, err.2) (stops_reading (to_totals (totals_of c.args.names.now)) s0 s3 c.in_err-lines.field-0.0 reading)
 
 pub returns-clause-counted : goal.returns-clause-counted
 returns-clause-counted g c =

@@ -1,6 +1,6 @@
 -- A found line that is there, as it is printed.
 use Rattle.std.specs.Prelude.{ℕ, nat_lt, if◌then◌else◌, List, [], ◌++◌, length, take, codes}
-use Rattle.pg_audit.specs.FoundLines.{has_feed, without_feed}
+use Rattle.pg_audit.specs.Inside.FoundForms.{has_feed, without_feed}
 use Rattle.pg_audit.specs.declared.lines.TheConstants.{SHOWN_MAX}
 
 -- the first 200 bytes of a line that has more, or the line, behind which the file may end

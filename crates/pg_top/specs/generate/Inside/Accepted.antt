@@ -4,7 +4,8 @@ use Rattle.pg_types.specs.Parameters.{parameters}
 use Rattle.pg_translate.specs.Tables.{table}
 use Rattle.pg_dict.specs.Words.{words}
 use Rattle.pg_patterns.specs.Starts.{start}
-use Rattle.pg_top.specs.Readings.{Held, read_as}
+use Rattle.pg_top.specs.Readings.{Held}
+use Rattle.pg_top.specs.Inside.ReadAs.{read_as}
 use Rattle.pg_words.specs.Requests.{FileNames}
 use Rattle.pg_top.specs.declared.selection.Inputs.{Inputs}
 

@@ -1,6 +1,8 @@
 -- What `pack` is given and has read, its table, and why it makes none.
 use Rattle.std.specs.Prelude.{◌≡◌, ℕ, ◌+◌, List, Some, Ok}
+use Rattle.pg_types.specs.declared.refusals.Kind.{Kind}
 use Rattle.pg_types.specs.declared.refusals.Kind.TheVariants.{TableTooLong}
+use Rattle.pg_types.specs.declared.refusals.Refusal.{Refusal}
 use Rattle.pg_translate.specs.Alphabets.{Alphabet, letters_of}
 use Rattle.pg_translate.specs.Tables.{table}
 use Rattle.pg_patterns.specs.Starts.{start}
@@ -8,14 +10,33 @@ use Rattle.pg_select.specs.Windows.{Patterns}
 use Rattle.pg_table.specs.Texts.{table_text}
 use Rattle.pg_table.specs.declared.error.TableError.{TableError}
 use Rattle.pg_table.specs.declared.error.TableError.TheVariants as table_error
-use Rattle.pg_words.specs.Requests.{PackRequest}
-use Rattle.pg_top.specs.pack.Packed.{table_refused}
-use Rattle.pg_top.specs.Readings.{Held, read_as}
+use Rattle.pg_words.specs.Requests.{Request, ToPack}
+use Rattle.pg_top.specs.Readings.{Held}
+use Rattle.pg_top.specs.Inside.ReadAs.{read_as}
+use Rattle.pg_top.specs.Promises.{PackKeeps}
 use Rattle.pg_top.specs.declared.inputs.Input.TheVariants as input
 use Rattle.pg_top.specs.declared.inputs.Stop.{Stop}
 use Rattle.pg_top.specs.declared.inputs.Stop.TheVariants as stop
 use Rattle.pg_top.specs.declared.pack.PackNames.{PackNames}
 use Rattle.pg_top.specs.declared.pack.inputs.Source.{Source}
+
+-- a table is refused, without a place
+abbrev pub table_refused : Kind → Refusal
+table_refused kind = record { kind = kind; line = 0; column = 0 }
+
+-- the names of `pack`
+pub record PackRequest : Type 0 where
+  pub patterns : List ℕ
+  pub translate : List ℕ
+  pub table : List ℕ
+
+-- what they ask for
+abbrev pub to_pack : PackRequest → Request
+to_pack p = ToPack p.patterns p.translate p.table
+
+-- what `pack` promises of files of these names
+abbrev pub KeepsPack : Held → PackRequest → Type 0
+KeepsPack files p = PackKeeps files p.patterns p.translate p.table
 
 -- the names as their bytes
 abbrev pub pack_of : PackNames → PackRequest

@@ -13,10 +13,28 @@ use Rattle.pg_prune.specs.Prunes.{Found, pruned}
 use Rattle.pg_prune.specs.Reports.{prune_report}
 use Rattle.pg_top.specs.Outcomes.{Outcome, Writing}
 use Rattle.pg_top.specs.prune.Pruned.{outcome_of_prune, pruned_line}
-use Rattle.pg_top.specs.Readings.{Held, read_as}
-use Rattle.pg_words.specs.Requests.{PruneRequest}
+use Rattle.pg_top.specs.Readings.{Held}
+use Rattle.pg_top.specs.Inside.ReadAs.{read_as}
+use Rattle.pg_words.specs.Requests.{Request, ToPrune}
+use Rattle.pg_top.specs.Promises.{PruneKeeps}
 use Rattle.pg_top.specs.declared.prune.inputs.PruneInputs.{PruneInputs}
 use Rattle.pg_top.specs.declared.prune.PruneNames.{PruneNames}
+
+-- the names of `prune`
+pub record PruneRequest : Type 0 where
+  pub dict : List ℕ
+  pub patterns : List ℕ
+  pub output : List ℕ
+  pub translate : List ℕ
+  pub report : List ℕ
+
+-- what they ask for
+abbrev pub to_prune : PruneRequest → Request
+to_prune p = ToPrune p.dict p.patterns p.output p.translate p.report
+
+-- what `prune` promises of files of these names
+abbrev pub KeepsPrune : Held → PruneRequest → Type 0
+KeepsPrune files p = PruneKeeps files p.dict p.patterns p.output p.translate p.report
 
 -- the names as their bytes
 abbrev pub prune_of : PruneNames → PruneRequest
@@ -51,4 +69,4 @@ line_of_pruned found = pruned_line found.rounds found.removed (length found.patt
 
 -- what pruning these patterns by these words comes to
 abbrev pub pruned_by : PruneRequest → Alphabet → List Word → Patterns → Outcome
-pruned_by p t ws P = outcome_of_prune p t (pruned (minima_of t) ws P)
+pruned_by p t ws P = outcome_of_prune p.output p.report t (pruned (minima_of t) ws P)

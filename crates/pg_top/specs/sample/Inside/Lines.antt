@@ -14,3 +14,15 @@ printed_part report = flat_map (λ line. line ++ 10 ∷ []) (filter is_printed (
 abbrev pub selection_lines : Inputs → List ℕ
 selection_lines i = printed_part (selected_report i)
     ++ done_line (selected_text i) (selected_totals i)
+
+-- the consonants that a syllable begins with
+abbrev pub consonants : List ℕ
+consonants = codes "bdfgklmnprst"
+
+-- the vowels of syllables
+abbrev pub vowels : List ℕ
+vowels = codes "aeiou"
+
+-- the consonants that a syllable may end with
+abbrev pub closings : List ℕ
+closings = codes "nrs"

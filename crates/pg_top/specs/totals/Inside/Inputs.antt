@@ -5,10 +5,21 @@ use Rattle.pg_dict.specs.Word.{Word}
 use Rattle.pg_select.specs.CountedPositions.{minima_of}
 use Rattle.pg_table.specs.Lookups.{table_totals}
 use Rattle.pg_texts.specs.ReportTexts.{ending_text}
-use Rattle.pg_words.specs.Requests.{TotalsRequest}
-use Rattle.pg_top.specs.Readings.{Held, read_as}
+use Rattle.pg_words.specs.Requests.{Request, ToTotals}
+use Rattle.pg_top.specs.Readings.{Held}
+use Rattle.pg_top.specs.Inside.ReadAs.{read_as}
 use Rattle.pg_top.specs.totals.Totalled.{packed_table}
 use Rattle.pg_top.specs.declared.totals.TotalsNames.{TotalsNames}
+
+-- the names of `totals`
+pub record TotalsRequest : Type 0 where
+  pub dict : List ℕ
+  pub translate : List ℕ
+  pub table : List ℕ
+
+-- what they ask for
+abbrev pub to_totals : TotalsRequest → Request
+to_totals p = ToTotals p.dict p.translate p.table
 
 -- the names as their bytes
 abbrev pub totals_of : TotalsNames → TotalsRequest

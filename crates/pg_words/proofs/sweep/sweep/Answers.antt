@@ -3,9 +3,8 @@ use Rattle.std.specs.List.{list_all}
 use Rattle.std.specs.Prelude.{string_bytes}
 use Rattle.std.proofs.lemmas.Bool.Decides.{nat_tests}
 use Rattle.std.proofs.lemmas.List.{length-map, take_all}
-use Rattle.pg_words.specs.Commands.{words_of}
 use Rattle.pg_words.specs.Requests.{is_name, outputs_differ}
-use Rattle.pg_words.specs.Inside.Names.{texts}
+use Rattle.pg_words.specs.Inside.Names.{texts, words_of}
 use Rattle.pg_words.specs.declared.limits.TheConstants.{SETS_MAX}
 use Rattle.pg_words.proofs.SweepParts.{by_parts, all_taken}
 use Rattle.pg_words.proofs.sweep.sweep.Goals as goal

@@ -1,7 +1,7 @@
 use Rattle.std.proofs.Common.{◌≡◌, length, rules}
 use Rattle.std.proofs.lemmas.List.{length-map}
 use Rattle.std.specs.Prelude.{string_bytes}
-use Rattle.pg_words.specs.Commands.{words_of}
+use Rattle.pg_words.specs.Inside.Names.{words_of}
 use Rattle.pg_words.proofs.OtherWords.{not_for_pack}
 use Rattle.pg_words.proofs.words.pack.Goals as goal
 

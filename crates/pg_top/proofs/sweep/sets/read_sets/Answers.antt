@@ -2,7 +2,7 @@ use Rattle.std.proofs.Common.{◌+◌, ◌∷◌, [], List, take, length, IfSome
 use Rattle.std.proofs.lemmas.Result.{err_from_is_err_and}
 use Rattle.pg_types.specs.Parameters.{Parameters}
 use Rattle.pg_outside.specs.Content.{FilesShown, file_at}
-use Rattle.pg_words.specs.Commands.{words_of}
+use Rattle.pg_words.specs.Inside.Names.{words_of}
 use Rattle.pg_top.specs.sweep.Inside.Accepted.{HasSets}
 use Rattle.pg_top.specs.declared.inputs.Stop.TheVariants.{Memory}
 use Rattle.pg_top.proofs.CountedCalls.{no_calls}
