@@ -4,7 +4,7 @@ ghost use Rattle.std.specs.Option.{option_map};
 ghost use Rattle.pg_watch.specs.Inside.Lines.{pass_text, turn_text, turn_if_told, step_text, line_text as line_text_of};
 
 use crate::watch::{Pass, Turn};
-use itoa::Buffer;
+use pg_types::push_number;
 use std::alloc::{AllocError, Global};
 
 /// How many bytes a line has at most, so that it fits into a row of a terminal.

@@ -98,6 +98,11 @@ pub fn command(words: &[String]) -> Option<Command<'_>>
     ensures value { option_map asked_by result ≡ request_of (words_of words.now) }
     ensures within { IfSome result KeepsLimits }
 {
+    if words.is_empty() {
+        return None;
+    }
+    let word = words[0].as_str();
+    let behind = &words[1..];
     if word == "generate" {
         generate(behind)
     } else if word == "audit" {
@@ -115,20 +120,4 @@ pub fn command(words: &[String]) -> Option<Command<'_>>
     } else {
         None
     }
-}
-
-/// What the words, without the program's name, ask for; none exactly where they are no command.
-/// Commands are `generate DICT PATTERNS OUT TRANSLATE PARAMS REPORT`, then `--pattmp FILE` and
-/// `--cells FILE`, each at most once and in either order, `audit` with the same six names and at
-/// most one `--pattmp FILE`, `sample N COUNT`, `pack PATTERNS TRANSLATE TABLE`, `totals DICT
-/// TRANSLATE TABLE`, `prune DICT PATTERNS OUT TRANSLATE REPORT`, and `sweep DICT PATTERNS OUT
-/// TRANSLATE K BAD MISSED` with the names of 1 to 16 parameter files. It takes no memory.
-pub fn command(words: &[String]) -> Option<Command<'_>>
-    ensures value { option_map asked_by result ≡ request_of (words_of words.now) }
-    ensures within { IfSome result KeepsLimits }
-{
-    if words.is_empty() {
-        return None;
-    }
-    asked(words[0].as_str(), &words[1..])
 }

@@ -2,6 +2,7 @@
 use Rattle.std.specs.Prelude.{ℕ, List, [], ◌++◌, take, codes, decimal, Option, Some, None}
 use Rattle.pg_watch.specs.declared.watch.Pass.{Pass}
 use Rattle.pg_watch.specs.declared.watch.Turn.{Turn}
+use Rattle.pg_watch.specs.declared.line.TheConstants.{ROW}
 use Rattle.pg_watch.specs.declared.line.Step.{Step}
 use Rattle.pg_watch.specs.declared.line.Step.TheVariants as step
 

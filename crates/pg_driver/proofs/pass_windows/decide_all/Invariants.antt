@@ -2,6 +2,7 @@ use Rattle.std.proofs.Common.{◌≡◌, ℕ, ◌<◌, ◌++◌, List, length, s
 use Rattle.pg_types.specs.Inside.Counts.{counted_sums}
 use Rattle.pg_types.specs.Inside.NumberedWindows.{HasNumber}
 use Rattle.pg_select.specs.Inside.Choices.{choice}
+use Rattle.pg_select.specs.declared.choice.Choice.{Choice}
 use Rattle.pg_driver.proofs.pass_windows.decide_all.Given as goal
 
 abbrev pub invariant-numbers : goal.invariant-numbers

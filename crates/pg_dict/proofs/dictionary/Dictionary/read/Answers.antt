@@ -11,7 +11,7 @@ use Rattle.pg_dict.specs.Inside.SoundWords.{SignsAtMost}
 use Rattle.pg_dict.specs.Inside.Store.{stored_words, is_sign_up_to}
 use Rattle.pg_dict.proofs.Sizes.{size_of, size_of-cons, size_of-lines}
 use Rattle.pg_dict.proofs.Lines.{next_read, next_refused, words_short, all_read, starts, starts_sound, starts_fit}
-use Rattle.pg_dict.proofs.Told.{signs_at_most}
+use Rattle.pg_dict.proofs.Told.{few_words, signs_at_most}
 use Rattle.pg_dict.proofs.dictionary.Dictionary.read.Goals as goal
 
 pub lines-init : goal.lines-init
