@@ -4,7 +4,7 @@ ghost use Rattle.pg_types.specs.Placement.{cell_of, with_sign};
 ghost use Rattle.pg_cells.specs.Inside.ValuedFamilies.{Trie};
 ghost use Rattle.pg_cells.specs.declared.member.Member.{Member as MemberOf};
 ghost use Rattle.pg_cells.specs.Inside.Lists.{sign_at};
-ghost use Rattle.pg_cells.specs.Inside.Store.{Extends};
+ghost use Rattle.pg_cells.specs.Inside.Store.{Extends, IsRow};
 ghost use Rattle.pg_cells.specs.Inside.Layouts.{IsTrie};
 ghost use Rattle.pg_cells.specs.Inside.Adding.{CanAdd, added};
 
@@ -50,11 +50,11 @@ pub fn add_slot<V: Copy>(
         IfOk result (λ cell. cell_of (with_sign few signs t.families q slot.sign)
         (q ++ slot.sign ∷ []) ≡ Some cell) }
     ensures err { OnErr result (Extends store.old store.new) }
+    ensures row { IsRow store.new }
 {
     let member = slot.value;
     store.make_room(signs as usize + 2, member.value)?;
     let base = store.child(parent);
-    let _cells = store.len();
     if joins(store, base, slot.sign) {
         let cell = base + slot.sign as usize;
         store.take(cell, slot);

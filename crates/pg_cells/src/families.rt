@@ -64,7 +64,6 @@ impl<V: Copy, const FEW: usize> Placed<V, FEW> {
         store.grow(signs as usize + 1, blank.value)?;
         take_root(&mut store, signs, blank);
         store.set_base(0, true);
-        let _length = store.len();
         Ok(Placed {
             signs,
             store,
@@ -74,10 +73,8 @@ impl<V: Copy, const FEW: usize> Placed<V, FEW> {
 
     /// The number of signs of the table.
     pub fn signs(&self) -> u16
-        ensures signs { result ≡ self.now.signs }
-        ensures held { AreValuedFamilies self.now }
+        ensures { result ≡ self.now.signs }
     {
-        let _cells = self.store.len();
         self.signs
     }
 
@@ -91,9 +88,9 @@ impl<V: Copy, const FEW: usize> Placed<V, FEW> {
         ensures none { (p : List ℕ) → base_of self.now.families p ≡ Some base → result ≡ None →
             EndsBefore self.now.values (p ++ s ∷ []) }
     {
-        let _cells = self.store.len();
+        let store = &self.store;
         let cell = base + s as usize;
-        if self.store.sign(cell) == s {
+        if store.sign(cell) == s {
             Some(cell)
         } else {
             None
@@ -113,7 +110,6 @@ impl<V: Copy, const FEW: usize> Placed<V, FEW> {
             (x : ℕ) × (v : MemberOf V)
             × (find (slice_cmp nat_cmp) (q ++ x ∷ []) self.now.values ≡ Some v) }
     {
-        let _cells = self.store.len();
         self.store.child(cell)
     }
 
@@ -133,7 +129,6 @@ impl<V: Copy, const FEW: usize> Placed<V, FEW> {
             × (find (slice_cmp nat_cmp) q self.now.values ≡ Some v)) }
         ensures none { result ≡ None → (q : List ℕ) → cell_of self.now.families q ≡ Some cell → ⊥ }
     {
-        let _cells = self.store.len();
         if self.store.sign(cell) == 0 {
             None
         } else {
@@ -150,7 +145,6 @@ impl<V: Copy, const FEW: usize> Placed<V, FEW> {
             → result ≡ joins_at self.now.families q s }
     {
         let base = self.store.child(parent);
-        let _cells = self.store.len();
         joins(&self.store, base, s)
     }
 
@@ -190,7 +184,7 @@ impl<V: Copy, const FEW: usize> Placed<V, FEW> {
             sign: s,
         };
         let moving = &mut self.moving;
-        let answer = add_slot(
+        add_slot(
             &mut self.store,
             moving,
             slot,
@@ -198,9 +192,7 @@ impl<V: Copy, const FEW: usize> Placed<V, FEW> {
             members,
             FEW,
             self.signs,
-        );
-        let _length = self.store.len();
-        answer
+        )
     }
 
     /// Takes the sign away from the family below the parent's string. `is_alone` says that the
@@ -223,11 +215,9 @@ impl<V: Copy, const FEW: usize> Placed<V, FEW> {
             cell_of self.new.families p ≡ cell_of self.old.families p }
         ensures kept { AreValuedFamilies self.new }
     {
-        let _cells = self.store.len();
         let base = self.store.child(parent);
         self.store.free(base + s as usize);
         drop_family(&mut self.store, base, parent, is_alone);
-        let _length = self.store.len();
     }
 
     /// Gives the cell's string the value.
@@ -238,7 +228,6 @@ impl<V: Copy, const FEW: usize> Placed<V, FEW> {
         ensures kept { AreValuedFamilies self.new }
     {
         self.store.set_value(cell, v);
-        let _length = self.store.len();
     }
 
     /// The root family alone, each value `blank`.
@@ -249,7 +238,6 @@ impl<V: Copy, const FEW: usize> Placed<V, FEW> {
         clear(&mut self.store);
         take_root(&mut self.store, self.signs, blank);
         self.store.set_base(0, true);
-        let _length = self.store.len();
     }
 
     /// The greatest taken cell.
@@ -257,7 +245,6 @@ impl<V: Copy, const FEW: usize> Placed<V, FEW> {
         ensures top { result ≡ top self.now.families }
         ensures small { result < 2 ^ 32 }
     {
-        let _cells = self.store.len();
         self.store.top()
     }
 

@@ -4,6 +4,7 @@ ghost use Rattle.pg_types.specs.Placement.{far_from_top, lowest_base};
 ghost use Rattle.pg_types.specs.Inside.Placing.{IsLeast};
 ghost use Rattle.pg_cells.specs.Inside.Fit.{fits_row, signs_of};
 ghost use Rattle.pg_cells.specs.Inside.Moves.{Drops, Moved, CanPlace};
+ghost use Rattle.pg_cells.specs.Inside.Store.{IsRow};
 
 use crate::fit::Slot;
 use crate::member::Member;
@@ -97,11 +98,12 @@ pub fn place_family<V: Copy>(
     signs: u16,
 ) -> usize
     requires can { CanPlace signs store.old was slots.now slot parent }
+    requires row { IsRow store.old }
     requires was { was < length store.old.signs }
     requires signs { signs ≤ SIGNS_MAX }
-    ensures { Moved few signs store.old store.new was result slots.now slot parent }
+    ensures moved { Moved few signs store.old store.new was result slots.now slot parent }
+    ensures row { IsRow store.new }
 {
-    let _cells = store.len();
     let sought = store.sought_from(was);
     give_up(store, was, slots);
     drop_base(store, was);

@@ -3,6 +3,7 @@ ghost use Rattle.std.specs.Prelude.{◌≡◌, ◌≢◌, ℕ, ◌+◌, ◌<◌,
 ghost use Rattle.pg_cells.specs.declared.member.Member.{Member as MemberOf};
 ghost use Rattle.pg_cells.specs.Inside.Lists.{sign_at, base_at};
 ghost use Rattle.pg_cells.specs.Inside.Root.{IsRootTo, Clears};
+ghost use Rattle.pg_cells.specs.Inside.Store.{IsRow};
 
 use crate::fit::Slot;
 use crate::member::Member;
@@ -32,23 +33,24 @@ pub fn take_root<V: Copy>(store: &mut Store<V>, signs: u16, blank: Member<V>)
 /// Gives up all cells, where each base has a taken cell behind it. It goes up to the greatest taken
 /// cell.
 pub fn clear<V: Copy>(store: &mut Store<V>)
-    requires { (b : ℕ) → base_at store.old b ≡ true → (y : ℕ) × (sign_at store.old (b + y) ≢ 0) }
+    requires bases { (b : ℕ) → base_at store.old b ≡ true →
+        (y : ℕ) × (sign_at store.old (b + y) ≢ 0) }
+    requires zero { sign_at store.old 0 ≡ 0 }
     ensures empty { (blank : MemberOf V) → IsRootTo 1 blank store.new }
     ensures size { length store.new.signs ≡ length store.old.signs }
 {
-    let _cells = store.len();
     let top = store.top();
     store.set_base(0, false);
     for cell in 1..top + 1 {
         clear_cell(store, cell);
     }
-    let _length = store.len();
 }
 
 // Gives up a cell, and the base at its index.
 fn clear_cell<V: Copy>(store: &mut Store<V>, cell: usize)
     requires { (0 < cell) × (cell < length store.old.signs) }
-    ensures { Clears store.old store.new cell }
+    ensures clears { Clears store.old store.new cell }
+    ensures row { IsRow store.new }
 {
     if store.sign(cell) != 0 {
         store.free(cell);

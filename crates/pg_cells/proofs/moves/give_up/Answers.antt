@@ -20,7 +20,7 @@ pub loop-held-preserved : goal.loop-held-preserved
 loop-held-preserved g c =
     let here = slot_here c.args.slots.now c.loop-held.held-index c.held-item.result c.held-item.is c.loop-held-test.true c.requires.distinct in
     subst (GivesUp c.args.store.now c.free.new.self c.args.base) (sym here.2)
-    (gives_more c.args.store.now c.loop-held.store c.free.new.self c.args.base (take c.loop-held.held-index c.args.slots.now) c.held-item.result here.0 c.loop-held.invariant c.free.ensures)
+    (gives_more c.args.store.now c.loop-held.store c.free.new.self c.args.base (take c.loop-held.held-index c.args.slots.now) c.held-item.result here.0 c.loop-held.invariant c.free.ensures.frees)
 
 pub loop-held-init : goal.loop-held-init
 loop-held-init g c = gives_none c.args.store.now c.args.base

@@ -33,7 +33,7 @@ pub loop-slot-preserved : goal.loop-slot-preserved
 loop-slot-preserved g c =
     let here = slot_here c.args.slots.now c.loop-slot.slot-index c.slot-item.result c.slot-item.is c.loop-slot-test.true c.requires.distinct in
     subst (Puts c.args.store.now c.take.new.self c.args.base) (sym here.2)
-    (puts_more c.args.store.now c.loop-slot.store c.take.new.self c.args.base (take c.loop-slot.slot-index c.args.slots.now) c.slot-item.result here.0 c.loop-slot.invariant c.take.ensures)
+    (puts_more c.args.store.now c.loop-slot.store c.take.new.self c.args.base (take c.loop-slot.slot-index c.args.slots.now) c.slot-item.result here.0 c.loop-slot.invariant c.take.ensures.takes)
 
 pub loop-slot-init : goal.loop-slot-init
 loop-slot-init g c = puts_none c.args.store.now c.args.base

@@ -32,7 +32,7 @@ take-requires-clause-free g c = can_take c.args.signs c.args.store.now c.give_up
 
 pub set_child-requires-clause-taken : goal.set_child-requires-clause-taken
 set_child-requires-clause-taken g c =
-    rw (c.set_sought.ensures) (parent_stays c.args.signs c.args.store.now c.give_up.new.store c.drop_base.new.store c.args.was c.args.slots.now c.args.slot c.args.parent c.requires.can c.give_up.ensures c.drop_base.ensures c.top-top.result c.top-top.ensures c.max.result c.max.ensures c.least_base-base.result c.least_base-base.ensures.room c.least_base-base.ensures.least.meets c.put.new.store (subst (λ r. Puts r c.put.new.store c.least_base-base.result c.args.slots.now) c.least_base-base.ensures.same c.put.ensures) c.take.new.self c.set_base.new.self c.take.ensures c.set_base.ensures)
+    rw (c.set_sought.ensures) (parent_stays c.args.signs c.args.store.now c.give_up.new.store c.drop_base.new.store c.args.was c.args.slots.now c.args.slot c.args.parent c.requires.can c.give_up.ensures c.drop_base.ensures c.top-top.result c.top-top.ensures c.max.result c.max.ensures c.least_base-base.result c.least_base-base.ensures.room c.least_base-base.ensures.least.meets c.put.new.store (subst (λ r. Puts r c.put.new.store c.least_base-base.result c.args.slots.now) c.least_base-base.ensures.same c.put.ensures) c.take.new.self c.set_base.new.self c.take.ensures.takes c.set_base.ensures.sets)
 
 pub least_base-base-requires-clause-tried : goal.least_base-base-requires-clause-tried
 least_base-base-requires-clause-tried g c k low lt =
@@ -45,13 +45,13 @@ set_sought-requires g c =
     blocked_after c.args.signs c.args.store.now c.give_up.new.store c.drop_base.new.store c.args.was c.args.slots.now c.args.slot c.args.parent c.requires.can c.give_up.ensures c.drop_base.ensures
     c.top-top.result c.top-top.ensures c.least_base-base.result c.lowest_base-low.result (let le = c.least_base-base.ensures.room in let is = c.max.ensures in omega arith)
     (let from = c.least_base-base.ensures.least.from in let up = c.lowest_base-low.ensures.positive in omega arith) c.least_base-base.ensures.least
-    c.put.new.store c.take.new.self c.set_base.new.self (subst (λ r. Puts r c.put.new.store c.least_base-base.result c.args.slots.now) c.least_base-base.ensures.same c.put.ensures) c.take.ensures c.set_base.ensures
+    c.put.new.store c.take.new.self c.set_base.new.self (subst (λ r. Puts r c.put.new.store c.least_base-base.result c.args.slots.now) c.least_base-base.ensures.same c.put.ensures) c.take.ensures.takes c.set_base.ensures.sets
 
 pub give_up-requires-clause-distinct : goal.give_up-requires-clause-distinct
 give_up-requires-clause-distinct g c = c.requires.can.distinct
 
 pub give_up-requires-clause-base : goal.give_up-requires-clause-base
-give_up-requires-clause-base g c = let was = c.requires.was in omega arith
+give_up-requires-clause-base g c = let was = c.requires.was in let small = c.requires.row.small in omega arith
 
 pub put-requires-clause-distinct : goal.put-requires-clause-distinct
 put-requires-clause-distinct g c = c.requires.can.distinct
@@ -68,8 +68,11 @@ least_base-base-requires-clause-positive g c = c.requires.can.sign.0
 pub drop_base-requires : goal.drop_base-requires
 drop_base-requires g c = let was = c.requires.was in let size = c.give_up.ensures.others.size in omega arith
 
-pub returns : goal.returns
-returns g c = record {
+pub returns-clause-row : goal.returns-clause-row
+returns-clause-row g c = c.set_child.ensures.row
+
+pub returns-clause-moved : goal.returns-clause-moved
+returns-clause-moved g c = record {
   gave = c.give_up.new.store;
   dropped = c.drop_base.new.store;
   settled = c.put.new.store;
@@ -82,9 +85,9 @@ returns g c = record {
   least = subst (λ low. IsLeast (fits_row c.drop_base.new.store (c.args.slot.sign ∷ signs_of c.args.slots.now)) low c.least_base-base.result) c.lowest_base-low.ensures.is c.least_base-base.ensures.least;
   near = let room = c.least_base-base.ensures.room in let is = c.max.ensures in omega arith;
   puts = subst (λ r. Puts r c.put.new.store c.least_base-base.result c.args.slots.now) c.least_base-base.ensures.same c.put.ensures;
-  takes = c.take.ensures;
-  flags = c.set_base.ensures;
-  links = subst (λ r. SetsChild r c.set_child.new.self c.args.parent c.least_base-base.result) c.set_sought.ensures c.set_child.ensures;
+  takes = c.take.ensures.takes;
+  flags = c.set_base.ensures.sets;
+  links = subst (λ r. SetsChild r c.set_child.new.self c.args.parent c.least_base-base.result) c.set_sought.ensures c.set_child.ensures.sets;
 }
 
 pub put-requires-clause-base : goal.put-requires-clause-base
@@ -92,8 +95,7 @@ put-requires-clause-base g c =
     let size = dropped_size c.args.signs c.args.store.now c.give_up.new.store c.drop_base.new.store c.args.was c.args.slots.now c.args.slot c.args.parent c.requires.can c.give_up.ensures c.drop_base.ensures in
     let within = room_within c.args.signs c.args.store.now c.give_up.new.store c.drop_base.new.store c.args.was c.args.slots.now c.args.slot c.args.parent c.requires.can c.give_up.ensures c.drop_base.ensures c.top-top.result c.top-top.ensures c.max.result c.max.ensures in
     let room = c.least_base-base.ensures.room in
-    let long = c.len-cells.ensures.len in
-    let small = c.len-cells.ensures.small in
+    let small = c.requires.row.small in
     omega arith
 
 pub take-requires-clause-child : goal.take-requires-clause-child
@@ -110,7 +112,7 @@ set_base-requires g c =
     let same = ap (λ (r : Row (Member g.row.V.Denot)). length r.signs) c.least_base-base.ensures.same in
     let room = c.least_base-base.ensures.room in
     let put = c.put.ensures.others.size in
-    let take = c.take.ensures.elsewhere.size in
+    let take = c.take.ensures.takes.elsewhere.size in
     omega arith
 
 pub set_child-requires-clause-child : goal.set_child-requires-clause-child
@@ -119,7 +121,7 @@ set_child-requires-clause-child g c =
     let same = ap (λ (r : Row (Member g.row.V.Denot)). length r.signs) c.least_base-base.ensures.same in
     let room = c.least_base-base.ensures.room in
     let put = c.put.ensures.others.size in
-    let take = c.take.ensures.elsewhere.size in
-    let flag = c.set_base.ensures.size in
+    let take = c.take.ensures.takes.elsewhere.size in
+    let flag = c.set_base.ensures.sets.size in
     let sought = ap (λ (r : Row (Member g.row.V.Denot)). length r.signs) c.set_sought.ensures in
     omega arith

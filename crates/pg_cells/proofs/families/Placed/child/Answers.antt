@@ -19,10 +19,10 @@ returns-clause-base g c q e =
 
 pub returns-clause-none : goal.returns-clause-none
 returns-clause-none g c q e z x =
-    let told : AreValuedFamilies c.args.self.now = subst (λ (h : ValuedFamilies (Member g.row.V.Denot)). AreValuedFamilies h) c.self.view_is (is_held c.self.inside.signs c.self.inside.store c.self.inside.layout.0 c.self.invariant.trie c.len-cells.ensures.values) in
+    let told : AreValuedFamilies c.args.self.now = subst (λ (h : ValuedFamilies (Member g.row.V.Denot)). AreValuedFamilies h) c.self.view_is (is_held c.self.inside.signs c.self.inside.store c.self.inside.layout.0 c.self.invariant.trie c.self.invariant.row.values) in
     none_below c.args.self.now told q c.child.result (returns-clause-base g c q e) z x
 
 pub returns-clause-some : goal.returns-clause-some
 returns-clause-some g c q e up =
-    let told : AreValuedFamilies c.args.self.now = subst (λ (h : ValuedFamilies (Member g.row.V.Denot)). AreValuedFamilies h) c.self.view_is (is_held c.self.inside.signs c.self.inside.store c.self.inside.layout.0 c.self.invariant.trie c.len-cells.ensures.values) in
+    let told : AreValuedFamilies c.args.self.now = subst (λ (h : ValuedFamilies (Member g.row.V.Denot)). AreValuedFamilies h) c.self.view_is (is_held c.self.inside.signs c.self.inside.store c.self.inside.layout.0 c.self.invariant.trie c.self.invariant.row.values) in
     some_below c.args.self.now told q c.child.result (returns-clause-base g c q e) up

@@ -14,9 +14,8 @@ pub overflow_add-cell : goal.overflow_add-cell
 overflow_add-cell g c =
     let at : base_of c.self.inside.layout.0.families c.requires.base.0 ≡ Some c.args.base = subst (λ (h : ValuedFamilies (Member g.row.V.Denot)). base_of h.families c.requires.base.0 ≡ Some c.args.base) (sym c.self.view_is) c.requires.base.1 in
     let within = base_within c.self.inside.signs c.self.inside.store c.self.inside.layout.0 c.self.invariant.trie c.requires.base.0 c.args.base at in
-    let len = c.len-cells.ensures.len in
-    let small = c.len-cells.ensures.small in
-    let even = c.len-cells.ensures.even in
+    let small = c.self.invariant.row.small in
+    let even = c.self.invariant.row.bases in
     let range = c.ranges.s in
     omega arith
 
@@ -40,5 +39,5 @@ returns-else-sign-s-clause-cell g c p e =
 
 pub returns-else-sign-s-clause-none : goal.returns-else-sign-s-clause-none
 returns-else-sign-s-clause-none g c p e _ =
-    let told : AreValuedFamilies c.args.self.now = subst (λ (h : ValuedFamilies (Member g.row.V.Denot)). AreValuedFamilies h) c.self.view_is (is_held c.self.inside.signs c.self.inside.store c.self.inside.layout.0 c.self.invariant.trie c.len-cells.ensures.values) in
+    let told : AreValuedFamilies c.args.self.now = subst (λ (h : ValuedFamilies (Member g.row.V.Denot)). AreValuedFamilies h) c.self.view_is (is_held c.self.inside.signs c.self.inside.store c.self.inside.layout.0 c.self.invariant.trie c.self.invariant.row.values) in
     ends_before c.args.self.now told p c.args.s (sym (returns-else-sign-s-clause-cell g c p e))

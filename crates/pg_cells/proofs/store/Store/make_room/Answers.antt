@@ -8,3 +8,6 @@ pub returns-clause-room : goal.returns-clause-room
 returns-clause-room g c =
     on_ok_weaker c.grow.result (λ long i up.
     let le = c.self.invariant.kept.greatest.most i (λ z. up (subst (λ (r : Row (Member g.row.V.Denot)). sign_at r i ≡ 0) c.self.view_is z)) in omega arith) c.grow.ensures.length
+
+pub returns-clause-row : goal.returns-clause-row
+returns-clause-row g c = c.grow.ensures.row
