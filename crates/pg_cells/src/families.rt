@@ -78,6 +78,13 @@ impl<V: Copy, const FEW: usize> Placed<V, FEW> {
         self.signs
     }
 
+    /// The cell of the sign in the root. The root has every sign.
+    pub fn root_cell(&self, s: Sign) -> usize
+        ensures { result ≡ s }
+    {
+        usize::from(s)
+    }
+
     /// The cell of the sign in the family with the base, or `None` where the family lacks the sign.
     /// Then no string that begins with this one has a value.
     pub fn find(&self, base: usize, s: Sign) -> Option<usize>

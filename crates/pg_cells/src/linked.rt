@@ -63,6 +63,15 @@ impl<V: Copy, const FEW: usize> Cells<V, FEW> {
         self.placed.signs()
     }
 
+    /// The cell of the sign in the root. The root has every sign.
+    pub(crate) fn root_cell(&self, s: Sign) -> usize
+        requires { (1 ≤ s) × (s ≤ self.now.signs) }
+        ensures cell { cell_of self.now.families (s ∷ []) ≡ Some result }
+        ensures held { AreValuedFamilies self.now }
+    {
+        self.placed.root_cell(s)
+    }
+
     /// The cell of the sign in the family with the base, or `None` where the family lacks the sign.
     /// Then no string that begins with this one has a value.
     pub fn find(&self, base: usize, s: Sign) -> Option<usize>
