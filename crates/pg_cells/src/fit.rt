@@ -35,6 +35,7 @@ fn fits<V: Copy>(cells: &[Cell<V>], slots: &[Slot<Member<V>>], base: usize) -> b
     requires base { base < length cells.now }
     requires wide { (k : ℕ) → k < length slots.now →
         base + slice_index (signs_of slots.now) k < length cells.now }
+    requires small { length cells.now < 2 ^ 32 }
     ensures { result ≡ fits_row (lists cells.now).row (signs_of slots.now) base }
 {
     if is_base_of(cells, base) {

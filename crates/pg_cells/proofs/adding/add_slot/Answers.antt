@@ -1,3 +1,4 @@
+use Rattle.std.proofs.lemmas.Result.{err_from_is_err_and}
 use Rattle.std.proofs.Common.{◌≡◌, ℕ, ◌+◌, ◌≤◌, nat_eq, [], refl, sym, ◌∙◌, subst, arith}
 use Rattle.pg_cells.specs.Inside.Lists.{sign_at, child_at}
 use Rattle.pg_cells.specs.Inside.Members.{ArePassing}
@@ -87,3 +88,71 @@ place_family-placed-requires-clause-row g c = c.in_ok-make_room.ensures.row
 
 pub returns-clause-row : goal.returns-clause-row
 returns-clause-row g c = c.place_family-placed.ensures.row
+
+pub overflow_add-signs : goal.overflow_add-signs
+overflow_add-signs g c = let few = c.requires.signs in record { fits = omega arith }
+
+pub make_room-requires : goal.make_room-requires
+make_room-requires g c = let few = c.requires.signs in omega arith
+
+pub returns-in_err-make_room-clause-trie : goal.returns-in_err-make_room-clause-trie
+returns-in_err-make_room-clause-trie g c t q can = let err = err_from_is_err_and c.from_residual.result c.from_residual.ensures.1 in rw (err.1) tt
+
+pub returns-in_err-make_room-clause-cell : goal.returns-in_err-make_room-clause-cell
+returns-in_err-make_room-clause-cell g c t q can = let err = err_from_is_err_and c.from_residual.result c.from_residual.ensures.1 in rw (err.1) tt
+
+pub returns-in_err-make_room-clause-err : goal.returns-in_err-make_room-clause-err
+returns-in_err-make_room-clause-err g c = let err = err_from_is_err_and c.from_residual.result c.from_residual.ensures.1 in rw (err.1) c.in_err-make_room.ensures.extends
+
+pub returns-in_err-make_room-clause-row : goal.returns-in_err-make_room-clause-row
+returns-in_err-make_room-clause-row g c = c.in_err-make_room.ensures.row
+
+pub overflow_cast-cell : goal.overflow_cast-cell
+overflow_cast-cell g c = let high = c.requires.sign.1 in let few = c.requires.signs in record { fits = omega arith }
+
+pub take-requires-clause-cell : goal.take-requires-clause-cell
+take-requires-clause-cell g c = let up = c.requires.sign.0 in omega arith
+
+pub take-requires-clause-sign : goal.take-requires-clause-sign
+take-requires-clause-sign g c z = let up = c.requires.sign.0 in omega arith
+
+pub take-requires-clause-child : goal.take-requires-clause-child
+take-requires-clause-child g c =
+    let can = c.requires.can.2 in
+    let within = child_within c.args.few c.args.signs c.args.store.now c.make_room.new.self c.requires.can.0 can.trie c.in_ok-make_room.ensures.extends c.requires.can.1 c.args.parent can.at c.args.slot.sign c.requires.sign.0 c.requires.sign.1 can.lacks c.child-base.result c.child-base.ensures c.in_ok-make_room.ensures.row.bases in
+    let small = c.in_ok-make_room.ensures.row.small in
+    let none = c.requires.child in omega arith
+
+pub returns-then-joins-clause-err : goal.returns-then-joins-clause-err
+returns-then-joins-clause-err g c = tt
+
+pub collect-requires-clause-base : goal.collect-requires-clause-base
+collect-requires-clause-base g c =
+    let can = c.requires.can.2 in
+    let within = child_within c.args.few c.args.signs c.args.store.now c.make_room.new.self c.requires.can.0 can.trie c.in_ok-make_room.ensures.extends c.requires.can.1 c.args.parent can.at c.args.slot.sign c.requires.sign.0 c.requires.sign.1 can.lacks c.child-base.result c.child-base.ensures c.in_ok-make_room.ensures.row.bases in
+    let small = c.in_ok-make_room.ensures.row.small in
+    omega arith
+
+pub collect-requires-clause-members : goal.collect-requires-clause-members
+collect-requires-clause-members g c = c.requires.positive
+
+pub returns-in_err-collect-clause-trie : goal.returns-in_err-collect-clause-trie
+returns-in_err-collect-clause-trie g c t q can = let err = err_from_is_err_and c.from_residual-in_err-collect.result c.from_residual-in_err-collect.ensures.1 in rw (err.1) tt
+
+pub returns-in_err-collect-clause-cell : goal.returns-in_err-collect-clause-cell
+returns-in_err-collect-clause-cell g c t q can = let err = err_from_is_err_and c.from_residual-in_err-collect.result c.from_residual-in_err-collect.ensures.1 in rw (err.1) tt
+
+pub returns-in_err-collect-clause-err : goal.returns-in_err-collect-clause-err
+returns-in_err-collect-clause-err g c = let err = err_from_is_err_and c.from_residual-in_err-collect.result c.from_residual-in_err-collect.ensures.1 in rw (err.1) c.in_ok-make_room.ensures.extends
+
+pub returns-in_err-collect-clause-row : goal.returns-in_err-collect-clause-row
+returns-in_err-collect-clause-row g c = c.in_ok-make_room.ensures.row
+
+pub place_family-placed-requires-clause-signs : goal.place_family-placed-requires-clause-signs
+place_family-placed-requires-clause-signs g c = c.requires.signs
+
+pub overflow_cast-result : goal.overflow_cast-result
+overflow_cast-result g c = let high = c.requires.sign.1 in let few = c.requires.signs in record { fits = omega arith }
+
+pub returns-clause-err : goal.returns-clause-err
+returns-clause-err g c = tt

@@ -1,9 +1,9 @@
-use Rattle.std.proofs.Common.{rules}
+use borrow.Author.Rules.{scaled_Fits}
 use Rattle.pg_cells.proofs.CellWrites.{high_fits, low_fits, write_before}
 use Rattle.pg_cells.proofs.cell.set_before.Goals as goal
 
 pub offset_bounds-cells-cell : goal.offset_bounds-cells-cell
-offset_bounds-cells-cell g c = search rules
+offset_bounds-cells-cell g c = search scaled_Fits
 
 pub bounds-cells-cell : goal.bounds-cells-cell
 bounds-cells-cell g c = c.requires.cell

@@ -73,3 +73,36 @@ fits-requires-clause-base g c = let bound = c.loop-at.invariant.bound in let wit
 
 pub fits-requires-clause-wide : goal.fits-requires-clause-wide
 fits-requires-clause-wide g c k lt = let bound = c.loop-at.invariant.bound in let wide = c.requires.wide k lt in omega arith
+
+pub overflow_add-low : goal.overflow_add-low
+overflow_add-low g c = let low = c.requires.low in let within = c.requires.within in let small = c.requires.small in record { fits = omega arith }
+
+pub overflow_add-room : goal.overflow_add-room
+overflow_add-room g c = let within = c.requires.within in let small = c.requires.small in record { fits = omega arith }
+
+pub free_from-at-requires-clause-linked : goal.free_from-at-requires-clause-linked
+free_from-at-requires-clause-linked g c = c.requires.linked
+
+pub free_from-at-requires-clause-positive : goal.free_from-at-requires-clause-positive
+free_from-at-requires-clause-positive g c = let up = c.requires.positive in omega arith
+
+pub free_from-at-requires-clause-below : goal.free_from-at-requires-clause-below
+free_from-at-requires-clause-below g c = let low = c.requires.low in omega arith
+
+pub free_from-at-requires-clause-bound : goal.free_from-at-requires-clause-bound
+free_from-at-requires-clause-bound g c = c.requires.within
+
+pub overflow_sub-at : goal.overflow_sub-at
+overflow_sub-at g c = let from = c.loop-at.invariant.from in omega arith
+
+pub after_of-at-requires : goal.after_of-at-requires
+after_of-at-requires g c = let bound = c.loop-at.invariant.bound in let within = c.requires.within in omega arith
+
+pub overflow_sub-result : goal.overflow_sub-result
+overflow_sub-result g c = let from = c.loop-at.invariant.from in omega arith
+
+pub returns-clause-room : goal.returns-clause-room
+returns-clause-room g c = let bound = c.loop-at.invariant.bound in omega arith
+
+pub fits-requires-clause-small : goal.fits-requires-clause-small
+fits-requires-clause-small g c = c.requires.small

@@ -1,5 +1,7 @@
-use Rattle.std.proofs.Common.{◌≡◌, ◌+◌, ◌<◌, nat_eq, length, get_or, sym, ap, subst, ◌∙◌}
-use Rattle.std.proofs.lemmas.List.{get_or-map, length-map}
+use Rattle.std.specs.List.{list_all}
+use Rattle.std.specs.Prelude.{not, ◌&&◌}
+use Rattle.std.proofs.Common.{◌≡◌, ◌+◌, ◌<◌, nat_eq, length, get_or, sym, ap, subst, ◌∙◌, refl, arith, ℕ}
+use Rattle.std.proofs.lemmas.List.{get_or-map, length-map, take_all}
 use Rattle.std.proofs.lemmas.Bool.{ne_eqb, eq-eqb}
 use Rattle.pg_cells.specs.declared.fit.Slot.{Slot}
 use Rattle.pg_cells.specs.Inside.Lists.{lists, sign_at}
@@ -30,3 +32,31 @@ sign_of-requires g c =
     let at : get_or (signs_of c.args.slots.now) c.loop-slot.slot-index 0 ≡ c.slot-item.result.sign =
     get_or-map (λ x. x.sign) c.args.slots.now c.loop-slot.slot-index c.slot-item.result 0 c.loop-slot-test.true ∙ ap (λ (x : Slot (Member g.row.V.Denot)). x.sign) (sym c.slot-item.is) in
     subst (λ s. c.args.base + s < length c.args.cells.now) at (c.requires.wide c.loop-slot.slot-index c.loop-slot-test.true)
+
+pub is_base_of-requires : goal.is_base_of-requires
+is_base_of-requires g c = c.requires.base
+
+pub returns-then-is_base_of : goal.returns-then-is_base_of
+returns-then-is_base_of g c =
+    sym (ap (λ b. not b && list_all (λ s. nat_eq (sign_at (lists c.args.cells.now).row (c.args.base + s)) 0) (signs_of c.args.slots.now)) (sym c.is_base_of.ensures ∙ c.if-is_base_of.true))
+
+pub loop-slot-init : goal.loop-slot-init
+loop-slot-init g c = refl
+
+pub offset_bounds-slots-slot-index : goal.offset_bounds-slots-slot-index
+offset_bounds-slots-slot-index g c = let lt = c.loop-slot-test.true in omega arith
+
+pub overflow_add-base : goal.overflow_add-base
+overflow_add-base g c =
+    let at : get_or (signs_of c.args.slots.now) c.loop-slot.slot-index 0 ≡ c.slot-item.result.sign =
+    get_or-map (λ x. x.sign) c.args.slots.now c.loop-slot.slot-index c.slot-item.result 0 c.loop-slot-test.true ∙ ap (λ (x : Slot (Member g.row.V.Denot)). x.sign) (sym c.slot-item.is) in
+    let wide = c.requires.wide c.loop-slot.slot-index c.loop-slot-test.true in
+    let small = c.requires.small in
+    record { fits = omega arith }
+
+pub returns : goal.returns
+returns g c =
+    let test = λ (s : ℕ). nat_eq (sign_at (lists c.args.cells.now).row (c.args.base + s)) 0 in
+    let past = c.loop-slot-test.false in
+    let all = take_all c.loop-slot.slot-index (signs_of c.args.slots.now) (omega (arith, length-map c.args.slots.now (λ x. x.sign))) in
+    sym (ap (λ b. not b && list_all test (signs_of c.args.slots.now)) (sym c.is_base_of.ensures ∙ c.if-is_base_of.false) ∙ ap (list_all test) (sym all) ∙ c.loop-slot.invariant)

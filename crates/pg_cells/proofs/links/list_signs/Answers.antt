@@ -1,4 +1,4 @@
-use Rattle.std.proofs.Common.{ℕ, ◌<◌, List, length, get_or, ap, sym, subst, ◌∙◌, arith}
+use Rattle.std.proofs.Common.{ℕ, ◌<◌, List, length, get_or, ap, sym, subst, ◌∙◌, arith, inl, inr, refl}
 use Rattle.pg_cells.specs.Inside.Members.{IsNext, goes_on, number_before}
 use Rattle.pg_cells.proofs.LinkLaws.{passing_more, last_of_more}
 use Rattle.pg_cells.proofs.links.list_signs.Goals as goal
@@ -41,3 +41,9 @@ returns-clause-signs g c q e = record {
   each = c.loop-next.invariant.each q e;
   last = subst (IsNext (goes_on c.args.cells.now.values q) (number_before c.loop-next.signs.items (length c.loop-next.signs.items))) c.loop-next-test.false (c.loop-next.invariant.next q e);
 }
+
+pub sign_after-next-requires : goal.sign_after-next-requires
+sign_after-next-requires g c = (omega arith, (c.requires.links, (c.requires.parent.0, (c.requires.parent.1.0, c.requires.parent.1.1, inl refl))))
+
+pub sign_after-next-requires-in-loop-next : goal.sign_after-next-requires-in-loop-next
+sign_after-next-requires-in-loop-next g c = (omega arith, (c.requires.links, (c.requires.parent.0, (c.requires.parent.1.0, c.requires.parent.1.1, inr ((c.loop-next.invariant.next c.requires.parent.0 c.requires.parent.1.0).found (omega arith)).1))))

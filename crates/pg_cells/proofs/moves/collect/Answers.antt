@@ -22,3 +22,9 @@ returns-clause-some g c n small are =
     let at : c.loop-sign.sign-index ≡ length c.args.members.now = omega arith in
     collected_end c.args.store.now c.args.base (number_before c.args.members.now (length c.args.members.now)) n c.loop-sign.slots.items (last_within c.args.store.now c.args.base n c.args.members.now small are) are.last
     (subst (λ k. Collected (number_before c.args.members.now k) c.args.store.now c.args.base c.loop-sign.slots.items) at (c.loop-sign.invariant.some are))
+
+pub collect_sign-requires-clause-base : goal.collect_sign-requires-clause-base
+collect_sign-requires-clause-base g c = c.requires.base
+
+pub collect_sign-requires-clause-sign : goal.collect_sign-requires-clause-sign
+collect_sign-requires-clause-sign g c = c.requires.members c.loop-sign.sign-index c.loop-sign-test.true

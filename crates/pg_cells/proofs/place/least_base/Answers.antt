@@ -1,4 +1,4 @@
-use Rattle.std.proofs.Common.{◌<◌, ◌≤◌, ◌≡◌, max, ◌∷◌, length, subst, arith}
+use Rattle.std.proofs.Common.{◌<◌, ◌≤◌, ◌≡◌, max, ◌∷◌, length, subst, arith, refl}
 use Rattle.pg_types.specs.Inside.Placing.{IsLeast}
 use Rattle.pg_cells.specs.Inside.Fit.{fits_row, signs_of}
 use Rattle.pg_cells.proofs.BlockedLaws.{tried_within, least_tried}
@@ -45,3 +45,30 @@ returns-else-is_empty-clause-least g c =
     let tried = least_from r c.args.sign (signs_of c.args.slots.now) c.max-from.result c.bound-bound.result base up c.bound-bound.ensures bounded in
     least_tried r (c.args.sign ∷ signs_of c.args.slots.now) c.args.low c.args.tried c.requires.tried base
     (subst (λ from. IsLeast (fits_row r (c.args.sign ∷ signs_of c.args.slots.now)) from base) c.max-from.ensures tried)
+
+pub find_base-base-requires-clause-positive : goal.find_base-base-requires-clause-positive
+find_base-base-requires-clause-positive g c = c.requires.positive
+
+pub find_base-base-requires-clause-within : goal.find_base-base-requires-clause-within
+find_base-base-requires-clause-within g c = c.requires.within
+
+pub find_base-base-requires-clause-wide : goal.find_base-base-requires-clause-wide
+find_base-base-requires-clause-wide g c = c.requires.wide
+
+pub find_base-base-requires-clause-room : goal.find_base-base-requires-clause-room
+find_base-base-requires-clause-room g c = c.requires.room
+
+pub raise_bound-requires-clause-base : goal.raise_bound-requires-clause-base
+raise_bound-requires-clause-base g c = let room = c.find_base-base.ensures.room in let within = c.requires.within in omega arith
+
+pub returns-then-low-max-clause-room : goal.returns-then-low-max-clause-room
+returns-then-low-max-clause-room g c = c.find_base-base.ensures.room
+
+pub returns-then-low-max-clause-same : goal.returns-then-low-max-clause-same
+returns-then-low-max-clause-same g c = c.raise_bound.ensures
+
+pub returns-else-is_empty-clause-room : goal.returns-else-is_empty-clause-room
+returns-else-is_empty-clause-room g c = c.find_base-base.ensures.room
+
+pub returns-else-is_empty-clause-same : goal.returns-else-is_empty-clause-same
+returns-else-is_empty-clause-same g c = refl

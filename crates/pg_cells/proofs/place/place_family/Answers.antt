@@ -125,3 +125,19 @@ set_child-requires-clause-child g c =
     let flag = c.set_base.ensures.sets.size in
     let sought = ap (λ (r : Row (Member g.row.V.Denot)). length r.signs) c.set_sought.ensures in
     omega arith
+
+pub tried_up_to-tried-requires : goal.tried_up_to-tried-requires
+tried_up_to-tried-requires g c = let was = c.requires.was in let small = c.requires.row.small in omega arith
+
+pub overflow_cast-slot : goal.overflow_cast-slot
+overflow_cast-slot g c = let le = c.requires.can.sign.1 in let few = c.requires.signs in record { fits = omega arith }
+
+pub overflow_add-base : goal.overflow_add-base
+overflow_add-base g c =
+    let within = room_within c.args.signs c.args.store.now c.give_up.new.store c.drop_base.new.store c.args.was c.args.slots.now c.args.slot c.args.parent c.requires.can c.give_up.ensures c.drop_base.ensures c.top-top.result c.top-top.ensures c.max.result c.max.ensures in
+    let size = dropped_size c.args.signs c.args.store.now c.give_up.new.store c.drop_base.new.store c.args.was c.args.slots.now c.args.slot c.args.parent c.requires.can c.give_up.ensures c.drop_base.ensures in
+    let room = c.least_base-base.ensures.room in
+    let le = c.requires.can.sign.1 in
+    let few = c.requires.signs in
+    let small = c.requires.row.small in
+    record { fits = omega arith }

@@ -1,4 +1,4 @@
-use Rattle.std.proofs.Common.{◌≡◌, ◌≢◌, [], inl, inr, refl, subst, MatchBool}
+use Rattle.std.proofs.Common.{◌≡◌, ◌≢◌, [], inl, inr, refl, subst, MatchBool, arith}
 use Rattle.pg_cells.specs.Inside.Layouts.{standing}
 use Rattle.pg_cells.proofs.prune.drop_family.Goals as goal
 
@@ -17,3 +17,12 @@ returns-then-is_empty-clause-row g c = c.set_base.ensures.row
 
 pub returns-else-is_empty-clause-row : goal.returns-else-is_empty-clause-row
 returns-else-is_empty-clause-row g c = c.requires.row
+
+pub set_child-requires-clause-taken : goal.set_child-requires-clause-taken
+set_child-requires-clause-taken g c = c.requires.parent
+
+pub set_child-requires-clause-child : goal.set_child-requires-clause-child
+set_child-requires-clause-child g c = let base = c.requires.base in omega arith
+
+pub set_base-requires : goal.set_base-requires
+set_base-requires g c = let base = c.requires.base in let size = c.set_child.ensures.sets.elsewhere.size in omega arith

@@ -19,3 +19,12 @@ loop-cell-init g c = record {
   size = refl;
   row = c.set_base.ensures.row;
 }
+
+pub set_base-requires : goal.set_base-requires
+set_base-requires g c = let within = c.top-top.ensures.within in omega arith
+
+pub overflow_add-cell-end : goal.overflow_add-cell-end
+overflow_add-cell-end g c = let within = c.top-top.ensures.within in let size = c.set_base.ensures.sets.size in let small = c.set_base.ensures.row.small in record { fits = omega arith }
+
+pub returns-clause-size : goal.returns-clause-size
+returns-clause-size g c = c.loop-cell.invariant.size ∙ c.set_base.ensures.sets.size

@@ -1,4 +1,4 @@
-use Rattle.std.proofs.Common.{◌≡◌, ◌≤◌, [], ◌∷◌, ◌++◌, Some, IfOk, ap, sym, subst, ◌∙◌}
+use Rattle.std.proofs.Common.{◌≡◌, ◌≤◌, [], ◌∷◌, ◌++◌, Some, IfOk, ap, sym, subst, ◌∙◌, refl}
 use Rattle.std.proofs.lemmas.Result.{on_ok_weaker, on_err_weaker}
 use Rattle.std.specs.FinMap.{put}
 use Rattle.pg_types.specs.Placement.{cell_of, with_sign}
@@ -77,3 +77,12 @@ returns-clause-err g c =
     λ d. ap (λ (t : Trie (Member g.row.V.Denot)). record { signs = c.self.inside.signs; families = t.families; values = t.values }) (kept_is_only (member_code g.row.V.coded) c.self.inside.signs c.add_slot.new.store d _ (trie_extended c.self.inside.signs c.self.inside.store c.add_slot.new.store c.self.inside.layout.0 c.self.invariant.trie more)) ∙ c.self.view_is in
     search all))
     c.add_slot.ensures.err
+
+pub add_slot-requires-clause-signs : goal.add_slot-requires-clause-signs
+add_slot-requires-clause-signs g c = c.self.invariant.few
+
+pub add_slot-requires-clause-child : goal.add_slot-requires-clause-child
+add_slot-requires-clause-child g c = refl
+
+pub add_slot-requires-clause-positive : goal.add_slot-requires-clause-positive
+add_slot-requires-clause-positive g c = c.requires.positive

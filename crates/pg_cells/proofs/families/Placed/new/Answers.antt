@@ -1,4 +1,4 @@
-use Rattle.std.proofs.Common.{◌≡◌, [], ◌∷◌, map, ap, sym, subst}
+use Rattle.std.proofs.Common.{◌≡◌, [], ◌∷◌, map, ap, sym, subst, refl, arith}
 use Rattle.std.specs.List.{range_with_len}
 use Rattle.pg_types.specs.Placement.{root}
 use Rattle.pg_cells.specs.Inside.ValuedFamilies.{Trie, ValuedFamilies}
@@ -48,3 +48,18 @@ returns-clause-kept g c =
     let all : (d : Kept c.args.signs c.set_base.new.self) → AreValuedFamilies (record { signs = c.args.signs; families = d.0.families; values = d.0.values }) =
     λ d. is_held c.args.signs c.set_base.new.self d.0 (held_is_kept (member_code g.row.V.coded) c.args.signs c.set_base.new.self d _ trie) c.set_base.ensures.row.values in
     search all
+
+pub overflow_add-signs : goal.overflow_add-signs
+overflow_add-signs g c = let few = c.requires.1 in record { fits = omega arith }
+
+pub same-store : goal.same-store
+same-store g c = refl
+
+pub take_root-requires-clause-length : goal.take_root-requires-clause-length
+take_root-requires-clause-length g c = let long = c.in_ok-grow.ensures.length in omega arith
+
+pub take_root-requires-clause-signs : goal.take_root-requires-clause-signs
+take_root-requires-clause-signs g c = c.requires.1
+
+pub set_base-requires : goal.set_base-requires
+set_base-requires g c = let long = c.in_ok-grow.ensures.length in let size = c.take_root.ensures.size in omega arith

@@ -51,3 +51,9 @@ returns-clause-kept g c =
     let all : (d : Kept c.self.inside.signs c.set_base.new.self) → AreValuedFamilies (record { signs = c.self.inside.signs; families = d.0.families; values = d.0.values }) =
     λ d. is_held c.self.inside.signs c.set_base.new.self d.0 (held_is_kept (member_code g.row.V.coded) c.self.inside.signs c.set_base.new.self d _ trie) c.set_base.ensures.row.values in
     search all
+
+pub take_root-requires-clause-signs : goal.take_root-requires-clause-signs
+take_root-requires-clause-signs g c = c.self.invariant.few
+
+pub set_base-requires : goal.set_base-requires
+set_base-requires g c = let within = root_within c.self.inside.signs c.self.inside.store c.self.inside.layout.0 c.self.invariant.trie c.self.invariant.some in let cleared = c.clear.ensures.size in let size = c.take_root.ensures.size in omega arith

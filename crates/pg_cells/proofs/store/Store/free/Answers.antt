@@ -73,3 +73,11 @@ returns-clause-row g c =
     let same : length c.free_cell.new.cells ≡ length c.self.inside.cells.items = omega arith in
     let small = c.self.invariant.kept.small in
     subst (λ (cells : List (Cell g.row.V.Denot)). IsRow (row_of cells)) (sym (given_back c.free_cell.new.cells c.self.inside.cells.items c.self.inside.cells.len size)) (is_row c.free_cell.new.cells (omega arith))
+
+pub taken_up_to-self-inside-requires : goal.taken_up_to-self-inside-requires
+taken_up_to-self-inside-requires g c =
+    let size : length c.free_cell.new.cells ≡ c.self.inside.cells.len = omega arith in
+    let same : length c.free_cell.new.cells ≡ length c.self.inside.cells.items = omega arith in
+    let seen : c.as_slice.result.now ≡ c.free_cell.new.cells = c.as_slice.ensures.value ∙ given_back c.free_cell.new.cells c.self.inside.cells.items c.self.inside.cells.len size in
+    let top = c.self.invariant.kept.greatest.within in
+    omega (arith, ap length seen, length-map c.self.inside.cells.items (λ x. x.sign))
