@@ -7,12 +7,11 @@ ghost use Rattle.pg_types.specs.Placement.{taken_count, top, cell_of, base_of, w
 ghost use Rattle.pg_types.specs.Inside.Placing.{joins_at, without_sign};
 ghost use Rattle.pg_cells.specs.Inside.ValuedFamilies.{ValuedFamilies, without_key};
 ghost use Rattle.pg_cells.specs.Inside.AreValuedFamilies.{AreValuedFamilies};
-ghost use Rattle.pg_cells.specs.declared.member.Member.{Member as MemberOf};
 ghost use Rattle.pg_cells.specs.Inside.Store.{member_code};
 ghost use Rattle.pg_cells.specs.Inside.Members.{ArePassing, IsAlone, HasOther, has_sign};
 ghost use Rattle.pg_cells.specs.Inside.OneTrie.{Kept, Kept-prop};
+ghost use Rattle.pg_cells.specs.Inside.Links.{HasBase};
 ghost use Rattle.pg_cells.specs.Inside.Root.{root_held};
-ghost use Rattle.pg_cells.specs.Inside.Walks.{EndsBefore};
 
 use crate::adding::{add_slot, joins};
 use crate::fit::Slot;
@@ -86,14 +85,11 @@ impl<V: Copy, const FEW: usize> Placed<V, FEW> {
     }
 
     /// The cell of the sign in the family with the base, or `None` where the family lacks the sign.
-    /// Then no string that begins with this one has a value.
     pub fn find(&self, base: usize, s: Sign) -> Option<usize>
         requires base { (p : List ℕ) × (base_of self.now.families p ≡ Some base) }
         requires sign { (1 ≤ s) × (s ≤ self.now.signs) }
         ensures cell { (p : List ℕ) → base_of self.now.families p ≡ Some base →
             result ≡ cell_of self.now.families (p ++ s ∷ []) }
-        ensures none { (p : List ℕ) → base_of self.now.families p ≡ Some base → result ≡ None →
-            EndsBefore self.now.values (p ++ s ∷ []) }
     {
         let store = &self.store;
         let cell = base + s as usize;
@@ -104,18 +100,11 @@ impl<V: Copy, const FEW: usize> Placed<V, FEW> {
         }
     }
 
-    /// The base of the family below the cell's string, 0 for none. It tells whether a longer string
-    /// has a value.
+    /// The base of the family below the cell's string, 0 for none.
     pub fn child(&self, cell: usize) -> usize
         requires { (q : List ℕ) × (cell_of self.now.families q ≡ Some cell) }
         ensures base { (q : List ℕ) → cell_of self.now.families q ≡ Some cell →
-            base_of self.now.families q ≡ (if result == 0 then None else Some result) }
-        ensures none { (q : List ℕ) → cell_of self.now.families q ≡ Some cell
-            → result ≡ 0 → (x : ℕ) →
-            EndsBefore self.now.values (q ++ x ∷ []) }
-        ensures some { (q : List ℕ) → cell_of self.now.families q ≡ Some cell → 0 < result →
-            (x : ℕ) × (v : MemberOf V)
-            × (find (slice_cmp nat_cmp) (q ++ x ∷ []) self.now.values ≡ Some v) }
+            HasBase self.now.families q result }
     {
         self.store.child(cell)
     }

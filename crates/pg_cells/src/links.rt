@@ -1,11 +1,11 @@
 //! The links from sign to sign of a family. A family's signs are linked in rising order: the string
 //! that they follow has the first one, and each has the next.
-ghost use Rattle.std.specs.Prelude.{◌≡◌, ◌≢◌, ℕ, ◌<◌, ◌≤◌, ◌⊎◌, ◌==◌, ◌&&◌, nat_eq, true, false, length, List, [], ◌∷◌, ◌++◌, Some, None, OnOk, slice_index, if◌then◌else◌};
-ghost use Rattle.pg_types.specs.Placement.{cell_of, base_of};
+ghost use Rattle.std.specs.Prelude.{◌≡◌, ◌≢◌, ℕ, ◌<◌, ◌≤◌, ◌⊎◌, ◌&&◌, nat_eq, true, false, length, List, [], ◌∷◌, ◌++◌, Some, None, OnOk, slice_index};
+ghost use Rattle.pg_types.specs.Placement.{cell_of};
 ghost use Rattle.pg_types.specs.Inside.Placing.{joins_at};
 ghost use Rattle.pg_cells.specs.Inside.AreValuedFamilies.{AreValuedFamilies};
 ghost use Rattle.pg_cells.specs.Inside.Members.{IsNextSign, goes_on, has_sign, ArePassing};
-ghost use Rattle.pg_cells.specs.Inside.Links.{AreLinks, IsBefore, with_link};
+ghost use Rattle.pg_cells.specs.Inside.Links.{AreLinks, HasBase, IsBefore, with_link};
 
 use crate::families::Placed;
 use crate::member::Member;
@@ -22,8 +22,7 @@ pub fn sign_after<V: Copy, const FEW: usize>(
 ) -> Sign
     requires links { AreLinks cells.now }
     requires parent { (q : List ℕ) × ((cell_of cells.now.families q ≡ Some parent)
-        × (base_of cells.now.families q ≡ (if base == 0 then None else Some base))
-        × ((s ≡ 0) ⊎ (goes_on cells.now.values q s ≡ true))) }
+        × (HasBase cells.now.families q base) × ((s ≡ 0) ⊎ (goes_on cells.now.values q s ≡ true))) }
     ensures { (q : List ℕ) → cell_of cells.now.families q ≡ Some parent
         → IsNextSign cells.now.values q s result }
 {
@@ -42,11 +41,9 @@ pub fn sign_after<V: Copy, const FEW: usize>(
 // Whether the family with the base has the sign; the base is 0 where there is no family.
 fn has_sign<V: Copy, const FEW: usize>(cells: &Placed<V, FEW>, base: usize, s: Sign) -> bool
     requires held { AreValuedFamilies cells.now }
-    requires base { (q : List ℕ)
-        × (base_of cells.now.families q ≡ (if base == 0 then None else Some base)) }
+    requires base { (q : List ℕ) × (HasBase cells.now.families q base) }
     requires sign { (1 ≤ s) × (s ≤ cells.now.signs) }
-    ensures { (q : List ℕ) → base_of cells.now.families q
-        ≡ (if base == 0 then None else Some base) →
+    ensures { (q : List ℕ) → HasBase cells.now.families q base →
         result ≡ goes_on cells.now.values q s }
 {
     if base == 0 {
@@ -68,16 +65,13 @@ fn sign_down<V: Copy, const FEW: usize>(
     high: Sign,
 ) -> Sign
     requires held { AreValuedFamilies cells.now }
-    requires base { (q : List ℕ)
-        × (base_of cells.now.families q ≡ (if base == 0 then None else Some base)) }
+    requires base { (q : List ℕ) × (HasBase cells.now.families q base) }
     requires low { low ≤ high }
     requires high { high ≤ cells.now.signs }
     ensures within { (low ≤ result) × (result ≤ high) }
-    ensures there { (q : List ℕ) → base_of cells.now.families q
-        ≡ (if base == 0 then None else Some base) →
+    ensures there { (q : List ℕ) → HasBase cells.now.families q base →
         low < result → goes_on cells.now.values q result ≡ true }
-    ensures most { (q : List ℕ) → base_of cells.now.families q
-        ≡ (if base == 0 then None else Some base) →
+    ensures most { (q : List ℕ) → HasBase cells.now.families q base →
         (z : ℕ) → result < z → z ≤ high → goes_on cells.now.values q z ≡ false }
 {
     let mut sign = high;
@@ -101,7 +95,7 @@ pub fn sign_before<V: Copy, const FEW: usize>(
 ) -> Sign
     requires links { AreLinks cells.now }
     requires parent { (q : List ℕ) × ((cell_of cells.now.families q ≡ Some parent)
-        × (base_of cells.now.families q ≡ (if base == 0 then None else Some base))) }
+        × (HasBase cells.now.families q base)) }
     requires sign { (1 ≤ s) × (s ≤ cells.now.signs) }
     ensures { (q : List ℕ) → cell_of cells.now.families q ≡ Some parent
         → IsBefore cells.now.values q s result }
@@ -130,7 +124,7 @@ pub fn list_signs<V: Copy, const FEW: usize>(
 ) -> Result<(), AllocError>
     requires links { AreLinks cells.now }
     requires parent { (q : List ℕ) × ((cell_of cells.now.families q ≡ Some parent)
-        × (base_of cells.now.families q ≡ (if base == 0 then None else Some base))) }
+        × (HasBase cells.now.families q base)) }
     ensures positive { OnOk result
         ((k : ℕ) → k < length signs.new.items → 0 < slice_index signs.new.items k) }
     ensures signs { (q : List ℕ) → cell_of cells.now.families q ≡ Some parent →
@@ -157,7 +151,7 @@ pub fn list_moving<V: Copy, const FEW: usize>(
     requires links { AreLinks cells.now }
     requires parent { (q : List ℕ) × ((cell_of cells.now.families q ≡ Some parent)
         × (cell_of cells.now.families (q ++ s ∷ []) ≡ None)
-        × (base_of cells.now.families q ≡ (if base == 0 then None else Some base))) }
+        × (HasBase cells.now.families q base)) }
     requires sign { (1 ≤ s) × (s ≤ cells.now.signs) }
     ensures positive { OnOk result
         ((k : ℕ) → k < length signs.new.items → 0 < slice_index signs.new.items k) }

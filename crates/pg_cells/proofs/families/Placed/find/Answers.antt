@@ -19,25 +19,24 @@ overflow_add-cell g c =
     let range = c.ranges.s in
     omega arith
 
-pub returns-then-sign-s-clause-cell : goal.returns-then-sign-s-clause-cell
-returns-then-sign-s-clause-cell g c p e =
-    let at : base_of c.self.inside.layout.0.families p ≡ Some c.args.base = subst (λ (h : ValuedFamilies (Member g.row.V.Denot)). base_of h.families p ≡ Some c.args.base) (sym c.self.view_is) e in
-    let signs : c.args.s ≤ c.self.inside.signs = subst (λ (h : ValuedFamilies (Member g.row.V.Denot)). c.args.s ≤ h.signs) (sym c.self.view_is) c.requires.sign.1 in
-    let found = found_is c.self.inside.signs c.self.inside.store c.self.inside.layout.0 c.self.invariant.trie p c.args.base c.args.s at c.requires.sign.0 signs in
-    let is : sign_at c.self.inside.store (c.args.base + c.args.s) ≡ c.args.s = sym c.sign.ensures ∙ c.if-sign-s.true in
-    subst (λ (h : ValuedFamilies (Member g.row.V.Denot)). Some (c.args.base + c.args.s) ≡ cell_of h.families (p ++ c.args.s ∷ [])) c.self.view_is
-    (sym (found ∙ ap (λ b. cond b (Some (c.args.base + c.args.s)) None) (eq-eqb (sign_at c.self.inside.store (c.args.base + c.args.s)) c.args.s is)))
+pub returns-then-sign-s : goal.returns-then-sign-s
+returns-then-sign-s g c = record {
+  cell = λ p e.
+      let at : base_of c.self.inside.layout.0.families p ≡ Some c.args.base = subst (λ (h : ValuedFamilies (Member g.row.V.Denot)). base_of h.families p ≡ Some c.args.base) (sym c.self.view_is) e in
+      let signs : c.args.s ≤ c.self.inside.signs = subst (λ (h : ValuedFamilies (Member g.row.V.Denot)). c.args.s ≤ h.signs) (sym c.self.view_is) c.requires.sign.1 in
+      let found = found_is c.self.inside.signs c.self.inside.store c.self.inside.layout.0 c.self.invariant.trie p c.args.base c.args.s at c.requires.sign.0 signs in
+      let is : sign_at c.self.inside.store (c.args.base + c.args.s) ≡ c.args.s = sym c.sign.ensures ∙ c.if-sign-s.true in
+      subst (λ (h : ValuedFamilies (Member g.row.V.Denot)). Some (c.args.base + c.args.s) ≡ cell_of h.families (p ++ c.args.s ∷ [])) c.self.view_is
+      (sym (found ∙ ap (λ b. cond b (Some (c.args.base + c.args.s)) None) (eq-eqb (sign_at c.self.inside.store (c.args.base + c.args.s)) c.args.s is)));
+}
 
-pub returns-else-sign-s-clause-cell : goal.returns-else-sign-s-clause-cell
-returns-else-sign-s-clause-cell g c p e =
-    let at : base_of c.self.inside.layout.0.families p ≡ Some c.args.base = subst (λ (h : ValuedFamilies (Member g.row.V.Denot)). base_of h.families p ≡ Some c.args.base) (sym c.self.view_is) e in
-    let signs : c.args.s ≤ c.self.inside.signs = subst (λ (h : ValuedFamilies (Member g.row.V.Denot)). c.args.s ≤ h.signs) (sym c.self.view_is) c.requires.sign.1 in
-    let found = found_is c.self.inside.signs c.self.inside.store c.self.inside.layout.0 c.self.invariant.trie p c.args.base c.args.s at c.requires.sign.0 signs in
-    let other : sign_at c.self.inside.store (c.args.base + c.args.s) ≢ c.args.s = λ z. c.if-sign-s.false (c.sign.ensures ∙ z) in
-    subst (λ (h : ValuedFamilies (Member g.row.V.Denot)). None ≡ cell_of h.families (p ++ c.args.s ∷ [])) c.self.view_is
-    (sym (found ∙ ap (λ b. cond b (Some (c.args.base + c.args.s)) None) (ne_eqb (sign_at c.self.inside.store (c.args.base + c.args.s)) c.args.s other)))
-
-pub returns-else-sign-s-clause-none : goal.returns-else-sign-s-clause-none
-returns-else-sign-s-clause-none g c p e _ =
-    let told : AreValuedFamilies c.args.self.now = subst (λ (h : ValuedFamilies (Member g.row.V.Denot)). AreValuedFamilies h) c.self.view_is (is_held c.self.inside.signs c.self.inside.store c.self.inside.layout.0 c.self.invariant.trie c.self.invariant.row.values) in
-    ends_before c.args.self.now told p c.args.s (sym (returns-else-sign-s-clause-cell g c p e))
+pub returns-else-sign-s : goal.returns-else-sign-s
+returns-else-sign-s g c = record {
+  cell = λ p e.
+      let at : base_of c.self.inside.layout.0.families p ≡ Some c.args.base = subst (λ (h : ValuedFamilies (Member g.row.V.Denot)). base_of h.families p ≡ Some c.args.base) (sym c.self.view_is) e in
+      let signs : c.args.s ≤ c.self.inside.signs = subst (λ (h : ValuedFamilies (Member g.row.V.Denot)). c.args.s ≤ h.signs) (sym c.self.view_is) c.requires.sign.1 in
+      let found = found_is c.self.inside.signs c.self.inside.store c.self.inside.layout.0 c.self.invariant.trie p c.args.base c.args.s at c.requires.sign.0 signs in
+      let other : sign_at c.self.inside.store (c.args.base + c.args.s) ≢ c.args.s = λ z. c.if-sign-s.false (c.sign.ensures ∙ z) in
+      subst (λ (h : ValuedFamilies (Member g.row.V.Denot)). None ≡ cell_of h.families (p ++ c.args.s ∷ [])) c.self.view_is
+      (sym (found ∙ ap (λ b. cond b (Some (c.args.base + c.args.s)) None) (ne_eqb (sign_at c.self.inside.store (c.args.base + c.args.s)) c.args.s other)));
+}
