@@ -1,8 +1,8 @@
 -- What a write of one cell changes, of a row whose parts are of one length.
 use Rattle.std.proofs.Common.{◌≡◌, ◌≢◌, ℕ, ◌<◌, ◌^◌, Bool, false, List, [], ◌∷◌, length, get_or, set, slice_get, Some, suc, zero, refl, sym, ◌∙◌, ap, arith, cond, nat_eq}
 use Rattle.std.proofs.lemmas.List.{length-set, length-map, get_or-set_same, get_or-set_other, get_or_default}
-use Rattle.pg_cells.specs.declared.cell.Cell.{Cell}
-use Rattle.pg_cells.specs.declared.member.Member.{Member}
+use Rattle.pg_cells.specs.declared.store.cell.Cell.{Cell}
+use Rattle.pg_cells.specs.declared.store.member.Member.{Member}
 use Rattle.pg_cells.specs.Inside.Lists.{row_of, bared, child_seen, member_seen, sign_at, child_at, IsFree, with_taken, with_free, with_child, with_value, with_base}
 use Rattle.pg_cells.specs.Inside.Store.{IsRow}
 use Rattle.pg_cells.specs.Inside.Writes.{Takes, Frees, SetsChild, SetsValue, SetsBase}

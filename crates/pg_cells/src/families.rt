@@ -13,12 +13,18 @@ ghost use Rattle.pg_cells.specs.Inside.OneTrie.{Kept, Kept-prop};
 ghost use Rattle.pg_cells.specs.Inside.Links.{HasBase};
 ghost use Rattle.pg_cells.specs.Inside.Root.{root_held};
 
-use crate::adding::{add_slot, joins};
-use crate::fit::Slot;
-use crate::member::Member;
-use crate::prune::drop_family;
-use crate::root::{clear, take_root};
+mod adding;
+mod moves;
+mod place;
+mod prune;
+mod root;
+
+use crate::families::adding::{add_slot, joins};
+use crate::families::prune::drop_family;
+use crate::families::root::{clear, take_root};
 use crate::store::Store;
+use crate::store::fit::Slot;
+use crate::store::member::Member;
 use pg_types::{SIGNS_MAX, Sign};
 use std::alloc::{AllocError, Global};
 use std::marker::Model;
@@ -34,7 +40,7 @@ pub struct Placed<V: Copy, const FEW: usize> {
 }
 
 impl<V: Copy, const FEW: usize> Model for Placed<V, FEW> {
-    ghost use Rattle.pg_cells.specs.declared.member.Member.{Member};
+    ghost use Rattle.pg_cells.specs.declared.store.member.Member.{Member};
     ghost use Rattle.pg_cells.specs.Inside.Store.{member_code};
     ghost use Rattle.pg_cells.specs.Inside.ValuedFamilies.{ValuedFamilies, valued_families_code};
     ghost use Rattle.pg_cells.specs.Inside.Layouts.{AreKept};

@@ -11,9 +11,11 @@ ghost use Rattle.pg_cells.specs.Inside.Members.{IsNextSign};
 ghost use Rattle.pg_cells.specs.Inside.Root.{root_held};
 ghost use Rattle.pg_cells.specs.Inside.Walks.{EndsBefore};
 
+mod links;
+
 use crate::families::Placed;
-use crate::links::{is_alone, link, list_moving, sign_after, sign_before};
-use crate::member::Member;
+use crate::linked::links::{is_alone, link, list_moving, sign_after, sign_before};
+use crate::store::member::Member;
 use pg_types::{SIGNS_MAX, Sign};
 use std::alloc::{AllocError, Global};
 use std::marker::Model;

@@ -9,11 +9,17 @@ ghost use Rattle.pg_cells.specs.Inside.Fit.{fits_row, signs_of};
 ghost use Rattle.pg_cells.specs.Inside.Store.{one_free, taken_in, IsTop, IsRow, Extends};
 ghost use Rattle.pg_cells.specs.Inside.Writes.{Takes, Frees, SetsChild, SetsValue, SetsBase};
 
-use crate::bounds::{bound_of, least_dropped, no_bounds, raise, still_placed};
-use crate::cell::{Cell, child_of, set_base, set_child, set_value, sign_of, value_of};
-use crate::chain::{free_cell, push_cell, take_cell};
-use crate::fit::{Slot, find_base, sign_or_free};
-use crate::member::Member;
+mod bounds;
+mod cell;
+mod chain;
+pub mod fit;
+pub mod member;
+
+use crate::store::bounds::{bound_of, least_dropped, no_bounds, raise, still_placed};
+use crate::store::cell::{Cell, child_of, set_base, set_child, set_value, sign_of, value_of};
+use crate::store::chain::{free_cell, push_cell, take_cell};
+use crate::store::fit::{Slot, find_base, sign_or_free};
+use crate::store::member::Member;
 use std::alloc::{AllocError, Global};
 use std::marker::Model;
 
@@ -42,7 +48,7 @@ pub struct Store<V: Copy> {
 }
 
 impl<V: Copy> Model for Store<V> {
-    ghost use Rattle.pg_cells.specs.declared.member.Member.{Member};
+    ghost use Rattle.pg_cells.specs.declared.store.member.Member.{Member};
     ghost use Rattle.pg_cells.specs.Inside.Lists.{Row, row_of};
     ghost use Rattle.pg_cells.specs.Inside.Store.{member_code, row_code, IsStore};
 

@@ -2,7 +2,7 @@ use Rattle.std.proofs.Common.{◌≡◌, ◌≤◌, [], ◌∷◌, ◌++◌, Som
 use Rattle.pg_types.specs.Placement.{cell_of}
 use Rattle.pg_types.specs.Inside.Placing.{joins_at}
 use Rattle.pg_cells.specs.Inside.ValuedFamilies.{ValuedFamilies}
-use Rattle.pg_cells.specs.declared.member.Member.{Member}
+use Rattle.pg_cells.specs.declared.store.member.Member.{Member}
 use Rattle.pg_cells.proofs.StringCells.{cells_apart, cell_taken}
 use Rattle.pg_cells.proofs.AddTrie.{child_within}
 use Rattle.pg_cells.proofs.GivenMembers.{extends_itself, joins_told}

@@ -7,7 +7,7 @@ use Rattle.pg_cells.specs.Inside.Layouts.{AreKept}
 use Rattle.pg_cells.specs.Inside.OneTrie.{Kept, kept_is_only, held_is_kept}
 use Rattle.pg_cells.specs.Inside.Lists.{lone}
 use Rattle.pg_cells.specs.Inside.Root.{root_held, IsRootTo}
-use Rattle.pg_cells.specs.declared.member.Member.{Member}
+use Rattle.pg_cells.specs.declared.store.member.Member.{Member}
 use Rattle.pg_cells.specs.Inside.Store.{member_code}
 use Rattle.pg_cells.proofs.ValuedFamilyLaws.{is_held}
 use Rattle.pg_cells.proofs.RootSteps.{planted_none, planted_extended}

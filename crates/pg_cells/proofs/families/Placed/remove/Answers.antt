@@ -5,7 +5,7 @@ use Rattle.pg_cells.specs.Inside.ValuedFamilies.{Trie, ValuedFamilies, without_k
 use Rattle.pg_cells.specs.Inside.AreValuedFamilies.{AreValuedFamilies}
 use Rattle.pg_cells.specs.Inside.Layouts.{AreKept}
 use Rattle.pg_cells.specs.Inside.OneTrie.{Kept, kept_is_only, held_is_kept}
-use Rattle.pg_cells.specs.declared.member.Member.{Member}
+use Rattle.pg_cells.specs.declared.store.member.Member.{Member}
 use Rattle.pg_cells.specs.Inside.Store.{member_code}
 use Rattle.pg_cells.proofs.CellsStay.{cells_stay}
 use Rattle.pg_cells.proofs.ValuedFamilyLaws.{is_held}

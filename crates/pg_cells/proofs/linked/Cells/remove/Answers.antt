@@ -2,7 +2,7 @@ use Rattle.pg_cells.proofs.LinkLaws.{cell_goes}
 use Rattle.std.proofs.Common.{◌≡◌, [], ◌∷◌, ◌++◌, Some, None, ap, sym, subst, ◌∙◌, rules, MatchBool, inr, arith}
 use Rattle.pg_types.specs.Placement.{cell_of, base_of}
 use Rattle.pg_types.specs.Inside.Placing.{without_sign}
-use Rattle.pg_cells.specs.declared.member.Member.{Member}
+use Rattle.pg_cells.specs.declared.store.member.Member.{Member}
 use Rattle.pg_cells.specs.Inside.ValuedFamilies.{ValuedFamilies, without_key}
 use Rattle.pg_cells.specs.Inside.Links.{unlinked}
 use Rattle.pg_cells.specs.Inside.Members.{IsAlone, HasOther}
