@@ -1,12 +1,9 @@
-use Rattle.pg_cells.specs.Inside.Members.{ArePassing, has_sign}
-use Rattle.std.specs.Prelude.{slice_index}
-use Rattle.std.proofs.lemmas.Result.{err_from_is_err_and}
-use Rattle.std.proofs.Common.{◌≡◌, [], ◌∷◌, ◌++◌, Some, None, ap, sym, subst, ◌∙◌, rules, ℕ, ◌<◌, ◌≤◌, length, arith}
+use Rattle.std.proofs.Common.{◌≡◌, [], ◌∷◌, ◌++◌, Some, None, ap, sym, subst, ◌∙◌, rules}
 use Rattle.std.specs.FinMap.{put}
 use Rattle.pg_types.specs.Placement.{cell_of, with_sign}
 use Rattle.pg_cells.specs.declared.store.member.Member.{Member}
 use Rattle.pg_cells.specs.Inside.ValuedFamilies.{ValuedFamilies}
-use Rattle.pg_cells.specs.Inside.Links.{unlinked, AreLinks}
+use Rattle.pg_cells.specs.Inside.Links.{unlinked}
 use Rattle.pg_cells.proofs.StringMaps.{order}
 use Rattle.pg_cells.proofs.PlacedFamily.{not_longer}
 use Rattle.pg_cells.proofs.SteppedLinks.{add_behind, links_added, values_added}
@@ -66,78 +63,3 @@ returns-clause-cells g c q e r off =
 
 pub returns-clause-kept : goal.returns-clause-kept
 returns-clause-kept g c = held_unlinked c.link.new.cells c.link.ensures.kept
-
-pub child-base-requires : goal.child-base-requires
-child-base-requires g c =
-    let h = c.self.inside.placed in
-    let at : cell_of h.families c.requires.parent.0 ≡ Some c.args.parent = subst (λ (k : ValuedFamilies g.row.V.Denot). cell_of k.families c.requires.parent.0 ≡ Some c.args.parent) (sym c.self.view_is) c.requires.parent.1.0 in
-    (omega arith, (c.requires.parent.0, at))
-
-pub sign_before-before-requires : goal.sign_before-before-requires
-sign_before-before-requires g c =
-    let h = c.self.inside.placed in
-    let at : cell_of h.families c.requires.parent.0 ≡ Some c.args.parent = subst (λ (k : ValuedFamilies g.row.V.Denot). cell_of k.families c.requires.parent.0 ≡ Some c.args.parent) (sym c.self.view_is) c.requires.parent.1.0 in
-    let sign = subst (λ (k : ValuedFamilies g.row.V.Denot). (1 ≤ c.args.s) × (c.args.s ≤ k.signs)) (sym c.self.view_is) c.requires.sign in
-    (omega arith, (c.self.invariant, ((c.requires.parent.0, (at, c.child-base.ensures.base c.requires.parent.0 at)), sign)))
-
-pub sign_after-after-requires : goal.sign_after-after-requires
-sign_after-after-requires g c =
-    let h = c.self.inside.placed in
-    let at : cell_of h.families c.requires.parent.0 ≡ Some c.args.parent = subst (λ (k : ValuedFamilies g.row.V.Denot). cell_of k.families c.requires.parent.0 ≡ Some c.args.parent) (sym c.self.view_is) c.requires.parent.1.0 in
-    (omega arith, (c.self.invariant, (c.requires.parent.0, (at, c.child-base.ensures.base c.requires.parent.0 at, (c.sign_before-before.ensures c.requires.parent.0 at).there))))
-
-pub list_moving-requires : goal.list_moving-requires
-list_moving-requires g c =
-    let h = c.self.inside.placed in
-    let at : cell_of h.families c.requires.parent.0 ≡ Some c.args.parent = subst (λ (k : ValuedFamilies g.row.V.Denot). cell_of k.families c.requires.parent.0 ≡ Some c.args.parent) (sym c.self.view_is) c.requires.parent.1.0 in
-    let lacks : cell_of h.families (c.requires.parent.0 ++ c.args.s ∷ []) ≡ None = subst (λ (k : ValuedFamilies g.row.V.Denot). cell_of k.families (c.requires.parent.0 ++ c.args.s ∷ []) ≡ None) (sym c.self.view_is) c.requires.parent.1.1 in
-    let sign = subst (λ (k : ValuedFamilies g.row.V.Denot). (1 ≤ c.args.s) × (c.args.s ≤ k.signs)) (sym c.self.view_is) c.requires.sign in
-    (omega arith, (c.self.invariant, ((c.requires.parent.0, (at, lacks, c.child-base.ensures.base c.requires.parent.0 at)), sign)))
-
-pub invariant_of-self : goal.invariant_of-self
-invariant_of-self g c = c.self.invariant
-
-pub returns-in_err-list_moving-clause-held : goal.returns-in_err-list_moving-clause-held
-returns-in_err-list_moving-clause-held g c q e = let err = err_from_is_err_and c.from_residual.result c.from_residual.ensures.1 in rw (err.1) tt
-
-pub returns-in_err-list_moving-clause-cell : goal.returns-in_err-list_moving-clause-cell
-returns-in_err-list_moving-clause-cell g c q e = let err = err_from_is_err_and c.from_residual.result c.from_residual.ensures.1 in rw (err.1) tt
-
-pub returns-in_err-list_moving-clause-cells : goal.returns-in_err-list_moving-clause-cells
-returns-in_err-list_moving-clause-cells g c q e = let err = err_from_is_err_and c.from_residual.result c.from_residual.ensures.1 in rw (err.1) tt
-
-pub returns-in_err-list_moving-clause-kept : goal.returns-in_err-list_moving-clause-kept
-returns-in_err-list_moving-clause-kept g c = let err = err_from_is_err_and c.from_residual.result c.from_residual.ensures.1 in rw (err.1) tt
-
-pub returns-in_err-list_moving-clause-err : goal.returns-in_err-list_moving-clause-err
-returns-in_err-list_moving-clause-err g c = let err = err_from_is_err_and c.from_residual.result c.from_residual.ensures.1 in rw (err.1) c.self.view_is
-
-pub add-requires : goal.add-requires
-add-requires g c =
-    let h = c.self.inside.placed in
-    let at : cell_of h.families c.requires.parent.0 ≡ Some c.args.parent = subst (λ (k : ValuedFamilies g.row.V.Denot). cell_of k.families c.requires.parent.0 ≡ Some c.args.parent) (sym c.self.view_is) c.requires.parent.1.0 in
-    let lacks : cell_of h.families (c.requires.parent.0 ++ c.args.s ∷ []) ≡ None = subst (λ (k : ValuedFamilies g.row.V.Denot). cell_of k.families (c.requires.parent.0 ++ c.args.s ∷ []) ≡ None) (sym c.self.view_is) c.requires.parent.1.1 in
-    let sign = subst (λ (k : ValuedFamilies g.row.V.Denot). (1 ≤ c.args.s) × (c.args.s ≤ k.signs)) (sym c.self.view_is) c.requires.sign in
-    let positive = subst (λ xs. (k : ℕ) → k < length xs → 0 < slice_index xs k) (sym c.as_slice.ensures.value) c.in_ok-list_moving.ensures.positive in
-    (omega arith, ((c.requires.parent.0, (at, lacks)), (sign, (positive, λ q e no. subst (ArePassing (has_sign h.families q)) (sym c.as_slice.ensures.value) (c.in_ok-list_moving.ensures.signs q e no)))))
-
-pub invariant_of-self-in_err-cell : goal.invariant_of-self-in_err-cell
-invariant_of-self-in_err-cell g c = subst (λ (k : ValuedFamilies (Member g.row.V.Denot)). AreLinks k) (sym c.in_err-cell.ensures.err) c.self.invariant
-
-pub returns-in_err-cell-clause-held : goal.returns-in_err-cell-clause-held
-returns-in_err-cell-clause-held g c q e = let err = err_from_is_err_and c.from_residual-in_err-cell.result c.from_residual-in_err-cell.ensures.1 in rw (err.1) tt
-
-pub returns-in_err-cell-clause-cell : goal.returns-in_err-cell-clause-cell
-returns-in_err-cell-clause-cell g c q e = let err = err_from_is_err_and c.from_residual-in_err-cell.result c.from_residual-in_err-cell.ensures.1 in rw (err.1) tt
-
-pub returns-in_err-cell-clause-cells : goal.returns-in_err-cell-clause-cells
-returns-in_err-cell-clause-cells g c q e = let err = err_from_is_err_and c.from_residual-in_err-cell.result c.from_residual-in_err-cell.ensures.1 in rw (err.1) tt
-
-pub returns-in_err-cell-clause-kept : goal.returns-in_err-cell-clause-kept
-returns-in_err-cell-clause-kept g c = let err = err_from_is_err_and c.from_residual-in_err-cell.result c.from_residual-in_err-cell.ensures.1 in rw (err.1) tt
-
-pub returns-in_err-cell-clause-err : goal.returns-in_err-cell-clause-err
-returns-in_err-cell-clause-err g c = let err = err_from_is_err_and c.from_residual-in_err-cell.result c.from_residual-in_err-cell.ensures.1 in rw (err.1) (ap (λ (k : ValuedFamilies (Member g.row.V.Denot)). unlinked k) c.in_err-cell.ensures.err ∙ c.self.view_is)
-
-pub returns-clause-err : goal.returns-clause-err
-returns-clause-err g c = tt

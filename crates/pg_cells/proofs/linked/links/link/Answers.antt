@@ -1,4 +1,4 @@
-use Rattle.std.proofs.Common.{◌≡◌, [], ◌∷◌, ◌++◌, Some, None, inl, inr, sym, subst, ◌∙◌, ◌≤◌, arith}
+use Rattle.std.proofs.Common.{◌≡◌, [], ◌∷◌, ◌++◌, Some, None, inl, inr, sym, subst, ◌∙◌}
 use Rattle.std.proofs.lemmas.Bool.{both_ways}
 use Rattle.pg_types.specs.Placement.{cell_of}
 use Rattle.pg_cells.specs.Inside.Members.{goes_on}
@@ -36,38 +36,3 @@ returns-in_default-clause-linked g c q e =
           let no : None ≡ Some cell.0 = sym none ∙ cell.1 in
           cc
     ]
-
-pub set_first-requires : goal.set_first-requires
-set_first-requires g c = (omega arith, (c.requires.parent.0, c.requires.parent.1.0))
-
-pub returns-then-s-eq0-clause-kept : goal.returns-then-s-eq0-clause-kept
-returns-then-s-eq0-clause-kept g c = c.set_first.ensures.kept
-
-pub child-base-requires : goal.child-base-requires
-child-base-requires g c = (omega arith, (c.requires.parent.0, c.requires.parent.1.0))
-
-pub returns-then-base-eq0-clause-kept : goal.returns-then-base-eq0-clause-kept
-returns-then-base-eq0-clause-kept g c = c.requires.held
-
-pub find-requires : goal.find-requires
-find-requires g c =
-    let has = some_base c.args.cells.now.families c.requires.parent.0 c.child-base.result (c.child-base.ensures.base c.requires.parent.0 c.requires.parent.1.0) c.if-base-eq0.false in
-    let sign : (1 ≤ c.args.s) × (c.args.s ≤ c.args.cells.now.signs) =
-    elim c.requires.parent.1.1 [
-      | inl z ↦ absurd (c.if-s-eq0.false z)
-      | inr there ↦
-          let cell = goes_cell c.args.cells.now c.requires.held c.requires.parent.0 c.args.s there in
-          c.requires.held.signs c.requires.parent.0 c.args.s cell.0 cell.1
-    ] in
-    (omega arith, ((c.requires.parent.0, has), sign))
-
-pub set_next-requires : goal.set_next-requires
-set_next-requires g c =
-    let has = some_base c.args.cells.now.families c.requires.parent.0 c.child-base.result (c.child-base.ensures.base c.requires.parent.0 c.requires.parent.1.0) c.if-base-eq0.false in
-    (omega arith, (c.requires.parent.0 ++ c.args.s ∷ [], sym (c.in-Some.ensures.cell c.requires.parent.0 has)))
-
-pub returns-in-Some-clause-kept : goal.returns-in-Some-clause-kept
-returns-in-Some-clause-kept g c = c.set_next.ensures.kept
-
-pub returns-in_default-clause-kept : goal.returns-in_default-clause-kept
-returns-in_default-clause-kept g c = c.requires.held
