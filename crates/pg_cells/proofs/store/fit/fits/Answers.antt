@@ -34,7 +34,7 @@ sign_of-requires g c =
     subst (λ s. c.args.base + s < length c.args.cells.now) at (c.requires.wide c.loop-slot.slot-index c.loop-slot-test.true)
 
 pub is_base_of-requires : goal.is_base_of-requires
-is_base_of-requires g c = c.requires.base
+is_base_of-requires g c = let base = c.requires.base in omega arith
 
 pub returns-then-is_base_of : goal.returns-then-is_base_of
 returns-then-is_base_of g c =
