@@ -6,7 +6,7 @@ use Rattle.std.specs.List.{list_any}
 use Rattle.std.specs.Option.{option_map}
 use Rattle.std.specs.FinMap.{find, put, is_sorted}
 use Rattle.pg_types.specs.Placement.{Family, Families, family_at, without_family, is_used, least_base, with_one_sign, with_sign, with_placed_family, cell_of, base_of}
-use Rattle.pg_cells.specs.declared.fit.Slot.{Slot}
+use Rattle.pg_cells.specs.declared.store.fit.Slot.{Slot}
 use Rattle.pg_cells.specs.Inside.Lists.{Row, sign_at, child_at, base_at, IsFree}
 use Rattle.pg_cells.specs.Inside.Store.{Extends}
 use Rattle.pg_cells.specs.Inside.Fit.{signs_of, slot_of}

@@ -3,7 +3,7 @@ use Rattle.std.proofs.Common.{◌≡◌, ◌≢◌, ℕ, ◌+◌, ◌<◌, ◌�
 use Rattle.std.proofs.lemmas.Bool.{and_parts, and_from, ltb-true, lt-ltb, eqb-true, eq-eqb, both_ways}
 use Rattle.pg_types.specs.Placement.{Families, cell_of, with_sign}
 use Rattle.pg_types.specs.Inside.Placing.{joins_at}
-use Rattle.pg_cells.specs.declared.fit.Slot.{Slot}
+use Rattle.pg_cells.specs.declared.store.fit.Slot.{Slot}
 use Rattle.pg_cells.specs.Inside.Lists.{Row, sign_at, child_at, IsFree}
 use Rattle.pg_cells.specs.Inside.Store.{Extends}
 use Rattle.pg_cells.specs.Inside.Writes.{Takes}

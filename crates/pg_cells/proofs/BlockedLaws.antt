@@ -4,7 +4,7 @@ use Rattle.std.specs.List.{list_any, list_all}
 use Rattle.std.proofs.lemmas.Bool.{cases_Bool, cases_eq, cases_lt, eq-eqb, eqb-true, both_ways, and_left, and_from, and_parts, or_cases, or_left, or_right, not-true, false≢true}
 use Rattle.std.proofs.lemmas.List.{get_or_default}
 use Rattle.pg_types.specs.Inside.Placing.{IsLeast}
-use Rattle.pg_cells.specs.declared.fit.Slot.{Slot}
+use Rattle.pg_cells.specs.declared.store.fit.Slot.{Slot}
 use Rattle.pg_cells.specs.Inside.Lists.{Row, sign_at, base_at, IsFree}
 use Rattle.pg_cells.specs.Inside.Blocked.{AreBlocked}
 use Rattle.pg_cells.specs.Inside.Fit.{fits_row, signs_of, slot_of}

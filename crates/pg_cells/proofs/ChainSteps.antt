@@ -2,10 +2,10 @@
 use Rattle.std.proofs.Common.{◌≡◌, ◌≢◌, ℕ, ◌+◌, ◌-◌, ◌<◌, ◌≤◌, ◌^◌, inl, inr, List, [], ◌∷◌, ◌++◌, length, get_or, map, refl, sym, ◌∙◌, ap, subst, arith}
 use Rattle.std.proofs.lemmas.Bool.{cases_eq}
 use Rattle.std.proofs.lemmas.List.{length-map, get_or_past, get_or_default, map_push, length_push}
-use Rattle.pg_cells.specs.declared.cell.Cell.{Cell}
+use Rattle.pg_cells.specs.declared.store.cell.Cell.{Cell}
 use Rattle.pg_cells.specs.Inside.Lists.{Row, Lists, lists, row_of, IsFree, sign_at, before_at, after_at}
 use Rattle.pg_cells.specs.Inside.FreeList.{AreLinked}
-use Rattle.pg_cells.specs.declared.member.Member.{Member}
+use Rattle.pg_cells.specs.declared.store.member.Member.{Member}
 use Rattle.pg_cells.proofs.LinkedLists.{free_within, taken_within, not_free}
 
 module _ {V : Type 0} where

@@ -7,7 +7,7 @@ use Rattle.std.specs.FinMap.{is_sorted}
 use Rattle.pg_types.specs.Placement.{Family, Families, family_at, without_family, is_used, is_base, fits_at, lowest_base, least_base, with_one_sign, top}
 use Rattle.pg_types.specs.Inside.Placing.{IsLeast}
 use Rattle.pg_types.proofs.LeastBase.{lowest_positive}
-use Rattle.pg_cells.specs.declared.fit.Slot.{Slot}
+use Rattle.pg_cells.specs.declared.store.fit.Slot.{Slot}
 use Rattle.pg_cells.specs.Inside.Lists.{Row, sign_at, child_at, base_at}
 use Rattle.pg_cells.specs.Inside.Store.{IsTop}
 use Rattle.pg_cells.specs.Inside.Fit.{signs_of, slot_of, fits_row}

@@ -1,7 +1,7 @@
 -- One slot more is given up, or put.
 use Rattle.std.proofs.Common.{◌≡◌, ◌≢◌, ℕ, ◌+◌, inl, inr, List, [], ◌∷◌, ◌++◌, None, Some, slice_get, refl, sym, ◌∙◌, ap, arith}
 use Rattle.std.proofs.lemmas.List.{length_push}
-use Rattle.pg_cells.specs.declared.fit.Slot.{Slot}
+use Rattle.pg_cells.specs.declared.store.fit.Slot.{Slot}
 use Rattle.pg_cells.specs.Inside.Lists.{Row, sign_at, child_at}
 use Rattle.pg_cells.specs.Inside.Fit.{slot_of}
 use Rattle.pg_cells.specs.Inside.Writes.{Elsewhere, Takes, Frees}

@@ -6,7 +6,7 @@ use Rattle.std.specs.List.{list_any, list_all}
 use Rattle.std.specs.FinMap.{put}
 use Rattle.pg_types.specs.Placement.{Family, Families, family_at, without_family, least_base, with_one_sign, cell_of}
 use Rattle.pg_types.proofs.LeastBase.{lowest_positive}
-use Rattle.pg_cells.specs.declared.fit.Slot.{Slot}
+use Rattle.pg_cells.specs.declared.store.fit.Slot.{Slot}
 use Rattle.pg_cells.specs.Inside.Lists.{Row, sign_at, child_at, base_at}
 use Rattle.pg_cells.specs.Inside.Fit.{signs_of, slot_of}
 use Rattle.pg_cells.specs.Inside.Moves.{Outside, CanPlace, Moved}

@@ -5,7 +5,7 @@ use Rattle.std.proofs.lemmas.List.{length-map}
 use Rattle.std.specs.List.{list_any, range_with_len}
 use Rattle.std.specs.FinMap.{find}
 use Rattle.pg_types.specs.Placement.{Family, family_at}
-use Rattle.pg_cells.specs.declared.fit.Slot.{Slot}
+use Rattle.pg_cells.specs.declared.store.fit.Slot.{Slot}
 use Rattle.pg_cells.specs.Inside.Lists.{Row, sign_at, child_at}
 use Rattle.pg_cells.specs.Inside.Fit.{signs_of, slot_of}
 use Rattle.pg_cells.specs.Inside.Moves.{AreDistinct, Collected}

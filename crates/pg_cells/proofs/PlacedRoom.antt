@@ -3,7 +3,7 @@ use Rattle.std.proofs.Common.{◌≡◌, ◌≢◌, ℕ, ◌+◌, ◌<◌, ◌�
 use Rattle.std.proofs.lemmas.Bool.{cases_Bool, cases_eq, eq-eqb, eqb-true, false≢true, and_parts, and_from, or_cases, or_left, or_right}
 use Rattle.std.proofs.lemmas.List.{get_or_default, length-map}
 use Rattle.std.specs.List.{list_any, list_all}
-use Rattle.pg_cells.specs.declared.fit.Slot.{Slot}
+use Rattle.pg_cells.specs.declared.store.fit.Slot.{Slot}
 use Rattle.pg_cells.specs.Inside.Lists.{Row, sign_at, base_at, IsFree}
 use Rattle.pg_cells.specs.Inside.Fit.{signs_of, slot_of, fits_row}
 use Rattle.pg_cells.specs.Inside.Store.{IsTop}

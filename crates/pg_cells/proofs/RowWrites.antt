@@ -1,9 +1,10 @@
 -- What a write of one cell changes, of a row whose parts are of one length.
-use Rattle.std.proofs.Common.{◌≡◌, ◌≢◌, ℕ, ◌<◌, Bool, false, List, [], ◌∷◌, length, get_or, set, slice_get, Some, suc, zero, refl, sym, ◌∙◌, ap, arith, cond, nat_eq}
+use Rattle.std.proofs.Common.{◌≡◌, ◌≢◌, ℕ, ◌<◌, ◌^◌, Bool, false, List, [], ◌∷◌, length, get_or, set, slice_get, Some, suc, zero, refl, sym, ◌∙◌, ap, arith, cond, nat_eq}
 use Rattle.std.proofs.lemmas.List.{length-set, length-map, get_or-set_same, get_or-set_other, get_or_default}
-use Rattle.pg_cells.specs.declared.cell.Cell.{Cell}
-use Rattle.pg_cells.specs.declared.member.Member.{Member}
+use Rattle.pg_cells.specs.declared.store.cell.Cell.{Cell}
+use Rattle.pg_cells.specs.declared.store.member.Member.{Member}
 use Rattle.pg_cells.specs.Inside.Lists.{row_of, bared, child_seen, member_seen, sign_at, child_at, IsFree, with_taken, with_free, with_child, with_value, with_base}
+use Rattle.pg_cells.specs.Inside.Store.{IsRow}
 use Rattle.pg_cells.specs.Inside.Writes.{Takes, Frees, SetsChild, SetsValue, SetsBase}
 use Rattle.pg_cells.proofs.LinkedLists.{free_within, taken_within}
 use Rattle.pg_cells.proofs.StoreSteps.{how_many_set}
@@ -28,21 +29,31 @@ bared_there (m ∷ ms) (suc i) zero n = refl
 bared_there (m ∷ ms) (suc i) (suc j) n = bared_there ms i j (λ e. n (ap suc e))
 
 -- a free cell has no child
-pub row_bare : {V : Type 0} (cells : List (Cell V)) (i : ℕ) → sign_at (row_of cells) i ≡ 0 → child_at (row_of cells) i ≡ 0
+row_bare : {V : Type 0} (cells : List (Cell V)) (i : ℕ) → sign_at (row_of cells) i ≡ 0 → child_at (row_of cells) i ≡ 0
 row_bare [] i e = refl
 row_bare (c ∷ cs) zero e = ap (λ s. cond (nat_eq s 0) 0 c.link) e
 row_bare (c ∷ cs) (suc i) e = row_bare cs i e
 
-module _ {V : Type 0} (cells : List (Cell V)) (i : ℕ) where
+module _ {V : Type 0} (cells : List (Cell V)) where
   children_even : length (row_of cells).children ≡ length (row_of cells).signs
   children_even = length-map cells child_seen ∙ sym (length-map cells (λ c. c.sign))
 
-  pub values_even : length (row_of cells).values ≡ length (row_of cells).signs
+  values_even : length (row_of cells).values ≡ length (row_of cells).signs
   values_even = length-map cells member_seen ∙ sym (length-map cells (λ c. c.sign))
 
-  pub bases_even : length (row_of cells).bases ≡ length (row_of cells).signs
+  bases_even : length (row_of cells).bases ≡ length (row_of cells).signs
   bases_even = length-map cells (λ c. c.is_base) ∙ sym (length-map cells (λ c. c.sign))
 
+  -- the row of a store's cells
+  pub is_row : length cells < 2 ^ 32 → IsRow (row_of cells)
+  is_row small = record {
+    small = omega (arith, length-map cells (λ c. c.sign));
+    values = values_even;
+    bases = bases_even;
+    bare = row_bare cells;
+  }
+
+module _ {V : Type 0} (cells : List (Cell V)) (i : ℕ) where
   pub row_takes : (sign : ℕ) (value : Member V) (child : ℕ) → IsFree (row_of cells) i → sign ≢ 0 → Takes (row_of cells) (with_taken (row_of cells) i sign value child) i sign value child
   row_takes sign value child free up =
       let lt : i < length (row_of cells).signs = free_within (row_of cells) i free in
@@ -56,8 +67,8 @@ module _ {V : Type 0} (cells : List (Cell V)) (i : ℕ) where
           size = length-set (row_of cells).signs i sign;
         };
         sign_is = get_or-set_same (row_of cells).signs i sign 0 lt;
-        child_is = get_or-set_same (row_of cells).children i child 0 (omega (arith, children_even));
-        value_is = set_here (row_of cells).values i value (omega (arith, values_even));
+        child_is = get_or-set_same (row_of cells).children i child 0 (omega (arith, children_even cells));
+        value_is = set_here (row_of cells).values i value (omega (arith, values_even cells));
         count = omega (arith, how_many_set (row_of cells).signs i sign lt);
       }
 
@@ -73,7 +84,7 @@ module _ {V : Type 0} (cells : List (Cell V)) (i : ℕ) where
           size = length-set (row_of cells).signs i 0;
         };
         sign_is = get_or-set_same (row_of cells).signs i 0 0 lt;
-        child_is = get_or-set_same (row_of cells).children i 0 0 (omega (arith, children_even));
+        child_is = get_or-set_same (row_of cells).children i 0 0 (omega (arith, children_even cells));
         count = omega (arith, how_many_set (row_of cells).signs i 0 lt);
       }
 
@@ -89,7 +100,7 @@ module _ {V : Type 0} (cells : List (Cell V)) (i : ℕ) where
           size = refl;
         };
         sign_is = refl;
-        child_is = get_or-set_same (row_of cells).children i child 0 (omega (arith, children_even));
+        child_is = get_or-set_same (row_of cells).children i child 0 (omega (arith, children_even cells));
         value_is = refl;
         count = refl;
       }
@@ -107,7 +118,7 @@ module _ {V : Type 0} (cells : List (Cell V)) (i : ℕ) where
         };
         sign_is = refl;
         child_is = refl;
-        value_is = set_here (row_of cells).values i value (omega (arith, values_even));
+        value_is = set_here (row_of cells).values i value (omega (arith, values_even cells));
         count = refl;
       }
 
@@ -116,7 +127,7 @@ module _ {V : Type 0} (cells : List (Cell V)) (i : ℕ) where
     signs = λ j. refl;
     children = λ j. refl;
     values = λ j. refl;
-    base_is = get_or-set_same (row_of cells).bases i flag false (omega (arith, bases_even));
+    base_is = get_or-set_same (row_of cells).bases i flag false (omega (arith, bases_even cells));
     bases = λ b n. get_or-set_other (row_of cells).bases i b flag false n;
     size = refl;
     count = refl;

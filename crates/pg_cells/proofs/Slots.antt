@@ -3,7 +3,7 @@ use Rattle.std.proofs.Common.{◌≡◌, ◌≢◌, ℕ, ◌+◌, ◌<◌, ◌�
 use Rattle.std.proofs.lemmas.Bool.{cases_Bool, cases_lt, eq-eqb, eqb-true, both_ways, false≢true, or_cases, or_left, or_right}
 use Rattle.std.proofs.lemmas.List.{take-append-drop, drop_more, take_more, get_or-map}
 use Rattle.std.specs.List.{list_any}
-use Rattle.pg_cells.specs.declared.fit.Slot.{Slot}
+use Rattle.pg_cells.specs.declared.store.fit.Slot.{Slot}
 use Rattle.pg_cells.specs.Inside.Fit.{signs_of, slot_of}
 use Rattle.pg_cells.specs.Inside.Moves.{Outside, AreDistinct}
 

@@ -7,19 +7,24 @@ ghost use Rattle.pg_types.specs.Placement.{taken_count, top, cell_of, base_of, w
 ghost use Rattle.pg_types.specs.Inside.Placing.{joins_at, without_sign};
 ghost use Rattle.pg_cells.specs.Inside.ValuedFamilies.{ValuedFamilies, without_key};
 ghost use Rattle.pg_cells.specs.Inside.AreValuedFamilies.{AreValuedFamilies};
-ghost use Rattle.pg_cells.specs.declared.member.Member.{Member as MemberOf};
 ghost use Rattle.pg_cells.specs.Inside.Store.{member_code};
 ghost use Rattle.pg_cells.specs.Inside.Members.{ArePassing, IsAlone, HasOther, has_sign};
 ghost use Rattle.pg_cells.specs.Inside.OneTrie.{Kept, Kept-prop};
+ghost use Rattle.pg_cells.specs.Inside.Links.{HasBase};
 ghost use Rattle.pg_cells.specs.Inside.Root.{root_held};
-ghost use Rattle.pg_cells.specs.Inside.Walks.{EndsBefore};
 
-use crate::adding::{add_slot, joins};
-use crate::fit::Slot;
-use crate::member::Member;
-use crate::prune::drop_family;
-use crate::root::{clear, take_root};
+mod adding;
+mod moves;
+mod place;
+mod prune;
+mod root;
+
+use crate::families::adding::{add_slot, joins};
+use crate::families::prune::drop_family;
+use crate::families::root::{clear, take_root};
 use crate::store::Store;
+use crate::store::fit::Slot;
+use crate::store::member::Member;
 use pg_types::{SIGNS_MAX, Sign};
 use std::alloc::{AllocError, Global};
 use std::marker::Model;
@@ -35,7 +40,7 @@ pub struct Placed<V: Copy, const FEW: usize> {
 }
 
 impl<V: Copy, const FEW: usize> Model for Placed<V, FEW> {
-    ghost use Rattle.pg_cells.specs.declared.member.Member.{Member};
+    ghost use Rattle.pg_cells.specs.declared.store.member.Member.{Member};
     ghost use Rattle.pg_cells.specs.Inside.Store.{member_code};
     ghost use Rattle.pg_cells.specs.Inside.ValuedFamilies.{ValuedFamilies, valued_families_code};
     ghost use Rattle.pg_cells.specs.Inside.Layouts.{AreKept};
@@ -64,7 +69,6 @@ impl<V: Copy, const FEW: usize> Placed<V, FEW> {
         store.grow(signs as usize + 1, blank.value)?;
         take_root(&mut store, signs, blank);
         store.set_base(0, true);
-        let _length = store.len();
         Ok(Placed {
             signs,
             store,
@@ -74,46 +78,40 @@ impl<V: Copy, const FEW: usize> Placed<V, FEW> {
 
     /// The number of signs of the table.
     pub fn signs(&self) -> u16
-        ensures signs { result ≡ self.now.signs }
-        ensures held { AreValuedFamilies self.now }
+        ensures { result ≡ self.now.signs }
     {
-        let _cells = self.store.len();
         self.signs
     }
 
+    /// The cell of the sign in the root. The root has every sign.
+    pub fn root_cell(&self, s: Sign) -> usize
+        ensures { result ≡ s }
+    {
+        usize::from(s)
+    }
+
     /// The cell of the sign in the family with the base, or `None` where the family lacks the sign.
-    /// Then no string that begins with this one has a value.
     pub fn find(&self, base: usize, s: Sign) -> Option<usize>
         requires base { (p : List ℕ) × (base_of self.now.families p ≡ Some base) }
         requires sign { (1 ≤ s) × (s ≤ self.now.signs) }
         ensures cell { (p : List ℕ) → base_of self.now.families p ≡ Some base →
             result ≡ cell_of self.now.families (p ++ s ∷ []) }
-        ensures none { (p : List ℕ) → base_of self.now.families p ≡ Some base → result ≡ None →
-            EndsBefore self.now.values (p ++ s ∷ []) }
     {
-        let _cells = self.store.len();
+        let store = &self.store;
         let cell = base + s as usize;
-        if self.store.sign(cell) == s {
+        if store.sign(cell) == s {
             Some(cell)
         } else {
             None
         }
     }
 
-    /// The base of the family below the cell's string, 0 for none. It tells whether a longer string
-    /// has a value.
+    /// The base of the family below the cell's string, 0 for none.
     pub fn child(&self, cell: usize) -> usize
         requires { (q : List ℕ) × (cell_of self.now.families q ≡ Some cell) }
         ensures base { (q : List ℕ) → cell_of self.now.families q ≡ Some cell →
-            base_of self.now.families q ≡ (if result == 0 then None else Some result) }
-        ensures none { (q : List ℕ) → cell_of self.now.families q ≡ Some cell
-            → result ≡ 0 → (x : ℕ) →
-            EndsBefore self.now.values (q ++ x ∷ []) }
-        ensures some { (q : List ℕ) → cell_of self.now.families q ≡ Some cell → 0 < result →
-            (x : ℕ) × (v : MemberOf V)
-            × (find (slice_cmp nat_cmp) (q ++ x ∷ []) self.now.values ≡ Some v) }
+            HasBase self.now.families q result }
     {
-        let _cells = self.store.len();
         self.store.child(cell)
     }
 
@@ -133,7 +131,6 @@ impl<V: Copy, const FEW: usize> Placed<V, FEW> {
             × (find (slice_cmp nat_cmp) q self.now.values ≡ Some v)) }
         ensures none { result ≡ None → (q : List ℕ) → cell_of self.now.families q ≡ Some cell → ⊥ }
     {
-        let _cells = self.store.len();
         if self.store.sign(cell) == 0 {
             None
         } else {
@@ -150,7 +147,6 @@ impl<V: Copy, const FEW: usize> Placed<V, FEW> {
             → result ≡ joins_at self.now.families q s }
     {
         let base = self.store.child(parent);
-        let _cells = self.store.len();
         joins(&self.store, base, s)
     }
 
@@ -190,7 +186,7 @@ impl<V: Copy, const FEW: usize> Placed<V, FEW> {
             sign: s,
         };
         let moving = &mut self.moving;
-        let answer = add_slot(
+        add_slot(
             &mut self.store,
             moving,
             slot,
@@ -198,9 +194,7 @@ impl<V: Copy, const FEW: usize> Placed<V, FEW> {
             members,
             FEW,
             self.signs,
-        );
-        let _length = self.store.len();
-        answer
+        )
     }
 
     /// Takes the sign away from the family below the parent's string. `is_alone` says that the
@@ -223,11 +217,9 @@ impl<V: Copy, const FEW: usize> Placed<V, FEW> {
             cell_of self.new.families p ≡ cell_of self.old.families p }
         ensures kept { AreValuedFamilies self.new }
     {
-        let _cells = self.store.len();
         let base = self.store.child(parent);
         self.store.free(base + s as usize);
         drop_family(&mut self.store, base, parent, is_alone);
-        let _length = self.store.len();
     }
 
     /// Gives the cell's string the value.
@@ -238,7 +230,6 @@ impl<V: Copy, const FEW: usize> Placed<V, FEW> {
         ensures kept { AreValuedFamilies self.new }
     {
         self.store.set_value(cell, v);
-        let _length = self.store.len();
     }
 
     /// The root family alone, each value `blank`.
@@ -249,7 +240,6 @@ impl<V: Copy, const FEW: usize> Placed<V, FEW> {
         clear(&mut self.store);
         take_root(&mut self.store, self.signs, blank);
         self.store.set_base(0, true);
-        let _length = self.store.len();
     }
 
     /// The greatest taken cell.
@@ -257,7 +247,6 @@ impl<V: Copy, const FEW: usize> Placed<V, FEW> {
         ensures top { result ≡ top self.now.families }
         ensures small { result < 2 ^ 32 }
     {
-        let _cells = self.store.len();
         self.store.top()
     }
 

@@ -17,24 +17,13 @@
 //! - A *bound* of a sign is a base below which none is free with the cell of the sign, but for what
 //!   was given up since the bounds were last lowered. A search begins there.
 //!
-//! `cell`, `chain` and `store` are the row, its free cells and the bounds. `fit`, `adding`,
-//! `place`, `moves`, `prune` and `root` are the steps of a placement. `families` is the placement,
-//! `linked` adds the links, and `walks` goes from string to string.
+//! `store` is the row, with its cells, its free cells, its bounds and the search for a base.
+//! `families` is the placement, with its steps. `linked` adds the links, and `walks` goes from
+//! string to string.
 #![tactic(auto)]
 
-mod adding;
-mod bounds;
-mod cell;
-mod chain;
 mod families;
-mod fit;
 mod linked;
-mod links;
-mod member;
-mod moves;
-mod place;
-mod prune;
-mod root;
 mod store;
 mod walks;
 

@@ -11,9 +11,11 @@ ghost use Rattle.pg_cells.specs.Inside.Members.{IsNextSign};
 ghost use Rattle.pg_cells.specs.Inside.Root.{root_held};
 ghost use Rattle.pg_cells.specs.Inside.Walks.{EndsBefore};
 
+mod links;
+
 use crate::families::Placed;
-use crate::links::{is_alone, link, list_moving, sign_after, sign_before};
-use crate::member::Member;
+use crate::linked::links::{is_alone, link, list_moving, sign_after, sign_before};
+use crate::store::member::Member;
 use pg_types::{SIGNS_MAX, Sign};
 use std::alloc::{AllocError, Global};
 use std::marker::Model;
@@ -61,6 +63,15 @@ impl<V: Copy, const FEW: usize> Cells<V, FEW> {
         ensures held { AreValuedFamilies self.now }
     {
         self.placed.signs()
+    }
+
+    /// The cell of the sign in the root. The root has every sign.
+    pub(crate) fn root_cell(&self, s: Sign) -> usize
+        requires { (1 ≤ s) × (s ≤ self.now.signs) }
+        ensures cell { cell_of self.now.families (s ∷ []) ≡ Some result }
+        ensures held { AreValuedFamilies self.now }
+    {
+        self.placed.root_cell(s)
     }
 
     /// The cell of the sign in the family with the base, or `None` where the family lacks the sign.

@@ -6,14 +6,20 @@ ghost use Rattle.pg_cells.specs.Inside.FreeList.{AreLinked};
 ghost use Rattle.pg_cells.specs.Inside.Blocked.{AreBlocked};
 ghost use Rattle.pg_cells.specs.Inside.Bounds.{NoneFree};
 ghost use Rattle.pg_cells.specs.Inside.Fit.{fits_row, signs_of};
-ghost use Rattle.pg_cells.specs.Inside.Store.{one_free, taken_in, IsTop, Extends};
+ghost use Rattle.pg_cells.specs.Inside.Store.{one_free, taken_in, IsTop, IsRow, Extends};
 ghost use Rattle.pg_cells.specs.Inside.Writes.{Takes, Frees, SetsChild, SetsValue, SetsBase};
 
-use crate::bounds::{bound_of, least_dropped, no_bounds, raise, still_placed};
-use crate::cell::{Cell, child_of, set_base, set_child, set_value, sign_of, value_of};
-use crate::chain::{free_cell, push_cell, take_cell};
-use crate::fit::{Slot, find_base, sign_or_free};
-use crate::member::Member;
+mod bounds;
+mod cell;
+mod chain;
+pub mod fit;
+pub mod member;
+
+use crate::store::bounds::{bound_of, least_dropped, no_bounds, raise, still_placed};
+use crate::store::cell::{Cell, child_of, set_base, set_child, set_value, sign_of, value_of};
+use crate::store::chain::{free_cell, push_cell, take_cell};
+use crate::store::fit::{Slot, find_base, sign_or_free};
+use crate::store::member::Member;
 use std::alloc::{AllocError, Global};
 use std::marker::Model;
 
@@ -42,7 +48,7 @@ pub struct Store<V: Copy> {
 }
 
 impl<V: Copy> Model for Store<V> {
-    ghost use Rattle.pg_cells.specs.declared.member.Member.{Member};
+    ghost use Rattle.pg_cells.specs.declared.store.member.Member.{Member};
     ghost use Rattle.pg_cells.specs.Inside.Lists.{Row, row_of};
     ghost use Rattle.pg_cells.specs.Inside.Store.{member_code, row_code, IsStore};
 
@@ -121,24 +127,12 @@ impl<V: Copy> Store<V> {
         self.taken
     }
 
-    /// The number of cells.
-    pub fn len(&self) -> usize
-        ensures len { result ≡ length self.now.signs }
-        ensures small { result < 2 ^ 32 }
-        ensures positive { 0 < result }
-        ensures even { length self.now.bases ≡ length self.now.signs }
-        ensures values { length self.now.values ≡ length self.now.signs }
-        ensures zero { sign_at self.now 0 ≡ 0 }
-        ensures bare { (i : ℕ) → sign_at self.now i ≡ 0 → child_at self.now i ≡ 0 }
-    {
-        self.cells.len()
-    }
-
     /// Sets the base of the child family of a taken cell.
     pub fn set_child(&mut self, cell: usize, child: usize)
         requires taken { sign_at self.old cell ≢ 0 }
         requires child { child < length self.old.signs }
-        ensures { SetsChild self.old self.new cell child }
+        ensures sets { SetsChild self.old self.new cell child }
+        ensures row { IsRow self.new }
     {
         set_child(self.cells.as_mut_slice(), cell, child);
     }
@@ -146,7 +140,8 @@ impl<V: Copy> Store<V> {
     /// Sets the value of a taken cell.
     pub fn set_value(&mut self, cell: usize, value: Member<V>)
         requires { sign_at self.old cell ≢ 0 }
-        ensures { SetsValue self.old self.new cell value }
+        ensures sets { SetsValue self.old self.new cell value }
+        ensures row { IsRow self.new }
     {
         set_value(self.cells.as_mut_slice(), cell, value);
     }
@@ -154,7 +149,8 @@ impl<V: Copy> Store<V> {
     /// Says whether a cell's index is the base of a family.
     pub fn set_base(&mut self, cell: usize, is_base: bool)
         requires { cell < length self.old.signs }
-        ensures { SetsBase self.old self.new cell is_base }
+        ensures sets { SetsBase self.old self.new cell is_base }
+        ensures row { IsRow self.new }
     {
         set_base(self.cells.as_mut_slice(), cell, is_base);
         self.dropped = least_dropped(self.dropped, cell, is_base);
@@ -167,7 +163,8 @@ impl<V: Copy> Store<V> {
         requires free { IsFree self.old cell }
         requires sign { slot.sign ≢ 0 }
         requires child { slot.child < length self.old.signs }
-        ensures { Takes self.old self.new cell slot.sign slot.value slot.child }
+        ensures takes { Takes self.old self.new cell slot.sign slot.value slot.child }
+        ensures row { IsRow self.new }
     {
         take_cell(
             self.cells.as_mut_slice(),
@@ -184,7 +181,8 @@ impl<V: Copy> Store<V> {
     pub fn free(&mut self, cell: usize)
         requires cell { 0 < cell }
         requires taken { sign_at self.old cell ≢ 0 }
-        ensures { Frees self.old self.new cell }
+        ensures frees { Frees self.old self.new cell }
+        ensures row { IsRow self.new }
     {
         free_cell(self.cells.as_mut_slice(), cell);
         self.top = taken_up_to(self.cells.as_slice(), self.top);
@@ -197,6 +195,7 @@ impl<V: Copy> Store<V> {
     pub fn grow(&mut self, count: usize, value: V) -> Result<(), AllocError>
         ensures extends { Extends self.old self.new }
         ensures length { OnOk result (count ≤ length self.new.signs) }
+        ensures row { IsRow self.new }
     {
         grow_cells(&mut self.cells, count, value)
     }
@@ -208,6 +207,7 @@ impl<V: Copy> Store<V> {
         ensures extends { Extends self.old self.new }
         ensures room { OnOk result
             ((i : ℕ) → sign_at self.old i ≢ 0 → i + more ≤ length self.new.signs) }
+        ensures row { IsRow self.new }
     {
         let count = self.top + more;
         self.grow(count, value)

@@ -3,28 +3,13 @@ ghost use Rattle.std.specs.Prelude.{◌≡◌, ◌<◌, ◌≤◌, ℕ, ◌+◌,
 ghost use Rattle.std.specs.FinMap.{find};
 ghost use Rattle.std.specs.Cmp.Lexicographic.{slice_cmp};
 ghost use Rattle.std.specs.Ordering.{nat_cmp};
-ghost use Rattle.pg_types.specs.Placement.{cell_of, base_of, enter_by};
+ghost use Rattle.pg_types.specs.Placement.{cell_of, enter_by};
 ghost use Rattle.pg_cells.specs.Inside.AreValuedFamilies.{AreValuedFamilies};
 ghost use Rattle.pg_cells.specs.Inside.Walks.{IsAt, EndsBefore, IsKnown, Steps, AddsBlanks};
 
 use crate::Cells;
 use pg_types::Sign;
 use std::alloc::AllocError;
-
-// The base of the family below a cell's string, or of the root at the start.
-fn base_below<V: Copy, const FEW: usize>(cells: &Cells<V, FEW>, at: Option<usize>) -> Option<usize>
-    requires held { AreValuedFamilies cells.now }
-    requires at { (q : List ℕ) × (IsAt cells.now.families at q) }
-    ensures { (q : List ℕ) → IsAt cells.now.families at q → result ≡ base_of cells.now.families q }
-{
-    match at {
-        None => Some(0),
-        Some(cell) => match cells.child(cell) {
-            0 => None,
-            base => Some(base),
-        },
-    }
-}
 
 /// Goes from a cell, or from the start for `None`, to the cell of the string with the sign added.
 /// `None` tells that no string that begins with this one has a value.
@@ -40,8 +25,13 @@ pub fn step<V: Copy, const FEW: usize>(
     ensures none { (q : List ℕ) → IsAt cells.now.families at q → result ≡ None →
         EndsBefore cells.now.values (q ++ s ∷ []) }
 {
-    let _held = cells.signs();
-    let base = base_below(cells, at)?;
+    let Some(cell) = at else {
+        return Some(cells.root_cell(s));
+    };
+    let base = cells.child(cell);
+    if base == 0 {
+        return None;
+    }
     cells.find(base, s)
 }
 
@@ -80,8 +70,7 @@ fn known_prefix<V: Copy, const FEW: usize>(cells: &Cells<V, FEW>, signs: &[Sign]
     ensures known { IsKnown FEW cells.now.signs cells.now.families signs.now result.0 }
     ensures held { AreValuedFamilies cells.now }
 {
-    let _held = cells.signs();
-    let mut cell = signs[0] as usize;
+    let mut cell = cells.root_cell(signs[0]);
     for k in 1..signs.len() {
         let Some(next) = step(cells, Some(cell), signs[k]) else {
             return (k, cell);

@@ -1,7 +1,7 @@
 -- Whether signs may stand at a base, by the row of cells.
 use Rattle.std.specs.Prelude.{ℕ, ◌+◌, Bool, not, ◌&&◌, nat_eq, List, map, Option}
 use Rattle.std.specs.List.{list_all, find}
-use Rattle.pg_cells.specs.declared.fit.Slot.{Slot}
+use Rattle.pg_cells.specs.declared.store.fit.Slot.{Slot}
 use Rattle.pg_cells.specs.Inside.Lists.{Row, sign_at, base_at}
 
 -- the signs of slots, in their order

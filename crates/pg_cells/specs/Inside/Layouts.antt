@@ -7,7 +7,7 @@ use Rattle.std.specs.FinMap.{find}
 use Rattle.std.specs.FinMap.Entries.{is_sorted}
 use Rattle.pg_types.specs.Placement.{Family, family_at, cell_of, taken_count}
 use Rattle.pg_cells.specs.Inside.Lists.{Row, sign_at, child_at, base_at}
-use Rattle.pg_cells.specs.Inside.Store.{taken_in}
+use Rattle.pg_cells.specs.Inside.Store.{taken_in, IsRow}
 use Rattle.pg_types.specs.declared.limits.TheConstants.{SIGNS_MAX}
 use Rattle.pg_cells.specs.Inside.ValuedFamilies.{Trie}
 
@@ -57,8 +57,9 @@ module _ {V : Type 0} where
     pub ordered : T (is_sorted (slice_cmp nat_cmp) t.values)
     pub has : (q : List ℕ) → find (slice_cmp nat_cmp) q t.values ≡ value_in r (cell_of t.families q)
 
-  -- the row holds the trie, and the table has 1 to `SIGNS_MAX` signs
+  -- the row is that of a store, it holds the trie, and the table has 1 to `SIGNS_MAX` signs
   pub record AreKept (n : ℕ) (r : Row V) (t : Trie V) : Type 0 where
+    pub row : IsRow r
     pub trie : IsTrie n r t
     pub some : 1 ≤ n
     pub few : n ≤ SIGNS_MAX

@@ -1,8 +1,8 @@
 -- The parts of the cells, each as a list by the cells' indices.
 use Rattle.std.specs.Prelude.{◌≡◌, ℕ, ◌+◌, ◌*◌, Bool, false, if◌then◌else◌, nat_eq, List, [], ◌∷◌, ◌++◌, map, set, get_or, zero, suc}
-use Rattle.pg_cells.specs.declared.cell.Cell.{Cell}
-use Rattle.pg_cells.specs.declared.cell.TheConstants.{HALF_COUNT}
-use Rattle.pg_cells.specs.declared.member.Member.{Member}
+use Rattle.pg_cells.specs.declared.store.cell.Cell.{Cell}
+use Rattle.pg_cells.specs.declared.store.cell.TheConstants.{HALF_COUNT}
+use Rattle.pg_cells.specs.declared.store.member.Member.{Member}
 
 -- what families see of the cells: signs, bases of child families, values, and which bases are taken
 pub record Row (V : Type 0) : Type 0 where

@@ -1,8 +1,8 @@
 -- What the store of cells keeps, and how its row is stored and grows.
 use Rattle.std.specs.Prelude.{◌≡◌, ◌≢◌, ℕ, ◌+◌, ◌<◌, ◌≤◌, ◌^◌, min, Bool, List, [], ◌∷◌, length, get_or, slice_get, false, refl}
 use Rattle.std.specs.Coded.{Coded, code_by, coded×, coded_ℕ, coded_bool, coded_list}
-use Rattle.pg_cells.specs.declared.cell.Cell.{Cell}
-use Rattle.pg_cells.specs.declared.member.Member.{Member}
+use Rattle.pg_cells.specs.declared.store.cell.Cell.{Cell}
+use Rattle.pg_cells.specs.declared.store.member.Member.{Member}
 use Rattle.pg_cells.specs.Inside.Lists.{Row, lists, row_of, sign_at, child_at, base_at}
 use Rattle.pg_cells.specs.Inside.FreeList.{AreLinked}
 use Rattle.pg_cells.specs.Inside.Blocked.{AreBlocked}
@@ -58,6 +58,13 @@ module _ {V : Type 0} where
     pub blocked : AreBlocked (row_of cells) placed sought
 
 module _ {V : Type 0} where
+  -- the row of a store: its parts are of one length, and a free cell has no child family
+  pub record IsRow (r : Row V) : Type 0 where
+    pub small : length r.signs < 2 ^ 32
+    pub values : length r.values ≡ length r.signs
+    pub bases : length r.bases ≡ length r.signs
+    pub bare : (i : ℕ) → sign_at r i ≡ 0 → child_at r i ≡ 0
+
   -- the new row is the old one with free cells at its end
   pub record Extends (old new : Row V) : Type 0 where
     pub longer : length old.signs ≤ length new.signs

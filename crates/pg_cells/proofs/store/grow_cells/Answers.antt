@@ -1,4 +1,7 @@
-use Rattle.std.proofs.Common.{arith}
+use Rattle.pg_cells.proofs.GivenMembers.{extends_itself}
+use Rattle.pg_cells.specs.Inside.Store.{Extends}
+use Rattle.pg_cells.specs.declared.store.cell.Cell.{Cell}
+use Rattle.std.proofs.Common.{arith, List, sym, subst}
 use Rattle.pg_cells.specs.Inside.Lists.{row_of}
 use Rattle.pg_cells.proofs.StoreSteps.{extended_once, extends_same, longer_once}
 use Rattle.pg_cells.proofs.store.grow_cells.Goals as goal
@@ -17,3 +20,33 @@ grow-init g c = record { linked = c.requires.linked; small = c.requires.small; e
 
 pub grow-smaller : goal.grow-smaller
 grow-smaller g c = let more = longer_once c.grow.cells.items c.push_cell.new.cells.items c.args.value c.in_ok-push_cell.ensures.row in omega arith
+
+pub returns-then-count-clause-linked : goal.returns-then-count-clause-linked
+returns-then-count-clause-linked g c = c.requires.linked
+
+pub returns-then-count-clause-small : goal.returns-then-count-clause-small
+returns-then-count-clause-small g c = c.requires.small
+
+pub returns-then-count-clause-extends : goal.returns-then-count-clause-extends
+returns-then-count-clause-extends g c = extends_itself (row_of c.args.cells.now.items)
+
+pub returns-then-count-clause-length : goal.returns-then-count-clause-length
+returns-then-count-clause-length g c = tt
+
+pub push_cell-requires-clause-linked : goal.push_cell-requires-clause-linked
+push_cell-requires-clause-linked g c = c.grow.invariant.linked
+
+pub returns-in_err-push_cell-clause-linked : goal.returns-in_err-push_cell-clause-linked
+returns-in_err-push_cell-clause-linked g c = c.in_err-push_cell.ensures.linked
+
+pub returns-in_err-push_cell-clause-extends : goal.returns-in_err-push_cell-clause-extends
+returns-in_err-push_cell-clause-extends g c = subst (λ (cells : List (Cell g.row.V.Denot)). Extends (row_of c.args.cells.now.items) (row_of cells)) (sym c.in_err-push_cell.ensures.err) c.grow.invariant.extends
+
+pub returns-clause-linked : goal.returns-clause-linked
+returns-clause-linked g c = c.grow.invariant.linked
+
+pub returns-clause-small : goal.returns-clause-small
+returns-clause-small g c = c.grow.invariant.small
+
+pub returns-clause-extends : goal.returns-clause-extends
+returns-clause-extends g c = c.grow.invariant.extends

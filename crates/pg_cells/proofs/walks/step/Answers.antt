@@ -1,14 +1,47 @@
-use Rattle.std.proofs.Common.{◌≡◌, None, sym}
-use Rattle.pg_types.specs.Placement.{base_of}
-use Rattle.pg_cells.proofs.Walking.{childless, ends_before}
+use Rattle.std.proofs.Common.{◌≡◌, ◌∷◌, [], ◌++◌, Some, None, ap, sym, subst, ◌∙◌, cond, arith}
+use Rattle.std.proofs.lemmas.Bool.{eq-eqb}
+use Rattle.pg_types.specs.Placement.{cell_of, base_of}
+use Rattle.pg_cells.specs.Inside.Walks.{IsAt}
+use Rattle.pg_cells.proofs.LinkLaws.{some_base}
+use Rattle.pg_cells.proofs.Walking.{childless}
 use Rattle.pg_cells.proofs.walks.step.Goals as goal
 
-pub returns-in_err-base-clause-cell : goal.returns-in_err-base-clause-cell
-returns-in_err-base-clause-cell g c q at =
-    let none : base_of c.args.cells.now.families q ≡ None = sym (c.in_err-base.ensures q at) in
-    rw c.from_residual.ensures (sym (childless c.args.cells.now.families q c.args.s none))
+pub root_cell-requires : goal.root_cell-requires
+root_cell-requires g c = (omega arith, c.requires.sign)
 
-pub returns-in_err-base-clause-none : goal.returns-in_err-base-clause-none
-returns-in_err-base-clause-none g c q at _ =
-    let none : base_of c.args.cells.now.families q ≡ None = sym (c.in_err-base.ensures q at) in
-    ends_before c.args.cells.now c.signs-held.ensures.held q c.args.s (childless c.args.cells.now.families q c.args.s none)
+pub returns-in_default-clause-cell : goal.returns-in_default-clause-cell
+returns-in_default-clause-cell g c q at =
+    let start : q ≡ [] = subst (λ a. IsAt c.args.cells.now.families a q) c.in_default.is at in
+    sym (ap (λ p. cell_of c.args.cells.now.families (p ++ c.args.s ∷ [])) start ∙ c.root_cell.ensures.cell)
+
+pub returns-in_default-clause-none : goal.returns-in_default-clause-none
+returns-in_default-clause-none g c q at none = absurd (let n : Some c.root_cell.result ≡ None = none in cc)
+
+pub child-base-requires : goal.child-base-requires
+child-base-requires g c = (omega arith, (c.requires.at.0, subst (λ at. IsAt c.args.cells.now.families at c.requires.at.0) c.in-Some.is c.requires.at.1))
+
+pub find-requires : goal.find-requires
+find-requires g c =
+    let here : cell_of c.args.cells.now.families c.requires.at.0 ≡ Some c.in-Some.cell = subst (λ at. IsAt c.args.cells.now.families at c.requires.at.0) c.in-Some.is c.requires.at.1 in
+    (omega arith, ((c.requires.at.0, some_base c.args.cells.now.families c.requires.at.0 c.child-base.result (c.child-base.ensures.base c.requires.at.0 here) c.if-base-eq0.false), c.requires.sign))
+
+pub returns-then-base-eq0-clause-cell : goal.returns-then-base-eq0-clause-cell
+returns-then-base-eq0-clause-cell g c q at =
+    let here : cell_of c.args.cells.now.families q ≡ Some c.in-Some.cell = subst (λ a. IsAt c.args.cells.now.families a q) c.in-Some.is at in
+    let none : base_of c.args.cells.now.families q ≡ None = c.child-base.ensures.base q here ∙ ap (λ b. cond b None (Some c.child-base.result)) (eq-eqb c.child-base.result 0 c.if-base-eq0.true) in
+    sym (childless c.args.cells.now.families q c.args.s none)
+
+pub returns-then-base-eq0-clause-none : goal.returns-then-base-eq0-clause-none
+returns-then-base-eq0-clause-none g c q at none =
+    let here : cell_of c.args.cells.now.families q ≡ Some c.in-Some.cell = subst (λ a. IsAt c.args.cells.now.families a q) c.in-Some.is at in
+    c.child-base.ensures.none q here c.if-base-eq0.true c.args.s
+
+pub returns-clause-cell : goal.returns-clause-cell
+returns-clause-cell g c q at =
+    let here : cell_of c.args.cells.now.families q ≡ Some c.in-Some.cell = subst (λ a. IsAt c.args.cells.now.families a q) c.in-Some.is at in
+    c.find.ensures.cell q (some_base c.args.cells.now.families q c.child-base.result (c.child-base.ensures.base q here) c.if-base-eq0.false)
+
+pub returns-clause-none : goal.returns-clause-none
+returns-clause-none g c q at =
+    let here : cell_of c.args.cells.now.families q ≡ Some c.in-Some.cell = subst (λ a. IsAt c.args.cells.now.families a q) c.in-Some.is at in
+    c.find.ensures.none q (some_base c.args.cells.now.families q c.child-base.result (c.child-base.ensures.base q here) c.if-base-eq0.false)

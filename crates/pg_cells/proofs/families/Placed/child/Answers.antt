@@ -1,28 +1,17 @@
 use Rattle.std.proofs.Common.{◌≡◌, Some, None, ap, sym, subst, ◌∙◌, cond, nat_eq}
 use Rattle.pg_types.specs.Placement.{cell_of, base_of}
 use Rattle.pg_cells.specs.Inside.ValuedFamilies.{ValuedFamilies}
-use Rattle.pg_cells.specs.Inside.AreValuedFamilies.{AreValuedFamilies}
-use Rattle.pg_cells.specs.declared.member.Member.{Member}
-use Rattle.pg_cells.proofs.ValuedFamilyLaws.{is_held}
+use Rattle.pg_cells.specs.declared.store.member.Member.{Member}
 use Rattle.pg_cells.proofs.StringCells.{cell_taken, child_is}
-use Rattle.pg_cells.proofs.Walking.{none_below, some_below}
 use Rattle.pg_cells.proofs.families.Placed.child.Goals as goal
 
 pub child-requires : goal.child-requires
 child-requires g c = cell_taken c.self.inside.signs c.self.inside.store c.self.inside.layout.0 c.self.invariant.trie c.requires.0 c.args.cell (subst (λ (h : ValuedFamilies (Member g.row.V.Denot)). cell_of h.families c.requires.0 ≡ Some c.args.cell) (sym c.self.view_is) c.requires.1)
 
-pub returns-clause-base : goal.returns-clause-base
-returns-clause-base g c q e =
-    let is = child_is c.self.inside.signs c.self.inside.store c.self.inside.layout.0 c.self.invariant.trie q c.args.cell (subst (λ (h : ValuedFamilies (Member g.row.V.Denot)). cell_of h.families q ≡ Some c.args.cell) (sym c.self.view_is) e) in
-    subst (λ (h : ValuedFamilies (Member g.row.V.Denot)). base_of h.families q ≡ cond (nat_eq c.child.result 0) None (Some c.child.result)) c.self.view_is
-    (is ∙ ap (λ x. cond (nat_eq x 0) None (Some x)) (sym c.child.ensures))
-
-pub returns-clause-none : goal.returns-clause-none
-returns-clause-none g c q e z x =
-    let told : AreValuedFamilies c.args.self.now = subst (λ (h : ValuedFamilies (Member g.row.V.Denot)). AreValuedFamilies h) c.self.view_is (is_held c.self.inside.signs c.self.inside.store c.self.inside.layout.0 c.self.invariant.trie c.len-cells.ensures.values) in
-    none_below c.args.self.now told q c.child.result (returns-clause-base g c q e) z x
-
-pub returns-clause-some : goal.returns-clause-some
-returns-clause-some g c q e up =
-    let told : AreValuedFamilies c.args.self.now = subst (λ (h : ValuedFamilies (Member g.row.V.Denot)). AreValuedFamilies h) c.self.view_is (is_held c.self.inside.signs c.self.inside.store c.self.inside.layout.0 c.self.invariant.trie c.len-cells.ensures.values) in
-    some_below c.args.self.now told q c.child.result (returns-clause-base g c q e) up
+pub returns : goal.returns
+returns g c = record {
+  base = λ q e.
+      let is = child_is c.self.inside.signs c.self.inside.store c.self.inside.layout.0 c.self.invariant.trie q c.args.cell (subst (λ (h : ValuedFamilies (Member g.row.V.Denot)). cell_of h.families q ≡ Some c.args.cell) (sym c.self.view_is) e) in
+      subst (λ (h : ValuedFamilies (Member g.row.V.Denot)). base_of h.families q ≡ cond (nat_eq c.child.result 0) None (Some c.child.result)) c.self.view_is
+      (is ∙ ap (λ x. cond (nat_eq x 0) None (Some x)) (sym c.child.ensures));
+}

@@ -3,42 +3,37 @@ use Rattle.std.proofs.lemmas.Bool.{eq-eqb, ne_eqb}
 use Rattle.pg_types.specs.Placement.{cell_of, base_of}
 use Rattle.pg_cells.specs.Inside.Lists.{sign_at}
 use Rattle.pg_cells.specs.Inside.ValuedFamilies.{ValuedFamilies}
-use Rattle.pg_cells.specs.Inside.AreValuedFamilies.{AreValuedFamilies}
-use Rattle.pg_cells.specs.declared.member.Member.{Member}
-use Rattle.pg_cells.proofs.ValuedFamilyLaws.{is_held}
+use Rattle.pg_cells.specs.declared.store.member.Member.{Member}
 use Rattle.pg_cells.proofs.StringCells.{found_is, base_within}
-use Rattle.pg_cells.proofs.Walking.{ends_before}
 use Rattle.pg_cells.proofs.families.Placed.find.Goals as goal
 
 pub overflow_add-cell : goal.overflow_add-cell
 overflow_add-cell g c =
     let at : base_of c.self.inside.layout.0.families c.requires.base.0 ≡ Some c.args.base = subst (λ (h : ValuedFamilies (Member g.row.V.Denot)). base_of h.families c.requires.base.0 ≡ Some c.args.base) (sym c.self.view_is) c.requires.base.1 in
     let within = base_within c.self.inside.signs c.self.inside.store c.self.inside.layout.0 c.self.invariant.trie c.requires.base.0 c.args.base at in
-    let len = c.len-cells.ensures.len in
-    let small = c.len-cells.ensures.small in
-    let even = c.len-cells.ensures.even in
+    let small = c.self.invariant.row.small in
+    let even = c.self.invariant.row.bases in
     let range = c.ranges.s in
     omega arith
 
-pub returns-then-sign-s-clause-cell : goal.returns-then-sign-s-clause-cell
-returns-then-sign-s-clause-cell g c p e =
-    let at : base_of c.self.inside.layout.0.families p ≡ Some c.args.base = subst (λ (h : ValuedFamilies (Member g.row.V.Denot)). base_of h.families p ≡ Some c.args.base) (sym c.self.view_is) e in
-    let signs : c.args.s ≤ c.self.inside.signs = subst (λ (h : ValuedFamilies (Member g.row.V.Denot)). c.args.s ≤ h.signs) (sym c.self.view_is) c.requires.sign.1 in
-    let found = found_is c.self.inside.signs c.self.inside.store c.self.inside.layout.0 c.self.invariant.trie p c.args.base c.args.s at c.requires.sign.0 signs in
-    let is : sign_at c.self.inside.store (c.args.base + c.args.s) ≡ c.args.s = sym c.sign.ensures ∙ c.if-sign-s.true in
-    subst (λ (h : ValuedFamilies (Member g.row.V.Denot)). Some (c.args.base + c.args.s) ≡ cell_of h.families (p ++ c.args.s ∷ [])) c.self.view_is
-    (sym (found ∙ ap (λ b. cond b (Some (c.args.base + c.args.s)) None) (eq-eqb (sign_at c.self.inside.store (c.args.base + c.args.s)) c.args.s is)))
+pub returns-then-sign-s : goal.returns-then-sign-s
+returns-then-sign-s g c = record {
+  cell = λ p e.
+      let at : base_of c.self.inside.layout.0.families p ≡ Some c.args.base = subst (λ (h : ValuedFamilies (Member g.row.V.Denot)). base_of h.families p ≡ Some c.args.base) (sym c.self.view_is) e in
+      let signs : c.args.s ≤ c.self.inside.signs = subst (λ (h : ValuedFamilies (Member g.row.V.Denot)). c.args.s ≤ h.signs) (sym c.self.view_is) c.requires.sign.1 in
+      let found = found_is c.self.inside.signs c.self.inside.store c.self.inside.layout.0 c.self.invariant.trie p c.args.base c.args.s at c.requires.sign.0 signs in
+      let is : sign_at c.self.inside.store (c.args.base + c.args.s) ≡ c.args.s = sym c.sign.ensures ∙ c.if-sign-s.true in
+      subst (λ (h : ValuedFamilies (Member g.row.V.Denot)). Some (c.args.base + c.args.s) ≡ cell_of h.families (p ++ c.args.s ∷ [])) c.self.view_is
+      (sym (found ∙ ap (λ b. cond b (Some (c.args.base + c.args.s)) None) (eq-eqb (sign_at c.self.inside.store (c.args.base + c.args.s)) c.args.s is)));
+}
 
-pub returns-else-sign-s-clause-cell : goal.returns-else-sign-s-clause-cell
-returns-else-sign-s-clause-cell g c p e =
-    let at : base_of c.self.inside.layout.0.families p ≡ Some c.args.base = subst (λ (h : ValuedFamilies (Member g.row.V.Denot)). base_of h.families p ≡ Some c.args.base) (sym c.self.view_is) e in
-    let signs : c.args.s ≤ c.self.inside.signs = subst (λ (h : ValuedFamilies (Member g.row.V.Denot)). c.args.s ≤ h.signs) (sym c.self.view_is) c.requires.sign.1 in
-    let found = found_is c.self.inside.signs c.self.inside.store c.self.inside.layout.0 c.self.invariant.trie p c.args.base c.args.s at c.requires.sign.0 signs in
-    let other : sign_at c.self.inside.store (c.args.base + c.args.s) ≢ c.args.s = λ z. c.if-sign-s.false (c.sign.ensures ∙ z) in
-    subst (λ (h : ValuedFamilies (Member g.row.V.Denot)). None ≡ cell_of h.families (p ++ c.args.s ∷ [])) c.self.view_is
-    (sym (found ∙ ap (λ b. cond b (Some (c.args.base + c.args.s)) None) (ne_eqb (sign_at c.self.inside.store (c.args.base + c.args.s)) c.args.s other)))
-
-pub returns-else-sign-s-clause-none : goal.returns-else-sign-s-clause-none
-returns-else-sign-s-clause-none g c p e _ =
-    let told : AreValuedFamilies c.args.self.now = subst (λ (h : ValuedFamilies (Member g.row.V.Denot)). AreValuedFamilies h) c.self.view_is (is_held c.self.inside.signs c.self.inside.store c.self.inside.layout.0 c.self.invariant.trie c.len-cells.ensures.values) in
-    ends_before c.args.self.now told p c.args.s (sym (returns-else-sign-s-clause-cell g c p e))
+pub returns-else-sign-s : goal.returns-else-sign-s
+returns-else-sign-s g c = record {
+  cell = λ p e.
+      let at : base_of c.self.inside.layout.0.families p ≡ Some c.args.base = subst (λ (h : ValuedFamilies (Member g.row.V.Denot)). base_of h.families p ≡ Some c.args.base) (sym c.self.view_is) e in
+      let signs : c.args.s ≤ c.self.inside.signs = subst (λ (h : ValuedFamilies (Member g.row.V.Denot)). c.args.s ≤ h.signs) (sym c.self.view_is) c.requires.sign.1 in
+      let found = found_is c.self.inside.signs c.self.inside.store c.self.inside.layout.0 c.self.invariant.trie p c.args.base c.args.s at c.requires.sign.0 signs in
+      let other : sign_at c.self.inside.store (c.args.base + c.args.s) ≢ c.args.s = λ z. c.if-sign-s.false (c.sign.ensures ∙ z) in
+      subst (λ (h : ValuedFamilies (Member g.row.V.Denot)). None ≡ cell_of h.families (p ++ c.args.s ∷ [])) c.self.view_is
+      (sym (found ∙ ap (λ b. cond b (Some (c.args.base + c.args.s)) None) (ne_eqb (sign_at c.self.inside.store (c.args.base + c.args.s)) c.args.s other)));
+}

@@ -2,7 +2,7 @@ use Rattle.std.proofs.Common.{◌≡◌, ◌≤◌, [], ◌∷◌, ◌++◌, Som
 use Rattle.pg_types.specs.Placement.{cell_of}
 use Rattle.pg_types.specs.Inside.Placing.{joins_at}
 use Rattle.pg_cells.specs.Inside.ValuedFamilies.{ValuedFamilies}
-use Rattle.pg_cells.specs.declared.member.Member.{Member}
+use Rattle.pg_cells.specs.declared.store.member.Member.{Member}
 use Rattle.pg_cells.proofs.StringCells.{cells_apart, cell_taken}
 use Rattle.pg_cells.proofs.AddTrie.{child_within}
 use Rattle.pg_cells.proofs.GivenMembers.{extends_itself, joins_told}
@@ -18,8 +18,8 @@ joins-requires g c =
     let at : cell_of c.self.inside.layout.0.families c.requires.parent.0 ≡ Some c.args.parent = subst (λ (h : ValuedFamilies (Member g.row.V.Denot)). cell_of h.families c.requires.parent.0 ≡ Some c.args.parent) (sym c.self.view_is) c.requires.parent.1.0 in
     let lacks : cell_of c.self.inside.layout.0.families (c.requires.parent.0 ++ c.args.s ∷ []) ≡ None = subst (λ (h : ValuedFamilies (Member g.row.V.Denot)). cell_of h.families (c.requires.parent.0 ++ c.args.s ∷ []) ≡ None) (sym c.self.view_is) c.requires.parent.1.1 in
     let high : c.args.s ≤ c.self.inside.signs = subst (λ (h : ValuedFamilies (Member g.row.V.Denot)). c.args.s ≤ h.signs) (sym c.self.view_is) c.requires.sign.1 in
-    let within = child_within g.row.FEW c.self.inside.signs c.self.inside.store c.self.inside.store c.self.inside.layout.0 c.self.invariant.trie (extends_itself c.self.inside.store) c.requires.parent.0 c.args.parent at c.args.s c.requires.sign.0 high lacks c.child-base.result c.child-base.ensures c.len-cells.ensures.even in
-    let len = c.len-cells.ensures.len in let small = c.len-cells.ensures.small in omega arith
+    let within = child_within g.row.FEW c.self.inside.signs c.self.inside.store c.self.inside.store c.self.inside.layout.0 c.self.invariant.trie (extends_itself c.self.inside.store) c.requires.parent.0 c.args.parent at c.args.s c.requires.sign.0 high lacks c.child-base.result c.child-base.ensures c.self.invariant.row.bases in
+    let small = c.self.invariant.row.small in omega arith
 
 pub returns : goal.returns
 returns g c q e =

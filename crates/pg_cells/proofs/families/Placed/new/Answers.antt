@@ -1,4 +1,4 @@
-use Rattle.std.proofs.Common.{◌≡◌, [], ◌∷◌, map, ap, sym, subst}
+use Rattle.std.proofs.Common.{◌≡◌, [], ◌∷◌, map, ap, sym, subst, refl, arith}
 use Rattle.std.specs.List.{range_with_len}
 use Rattle.pg_types.specs.Placement.{root}
 use Rattle.pg_cells.specs.Inside.ValuedFamilies.{Trie, ValuedFamilies}
@@ -7,7 +7,7 @@ use Rattle.pg_cells.specs.Inside.Layouts.{AreKept}
 use Rattle.pg_cells.specs.Inside.OneTrie.{Kept, kept_is_only, held_is_kept}
 use Rattle.pg_cells.specs.Inside.Lists.{lone}
 use Rattle.pg_cells.specs.Inside.Root.{root_held, IsRootTo}
-use Rattle.pg_cells.specs.declared.member.Member.{Member}
+use Rattle.pg_cells.specs.declared.store.member.Member.{Member}
 use Rattle.pg_cells.specs.Inside.Store.{member_code}
 use Rattle.pg_cells.proofs.ValuedFamilyLaws.{is_held}
 use Rattle.pg_cells.proofs.RootSteps.{planted_none, planted_extended}
@@ -23,28 +23,43 @@ pub invariant_of-result : goal.invariant_of-result
 invariant_of-result g c = (
   (
     record { families = root c.args.signs; values = map (λ x. (x ∷ [], c.args.blank)) (range_with_len 1 c.args.signs) },
-    ∣ root_trie c.args.blank c.args.signs c.take_root.new.store c.set_base.new.self c.requires.0 c.take_root.ensures.root_to c.set_base.ensures ∣₁,
+    ∣ root_trie c.args.blank c.args.signs c.take_root.new.store c.set_base.new.self c.requires.0 c.take_root.ensures.root_to c.set_base.ensures.sets ∣₁,
   ),
   tt,
 )
 
 pub invariant_of-result-2 : goal.invariant_of-result-2
 invariant_of-result-2 g c =
-    let trie = root_trie c.args.blank c.args.signs c.take_root.new.store c.set_base.new.self c.requires.0 c.take_root.ensures.root_to c.set_base.ensures in
+    let trie = root_trie c.args.blank c.args.signs c.take_root.new.store c.set_base.new.self c.requires.0 c.take_root.ensures.root_to c.set_base.ensures.sets in
     let all : (d : Kept c.args.signs c.set_base.new.self) → AreKept c.args.signs c.set_base.new.self d.0 =
-    λ d. record { trie = held_is_kept (member_code g.row.V.coded) c.args.signs c.set_base.new.self d _ trie; some = c.requires.0; few = c.requires.1 } in
+    λ d. record { row = c.set_base.ensures.row; trie = held_is_kept (member_code g.row.V.coded) c.args.signs c.set_base.new.self d _ trie; some = c.requires.0; few = c.requires.1 } in
     search all
 
 pub returns-clause-held : goal.returns-clause-held
 returns-clause-held g c =
-    let trie = root_trie c.args.blank c.args.signs c.take_root.new.store c.set_base.new.self c.requires.0 c.take_root.ensures.root_to c.set_base.ensures in
+    let trie = root_trie c.args.blank c.args.signs c.take_root.new.store c.set_base.new.self c.requires.0 c.take_root.ensures.root_to c.set_base.ensures.sets in
     let all : (d : Kept c.args.signs c.set_base.new.self) → ◌≡◌ {A = ValuedFamilies (Member g.row.V.Denot)} (record { signs = c.args.signs; families = d.0.families; values = d.0.values }) (root_held c.args.signs c.args.blank) =
     λ d. ap (λ (t : Trie (Member g.row.V.Denot)). record { signs = c.args.signs; families = t.families; values = t.values }) (kept_is_only (member_code g.row.V.coded) c.args.signs c.set_base.new.self d _ trie) in
     search all
 
 pub returns-clause-kept : goal.returns-clause-kept
 returns-clause-kept g c =
-    let trie = root_trie c.args.blank c.args.signs c.take_root.new.store c.set_base.new.self c.requires.0 c.take_root.ensures.root_to c.set_base.ensures in
+    let trie = root_trie c.args.blank c.args.signs c.take_root.new.store c.set_base.new.self c.requires.0 c.take_root.ensures.root_to c.set_base.ensures.sets in
     let all : (d : Kept c.args.signs c.set_base.new.self) → AreValuedFamilies (record { signs = c.args.signs; families = d.0.families; values = d.0.values }) =
-    λ d. is_held c.args.signs c.set_base.new.self d.0 (held_is_kept (member_code g.row.V.coded) c.args.signs c.set_base.new.self d _ trie) c.len-length.ensures.values in
+    λ d. is_held c.args.signs c.set_base.new.self d.0 (held_is_kept (member_code g.row.V.coded) c.args.signs c.set_base.new.self d _ trie) c.set_base.ensures.row.values in
     search all
+
+pub overflow_add-signs : goal.overflow_add-signs
+overflow_add-signs g c = let few = c.requires.1 in record { fits = omega arith }
+
+pub same-store : goal.same-store
+same-store g c = refl
+
+pub take_root-requires-clause-length : goal.take_root-requires-clause-length
+take_root-requires-clause-length g c = let long = c.in_ok-grow.ensures.length in omega arith
+
+pub take_root-requires-clause-signs : goal.take_root-requires-clause-signs
+take_root-requires-clause-signs g c = c.requires.1
+
+pub set_base-requires : goal.set_base-requires
+set_base-requires g c = let long = c.in_ok-grow.ensures.length in let size = c.take_root.ensures.size in omega arith

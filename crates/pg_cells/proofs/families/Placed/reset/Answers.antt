@@ -6,16 +6,19 @@ use Rattle.pg_cells.specs.Inside.AreValuedFamilies.{AreValuedFamilies}
 use Rattle.pg_cells.specs.Inside.Layouts.{AreKept}
 use Rattle.pg_cells.specs.Inside.OneTrie.{Kept, kept_is_only, held_is_kept}
 use Rattle.pg_cells.specs.Inside.Root.{root_held}
-use Rattle.pg_cells.specs.declared.member.Member.{Member}
+use Rattle.pg_cells.specs.declared.store.member.Member.{Member}
 use Rattle.pg_cells.specs.Inside.Store.{member_code}
-use Rattle.pg_cells.proofs.BaseCells.{base_taken}
+use Rattle.pg_cells.proofs.BaseCells.{base_taken, zero_free}
 use Rattle.pg_cells.proofs.ValuedFamilyLaws.{is_held}
 use Rattle.pg_cells.proofs.StringCells.{root_within}
 use Rattle.pg_cells.proofs.RootTrie.{root_trie}
 use Rattle.pg_cells.proofs.families.Placed.reset.Goals as goal
 
-pub clear-requires : goal.clear-requires
-clear-requires g c = base_taken c.self.inside.signs c.self.inside.store (family_at c.self.inside.layout.0.families) c.self.invariant.trie.layout
+pub clear-requires-clause-bases : goal.clear-requires-clause-bases
+clear-requires-clause-bases g c = base_taken c.self.inside.signs c.self.inside.store (family_at c.self.inside.layout.0.families) c.self.invariant.trie.layout
+
+pub clear-requires-clause-zero : goal.clear-requires-clause-zero
+clear-requires-clause-zero g c = zero_free c.self.inside.signs c.self.inside.store (family_at c.self.inside.layout.0.families) c.self.invariant.trie.layout
 
 pub take_root-requires-clause-empty : goal.take_root-requires-clause-empty
 take_root-requires-clause-empty g c = c.clear.ensures.empty c.args.blank
@@ -25,18 +28,18 @@ take_root-requires-clause-length g c = let within = root_within c.self.inside.si
 
 pub invariant_of-self-inside : goal.invariant_of-self-inside
 invariant_of-self-inside g c =
-    ((record { families = root c.self.inside.signs; values = map (λ x. (x ∷ [], c.args.blank)) (range_with_len 1 c.self.inside.signs) }, ∣ root_trie c.args.blank c.self.inside.signs c.take_root.new.store c.set_base.new.self c.self.invariant.some c.take_root.ensures.root_to c.set_base.ensures ∣₁), tt)
+    ((record { families = root c.self.inside.signs; values = map (λ x. (x ∷ [], c.args.blank)) (range_with_len 1 c.self.inside.signs) }, ∣ root_trie c.args.blank c.self.inside.signs c.take_root.new.store c.set_base.new.self c.self.invariant.some c.take_root.ensures.root_to c.set_base.ensures.sets ∣₁), tt)
 
 pub invariant_of-self : goal.invariant_of-self
 invariant_of-self g c =
-    let trie = root_trie c.args.blank c.self.inside.signs c.take_root.new.store c.set_base.new.self c.self.invariant.some c.take_root.ensures.root_to c.set_base.ensures in
+    let trie = root_trie c.args.blank c.self.inside.signs c.take_root.new.store c.set_base.new.self c.self.invariant.some c.take_root.ensures.root_to c.set_base.ensures.sets in
     let all : (d : Kept c.self.inside.signs c.set_base.new.self) → AreKept c.self.inside.signs c.set_base.new.self d.0 =
-    λ d. record { trie = held_is_kept (member_code g.row.V.coded) c.self.inside.signs c.set_base.new.self d _ trie; some = c.self.invariant.some; few = c.self.invariant.few } in
+    λ d. record { row = c.set_base.ensures.row; trie = held_is_kept (member_code g.row.V.coded) c.self.inside.signs c.set_base.new.self d _ trie; some = c.self.invariant.some; few = c.self.invariant.few } in
     search all
 
 pub returns-clause-held : goal.returns-clause-held
 returns-clause-held g c =
-    let trie = root_trie c.args.blank c.self.inside.signs c.take_root.new.store c.set_base.new.self c.self.invariant.some c.take_root.ensures.root_to c.set_base.ensures in
+    let trie = root_trie c.args.blank c.self.inside.signs c.take_root.new.store c.set_base.new.self c.self.invariant.some c.take_root.ensures.root_to c.set_base.ensures.sets in
     let all : (d : Kept c.self.inside.signs c.set_base.new.self) → ◌≡◌ {A = ValuedFamilies (Member g.row.V.Denot)} (record { signs = c.self.inside.signs; families = d.0.families; values = d.0.values }) (root_held c.args.self.now.signs c.args.blank) =
     λ d. ap (λ (t : Trie (Member g.row.V.Denot)). record { signs = c.self.inside.signs; families = t.families; values = t.values }) (kept_is_only (member_code g.row.V.coded) c.self.inside.signs c.set_base.new.self d _ trie)
     ∙ ap (λ (h : ValuedFamilies (Member g.row.V.Denot)). root_held h.signs c.args.blank) c.self.view_is in
@@ -44,7 +47,13 @@ returns-clause-held g c =
 
 pub returns-clause-kept : goal.returns-clause-kept
 returns-clause-kept g c =
-    let trie = root_trie c.args.blank c.self.inside.signs c.take_root.new.store c.set_base.new.self c.self.invariant.some c.take_root.ensures.root_to c.set_base.ensures in
+    let trie = root_trie c.args.blank c.self.inside.signs c.take_root.new.store c.set_base.new.self c.self.invariant.some c.take_root.ensures.root_to c.set_base.ensures.sets in
     let all : (d : Kept c.self.inside.signs c.set_base.new.self) → AreValuedFamilies (record { signs = c.self.inside.signs; families = d.0.families; values = d.0.values }) =
-    λ d. is_held c.self.inside.signs c.set_base.new.self d.0 (held_is_kept (member_code g.row.V.coded) c.self.inside.signs c.set_base.new.self d _ trie) c.len-length.ensures.values in
+    λ d. is_held c.self.inside.signs c.set_base.new.self d.0 (held_is_kept (member_code g.row.V.coded) c.self.inside.signs c.set_base.new.self d _ trie) c.set_base.ensures.row.values in
     search all
+
+pub take_root-requires-clause-signs : goal.take_root-requires-clause-signs
+take_root-requires-clause-signs g c = c.self.invariant.few
+
+pub set_base-requires : goal.set_base-requires
+set_base-requires g c = let within = root_within c.self.inside.signs c.self.inside.store c.self.inside.layout.0 c.self.invariant.trie c.self.invariant.some in let cleared = c.clear.ensures.size in let size = c.take_root.ensures.size in omega arith

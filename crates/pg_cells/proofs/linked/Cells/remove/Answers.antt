@@ -1,7 +1,8 @@
-use Rattle.std.proofs.Common.{◌≡◌, [], ◌∷◌, ◌++◌, Some, None, ap, sym, subst, ◌∙◌, rules, MatchBool}
+use Rattle.pg_cells.proofs.LinkLaws.{cell_goes}
+use Rattle.std.proofs.Common.{◌≡◌, [], ◌∷◌, ◌++◌, Some, None, ap, sym, subst, ◌∙◌, rules, MatchBool, inr, arith}
 use Rattle.pg_types.specs.Placement.{cell_of, base_of}
 use Rattle.pg_types.specs.Inside.Placing.{without_sign}
-use Rattle.pg_cells.specs.declared.member.Member.{Member}
+use Rattle.pg_cells.specs.declared.store.member.Member.{Member}
 use Rattle.pg_cells.specs.Inside.ValuedFamilies.{ValuedFamilies, without_key}
 use Rattle.pg_cells.specs.Inside.Links.{unlinked}
 use Rattle.pg_cells.specs.Inside.Members.{IsAlone, HasOther}
@@ -75,3 +76,23 @@ returns-clause-held g c q e =
 
 pub returns-clause-kept : goal.returns-clause-kept
 returns-clause-kept g c = held_unlinked c.link.new.cells c.link.ensures.kept
+
+pub child-base-requires : goal.child-base-requires
+child-base-requires g c =
+    let h = c.self.inside.placed in
+    let at : cell_of h.families c.requires.parent.0 ≡ Some c.args.parent = subst (λ (k : ValuedFamilies g.row.V.Denot). cell_of k.families c.requires.parent.0 ≡ Some c.args.parent) (sym c.self.view_is) c.requires.parent.2.0 in
+    (omega arith, (c.requires.parent.0, at))
+
+pub sign_after-after-requires : goal.sign_after-after-requires
+sign_after-after-requires g c =
+    let h = c.self.inside.placed in
+    let at : cell_of h.families c.requires.parent.0 ≡ Some c.args.parent = subst (λ (k : ValuedFamilies g.row.V.Denot). cell_of k.families c.requires.parent.0 ≡ Some c.args.parent) (sym c.self.view_is) c.requires.parent.2.0 in
+    let there : cell_of h.families (c.requires.parent.0 ++ c.args.s ∷ []) ≡ Some c.requires.parent.1 = subst (λ (k : ValuedFamilies g.row.V.Denot). cell_of k.families (c.requires.parent.0 ++ c.args.s ∷ []) ≡ Some c.requires.parent.1) (sym c.self.view_is) c.requires.parent.2.1 in
+    (omega arith, (c.self.invariant, (c.requires.parent.0, (at, c.child-base.ensures.base c.requires.parent.0 at, inr (cell_goes h c.self.invariant.held c.requires.parent.0 c.args.s c.requires.parent.1 there)))))
+
+pub returns-clause-cells : goal.returns-clause-cells
+returns-clause-cells g c q e p other =
+    let h = c.self.inside.placed in
+    let at : cell_of h.families q ≡ Some c.args.parent = subst (λ (k : ValuedFamilies g.row.V.Denot). cell_of k.families q ≡ Some c.args.parent) (sym c.self.view_is) e in
+    ap (λ (k : ValuedFamilies (Member g.row.V.Denot)). cell_of k.families p) (c.link.ensures.linked q (c.remove.ensures.cells q at q (λ z. not_longer q c.args.s (sym z)) ∙ at)) ∙ c.remove.ensures.cells q at p other
+    ∙ ap (λ (k : ValuedFamilies g.row.V.Denot). cell_of k.families p) c.self.view_is

@@ -1,5 +1,5 @@
 use Rattle.std.proofs.Common.{ap, ◌∙◌}
-use Rattle.pg_cells.specs.declared.member.Member.{Member}
+use Rattle.pg_cells.specs.declared.store.member.Member.{Member}
 use Rattle.pg_cells.specs.Inside.ValuedFamilies.{ValuedFamilies}
 use Rattle.pg_cells.specs.Inside.Root.{root_held}
 use Rattle.pg_cells.proofs.RootLinks.{root_links, root_seen}

@@ -1,7 +1,7 @@
-use Rattle.std.proofs.Common.{◌≡◌, Some, refl, ap, sym, subst, ◌∙◌}
+use Rattle.std.proofs.Common.{◌≡◌, Some, refl, ap, sym, subst, ◌∙◌, arith}
 use Rattle.std.specs.FinMap.{put}
 use Rattle.pg_types.specs.Placement.{cell_of}
-use Rattle.pg_cells.specs.declared.member.Member.{Member}
+use Rattle.pg_cells.specs.declared.store.member.Member.{Member}
 use Rattle.pg_cells.specs.Inside.ValuedFamilies.{ValuedFamilies}
 use Rattle.pg_cells.specs.Inside.Links.{unlinked}
 use Rattle.pg_cells.proofs.StringMaps.{order}
@@ -25,3 +25,9 @@ returns-clause-held g c q e =
 
 pub returns-clause-kept : goal.returns-clause-kept
 returns-clause-kept g c = held_unlinked c.set_value.new.self c.set_value.ensures.kept
+
+pub value-member-requires : goal.value-member-requires
+value-member-requires g c = (omega arith, (c.requires.0, subst (λ (k : ValuedFamilies g.row.V.Denot). cell_of k.families c.requires.0 ≡ Some c.args.cell) (sym c.self.view_is) c.requires.1))
+
+pub set_value-requires : goal.set_value-requires
+set_value-requires g c = (omega arith, (c.requires.0, subst (λ (k : ValuedFamilies g.row.V.Denot). cell_of k.families c.requires.0 ≡ Some c.args.cell) (sym c.self.view_is) c.requires.1))

@@ -1,13 +1,14 @@
 use Rattle.std.proofs.Common.{◌≡◌, ◌≢◌, ◌<◌, ◌≤◌, ◌^◌, ℕ, List, sym, ap, subst, ◌∙◌, length, arith, take, drop, ◌++◌}
 use Rattle.std.proofs.lemmas.List.{length-map}
-use Rattle.pg_cells.specs.declared.cell.Cell.{Cell}
-use Rattle.pg_cells.specs.declared.member.Member.{Member}
+use Rattle.pg_cells.specs.declared.store.cell.Cell.{Cell}
+use Rattle.pg_cells.specs.declared.store.member.Member.{Member}
 use Rattle.pg_cells.specs.Inside.FreeList.{AreLinked}
 use Rattle.pg_cells.specs.Inside.Lists.{Row, lists, row_of, sign_at, with_free}
 use Rattle.pg_cells.proofs.LinkedLists.{taken_within}
 use Rattle.pg_cells.proofs.ChainSteps.{signs_long}
+use Rattle.pg_cells.specs.Inside.Store.{IsRow}
 use Rattle.pg_cells.specs.Inside.Writes.{Frees}
-use Rattle.pg_cells.proofs.RowWrites.{row_frees}
+use Rattle.pg_cells.proofs.RowWrites.{is_row, row_frees}
 use Rattle.pg_cells.proofs.BlockedLaws.{blocked_none}
 use Rattle.pg_cells.proofs.BoundLaws.{bounds_free}
 use Rattle.pg_cells.proofs.StoreSteps.{given_back, kept_freed, some_taken}
@@ -58,10 +59,25 @@ overflow_sub-self g c =
     some_taken c.self.inside.cells.items c.self.inside.top c.self.inside.taken c.args.cell c.self.invariant.kept
     (λ z. c.requires.taken (subst (λ r. sign_at r c.args.cell ≡ 0) c.self.view_is z))
 
-pub returns : goal.returns
-returns g c =
+pub returns-clause-frees : goal.returns-clause-frees
+returns-clause-frees g c =
     let size : length c.free_cell.new.cells ≡ c.self.inside.cells.len = omega arith in
     let left : row_of (take c.self.inside.cells.len (c.free_cell.new.cells ++ drop (length c.free_cell.new.cells) c.self.inside.cells.items)) ≡ with_free (row_of c.self.inside.cells.items) c.args.cell =
     ap row_of (given_back c.free_cell.new.cells c.self.inside.cells.items c.self.inside.cells.len size) ∙ c.free_cell.ensures.row ∙ ap (λ cells. with_free (row_of cells) c.args.cell) c.as_mut_slice.ensures.value in
     subst (λ r. Frees r (row_of (take c.self.inside.cells.len (c.free_cell.new.cells ++ drop (length c.free_cell.new.cells) c.self.inside.cells.items))) c.args.cell) c.self.view_is
     (subst (λ r. Frees (row_of c.self.inside.cells.items) r c.args.cell) (sym left) (row_frees c.self.inside.cells.items c.args.cell (λ z. c.requires.taken (subst (λ r. sign_at r c.args.cell ≡ 0) c.self.view_is z))))
+
+pub returns-clause-row : goal.returns-clause-row
+returns-clause-row g c =
+    let size : length c.free_cell.new.cells ≡ c.self.inside.cells.len = omega arith in
+    let same : length c.free_cell.new.cells ≡ length c.self.inside.cells.items = omega arith in
+    let small = c.self.invariant.kept.small in
+    subst (λ (cells : List (Cell g.row.V.Denot)). IsRow (row_of cells)) (sym (given_back c.free_cell.new.cells c.self.inside.cells.items c.self.inside.cells.len size)) (is_row c.free_cell.new.cells (omega arith))
+
+pub taken_up_to-self-inside-requires : goal.taken_up_to-self-inside-requires
+taken_up_to-self-inside-requires g c =
+    let size : length c.free_cell.new.cells ≡ c.self.inside.cells.len = omega arith in
+    let same : length c.free_cell.new.cells ≡ length c.self.inside.cells.items = omega arith in
+    let seen : c.as_slice.result.now ≡ c.free_cell.new.cells = c.as_slice.ensures.value ∙ given_back c.free_cell.new.cells c.self.inside.cells.items c.self.inside.cells.len size in
+    let top = c.self.invariant.kept.greatest.within in
+    omega (arith, ap length seen, length-map c.self.inside.cells.items (λ x. x.sign))

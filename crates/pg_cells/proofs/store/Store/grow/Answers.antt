@@ -3,6 +3,7 @@ use Rattle.std.proofs.lemmas.Result.{on_ok_weaker}
 use Rattle.pg_cells.specs.Inside.Lists.{row_of}
 use Rattle.pg_cells.specs.Inside.Store.{Extends}
 use Rattle.pg_cells.proofs.ChainSteps.{signs_long}
+use Rattle.pg_cells.proofs.RowWrites.{is_row}
 use Rattle.pg_cells.proofs.BlockedLaws.{blocked_grow}
 use Rattle.pg_cells.proofs.BoundLaws.{bounds_grow}
 use Rattle.pg_cells.proofs.StoreSteps.{kept_extended}
@@ -24,4 +25,5 @@ pub returns : goal.returns
 returns g c = record {
   extends = subst (λ r. Extends r (row_of c.grow_cells.new.cells.items)) c.self.view_is c.grow_cells.ensures.extends;
   length = on_ok_weaker c.grow_cells.result (λ long. subst (λ n. c.args.count ≤ n) (sym (signs_long c.grow_cells.new.cells.items)) long) c.grow_cells.ensures.length;
+  row = is_row c.grow_cells.new.cells.items c.grow_cells.ensures.small;
 }

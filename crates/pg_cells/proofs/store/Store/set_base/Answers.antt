@@ -1,11 +1,13 @@
-use Rattle.std.proofs.Common.{◌≡◌, refl, ap, sym, subst, ◌∙◌, ◌<◌, length, arith, take, drop, ◌++◌}
+use Rattle.std.proofs.Common.{◌≡◌, refl, ap, sym, subst, ◌∙◌, ◌<◌, length, arith, take, drop, ◌++◌, List}
+use Rattle.pg_cells.specs.declared.store.cell.Cell.{Cell}
 use Rattle.pg_cells.specs.Inside.Lists.{lists, with_base}
 use Rattle.pg_cells.specs.Inside.Lists.{Lists, Row, row_of}
 use Rattle.pg_cells.specs.Inside.Blocked.{AreBlocked}
+use Rattle.pg_cells.specs.Inside.Store.{IsRow}
 use Rattle.pg_cells.specs.Inside.Writes.{SetsBase}
-use Rattle.pg_cells.specs.declared.member.Member.{Member}
+use Rattle.pg_cells.specs.declared.store.member.Member.{Member}
 use Rattle.pg_cells.proofs.ChainSteps.{signs_long}
-use Rattle.pg_cells.proofs.RowWrites.{row_base}
+use Rattle.pg_cells.proofs.RowWrites.{is_row, row_base}
 use Rattle.pg_cells.proofs.BlockedLaws.{blocked_base}
 use Rattle.pg_cells.proofs.BoundLaws.{bounds_base}
 use Rattle.pg_cells.proofs.StoreSteps.{given_back, kept_write}
@@ -34,10 +36,17 @@ invariant_of-self g c =
           (row_base c.self.inside.cells.items c.args.cell c.args.is_base (subst (λ (r : Row (Member g.row.V.Denot)). c.args.cell < length r.signs) (sym c.self.view_is) c.requires))));
     })
 
-pub returns : goal.returns
-returns g c =
+pub returns-clause-sets : goal.returns-clause-sets
+returns-clause-sets g c =
     let size : length c.set_base.new.cells ≡ c.self.inside.cells.len = omega arith in
     let left : row_of (take c.self.inside.cells.len (c.set_base.new.cells ++ drop (length c.set_base.new.cells) c.self.inside.cells.items)) ≡ with_base (row_of c.self.inside.cells.items) c.args.cell c.args.is_base =
     ap row_of (given_back c.set_base.new.cells c.self.inside.cells.items c.self.inside.cells.len size) ∙ ap (λ (ls : Lists (Member g.row.V.Denot)). ls.row) c.set_base.ensures ∙ ap (λ cells. with_base (row_of cells) c.args.cell c.args.is_base) c.as_mut_slice.ensures.value in
     subst (λ r. SetsBase r (row_of (take c.self.inside.cells.len (c.set_base.new.cells ++ drop (length c.set_base.new.cells) c.self.inside.cells.items))) c.args.cell c.args.is_base) c.self.view_is
     (subst (λ r. SetsBase (row_of c.self.inside.cells.items) r c.args.cell c.args.is_base) (sym left) (row_base c.self.inside.cells.items c.args.cell c.args.is_base (subst (λ (r : Row (Member g.row.V.Denot)). c.args.cell < length r.signs) (sym c.self.view_is) c.requires)))
+
+pub returns-clause-row : goal.returns-clause-row
+returns-clause-row g c =
+    let size : length c.set_base.new.cells ≡ c.self.inside.cells.len = omega arith in
+    let same : length c.set_base.new.cells ≡ length c.self.inside.cells.items = omega arith in
+    let small = c.self.invariant.kept.small in
+    subst (λ (cells : List (Cell g.row.V.Denot)). IsRow (row_of cells)) (sym (given_back c.set_base.new.cells c.self.inside.cells.items c.self.inside.cells.len size)) (is_row c.set_base.new.cells (omega arith))

@@ -1,9 +1,11 @@
-use Rattle.std.proofs.Common.{◌≡◌, ◌<◌, sym, ap, subst, ◌∙◌, length, arith, set, take, drop, ◌++◌}
+use Rattle.std.proofs.Common.{◌≡◌, ◌<◌, sym, ap, subst, ◌∙◌, length, arith, set, take, drop, ◌++◌, List}
+use Rattle.pg_cells.specs.declared.store.cell.Cell.{Cell}
 use Rattle.pg_cells.specs.Inside.Lists.{Row, Lists, lists, row_of, sign_at, with_child}
+use Rattle.pg_cells.specs.Inside.Store.{IsRow}
 use Rattle.pg_cells.specs.Inside.Writes.{SetsChild}
-use Rattle.pg_cells.specs.declared.member.Member.{Member}
+use Rattle.pg_cells.specs.declared.store.member.Member.{Member}
 use Rattle.pg_cells.proofs.ChainSteps.{taken_in_row, child_fits}
-use Rattle.pg_cells.proofs.RowWrites.{row_child}
+use Rattle.pg_cells.proofs.RowWrites.{is_row, row_child}
 use Rattle.pg_cells.proofs.BlockedLaws.{blocked_child}
 use Rattle.pg_cells.proofs.BoundLaws.{bounds_child}
 use Rattle.pg_cells.proofs.StoreSteps.{given_back, kept_child}
@@ -37,10 +39,17 @@ invariant_of-self g c =
           (row_child c.self.inside.cells.items c.args.cell c.args.child (λ z. c.requires.taken (subst (λ r. sign_at r c.args.cell ≡ 0) c.self.view_is z))));
     })
 
-pub returns : goal.returns
-returns g c =
+pub returns-clause-sets : goal.returns-clause-sets
+returns-clause-sets g c =
     let size : length c.set_child.new.cells ≡ c.self.inside.cells.len = omega arith in
     let left : row_of (take c.self.inside.cells.len (c.set_child.new.cells ++ drop (length c.set_child.new.cells) c.self.inside.cells.items)) ≡ with_child (row_of c.self.inside.cells.items) c.args.cell c.args.child =
     ap row_of (given_back c.set_child.new.cells c.self.inside.cells.items c.self.inside.cells.len size) ∙ ap (λ (ls : Lists (Member g.row.V.Denot)). ls.row) c.set_child.ensures ∙ ap (λ cells. with_child (row_of cells) c.args.cell c.args.child) c.as_mut_slice.ensures.value in
     subst (λ r. SetsChild r (row_of (take c.self.inside.cells.len (c.set_child.new.cells ++ drop (length c.set_child.new.cells) c.self.inside.cells.items))) c.args.cell c.args.child) c.self.view_is
     (subst (λ r. SetsChild (row_of c.self.inside.cells.items) r c.args.cell c.args.child) (sym left) (row_child c.self.inside.cells.items c.args.cell c.args.child (λ z. c.requires.taken (subst (λ r. sign_at r c.args.cell ≡ 0) c.self.view_is z))))
+
+pub returns-clause-row : goal.returns-clause-row
+returns-clause-row g c =
+    let size : length c.set_child.new.cells ≡ c.self.inside.cells.len = omega arith in
+    let same : length c.set_child.new.cells ≡ length c.self.inside.cells.items = omega arith in
+    let small = c.self.invariant.kept.small in
+    subst (λ (cells : List (Cell g.row.V.Denot)). IsRow (row_of cells)) (sym (given_back c.set_child.new.cells c.self.inside.cells.items c.self.inside.cells.len size)) (is_row c.set_child.new.cells (omega arith))

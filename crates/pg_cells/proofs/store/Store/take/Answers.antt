@@ -1,13 +1,14 @@
 use Rattle.std.proofs.Common.{◌≡◌, ◌<◌, ◌^◌, List, sym, ap, subst, ◌∙◌, length, arith, take, drop, ◌++◌}
 use Rattle.std.proofs.lemmas.List.{length-map}
-use Rattle.pg_cells.specs.declared.cell.Cell.{Cell}
-use Rattle.pg_cells.specs.declared.member.Member.{Member}
+use Rattle.pg_cells.specs.declared.store.cell.Cell.{Cell}
+use Rattle.pg_cells.specs.declared.store.member.Member.{Member}
 use Rattle.pg_cells.specs.Inside.FreeList.{AreLinked}
 use Rattle.pg_cells.specs.Inside.Lists.{Row, lists, row_of, IsFree, with_taken}
 use Rattle.pg_cells.proofs.LinkedLists.{free_within}
 use Rattle.pg_cells.proofs.ChainSteps.{free_in, child_fits}
+use Rattle.pg_cells.specs.Inside.Store.{IsRow}
 use Rattle.pg_cells.specs.Inside.Writes.{Takes}
-use Rattle.pg_cells.proofs.RowWrites.{row_takes}
+use Rattle.pg_cells.proofs.RowWrites.{is_row, row_takes}
 use Rattle.pg_cells.proofs.BlockedLaws.{blocked_take, free_sign}
 use Rattle.pg_cells.proofs.BoundLaws.{bounds_take}
 use Rattle.pg_cells.proofs.StoreSteps.{given_back, taken_le, kept_taken}
@@ -65,10 +66,17 @@ invariant_of-self g c =
           (row_takes c.self.inside.cells.items c.args.cell c.args.slot.sign c.args.slot.value c.args.slot.child free c.requires.sign));
     })
 
-pub returns : goal.returns
-returns g c =
+pub returns-clause-takes : goal.returns-clause-takes
+returns-clause-takes g c =
     let size : length c.take_cell.new.cells ≡ c.self.inside.cells.len = omega arith in
     let left : row_of (take c.self.inside.cells.len (c.take_cell.new.cells ++ drop (length c.take_cell.new.cells) c.self.inside.cells.items)) ≡ with_taken (row_of c.self.inside.cells.items) c.args.cell c.args.slot.sign c.args.slot.value c.args.slot.child =
     ap row_of (given_back c.take_cell.new.cells c.self.inside.cells.items c.self.inside.cells.len size) ∙ c.take_cell.ensures.row ∙ ap (λ cells. with_taken (row_of cells) c.args.cell c.args.slot.sign c.args.slot.value c.args.slot.child) c.as_mut_slice.ensures.value in
     subst (λ r. Takes r (row_of (take c.self.inside.cells.len (c.take_cell.new.cells ++ drop (length c.take_cell.new.cells) c.self.inside.cells.items))) c.args.cell c.args.slot.sign c.args.slot.value c.args.slot.child) c.self.view_is
     (subst (λ r. Takes (row_of c.self.inside.cells.items) r c.args.cell c.args.slot.sign c.args.slot.value c.args.slot.child) (sym left) (row_takes c.self.inside.cells.items c.args.cell c.args.slot.sign c.args.slot.value c.args.slot.child (subst (λ r. IsFree r c.args.cell) (sym c.self.view_is) c.requires.free) c.requires.sign))
+
+pub returns-clause-row : goal.returns-clause-row
+returns-clause-row g c =
+    let size : length c.take_cell.new.cells ≡ c.self.inside.cells.len = omega arith in
+    let same : length c.take_cell.new.cells ≡ length c.self.inside.cells.items = omega arith in
+    let small = c.self.invariant.kept.small in
+    subst (λ (cells : List (Cell g.row.V.Denot)). IsRow (row_of cells)) (sym (given_back c.take_cell.new.cells c.self.inside.cells.items c.self.inside.cells.len size)) (is_row c.take_cell.new.cells (omega arith))

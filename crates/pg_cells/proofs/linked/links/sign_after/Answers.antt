@@ -1,0 +1,56 @@
+use Rattle.std.proofs.Common.{◌≡◌, ◌≤◌, ◌++◌, [], ◌∷◌, Some, None, inl, inr, sym, subst, ◌∙◌, arith}
+use Rattle.std.proofs.lemmas.Bool.{both_ways}
+use Rattle.pg_types.specs.Placement.{cell_of}
+use Rattle.pg_cells.specs.Inside.Members.{goes_on, IsNextSign}
+use Rattle.pg_cells.proofs.LinkLaws.{some_string, some_base, none_goes_on, goes_cell}
+use Rattle.pg_cells.proofs.linked.links.sign_after.Goals as goal
+
+pub returns-then-base-eq0 : goal.returns-then-base-eq0
+returns-then-base-eq0 g c q e =
+    let h = c.args.cells.now in
+    elim c.requires.parent.1.2 [
+      | inl z ↦ absurd (c.if-s-eq0.false z)
+      | inr there ↦ absurd (both_ways (goes_on h.values c.requires.parent.0 c.args.s) (none_goes_on h c.requires.links.held c.requires.parent.0 c.args.base c.requires.parent.1.1 c.if-base-eq0.true c.args.s) there)
+    ]
+
+pub returns-in-Some : goal.returns-in-Some
+returns-in-Some g c q e =
+    let h = c.args.cells.now in
+    let same : c.requires.parent.0 ≡ q = c.requires.links.held.apart c.requires.parent.0 q c.args.parent c.requires.parent.1.0 e in
+    let has = some_base h.families c.requires.parent.0 c.args.base c.requires.parent.1.1 c.if-base-eq0.false in
+    let at : cell_of h.families (c.requires.parent.0 ++ c.args.s ∷ []) ≡ Some c.in-Some.cell = sym (c.in-Some.ensures.cell c.requires.parent.0 has) in
+    subst (λ p. IsNextSign h.values p c.args.s c.value-in-Some.result.next) same
+    (c.requires.links.next c.requires.parent.0 c.args.s c.value-in-Some.result (some_string h.families c.requires.parent.0 c.args.parent c.requires.parent.1.0) (c.value-in-Some.ensures (c.requires.parent.0 ++ c.args.s ∷ []) at))
+
+pub returns-in-None : goal.returns-in-None
+returns-in-None g c q e =
+    let h = c.args.cells.now in
+    let has = some_base h.families c.requires.parent.0 c.args.base c.requires.parent.1.1 c.if-base-eq0.false in
+    elim c.requires.parent.1.2 [
+      | inl z ↦ absurd (c.if-s-eq0.false z)
+      | inr there ↦
+          let cell = goes_cell h c.requires.links.held c.requires.parent.0 c.args.s there in
+          let none : cell_of h.families (c.requires.parent.0 ++ c.args.s ∷ []) ≡ None = sym (c.in-None.ensures.cell c.requires.parent.0 has) in
+          absurd (let apart : None ≡ Some cell.0 = sym none ∙ cell.1 in cc)
+    ]
+
+pub value-requires : goal.value-requires
+value-requires g c = (omega arith, (c.requires.parent.0, c.requires.parent.1.0))
+
+pub find-requires : goal.find-requires
+find-requires g c =
+    let h = c.args.cells.now in
+    let has = some_base h.families c.requires.parent.0 c.args.base c.requires.parent.1.1 c.if-base-eq0.false in
+    let sign : (1 ≤ c.args.s) × (c.args.s ≤ h.signs) =
+    elim c.requires.parent.1.2 [
+      | inl z ↦ absurd (c.if-s-eq0.false z)
+      | inr there ↦
+          let cell = goes_cell h c.requires.links.held c.requires.parent.0 c.args.s there in
+          c.requires.links.held.signs c.requires.parent.0 c.args.s cell.0 cell.1
+    ] in
+    (omega arith, ((c.requires.parent.0, has), sign))
+
+pub value-requires-in-Some : goal.value-requires-in-Some
+value-requires-in-Some g c =
+    let has = some_base c.args.cells.now.families c.requires.parent.0 c.args.base c.requires.parent.1.1 c.if-base-eq0.false in
+    (omega arith, (c.requires.parent.0 ++ c.args.s ∷ [], sym (c.in-Some.ensures.cell c.requires.parent.0 has)))

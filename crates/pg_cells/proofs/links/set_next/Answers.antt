@@ -1,7 +1,0 @@
-use Rattle.std.proofs.Common.{[], ◌∷◌, ◌++◌}
-use Rattle.std.proofs.lemmas.Bool.{ne_eqb}
-use Rattle.pg_cells.proofs.links.set_next.Goals as goal
-
-pub returns-clause-linked : goal.returns-clause-linked
-returns-clause-linked g c q s other e =
-    rw (ne_eqb s 0 other) (rw (c.value-member.ensures (q ++ s ∷ []) e) (c.set_value.ensures.held (q ++ s ∷ []) e))

@@ -1,0 +1,15 @@
+use borrow.Author.Rules.{scaled_Fits}
+use Rattle.pg_cells.proofs.CellWrites.{write_taken}
+use Rattle.pg_cells.proofs.store.cell.set_taken.Goals as goal
+
+pub offset_bounds-cells-cell : goal.offset_bounds-cells-cell
+offset_bounds-cells-cell g c = search scaled_Fits
+
+pub bounds-cells-cell : goal.bounds-cells-cell
+bounds-cells-cell g c = c.requires.cell
+
+pub overflow_cast-taken : goal.overflow_cast-taken
+overflow_cast-taken g c = record { fits = c.requires.child }
+
+pub returns : goal.returns
+returns g c = write_taken c.args.cells.now c.args.cell c.index-cells-cell.result c.args.sign c.args.value c.args.child c.requires.sign

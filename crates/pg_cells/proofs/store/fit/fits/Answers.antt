@@ -1,0 +1,62 @@
+use Rattle.std.specs.List.{list_all}
+use Rattle.std.specs.Prelude.{not, ◌&&◌}
+use Rattle.std.proofs.Common.{◌≡◌, ◌+◌, ◌<◌, nat_eq, length, get_or, sym, ap, subst, ◌∙◌, refl, arith, ℕ}
+use Rattle.std.proofs.lemmas.List.{get_or-map, length-map, take_all}
+use Rattle.std.proofs.lemmas.Bool.{ne_eqb, eq-eqb}
+use Rattle.pg_cells.specs.declared.store.fit.Slot.{Slot}
+use Rattle.pg_cells.specs.Inside.Lists.{lists, sign_at}
+use Rattle.pg_cells.specs.Inside.Fit.{signs_of}
+use Rattle.pg_cells.specs.declared.store.member.Member.{Member}
+use Rattle.pg_cells.proofs.FitSteps.{all_more, all_fails, misfit}
+use Rattle.pg_cells.proofs.store.fit.fits.Goals as goal
+
+pub returns-then-sign_of-ne0 : goal.returns-then-sign_of-ne0
+returns-then-sign_of-ne0 g c =
+    let at : get_or (signs_of c.args.slots.now) c.loop-slot.slot-index 0 ≡ c.slot-item.result.sign =
+    get_or-map (λ x. x.sign) c.args.slots.now c.loop-slot.slot-index c.slot-item.result 0 c.loop-slot-test.true ∙ ap (λ (x : Slot (Member g.row.V.Denot)). x.sign) (sym c.slot-item.is) in
+    let within : c.loop-slot.slot-index < length (signs_of c.args.slots.now) = rw length-map c.loop-slot-test.true in
+    sym (misfit (lists c.args.cells.now).row (signs_of c.args.slots.now) c.args.base
+    (all_fails (λ s. nat_eq (sign_at (lists c.args.cells.now).row (c.args.base + s)) 0) (signs_of c.args.slots.now) c.loop-slot.slot-index _ within at
+    (ne_eqb _ 0 (λ z. c.if-sign_of-ne0.true (c.sign_of.ensures ∙ z)))))
+
+pub loop-slot-preserved : goal.loop-slot-preserved
+loop-slot-preserved g c =
+    let at : get_or (signs_of c.args.slots.now) c.loop-slot.slot-index 0 ≡ c.slot-item.result.sign =
+    get_or-map (λ x. x.sign) c.args.slots.now c.loop-slot.slot-index c.slot-item.result 0 c.loop-slot-test.true ∙ ap (λ (x : Slot (Member g.row.V.Denot)). x.sign) (sym c.slot-item.is) in
+    let within : c.loop-slot.slot-index < length (signs_of c.args.slots.now) = rw length-map c.loop-slot-test.true in
+    all_more (λ s. nat_eq (sign_at (lists c.args.cells.now).row (c.args.base + s)) 0) (signs_of c.args.slots.now) c.loop-slot.slot-index _ within at
+    (eq-eqb _ 0 (sym c.sign_of.ensures ∙ c.if-sign_of-ne0.false)) c.loop-slot.invariant
+
+pub sign_of-requires : goal.sign_of-requires
+sign_of-requires g c =
+    let at : get_or (signs_of c.args.slots.now) c.loop-slot.slot-index 0 ≡ c.slot-item.result.sign =
+    get_or-map (λ x. x.sign) c.args.slots.now c.loop-slot.slot-index c.slot-item.result 0 c.loop-slot-test.true ∙ ap (λ (x : Slot (Member g.row.V.Denot)). x.sign) (sym c.slot-item.is) in
+    subst (λ s. c.args.base + s < length c.args.cells.now) at (c.requires.wide c.loop-slot.slot-index c.loop-slot-test.true)
+
+pub is_base_of-requires : goal.is_base_of-requires
+is_base_of-requires g c = let base = c.requires.base in omega arith
+
+pub returns-then-is_base_of : goal.returns-then-is_base_of
+returns-then-is_base_of g c =
+    sym (ap (λ b. not b && list_all (λ s. nat_eq (sign_at (lists c.args.cells.now).row (c.args.base + s)) 0) (signs_of c.args.slots.now)) (sym c.is_base_of.ensures ∙ c.if-is_base_of.true))
+
+pub loop-slot-init : goal.loop-slot-init
+loop-slot-init g c = refl
+
+pub offset_bounds-slots-slot-index : goal.offset_bounds-slots-slot-index
+offset_bounds-slots-slot-index g c = let lt = c.loop-slot-test.true in omega arith
+
+pub overflow_add-base : goal.overflow_add-base
+overflow_add-base g c =
+    let at : get_or (signs_of c.args.slots.now) c.loop-slot.slot-index 0 ≡ c.slot-item.result.sign =
+    get_or-map (λ x. x.sign) c.args.slots.now c.loop-slot.slot-index c.slot-item.result 0 c.loop-slot-test.true ∙ ap (λ (x : Slot (Member g.row.V.Denot)). x.sign) (sym c.slot-item.is) in
+    let wide = c.requires.wide c.loop-slot.slot-index c.loop-slot-test.true in
+    let small = c.requires.small in
+    record { fits = omega arith }
+
+pub returns : goal.returns
+returns g c =
+    let test = λ (s : ℕ). nat_eq (sign_at (lists c.args.cells.now).row (c.args.base + s)) 0 in
+    let past = c.loop-slot-test.false in
+    let all = take_all c.loop-slot.slot-index (signs_of c.args.slots.now) (omega (arith, length-map c.args.slots.now (λ x. x.sign))) in
+    sym (ap (λ b. not b && list_all test (signs_of c.args.slots.now)) (sym c.is_base_of.ensures ∙ c.if-is_base_of.false) ∙ ap (list_all test) (sym all) ∙ c.loop-slot.invariant)

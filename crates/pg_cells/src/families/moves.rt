@@ -1,0 +1,83 @@
+//! A family gives up its cells and is put at another base.
+ghost use Rattle.std.specs.Prelude.{◌≡◌, ◌≢◌, ℕ, ◌+◌, ◌<◌, ◌≤◌, ◌^◌, length, take, nat_eq, slice_index, Some, [], OnOk};
+ghost use Rattle.pg_cells.specs.declared.store.fit.Slot.{Slot as SlotOf};
+ghost use Rattle.pg_cells.specs.declared.store.member.Member.{Member as MemberOf};
+ghost use Rattle.pg_cells.specs.Inside.Lists.{sign_at, IsFree};
+ghost use Rattle.pg_cells.specs.Inside.Fit.{slot_of};
+ghost use Rattle.pg_cells.specs.Inside.Members.{ArePassing};
+ghost use Rattle.pg_cells.specs.Inside.Moves.{AreDistinct, GivesUp, Puts, Collected, Collects};
+
+use crate::store::Store;
+use crate::store::fit::Slot;
+use crate::store::member::Member;
+use pg_types::Sign;
+use std::alloc::AllocError;
+
+/// Gives up the cells that the slots have at a base.
+pub fn give_up<V: Copy>(store: &mut Store<V>, base: usize, slots: &[Slot<Member<V>>])
+    requires distinct { AreDistinct slots.now }
+    requires base { base < 2 ^ 32 }
+    requires taken { (x : ℕ) (slot : SlotOf (MemberOf V)) → slot_of slots.now x ≡ Some slot →
+        (0 < x) × (sign_at store.old (base + x) ≢ 0) }
+    ensures { GivesUp store.old store.new base slots.now }
+{
+    for held in slots {
+        store.free(base + held.sign as usize);
+    }
+}
+
+/// Puts the slots into their cells at a base.
+pub fn put<V: Copy>(store: &mut Store<V>, base: usize, slots: &[Slot<Member<V>>])
+    requires distinct { AreDistinct slots.now }
+    requires base { base < 2 ^ 32 }
+    requires free { (x : ℕ) (slot : SlotOf (MemberOf V)) → slot_of slots.now x ≡ Some slot →
+        (0 < x) × (IsFree store.old (base + x)) × (slot.child < length store.old.signs) }
+    ensures { Puts store.old store.new base slots.now }
+{
+    for slot in slots {
+        store.take(base + slot.sign as usize, *slot);
+    }
+}
+
+/// Collects what the cells of the family at a base hold, by rising sign, where the members are its
+/// signs.
+pub fn collect<V: Copy>(
+    store: &Store<V>,
+    base: usize,
+    members: &[Sign],
+    slots: &mut Vec<Slot<Member<V>>>,
+) -> Result<(), AllocError>
+    requires base { base < 2 ^ 32 }
+    requires members { (k : ℕ) → k < length members.now → 0 < slice_index members.now k }
+    ensures none { members.now ≡ [] → OnOk result (slots.new.items ≡ []) }
+    ensures some { (n : ℕ) → ((i : ℕ) → sign_at store.now i ≤ n) →
+        ArePassing (λ x. nat_eq (sign_at store.now (base + x)) x) members.now →
+        OnOk result (Collected n store.now base slots.new.items) }
+{
+    slots.clear();
+    for sign in members {
+        collect_sign(store, base, *sign, slots)?;
+    }
+    Ok(())
+}
+
+// Adds the slot of a sign, where the sign stands at the base.
+fn collect_sign<V: Copy>(
+    store: &Store<V>,
+    base: usize,
+    sign: u16,
+    slots: &mut Vec<Slot<Member<V>>>,
+) -> Result<(), AllocError>
+    requires base { base < 2 ^ 32 }
+    requires sign { 0 < sign }
+    ensures { OnOk result (Collects store.now base sign slots.old.items slots.new.items) }
+{
+    let cell = base + sign as usize;
+    if store.sign(cell) != sign {
+        return Ok(());
+    }
+    let child = store.child(cell);
+    let value = store.value(cell);
+    slots.push(Slot { value, child, sign })?;
+    Ok(())
+}

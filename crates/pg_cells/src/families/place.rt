@@ -1,0 +1,120 @@
+//! A family is put at the least base that fits.
+ghost use Rattle.std.specs.Prelude.{◌≡◌, ◌≢◌, ℕ, ◌+◌, ◌<◌, ◌≤◌, ◌^◌, max, true, false, ◌∷◌, length, slice_index};
+ghost use Rattle.pg_types.specs.Placement.{far_from_top, lowest_base};
+ghost use Rattle.pg_types.specs.Inside.Placing.{IsLeast};
+ghost use Rattle.pg_cells.specs.Inside.Fit.{fits_row, signs_of};
+ghost use Rattle.pg_cells.specs.Inside.Moves.{Drops, Moved, CanPlace};
+ghost use Rattle.pg_cells.specs.Inside.Store.{IsRow};
+
+use crate::families::moves::{give_up, put};
+use crate::store::Store;
+use crate::store::fit::Slot;
+use crate::store::member::Member;
+use pg_types::{FAR_BELOW, NEAR_BELOW, SIGNS_MAX};
+
+// How far below the top the search for a base begins.
+fn far_from_top(few: usize, signs: u16) -> usize
+    ensures { result ≡ far_from_top few signs }
+{
+    if few == 0 {
+        NEAR_BELOW
+    } else {
+        FAR_BELOW.max(signs as usize)
+    }
+}
+
+// The lowest base that is tried.
+fn lowest_base(few: usize, signs: u16, count: usize, top: usize) -> usize
+    ensures is { result ≡ lowest_base few signs count top }
+    ensures positive { 0 < result }
+{
+    if count <= few {
+        1
+    } else {
+        top.saturating_sub(far_from_top(few, signs)).max(1)
+    }
+}
+
+// Drops the base of a family; where the base is 0, there is no family.
+fn drop_base<V: Copy>(store: &mut Store<V>, base: usize)
+    requires { base < length store.old.signs }
+    ensures { Drops store.old store.new base }
+{
+    if base != 0 {
+        store.set_base(base, false);
+    }
+}
+
+// The end of the bases from `low` on that were tried before, for a family that moves. Its base
+// `was` was found by a search from `sought` on.
+fn tried_up_to(was: usize, sought: usize, low: usize) -> usize
+    requires { was < 2 ^ 32 }
+    ensures { low < result → (0 < was) × (sought ≤ low) × (result ≡ was + 1) }
+{
+    if 0 < was && sought <= low { was + 1 } else { 0 }
+}
+
+// The least base from `low` on at which the sign and those of the slots may stand; at `room` they
+// may. It is sought from the greatest of `low`, `tried` and the bound of the sign on: below `tried`
+// no base fits. A search for one sign from its bound on raises the bound.
+fn least_base<V: Copy>(
+    store: &mut Store<V>,
+    slots: &[Slot<Member<V>>],
+    sign: u16,
+    low: usize,
+    room: usize,
+    tried: usize,
+) -> usize
+    requires positive { 0 < sign }
+    requires low { (0 < low) × (low ≤ room) }
+    requires tried { (k : ℕ) → low ≤ k → k < tried →
+        fits_row store.old (sign ∷ signs_of slots.now) k ≡ false }
+    requires within { room + sign < length store.old.signs }
+    requires wide { (k : ℕ) → k < length slots.now →
+        room + slice_index (signs_of slots.now) k < length store.old.signs }
+    requires room { fits_row store.old (sign ∷ signs_of slots.now) room ≡ true }
+    ensures least { IsLeast (fits_row store.old (sign ∷ signs_of slots.now)) low result }
+    ensures room { result ≤ room }
+    ensures same { store.new ≡ store.old }
+{
+    let bound = store.bound(sign);
+    let from = low.max(tried);
+    let base = store.find_base(slots, sign, from.max(bound), room);
+    if slots.is_empty() && low <= bound.max(1) {
+        store.raise_bound(sign, base);
+    }
+    base
+}
+
+/// Gives up the cells of a family, puts it below its parent with one sign more, and answers its
+/// base. The slots are those of the family.
+pub fn place_family<V: Copy>(
+    store: &mut Store<V>,
+    slots: &[Slot<Member<V>>],
+    slot: Slot<Member<V>>,
+    parent: usize,
+    was: usize,
+    few: usize,
+    signs: u16,
+) -> usize
+    requires can { CanPlace signs store.old was slots.now slot parent }
+    requires row { IsRow store.old }
+    requires was { was < length store.old.signs }
+    requires signs { signs ≤ SIGNS_MAX }
+    ensures moved { Moved few signs store.old store.new was result slots.now slot parent }
+    ensures row { IsRow store.new }
+{
+    let sought = store.sought_from(was);
+    give_up(store, was, slots);
+    drop_base(store, was);
+    let top = store.top();
+    let low = lowest_base(few, signs, slots.len() + 1, top);
+    let tried = tried_up_to(was, sought, low);
+    let base = least_base(store, slots, slot.sign, low, top.max(1), tried);
+    put(store, base, slots);
+    store.take(base + slot.sign as usize, slot);
+    store.set_base(base, true);
+    store.set_sought(base, low);
+    store.set_child(parent, base);
+    base
+}

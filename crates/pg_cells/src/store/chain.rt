@@ -1,0 +1,119 @@
+//! The list through the free cells.
+ghost use Rattle.std.specs.Prelude.{◌≡◌, ◌≢◌, ℕ, ◌+◌, ◌-◌, ◌<◌, ◌≤◌, ◌^◌, length, OnOk, OnErr};
+ghost use Rattle.pg_cells.specs.Inside.Lists.{lists, with_taken, with_free, with_more, lone, sign_at, IsFree};
+ghost use Rattle.pg_cells.specs.Inside.FreeList.{AreLinked};
+
+use crate::store::cell::{
+    Cell, after_of, before_of, set_after, set_before, set_free, set_taken, sign_of,
+};
+use crate::store::member::Member;
+use std::alloc::AllocError;
+
+/// Takes a free cell out of the list.
+pub fn take_cell<V: Copy>(
+    cells: &mut [Cell<V>],
+    cell: usize,
+    sign: u16,
+    value: Member<V>,
+    child: usize,
+)
+    requires linked { AreLinked (lists cells.old) }
+    requires small { length cells.old < 2 ^ 32 }
+    requires cell { (0 < cell) × (cell < length cells.old) }
+    requires free { IsFree (lists cells.old).row cell }
+    requires sign { sign ≢ 0 }
+    requires child { child < 2 ^ 32 }
+    ensures row { (lists cells.new).row ≡ with_taken (lists cells.old).row cell sign value child }
+    ensures linked { AreLinked (lists cells.new) }
+{
+    let before = before_of(cells, cell);
+    let after = after_of(cells, cell);
+    set_after(cells, before, after);
+    set_before(cells, after, before);
+    set_taken(cells, cell, sign, value, child);
+}
+
+/// Puts a taken cell into the list, at its place.
+pub fn free_cell<V: Copy>(cells: &mut [Cell<V>], cell: usize)
+    requires linked { AreLinked (lists cells.old) }
+    requires small { length cells.old < 2 ^ 32 }
+    requires cell { (0 < cell) × (cell < length cells.old) }
+    requires taken { sign_at (lists cells.old).row cell ≢ 0 }
+    ensures row { (lists cells.new).row ≡ with_free (lists cells.old).row cell }
+    ensures linked { AreLinked (lists cells.new) }
+{
+    let before = free_below(cells, cell);
+    put_after(cells, cell, before);
+}
+
+// The last free cell below a cell. It is sought from the cell down and, side by side, along the
+// free cells from the first.
+fn free_below<V: Copy>(cells: &[Cell<V>], cell: usize) -> usize
+    requires linked { AreLinked (lists cells.now) }
+    requires cell { (0 < cell) × (cell ≤ length cells.now) }
+    ensures below { result < cell }
+    ensures free { IsFree (lists cells.now).row result }
+    ensures last { (k : ℕ) → k < cell → IsFree (lists cells.now).row k → k ≤ result }
+{
+    let mut at = cell - 1;
+    let mut free = 0;
+    let mut after = after_of(cells, free);
+    while sign_of(cells, at) != 0 && 0 < after && after < cell {
+        at -= 1;
+        free = after;
+        after = after_of(cells, free);
+    }
+    if 0 < after && after < cell { at } else { free }
+}
+
+// Puts a cell into the list behind the free cell before it.
+fn put_after<V: Copy>(cells: &mut [Cell<V>], cell: usize, before: usize)
+    requires linked { AreLinked (lists cells.old) }
+    requires small { length cells.old < 2 ^ 32 }
+    requires cell { cell < length cells.old }
+    requires taken { sign_at (lists cells.old).row cell ≢ 0 }
+    requires before { before < cell }
+    requires free { IsFree (lists cells.old).row before }
+    requires last { (k : ℕ) → k < cell → IsFree (lists cells.old).row k → k ≤ before }
+    ensures row { (lists cells.new).row ≡ with_free (lists cells.old).row cell }
+    ensures linked { AreLinked (lists cells.new) }
+{
+    let after = after_of(cells, before);
+    set_after(cells, before, cell);
+    set_before(cells, after, cell);
+    set_free(cells, cell, before, after);
+}
+
+/// Adds a free cell at the end.
+pub fn push_cell<V: Copy>(cells: &mut Vec<Cell<V>>, value: V) -> Result<(), AllocError>
+    requires linked { AreLinked (lists cells.old.items) }
+    requires small { length cells.old.items + 1 < 2 ^ 32 }
+    ensures row { OnOk result
+        ((lists cells.new.items).row ≡ with_more (lists cells.old.items).row (lone value)) }
+    ensures linked { AreLinked (lists cells.new.items) }
+    ensures err { OnErr result (cells.new.items ≡ cells.old.items) }
+{
+    cells.push(Cell {
+        value,
+        link: 0,
+        next: 0,
+        first: 0,
+        sign: 1,
+        is_base: false,
+    })?;
+    put_last(cells.as_mut_slice());
+    Ok(())
+}
+
+// Puts the last cell into the list.
+fn put_last<V: Copy>(cells: &mut [Cell<V>])
+    requires linked { AreLinked (lists cells.old) }
+    requires small { length cells.old < 2 ^ 32 }
+    requires cell { 1 < length cells.old }
+    requires taken { sign_at (lists cells.old).row (length cells.old - 1) ≢ 0 }
+    ensures row { (lists cells.new).row ≡ with_free (lists cells.old).row (length cells.old - 1) }
+    ensures linked { AreLinked (lists cells.new) }
+{
+    let before = before_of(cells, 0);
+    put_after(cells, cells.len() - 1, before);
+}

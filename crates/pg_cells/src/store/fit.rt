@@ -1,0 +1,101 @@
+//! The search for a base, along the free cells.
+ghost use Rattle.std.specs.Prelude.{◌≡◌, ◌≢◌, ℕ, ◌+◌, ◌<◌, ◌≤◌, ◌^◌, Bool, true, ◌∷◌, length, slice_index, map};
+ghost use Rattle.pg_types.specs.Inside.Placing.{IsLeast};
+ghost use Rattle.pg_cells.specs.Inside.Lists.{lists, sign_at, base_at};
+ghost use Rattle.pg_cells.specs.Inside.FreeList.{AreLinked};
+ghost use Rattle.pg_cells.specs.Inside.Fit.{fits_row, signs_of};
+
+use crate::store::cell::{Cell, after_of, is_base_of, sign_of};
+use crate::store::member::Member;
+
+/// What a taken cell holds.
+#[derive(Clone, Copy)]
+pub struct Slot<V> {
+    /// The value of the string that ends with the cell.
+    pub value: V,
+    /// The base of the child family, 0 for none.
+    pub child: usize,
+    /// The sign of the cell.
+    pub sign: u16,
+}
+
+// The sign of a cell, 0 in a free one and past the end.
+pub fn sign_or_free<V: Copy>(cells: &[Cell<V>], cell: usize) -> u16
+    ensures { result ≡ sign_at (lists cells.now).row cell }
+{
+    if cell < cells.len() {
+        sign_of(cells, cell)
+    } else {
+        0
+    }
+}
+
+// Whether the signs of the slots may stand at a base.
+fn fits<V: Copy>(cells: &[Cell<V>], slots: &[Slot<Member<V>>], base: usize) -> bool
+    requires base { base < length cells.now }
+    requires wide { (k : ℕ) → k < length slots.now →
+        base + slice_index (signs_of slots.now) k < length cells.now }
+    requires small { length cells.now < 2 ^ 32 }
+    ensures { result ≡ fits_row (lists cells.now).row (signs_of slots.now) base }
+{
+    if is_base_of(cells, base) {
+        return false;
+    }
+    for slot in slots {
+        if sign_of(cells, base + slot.sign as usize) != 0 {
+            return false;
+        }
+    }
+    true
+}
+
+// The first free cell from a cell on. It is sought from the cell on and, side by side, along the
+// free cells from the first.
+fn free_from<V: Copy>(cells: &[Cell<V>], cell: usize, bound: usize) -> usize
+    requires linked { AreLinked (lists cells.now) }
+    requires positive { 0 < cell }
+    requires below { cell ≤ bound }
+    requires bound { bound < length cells.now }
+    requires free { sign_at (lists cells.now).row bound ≡ 0 }
+    ensures from { cell ≤ result }
+    ensures bound { result ≤ bound }
+    ensures free { sign_at (lists cells.now).row result ≡ 0 }
+    ensures first { (k : ℕ) → cell ≤ k → k < result → sign_at (lists cells.now).row k ≢ 0 }
+{
+    let mut at = cell;
+    let mut free = after_of(cells, 0);
+    while sign_of(cells, at) != 0 && free < cell {
+        at += 1;
+        free = after_of(cells, free);
+    }
+    if free < cell { at } else { free }
+}
+
+/// The least base from `low` on at which the sign and those of the slots may stand. At `room` they
+/// may stand.
+pub fn find_base<V: Copy>(
+    cells: &[Cell<V>],
+    slots: &[Slot<Member<V>>],
+    sign: u16,
+    low: usize,
+    room: usize,
+) -> usize
+    requires linked { AreLinked (lists cells.now) }
+    requires positive { 0 < sign }
+    requires low { low ≤ room }
+    requires within { room + sign < length cells.now }
+    requires wide { (k : ℕ) → k < length slots.now →
+        room + slice_index (signs_of slots.now) k < length cells.now }
+    requires small { length cells.now < 2 ^ 32 }
+    requires room { fits_row (lists cells.now).row (sign ∷ signs_of slots.now) room ≡ true }
+    ensures least { IsLeast
+        (fits_row (lists cells.now).row (sign ∷ signs_of slots.now)) low result }
+    ensures room { result ≤ room }
+{
+    let first = sign as usize;
+    let mut at = free_from(cells, low + first, room + first);
+    while !fits(cells, slots, at - first) {
+        at = after_of(cells, at);
+    }
+    at - first
+}
