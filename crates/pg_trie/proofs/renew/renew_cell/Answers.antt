@@ -26,7 +26,7 @@ pub returns : goal.returns
 returns c =
     let s = c.in-Some.ensures.some in
     fresh_step c.args.cells.now c.args.outputs.now c.requires.trie.held c.args.cell c.args.fresh.now c.fresh_head.new.fresh c.args.heads.now _ s.0 c.in-Some.head c.in_ok-number.number
-    c.requires.heads s.1 s.2 (c.requires.trie.heads s.0 c.in-Some.head s.2).inside c.in_ok-number.ensures.grows
+    c.requires.heads s.1 s.2 (c.requires.trie.heads s.0 c.in-Some.head s.2).inside c.in_ok-number.ensures.grows (c.in_ok-number.ensures.one_head c.requires.heads.one_head)
     c.in_ok-number.ensures.inside
     (c.in_ok-number.ensures.list ∙ ap (λ h. values_in (list_of c.args.outputs.now h)) c.number-old_head.ensures)
     (subst (λ h. AreNeeded c.args.fresh.now c.fresh_head.new.fresh (values_in (list_of c.args.outputs.now h))) c.number-old_head.ensures c.in_ok-number.ensures.needed)
