@@ -1,5 +1,5 @@
 -- What a walk along the signs of a family has behind it.
-use Rattle.std.proofs.Common.{◌≡◌, ◌≢◌, ℕ, ◌+◌, ◌<◌, ◌≤◌, inl, inr, Bool, true, false, cond, ◌&&◌, ◌||◌, nat_eq, nat_lt, T, List, [], ◌∷◌, ◌++◌, map, length, Option, None, Some, refl, sym, ◌∙◌, ap, arith, length-append}
+use Rattle.std.proofs.Common.{◌≡◌, ◌≢◌, ℕ, ◌+◌, ◌-◌, ◌<◌, ◌≤◌, inl, inr, Bool, true, false, cond, ◌&&◌, ◌||◌, nat_eq, nat_lt, T, List, [], ◌∷◌, ◌++◌, map, length, Option, None, Some, refl, sym, ◌∙◌, ap, arith, length-append}
 use Rattle.std.proofs.lemmas.Bool.{cases_Bool, cases_eq, cases_lt, eqb-true, eq-eqb, ne_eqb}
 use Rattle.std.proofs.lemmas.Bool.Decides.{nat_tests}
 use Rattle.std.proofs.lemmas.List.{append_assoc, append-nil}
@@ -104,6 +104,19 @@ short_last h q short x more = by (find order ((q ++ x ∷ []) ++ more) h.values)
     by : (o : Option (Option Tally)) → find order ((q ++ x ∷ []) ++ more) h.values ≡ o → find order ((q ++ x ∷ []) ++ more) h.values ≡ None
     by None e = e
     by (Some o) e = absurd (let l = short ((q ++ x ∷ []) ++ more) o e in let m = length-append (q ++ x ∷ []) more in let k = length-append q (x ∷ []) in omega arith)
+
+-- a family has a longer string, so there are more signs
+pub some_more : (h : ValuedFamilies (Option Tally)) → AreValuedFamilies h → (p : List ℕ) (base more : ℕ) → base_of h.families p ≡ Some base → AreShort h.values (length p + more) → 0 < more
+some_more h held p base more at short =
+    let next = held.filled p base at in
+    let value = held.valued (p ++ next.0 ∷ []) next.1 next.2 in
+    let long = short (p ++ next.0 ∷ []) value.0 value.1 in
+    let size = length-append p (next.0 ∷ []) in
+    omega arith
+
+-- where no string that goes on from p has more than so many signs more, those that go on by one sign have one less
+pub short_more : (h : ValuedFamilies (Option Tally)) (p : List ℕ) (s more : ℕ) → 0 < more → AreShort h.values (length p + more) → AreShort h.values (length (p ++ s ∷ []) + (more - 1))
+short_more h p s more some short u o there = let long = short u o there in let size = length-append p (s ∷ []) in omega arith
 
 -- what the tests say of a string that goes on from p
 pub under_parts : (p r : List ℕ) → is_under p r ≡ true → (q : List ℕ) × (r ≡ p ++ q)

@@ -5,7 +5,7 @@ use Rattle.pg_cells.specs.Inside.Members.{IsNextSign}
 use Rattle.pg_cells.proofs.LinkLaws.{goes_cell}
 use Rattle.pg_count.specs.Inside.Counting.{numbers_in}
 use Rattle.pg_count.specs.Inside.Under.{is_passed, numbers_where, numbers_under}
-use Rattle.pg_count.proofs.Walking.{open_base, short_last, passed_first, passed_next, passed_end}
+use Rattle.pg_count.proofs.Walking.{open_base, some_more, short_more, passed_first, passed_next, passed_end}
 use Rattle.pg_count.proofs.walk.+walk.Goals as goal
 
 pub walk-loop-s-init : goal.walk-loop-s-init
@@ -14,7 +14,7 @@ walk-loop-s-init t c =
     record {
       small = omega arith;
       there = λ p at up. ((next p at).found up).1;
-      passed = λ p at long.
+      passed = λ p at.
           sym (append-nil c.args.out.now.items)
           ∙ ap (λ l. c.args.out.now.items ++ l) (sym (passed_first c.args.cells.now c.requires.held p (open_base c.args.cells.now c.requires.held c.requires.last p c.args.base at) c.args.first (next p at)));
     }
@@ -28,9 +28,19 @@ walk-find-requires t c =
 
 pub walk-walk_at-requires : goal.walk-walk_at-requires
 walk-walk_at-requires t c =
-    let some = c.requires.some in (
+    let p = c.requires.base.0 in
+    let some = some_more c.args.cells.now c.requires.held p c.args.base c.args.more c.requires.base.1.0 c.requires.base.1.2 in (
       omega arith,
-      (c.requires.held, ((c.requires.base.0 ++ c.loop-s.s ∷ [], sym (c.in-Some.ensures.cell c.requires.base.0 c.requires.base.1.0)), c.requires.last)),
+      (
+        c.requires.held,
+        (
+          (
+            p ++ c.loop-s.s ∷ [],
+            (sym (c.in-Some.ensures.cell p c.requires.base.1.0), short_more c.args.cells.now p c.loop-s.s c.args.more some c.requires.base.1.2),
+          ),
+          c.requires.last,
+        ),
+      ),
     )
 
 pub walk-next_sign-s-requires : goal.walk-next_sign-s-requires
@@ -40,25 +50,20 @@ pub walk-loop-s-preserved : goal.walk-loop-s-preserved
 walk-loop-s-preserved t c =
     let next = λ (p : List ℕ) (at : base_of c.args.cells.now.families p ≡ Some c.args.base). c.next_sign-s.ensures p c.loop-s.s (sym (c.in-Some.ensures.cell p at)) in
     let other : c.loop-s.s ≢ 0 = omega arith in
-    let some = c.requires.some in
     record {
       small = c.next_sign-s.type_inv;
       there = λ p at up. ((next p at).found up).1;
-      passed = λ p at long.
+      passed = λ p at.
           c.in_ok-walk_at.ensures (p ++ c.loop-s.s ∷ []) (sym (c.in-Some.ensures.cell p at))
-          (λ u n found. (let size = long u n found in let more = length-append p (c.loop-s.s ∷ []) in omega arith))
-          ∙ ap (λ l. l ++ numbers_under (p ++ c.loop-s.s ∷ []) c.args.cells.now.values) (c.loop-s.invariant.passed p at long)
+          ∙ ap (λ l. l ++ numbers_under (p ++ c.loop-s.s ∷ []) c.args.cells.now.values) (c.loop-s.invariant.passed p at)
           ∙ append_assoc c.args.out.now.items (numbers_where (is_passed p c.loop-s.s) (numbers_in c.args.cells.now.values)) (numbers_under (p ++ c.loop-s.s ∷ []) c.args.cells.now.values)
           ∙ ap (λ l. c.args.out.now.items ++ l) (sym (passed_next c.args.cells.now c.requires.held p (open_base c.args.cells.now c.requires.held c.requires.last p c.args.base at) c.loop-s.s c.next_sign-s.result other (next p at)));
     }
 
 pub walk-returns : goal.walk-returns
-walk-returns t c = λ p at long.
+walk-returns t c = λ p at.
     let end : c.loop-s.s ≡ 0 = omega arith in
-    c.loop-s.invariant.passed p at long ∙ ap (λ l. c.args.out.now.items ++ l) (passed_end c.args.cells.now c.requires.held p (open_base c.args.cells.now c.requires.held c.requires.last p c.args.base at) c.loop-s.s end)
-
-pub walk_at-returns-then-more-eq0 : goal.walk_at-returns-then-more-eq0
-walk_at-returns-then-more-eq0 t c = λ q at short. c.last_at.ensures q at (short_last c.args.cells.now q (λ p o there. (let l = short p o there in omega arith)))
+    c.loop-s.invariant.passed p at ∙ ap (λ l. c.args.out.now.items ++ l) (passed_end c.args.cells.now c.requires.held p (open_base c.args.cells.now c.requires.held c.requires.last p c.args.base at) c.loop-s.s end)
 
 pub walk_at-returns-then-below-eq0 : goal.walk_at-returns-then-below-eq0
-walk_at-returns-then-below-eq0 t c = λ q at short. c.last_at-then-below-eq0.ensures q at (c.child-below.ensures.none q at c.if-below-eq0.true)
+walk_at-returns-then-below-eq0 t c = λ q at. c.last_at.ensures q at (c.child-below.ensures.none q at c.if-below-eq0.true)
