@@ -15,6 +15,8 @@ use Rattle.pg_cells.specs.Inside.ValuedFamilies.{ValuedFamilies}
 use Rattle.pg_cells.specs.Inside.AreValuedFamilies.{AreValuedFamilies}
 use Rattle.pg_cells.specs.Inside.Members.{IsNextSign, goes_on}
 use Rattle.pg_cells.proofs.LinkLaws.{cell_goes}
+use Rattle.pg_cells.proofs.Walking.{childless}
+use Rattle.pg_count.proofs.Mapped.{ends_after}
 use Rattle.pg_cells.proofs.StringMaps.{order, equal_or_not, same_maps, head_below, tail_sorted}
 use Rattle.pg_types.specs.Inside.NumberedStrings.{Numbers}
 use Rattle.pg_count.specs.Inside.Counting.{Tally, number_seen, numbers_in}
@@ -97,13 +99,12 @@ where_split P Q R (e ∷ es) h either less =
         ap (λ l. e ∷ l) (rest ∙ ap (λ l. l ++ where_key order Q es) none) ∙ sym (ap (λ l. l ++ e ∷ where_key order Q es) none)
     by rest false p false q = rest
 
--- where no string is longer than q, none goes on from it
-pub short_last : (h : ValuedFamilies (Option Tally)) (q : List ℕ) → AreShort h.values (length q) → IsLast h.values q
-short_last h q short x more = by (find order ((q ++ x ∷ []) ++ more) h.values) refl
-  where
-    by : (o : Option (Option Tally)) → find order ((q ++ x ∷ []) ++ more) h.values ≡ o → find order ((q ++ x ∷ []) ++ more) h.values ≡ None
-    by None e = e
-    by (Some o) e = absurd (let l = short ((q ++ x ∷ []) ++ more) o e in let m = length-append (q ++ x ∷ []) more in let k = length-append q (x ∷ []) in omega arith)
+-- where there is no family below q, no string goes on from it
+pub childless_last : (h : ValuedFamilies (Option Tally)) → AreValuedFamilies h → (q : List ℕ) (base : ℕ) → base_of h.families q ≡ cond (nat_eq base 0) None (Some base) → base ≡ 0 → IsLast h.values q
+childless_last h held q base below zero x = ends_after h held q x (childless h.families q x (below ∙ ap (λ b. cond b None (Some base)) (eq-eqb base 0 zero)))
+
+pub family_below : (h : ValuedFamilies (Option Tally)) (q : List ℕ) (base : ℕ) → base_of h.families q ≡ cond (nat_eq base 0) None (Some base) → base ≢ 0 → base_of h.families q ≡ Some base
+family_below h q base below other = below ∙ ap (λ b. cond b None (Some base)) (ne_eqb base 0 other)
 
 -- a family has a longer string, so there are more signs
 pub some_more : (h : ValuedFamilies (Option Tally)) → AreValuedFamilies h → (p : List ℕ) (base more : ℕ) → base_of h.families p ≡ Some base → AreShort h.values (length p + more) → 0 < more

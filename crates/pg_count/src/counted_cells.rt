@@ -8,7 +8,7 @@ ghost use Rattle.pg_types.specs.Placement.{cell_of, base_of};
 ghost use Rattle.pg_cells.specs.Inside.AreValuedFamilies.{AreValuedFamilies};
 ghost use Rattle.pg_cells.specs.Inside.Members.{IsNextSign};
 ghost use Rattle.pg_cells.specs.Inside.Root.{root_held};
-ghost use Rattle.pg_cells.specs.Inside.Walks.{IsAt, EndsBefore};
+ghost use Rattle.pg_cells.specs.Inside.Walks.{IsAt};
 ghost use Rattle.pg_count.specs.Inside.Counting.{Tally, counts_in, numbers_in};
 ghost use Rattle.pg_count.specs.Inside.Leaves.{Adds, AreShort, PushesDown};
 ghost use Rattle.pg_count.specs.declared.tally_list.TheConstants.{NUMBERS_END};
@@ -106,8 +106,7 @@ impl CountedCells {
 
     /// The number of signs of the table.
     pub fn signs(&self) -> u16
-        ensures signs { result ≡ self.now.signs }
-        ensures held { AreValuedFamilies self.now }
+        ensures { result ≡ self.now.signs }
     {
         self.cells.signs()
     }
@@ -116,7 +115,7 @@ impl CountedCells {
     pub fn find(&self, base: usize, s: Sign) -> Option<usize>
         requires base { (p : List ℕ) × (base_of self.now.families p ≡ Some base) }
         requires sign { (1 ≤ s) × (s ≤ self.now.signs) }
-        ensures cell { (p : List ℕ) → base_of self.now.families p ≡ Some base →
+        ensures { (p : List ℕ) → base_of self.now.families p ≡ Some base →
             result ≡ cell_of self.now.families (p ++ s ∷ []) }
     {
         self.cells.find(base, s)
@@ -125,11 +124,8 @@ impl CountedCells {
     /// The base of the family below the cell's string, 0 for none.
     pub fn child(&self, cell: usize) -> usize
         requires { (q : List ℕ) × (cell_of self.now.families q ≡ Some cell) }
-        ensures base { (q : List ℕ) → cell_of self.now.families q ≡ Some cell →
+        ensures { (q : List ℕ) → cell_of self.now.families q ≡ Some cell →
             base_of self.now.families q ≡ (if result == 0 then None else Some result) }
-        ensures none { (q : List ℕ) → cell_of self.now.families q ≡ Some cell
-            → result ≡ 0 → (x : ℕ) →
-            EndsBefore self.now.values (q ++ x ∷ []) }
     {
         self.cells.child(cell)
     }
@@ -157,10 +153,8 @@ impl CountedCells {
     pub fn step(&self, at: Option<usize>, s: Sign) -> Option<usize>
         requires at { (q : List ℕ) × (IsAt self.now.families at q) }
         requires sign { (1 ≤ s) × (s ≤ self.now.signs) }
-        ensures cell { (q : List ℕ) → IsAt self.now.families at q
+        ensures { (q : List ℕ) → IsAt self.now.families at q
             → result ≡ cell_of self.now.families (q ++ s ∷ []) }
-        ensures none { (q : List ℕ) → IsAt self.now.families at q → result ≡ None →
-            EndsBefore self.now.values (q ++ s ∷ []) }
     {
         pg_cells::step(&self.cells, at, s)
     }

@@ -5,7 +5,7 @@ use Rattle.pg_cells.proofs.LinkLaws.{goes_cell}
 use Rattle.pg_count.specs.Inside.Least.{IsToldBy}
 use Rattle.pg_count.specs.Inside.Leaves.{AreShort}
 use Rattle.pg_count.proofs.Searching.{none_from, none_next, told_more, up_none, up_found}
-use Rattle.pg_count.proofs.Walking.{some_more, short_more}
+use Rattle.pg_count.proofs.Walking.{childless_last, some_more, short_more}
 use Rattle.pg_count.proofs.least.+least.Goals as goal
 
 pub least-loop-s-init : goal.least-loop-s-init
@@ -32,7 +32,7 @@ pub least-returns-in_err-cell : goal.least-returns-in_err-cell
 least-returns-in_err-cell t c p at =
     let goes = c.loop-s.invariant.there p at (omega (arith, c.loop-s-test.true)) in
     let cell = goes_cell c.args.cells.now c.requires.leaves.1.held p c.loop-s.s goes in
-    let none : cell_of c.args.cells.now.families (p ++ c.loop-s.s ∷ []) ≡ None = sym (c.in_err-cell.ensures.cell p at) in
+    let none : cell_of c.args.cells.now.families (p ++ c.loop-s.s ∷ []) ≡ None = sym (c.in_err-cell.ensures p at) in
     absurd (let wrong : None ≡ Some cell.0 = sym none ∙ cell.1 in cc)
 
 pub least-least_at-found-requires : goal.least-least_at-found-requires
@@ -46,7 +46,7 @@ least-least_at-found-requires t c =
         (
           p ++ c.loop-s.s ∷ [],
           (
-            sym (c.in_ok-cell.ensures.cell p c.requires.base.1.0),
+            sym (c.in_ok-cell.ensures p c.requires.base.1.0),
             subst (IsToldBy c.args.above.now (p ++ c.loop-s.s ∷ [])) (sym c.rest_of.ensures) (told_more c.args.above.now p c.args.bound.now c.loop-s.s c.requires.base.1.2 from),
             short_more c.args.cells.now p c.loop-s.s c.args.more some c.requires.base.1.3,
           ),
@@ -55,18 +55,18 @@ least-least_at-found-requires t c =
     )
 
 pub least-next_sign-s-requires : goal.least-next_sign-s-requires
-least-next_sign-s-requires t c = (c.requires.base.0 ++ c.loop-s.s ∷ [], sym (c.in_ok-cell.ensures.cell c.requires.base.0 c.requires.base.1.0))
+least-next_sign-s-requires t c = (c.requires.base.0 ++ c.loop-s.s ∷ [], sym (c.in_ok-cell.ensures c.requires.base.0 c.requires.base.1.0))
 
 pub least-returns-in-Some : goal.least-returns-in-Some
 least-returns-in-Some t c p at =
-    let found = c.in-Some.ensures (p ++ c.loop-s.s ∷ []) (sym (c.in_ok-cell.ensures.cell p at)) in
+    let found = c.in-Some.ensures (p ++ c.loop-s.s ∷ []) (sym (c.in_ok-cell.ensures p at)) in
     up_found c.args.cells.now c.args.windows.now.items c.requires.leaves.0 c.requires.leaves.1 p c.args.base at c.args.above.now c.loop-s.s c.in-Some.number (λ x lt. c.loop-s.invariant.none p at x (inr lt)) found
 
 pub least-loop-s-preserved : goal.least-loop-s-preserved
 least-loop-s-preserved t c =
-    let next = λ (p : List ℕ) (at : base_of c.args.cells.now.families p ≡ Some c.args.base). c.next_sign-s.ensures p c.loop-s.s (sym (c.in_ok-cell.ensures.cell p at)) in
+    let next = λ (p : List ℕ) (at : base_of c.args.cells.now.families p ≡ Some c.args.base). c.next_sign-s.ensures p c.loop-s.s (sym (c.in_ok-cell.ensures p at)) in
     let here = λ (p : List ℕ) (at : base_of c.args.cells.now.families p ≡ Some c.args.base).
-    c.in_default.ensures (p ++ c.loop-s.s ∷ []) (sym (c.in_ok-cell.ensures.cell p at)) in
+    c.in_default.ensures (p ++ c.loop-s.s ∷ []) (sym (c.in_ok-cell.ensures p at)) in
     record {
       small = c.next_sign-s.type_inv;
       from = λ up. (let f = (next c.requires.base.0 c.requires.base.1.0).found up in let low = f.0 in let from = c.loop-s.invariant.from (omega (arith, c.loop-s-test.true)) in omega arith);
@@ -80,4 +80,4 @@ least-returns t c p at =
     up_none c.args.cells.now c.args.windows.now.items c.requires.leaves.0 c.requires.leaves.1 p c.args.base at c.args.above.now (λ x. c.loop-s.invariant.none p at x (inl end))
 
 pub least_at-returns-then-below-eq0 : goal.least_at-returns-then-below-eq0
-least_at-returns-then-below-eq0 t c q at = c.leaf_above.ensures q at (c.child-below.ensures.none q at c.if-below-eq0.true)
+least_at-returns-then-below-eq0 t c q at = c.leaf_above.ensures q at (childless_last c.args.cells.now c.requires.leaves.1.held q c.child-below.result (c.child-below.ensures q at) c.if-below-eq0.true)

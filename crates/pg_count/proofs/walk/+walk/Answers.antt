@@ -5,7 +5,7 @@ use Rattle.pg_cells.specs.Inside.Members.{IsNextSign}
 use Rattle.pg_cells.proofs.LinkLaws.{goes_cell}
 use Rattle.pg_count.specs.Inside.Counting.{numbers_in}
 use Rattle.pg_count.specs.Inside.Under.{is_passed, numbers_where, numbers_under}
-use Rattle.pg_count.proofs.Walking.{open_base, some_more, short_more, passed_first, passed_next, passed_end}
+use Rattle.pg_count.proofs.Walking.{childless_last, open_base, some_more, short_more, passed_first, passed_next, passed_end}
 use Rattle.pg_count.proofs.walk.+walk.Goals as goal
 
 pub walk-loop-s-init : goal.walk-loop-s-init
@@ -36,7 +36,7 @@ walk-walk_at-requires t c =
         (
           (
             p ++ c.loop-s.s ∷ [],
-            (sym (c.in-Some.ensures.cell p c.requires.base.1.0), short_more c.args.cells.now p c.loop-s.s c.args.more some c.requires.base.1.2),
+            (sym (c.in-Some.ensures p c.requires.base.1.0), short_more c.args.cells.now p c.loop-s.s c.args.more some c.requires.base.1.2),
           ),
           c.requires.last,
         ),
@@ -44,17 +44,17 @@ walk-walk_at-requires t c =
     )
 
 pub walk-next_sign-s-requires : goal.walk-next_sign-s-requires
-walk-next_sign-s-requires t c = (c.requires.base.0 ++ c.loop-s.s ∷ [], sym (c.in-Some.ensures.cell c.requires.base.0 c.requires.base.1.0))
+walk-next_sign-s-requires t c = (c.requires.base.0 ++ c.loop-s.s ∷ [], sym (c.in-Some.ensures c.requires.base.0 c.requires.base.1.0))
 
 pub walk-loop-s-preserved : goal.walk-loop-s-preserved
 walk-loop-s-preserved t c =
-    let next = λ (p : List ℕ) (at : base_of c.args.cells.now.families p ≡ Some c.args.base). c.next_sign-s.ensures p c.loop-s.s (sym (c.in-Some.ensures.cell p at)) in
+    let next = λ (p : List ℕ) (at : base_of c.args.cells.now.families p ≡ Some c.args.base). c.next_sign-s.ensures p c.loop-s.s (sym (c.in-Some.ensures p at)) in
     let other : c.loop-s.s ≢ 0 = omega arith in
     record {
       small = c.next_sign-s.type_inv;
       there = λ p at up. ((next p at).found up).1;
       passed = λ p at.
-          c.in_ok-walk_at.ensures (p ++ c.loop-s.s ∷ []) (sym (c.in-Some.ensures.cell p at))
+          c.in_ok-walk_at.ensures (p ++ c.loop-s.s ∷ []) (sym (c.in-Some.ensures p at))
           ∙ ap (λ l. l ++ numbers_under (p ++ c.loop-s.s ∷ []) c.args.cells.now.values) (c.loop-s.invariant.passed p at)
           ∙ append_assoc c.args.out.now.items (numbers_where (is_passed p c.loop-s.s) (numbers_in c.args.cells.now.values)) (numbers_under (p ++ c.loop-s.s ∷ []) c.args.cells.now.values)
           ∙ ap (λ l. c.args.out.now.items ++ l) (sym (passed_next c.args.cells.now c.requires.held p (open_base c.args.cells.now c.requires.held c.requires.last p c.args.base at) c.loop-s.s c.next_sign-s.result other (next p at)));
@@ -66,4 +66,4 @@ walk-returns t c = λ p at.
     c.loop-s.invariant.passed p at ∙ ap (λ l. c.args.out.now.items ++ l) (passed_end c.args.cells.now c.requires.held p (open_base c.args.cells.now c.requires.held c.requires.last p c.args.base at) c.loop-s.s end)
 
 pub walk_at-returns-then-below-eq0 : goal.walk_at-returns-then-below-eq0
-walk_at-returns-then-below-eq0 t c = λ q at. c.last_at.ensures q at (c.child-below.ensures.none q at c.if-below-eq0.true)
+walk_at-returns-then-below-eq0 t c = λ q at. c.last_at.ensures q at (childless_last c.args.cells.now c.requires.held q c.child-below.result (c.child-below.ensures q at) c.if-below-eq0.true)
