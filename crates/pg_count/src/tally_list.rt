@@ -38,7 +38,10 @@ pub fn tally_by_number(
         return None;
     }
     let number = in_cell - first;
-    tallies.get(number as usize).map(|sums| (number, *sums))
+    match tallies.get(number as usize) {
+        Some(sums) => Some((number, *sums)),
+        None => None,
+    }
 }
 
 /// The sums of the tally with the number.

@@ -4,8 +4,8 @@ use Rattle.pg_cells.specs.Inside.Members.{IsNextSign}
 use Rattle.pg_cells.proofs.LinkLaws.{goes_cell}
 use Rattle.pg_count.specs.Inside.Least.{IsToldBy}
 use Rattle.pg_count.specs.Inside.Leaves.{AreShort}
-use Rattle.pg_count.proofs.Searching.{none_from, none_next, told_more, up_none, up_found}
-use Rattle.pg_count.proofs.Walking.{childless_last, some_more, short_more}
+use Rattle.pg_count.proofs.Searching.{first_some, none_from, none_next, told_more, up_none, up_found}
+use Rattle.pg_count.proofs.Walking.{childless_last, family_below, sign_falls, some_more, short_more}
 use Rattle.pg_count.proofs.least.+least.Goals as goal
 
 pub least-loop-s-init : goal.least-loop-s-init
@@ -81,3 +81,34 @@ least-returns t c p at =
 
 pub least_at-returns-then-below-eq0 : goal.least_at-returns-then-below-eq0
 least_at-returns-then-below-eq0 t c q at = c.leaf_above.ensures q at (childless_last c.args.cells.now c.requires.leaves.1.held q c.child-below.result (c.child-below.ensures q at) c.if-below-eq0.true)
+
+pub least-sign_from-s-requires : goal.least-sign_from-s-requires
+least-sign_from-s-requires t c = record {
+  held = c.requires.leaves.1.held;
+  base = (c.requires.base.0, (c.requires.base.1.0, c.requires.base.1.1));
+  from = omega (arith, c.first_of.ensures, first_some c.args.bound.now);
+}
+
+pub least-loop-s-smaller : goal.least-loop-s-smaller
+least-loop-s-smaller t c =
+    let next = c.next_sign-s.ensures c.requires.base.0 c.loop-s.s (sym (c.in_ok-cell.ensures c.requires.base.0 c.requires.base.1.0)) in
+    sign_falls c.loop-s.s c.next_sign-s.result (omega (arith, c.loop-s-test.true)) c.loop-s.invariant.small (λ up. (next.found up).0)
+
+pub least_at-child-below-requires : goal.least_at-child-below-requires
+least_at-child-below-requires t c = (c.requires.cell.0, c.requires.cell.1.0)
+
+pub least_at-leaf_above-requires : goal.least_at-leaf_above-requires
+least_at-leaf_above-requires t c = record { leaves = c.requires.leaves; cell = (c.requires.cell.0, c.requires.cell.1.0) }
+
+pub least_at-first_sign-first-requires : goal.least_at-first_sign-first-requires
+least_at-first_sign-first-requires t c = (c.requires.cell.0, c.requires.cell.1.0)
+
+pub least_at-least-requires : goal.least_at-least-requires
+least_at-least-requires t c =
+    let q = c.requires.cell.0 in
+    let at = c.requires.cell.1.0 in
+    let below = family_below c.args.cells.now q c.child-below.result (c.child-below.ensures q at) c.if-below-eq0.false in
+    (omega arith, (c.requires.leaves, (q, (below, c.first_sign-first.ensures q at, c.requires.cell.1.1, c.requires.cell.1.2))))
+
+pub least_at-returns : goal.least_at-returns
+least_at-returns t c q at = c.least.ensures q (family_below c.args.cells.now q c.child-below.result (c.child-below.ensures q at) c.if-below-eq0.false)

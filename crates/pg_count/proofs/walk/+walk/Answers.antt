@@ -1,11 +1,12 @@
-use Rattle.std.proofs.Common.{◌≡◌, ◌≢◌, ℕ, List, [], ◌∷◌, ◌++◌, Some, ap, sym, subst, ◌∙◌, arith, length-append}
+use Rattle.std.proofs.lemmas.Result.{err_from_is_err_and}
+use Rattle.std.proofs.Common.{◌≡◌, ◌≢◌, ℕ, List, [], ◌∷◌, ◌++◌, Some, ap, sym, subst, ◌∙◌, arith, length-append, None}
 use Rattle.std.proofs.lemmas.List.{append_assoc, append-nil}
 use Rattle.pg_types.specs.Placement.{base_of}
 use Rattle.pg_cells.specs.Inside.Members.{IsNextSign}
 use Rattle.pg_cells.proofs.LinkLaws.{goes_cell}
 use Rattle.pg_count.specs.Inside.Counting.{numbers_in}
 use Rattle.pg_count.specs.Inside.Under.{is_passed, numbers_where, numbers_under}
-use Rattle.pg_count.proofs.Walking.{childless_last, open_base, some_more, short_more, passed_first, passed_next, passed_end}
+use Rattle.pg_count.proofs.Walking.{childless_last, family_below, sign_falls, open_base, some_more, short_more, passed_first, passed_next, passed_end}
 use Rattle.pg_count.proofs.walk.+walk.Goals as goal
 
 pub walk-loop-s-init : goal.walk-loop-s-init
@@ -67,3 +68,35 @@ walk-returns t c = λ p at.
 
 pub walk_at-returns-then-below-eq0 : goal.walk_at-returns-then-below-eq0
 walk_at-returns-then-below-eq0 t c = λ q at. c.last_at.ensures q at (childless_last c.args.cells.now c.requires.held q c.child-below.result (c.child-below.ensures q at) c.if-below-eq0.true)
+
+pub walk-loop-s-smaller : goal.walk-loop-s-smaller
+walk-loop-s-smaller t c =
+    let next = c.next_sign-s.ensures c.requires.base.0 c.loop-s.s (sym (c.in-Some.ensures c.requires.base.0 c.requires.base.1.0)) in
+    sign_falls c.loop-s.s c.next_sign-s.result (omega arith) c.loop-s.invariant.small (λ up. (next.found up).0)
+
+pub walk-returns-in_default : goal.walk-returns-in_default
+walk-returns-in_default t c p at =
+    let cell = goes_cell c.args.cells.now c.requires.held p c.loop-s.s (c.loop-s.invariant.there p at (omega arith)) in
+    absurd (let wrong : None ≡ Some cell.0 = c.in_default.ensures p at ∙ cell.1 in cc)
+
+pub walk-returns-in_err-walk_at : goal.walk-returns-in_err-walk_at
+walk-returns-in_err-walk_at t c p at = let err = err_from_is_err_and c.from_residual.result c.from_residual.ensures.1 in rw err.1 tt
+
+pub walk_at-child-below-requires : goal.walk_at-child-below-requires
+walk_at-child-below-requires t c = (c.requires.cell.0, c.requires.cell.1.0)
+
+pub walk_at-last_at-requires : goal.walk_at-last_at-requires
+walk_at-last_at-requires t c = record { cell = (c.requires.cell.0, c.requires.cell.1.0); held = c.requires.held }
+
+pub walk_at-first_sign-requires : goal.walk_at-first_sign-requires
+walk_at-first_sign-requires t c = (c.requires.cell.0, c.requires.cell.1.0)
+
+pub walk_at-walk-requires : goal.walk_at-walk-requires
+walk_at-walk-requires t c =
+    let q = c.requires.cell.0 in
+    let at = c.requires.cell.1.0 in
+    let below = family_below c.args.cells.now q c.child-below.result (c.child-below.ensures q at) c.if-below-eq0.false in
+    (omega arith, (c.requires.held, ((q, (below, c.first_sign.ensures q at, c.requires.cell.1.1)), c.requires.last)))
+
+pub walk_at-returns : goal.walk_at-returns
+walk_at-returns t c q at = c.walk.ensures q (family_below c.args.cells.now q c.child-below.result (c.child-below.ensures q at) c.if-below-eq0.false)

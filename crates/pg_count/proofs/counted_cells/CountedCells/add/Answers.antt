@@ -1,4 +1,5 @@
-use Rattle.std.proofs.Common.{◌≡◌, ℕ, [], ◌∷◌, ◌++◌, Option, Some, None, ap, sym, subst}
+use Rattle.std.proofs.lemmas.Result.{err_from_is_err_and}
+use Rattle.std.proofs.Common.{◌≡◌, ℕ, [], ◌∷◌, ◌++◌, Option, Some, None, ap, sym, subst, lit<, ◌≤◌, ◌∙◌}
 use Rattle.pg_types.specs.Placement.{cell_of}
 use Rattle.pg_cells.specs.Inside.ValuedFamilies.{ValuedFamilies}
 use Rattle.pg_count.specs.Inside.Counting.{Tally}
@@ -30,3 +31,25 @@ returns-clause-held c q e =
     subst (λ (h : ValuedFamilies (Option Tally)). Adds h (tallied_families c.add.new.self c.self.inside.first c.self.inside.tallies.items) q c.args.s) c.self.view_is
     (added_tallied c.self.inside.cells c.add.new.self c.self.inside.first c.self.inside.tallies.items c.self.invariant q c.args.s (ap (λ (h : ValuedFamilies ℕ). h.signs) is) (ap (λ (h : ValuedFamilies ℕ). h.values) is) c.in_ok-cell.ensures.kept
     (no_value c.self.inside.cells c.self.invariant.held (q ++ c.args.s ∷ []) (subst (λ p. cell_of c.self.inside.cells.families (p ++ c.args.s ∷ []) ≡ None) same none)))
+
+pub add-requires : goal.add-requires
+add-requires c =
+    let q = c.requires.parent.0 in
+    let at = subst (λ (h : ValuedFamilies (Option Tally)). cell_of h.families q ≡ Some c.args.parent) (sym c.self.view_is) c.requires.parent.1.0 in
+    let none = subst (λ (h : ValuedFamilies (Option Tally)). cell_of h.families (q ++ c.args.s ∷ []) ≡ None) (sym c.self.view_is) c.requires.parent.1.1 in
+    (lit< tt, ((q, (at, none)), subst (λ (h : ValuedFamilies (Option Tally)). (1 ≤ c.args.s) × (c.args.s ≤ h.signs)) (sym c.self.view_is) c.requires.sign))
+
+pub returns-in_err-cell : goal.returns-in_err-cell
+returns-in_err-cell c =
+    let err = err_from_is_err_and c.from_residual.result c.from_residual.ensures.1 in
+    record {
+      held = λ q e. rw err.1 tt;
+      cell = λ q e. rw err.1 tt;
+      err = rw err.1 (ap (λ h. tallied_families h c.self.inside.first c.self.inside.tallies.items) c.in_err-cell.ensures.err ∙ c.self.view_is);
+    }
+
+pub returns-clause-cell : goal.returns-clause-cell
+returns-clause-cell c q e = c.in_ok-cell.ensures.cell q (subst (λ (h : ValuedFamilies (Option Tally)). cell_of h.families q ≡ Some c.args.parent) (sym c.self.view_is) e)
+
+pub returns-clause-err : goal.returns-clause-err
+returns-clause-err c = tt

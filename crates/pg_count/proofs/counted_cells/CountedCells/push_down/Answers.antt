@@ -1,11 +1,12 @@
-use Rattle.std.proofs.Common.{◌≡◌, ℕ, [], ◌∷◌, ◌++◌, Option, Some, None, ap, sym, subst, ◌∙◌}
+use Rattle.std.proofs.lemmas.Result.{err_from_is_err_and}
+use Rattle.std.proofs.Common.{◌≡◌, ℕ, [], ◌∷◌, ◌++◌, Option, Some, None, ap, sym, subst, ◌∙◌, lit<, ◌≤◌}
 use Rattle.std.specs.FinMap.{find}
 use Rattle.pg_types.specs.Placement.{cell_of}
 use Rattle.pg_cells.specs.Inside.ValuedFamilies.{ValuedFamilies}
 use Rattle.pg_cells.proofs.StringMaps.{order}
 use Rattle.pg_count.specs.Inside.Counting.{Tally}
 use Rattle.pg_count.specs.Inside.Leaves.{PushesDown}
-use Rattle.pg_count.specs.Inside.CellNumbers.{tallied_families}
+use Rattle.pg_count.specs.Inside.CellNumbers.{tallied_families, AreCellNumbers}
 use Rattle.pg_count.proofs.Mapped.{no_value}
 use Rattle.pg_cells.proofs.PlacedFamily.{not_longer}
 use Rattle.pg_count.proofs.Numbering.{pushed_tallied, pushed_are}
@@ -49,3 +50,37 @@ returns-clause-there c q e =
     let at = subst (λ (h : ValuedFamilies (Option Tally)). cell_of h.families q ≡ Some c.args.cell) (sym c.self.view_is) e in
     let stays = c.in_ok-below.ensures.cells q at q (λ x e. not_longer q x (sym e)) ∙ at in
     ap (λ (h : ValuedFamilies ℕ). cell_of h.families q) (c.set_value.ensures.held q stays) ∙ stays
+
+pub value-number-requires : goal.value-number-requires
+value-number-requires c =
+    let q = c.requires.cell.0 in
+    (lit< tt, (q, subst (λ (h : ValuedFamilies (Option Tally)). cell_of h.families q ≡ Some c.args.cell) (sym c.self.view_is) c.requires.cell.2.0))
+
+pub add-requires : goal.add-requires
+add-requires c =
+    let q = c.requires.cell.0 in
+    let at = subst (λ (h : ValuedFamilies (Option Tally)). cell_of h.families q ≡ Some c.args.cell) (sym c.self.view_is) c.requires.cell.2.0 in
+    let none = subst (λ (h : ValuedFamilies (Option Tally)). cell_of h.families (q ++ c.args.s ∷ []) ≡ None) (sym c.self.view_is) c.requires.cell.2.2 in
+    (lit< tt, ((q, (at, none)), subst (λ (h : ValuedFamilies (Option Tally)). (1 ≤ c.args.s) × (c.args.s ≤ h.signs)) (sym c.self.view_is) c.requires.sign))
+
+pub set_value-requires : goal.set_value-requires
+set_value-requires c =
+    let q = c.requires.cell.0 in
+    let at = subst (λ (h : ValuedFamilies (Option Tally)). cell_of h.families q ≡ Some c.args.cell) (sym c.self.view_is) c.requires.cell.2.0 in
+    (lit< tt, (q, c.in_ok-below.ensures.cells q at q (λ x e. not_longer q x (sym e)) ∙ at))
+
+pub invariant_of-self : goal.invariant_of-self
+invariant_of-self c = subst (λ h. AreCellNumbers h c.self.inside.first c.self.inside.tallies.items) (sym c.in_err-below.ensures.err) c.self.invariant
+
+pub returns-in_err-below : goal.returns-in_err-below
+returns-in_err-below c =
+    let err = err_from_is_err_and c.from_residual.result c.from_residual.ensures.1 in
+    record {
+      held = λ q t e f. rw err.1 tt;
+      cell = λ q e. rw err.1 tt;
+      there = λ q e. rw err.1 tt;
+      err = rw err.1 (ap (λ h. tallied_families h c.self.inside.first c.self.inside.tallies.items) c.in_err-below.ensures.err ∙ c.self.view_is);
+    }
+
+pub returns-clause-err : goal.returns-clause-err
+returns-clause-err c = tt
