@@ -90,9 +90,8 @@ impl CountedCells {
             → AreShort self.new.values k }
     {
         let next = self.first + self.tallies.len() as u32;
-        let keeps = alike
-            && next <= LATEST_FIRST
-            && (self.has_none() || self.cells.taken() <= CELLS_PER_TALLY * self.tallies.len());
+        let many = self.has_none() || self.cells.taken() <= CELLS_PER_TALLY * self.tallies.len();
+        let keeps = alike & many & (next <= LATEST_FIRST);
         self.first = first_after(&mut self.cells, next, keeps);
         self.tallies.clear();
     }

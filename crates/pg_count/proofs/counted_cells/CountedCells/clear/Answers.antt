@@ -1,11 +1,11 @@
-use Rattle.std.proofs.Common.{◌≡◌, inl, inr, true, Option, ap, sym, subst, arith, ◌∙◌}
+use Rattle.std.proofs.Common.{◌≡◌, ◌&&◌, inl, inr, true, Option, ap, sym, subst, arith, ◌∙◌}
+use Rattle.pg_types.proofs.BoolFacts.{and_first}
 use Rattle.pg_count.specs.Inside.Leaves.{AreShort}
 use Rattle.pg_count.specs.Inside.CellNumbers.{tally_by_number}
 use Rattle.pg_count.proofs.Mapped.{found_mapped, unmapped}
 use Rattle.pg_count.specs.Inside.Counting.{Tally}
 use Rattle.pg_cells.specs.Inside.ValuedFamilies.{ValuedFamilies}
 use Rattle.pg_count.proofs.Numbering.{held_tallied, cleared_kept, none_counted}
-use Rattle.pg_count.proofs.counted_cells.CountedCells.clear.Goals.{then-alike, else-alike, then-next-le-LATEST_FIRST+then-has_none, then-next-le-LATEST_FIRST+else-has_none, else-next-le-LATEST_FIRST}
 use Rattle.pg_count.proofs.counted_cells.CountedCells.clear.Goals as goal
 
 pub invariant_of-self : goal.invariant_of-self
@@ -23,18 +23,11 @@ returns-clause-kept c = held_tallied c.first_after-self-inside.new.cells c.first
 pub returns-clause-short : goal.returns-clause-short
 returns-clause-short c k some short q o at =
     let first = c.first_after-self-inside.result in
-    let alike : c.if-next-le-LATEST_FIRST.keeps ≡ true → c.args.alike ≡ true = λ keeps. elim c.if-alike.branch [
-      | then-alike w ↦ w.if-alike.true
-      | else-alike w ↦ elim c.if-next-le-LATEST_FIRST.branch [
-        | then-next-le-LATEST_FIRST+then-has_none v ↦ absurd (let a = w.t-10-is in let b = v.if-next-le-LATEST_FIRST.true in cc)
-        | then-next-le-LATEST_FIRST+else-has_none v ↦ absurd (let a = w.t-10-is in let b = v.if-next-le-LATEST_FIRST.true in cc)
-        | else-next-le-LATEST_FIRST v ↦ absurd (let a = v.keeps-is in cc)
-      ]
-    ] in
     let x = unmapped (tally_by_number first c.clear.new.self.items) q o c.first_after-self-inside.new.cells.values at in
     elim (c.first_after-self-inside.ensures.strings q x.0 x.1) [
       | inl one ↦ omega (arith, one)
       | inr was ↦ (
-          let old = subst (λ (h : ValuedFamilies (Option Tally)). AreShort h.values k) (sym c.self.view_is) (short (alike was.0)) in
+          let alike : c.args.alike ≡ true = and_first c.args.alike c.if-has_none.many (and_first (c.args.alike && c.if-has_none.many) _ was.0) in
+          let old = subst (λ (h : ValuedFamilies (Option Tally)). AreShort h.values k) (sym c.self.view_is) (short alike) in
           old q (tally_by_number c.self.inside.first c.self.inside.tallies.items x.0) (found_mapped (tally_by_number c.self.inside.first c.self.inside.tallies.items) q x.0 c.self.inside.cells.values was.1))
     ]
