@@ -1,9 +1,8 @@
-use Rattle.std.proofs.Common.{◌≡◌, ℕ, ◌+◌, ◌-◌, inl, inr, List, [], ◌∷◌, ◌++◌, Some, None, length, sym, subst, ◌∙◌, arith, length-append}
+use Rattle.std.proofs.Common.{◌≡◌, ℕ, ◌+◌, ◌-◌, inl, inr, List, [], ◌∷◌, ◌++◌, Some, None, sym, subst, ◌∙◌, arith}
 use Rattle.pg_types.specs.Placement.{base_of, cell_of}
 use Rattle.pg_cells.specs.Inside.Members.{IsNextSign}
 use Rattle.pg_cells.proofs.LinkLaws.{goes_cell}
 use Rattle.pg_count.specs.Inside.Least.{IsToldBy}
-use Rattle.pg_count.specs.Inside.Leaves.{AreShort}
 use Rattle.pg_count.proofs.Searching.{first_some, none_from, none_next, told_more, up_none, up_found}
 use Rattle.pg_count.proofs.Walking.{childless_last, family_below, sign_falls, some_more, short_more}
 use Rattle.pg_count.proofs.least.+least.Goals as goal

@@ -1,5 +1,5 @@
 use Rattle.std.proofs.lemmas.Result.{err_from_is_err_and}
-use Rattle.std.proofs.Common.{◌≡◌, ◌≢◌, ℕ, List, [], ◌∷◌, ◌++◌, Some, ap, sym, subst, ◌∙◌, arith, length-append, None}
+use Rattle.std.proofs.Common.{◌≡◌, ◌≢◌, ℕ, List, [], ◌∷◌, ◌++◌, Some, ap, sym, subst, ◌∙◌, arith, None}
 use Rattle.std.proofs.lemmas.List.{append_assoc, append-nil}
 use Rattle.pg_types.specs.Placement.{base_of}
 use Rattle.pg_cells.specs.Inside.Members.{IsNextSign}
