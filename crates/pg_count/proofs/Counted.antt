@@ -6,7 +6,7 @@ use Rattle.std.specs.Cmp.Lexicographic.{nat_list_cmp_total}
 use Rattle.std.specs.FinMap.Entries.{find, put, is_sorted, below_all, length-put}
 use Rattle.pg_types.proofs.StringEntries.{put_from}
 use Rattle.pg_cells.proofs.StringMaps.{order, same_string, equal_or_not, same_maps, find_put_same, find_put_other, find_without_same, find_without_other, sorted_put, sorted_without, without_key, find_below, head_below, tail_sorted}
-use Rattle.pg_count.specs.Inside.Counting.{Tally, Tallies, tally_in, seen_in}
+use Rattle.pg_count.specs.Inside.Counting.{Tally, Tallies, tally_of_string, seen_in}
 use Rattle.pg_types.proofs.BoolFacts.{both_halves, first_half, second_half}
 
 module _ {Y : Type 0} (see : Tally → Y) where
@@ -28,7 +28,7 @@ module _ {Y : Type 0} (see : Tally → Y) where
         | Some t ↦ both_halves (below_all order e.0 (seen_in see es)) (is_sorted order (seen_in see es)) (below_seen e.0 es (head_below e es h)) rest
       ]
 
-  pub find_seen : (ts : Tallies) → T (is_sorted order ts) → (q : List ℕ) → find order q (seen_in see ts) ≡ option_map see (tally_in ts q)
+  pub find_seen : (ts : Tallies) → T (is_sorted order ts) → (q : List ℕ) → find order q (seen_in see ts) ≡ option_map see (tally_of_string ts q)
   find_seen [] h q = refl
   find_seen (e ∷ es) h q =
       let rest = find_seen es (tail_sorted e es h) q in
@@ -58,7 +58,7 @@ module _ {Y : Type 0} (see : Tally → Y) where
       same_maps (seen_in see after) (put order u (see t) (seen_in see ts)) (sorted_seen after sorted) (sorted_put u (see t) (seen_in see ts) (sorted_seen ts h)) (λ q.
       find_seen after sorted q ∙ elim (equal_or_not q u) [
         | inl same ↦
-            ap (λ x. option_map see (tally_in after x)) same.0 ∙ ap (λ o. option_map see (unwrap_or o None)) (find_put_same u (Some t) ts)
+            ap (λ x. option_map see (tally_of_string after x)) same.0 ∙ ap (λ o. option_map see (unwrap_or o None)) (find_put_same u (Some t) ts)
             ∙ sym (find_put_same u (see t) (seen_in see ts)) ∙ sym (ap (λ x. find order x (put order u (see t) (seen_in see ts))) same.0)
         | inr other ↦
             ap (λ o. option_map see (unwrap_or o None)) (find_put_other q u (Some t) ts other.0)
@@ -83,10 +83,10 @@ module _ {Y : Type 0} (see : Tally → Y) where
       same_maps (seen_in see (put order q None ts)) (seen_in see ts) (sorted_seen (put order q None ts) sorted) (sorted_seen ts h) (λ p.
       find_seen (put order q None ts) sorted p ∙ ap (option_map see) (by p (equal_or_not p q)) ∙ sym (find_seen ts h p))
     where
-      by : (p : List ℕ) → ((p ≡ q) × (same_string p q ≡ true)) ⊎ ((p ≢ q) × (same_string p q ≡ false)) → tally_in (put order q None ts) p ≡ tally_in ts p
+      by : (p : List ℕ) → ((p ≡ q) × (same_string p q ≡ true)) ⊎ ((p ≢ q) × (same_string p q ≡ false)) → tally_of_string (put order q None ts) p ≡ tally_of_string ts p
       by p (inl same) =
-          ap (λ r. tally_in (put order q None ts) r) same.0 ∙ ap (λ o. unwrap_or o None) (find_put_same q None ts)
-          ∙ sym (ap (λ r. tally_in ts r) same.0 ∙ ap (λ o. unwrap_or o None) none)
+          ap (λ r. tally_of_string (put order q None ts) r) same.0 ∙ ap (λ o. unwrap_or o None) (find_put_same q None ts)
+          ∙ sym (ap (λ r. tally_of_string ts r) same.0 ∙ ap (λ o. unwrap_or o None) none)
       by p (inr other) = ap (λ o. unwrap_or o None) (find_put_other p q None ts other.0)
 
   -- where a tally goes over to a new string, there are as many
@@ -108,9 +108,9 @@ module _ {Y : Type 0} (see : Tally → Y) where
       ∙ sym (ap length was ∙ length-put order nat_list_cmp_total q (see t) rest sorted_rest ∙ ap (λ o. cond (is_some o) (length rest) (length rest + 1)) (find_without_same q old))
     where
       by : (r : List ℕ) → r ≢ p → ((r ≡ q) × (same_string r q ≡ true)) ⊎ ((r ≢ q) × (same_string r q ≡ false))
-          → option_map see (tally_in (put order q None (put order p (Some t) ts)) r) ≡ find order r (without_key q (seen_in see ts))
+          → option_map see (tally_of_string (put order q None (put order p (Some t) ts)) r) ≡ find order r (without_key q (seen_in see ts))
       by r n (inl same) =
-          ap (λ x. option_map see (tally_in (put order q None (put order p (Some t) ts)) x)) same.0 ∙ ap (λ o. option_map see (unwrap_or o None)) (find_put_same q None (put order p (Some t) ts))
+          ap (λ x. option_map see (tally_of_string (put order q None (put order p (Some t) ts)) x)) same.0 ∙ ap (λ o. option_map see (unwrap_or o None)) (find_put_same q None (put order p (Some t) ts))
           ∙ sym (ap (λ x. find order x (without_key q (seen_in see ts))) same.0 ∙ find_without_same q (seen_in see ts))
       by r n (inr other) =
           ap (λ o. option_map see (unwrap_or o None)) (find_put_other r q None (put order p (Some t) ts) other.0 ∙ find_put_other r p (Some t) ts n)

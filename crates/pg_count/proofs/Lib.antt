@@ -11,7 +11,7 @@ pub mod Mapped
 pub mod Nexting
 pub mod Parting
 pub mod Searching
-pub mod Telling
+pub mod Numbering
 pub mod Walking
 pub mod Ways
 pub mod Wholes

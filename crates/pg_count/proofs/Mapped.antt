@@ -6,6 +6,7 @@ use Rattle.pg_types.specs.Placement.{cell_of}
 use Rattle.pg_cells.specs.Inside.ValuedFamilies.{ValuedFamilies}
 use Rattle.pg_cells.specs.Inside.AreValuedFamilies.{AreValuedFamilies}
 use Rattle.pg_cells.specs.Inside.Members.{goes_on}
+use Rattle.pg_cells.specs.Inside.Walks.{EndsBefore}
 use Rattle.pg_types.proofs.StringEntries.{find_mapped}
 pub use Rattle.pg_types.proofs.StringEntries.{mapped, found_mapped, none_mapped, sorted_mapped, unmapped, put_from}
 use Rattle.pg_cells.proofs.StringMaps.{order, equal_or_not}
@@ -47,6 +48,10 @@ no_value {X} h is q none = by (find order q h.values) refl
     by : (o : Option X) → find order q h.values ≡ o → find order q h.values ≡ None
     by None e = e
     by (Some x) e = absurd (let cell = is.celled q x e in let wrong : None ≡ Some cell.0 = sym none ∙ cell.1 in cc)
+
+-- then no string that begins with it has one
+pub ends_after : {X : Type 0} (h : ValuedFamilies X) → AreValuedFamilies h → (q : List ℕ) (s : ℕ) → cell_of h.families (q ++ s ∷ []) ≡ None → EndsBefore h.values (q ++ s ∷ [])
+ends_after h is q s none more = no_value h is ((q ++ s ∷ []) ++ more) (is.closed q s more none)
 
 -- what is found in a root has the root's value
 pub root_blank : {X : Type 0} (q : List ℕ) (m x : X) (xs : List ℕ) → find order q (map (λ s. (s ∷ [], m)) xs) ≡ Some x → x ≡ m

@@ -1,5 +1,5 @@
 -- A tally is pushed down where another window goes on by another sign.
-use Rattle.std.proofs.Common.{◌≡◌, ◌≢◌, ℕ, ◌+◌, ◌<◌, ◌≤◌, inl, inr, true, nat_le, List, [], ◌∷◌, ◌++◌, length, take, drop, get_or, Option, None, Some, suc, zero, refl, sym, ◌∙◌, ap, subst, arith}
+use Rattle.std.proofs.Common.{◌≡◌, ◌≢◌, ℕ, ◌+◌, ◌<◌, ◌≤◌, inl, inr, true, nat_le, List, [], ◌∷◌, ◌++◌, length, take, drop, get_or, Option, None, Some, suc, zero, refl, sym, ◌∙◌, ap, subst, arith, length-append}
 use Rattle.std.proofs.lemmas.Bool.{and_from, cases_lt, le-leb}
 use Rattle.std.proofs.lemmas.List.Elements.{All-head, All-tail}
 use Rattle.std.proofs.lemmas.List.{append_cancel_left, take-append-drop, take_all, take_at, take_more, take_more_same, drop_more, length-take-le}
@@ -8,7 +8,7 @@ use Rattle.std.specs.List.{list_all}
 use Rattle.pg_types.specs.Inside.Signs.{is_sign}
 use Rattle.pg_types.specs.Inside.Counts.{SignsWithin}
 use Rattle.pg_types.specs.Inside.NumberedWindows.{Windows, HasNumber}
-use Rattle.pg_types.specs.Placement.{cell_of}
+use Rattle.pg_types.specs.Placement.{base_of, cell_of}
 use Rattle.pg_types.proofs.StringEntries.{order, find_put_same, find_put_other}
 use Rattle.pg_cells.specs.Inside.ValuedFamilies.{ValuedFamilies}
 use Rattle.pg_cells.specs.Inside.AreValuedFamilies.{AreValuedFamilies}
@@ -16,7 +16,6 @@ use Rattle.pg_cells.specs.Inside.Walks.{EndsBefore}
 use Rattle.pg_count.specs.Inside.Counting.{Tally, numbers_in}
 use Rattle.pg_count.specs.Inside.Leaves.{Adds, AreLeaves, IsFree, IsLast, IsWay, Keeps, PushesDown, Sets}
 use Rattle.pg_count.proofs.Leaves.{longer, more_leaves, more_sets, one_more, pushed_leaves, pushed_keeps, pushed_blank, pushed_there, pushed_other}
-use Rattle.pg_count.proofs.Walking.{short_last}
 use Rattle.pg_count.proofs.Ways.{ends_none}
 
 -- each sign of a string whose signs are within bounds
@@ -124,10 +123,15 @@ module _ (h g : ValuedFamilies (Option Tally)) (u : List ℕ) (at cell below : �
 pub way_free : (h : ValuedFamilies (Option Tally)) (u : List ℕ) (at cell : ℕ) → IsWay h u at cell → find order (take at u) h.values ≡ Some None → IsLast h.values (take at u) → IsFree h u cell
 way_free h u at cell way blank last = record { string = take at u; rest = drop at u; whole = sym (take-append-drop at u); there = way.there; uncounted = blank; last = last }
 
--- a whole window has none below it
-pub whole_last : (h : ValuedFamilies (Option Tally)) (windows : Windows) (u : List ℕ) (at : ℕ) → AreLeaves h windows (length u) → at ≡ length u → IsLast h.values (take at u)
-whole_last h windows u at are whole =
-    short_last h (take at u) (λ q o there. (let l = are.short q o there in let k = length-take-le at u (omega arith) in omega arith))
+-- where there is a family below the end of a way, the window goes on
+pub way_goes_on : (h : ValuedFamilies (Option Tally)) (windows : Windows) (u : List ℕ) (at cell base : ℕ) → AreLeaves h windows (length u) → IsWay h u at cell → base_of h.families (take at u) ≡ Some base → at < length u
+way_goes_on h windows u at cell base are way below =
+    let next = are.held.filled (take at u) base below in
+    let value = are.held.valued (take at u ++ next.0 ∷ []) next.1 next.2 in
+    let short = are.short (take at u ++ next.0 ∷ []) value.0 value.1 in
+    let size = length-append (take at u) (next.0 ∷ []) in
+    let front = length-take-le at u way.within in
+    omega arith
 
 pub signs_told : (n : ℕ) (u : List ℕ) → SignsWithin n u → list_all is_sign u ≡ true
 signs_told n [] h = refl

@@ -1,5 +1,5 @@
 -- Steps of the search for the least window above another.
-use Rattle.std.proofs.Common.{◌≡◌, ℕ, ◌-◌, ◌<◌, ◌≤◌, ◌⊎◌, inl, inr, true, false, List, [], ◌∷◌, ◌++◌, length, Option, None, Some, is_some, refl, sym, ◌∙◌, ap, subst, arith, length-append}
+use Rattle.std.proofs.Common.{◌≡◌, ℕ, ◌-◌, ◌<◌, ◌≤◌, ◌⊎◌, inl, inr, true, false, List, [], ◌∷◌, ◌++◌, length, Option, None, Some, is_some, refl, sym, ◌∙◌, ap, subst, arith, length-append, lit≤}
 use Rattle.std.proofs.lemmas.Bool.{cases_Bool, cases_eq, cases_lt}
 use Rattle.std.proofs.lemmas.List.{append_assoc}
 use Rattle.std.proofs.lemmas.List.Elements.{All-head, All-tail}
@@ -226,3 +226,8 @@ module _ (h : ValuedFamilies (Option Tally)) (windows : Windows) (len : ℕ) (ar
         late : (0 < y) × (y ≤ x) → (y ≡ 0) ⊎ (x < y) → ⊥
         late l (inl z) = let up = l.0 in omega arith
         late l (inr lt) = let le = l.1 in omega arith
+
+-- the least sign with which a string above a bound may begin is a sign
+pub first_some : (bound : List ℕ) → 1 ≤ first_sign bound
+first_some [] = lit≤ tt
+first_some (s ∷ q) = omega arith

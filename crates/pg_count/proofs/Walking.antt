@@ -1,5 +1,5 @@
 -- What a walk along the signs of a family has behind it.
-use Rattle.std.proofs.Common.{◌≡◌, ◌≢◌, ℕ, ◌+◌, ◌<◌, ◌≤◌, inl, inr, Bool, true, false, cond, ◌&&◌, ◌||◌, nat_eq, nat_lt, T, List, [], ◌∷◌, ◌++◌, map, length, Option, None, Some, refl, sym, ◌∙◌, ap, arith, length-append}
+use Rattle.std.proofs.Common.{◌≡◌, ◌≢◌, ℕ, ◌+◌, ◌-◌, ◌<◌, ◌≤◌, inl, inr, Bool, true, false, cond, ◌&&◌, ◌||◌, nat_eq, nat_lt, T, List, [], ◌∷◌, ◌++◌, map, length, Option, None, Some, refl, sym, ◌∙◌, ap, arith, length-append}
 use Rattle.std.proofs.lemmas.Bool.{cases_Bool, cases_eq, cases_lt, eqb-true, eq-eqb, ne_eqb}
 use Rattle.std.proofs.lemmas.Bool.Decides.{nat_tests}
 use Rattle.std.proofs.lemmas.List.{append_assoc, append-nil}
@@ -15,6 +15,8 @@ use Rattle.pg_cells.specs.Inside.ValuedFamilies.{ValuedFamilies}
 use Rattle.pg_cells.specs.Inside.AreValuedFamilies.{AreValuedFamilies}
 use Rattle.pg_cells.specs.Inside.Members.{IsNextSign, goes_on}
 use Rattle.pg_cells.proofs.LinkLaws.{cell_goes}
+use Rattle.pg_cells.proofs.Walking.{childless}
+use Rattle.pg_count.proofs.Mapped.{ends_after}
 use Rattle.pg_cells.proofs.StringMaps.{order, equal_or_not, same_maps, head_below, tail_sorted}
 use Rattle.pg_types.specs.Inside.NumberedStrings.{Numbers}
 use Rattle.pg_count.specs.Inside.Counting.{Tally, number_seen, numbers_in}
@@ -97,13 +99,25 @@ where_split P Q R (e ∷ es) h either less =
         ap (λ l. e ∷ l) (rest ∙ ap (λ l. l ++ where_key order Q es) none) ∙ sym (ap (λ l. l ++ e ∷ where_key order Q es) none)
     by rest false p false q = rest
 
--- where no string is longer than q, none goes on from it
-pub short_last : (h : ValuedFamilies (Option Tally)) (q : List ℕ) → AreShort h.values (length q) → IsLast h.values q
-short_last h q short x more = by (find order ((q ++ x ∷ []) ++ more) h.values) refl
-  where
-    by : (o : Option (Option Tally)) → find order ((q ++ x ∷ []) ++ more) h.values ≡ o → find order ((q ++ x ∷ []) ++ more) h.values ≡ None
-    by None e = e
-    by (Some o) e = absurd (let l = short ((q ++ x ∷ []) ++ more) o e in let m = length-append (q ++ x ∷ []) more in let k = length-append q (x ∷ []) in omega arith)
+-- where there is no family below q, no string goes on from it
+pub childless_last : (h : ValuedFamilies (Option Tally)) → AreValuedFamilies h → (q : List ℕ) (base : ℕ) → base_of h.families q ≡ cond (nat_eq base 0) None (Some base) → base ≡ 0 → IsLast h.values q
+childless_last h held q base below zero x = ends_after h held q x (childless h.families q x (below ∙ ap (λ b. cond b None (Some base)) (eq-eqb base 0 zero)))
+
+pub family_below : (h : ValuedFamilies (Option Tally)) (q : List ℕ) (base : ℕ) → base_of h.families q ≡ cond (nat_eq base 0) None (Some base) → base ≢ 0 → base_of h.families q ≡ Some base
+family_below h q base below other = below ∙ ap (λ b. cond b None (Some base)) (ne_eqb base 0 other)
+
+-- a family has a longer string, so there are more signs
+pub some_more : (h : ValuedFamilies (Option Tally)) → AreValuedFamilies h → (p : List ℕ) (base more : ℕ) → base_of h.families p ≡ Some base → AreShort h.values (length p + more) → 0 < more
+some_more h held p base more at short =
+    let next = held.filled p base at in
+    let value = held.valued (p ++ next.0 ∷ []) next.1 next.2 in
+    let long = short (p ++ next.0 ∷ []) value.0 value.1 in
+    let size = length-append p (next.0 ∷ []) in
+    omega arith
+
+-- where no string that goes on from p has more than so many signs more, those that go on by one sign have one less
+pub short_more : (h : ValuedFamilies (Option Tally)) (p : List ℕ) (s more : ℕ) → 0 < more → AreShort h.values (length p + more) → AreShort h.values (length (p ++ s ∷ []) + (more - 1))
+short_more h p s more some short u o there = let long = short u o there in let size = length-append p (s ∷ []) in omega arith
 
 -- what the tests say of a string that goes on from p
 pub under_parts : (p r : List ℕ) → is_under p r ≡ true → (q : List ℕ) × (r ≡ p ++ q)
@@ -291,3 +305,13 @@ module _ (h : ValuedFamilies (Option Tally)) (held : AreValuedFamilies h) where
   -- all begin with the empty string
   pub under_all : numbers_under [] h.values ≡ map (λ e. e.1) (numbers_in h.values)
   under_all = ap (map (λ e. e.1)) (where_all (is_under []) (numbers_in h.values) sorted (λ u n at. refl))
+
+-- the measure of a walk along signs falls
+pub sign_falls : (s y : ℕ) → s ≢ 0 → s < 65536 → (0 < y → s < y) → cond (nat_eq y 0) 0 (65536 - y) < cond (nat_eq s 0) 0 (65536 - s)
+sign_falls s y some small later = elim (cases_eq y 0) [
+  | inl z ↦ less (ap (λ b. cond b 0 (65536 - y)) (eq-eqb y 0 z)) (omega arith)
+  | inr n ↦ less (ap (λ b. cond b 0 (65536 - y)) (ne_eqb y 0 n)) (let up = later (omega arith) in omega arith)
+]
+  where
+    less : {a b : ℕ} → a ≡ b → b < 65536 - s → a < cond (nat_eq s 0) 0 (65536 - s)
+    less e lt = let same = ap (λ b. cond b 0 (65536 - s)) (ne_eqb s 0 some) in omega (arith, e, same, lt)

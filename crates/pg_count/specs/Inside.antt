@@ -4,5 +4,5 @@ pub mod Counting
 pub mod Least
 pub mod Leaves
 pub mod Listed
-pub mod Tallied
+pub mod CellNumbers
 pub mod Under

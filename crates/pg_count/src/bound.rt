@@ -8,7 +8,10 @@ use pg_types::{EDGE, Sign};
 pub fn first_of(bound: &[Sign]) -> Sign
     ensures { result ≡ first_sign bound.now }
 {
-    bound.first().map_or(EDGE, |first| EDGE.max(*first))
+    match bound.first() {
+        Some(first) => EDGE.max(*first),
+        None => EDGE,
+    }
 }
 
 /// The bound of what follows the sign, where the string may be above the bound.

@@ -5,13 +5,13 @@ ghost use Rattle.pg_types.specs.Inside.Counts.{AreSmall, SignsWithin, counted_su
 ghost use Rattle.pg_types.specs.Inside.NumberedWindows.{AreInOrder, AreNumbered, HasNumber};
 ghost use Rattle.pg_count.specs.Inside.Counting.{IsCounting, counted_more};
 
+use crate::counted_cells::CountedCells;
 use crate::leaf::count_new;
 use crate::least::least;
-use crate::list::WindowList;
-use crate::tallied::Tallied;
-use crate::tally::add_weight;
+use crate::tally_list::add_weight;
 use crate::walk::walk;
 use crate::way::{find_counted, way_of};
+use crate::window_list::WindowList;
 use pg_types::{Cursor, EDGE, Sign, Weight};
 use std::alloc::{AllocError, Global};
 use std::marker::Model;
@@ -24,7 +24,7 @@ use std::marker::Model;
 /// memory of the cells and of the lists stays for later passes.
 #[derive(Drop)]
 pub struct CountTrie {
-    cells: Tallied,
+    cells: CountedCells,
     windows: WindowList,
 }
 
@@ -48,7 +48,7 @@ impl CountTrie {
         ensures { IfOk result
             (λ counts. counts ≡ record { signs = signs; len = 1; counts = []; windows = [] }) }
     {
-        let cells = Tallied::new(alloc, signs)?;
+        let cells = CountedCells::new(alloc, signs)?;
         Ok(CountTrie {
             cells,
             windows: WindowList::new(alloc),

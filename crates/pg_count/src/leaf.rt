@@ -7,9 +7,9 @@ ghost use Rattle.pg_types.specs.Inside.Counts.{SignsWithin};
 ghost use Rattle.pg_types.specs.Inside.NumberedWindows.{HasNumber, Windows};
 ghost use Rattle.pg_count.specs.Inside.Leaves.{AreLeaves, IsFree, IsWay, Keeps, Sets};
 
-use crate::list::WindowList;
-use crate::tallied::Tallied;
+use crate::counted_cells::CountedCells;
 use crate::way::Way;
+use crate::window_list::WindowList;
 use pg_types::Sign;
 use std::alloc::AllocError;
 
@@ -17,7 +17,7 @@ use std::alloc::AllocError;
 // window goes on by another sign than the window with the number. It answers the way of the
 // window then. Refused: the tally may have been pushed down in part.
 fn part(
-    cells: &mut Tallied,
+    cells: &mut CountedCells,
     windows: &WindowList,
     number: u32,
     way: Way,
@@ -48,7 +48,7 @@ fn part(
 
 // Adds the next sign of a window at the end of its way, where no string is counted, and gives its
 // cell. Refused: nothing changes.
-fn add_next(cells: &mut Tallied, way: Way, window: &[Sign]) -> Result<usize, AllocError>
+fn add_next(cells: &mut CountedCells, way: Way, window: &[Sign]) -> Result<usize, AllocError>
     requires leaves { (windows : Windows) × AreLeaves cells.old windows (length window.now) }
     requires way { IsWay cells.old window.now way.at way.cell }
     requires less { way.at < length window.now }
@@ -68,7 +68,7 @@ fn add_next(cells: &mut Tallied, way: Way, window: &[Sign]) -> Result<usize, All
 // A cell for a window that is not counted, at the end of its way or behind it. Refused: the cells
 // may have changed, but not what is counted.
 fn leaf(
-    cells: &mut Tallied,
+    cells: &mut CountedCells,
     windows: &WindowList,
     way: Way,
     window: &[Sign],
@@ -82,11 +82,11 @@ fn leaf(
     ensures signs { cells.new.signs ≡ cells.old.signs }
     ensures free { IfOk result (λ cell. IsFree cells.new window.now cell) }
 {
-    if let Some((number, _)) = cells.tally(way.cell) {
+    if let Some((number, _)) = cells.number_and_sums(way.cell) {
         let end = part(cells, windows, number, way, window)?;
         return add_next(cells, end, window);
     }
-    if way.at == window.len() || cells.child(way.cell) == 0 {
+    if cells.child(way.cell) == 0 {
         return Ok(way.cell);
     }
     add_next(cells, way, window)
@@ -96,7 +96,7 @@ fn leaf(
 /// Refused: the cells may have changed, but not what is counted.
 #[inline(never)]
 pub fn count_new(
-    cells: &mut Tallied,
+    cells: &mut CountedCells,
     windows: &mut WindowList,
     way: Way,
     window: &[Sign],

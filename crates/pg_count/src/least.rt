@@ -8,12 +8,12 @@ ghost use Rattle.pg_count.specs.Inside.Least.{IsNearest, IsToldBy};
 ghost use Rattle.pg_count.specs.Inside.Leaves.{AreLeaves, AreShort, IsLast};
 
 use crate::bound::{first_of, rest_of};
-use crate::list::WindowList;
-use crate::tallied::Tallied;
+use crate::counted_cells::CountedCells;
+use crate::window_list::WindowList;
 use pg_types::{Cursor, Sign};
 
 // The sign after one of the signs of the family with the base, 0 for none.
-fn sign_after(cells: &Tallied, base: usize, s: Sign) -> Sign
+fn sign_after(cells: &CountedCells, base: usize, s: Sign) -> Sign
     requires held { AreValuedFamilies cells.now }
     requires base { (p : List ℕ) × (cell : ℕ)
         × ((base_of cells.now.families p ≡ Some base)
@@ -29,7 +29,7 @@ fn sign_after(cells: &Tallied, base: usize, s: Sign) -> Sign
 
 // The least sign of the family with the base that is not below another, 0 for none. It is that sign
 // itself, where the family has it; else it is sought from the family's first sign on.
-fn sign_from(cells: &Tallied, base: usize, first: Sign, from: Sign) -> Sign
+fn sign_from(cells: &CountedCells, base: usize, first: Sign, from: Sign) -> Sign
     requires held { AreValuedFamilies cells.now }
     requires base { (p : List ℕ) × ((base_of cells.now.families p ≡ Some base)
         × IsNextSign cells.now.values p 0 first) }
@@ -56,7 +56,7 @@ fn sign_from(cells: &Tallied, base: usize, first: Sign, from: Sign) -> Sign
 /// goes along the signs of the families.
 #[cycle(least)]
 pub fn least(
-    cells: &Tallied,
+    cells: &CountedCells,
     windows: &WindowList,
     above: &Cursor,
     base: usize,
@@ -66,10 +66,9 @@ pub fn least(
 ) -> Option<u32>
     requires leaves { (len : ℕ) × AreLeaves cells.now windows.now.items len }
     requires base { (p : List ℕ) × ((base_of cells.now.families p ≡ Some base)
-        × IsNextSign cells.now.values p 0 first × IsToldBy above.now p bound.now) }
-    requires some { 0 < more }
+        × IsNextSign cells.now.values p 0 first × IsToldBy above.now p bound.now
+        × AreShort cells.now.values (length p + more)) }
     ensures { (p : List ℕ) → base_of cells.now.families p ≡ Some base
-        → AreShort cells.now.values (length p + more)
         → IsNearest windows.now.items p above.now result }
 {
     let mut s = sign_from(cells, base, first, first_of(bound));
@@ -87,7 +86,7 @@ pub fn least(
 // The same among the windows that begin with the string that has the cell.
 #[cycle(least)]
 fn least_at(
-    cells: &Tallied,
+    cells: &CountedCells,
     windows: &WindowList,
     above: &Cursor,
     cell: usize,
@@ -96,14 +95,10 @@ fn least_at(
 ) -> Option<u32>
     requires leaves { (len : ℕ) × AreLeaves cells.now windows.now.items len }
     requires cell { (q : List ℕ) × ((cell_of cells.now.families q ≡ Some cell)
-        × IsToldBy above.now q bound.now) }
+        × IsToldBy above.now q bound.now × AreShort cells.now.values (length q + more)) }
     ensures { (q : List ℕ) → cell_of cells.now.families q ≡ Some cell
-        → AreShort cells.now.values (length q + more)
         → IsNearest windows.now.items q above.now result }
 {
-    if more == 0 {
-        return leaf_above(cells, windows, above, cell);
-    }
     let below = cells.child(cell);
     if below == 0 {
         return leaf_above(cells, windows, above, cell);
@@ -113,13 +108,18 @@ fn least_at(
 }
 
 // The same where no sign follows.
-fn leaf_above(cells: &Tallied, windows: &WindowList, above: &Cursor, cell: usize) -> Option<u32>
+fn leaf_above(
+    cells: &CountedCells,
+    windows: &WindowList,
+    above: &Cursor,
+    cell: usize,
+) -> Option<u32>
     requires leaves { (len : ℕ) × AreLeaves cells.now windows.now.items len }
     requires cell { (q : List ℕ) × (cell_of cells.now.families q ≡ Some cell) }
     ensures { (q : List ℕ) → cell_of cells.now.families q ≡ Some cell
         → IsLast cells.now.values q → IsNearest windows.now.items q above.now result }
 {
-    let (number, _) = cells.tally(cell)?;
+    let (number, _) = cells.number_and_sums(cell)?;
     if above.signs().cmp(windows.get(number)).is_lt() {
         Some(number)
     } else {

@@ -3,13 +3,13 @@
 #![tactic(auto)]
 
 mod bound;
+mod counted_cells;
 mod counts;
 mod leaf;
 mod least;
-mod list;
-mod tallied;
-mod tally;
+mod tally_list;
 mod walk;
 mod way;
+mod window_list;
 
 pub use counts::CountTrie;

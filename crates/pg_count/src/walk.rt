@@ -6,7 +6,7 @@ ghost use Rattle.pg_cells.specs.Inside.Members.{IsNextSign};
 ghost use Rattle.pg_count.specs.Inside.Leaves.{AreLast, AreShort, IsLast};
 ghost use Rattle.pg_count.specs.Inside.Under.{numbers_under};
 
-use crate::tallied::Tallied;
+use crate::counted_cells::CountedCells;
 use pg_types::Sign;
 use std::alloc::AllocError;
 
@@ -15,7 +15,7 @@ use std::alloc::AllocError;
 /// along the signs of the families.
 #[cycle(walk)]
 pub fn walk(
-    cells: &Tallied,
+    cells: &CountedCells,
     base: usize,
     first: Sign,
     more: u8,
@@ -23,11 +23,9 @@ pub fn walk(
 ) -> Result<(), AllocError>
     requires held { AreValuedFamilies cells.now }
     requires base { (p : List ℕ) × ((base_of cells.now.families p ≡ Some base)
-        × IsNextSign cells.now.values p 0 first) }
+        × IsNextSign cells.now.values p 0 first × AreShort cells.now.values (length p + more)) }
     requires last { AreLast cells.now.values }
-    requires some { 0 < more }
-    ensures { (p : List ℕ) → base_of cells.now.families p ≡ Some base
-        → AreShort cells.now.values (length p + more) →
+    ensures { (p : List ℕ) → base_of cells.now.families p ≡ Some base →
         OnOk result (out.new.items ≡ out.old.items ++ numbers_under p cells.now.values) }
 {
     let mut s = first;
@@ -43,17 +41,19 @@ pub fn walk(
 
 // The same for the string that has the cell.
 #[cycle(walk)]
-fn walk_at(cells: &Tallied, cell: usize, more: u8, out: &mut Vec<u32>) -> Result<(), AllocError>
+fn walk_at(
+    cells: &CountedCells,
+    cell: usize,
+    more: u8,
+    out: &mut Vec<u32>,
+) -> Result<(), AllocError>
     requires held { AreValuedFamilies cells.now }
-    requires cell { (q : List ℕ) × (cell_of cells.now.families q ≡ Some cell) }
+    requires cell { (q : List ℕ) × ((cell_of cells.now.families q ≡ Some cell)
+        × AreShort cells.now.values (length q + more)) }
     requires last { AreLast cells.now.values }
-    ensures { (q : List ℕ) → cell_of cells.now.families q ≡ Some cell
-        → AreShort cells.now.values (length q + more) →
+    ensures { (q : List ℕ) → cell_of cells.now.families q ≡ Some cell →
         OnOk result (out.new.items ≡ out.old.items ++ numbers_under q cells.now.values) }
 {
-    if more == 0 {
-        return last_at(cells, cell, out);
-    }
     let below = cells.child(cell);
     if below == 0 {
         return last_at(cells, cell, out);
@@ -62,14 +62,14 @@ fn walk_at(cells: &Tallied, cell: usize, more: u8, out: &mut Vec<u32>) -> Result
 }
 
 // The same where no sign follows.
-fn last_at(cells: &Tallied, cell: usize, out: &mut Vec<u32>) -> Result<(), AllocError>
+fn last_at(cells: &CountedCells, cell: usize, out: &mut Vec<u32>) -> Result<(), AllocError>
     requires cell { (q : List ℕ) × (cell_of cells.now.families q ≡ Some cell) }
     requires held { AreValuedFamilies cells.now }
     ensures { (q : List ℕ) → cell_of cells.now.families q ≡ Some cell
         → IsLast cells.now.values q →
         OnOk result (out.new.items ≡ out.old.items ++ numbers_under q cells.now.values) }
 {
-    if let Some((number, _)) = cells.tally(cell) {
+    if let Some((number, _)) = cells.number_and_sums(cell) {
         out.push(number)?;
     }
     Ok(())

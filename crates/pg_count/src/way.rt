@@ -5,10 +5,11 @@ ghost use Rattle.std.specs.Cmp.Lexicographic.{slice_cmp};
 ghost use Rattle.std.specs.Ordering.{nat_cmp};
 ghost use Rattle.pg_types.specs.Inside.Counts.{SignsWithin};
 ghost use Rattle.pg_types.specs.Inside.NumberedWindows.{HasNumber};
+ghost use Rattle.pg_cells.specs.Inside.AreValuedFamilies.{AreValuedFamilies};
 ghost use Rattle.pg_count.specs.Inside.Leaves.{AreLeaves, IsWay};
 
-use crate::list::WindowList;
-use crate::tallied::Tallied;
+use crate::counted_cells::CountedCells;
+use crate::window_list::WindowList;
 use pg_types::Sign;
 
 /// How far the signs of a string lead.
@@ -21,12 +22,12 @@ pub struct Way {
 }
 
 /// The way of a string's signs, up to the first sign that no string with a cell goes on by.
-pub fn way_of(cells: &Tallied, signs: &[Sign]) -> Way
+pub fn way_of(cells: &CountedCells, signs: &[Sign]) -> Way
+    requires held { AreValuedFamilies cells.now }
     requires some { 0 < length signs.now }
     requires signs { SignsWithin cells.now.signs signs.now }
     ensures { IsWay cells.now signs.now result.at result.cell }
 {
-    let _held = cells.signs();
     let mut cell = signs[0] as usize;
     let mut at = 1;
     'signs: while at < signs.len() {
@@ -41,7 +42,7 @@ pub fn way_of(cells: &Tallied, signs: &[Sign]) -> Way
 
 /// The number and the sums of a window at the end of its way, or `None` where it is not counted.
 pub fn find_counted(
-    cells: &Tallied,
+    cells: &CountedCells,
     windows: &WindowList,
     way: Way,
     window: &[Sign],
@@ -52,7 +53,7 @@ pub fn find_counted(
         cells.now.values ≡ Some (Some t)) × HasNumber windows.now.items window.now t.0) }
     ensures none { result ≡ None → (n : ℕ) → HasNumber windows.now.items window.now n → ⊥ }
 {
-    let (number, sums) = cells.tally(way.cell)?;
+    let (number, sums) = cells.number_and_sums(way.cell)?;
     if way.at == window.len() || windows.get(number) == window {
         Some((number, sums))
     } else {

@@ -147,7 +147,7 @@ fn head_at(records: &IndexSet<Record>, index: usize) -> u64
     requires { index < index_set_len records.now }
     ensures { result ≡ index + 1 }
 {
-    let _count = records.len();
+    prove!(index < records.len());
     index as u64 + 1
 }
 

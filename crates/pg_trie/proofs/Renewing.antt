@@ -6,7 +6,7 @@ use Rattle.std.specs.FinMap.Entries.{find, put}
 use Rattle.pg_types.specs.Placement.{cell_of}
 use Rattle.pg_outputs.specs.declared.records.Record.{Record}
 use Rattle.pg_outputs.specs.Lists.{list_of}
-use Rattle.pg_outputs.specs.Inside.Heads.{Grows, Lacks}
+use Rattle.pg_outputs.specs.Inside.Heads.{Grows, Lacks, OneHeadEach}
 use Rattle.pg_outputs.proofs.ListLaws.{list_of-new}
 use Rattle.pg_outputs.proofs.RecordLaws.{there_or_new}
 use Rattle.pg_cells.specs.Inside.ValuedFamilies.{ValuedFamilies}
@@ -59,16 +59,18 @@ needed_mark old new v d rest list is mark needed = subst (AreNeeded old new) (sy
 pub fresh_start : (cells : ValuedFamilies ℕ) (records : List Record) (fresh : List Record) (heads : List ℕ) → length fresh ≡ 0 → length heads ≡ length records + 1 → AreFreshTo cells records 0 fresh heads
 fresh_start cells records fresh heads none size = record {
   size = size;
+  one_head = λ h k low lower same. omega arith;
   lists = λ q cell u at lt there. absurd (omega arith);
   needed = λ h low high. absurd (omega arith);
 }
 
 -- the new head of the string that has the cell
 pub fresh_step : (cells : ValuedFamilies ℕ) (records : List Record) → AreValuedFamilies cells → (cell : ℕ) (old new : List Record) (heads after : List ℕ) (q : List ℕ) (u head : ℕ)
-    → AreFreshTo cells records cell old heads → cell_of cells.families q ≡ Some cell → find order q cells.values ≡ Some u → u ≤ length records → Grows old new → head ≤ length new → list_of new head ≡ values_in (list_of records u)
+    → AreFreshTo cells records cell old heads → cell_of cells.families q ≡ Some cell → find order q cells.values ≡ Some u → u ≤ length records → Grows old new → OneHeadEach new → head ≤ length new → list_of new head ≡ values_in (list_of records u)
     → AreNeeded old new (values_in (list_of records u)) → after ≡ set heads u head → AreFreshTo cells records (cell + 1) new after
-fresh_step cells records held cell old new heads after q u head f at has within grows inside list needed is = subst (AreFreshTo cells records (cell + 1) new) (sym is) (record {
+fresh_step cells records held cell old new heads after q u head f at has within grows one_head inside list needed is = subst (AreFreshTo cells records (cell + 1) new) (sym is) (record {
   size = length-set heads u head ∙ f.size;
+  one_head = one_head;
   lists = λ r c v there lt value. by r c v there lt value (cases_eq v u);
   needed = λ h low high. elim (cases_lt (length old) h) [
     | inl lt ↦ (q, u, has, needed h lt high)

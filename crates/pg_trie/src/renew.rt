@@ -4,7 +4,7 @@ ghost use Rattle.std.specs.FinMap.{find};
 ghost use Rattle.std.specs.Cmp.Lexicographic.{slice_cmp};
 ghost use Rattle.std.specs.Ordering.{nat_cmp};
 ghost use Rattle.pg_outputs.specs.Lists.{list_of};
-ghost use Rattle.pg_outputs.specs.Inside.Heads.{Grows};
+ghost use Rattle.pg_outputs.specs.Inside.Heads.{Grows, OneHeadEach};
 ghost use Rattle.pg_cells.specs.Inside.AreValuedFamilies.{AreValuedFamilies};
 ghost use Rattle.pg_trie.specs.Inside.IsTrie.{IsTrie};
 ghost use Rattle.pg_trie.specs.Inside.Renewed.{values_in, AreNeeded, AreFreshTo, AreFresh, Renews};
@@ -22,6 +22,7 @@ fn fresh_head(outputs: &Outputs, head: u64, fresh: &mut Outputs) -> Result<u64, 
     ensures list { IfOk result (λ h. list_of fresh.new h ≡ values_in (list_of outputs.now head)) }
     ensures inside { IfOk result (λ h. h ≤ length fresh.new) }
     ensures grows { Grows fresh.old fresh.new }
+    ensures one_head { OnOk result (OneHeadEach fresh.old → OneHeadEach fresh.new) }
     ensures needed { OnOk result
         (AreNeeded fresh.old fresh.new (values_in (list_of outputs.now head))) }
 {

@@ -121,6 +121,5 @@ pub fn strings(
         }
         push_below(cells, &mut strings, i)?;
     }
-    let _count = strings.len();
     Ok(strings)
 }

@@ -157,7 +157,6 @@ impl PatternTrie {
         let heads = fresh_heads(self.alloc, &self.cells, &self.outputs, &mut fresh)?;
         renew(&mut self.cells, &heads);
         prune(&mut self.cells);
-        let _records = fresh.len();
         self.outputs = fresh;
         Ok(())
     }

@@ -45,8 +45,8 @@ abbrev pub Tallies : Type 0
 Tallies = List (List ℕ × Option Tally)
 
 -- the tally of a string that is counted
-abbrev pub tally_in : Tallies → List ℕ → Option Tally
-tally_in tallies q = unwrap_or (find (slice_cmp nat_cmp) q tallies) None
+abbrev pub tally_of_string : Tallies → List ℕ → Option Tally
+tally_of_string tallies q = unwrap_or (find (slice_cmp nat_cmp) q tallies) None
 
 -- the strings that are counted, with what is seen of their tallies
 abbrev pub seen_in : {Y : Type 0} → (Tally → Y) → Tallies → List (List ℕ × Y)

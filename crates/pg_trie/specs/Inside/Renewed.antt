@@ -6,6 +6,7 @@ use Rattle.std.specs.FinMap.{find}
 use Rattle.pg_types.specs.Placement.{cell_of}
 use Rattle.pg_outputs.specs.declared.records.Record.{Record}
 use Rattle.pg_outputs.specs.Lists.{list_of}
+use Rattle.pg_outputs.specs.Inside.Heads.{OneHeadEach}
 use Rattle.pg_cells.specs.Inside.ValuedFamilies.{ValuedFamilies}
 use Rattle.pg_cells.specs.Inside.AreValuedFamilies.{AreValuedFamilies}
 use Rattle.pg_trie.specs.declared.hopeless.TheConstants.{HOPELESS}
@@ -32,6 +33,7 @@ AreNeeded old new list = (h : ℕ) → length old < h → h ≤ length new → I
 pub record AreFreshTo (cells : ValuedFamilies ℕ) (records : List Record)
     (n : ℕ) (fresh : List Record) (heads : List ℕ) : Type 0 where
   pub size : length heads ≡ length records + 1
+  pub one_head : OneHeadEach fresh
   pub lists : (q : List ℕ) (cell u : ℕ) → cell_of cells.families q ≡ Some cell
       → cell < n → find (slice_cmp nat_cmp) q cells.values ≡ Some u
       → IsFreshHead records u fresh (get_or heads u 0)

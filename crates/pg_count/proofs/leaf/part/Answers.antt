@@ -1,4 +1,9 @@
-use Rattle.std.proofs.Common.{◌≡◌, take, get_or, refl, ap, sym, subst, ◌∙◌, arith}
+use Rattle.pg_count.specs.Inside.Counting.{Tally}
+use Rattle.pg_cells.specs.Inside.ValuedFamilies.{ValuedFamilies}
+use Rattle.pg_count.specs.Inside.Leaves.{AreLeaves, Keeps}
+use Rattle.std.proofs.lemmas.Option.{slice_get_within}
+use Rattle.std.proofs.lemmas.Result.{err_from_is_err_and}
+use Rattle.std.proofs.Common.{◌≡◌, take, get_or, refl, ap, sym, subst, ◌∙◌, arith, length, ◌++◌, Option}
 use Rattle.std.proofs.lemmas.List.{take_more_same}
 use Rattle.pg_types.specs.Inside.NumberedWindows.{HasNumber}
 use Rattle.pg_types.specs.Placement.{cell_of}
@@ -130,3 +135,34 @@ returns-clause-way c =
       i.less,
       parted_blank c.alike.cells c.args.windows.now.items c.args.window.now c.get-other.result.now c.args.number c.alike.at i.tally.0 i.leaves i.row i.same i.less i.tally.1 c.push_down-2.new.self pushes,
     )
+
+pub get-other-requires : goal.get-other-requires
+get-other-requires c =
+    let q = take c.args.way.at c.args.window.now in
+    let front = c.requires.leaves.front q (c.args.number, c.requires.tally.0) c.requires.tally.1 in
+    slice_get_within c.args.windows.now.items c.args.number (q ++ front.0) front.1
+
+pub bounds-window-at : goal.bounds-window-at
+bounds-window-at c = c.alike.invariant.less
+
+pub returns-in_err-cell : goal.returns-in_err-cell
+returns-in_err-cell c =
+    let i = c.alike.invariant in
+    let err = err_from_is_err_and c.from_residual.result c.from_residual.ensures.1 in
+    record {
+      leaves = subst (λ h. AreLeaves h c.args.windows.now.items (length c.args.window.now)) (sym c.in_err-cell.ensures.err) i.leaves;
+      keeps = subst (λ (h : ValuedFamilies (Option Tally)). Keeps c.args.cells.now.values h.values) (sym c.in_err-cell.ensures.err) i.keeps;
+      signs = ap (λ (h : ValuedFamilies (Option Tally)). h.signs) c.in_err-cell.ensures.err ∙ i.signs;
+      way = rw err.1 tt;
+    }
+
+pub returns-in_err-push_down : goal.returns-in_err-push_down
+returns-in_err-push_down c =
+    let i = c.alike.invariant in
+    let err = err_from_is_err_and c.from_residual-in_err-push_down.result c.from_residual-in_err-push_down.ensures.1 in
+    record {
+      leaves = subst (λ h. AreLeaves h c.args.windows.now.items (length c.args.window.now)) (sym c.in_err-push_down.ensures.err) i.leaves;
+      keeps = subst (λ (h : ValuedFamilies (Option Tally)). Keeps c.args.cells.now.values h.values) (sym c.in_err-push_down.ensures.err) i.keeps;
+      signs = ap (λ (h : ValuedFamilies (Option Tally)). h.signs) c.in_err-push_down.ensures.err ∙ i.signs;
+      way = rw err.1 tt;
+    }

@@ -1,5 +1,4 @@
-use Rattle.std.proofs.Common.{◌≡◌, ℕ, ◌+◌, ◌-◌, ◌*◌, ◌<◌, ◌≤◌, ◌⊎◌, cond, nat_eq, true, List, [], ◌∷◌, ◌++◌, Some, length}
-use Rattle.pg_count.specs.Inside.Leaves.{AreShort}
+use Rattle.std.proofs.Common.{◌≡◌, ℕ, ◌+◌, ◌-◌, ◌*◌, ◌<◌, ◌≤◌, ◌⊎◌, cond, nat_eq, true, List, [], ◌∷◌, ◌++◌, Some}
 use Rattle.pg_types.specs.Placement.{base_of}
 use Rattle.pg_cells.specs.Inside.Members.{goes_on}
 use Rattle.pg_count.specs.Inside.Bounds.{first_sign}
@@ -17,7 +16,7 @@ invariant-least-loop-s l = record {
   small : l.s < 65536;
   from : 0 < l.s → first_sign l.bound ≤ l.s;
   there : (p : List ℕ) → base_of l.cells.families p ≡ Some l.base → 0 < l.s → goes_on l.cells.values p l.s ≡ true;
-  none : (p : List ℕ) → base_of l.cells.families p ≡ Some l.base → AreShort l.cells.values (length p + l.more) → (x : ℕ) → (l.s ≡ 0) ⊎ (x < l.s) → NoneUnder l.windows.items (p ++ x ∷ []) l.above;
+  none : (p : List ℕ) → base_of l.cells.families p ≡ Some l.base → (x : ℕ) → (l.s ≡ 0) ⊎ (x < l.s) → NoneUnder l.windows.items (p ++ x ∷ []) l.above;
 }
 
 abbrev pub decreases-least-loop-s : goal.decreases-least-loop-s

@@ -1,4 +1,4 @@
-use Rattle.std.proofs.Common.{◌≡◌, ℕ, List, [], ◌∷◌, ◌++◌, Some, None, sym, ◌∙◌, arith, rules}
+use Rattle.std.proofs.Common.{◌≡◌, ℕ, List, [], ◌∷◌, ◌++◌, Some, None, sym, ◌∙◌, arith, rules, lit<}
 use Rattle.std.proofs.lemmas.List.{length_push}
 use Rattle.pg_types.specs.Placement.{cell_of}
 use Rattle.pg_cells.proofs.LinkLaws.{goes_cell}
@@ -93,3 +93,6 @@ loop-s-preserved t c =
       goes = λ q e up.
           next_goes c.args.cells.now c.loop-s.cells c.prune_below.new.cells c.remove_blank.new.cells q c.loop-s.s c.next_sign-next.result (c.loop-s.invariant.to q e) (below q e) (c.remove_blank.ensures q (mid_at q e)) (c.next_sign-next.ensures q c.loop-s.s (there q e)) up;
     }
+
+pub first_sign-s-requires : goal.first_sign-s-requires
+first_sign-s-requires t c = (lit< tt, (c.requires.cell.0, c.requires.cell.1.0))

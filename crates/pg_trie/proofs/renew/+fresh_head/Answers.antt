@@ -1,4 +1,5 @@
-use Rattle.std.proofs.Common.{sym, ap, ◌∙◌}
+use Rattle.std.proofs.lemmas.Result.{err_from_is_err_and}
+use Rattle.std.proofs.Common.{sym, ap, ◌∙◌, refl, arith}
 use Rattle.std.proofs.lemmas.Bool.{lt-ltb, le-ltb}
 use Rattle.pg_outputs.specs.Lists.{list_of}
 use Rattle.pg_outputs.proofs.ListLaws.{list_of-zero}
@@ -29,3 +30,35 @@ pub returns-else-value-lt-HOPELESS-clause-needed : goal.returns-else-value-lt-HO
 returns-else-value-lt-HOPELESS-clause-needed t c =
     needed_mark c.args.fresh.now c.fresh_head.new.fresh c.in-Some.value c.in-Some.dot (list_of c.args.outputs.now c.in-Some.next) (list_of c.args.outputs.now c.args.head) c.in-Some.ensures.list
     (le-ltb c.in-Some.value HOPELESS c.if-value-lt-HOPELESS.false) c.in_ok-rest.ensures.needed
+
+pub first-requires : goal.first-requires
+first-requires t c = c.requires
+
+pub cons-requires : goal.cons-requires
+cons-requires t c = c.in_ok-rest.ensures.inside
+
+pub returns-in_err-rest : goal.returns-in_err-rest
+returns-in_err-rest t c =
+    let err = err_from_is_err_and c.from_residual.result c.from_residual.ensures.1 in
+    record { list = rw err.1 tt; inside = rw err.1 tt; grows = c.in_err-rest.ensures.grows; one_head = rw err.1 tt; needed = rw err.1 tt }
+
+pub returns-in_default-clause-inside : goal.returns-in_default-clause-inside
+returns-in_default-clause-inside t c = omega arith
+
+pub returns-in_default-clause-grows : goal.returns-in_default-clause-grows
+returns-in_default-clause-grows t c = record { longer = omega arith; same = λ h within. refl }
+
+pub returns-in_default-clause-one_head : goal.returns-in_default-clause-one_head
+returns-in_default-clause-one_head t c = λ one. one
+
+pub returns-in_default-clause-needed : goal.returns-in_default-clause-needed
+returns-in_default-clause-needed t c = λ h low high. absurd (omega arith)
+
+pub returns-else-value-lt-HOPELESS-clause-inside : goal.returns-else-value-lt-HOPELESS-clause-inside
+returns-else-value-lt-HOPELESS-clause-inside t c = c.in_ok-rest.ensures.inside
+
+pub returns-else-value-lt-HOPELESS-clause-grows : goal.returns-else-value-lt-HOPELESS-clause-grows
+returns-else-value-lt-HOPELESS-clause-grows t c = c.in_ok-rest.ensures.grows
+
+pub returns-else-value-lt-HOPELESS-clause-one_head : goal.returns-else-value-lt-HOPELESS-clause-one_head
+returns-else-value-lt-HOPELESS-clause-one_head t c = c.in_ok-rest.ensures.one_head

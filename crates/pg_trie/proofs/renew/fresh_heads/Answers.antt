@@ -1,3 +1,4 @@
+use Rattle.std.proofs.lemmas.Result.{err_from_is_err_and}
 use Rattle.std.proofs.Common.{arith}
 use Rattle.pg_cells.proofs.StringCells.{cell_within}
 use Rattle.pg_trie.proofs.Renewing.{fresh_start}
@@ -12,3 +13,9 @@ returns c = (
   c.loop-cell.invariant,
   λ q cell at. (let within = cell_within c.args.cells.now.families q cell at in let top = c.top-top.ensures.top in let done = c.loop-cell-test.false in omega arith),
 )
+
+pub returns-in_err-heads : goal.returns-in_err-heads
+returns-in_err-heads c = let err = err_from_is_err_and c.from_residual.result c.from_residual.ensures.1 in rw err.1 tt
+
+pub returns-in_err-renew_cell : goal.returns-in_err-renew_cell
+returns-in_err-renew_cell c = let err = err_from_is_err_and c.from_residual-in_err-renew_cell.result c.from_residual-in_err-renew_cell.ensures.1 in rw err.1 tt

@@ -1,4 +1,4 @@
-use Rattle.std.proofs.Common.{◌≡◌, ℕ, ◌+◌, List, [], ◌∷◌, ◌++◌, Some, slice_get, sym, ap, ◌∙◌, subst}
+use Rattle.std.proofs.Common.{◌≡◌, ℕ, ◌+◌, List, [], ◌∷◌, ◌++◌, Some, slice_get, sym, ap, ◌∙◌, subst, lit<}
 use Rattle.pg_cells.specs.Inside.Walks.{EndsBefore}
 use Rattle.pg_trie.specs.Inside.Strings.{PutsBelow}
 use Rattle.pg_trie.proofs.Listing.{puts_nothing, get_index, on_ok}
@@ -22,3 +22,9 @@ returns-in_default-child c =
     (c.signs-in_default-child.ensures.value ∙ ap (λ (x : List ℕ × ℕ). x.0) c.new-prefix.ensures ∙ c.signs.ensures.value ∙ ap (λ (x : List ℕ × ℕ). x.0) (c.index.ensures ∙ get_index c.args.strings.now.items c.args.i k c.index.result.now at))
     puts)
     c.push_family.ensures
+
+pub child-requires : goal.child-requires
+child-requires c = (lit< tt, (c.signs-2.result.now, sym c.in-Some.ensures))
+
+pub first_sign-requires : goal.first_sign-requires
+first_sign-requires c = (lit< tt, (c.signs-2.result.now, sym c.in-Some.ensures))

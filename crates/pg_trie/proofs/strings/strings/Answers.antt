@@ -1,6 +1,7 @@
-use Rattle.std.proofs.Common.{◌+◌, ◌<◌, [], length, subst, arith, rules}
+use Rattle.std.proofs.lemmas.Result.{err_from_is_err_and}
+use Rattle.std.proofs.Common.{◌≡◌, ◌+◌, ◌<◌, [], length, subst, arith, rules}
 use Rattle.pg_cells.proofs.LinkLaws.{root_first}
-use Rattle.pg_trie.specs.Inside.Strings.{PutsBelow}
+use Rattle.pg_trie.specs.Inside.Strings.{AreStringsTo, PutsBelow}
 use Rattle.pg_trie.proofs.Listing.{strings_start, strings_step, get_there}
 use Rattle.pg_trie.proofs.strings.strings.Goals as goal
 
@@ -26,3 +27,14 @@ loop-i-preserved c =
       inside = omega (arith, puts.longer);
       strings = strings_step c.args.cells.now c.requires.held c.loop-i.i c.loop-i.strings.items c.push_below.new.strings.items k.0 c.loop-i.invariant.strings k.1 puts;
     }
+
+pub returns : goal.returns
+returns c =
+    let end : c.loop-i.i ≡ length c.loop-i.strings.items = omega (arith, c.loop-i.strings.ok.0, c.loop-i.strings.small) in
+    subst (λ n. AreStringsTo c.args.cells.now c.loop-i.strings.items n) end c.loop-i.invariant.strings
+
+pub returns-in_err-push_family : goal.returns-in_err-push_family
+returns-in_err-push_family c = let err = err_from_is_err_and c.from_residual.result c.from_residual.ensures.1 in rw err.1 tt
+
+pub returns-in_err-push_below : goal.returns-in_err-push_below
+returns-in_err-push_below c = let err = err_from_is_err_and c.from_residual-in_err-push_below.result c.from_residual-in_err-push_below.ensures.1 in rw err.1 tt

@@ -1,8 +1,8 @@
-use Rattle.std.proofs.Common.{ℕ, Option, take, length, unwrap_or, refl, ap, sym, subst, ◌∙◌}
+use Rattle.std.proofs.Common.{ℕ, Option, take, length, unwrap_or, refl, ap, sym, subst, ◌∙◌, arith}
 use Rattle.std.proofs.lemmas.Result.{err_from_is_err_and}
 use Rattle.std.specs.List.{slice_get}
 use Rattle.pg_types.proofs.Numbering.{get_seam}
-use Rattle.pg_types.specs.Inside.Counts.{AreSmall, counted_sums, is_counted, with_weight}
+use Rattle.pg_types.specs.Inside.Counts.{AreSmall, counted_sums, is_counted, with_weight, SignsWithin}
 use Rattle.pg_cells.specs.Inside.ValuedFamilies.{ValuedFamilies}
 use Rattle.pg_count.specs.Inside.Counting.{Counting, Tally, counted_more, counting_of}
 use Rattle.pg_count.specs.Inside.Leaves.{AreLeaves}
@@ -85,3 +85,46 @@ returns-in_ok-number-in-None-clause-number c =
 
 pub count_new-requires-clause-len : goal.count_new-requires-clause-len
 count_new-requires-clause-len c = c.requires.len ∙ sym (ap (λ (d : Counting). d.len) c.self.view_is)
+
+pub way_of-way-requires : goal.way_of-way-requires
+way_of-way-requires c =
+    let len = c.requires.len ∙ sym (ap (λ (d : Counting). d.len) c.self.view_is) in
+    record {
+      held = c.self.invariant.leaves.held;
+      some = (let some = c.self.invariant.some in omega arith);
+      signs = subst (λ (d : Counting). SignsWithin d.signs c.args.window.now) (sym c.self.view_is) c.requires.signs;
+    }
+
+pub find_counted-requires : goal.find_counted-requires
+find_counted-requires c =
+    let len = c.requires.len ∙ sym (ap (λ (d : Counting). d.len) c.self.view_is) in
+    record { leaves = subst (AreLeaves c.self.inside.cells c.self.inside.windows.items) (sym len) c.self.invariant.leaves; way = c.way_of-way.ensures }
+
+pub set_sums-requires : goal.set_sums-requires
+set_sums-requires c = (take c.way_of-way.result.at c.args.window.now, c.in-Some.sums, c.in-Some.ensures.some.0)
+
+pub count_new-requires-clause-leaves : goal.count_new-requires-clause-leaves
+count_new-requires-clause-leaves c =
+    let len = c.requires.len ∙ sym (ap (λ (d : Counting). d.len) c.self.view_is) in
+    subst (AreLeaves c.self.inside.cells c.self.inside.windows.items) (sym len) c.self.invariant.leaves
+
+pub count_new-requires-clause-way : goal.count_new-requires-clause-way
+count_new-requires-clause-way c = c.way_of-way.ensures
+
+pub count_new-requires-clause-signs : goal.count_new-requires-clause-signs
+count_new-requires-clause-signs c = subst (λ (d : Counting). SignsWithin d.signs c.args.window.now) (sym c.self.view_is) c.requires.signs
+
+pub count_new-requires-clause-new : goal.count_new-requires-clause-new
+count_new-requires-clause-new c = c.in-None.ensures.none refl
+
+pub returns-in_err-number-in-None-clause-ok : goal.returns-in_err-number-in-None-clause-ok
+returns-in_err-number-in-None-clause-ok c = let err = err_from_is_err_and c.from_residual.result c.from_residual.ensures.1 in rw err.1 tt
+
+pub returns-in_err-number-in-None-clause-number : goal.returns-in_err-number-in-None-clause-number
+returns-in_err-number-in-None-clause-number c = let err = err_from_is_err_and c.from_residual.result c.from_residual.ensures.1 in rw err.1 tt
+
+pub returns-in_ok-number-in-None-clause-there : goal.returns-in_ok-number-in-None-clause-there
+returns-in_ok-number-in-None-clause-there c = λ _. refl
+
+pub returns-in_ok-number-in-None-clause-err : goal.returns-in_ok-number-in-None-clause-err
+returns-in_ok-number-in-None-clause-err c = tt

@@ -10,7 +10,16 @@ use Rattle.pg_count.proofs.Parting.{signs_told}
 use Rattle.pg_count.proofs.counts.CountTrie.next.Goals as goal
 
 pub least-requires-clause-base : goal.least-requires-clause-base
-least-requires-clause-base c = ([], (c.self.invariant.leaves.held.root, root_first c.self.inside.cells c.self.invariant.leaves.held, λ x v. ap (λ z. order z (x ∷ v)) (sym c.signs.ensures.value)))
+least-requires-clause-base c =
+    let leaves = c.self.invariant.leaves in (
+      [],
+      (
+        leaves.held.root,
+        root_first c.self.inside.cells leaves.held,
+        λ x v. ap (λ z. order z (x ∷ v)) (sym c.signs.ensures.value),
+        λ q o at. (let l = leaves.short q o at in omega (arith, c.window_len-len.ensures)),
+      ),
+    )
 
 pub returns-then-has_none : goal.returns-then-has_none
 returns-then-has_none c =
@@ -23,7 +32,7 @@ returns-then-has_none c =
 pub returns-in_err-number : goal.returns-in_err-number
 returns-in_err-number c =
     let leaves = c.self.invariant.leaves in
-    let nearest = c.in_err-number.ensures [] leaves.held.root (λ q o at. (let l = leaves.short q o at in omega (arith, c.window_len-len.ensures))) in
+    let nearest = c.in_err-number.ensures [] leaves.held.root in
     rw c.from_residual.ensures (
       ap (λ (d : Counting). windows_above c.args.at.now d.counts) (sym c.self.view_is) ∙ none_above c.self.inside.cells c.self.inside.windows.items c.self.inside.windows.len leaves c.args.at.now nearest,
       refl,
@@ -32,7 +41,7 @@ returns-in_err-number c =
 pub get-requires : goal.get-requires
 get-requires c =
     let leaves = c.self.invariant.leaves in
-    let l = c.in_ok-number.ensures [] leaves.held.root (λ q o at. (let l = leaves.short q o at in omega (arith, c.window_len-len.ensures))) in
+    let l = c.in_ok-number.ensures [] leaves.held.root in
     slice_get_within c.self.inside.windows.items c.in_ok-number.number l.rest l.there
 
 pub set-requires-clause-len : goal.set-requires-clause-len
@@ -48,7 +57,7 @@ pub returns : goal.returns
 returns c =
     let leaves = c.self.invariant.leaves in
     let ws = c.self.inside.windows.items in
-    let l = c.in_ok-number.ensures [] leaves.held.root (λ q o at. (let l = leaves.short q o at in omega (arith, c.window_len-len.ensures))) in
+    let l = c.in_ok-number.ensures [] leaves.held.root in
     let both : Some c.get.result.now ≡ Some l.rest = sym c.get.ensures ∙ l.there in
     let row : c.get.result.now ≡ l.rest = cc in
     let same : c.set.new.self ≡ l.rest = c.set.ensures ∙ row in

@@ -24,19 +24,19 @@ pub invariant_of-self : goal.invariant_of-self
 invariant_of-self c =
     let renews = subst (λ h. Renews c.self.inside.cells h c.renew.new.cells) c.deref.ensures.value c.renew.ensures in
     let new = has_fresh c.self.inside.cells c.self.inside.outputs c.fresh_heads.new.fresh c.in_ok-heads.heads.items c.renew.new.cells c.self.invariant.held c.in_ok-heads.ensures renews in
-    (deleted c.self.inside.cells c.self.inside.outputs c.self.invariant c.renew.new.cells c.fresh_heads.new.fresh new c.len-records.ensures.one_head c.prune.new.cells c.prune.ensures c.args.self.now c.self.view_is).trie
+    (deleted c.self.inside.cells c.self.inside.outputs c.self.invariant c.renew.new.cells c.fresh_heads.new.fresh new c.in_ok-heads.ensures.1.one_head c.prune.new.cells c.prune.ensures c.args.self.now c.self.view_is).trie
 
 pub returns-clause-ok : goal.returns-clause-ok
 returns-clause-ok c =
     let renews = subst (λ h. Renews c.self.inside.cells h c.renew.new.cells) c.deref.ensures.value c.renew.ensures in
     let new = has_fresh c.self.inside.cells c.self.inside.outputs c.fresh_heads.new.fresh c.in_ok-heads.heads.items c.renew.new.cells c.self.invariant.held c.in_ok-heads.ensures renews in
-    (deleted c.self.inside.cells c.self.inside.outputs c.self.invariant c.renew.new.cells c.fresh_heads.new.fresh new c.len-records.ensures.one_head c.prune.new.cells c.prune.ensures c.args.self.now c.self.view_is).view
+    (deleted c.self.inside.cells c.self.inside.outputs c.self.invariant c.renew.new.cells c.fresh_heads.new.fresh new c.in_ok-heads.ensures.1.one_head c.prune.new.cells c.prune.ensures c.args.self.now c.self.view_is).view
 
 pub returns-clause-tails : goal.returns-clause-tails
 returns-clause-tails c =
     let renews = subst (λ h. Renews c.self.inside.cells h c.renew.new.cells) c.deref.ensures.value c.renew.ensures in
     let new = has_fresh c.self.inside.cells c.self.inside.outputs c.fresh_heads.new.fresh c.in_ok-heads.heads.items c.renew.new.cells c.self.invariant.held c.in_ok-heads.ensures renews in
-    tails_is c.self.inside.cells c.self.inside.outputs c.self.invariant c.renew.new.cells c.fresh_heads.new.fresh new c.len-records.ensures.one_head c.in_ok-heads.ensures.1.needed ∙ ap (λ (m : Maps). tails m.patterns) c.self.view_is
+    tails_is c.self.inside.cells c.self.inside.outputs c.self.invariant c.renew.new.cells c.fresh_heads.new.fresh new c.in_ok-heads.ensures.1.one_head c.in_ok-heads.ensures.1.needed ∙ ap (λ (m : Maps). tails m.patterns) c.self.view_is
 
 pub returns-clause-signs : goal.returns-clause-signs
 returns-clause-signs c = ap (λ (m : Maps). m.signs) (returns-clause-ok c)

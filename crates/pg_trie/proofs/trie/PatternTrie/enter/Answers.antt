@@ -4,8 +4,6 @@ use Rattle.std.proofs.lemmas.Result.{err_from_is_err_and}
 use Rattle.pg_types.specs.Placement.{enter}
 use Rattle.pg_cells.specs.Inside.ValuedFamilies.{ValuedFamilies}
 use Rattle.pg_cells.specs.Inside.Walks.{AddsBlanks}
-use Rattle.std.specs.FinMap.{put}
-use Rattle.pg_cells.proofs.StringMaps.{order}
 use Rattle.pg_trie.specs.declared.hopeless.TheConstants.{HOPELESS}
 use Rattle.pg_trie.specs.Inside.Lists.{list_with}
 use Rattle.pg_trie.specs.Inside.Maps.{Maps}

@@ -1,0 +1,84 @@
+//! The sums of good and bad weights of a string, as one tally of a list.
+ghost use Rattle.std.specs.Prelude.{◌≡◌, ◌+◌, ◌<◌, ◌≤◌, ◌++◌, [], ◌∷◌, length, set, slice_get, Some, IfOk, OnOk, OnErr};
+ghost use Rattle.pg_types.specs.Inside.Counts.{AreSmall, with_weight};
+ghost use Rattle.pg_count.specs.Inside.CellNumbers.{tally_by_number};
+
+use pg_types::Weight;
+use std::alloc::AllocError;
+
+/// This number in a cell says that the string was never counted: tallies are numbered from 1 on.
+pub const NOT_COUNTED: u32 = 0;
+
+/// The number of each tally is below this one.
+pub const NUMBERS_END: u32 = u32::MAX;
+
+/// The sums with one weight more, in the good or the bad one.
+pub fn add_weight(sums: (u64, u64), good: bool, weight: Weight) -> (u64, u64)
+    requires { AreSmall (with_weight sums good weight) }
+    ensures { result ≡ with_weight sums good weight }
+{
+    let weight = u64::from(weight);
+    if good {
+        (sums.0 + weight, sums.1)
+    } else {
+        (sums.0, sums.1 + weight)
+    }
+}
+
+/// The tally with the number of a cell, where they are numbered from `first` on, or `None` where no
+/// tally has it. Before its sums stands its own number, from 0 on.
+pub fn tally_by_number(
+    tallies: &[(u64, u64)],
+    first: u32,
+    in_cell: u32,
+) -> Option<(u32, (u64, u64))>
+    ensures { result ≡ tally_by_number first tallies.now in_cell }
+{
+    if in_cell < first {
+        return None;
+    }
+    let number = in_cell - first;
+    match tallies.get(number as usize) {
+        Some(sums) => Some((number, *sums)),
+        None => None,
+    }
+}
+
+/// The sums of the tally with the number.
+pub fn sums_at(tallies: &[(u64, u64)], number: u32) -> (u64, u64)
+    requires { number < length tallies.now }
+    ensures { slice_get tallies.now number ≡ Some result }
+{
+    tallies[number as usize]
+}
+
+/// Sets the sums of the tally with the number.
+pub fn set_sums_at(tallies: &mut Vec<(u64, u64)>, number: u32, sums: (u64, u64))
+    requires { number < length tallies.old.items }
+    ensures { tallies.new.items ≡ set tallies.old.items number sums }
+{
+    tallies[number as usize] = sums;
+}
+
+/// Adds a tally and gives its number, where they are numbered from `first` on, as long as a number
+/// is left.
+///
+/// Refused: the tallies are as before.
+pub fn push_sums(
+    tallies: &mut Vec<(u64, u64)>,
+    first: u32,
+    sums: (u64, u64),
+) -> Result<u32, AllocError>
+    requires { first + length tallies.old.items ≤ NUMBERS_END }
+    ensures number { IfOk result (λ number. number ≡ first + length tallies.old.items) }
+    ensures items { OnOk result (tallies.new.items ≡ tallies.old.items ++ sums ∷ []) }
+    ensures few { first + length tallies.new.items ≤ NUMBERS_END }
+    ensures err { OnErr result (tallies.new.items ≡ tallies.old.items) }
+{
+    let number = first + tallies.len() as u32;
+    if number == NUMBERS_END {
+        return Err(AllocError);
+    }
+    tallies.push(sums)?;
+    Ok(number)
+}
