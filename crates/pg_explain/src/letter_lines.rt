@@ -86,7 +86,9 @@ pub(crate) fn push_spelling(
                 Show(spelling),
                 Say(b"\" has "),
                 Count(spelling.len()),
-                Say(b" bytes, and 8 is the most"),
+                Say(b" bytes, and "),
+                Count(SPELLING_MAX),
+                Say(b" is the most"),
             ],
         );
     }

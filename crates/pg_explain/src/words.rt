@@ -13,7 +13,7 @@ fn push_fault(text: &mut Text, command: &Command, fault: &Fault<'_>) -> Result<(
         Say(b": "),
         fault.word,
         Say(fault.is),
-        Show(fault.other.as_bytes()),
+        fault.other,
         Say(fault.behind),
         Show(fault.third.as_bytes()),
         Say(fault.end),
