@@ -47,5 +47,5 @@ failed_on result F K U X is p = passed_on result error.Failed F K U X is p
 pub memory_on : {T : Type 0} (result : Result T WriteError) (F K U X : Type 0) → IsErrAnd result (λ d. d ≡ error.Memory) → IfErr result (Because F K U X)
 memory_on result F K U X is = passed_on result error.Memory F K U X is tt
 
-pub unfollowed_on : {T : Type 0} (result : Result T WriteError) (e : WriteError) (F K U X : Type 0) → IsErrAnd result (λ d. d ≡ e) → e ≡ error.Unfollowed → U → IfErr result (Because F K U X)
-unfollowed_on result e F K U X is same p = passed_on result e F K U X is (subst (λ (d : WriteError). Because F K U X d) (sym same) p)
+pub because_unfollowed : (e : WriteError) (F K U X : Type 0) → e ≡ error.Unfollowed → U → Because F K U X e
+because_unfollowed e F K U X same p = subst (λ (d : WriteError). Because F K U X d) (sym same) p
