@@ -1,10 +1,14 @@
 -- What a failure says that is passed on.
 use Rattle.std.proofs.Common.{◌≡◌, ℕ, ◌≤◌, Result, Ok, Err, OnOk, OnErr, IfErr, sym, subst, arith}
 use Rattle.std.specs.Result.{IsErrAnd}
-use Rattle.pg_outside.specs.Faults.{Rose}
+use Rattle.pg_outside.specs.Faults.{Rose, next_count}
 use Rattle.pg_outside.specs.Inside.Causes.{Because}
 use Rattle.pg_outside.specs.declared.disk.error.WriteError.{WriteError}
 use Rattle.pg_outside.specs.declared.disk.error.WriteError.TheVariants as error
+
+-- a count that is the next one rose
+pub rose_one : (a b : ℕ) → b ≡ next_count a → Rose a b
+rose_one a b next = omega arith
 
 -- a count that rose since it was the same
 pub rose_since : (a b c : ℕ) → b ≡ a → Rose b c → Rose a c
