@@ -5,13 +5,14 @@ use Rattle.pg_outside.proofs.Causes.{rose_since}
 use Rattle.pg_outside.proofs.DiskReading.{reads_content, reads_front, is_noted, keeps_only}
 use Rattle.pg_outside.proofs.Results.{no_value}
 use Rattle.pg_outside.proofs.Runs.{keeps_self, keeps_both, now_always}
+use Rattle.pg_outside.proofs.ReadErrors.{long_or_failed, memory_or_long, memory_or_failed}
 use Rattle.pg_outside.proofs.disk.files.read_named.Goals as goal
 
 pub returns-in_default : goal.returns-in_default
 returns-in_default g c = record {
   same = (c.open.ensures.same, λ id is. is, now_always (KeepsOnly _ _ _) _ (λ d. inl refl));
-  all = search rules;
-  front = search rules;
+  all = tt;
+  front = λ is. absurd (long_or_failed _ is refl);
   failed = search rules;
 }
 
@@ -23,8 +24,8 @@ returns-in_err-keep_regular g c = record {
     keeps_only _ _ _ _ _ _ _ _ c.in-Ok.ensures.opened c.stat.ensures.same c.in-Ok-stat.ensures.seen c.keep_regular.ensures.only (keeps_self _),
   );
   all = no_value _ c.from_residual.result c.from_residual.ensures.0;
-  front = search rules;
-  failed = search rules;
+  front = λ is. absurd (memory_or_long _ c.from_residual.ensures.1 is);
+  failed = λ is. absurd (memory_or_failed _ c.from_residual.ensures.1 is);
 }
 
 pub returns : goal.returns

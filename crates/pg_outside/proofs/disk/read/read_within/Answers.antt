@@ -1,9 +1,10 @@
 use Rattle.pg_outside.proofs.Causes.{rose_since}
-use Rattle.pg_outside.proofs.Results.{no_value}
+use Rattle.pg_outside.proofs.Results.{no_value, not_err}
 use Rattle.pg_outside.proofs.Runs.{keeps_both}
-use Rattle.std.proofs.Common.{refl, ◌∙◌, ◌≡◌, ◌<◌, ◌≤◌, ◌+◌, ◌++◌, length, take, drop, arith, rules}
+use Rattle.std.proofs.Common.{refl, ◌∙◌, ◌≡◌, ◌<◌, ◌≤◌, ◌+◌, ◌++◌, length, take, drop, arith}
 use Rattle.std.proofs.lemmas.Grind.{common_steps}
 use Rattle.pg_outside.proofs.ReadLoop.{more_bytes, within_limit, reads_none, reads_on, reads_end, reads_past}
+use Rattle.pg_outside.proofs.ReadErrors.{long_or_failed, memory_or_long, memory_or_failed}
 use Rattle.pg_outside.proofs.disk.read.read_within.Goals as goal
 
 pub returns-in-Ok-eq0 : goal.returns-in-Ok-eq0
@@ -14,8 +15,8 @@ returns-in-Ok-eq0 g c = record {
         omega arith,
         reads_end _ _ _ _ _ _ _ _ _ _ _ _ c.loop-piece.invariant.read c.read_some.ensures.same c.in-Ok-eq0.ensures.bytes c.in-Ok-eq0.field-0-test room,
       );
-  front = search rules;
-  failed = search rules;
+  front = λ is. absurd (not_err _ _ is);
+  failed = λ is. absurd (not_err _ _ is);
 }
 
 pub loop-piece-preserved : goal.loop-piece-preserved
@@ -30,27 +31,27 @@ loop-piece-preserved g c =
 
 pub returns : goal.returns
 returns g c = record {
-  same = search rules;
-  all = search rules;
+  same = c.loop-piece.invariant.read.keeps;
+  all = tt;
   front =    let past : c.args.limit < length c.loop-piece.into.items = omega arith in
       let within = c.loop-piece.invariant.read.within in
       λ long. (omega arith, reads_past _ _ _ _ _ _ _ c.loop-piece.invariant.read past);
-  failed = search rules;
+  failed = λ is. absurd (long_or_failed _ refl is);
 }
 
 pub returns-in_err-extend_from_slice-in-Ok : goal.returns-in_err-extend_from_slice-in-Ok
 returns-in_err-extend_from_slice-in-Ok g c = record {
   same = keeps_both _ _ _ c.loop-piece.invariant.read.keeps c.read_some.ensures.same;
   all = no_value _ c.from_residual.result c.from_residual.ensures.0;
-  front = search rules;
-  failed = search rules;
+  front = λ is. absurd (memory_or_long _ c.from_residual.ensures.1 is);
+  failed = λ is. absurd (memory_or_failed _ c.from_residual.ensures.1 is);
 }
 
 pub returns-in-Err : goal.returns-in-Err
 returns-in-Err g c = record {
   same = keeps_both _ _ _ c.loop-piece.invariant.read.keeps c.read_some.ensures.same;
   all = tt;
-  front = search rules;
+  front = λ is. absurd (long_or_failed _ is refl);
   failed = λ _. rose_since _ _ _ c.loop-piece.invariant.failures c.in-Err.ensures.failed;
 }
 
