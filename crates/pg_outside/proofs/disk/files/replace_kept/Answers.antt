@@ -1,4 +1,4 @@
-use Rattle.std.proofs.Common.{refl, rules}
+use Rattle.std.proofs.Common.{refl}
 use Rattle.pg_outside.proofs.Causes.{passed_on}
 use Rattle.pg_outside.proofs.Results.{on_err, no_value}
 use Rattle.pg_outside.proofs.disk.files.replace_kept.Goals as goal
@@ -13,6 +13,6 @@ returns-in_err-id g c = record {
 pub returns : goal.returns
 returns g c = record {
   ok = (c.in_ok-id.ensures.ok.0, c.in_ok-id.id, c.keep_new.ensures, c.in_ok-id.ensures.ok.1);
-  err = search rules;
-  cause = search rules;
+  err = tt;
+  cause = tt;
 }

@@ -1,7 +1,8 @@
-use Rattle.std.proofs.Common.{◌∙◌, rules}
+use Rattle.std.proofs.Common.{◌∙◌}
 use Rattle.pg_outside.proofs.Causes.{rose_then, passed_weaker}
 use Rattle.pg_outside.proofs.Results.{on_err}
 use Rattle.pg_outside.proofs.Replacing.{replaces, gave_up, nothing_done}
+use Rattle.std.proofs.lemmas.Result.{IfOk-from_err}
 use Rattle.pg_outside.proofs.disk.new_file.replace.Goals as goal
 
 pub returns-in-Ok : goal.returns-in-Ok
@@ -10,13 +11,13 @@ returns-in-Ok g c = record {
     c.in-Ok.ensures.ok.0 ∙ c.in_ok-new.ensures.ok_failures,
     replaces _ _ c.args.bytes.now c.args.mode _ _ _ _ _ (record { is_new = c.in_ok-new.ensures.own; apart = c.in_ok-new.ensures.apart }) (g.met.S.System.new_names c.args.system.now) c.in_ok-new.ensures.ok c.in-Ok.ensures.ok.1,
   );
-  err = search rules;
-  cause = search rules;
+  err = tt;
+  cause = tt;
 }
 
 pub returns : goal.returns
 returns g c = record {
-  ok = search rules;
+  ok = tt;
   err =    let ok = rw (c.as_str.ensures.value, c.place.ensures.own) at c.remove.ensures.ok in
       let err = rw (c.as_str.ensures.value, c.place.ensures.own) at c.remove.ensures.err in
       gave_up c.remove.result _ _ c.args.bytes.now c.args.mode _ _ _ _ _ (record { is_new = c.in_ok-new.ensures.own; apart = c.in_ok-new.ensures.apart }) (g.met.S.System.new_names c.args.system.now) c.in_ok-new.ensures.ok c.in-Err.ensures.err.1 ok err;
@@ -25,7 +26,7 @@ returns g c = record {
 
 pub returns-in_err-new : goal.returns-in_err-new
 returns-in_err-new g c = record {
-  ok = search rules;
+  ok = IfOk-from_err _ _ c.from_residual.ensures.0;
   err = on_err c.from_residual.result (nothing_done _ _ _ _ _ c.in_err-new.ensures.err);
   cause = passed_weaker c.from_residual.result _ _ _ _ _ _ _ _ _ c.from_residual.ensures.1 c.in_err-new.ensures.cause (λ r. r) (λ b. b) (λ b. b) (λ all. (c.in_err-new.ensures.err, all));
 }

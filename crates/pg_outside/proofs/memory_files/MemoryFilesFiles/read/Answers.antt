@@ -1,8 +1,9 @@
-use Rattle.std.proofs.Common.{List, Some, sym, ap, ◌∙◌, arith, rules}
+use Rattle.std.proofs.Common.{List, Some, sym, ap, ◌∙◌, arith, rules, refl}
 use Rattle.pg_outside.specs.Inside.StoredFile.{file_map, room_in}
 use Rattle.pg_outside.specs.declared.stored.StoredFile.{StoredFile}
 use Rattle.pg_outside.proofs.ListedCalls.{not_listed, not_unlisted}
 use Rattle.pg_outside.proofs.MemoryCounts.{reads_later, reads_by_one, reads_rose}
+use Rattle.pg_outside.proofs.ReadErrors.{long_or_failed}
 use Rattle.pg_outside.proofs.memory_files.MemoryFilesFiles.read.Goals as goal
 
 pub returns-in-Some : goal.returns-in-Some
@@ -11,15 +12,15 @@ returns-in-Some c = record {
   reads = reads_later c.args.self.now.missing.items c.next_plan.new.self.missing.items c.args.self.now.reads_failed c.next_plan.new.self.reads_failed (ap (λ v. v.items) c.next_plan.ensures.missing) c.next_plan.ensures.reads;
   writes = λ _. c.next_plan.ensures.writes;
   fits = tt;
-  cut = search rules;
+  cut = λ is. absurd (long_or_failed _ is refl);
   file = tt;
-  cut_file = search rules;
+  cut_file = λ is. absurd (long_or_failed _ is refl);
   failed = λ _. reads_rose c.args.self.now.missing.items c.next_plan.new.self.missing.items c.args.self.now.reads_failed c.next_plan.new.self.reads_failed (ap (λ v. v.items) c.next_plan.ensures.missing) c.in-Some.ensures.reads_rose c.args.name.now;
   calls = c.next_plan.ensures.calls;
   made = c.next_plan.ensures.made ∙ c.and-self.ensures;
   listed = c.next_plan.ensures.listed;
   rooms = λ name. ap (λ (files : List StoredFile). room_in files name) (ap (λ v. v.items) c.next_plan.ensures.files);
-  listed_fails = search rules;
+  listed_fails = λ _. refl;
   listed_reads = λ _. reads_rose c.args.self.now.missing.items c.next_plan.new.self.missing.items c.args.self.now.reads_failed c.next_plan.new.self.reads_failed (ap (λ v. v.items) c.next_plan.ensures.missing) c.in-Some.ensures.reads_rose;
   listed_writes = λ _ name. omega (arith, c.in-Some.ensures.writes_rose);
   found = λ unlisted. absurd (not_unlisted _ _ _ _ c.next_plan.ensures.plan c.in-Some.is unlisted);

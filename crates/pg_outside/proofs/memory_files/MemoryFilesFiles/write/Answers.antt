@@ -1,4 +1,4 @@
-use Rattle.std.proofs.Common.{List, ap, ◌∙◌, subst, arith, rules}
+use Rattle.std.proofs.Common.{List, ap, ◌∙◌, subst, arith, rules, refl}
 use Rattle.pg_outside.specs.Content.{HasPart}
 use Rattle.pg_outside.specs.Inside.NameFaults.{NoneFell}
 use Rattle.pg_outside.specs.Inside.StoredFile.{file_map, room_in}
@@ -18,7 +18,7 @@ returns-in-Some c = record {
   made = c.next_plan.ensures.made ∙ c.and-self.ensures;
   listed = c.next_plan.ensures.listed;
   rooms = subst (λ (files : List StoredFile). NoneFell (room_in files) (room_in c.store_front.new.files.items)) (ap (λ v. v.items) c.next_plan.ensures.files) c.store_front.ensures.rooms;
-  listed_fails = search rules;
+  listed_fails = λ _. refl;
   listed_reads = λ _. reads_rose c.args.self.now.missing.items c.next_plan.new.self.missing.items c.args.self.now.reads_failed c.next_plan.new.self.reads_failed (ap (λ v. v.items) c.next_plan.ensures.missing) c.in-Some.ensures.reads_rose;
   keeps_none = search rules;
   keeps = search rules;
@@ -73,7 +73,7 @@ returns-else-is_err c = record {
   keeps_none = λ kept. absurd (not_kept _ _ _ _ c.next_plan.ensures.plan c.in-None.is kept);
   keeps = λ keep kept. absurd (not_kept _ _ _ _ c.next_plan.ensures.plan c.in-None.is kept);
   keeps_within = λ keep kept. absurd (not_kept _ _ _ _ c.next_plan.ensures.plan c.in-None.is kept);
-  within = search rules;
+  within = λ _ _ _. refl;
   unlisted_files = λ _. tt;
   failed_writes = tt;
   ok_writes = λ _. c.in-None.ensures.writes_same;

@@ -1,4 +1,5 @@
 use Rattle.std.proofs.Common.{refl, arith, rules}
+use Rattle.pg_outside.proofs.Results.{not_err}
 use Rattle.pg_outside.proofs.quiet_files.QuietFilesFiles.read.Goals as goal
 
 pub returns-in-Some : goal.returns-in-Some
@@ -28,14 +29,14 @@ returns-in-None c = record {
   writes = λ name. omega arith;
   calls = c.and-self.ensures;
   fits = search rules;
-  cut = search rules;
+  cut = λ is. absurd (not_err _ _ is);
   file = tt;
-  cut_file = search rules;
-  failed = search rules;
+  cut_file = λ is. absurd (not_err _ _ is);
+  failed = λ is. absurd (not_err _ _ is);
   missing = λ _. refl;
   missing_bytes = λ _. c.requires.empty;
   missing_ends = λ _. refl;
-  quiet = search rules;
+  quiet = λ is. not_err _ _ is;
   found = search rules;
   files = refl;
   rooms = λ name. refl;

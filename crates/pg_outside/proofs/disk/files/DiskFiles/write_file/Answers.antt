@@ -1,4 +1,3 @@
-use Rattle.std.proofs.Common.{rules}
 use Rattle.std.proofs.lemmas.Result.{on_err_weaker, on_ok_weaker, IfErr-at_err}
 use Rattle.pg_outside.specs.Inside.Causes.{Because}
 use Rattle.pg_outside.proofs.DiskWriting.{kept_either}
@@ -20,5 +19,5 @@ returns g c = record {
   later = c.count_write.ensures.later;
   one_fault = c.count_write.ensures.err;
   ok_faults = c.count_write.ensures.ok;
-  calls = search rules;
+  calls = c.and-self.ensures;
 }
