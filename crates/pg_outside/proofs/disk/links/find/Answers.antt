@@ -26,7 +26,7 @@ loop-init g c = record {
 pub returns-in-Missing : goal.returns-in-Missing
 returns-in-Missing g c = record {
   same = keeps_both _ _ _ c.loop.invariant.same c.look.ensures.same;
-  found =    let entry = rw (c.as_str.ensures.value, c.in-Missing.is) at c.in_ok-look.ensures.entry in
+  found = let entry = rw (c.as_str.ensures.value, c.in-Missing.is) at c.in_ok-look.ensures.entry in
       (c.in_ok-look.ensures.ok_failures ∙ c.loop.invariant.failures, stands_none _ _ _ _ _ _ _ c.loop.invariant.reached c.look.ensures.same entry c.make_found.ensures.name c.make_found.ensures.file);
   cause = tt;
 }
@@ -34,7 +34,7 @@ returns-in-Missing g c = record {
 pub returns-in-File : goal.returns-in-File
 returns-in-File g c = record {
   same = keeps_both _ _ _ c.loop.invariant.same c.look.ensures.same;
-  found =    let entry = rw (c.as_str.ensures.value, c.in-File.is) at c.in_ok-look.ensures.entry in
+  found = let entry = rw (c.as_str.ensures.value, c.in-File.is) at c.in_ok-look.ensures.entry in
       (c.in_ok-look.ensures.ok_failures ∙ c.loop.invariant.failures, stands_some _ _ _ c.in-File.id _ _ _ _ c.loop.invariant.reached c.look.ensures.same entry c.make_found-in-File.ensures.name c.make_found-in-File.ensures.file);
   cause = tt;
 }
@@ -64,7 +64,7 @@ pub returns-in_err-text-in-Link : goal.returns-in_err-text-in-Link
 returns-in_err-text-in-Link g c = record {
   same = keeps_both _ _ _ (keeps_both _ _ _ c.loop.invariant.same c.look.ensures.same) c.read_link.ensures.same;
   found = IfOk-from_err _ _ c.from_residual-in_err-text-in-Link.ensures.0;
-  cause =    failed_on c.from_residual-in_err-text-in-Link.result _ _ _ _ c.from_residual-in_err-text-in-Link.ensures.1 (rose_since _ _ _ (c.in_ok-look.ensures.ok_failures ∙ c.loop.invariant.failures) c.in_err-text-in-Link.ensures.failed);
+  cause = failed_on c.from_residual-in_err-text-in-Link.result _ _ _ _ c.from_residual-in_err-text-in-Link.ensures.1 (rose_since _ _ _ (c.in_ok-look.ensures.ok_failures ∙ c.loop.invariant.failures) c.in_err-text-in-Link.ensures.failed);
 }
 
 pub returns-in_err-real-in-Link : goal.returns-in_err-real-in-Link

@@ -16,10 +16,10 @@ pub returns-in_err-write_all : goal.returns-in_err-write_all
 returns-in_err-write_all g c = record {
   file = search rules;
   ok = no_value _ c.from_residual-in_err-write_all.result c.from_residual-in_err-write_all.ensures.0;
-  err =    on_err c.from_residual-in_err-write_all.result (
-        rose_since _ _ _ c.in_ok-keep_mode.ensures.ok.0 c.in_err-write_all.ensures.err.0,
-        mode_then_failed _ _ c.args.mode c.args.bytes.now _ _ _ c.in_ok-keep_mode.ensures.ok.1 c.keep_mode.ensures.file c.in_err-write_all.ensures.err.1,
-      );
+  err = on_err c.from_residual-in_err-write_all.result (
+    rose_since _ _ _ c.in_ok-keep_mode.ensures.ok.0 c.in_err-write_all.ensures.err.0,
+    mode_then_failed _ _ c.args.mode c.args.bytes.now _ _ _ c.in_ok-keep_mode.ensures.ok.1 c.keep_mode.ensures.file c.in_err-write_all.ensures.err.1,
+  );
 }
 
 pub returns : goal.returns

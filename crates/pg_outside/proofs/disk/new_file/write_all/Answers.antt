@@ -18,7 +18,7 @@ returns-in_err-count g c = record {
 pub returns-then-count-eq0 : goal.returns-then-count-eq0
 returns-then-count-eq0 g c = record {
   file = search rules;
-  ok = search rules;
+  ok = tt;
   err = (
     rose_since _ _ _ c.loop-rest.invariant.failures (c.in_ok-count.ensures.none (omega arith)),
     written_part _ _ _ _ _ _ (written_step _ _ _ _ _ _ _ _ _ c.in_ok-count.count c.loop-rest.invariant.written c.write_some.ensures.file c.in_ok-count.ensures.ok (take_rest c.loop-rest.rest.now c.in_ok-count.count)),

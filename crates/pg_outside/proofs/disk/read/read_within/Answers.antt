@@ -10,11 +10,11 @@ use Rattle.pg_outside.proofs.disk.read.read_within.Goals as goal
 pub returns-in-Ok-eq0 : goal.returns-in-Ok-eq0
 returns-in-Ok-eq0 g c = record {
   same = keeps_both _ _ _ c.loop-piece.invariant.read.keeps c.read_some.ensures.same;
-  all =    let room : 0 < length (take c.min-most.result c.loop-piece.piece) = grind (arith, common_steps) in (
-        c.in-Ok-eq0.ensures.ok_failures ∙ c.loop-piece.invariant.failures,
-        omega arith,
-        reads_end _ _ _ _ _ _ _ _ _ _ _ _ c.loop-piece.invariant.read c.read_some.ensures.same c.in-Ok-eq0.ensures.bytes c.in-Ok-eq0.field-0-test room,
-      );
+  all = let room : 0 < length (take c.min-most.result c.loop-piece.piece) = grind (arith, common_steps) in (
+    c.in-Ok-eq0.ensures.ok_failures ∙ c.loop-piece.invariant.failures,
+    omega arith,
+    reads_end _ _ _ _ _ _ _ _ _ _ _ _ c.loop-piece.invariant.read c.read_some.ensures.same c.in-Ok-eq0.ensures.bytes c.in-Ok-eq0.field-0-test room,
+  );
   front = λ is. absurd (not_err _ _ is);
   failed = λ is. absurd (not_err _ _ is);
 }
@@ -33,7 +33,7 @@ pub returns : goal.returns
 returns g c = record {
   same = c.loop-piece.invariant.read.keeps;
   all = tt;
-  front =    let past : c.args.limit < length c.loop-piece.into.items = omega arith in
+  front = let past : c.args.limit < length c.loop-piece.into.items = omega arith in
       let within = c.loop-piece.invariant.read.within in
       λ long. (omega arith, reads_past _ _ _ _ _ _ _ c.loop-piece.invariant.read past);
   failed = λ is. absurd (long_or_failed _ refl is);

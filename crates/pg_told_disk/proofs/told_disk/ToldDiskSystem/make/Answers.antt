@@ -15,7 +15,7 @@ returns-in-Some c = record {
 
 pub returns-in-Ok : goal.returns-in-Ok
 returns-in-Ok c = record {
-  ok =    let counted : c.len-number.result ≡ length c.args.self.now.log.items = grind (arith, common_steps) in
+  ok = let counted : c.len-number.result ≡ length c.args.self.now.log.items = grind (arith, common_steps) in
       made_step _ _ _ _ _ _ _ _ _ c.change.ensures.told c.change.ensures.links c.change.ensures.log c.in-Ok.ensures.ok counted (sym (rw c.deref.ensures.value at c.if-is_link.ensures)) (sym (rw c.deref-2.ensures.value at c.in-None.ensures));
   err = search rules;
   later = search rules;
