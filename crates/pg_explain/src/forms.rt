@@ -77,8 +77,7 @@ const PRICE: Range = Range {
     digits_due: b", and has to be 1 to 1,000, in at most 4 digits",
 };
 
-/// All commands.
-pub(crate) const COMMANDS: &[Command] = &[
+const COMMANDS: &[Command] = &[
     Command {
         word: "generate",
         words: b"generate DICT PATTERNS OUT TRANSLATE PARAMS REPORT [--pattmp FILE] [--cells FILE]",
@@ -168,9 +167,14 @@ pub(crate) const COMMANDS: &[Command] = &[
     },
 ];
 
+/// All commands.
+pub(crate) fn commands() -> &'static [Command] {
+    COMMANDS
+}
+
 /// The command of this word.
 pub(crate) fn command_of(word: &str) -> Option<&'static Command> {
-    for command in COMMANDS {
+    for command in commands() {
         if command.word == word {
             return Some(command);
         }

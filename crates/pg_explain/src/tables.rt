@@ -23,8 +23,16 @@ fn number(bytes: &[u8], at: usize, len: usize) -> usize {
     value
 }
 
-/// What is wrong with a record: words, and the number that they end with, if they do.
-type RecordFault = (Part<'static>, Part<'static>);
+/// What is wrong with a cell or a record: words, and the number that they end with, if they do.
+type PartFault = (Part<'static>, Part<'static>);
+
+/// The first cell or record that breaks a rule.
+#[derive(Clone, Copy)]
+struct Broken {
+    part: &'static [u8],
+    number: usize,
+    fault: PartFault,
+}
 
 /// The numbers of a table's head.
 #[derive(Clone, Copy)]
@@ -52,29 +60,30 @@ impl Head {
     }
 
     /// What is wrong with a cell, if something is.
-    fn cell_fault(&self, bytes: &[u8], cell: usize) -> Option<&'static [u8]> {
+    fn cell_fault(&self, bytes: &[u8], cell: usize) -> Option<PartFault> {
         let at = cell.saturating_mul(CELL_LEN).saturating_add(HEAD_LEN);
         let sign = number(bytes, at, 2);
         let child = number(bytes, at.saturating_add(2), 4);
         let head = number(bytes, at.saturating_add(6), 4);
-        if cell <= self.signs && sign != cell {
-            Some(b"stands at the root, and its sign is not its own number")
+        let words: &[u8] = if cell <= self.signs && sign != cell {
+            b"stands at the root, and its sign is not its own number"
         } else if sign == 0 && (child != 0 || head != 0) {
-            Some(b"has no sign, and is not all 0")
+            b"has no sign, and is not all 0"
         } else if sign > self.signs {
-            Some(b"has a sign above the greatest")
+            b"has a sign above the greatest"
         } else if child >= self.cells {
-            Some(b"leads to a family behind the last cell")
+            b"leads to a family behind the last cell"
         } else if head > self.records {
-            Some(b"leads to a record behind the last")
+            b"leads to a record behind the last"
         } else {
-            None
-        }
+            return None;
+        };
+        Some((Say(words), Say(b"")))
     }
 
     /// What is wrong with a record, if something is, and the number behind these words. Records are
     /// counted from 0 here.
-    fn record_fault(&self, bytes: &[u8], record: usize) -> Option<RecordFault> {
+    fn record_fault(&self, bytes: &[u8], record: usize) -> Option<PartFault> {
         let cells = self.cells.saturating_mul(CELL_LEN).saturating_add(HEAD_LEN);
         let at = record.saturating_mul(RECORD_LEN).saturating_add(cells);
         let value = number(bytes, at, 1);
@@ -91,21 +100,24 @@ impl Head {
     }
 }
 
-/// The first cell that breaks a rule, and which.
-fn first_cell_fault(head: &Head, bytes: &[u8]) -> Option<(usize, &'static [u8])> {
+/// The first cell that breaks a rule, or else the first record. Records are counted from 1.
+fn first_broken(head: &Head, bytes: &[u8]) -> Option<Broken> {
     for cell in 0..head.cells {
         if let Some(fault) = head.cell_fault(bytes, cell) {
-            return Some((cell, fault));
+            return Some(Broken {
+                part: b"cell ",
+                number: cell,
+                fault,
+            });
         }
     }
-    None
-}
-
-/// The first record that breaks a rule, and which. Records are counted from 0 here.
-fn first_record_fault(head: &Head, bytes: &[u8]) -> Option<(usize, RecordFault)> {
     for record in 0..head.records {
         if let Some(fault) = head.record_fault(bytes, record) {
-            return Some((record, fault));
+            return Some(Broken {
+                part: b"record ",
+                number: record.saturating_add(1),
+                fault,
+            });
         }
     }
     None
@@ -114,16 +126,18 @@ fn first_record_fault(head: &Head, bytes: &[u8]) -> Option<(usize, RecordFault)>
 /// Appends that a cell or record breaks a rule, where one does.
 fn push_parts(text: &mut Text, name: &str, bytes: &[u8], head: &Head) -> Result<(), AllocError> {
     let name = Show(name.as_bytes());
-    if let Some((cell, fault)) = first_cell_fault(head, bytes) {
-        let front = Say(b" is no packed table: its cell ");
-        return text.line(&[name, front, Count(cell), Say(b" "), Say(fault)]);
+    match first_broken(head, bytes) {
+        Some(broken) => text.line(&[
+            name,
+            Say(b" is no packed table: its "),
+            Say(broken.part),
+            Count(broken.number),
+            Say(b" "),
+            broken.fault.0,
+            broken.fault.1,
+        ]),
+        None => text.line(&[name, Say(b" is no packed table")]),
     }
-    if let Some((record, fault)) = first_record_fault(head, bytes) {
-        let front = Say(b" is no packed table: its record ");
-        let number = Count(record.saturating_add(1));
-        return text.line(&[name, front, number, Say(b" "), fault.0, fault.1]);
-    }
-    text.line(&[name, Say(b" is no packed table")])
 }
 
 /// Appends what in the head of a table breaks a rule, or else which cell or record does.

@@ -148,16 +148,21 @@ fn is_new(words: &[String], word: &str) -> bool {
     true
 }
 
+/// What is wrong with the name behind an option.
+fn file_fault<'a>(option: &'a str, name: Option<&'a String>) -> Option<Fault<'a>> {
+    match name {
+        None => Some(of_two("FILE", b" is missing behind ", option, b"")),
+        Some(name) => name_fault("FILE", name.as_str(), false),
+    }
+}
+
 /// What is wrong with the option at a place of the words behind the six names, or with its name.
 fn option_fault<'a>(command: &Command, words: &'a [String], place: usize) -> Option<Fault<'a>> {
     let option = words.get(place)?.as_str();
     let before = words.get(..place).unwrap_or(&[]);
-    if let Some(is) = option_words(command, option, is_new(before, option)) {
-        return Some(of_word(option, is));
-    }
-    match words.get(place.saturating_add(1)) {
-        None => Some(of_two("FILE", b" is missing behind ", option, b"")),
-        Some(name) => name_fault("FILE", name.as_str(), false),
+    match option_words(command, option, is_new(before, option)) {
+        Some(is) => Some(of_word(option, is)),
+        None => file_fault(option, words.get(place.saturating_add(1))),
     }
 }
 

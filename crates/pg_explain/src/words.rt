@@ -1,6 +1,6 @@
 //! Status 2: the words are no command.
 
-use crate::forms::{COMMANDS, Command, command_of};
+use crate::forms::{Command, command_of, commands};
 use crate::word_faults::{Fault, fault_of};
 use pg_visible::Part::{Say, Show};
 use pg_visible::Text;
@@ -27,7 +27,7 @@ fn push_form(text: &mut Text, command: &Command) -> Result<(), AllocError> {
 
 /// Appends the words of all commands.
 fn push_forms(text: &mut Text) -> Result<(), AllocError> {
-    for command in COMMANDS {
+    for command in commands() {
         push_form(text, command)?;
     }
     Ok(())
