@@ -13,22 +13,24 @@ pub(crate) struct Range {
     pub digits_due: &'static [u8],
 }
 
-/// What a word of a command has to be.
+/// What a word of a command has to be, and how it is called.
 #[derive(Clone, Copy)]
-pub(crate) enum Role {
+pub(crate) enum Slot {
     /// The name of a file that is read.
-    Input,
+    Input(&'static str),
     /// The name of a file that is written.
-    Output,
+    Output(&'static str),
     /// A number from one bound to another.
-    Number(Range),
+    Number(&'static str, Range),
 }
 
-/// A word of a command: how it is called, and what it has to be.
-#[derive(Clone, Copy)]
-pub(crate) struct Slot {
-    pub name: &'static str,
-    pub role: Role,
+impl Slot {
+    /// How the word is called.
+    pub fn name(&self) -> &'static str {
+        match self {
+            Slot::Input(name) | Slot::Output(name) | Slot::Number(name, _) => name,
+        }
+    }
 }
 
 /// What may stand behind the words that each call of a command has.
@@ -54,47 +56,28 @@ pub(crate) struct Command {
     pub behind: Behind,
 }
 
-const DICT: Slot = Slot {
-    name: "DICT",
-    role: Role::Input,
-};
+const DICT: Slot = Slot::Input("DICT");
 
-const PATTERNS: Slot = Slot {
-    name: "PATTERNS",
-    role: Role::Input,
-};
+const PATTERNS: Slot = Slot::Input("PATTERNS");
 
-const TRANSLATE: Slot = Slot {
-    name: "TRANSLATE",
-    role: Role::Input,
-};
+const TRANSLATE: Slot = Slot::Input("TRANSLATE");
 
-const PARAMS: Slot = Slot {
-    name: "PARAMS",
-    role: Role::Input,
-};
+const PARAMS: Slot = Slot::Input("PARAMS");
 
-const OUT: Slot = Slot {
-    name: "OUT",
-    role: Role::Output,
-};
+const OUT: Slot = Slot::Output("OUT");
 
-const REPORT: Slot = Slot {
-    name: "REPORT",
-    role: Role::Output,
-};
+const REPORT: Slot = Slot::Output("REPORT");
 
-/// What costs a unit of an error, or of a missed hyphen, in a sweep.
-const PRICE: Role = Role::Number(Range {
+/// What a unit of an error, or of a missed hyphen, may cost in a sweep.
+const PRICE: Range = Range {
     digits: 4,
     least: 1,
     most: 1_000,
     due: b", and has to be 1 to 1,000",
     digits_due: b", and has to be 1 to 1,000, in at most 4 digits",
-});
+};
 
-/// All commands.
-pub(crate) const COMMANDS: &[Command] = &[
+const COMMANDS: &[Command] = &[
     Command {
         word: "generate",
         words: b"generate DICT PATTERNS OUT TRANSLATE PARAMS REPORT [--pattmp FILE] [--cells FILE]",
@@ -107,16 +90,10 @@ pub(crate) const COMMANDS: &[Command] = &[
         slots: &[
             DICT,
             PATTERNS,
-            Slot {
-                name: "OUT",
-                role: Role::Input,
-            },
+            Slot::Input("OUT"),
             TRANSLATE,
             PARAMS,
-            Slot {
-                name: "REPORT",
-                role: Role::Input,
-            },
+            Slot::Input("REPORT"),
         ],
         behind: Behind::ReadFiles,
     },
@@ -124,53 +101,39 @@ pub(crate) const COMMANDS: &[Command] = &[
         word: "sample",
         words: b"sample N COUNT",
         slots: &[
-            Slot {
-                name: "N",
-                role: Role::Number(Range {
+            Slot::Number(
+                "N",
+                Range {
                     digits: 10,
                     least: 0,
                     most: 2_147_483_647,
                     due: b", and has to be 0 to 2,147,483,647",
                     digits_due: b", and has to be 0 to 2,147,483,647, in at most 10 digits",
-                }),
-            },
-            Slot {
-                name: "COUNT",
-                role: Role::Number(Range {
+                },
+            ),
+            Slot::Number(
+                "COUNT",
+                Range {
                     digits: 10,
                     least: 0,
                     most: 100_000,
                     due: b", and has to be 0 to 100,000",
                     digits_due: b", and has to be 0 to 100,000, in at most 10 digits",
-                }),
-            },
+                },
+            ),
         ],
         behind: Behind::Nothing,
     },
     Command {
         word: "pack",
         words: b"pack PATTERNS TRANSLATE TABLE",
-        slots: &[
-            PATTERNS,
-            TRANSLATE,
-            Slot {
-                name: "TABLE",
-                role: Role::Output,
-            },
-        ],
+        slots: &[PATTERNS, TRANSLATE, Slot::Output("TABLE")],
         behind: Behind::Nothing,
     },
     Command {
         word: "totals",
         words: b"totals DICT TRANSLATE TABLE",
-        slots: &[
-            DICT,
-            TRANSLATE,
-            Slot {
-                name: "TABLE",
-                role: Role::Input,
-            },
-        ],
+        slots: &[DICT, TRANSLATE, Slot::Input("TABLE")],
         behind: Behind::Nothing,
     },
     Command {
@@ -187,32 +150,31 @@ pub(crate) const COMMANDS: &[Command] = &[
             PATTERNS,
             OUT,
             TRANSLATE,
-            Slot {
-                name: "K",
-                role: Role::Number(Range {
+            Slot::Number(
+                "K",
+                Range {
                     digits: 2,
                     least: 2,
                     most: 10,
                     due: b", and has to be 2 to 10",
                     digits_due: b", and has to be 2 to 10, in at most 2 digits",
-                }),
-            },
-            Slot {
-                name: "BAD",
-                role: PRICE,
-            },
-            Slot {
-                name: "MISSED",
-                role: PRICE,
-            },
+                },
+            ),
+            Slot::Number("BAD", PRICE),
+            Slot::Number("MISSED", PRICE),
         ],
         behind: Behind::Sets,
     },
 ];
 
+/// All commands.
+pub(crate) fn commands() -> &'static [Command] {
+    COMMANDS
+}
+
 /// The command of this word.
 pub(crate) fn command_of(word: &str) -> Option<&'static Command> {
-    for command in COMMANDS {
+    for command in commands() {
         if command.word == word {
             return Some(command);
         }

@@ -1,41 +1,48 @@
 //! The head of a refused translate file.
 
 use crate::chars::{is_blank, up_to};
+use pg_translate::MINIMUM_MAX;
 use pg_visible::Part::{Byte, Count, Say, Show};
 use pg_visible::{Spot, Text};
 use std::alloc::AllocError;
 
-/// Appends why the bytes that begin at a place are no minimum.
-pub(crate) fn push_minimum(text: &mut Text, name: &str, spot: &Spot<'_>) -> Result<(), AllocError> {
-    if spot.column < 3 {
-        return push_side(text, name, spot, b"columns 1 and 2", b"left", b"right");
-    }
-    push_side(text, name, spot, b"columns 3 and 4", b"right", b"left")
+/// A side of a word, whose minimum a head gives.
+struct Side {
+    columns: &'static [u8],
+    name: &'static [u8],
+    other: &'static [u8],
 }
 
-/// Appends why the minimum of a side is none.
-fn push_side(
-    text: &mut Text,
-    name: &str,
-    spot: &Spot<'_>,
-    columns: &'static [u8],
-    side: &'static [u8],
-    other: &'static [u8],
-) -> Result<(), AllocError> {
+const LEFT: Side = Side {
+    columns: b"columns 1 and 2",
+    name: b"left",
+    other: b"right",
+};
+
+const RIGHT: Side = Side {
+    columns: b"columns 3 and 4",
+    name: b"right",
+    other: b"left",
+};
+
+/// Appends why the bytes that begin at a place are no minimum.
+pub(crate) fn push_minimum(text: &mut Text, name: &str, spot: &Spot<'_>) -> Result<(), AllocError> {
+    let side = if spot.column < 3 { &LEFT } else { &RIGHT };
     let pair = up_to(spot.rest(), 2);
     if is_blank(pair) {
-        return push_blank_side(text, name, spot, columns, side, other);
+        return push_blank_side(text, name, spot, side);
     }
     text.place(
         name,
         spot,
         &[
-            Say(columns),
+            Say(side.columns),
             Say(b" are \""),
             Show(pair),
             Say(b"\", and the "),
-            Say(side),
-            Say(b" minimum is due there: a number from 1 to 99"),
+            Say(side.name),
+            Say(b" minimum is due there: a number from 1 to "),
+            Count(usize::from(MINIMUM_MAX)),
         ],
     )
 }
@@ -45,19 +52,19 @@ fn push_blank_side(
     text: &mut Text,
     name: &str,
     spot: &Spot<'_>,
-    columns: &'static [u8],
-    side: &'static [u8],
-    other: &'static [u8],
+    side: &Side,
 ) -> Result<(), AllocError> {
     text.place(
         name,
         spot,
         &[
-            Say(columns),
+            Say(side.columns),
             Say(b" are blank, and the "),
-            Say(side),
-            Say(b" minimum is due there, 1 to 99, since the "),
-            Say(other),
+            Say(side.name),
+            Say(b" minimum is due there, 1 to "),
+            Count(usize::from(MINIMUM_MAX)),
+            Say(b", since the "),
+            Say(side.other),
             Say(b" one is given"),
         ],
     )

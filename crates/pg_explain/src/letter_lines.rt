@@ -39,16 +39,19 @@ fn spelling_at<'a>(spot: &Spot<'a>) -> &'a [u8] {
     }
 }
 
+/// The bytes that no spelling holds, in the order in which they are named.
+const NEVER_HELD: &[(u8, &[u8])] = &[
+    (b' ', b" holds a blank"),
+    (b'\t', b" holds a TAB"),
+    (b'\r', b" holds a CR"),
+];
+
 /// Why the bytes in place of a spelling are none.
 fn fault_of(spelling: &[u8]) -> &'static [u8] {
-    if spelling.contains(&b' ') {
-        return b" holds a blank";
-    }
-    if spelling.contains(&b'\t') {
-        return b" holds a TAB";
-    }
-    if spelling.contains(&b'\r') {
-        return b" holds a CR";
+    for (byte, words) in NEVER_HELD {
+        if spelling.contains(byte) {
+            return words;
+        }
     }
     match spelling.first() {
         Some(b'0'..=b'9') => b" begins with a digit",
@@ -86,7 +89,9 @@ pub(crate) fn push_spelling(
                 Show(spelling),
                 Say(b"\" has "),
                 Count(spelling.len()),
-                Say(b" bytes, and 8 is the most"),
+                Say(b" bytes, and "),
+                Count(SPELLING_MAX),
+                Say(b" is the most"),
             ],
         );
     }
@@ -138,6 +143,19 @@ fn clash_before<'a>(bytes: &'a [u8], last: usize, spelling: &[u8]) -> Option<(us
     None
 }
 
+/// How a spelling and an earlier one clash, and which rule they break.
+fn clash_words(spelling: &[u8], other: &[u8]) -> (&'static [u8], &'static [u8]) {
+    if other == spelling {
+        return (b"\" is \"", b": a spelling belongs to one letter");
+    }
+    let how: &[u8] = if other.starts_with(spelling) {
+        b"\" begins \""
+    } else {
+        b"\" begins with \""
+    };
+    (how, b": no spelling begins another")
+}
+
 /// Appends which spellings clash.
 pub(crate) fn push_clash<'a>(
     text: &mut Text,
@@ -152,18 +170,7 @@ pub(crate) fn push_clash<'a>(
             &[Say(b"this spelling clashes with an earlier one")],
         );
     };
-    let how: &[u8] = if other == spelling {
-        b"\" is \""
-    } else if other.starts_with(spelling) {
-        b"\" begins \""
-    } else {
-        b"\" begins with \""
-    };
-    let rule: &[u8] = if other == spelling {
-        b": a spelling belongs to one letter"
-    } else {
-        b": no spelling begins another"
-    };
+    let (how, rule) = clash_words(spelling, other);
     text.place(
         refused.name,
         spot,

@@ -6,7 +6,7 @@ use crate::letter_lines::{push_clash, push_delimiter, push_many_letters, push_sp
 use crate::more::push_more;
 use crate::parameters::{item_spot, push_item};
 use crate::tables::{push_bad_table, push_long_table, push_other_table};
-use crate::word_lines::{push_character, push_long_pattern, push_long_word, push_weight};
+use crate::word_lines::{push_character, push_long, push_weight};
 use crate::wrong::Refused;
 use pg_types::Kind;
 use pg_visible::Part::{Say, Show};
@@ -54,8 +54,7 @@ fn push_reason<'a>(
             push_item(text, refused, spot)
         }
         Kind::PatternCharacter | Kind::DictionaryCharacter => push_character(text, refused, spot),
-        Kind::PatternTooLong => push_long_pattern(text, refused.name, spot),
-        Kind::WordTooLong => push_long_word(text, refused.name, spot),
+        Kind::PatternTooLong | Kind::WordTooLong => push_long(text, refused, spot),
         Kind::BadWeight => push_weight(text, refused.name, spot),
         Kind::TableTooLong => push_long_table(text, refused),
         Kind::BadTable => push_bad_table(text, refused),

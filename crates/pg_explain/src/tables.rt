@@ -3,7 +3,7 @@
 use crate::chars::{behind, up_to};
 use crate::wrong::Refused;
 use pg_types::{LEVEL_MAX, PATTERN_SIGNS_MAX, SIGNS_MAX};
-use pg_visible::Part::{Count, Say, Show};
+use pg_visible::Part::{self, Count, Say, Show};
 use pg_visible::Text;
 use std::alloc::AllocError;
 
@@ -21,6 +21,17 @@ fn number(bytes: &[u8], at: usize, len: usize) -> usize {
         value = value.saturating_mul(256).saturating_add(usize::from(*byte));
     }
     value
+}
+
+/// What is wrong with a cell or a record: words, and the number that they end with, if they do.
+type PartFault = (Part<'static>, Part<'static>);
+
+/// The first cell or record that breaks a rule.
+#[derive(Clone, Copy)]
+struct Broken {
+    part: &'static [u8],
+    number: usize,
+    fault: PartFault,
 }
 
 /// The numbers of a table's head.
@@ -49,58 +60,64 @@ impl Head {
     }
 
     /// What is wrong with a cell, if something is.
-    fn cell_fault(&self, bytes: &[u8], cell: usize) -> Option<&'static [u8]> {
+    fn cell_fault(&self, bytes: &[u8], cell: usize) -> Option<PartFault> {
         let at = cell.saturating_mul(CELL_LEN).saturating_add(HEAD_LEN);
         let sign = number(bytes, at, 2);
         let child = number(bytes, at.saturating_add(2), 4);
         let head = number(bytes, at.saturating_add(6), 4);
-        if cell <= self.signs && sign != cell {
-            Some(b"stands at the root, and its sign is not its own number")
+        let words: &[u8] = if cell <= self.signs && sign != cell {
+            b"stands at the root, and its sign is not its own number"
         } else if sign == 0 && (child != 0 || head != 0) {
-            Some(b"has no sign, and is not all 0")
+            b"has no sign, and is not all 0"
         } else if sign > self.signs {
-            Some(b"has a sign above the greatest")
+            b"has a sign above the greatest"
         } else if child >= self.cells {
-            Some(b"leads to a family behind the last cell")
+            b"leads to a family behind the last cell"
         } else if head > self.records {
-            Some(b"leads to a record behind the last")
+            b"leads to a record behind the last"
         } else {
-            None
-        }
+            return None;
+        };
+        Some((Say(words), Say(b"")))
     }
 
-    /// What is wrong with a record, if something is. Records are counted from 0 here.
-    fn record_fault(&self, bytes: &[u8], record: usize) -> Option<&'static [u8]> {
+    /// What is wrong with a record, if something is, and the number behind these words. Records are
+    /// counted from 0 here.
+    fn record_fault(&self, bytes: &[u8], record: usize) -> Option<PartFault> {
         let cells = self.cells.saturating_mul(CELL_LEN).saturating_add(HEAD_LEN);
         let at = record.saturating_mul(RECORD_LEN).saturating_add(cells);
         let value = number(bytes, at, 1);
         if value == 0 || value > usize::from(LEVEL_MAX) {
-            Some(b"has a value that is not 1 to 9")
+            let most = Count(usize::from(LEVEL_MAX));
+            Some((Say(b"has a value that is not 1 to "), most))
         } else if number(bytes, at.saturating_add(1), 1) > PATTERN_SIGNS_MAX {
-            Some(b"has a dot above 32")
+            Some((Say(b"has a dot above "), Count(PATTERN_SIGNS_MAX)))
         } else if number(bytes, at.saturating_add(2), 4) > record {
-            Some(b"leads to itself or a later one")
+            Some((Say(b"leads to itself or a later one"), Say(b"")))
         } else {
             None
         }
     }
 }
 
-/// The first cell that breaks a rule, and which.
-fn first_cell_fault(head: &Head, bytes: &[u8]) -> Option<(usize, &'static [u8])> {
+/// The first cell that breaks a rule, or else the first record. Records are counted from 1.
+fn first_broken(head: &Head, bytes: &[u8]) -> Option<Broken> {
     for cell in 0..head.cells {
         if let Some(fault) = head.cell_fault(bytes, cell) {
-            return Some((cell, fault));
+            return Some(Broken {
+                part: b"cell ",
+                number: cell,
+                fault,
+            });
         }
     }
-    None
-}
-
-/// The first record that breaks a rule, and which. Records are counted from 0 here.
-fn first_record_fault(head: &Head, bytes: &[u8]) -> Option<(usize, &'static [u8])> {
     for record in 0..head.records {
         if let Some(fault) = head.record_fault(bytes, record) {
-            return Some((record, fault));
+            return Some(Broken {
+                part: b"record ",
+                number: record.saturating_add(1),
+                fault,
+            });
         }
     }
     None
@@ -109,16 +126,18 @@ fn first_record_fault(head: &Head, bytes: &[u8]) -> Option<(usize, &'static [u8]
 /// Appends that a cell or record breaks a rule, where one does.
 fn push_parts(text: &mut Text, name: &str, bytes: &[u8], head: &Head) -> Result<(), AllocError> {
     let name = Show(name.as_bytes());
-    if let Some((cell, fault)) = first_cell_fault(head, bytes) {
-        let front = Say(b" is no packed table: its cell ");
-        return text.line(&[name, front, Count(cell), Say(b" "), Say(fault)]);
+    match first_broken(head, bytes) {
+        Some(broken) => text.line(&[
+            name,
+            Say(b" is no packed table: its "),
+            Say(broken.part),
+            Count(broken.number),
+            Say(b" "),
+            broken.fault.0,
+            broken.fault.1,
+        ]),
+        None => text.line(&[name, Say(b" is no packed table")]),
     }
-    if let Some((record, fault)) = first_record_fault(head, bytes) {
-        let front = Say(b" is no packed table: its record ");
-        let number = Count(record.saturating_add(1));
-        return text.line(&[name, front, number, Say(b" "), Say(fault)]);
-    }
-    text.line(&[name, Say(b" is no packed table")])
 }
 
 /// Appends what in the head of a table breaks a rule, or else which cell or record does.
@@ -138,11 +157,28 @@ fn push_numbers(text: &mut Text, name: &str, bytes: &[u8]) -> Result<(), AllocEr
             Show(name.as_bytes()),
             Say(b" is no packed table: its greatest sign is "),
             Count(head.signs),
-            Say(b", and has to be 1 to 2001 and below the number of cells, "),
+            Say(b", and has to be 1 to "),
+            Count(usize::from(SIGNS_MAX)),
+            Say(b" and below the number of cells, "),
             Count(head.cells),
         ]);
     }
     push_parts(text, name, bytes, &head)
+}
+
+/// Appends why a file does not begin with the head of a packed table.
+fn push_no_head(text: &mut Text, name: &str, bytes: &[u8]) -> Result<(), AllocError> {
+    let (words, len, end) = if bytes.is_empty() {
+        (Say(b"it is empty"), Say(b""), Say(b""))
+    } else if bytes.starts_with(b"PGT1") {
+        let words = Say(b"it ends inside its head of ");
+        (words, Count(HEAD_LEN), Say(b" bytes"))
+    } else {
+        let words = Say(b"it does not begin with PGT1, as a file of pack does");
+        (words, Say(b""), Say(b""))
+    };
+    let front = Say(b" is no packed table: ");
+    text.line(&[Show(name.as_bytes()), front, words, len, end])
 }
 
 /// Appends which rule of packed tables a file breaks first. Its cells lead to one another, so
@@ -150,18 +186,12 @@ fn push_numbers(text: &mut Text, name: &str, bytes: &[u8]) -> Result<(), AllocEr
 pub(crate) fn push_bad_table(text: &mut Text, refused: &Refused<'_>) -> Result<(), AllocError> {
     let name = refused.name;
     let bytes = refused.bytes;
-    let words: &[u8] = if bytes.is_empty() {
-        b" is no packed table: it is empty"
-    } else if !bytes.starts_with(b"PGT1") {
-        b" is no packed table: it does not begin with PGT1, as a file of pack does"
-    } else if bytes.len() < HEAD_LEN {
-        b" is no packed table: it ends inside its head of 16 bytes"
-    } else {
+    if bytes.len() >= HEAD_LEN && bytes.starts_with(b"PGT1") {
         push_numbers(text, name, bytes)?;
         let words = b"what stands behind that is not judged: pack makes a table anew";
         return text.line(&[Say(words)]);
-    };
-    text.line(&[Show(name.as_bytes()), Say(words)])
+    }
+    push_no_head(text, name, bytes)
 }
 
 /// Appends that a packed table is of another number of letters.

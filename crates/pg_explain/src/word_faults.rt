@@ -1,7 +1,7 @@
 //! Which word of a command is wrong.
 
-use crate::forms::{Behind, Command, Range, Role, Slot};
-use pg_visible::Part::{self, Count, Show};
+use crate::forms::{Behind, Command, Range, Slot};
+use pg_visible::Part::{self, Count, Say, Show};
 
 /// The most parameter files of `sweep`.
 const SETS_MAX: usize = 16;
@@ -12,7 +12,7 @@ const SETS_MAX: usize = 16;
 pub(crate) struct Fault<'a> {
     pub word: Part<'a>,
     pub is: &'static [u8],
-    pub other: &'a str,
+    pub other: Part<'a>,
     pub behind: &'static [u8],
     pub third: &'a str,
     pub end: &'static [u8],
@@ -23,7 +23,7 @@ fn of_part<'a>(word: Part<'a>, is: &'static [u8]) -> Fault<'a> {
     Fault {
         word,
         is,
-        other: "",
+        other: Say(b""),
         behind: b"",
         third: "",
         end: b"",
@@ -43,7 +43,7 @@ fn of_two<'a>(
     behind: &'static [u8],
 ) -> Fault<'a> {
     Fault {
-        other,
+        other: Show(other.as_bytes()),
         behind,
         ..of_word(word, is)
     }
@@ -103,9 +103,9 @@ fn number_fault<'a>(name: &'static str, word: &'a str, range: &Range) -> Option<
 
 /// What is wrong with the word for a slot.
 fn slot_fault<'a>(slot: &Slot, word: &'a str, has_options: bool) -> Option<Fault<'a>> {
-    match slot.role {
-        Role::Input | Role::Output => name_fault(slot.name, word, has_options),
-        Role::Number(range) => number_fault(slot.name, word, &range),
+    match slot {
+        Slot::Input(name) | Slot::Output(name) => name_fault(name, word, has_options),
+        Slot::Number(name, range) => number_fault(name, word, range),
     }
 }
 
@@ -113,7 +113,7 @@ fn slot_fault<'a>(slot: &Slot, word: &'a str, has_options: bool) -> Option<Fault
 fn slots_fault<'a>(command: &Command, words: &'a [String]) -> Option<Fault<'a>> {
     for (place, slot) in command.slots.iter().enumerate() {
         let Some(word) = words.get(place) else {
-            return Some(of_word(slot.name, b" is missing"));
+            return Some(of_word(slot.name(), b" is missing"));
         };
         let fault = slot_fault(slot, word.as_str(), has_options(command));
         if fault.is_some() {
@@ -148,16 +148,21 @@ fn is_new(words: &[String], word: &str) -> bool {
     true
 }
 
+/// What is wrong with the name behind an option.
+fn file_fault<'a>(option: &'a str, name: Option<&'a String>) -> Option<Fault<'a>> {
+    match name {
+        None => Some(of_two("FILE", b" is missing behind ", option, b"")),
+        Some(name) => name_fault("FILE", name.as_str(), false),
+    }
+}
+
 /// What is wrong with the option at a place of the words behind the six names, or with its name.
 fn option_fault<'a>(command: &Command, words: &'a [String], place: usize) -> Option<Fault<'a>> {
     let option = words.get(place)?.as_str();
     let before = words.get(..place).unwrap_or(&[]);
-    if let Some(is) = option_words(command, option, is_new(before, option)) {
-        return Some(of_word(option, is));
-    }
-    match words.get(place.saturating_add(1)) {
-        None => Some(of_two("FILE", b" is missing behind ", option, b"")),
-        Some(name) => name_fault("FILE", name.as_str(), false),
+    match option_words(command, option, is_new(before, option)) {
+        Some(is) => Some(of_word(option, is)),
+        None => file_fault(option, words.get(place.saturating_add(1))),
     }
 }
 
@@ -180,8 +185,11 @@ fn sets_fault(words: &[String]) -> Option<Fault<'_>> {
         return Some(of_word("PARAMS", b" is missing"));
     }
     if words.len() > SETS_MAX {
-        let is = b" parameter files are given, and 16 is the most";
-        return Some(of_part(Count(words.len()), is));
+        return Some(Fault {
+            other: Count(SETS_MAX),
+            behind: b" is the most",
+            ..of_part(Count(words.len()), b" parameter files are given, and ")
+        });
     }
     set_fault(words)
 }
@@ -215,15 +223,12 @@ struct FileName<'a> {
 
 /// How the word of a slot is called, where it is the name of a file.
 fn name_of_slot(slot: &Slot) -> Option<FileName<'static>> {
-    let is_written = match slot.role {
-        Role::Input => false,
-        Role::Output => true,
-        Role::Number(_) => return None,
+    let (name, is_written) = match slot {
+        Slot::Input(name) => (*name, false),
+        Slot::Output(name) => (*name, true),
+        Slot::Number(_, _) => return None,
     };
-    Some(FileName {
-        name: slot.name,
-        is_written,
-    })
+    Some(FileName { name, is_written })
 }
 
 /// How the word at a place is called, where it is the name of a file.

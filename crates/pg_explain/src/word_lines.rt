@@ -2,8 +2,8 @@
 
 use crate::chars::{first_bytes, first_char, up_to};
 use crate::wrong::Refused;
-use pg_types::Kind;
-use pg_visible::Part::{Hex, Say, Show};
+use pg_types::{Kind, PATTERN_SIGNS_MAX, WORD_LETTERS_MAX};
+use pg_visible::Part::{Count, Hex, Say, Show};
 use pg_visible::{Spot, Text, is_invisible};
 use std::alloc::AllocError;
 
@@ -58,24 +58,49 @@ pub(crate) fn push_character<'a>(
     }
 }
 
-/// Appends that a pattern is too long.
-pub(crate) fn push_long_pattern(
-    text: &mut Text,
-    name: &str,
-    spot: &Spot<'_>,
-) -> Result<(), AllocError> {
-    let words = b"the 33rd letter or dot of the line begins here, and a pattern has at most 32";
-    text.place(name, spot, &[Say(words)])
+/// What may have so many signs and no more: how the next one would be counted, and what it is in.
+struct Longest {
+    most: usize,
+    next: &'static [u8],
+    whole: &'static [u8],
 }
 
-/// Appends that a word is too long.
-pub(crate) fn push_long_word(
+const PATTERN: Longest = Longest {
+    most: PATTERN_SIGNS_MAX,
+    next: b"rd letter or dot",
+    whole: b"pattern",
+};
+
+const WORD: Longest = Longest {
+    most: WORD_LETTERS_MAX,
+    next: b"st letter",
+    whole: b"word",
+};
+
+/// Appends that a pattern or a word is too long.
+pub(crate) fn push_long(
     text: &mut Text,
-    name: &str,
+    refused: &Refused<'_>,
     spot: &Spot<'_>,
 ) -> Result<(), AllocError> {
-    let words = b"the 101st letter of the line begins here, and a word has at most 100";
-    text.place(name, spot, &[Say(words)])
+    let longest = if refused.refusal.kind == Kind::WordTooLong {
+        &WORD
+    } else {
+        &PATTERN
+    };
+    text.place(
+        refused.name,
+        spot,
+        &[
+            Say(b"the "),
+            Count(longest.most.saturating_add(1)),
+            Say(longest.next),
+            Say(b" of the line begins here, and a "),
+            Say(longest.whole),
+            Say(b" has at most "),
+            Count(longest.most),
+        ],
+    )
 }
 
 /// How many bytes a weight has with which bytes begin, 1 where it does not end.

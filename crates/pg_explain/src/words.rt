@@ -1,6 +1,6 @@
 //! Status 2: the words are no command.
 
-use crate::forms::{COMMANDS, Command, command_of};
+use crate::forms::{Command, command_of, commands};
 use crate::word_faults::{Fault, fault_of};
 use pg_visible::Part::{Say, Show};
 use pg_visible::Text;
@@ -13,7 +13,7 @@ fn push_fault(text: &mut Text, command: &Command, fault: &Fault<'_>) -> Result<(
         Say(b": "),
         fault.word,
         Say(fault.is),
-        Show(fault.other.as_bytes()),
+        fault.other,
         Say(fault.behind),
         Show(fault.third.as_bytes()),
         Say(fault.end),
@@ -27,7 +27,7 @@ fn push_form(text: &mut Text, command: &Command) -> Result<(), AllocError> {
 
 /// Appends the words of all commands.
 fn push_forms(text: &mut Text) -> Result<(), AllocError> {
-    for command in COMMANDS {
+    for command in commands() {
         push_form(text, command)?;
     }
     Ok(())

@@ -1,10 +1,14 @@
 -- What a failure says that is passed on.
 use Rattle.std.proofs.Common.{◌≡◌, ℕ, ◌≤◌, Result, Ok, Err, OnOk, OnErr, IfErr, sym, subst, arith}
 use Rattle.std.specs.Result.{IsErrAnd}
-use Rattle.pg_outside.specs.Faults.{Rose}
+use Rattle.pg_outside.specs.Faults.{Rose, next_count}
 use Rattle.pg_outside.specs.Inside.Causes.{Because}
 use Rattle.pg_outside.specs.declared.disk.error.WriteError.{WriteError}
 use Rattle.pg_outside.specs.declared.disk.error.WriteError.TheVariants as error
+
+-- a count that is the next one rose
+pub rose_one : (a b : ℕ) → b ≡ next_count a → Rose a b
+rose_one a b next = omega arith
 
 -- a count that rose since it was the same
 pub rose_since : (a b c : ℕ) → b ≡ a → Rose b c → Rose a c
@@ -47,5 +51,5 @@ failed_on result F K U X is p = passed_on result error.Failed F K U X is p
 pub memory_on : {T : Type 0} (result : Result T WriteError) (F K U X : Type 0) → IsErrAnd result (λ d. d ≡ error.Memory) → IfErr result (Because F K U X)
 memory_on result F K U X is = passed_on result error.Memory F K U X is tt
 
-pub unfollowed_on : {T : Type 0} (result : Result T WriteError) (e : WriteError) (F K U X : Type 0) → IsErrAnd result (λ d. d ≡ e) → e ≡ error.Unfollowed → U → IfErr result (Because F K U X)
-unfollowed_on result e F K U X is same p = passed_on result e F K U X is (subst (λ (d : WriteError). Because F K U X d) (sym same) p)
+pub because_unfollowed : (e : WriteError) (F K U X : Type 0) → e ≡ error.Unfollowed → U → Because F K U X e
+because_unfollowed e F K U X same p = subst (λ (d : WriteError). Because F K U X d) (sym same) p

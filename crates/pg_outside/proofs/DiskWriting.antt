@@ -1,12 +1,19 @@
 -- What a write by name does to a disk, from what the calls say of the name that it leads to.
-use Rattle.std.proofs.Common.{◌≡◌, inl, inr, ⊎_elim, ℕ, List, [], ◌∷◌, ◌++◌, true, false, Option, Some, None, IfSome, Result, Ok, Err, OnOk, OnErr, refl, sym, ap, subst, ◌∙◌, arith}
+use Rattle.std.proofs.Common.{◌≡◌, inl, inr, ⊎_elim, ℕ, List, [], ◌∷◌, ◌++◌, true, false, Option, Some, None, IfSome, Result, Ok, Err, OnOk, OnErr, IsErr, refl, sym, ap, subst, ◌∙◌, arith}
 use Rattle.std.specs.FinMap as fin
+use Rattle.std.specs.Result.{IsErrAnd}
 use Rattle.std.proofs.lemmas.Grind.{common_steps}
+use Rattle.std.proofs.lemmas.Result.{on_err_weaker, on_ok_weaker}
+use Rattle.pg_outside.specs.Faults.{Rose}
+use Rattle.pg_outside.specs.Inside.Causes.{Because}
 use Rattle.pg_outside.specs.Inside.Disk.{Node, Disk, Told, AreOne, Keeps, Now, LeadsTo, LeadsToNone, IsOpened, IsWritable, IsStat, Wrote, WrotePart, id_at, node_at, node_of}
-use Rattle.pg_outside.specs.Inside.DiskWrites.{IsIn, KeepsAll, IsPlain, IsDevice, IsProtected, MayWrite, AtWrite, AfterWrite, AfterFailure, IsSeen, IsOld, IsPlaceOf, AllTaken, IsFull, StandsFor, mode_of, mode_at}
+use Rattle.pg_outside.specs.Inside.DiskWrites.{IsIn, KeepsAll, IsPlain, IsDevice, IsProtected, MayWrite, AtWrite, AfterWrite, AfterFailure, IsSeen, IsOld, IsPlaceOf, AllTaken, IsDeep, IsFull, IsWrite, WasKept, StandsFor, mode_of, mode_at}
 use Rattle.pg_outside.specs.Inside.Moments.{Runs, WhereDirect, AtMoment, IsBeside, IsWritten, IsAsBefore, IsSame, HasRest}
+use Rattle.pg_outside.specs.declared.disk.error.WriteError.{WriteError}
 use Rattle.pg_outside.specs.declared.disk.system.FileId.{FileId}
 use Rattle.pg_outside.specs.declared.disk.system.Seen.{Seen}
+use Rattle.pg_outside.proofs.Causes.{passed_on}
+use Rattle.pg_outside.proofs.Results.{on_err, no_value}
 use Rattle.pg_outside.proofs.Runs.{known_start, keeps_then, keeps_now, now_both, now_weaker, no_step}
 use Rattle.pg_outside.proofs.BesideSteps.{one_node, one_still, whole_of_one}
 use Rattle.pg_outside.proofs.FileSteps.{wrote_nothing}
@@ -301,3 +308,23 @@ write_device_fails name bytes kept seen n a b c opened writable ab stat device b
 -- nothing was done
 pub nothing_failed : (name bytes : List ℕ) (kept : List FileId) (a b : Option Told) → Keeps a b → Runs a b (AtWrite name bytes kept) (AfterFailure name bytes)
 nothing_failed name bytes kept a b ab = no_step _ _ a b ab (λ x. record { links = refl; plain = λ plain. inl (record { links = refl; refused = refl; names = λ other. (refl, refl) }); device = λ n is. (0, wrote_nothing n x) })
+
+-- a write that is passed on, after calls that changed nothing
+pub writes_later : {T : Type 0} (result : Result T WriteError) (first between last : ℕ) (before same kept : List FileId) (a b c : Option Told) (name bytes : List ℕ) → between ≡ first → same ≡ before → Keeps a b
+    → IsWrite result between last same kept b c name bytes → IsWrite result first last before kept a c name bytes
+writes_later result first between last before same kept a b c name bytes failures keeps ab write =
+    let known : IsWrite result first last before kept b c name bytes = subst (λ (n : ℕ). IsWrite result n last before kept b c name bytes) failures (subst (λ (k : List FileId). IsWrite result between last k kept b c name bytes) keeps write) in
+    record {
+      ok = on_ok_weaker result (λ run. (run.0, run.1, keeps_then _ _ _ _ _ ab run.2)) known.ok;
+      err = on_err_weaker result (λ run. (run.0, keeps_then _ _ _ _ _ ab run.1)) known.err;
+      cause = known.cause;
+    }
+
+-- a write that fails before anything is changed
+pub writes_nothing : {T : Type 0} (result : Result T WriteError) (e : WriteError) (first last : ℕ) (before kept : List FileId) (a b : Option Told) (name bytes : List ℕ) → IsErr result → IsErrAnd result (λ d. d ≡ e) → kept ≡ before → Keeps a b
+    → Because (Rose first last) (Now b (WasKept name before)) (Now b (IsDeep name)) (Now b (IsFull name)) e → IsWrite result first last before kept a b name bytes
+writes_nothing result e first last before kept a b name bytes is_err is same ab because = record {
+  ok = no_value _ result is_err;
+  err = on_err result (same, nothing_failed _ _ _ _ _ ab);
+  cause = passed_on result e _ _ _ _ is because;
+}

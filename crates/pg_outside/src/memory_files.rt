@@ -209,7 +209,7 @@ fn store_front(
 }
 
 impl Files for MemoryFiles {
-    ghost use Rattle.pg_outside.specs.Inside.MemoryFiles.{files_of, room_of, reads_failed_of, writes_failed_of, calls_of, made_of, listed_of, next_listed, IsListed, IsUnlisted, HasFile, SameFiles, SameReads, SameWrites, ReadsRose, WritesRose, KeepsFront, KeepsFrontWithin};
+    ghost use Rattle.pg_outside.specs.Inside.MemoryFiles.{files_of, room_of, reads_failed_of, writes_failed_of, calls_of, made_of, listed_of, next_listed, IsListed, IsUnlisted, HasFile, SameFiles, SameReads, SameWrites, ReadsRose, WritesRose, ReadsByOne, WritesByOne, KeepsFront, KeepsFrontWithin};
 
     ghost shown = { λ memory. record {
       held = Some (files_of memory);
@@ -262,10 +262,8 @@ impl Files for MemoryFiles {
         ensures unlisted_writes { IsUnlisted self.old → SameWrites self.old self.new }
 
         // No count rises by more than one.
-        ensures reads_by_one { RoseByOneAtMost (reads_failed_of self.old)
-            (reads_failed_of self.new) }
-        ensures writes_by_one { RoseByOneAtMost (writes_failed_of self.old)
-            (writes_failed_of self.new) }
+        ensures reads_by_one { ReadsByOne self.old self.new }
+        ensures writes_by_one { WritesByOne self.old self.new }
     {
         self.log = self.log.and(&Call::Read(name));
         match self.next_plan() {
@@ -311,10 +309,8 @@ impl Files for MemoryFiles {
         ensures unlisted_reads { IsUnlisted self.old → SameReads self.old self.new }
 
         // No count rises by more than one.
-        ensures reads_by_one { RoseByOneAtMost (reads_failed_of self.old)
-            (reads_failed_of self.new) }
-        ensures writes_by_one { RoseByOneAtMost (writes_failed_of self.old)
-            (writes_failed_of self.new) }
+        ensures reads_by_one { ReadsByOne self.old self.new }
+        ensures writes_by_one { WritesByOne self.old self.new }
     {
         self.log = self.log.and(&Call::Write(name));
         match self.next_plan() {

@@ -1,11 +1,14 @@
 -- What reads and writes by name do to a disk.
-use Rattle.std.specs.Prelude.{◌≡◌, ℕ, zero, suc, ◌+◌, ◌<◌, List, [], ◌∷◌, ◌++◌, take, length, Bool, true, false, Option, Some, None, IfSome, nat_eq, ◌&&◌, ◌⊎◌}
+use Rattle.std.specs.Prelude.{◌≡◌, ℕ, zero, suc, ◌+◌, ◌<◌, List, [], ◌∷◌, ◌++◌, take, length, Bool, true, false, Option, Some, None, IfSome, Result, OnOk, OnErr, IfErr, nat_eq, ◌&&◌, ◌⊎◌}
 use Rattle.std.specs.List.{list_any}
-use Rattle.pg_outside.specs.Inside.Disk.{Node, Disk, AreOne, LeadsTo, LeadsToNone, Wrote, WrotePart, IsTaken, id_at, node_at}
+use Rattle.pg_outside.specs.Faults.{Rose}
+use Rattle.pg_outside.specs.Inside.Causes.{Because}
+use Rattle.pg_outside.specs.Inside.Disk.{Node, Disk, Told, AreOne, LeadsTo, LeadsToNone, Wrote, WrotePart, IsTaken, Now, id_at, node_at}
 use Rattle.pg_outside.specs.Inside.NewNames.{IsFolderOf, new_name}
 use Rattle.pg_outside.specs.declared.disk.system.FileId.{FileId}
 use Rattle.pg_outside.specs.declared.disk.system.Seen.{Seen}
-use Rattle.pg_outside.specs.Inside.Moments.{AtMoment, IsWritten, IsAsBefore}
+use Rattle.pg_outside.specs.declared.disk.error.WriteError.{WriteError}
+use Rattle.pg_outside.specs.Inside.Moments.{Runs, AtMoment, IsWritten, IsAsBefore}
 
 -- whether these are one file
 abbrev pub is_same_file : FileId → FileId → Bool
@@ -155,3 +158,13 @@ pub record StandsFor (real : List ℕ) (found : Option FileId)
   pub direct : disk.links.is_link real ≡ false
   pub leads : id_at disk real ≡ found
   pub one : AreOne disk real name
+
+-- what a write by name comes to: what was done and kept in mind, each moment, and why it failed
+pub record IsWrite {T : Type 0} (result : Result T WriteError) (failed_before failed : ℕ)
+    (before kept : List FileId) (old new : Option Told) (name bytes : List ℕ) : Type 0 where
+  pub ok : OnOk result ((failed ≡ failed_before) × KeepsAll before kept
+      × Runs old new (AtWrite name bytes before) (AfterWrite name bytes before kept))
+  pub err : OnErr result ((kept ≡ before)
+      × Runs old new (AtWrite name bytes before) (AfterFailure name bytes))
+  pub cause : IfErr result (Because (Rose failed_before failed)
+      (Now new (WasKept name before)) (Now new (IsDeep name)) (Now new (IsFull name)))

@@ -4,7 +4,7 @@ use Rattle.std.specs.FinMap as fin
 use Rattle.pg_outside.specs.Inside.Calls.{ListedCalls, listed_calls}
 use Rattle.pg_outside.specs.Content.{FileMap, file_at}
 use Rattle.pg_outside.specs.Faults.{next_count}
-use Rattle.pg_outside.specs.Inside.NameFaults.{EachRose, SameCounts}
+use Rattle.pg_outside.specs.Inside.NameFaults.{EachRose, RoseByOneAtMost, SameCounts}
 use Rattle.pg_outside.specs.FilesCalls.{FilesCall}
 use Rattle.pg_outside.specs.Inside.MissingNames.{times_in}
 use Rattle.pg_outside.specs.Inside.StoredFile.{file_map, room_in}
@@ -77,6 +77,14 @@ ReadsRose old new = EachRose (reads_failed_of old) (reads_failed_of new)
 -- the write faults of every name rose
 abbrev pub WritesRose : MemoryFiles → MemoryFiles → Type 0
 WritesRose old new = EachRose (writes_failed_of old) (writes_failed_of new)
+
+-- the read faults of no name rose by more than one
+abbrev pub ReadsByOne : MemoryFiles → MemoryFiles → Type 0
+ReadsByOne old new = RoseByOneAtMost (reads_failed_of old) (reads_failed_of new)
+
+-- the write faults of no name rose by more than one
+abbrev pub WritesByOne : MemoryFiles → MemoryFiles → Type 0
+WritesByOne old new = RoseByOneAtMost (writes_failed_of old) (writes_failed_of new)
 
 -- a listed write that keeps some first bytes sets the file to these, or leaves it as before
 abbrev pub KeepsFront : MemoryFiles → MemoryFiles → List ℕ → List ℕ → Type 0

@@ -6,7 +6,7 @@ ghost use Rattle.pg_outside.specs.FilesCalls.{Reads, Writes};
 ghost use Rattle.pg_outside.specs.Inside.Causes.{Because};
 ghost use Rattle.pg_outside.specs.Inside.Disk.{Keeps, Now, IsOpened, IsWritable};
 ghost use Rattle.pg_outside.specs.Inside.Moments.{Runs, WhereDirect, AtMoment, IsWritten, IsAsBefore};
-ghost use Rattle.pg_outside.specs.Inside.DiskWrites.{IsIn, KeepsAll, KeepsOnly, IsContent, IsContentCut, IsNoted, IsOld, IsPlaceOf, IsDeep, IsFull, AllTaken, WasKept, AtWrite, AfterWrite, AfterFailure};
+ghost use Rattle.pg_outside.specs.Inside.DiskWrites.{IsIn, KeepsAll, KeepsOnly, IsContent, IsContentCut, IsNoted, IsOld, IsPlaceOf, IsDeep, IsFull, IsWrite, AllTaken, WasKept, AtWrite, AfterWrite, AfterFailure};
 
 use super::error::WriteError;
 use super::links::find;
@@ -151,16 +151,8 @@ fn write_regular<S: System>(
     requires old { Now (S.told system.old) (IsOld name.now old) }
     requires regular { IfSome old (λ seen. seen.is_regular ≡ true) }
     requires free { IfSome old (λ seen. IsIn seen.id kept.old.items → ⊥) }
-    ensures ok { OnOk result ((S.failures system.new ≡ S.failures system.old)
-        × KeepsAll kept.old.items kept.new.items
-        × Runs (S.told system.old) (S.told system.new)
-        (AtWrite name.now bytes.now kept.old.items)
-        (AfterWrite name.now bytes.now kept.old.items kept.new.items)) }
-    ensures err { OnErr result ((kept.new.items ≡ kept.old.items)
-        × Runs (S.told system.old) (S.told system.new)
-        (AtWrite name.now bytes.now kept.old.items) (AfterFailure name.now bytes.now)) }
-    ensures cause { IfErr result (Because (Rose (S.failures system.old) (S.failures system.new))
-        ⊥ (Now (S.told system.new) (IsDeep name.now)) (Now (S.told system.new) (IsFull name.now))) }
+    ensures { IsWrite result (S.failures system.old) (S.failures system.new) kept.old.items
+        kept.new.items (S.told system.old) (S.told system.new) name.now bytes.now }
 {
     let found = find(alloc, system, name)?;
     let mode = mode_of_found(found.file, old)?;
@@ -179,17 +171,8 @@ fn write_opened<S: System>(
     requires room { vec_len kept.old < vec_capacity kept.old }
     requires opened { Now (S.told system.old) (IsOpened name.now (S.id file.old)) }
     requires writable { Now (S.told system.old) (IsWritable (S.id file.old)) }
-    ensures ok { OnOk result ((S.failures system.new ≡ S.failures system.old)
-        × KeepsAll kept.old.items kept.new.items
-        × Runs (S.told system.old) (S.told system.new)
-        (AtWrite name.now bytes.now kept.old.items)
-        (AfterWrite name.now bytes.now kept.old.items kept.new.items)) }
-    ensures err { OnErr result ((kept.new.items ≡ kept.old.items)
-        × Runs (S.told system.old) (S.told system.new)
-        (AtWrite name.now bytes.now kept.old.items) (AfterFailure name.now bytes.now)) }
-    ensures cause { IfErr result (Because (Rose (S.failures system.old) (S.failures system.new))
-        (Now (S.told system.new) (WasKept name.now kept.old.items))
-        (Now (S.told system.new) (IsDeep name.now)) (Now (S.told system.new) (IsFull name.now))) }
+    ensures { IsWrite result (S.failures system.old) (S.failures system.new) kept.old.items
+        kept.new.items (S.told system.old) (S.told system.new) name.now bytes.now }
 {
     let seen = system.stat(file)?;
     if !seen.is_regular {
@@ -210,17 +193,8 @@ fn write_named<S: System>(
     name: &str,
     bytes: &[u8],
 ) -> Result<(), WriteError>
-    ensures ok { OnOk result ((S.failures system.new ≡ S.failures system.old)
-        × KeepsAll kept.old.items kept.new.items
-        × Runs (S.told system.old) (S.told system.new)
-        (AtWrite name.now bytes.now kept.old.items)
-        (AfterWrite name.now bytes.now kept.old.items kept.new.items)) }
-    ensures err { OnErr result ((kept.new.items ≡ kept.old.items)
-        × Runs (S.told system.old) (S.told system.new)
-        (AtWrite name.now bytes.now kept.old.items) (AfterFailure name.now bytes.now)) }
-    ensures cause { IfErr result (Because (Rose (S.failures system.old) (S.failures system.new))
-        (Now (S.told system.new) (WasKept name.now kept.old.items))
-        (Now (S.told system.new) (IsDeep name.now)) (Now (S.told system.new) (IsFull name.now))) }
+    ensures { IsWrite result (S.failures system.old) (S.failures system.new) kept.old.items
+        kept.new.items (S.told system.old) (S.told system.new) name.now bytes.now }
 {
     kept.reserve(1)?;
     match system.open_to_write(name)? {

@@ -88,11 +88,7 @@ get_names (Shared own old ∷ older) q =
 get_names (Removed own ∷ older) q = get_cut (names_in older) (string_bytes own) q
     ∙ ap (λ (o : Option FileId). cond (bytes_eq q (string_bytes own)) None o) (get_names older q)
     ∙ map_cond (bytes_eq q (string_bytes own)) None (number_in older q)
-get_names (GotMode number mode ∷ older) q = get_names older q
-get_names (Wrote number bytes ∷ older) q = get_names older q
-get_names (Stored number ∷ older) q = get_names older q
-get_names (Refused own ∷ older) q = get_names older q
-get_names (Stayed ∷ older) q = get_names older q
+get_names (_ ∷ older) q = get_names older q
 
 -- a chosen number is at most k, where it is k or was at most k before
 below_of_some : (b : Bool) (k n : ℕ) (o : Option ℕ)
@@ -136,13 +132,7 @@ number_below (Removed own ∷ older) q n is =
     of_cond (bytes_eq q (string_bytes own)) n None
     (number_in older q) (n < suc (length older)) is
     (λ none. absurd (none_some n none)) (λ e. below_suc n (length older) (number_below older q n e))
-number_below (GotMode number mode ∷ older) q n is =
-    below_suc n (length older) (number_below older q n is)
-number_below (Wrote number bytes ∷ older) q n is =
-    below_suc n (length older) (number_below older q n is)
-number_below (Stored number ∷ older) q n is = below_suc n (length older) (number_below older q n is)
-number_below (Refused own ∷ older) q n is = below_suc n (length older) (number_below older q n is)
-number_below (Stayed ∷ older) q n is = below_suc n (length older) (number_below older q n is)
+number_below (_ ∷ older) q n is = below_suc n (length older) (number_below older q n is)
 
 -- no number is below itself
 not_below : (n : ℕ) → n < n → ⊥

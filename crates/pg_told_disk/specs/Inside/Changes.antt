@@ -8,7 +8,7 @@ use Rattle.pg_outside.specs.Inside.Disk.{Node, NameMap, Disk, Told}
 use Rattle.pg_outside.specs.declared.disk.system.FileId.{FileId}
 use Rattle.pg_told_disk.specs.Inside.Linked.{real_in, links_in}
 use Rattle.pg_told_disk.specs.declared.change.Change.{Change}
-use Rattle.pg_told_disk.specs.declared.change.Change.TheVariants.{Made, Shared, GotMode, Wrote, Stored, Renamed, Removed, Refused, Stayed}
+use Rattle.pg_told_disk.specs.declared.change.Change.TheVariants.{Made, Shared, GotMode, Wrote, Stored, Renamed, Removed, Refused}
 use Rattle.pg_told_disk.specs.declared.links.Link.{Link}
 
 -- the number of the file that the name leads to, which is no link
@@ -23,11 +23,7 @@ number_in (Renamed from to ∷ older) name =
     (cond (bytes_eq name (string_bytes from)) None (number_in older name))
 number_in (Removed own ∷ older) name =
     cond (bytes_eq name (string_bytes own)) None (number_in older name)
-number_in (GotMode number mode ∷ older) name = number_in older name
-number_in (Wrote number bytes ∷ older) name = number_in older name
-number_in (Stored number ∷ older) name = number_in older name
-number_in (Refused own ∷ older) name = number_in older name
-number_in (Stayed ∷ older) name = number_in older name
+number_in (_ ∷ older) name = number_in older name
 
 -- the file of this number; all are on one device
 abbrev pub id_of : ℕ → FileId
@@ -48,11 +44,7 @@ names_in (Shared own old ∷ older) = with_name (number_in older (string_bytes o
 names_in (Renamed from to ∷ older) = with_name (number_in older (string_bytes from))
     (fin.remove (names_in older) (string_bytes from)) (string_bytes to)
 names_in (Removed own ∷ older) = fin.remove (names_in older) (string_bytes own)
-names_in (GotMode number mode ∷ older) = names_in older
-names_in (Wrote number bytes ∷ older) = names_in older
-names_in (Stored number ∷ older) = names_in older
-names_in (Refused own ∷ older) = names_in older
-names_in (Stayed ∷ older) = names_in older
+names_in (_ ∷ older) = names_in older
 
 -- the permissions of the file of this number, if it is there
 abbrev pub mode_in : List Change → ℕ → Option ℕ
@@ -61,27 +53,14 @@ mode_in (Made own regular ∷ older) number = cond (nat_eq number (length older)
     (Some 420) (mode_in older number)
 mode_in (GotMode other mode ∷ older) number = cond (nat_eq number other)
     (Some mode) (mode_in older number)
-mode_in (Shared own old ∷ older) number = mode_in older number
-mode_in (Wrote other bytes ∷ older) number = mode_in older number
-mode_in (Stored other ∷ older) number = mode_in older number
-mode_in (Renamed from to ∷ older) number = mode_in older number
-mode_in (Removed own ∷ older) number = mode_in older number
-mode_in (Refused own ∷ older) number = mode_in older number
-mode_in (Stayed ∷ older) number = mode_in older number
+mode_in (_ ∷ older) number = mode_in older number
 
 -- whether the file of this number is regular
 abbrev pub kind_in : List Change → ℕ → Bool
 kind_in [] number = true
 kind_in (Made own regular ∷ older) number = cond (nat_eq number (length older))
     regular (kind_in older number)
-kind_in (Shared own old ∷ older) number = kind_in older number
-kind_in (GotMode other mode ∷ older) number = kind_in older number
-kind_in (Wrote other bytes ∷ older) number = kind_in older number
-kind_in (Stored other ∷ older) number = kind_in older number
-kind_in (Renamed from to ∷ older) number = kind_in older number
-kind_in (Removed own ∷ older) number = kind_in older number
-kind_in (Refused own ∷ older) number = kind_in older number
-kind_in (Stayed ∷ older) number = kind_in older number
+kind_in (_ ∷ older) number = kind_in older number
 
 -- the bytes of the file of this number
 abbrev pub bytes_in : List Change → ℕ → List ℕ
@@ -90,13 +69,7 @@ bytes_in (Made own regular ∷ older) number = cond (nat_eq number (length older
     [] (bytes_in older number)
 bytes_in (Wrote other bytes ∷ older) number = cond (nat_eq number other)
     (bytes_in older number ++ bytes.items) (bytes_in older number)
-bytes_in (Shared own old ∷ older) number = bytes_in older number
-bytes_in (GotMode other mode ∷ older) number = bytes_in older number
-bytes_in (Stored other ∷ older) number = bytes_in older number
-bytes_in (Renamed from to ∷ older) number = bytes_in older number
-bytes_in (Removed own ∷ older) number = bytes_in older number
-bytes_in (Refused own ∷ older) number = bytes_in older number
-bytes_in (Stayed ∷ older) number = bytes_in older number
+bytes_in (_ ∷ older) number = bytes_in older number
 
 -- whether the device has all of the file of this number
 abbrev pub stored_in : List Change → ℕ → Bool
@@ -107,12 +80,7 @@ stored_in (Wrote other bytes ∷ older) number = cond (nat_eq number other)
     false (stored_in older number)
 stored_in (Stored other ∷ older) number = cond (nat_eq number other)
     true (stored_in older number)
-stored_in (Shared own old ∷ older) number = stored_in older number
-stored_in (GotMode other mode ∷ older) number = stored_in older number
-stored_in (Renamed from to ∷ older) number = stored_in older number
-stored_in (Removed own ∷ older) number = stored_in older number
-stored_in (Refused own ∷ older) number = stored_in older number
-stored_in (Stayed ∷ older) number = stored_in older number
+stored_in (_ ∷ older) number = stored_in older number
 
 -- whether a file of these permissions may be written by its owner
 abbrev pub lets_write : ℕ → Bool
@@ -138,27 +106,13 @@ node_in log number = option_map
 abbrev pub refused_in : List Change → List (List ℕ)
 refused_in [] = []
 refused_in (Refused own ∷ older) = string_bytes own ∷ refused_in older
-refused_in (Made own regular ∷ older) = refused_in older
-refused_in (Shared own old ∷ older) = refused_in older
-refused_in (GotMode number mode ∷ older) = refused_in older
-refused_in (Wrote number bytes ∷ older) = refused_in older
-refused_in (Stored number ∷ older) = refused_in older
-refused_in (Renamed from to ∷ older) = refused_in older
-refused_in (Removed own ∷ older) = refused_in older
-refused_in (Stayed ∷ older) = refused_in older
+refused_in (_ ∷ older) = refused_in older
 
 -- whether each file that was made is regular
 abbrev pub is_regular_in : List Change → Bool
 is_regular_in [] = true
 is_regular_in (Made own regular ∷ older) = regular && is_regular_in older
-is_regular_in (Shared own old ∷ older) = is_regular_in older
-is_regular_in (GotMode number mode ∷ older) = is_regular_in older
-is_regular_in (Wrote number bytes ∷ older) = is_regular_in older
-is_regular_in (Stored number ∷ older) = is_regular_in older
-is_regular_in (Renamed from to ∷ older) = is_regular_in older
-is_regular_in (Removed own ∷ older) = is_regular_in older
-is_regular_in (Refused own ∷ older) = is_regular_in older
-is_regular_in (Stayed ∷ older) = is_regular_in older
+is_regular_in (_ ∷ older) = is_regular_in older
 
 -- what this file is
 abbrev pub file_in : List Change → FileId → Option Node

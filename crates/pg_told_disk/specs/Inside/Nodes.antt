@@ -5,7 +5,7 @@ use Rattle.std.proofs.lemmas.Bool.{and_parts}
 use Rattle.pg_told_disk.specs.Inside.Cases.{none_some, some_same, of_cond}
 use Rattle.pg_told_disk.specs.Inside.Changes.{number_in, mode_in, kind_in, is_regular_in}
 use Rattle.pg_told_disk.specs.declared.change.Change.{Change}
-use Rattle.pg_told_disk.specs.declared.change.Change.TheVariants.{Made, Shared, GotMode, Wrote, Stored, Renamed, Removed, Refused, Stayed}
+use Rattle.pg_told_disk.specs.declared.change.Change.TheVariants.{Made, Shared, GotMode, Renamed, Removed}
 
 -- a choice between two flags that are true is true
 either : (b : Bool) (x y : Bool) → x ≡ true → y ≡ true → cond b x y ≡ true
@@ -19,14 +19,7 @@ regular_in (Made own regular ∷ older) n all =
     let both = and_parts regular (is_regular_in older) all in
     either (nat_eq n (length older)) regular (kind_in older n) both.0
     (regular_in older n both.1)
-regular_in (Shared own old ∷ older) n all = regular_in older n all
-regular_in (GotMode other mode ∷ older) n all = regular_in older n all
-regular_in (Wrote other bytes ∷ older) n all = regular_in older n all
-regular_in (Stored other ∷ older) n all = regular_in older n all
-regular_in (Renamed from to ∷ older) n all = regular_in older n all
-regular_in (Removed own ∷ older) n all = regular_in older n all
-regular_in (Refused own ∷ older) n all = regular_in older n all
-regular_in (Stayed ∷ older) n all = regular_in older n all
+regular_in (_ ∷ older) n all = regular_in older n all
 
 -- the file of this number has permissions
 pub record Has (log : List Change) (n : ℕ) : Type 0 where
@@ -69,10 +62,6 @@ named_has (Shared own old ∷ older) q n is =
 named_has (GotMode other mode ∷ older) q n is =
     keep_has (GotMode other mode ∷ older) older n (nat_eq n other) mode refl
     (named_has older q n is)
-named_has (Wrote other bytes ∷ older) q n is =
-    same_has (Wrote other bytes ∷ older) older n refl (named_has older q n is)
-named_has (Stored other ∷ older) q n is =
-    same_has (Stored other ∷ older) older n refl (named_has older q n is)
 named_has (Renamed from to ∷ older) q n is =
     of_cond (bytes_eq q (string_bytes to)) n (number_in older (string_bytes from))
     (cond (bytes_eq q (string_bytes from)) None (number_in older q))
@@ -87,6 +76,4 @@ named_has (Removed own ∷ older) q n is =
     (number_in older q) (Has (Removed own ∷ older) n) is
     (λ none. absurd (none_some n none))
     (λ e. same_has (Removed own ∷ older) older n refl (named_has older q n e))
-named_has (Refused own ∷ older) q n is =
-    same_has (Refused own ∷ older) older n refl (named_has older q n is)
-named_has (Stayed ∷ older) q n is = same_has (Stayed ∷ older) older n refl (named_has older q n is)
+named_has (change ∷ older) q n is = same_has (change ∷ older) older n refl (named_has older q n is)

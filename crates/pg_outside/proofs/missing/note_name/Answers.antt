@@ -1,29 +1,32 @@
-use Rattle.std.proofs.Common.{arith}
+use Rattle.std.proofs.Common.{arith, rules}
 use Rattle.std.proofs.lemmas.Grind.{common_steps}
 use Rattle.std.proofs.lemmas.Slice.Eq.{bytes_eq-Decides}
 use Rattle.pg_outside.proofs.Results.{no_value}
 use Rattle.pg_outside.proofs.missing.note_name.Goals as goal
 
-pub returns-clause-counted : goal.returns-clause-counted
-returns-clause-counted c = grind (arith, common_steps, bytes_eq-Decides)
+pub returns : goal.returns
+returns c = record {
+  counted = grind (arith, common_steps, bytes_eq-Decides);
+  others = λ other apart. grind (arith, common_steps, bytes_eq-Decides);
+  later = λ other. grind (arith, common_steps);
+  by_one = λ other. grind (arith, common_steps);
+  err = tt;
+}
 
-pub returns-clause-others : goal.returns-clause-others
-returns-clause-others c = λ other apart. grind (arith, common_steps, bytes_eq-Decides)
+pub returns-in_err-name : goal.returns-in_err-name
+returns-in_err-name c = record {
+  counted = no_value _ c.from_residual.result c.from_residual.ensures.0;
+  others = no_value _ c.from_residual.result c.from_residual.ensures.0;
+  later = λ q. omega arith;
+  by_one = λ q. omega arith;
+  err = search rules;
+}
 
-pub returns-in_err-name-clause-counted : goal.returns-in_err-name-clause-counted
-returns-in_err-name-clause-counted c = no_value _ c.from_residual.result c.from_residual.ensures.0
-
-pub returns-in_err-name-clause-others : goal.returns-in_err-name-clause-others
-returns-in_err-name-clause-others c = no_value _ c.from_residual.result c.from_residual.ensures.0
-
-pub returns-in_err-name-clause-later : goal.returns-in_err-name-clause-later
-returns-in_err-name-clause-later c = λ q. omega arith
-
-pub returns-in_err-name-clause-by_one : goal.returns-in_err-name-clause-by_one
-returns-in_err-name-clause-by_one c = λ q. omega arith
-
-pub returns-in_err-push-clause-counted : goal.returns-in_err-push-clause-counted
-returns-in_err-push-clause-counted c = no_value _ c.from_residual-in_err-push.result c.from_residual-in_err-push.ensures.0
-
-pub returns-in_err-push-clause-others : goal.returns-in_err-push-clause-others
-returns-in_err-push-clause-others c = no_value _ c.from_residual-in_err-push.result c.from_residual-in_err-push.ensures.0
+pub returns-in_err-push : goal.returns-in_err-push
+returns-in_err-push c = record {
+  counted = no_value _ c.from_residual-in_err-push.result c.from_residual-in_err-push.ensures.0;
+  others = no_value _ c.from_residual-in_err-push.result c.from_residual-in_err-push.ensures.0;
+  later = search rules;
+  by_one = search rules;
+  err = search rules;
+}

@@ -2,6 +2,7 @@ use Rattle.std.proofs.Common.{◌∙◌, refl, string_bytes, arith}
 use Rattle.pg_outside.proofs.Runs.{keeps_both, keeps_self}
 use Rattle.pg_outside.proofs.Causes.{rose_since, failed_on, memory_on}
 use Rattle.pg_outside.proofs.Links.{not_followed, reached_on, stands_none, stands_some, is_deep}
+use Rattle.std.proofs.lemmas.Result.{IfOk-from_err}
 use Rattle.pg_outside.proofs.disk.links.find.Goals as goal
 
 pub loop-preserved : goal.loop-preserved
@@ -22,43 +23,53 @@ loop-init g c = record {
   failures = refl;
 }
 
-pub returns-in-Missing-clause-found : goal.returns-in-Missing-clause-found
-returns-in-Missing-clause-found g c =
-    let entry = rw (c.as_str.ensures.value, c.in-Missing.is) at c.in_ok-look.ensures.entry in
-    (c.in_ok-look.ensures.ok_failures ∙ c.loop.invariant.failures, stands_none _ _ _ _ _ _ _ c.loop.invariant.reached c.look.ensures.same entry c.make_found.ensures.name c.make_found.ensures.file)
+pub returns-in-Missing : goal.returns-in-Missing
+returns-in-Missing g c = record {
+  same = keeps_both _ _ _ c.loop.invariant.same c.look.ensures.same;
+  found = let entry = rw (c.as_str.ensures.value, c.in-Missing.is) at c.in_ok-look.ensures.entry in
+      (c.in_ok-look.ensures.ok_failures ∙ c.loop.invariant.failures, stands_none _ _ _ _ _ _ _ c.loop.invariant.reached c.look.ensures.same entry c.make_found.ensures.name c.make_found.ensures.file);
+  cause = tt;
+}
 
-pub returns-in-File-clause-found : goal.returns-in-File-clause-found
-returns-in-File-clause-found g c =
-    let entry = rw (c.as_str.ensures.value, c.in-File.is) at c.in_ok-look.ensures.entry in
-    (c.in_ok-look.ensures.ok_failures ∙ c.loop.invariant.failures, stands_some _ _ _ c.in-File.id _ _ _ _ c.loop.invariant.reached c.look.ensures.same entry c.make_found-in-File.ensures.name c.make_found-in-File.ensures.file)
+pub returns-in-File : goal.returns-in-File
+returns-in-File g c = record {
+  same = keeps_both _ _ _ c.loop.invariant.same c.look.ensures.same;
+  found = let entry = rw (c.as_str.ensures.value, c.in-File.is) at c.in_ok-look.ensures.entry in
+      (c.in_ok-look.ensures.ok_failures ∙ c.loop.invariant.failures, stands_some _ _ _ c.in-File.id _ _ _ _ c.loop.invariant.reached c.look.ensures.same entry c.make_found-in-File.ensures.name c.make_found-in-File.ensures.file);
+  cause = tt;
+}
 
-pub returns-clause-cause : goal.returns-clause-cause
-returns-clause-cause g c = is_deep _ _ _ _ (omega arith) c.loop.invariant.reached
+pub returns : goal.returns
+returns g c = record {
+  same = c.loop.invariant.same;
+  found = tt;
+  cause = is_deep _ _ _ _ (omega arith) c.loop.invariant.reached;
+}
 
-pub returns-in_err-real-clause-cause : goal.returns-in_err-real-clause-cause
-returns-in_err-real-clause-cause g c = memory_on c.from_residual.result _ _ _ _ c.from_residual.ensures.1
+pub returns-in_err-real : goal.returns-in_err-real
+returns-in_err-real g c = record {
+  same = keeps_self _;
+  found = IfOk-from_err _ _ c.from_residual.ensures.0;
+  cause = memory_on c.from_residual.result _ _ _ _ c.from_residual.ensures.1;
+}
 
-pub returns-in_err-look-clause-cause : goal.returns-in_err-look-clause-cause
-returns-in_err-look-clause-cause g c = failed_on c.from_residual-in_err-look.result _ _ _ _ c.from_residual-in_err-look.ensures.1 (rose_since _ _ _ c.loop.invariant.failures c.in_err-look.ensures.failed)
+pub returns-in_err-look : goal.returns-in_err-look
+returns-in_err-look g c = record {
+  same = keeps_both _ _ _ c.loop.invariant.same c.look.ensures.same;
+  found = IfOk-from_err _ _ c.from_residual-in_err-look.ensures.0;
+  cause = failed_on c.from_residual-in_err-look.result _ _ _ _ c.from_residual-in_err-look.ensures.1 (rose_since _ _ _ c.loop.invariant.failures c.in_err-look.ensures.failed);
+}
 
-pub returns-in_err-text-in-Link-clause-cause : goal.returns-in_err-text-in-Link-clause-cause
-returns-in_err-text-in-Link-clause-cause g c =
-    failed_on c.from_residual-in_err-text-in-Link.result _ _ _ _ c.from_residual-in_err-text-in-Link.ensures.1 (rose_since _ _ _ (c.in_ok-look.ensures.ok_failures ∙ c.loop.invariant.failures) c.in_err-text-in-Link.ensures.failed)
+pub returns-in_err-text-in-Link : goal.returns-in_err-text-in-Link
+returns-in_err-text-in-Link g c = record {
+  same = keeps_both _ _ _ (keeps_both _ _ _ c.loop.invariant.same c.look.ensures.same) c.read_link.ensures.same;
+  found = IfOk-from_err _ _ c.from_residual-in_err-text-in-Link.ensures.0;
+  cause = failed_on c.from_residual-in_err-text-in-Link.result _ _ _ _ c.from_residual-in_err-text-in-Link.ensures.1 (rose_since _ _ _ (c.in_ok-look.ensures.ok_failures ∙ c.loop.invariant.failures) c.in_err-text-in-Link.ensures.failed);
+}
 
-pub returns-in_err-real-in-Link-clause-cause : goal.returns-in_err-real-in-Link-clause-cause
-returns-in_err-real-in-Link-clause-cause g c = memory_on c.from_residual-in_err-real-in-Link.result _ _ _ _ c.from_residual-in_err-real-in-Link.ensures.1
-
-pub returns-in_err-look-clause-same : goal.returns-in_err-look-clause-same
-returns-in_err-look-clause-same g c = keeps_both _ _ _ c.loop.invariant.same c.look.ensures.same
-
-pub returns-in-Missing-clause-same : goal.returns-in-Missing-clause-same
-returns-in-Missing-clause-same g c = keeps_both _ _ _ c.loop.invariant.same c.look.ensures.same
-
-pub returns-in-File-clause-same : goal.returns-in-File-clause-same
-returns-in-File-clause-same g c = keeps_both _ _ _ c.loop.invariant.same c.look.ensures.same
-
-pub returns-in_err-text-in-Link-clause-same : goal.returns-in_err-text-in-Link-clause-same
-returns-in_err-text-in-Link-clause-same g c = keeps_both _ _ _ (keeps_both _ _ _ c.loop.invariant.same c.look.ensures.same) c.read_link.ensures.same
-
-pub returns-in_err-real-in-Link-clause-same : goal.returns-in_err-real-in-Link-clause-same
-returns-in_err-real-in-Link-clause-same g c = keeps_both _ _ _ (keeps_both _ _ _ c.loop.invariant.same c.look.ensures.same) c.read_link.ensures.same
+pub returns-in_err-real-in-Link : goal.returns-in_err-real-in-Link
+returns-in_err-real-in-Link g c = record {
+  same = keeps_both _ _ _ (keeps_both _ _ _ c.loop.invariant.same c.look.ensures.same) c.read_link.ensures.same;
+  found = IfOk-from_err _ _ c.from_residual-in_err-real-in-Link.ensures.0;
+  cause = memory_on c.from_residual-in_err-real-in-Link.result _ _ _ _ c.from_residual-in_err-real-in-Link.ensures.1;
+}

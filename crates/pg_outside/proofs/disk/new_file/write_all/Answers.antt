@@ -1,24 +1,29 @@
 use Rattle.std.proofs.lemmas.List.{take_rest}
-use Rattle.std.proofs.Common.{◌∙◌, arith}
+use Rattle.std.proofs.Common.{◌∙◌, arith, rules}
 use Rattle.pg_outside.proofs.Causes.{rose_since}
 use Rattle.pg_outside.proofs.Results.{on_err, no_value}
 use Rattle.pg_outside.proofs.WriteLoop.{written_step, written_then_failed, written_part}
 use Rattle.pg_outside.proofs.disk.new_file.write_all.Goals as goal
 
-pub returns-in_err-count-clause-ok : goal.returns-in_err-count-clause-ok
-returns-in_err-count-clause-ok g c = no_value _ c.from_residual.result c.from_residual.ensures.0
+pub returns-in_err-count : goal.returns-in_err-count
+returns-in_err-count g c = record {
+  file = search rules;
+  ok = no_value _ c.from_residual.result c.from_residual.ensures.0;
+  err = on_err c.from_residual.result (
+    rose_since _ _ _ c.loop-rest.invariant.failures c.in_err-count.ensures.failed,
+    written_then_failed _ _ _ _ _ _ _ c.loop-rest.invariant.written c.in_err-count.ensures.err,
+  );
+}
 
-pub returns-in_err-count-clause-err : goal.returns-in_err-count-clause-err
-returns-in_err-count-clause-err g c = on_err c.from_residual.result (
-  rose_since _ _ _ c.loop-rest.invariant.failures c.in_err-count.ensures.failed,
-  written_then_failed _ _ _ _ _ _ _ c.loop-rest.invariant.written c.in_err-count.ensures.err,
-)
-
-pub returns-then-count-eq0-clause-err : goal.returns-then-count-eq0-clause-err
-returns-then-count-eq0-clause-err g c = (
-  rose_since _ _ _ c.loop-rest.invariant.failures (c.in_ok-count.ensures.none (omega arith)),
-  written_part _ _ _ _ _ _ (written_step _ _ _ _ _ _ _ _ _ c.in_ok-count.count c.loop-rest.invariant.written c.write_some.ensures.file c.in_ok-count.ensures.ok (take_rest c.loop-rest.rest.now c.in_ok-count.count)),
-)
+pub returns-then-count-eq0 : goal.returns-then-count-eq0
+returns-then-count-eq0 g c = record {
+  file = search rules;
+  ok = tt;
+  err = (
+    rose_since _ _ _ c.loop-rest.invariant.failures (c.in_ok-count.ensures.none (omega arith)),
+    written_part _ _ _ _ _ _ (written_step _ _ _ _ _ _ _ _ _ c.in_ok-count.count c.loop-rest.invariant.written c.write_some.ensures.file c.in_ok-count.ensures.ok (take_rest c.loop-rest.rest.now c.in_ok-count.count)),
+  );
+}
 
 pub loop-rest-preserved : goal.loop-rest-preserved
 loop-rest-preserved g c = record {

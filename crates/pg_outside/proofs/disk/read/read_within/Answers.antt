@@ -1,18 +1,23 @@
 use Rattle.pg_outside.proofs.Causes.{rose_since}
-use Rattle.pg_outside.proofs.Results.{no_value}
+use Rattle.pg_outside.proofs.Results.{no_value, not_err}
 use Rattle.pg_outside.proofs.Runs.{keeps_both}
 use Rattle.std.proofs.Common.{refl, ◌∙◌, ◌≡◌, ◌<◌, ◌≤◌, ◌+◌, ◌++◌, length, take, drop, arith}
 use Rattle.std.proofs.lemmas.Grind.{common_steps}
 use Rattle.pg_outside.proofs.ReadLoop.{more_bytes, within_limit, reads_none, reads_on, reads_end, reads_past}
+use Rattle.pg_outside.proofs.ReadErrors.{long_or_failed, memory_or_long, memory_or_failed}
 use Rattle.pg_outside.proofs.disk.read.read_within.Goals as goal
 
-pub returns-in-Ok-eq0-clause-all : goal.returns-in-Ok-eq0-clause-all
-returns-in-Ok-eq0-clause-all g c =
-    let room : 0 < length (take c.min-most.result c.loop-piece.piece) = grind (arith, common_steps) in (
-      c.in-Ok-eq0.ensures.ok_failures ∙ c.loop-piece.invariant.failures,
-      omega arith,
-      reads_end _ _ _ _ _ _ _ _ _ _ _ _ c.loop-piece.invariant.read c.read_some.ensures.same c.in-Ok-eq0.ensures.bytes c.in-Ok-eq0.field-0-test room,
-    )
+pub returns-in-Ok-eq0 : goal.returns-in-Ok-eq0
+returns-in-Ok-eq0 g c = record {
+  same = keeps_both _ _ _ c.loop-piece.invariant.read.keeps c.read_some.ensures.same;
+  all = let room : 0 < length (take c.min-most.result c.loop-piece.piece) = grind (arith, common_steps) in (
+    c.in-Ok-eq0.ensures.ok_failures ∙ c.loop-piece.invariant.failures,
+    omega arith,
+    reads_end _ _ _ _ _ _ _ _ _ _ _ _ c.loop-piece.invariant.read c.read_some.ensures.same c.in-Ok-eq0.ensures.bytes c.in-Ok-eq0.field-0-test room,
+  );
+  front = λ is. absurd (not_err _ _ is);
+  failed = λ is. absurd (not_err _ _ is);
+}
 
 pub loop-piece-preserved : goal.loop-piece-preserved
 loop-piece-preserved g c =
@@ -24,29 +29,31 @@ loop-piece-preserved g c =
       failures = c.in-Ok.ensures.ok_failures ∙ c.loop-piece.invariant.failures;
     }
 
-pub returns-clause-front : goal.returns-clause-front
-returns-clause-front g c =
-    let past : c.args.limit < length c.loop-piece.into.items = omega arith in
-    let within = c.loop-piece.invariant.read.within in
-    λ long. (omega arith, reads_past _ _ _ _ _ _ _ c.loop-piece.invariant.read past)
+pub returns : goal.returns
+returns g c = record {
+  same = c.loop-piece.invariant.read.keeps;
+  all = tt;
+  front = let past : c.args.limit < length c.loop-piece.into.items = omega arith in
+      let within = c.loop-piece.invariant.read.within in
+      λ long. (omega arith, reads_past _ _ _ _ _ _ _ c.loop-piece.invariant.read past);
+  failed = λ is. absurd (long_or_failed _ refl is);
+}
 
-pub returns-in-Ok-eq0-clause-same : goal.returns-in-Ok-eq0-clause-same
-returns-in-Ok-eq0-clause-same g c = keeps_both _ _ _ c.loop-piece.invariant.read.keeps c.read_some.ensures.same
+pub returns-in_err-extend_from_slice-in-Ok : goal.returns-in_err-extend_from_slice-in-Ok
+returns-in_err-extend_from_slice-in-Ok g c = record {
+  same = keeps_both _ _ _ c.loop-piece.invariant.read.keeps c.read_some.ensures.same;
+  all = no_value _ c.from_residual.result c.from_residual.ensures.0;
+  front = λ is. absurd (memory_or_long _ c.from_residual.ensures.1 is);
+  failed = λ is. absurd (memory_or_failed _ c.from_residual.ensures.1 is);
+}
 
-pub returns-in_err-extend_from_slice-in-Ok-clause-all : goal.returns-in_err-extend_from_slice-in-Ok-clause-all
-returns-in_err-extend_from_slice-in-Ok-clause-all g c = no_value _ c.from_residual.result c.from_residual.ensures.0
-
-pub returns-in_err-extend_from_slice-in-Ok-clause-same : goal.returns-in_err-extend_from_slice-in-Ok-clause-same
-returns-in_err-extend_from_slice-in-Ok-clause-same g c = keeps_both _ _ _ c.loop-piece.invariant.read.keeps c.read_some.ensures.same
-
-pub returns-in-Err-clause-same : goal.returns-in-Err-clause-same
-returns-in-Err-clause-same g c = keeps_both _ _ _ c.loop-piece.invariant.read.keeps c.read_some.ensures.same
+pub returns-in-Err : goal.returns-in-Err
+returns-in-Err g c = record {
+  same = keeps_both _ _ _ c.loop-piece.invariant.read.keeps c.read_some.ensures.same;
+  all = tt;
+  front = λ is. absurd (long_or_failed _ is refl);
+  failed = λ _. rose_since _ _ _ c.loop-piece.invariant.failures c.in-Err.ensures.failed;
+}
 
 pub loop-piece-init : goal.loop-piece-init
 loop-piece-init g c = record { read = reads_none _ _ _ _ _ c.requires.start c.requires.empty; failures = refl }
-
-pub returns-in-Err-clause-all : goal.returns-in-Err-clause-all
-returns-in-Err-clause-all g c = tt
-
-pub returns-in-Err-clause-failed : goal.returns-in-Err-clause-failed
-returns-in-Err-clause-failed g c = λ _. rose_since _ _ _ c.loop-piece.invariant.failures c.in-Err.ensures.failed

@@ -1,59 +1,43 @@
-use Rattle.std.proofs.Common.{refl, arith}
+use Rattle.std.proofs.Common.{refl, arith, rules}
+use Rattle.pg_outside.proofs.Results.{not_err}
 use Rattle.pg_outside.proofs.quiet_files.QuietFilesFiles.read.Goals as goal
 
-pub returns-in-Some-clause-calls : goal.returns-in-Some-clause-calls
-returns-in-Some-clause-calls c = c.and-self.ensures
+pub returns-in-Some : goal.returns-in-Some
+returns-in-Some c = record {
+  held = search rules;
+  reads = λ name. omega arith;
+  writes = λ name. omega arith;
+  calls = c.and-self.ensures;
+  fits = c.read_bytes.ensures.fits;
+  cut = search rules;
+  file = search rules;
+  cut_file = search rules;
+  failed = λ is. absurd (c.read_bytes.ensures.failed is);
+  missing = search rules;
+  missing_bytes = search rules;
+  missing_ends = search rules;
+  quiet = c.read_bytes.ensures.failed;
+  found = λ _. refl;
+  files = refl;
+  rooms = λ name. refl;
+}
 
-pub returns-in-Some-clause-files : goal.returns-in-Some-clause-files
-returns-in-Some-clause-files c = refl
-
-pub returns-in-Some-clause-rooms : goal.returns-in-Some-clause-rooms
-returns-in-Some-clause-rooms c = λ name. refl
-
-pub returns-in-Some-clause-fits : goal.returns-in-Some-clause-fits
-returns-in-Some-clause-fits c = c.read_bytes.ensures.fits
-
-pub returns-in-Some-clause-reads : goal.returns-in-Some-clause-reads
-returns-in-Some-clause-reads c = λ name. omega arith
-
-pub returns-in-Some-clause-writes : goal.returns-in-Some-clause-writes
-returns-in-Some-clause-writes c = λ name. omega arith
-
-pub returns-in-Some-clause-quiet : goal.returns-in-Some-clause-quiet
-returns-in-Some-clause-quiet c = c.read_bytes.ensures.failed
-
-pub returns-in-Some-clause-found : goal.returns-in-Some-clause-found
-returns-in-Some-clause-found c = λ _. refl
-
-pub returns-in-Some-clause-failed : goal.returns-in-Some-clause-failed
-returns-in-Some-clause-failed c = λ is. absurd (c.read_bytes.ensures.failed is)
-
-pub returns-in-None-clause-calls : goal.returns-in-None-clause-calls
-returns-in-None-clause-calls c = c.and-self.ensures
-
-pub returns-in-None-clause-files : goal.returns-in-None-clause-files
-returns-in-None-clause-files c = refl
-
-pub returns-in-None-clause-rooms : goal.returns-in-None-clause-rooms
-returns-in-None-clause-rooms c = λ name. refl
-
-pub returns-in-None-clause-reads : goal.returns-in-None-clause-reads
-returns-in-None-clause-reads c = λ name. omega arith
-
-pub returns-in-None-clause-writes : goal.returns-in-None-clause-writes
-returns-in-None-clause-writes c = λ name. omega arith
-
-pub returns-in-None-clause-held : goal.returns-in-None-clause-held
-returns-in-None-clause-held c = tt
-
-pub returns-in-None-clause-file : goal.returns-in-None-clause-file
-returns-in-None-clause-file c = tt
-
-pub returns-in-None-clause-missing : goal.returns-in-None-clause-missing
-returns-in-None-clause-missing c = λ _. refl
-
-pub returns-in-None-clause-missing_bytes : goal.returns-in-None-clause-missing_bytes
-returns-in-None-clause-missing_bytes c = λ _. c.requires.empty
-
-pub returns-in-None-clause-missing_ends : goal.returns-in-None-clause-missing_ends
-returns-in-None-clause-missing_ends c = λ _. refl
+pub returns-in-None : goal.returns-in-None
+returns-in-None c = record {
+  held = tt;
+  reads = λ name. omega arith;
+  writes = λ name. omega arith;
+  calls = c.and-self.ensures;
+  fits = search rules;
+  cut = λ is. absurd (not_err _ _ is);
+  file = tt;
+  cut_file = λ is. absurd (not_err _ _ is);
+  failed = λ is. absurd (not_err _ _ is);
+  missing = λ _. refl;
+  missing_bytes = λ _. c.requires.empty;
+  missing_ends = λ _. refl;
+  quiet = λ is. not_err _ _ is;
+  found = search rules;
+  files = refl;
+  rooms = λ name. refl;
+}

@@ -1,8 +1,23 @@
+use Rattle.std.proofs.Common.{rules}
 use Rattle.pg_told_disk.proofs.Calls.{stayed_step, mode_step}
 use Rattle.pg_told_disk.proofs.told_disk.ToldDiskSystem.set_mode.Goals as goal
 
-pub returns-then-next_fails-clause-err : goal.returns-then-next_fails-clause-err
-returns-then-next_fails-clause-err c = stayed_step _ _ _ _ _ _ _ c.change.ensures.told c.change.ensures.links c.change.ensures.log
+pub returns-then-next_fails : goal.returns-then-next_fails
+returns-then-next_fails c = record {
+  file = search rules;
+  ok = search rules;
+  err = stayed_step _ _ _ _ _ _ _ c.change.ensures.told c.change.ensures.links c.change.ensures.log;
+  later = search rules;
+  ok_failures = search rules;
+  failed = search rules;
+}
 
-pub returns-clause-ok : goal.returns-clause-ok
-returns-clause-ok c = mode_step _ _ _ _ _ _ _ _ c.change-2.ensures.told c.change-2.ensures.links c.change-2.ensures.log
+pub returns : goal.returns
+returns c = record {
+  file = search rules;
+  ok = mode_step _ _ _ _ _ _ _ _ c.change-2.ensures.told c.change-2.ensures.links c.change-2.ensures.log;
+  err = search rules;
+  later = search rules;
+  ok_failures = search rules;
+  failed = search rules;
+}

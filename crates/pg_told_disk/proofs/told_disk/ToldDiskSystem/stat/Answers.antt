@@ -1,6 +1,12 @@
-use Rattle.std.proofs.Common.{sym}
+use Rattle.std.proofs.Common.{sym, rules}
 use Rattle.pg_told_disk.proofs.Calls.{stat}
 use Rattle.pg_told_disk.proofs.told_disk.ToldDiskSystem.stat.Goals as goal
 
-pub returns-clause-seen : goal.returns-clause-seen
-returns-clause-seen c = stat _ c.args.self.now.links.items c.args.self.now.log.items c.args.file.now.number c.in-Some.mode _ _ c.id_of.ensures (sym (rw c.deref.ensures.value at c.in-Some.ensures)) (rw c.deref-2.ensures.value at c.is_regular.ensures)
+pub returns : goal.returns
+returns c = record {
+  same = search rules;
+  seen = stat _ c.args.self.now.links.items c.args.self.now.log.items c.args.file.now.number c.in-Some.mode _ _ c.id_of.ensures (sym (rw c.deref.ensures.value at c.in-Some.ensures)) (rw c.deref-2.ensures.value at c.is_regular.ensures);
+  later = search rules;
+  ok_failures = search rules;
+  failed = search rules;
+}

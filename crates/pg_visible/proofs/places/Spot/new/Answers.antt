@@ -1,5 +1,5 @@
-use Rattle.std.proofs.Common.{rules}
+use Rattle.std.proofs.Common.{refl, rules}
 use Rattle.pg_visible.proofs.places.Spot.new.Goals as goal
 
-pub returns-clause-text : goal.returns-clause-text
-returns-clause-text c = search rules
+pub returns : goal.returns
+returns c = record { line = refl; column = refl; text = search rules }

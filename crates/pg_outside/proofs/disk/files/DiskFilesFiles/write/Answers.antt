@@ -1,8 +1,37 @@
 use Rattle.pg_outside.proofs.DiskShown.{written_held, failed_held}
+use Rattle.pg_outside.proofs.Causes.{rose_one}
 use Rattle.pg_outside.proofs.disk.files.DiskFilesFiles.write.Goals as goal
 
-pub returns-in-Ok-clause-whole : goal.returns-in-Ok-clause-whole
-returns-in-Ok-clause-whole g c = written_held _ _ _ _ _ _ _ (g.met.S.System.plain c.args.self.now.system) (g.met.S.System.plain c.write_file.new.self.system) c.in-Ok.ensures.ok
+pub returns-in-Ok : goal.returns-in-Ok
+returns-in-Ok g c = record {
+  whole = written_held _ _ _ _ _ _ _ (g.met.S.System.plain c.args.self.now.system) (g.met.S.System.plain c.write_file.new.self.system) c.in-Ok.ensures.ok;
+  part = tt;
+  reads = λ _. c.write_file.ensures.later;
+  writes = λ _. c.write_file.ensures.later;
+  failed = tt;
+  calls = c.write_file.ensures.calls;
+  ok = c.in-Ok.ensures.ok;
+  err = tt;
+  kept = c.write_file.ensures.kept;
+  err_kept = tt;
+  ok_failures = c.in-Ok.ensures.ok_failures;
+  one_fault = tt;
+  ok_faults = c.in-Ok.ensures.ok_faults;
+}
 
-pub returns-in-Err-clause-part : goal.returns-in-Err-clause-part
-returns-in-Err-clause-part g c = failed_held _ _ _ _ _ (g.met.S.System.plain c.args.self.now.system) (g.met.S.System.plain c.write_file.new.self.system) c.in-Err.ensures.err
+pub returns-in-Err : goal.returns-in-Err
+returns-in-Err g c = record {
+  whole = tt;
+  part = failed_held _ _ _ _ _ (g.met.S.System.plain c.args.self.now.system) (g.met.S.System.plain c.write_file.new.self.system) c.in-Err.ensures.err;
+  reads = λ _. c.write_file.ensures.later;
+  writes = λ _. c.write_file.ensures.later;
+  failed = rose_one _ _ c.in-Err.ensures.one_fault;
+  calls = c.write_file.ensures.calls;
+  ok = tt;
+  err = c.in-Err.ensures.err;
+  kept = c.write_file.ensures.kept;
+  err_kept = c.in-Err.ensures.err_kept;
+  ok_failures = tt;
+  one_fault = c.in-Err.ensures.one_fault;
+  ok_faults = tt;
+}

@@ -1,0 +1,19 @@
+-- An error of a read is no other one.
+use Rattle.std.proofs.Common.{◌≡◌, Result, Ok, Err}
+use Rattle.std.specs.Result.{IsErrAnd, IsErrOf}
+use Rattle.pg_outside.specs.declared.outside.ReadError.{ReadError}
+use Rattle.pg_outside.specs.declared.outside.ReadError.TheVariants as error
+
+-- a file that is too long was read
+pub long_or_failed : {T : Type 0} (result : Result T ReadError) → IsErrOf result error.TooLong → IsErrOf result error.Failed → ⊥
+long_or_failed result long failed = cc
+
+-- where memory is short a file is not too long
+pub memory_or_long : {T : Type 0} (result : Result T ReadError) → IsErrAnd result (λ d. d ≡ error.Memory) → IsErrOf result error.TooLong → ⊥
+memory_or_long (Ok value) memory long = memory
+memory_or_long (Err e) memory long = cc
+
+-- nor did the read fail
+pub memory_or_failed : {T : Type 0} (result : Result T ReadError) → IsErrAnd result (λ d. d ≡ error.Memory) → IsErrOf result error.Failed → ⊥
+memory_or_failed (Ok value) memory failed = memory
+memory_or_failed (Err e) memory failed = cc

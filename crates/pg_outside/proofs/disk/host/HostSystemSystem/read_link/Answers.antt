@@ -1,0 +1,11 @@
+use Rattle.pg_outside.proofs.Results.{if_ok}
+use Rattle.pg_outside.proofs.disk.host.HostSystemSystem.read_link.Goals as goal
+
+pub returns : goal.returns
+returns g c = record {
+  same = tt;
+  text = if_ok _ c.count.result (λ _. tt);
+  later = c.count.ensures.later;
+  ok_failures = c.count.ensures.ok_failures;
+  failed = c.count.ensures.failed;
+}
