@@ -1,4 +1,5 @@
 use Rattle.std.proofs.Common.{sym, ap, subst, ◌∙◌, arith}
+use Rattle.pg_types.specs.Inside.NumberedWindows.{AreNumbered}
 use Rattle.pg_select.specs.Inside.Meanings.{Meaning}
 use Rattle.pg_driver.specs.Accounts.{totals_by}
 use Rattle.pg_driver.specs.Inside.LevelCounting.{IsReady}
@@ -8,6 +9,10 @@ use Rattle.pg_driver.specs.Traces.{Known, over}
 use Rattle.pg_driver.proofs.PassSteps.{counted_as, counts_kept, did_pass, numbers_are, pass_state}
 use Rattle.pg_driver.proofs.ReadySteps.{are_of, can_go_on, counted_after, placed, ready_after}
 use Rattle.pg_driver.proofs.level.run_pass.Goals as goal
+
+pub after_choices-requires-clause-numbered : goal.after_choices-requires-clause-numbered
+after_choices-requires-clause-numbered g c =
+    subst (λ (m : Meaning). AreNumbered m.windows m.counts) (sym c.in_ok-choices.ensures.ok.kept) c.kept.ensures.numbered
 
 pub after_choices-requires-clause-placed : goal.after_choices-requires-clause-placed
 after_choices-requires-clause-placed g c =

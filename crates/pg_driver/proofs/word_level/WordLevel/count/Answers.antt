@@ -30,5 +30,5 @@ returns-clause-numbers g c =
     ap (λ (x : Meaning). x.counts) c.in_ok-before.ensures.ok
     ∙ ap (λ (cs : Counts). fold with_position cs (counted_positions minima words m.pass m.patterns m.hopeless)) c.requires.fresh
     ∙ ap (λ p. fold with_position [] (counted_positions minima words p m.patterns m.hopeless)) c.requires.pass in
-    subst (λ (es : List WordPosition). HaveNumbers pass (is_counted_at pass n.counts) words n.windows es c.count_words.new.windows.numbers.items) (sym ready.above)
+    subst (λ (es : List WordPosition). HaveNumbers pass (is_counted_at pass n.counts) words n.windows es c.count_words.new.numbers.items) (sym ready.above)
     (numbered_as_counted minima words pass m.patterns m.hopeless n.counts n.windows _ _ c.kept.ensures.numbered counts c.in_ok-before.ensures.numbers)
