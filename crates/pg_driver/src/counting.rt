@@ -95,7 +95,8 @@ impl Counting {
             (known_of (E.meaning engine.old)) self.new) }
         ensures counted { OnOk result (IsCounted self.new) }
         ensures numbers { OnOk result
-            (AreNumberedIn pass (E.meaning engine.new).counts dictionary.now
+            (AreNumbered (E.meaning engine.new).windows (E.meaning engine.new).counts
+            → AreNumberedIn pass (E.meaning engine.new).counts dictionary.now
             (E.meaning engine.new).windows self.new windows.new.numbers.items) }
         ensures signs { (E.meaning engine.new).signs ≡ (E.meaning engine.old).signs }
     {

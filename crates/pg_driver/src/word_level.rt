@@ -1,5 +1,6 @@
 //! A level in which each word is hyphenated in each pass. Its totals are carried from pass to pass.
 ghost use Rattle.std.specs.Prelude.{◌≡◌, [], false, true, IfOk, OnOk};
+ghost use Rattle.pg_types.specs.Inside.NumberedWindows.{AreNumbered};
 ghost use Rattle.pg_dict.specs.Inside.SoundWords.{SignsAtMost};
 ghost use Rattle.pg_select.specs.CountedPositions.{counted_positions, minima_of};
 ghost use Rattle.pg_driver.specs.Accounts.{totals_by};
@@ -82,7 +83,8 @@ impl WordLevel {
             (known_of (E.meaning engine.old)) self.new) }
         ensures counted { OnOk result (self.new.is_counted ≡ true) }
         ensures numbers { OnOk result
-            (HaveNumbers pass (is_counted_at pass (E.meaning engine.new).counts)
+            (AreNumbered (E.meaning engine.new).windows (E.meaning engine.new).counts
+            → HaveNumbers pass (is_counted_at pass (E.meaning engine.new).counts)
             dictionary.now (E.meaning engine.new).windows
             self.new.above.items numbers.new.items) }
         ensures signs { (E.meaning engine.new).signs ≡ (E.meaning engine.old).signs }
@@ -97,7 +99,6 @@ impl WordLevel {
             &mut self.above,
             numbers,
         )?;
-        engine.kept();
         self.is_counted = true;
         self.totals = before;
         Ok(before)

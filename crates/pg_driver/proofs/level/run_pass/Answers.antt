@@ -4,7 +4,7 @@ use Rattle.pg_select.specs.declared.choice.Choice.{Choice}
 use Rattle.pg_select.specs.Inside.Meanings.{Meaning}
 use Rattle.pg_driver.specs.Inside.PassWindows.{AreFates}
 use Rattle.pg_driver.specs.Accounts.{totals_by}
-use Rattle.pg_driver.specs.Inside.LevelCounting.{IsReady}
+use Rattle.pg_driver.specs.Inside.LevelCounting.{AreNumberedIn, IsReady}
 use Rattle.pg_driver.specs.Inside.States.{State}
 use Rattle.pg_driver.specs.Inside.RunAccounts.{known_of}
 use Rattle.pg_driver.specs.Traces.{Known, over}
@@ -15,6 +15,14 @@ use Rattle.pg_driver.proofs.level.run_pass.Goals as goal
 pub after_choices-requires-clause-numbered : goal.after_choices-requires-clause-numbered
 after_choices-requires-clause-numbered g c =
     subst (λ (m : Meaning). AreNumbered m.windows m.counts) (sym c.in_ok-choices.ensures.ok.kept) c.kept.ensures.numbered
+
+pub after_choices-requires-clause-numbers : goal.after_choices-requires-clause-numbers
+after_choices-requires-clause-numbers g c =
+    let m2 = g.E.Engine.meaning c.count.new.engine in
+    let words = c.args.dictionary.now in
+    let before = c.in_ok-before.ensures.numbers c.kept.ensures.numbered in
+    let decided = subst (λ (ns : List ℕ). AreNumberedIn c.args.pass m2.counts words m2.windows c.count.new.self ns) (sym c.in_ok-decide.ensures.numbers) before in
+    subst (λ (m : Meaning). AreNumberedIn c.args.pass m.counts words m.windows c.count.new.self c.decide.new.self.numbers.items) (sym c.in_ok-choices.ensures.ok.kept) decided
 
 pub after_choices-requires-clause-placed : goal.after_choices-requires-clause-placed
 after_choices-requires-clause-placed g c =

@@ -67,7 +67,7 @@ pub returns-in_ok-count_open-in-Open-clause-signs : goal.returns-in_ok-count_ope
 returns-in_ok-count_open-in-Open-clause-signs g c = c.count_open.ensures.signs
 
 pub returns-in_ok-count_open-in-Open-clause-numbers : goal.returns-in_ok-count_open-in-Open-clause-numbers
-returns-in_ok-count_open-in-Open-clause-numbers g c = record { reached = c.in_ok-reach-in-Open.ensures.reached; numbers = c.in_ok-count_open-in-Open.ensures.numbers }
+returns-in_ok-count_open-in-Open-clause-numbers g c = λ numbered. record { reached = c.in_ok-reach-in-Open.ensures.reached; numbers = c.in_ok-count_open-in-Open.ensures.numbers }
 
 pub returns-in-EachWord-clause-ok : goal.returns-in-EachWord-clause-ok
 returns-in-EachWord-clause-ok g c = c.count.ensures.ok
