@@ -16,6 +16,8 @@ use pg_types::{Cursor, EDGE, Sign, Weight};
 use std::alloc::{AllocError, Global};
 use std::marker::Model;
 
+mod by_number;
+
 /// The windows that are counted in a pass, each with its sums of good and bad weights.
 ///
 /// A window's signs lead from cell to cell, as far as another window begins alike. The last cell

@@ -1,5 +1,5 @@
 -- A word as it is read keeps what every word keeps.
-use Rattle.std.proofs.Common.{◌≡◌, ℕ, ◌+◌, ◌-◌, ◌<◌, ◌≤◌, ◌==◌, Bool, true, false, not, ◌&&◌, ◌||◌, nat_le, nat_lt, List, [], ◌∷◌, ◌++◌, length, map, take, slice_index, slice_index_or, slice_range, refl, sym, ◌∙◌, ap, arith}
+use Rattle.std.proofs.Common.{◌≡◌, ℕ, ◌+◌, ◌-◌, ◌<◌, ◌≤◌, ◌==◌, Bool, true, false, not, ◌&&◌, ◌||◌, nat_le, nat_lt, List, [], ◌∷◌, ◌++◌, length, map, take, slice_index, slice_index_or, slice_range, refl, sym, ◌∙◌, ap, arith, length-append}
 use Rattle.std.specs.List.{list_all}
 use Rattle.std.proofs.lemmas.List.{length-map, map-append, get_or_push, length_push, take_at}
 use Rattle.std.proofs.lemmas.List.Folds.{list_all-append}
@@ -129,3 +129,14 @@ fits_word n s u weight sign items fit grown short small letter sound =
     let new_signs : list_all (is_sign_up_to n) (map (λ (x : PositionedSign). x.sign) positioned) ≡ true = (and_parts _ _ (sym (list_all-append (is_sign_up_to n) s.signs.items (map (λ (x : PositionedSign). x.sign) positioned)) ∙ signs)).1 in
     let new_weights : list_all is_weight (map (λ (x : PositionedSign). x.weight) positioned) ≡ true = (and_parts _ _ (sym (list_all-append is_weight s.weights.items (map (λ (x : PositionedSign). x.weight) positioned)) ∙ weights)).1 in
     good_word weight sign items short (all_weaker (is_sign_up_to n) (nat_le 1) (map (λ (x : PositionedSign). x.sign) positioned) (sign_some n) new_signs) new_weights small letter sound
+
+-- a sign more in the columns: they are longer by one
+pub pushed_length : (old new : Store) (mark : Mark) (weight sign : ℕ) → columns_of new ≡ with_signs (columns_of old) (positioned_sign mark weight sign ∷ []) → length new.signs.items ≡ length old.signs.items + 1
+pushed_length old new mark weight sign grown = ap (λ (c : Columns). length c.signs) grown ∙ length-append old.signs.items (sign ∷ [])
+
+-- and they are within their limits where the sign and its weight are
+pub pushed_fit : (n : ℕ) (old new : Store) (mark : Mark) (weight sign : ℕ) → IsFit n old → weight ≤ WEIGHT_MAX → 1 ≤ sign → sign ≤ n → columns_of new ≡ with_signs (columns_of old) (positioned_sign mark weight sign ∷ []) → IsFit n new
+pushed_fit n old new mark weight sign fit small some most grown = record {
+  signs = ap (λ (c : Columns). list_all (is_sign_up_to n) c.signs) grown ∙ list_all-append (is_sign_up_to n) old.signs.items (sign ∷ []) ∙ and_from _ _ fit.signs (and_from _ _ (and_from _ _ (le-leb 1 sign some) (le-leb sign n most)) refl);
+  weights = ap (λ (c : Columns). list_all is_weight c.weights) grown ∙ list_all-append is_weight old.weights.items (weight ∷ []) ∙ and_from _ _ fit.weights (and_from _ _ (le-leb weight WEIGHT_MAX small) refl);
+}

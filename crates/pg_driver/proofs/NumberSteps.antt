@@ -1,23 +1,20 @@
 -- Steps of a pass by the numbers of its windows.
-use Rattle.std.proofs.Common.{◌≡◌, ◌≢◌, ℕ, zero, suc, ◌+◌, ◌≤◌, ◌<◌, Bool, true, false, cond, nat_eq, ◌&&◌, T, List, [], ◌∷◌, ◌++◌, filter, length, map, slice_get, is_some, Option, Some, None, inl, inr, refl, sym, ap, subst, ◌∙◌, arith, length-append}
-use Rattle.std.specs.List.{list_all}
+use Rattle.std.proofs.Common.{◌≡◌, ℕ, zero, suc, ◌+◌, ◌<◌, Bool, true, false, cond, ◌&&◌, T, List, [], ◌∷◌, ◌++◌, filter, length, map, slice_get, is_some, Option, Some, None, inl, inr, refl, sym, ap, subst, ◌∙◌, arith, length-append}
 use Rattle.std.specs.Option.{option_map, option_map_or}
 use Rattle.std.specs.Ordering.{is_eq, eq_by_cmp, ordering_reverse}
 use Rattle.std.specs.declared.cmp.Ordering.TheVariants.{Less, Greater}
 use Rattle.std.specs.Cmp.{tied_itself}
 use Rattle.std.specs.Cmp.Lexicographic.{nat_list_cmp_total}
 use Rattle.std.specs.FinMap.Entries.{find, is_sorted, below_all}
-use Rattle.std.proofs.lemmas.Bool.{and_from, le-leb, cases_Bool, cases_eq, cases_lt, eq-eqb, ne_eqb}
-use Rattle.std.proofs.lemmas.List.Elements.{All-head, All-tail}
+use Rattle.std.proofs.lemmas.Bool.{cases_eq, cases_lt}
+use Rattle.std.proofs.lemmas.List.{length-map}
 use Rattle.std.proofs.lemmas.Option.{slice_get_cases, slice_get_within}
 use Rattle.pg_types.proofs.BoolFacts.{first_half, second_half}
 use Rattle.pg_types.proofs.EntryLists.{below_get}
 use Rattle.pg_types.specs.declared.parameters.LevelParams.{LevelParams}
-use Rattle.pg_types.specs.Inside.Signs.{is_sign}
-use Rattle.pg_types.specs.Inside.Counts.{Counts, SignsWithin, counted_sums, is_counted}
-use Rattle.pg_types.specs.Inside.NumberedWindows.{Windows, HasNumber, AreNumbered, with_window}
+use Rattle.pg_types.specs.Inside.Counts.{Counts, counted_sums, is_counted}
+use Rattle.pg_types.specs.Inside.NumberedWindows.{Windows, HasNumber, AreInOrder, AreNumbered, with_window}
 use Rattle.pg_dict.specs.Word.{Word}
-use Rattle.pg_dict.specs.Inside.Store.{all_signs}
 use Rattle.pg_select.specs.declared.choice.Choice.{Choice}
 use Rattle.pg_select.specs.declared.pass.Pass.{Pass}
 use Rattle.pg_select.specs.Inside.Choices.{choice}
@@ -25,7 +22,7 @@ use Rattle.pg_select.specs.Statuses.{position_weight}
 use Rattle.pg_select.specs.Inside.LawsClosedDots.{is_good}
 use Rattle.pg_select.specs.Windows.{window, fits}
 use Rattle.pg_driver.specs.declared.pass_windows.WordPosition.{WordPosition}
-use Rattle.pg_driver.specs.Inside.PassWindows.{IsNumbered, HaveNumbers, AreFates, IsFirstSign, AreFirstSigns, IsPart, window_from}
+use Rattle.pg_driver.specs.Inside.PassWindows.{IsNumbered, HaveNumbers, AreFates, IsPart}
 use Rattle.pg_select.specs.CountedPositions.{CountedPosition}
 use Rattle.pg_select.specs.Inside.Meanings.{Meaning, with_position}
 use Rattle.pg_driver.specs.Inside.Counting.{meaning_after_counting, windows_after}
@@ -88,11 +85,11 @@ ahead ws counts n more (e ∷ rest) is part =
       part = λ k x at. part (suc k) x at;
     }
 
--- the signs of a window of a table
-pub are_signs : (n : ℕ) (q : List ℕ) → SignsWithin n q → list_all is_sign q ≡ true
-are_signs n [] h = refl
-are_signs n (s ∷ q) h =
-    and_from _ _ (le-leb 1 s (All-head (λ s. (1 ≤ s) × (s ≤ n)) s q h).0) (are_signs n q (All-tail (λ s. (1 ≤ s) × (s ≤ n)) s q h))
+-- the numbers in the order of signs are those of all windows
+pub order_whole : (ws : Windows) (counts : Counts) (ns : List ℕ) → AreNumbered ws counts → AreInOrder ws counts ns → length ns ≡ length ws
+order_whole ws counts ns numbered order =
+    let sizes : length (map (slice_get ws) ns) ≡ length (map (λ (e : List ℕ × (ℕ × ℕ)). Some e.0) counts) = ap (λ (os : List (Option (List ℕ))). length os) order in
+    omega (arith, sizes, length-map ns (slice_get ws), length-map counts (λ (e : List ℕ × (ℕ × ℕ)). Some e.0), numbered.size)
 
 -- the window of a number and its sums are the only ones
 pub only_one : (ws : Windows) (counts : Counts) (n : ℕ) (u : List ℕ) (s : ℕ × ℕ) (v : List ℕ) (t : ℕ × ℕ) → HasNumber ws u n → counted_sums counts u ≡ Some s → HasNumber ws v n → counted_sums counts v ≡ Some t → t ≡ s
@@ -156,43 +153,6 @@ window_in ws counts level len dot w p fit = by (fits w.signs p len dot) fit
     by : (b : Bool) → b ≡ true → windows_after ws counts (option_map_or (λ good. record { window = window w.signs p len dot; good = good; weight = position_weight w p } ∷ []) (cond (b && true) (Some (is_good level w p)) None) []) ≡ with_window ws counts (window w.signs p len dot)
     by true e = refl
     by false e = absurd (let wrong : false ≡ true = e in cc)
-
--- a place more, where the window is new
-pub place_more : (pass : Pass) (words : List Word) (ws after : Windows) (counts now : Counts) (places more : List ℕ) (first n : ℕ)
-    → AreFirstSigns pass words ws places → AreNumbered after now → first + pass.len ≤ length (all_signs words)
-    → after ≡ with_window ws counts (window_from pass words first) → HasNumber after (window_from pass words first) n
-    → more ≡ cond (nat_eq n (length places)) (places ++ first ∷ []) places → AreFirstSigns pass words after more
-place_more pass words ws after counts now places more first n are numbered inside grown at is = elim (cases_Bool (is_counted counts (window_from pass words first))) [ inl old ↦ was old | inr new ↦ came new ]
-  where
-    was : is_counted counts (window_from pass words first) ≡ true → AreFirstSigns pass words after more
-    was old =
-        let same : after ≡ ws = grown ∙ ap (λ b. cond b ws (ws ++ (window_from pass words first) ∷ [])) old in
-        let lt : n < length ws = slice_get_within ws n (window_from pass words first) (subst (λ (x : Windows). HasNumber x (window_from pass words first) n) same at) in
-        let other : n ≢ length places = (let size = are.size in omega arith) in
-        let kept : more ≡ places = is ∙ ap (λ b. cond b (places ++ first ∷ []) places) (ne_eqb n (length places) other) in
-        subst (λ (x : Windows). AreFirstSigns pass words x more) (sym same) (subst (AreFirstSigns pass words ws) (sym kept) are)
-
-    came : is_counted counts (window_from pass words first) ≡ false → AreFirstSigns pass words after more
-    came new =
-        let longer : after ≡ ws ++ (window_from pass words first) ∷ [] = grown ∙ ap (λ b. cond b ws (ws ++ (window_from pass words first) ∷ [])) new in
-        let last : HasNumber after (window_from pass words first) (length ws) = subst (λ (x : Windows). HasNumber x (window_from pass words first) (length ws)) (sym longer) (get_seam ws (window_from pass words first) (length ws) refl) in
-        let next : n ≡ length places = (let size = are.size in let once = numbered.once (window_from pass words first) n (length ws) at last in omega arith) in
-        let added : more ≡ places ++ first ∷ [] = is ∙ ap (λ b. cond b (places ++ first ∷ []) places) (eq-eqb n (length places) next) in
-        subst (AreFirstSigns pass words after) (sym added) (record {
-          size = (let size = are.size in omega (arith, length-append places (first ∷ []), ap length longer, length-append ws ((window_from pass words first) ∷ [])));
-          each = λ k q e. elim (cases_lt k (length places)) [
-            | inl lt ↦
-                let old = are.each k q (get_back places first k q lt e) in
-                record {
-                  within = old.within;
-                  number = subst (λ (x : Windows). HasNumber x (window_from pass words q) k) (sym longer) (get_left ws ((window_from pass words first) ∷ []) k (window_from pass words q) old.number);
-                }
-            | inr le ↦
-                let here = get_last places first k q e (λ lt. omega arith) in
-                let number : HasNumber after (window_from pass words first) k = (let p = here.1 in let size = are.size in subst (HasNumber after (window_from pass words first)) (let z : length ws ≡ k = omega arith in z) last) in
-                subst (IsFirstSign pass words after k) (sym here.0) (record { within = inside; number = number })
-          ];
-        })
 
 -- the elements of all that pass are among all
 pub filter_from : {X : Type 0} (test : X → Bool) (P : X → Type 0) (xs : List X) → ((k : ℕ) (x : X) → slice_get xs k ≡ Some x → P x) → (k : ℕ) (x : X) → slice_get (filter test xs) k ≡ Some x → (P x) × (test x ≡ true)

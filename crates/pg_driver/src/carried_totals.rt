@@ -1,5 +1,5 @@
 //! The totals after a pass, from those before it.
-ghost use Rattle.std.specs.Prelude.{◌≡◌, ◌≤◌, ◌<◌, ◌^◌, MatchBool};
+ghost use Rattle.std.specs.Prelude.{◌≤◌, ◌<◌, MatchBool};
 ghost use Rattle.pg_select.specs.Inside.LawsSteps.{FindsMore, PreventsMore};
 ghost use Rattle.pg_select.specs.Statuses.{is_odd};
 ghost use Rattle.pg_driver.specs.Inside.Sound.{IsSmall};

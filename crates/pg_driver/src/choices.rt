@@ -1,19 +1,16 @@
 //! The choice among the candidates of a pass.
-ghost use Rattle.std.specs.Prelude.{◌≡◌, ◌≤◌, ◌<◌, ◌+◌, ◌^◌, ◌∷◌, [], ℕ, List, true, map, IfOk, OnOk};
+ghost use Rattle.std.specs.Prelude.{◌≡◌, ◌≤◌, ◌<◌, ◌+◌, ◌∷◌, [], ℕ, List, true, length, map, IfOk, OnOk};
 ghost use Rattle.pg_types.specs.declared.limits.TheConstants.{FILE_MAX};
 ghost use Rattle.pg_types.specs.Inside.Ranges.{IsLevel};
 ghost use Rattle.pg_types.specs.Inside.Counts.{is_counted};
 ghost use Rattle.pg_types.specs.Inside.NumberedWindows.{AreInOrder};
 ghost use Rattle.pg_select.specs.Inside.Choices.{choice};
-ghost use Rattle.pg_driver.specs.Inside.States.{IsPass};
-ghost use Rattle.pg_driver.specs.Inside.PassWindows.{AreFates, AreFirstSigns, IsCandidate, IsFirstSign};
+ghost use Rattle.pg_driver.specs.Inside.PassWindows.{AreFates, IsCandidate};
 ghost use Rattle.pg_driver.specs.Inside.Counting.{HasRoom};
 ghost use Rattle.pg_types.specs.Inside.Limits.{sums_limit};
 ghost use Rattle.pg_driver.specs.Inside.Choosing.{with_candidates, no_choices, candidate_of, HasChosen};
 
-use crate::pass_windows::go_to;
-use pg_dict::Dictionary;
-use pg_select::{Choice, Engine, Pass};
+use pg_select::{Choice, Engine};
 use pg_types::{Cursor, LevelParams};
 use std::alloc::AllocError;
 
@@ -80,18 +77,14 @@ fn choose_at<E: Engine>(
 /// its signs nor its sums are read. What the cursor holds does not matter.
 fn choose_one<E: Engine>(
     engine: &mut E,
-    dictionary: &Dictionary,
     params: &LevelParams,
-    pass: Pass,
     number: u32,
-    first: u32,
     fate: Choice,
     at: &mut Cursor,
     choices: &mut Choices,
 ) -> Result<(), AllocError>
-    requires ranges { IsPass pass }
     requires level { IsLevel params.now }
-    requires place { IsFirstSign pass dictionary.now (E.meaning engine.old).windows number first }
+    requires there { number < length (E.meaning engine.old).windows }
     requires fate { (u : List ℕ) (sums : ℕ × ℕ) → IsCandidate (E.meaning engine.old) number u sums
         → fate ≡ choice params.now sums.0 sums.1 }
     requires sums { (u : List ℕ) (sums : ℕ × ℕ) → IsCandidate (E.meaning engine.old) number u sums
@@ -114,25 +107,20 @@ fn choose_one<E: Engine>(
         return Ok(());
     }
     let (good, bad) = engine.sums_of(number);
-    go_to(engine, dictionary, pass, number, first, at);
+    engine.go_to(number, at);
     choose_at(engine, params, at, good, bad, fate, choices)
 }
 
 /// Chooses each candidate of a pass, makes it hopeless or leaves it, in the order of signs, as was
-/// decided by number. The signs of a window are read where it was first counted.
+/// decided by number.
 pub fn choose_all<E: Engine>(
     engine: &mut E,
-    dictionary: &Dictionary,
     params: &LevelParams,
-    pass: Pass,
-    places: &[u32],
     fates: &[Choice],
     order: &[u32],
 ) -> Result<Choices, AllocError>
-    requires ranges { IsPass pass }
     requires level { IsLevel params.now }
     requires room { HasRoom (E.meaning engine.old).counts 0 }
-    requires places { AreFirstSigns pass dictionary.now (E.meaning engine.old).windows places.now }
     requires fates { AreFates params.now (E.meaning engine.old).counts
         (E.meaning engine.old).windows fates.now }
     requires order { AreInOrder (E.meaning engine.old).windows
@@ -156,19 +144,8 @@ pub fn choose_all<E: Engine>(
     };
     'candidates: for number in order {
         let n = *number;
-        let first = places[n as usize];
         let fate = fates[n as usize];
-        choose_one(
-            engine,
-            dictionary,
-            params,
-            pass,
-            n,
-            first,
-            fate,
-            &mut at,
-            &mut choices,
-        )?;
+        choose_one(engine, params, n, fate, &mut at, &mut choices)?;
     }
     Ok(choices)
 }

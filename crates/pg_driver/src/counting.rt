@@ -1,5 +1,6 @@
 //! The ways to count the windows of a level.
 ghost use Rattle.std.specs.Prelude.{◌≡◌, ◌≤◌, ◌<◌, ◌+◌, [], ℕ, length, IfOk, OnOk};
+ghost use Rattle.pg_types.specs.Inside.NumberedWindows.{AreNumbered};
 ghost use Rattle.pg_dict.specs.Inside.SoundWords.{SignsAtMost};
 ghost use Rattle.pg_select.specs.Inside.LawsSteps.{IsBelow};
 ghost use Rattle.pg_select.specs.CountedPositions.{counted_positions, minima_of};
@@ -7,7 +8,7 @@ ghost use Rattle.pg_driver.specs.Accounts.{totals_by};
 ghost use Rattle.pg_driver.specs.Inside.Counting.{meaning_after_counting, HasRoom};
 ghost use Rattle.pg_driver.specs.declared.pass_windows.TheConstants.{NOT_COUNTED};
 ghost use Rattle.pg_driver.specs.Inside.LevelCounting.{AreNumberedIn, ArePlaced, CanGoOn, GoesOnAfter, IsCounted, IsOverOpen, IsReady, totals_in};
-ghost use Rattle.pg_driver.specs.Inside.PassWindows.{AreFates, AreFirstSigns};
+ghost use Rattle.pg_driver.specs.Inside.PassWindows.{AreFates};
 ghost use Rattle.pg_driver.specs.Inside.Sound.{IsSmall};
 ghost use Rattle.pg_driver.specs.Inside.States.{IsPass};
 ghost use Rattle.pg_driver.specs.Inside.RunAccounts.{known_of};
@@ -66,8 +67,7 @@ impl Counting {
     }
 
     /// Counts the windows of a pass that has begun, and gives the totals before it. Each position
-    /// that is kept has the number of its window, and each window the place where it was first
-    /// counted.
+    /// that is kept has the number of its window.
     pub fn count<E: Engine>(
         &mut self,
         engine: &mut E,
@@ -79,7 +79,6 @@ impl Counting {
         requires ranges { IsPass pass }
         requires pass { (E.meaning engine.old).pass ≡ pass }
         requires fresh { (E.meaning engine.old).counts ≡ [] }
-        requires none { (E.meaning engine.old).windows ≡ [] }
         requires signs { SignsAtMost (E.meaning engine.old).signs dictionary.now }
         requires ready { IsReady (over table.now dictionary.now) pass.level pass.len
             (known_of (E.meaning engine.old)) self.old }
@@ -96,28 +95,22 @@ impl Counting {
             (known_of (E.meaning engine.old)) self.new) }
         ensures counted { OnOk result (IsCounted self.new) }
         ensures numbers { OnOk result
-            (AreNumberedIn pass (E.meaning engine.new).counts dictionary.now
+            (AreNumbered (E.meaning engine.new).windows (E.meaning engine.new).counts
+            → AreNumberedIn pass (E.meaning engine.new).counts dictionary.now
             (E.meaning engine.new).windows self.new windows.new.numbers.items) }
-        ensures places { OnOk result (AreFirstSigns pass dictionary.now
-            (E.meaning engine.new).windows
-            windows.new.places.items) }
         ensures signs { (E.meaning engine.new).signs ≡ (E.meaning engine.old).signs }
     {
-        windows.clear();
+        windows.numbers.clear();
         match self {
             Counting::Open(open) => {
                 open.dots.reach(pass.dot)?;
-                count_open(
-                    engine,
-                    dictionary,
-                    pass,
-                    &open.dots,
-                    &mut windows.places,
-                    &mut windows.numbers,
-                )?;
+                let numbers = &mut windows.numbers;
+                count_open(engine, dictionary, pass, &open.dots, numbers)?;
                 Ok(open.totals)
             }
-            Counting::EachWord(level) => level.count(engine, dictionary, table, pass, windows),
+            Counting::EachWord(level) => {
+                level.count(engine, dictionary, table, pass, &mut windows.numbers)
+            }
         }
     }
 
@@ -134,6 +127,8 @@ impl Counting {
         windows: &PassWindows,
     )
         requires ranges { IsPass pass }
+        requires numbered { AreNumbered (E.meaning engine.now).windows
+            (E.meaning engine.now).counts }
         requires placed { ArePlaced dictionary.now self.old }
         requires fates { AreFates params.now (E.meaning engine.now).counts
             (E.meaning engine.now).windows
@@ -146,7 +141,6 @@ impl Counting {
         ensures { GoesOnAfter params.now pass
             (E.meaning engine.now).counts dictionary.now choices self.old self.new }
     {
-        engine.kept();
         match self {
             Counting::Open(open) => {
                 let signs = dictionary.all_signs();
@@ -167,9 +161,7 @@ impl Counting {
                     &windows.numbers,
                     &words.above,
                 );
-                let good = choices.good - kept.good;
-                let bad = choices.bad - kept.bad;
-                words.totals = totals_after(words.totals, pass.level, good, bad);
+                words.after_choices(pass.level, choices, kept);
             }
         }
     }

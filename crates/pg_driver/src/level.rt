@@ -1,5 +1,5 @@
 //! The passes of a level.
-ghost use Rattle.std.specs.Prelude.{ℕ, ◌≡◌, ◌≤◌, ◌<◌, ◌+◌, ◌-◌, ◌*◌, ◌^◌, ◌∷◌, [], true, IfOk, OnOk};
+ghost use Rattle.std.specs.Prelude.{ℕ, ◌≡◌, ◌≤◌, ◌<◌, ◌+◌, ◌-◌, ◌*◌, ◌∷◌, [], true, IfOk, OnOk};
 ghost use Rattle.pg_types.specs.declared.limits.TheConstants.{FILE_MAX, LENGTH_MAX, LEVEL_MAX};
 ghost use Rattle.pg_types.specs.Inside.Ranges.{IsLevel};
 ghost use Rattle.pg_dict.specs.Inside.SoundWords.{SignsAtMost};
@@ -58,15 +58,7 @@ fn run_pass<E: Engine>(
     let before = counting.count(engine, dictionary, table, pass, windows)?;
     engine.kept();
     windows.decide(engine, params)?;
-    let choices = choose_all(
-        engine,
-        dictionary,
-        params,
-        pass,
-        &windows.places,
-        &windows.fates,
-        &windows.order,
-    )?;
+    let choices = choose_all(engine, params, &windows.fates, &windows.order)?;
     counting.after_choices(engine, dictionary, params, pass, choices, windows);
     Ok(PassRecord {
         level: pass.level,

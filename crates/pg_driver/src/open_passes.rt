@@ -1,17 +1,18 @@
 //! A pass over the open positions of its level: the counting of its windows, and the closing of
 //! dots after its choices.
-ghost use Rattle.std.specs.Prelude.{◌≡◌, ◌≢◌, ◌≤◌, ◌<◌, not, if◌then◌else◌, [], ℕ, Bool, length, slice_get, IfOk, OnOk};
+ghost use Rattle.std.specs.Prelude.{◌≡◌, ◌≢◌, ◌≤◌, ◌<◌, not, if◌then◌else◌, [], ℕ, Bool, length, slice_get, sum_by, All, IfOk, OnOk};
 ghost use Rattle.std.specs.List.{flat_map};
 ghost use Rattle.pg_dots.specs.Inside.Dots.{is_closed, position_count as places_in};
-ghost use Rattle.pg_dict.specs.Inside.SoundWords.{SignsAtMost};
+ghost use Rattle.pg_types.specs.declared.limits.TheConstants.{FILE_MAX};
+ghost use Rattle.pg_dict.specs.Inside.SoundWords.{IsWord, SignsAtMost, letter_count};
 ghost use Rattle.pg_select.specs.Statuses.{is_odd};
 ghost use Rattle.pg_driver.specs.Inside.Counting.{meaning_after_counting, HasRoom, TookRoom};
 ghost use Rattle.pg_driver.specs.Inside.States.{IsPass};
 ghost use Rattle.pg_driver.specs.Inside.OpenSigns.{ClosesBy, closed_by, open_word_positions, open_signs, position_from, sign_count};
 ghost use Rattle.pg_driver.specs.Inside.OpenPositions.{counted_of};
-ghost use Rattle.pg_driver.specs.Inside.PassWindows.{AreFirstSigns, HaveNumbers, IsNumbered, counts_at};
+ghost use Rattle.pg_driver.specs.Inside.PassWindows.{HaveNumbers, IsNumbered, counts_at};
 
-use crate::pass_windows::{NOT_COUNTED, note_place};
+use crate::pass_windows::NOT_COUNTED;
 use pg_dict::Dictionary;
 use pg_dots::OpenDots;
 use pg_select::{Choice, Engine, Pass};
@@ -25,22 +26,20 @@ pub fn is_good(level: u8, hyphen: bool) -> bool
 }
 
 /// Counts the window at a sign at which the dot of the pass is open, where it fits in the sign's
-/// word, and gives its number. Where it is counted for the first time, its place is noted. No word
-/// is looked up.
+/// word, and gives its number. No word is looked up.
 fn count_sign<E: Engine>(
     engine: &mut E,
     dictionary: &Dictionary,
     pass: Pass,
     sign: usize,
-    places: &mut Vec<u32>,
 ) -> Result<u32, AllocError>
     requires ranges { IsPass pass }
     requires pass { (E.meaning engine.old).pass ≡ pass }
     requires signs { SignsAtMost (E.meaning engine.old).signs dictionary.now }
+    requires words { All IsWord dictionary.now }
+    requires letters { sum_by letter_count dictionary.now ≤ FILE_MAX }
     requires within { sign < sign_count dictionary.now }
     requires room { HasRoom (E.meaning engine.old).counts 1 }
-    requires places { AreFirstSigns pass dictionary.now
-        (E.meaning engine.old).windows places.old.items }
     ensures ok { OnOk result (E.meaning engine.new
         ≡ meaning_after_counting (E.meaning engine.old)
         (counted_of pass.level pass.len pass.dot dictionary.now
@@ -49,11 +48,8 @@ fn count_sign<E: Engine>(
         (TookRoom (E.meaning engine.old).counts (E.meaning engine.new).counts 1) }
     ensures number { IfOk result (λ n. IsNumbered pass (counts_at pass) dictionary.now
         (E.meaning engine.new).windows (position_from 0 dictionary.now sign) n) }
-    ensures places { OnOk result (AreFirstSigns pass dictionary.now (E.meaning engine.new).windows
-        places.new.items) }
     ensures signs { (E.meaning engine.new).signs ≡ (E.meaning engine.old).signs }
 {
-    let _words = dictionary.len();
     let sites = dictionary.all_sites();
     let site = sites[sign];
     if !site.has_around(pass.dot, pass.len) {
@@ -64,32 +60,28 @@ fn count_sign<E: Engine>(
     let window = &signs[first..first + usize::from(pass.len)];
     let good = is_good(pass.level, site.has_hyphen());
     let weights = dictionary.all_weights();
-    let number = engine.count_numbered(window, good, weights[sign])?;
-    engine.kept();
-    note_place(places, number, first as u32)?;
-    Ok(number)
+    engine.count_numbered(window, good, weights[sign])
 }
 
 /// Counts the windows of a pass that has begun at the positions at which its dot is open. Each of
-/// them gets the number of its window, and each window the place where it was first counted.
+/// them gets the number of its window.
 #[inline(never)]
 pub fn count_open<E: Engine>(
     engine: &mut E,
     dictionary: &Dictionary,
     pass: Pass,
     dots: &OpenDots,
-    places: &mut Vec<u32>,
     numbers: &mut Vec<u32>,
 ) -> Result<(), AllocError>
     requires ranges { IsPass pass }
     requires pass { (E.meaning engine.old).pass ≡ pass }
     requires signs { SignsAtMost (E.meaning engine.old).signs dictionary.now }
+    requires words { All IsWord dictionary.now }
+    requires letters { sum_by letter_count dictionary.now ≤ FILE_MAX }
     requires reached { pass.dot < dots.now.reached }
     requires size { sign_count dictionary.now ≤ places_in dots.now }
     requires room { HasRoom (E.meaning engine.old).counts
         (length (open_signs (is_closed dots.now pass.dot) 0 (sign_count dictionary.now))) }
-    requires places { AreFirstSigns pass dictionary.now
-        (E.meaning engine.old).windows places.old.items }
     requires none { numbers.old.items ≡ [] }
     ensures ok { OnOk result (E.meaning engine.new
         ≡ meaning_after_counting (E.meaning engine.old)
@@ -99,8 +91,6 @@ pub fn count_open<E: Engine>(
     ensures numbers { OnOk result
         (HaveNumbers pass (counts_at pass) dictionary.now (E.meaning engine.new).windows
         (open_word_positions (is_closed dots.now pass.dot) dictionary.now) numbers.new.items) }
-    ensures places { OnOk result (AreFirstSigns pass dictionary.now (E.meaning engine.new).windows
-        places.new.items) }
     ensures signs { (E.meaning engine.new).signs ≡ (E.meaning engine.old).signs }
 {
     let signs = dictionary.all_signs();
@@ -108,7 +98,7 @@ pub fn count_open<E: Engine>(
     let mut walk = dots.walk(pass.dot);
     let mut next = dots.next_open(pass.dot, &mut walk);
     'signs: while next < end {
-        let number = count_sign(engine, dictionary, pass, next, places)?;
+        let number = count_sign(engine, dictionary, pass, next)?;
         numbers.push(number)?;
         next = dots.next_open(pass.dot, &mut walk);
     }

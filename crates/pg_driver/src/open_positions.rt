@@ -105,7 +105,7 @@ pub fn open_level<E: Engine>(
     ensures words { OnOk result (All IsWord dictionary.now) }
     ensures letters { OnOk result (sum_by letter_count dictionary.now ≤ FILE_MAX) }
 {
-    let _words = dictionary.len();
+    let count = dictionary.len();
     let signs = dictionary.all_signs();
     let dots = OpenDots::closed(alloc, signs.len())?;
     let mut found = WordState::new();
@@ -114,7 +114,7 @@ pub fn open_level<E: Engine>(
         totals: no_totals(),
     };
     let mut start = 0;
-    'words: for i in 0..dictionary.len() {
+    'words: for i in 0..count {
         let w = dictionary.word(i);
         open_word(engine, table, level, start, &w, &mut found, &mut opened);
         start += w.signs.len();

@@ -1,18 +1,15 @@
-//! The windows of a pass by their numbers: where each was first counted, what becomes of it, and
-//! which positions it stands at.
-ghost use Rattle.std.specs.Prelude.{◌≡◌, ◌==◌, ◌<◌, ◌≤◌, ◌++◌, ◌∷◌, [], ℕ, List, if◌then◌else◌, length, Some, OnOk};
+//! The windows of a pass by their numbers: what becomes of each, and which positions it stands at.
+ghost use Rattle.std.specs.Prelude.{◌≡◌, ◌<◌, ◌≤◌, ◌++◌, ℕ, List, length, Some, OnOk};
 ghost use Rattle.pg_types.specs.Inside.Counts.{counted_sums};
 ghost use Rattle.pg_types.specs.Inside.NumberedWindows.{HasNumber};
 ghost use Rattle.pg_types.specs.Inside.Ranges.{IsLevel};
 ghost use Rattle.pg_select.specs.Inside.Choices.{choice};
 ghost use Rattle.pg_driver.specs.declared.pass_windows.TheConstants.{NOT_COUNTED};
 ghost use Rattle.pg_driver.specs.Inside.Counting.{HasRoom};
-ghost use Rattle.pg_driver.specs.Inside.States.{IsPass};
-ghost use Rattle.pg_driver.specs.Inside.PassWindows.{AreFates, IsFirstSign};
+ghost use Rattle.pg_driver.specs.Inside.PassWindows.{AreFates};
 
-use pg_dict::Dictionary;
-use pg_select::{Choice, Engine, Pass, decide};
-use pg_types::{Cursor, LevelParams};
+use pg_select::{Choice, Engine, decide};
+use pg_types::LevelParams;
 use std::alloc::{AllocError, Global};
 
 /// This stands for the number of a window at a position that was not counted.
@@ -30,9 +27,6 @@ pub struct WordPosition {
 /// What a pass keeps of its windows. The memory stays from pass to pass.
 #[derive(Drop)]
 pub struct PassWindows {
-    /// Where each window was first counted, by its number: the number of its first sign among the
-    /// signs of all words.
-    pub places: Vec<u32>,
     /// The number of the window of each position that is kept, in the order of these positions.
     pub numbers: Vec<u32>,
     /// The numbers in the order of signs.
@@ -43,7 +37,7 @@ pub struct PassWindows {
 
 impl PassWindows {
     ghost use Rattle.std.specs.Prelude.{◌≡◌, ◌≤◌, [], length, OnOk};
-    ghost use Rattle.pg_types.specs.Inside.NumberedWindows.{AreInOrder};
+    ghost use Rattle.pg_types.specs.Inside.NumberedWindows.{AreInOrder, AreNumbered};
     ghost use Rattle.pg_types.specs.Inside.Ranges.{IsLevel};
     ghost use Rattle.pg_driver.specs.declared.pass_windows.TheConstants.{NOT_COUNTED};
     ghost use Rattle.pg_driver.specs.Inside.Counting.{HasRoom};
@@ -52,27 +46,28 @@ impl PassWindows {
     /// No window. It takes no memory.
     pub fn new(alloc: Global) -> PassWindows {
         PassWindows {
-            places: Vec::new(alloc),
             numbers: Vec::new(alloc),
             order: Vec::new(alloc),
             fates: Vec::new(alloc),
         }
     }
 
-    /// Forgets the windows of the pass before.
-    pub fn clear(&mut self)
-        ensures places { self.new.places.items ≡ [] }
-        ensures numbers { self.new.numbers.items ≡ [] }
+    /// Forgets the order and the decisions of the pass before.
+    fn forget(&mut self)
+        ensures order { self.new.order.items ≡ [] }
+        ensures fates { self.new.fates.items ≡ [] }
+        ensures numbers { self.new.numbers.items ≡ self.old.numbers.items }
     {
-        self.places.clear();
-        self.numbers.clear();
+        self.order.clear();
+        self.fates.clear();
     }
 
     /// Puts the windows that were counted in order, and decides once what becomes of each.
     pub fn decide<E: Engine>(&mut self, engine: &E, params: &LevelParams) -> Result<(), AllocError>
         requires level { IsLevel params.now }
         requires room { HasRoom (E.meaning engine.now).counts 0 }
-        requires places { length self.old.places.items ≡ length (E.meaning engine.now).windows }
+        requires numbered { AreNumbered (E.meaning engine.now).windows
+            (E.meaning engine.now).counts }
         ensures order { OnOk result
             (AreInOrder (E.meaning engine.now).windows (E.meaning engine.now).counts
             self.new.order.items) }
@@ -80,28 +75,13 @@ impl PassWindows {
             (AreFates params.now (E.meaning engine.now).counts (E.meaning engine.now).windows
             self.new.fates.items) }
         ensures few { OnOk result (length self.new.fates.items ≤ NOT_COUNTED) }
-        ensures places { self.new.places.items ≡ self.old.places.items }
         ensures numbers { self.new.numbers.items ≡ self.old.numbers.items }
     {
-        self.order.clear();
-        self.fates.clear();
-        engine.kept();
+        self.forget();
         engine.order(&mut self.order)?;
-        decide_all(engine, params, self.places.len(), &mut self.fates)?;
+        decide_all(engine, params, self.order.len(), &mut self.fates)?;
         Ok(())
     }
-}
-
-/// Notes the first sign of a window where its number is the next one.
-pub fn note_place(places: &mut Vec<u32>, number: u32, first: u32) -> Result<(), AllocError>
-    ensures { OnOk result (places.new.items
-        ≡ (if number == length places.old.items then places.old.items ++ first ∷ []
-        else places.old.items)) }
-{
-    if number as usize == places.len() {
-        places.push(first)?;
-    }
-    Ok(())
 }
 
 /// Appends what becomes of each window, by number.
@@ -119,7 +99,6 @@ fn decide_all<E: Engine>(
         × (fates.new.items ≡ fates.old.items ++ more)
         × AreFates params.now (E.meaning engine.now).counts (E.meaning engine.now).windows more) }
 {
-    engine.kept();
     'numbers: for number in 0..windows {
         let fate = decide_one(engine, params, number as u32);
         fates.push(fate)?;
@@ -138,23 +117,4 @@ fn decide_one<E: Engine>(engine: &E, params: &LevelParams, number: u32) -> Choic
 {
     let (good, bad) = engine.sums_of(number);
     decide(good, bad, params)
-}
-
-/// Moves the cursor to the window of a pass that begins at a sign.
-pub fn go_to<E: Engine>(
-    engine: &E,
-    dictionary: &Dictionary,
-    pass: Pass,
-    number: u32,
-    first: u32,
-    at: &mut Cursor,
-)
-    requires ranges { IsPass pass }
-    requires place { IsFirstSign pass dictionary.now (E.meaning engine.now).windows number first }
-    ensures { HasNumber (E.meaning engine.now).windows at.new number }
-{
-    engine.kept();
-    let signs = dictionary.all_signs();
-    let from = first as usize;
-    at.set(&signs[from..from + usize::from(pass.len)]);
 }

@@ -1,17 +1,23 @@
 //! A level in which each word is hyphenated in each pass. Its totals are carried from pass to pass.
 ghost use Rattle.std.specs.Prelude.{◌≡◌, [], false, true, IfOk, OnOk};
+ghost use Rattle.pg_types.specs.Inside.NumberedWindows.{AreNumbered};
 ghost use Rattle.pg_dict.specs.Inside.SoundWords.{SignsAtMost};
 ghost use Rattle.pg_select.specs.CountedPositions.{counted_positions, minima_of};
 ghost use Rattle.pg_driver.specs.Accounts.{totals_by};
 ghost use Rattle.pg_driver.specs.Inside.Counting.{meaning_after_counting, HasRoom};
-ghost use Rattle.pg_driver.specs.Inside.PassWindows.{AreFirstSigns, HaveNumbers, is_counted_at};
+ghost use Rattle.pg_driver.specs.Inside.PassWindows.{HaveNumbers, is_counted_at};
 ghost use Rattle.pg_driver.specs.Inside.Sound.{IsSmall};
 ghost use Rattle.pg_driver.specs.Inside.States.{IsPass};
 ghost use Rattle.pg_driver.specs.Inside.RunAccounts.{known_of};
 ghost use Rattle.pg_driver.specs.Traces.{over};
+ghost use Rattle.pg_select.specs.Statuses.{is_odd};
+ghost use Rattle.pg_driver.specs.Inside.LevelCounting.{CanMove, IsAfterWords};
 ghost use Rattle.pg_driver.specs.Inside.WordLevels.{IsWordsAt};
 
-use crate::pass_windows::{PassWindows, WordPosition};
+use crate::above_positions::Kept;
+use crate::carried_totals::totals_after;
+use crate::choices::Choices;
+use crate::pass_windows::WordPosition;
 use crate::words::count_words;
 use pg_dict::Dictionary;
 use pg_select::marks::no_totals;
@@ -54,14 +60,12 @@ impl WordLevel {
         dictionary: &Dictionary,
         table: &Table,
         pass: Pass,
-        windows: &mut PassWindows,
+        numbers: &mut Vec<u32>,
     ) -> Result<Totals, AllocError>
         requires ranges { IsPass pass }
         requires pass { (E.meaning engine.old).pass ≡ pass }
         requires fresh { (E.meaning engine.old).counts ≡ [] }
-        requires places { AreFirstSigns pass dictionary.now
-            (E.meaning engine.old).windows windows.old.places.items }
-        requires numbers { windows.old.numbers.items ≡ [] }
+        requires none { numbers.old.items ≡ [] }
         requires signs { SignsAtMost (E.meaning engine.old).signs dictionary.now }
         requires ready { IsWordsAt (over table.now dictionary.now) pass.level
             (known_of (E.meaning engine.old))
@@ -79,12 +83,10 @@ impl WordLevel {
             (known_of (E.meaning engine.old)) self.new) }
         ensures counted { OnOk result (self.new.is_counted ≡ true) }
         ensures numbers { OnOk result
-            (HaveNumbers pass (is_counted_at pass (E.meaning engine.new).counts)
+            (AreNumbered (E.meaning engine.new).windows (E.meaning engine.new).counts
+            → HaveNumbers pass (is_counted_at pass (E.meaning engine.new).counts)
             dictionary.now (E.meaning engine.new).windows
-            self.new.above.items windows.new.numbers.items) }
-        ensures places { OnOk result (AreFirstSigns pass dictionary.now
-            (E.meaning engine.new).windows
-            windows.new.places.items) }
+            self.new.above.items numbers.new.items) }
         ensures signs { (E.meaning engine.new).signs ≡ (E.meaning engine.old).signs }
     {
         let lists = !self.is_counted;
@@ -95,11 +97,21 @@ impl WordLevel {
             pass,
             lists,
             &mut self.above,
-            windows,
+            numbers,
         )?;
-        engine.kept();
         self.is_counted = true;
         self.totals = before;
         Ok(before)
+    }
+
+    /// Carries the totals on past the choices of a pass. Those of the listed positions, which are
+    /// `kept`, change no value, so their weights are left out.
+    pub fn after_choices(&mut self, level: u8, choices: Choices, kept: Kept)
+        requires { CanMove (is_odd level) self.old.totals choices kept }
+        ensures { IsAfterWords (is_odd level) choices kept self.old self.new }
+    {
+        let good = choices.good - kept.good;
+        let bad = choices.bad - kept.bad;
+        self.totals = totals_after(self.totals, level, good, bad);
     }
 }

@@ -1,8 +1,7 @@
 //! The walk over the words in a pass that hyphenates each of them.
-ghost use Rattle.std.specs.Prelude.{◌≡◌, ◌≤◌, ◌<◌, ◌+◌, ◌*◌, ◌++◌, ◌&&◌, [], not, false, if◌then◌else◌, None, Some, ℕ, List, length, slice_get, slice_index_or, IfOk, OnOk};
+ghost use Rattle.std.specs.Prelude.{◌≡◌, ◌≤◌, ◌<◌, ◌+◌, ◌++◌, ◌&&◌, [], not, false, if◌then◌else◌, None, length, slice_index_or, IfOk, OnOk};
 ghost use Rattle.pg_types.specs.Inside.Counts.{SignsWithin};
-ghost use Rattle.pg_types.specs.declared.limits.TheConstants.{FILE_MAX, WORD_LETTERS_MAX};
-ghost use Rattle.pg_dict.specs.Word.{Word};
+ghost use Rattle.pg_types.specs.declared.limits.TheConstants.{WORD_LETTERS_MAX};
 ghost use Rattle.pg_dict.specs.Inside.SoundWords.{IsWord, SignsAtMost, letter_count};
 ghost use Rattle.pg_dict.specs.Inside.Lent.{lent_word};
 ghost use Rattle.pg_select.specs.CountedPositions.{counted_at, counted_positions_at, counted_positions, counts_as as counts_as_of, minima_of};
@@ -13,17 +12,15 @@ ghost use Rattle.pg_select.specs.Sums.{marks_in, totals as totals_of_words};
 ghost use Rattle.pg_select.specs.Inside.SumSteps.{with_mark, with_marks, HasRoomFor, TookRoomFor};
 ghost use Rattle.pg_select.specs.Windows.{fits as fits_in, window as window_of_word};
 ghost use Rattle.pg_driver.specs.Inside.Counting.{meaning_after_counting, HasRoom, TookRoom, IsRead};
-ghost use Rattle.pg_driver.specs.declared.pass_windows.WordPosition.{WordPosition};
 ghost use Rattle.pg_driver.specs.Inside.OpenLevels.{listed_in, listed_from, open_as};
-ghost use Rattle.pg_driver.specs.Inside.OpenSigns.{start_of};
-ghost use Rattle.pg_driver.specs.Inside.PassWindows.{AreFirstSigns, GetsNumber, HaveNumbers, uncovered_at};
+ghost use Rattle.pg_driver.specs.Inside.PassWindows.{GetsNumber, HaveNumbers, NotesNumbers, uncovered_at};
 ghost use Rattle.pg_driver.specs.Inside.Sound.{IsSmall};
 ghost use Rattle.pg_driver.specs.Inside.States.{IsPass};
 ghost use Rattle.pg_driver.specs.Inside.WordLevels.{listing};
 
 use crate::above_positions::{is_above, list_above};
 use crate::marks::{counts_as, fits};
-use crate::pass_windows::{NOT_COUNTED, PassWindows, WordPosition, note_place};
+use crate::pass_windows::{NOT_COUNTED, WordPosition};
 use pg_dict::{Dictionary, WordRef};
 use pg_select::marks::{add_mark, mark_at, no_totals, positions};
 use pg_select::{Engine, Pass, WordState};
@@ -48,23 +45,19 @@ fn counted(pass: Pass, w: &WordRef<'_>, found: &WordState, p: usize, mark: Mark)
 }
 
 /// Counts the window at position `p` of a word, which has this status, where it counts in the pass,
-/// and gives its number; `NOT_COUNTED` where it does not count. Where the window is counted for the
-/// first time, its first sign is noted. The signs of the word begin at `start`.
+/// and gives its number; `NOT_COUNTED` where it does not count.
 fn count_at<E: Engine>(
     engine: &mut E,
     pass: Pass,
-    start: usize,
     w: &WordRef<'_>,
     found: &WordState,
     p: usize,
     mark: Mark,
-    places: &mut Vec<u32>,
 ) -> Result<u32, AllocError>
     requires ranges { IsPass pass }
     requires pass { (E.meaning engine.old).pass ≡ pass }
     requires read { IsRead (E.meaning engine.old) (lent_word w.now) found.now }
     requires within { p < length w.now.signs.now }
-    requires few { start + length w.now.signs.now ≤ 3 * FILE_MAX }
     requires mark { mark ≡ status_at (E.meaning engine.old).patterns (lent_word w.now) p }
     requires room { HasRoom (E.meaning engine.old).counts 1 }
     ensures ok { OnOk result (E.meaning engine.new
@@ -75,10 +68,6 @@ fn count_at<E: Engine>(
         (counted_at pass (E.meaning engine.old).patterns
         (E.meaning engine.old).hopeless (lent_word w.now) p)
         (E.meaning engine.new).windows (window_of_word w.now.signs.now p pass.len pass.dot) n) }
-    ensures places { OnOk result ((words : List Word) (n : ℕ)
-        → slice_get words n ≡ Some (lent_word w.now) → start ≡ start_of words n
-        → AreFirstSigns pass words (E.meaning engine.old).windows places.old.items
-        → AreFirstSigns pass words (E.meaning engine.new).windows places.new.items) }
     ensures signs { (E.meaning engine.new).signs ≡ (E.meaning engine.old).signs }
 {
     let Some(good) = counted(pass, w, found, p, mark) else {
@@ -86,31 +75,25 @@ fn count_at<E: Engine>(
     };
     let from = p - usize::from(pass.dot);
     let window = &w.signs[from..from + usize::from(pass.len)];
-    let number = engine.count_numbered(window, good, w.weights[p])?;
-    engine.kept();
-    note_place(places, number, (start + from) as u32)?;
-    Ok(number)
+    engine.count_numbered(window, good, w.weights[p])
 }
 
-/// Counts position `p` of a word, and adds it to the totals. Where its window is counted for the
-/// first time, its place is noted. Where its value is above the level and it counts by its status,
-/// the number of its window is noted. The signs of the word begin at `start`.
+/// Counts position `p` of a word, and adds it to the totals. Where its value is above the level and
+/// it counts by its status, the number of its window is noted.
 fn count_position<E: Engine>(
     engine: &mut E,
     pass: Pass,
     word: u32,
-    start: usize,
     w: &WordRef<'_>,
     found: &WordState,
     p: usize,
     sums: &mut Totals,
-    windows: &mut PassWindows,
+    numbers: &mut Vec<u32>,
 ) -> Result<(), AllocError>
     requires ranges { IsPass pass }
     requires pass { (E.meaning engine.old).pass ≡ pass }
     requires read { IsRead (E.meaning engine.old) (lent_word w.now) found.now }
     requires within { p < length w.now.signs.now }
-    requires few { start + length w.now.signs.now ≤ 3 * FILE_MAX }
     requires room { HasRoom (E.meaning engine.old).counts 1 }
     requires room_for { HasRoomFor sums.old 1 }
     ensures ok { OnOk result (E.meaning engine.new
@@ -120,54 +103,41 @@ fn count_position<E: Engine>(
     ensures sums { OnOk result (sums.new
         ≡ with_mark sums.old (status_at (E.meaning engine.old).patterns (lent_word w.now) p)
         (position_weight (lent_word w.now) p)) }
-    ensures numbers { OnOk result ((words : List Word) (entries : List WordPosition)
-        → slice_get words word ≡ Some (lent_word w.now)
-        → HaveNumbers pass (uncovered_at pass (E.meaning engine.old).patterns
-        (E.meaning engine.old).hopeless) words
-        (E.meaning engine.old).windows entries windows.old.numbers.items
-        → HaveNumbers pass (uncovered_at pass (E.meaning engine.old).patterns
-        (E.meaning engine.old).hopeless) words
-        (E.meaning engine.new).windows
-        (entries ++ open_as word p
+    ensures numbers { OnOk result (NotesNumbers pass word (lent_word w.now)
+        (E.meaning engine.old) (E.meaning engine.new)
+        (open_as word p
         (counts_above pass.level (E.meaning engine.old).patterns (lent_word w.now) p))
-        windows.new.numbers.items) }
-    ensures places { OnOk result
-        ((words : List Word) → slice_get words word ≡ Some (lent_word w.now)
-        → start ≡ start_of words word
-        → AreFirstSigns pass words (E.meaning engine.old).windows windows.old.places.items
-        → AreFirstSigns pass words (E.meaning engine.new).windows windows.new.places.items) }
+        numbers.old.items numbers.new.items) }
     ensures signs { (E.meaning engine.new).signs ≡ (E.meaning engine.old).signs }
 {
     let mark = mark_at(w, found, p);
     *sums = add_mark(*sums, mark, w.weights[p]);
-    let number = count_at(engine, pass, start, w, found, p, mark, &mut windows.places)?;
+    let number = count_at(engine, pass, w, found, p, mark)?;
     if is_above(pass.level, found, p, mark) {
-        windows.numbers.push(number)?;
+        numbers.push(number)?;
     }
     Ok(())
 }
 
 /// Counts the positions of a word, and adds them to the totals. Those that count and have a value
 /// above the level have the numbers of their windows noted, and where `lists` says so they are
-/// listed. The signs of the word begin at `start`. What `found` holds does not matter.
+/// listed. What `found` holds does not matter.
 fn count_word<E: Engine>(
     engine: &mut E,
     table: &Table,
     pass: Pass,
     word: u32,
-    start: usize,
     w: &WordRef<'_>,
     found: &mut WordState,
     sums: &mut Totals,
     lists: bool,
     above: &mut Vec<WordPosition>,
-    windows: &mut PassWindows,
+    numbers: &mut Vec<u32>,
 ) -> Result<(), AllocError>
     requires ranges { IsPass pass }
     requires pass { (E.meaning engine.old).pass ≡ pass }
     requires word { IsWord (lent_word w.now) }
     requires signs { SignsWithin (E.meaning engine.old).signs w.now.signs.now }
-    requires few { start + length w.now.signs.now ≤ 3 * FILE_MAX }
     requires room { HasRoom (E.meaning engine.old).counts (letter_count (lent_word w.now)) }
     requires room_for { HasRoomFor sums.old (letter_count (lent_word w.now)) }
     ensures ok { OnOk result (E.meaning engine.new
@@ -181,21 +151,11 @@ fn count_word<E: Engine>(
     ensures above { OnOk result
         (above.new.items ≡ above.old.items ++ listed_in (minima_of table.now)
         (listing lists pass.level (E.meaning engine.old).patterns) word (lent_word w.now)) }
-    ensures numbers { OnOk result ((words : List Word) (entries : List WordPosition)
-        → slice_get words word ≡ Some (lent_word w.now)
-        → HaveNumbers pass (uncovered_at pass (E.meaning engine.old).patterns
-        (E.meaning engine.old).hopeless) words
-        (E.meaning engine.old).windows entries windows.old.numbers.items
-        → HaveNumbers pass (uncovered_at pass (E.meaning engine.old).patterns
-        (E.meaning engine.old).hopeless) words
-        (E.meaning engine.new).windows (entries ++ listed_in (minima_of table.now)
+    ensures numbers { OnOk result (NotesNumbers pass word (lent_word w.now)
+        (E.meaning engine.old) (E.meaning engine.new)
+        (listed_in (minima_of table.now)
         (counts_above pass.level (E.meaning engine.old).patterns) word (lent_word w.now))
-        windows.new.numbers.items) }
-    ensures places { OnOk result
-        ((words : List Word) → slice_get words word ≡ Some (lent_word w.now)
-        → start ≡ start_of words word
-        → AreFirstSigns pass words (E.meaning engine.old).windows windows.old.places.items
-        → AreFirstSigns pass words (E.meaning engine.new).windows windows.new.places.items) }
+        numbers.old.items numbers.new.items) }
     ensures took { OnOk result (TookRoom (E.meaning engine.old).counts (E.meaning engine.new).counts
         (letter_count (lent_word w.now))) }
     ensures took_for { OnOk result
@@ -207,7 +167,7 @@ fn count_word<E: Engine>(
     };
     engine.hyphenate(*w, found);
     'positions: for p in first..end {
-        count_position(engine, pass, word, start, w, found, p, sums, windows)?;
+        count_position(engine, pass, word, w, found, p, sums, numbers)?;
     }
     if lists {
         list_above(table, pass.level, word, w, found, above)?;
@@ -217,8 +177,7 @@ fn count_word<E: Engine>(
 
 /// Counts the windows of a pass that has begun, and gives the totals. Each word is hyphenated once.
 /// Where `lists` says so, the positions that count and have a value above the level are listed.
-/// Each of these has the number of its window noted, and each window the place where it was first
-/// counted.
+/// Each of these has the number of its window noted.
 pub fn count_words<E: Engine>(
     engine: &mut E,
     dictionary: &Dictionary,
@@ -226,14 +185,12 @@ pub fn count_words<E: Engine>(
     pass: Pass,
     lists: bool,
     above: &mut Vec<WordPosition>,
-    windows: &mut PassWindows,
+    numbers: &mut Vec<u32>,
 ) -> Result<Totals, AllocError>
     requires ranges { IsPass pass }
     requires pass { (E.meaning engine.old).pass ≡ pass }
     requires fresh { (E.meaning engine.old).counts ≡ [] }
-    requires places { AreFirstSigns pass dictionary.now
-        (E.meaning engine.old).windows windows.old.places.items }
-    requires numbers { windows.old.numbers.items ≡ [] }
+    requires none { numbers.old.items ≡ [] }
     requires signs { SignsAtMost (E.meaning engine.old).signs dictionary.now }
     ensures ok { OnOk result (E.meaning engine.new
         ≡ meaning_after_counting (E.meaning engine.old)
@@ -250,21 +207,17 @@ pub fn count_words<E: Engine>(
         (E.meaning engine.old).hopeless) dictionary.now
         (E.meaning engine.new).windows (listed_from (minima_of table.now)
         (counts_above pass.level
-        (E.meaning engine.old).patterns) 0 dictionary.now) windows.new.numbers.items) }
-    ensures places { OnOk result (AreFirstSigns pass dictionary.now (E.meaning engine.new).windows
-        windows.new.places.items) }
+        (E.meaning engine.old).patterns) 0 dictionary.now) numbers.new.items) }
     ensures room { OnOk result (HasRoom (E.meaning engine.new).counts 0) }
     ensures signs { (E.meaning engine.new).signs ≡ (E.meaning engine.old).signs }
 {
     let mut found = WordState::new();
     let mut sums = no_totals();
-    let mut start = 0;
     'words: for i in 0..dictionary.len() {
         let w = dictionary.word(i);
         count_word(
-            engine, table, pass, i as u32, start, &w, &mut found, &mut sums, lists, above, windows,
+            engine, table, pass, i as u32, &w, &mut found, &mut sums, lists, above, numbers,
         )?;
-        start += w.signs.len();
     }
     Ok(sums)
 }

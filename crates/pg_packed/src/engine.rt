@@ -104,6 +104,10 @@ impl Engine for PackedEngine {
         self.counts.sums_of(number)
     }
 
+    fn go_to(&self, number: u32, at: &mut Cursor) {
+        self.counts.go_to(number, at);
+    }
+
     fn order(&self, out: &mut Vec<u32>) -> Result<(), AllocError> {
         self.counts.order(out)
     }

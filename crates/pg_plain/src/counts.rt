@@ -3,9 +3,10 @@
 ghost use Rattle.std.specs.List.{list_all};
 ghost use Rattle.std.specs.Prelude.{◌≡◌, ℕ, Bool, ◌≤◌, ◌<◌, ◌++◌, true, List, [], ◌∷◌, T, length, map, set, Some, IfOk, OnOk, OnErr, IsOk};
 ghost use Rattle.std.specs.Cmp.Lexicographic.{slice_cmp};
-ghost use Rattle.std.specs.FinMap.Entries.{put, find, is_sorted};
+ghost use Rattle.std.specs.FinMap.Entries.{put, is_sorted};
 ghost use Rattle.std.specs.Ordering.{nat_cmp};
 ghost use Rattle.pg_types.specs.Inside.Counts.{AreSmall, IsNextAbove, counted_sums, sums_of, with_weight, is_counted};
+ghost use Rattle.pg_types.specs.Inside.NumberedStrings.{string_with};
 ghost use Rattle.pg_types.specs.Inside.NumberedWindows.{AreInOrder, AreNumbered, HasNumber};
 ghost use Rattle.pg_plain.specs.Inside.Counted.{counted_more, tally_at};
 
@@ -108,6 +109,14 @@ impl CountedWindows {
         self.tallies[number as usize]
     }
 
+    /// Moves the cursor to the window with the number, by a walk over the windows.
+    pub fn go_to(&self, number: u32, at: &mut Cursor)
+        requires { number < length self.now.windows }
+        ensures { HasNumber self.now.windows at.new number }
+    {
+        go_to_string(&self.numbers, number, at);
+    }
+
     /// Appends the numbers of the windows in the order of signs. Refused: some of them may have
     /// been appended.
     pub fn order(&self, out: &mut Vec<u32>) -> Result<(), AllocError>
@@ -175,6 +184,19 @@ fn number_new(
             Err(AllocError)
         }
     }
+}
+
+/// Moves the cursor to the window with the number; to the empty one where none has it.
+fn go_to_string(numbers: &BTreeMap<Cursor, u32>, number: u32, at: &mut Cursor)
+    ensures { at.new ≡ string_with number numbers.now.entries }
+{
+    for (window, other) in numbers.iter() {
+        if *other == number {
+            at.set(window.signs());
+            return;
+        }
+    }
+    *at = Cursor::start();
 }
 
 /// Appends the numbers in the order of the windows.

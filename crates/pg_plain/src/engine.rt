@@ -1,5 +1,5 @@
 //! The plain engine.
-ghost use Rattle.std.specs.Prelude.{◌≡◌, ℕ, ◌≤◌, true, nat_eq, length};
+ghost use Rattle.std.specs.Prelude.{◌≡◌, ◌≤◌, true, nat_eq, length};
 ghost use Rattle.std.specs.List.{list_all};
 ghost use Rattle.pg_types.specs.declared.limits.TheConstants.{LEVEL_MAX, LENGTH_MAX};
 ghost use Rattle.pg_patterns.specs.Inside.PatternMaps.{is_entry};
@@ -18,8 +18,9 @@ use std::collections::BTreeMap;
 /// An [`Engine`] over ordered maps, which tells no families.
 ///
 /// A word costs a look-up for each of its strings up to the longest that a pattern begins with. A
-/// window that is counted, chosen or given up costs a look-up, and to begin a pass or end a level
-/// costs at most the size of what is emptied.
+/// window that is counted, chosen or given up costs a look-up, and to go to a window by its number
+/// costs a walk over the windows. To begin a pass or end a level costs at most the size of what is
+/// emptied.
 #[derive(Drop)]
 pub struct PlainEngine {
     signs: u16,
@@ -114,6 +115,10 @@ impl Engine for PlainEngine {
 
     fn sums_of(&self, number: u32) -> (u64, u64) {
         self.counts.sums_of(number)
+    }
+
+    fn go_to(&self, number: u32, at: &mut Cursor) {
+        self.counts.go_to(number, at);
     }
 
     fn order(&self, out: &mut Vec<u32>) -> Result<(), AllocError> {

@@ -90,6 +90,11 @@ pub trait Engine {
         ensures { (u : List ℕ) → HasNumber (meaning self.now).windows u number
             → counted_sums (meaning self.now).counts u ≡ Some result };
 
+    /// Moves the cursor to the window with the number. It takes no memory.
+    fn go_to(&self, number: u32, at: &mut Cursor)
+        requires { number < length (meaning self.now).windows }
+        ensures { HasNumber (meaning self.now).windows at.new number };
+
     /// Appends the numbers of the counted windows in the order of signs, by one walk. Refused: some
     /// of them may have been appended.
     fn order(&self, out: &mut Vec<u32>) -> Result<(), AllocError>

@@ -36,6 +36,7 @@ pub fn positions(table: &Table, w: &WordRef<'_>) -> Option<(usize, usize)>
     ensures some { IfSome result
         (λ r. positions_of table.now.left table.now.right (length w.now.signs.now)
         ≡ range_with_len r.0 (r.1 - r.0)) }
+    ensures some_first { IfSome result (λ r. r.0 < r.1) }
     ensures within { IfSome result (λ r. r.1 ≤ length w.now.signs.now) }
     ensures few { IfSome result (λ r. r.1 - r.0 ≤ letter_count (lent_word w.now)) }
 {

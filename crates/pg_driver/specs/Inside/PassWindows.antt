@@ -1,10 +1,9 @@
 -- The windows of a pass by their numbers, as the pass keeps them.
-use Rattle.std.specs.Prelude.{◌≡◌, ℕ, ◌+◌, ◌≤◌, Bool, true, false, not, ◌&&◌, List, length, take, drop, slice_get, Option, None, Some}
+use Rattle.std.specs.Prelude.{◌≡◌, ℕ, Bool, true, false, not, ◌&&◌, List, ◌++◌, length, slice_get, Option, None, Some}
 use Rattle.pg_types.specs.declared.parameters.LevelParams.{LevelParams}
 use Rattle.pg_types.specs.Inside.Counts.{Counts, counted_sums, is_counted}
 use Rattle.pg_types.specs.Inside.NumberedWindows.{Windows, HasNumber}
 use Rattle.pg_dict.specs.Word.{Word}
-use Rattle.pg_dict.specs.Inside.Store.{all_signs}
 use Rattle.pg_select.specs.declared.pass.Pass.{Pass}
 use Rattle.pg_select.specs.declared.choice.Choice.{Choice}
 use Rattle.pg_select.specs.Inside.Choices.{choice}
@@ -48,6 +47,15 @@ pub record HaveNumbers (pass : Pass) (counts : Word → WordPosition → Bool) (
   pub each : (k : ℕ) (e : WordPosition) (n : ℕ) → slice_get entries k ≡ Some e
       → slice_get ns k ≡ Some n → IsNumbered pass counts words ws e n
 
+-- a pass went on from old to new in a word, and noted the numbers of the windows of more positions
+abbrev pub NotesNumbers : Pass → ℕ → Word → Meaning → Meaning → List WordPosition → List ℕ → List ℕ
+    → Type 0
+NotesNumbers pass n w old new more ns after = (words : List Word) (entries : List WordPosition)
+    → slice_get words n ≡ Some w
+    → HaveNumbers pass (uncovered_at pass old.patterns old.hopeless) words old.windows entries ns
+    → HaveNumbers pass (uncovered_at pass old.patterns old.hopeless) words new.windows
+    (entries ++ more) after
+
 -- what becomes of the windows, by number
 pub record AreFates (params : LevelParams) (counts : Counts) (ws : Windows) (fates : List Choice)
     : Type 0 where
@@ -55,21 +63,6 @@ pub record AreFates (params : LevelParams) (counts : Counts) (ws : Windows) (fat
   pub each : (u : List ℕ) (n : ℕ) (sums : ℕ × ℕ) → HasNumber ws u n
       → counted_sums counts u ≡ Some sums
       → slice_get fates n ≡ Some (choice params sums.0 sums.1)
-
--- the window of a pass whose first sign has this number among the signs of all words
-abbrev pub window_from : Pass → List Word → ℕ → List ℕ
-window_from pass words first = take pass.len (drop first (all_signs words))
-
--- a window of the pass begins at this sign, and has the number
-pub record IsFirstSign (pass : Pass) (words : List Word) (ws : Windows) (n first : ℕ) : Type 0 where
-  pub within : first + pass.len ≤ length (all_signs words)
-  pub number : HasNumber ws (window_from pass words first) n
-
--- the first signs of the windows of a pass, by the number of the window
-pub record AreFirstSigns (pass : Pass) (words : List Word) (ws : Windows) (places : List ℕ)
-    : Type 0 where
-  pub size : length places ≡ length ws
-  pub each : (n first : ℕ) → slice_get places n ≡ Some first → IsFirstSign pass words ws n first
 
 -- each of the entries is one of the counts
 abbrev pub IsPart : Counts → Counts → Type 0

@@ -2,14 +2,14 @@ use Rattle.std.proofs.Common.{◌≡◌, ℕ, ◌+◌, ◌<◌, List, [], ◌∷
 use Rattle.std.specs.List.{sum_by}
 use Rattle.std.proofs.lemmas.List.{length-map, drop_more}
 use Rattle.std.proofs.lemmas.List.Sums.{sum_by-cons}
-use Rattle.std.proofs.lemmas.Option.{slice_get_within, slice_get-get_or, get_or_from_slice_get}
+use Rattle.std.proofs.lemmas.Option.{slice_get_within, get_or_from_slice_get}
 use Rattle.pg_types.specs.Inside.Counts.{Counts, counted_sums}
 use Rattle.pg_types.specs.Inside.NumberedWindows.{HasNumber}
 use Rattle.pg_select.specs.Inside.Meanings.{Meaning}
 use Rattle.pg_select.specs.CountedPositions.{Candidate}
 use Rattle.pg_driver.specs.declared.choices.Choices.{Choices}
 use Rattle.pg_driver.specs.Inside.Choosing.{HasChosen, with_candidates, candidate_of}
-use Rattle.pg_driver.specs.Inside.PassWindows.{IsCandidate, IsFirstSign}
+use Rattle.pg_driver.specs.Inside.PassWindows.{IsCandidate}
 use Rattle.pg_driver.specs.Inside.States.{state_of}
 use Rattle.pg_driver.proofs.ChoiceSteps.{bad_adds, bad_within, good_adds, good_within, keeps_on, numbers_append, state_step, state_with}
 use Rattle.pg_driver.proofs.NumberSteps.{Ahead, ahead, only_one, part_whole}
@@ -31,20 +31,6 @@ candidates-init g c =
       bad = omega (arith, bad_within m.counts, c.requires.room.light);
     }
 
-pub bounds-places-n : goal.bounds-places-n
-bounds-places-n g c =
-    let m0 = g.E.Engine.meaning c.args.engine.now in
-    let m = g.E.Engine.meaning c.candidates.engine in
-    let k = c.candidates.number-index in
-    let n = get_or c.args.order.now k 0 in
-    let more : List ℕ = drop (k + 1) c.args.order.now in
-    let inv = c.candidates.invariant in
-    let windows : m.windows ≡ m0.windows = ap (λ (x : Meaning). x.windows) inv.kept in
-    let counts : m.counts ≡ m0.counts = ap (λ (x : Meaning). x.counts) inv.kept in
-    let a : Ahead m0.windows m0.counts n more inv.rest = ahead m0.windows m0.counts n more inv.rest (sym (ap (map (slice_get m0.windows)) (drop_more c.args.order.now k 0 c.candidates-test.true)) ∙ inv.ahead) inv.part in
-    let there : n < length m0.windows = slice_get_within m0.windows n a.entry.0 a.number in
-    omega (arith, c.requires.places.size, there)
-
 pub bounds-fates-n : goal.bounds-fates-n
 bounds-fates-n g c =
     let m0 = g.E.Engine.meaning c.args.engine.now in
@@ -59,8 +45,8 @@ bounds-fates-n g c =
     let there : n < length m0.windows = slice_get_within m0.windows n a.entry.0 a.number in
     omega (arith, c.requires.fates.size, there)
 
-pub choose_one-requires-clause-place : goal.choose_one-requires-clause-place
-choose_one-requires-clause-place g c =
+pub choose_one-requires-clause-there : goal.choose_one-requires-clause-there
+choose_one-requires-clause-there g c =
     let m0 = g.E.Engine.meaning c.args.engine.now in
     let m = g.E.Engine.meaning c.candidates.engine in
     let k = c.candidates.number-index in
@@ -71,9 +57,7 @@ choose_one-requires-clause-place g c =
     let counts : m.counts ≡ m0.counts = ap (λ (x : Meaning). x.counts) inv.kept in
     let a : Ahead m0.windows m0.counts n more inv.rest = ahead m0.windows m0.counts n more inv.rest (sym (ap (map (slice_get m0.windows)) (drop_more c.args.order.now k 0 c.candidates-test.true)) ∙ inv.ahead) inv.part in
     let there : n < length m0.windows = slice_get_within m0.windows n a.entry.0 a.number in
-    let within : n < length c.args.places.now = omega (arith, c.requires.places.size, there) in
-    subst (λ (ws : List (List ℕ)). IsFirstSign c.args.pass c.args.dictionary.now ws n (get_or c.args.places.now n 0)) (sym windows)
-    (c.requires.places.each n (get_or c.args.places.now n 0) (slice_get-get_or c.args.places.now n 0 within))
+    subst (λ (ws : List (List ℕ)). n < length ws) (sym windows) there
 
 pub choose_one-requires-clause-fate : goal.choose_one-requires-clause-fate
 choose_one-requires-clause-fate g c = λ u sums it.

@@ -1,6 +1,4 @@
 use Rattle.std.proofs.Common.{refl, sym, ◌∙◌}
-use Rattle.std.proofs.lemmas.Option.{slice_get_within}
-use Rattle.pg_driver.specs.Inside.PassWindows.{window_from}
 use Rattle.pg_select.specs.Inside.Meanings.{Meaning}
 use Rattle.pg_driver.specs.Inside.States.{state_of}
 use Rattle.pg_driver.proofs.ChoiceSteps.{left_alone, left_state}
@@ -17,10 +15,6 @@ returns-in-Left-clause-ok g c = λ u sums it.
 pub returns-in-Left-clause-choices : goal.returns-in-Left-clause-choices
 returns-in-Left-clause-choices g c = λ u sums it.
     left_alone c.args.params.now c.args.choices.now (record { window = u; good = sums.0; bad = sums.1 }) (sym (c.requires.fate u sums it) ∙ c.in-Left.is)
-
-pub sums_of-good-requires : goal.sums_of-good-requires
-sums_of-good-requires g c =
-    slice_get_within (g.E.Engine.meaning c.args.engine.now).windows c.args.number (window_from c.args.pass c.args.dictionary.now c.args.first) c.requires.place.number
 
 pub choose_at-requires-clause-fate : goal.choose_at-requires-clause-fate
 choose_at-requires-clause-fate g c =

@@ -1,6 +1,7 @@
-use Rattle.std.proofs.Common.{sym, ap, ◌∙◌}
+use Rattle.std.proofs.Common.{sym, ap, subst, ◌∙◌, arith}
 use Rattle.pg_select.specs.Inside.Meanings.{Meaning}
 use Rattle.pg_driver.specs.Accounts.{totals_by}
+use Rattle.pg_driver.specs.Inside.Sound.{IsSmall, Recorded}
 use Rattle.pg_driver.specs.Traces.{over}
 use Rattle.pg_driver.proofs.RunSteps.{did_level}
 use Rattle.pg_driver.proofs.level.run_level.Goals as goal
@@ -16,3 +17,25 @@ returns-clause-done g c =
     (c.totals-after.ensures ∙ c.in_ok-run_lengths.ensures.ready.0 ∙ ap (λ (x : Meaning). totals_by (over c.args.table.now c.args.dictionary.now) x.patterns) (sym c.in_ok-end_level.ensures.ok))
     c.layout.ensures
     c.in_ok-end_level-2.ensures
+
+pub returns-clause-totals : goal.returns-clause-totals
+returns-clause-totals g c = c.totals-after.ensures ∙ c.in_ok-run_lengths.ensures.ready.0 ∙ ap (λ (x : Meaning). totals_by (over c.args.table.now c.args.dictionary.now) x.patterns) (sym c.in_ok-end_level.ensures.ok)
+
+pub returns-clause-small : goal.returns-clause-small
+returns-clause-small g c = subst IsSmall (sym c.totals-after.ensures) c.in_ok-run_lengths.ensures.ready.1
+
+pub returns-clause-tidy : goal.returns-clause-tidy
+returns-clause-tidy g c = ap (λ (x : Meaning). x.tidy) c.in_ok-end_level.ensures.ok
+
+pub returns-clause-begun : goal.returns-clause-begun
+returns-clause-begun g c =
+    omega (arith, ap (λ (x : Meaning). x.begun) c.in_ok-end_level.ensures.ok, ap (λ (r : Recorded). r.begun) c.in_ok-end_level-2.ensures, c.in_ok-run_lengths.ensures.begun)
+
+pub returns-clause-few : goal.returns-clause-few
+returns-clause-few g c = omega (arith, ap (λ (r : Recorded). r.begun) c.in_ok-end_level-2.ensures, c.in_ok-run_lengths.ensures.few)
+
+pub returns-clause-chosen : goal.returns-clause-chosen
+returns-clause-chosen g c = ap (λ (r : Recorded). r.chosen) c.in_ok-end_level-2.ensures
+
+pub returns-clause-signs : goal.returns-clause-signs
+returns-clause-signs g c = ap (λ (x : Meaning). x.signs) c.in_ok-end_level.ensures.ok ∙ c.run_lengths.ensures.signs

@@ -1,6 +1,7 @@
-use Rattle.std.proofs.Common.{◌≡◌, Bool, true, false, ⊎_elim, sym, ◌∙◌}
+use Rattle.std.proofs.Common.{◌≡◌, Bool, true, false, ⊎_elim, refl, sym, ap, ◌∙◌, arith}
 use Rattle.pg_driver.specs.Inside.LevelCounting.{IsCounted}
 use Rattle.pg_driver.specs.Inside.Levels.{is_set, no_flags}
+use Rattle.pg_driver.specs.Inside.Sound.{Recorded}
 use Rattle.pg_driver.proofs.SkipFlags.{none_set}
 use Rattle.pg_driver.specs.Traces.{over}
 use Rattle.pg_driver.proofs.LevelSteps.{done_on, skipped_on}
@@ -33,3 +34,42 @@ returns-then-is_skippable-clause-counted g c = λ will.
   where
     not_both : (b : Bool) → b ≡ false → b ≡ true → IsCounted c.args.counting.now
     not_both b is not = cc
+
+pub returns-then-is_skippable-clause-begun : goal.returns-then-is_skippable-clause-begun
+returns-then-is_skippable-clause-begun g c = refl
+
+pub returns-then-is_skippable-clause-few : goal.returns-then-is_skippable-clause-few
+returns-then-is_skippable-clause-few g c = omega arith
+
+pub returns-then-is_skippable-clause-chosen : goal.returns-then-is_skippable-clause-chosen
+returns-then-is_skippable-clause-chosen g c = omega arith
+
+pub returns-then-is_skippable-clause-ready : goal.returns-then-is_skippable-clause-ready
+returns-then-is_skippable-clause-ready g c = c.requires.ready
+
+pub returns-then-is_skippable-clause-here : goal.returns-then-is_skippable-clause-here
+returns-then-is_skippable-clause-here g c = c.set.ensures.here
+
+pub returns-then-is_skippable-clause-signs : goal.returns-then-is_skippable-clause-signs
+returns-then-is_skippable-clause-signs g c = refl
+
+pub returns-clause-few : goal.returns-clause-few
+returns-clause-few g c = omega (arith, ap (λ (r : Recorded). r.begun) c.in_ok-add_pass.ensures)
+
+pub returns-clause-chosen : goal.returns-clause-chosen
+returns-clause-chosen g c = omega (arith, ap (λ (r : Recorded). r.chosen) c.in_ok-add_pass.ensures, c.in_ok-record.ensures.few)
+
+pub returns-clause-ready : goal.returns-clause-ready
+returns-clause-ready g c = c.in_ok-record.ensures.ready
+
+pub returns-clause-here : goal.returns-clause-here
+returns-clause-here g c = c.set-2.ensures.here
+
+pub returns-clause-counted : goal.returns-clause-counted
+returns-clause-counted g c = λ will. c.in_ok-record.ensures.counted
+
+pub returns-clause-signs : goal.returns-clause-signs
+returns-clause-signs g c = c.run_pass.ensures.signs
+
+pub returns-clause-begun : goal.returns-clause-begun
+returns-clause-begun g c = omega (arith, c.in_ok-record.ensures.done.begun, ap (λ (r : Recorded). r.begun) c.in_ok-add_pass.ensures)

@@ -1,13 +1,28 @@
-use Rattle.std.proofs.Common.{sym, ap, subst, ◌∙◌, arith}
+use Rattle.std.proofs.Common.{ℕ, List, sym, ap, subst, ◌∙◌, arith}
+use Rattle.pg_types.specs.Inside.NumberedWindows.{AreInOrder, AreNumbered}
+use Rattle.pg_select.specs.declared.choice.Choice.{Choice}
 use Rattle.pg_select.specs.Inside.Meanings.{Meaning}
+use Rattle.pg_driver.specs.Inside.PassWindows.{AreFates}
 use Rattle.pg_driver.specs.Accounts.{totals_by}
-use Rattle.pg_driver.specs.Inside.LevelCounting.{IsReady}
+use Rattle.pg_driver.specs.Inside.LevelCounting.{AreNumberedIn, IsReady}
 use Rattle.pg_driver.specs.Inside.States.{State}
 use Rattle.pg_driver.specs.Inside.RunAccounts.{known_of}
 use Rattle.pg_driver.specs.Traces.{Known, over}
 use Rattle.pg_driver.proofs.PassSteps.{counted_as, counts_kept, did_pass, numbers_are, pass_state}
 use Rattle.pg_driver.proofs.ReadySteps.{are_of, can_go_on, counted_after, placed, ready_after}
 use Rattle.pg_driver.proofs.level.run_pass.Goals as goal
+
+pub after_choices-requires-clause-numbered : goal.after_choices-requires-clause-numbered
+after_choices-requires-clause-numbered g c =
+    subst (λ (m : Meaning). AreNumbered m.windows m.counts) (sym c.in_ok-choices.ensures.ok.kept) c.kept.ensures.numbered
+
+pub after_choices-requires-clause-numbers : goal.after_choices-requires-clause-numbers
+after_choices-requires-clause-numbers g c =
+    let m2 = g.E.Engine.meaning c.count.new.engine in
+    let words = c.args.dictionary.now in
+    let before = c.in_ok-before.ensures.numbers c.kept.ensures.numbered in
+    let decided = subst (λ (ns : List ℕ). AreNumberedIn c.args.pass m2.counts words m2.windows c.count.new.self ns) (sym c.in_ok-decide.ensures.numbers) before in
+    subst (λ (m : Meaning). AreNumberedIn c.args.pass m.counts words m.windows c.count.new.self c.decide.new.self.numbers.items) (sym c.in_ok-choices.ensures.ok.kept) decided
 
 pub after_choices-requires-clause-placed : goal.after_choices-requires-clause-placed
 after_choices-requires-clause-placed g c =
@@ -58,3 +73,25 @@ returns-clause-ready g c =
 pub returns-clause-counted : goal.returns-clause-counted
 returns-clause-counted g c =
     counted_after c.args.params.now c.args.pass (g.E.Engine.meaning c.choose_all.new.engine).counts c.args.dictionary.now c.in_ok-choices.choices c.count.new.self c.after_choices.new.self c.after_choices.ensures c.in_ok-before.ensures.counted
+
+pub returns-clause-sound : goal.returns-clause-sound
+returns-clause-sound g c = record { within = c.in_ok-choices.ensures.sound; before = c.in_ok-before.ensures.small }
+
+pub returns-clause-few : goal.returns-clause-few
+returns-clause-few g c = omega (arith, c.in_ok-choices.ensures.sound, c.in_ok-choices.ensures.few)
+
+pub returns-clause-signs : goal.returns-clause-signs
+returns-clause-signs g c = c.choose_all.ensures.signs ∙ c.count.ensures.signs ∙ ap (λ (x : Meaning). x.signs) c.begin_pass.ensures
+
+pub decide-requires : goal.decide-requires
+decide-requires g c = record { level = c.requires.level; room = c.in_ok-before.ensures.room; numbered = c.kept.ensures.numbered }
+
+pub choose_all-requires : goal.choose_all-requires
+choose_all-requires g c =
+    let m2 = g.E.Engine.meaning c.count.new.engine in
+    record {
+      level = c.requires.level;
+      room = c.in_ok-before.ensures.room;
+      fates = subst (λ (fates : List Choice). AreFates c.args.params.now m2.counts m2.windows fates) (sym c.deref.ensures.value) c.in_ok-decide.ensures.fates;
+      order = subst (λ (order : List ℕ). AreInOrder m2.windows m2.counts order) (sym c.deref-2.ensures.value) c.in_ok-decide.ensures.order;
+    }

@@ -1,9 +1,12 @@
-use Rattle.std.proofs.Common.{◌≡◌, ℕ, ◌+◌, ◌-◌, max, List, [], drop, refl, ap, subst, ◌∙◌, arith}
+use Rattle.std.proofs.Common.{◌≡◌, ℕ, ◌+◌, ◌-◌, max, List, [], Option, drop, refl, ap, subst, ◌∙◌, arith}
 use Rattle.std.specs.List.{enumerate_from}
+use Rattle.std.specs.Option.{IfSome}
+use Rattle.pg_types.specs.declared.marks.Totals.{Totals}
 use Rattle.pg_types.specs.declared.parameters.LevelParams.{LevelParams}
 use Rattle.pg_patterns.specs.Values.{largest}
 use Rattle.pg_select.specs.Inside.LawsSteps.{IsUpTo}
-use Rattle.pg_driver.specs.Inside.Sound.{Recorded}
+use Rattle.pg_driver.specs.Accounts.{totals_by}
+use Rattle.pg_driver.specs.Inside.Sound.{IsSmall, Recorded}
 use Rattle.pg_driver.specs.Inside.States.{State}
 use Rattle.pg_driver.specs.Inside.RunAccounts.{run_from}
 use Rattle.pg_driver.specs.Traces.{levels_made, over}
@@ -66,3 +69,23 @@ returns-in-Some-clause-run g c =
 
 pub run_level-requires-clause-below : goal.run_level-requires-clause-below
 run_level-requires-clause-below g c = λ low. below_level c.largest-greatest.result (c.start-start.result + c.levels.i) (g.E.Engine.meaning c.levels.engine).patterns c.levels.invariant.upto (omega (arith, c.start-start.ensures.low)) low
+
+pub returns-in-Some-clause-totals : goal.returns-in-Some-clause-totals
+returns-in-Some-clause-totals g c =
+    let m = g.E.Engine.meaning c.levels.engine in
+    subst (λ (o : Option Totals). IfSome o (λ after. after ≡ totals_by (over c.args.table.now c.args.dictionary.now) m.patterns)) c.in-Some.is c.levels.invariant.totals
+
+pub returns-in-Some-clause-small : goal.returns-in-Some-clause-small
+returns-in-Some-clause-small g c = subst (λ (o : Option Totals). IfSome o IsSmall) c.in-Some.is c.levels.invariant.small
+
+pub returns-in-Some-clause-tidy : goal.returns-in-Some-clause-tidy
+returns-in-Some-clause-tidy g c = c.levels.invariant.tidy
+
+pub returns-in-Some-clause-begun : goal.returns-in-Some-clause-begun
+returns-in-Some-clause-begun g c = c.levels.invariant.begun
+
+pub returns-in-Some-clause-signs : goal.returns-in-Some-clause-signs
+returns-in-Some-clause-signs g c = c.levels.invariant.signs
+
+pub returns-in-Some-clause-few : goal.returns-in-Some-clause-few
+returns-in-Some-clause-few g c = omega (arith, c.levels.invariant.passes, c.count-count.ensures.levels, c.finish-last.ensures.high, c.start-start.ensures.low)

@@ -27,7 +27,6 @@ signs-init g c =
     record {
       kept = refl;
       whole = ap (λ (xs : List ℕ). meaning_after_counting m0 (flat_map (counted_of pass.level pass.len pass.dot words) (map (position_from 0 words) xs))) (sym skipped);
-      placed = c.requires.places;
       numbered =
           subst (λ (xs : List ℕ). HaveNumbers pass (counts_at pass) words m0.windows (map (position_from 0 words) xs) c.args.numbers.now.items) none
           (subst (HaveNumbers pass (counts_at pass) words m0.windows []) (sym c.requires.none) (record { size = refl; each = λ k e n at to. absurd (let no : None ≡ Some e = at in cc) }));
@@ -80,7 +79,6 @@ signs-preserved g c =
     record {
       kept = kept_on m0 m after (f (place s)) inv.kept ok;
       whole = counted_step f m after _ (place s) (map place (open_signs closed t total)) ok (ap (λ (xs : List ℕ). meaning_after_counting m (flat_map f (map place xs))) (sym step) ∙ inv.whole);
-      placed = c.in_ok-number.ensures.places;
       numbered =
           subst (λ (es : List WordPosition). HaveNumbers pass (counts_at pass) words after.windows es c.push.new.self.items) front
           (subst (HaveNumbers pass (counts_at pass) words after.windows (map place (open_upto closed s) ++ place s ∷ [])) (sym c.in_ok-push.ensures.items)

@@ -7,7 +7,7 @@ use Rattle.pg_driver.proofs.Walks.{KeepsButCounts}
 use Rattle.pg_driver.specs.Inside.Counting.{meaning_after_counting, HasRoom}
 use Rattle.pg_driver.specs.Inside.OpenPositions.{counted_of}
 use Rattle.pg_driver.specs.Inside.OpenSigns.{open_word_positions, open_signs, position_from, sign_count}
-use Rattle.pg_driver.specs.Inside.PassWindows.{AreFirstSigns, HaveNumbers, counts_at}
+use Rattle.pg_driver.specs.Inside.PassWindows.{HaveNumbers, counts_at}
 use Rattle.pg_driver.proofs.open_passes.count_open.Given as goal
 
 abbrev pub invariant-signs : goal.invariant-signs
@@ -19,7 +19,6 @@ invariant-signs g l =
     record {
       kept : KeepsButCounts m0 m;
       whole : meaning_after_counting m (flat_map (counted_of l.pass.level l.pass.len l.pass.dot words) (map (position_from 0 words) (open_signs closed l.next (sign_count words)))) ≡ meaning_after_counting m0 (flat_map (counted_of l.pass.level l.pass.len l.pass.dot words) (open_word_positions closed words));
-      placed : AreFirstSigns l.pass words m.windows l.places.items;
       numbered : HaveNumbers l.pass (counts_at l.pass) words m.windows (map (position_from 0 words) (open_upto closed l.next)) l.numbers.items;
       room : HasRoom m.counts (length (open_signs closed l.next (sign_count words)));
       inside : l.next ≤ places_in l.dots;

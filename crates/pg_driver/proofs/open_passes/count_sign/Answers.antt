@@ -1,22 +1,21 @@
 use Rattle.std.proofs.Common.{◌≡◌, ℕ, ◌+◌, ◌-◌, ◌≤◌, List, Bool, true, false, cond, not, length, take, drop, get_or, refl, sym, ap, subst, ◌∙◌, arith}
 use Rattle.std.proofs.lemmas.List.Elements.{All-drop, All-take}
+use Rattle.std.proofs.lemmas.Result.{IfOk-weaker, on_ok_weaker}
 use Rattle.pg_types.specs.declared.limits.TheConstants.{WEIGHT_MAX}
 use Rattle.pg_types.specs.Inside.Counts.{SignsWithin}
-use Rattle.pg_types.specs.Inside.NumberedWindows.{HasNumber, with_window}
+use Rattle.pg_types.specs.Inside.NumberedWindows.{HasNumber}
 use Rattle.pg_dict.specs.declared.sites.Site.{Site}
 use Rattle.pg_dict.proofs.Told.{word_in}
 use Rattle.pg_select.proofs.MarkSteps.{weight_small}
-use Rattle.pg_select.specs.Inside.Meanings.{Meaning}
 use Rattle.pg_select.specs.Statuses.{is_odd}
 use Rattle.pg_select.specs.Windows.{fits, window}
 use Rattle.pg_driver.specs.declared.pass_windows.WordPosition.{WordPosition}
 use Rattle.pg_driver.specs.declared.pass_windows.TheConstants.{NOT_COUNTED}
 use Rattle.pg_driver.specs.Inside.Counting.{meaning_after_counting}
 use Rattle.pg_driver.specs.Inside.OpenPositions.{counted_of}
-use Rattle.pg_driver.specs.Inside.OpenSigns.{start_of}
-use Rattle.pg_driver.specs.Inside.PassWindows.{IsNumbered, counts_at, window_from}
+use Rattle.pg_driver.specs.Inside.OpenSigns.{position_from, start_of}
+use Rattle.pg_driver.specs.Inside.PassWindows.{IsNumbered, counts_at}
 use Rattle.pg_driver.proofs.FlatSigns.{counted_fit, counted_none, counted_there, fit_within, flat_inside, flat_window, numbered_fit, numbered_none, site_at, sites_count, weight_at, weights_count}
-use Rattle.pg_driver.proofs.NumberSteps.{place_more}
 use Rattle.pg_driver.proofs.OpenSigns.{place_of, signs_few}
 use Rattle.pg_driver.proofs.OpenSteps.{took_entry}
 use Rattle.pg_driver.proofs.Rooms.{room_small}
@@ -29,15 +28,15 @@ bounds-sites-sign g c =
 
 pub offset_bounds-sites-sign : goal.offset_bounds-sites-sign
 offset_bounds-sites-sign g c =
-    omega (arith, c.requires.within, signs_few c.args.dictionary.now c.len-words.ensures.words, c.len-words.ensures.letters)
+    omega (arith, c.requires.within, signs_few c.args.dictionary.now c.requires.words, c.requires.letters)
 
 pub bounds-weights-sign : goal.bounds-weights-sign
 bounds-weights-sign g c =
-    omega (arith, ap (λ (xs : List ℕ). length xs) c.all_weights-weights.ensures, weights_count c.args.dictionary.now c.len-words.ensures.words, c.requires.within)
+    omega (arith, ap (λ (xs : List ℕ). length xs) c.all_weights-weights.ensures, weights_count c.args.dictionary.now c.requires.words, c.requires.within)
 
 pub offset_bounds-weights-sign : goal.offset_bounds-weights-sign
 offset_bounds-weights-sign g c =
-    omega (arith, c.requires.within, signs_few c.args.dictionary.now c.len-words.ensures.words, c.len-words.ensures.letters)
+    omega (arith, c.requires.within, signs_few c.args.dictionary.now c.requires.words, c.requires.letters)
 
 pub returns-then-not-has_around-clause-ok : goal.returns-then-not-has_around-clause-ok
 returns-then-not-has_around-clause-ok g c =
@@ -97,7 +96,7 @@ count_numbered-requires-clause-signs g c =
     let long : first + c.from-2.result - first ≡ pass.len = omega (arith, c.from-2.ensures) in
     let lent : take (first + c.from-2.result - first) (drop first c.all_signs-signs.result.now) ≡ window w.signs p pass.len pass.dot =
     (λ i. take (long i) (drop first (c.all_signs-signs.ensures i))) ∙ flat_window words s.of.number p pass.len pass.dot first w s.of.there fit begins in
-    let word = word_in words s.of.number w c.len-words.ensures.words s.of.there in
+    let word = word_in words s.of.number w c.requires.words s.of.there in
     let signs = signs_within m.signs words s.of.number w s.of.there c.requires.signs word in
     subst (SignsWithin m.signs) (sym lent) (All-take (λ x. (1 ≤ x) × (x ≤ m.signs)) pass.len (drop (p - pass.dot) w.signs) (All-drop (λ x. (1 ≤ x) × (x ≤ m.signs)) (p - pass.dot) w.signs signs))
 
@@ -108,8 +107,8 @@ count_numbered-requires-clause-weight g c =
     let s = site_at words c.all_sites-sites.result.now c.args.sign (record { before = 0; left = 0 }) c.all_sites-sites.ensures c.requires.within in
     let w = s.of.word in
     let p = s.of.at in
-    let word = word_in words s.of.number w c.len-words.ensures.words s.of.there in
-    subst (λ x. x ≤ WEIGHT_MAX) (sym (weight_at words c.all_weights-weights.result.now c.args.sign 0 s.of c.all_weights-weights.ensures c.len-words.ensures.words)) (weight_small w p word s.of.within)
+    let word = word_in words s.of.number w c.requires.words s.of.there in
+    subst (λ x. x ≤ WEIGHT_MAX) (sym (weight_at words c.all_weights-weights.result.now c.args.sign 0 s.of c.all_weights-weights.ensures c.requires.words)) (weight_small w p word s.of.within)
 
 pub count_numbered-requires-clause-small : goal.count_numbered-requires-clause-small
 count_numbered-requires-clause-small g c =
@@ -118,12 +117,8 @@ count_numbered-requires-clause-small g c =
     let s = site_at words c.all_sites-sites.result.now c.args.sign (record { before = 0; left = 0 }) c.all_sites-sites.ensures c.requires.within in
     let w = s.of.word in
     let p = s.of.at in
-    let word = word_in words s.of.number w c.len-words.ensures.words s.of.there in
-    room_small _ _ _ _ c.requires.room (subst (λ x. x ≤ WEIGHT_MAX) (sym (weight_at words c.all_weights-weights.result.now c.args.sign 0 s.of c.all_weights-weights.ensures c.len-words.ensures.words)) (weight_small w p word s.of.within))
-
-pub overflow_cast-first : goal.overflow_cast-first
-overflow_cast-first g c =
-    omega (arith, c.requires.within, signs_few c.args.dictionary.now c.len-words.ensures.words, c.len-words.ensures.letters)
+    let word = word_in words s.of.number w c.requires.words s.of.there in
+    room_small _ _ _ _ c.requires.room (subst (λ x. x ≤ WEIGHT_MAX) (sym (weight_at words c.all_weights-weights.result.now c.args.sign 0 s.of c.all_weights-weights.ensures c.requires.words)) (weight_small w p word s.of.within))
 
 pub returns-clause-ok : goal.returns-clause-ok
 returns-clause-ok g c =
@@ -140,8 +135,8 @@ returns-clause-ok g c =
     let lent : take (first + c.from-2.result - first) (drop first c.all_signs-signs.result.now) ≡ window w.signs p pass.len pass.dot =
     (λ i. take (long i) (drop first (c.all_signs-signs.ensures i))) ∙ flat_window words s.of.number p pass.len pass.dot first w s.of.there fit begins in
     let hyphens = ap (λ (b : Bool). cond (is_odd pass.level) b (not b)) (c.has_hyphen.ensures w p s.is) in
-    let ok = c.in_ok-number.ensures.ok ∙ counted_fit m pass.level pass.len pass.dot words s.of.number p w s.of.there (take (first + c.from-2.result - first) (drop first c.all_signs-signs.result.now)) c.is_good-good.result (get_or c.all_weights-weights.result.now c.args.sign 0) fit lent (c.is_good-good.ensures ∙ hyphens) (weight_at words c.all_weights-weights.result.now c.args.sign 0 s.of c.all_weights-weights.ensures c.len-words.ensures.words) in
-    ok ∙ sym (ap (λ (e : WordPosition). meaning_after_counting m (counted_of pass.level pass.len pass.dot words e)) (place_of words c.args.sign s.of))
+    let counted = counted_fit m pass.level pass.len pass.dot words s.of.number p w s.of.there (take (first + c.from-2.result - first) (drop first c.all_signs-signs.result.now)) c.is_good-good.result (get_or c.all_weights-weights.result.now c.args.sign 0) fit lent (c.is_good-good.ensures ∙ hyphens) (weight_at words c.all_weights-weights.result.now c.args.sign 0 s.of c.all_weights-weights.ensures c.requires.words) in
+    on_ok_weaker c.count_numbered.result (λ ok. ok ∙ counted ∙ sym (ap (λ (e : WordPosition). meaning_after_counting m (counted_of pass.level pass.len pass.dot words e)) (place_of words c.args.sign s.of))) c.count_numbered.ensures.ok
 
 pub returns-clause-took : goal.returns-clause-took
 returns-clause-took g c =
@@ -159,9 +154,9 @@ returns-clause-took g c =
     let lent : take (first + c.from-2.result - first) (drop first c.all_signs-signs.result.now) ≡ window w.signs p pass.len pass.dot =
     (λ i. take (long i) (drop first (c.all_signs-signs.ensures i))) ∙ flat_window words s.of.number p pass.len pass.dot first w s.of.there fit begins in
     let hyphens = ap (λ (b : Bool). cond (is_odd pass.level) b (not b)) (c.has_hyphen.ensures w p s.is) in
-    let ok = c.in_ok-number.ensures.ok ∙ counted_fit m pass.level pass.len pass.dot words s.of.number p w s.of.there (take (first + c.from-2.result - first) (drop first c.all_signs-signs.result.now)) c.is_good-good.result (get_or c.all_weights-weights.result.now c.args.sign 0) fit lent (c.is_good-good.ensures ∙ hyphens) (weight_at words c.all_weights-weights.result.now c.args.sign 0 s.of c.all_weights-weights.ensures c.len-words.ensures.words) in
-    let word = word_in words s.of.number w c.len-words.ensures.words s.of.there in
-    took_entry m after pass.level pass.len pass.dot w p 1 c.requires.ranges.len_low word s.of.within c.requires.room (ok ∙ counted_there m pass.level pass.len pass.dot words s.of.number p w s.of.there)
+    let counted = counted_fit m pass.level pass.len pass.dot words s.of.number p w s.of.there (take (first + c.from-2.result - first) (drop first c.all_signs-signs.result.now)) c.is_good-good.result (get_or c.all_weights-weights.result.now c.args.sign 0) fit lent (c.is_good-good.ensures ∙ hyphens) (weight_at words c.all_weights-weights.result.now c.args.sign 0 s.of c.all_weights-weights.ensures c.requires.words) in
+    let word = word_in words s.of.number w c.requires.words s.of.there in
+    on_ok_weaker c.count_numbered.result (λ ok. took_entry m after pass.level pass.len pass.dot w p 1 c.requires.ranges.len_low word s.of.within c.requires.room (ok ∙ counted ∙ counted_there m pass.level pass.len pass.dot words s.of.number p w s.of.there)) c.count_numbered.ensures.ok
 
 pub returns-clause-number : goal.returns-clause-number
 returns-clause-number g c =
@@ -177,27 +172,8 @@ returns-clause-number g c =
     let long : first + c.from-2.result - first ≡ pass.len = omega (arith, c.from-2.ensures) in
     let lent : take (first + c.from-2.result - first) (drop first c.all_signs-signs.result.now) ≡ window w.signs p pass.len pass.dot =
     (λ i. take (long i) (drop first (c.all_signs-signs.ensures i))) ∙ flat_window words s.of.number p pass.len pass.dot first w s.of.there fit begins in
-    let number = c.in_ok-number.number in
+    IfOk-weaker c.count_numbered.result (HasNumber after.windows (take (first + c.from-2.result - first) (drop first c.all_signs-signs.result.now))) (IsNumbered pass (counts_at pass) words after.windows (position_from 0 words c.args.sign))
+    (λ number has.
     subst (λ (e : WordPosition). IsNumbered pass (counts_at pass) words after.windows e number) (sym (place_of words c.args.sign s.of))
-    (numbered_fit pass words after.windows s.of.number p w number s.of.there fit (subst (λ (u : List ℕ). HasNumber after.windows u number) lent c.in_ok-number.ensures.number))
-
-pub returns-clause-places : goal.returns-clause-places
-returns-clause-places g c =
-    let m = g.E.Engine.meaning c.args.engine.now in
-    let after = g.E.Engine.meaning c.count_numbered.new.self in
-    let words = c.args.dictionary.now in
-    let pass = c.args.pass in
-    let s = site_at words c.all_sites-sites.result.now c.args.sign (record { before = 0; left = 0 }) c.all_sites-sites.ensures c.requires.within in
-    let w = s.of.word in
-    let p = s.of.at in
-    let fit : fits w.signs p pass.len pass.dot ≡ true = sym (c.has_around.ensures w p s.of.within s.is) ∙ c.if-not-has_around.false in
-    let first = c.args.sign - c.from.result in
-    let begins : first ≡ start_of words s.of.number + (p - pass.dot) = omega (arith, c.from.ensures, s.of.is, (fit_within (length w.signs) p pass.len pass.dot fit).0) in
-    let long : first + c.from-2.result - first ≡ pass.len = omega (arith, c.from-2.ensures) in
-    let lent : take (first + c.from-2.result - first) (drop first c.all_signs-signs.result.now) ≡ window_from pass words first = λ i. take (long i) (drop first (c.all_signs-signs.ensures i)) in
-    place_more pass words m.windows after.windows m.counts after.counts c.args.places.now.items c.note_place.new.places.items first c.in_ok-number.number
-    c.requires.places c.kept.ensures.numbered
-    (flat_inside words s.of.number p pass.len pass.dot first w s.of.there fit begins)
-    (ap (λ (x : Meaning). x.windows) c.in_ok-number.ensures.ok ∙ ap (with_window m.windows m.counts) lent)
-    (subst (λ (u : List ℕ). HasNumber after.windows u c.in_ok-number.number) lent c.in_ok-number.ensures.number)
-    c.in_ok-note_place.ensures
+    (numbered_fit pass words after.windows s.of.number p w number s.of.there fit (subst (λ (u : List ℕ). HasNumber after.windows u number) lent has)))
+    c.count_numbered.ensures.number

@@ -72,15 +72,15 @@ words-preserved g c =
 pub closed-requires : goal.closed-requires
 closed-requires g c =
     let all = ap (λ (xs : List ℕ). length xs) c.all_signs-signs.ensures in
-    omega (arith, signs_few c.args.dictionary.now c.len-words.ensures.words, c.len-words.ensures.letters)
+    omega (arith, signs_few c.args.dictionary.now c.len-count.ensures.words, c.len-count.ensures.letters)
 
 pub words-init : goal.words-init
 words-init g c =
     let all = ap (λ (xs : List ℕ). length xs) c.all_signs-signs.ensures in
-    let few = signs_few c.args.dictionary.now c.len-words.ensures.words in
+    let few = signs_few c.args.dictionary.now c.len-count.ensures.words in
     record {
       size = omega (arith, c.in_ok-dots.ensures.size);
-      few = omega (arith, c.in_ok-dots.ensures.few, c.len-words.ensures.letters);
+      few = omega (arith, c.in_ok-dots.ensures.few, c.len-count.ensures.letters);
       none = c.in_ok-dots.ensures.none;
       starts = start_zero c.args.dictionary.now;
       before = λ d n p w low at inside. absurd (omega arith);
@@ -92,16 +92,16 @@ words-init g c =
 pub open_word-requires-clause-within : goal.open_word-requires-clause-within
 open_word-requires-clause-within g c =
     let w = lent_word c.word-w.result in
-    let behind = start_before c.args.dictionary.now c.words.i (length c.args.dictionary.now) w c.word-w.ensures.lent (omega (arith, c.words-test.true, c.len-i-end.ensures.len)) in
+    let behind = start_before c.args.dictionary.now c.words.i (length c.args.dictionary.now) w c.word-w.ensures.lent (omega (arith, c.words-test.true, c.len-count.ensures.len)) in
     let whole = start_past c.args.dictionary.now (length c.args.dictionary.now) (omega arith) in
     omega (arith, behind, whole, c.words.invariant.starts, c.words.invariant.size)
 
 pub overflow_add-start : goal.overflow_add-start
 overflow_add-start g c =
     let w = lent_word c.word-w.result in
-    let behind = start_before c.args.dictionary.now c.words.i (length c.args.dictionary.now) w c.word-w.ensures.lent (omega (arith, c.words-test.true, c.len-i-end.ensures.len)) in
+    let behind = start_before c.args.dictionary.now c.words.i (length c.args.dictionary.now) w c.word-w.ensures.lent (omega (arith, c.words-test.true, c.len-count.ensures.len)) in
     let whole = start_past c.args.dictionary.now (length c.args.dictionary.now) (omega arith) in
     omega (arith, behind, whole, c.words.invariant.starts, c.words.invariant.size, c.words.invariant.few)
 
 pub returns-clause-closed : goal.returns-clause-closed
-returns-clause-closed g c = λ d n p w at low. c.words.invariant.before d n p w (let within = slice_get_within c.args.dictionary.now n w at in omega (arith, c.words-test.false, c.len-i-end.ensures.len)) at low
+returns-clause-closed g c = λ d n p w at low. c.words.invariant.before d n p w (let within = slice_get_within c.args.dictionary.now n w at in omega (arith, c.words-test.false, c.len-count.ensures.len)) at low

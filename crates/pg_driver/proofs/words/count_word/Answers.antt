@@ -62,12 +62,11 @@ positions-preserved g c =
       listed = c.positions.invariant.listed ++ f c.positions.p;
       upto = position_added f c.positions.invariant.listed (c.positions.invariant.listed ++ f c.positions.p) (listed_in (minima_of c.args.table.now) (counts_above c.args.pass.level m0.patterns) c.args.word w) c.positions.p c.in-Some.end c.positions-test.true refl c.positions.invariant.upto;
       numbers = λ words entries at before.
-          let now : HaveNumbers pass (uncovered_at pass m.patterns m.hopeless) words m.windows (entries ++ c.positions.invariant.listed) c.positions.windows.numbers.items =
-          subst (λ (x : Meaning). HaveNumbers pass (uncovered_at pass x.patterns x.hopeless) words m.windows (entries ++ c.positions.invariant.listed) c.positions.windows.numbers.items) (sym kept) (c.positions.invariant.numbers words entries at before) in
+          let now : HaveNumbers pass (uncovered_at pass m.patterns m.hopeless) words m.windows (entries ++ c.positions.invariant.listed) c.positions.numbers.items =
+          subst (λ (x : Meaning). HaveNumbers pass (uncovered_at pass x.patterns x.hopeless) words m.windows (entries ++ c.positions.invariant.listed) c.positions.numbers.items) (sym kept) (c.positions.invariant.numbers words entries at before) in
           let then = c.in_ok-count_position.ensures.numbers words (entries ++ c.positions.invariant.listed) at now in
-          subst (λ (es : List WordPosition). HaveNumbers pass (uncovered_at pass m0.patterns m0.hopeless) words n.windows es c.count_position.new.windows.numbers.items) (append_assoc entries c.positions.invariant.listed (f c.positions.p))
-          (subst (λ (x : Meaning). HaveNumbers pass (uncovered_at pass x.patterns x.hopeless) words n.windows ((entries ++ c.positions.invariant.listed) ++ open_as c.args.word c.positions.p (counts_above pass.level x.patterns w c.positions.p)) c.count_position.new.windows.numbers.items) kept then);
-      places = λ words at begins before. c.in_ok-count_position.ensures.places words at begins (c.positions.invariant.places words at begins before);
+          subst (λ (es : List WordPosition). HaveNumbers pass (uncovered_at pass m0.patterns m0.hopeless) words n.windows es c.count_position.new.numbers.items) (append_assoc entries c.positions.invariant.listed (f c.positions.p))
+          (subst (λ (x : Meaning). HaveNumbers pass (uncovered_at pass x.patterns x.hopeless) words n.windows ((entries ++ c.positions.invariant.listed) ++ open_as c.args.word c.positions.p (counts_above pass.level x.patterns w c.positions.p)) c.count_position.new.numbers.items) kept then);
     }
 
 pub returns-in_ok-list_above-clause-above : goal.returns-in_ok-list_above-clause-above
@@ -104,11 +103,8 @@ returns-in_ok-list_above-clause-numbers g c = λ words entries at before.
     let w = lent_word c.args.w.now in
     let f : ℕ → List WordPosition = λ q. open_as c.args.word q (counts_above pass.level m0.patterns w q) in
     let all = listed_done f c.positions.invariant.listed (listed_in (minima_of c.args.table.now) (counts_above pass.level m0.patterns) c.args.word w) c.positions.p c.in-Some.end c.positions-test.false c.positions.invariant.upto in
-    subst (λ (es : List WordPosition). HaveNumbers pass (uncovered_at pass m0.patterns m0.hopeless) words m.windows (entries ++ es) c.positions.windows.numbers.items) all
+    subst (λ (es : List WordPosition). HaveNumbers pass (uncovered_at pass m0.patterns m0.hopeless) words m.windows (entries ++ es) c.positions.numbers.items) all
     (c.positions.invariant.numbers words entries at before)
-
-pub returns-in_ok-list_above-clause-places : goal.returns-in_ok-list_above-clause-places
-returns-in_ok-list_above-clause-places g c = c.positions.invariant.places
 
 pub returns-in_ok-list_above-clause-took : goal.returns-in_ok-list_above-clause-took
 returns-in_ok-list_above-clause-took g c =
@@ -135,11 +131,8 @@ returns-else-lists-clause-numbers g c = λ words entries at before.
     let w = lent_word c.args.w.now in
     let f : ℕ → List WordPosition = λ q. open_as c.args.word q (counts_above pass.level m0.patterns w q) in
     let all = listed_done f c.positions.invariant.listed (listed_in (minima_of c.args.table.now) (counts_above pass.level m0.patterns) c.args.word w) c.positions.p c.in-Some.end c.positions-test.false c.positions.invariant.upto in
-    subst (λ (es : List WordPosition). HaveNumbers pass (uncovered_at pass m0.patterns m0.hopeless) words m.windows (entries ++ es) c.positions.windows.numbers.items) all
+    subst (λ (es : List WordPosition). HaveNumbers pass (uncovered_at pass m0.patterns m0.hopeless) words m.windows (entries ++ es) c.positions.numbers.items) all
     (c.positions.invariant.numbers words entries at before)
-
-pub returns-else-lists-clause-places : goal.returns-else-lists-clause-places
-returns-else-lists-clause-places g c = c.positions.invariant.places
 
 pub returns-else-lists-clause-took : goal.returns-else-lists-clause-took
 returns-else-lists-clause-took g c =

@@ -1,6 +1,5 @@
-use Rattle.std.proofs.Common.{◌≡◌, ℕ, ◌≤◌, ◌-◌, ◌++◌, List, slice_get, Some}
+use Rattle.std.proofs.Common.{◌≡◌, ℕ, ◌≤◌, ◌-◌, ◌++◌, List}
 use Rattle.std.specs.List.{flat_map, range_with_len}
-use Rattle.pg_dict.specs.Word.{Word}
 use Rattle.pg_dict.specs.Inside.SoundWords.{letter_count}
 use Rattle.pg_dict.specs.Inside.Lent.{lent_word}
 use Rattle.pg_select.specs.CountedPositions.{counted_positions_at, minima_of}
@@ -8,8 +7,7 @@ use Rattle.pg_select.specs.Inside.WordCounts.{counted_positions_in}
 use Rattle.pg_select.specs.Inside.LawsAbove.{counts_above}
 use Rattle.pg_driver.specs.declared.pass_windows.WordPosition.{WordPosition}
 use Rattle.pg_driver.specs.Inside.OpenLevels.{listed_in, open_as}
-use Rattle.pg_driver.specs.Inside.OpenSigns.{start_of}
-use Rattle.pg_driver.specs.Inside.PassWindows.{AreFirstSigns, HaveNumbers, uncovered_at}
+use Rattle.pg_driver.specs.Inside.PassWindows.{NotesNumbers}
 use Rattle.pg_select.specs.Sums.{marks_in}
 use Rattle.pg_select.specs.Inside.SumSteps.{with_marks, TookRoomFor}
 use Rattle.pg_driver.specs.Inside.Counting.{meaning_after_counting, TookRoom}
@@ -30,7 +28,5 @@ invariant-positions g l =
       took_for : TookRoomFor l.fn.sums l.sums (l.p - l.first);
       listed : List WordPosition;
       upto : (listed ++ flat_map (λ (p : ℕ). open_as l.word p (counts_above l.pass.level m0.patterns (lent_word l.w) p)) (range_with_len l.p (l.end - l.p))) ≡ listed_in (minima_of l.table) (counts_above l.pass.level m0.patterns) l.word (lent_word l.w);
-      numbers : (words : List Word) (entries : List WordPosition) → slice_get words l.word ≡ Some (lent_word l.w) → HaveNumbers l.pass (uncovered_at l.pass m0.patterns m0.hopeless) words m0.windows entries l.fn.windows.numbers.items
-          → HaveNumbers l.pass (uncovered_at l.pass m0.patterns m0.hopeless) words m.windows (entries ++ listed) l.windows.numbers.items;
-      places : (words : List Word) → slice_get words l.word ≡ Some (lent_word l.w) → l.start ≡ start_of words l.word → AreFirstSigns l.pass words m0.windows l.fn.windows.places.items → AreFirstSigns l.pass words m.windows l.windows.places.items;
+      numbers : NotesNumbers l.pass l.word (lent_word l.w) m0 m listed l.fn.numbers.items l.numbers.items;
     }

@@ -16,7 +16,6 @@ use Rattle.pg_select.specs.Inside.LawsAbove.{counts_above}
 use Rattle.pg_driver.specs.declared.pass_windows.WordPosition.{WordPosition}
 use Rattle.pg_driver.specs.Inside.PassWindows.{HaveNumbers, uncovered_at}
 use Rattle.pg_driver.specs.Inside.WordLevels.{listing}
-use Rattle.pg_driver.proofs.OpenSigns.{signs_few, start_before, start_next, start_past, start_zero}
 use Rattle.pg_driver.proofs.OpenSteps.{few_words, word_added}
 use Rattle.pg_driver.proofs.Rooms.{room_left, room_less, room_none}
 use Rattle.pg_driver.proofs.Walks.{kept_on, word_step}
@@ -31,20 +30,6 @@ count_word-requires-clause-signs g c =
     let signs = ap (λ (m : Meaning). m.signs) c.words.invariant.kept in
     let P : ℕ → Type 0 = λ n. SignsWithin n c.word-w.result.signs.now in
     subst P (sym signs) (signs_within _ c.args.dictionary.now c.words.i (lent_word c.word-w.result) c.word-w.ensures.lent c.requires.signs c.word-w.ensures.word)
-
-pub count_word-requires-clause-few : goal.count_word-requires-clause-few
-count_word-requires-clause-few g c =
-    let words = c.args.dictionary.now in
-    let behind = start_before words c.words.i (length words) (lent_word c.word-w.result) c.word-w.ensures.lent (omega (arith, c.words-test.true, c.len-i-end.ensures.len)) in
-    let whole = start_past words (length words) (omega arith) in
-    omega (arith, behind, whole, c.words.invariant.starts, signs_few words c.len-i-end.ensures.words, c.len-i-end.ensures.letters)
-
-pub overflow_add-start : goal.overflow_add-start
-overflow_add-start g c =
-    let words = c.args.dictionary.now in
-    let behind = start_before words c.words.i (length words) (lent_word c.word-w.result) c.word-w.ensures.lent (omega (arith, c.words-test.true, c.len-i-end.ensures.len)) in
-    let whole = start_past words (length words) (omega arith) in
-    omega (arith, behind, whole, c.words.invariant.starts, signs_few words c.len-i-end.ensures.words, c.len-i-end.ensures.letters)
 
 pub count_word-requires-clause-room : goal.count_word-requires-clause-room
 count_word-requires-clause-room g c = room_less _ _ _ c.words.invariant.room (omega (arith, letters_left c.args.dictionary.now c.words.i (lent_word c.word-w.result) c.word-w.ensures.lent))
@@ -62,9 +47,7 @@ words-init g c = record {
   room_for = search rules;
   listed = [];
   upto = refl;
-  numbers = record { size = ap length c.requires.numbers; each = λ k e n at to. absurd (let no : None ≡ Some e = at in cc) };
-  places = c.requires.places;
-  starts = start_zero c.args.dictionary.now;
+  numbers = record { size = ap length c.requires.none; each = λ k e n at to. absurd (let no : None ≡ Some e = at in cc) };
 }
 
 pub words-preserved : goal.words-preserved
@@ -93,10 +76,8 @@ words-preserved g c =
       listed = c.words.invariant.listed ++ here;
       upto = word_added minima (counts_above pass.level m0.patterns) c.words.invariant.listed (c.words.invariant.listed ++ here) _ c.args.dictionary.now c.words.i w c.word-w.ensures.lent refl c.words.invariant.upto;
       numbers =
-          let now : HaveNumbers pass (uncovered_at pass m.patterns m.hopeless) c.args.dictionary.now m.windows c.words.invariant.listed c.words.windows.numbers.items =
-          subst (λ (x : Meaning). HaveNumbers pass (uncovered_at pass x.patterns x.hopeless) c.args.dictionary.now m.windows c.words.invariant.listed c.words.windows.numbers.items) (sym kept) c.words.invariant.numbers in
-          subst (λ (x : Meaning). HaveNumbers pass (uncovered_at pass x.patterns x.hopeless) c.args.dictionary.now n.windows (c.words.invariant.listed ++ listed_in minima (counts_above pass.level x.patterns) c.words.i w) c.count_word.new.windows.numbers.items) kept
+          let now : HaveNumbers pass (uncovered_at pass m.patterns m.hopeless) c.args.dictionary.now m.windows c.words.invariant.listed c.words.numbers.items =
+          subst (λ (x : Meaning). HaveNumbers pass (uncovered_at pass x.patterns x.hopeless) c.args.dictionary.now m.windows c.words.invariant.listed c.words.numbers.items) (sym kept) c.words.invariant.numbers in
+          subst (λ (x : Meaning). HaveNumbers pass (uncovered_at pass x.patterns x.hopeless) c.args.dictionary.now n.windows (c.words.invariant.listed ++ listed_in minima (counts_above pass.level x.patterns) c.words.i w) c.count_word.new.numbers.items) kept
           (c.in_ok-count_word.ensures.numbers c.args.dictionary.now c.words.invariant.listed c.word-w.ensures.lent now);
-      places = c.in_ok-count_word.ensures.places c.args.dictionary.now c.word-w.ensures.lent c.words.invariant.starts c.words.invariant.places;
-      starts = ap (λ k. k + length w.signs) c.words.invariant.starts ∙ sym (start_next c.args.dictionary.now c.words.i w c.word-w.ensures.lent);
     }

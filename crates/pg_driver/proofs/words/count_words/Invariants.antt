@@ -6,10 +6,9 @@ use Rattle.pg_select.specs.Sums.{marks_in, totals}
 use Rattle.pg_select.specs.Inside.SumSteps.{with_marks, HasRoomFor}
 use Rattle.pg_driver.specs.Inside.Counting.{meaning_after_counting, HasRoom}
 use Rattle.pg_driver.specs.Inside.OpenLevels.{listed_from}
-use Rattle.pg_driver.specs.Inside.OpenSigns.{start_of}
 use Rattle.pg_select.specs.Inside.LawsAbove.{counts_above}
 use Rattle.pg_driver.specs.declared.pass_windows.WordPosition.{WordPosition}
-use Rattle.pg_driver.specs.Inside.PassWindows.{AreFirstSigns, HaveNumbers, uncovered_at}
+use Rattle.pg_driver.specs.Inside.PassWindows.{HaveNumbers, uncovered_at}
 use Rattle.pg_driver.specs.Inside.WordLevels.{listing}
 use Rattle.pg_driver.proofs.Walks.{KeepsButCounts}
 use Rattle.pg_driver.proofs.words.count_words.Given as goal
@@ -27,7 +26,5 @@ invariant-words g l =
       room_for : HasRoomFor l.sums (sum_by letter_count (drop l.i l.dictionary));
       listed : List WordPosition;
       upto : (listed ++ listed_from (minima_of l.table) (counts_above l.pass.level m0.patterns) l.i (drop l.i l.dictionary)) ≡ listed_from (minima_of l.table) (counts_above l.pass.level m0.patterns) 0 l.dictionary;
-      numbers : HaveNumbers l.pass (uncovered_at l.pass m0.patterns m0.hopeless) l.dictionary m.windows listed l.windows.numbers.items;
-      places : AreFirstSigns l.pass l.dictionary m.windows l.windows.places.items;
-      starts : l.start ≡ start_of l.dictionary l.i;
+      numbers : HaveNumbers l.pass (uncovered_at l.pass m0.patterns m0.hopeless) l.dictionary m.windows listed l.numbers.items;
     }

@@ -4,7 +4,7 @@ use Rattle.pg_trie.specs.Inside.Lists.{list_of}
 use Rattle.pg_trie.specs.Inside.Lists.{outputs_at}
 use Rattle.pg_select.specs.Inside.Positions.{values_of, covers_of}
 use Rattle.pg_hyph.specs.Inside.ListValues.{value_by, cover_by}
-use Rattle.pg_hyph.proofs.Loops.{longer, stop_first, stop_next, stop_here}
+use Rattle.pg_hyph.proofs.Loops.{longer, stop_first, stop_next, stop_here, stop_last}
 use Rattle.pg_hyph.proofs.walk.raise_by_strings.Goals as goal
 
 pub loop-stop-init : goal.loop-stop-init
@@ -67,3 +67,9 @@ returns-in_default-step-clause-covers c =
     let q : List ℕ = take (c.loop-stop.stop - c.args.start) (drop c.args.start c.args.w.now) in
     stop_here (cover_by c.args.pass.now) (outputs_at c.args.trie.now.patterns c.args.trie.now.hopeless) c.args.w.now c.args.start c.loop-stop.stop (get_or c.args.w.now c.loop-stop.stop 0) (covers_of c.args.out.now) (covers_of c.loop-stop.out)
     c.loop-stop-test.true refl (c.in_default-step.ensures.none q c.loop-stop.invariant.at refl) c.loop-stop.invariant.covers
+
+pub returns-clause-values : goal.returns-clause-values
+returns-clause-values c = stop_last value_by (outputs_at c.args.trie.now.patterns c.args.trie.now.hopeless) c.args.w.now c.args.start c.loop-stop.stop (values_of c.args.out.now) (values_of c.loop-stop.out) (omega arith) c.loop-stop.invariant.values
+
+pub returns-clause-covers : goal.returns-clause-covers
+returns-clause-covers c = stop_last (cover_by c.args.pass.now) (outputs_at c.args.trie.now.patterns c.args.trie.now.hopeless) c.args.w.now c.args.start c.loop-stop.stop (covers_of c.args.out.now) (covers_of c.loop-stop.out) (omega arith) c.loop-stop.invariant.covers

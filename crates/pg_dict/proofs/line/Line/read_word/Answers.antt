@@ -1,4 +1,6 @@
-use Rattle.std.proofs.Common.{◌≡◌, ◌+◌, ◌++◌, ◌∷◌, [], List, Ok, ◌∙◌, ap}
+use Rattle.std.proofs.Common.{◌≡◌, ◌+◌, ◌++◌, ◌∷◌, [], List, length, Ok, ◌∙◌, ap, arith}
+use Rattle.std.proofs.lemmas.List.{length_push}
+use Rattle.pg_types.specs.declared.limits.TheConstants.{EDGE}
 use Rattle.pg_translate.specs.Alphabets.{letters_of}
 use Rattle.pg_dict.specs.declared.store.Store.{Store}
 use Rattle.pg_dict.specs.declared.store.Stored.{Stored}
@@ -6,6 +8,7 @@ use Rattle.pg_dict.specs.Inside.LineStarts.{word_reading}
 use Rattle.pg_dict.specs.Inside.Entries.{with_word}
 use Rattle.pg_dict.specs.Inside.Store.{stored_words, IsSound}
 use Rattle.pg_dict.proofs.Enters.{enters}
+use Rattle.pg_dict.proofs.Good.{pushed_fit, pushed_length}
 use Rattle.pg_dict.proofs.line.Line.read_word.Goals as goal
 
 -- the store at the return
@@ -32,3 +35,20 @@ returns-clause-word c = (entered c).0
 
 pub returns-clause-sound : goal.returns-clause-sound
 returns-clause-sound c = (entered c).1
+
+pub fill-requires-clause-fit : goal.fill-requires-clause-fit
+fill-requires-clause-fit c =
+    let n = letters_of c.args.self.now.table.now + 1 in
+    let first = pushed_fit n c.args.store.now c.push.new.self c.plain.result.mark c.plain.result.weight EDGE c.requires.fit c.plain.result.small (omega arith) (omega arith) c.in_ok-push.ensures.ok in
+    pushed_fit n c.push.new.self c.push-2.new.self c.plain-2.result.mark c.plain-2.result.weight c.args.sign first c.plain-2.result.small (omega (arith, c.requires.letter.0)) c.requires.letter.1 c.in_ok-push-2.ensures.ok
+
+pub returns-clause-fit : goal.returns-clause-fit
+returns-clause-fit c = record { signs = c.in_ok-fill.ensures.fit.signs; weights = c.in_ok-fill.ensures.fit.weights }
+
+pub returns-clause-counted : goal.returns-clause-counted
+returns-clause-counted c =
+    let first = pushed_length c.args.store.now c.push.new.self c.plain.result.mark c.plain.result.weight EDGE c.in_ok-push.ensures.ok in
+    let second = pushed_length c.push.new.self c.push-2.new.self c.plain-2.result.mark c.plain-2.result.weight c.args.sign c.in_ok-push-2.ensures.ok in
+    let kept = ap (λ (ws : List Stored). length ws) (c.fill.ensures.words ∙ c.push-2.ensures.words ∙ c.push.ensures.words) in
+    let more = ap (λ (ws : List Stored). length ws) c.in_ok-push-3.ensures.items ∙ length_push c.fill.new.store.words.items (record { start = c.len-start.result; end = c.len-end.result; weight = c.args.self.now.weight }) in
+    omega (arith, c.in_ok-fill.ensures.counted.1)

@@ -1,4 +1,6 @@
-use Rattle.std.proofs.Common.{◌≡◌, ◌++◌, ◌∷◌, [], ◌∙◌}
+use Rattle.std.proofs.Common.{◌≡◌, ◌++◌, ◌∷◌, [], ℕ, List, length, ap, length-append, ◌∙◌}
+use Rattle.std.proofs.lemmas.List.{length_push}
+use Rattle.pg_dict.specs.declared.store.Stored.{Stored}
 use Rattle.pg_dict.specs.declared.store.Store.{Store}
 use Rattle.pg_dict.specs.Inside.Store.{stored_words, IsSound}
 use Rattle.pg_dict.specs.Inside.Lent.{lent_word}
@@ -26,3 +28,10 @@ returns-clause-words c = (pushed c).0
 
 pub returns-clause-sound : goal.returns-clause-sound
 returns-clause-sound c = (pushed c).1
+
+pub returns-clause-signs : goal.returns-clause-signs
+returns-clause-signs c = ap (λ (xs : List ℕ). length xs) c.in_ok-extend_from_slice.ensures.items ∙ length-append c.args.self.now.signs.items c.args.word.now.signs.now
+
+pub returns-clause-count : goal.returns-clause-count
+returns-clause-count c =
+    ap (λ (ws : List Stored). length ws) c.in_ok-push.ensures.items ∙ length_push c.args.self.now.words.items (record { start = c.len-start.result; end = c.len-end.result; weight = c.args.word.now.weight })

@@ -48,3 +48,47 @@ returns-in_ok-count_open-in-Open-clause-ready g c =
     let p : OpenLevel = record { dots = c.reach.new.self; totals = o.totals } in
     let ready : IsOpenAt source pass.level pass.len known o = subst (IsReady source pass.level pass.len known) c.in-Open.is c.requires.ready in
     ready_same source pass.level pass.len known o ready p c.in_ok-reach-in-Open.ensures.places c.in_ok-reach-in-Open.ensures.closed refl
+
+pub returns-in_ok-count_open-in-Open-clause-totals : goal.returns-in_ok-count_open-in-Open-clause-totals
+returns-in_ok-count_open-in-Open-clause-totals g c =
+    let known = known_of (g.E.Engine.meaning c.args.engine.now) in
+    let source = over c.args.table.now c.args.dictionary.now in
+    let pass = c.args.pass in
+    let ready : IsOpenAt source pass.level pass.len known c.in-Open.open = subst (IsReady source pass.level pass.len known) c.in-Open.is c.requires.ready in
+    ready.totals
+
+pub returns-in_ok-count_open-in-Open-clause-room : goal.returns-in_ok-count_open-in-Open-clause-room
+returns-in_ok-count_open-in-Open-clause-room g c = c.in_ok-count_open-in-Open.ensures.room
+
+pub returns-in_ok-count_open-in-Open-clause-counted : goal.returns-in_ok-count_open-in-Open-clause-counted
+returns-in_ok-count_open-in-Open-clause-counted g c = tt
+
+pub returns-in_ok-count_open-in-Open-clause-signs : goal.returns-in_ok-count_open-in-Open-clause-signs
+returns-in_ok-count_open-in-Open-clause-signs g c = c.count_open.ensures.signs
+
+pub returns-in_ok-count_open-in-Open-clause-numbers : goal.returns-in_ok-count_open-in-Open-clause-numbers
+returns-in_ok-count_open-in-Open-clause-numbers g c = λ numbered. record { reached = c.in_ok-reach-in-Open.ensures.reached; numbers = c.in_ok-count_open-in-Open.ensures.numbers }
+
+pub returns-in-EachWord-clause-ok : goal.returns-in-EachWord-clause-ok
+returns-in-EachWord-clause-ok g c = c.count.ensures.ok
+
+pub returns-in-EachWord-clause-totals : goal.returns-in-EachWord-clause-totals
+returns-in-EachWord-clause-totals g c = c.count.ensures.totals
+
+pub returns-in-EachWord-clause-small : goal.returns-in-EachWord-clause-small
+returns-in-EachWord-clause-small g c = c.count.ensures.small
+
+pub returns-in-EachWord-clause-room : goal.returns-in-EachWord-clause-room
+returns-in-EachWord-clause-room g c = c.count.ensures.room
+
+pub returns-in-EachWord-clause-ready : goal.returns-in-EachWord-clause-ready
+returns-in-EachWord-clause-ready g c = c.count.ensures.ready
+
+pub returns-in-EachWord-clause-counted : goal.returns-in-EachWord-clause-counted
+returns-in-EachWord-clause-counted g c = c.count.ensures.counted
+
+pub returns-in-EachWord-clause-numbers : goal.returns-in-EachWord-clause-numbers
+returns-in-EachWord-clause-numbers g c = c.count.ensures.numbers
+
+pub returns-in-EachWord-clause-signs : goal.returns-in-EachWord-clause-signs
+returns-in-EachWord-clause-signs g c = c.count.ensures.signs

@@ -17,7 +17,7 @@ returns-clause-ready g c =
     words_counted (over c.args.table.now c.args.dictionary.now) c.args.pass.level (known_of (g.E.Engine.meaning c.args.engine.now)) c.args.self.now (record { is_counted = true; above = c.count_words.new.above; totals = c.in_ok-before.before }) c.requires.ready refl c.in_ok-before.ensures.above c.in_ok-before.ensures.totals
 
 pub returns-clause-numbers : goal.returns-clause-numbers
-returns-clause-numbers g c =
+returns-clause-numbers g c = λ numbered.
     let m = g.E.Engine.meaning c.args.engine.now in
     let n = g.E.Engine.meaning c.count_words.new.engine in
     let words = c.args.dictionary.now in
@@ -30,5 +30,5 @@ returns-clause-numbers g c =
     ap (λ (x : Meaning). x.counts) c.in_ok-before.ensures.ok
     ∙ ap (λ (cs : Counts). fold with_position cs (counted_positions minima words m.pass m.patterns m.hopeless)) c.requires.fresh
     ∙ ap (λ p. fold with_position [] (counted_positions minima words p m.patterns m.hopeless)) c.requires.pass in
-    subst (λ (es : List WordPosition). HaveNumbers pass (is_counted_at pass n.counts) words n.windows es c.count_words.new.windows.numbers.items) (sym ready.above)
-    (numbered_as_counted minima words pass m.patterns m.hopeless n.counts n.windows _ _ c.kept.ensures.numbered counts c.in_ok-before.ensures.numbers)
+    subst (λ (es : List WordPosition). HaveNumbers pass (is_counted_at pass n.counts) words n.windows es c.count_words.new.numbers.items) (sym ready.above)
+    (numbered_as_counted minima words pass m.patterns m.hopeless n.counts n.windows _ _ numbered counts c.in_ok-before.ensures.numbers)
