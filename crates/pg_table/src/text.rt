@@ -53,8 +53,6 @@ fn packed_text(
     requires known { SignsUpTo signs patterns.now }
     requires entered { IsEntered signs patterns.now packed.now.cells packed.now.outputs }
     ensures text { IfOk result (λ text. text.items ≡ table_text signs patterns.now) }
-    ensures well_formed { IfOk result (λ text. is_well_formed text.items ≡ true) }
-    ensures values { IfOk result (λ text. HasEntries text.items patterns.now) }
     ensures short { OnOk result (length (table_text signs patterns.now) ≤ TABLE_MAX) }
     ensures too_long { IfErr result
         (λ e. e ≡ TooLong → TABLE_MAX < length (table_text signs patterns.now)) }

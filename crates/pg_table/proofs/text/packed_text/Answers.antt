@@ -1,6 +1,6 @@
 use Rattle.std.proofs.Common.{◌≡◌, ◌+◌, length, ap, ◌∙◌, arith}
 use Rattle.pg_types.specs.Placement.{top}
-use Rattle.pg_table.proofs.TableText.{text_size, fits, length-table_cells, text_of, sound_text, entries_text}
+use Rattle.pg_table.proofs.TableText.{text_size, fits, length-table_cells, text_of}
 use Rattle.pg_table.proofs.text.packed_text.Goals as goal
 
 pub returns-then-is_too_long-clause-too_long : goal.returns-then-is_too_long-clause-too_long
@@ -20,14 +20,6 @@ file_of-requires-clause-cells c =
 pub returns-clause-text : goal.returns-clause-text
 returns-clause-text c =
     text_of c.args.signs c.args.patterns.now c.deref.result.now c.args.packed.now.outputs c.in_ok-text.text.items c.in_ok-text.ensures (c.deref.ensures.value ∙ c.in_ok-row.ensures) c.requires.entered.records_are
-
-pub returns-clause-well_formed : goal.returns-clause-well_formed
-returns-clause-well_formed c =
-    sound_text c.args.signs c.args.patterns.now c.args.packed.now.cells c.requires.entered.sound c.requires.entered.packed c.requires.signs.0 c.requires.signs.1 (fits c.args.signs c.args.patterns.now c.args.packed.now.cells c.args.packed.now.outputs c.requires.entered.sound c.requires.entered c.is_too_long.result c.is_too_long.ensures.1 c.if-is_too_long.false) c.in_ok-text.text.items (returns-clause-text c)
-
-pub returns-clause-values : goal.returns-clause-values
-returns-clause-values c =
-    entries_text c.args.signs c.args.patterns.now c.args.packed.now.cells c.requires.entered.sound c.requires.entered.packed c.requires.signs.0 c.requires.signs.1 (fits c.args.signs c.args.patterns.now c.args.packed.now.cells c.args.packed.now.outputs c.requires.entered.sound c.requires.entered c.is_too_long.result c.is_too_long.ensures.1 c.if-is_too_long.false) c.in_ok-text.text.items (returns-clause-text c)
 
 pub returns-clause-short : goal.returns-clause-short
 returns-clause-short c = fits c.args.signs c.args.patterns.now c.args.packed.now.cells c.args.packed.now.outputs c.requires.entered.sound c.requires.entered c.is_too_long.result c.is_too_long.ensures.1 c.if-is_too_long.false
