@@ -1,5 +1,4 @@
--- The form of a packed table file: a head, the cells, and the records. The bytes of each are counted
--- by constants.
+-- The form of a packed table file: a head, cells and records, whose sizes are constants.
 use Rattle.std.specs.Prelude.{ℕ, ◌+◌, ◌*◌, Bool, not, ◌&&◌, ◌||◌, nat_eq, nat_lt, nat_le, List, [], ◌∷◌, length, map, slice_index}
 use Rattle.std.specs.List.{list_all, range_with_len, starts_with}
 use Rattle.pg_types.specs.declared.limits.TheConstants.{LEVEL_MAX, PATTERN_SIGNS_MAX, SIGNS_MAX}
