@@ -4,6 +4,7 @@ use Rattle.std.proofs.lemmas.Bool.{cases_Bool}
 use Rattle.std.proofs.lemmas.Bool.Decides.{nat_tests}
 use Rattle.std.proofs.lemmas.List.{take_all, length-take}
 use Rattle.pg_audit.specs.Differences.{Difference, first_false}
+use Rattle.pg_audit.specs.declared.lines.TheConstants.{SHOWN_MAX}
 use Rattle.pg_audit.specs.Inside.FirstFalse.{shown}
 use Rattle.pg_audit.specs.Inside.FoundForms.{Begins, found_line, printed_of, has_feed, without_feed}
 use Rattle.pg_audit.proofs.FirstPart.{take_within, first_part}
@@ -12,29 +13,29 @@ use Rattle.pg_audit.proofs.FirstPart.{take_within, first_part}
 feed_is_one : (line : List ℕ) → length line ≤ length (without_feed line) + 1
 feed_is_one line = elim (cases_Bool (has_feed line)) [ inl feed ↦ rw (feed, length-take) (omega arith) | inr none ↦ rw none (omega arith) ]
 
--- of a line of more than 201 bytes the first 200 are printed
-long_line : (line : List ℕ) → 201 < length line → found_line line ≡ Begins (take 200 line)
+-- of a line with more bytes than are shown, and one for its line feed, the first ones are printed
+long_line : (line : List ℕ) → SHOWN_MAX + 1 < length line → found_line line ≡ Begins (take SHOWN_MAX line)
 long_line [] long = absurd (omega arith)
 long_line (b ∷ bs) long =
     let one = feed_is_one (b ∷ bs) in
-    let test : nat_lt 200 (length (without_feed (b ∷ bs))) ≡ true = grind (arith, nat_tests) in
+    let test : nat_lt SHOWN_MAX (length (without_feed (b ∷ bs))) ≡ true = grind (arith, nat_tests) in
     rw test refl
 
--- the first bytes of a line, if they are 202 or more, print as the line
-part_prints : (n : ℕ) (line : List ℕ) → 202 ≤ n → found_line (take n line) ≡ found_line line
+-- the first bytes of a line print as the line, where they are so many
+part_prints : (n : ℕ) (line : List ℕ) → SHOWN_MAX + 2 ≤ n → found_line (take n line) ≡ found_line line
 part_prints n line enough = elim (cases_Bool (nat_lt n (length line))) [
   | inl longer ↦
       let more : n < length line = grind (arith, nat_tests) in
       let size = length-take n line in
-      long_line (take n line) (omega arith) ∙ ap Begins (take_within 200 n line (omega arith)) ∙ sym (long_line line (omega arith))
+      long_line (take n line) (omega arith) ∙ ap Begins (take_within SHOWN_MAX n line (omega arith)) ∙ sym (long_line line (omega arith))
   | inr within ↦ let few : length line ≤ n = grind (arith, nat_tests) in ap found_line (take_all n line few)
 ]
 
 -- lines with the same first bytes print the same
-same_printed : (n : ℕ) (f g : List ℕ) → 202 ≤ n → take n f ≡ take n g → found_line f ≡ found_line g
+same_printed : (n : ℕ) (f g : List ℕ) → SHOWN_MAX + 2 ≤ n → take n f ≡ take n g → found_line f ≡ found_line g
 same_printed n f g enough same = sym (part_prints n f enough) ∙ ap found_line same ∙ part_prints n g enough
 
-same_differences : (n : ℕ) (a b : Option Difference) → 202 ≤ n → option_map (shown n) a ≡ option_map (shown n) b → option_map printed_of a ≡ option_map printed_of b
+same_differences : (n : ℕ) (a b : Option Difference) → SHOWN_MAX + 2 ≤ n → option_map (shown n) a ≡ option_map (shown n) b → option_map printed_of a ≡ option_map printed_of b
 same_differences n None None enough same = refl
 same_differences n None (Some b) enough same = cc
 same_differences n (Some a) None enough same = cc
@@ -46,5 +47,5 @@ same_differences n (Some a) (Some b) enough same =
     cc
 
 -- of a longer file the first part prints the same false line as the whole
-pub part_printed : (given wanted : List ℕ) (more : ℕ) → 201 ≤ more → length wanted + more < length given → option_map printed_of (first_false (take (length wanted + (more + 1)) given) wanted) ≡ option_map printed_of (first_false given wanted)
+pub part_printed : (given wanted : List ℕ) (more : ℕ) → SHOWN_MAX < more → length wanted + more < length given → option_map printed_of (first_false (take (length wanted + (more + 1)) given) wanted) ≡ option_map printed_of (first_false given wanted)
 part_printed given wanted more enough longer = same_differences (more + 1) (first_false (take (length wanted + (more + 1)) given) wanted) (first_false given wanted) (omega arith) (first_part given wanted more longer)

@@ -1,11 +1,12 @@
 -- The loop over the rounds.
 use Rattle.std.proofs.Common.{◌≡◌, ◌≢◌, ℕ, zero, suc, ◌+◌, ◌<◌, ◌≤◌, true, cond, List, [], length, refl, sym, subst, ap, ◌∙◌, arith}
 use Rattle.std.specs.Prelude.{nat_eq}
-use Rattle.std.specs.List.{range_with_len}
+use Rattle.std.specs.List.{list_all, range_with_len}
 use Rattle.std.proofs.lemmas.List.{length-map}
 use Rattle.std.proofs.lemmas.List.FromFn.{length-range_with_len}
 use Rattle.std.proofs.lemmas.Bool.{eq-eqb, eqb-true}
 use Rattle.pg_types.proofs.BoolFacts.{no_test}
+use Rattle.pg_patterns.specs.Inside.PatternMaps.{is_entry}
 use Rattle.pg_select.specs.Windows.{Patterns}
 use Rattle.pg_prune.specs.Places.{WordPlace}
 use Rattle.pg_prune.specs.Prunes.{round, rounds_from, rounds, Rounds}
@@ -25,12 +26,12 @@ pub record RoundsSoFar (places : List WordPlace) (P : Patterns) (stands : List (
   pub so_far : rounds places P ≡ rounds_from places P count most (picked_entries P kept)
 
 module _ (places : List WordPlace) (P : Patterns) (stands : List (List ℕ)) where
-  pub rounds_begin : (holders : List (List ℕ)) → RoundsStart places P stands holders → RoundsSoFar places P stands holders (range_with_len 0 (length P)) 0
+  pub rounds_begin : (holders : List (List ℕ)) → list_all is_entry P ≡ true → RoundsStart places P stands holders → RoundsSoFar places P stands holders (range_with_len 0 (length P)) 0
   unfolding rounds
-  rounds_begin holders s = record {
+  rounds_begin holders sound s = record {
     ready = record {
       all = s.all;
-      sound = s.sound;
+      sound = sound;
       within = range_below 0 (length P) (length P) (omega arith);
       tallied = subst (λ (Q : Patterns). IsTallied places Q holders) (sym (picked_all P)) s.tallied;
       alike = subst (λ (Q : Patterns). break_alike places P Q ≡ true) (sym (picked_all P)) (alike_self places P);

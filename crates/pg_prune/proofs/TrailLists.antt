@@ -2,7 +2,7 @@
 use Rattle.std.proofs.Common.{◌≡◌, ℕ, zero, suc, ◌+◌, ◌<◌, ◌≤◌, Bool, true, false, cond, ◌&&◌, List, [], ◌∷◌, ◌++◌, length, map, take, get_or, Option, Some, None, refl, sym, ap, ◌∙◌, arith, All}
 use Rattle.std.specs.List.{range_with_len, filter, filter_map, cons_option}
 use Rattle.std.proofs.lemmas.List.{append-nil, take_more}
-use Rattle.std.proofs.lemmas.List.Elements.{All-head, All-tail, filter_map-append}
+use Rattle.std.proofs.lemmas.List.Elements.{All-head, All-tail, filter_map-append, filter_more}
 
 -- two functions that agree on a range
 pub range_agree : {X : Type 0} (f g : ℕ → X) (lo n : ℕ) → ((k : ℕ) → lo ≤ k → k < lo + n → f k ≡ g k) → map f (range_with_len lo n) ≡ map g (range_with_len lo n)
@@ -68,3 +68,10 @@ given_none f xs i d inside is =
     ∙ ap (λ o. filter_map f (take i xs) ++ cons_option o []) is
     ∙ sym (filter_map-append f (take i xs) (get_or xs i d ∷ []))
     ∙ ap (λ ys. filter_map f ys) (sym (take_more xs i d inside))
+
+-- what passes a test among an element more
+pub passed_more : {X : Type 0} (p : X → Bool) (xs : List X) (i : ℕ) (d : X) → i < length xs → p (get_or xs i d) ≡ true → filter p (take i xs) ++ get_or xs i d ∷ [] ≡ filter p (take (i + 1) xs)
+passed_more p xs i d inside is = ap (λ b. filter p (take i xs) ++ cond b (get_or xs i d ∷ []) []) (sym is) ∙ sym (filter_more p xs i d inside)
+
+pub passed_none : {X : Type 0} (p : X → Bool) (xs : List X) (i : ℕ) (d : X) → i < length xs → p (get_or xs i d) ≡ false → filter p (take i xs) ≡ filter p (take (i + 1) xs)
+passed_none p xs i d inside is = sym (append-nil (filter p (take i xs))) ∙ ap (λ b. filter p (take i xs) ++ cond b (get_or xs i d ∷ []) []) (sym is) ∙ sym (filter_more p xs i d inside)

@@ -1,10 +1,11 @@
 //! Where the entries of a set of patterns stand.
-ghost use Rattle.std.specs.Prelude.{◌≡◌, map, IfOk};
+ghost use Rattle.std.specs.Prelude.{◌≡◌, map, IfOk, All};
 ghost use Rattle.pg_select.specs.CountedPositions.{minima_of};
 ghost use Rattle.pg_prune.specs.Places.{places as places_of};
 ghost use Rattle.pg_prune.specs.Inside.Standing.{places_of_entries};
+ghost use Rattle.pg_prune.specs.Inside.Trails.{IsStart, all_starts as all_starts_of};
 
-use crate::trail::{Trail, all_starts, standing};
+use crate::trail::{Start, Trail, all_starts};
 use pg_dict::Dictionary;
 use pg_patterns::PatternSet;
 use pg_translate::Table;
@@ -24,13 +25,27 @@ pub(crate) fn gather(
         ≡ places_of_entries (places_of (minima_of table.now) dictionary.now) patterns.now) }
 {
     let all = all_starts(alloc, dictionary, table)?;
+    gather_by(alloc, dictionary, table, patterns, all.as_slice())
+}
+
+/// Does what `gather` does, where `all` are all starts.
+fn gather_by(
+    alloc: Global,
+    dictionary: &Dictionary,
+    table: &Table,
+    patterns: &PatternSet,
+    all: &[Start],
+) -> Result<Vec<Vec<usize>>, AllocError>
+    requires starts { all.now ≡ all_starts_of (minima_of table.now) dictionary.now }
+    requires known { All (IsStart dictionary.now) all.now }
+    ensures { IfOk result (λ lists. map (λ l. l.items) lists.items
+        ≡ places_of_entries (places_of (minima_of table.now) dictionary.now) patterns.now) }
+{
     let mut trail = Trail::new(alloc);
     let mut lists = Vec::new(alloc);
     'entries: for i in 0..patterns.len() {
         let entry = patterns.entry(i);
-        trail.go_to(alloc, dictionary, all.as_slice(), entry.signs)?;
-        let starts = trail.starts_of(all.as_slice());
-        lists.push(standing(alloc, dictionary, table, starts, entry.dot)?)?;
+        lists.push(trail.places(alloc, dictionary, table, all, entry.signs, entry.dot)?)?;
     }
     Ok(lists)
 }

@@ -82,7 +82,6 @@ fn find<W: Rounds>(
     ensures { IfOk result
         (λ found. found ≡ pruned (minima_of table.now) dictionary.now patterns.now) }
 {
-    let _count = patterns.len();
     let places = places(alloc, dictionary, table)?;
     let lists = gather(alloc, dictionary, table, patterns)?;
     let standing = lists.as_slice();

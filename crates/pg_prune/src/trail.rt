@@ -3,7 +3,7 @@ ghost use Rattle.std.specs.Prelude.{◌≡◌, ◌≤◌, ◌+◌, ◌++◌, [],
 ghost use Rattle.std.specs.List.{filter, filter_map};
 ghost use Rattle.pg_types.specs.declared.limits.TheConstants.{PATTERN_SIGNS_MAX};
 ghost use Rattle.pg_select.specs.CountedPositions.{minima_of};
-ghost use Rattle.pg_prune.specs.Inside.Trails.{IsStart, IsTrail, starts_in, all_starts as all_starts_of, continues_with as continues_with_by, last_of, place_of as place_by};
+ghost use Rattle.pg_prune.specs.Inside.Trails.{IsStart, IsTrail, starts_in, all_starts as all_starts_of, continues_with as continues_with_by, starts_of as starts_by, last_of, place_of as place_by};
 
 use pg_dict::Dictionary;
 use pg_translate::Table;
@@ -129,7 +129,7 @@ impl Trail {
 
     /// Goes to another string, where `all` are all starts. What it has in common with the last one
     /// stays.
-    pub fn go_to(
+    fn go_to(
         &mut self,
         alloc: Global,
         dictionary: &Dictionary,
@@ -155,8 +155,34 @@ impl Trail {
         Ok(())
     }
 
+    /// Goes to another string, and gives the numbers of the places at which a dot of it stands, where
+    /// `all` are all starts.
+    pub fn places(
+        &mut self,
+        alloc: Global,
+        dictionary: &Dictionary,
+        table: &Table,
+        all: &[Start],
+        signs: &[Sign],
+        dot: u8,
+    ) -> Result<Vec<usize>, AllocError>
+        requires trail { IsTrail dictionary.now all.now self.old.signs.items
+            (map (λ l. l.items) self.old.starts.items) }
+        requires known { All (IsStart dictionary.now) all.now }
+        requires few { length signs.now ≤ PATTERN_SIGNS_MAX }
+        ensures places { IfOk result (λ places. places.items ≡ filter_map
+            (place_by (minima_of table.now) dictionary.now dot)
+            (starts_by dictionary.now all.now signs.now)) }
+        ensures trail { OnOk result
+            (IsTrail dictionary.now all.now signs.now (map (λ l. l.items) self.new.starts.items)) }
+        ensures signs { OnOk result (self.new.signs.items ≡ signs.now) }
+    {
+        self.go_to(alloc, dictionary, all, signs)?;
+        standing(alloc, dictionary, table, self.starts_of(all), dot)
+    }
+
     /// The starts of the string, where `all` are all starts.
-    pub fn starts_of<'a>(&'a self, all: &'a [Start]) -> &'a [Start]
+    fn starts_of<'a>(&'a self, all: &'a [Start]) -> &'a [Start]
         ensures { result.now ≡ last_of all.now (map (λ l. l.items) self.now.starts.items) }
     {
         let len = self.starts.len();
@@ -183,7 +209,7 @@ fn place_of(dictionary: &Dictionary, table: &Table, start: Start, dot: u8) -> Op
 }
 
 /// The numbers of the places at which the dot of a string stands, by its starts.
-pub(crate) fn standing(
+fn standing(
     alloc: Global,
     dictionary: &Dictionary,
     table: &Table,

@@ -3,6 +3,7 @@ ghost use Rattle.std.specs.Prelude.{◌≡◌, ◌≤◌, ◌+◌, ◌*◌, leng
 ghost use Rattle.pg_translate.specs.Alphabets.{letters_of};
 ghost use Rattle.pg_dict.specs.Inside.SoundWords.{SignsAtMost};
 ghost use Rattle.pg_patterns.specs.Inside.PatternMaps.{SignsUpTo};
+ghost use Rattle.pg_sweep.specs.declared.limits.TheConstants.{SETS_MAX};
 ghost use Rattle.pg_sweep.specs.Sweeps.{row_of, costs_of};
 ghost use Rattle.pg_sweep.specs.Winners.{winner_of};
 ghost use Rattle.pg_sweep.specs.Inside.Given.{IsSmallFor};
@@ -46,7 +47,7 @@ pub fn sweep<K: Maker>(
     bad: u32,
     missed: u32,
 ) -> Result<Sweep, AllocError>
-    requires sets { (1 ≤ length sets.now) × (length sets.now ≤ 16) }
+    requires sets { (1 ≤ length sets.now) × (length sets.now ≤ SETS_MAX) }
     requires folds { (2 ≤ folds) × (folds ≤ 10) }
     requires bad { (1 ≤ bad) × (bad ≤ 1000) }
     requires missed { (1 ≤ missed) × (missed ≤ 1000) }

@@ -224,6 +224,7 @@ entered_whole n P at h records sound past to =
     let shares : Shares records (recorded_lists P) = subst (Shares records) lists to.shares in
     let ordered = recorded_ordered P sound.sound in
     record {
+      sound = sound;
       packed = record {
         held = to.held;
         signs = to.signs;

@@ -1,5 +1,5 @@
 -- The packed table file of patterns is well formed, and gives each string the values of the patterns.
-use Rattle.std.proofs.Common.{◌≡◌, ℕ, ◌+◌, ◌*◌, ◌<◌, ◌≤◌, inl, inr, Bool, true, false, List, [], ◌∷◌, length, map, get_or, slice_get, Option, None, Some, refl, sym, ◌∙◌, ap, subst, arith}
+use Rattle.std.proofs.Common.{◌≡◌, ℕ, Vec, Global, Result, Ok, Err, IfOk, OnOk, ◌+◌, ◌*◌, ◌<◌, ◌≤◌, inl, inr, Bool, true, false, List, [], ◌∷◌, length, map, get_or, slice_get, Option, None, Some, refl, sym, ◌∙◌, ap, subst, arith}
 use Rattle.std.specs.List.{range_with_len}
 use Rattle.std.specs.Option.{option_map}
 use Rattle.std.proofs.lemmas.Bool.{cases_lt, false≢true}
@@ -15,7 +15,9 @@ use Rattle.pg_cells.specs.Inside.ValuedFamilies.{ValuedFamilies}
 use Rattle.pg_outputs.specs.declared.records.Record.{Record}
 use Rattle.pg_outputs.specs.Lists.{list_of}
 use Rattle.pg_table.specs.declared.cell.Cell.{Cell}
-use Rattle.pg_table.specs.declared.limits.TheConstants.{TABLE_MAX}
+use Rattle.pg_table.specs.declared.error.TableError.{TableError}
+use Rattle.pg_table.specs.declared.limits.TheConstants.{CELL_LEN, HEAD_LEN, RECORD_LEN, TABLE_MAX}
+use Rattle.pg_table.specs.Inside.Laws.{HasEntries}
 use Rattle.pg_table.specs.Forms.{is_well_formed}
 use Rattle.pg_table.specs.Lookups.{lookup, table_entry}
 use Rattle.pg_table.specs.Inside.Greatest.{value_in_list}
@@ -52,9 +54,9 @@ module _ (n : ℕ) (P : List ((List ℕ × ℕ) × ℕ)) (h : ValuedFamilies ℕ
   length-records : length records ≡ length (recorded_lists P)
   length-records = length-map (recorded_lists P) (record_of (recorded_lists P))
 
-  pub length-text : length (table_text n P) ≡ 16 + 10 * (top h.families + 1) + 6 * length (recorded_lists P)
+  pub length-text : length (table_text n P) ≡ HEAD_LEN + CELL_LEN * (top h.families + 1) + RECORD_LEN * length (recorded_lists P)
   length-text =
-      ap length text_is ∙ length-file_of n cells records ∙ ap (λ k. 16 + 10 * k + 6 * length records) length-cells ∙ ap (λ k. 16 + 10 * (top h.families + 1) + 6 * k) length-records
+      ap length text_is ∙ length-file_of n cells records ∙ ap (λ k. HEAD_LEN + CELL_LEN * k + RECORD_LEN * length records) length-cells ∙ ap (λ k. HEAD_LEN + CELL_LEN * (top h.families + 1) + RECORD_LEN * k) length-records
 
   cell_there : (at : ℕ) (d : Cell) → at < top h.families + 1 → get_or cells at d ≡ cell_of_table h.families (head_in P) at
   cell_there at d inside = get_or-map-range_with_len (cell_of_table h.families (head_in P)) 0 (top h.families + 1) at at d inside (omega arith)
@@ -114,10 +116,10 @@ module _ (n : ℕ) (P : List ((List ℕ × ℕ) × ℕ)) (h : ValuedFamilies ℕ
     text_entries q d = entry_as (table_text n P) q d ∙ ap (value_in_list d) (text_lists q) ∙ entry_is P q d sound
 
 -- the length of the file
-pub text_size : (n : ℕ) (P : List ((List ℕ × ℕ) × ℕ)) (h : ValuedFamilies ℕ) (rs : List Record) → IsPatternMap P → IsEntered n P h rs → length (table_text n P) ≡ 16 + 10 * (top h.families + 1) + 6 * length rs
+pub text_size : (n : ℕ) (P : List ((List ℕ × ℕ) × ℕ)) (h : ValuedFamilies ℕ) (rs : List Record) → IsPatternMap P → IsEntered n P h rs → length (table_text n P) ≡ HEAD_LEN + CELL_LEN * (top h.families + 1) + RECORD_LEN * length rs
 text_size n P h rs sound entered =
     let size : length rs ≡ length (recorded_lists P) = ap length entered.records_are ∙ length-map (recorded_lists P) (record_of (recorded_lists P)) in
-    length-text n P h sound entered.packed ∙ ap (λ k. 16 + 10 * (top h.families + 1) + 6 * k) (sym size)
+    length-text n P h sound entered.packed ∙ ap (λ k. HEAD_LEN + CELL_LEN * (top h.families + 1) + RECORD_LEN * k) (sym size)
 
 pub length-table_cells : (n : ℕ) (P : List ((List ℕ × ℕ) × ℕ)) (h : ValuedFamilies ℕ) → IsPatternMap P → IsPacked n P h → length (table_cells n P) ≡ top h.families + 1
 length-table_cells n P h sound packed = ap length (cells_are n P h sound packed) ∙ length-cells n P h sound packed
@@ -127,16 +129,19 @@ pub text_of : (n : ℕ) (P : List ((List ℕ × ℕ) × ℕ)) (cs : List Cell) (
 unfolding table_text
 text_of n P cs rs text is cells_is records_is = is ∙ ap (λ c. file_of n c rs) cells_is ∙ ap (file_of n (table_cells n P)) records_is
 
--- bytes that are the text are a table that gives the values of the patterns
-pub sound_text : (n : ℕ) (P : List ((List ℕ × ℕ) × ℕ)) (h : ValuedFamilies ℕ) → IsPatternMap P → IsPacked n P h → 1 ≤ n → n ≤ SIGNS_MAX → length (table_text n P) ≤ TABLE_MAX → (text : List ℕ) → text ≡ table_text n P → is_well_formed text ≡ true
-sound_text n P h sound packed some few short text is = ap is_well_formed is ∙ text_sound n P h sound packed some few short
+-- a result that is the text, where there is one, is a table that gives the values of the patterns
+module _ (n : ℕ) (P : List ((List ℕ × ℕ) × ℕ)) (h : ValuedFamilies ℕ) (records : List Record) (entered : IsEntered n P h records) (some : 1 ≤ n) (few : n ≤ SIGNS_MAX) where
+  pub sound_text : (r : Result (Vec ℕ Global) TableError) → OnOk r (length (table_text n P) ≤ TABLE_MAX) → IfOk r (λ text. text.items ≡ table_text n P) → IfOk r (λ text. is_well_formed text.items ≡ true)
+  sound_text (Ok text) short is = ap is_well_formed is ∙ text_sound n P h entered.sound entered.packed some few short
+  sound_text (Err e) short is = tt
 
-pub entries_text : (n : ℕ) (P : List ((List ℕ × ℕ) × ℕ)) (h : ValuedFamilies ℕ) → IsPatternMap P → IsPacked n P h → 1 ≤ n → n ≤ SIGNS_MAX → length (table_text n P) ≤ TABLE_MAX → (text : List ℕ) → text ≡ table_text n P → (q : List ℕ) (d : ℕ) → table_entry text q d ≡ value_of P (q, d)
-entries_text n P h sound packed some few short text is q d = ap (λ b. table_entry b q d) is ∙ text_entries n P h sound packed some few short q d
+  pub entries_text : (r : Result (Vec ℕ Global) TableError) → OnOk r (length (table_text n P) ≤ TABLE_MAX) → IfOk r (λ text. text.items ≡ table_text n P) → IfOk r (λ text. HasEntries text.items P)
+  entries_text (Ok text) short is = λ q d. ap (λ b. table_entry b q d) is ∙ text_entries n P h entered.sound entered.packed some few short q d
+  entries_text (Err e) short is = tt
 
 -- a file that a test does not find too long is short enough
-pub fits : (n : ℕ) (P : List ((List ℕ × ℕ) × ℕ)) (h : ValuedFamilies ℕ) (rs : List Record) → IsPatternMap P → IsEntered n P h rs → (b : Bool) → (TABLE_MAX < 16 + 10 * (top h.families + 1) + 6 * length rs → b ≡ true) → b ≡ false → length (table_text n P) ≤ TABLE_MAX
-fits n P h rs sound entered b long fails = elim (cases_lt TABLE_MAX (16 + 10 * (top h.families + 1) + 6 * length rs)) [
+pub fits : (n : ℕ) (P : List ((List ℕ × ℕ) × ℕ)) (h : ValuedFamilies ℕ) (rs : List Record) → IsPatternMap P → IsEntered n P h rs → (b : Bool) → (TABLE_MAX < HEAD_LEN + CELL_LEN * (top h.families + 1) + RECORD_LEN * length rs → b ≡ true) → b ≡ false → length (table_text n P) ≤ TABLE_MAX
+fits n P h rs sound entered b long fails = elim (cases_lt TABLE_MAX (HEAD_LEN + CELL_LEN * (top h.families + 1) + RECORD_LEN * length rs)) [
   | inl past ↦ absurd (false≢true (sym fails ∙ long past))
   | inr low ↦ omega (arith, text_size n P h rs sound entered)
 ]

@@ -1,12 +1,11 @@
--- The form of a packed table file: a head of 16 bytes, the cells of 10 bytes each, and the records
--- of 6 bytes each.
+-- The form of a packed table file: a head, cells and records, whose sizes are constants.
 use Rattle.std.specs.Prelude.{ℕ, ◌+◌, ◌*◌, Bool, not, ◌&&◌, ◌||◌, nat_eq, nat_lt, nat_le, List, [], ◌∷◌, length, map, slice_index}
 use Rattle.std.specs.List.{list_all, range_with_len, starts_with}
 use Rattle.pg_types.specs.declared.limits.TheConstants.{LEVEL_MAX, PATTERN_SIGNS_MAX, SIGNS_MAX}
 use Rattle.pg_outputs.specs.declared.records.Record.{Record}
 use Rattle.pg_table.specs.declared.cell.Cell.{Cell}
 use Rattle.pg_table.specs.declared.head.Head.{Head}
-use Rattle.pg_table.specs.declared.limits.TheConstants.{TABLE_MAX}
+use Rattle.pg_table.specs.declared.limits.TheConstants.{CELL_LEN, HEAD_LEN, RECORD_LEN, TABLE_MAX}
 use Rattle.pg_table.specs.Numbers.{u16_at, u32_at}
 
 -- the bytes that every file begins with, `PGT1`
@@ -19,12 +18,12 @@ head_of b = record { signs = u32_at b 4; cells = u32_at b 8; records = u32_at b 
 
 -- the cell with this number
 abbrev pub cell_at : List ℕ → ℕ → Cell
-cell_at b at = let start = 16 + 10 * at in
+cell_at b at = let start = HEAD_LEN + CELL_LEN * at in
     record { sign = u16_at b start; child = u32_at b (start + 2); head = u32_at b (start + 6) }
 
 -- the record with this number, from 0; the record 0 has the head 1
 abbrev pub record_at : List ℕ → ℕ → Record
-record_at b i = let at = 16 + 10 * (head_of b).cells + 6 * i in
+record_at b i = let at = HEAD_LEN + CELL_LEN * (head_of b).cells + RECORD_LEN * i in
     record { value = slice_index b at; dot = slice_index b (at + 1); next = u32_at b (at + 2) }
 
 -- all records
@@ -33,8 +32,8 @@ records_of b = map (record_at b) (range_with_len 0 (head_of b).records)
 
 -- a file begins as it should, and its head's numbers are in range and agree with its length
 abbrev pub has_head : List ℕ → Bool
-has_head b = let h = head_of b in starts_with nat_eq b file_mark
-    && (nat_eq (length b) (16 + 10 * h.cells + 6 * h.records) && nat_le (length b) TABLE_MAX
+has_head b = let h = head_of b in starts_with nat_eq b file_mark && (nat_eq (length b)
+    (HEAD_LEN + CELL_LEN * h.cells + RECORD_LEN * h.records) && nat_le (length b) TABLE_MAX
     && nat_le 1 h.signs && nat_le h.signs SIGNS_MAX && nat_lt h.signs h.cells)
 
 -- a cell may stand here: all 0 where it is unused, its own sign in the root, numbers in range

@@ -1,5 +1,6 @@
 //! A cell of a packed table.
 ghost use Rattle.std.specs.Prelude.{◌≡◌, ◌+◌, ◌≤◌, length};
+ghost use Rattle.pg_table.specs.declared.limits.TheConstants.{CELL_LEN};
 ghost use Rattle.pg_table.specs.Forms.{cell_at, is_sound_cell};
 ghost use Rattle.pg_table.specs.Inside.Extents.{cell_start, file_len};
 
@@ -30,7 +31,7 @@ pub fn cell_start(at: u32) -> usize
 impl Cell {
     /// The cell with this number.
     pub fn read(bytes: &[u8], at: u32) -> Cell
-        requires { cell_start at + 10 ≤ length bytes.now }
+        requires { cell_start at + CELL_LEN ≤ length bytes.now }
         ensures { result ≡ cell_at bytes.now at }
     {
         let start = cell_start(at);

@@ -1,9 +1,11 @@
 //! The cells and the shared lists of patterns.
-ghost use Rattle.std.specs.Prelude.{◌≡◌, ℕ, ◌<◌, ◌≤◌, List, length, map, slice_get, Some, IfOk};
+ghost use Rattle.std.specs.Prelude.{◌≡◌, ℕ, ◌<◌, ◌≤◌, List, [], length, map, slice_get, Some, IfOk, OnOk};
 ghost use Rattle.pg_types.specs.declared.limits.TheConstants.{SIGNS_MAX};
 ghost use Rattle.pg_patterns.specs.Inside.PatternMaps.{SignsUpTo};
 ghost use Rattle.pg_outputs.specs.Lists.{list_of};
-ghost use Rattle.pg_outputs.specs.Inside.Heads.{Grows};
+ghost use Rattle.pg_outputs.specs.Inside.Heads.{Grows, OneHeadEach};
+ghost use Rattle.pg_cells.specs.Inside.Root.{root_held};
+ghost use Rattle.pg_cells.specs.Inside.AreValuedFamilies.{AreValuedFamilies};
 ghost use Rattle.pg_table.specs.Inside.Packed.{IsGroup, IsEntered, pairs};
 ghost use Rattle.pg_table.specs.Inside.Sharing.{Lists, Shares, value_and_dot, with_ends};
 
@@ -30,15 +32,32 @@ pub fn enter_all(alloc: Global, signs: u16, patterns: &PatternSet) -> Result<Pac
 {
     let mut cells = Cells::new(alloc, signs, 0)?;
     let mut outputs = Outputs::new(alloc);
+    enter_strings(patterns, &mut cells, &mut outputs)?;
+    Ok(Packed { cells, outputs })
+}
+
+/// Enters all patterns into cells and records that have none yet.
+fn enter_strings(
+    patterns: &PatternSet,
+    cells: &mut Cells<u64, FEW_SIGNS>,
+    outputs: &mut Outputs,
+) -> Result<(), AllocError>
+    requires known { SignsUpTo cells.old.signs patterns.now }
+    requires cells { cells.old ≡ root_held cells.old.signs 0 }
+    requires held { AreValuedFamilies cells.old }
+    requires outputs { outputs.old ≡ [] }
+    requires one_head { OneHeadEach outputs.old }
+    ensures { OnOk result (IsEntered cells.old.signs patterns.now cells.new outputs.new) }
+{
     let mut at = 0;
     'strings: while at < patterns.len() {
         let end = string_end(patterns, at);
-        let head = share(patterns, at, end, &mut outputs)?;
-        let cell = enter(&mut cells, patterns.entry(at).signs, 0)?;
+        let head = share(patterns, at, end, outputs)?;
+        let cell = enter(cells, patterns.entry(at).signs, 0)?;
         cells.set_value(cell, head);
         at = end;
     }
-    Ok(Packed { cells, outputs })
+    Ok(())
 }
 
 /// Where the entries end that have the string of the entry at `at`.

@@ -1,5 +1,6 @@
 //! A record of a packed table.
 ghost use Rattle.std.specs.Prelude.{◌≡◌, ◌+◌, ◌≤◌, length};
+ghost use Rattle.pg_table.specs.declared.limits.TheConstants.{RECORD_LEN};
 ghost use Rattle.pg_table.specs.Forms.{is_sound_record};
 ghost use Rattle.pg_table.specs.Inside.Extents.{record_start, read_record};
 
@@ -18,7 +19,7 @@ pub fn record_start(cells: u32, i: u32) -> usize
 
 /// The record that begins at `start`.
 pub fn read_record(bytes: &[u8], start: usize) -> Record
-    requires { start + 6 ≤ length bytes.now }
+    requires { start + RECORD_LEN ≤ length bytes.now }
     ensures { result ≡ read_record bytes.now start }
 {
     Record {

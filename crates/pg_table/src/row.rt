@@ -40,7 +40,6 @@ pub fn table_cells(
     requires records { length packed.now.outputs < 2 ^ 32 }
     ensures { IfOk result (λ row. row.items ≡ table_cells signs patterns.now) }
 {
-    let _held = packed.cells.signs();
     let mut row = vec![in alloc; UNUSED; packed.cells.top() + 1]?;
     fill(signs, patterns, packed, &mut row);
     Ok(row)
@@ -62,7 +61,6 @@ fn fill(signs: u16, patterns: &PatternSet, packed: &Packed, row: &mut [Cell])
     'patterns: for i in 0..patterns.len() {
         fill_string(&packed.cells, patterns.entry(i).signs, row);
     }
-    let _kept = patterns.len();
 }
 
 /// Fills in the cells of a string and of its fronts.

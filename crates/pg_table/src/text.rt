@@ -5,7 +5,7 @@ ghost use Rattle.pg_types.specs.declared.limits.TheConstants.{SIGNS_MAX};
 ghost use Rattle.pg_types.specs.Placement.{top};
 ghost use Rattle.pg_patterns.specs.Inside.PatternMaps.{SignsUpTo};
 ghost use Rattle.pg_table.specs.declared.error.TableError.TheVariants.{TooLong};
-ghost use Rattle.pg_table.specs.declared.limits.TheConstants.{TABLE_MAX};
+ghost use Rattle.pg_table.specs.declared.limits.TheConstants.{CELL_LEN, HEAD_LEN, RECORD_LEN, TABLE_MAX};
 ghost use Rattle.pg_table.specs.Forms.{is_well_formed};
 ghost use Rattle.pg_table.specs.Inside.Laws.{HasEntries};
 ghost use Rattle.pg_table.specs.Inside.Packed.{IsEntered};
@@ -53,13 +53,10 @@ fn packed_text(
     requires known { SignsUpTo signs patterns.now }
     requires entered { IsEntered signs patterns.now packed.now.cells packed.now.outputs }
     ensures text { IfOk result (λ text. text.items ≡ table_text signs patterns.now) }
-    ensures well_formed { IfOk result (λ text. is_well_formed text.items ≡ true) }
-    ensures values { IfOk result (λ text. HasEntries text.items patterns.now) }
     ensures short { OnOk result (length (table_text signs patterns.now) ≤ TABLE_MAX) }
     ensures too_long { IfErr result
         (λ e. e ≡ TooLong → TABLE_MAX < length (table_text signs patterns.now)) }
 {
-    let _kept = patterns.len();
     if is_too_long(packed) {
         return Err(TableError::TooLong);
     }
@@ -71,8 +68,8 @@ fn packed_text(
 /// Whether the table has more than [`TABLE_MAX`] bytes.
 fn is_too_long(packed: &Packed) -> bool
     ensures { IsTrue result
-        ↔ (TABLE_MAX < 16 + 10 * (top packed.now.cells.families + 1)
-        + 6 * length packed.now.outputs) }
+        ↔ (TABLE_MAX < HEAD_LEN + CELL_LEN * (top packed.now.cells.families + 1)
+        + RECORD_LEN * length packed.now.outputs) }
 {
     let top = packed.cells.top();
     let records = packed.outputs.len();

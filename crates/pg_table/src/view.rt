@@ -2,6 +2,7 @@
 ghost use Rattle.std.specs.Prelude.{◌≡◌, ◌+◌, ◌-◌, ◌<◌, ◌≤◌, ◌&&◌, true, false, ◌⊎◌, ℕ, [], ◌∷◌, length, slice_index, slice_index_or, slice_range, All, IfSome, MatchOption};
 ghost use Rattle.std.specs.List.{list_all, range_with_len};
 ghost use Rattle.pg_types.specs.declared.limits.TheConstants.{SIGNS_MAX, WORD_LETTERS_MAX};
+ghost use Rattle.pg_table.specs.declared.limits.TheConstants.{CELL_LEN, RECORD_LEN};
 ghost use Rattle.pg_table.specs.Lookups.{cell_has_sign, table_value};
 ghost use Rattle.pg_table.specs.Inside.ListsOf.{list_in};
 ghost use Rattle.pg_table.specs.Forms.{head_of, has_head, cell_at, is_sound_cell, is_sound_record, is_well_formed};
@@ -59,12 +60,11 @@ impl<'a> TableView<'a> {
         self.head.signs as u16
     }
 
-    /// The ten bytes of the cell with this number, or `None` exactly where there are not so many
-    /// cells.
+    /// The bytes of the cell with this number, or `None` exactly where there are not so many cells.
     pub fn cell(&self, at: u32) -> Option<&'a [u8]>
         ensures { MatchOption result ((head_of self.now).cells ≤ at)
             (λ c. (at < (head_of self.now).cells)
-            × (c.now ≡ slice_range self.now (cell_start at) (cell_start at + 10))) }
+            × (c.now ≡ slice_range self.now (cell_start at) (cell_start at + CELL_LEN))) }
     {
         if at >= self.head.cells {
             return None;
@@ -73,13 +73,13 @@ impl<'a> TableView<'a> {
         Some(&self.bytes[start..start + CELL_LEN])
     }
 
-    /// The six bytes of the record with this head, or `None` exactly where the head is 0 or greater
-    /// than the number of records.
+    /// The bytes of the record with this head, or `None` exactly where the head is 0 or greater than
+    /// the number of records.
     pub fn output_at(&self, head: u32) -> Option<&'a [u8]>
         ensures { let start = record_start (head_of self.now).cells (head - 1) in
             MatchOption result ((head ≡ 0) ⊎ ((head_of self.now).records < head))
             (λ r. (0 < head) × (head ≤ (head_of self.now).records)
-            × (r.now ≡ slice_range self.now start (start + 6))) }
+            × (r.now ≡ slice_range self.now start (start + RECORD_LEN))) }
     {
         let i = head.checked_sub(1)?;
         if i >= self.head.records {
@@ -107,7 +107,7 @@ impl<'a> TableView<'a> {
 impl TableView<'_> {
     /// The cell of the sign in the family at the base, or `None` where the family does not have it.
     pub(crate) fn find(&self, base: u32, s: Sign) -> Option<Cell>
-        requires { base < (head_of self.now).cells }
+        requires { base ≤ (head_of self.now).cells }
         ensures cell { MatchOption result (cell_has_sign self.now base s ≡ false)
             (λ c. (cell_has_sign self.now base s ≡ true) × (c ≡ cell_at self.now (base + s))) }
         ensures within { IfSome result (λ c.

@@ -33,7 +33,6 @@ fn take_strings(view: &TableView<'_>, w: &[Sign], start: usize, out: &mut WordSt
         (values_of out.old) (values_of out.new) }
     ensures uncovered { IsUncovered out.new }
 {
-    let _signs = view.signs();
     let mut base = 0;
     for stop in start..w.len().min(start + PATTERN_SIGNS_MAX) {
         let Some(cell) = view.find(base, w[stop]) else {

@@ -5,6 +5,7 @@ use Rattle.std.proofs.lemmas.Bool.{agree_below_at, and_parts, not-true, eqb-true
 use Rattle.std.proofs.lemmas.List.{append_assoc}
 use Rattle.pg_translate.specs.Inside.FirstSpellings.{letters_in}
 use Rattle.pg_translate.specs.Spellings.{clash}
+use Rattle.pg_translate.specs.declared.head.TheConstants.{A_TO_Z}
 use Rattle.pg_translate.specs.Tables.{default_letter}
 
 -- the first letters of the default table
@@ -23,9 +24,9 @@ pub record FitsNext (n : ℕ) : Type 0 where
   pub small : list_any (clash (n + 2, (97 + n) ∷ [])) (defaults n) ≡ false
   pub capital : list_any (clash (n + 2, (65 + n) ∷ [])) (defaults n ++ (n + 2, (97 + n) ∷ []) ∷ []) ≡ false
 
-pub default_fits : (n : ℕ) → n < 26 → FitsNext n
+pub default_fits : (n : ℕ) → n < A_TO_Z → FitsNext n
 default_fits n below =
-    let all : fits_next n ≡ true = agree_below_at fits_next (λ k. true) 26 n refl below in
+    let all : fits_next n ≡ true = agree_below_at fits_next (λ k. true) A_TO_Z n refl below in
     let parts : ((letters_in (defaults n) == n) ≡ true) × ((not (list_any (clash (n + 2, (97 + n) ∷ [])) (defaults n)) && not (list_any (clash (n + 2, (65 + n) ∷ [])) (defaults n ++ (n + 2, (97 + n) ∷ []) ∷ []))) ≡ true) = and_parts _ _ all in
     let tests : (not (list_any (clash (n + 2, (97 + n) ∷ [])) (defaults n)) ≡ true) × (not (list_any (clash (n + 2, (65 + n) ∷ [])) (defaults n ++ (n + 2, (97 + n) ∷ []) ∷ [])) ≡ true) = and_parts _ _ parts.1 in
     record { letters = eqb-true _ _ parts.0; small = not-true _ tests.0; capital = not-true _ tests.1 }

@@ -8,7 +8,7 @@ use Rattle.pg_types.specs.declared.refusals.Refusal.{Refusal}
 use Rattle.pg_types.specs.Lines.{lines, pieces_at}
 use Rattle.pg_types.specs.Parameters.{number, has_byte}
 use Rattle.pg_types.specs.Reading.{refusal_at, unless}
-use Rattle.pg_translate.specs.declared.head.TheConstants.{DEFAULT_LEFT, DEFAULT_RIGHT, DEFAULT_ERROR, DEFAULT_MISSED, DEFAULT_FOUND, DEFAULT_DONT_CARE}
+use Rattle.pg_translate.specs.declared.head.TheConstants.{DEFAULT_LEFT, DEFAULT_RIGHT, DEFAULT_ERROR, DEFAULT_MISSED, DEFAULT_FOUND, DEFAULT_DONT_CARE, A_TO_Z}
 use Rattle.pg_translate.specs.Alphabets.{Alphabet}
 use Rattle.pg_translate.specs.Spellings.{is_space, is_spelling, clash}
 use Rattle.std.specs.Char.{is_ascii_digit}
@@ -120,7 +120,7 @@ default_letter n = (n + 2, (97 + n) ∷ []) ∷ (n + 2, (65 + n) ∷ []) ∷ []
 -- the default table: minima and marks as where the head is empty, and the letters a to z
 abbrev pub default_alphabet : Alphabet
 default_alphabet =
-    record (alphabet_of [] []) { spellings = flat_map default_letter (range_with_len 0 26) }
+    record (alphabet_of [] []) { spellings = flat_map default_letter (range_with_len 0 A_TO_Z) }
 
 -- the table of a file of some size with these lines; a file of no bytes means the default table
 abbrev pub table_of : ℕ → List (List ℕ) → Result Alphabet Refusal

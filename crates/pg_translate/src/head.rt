@@ -27,6 +27,9 @@ pub const DEFAULT_FOUND: u8 = b'*';
 /// The byte for a don't-care position where the head has a blank.
 pub const DEFAULT_DONT_CARE: u8 = b'?';
 
+/// How many letters there are from a to z, which are those of the default table.
+pub const A_TO_Z: u8 = 26;
+
 /// The minima and the mark bytes of a table.
 #[derive(Clone, Copy)]
 pub(crate) struct Head {

@@ -2,6 +2,7 @@
 //! clashes, in a look-up for each byte.
 ghost use Rattle.std.specs.Prelude.{◌≡◌, ℕ, ◌+◌, ◌<◌, ◌≤◌, false, ◌++◌, ◌==◌, if◌then◌else◌, ◌∷◌, [], List, length, MatchOption, IfSome, IfOk, OnOk, Some, None, slice_get, map};
 ghost use Rattle.std.specs.List.{list_any, flat_map, range_with_len};
+ghost use Rattle.pg_translate.specs.declared.head.TheConstants.{A_TO_Z};
 ghost use Rattle.pg_translate.specs.Tables.{default_letter};
 ghost use Rattle.std.specs.Option.{option_or};
 ghost use Rattle.pg_translate.specs.Spellings.{clash};
@@ -10,6 +11,7 @@ ghost use Rattle.pg_translate.specs.Tokens.{letter_at};
 ghost use Rattle.pg_translate.specs.Tokens as token;
 ghost use Rattle.pg_translate.specs.Inside.Fronts.{pairs, firsts_of, front_at, front_code, front_of, AreBytes, IsIndex};
 
+use crate::head::A_TO_Z;
 use crate::spellings::{SPELLING_MAX, Text};
 use pg_types::Sign;
 use std::alloc::{AllocError, Global};
@@ -213,7 +215,7 @@ impl Index {
 
     /// Adds a small letter of ASCII by its number, counted from 0 for a, and its capital.
     fn add_default(&mut self, n: u8) -> Result<(), AllocError>
-        requires number { n < 26 }
+        requires number { n < A_TO_Z }
         requires sound { IsIndex self.old }
         requires before { pairs self.old ≡ flat_map default_letter (range_with_len 0 n) }
         ensures spellings { OnOk result
@@ -229,11 +231,11 @@ impl Index {
     /// The letters a to z, each with its capital as its second spelling.
     pub(crate) fn default_letters(alloc: Global) -> Result<Index, AllocError>
         ensures spellings { IfOk result
-            (λ index. pairs index ≡ flat_map default_letter (range_with_len 0 26)) }
+            (λ index. pairs index ≡ flat_map default_letter (range_with_len 0 A_TO_Z)) }
         ensures sound { IfOk result IsIndex }
     {
         let mut index = Index::new(alloc);
-        'letters: for n in 0..26 {
+        'letters: for n in 0..A_TO_Z {
             index.add_default(n)?;
         }
         Ok(index)

@@ -1,6 +1,5 @@
 -- What the needs of patterns keep.
 use Rattle.std.specs.Prelude.{◌≡◌, ◌≤◌, length, All}
-use Rattle.pg_translate.specs.Reach.{positions}
 use Rattle.pg_prune.specs.declared.pruned.Need.{Need}
 use Rattle.pg_prune.specs.Prunes.{Found}
 

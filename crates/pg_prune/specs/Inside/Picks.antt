@@ -42,5 +42,4 @@ pub record RoundDone (places : List WordPlace) (P : Patterns)
 pub record RoundsStart (places : List WordPlace) (P : Patterns)
     (stands : List (List ℕ)) (holders : List (List ℕ)) : Type 0 where
   pub all : stands ≡ places_of_entries places P
-  pub sound : list_all is_entry P ≡ true
   pub tallied : IsTallied places P holders

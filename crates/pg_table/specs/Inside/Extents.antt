@@ -4,16 +4,16 @@ use Rattle.std.specs.Prelude.{ℕ, ◌+◌, ◌*◌, Bool, ◌&&◌, nat_eq, nat
 use Rattle.pg_types.specs.declared.limits.TheConstants.{SIGNS_MAX}
 use Rattle.pg_outputs.specs.declared.records.Record.{Record}
 use Rattle.pg_table.specs.declared.head.Head.{Head}
-use Rattle.pg_table.specs.declared.limits.TheConstants.{TABLE_MAX}
+use Rattle.pg_table.specs.declared.limits.TheConstants.{CELL_LEN, HEAD_LEN, RECORD_LEN, TABLE_MAX}
 use Rattle.pg_table.specs.Numbers.{u32_at}
 
 -- where a cell begins
 abbrev pub cell_start : ℕ → ℕ
-cell_start at = 16 + 10 * at
+cell_start at = HEAD_LEN + CELL_LEN * at
 
 -- where the record with the number i begins, behind n cells
 abbrev pub record_start : ℕ → ℕ → ℕ
-record_start n i = cell_start n + 6 * i
+record_start n i = cell_start n + RECORD_LEN * i
 
 -- the record that begins at a place
 abbrev pub read_record : List ℕ → ℕ → Record
@@ -26,7 +26,7 @@ read_record b start =
 
 -- the length of a file with this head
 abbrev pub file_len : Head → ℕ
-file_len h = 16 + 10 * h.cells + 6 * h.records
+file_len h = HEAD_LEN + CELL_LEN * h.cells + RECORD_LEN * h.records
 
 -- the numbers of a head are in their ranges, and agree with the length of the file
 abbrev pub fits_head : Head → ℕ → Bool

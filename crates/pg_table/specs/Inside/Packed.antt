@@ -5,6 +5,7 @@ use Rattle.std.specs.Cmp.Lexicographic.{slice_cmp}
 use Rattle.std.specs.FinMap.{find}
 use Rattle.pg_types.specs.Placement.{cell_of}
 use Rattle.pg_types.specs.Tails.{outputs_of}
+use Rattle.pg_patterns.specs.Inside.PatternMaps.{IsPatternMap}
 use Rattle.pg_outputs.specs.declared.records.Record.{Record}
 use Rattle.pg_cells.specs.Inside.ValuedFamilies.{ValuedFamilies}
 use Rattle.pg_cells.specs.Inside.AreValuedFamilies.{AreValuedFamilies}
@@ -38,6 +39,7 @@ IsReached P n q = (length q ≤ 1) ⊎
 -- all patterns are entered: the strings with cells are theirs, with the heads of their lists
 pub record IsEntered (n : ℕ) (P : List ((List ℕ × ℕ) × ℕ))
     (h : ValuedFamilies ℕ) (records : List Record) : Type 0 where
+  pub sound : IsPatternMap P
   pub packed : IsPacked n P h
   pub heads : (q : List ℕ) (v : ℕ) → find (slice_cmp nat_cmp) q h.values ≡ Some v → v ≡ head_in P q
   pub reached : (q : List ℕ) (v : ℕ) → find (slice_cmp nat_cmp) q h.values ≡ Some v

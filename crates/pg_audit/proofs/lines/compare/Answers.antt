@@ -73,3 +73,6 @@ returns-else-is_empty-clause-least c = is_least _ _ _ (returns-else-is_empty-cla
 
 pub returns-else-is_empty-clause-missing : goal.returns-else-is_empty-clause-missing
 returns-else-is_empty-clause-missing c = missing_where c.args.given.now c.args.wanted.now _ (returns-else-is_empty-clause-answer c)
+
+pub lines-init : goal.lines-init
+lines-init c = record { answer = refl; low = omega arith; room = omega arith }

@@ -1,4 +1,7 @@
-use Rattle.std.proofs.Common.{◌≡◌, ◌∙◌, ◌∷◌, ◌++◌, [], List, ℕ, true, get_or, take, sym, ap, subst}
+use Rattle.std.proofs.lemmas.Result.{IfOk-from_err}
+use Rattle.pg_patterns.specs.DottedSigns.{dotted_cmp}
+use Rattle.std.specs.FinMap.Entries.{is_sorted}
+use Rattle.std.proofs.Common.{◌≡◌, ◌∙◌, ◌∷◌, ◌++◌, [], List, ℕ, true, get_or, take, sym, ap, subst, T}
 use Rattle.std.proofs.lemmas.List.{take_all}
 use Rattle.std.proofs.lemmas.Option.{get_or_from_slice_get}
 use Rattle.std.specs.List.{list_all}
@@ -24,3 +27,14 @@ pub from_entries-requires : goal.from_entries-requires
 from_entries-requires c =
     let whole = c.entries.invariant ∙ ap (picked_entries c.args.patterns.now) (take_all c.entries.i-index c.args.kept.now c.entries-test.false) in
     subst (λ es. list_all is_entry es ≡ true) (sym whole) c.requires.map.sound
+
+pub new-requires : goal.new-requires
+new-requires c = c.entry-entry.ensures.few
+
+pub returns-in_err-push : goal.returns-in_err-push
+returns-in_err-push c = IfOk-from_err c.from_residual.result _ c.from_residual.ensures.0
+
+pub returns : goal.returns
+returns c =
+    let whole = c.entries.invariant ∙ ap (picked_entries c.args.patterns.now) (take_all c.entries.i-index c.args.kept.now c.entries-test.false) in
+    c.from_entries.ensures.in_order (subst (λ es. T (is_sorted dotted_cmp es)) (sym whole) c.requires.map.sorted) ∙ whole

@@ -13,7 +13,7 @@ settle-requires g c =
     let stands = ap (map (λ l. l.items)) c.as_slice-standing.ensures.value ∙ c.in_ok-lists.ensures in
     let many : c.len.result ≡ length xs = c.len.ensures ∙ c.in_ok-places.places.ok.0 ∙ ap length c.in_ok-places.ensures ∙ length-map xs need_at in
     let tallied = c.in_ok-all.ensures xs (record { all = stands; many = many }) in
-    (m, (ws, (c.as_slice.ensures.value ∙ c.in_ok-places.ensures, record { all = stands; sound = c.len-count.ensures.kept.sound; tallied = c.as_mut_slice.ensures.value ∙ tallied })))
+    (m, (ws, (c.as_slice.ensures.value ∙ c.in_ok-places.ensures, record { all = stands; tallied = c.as_mut_slice.ensures.value ∙ tallied })))
 
 pub returns : goal.returns
 returns g c =
@@ -23,4 +23,4 @@ returns g c =
     let stands = ap (map (λ l. l.items)) c.as_slice-standing.ensures.value ∙ c.in_ok-lists.ensures in
     let many : c.len.result ≡ length xs = c.len.ensures ∙ c.in_ok-places.places.ok.0 ∙ ap length c.in_ok-places.ensures ∙ length-map xs need_at in
     let tallied = c.in_ok-all.ensures xs (record { all = stands; many = many }) in
-    c.settle.ensures m ws (c.as_slice.ensures.value ∙ c.in_ok-places.ensures) (record { all = stands; sound = c.len-count.ensures.kept.sound; tallied = c.as_mut_slice.ensures.value ∙ tallied })
+    c.settle.ensures m ws (c.as_slice.ensures.value ∙ c.in_ok-places.ensures) (record { all = stands; tallied = c.as_mut_slice.ensures.value ∙ tallied })

@@ -1,4 +1,7 @@
-use Rattle.std.proofs.Common.{◌≡◌, ◌<◌, ◌-◌, ◌^◌, ◌∙◌, ◌∷◌, ◌++◌, [], map, take, drop, length, ap, sym, subst, arith}
+use Rattle.std.proofs.lemmas.Result.{IfOk-from_err}
+use Rattle.pg_prune.specs.Inside.Standing.{places_of_entry}
+use Rattle.std.proofs.lemmas.List.{length-map, take_all}
+use Rattle.std.proofs.Common.{◌≡◌, ◌<◌, ◌-◌, ◌^◌, ◌∙◌, ◌∷◌, ◌++◌, [], map, take, drop, length, ap, sym, subst, arith, ◌≤◌}
 use Rattle.std.proofs.Math.Seq.{take-append_seam}
 use Rattle.std.specs.Prelude.{replicate}
 use Rattle.pg_select.specs.Windows.{Patterns}
@@ -40,3 +43,25 @@ entries-preserved c = λ places g.
     let size : c.entries.holders.len ≡ length new = omega (arith, c.entries.holders.ok.0) in
     let whole : take c.entries.holders.len (new ++ drop (length new) c.entries.holders.items) ≡ new = ap (λ n. take n (new ++ drop (length new) c.entries.holders.items)) size ∙ take-append_seam new (drop (length new) c.entries.holders.items) in
     whole ∙ added ∙ ap (λ (Q : Patterns). map (holder_counts Q) places) (sym (with_next places P c.entries.i inside))
+
+pub places-init : goal.places-init
+places-init c = c.new-holders.ensures.items
+
+pub returns-in_err-push : goal.returns-in_err-push
+returns-in_err-push c = λ places g. IfOk-from_err c.from_residual.result _ c.from_residual.ensures.0
+
+pub entry-value-requires : goal.entry-value-requires
+entry-value-requires c = omega (arith, c.len-i-end.ensures.value)
+
+pub bounds-standing-i : goal.bounds-standing-i
+bounds-standing-i c =
+    let many : length c.args.standing.now ≡ length c.args.patterns.now = sym (length-map c.args.standing.now (λ v. v.items)) ∙ ap length c.requires.1.all ∙ length-map c.args.patterns.now (places_of_entry c.requires.0) in
+    omega (arith, c.len-i-end.ensures.value)
+
+pub offset_bounds-standing-i : goal.offset_bounds-standing-i
+offset_bounds-standing-i c = let within : c.entries.i < length c.args.standing.now = bounds-standing-i c in omega arith
+
+pub returns : goal.returns
+returns c = λ places g.
+    let behind : length c.args.patterns.now ≤ c.entries.i = omega (arith, c.len-i-end.ensures.value) in
+    c.entries.invariant places g ∙ ap (λ (Q : Patterns). map (holder_counts Q) places) (take_all c.entries.i c.args.patterns.now behind)

@@ -11,7 +11,7 @@ rounds-init g c = (
       let P = c.args.patterns.now in
       let stands = map (λ v. v.items) c.args.standing.now in
       let all : c.in_ok-kept.kept.items ≡ range_with_len 0 (length P) = c.in_ok-kept.ensures ∙ ap (range_with_len 0) c.len.ensures.value in
-      subst (λ ks. RoundsSoFar places P stands c.args.holders.now ks 0) (sym all) (rounds_begin places P stands c.args.holders.now s),
+      subst (λ ks. RoundsSoFar places P stands c.args.holders.now ks 0) (sym all) (rounds_begin places P stands c.args.holders.now c.len.ensures.kept.sound s),
 )
 
 pub round-requires : goal.round-requires

@@ -1,3 +1,4 @@
+use Rattle.std.proofs.lemmas.Result.{IfOk-from_err}
 use Rattle.std.proofs.Common.{◌≡◌, ◌<◌, ◌+◌, ◌∙◌, ◌∷◌, ◌++◌, [], length, get_or, take, drop, sym, subst, ap, arith}
 use Rattle.std.proofs.lemmas.List.{length-map, append-nil}
 use Rattle.pg_prune.specs.Prunes.{need_at}
@@ -11,13 +12,6 @@ use Rattle.pg_prune.proofs.rounds.needs.Goals.{in-Some+in_ok-push, in_default}
 
 pub entries-init : goal.entries-init
 entries-init c = λ all is s. subst (λ found. NeedsSoFar all c.args.patterns.now c.args.kept.now found 0) (sym c.new-needs.ensures.items) (needs_begin all c.args.patterns.now c.args.kept.now)
-
-pub offset_bounds-standing-i : goal.offset_bounds-standing-i
-offset_bounds-standing-i c =
-    let s = c.requires.2 in
-    let inside : get_or c.args.kept.now c.entries.i-index 0 < length c.args.patterns.now = s.within c.entries.i-index 0 c.entries-test.true in
-    let many : length c.args.standing.now ≡ length c.args.patterns.now = sym (length-map c.args.standing.now (λ v. v.items)) ∙ ap length s.all ∙ length-map c.args.patterns.now (places_of_entry c.requires.0) in
-    omega arith
 
 pub first_need-requires : goal.first_need-requires
 first_need-requires c =
@@ -60,3 +54,19 @@ entries-preserved c = λ all is s.
 
 pub returns : goal.returns
 returns c = λ all is s. needs_end all c.args.patterns.now c.args.kept.now c.entries.needs.items c.entries.i-index c.entries-test.false (c.entries.invariant all is s)
+
+pub entry-value-requires : goal.entry-value-requires
+entry-value-requires c = c.requires.2.within c.entries.i-index 0 c.entries-test.true
+
+pub bounds-standing-i : goal.bounds-standing-i
+bounds-standing-i c =
+    let s = c.requires.2 in
+    let inside : get_or c.args.kept.now c.entries.i-index 0 < length c.args.patterns.now = s.within c.entries.i-index 0 c.entries-test.true in
+    let many : length c.args.standing.now ≡ length c.args.patterns.now = sym (length-map c.args.standing.now (λ v. v.items)) ∙ ap length s.all ∙ length-map c.args.patterns.now (places_of_entry c.requires.0) in
+    omega arith
+
+pub returns-in_err-push : goal.returns-in_err-push
+returns-in_err-push c = λ all is s. IfOk-from_err c.from_residual.result _ c.from_residual.ensures.0
+
+pub offset_bounds-standing-i : goal.offset_bounds-standing-i
+offset_bounds-standing-i c = let within : get_or c.args.kept.now c.entries.i-index 0 < length c.args.standing.now = bounds-standing-i c in omega arith

@@ -1,4 +1,7 @@
-use Rattle.std.proofs.Common.{◌∙◌, ◌+◌, if◌then◌else◌, map, get_or, drop, sym, subst, ap}
+use Rattle.std.proofs.lemmas.Result.{IfOk-from_err}
+use Rattle.pg_prune.specs.Inside.Standing.{places_of_entry}
+use Rattle.std.proofs.lemmas.List.{length-map}
+use Rattle.std.proofs.Common.{◌∙◌, ◌+◌, if◌then◌else◌, map, get_or, drop, sym, subst, ap, ◌≡◌, ◌<◌, length, arith}
 use Rattle.pg_prune.specs.Inside.Turns.{with_entry, without_entry, IsTallied}
 use Rattle.pg_prune.proofs.RoundSteps.{Rounding, rounding_begins, rounding_at, turn_at, turn_of, rounding_goes, rounding_stays, rounding_ends}
 use Rattle.pg_prune.proofs.TurnSteps.{none_left}
@@ -51,3 +54,19 @@ pub returns : goal.returns
 returns c = λ places s.
     rounding_ends places c.args.patterns.now (map (λ v. v.items) c.args.standing.now) c.args.kept.now c.args.holders.now c.entries.holders c.entries.stay.items s
     (subst (λ left. Rounding places c.args.patterns.now c.args.kept.now c.entries.holders c.entries.stay.items left) (none_left c.args.kept.now c.entries.i-index c.entries-test.false) (c.entries.invariant places s))
+
+pub entry-value-requires : goal.entry-value-requires
+entry-value-requires c = c.requires.1.within c.entries.i-index 0 c.entries-test.true
+
+pub bounds-standing-i : goal.bounds-standing-i
+bounds-standing-i c =
+    let s = c.requires.1 in
+    let inside : get_or c.args.kept.now c.entries.i-index 0 < length c.args.patterns.now = s.within c.entries.i-index 0 c.entries-test.true in
+    let many : length c.args.standing.now ≡ length c.args.patterns.now = sym (length-map c.args.standing.now (λ v. v.items)) ∙ ap length s.all ∙ length-map c.args.patterns.now (places_of_entry c.requires.0) in
+    omega arith
+
+pub offset_bounds-standing-i : goal.offset_bounds-standing-i
+offset_bounds-standing-i c = let within : get_or c.args.kept.now c.entries.i-index 0 < length c.args.standing.now = bounds-standing-i c in omega arith
+
+pub returns-in_err-push : goal.returns-in_err-push
+returns-in_err-push c = λ places s. IfOk-from_err c.from_residual.result _ c.from_residual.ensures.0

@@ -1,9 +1,12 @@
-use Rattle.std.proofs.Common.{◌≡◌, ◌+◌, ◌*◌, ◌++◌, ◌∷◌, [], ◌∙◌, ap}
+use Rattle.std.proofs.Common.{◌≡◌, ◌≤◌, ◌+◌, ◌*◌, ◌++◌, ◌∷◌, [], List, length, map, ◌∙◌, ap, sym, arith}
+use Rattle.std.proofs.lemmas.List.{length-map, take_all}
 use Rattle.std.specs.Prelude.{slice_index_or}
 use Rattle.pg_types.specs.Parameters.{Parameters}
 use Rattle.pg_types.specs.declared.marks.Totals.{Totals}
 use Rattle.pg_sweep.specs.declared.rows.SweepRow.{SweepRow}
-use Rattle.pg_sweep.specs.Sweeps.{Terms, row_of}
+use Rattle.pg_sweep.specs.Sweeps.{Terms, row_of, costs_of}
+use Rattle.pg_sweep.specs.Winners.{winner_of}
+use Rattle.pg_sweep.specs.Inside.Found.{Found}
 use Rattle.pg_sweep.proofs.Steps.{map_more}
 use Rattle.pg_sweep.proofs.sets.sweep.Goals as goal
 
@@ -17,3 +20,33 @@ sets-preserved g c =
     ∙ ap (λ (r : SweepRow). c.sets.rows.items ++ r ∷ []) (row ∙ ap priced c.in_ok-totals.ensures.value)
     ∙ ap (λ (set : Parameters). c.sets.rows.items ++ row_of terms c.args.bad c.args.missed set ∷ []) at
     ∙ map_more (row_of terms c.args.bad c.args.missed) c.args.sets.now c.sets.rows.items c.sets.i c.index-sets-i.result c.sets-test.true c.sets.invariant
+
+pub sets-init : goal.sets-init
+sets-init g c = c.new-rows.ensures.items
+
+pub totals_of_set-requires : goal.totals_of_set-requires
+totals_of_set-requires g c = record { signs = (c.requires.signs, c.requires.known) }
+
+pub priced-requires-clause-small : goal.priced-requires-clause-small
+priced-requires-clause-small g c = (omega (arith, c.in_ok-totals.ensures.small.0), omega (arith, c.in_ok-totals.ensures.small.1), omega (arith, c.in_ok-totals.ensures.small.2))
+
+pub priced-requires-clause-prices : goal.priced-requires-clause-prices
+priced-requires-clause-prices g c = (c.requires.bad.1, c.requires.missed.1)
+
+pub new-requires : goal.new-requires
+new-requires g c =
+    let terms : Terms = record { table = c.args.table.now; words = c.args.dictionary.now; start = c.args.start.now; folds = c.args.folds } in
+    let row : Parameters → SweepRow = row_of terms c.args.bad c.args.missed in
+    let past : length c.args.sets.now ≤ c.sets.i = omega arith in
+    let count : length c.sets.rows.items ≡ length c.args.sets.now = ap length (c.sets.invariant ∙ ap (map row) (take_all c.sets.i c.args.sets.now past)) ∙ length-map c.args.sets.now row in
+    omega (arith, c.requires.sets.0)
+
+pub returns-clause-rows : goal.returns-clause-rows
+returns-clause-rows g c =
+    let terms : Terms = record { table = c.args.table.now; words = c.args.dictionary.now; start = c.args.start.now; folds = c.args.folds } in
+    let past : length c.args.sets.now ≤ c.sets.i = omega arith in
+    ap (λ (f : Found). f.rows) c.new.ensures ∙ c.sets.invariant ∙ ap (map (row_of terms c.args.bad c.args.missed)) (take_all c.sets.i c.args.sets.now past)
+
+pub returns-clause-winner : goal.returns-clause-winner
+returns-clause-winner g c =
+    ap (λ (f : Found). f.winner) c.new.ensures ∙ ap (λ (rows : List SweepRow). winner_of (costs_of rows)) (sym (ap (λ (f : Found). f.rows) c.new.ensures))

@@ -1,54 +1,27 @@
-use Rattle.std.proofs.Common.{◌<◌, ◌≤◌, ℕ, [], length, get_or, All, sym, subst, arith}
-use Rattle.std.proofs.lemmas.Option.{slice_get-get_or}
+use Rattle.std.proofs.Common.{◌≡◌, ℕ, ap, sym, subst, ◌∙◌}
+use Rattle.pg_patterns.specs.Inside.PatternMaps.{SignsUpTo}
+use Rattle.pg_cells.specs.Inside.Root.{root_held}
 use Rattle.pg_cells.specs.Inside.ValuedFamilies.{ValuedFamilies}
-use Rattle.pg_cells.specs.Inside.AreValuedFamilies.{AreValuedFamilies}
-use Rattle.pg_table.proofs.Groups.{Entry}
-use Rattle.pg_table.proofs.EnteredStrings.{EnteredTo, entered_none, entered_string, entered_whole, signs_within}
+use Rattle.pg_table.specs.Inside.Packed.{IsEntered}
 use Rattle.pg_table.proofs.entering.enter_all.Goals as goal
 
-pub strings-init : goal.strings-init
-strings-init c =
-    subst (λ (h : ValuedFamilies ℕ). EnteredTo c.args.signs c.args.patterns.now 0 h c.new-outputs.result) (sym c.in_ok-cells.ensures.held)
-    (entered_none c.args.signs c.args.patterns.now c.new-outputs.result c.new-outputs.ensures.empty c.new-outputs.ensures.one_head (subst (λ (h : ValuedFamilies ℕ). AreValuedFamilies h) c.in_ok-cells.ensures.held c.in_ok-cells.ensures.kept))
+signs_of : (h : ValuedFamilies ℕ) (n : ℕ) → h ≡ root_held n 0 → h.signs ≡ n
+signs_of h n is = ap (λ (g : ValuedFamilies ℕ). g.signs) is
 
--- some entry
-abbrev none : Entry
-none = (([], 0), 0)
+pub enter_strings-requires-clause-known : goal.enter_strings-requires-clause-known
+enter_strings-requires-clause-known c = subst (λ n. SignsUpTo n c.args.patterns.now) (sym (signs_of c.in_ok-cells.cells c.args.signs c.in_ok-cells.ensures.held)) c.requires.known
 
-pub share-requires-clause-order : goal.share-requires-clause-order
-share-requires-clause-order c =
-    let e : Entry = get_or c.args.patterns.now c.strings.at none in
-    let inside : c.strings.at < length c.args.patterns.now = omega (arith, c.len.ensures.value) in
-    let group = c.string_end-end.ensures e (slice_get-get_or c.args.patterns.now c.strings.at none inside) in
-    omega (arith, group.some)
+pub enter_strings-requires-clause-cells : goal.enter_strings-requires-clause-cells
+enter_strings-requires-clause-cells c = c.in_ok-cells.ensures.held ∙ ap (λ n. root_held n 0) (sym (signs_of c.in_ok-cells.cells c.args.signs c.in_ok-cells.ensures.held))
 
-pub share-requires-clause-within : goal.share-requires-clause-within
-share-requires-clause-within c =
-    let e : Entry = get_or c.args.patterns.now c.strings.at none in
-    let inside : c.strings.at < length c.args.patterns.now = omega (arith, c.len.ensures.value) in
-    let group = c.string_end-end.ensures e (slice_get-get_or c.args.patterns.now c.strings.at none inside) in
-    group.within
+pub enter_strings-requires-clause-held : goal.enter_strings-requires-clause-held
+enter_strings-requires-clause-held c = c.in_ok-cells.ensures.kept
 
-pub enter-requires : goal.enter-requires
-enter-requires c =
-    let known : All (λ s. (1 ≤ s) × (s ≤ c.strings.cells.signs)) c.entry.result.signs.now =
-    subst (λ n. All (λ s. (1 ≤ s) × (s ≤ n)) c.entry.result.signs.now) (sym c.strings.invariant.signs)
-    (signs_within c.args.signs c.args.patterns.now c.strings.at ((c.entry.result.signs.now, c.entry.result.dot), c.entry.result.value) c.requires.known c.entry.ensures.value c.entry.ensures.signs) in
-    (omega arith, (c.entry.ensures.some, known))
+pub enter_strings-requires-clause-outputs : goal.enter_strings-requires-clause-outputs
+enter_strings-requires-clause-outputs c = c.new-outputs.ensures.empty
 
-pub strings-smaller : goal.strings-smaller
-strings-smaller c =
-    let group = c.string_end-end.ensures ((c.entry.result.signs.now, c.entry.result.dot), c.entry.result.value) c.entry.ensures.value in
-    omega (arith, group.some, group.within, c.len.ensures.value)
-
-pub strings-preserved : goal.strings-preserved
-strings-preserved c =
-    let q = c.entry.result.signs.now in
-    let group = c.string_end-end.ensures ((c.entry.result.signs.now, c.entry.result.dot), c.entry.result.value) c.entry.ensures.value in
-    entered_string c.args.signs c.args.patterns.now c.len.ensures.kept c.strings.at c.string_end-end.result q group c.strings.cells c.enter.new.cells c.set_value.new.self c.strings.outputs c.share.new.outputs c.in_ok-head.head c.in_ok-cell.cell c.strings.invariant
-    c.in_ok-head.ensures.grows c.in_ok-head.ensures.inside c.in_ok-head.ensures.list c.in_ok-head.ensures.shares
-    c.in_ok-cell.ensures.held c.in_ok-cell.ensures.signs c.in_ok-cell.ensures.families c.in_ok-cell.ensures.blanks c.in_ok-cell.ensures.cell
-    c.set_value.ensures.kept (c.set_value.ensures.held q c.in_ok-cell.ensures.cell)
+pub enter_strings-requires-clause-one_head : goal.enter_strings-requires-clause-one_head
+enter_strings-requires-clause-one_head c = c.new-outputs.ensures.one_head
 
 pub returns : goal.returns
-returns c = entered_whole c.args.signs c.args.patterns.now c.strings.at c.strings.cells c.strings.outputs c.len.ensures.kept (omega (arith, c.len.ensures.value)) c.strings.invariant
+returns c = subst (λ n. IsEntered n c.args.patterns.now c.enter_strings.new.cells c.enter_strings.new.outputs) (signs_of c.in_ok-cells.cells c.args.signs c.in_ok-cells.ensures.held) c.in_ok-enter_strings.ensures

@@ -6,7 +6,6 @@ use Rattle.pg_table.specs.Lookups.{cell_has_sign, lookup, lookup_from}
 use Rattle.pg_table.specs.Inside.ListsOf.{list_in}
 use Rattle.pg_select.specs.Inside.Positions.{values_of, Raises}
 use Rattle.pg_table.specs.Inside.Raising.{by_record_list, by_strings}
-use Rattle.pg_table.proofs.FormLaws.{form_told}
 use Rattle.pg_table.proofs.Levels.{Level, level_step, level_end}
 use Rattle.pg_table.proofs.Walks.{goes_on, no_sign, no_child, list_here, list_below, strings_none, strings_more}
 use Rattle.pg_table.proofs.walk.take_strings.Goals as goal
@@ -14,11 +13,10 @@ use Rattle.pg_table.proofs.walk.take_strings.Goals as goal
 pub loop-stop-init : goal.loop-stop-init
 unfolding lookup
 loop-stop-init c =
-    let form = form_told c.args.view.now c.signs-signs.ensures.well_formed in
     let none : c.args.start - c.args.start ≡ 0 = omega arith in
     let one : c.args.start - c.args.start + 1 ≡ 1 = omega arith in
     record {
-      inside = omega (arith, form.head.rooted);
+      inside = omega arith;
       leads = λ s more. ap (λ n. lookup c.args.view.now (take n (drop c.args.start c.args.w.now) ++ s ∷ more)) none;
       values = λ p low. ap (λ n. max (values_of c.args.out.now p) (by_strings c.args.view.now c.args.w.now c.args.start n p)) one;
       uncovered = c.requires.uncovered;
@@ -87,7 +85,7 @@ loop-stop-preserved c =
     let some : (cell_at b (c.loop-stop.base + s)).child ≢ 0 = λ z. c.if-cell-eq0.false (sym child ∙ z) in
     let goes = goes_on w start stop (stop + 1 - start) c.loop-stop.auto.stop (omega arith) (omega arith) in
     record {
-      inside = c.in-Some.ensures.within.0;
+      inside = omega (arith, c.in-Some.ensures.within.0);
       leads = λ t more.
           ap (λ l. lookup b (l ++ t ∷ more)) (goes.whole ∙ ap (λ l. take (stop - start) (drop start w) ++ s ∷ l) (goes.size refl))
           ∙ ap (lookup b) (append_assoc (take (stop - start) (drop start w)) (s ∷ []) (t ∷ more))

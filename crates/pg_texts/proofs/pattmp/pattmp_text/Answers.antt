@@ -1,4 +1,8 @@
-use Rattle.std.proofs.Common.{◌+◌, sym, ◌∙◌}
+use Rattle.std.proofs.Common.{◌≤◌, ◌+◌, ◌++◌, List, length, arith, ap, sym, ◌∙◌}
+use Rattle.std.proofs.lemmas.List.{append-nil, drop_all}
+use Rattle.pg_dict.specs.Word.{Word}
+use Rattle.pg_texts.specs.PattmpTexts.{lines_behind}
+use Rattle.pg_texts.specs.Inside.ReadBack.{words_taking_part}
 use Rattle.pg_dict.specs.Inside.Lent.{lent_word}
 use Rattle.pg_translate.specs.Alphabets.{letters_of}
 use Rattle.pg_texts.proofs.WordSteps.{line_step, no_line_step, signs_known, signs_within}
@@ -27,3 +31,13 @@ words-preserved g c =
           no_line_step c.args.table.now (g.E.Engine.meaning c.args.engine.now).patterns c.args.dictionary.now c.words.i c.words.weight (lent_word c.word-word.result)
           c.words.text.items _ c.word-word.ensures.lent (sym c.reach.ensures.value ∙ w.in_default.is) c.words.invariant)
     ]
+
+pub word-word-requires : goal.word-word-requires
+word-word-requires g c = omega (arith, c.len-i-end.ensures.len)
+
+pub returns-clause-text : goal.returns-clause-text
+returns-clause-text g c =
+    let t = c.args.table.now in
+    let P = (g.E.Engine.meaning c.args.engine.now).patterns in
+    let past : length c.args.dictionary.now ≤ c.words.i = omega (arith, c.len-i-end.ensures.len) in
+    sym (append-nil c.words.text.items) ∙ ap (λ (ws : List Word). c.words.text.items ++ lines_behind t P c.words.weight (words_taking_part t ws)) (sym (drop_all c.words.i c.args.dictionary.now past)) ∙ c.words.invariant

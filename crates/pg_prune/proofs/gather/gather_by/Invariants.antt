@@ -3,10 +3,10 @@ use Rattle.pg_select.specs.CountedPositions.{minima_of}
 use Rattle.pg_prune.specs.Places.{places as places_of}
 use Rattle.pg_prune.specs.Inside.Standing.{places_of_entries}
 use Rattle.pg_prune.specs.Inside.Trails.{IsTrail}
-use Rattle.pg_prune.proofs.gather.gather.Given as goal
+use Rattle.pg_prune.proofs.gather.gather_by.Given as goal
 
 abbrev pub invariant-entries : goal.invariant-entries
 invariant-entries l = record {
-  trail : IsTrail l.dictionary l.all.items l.trail.signs.items (map (λ t. t.items) l.trail.starts.items);
+  trail : IsTrail l.dictionary l.all l.trail.signs.items (map (λ t. t.items) l.trail.starts.items);
   lists : map (λ t. t.items) l.lists.items ≡ places_of_entries (places_of (minima_of l.table) l.dictionary) (take l.i l.patterns);
 }
