@@ -13,7 +13,8 @@ use Rattle.pg_top.specs.Promises.{GivesValues}
 use Rattle.pg_top.specs.Inside.ReadAs.{read_as}
 use Rattle.pg_top.specs.pack.Packed.{outcome_of_pack}
 use Rattle.pg_top.specs.totals.Totalled.{packed_table}
-use Rattle.pg_top.specs.pack.Inside.Inputs.{HasSource, packed_text, PackRequest, to_pack, KeepsPack}
+use Rattle.pg_top.specs.pack.Inside.Inputs.{HasSource, packed_text, PackRequest, to_pack}
+use Rattle.pg_top.specs.Inside.Built.{Keeps}
 use Rattle.pg_top.specs.Inside.Stops.{StopsCommandWith, StopsCommand, StopsMaking}
 use Rattle.pg_top.specs.declared.answers.Status.TheVariants.{Done}
 use Rattle.pg_top.specs.declared.inputs.Input.TheVariants as input
@@ -43,7 +44,7 @@ pack_outcome p s files h =
     ∙ (λ k. outcome_of_pack p.table (is_t k) (is_P k))
 
 -- what it promises
-pub pack_keeps : (p : PackRequest) (s : Source) (writing : Writing) (lines : List ℕ) (files : FileMap) → outcome_of_pack p.table s.table s.patterns ≡ Ends Done writing lines → writing ≡ (p.table, packed_text s.table s.patterns) ∷ [] → packed_table s.table (packed_text s.table s.patterns) ≡ Ok (packed_text s.table s.patterns) → GivesValues (packed_text s.table s.patterns) s.patterns → HasSource (file_at files) p s → KeepsPack (file_at files) p
+pub pack_keeps : (p : PackRequest) (s : Source) (writing : Writing) (lines : List ℕ) (files : FileMap) → outcome_of_pack p.table s.table s.patterns ≡ Ends Done writing lines → writing ≡ (p.table, packed_text s.table s.patterns) ∷ [] → packed_table s.table (packed_text s.table s.patterns) ≡ Ok (packed_text s.table s.patterns) → GivesValues (packed_text s.table s.patterns) s.patterns → HasSource (file_at files) p s → Keeps (to_pack p) (file_at files)
 pack_keeps p s writing lines files made table accepted gives h = record {
   bytes = packed_text s.table s.patterns;
   lines = lines;

@@ -12,7 +12,8 @@ use Rattle.pg_select.specs.Windows.{Patterns}
 use Rattle.pg_top.specs.Calls.{outcome_of, own_outcome, reads_of}
 use Rattle.pg_top.specs.Counted.{MakesCalls}
 use Rattle.pg_top.specs.Readings.{table_named, translate_file, patterns_file, words_file, patterns_under, words_under}
-use Rattle.pg_top.specs.prune.Inside.Inputs.{HasPrune, line_of_pruned, pruned_by, PruneRequest, to_prune, KeepsPrune}
+use Rattle.pg_top.specs.prune.Inside.Inputs.{HasPrune, line_of_pruned, pruned_by, PruneRequest, to_prune}
+use Rattle.pg_top.specs.Inside.Built.{Keeps}
 use Rattle.pg_prune.specs.Prunes.{pruned}
 use Rattle.pg_prune.specs.Reports.{prune_report}
 use Rattle.pg_prune.proofs.PrunedLaws.{pruned_part, pruned_alike, pruned_least}
@@ -63,7 +64,7 @@ prune_outcome p i files h =
     ∙ (λ k. pruned_by p (is_t k) (is_ws k) (is_P k))
 
 -- what it promises
-pub prune_keeps : (p : PruneRequest) (i : PruneInputs) (files : FileMap) → ReadsBack i.table (pruned (minima_of i.table) i.dictionary i.patterns).patterns → HasPrune (file_at files) p i → KeepsPrune (file_at files) p
+pub prune_keeps : (p : PruneRequest) (i : PruneInputs) (files : FileMap) → ReadsBack i.table (pruned (minima_of i.table) i.dictionary i.patterns).patterns → HasPrune (file_at files) p i → Keeps (to_prune p) (file_at files)
 prune_keeps p i files back h =
     let m = minima_of (table_named p.translate (file_at files)) in
     let ws : List Word = words_under (file_at files) p.translate p.dict in

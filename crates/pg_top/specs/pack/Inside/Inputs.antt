@@ -13,7 +13,6 @@ use Rattle.pg_table.specs.declared.error.TableError.TheVariants as table_error
 use Rattle.pg_words.specs.Requests.{Request, ToPack}
 use Rattle.pg_top.specs.Readings.{Held}
 use Rattle.pg_top.specs.Inside.ReadAs.{read_as}
-use Rattle.pg_top.specs.Promises.{PackKeeps}
 use Rattle.pg_top.specs.declared.inputs.Input.TheVariants as input
 use Rattle.pg_top.specs.declared.inputs.Stop.{Stop}
 use Rattle.pg_top.specs.declared.inputs.Stop.TheVariants as stop
@@ -33,10 +32,6 @@ pub record PackRequest : Type 0 where
 -- what they ask for
 abbrev pub to_pack : PackRequest → Request
 to_pack p = ToPack p.patterns p.translate p.table
-
--- what `pack` promises of files of these names
-abbrev pub KeepsPack : Held → PackRequest → Type 0
-KeepsPack files p = PackKeeps files p.patterns p.translate p.table
 
 -- the names as their bytes
 abbrev pub pack_of : PackNames → PackRequest

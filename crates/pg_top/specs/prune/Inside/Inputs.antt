@@ -16,7 +16,6 @@ use Rattle.pg_top.specs.prune.Pruned.{outcome_of_prune, pruned_line}
 use Rattle.pg_top.specs.Readings.{Held}
 use Rattle.pg_top.specs.Inside.ReadAs.{read_as}
 use Rattle.pg_words.specs.Requests.{Request, ToPrune}
-use Rattle.pg_top.specs.Promises.{PruneKeeps}
 use Rattle.pg_top.specs.declared.prune.inputs.PruneInputs.{PruneInputs}
 use Rattle.pg_top.specs.declared.prune.PruneNames.{PruneNames}
 
@@ -31,10 +30,6 @@ pub record PruneRequest : Type 0 where
 -- what they ask for
 abbrev pub to_prune : PruneRequest → Request
 to_prune p = ToPrune p.dict p.patterns p.output p.translate p.report
-
--- what `prune` promises of files of these names
-abbrev pub KeepsPrune : Held → PruneRequest → Type 0
-KeepsPrune files p = PruneKeeps files p.dict p.patterns p.output p.translate p.report
 
 -- the names as their bytes
 abbrev pub prune_of : PruneNames → PruneRequest
