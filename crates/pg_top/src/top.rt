@@ -7,13 +7,13 @@ ghost use Rattle.pg_top.specs.WholeCalls.{IsRun};
 use crate::answers::Status;
 use crate::audit::audit;
 use crate::generate::generate_files;
-use crate::pack::{PackNames, pack_files};
+use crate::pack::pack_files;
 use crate::printed::USAGE;
-use crate::prune::{PruneNames, prune_files};
+use crate::prune::prune_files;
 use crate::puts::answer;
 use crate::sample::sample;
 use crate::sweep::sweep_files;
-use crate::totals::{TotalsNames, total_files};
+use crate::totals::total_files;
 use crate::writes::end;
 use pg_outside::{Files, Sink};
 use pg_watch::{Quiet, Watch};
@@ -44,12 +44,7 @@ fn perform<F: Files, O: Sink, W: Watch>(
             translate,
             table,
         } => {
-            let names = PackNames {
-                patterns,
-                translate,
-                table,
-            };
-            let built = pack_files(alloc, &names, files, watch);
+            let built = pack_files(alloc, patterns, translate, table, files, watch);
             end(alloc, built, files, out, watch)
         }
         Command::Totals {
@@ -57,12 +52,7 @@ fn perform<F: Files, O: Sink, W: Watch>(
             translate,
             table,
         } => {
-            let names = TotalsNames {
-                dict,
-                translate,
-                table,
-            };
-            let built = total_files(alloc, &names, files, watch);
+            let built = total_files(alloc, dict, translate, table, files, watch);
             end(alloc, built, files, out, watch)
         }
         Command::Prune {
@@ -72,14 +62,9 @@ fn perform<F: Files, O: Sink, W: Watch>(
             translate,
             report,
         } => {
-            let names = PruneNames {
-                dict,
-                patterns,
-                output,
-                translate,
-                report,
-            };
-            let built = prune_files(alloc, &names, files, watch);
+            let built = prune_files(
+                alloc, dict, patterns, output, translate, report, files, watch,
+            );
             end(alloc, built, files, out, watch)
         }
         Command::Sweep(words) => {

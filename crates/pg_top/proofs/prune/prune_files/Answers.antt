@@ -4,7 +4,7 @@ use Rattle.pg_outside.specs.Content.{file_at}
 use Rattle.pg_top.specs.Calls.{outcome_of, reads_of}
 use Rattle.pg_top.specs.Outcomes.{Ends}
 use Rattle.pg_top.specs.Inside.Built.{Keeps}
-use Rattle.pg_top.specs.prune.Inside.Inputs.{prune_of, HasPrune, PruneRequest, to_prune}
+use Rattle.pg_top.specs.prune.Inside.Inputs.{HasPrune, PruneRequest, to_prune}
 use Rattle.pg_top.specs.Inside.WritesMade.{writing_of}
 use Rattle.pg_top.specs.declared.answers.Status.TheVariants.{Done}
 use Rattle.pg_top.specs.declared.inputs.Stop.TheVariants.{Memory}
@@ -15,18 +15,18 @@ use Rattle.pg_top.proofs.prune.prune_files.Goals as goal
 
 pub returns : goal.returns
 returns g c =
-    let p : PruneRequest = prune_of c.args.names.now in
+    let p : PruneRequest = record { dict = c.args.dict.now; patterns = c.args.patterns.now; output = c.args.output.now; translate = c.args.translate.now; report = c.args.report.now } in
     let i = c.in_ok-inputs.inputs in
     let made = c.in_ok-outputs.field-0 in
     let s1 = g.F.Files.shown c.read_prune.new.files in
     record {
       only = c.read_prune.ensures.only;
       made = record {
-        comes = mapped s1.held (λ files. HasPrune (file_at files) p i)
+        comes = mapped s1.held (λ files. HasPrune (file_at files) p.translate p.patterns p.dict i)
             (λ files. outcome_of (file_at files) (to_prune p) ≡ Ends Done (writing_of made.files.items) made.lines.items)
             (λ files h. prune_outcome p i files h ∙ c.in_ok-outputs.ensures.made) c.in_ok-inputs.ensures.ok;
         named = c.in_ok-outputs.ensures.named;
-        keeps = mapped s1.held (λ files. HasPrune (file_at files) p i) (λ files. Keeps (to_prune p) (file_at files)) (λ files h. prune_keeps p i files c.in_ok-outputs.ensures.reads_back h) c.in_ok-inputs.ensures.ok;
+        keeps = mapped s1.held (λ files. HasPrune (file_at files) p.translate p.patterns p.dict i) (λ files. Keeps (to_prune p) (file_at files)) (λ files h. prune_keeps p i files c.in_ok-outputs.ensures.reads_back h) c.in_ok-inputs.ensures.ok;
         counted = c.in_ok-inputs.ensures.counted;
       };
       stopped = tt;
@@ -34,20 +34,21 @@ returns g c =
 
 pub returns-in_err-inputs : goal.returns-in_err-inputs
 returns-in_err-inputs g c =
+    let p : PruneRequest = record { dict = c.args.dict.now; patterns = c.args.patterns.now; output = c.args.output.now; translate = c.args.translate.now; report = c.args.report.now } in
     let err = err_from_is_err_and c.from_residual.result c.from_residual.ensures.1 in
     record {
       only = c.read_prune.ensures.only;
       made = rw err.1 tt;
-      stopped = rw (err.1, err.2) (stops_reading (to_prune (prune_of c.args.names.now)) (g.F.Files.shown c.args.files.now) (g.F.Files.shown c.read_prune.new.files) c.in_err-inputs.field-0.0 c.in_err-inputs.ensures.stopped);
+      stopped = rw (err.1, err.2) (stops_reading (to_prune p) (g.F.Files.shown c.args.files.now) (g.F.Files.shown c.read_prune.new.files) c.in_err-inputs.field-0.0 c.in_err-inputs.ensures.stopped);
     }
 
 pub returns-in_err-outputs : goal.returns-in_err-outputs
 returns-in_err-outputs g c =
-    let p : PruneRequest = prune_of c.args.names.now in
+    let p : PruneRequest = record { dict = c.args.dict.now; patterns = c.args.patterns.now; output = c.args.output.now; translate = c.args.translate.now; report = c.args.report.now } in
     let i = c.in_ok-inputs.inputs in
     let s0 = g.F.Files.shown c.args.files.now in
     let s1 = g.F.Files.shown c.read_prune.new.files in
-    let accepted = mapped s1.held (λ files. HasPrune (file_at files) p i) (λ files. AreAccepted (file_at files) (reads_of (to_prune p))) (prune_accepted p i) c.in_ok-inputs.ensures.ok in
+    let accepted = mapped s1.held (λ files. HasPrune (file_at files) p.translate p.patterns p.dict i) (λ files. AreAccepted (file_at files) (reads_of (to_prune p))) (prune_accepted p i) c.in_ok-inputs.ensures.ok in
     let err = err_from_is_err_and c.from_residual-in_err-outputs.result c.from_residual-in_err-outputs.ensures.1 in
     record {
       only = c.read_prune.ensures.only;

@@ -13,7 +13,7 @@ use Rattle.pg_top.specs.declared.writes.Output.{Output}
 use Rattle.pg_top.specs.declared.answers.Status.TheVariants.{Done}
 use Rattle.pg_top.specs.Inside.UnderTable.{file_under}
 use Rattle.pg_top.specs.totals.Totalled.{packed_table}
-use Rattle.pg_top.specs.totals.Inside.Inputs.{totals_of, to_totals}
+use Rattle.pg_top.specs.totals.Inside.Inputs.{TotalsRequest, to_totals}
 use Rattle.pg_top.specs.declared.inputs.Input.TheVariants as input
 use Rattle.pg_top.proofs.Calls.{stops_reading}
 use Rattle.pg_top.proofs.CountedCalls.{calls_on}
@@ -25,7 +25,7 @@ use Rattle.pg_top.proofs.totals.total_files.Goals as goal
 
 pub returns : goal.returns
 returns g c =
-    let p = totals_of c.args.names.now in
+    let p : TotalsRequest = record { dict = c.args.dict.now; translate = c.args.translate.now; table = c.args.table.now } in
     let d = p.dict in
     let t = p.translate in
     let n = p.table in
@@ -53,7 +53,7 @@ returns g c =
 
 pub returns-in_err-letters : goal.returns-in_err-letters
 returns-in_err-letters g c =
-    let p = totals_of c.args.names.now in
+    let p : TotalsRequest = record { dict = c.args.dict.now; translate = c.args.translate.now; table = c.args.table.now } in
     let d = p.dict in
     let t = p.translate in
     let n = p.table in
@@ -69,7 +69,7 @@ returns-in_err-letters g c =
 
 pub returns-in_err-dictionary : goal.returns-in_err-dictionary
 returns-in_err-dictionary g c =
-    let p = totals_of c.args.names.now in
+    let p : TotalsRequest = record { dict = c.args.dict.now; translate = c.args.translate.now; table = c.args.table.now } in
     let d = p.dict in
     let t = p.translate in
     let n = p.table in
@@ -89,7 +89,7 @@ returns-in_err-dictionary g c =
 
 pub returns-in_err-lines : goal.returns-in_err-lines
 returns-in_err-lines g c =
-    let p = totals_of c.args.names.now in
+    let p : TotalsRequest = record { dict = c.args.dict.now; translate = c.args.translate.now; table = c.args.table.now } in
     let d = p.dict in
     let t = p.translate in
     let n = p.table in
