@@ -1,5 +1,5 @@
 -- The first bytes of a file, one more than a file may have, are read as the whole file is.
-use Rattle.std.proofs.Common.{◌≡◌, ℕ, ◌+◌, ◌<◌, ◌≤◌, nat_lt, nat_eq, not, true, false, cond, List, [], ◌∷◌, length, map, flat_map, take, Option, None, Some, Result, Ok, Err, IfSome, sym, refl, ap, ◌∙◌, arith}
+use Rattle.std.proofs.Common.{◌≡◌, ℕ, ◌+◌, ◌<◌, ◌≤◌, nat_lt, nat_eq, not, true, false, cond, List, [], ◌∷◌, length, map, flat_map, take, Option, None, Some, Result, Ok, Err, IfSome, IfOk, IfErr, sym, refl, ap, ◌∙◌, arith}
 use Rattle.std.proofs.lemmas.Bool.{ltb-true, ltb-false, lt-ltb}
 use Rattle.std.proofs.lemmas.List.{take_all, length-take-le}
 use Rattle.std.specs.List.{onto_first}
@@ -13,7 +13,7 @@ use Rattle.pg_types.specs.Lines.{lines, pieces_at, is_line_feed, without_cr}
 use Rattle.pg_types.specs.Parameters.{parameters, parameters_of, items, demands, refusal_from}
 use Rattle.pg_types.specs.Inside.Parts.{refusal_of_item}
 use Rattle.pg_types.specs.Reading.{unless, refusal_at as refused_in}
-use Rattle.pg_types.specs.Inside.Answers.{Fails}
+use Rattle.pg_types.specs.Inside.Answers.{Fails, Gives}
 use Rattle.pg_outside.specs.Content.{FileMap, FilesShown, file_at}
 use Rattle.pg_outside.specs.Inside.ToldFiles.{IsCut}
 use Rattle.pg_table.specs.declared.limits.TheConstants.{TABLE_MAX}
@@ -31,7 +31,7 @@ use Rattle.pg_top.specs.totals.Totalled.{packed_table}
 use Rattle.pg_top.specs.pack.Inside.Inputs.{table_refused}
 use Rattle.pg_top.specs.Readings.{Reading, input_file}
 use Rattle.pg_top.specs.Inside.ReadAs.{read_as}
-use Rattle.pg_top.specs.Inside.Stops.{StopsAt, StopsFront, stop_of}
+use Rattle.pg_top.specs.Inside.Stops.{StopsAt, StopsFront, stop_of, accepted_as}
 use Rattle.pg_top.specs.declared.inputs.Input.{Input}
 use Rattle.pg_top.specs.declared.inputs.Stop.{Stop}
 use Rattle.pg_top.specs.declared.inputs.Stop.TheVariants.{Refused, Unread, Memory}
@@ -157,3 +157,18 @@ pub front_stop : (r : Reading) (old new : FilesShown) (stop : Stop) → StopsFro
 front_stop r old new (Refused input refusal) stops = absurd stops
 front_stop r old new (Unread name) stops = (stops.0, stops.1)
 front_stop r old new Memory stops = tt
+
+-- what a reader gave of the first bytes of a file is what the file gives
+module _ {Y : Type 0} (parse : List ℕ → Result Y Refusal) (front : IsReadByFront parse) (input : Input) (name bytes : List ℕ) (old new : FilesShown) (first : IfSome new.held (λ files. option_map (take (FILE_MAX + 1)) (file_at files name) ≡ Some bytes)) where
+  pub accepted_ok : (read : Result Y ReadingError) → Gives (λ y. y) read (parse bytes) → IfOk (accepted_as input read) (λ y. IfSome new.held (λ files. read_as parse (file_at files) name ≡ Some (Ok y)))
+  accepted_ok (Ok y) gives = read_by_front parse front new.held name bytes (Ok y) first gives
+  accepted_ok (Err error) gives = tt
+
+  pub accepted_stopped : (read : Result Y ReadingError) → Gives (λ y. y) read (parse bytes) → IfErr (accepted_as input read) (StopsAt (input_file input name (λ _. parse)) old new)
+  accepted_stopped (Ok y) gives = tt
+  accepted_stopped (Err error) gives = stopped_by_front parse front input name bytes old new error first gives
+
+-- and what is known of it is known of what is accepted
+pub accepted_known : {Y : Type 0} (input : Input) (read : Result Y ReadingError) (P : Y → Type 0) → IfOk read P → IfOk (accepted_as input read) P
+accepted_known input (Ok y) P known = known
+accepted_known input (Err error) P known = tt

@@ -12,4 +12,5 @@ pub mod UnderTable
 pub mod ListOrder
 pub mod Calls
 pub mod Promised
+pub mod Built
 pub mod OutcomeRows

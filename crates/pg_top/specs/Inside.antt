@@ -1,4 +1,5 @@
 -- What only contracts between layers and proofs need.
+pub mod Built
 pub mod Runs
 pub mod Stops
 pub mod UnderTable

@@ -1,83 +1,37 @@
 //! `pack`: patterns as a packed table.
-ghost use Rattle.std.specs.Prelude.{◌≡◌, IfOk, IfErr, IfSome, Some};
-ghost use Rattle.pg_outside.specs.Content.{file_at};
-ghost use Rattle.pg_top.specs.Calls.{outcome_of, reads_of, writes_of};
-ghost use Rattle.pg_top.specs.Counted.{MakesCalls, read_calls, IsCountedCall};
-ghost use Rattle.pg_top.specs.Outcomes.{Ends};
-ghost use Rattle.pg_top.specs.declared.answers.Status.TheVariants.{Done};
-ghost use Rattle.pg_top.specs.Promises.{IsPromised};
+ghost use Rattle.std.specs.Prelude.{IfOk, IfErr};
+ghost use Rattle.pg_words.specs.Requests.{ToPack};
+ghost use Rattle.pg_top.specs.Inside.Built.{IsMade};
 ghost use Rattle.pg_top.specs.Inside.Stops.{OnlyReads, StopsCommand};
-ghost use Rattle.pg_top.specs.pack.Inside.Inputs.{pack_of, to_pack, KeepsPack};
-ghost use Rattle.pg_top.specs.Inside.WritesMade.{written_names, writing_of};
-ghost use Rattle.pg_top.specs.Answers.{IsCall};
 
 mod inputs;
 mod outputs;
 
-use crate::answers::Status;
 use crate::inputs::Stop;
 use crate::pack::inputs::read_source;
 use crate::pack::outputs::make_table;
-use crate::puts::put_stop;
-use crate::writes::{Outputs, finish};
-use pg_outside::{Files, Sink};
+use crate::writes::Outputs;
+use pg_outside::Files;
 use pg_watch::Watch;
 use std::alloc::Global;
 
-/// The names that `pack` is given.
-#[derive(Clone, Copy)]
-pub struct PackNames<'a> {
-    /// The pattern file.
-    pub patterns: &'a str,
-    /// The translate file.
-    pub translate: &'a str,
-    /// Where the table is written.
-    pub table: &'a str,
-}
-
-/// Reads what `pack` reads, and builds all that it writes and prints.
+/// Reads what `pack` reads of these names, and builds all that it writes and prints.
 pub fn pack_files<'a, F: Files, W: Watch>(
     alloc: Global,
-    names: &PackNames<'a>,
+    patterns: &'a str,
+    translate: &'a str,
+    table: &'a str,
     files: &mut F,
     watch: &W,
 ) -> Result<Outputs<'a>, Stop<'a>>
     ensures only { OnlyReads (F.shown files.old) (F.shown files.new) }
-    ensures ok { IfOk result (λ made. IfSome (F.shown files.new).held (λ files.
-        outcome_of (file_at files) (to_pack (pack_of names.now))
-        ≡ Ends Done (writing_of made.files.items) made.lines.items)) }
-    ensures named { IfOk result (λ made. written_names (writing_of made.files.items)
-        ≡ writes_of (to_pack (pack_of names.now))) }
-    ensures kept { IfOk result (λ _. IfSome (F.shown files.new).held (λ files.
-        KeepsPack (file_at files) (pack_of names.now))) }
-    ensures counted { IfOk result (λ _. MakesCalls (F.shown files.old) (F.shown files.new)
-        (read_calls (reads_of (to_pack (pack_of names.now))))) }
-    ensures stopped { IfErr result (StopsCommand (to_pack (pack_of names.now))
+    ensures made { IfOk result (IsMade (ToPack patterns.now translate.now table.now)
+        (F.shown files.old) (F.shown files.new)) }
+    ensures stopped { IfErr result (StopsCommand (ToPack patterns.now translate.now table.now)
         (F.shown files.old) (F.shown files.new)) }
 {
-    let source = read_source(alloc, names, files, watch)?;
-    let outputs = make_table(alloc, names.table, &source, watch);
+    let source = read_source(alloc, translate, patterns, files, watch)?;
+    let outputs = make_table(alloc, table, &source, watch);
     drop(source);
     Ok(outputs?)
-}
-
-/// Writes the packed table of patterns.
-pub fn pack<F: Files, O: Sink, W: Watch>(
-    alloc: Global,
-    names: &PackNames<'_>,
-    files: &mut F,
-    out: &mut O,
-    watch: &W,
-) -> Status
-    ensures call { IsCall (Some (to_pack (pack_of names.now))) result
-        (F.shown files.old, O.shown out.old) (F.shown files.new, O.shown out.new) }
-    ensures counted { IsCountedCall (Some (to_pack (pack_of names.now))) result
-        (F.shown files.old, O.shown out.old) (F.shown files.new, O.shown out.new) }
-    ensures promised { IsPromised (Some (to_pack (pack_of names.now))) result
-        (F.shown files.old, O.shown out.old) (F.shown files.new, O.shown out.new) }
-{
-    match pack_files(alloc, names, files, watch) {
-        Ok(outputs) => finish(files, out, &outputs, watch),
-        Err(stop) => put_stop(alloc, out, &stop, watch),
-    }
 }

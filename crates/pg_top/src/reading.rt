@@ -14,7 +14,7 @@ ghost use Rattle.pg_top.specs.Counted.{MakesCalls};
 ghost use Rattle.pg_top.specs.Readings.{input_file};
 ghost use Rattle.pg_top.specs.Inside.ReadAs.{read_as};
 ghost use Rattle.pg_top.specs.Inside.Lists.{lists_under, HasLists};
-ghost use Rattle.pg_top.specs.Inside.Stops.{OnlyReads, stop_of, StopsFront, StopsAt, StopsReading};
+ghost use Rattle.pg_top.specs.Inside.Stops.{OnlyReads, accepted_as, StopsFront, StopsAt, StopsReading};
 
 use crate::inputs::{Input, Stop};
 use pg_dict::Dictionary;
@@ -51,28 +51,30 @@ pub fn read_front<'a, F: Files, W: Watch>(
     }
 }
 
-/// Why a command stops at an input whose reader failed. The observer is told of a refusal.
-fn stop<'a, W: Watch>(
+/// What a reader gave of this input, or why a command stops there. The observer is told of a
+/// refusal.
+fn accepted<'a, T, W: Watch>(
+    read: Result<T, ReadingError>,
     input: Input,
-    error: ReadingError,
     name: &str,
     bytes: &[u8],
     letters: Option<&Table>,
     watch: &W,
-) -> Stop<'a>
-    ensures { result ≡ stop_of input error }
+) -> Result<T, Stop<'a>>
+    ensures { result ≡ accepted_as input read }
 {
-    match error {
-        ReadingError::Refused(refusal) => {
+    match read {
+        Ok(value) => Ok(value),
+        Err(ReadingError::Refused(refusal)) => {
             watch.refuses(&Refused {
                 name,
                 bytes,
                 refusal,
                 letters,
             });
-            Stop::Refused(input, refusal)
+            Err(Stop::Refused(input, refusal))
         }
-        ReadingError::Memory => Stop::Memory,
+        Err(ReadingError::Memory) => Err(Stop::Memory),
     }
 }
 
@@ -93,13 +95,11 @@ pub fn read_table<'a, F: Files, W: Watch>(
         (F.shown files.old) (F.shown files.new)) }
 {
     let bytes = read_front(alloc, name, FILE_MAX, files, watch)?;
-    match Table::read(alloc, &bytes) {
-        Ok(table) => {
-            watch.letters(name);
-            Ok(table)
-        }
-        Err(error) => Err(stop(Input::Translate, error, name, &bytes, None, watch)),
+    let read = Table::read(alloc, &bytes);
+    if read.is_ok() {
+        watch.letters(name);
     }
+    accepted(read, Input::Translate, name, &bytes, None, watch)
 }
 
 /// Reads parameters as this input.
@@ -120,10 +120,8 @@ pub fn read_parameters<'a, F: Files, W: Watch>(
         (F.shown files.old) (F.shown files.new)) }
 {
     let bytes = read_front(alloc, name, FILE_MAX, files, watch)?;
-    match read_params(alloc, &bytes) {
-        Ok(params) => Ok(params),
-        Err(error) => Err(stop(input, error, name, &bytes, None, watch)),
-    }
+    let read = read_params(alloc, &bytes);
+    accepted(read, input, name, &bytes, None, watch)
 }
 
 /// Reads the starting patterns under a table.
@@ -145,13 +143,11 @@ pub fn read_start<'a, F: Files, W: Watch>(
         (F.shown files.old) (F.shown files.new)) }
 {
     let bytes = read_front(alloc, name, FILE_MAX, files, watch)?;
-    match PatternSet::read(alloc, table, &bytes) {
-        Ok(patterns) => {
-            watch.patterns(name, &bytes);
-            Ok(patterns)
-        }
-        Err(error) => Err(stop(Input::Patterns, error, name, &bytes, Some(table), watch)),
+    let read = PatternSet::read(alloc, table, &bytes);
+    if read.is_ok() {
+        watch.patterns(name, &bytes);
     }
+    accepted(read, Input::Patterns, name, &bytes, Some(table), watch)
 }
 
 /// Reads the dictionary under a table.
@@ -173,13 +169,11 @@ pub fn read_dictionary<'a, F: Files, W: Watch>(
         (F.shown files.old) (F.shown files.new)) }
 {
     let bytes = read_front(alloc, name, FILE_MAX, files, watch)?;
-    match Dictionary::read(alloc, table, &bytes) {
-        Ok(dictionary) => {
-            watch.words(name, &dictionary, table);
-            Ok(dictionary)
-        }
-        Err(error) => Err(stop(Input::Dictionary, error, name, &bytes, Some(table), watch)),
+    let read = Dictionary::read(alloc, table, &bytes);
+    if let Ok(dictionary) = &read {
+        watch.words(name, dictionary, table);
     }
+    accepted(read, Input::Dictionary, name, &bytes, Some(table), watch)
 }
 
 /// Reads the starting patterns and then the dictionary, both under a table.

@@ -1,24 +1,20 @@
 //! The one call of the program.
-ghost use Rattle.std.specs.Prelude.{◌≡◌, Some, []};
-ghost use Rattle.std.specs.Option.{option_map_or};
-ghost use Rattle.pg_top.specs.Answers.{IsSampled, IsCall};
-ghost use Rattle.pg_top.specs.Calls.{reads_of};
+ghost use Rattle.std.specs.Prelude.{Some};
 ghost use Rattle.pg_words.specs.Commands.{request_of_call};
 ghost use Rattle.pg_words.specs.Inside.Asked.{asked_by, KeepsLimits};
-ghost use Rattle.pg_top.specs.Counted.{IsCountedCall};
-ghost use Rattle.pg_top.specs.Promises.{IsPromised};
 ghost use Rattle.pg_top.specs.WholeCalls.{IsRun};
 
 use crate::answers::Status;
 use crate::audit::audit;
-use crate::generate::generate;
-use crate::pack::{PackNames, pack};
+use crate::generate::generate_files;
+use crate::pack::pack_files;
 use crate::printed::USAGE;
-use crate::prune::{PruneNames, prune};
+use crate::prune::prune_files;
 use crate::puts::answer;
 use crate::sample::sample;
-use crate::sweep::sweep;
-use crate::totals::{TotalsNames, totals};
+use crate::sweep::sweep_files;
+use crate::totals::total_files;
+use crate::writes::end;
 use pg_outside::{Files, Sink};
 use pg_watch::{Quiet, Watch};
 use pg_words::{Command, command};
@@ -33,18 +29,14 @@ fn perform<F: Files, O: Sink, W: Watch>(
     watch: &W,
 ) -> Status
     requires { KeepsLimits command.now }
-    ensures call { IsCall (Some (asked_by command.now)) result
+    ensures { IsRun (Some (asked_by command.now)) result files.old files.new
         (F.shown files.old, O.shown out.old) (F.shown files.new, O.shown out.new) }
-    ensures sampled { IsSampled (Some (asked_by command.now)) result
-        (F.shown files.old, O.shown out.old) (F.shown files.new, O.shown out.new) }
-    ensures counted { IsCountedCall (Some (asked_by command.now)) result
-        (F.shown files.old, O.shown out.old) (F.shown files.new, O.shown out.new) }
-    ensures promised { IsPromised (Some (asked_by command.now)) result
-        (F.shown files.old, O.shown out.old) (F.shown files.new, O.shown out.new) }
-    ensures same { reads_of (asked_by command.now) ≡ [] → files.new ≡ files.old }
 {
     match command {
-        Command::Generate(names) => generate(alloc, names, files, out, watch),
+        Command::Generate(names) => {
+            let built = generate_files(alloc, names, files, watch);
+            end(alloc, built, files, out, watch)
+        }
         Command::Audit(names) => audit(alloc, names, files, out, watch),
         Command::Sample(seed, count) => sample(alloc, *seed, *count, out, watch),
         Command::Pack {
@@ -52,24 +44,16 @@ fn perform<F: Files, O: Sink, W: Watch>(
             translate,
             table,
         } => {
-            let names = PackNames {
-                patterns,
-                translate,
-                table,
-            };
-            pack(alloc, &names, files, out, watch)
+            let built = pack_files(alloc, patterns, translate, table, files, watch);
+            end(alloc, built, files, out, watch)
         }
         Command::Totals {
             dict,
             translate,
             table,
         } => {
-            let names = TotalsNames {
-                dict,
-                translate,
-                table,
-            };
-            totals(alloc, &names, files, out, watch)
+            let built = total_files(alloc, dict, translate, table, files, watch);
+            end(alloc, built, files, out, watch)
         }
         Command::Prune {
             dict,
@@ -78,41 +62,15 @@ fn perform<F: Files, O: Sink, W: Watch>(
             translate,
             report,
         } => {
-            let names = PruneNames {
-                dict,
-                patterns,
-                output,
-                translate,
-                report,
-            };
-            prune(alloc, &names, files, out, watch)
+            let built = prune_files(
+                alloc, dict, patterns, output, translate, report, files, watch,
+            );
+            end(alloc, built, files, out, watch)
         }
-        Command::Sweep(words) => sweep(alloc, words, files, out, watch),
-    }
-}
-
-/// Does what the words ask for.
-fn call<F: Files, O: Sink, W: Watch>(
-    alloc: Global,
-    words: &[String],
-    files: &mut F,
-    out: &mut O,
-    watch: &W,
-) -> Status
-    ensures call { IsCall (request_of_call words.now) result
-        (F.shown files.old, O.shown out.old) (F.shown files.new, O.shown out.new) }
-    ensures sampled { IsSampled (request_of_call words.now) result
-        (F.shown files.old, O.shown out.old) (F.shown files.new, O.shown out.new) }
-    ensures counted { IsCountedCall (request_of_call words.now) result
-        (F.shown files.old, O.shown out.old) (F.shown files.new, O.shown out.new) }
-    ensures promised { IsPromised (request_of_call words.now) result
-        (F.shown files.old, O.shown out.old) (F.shown files.new, O.shown out.new) }
-    ensures same { option_map_or reads_of (request_of_call words.now) [] ≡ []
-        → files.new ≡ files.old }
-{
-    match command(words) {
-        None => answer(out, USAGE, Status::Usage, watch),
-        Some(command) => perform(alloc, &command, files, out, watch),
+        Command::Sweep(words) => {
+            let built = sweep_files(alloc, words, files, watch);
+            end(alloc, built, files, out, watch)
+        }
     }
 }
 
@@ -170,5 +128,8 @@ pub fn run_watched<F: Files, O: Sink, W: Watch>(
     ensures { IsRun (request_of_call words.now) result files.old files.new
         (F.shown files.old, O.shown out.old) (F.shown files.new, O.shown out.new) }
 {
-    call(alloc, words, files, out, watch)
+    match command(words) {
+        None => answer(out, USAGE, Status::Usage, watch),
+        Some(command) => perform(alloc, &command, files, out, watch),
+    }
 }

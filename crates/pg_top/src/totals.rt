@@ -1,75 +1,43 @@
 //! `totals`: the totals of a dictionary by a packed table.
-ghost use Rattle.std.specs.Prelude.{◌≡◌, IfOk, IfErr, IfSome, Some, []};
-ghost use Rattle.pg_outside.specs.Content.{file_at};
-ghost use Rattle.pg_top.specs.Calls.{outcome_of, reads_of};
-ghost use Rattle.pg_top.specs.Counted.{MakesCalls, read_calls, IsCountedCall};
-ghost use Rattle.pg_top.specs.Outcomes.{Ends};
-ghost use Rattle.pg_top.specs.declared.answers.Status.TheVariants.{Done};
+ghost use Rattle.std.specs.Prelude.{IfOk, IfErr};
+ghost use Rattle.pg_top.specs.Inside.Built.{IsMade};
 ghost use Rattle.pg_top.specs.Inside.Stops.{OnlyReads, StopsCommand};
-ghost use Rattle.pg_top.specs.totals.Inside.Inputs.{totals_of, to_totals};
-ghost use Rattle.pg_top.specs.Answers.{IsCall};
+ghost use Rattle.pg_words.specs.Requests.{ToTotals};
 
 mod table;
 
-use crate::answers::Status;
 use crate::inputs::Stop;
-use crate::puts::{answer, put_stop};
 use crate::reading::{read_dictionary, read_table};
 use crate::totals::table::total_by;
-use pg_outside::{Files, Sink};
+use crate::writes::Outputs;
+use pg_outside::Files;
 use pg_watch::Watch;
 use std::alloc::Global;
 
-/// The names that `totals` is given.
-#[derive(Clone, Copy)]
-pub struct TotalsNames<'a> {
-    /// The dictionary.
-    pub dict: &'a str,
-    /// The translate file.
-    pub translate: &'a str,
-    /// The packed table.
-    pub table: &'a str,
-}
-
-/// Reads what `totals` reads, and gives the lines that it prints.
+/// Reads what `totals` reads of these names, and builds the lines that it prints. It writes no
+/// file.
 pub fn total_files<'a, F: Files, W: Watch>(
     alloc: Global,
-    names: &TotalsNames<'a>,
+    dict: &'a str,
+    translate: &'a str,
+    table: &'a str,
     files: &mut F,
     watch: &W,
-) -> Result<Vec<u8>, Stop<'a>>
+) -> Result<Outputs<'a>, Stop<'a>>
     ensures only { OnlyReads (F.shown files.old) (F.shown files.new) }
-    ensures ok { IfOk result (λ lines. IfSome (F.shown files.new).held (λ files.
-        outcome_of (file_at files) (to_totals (totals_of names.now))
-        ≡ Ends Done [] lines.items)) }
-    ensures counted { IfOk result (λ _. MakesCalls (F.shown files.old) (F.shown files.new)
-        (read_calls (reads_of (to_totals (totals_of names.now))))) }
-    ensures stopped { IfErr result (StopsCommand (to_totals (totals_of names.now))
+    ensures made { IfOk result (IsMade (ToTotals dict.now translate.now table.now)
+        (F.shown files.old) (F.shown files.new)) }
+    ensures stopped { IfErr result (StopsCommand (ToTotals dict.now translate.now table.now)
         (F.shown files.old) (F.shown files.new)) }
 {
-    let letters = read_table(alloc, names.translate, files, watch)?;
-    let dictionary = read_dictionary(alloc, &letters, names.dict, files, watch)?;
-    let lines = total_by(alloc, &letters, &dictionary, names.table, files, watch);
+    let letters = read_table(alloc, translate, files, watch)?;
+    let dictionary = read_dictionary(alloc, &letters, dict, files, watch)?;
+    let lines = total_by(alloc, &letters, &dictionary, table, files, watch);
     drop(dictionary);
     drop(letters);
-    Ok(lines?)
-}
-
-/// Prints the totals of a dictionary by a packed table.
-pub fn totals<F: Files, O: Sink, W: Watch>(
-    alloc: Global,
-    names: &TotalsNames<'_>,
-    files: &mut F,
-    out: &mut O,
-    watch: &W,
-) -> Status
-    ensures call { IsCall (Some (to_totals (totals_of names.now))) result
-        (F.shown files.old, O.shown out.old) (F.shown files.new, O.shown out.new) }
-    ensures counted { IsCountedCall (Some (to_totals (totals_of names.now))) result
-        (F.shown files.old, O.shown out.old) (F.shown files.new, O.shown out.new) }
-{
-    match total_files(alloc, names, files, watch) {
-        Ok(lines) => answer(out, &lines, Status::Done, watch),
-        Err(stop) => put_stop(alloc, out, &stop, watch),
-    }
+    let lines = lines?;
+    Ok(Outputs {
+        files: Vec::new(alloc),
+        lines,
+    })
 }

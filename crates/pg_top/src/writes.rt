@@ -4,14 +4,16 @@ ghost use Rattle.pg_outside.specs.Inside.NameFaults.{NoneFell};
 ghost use Rattle.pg_top.specs.Counted.{MakesCalls};
 ghost use Rattle.pg_top.specs.Inside.ReadCalls.{write_calls};
 ghost use Rattle.pg_top.specs.Inside.WritesMade.{writing_of, written_names, WroteAll, StoppedAt};
+ghost use Rattle.pg_top.specs.Inside.Built.{EndsBuilt};
 ghost use Rattle.pg_top.specs.Inside.Stops.{Finishes};
 
 use crate::answers::Status;
+use crate::inputs::Stop;
 use crate::printed::WRITING;
-use crate::puts::{answer, put_fault};
+use crate::puts::{answer, put_fault, put_stop};
 use pg_outside::{Failed, Files, Sink};
 use pg_watch::Watch;
-use std::alloc::AllocError;
+use std::alloc::{AllocError, Global};
 
 /// A file that is to be written.
 #[derive(Drop)]
@@ -84,7 +86,7 @@ pub fn write_all<F: Files, W: Watch>(
 }
 
 /// Writes the files and then puts the lines.
-pub fn finish<F: Files, O: Sink, W: Watch>(
+fn finish<F: Files, O: Sink, W: Watch>(
     files: &mut F,
     out: &mut O,
     outputs: &Outputs<'_>,
@@ -96,5 +98,22 @@ pub fn finish<F: Files, O: Sink, W: Watch>(
     match write_all(files, &outputs.files, watch) {
         Ok(()) => answer(out, &outputs.lines, Status::Done, watch),
         Err(place) => put_fault(out, WRITING, output_at(&outputs.files, place).name, watch),
+    }
+}
+
+/// Writes and prints what a command built, or prints why it stopped.
+pub fn end<F: Files, O: Sink, W: Watch>(
+    alloc: Global,
+    built: Result<Outputs<'_>, Stop<'_>>,
+    files: &mut F,
+    out: &mut O,
+    watch: &W,
+) -> Status
+    ensures { EndsBuilt built.entry result
+        (F.shown files.old, O.shown out.old) (F.shown files.new, O.shown out.new) }
+{
+    match built {
+        Ok(outputs) => finish(files, out, &outputs, watch),
+        Err(stop) => put_stop(alloc, out, &stop, watch),
     }
 }

@@ -1,10 +1,9 @@
 -- What the words behind `sweep` ask for, word by word.
-use Rattle.std.proofs.Common.{◌≡◌, ℕ, ◌≤◌, nat_lt, nat_le, true, ◌&&◌, List, [], ◌∷◌, ◌++◌, length, drop, get_or, Some, String, refl, sym, arith}
-use Rattle.std.specs.List.{list_all}
+use Rattle.std.proofs.Common.{◌≡◌, ℕ, ◌≤◌, nat_lt, nat_le, true, ◌&&◌, List, [], ◌∷◌, length, drop, get_or, Some, String, refl, sym, arith}
 use Rattle.std.specs.Prelude.{string_bytes}
 use Rattle.std.specs.declared.alloc.Global.{Global}
 use Rattle.pg_words.specs.Inside.Names.{words_of}
-use Rattle.pg_words.specs.Requests.{ToSweep, is_name, outputs_differ, number_within, sweep_in}
+use Rattle.pg_words.specs.Requests.{ToSweep, where_taken, number_within, sweep_in}
 use Rattle.pg_words.specs.declared.limits.TheConstants.{FOLDS_MAX, PRICE_MAX, SETS_MAX}
 
 -- words by their parts
@@ -20,9 +19,9 @@ by_parts (_ ∷ _ ∷ _ ∷ _ ∷ _ ∷ _ ∷ []) a b c d e f g h is0 is1 is2 is
 by_parts (_ ∷ _ ∷ _ ∷ _ ∷ _ ∷ _ ∷ _ ∷ words) a b c d e f g h is0 is1 is2 is3 is4 is5 is6 =
     (λ i. string_bytes (sym is0 i) ∷ string_bytes (sym is1 i) ∷ string_bytes (sym is2 i) ∷ string_bytes (sym is3 i) ∷ string_bytes (sym is4 i) ∷ string_bytes (sym is5 i) ∷ string_bytes (sym is6 i) ∷ words_of words)
 
--- parts that are taken
-pub all_taken : (dict patterns output translate k bad_word missed_word : List ℕ) (params : List (List ℕ)) (folds bad missed : ℕ) → number_within 2 2 FOLDS_MAX k ≡ Some folds → number_within 4 1 PRICE_MAX bad_word ≡ Some bad → number_within 4 1 PRICE_MAX missed_word ≡ Some missed → (nat_lt 0 (length params) && nat_le (length params) SETS_MAX) ≡ true → (list_all is_name ((dict ∷ patterns ∷ translate ∷ params) ++ output ∷ []) && outputs_differ (output ∷ []) (dict ∷ patterns ∷ translate ∷ params)) ≡ true
-    → sweep_in (dict ∷ patterns ∷ output ∷ translate ∷ k ∷ bad_word ∷ missed_word ∷ params) ≡ Some (ToSweep (record {
+-- parts whose numbers are within their bounds
+pub all_within : (dict patterns output translate k bad_word missed_word : List ℕ) (params : List (List ℕ)) (folds bad missed : ℕ) → number_within 2 2 FOLDS_MAX k ≡ Some folds → number_within 4 1 PRICE_MAX bad_word ≡ Some bad → number_within 4 1 PRICE_MAX missed_word ≡ Some missed → (nat_lt 0 (length params) && nat_le (length params) SETS_MAX) ≡ true
+    → sweep_in (dict ∷ patterns ∷ output ∷ translate ∷ k ∷ bad_word ∷ missed_word ∷ params) ≡ where_taken (dict ∷ patterns ∷ translate ∷ params) (output ∷ []) (ToSweep (record {
       dict = dict;
       patterns = patterns;
       output = output;
@@ -32,4 +31,4 @@ pub all_taken : (dict patterns output translate k bad_word missed_word : List �
       missed = missed;
       params = params;
     }))
-all_taken dict patterns output translate k bad_word missed_word params folds bad missed one two three count taken = rw (one, two, three, count, taken) refl
+all_within dict patterns output translate k bad_word missed_word params folds bad missed one two three count = rw (one, two, three, count) refl

@@ -1,7 +1,7 @@
 //! The commands.
 
 /// The names that `generate` and `audit` are given. `audit` reads the files that `generate` writes.
-#[derive(Clone, Copy, Debug)]
+#[derive(Clone, Copy)]
 pub struct Names<'a> {
     /// The dictionary.
     pub dict: &'a str,
@@ -22,7 +22,7 @@ pub struct Names<'a> {
 }
 
 /// What `sweep` is given.
-#[derive(Clone, Copy, Debug)]
+#[derive(Clone, Copy)]
 pub struct SweepWords<'a> {
     /// The dictionary.
     pub dict: &'a str,
@@ -43,7 +43,7 @@ pub struct SweepWords<'a> {
 }
 
 /// What words ask for.
-#[derive(Clone, Copy, Debug)]
+#[derive(Clone, Copy)]
 pub enum Command<'a> {
     /// To select patterns and write them.
     Generate(Names<'a>),

@@ -1,8 +1,9 @@
 //! The words of `generate` and `audit`.
-ghost use Rattle.std.specs.Prelude.{◌≡◌, ◌≤◌, ◌<◌, ◌+◌, ◌++◌, length, drop, IfSome};
-ghost use Rattle.std.specs.Option.{option_map, option_and_then};
+ghost use Rattle.std.specs.Prelude.{◌≡◌, ◌≤◌, ◌<◌, ◌+◌, ◌&&◌, ◌++◌, length, drop, IfSome};
+ghost use Rattle.std.specs.List.{list_all};
+ghost use Rattle.std.specs.Option.{option_map, option_and_then, is_none};
 ghost use Rattle.arrayvec.specs.ArrayVec.{array_vec_len};
-ghost use Rattle.pg_words.specs.Requests.{if_asked, input_names, output_names, with_option as with_option_of, with_options as with_options_of, names_in, to_generate, to_audit};
+ghost use Rattle.pg_words.specs.Requests.{if_asked, input_names, output_names, with_option as with_option_of, with_options as with_options_of, is_name, outputs_differ, names_in, to_generate, to_audit};
 ghost use Rattle.pg_words.specs.Inside.Names.{texts, words_of};
 ghost use Rattle.pg_words.specs.Inside.Asked.{name_now, texts_of, asked_by, KeepsLimits};
 
@@ -121,6 +122,26 @@ fn outputs_of<'a>(names: &Names<'a>) -> ArrayVec<&'a str, OUTPUTS_MAX>
     outputs
 }
 
+/// Whether `generate` takes these names.
+fn are_generated(names: &Names<'_>) -> bool
+    ensures { result ≡ list_all is_name
+        (input_names (texts_of names.now) ++ output_names (texts_of names.now))
+        && outputs_differ (output_names (texts_of names.now)) (input_names (texts_of names.now)) }
+{
+    let outputs = outputs_of(names);
+    are_taken(&inputs_of(names), outputs.as_slice())
+}
+
+/// Whether `audit` takes these names.
+fn are_audited(names: &Names<'_>) -> bool
+    ensures { result ≡ list_all is_name
+        (input_names (texts_of names.now) ++ output_names (texts_of names.now))
+        && is_none (texts_of names.now).cells }
+{
+    let outputs = outputs_of(names);
+    are_all_names(&inputs_of(names), outputs.as_slice()) && names.cells.is_none()
+}
+
 /// What the words behind `generate` ask for.
 pub fn generate(words: &[String]) -> Option<Command<'_>>
     ensures within { IfSome result KeepsLimits }
@@ -128,9 +149,7 @@ pub fn generate(words: &[String]) -> Option<Command<'_>>
         ≡ option_and_then to_generate (names_in (words_of words.now)) }
 {
     let names = names(words)?;
-    let inputs = inputs_of(&names);
-    let outputs = outputs_of(&names);
-    if are_taken(&inputs, outputs.as_slice()) {
+    if are_generated(&names) {
         Some(Command::Generate(names))
     } else {
         None
@@ -144,9 +163,7 @@ pub fn audit(words: &[String]) -> Option<Command<'_>>
         ≡ option_and_then to_audit (names_in (words_of words.now)) }
 {
     let names = names(words)?;
-    let inputs = inputs_of(&names);
-    let outputs = outputs_of(&names);
-    if are_all_names(&inputs) && are_all_names(outputs.as_slice()) && names.cells.is_none() {
+    if are_audited(&names) {
         Some(Command::Audit(names))
     } else {
         None

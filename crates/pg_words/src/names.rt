@@ -12,10 +12,17 @@ fn is_name(word: &str) -> bool
 }
 
 /// Whether each of these words can be a name.
-pub fn are_all_names(words: &[&str]) -> bool
+fn are_names(words: &[&str]) -> bool
     ensures { result ≡ list_all is_name_word (texts words.now) }
 {
     words.iter().all(|word| is_name(word))
+}
+
+/// Whether each input and each output can be a name.
+pub fn are_all_names(inputs: &[&str], outputs: &[&str]) -> bool
+    ensures { result ≡ list_all is_name_word (texts inputs.now ++ texts outputs.now) }
+{
+    are_names(inputs) && are_names(outputs)
 }
 
 /// Whether a name differs from all others.
@@ -45,5 +52,5 @@ pub fn are_taken(inputs: &[&str], outputs: &[&str]) -> bool
     ensures { result ≡ list_all is_name_word (texts inputs.now ++ texts outputs.now)
         && outputs_differ (texts outputs.now) (texts inputs.now) }
 {
-    are_all_names(inputs) && are_all_names(outputs) && do_outputs_differ(outputs, inputs)
+    are_all_names(inputs, outputs) && do_outputs_differ(outputs, inputs)
 }

@@ -1,9 +1,9 @@
 //! The words of `sweep`.
-ghost use Rattle.std.specs.Prelude.{◌≡◌, ◌≤◌, ◌∷◌, length, IfSome};
+ghost use Rattle.std.specs.Prelude.{◌≡◌, ◌≤◌, [], ◌∷◌, length, IfSome};
 ghost use Rattle.std.specs.Option.{option_map};
-ghost use Rattle.pg_words.specs.Requests.{sweep_in};
+ghost use Rattle.pg_words.specs.Requests.{ToSweep, where_taken, sweep_in};
 ghost use Rattle.pg_words.specs.Inside.Names.{texts, words_of};
-ghost use Rattle.pg_words.specs.Inside.Asked.{asked_by, KeepsLimits};
+ghost use Rattle.pg_words.specs.Inside.Asked.{asked_by, sweep_of, sweep_inputs, KeepsSweepLimits, KeepsLimits};
 
 use crate::commands::{Command, SweepWords};
 use crate::limits::{FOLDS_MAX, PRICE_MAX, SETS_MAX};
@@ -15,24 +15,33 @@ use arrayvec::ArrayVec;
 const INPUTS_MAX: usize = 3 + SETS_MAX;
 
 /// The names of the inputs.
-fn inputs_of<'a>(
-    dict: &'a str,
-    patterns: &'a str,
-    translate: &'a str,
-    params: &'a [String],
-) -> ArrayVec<&'a str, INPUTS_MAX>
-    requires { length params.now ≤ SETS_MAX }
-    ensures { texts result.items
-        ≡ dict.now ∷ patterns.now ∷ translate.now ∷ words_of params.now }
+fn inputs_of<'a>(words: &SweepWords<'a>) -> ArrayVec<&'a str, INPUTS_MAX>
+    requires { length words.now.params.now ≤ SETS_MAX }
+    ensures { texts result.items ≡ sweep_inputs (sweep_of words.now) }
 {
     let mut inputs = ArrayVec::new();
-    inputs.push(dict);
-    inputs.push(patterns);
-    inputs.push(translate);
-    'params: for param in params {
+    inputs.push(words.dict);
+    inputs.push(words.patterns);
+    inputs.push(words.translate);
+    'params: for param in words.params {
         inputs.push(param.as_str());
     }
     inputs
+}
+
+/// The command of a sweep, where it takes these names.
+fn taken(words: SweepWords<'_>) -> Option<Command<'_>>
+    requires { KeepsSweepLimits words }
+    ensures value { option_map asked_by result ≡ where_taken (sweep_inputs (sweep_of words.entry))
+        (words.entry.output.now ∷ []) (ToSweep (sweep_of words.entry)) }
+    ensures within { IfSome result KeepsLimits }
+{
+    let inputs = inputs_of(&words);
+    if are_taken(inputs.as_slice(), &[words.output]) {
+        Some(Command::Sweep(words))
+    } else {
+        None
+    }
 }
 
 /// What the words behind `sweep` ask for.
@@ -61,19 +70,14 @@ pub fn sweep(words: &[String]) -> Option<Command<'_>>
     }
     let (dict, patterns) = (dict.as_str(), patterns.as_str());
     let (output, translate) = (output.as_str(), translate.as_str());
-    let inputs = inputs_of(dict, patterns, translate, params);
-    if are_taken(inputs.as_slice(), &[output]) {
-        Some(Command::Sweep(SweepWords {
-            dict,
-            patterns,
-            output,
-            translate,
-            folds: folds as u8,
-            bad,
-            missed,
-            params,
-        }))
-    } else {
-        None
-    }
+    taken(SweepWords {
+        dict,
+        patterns,
+        output,
+        translate,
+        folds: folds as u8,
+        bad,
+        missed,
+        params,
+    })
 }

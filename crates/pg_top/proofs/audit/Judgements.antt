@@ -15,7 +15,7 @@ use Rattle.pg_outside.specs.FilesCalls.{Reads}
 use Rattle.pg_top.specs.Answers.{IsCall}
 use Rattle.pg_top.specs.audit.Audited.{denies, given_file, given_files}
 use Rattle.pg_top.specs.audit.Inside.GivenNames.{given_names}
-use Rattle.pg_top.specs.audit.Inside.Verdicts.{yes_line, wanted_file, wanted_files, end_of, outcome_by, ReadsToFind, IsFrontOf, PutsVerdict}
+use Rattle.pg_top.specs.audit.Inside.Verdicts.{yes_line, reading_of, wanted_file, wanted_files, end_of, outcome_by, ReadsToFind, IsFrontOf, PutsVerdict}
 use Rattle.pg_top.specs.Calls.{outcome_of, reads_of}
 use Rattle.pg_top.specs.Counted.{MakesCalls, MakesPuts, read_calls, ReadsUpTo, EndsAt, IsEndedCounted, IsWholeCounted, IsCountedCall}
 use Rattle.pg_top.specs.Inside.ReadCalls.{read_call}
@@ -61,10 +61,6 @@ judged g text (Some whole) bytes (inl same) = ap (λ b. Some (option_map (denies
 judged g text (Some whole) bytes (inr h) =
     let printed : option_map printed_of (first_false bytes text) ≡ option_map printed_of (first_false whole text) = ap (λ b. option_map printed_of (first_false b text)) h.1 ∙ part_printed whole text 256 (omega arith) h.0 in
     ap Some (denied g (first_false whole text) ∙ ap (option_map (λ p. Ends No [] (said g p))) (sym printed) ∙ sym (denied g (first_false bytes text)))
-
--- a given file with its text
-abbrev pub reading_of : Given → List ℕ → List ℕ → Reading
-reading_of g name text = record { name = name; ends = λ files bytes. option_map (denies g) (first_false bytes text) }
 
 pub one_wanted : (ws : List Wanted) (w : Wanted) → wanted_files (ws ++ w ∷ []) ≡ wanted_files ws ++ wanted_file w ∷ []
 one_wanted ws w = map-append wanted_file ws (w ∷ [])

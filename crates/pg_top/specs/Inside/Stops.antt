@@ -1,5 +1,5 @@
 -- Why a command stops before it writes, and what is put then.
-use Rattle.std.specs.Prelude.{◌≡◌, ℕ, ◌+◌, List, [], take, Some, IfSome, slice_get, ◌⊎◌}
+use Rattle.std.specs.Prelude.{◌≡◌, ℕ, ◌+◌, List, [], take, Some, IfSome, Result, Ok, Err, slice_get, ◌⊎◌}
 use Rattle.std.specs.Option.{option_map}
 use Rattle.pg_types.specs.declared.refusals.ReadingError.{ReadingError}
 use Rattle.pg_types.specs.declared.refusals.ReadingError.TheVariants as reader
@@ -88,6 +88,11 @@ StopsFront name old new Memory = Unit {0}
 abbrev pub stop_of : Input → ReadingError → Stop
 stop_of input (reader.Refused refusal) = Refused input refusal
 stop_of input reader.Memory = Memory
+
+-- what a reader gave of an input, or why a command stops there
+abbrev pub accepted_as : {T : Type 0} → Input → Result T ReadingError → Result T Stop
+accepted_as input (Ok value) = Ok value
+accepted_as input (Err error) = Err (stop_of input error)
 
 -- the line of an answer was put, or its put failed, which is a fault
 abbrev pub PutsAnswer : List ℕ → Status → Status → SinkShown → SinkShown → Type 0

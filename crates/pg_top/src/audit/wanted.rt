@@ -1,5 +1,5 @@
 //! The texts that given files should be.
-ghost use Rattle.std.specs.Prelude.{◌≡◌, ◌++◌, ◌+◌, IfOk, OnOk};
+ghost use Rattle.std.specs.Prelude.{◌≡◌, ◌++◌, ◌+◌, [], ◌∷◌, IfOk, OnOk};
 ghost use Rattle.pg_driver.specs.Inside.RunAccounts.{account_of};
 ghost use Rattle.pg_patterns.specs.Inside.PatternMaps.{SignsUpTo};
 ghost use Rattle.pg_select.specs.Inside.Meanings.{new_engine};
@@ -9,7 +9,7 @@ ghost use Rattle.pg_words.specs.Requests.{if_asked};
 ghost use Rattle.pg_top.specs.Selection.{selected};
 ghost use Rattle.pg_top.specs.Inside.SelectionAccounts.{selected_account};
 ghost use Rattle.pg_top.specs.Inside.SelectionSigns.{HasSigns, signs_of};
-ghost use Rattle.pg_top.specs.audit.Inside.Verdicts.{wanted_files};
+ghost use Rattle.pg_top.specs.audit.Inside.Verdicts.{reading_of, wanted_files};
 
 use crate::inputs::Given;
 use crate::selection::{Inputs, select};
@@ -32,6 +32,20 @@ pub struct Wanted<'a> {
     pub text: Vec<u8>,
 }
 
+/// Adds the text that a given file should be.
+fn push_wanted<'a>(
+    wanted: &mut Vec<Wanted<'a>>,
+    given: Given,
+    name: &'a str,
+    text: Vec<u8>,
+) -> Result<(), AllocError>
+    ensures { OnOk result (wanted_files wanted.new.items
+        ≡ wanted_files wanted.old.items ++ reading_of given name.now text.items ∷ []) }
+{
+    wanted.push(Wanted { given, name, text })?;
+    Ok(())
+}
+
 /// Adds the hyphenated list by the patterns of an engine, where it is asked for.
 fn push_pattmp<'a, E: Engine>(
     alloc: Global,
@@ -50,47 +64,36 @@ fn push_pattmp<'a, E: Engine>(
 {
     if let Some(name) = name {
         let text = pattmp_text(alloc, engine, &inputs.dictionary, &inputs.table)?;
-        wanted.push(Wanted {
-            given: Given::Pattmp,
-            name,
-            text,
-        })?;
+        push_wanted(wanted, Given::Pattmp, name, text)?;
     }
     Ok(())
 }
 
-/// Builds the texts that the given files should be, in their order, after the run over an engine.
-fn wanted_after<'a, E: Engine>(
+/// Adds the texts that the given files should be to an empty list, in their order, after the run
+/// over an engine.
+fn push_all<'a, E: Engine>(
     alloc: Global,
+    wanted: &mut Vec<Wanted<'a>>,
     names: &Names<'a>,
     inputs: &Inputs,
     engine: &E,
     run: &Run,
-) -> Result<Vec<Wanted<'a>>, AllocError>
+) -> Result<(), AllocError>
+    requires empty { wanted.old.items ≡ [] }
     requires signs { HasSigns inputs.now }
     requires greatest { (E.meaning engine.now).signs ≡ signs_of inputs.now }
     requires patterns { (E.meaning engine.now).patterns ≡ selected inputs.now }
     requires selected { run.now.patterns ≡ selected inputs.now }
     requires pattern_signs { SignsUpTo (signs_of inputs.now) run.now.patterns }
     requires account { account_of run.now ≡ selected_account inputs.now }
-    ensures { IfOk result (λ wanted.
-        wanted_files wanted.items ≡ given_files (λ _. inputs.now) (texts_of names.now)) }
+    ensures { OnOk result
+        (wanted_files wanted.new.items ≡ given_files (λ _. inputs.now) (texts_of names.now)) }
 {
-    let patterns = run.patterns().text(alloc, &inputs.table)?;
+    let text = run.patterns().text(alloc, &inputs.table)?;
+    push_wanted(wanted, Given::Patterns, names.output, text)?;
+    push_pattmp(alloc, wanted, names.pattmp, engine, inputs)?;
     let report = report_text(alloc, inputs.start.largest(), &inputs.params, run)?;
-    let mut wanted = Vec::new(alloc);
-    wanted.push(Wanted {
-        given: Given::Patterns,
-        name: names.output,
-        text: patterns,
-    })?;
-    push_pattmp(alloc, &mut wanted, names.pattmp, engine, inputs)?;
-    wanted.push(Wanted {
-        given: Given::Report,
-        name: names.report,
-        text: report,
-    })?;
-    Ok(wanted)
+    push_wanted(wanted, Given::Report, names.report, report)
 }
 
 /// Does the run of the inputs over the plain engine, and builds the texts that the given files
@@ -128,5 +131,7 @@ fn run_wanted<'a, E: Engine>(
         wanted_files wanted.items ≡ given_files (λ _. inputs.now) (texts_of names.now)) }
 {
     let run = select(alloc, engine, inputs)?;
-    wanted_after(alloc, names, inputs, engine, &run)
+    let mut wanted = Vec::new(alloc);
+    push_all(alloc, &mut wanted, names, inputs, engine, &run)?;
+    Ok(wanted)
 }

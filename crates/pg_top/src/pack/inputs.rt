@@ -3,13 +3,11 @@ ghost use Rattle.std.specs.Prelude.{◌+◌, IfOk, IfErr, IfSome};
 ghost use Rattle.pg_outside.specs.Content.{file_at};
 ghost use Rattle.pg_patterns.specs.Inside.PatternMaps.{SignsUpTo};
 ghost use Rattle.pg_translate.specs.Alphabets.{letters_of};
-ghost use Rattle.pg_top.specs.Calls.{reads_of};
 ghost use Rattle.pg_top.specs.Counted.{MakesCalls, read_calls};
-ghost use Rattle.pg_top.specs.pack.Inside.Inputs.{pack_of, HasSource, to_pack};
+ghost use Rattle.pg_top.specs.pack.Inside.Inputs.{source_files, HasSource};
 ghost use Rattle.pg_top.specs.Inside.Stops.{OnlyReads, StopsReading};
 
 use crate::inputs::Stop;
-use crate::pack::PackNames;
 use crate::reading::{read_start, read_table};
 use pg_outside::Files;
 use pg_patterns::PatternSet;
@@ -29,22 +27,23 @@ pub struct Source {
 /// Reads what `pack` reads, in its order, up to the first refusal or fault.
 pub fn read_source<'a, F: Files, W: Watch>(
     alloc: Global,
-    names: &PackNames<'a>,
+    translate: &'a str,
+    patterns: &'a str,
     files: &mut F,
     watch: &W,
 ) -> Result<Source, Stop<'a>>
     ensures only { OnlyReads (F.shown files.old) (F.shown files.new) }
     ensures ok { IfOk result (λ source. IfSome (F.shown files.new).held (λ files.
-        HasSource (file_at files) (pack_of names.now) source)) }
+        HasSource (file_at files) translate.now patterns.now source)) }
     ensures known { IfOk result
         (λ source. SignsUpTo (letters_of source.table + 1) source.patterns) }
     ensures stopped { IfErr result
-        (StopsReading (reads_of (to_pack (pack_of names.now)))
+        (StopsReading (source_files translate.now patterns.now)
         (F.shown files.old) (F.shown files.new)) }
     ensures counted { IfOk result (λ _. MakesCalls (F.shown files.old) (F.shown files.new)
-        (read_calls (reads_of (to_pack (pack_of names.now))))) }
+        (read_calls (source_files translate.now patterns.now))) }
 {
-    let table = read_table(alloc, names.translate, files, watch)?;
-    let patterns = read_start(alloc, &table, names.patterns, files, watch)?;
+    let table = read_table(alloc, translate, files, watch)?;
+    let patterns = read_start(alloc, &table, patterns, files, watch)?;
     Ok(Source { table, patterns })
 }

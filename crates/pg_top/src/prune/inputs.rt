@@ -1,13 +1,11 @@
 //! What `prune` reads.
 ghost use Rattle.std.specs.Prelude.{IfOk, IfErr, IfSome};
 ghost use Rattle.pg_outside.specs.Content.{file_at};
-ghost use Rattle.pg_top.specs.Calls.{reads_of};
 ghost use Rattle.pg_top.specs.Counted.{MakesCalls, read_calls};
-ghost use Rattle.pg_top.specs.prune.Inside.Inputs.{prune_of, HasPrune, HasKnownSigns, to_prune};
+ghost use Rattle.pg_top.specs.prune.Inside.Inputs.{prune_reads, HasPrune, HasKnownSigns};
 ghost use Rattle.pg_top.specs.Inside.Stops.{OnlyReads, StopsReading};
 
 use crate::inputs::Stop;
-use crate::prune::PruneNames;
 use crate::reading::{read_lists, read_table};
 use pg_dict::Dictionary;
 use pg_outside::Files;
@@ -30,29 +28,24 @@ pub struct PruneInputs {
 /// Reads what `prune` reads, in its order, up to the first refusal or fault.
 pub fn read_prune<'a, F: Files, W: Watch>(
     alloc: Global,
-    names: &PruneNames<'a>,
+    translate: &'a str,
+    patterns: &'a str,
+    dict: &'a str,
     files: &mut F,
     watch: &W,
 ) -> Result<PruneInputs, Stop<'a>>
     ensures only { OnlyReads (F.shown files.old) (F.shown files.new) }
     ensures ok { IfOk result (λ inputs. IfSome (F.shown files.new).held (λ files.
-        HasPrune (file_at files) (prune_of names.now) inputs)) }
+        HasPrune (file_at files) translate.now patterns.now dict.now inputs)) }
     ensures known { IfOk result HasKnownSigns }
     ensures stopped { IfErr result
-        (StopsReading (reads_of (to_prune (prune_of names.now)))
+        (StopsReading (prune_reads translate.now patterns.now dict.now)
         (F.shown files.old) (F.shown files.new)) }
     ensures counted { IfOk result (λ _. MakesCalls (F.shown files.old) (F.shown files.new)
-        (read_calls (reads_of (to_prune (prune_of names.now))))) }
+        (read_calls (prune_reads translate.now patterns.now dict.now))) }
 {
-    let table = read_table(alloc, names.translate, files, watch)?;
-    let (patterns, dictionary) = read_lists(
-        alloc,
-        &table,
-        names.patterns,
-        names.dict,
-        files,
-        watch,
-    )?;
+    let table = read_table(alloc, translate, files, watch)?;
+    let (patterns, dictionary) = read_lists(alloc, &table, patterns, dict, files, watch)?;
     Ok(PruneInputs {
         table,
         patterns,

@@ -8,13 +8,12 @@ ghost use Rattle.pg_prune.specs.Prunes.{pruned as pruned_found};
 ghost use Rattle.pg_select.specs.CountedPositions.{minima_of};
 ghost use Rattle.pg_top.specs.Promises.{ReadsBack};
 ghost use Rattle.pg_top.specs.Outcomes.{Ends};
-ghost use Rattle.pg_top.specs.prune.Inside.Inputs.{prune_of, HasKnownSigns, pruned_files, line_of_pruned, pruned_by};
+ghost use Rattle.pg_top.specs.prune.Inside.Inputs.{HasKnownSigns, pruned_files, line_of_pruned, pruned_by};
 ghost use Rattle.pg_top.specs.prune.Pruned.{pruned_line as pruned_line_of};
 ghost use Rattle.pg_top.specs.Inside.WritesMade.{written_names, writing_of};
 ghost use Rattle.pg_top.specs.declared.answers.Status.TheVariants.{Done};
 ghost use Rattle.pg_types.specs.Lines.{lines};
 
-use crate::prune::PruneNames;
 use crate::prune::inputs::PruneInputs;
 use crate::writes::{Output, Outputs, push_file};
 use pg_prune::{Pruned, Rounds, prune_text, prune_watched};
@@ -97,19 +96,20 @@ fn push_needs<'a>(
 /// What `prune` writes and prints, where pruning comes to this.
 fn write_pruned<'a>(
     alloc: Global,
-    names: &PruneNames<'a>,
+    output: &'a str,
+    report: &'a str,
     table: &Table,
     pruned: &Pruned,
 ) -> Result<Outputs<'a>, AllocError>
     requires { SignsUpTo (letters_of table.now + 1) pruned.now.patterns }
     ensures files { IfOk result (λ made.
-        writing_of made.files.items ≡ pruned_files (prune_of names.now) table.now pruned.now) }
+        writing_of made.files.items ≡ pruned_files output.now report.now table.now pruned.now) }
     ensures lines { IfOk result (λ made. made.lines.items ≡ line_of_pruned pruned.now) }
     ensures reads_back { IfOk result (λ _. ReadsBack table.now pruned.now.patterns) }
 {
     let mut files = Vec::new(alloc);
-    push_kept(alloc, &mut files, names.output, table, pruned)?;
-    push_needs(alloc, &mut files, names.report, table, pruned)?;
+    push_kept(alloc, &mut files, output, table, pruned)?;
+    push_needs(alloc, &mut files, report, table, pruned)?;
     let kept = pruned.patterns();
     let lines = pruned_line(alloc, pruned.rounds(), pruned.removed(), kept.len() as u64)?;
     Ok(Outputs { files, lines })
@@ -118,17 +118,19 @@ fn write_pruned<'a>(
 /// Prunes, and builds all that `prune` writes and prints.
 pub fn make_prune<'a, W: Watch>(
     alloc: Global,
-    names: &PruneNames<'a>,
+    output: &'a str,
+    report: &'a str,
     inputs: &PruneInputs,
     watch: &W,
 ) -> Result<Outputs<'a>, AllocError>
     requires { HasKnownSigns inputs.now }
     ensures made { IfOk result (λ made.
-        pruned_by (prune_of names.now) inputs.now.table inputs.now.dictionary inputs.now.patterns
+        pruned_by output.now report.now
+        inputs.now.table inputs.now.dictionary inputs.now.patterns
         ≡ Ends Done (writing_of made.files.items) made.lines.items) }
     ensures named { IfOk result (λ made.
         written_names (writing_of made.files.items)
-        ≡ names.now.output.now ∷ names.now.report.now ∷ []) }
+        ≡ output.now ∷ report.now ∷ []) }
     ensures reads_back { IfOk result (λ _. ReadsBack inputs.now.table
         (pruned_found (minima_of inputs.now.table)
         inputs.now.dictionary inputs.now.patterns).patterns) }
@@ -140,5 +142,5 @@ pub fn make_prune<'a, W: Watch>(
         &inputs.patterns,
         &Told { watch },
     )?;
-    write_pruned(alloc, names, &inputs.table, &pruned)
+    write_pruned(alloc, output, report, &inputs.table, &pruned)
 }

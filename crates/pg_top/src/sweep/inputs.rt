@@ -3,6 +3,7 @@ ghost use Rattle.std.specs.Prelude.{◌≤◌, length, IfOk, IfErr, IfSome};
 ghost use Rattle.pg_outside.specs.Content.{file_at};
 ghost use Rattle.pg_words.specs.Inside.Asked.{sweep_of, KeepsSweepLimits};
 ghost use Rattle.pg_words.specs.Requests.{ToSweep};
+ghost use Rattle.pg_words.specs.declared.limits.TheConstants.{SETS_MAX};
 ghost use Rattle.pg_top.specs.Calls.{reads_of};
 ghost use Rattle.pg_top.specs.Counted.{MakesCalls, read_calls};
 ghost use Rattle.pg_top.specs.Inside.Stops.{OnlyReads, StopsReading};
@@ -48,7 +49,7 @@ pub fn read_sweep<'a, F: Files, W: Watch>(
         (terms_of words.now.folds inputs) inputs.sets.items)) }
     ensures signs { IfOk result HasSigns }
     ensures count { IfOk result
-        (λ inputs. (1 ≤ length inputs.sets.items) × (length inputs.sets.items ≤ 16)) }
+        (λ inputs. (1 ≤ length inputs.sets.items) × (length inputs.sets.items ≤ SETS_MAX)) }
     ensures stopped { IfErr result
         (StopsReading (reads_of (ToSweep (sweep_of words.now)))
         (F.shown files.old) (F.shown files.new)) }

@@ -2,6 +2,7 @@
 ghost use Rattle.std.specs.Prelude.{◌≡◌, ◌≤◌, length, IfOk, IfErr, IfSome};
 ghost use Rattle.pg_outside.specs.Content.{file_at};
 ghost use Rattle.pg_words.specs.Inside.Names.{words_of};
+ghost use Rattle.pg_words.specs.declared.limits.TheConstants.{SETS_MAX};
 ghost use Rattle.pg_top.specs.Counted.{MakesCalls, read_calls};
 ghost use Rattle.pg_top.specs.Inside.Stops.{OnlyReads, StopsReading};
 ghost use Rattle.pg_top.specs.sweep.Swept.{set_files};
@@ -21,7 +22,7 @@ pub fn read_sets<'a, F: Files, W: Watch>(
     files: &mut F,
     watch: &W,
 ) -> Result<Vec<Params>, Stop<'a>>
-    requires { length names.now ≤ 16 }
+    requires { length names.now ≤ SETS_MAX }
     ensures only { OnlyReads (F.shown files.old) (F.shown files.new) }
     ensures ok { IfOk result (λ sets. IfSome (F.shown files.new).held (λ files.
         HasSets (file_at files) (words_of names.now) sets.items)) }

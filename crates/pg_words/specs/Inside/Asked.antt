@@ -1,5 +1,5 @@
 -- What a command asks for, and the limits of its numbers.
-use Rattle.std.specs.Prelude.{ℕ, ◌≤◌, List, length, Option}
+use Rattle.std.specs.Prelude.{ℕ, ◌≤◌, List, ◌∷◌, length, Option}
 use Rattle.std.specs.Option.{option_map}
 use denote.Ref.{Bor}
 use Rattle.pg_words.specs.Requests.{FileNames, SweepRequest, Request, ToGenerate, ToAudit, ToSample, ToPack, ToTotals, ToPrune, ToSweep}
@@ -39,6 +39,10 @@ sweep_of w = record {
   missed = w.missed;
   params = words_of w.params.now;
 }
+
+-- the names of the inputs of `sweep`
+abbrev pub sweep_inputs : SweepRequest → List (List ℕ)
+sweep_inputs s = s.dict ∷ s.patterns ∷ s.translate ∷ s.params
 
 -- the command as what it asks for
 abbrev pub asked_by : Command → Request

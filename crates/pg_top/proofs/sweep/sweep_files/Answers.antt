@@ -6,7 +6,7 @@ use Rattle.pg_outside.specs.Content.{file_at}
 use Rattle.pg_top.specs.Calls.{outcome_of, reads_of}
 use Rattle.pg_words.specs.Inside.Asked.{sweep_of}
 use Rattle.pg_top.specs.Outcomes.{Ends}
-use Rattle.pg_top.specs.Promises.{SweepNames}
+use Rattle.pg_top.specs.Inside.Built.{Keeps}
 use Rattle.pg_words.specs.Requests.{ToSweep}
 use Rattle.pg_top.specs.sweep.Inside.Inputs.{terms_of}
 use Rattle.pg_top.specs.sweep.Inside.Accepted.{HasSweep}
@@ -19,22 +19,39 @@ use Rattle.pg_top.proofs.sweep.SweepTexts.{sweep_names}
 use Rattle.pg_top.proofs.sweep.SweepOrder.{sweep_accepted, sweep_outcome}
 use Rattle.pg_top.proofs.sweep.sweep_files.Goals as goal
 
-pub returns-clause-ok : goal.returns-clause-ok
-returns-clause-ok g c =
+pub returns : goal.returns
+returns g c =
     let s = sweep_of c.args.words.now in
     let terms = terms_of c.args.words.now.folds c.in_ok-inputs.inputs in
     let sets = c.in_ok-inputs.inputs.sets.items in
-    mapped (g.F.Files.shown c.read_sweep.new.files).held (λ files. HasSweep (file_at files) s terms sets)
-    (λ files. outcome_of (file_at files) (ToSweep s) ≡ Ends Done (writing_of c.in_ok-outputs.field-0.files.items) c.in_ok-outputs.field-0.lines.items)
-    (λ files h. sweep_outcome s terms sets files h ∙ c.in_ok-outputs.ensures.made) c.in_ok-inputs.ensures.ok
+    let made = c.in_ok-outputs.field-0 in
+    let s1 = g.F.Files.shown c.read_sweep.new.files in
+    let some : 1 ≤ length s.params = subst (λ n. 1 ≤ n) (sym (length-map c.args.words.now.params.now string_bytes)) c.requires.params.0 in
+    record {
+      only = c.read_sweep.ensures.only;
+      made = record {
+        comes = mapped s1.held (λ files. HasSweep (file_at files) s terms sets)
+            (λ files. outcome_of (file_at files) (ToSweep s) ≡ Ends Done (writing_of made.files.items) made.lines.items)
+            (λ files h. sweep_outcome s terms sets files h ∙ c.in_ok-outputs.ensures.made) c.in_ok-inputs.ensures.ok;
+        named = c.in_ok-outputs.ensures.named;
+        keeps = mapped s1.held (λ files. HasSweep (file_at files) s terms sets) (λ files. Keeps (ToSweep s) (file_at files))
+            (λ files h. sweep_names s (file_at files) (accepted_all (file_at files) (reads_of (ToSweep s)) (sweep_accepted s terms sets files h)) some) c.in_ok-inputs.ensures.ok;
+        counted = c.in_ok-inputs.ensures.counted;
+      };
+      stopped = tt;
+    }
 
-pub returns-in_err-inputs-clause-stopped : goal.returns-in_err-inputs-clause-stopped
-returns-in_err-inputs-clause-stopped g c =
+pub returns-in_err-inputs : goal.returns-in_err-inputs
+returns-in_err-inputs g c =
     let err = err_from_is_err_and c.from_residual.result c.from_residual.ensures.1 in
-    rw (err.1, err.2) (stops_reading (ToSweep (sweep_of c.args.words.now)) (g.F.Files.shown c.args.files.now) (g.F.Files.shown c.read_sweep.new.files) c.in_err-inputs.field-0.0 c.in_err-inputs.ensures.stopped)
+    record {
+      only = c.read_sweep.ensures.only;
+      made = rw err.1 tt;
+      stopped = rw (err.1, err.2) (stops_reading (ToSweep (sweep_of c.args.words.now)) (g.F.Files.shown c.args.files.now) (g.F.Files.shown c.read_sweep.new.files) c.in_err-inputs.field-0.0 c.in_err-inputs.ensures.stopped);
+    }
 
-pub returns-in_err-outputs-clause-stopped : goal.returns-in_err-outputs-clause-stopped
-returns-in_err-outputs-clause-stopped g c =
+pub returns-in_err-outputs : goal.returns-in_err-outputs
+returns-in_err-outputs g c =
     let s = sweep_of c.args.words.now in
     let terms = terms_of c.args.words.now.folds c.in_ok-inputs.inputs in
     let sets = c.in_ok-inputs.inputs.sets.items in
@@ -42,55 +59,8 @@ returns-in_err-outputs-clause-stopped g c =
     let s1 = g.F.Files.shown c.read_sweep.new.files in
     let accepted = mapped s1.held (λ files. HasSweep (file_at files) s terms sets) (λ files. AreAccepted (file_at files) (reads_of (ToSweep s))) (sweep_accepted s terms sets) c.in_ok-inputs.ensures.ok in
     let err = err_from_is_err_and c.from_residual-in_err-outputs.result c.from_residual-in_err-outputs.ensures.1 in
-    rw (err.1, err.2) (stops_reading (ToSweep s) s0 s1 Memory (wanted_after (reads_of (ToSweep s)) s0 s1 (omega arith) c.in_ok-inputs.ensures.counted accepted))
-
-pub returns-clause-names : goal.returns-clause-names
-returns-clause-names g c =
-    let s = sweep_of c.args.words.now in
-    let terms = terms_of c.args.words.now.folds c.in_ok-inputs.inputs in
-    let sets = c.in_ok-inputs.inputs.sets.items in
-    let some : 1 ≤ length s.params = subst (λ n. 1 ≤ n) (sym (length-map c.args.words.now.params.now string_bytes)) c.requires.params.0 in
-    mapped (g.F.Files.shown c.read_sweep.new.files).held (λ files. HasSweep (file_at files) s terms sets) (λ files. SweepNames (file_at files) s)
-    (λ files h. sweep_names s (file_at files) (accepted_all (file_at files) (reads_of (ToSweep s)) (sweep_accepted s terms sets files h)) some) c.in_ok-inputs.ensures.ok
-
-pub returns-in_err-inputs-clause-ok : goal.returns-in_err-inputs-clause-ok
-returns-in_err-inputs-clause-ok g c = rw (err_from_is_err_and c.from_residual.result c.from_residual.ensures.1).1 tt
-
-pub returns-in_err-inputs-clause-named : goal.returns-in_err-inputs-clause-named
-returns-in_err-inputs-clause-named g c = rw (err_from_is_err_and c.from_residual.result c.from_residual.ensures.1).1 tt
-
-pub returns-in_err-inputs-clause-names : goal.returns-in_err-inputs-clause-names
-returns-in_err-inputs-clause-names g c = rw (err_from_is_err_and c.from_residual.result c.from_residual.ensures.1).1 tt
-
-pub returns-in_err-inputs-clause-counted : goal.returns-in_err-inputs-clause-counted
-returns-in_err-inputs-clause-counted g c = rw (err_from_is_err_and c.from_residual.result c.from_residual.ensures.1).1 tt
-
-pub returns-in_err-inputs-clause-only : goal.returns-in_err-inputs-clause-only
-returns-in_err-inputs-clause-only g c = c.read_sweep.ensures.only
-
-pub returns-in_err-outputs-clause-ok : goal.returns-in_err-outputs-clause-ok
-returns-in_err-outputs-clause-ok g c = rw (err_from_is_err_and c.from_residual-in_err-outputs.result c.from_residual-in_err-outputs.ensures.1).1 tt
-
-pub returns-in_err-outputs-clause-named : goal.returns-in_err-outputs-clause-named
-returns-in_err-outputs-clause-named g c = rw (err_from_is_err_and c.from_residual-in_err-outputs.result c.from_residual-in_err-outputs.ensures.1).1 tt
-
-pub returns-in_err-outputs-clause-names : goal.returns-in_err-outputs-clause-names
-returns-in_err-outputs-clause-names g c = rw (err_from_is_err_and c.from_residual-in_err-outputs.result c.from_residual-in_err-outputs.ensures.1).1 tt
-
-pub returns-in_err-outputs-clause-counted : goal.returns-in_err-outputs-clause-counted
-returns-in_err-outputs-clause-counted g c = rw (err_from_is_err_and c.from_residual-in_err-outputs.result c.from_residual-in_err-outputs.ensures.1).1 tt
-
-pub returns-in_err-outputs-clause-only : goal.returns-in_err-outputs-clause-only
-returns-in_err-outputs-clause-only g c = c.read_sweep.ensures.only
-
-pub returns-clause-only : goal.returns-clause-only
-returns-clause-only g c = c.read_sweep.ensures.only
-
-pub returns-clause-named : goal.returns-clause-named
-returns-clause-named g c = c.in_ok-outputs.ensures.named
-
-pub returns-clause-counted : goal.returns-clause-counted
-returns-clause-counted g c = c.in_ok-inputs.ensures.counted
-
-pub returns-clause-stopped : goal.returns-clause-stopped
-returns-clause-stopped g c = tt
+    record {
+      only = c.read_sweep.ensures.only;
+      made = rw err.1 tt;
+      stopped = rw (err.1, err.2) (stops_reading (ToSweep s) s0 s1 Memory (wanted_after (reads_of (ToSweep s)) s0 s1 (omega arith) c.in_ok-inputs.ensures.counted accepted));
+    }

@@ -1,78 +1,35 @@
-use Rattle.pg_top.proofs.Calls.{sample_call}
+use Rattle.std.proofs.Common.{arith, refl}
+use Rattle.pg_top.proofs.Built.{built_run, sample_run}
 use Rattle.pg_top.proofs.top.perform.Goals as goal
 
-pub returns-in-Sample-clause-call : goal.returns-in-Sample-clause-call
-returns-in-Sample-clause-call g c =
-    rw c.in-Sample.is (sample_call _ _ (g.F.Files.shown c.args.files.now) (g.O.Sink.shown c.args.out.now) (g.O.Sink.shown c.sample.new.out) c.sample.result c.sample.ensures.put c.sample.ensures.counted)
+pub returns-in-Generate : goal.returns-in-Generate
+returns-in-Generate g c =
+    rw c.in-Generate.is (built_run _ c.generate_files-built.result c.args.files.now c.end.new.files (g.F.Files.shown c.args.files.now) (g.F.Files.shown c.generate_files-built.new.files) (g.F.Files.shown c.end.new.files) (g.O.Sink.shown c.args.out.now) (g.O.Sink.shown c.end.new.out) c.end.result
+    (0, omega arith, refl) (1, omega arith, refl) (λ none. cc) tt c.generate_files-built.ensures.only c.generate_files-built.ensures.made c.generate_files-built.ensures.stopped c.end.ensures)
 
-pub returns-in-Generate-clause-call : goal.returns-in-Generate-clause-call
-returns-in-Generate-clause-call g c = rw c.in-Generate.is c.generate.ensures.call
+pub returns-in-Pack : goal.returns-in-Pack
+returns-in-Pack g c =
+    rw c.in-Pack.is (built_run _ c.pack_files-built.result c.args.files.now c.end-in-Pack.new.files (g.F.Files.shown c.args.files.now) (g.F.Files.shown c.pack_files-built.new.files) (g.F.Files.shown c.end-in-Pack.new.files) (g.O.Sink.shown c.args.out.now) (g.O.Sink.shown c.end-in-Pack.new.out) c.end-in-Pack.result
+    (0, omega arith, refl) (1, omega arith, refl) (λ none. cc) tt c.pack_files-built.ensures.only c.pack_files-built.ensures.made c.pack_files-built.ensures.stopped c.end-in-Pack.ensures)
 
-pub returns-in-Generate-clause-sampled : goal.returns-in-Generate-clause-sampled
-returns-in-Generate-clause-sampled g c = rw c.in-Generate.is tt
+pub returns-in-Totals : goal.returns-in-Totals
+returns-in-Totals g c =
+    rw c.in-Totals.is (built_run _ c.total_files-built.result c.args.files.now c.end-in-Totals.new.files (g.F.Files.shown c.args.files.now) (g.F.Files.shown c.total_files-built.new.files) (g.F.Files.shown c.end-in-Totals.new.files) (g.O.Sink.shown c.args.out.now) (g.O.Sink.shown c.end-in-Totals.new.out) c.end-in-Totals.result
+    (0, omega arith, refl) (1, omega arith, refl) (λ none. cc) tt c.total_files-built.ensures.only c.total_files-built.ensures.made c.total_files-built.ensures.stopped c.end-in-Totals.ensures)
 
-pub returns-in-Generate-clause-counted : goal.returns-in-Generate-clause-counted
-returns-in-Generate-clause-counted g c = rw c.in-Generate.is c.generate.ensures.counted
+pub returns-in-Prune : goal.returns-in-Prune
+returns-in-Prune g c =
+    rw c.in-Prune.is (built_run _ c.prune_files-built.result c.args.files.now c.end-in-Prune.new.files (g.F.Files.shown c.args.files.now) (g.F.Files.shown c.prune_files-built.new.files) (g.F.Files.shown c.end-in-Prune.new.files) (g.O.Sink.shown c.args.out.now) (g.O.Sink.shown c.end-in-Prune.new.out) c.end-in-Prune.result
+    (0, omega arith, refl) (1, omega arith, refl) (λ none. cc) tt c.prune_files-built.ensures.only c.prune_files-built.ensures.made c.prune_files-built.ensures.stopped c.end-in-Prune.ensures)
 
-pub returns-in-Generate-clause-promised : goal.returns-in-Generate-clause-promised
-returns-in-Generate-clause-promised g c = rw c.in-Generate.is tt
+pub returns-in-Sweep : goal.returns-in-Sweep
+returns-in-Sweep g c =
+    rw c.in-Sweep.is (built_run _ c.sweep_files-built.result c.args.files.now c.end-in-Sweep.new.files (g.F.Files.shown c.args.files.now) (g.F.Files.shown c.sweep_files-built.new.files) (g.F.Files.shown c.end-in-Sweep.new.files) (g.O.Sink.shown c.args.out.now) (g.O.Sink.shown c.end-in-Sweep.new.out) c.end-in-Sweep.result
+    (0, omega arith, refl) (1, omega arith, refl) (λ none. cc) tt c.sweep_files-built.ensures.only c.sweep_files-built.ensures.made c.sweep_files-built.ensures.stopped c.end-in-Sweep.ensures)
 
-pub returns-in-Audit-clause-call : goal.returns-in-Audit-clause-call
-returns-in-Audit-clause-call g c = rw c.in-Audit.is c.audit.ensures.call
+pub returns-in-Audit : goal.returns-in-Audit
+returns-in-Audit g c = rw c.in-Audit.is (record { call = c.audit.ensures.call; sampled = tt; counted = c.audit.ensures.counted; promised = tt; same = λ none. cc })
 
-pub returns-in-Audit-clause-sampled : goal.returns-in-Audit-clause-sampled
-returns-in-Audit-clause-sampled g c = rw c.in-Audit.is tt
-
-pub returns-in-Audit-clause-counted : goal.returns-in-Audit-clause-counted
-returns-in-Audit-clause-counted g c = rw c.in-Audit.is c.audit.ensures.counted
-
-pub returns-in-Audit-clause-promised : goal.returns-in-Audit-clause-promised
-returns-in-Audit-clause-promised g c = rw c.in-Audit.is tt
-
-pub returns-in-Pack-clause-call : goal.returns-in-Pack-clause-call
-returns-in-Pack-clause-call g c = rw c.in-Pack.is c.pack.ensures.call
-
-pub returns-in-Pack-clause-sampled : goal.returns-in-Pack-clause-sampled
-returns-in-Pack-clause-sampled g c = rw c.in-Pack.is tt
-
-pub returns-in-Pack-clause-counted : goal.returns-in-Pack-clause-counted
-returns-in-Pack-clause-counted g c = rw c.in-Pack.is c.pack.ensures.counted
-
-pub returns-in-Pack-clause-promised : goal.returns-in-Pack-clause-promised
-returns-in-Pack-clause-promised g c = rw c.in-Pack.is c.pack.ensures.promised
-
-pub returns-in-Totals-clause-call : goal.returns-in-Totals-clause-call
-returns-in-Totals-clause-call g c = rw c.in-Totals.is c.totals.ensures.call
-
-pub returns-in-Totals-clause-sampled : goal.returns-in-Totals-clause-sampled
-returns-in-Totals-clause-sampled g c = rw c.in-Totals.is tt
-
-pub returns-in-Totals-clause-counted : goal.returns-in-Totals-clause-counted
-returns-in-Totals-clause-counted g c = rw c.in-Totals.is c.totals.ensures.counted
-
-pub returns-in-Totals-clause-promised : goal.returns-in-Totals-clause-promised
-returns-in-Totals-clause-promised g c = rw c.in-Totals.is tt
-
-pub returns-in-Prune-clause-call : goal.returns-in-Prune-clause-call
-returns-in-Prune-clause-call g c = rw c.in-Prune.is c.prune.ensures.call
-
-pub returns-in-Prune-clause-sampled : goal.returns-in-Prune-clause-sampled
-returns-in-Prune-clause-sampled g c = rw c.in-Prune.is tt
-
-pub returns-in-Prune-clause-counted : goal.returns-in-Prune-clause-counted
-returns-in-Prune-clause-counted g c = rw c.in-Prune.is c.prune.ensures.counted
-
-pub returns-in-Prune-clause-promised : goal.returns-in-Prune-clause-promised
-returns-in-Prune-clause-promised g c = rw c.in-Prune.is c.prune.ensures.promised
-
-pub returns-in-Sweep-clause-call : goal.returns-in-Sweep-clause-call
-returns-in-Sweep-clause-call g c = rw c.in-Sweep.is c.sweep.ensures.call
-
-pub returns-in-Sweep-clause-sampled : goal.returns-in-Sweep-clause-sampled
-returns-in-Sweep-clause-sampled g c = rw c.in-Sweep.is tt
-
-pub returns-in-Sweep-clause-counted : goal.returns-in-Sweep-clause-counted
-returns-in-Sweep-clause-counted g c = rw c.in-Sweep.is c.sweep.ensures.counted
-
-pub returns-in-Sweep-clause-promised : goal.returns-in-Sweep-clause-promised
-returns-in-Sweep-clause-promised g c = rw c.in-Sweep.is c.sweep.ensures.promised
+pub returns-in-Sample : goal.returns-in-Sample
+returns-in-Sample g c =
+    rw c.in-Sample.is (sample_run _ _ c.args.files.now (g.F.Files.shown c.args.files.now) (g.O.Sink.shown c.args.out.now) (g.O.Sink.shown c.sample.new.out) c.sample.result c.sample.ensures.put c.sample.ensures.counted)

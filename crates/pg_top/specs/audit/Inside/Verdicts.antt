@@ -13,17 +13,20 @@ use Rattle.pg_top.specs.declared.answers.Status.TheVariants.{Yes, No}
 use Rattle.pg_top.specs.declared.audit.compare.Verdict.{Verdict}
 use Rattle.pg_top.specs.declared.audit.compare.Verdict.TheVariants.{Equal, False}
 use Rattle.pg_top.specs.declared.audit.wanted.Wanted.{Wanted}
+use Rattle.pg_top.specs.declared.inputs.Given.{Given}
 
 -- where `audit` finds all given files right
 abbrev pub yes_line : List ℕ
 yes_line = codes "yes\n"
 
+-- a given file of this name, which is read and compared with this text
+abbrev pub reading_of : Given → List ℕ → List ℕ → Reading
+reading_of given name text =
+    record { name = name; ends = λ files bytes. option_map (denies given) (first_false bytes text) }
+
 -- a given file as it is read and compared with its text
 abbrev pub wanted_file : Wanted → Reading
-wanted_file w = record {
-  name = w.name.now;
-  ends = λ files bytes. option_map (denies w.given) (first_false bytes w.text.items);
-}
+wanted_file w = reading_of w.given w.name.now w.text.items
 
 -- given files in their order, as they are read and compared
 abbrev pub wanted_files : List Wanted → List Reading

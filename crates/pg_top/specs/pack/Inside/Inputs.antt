@@ -1,5 +1,5 @@
 -- What `pack` is given and has read, its table, and why it makes none.
-use Rattle.std.specs.Prelude.{◌≡◌, ℕ, ◌+◌, List, Some, Ok}
+use Rattle.std.specs.Prelude.{◌≡◌, ℕ, ◌+◌, List, [], ◌∷◌, Some, Ok}
 use Rattle.pg_types.specs.declared.refusals.Kind.{Kind}
 use Rattle.pg_types.specs.declared.refusals.Kind.TheVariants.{TableTooLong}
 use Rattle.pg_types.specs.declared.refusals.Refusal.{Refusal}
@@ -11,20 +11,18 @@ use Rattle.pg_table.specs.Texts.{table_text}
 use Rattle.pg_table.specs.declared.error.TableError.{TableError}
 use Rattle.pg_table.specs.declared.error.TableError.TheVariants as table_error
 use Rattle.pg_words.specs.Requests.{Request, ToPack}
-use Rattle.pg_top.specs.Readings.{Held}
+use Rattle.pg_top.specs.Readings.{Held, Reading, translate_file, patterns_file}
 use Rattle.pg_top.specs.Inside.ReadAs.{read_as}
-use Rattle.pg_top.specs.Promises.{PackKeeps}
 use Rattle.pg_top.specs.declared.inputs.Input.TheVariants as input
 use Rattle.pg_top.specs.declared.inputs.Stop.{Stop}
 use Rattle.pg_top.specs.declared.inputs.Stop.TheVariants as stop
-use Rattle.pg_top.specs.declared.pack.PackNames.{PackNames}
 use Rattle.pg_top.specs.declared.pack.inputs.Source.{Source}
 
 -- a table is refused, without a place
 abbrev pub table_refused : Kind → Refusal
 table_refused kind = record { kind = kind; line = 0; column = 0 }
 
--- the names of `pack`
+-- the names that `pack` is given
 pub record PackRequest : Type 0 where
   pub patterns : List ℕ
   pub translate : List ℕ
@@ -34,26 +32,18 @@ pub record PackRequest : Type 0 where
 abbrev pub to_pack : PackRequest → Request
 to_pack p = ToPack p.patterns p.translate p.table
 
--- what `pack` promises of files of these names
-abbrev pub KeepsPack : Held → PackRequest → Type 0
-KeepsPack files p = PackKeeps files p.patterns p.translate p.table
-
--- the names as their bytes
-abbrev pub pack_of : PackNames → PackRequest
-pack_of n = record {
-  patterns = n.patterns.now;
-  translate = n.translate.now;
-  table = n.table.now;
-}
+-- the files that `pack` reads, in its order
+abbrev pub source_files : List ℕ → List ℕ → List Reading
+source_files translate patterns = translate_file translate ∷ patterns_file translate patterns ∷ []
 
 -- the packed table of patterns for the letters of a table
 abbrev pub packed_text : Alphabet → Patterns → List ℕ
 packed_text t P = table_text (letters_of t + 1) P
 
 -- the files that are held are accepted as these
-pub record HasSource (files : Held) (p : PackRequest) (s : Source) : Type 0 where
-  pub table : read_as table files p.translate ≡ Some (Ok s.table)
-  pub patterns : read_as (start s.table) files p.patterns ≡ Some (Ok s.patterns)
+pub record HasSource (files : Held) (translate pattern_file : List ℕ) (s : Source) : Type 0 where
+  pub table : read_as table files translate ≡ Some (Ok s.table)
+  pub patterns : read_as (start s.table) files pattern_file ≡ Some (Ok s.patterns)
 
 -- why `pack` stops where no table is made
 abbrev pub stop_of_table : TableError → Stop

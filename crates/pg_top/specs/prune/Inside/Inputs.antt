@@ -13,14 +13,13 @@ use Rattle.pg_prune.specs.Prunes.{Found, pruned}
 use Rattle.pg_prune.specs.Reports.{prune_report}
 use Rattle.pg_top.specs.Outcomes.{Outcome, Writing}
 use Rattle.pg_top.specs.prune.Pruned.{outcome_of_prune, pruned_line}
-use Rattle.pg_top.specs.Readings.{Held}
+use Rattle.pg_top.specs.Readings.{Held, Reading, translate_file}
+use Rattle.pg_top.specs.Inside.Lists.{lists_under}
 use Rattle.pg_top.specs.Inside.ReadAs.{read_as}
 use Rattle.pg_words.specs.Requests.{Request, ToPrune}
-use Rattle.pg_top.specs.Promises.{PruneKeeps}
 use Rattle.pg_top.specs.declared.prune.inputs.PruneInputs.{PruneInputs}
-use Rattle.pg_top.specs.declared.prune.PruneNames.{PruneNames}
 
--- the names of `prune`
+-- the names that `prune` is given
 pub record PruneRequest : Type 0 where
   pub dict : List ℕ
   pub patterns : List ℕ
@@ -32,41 +31,31 @@ pub record PruneRequest : Type 0 where
 abbrev pub to_prune : PruneRequest → Request
 to_prune p = ToPrune p.dict p.patterns p.output p.translate p.report
 
--- what `prune` promises of files of these names
-abbrev pub KeepsPrune : Held → PruneRequest → Type 0
-KeepsPrune files p = PruneKeeps files p.dict p.patterns p.output p.translate p.report
-
--- the names as their bytes
-abbrev pub prune_of : PruneNames → PruneRequest
-prune_of n = record {
-  dict = n.dict.now;
-  patterns = n.patterns.now;
-  output = n.output.now;
-  translate = n.translate.now;
-  report = n.report.now;
-}
+-- the files that `prune` reads, in its order
+abbrev pub prune_reads : List ℕ → List ℕ → List ℕ → List Reading
+prune_reads translate patterns dict =
+    translate_file translate ∷ lists_under translate patterns dict
 
 -- the files that are held are accepted as these
-pub record HasPrune (files : Held) (p : PruneRequest) (i : PruneInputs) : Type 0 where
-  pub table : read_as table files p.translate ≡ Some (Ok i.table)
-  pub patterns : read_as (start i.table) files p.patterns ≡ Some (Ok i.patterns)
-  pub words : read_as (words i.table) files p.dict ≡ Some (Ok i.dictionary)
+pub record HasPrune (files : Held) (translate pattern_file dict : List ℕ)
+    (i : PruneInputs) : Type 0 where
+  pub table : read_as table files translate ≡ Some (Ok i.table)
+  pub patterns : read_as (start i.table) files pattern_file ≡ Some (Ok i.patterns)
+  pub words : read_as (words i.table) files dict ≡ Some (Ok i.dictionary)
 
 -- the patterns have no greater sign than the table
 abbrev pub HasKnownSigns : PruneInputs → Type 0
 HasKnownSigns i = SignsUpTo (letters_of i.table + 1) i.patterns
 
 -- the files that are written: the text of the patterns that stay, and then the report
-abbrev pub pruned_files : PruneRequest → Alphabet → Found → Writing
-pruned_files p t found =
-    (p.output, pattern_text t found.patterns)
-    ∷ (p.report, prune_report t found)
-    ∷ []
+abbrev pub pruned_files : List ℕ → List ℕ → Alphabet → Found → Writing
+pruned_files output report t found =
+    (output, pattern_text t found.patterns) ∷ (report, prune_report t found) ∷ []
 
 -- the line that `prune` prints where pruning finds this
 abbrev pub line_of_pruned : Found → List ℕ
 line_of_pruned found = pruned_line found.rounds found.removed (length found.patterns)
 
 -- what pruning these patterns by these words comes to
-abbrev pub pruned_by : PruneRequest → Alphabet → List Word → Patterns → Outcome
-pruned_by p t ws P = outcome_of_prune p.output p.report t (pruned (minima_of t) ws P)
+abbrev pub pruned_by : List ℕ → List ℕ → Alphabet → List Word → Patterns → Outcome
+pruned_by output report t ws P = outcome_of_prune output report t (pruned (minima_of t) ws P)

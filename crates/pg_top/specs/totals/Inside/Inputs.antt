@@ -9,9 +9,8 @@ use Rattle.pg_words.specs.Requests.{Request, ToTotals}
 use Rattle.pg_top.specs.Readings.{Held}
 use Rattle.pg_top.specs.Inside.ReadAs.{read_as}
 use Rattle.pg_top.specs.totals.Totalled.{packed_table}
-use Rattle.pg_top.specs.declared.totals.TotalsNames.{TotalsNames}
 
--- the names of `totals`
+-- the names that `totals` is given
 pub record TotalsRequest : Type 0 where
   pub dict : List ℕ
   pub translate : List ℕ
@@ -20,10 +19,6 @@ pub record TotalsRequest : Type 0 where
 -- what they ask for
 abbrev pub to_totals : TotalsRequest → Request
 to_totals p = ToTotals p.dict p.translate p.table
-
--- the names as their bytes
-abbrev pub totals_of : TotalsNames → TotalsRequest
-totals_of n = record { dict = n.dict.now; translate = n.translate.now; table = n.table.now }
 
 -- what `totals` prints: the totals of the words by a packed table, and the rates
 abbrev pub totals_lines : Alphabet → List Word → List ℕ → List ℕ

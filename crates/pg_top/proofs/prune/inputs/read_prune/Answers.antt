@@ -2,7 +2,7 @@ use Rattle.std.proofs.Common.{[], ◌∷◌}
 use Rattle.std.proofs.lemmas.Result.{err_from_is_err_and}
 use Rattle.pg_outside.specs.Content.{FilesShown}
 use Rattle.pg_outside.specs.FilesCalls.{Reads}
-use Rattle.pg_top.specs.prune.Inside.Inputs.{prune_of, PruneRequest}
+use Rattle.pg_top.specs.prune.Inside.Inputs.{PruneRequest}
 use Rattle.pg_top.proofs.CountedCalls.{calls_on}
 use Rattle.pg_top.proofs.prune.PruneOrder.{all_read, stopped_table, stopped_lists}
 use Rattle.pg_top.proofs.Orders.{only_on}
@@ -10,7 +10,7 @@ use Rattle.pg_top.proofs.prune.inputs.read_prune.Goals as goal
 
 pub returns-clause-ok : goal.returns-clause-ok
 returns-clause-ok g c =
-    let p : PruneRequest = prune_of c.args.names.now in
+    let p : PruneRequest = record { dict = c.args.dict.now; patterns = c.args.patterns.now; output = []; translate = c.args.translate.now; report = [] } in
     let s0 : FilesShown = g.F.Files.shown c.args.files.now in
     let s1 : FilesShown = g.F.Files.shown c.read_table.new.files in
     let s2 : FilesShown = g.F.Files.shown c.read_lists.new.files in
@@ -18,12 +18,13 @@ returns-clause-ok g c =
 
 pub returns-in_err-table-clause-stopped : goal.returns-in_err-table-clause-stopped
 returns-in_err-table-clause-stopped g c =
+    let p : PruneRequest = record { dict = c.args.dict.now; patterns = c.args.patterns.now; output = []; translate = c.args.translate.now; report = [] } in
     let err = err_from_is_err_and c.from_residual.result c.from_residual.ensures.1 in
-    rw (err.1, err.2) (stopped_table (prune_of c.args.names.now) (g.F.Files.shown c.args.files.now) (g.F.Files.shown c.read_table.new.files) c.in_err-table.field-0.0 c.read_table.ensures.calls c.in_err-table.ensures.stopped)
+    rw (err.1, err.2) (stopped_table p (g.F.Files.shown c.args.files.now) (g.F.Files.shown c.read_table.new.files) c.in_err-table.field-0.0 c.read_table.ensures.calls c.in_err-table.ensures.stopped)
 
 pub returns-in_err-patterns-clause-stopped : goal.returns-in_err-patterns-clause-stopped
 returns-in_err-patterns-clause-stopped g c =
-    let p : PruneRequest = prune_of c.args.names.now in
+    let p : PruneRequest = record { dict = c.args.dict.now; patterns = c.args.patterns.now; output = []; translate = c.args.translate.now; report = [] } in
     let s0 : FilesShown = g.F.Files.shown c.args.files.now in
     let s1 : FilesShown = g.F.Files.shown c.read_table.new.files in
     let s2 : FilesShown = g.F.Files.shown c.read_lists.new.files in
@@ -32,7 +33,7 @@ returns-in_err-patterns-clause-stopped g c =
 
 pub returns-clause-counted : goal.returns-clause-counted
 returns-clause-counted g c =
-    let p : PruneRequest = prune_of c.args.names.now in
+    let p : PruneRequest = record { dict = c.args.dict.now; patterns = c.args.patterns.now; output = []; translate = c.args.translate.now; report = [] } in
     let s0 : FilesShown = g.F.Files.shown c.args.files.now in
     let s1 : FilesShown = g.F.Files.shown c.read_table.new.files in
     let s2 : FilesShown = g.F.Files.shown c.read_lists.new.files in

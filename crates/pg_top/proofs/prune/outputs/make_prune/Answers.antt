@@ -3,7 +3,6 @@ use Rattle.std.proofs.lemmas.Result.{IfOk-weaker}
 use Rattle.pg_prune.specs.Prunes.{Found}
 use Rattle.pg_top.specs.Outcomes.{Ends}
 use Rattle.pg_top.specs.Promises.{ReadsBack}
-use Rattle.pg_top.specs.prune.Inside.Inputs.{prune_of}
 use Rattle.pg_top.specs.prune.Pruned.{outcome_of_prune}
 use Rattle.pg_top.specs.Inside.WritesMade.{written_names}
 use Rattle.pg_top.specs.declared.answers.Status.TheVariants.{Done}
@@ -13,7 +12,7 @@ use Rattle.pg_top.proofs.prune.outputs.make_prune.Goals as goal
 pub returns-clause-made : goal.returns-clause-made
 returns-clause-made g c =
     ok_by_two c.write_pruned.result _ _ _
-    (λ made files lines. ap (outcome_of_prune (prune_of c.args.names.now).output (prune_of c.args.names.now).report c.args.inputs.now.table) (sym c.in_ok-pruned.ensures.pruned) ∙ (λ k. Ends Done (sym files k) (sym lines k)))
+    (λ made files lines. ap (outcome_of_prune c.args.output.now c.args.report.now c.args.inputs.now.table) (sym c.in_ok-pruned.ensures.pruned) ∙ (λ k. Ends Done (sym files k) (sym lines k)))
     c.write_pruned.ensures.files c.write_pruned.ensures.lines
 
 pub returns-clause-named : goal.returns-clause-named

@@ -3,6 +3,7 @@ use Rattle.std.proofs.lemmas.Result.{err_from_is_err_and}
 use Rattle.pg_outside.specs.Content.{FilesShown}
 use Rattle.pg_words.specs.Inside.Asked.{sweep_of}
 use Rattle.pg_words.specs.Requests.{SweepRequest}
+use Rattle.pg_words.specs.declared.limits.TheConstants.{SETS_MAX}
 use Rattle.pg_top.proofs.Faults.{none_fell}
 use Rattle.pg_top.proofs.sweep.SweepOrder.{front_calls, all_calls, front_read, all_read, stopped_table, stopped_sets, stopped_lists}
 use Rattle.pg_top.proofs.Orders.{held_later, only_on}
@@ -58,7 +59,7 @@ pub returns-clause-signs : goal.returns-clause-signs
 returns-clause-signs g c = record { words = c.in_ok-start.ensures.signs.1; start = c.in_ok-start.ensures.signs.0 }
 
 pub returns-clause-count : goal.returns-clause-count
-returns-clause-count g c = subst (λ n. (1 ≤ n) × (n ≤ 16)) (sym c.in_ok-sets.ensures.count) c.requires.params
+returns-clause-count g c = subst (λ n. (1 ≤ n) × (n ≤ SETS_MAX)) (sym c.in_ok-sets.ensures.count) c.requires.params
 
 pub returns-in_err-table-clause-only : goal.returns-in_err-table-clause-only
 returns-in_err-table-clause-only g c = c.read_table.ensures.only

@@ -1,0 +1,39 @@
+-- What a command builds from the files that it reads, before it writes and prints.
+use Rattle.std.specs.Prelude.{◌≡◌, Result, Ok, Err, IfSome}
+use Rattle.pg_outside.specs.Content.{FilesShown, file_at}
+use Rattle.pg_top.specs.Calls.{outcome_of, reads_of, writes_of}
+use Rattle.pg_top.specs.Counted.{MakesCalls, read_calls}
+use Rattle.pg_top.specs.Inside.PutCounts.{PutsCounted}
+use Rattle.pg_top.specs.Inside.Stops.{PutsStop, Finishes}
+use Rattle.pg_top.specs.Inside.WritesMade.{written_names, writing_of}
+use Rattle.pg_top.specs.Moments.{Moment}
+use Rattle.pg_top.specs.Outcomes.{Ends}
+use Rattle.pg_top.specs.Promises.{PackKeeps, PruneKeeps, SweepNames}
+use Rattle.pg_top.specs.Readings.{Held}
+use Rattle.pg_words.specs.Requests.{Request, ToPack, ToPrune, ToSweep}
+use Rattle.pg_top.specs.declared.answers.Status.{Status}
+use Rattle.pg_top.specs.declared.answers.Status.TheVariants.{Done}
+use Rattle.pg_top.specs.declared.inputs.Stop.{Stop}
+use Rattle.pg_top.specs.declared.writes.Outputs.{Outputs}
+
+-- what a command promises of the files that it read
+abbrev pub Keeps : Request → Held → Type 0
+Keeps (ToPack patterns translate table) files = PackKeeps files patterns translate table
+Keeps (ToPrune d p o t r) files = PruneKeeps files d p o t r
+Keeps (ToSweep s) files = SweepNames files s
+Keeps request files = Unit {0}
+
+-- the files were read once each, and this is what the command is to write and print
+pub record IsMade (request : Request) (old new : FilesShown) (made : Outputs) : Type 0 where
+  pub comes : IfSome new.held (λ files. outcome_of (file_at files) request
+      ≡ Ends Done (writing_of made.files.items) made.lines.items)
+  pub named : written_names (writing_of made.files.items) ≡ writes_of request
+  pub keeps : IfSome new.held (λ files. Keeps request (file_at files))
+  pub counted : MakesCalls old new (read_calls (reads_of request))
+
+-- what a command built was written and put; or it had stopped, and the line of that was put
+abbrev pub EndsBuilt : Result Outputs Stop → Status → Moment → Moment → Type 0
+EndsBuilt (Ok made) answer old new =
+    Finishes (writing_of made.files.items) made.lines.items answer old new
+EndsBuilt (Err stop) answer old new = (new.0 ≡ old.0)
+    × PutsStop stop answer old.1 new.1 × PutsCounted stop answer old.1 new.1
