@@ -53,6 +53,16 @@ fn compare(rt: &impl Abort, files: &QuietFiles, out: &QuietSink) {
     compare_bytes(rt, out.bytes(), PRINTED);
 }
 
+/// The answer of the call over these files and this sink.
+fn answer(
+    alloc: Global,
+    files: &mut QuietFiles,
+    out: &mut QuietSink,
+) -> Result<Status, AllocError> {
+    let words = words(alloc, "generate D P O T A R")?;
+    Ok(run_quietly(alloc, &words, files, out))
+}
+
 /// Does the call over these files and this sink, and compares what comes of it.
 fn run_and_compare(
     rt: &impl Abort,
@@ -60,8 +70,7 @@ fn run_and_compare(
     files: &mut QuietFiles,
     out: &mut QuietSink,
 ) -> Result<(), Fail> {
-    let words = words(alloc, "generate D P O T A R")?;
-    assert_eq!(rt; run_quietly(alloc, &words, files, out), Status::Done);
+    assert_eq!(rt; answer(alloc, files, out)?, Status::Done);
     compare(rt, files, out);
     Ok(())
 }
