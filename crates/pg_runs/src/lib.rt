@@ -38,7 +38,6 @@ mod patterns;
 mod plain;
 #[cfg(test)]
 mod quiet;
-pub mod quiet_calls;
 #[cfg(test)]
 mod runs;
 #[cfg(test)]

@@ -1,7 +1,8 @@
 //! A call over files and a sink that never fail.
-use crate::quiet_calls::run_quietly;
+ghost use Rattle.std.specs.Prelude.{◌≢◌};
+
 use pg_outside::{QuietFiles, QuietSink};
-use pg_top::Status;
+use pg_top::{Status, run};
 use std::alloc::{AllocError, Global};
 use std::process::Abort;
 use std::test::Fail;
@@ -51,6 +52,18 @@ fn compare_bytes(rt: &impl Abort, found: Option<&[u8]>, wanted: &[u8]) {
 fn compare(rt: &impl Abort, files: &QuietFiles, out: &QuietSink) {
     compare_bytes(rt, files.bytes("O"), b"ab1\n");
     compare_bytes(rt, out.bytes(), PRINTED);
+}
+
+/// Does what the words ask for, over files and a sink that never fail. The answer is never a fault.
+fn run_quietly(
+    alloc: Global,
+    words: &[String],
+    files: &mut QuietFiles,
+    out: &mut QuietSink,
+) -> Status
+    ensures { result ≢ Status.Fault }
+{
+    run(alloc, words, files, out)
 }
 
 /// The answer of the call over these files and this sink.
