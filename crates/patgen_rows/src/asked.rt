@@ -28,8 +28,7 @@ pub(crate) fn compare_explanation(
 ) -> io::Result<()> {
     let asked = Asked { alloc, table, row };
     let said = asked.said()?;
-    let wanted = asked.content("says").unwrap_or(b"no text");
-    Ok(push_difference(text, said.as_slice() == wanted, "said", wanted, &said)?)
+    Ok(asked.compare(text, &said)?)
 }
 
 /// What a reader refuses; none where it accepts or finds no memory.
@@ -93,6 +92,12 @@ impl<'a> Asked<'a> {
     /// The content below a word.
     fn content(&self, word: &str) -> Option<&'a [u8]> {
         Some(self.table.content(self.row.find(word)?))
+    }
+
+    /// Compares an explanation with the one that is wanted.
+    fn compare(&self, text: &mut String, said: &[u8]) -> Result<(), AllocError> {
+        let wanted = self.content("says").unwrap_or(b"no text");
+        push_difference(text, said == wanted, "said", wanted, said)
     }
 
     /// The explanation.

@@ -4,7 +4,7 @@ use crate::table::{Call, Line, Row, Table};
 use pg_outside::{Files, MemoryFiles, MemorySink, ReadError, Sink};
 use pg_top::{Status, run};
 use std::alloc::{AllocError, Global};
-use std::io;
+use std::{io, mem};
 
 /// How many bytes the sink of a call and each of its files have room for.
 const ROOM: usize = 4096;
@@ -21,167 +21,215 @@ pub(crate) struct Held<'a> {
 pub(crate) struct Case<'a> {
     pub alloc: Global,
     pub table: &'a Table<'a>,
+    /// The number of the line that is changed, 0 where none is.
+    pub line: usize,
     pub files: MemoryFiles,
     pub holds: Vec<Held<'a>>,
     /// The answer of the last call, and what it printed.
     pub status: Status,
     pub out: MemorySink,
     /// What the call above that one printed.
-    pub above: Vec<u8>,
-    /// The number of the line that is changed, 0 where none is.
-    pub line: usize,
+    pub above: MemorySink,
+    /// Whether the next call on the files fails, and the next put.
+    pub is_call_due: bool,
+    pub is_put_due: bool,
 }
 
 impl<'a> Case<'a> {
     /// No file and no call.
-    pub fn new(alloc: Global, table: &'a Table<'a>) -> Result<Case<'a>, AllocError> {
-        let out = MemorySink::new(alloc, ROOM)?;
+    pub fn new(alloc: Global, table: &'a Table<'a>, line: usize) -> Result<Case<'a>, AllocError> {
         Ok(Case {
             alloc,
             table,
+            line,
             files: MemoryFiles::new(alloc),
             holds: Vec::new(alloc),
             status: Status::Done,
-            out,
-            above: Vec::new(alloc),
-            line: 0,
+            out: MemorySink::new(alloc, 0)?,
+            above: MemorySink::new(alloc, 0)?,
+            is_call_due: false,
+            is_put_due: false,
         })
     }
 
     /// Begins with the files that a row gives, one of them with a change, if there is one.
     pub fn begin(&mut self, row: &'a Row<'a>, change: Option<&'a Change<'a>>) -> io::Result<()> {
+        hold_given(&mut self.holds, self.table, row, change)?;
         self.files = MemoryFiles::new(self.alloc);
-        self.holds.clear();
-        self.add_shared(row)?;
-        self.add_own(row)?;
-        if let Some(change) = change {
-            self.line = change.line;
-            self.add(change.name, &change.bytes)?;
-        }
-        Ok(())
-    }
-
-    /// Adds the files of the table, but for those that a row is without.
-    fn add_shared(&mut self, row: &'a Row<'a>) -> io::Result<()> {
-        let table = self.table;
-        for line in table.shared.iter() {
-            if line.word == "file" && !row.is_without(line.name) {
-                self.add(line.name, table.content(line))?;
-            }
-        }
-        Ok(())
-    }
-
-    /// Adds the files of a row.
-    fn add_own(&mut self, row: &'a Row<'a>) -> io::Result<()> {
-        let table = self.table;
-        for line in row.lines.iter() {
-            match line.word {
-                "file" => self.add(line.name, table.content(line))?,
-                "missing" | "changes" => {}
-                _ => return Err(io::Error::other("a line belongs to no row of calls")),
-            }
-        }
-        Ok(())
-    }
-
-    /// Adds a file.
-    fn add(&mut self, name: &'a str, bytes: &'a [u8]) -> Result<(), AllocError> {
-        self.files.add(name, bytes, ROOM)?;
-        self.hold(name, Some(bytes))
-    }
-
-    /// From now on a file has to hold this.
-    fn hold(&mut self, name: &'a str, bytes: Option<&'a [u8]>) -> Result<(), AllocError> {
-        for held in self.holds.iter_mut() {
-            if held.name == name {
-                held.bytes = bytes;
-                return Ok(());
-            }
-        }
-        self.holds.push(Held { name, bytes })?;
-        Ok(())
+        Ok(add_held(&mut self.files, &self.holds)?)
     }
 
     /// Does a call. The files then have to hold what it wants.
     pub fn call(&mut self, call: &Call<'a>) -> io::Result<()> {
-        self.above = self.out.bytes().to_vec(self.alloc)?;
-        self.out = MemorySink::new(self.alloc, ROOM)?;
-        self.list_faults(call)?;
-        let words = words_of(self.alloc, call.line.rest)?;
-        self.status = run(self.alloc, &words, &mut self.files, &mut self.out);
-        self.hold_wanted(&call.wants)
-    }
-
-    /// Lists the calls on the files and the puts that are to fail, and the ones behind the last.
-    fn list_faults(&mut self, call: &Call<'a>) -> io::Result<()> {
-        for want in call.wants.iter() {
-            if want.word == "fails" || want.word == "calls" || want.word == "puts" {
-                self.list_fault(want)?;
-            }
-        }
+        self.above = mem::replace(&mut self.out, MemorySink::new(self.alloc, ROOM)?);
+        self.status = answer(self.alloc, call, &mut self.files, &mut self.out)?;
+        hold_wanted(&mut self.holds, self.table, &call.wants)?;
+        self.is_call_due = is_call_due(self.alloc, &mut self.files, &self.holds);
+        self.is_put_due = self.out.put(b"").is_err();
         Ok(())
     }
+}
 
-    /// Lists the call on the files or the put that a line says.
-    fn list_fault(&mut self, want: &Line<'a>) -> io::Result<()> {
-        let (number, keep) = fault_of(want.rest)?;
-        let next = number.saturating_add(1);
-        match (want.word, want.name) {
-            ("fails", "call") => self.files.fail_at(number, keep)?,
-            ("fails", "put") => self.out.fail_at(number, keep)?,
-            ("calls", "") => self.files.fail_at(next, None)?,
-            ("puts", "") => self.out.fail_at(next, None)?,
-            _ => return Err(io::Error::other("what fails is no call and no put")),
-        }
-        Ok(())
+/// The answer of a call over files and a sink, of which those calls fail that it lists.
+fn answer(
+    alloc: Global,
+    call: &Call<'_>,
+    files: &mut MemoryFiles,
+    out: &mut MemorySink,
+) -> io::Result<Status> {
+    list_faults(&call.wants, files, out)?;
+    let words = words_of(alloc, call.line.rest)?;
+    Ok(run(alloc, &words, files, out))
+}
+
+/// From now on the files have to hold what a row gives, one of them with a change, if there is one.
+pub(crate) fn hold_given<'a>(
+    holds: &mut Vec<Held<'a>>,
+    table: &'a Table<'a>,
+    row: &'a Row<'a>,
+    change: Option<&'a Change<'a>>,
+) -> io::Result<()> {
+    holds.clear();
+    hold_shared(holds, table, row)?;
+    hold_own(holds, table, row)?;
+    match change {
+        Some(change) => Ok(hold(holds, change.name, Some(&change.bytes))?),
+        None => Ok(()),
     }
+}
 
-    /// From now on the files have to hold what is wanted of a call.
-    fn hold_wanted(&mut self, wants: &[Line<'a>]) -> io::Result<()> {
-        let table = self.table;
-        for want in wants {
-            match want.word {
-                "after" => self.hold(want.name, Some(table.content(want)))?,
-                "begins" => self.hold(want.name, None)?,
-                "any" => self.hold_any(want.rest)?,
-                _ => {}
-            }
-        }
-        Ok(())
-    }
-
-    /// From now on these files may hold anything.
-    fn hold_any(&mut self, names: &'a str) -> Result<(), AllocError> {
-        for name in names.split(' ') {
-            self.hold(name, None)?;
-        }
-        Ok(())
-    }
-
-    /// The changes of a file.
-    pub fn changes(&self, name: &'a str) -> io::Result<Vec<Change<'a>>> {
-        match self.files.bytes(name) {
-            Some(bytes) => Ok(changes_of(self.alloc, name, bytes)?),
-            None => Err(io::Error::other("no file of this name stands above")),
+/// The same for the files of the table, but for those that a row is without.
+fn hold_shared<'a>(
+    holds: &mut Vec<Held<'a>>,
+    table: &'a Table<'a>,
+    row: &Row<'a>,
+) -> Result<(), AllocError> {
+    for line in table.shared.iter() {
+        if line.word == "file" && !row.is_without(line.name) {
+            hold(holds, line.name, Some(table.content(line)))?;
         }
     }
+    Ok(())
+}
 
-    /// Whether the next call on the files fails.
-    pub fn next_call_fails(&mut self) -> bool {
-        let mut bytes = Vec::new(self.alloc);
-        let name = match self.holds.first() {
-            Some(held) => held.name,
-            None => "",
-        };
-        let next = self.files.read(self.alloc, name, 100, &mut bytes);
-        next == Err(ReadError::Failed)
+/// The same for the files of a row.
+fn hold_own<'a>(
+    holds: &mut Vec<Held<'a>>,
+    table: &'a Table<'a>,
+    row: &'a Row<'a>,
+) -> io::Result<()> {
+    for line in row.lines.iter() {
+        match line.word {
+            "file" => hold(holds, line.name, Some(table.content(line)))?,
+            "missing" | "changes" => {}
+            _ => return Err(io::Error::other("a line belongs to no row of calls")),
+        }
     }
+    Ok(())
+}
 
-    /// Whether the next put fails.
-    pub fn next_put_fails(&mut self) -> bool {
-        self.out.put(b"").is_err()
+/// From now on a file has to hold this.
+fn hold<'a>(
+    holds: &mut Vec<Held<'a>>,
+    name: &'a str,
+    bytes: Option<&'a [u8]>,
+) -> Result<(), AllocError> {
+    for held in holds.iter_mut() {
+        if held.name == name {
+            held.bytes = bytes;
+            return Ok(());
+        }
     }
+    holds.push(Held { name, bytes })?;
+    Ok(())
+}
+
+/// Adds files with what they have to hold.
+fn add_held(files: &mut MemoryFiles, holds: &[Held<'_>]) -> Result<(), AllocError> {
+    for held in holds {
+        if let Some(bytes) = held.bytes {
+            files.add(held.name, bytes, ROOM)?;
+        }
+    }
+    Ok(())
+}
+
+/// The changes of a file.
+pub(crate) fn changes_in<'a>(
+    alloc: Global,
+    holds: &[Held<'a>],
+    name: &str,
+) -> io::Result<Vec<Change<'a>>> {
+    for held in holds {
+        if held.name == name
+            && let Some(bytes) = held.bytes
+        {
+            return Ok(changes_of(alloc, held.name, bytes)?);
+        }
+    }
+    Err(io::Error::other("no file of this name stands above"))
+}
+
+/// Lists the calls on the files and the puts that are to fail, and the ones behind the last.
+fn list_faults(
+    wants: &[Line<'_>],
+    files: &mut MemoryFiles,
+    out: &mut MemorySink,
+) -> io::Result<()> {
+    for want in wants {
+        if want.word == "fails" || want.word == "calls" || want.word == "puts" {
+            list_fault(fault_of(want)?, files, out)?;
+        }
+    }
+    Ok(())
+}
+
+/// Lists the call on the files or the put that is to fail.
+fn list_fault(
+    fault: Fault,
+    files: &mut MemoryFiles,
+    out: &mut MemorySink,
+) -> Result<(), AllocError> {
+    if fault.is_put {
+        out.fail_at(fault.number, fault.keep)
+    } else {
+        files.fail_at(fault.number, fault.keep)
+    }
+}
+
+/// From now on the files have to hold what is wanted of a call.
+fn hold_wanted<'a>(
+    holds: &mut Vec<Held<'a>>,
+    table: &'a Table<'a>,
+    wants: &[Line<'a>],
+) -> Result<(), AllocError> {
+    for want in wants {
+        match want.word {
+            "after" => hold(holds, want.name, Some(table.content(want)))?,
+            "begins" => hold(holds, want.name, None)?,
+            "any" => hold_any(holds, want.rest)?,
+            _ => {}
+        }
+    }
+    Ok(())
+}
+
+/// From now on these files may hold anything.
+fn hold_any<'a>(holds: &mut Vec<Held<'a>>, names: &'a str) -> Result<(), AllocError> {
+    for name in names.split(' ') {
+        hold(holds, name, None)?;
+    }
+    Ok(())
+}
+
+/// Whether the next call on the files fails.
+fn is_call_due(alloc: Global, files: &mut MemoryFiles, holds: &[Held<'_>]) -> bool {
+    let mut bytes = Vec::new(alloc);
+    let name = match holds.first() {
+        Some(held) => held.name,
+        None => "",
+    };
+    files.read(alloc, name, 100, &mut bytes) == Err(ReadError::Failed)
 }
 
 /// The words of a line, which a blank parts. Two quotes are an empty word.
@@ -197,12 +245,49 @@ pub(crate) fn words_of(alloc: Global, line: &str) -> Result<Vec<String>, AllocEr
     Ok(words)
 }
 
-/// A number, and how many bytes are kept, if some are.
-fn fault_of(text: &str) -> io::Result<(u64, Option<usize>)> {
-    let (number, keep) = text.split_once(" keeps ").unwrap_or((text, ""));
-    match (number.parse(), keep.parse()) {
-        (Ok(number), Ok(keep)) => Ok((number, Some(keep))),
-        (Ok(number), Err(_)) if keep.is_empty() => Ok((number, None)),
-        _ => Err(io::Error::other("a number is none")),
+/// A call on the files or a put that fails: its number, and how many bytes are kept, if some are.
+#[derive(Clone, Copy)]
+struct Fault {
+    is_put: bool,
+    number: u64,
+    keep: Option<usize>,
+}
+
+/// What fails by a line, or what is to fail behind the number of calls or puts that it wants.
+fn fault_of(want: &Line<'_>) -> io::Result<Fault> {
+    let is_put = is_put(want.word, want.name)?;
+    let (number, keep) = want.rest.split_once(" keeps ").unwrap_or((want.rest, ""));
+    let number = number_of(number)?;
+    let is_last = want.word != "fails";
+    Ok(Fault {
+        is_put,
+        number: number.saturating_add(u64::from(is_last)),
+        keep: if is_last { None } else { keep_of(keep)? },
+    })
+}
+
+/// Whether a line is of puts, and not of calls on the files.
+fn is_put(word: &str, name: &str) -> io::Result<bool> {
+    match (word, name) {
+        ("fails", "put") | ("puts", "") => Ok(true),
+        ("fails", "call") | ("calls", "") => Ok(false),
+        _ => Err(io::Error::other("what fails is no call and no put")),
+    }
+}
+
+/// A number of calls or puts.
+fn number_of(text: &str) -> io::Result<u64> {
+    match text.parse() {
+        Ok(number) => Ok(number),
+        Err(_) => Err(io::Error::other("a number is none")),
+    }
+}
+
+/// How many bytes are kept, if some are.
+fn keep_of(text: &str) -> io::Result<Option<usize>> {
+    match text.parse() {
+        Ok(keep) => Ok(Some(keep)),
+        Err(_) if text.is_empty() => Ok(None),
+        Err(_) => Err(io::Error::other("a number is none")),
     }
 }

@@ -8,11 +8,7 @@ use std::io;
 const SHOWN: usize = 300;
 
 /// Appends what is wrong with the last call, a line for each difference.
-pub(crate) fn compare_call(
-    text: &mut String,
-    case: &mut Case<'_>,
-    call: &Call<'_>,
-) -> io::Result<()> {
+pub(crate) fn compare_call(text: &mut String, case: &Case<'_>, call: &Call<'_>) -> io::Result<()> {
     let mut is_status_wanted = false;
     let mut are_prints_wanted = false;
     for want in call.wants.iter() {
@@ -32,25 +28,26 @@ pub(crate) fn compare_call(
 /// Compares one thing that is wanted of a call.
 fn compare_want(
     text: &mut String,
-    case: &mut Case<'_>,
+    case: &Case<'_>,
     want: &Line<'_>,
     is_behind: bool,
 ) -> io::Result<()> {
     match want.word {
-        "status" => Ok(compare_status(text, case, want.rest)?),
         "prints" => compare_printed(text, case, want),
-        "begins" => Ok(compare_beginning(text, case, want)?),
-        "same" => Ok(compare_pair(text, case, want.rest)?),
-        "calls" => {
-            let is_right = !is_behind && case.next_call_fails();
-            Ok(push_number(text, is_right, want)?)
-        }
-        "puts" => {
-            let is_right = case.next_put_fails();
-            Ok(push_number(text, is_right, want)?)
-        }
+        "status" | "begins" | "same" => Ok(compare_answer(text, case, want)?),
+        "calls" => Ok(push_number(text, !is_behind && case.is_call_due, want)?),
+        "puts" => Ok(push_number(text, case.is_put_due, want)?),
         "fails" | "after" | "any" => Ok(()),
         _ => Err(io::Error::other("a line begins with no word of a table")),
+    }
+}
+
+/// Compares the answer of a call, or a file or two that a line of the call names.
+fn compare_answer(text: &mut String, case: &Case<'_>, want: &Line<'_>) -> Result<(), AllocError> {
+    match want.word {
+        "status" => compare_status(text, case, want.rest),
+        "begins" => compare_beginning(text, case, want),
+        _ => compare_pair(text, case, want.rest),
     }
 }
 
@@ -77,22 +74,27 @@ fn compare_status(text: &mut String, case: &Case<'_>, wanted: &str) -> Result<()
 
 /// Compares what was printed with one thing that is wanted of it.
 fn compare_printed(text: &mut String, case: &Case<'_>, want: &Line<'_>) -> io::Result<()> {
-    let came = case.out.bytes();
     let wanted = match want.name {
-        "again" => case.above.as_slice(),
+        "again" => case.above.bytes(),
         "end of" => case.files.bytes(want.rest).unwrap_or(b""),
         _ => case.table.content(want),
     };
-    let is_right = match want.name {
-        "" | "again" => came == wanted,
-        "beginning" => came.starts_with(wanted),
-        "ending" => came.ends_with(wanted),
-        "at line" => is_at_line(case.alloc, came, wanted, case.line)?,
-        "end of" => !came.is_empty() && wanted.ends_with(came),
-        "anything" => true,
-        _ => return Err(io::Error::other("a line says nothing of what is printed")),
-    };
-    Ok(push_difference(text, is_right, "printed", wanted, came)?)
+    let is_right = is_printed(case, want.name, wanted)?;
+    Ok(push_difference(text, is_right, "printed", wanted, case.out.bytes())?)
+}
+
+/// Whether this was printed in the way that a line says.
+fn is_printed(case: &Case<'_>, way: &str, wanted: &[u8]) -> io::Result<bool> {
+    let came = case.out.bytes();
+    match way {
+        "" | "again" => Ok(came == wanted),
+        "beginning" => Ok(came.starts_with(wanted)),
+        "ending" => Ok(came.ends_with(wanted)),
+        "at line" => Ok(is_at_line(case.alloc, came, wanted, case.line)?),
+        "end of" => Ok(!came.is_empty() && wanted.ends_with(came)),
+        "anything" => Ok(true),
+        _ => Err(io::Error::other("a line says nothing of what is printed")),
+    }
 }
 
 /// Whether bytes begin with these, the number of a line and a blank.
@@ -147,8 +149,10 @@ pub(crate) fn push_difference(
     }
     let wanted = shown(wanted).escape_ascii();
     let came = shown(came).escape_ascii();
-    writeln!(text, "  {what}: wanted '{wanted}'")?;
-    writeln!(text, "  {what}: came   '{came}'")
+    writeln!(
+        text,
+        "  {what}: wanted '{wanted}'\n  {what}: came   '{came}'"
+    )
 }
 
 /// The front of bytes that is shown.

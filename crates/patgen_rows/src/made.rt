@@ -36,14 +36,21 @@ fn draw(state: &mut u32, most: u32) -> u32 {
     (*state / 65_536).checked_rem(most).unwrap_or(0)
 }
 
+/// A number.
+fn number_of(word: &str) -> io::Result<u32> {
+    match word.parse() {
+        Ok(number) => Ok(number),
+        Err(_) => Err(io::Error::other("a number is none")),
+    }
+}
+
 /// The numbers of a line, which a blank parts: there are `count`, and 0 stands behind them.
 fn numbers_of(line: &str, count: usize) -> io::Result<[u32; 5]> {
     let mut numbers = [0; 5];
     let mut found = 0_usize;
     for word in line.split(' ') {
-        match (numbers.get_mut(found), word.parse()) {
-            (Some(number), Ok(value)) => *number = value,
-            _ => return Err(io::Error::other("a number is none")),
+        if let Some(number) = numbers.get_mut(found) {
+            *number = number_of(word)?;
         }
         found = found.saturating_add(1);
     }

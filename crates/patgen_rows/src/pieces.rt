@@ -57,18 +57,22 @@ fn push_line(bytes: &mut Vec<u8>, text: &str) -> io::Result<()> {
 
 /// The byte of an escape behind its backslash, and what follows.
 fn escaped(rest: &str) -> Option<(u8, &str)> {
-    let (letter, rest) = rest.split_at_checked(1)?;
-    match letter {
-        "r" => Some((b'\r', rest)),
-        "t" => Some((b'\t', rest)),
-        "s" => Some((b' ', rest)),
-        "\\" => Some((b'\\', rest)),
-        "x" => {
-            let (digits, rest) = rest.split_at_checked(2)?;
-            Some((u8::from_str_radix(digits, 16).ok()?, rest))
-        }
-        _ => None,
-    }
+    let (letter, behind) = rest.split_at_checked(1)?;
+    let byte = match letter {
+        "r" => b'\r',
+        "t" => b'\t',
+        "s" => b' ',
+        "\\" => b'\\',
+        "x" => return hexadecimal(behind),
+        _ => return None,
+    };
+    Some((byte, behind))
+}
+
+/// The byte of two hexadecimal digits, and what follows.
+fn hexadecimal(rest: &str) -> Option<(u8, &str)> {
+    let (digits, behind) = rest.split_at_checked(2)?;
+    Some((u8::from_str_radix(digits, 16).ok()?, behind))
 }
 
 /// Appends the bytes of a text, in which a backslash begins an escape.

@@ -72,14 +72,22 @@ impl Line<'_> {
 impl<'a> Row<'a> {
     /// The line above the calls that begins with this word.
     pub fn find(&self, word: &str) -> Option<&Line<'a>> {
-        self.lines.iter().find(|line| line.word == word)
+        for line in self.lines.iter() {
+            if line.word == word {
+                return Some(line);
+            }
+        }
+        None
     }
 
     /// Whether it is without a file of the table.
     pub fn is_without(&self, name: &str) -> bool {
-        self.lines
-            .iter()
-            .any(|line| line.word == "missing" && line.rest == name)
+        for line in self.lines.iter() {
+            if line.word == "missing" && line.rest == name {
+                return true;
+            }
+        }
+        false
     }
 }
 

@@ -1,6 +1,6 @@
 //! The rows of a table, done in turn.
 use crate::asked::compare_explanation;
-use crate::case::Case;
+use crate::case::{Case, changes_in, hold_given};
 use crate::changes::Change;
 use crate::compare::compare_call;
 use crate::table::{Call, Row, Table};
@@ -77,7 +77,7 @@ impl<'n> Trial<'n> {
         match row.find("changes") {
             None => self.try_calls(table, row, None),
             Some(line) => {
-                let changes = changes_in(self.alloc, table, row, line.rest)?;
+                let changes = changes_of_row(self.alloc, table, row, line.rest)?;
                 self.try_changes(table, row, &changes)
             }
         }
@@ -103,7 +103,11 @@ impl<'n> Trial<'n> {
         row: &'a Row<'a>,
         change: Option<&'a Change<'a>>,
     ) -> io::Result<()> {
-        let mut case = Case::new(self.alloc, table)?;
+        let line = match change {
+            Some(change) => change.line,
+            None => 0,
+        };
+        let mut case = Case::new(self.alloc, table, line)?;
         self.try_each(&mut case, row, change)
     }
 
@@ -158,13 +162,13 @@ impl<'n> Trial<'n> {
 }
 
 /// The changes of a file of a row.
-fn changes_in<'a>(
+fn changes_of_row<'a>(
     alloc: Global,
     table: &'a Table<'a>,
     row: &'a Row<'a>,
-    name: &'a str,
+    name: &str,
 ) -> io::Result<Vec<Change<'a>>> {
-    let mut case = Case::new(alloc, table)?;
-    case.begin(row, None)?;
-    case.changes(name)
+    let mut holds = Vec::new(alloc);
+    hold_given(&mut holds, table, row, None)?;
+    changes_in(alloc, &holds, name)
 }

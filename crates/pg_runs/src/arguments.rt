@@ -1,12 +1,10 @@
-//! A system whose arguments are given and whose files may fail, and a standard error that takes all
-//! and shows nothing.
+//! A system whose arguments are given and whose files may fail.
 ghost use Rattle.std.specs.Prelude.{◌≤◌, length, IfOk};
 
 use crate::scripted::{Broken, Call, Scripted, refused};
 use std::alloc::Allocator;
 use std::env::FillError;
 use std::fs::{Metadata, OpenOptions};
-use std::io::{IsTerminal, Write};
 use std::time::Duration;
 use std::{io, rt};
 
@@ -132,25 +130,5 @@ impl<'a, R: rt::Files> rt::Files for Given<'a, R> {
 
     fn remove_dir_all<B: Allocator>(&self, alloc: B, path: &str) -> io::Result<()> {
         self.system.remove_dir_all(alloc, path)
-    }
-}
-
-/// A writer that takes all, and is no terminal.
-#[derive(Drop)]
-pub struct Nowhere;
-
-impl Write for Nowhere {
-    fn write(&mut self, bytes: &[u8]) -> io::Result<usize> {
-        Ok(bytes.len())
-    }
-
-    fn flush(&mut self) -> io::Result<()> {
-        Ok(())
-    }
-}
-
-impl IsTerminal for Nowhere {
-    fn is_terminal(&self) -> bool {
-        false
     }
 }

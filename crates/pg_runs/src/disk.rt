@@ -1,6 +1,6 @@
 //! Files over a disk in memory, with links, other names of one file, a device and a closed folder:
 //! what is written whole, stopped and failing at each call, and what is not written.
-use crate::outcomes::read_and_written;
+use crate::outcomes::outcomes;
 use pg_outside::{DiskFiles, Files};
 use pg_told_disk::ToldDisk;
 use std::alloc::{AllocError, Global};
@@ -44,10 +44,9 @@ const REFUSED: [(&str, Option<&[u8]>); 4] = [
     ("itself", None),
 ];
 
-/// Files, links to them, one to another link, one into another folder and one without a file,
+/// Adds files, links to them, one to another link, one into another folder and one without a file,
 /// another name of O, and a device.
-fn disk(alloc: Global) -> Result<ToldDisk, AllocError> {
-    let mut disk = ToldDisk::new(alloc);
+fn fill(disk: &mut ToldDisk) -> Result<(), AllocError> {
     for (name, bytes, mode) in [
         ("D", b"a-b\n".as_slice(), 0o644),
         ("O", b"old\n", 0o640),
@@ -68,7 +67,13 @@ fn disk(alloc: Global) -> Result<ToldDisk, AllocError> {
     ] {
         disk.add_link(name, text)?;
     }
-    disk.close_folder("closed/")?;
+    disk.close_folder("closed/")
+}
+
+/// A disk of these names.
+fn disk(alloc: Global) -> Result<ToldDisk, AllocError> {
+    let mut disk = ToldDisk::new(alloc);
+    fill(&mut disk)?;
     Ok(disk)
 }
 
@@ -83,19 +88,27 @@ pub(crate) fn holds(disk: &ToldDisk, name: &str, wanted: Option<&[u8]>) -> bool 
 
 /// Whether each file that is not written has what it had, and each link is one.
 fn is_rest_kept(disk: &ToldDisk) -> bool {
-    OTHERS
-        .iter()
-        .all(|(name, bytes)| holds(disk, name, Some(bytes)))
-        && ["soft", "chain", "folder/far", "dangling"]
-            .iter()
-            .all(|name| disk.is_link(name))
+    for (name, bytes) in OTHERS {
+        if !holds(disk, name, Some(bytes)) {
+            return false;
+        }
+    }
+    for name in ["soft", "chain", "folder/far", "dangling"] {
+        if !disk.is_link(name) {
+            return false;
+        }
+    }
+    true
 }
 
 /// Whether no new file is left but the one of this name.
 fn is_tidy(disk: &ToldDisk, name: &str) -> bool {
-    NEW_NAMES
-        .iter()
-        .all(|own| *own == name || holds(disk, own, None))
+    for own in NEW_NAMES {
+        if own != name && !holds(disk, own, None) {
+            return false;
+        }
+    }
+    true
 }
 
 /// Lets a disk fail at a call, or at it and each later one.
@@ -133,47 +146,24 @@ fn calls_of(alloc: Global, name: &str) -> Result<u64, AllocError> {
     })
 }
 
-/// Whether a write that is stopped at a call leaves the old bytes or the new ones.
-fn survives_a_stop(
+/// Whether a write that is stopped at a call leaves the old bytes or the new ones, or one that fails
+/// there is a fault and leaves the disk as it was.
+fn survives(
     alloc: Global,
     name: &str,
     old: Option<&[u8]>,
     call: u64,
+    stops: bool,
 ) -> Result<bool, AllocError> {
-    let (_, files) = written(alloc, name, call, true)?;
+    let (is_written, files) = written(alloc, name, call, stops)?;
     let disk = files.system();
-    Ok((holds(disk, name, old) || holds(disk, name, Some(NEW))) && is_rest_kept(disk))
-}
-
-/// Whether a write that fails at a call is a fault, and leaves the disk as it was.
-fn survives_a_failure(
-    alloc: Global,
-    name: &str,
-    old: Option<&[u8]>,
-    call: u64,
-) -> Result<bool, AllocError> {
-    let (is_written, files) = written(alloc, name, call, false)?;
-    let disk = files.system();
-    Ok(!is_written && holds(disk, name, old) && is_rest_kept(disk) && is_tidy(disk, name))
-}
-
-/// Compares what a write leaves that is stopped at a call, and one that fails there.
-fn compare_at(
-    rt: &impl Abort,
-    alloc: Global,
-    name: &str,
-    old: Option<&[u8]>,
-    call: u64,
-) -> Result<(), AllocError> {
-    assert!(rt;
-        survives_a_stop(alloc, name, old, call)?,
-        "{name} stopped at {call}"
-    );
-    assert!(rt;
-        survives_a_failure(alloc, name, old, call)?,
-        "{name} failing at {call}"
-    );
-    Ok(())
+    let is_old = holds(disk, name, old);
+    let is_right = if stops {
+        is_old || holds(disk, name, Some(NEW))
+    } else {
+        !is_written && is_old && is_tidy(disk, name)
+    };
+    Ok(is_right && is_rest_kept(disk))
 }
 
 /// Compares what a write leaves that goes well, and one that is stopped or fails at each call.
@@ -186,7 +176,12 @@ fn compare_writes(
     let calls = calls_of(alloc, name)?;
     assert!(rt; calls > 0, "{name}");
     for call in 1..calls.saturating_add(1) {
-        compare_at(rt, alloc, name, old, call)?;
+        for stops in [true, false] {
+            assert!(rt;
+                survives(alloc, name, old, call, stops)?,
+                "{name} at {call}"
+            );
+        }
     }
     Ok(())
 }
@@ -197,7 +192,7 @@ fn writes_whole_stopped_and_failing(rt: HostRuntime) -> Result<(), Fail> {
         compare_writes(&rt, rt.alloc(), name, old)?;
     }
     for (name, old) in REFUSED {
-        assert!(rt; survives_a_failure(rt.alloc(), name, old, 0)?, "{name}");
+        assert!(rt; survives(rt.alloc(), name, old, 0, false)?, "{name}");
     }
     Ok(())
 }
@@ -205,8 +200,9 @@ fn writes_whole_stopped_and_failing(rt: HostRuntime) -> Result<(), Fail> {
 /// Whether a write of one name after a read of another is refused.
 fn is_kept_for(alloc: Global, first: &str, second: &str) -> Result<bool, AllocError> {
     let mut files = DiskFiles::new(alloc, disk(alloc)?);
-    let outcomes = read_and_written(alloc, &mut files, first, second, NEW);
-    Ok(outcomes == [true, false] && holds(files.system(), second, Some(b"old\n")))
+    let read = (first, 9, Ok(()), b"old\n".as_slice());
+    let both = outcomes(alloc, &mut files, read, second, NEW);
+    Ok(both == [true, false] && holds(files.system(), second, Some(b"old\n")))
 }
 
 /// Whether a second write of what was written under one name is refused under another.

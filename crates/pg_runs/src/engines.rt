@@ -10,36 +10,32 @@ use std::alloc::Global;
 use std::process::Abort;
 use std::test::Fail;
 
-/// Compares a record of a pass without its layout.
-fn compare_pass(rt: &impl Abort, packed: &PassRecord, plain: &PassRecord) {
-    let alone = PassRecord {
-        layout: None,
-        ..*packed
-    };
-    assert_eq!(rt; alone, *plain);
-}
-
-/// Compares records of passes without their layouts.
-fn compare_passes(rt: &impl Abort, packed: &[PassRecord], plain: &[PassRecord]) {
-    for i in 0..packed.len().min(plain.len()) {
-        compare_pass(rt, &packed[i], &plain[i]);
+/// Whether records of passes are the same but for their layouts.
+fn are_same_passes(packed: &[PassRecord], plain: &[PassRecord]) -> bool {
+    for (packed, plain) in packed.iter().zip(plain) {
+        let alone = PassRecord {
+            layout: None,
+            ..*packed
+        };
+        if alone != *plain {
+            return false;
+        }
     }
+    true
 }
 
-/// Compares a record of a level without its layout.
-fn compare_level(rt: &impl Abort, packed: &LevelRecord, plain: &LevelRecord) {
-    let alone = LevelRecord {
-        layout: None,
-        ..*packed
-    };
-    assert_eq!(rt; alone, *plain);
-}
-
-/// Compares records of levels without their layouts.
-fn compare_levels(rt: &impl Abort, packed: &[LevelRecord], plain: &[LevelRecord]) {
-    for i in 0..packed.len().min(plain.len()) {
-        compare_level(rt, &packed[i], &plain[i]);
+/// Whether records of levels are.
+fn are_same_levels(packed: &[LevelRecord], plain: &[LevelRecord]) -> bool {
+    for (packed, plain) in packed.iter().zip(plain) {
+        let alone = LevelRecord {
+            layout: None,
+            ..*packed
+        };
+        if alone != *plain {
+            return false;
+        }
     }
+    true
 }
 
 /// Whether two entries are the same.
@@ -75,8 +71,8 @@ fn compare_counts(rt: &impl Abort, packed: &Run, plain: &Run) {
 fn compare(rt: &impl Abort, packed: &Run, plain: &Run) {
     compare_counts(rt, packed, plain);
     compare_patterns(rt, packed.patterns(), plain.patterns());
-    compare_passes(rt, packed.passes(), plain.passes());
-    compare_levels(rt, packed.levels(), plain.levels());
+    assert!(rt; are_same_passes(packed.passes(), plain.passes()));
+    assert!(rt; are_same_levels(packed.levels(), plain.levels()));
 }
 
 /// Does the run over the packed engine, and compares it with this one.

@@ -1,13 +1,13 @@
 //! Real files: what is read and written, and what is not.
 use crate::folders::{enter_names, holds, leave_folder, permit};
-use crate::outcomes::{read_and_written, reads_by};
-use pg_outside::{HostFiles, HostSystem, ReadError};
+use crate::outcomes::{Read, outcomes_by};
+use pg_outside::ReadError;
 use std::os::unix::fs::MetadataExt;
 use std::test::Fail;
 use std::{fs, io};
 
-/// A read with its limit, how it goes, and what it gives.
-const READS: [(&str, u32, Result<(), ReadError>, &[u8]); 6] = [
+/// Reads, behind which nothing is written.
+const READS: [Read<'_>; 6] = [
     ("D", 5, Ok(()), b"a-b\n"),
     ("D", 4, Ok(()), b"a-b\n"),
     ("soft", 4, Ok(()), b"a-b\n"),
@@ -15,6 +15,11 @@ const READS: [(&str, u32, Result<(), ReadError>, &[u8]); 6] = [
     ("missing", 5, Err(ReadError::Failed), b""),
     ("folder", 5, Err(ReadError::Failed), b""),
 ];
+
+/// The read of D, and that of a file that is left as it is.
+const OF_D: Read<'_> = ("D", 5, Ok(()), b"a-b\n");
+
+const OF_NEW: Read<'_> = ("patgen-new-0", 5, Ok(()), b"x");
 
 /// Names that are not written once D was read: names of D, and what is no file or cannot be one.
 const NOT_WRITTEN: [&str; 10] = [
@@ -42,22 +47,21 @@ const WRITTEN: [(&str, &str); 7] = [
     ("/dev/null", "later"),
 ];
 
-/// Whether a read of one file goes well, and then a write of another.
-fn outcomes(rt: &HostRuntime, read: &str, name: &str) -> [bool; 2] {
-    let mut files = HostFiles::new(rt.alloc(), HostSystem::new(rt));
-    read_and_written(rt.alloc(), &mut files, read, name, b"a1b\n")
+/// Whether a read goes as it is to, and whether a write of another file then goes well.
+fn outcomes(rt: &HostRuntime, read: Read<'_>, name: &str) -> [bool; 2] {
+    outcomes_by(rt.alloc(), rt, read, name, b"a1b\n")
 }
 
 /// Whether the file of this name is not written once D was read, and D and `patgen-new-0` stay.
 fn is_not_written(rt: &HostRuntime, name: &str) -> bool {
-    outcomes(rt, "D", name) == [true, false]
+    outcomes(rt, OF_D, name) == [true, false]
         && holds(rt, "D", b"a-b\n")
         && holds(rt, "patgen-new-0", b"x")
 }
 
 /// Whether the file of this name is written, and the other name then leads to the new bytes.
 fn is_written(rt: &HostRuntime, name: &str, other: &str) -> bool {
-    outcomes(rt, "patgen-new-0", name) == [true, true] && holds(rt, other, b"a1b\n")
+    outcomes(rt, OF_NEW, name) == [true, true] && holds(rt, other, b"a1b\n")
 }
 
 /// Makes the names, a file of the name that a new file would have, and the permissions of D.
@@ -69,9 +73,9 @@ fn enter_files(rt: &HostRuntime) -> io::Result<()> {
 
 /// The first name whose read goes otherwise or gives something else.
 fn wrong_read(rt: &HostRuntime) -> Option<&'static str> {
-    for (name, limit, wanted, bytes) in READS {
-        if !reads_by(rt.alloc(), rt, name, limit, wanted, bytes) {
-            return Some(name);
+    for read in READS {
+        if outcomes(rt, read, ".") != [true, false] {
+            return Some(read.0);
         }
     }
     None
@@ -123,7 +127,10 @@ fn real_files(rt: HostRuntime) -> Result<(), Fail> {
 /// Writes, in a folder that may not be written to, a file that is there and one that is not.
 fn written_within(rt: &HostRuntime) -> io::Result<[[bool; 2]; 2]> {
     permit(rt, "folder", 0o500)?;
-    let both = [outcomes(rt, "D", "folder/O"), outcomes(rt, "D", "folder/N")];
+    let both = [
+        outcomes(rt, OF_D, "folder/O"),
+        outcomes(rt, OF_D, "folder/N"),
+    ];
     permit(rt, "folder", 0o700)?;
     Ok(both)
 }

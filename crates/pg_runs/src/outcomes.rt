@@ -3,44 +3,32 @@ use pg_outside::{Files, HostFiles, HostSystem, ReadError};
 use std::alloc::Global;
 use std::rt;
 
-/// Whether a read of the file goes so, and gives these bytes.
-pub(crate) fn reads_so(
-    alloc: Global,
-    files: &mut impl Files,
-    name: &str,
-    limit: u32,
-    wanted: Result<(), ReadError>,
-    bytes: &[u8],
-) -> bool {
-    let mut into = Vec::new(alloc);
-    let result = files.read(alloc, name, limit as usize, &mut into);
-    result == wanted && into.as_slice() == bytes
-}
+/// A read: the name of a file, the limit, how it is to go, and what it is to give.
+pub(crate) type Read<'a> = (&'a str, u32, Result<(), ReadError>, &'a [u8]);
 
-/// Whether a read of one file goes well, and then a write of another.
-pub(crate) fn read_and_written(
+/// Whether a read goes as it is to, and whether a write of another file then goes well.
+pub(crate) fn outcomes(
     alloc: Global,
     files: &mut impl Files,
-    read: &str,
+    read: Read<'_>,
     name: &str,
     bytes: &[u8],
 ) -> [bool; 2] {
+    let (read_name, limit, wanted, given) = read;
     let mut into = Vec::new(alloc);
-    [
-        files.read(alloc, read, 9, &mut into).is_ok(),
-        files.write(name, bytes).is_ok(),
-    ]
+    let result = files.read(alloc, read_name, limit as usize, &mut into);
+    let is_right = result == wanted && into.as_slice() == given;
+    [is_right, files.write(name, bytes).is_ok()]
 }
 
-/// Whether a read of the file over this system goes so, and gives these bytes.
-pub(crate) fn reads_by(
+/// The same for files over this system.
+pub(crate) fn outcomes_by(
     alloc: Global,
     system: impl rt::Files + Drop,
+    read: Read<'_>,
     name: &str,
-    limit: u32,
-    wanted: Result<(), ReadError>,
     bytes: &[u8],
-) -> bool {
+) -> [bool; 2] {
     let mut files = HostFiles::new(alloc, HostSystem::new(system));
-    reads_so(alloc, &mut files, name, limit, wanted, bytes)
+    outcomes(alloc, &mut files, read, name, bytes)
 }

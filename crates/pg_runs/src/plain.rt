@@ -64,12 +64,16 @@ fn left_none(pass: &PassRecord) -> bool {
 /// Whether a pass can be skipped: in its level a pass of windows that are shorter by a sign, with
 /// the same dot or the dot before, left no candidate.
 fn is_skippable(earlier: &[PassRecord], pass: &PassRecord) -> bool {
-    earlier.iter().any(|shorter| {
-        left_none(shorter)
+    for shorter in earlier {
+        if left_none(shorter)
             && shorter.level == pass.level
             && shorter.len.checked_add(1) == Some(pass.len)
             && (shorter.dot == pass.dot || shorter.dot.checked_add(1) == Some(pass.dot))
-    })
+        {
+            return true;
+        }
+    }
+    false
 }
 
 impl PlainRun {
@@ -385,22 +389,12 @@ pub(crate) fn run_plainly<E: Engine>(
     requires begun { (E.meaning engine.old).begun ≡ 0 }
     requires signs { SignsAtMost (E.meaning engine.old).signs dictionary.now }
 {
+    let mut levels = Vec::with_capacity(alloc, params.count())?;
     let mut passes = Vec::new(alloc);
-    let mut levels = Vec::new(alloc);
     let start = params.start();
-    // The last level is at most 9, and so is the number of levels.
-    let _last = params.finish();
-    let count = params.count();
-    'levels: for i in 0..count {
-        let number = start + i as u8;
-        let chosen = run_passes(
-            engine,
-            dictionary,
-            table,
-            params.level(i),
-            number,
-            &mut passes,
-        )?;
+    'levels: for number in start..params.finish() + 1 {
+        let level = params.level(usize::from(number - start));
+        let chosen = run_passes(engine, dictionary, table, level, number, &mut passes)?;
         engine.end_level()?;
         levels.push(LevelRecord {
             level: number,

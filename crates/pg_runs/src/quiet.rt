@@ -1,7 +1,8 @@
 //! A call over files and a sink that never fail.
-use crate::quiet_calls::run_quietly;
+ghost use Rattle.std.specs.Prelude.{◌≢◌};
+
 use pg_outside::{QuietFiles, QuietSink};
-use pg_top::Status;
+use pg_top::{Status, run};
 use std::alloc::{AllocError, Global};
 use std::process::Abort;
 use std::test::Fail;
@@ -53,6 +54,28 @@ fn compare(rt: &impl Abort, files: &QuietFiles, out: &QuietSink) {
     compare_bytes(rt, out.bytes(), PRINTED);
 }
 
+/// Does what the words ask for, over files and a sink that never fail. The answer is never a fault.
+fn run_quietly(
+    alloc: Global,
+    words: &[String],
+    files: &mut QuietFiles,
+    out: &mut QuietSink,
+) -> Status
+    ensures { result ≢ Status.Fault }
+{
+    run(alloc, words, files, out)
+}
+
+/// The answer of the call over these files and this sink.
+fn answer(
+    alloc: Global,
+    files: &mut QuietFiles,
+    out: &mut QuietSink,
+) -> Result<Status, AllocError> {
+    let words = words(alloc, "generate D P O T A R")?;
+    Ok(run_quietly(alloc, &words, files, out))
+}
+
 /// Does the call over these files and this sink, and compares what comes of it.
 fn run_and_compare(
     rt: &impl Abort,
@@ -60,8 +83,7 @@ fn run_and_compare(
     files: &mut QuietFiles,
     out: &mut QuietSink,
 ) -> Result<(), Fail> {
-    let words = words(alloc, "generate D P O T A R")?;
-    assert_eq!(rt; run_quietly(alloc, &words, files, out), Status::Done);
+    assert_eq!(rt; answer(alloc, files, out)?, Status::Done);
     compare(rt, files, out);
     Ok(())
 }

@@ -51,28 +51,18 @@ pub(crate) fn read_inputs(alloc: Global, count: u32, parameters: &[u8]) -> Resul
 pub(crate) fn plain_run(alloc: Global, inputs: &Inputs) -> Result<Run, AllocError>
     requires { SignsAtMost (letters_of inputs.now.table + 1) inputs.now.dictionary }
 {
-    let letters = inputs.table.letters();
-    let mut engine = PlainEngine::new(alloc, letters + 1, &PatternSet::empty(alloc))?;
-    generate(
-        alloc,
-        &mut engine,
-        &inputs.dictionary,
-        &inputs.table,
-        &inputs.params,
-    )
+    let (table, dictionary, params) = (&inputs.table, &inputs.dictionary, &inputs.params);
+    let signs = table.letters() + 1;
+    let mut engine = PlainEngine::new(alloc, signs, &PatternSet::empty(alloc))?;
+    generate(alloc, &mut engine, dictionary, table, params)
 }
 
 /// The same over the packed engine.
 pub(crate) fn packed_run(alloc: Global, inputs: &Inputs) -> Result<Run, AllocError>
     requires { SignsAtMost (letters_of inputs.now.table + 1) inputs.now.dictionary }
 {
-    let letters = inputs.table.letters();
-    let mut engine = PackedEngine::new(alloc, letters + 1, &PatternSet::empty(alloc))?;
-    generate(
-        alloc,
-        &mut engine,
-        &inputs.dictionary,
-        &inputs.table,
-        &inputs.params,
-    )
+    let (table, dictionary, params) = (&inputs.table, &inputs.dictionary, &inputs.params);
+    let signs = table.letters() + 1;
+    let mut engine = PackedEngine::new(alloc, signs, &PatternSet::empty(alloc))?;
+    generate(alloc, &mut engine, dictionary, table, params)
 }

@@ -1,10 +1,10 @@
 //! The status of the program, by the words that it is handed or the reason why there are none.
-use crate::arguments::{Given, Nowhere};
+use crate::arguments::Given;
 use crate::quiet::words;
 use crate::scripted::Broken;
 use pg_main::{NoWords, run_words, status_of};
 use pg_messages::Messages;
-use pg_outside::{MemoryFiles, MemorySink};
+use pg_outside::{HostSink, MemoryFiles};
 use std::alloc::{AllocError, Global};
 use std::process::ExitCode;
 use std::rt::Clock;
@@ -49,30 +49,25 @@ fn given(alloc: Global) -> Result<MemoryFiles, AllocError> {
 /// The status for these words, or the reason why there are none, over these files.
 fn status_over<C: Clock>(
     clock: &C,
+    alloc: Global,
     words: Result<Vec<String>, NoWords>,
     files: &mut MemoryFiles,
-    out: &mut MemorySink,
-    alloc: Global,
 ) -> u8 {
     let messages = Messages::new(alloc, clock, io::sink(), false);
-    status_of(alloc, words, files, out, &messages)
-}
-
-/// The status for these words, or the reason why there are none.
-fn status_for<C: Clock>(
-    clock: &C,
-    alloc: Global,
-    words: Result<Vec<String>, NoWords>,
-) -> Result<u8, AllocError> {
-    let mut out = MemorySink::new(alloc, 200)?;
-    let mut files = given(alloc)?;
-    Ok(status_over(clock, words, &mut files, &mut out, alloc))
+    let mut out = HostSink::new(io::sink());
+    status_of(alloc, words, files, &mut out, &messages)
 }
 
 /// The status for the words of a line.
 fn status_of_line<C: Clock>(clock: &C, alloc: Global, line: &str) -> Result<u8, AllocError> {
+    let mut files = given(alloc)?;
     let words = words(alloc, line)?;
-    status_for(clock, alloc, Ok(words))
+    Ok(status_over(clock, alloc, Ok(words), &mut files))
+}
+
+/// The status where there are no words for this reason.
+fn status_without<C: Clock>(clock: &C, alloc: Global, reason: NoWords) -> u8 {
+    status_over(clock, alloc, Err(reason), &mut MemoryFiles::new(alloc))
 }
 
 #[test]
@@ -84,10 +79,9 @@ fn the_status_of_each_answer(rt: HostRuntime) -> Result<(), Fail> {
 }
 
 #[test]
-fn the_status_where_there_are_no_words(rt: HostRuntime) -> Result<(), Fail> {
-    assert_eq!(rt; status_for(&rt, rt.alloc(), Err(NoWords::Memory))?, 5);
-    assert_eq!(rt; status_for(&rt, rt.alloc(), Err(NoWords::Unreadable))?, 6);
-    Ok(())
+fn the_status_where_there_are_no_words(rt: HostRuntime) {
+    assert_eq!(rt; status_without(&rt, rt.alloc(), NoWords::Memory), 5);
+    assert_eq!(rt; status_without(&rt, rt.alloc(), NoWords::Unreadable), 6);
 }
 
 /// The arguments of a program behind its name, and its status. The files are real ones: `A` has
@@ -134,7 +128,8 @@ fn the_status_of_the_program(rt: HostRuntime) -> Result<(), Fail> {
             calls: &[],
             broken: Broken::Nothing,
         };
-        assert!(rt; run_words(&given, io::sink(), Nowhere) == ExitCode::from(*status));
+        let nowhere = fs::create(&rt, "/dev/null")?;
+        assert!(rt; run_words(&given, io::sink(), nowhere) == ExitCode::from(*status));
     }
     Ok(())
 }

@@ -64,6 +64,16 @@ fn failing_disk(alloc: Global, call: u64, stops: bool) -> Result<ToldDisk, Alloc
     Ok(disk)
 }
 
+/// The answer of a call over files, which may be those of an earlier call.
+fn answer_of(
+    alloc: Global,
+    words: &[String],
+    files: &mut DiskFiles<ToldDisk>,
+) -> Result<Status, AllocError> {
+    let mut out = MemorySink::new(alloc, 200)?;
+    Ok(run(alloc, words, files, &mut out))
+}
+
 /// Does what the words ask for, over the disk.
 fn run_over(
     alloc: Global,
@@ -71,8 +81,7 @@ fn run_over(
     disk: ToldDisk,
 ) -> Result<(Status, DiskFiles<ToldDisk>), AllocError> {
     let mut files = DiskFiles::new(alloc, disk);
-    let mut out = MemorySink::new(alloc, 200)?;
-    let status = run(alloc, words, &mut files, &mut out);
+    let status = answer_of(alloc, words, &mut files)?;
     Ok((status, files))
 }
 
@@ -87,43 +96,42 @@ fn is_same(one: &ToldDisk, other: &ToldDisk, name: &str) -> bool {
 /// Whether each name that is written leads to what it led to before or does after, whole, and each
 /// other name to what it led to before.
 fn is_old_or_new(disk: &ToldDisk, before: &ToldDisk, after: &ToldDisk) -> bool {
-    WRITTEN.iter().all(|name| is_same(disk, before, name) || is_same(disk, after, name))
-        && OTHERS.iter().all(|name| is_same(disk, before, name))
-        && disk.is_link("O")
+    for name in WRITTEN {
+        if !is_same(disk, before, name) && !is_same(disk, after, name) {
+            return false;
+        }
+    }
+    for name in OTHERS {
+        if !is_same(disk, before, name) {
+            return false;
+        }
+    }
+    disk.is_link("O")
 }
 
 /// Whether no new file is left.
 fn is_tidy(disk: &ToldDisk) -> bool {
-    ["patgen-new-0", "folder/patgen-new-0"]
-        .iter()
-        .all(|name| matches!(disk.bytes(name), Ok(None)))
+    holds(disk, "patgen-new-0", None) && holds(disk, "folder/patgen-new-0", None)
 }
 
 /// Whether the call leaves old files and new ones, whole, where it is stopped at this call of the
-/// system.
-fn survives_a_stop(
+/// system. Where that fails, it also answers with a fault and leaves nothing else.
+fn survives(
     alloc: Global,
     words: &[String],
     call: u64,
+    stops: bool,
     before: &ToldDisk,
     after: &ToldDisk,
 ) -> Result<bool, AllocError> {
-    let (_, files) = run_over(alloc, words, failing_disk(alloc, call, true)?)?;
-    Ok(files.system().is_told() && is_old_or_new(files.system(), before, after))
-}
-
-/// Whether the call answers with a fault, and leaves old files and new ones, whole, and nothing
-/// else, where this call of the system fails.
-fn survives_a_failure(
-    alloc: Global,
-    words: &[String],
-    call: u64,
-    before: &ToldDisk,
-    after: &ToldDisk,
-) -> Result<bool, AllocError> {
-    let (status, files) = run_over(alloc, words, failing_disk(alloc, call, false)?)?;
+    let (status, files) = run_over(alloc, words, failing_disk(alloc, call, stops)?)?;
     let disk = files.system();
-    Ok(status == Status::Fault && is_old_or_new(disk, before, after) && is_tidy(disk))
+    let is_right = if stops {
+        disk.is_told()
+    } else {
+        status == Status::Fault && is_tidy(disk)
+    };
+    Ok(is_right && is_old_or_new(disk, before, after))
 }
 
 /// Whether this goes well whichever call stops or fails.
@@ -134,10 +142,10 @@ fn survives_all(
     after: &ToldDisk,
 ) -> Result<bool, AllocError> {
     for call in 1..after.calls().saturating_add(1) {
-        if !survives_a_stop(alloc, words, call, before, after)?
-            || !survives_a_failure(alloc, words, call, before, after)?
-        {
-            return Ok(false);
+        for stops in [true, false] {
+            if !survives(alloc, words, call, stops, before, after)? {
+                return Ok(false);
+            }
         }
     }
     Ok(true)
@@ -172,15 +180,14 @@ fn generate_and_audit(rt: HostRuntime) -> Result<(), Fail> {
     Ok(())
 }
 
-/// The answer of a call over files, which may be those of an earlier call.
-fn answer_of(
+/// The answer for the words of a line, over files.
+fn answer_of_line(
     alloc: Global,
     line: &str,
     files: &mut DiskFiles<ToldDisk>,
 ) -> Result<Status, AllocError> {
     let words = words(alloc, line)?;
-    let mut out = MemorySink::new(alloc, 200)?;
-    Ok(run(alloc, &words, files, &mut out))
+    answer_of(alloc, &words, files)
 }
 
 /// Compares the answer of a call over files with this one.
@@ -191,7 +198,7 @@ fn compare_answer(
     files: &mut DiskFiles<ToldDisk>,
     answer: Status,
 ) -> Result<(), AllocError> {
-    assert_eq!(rt; answer_of(alloc, line, files)?, answer);
+    assert_eq!(rt; answer_of_line(alloc, line, files)?, answer);
     Ok(())
 }
 

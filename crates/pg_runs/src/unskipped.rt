@@ -16,15 +16,10 @@ use std::test::Fail;
 fn unskipped_run(alloc: Global, inputs: &Inputs) -> Result<PlainRun, Fail>
     requires { SignsAtMost (letters_of inputs.now.table + 1) inputs.now.dictionary }
 {
-    let letters = inputs.table.letters();
-    let mut engine = PackedEngine::new(alloc, letters + 1, &PatternSet::empty(alloc))?;
-    run_plainly(
-        alloc,
-        &mut engine,
-        &inputs.dictionary,
-        &inputs.table,
-        &inputs.params,
-    )
+    let (table, dictionary, params) = (&inputs.table, &inputs.dictionary, &inputs.params);
+    let signs = table.letters() + 1;
+    let mut engine = PackedEngine::new(alloc, signs, &PatternSet::empty(alloc))?;
+    run_plainly(alloc, &mut engine, dictionary, table, params)
 }
 
 /// The passes that have a candidate.

@@ -5,5 +5,5 @@ use Rattle.pg_runs.proofs.runs.packed_run.Goals as goal
 
 pub generate-requires-clause-signs : goal.generate-requires-clause-signs
 generate-requires-clause-signs c =
-    let signs = ap (λ (m : Meaning). m.signs) c.in_ok-engine.ensures ∙ ap (λ (n : ℕ). n + 1) c.letters-letters.ensures.value in
+    let signs = ap (λ (m : Meaning). m.signs) c.in_ok-engine.ensures ∙ ap (λ (n : ℕ). n + 1) c.letters-signs.ensures.value in
     subst (λ (n : ℕ). SignsAtMost n c.args.inputs.now.dictionary) (sym signs) c.requires

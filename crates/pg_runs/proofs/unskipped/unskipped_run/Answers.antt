@@ -5,5 +5,5 @@ use Rattle.pg_runs.proofs.unskipped.unskipped_run.Goals as goal
 
 pub run_plainly-requires-clause-signs : goal.run_plainly-requires-clause-signs
 run_plainly-requires-clause-signs c =
-    let signs = ap (λ (m : Meaning). m.signs) c.in_ok-engine.ensures ∙ ap (λ (n : ℕ). n + 1) c.letters-letters.ensures.value in
+    let signs = ap (λ (m : Meaning). m.signs) c.in_ok-engine.ensures ∙ ap (λ (n : ℕ). n + 1) c.letters-signs.ensures.value in
     subst (λ (n : ℕ). SignsAtMost n c.args.inputs.now.dictionary) (sym signs) c.requires

@@ -3,41 +3,44 @@ ghost use Rattle.std.specs.Prelude.{◌≡◌, IfOk, OnOk};
 
 use pg_patterns::PatternSet;
 use pg_trie::{HOPELESS, PatternTrie};
-use pg_types::{Layout, PATTERN_SIGNS_MAX, Sign};
+use pg_types::{Layout, Sign};
 use std::alloc::Global;
 use std::process::Abort;
 use std::test::Fail;
 
+/// A string of two signs, a dot of it, and a value or the mark.
+type Given = ([Sign; 2], u8, u8);
+
 /// Enters a value, or the mark, at the dot of a string.
-fn enter(trie: &mut PatternTrie, signs: &[Sign], dot: u8, value: u8) -> Result<(), Fail>
+fn enter(trie: &mut PatternTrie, signs: [Sign; 2], dot: u8, value: u8) -> Result<(), Fail>
     requires { trie.old.signs ≡ 4 }
     ensures { OnOk result (trie.new.signs ≡ 4) }
 {
-    let is_string = !signs.is_empty() && signs.len() <= PATTERN_SIGNS_MAX;
-    if !is_string || !signs.iter().all(|s| 1 <= *s && *s <= 4) {
+    let [first, second] = signs;
+    if first < 1 || 4 < first || second < 1 || 4 < second {
         return Err(Fail::new("a string of the edge and three letters"));
     }
-    if usize::from(dot) > signs.len() || value < 1 || HOPELESS < value {
+    if 2 < dot || value < 1 || HOPELESS < value {
         return Err(Fail::new("a dot within the string, and a value or the mark"));
     }
-    trie.enter(signs, dot, value)?;
+    trie.enter(&[first, second], dot, value)?;
     Ok(())
 }
 
 /// Enters the strings with their dots and values, and takes the mark out.
-fn enter_all(trie: &mut PatternTrie, entries: &[(&[Sign], u8, u8)]) -> Result<(), Fail>
+fn enter_all(trie: &mut PatternTrie, entries: &[Given]) -> Result<(), Fail>
     requires { trie.old.signs ≡ 4 }
     ensures { OnOk result (trie.new.signs ≡ 4) }
 {
     for (signs, dot, value) in entries {
-        enter(trie, signs, *dot, *value)?;
+        enter(trie, *signs, *dot, *value)?;
     }
     trie.delete_hopeless()?;
     Ok(())
 }
 
 /// The trie of the strings with their dots and values, without the mark.
-fn deleted(alloc: Global, entries: &[(&[Sign], u8, u8)]) -> Result<PatternTrie, Fail>
+fn deleted(alloc: Global, entries: &[Given]) -> Result<PatternTrie, Fail>
     ensures { IfOk result (λ t. t.signs ≡ 4) }
 {
     let mut trie = PatternTrie::new(alloc, 4)?;
@@ -84,7 +87,7 @@ fn compare_mark(rt: &impl Abort, alloc: Global, trie: &PatternTrie) -> Result<()
 
 #[test]
 fn a_mark_beside_a_value(rt: HostRuntime) -> Result<(), Fail> {
-    let trie = deleted(rt.alloc(), &[(&[2, 3], 1, 1), (&[2, 3], 1, HOPELESS)])?;
+    let trie = deleted(rt.alloc(), &[([2, 3], 1, 1), ([2, 3], 1, HOPELESS)])?;
     compare_mark(&rt, rt.alloc(), &trie)
 }
 
@@ -97,7 +100,7 @@ fn compare_tails(rt: &impl Abort, trie: &PatternTrie)
 }
 
 /// Entries whose tails are shared.
-const SHARED: &[(&[Sign], u8, u8)] = &[(&[2, 3], 0, 1), (&[2, 3], 1, 2), (&[4, 3], 1, 2)];
+const SHARED: &[Given] = &[([2, 3], 0, 1), ([2, 3], 1, 2), ([4, 3], 1, 2)];
 
 #[test]
 fn tails_are_shared(rt: HostRuntime) -> Result<(), Fail> {
