@@ -99,6 +99,10 @@ impl<'a, E: Engine, W: Watch> Engine for Watched<'a, E, W> {
         self.inner.sums_of(number)
     }
 
+    fn go_to(&self, number: u32, at: &mut Cursor) {
+        self.inner.go_to(number, at);
+    }
+
     fn order(&self, out: &mut Vec<u32>) -> Result<(), AllocError> {
         self.inner.order(out)
     }
