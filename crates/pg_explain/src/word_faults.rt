@@ -1,10 +1,8 @@
 //! Which word of a command is wrong.
 
 use crate::forms::{Behind, Command, Range, Slot};
+use pg_types::SETS_MAX;
 use pg_visible::Part::{self, Count, Say, Show};
-
-/// The most parameter files of `sweep`.
-const SETS_MAX: usize = 16;
 
 /// What is wrong with a word, or where one is missing: up to three words, and what is said behind
 /// each.

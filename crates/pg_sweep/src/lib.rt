@@ -4,14 +4,12 @@
 
 mod folds;
 pub mod found;
-pub mod limits;
 pub mod maker;
 pub mod rows;
 pub mod sets;
 pub mod text;
 
 pub use found::Sweep;
-pub use limits::SETS_MAX;
 pub use maker::Maker;
 pub use rows::SweepRow;
 pub use sets::sweep;

@@ -4,7 +4,8 @@ use Rattle.std.specs.Prelude.{string_bytes}
 use Rattle.std.specs.declared.alloc.Global.{Global}
 use Rattle.pg_words.specs.Inside.Names.{words_of}
 use Rattle.pg_words.specs.Requests.{ToSweep, where_taken, number_within, sweep_in}
-use Rattle.pg_words.specs.declared.limits.TheConstants.{FOLDS_MAX, PRICE_MAX, SETS_MAX}
+use Rattle.pg_types.specs.declared.limits.TheConstants.{SETS_MAX}
+use Rattle.pg_words.specs.declared.limits.TheConstants.{FOLDS_MAX, PRICE_MAX}
 
 -- words by their parts
 pub by_parts : (words : List (String Global)) (a b c d e f g : String Global) → 7 ≤ length words → a ≡ get_or words 0 a → b ≡ get_or words 1 b → c ≡ get_or words 2 c → d ≡ get_or words 3 d → e ≡ get_or words 4 e → f ≡ get_or words 5 f → g ≡ get_or words 6 g

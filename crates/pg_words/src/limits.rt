@@ -14,6 +14,3 @@ pub const FOLDS_MAX: u32 = 10;
 
 /// What a unit of bad or of missed costs at most.
 pub const PRICE_MAX: u32 = 1_000;
-
-/// How many parameter files `sweep` takes at most.
-pub const SETS_MAX: usize = 16;

@@ -2,7 +2,7 @@
 ghost use Rattle.std.specs.Prelude.{◌≡◌, ◌≤◌, length, IfOk, IfErr, IfSome};
 ghost use Rattle.pg_outside.specs.Content.{file_at};
 ghost use Rattle.pg_words.specs.Inside.Names.{words_of};
-ghost use Rattle.pg_words.specs.declared.limits.TheConstants.{SETS_MAX};
+ghost use Rattle.pg_types.specs.declared.limits.TheConstants.{SETS_MAX};
 ghost use Rattle.pg_top.specs.Counted.{MakesCalls, read_calls};
 ghost use Rattle.pg_top.specs.Inside.Stops.{OnlyReads, StopsReading};
 ghost use Rattle.pg_top.specs.sweep.Swept.{set_files};

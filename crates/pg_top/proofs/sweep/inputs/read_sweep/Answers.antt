@@ -3,7 +3,7 @@ use Rattle.std.proofs.lemmas.Result.{err_from_is_err_and}
 use Rattle.pg_outside.specs.Content.{FilesShown}
 use Rattle.pg_words.specs.Inside.Asked.{sweep_of}
 use Rattle.pg_words.specs.Requests.{SweepRequest}
-use Rattle.pg_words.specs.declared.limits.TheConstants.{SETS_MAX}
+use Rattle.pg_types.specs.declared.limits.TheConstants.{SETS_MAX}
 use Rattle.pg_top.proofs.Faults.{none_fell}
 use Rattle.pg_top.proofs.sweep.SweepOrder.{front_calls, all_calls, front_read, all_read, stopped_table, stopped_sets, stopped_lists}
 use Rattle.pg_top.proofs.Orders.{held_later, only_on}
