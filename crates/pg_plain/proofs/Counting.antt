@@ -3,12 +3,13 @@ use Rattle.std.proofs.Common.{◌≡◌, ◌≢◌, ℕ, ◌+◌, ◌<◌, ◌�
 use Rattle.std.proofs.Math.Seq.{get_or-append_seam}
 use Rattle.std.proofs.lemmas.List.{get_or-set_same, get_or-set_other, get_or_append_left, length-set, length-map}
 use Rattle.std.proofs.lemmas.Option.{slice_get-get_or}
+use Rattle.std.specs.Prelude.{slice_get}
 use Rattle.std.specs.FinMap.Entries.{find, put, is_sorted, length-put}
 use Rattle.std.specs.Cmp.Lexicographic.{nat_list_cmp_total}
 use Rattle.pg_types.specs.Inside.Counts.{counted_sums, with_weight, with_count, is_counted}
-use Rattle.pg_types.specs.Inside.NumberedWindows.{AreNumbered, AreInOrder, HasNumber}
+use Rattle.pg_types.specs.Inside.NumberedWindows.{Windows, AreNumbered, AreInOrder, HasNumber}
 use Rattle.pg_types.specs.Inside.NumberedStrings.{Numbers, AreNumbers, by_number}
-use Rattle.pg_types.proofs.Numbering.{number_of, numbered_found, numbers_put, by_number_none, by_number_put, length_by_number, in_order}
+use Rattle.pg_types.proofs.Numbering.{number_of, numbered_found, numbers_none, numbers_put, by_number_none, by_number_put, length_by_number, in_order}
 use Rattle.pg_types.proofs.StringEntries.{order, mapped, found_mapped, none_mapped, sorted_mapped, sorted_put, find_put_same, find_put_other, put_from}
 use Rattle.pg_plain.specs.Inside.Counted.{AreCounted, counted_of, counted_more, tally_at}
 use Rattle.pg_plain.specs.declared.counts.TheConstants.{NUMBERS_MAX}
@@ -24,12 +25,29 @@ tally_read tallies n sums lt read =
 pub none_seen : (numbers : Numbers) (tallies : List (ℕ × ℕ)) → numbers ≡ [] → counted_of numbers tallies ≡ record { counts = []; windows = [] }
 none_seen numbers tallies none = ap (λ M. counted_of M tallies) none ∙ ap (λ ws. record { counts = []; windows = ws }) by_number_none
 
-module _ (numbers : Numbers) (tallies : List (ℕ × ℕ)) (are : AreCounted numbers tallies) where
+pub none_are : (numbers : Numbers) (tallies : List (ℕ × ℕ)) (windows : Windows) → numbers ≡ [] → tallies ≡ [] → windows ≡ [] → AreCounted numbers tallies windows
+none_are numbers tallies windows none no_sums no_windows = record {
+  sorted = subst (λ M. T (is_sorted order M)) (sym none) tt;
+  numbered = subst AreNumbers (sym none) numbers_none;
+  size = ap length none ∙ sym (ap length no_sums);
+  listed = no_windows ∙ sym by_number_none ∙ ap by_number (sym none);
+  few = (let s = ap length no_sums in omega arith);
+}
+
+module _ (numbers : Numbers) (tallies : List (ℕ × ℕ)) (windows : Windows) (are : AreCounted numbers tallies windows) where
   pub ordered : T (is_sorted order (counted_of numbers tallies).counts)
   ordered = sorted_mapped (tally_at tallies) numbers are.sorted
 
   pub size_windows : length tallies ≡ length (by_number numbers)
   size_windows = sym are.size ∙ sym (length_by_number numbers)
+
+  pub size_listed : length windows ≡ length (by_number numbers)
+  size_listed = ap length are.listed
+
+  -- the window by the number, as it is read and copied
+  pub window_read : (n : ℕ) (u v : List ℕ) → n < length (by_number numbers) → v ≡ get_or windows n v → u ≡ v → HasNumber (by_number numbers) u n
+  window_read n u v lt read copied =
+      ap (λ ws. slice_get ws n) (sym are.listed) ∙ slice_get-get_or windows n v (let s = size_listed in omega arith) ∙ ap (λ (w : List ℕ). Some w) (sym (copied ∙ read))
 
   pub within : (u : List ℕ) (n : ℕ) → find order u numbers ≡ Some n → n < length tallies
   within u n at = let lt = are.numbered.below u n at in let s = are.size in omega arith
@@ -99,11 +117,12 @@ module _ (numbers : Numbers) (tallies : List (ℕ × ℕ)) (are : AreCounted num
         (set_counts ∙ ap (λ o. put order u (with_weight (unwrap_or o (0, 0)) good weight) (mapped (tally_at tallies) numbers)) (sym (sums_there u n at)))
         ∙ ap (λ b. record { counts = with_count (mapped (tally_at tallies) numbers) u good weight; windows = cond b (by_number numbers) (by_number numbers ++ u ∷ []) }) (sym (ap is_some (sums_there u n at)))
 
-    pub set_are : AreCounted numbers more
+    pub set_are : AreCounted numbers more windows
     set_are = record {
       sorted = are.sorted;
       numbered = are.numbered;
       size = are.size ∙ sym (ap length is ∙ length-set tallies n sums);
+      listed = are.listed;
       few = (let few = are.few in let s = ap length is ∙ length-set tallies n sums in omega arith);
     }
 
@@ -146,29 +165,32 @@ module _ (numbers : Numbers) (tallies : List (ℕ × ℕ)) (are : AreCounted num
             ∙ ap Some (ap (λ ts. tally_at ts m) is ∙ get_or_append_left tallies (first_sums ∷ []) (0, 0) m (within p m e))
             ∙ sym (found_mapped (tally_at tallies) p m numbers e)
 
+    listed_more : by_number after ≡ by_number numbers ++ u ∷ []
+    listed_more = ap by_number after_is ∙ by_number_put numbers are.sorted are.numbered u none put_sorted
+
     pub new_seen : counted_of after more ≡ counted_more (counted_of numbers tallies) u good weight
     new_seen =
         ap (λ counts. record { counts = counts; windows = by_number after })
         (put_counts ∙ ap (λ o. put order u (with_weight (unwrap_or o (0, 0)) good weight) (mapped (tally_at tallies) numbers)) (sym (sums_none u none)))
         ∙ ap (λ ws. record { counts = with_count (mapped (tally_at tallies) numbers) u good weight; windows = ws })
-        (ap by_number after_is ∙ by_number_put numbers are.sorted are.numbered u none put_sorted
-        ∙ ap (λ b. cond b (by_number numbers) (by_number numbers ++ u ∷ [])) (sym (ap is_some (sums_none u none))))
+        (listed_more ∙ ap (λ b. cond b (by_number numbers) (by_number numbers ++ u ∷ [])) (sym (ap is_some (sums_none u none))))
 
     size_more : length more ≡ length tallies + 1
     size_more = ap length is ∙ length-append tallies (first_sums ∷ [])
 
-    pub new_are : length more ≤ NUMBERS_MAX → AreCounted after more
-    new_are few = record {
+    pub new_are : (list : Windows) → list ≡ windows ++ u ∷ [] → length more ≤ NUMBERS_MAX → AreCounted after more list
+    new_are list list_is few = record {
       sorted = after_sorted;
       numbered = subst AreNumbers (sym after_is) (numbers_put numbers are.sorted are.numbered u none);
       size =
           ap length after_is ∙ length-put order nat_list_cmp_total u (length numbers) numbers are.sorted
           ∙ ap (λ o. cond (is_some o) (length numbers) (length numbers + 1)) none ∙ ap (λ k. k + 1) are.size ∙ sym size_more;
+      listed = list_is ∙ ap (λ ws. ws ++ u ∷ []) are.listed ∙ sym listed_more;
       few = few;
     }
 
     pub new_number : length more ≤ NUMBERS_MAX → HasNumber (by_number after) u (length tallies)
-    new_number few = let new = new_are few in number_of after new.sorted new.numbered u (length tallies) found_new
+    new_number few = let new = new_are (windows ++ u ∷ []) refl few in number_of after new.sorted new.numbered u (length tallies) found_new
 
 -- a window that is counted has a number
 pub absent_none : (numbers : Numbers) (tallies : List (ℕ × ℕ)) (u : List ℕ) → find order u numbers ≡ None → is_counted (counted_of numbers tallies).counts u ≡ true → ⊥

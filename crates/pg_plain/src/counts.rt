@@ -6,7 +6,6 @@ ghost use Rattle.std.specs.Cmp.Lexicographic.{slice_cmp};
 ghost use Rattle.std.specs.FinMap.Entries.{put, is_sorted};
 ghost use Rattle.std.specs.Ordering.{nat_cmp};
 ghost use Rattle.pg_types.specs.Inside.Counts.{AreSmall, IsNextAbove, counted_sums, sums_of, with_weight, is_counted};
-ghost use Rattle.pg_types.specs.Inside.NumberedStrings.{string_with};
 ghost use Rattle.pg_types.specs.Inside.NumberedWindows.{AreInOrder, AreNumbered, HasNumber};
 ghost use Rattle.pg_plain.specs.Inside.Counted.{counted_more, tally_at};
 
@@ -20,11 +19,12 @@ use std::ops::Bound;
 pub const NUMBERS_MAX: u32 = u32::MAX;
 
 /// The windows that are counted in a pass. A map leads from a window to its number, and the sums
-/// stand by number.
+/// and the windows stand by number.
 #[derive(Drop)]
 pub struct CountedWindows {
     numbers: BTreeMap<Cursor, u32>,
     tallies: Vec<(u64, u64)>,
+    windows: Vec<Cursor>,
 }
 
 impl Model for CountedWindows {
@@ -36,7 +36,7 @@ impl Model for CountedWindows {
 
     ghost view = { λ t. counted_of t.numbers.entries t.tallies.items };
 
-    ghost invariant = { λ t. AreCounted t.numbers.entries t.tallies.items };
+    ghost invariant = { λ t. AreCounted t.numbers.entries t.tallies.items t.windows.items };
 }
 
 impl CountedWindows {
@@ -47,6 +47,7 @@ impl CountedWindows {
         CountedWindows {
             numbers: BTreeMap::new(alloc),
             tallies: Vec::new(alloc),
+            windows: Vec::new(alloc),
         }
     }
 
@@ -56,6 +57,7 @@ impl CountedWindows {
     {
         self.numbers.clear();
         self.tallies.clear();
+        self.windows.clear();
     }
 
     /// How many windows are counted.
@@ -86,7 +88,13 @@ impl CountedWindows {
             }
             None => {
                 let sums = added((0, 0), good, weight);
-                let number = number_new(&mut self.numbers, &mut self.tallies, window, sums)?;
+                let number = number_new(
+                    &mut self.numbers,
+                    &mut self.tallies,
+                    &mut self.windows,
+                    window,
+                    sums,
+                )?;
                 Ok(number)
             }
         }
@@ -109,12 +117,12 @@ impl CountedWindows {
         self.tallies[number as usize]
     }
 
-    /// Moves the cursor to the window with the number, by a walk over the windows.
+    /// Moves the cursor to the window with the number.
     pub fn go_to(&self, number: u32, at: &mut Cursor)
         requires { number < length self.now.windows }
         ensures { HasNumber self.now.windows at.new number }
     {
-        go_to_string(&self.numbers, number, at);
+        at.set(self.windows[number as usize].signs());
     }
 
     /// Appends the numbers of the windows in the order of signs. Refused: some of them may have
@@ -156,10 +164,11 @@ fn add_to(tallies: &mut Vec<(u64, u64)>, number: u32, good: bool, weight: u64)
 
 /// Gives a window that is not counted the next number, with its sums, and tells that number.
 ///
-/// Refused: the map and the list are as before.
+/// Refused: the map and the lists are as before.
 fn number_new(
     numbers: &mut BTreeMap<Cursor, u32>,
     tallies: &mut Vec<(u64, u64)>,
+    windows: &mut Vec<Cursor>,
     window: Cursor,
     sums: (u64, u64),
 ) -> Result<u32, AllocError>
@@ -168,35 +177,49 @@ fn number_new(
     ensures numbers { OnOk result (numbers.new.entries
         ≡ put (slice_cmp nat_cmp) window (length tallies.old.items) numbers.old.entries) }
     ensures tallies { OnOk result (tallies.new.items ≡ tallies.old.items ++ sums ∷ []) }
+    ensures windows { OnOk result (windows.new.items ≡ windows.old.items ++ window ∷ []) }
     ensures few { length tallies.new.items ≤ NUMBERS_MAX }
     ensures err_numbers { OnErr result (numbers.new.entries ≡ numbers.old.entries) }
     ensures err_tallies { OnErr result (tallies.new.items ≡ tallies.old.items) }
+    ensures err_windows { OnErr result (windows.new.items ≡ windows.old.items) }
 {
     let number = tallies.len() as u32;
     if number == NUMBERS_MAX {
         return Err(AllocError);
     }
-    tallies.push(sums)?;
+    push_both(tallies, windows, sums, &window)?;
     match numbers.insert(window, number) {
         Ok(_) => Ok(number),
         Err(_) => {
             let _sums = tallies.pop();
+            let _window = windows.pop();
             Err(AllocError)
         }
     }
 }
 
-/// Moves the cursor to the window with the number; to the empty one where none has it.
-fn go_to_string(numbers: &BTreeMap<Cursor, u32>, number: u32, at: &mut Cursor)
-    ensures { at.new ≡ string_with number numbers.now.entries }
+/// Appends the sums and a copy of the window. Refused: the lists are as before.
+fn push_both(
+    tallies: &mut Vec<(u64, u64)>,
+    windows: &mut Vec<Cursor>,
+    sums: (u64, u64),
+    window: &Cursor,
+) -> Result<(), AllocError>
+    ensures tallies { OnOk result (tallies.new.items ≡ tallies.old.items ++ sums ∷ []) }
+    ensures windows { OnOk result (windows.new.items ≡ windows.old.items ++ window.now ∷ []) }
+    ensures err_tallies { OnErr result (tallies.new.items ≡ tallies.old.items) }
+    ensures err_windows { OnErr result (windows.new.items ≡ windows.old.items) }
 {
-    for (window, other) in numbers.iter() {
-        if *other == number {
-            at.set(window.signs());
-            return;
+    let mut listed = Cursor::start();
+    listed.set(window.signs());
+    tallies.push(sums)?;
+    match windows.push(listed) {
+        Ok(()) => Ok(()),
+        Err(_) => {
+            let _sums = tallies.pop();
+            Err(AllocError)
         }
     }
-    *at = Cursor::start();
 }
 
 /// Appends the numbers in the order of the windows.

@@ -19,8 +19,7 @@ use std::collections::BTreeMap;
 ///
 /// A word costs a look-up for each of its strings up to the longest that a pattern begins with. A
 /// window that is counted, chosen or given up costs a look-up, and to go to a window by its number
-/// costs a walk over the windows. To begin a pass or end a level costs at most the size of what is
-/// emptied.
+/// costs none. To begin a pass or end a level costs at most the size of what is emptied.
 #[derive(Drop)]
 pub struct PlainEngine {
     signs: u16,

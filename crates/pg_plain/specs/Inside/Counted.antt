@@ -1,5 +1,5 @@
--- The counted windows, and how they stand in a map from windows to their numbers and in a list of
--- sums by number.
+-- The counted windows, and how they stand in a map from windows to their numbers, in a list of sums
+-- by number and in a list of windows by number.
 use Rattle.std.specs.Prelude.{◌≡◌, ℕ, ◌≤◌, Bool, T, List, map, length, slice_index_or}
 use Rattle.std.specs.Ordering.{nat_cmp}
 use Rattle.std.specs.Cmp.Lexicographic.{slice_cmp}
@@ -32,10 +32,13 @@ counted_of numbers tallies =
     record { counts = map (λ e. (e.0, tally_at tallies e.1)) numbers; windows = by_number numbers }
 
 -- what is always true of them
-pub record AreCounted (numbers : Numbers) (tallies : List (ℕ × ℕ)) : Type 0 where
+pub record AreCounted (numbers : Numbers) (tallies : List (ℕ × ℕ)) (windows : Windows)
+    : Type 0 where
   pub sorted : T (is_sorted (slice_cmp nat_cmp) numbers)
   pub numbered : AreNumbers numbers
   -- each number has its sums
   pub size : length numbers ≡ length tallies
+  -- and its window
+  pub listed : windows ≡ by_number numbers
   -- and each number fits
   pub few : length tallies ≤ NUMBERS_MAX

@@ -1,17 +1,26 @@
-use Rattle.std.proofs.Common.{◌≡◌, ℕ, List, Some, length, ap, sym, ◌∙◌, arith}
-use Rattle.std.specs.Prelude.{slice_get}
+use Rattle.std.proofs.Common.{◌≡◌, length, ap, subst, ◌∙◌, arith}
 use Rattle.pg_types.specs.Inside.NumberedStrings.{by_number}
-use Rattle.pg_types.proofs.Numbering.{length_by_number, number_of, string_found}
+use Rattle.pg_types.specs.Inside.NumberedWindows.{HasNumber}
 use Rattle.pg_plain.specs.Inside.Counted.{Counted}
+use Rattle.pg_plain.proofs.Counting.{size_listed, window_read}
 use Rattle.pg_plain.proofs.counts.CountedWindows.go_to.Goals as goal
+
+pub index-requires : goal.index-requires
+index-requires c =
+    let size = size_listed c.self.inside.numbers.entries c.self.inside.tallies.items c.self.inside.windows.items c.self.invariant in
+    let same : length (by_number c.self.inside.numbers.entries) ≡ length c.args.self.now.windows = ap (λ (d : Counted). length d.windows) c.self.view_is in
+    let lt = c.requires in
+    omega arith
+
+pub set-requires-clause-len : goal.set-requires-clause-len
+set-requires-clause-len c = c.signs.ensures.len
+
+pub set-requires-clause-signs : goal.set-requires-clause-signs
+set-requires-clause-signs c = c.signs.ensures.signs
 
 pub returns : goal.returns
 returns c =
-    let numbers = c.self.inside.numbers.entries in
-    let are = c.self.invariant in
-    let same : length (by_number numbers) ≡ length c.args.self.now.windows = ap (λ (d : Counted). length d.windows) c.self.view_is in
-    let e = are.numbered.each c.args.number (omega (arith, same, length_by_number numbers, c.requires)) in
-    let is = string_found numbers e.0 c.args.number are.sorted e.1 (λ v there. are.numbered.apart v e.0 c.args.number there e.1) in
-    ap (λ (d : Counted). slice_get d.windows c.args.number) (sym c.self.view_is)
-    ∙ number_of numbers are.sorted are.numbered e.0 c.args.number e.1
-    ∙ ap (λ (u : List ℕ). Some u) (sym (c.go_to_string.ensures ∙ is))
+    let same : length (by_number c.self.inside.numbers.entries) ≡ length c.args.self.now.windows = ap (λ (d : Counted). length d.windows) c.self.view_is in
+    let lt = c.requires in
+    subst (λ (d : Counted). HasNumber d.windows c.set.new.self c.args.number) c.self.view_is
+    (window_read c.self.inside.numbers.entries c.self.inside.tallies.items c.self.inside.windows.items c.self.invariant c.args.number c.set.new.self c.index.result.now (omega arith) c.index.ensures (c.set.ensures ∙ c.signs.ensures.value))

@@ -9,13 +9,13 @@ use Rattle.pg_plain.proofs.counts.CountedWindows.len.Goals as goal
 
 pub returns-clause-len : goal.returns-clause-len
 returns-clause-len c =
-    let size = size_windows c.self.inside.numbers.entries c.self.inside.tallies.items c.self.invariant in
+    let size = size_windows c.self.inside.numbers.entries c.self.inside.tallies.items c.self.inside.windows.items c.self.invariant in
     let same : length (by_number c.self.inside.numbers.entries) ≡ length c.args.self.now.windows = ap (λ (d : Counted). length d.windows) c.self.view_is in
     let is = c.len.ensures in
     omega arith
 
 pub returns-clause-ordered : goal.returns-clause-ordered
-returns-clause-ordered c = subst (λ (d : Counted). T (is_sorted (slice_cmp nat_cmp) d.counts)) c.self.view_is (ordered c.self.inside.numbers.entries c.self.inside.tallies.items c.self.invariant)
+returns-clause-ordered c = subst (λ (d : Counted). T (is_sorted (slice_cmp nat_cmp) d.counts)) c.self.view_is (ordered c.self.inside.numbers.entries c.self.inside.tallies.items c.self.inside.windows.items c.self.invariant)
 
 pub returns-clause-numbered : goal.returns-clause-numbered
-returns-clause-numbered c = subst (λ (d : Counted). AreNumbered d.windows d.counts) c.self.view_is (are_numbered c.self.inside.numbers.entries c.self.inside.tallies.items c.self.invariant)
+returns-clause-numbered c = subst (λ (d : Counted). AreNumbered d.windows d.counts) c.self.view_is (are_numbered c.self.inside.numbers.entries c.self.inside.tallies.items c.self.inside.windows.items c.self.invariant)
