@@ -4,10 +4,10 @@ use Rattle.std.specs.FinMap.Entries.{find}
 use Rattle.std.specs.List.{list_all}
 use Rattle.pg_types.specs.Inside.Counts.{AreSmall, sums_of, with_weight, is_counted}
 use Rattle.pg_types.specs.Inside.NumberedWindows.{HasNumber}
-use Rattle.pg_types.specs.Inside.NumberedStrings.{by_number}
-use Rattle.pg_plain.specs.Inside.Counted.{Counted, counted_more}
+use Rattle.pg_types.specs.Inside.NumberedStrings.{Numbers, by_number}
+use Rattle.pg_plain.specs.Inside.Counted.{Counted, AreCounted, counted_more}
 use Rattle.pg_plain.proofs.Counted.{windows_put}
-use Rattle.pg_plain.proofs.Counting.{within, sums_there, has_number, set_seen, new_seen, new_are, new_number, absent_none}
+use Rattle.pg_plain.proofs.Counting.{within, sums_there, has_number, set_seen, set_are, new_seen, new_are, new_number, absent_none}
 use Rattle.pg_plain.proofs.counts.CountedWindows.count.Goals as goal
 
 pub add_to-requires-clause-there : goal.add_to-requires-clause-there
@@ -68,3 +68,15 @@ returns-in_ok-number-in-None-clause-windows c = λ good new all.
     subst (λ (d : Counted). list_all (λ (e : List ℕ × (ℕ × ℕ)). good e.0) d.counts ≡ true)
     (sym (new_seen c.self.inside.numbers.entries c.self.inside.tallies.items c.self.inside.windows.items c.self.invariant c.args.window none c.args.good c.args.weight c.number_new.new.numbers.entries c.number_new.new.tallies.items c.in_ok-number-in-None.ensures.numbers is ∙ ap (λ (d : Counted). counted_more d c.args.window c.args.good c.args.weight) c.self.view_is))
     (windows_put good c.args.self.now.counts c.args.window (with_weight (sums_of c.args.self.now.counts c.args.window) c.args.good c.args.weight) new all)
+
+pub invariant_of-self : goal.invariant_of-self
+invariant_of-self c =
+    let at : find (slice_cmp nat_cmp) c.args.window c.self.inside.numbers.entries ≡ Some c.in-Some.number = sym (c.in-Some.ensures ∙ c.get.ensures.value) in
+    set_are c.self.inside.numbers.entries c.self.inside.tallies.items c.self.inside.windows.items c.self.invariant c.args.window c.in-Some.number at c.args.good c.args.weight c.add_to.new.tallies.items c.add_to.ensures
+
+pub invariant_of-self-in_err-number-in-None : goal.invariant_of-self-in_err-number-in-None
+invariant_of-self-in_err-number-in-None c =
+    let same = c.in_err-number-in-None.ensures in
+    subst (λ (M : Numbers). AreCounted M c.number_new.new.tallies.items c.number_new.new.windows.items) (sym same.err_numbers)
+    (subst (λ (ts : List (ℕ × ℕ)). AreCounted c.self.inside.numbers.entries ts c.number_new.new.windows.items) (sym same.err_tallies)
+    (subst (λ (ws : List (List ℕ)). AreCounted c.self.inside.numbers.entries c.self.inside.tallies.items ws) (sym same.err_windows) c.self.invariant))
