@@ -48,8 +48,6 @@ fn run_levels<E: Engine>(
 {
     let greatest = engine.copy_patterns(alloc)?.largest();
     let start = params.start();
-    // The last level is at most 9, and so is the number of levels.
-    let _last = params.finish();
     let count = params.count();
     let mut windows = PassWindows::new(alloc);
     let mut last = None;

@@ -71,6 +71,7 @@ impl Params {
     pub fn count(&self) -> usize
         ensures value { result ≡ length self.now.levels }
         ensures levels { result ≡ self.now.finish + 1 - self.now.start }
+        ensures few { self.now.start + result ≤ LEVEL_MAX + 1 }
         ensures ranges { All IsLevel self.now.levels }
     {
         self.levels.len()

@@ -88,4 +88,4 @@ pub returns-in-Some-clause-signs : goal.returns-in-Some-clause-signs
 returns-in-Some-clause-signs g c = c.levels.invariant.signs
 
 pub returns-in-Some-clause-few : goal.returns-in-Some-clause-few
-returns-in-Some-clause-few g c = omega (arith, c.levels.invariant.passes, c.count-count.ensures.levels, c.finish-last.ensures.high, c.start-start.ensures.low)
+returns-in-Some-clause-few g c = omega (arith, c.levels.invariant.passes, c.count-count.ensures.few, c.start-start.ensures.low)
