@@ -3,6 +3,7 @@ mod RootLinks
 mod SteppedLinks
 pub mod AddTrie
 pub mod AddedSlot
+pub mod AllFree
 pub mod BaseCells
 pub mod BlockedLaws
 pub mod BoundLaws

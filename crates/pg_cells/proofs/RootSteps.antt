@@ -1,13 +1,14 @@
--- The root takes its cells one by one, and the cells are cleared one by one.
-use Rattle.std.proofs.Common.{◌≡◌, ℕ, ◌+◌, ◌≢◌, ◌<◌, ◌≤◌, true, false, List, [], ◌∷◌, length, get_or, slice_get, suc, zero, inl, inr, refl, sym, ◌∙◌, ap, arith}
-use Rattle.std.proofs.lemmas.Bool.{cases_Bool, cases_eq, cases_lt}
+-- The root takes its cells one by one.
+use Rattle.std.proofs.Common.{◌≡◌, ℕ, ◌+◌, ◌<◌, ◌≤◌, false, List, [], ◌∷◌, length, get_or, slice_get, suc, zero, inl, inr, refl, sym, ◌∙◌, ap, arith}
+use Rattle.std.proofs.lemmas.Bool.{cases_eq, cases_lt}
 use Rattle.std.proofs.lemmas.List.{get_or_past, get_or_default}
 use Rattle.pg_cells.specs.Inside.Lists.{Row, sign_at, child_at, base_at, IsFree}
-use Rattle.pg_cells.specs.Inside.Store.{how_many, Extends, one_free, IsTop}
-use Rattle.pg_cells.specs.Inside.Writes.{Takes, Frees, SetsBase}
-use Rattle.pg_cells.specs.Inside.Root.{IsRootTo, Clears}
+use Rattle.pg_cells.specs.Inside.Store.{how_many, Extends, one_free}
+use Rattle.pg_cells.specs.Inside.Writes.{Takes}
+use Rattle.pg_cells.specs.Inside.Root.{IsRootTo}
 
-how_many_zero : (xs : List ℕ) → ((i : ℕ) → get_or xs i 0 ≡ 0) → how_many xs ≡ 0
+-- a list without a number above 0
+pub how_many_zero : (xs : List ℕ) → ((i : ℕ) → get_or xs i 0 ≡ 0) → how_many xs ≡ 0
 how_many_zero [] h = refl
 how_many_zero (x ∷ xs) h = let first = h 0 in let rest = how_many_zero xs (λ i. h (suc i)) in omega arith
 
@@ -83,43 +84,3 @@ module _ {V : Type 0} where
         bases = λ b. elim (cases_lt b (length r.signs)) [ inl lt ↦ bases b lt | inr le ↦ get_or_past r.bases b false (omega arith) ];
         count = omega (arith, how_many_zero r.signs all);
       }
-
-  -- past the greatest taken cell nothing is taken and no index is a base
-  pub none_above : (old first last : Row V) (top cell : ℕ) → IsTop old.signs top → top < cell → SetsBase old first 0 false → ((b : ℕ) → base_at old b ≡ true → (y : ℕ) × (sign_at old (b + y) ≢ 0))
-      → ((i : ℕ) → i < cell → sign_at last i ≡ 0) → ((b : ℕ) → b < cell → base_at last b ≡ false)
-      → ((i : ℕ) → cell ≤ i → sign_at last i ≡ sign_at first i) → ((b : ℕ) → cell ≤ b → base_at last b ≡ base_at first b)
-      → ((i : ℕ) → sign_at last i ≡ 0) × ((b : ℕ) → base_at last b ≡ false)
-  none_above old first last top cell is_top over set based signs bases later_signs later_bases = (
-    (λ i. elim (cases_lt i cell) [
-      | inl lt ↦ signs i lt
-      | inr le ↦ later_signs i le ∙ set.signs i ∙ elim (cases_eq (sign_at old i) 0) [
-        | inl z ↦ z
-        | inr up ↦ absurd (let most = is_top.most i up in omega arith)
-      ]
-    ]),
-    (λ b. elim (cases_lt b cell) [
-      | inl lt ↦ bases b lt
-      | inr le ↦ later_bases b le ∙ set.bases b (omega arith) ∙ elim (cases_Bool (base_at old b)) [
-        | inr flag ↦ flag
-        | inl base ↦ absurd (let y = based b base in let most = is_top.most (b + y.0) y.1 in omega arith)
-      ]
-    ]),
-  )
-
-  pub clears_taken : (old mid new : Row V) (cell : ℕ) → Frees old mid cell → SetsBase mid new cell false → Clears old new cell
-  clears_taken old mid new cell f b = record {
-    sign_is = b.signs cell ∙ f.sign_is;
-    signs = λ j n. b.signs j ∙ f.elsewhere.signs j n;
-    base_is = b.base_is;
-    bases = λ j n. b.bases j n ∙ f.elsewhere.bases j;
-    size = b.size ∙ f.elsewhere.size;
-  }
-
-  pub clears_free : (old new : Row V) (cell : ℕ) → sign_at old cell ≡ 0 → SetsBase old new cell false → Clears old new cell
-  clears_free old new cell e b = record {
-    sign_is = b.signs cell ∙ e;
-    signs = λ j n. b.signs j;
-    base_is = b.base_is;
-    bases = λ j n. b.bases j n;
-    size = b.size;
-  }

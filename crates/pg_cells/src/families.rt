@@ -21,7 +21,7 @@ mod root;
 
 use crate::families::adding::{add_slot, joins};
 use crate::families::prune::drop_family;
-use crate::families::root::{clear, take_root};
+use crate::families::root::take_root;
 use crate::store::Store;
 use crate::store::fit::Slot;
 use crate::store::member::Member;
@@ -237,7 +237,7 @@ impl<V: Copy, const FEW: usize> Placed<V, FEW> {
         ensures held { self.new ≡ root_held self.old.signs blank }
         ensures kept { AreValuedFamilies self.new }
     {
-        clear(&mut self.store);
+        self.store.clear(self.signs as usize + 1);
         take_root(&mut self.store, self.signs, blank);
         self.store.set_base(0, true);
     }

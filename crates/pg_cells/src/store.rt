@@ -7,7 +7,9 @@ ghost use Rattle.pg_cells.specs.Inside.Blocked.{AreBlocked};
 ghost use Rattle.pg_cells.specs.Inside.Bounds.{NoneFree};
 ghost use Rattle.pg_cells.specs.Inside.Fit.{fits_row, signs_of};
 ghost use Rattle.pg_cells.specs.Inside.Store.{one_free, taken_in, IsTop, IsRow, Extends};
+ghost use Rattle.pg_cells.specs.Inside.Root.{IsRootTo};
 ghost use Rattle.pg_cells.specs.Inside.Writes.{Takes, Frees, SetsChild, SetsValue, SetsBase};
+ghost use Rattle.pg_cells.specs.declared.store.member.Member.{Member as MemberOf};
 
 mod bounds;
 mod cell;
@@ -17,7 +19,7 @@ pub mod member;
 
 use crate::store::bounds::{bound_of, least_dropped, no_bounds, raise, still_placed};
 use crate::store::cell::{Cell, child_of, set_base, set_child, set_value, sign_of, value_of};
-use crate::store::chain::{free_cell, push_cell, take_cell};
+use crate::store::chain::{free_all, free_cell, push_cell, take_cell};
 use crate::store::fit::{Slot, find_base, sign_or_free};
 use crate::store::member::Member;
 use std::alloc::{AllocError, Global};
@@ -188,6 +190,25 @@ impl<V: Copy> Store<V> {
         self.top = taken_up_to(self.cells.as_slice(), self.top);
         self.taken -= 1;
         self.freed = self.freed.min(cell);
+        self.placed = 0;
+    }
+
+    /// Gives up all cells and bases. At least so many cells stay. The memory of what goes beyond
+    /// that of the start is given back.
+    pub fn clear(&mut self, least: usize)
+        requires some { 0 < least }
+        requires within { least ≤ length self.old.signs }
+        ensures empty { (blank : MemberOf V) → IsRootTo 1 blank self.new }
+        ensures least { least ≤ length self.new.signs }
+        ensures row { IsRow self.new }
+    {
+        let count = least.max(CELLS_AT_FIRST.min(self.top + 1));
+        self.cells.truncate(count);
+        self.cells.shrink_to(CELLS_AT_FIRST);
+        free_all(self.cells.as_mut_slice());
+        self.top = 0;
+        self.taken = 0;
+        self.freed = 0;
         self.placed = 0;
     }
 

@@ -1,7 +1,7 @@
 -- The list through the free cells: each free cell once, in rising order. Cell 0 is always free and
 -- is the head of the list; the cell before it is the last one, and 0 ends the list.
-use Rattle.std.specs.Prelude.{◌≡◌, ◌≢◌, ℕ, ◌<◌, ◌≤◌, get_or}
-use Rattle.pg_cells.specs.Inside.Lists.{Lists}
+use Rattle.std.specs.Prelude.{◌≡◌, ◌≢◌, ℕ, ◌+◌, ◌<◌, ◌≤◌, false, get_or}
+use Rattle.pg_cells.specs.Inside.Lists.{Lists, base_at, before_at, after_at}
 
 -- S is 0 at the free cells, and B and A give the free cell before and after
 pub record Linked (S B A : ℕ → ℕ) : Type 0 where
@@ -17,3 +17,12 @@ pub record Linked (S B A : ℕ → ℕ) : Type 0 where
 abbrev pub AreLinked : {V : Type 0} → Lists V → Type 0
 AreLinked ls = Linked (λ j. get_or ls.row.signs j 1)
     (λ j. get_or ls.befores j 0) (λ j. get_or ls.afters j 0)
+
+-- the cells below i are free, are no bases, and have the links of a row that is free up to `last`
+pub record IsFreeTo {V : Type 0} (last i : ℕ) (ls : Lists V) : Type 0 where
+  pub signs : (j : ℕ) → j < i → get_or ls.row.signs j 1 ≡ 0
+  pub bases : (j : ℕ) → j < i → base_at ls.row j ≡ false
+  pub first : 0 < i → before_at ls 0 ≡ last
+  pub befores : (j : ℕ) → 0 < j → j < i → before_at ls j + 1 ≡ j
+  pub afters : (j : ℕ) → j < i → j < last → after_at ls j ≡ j + 1
+  pub end : last < i → after_at ls last ≡ 0

@@ -1,5 +1,5 @@
 -- The root of a table.
-use Rattle.std.specs.Prelude.{◌≡◌, ◌≢◌, ℕ, ◌+◌, ◌<◌, ◌≤◌, false, [], ◌∷◌, map, length, slice_get, Some}
+use Rattle.std.specs.Prelude.{◌≡◌, ℕ, ◌+◌, ◌<◌, ◌≤◌, false, [], ◌∷◌, map, slice_get, Some}
 use Rattle.std.specs.List.{range_with_len}
 use Rattle.pg_types.specs.Placement.{root}
 use Rattle.pg_cells.specs.Inside.Lists.{Row, sign_at, child_at, base_at}
@@ -24,11 +24,3 @@ module _ {V : Type 0} where
     pub values : (i : ℕ) → 0 < i → i < k → slice_get r.values i ≡ Some blank
     pub bases : (b : ℕ) → base_at r b ≡ false
     pub count : taken_in r + 1 ≡ k
-
-  -- a cell is cleared: it is free and no base
-  pub record Clears (old new : Row V) (cell : ℕ) : Type 0 where
-    pub sign_is : sign_at new cell ≡ 0
-    pub signs : (j : ℕ) → j ≢ cell → sign_at new j ≡ sign_at old j
-    pub base_is : base_at new cell ≡ false
-    pub bases : (b : ℕ) → b ≢ cell → base_at new b ≡ base_at old b
-    pub size : length new.signs ≡ length old.signs

@@ -1,10 +1,10 @@
 //! The list through the free cells.
 ghost use Rattle.std.specs.Prelude.{◌≡◌, ◌≢◌, ℕ, ◌+◌, ◌-◌, ◌<◌, ◌≤◌, ◌^◌, length, OnOk, OnErr};
 ghost use Rattle.pg_cells.specs.Inside.Lists.{lists, with_taken, with_free, with_more, lone, sign_at, IsFree};
-ghost use Rattle.pg_cells.specs.Inside.FreeList.{AreLinked};
+ghost use Rattle.pg_cells.specs.Inside.FreeList.{AreLinked, IsFreeTo};
 
 use crate::store::cell::{
-    Cell, after_of, before_of, set_after, set_before, set_free, set_taken, sign_of,
+    Cell, after_of, before_of, set_after, set_base, set_before, set_free, set_taken, sign_of,
 };
 use crate::store::member::Member;
 use std::alloc::AllocError;
@@ -82,6 +82,41 @@ fn put_after<V: Copy>(cells: &mut [Cell<V>], cell: usize, before: usize)
     set_after(cells, before, cell);
     set_before(cells, after, cell);
     set_free(cells, cell, before, after);
+}
+
+// The free cell before a cell in the list, where all cells up to `last` are free.
+fn free_before(cell: usize, last: usize) -> usize
+    requires { cell ≤ last }
+    ensures first { cell ≡ 0 → result ≡ last }
+    ensures before { 0 < cell → result + 1 ≡ cell }
+    ensures within { result ≤ last }
+{
+    if cell == 0 { last } else { cell - 1 }
+}
+
+// The free cell after a cell in the list, where all cells up to `last` are free.
+fn free_after(cell: usize, last: usize) -> usize
+    requires { cell ≤ last }
+    ensures after { cell < last → result ≡ cell + 1 }
+    ensures end { cell ≡ last → result ≡ 0 }
+    ensures within { result ≤ last }
+{
+    if cell == last { 0 } else { cell + 1 }
+}
+
+/// Puts all cells into the list. Their indices are no bases any more.
+pub fn free_all<V: Copy>(cells: &mut [Cell<V>])
+    requires some { 0 < length cells.old }
+    requires small { length cells.old < 2 ^ 32 }
+    ensures size { length cells.new ≡ length cells.old }
+    ensures free { IsFreeTo (length cells.old - 1) (length cells.old) (lists cells.new) }
+    ensures linked { AreLinked (lists cells.new) }
+{
+    let last = cells.len() - 1;
+    for cell in 0..cells.len() {
+        set_free(cells, cell, free_before(cell, last), free_after(cell, last));
+        set_base(cells, cell, false);
+    }
 }
 
 /// Adds a free cell at the end.

@@ -1,6 +1,6 @@
 use Rattle.std.proofs.Common.{◌≡◌, [], ◌∷◌, map, ap, ◌∙◌, arith}
 use Rattle.std.specs.List.{range_with_len}
-use Rattle.pg_types.specs.Placement.{root, family_at}
+use Rattle.pg_types.specs.Placement.{root}
 use Rattle.pg_cells.specs.Inside.ValuedFamilies.{Trie, ValuedFamilies}
 use Rattle.pg_cells.specs.Inside.AreValuedFamilies.{AreValuedFamilies}
 use Rattle.pg_cells.specs.Inside.Layouts.{AreKept}
@@ -8,23 +8,22 @@ use Rattle.pg_cells.specs.Inside.OneTrie.{Kept, kept_is_only, held_is_kept}
 use Rattle.pg_cells.specs.Inside.Root.{root_held}
 use Rattle.pg_cells.specs.declared.store.member.Member.{Member}
 use Rattle.pg_cells.specs.Inside.Store.{member_code}
-use Rattle.pg_cells.proofs.BaseCells.{base_taken, zero_free}
 use Rattle.pg_cells.proofs.ValuedFamilyLaws.{is_held}
 use Rattle.pg_cells.proofs.StringCells.{root_within}
 use Rattle.pg_cells.proofs.RootTrie.{root_trie}
 use Rattle.pg_cells.proofs.families.Placed.reset.Goals as goal
 
-pub clear-requires-clause-bases : goal.clear-requires-clause-bases
-clear-requires-clause-bases g c = base_taken c.self.inside.signs c.self.inside.store (family_at c.self.inside.layout.0.families) c.self.invariant.trie.layout
+pub clear-requires-clause-some : goal.clear-requires-clause-some
+clear-requires-clause-some g c = omega arith
 
-pub clear-requires-clause-zero : goal.clear-requires-clause-zero
-clear-requires-clause-zero g c = zero_free c.self.inside.signs c.self.inside.store (family_at c.self.inside.layout.0.families) c.self.invariant.trie.layout
+pub clear-requires-clause-within : goal.clear-requires-clause-within
+clear-requires-clause-within g c = let within = root_within c.self.inside.signs c.self.inside.store c.self.inside.layout.0 c.self.invariant.trie c.self.invariant.some in omega arith
 
 pub take_root-requires-clause-empty : goal.take_root-requires-clause-empty
 take_root-requires-clause-empty g c = c.clear.ensures.empty c.args.blank
 
 pub take_root-requires-clause-length : goal.take_root-requires-clause-length
-take_root-requires-clause-length g c = let within = root_within c.self.inside.signs c.self.inside.store c.self.inside.layout.0 c.self.invariant.trie c.self.invariant.some in let size = c.clear.ensures.size in omega arith
+take_root-requires-clause-length g c = let size = c.clear.ensures.least in omega arith
 
 pub invariant_of-self-inside : goal.invariant_of-self-inside
 invariant_of-self-inside g c =
@@ -56,4 +55,4 @@ pub take_root-requires-clause-signs : goal.take_root-requires-clause-signs
 take_root-requires-clause-signs g c = c.self.invariant.few
 
 pub set_base-requires : goal.set_base-requires
-set_base-requires g c = let within = root_within c.self.inside.signs c.self.inside.store c.self.inside.layout.0 c.self.invariant.trie c.self.invariant.some in let cleared = c.clear.ensures.size in let size = c.take_root.ensures.size in omega arith
+set_base-requires g c = let cleared = c.clear.ensures.least in let size = c.take_root.ensures.size in omega arith
