@@ -1,17 +1,14 @@
 -- Totals that are carried from pass to pass.
-use Rattle.std.proofs.Common.{◌≡◌, ℕ, ◌^◌, ◌≤◌, ◌<◌, Bool, true, false, List, arith}
+use Rattle.std.proofs.Common.{◌≡◌, ℕ, ◌^◌, ◌≤◌, ◌<◌, Bool, true, false, arith}
 use Rattle.std.specs.Bool.{MatchBool}
-use Rattle.std.specs.List.{All, sum_by}
-use Rattle.pg_types.specs.declared.limits.TheConstants.{FILE_MAX}
 use Rattle.pg_types.specs.declared.marks.Totals.{Totals}
-use Rattle.pg_dict.specs.Word.{Word}
-use Rattle.pg_dict.specs.Inside.SoundWords.{IsWord, letter_count}
-use Rattle.pg_select.specs.CountedPositions.{Minima}
-use Rattle.pg_select.specs.Sums.{totals}
 use Rattle.pg_select.specs.Windows.{Patterns}
-use Rattle.pg_select.proofs.LawsSums.{totals_small}
+use Rattle.pg_select.proofs.LawsSums.{totals_small_within}
+use Rattle.pg_driver.specs.Accounts.{totals_by}
+use Rattle.pg_driver.specs.Inside.Counting.{IsBounded}
 use Rattle.pg_driver.specs.Inside.LevelCounting.{Carries}
 use Rattle.pg_driver.specs.Inside.Sound.{IsSmall}
+use Rattle.pg_driver.specs.Traces.{Source}
 
 same_totals : (a b : Totals) → a.good ≡ b.good → a.bad ≡ b.bad → a.missed ≡ b.missed → a ≡ b
 same_totals a b p q r = λ i. record { good = p i; bad = q i; missed = r i }
@@ -32,5 +29,5 @@ carried_small true old new good bad small less carries = (omega (arith, carries.
 carried_small false old new good bad small less carries = (omega (arith, carries.errors), omega (arith, carries.found))
 
 -- and so are the totals of the words of a dictionary
-pub totals_are_small : (m : Minima) (words : List Word) (P : Patterns) → 1 ≤ m.left → All IsWord words → sum_by letter_count words ≤ FILE_MAX → IsSmall (totals m words P)
-totals_are_small m words P low each letters = totals_small m words P low (record { each = each; letters = letters })
+pub totals_are_small : (source : Source) (P : Patterns) → IsBounded source → IsSmall (totals_by source P)
+totals_are_small source P bounded = totals_small_within source.minima source.words P bounded.reached bounded.few

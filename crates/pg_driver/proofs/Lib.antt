@@ -4,7 +4,6 @@ pub mod Puts
 pub mod Rooms
 pub mod Walks
 pub mod WordSteps
-pub mod TallyLaw
 pub mod FateLaws
 pub mod ChoiceSteps
 pub mod PassSteps
@@ -32,3 +31,5 @@ pub mod WordLevels
 pub mod AboveNumbers
 pub mod ReadySteps
 pub mod NumberSteps
+pub mod Numbered
+pub mod RunSigns

@@ -17,7 +17,6 @@ use Rattle.pg_select.specs.CountedPositions.{Minima, CountedPosition, counted_po
 use Rattle.pg_select.specs.Inside.WordCounts.{counted_positions_in}
 use Rattle.pg_select.specs.Statuses.{position_weight}
 use Rattle.pg_select.specs.Windows.{Patterns, Hopeless, window, fits}
-use Rattle.pg_select.proofs.LawsSums.{positions_within}
 use Rattle.pg_select.proofs.LawsTally.{counted_as}
 use Rattle.pg_driver.specs.declared.pass_windows.WordPosition.{WordPosition}
 use Rattle.pg_driver.specs.Inside.OpenPositions.{counted_in, counted_of}
@@ -226,12 +225,12 @@ few_words m closed start (w ∷ ws) out =
         both true rest = ap suc rest
         both false rest = rest
 
-pub few_there : (level len dot : ℕ) (m : Minima) (words : List Word) (P : Patterns) (H : Hopeless) (dots : ℕ → ℕ → Bool) → len ≤ LENGTH_MAX → dot ≤ len → 1 ≤ m.left → IsThere level len m words P H dots
+pub few_there : (level len dot : ℕ) (m : Minima) (words : List Word) (P : Patterns) (H : Hopeless) (dots : ℕ → ℕ → Bool) → len ≤ LENGTH_MAX → dot ≤ len → positions_in m words ≤ sum_by letter_count words → IsThere level len m words P H dots
     → length (open_signs (dots dot) 0 (sign_count words)) ≤ sum_by letter_count words
-few_there level len dot m words P H dots short within low is =
+few_there level len dot m words P H dots short within reached is =
     let few = few_words m (dots dot) 0 words (λ k p w at lies other. ap (dots dot) (zero_plus (start_of words k + p)) ∙ (is.known k p w at lies).outside other dot (omega arith)) in
     let same : length (filter (λ s. not (dots dot (0 + s))) (range_with_len 0 (sign_count words))) ≡ length (open_signs (dots dot) 0 (sign_count words)) = λ i. length (filter (λ s. not (dots dot (zero_plus s i))) (range_with_len 0 (less_none (sign_count words) i))) in
-    omega (arith, few, same, positions_within m words low)
+    omega (arith, few, same)
   where
     zero_plus : (k : ℕ) → 0 + k ≡ k
     zero_plus k = omega arith

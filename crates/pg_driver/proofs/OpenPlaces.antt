@@ -12,7 +12,6 @@ use Rattle.pg_dict.specs.Word.{Word}
 use Rattle.pg_dict.specs.Inside.SoundWords.{letter_count}
 use Rattle.pg_select.specs.Inside.Laws.{positions_in}
 use Rattle.pg_select.specs.CountedPositions.{Minima}
-use Rattle.pg_select.proofs.LawsSums.{positions_within}
 use Rattle.pg_driver.specs.declared.pass_windows.WordPosition.{WordPosition}
 use Rattle.pg_driver.specs.Inside.OpenPositions.{numbered_positions, open_with}
 use Rattle.pg_driver.specs.Inside.OpenPositions.{IsPlaced}
@@ -96,6 +95,6 @@ numbered_length m n (w ∷ words) =
     omega (arith, length-append (map (λ p. (n, p)) (positions m.left m.right (length w.signs))) (numbered_positions m (n + 1) words), sizes, sum_by-cons (λ (w : Word). length (positions m.left m.right (length w.signs))) w words)
 
 -- and there are no more than letters
-pub entries_few : (m : Minima) (words : List Word) (listed : ℕ → ℕ → Option Bool) (entries : List WordPosition) → 1 ≤ m.left → entries ≡ flat_map (open_with listed) (numbered_positions m 0 words) → length entries ≤ sum_by letter_count words
-entries_few m words listed entries low are =
-    omega (arith, ap (λ (es : List WordPosition). length es) are, few_open listed (numbered_positions m 0 words), numbered_length m 0 words, positions_within m words low)
+pub entries_few : (m : Minima) (words : List Word) (listed : ℕ → ℕ → Option Bool) (entries : List WordPosition) → positions_in m words ≤ sum_by letter_count words → entries ≡ flat_map (open_with listed) (numbered_positions m 0 words) → length entries ≤ sum_by letter_count words
+entries_few m words listed entries reached are =
+    omega (arith, ap (λ (es : List WordPosition). length es) are, few_open listed (numbered_positions m 0 words), numbered_length m 0 words)

@@ -1,12 +1,12 @@
 -- A way to count is ready: what that gives for a pass, and how it goes on.
 use Rattle.std.proofs.Common.{◌≡◌, ℕ, ◌+◌, ◌-◌, ◌≤◌, ◌<◌, nat_le, not, ◌&&◌, ◌||◌, List, [], length, slice_get, Some, fold, sum_by, sym, ap, subst, ◌∙◌, arith}
-use Rattle.std.specs.List.{All, flat_map}
+use Rattle.std.specs.List.{flat_map}
 use Rattle.pg_types.specs.declared.limits.TheConstants.{LENGTH_MAX, FILE_MAX}
 use Rattle.pg_types.specs.declared.marks.Totals.{Totals}
 use Rattle.pg_types.specs.declared.parameters.LevelParams.{LevelParams}
 use Rattle.pg_types.specs.Inside.Counts.{Counts}
 use Rattle.pg_dict.specs.Word.{Word}
-use Rattle.pg_dict.specs.Inside.SoundWords.{IsWord, letter_count}
+use Rattle.pg_dict.specs.Inside.SoundWords.{letter_count}
 use Rattle.pg_select.specs.declared.pass.Pass.{Pass}
 use Rattle.pg_select.specs.Inside.LawsSteps.{IsBelow}
 use Rattle.pg_select.specs.Inside.Meanings.{Meaning, with_position}
@@ -19,7 +19,7 @@ use Rattle.pg_driver.specs.declared.counting.Counting.TheVariants.{Open, EachWor
 use Rattle.pg_driver.specs.declared.open_positions.OpenLevel.{OpenLevel}
 use Rattle.pg_driver.specs.Accounts.{totals_by}
 use Rattle.pg_driver.specs.Inside.Choosing.{no_choices, with_candidates}
-use Rattle.pg_driver.specs.Inside.Counting.{HasRoom}
+use Rattle.pg_driver.specs.Inside.Counting.{HasRoom, IsBounded}
 use Rattle.pg_driver.specs.Inside.LevelCounting.{ArePlaced, CanCarry, CanGoOn, Carries, GoesOnAfter, IsAfterPass, IsCounted, IsOpenAt, IsReady, TellsTotals}
 use Rattle.pg_dots.specs.Inside.Dots.{is_closed, position_count}
 use Rattle.pg_driver.specs.Inside.OpenSigns.{IsThere, is_open_first, open_word_positions, open_signs, sign_count, start_of}
@@ -36,13 +36,11 @@ use Rattle.pg_driver.proofs.Rooms.{room_none}
 use Rattle.pg_driver.proofs.WordLevels.{words_after, words_can_move, words_placed}
 
 -- where a level begins
-pub ready_at_start : (source : Source) (level len : ℕ) (m : Meaning) (o : OpenLevel) → m.hopeless ≡ [] → IsBelow level m.patterns → 1 ≤ source.minima.left → All IsWord source.words → sum_by letter_count source.words ≤ FILE_MAX
+pub ready_at_start : (source : Source) (level len : ℕ) (m : Meaning) (o : OpenLevel) → m.hopeless ≡ [] → IsBelow level m.patterns → IsBounded source
     → sign_count source.words ≤ position_count o.dots → ((d n p : ℕ) (w : Word) → slice_get source.words n ≡ Some w → p < length w.signs → is_closed o.dots d (start_of source.words n + p) ≡ not (is_open_first source.minima level m.patterns w p))
     → o.totals ≡ totals_by source m.patterns → IsOpenAt source level len (known_of m) o
-ready_at_start source level len m o none below least words letters size are totals = record {
-  least = least;
-  words = words;
-  letters = letters;
+ready_at_start source level len m o none below bounded size are totals = record {
+  bounded = bounded;
   size = size;
   dots = subst (λ (H : Hopeless). IsThere level len source.minima source.words m.patterns H (is_closed o.dots)) (sym none) (there_first level len source.minima source.words m.patterns (is_closed o.dots) below are);
   totals = totals;
@@ -51,22 +49,20 @@ ready_at_start source level len m o none below least words letters size are tota
 module _ (source : Source) (level len : ℕ) (known : Known) (o : OpenLevel) (ready : IsOpenAt source level len known o) where
   pub has_room : (counts : Counts) (dot : ℕ) → counts ≡ [] → len ≤ LENGTH_MAX → dot ≤ len → HasRoom counts (length (open_signs (is_closed o.dots dot) 0 (sign_count source.words)))
   has_room counts dot none short within =
-      let some : length (open_signs (is_closed o.dots dot) 0 (sign_count source.words)) ≤ sum_by letter_count source.words = few_there level len dot source.minima source.words known.patterns known.hopeless (is_closed o.dots) short within ready.least ready.dots in
-      let letters : sum_by letter_count source.words ≤ FILE_MAX = ready.letters in
+      let some : length (open_signs (is_closed o.dots dot) 0 (sign_count source.words)) ≤ sum_by letter_count source.words = few_there level len dot source.minima source.words known.patterns known.hopeless (is_closed o.dots) short within ready.bounded.reached ready.dots in
+      let letters : sum_by letter_count source.words ≤ FILE_MAX = ready.bounded.few.letters in
       subst (λ (cs : Counts). HasRoom cs (length (open_signs (is_closed o.dots dot) 0 (sign_count source.words)))) (sym none) (room_none (length (open_signs (is_closed o.dots dot) 0 (sign_count source.words))) (omega arith))
 
   pub counts_all : (dot : ℕ) → len ≤ LENGTH_MAX → dot ≤ len → flat_map (counted_of level len dot source.words) (open_word_positions (is_closed o.dots dot) source.words) ≡ counted_positions source.minima source.words (record { level = level; len = len; dot = dot }) known.patterns known.hopeless
   counts_all dot short within = sym (counted_there level len dot source.minima source.words known.patterns known.hopeless (is_closed o.dots) short within ready.dots)
 
   pub is_small : IsSmall o.totals
-  is_small = subst IsSmall (sym ready.totals) (totals_are_small source.minima source.words known.patterns ready.least ready.words ready.letters)
+  is_small = subst IsSmall (sym ready.totals) (totals_are_small source known.patterns ready.bounded)
 
   -- at the next length
   pub ready_longer : (p : OpenLevel) → position_count p.dots ≡ position_count o.dots → ((d j : ℕ) → d ≤ LENGTH_MAX → j < position_count o.dots → is_closed p.dots d j ≡ (is_closed o.dots d j || (nat_le 1 d && is_closed o.dots (d - 1) j))) → p.totals ≡ o.totals → IsOpenAt source level (len + 1) known p
   ready_longer p wide are totals = record {
-    least = ready.least;
-    words = ready.words;
-    letters = ready.letters;
+    bounded = ready.bounded;
     size = (let size = ready.size in omega arith);
     dots = there_longer level len source.minima source.words known.patterns known.hopeless (is_closed o.dots) (is_closed p.dots) (λ d s within low. are d s within (let size = ready.size in omega arith)) ready.dots;
     totals = totals ∙ ready.totals;
@@ -75,9 +71,7 @@ module _ (source : Source) (level len : ℕ) (known : Known) (o : OpenLevel) (re
   -- where the same dots are closed
   pub ready_same : (p : OpenLevel) → position_count p.dots ≡ position_count o.dots → ((d j : ℕ) → j < position_count o.dots → is_closed p.dots d j ≡ is_closed o.dots d j) → p.totals ≡ o.totals → IsOpenAt source level len known p
   ready_same p wide are totals = record {
-    least = ready.least;
-    words = ready.words;
-    letters = ready.letters;
+    bounded = ready.bounded;
     size = (let size = ready.size in omega arith);
     dots = there_same level len source.minima source.words known.patterns known.hopeless (is_closed o.dots) (is_closed p.dots) (λ d s within low. are d s (let size = ready.size in omega arith)) ready.dots;
     totals = totals ∙ ready.totals;
@@ -88,7 +82,7 @@ pub tells_totals : (source : Source) (level len : ℕ) (known : Known) (P : Patt
 tells_totals source level len known P (Open o) same counted ready = (ready.totals ∙ ap (totals_by source) same, is_small source level len known o ready)
 tells_totals source level len known P (EachWord e) same counted ready =
     let totals : e.totals ≡ totals_by source P = ready.totals counted ∙ ap (totals_by source) same in
-    (totals, subst IsSmall (sym totals) (totals_are_small source.minima source.words P ready.least ready.words ready.letters))
+    (totals, subst IsSmall (sym totals) (totals_are_small source P (ready.bounded counted)))
 
 -- a pass was counted still after the choices of a pass
 pub counted_after : (params : LevelParams) (pass : Pass) (counts : Counts) (words : List Word) (n : Choices) (c d : Counting) → GoesOnAfter params pass counts words n c d → IsCounted c → IsCounted d
@@ -97,9 +91,9 @@ counted_after params pass counts words n (Open o) (EachWord f) on counted = absu
 counted_after params pass counts words n (EachWord e) (Open p) on counted = absurd on
 counted_after params pass counts words n (EachWord e) (EachWord f) on counted = on.counted ∙ counted
 
-pub placed : (source : Source) (level len : ℕ) (known : Known) (c : Counting) → IsReady source level len known c → ArePlaced source.words c
-placed source level len known (Open o) ready = ready.size
-placed source level len known (EachWord e) ready = words_placed source level known e ready
+pub placed : (source : Source) (level len : ℕ) (known : Known) (c : Counting) → IsCounted c → IsReady source level len known c → ArePlaced source.words c
+placed source level len known (Open o) counted ready = ready.size
+placed source level len known (EachWord e) counted ready = words_placed source level known e counted ready
 
 -- after a pass
 module _ (source : Source) (params : LevelParams) (known : Known) (pass : Pass) (n : Choices) where
@@ -128,7 +122,7 @@ module _ (source : Source) (params : LevelParams) (known : Known) (pass : Pass) 
     can_carry : CanCarry (is_odd pass.level) o.totals n.good n.bad
     can_carry =
         let before = is_small source pass.level pass.len known o ready in
-        let after : IsSmall (totals_by source (known_after made).patterns) = totals_are_small source.minima source.words (known_after made).patterns ready.least ready.words ready.letters in
+        let after : IsSmall (totals_by source (known_after made).patterns) = totals_are_small source (known_after made).patterns ready.bounded in
         record {
           small = before;
           sums = carried_small (is_odd pass.level) o.totals (totals_by source (known_after made).patterns) n.good n.bad before after carries;
@@ -138,9 +132,7 @@ module _ (source : Source) (params : LevelParams) (known : Known) (pass : Pass) 
     open_after : (counts : Counts) (p : OpenLevel) → pass.dot ≤ LENGTH_MAX → counts ≡ fold with_position [] (counted_positions source.minima source.words pass known.patterns known.hopeless) → IsAfterPass params pass counts source.words n o p
         → IsOpenAt source pass.level pass.len (known_after made) p
     open_after counts p low counted is = record {
-      least = ready.least;
-      words = ready.words;
-      letters = ready.letters;
+      bounded = ready.bounded;
       size = (let size = ready.size in let wide = is.size in omega arith);
       dots = there_after params source.minima source.words pass known.patterns known.hopeless counts low counted (is_closed o.dots) (is_closed p.dots) is.dots ready.dots;
       totals = carried_same (is_odd pass.level) o.totals p.totals (totals_by source (known_after made).patterns) n.good n.bad is.totals carries;

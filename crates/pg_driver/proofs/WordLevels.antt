@@ -9,7 +9,7 @@ use Rattle.pg_types.specs.declared.parameters.LevelParams.{LevelParams}
 use Rattle.pg_types.specs.Inside.Counts.{Counts}
 use Rattle.pg_translate.specs.Reach.{positions}
 use Rattle.pg_dict.specs.Word.{Word}
-use Rattle.pg_dict.specs.Inside.SoundWords.{IsWord, letter_count}
+use Rattle.pg_dict.specs.Inside.SoundWords.{letter_count}
 use Rattle.pg_select.specs.declared.pass.Pass.{Pass}
 use Rattle.pg_select.specs.Inside.Choices.{choice}
 use Rattle.pg_select.specs.CountedPositions.{Minima, CountedPosition, Candidate, counted_positions, counts_as, good_of, bad_of}
@@ -28,6 +28,7 @@ use Rattle.pg_driver.specs.declared.choices.Choices.{Choices}
 use Rattle.pg_driver.specs.declared.pass_windows.WordPosition.{WordPosition}
 use Rattle.pg_driver.specs.declared.word_level.WordLevel.{WordLevel}
 use Rattle.pg_driver.specs.Accounts.{totals_by}
+use Rattle.pg_driver.specs.Inside.Counting.{IsBounded}
 use Rattle.pg_driver.specs.Inside.LevelCounting.{CanMove, Carries, IsAfterWords}
 use Rattle.pg_driver.specs.Inside.OpenLevels.{listed_from, listed_in, open_as}
 use Rattle.pg_driver.specs.Inside.OpenPositions.{IsPlaced, counted_in, open_with}
@@ -54,25 +55,21 @@ none_listed m level P n [] = refl
 none_listed m level P n (w ∷ words) = λ i. none_listed_in m level P n w i ++ none_listed m level P (n + 1) words i
 
 -- where a level begins
-pub words_begin : (source : Source) (level : ℕ) (known : Known) (e : WordLevel) → 1 ≤ source.minima.left → All IsWord source.words → sum_by letter_count source.words ≤ FILE_MAX → e.is_counted ≡ false → e.above.items ≡ [] → IsWordsAt source level known e
-words_begin source level known e least words letters none empty = record {
-  least = least;
-  words = words;
-  letters = letters;
+pub words_begin : (source : Source) (level : ℕ) (known : Known) (e : WordLevel) → e.is_counted ≡ false → e.above.items ≡ [] → IsWordsAt source level known e
+words_begin source level known e none empty = record {
+  bounded = λ is. not_both e.is_counted (IsBounded source) none is;
   above = empty ∙ sym (none_listed source.minima level known.patterns 0 source.words) ∙ ap (λ (b : Bool). listed_from source.minima (listing b level known.patterns) 0 source.words) (sym none);
-  totals = λ is. not_both e.is_counted none is;
+  totals = λ is. not_both e.is_counted (e.totals ≡ totals_by source known.patterns) none is;
 }
   where
-    not_both : (b : Bool) → b ≡ false → b ≡ true → e.totals ≡ totals_by source known.patterns
-    not_both b is not = cc
+    not_both : (b : Bool) (P : Type 0) → b ≡ false → b ≡ true → P
+    not_both b P is not = absurd (let wrong : false ≡ true = sym is ∙ not in cc)
 
 -- after a pass was counted: the first one lists the positions
-pub words_counted : (source : Source) (level : ℕ) (known : Known) (e f : WordLevel) → IsWordsAt source level known e → f.is_counted ≡ true → f.above.items ≡ e.above.items ++ listed_from source.minima (listing (not e.is_counted) level known.patterns) 0 source.words → f.totals ≡ totals_by source known.patterns
+pub words_counted : (source : Source) (level : ℕ) (known : Known) (e f : WordLevel) → IsWordsAt source level known e → f.is_counted ≡ true → f.above.items ≡ e.above.items ++ listed_from source.minima (listing (not e.is_counted) level known.patterns) 0 source.words → f.totals ≡ totals_by source known.patterns → IsBounded source
     → IsWordsAt source level known f
-words_counted source level known e f is counted more totals = record {
-  least = is.least;
-  words = is.words;
-  letters = is.letters;
+words_counted source level known e f is counted more totals bounded = record {
+  bounded = λ _. bounded;
   above = more ∙ ap (λ (es : List WordPosition). es ++ listed (not e.is_counted)) is.above ∙ whole e.is_counted ∙ ap listed (sym counted);
   totals = λ _. totals;
 }
@@ -85,11 +82,11 @@ words_counted source level known e f is counted more totals = record {
     whole false = ap (λ (es : List WordPosition). es ++ listed_from source.minima (listing true level known.patterns) 0 source.words) (none_listed source.minima level known.patterns 0 source.words)
 
 -- listed positions stand in the words, and are no more than letters
-pub words_placed : (source : Source) (level : ℕ) (known : Known) (e : WordLevel) → IsWordsAt source level known e → All (IsPlaced source.words) e.above.items × (length e.above.items ≤ FILE_MAX)
-words_placed source level known e is =
+pub words_placed : (source : Source) (level : ℕ) (known : Known) (e : WordLevel) → e.is_counted ≡ true → IsWordsAt source level known e → All (IsPlaced source.words) e.above.items × (length e.above.items ≤ FILE_MAX)
+words_placed source level known e begun is =
     let are : e.above.items ≡ flat_map (open_with (start_at source.minima source.words (listing e.is_counted level known.patterns))) _ = is.above ∙ listed_are source.minima source.words (listing e.is_counted level known.patterns) in
-    let few : length e.above.items ≤ sum_by letter_count source.words = entries_few source.minima source.words (start_at source.minima source.words (listing e.is_counted level known.patterns)) e.above.items is.least are in
-    let letters : sum_by letter_count source.words ≤ FILE_MAX = is.letters in
+    let few : length e.above.items ≤ sum_by letter_count source.words = entries_few source.minima source.words (start_at source.minima source.words (listing e.is_counted level known.patterns)) e.above.items (is.bounded begun).reached are in
+    let letters : sum_by letter_count source.words ≤ FILE_MAX = (is.bounded begun).few.letters in
     (entries_placed source.minima source.words (start_at source.minima source.words (listing e.is_counted level known.patterns)) e.above.items are, omega arith)
 
 -- the windows of the listed positions
@@ -190,8 +187,8 @@ module _ (source : Source) (params : LevelParams) (known : Known) (pass : Pass) 
 
     pub words_can_move : CanMove (is_odd pass.level) e.totals n kept
     words_can_move =
-        let before : IsSmall e.totals = subst IsSmall (sym (is.totals begun)) (totals_are_small source.minima source.words known.patterns is.least is.words is.letters) in
-        let after : IsSmall (totals_by source (known_after made).patterns) = totals_are_small source.minima source.words (known_after made).patterns is.least is.words is.letters in
+        let before : IsSmall e.totals = subst IsSmall (sym (is.totals begun)) (totals_are_small source known.patterns (is.bounded begun)) in
+        let after : IsSmall (totals_by source (known_after made).patterns) = totals_are_small source (known_after made).patterns (is.bounded begun) in
         record {
           good = good_within;
           bad = bad_within;
@@ -204,9 +201,7 @@ module _ (source : Source) (params : LevelParams) (known : Known) (pass : Pass) 
 
     pub words_after : (f : WordLevel) → IsAfterWords (is_odd pass.level) n kept e f → IsWordsAt source pass.level (known_after made) f
     words_after f on = record {
-      least = is.least;
-      words = is.words;
-      letters = is.letters;
+      bounded = λ _. is.bounded begun;
       above =
           on.above
           ∙ is.above

@@ -3,13 +3,9 @@ ghost use Rattle.std.specs.Prelude.{◌≡◌, ◌≤◌, ◌<◌, ◌+◌, [], 
 ghost use Rattle.pg_types.specs.Inside.NumberedWindows.{AreNumbered};
 ghost use Rattle.pg_dict.specs.Inside.SoundWords.{SignsAtMost};
 ghost use Rattle.pg_select.specs.Inside.LawsSteps.{IsBelow};
-ghost use Rattle.pg_select.specs.CountedPositions.{counted_positions, minima_of};
-ghost use Rattle.pg_driver.specs.Accounts.{totals_by};
-ghost use Rattle.pg_driver.specs.Inside.Counting.{meaning_after_counting, HasRoom};
 ghost use Rattle.pg_driver.specs.declared.pass_windows.TheConstants.{NOT_COUNTED};
-ghost use Rattle.pg_driver.specs.Inside.LevelCounting.{AreNumberedIn, ArePlaced, CanGoOn, GoesOnAfter, IsCounted, IsOverOpen, IsReady, totals_in};
+ghost use Rattle.pg_driver.specs.Inside.LevelCounting.{AreNumberedIn, ArePlaced, CanGoOn, DidCount, GoesOnAfter, IsCounted, IsOverOpen, IsReady, totals_in};
 ghost use Rattle.pg_driver.specs.Inside.PassWindows.{AreFates};
-ghost use Rattle.pg_driver.specs.Inside.Sound.{IsSmall};
 ghost use Rattle.pg_driver.specs.Inside.States.{IsPass};
 ghost use Rattle.pg_driver.specs.Inside.RunAccounts.{known_of};
 ghost use Rattle.pg_driver.specs.Traces.{Known, Source, over};
@@ -56,10 +52,7 @@ impl Counting {
             (known_of (E.meaning engine.now)) counting) }
         ensures form { IfOk result (λ counting. greatest < level → IsOverOpen counting) }
     {
-        // A minimum is at least 1, so there are no more positions than letters.
-        let _least = table.left();
         if level <= greatest {
-            let _words = dictionary.len();
             return Ok(Counting::EachWord(WordLevel::new(alloc)));
         }
         let opened = open_level(engine, dictionary, table, level, alloc)?;
@@ -82,15 +75,8 @@ impl Counting {
         requires signs { SignsAtMost (E.meaning engine.old).signs dictionary.now }
         requires ready { IsReady (over table.now dictionary.now) pass.level pass.len
             (known_of (E.meaning engine.old)) self.old }
-        ensures ok { OnOk result (E.meaning engine.new
-            ≡ meaning_after_counting (E.meaning engine.old)
-            (counted_positions (minima_of table.now) dictionary.now pass
-            (E.meaning engine.old).patterns
-            (E.meaning engine.old).hopeless)) }
-        ensures totals { IfOk result (λ before. before
-            ≡ totals_by (over table.now dictionary.now) (E.meaning engine.old).patterns) }
-        ensures small { IfOk result IsSmall }
-        ensures room { OnOk result (HasRoom (E.meaning engine.new).counts 0) }
+        ensures did { IfOk result (DidCount (over table.now dictionary.now) pass
+            (E.meaning engine.old) (E.meaning engine.new)) }
         ensures ready { OnOk result (IsReady (over table.now dictionary.now) pass.level pass.len
             (known_of (E.meaning engine.old)) self.new) }
         ensures counted { OnOk result (IsCounted self.new) }

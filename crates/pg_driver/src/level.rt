@@ -6,7 +6,7 @@ ghost use Rattle.pg_dict.specs.Inside.SoundWords.{SignsAtMost};
 ghost use Rattle.pg_select.specs.Inside.LawsSteps.{IsBelow};
 ghost use Rattle.pg_driver.specs.Accounts.{totals_by};
 ghost use Rattle.pg_driver.specs.Inside.LevelCounting.{IsCounted, IsReady, TellsTotals};
-ghost use Rattle.pg_driver.specs.Inside.Levels.{AreRecorded, DidLevel, GoesOn, WillCount, all_made_by, point};
+ghost use Rattle.pg_driver.specs.Inside.Levels.{AreRecorded, BeganAll, DidLevel, GoesOn, WillCount, all_made_by, point};
 ghost use Rattle.pg_driver.specs.Inside.Sound.{IsSmall, IsSoundPass};
 ghost use Rattle.pg_types.specs.Inside.Limits.{begun_before_pass, length_passes, level_passes};
 ghost use Rattle.pg_driver.specs.Inside.States.{DidPass, IsPass, made_by, state_of, state_at_end};
@@ -56,7 +56,6 @@ fn run_pass<E: Engine>(
 {
     engine.begin_pass(pass.level, pass.len, pass.dot);
     let before = counting.count(engine, dictionary, table, pass, windows)?;
-    engine.kept();
     windows.decide(engine, params)?;
     let choices = choose_all(engine, params, &windows.fates, &windows.order)?;
     counting.after_choices(engine, dictionary, params, pass, choices, windows);
@@ -100,8 +99,7 @@ fn run_or_skip<E: Engine>(
         (point (E.meaning engine.old) records.old closed.old)
         (point (E.meaning engine.new) records.new closed.new)) }
     ensures begun { OnOk result
-        ((E.meaning engine.new).begun + records.old.begun ≡ (E.meaning engine.old).begun
-        + records.new.begun) }
+        (BeganAll (E.meaning engine.old) (E.meaning engine.new) records.old records.new) }
     ensures few { OnOk result (records.new.begun ≤ records.old.begun + 1) }
     ensures chosen { OnOk result (records.new.chosen ≤ records.old.chosen + FILE_MAX) }
     ensures ready { OnOk result (IsReady (over table.now dictionary.now) pass.level pass.len
@@ -149,8 +147,7 @@ fn run_length<E: Engine>(
         (passes_of_length number len)) (point (E.meaning engine.old) records.old closed.old)
         (point (E.meaning engine.new) records.new closed.new)) }
     ensures begun { OnOk result
-        ((E.meaning engine.new).begun + records.old.begun ≡ (E.meaning engine.old).begun
-        + records.new.begun) }
+        (BeganAll (E.meaning engine.old) (E.meaning engine.new) records.old records.new) }
     ensures few { OnOk result (records.new.begun ≤ records.old.begun + length_passes) }
     ensures chosen { OnOk result
         (records.new.chosen ≤ records.old.chosen + length_passes * FILE_MAX) }
@@ -202,8 +199,7 @@ fn run_lengths<E: Engine>(
         (all_made_by (over table.now dictionary.now) params.now (E.meaning engine.old)
         (passes_of number params.now)) records.old records.new) }
     ensures begun { OnOk result
-        ((E.meaning engine.new).begun + records.old.begun ≡ (E.meaning engine.old).begun
-        + records.new.begun) }
+        (BeganAll (E.meaning engine.old) (E.meaning engine.new) records.old records.new) }
     ensures few { OnOk result (records.new.begun ≤ records.old.begun + level_passes) }
     ensures ready { OnOk result
         (TellsTotals (over table.now dictionary.now) (E.meaning engine.new).patterns
@@ -261,8 +257,7 @@ pub fn run_level<E: Engine>(
     ensures small { IfOk result IsSmall }
     ensures tidy { OnOk result ((E.meaning engine.new).tidy ≡ true) }
     ensures begun { OnOk result
-        ((E.meaning engine.new).begun + records.old.begun ≡ (E.meaning engine.old).begun
-        + records.new.begun) }
+        (BeganAll (E.meaning engine.old) (E.meaning engine.new) records.old records.new) }
     ensures few { OnOk result (records.new.begun ≤ records.old.begun + level_passes) }
     ensures chosen { OnOk result (records.new.chosen ≡ 0) }
     ensures signs { (E.meaning engine.new).signs ≡ (E.meaning engine.old).signs }

@@ -2,6 +2,7 @@
 ghost use Rattle.std.specs.Prelude.{◌≡◌, ◌≤◌, ◌<◌, ◌+◌, ◌*◌, [], true, IfOk, OnOk};
 ghost use Rattle.pg_types.specs.declared.limits.TheConstants.{LEVEL_MAX};
 ghost use Rattle.pg_dict.specs.Inside.SoundWords.{SignsAtMost};
+ghost use Rattle.pg_patterns.specs.Inside.PatternMaps.{SignsUpTo};
 ghost use Rattle.pg_driver.specs.Accounts.{totals_by};
 ghost use Rattle.pg_driver.specs.Inside.Levels.{DidRun};
 ghost use Rattle.pg_driver.specs.Inside.Sound.{IsSmall};
@@ -97,6 +98,9 @@ pub fn generate<E: Engine>(
     requires signs { SignsAtMost (E.meaning engine.old).signs dictionary.now }
     ensures patterns { IfOk result (λ r. r.patterns
         ≡ patterns_from table.now dictionary.now params.now (E.meaning engine.old)) }
+    ensures pattern_signs { IfOk result
+        (λ r. SignsUpTo (E.meaning engine.old).signs (E.meaning engine.old).patterns
+        → SignsUpTo (E.meaning engine.old).signs r.patterns) }
     ensures account { IfOk result (λ r. account_of r
         ≡ account_from table.now dictionary.now params.now (E.meaning engine.old)) }
     ensures cells { IfOk result

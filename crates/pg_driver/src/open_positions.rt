@@ -1,16 +1,18 @@
 //! The open positions of a level: those that count by their status, with their closed dots. The
 //! totals stand beside them.
-ghost use Rattle.std.specs.Prelude.{◌≡◌, ◌≤◌, ◌<◌, ◌+◌, ◌-◌, ◌^◌, ◌==◌, ◌&&◌, ℕ, not, length, slice_get, sum_by, Some, All, IfOk, OnOk, is_some};
-ghost use Rattle.pg_types.specs.declared.limits.TheConstants.{FILE_MAX};
+ghost use Rattle.std.specs.Prelude.{◌≡◌, ◌≤◌, ◌<◌, ◌+◌, ◌-◌, ◌^◌, ◌==◌, ◌&&◌, ℕ, not, length, slice_get, Some, IfOk, OnOk, is_some};
 ghost use Rattle.pg_types.specs.Inside.Counts.{SignsWithin};
 ghost use Rattle.pg_dots.specs.Inside.Dots.{is_closed, position_count as places_in};
+ghost use Rattle.pg_translate.specs.Reach.{positions as positions_of};
 ghost use Rattle.pg_dict.specs.Word.{Word};
 ghost use Rattle.pg_dict.specs.Inside.SoundWords.{IsWord, SignsAtMost, letter_count};
 ghost use Rattle.pg_dict.specs.Inside.Lent.{lent_word};
 ghost use Rattle.pg_select.specs.CountedPositions.{counts_as as counts_as_of, minima_of};
 ghost use Rattle.pg_select.specs.Sums.{totals as totals_of_words, marks_in};
 ghost use Rattle.pg_select.specs.Inside.SumSteps.{with_marks, HasRoomFor, TookRoomFor};
+ghost use Rattle.pg_driver.specs.Inside.Counting.{IsBounded};
 ghost use Rattle.pg_driver.specs.Inside.OpenSigns.{is_open_first, sign_count, start_of};
+ghost use Rattle.pg_driver.specs.Traces.{over};
 
 use crate::marks::counts_as;
 use pg_dict::{Dictionary, WordRef};
@@ -73,6 +75,8 @@ fn open_word<E: Engine>(
         (lent_word w.now)) }
     ensures took { TookRoomFor opened.old.totals opened.new.totals
         (letter_count (lent_word w.now)) }
+    ensures reached { length (positions_of table.now.left table.now.right
+        (length w.now.signs.now)) ≤ letter_count (lent_word w.now) }
 {
     let Some((first, end)) = positions(table, w) else {
         return;
@@ -102,8 +106,7 @@ pub fn open_level<E: Engine>(
         ≡ not (is_open_first (minima_of table.now) level (E.meaning engine.now).patterns w p)) }
     ensures totals { IfOk result (λ opened. opened.totals
         ≡ totals_of_words (minima_of table.now) dictionary.now (E.meaning engine.now).patterns) }
-    ensures words { OnOk result (All IsWord dictionary.now) }
-    ensures letters { OnOk result (sum_by letter_count dictionary.now ≤ FILE_MAX) }
+    ensures bounded { OnOk result (IsBounded (over table.now dictionary.now)) }
 {
     let count = dictionary.len();
     let signs = dictionary.all_signs();

@@ -2,16 +2,12 @@
 ghost use Rattle.std.specs.Prelude.{◌≡◌, [], false, true, IfOk, OnOk};
 ghost use Rattle.pg_types.specs.Inside.NumberedWindows.{AreNumbered};
 ghost use Rattle.pg_dict.specs.Inside.SoundWords.{SignsAtMost};
-ghost use Rattle.pg_select.specs.CountedPositions.{counted_positions, minima_of};
-ghost use Rattle.pg_driver.specs.Accounts.{totals_by};
-ghost use Rattle.pg_driver.specs.Inside.Counting.{meaning_after_counting, HasRoom};
 ghost use Rattle.pg_driver.specs.Inside.PassWindows.{HaveNumbers, is_counted_at};
-ghost use Rattle.pg_driver.specs.Inside.Sound.{IsSmall};
 ghost use Rattle.pg_driver.specs.Inside.States.{IsPass};
 ghost use Rattle.pg_driver.specs.Inside.RunAccounts.{known_of};
 ghost use Rattle.pg_driver.specs.Traces.{over};
 ghost use Rattle.pg_select.specs.Statuses.{is_odd};
-ghost use Rattle.pg_driver.specs.Inside.LevelCounting.{CanMove, IsAfterWords};
+ghost use Rattle.pg_driver.specs.Inside.LevelCounting.{CanMove, DidCount, IsAfterWords};
 ghost use Rattle.pg_driver.specs.Inside.WordLevels.{IsWordsAt};
 
 use crate::above_positions::Kept;
@@ -70,15 +66,8 @@ impl WordLevel {
         requires ready { IsWordsAt (over table.now dictionary.now) pass.level
             (known_of (E.meaning engine.old))
             self.old }
-        ensures ok { OnOk result (E.meaning engine.new
-            ≡ meaning_after_counting (E.meaning engine.old)
-            (counted_positions (minima_of table.now) dictionary.now pass
-            (E.meaning engine.old).patterns
-            (E.meaning engine.old).hopeless)) }
-        ensures totals { IfOk result (λ before. before
-            ≡ totals_by (over table.now dictionary.now) (E.meaning engine.old).patterns) }
-        ensures small { IfOk result IsSmall }
-        ensures room { OnOk result (HasRoom (E.meaning engine.new).counts 0) }
+        ensures did { IfOk result (DidCount (over table.now dictionary.now) pass
+            (E.meaning engine.old) (E.meaning engine.new)) }
         ensures ready { OnOk result (IsWordsAt (over table.now dictionary.now) pass.level
             (known_of (E.meaning engine.old)) self.new) }
         ensures counted { OnOk result (self.new.is_counted ≡ true) }

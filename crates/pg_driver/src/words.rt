@@ -2,6 +2,7 @@
 ghost use Rattle.std.specs.Prelude.{◌≡◌, ◌≤◌, ◌<◌, ◌+◌, ◌++◌, ◌&&◌, [], not, false, if◌then◌else◌, None, length, slice_index_or, IfOk, OnOk};
 ghost use Rattle.pg_types.specs.Inside.Counts.{SignsWithin};
 ghost use Rattle.pg_types.specs.declared.limits.TheConstants.{WORD_LETTERS_MAX};
+ghost use Rattle.pg_translate.specs.Reach.{positions as positions_of};
 ghost use Rattle.pg_dict.specs.Inside.SoundWords.{IsWord, SignsAtMost, letter_count};
 ghost use Rattle.pg_dict.specs.Inside.Lent.{lent_word};
 ghost use Rattle.pg_select.specs.CountedPositions.{counted_at, counted_positions_at, counted_positions, counts_as as counts_as_of, minima_of};
@@ -11,12 +12,13 @@ ghost use Rattle.pg_select.specs.Statuses.{status_at, position_weight};
 ghost use Rattle.pg_select.specs.Sums.{marks_in, totals as totals_of_words};
 ghost use Rattle.pg_select.specs.Inside.SumSteps.{with_mark, with_marks, HasRoomFor, TookRoomFor};
 ghost use Rattle.pg_select.specs.Windows.{fits as fits_in, window as window_of_word};
-ghost use Rattle.pg_driver.specs.Inside.Counting.{meaning_after_counting, HasRoom, TookRoom, IsRead};
+ghost use Rattle.pg_driver.specs.Inside.Counting.{meaning_after_counting, HasRoom, IsBounded, IsRead, TookRoom};
 ghost use Rattle.pg_driver.specs.Inside.OpenLevels.{listed_in, listed_from, open_as};
 ghost use Rattle.pg_driver.specs.Inside.PassWindows.{GetsNumber, HaveNumbers, NotesNumbers, uncovered_at};
 ghost use Rattle.pg_driver.specs.Inside.Sound.{IsSmall};
 ghost use Rattle.pg_driver.specs.Inside.States.{IsPass};
 ghost use Rattle.pg_driver.specs.Inside.WordLevels.{listing};
+ghost use Rattle.pg_driver.specs.Traces.{over};
 
 use crate::above_positions::{is_above, list_above};
 use crate::marks::{counts_as, fits};
@@ -160,6 +162,8 @@ fn count_word<E: Engine>(
         (letter_count (lent_word w.now))) }
     ensures took_for { OnOk result
         (TookRoomFor sums.old sums.new (letter_count (lent_word w.now))) }
+    ensures reached { OnOk result (length (positions_of table.now.left table.now.right
+        (length w.now.signs.now)) ≤ letter_count (lent_word w.now)) }
     ensures signs { (E.meaning engine.new).signs ≡ (E.meaning engine.old).signs }
 {
     let Some((first, end)) = positions(table, w) else {
@@ -199,6 +203,7 @@ pub fn count_words<E: Engine>(
     ensures totals { IfOk result (λ sums. sums
         ≡ totals_of_words (minima_of table.now) dictionary.now (E.meaning engine.old).patterns) }
     ensures small { IfOk result IsSmall }
+    ensures bounded { OnOk result (IsBounded (over table.now dictionary.now)) }
     ensures above { OnOk result
         (above.new.items ≡ above.old.items ++ listed_from (minima_of table.now)
         (listing lists pass.level (E.meaning engine.old).patterns) 0 dictionary.now) }

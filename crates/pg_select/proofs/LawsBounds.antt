@@ -19,7 +19,7 @@ use Rattle.pg_select.proofs.LawsClosed.{all_weaker}
 use Rattle.pg_select.proofs.LawsRaised.{AreLong, passing_long}
 
 -- a test of all entries, with one more
-all_put : {X : Type 0} (t : (List ℕ × ℕ) × X → Bool) (k : List ℕ × ℕ) (v : X) (es : List ((List ℕ × ℕ) × X)) → t (k, v) ≡ true → list_all t es ≡ true → list_all t (put dotted_cmp k v es) ≡ true
+pub all_put : {X : Type 0} (t : (List ℕ × ℕ) × X → Bool) (k : List ℕ × ℕ) (v : X) (es : List ((List ℕ × ℕ) × X)) → t (k, v) ≡ true → list_all t es ≡ true → list_all t (put dotted_cmp k v es) ≡ true
 all_put t k v [] here all = and_from (t (k, v)) true here refl
 all_put {X} t k v (e ∷ es) here all =
     let parts = and_parts (t e) (list_all t es) all in

@@ -100,8 +100,8 @@ among_windows test counted u (v ∷ us) =
 pub among_candidates : (test : Candidate → Bool) (counted : List CountedPosition) (u : List ℕ) → is_among u (filter test (tally counted)) ≡ is_candidate test counted u
 among_candidates test counted u = among_windows test counted u (candidates counted) ∙ ap (λ b. b && test (candidate_at counted u)) (candidates_are_counted counted u)
 
--- each candidate that passes has a window of the pass's length
-all_kept : {X : Type 0} (t q : X → Bool) (xs : List X) → list_all t xs ≡ true → list_all t (filter q xs) ≡ true
+-- what holds of all holds of those that pass
+pub all_kept : {X : Type 0} (t q : X → Bool) (xs : List X) → list_all t xs ≡ true → list_all t (filter q xs) ≡ true
 all_kept t q [] all = refl
 all_kept t q (x ∷ xs) all =
     let parts = and_parts (t x) (list_all t xs) all in
@@ -110,6 +110,7 @@ all_kept t q (x ∷ xs) all =
       | false ↦ all_kept t q xs parts.1
     ]
 
+-- each candidate that passes has a window of the pass's length
 abbrev pub AreLong : ℕ → List Candidate → Type 0
 AreLong len cs = list_all (λ (c : Candidate). nat_eq (length c.window) len) cs ≡ true
 

@@ -151,10 +151,12 @@ candidates_few m words pass P H = omega (arith, counted_few m words pass P H, wi
 small : (n k : ℕ) → n ≤ WEIGHT_MAX * k → k ≤ FILE_MAX → n < 2 ^ 40
 small n k light few = omega arith
 
+-- the totals are small where no more positions are in reach than letters
+pub totals_small_within : (m : Minima) (words : List Word) (P : List ((List ℕ × ℕ) × ℕ)) → positions_in m words ≤ sum_by letter_count words → AreFew words → (totals m words P).good + (totals m words P).bad + (totals m words P).missed < 2 ^ 40
+totals_small_within m words P upto few = small ((totals m words P).good + (totals m words P).bad + (totals m words P).missed) (positions_in m words) (totals_within m words P few.each) (omega (arith, few.letters))
+
 pub totals_small : (m : Minima) (words : List Word) (P : List ((List ℕ × ℕ) × ℕ)) → 1 ≤ m.left → AreFew words → (totals m words P).good + (totals m words P).bad + (totals m words P).missed < 2 ^ 40
-totals_small m words P low few =
-    let upto : positions_in m words ≤ sum_by letter_count words = positions_within m words low in
-    small ((totals m words P).good + (totals m words P).bad + (totals m words P).missed) (positions_in m words) (totals_within m words P few.each) (omega (arith, few.letters))
+totals_small m words P low few = totals_small_within m words P (positions_within m words low) few
 
 pub counted_light : (m : Minima) (words : List Word) (pass : Pass) (P : List ((List ℕ × ℕ) × ℕ)) (H : Hopeless) → 1 ≤ m.left → AreFew words → sum_by (λ (s : CountedPosition). s.weight) (counted_positions m words pass P H) < 2 ^ 40
 counted_light m words pass P H low few =

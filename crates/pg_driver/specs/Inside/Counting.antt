@@ -6,12 +6,14 @@ use Rattle.std.specs.Cmp.Lexicographic.{slice_cmp}
 use Rattle.std.specs.FinMap.Entries.{is_sorted}
 use Rattle.pg_types.specs.declared.limits.TheConstants.{WEIGHT_MAX, FILE_MAX}
 use Rattle.pg_dict.specs.Word.{Word}
-use Rattle.pg_dict.specs.Inside.SoundWords.{IsWord}
+use Rattle.pg_dict.specs.Inside.SoundWords.{IsWord, letter_count}
 use Rattle.pg_types.specs.Inside.Counts.{Counts, SignsWithin}
 use Rattle.pg_types.specs.Inside.NumberedWindows.{Windows, with_window}
+use Rattle.pg_select.specs.Inside.Laws.{AreFew, positions_in}
 use Rattle.pg_select.specs.Inside.Meanings.{Meaning, SetsValues, SetsCovers, with_position}
 use Rattle.pg_select.specs.Inside.Positions.{Positions}
 use Rattle.pg_select.specs.CountedPositions.{CountedPosition}
+use Rattle.pg_driver.specs.Traces.{Source}
 
 -- the windows in the order in which they were first counted, after more positions are counted
 abbrev pub windows_after : Windows → Counts → List CountedPosition → Windows
@@ -32,6 +34,11 @@ pub record IsRead (m : Meaning) (w : Word) (at : Positions) : Type 0 where
   pub signs : SignsWithin m.signs w.signs
   pub values : SetsValues m w.signs at.values
   pub covers : SetsCovers m w.signs at.covers
+
+-- the words are few, and have together no more positions in reach than letters
+pub record IsBounded (source : Source) : Type 0 where
+  pub few : AreFew source.words
+  pub reached : positions_in source.minima source.words ≤ sum_by letter_count source.words
 
 -- whether the window of an entry has a sign
 abbrev pub is_filled : List ℕ × (ℕ × ℕ) → Bool

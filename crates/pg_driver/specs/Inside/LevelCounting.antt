@@ -1,15 +1,16 @@
 -- How the windows of a level are counted: what its way to count knows before a pass, and what it
 -- makes of the choices after it.
-use Rattle.std.specs.Prelude.{◌≡◌, ℕ, ◌-◌, ◌≤◌, ◌<◌, Bool, true, List, length, sum_by, All, MatchBool}
+use Rattle.std.specs.Prelude.{◌≡◌, ℕ, ◌-◌, ◌≤◌, ◌<◌, Bool, true, List, length, All, MatchBool}
 use Rattle.pg_types.specs.declared.limits.TheConstants.{FILE_MAX, LENGTH_MAX}
 use Rattle.pg_types.specs.declared.marks.Totals.{Totals}
 use Rattle.pg_types.specs.declared.parameters.LevelParams.{LevelParams}
 use Rattle.pg_types.specs.Inside.Counts.{Counts}
 use Rattle.pg_types.specs.Inside.NumberedWindows.{Windows}
 use Rattle.pg_dict.specs.Word.{Word}
-use Rattle.pg_dict.specs.Inside.SoundWords.{IsWord, letter_count}
 use Rattle.pg_select.specs.declared.pass.Pass.{Pass}
+use Rattle.pg_select.specs.CountedPositions.{counted_positions}
 use Rattle.pg_select.specs.Inside.LawsSteps.{FindsMore, PreventsMore}
+use Rattle.pg_select.specs.Inside.Meanings.{Meaning}
 use Rattle.pg_select.specs.Statuses.{is_odd}
 use Rattle.pg_select.specs.Windows.{Patterns}
 use Rattle.pg_driver.specs.declared.choices.Choices.{Choices}
@@ -20,6 +21,7 @@ use Rattle.pg_driver.specs.declared.word_level.WordLevel.{WordLevel}
 use Rattle.pg_driver.specs.declared.above_positions.Kept.{Kept}
 use Rattle.pg_driver.specs.Accounts.{totals_by}
 use Rattle.pg_dots.specs.Inside.Dots.{is_closed, position_count}
+use Rattle.pg_driver.specs.Inside.Counting.{HasRoom, IsBounded, meaning_after_counting}
 use Rattle.pg_driver.specs.Inside.OpenSigns.{IsThere, closed_after, open_word_positions, sign_count}
 use Rattle.pg_driver.specs.Inside.OpenPositions.{IsPlaced}
 use Rattle.pg_driver.specs.Inside.PassWindows.{HaveNumbers, counts_at, is_counted_at}
@@ -28,11 +30,18 @@ use Rattle.pg_driver.specs.Traces.{Known, Source}
 use Rattle.pg_driver.specs.Inside.WordLevels.{IsWordsAt, kept_by}
 use Rattle.pg_types.specs.Inside.Limits.{sums_limit}
 
+-- a pass was counted: the engine has its windows and is not full, and the totals are those before
+pub record DidCount (source : Source) (pass : Pass)
+    (old new : Meaning) (before : Totals) : Type 0 where
+  pub counts : new ≡ meaning_after_counting old
+      (counted_positions source.minima source.words pass old.patterns old.hopeless)
+  pub room : HasRoom new.counts 0
+  pub totals : before ≡ totals_by source old.patterns
+  pub small : IsSmall before
+
 -- the dots are closed as they are at a length of a level, and the totals are those by the patterns
 pub record IsOpenAt (source : Source) (level len : ℕ) (known : Known) (o : OpenLevel) : Type 0 where
-  pub least : 1 ≤ source.minima.left
-  pub words : All IsWord source.words
-  pub letters : sum_by letter_count source.words ≤ FILE_MAX
+  pub bounded : IsBounded source
   pub size : sign_count source.words ≤ position_count o.dots
   pub dots : IsThere level len source.minima source.words known.patterns known.hopeless
       (is_closed o.dots)

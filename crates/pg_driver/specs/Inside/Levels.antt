@@ -38,6 +38,10 @@ pub record AreRecorded (source : Source) (signs : ℕ)
   pub begun : new.begun ≡ old.begun + length (begun_among ps)
   pub levels : new.levels ≡ old.levels
 
+-- as many passes were begun by the engine as were recorded
+abbrev pub BeganAll : Meaning → Meaning → Recorded → Recorded → Type 0
+BeganAll old new r s = new.begun + r.begun ≡ old.begun + s.begun
+
 -- the flags of a length and of the next, by dot
 pub record SkipFlags : Type 0 where
   pub here : List Bool

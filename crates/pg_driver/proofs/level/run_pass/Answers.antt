@@ -8,19 +8,24 @@ use Rattle.pg_driver.specs.Inside.LevelCounting.{AreNumberedIn, IsReady}
 use Rattle.pg_driver.specs.Inside.States.{State}
 use Rattle.pg_driver.specs.Inside.RunAccounts.{known_of}
 use Rattle.pg_driver.specs.Traces.{Known, over}
+use Rattle.pg_driver.proofs.Numbered.{pass_numbered}
 use Rattle.pg_driver.proofs.PassSteps.{counted_as, counts_kept, did_pass, numbers_are, pass_state}
 use Rattle.pg_driver.proofs.ReadySteps.{are_of, can_go_on, counted_after, placed, ready_after}
 use Rattle.pg_driver.proofs.level.run_pass.Goals as goal
 
 pub after_choices-requires-clause-numbered : goal.after_choices-requires-clause-numbered
 after_choices-requires-clause-numbered g c =
-    subst (λ (m : Meaning). AreNumbered m.windows m.counts) (sym c.in_ok-choices.ensures.ok.kept) c.kept.ensures.numbered
+    subst (λ (m : Meaning). AreNumbered m.windows m.counts) (sym c.in_ok-choices.ensures.ok.kept)
+    (pass_numbered c.args.table.now c.args.dictionary.now c.args.pass (g.E.Engine.meaning c.args.engine.now) (g.E.Engine.meaning c.count.new.engine)
+    (counted_as c.args.table.now c.args.dictionary.now c.args.pass (g.E.Engine.meaning c.args.engine.now) _ _ c.begin_pass.ensures c.in_ok-before.ensures.did.counts))
 
 pub after_choices-requires-clause-numbers : goal.after_choices-requires-clause-numbers
 after_choices-requires-clause-numbers g c =
+    let m = g.E.Engine.meaning c.args.engine.now in
     let m2 = g.E.Engine.meaning c.count.new.engine in
     let words = c.args.dictionary.now in
-    let before = c.in_ok-before.ensures.numbers c.kept.ensures.numbered in
+    let counted = counted_as c.args.table.now words c.args.pass m _ _ c.begin_pass.ensures c.in_ok-before.ensures.did.counts in
+    let before = c.in_ok-before.ensures.numbers (pass_numbered c.args.table.now words c.args.pass m m2 counted) in
     let decided = subst (λ (ns : List ℕ). AreNumberedIn c.args.pass m2.counts words m2.windows c.count.new.self ns) (sym c.in_ok-decide.ensures.numbers) before in
     subst (λ (m : Meaning). AreNumberedIn c.args.pass m.counts words m.windows c.count.new.self c.decide.new.self.numbers.items) (sym c.in_ok-choices.ensures.ok.kept) decided
 
@@ -28,7 +33,7 @@ pub after_choices-requires-clause-placed : goal.after_choices-requires-clause-pl
 after_choices-requires-clause-placed g c =
     let ready : IsReady (over c.args.table.now c.args.dictionary.now) c.args.pass.level c.args.pass.len (known_of (g.E.Engine.meaning c.args.engine.now)) c.count.new.self =
     subst (λ (k : Known). IsReady (over c.args.table.now c.args.dictionary.now) c.args.pass.level c.args.pass.len k c.count.new.self) (ap known_of c.begin_pass.ensures) c.in_ok-before.ensures.ready in
-    placed (over c.args.table.now c.args.dictionary.now) c.args.pass.level c.args.pass.len (known_of (g.E.Engine.meaning c.args.engine.now)) c.count.new.self ready
+    placed (over c.args.table.now c.args.dictionary.now) c.args.pass.level c.args.pass.len (known_of (g.E.Engine.meaning c.args.engine.now)) c.count.new.self c.in_ok-before.ensures.counted ready
 
 pub after_choices-requires-clause-totals : goal.after_choices-requires-clause-totals
 after_choices-requires-clause-totals g c =
@@ -40,7 +45,7 @@ after_choices-requires-clause-totals g c =
     let pass = c.args.pass in
     let ready : IsReady (over c.args.table.now c.args.dictionary.now) c.args.pass.level c.args.pass.len (known_of (g.E.Engine.meaning c.args.engine.now)) c.count.new.self =
     subst (λ (k : Known). IsReady (over c.args.table.now c.args.dictionary.now) c.args.pass.level c.args.pass.len k c.count.new.self) (ap known_of c.begin_pass.ensures) c.in_ok-before.ensures.ready in
-    let counted = counted_as c.args.table.now words pass m _ _ c.begin_pass.ensures c.in_ok-before.ensures.ok in
+    let counted = counted_as c.args.table.now words pass m _ _ c.begin_pass.ensures c.in_ok-before.ensures.did.counts in
     let numbers = numbers_are c.args.table.now words params pass m m2 c.in_ok-choices.choices counted c.in_ok-choices.ensures.choices in
     let source = over c.args.table.now words in
     can_go_on source params (known_of m) pass c.in_ok-choices.choices n.counts c.count.new.self (are_of source params (known_of m) pass c.in_ok-choices.choices numbers) c.in_ok-before.ensures.counted (counts_kept c.args.table.now words params pass m m2 n counted c.in_ok-choices.ensures.ok) ready
@@ -49,8 +54,8 @@ pub returns-clause-done : goal.returns-clause-done
 returns-clause-done g c =
     let m = g.E.Engine.meaning c.args.engine.now in
     let words = c.args.dictionary.now in
-    let counted = counted_as c.args.table.now words c.args.pass m _ _ c.begin_pass.ensures c.in_ok-before.ensures.ok in
-    let before = c.in_ok-before.ensures.totals ∙ ap (λ (x : Meaning). totals_by (over c.args.table.now words) x.patterns) c.begin_pass.ensures in
+    let counted = counted_as c.args.table.now words c.args.pass m _ _ c.begin_pass.ensures c.in_ok-before.ensures.did.counts in
+    let before = c.in_ok-before.ensures.did.totals ∙ ap (λ (x : Meaning). totals_by (over c.args.table.now words) x.patterns) c.begin_pass.ensures in
     did_pass c.args.table.now words c.args.params.now c.args.pass m (g.E.Engine.meaning c.count.new.engine) (g.E.Engine.meaning c.choose_all.new.engine) c.in_ok-before.before c.in_ok-choices.choices c.layout.result counted before c.in_ok-choices.ensures.ok c.in_ok-choices.ensures.choices c.layout.ensures
 
 pub returns-clause-ready : goal.returns-clause-ready
@@ -62,7 +67,7 @@ returns-clause-ready g c =
     let pass = c.args.pass in
     let params = c.args.params.now in
     let source = over c.args.table.now words in
-    let counted = counted_as c.args.table.now words pass m _ _ c.begin_pass.ensures c.in_ok-before.ensures.ok in
+    let counted = counted_as c.args.table.now words pass m _ _ c.begin_pass.ensures c.in_ok-before.ensures.did.counts in
     let numbers = numbers_are c.args.table.now words params pass m m2 c.in_ok-choices.choices counted c.in_ok-choices.ensures.choices in
     let state = pass_state c.args.table.now words params pass m m2 n counted c.in_ok-choices.ensures.ok in
     let ready : IsReady (over c.args.table.now c.args.dictionary.now) c.args.pass.level c.args.pass.len (known_of (g.E.Engine.meaning c.args.engine.now)) c.count.new.self =
@@ -75,7 +80,7 @@ returns-clause-counted g c =
     counted_after c.args.params.now c.args.pass (g.E.Engine.meaning c.choose_all.new.engine).counts c.args.dictionary.now c.in_ok-choices.choices c.count.new.self c.after_choices.new.self c.after_choices.ensures c.in_ok-before.ensures.counted
 
 pub returns-clause-sound : goal.returns-clause-sound
-returns-clause-sound g c = record { within = c.in_ok-choices.ensures.sound; before = c.in_ok-before.ensures.small }
+returns-clause-sound g c = record { within = c.in_ok-choices.ensures.sound; before = c.in_ok-before.ensures.did.small }
 
 pub returns-clause-few : goal.returns-clause-few
 returns-clause-few g c = omega (arith, c.in_ok-choices.ensures.sound, c.in_ok-choices.ensures.few)
@@ -84,14 +89,18 @@ pub returns-clause-signs : goal.returns-clause-signs
 returns-clause-signs g c = c.choose_all.ensures.signs ∙ c.count.ensures.signs ∙ ap (λ (x : Meaning). x.signs) c.begin_pass.ensures
 
 pub decide-requires : goal.decide-requires
-decide-requires g c = record { level = c.requires.level; room = c.in_ok-before.ensures.room; numbered = c.kept.ensures.numbered }
+decide-requires g c =
+    let m = g.E.Engine.meaning c.args.engine.now in
+    let m2 = g.E.Engine.meaning c.count.new.engine in
+    let counted = counted_as c.args.table.now c.args.dictionary.now c.args.pass m _ _ c.begin_pass.ensures c.in_ok-before.ensures.did.counts in
+    record { level = c.requires.level; room = c.in_ok-before.ensures.did.room; numbered = pass_numbered c.args.table.now c.args.dictionary.now c.args.pass m m2 counted }
 
 pub choose_all-requires : goal.choose_all-requires
 choose_all-requires g c =
     let m2 = g.E.Engine.meaning c.count.new.engine in
     record {
       level = c.requires.level;
-      room = c.in_ok-before.ensures.room;
+      room = c.in_ok-before.ensures.did.room;
       fates = subst (λ (fates : List Choice). AreFates c.args.params.now m2.counts m2.windows fates) (sym c.deref.ensures.value) c.in_ok-decide.ensures.fates;
       order = subst (λ (order : List ℕ). AreInOrder m2.windows m2.counts order) (sym c.deref-2.ensures.value) c.in_ok-decide.ensures.order;
     }

@@ -1,13 +1,21 @@
 use Rattle.std.proofs.Common.{ap, ◌∙◌, sym, subst, arith}
+use Rattle.pg_patterns.specs.Inside.PatternMaps.{SignsUpTo}
 use Rattle.pg_driver.specs.Inside.Sound.{Finished}
 use Rattle.pg_driver.specs.Inside.States.{State}
 use Rattle.pg_driver.specs.Inside.RunAccounts.{TellsCells, account_of, cells_from, run_from}
 use Rattle.pg_driver.specs.Traces.{over}
 use Rattle.pg_driver.proofs.RunAccountSteps.{told_account, told_cells}
+use Rattle.pg_driver.proofs.RunSigns.{run_signs}
 use Rattle.pg_driver.proofs.levels.generate.Goals as goal
 
 pub returns-clause-patterns : goal.returns-clause-patterns
 returns-clause-patterns g c = ap (λ (r : Finished). r.patterns) c.new.ensures ∙ c.in_ok-patterns.ensures ∙ ap (λ (s : State). s.known.patterns) c.in_ok-totals.ensures.run.state
+
+pub returns-clause-pattern_signs : goal.returns-clause-pattern_signs
+returns-clause-pattern_signs g c = λ start.
+    let m0 = g.E.Engine.meaning c.args.engine.now in
+    subst (SignsUpTo m0.signs) (sym (ap (λ (r : Finished). r.patterns) c.new.ensures ∙ c.in_ok-patterns.ensures ∙ ap (λ (s : State). s.known.patterns) c.in_ok-totals.ensures.run.state))
+    (run_signs m0.signs c.args.table.now c.args.dictionary.now c.args.params.now m0 c.requires.signs start)
 
 pub returns-clause-account : goal.returns-clause-account
 returns-clause-account g c =

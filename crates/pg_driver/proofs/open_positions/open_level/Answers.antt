@@ -4,7 +4,6 @@ use Rattle.std.proofs.lemmas.Bool.{cases_lt}
 use Rattle.std.proofs.lemmas.Option.{slice_get_within}
 use Rattle.pg_dots.specs.Inside.Dots.{is_closed, position_count as places_in}
 use Rattle.pg_dict.specs.Inside.Lent.{lent_word}
-use Rattle.pg_driver.proofs.WordSteps.{signs_within}
 use Rattle.pg_select.specs.CountedPositions.{minima_of}
 use Rattle.pg_dict.specs.Word.{Word}
 use Rattle.pg_select.specs.Sums.{marks_in}
@@ -13,7 +12,7 @@ use Rattle.pg_select.proofs.MarkSteps.{marks_word}
 use Rattle.pg_driver.specs.Inside.OpenSigns.{is_open_first, start_of}
 use Rattle.pg_driver.proofs.OpenFirst.{opens_before, opens_behind}
 use Rattle.pg_driver.proofs.OpenSigns.{sign_within, signs_few, start_before, start_next, start_past, start_zero}
-use Rattle.pg_driver.proofs.WordSteps.{drop_place, letters_left, signs_within}
+use Rattle.pg_driver.proofs.WordSteps.{all_reached, drop_place, letters_left, reached_on, signs_within}
 use Rattle.pg_driver.proofs.open_positions.open_level.Goals as goal
 
 pub open_word-requires-clause-signs : goal.open_word-requires-clause-signs
@@ -66,6 +65,7 @@ words-preserved g c =
           let lies : s < places_in before.dots = omega arith in
           dots d s lies ∙ opens_behind minima c.args.level P w (s - start) (is_closed before.dots d s) (omega arith) ∙ inv.later d s (omega arith) lies;
       sums = marks_word before.totals _ _ minima P w (drop (c.words.i + 1) words) c.open_word.ensures.totals (ap (λ (ws : List Word). with_marks before.totals (flat_map (marks_in minima P) ws)) (sym (drop_place words c.words.i w lent)) ∙ inv.sums);
+      reached = reached_on minima words c.words.i w lent c.open_word.ensures.reached inv.reached;
       room_for = omega (arith, letters_left words c.words.i w lent, inv.room_for, c.open_word.ensures.took);
     }
 
@@ -86,6 +86,7 @@ words-init g c =
       before = λ d n p w low at inside. absurd (omega arith);
       later = λ d s from low. c.in_ok-dots.ensures.closed d s low;
       sums = search rules;
+      reached = omega arith;
       room_for = search rules;
     }
 
@@ -102,6 +103,12 @@ overflow_add-start g c =
     let behind = start_before c.args.dictionary.now c.words.i (length c.args.dictionary.now) w c.word-w.ensures.lent (omega (arith, c.words-test.true, c.len-count.ensures.len)) in
     let whole = start_past c.args.dictionary.now (length c.args.dictionary.now) (omega arith) in
     omega (arith, behind, whole, c.words.invariant.starts, c.words.invariant.size, c.words.invariant.few)
+
+pub returns-clause-bounded : goal.returns-clause-bounded
+returns-clause-bounded g c = record {
+  few = record { each = c.len-count.ensures.words; letters = c.len-count.ensures.letters };
+  reached = all_reached (minima_of c.args.table.now) c.args.dictionary.now c.words.i (omega (arith, c.words-test.false, c.len-count.ensures.len)) c.words.invariant.reached;
+}
 
 pub returns-clause-closed : goal.returns-clause-closed
 returns-clause-closed g c = λ d n p w at low. c.words.invariant.before d n p w (let within = slice_get_within c.args.dictionary.now n w at in omega (arith, c.words-test.false, c.len-count.ensures.len)) at low

@@ -7,6 +7,7 @@ use Rattle.pg_dict.specs.Inside.SoundWords.{letter_count}
 use Rattle.pg_select.specs.Sums.{marks_in, totals}
 use Rattle.pg_select.specs.Inside.SumSteps.{with_marks, HasRoomFor}
 use Rattle.pg_driver.specs.Inside.OpenSigns.{is_open_first, sign_count, start_of}
+use Rattle.pg_driver.proofs.WordSteps.{AreReached}
 use Rattle.pg_driver.proofs.open_positions.open_level.Given as goal
 
 abbrev pub invariant-words : goal.invariant-words
@@ -21,5 +22,6 @@ invariant-words g l =
       before : (d n p : ℕ) (w : Word) → n < l.i → slice_get l.dictionary n ≡ Some w → p < length w.signs → is_closed l.opened.dots d (start_of l.dictionary n + p) ≡ not (is_open_first minima l.level P w p);
       later : (d s : ℕ) → l.start ≤ s → s < places_in l.opened.dots → is_closed l.opened.dots d s ≡ true;
       sums : with_marks l.opened.totals (flat_map (marks_in minima P) (drop l.i l.dictionary)) ≡ totals minima l.dictionary P;
+      reached : AreReached minima l.dictionary l.i;
       room_for : HasRoomFor l.opened.totals (sum_by letter_count (drop l.i l.dictionary));
     }

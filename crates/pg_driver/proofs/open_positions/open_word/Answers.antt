@@ -11,6 +11,7 @@ use Rattle.pg_select.specs.Inside.SumSteps.{with_mark, with_marks, sum_of}
 use Rattle.pg_patterns.specs.Values.{value_at}
 use Rattle.pg_select.proofs.MarkSteps.{marks_step, mark_took, weight_small}
 use Rattle.pg_driver.proofs.OpenFirst.{opens_first, opens_last, opens_next}
+use Rattle.pg_driver.proofs.WordSteps.{reach_few}
 use Rattle.pg_driver.proofs.open_positions.open_word.Goals as goal
 
 pub positions-preserved : goal.positions-preserved
@@ -55,6 +56,9 @@ positions-init g c =
       few = omega arith;
       took_for = omega arith;
     }
+
+pub returns-clause-reached : goal.returns-clause-reached
+returns-clause-reached g c = reach_few _ c.in-Some.first c.in-Some.end _ c.in-Some.ensures.some c.in-Some.ensures.few
 
 pub returns-clause-closed : goal.returns-clause-closed
 returns-clause-closed g c = λ d s low.

@@ -18,6 +18,7 @@ use Rattle.pg_select.specs.Inside.SumSteps.{with_mark, sum_of}
 use Rattle.pg_select.proofs.MarkSteps.{marks_step, mark_took, weight_small}
 use Rattle.pg_driver.proofs.Rooms.{room_left, took_less}
 use Rattle.pg_driver.proofs.Walks.{kept_on, read_on, position_step, room_on, counted_done, marks_done, listed_done}
+use Rattle.pg_driver.proofs.WordSteps.{reach_few}
 use Rattle.pg_driver.proofs.words.count_word.Goals as goal
 
 pub count_position-requires-clause-pass : goal.count_position-requires-clause-pass
@@ -106,6 +107,9 @@ returns-in_ok-list_above-clause-numbers g c = λ words entries at before.
     subst (λ (es : List WordPosition). HaveNumbers pass (uncovered_at pass m0.patterns m0.hopeless) words m.windows (entries ++ es) c.positions.numbers.items) all
     (c.positions.invariant.numbers words entries at before)
 
+pub returns-in_ok-list_above-clause-reached : goal.returns-in_ok-list_above-clause-reached
+returns-in_ok-list_above-clause-reached g c = reach_few _ c.in-Some.first c.in-Some.end _ c.in-Some.ensures.some c.in-Some.ensures.few
+
 pub returns-in_ok-list_above-clause-took : goal.returns-in_ok-list_above-clause-took
 returns-in_ok-list_above-clause-took g c =
     took_less (g.E.Engine.meaning c.args.engine.now).counts (g.E.Engine.meaning c.positions.engine).counts _ _ c.positions.invariant.few c.positions.invariant.took
@@ -133,6 +137,9 @@ returns-else-lists-clause-numbers g c = λ words entries at before.
     let all = listed_done f c.positions.invariant.listed (listed_in (minima_of c.args.table.now) (counts_above pass.level m0.patterns) c.args.word w) c.positions.p c.in-Some.end c.positions-test.false c.positions.invariant.upto in
     subst (λ (es : List WordPosition). HaveNumbers pass (uncovered_at pass m0.patterns m0.hopeless) words m.windows (entries ++ es) c.positions.numbers.items) all
     (c.positions.invariant.numbers words entries at before)
+
+pub returns-else-lists-clause-reached : goal.returns-else-lists-clause-reached
+returns-else-lists-clause-reached g c = reach_few _ c.in-Some.first c.in-Some.end _ c.in-Some.ensures.some c.in-Some.ensures.few
 
 pub returns-else-lists-clause-took : goal.returns-else-lists-clause-took
 returns-else-lists-clause-took g c =

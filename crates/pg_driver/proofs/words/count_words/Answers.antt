@@ -19,7 +19,7 @@ use Rattle.pg_driver.specs.Inside.WordLevels.{listing}
 use Rattle.pg_driver.proofs.OpenSteps.{few_words, word_added}
 use Rattle.pg_driver.proofs.Rooms.{room_left, room_less, room_none}
 use Rattle.pg_driver.proofs.Walks.{kept_on, word_step}
-use Rattle.pg_driver.proofs.WordSteps.{drop_place, letters_left, signs_within}
+use Rattle.pg_driver.proofs.WordSteps.{all_reached, drop_place, letters_left, reached_on, signs_within}
 use Rattle.pg_driver.proofs.words.count_words.Goals as goal
 
 pub overflow_cast-i : goal.overflow_cast-i
@@ -44,10 +44,17 @@ words-init g c = record {
   room = subst (λ (cs : Counts). HasRoom cs (sum_by letter_count c.args.dictionary.now)) (sym c.requires.fresh) (room_none (sum_by letter_count c.args.dictionary.now) c.len-i-end.ensures.letters);
   sums = search rules;
   above = search rules;
+  reached = omega arith;
   room_for = search rules;
   listed = [];
   upto = refl;
   numbers = record { size = ap length c.requires.none; each = λ k e n at to. absurd (let no : None ≡ Some e = at in cc) };
+}
+
+pub returns-clause-bounded : goal.returns-clause-bounded
+returns-clause-bounded g c = record {
+  few = record { each = c.len-i-end.ensures.words; letters = c.len-i-end.ensures.letters };
+  reached = all_reached (minima_of c.args.table.now) c.args.dictionary.now c.words.i (omega (arith, c.words-test.false, c.len-i-end.ensures.len)) c.words.invariant.reached;
 }
 
 pub words-preserved : goal.words-preserved
@@ -72,6 +79,7 @@ words-preserved g c =
       above =
           word_added minima (listing c.args.lists c.args.pass.level m0.patterns) c.words.above.items c.count_word.new.above.items _ c.args.dictionary.now c.words.i w c.word-w.ensures.lent
           (c.in_ok-count_word.ensures.above ∙ ap (λ (x : Meaning). c.words.above.items ++ listed_in minima (listing c.args.lists c.args.pass.level x.patterns) c.words.i w) kept) c.words.invariant.above;
+      reached = reached_on minima c.args.dictionary.now c.words.i w c.word-w.ensures.lent c.in_ok-count_word.ensures.reached c.words.invariant.reached;
       room_for = omega (arith, letters, c.words.invariant.room_for, c.in_ok-count_word.ensures.took_for);
       listed = c.words.invariant.listed ++ here;
       upto = word_added minima (counts_above pass.level m0.patterns) c.words.invariant.listed (c.words.invariant.listed ++ here) _ c.args.dictionary.now c.words.i w c.word-w.ensures.lent refl c.words.invariant.upto;

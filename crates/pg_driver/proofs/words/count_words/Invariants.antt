@@ -11,6 +11,7 @@ use Rattle.pg_driver.specs.declared.pass_windows.WordPosition.{WordPosition}
 use Rattle.pg_driver.specs.Inside.PassWindows.{HaveNumbers, uncovered_at}
 use Rattle.pg_driver.specs.Inside.WordLevels.{listing}
 use Rattle.pg_driver.proofs.Walks.{KeepsButCounts}
+use Rattle.pg_driver.proofs.WordSteps.{AreReached}
 use Rattle.pg_driver.proofs.words.count_words.Given as goal
 
 abbrev pub invariant-words : goal.invariant-words
@@ -23,6 +24,7 @@ invariant-words g l =
       room : HasRoom m.counts (sum_by letter_count (drop l.i l.dictionary));
       sums : with_marks l.sums (flat_map (marks_in (minima_of l.table) m0.patterns) (drop l.i l.dictionary)) ≡ totals (minima_of l.table) l.dictionary m0.patterns;
       above : (l.above.items ++ listed_from (minima_of l.table) (listing l.lists l.pass.level m0.patterns) l.i (drop l.i l.dictionary)) ≡ (l.fn.above.items ++ listed_from (minima_of l.table) (listing l.lists l.pass.level m0.patterns) 0 l.dictionary);
+      reached : AreReached (minima_of l.table) l.dictionary l.i;
       room_for : HasRoomFor l.sums (sum_by letter_count (drop l.i l.dictionary));
       listed : List WordPosition;
       upto : (listed ++ listed_from (minima_of l.table) (counts_above l.pass.level m0.patterns) l.i (drop l.i l.dictionary)) ≡ listed_from (minima_of l.table) (counts_above l.pass.level m0.patterns) 0 l.dictionary;

@@ -18,8 +18,8 @@ count_open-requires-clause-room g c =
     let now : IsOpenAt source pass.level pass.len (known_of m) p = ready_same source pass.level pass.len (known_of m) o ready p c.in_ok-reach-in-Open.ensures.places c.in_ok-reach-in-Open.ensures.closed refl in
     has_room source pass.level pass.len (known_of m) p now m.counts pass.dot c.requires.fresh c.requires.ranges.len_high c.requires.ranges.within
 
-pub returns-in_ok-count_open-in-Open-clause-ok : goal.returns-in_ok-count_open-in-Open-clause-ok
-returns-in_ok-count_open-in-Open-clause-ok g c =
+pub returns-in_ok-count_open-in-Open-clause-did : goal.returns-in_ok-count_open-in-Open-clause-did
+returns-in_ok-count_open-in-Open-clause-did g c =
     let m = g.E.Engine.meaning c.args.engine.now in
     let source = over c.args.table.now c.args.dictionary.now in
     let pass = c.args.pass in
@@ -27,17 +27,12 @@ returns-in_ok-count_open-in-Open-clause-ok g c =
     let p : OpenLevel = record { dots = c.reach.new.self; totals = o.totals } in
     let ready : IsOpenAt source pass.level pass.len (known_of m) o = subst (IsReady source pass.level pass.len (known_of m)) c.in-Open.is c.requires.ready in
     let now : IsOpenAt source pass.level pass.len (known_of m) p = ready_same source pass.level pass.len (known_of m) o ready p c.in_ok-reach-in-Open.ensures.places c.in_ok-reach-in-Open.ensures.closed refl in
-    c.in_ok-count_open-in-Open.ensures.ok
-    ∙ ap (meaning_after_counting m) (counts_all source pass.level pass.len (known_of m) p now pass.dot c.requires.ranges.len_high c.requires.ranges.within)
-
-pub returns-in_ok-count_open-in-Open-clause-small : goal.returns-in_ok-count_open-in-Open-clause-small
-returns-in_ok-count_open-in-Open-clause-small g c =
-    let known = known_of (g.E.Engine.meaning c.args.engine.now) in
-    let source = over c.args.table.now c.args.dictionary.now in
-    let pass = c.args.pass in
-    let o = c.in-Open.open in
-    let ready : IsOpenAt source pass.level pass.len known o = subst (IsReady source pass.level pass.len known) c.in-Open.is c.requires.ready in
-    is_small source pass.level pass.len known o ready
+    record {
+      counts = c.in_ok-count_open-in-Open.ensures.ok ∙ ap (meaning_after_counting m) (counts_all source pass.level pass.len (known_of m) p now pass.dot c.requires.ranges.len_high c.requires.ranges.within);
+      room = c.in_ok-count_open-in-Open.ensures.room;
+      totals = ready.totals;
+      small = is_small source pass.level pass.len (known_of m) o ready;
+    }
 
 pub returns-in_ok-count_open-in-Open-clause-ready : goal.returns-in_ok-count_open-in-Open-clause-ready
 returns-in_ok-count_open-in-Open-clause-ready g c =
@@ -49,17 +44,6 @@ returns-in_ok-count_open-in-Open-clause-ready g c =
     let ready : IsOpenAt source pass.level pass.len known o = subst (IsReady source pass.level pass.len known) c.in-Open.is c.requires.ready in
     ready_same source pass.level pass.len known o ready p c.in_ok-reach-in-Open.ensures.places c.in_ok-reach-in-Open.ensures.closed refl
 
-pub returns-in_ok-count_open-in-Open-clause-totals : goal.returns-in_ok-count_open-in-Open-clause-totals
-returns-in_ok-count_open-in-Open-clause-totals g c =
-    let known = known_of (g.E.Engine.meaning c.args.engine.now) in
-    let source = over c.args.table.now c.args.dictionary.now in
-    let pass = c.args.pass in
-    let ready : IsOpenAt source pass.level pass.len known c.in-Open.open = subst (IsReady source pass.level pass.len known) c.in-Open.is c.requires.ready in
-    ready.totals
-
-pub returns-in_ok-count_open-in-Open-clause-room : goal.returns-in_ok-count_open-in-Open-clause-room
-returns-in_ok-count_open-in-Open-clause-room g c = c.in_ok-count_open-in-Open.ensures.room
-
 pub returns-in_ok-count_open-in-Open-clause-counted : goal.returns-in_ok-count_open-in-Open-clause-counted
 returns-in_ok-count_open-in-Open-clause-counted g c = tt
 
@@ -69,17 +53,8 @@ returns-in_ok-count_open-in-Open-clause-signs g c = c.count_open.ensures.signs
 pub returns-in_ok-count_open-in-Open-clause-numbers : goal.returns-in_ok-count_open-in-Open-clause-numbers
 returns-in_ok-count_open-in-Open-clause-numbers g c = λ numbered. record { reached = c.in_ok-reach-in-Open.ensures.reached; numbers = c.in_ok-count_open-in-Open.ensures.numbers }
 
-pub returns-in-EachWord-clause-ok : goal.returns-in-EachWord-clause-ok
-returns-in-EachWord-clause-ok g c = c.count.ensures.ok
-
-pub returns-in-EachWord-clause-totals : goal.returns-in-EachWord-clause-totals
-returns-in-EachWord-clause-totals g c = c.count.ensures.totals
-
-pub returns-in-EachWord-clause-small : goal.returns-in-EachWord-clause-small
-returns-in-EachWord-clause-small g c = c.count.ensures.small
-
-pub returns-in-EachWord-clause-room : goal.returns-in-EachWord-clause-room
-returns-in-EachWord-clause-room g c = c.count.ensures.room
+pub returns-in-EachWord-clause-did : goal.returns-in-EachWord-clause-did
+returns-in-EachWord-clause-did g c = c.count.ensures.did
 
 pub returns-in-EachWord-clause-ready : goal.returns-in-EachWord-clause-ready
 returns-in-EachWord-clause-ready g c = c.count.ensures.ready

@@ -10,9 +10,7 @@ returns-clause-ready g c = λ len.
     ready_at_start (over c.args.table.now c.args.dictionary.now) c.args.level len (g.E.Engine.meaning c.args.engine.now) c.in_ok-opened.opened
     c.requires.hopeless
     (c.requires.below (omega (arith, c.if-level-greatest.false)))
-    (omega (arith, c.left-least.ensures.value, c.left-least.ensures.range))
-    c.in_ok-opened.ensures.words
-    c.in_ok-opened.ensures.letters
+    c.in_ok-opened.ensures.bounded
     c.in_ok-opened.ensures.size
     c.in_ok-opened.ensures.closed
     c.in_ok-opened.ensures.totals
@@ -23,8 +21,5 @@ returns-then-level-greatest-clause-form g c = λ low. absurd (omega (arith, c.if
 pub returns-then-level-greatest-clause-ready : goal.returns-then-level-greatest-clause-ready
 returns-then-level-greatest-clause-ready g c = λ len.
     words_begin (over c.args.table.now c.args.dictionary.now) c.args.level (known_of (g.E.Engine.meaning c.args.engine.now)) c.new.result
-    (omega (arith, c.left-least.ensures.value, c.left-least.ensures.range))
-    c.len-words.ensures.words
-    c.len-words.ensures.letters
     c.new.ensures.counted
     c.new.ensures.above
