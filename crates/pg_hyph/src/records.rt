@@ -1,36 +1,36 @@
 //! The list of a string that stands in a word.
 ghost use Rattle.std.specs.Prelude.{◌≡◌, ◌+◌, ◌≤◌, ◌&&◌, nat_le, length};
 ghost use Rattle.pg_types.specs.declared.limits.TheConstants.{WORD_LETTERS_MAX};
-ghost use Rattle.pg_trie.specs.Inside.Lists.{list_of};
+ghost use Rattle.pg_outputs.specs.Lists.{list_of};
 ghost use Rattle.pg_select.specs.Inside.Positions.{RaisesValues, RaisesCovers, RaisesAt, values_of, covers_of};
 ghost use Rattle.pg_select.specs.Inside.Within.{is_within};
 ghost use Rattle.pg_hyph.specs.Inside.ListValues.{value_given, value_by, cover_by};
 ghost use Rattle.pg_hyph.specs.Inside.Walks.{by_list};
 
+use pg_outputs::Outputs;
 use pg_select::{Pass, WordState};
-use pg_trie::{HOPELESS, PatternTrie};
+use pg_trie::HOPELESS;
 
 /// Raises the values and covers of a word by the values and hopeless entries of the list at `head`,
 /// that of a string of `len` signs which stands in the word from `start` on.
 pub fn raise_by_list(
-    trie: &PatternTrie,
+    outputs: &Outputs,
     head: u64,
     start: usize,
     len: usize,
     pass: &Pass,
     out: &mut WordState,
 )
-    requires head { head ≤ length trie.now.records }
+    requires head { head ≤ length outputs.now }
     requires start { start ≤ WORD_LETTERS_MAX + 2 }
     requires len { len ≤ WORD_LETTERS_MAX + 2 }
     ensures values { RaisesValues
-        (by_list (value_by len) start (list_of trie.now.records head)) out.old out.new }
+        (by_list (value_by len) start (list_of outputs.now head)) out.old out.new }
     ensures covers { RaisesCovers
-        (by_list (cover_by pass.now len) start (list_of trie.now.records head)) out.old
-        out.new }
+        (by_list (cover_by pass.now len) start (list_of outputs.now head)) out.old out.new }
 {
     let mut at = head;
-    while let Some((value, dot, next)) = trie.outputs().first(at) {
+    while let Some((value, dot, next)) = outputs.first(at) {
         raise_at(value, dot, start, len, pass, out);
         at = next;
     }

@@ -31,7 +31,7 @@ pub fn hyphenate(
         (pass_at level len dot) trie.now.patterns trie.now.hopeless w.entry.signs.now
         out.new.covers }
 {
-    let _kept = trie.outputs();
+    let outputs = trie.outputs();
     *out = WordState::new();
-    walk(trie, w.signs, &Pass { level, len, dot }, out);
+    walk(trie, outputs, w.signs, &Pass { level, len, dot }, out);
 }

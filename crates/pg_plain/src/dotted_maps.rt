@@ -1,10 +1,10 @@
 //! Maps from dotted strings, in their order.
-ghost use Rattle.std.specs.Prelude.{◌≡◌, ℕ, Bool, true, List, OnOk, OnErr, IfOk};
+ghost use Rattle.std.specs.Prelude.{◌≡◌, ℕ, Bool, true, T, List, OnOk, OnErr, IfOk};
 ghost use Rattle.std.specs.List.{list_all};
-ghost use Rattle.std.specs.FinMap.Entries.{put};
+ghost use Rattle.std.specs.FinMap.Entries.{put, is_sorted};
 ghost use Rattle.pg_patterns.specs.DottedSigns.{dotted_cmp};
 ghost use Rattle.pg_patterns.specs.Values.{raise, value_of};
-ghost use Rattle.pg_patterns.specs.Inside.PatternMaps.{is_entry};
+ghost use Rattle.pg_patterns.specs.Inside.PatternMaps.{IsPatternMap, is_entry};
 
 use pg_patterns::{DottedSigns, Entry, PatternSet};
 use std::alloc::{AllocError, Global};
@@ -28,8 +28,8 @@ pub fn raise_in(
 ) -> Result<(), AllocError>
     ensures ok { OnOk result (map.new.entries ≡ raise map.old.entries place value) }
     ensures err { OnErr result (map.new.entries ≡ map.old.entries) }
-    ensures kept { list_all is_entry map.old.entries ≡ true → is_entry (place, value) ≡ true
-        → list_all is_entry map.new.entries ≡ true }
+    ensures kept { IsPatternMap map.old.entries → is_entry (place, value) ≡ true
+        → IsPatternMap map.new.entries }
     ensures places { (good : List ℕ × ℕ → Bool) → list_all (λ e. good e.0) map.old.entries ≡ true
         → good place
         ≡ true → list_all (λ e. good e.0) map.new.entries ≡ true }
@@ -43,6 +43,7 @@ pub fn raise_in(
 pub fn put_in(set: &mut BTreeMap<DottedSigns, ()>, place: DottedSigns) -> Result<(), AllocError>
     ensures ok { OnOk result (set.new.entries ≡ put dotted_cmp place (tt {0}) set.old.entries) }
     ensures err { OnErr result (set.new.entries ≡ set.old.entries) }
+    ensures sorted { T (is_sorted dotted_cmp set.new.entries) }
     ensures places { (good : List ℕ × ℕ → Bool) → list_all (λ e. good e.0) set.old.entries ≡ true
         → good place
         ≡ true → list_all (λ e. good e.0) set.new.entries ≡ true }
@@ -54,7 +55,7 @@ pub fn put_in(set: &mut BTreeMap<DottedSigns, ()>, place: DottedSigns) -> Result
 /// The map of a set of patterns.
 pub fn map_of(alloc: Global, patterns: &PatternSet) -> Result<BTreeMap<DottedSigns, u8>, AllocError>
     ensures value { IfOk result (λ map. map.entries ≡ patterns.now) }
-    ensures sound { IfOk result (λ map. list_all is_entry map.entries ≡ true) }
+    ensures kept { IfOk result (λ map. IsPatternMap map.entries) }
 {
     let mut map = BTreeMap::new(alloc);
     for i in 0..patterns.len() {

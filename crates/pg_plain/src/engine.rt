@@ -1,8 +1,10 @@
 //! The plain engine.
-ghost use Rattle.std.specs.Prelude.{◌≡◌, ◌≤◌, true, nat_eq, length};
+ghost use Rattle.std.specs.Prelude.{◌≡◌, ◌≤◌, true, T, nat_eq, length};
+ghost use Rattle.std.specs.FinMap.Entries.{is_sorted};
 ghost use Rattle.std.specs.List.{list_all};
 ghost use Rattle.pg_types.specs.declared.limits.TheConstants.{LEVEL_MAX, LENGTH_MAX};
-ghost use Rattle.pg_patterns.specs.Inside.PatternMaps.{is_entry};
+ghost use Rattle.pg_patterns.specs.DottedSigns.{dotted_cmp};
+ghost use Rattle.pg_patterns.specs.Inside.PatternMaps.{IsPatternMap};
 ghost use Rattle.pg_plain.specs.Inside.Strings.{is_string, has_signs_up_to};
 
 use crate::counts::CountedWindows;
@@ -28,8 +30,9 @@ pub struct PlainEngine {
     counts: CountedWindows,
     pass: Pass,
     begun: u64,
-    ghost entries: { list_all is_entry patterns.entries ≡ true },
-    ghost strings: { list_all (λ e. is_string e.0) hopeless.entries ≡ true },
+    ghost entries: { IsPatternMap patterns.entries },
+    ghost strings: { T (is_sorted dotted_cmp hopeless.entries)
+        × (list_all (λ e. is_string e.0) hopeless.entries ≡ true) },
     ghost known: { list_all (λ e. has_signs_up_to signs e.0.0) patterns.entries ≡ true },
     ghost hopeless_known: { list_all (λ e. has_signs_up_to signs e.0.0) hopeless.entries ≡ true },
     ghost counts_known: { list_all (λ e. has_signs_up_to signs e.0) counts.counts ≡ true },
@@ -41,6 +44,7 @@ pub struct PlainEngine {
 
 impl PlainEngine {
     ghost use Rattle.std.specs.Prelude.{◌≡◌, IfOk};
+    ghost use Rattle.pg_patterns.specs.DottedSigns.{dotted_cmp};
     ghost use Rattle.pg_patterns.specs.Inside.PatternMaps.{SignsUpTo};
     ghost use Rattle.pg_select.specs.Inside.Meanings.{new_engine};
     ghost use Rattle.pg_plain.specs.Inside.Engines.{meaning_of};
@@ -73,8 +77,6 @@ impl Engine for PlainEngine {
     ghost meaning = { meaning_of };
 
     fn kept(&self) {
-        let _patterns = self.patterns.len();
-        let _hopeless = self.hopeless.len();
         let _counts = self.counts.len();
     }
 

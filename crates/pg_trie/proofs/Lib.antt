@@ -1,5 +1,6 @@
 pub mod Changes
 pub mod Deleted
+pub mod Ended
 pub mod Entered
 pub mod Found
 pub mod Gathered

@@ -5,6 +5,7 @@
 mod copy;
 mod head;
 mod hopeless;
+mod lists;
 mod prune;
 mod raise;
 mod renew;

@@ -4,7 +4,6 @@ ghost use Rattle.pg_outputs.specs.Lists.{list_of};
 ghost use Rattle.pg_outputs.specs.Inside.Heads.{Grows, OneHeadEach};
 ghost use Rattle.pg_trie.specs.Inside.Lists.{rank, list_with};
 
-use crate::head::{Head, in_four_bytes};
 use crate::hopeless::HOPELESS;
 use pg_outputs::Outputs;
 use std::alloc::AllocError;
@@ -24,8 +23,8 @@ fn stands_beside(value: u8, dot: u8, other: u8, other_dot: u8) -> bool
     dot == other_dot && (value < HOPELESS) == (other < HOPELESS)
 }
 
-// The head of the list with `value` at `dot`. Where it has a value there, the greater one counts.
-fn raised(outputs: &mut Outputs, head: u64, value: u8, dot: u8) -> Result<u64, AllocError>
+/// The head of the list with `value` at `dot`. Where it has a value there, the greater one counts.
+pub fn raised(outputs: &mut Outputs, head: u64, value: u8, dot: u8) -> Result<u64, AllocError>
     requires { head ≤ length outputs.old }
     ensures list { IfOk result
         (λ h. list_of outputs.new h ≡ list_with (value, dot) (list_of outputs.old head)) }
@@ -43,18 +42,4 @@ fn raised(outputs: &mut Outputs, head: u64, value: u8, dot: u8) -> Result<u64, A
     }
     let rest = raised(outputs, next, value, dot)?;
     outputs.cons(first, at, rest)
-}
-
-/// The head of the list with `value` at `dot`, for a cell. Where it has a value there, the greater
-/// one counts.
-pub fn raised_head(outputs: &mut Outputs, head: u64, value: u8, dot: u8) -> Result<Head, AllocError>
-    requires { head ≤ length outputs.old }
-    ensures list { IfOk result
-        (λ h. list_of outputs.new h ≡ list_with (value, dot) (list_of outputs.old head)) }
-    ensures inside { IfOk result (λ h. h ≤ length outputs.new) }
-    ensures grows { Grows outputs.old outputs.new }
-{
-    let longer = raised(outputs, head, value, dot)?;
-    let number = in_four_bytes(longer)?;
-    Ok(Head::new(number))
 }

@@ -15,8 +15,8 @@ ghost use Rattle.pg_trie.specs.Inside.Maps.{AreKept};
 
 use crate::copy::entries;
 use crate::head::Head;
+use crate::lists::{Lists, raised_head};
 use crate::prune::prune;
-use crate::raise::raised_head;
 use crate::renew::{fresh_heads, renew};
 use pg_cells::Cells;
 use pg_outputs::Outputs;
@@ -34,7 +34,7 @@ use std::marker::Model;
 pub struct PatternTrie {
     alloc: Global,
     cells: Cells<Head, FEW_SIGNS>,
-    outputs: Outputs,
+    lists: Lists,
 }
 
 impl Model for PatternTrie {
@@ -43,9 +43,9 @@ impl Model for PatternTrie {
 
     ghost Value = { Maps };
 
-    ghost view = { λ t. maps_of t.cells t.outputs };
+    ghost view = { λ t. maps_of t.cells t.lists };
 
-    ghost invariant = { λ t. IsTrie t.cells t.outputs };
+    ghost invariant = { λ t. IsTrie t.cells t.lists };
 }
 
 impl PatternTrie {
@@ -63,7 +63,7 @@ impl PatternTrie {
         Ok(PatternTrie {
             alloc,
             cells: Cells::new(alloc, signs, Head::none())?,
-            outputs: Outputs::new(alloc),
+            lists: Lists::new(Outputs::new(alloc)),
         })
     }
 
@@ -101,7 +101,7 @@ impl PatternTrie {
     {
         let cell = pg_cells::enter(&mut self.cells, signs, Head::none())?;
         let old = self.cells.value(cell).number();
-        let head = raised_head(&mut self.outputs, old, value, dot)?;
+        let head = raised_head(&mut self.lists, old, value, dot)?;
         self.cells.set_value(cell, head);
         Ok(())
     }
@@ -136,7 +136,7 @@ impl PatternTrie {
         ensures records { result.now ≡ self.now.records }
         ensures kept { AreKept self.now }
     {
-        &self.outputs
+        self.lists.outputs()
     }
 
     /// Deletes the hopeless entries: a string of several signs that is no prefix of a pattern's
@@ -154,10 +154,10 @@ impl PatternTrie {
         ensures signs { self.new.signs ≡ self.old.signs }
     {
         let mut fresh = Outputs::new(self.alloc);
-        let heads = fresh_heads(self.alloc, &self.cells, &self.outputs, &mut fresh)?;
+        let heads = fresh_heads(self.alloc, &self.cells, self.lists.outputs(), &mut fresh)?;
         renew(&mut self.cells, &heads);
         prune(&mut self.cells);
-        self.outputs = fresh;
+        self.lists = Lists::new(fresh);
         Ok(())
     }
 
@@ -165,7 +165,7 @@ impl PatternTrie {
     pub fn copy(&self, alloc: Global) -> Result<PatternSet, AllocError>
         ensures { IfOk result (λ patterns. patterns ≡ self.now.patterns) }
     {
-        let entries = entries(alloc, &self.cells, &self.outputs)?;
+        let entries = entries(alloc, &self.cells, self.lists.outputs())?;
         Ok(PatternSet::from_entries(entries))
     }
 
@@ -182,7 +182,7 @@ impl PatternTrie {
         Layout {
             taken: self.cells.taken() as u64,
             top: self.cells.top() as u64,
-            tails: self.outputs.len(),
+            tails: self.lists.outputs().len(),
         }
     }
 }

@@ -2,7 +2,7 @@ use Rattle.pg_plain.proofs.Covers.{entries_are_strings, values_end, covers_end}
 use Rattle.pg_plain.proofs.engine.PlainEngineEngine.hyphenate.Goals as goal
 
 pub walk-requires-clause-strings : goal.walk-requires-clause-strings
-walk-requires-clause-strings c = entries_are_strings c.args.self.now.patterns.entries c.args.self.now.entries
+walk-requires-clause-strings c = entries_are_strings c.args.self.now.patterns.entries c.args.self.now.entries.sound
 
 pub returns-clause-values : goal.returns-clause-values
 returns-clause-values c =

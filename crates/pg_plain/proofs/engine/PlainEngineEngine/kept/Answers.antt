@@ -1,12 +1,10 @@
-use Rattle.pg_patterns.specs.DottedSigns.{dotted_cmp}
-use Rattle.pg_types.proofs.EntryLists.{sorted_from}
 use Rattle.pg_plain.proofs.Known.{patterns_up_to, places_within, counted_within}
 use Rattle.pg_plain.proofs.engine.PlainEngineEngine.kept.Goals as goal
 
 pub returns : goal.returns
 returns c = record {
-  patterns = record { sorted = sorted_from dotted_cmp c.args.self.now.patterns.entries c.len-patterns.ensures.ordered; sound = c.args.self.now.entries };
-  hopeless_order = sorted_from dotted_cmp c.args.self.now.hopeless.entries c.len-hopeless.ensures.ordered;
+  patterns = c.args.self.now.entries;
+  hopeless_order = c.args.self.now.strings.0;
   counts_order = c.len-counts.ensures.ordered;
   numbered = c.len-counts.ensures.numbered;
   pattern_signs = patterns_up_to c.args.self.now.signs c.args.self.now.patterns.entries c.args.self.now.known;

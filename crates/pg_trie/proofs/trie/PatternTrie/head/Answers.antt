@@ -12,7 +12,7 @@ returns-clause-list c q at =
     (
     let there = c.value.ensures q (subst (λ (m : Maps). cell_of m.families q ≡ Some c.args.cell) (sym c.self.view_is) at) in
     subst (λ (m : Maps). list_of m.records c.value.result ≡ outputs_at m.patterns m.hopeless q) c.self.view_is
-    (list_is c.self.inside.cells c.self.inside.outputs c.self.invariant q c.value.result there)
+    (list_is c.self.inside.cells c.self.inside.lists c.self.invariant q c.value.result there)
     )
 
 pub returns-clause-inside : goal.returns-clause-inside

@@ -9,4 +9,4 @@ pub returns-clause-none : goal.returns-clause-none
 returns-clause-none c q at none more =
     let ends = c.step.ensures.none q (subst (λ (m : Maps). IsAt m.families c.args.at q) (sym c.self.view_is) at) none more in
     subst (λ (m : Maps). outputs_at m.patterns m.hopeless ((q ++ c.args.s ∷ []) ++ more) ≡ []) c.self.view_is
-    (none_is c.self.inside.cells c.self.inside.outputs c.self.invariant ((q ++ c.args.s ∷ []) ++ more) ends)
+    (none_is c.self.inside.cells c.self.inside.lists c.self.invariant ((q ++ c.args.s ∷ []) ++ more) ends)
