@@ -3,37 +3,25 @@
 //! program over files that never fail; calls over a disk that stops or fails at each of its calls
 //! in turn; and the status of each answer. All other calls are rows of patgen_rows.
 //!
-//! The calls of the crates below the engines are tried on worked rows that name them. What files
-//! and sinks do whose calls fail is tried here too: a disk in memory, real files, and files and
-//! writers whose calls go as a list says.
+//! What files and sinks do whose calls fail is tried here too: a disk in memory, real files, and
+//! files and writers whose calls go as a list says. The calls of the crates below the engines are
+//! tried in pg_calls.
 #![tactic(auto)]
 
 #[cfg(test)]
 mod arguments;
 #[cfg(test)]
-mod cells;
-#[cfg(test)]
-mod count;
-#[cfg(test)]
 mod counts;
-#[cfg(test)]
-mod dict;
 #[cfg(test)]
 mod disk;
 #[cfg(test)]
 mod engines;
-#[cfg(test)]
-mod families;
 #[cfg(test)]
 mod folders;
 #[cfg(test)]
 mod host;
 #[cfg(test)]
 mod outcomes;
-#[cfg(test)]
-mod outputs;
-#[cfg(test)]
-mod patterns;
 #[cfg(test)]
 mod plain;
 #[cfg(test)]
@@ -43,8 +31,6 @@ mod runs;
 #[cfg(test)]
 mod scripted;
 #[cfg(test)]
-mod slow;
-#[cfg(test)]
 mod statuses;
 #[cfg(test)]
 mod steps;
@@ -52,10 +38,6 @@ mod steps;
 mod stopped;
 #[cfg(test)]
 mod streams;
-#[cfg(test)]
-mod strings;
-#[cfg(test)]
-mod trie;
 #[cfg(test)]
 mod unskipped;
 #[cfg(test)]

@@ -1,6 +1,6 @@
 use Rattle.std.proofs.Common.{◌≡◌, ℕ, ◌*◌, ◌≤◌, List}
 use Rattle.pg_types.specs.Inside.Counts.{sums_of}
-use Rattle.pg_runs.proofs.count.count.Given as goal
+use Rattle.pg_calls.proofs.count.count.Given as goal
 
 abbrev pub invariant-loop-window : goal.invariant-loop-window
 invariant-loop-window l = record {

@@ -4,7 +4,7 @@ use Rattle.std.specs.FinMap.Entries.{find, find-put}
 use Rattle.pg_cells.proofs.StringMaps.{order, same_string}
 use Rattle.pg_types.specs.Inside.Counts.{Counts, sums_of, with_weight, with_count}
 use Rattle.pg_count.specs.Inside.Counting.{Counting}
-use Rattle.pg_runs.proofs.count.count_window.Goals as goal
+use Rattle.pg_calls.proofs.count.count_window.Goals as goal
 
 -- both sums are at most n
 abbrev AtMost : ℕ → ℕ × ℕ → Type 0

@@ -1,0 +1,25 @@
+//! The calls of the crates below the engines, on worked rows that name them: what dictionaries,
+//! patterns, cells, counts and tries give of small inputs, and cells beside a slow list of families.
+//!
+//! It stands on the lowest crates alone, so the gate can prove it early. Tests that need an engine,
+//! the driver or the program are in pg_runs, and whole calls are rows of patgen_rows.
+#![tactic(auto)]
+
+#[cfg(test)]
+mod cells;
+#[cfg(test)]
+mod count;
+#[cfg(test)]
+mod dict;
+#[cfg(test)]
+mod families;
+#[cfg(test)]
+mod outputs;
+#[cfg(test)]
+mod patterns;
+#[cfg(test)]
+mod slow;
+#[cfg(test)]
+mod strings;
+#[cfg(test)]
+mod trie;
