@@ -1,6 +1,6 @@
 -- The folder of a name, by where its last slash is.
-use Rattle.std.proofs.Common.{◌≡◌, ◌+◌, inl, inr, ℕ, List, [], ◌∷◌, ◌++◌, take, drop, sym, ap, ◌∙◌, lit<}
-use Rattle.std.specs.Prelude.{◌==◌}
+use Rattle.std.proofs.Common.{◌≡◌, ◌+◌, ◌-◌, inl, inr, ℕ, List, [], ◌∷◌, ◌++◌, take, drop, sym, ap, ◌∙◌, lit<, arith}
+use Rattle.std.specs.Prelude.{◌==◌, slice_range}
 use Rattle.std.specs.Str.{NoCharPasses}
 use Rattle.std.specs.Str.Pattern.{HasCharAt}
 use Rattle.std.proofs.Math.Seq.{take-add}
@@ -18,6 +18,10 @@ folder_none folder name is none = record {
 
 one_more : (name : List ℕ) (i j : ℕ) → HasCharAt 47 name i j → take (i + 1) name ≡ take i name ++ 47 ∷ []
 one_more name i j at = take-add i 1 name ∙ ap (λ (l : List ℕ). take i name ++ take 1 l) (drop_at_char 47 name i j at (lit< tt))
+
+-- a part from the start
+pub from_start : (part name : List ℕ) (n : ℕ) → part ≡ slice_range name 0 n → part ≡ take n name
+from_start part name n is = let whole : n - 0 ≡ n = omega arith in is ∙ ap (λ (k : ℕ). take k name) whole
 
 pub folder_at : (folder name : List ℕ) (i j : ℕ) → HasCharAt 47 name i j → NoCharPasses (λ d. d == 47) (drop j name) → folder ≡ take (i + 1) name → IsFolderOf folder name
 folder_at folder name i j at none is = record {

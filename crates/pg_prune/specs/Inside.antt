@@ -10,3 +10,4 @@ pub mod Trails
 pub mod Findings
 pub mod WordPlaces
 pub mod Needs
+pub mod Prunings

@@ -1,5 +1,5 @@
 //! The call that prunes.
-ghost use Rattle.std.specs.Prelude.{◌≡◌, ◌+◌, List, map, IfOk, All, Contains};
+ghost use Rattle.std.specs.Prelude.{◌≡◌, ◌+◌, List, map, IfOk};
 ghost use Rattle.pg_translate.specs.Alphabets.{letters_of};
 ghost use Rattle.pg_patterns.specs.Inside.PatternMaps.{SignsUpTo};
 ghost use Rattle.pg_dict.specs.Word.{Word};
@@ -7,8 +7,7 @@ ghost use Rattle.pg_select.specs.CountedPositions.{Minima, minima_of};
 ghost use Rattle.pg_prune.specs.Places.{places as places_of};
 ghost use Rattle.pg_prune.specs.Prunes.{need_at, pruned};
 ghost use Rattle.pg_prune.specs.Inside.Picks.{RoundsStart};
-ghost use Rattle.pg_prune.specs.Promises.{BreakAlike, NoneCanGo};
-ghost use Rattle.pg_prune.specs.Inside.Needs.{HasNeeds};
+ghost use Rattle.pg_prune.specs.Inside.Prunings.{IsPruning};
 
 use crate::gather::gather;
 use crate::holders::Holders;
@@ -36,15 +35,8 @@ pub fn prune(
     patterns: &PatternSet,
 ) -> Result<Pruned, AllocError>
     requires known { SignsUpTo (letters_of table.now + 1) patterns.now }
-    ensures pruned { IfOk result
-        (λ found. found ≡ pruned (minima_of table.now) dictionary.now patterns.now) }
-    ensures alike { IfOk result
-        (λ found. BreakAlike (minima_of table.now) dictionary.now patterns.now found.patterns) }
-    ensures least { IfOk result
-        (λ found. NoneCanGo (minima_of table.now) dictionary.now patterns.now found.patterns) }
-    ensures needs { IfOk result HasNeeds }
-    ensures part { IfOk result (λ found. All (Contains patterns.now) found.patterns) }
-    ensures known { IfOk result (λ found. SignsUpTo (letters_of table.now + 1) found.patterns) }
+    ensures { let n = letters_of table.now + 1 in IfOk result
+        (IsPruning (minima_of table.now) n dictionary.now patterns.now) }
 {
     prune_watched(alloc, dictionary, table, patterns, &Unseen)
 }
@@ -58,15 +50,8 @@ pub fn prune_watched<W: Rounds>(
     watch: &W,
 ) -> Result<Pruned, AllocError>
     requires known { SignsUpTo (letters_of table.now + 1) patterns.now }
-    ensures pruned { IfOk result
-        (λ found. found ≡ pruned (minima_of table.now) dictionary.now patterns.now) }
-    ensures alike { IfOk result
-        (λ found. BreakAlike (minima_of table.now) dictionary.now patterns.now found.patterns) }
-    ensures least { IfOk result
-        (λ found. NoneCanGo (minima_of table.now) dictionary.now patterns.now found.patterns) }
-    ensures needs { IfOk result HasNeeds }
-    ensures part { IfOk result (λ found. All (Contains patterns.now) found.patterns) }
-    ensures known { IfOk result (λ found. SignsUpTo (letters_of table.now + 1) found.patterns) }
+    ensures { let n = letters_of table.now + 1 in IfOk result
+        (IsPruning (minima_of table.now) n dictionary.now patterns.now) }
 {
     find(alloc, dictionary, table, patterns, watch)
 }

@@ -139,6 +139,11 @@ module _ (n : ℕ) (P : List ((List ℕ × ℕ) × ℕ)) (h : ValuedFamilies ℕ
   entries_text (Ok text) short is = λ q d. ap (λ b. table_entry b q d) is ∙ text_entries n P h entered.sound entered.packed some few short q d
   entries_text (Err e) short is = tt
 
+-- what holds in any case, holds of a table that is made
+pub on_any : {T E P : Type 0} (result : Result T E) → P → IfOk result (λ _. P)
+on_any (Ok value) holds = holds
+on_any (Err error) holds = tt
+
 -- a file that a test does not find too long is short enough
 pub fits : (n : ℕ) (P : List ((List ℕ × ℕ) × ℕ)) (h : ValuedFamilies ℕ) (rs : List Record) → IsPatternMap P → IsEntered n P h rs → (b : Bool) → (TABLE_MAX < HEAD_LEN + CELL_LEN * (top h.families + 1) + RECORD_LEN * length rs → b ≡ true) → b ≡ false → length (table_text n P) ≤ TABLE_MAX
 fits n P h rs sound entered b long fails = elim (cases_lt TABLE_MAX (HEAD_LEN + CELL_LEN * (top h.families + 1) + RECORD_LEN * length rs)) [

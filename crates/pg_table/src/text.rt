@@ -3,7 +3,7 @@ ghost use Rattle.std.specs.Prelude.{◌≡◌, ◌+◌, ◌*◌, ◌<◌, ◌≤
 ghost use Rattle.std.specs.List.{flat_map};
 ghost use Rattle.pg_types.specs.declared.limits.TheConstants.{SIGNS_MAX};
 ghost use Rattle.pg_types.specs.Placement.{top};
-ghost use Rattle.pg_patterns.specs.Inside.PatternMaps.{SignsUpTo};
+ghost use Rattle.pg_patterns.specs.Inside.PatternMaps.{IsPatternMap, SignsUpTo};
 ghost use Rattle.pg_table.specs.declared.error.TableError.TheVariants.{TooLong};
 ghost use Rattle.pg_table.specs.declared.limits.TheConstants.{CELL_LEN, HEAD_LEN, RECORD_LEN, TABLE_MAX};
 ghost use Rattle.pg_table.specs.Forms.{is_well_formed};
@@ -34,6 +34,7 @@ pub fn table_text(alloc: Global, signs: u16, patterns: &PatternSet) -> Result<Ve
     ensures text { IfOk result (λ text. text.items ≡ table_text signs patterns.now) }
     ensures well_formed { IfOk result (λ text. is_well_formed text.items ≡ true) }
     ensures values { IfOk result (λ text. HasEntries text.items patterns.now) }
+    ensures map { IfOk result (λ _. IsPatternMap patterns.now) }
     ensures short { OnOk result (length (table_text signs patterns.now) ≤ TABLE_MAX) }
     ensures too_long { IfErr result
         (λ e. e ≡ TooLong → TABLE_MAX < length (table_text signs patterns.now)) }

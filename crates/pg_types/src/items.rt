@@ -130,22 +130,6 @@ impl<'a> Items<'a> {
         Ok(number)
     }
 
-    /// Takes a number from `least` to `greatest`, as [`number`](Items::number) does.
-    pub fn small_number(&mut self, least: u8, greatest: u8) -> Result<u8, Refusal>
-        requires { self.old.place < PLACE_MAX }
-        ensures value { IfOk result (λ n. n ≡ number_at (items self.old.rest.now) 0) }
-        ensures low { IfOk result (λ n. least ≤ n) }
-        ensures high { IfOk result (λ n. n ≤ greatest) }
-        ensures rest { OnOk result (items self.new.rest.now ≡ drop 1 (items self.old.rest.now)) }
-        ensures place { OnOk result (self.new.place ≡ self.old.place + 1) }
-        ensures passed { OnOk result (Meets (number_between least greatest
-            ∷ []) self.old self.new) }
-        ensures refused { IfErr result (Misses (number_between least greatest ∷ []) self.old) }
-    {
-        let number = self.number(u32::from(least), u32::from(greatest))?;
-        Ok(number as u8)
-    }
-
     /// Takes the five numbers of a level.
     pub fn level(&mut self) -> Result<LevelParams, Refusal>
         requires { self.old.place + 5 ≤ PLACE_MAX }
@@ -157,14 +141,14 @@ impl<'a> Items<'a> {
             (Meets (level_demands (items self.old.rest.now)) self.old self.new) }
         ensures refused { IfErr result (Misses (level_demands (items self.old.rest.now)) self.old) }
     {
-        let pat_start = self.small_number(1, LENGTH_MAX)?;
-        let pat_finish = self.small_number(pat_start, LENGTH_MAX)?;
+        let pat_start = self.number(1, LENGTH_MAX as u32)?;
+        let pat_finish = self.number(pat_start, LENGTH_MAX as u32)?;
         let good_wt = self.number(1, COST_MAX)?;
         let bad_wt = self.number(1, COST_MAX)?;
         let thresh = self.number(1, COST_MAX)?;
         Ok(LevelParams {
-            pat_start,
-            pat_finish,
+            pat_start: pat_start as u8,
+            pat_finish: pat_finish as u8,
             good_wt,
             bad_wt,
             thresh,

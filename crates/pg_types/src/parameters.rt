@@ -104,8 +104,8 @@ pub fn read_params(alloc: Global, bytes: &[u8]) -> Result<Params, ReadingError>
         }));
     }
     let mut items = Items::new(bytes);
-    let start = items.small_number(1, LEVEL_MAX)?;
-    let finish = items.small_number(1, LEVEL_MAX)?;
+    let start = items.number(1, LEVEL_MAX as u32)? as u8;
+    let finish = items.number(1, LEVEL_MAX as u32)? as u8;
     let levels = read_levels(alloc, &mut items, levels_between(start, finish))?;
     items.end()?;
     Ok(Params {

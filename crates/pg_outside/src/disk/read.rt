@@ -11,6 +11,11 @@ use crate::outside::ReadError;
 const PIECE: usize = 65536;
 
 /// Reads the file to its end, in pieces, and takes at most `limit + 1` bytes.
+///
+/// Room for that many bytes is asked for at once. Pages that are never written take no memory, and
+/// so large a block is the system's again once it is freed. A smaller one that is freed would make
+/// the allocator of the C library keep the large blocks of later vectors in its heap, where each
+/// leaves a hole when it grows. Where there is no such room, the bytes take more as they come.
 pub(crate) fn read_within<S: System>(
     system: &mut S,
     file: &mut S::File,
@@ -29,6 +34,7 @@ pub(crate) fn read_within<S: System>(
     ensures failed { IsErrOf result ReadError.Failed
         → Rose (S.failures system.old) (S.failures system.new) }
 {
+    let _ = into.reserve(limit + 1);
     let mut piece = [0u8; PIECE];
     while into.len() <= limit {
         let most = (limit - into.len()).saturating_add(1).min(PIECE);

@@ -1,4 +1,4 @@
-use Rattle.pg_table.proofs.TableText.{sound_text, entries_text}
+use Rattle.pg_table.proofs.TableText.{sound_text, entries_text, on_any}
 use Rattle.pg_table.proofs.text.table_text.Goals as goal
 
 pub returns-clause-text : goal.returns-clause-text
@@ -11,6 +11,9 @@ returns-clause-well_formed c =
 pub returns-clause-values : goal.returns-clause-values
 returns-clause-values c =
     entries_text c.args.signs c.args.patterns.now c.in_ok-packed.packed.cells c.in_ok-packed.packed.outputs c.in_ok-packed.ensures c.requires.signs.0 c.requires.signs.1 c.packed_text.result c.packed_text.ensures.short c.packed_text.ensures.text
+
+pub returns-clause-map : goal.returns-clause-map
+returns-clause-map c = on_any c.packed_text.result c.in_ok-packed.ensures.sound
 
 pub returns-clause-short : goal.returns-clause-short
 returns-clause-short c = c.packed_text.ensures.short

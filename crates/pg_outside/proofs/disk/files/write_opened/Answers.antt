@@ -1,6 +1,8 @@
-use Rattle.std.proofs.Common.{◌∙◌, refl, rules, arith}
-use Rattle.std.proofs.lemmas.Grind.{common_steps}
-use Rattle.pg_outside.specs.Inside.DiskWrites.{IsIn}
+use Rattle.std.proofs.Common.{◌∙◌, refl, sym, ap}
+use Rattle.std.specs.List.{list_any}
+use Rattle.std.proofs.lemmas.Bool.{true≢false}
+use Rattle.pg_outside.specs.Inside.DiskWrites.{IsIn, is_same_file}
+use Rattle.pg_outside.specs.declared.disk.system.FileId.{FileId}
 use Rattle.pg_outside.proofs.Causes.{rose_since, failed_on}
 use Rattle.pg_outside.proofs.DiskReading.{was_kept}
 use Rattle.pg_outside.proofs.Results.{on_err, no_value}
@@ -33,7 +35,7 @@ returns-then-not-seen g c = record {
 
 pub returns-then-contains : goal.returns-then-contains
 returns-then-contains g c =
-    let is_kept : IsIn c.in_ok-seen.seen.id c.args.kept.now.items = first_of (search rules, grind (arith, common_steps)) in
+    let is_kept : IsIn c.in_ok-seen.seen.id c.args.kept.now.items = sym (c.if-contains.ensures.value ∙ ap (list_any (λ (x : FileId). is_same_file x c.in_ok-seen.seen.id)) c.deref.ensures.value) in
     record {
       ok = tt;
       err = (refl, nothing_failed _ _ _ _ _ c.stat.ensures.same);
@@ -47,4 +49,4 @@ pub write_regular-requires-clause-old : goal.write_regular-requires-clause-old
 write_regular-requires-clause-old g c = opened_seen _ _ _ _ _ c.requires.opened c.requires.writable c.stat.ensures.same c.in_ok-seen.ensures.seen
 
 pub write_regular-requires-clause-free : goal.write_regular-requires-clause-free
-write_regular-requires-clause-free g c = first_of (search rules, grind (arith, common_steps))
+write_regular-requires-clause-free g c = λ is_in. true≢false (sym is_in ∙ sym (c.if-contains.ensures.value ∙ ap (list_any (λ (x : FileId). is_same_file x c.in_ok-seen.seen.id)) c.deref.ensures.value))

@@ -1,5 +1,5 @@
-use Rattle.std.proofs.Common.{◌≡◌, ◌∙◌, None, refl, sym, string_bytes, arith, rules}
-use Rattle.std.proofs.lemmas.Grind.{common_steps}
+use Rattle.std.proofs.Common.{◌≡◌, ◌∙◌, refl, sym, string_bytes, arith}
+use Rattle.std.proofs.lemmas.Bool.{true≢false}
 use Rattle.std.proofs.lemmas.Slice.Eq.{bytes_eq-Decides}
 use Rattle.pg_outside.specs.Inside.NewNames.{new_name}
 use Rattle.pg_outside.proofs.Causes.{rose_since, failed_on, memory_on}
@@ -12,7 +12,7 @@ use Rattle.pg_outside.proofs.disk.new_file.make_beside.Goals as goal
 pub loop-number-preserved-then-eq : goal.loop-number-preserved-then-eq
 loop-number-preserved-then-eq g c =
     let own : string_bytes c.in_ok-own.own ≡ new_name c.folder_of-folder.result.now c.loop-number.number-counter = is_named _ _ _ c.in_ok-own.ensures.ok in
-    let same : string_bytes c.in_ok-own.own ≡ c.args.name.now = grind (arith, common_steps, bytes_eq-Decides) in
+    let same : string_bytes c.in_ok-own.own ≡ c.args.name.now = sym c.as_str.ensures.value ∙ (bytes_eq-Decides c.as_str.result.now c.args.name.now).0 (sym c.if-eq.ensures) in
     record {
       same = c.loop-number.invariant.same;
       failures = c.loop-number.invariant.failures;
@@ -29,7 +29,7 @@ returns-in-Some g c = record {
     counted = c.loop-number.number-counter;
     is = is_named _ _ _ c.in_ok-own.ensures.ok;
   };
-  apart = search rules;
+  apart = λ same. true≢false (sym (c.if-eq.ensures ∙ (bytes_eq-Decides c.as_str.result.now c.args.name.now).1 (c.as_str.ensures.value ∙ same)));
   ok_failures = c.in_ok-file.ensures.ok_failures ∙ c.loop-number.invariant.failures;
   cause = tt;
 }
@@ -67,9 +67,8 @@ returns-in_err-file g c = record {
 pub loop-number-preserved : goal.loop-number-preserved
 loop-number-preserved g c =
     let own : string_bytes c.in_ok-own.own ≡ new_name c.folder_of-folder.result.now c.loop-number.number-counter = is_named _ _ _ c.in_ok-own.ensures.ok in
-    let none : c.in_ok-file.field-0 ≡ None = grind (arith, common_steps, c.in_default.is, c.in_default.not-Some) in
-    let same = rw none at c.in_ok-file.ensures.ok in
-    let is_taken = rw none at c.in_ok-file.ensures.taken in
+    let same = rw c.in_default.is at c.in_ok-file.ensures.ok in
+    let is_taken = rw c.in_default.is at c.in_ok-file.ensures.taken in
     record {
       same = keeps_both _ _ _ c.loop-number.invariant.same same;
       failures = c.in_ok-file.ensures.ok_failures ∙ c.loop-number.invariant.failures;

@@ -56,4 +56,4 @@ returns-in-Err g c = record {
 }
 
 pub loop-piece-init : goal.loop-piece-init
-loop-piece-init g c = record { read = reads_none _ _ _ _ _ c.requires.start c.requires.empty; failures = refl }
+loop-piece-init g c = record { read = reads_none _ _ _ _ _ c.requires.start (c.reserve.ensures.items ∙ c.requires.empty); failures = refl }
