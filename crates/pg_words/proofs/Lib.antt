@@ -1,3 +1,5 @@
 pub mod DigitValues
 pub mod OtherWords
 pub mod SweepParts
+pub mod Taken
+pub mod WordsAt

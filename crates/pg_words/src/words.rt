@@ -1,7 +1,7 @@
 //! The words of a command.
-ghost use Rattle.std.specs.Prelude.{◌≡◌, IfSome};
+ghost use Rattle.std.specs.Prelude.{◌≡◌, ◌∷◌, IfSome};
 ghost use Rattle.std.specs.Option.{option_map};
-ghost use Rattle.pg_words.specs.Requests.{sample_in, pack_in, totals_in, prune_in, request_of};
+ghost use Rattle.pg_words.specs.Requests.{sample_in, pack_in, totals_in, prune_in, other_request, request_of};
 ghost use Rattle.pg_words.specs.Inside.Names.{words_of};
 ghost use Rattle.pg_words.specs.Inside.Asked.{asked_by, KeepsLimits};
 
@@ -88,6 +88,40 @@ fn prune(words: &[String]) -> Option<Command<'_>>
     }
 }
 
+/// What the words behind a word ask for, where it is `pack`, `totals`, `prune` or `sweep`.
+fn other_command<'a>(word: &str, behind: &'a [String]) -> Option<Command<'a>>
+    ensures value { option_map asked_by result ≡ other_request word.now (words_of behind.now) }
+    ensures within { IfSome result KeepsLimits }
+{
+    if word == "pack" {
+        pack(behind)
+    } else if word == "totals" {
+        totals(behind)
+    } else if word == "prune" {
+        prune(behind)
+    } else if word == "sweep" {
+        sweep(behind)
+    } else {
+        None
+    }
+}
+
+/// What the words behind the word of a command ask for.
+fn command_of<'a>(word: &str, behind: &'a [String]) -> Option<Command<'a>>
+    ensures value { option_map asked_by result ≡ request_of (word.now ∷ words_of behind.now) }
+    ensures within { IfSome result KeepsLimits }
+{
+    if word == "generate" {
+        generate(behind)
+    } else if word == "audit" {
+        audit(behind)
+    } else if word == "sample" {
+        sample(behind)
+    } else {
+        other_command(word, behind)
+    }
+}
+
 /// What the words, without the program's name, ask for; none exactly where they are no command.
 /// Commands are `generate DICT PATTERNS OUT TRANSLATE PARAMS REPORT`, then `--pattmp FILE` and
 /// `--cells FILE`, each at most once and in either order, `audit` with the same six names and at
@@ -98,26 +132,8 @@ pub fn command(words: &[String]) -> Option<Command<'_>>
     ensures value { option_map asked_by result ≡ request_of (words_of words.now) }
     ensures within { IfSome result KeepsLimits }
 {
-    if words.is_empty() {
-        return None;
-    }
-    let word = words[0].as_str();
-    let behind = &words[1..];
-    if word == "generate" {
-        generate(behind)
-    } else if word == "audit" {
-        audit(behind)
-    } else if word == "sample" {
-        sample(behind)
-    } else if word == "pack" {
-        pack(behind)
-    } else if word == "totals" {
-        totals(behind)
-    } else if word == "prune" {
-        prune(behind)
-    } else if word == "sweep" {
-        sweep(behind)
-    } else {
-        None
+    match words {
+        [word, behind @ ..] => command_of(word.as_str(), behind),
+        [] => None,
     }
 }
