@@ -8,7 +8,7 @@ ghost use Rattle.pg_words.specs.Inside.Asked.{asked_by, KeepsLimits};
 use crate::commands::Command;
 use crate::generate::{audit, generate};
 use crate::limits::{COUNT_MAX, DIGITS_MAX, SEED_MAX};
-use crate::names::are_taken;
+use crate::names::where_taken;
 use crate::numbers::number_within;
 use crate::sweep::sweep;
 
@@ -34,15 +34,15 @@ fn pack(words: &[String]) -> Option<Command<'_>>
         return None;
     };
     let (patterns, translate, table) = (patterns.as_str(), translate.as_str(), table.as_str());
-    if are_taken(&[patterns, translate], &[table]) {
-        Some(Command::Pack {
+    where_taken(
+        &[patterns, translate],
+        &[table],
+        Command::Pack {
             patterns,
             translate,
             table,
-        })
-    } else {
-        None
-    }
+        },
+    )
 }
 
 /// What the words behind `totals` ask for.
@@ -54,15 +54,15 @@ fn totals(words: &[String]) -> Option<Command<'_>>
         return None;
     };
     let (dict, translate, table) = (dict.as_str(), translate.as_str(), table.as_str());
-    if are_taken(&[dict, translate, table], &[]) {
-        Some(Command::Totals {
+    where_taken(
+        &[dict, translate, table],
+        &[],
+        Command::Totals {
             dict,
             translate,
             table,
-        })
-    } else {
-        None
-    }
+        },
+    )
 }
 
 /// What the words behind `prune` ask for.
@@ -75,17 +75,17 @@ fn prune(words: &[String]) -> Option<Command<'_>>
     };
     let (dict, patterns, translate) = (dict.as_str(), patterns.as_str(), translate.as_str());
     let (output, report) = (output.as_str(), report.as_str());
-    if are_taken(&[dict, patterns, translate], &[output, report]) {
-        Some(Command::Prune {
+    where_taken(
+        &[dict, patterns, translate],
+        &[output, report],
+        Command::Prune {
             dict,
             patterns,
             output,
             translate,
             report,
-        })
-    } else {
-        None
-    }
+        },
+    )
 }
 
 /// What the words behind a word ask for, where it is `pack`, `totals`, `prune` or `sweep`.

@@ -1,10 +1,9 @@
-use Rattle.std.proofs.Common.{◌≡◌, [], ◌∷◌, ◌∙◌, length, sym, ap, rules}
+use Rattle.std.proofs.Common.{◌≡◌, ◌∙◌, length, sym, ap, rules}
 use Rattle.std.proofs.lemmas.List.{length-map}
 use Rattle.std.specs.Prelude.{string_bytes}
 use Rattle.pg_words.specs.Inside.Names.{words_of}
-use Rattle.pg_words.specs.Requests.{ToPack, pack_in}
+use Rattle.pg_words.specs.Requests.{pack_in}
 use Rattle.pg_words.proofs.OtherWords.{not_for_pack}
-use Rattle.pg_words.proofs.Taken.{where_yes, where_no}
 use Rattle.pg_words.proofs.WordsAt.{three_words}
 use Rattle.pg_words.proofs.words.pack.Goals as goal
 
@@ -16,24 +15,13 @@ returns-in_default c =
       within = tt;
     }
 
-pub returns-then-are_taken : goal.returns-then-are_taken
-returns-then-are_taken c =
+pub returns : goal.returns
+returns c =
     let p = c.as_str-patterns.result.now in
     let t = c.as_str-translate.result.now in
     let e = c.as_str-table.result.now in
     let parts = three_words c.args.words.now p t e c.in-len3.len_at_least c.in-len3.len_below (c.patterns-item.result, c.patterns-item.is, c.as_str-patterns.ensures.value) (c.translate-item.result, c.translate-item.is, c.as_str-translate.ensures.value) (c.table-item.result, c.table-item.is, c.as_str-table.ensures.value) in
     record {
-      value = where_yes (p ∷ t ∷ []) (e ∷ []) (ToPack p t e) _ c.are_taken.ensures c.if-are_taken.true ∙ ap pack_in (sym parts);
-      within = tt;
-    }
-
-pub returns-else-are_taken : goal.returns-else-are_taken
-returns-else-are_taken c =
-    let p = c.as_str-patterns.result.now in
-    let t = c.as_str-translate.result.now in
-    let e = c.as_str-table.result.now in
-    let parts = three_words c.args.words.now p t e c.in-len3.len_at_least c.in-len3.len_below (c.patterns-item.result, c.patterns-item.is, c.as_str-patterns.ensures.value) (c.translate-item.result, c.translate-item.is, c.as_str-translate.ensures.value) (c.table-item.result, c.table-item.is, c.as_str-table.ensures.value) in
-    record {
-      value = where_no (p ∷ t ∷ []) (e ∷ []) (ToPack p t e) _ c.are_taken.ensures c.if-are_taken.false ∙ ap pack_in (sym parts);
-      within = tt;
+      value = c.where_taken.ensures.value ∙ ap pack_in (sym parts);
+      within = c.where_taken.ensures.within;
     }

@@ -1,10 +1,9 @@
-use Rattle.std.proofs.Common.{◌≡◌, [], ◌∷◌, ◌∙◌, length, sym, ap, rules}
+use Rattle.std.proofs.Common.{◌≡◌, ◌∙◌, length, sym, ap, rules}
 use Rattle.std.proofs.lemmas.List.{length-map}
 use Rattle.std.specs.Prelude.{string_bytes}
 use Rattle.pg_words.specs.Inside.Names.{words_of}
-use Rattle.pg_words.specs.Requests.{ToPrune, prune_in}
+use Rattle.pg_words.specs.Requests.{prune_in}
 use Rattle.pg_words.proofs.OtherWords.{not_for_prune}
-use Rattle.pg_words.proofs.Taken.{where_yes, where_no}
 use Rattle.pg_words.proofs.WordsAt.{five_words}
 use Rattle.pg_words.proofs.words.prune.Goals as goal
 
@@ -16,8 +15,8 @@ returns-in_default c =
       within = tt;
     }
 
-pub returns-then-are_taken : goal.returns-then-are_taken
-returns-then-are_taken c =
+pub returns : goal.returns
+returns c =
     let d = c.as_str-dict.result.now in
     let p = c.as_str-patterns.result.now in
     let o = c.as_str-output.result.now in
@@ -25,19 +24,6 @@ returns-then-are_taken c =
     let r = c.as_str-report.result.now in
     let parts = five_words c.args.words.now d p o t r c.in-len5.len_at_least c.in-len5.len_below (c.dict-item.result, c.dict-item.is, c.as_str-dict.ensures.value) (c.patterns-item.result, c.patterns-item.is, c.as_str-patterns.ensures.value) (c.output-item.result, c.output-item.is, c.as_str-output.ensures.value) (c.translate-item.result, c.translate-item.is, c.as_str-translate.ensures.value) (c.report-item.result, c.report-item.is, c.as_str-report.ensures.value) in
     record {
-      value = where_yes (d ∷ p ∷ t ∷ []) (o ∷ r ∷ []) (ToPrune d p o t r) _ c.are_taken.ensures c.if-are_taken.true ∙ ap prune_in (sym parts);
-      within = tt;
-    }
-
-pub returns-else-are_taken : goal.returns-else-are_taken
-returns-else-are_taken c =
-    let d = c.as_str-dict.result.now in
-    let p = c.as_str-patterns.result.now in
-    let o = c.as_str-output.result.now in
-    let t = c.as_str-translate.result.now in
-    let r = c.as_str-report.result.now in
-    let parts = five_words c.args.words.now d p o t r c.in-len5.len_at_least c.in-len5.len_below (c.dict-item.result, c.dict-item.is, c.as_str-dict.ensures.value) (c.patterns-item.result, c.patterns-item.is, c.as_str-patterns.ensures.value) (c.output-item.result, c.output-item.is, c.as_str-output.ensures.value) (c.translate-item.result, c.translate-item.is, c.as_str-translate.ensures.value) (c.report-item.result, c.report-item.is, c.as_str-report.ensures.value) in
-    record {
-      value = where_no (d ∷ p ∷ t ∷ []) (o ∷ r ∷ []) (ToPrune d p o t r) _ c.are_taken.ensures c.if-are_taken.false ∙ ap prune_in (sym parts);
-      within = tt;
+      value = c.where_taken.ensures.value ∙ ap prune_in (sym parts);
+      within = c.where_taken.ensures.within;
     }
