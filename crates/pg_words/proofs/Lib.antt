@@ -1,3 +1,4 @@
 pub mod DigitValues
 pub mod OtherWords
 pub mod SweepParts
+pub mod WordsAt

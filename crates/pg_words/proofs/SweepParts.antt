@@ -1,24 +1,38 @@
 -- What the words behind `sweep` ask for, word by word.
-use Rattle.std.proofs.Common.{◌≡◌, ℕ, ◌≤◌, nat_lt, nat_le, true, ◌&&◌, List, [], ◌∷◌, length, drop, get_or, Some, String, refl, sym, arith}
-use Rattle.std.specs.Prelude.{string_bytes}
-use Rattle.std.specs.declared.alloc.Global.{Global}
-use Rattle.pg_words.specs.Inside.Names.{words_of}
+use Rattle.std.proofs.Common.{◌≡◌, ℕ, ◌<◌, ◌≤◌, nat_lt, nat_le, true, ◌&&◌, List, [], ◌∷◌, length, None, Some, refl, arith}
+use Rattle.std.proofs.lemmas.Bool.Decides.{nat_tests}
 use Rattle.pg_words.specs.Requests.{ToSweep, where_taken, number_within, sweep_in}
 use Rattle.pg_types.specs.declared.limits.TheConstants.{SETS_MAX}
 use Rattle.pg_words.specs.declared.limits.TheConstants.{FOLDS_MAX, PRICE_MAX}
 
--- words by their parts
-pub by_parts : (words : List (String Global)) (a b c d e f g : String Global) → 7 ≤ length words → a ≡ get_or words 0 a → b ≡ get_or words 1 b → c ≡ get_or words 2 c → d ≡ get_or words 3 d → e ≡ get_or words 4 e → f ≡ get_or words 5 f → g ≡ get_or words 6 g
-    → words_of words ≡ string_bytes a ∷ string_bytes b ∷ string_bytes c ∷ string_bytes d ∷ string_bytes e ∷ string_bytes f ∷ string_bytes g ∷ words_of (drop 7 words)
-by_parts [] a b c d e f g h is0 is1 is2 is3 is4 is5 is6 = absurd (omega arith)
-by_parts (_ ∷ []) a b c d e f g h is0 is1 is2 is3 is4 is5 is6 = absurd (omega arith)
-by_parts (_ ∷ _ ∷ []) a b c d e f g h is0 is1 is2 is3 is4 is5 is6 = absurd (omega arith)
-by_parts (_ ∷ _ ∷ _ ∷ []) a b c d e f g h is0 is1 is2 is3 is4 is5 is6 = absurd (omega arith)
-by_parts (_ ∷ _ ∷ _ ∷ _ ∷ []) a b c d e f g h is0 is1 is2 is3 is4 is5 is6 = absurd (omega arith)
-by_parts (_ ∷ _ ∷ _ ∷ _ ∷ _ ∷ []) a b c d e f g h is0 is1 is2 is3 is4 is5 is6 = absurd (omega arith)
-by_parts (_ ∷ _ ∷ _ ∷ _ ∷ _ ∷ _ ∷ []) a b c d e f g h is0 is1 is2 is3 is4 is5 is6 = absurd (omega arith)
-by_parts (_ ∷ _ ∷ _ ∷ _ ∷ _ ∷ _ ∷ _ ∷ words) a b c d e f g h is0 is1 is2 is3 is4 is5 is6 =
-    (λ i. string_bytes (sym is0 i) ∷ string_bytes (sym is1 i) ∷ string_bytes (sym is2 i) ∷ string_bytes (sym is3 i) ∷ string_bytes (sym is4 i) ∷ string_bytes (sym is5 i) ∷ string_bytes (sym is6 i) ∷ words_of words)
+-- too few words
+pub too_few : (words : List (List ℕ)) → length words < 7 → None ≡ sweep_in words
+too_few [] few = refl
+too_few (a ∷ []) few = refl
+too_few (a ∷ b ∷ []) few = refl
+too_few (a ∷ b ∷ c ∷ []) few = refl
+too_few (a ∷ b ∷ c ∷ d ∷ []) few = refl
+too_few (a ∷ b ∷ c ∷ d ∷ e ∷ []) few = refl
+too_few (a ∷ b ∷ c ∷ d ∷ e ∷ f ∷ []) few = refl
+too_few (a ∷ b ∷ c ∷ d ∷ e ∷ f ∷ g ∷ words) few = absurd (omega arith)
+
+-- parts whose first number is none
+pub no_folds : (dict patterns output translate k bad_word missed_word : List ℕ) (params : List (List ℕ)) → number_within 2 2 FOLDS_MAX k ≡ None → sweep_in (dict ∷ patterns ∷ output ∷ translate ∷ k ∷ bad_word ∷ missed_word ∷ params) ≡ None
+no_folds dict patterns output translate k bad_word missed_word params one = rw one refl
+
+-- parts whose second number is none
+pub no_bad : (dict patterns output translate k bad_word missed_word : List ℕ) (params : List (List ℕ)) (folds : ℕ) → number_within 2 2 FOLDS_MAX k ≡ Some folds → number_within 4 1 PRICE_MAX bad_word ≡ None
+    → sweep_in (dict ∷ patterns ∷ output ∷ translate ∷ k ∷ bad_word ∷ missed_word ∷ params) ≡ None
+no_bad dict patterns output translate k bad_word missed_word params folds one two = rw (one, two) refl
+
+-- parts whose third number is none
+pub no_missed : (dict patterns output translate k bad_word missed_word : List ℕ) (params : List (List ℕ)) (folds bad : ℕ) → number_within 2 2 FOLDS_MAX k ≡ Some folds → number_within 4 1 PRICE_MAX bad_word ≡ Some bad
+    → number_within 4 1 PRICE_MAX missed_word ≡ None → sweep_in (dict ∷ patterns ∷ output ∷ translate ∷ k ∷ bad_word ∷ missed_word ∷ params) ≡ None
+no_missed dict patterns output translate k bad_word missed_word params folds bad one two three = rw (one, two, three) refl
+
+-- a number of parameter files that is within its bounds
+pub is_count : (count : ℕ) → 1 ≤ count → count ≤ SETS_MAX → (nat_lt 0 count && nat_le count SETS_MAX) ≡ true
+is_count count some few = grind (arith, nat_tests)
 
 -- parts whose numbers are within their bounds
 pub all_within : (dict patterns output translate k bad_word missed_word : List ℕ) (params : List (List ℕ)) (folds bad missed : ℕ) → number_within 2 2 FOLDS_MAX k ≡ Some folds → number_within 4 1 PRICE_MAX bad_word ≡ Some bad → number_within 4 1 PRICE_MAX missed_word ≡ Some missed → (nat_lt 0 (length params) && nat_le (length params) SETS_MAX) ≡ true

@@ -151,6 +151,14 @@ sweep_in (dict ∷ patterns ∷ output ∷ translate ∷ k ∷ bad_word ∷ miss
     (number_within 4 1 PRICE_MAX bad_word)) (number_within 2 2 FOLDS_MAX k)
 sweep_in words = None
 
+-- what the words behind the word of one of the other commands ask for
+abbrev pub other_request : List ℕ → List (List ℕ) → Option Request
+other_request word words =
+    if bytes_eq word (codes "pack") then pack_in words
+    else (if bytes_eq word (codes "totals") then totals_in words
+    else (if bytes_eq word (codes "prune") then prune_in words
+    else (if bytes_eq word (codes "sweep") then sweep_in words else None)))
+
 -- what words ask for
 abbrev pub request_of : List (List ℕ) → Option Request
 request_of [] = None
@@ -158,7 +166,4 @@ request_of (word ∷ words) =
     if bytes_eq word (codes "generate") then option_and_then to_generate (names_in words)
     else (if bytes_eq word (codes "audit") then option_and_then to_audit (names_in words)
     else (if bytes_eq word (codes "sample") then sample_in words
-    else (if bytes_eq word (codes "pack") then pack_in words
-    else (if bytes_eq word (codes "totals") then totals_in words
-    else (if bytes_eq word (codes "prune") then prune_in words
-    else (if bytes_eq word (codes "sweep") then sweep_in words else None))))))
+    else other_request word words))

@@ -3,12 +3,12 @@ ghost use Rattle.std.specs.Prelude.{◌≡◌, ◌≤◌, ◌<◌, ◌+◌, ◌&
 ghost use Rattle.std.specs.List.{list_all};
 ghost use Rattle.std.specs.Option.{option_map, option_and_then, is_none};
 ghost use Rattle.arrayvec.specs.ArrayVec.{array_vec_len};
-ghost use Rattle.pg_words.specs.Requests.{if_asked, input_names, output_names, with_option as with_option_of, with_options as with_options_of, is_name, outputs_differ, names_in, to_generate, to_audit};
+ghost use Rattle.pg_words.specs.Requests.{if_asked, input_names, output_names, with_option as with_option_of, with_options as with_options_of, is_name, names_in, to_generate, to_audit};
 ghost use Rattle.pg_words.specs.Inside.Names.{texts, words_of};
 ghost use Rattle.pg_words.specs.Inside.Asked.{name_now, texts_of, asked_by, KeepsLimits};
 
 use crate::commands::{Command, Names};
-use crate::names::{are_all_names, are_taken};
+use crate::names::{are_all_names, where_taken};
 use arrayvec::ArrayVec;
 
 /// How many outputs `generate` has at most.
@@ -122,16 +122,6 @@ fn outputs_of<'a>(names: &Names<'a>) -> ArrayVec<&'a str, OUTPUTS_MAX>
     outputs
 }
 
-/// Whether `generate` takes these names.
-fn are_generated(names: &Names<'_>) -> bool
-    ensures { result ≡ list_all is_name
-        (input_names (texts_of names.now) ++ output_names (texts_of names.now))
-        && outputs_differ (output_names (texts_of names.now)) (input_names (texts_of names.now)) }
-{
-    let outputs = outputs_of(names);
-    are_taken(&inputs_of(names), outputs.as_slice())
-}
-
 /// Whether `audit` takes these names.
 fn are_audited(names: &Names<'_>) -> bool
     ensures { result ≡ list_all is_name
@@ -149,11 +139,12 @@ pub fn generate(words: &[String]) -> Option<Command<'_>>
         ≡ option_and_then to_generate (names_in (words_of words.now)) }
 {
     let names = names(words)?;
-    if are_generated(&names) {
-        Some(Command::Generate(names))
-    } else {
-        None
-    }
+    let outputs = outputs_of(&names);
+    where_taken(
+        &inputs_of(&names),
+        outputs.as_slice(),
+        Command::Generate(names),
+    )
 }
 
 /// What the words behind `audit` ask for.

@@ -1,8 +1,12 @@
 //! Which names a command takes.
-ghost use Rattle.std.specs.Prelude.{◌≡◌, ◌&&◌, ◌++◌};
+ghost use Rattle.std.specs.Prelude.{◌≡◌, ◌&&◌, ◌++◌, IfSome};
 ghost use Rattle.std.specs.List.{list_all};
-ghost use Rattle.pg_words.specs.Requests.{is_name as is_name_word, outputs_differ};
+ghost use Rattle.std.specs.Option.{option_map};
+ghost use Rattle.pg_words.specs.Requests.{is_name as is_name_word, outputs_differ, where_taken as where_taken_of};
 ghost use Rattle.pg_words.specs.Inside.Names.{texts, differs_from};
+ghost use Rattle.pg_words.specs.Inside.Asked.{asked_by, KeepsLimits};
+
+use crate::commands::Command;
 
 /// Whether a word can be a name: it is not empty and does not begin with two dashes.
 fn is_name(word: &str) -> bool
@@ -46,11 +50,30 @@ fn do_outputs_differ(outputs: &[&str], inputs: &[&str]) -> bool
     }
 }
 
-/// Whether a command takes these names: each can be a name, and each output name differs from the
-/// names of the other outputs and of the inputs.
-pub fn are_taken(inputs: &[&str], outputs: &[&str]) -> bool
+/// Whether these names are taken: each can be a name, and each output name differs from the names
+/// of the other outputs and of the inputs.
+fn are_taken(inputs: &[&str], outputs: &[&str]) -> bool
     ensures { result ≡ list_all is_name_word (texts inputs.now ++ texts outputs.now)
         && outputs_differ (texts outputs.now) (texts inputs.now) }
 {
     are_all_names(inputs, outputs) && do_outputs_differ(outputs, inputs)
+}
+
+/// A command, where the names of its inputs and outputs are taken: each can be a name, and each
+/// output name differs from the names of the other outputs and of the inputs.
+pub fn where_taken<'a>(
+    inputs: &[&str],
+    outputs: &[&str],
+    command: Command<'a>,
+) -> Option<Command<'a>>
+    requires { KeepsLimits command }
+    ensures value { option_map asked_by result
+        ≡ where_taken_of (texts inputs.now) (texts outputs.now) (asked_by command.entry) }
+    ensures within { IfSome result KeepsLimits }
+{
+    if are_taken(inputs, outputs) {
+        Some(command)
+    } else {
+        None
+    }
 }

@@ -1,13 +1,13 @@
 //! The words of `sweep`.
 ghost use Rattle.std.specs.Prelude.{◌≡◌, ◌≤◌, [], ◌∷◌, length, IfSome};
 ghost use Rattle.std.specs.Option.{option_map};
-ghost use Rattle.pg_words.specs.Requests.{ToSweep, where_taken, sweep_in};
+ghost use Rattle.pg_words.specs.Requests.{ToSweep, where_taken as where_taken_of, sweep_in};
 ghost use Rattle.pg_words.specs.Inside.Names.{texts, words_of};
 ghost use Rattle.pg_words.specs.Inside.Asked.{asked_by, sweep_of, sweep_inputs, KeepsSweepLimits, KeepsLimits};
 
 use crate::commands::{Command, SweepWords};
 use crate::limits::{FOLDS_MAX, PRICE_MAX};
-use crate::names::are_taken;
+use crate::names::where_taken;
 use crate::numbers::number_within;
 use arrayvec::ArrayVec;
 use pg_types::SETS_MAX;
@@ -33,16 +33,13 @@ fn inputs_of<'a>(words: &SweepWords<'a>) -> ArrayVec<&'a str, INPUTS_MAX>
 /// The command of a sweep, where it takes these names.
 fn taken(words: SweepWords<'_>) -> Option<Command<'_>>
     requires { KeepsSweepLimits words }
-    ensures value { option_map asked_by result ≡ where_taken (sweep_inputs (sweep_of words.entry))
+    ensures value { option_map asked_by result ≡ where_taken_of (sweep_inputs (sweep_of words.entry))
         (words.entry.output.now ∷ []) (ToSweep (sweep_of words.entry)) }
     ensures within { IfSome result KeepsLimits }
 {
     let inputs = inputs_of(&words);
-    if are_taken(inputs.as_slice(), &[words.output]) {
-        Some(Command::Sweep(words))
-    } else {
-        None
-    }
+    let outputs = [words.output];
+    where_taken(inputs.as_slice(), &outputs, Command::Sweep(words))
 }
 
 /// What the words behind `sweep` ask for.

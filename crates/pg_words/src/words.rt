@@ -1,14 +1,14 @@
 //! The words of a command.
-ghost use Rattle.std.specs.Prelude.{◌≡◌, IfSome};
+ghost use Rattle.std.specs.Prelude.{◌≡◌, ◌∷◌, IfSome};
 ghost use Rattle.std.specs.Option.{option_map};
-ghost use Rattle.pg_words.specs.Requests.{sample_in, pack_in, totals_in, prune_in, request_of};
+ghost use Rattle.pg_words.specs.Requests.{sample_in, pack_in, totals_in, prune_in, other_request, request_of};
 ghost use Rattle.pg_words.specs.Inside.Names.{words_of};
 ghost use Rattle.pg_words.specs.Inside.Asked.{asked_by, KeepsLimits};
 
 use crate::commands::Command;
 use crate::generate::{audit, generate};
 use crate::limits::{COUNT_MAX, DIGITS_MAX, SEED_MAX};
-use crate::names::are_taken;
+use crate::names::where_taken;
 use crate::numbers::number_within;
 use crate::sweep::sweep;
 
@@ -34,15 +34,15 @@ fn pack(words: &[String]) -> Option<Command<'_>>
         return None;
     };
     let (patterns, translate, table) = (patterns.as_str(), translate.as_str(), table.as_str());
-    if are_taken(&[patterns, translate], &[table]) {
-        Some(Command::Pack {
+    where_taken(
+        &[patterns, translate],
+        &[table],
+        Command::Pack {
             patterns,
             translate,
             table,
-        })
-    } else {
-        None
-    }
+        },
+    )
 }
 
 /// What the words behind `totals` ask for.
@@ -54,15 +54,15 @@ fn totals(words: &[String]) -> Option<Command<'_>>
         return None;
     };
     let (dict, translate, table) = (dict.as_str(), translate.as_str(), table.as_str());
-    if are_taken(&[dict, translate, table], &[]) {
-        Some(Command::Totals {
+    where_taken(
+        &[dict, translate, table],
+        &[],
+        Command::Totals {
             dict,
             translate,
             table,
-        })
-    } else {
-        None
-    }
+        },
+    )
 }
 
 /// What the words behind `prune` ask for.
@@ -75,16 +75,50 @@ fn prune(words: &[String]) -> Option<Command<'_>>
     };
     let (dict, patterns, translate) = (dict.as_str(), patterns.as_str(), translate.as_str());
     let (output, report) = (output.as_str(), report.as_str());
-    if are_taken(&[dict, patterns, translate], &[output, report]) {
-        Some(Command::Prune {
+    where_taken(
+        &[dict, patterns, translate],
+        &[output, report],
+        Command::Prune {
             dict,
             patterns,
             output,
             translate,
             report,
-        })
+        },
+    )
+}
+
+/// What the words behind a word ask for, where it is `pack`, `totals`, `prune` or `sweep`.
+fn other_command<'a>(word: &str, behind: &'a [String]) -> Option<Command<'a>>
+    ensures value { option_map asked_by result ≡ other_request word.now (words_of behind.now) }
+    ensures within { IfSome result KeepsLimits }
+{
+    if word == "pack" {
+        pack(behind)
+    } else if word == "totals" {
+        totals(behind)
+    } else if word == "prune" {
+        prune(behind)
+    } else if word == "sweep" {
+        sweep(behind)
     } else {
         None
+    }
+}
+
+/// What the words behind the word of a command ask for.
+fn command_of<'a>(word: &str, behind: &'a [String]) -> Option<Command<'a>>
+    ensures value { option_map asked_by result ≡ request_of (word.now ∷ words_of behind.now) }
+    ensures within { IfSome result KeepsLimits }
+{
+    if word == "generate" {
+        generate(behind)
+    } else if word == "audit" {
+        audit(behind)
+    } else if word == "sample" {
+        sample(behind)
+    } else {
+        other_command(word, behind)
     }
 }
 
@@ -98,26 +132,8 @@ pub fn command(words: &[String]) -> Option<Command<'_>>
     ensures value { option_map asked_by result ≡ request_of (words_of words.now) }
     ensures within { IfSome result KeepsLimits }
 {
-    if words.is_empty() {
-        return None;
-    }
-    let word = words[0].as_str();
-    let behind = &words[1..];
-    if word == "generate" {
-        generate(behind)
-    } else if word == "audit" {
-        audit(behind)
-    } else if word == "sample" {
-        sample(behind)
-    } else if word == "pack" {
-        pack(behind)
-    } else if word == "totals" {
-        totals(behind)
-    } else if word == "prune" {
-        prune(behind)
-    } else if word == "sweep" {
-        sweep(behind)
-    } else {
-        None
+    match words {
+        [word, behind @ ..] => command_of(word.as_str(), behind),
+        [] => None,
     }
 }

@@ -1,11 +1,27 @@
-use Rattle.std.proofs.Common.{◌≡◌, length, rules}
+use Rattle.std.proofs.Common.{◌≡◌, ◌∙◌, length, sym, ap, rules}
 use Rattle.std.proofs.lemmas.List.{length-map}
 use Rattle.std.specs.Prelude.{string_bytes}
 use Rattle.pg_words.specs.Inside.Names.{words_of}
+use Rattle.pg_words.specs.Requests.{pack_in}
 use Rattle.pg_words.proofs.OtherWords.{not_for_pack}
+use Rattle.pg_words.proofs.WordsAt.{three_words}
 use Rattle.pg_words.proofs.words.pack.Goals as goal
 
-pub returns-in_default-clause-value : goal.returns-in_default-clause-value
-returns-in_default-clause-value c =
+pub returns-in_default : goal.returns-in_default
+returns-in_default c =
     let count = length-map c.args.words.now string_bytes in
-    not_for_pack (words_of c.args.words.now) (λ (is : length (words_of c.args.words.now) ≡ 3). search rules)
+    record {
+      value = not_for_pack (words_of c.args.words.now) (λ (is : length (words_of c.args.words.now) ≡ 3). search rules);
+      within = tt;
+    }
+
+pub returns : goal.returns
+returns c =
+    let p = c.as_str-patterns.result.now in
+    let t = c.as_str-translate.result.now in
+    let e = c.as_str-table.result.now in
+    let parts = three_words c.args.words.now p t e c.in-len3.len_at_least c.in-len3.len_below (c.patterns-item.result, c.patterns-item.is, c.as_str-patterns.ensures.value) (c.translate-item.result, c.translate-item.is, c.as_str-translate.ensures.value) (c.table-item.result, c.table-item.is, c.as_str-table.ensures.value) in
+    record {
+      value = c.where_taken.ensures.value ∙ ap pack_in (sym parts);
+      within = c.where_taken.ensures.within;
+    }

@@ -1,11 +1,29 @@
-use Rattle.std.proofs.Common.{◌≡◌, length, rules}
+use Rattle.std.proofs.Common.{◌≡◌, ◌∙◌, length, sym, ap, rules}
 use Rattle.std.proofs.lemmas.List.{length-map}
 use Rattle.std.specs.Prelude.{string_bytes}
 use Rattle.pg_words.specs.Inside.Names.{words_of}
+use Rattle.pg_words.specs.Requests.{prune_in}
 use Rattle.pg_words.proofs.OtherWords.{not_for_prune}
+use Rattle.pg_words.proofs.WordsAt.{five_words}
 use Rattle.pg_words.proofs.words.prune.Goals as goal
 
-pub returns-in_default-clause-value : goal.returns-in_default-clause-value
-returns-in_default-clause-value c =
+pub returns-in_default : goal.returns-in_default
+returns-in_default c =
     let count = length-map c.args.words.now string_bytes in
-    not_for_prune (words_of c.args.words.now) (λ (is : length (words_of c.args.words.now) ≡ 5). search rules)
+    record {
+      value = not_for_prune (words_of c.args.words.now) (λ (is : length (words_of c.args.words.now) ≡ 5). search rules);
+      within = tt;
+    }
+
+pub returns : goal.returns
+returns c =
+    let d = c.as_str-dict.result.now in
+    let p = c.as_str-patterns.result.now in
+    let o = c.as_str-output.result.now in
+    let t = c.as_str-translate.result.now in
+    let r = c.as_str-report.result.now in
+    let parts = five_words c.args.words.now d p o t r c.in-len5.len_at_least c.in-len5.len_below (c.dict-item.result, c.dict-item.is, c.as_str-dict.ensures.value) (c.patterns-item.result, c.patterns-item.is, c.as_str-patterns.ensures.value) (c.output-item.result, c.output-item.is, c.as_str-output.ensures.value) (c.translate-item.result, c.translate-item.is, c.as_str-translate.ensures.value) (c.report-item.result, c.report-item.is, c.as_str-report.ensures.value) in
+    record {
+      value = c.where_taken.ensures.value ∙ ap prune_in (sym parts);
+      within = c.where_taken.ensures.within;
+    }

@@ -1,11 +1,27 @@
-use Rattle.std.proofs.Common.{◌≡◌, length, arith}
+use Rattle.std.proofs.Common.{◌≡◌, ◌∙◌, length, sym, ap, rules}
 use Rattle.std.proofs.lemmas.List.{length-map}
 use Rattle.std.specs.Prelude.{string_bytes}
 use Rattle.pg_words.specs.Inside.Names.{words_of}
+use Rattle.pg_words.specs.Requests.{totals_in}
 use Rattle.pg_words.proofs.OtherWords.{not_for_totals}
+use Rattle.pg_words.proofs.WordsAt.{three_words}
 use Rattle.pg_words.proofs.words.totals.Goals as goal
 
-pub returns-in_default-clause-value : goal.returns-in_default-clause-value
-returns-in_default-clause-value c =
+pub returns-in_default : goal.returns-in_default
+returns-in_default c =
     let count = length-map c.args.words.now string_bytes in
-    not_for_totals (words_of c.args.words.now) (λ (is : length (words_of c.args.words.now) ≡ 3). grind arith)
+    record {
+      value = not_for_totals (words_of c.args.words.now) (λ (is : length (words_of c.args.words.now) ≡ 3). search rules);
+      within = tt;
+    }
+
+pub returns : goal.returns
+returns c =
+    let d = c.as_str-dict.result.now in
+    let t = c.as_str-translate.result.now in
+    let e = c.as_str-table.result.now in
+    let parts = three_words c.args.words.now d t e c.in-len3.len_at_least c.in-len3.len_below (c.dict-item.result, c.dict-item.is, c.as_str-dict.ensures.value) (c.translate-item.result, c.translate-item.is, c.as_str-translate.ensures.value) (c.table-item.result, c.table-item.is, c.as_str-table.ensures.value) in
+    record {
+      value = c.where_taken.ensures.value ∙ ap totals_in (sym parts);
+      within = c.where_taken.ensures.within;
+    }
