@@ -1,9 +1,10 @@
 -- The first bytes of a file, one more than a file may have, are read as the whole file is.
-use Rattle.std.proofs.Common.{◌≡◌, ℕ, ◌+◌, ◌<◌, ◌≤◌, nat_lt, nat_eq, not, true, false, cond, List, [], ◌∷◌, length, map, flat_map, take, Option, None, Some, Result, Ok, Err, IfSome, IfOk, IfErr, sym, refl, ap, ◌∙◌, arith}
+use Rattle.std.proofs.Common.{◌≡◌, ℕ, ◌+◌, ◌<◌, ◌≤◌, nat_lt, nat_eq, not, true, false, cond, List, [], ◌∷◌, length, map, flat_map, take, Option, None, Some, Result, Ok, Err, IfSome, IfOk, IfErr, sym, refl, ap, subst, ◌∙◌, arith}
 use Rattle.std.proofs.lemmas.Bool.{ltb-true, ltb-false, lt-ltb}
 use Rattle.std.proofs.lemmas.List.{take_all, length-take-le}
 use Rattle.std.specs.List.{onto_first}
 use Rattle.std.specs.Option.{option_map}
+use Rattle.std.specs.Result.{IsErrAnd}
 use Rattle.pg_types.specs.declared.limits.TheConstants.{FILE_MAX}
 use Rattle.pg_types.specs.declared.refusals.Refusal.{Refusal}
 use Rattle.pg_types.specs.declared.refusals.ReadingError.{ReadingError}
@@ -15,6 +16,7 @@ use Rattle.pg_types.specs.Inside.Parts.{refusal_of_item}
 use Rattle.pg_types.specs.Reading.{unless, refusal_at as refused_in}
 use Rattle.pg_types.specs.Inside.Answers.{Fails, Gives}
 use Rattle.pg_outside.specs.Content.{FileMap, FilesShown, file_at}
+use Rattle.pg_outside.specs.FilesCalls.{Reads}
 use Rattle.pg_outside.specs.Inside.ToldFiles.{IsCut}
 use Rattle.pg_table.specs.declared.limits.TheConstants.{TABLE_MAX}
 use Rattle.pg_table.specs.Forms.{head_of, is_well_formed}
@@ -31,11 +33,14 @@ use Rattle.pg_top.specs.totals.Totalled.{packed_table}
 use Rattle.pg_top.specs.pack.Inside.Inputs.{table_refused}
 use Rattle.pg_top.specs.Readings.{Reading, input_file}
 use Rattle.pg_top.specs.Inside.ReadAs.{read_as}
-use Rattle.pg_top.specs.Inside.Stops.{StopsAt, StopsFront, stop_of, accepted_as}
+use Rattle.pg_top.specs.Counted.{MakesCalls}
+use Rattle.pg_top.specs.Inside.ReadsMade.{ReadsInput}
+use Rattle.pg_top.specs.Inside.Stops.{OnlyReads, StopsAt, StopsFront, stop_of, accepted_as}
 use Rattle.pg_top.specs.declared.inputs.Input.{Input}
 use Rattle.pg_top.specs.declared.inputs.Stop.{Stop}
 use Rattle.pg_top.specs.declared.inputs.Stop.TheVariants.{Refused, Unread, Memory}
 use Rattle.pg_top.proofs.Orders.{mapped}
+use Rattle.pg_top.proofs.Results.{no_value, that_error}
 
 -- the first bytes of a text, one more than a number
 abbrev first_bytes : ℕ → List ℕ → List ℕ
@@ -160,15 +165,32 @@ front_stop r old new Memory stops = tt
 
 -- what a reader gave of the first bytes of a file is what the file gives
 module _ {Y : Type 0} (parse : List ℕ → Result Y Refusal) (front : IsReadByFront parse) (input : Input) (name bytes : List ℕ) (old new : FilesShown) (first : IfSome new.held (λ files. option_map (take (FILE_MAX + 1)) (file_at files name) ≡ Some bytes)) where
-  pub accepted_ok : (read : Result Y ReadingError) → Gives (λ y. y) read (parse bytes) → IfOk (accepted_as input read) (λ y. IfSome new.held (λ files. read_as parse (file_at files) name ≡ Some (Ok y)))
+  accepted_ok : (read : Result Y ReadingError) → Gives (λ y. y) read (parse bytes) → IfOk (accepted_as input read) (λ y. IfSome new.held (λ files. read_as parse (file_at files) name ≡ Some (Ok y)))
   accepted_ok (Ok y) gives = read_by_front parse front new.held name bytes (Ok y) first gives
   accepted_ok (Err error) gives = tt
 
-  pub accepted_stopped : (read : Result Y ReadingError) → Gives (λ y. y) read (parse bytes) → IfErr (accepted_as input read) (StopsAt (input_file input name (λ _. parse)) old new)
+  accepted_stopped : (read : Result Y ReadingError) → Gives (λ y. y) read (parse bytes) → IfErr (accepted_as input read) (StopsAt (input_file input name (λ _. parse)) old new)
   accepted_stopped (Ok y) gives = tt
   accepted_stopped (Err error) gives = stopped_by_front parse front input name bytes old new error first gives
 
+  -- so reading the input comes to what its reader gave
+  pub input_read : (read : Result Y ReadingError) (r : Result Y Stop) → r ≡ accepted_as input read → OnlyReads old new → MakesCalls old new (Reads name ∷ []) → Gives (λ y. y) read (parse bytes) → ReadsInput input name parse old new r
+  input_read read r is only calls gives =
+      subst (ReadsInput input name parse old new) (sym is) (record { only = only; calls = calls; ok = accepted_ok read gives; stopped = accepted_stopped read gives })
+
+-- a stop at the first bytes stops the input
+pub input_stopped : {Y : Type 0} (parse : List ℕ → Result Y Refusal) (input : Input) (name : List ℕ) (old new : FilesShown) (r : Result Y Stop) (stop : Stop) → IsErrAnd r (λ y. y ≡ stop) → OnlyReads old new → MakesCalls old new (Reads name ∷ []) → StopsFront name old new stop → ReadsInput input name parse old new r
+input_stopped parse input name old new r stop is only calls stops = record {
+  only = only;
+  calls = calls;
+  ok = no_value r _ stop is;
+  stopped = that_error r (StopsAt (input_file input name (λ _. parse)) old new) stop is (front_stop (input_file input name (λ _. parse)) old new stop stops);
+}
+
 -- and what is known of it is known of what is accepted
-pub accepted_known : {Y : Type 0} (input : Input) (read : Result Y ReadingError) (P : Y → Type 0) → IfOk read P → IfOk (accepted_as input read) P
+accepted_known : {Y : Type 0} (input : Input) (read : Result Y ReadingError) (P : Y → Type 0) → IfOk read P → IfOk (accepted_as input read) P
 accepted_known input (Ok y) P known = known
 accepted_known input (Err error) P known = tt
+
+pub input_known : {Y : Type 0} (input : Input) (read : Result Y ReadingError) (r : Result Y Stop) (P : Y → Type 0) → r ≡ accepted_as input read → IfOk read P → IfOk r P
+input_known {Y = Y} input read r P is known = subst (λ (r : Result Y Stop). IfOk r P) (sym is) (accepted_known input read P known)

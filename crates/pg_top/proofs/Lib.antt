@@ -1,5 +1,7 @@
 pub mod Results
+pub mod ReadsStopped
 pub mod Parts
+pub mod PrintedPieces
 pub mod Fronts
 pub mod Selections
 pub mod Faults

@@ -3,7 +3,7 @@ use Rattle.std.proofs.Common.{◌≡◌, ℕ, List, [], ◌∷◌, ◌++◌, Opt
 use Rattle.std.specs.Option.{option_map}
 use Rattle.pg_types.specs.declared.marks.Layout.{Layout}
 use Rattle.pg_types.specs.Placement.{Families}
-use Rattle.pg_select.specs.Inside.Meanings.{Meaning, new_engine}
+use Rattle.pg_select.specs.Inside.Meanings.{Meaning}
 use Rattle.pg_driver.specs.declared.records.LevelRecord.{LevelRecord}
 use Rattle.pg_driver.specs.Accounts.{begun_count}
 use Rattle.pg_driver.specs.Layouts.{families_at_end}
@@ -25,11 +25,8 @@ use Rattle.pg_top.specs.Inside.Runs.{last_layout_told}
 use Rattle.pg_top.specs.Selection.{selection, selected, selected_totals, selected_text, selected_list, selected_cells_text, selected_report}
 use Rattle.pg_top.specs.Inside.SelectionSigns.{signs_of}
 use Rattle.pg_top.specs.Inside.SelectionAccounts.{selected_account, passes_begun, selected_cells_from, selected_cells, last_layout, work_line}
+use Rattle.pg_top.specs.Inside.SelectedRuns.{IsNew}
 use Rattle.pg_top.specs.declared.selection.Inputs.{Inputs}
-
--- the engine was just made with the starting patterns of the inputs
-abbrev IsNew : Inputs → Meaning → Type 0
-IsNew i m = m ≡ new_engine (signs_of i) i.start m.families
 
 pub patterns_selected : (i : Inputs) (m : Meaning) → IsNew i m → patterns_from i.table i.dictionary i.params m ≡ selected i
 unfolding selection selected

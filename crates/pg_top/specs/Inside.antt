@@ -10,7 +10,9 @@ pub mod PutCounts
 pub mod Puts
 pub mod ReadAs
 pub mod ReadCalls
+pub mod ReadsMade
 pub mod Refusing
 pub mod SelectionSigns
 pub mod SelectionAccounts
+pub mod SelectedRuns
 pub mod WritesMade

@@ -1,9 +1,7 @@
 //! `generate`: the patterns that a selection finds, and what is told of them.
-ghost use Rattle.std.specs.Prelude.{IfOk, IfErr};
 ghost use Rattle.pg_words.specs.Inside.Asked.{texts_of};
 ghost use Rattle.pg_words.specs.Requests.{ToGenerate};
-ghost use Rattle.pg_top.specs.Inside.Built.{IsMade};
-ghost use Rattle.pg_top.specs.Inside.Stops.{OnlyReads, StopsCommand};
+ghost use Rattle.pg_top.specs.Inside.Built.{Builds};
 
 mod inputs;
 mod outputs;
@@ -24,11 +22,8 @@ pub fn generate_files<'a, F: Files, W: Watch>(
     files: &mut F,
     watch: &W,
 ) -> Result<Outputs<'a>, Stop<'a>>
-    ensures only { OnlyReads (F.shown files.old) (F.shown files.new) }
-    ensures made { IfOk result (IsMade (ToGenerate (texts_of names.now))
-        (F.shown files.old) (F.shown files.new)) }
-    ensures stopped { IfErr result (StopsCommand (ToGenerate (texts_of names.now))
-        (F.shown files.old) (F.shown files.new)) }
+    ensures { Builds (ToGenerate (texts_of names.now))
+        (F.shown files.old) (F.shown files.new) result }
 {
     let inputs = read_inputs(alloc, names, files, watch)?;
     let outputs = make_outputs(alloc, names, &inputs, watch);

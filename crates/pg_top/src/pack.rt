@@ -1,8 +1,6 @@
 //! `pack`: patterns as a packed table.
-ghost use Rattle.std.specs.Prelude.{IfOk, IfErr};
 ghost use Rattle.pg_words.specs.Requests.{ToPack};
-ghost use Rattle.pg_top.specs.Inside.Built.{IsMade};
-ghost use Rattle.pg_top.specs.Inside.Stops.{OnlyReads, StopsCommand};
+ghost use Rattle.pg_top.specs.Inside.Built.{Builds};
 
 mod inputs;
 mod outputs;
@@ -24,11 +22,8 @@ pub fn pack_files<'a, F: Files, W: Watch>(
     files: &mut F,
     watch: &W,
 ) -> Result<Outputs<'a>, Stop<'a>>
-    ensures only { OnlyReads (F.shown files.old) (F.shown files.new) }
-    ensures made { IfOk result (IsMade (ToPack patterns.now translate.now table.now)
-        (F.shown files.old) (F.shown files.new)) }
-    ensures stopped { IfErr result (StopsCommand (ToPack patterns.now translate.now table.now)
-        (F.shown files.old) (F.shown files.new)) }
+    ensures { Builds (ToPack patterns.now translate.now table.now)
+        (F.shown files.old) (F.shown files.new) result }
 {
     let source = read_source(alloc, translate, patterns, files, watch)?;
     let outputs = make_table(alloc, table, &source, watch);

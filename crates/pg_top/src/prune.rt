@@ -1,8 +1,6 @@
 //! `prune`: the patterns that a dictionary needs.
-ghost use Rattle.std.specs.Prelude.{IfOk, IfErr};
 ghost use Rattle.pg_words.specs.Requests.{ToPrune};
-ghost use Rattle.pg_top.specs.Inside.Built.{IsMade};
-ghost use Rattle.pg_top.specs.Inside.Stops.{OnlyReads, StopsCommand};
+ghost use Rattle.pg_top.specs.Inside.Built.{Builds};
 
 mod inputs;
 mod outputs;
@@ -26,13 +24,8 @@ pub fn prune_files<'a, F: Files, W: Watch>(
     files: &mut F,
     watch: &W,
 ) -> Result<Outputs<'a>, Stop<'a>>
-    ensures only { OnlyReads (F.shown files.old) (F.shown files.new) }
-    ensures made { IfOk result
-        (IsMade (ToPrune dict.now patterns.now output.now translate.now report.now)
-        (F.shown files.old) (F.shown files.new)) }
-    ensures stopped { IfErr result
-        (StopsCommand (ToPrune dict.now patterns.now output.now translate.now report.now)
-        (F.shown files.old) (F.shown files.new)) }
+    ensures { Builds (ToPrune dict.now patterns.now output.now translate.now report.now)
+        (F.shown files.old) (F.shown files.new) result }
 {
     let inputs = read_prune(alloc, translate, patterns, dict, files, watch)?;
     let outputs = make_prune(alloc, output, report, &inputs, watch);

@@ -11,10 +11,10 @@ ghost use Rattle.pg_dict.specs.Words.{words};
 ghost use Rattle.pg_patterns.specs.Starts.{start};
 ghost use Rattle.pg_patterns.specs.Inside.PatternMaps.{SignsUpTo};
 ghost use Rattle.pg_top.specs.Counted.{MakesCalls};
-ghost use Rattle.pg_top.specs.Readings.{input_file};
 ghost use Rattle.pg_top.specs.Inside.ReadAs.{read_as};
 ghost use Rattle.pg_top.specs.Inside.Lists.{lists_under, HasLists};
-ghost use Rattle.pg_top.specs.Inside.Stops.{OnlyReads, accepted_as, StopsFront, StopsAt, StopsReading};
+ghost use Rattle.pg_top.specs.Inside.ReadsMade.{ReadsInput};
+ghost use Rattle.pg_top.specs.Inside.Stops.{OnlyReads, accepted_as, StopsFront, StopsReading};
 
 use crate::inputs::{Input, Stop};
 use pg_dict::Dictionary;
@@ -85,14 +85,8 @@ pub fn read_table<'a, F: Files, W: Watch>(
     files: &mut F,
     watch: &W,
 ) -> Result<Table, Stop<'a>>
-    ensures only { OnlyReads (F.shown files.old) (F.shown files.new) }
-    ensures calls { MakesCalls (F.shown files.old) (F.shown files.new) (Reads name.now ∷ []) }
-    ensures ok { IfOk result (λ table.
-        IfSome (F.shown files.new).held (λ files.
-        read_as table_of_file (file_at files) name.now ≡ Some (Ok table))) }
-    ensures stopped { IfErr result
-        (StopsAt (input_file Input.Translate name.now (λ _. table_of_file))
-        (F.shown files.old) (F.shown files.new)) }
+    ensures { ReadsInput Input.Translate name.now table_of_file
+        (F.shown files.old) (F.shown files.new) result }
 {
     let bytes = read_front(alloc, name, FILE_MAX, files, watch)?;
     let read = Table::read(alloc, &bytes);
@@ -110,14 +104,7 @@ pub fn read_parameters<'a, F: Files, W: Watch>(
     files: &mut F,
     watch: &W,
 ) -> Result<Params, Stop<'a>>
-    ensures only { OnlyReads (F.shown files.old) (F.shown files.new) }
-    ensures calls { MakesCalls (F.shown files.old) (F.shown files.new) (Reads name.now ∷ []) }
-    ensures ok { IfOk result (λ params.
-        IfSome (F.shown files.new).held
-        (λ files. read_as parameters (file_at files) name.now ≡ Some (Ok params))) }
-    ensures stopped { IfErr result
-        (StopsAt (input_file input name.now (λ _. parameters))
-        (F.shown files.old) (F.shown files.new)) }
+    ensures { ReadsInput input name.now parameters (F.shown files.old) (F.shown files.new) result }
 {
     let bytes = read_front(alloc, name, FILE_MAX, files, watch)?;
     let read = read_params(alloc, &bytes);
@@ -132,15 +119,9 @@ pub fn read_start<'a, F: Files, W: Watch>(
     files: &mut F,
     watch: &W,
 ) -> Result<PatternSet, Stop<'a>>
-    ensures only { OnlyReads (F.shown files.old) (F.shown files.new) }
-    ensures calls { MakesCalls (F.shown files.old) (F.shown files.new) (Reads name.now ∷ []) }
-    ensures ok { IfOk result (λ patterns.
-        IfSome (F.shown files.new).held (λ files.
-        read_as (start table.now) (file_at files) name.now ≡ Some (Ok patterns))) }
+    ensures read { ReadsInput Input.Patterns name.now (start table.now)
+        (F.shown files.old) (F.shown files.new) result }
     ensures known { IfOk result (SignsUpTo (letters_of table.now + 1)) }
-    ensures stopped { IfErr result
-        (StopsAt (input_file Input.Patterns name.now (λ _. start table.now))
-        (F.shown files.old) (F.shown files.new)) }
 {
     let bytes = read_front(alloc, name, FILE_MAX, files, watch)?;
     let read = PatternSet::read(alloc, table, &bytes);
@@ -158,15 +139,9 @@ pub fn read_dictionary<'a, F: Files, W: Watch>(
     files: &mut F,
     watch: &W,
 ) -> Result<Dictionary, Stop<'a>>
-    ensures only { OnlyReads (F.shown files.old) (F.shown files.new) }
-    ensures calls { MakesCalls (F.shown files.old) (F.shown files.new) (Reads name.now ∷ []) }
-    ensures ok { IfOk result (λ dictionary.
-        IfSome (F.shown files.new).held (λ files.
-        read_as (words table.now) (file_at files) name.now ≡ Some (Ok dictionary))) }
+    ensures read { ReadsInput Input.Dictionary name.now (words table.now)
+        (F.shown files.old) (F.shown files.new) result }
     ensures signs { IfOk result (SignsAtMost (letters_of table.now + 1)) }
-    ensures stopped { IfErr result
-        (StopsAt (input_file Input.Dictionary name.now (λ _. words table.now))
-        (F.shown files.old) (F.shown files.new)) }
 {
     let bytes = read_front(alloc, name, FILE_MAX, files, watch)?;
     let read = Dictionary::read(alloc, table, &bytes);

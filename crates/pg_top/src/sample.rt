@@ -3,15 +3,11 @@ ghost use Rattle.std.specs.Prelude.{◌≡◌, ◌+◌, ◌≤◌, ◌<◌, ◌^
 ghost use Rattle.pg_translate.specs.Alphabets.{letters_of};
 ghost use Rattle.pg_translate.specs.Tables.{default_alphabet};
 ghost use Rattle.pg_dict.specs.Inside.SoundWords.{SignsAtMost};
-ghost use Rattle.pg_driver.specs.Inside.RunAccounts.{account_of};
-ghost use Rattle.pg_patterns.specs.Inside.PatternMaps.{SignsUpTo};
-ghost use Rattle.pg_select.specs.Inside.Meanings.{new_engine};
 ghost use Rattle.pg_top.specs.Inside.PutCounts.{LinesCounted};
 ghost use Rattle.pg_top.specs.sample.Sampled.{is_printed as is_printed_line, sample_inputs, sample_lines as lines_of, sample_parameters};
 ghost use Rattle.pg_top.specs.sample.Inside.Lines.{printed_part, selection_lines};
-ghost use Rattle.pg_top.specs.Selection.{selected};
-ghost use Rattle.pg_top.specs.Inside.SelectionAccounts.{selected_account};
-ghost use Rattle.pg_top.specs.Inside.SelectionSigns.{HasSigns, signs_of};
+ghost use Rattle.pg_top.specs.Inside.SelectionSigns.{HasSigns};
+ghost use Rattle.pg_top.specs.Inside.SelectedRuns.{IsNew, TellsSelection};
 ghost use Rattle.pg_top.specs.Inside.Stops.{PutsLines};
 
 mod words;
@@ -121,9 +117,7 @@ fn push_printed(lines: &mut Vec<u8>, report: &[u8]) -> Result<(), AllocError>
 /// The printed lines, after the run.
 fn lines_after(alloc: Global, inputs: &Inputs, run: &Run) -> Result<Vec<u8>, AllocError>
     requires signs { HasSigns inputs.now }
-    requires selected { run.now.patterns ≡ selected inputs.now }
-    requires pattern_signs { SignsUpTo (signs_of inputs.now) run.now.patterns }
-    requires account { account_of run.now ≡ selected_account inputs.now }
+    requires told { TellsSelection inputs.now run.now }
     ensures { IfOk result (λ lines. lines.items ≡ selection_lines inputs.now) }
 {
     let patterns = run.patterns().text(alloc, &inputs.table)?;
@@ -154,8 +148,7 @@ fn lines_by<E: Engine>(
     inputs: &Inputs,
     engine: &mut E,
 ) -> Result<Vec<u8>, AllocError>
-    requires new { E.meaning engine.old
-        ≡ new_engine (signs_of inputs.now) inputs.now.start (E.meaning engine.old).families }
+    requires new { IsNew inputs.now (E.meaning engine.old) }
     requires signs { HasSigns inputs.now }
     ensures { IfOk result (λ lines. lines.items ≡ selection_lines inputs.now) }
 {

@@ -1,13 +1,11 @@
 //! The selection of patterns: what it is made of, and what is told of its run.
-ghost use Rattle.std.specs.Prelude.{◌≡◌, IfOk};
+ghost use Rattle.std.specs.Prelude.{◌≡◌, IfOk, OnOk};
 ghost use Rattle.std.specs.Option.{option_map};
 ghost use Rattle.pg_patterns.specs.Starts.{start};
-ghost use Rattle.pg_patterns.specs.Inside.PatternMaps.{SignsUpTo};
-ghost use Rattle.pg_top.specs.Selection.{selected};
-ghost use Rattle.pg_top.specs.Inside.SelectionAccounts.{selected_account, passes_begun, selected_cells_from};
-ghost use Rattle.pg_top.specs.Inside.SelectionSigns.{HasSigns, signs_of};
-ghost use Rattle.pg_select.specs.Inside.Meanings.{new_engine};
-ghost use Rattle.pg_driver.specs.Inside.RunAccounts.{account_of, TellsCells};
+ghost use Rattle.pg_top.specs.Inside.SelectionAccounts.{selected_cells_from};
+ghost use Rattle.pg_top.specs.Inside.SelectionSigns.{HasSigns};
+ghost use Rattle.pg_top.specs.Inside.SelectedRuns.{IsNew, TellsSelection, HasSelected};
+ghost use Rattle.pg_driver.specs.Inside.RunAccounts.{TellsCells};
 ghost use Rattle.pg_top.specs.Inside.Runs.{last_layout_told};
 
 use pg_dict::Dictionary;
@@ -33,17 +31,12 @@ pub struct Inputs {
 
 /// Does the run of the inputs over an engine that was just made with their starting patterns.
 pub fn select<E: Engine>(alloc: Global, engine: &mut E, inputs: &Inputs) -> Result<Run, AllocError>
-    requires new { E.meaning engine.old
-        ≡ new_engine (signs_of inputs.now) inputs.now.start (E.meaning engine.old).families }
+    requires new { IsNew inputs.now (E.meaning engine.old) }
     requires signs { HasSigns inputs.now }
-    ensures patterns { IfOk result (λ run. run.patterns ≡ selected inputs.now) }
-    ensures account { IfOk result (λ run. account_of run ≡ selected_account inputs.now) }
-    ensures begun { IfOk result (λ run. run.begun ≡ passes_begun inputs.now) }
+    ensures told { IfOk result (TellsSelection inputs.now) }
     ensures cells { IfOk result
         (TellsCells (option_map (selected_cells_from inputs.now) (E.meaning engine.old).families)) }
-    ensures kept { IfOk result (λ run. (E.meaning engine.new).patterns ≡ run.patterns) }
-    ensures greatest { (E.meaning engine.new).signs ≡ signs_of inputs.now }
-    ensures pattern_signs { IfOk result (λ run. SignsUpTo (signs_of inputs.now) run.patterns) }
+    ensures engine { OnOk result (HasSelected inputs.now (E.meaning engine.new)) }
 {
     let run = generate(
         alloc,

@@ -1,9 +1,8 @@
 //! `sweep`: the cheapest of several parameter files.
-ghost use Rattle.std.specs.Prelude.{◌≤◌, length, IfOk, IfErr};
+ghost use Rattle.std.specs.Prelude.{◌≤◌, length};
 ghost use Rattle.pg_words.specs.Inside.Asked.{sweep_of, KeepsSweepLimits};
 ghost use Rattle.pg_words.specs.Requests.{ToSweep};
-ghost use Rattle.pg_top.specs.Inside.Built.{IsMade};
-ghost use Rattle.pg_top.specs.Inside.Stops.{OnlyReads, StopsCommand};
+ghost use Rattle.pg_top.specs.Inside.Built.{Builds};
 
 mod engines;
 mod inputs;
@@ -43,11 +42,7 @@ pub fn sweep_files<'a, F: Files, W: Watch>(
     watch: &W,
 ) -> Result<Outputs<'a>, Stop<'a>>
     requires { KeepsSweepLimits words.now }
-    ensures only { OnlyReads (F.shown files.old) (F.shown files.new) }
-    ensures made { IfOk result
-        (IsMade (ToSweep (sweep_of words.now)) (F.shown files.old) (F.shown files.new)) }
-    ensures stopped { IfErr result
-        (StopsCommand (ToSweep (sweep_of words.now)) (F.shown files.old) (F.shown files.new)) }
+    ensures { Builds (ToSweep (sweep_of words.now)) (F.shown files.old) (F.shown files.new) result }
 {
     let inputs = read_sweep(alloc, words, files, watch)?;
     tell_lowest(words.patterns, &inputs.sets, &inputs.start, watch);

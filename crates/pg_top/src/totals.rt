@@ -1,7 +1,5 @@
 //! `totals`: the totals of a dictionary by a packed table.
-ghost use Rattle.std.specs.Prelude.{IfOk, IfErr};
-ghost use Rattle.pg_top.specs.Inside.Built.{IsMade};
-ghost use Rattle.pg_top.specs.Inside.Stops.{OnlyReads, StopsCommand};
+ghost use Rattle.pg_top.specs.Inside.Built.{Builds};
 ghost use Rattle.pg_words.specs.Requests.{ToTotals};
 
 mod table;
@@ -24,11 +22,8 @@ pub fn total_files<'a, F: Files, W: Watch>(
     files: &mut F,
     watch: &W,
 ) -> Result<Outputs<'a>, Stop<'a>>
-    ensures only { OnlyReads (F.shown files.old) (F.shown files.new) }
-    ensures made { IfOk result (IsMade (ToTotals dict.now translate.now table.now)
-        (F.shown files.old) (F.shown files.new)) }
-    ensures stopped { IfErr result (StopsCommand (ToTotals dict.now translate.now table.now)
-        (F.shown files.old) (F.shown files.new)) }
+    ensures { Builds (ToTotals dict.now translate.now table.now)
+        (F.shown files.old) (F.shown files.new) result }
 {
     let letters = read_table(alloc, translate, files, watch)?;
     let dictionary = read_dictionary(alloc, &letters, dict, files, watch)?;

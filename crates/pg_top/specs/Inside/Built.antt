@@ -1,10 +1,10 @@
 -- What a command builds from the files that it reads, before it writes and prints.
-use Rattle.std.specs.Prelude.{◌≡◌, Result, Ok, Err, IfSome}
+use Rattle.std.specs.Prelude.{◌≡◌, Result, Ok, Err, IfSome, IfOk, IfErr}
 use Rattle.pg_outside.specs.Content.{FilesShown, file_at}
 use Rattle.pg_top.specs.Calls.{outcome_of, reads_of, writes_of}
 use Rattle.pg_top.specs.Counted.{MakesCalls, read_calls}
 use Rattle.pg_top.specs.Inside.PutCounts.{PutsCounted}
-use Rattle.pg_top.specs.Inside.Stops.{PutsStop, Finishes}
+use Rattle.pg_top.specs.Inside.Stops.{OnlyReads, StopsCommand, PutsStop, Finishes}
 use Rattle.pg_top.specs.Inside.WritesMade.{written_names, writing_of}
 use Rattle.pg_top.specs.Moments.{Moment}
 use Rattle.pg_top.specs.Outcomes.{Ends}
@@ -30,6 +30,13 @@ pub record IsMade (request : Request) (old new : FilesShown) (made : Outputs) : 
   pub named : written_names (writing_of made.files.items) ≡ writes_of request
   pub keeps : IfSome new.held (λ files. Keeps request (file_at files))
   pub counted : MakesCalls old new (read_calls (reads_of request))
+
+-- files were only read, and this was built of them; or the command stopped before it wrote
+pub record Builds (request : Request) (old new : FilesShown)
+    (built : Result Outputs Stop) : Type 0 where
+  pub only : OnlyReads old new
+  pub made : IfOk built (IsMade request old new)
+  pub stopped : IfErr built (StopsCommand request old new)
 
 -- what a command built was written and put; or it had stopped, and the line of that was put
 abbrev pub EndsBuilt : Result Outputs Stop → Status → Moment → Moment → Type 0

@@ -1,14 +1,10 @@
 //! The texts that given files should be.
 ghost use Rattle.std.specs.Prelude.{◌≡◌, ◌++◌, ◌+◌, [], ◌∷◌, IfOk, OnOk};
-ghost use Rattle.pg_driver.specs.Inside.RunAccounts.{account_of};
-ghost use Rattle.pg_patterns.specs.Inside.PatternMaps.{SignsUpTo};
-ghost use Rattle.pg_select.specs.Inside.Meanings.{new_engine};
 ghost use Rattle.pg_top.specs.audit.Audited.{given_file, given_files};
 ghost use Rattle.pg_words.specs.Inside.Asked.{name_now, texts_of};
 ghost use Rattle.pg_words.specs.Requests.{if_asked};
-ghost use Rattle.pg_top.specs.Selection.{selected};
-ghost use Rattle.pg_top.specs.Inside.SelectionAccounts.{selected_account};
-ghost use Rattle.pg_top.specs.Inside.SelectionSigns.{HasSigns, signs_of};
+ghost use Rattle.pg_top.specs.Inside.SelectionSigns.{HasSigns};
+ghost use Rattle.pg_top.specs.Inside.SelectedRuns.{IsNew, TellsSelection, HasSelected};
 ghost use Rattle.pg_top.specs.audit.Inside.Verdicts.{reading_of, wanted_files};
 
 use crate::inputs::Given;
@@ -55,8 +51,7 @@ fn push_pattmp<'a, E: Engine>(
     inputs: &Inputs,
 ) -> Result<(), AllocError>
     requires signs { HasSigns inputs.now }
-    requires greatest { (E.meaning engine.now).signs ≡ signs_of inputs.now }
-    requires patterns { (E.meaning engine.now).patterns ≡ selected inputs.now }
+    requires engine { HasSelected inputs.now (E.meaning engine.now) }
     ensures { OnOk result (wanted_files wanted.new.items ≡
         wanted_files wanted.old.items
         ++ if_asked (name_now name.entry)
@@ -81,11 +76,8 @@ fn push_all<'a, E: Engine>(
 ) -> Result<(), AllocError>
     requires empty { wanted.old.items ≡ [] }
     requires signs { HasSigns inputs.now }
-    requires greatest { (E.meaning engine.now).signs ≡ signs_of inputs.now }
-    requires patterns { (E.meaning engine.now).patterns ≡ selected inputs.now }
-    requires selected { run.now.patterns ≡ selected inputs.now }
-    requires pattern_signs { SignsUpTo (signs_of inputs.now) run.now.patterns }
-    requires account { account_of run.now ≡ selected_account inputs.now }
+    requires engine { HasSelected inputs.now (E.meaning engine.now) }
+    requires told { TellsSelection inputs.now run.now }
     ensures { OnOk result
         (wanted_files wanted.new.items ≡ given_files (λ _. inputs.now) (texts_of names.now)) }
 {
@@ -124,8 +116,7 @@ fn run_wanted<'a, E: Engine>(
     inputs: &Inputs,
     engine: &mut E,
 ) -> Result<Vec<Wanted<'a>>, AllocError>
-    requires new { E.meaning engine.old
-        ≡ new_engine (signs_of inputs.now) inputs.now.start (E.meaning engine.old).families }
+    requires new { IsNew inputs.now (E.meaning engine.old) }
     requires signs { HasSigns inputs.now }
     ensures { IfOk result (λ wanted.
         wanted_files wanted.items ≡ given_files (λ _. inputs.now) (texts_of names.now)) }

@@ -1,14 +1,13 @@
 //! What `generate` writes and prints.
 ghost use Rattle.std.specs.Prelude.{◌≡◌, ◌++◌, [], ◌∷◌, IfOk, OnOk, Some};
-ghost use Rattle.pg_driver.specs.Inside.RunAccounts.{account_of, TellsCells};
+ghost use Rattle.pg_driver.specs.Inside.RunAccounts.{TellsCells};
 ghost use Rattle.pg_packed.specs.Inside.Starts.{pattern_families};
-ghost use Rattle.pg_patterns.specs.Inside.PatternMaps.{SignsUpTo};
-ghost use Rattle.pg_select.specs.Inside.Meanings.{new_engine};
 ghost use Rattle.pg_words.specs.Inside.Asked.{name_now, texts_of};
 ghost use Rattle.pg_top.specs.generate.Generated.{selected_files, selected_lines};
-ghost use Rattle.pg_top.specs.Inside.SelectionAccounts.{work_line, selected_cells, selected_account, passes_begun, last_layout as last_layout_of};
+ghost use Rattle.pg_top.specs.Inside.SelectionAccounts.{work_line, selected_cells, passes_begun, last_layout as last_layout_of};
+ghost use Rattle.pg_top.specs.Inside.SelectedRuns.{IsNew, TellsSelection, HasSelected};
 ghost use Rattle.pg_words.specs.Requests.{if_asked};
-ghost use Rattle.pg_top.specs.Selection.{selected, selected_list, selected_cells_text, selected_text, selected_report};
+ghost use Rattle.pg_top.specs.Selection.{selected_list, selected_cells_text, selected_text, selected_report};
 ghost use Rattle.pg_top.specs.Inside.SelectionSigns.{HasSigns, signs_of};
 ghost use Rattle.pg_top.specs.Inside.WritesMade.{writing_of};
 ghost use Rattle.pg_types.specs.Lines.{lines};
@@ -34,8 +33,7 @@ fn push_pattmp<'a, E: Engine>(
     inputs: &Inputs,
 ) -> Result<(), AllocError>
     requires signs { HasSigns inputs.now }
-    requires greatest { (E.meaning engine.now).signs ≡ signs_of inputs.now }
-    requires patterns { (E.meaning engine.now).patterns ≡ selected inputs.now }
+    requires engine { HasSelected inputs.now (E.meaning engine.now) }
     ensures { OnOk result (writing_of files.new.items ≡
         writing_of files.old.items ++ if_asked (name_now name.entry)
         (λ name. (name, selected_list inputs.now))) }
@@ -80,7 +78,7 @@ pub fn push_work(lines: &mut Vec<u8>, passes: u64, layout: &Layout) -> Result<()
 
 /// Appends the work line of a run.
 fn push_end(lines: &mut Vec<u8>, run: &Run, inputs: &Inputs) -> Result<(), AllocError>
-    requires begun { run.now.begun ≡ passes_begun inputs.now }
+    requires told { TellsSelection inputs.now run.now }
     requires cells { TellsCells (Some (selected_cells inputs.now)) run.now }
     ensures { OnOk result (lines.new.items ≡
         lines.old.items ++ work_line (passes_begun inputs.now)
@@ -101,8 +99,7 @@ fn make_lines(
     inputs: &Inputs,
 ) -> Result<Vec<u8>, AllocError>
     requires text { patterns.now ≡ selected_text inputs.now }
-    requires account { account_of run.now ≡ selected_account inputs.now }
-    requires begun { run.now.begun ≡ passes_begun inputs.now }
+    requires told { TellsSelection inputs.now run.now }
     requires cells { TellsCells (Some (selected_cells inputs.now)) run.now }
     ensures { IfOk result (λ lines. lines.items ≡ selected_lines inputs.now) }
 {
@@ -120,10 +117,7 @@ fn push_patterns<'a>(
     inputs: &Inputs,
 ) -> Result<Vec<u8>, AllocError>
     requires empty { files.old.items ≡ [] }
-    requires selected { run.now.patterns ≡ selected inputs.now }
-    requires pattern_signs { SignsUpTo (signs_of inputs.now) run.now.patterns }
-    requires account { account_of run.now ≡ selected_account inputs.now }
-    requires begun { run.now.begun ≡ passes_begun inputs.now }
+    requires told { TellsSelection inputs.now run.now }
     requires cells { TellsCells (Some (selected_cells inputs.now)) run.now }
     ensures file { OnOk result
         (writing_of files.new.items ≡ (name.now, selected_text inputs.now) ∷ []) }
@@ -143,8 +137,7 @@ fn push_report<'a>(
     run: &Run,
     inputs: &Inputs,
 ) -> Result<(), AllocError>
-    requires signs { HasSigns inputs.now }
-    requires account { account_of run.now ≡ selected_account inputs.now }
+    requires { TellsSelection inputs.now run.now }
     ensures { OnOk result (writing_of files.new.items
         ≡ writing_of files.old.items ++ (name.now, selected_report inputs.now) ∷ []) }
 {
@@ -165,9 +158,8 @@ fn push_others<'a, E: Engine>(
     requires files { writing_of files.old.items
         ≡ (names.now.output.now, selected_text inputs.now) ∷ [] }
     requires signs { HasSigns inputs.now }
-    requires greatest { (E.meaning engine.now).signs ≡ signs_of inputs.now }
-    requires patterns { (E.meaning engine.now).patterns ≡ selected inputs.now }
-    requires account { account_of run.now ≡ selected_account inputs.now }
+    requires engine { HasSelected inputs.now (E.meaning engine.now) }
+    requires told { TellsSelection inputs.now run.now }
     requires cells { TellsCells (Some (selected_cells inputs.now)) run.now }
     ensures { OnOk result
         (writing_of files.new.items ≡ selected_files (texts_of names.now) inputs.now) }
@@ -186,12 +178,8 @@ fn make_files<'a, E: Engine>(
     run: &Run,
 ) -> Result<Outputs<'a>, AllocError>
     requires signs { HasSigns inputs.now }
-    requires greatest { (E.meaning engine.now).signs ≡ signs_of inputs.now }
-    requires patterns { (E.meaning engine.now).patterns ≡ selected inputs.now }
-    requires selected { run.now.patterns ≡ selected inputs.now }
-    requires pattern_signs { SignsUpTo (signs_of inputs.now) run.now.patterns }
-    requires account { account_of run.now ≡ selected_account inputs.now }
-    requires begun { run.now.begun ≡ passes_begun inputs.now }
+    requires engine { HasSelected inputs.now (E.meaning engine.now) }
+    requires told { TellsSelection inputs.now run.now }
     requires cells { TellsCells (Some (selected_cells inputs.now)) run.now }
     ensures files { IfOk result (λ made.
         writing_of made.files.items ≡ selected_files (texts_of names.now) inputs.now) }
@@ -232,8 +220,7 @@ fn run_files<'a, E: Engine>(
     inputs: &Inputs,
     engine: &mut E,
 ) -> Result<Outputs<'a>, AllocError>
-    requires new { E.meaning engine.old
-        ≡ new_engine (signs_of inputs.now) inputs.now.start (E.meaning engine.old).families }
+    requires new { IsNew inputs.now (E.meaning engine.old) }
     requires families { (E.meaning engine.old).families
         ≡ Some (pattern_families (signs_of inputs.now) inputs.now.start) }
     requires signs { HasSigns inputs.now }

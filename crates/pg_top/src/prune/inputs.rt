@@ -1,9 +1,7 @@
 //! What `prune` reads.
-ghost use Rattle.std.specs.Prelude.{IfOk, IfErr, IfSome};
-ghost use Rattle.pg_outside.specs.Content.{file_at};
-ghost use Rattle.pg_top.specs.Counted.{MakesCalls, read_calls};
+ghost use Rattle.std.specs.Prelude.{IfOk};
 ghost use Rattle.pg_top.specs.prune.Inside.Inputs.{prune_reads, HasPrune, HasKnownSigns};
-ghost use Rattle.pg_top.specs.Inside.Stops.{OnlyReads, StopsReading};
+ghost use Rattle.pg_top.specs.Inside.ReadsMade.{ReadsFiles};
 
 use crate::inputs::Stop;
 use crate::reading::{read_lists, read_table};
@@ -34,15 +32,10 @@ pub fn read_prune<'a, F: Files, W: Watch>(
     files: &mut F,
     watch: &W,
 ) -> Result<PruneInputs, Stop<'a>>
-    ensures only { OnlyReads (F.shown files.old) (F.shown files.new) }
-    ensures ok { IfOk result (λ inputs. IfSome (F.shown files.new).held (λ files.
-        HasPrune (file_at files) translate.now patterns.now dict.now inputs)) }
+    ensures read { ReadsFiles (prune_reads translate.now patterns.now dict.now)
+        (F.shown files.old) (F.shown files.new) result
+        (λ files. HasPrune files translate.now patterns.now dict.now) }
     ensures known { IfOk result HasKnownSigns }
-    ensures stopped { IfErr result
-        (StopsReading (prune_reads translate.now patterns.now dict.now)
-        (F.shown files.old) (F.shown files.new)) }
-    ensures counted { IfOk result (λ _. MakesCalls (F.shown files.old) (F.shown files.new)
-        (read_calls (prune_reads translate.now patterns.now dict.now))) }
 {
     let table = read_table(alloc, translate, files, watch)?;
     let (patterns, dictionary) = read_lists(alloc, &table, patterns, dict, files, watch)?;

@@ -1,12 +1,10 @@
 //! What `sweep` reads.
-ghost use Rattle.std.specs.Prelude.{◌≤◌, length, IfOk, IfErr, IfSome};
-ghost use Rattle.pg_outside.specs.Content.{file_at};
+ghost use Rattle.std.specs.Prelude.{◌≤◌, length, IfOk};
 ghost use Rattle.pg_words.specs.Inside.Asked.{sweep_of, KeepsSweepLimits};
 ghost use Rattle.pg_words.specs.Requests.{ToSweep};
 ghost use Rattle.pg_types.specs.declared.limits.TheConstants.{SETS_MAX};
 ghost use Rattle.pg_top.specs.Calls.{reads_of};
-ghost use Rattle.pg_top.specs.Counted.{MakesCalls, read_calls};
-ghost use Rattle.pg_top.specs.Inside.Stops.{OnlyReads, StopsReading};
+ghost use Rattle.pg_top.specs.Inside.ReadsMade.{ReadsFiles};
 ghost use Rattle.pg_top.specs.sweep.Inside.Inputs.{terms_of, HasSigns};
 ghost use Rattle.pg_top.specs.sweep.Inside.Accepted.{HasSweep};
 
@@ -43,18 +41,13 @@ pub fn read_sweep<'a, F: Files, W: Watch>(
     watch: &W,
 ) -> Result<SweepInputs, Stop<'a>>
     requires { KeepsSweepLimits words.now }
-    ensures only { OnlyReads (F.shown files.old) (F.shown files.new) }
-    ensures ok { IfOk result (λ inputs. IfSome (F.shown files.new).held (λ files.
-        HasSweep (file_at files) (sweep_of words.now)
-        (terms_of words.now.folds inputs) inputs.sets.items)) }
+    ensures read { ReadsFiles (reads_of (ToSweep (sweep_of words.now)))
+        (F.shown files.old) (F.shown files.new) result
+        (λ files inputs. HasSweep files (sweep_of words.now)
+        (terms_of words.now.folds inputs) inputs.sets.items) }
     ensures signs { IfOk result HasSigns }
     ensures count { IfOk result
         (λ inputs. (1 ≤ length inputs.sets.items) × (length inputs.sets.items ≤ SETS_MAX)) }
-    ensures stopped { IfErr result
-        (StopsReading (reads_of (ToSweep (sweep_of words.now)))
-        (F.shown files.old) (F.shown files.new)) }
-    ensures counted { IfOk result (λ _. MakesCalls (F.shown files.old) (F.shown files.new)
-        (read_calls (reads_of (ToSweep (sweep_of words.now))))) }
 {
     let table = read_table(alloc, words.translate, files, watch)?;
     let sets = read_sets(alloc, words.params, files, watch)?;

@@ -1,10 +1,8 @@
 //! The parameter files of `sweep`, read one after the other.
-ghost use Rattle.std.specs.Prelude.{◌≡◌, ◌≤◌, length, IfOk, IfErr, IfSome};
-ghost use Rattle.pg_outside.specs.Content.{file_at};
+ghost use Rattle.std.specs.Prelude.{◌≡◌, ◌≤◌, length, IfOk};
 ghost use Rattle.pg_words.specs.Inside.Names.{words_of};
 ghost use Rattle.pg_types.specs.declared.limits.TheConstants.{SETS_MAX};
-ghost use Rattle.pg_top.specs.Counted.{MakesCalls, read_calls};
-ghost use Rattle.pg_top.specs.Inside.Stops.{OnlyReads, StopsReading};
+ghost use Rattle.pg_top.specs.Inside.ReadsMade.{ReadsFiles};
 ghost use Rattle.pg_top.specs.sweep.Swept.{set_files};
 ghost use Rattle.pg_top.specs.sweep.Inside.Accepted.{HasSets};
 
@@ -23,14 +21,10 @@ pub fn read_sets<'a, F: Files, W: Watch>(
     watch: &W,
 ) -> Result<Vec<Params>, Stop<'a>>
     requires { length names.now ≤ SETS_MAX }
-    ensures only { OnlyReads (F.shown files.old) (F.shown files.new) }
-    ensures ok { IfOk result (λ sets. IfSome (F.shown files.new).held (λ files.
-        HasSets (file_at files) (words_of names.now) sets.items)) }
+    ensures read { ReadsFiles (set_files 1 (words_of names.now))
+        (F.shown files.old) (F.shown files.new) result
+        (λ files sets. HasSets files (words_of names.now) sets.items) }
     ensures count { IfOk result (λ sets. length sets.items ≡ length names.now) }
-    ensures counted { IfOk result (λ _. MakesCalls (F.shown files.old) (F.shown files.new)
-        (read_calls (set_files 1 (words_of names.now)))) }
-    ensures stopped { IfErr result
-        (StopsReading (set_files 1 (words_of names.now)) (F.shown files.old) (F.shown files.new)) }
 {
     let mut sets = Vec::new(alloc);
     'sets: for i in 0..names.len() {

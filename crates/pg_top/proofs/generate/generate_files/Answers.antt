@@ -1,5 +1,4 @@
 use Rattle.std.proofs.Common.{◌≡◌, ◌∙◌, sym, ap}
-use Rattle.std.proofs.lemmas.Result.{err_from_is_err_and}
 use Rattle.pg_outside.specs.Content.{file_at}
 use Rattle.pg_top.specs.Calls.{outcome_of}
 use Rattle.pg_words.specs.Inside.Asked.{texts_of}
@@ -12,6 +11,7 @@ use Rattle.pg_top.specs.declared.answers.Status.TheVariants.{Done}
 use Rattle.pg_top.specs.declared.inputs.Stop.TheVariants.{Memory}
 use Rattle.pg_top.proofs.generate.InputOrder.{outcome_generated, inputs_wanted}
 use Rattle.pg_top.proofs.Calls.{stops_reading}
+use Rattle.pg_top.proofs.ReadsStopped.{building_stopped}
 use Rattle.pg_top.proofs.Orders.{mapped}
 use Rattle.pg_top.proofs.generate.WrittenNames.{names_of_files}
 use Rattle.pg_top.proofs.generate.generate_files.Goals as goal
@@ -22,35 +22,30 @@ returns g c =
     let i = c.in_ok-inputs.inputs in
     let s1 = g.F.Files.shown c.read_inputs.new.files in
     record {
-      only = c.read_inputs.ensures.only;
+      only = c.read_inputs.ensures.read.only;
       made = record {
         comes = mapped s1.held (λ files. HasInputs (file_at files) n i)
             (λ files. outcome_of (file_at files) (ToGenerate n) ≡ Ends Done (writing_of c.in_ok-outputs.field-0.files.items) c.in_ok-outputs.field-0.lines.items)
-            (λ files h. outcome_generated n i files h ∙ (λ k. Ends Done (sym c.in_ok-outputs.ensures.files k) (sym c.in_ok-outputs.ensures.lines k))) c.in_ok-inputs.ensures.ok;
+            (λ files h. outcome_generated n i files h ∙ (λ k. Ends Done (sym c.in_ok-outputs.ensures.files k) (sym c.in_ok-outputs.ensures.lines k))) c.in_ok-inputs.ensures.read.ok;
         named = ap written_names c.in_ok-outputs.ensures.files ∙ names_of_files n i;
-        keeps = mapped s1.held (λ files. HasInputs (file_at files) n i) (λ files. Keeps (ToGenerate n) (file_at files)) (λ files h. tt) c.in_ok-inputs.ensures.ok;
-        counted = c.in_ok-inputs.ensures.counted;
+        keeps = mapped s1.held (λ files. HasInputs (file_at files) n i) (λ files. Keeps (ToGenerate n) (file_at files)) (λ files h. tt) c.in_ok-inputs.ensures.read.ok;
+        counted = c.in_ok-inputs.ensures.read.counted;
       };
       stopped = tt;
     }
 
 pub returns-in_err-inputs : goal.returns-in_err-inputs
 returns-in_err-inputs g c =
-    let err = err_from_is_err_and c.from_residual.result c.from_residual.ensures.1 in
-    record {
-      only = c.read_inputs.ensures.only;
-      made = rw err.1 tt;
-      stopped = rw (err.1, err.2) (stops_reading (ToGenerate (texts_of c.args.names.now)) (g.F.Files.shown c.args.files.now) (g.F.Files.shown c.read_inputs.new.files) c.in_err-inputs.field-0.0 c.in_err-inputs.ensures.stopped);
-    }
+    let n = texts_of c.args.names.now in
+    let s0 = g.F.Files.shown c.args.files.now in
+    let s1 = g.F.Files.shown c.read_inputs.new.files in
+    building_stopped (ToGenerate n) s0 s1 c.from_residual.result c.in_err-inputs.field-0.0 c.from_residual.ensures.1 c.read_inputs.ensures.read.only
+    (stops_reading (ToGenerate n) s0 s1 c.in_err-inputs.field-0.0 c.in_err-inputs.ensures.read.stopped)
 
 pub returns-in_err-outputs : goal.returns-in_err-outputs
 returns-in_err-outputs g c =
     let n = texts_of c.args.names.now in
     let s0 = g.F.Files.shown c.args.files.now in
     let s1 = g.F.Files.shown c.read_inputs.new.files in
-    let err = err_from_is_err_and c.from_residual-in_err-outputs.result c.from_residual-in_err-outputs.ensures.1 in
-    record {
-      only = c.read_inputs.ensures.only;
-      made = rw err.1 tt;
-      stopped = rw (err.1, err.2) (stops_reading (ToGenerate n) s0 s1 Memory (inputs_wanted n c.in_ok-inputs.inputs s0 s1 c.in_ok-inputs.ensures.counted c.in_ok-inputs.ensures.ok));
-    }
+    building_stopped (ToGenerate n) s0 s1 c.from_residual-in_err-outputs.result Memory c.from_residual-in_err-outputs.ensures.1 c.read_inputs.ensures.read.only
+    (stops_reading (ToGenerate n) s0 s1 Memory (inputs_wanted n c.in_ok-inputs.inputs s0 s1 c.in_ok-inputs.ensures.read.counted c.in_ok-inputs.ensures.read.ok))

@@ -1,5 +1,4 @@
 use Rattle.std.proofs.Common.{◌≡◌, ◌∙◌, arith}
-use Rattle.std.proofs.lemmas.Result.{err_from_is_err_and}
 use Rattle.pg_outside.specs.Content.{file_at}
 use Rattle.pg_top.specs.Calls.{outcome_of, reads_of}
 use Rattle.pg_top.specs.Outcomes.{Ends}
@@ -9,6 +8,7 @@ use Rattle.pg_top.specs.Inside.WritesMade.{writing_of}
 use Rattle.pg_top.specs.declared.answers.Status.TheVariants.{Done}
 use Rattle.pg_top.specs.declared.inputs.Stop.TheVariants.{Memory}
 use Rattle.pg_top.proofs.Calls.{stops_reading}
+use Rattle.pg_top.proofs.ReadsStopped.{building_stopped}
 use Rattle.pg_top.proofs.Orders.{AreAccepted, mapped, wanted_after}
 use Rattle.pg_top.proofs.prune.PruneOrder.{prune_accepted, prune_outcome, prune_keeps}
 use Rattle.pg_top.proofs.prune.prune_files.Goals as goal
@@ -20,27 +20,25 @@ returns g c =
     let made = c.in_ok-outputs.field-0 in
     let s1 = g.F.Files.shown c.read_prune.new.files in
     record {
-      only = c.read_prune.ensures.only;
+      only = c.read_prune.ensures.read.only;
       made = record {
         comes = mapped s1.held (λ files. HasPrune (file_at files) p.translate p.patterns p.dict i)
             (λ files. outcome_of (file_at files) (to_prune p) ≡ Ends Done (writing_of made.files.items) made.lines.items)
-            (λ files h. prune_outcome p i files h ∙ c.in_ok-outputs.ensures.made) c.in_ok-inputs.ensures.ok;
+            (λ files h. prune_outcome p i files h ∙ c.in_ok-outputs.ensures.made) c.in_ok-inputs.ensures.read.ok;
         named = c.in_ok-outputs.ensures.named;
-        keeps = mapped s1.held (λ files. HasPrune (file_at files) p.translate p.patterns p.dict i) (λ files. Keeps (to_prune p) (file_at files)) (λ files h. prune_keeps p i files c.in_ok-outputs.ensures.reads_back h) c.in_ok-inputs.ensures.ok;
-        counted = c.in_ok-inputs.ensures.counted;
+        keeps = mapped s1.held (λ files. HasPrune (file_at files) p.translate p.patterns p.dict i) (λ files. Keeps (to_prune p) (file_at files)) (λ files h. prune_keeps p i files c.in_ok-outputs.ensures.reads_back h) c.in_ok-inputs.ensures.read.ok;
+        counted = c.in_ok-inputs.ensures.read.counted;
       };
       stopped = tt;
     }
 
 pub returns-in_err-inputs : goal.returns-in_err-inputs
 returns-in_err-inputs g c =
+    let s0 = g.F.Files.shown c.args.files.now in
+    let s1 = g.F.Files.shown c.read_prune.new.files in
     let p : PruneRequest = record { dict = c.args.dict.now; patterns = c.args.patterns.now; output = c.args.output.now; translate = c.args.translate.now; report = c.args.report.now } in
-    let err = err_from_is_err_and c.from_residual.result c.from_residual.ensures.1 in
-    record {
-      only = c.read_prune.ensures.only;
-      made = rw err.1 tt;
-      stopped = rw (err.1, err.2) (stops_reading (to_prune p) (g.F.Files.shown c.args.files.now) (g.F.Files.shown c.read_prune.new.files) c.in_err-inputs.field-0.0 c.in_err-inputs.ensures.stopped);
-    }
+    building_stopped (to_prune p) s0 s1 c.from_residual.result c.in_err-inputs.field-0.0 c.from_residual.ensures.1 c.read_prune.ensures.read.only
+    (stops_reading (to_prune p) s0 s1 c.in_err-inputs.field-0.0 c.in_err-inputs.ensures.read.stopped)
 
 pub returns-in_err-outputs : goal.returns-in_err-outputs
 returns-in_err-outputs g c =
@@ -48,10 +46,6 @@ returns-in_err-outputs g c =
     let i = c.in_ok-inputs.inputs in
     let s0 = g.F.Files.shown c.args.files.now in
     let s1 = g.F.Files.shown c.read_prune.new.files in
-    let accepted = mapped s1.held (λ files. HasPrune (file_at files) p.translate p.patterns p.dict i) (λ files. AreAccepted (file_at files) (reads_of (to_prune p))) (prune_accepted p i) c.in_ok-inputs.ensures.ok in
-    let err = err_from_is_err_and c.from_residual-in_err-outputs.result c.from_residual-in_err-outputs.ensures.1 in
-    record {
-      only = c.read_prune.ensures.only;
-      made = rw err.1 tt;
-      stopped = rw (err.1, err.2) (stops_reading (to_prune p) s0 s1 Memory (wanted_after (reads_of (to_prune p)) s0 s1 (omega arith) c.in_ok-inputs.ensures.counted accepted));
-    }
+    let accepted = mapped s1.held (λ files. HasPrune (file_at files) p.translate p.patterns p.dict i) (λ files. AreAccepted (file_at files) (reads_of (to_prune p))) (prune_accepted p i) c.in_ok-inputs.ensures.read.ok in
+    building_stopped (to_prune p) s0 s1 c.from_residual-in_err-outputs.result Memory c.from_residual-in_err-outputs.ensures.1 c.read_prune.ensures.read.only
+    (stops_reading (to_prune p) s0 s1 Memory (wanted_after (reads_of (to_prune p)) s0 s1 (omega arith) c.in_ok-inputs.ensures.read.counted accepted))

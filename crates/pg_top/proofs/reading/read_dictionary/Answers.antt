@@ -1,12 +1,11 @@
 use Rattle.std.proofs.Common.{◌+◌, subst}
-use Rattle.std.proofs.lemmas.Result.{err_from_is_err_and}
+use Rattle.std.proofs.lemmas.Result.{IfOk-from_err}
 use Rattle.pg_types.specs.Inside.Answers.{Gives}
 use Rattle.pg_dict.specs.Words.{words}
 use Rattle.pg_dict.specs.Inside.SoundWords.{SignsAtMost}
 use Rattle.pg_translate.specs.Alphabets.{letters_of}
 use Rattle.pg_top.specs.declared.inputs.Input.TheVariants.{Dictionary}
-use Rattle.pg_top.specs.Readings.{input_file}
-use Rattle.pg_top.proofs.Fronts.{accepted_ok, accepted_stopped, accepted_known, words-front, front_stop}
+use Rattle.pg_top.proofs.Fronts.{words-front, input_read, input_known, input_stopped}
 use Rattle.pg_top.proofs.reading.read_dictionary.Goals as goal
 
 pub returns : goal.returns
@@ -15,20 +14,15 @@ returns g c =
     let s0 = g.F.Files.shown c.args.files.now in
     let s1 = g.F.Files.shown c.read_front.new.files in
     record {
-      only = c.read_front.ensures.only;
-      calls = c.read_front.ensures.calls;
-      ok = rw c.accepted.ensures (accepted_ok (words c.args.table.now) (words-front c.args.table.now) Dictionary c.args.name.now c.in_ok-bytes.bytes.items s0 s1 c.in_ok-bytes.ensures.front c.read-read.result gives);
-      signs = rw c.accepted.ensures (accepted_known Dictionary c.read-read.result (SignsAtMost (letters_of c.args.table.now + 1)) c.read-read.ensures.signs);
-      stopped = rw c.accepted.ensures (accepted_stopped (words c.args.table.now) (words-front c.args.table.now) Dictionary c.args.name.now c.in_ok-bytes.bytes.items s0 s1 c.in_ok-bytes.ensures.front c.read-read.result gives);
+      read = input_read (words c.args.table.now) (words-front c.args.table.now) Dictionary c.args.name.now c.in_ok-bytes.bytes.items s0 s1 c.in_ok-bytes.ensures.front c.read-read.result c.accepted.result c.accepted.ensures c.read_front.ensures.only c.read_front.ensures.calls gives;
+      signs = input_known Dictionary c.read-read.result c.accepted.result (SignsAtMost (letters_of c.args.table.now + 1)) c.accepted.ensures c.read-read.ensures.signs;
     }
 
 pub returns-in_err-bytes : goal.returns-in_err-bytes
 returns-in_err-bytes g c =
-    let err = err_from_is_err_and c.from_residual.result c.from_residual.ensures.1 in
+    let s0 = g.F.Files.shown c.args.files.now in
+    let s1 = g.F.Files.shown c.read_front.new.files in
     record {
-      only = c.read_front.ensures.only;
-      calls = c.read_front.ensures.calls;
-      ok = rw err.1 tt;
-      signs = rw err.1 tt;
-      stopped = rw (err.1, err.2) (front_stop (input_file Dictionary c.args.name.now (λ _. words c.args.table.now)) (g.F.Files.shown c.args.files.now) (g.F.Files.shown c.read_front.new.files) c.in_err-bytes.field-0.0 c.in_err-bytes.ensures.stopped);
+      read = input_stopped (words c.args.table.now) Dictionary c.args.name.now s0 s1 c.from_residual.result c.in_err-bytes.field-0.0 c.from_residual.ensures.1 c.read_front.ensures.only c.read_front.ensures.calls c.in_err-bytes.ensures.stopped;
+      signs = IfOk-from_err c.from_residual.result _ c.from_residual.ensures.0;
     }

@@ -1,9 +1,7 @@
 use Rattle.std.proofs.Common.{subst}
-use Rattle.std.proofs.lemmas.Result.{err_from_is_err_and}
 use Rattle.pg_types.specs.Inside.Answers.{Gives}
 use Rattle.pg_types.specs.Parameters.{parameters}
-use Rattle.pg_top.specs.Readings.{input_file}
-use Rattle.pg_top.proofs.Fronts.{accepted_ok, accepted_stopped, parameters-front, front_stop}
+use Rattle.pg_top.proofs.Fronts.{parameters-front, input_read, input_stopped}
 use Rattle.pg_top.proofs.reading.read_parameters.Goals as goal
 
 pub returns : goal.returns
@@ -11,19 +9,10 @@ returns g c =
     let gives = subst (λ bytes. Gives (λ read. read) c.read_params-read.result (parameters bytes)) c.deref.ensures.value c.read_params-read.ensures in
     let s0 = g.F.Files.shown c.args.files.now in
     let s1 = g.F.Files.shown c.read_front.new.files in
-    record {
-      only = c.read_front.ensures.only;
-      calls = c.read_front.ensures.calls;
-      ok = rw c.accepted.ensures (accepted_ok (parameters) parameters-front c.args.input c.args.name.now c.in_ok-bytes.bytes.items s0 s1 c.in_ok-bytes.ensures.front c.read_params-read.result gives);
-      stopped = rw c.accepted.ensures (accepted_stopped (parameters) parameters-front c.args.input c.args.name.now c.in_ok-bytes.bytes.items s0 s1 c.in_ok-bytes.ensures.front c.read_params-read.result gives);
-    }
+    input_read parameters parameters-front c.args.input c.args.name.now c.in_ok-bytes.bytes.items s0 s1 c.in_ok-bytes.ensures.front c.read_params-read.result c.accepted.result c.accepted.ensures c.read_front.ensures.only c.read_front.ensures.calls gives
 
 pub returns-in_err-bytes : goal.returns-in_err-bytes
 returns-in_err-bytes g c =
-    let err = err_from_is_err_and c.from_residual.result c.from_residual.ensures.1 in
-    record {
-      only = c.read_front.ensures.only;
-      calls = c.read_front.ensures.calls;
-      ok = rw err.1 tt;
-      stopped = rw (err.1, err.2) (front_stop (input_file c.args.input c.args.name.now (λ _. parameters)) (g.F.Files.shown c.args.files.now) (g.F.Files.shown c.read_front.new.files) c.in_err-bytes.field-0.0 c.in_err-bytes.ensures.stopped);
-    }
+    let s0 = g.F.Files.shown c.args.files.now in
+    let s1 = g.F.Files.shown c.read_front.new.files in
+    input_stopped parameters c.args.input c.args.name.now s0 s1 c.from_residual.result c.in_err-bytes.field-0.0 c.from_residual.ensures.1 c.read_front.ensures.only c.read_front.ensures.calls c.in_err-bytes.ensures.stopped

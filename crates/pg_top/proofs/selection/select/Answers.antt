@@ -25,11 +25,12 @@ returns g c =
     let m : Meaning = g.E.Engine.meaning c.args.engine.now in
     let greatest = c.generate.ensures.signs ∙ ap (λ (m : Meaning). m.signs) c.requires.new in
     record {
-      patterns = c.in_ok-run.ensures.patterns ∙ patterns_selected i m c.requires.new;
-      account = c.in_ok-run.ensures.account ∙ account_selected i m c.requires.new;
-      begun = c.in_ok-run.ensures.begun ∙ begun_selected i m c.requires.new;
+      told = record {
+        patterns = c.in_ok-run.ensures.patterns ∙ patterns_selected i m c.requires.new;
+        signs = subst (λ P. SignsUpTo (signs_of i) P) c.in_ok-run.ensures.kept (subst (λ n. SignsUpTo n (g.E.Engine.meaning c.generate.new.engine).patterns) greatest c.kept.ensures.pattern_signs);
+        account = c.in_ok-run.ensures.account ∙ account_selected i m c.requires.new;
+        begun = c.in_ok-run.ensures.begun ∙ begun_selected i m c.requires.new;
+      };
       cells = subst (λ told. TellsCells told c.in_ok-run.run') (cells_selected i m c.requires.new) c.in_ok-run.ensures.cells;
-      kept = c.in_ok-run.ensures.kept;
-      greatest = greatest;
-      pattern_signs = subst (λ P. SignsUpTo (signs_of i) P) c.in_ok-run.ensures.kept (subst (λ n. SignsUpTo n (g.E.Engine.meaning c.generate.new.engine).patterns) greatest c.kept.ensures.pattern_signs);
+      engine = record { signs = greatest; patterns = c.in_ok-run.ensures.kept ∙ c.in_ok-run.ensures.patterns ∙ patterns_selected i m c.requires.new };
     }

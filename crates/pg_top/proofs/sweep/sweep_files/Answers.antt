@@ -1,5 +1,4 @@
 use Rattle.std.proofs.Common.{◌≡◌, ◌∙◌, ◌≤◌, length, sym, subst, arith}
-use Rattle.std.proofs.lemmas.Result.{err_from_is_err_and}
 use Rattle.std.specs.Prelude.{string_bytes}
 use Rattle.std.proofs.lemmas.List.{length-map}
 use Rattle.pg_outside.specs.Content.{file_at}
@@ -14,6 +13,7 @@ use Rattle.pg_top.specs.Inside.WritesMade.{writing_of}
 use Rattle.pg_top.specs.declared.answers.Status.TheVariants.{Done}
 use Rattle.pg_top.specs.declared.inputs.Stop.TheVariants.{Memory}
 use Rattle.pg_top.proofs.Calls.{stops_reading}
+use Rattle.pg_top.proofs.ReadsStopped.{building_stopped}
 use Rattle.pg_top.proofs.Orders.{AreAccepted, accepted_all, mapped, wanted_after}
 use Rattle.pg_top.proofs.sweep.SweepTexts.{sweep_names}
 use Rattle.pg_top.proofs.sweep.SweepOrder.{sweep_accepted, sweep_outcome}
@@ -28,27 +28,26 @@ returns g c =
     let s1 = g.F.Files.shown c.read_sweep.new.files in
     let some : 1 ≤ length s.params = subst (λ n. 1 ≤ n) (sym (length-map c.args.words.now.params.now string_bytes)) c.requires.params.0 in
     record {
-      only = c.read_sweep.ensures.only;
+      only = c.read_sweep.ensures.read.only;
       made = record {
         comes = mapped s1.held (λ files. HasSweep (file_at files) s terms sets)
             (λ files. outcome_of (file_at files) (ToSweep s) ≡ Ends Done (writing_of made.files.items) made.lines.items)
-            (λ files h. sweep_outcome s terms sets files h ∙ c.in_ok-outputs.ensures.made) c.in_ok-inputs.ensures.ok;
+            (λ files h. sweep_outcome s terms sets files h ∙ c.in_ok-outputs.ensures.made) c.in_ok-inputs.ensures.read.ok;
         named = c.in_ok-outputs.ensures.named;
         keeps = mapped s1.held (λ files. HasSweep (file_at files) s terms sets) (λ files. Keeps (ToSweep s) (file_at files))
-            (λ files h. sweep_names s (file_at files) (accepted_all (file_at files) (reads_of (ToSweep s)) (sweep_accepted s terms sets files h)) some) c.in_ok-inputs.ensures.ok;
-        counted = c.in_ok-inputs.ensures.counted;
+            (λ files h. sweep_names s (file_at files) (accepted_all (file_at files) (reads_of (ToSweep s)) (sweep_accepted s terms sets files h)) some) c.in_ok-inputs.ensures.read.ok;
+        counted = c.in_ok-inputs.ensures.read.counted;
       };
       stopped = tt;
     }
 
 pub returns-in_err-inputs : goal.returns-in_err-inputs
 returns-in_err-inputs g c =
-    let err = err_from_is_err_and c.from_residual.result c.from_residual.ensures.1 in
-    record {
-      only = c.read_sweep.ensures.only;
-      made = rw err.1 tt;
-      stopped = rw (err.1, err.2) (stops_reading (ToSweep (sweep_of c.args.words.now)) (g.F.Files.shown c.args.files.now) (g.F.Files.shown c.read_sweep.new.files) c.in_err-inputs.field-0.0 c.in_err-inputs.ensures.stopped);
-    }
+    let s = sweep_of c.args.words.now in
+    let s0 = g.F.Files.shown c.args.files.now in
+    let s1 = g.F.Files.shown c.read_sweep.new.files in
+    building_stopped (ToSweep s) s0 s1 c.from_residual.result c.in_err-inputs.field-0.0 c.from_residual.ensures.1 c.read_sweep.ensures.read.only
+    (stops_reading (ToSweep s) s0 s1 c.in_err-inputs.field-0.0 c.in_err-inputs.ensures.read.stopped)
 
 pub returns-in_err-outputs : goal.returns-in_err-outputs
 returns-in_err-outputs g c =
@@ -57,10 +56,6 @@ returns-in_err-outputs g c =
     let sets = c.in_ok-inputs.inputs.sets.items in
     let s0 = g.F.Files.shown c.args.files.now in
     let s1 = g.F.Files.shown c.read_sweep.new.files in
-    let accepted = mapped s1.held (λ files. HasSweep (file_at files) s terms sets) (λ files. AreAccepted (file_at files) (reads_of (ToSweep s))) (sweep_accepted s terms sets) c.in_ok-inputs.ensures.ok in
-    let err = err_from_is_err_and c.from_residual-in_err-outputs.result c.from_residual-in_err-outputs.ensures.1 in
-    record {
-      only = c.read_sweep.ensures.only;
-      made = rw err.1 tt;
-      stopped = rw (err.1, err.2) (stops_reading (ToSweep s) s0 s1 Memory (wanted_after (reads_of (ToSweep s)) s0 s1 (omega arith) c.in_ok-inputs.ensures.counted accepted));
-    }
+    let accepted = mapped s1.held (λ files. HasSweep (file_at files) s terms sets) (λ files. AreAccepted (file_at files) (reads_of (ToSweep s))) (sweep_accepted s terms sets) c.in_ok-inputs.ensures.read.ok in
+    building_stopped (ToSweep s) s0 s1 c.from_residual-in_err-outputs.result Memory c.from_residual-in_err-outputs.ensures.1 c.read_sweep.ensures.read.only
+    (stops_reading (ToSweep s) s0 s1 Memory (wanted_after (reads_of (ToSweep s)) s0 s1 (omega arith) c.in_ok-inputs.ensures.read.counted accepted))

@@ -1,31 +1,30 @@
-use Rattle.std.proofs.Common.{arith, refl}
 use Rattle.pg_top.proofs.Built.{built_run, sample_run}
 use Rattle.pg_top.proofs.top.perform.Goals as goal
 
 pub returns-in-Generate : goal.returns-in-Generate
 returns-in-Generate g c =
     rw c.in-Generate.is (built_run _ c.generate_files-built.result c.args.files.now c.end.new.files (g.F.Files.shown c.args.files.now) (g.F.Files.shown c.generate_files-built.new.files) (g.F.Files.shown c.end.new.files) (g.O.Sink.shown c.args.out.now) (g.O.Sink.shown c.end.new.out) c.end.result
-    (0, omega arith, refl) (1, omega arith, refl) (λ none. cc) tt c.generate_files-built.ensures.only c.generate_files-built.ensures.made c.generate_files-built.ensures.stopped c.end.ensures)
+    tt c.generate_files-built.ensures c.end.ensures)
 
 pub returns-in-Pack : goal.returns-in-Pack
 returns-in-Pack g c =
     rw c.in-Pack.is (built_run _ c.pack_files-built.result c.args.files.now c.end-in-Pack.new.files (g.F.Files.shown c.args.files.now) (g.F.Files.shown c.pack_files-built.new.files) (g.F.Files.shown c.end-in-Pack.new.files) (g.O.Sink.shown c.args.out.now) (g.O.Sink.shown c.end-in-Pack.new.out) c.end-in-Pack.result
-    (0, omega arith, refl) (1, omega arith, refl) (λ none. cc) tt c.pack_files-built.ensures.only c.pack_files-built.ensures.made c.pack_files-built.ensures.stopped c.end-in-Pack.ensures)
+    tt c.pack_files-built.ensures c.end-in-Pack.ensures)
 
 pub returns-in-Totals : goal.returns-in-Totals
 returns-in-Totals g c =
     rw c.in-Totals.is (built_run _ c.total_files-built.result c.args.files.now c.end-in-Totals.new.files (g.F.Files.shown c.args.files.now) (g.F.Files.shown c.total_files-built.new.files) (g.F.Files.shown c.end-in-Totals.new.files) (g.O.Sink.shown c.args.out.now) (g.O.Sink.shown c.end-in-Totals.new.out) c.end-in-Totals.result
-    (0, omega arith, refl) (1, omega arith, refl) (λ none. cc) tt c.total_files-built.ensures.only c.total_files-built.ensures.made c.total_files-built.ensures.stopped c.end-in-Totals.ensures)
+    tt c.total_files-built.ensures c.end-in-Totals.ensures)
 
 pub returns-in-Prune : goal.returns-in-Prune
 returns-in-Prune g c =
     rw c.in-Prune.is (built_run _ c.prune_files-built.result c.args.files.now c.end-in-Prune.new.files (g.F.Files.shown c.args.files.now) (g.F.Files.shown c.prune_files-built.new.files) (g.F.Files.shown c.end-in-Prune.new.files) (g.O.Sink.shown c.args.out.now) (g.O.Sink.shown c.end-in-Prune.new.out) c.end-in-Prune.result
-    (0, omega arith, refl) (1, omega arith, refl) (λ none. cc) tt c.prune_files-built.ensures.only c.prune_files-built.ensures.made c.prune_files-built.ensures.stopped c.end-in-Prune.ensures)
+    tt c.prune_files-built.ensures c.end-in-Prune.ensures)
 
 pub returns-in-Sweep : goal.returns-in-Sweep
 returns-in-Sweep g c =
     rw c.in-Sweep.is (built_run _ c.sweep_files-built.result c.args.files.now c.end-in-Sweep.new.files (g.F.Files.shown c.args.files.now) (g.F.Files.shown c.sweep_files-built.new.files) (g.F.Files.shown c.end-in-Sweep.new.files) (g.O.Sink.shown c.args.out.now) (g.O.Sink.shown c.end-in-Sweep.new.out) c.end-in-Sweep.result
-    (0, omega arith, refl) (1, omega arith, refl) (λ none. cc) tt c.sweep_files-built.ensures.only c.sweep_files-built.ensures.made c.sweep_files-built.ensures.stopped c.end-in-Sweep.ensures)
+    tt c.sweep_files-built.ensures c.end-in-Sweep.ensures)
 
 pub returns-in-Audit : goal.returns-in-Audit
 returns-in-Audit g c = rw c.in-Audit.is (record { call = c.audit.ensures.call; sampled = tt; counted = c.audit.ensures.counted; promised = tt; same = λ none. cc })

@@ -1,5 +1,4 @@
 use Rattle.std.proofs.Common.{◌≡◌, List, ◌∷◌, [], IfSome, ap, sym, subst}
-use Rattle.std.proofs.lemmas.Result.{err_from_is_err_and}
 use Rattle.pg_dict.specs.Words.{words}
 use Rattle.pg_outside.specs.Content.{FilesShown, file_at}
 use Rattle.pg_outside.specs.FilesCalls.{Reads}
@@ -16,6 +15,7 @@ use Rattle.pg_top.specs.totals.Totalled.{packed_table}
 use Rattle.pg_top.specs.totals.Inside.Inputs.{TotalsRequest, to_totals}
 use Rattle.pg_top.specs.declared.inputs.Input.TheVariants as input
 use Rattle.pg_top.proofs.Calls.{stops_reading}
+use Rattle.pg_top.proofs.ReadsStopped.{building_stopped}
 use Rattle.pg_top.proofs.CountedCalls.{calls_on}
 use Rattle.pg_top.proofs.Faults.{none_fell}
 use Rattle.pg_top.proofs.Orders.{mapped, only_on}
@@ -32,12 +32,12 @@ returns g c =
     let s0 : FilesShown = g.F.Files.shown c.args.files.now in
     let s1 : FilesShown = g.F.Files.shown c.read_table.new.files in
     let s2 : FilesShown = g.F.Files.shown c.read_dictionary.new.files in
-    let two_only = only_on s0 s1 s2 c.read_table.ensures.only c.read_dictionary.ensures.only in
-    let two_calls = calls_on (Reads t ∷ []) (Reads d ∷ []) s0 s1 s2 c.read_table.ensures.calls c.read_dictionary.ensures.calls in
+    let two_only = only_on s0 s1 s2 c.read_table.ensures.only c.read_dictionary.ensures.read.only in
+    let two_calls = calls_on (Reads t ∷ []) (Reads d ∷ []) s0 s1 s2 c.read_table.ensures.calls c.read_dictionary.ensures.read.calls in
     let letters = c.in_ok-letters.letters in
     let s3 : FilesShown = g.F.Files.shown c.total_by-lines.new.files in
     let ws = c.in_ok-dictionary.dictionary in
-    let two : IfSome s2.held (HasWords p letters ws) = words_read p letters ws s1.held s2.held c.read_dictionary.ensures.only.held c.in_ok-letters.ensures.ok c.in_ok-dictionary.ensures.ok in
+    let two : IfSome s2.held (HasWords p letters ws) = words_read p letters ws s1.held s2.held c.read_dictionary.ensures.read.only.held c.in_ok-letters.ensures.ok c.in_ok-dictionary.ensures.read.ok in
     let all_calls = calls_on (Reads t ∷ Reads d ∷ []) (Reads n ∷ []) s0 s2 s3 two_calls c.total_by-lines.ensures.calls in
     let told = totals_told p letters ws c.in_ok-lines.lines.items s2.held s3.held c.total_by-lines.ensures.only.held two c.in_ok-lines.ensures.ok in
     record {
@@ -60,12 +60,8 @@ returns-in_err-letters g c =
     let s0 : FilesShown = g.F.Files.shown c.args.files.now in
     let s1 : FilesShown = g.F.Files.shown c.read_table.new.files in
     let reading = stopped_first (input_file input.Translate t (λ _. table)) (file_under t input.Dictionary d words ∷ file_under t input.Table n packed_table ∷ []) s0 s1 c.in_err-letters.field-0.0 c.read_table.ensures.calls c.in_err-letters.ensures.stopped in
-    let err = err_from_is_err_and c.from_residual.result c.from_residual.ensures.1 in
-    record {
-      only = c.read_table.ensures.only;
-      made = rw err.1 tt;
-      stopped = rw (err.1, err.2) (stops_reading (to_totals p) s0 s1 c.in_err-letters.field-0.0 reading);
-    }
+    building_stopped (to_totals p) s0 s1 c.from_residual.result c.in_err-letters.field-0.0 c.from_residual.ensures.1 c.read_table.ensures.only
+    (stops_reading (to_totals p) s0 s1 c.in_err-letters.field-0.0 reading)
 
 pub returns-in_err-dictionary : goal.returns-in_err-dictionary
 returns-in_err-dictionary g c =
@@ -76,16 +72,12 @@ returns-in_err-dictionary g c =
     let s0 : FilesShown = g.F.Files.shown c.args.files.now in
     let s1 : FilesShown = g.F.Files.shown c.read_table.new.files in
     let s2 : FilesShown = g.F.Files.shown c.read_dictionary.new.files in
-    let two_only = only_on s0 s1 s2 c.read_table.ensures.only c.read_dictionary.ensures.only in
-    let two_calls = calls_on (Reads t ∷ []) (Reads d ∷ []) s0 s1 s2 c.read_table.ensures.calls c.read_dictionary.ensures.calls in
+    let two_only = only_on s0 s1 s2 c.read_table.ensures.only c.read_dictionary.ensures.read.only in
+    let two_calls = calls_on (Reads t ∷ []) (Reads d ∷ []) s0 s1 s2 c.read_table.ensures.calls c.read_dictionary.ensures.read.calls in
     let letters = c.in_ok-letters.letters in
-    let reading = stopped_second t letters words input.Dictionary d (file_under t input.Table n packed_table ∷ []) s0 s1 s2 c.in_err-dictionary.field-0.0 c.read_table.ensures.only.reads two_calls c.read_dictionary.ensures.only.held c.in_ok-letters.ensures.ok c.in_err-dictionary.ensures.stopped in
-    let err = err_from_is_err_and c.from_residual-in_err-dictionary.result c.from_residual-in_err-dictionary.ensures.1 in
-    record {
-      only = two_only;
-      made = rw err.1 tt;
-      stopped = rw (err.1, err.2) (stops_reading (to_totals p) s0 s2 c.in_err-dictionary.field-0.0 reading);
-    }
+    let reading = stopped_second t letters words input.Dictionary d (file_under t input.Table n packed_table ∷ []) s0 s1 s2 c.in_err-dictionary.field-0.0 c.read_table.ensures.only.reads two_calls c.read_dictionary.ensures.read.only.held c.in_ok-letters.ensures.ok c.in_err-dictionary.ensures.read.stopped in
+    building_stopped (to_totals p) s0 s2 c.from_residual-in_err-dictionary.result c.in_err-dictionary.field-0.0 c.from_residual-in_err-dictionary.ensures.1 two_only
+    (stops_reading (to_totals p) s0 s2 c.in_err-dictionary.field-0.0 reading)
 
 pub returns-in_err-lines : goal.returns-in_err-lines
 returns-in_err-lines g c =
@@ -96,17 +88,13 @@ returns-in_err-lines g c =
     let s0 : FilesShown = g.F.Files.shown c.args.files.now in
     let s1 : FilesShown = g.F.Files.shown c.read_table.new.files in
     let s2 : FilesShown = g.F.Files.shown c.read_dictionary.new.files in
-    let two_only = only_on s0 s1 s2 c.read_table.ensures.only c.read_dictionary.ensures.only in
-    let two_calls = calls_on (Reads t ∷ []) (Reads d ∷ []) s0 s1 s2 c.read_table.ensures.calls c.read_dictionary.ensures.calls in
+    let two_only = only_on s0 s1 s2 c.read_table.ensures.only c.read_dictionary.ensures.read.only in
+    let two_calls = calls_on (Reads t ∷ []) (Reads d ∷ []) s0 s1 s2 c.read_table.ensures.calls c.read_dictionary.ensures.read.calls in
     let letters = c.in_ok-letters.letters in
     let s3 : FilesShown = g.F.Files.shown c.total_by-lines.new.files in
     let ws = c.in_ok-dictionary.dictionary in
-    let two : IfSome s2.held (HasWords p letters ws) = words_read p letters ws s1.held s2.held c.read_dictionary.ensures.only.held c.in_ok-letters.ensures.ok c.in_ok-dictionary.ensures.ok in
+    let two : IfSome s2.held (HasWords p letters ws) = words_read p letters ws s1.held s2.held c.read_dictionary.ensures.read.only.held c.in_ok-letters.ensures.ok c.in_ok-dictionary.ensures.read.ok in
     let all_calls = calls_on (Reads t ∷ Reads d ∷ []) (Reads n ∷ []) s0 s2 s3 two_calls c.total_by-lines.ensures.calls in
-    let reading = stopped_table p letters ws s0 s2 s3 c.in_err-lines.field-0.0 (none_fell s0.read_faults s1.read_faults s2.read_faults c.read_table.ensures.only.reads c.read_dictionary.ensures.only.reads) all_calls c.total_by-lines.ensures.only.held two c.in_err-lines.ensures.stopped in
-    let err = err_from_is_err_and c.from_residual-in_err-lines.result c.from_residual-in_err-lines.ensures.1 in
-    record {
-      only = only_on s0 s2 s3 two_only c.total_by-lines.ensures.only;
-      made = rw err.1 tt;
-      stopped = rw (err.1, err.2) (stops_reading (to_totals p) s0 s3 c.in_err-lines.field-0.0 reading);
-    }
+    let reading = stopped_table p letters ws s0 s2 s3 c.in_err-lines.field-0.0 (none_fell s0.read_faults s1.read_faults s2.read_faults c.read_table.ensures.only.reads c.read_dictionary.ensures.read.only.reads) all_calls c.total_by-lines.ensures.only.held two c.in_err-lines.ensures.stopped in
+    building_stopped (to_totals p) s0 s3 c.from_residual-in_err-lines.result c.in_err-lines.field-0.0 c.from_residual-in_err-lines.ensures.1 (only_on s0 s2 s3 two_only c.total_by-lines.ensures.only)
+    (stops_reading (to_totals p) s0 s3 c.in_err-lines.field-0.0 reading)

@@ -9,7 +9,7 @@ use Rattle.pg_top.proofs.generate.outputs.make_lines.Goals as goal
 pub returns : goal.returns
 returns c =
     let i = c.args.inputs.now in
-    let totals = c.totals.ensures.value ∙ ap (λ (a : Account). a.totals) c.requires.account ∙ totals_selected i in
+    let totals = c.totals.ensures.value ∙ ap (λ (a : Account). a.totals) c.requires.told.account ∙ totals_selected i in
     let done : c.in_ok-lines.lines.items ≡ done_line (selected_text i) (selected_totals i) = c.in_ok-lines.ensures ∙ (λ k. done_line (c.requires.text k) (totals k)) in
     c.in_ok-push_end.ensures
     ∙ ap (λ line. line ++ work_line (passes_begun i) (last_layout (selected_cells i))) done

@@ -1,5 +1,5 @@
 use Rattle.std.proofs.Common.{◌∷◌, []}
-use Rattle.std.proofs.lemmas.Result.{err_from_is_err_and}
+use Rattle.std.proofs.lemmas.Result.{IfOk-from_err}
 use Rattle.pg_patterns.specs.Starts.{start}
 use Rattle.pg_outside.specs.Content.{FilesShown}
 use Rattle.pg_outside.specs.FilesCalls.{Reads}
@@ -11,62 +11,57 @@ use Rattle.pg_top.proofs.CountedCalls.{calls_on}
 use Rattle.pg_top.proofs.pack.PackOrder.{source_read}
 use Rattle.pg_top.proofs.UnderTable.{stopped_first, stopped_second}
 use Rattle.pg_top.proofs.Orders.{only_on}
+use Rattle.pg_top.proofs.ReadsStopped.{files_stopped}
 use Rattle.pg_top.proofs.pack.inputs.read_source.Goals as goal
 
-pub returns-clause-ok : goal.returns-clause-ok
-returns-clause-ok g c =
-    source_read (record { patterns = c.args.patterns.now; translate = c.args.translate.now; table = [] }) c.in_ok-table.table c.in_ok-patterns.patterns (g.F.Files.shown c.read_table.new.files).held (g.F.Files.shown c.read_start.new.files).held c.read_start.ensures.only.held c.in_ok-table.ensures.ok c.in_ok-patterns.ensures.ok
+pub returns-in_err-table : goal.returns-in_err-table
+returns-in_err-table g c =
+    let s0 : FilesShown = g.F.Files.shown c.args.files.now in
+    let s1 : FilesShown = g.F.Files.shown c.read_table.new.files in
+    let t = c.args.translate.now in
+    let P = c.args.patterns.now in
+    let first = c.read_table.ensures in
+    let r = c.from_residual.result in
+    let is = c.from_residual.ensures.1 in
+    record {
+      read = files_stopped _ s0 s1 r _ c.in_err-table.field-0.0 is first.only
+          (stopped_first (input_file Translate t (λ _. table)) (file_under t Patterns P start ∷ []) s0 s1 c.in_err-table.field-0.0 first.calls c.in_err-table.ensures.stopped);
+      known = IfOk-from_err r _ c.from_residual.ensures.0;
+    }
 
-pub returns-in_err-table-clause-stopped : goal.returns-in_err-table-clause-stopped
-returns-in_err-table-clause-stopped g c =
-    let err = err_from_is_err_and c.from_residual.result c.from_residual.ensures.1 in
-    rw (err.1, err.2) (stopped_first (input_file Translate c.args.translate.now (λ _. table)) (file_under c.args.translate.now Patterns c.args.patterns.now start ∷ []) (g.F.Files.shown c.args.files.now) (g.F.Files.shown c.read_table.new.files) c.in_err-table.field-0.0 c.read_table.ensures.calls c.in_err-table.ensures.stopped)
-
-pub returns-in_err-patterns-clause-stopped : goal.returns-in_err-patterns-clause-stopped
-returns-in_err-patterns-clause-stopped g c =
-    let err = err_from_is_err_and c.from_residual-in_err-patterns.result c.from_residual-in_err-patterns.ensures.1 in
-    rw (err.1, err.2) (stopped_second c.args.translate.now c.in_ok-table.table start Patterns c.args.patterns.now [] (g.F.Files.shown c.args.files.now) (g.F.Files.shown c.read_table.new.files) (g.F.Files.shown c.read_start.new.files) c.in_err-patterns.field-0.0 c.read_table.ensures.only.reads (calls_on (Reads c.args.translate.now ∷ []) (Reads c.args.patterns.now ∷ []) (g.F.Files.shown c.args.files.now) (g.F.Files.shown c.read_table.new.files) (g.F.Files.shown c.read_start.new.files) c.read_table.ensures.calls c.read_start.ensures.calls) c.read_start.ensures.only.held c.in_ok-table.ensures.ok c.in_err-patterns.ensures.stopped)
-
-pub returns-clause-counted : goal.returns-clause-counted
-returns-clause-counted g c = calls_on (Reads c.args.translate.now ∷ []) (Reads c.args.patterns.now ∷ []) (g.F.Files.shown c.args.files.now) (g.F.Files.shown c.read_table.new.files) (g.F.Files.shown c.read_start.new.files) c.read_table.ensures.calls c.read_start.ensures.calls
-
-pub returns-in_err-patterns-clause-only : goal.returns-in_err-patterns-clause-only
-returns-in_err-patterns-clause-only g c =
+pub returns-in_err-patterns : goal.returns-in_err-patterns
+returns-in_err-patterns g c =
     let s0 : FilesShown = g.F.Files.shown c.args.files.now in
     let s1 : FilesShown = g.F.Files.shown c.read_table.new.files in
     let s2 : FilesShown = g.F.Files.shown c.read_start.new.files in
-    only_on s0 s1 s2 c.read_table.ensures.only c.read_start.ensures.only
+    let t = c.args.translate.now in
+    let P = c.args.patterns.now in
+    let first = c.read_table.ensures in
+    let then = c.read_start.ensures.read in
+    let calls = calls_on (Reads t ∷ []) (Reads P ∷ []) s0 s1 s2 first.calls then.calls in
+    let r = c.from_residual-in_err-patterns.result in
+    let is = c.from_residual-in_err-patterns.ensures.1 in
+    record {
+      read = files_stopped _ s0 s2 r _ c.in_err-patterns.field-0.0 is (only_on s0 s1 s2 first.only then.only)
+          (stopped_second t c.in_ok-table.table start Patterns P [] s0 s1 s2 c.in_err-patterns.field-0.0 first.only.reads calls then.only.held c.in_ok-table.ensures.ok c.in_err-patterns.ensures.read.stopped);
+      known = IfOk-from_err r _ c.from_residual-in_err-patterns.ensures.0;
+    }
 
-pub returns-clause-only : goal.returns-clause-only
-returns-clause-only g c =
+pub returns : goal.returns
+returns g c =
     let s0 : FilesShown = g.F.Files.shown c.args.files.now in
     let s1 : FilesShown = g.F.Files.shown c.read_table.new.files in
     let s2 : FilesShown = g.F.Files.shown c.read_start.new.files in
-    only_on s0 s1 s2 c.read_table.ensures.only c.read_start.ensures.only
-
-pub returns-in_err-table-clause-ok : goal.returns-in_err-table-clause-ok
-returns-in_err-table-clause-ok g c = rw (err_from_is_err_and c.from_residual.result c.from_residual.ensures.1).1 tt
-
-pub returns-in_err-table-clause-known : goal.returns-in_err-table-clause-known
-returns-in_err-table-clause-known g c = rw (err_from_is_err_and c.from_residual.result c.from_residual.ensures.1).1 tt
-
-pub returns-in_err-table-clause-counted : goal.returns-in_err-table-clause-counted
-returns-in_err-table-clause-counted g c = rw (err_from_is_err_and c.from_residual.result c.from_residual.ensures.1).1 tt
-
-pub returns-in_err-table-clause-only : goal.returns-in_err-table-clause-only
-returns-in_err-table-clause-only g c = c.read_table.ensures.only
-
-pub returns-in_err-patterns-clause-ok : goal.returns-in_err-patterns-clause-ok
-returns-in_err-patterns-clause-ok g c = rw (err_from_is_err_and c.from_residual-in_err-patterns.result c.from_residual-in_err-patterns.ensures.1).1 tt
-
-pub returns-in_err-patterns-clause-known : goal.returns-in_err-patterns-clause-known
-returns-in_err-patterns-clause-known g c = rw (err_from_is_err_and c.from_residual-in_err-patterns.result c.from_residual-in_err-patterns.ensures.1).1 tt
-
-pub returns-in_err-patterns-clause-counted : goal.returns-in_err-patterns-clause-counted
-returns-in_err-patterns-clause-counted g c = rw (err_from_is_err_and c.from_residual-in_err-patterns.result c.from_residual-in_err-patterns.ensures.1).1 tt
-
-pub returns-clause-known : goal.returns-clause-known
-returns-clause-known g c = c.in_ok-patterns.ensures.known
-
-pub returns-clause-stopped : goal.returns-clause-stopped
-returns-clause-stopped g c = tt
+    let t = c.args.translate.now in
+    let P = c.args.patterns.now in
+    let first = c.read_table.ensures in
+    let then = c.read_start.ensures.read in
+    record {
+      read = record {
+        only = only_on s0 s1 s2 first.only then.only;
+        ok = source_read (record { patterns = P; translate = t; table = [] }) c.in_ok-table.table c.in_ok-patterns.patterns s1.held s2.held then.only.held c.in_ok-table.ensures.ok c.in_ok-patterns.ensures.read.ok;
+        counted = calls_on (Reads t ∷ []) (Reads P ∷ []) s0 s1 s2 first.calls then.calls;
+        stopped = tt;
+      };
+      known = c.in_ok-patterns.ensures.known;
+    }

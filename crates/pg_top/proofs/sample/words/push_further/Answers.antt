@@ -1,6 +1,6 @@
-use Rattle.pg_top.proofs.sample.SampleSteps.{syllable_more, state_more}
-use Rattle.std.proofs.Common.{◌++◌}
-use Rattle.pg_top.specs.sample.Sampled.{further_syllables}
+use Rattle.pg_top.proofs.sample.SampleSteps.{syllable_more, state_more, syllables_begun, syllables_text, syllables_state}
+use Rattle.std.proofs.Common.{◌++◌, ap}
+use Rattle.pg_top.specs.sample.Sampled.{Made, further_syllables}
 use Rattle.pg_top.proofs.sample.words.push_further.Goals as goal
 
 pub syllables-preserved : goal.syllables-preserved
@@ -10,4 +10,18 @@ syllables-preserved c =
       text = rw (c.in_ok-push_syllable.ensures.text, c.in_ok-push_syllable.ensures.state, c.in_ok-push.ensures.items)
           (syllable_more c.args.count l.i l.draws.state l.text.items (c.args.text.now.items ++ (further_syllables c.args.count c.args.draws.now.state).text) c.syllables-test.true l.invariant.text);
       state = rw c.in_ok-push_syllable.ensures.state (state_more c.args.count l.i l.draws.state (further_syllables c.args.count c.args.draws.now.state).state c.syllables-test.true l.invariant.state);
+    }
+
+pub syllables-init : goal.syllables-init
+syllables-init c =
+    let begun = syllables_begun c.args.count c.args.draws.now.state in
+    record { text = ap (λ (m : Made). c.args.text.now.items ++ m.text) begun; state = ap (λ (m : Made). m.state) begun }
+
+pub returns : goal.returns
+returns c =
+    let l = c.syllables in
+    let whole = further_syllables c.args.count c.args.draws.now.state in
+    record {
+      text = syllables_text c.args.count l.i l.draws.state l.text.items (c.args.text.now.items ++ whole.text) c.syllables-test.false l.invariant.text;
+      state = syllables_state c.args.count l.i l.draws.state whole.state c.syllables-test.false l.invariant.state;
     }

@@ -1,0 +1,29 @@
+-- Reading, and a command, that stopped.
+use Rattle.std.proofs.Common.{◌≡◌, List, Result}
+use Rattle.std.specs.Result.{IsErrAnd}
+use Rattle.pg_outside.specs.Content.{FilesShown}
+use Rattle.pg_top.specs.Readings.{Held, Reading}
+use Rattle.pg_top.specs.Inside.Built.{Builds}
+use Rattle.pg_top.specs.Inside.ReadsMade.{ReadsFiles}
+use Rattle.pg_top.specs.Inside.Stops.{OnlyReads, StopsCommand, StopsReading}
+use Rattle.pg_top.specs.declared.inputs.Stop.{Stop}
+use Rattle.pg_top.specs.declared.writes.Outputs.{Outputs}
+use Rattle.pg_words.specs.Requests.{Request}
+use Rattle.pg_top.proofs.Results.{no_value, that_error}
+
+-- files that were read up to one that stopped it
+pub files_stopped : {Y : Type 0} (reads : List Reading) (old new : FilesShown) (r : Result Y Stop) (Has : Held → Y → Type 0) (stop : Stop) → IsErrAnd r (λ y. y ≡ stop) → OnlyReads old new → StopsReading reads old new stop → ReadsFiles reads old new r Has
+files_stopped reads old new r Has stop is only stops = record {
+  only = only;
+  ok = no_value r _ stop is;
+  counted = no_value r _ stop is;
+  stopped = that_error r (StopsReading reads old new) stop is stops;
+}
+
+-- a command that stopped before it wrote
+pub building_stopped : (request : Request) (old new : FilesShown) (r : Result Outputs Stop) (stop : Stop) → IsErrAnd r (λ y. y ≡ stop) → OnlyReads old new → StopsCommand request old new stop → Builds request old new r
+building_stopped request old new r stop is only stops = record {
+  only = only;
+  made = no_value r _ stop is;
+  stopped = that_error r (StopsCommand request old new) stop is stops;
+}
