@@ -45,7 +45,6 @@ pub fn select<E: Engine>(alloc: Global, engine: &mut E, inputs: &Inputs) -> Resu
         &inputs.table,
         &inputs.params,
     )?;
-    engine.kept();
     Ok(run)
 }
 

@@ -57,7 +57,7 @@ pieces_more old mid new marks line letter column delimiter text rest piece after
   sound = sound;
   low = omega (arith, letters.0);
   high = omega (arith, letters.0);
-  few = subst (λ (n : ℕ). n ≤ 2000) (sym letters.0) letters.1;
+  few = subst (λ (n : ℕ). n ≤ SIGNS_MAX - 1) (sym letters.0) letters.1;
   room = omega (arith, before.room);
 }
   where

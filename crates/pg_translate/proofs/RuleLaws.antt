@@ -4,6 +4,7 @@ use Rattle.std.specs.List.{list_all}
 use Rattle.std.proofs.lemmas.Bool.{and_parts, eqb-true, ne_eqb}
 use Rattle.std.proofs.lemmas.List.{length-map}
 use Rattle.std.proofs.lemmas.Option.{slice_get-get_or}
+use Rattle.pg_types.specs.declared.limits.TheConstants.{SIGNS_MAX}
 use Rattle.pg_translate.specs.declared.index.Index.{Index}
 use Rattle.pg_translate.specs.declared.items.Place.{Place}
 use Rattle.pg_translate.specs.Alphabets.{Alphabet, letters_of, spelling_of}
@@ -57,7 +58,7 @@ keeps head index table = record {
   right_few = table.head_sound.right_few;
   four = refl;
   marks_pass = table.head_sound.marks_pass;
-  letters_few = let count : length index.firsts.items ≡ letters_in (pairs index) = table.index_sound.letters in let few : length index.firsts.items ≤ 2000 = table.few in omega arith;
+  letters_few = let count : length index.firsts.items ≡ letters_in (pairs index) = table.index_sound.letters in let few : length index.firsts.items ≤ SIGNS_MAX - 1 = table.few in omega arith;
   signs_low = table.index_sound.signs;
   signs_high = λ s among. sign_within (pairs index) s among;
   spelled = λ s among. list_all_at (λ s. is_spelling (head_marks head) s.1) (pairs index) s table.spelled among;

@@ -48,12 +48,12 @@ spelled_all marks earlier (s ∷ later) none =
     and_from _ _ (not-false _ (check_none (not (is_spelling marks s.text)) BadSpelling s.line s.column form.0)) (spelled_all marks (earlier ++ spelling_with_sign s ∷ []) later parts.1)
 
 -- spellings whose checks pass have few letters
-few_letters : (n : ℕ) (marks : List ℕ) (earlier : List (ℕ × List ℕ)) (spellings : List ListedSpelling) → n ≤ 2000 → spelling_checks_from marks earlier spellings ≡ [] → fold (λ n spelling. max n (spelling.0 - 1)) n (map spelling_with_sign spellings) ≤ 2000
+few_letters : (n : ℕ) (marks : List ℕ) (earlier : List (ℕ × List ℕ)) (spellings : List ListedSpelling) → n ≤ SIGNS_MAX - 1 → spelling_checks_from marks earlier spellings ≡ [] → fold (λ n spelling. max n (spelling.0 - 1)) n (map spelling_with_sign spellings) ≤ SIGNS_MAX - 1
 few_letters n marks earlier [] few none = few
 few_letters n marks earlier (s ∷ later) few none =
     let parts : (spelling_check marks earlier s ≡ []) × (spelling_checks_from marks (earlier ++ spelling_with_sign s ∷ []) later ≡ []) = none_parts (spelling_check marks earlier s) (spelling_checks_from marks (earlier ++ spelling_with_sign s ∷ []) later) none in
     let own : (check (nat_lt (SIGNS_MAX - 1) s.letter) TooManyLetters s.line 1 ≡ []) × (check (not (is_spelling marks s.text)) BadSpelling s.line s.column ++ check (list_any (clash (spelling_with_sign s)) earlier) SpellingClash s.line s.column ≡ []) = none_parts (check (nat_lt (SIGNS_MAX - 1) s.letter) TooManyLetters s.line 1) (check (not (is_spelling marks s.text)) BadSpelling s.line s.column ++ check (list_any (clash (spelling_with_sign s)) earlier) SpellingClash s.line s.column) parts.0 in
-    let low : s.letter ≤ 2000 = ltb-false 2000 s.letter (check_none (nat_lt (SIGNS_MAX - 1) s.letter) TooManyLetters s.line 1 own.0) in
+    let low : s.letter ≤ SIGNS_MAX - 1 = ltb-false (SIGNS_MAX - 1) s.letter (check_none (nat_lt (SIGNS_MAX - 1) s.letter) TooManyLetters s.line 1 own.0) in
     few_letters (max n (s.letter + 1 - 1)) marks (earlier ++ spelling_with_sign s ∷ []) later (omega arith) parts.1
 
 -- the first of the refusals, in two forms

@@ -103,7 +103,6 @@ pub fn make_table<'a, W: Watch>(
     ensures stopped { IfErr result
         (StopsMaking (outcome_of_pack name.now source.now.table source.now.patterns)) }
 {
-    let _kept = source.patterns.len();
     match table_text(alloc, source.table.letters() + 1, &source.patterns) {
         Ok(text) => {
             let outputs = write_table(alloc, name, text, source)?;

@@ -30,7 +30,7 @@ returns-in_ok-outputs-in-Ok g c =
       named = ap written_names c.in_ok-outputs-in-Ok.ensures.files;
       table = files;
       accepted = packed_accepted t P (omega (arith, c.letters.ensures.value, c.letters.ensures.few)) short well;
-      gives = gives_values (packed_text t P) P c.len-kept.ensures.kept (subst (λ (b : List ℕ). HasEntries b P) text c.in-Ok.ensures.values);
+      gives = gives_values (packed_text t P) P c.in-Ok.ensures.map (subst (λ (b : List ℕ). HasEntries b P) text c.in-Ok.ensures.values);
       stopped = tt;
     }
 
