@@ -61,12 +61,14 @@ pub first_filled : (b : ℕ) (bs : List ℕ) → 0 < length (first_whole (b ∷ 
 first_filled b bs = elim (cases_Bool (is_line_feed b)) [ inl here ↦ rw here (omega arith) | inr here ↦ rw here (omega arith) ]
 
 -- a line that differs is the first difference
-pub step_other : (n b : ℕ) (bs due : List ℕ) → bytes_eq (first_whole (b ∷ bs)) (first_whole due) ≡ false → difference_from n (whole_lines (b ∷ bs)) (whole_lines due) ≡ Some (record { line = n; found = first_whole (b ∷ bs) })
+pub step_other : (n b : ℕ) (bs due : List ℕ) → bytes_eq (first_whole (b ∷ bs)) (first_whole due) ≡ false → difference_from n (whole_lines (b ∷ bs)) (whole_lines due)
+    ≡ Some (record { line = n; found = first_whole (b ∷ bs) })
 step_other n b bs [] other = ap (λ ls. difference_from n ls []) (cut_first b bs)
 step_other n b bs (w ∷ ws) other = rw (cut_first b bs, cut_first w ws, other) refl
 
 -- behind an equal line the rest is compared
-pub step_same : (n b : ℕ) (bs due : List ℕ) → bytes_eq (first_whole (b ∷ bs)) (first_whole due) ≡ true → difference_from n (whole_lines (b ∷ bs)) (whole_lines due) ≡ difference_from (n + 1) (whole_lines (rest_whole (b ∷ bs))) (whole_lines (rest_whole due))
+pub step_same : (n b : ℕ) (bs due : List ℕ) → bytes_eq (first_whole (b ∷ bs)) (first_whole due) ≡ true → difference_from n (whole_lines (b ∷ bs)) (whole_lines due)
+    ≡ difference_from (n + 1) (whole_lines (rest_whole (b ∷ bs))) (whole_lines (rest_whole due))
 step_same n b bs [] same =
     let lines : first_whole (b ∷ bs) ≡ [] = (bytes_eq-Decides (first_whole (b ∷ bs)) []).0 same in
     let filled = first_filled b bs in
@@ -74,11 +76,13 @@ step_same n b bs [] same =
 step_same n b bs (w ∷ ws) same = rw (cut_first b bs, cut_first w ws, same) refl
 
 -- the same of a rest that is not empty
-pub other_first : (n : ℕ) (rest due : List ℕ) → (length rest == 0) ≡ false → not (bytes_eq (first_whole rest) (first_whole due)) ≡ true → difference_from n (whole_lines rest) (whole_lines due) ≡ Some (record { line = n; found = first_whole rest })
+pub other_first : (n : ℕ) (rest due : List ℕ) → (length rest == 0) ≡ false → not (bytes_eq (first_whole rest) (first_whole due)) ≡ true
+    → difference_from n (whole_lines rest) (whole_lines due) ≡ Some (record { line = n; found = first_whole rest })
 other_first n [] due filled other = cc
 other_first n (b ∷ bs) due filled other = step_other n b bs due (not-true _ other)
 
-pub same_first : (n : ℕ) (rest due : List ℕ) → (length rest == 0) ≡ false → not (bytes_eq (first_whole rest) (first_whole due)) ≡ false → difference_from n (whole_lines rest) (whole_lines due) ≡ difference_from (n + 1) (whole_lines (rest_whole rest)) (whole_lines (rest_whole due))
+pub same_first : (n : ℕ) (rest due : List ℕ) → (length rest == 0) ≡ false → not (bytes_eq (first_whole rest) (first_whole due)) ≡ false
+    → difference_from n (whole_lines rest) (whole_lines due) ≡ difference_from (n + 1) (whole_lines (rest_whole rest)) (whole_lines (rest_whole due))
 same_first n [] due filled same = cc
 same_first n (b ∷ bs) due filled same = step_same n b bs due (not-false _ same)
 

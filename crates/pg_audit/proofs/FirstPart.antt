@@ -61,7 +61,9 @@ other_part m b bs wanted room other = elim (cases_Bool (bytes_eq (first_whole (b
 ]
 
 -- the law behind some lines, which have the numbers below n
-part_from : (fuel n : ℕ) (given wanted : List ℕ) (more : ℕ) → length given ≤ fuel → length wanted + more < length given → option_map (shown (more + 1)) (difference_from n (whole_lines (take (length wanted + (more + 1)) given)) (whole_lines wanted)) ≡ option_map (shown (more + 1)) (difference_from n (whole_lines given) (whole_lines wanted))
+part_from : (fuel n : ℕ) (given wanted : List ℕ) (more : ℕ) → length given ≤ fuel → length wanted + more < length given
+    → option_map (shown (more + 1)) (difference_from n (whole_lines (take (length wanted + (more + 1)) given)) (whole_lines wanted))
+    ≡ option_map (shown (more + 1)) (difference_from n (whole_lines given) (whole_lines wanted))
 part_from fuel n [] wanted more few longer = absurd (omega arith)
 part_from zero n (b ∷ bs) wanted more few longer = absurd (omega arith)
 part_from (suc fuel) n (b ∷ bs) wanted more few longer =
@@ -75,7 +77,8 @@ part_from (suc fuel) n (b ∷ bs) wanted more few longer =
           let cut = whole_length wanted in
           let cut_given = whole_length (b ∷ bs) in
           let less : length (first_whole (b ∷ bs)) ≤ suc (length wanted + more) = omega (arith, ap length lines) in
-          let rest_is : rest_whole (b ∷ take (length wanted + more) bs) ≡ take (length (rest_whole wanted) + (more + 1)) (rest_whole (b ∷ bs)) = part_rest (suc (length wanted + more)) (b ∷ bs) less ∙ ap (λ k. take k (rest_whole (b ∷ bs))) (omega (arith, ap length lines)) in
+          let rest_is : rest_whole (b ∷ take (length wanted + more) bs) ≡ take (length (rest_whole wanted) + (more + 1)) (rest_whole (b ∷ bs)) =
+          part_rest (suc (length wanted + more)) (b ∷ bs) less ∙ ap (λ k. take k (rest_whole (b ∷ bs))) (omega (arith, ap length lines)) in
           let rest = part_from fuel (n + 1) (rest_whole (b ∷ bs)) (rest_whole wanted) more (omega arith) (omega (arith, ap length lines)) in
           ap (option_map (shown (more + 1))) (step_same n b (take (length wanted + more) bs) wanted there ∙ ap (λ r. difference_from (n + 1) (whole_lines r) (whole_lines (rest_whole wanted))) rest_is)
           ∙ rest
@@ -89,5 +92,6 @@ part_from (suc fuel) n (b ∷ bs) wanted more few longer =
     ])
 
 -- of a longer file the first part has the same false line as the whole
-pub first_part : (given wanted : List ℕ) (more : ℕ) → length wanted + more < length given → option_map (shown (more + 1)) (first_false (take (length wanted + (more + 1)) given) wanted) ≡ option_map (shown (more + 1)) (first_false given wanted)
+pub first_part : (given wanted : List ℕ) (more : ℕ) → length wanted + more < length given → option_map (shown (more + 1)) (first_false (take (length wanted + (more + 1)) given) wanted)
+    ≡ option_map (shown (more + 1)) (first_false given wanted)
 first_part given wanted more longer = part_from (length given) 1 given wanted more (omega arith) longer

@@ -23,4 +23,5 @@ by_tests false false line bare same = ap (λ t. codes " found " ++ t ++ codes " 
 pub text_by_form : (line : List ℕ) → found_text line ≡ text_of (found_line line)
 unfolding text_of
 text_by_form [] = refl
-text_by_form (b ∷ bs) = by_tests (nat_lt 200 (length (without_feed (b ∷ bs)))) (has_feed (b ∷ bs)) (b ∷ bs) (without_feed (b ∷ bs)) (λ none. ap (λ feed. cond feed (take (length (b ∷ bs) - 1) (b ∷ bs)) (b ∷ bs)) none)
+text_by_form (b ∷ bs) = by_tests (nat_lt 200 (length (without_feed (b ∷ bs)))) (has_feed (b ∷ bs)) (b ∷ bs) (without_feed (b ∷ bs))
+    (λ none. ap (λ feed. cond feed (take (length (b ∷ bs) - 1) (b ∷ bs)) (b ∷ bs)) none)

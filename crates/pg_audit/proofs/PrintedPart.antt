@@ -47,5 +47,7 @@ same_differences n (Some a) (Some b) enough same =
     cc
 
 -- of a longer file the first part prints the same false line as the whole
-pub part_printed : (given wanted : List ℕ) (more : ℕ) → SHOWN_MAX < more → length wanted + more < length given → option_map printed_of (first_false (take (length wanted + (more + 1)) given) wanted) ≡ option_map printed_of (first_false given wanted)
-part_printed given wanted more enough longer = same_differences (more + 1) (first_false (take (length wanted + (more + 1)) given) wanted) (first_false given wanted) (omega arith) (first_part given wanted more longer)
+pub part_printed : (given wanted : List ℕ) (more : ℕ) → SHOWN_MAX < more → length wanted + more < length given
+    → option_map printed_of (first_false (take (length wanted + (more + 1)) given) wanted) ≡ option_map printed_of (first_false given wanted)
+part_printed given wanted more enough longer = same_differences (more + 1) (first_false (take (length wanted + (more + 1)) given) wanted)
+    (first_false given wanted) (omega arith) (first_part given wanted more longer)

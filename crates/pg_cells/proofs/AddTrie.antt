@@ -127,7 +127,8 @@ module _ {V : Type 0} (few n : ℕ) (r : Row V) (t : Trie V) (trie : IsTrie n r 
       | inr none ↦ none
     ]
 
-    pub can_settle : (slot : Slot V) → slot.sign ≡ s → slot.child ≡ 0 → (0 < was → sign_at r (was + s) ≢ 0) → length r.bases ≡ length r.signs → ((i : ℕ) → sign_at r i ≢ 0 → i + (n + 2) ≤ length r.signs) → CanPlace n r was slots slot parent
+    pub can_settle : (slot : Slot V) → slot.sign ≡ s → slot.child ≡ 0 → (0 < was → sign_at r (was + s) ≢ 0) → length r.bases ≡ length r.signs
+        → ((i : ℕ) → sign_at r i ≢ 0 → i + (n + 2) ≤ length r.signs) → CanPlace n r was slots slot parent
     can_settle slot is no_child no_join even room =
         let cell = cell_parts t.families p parent parent_is in
         let stands = sign_stands n r (family_at t.families) trie.layout cell.front cell.family cell.last cell.at cell.has in
@@ -198,14 +199,16 @@ module _ {V : Type 0} (few n : ℕ) (r : Row V) (t : Trie V) (trie : IsTrie n r 
 
     -- the family, or none, is settled with the sign
     pub trie_settles : (new : Row V) (base : ℕ) (slot : Slot V) → slot.sign ≡ s → CanPlace n r was slots slot parent → Moved few n r new was base slots slot parent
-        → with_sign few n t.families p s ≡ put order p (record { base = least_base few n (without_family t.families p) (with_one_sign s (signs_of slots)); signs = with_one_sign s (signs_of slots) }) (without_family t.families p)
+        → with_sign few n t.families p s ≡ put order p (record { base = least_base few n (without_family t.families p) (with_one_sign s (signs_of slots)); signs = with_one_sign s (signs_of slots) })
+        (without_family t.families p)
         → IsTrie n new (added few n t p s slot.value)
     trie_settles new base slot is can moved step =
         let whole = trie_moved few n r new t trie p parent parent_is was base slots slot own can moved in
         let least = base_is few n r new t trie p parent parent_is was base slots slot own can moved in
         let families : put order p (record { base = base; signs = with_one_sign slot.sign (signs_of slots) }) (without_family t.families p) ≡ with_sign few n t.families p s =
         (λ i. put order p (record { base = least i; signs = with_one_sign slot.sign (signs_of slots) }) (without_family t.families p))
-        ∙ (λ i. put order p (record { base = least_base few n (without_family t.families p) (with_one_sign (is i) (signs_of slots)); signs = with_one_sign (is i) (signs_of slots) }) (without_family t.families p))
+        ∙ (λ i. put order p (record { base = least_base few n (without_family t.families p) (with_one_sign (is i) (signs_of slots)); signs = with_one_sign (is i) (signs_of slots) })
+        (without_family t.families p))
         ∙ sym step in
         subst (IsTrie n new) (λ i. record { families = families i; values = put order (p ++ is i ∷ []) slot.value t.values }) whole
 
@@ -287,16 +290,19 @@ module _ {V : Type 0} (few n : ℕ) (old r : Row V) (t : Trie V) (before : IsTri
           (owned_some n r t grown p f.0 f.1 (let e = f.2 in omega arith) slots (subst (λ b. Collected n r b slots) (sym f.2) (some (omega arith))))
     ]
 
-    pub settles_can : (slot : Slot V) → slot.sign ≡ s → slot.child ≡ 0 → length r.bases ≡ length r.signs → ((i : ℕ) → sign_at old i ≢ 0 → i + (n + 2) ≤ length r.signs) → CanPlace n r base slots slot parent
+    pub settles_can : (slot : Slot V) → slot.sign ≡ s → slot.child ≡ 0 → length r.bases ≡ length r.signs → ((i : ℕ) → sign_at old i ≢ 0 → i + (n + 2) ≤ length r.signs)
+        → CanPlace n r base slots slot parent
     settles_can slot is no_child even room =
         can_settle few n r t grown p parent parent_is s low high lacks base slots owned slot is no_child no_join even (λ i up. room i (λ z. up (more.signs i ∙ z)))
 
     -- the step of the placement, where the sign does not join
-    pub settles_step : with_sign few n t.families p s ≡ put order p (record { base = least_base few n (without_family t.families p) (with_one_sign s (signs_of slots)); signs = with_one_sign s (signs_of slots) }) (without_family t.families p)
+    pub settles_step : with_sign few n t.families p s
+        ≡ put order p (record { base = least_base few n (without_family t.families p) (with_one_sign s (signs_of slots)); signs = with_one_sign s (signs_of slots) }) (without_family t.families p)
     settles_step = elim (cases_eq base 0) [
       | inl z ↦
           sign_new few n t.families p s grown.sorted (no_family z)
-          ∙ ap (λ l. put order p (record { base = least_base few n (without_family t.families p) (with_one_sign s (signs_of l)); signs = with_one_sign s (signs_of l) }) (without_family t.families p)) (sym (none z))
+          ∙ ap (λ l. put order p (record { base = least_base few n (without_family t.families p) (with_one_sign s (signs_of l)); signs = with_one_sign s (signs_of l) }) (without_family t.families p))
+          (sym (none z))
       | inr up ↦
           let f = some_family (omega arith) in
           let used = taken_used n r t.families grown.sorted grown.layout (f.0.base + s) (λ z. no_join (omega arith) (ap (λ b. sign_at r (b + s)) (sym f.2) ∙ z)) in

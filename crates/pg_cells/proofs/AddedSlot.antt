@@ -54,7 +54,8 @@ module _ {V : Type 0} (few n : ℕ) (old r : Row V) (t : Trie V) (p : List ℕ) 
     stays up z = both_ways (nat_lt 0 base && nat_eq (sign_at r (base + s)) 0) test
         (and_from (nat_lt 0 base) (nat_eq (sign_at r (base + s)) 0) (lt-ltb 0 base up) (eq-eqb (sign_at r (base + s)) 0 z))
 
-    pub moving_can : (slot : Slot V) → slot.sign ≡ s → slot.child ≡ 0 → length r.bases ≡ length r.signs → ((i : ℕ) → sign_at old i ≢ 0 → i + (n + 2) ≤ length r.signs) → CanPlace n r base slots slot parent
+    pub moving_can : (slot : Slot V) → slot.sign ≡ s → slot.child ≡ 0 → length r.bases ≡ length r.signs → ((i : ℕ) → sign_at old i ≢ 0 → i + (n + 2) ≤ length r.signs)
+        → CanPlace n r base slots slot parent
     moving_can slot is no_child even room =
         settles_can few n old r t can.trie more p parent can.at s low high can.lacks base base_is slots empty full stays slot is no_child even room
 
@@ -92,6 +93,7 @@ can_add {V} n r t trie h view p q parent s members at lacks there owed =
     }
 
 -- the cell that is answered, in families that are the same
-pub cell_alike : {E : Type 0} (answer : Result ℕ E) (fs gs : Families) (q : List ℕ) → OnOk answer (fs ≡ gs) → IfOk answer (λ cell. cell_of gs q ≡ Some cell) → IfOk answer (λ cell. cell_of fs q ≡ Some cell)
+pub cell_alike : {E : Type 0} (answer : Result ℕ E) (fs gs : Families) (q : List ℕ) → OnOk answer (fs ≡ gs) → IfOk answer (λ cell. cell_of gs q ≡ Some cell)
+    → IfOk answer (λ cell. cell_of fs q ≡ Some cell)
 cell_alike (Ok cell) fs gs q same at = ap (λ x. cell_of x q) same ∙ at
 cell_alike (Err e) fs gs q same at = at

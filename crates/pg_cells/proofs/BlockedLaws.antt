@@ -93,7 +93,8 @@ module _ {V : Type 0} (n : ℕ) (old gave dropped : Row V) (was : ℕ) (slots : 
   blocked_fits from up are k low lt = elim (cases_lt k was) [
     | inr ge ↦
         let same : k ≡ was = omega arith in
-        let kept : sign_at dropped (was + slot.sign) ≡ sign_at old (was + slot.sign) = outside_sign n old gave dropped was slots slot parent can gives drops (was + slot.sign) (outside_here was slots slot.sign can.new) in
+        let kept : sign_at dropped (was + slot.sign) ≡ sign_at old (was + slot.sign) =
+        outside_sign n old gave dropped was slots slot parent can gives drops (was + slot.sign) (outside_here was slots slot.sign can.new) in
         ap (fits_row dropped (slot.sign ∷ signs_of slots)) same ∙ taken_misfit dropped (slot.sign ∷ signs_of slots) (omega arith) slot.sign refl was (λ z. can.sign_taken up (sym kept ∙ z))
     | inl below ↦ elim (are k low below) [
       | inl base ↦ and_left (not (base_at dropped k)) (list_all (λ s. nat_eq (sign_at dropped (k + s)) 0) (slot.sign ∷ signs_of slots)) (ap not (base_stays k (omega arith) ∙ base))
@@ -116,7 +117,8 @@ module _ {V : Type 0} (n : ℕ) (old gave dropped : Row V) (was : ℕ) (slots : 
 
   -- after the search the bases below the one that was found can't take the family
   module _ (top : ℕ) (is_top : IsTop dropped.signs top) (base low : ℕ) (near : base ≤ max top 1) (up : 0 < base) (least : IsLeast (fits_row dropped (slot.sign ∷ signs_of slots)) low base)
-      (settled took flagged : Row V) (puts : Puts dropped settled base slots) (takes : Takes settled took (base + slot.sign) slot.sign slot.value slot.child) (flags : SetsBase took flagged base true) where
+      (settled took flagged : Row V) (puts : Puts dropped settled base slots) (takes : Takes settled took (base + slot.sign) slot.sign slot.value slot.child)
+      (flags : SetsBase took flagged base true) where
     fresh : sign_at dropped (base + slot.sign) ≡ 0
     fresh = new_free n old gave dropped was slots slot parent can gives drops top is_top (max top 1) refl base near least.meets
 
@@ -145,7 +147,8 @@ module _ {V : Type 0} (n : ℕ) (old gave dropped : Row V) (was : ℕ) (slots : 
           | inl at ↦
               let stood : sign_at old (was + sign_at old i) ≡ sign_at old i = ap (sign_at old) (omega arith) in
               let found = can.owns (sign_at old i) (omega arith) (positive (sign_at old i) was_there) stood in
-              taken (ap (sign_at dropped) (let here = o.2 in omega arith) ∙ dropped_sign n old gave dropped was slots slot parent can gives drops (was + sign_at old i) ∙ gives.free (sign_at old i) found.0 found.1)
+              taken (ap (sign_at dropped) (let here = o.2 in omega arith) ∙ dropped_sign n old gave dropped was slots slot parent can gives drops (was + sign_at old i)
+              ∙ gives.free (sign_at old i) found.0 found.1)
         ]
       where
         positive : (x : ℕ) → x ≢ 0 → 0 < x

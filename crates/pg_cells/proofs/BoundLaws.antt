@@ -41,13 +41,15 @@ module _ {V : Type 0} (old new : Row V) (lows : List ℕ) (freed dropped : ℕ) 
   bounds_free cell least le at frees s b up below none z =
       let far = below.under_cell in
       let other : b + s ≢ cell = omega arith in
-      are s b up (record { under_low = below.under_low; under_base = below.under_base; under_cell = omega arith }) (sym (frees.elsewhere.bases b) ∙ none) (sym (frees.elsewhere.signs (b + s) other) ∙ z)
+      are s b up (record { under_low = below.under_low; under_base = below.under_base; under_cell = omega arith }) (sym (frees.elsewhere.bases b) ∙ none)
+      (sym (frees.elsewhere.signs (b + s) other) ∙ z)
 
   pub bounds_base : (base least : ℕ) (flag : Bool) → least ≤ dropped → (flag ≡ false → least ≤ base) → SetsBase old new base flag → AreBounds new lows freed least
   bounds_base base least flag le at sets s b up below none z = elim (cases_eq b base) [
     | inl e ↦ absurd (let is : flag ≡ false = sym sets.base_is ∙ ap (base_at new) (sym e) ∙ none in let far = below.under_base in let here = at is in omega arith)
     | inr n ↦
-        are s b up (record { under_low = below.under_low; under_base = (let far = below.under_base in omega arith); under_cell = below.under_cell }) (sym (sets.bases b n) ∙ none) (sym (sets.signs (b + s)) ∙ z)
+        are s b up (record { under_low = below.under_low; under_base = (let far = below.under_base in omega arith); under_cell = below.under_cell })
+        (sym (sets.bases b n) ∙ none) (sym (sets.signs (b + s)) ∙ z)
   ]
 
 -- one bound more is lowered
@@ -86,7 +88,8 @@ module _ {V : Type 0} (r : Row V) (sign : ℕ) (signs : List ℕ) where
   base_free b fits none = both_ways (fits_row r (sign ∷ signs) b) (not_free b none) fits
 
   -- so a search from the bound finds what one from further down finds
-  pub least_from : (low bound base : ℕ) → 0 < low → ((b : ℕ) → 0 < b → b < bound → NoneFree r sign b) → IsLeast (fits_row r (sign ∷ signs)) (max low bound) base → IsLeast (fits_row r (sign ∷ signs)) low base
+  pub least_from : (low bound base : ℕ) → 0 < low → ((b : ℕ) → 0 < b → b < bound → NoneFree r sign b) → IsLeast (fits_row r (sign ∷ signs)) (max low bound) base
+      → IsLeast (fits_row r (sign ∷ signs)) low base
   least_from low bound base up none least = record {
     from = (let from = least.from in omega arith);
     meets = least.meets;
@@ -110,7 +113,8 @@ lone r sign b fails flag z =
     (and_from (not (base_at r b)) (list_all (λ s. nat_eq (sign_at r (b + s)) 0) (sign ∷ [])) (ap not flag) (and_from (nat_eq (sign_at r (b + sign)) 0) true (eq-eqb (sign_at r (b + sign)) 0 z) refl))
 
 -- after a search for one sign no base below the answer is free
-pub none_below : {V : Type 0} (r : Row V) (sign low bound base : ℕ) → low ≤ max bound 1 → ((b : ℕ) → 0 < b → b < bound → NoneFree r sign b) → IsLeast (fits_row r (sign ∷ [])) low base → (b : ℕ) → 0 < b → b < base → NoneFree r sign b
+pub none_below : {V : Type 0} (r : Row V) (sign low bound base : ℕ) → low ≤ max bound 1 → ((b : ℕ) → 0 < b → b < bound → NoneFree r sign b)
+    → IsLeast (fits_row r (sign ∷ [])) low base → (b : ℕ) → 0 < b → b < base → NoneFree r sign b
 none_below r sign low bound base le none least b up lt = elim (cases_lt b bound) [
   | inl below ↦ none b up below
   | inr above ↦ lone r sign b (least.first b (omega arith) lt)

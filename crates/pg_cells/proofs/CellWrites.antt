@@ -101,9 +101,11 @@ module _ {V : Type 0} (cells : List (Cell V)) (i : ℕ) (d : Cell V) where
 
   pub value_is : (c : Cell V) → c ≡ old → i < length cells → sign_at (lists cells).row i ≢ 0 → slice_get (lists cells).row.values i ≡ Some (record { value = c.value; next = c.next; first = c.first })
   value_is c same h taken =
-      slice_get-map member_seen cells i ∙ ap (option_map member_seen) (slice_get-get_or cells i d h) ∙ ap Some (ap member_seen (sym same) ∙ taken_member c (λ e. taken (sym (sign_is h) ∙ ap (λ (x : Cell V). x.sign) (sym same) ∙ e)))
+      slice_get-map member_seen cells i ∙ ap (option_map member_seen) (slice_get-get_or cells i d h)
+      ∙ ap Some (ap member_seen (sym same) ∙ taken_member c (λ e. taken (sym (sign_is h) ∙ ap (λ (x : Cell V). x.sign) (sym same) ∙ e)))
 
-  pub write_child : (x : ℕ) → i < length cells → sign_at (lists cells).row i ≢ 0 → lists (set cells i (record old { link = x })) ≡ record (lists cells) { row = with_child (lists cells).row i x; afters = set (lists cells).afters i x }
+  pub write_child : (x : ℕ) → i < length cells → sign_at (lists cells).row i ≢ 0 → lists (set cells i (record old { link = x }))
+      ≡ record (lists cells) { row = with_child (lists cells).row i x; afters = set (lists cells).afters i x }
   write_child x h taken =
       let new : Cell V = record old { link = x } in
       λ t. record {
@@ -118,7 +120,8 @@ module _ {V : Type 0} (cells : List (Cell V)) (i : ℕ) (d : Cell V) where
       }
 
   pub write_value : (x : Member V) → i < length cells → sign_at (lists cells).row i ≢ 0
-      → lists (set cells i (record old { value = x.value; next = x.next; first = x.first })) ≡ record (lists cells) { row = with_value (lists cells).row i x; befores = set (lists cells).befores i (pair_of x.next x.first) }
+      → lists (set cells i (record old { value = x.value; next = x.next; first = x.first }))
+      ≡ record (lists cells) { row = with_value (lists cells).row i x; befores = set (lists cells).befores i (pair_of x.next x.first) }
   write_value x h taken =
       let new : Cell V = record old { value = x.value; next = x.next; first = x.first } in
       λ t. record {
@@ -148,7 +151,11 @@ module _ {V : Type 0} (cells : List (Cell V)) (i : ℕ) (d : Cell V) where
 
   pub write_taken : (sign : ℕ) (value : Member V) (child : ℕ) → sign ≢ 0
       → lists (set cells i (record old { sign = sign; value = value.value; next = value.next; first = value.first; link = child }))
-      ≡ record (lists cells) { row = with_taken (lists cells).row i sign value child; befores = set (lists cells).befores i (pair_of value.next value.first); afters = set (lists cells).afters i child }
+      ≡ record (lists cells) {
+        row = with_taken (lists cells).row i sign value child;
+        befores = set (lists cells).befores i (pair_of value.next value.first);
+        afters = set (lists cells).afters i child;
+      }
   write_taken sign value child taken =
       let new : Cell V = record old { sign = sign; value = value.value; next = value.next; first = value.first; link = child } in
       λ t. record {

@@ -174,14 +174,17 @@ module _ {V : Type 0} (n : ℕ) (r gave dropped : Row V) (t : Trie V) (trie : Is
       (λ i. not (base_test b i) && list_all (λ x. free_test (b + x) i) (s ∷ signs_of slots))
       ∙ ap (λ x. not (is_base (without_family t.families p) b) && x) (sym (all_one_more (λ x. not (is_used (without_family t.families p) (b + x))) s (signs_of slots)))
 
-  pub least_same : (few s base top_now : ℕ) → slot_of slots s ≡ None → IsTop dropped.signs top_now → IsLeast (fits_row dropped (s ∷ signs_of slots)) (lowest_base few n (length slots + 1) top_now) base → base ≤ max 1 top_now
+  pub least_same : (few s base top_now : ℕ) → slot_of slots s ≡ None → IsTop dropped.signs top_now
+      → IsLeast (fits_row dropped (s ∷ signs_of slots)) (lowest_base few n (length slots + 1) top_now) base → base ≤ max 1 top_now
       → base ≡ least_base few n (without_family t.families p) (with_one_sign s (signs_of slots))
   least_same few s base top_now lacks is_top least near =
       let same = top_same top_now is_top in
       let count : length slots + 1 ≡ length (with_one_sign s (signs_of slots)) =
       ap (λ k. k + 1) (sym (length-map slots (λ (k : Slot V). k.sign))) ∙ sym (length_one_more s (signs_of slots) (no_sign (list_any (nat_eq s) (signs_of slots)) refl)) in
-      let low : lowest_base few n (length slots + 1) top_now ≡ lowest_base few n (length (with_one_sign s (signs_of slots))) (top (without_family t.families p)) = λ i. lowest_base few n (count i) (same i) in
-      sym (first_is (fits_at (without_family t.families p) (with_one_sign s (signs_of slots))) (top (without_family t.families p)) (lowest_base few n (length (with_one_sign s (signs_of slots))) (top (without_family t.families p))) base
+      let low : lowest_base few n (length slots + 1) top_now ≡ lowest_base few n (length (with_one_sign s (signs_of slots))) (top (without_family t.families p)) =
+      λ i. lowest_base few n (count i) (same i) in
+      sym (first_is (fits_at (without_family t.families p) (with_one_sign s (signs_of slots))) (top (without_family t.families p))
+      (lowest_base few n (length (with_one_sign s (signs_of slots))) (top (without_family t.families p))) base
       (subst (λ k. k ≤ base) low least.from)
       (let some = lowest_positive few n (length (with_one_sign s (signs_of slots))) (top (without_family t.families p)) in omega arith)
       (sym (fit_same s base) ∙ least.meets)

@@ -115,7 +115,8 @@ module _ {V : Type 0} (r : Row V) (base : ℕ) where
       subst (λ j. Collected j r base slots) same (collected_gap m (k - m) slots (λ y low up. none y low (omega arith)) c)
 
   -- the next sign that stands
-  pub collected_next : (m x : ℕ) (slots new : List (Slot V)) → IsNext (λ z. nat_eq (sign_at r (base + z)) z) m x → 0 < x → Collected m r base slots → Collects r base x slots new → Collected x r base new
+  pub collected_next : (m x : ℕ) (slots new : List (Slot V)) → IsNext (λ z. nat_eq (sign_at r (base + z)) z) m x → 0 < x → Collected m r base slots
+      → Collects r base x slots new → Collected x r base new
   collected_next m x slots new next up c step =
       let found = next.found up in
       let same : x - 1 + 1 ≡ x = omega arith in

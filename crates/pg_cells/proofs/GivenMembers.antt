@@ -55,7 +55,8 @@ module _ {V : Type 0} (n : ℕ) (r : Row V) (t : Trie V) (trie : IsTrie n r t) (
           let stands = sign_stands n r (family_at t.families) trie.layout c.front c.family c.last c.at c.has in
           absurd (let is = parts.1 in let le = stands.1 in omega arith)
 
-  pub alone_told : (s : ℕ) (freed : Row V) → Frees r freed (base + s) → (b : Bool) → MatchBool b (IsAlone t.families p s) (HasOther t.families p s) → MatchBool b (standing n freed base ≡ []) (standing n freed base ≢ [])
+  pub alone_told : (s : ℕ) (freed : Row V) → Frees r freed (base + s) → (b : Bool) → MatchBool b (IsAlone t.families p s) (HasOther t.families p s)
+      → MatchBool b (standing n freed base ≡ []) (standing n freed base ≢ [])
   alone_told s freed frees true alone = none_stands freed base n (λ x up le is. elim (cases_eq x s) [
     | inl e ↦ let gone : sign_at freed (base + x) ≡ 0 = ap (λ z. sign_at freed (base + z)) e ∙ frees.sign_is in omega arith
     | inr other ↦
@@ -87,7 +88,8 @@ module _ {V : Type 0} (few n : ℕ) (old r : Row V) (t : Trie V) (before : IsTri
   joins_told = elim (cases_eq base 0) [
     | inl z ↦
         ap (λ b. nat_lt 0 b && nat_eq (sign_at r (b + s)) 0) z
-        ∙ sym (ap (λ o. elim o as (λ _. Bool) [ None ↦ false | Some f ↦ not (is_used t.families (f.base + s)) ]) (no_family few n old r t before more p parent parent_is s low high lacks base base_is_child z))
+        ∙ sym (ap (λ o. elim o as (λ _. Bool) [ None ↦ false | Some f ↦ not (is_used t.families (f.base + s)) ])
+        (no_family few n old r t before more p parent parent_is s low high lacks base base_is_child z))
     | inr up ↦
         let positive : 0 < base = omega arith in
         let f = some_family few n old r t before more p parent parent_is s low high lacks base base_is_child positive in
@@ -116,7 +118,8 @@ module _ {V : Type 0} (few n : ℕ) (old r : Row V) (t : Trie V) (before : IsTri
   given_some xs up are =
       let f = some_family few n old r t before more p parent parent_is s low high lacks base base_is_child up in
       let has : base_of t.families p ≡ Some base = ap (option_map (λ (g : Family). g.base)) f.1 ∙ ap Some f.2 in
-      passing_alike (has_sign t.families p) (λ x. nat_eq (sign_at r (base + x)) x) xs (sign_told n r t (grown few n old r t before more p parent parent_is s low high lacks base base_is_child) p base has) are
+      passing_alike (has_sign t.families p) (λ x. nat_eq (sign_at r (base + x)) x) xs
+      (sign_told n r t (grown few n old r t before more p parent parent_is s low high lacks base base_is_child) p base has) are
 
   -- the members that are owed where the sign does not join
   pub given_are : (xs : List ℕ) (h : ValuedFamilies V) → ◌≡◌ {A = ValuedFamilies V} (record { signs = n; families = t.families; values = t.values }) h

@@ -105,7 +105,8 @@ pub record HasMore (test more : ℕ → Bool) (s : ℕ) : Type 0 where
   pub stays : (z : ℕ) → test z ≡ true → more z ≡ true
   pub came : (z : ℕ) → z ≢ s → more z ≡ true → test z ≡ true
 
-module _ (test more : ℕ → Bool) (s b after : ℕ) (has : HasMore test more s) (less : b < s) (there_b : (b ≡ 0) ⊎ (test b ≡ true)) (most : (z : ℕ) → z < s → test z ≡ true → z ≤ b) (next : IsNext test b after) (lacks : test s ≡ false) where
+module _ (test more : ℕ → Bool) (s b after : ℕ) (has : HasMore test more s) (less : b < s) (there_b : (b ≡ 0) ⊎ (test b ≡ true))
+    (most : (z : ℕ) → z < s → test z ≡ true → z ≤ b) (next : IsNext test b after) (lacks : test s ≡ false) where
   after_later : 0 < after → s < after
   after_later up = elim (cases_eq after s) [
     | inl e ↦ absurd (both_ways (test s) lacks (ap test (sym e) ∙ (next.found up).1))
@@ -168,7 +169,8 @@ pub record HasLess (test fewer : ℕ → Bool) (s : ℕ) : Type 0 where
   pub here : fewer s ≡ false
   pub other : (z : ℕ) → z ≢ s → fewer z ≡ test z
 
-module _ (test fewer : ℕ → Bool) (s b after : ℕ) (has : HasLess test fewer s) (less : b < s) (there_b : (b ≡ 0) ⊎ (test b ≡ true)) (most : (z : ℕ) → z < s → test z ≡ true → z ≤ b) (next : IsNext test s after) where
+module _ (test fewer : ℕ → Bool) (s b after : ℕ) (has : HasLess test fewer s) (less : b < s) (there_b : (b ≡ 0) ⊎ (test b ≡ true))
+    (most : (z : ℕ) → z < s → test z ≡ true → z ≤ b) (next : IsNext test s after) where
   not_gone : (z : ℕ) → fewer z ≡ true → z ≢ s
   not_gone z is e = both_ways (fewer s) has.here (ap fewer (sym e) ∙ is)
 
@@ -208,7 +210,8 @@ module _ (test fewer : ℕ → Bool) (s b after : ℕ) (has : HasLess test fewer
       not_next e lt early = let l = old.least b early (passes there_b early) in let le = l.1 in omega arith
 
 -- a list with its next number
-pub passing_more : (test : ℕ → Bool) (xs : List ℕ) (x : ℕ) → ((k : ℕ) → k < length xs → (0 < get_or xs k 0) × IsNext test (number_before xs k) (get_or xs k 0)) → 0 < x → IsNext test (number_before xs (length xs)) x
+pub passing_more : (test : ℕ → Bool) (xs : List ℕ) (x : ℕ) → ((k : ℕ) → k < length xs → (0 < get_or xs k 0) × IsNext test (number_before xs k) (get_or xs k 0))
+    → 0 < x → IsNext test (number_before xs (length xs)) x
     → (k : ℕ) → k < length (xs ++ x ∷ []) → (0 < get_or (xs ++ x ∷ []) k 0) × IsNext test (number_before (xs ++ x ∷ []) k) (get_or (xs ++ x ∷ []) k 0)
 passing_more test xs x each up next k lt = elim (cases_lt k (length xs)) [
   | inl early ↦

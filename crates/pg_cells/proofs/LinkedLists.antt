@@ -174,7 +174,8 @@ row_push {V = V} cells new c r e sign link base freed =
     freed ∙ ap (λ l. with_free (row_of l) (length l - 1)) e ∙ ap (with_free (row_of (cells ++ c ∷ []))) n ∙ (λ t. record {
       signs = (ap (λ l. set l (length cells) 0) (map_push (λ (x : Cell V). x.sign) cells c) ∙ set_push (map (λ x. x.sign) cells) c.sign 0 (length cells) (length-map cells (λ x. x.sign))) t;
       children = (ap (λ l. set l (length cells) 0) (map_push child_seen cells c) ∙ set_push (map child_seen cells) (child_seen c) 0 (length cells) (length-map cells child_seen)) t;
-      values = (ap (λ l. bared l (length cells)) (map_push member_seen cells c) ∙ bared_push (map member_seen cells) (member_seen c) (length cells) (length-map cells member_seen) ∙ ap (λ m. map member_seen cells ++ m ∷ []) (lone_member c)) t;
+      values = (ap (λ l. bared l (length cells)) (map_push member_seen cells c) ∙ bared_push (map member_seen cells) (member_seen c) (length cells) (length-map cells member_seen)
+          ∙ ap (λ m. map member_seen cells ++ m ∷ []) (lone_member c)) t;
       bases = (map_push (λ (x : Cell V). x.is_base) cells c ∙ ap (λ b. map (λ (x : Cell V). x.is_base) cells ++ b ∷ []) base) t;
     })
 

@@ -9,7 +9,8 @@ use Rattle.pg_cells.specs.Inside.Moves.{Others, GivesUp, Puts}
 use Rattle.pg_cells.proofs.Slots.{slot_push, outside_push}
 
 module _ {V : Type 0} where
-  others_more : (old mid new : Row V) (base : ℕ) (xs : List (Slot V)) (y : Slot V) → slot_of xs y.sign ≡ None → Others old mid base xs → Elsewhere mid new (base + y.sign) → Others old new base (xs ++ y ∷ [])
+  others_more : (old mid new : Row V) (base : ℕ) (xs : List (Slot V)) (y : Slot V) → slot_of xs y.sign ≡ None → Others old mid base xs
+      → Elsewhere mid new (base + y.sign) → Others old new base (xs ++ y ∷ [])
   others_more old mid new base xs y none o e = record {
     signs = λ i out. let h = outside_push base xs y i none out in e.signs i h.1 ∙ o.signs i h.0;
     children = λ i out. let h = outside_push base xs y i none out in e.children i h.1 ∙ o.children i h.0;
@@ -33,7 +34,8 @@ module _ {V : Type 0} where
       let same : x ≡ y.sign = omega arith in
       let there : slot_of xs y.sign ≡ Some s = ap (slot_of xs) (sym same) ∙ at in cc
 
-  pub gives_more : (old mid new : Row V) (base : ℕ) (xs : List (Slot V)) (y : Slot V) → slot_of xs y.sign ≡ None → GivesUp old mid base xs → Frees mid new (base + y.sign) → GivesUp old new base (xs ++ y ∷ [])
+  pub gives_more : (old mid new : Row V) (base : ℕ) (xs : List (Slot V)) (y : Slot V) → slot_of xs y.sign ≡ None → GivesUp old mid base xs
+      → Frees mid new (base + y.sign) → GivesUp old new base (xs ++ y ∷ [])
   gives_more old mid new base xs y none g f = record {
     others = others_more old mid new base xs y none g.others f.elsewhere;
     free = λ x s at. elim (slot_push xs y x s at) [
@@ -43,7 +45,8 @@ module _ {V : Type 0} where
     count = omega (arith, g.count, f.count, length_push xs y);
   }
 
-  pub puts_more : (old mid new : Row V) (base : ℕ) (xs : List (Slot V)) (y : Slot V) → slot_of xs y.sign ≡ None → Puts old mid base xs → Takes mid new (base + y.sign) y.sign y.value y.child → Puts old new base (xs ++ y ∷ [])
+  pub puts_more : (old mid new : Row V) (base : ℕ) (xs : List (Slot V)) (y : Slot V) → slot_of xs y.sign ≡ None → Puts old mid base xs
+      → Takes mid new (base + y.sign) y.sign y.value y.child → Puts old new base (xs ++ y ∷ [])
   puts_more old mid new base xs y none p t = record {
     others = others_more old mid new base xs y none p.others t.elsewhere;
     at = λ x s at. elim (slot_push xs y x s at) [

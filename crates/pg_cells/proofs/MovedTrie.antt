@@ -36,20 +36,25 @@ module _ {V : Type 0} (few n : ℕ) (r new : Row V) (t : Trie V) (trie : IsTrie 
   families = put order p family (without_family t.families p)
 
   fresh : sign_at moved.dropped (base + slot.sign) ≡ 0
-  fresh = new_free n r moved.gave moved.dropped was slots slot parent can moved.gives moved.drops moved.top moved.is_top (max moved.top 1) refl base (let h = moved.near in omega arith) moved.least.meets
+  fresh = new_free n r moved.gave moved.dropped was slots slot parent can moved.gives moved.drops moved.top moved.is_top (max moved.top 1) refl base
+      (let h = moved.near in omega arith) moved.least.meets
 
   free_slot : (x : ℕ) (k : Slot V) → slot_of slots x ≡ Some k → sign_at moved.dropped (base + x) ≡ 0
-  free_slot = slots_free n r moved.gave moved.dropped was slots slot parent can moved.gives moved.drops moved.top moved.is_top (max moved.top 1) refl base (let h = moved.near in omega arith) moved.least.meets
+  free_slot = slots_free n r moved.gave moved.dropped was slots slot parent can moved.gives moved.drops moved.top moved.is_top (max moved.top 1) refl base
+      (let h = moved.near in omega arith) moved.least.meets
 
   parent_out : Outside base slots parent
-  parent_out = parent_outside n r moved.gave moved.dropped was slots slot parent can moved.gives moved.drops moved.top moved.is_top (max moved.top 1) refl base (let h = moved.near in omega arith) moved.least.meets moved.settled moved.puts
+  parent_out = parent_outside n r moved.gave moved.dropped was slots slot parent can moved.gives moved.drops moved.top moved.is_top (max moved.top 1) refl base
+      (let h = moved.near in omega arith) moved.least.meets moved.settled moved.puts
 
   parent_new : parent ≢ base + slot.sign
-  parent_new = parent_not_new n r moved.gave moved.dropped was slots slot parent can moved.gives moved.drops moved.top moved.is_top (max moved.top 1) refl base (let h = moved.near in omega arith) moved.least.meets moved.settled moved.puts
+  parent_new = parent_not_new n r moved.gave moved.dropped was slots slot parent can moved.gives moved.drops moved.top moved.is_top (max moved.top 1) refl base
+      (let h = moved.near in omega arith) moved.least.meets moved.settled moved.puts
 
   -- the base is no other family's
   base_free : base_at moved.dropped base ≡ false
-  base_free = not-true (base_at moved.dropped base) (and_parts (not (base_at moved.dropped base)) (list_all (λ y. nat_eq (sign_at moved.dropped (base + y)) 0) (slot.sign ∷ signs_of slots)) moved.least.meets).0
+  base_free = not-true (base_at moved.dropped base) (and_parts (not (base_at moved.dropped base))
+      (list_all (λ y. nat_eq (sign_at moved.dropped (base + y)) 0) (slot.sign ∷ signs_of slots)) moved.least.meets).0
 
   -- a cell of the new row: that of a slot, that of the new sign, or as before
   link_sign : (i : ℕ) → sign_at new i ≡ sign_at moved.took i

@@ -19,7 +19,8 @@ goes_first t s b zero lt = refl
 goes_first t s b (suc n) lt = by (t b) (goes_first t s (b + 1) n (omega arith))
   where
     by : (x : Bool) → with_one_sign s (filter t (range_with_len (b + 1) n)) ≡ s ∷ filter t (range_with_len (b + 1) n)
-        → with_one_sign s (cond x (b ∷ filter t (range_with_len (b + 1) n)) (filter t (range_with_len (b + 1) n))) ≡ s ∷ cond x (b ∷ filter t (range_with_len (b + 1) n)) (filter t (range_with_len (b + 1) n))
+        → with_one_sign s (cond x (b ∷ filter t (range_with_len (b + 1) n)) (filter t (range_with_len (b + 1) n)))
+        ≡ s ∷ cond x (b ∷ filter t (range_with_len (b + 1) n)) (filter t (range_with_len (b + 1) n))
     by true rest = step_first s b (filter t (range_with_len (b + 1) n)) lt
     by false rest = rest
 
@@ -46,7 +47,8 @@ filter_more t u s a (suc n) pos h now was le lt = elim (cases_eq a s) [
 ]
   where
     either : (b : Bool) → a < s → filter u (range_with_len (a + 1) n) ≡ with_one_sign s (filter t (range_with_len (a + 1) n))
-        → cond b (a ∷ filter u (range_with_len (a + 1) n)) (filter u (range_with_len (a + 1) n)) ≡ with_one_sign s (cond b (a ∷ filter t (range_with_len (a + 1) n)) (filter t (range_with_len (a + 1) n)))
+        → cond b (a ∷ filter u (range_with_len (a + 1) n)) (filter u (range_with_len (a + 1) n))
+        ≡ with_one_sign s (cond b (a ∷ filter t (range_with_len (a + 1) n)) (filter t (range_with_len (a + 1) n)))
     either true lt rest = ap (λ l. a ∷ l) rest ∙ sym (step_later s a (filter t (range_with_len (a + 1) n)) lt)
     either false lt rest = rest
 

@@ -13,7 +13,8 @@ use Rattle.pg_cells.proofs.Slots.{has_slot, slot_has, outside_or, outside_here}
 
 pub all_true : (test : ℕ → Bool) (xs : List ℕ) → ((y : ℕ) → list_any (nat_eq y) xs ≡ true → test y ≡ true) → list_all test xs ≡ true
 all_true test [] h = refl
-all_true test (x ∷ xs) h = and_from (test x) (list_all test xs) (h x (or_left (nat_eq x x) (list_any (nat_eq x) xs) (eq-eqb x x refl))) (all_true test xs (λ y e. h y (or_right (nat_eq y x) (list_any (nat_eq y) xs) e)))
+all_true test (x ∷ xs) h = and_from (test x) (list_all test xs) (h x (or_left (nat_eq x x) (list_any (nat_eq x) xs) (eq-eqb x x refl)))
+    (all_true test xs (λ y e. h y (or_right (nat_eq y x) (list_any (nat_eq y) xs) e)))
 
 pub all_has : (test : ℕ → Bool) (xs : List ℕ) (y : ℕ) → list_all test xs ≡ true → list_any (nat_eq y) xs ≡ true → test y ≡ true
 all_has test [] y h e = absurd (false≢true e)
@@ -101,7 +102,8 @@ module _ {V : Type 0} (n : ℕ) (old gave dropped : Row V) (was : ℕ) (slots : 
       tests = (and_parts (not (base_at dropped base)) (list_all (λ y. nat_eq (sign_at dropped (base + y)) 0) (slot.sign ∷ signs_of slots)) fits).1
 
       pub new_free : sign_at dropped (base + slot.sign) ≡ 0
-      new_free = eqb-true (sign_at dropped (base + slot.sign)) 0 (and_parts (nat_eq (sign_at dropped (base + slot.sign)) 0) (list_all (λ y. nat_eq (sign_at dropped (base + y)) 0) (signs_of slots)) tests).0
+      new_free = eqb-true (sign_at dropped (base + slot.sign)) 0 (and_parts (nat_eq (sign_at dropped (base + slot.sign)) 0)
+          (list_all (λ y. nat_eq (sign_at dropped (base + y)) 0) (signs_of slots)) tests).0
 
       pub slots_free : (x : ℕ) (k : Slot V) → slot_of slots x ≡ Some k → sign_at dropped (base + x) ≡ 0
       slots_free x k at = eqb-true (sign_at dropped (base + x)) 0

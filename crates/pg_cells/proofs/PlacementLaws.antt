@@ -88,7 +88,8 @@ taken_cons e es = length-append (cells_of e.1) (used_cells es) ∙ ap (λ n. n +
 pub taken_put : (p : List ℕ) (f : Family) (fs : Families) → T (is_sorted order fs) → taken_count (put order p f fs) + size_of (family_at fs p) ≡ taken_count fs + length f.signs
 taken_put p f [] h = omega (arith, taken_cons (p, f) [])
 taken_put p f (e ∷ es) h =
-    elim (order p e.0) as (λ o. order p e.0 ≡ o → taken_count (by_order o ((p, f) ∷ e ∷ es) ((e.0, f) ∷ es) (e ∷ put order p f es)) + size_of (cond (is_eq o) (Some e.1) (find order p es)) ≡ taken_count (e ∷ es) + length f.signs) [
+    elim (order p e.0) as (λ o. order p e.0 ≡ o → taken_count (by_order o ((p, f) ∷ e ∷ es) ((e.0, f) ∷ es) (e ∷ put order p f es)) + size_of (cond (is_eq o) (Some e.1) (find order p es))
+    ≡ taken_count (e ∷ es) + length f.signs) [
       | Less ↦ λ is.
           let none : find order p es ≡ None = find_below p es (below_less p e.0 es is (head_below e es h)) in
           omega (arith, taken_cons (p, f) (e ∷ es), ap size_of none)
@@ -127,7 +128,8 @@ first_is test (suc more) from b le within passes before =
             | inl e ↦ absurd (both_ways (test b) (ap test (sym e) ∙ failed) passes)
             | inr n ↦ omega arith
           ] in
-          subst (λ t. (elim t as (λ _. ℕ) [ true ↦ from | false ↦ first_from test more (from + 1) ]) ≡ b) (sym failed) (first_is test more (from + 1) b later (omega arith) passes (λ k l lt. before k (omega arith) lt))
+          subst (λ t. (elim t as (λ _. ℕ) [ true ↦ from | false ↦ first_from test more (from + 1) ]) ≡ b) (sym failed)
+          (first_is test more (from + 1) b later (omega arith) passes (λ k l lt. before k (omega arith) lt))
     ]
 
 -- the cell of a string that has a last sign

@@ -35,7 +35,8 @@ module _ {V : Type 0} where
     | inr e ↦ goes_by (put order w new es) es p z (find_put_other (p ++ z ∷ []) w new es e.0)
   ]
 
-  module _ (h new : ValuedFamilies (Member V)) (links : AreLinks h) (held : AreValuedFamilies new) (q : List ℕ) (m k : Member V) (at : find order q h.values ≡ Some m) (values : new.values ≡ put order q k h.values) (next : k.next ≡ m.next) (first : k.first ≡ m.first) where
+  module _ (h new : ValuedFamilies (Member V)) (links : AreLinks h) (held : AreValuedFamilies new) (q : List ℕ) (m k : Member V) (at : find order q h.values ≡ Some m)
+      (values : new.values ≡ put order q k h.values) (next : k.next ≡ m.next) (first : k.first ≡ m.first) where
     same_goes : (p : List ℕ) (z : ℕ) → 0 < z → goes_on h.values p z ≡ goes_on new.values p z
     same_goes p z up = sym (ap (λ es. goes_on es p z) values ∙ put_goes q m k h.values at p z)
 
@@ -53,7 +54,8 @@ module _ {V : Type 0} where
     links_valued = record {
       held = held;
       first = λ r x e. (let y = was r x e in next_alike (goes_on h.values r) (goes_on new.values r) 0 x.first (same_goes r) (subst (IsNextSign h.values r 0) (sym y.3) (links.first r y.0 y.1)));
-      next = λ r s x some e. (let y = was (r ++ s ∷ []) x e in next_alike (goes_on h.values r) (goes_on new.values r) s x.next (same_goes r) (subst (IsNextSign h.values r s) (sym y.2) (links.next r s y.0 some y.1)));
+      next = λ r s x some e. (let y = was (r ++ s ∷ []) x e in next_alike (goes_on h.values r) (goes_on new.values r) s x.next (same_goes r)
+          (subst (IsNextSign h.values r s) (sym y.2) (links.next r s y.0 some y.1)));
     }
 
   -- what the link behind a sign is written to: the string, what stood there, and what stands there now
@@ -66,7 +68,8 @@ module _ {V : Type 0} where
     pub value : now.value ≡ was.value
     pub either : ((b ≡ 0) × (string ≡ q) × (now.first ≡ to) × (now.next ≡ was.next)) ⊎ ((b ≢ 0) × (string ≡ q ++ b ∷ []) × (now.next ≡ to) × (now.first ≡ was.first))
 
-  pub relinked : (h new : ValuedFamilies (Member V)) (q : List ℕ) (b to : ℕ) (m : Member V) → find order q h.values ≡ Some m → (b ≡ 0) ⊎ (goes_on h.values q b ≡ true) → new ≡ with_link h q b to → IsRelinked h.values new.values q b to
+  pub relinked : (h new : ValuedFamilies (Member V)) (q : List ℕ) (b to : ℕ) (m : Member V) → find order q h.values ≡ Some m → (b ≡ 0)
+      ⊎ (goes_on h.values q b ≡ true) → new ≡ with_link h q b to → IsRelinked h.values new.values q b to
   relinked h new q b to m at there is = elim (cases_eq b 0) [
     | inl z ↦ record {
       string = q;
@@ -141,10 +144,12 @@ module _ {V : Type 0} where
     first_now : (r : List ℕ) (m : Member V) → find order r new.values ≡ Some m → IsNextSign mid.values r 0 m.first
     first_now r m e = elim (equal_or_not r step.relink.string) [
       | inl same ↦
-          let found : Some step.relink.now ≡ Some m = sym (find_put_same step.relink.string step.relink.now mid.values) ∙ sym (ap (λ p. find order p (put order step.relink.string step.relink.now mid.values)) same.0) ∙ sym (ap (find order r) re_values) ∙ e in
+          let found : Some step.relink.now ≡ Some m = sym (find_put_same step.relink.string step.relink.now mid.values)
+          ∙ sym (ap (λ p. find order p (put order step.relink.string step.relink.now mid.values)) same.0) ∙ sym (ap (find order r) re_values) ∙ e in
           let is : step.relink.now ≡ m = cc in
           subst (λ (k : Member V). IsNextSign mid.values r 0 k.first) is (elim step.relink.either [
-            | inl z ↦ subst (λ p. IsNextSign mid.values p 0 step.relink.now.first) (sym (same.0 ∙ z.1)) (subst (IsNextSign mid.values q 0) (sym z.2) (subst (λ t. IsNextSign mid.values q t to) z.0 step.written))
+            | inl z ↦ subst (λ p. IsNextSign mid.values p 0 step.relink.now.first) (sym (same.0 ∙ z.1))
+                (subst (IsNextSign mid.values q 0) (sym z.2) (subst (λ t. IsNextSign mid.values q t to) z.0 step.written))
             | inr n ↦
                 let behind : r ≡ q ++ b ∷ [] = same.0 ∙ n.1 in
                 let other : r ≢ q = λ z. not_longer q b (sym behind ∙ z) in
@@ -159,7 +164,8 @@ module _ {V : Type 0} where
             | inr other ↦
                 let first = step.links.first r m (sym (step.there r other.0) ∙ at_mid) in
                 elim (equal_or_not r q) [
-                  | inl here ↦ subst (λ p. IsNextSign mid.values p 0 m.first) (sym here.0) (step.others 0 m.first (not_first here.0 off.0) (let up = step.positive in omega arith) (inl refl) (subst (λ p. IsNextSign h.values p 0 m.first) here.0 first))
+                  | inl here ↦ subst (λ p. IsNextSign mid.values p 0 m.first) (sym here.0)
+                      (step.others 0 m.first (not_first here.0 off.0) (let up = step.positive in omega arith) (inl refl) (subst (λ p. IsNextSign h.values p 0 m.first) here.0 first))
                   | inr away ↦ to_mid r 0 m.first away.0 first
                 ]
           ]
@@ -174,7 +180,8 @@ module _ {V : Type 0} where
     next_now : (p : List ℕ) (t : ℕ) (m : Member V) → p ≢ [] → find order (p ++ t ∷ []) new.values ≡ Some m → IsNextSign mid.values p t m.next
     next_now p t m some e = elim (equal_or_not (p ++ t ∷ []) step.relink.string) [
       | inl same ↦
-          let found : Some step.relink.now ≡ Some m = sym (find_put_same step.relink.string step.relink.now mid.values) ∙ sym (ap (λ r. find order r (put order step.relink.string step.relink.now mid.values)) same.0) ∙ sym (ap (find order (p ++ t ∷ [])) re_values) ∙ e in
+          let found : Some step.relink.now ≡ Some m = sym (find_put_same step.relink.string step.relink.now mid.values)
+          ∙ sym (ap (λ r. find order r (put order step.relink.string step.relink.now mid.values)) same.0) ∙ sym (ap (find order (p ++ t ∷ [])) re_values) ∙ e in
           let is : step.relink.now ≡ m = cc in
           subst (λ (k : Member V). IsNextSign mid.values p t k.next) is (elim step.relink.either [
             | inl z ↦
@@ -185,14 +192,17 @@ module _ {V : Type 0} where
                 to_mid p t step.relink.now.next other (subst (IsNextSign h.values p t) (sym z.3) next)
             | inr n ↦
                 let parts = same_from_push p q t b (same.0 ∙ n.1) in
-                subst (λ r. IsNextSign mid.values r t step.relink.now.next) (sym parts.0) (subst (λ x. IsNextSign mid.values q x step.relink.now.next) (sym parts.1) (subst (IsNextSign mid.values q b) (sym n.2) step.written))
+                subst (λ r. IsNextSign mid.values r t step.relink.now.next) (sym parts.0)
+                (subst (λ x. IsNextSign mid.values q x step.relink.now.next) (sym parts.1) (subst (IsNextSign mid.values q b) (sym n.2) step.written))
           ])
       | inr off ↦
-          let at_mid : find order (p ++ t ∷ []) mid.values ≡ Some m = sym (find_put_other (p ++ t ∷ []) step.relink.string step.relink.now mid.values off.0) ∙ sym (ap (find order (p ++ t ∷ [])) re_values) ∙ e in
+          let at_mid : find order (p ++ t ∷ []) mid.values ≡ Some m = sym (find_put_other (p ++ t ∷ []) step.relink.string step.relink.now mid.values off.0)
+          ∙ sym (ap (find order (p ++ t ∷ [])) re_values) ∙ e in
           elim (equal_or_not (p ++ t ∷ []) (q ++ s ∷ [])) [
             | inl own ↦
                 let parts = same_from_push p q t s own.0 in
-                subst (λ r. IsNextSign mid.values r t m.next) (sym parts.0) (subst (λ x. IsNextSign mid.values q x m.next) (sym parts.1) (step.own m (ap (λ r. find order r mid.values) (sym own.0) ∙ at_mid)).0)
+                subst (λ r. IsNextSign mid.values r t m.next) (sym parts.0)
+                (subst (λ x. IsNextSign mid.values q x m.next) (sym parts.1) (step.own m (ap (λ r. find order r mid.values) (sym own.0) ∙ at_mid)).0)
             | inr other ↦
                 let at_old = sym (step.there (p ++ t ∷ []) other.0) ∙ at_mid in
                 let next = step.links.next p t m some at_old in
@@ -201,7 +211,8 @@ module _ {V : Type 0} where
                   | inl here ↦
                       let goes : goes_on h.values q t ≡ true = goes_found h.values q t m (ap (λ r. find order (r ++ t ∷ []) h.values) (sym here.0) ∙ at_old) in
                       let not_s : t ≢ s = λ z. other.0 (λ i. here.0 i ++ z i ∷ []) in
-                      subst (λ r. IsNextSign mid.values r t m.next) (sym here.0) (step.others t m.next (not_b here.0 off.0 goes) not_s (inr goes) (subst (λ r. IsNextSign h.values r t m.next) here.0 next))
+                      subst (λ r. IsNextSign mid.values r t m.next) (sym here.0)
+                      (step.others t m.next (not_b here.0 off.0 goes) not_s (inr goes) (subst (λ r. IsNextSign h.values r t m.next) here.0 next))
                 ]
           ]
     ]

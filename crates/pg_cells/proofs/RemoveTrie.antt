@@ -40,7 +40,8 @@ abbrev pub removed : {V : Type 0} → Trie V → List ℕ → ℕ → Trie V
 removed t p s = record { families = without_sign t.families p s; values = without_key (p ++ s ∷ []) t.values }
 
 -- the step of the placement, in its two cases
-pub sign_left : (fs : Families) (p : List ℕ) (s : ℕ) (f : Family) → family_at fs p ≡ Some f → signs_left s f.signs ≢ [] → without_sign fs p s ≡ put order p (record { base = f.base; signs = signs_left s f.signs }) fs
+pub sign_left : (fs : Families) (p : List ℕ) (s : ℕ) (f : Family) → family_at fs p ≡ Some f → signs_left s f.signs ≢ [] → without_sign fs p s
+    ≡ put order p (record { base = f.base; signs = signs_left s f.signs }) fs
 unfolding without_sign
 sign_left fs p s f at some =
     ap (λ o. elim o as (λ _. Families) [
@@ -52,7 +53,8 @@ sign_left fs p s f at some =
     ]) at
     ∙ by (signs_left s f.signs) some
   where
-    by : (xs : List ℕ) → xs ≢ [] → (elim xs as (λ _. Families) [ [] ↦ without_family fs p | x ∷ ys ↦ put order p (record { base = f.base; signs = x ∷ ys }) fs ]) ≡ put order p (record { base = f.base; signs = xs }) fs
+    by : (xs : List ℕ) → xs ≢ [] → (elim xs as (λ _. Families) [ [] ↦ without_family fs p | x ∷ ys ↦ put order p (record { base = f.base; signs = x ∷ ys }) fs ])
+        ≡ put order p (record { base = f.base; signs = xs }) fs
     by [] n = absurd (n refl)
     by (x ∷ xs) n = refl
 

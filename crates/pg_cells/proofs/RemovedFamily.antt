@@ -155,7 +155,17 @@ module _ {V : Type 0} (n : ℕ) (r freed unlinked new : Row V) (t : Trie V) (tri
   trie_gone = record {
     sorted = sorted_without p t.families trie.sorted;
     layout = laid_left;
-    count = omega (arith, frees.count, links.count, flags.count, trie.count, taken_without p t.families trie.sorted, ap size_of at, one_less n r new t trie p f at s has gone same, ap length none_left);
+    count = omega (
+      arith,
+      frees.count,
+      links.count,
+      flags.count,
+      trie.count,
+      taken_without p t.families trie.sorted,
+      ap size_of at,
+      one_less n r new t trie p f at s has gone same,
+      ap length none_left,
+    );
     ordered = sorted_without (p ++ s ∷ []) t.values trie.ordered;
     has = values_removed n r new t trie fs p s there (ap (λ o. cell_told o s) (find_without_same p t.families))
         (λ y other. ap (λ o. cell_told o y) (find_without_same p t.families) ∙ sym (ap (λ o. cell_told o y) at ∙ ap (λ b. cond b (Some (f.base + y)) None) (lacks y other)))
@@ -165,7 +175,8 @@ module _ {V : Type 0} (n : ℕ) (r freed unlinked new : Row V) (t : Trie V) (tri
       lacks : (y : ℕ) → y ≢ s → list_any (nat_eq y) f.signs ≡ false
       lacks y other = elim (cases_Bool (list_any (nat_eq y) f.signs)) [ inl e ↦ absurd (other (only y e)) | inr e ↦ e ]
 
-      values : (q : List ℕ) (g : Family) (y : ℕ) → q ++ y ∷ [] ≢ p ++ s ∷ [] → family_at t.families q ≡ Some g → sign_at r (g.base + y) ≡ y → 0 < y → slice_get new.values (g.base + y) ≡ slice_get r.values (g.base + y)
+      values : (q : List ℕ) (g : Family) (y : ℕ) → q ++ y ∷ [] ≢ p ++ s ∷ [] → family_at t.families q ≡ Some g → sign_at r (g.base + y) ≡ y → 0 < y
+          → slice_get new.values (g.base + y) ≡ slice_get r.values (g.base + y)
       values q g y other gat is up = value_now (g.base + y) ∙ frees.elsewhere.values (g.base + y) (elim (equal_or_not q p) [
         | inl e ↦ λ z.
             let family = is_f g (ap (family_at t.families) (sym e.0) ∙ gat) in

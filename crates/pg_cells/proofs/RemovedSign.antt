@@ -114,7 +114,8 @@ module _ {V : Type 0} (n : ℕ) (r new : Row V) (t : Trie V) (trie : IsTrie n r 
         values;
   }
     where
-      values : (q : List ℕ) (g : Family) (y : ℕ) → q ++ y ∷ [] ≢ p ++ s ∷ [] → family_at t.families q ≡ Some g → sign_at r (g.base + y) ≡ y → 0 < y → slice_get new.values (g.base + y) ≡ slice_get r.values (g.base + y)
+      values : (q : List ℕ) (g : Family) (y : ℕ) → q ++ y ∷ [] ≢ p ++ s ∷ [] → family_at t.families q ≡ Some g → sign_at r (g.base + y) ≡ y → 0 < y
+          → slice_get new.values (g.base + y) ≡ slice_get r.values (g.base + y)
       values q g y other gat is up = frees.elsewhere.values (g.base + y) (elim (equal_or_not q p) [
         | inl e ↦ λ z.
             let family = is_f g (ap (family_at t.families) (sym e.0) ∙ gat) in

@@ -20,7 +20,8 @@ module _ {V : Type 0} (n : ℕ) (r new : Row V) (t : Trie V) (trie : IsTrie n r 
     (there : (q : List ℕ) → q ≢ p → family_at fs q ≡ family_at t.families q)
     (gone : cell_told (family_at fs p) s ≡ None)
     (own : (y : ℕ) → y ≢ s → cell_told (family_at fs p) y ≡ cell_told (family_at t.families p) y)
-    (values : (q : List ℕ) (g : Family) (y : ℕ) → q ++ y ∷ [] ≢ p ++ s ∷ [] → family_at t.families q ≡ Some g → sign_at r (g.base + y) ≡ y → 0 < y → slice_get new.values (g.base + y) ≡ slice_get r.values (g.base + y)) where
+    (values : (q : List ℕ) (g : Family) (y : ℕ) → q ++ y ∷ [] ≢ p ++ s ∷ [] → family_at t.families q ≡ Some g → sign_at r (g.base + y) ≡ y → 0 < y
+    → slice_get new.values (g.base + y) ≡ slice_get r.values (g.base + y)) where
   value_kept : (q : List ℕ) (y : ℕ) → q ++ y ∷ [] ≢ p ++ s ∷ [] → (o : Option Family) → family_at t.families q ≡ o → value_in r (cell_told o y) ≡ value_in new (cell_told o y)
   value_kept q y other None at = refl
   value_kept q y other (Some g) at = by (list_any (nat_eq y) g.signs) refl

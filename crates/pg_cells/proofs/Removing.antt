@@ -14,7 +14,8 @@ abbrev pub signs_left : ℕ → List ℕ → List ℕ
 signs_left s signs = filter (λ x. not (nat_eq s x)) signs
 
 -- two filters are one
-pub filter_twice : (t u : ℕ → Bool) (s a n : ℕ) → 0 < a → ((x : ℕ) → 0 < x → x ≢ s → u x ≡ t x) → u s ≡ false → filter (λ x. not (nat_eq s x)) (filter t (range_with_len a n)) ≡ filter u (range_with_len a n)
+pub filter_twice : (t u : ℕ → Bool) (s a n : ℕ) → 0 < a → ((x : ℕ) → 0 < x → x ≢ s → u x ≡ t x) → u s ≡ false → filter (λ x. not (nat_eq s x)) (filter t (range_with_len a n))
+    ≡ filter u (range_with_len a n)
 filter_twice t u s a zero up h gone = refl
 filter_twice t u s a (suc n) up h gone =
     let rest = filter_twice t u s (a + 1) n (omega arith) h gone in
@@ -35,7 +36,8 @@ filter_twice t u s a (suc n) up h gone =
     either_out false out rest = rest
 
     either_in : (b : Bool) → not (nat_eq s a) ≡ true → filter (λ x. not (nat_eq s x)) (filter t (range_with_len (a + 1) n)) ≡ filter u (range_with_len (a + 1) n)
-        → filter (λ x. not (nat_eq s x)) (cond b (a ∷ filter t (range_with_len (a + 1) n)) (filter t (range_with_len (a + 1) n))) ≡ cond b (a ∷ filter u (range_with_len (a + 1) n)) (filter u (range_with_len (a + 1) n))
+        → filter (λ x. not (nat_eq s x)) (cond b (a ∷ filter t (range_with_len (a + 1) n)) (filter t (range_with_len (a + 1) n)))
+        ≡ cond b (a ∷ filter u (range_with_len (a + 1) n)) (filter u (range_with_len (a + 1) n))
     either_in true stay rest =
         ap (λ c. cond c (a ∷ filter (λ x. not (nat_eq s x)) (filter t (range_with_len (a + 1) n))) (filter (λ x. not (nat_eq s x)) (filter t (range_with_len (a + 1) n)))) stay ∙ ap (λ l. a ∷ l) rest
     either_in false stay rest = rest

@@ -46,7 +46,8 @@ blanks_below blank x a (suc n) lt =
 
 blanks_sorted : {V : Type 0} (blank : V) (a n : ℕ) → T (is_sorted order (blanks blank (range_with_len a n)))
 blanks_sorted blank a zero = tt
-blanks_sorted blank a (suc n) = both_halves (below_all order (a ∷ []) (blanks blank (range_with_len (a + 1) n))) (is_sorted order (blanks blank (range_with_len (a + 1) n))) (blanks_below blank a (a + 1) n (omega arith)) (blanks_sorted blank (a + 1) n)
+blanks_sorted blank a (suc n) = both_halves (below_all order (a ∷ []) (blanks blank (range_with_len (a + 1) n))) (is_sorted order (blanks blank (range_with_len (a + 1) n)))
+    (blanks_below blank a (a + 1) n (omega arith)) (blanks_sorted blank (a + 1) n)
 
 module _ {V : Type 0} (blank : V) where
   find_empty : (xs : List ℕ) → find order [] (blanks blank xs) ≡ None

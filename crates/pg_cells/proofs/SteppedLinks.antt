@@ -27,12 +27,14 @@ sign_differs p x y other e = other (same_sign p e)
 longer_differs : (p : List ℕ) (s z : ℕ) → (p ++ s ∷ []) ++ z ∷ [] ≢ p ++ s ∷ []
 longer_differs p s z e = not_longer (p ++ s ∷ []) z e
 
-module _ {V : Type 0} (h mid new : ValuedFamilies (Member V)) (links : AreLinks h) (p : List ℕ) (parent : ℕ) (at : cell_of h.families p ≡ Some parent) (s : ℕ) (up : 1 ≤ s) (b : ℕ) (before : IsBefore h.values p s b) where
+module _ {V : Type 0} (h mid new : ValuedFamilies (Member V)) (links : AreLinks h) (p : List ℕ) (parent : ℕ) (at : cell_of h.families p ≡ Some parent)
+    (s : ℕ) (up : 1 ≤ s) (b : ℕ) (before : IsBefore h.values p s b) where
   -- the parent's own entry
   own_entry : (m : Member V) × (find order p h.values ≡ Some m)
   own_entry = links.held.valued p parent at
 
-  module _ (lacks : cell_of h.families (p ++ s ∷ []) ≡ None) (after : ℕ) (next : IsNextSign h.values p b after) (v : V) (values : mid.values ≡ put order (p ++ s ∷ []) (record { value = v; next = after; first = 0 }) h.values) where
+  module _ (lacks : cell_of h.families (p ++ s ∷ []) ≡ None) (after : ℕ) (next : IsNextSign h.values p b after) (v : V)
+      (values : mid.values ≡ put order (p ++ s ∷ []) (record { value = v; next = after; first = 0 }) h.values) where
     abbrev entry : Member V
     entry = record { value = v; next = after; first = 0 }
 
@@ -65,7 +67,8 @@ module _ {V : Type 0} (h mid new : ValuedFamilies (Member V)) (links : AreLinks 
     add_own m e =
         let found : Some entry ≡ Some m = sym (find_put_same (p ++ s ∷ []) entry h.values) ∙ sym (ap (find order (p ++ s ∷ [])) values) ∙ e in
         let is : entry ≡ m = cc in (
-          subst (λ (k : Member V). IsNextSign mid.values p s k.next) is (more_after (goes_on h.values p) (goes_on mid.values p) s b after has_more before.less before.there before.most next lacks_goes),
+          subst (λ (k : Member V). IsNextSign mid.values p s k.next) is
+              (more_after (goes_on h.values p) (goes_on mid.values p) s b after has_more before.less before.there before.most next lacks_goes),
           subst (λ (k : Member V). IsNextSign mid.values (p ++ s ∷ []) 0 k.first) is (record {
             found = λ up. absurd (omega arith);
             least = λ z lt goes. absurd (both_ways (goes_on mid.values (p ++ s ∷ []) z) (none_further z) goes);

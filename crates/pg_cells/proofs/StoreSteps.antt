@@ -77,23 +77,27 @@ module _ {V : Type 0} (old new : List (Cell V)) (top taken : ℕ) (kept : IsKept
   -- the child of a taken cell is written
   pub kept_child : (i x : ℕ) → sign_at (row_of old) i ≢ 0 → lists new ≡ record (lists old) { row = with_child (lists old).row i x; afters = set (lists old).afters i x } → IsKept new top taken
   kept_child i x taken_i e = record {
-    linked = subst (λ ls. AreLinked ls) (sym e) (Linked-elsewhere _ _ _ _ kept.linked (λ j free. get_or-set_other (lists old).afters i j x 0 (λ z. not_free (row_of old) i taken_i (subst (λ k. IsFree (row_of old) k) z free))));
+    linked = subst (λ ls. AreLinked ls) (sym e) (Linked-elsewhere _ _ _ _ kept.linked
+        (λ j free. get_or-set_other (lists old).afters i j x 0 (λ z. not_free (row_of old) i taken_i (subst (λ k. IsFree (row_of old) k) z free))));
     small = let h = kept.small in omega arith;
     greatest = subst (λ ss. IsTop ss top) (sym (ap (λ (ls : Lists (Member V)). ls.row.signs) e)) kept.greatest;
     count = kept.count ∙ ap how_many (sym (ap (λ (ls : Lists (Member V)). ls.row.signs) e));
   }
 
   -- the value of a taken cell is written
-  pub kept_value : (i x : ℕ) (value : Member V) → sign_at (row_of old) i ≢ 0 → lists new ≡ record (lists old) { row = with_value (lists old).row i value; befores = set (lists old).befores i x } → IsKept new top taken
+  pub kept_value : (i x : ℕ) (value : Member V) → sign_at (row_of old) i ≢ 0 → lists new ≡ record (lists old) { row = with_value (lists old).row i value; befores = set (lists old).befores i x }
+      → IsKept new top taken
   kept_value i x value taken_i e = record {
-    linked = subst (λ ls. AreLinked ls) (sym e) (Linked-beside _ _ _ _ kept.linked (λ j free. get_or-set_other (lists old).befores i j x 0 (λ z. not_free (row_of old) i taken_i (subst (λ k. IsFree (row_of old) k) z free))));
+    linked = subst (λ ls. AreLinked ls) (sym e) (Linked-beside _ _ _ _ kept.linked
+        (λ j free. get_or-set_other (lists old).befores i j x 0 (λ z. not_free (row_of old) i taken_i (subst (λ k. IsFree (row_of old) k) z free))));
     small = let h = kept.small in omega arith;
     greatest = subst (λ ss. IsTop ss top) (sym (ap (λ (ls : Lists (Member V)). ls.row.signs) e)) kept.greatest;
     count = kept.count ∙ ap how_many (sym (ap (λ (ls : Lists (Member V)). ls.row.signs) e));
   }
 
   -- a free cell is taken
-  pub kept_taken : (i sign : ℕ) (value : Member V) (child r : ℕ) → i < length old → IsFree (row_of old) i → sign ≢ 0 → (lists new).row ≡ with_taken (lists old).row i sign value child → AreLinked (lists new) → r ≡ max top i
+  pub kept_taken : (i sign : ℕ) (value : Member V) (child r : ℕ) → i < length old → IsFree (row_of old) i → sign ≢ 0 → (lists new).row
+      ≡ with_taken (lists old).row i sign value child → AreLinked (lists new) → r ≡ max top i
       → IsKept new r (taken + 1)
   kept_taken i sign value child r lt free positive e linked is = record {
     linked = linked;

@@ -156,7 +156,8 @@ module _ {V : Type 0} (n : ℕ) (r : Row V) (t : Trie V) (trie : IsTrie n r t) w
       a.whole ∙ (λ i. fronts i ++ last i ∷ []) ∙ sym b.whole
 
   -- a value is written
-  pub value_written : (q : List ℕ) (cell : ℕ) (v : V) (r' : Row V) → cell_of t.families q ≡ Some cell → SetsValue r r' cell v → IsTrie n r' (record { families = t.families; values = put order q v t.values })
+  pub value_written : (q : List ℕ) (cell : ℕ) (v : V) (r' : Row V) → cell_of t.families q ≡ Some cell → SetsValue r r' cell v
+      → IsTrie n r' (record { families = t.families; values = put order q v t.values })
   value_written q cell v r' e w = record {
     sorted = trie.sorted;
     layout = laid_alike (family_at t.families) trie.layout r' signs children w.elsewhere.bases;

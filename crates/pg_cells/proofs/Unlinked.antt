@@ -49,24 +49,26 @@ module _ {V : Type 0} where
   sorted_plain es h = subst T (sym (sorted_same es)) h
 
   pub put_plain : (q : List ℕ) (m : Member V) (es : List (List ℕ × Member V)) → T (is_sorted order es) → plain (put order q m es) ≡ put order q m.value (plain es)
-  put_plain q m es h = same_maps (plain (put order q m es)) (put order q m.value (plain es)) (sorted_plain (put order q m es) (sorted_put q m es h)) (sorted_put q m.value (plain es) (sorted_plain es h)) (λ p. elim (equal_or_not p q) [
-    | inl e ↦
-        ap (λ r. find order r (plain (put order q m es))) e.0 ∙ found_plain q m (put order q m es) (find_put_same q m es)
-        ∙ sym (ap (λ r. find order r (put order q m.value (plain es))) e.0 ∙ find_put_same q m.value (plain es))
-    | inr e ↦
-        find_plain p (put order q m es) ∙ ap (option_map (λ (k : Member V). k.value)) (find_put_other p q m es e.0)
-        ∙ sym (find_put_other p q m.value (plain es) e.0 ∙ find_plain p es)
-  ])
+  put_plain q m es h = same_maps (plain (put order q m es)) (put order q m.value (plain es)) (sorted_plain (put order q m es) (sorted_put q m es h))
+      (sorted_put q m.value (plain es) (sorted_plain es h)) (λ p. elim (equal_or_not p q) [
+        | inl e ↦
+            ap (λ r. find order r (plain (put order q m es))) e.0 ∙ found_plain q m (put order q m es) (find_put_same q m es)
+            ∙ sym (ap (λ r. find order r (put order q m.value (plain es))) e.0 ∙ find_put_same q m.value (plain es))
+        | inr e ↦
+            find_plain p (put order q m es) ∙ ap (option_map (λ (k : Member V). k.value)) (find_put_other p q m es e.0)
+            ∙ sym (find_put_other p q m.value (plain es) e.0 ∙ find_plain p es)
+      ])
 
   pub without_plain : (q : List ℕ) (es : List (List ℕ × Member V)) → T (is_sorted order es) → plain (without_key q es) ≡ without_key q (plain es)
-  without_plain q es h = same_maps (plain (without_key q es)) (without_key q (plain es)) (sorted_plain (without_key q es) (sorted_without q es h)) (sorted_without q (plain es) (sorted_plain es h)) (λ p. elim (equal_or_not p q) [
-    | inl e ↦
-        ap (λ r. find order r (plain (without_key q es))) e.0 ∙ find_plain q (without_key q es) ∙ ap (option_map (λ (k : Member V). k.value)) (find_without_same q es)
-        ∙ sym (ap (λ r. find order r (without_key q (plain es))) e.0 ∙ find_without_same q (plain es))
-    | inr e ↦
-        find_plain p (without_key q es) ∙ ap (option_map (λ (k : Member V). k.value)) (find_without_other p q es e.0)
-        ∙ sym (find_without_other p q (plain es) e.0 ∙ find_plain p es)
-  ])
+  without_plain q es h = same_maps (plain (without_key q es)) (without_key q (plain es)) (sorted_plain (without_key q es) (sorted_without q es h))
+      (sorted_without q (plain es) (sorted_plain es h)) (λ p. elim (equal_or_not p q) [
+        | inl e ↦
+            ap (λ r. find order r (plain (without_key q es))) e.0 ∙ find_plain q (without_key q es) ∙ ap (option_map (λ (k : Member V). k.value)) (find_without_same q es)
+            ∙ sym (ap (λ r. find order r (without_key q (plain es))) e.0 ∙ find_without_same q (plain es))
+        | inr e ↦
+            find_plain p (without_key q es) ∙ ap (option_map (λ (k : Member V). k.value)) (find_without_other p q es e.0)
+            ∙ sym (find_without_other p q (plain es) e.0 ∙ find_plain p es)
+      ])
 
   -- a value that is put where it stands changes nothing
   pub put_again : (q : List ℕ) (v : V) (es : List (List ℕ × V)) → T (is_sorted order es) → find order q es ≡ Some v → put order q v es ≡ es

@@ -50,7 +50,8 @@ first_known few n fs [] some = absurd (omega arith)
 first_known few n fs (s ∷ q) some = record { front = refl; rest = refl }
 
 -- and one more, where there is a cell
-pub more_known : (few n : ℕ) (fs : Families) (w : List ℕ) (k cell : ℕ) → 0 < k → k < length w → cell_of fs (take k w ++ get_or w k 0 ∷ []) ≡ Some cell → IsKnown few n fs w k → IsKnown few n fs w (k + 1)
+pub more_known : (few n : ℕ) (fs : Families) (w : List ℕ) (k cell : ℕ) → 0 < k → k < length w → cell_of fs (take k w ++ get_or w k 0 ∷ []) ≡ Some cell
+    → IsKnown few n fs w k → IsKnown few n fs w (k + 1)
 more_known few n fs w k cell up lt there known =
     let p = take k w in
     let s = get_or w k 0 in
@@ -81,11 +82,13 @@ module _ {V : Type 0} where
           absurd (let no : ⊥ = cc in no)
 
   -- where there is no base, no string goes on
-  pub none_below : (h : ValuedFamilies V) → AreValuedFamilies h → (q : List ℕ) (base : ℕ) → base_of h.families q ≡ cond (nat_eq base 0) None (Some base) → base ≡ 0 → (x : ℕ) → EndsBefore h.values (q ++ x ∷ [])
+  pub none_below : (h : ValuedFamilies V) → AreValuedFamilies h → (q : List ℕ) (base : ℕ) → base_of h.families q ≡ cond (nat_eq base 0) None (Some base)
+      → base ≡ 0 → (x : ℕ) → EndsBefore h.values (q ++ x ∷ [])
   none_below h held q base e z x = ends_before h held q x (childless h.families q x (e ∙ ap (λ b. cond b None (Some base)) (eq-eqb base 0 z)))
 
   -- and where there is one, some string does
-  pub some_below : (h : ValuedFamilies V) → AreValuedFamilies h → (q : List ℕ) (base : ℕ) → base_of h.families q ≡ cond (nat_eq base 0) None (Some base) → 0 < base → (x : ℕ) × (v : V) × (find order (q ++ x ∷ []) h.values ≡ Some v)
+  pub some_below : (h : ValuedFamilies V) → AreValuedFamilies h → (q : List ℕ) (base : ℕ) → base_of h.families q ≡ cond (nat_eq base 0) None (Some base)
+      → 0 < base → (x : ℕ) × (v : V) × (find order (q ++ x ∷ []) h.values ≡ Some v)
   some_below h held q base e up =
       let other : base ≢ 0 = λ z. omega arith in
       let below = held.filled q base (e ∙ ap (λ b. cond b None (Some base)) (ne_eqb base 0 other)) in
@@ -160,12 +163,14 @@ module _ {V : Type 0} where
       by (Some cell) e = ap (λ (h : ValuedFamilies V). h.signs) e
 
   -- the values after a step on the way to w
-  pub step_values : (few : ℕ) (w : List ℕ) (old new : ValuedFamilies V) (k : ℕ) (q : List ℕ) (s : ℕ) (blank : V) → AreValuedFamilies old → take k w ≡ q ++ s ∷ [] → Steps few old new q s blank → AddsBlanks w blank old.values new.values
+  pub step_values : (few : ℕ) (w : List ℕ) (old new : ValuedFamilies V) (k : ℕ) (q : List ℕ) (s : ℕ) (blank : V) → AreValuedFamilies old → take k w ≡ q
+      ++ s ∷ [] → Steps few old new q s blank → AddsBlanks w blank old.values new.values
   step_values few w old new k q s blank held way steps = by (cell_of old.families (q ++ s ∷ [])) refl steps
     where
       by : (o : Option ℕ) → cell_of old.families (q ++ s ∷ []) ≡ o → StepsBy few o old new q s blank → AddsBlanks w blank old.values new.values
       by None is e =
-          let none : find order (take k w) old.values ≡ None = ap (λ y. find order y old.values) way ∙ sym (ap (λ y. find order y old.values) (append-nil (q ++ s ∷ []))) ∙ ends_before old held q s is [] in
+          let none : find order (take k w) old.values ≡ None = ap (λ y. find order y old.values) way ∙ sym (ap (λ y. find order y old.values) (append-nil (q ++ s ∷ [])))
+          ∙ ends_before old held q s is [] in
           blank_added w blank old.values new.values k none (ap (λ (h : ValuedFamilies V). h.values) e ∙ ap (λ y. put order y blank old.values) (sym way))
       by (Some cell) is e = none_added w blank old.values new.values (ap (λ (h : ValuedFamilies V). h.values) e)
 
@@ -176,7 +181,8 @@ module _ {V : Type 0} where
       let s = get_or w k 0 in
       let families = step_families few old new p s blank steps in
       ap (λ l. enter_after few n new.families l (drop (k + 1) w)) (way_more w k lt)
-      ∙ ap (λ l. enter_after few n l (p ++ s ∷ []) (drop (k + 1) w)) (families ∙ ap (λ m. elim (cell_in old.families p s) as (λ _. Families) [ Some cell ↦ old.families | None ↦ with_sign few m old.families p s ]) signs)
+      ∙ ap (λ l. enter_after few n l (p ++ s ∷ []) (drop (k + 1) w)) (families
+      ∙ ap (λ m. elim (cell_in old.families p s) as (λ _. Families) [ Some cell ↦ old.families | None ↦ with_sign few m old.families p s ]) signs)
       ∙ sym (ap (enter_after few n old.families p) (drop_more w k 0 lt))
 
   -- so much of w is entered

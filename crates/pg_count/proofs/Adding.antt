@@ -14,7 +14,8 @@ use Rattle.pg_count.proofs.Fronts.{which_number}
 use Rattle.pg_count.proofs.Wholes.{counts, counts_there, none_counted, set_counts}
 
 -- a window that is counted with a number is counted again
-module _ (h g : ValuedFamilies (Option Tally)) (windows : Windows) (len : ℕ) (are : AreLeaves h windows len) (new : AreLeaves g windows len) (u : List ℕ) (n : ℕ) (was sums : ℕ × ℕ) (good : Bool) (weight : ℕ)
+module _ (h g : ValuedFamilies (Option Tally)) (windows : Windows) (len : ℕ) (are : AreLeaves h windows len) (new : AreLeaves g windows len) (u : List ℕ)
+    (n : ℕ) (was sums : ℕ × ℕ) (good : Bool) (weight : ℕ)
     (signs : g.signs ≡ h.signs) (at : HasNumber windows u n) (there : HasTally h.values (n, was)) (is : sums ≡ with_weight was good weight) (sets : Sets h.values g.values (n, sums)) where
   found : find order u (counts h windows len are) ≡ Some was
   found = counts_there h windows len are u (n, was) there at
@@ -34,7 +35,8 @@ module _ (h g : ValuedFamilies (Option Tally)) (windows : Windows) (len : ℕ) (
 
 -- a window that is not counted gets the next number
 module _ (h g : ValuedFamilies (Option Tally)) (windows more : Windows) (len : ℕ) (are : AreLeaves h windows len) (new : AreLeaves g more len) (u : List ℕ) (sums : ℕ × ℕ) (good : Bool) (weight : ℕ)
-    (signs : g.signs ≡ h.signs) (none : (n : ℕ) → HasNumber windows u n → ⊥) (pushed : more ≡ windows ++ u ∷ []) (is : sums ≡ with_weight (0, 0) good weight) (sets : Sets h.values g.values (length windows, sums)) where
+    (signs : g.signs ≡ h.signs) (none : (n : ℕ) → HasNumber windows u n → ⊥) (pushed : more ≡ windows ++ u ∷ []) (is : sums ≡ with_weight (0, 0) good weight)
+    (sets : Sets h.values g.values (length windows, sums)) where
   absent : find order u (counts h windows len are) ≡ None
   absent = none_counted h windows len are u none
 

@@ -17,7 +17,13 @@ module _ (cells : ValuedFamilies (Option Tally)) (windows : Windows) (n len : �
   pub begun : counting_of cells windows len ≡ record { signs = n; len = len; counts = []; windows = [] }
   begun =
       ap (λ k. record { signs = k; len = len; counts = (counting_of cells windows len).counts; windows = windows }) signs
-      ∙ ap (λ (es : List (List ℕ × Tally)). record { signs = n; len = len; counts = map (λ (e : List ℕ × Tally). (e.0, sums_seen e.1)) (map (λ (e : List ℕ × Tally). (window_at windows e.1.0, e.1)) es); windows = windows }) (none_seen sums_seen (λ t. t) cells.values none)
+      ∙ ap (λ (es : List (List ℕ × Tally)). record {
+        signs = n;
+        len = len;
+        counts =
+            map (λ (e : List ℕ × Tally). (e.0, sums_seen e.1)) (map (λ (e : List ℕ × Tally). (window_at windows e.1.0, e.1)) es);
+        windows = windows;
+      }) (none_seen sums_seen (λ t. t) cells.values none)
       ∙ ap (λ ws. record { signs = n; len = len; counts = []; windows = ws }) empty
 
   pub begun_kept : AreValuedFamilies cells → AreShort cells.values len → 1 ≤ len → len ≤ LENGTH_MAX → AreCounting cells windows len

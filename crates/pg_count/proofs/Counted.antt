@@ -42,7 +42,8 @@ module _ {Y : Type 0} (see : Tally → Y) where
         | inr other ↦
             elim e.1 as (λ o. find order q (seen_in see ((e.0, o) ∷ es)) ≡ option_map see (unwrap_or (cond (same_string q e.0) (Some o) (find order q es)) None)) [
               | None ↦ rest ∙ sym (ap (λ b. option_map see (unwrap_or (cond b (Some None) (find order q es)) None)) other.1)
-              | Some t ↦ ap (λ b. cond b (Some (see t)) (find order q (seen_in see es))) other.1 ∙ rest ∙ sym (ap (λ b. option_map see (unwrap_or (cond b (Some (Some t)) (find order q es)) None)) other.1)
+              | Some t ↦ ap (λ b. cond b (Some (see t)) (find order q (seen_in see es))) other.1 ∙ rest
+                  ∙ sym (ap (λ b. option_map see (unwrap_or (cond b (Some (Some t)) (find order q es)) None)) other.1)
             ]
       ]
 
@@ -110,7 +111,8 @@ module _ {Y : Type 0} (see : Tally → Y) where
       by : (r : List ℕ) → r ≢ p → ((r ≡ q) × (same_string r q ≡ true)) ⊎ ((r ≢ q) × (same_string r q ≡ false))
           → option_map see (tally_of_string (put order q None (put order p (Some t) ts)) r) ≡ find order r (without_key q (seen_in see ts))
       by r n (inl same) =
-          ap (λ x. option_map see (tally_of_string (put order q None (put order p (Some t) ts)) x)) same.0 ∙ ap (λ o. option_map see (unwrap_or o None)) (find_put_same q None (put order p (Some t) ts))
+          ap (λ x. option_map see (tally_of_string (put order q None (put order p (Some t) ts)) x)) same.0
+          ∙ ap (λ o. option_map see (unwrap_or o None)) (find_put_same q None (put order p (Some t) ts))
           ∙ sym (ap (λ x. find order x (without_key q (seen_in see ts))) same.0 ∙ find_without_same q (seen_in see ts))
       by r n (inr other) =
           ap (λ o. option_map see (unwrap_or o None)) (find_put_other r q None (put order p (Some t) ts) other.0 ∙ find_put_other r p (Some t) ts n)
@@ -138,7 +140,8 @@ none_seen {Z = Z} see look ts none = by (seen_in look ts) (sym (seen_strings see
     by (x ∷ l) e = absurd (let no : Some x.0 ∷ map (λ e. Some e.0) l ≡ [] = e in cc)
 
 -- what is found with something seen has a tally
-pub tally_there : {Y : Type 0} (see : Tally → Y) (ts : Tallies) (q : List ℕ) (y : Y) → T (is_sorted order ts) → find order q (seen_in see ts) ≡ Some y → (t : Tally) × (find order q ts ≡ Some (Some t)) × (see t ≡ y)
+pub tally_there : {Y : Type 0} (see : Tally → Y) (ts : Tallies) (q : List ℕ) (y : Y) → T (is_sorted order ts) → find order q (seen_in see ts) ≡ Some y
+    → (t : Tally) × (find order q ts ≡ Some (Some t)) × (see t ≡ y)
 tally_there see ts q y h at = by (find order q ts) refl
   where
     told : (o : Option (Option Tally)) → find order q ts ≡ o → option_map see (unwrap_or o None) ≡ Some y

@@ -26,7 +26,8 @@ apart tallies p q o none there e = let wrong : None ≡ Some o = sym none ∙ ap
 
 module _ (h : ValuedFamilies (Option Tally)) (windows : Windows) (len : ℕ) (are : AreLeaves h windows len) where
   -- a sign was added where no string was counted
-  module _ (g : ValuedFamilies (Option Tally)) (q : List ℕ) (s : ℕ) (adds : Adds h g q s) (blank : find order q h.values ≡ Some None) (ends : EndsBefore h.values (q ++ s ∷ [])) (less : length q < len) where
+  module _ (g : ValuedFamilies (Option Tally)) (q : List ℕ) (s : ℕ) (adds : Adds h g q s) (blank : find order q h.values ≡ Some None)
+      (ends : EndsBefore h.values (q ++ s ∷ [])) (less : length q < len) where
     new_none : find order (q ++ s ∷ []) h.values ≡ None
     new_none = ap (λ r. find order r h.values) (sym (append-nil (q ++ s ∷ []))) ∙ ends []
 
@@ -78,7 +79,8 @@ module _ (h : ValuedFamilies (Option Tally)) (windows : Windows) (len : ℕ) (ar
     added_keeps = record { keeps = λ t has. (has.0, added_to has.0 t has.1); back = λ t has. (has.0, added_from has.0 t has.1) }
 
   -- a tally was pushed down
-  module _ (g : ValuedFamilies (Option Tally)) (q : List ℕ) (s : ℕ) (r : List ℕ) (t : Tally) (pushes : PushesDown h g q s t) (there : find order q h.values ≡ Some (Some t)) (row : HasNumber windows (q ++ s ∷ r) t.0) where
+  module _ (g : ValuedFamilies (Option Tally)) (q : List ℕ) (s : ℕ) (r : List ℕ) (t : Tally) (pushes : PushesDown h g q s t) (there : find order q h.values ≡ Some (Some t))
+      (row : HasNumber windows (q ++ s ∷ r) t.0) where
     below_none : find order (q ++ s ∷ []) h.values ≡ None
     below_none = ap (λ p. find order p h.values) (sym (append-nil (q ++ s ∷ []))) ∙ are.last q t there s []
 
@@ -86,7 +88,8 @@ module _ (h : ValuedFamilies (Option Tally)) (windows : Windows) (len : ℕ) (ar
     pushed_other p n m = ap (find order p) pushes.values ∙ find_put_other p q None (put order (q ++ s ∷ []) (Some t) h.values) n ∙ find_put_other p (q ++ s ∷ []) (Some t) h.values m
 
     pushed_here : find order (q ++ s ∷ []) g.values ≡ Some (Some t)
-    pushed_here = ap (find order (q ++ s ∷ [])) pushes.values ∙ find_put_other (q ++ s ∷ []) q None (put order (q ++ s ∷ []) (Some t) h.values) (longer q s []) ∙ find_put_same (q ++ s ∷ []) (Some t) h.values
+    pushed_here = ap (find order (q ++ s ∷ [])) pushes.values ∙ find_put_other (q ++ s ∷ []) q None (put order (q ++ s ∷ []) (Some t) h.values) (longer q s [])
+        ∙ find_put_same (q ++ s ∷ []) (Some t) h.values
 
     pub pushed_blank : find order q g.values ≡ Some None
     pushed_blank = ap (find order q) pushes.values ∙ find_put_same q None (put order (q ++ s ∷ []) (Some t) h.values)
@@ -214,7 +217,8 @@ module _ (h : ValuedFamilies (Option Tally)) (windows : Windows) (len : ℕ) (ar
     ]
 
 -- the sums of a counted window were set
-module _ (h g : ValuedFamilies (Option Tally)) (windows : Windows) (len : ℕ) (are : AreLeaves h windows len) (q : List ℕ) (n : ℕ) (was sums : ℕ × ℕ) (held : AreValuedFamilies g) (signs : g.signs ≡ h.signs)
+module _ (h g : ValuedFamilies (Option Tally)) (windows : Windows) (len : ℕ) (are : AreLeaves h windows len) (q : List ℕ) (n : ℕ) (was sums : ℕ × ℕ)
+    (held : AreValuedFamilies g) (signs : g.signs ≡ h.signs)
     (values : g.values ≡ put order q (Some (n, sums)) h.values) (size : length (numbers_in g.values) ≡ length (numbers_in h.values)) (there : find order q h.values ≡ Some (Some (n, was))) where
   alone : IsLast h.values q
   alone = are.last q (n, was) there
@@ -272,11 +276,13 @@ module _ (h g : ValuedFamilies (Option Tally)) (windows : Windows) (len : ℕ) (
 
 -- a window more was counted
 module _ (h g : ValuedFamilies (Option Tally)) (windows : Windows) (len : ℕ) (are : AreLeaves h windows len) (q r : List ℕ) (sums : ℕ × ℕ) (held : AreValuedFamilies g) (signs : g.signs ≡ h.signs)
-    (values : g.values ≡ put order q (Some (length windows, sums)) h.values) (size : length (numbers_in g.values) ≡ length (numbers_in h.values) + 1) (there : find order q h.values ≡ Some None) (alone : IsLast h.values q)
+    (values : g.values ≡ put order q (Some (length windows, sums)) h.values) (size : length (numbers_in g.values) ≡ length (numbers_in h.values) + 1)
+    (there : find order q h.values ≡ Some None) (alone : IsLast h.values q)
     (long : length (q ++ r) ≡ len) (within : SignsWithin h.signs (q ++ r)) where
   more_to : (p : List ℕ) (v : Tally) → find order p h.values ≡ Some (Some v) → find order p g.values ≡ Some (Some v)
   more_to p v at =
-      set_other h windows len are g q None (length windows, sums) held signs values there alone p (λ e. (let wrong : Some (Some v) ≡ Some None = sym at ∙ ap (λ z. find order z h.values) e ∙ there in cc)) ∙ at
+      set_other h windows len are g q None (length windows, sums) held signs values there alone p
+      (λ e. (let wrong : Some (Some v) ≡ Some None = sym at ∙ ap (λ z. find order z h.values) e ∙ there in cc)) ∙ at
 
   more_here : find order q g.values ≡ Some (Some (length windows, sums))
   more_here = set_here h windows len are g q None (length windows, sums) held signs values there alone

@@ -75,7 +75,8 @@ tally_parts first tallies k n sums is = elim (older_or_not first k) [
         (le, number, ap (slice_get tallies) (sym number) ∙ e ∙ ap Some same)
 
 -- the number in the cell of a string that is counted
-pub in_cell : (h : ValuedFamilies ℕ) (first : ℕ) (tallies : Sums) (q : List ℕ) (n : ℕ) (sums : ℕ × ℕ) → find order q (tallied_families h first tallies).values ≡ Some (Some (n, sums)) → (k : ℕ) × (find order q h.values ≡ Some k) × (first ≤ k) × (k - first ≡ n) × (slice_get tallies n ≡ Some sums)
+pub in_cell : (h : ValuedFamilies ℕ) (first : ℕ) (tallies : Sums) (q : List ℕ) (n : ℕ) (sums : ℕ × ℕ) → find order q (tallied_families h first tallies).values
+    ≡ Some (Some (n, sums)) → (k : ℕ) × (find order q h.values ≡ Some k) × (first ≤ k) × (k - first ≡ n) × (slice_get tallies n ≡ Some sums)
 in_cell h first tallies q n sums at =
     let x = unmapped (tally_by_number first tallies) q (Some (n, sums)) h.values at in
     let t = tally_parts first tallies x.0 n sums (sym x.2) in
@@ -122,20 +123,25 @@ module _ (n : ℕ) (h : ValuedFamilies ℕ) (root : h ≡ root_held n NOT_COUNTE
 pub tallied_put : (h g : ValuedFamilies ℕ) (first : ℕ) (tallies : Sums) (q : List ℕ) (k : ℕ) → AreValuedFamilies h → AreValuedFamilies g → g.values ≡ put order q k h.values
     → (tallied_families g first tallies).values ≡ put order q (tally_by_number first tallies k) (tallied_families h first tallies).values
 tallied_put h g first tallies q k held new values =
-    put_from q (tally_by_number first tallies k) (tallied_families h first tallies).values (tallied_families g first tallies).values (held_tallied h first tallies held).ordered (held_tallied g first tallies new).ordered
+    put_from q (tally_by_number first tallies k) (tallied_families h first tallies).values (tallied_families g first tallies).values
+    (held_tallied h first tallies held).ordered (held_tallied g first tallies new).ordered
     (found_mapped (tally_by_number first tallies) q k g.values (ap (find order q) values ∙ find_put_same q k h.values)) (λ p n.
-    find_mapped (tally_by_number first tallies) p g.values ∙ ap (option_map (tally_by_number first tallies)) (ap (find order p) values ∙ find_put_other p q k h.values n) ∙ sym (find_mapped (tally_by_number first tallies) p h.values))
+    find_mapped (tally_by_number first tallies) p g.values ∙ ap (option_map (tally_by_number first tallies)) (ap (find order p) values ∙ find_put_other p q k h.values n)
+    ∙ sym (find_mapped (tally_by_number first tallies) p h.values))
 
 -- the string q with the sign s got a cell
-module _ (h g : ValuedFamilies ℕ) (first : ℕ) (tallies : Sums) (are : AreCellNumbers h first tallies) (q : List ℕ) (s : ℕ) (signs : g.signs ≡ h.signs) (values : g.values ≡ put order (q ++ s ∷ []) NOT_COUNTED h.values) (held : AreValuedFamilies g)
+module _ (h g : ValuedFamilies ℕ) (first : ℕ) (tallies : Sums) (are : AreCellNumbers h first tallies) (q : List ℕ) (s : ℕ) (signs : g.signs ≡ h.signs)
+    (values : g.values ≡ put order (q ++ s ∷ []) NOT_COUNTED h.values) (held : AreValuedFamilies g)
     (none : find order (q ++ s ∷ []) h.values ≡ None) where
   added_values : (tallied_families g first tallies).values ≡ put order (q ++ s ∷ []) None (tallied_families h first tallies).values
-  added_values = tallied_put h g first tallies (q ++ s ∷ []) NOT_COUNTED are.held held values ∙ ap (λ o. put order (q ++ s ∷ []) o (tallied_families h first tallies).values) (older_none first tallies NOT_COUNTED are.positive)
+  added_values = tallied_put h g first tallies (q ++ s ∷ []) NOT_COUNTED are.held held values
+      ∙ ap (λ o. put order (q ++ s ∷ []) o (tallied_families h first tallies).values) (older_none first tallies NOT_COUNTED are.positive)
 
   added_size : length (numbers_in (tallied_families g first tallies).values) ≡ length (numbers_in (tallied_families h first tallies).values)
   added_size =
       ap (λ ts. length (numbers_in ts)) added_values
-      ∙ ap length (seen_blank number_seen (tallied_families h first tallies).values (q ++ s ∷ []) (held_tallied h first tallies are.held).ordered (none_mapped (tally_by_number first tallies) (q ++ s ∷ []) h.values none))
+      ∙ ap length (seen_blank number_seen (tallied_families h first tallies).values (q ++ s ∷ []) (held_tallied h first tallies are.held).ordered
+      (none_mapped (tally_by_number first tallies) (q ++ s ∷ []) h.values none))
 
   pub added_tallied : Adds (tallied_families h first tallies) (tallied_families g first tallies) q s
   added_tallied = record { held = held_tallied g first tallies held; signs = signs; values = added_values; size = added_size }
@@ -163,8 +169,10 @@ module _ (h g : ValuedFamilies ℕ) (first : ℕ) (tallies : Sums) (are : AreCel
   }
 
 -- the string q with the sign s got a cell, and the number of q
-module _ (h mid g : ValuedFamilies ℕ) (first : ℕ) (tallies : Sums) (are : AreCellNumbers h first tallies) (q : List ℕ) (s k : ℕ) (t : Tally) (signs : g.signs ≡ h.signs) (added : mid.values ≡ put order (q ++ s ∷ []) k h.values) (between : AreValuedFamilies mid)
-    (values : g.values ≡ put order q NOT_COUNTED mid.values) (held : AreValuedFamilies g) (at : find order q h.values ≡ Some k) (none : find order (q ++ s ∷ []) h.values ≡ None) (there : find order q (tallied_families h first tallies).values ≡ Some (Some t)) where
+module _ (h mid g : ValuedFamilies ℕ) (first : ℕ) (tallies : Sums) (are : AreCellNumbers h first tallies) (q : List ℕ) (s k : ℕ) (t : Tally)
+    (signs : g.signs ≡ h.signs) (added : mid.values ≡ put order (q ++ s ∷ []) k h.values) (between : AreValuedFamilies mid)
+    (values : g.values ≡ put order q NOT_COUNTED mid.values) (held : AreValuedFamilies g) (at : find order q h.values ≡ Some k)
+    (none : find order (q ++ s ∷ []) h.values ≡ None) (there : find order q (tallied_families h first tallies).values ≡ Some (Some t)) where
   pushed_tally : tally_by_number first tallies k ≡ Some t
   pushed_tally = let both : Some (tally_by_number first tallies k) ≡ Some (Some t) = sym (found_mapped (tally_by_number first tallies) q k h.values at) ∙ there in cc
 
@@ -176,7 +184,8 @@ module _ (h mid g : ValuedFamilies ℕ) (first : ℕ) (tallies : Sums) (are : Ar
   pushed_size : length (numbers_in (tallied_families g first tallies).values) ≡ length (numbers_in (tallied_families h first tallies).values)
   pushed_size =
       ap (λ ts. length (numbers_in ts)) pushed_values
-      ∙ seen_moved number_seen (tallied_families h first tallies).values q (q ++ s ∷ []) t (held_tallied h first tallies are.held).ordered there (none_mapped (tally_by_number first tallies) (q ++ s ∷ []) h.values none) (not_longer q s)
+      ∙ seen_moved number_seen (tallied_families h first tallies).values q (q ++ s ∷ []) t (held_tallied h first tallies are.held).ordered there
+      (none_mapped (tally_by_number first tallies) (q ++ s ∷ []) h.values none) (not_longer q s)
 
   pub pushed_tallied : PushesDown (tallied_families h first tallies) (tallied_families g first tallies) q s t
   pushed_tallied = record { held = held_tallied g first tallies held; signs = signs; values = pushed_values; size = pushed_size }
@@ -252,7 +261,9 @@ module _ (h : ValuedFamilies ℕ) (first : ℕ) (tallies : Sums) (are : AreCellN
       ∙ ap (option_map (λ x. (k - first, x))) (slice_get-get_or after (k - first) sums (let e = size_set in omega arith) ∙ ap Some (get_or-set_same tallies (k - first) sums sums lt))
 
   pub set_tallied : tallied_families h first after ≡ record (tallied_families h first tallies) { values = put order q (Some (k - first, sums)) (tallied_families h first tallies).values }
-  set_tallied = ap (λ es. record (tallied_families h first tallies) { values = es }) (put_from q (Some (k - first, sums)) (tallied_families h first tallies).values (tallied_families h first after).values (sorted_mapped (tally_by_number first tallies) h.values are.held.ordered) (sorted_mapped (tally_by_number first after) h.values are.held.ordered)
+  set_tallied = ap (λ es. record (tallied_families h first tallies) { values = es })
+      (put_from q (Some (k - first, sums)) (tallied_families h first tallies).values (tallied_families h first after).values
+      (sorted_mapped (tally_by_number first tallies) h.values are.held.ordered) (sorted_mapped (tally_by_number first after) h.values are.held.ordered)
       (found_mapped (tally_by_number first after) q k h.values at ∙ ap Some set_here) (λ p n. by p n (find order p h.values) refl))
     where
       by : (p : List ℕ) → p ≢ q → (o : Option ℕ) → find order p h.values ≡ o → find order p (tallied_families h first after).values ≡ find order p (tallied_families h first tallies).values
@@ -272,12 +283,14 @@ module _ (h : ValuedFamilies ℕ) (first : ℕ) (tallies : Sums) (are : AreCellN
     apart = are.apart;
     size =
         ap (λ (g : ValuedFamilies (Option Tally)). length (numbers_in g.values)) set_tallied
-        ∙ ap length (seen_again number_seen (tallied_families h first tallies).values q (k - first, get_or tallies (k - first) sums) (k - first, sums) (held_tallied h first tallies are.held).ordered tally_was refl)
+        ∙ ap length (seen_again number_seen (tallied_families h first tallies).values q (k - first, get_or tallies (k - first) sums) (k - first, sums)
+        (held_tallied h first tallies are.held).ordered tally_was refl)
         ∙ are.size ∙ sym size_set;
   }
 
 -- the same by the tally's own number
-module _ (h : ValuedFamilies ℕ) (first : ℕ) (tallies : Sums) (are : AreCellNumbers h first tallies) (q : List ℕ) (n : ℕ) (was sums : ℕ × ℕ) (at : find order q (tallied_families h first tallies).values ≡ Some (Some (n, was))) where
+module _ (h : ValuedFamilies ℕ) (first : ℕ) (tallies : Sums) (are : AreCellNumbers h first tallies) (q : List ℕ) (n : ℕ) (was sums : ℕ × ℕ)
+    (at : find order q (tallied_families h first tallies).values ≡ Some (Some (n, was))) where
   pub numbered_are : AreCellNumbers h first (set tallies n sums)
   numbered_are =
       let cell = in_cell h first tallies q n was at in
@@ -290,7 +303,8 @@ module _ (h : ValuedFamilies ℕ) (first : ℕ) (tallies : Sums) (are : AreCellN
       (set_tallied h first tallies are q cell.0 cell.1 cell.2 sums)
 
 -- the string q gets a tally of its own
-module _ (h new : ValuedFamilies ℕ) (first : ℕ) (tallies more : Sums) (are : AreCellNumbers h first tallies) (q : List ℕ) (sums : ℕ × ℕ) (pushed : more ≡ tallies ++ sums ∷ []) (few : first + length more ≤ NUMBERS_END)
+module _ (h new : ValuedFamilies ℕ) (first : ℕ) (tallies more : Sums) (are : AreCellNumbers h first tallies) (q : List ℕ) (sums : ℕ × ℕ)
+    (pushed : more ≡ tallies ++ sums ∷ []) (few : first + length more ≤ NUMBERS_END)
     (is : new ≡ record h { values = put order q (first + length tallies) h.values }) (held : AreValuedFamilies new) (blank : find order q (tallied_families h first tallies).values ≡ Some None) where
   size : length more ≡ length tallies + 1
   size = ap length pushed ∙ length-append tallies (sums ∷ [])
@@ -325,12 +339,15 @@ module _ (h new : ValuedFamilies ℕ) (first : ℕ) (tallies more : Sums) (are :
   pub count_tallied : tallied_families new first more ≡ record (tallied_families h first tallies) { values = put order q (Some (length tallies, sums)) (tallied_families h first tallies).values }
   count_tallied =
       ap (λ (g : ValuedFamilies ℕ). record { signs = g.signs; families = g.families; values = mapped (tally_by_number first more) new.values }) is
-      ∙ ap (λ es. record (tallied_families h first tallies) { values = es }) (put_from q (Some (length tallies, sums)) (tallied_families h first tallies).values (tallied_families new first more).values (sorted_mapped (tally_by_number first tallies) h.values are.held.ordered) (sorted_mapped (tally_by_number first more) new.values held.ordered)
+      ∙ ap (λ es. record (tallied_families h first tallies) { values = es })
+      (put_from q (Some (length tallies, sums)) (tallied_families h first tallies).values (tallied_families new first more).values
+      (sorted_mapped (tally_by_number first tallies) h.values are.held.ordered) (sorted_mapped (tally_by_number first more) new.values held.ordered)
       (found_mapped (tally_by_number first more) q (first + length tallies) new.values new_here ∙ ap Some here) (λ p n. by p n (find order p h.values) refl))
     where
       by : (p : List ℕ) → p ≢ q → (o : Option ℕ) → find order p h.values ≡ o → find order p (tallied_families new first more).values ≡ find order p (tallied_families h first tallies).values
       by p n None e = none_mapped (tally_by_number first more) p new.values (new_there p n ∙ e) ∙ sym (none_mapped (tally_by_number first tallies) p h.values e)
-      by p n (Some m) e = found_mapped (tally_by_number first more) p m new.values (new_there p n ∙ e) ∙ ap Some (kept_there m (are.numbers p m e)) ∙ sym (found_mapped (tally_by_number first tallies) p m h.values e)
+      by p n (Some m) e = found_mapped (tally_by_number first more) p m new.values (new_there p n ∙ e) ∙ ap Some (kept_there m (are.numbers p m e))
+          ∙ sym (found_mapped (tally_by_number first tallies) p m h.values e)
 
   -- a number is the new one, or another string's as before
   which : (p : List ℕ) (m : ℕ) → find order p new.values ≡ Some m → ((p ≡ q) × (m ≡ first + length tallies)) ⊎ (find order p h.values ≡ Some m)
@@ -361,7 +378,9 @@ module _ (h new : ValuedFamilies ℕ) (first : ℕ) (tallies more : Sums) (are :
     size =
         ap (λ (g : ValuedFamilies (Option Tally)). length (numbers_in g.values)) count_tallied
         ∙ ap length (seen_put number_seen (tallied_families h first tallies).values q (length tallies, sums) (held_tallied h first tallies are.held).ordered)
-        ∙ length-put order nat_list_cmp_total q (length tallies) (numbers_in (tallied_families h first tallies).values) (sorted_seen number_seen (tallied_families h first tallies).values (held_tallied h first tallies are.held).ordered)
-        ∙ ap (λ o. cond (is_some o) (length (numbers_in (tallied_families h first tallies).values)) (length (numbers_in (tallied_families h first tallies).values) + 1)) (seen_there number_seen (tallied_families h first tallies).values (held_tallied h first tallies are.held).ordered q None blank)
+        ∙ length-put order nat_list_cmp_total q (length tallies) (numbers_in (tallied_families h first tallies).values)
+        (sorted_seen number_seen (tallied_families h first tallies).values (held_tallied h first tallies are.held).ordered)
+        ∙ ap (λ o. cond (is_some o) (length (numbers_in (tallied_families h first tallies).values)) (length (numbers_in (tallied_families h first tallies).values) + 1))
+        (seen_there number_seen (tallied_families h first tallies).values (held_tallied h first tallies are.held).ordered q None blank)
         ∙ ap (λ k. k + 1) are.size ∙ sym size;
   }

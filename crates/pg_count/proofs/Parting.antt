@@ -43,7 +43,8 @@ keeps_on a b = record { keeps = λ t has. b.keeps t (a.keeps t has); back = λ t
 pub keeps_none : (ts : List (List ℕ × Option Tally)) → Keeps ts ts
 keeps_none ts = record { keeps = λ t has. has; back = λ t has. has }
 
-module _ (h : ValuedFamilies (Option Tally)) (windows : Windows) (u other : List ℕ) (number at : ℕ) (sums : ℕ × ℕ) (are : AreLeaves h windows (length u)) (row : HasNumber windows other number) (same : take at other ≡ take at u)
+module _ (h : ValuedFamilies (Option Tally)) (windows : Windows) (u other : List ℕ) (number at : ℕ) (sums : ℕ × ℕ) (are : AreLeaves h windows (length u))
+    (row : HasNumber windows other number) (same : take at other ≡ take at u)
     (less : at < length u) (tally : find order (take at u) h.values ≡ Some (Some (number, sums))) where
   size : length other ≡ length u
   size = (are.long other number row).0
@@ -89,13 +90,15 @@ module _ (h : ValuedFamilies (Option Tally)) (windows : Windows) (u other : List
         pushed_other h windows (length u) are g (take at u) (get_or other at 0) (drop (at + 1) other) (number, sums) pushes tally there_row ((take at u ++ get_or u at 0 ∷ []) ++ more)
         (λ e. longer (take at u) (get_or u at 0) more (sym (one_more (take at u) (get_or u at 0) more) ∙ e))
         (λ e. (
-        let rest : get_or u at 0 ∷ more ≡ get_or other at 0 ∷ [] = append_cancel_left (take at u) (get_or u at 0 ∷ more) (get_or other at 0 ∷ []) (sym (one_more (take at u) (get_or u at 0) more) ∙ e) in
+        let rest : get_or u at 0 ∷ more ≡ get_or other at 0 ∷ [] = append_cancel_left (take at u) (get_or u at 0 ∷ more) (get_or other at 0 ∷ [])
+        (sym (one_more (take at u) (get_or u at 0) more) ∙ e) in
         let sign : get_or u at 0 ≡ get_or other at 0 = cc in
         differs (sym sign)))
         ∙ are.last (take at u) (number, sums) tally (get_or u at 0) more
 
 -- the window with the number of the string at the end of a way begins as it does
-pub row_begins : (h : ValuedFamilies (Option Tally)) (windows : Windows) (u row : List ℕ) (number at : ℕ) (sums : ℕ × ℕ) → AreLeaves h windows (length u) → at ≤ length u → find order (take at u) h.values ≡ Some (Some (number, sums))
+pub row_begins : (h : ValuedFamilies (Option Tally)) (windows : Windows) (u row : List ℕ) (number at : ℕ) (sums : ℕ × ℕ) → AreLeaves h windows (length u)
+    → at ≤ length u → find order (take at u) h.values ≡ Some (Some (number, sums))
     → HasNumber windows row number → take at row ≡ take at u
 row_begins h windows u row number at sums are within tally there =
     let f = are.front (take at u) (number, sums) tally in
@@ -124,7 +127,8 @@ pub way_free : (h : ValuedFamilies (Option Tally)) (u : List ℕ) (at cell : ℕ
 way_free h u at cell way blank last = record { string = take at u; rest = drop at u; whole = sym (take-append-drop at u); there = way.there; uncounted = blank; last = last }
 
 -- where there is a family below the end of a way, the window goes on
-pub way_goes_on : (h : ValuedFamilies (Option Tally)) (windows : Windows) (u : List ℕ) (at cell base : ℕ) → AreLeaves h windows (length u) → IsWay h u at cell → base_of h.families (take at u) ≡ Some base → at < length u
+pub way_goes_on : (h : ValuedFamilies (Option Tally)) (windows : Windows) (u : List ℕ) (at cell base : ℕ) → AreLeaves h windows (length u) → IsWay h u at cell
+    → base_of h.families (take at u) ≡ Some base → at < length u
 way_goes_on h windows u at cell base are way below =
     let next = are.held.filled (take at u) base below in
     let value = are.held.valued (take at u ++ next.0 ∷ []) next.1 next.2 in
@@ -141,7 +145,8 @@ pub keeps_sets : {old mid new : List (List ℕ × Option Tally)} {t : Tally} →
 keeps_sets a b = record { here = b.here; keeps = λ v other has. b.keeps v other (a.keeps v has); back = λ v other has. a.back v (b.back v other has) }
 
 -- a window was counted in a free cell
-module _ (h g : ValuedFamilies (Option Tally)) (windows more : Windows) (u : List ℕ) (cell : ℕ) (sums : ℕ × ℕ) (are : AreLeaves h windows (length u)) (free : IsFree h u cell) (held : AreValuedFamilies g)
+module _ (h g : ValuedFamilies (Option Tally)) (windows more : Windows) (u : List ℕ) (cell : ℕ) (sums : ℕ × ℕ) (are : AreLeaves h windows (length u))
+    (free : IsFree h u cell) (held : AreValuedFamilies g)
     (set : g ≡ record h { values = put order free.string (Some (length (numbers_in h.values), sums)) h.values }) (size : length (numbers_in g.values) ≡ length (numbers_in h.values) + 1)
     (within : SignsWithin h.signs u) (pushed : more ≡ windows ++ u ∷ []) where
   signs : g.signs ≡ h.signs
@@ -156,4 +161,5 @@ module _ (h g : ValuedFamilies (Option Tally)) (windows more : Windows) (u : Lis
       (more_leaves h g windows (length u) are free.string free.rest sums held signs values size free.uncounted free.last (ap length (sym free.whole)) (subst (SignsWithin h.signs) free.whole within))
 
   pub new_sets : Sets h.values g.values (length windows, sums)
-  new_sets = more_sets h g windows (length u) are free.string free.rest sums held signs values size free.uncounted free.last (ap length (sym free.whole)) (subst (SignsWithin h.signs) free.whole within)
+  new_sets = more_sets h g windows (length u) are free.string free.rest sums held signs values size free.uncounted free.last (ap length (sym free.whole))
+      (subst (SignsWithin h.signs) free.whole within)

@@ -54,7 +54,8 @@ told_more u p bound s told from x v = ap (order u) (one_more p s (x ∷ v)) ∙ 
 
 module _ (h : ValuedFamilies (Option Tally)) (windows : Windows) (len : ℕ) (are : AreLeaves h windows len) where
   -- below a string with no string behind it stands at most its own window
-  leaf_only : (q v : List ℕ) (o : Option Tally) (n : ℕ) → IsLast h.values q → find order q h.values ≡ Some o → HasNumber windows (q ++ v) n → (sums : ℕ × ℕ) × (find order q h.values ≡ Some (Some (n, sums)))
+  leaf_only : (q v : List ℕ) (o : Option Tally) (n : ℕ) → IsLast h.values q → find order q h.values ≡ Some o → HasNumber windows (q ++ v) n → (sums : ℕ × ℕ)
+      × (find order q h.values ≡ Some (Some (n, sums)))
   leaf_only q v o n last there at =
       let s = are.stands (q ++ v) n at in
       let f = are.front s.0 (n, s.1) s.2 in
@@ -211,7 +212,8 @@ module _ (h : ValuedFamilies (Option Tally)) (windows : Windows) (len : ℕ) (ar
         late l (inr lt) = let le = l.1 in omega arith
 
     -- nor before the next one, where none served up to a sign
-    pub none_next : (u : List ℕ) (s y : ℕ) → ((x : ℕ) → (s ≡ 0) ⊎ (x < s) → NoneUnder windows (p ++ x ∷ []) u) → NoneUnder windows (p ++ s ∷ []) u → IsNextSign h.values p s y → (x : ℕ) → (y ≡ 0) ⊎ (x < y) → NoneUnder windows (p ++ x ∷ []) u
+    pub none_next : (u : List ℕ) (s y : ℕ) → ((x : ℕ) → (s ≡ 0) ⊎ (x < s) → NoneUnder windows (p ++ x ∷ []) u) → NoneUnder windows (p ++ s ∷ []) u
+        → IsNextSign h.values p s y → (x : ℕ) → (y ≡ 0) ⊎ (x < y) → NoneUnder windows (p ++ x ∷ []) u
     none_next u s y none here next x early = elim (cases_lt x s) [
       | inl lt ↦ none x (inr lt)
       | inr le ↦ elim (cases_eq x s) [

@@ -84,7 +84,8 @@ before_none P e (x ∷ es) h less =
         let both = nat_list_cmp_total.trans e.0 x.0 e.0 up (less x.0 is) in
         absurd (let wrong : Less ≡ Equal = sym both ∙ tied_itself nat_list_cmp_total e.0 in cc)
 
-pub where_split : (P Q R : List ℕ → Bool) (M : Numbers) → T (is_sorted order M) → ((r : List ℕ) → R r ≡ (P r || Q r)) → ((a b : List ℕ) → P a ≡ true → Q b ≡ true → order a b ≡ Less) → where_key order R M ≡ where_key order P M ++ where_key order Q M
+pub where_split : (P Q R : List ℕ → Bool) (M : Numbers) → T (is_sorted order M) → ((r : List ℕ) → R r ≡ (P r || Q r)) → ((a b : List ℕ) → P a ≡ true → Q b ≡ true → order a b ≡ Less)
+    → where_key order R M ≡ where_key order P M ++ where_key order Q M
 where_split P Q R [] h either less = refl
 where_split P Q R (e ∷ es) h either less =
     ap (λ b. cond b (e ∷ where_key order R es) (where_key order R es)) (either e.0)
@@ -252,7 +253,8 @@ module _ (h : ValuedFamilies (Option Tally)) (held : AreValuedFamilies h) where
         ]
 
     -- and after a sign, the strings that go on by it too
-    pub passed_next : (s y : ℕ) → s ≢ 0 → IsNextSign h.values p s y → numbers_where (is_passed p y) (numbers_in h.values) ≡ numbers_where (is_passed p s) (numbers_in h.values) ++ numbers_under (p ++ s ∷ []) h.values
+    pub passed_next : (s y : ℕ) → s ≢ 0 → IsNextSign h.values p s y → numbers_where (is_passed p y) (numbers_in h.values) ≡ numbers_where (is_passed p s) (numbers_in h.values)
+        ++ numbers_under (p ++ s ∷ []) h.values
     passed_next s y other next =
         ap (map (λ e. e.1))
         (where_same (is_passed p y) (is_before p (s + 1)) (numbers_in h.values) sorted (passed s y next)

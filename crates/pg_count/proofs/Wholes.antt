@@ -42,7 +42,8 @@ module _ (g : Tally → List ℕ) where
       (below_rekeyed u es (tail_sorted e es h) (λ p v at. less p v (behind e es p v h at)))
 
   -- they stay in order
-  sorted_rekeyed : (es : Entries) → T (is_sorted order es) → ((q p : List ℕ) (t v : Tally) → find order q es ≡ Some t → find order p es ≡ Some v → order q p ≡ Less → order (g t) (g v) ≡ Less) → T (is_sorted order (rekeyed es))
+  sorted_rekeyed : (es : Entries) → T (is_sorted order es) → ((q p : List ℕ) (t v : Tally) → find order q es ≡ Some t → find order p es ≡ Some v → order q p ≡ Less → order (g t) (g v) ≡ Less)
+      → T (is_sorted order (rekeyed es))
   sorted_rekeyed [] h rises = tt
   sorted_rekeyed (e ∷ es) h rises =
       both_halves (below_all order (g e.1) (rekeyed es)) (is_sorted order (rekeyed es))
@@ -209,8 +210,10 @@ module _ (h g : ValuedFamilies (Option Tally)) (windows more : Windows) (len : �
       agree p (λ v has there. (let k = to p v.0 other there in (sets.keeps v k.0 has, k.1))) (λ v has there. (let k = from p v.0 other there in (sets.back v k.0 has, k.1))))
 
 -- where the tallies stay, so does what is counted
-pub kept_counting : (h g : ValuedFamilies (Option Tally)) (windows : Windows) (len : ℕ) → AreLeaves h windows len → AreLeaves g windows len → g.signs ≡ h.signs → Keeps h.values g.values → counting_of g windows len ≡ counting_of h windows len
+pub kept_counting : (h g : ValuedFamilies (Option Tally)) (windows : Windows) (len : ℕ) → AreLeaves h windows len → AreLeaves g windows len → g.signs
+    ≡ h.signs → Keeps h.values g.values → counting_of g windows len ≡ counting_of h windows len
 kept_counting h g windows len are new signs keeps =
-    let same : counts g windows len new ≡ counts h windows len are = same_maps (counts g windows len new) (counts h windows len are) (sorted_counts g windows len new) (sorted_counts h windows len are) (λ p.
+    let same : counts g windows len new ≡ counts h windows len are = same_maps (counts g windows len new) (counts h windows len are) (sorted_counts g windows len new)
+    (sorted_counts h windows len are) (λ p.
     agree h g windows windows len are new p (λ t has at. (keeps.keeps t has, at)) (λ t has at. (keeps.back t has, at))) in
     λ i. record { signs = signs i; len = len; counts = same i; windows = windows }

@@ -47,7 +47,8 @@ word_kept c positioned w even within =
     ) refl
 
 -- so do all words
-pub words_kept : (c : Columns) (positioned : List PositionedSign) (ws : List Stored) → IsEven c → list_all (lies_within (length c.signs)) ws ≡ true → map (word_at (with_signs c positioned)) ws ≡ map (word_at c) ws
+pub words_kept : (c : Columns) (positioned : List PositionedSign) (ws : List Stored) → IsEven c → list_all (lies_within (length c.signs)) ws ≡ true
+    → map (word_at (with_signs c positioned)) ws ≡ map (word_at c) ws
 words_kept c positioned [] even within = refl
 words_kept c positioned (w ∷ ws) even within =
     let p = and_parts (lies_within (length c.signs) w) (list_all (lies_within (length c.signs)) ws) within in
@@ -56,13 +57,17 @@ words_kept c positioned (w ∷ ws) even within =
     ap (λ (x : Word). x ∷ map (word_at (with_signs c positioned)) ws) here ∙ ap (λ (xs : List Word). word_at c w ∷ xs) there
 
 -- the word of the new signs
-pub word_new : (c : Columns) (positioned : List PositionedSign) (start end weight : ℕ) → IsEven c → start ≡ length c.signs → end ≡ length c.signs + length positioned → word_at (with_signs c positioned) (record { start = start; end = end; weight = weight }) ≡ word_with weight positioned
+pub word_new : (c : Columns) (positioned : List PositionedSign) (start end weight : ℕ) → IsEven c → start ≡ length c.signs → end ≡ length c.signs + length positioned
+    → word_at (with_signs c positioned) (record { start = start; end = end; weight = weight }) ≡ word_with weight positioned
 word_new c positioned start end weight even from to =
     rw (
       range_new c.signs (map (λ (s : PositionedSign). s.sign) positioned) start end from (omega (arith, length-map positioned (λ (s : PositionedSign). s.sign))),
-      range_new c.hyphens (map (λ (s : PositionedSign). s.hyphen) positioned) start end (omega (arith, even.hyphens_len)) (omega (arith, even.hyphens_len, length-map positioned (λ (s : PositionedSign). s.hyphen))),
-      range_new c.weights (map (λ (s : PositionedSign). s.weight) positioned) start end (omega (arith, even.weights_len)) (omega (arith, even.weights_len, length-map positioned (λ (s : PositionedSign). s.weight))),
-      range_new c.cares (map (λ (s : PositionedSign). s.care) positioned) start end (omega (arith, even.cares_len)) (omega (arith, even.cares_len, length-map positioned (λ (s : PositionedSign). s.care))),
+      range_new c.hyphens (map (λ (s : PositionedSign). s.hyphen) positioned) start end (omega (arith, even.hyphens_len))
+          (omega (arith, even.hyphens_len, length-map positioned (λ (s : PositionedSign). s.hyphen))),
+      range_new c.weights (map (λ (s : PositionedSign). s.weight) positioned) start end (omega (arith, even.weights_len))
+          (omega (arith, even.weights_len, length-map positioned (λ (s : PositionedSign). s.weight))),
+      range_new c.cares (map (λ (s : PositionedSign). s.care) positioned) start end (omega (arith, even.cares_len))
+          (omega (arith, even.cares_len, length-map positioned (λ (s : PositionedSign). s.care))),
     ) refl
 
 -- the columns of a sound store
@@ -76,7 +81,9 @@ length_signs s u positioned grown =
     e ∙ length-append s.signs.items (map (λ (x : PositionedSign). x.sign) positioned) ∙ ap (λ (n : ℕ). length s.signs.items + n) (length-map positioned (λ (x : PositionedSign). x.sign))
 
 -- the words of a store with a word more
-pub adds_words : (s u : Store) (positioned : List PositionedSign) (start end weight : ℕ) → IsSound s → columns_of u ≡ with_signs (columns_of s) positioned → u.words.items ≡ s.words.items ++ record { start = start; end = end; weight = weight } ∷ [] → start ≡ length s.signs.items → end ≡ length u.signs.items → stored_words u ≡ stored_words s ++ word_with weight positioned ∷ []
+pub adds_words : (s u : Store) (positioned : List PositionedSign) (start end weight : ℕ) → IsSound s → columns_of u ≡ with_signs (columns_of s) positioned
+    → u.words.items ≡ s.words.items ++ record { start = start; end = end; weight = weight } ∷ [] → start ≡ length s.signs.items → end ≡ length u.signs.items
+    → stored_words u ≡ stored_words s ++ word_with weight positioned ∷ []
 adds_words s u positioned start end weight sound grown added from to =
     let w : Stored = record { start = start; end = end; weight = weight } in
     let c : Columns = with_signs (columns_of s) positioned in
@@ -94,14 +101,17 @@ lies_within_more n m more w within =
     and_from (nat_le w.start w.end) (nat_le w.end m) p.0 (le-leb w.end m (omega arith))
 
 -- a column that is the words joined is so with a word more
-column_joined : (column : Word → List ℕ) (words more : List Word) (w : Word) (old new : List ℕ) → more ≡ words ++ w ∷ [] → new ≡ old ++ column w → old ≡ flat_map column words → new ≡ flat_map column more
+column_joined : (column : Word → List ℕ) (words more : List Word) (w : Word) (old new : List ℕ) → more ≡ words ++ w ∷ [] → new ≡ old ++ column w → old
+    ≡ flat_map column words → new ≡ flat_map column more
 column_joined column words more w old new added grown joined =
     grown
     ∙ ap (λ (xs : List ℕ). xs ++ column w) joined
     ∙ sym (ap (flat_map column) added ∙ flat_map-append column words (w ∷ []) ∙ ap (λ (xs : List ℕ). flat_map column words ++ xs) (append-nil (column w)))
 
 -- a store stays sound with a word more
-pub adds_sound : (s u : Store) (positioned : List PositionedSign) (start end weight : ℕ) → IsSound s → columns_of u ≡ with_signs (columns_of s) positioned → u.words.items ≡ s.words.items ++ record { start = start; end = end; weight = weight } ∷ [] → start ≡ length s.signs.items → end ≡ length u.signs.items → IsWord (word_with weight positioned) → IsSound u
+pub adds_sound : (s u : Store) (positioned : List PositionedSign) (start end weight : ℕ) → IsSound s → columns_of u ≡ with_signs (columns_of s) positioned
+    → u.words.items ≡ s.words.items ++ record { start = start; end = end; weight = weight } ∷ [] → start ≡ length s.signs.items → end ≡ length u.signs.items
+    → IsWord (word_with weight positioned) → IsSound u
 adds_sound s u positioned start end weight sound grown added from to good =
     let w : Stored = record { start = start; end = end; weight = weight } in
     let n : ℕ = length u.signs.items in
@@ -110,14 +120,29 @@ adds_sound s u positioned start end weight sound grown added from to good =
     let weights : length u.weights.items ≡ length (s.weights.items ++ map (λ (x : PositionedSign). x.weight) positioned) = ap (λ (c : Columns). length c.weights) grown in
     let cares : length u.cares.items ≡ length (s.cares.items ++ map (λ (x : PositionedSign). x.care) positioned) = ap (λ (c : Columns). length c.cares) grown in
     let words : stored_words u ≡ stored_words s ++ word_with weight positioned ∷ [] = adds_words s u positioned start end weight sound grown added from to in
-    let kept : list_all (lies_within n) s.words.items ≡ true = all_weaker (lies_within (length s.signs.items)) (lies_within n) s.words.items (lies_within_more (length s.signs.items) n (omega arith)) sound.within in
+    let kept : list_all (lies_within n) s.words.items ≡ true = all_weaker (lies_within (length s.signs.items)) (lies_within n) s.words.items
+    (lies_within_more (length s.signs.items) n (omega arith)) sound.within in
     let new : lies_within n w ≡ true = and_from (nat_le start end) (nat_le end n) (le-leb start end (omega arith)) (le-leb end n (omega arith)) in
     record {
-      hyphens_len = omega (arith, hyphens, length-append s.hyphens.items (map (λ (x : PositionedSign). x.hyphen) positioned), length-map positioned (λ (x : PositionedSign). x.hyphen), sound.hyphens_len);
-      weights_len = omega (arith, weights, length-append s.weights.items (map (λ (x : PositionedSign). x.weight) positioned), length-map positioned (λ (x : PositionedSign). x.weight), sound.weights_len);
+      hyphens_len = omega (
+        arith,
+        hyphens,
+        length-append s.hyphens.items (map (λ (x : PositionedSign). x.hyphen) positioned),
+        length-map positioned (λ (x : PositionedSign). x.hyphen),
+        sound.hyphens_len,
+      );
+      weights_len = omega (
+        arith,
+        weights,
+        length-append s.weights.items (map (λ (x : PositionedSign). x.weight) positioned),
+        length-map positioned (λ (x : PositionedSign). x.weight),
+        sound.weights_len,
+      );
       cares_len = omega (arith, cares, length-append s.cares.items (map (λ (x : PositionedSign). x.care) positioned), length-map positioned (λ (x : PositionedSign). x.care), sound.cares_len);
       within = ap (list_all (lies_within n)) added ∙ list_all-append (lies_within n) s.words.items (w ∷ []) ∙ and_from _ _ kept (and_from _ _ new refl);
-      signs_joined = column_joined (λ (x : Word). x.signs) (stored_words s) (stored_words u) (word_with weight positioned) s.signs.items u.signs.items words (ap (λ (c : Columns). c.signs) grown) sound.signs_joined;
-      weights_joined = column_joined (λ (x : Word). x.weights) (stored_words s) (stored_words u) (word_with weight positioned) s.weights.items u.weights.items words (ap (λ (c : Columns). c.weights) grown) sound.weights_joined;
+      signs_joined = column_joined (λ (x : Word). x.signs) (stored_words s) (stored_words u) (word_with weight positioned) s.signs.items u.signs.items words
+          (ap (λ (c : Columns). c.signs) grown) sound.signs_joined;
+      weights_joined = column_joined (λ (x : Word). x.weights) (stored_words s) (stored_words u) (word_with weight positioned) s.weights.items u.weights.items words
+          (ap (λ (c : Columns). c.weights) grown) sound.weights_joined;
       words = subst (All IsWord) (sym words) (All-push IsWord (stored_words s) (word_with weight positioned) sound.words good);
     }

@@ -36,8 +36,10 @@ abbrev items_in : Alphabet → ℕ → List ℕ → List Token
 items_in t size rest = tokens_of (cut_rest t Dictionary size rest)
 
 -- the edge, the first letter and what is filled in behind them are the signs of the line's word
-pub word_read : (t : Alphabet) (weight line size sign : ℕ) (rest : List ℕ) (before edge first after : Columns) → edge ≡ with_signs before (positioned_sign Nothing weight EDGE ∷ []) → first ≡ with_signs edge (positioned_sign Nothing weight sign ∷ []) → columns_after t weight line size Nothing weight (WORD_LETTERS_MAX - 1) first rest ≡ Ok after
-    → (word_reading t line size weight sign rest ≡ Ok (record { word = Some (word_with weight (word_signs weight sign (items_in t size rest))); weight = weight })) × (after ≡ with_signs before (word_signs weight sign (items_in t size rest)))
+pub word_read : (t : Alphabet) (weight line size sign : ℕ) (rest : List ℕ) (before edge first after : Columns) → edge ≡ with_signs before (positioned_sign Nothing weight EDGE ∷ [])
+    → first ≡ with_signs edge (positioned_sign Nothing weight sign ∷ []) → columns_after t weight line size Nothing weight (WORD_LETTERS_MAX - 1) first rest ≡ Ok after
+    → (word_reading t line size weight sign rest ≡ Ok (record { word = Some (word_with weight (word_signs weight sign (items_in t size rest))); weight = weight }))
+    × (after ≡ with_signs before (word_signs weight sign (items_in t size rest)))
 word_read t weight line size sign rest before edge first after is_edge is_first fills =
     let items : List Token = items_in t size rest in
     let positioned : List PositionedSign = signs_behind weight Nothing weight items in
@@ -51,8 +53,11 @@ word_read t weight line size sign rest before edge first after is_edge is_first 
     )
 
 -- the word that is stored is the line's, and the store stays sound
-pub enters : (t : Alphabet) → KeepsRules t → (weight line size sign n : ℕ) (rest : List ℕ) (s p q u : Store) (start end : ℕ) → IsSound s → columns_of p ≡ with_signs (columns_of s) (positioned_sign Nothing weight EDGE ∷ []) → columns_of q ≡ with_signs (columns_of p) (positioned_sign Nothing weight sign ∷ []) → columns_after t weight line size Nothing weight (WORD_LETTERS_MAX - 1) (columns_of q) rest ≡ Ok (columns_of u)
-    → u.words.items ≡ s.words.items ++ record { start = start; end = end; weight = weight } ∷ [] → start ≡ length s.signs.items → end ≡ length u.signs.items → IsFit n u → length u.signs.items ≤ length q.signs.items + WORD_LETTERS_MAX → weight ≤ WEIGHT_MAX → EDGE < sign
+pub enters : (t : Alphabet) → KeepsRules t → (weight line size sign n : ℕ) (rest : List ℕ) (s p q u : Store) (start end : ℕ) → IsSound s → columns_of p
+    ≡ with_signs (columns_of s) (positioned_sign Nothing weight EDGE ∷ []) → columns_of q ≡ with_signs (columns_of p) (positioned_sign Nothing weight sign ∷ [])
+    → columns_after t weight line size Nothing weight (WORD_LETTERS_MAX - 1) (columns_of q) rest ≡ Ok (columns_of u)
+    → u.words.items ≡ s.words.items ++ record { start = start; end = end; weight = weight } ∷ [] → start ≡ length s.signs.items → end ≡ length u.signs.items
+    → IsFit n u → length u.signs.items ≤ length q.signs.items + WORD_LETTERS_MAX → weight ≤ WEIGHT_MAX → EDGE < sign
     → (with_word (stored_words s) (word_reading t line size weight sign rest) ≡ Ok (record { words = stored_words u; weight = weight })) × IsSound u
 enters t rules weight line size sign n rest s p q u start end sound is_edge is_first fills added from to fit short small letter =
     let items : List Token = items_in t size rest in
@@ -63,5 +68,6 @@ enters t rules weight line size sign n rest s p q u start end sound is_edge is_f
     let size_p : length p.signs.items ≡ length s.signs.items + 1 = length_signs s p (positioned_sign Nothing weight EDGE ∷ []) is_edge in
     let size_q : length q.signs.items ≡ length p.signs.items + 1 = length_signs p q (positioned_sign Nothing weight sign ∷ []) is_first in (
       ap (with_word (stored_words s)) r.0 ∙ ap (λ (words : List Word). Ok (record { words = words; weight = weight })) (sym (adds_words s u positioned start end weight sound grown added from to)),
-      adds_sound s u positioned start end weight sound grown added from to (word_from _ (fits_word n s u weight sign items fit grown (omega arith) small letter (items_sound t rules (size - length rest + 1) 0 rest))),
+      adds_sound s u positioned start end weight sound grown added from to
+          (word_from _ (fits_word n s u weight sign items fit grown (omega arith) small letter (items_sound t rules (size - length rest + 1) 0 rest))),
     )

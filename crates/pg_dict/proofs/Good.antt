@@ -62,7 +62,8 @@ last_spot weight mark number (Marked m ∷ items) sound = last_spot weight m num
 last_spot weight mark number (Edge ∷ items) sound = absurd (false≢true sound)
 
 -- decided positions
-pub decides_spots : (positioned : List PositionedSign) → list_all is_decided positioned ≡ true → decides (map (λ (s : PositionedSign). s.hyphen) positioned) (map (λ (s : PositionedSign). s.care) positioned) ≡ true
+pub decides_spots : (positioned : List PositionedSign) → list_all is_decided positioned ≡ true
+    → decides (map (λ (s : PositionedSign). s.hyphen) positioned) (map (λ (s : PositionedSign). s.care) positioned) ≡ true
 decides_spots [] decided = refl
 decides_spots (s ∷ positioned) decided =
     let p = and_parts (is_decided s) (list_all is_decided positioned) decided in
@@ -88,7 +89,9 @@ inner_signs front edge n is =
     ap (λ (k : ℕ). take k (front ++ edge ∷ [])) less ∙ take_at front (edge ∷ []) (length front) refl
 
 -- the word of a line is good where its signs and weights are, and its items are sound
-pub good_word : (weight sign : ℕ) (items : List Token) → length (word_signs weight sign items) ≤ WORD_LETTERS_MAX + 2 → list_all (nat_le 1) (map (λ (s : PositionedSign). s.sign) (word_signs weight sign items)) ≡ true → list_all is_weight (map (λ (s : PositionedSign). s.weight) (word_signs weight sign items)) ≡ true → weight ≤ WEIGHT_MAX → EDGE < sign → list_all is_sound_item items ≡ true → is_word (word_with weight (word_signs weight sign items)) ≡ true
+pub good_word : (weight sign : ℕ) (items : List Token) → length (word_signs weight sign items) ≤ WORD_LETTERS_MAX + 2
+    → list_all (nat_le 1) (map (λ (s : PositionedSign). s.sign) (word_signs weight sign items)) ≡ true → list_all is_weight (map (λ (s : PositionedSign). s.weight) (word_signs weight sign items))
+    ≡ true → weight ≤ WEIGHT_MAX → EDGE < sign → list_all is_sound_item items ≡ true → is_word (word_with weight (word_signs weight sign items)) ≡ true
 good_word weight sign items short signs weights small letter sound =
     let positioned : List PositionedSign = word_signs weight sign items in
     let w : Word = word_with weight positioned in
@@ -102,8 +105,10 @@ good_word weight sign items short signs weights small letter sound =
     let at : n - 1 ≡ length front = omega arith in
     let lengths : has_lengths w ≡ true =
     and_from _ _ (le-leb 3 n (omega arith)) (and_from _ _ (le-leb n (WORD_LETTERS_MAX + 2) (omega arith))
-    (and_from _ _ (eq-eqb _ n (length-map positioned (λ (s : PositionedSign). s.hyphen) ∙ sym size)) (and_from _ _ (eq-eqb _ n (length-map positioned (λ (s : PositionedSign). s.weight) ∙ sym size)) (eq-eqb _ n (length-map positioned (λ (s : PositionedSign). s.care) ∙ sym size))))) in
-    let last_sign : slice_index w.signs (n - 1) ≡ EDGE = ap (λ (positioned : List PositionedSign). slice_index (word_with weight positioned).signs (n - 1)) whole ∙ at_last (λ (s : PositionedSign). s.sign) front edge (n - 1) 0 at in
+    (and_from _ _ (eq-eqb _ n (length-map positioned (λ (s : PositionedSign). s.hyphen) ∙ sym size))
+    (and_from _ _ (eq-eqb _ n (length-map positioned (λ (s : PositionedSign). s.weight) ∙ sym size)) (eq-eqb _ n (length-map positioned (λ (s : PositionedSign). s.care) ∙ sym size))))) in
+    let last_sign : slice_index w.signs (n - 1) ≡ EDGE = ap (λ (positioned : List PositionedSign). slice_index (word_with weight positioned).signs (n - 1)) whole
+    ∙ at_last (λ (s : PositionedSign). s.sign) front edge (n - 1) 0 at in
     let inner : slice_range w.signs 1 (n - 1) ≡ sign ∷ map (λ (s : PositionedSign). s.sign) ends.front =
     ap (λ (positioned : List PositionedSign). slice_range (word_with weight positioned).signs 1 (n - 1)) whole
     ∙ ap (λ (signs : List ℕ). slice_range (EDGE ∷ sign ∷ signs) 1 (n - 1)) (map-append (λ (s : PositionedSign). s.sign) ends.front (edge ∷ []))
@@ -121,22 +126,31 @@ pub sign_some : (n sign : ℕ) → is_sign_up_to n sign ≡ true → nat_le 1 si
 sign_some n sign is = (and_parts (nat_le 1 sign) (nat_le sign n) is).0
 
 -- the new signs and their weights in fit columns are so too
-pub fits_word : (n : ℕ) (s u : Store) (weight sign : ℕ) (items : List Token) → IsFit n u → columns_of u ≡ with_signs (columns_of s) (word_signs weight sign items) → length (word_signs weight sign items) ≤ WORD_LETTERS_MAX + 2 → weight ≤ WEIGHT_MAX → EDGE < sign → list_all is_sound_item items ≡ true → is_word (word_with weight (word_signs weight sign items)) ≡ true
+pub fits_word : (n : ℕ) (s u : Store) (weight sign : ℕ) (items : List Token) → IsFit n u → columns_of u ≡ with_signs (columns_of s) (word_signs weight sign items)
+    → length (word_signs weight sign items) ≤ WORD_LETTERS_MAX + 2 → weight ≤ WEIGHT_MAX → EDGE < sign → list_all is_sound_item items ≡ true
+    → is_word (word_with weight (word_signs weight sign items)) ≡ true
 fits_word n s u weight sign items fit grown short small letter sound =
     let positioned : List PositionedSign = word_signs weight sign items in
-    let signs : list_all (is_sign_up_to n) (s.signs.items ++ map (λ (x : PositionedSign). x.sign) positioned) ≡ true = ap (λ (c : Columns). list_all (is_sign_up_to n) c.signs) (sym grown) ∙ fit.signs in
+    let signs : list_all (is_sign_up_to n) (s.signs.items ++ map (λ (x : PositionedSign). x.sign) positioned) ≡ true = ap (λ (c : Columns). list_all (is_sign_up_to n) c.signs) (sym grown)
+    ∙ fit.signs in
     let weights : list_all is_weight (s.weights.items ++ map (λ (x : PositionedSign). x.weight) positioned) ≡ true = ap (λ (c : Columns). list_all is_weight c.weights) (sym grown) ∙ fit.weights in
-    let new_signs : list_all (is_sign_up_to n) (map (λ (x : PositionedSign). x.sign) positioned) ≡ true = (and_parts _ _ (sym (list_all-append (is_sign_up_to n) s.signs.items (map (λ (x : PositionedSign). x.sign) positioned)) ∙ signs)).1 in
-    let new_weights : list_all is_weight (map (λ (x : PositionedSign). x.weight) positioned) ≡ true = (and_parts _ _ (sym (list_all-append is_weight s.weights.items (map (λ (x : PositionedSign). x.weight) positioned)) ∙ weights)).1 in
+    let new_signs : list_all (is_sign_up_to n) (map (λ (x : PositionedSign). x.sign) positioned)
+    ≡ true = (and_parts _ _ (sym (list_all-append (is_sign_up_to n) s.signs.items (map (λ (x : PositionedSign). x.sign) positioned)) ∙ signs)).1 in
+    let new_weights : list_all is_weight (map (λ (x : PositionedSign). x.weight) positioned)
+    ≡ true = (and_parts _ _ (sym (list_all-append is_weight s.weights.items (map (λ (x : PositionedSign). x.weight) positioned)) ∙ weights)).1 in
     good_word weight sign items short (all_weaker (is_sign_up_to n) (nat_le 1) (map (λ (x : PositionedSign). x.sign) positioned) (sign_some n) new_signs) new_weights small letter sound
 
 -- a sign more in the columns: they are longer by one
-pub pushed_length : (old new : Store) (mark : Mark) (weight sign : ℕ) → columns_of new ≡ with_signs (columns_of old) (positioned_sign mark weight sign ∷ []) → length new.signs.items ≡ length old.signs.items + 1
+pub pushed_length : (old new : Store) (mark : Mark) (weight sign : ℕ) → columns_of new ≡ with_signs (columns_of old) (positioned_sign mark weight sign ∷ [])
+    → length new.signs.items ≡ length old.signs.items + 1
 pushed_length old new mark weight sign grown = ap (λ (c : Columns). length c.signs) grown ∙ length-append old.signs.items (sign ∷ [])
 
 -- and they are within their limits where the sign and its weight are
-pub pushed_fit : (n : ℕ) (old new : Store) (mark : Mark) (weight sign : ℕ) → IsFit n old → weight ≤ WEIGHT_MAX → 1 ≤ sign → sign ≤ n → columns_of new ≡ with_signs (columns_of old) (positioned_sign mark weight sign ∷ []) → IsFit n new
+pub pushed_fit : (n : ℕ) (old new : Store) (mark : Mark) (weight sign : ℕ) → IsFit n old → weight ≤ WEIGHT_MAX → 1 ≤ sign → sign ≤ n → columns_of new
+    ≡ with_signs (columns_of old) (positioned_sign mark weight sign ∷ []) → IsFit n new
 pushed_fit n old new mark weight sign fit small some most grown = record {
-  signs = ap (λ (c : Columns). list_all (is_sign_up_to n) c.signs) grown ∙ list_all-append (is_sign_up_to n) old.signs.items (sign ∷ []) ∙ and_from _ _ fit.signs (and_from _ _ (and_from _ _ (le-leb 1 sign some) (le-leb sign n most)) refl);
-  weights = ap (λ (c : Columns). list_all is_weight c.weights) grown ∙ list_all-append is_weight old.weights.items (weight ∷ []) ∙ and_from _ _ fit.weights (and_from _ _ (le-leb weight WEIGHT_MAX small) refl);
+  signs = ap (λ (c : Columns). list_all (is_sign_up_to n) c.signs) grown ∙ list_all-append (is_sign_up_to n) old.signs.items (sign ∷ [])
+      ∙ and_from _ _ fit.signs (and_from _ _ (and_from _ _ (le-leb 1 sign some) (le-leb sign n most)) refl);
+  weights = ap (λ (c : Columns). list_all is_weight c.weights) grown ∙ list_all-append is_weight old.weights.items (weight ∷ [])
+      ∙ and_from _ _ fit.weights (and_from _ _ (le-leb weight WEIGHT_MAX small) refl);
 }

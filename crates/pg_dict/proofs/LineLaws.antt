@@ -22,7 +22,8 @@ use Rattle.pg_dict.specs.Inside.Written.{letters_among, IsLine, file_of, LinesGi
 use Rattle.pg_dict.proofs.Lines.{words_short}
 
 -- the signs of the items of a dictionary are its letters
-signs_are_letters : (t : Alphabet) (items : List (Token × List ℕ)) → AllByRecursion (λ (item : Token × List ℕ). IsItem t Dictionary item.0 item.1) items → length (signs_of (map (λ (item : Token × List ℕ). item.0) items)) ≡ letters_among (map (λ (item : Token × List ℕ). item.0) items)
+signs_are_letters : (t : Alphabet) (items : List (Token × List ℕ)) → AllByRecursion (λ (item : Token × List ℕ). IsItem t Dictionary item.0 item.1) items
+    → length (signs_of (map (λ (item : Token × List ℕ). item.0) items)) ≡ letters_among (map (λ (item : Token × List ℕ). item.0) items)
 signs_are_letters t [] each = refl
 signs_are_letters t ((Letter s, text) ∷ items) each = let rest = signs_are_letters t items each.1 in omega (arith, rest)
 signs_are_letters t ((Digit n, text) ∷ items) each = signs_are_letters t items each.1
@@ -31,7 +32,9 @@ signs_are_letters t ((Marked m, text) ∷ items) each = signs_are_letters t item
 signs_are_letters t ((Edge, text) ∷ items) each = absurd each.0
 
 -- a line of items gives what the items give
-pub line_is_read : (t : Alphabet) → KeepsRules t → (line weight : ℕ) (items : List (Token × List ℕ)) → AllByRecursion (λ (item : Token × List ℕ). IsItem t Dictionary item.0 item.1) items → letters_among (map (λ (item : Token × List ℕ). item.0) items) ≤ WORD_LETTERS_MAX → line_reading t line weight (text_of_items items) ≡ Ok (line_word weight (map (λ (item : Token × List ℕ). item.0) items))
+pub line_is_read : (t : Alphabet) → KeepsRules t → (line weight : ℕ) (items : List (Token × List ℕ)) → AllByRecursion (λ (item : Token × List ℕ). IsItem t Dictionary item.0 item.1) items
+    → letters_among (map (λ (item : Token × List ℕ). item.0) items) ≤ WORD_LETTERS_MAX → line_reading t line weight (text_of_items items)
+    ≡ Ok (line_word weight (map (λ (item : Token × List ℕ). item.0) items))
 line_is_read t rules line weight items each few =
     reads.line_is_read (line_word weight) t rules Dictionary line items each (omega (arith, few, signs_are_letters t items each))
 

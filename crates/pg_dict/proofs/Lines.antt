@@ -31,28 +31,35 @@ both_parts-both_parts ws more (Ok last) = ap (λ (words : List Word). Ok words) 
 both_parts-both_parts ws more (Err r) = refl
 
 -- what follows a line that is read
-pub line_read : (ws new : List Word) (weight : ℕ) (line : Result LineWord Refusal) (more : LineWord → Result (List Word) Refusal) (next : ℕ → Result (List Word) Refusal) → ((l : LineWord) → more l ≡ next l.weight) → with_word ws line ≡ Ok (record { words = new; weight = weight }) → both_parts (Ok new) (next weight) ≡ both_parts (Ok ws) (on_line more line)
+pub line_read : (ws new : List Word) (weight : ℕ) (line : Result LineWord Refusal) (more : LineWord → Result (List Word) Refusal) (next : ℕ → Result (List Word) Refusal)
+    → ((l : LineWord) → more l ≡ next l.weight) → with_word ws line ≡ Ok (record { words = new; weight = weight }) → both_parts (Ok new) (next weight) ≡ both_parts (Ok ws) (on_line more line)
 line_read ws new weight (Ok l) more next same is =
     let words : ws ++ option_to_list l.word ≡ new = ap (λ (r : Result Entries Refusal). (result_unwrap_or r (record { words = new; weight = weight })).words) is in
     let weights : l.weight ≡ weight = ap (λ (r : Result Entries Refusal). (result_unwrap_or r (record { words = new; weight = weight })).weight) is in
-    sym (ap (λ (r : Result (List Word) Refusal). both_parts (Ok ws) (both_parts (Ok (option_to_list l.word)) r)) (same l ∙ ap next weights) ∙ both_parts-both_parts ws (option_to_list l.word) (next weight) ∙ ap (λ (ws : List Word). both_parts (Ok ws) (next weight)) words)
+    sym (ap (λ (r : Result (List Word) Refusal). both_parts (Ok ws) (both_parts (Ok (option_to_list l.word)) r)) (same l ∙ ap next weights)
+    ∙ both_parts-both_parts ws (option_to_list l.word) (next weight) ∙ ap (λ (ws : List Word). both_parts (Ok ws) (next weight)) words)
 line_read ws new weight (Err r) more next same is = cc
 
 -- a line that is refused
-pub line_refused : (e : ReadingError) (ws : List Word) (line : Result LineWord Refusal) (more : LineWord → Result (List Word) Refusal) → Fails e (with_word ws line) → Fails e (both_parts (Ok ws) (on_line more line))
+pub line_refused : (e : ReadingError) (ws : List Word) (line : Result LineWord Refusal) (more : LineWord → Result (List Word) Refusal) → Fails e (with_word ws line)
+    → Fails e (both_parts (Ok ws) (on_line more line))
 line_refused (Refused r) ws (Ok l) more fails = cc
 line_refused (Refused r) ws (Err s) more fails = cc
 line_refused Memory ws line more fails = tt
 
 -- the next line of a file
-pub next_read : (t : Alphabet) (line weight next : ℕ) (text : List ℕ) (below all : List (List ℕ)) (ws new : List Word) → all ≡ text ∷ below → with_word ws (line_reading t line weight text) ≡ Ok (record { words = new; weight = next }) → both_parts (Ok new) (words_from t (line + 1) next below) ≡ both_parts (Ok ws) (words_from t line weight all)
+pub next_read : (t : Alphabet) (line weight next : ℕ) (text : List ℕ) (below all : List (List ℕ)) (ws new : List Word) → all ≡ text ∷ below
+    → with_word ws (line_reading t line weight text) ≡ Ok (record { words = new; weight = next }) → both_parts (Ok new) (words_from t (line + 1) next below)
+    ≡ both_parts (Ok ws) (words_from t line weight all)
 next_read t line weight next text below all ws new is read =
     line_read ws new next (line_reading t line weight text) (λ (l : LineWord). words_from t (line + 1) l.weight below) (λ (weight : ℕ). words_from t (line + 1) weight below) (λ _. refl) read
     ∙ ap (λ (all : List (List ℕ)). both_parts (Ok ws) (words_from t line weight all)) (sym is)
 
-pub next_refused : (e : ReadingError) (t : Alphabet) (line weight : ℕ) (text : List ℕ) (below all : List (List ℕ)) (ws : List Word) (whole : Result (List Word) Refusal) → all ≡ text ∷ below → both_parts (Ok ws) (words_from t line weight all) ≡ whole → Fails e (with_word ws (line_reading t line weight text)) → Fails e whole
+pub next_refused : (e : ReadingError) (t : Alphabet) (line weight : ℕ) (text : List ℕ) (below all : List (List ℕ)) (ws : List Word) (whole : Result (List Word) Refusal)
+    → all ≡ text ∷ below → both_parts (Ok ws) (words_from t line weight all) ≡ whole → Fails e (with_word ws (line_reading t line weight text)) → Fails e whole
 next_refused e t line weight text below all ws whole is so fails =
-    let r : Fails e (both_parts (Ok ws) (words_from t line weight (text ∷ below))) = line_refused e ws (line_reading t line weight text) (λ (l : LineWord). words_from t (line + 1) l.weight below) fails in
+    let r : Fails e (both_parts (Ok ws) (words_from t line weight (text ∷ below))) =
+    line_refused e ws (line_reading t line weight text) (λ (l : LineWord). words_from t (line + 1) l.weight below) fails in
     let F : Result (List Word) Refusal → Type 0 = λ reading. Fails e reading in
     subst F (ap (λ (all : List (List ℕ)). both_parts (Ok ws) (words_from t line weight all)) (sym is) ∙ so) r
 

@@ -28,7 +28,8 @@ word_as [] word = refl
 word_as (sign ∷ signs) word = refl
 
 -- the words of lines, the first of which has this number
-pub lines_as : (t : Alphabet) (line weight : ℕ) (texts : List (List ℕ)) → words_from t line weight texts ≡ unless (slice_get (refusals_from t Dictionary line texts) 0) (line_words weight (map (items_of t Dictionary) texts))
+pub lines_as : (t : Alphabet) (line weight : ℕ) (texts : List (List ℕ)) → words_from t line weight texts
+    ≡ unless (slice_get (refusals_from t Dictionary line texts) 0) (line_words weight (map (items_of t Dictionary) texts))
 lines_as t line weight [] = refl
 lines_as t line weight (text ∷ texts) =
     let refusal : Option Refusal = line_refusal Dictionary line (cut t Dictionary text) in

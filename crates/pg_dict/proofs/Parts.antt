@@ -19,10 +19,13 @@ signs_with_positions [] hyphens weights cares = []
 signs_with_positions (sign ∷ signs) [] weights cares = []
 signs_with_positions (sign ∷ signs) (hyphen ∷ hyphens) [] cares = []
 signs_with_positions (sign ∷ signs) (hyphen ∷ hyphens) (weight ∷ weights) [] = []
-signs_with_positions (sign ∷ signs) (hyphen ∷ hyphens) (weight ∷ weights) (care ∷ cares) = record { sign = sign; hyphen = hyphen; weight = weight; care = care } ∷ signs_with_positions signs hyphens weights cares
+signs_with_positions (sign ∷ signs) (hyphen ∷ hyphens) (weight ∷ weights) (care ∷ cares) =
+    record { sign = sign; hyphen = hyphen; weight = weight; care = care } ∷ signs_with_positions signs hyphens weights cares
 
 -- columns of one length come back from their positions
-pub columns_back : (weight : ℕ) (signs : List ℕ) (hyphens : List Bool) (weights : List ℕ) (cares : List Bool) → length hyphens ≡ length signs → length weights ≡ length signs → length cares ≡ length signs → word_with weight (signs_with_positions signs hyphens weights cares) ≡ record { signs = signs; hyphens = hyphens; weights = weights; cares = cares; weight = weight }
+pub columns_back : (weight : ℕ) (signs : List ℕ) (hyphens : List Bool) (weights : List ℕ) (cares : List Bool) → length hyphens ≡ length signs → length weights
+    ≡ length signs → length cares ≡ length signs → word_with weight (signs_with_positions signs hyphens weights cares)
+    ≡ record { signs = signs; hyphens = hyphens; weights = weights; cares = cares; weight = weight }
 unfolding signs_with_positions
 columns_back weight [] [] [] [] h w c = refl
 columns_back weight [] (x ∷ hyphens) weights cares h w c = absurd (omega (arith, h))
@@ -32,17 +35,23 @@ columns_back weight (sign ∷ signs) [] weights cares h w c = absurd (omega (ari
 columns_back weight (sign ∷ signs) (hyphen ∷ hyphens) [] cares h w c = absurd (omega (arith, w))
 columns_back weight (sign ∷ signs) (hyphen ∷ hyphens) (wt ∷ weights) [] h w c = absurd (omega (arith, c))
 columns_back weight (sign ∷ signs) (hyphen ∷ hyphens) (wt ∷ weights) (care ∷ cares) h w c =
-    ap (λ (u : Word). record { signs = sign ∷ u.signs; hyphens = hyphen ∷ u.hyphens; weights = wt ∷ u.weights; cares = care ∷ u.cares; weight = weight }) (columns_back weight signs hyphens weights cares (omega (arith, h)) (omega (arith, w)) (omega (arith, c)))
+    ap (λ (u : Word). record { signs = sign ∷ u.signs; hyphens = hyphen ∷ u.hyphens; weights = wt ∷ u.weights; cares = care ∷ u.cares; weight = weight })
+    (columns_back weight signs hyphens weights cares (omega (arith, h)) (omega (arith, w)) (omega (arith, c)))
 
 -- the columns of a store with a word more
-pub columns_grown : (s u : Store) (w : Word) → IsWord w → u.signs.items ≡ s.signs.items ++ w.signs → u.hyphens.items ≡ s.hyphens.items ++ w.hyphens → u.weights.items ≡ s.weights.items ++ w.weights → u.cares.items ≡ s.cares.items ++ w.cares → columns_of u ≡ with_signs (columns_of s) (signs_with_positions w.signs w.hyphens w.weights w.cares)
+pub columns_grown : (s u : Store) (w : Word) → IsWord w → u.signs.items ≡ s.signs.items ++ w.signs → u.hyphens.items ≡ s.hyphens.items ++ w.hyphens
+    → u.weights.items ≡ s.weights.items ++ w.weights → u.cares.items ≡ s.cares.items ++ w.cares → columns_of u ≡ with_signs (columns_of s) (signs_with_positions w.signs w.hyphens w.weights w.cares)
 columns_grown s u w good signs hyphens weights cares =
-    let back : word_with w.weight (signs_with_positions w.signs w.hyphens w.weights w.cares) ≡ w = columns_back w.weight w.signs w.hyphens w.weights w.cares good.hyphens_len good.weights_len good.cares_len in
+    let back : word_with w.weight (signs_with_positions w.signs w.hyphens w.weights w.cares)
+    ≡ w = columns_back w.weight w.signs w.hyphens w.weights w.cares good.hyphens_len good.weights_len good.cares_len in
     let c : Columns = columns_of s in
-    rw (signs, hyphens, weights, cares) (ap (λ (x : Word). record { signs = c.signs ++ x.signs; hyphens = c.hyphens ++ x.hyphens; weights = c.weights ++ x.weights; cares = c.cares ++ x.cares }) (sym back))
+    rw (signs, hyphens, weights, cares) (ap (λ (x : Word). record { signs = c.signs ++ x.signs; hyphens = c.hyphens ++ x.hyphens; weights = c.weights ++ x.weights; cares = c.cares ++ x.cares })
+    (sym back))
 
 -- a word more: the words, and that the store stays sound
-pub word_pushed : (s u : Store) (w : Word) (start end : ℕ) → IsSound s → IsWord w → u.signs.items ≡ s.signs.items ++ w.signs → u.hyphens.items ≡ s.hyphens.items ++ w.hyphens → u.weights.items ≡ s.weights.items ++ w.weights → u.cares.items ≡ s.cares.items ++ w.cares → u.words.items ≡ s.words.items ++ record { start = start; end = end; weight = w.weight } ∷ [] → start ≡ length s.signs.items → end ≡ length u.signs.items → (stored_words u ≡ stored_words s ++ w ∷ []) × IsSound u
+pub word_pushed : (s u : Store) (w : Word) (start end : ℕ) → IsSound s → IsWord w → u.signs.items ≡ s.signs.items ++ w.signs → u.hyphens.items
+    ≡ s.hyphens.items ++ w.hyphens → u.weights.items ≡ s.weights.items ++ w.weights → u.cares.items ≡ s.cares.items ++ w.cares → u.words.items
+    ≡ s.words.items ++ record { start = start; end = end; weight = w.weight } ∷ [] → start ≡ length s.signs.items → end ≡ length u.signs.items → (stored_words u ≡ stored_words s ++ w ∷ []) × IsSound u
 word_pushed s u w start end sound good signs hyphens weights cares words from to =
     let positioned : List PositionedSign = signs_with_positions w.signs w.hyphens w.weights w.cares in
     let back : word_with w.weight positioned ≡ w = columns_back w.weight w.signs w.hyphens w.weights w.cares good.hyphens_len good.weights_len good.cares_len in
@@ -56,14 +65,16 @@ pub drop_word : (ws : List Word) (i : ℕ) (w : Word) → slice_get ws i ≡ Som
 drop_word ws i w at = drop_more ws i w (slice_get_within ws i w at) ∙ ap (λ y. y ∷ drop (i + 1) ws) (get_or_from_slice_get ws i w w at)
 
 -- a word that is in the part
-pub part_taken : (folds fold : ℕ) (inside : Bool) (i : ℕ) (done ws all : List Word) (w : Word) → slice_get ws i ≡ Some w → is_in_part folds fold inside i ≡ true → done ++ part_from folds fold inside i (drop i ws) ≡ all → (done ++ w ∷ []) ++ part_from folds fold inside (i + 1) (drop (i + 1) ws) ≡ all
+pub part_taken : (folds fold : ℕ) (inside : Bool) (i : ℕ) (done ws all : List Word) (w : Word) → slice_get ws i ≡ Some w → is_in_part folds fold inside i
+    ≡ true → done ++ part_from folds fold inside i (drop i ws) ≡ all → (done ++ w ∷ []) ++ part_from folds fold inside (i + 1) (drop (i + 1) ws) ≡ all
 part_taken folds fold inside i done ws all w at is whole =
     let rest : List Word = part_from folds fold inside (i + 1) (drop (i + 1) ws) in
     let here : part_from folds fold inside i (drop i ws) ≡ w ∷ rest = ap (part_from folds fold inside i) (drop_word ws i w at) ∙ ap (λ b. if b then w ∷ rest else rest) is in
     append_assoc done (w ∷ []) rest ∙ ap (λ xs. done ++ xs) (sym here) ∙ whole
 
 -- a word that is not
-pub part_passed : (folds fold : ℕ) (inside : Bool) (i : ℕ) (done ws all : List Word) (w : Word) → slice_get ws i ≡ Some w → is_in_part folds fold inside i ≡ false → done ++ part_from folds fold inside i (drop i ws) ≡ all → done ++ part_from folds fold inside (i + 1) (drop (i + 1) ws) ≡ all
+pub part_passed : (folds fold : ℕ) (inside : Bool) (i : ℕ) (done ws all : List Word) (w : Word) → slice_get ws i ≡ Some w → is_in_part folds fold inside i
+    ≡ false → done ++ part_from folds fold inside i (drop i ws) ≡ all → done ++ part_from folds fold inside (i + 1) (drop (i + 1) ws) ≡ all
 part_passed folds fold inside i done ws all w at is whole =
     let rest : List Word = part_from folds fold inside (i + 1) (drop (i + 1) ws) in
     let here : part_from folds fold inside i (drop i ws) ≡ rest = ap (part_from folds fold inside i) (drop_word ws i w at) ∙ ap (λ b. if b then w ∷ rest else rest) is in

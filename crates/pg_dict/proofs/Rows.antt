@@ -33,7 +33,13 @@ hyphen weight = (true, weight, true)
 
 -- a word of this weight, with these signs and the hyphen, weight and care of each position
 abbrev word : ℕ → List ℕ → List (Bool × ℕ × Bool) → Word
-word weight signs positions = record { signs = signs; hyphens = map (λ (p : Bool × ℕ × Bool). p.0) positions; weights = map (λ (p : Bool × ℕ × Bool). p.1) positions; cares = map (λ (p : Bool × ℕ × Bool). p.2) positions; weight = weight }
+word weight signs positions = record {
+  signs = signs;
+  hyphens = map (λ (p : Bool × ℕ × Bool). p.0) positions;
+  weights = map (λ (p : Bool × ℕ × Bool). p.1) positions;
+  cares = map (λ (p : Bool × ℕ × Bool). p.2) positions;
+  weight = weight;
+}
 
 -- the words abc, aba and ab-c of this weight
 abbrev abc_word : ℕ → Word

@@ -47,36 +47,43 @@ shown_weight f weight mark number n [] = refl
 shown_weight f weight mark number n (position ∷ []) = refl
 shown_weight f weight mark number n (position ∷ next ∷ more) = refl
 
-shown_mark : {X : Type 0} (f : Mark → ℕ → X) (weight : ℕ) (mark : Mark) (number : ℕ) (m : Mark) (gs : List (List Token)) → shown f weight mark number (onto_first (Marked m) gs) ≡ shown f weight m number gs
+shown_mark : {X : Type 0} (f : Mark → ℕ → X) (weight : ℕ) (mark : Mark) (number : ℕ) (m : Mark) (gs : List (List Token)) → shown f weight mark number (onto_first (Marked m) gs)
+    ≡ shown f weight m number gs
 shown_mark f weight mark number m [] = refl
 shown_mark f weight mark number m (position ∷ []) = refl
 shown_mark f weight mark number m (position ∷ next ∷ more) = refl
 
 -- a sign ends a position
-shown_sign : {X : Type 0} (f : Mark → ℕ → X) (weight : ℕ) (mark : Mark) (number : ℕ) (items : List Token) → shown f weight mark number ([] ∷ gaps items) ≡ f mark number ∷ shown f weight Nothing weight (gaps items)
+shown_sign : {X : Type 0} (f : Mark → ℕ → X) (weight : ℕ) (mark : Mark) (number : ℕ) (items : List Token) → shown f weight mark number ([] ∷ gaps items)
+    ≡ f mark number ∷ shown f weight Nothing weight (gaps items)
 shown_sign {X} f weight mark number items =
     let p = gaps_some items in
     ap (λ (gs : List (List Token)). shown f weight mark number ([] ∷ gs)) p.2 ∙ ap (λ (gs : List (List Token)). f mark number ∷ shown f weight Nothing weight gs) (sym p.2)
 
 -- what the signs with their positions show is what their gaps show
-spots_shown : {X : Type 0} (h : PositionedSign → X) (f : Mark → ℕ → X) → ((mark : Mark) (number sign : ℕ) → h (positioned_sign mark number sign) ≡ f mark number) → (weight : ℕ) (mark : Mark) (number : ℕ) (items : List Token) → map h (signs_behind weight mark number items) ≡ shown f weight mark number (gaps items)
+spots_shown : {X : Type 0} (h : PositionedSign → X) (f : Mark → ℕ → X) → ((mark : Mark) (number sign : ℕ) → h (positioned_sign mark number sign) ≡ f mark number)
+    → (weight : ℕ) (mark : Mark) (number : ℕ) (items : List Token) → map h (signs_behind weight mark number items) ≡ shown f weight mark number (gaps items)
 spots_shown {X} h f same weight mark number [] = ap (λ (x : X). x ∷ []) (same Nothing weight EDGE)
 spots_shown {X} h f same weight mark number (Letter s ∷ items) =
-    ap (λ (x : X). x ∷ map h (signs_behind weight Nothing weight items)) (same mark number s) ∙ ap (λ (xs : List X). f mark number ∷ xs) (spots_shown h f same weight Nothing weight items) ∙ sym (shown_sign f weight mark number items)
+    ap (λ (x : X). x ∷ map h (signs_behind weight Nothing weight items)) (same mark number s) ∙ ap (λ (xs : List X). f mark number ∷ xs) (spots_shown h f same weight Nothing weight items)
+    ∙ sym (shown_sign f weight mark number items)
 spots_shown {X} h f same weight mark number (Edge ∷ items) =
-    ap (λ (x : X). x ∷ map h (signs_behind weight Nothing weight items)) (same mark number EDGE) ∙ ap (λ (xs : List X). f mark number ∷ xs) (spots_shown h f same weight Nothing weight items) ∙ sym (shown_sign f weight mark number items)
+    ap (λ (x : X). x ∷ map h (signs_behind weight Nothing weight items)) (same mark number EDGE) ∙ ap (λ (xs : List X). f mark number ∷ xs) (spots_shown h f same weight Nothing weight items)
+    ∙ sym (shown_sign f weight mark number items)
 spots_shown h f same weight mark number (Digit n ∷ items) = spots_shown h f same weight mark n items ∙ sym (shown_digit f weight mark number n (gaps items))
 spots_shown h f same weight mark number (Weight n ∷ items) = spots_shown h f same weight mark n items ∙ sym (shown_weight f weight mark number n (gaps items))
 spots_shown h f same weight mark number (Marked m ∷ items) = spots_shown h f same weight m number items ∙ sym (shown_mark f weight mark number m (gaps items))
 
 -- all gaps but the last, and the last edge
-shown_front : {X : Type 0} (f : Mark → ℕ → X) (weight : ℕ) (gs : List (List Token)) → shown f weight Nothing weight gs ≡ map (λ (position : List Token). f (last_mark position) (last_number weight position)) (take (length gs - 1) gs) ++ f Nothing weight ∷ []
+shown_front : {X : Type 0} (f : Mark → ℕ → X) (weight : ℕ) (gs : List (List Token)) → shown f weight Nothing weight gs
+    ≡ map (λ (position : List Token). f (last_mark position) (last_number weight position)) (take (length gs - 1) gs) ++ f Nothing weight ∷ []
 shown_front f weight [] = refl
 shown_front f weight (position ∷ []) = refl
 shown_front {X} f weight (position ∷ next ∷ more) =
     let size : length (position ∷ next ∷ more) - 1 ≡ suc (length (next ∷ more) - 1) = omega arith in
     let here : X = f (last_mark position) (last_number weight position) in
-    ap (λ (xs : List X). here ∷ xs) (shown_front f weight (next ∷ more)) ∙ ap (λ (n : ℕ). map (λ (position : List Token). f (last_mark position) (last_number weight position)) (take n (position ∷ next ∷ more)) ++ f Nothing weight ∷ []) (sym size)
+    ap (λ (xs : List X). here ∷ xs) (shown_front f weight (next ∷ more))
+    ∙ ap (λ (n : ℕ). map (λ (position : List Token). f (last_mark position) (last_number weight position)) (take n (position ∷ next ∷ more)) ++ f Nothing weight ∷ []) (sym size)
 
 -- behind the first sign the gaps between signs are all but the last
 inner_front : (s : ℕ) (items : List Token) → take (length (gaps items) - 1) (gaps items) ≡ inner_gaps (Letter s ∷ items)
@@ -85,11 +92,15 @@ inner_front s items =
     ap (λ (n : ℕ). take n (gaps items)) size
 
 -- a list of a word, by its gaps
-positions_shown : {X : Type 0} (h : PositionedSign → X) (f : Mark → ℕ → X) → ((mark : Mark) (number sign : ℕ) → h (positioned_sign mark number sign) ≡ f mark number) → (weight s : ℕ) (items : List Token) → map h (word_signs weight s items) ≡ at_positions (f Nothing weight) (λ (position : List Token). f (last_mark position) (last_number weight position)) (Letter s ∷ items)
+positions_shown : {X : Type 0} (h : PositionedSign → X) (f : Mark → ℕ → X) → ((mark : Mark) (number sign : ℕ) → h (positioned_sign mark number sign) ≡ f mark number)
+    → (weight s : ℕ) (items : List Token) → map h (word_signs weight s items)
+    ≡ at_positions (f Nothing weight) (λ (position : List Token). f (last_mark position) (last_number weight position)) (Letter s ∷ items)
 positions_shown {X} h f same weight s items =
     let plain : X = f Nothing weight in
-    let behind : map h (signs_behind weight Nothing weight items) ≡ map (λ (position : List Token). f (last_mark position) (last_number weight position)) (inner_gaps (Letter s ∷ items)) ++ plain ∷ [] =
-    spots_shown h f same weight Nothing weight items ∙ shown_front f weight (gaps items) ∙ ap (λ (gs : List (List Token)). map (λ (position : List Token). f (last_mark position) (last_number weight position)) gs ++ plain ∷ []) (inner_front s items) in
+    let behind : map h (signs_behind weight Nothing weight items) ≡ map (λ (position : List Token). f (last_mark position) (last_number weight position)) (inner_gaps (Letter s ∷ items))
+    ++ plain ∷ [] =
+    spots_shown h f same weight Nothing weight items ∙ shown_front f weight (gaps items)
+    ∙ ap (λ (gs : List (List Token)). map (λ (position : List Token). f (last_mark position) (last_number weight position)) gs ++ plain ∷ []) (inner_front s items) in
     ap (λ (x : X). x ∷ h (positioned_sign Nothing weight s) ∷ map h (signs_behind weight Nothing weight items)) (same Nothing weight EDGE)
     ∙ ap (λ (x : X). plain ∷ x ∷ map h (signs_behind weight Nothing weight items)) (same Nothing weight s)
     ∙ ap (λ (xs : List X). plain ∷ plain ∷ xs) behind

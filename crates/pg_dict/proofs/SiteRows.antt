@@ -21,7 +21,8 @@ site_added w items more whole p end site before is here left =
     ∙ ap (λ (ps : List ℕ). items ++ map (site_of w) ps) (sym (range_step p end before)) ∙ left
 
 -- one word more
-pub word_added : (words : List Word) (items more whole : List Site) (i : ℕ) (w : Word) → slice_get words i ≡ Some w → more ≡ items ++ sites_in w → items ++ all_sites (drop i words) ≡ whole → more ++ all_sites (drop (i + 1) words) ≡ whole
+pub word_added : (words : List Word) (items more whole : List Site) (i : ℕ) (w : Word) → slice_get words i ≡ Some w → more ≡ items ++ sites_in w → items
+    ++ all_sites (drop i words) ≡ whole → more ++ all_sites (drop (i + 1) words) ≡ whole
 word_added words items more whole i w at is left =
     let rest : List Site = all_sites (drop (i + 1) words) in
     ap (λ (ys : List Site). ys ++ rest) is ∙ append_assoc items (sites_in w) rest

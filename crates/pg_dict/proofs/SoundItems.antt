@@ -21,7 +21,8 @@ item_sound t rules (Marked m) text item = refl
 item_sound t rules Edge text item = absurd item
 
 -- so is the first item of a cut, where those behind it are
-cut_sound : (t : Alphabet) → KeepsRules t → (column : ℕ) (text : List ℕ) (found : Option (Token × ℕ)) → item_at t Dictionary text ≡ found → (behind : ℕ → Cut) → ((k : ℕ) → list_all is_sound_item (tokens_of (behind k)) ≡ true) → list_all is_sound_item (tokens_of (cut_at column text found behind)) ≡ true
+cut_sound : (t : Alphabet) → KeepsRules t → (column : ℕ) (text : List ℕ) (found : Option (Token × ℕ)) → item_at t Dictionary text ≡ found → (behind : ℕ → Cut)
+    → ((k : ℕ) → list_all is_sound_item (tokens_of (behind k)) ≡ true) → list_all is_sound_item (tokens_of (cut_at column text found behind)) ≡ true
 cut_sound t rules column text None is behind sound = refl
 cut_sound t rules column text (Some item) is behind sound =
     let reads = item_found t rules Dictionary text item.0 item.1 is in
@@ -30,5 +31,6 @@ cut_sound t rules column text (Some item) is behind sound =
 -- all items of a cut
 pub items_sound : (t : Alphabet) → KeepsRules t → (column skip : ℕ) (text : List ℕ) → list_all is_sound_item (tokens_of (cut_from t Dictionary column skip text)) ≡ true
 items_sound t rules column skip [] = refl
-items_sound t rules column zero (b ∷ bs) = cut_sound t rules column (b ∷ bs) (item_at t Dictionary (b ∷ bs)) refl (λ more. cut_from t Dictionary (column + 1) more bs) (λ k. items_sound t rules (column + 1) k bs)
+items_sound t rules column zero (b ∷ bs) = cut_sound t rules column (b ∷ bs) (item_at t Dictionary (b ∷ bs)) refl (λ more. cut_from t Dictionary (column + 1) more bs)
+    (λ k. items_sound t rules (column + 1) k bs)
 items_sound t rules column (suc skip) (b ∷ bs) = items_sound t rules (column + 1) skip bs

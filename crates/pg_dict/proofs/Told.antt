@@ -28,7 +28,8 @@ pub all_above : (n : ℕ) (xs : List ℕ) → list_all (nat_lt n) xs ≡ true �
 all_above n xs pass k d within = ltb-true n _ (AllPass-from_list_all (nat_lt n) xs pass k d within)
 
 -- a plain position, from its test
-pub plain_from : (w : Word) (p : ℕ) → p < length w.signs → length w.hyphens ≡ length w.signs → length w.weights ≡ length w.signs → length w.cares ≡ length w.signs → is_plain_at w p ≡ true → IsPlainAt w p
+pub plain_from : (w : Word) (p : ℕ) → p < length w.signs → length w.hyphens ≡ length w.signs → length w.weights ≡ length w.signs → length w.cares
+    ≡ length w.signs → is_plain_at w p ≡ true → IsPlainAt w p
 plain_from w p within hyphens weights cares pass =
     let a = and_parts _ _ pass in
     let b = and_parts _ _ a.1 in
@@ -153,9 +154,11 @@ word_stored s now i w view inside at =
     subst (λ (ws : List Word). slice_get ws i ≡ Some (word_at (columns_of s) w)) view (slice_get-map (word_at (columns_of s)) s.words.items i ∙ ap (option_map (word_at (columns_of s))) stored)
 
 -- it lies within the columns
-pub word_within : (s : Store) (now : List Word) (i : ℕ) (w : Stored) → IsSound s → stored_words s ≡ now → i < length now → w ≡ slice_index_or s.words.items i w → (w.start ≤ w.end) × (w.end ≤ length s.signs.items)
+pub word_within : (s : Store) (now : List Word) (i : ℕ) (w : Stored) → IsSound s → stored_words s ≡ now → i < length now → w ≡ slice_index_or s.words.items i w
+    → (w.start ≤ w.end) × (w.end ≤ length s.signs.items)
 word_within s now i w sound view inside at =
     let size : length now ≡ length s.words.items = ap (λ (ws : List Word). length ws) (sym view) ∙ length-map s.words.items (word_at (columns_of s)) in
-    let pass : lies_within (length s.signs.items) w ≡ true = subst (λ (x : Stored). lies_within (length s.signs.items) x ≡ true) (sym at) (AllPass-from_list_all (lies_within (length s.signs.items)) s.words.items sound.within i w (omega arith)) in
+    let pass : lies_within (length s.signs.items) w ≡ true = subst (λ (x : Stored). lies_within (length s.signs.items) x ≡ true) (sym at)
+    (AllPass-from_list_all (lies_within (length s.signs.items)) s.words.items sound.within i w (omega arith)) in
     let parts = and_parts (nat_le w.start w.end) (nat_le w.end (length s.signs.items)) pass in
     (leb-true w.start w.end parts.0, leb-true w.end (length s.signs.items) parts.1)

@@ -41,7 +41,8 @@ mark_read weight Found more = refl
 mark_read weight DontCare more = refl
 
 -- the letters behind the first
-letters_read : (weight : ℕ) (letters : List Written) → signs_behind weight Nothing weight (letters_tokens weight letters) ≡ map (λ (l : Written). positioned_sign l.mark l.weight l.sign) letters ++ positioned_sign Nothing weight EDGE ∷ []
+letters_read : (weight : ℕ) (letters : List Written) → signs_behind weight Nothing weight (letters_tokens weight letters)
+    ≡ map (λ (l : Written). positioned_sign l.mark l.weight l.sign) letters ++ positioned_sign Nothing weight EDGE ∷ []
 letters_read weight [] = refl
 letters_read weight (l ∷ letters) =
     let more : List Token = Letter l.sign ∷ letters_tokens weight letters in
@@ -55,22 +56,29 @@ letters_read weight (l ∷ letters) =
 abbrev tokens_of : ℕ → ℕ → ℕ → List Written → List Token
 tokens_of before weight sign letters = weight_tokens before weight ++ Letter sign ∷ letters_tokens weight letters
 
-pub tokens_read : (before weight sign : ℕ) (letters : List Written) → running_word before (tokens_of before weight sign letters) ≡ record { word = Some (word_with weight (written_signs weight sign letters)); weight = weight }
+pub tokens_read : (before weight sign : ℕ) (letters : List Written) → running_word before (tokens_of before weight sign letters)
+    ≡ record { word = Some (word_with weight (written_signs weight sign letters)); weight = weight }
 tokens_read before weight sign letters = by_test (weight == before) refl
   where
     first : running_word weight (Letter sign ∷ letters_tokens weight letters) ≡ record { word = Some (word_with weight (written_signs weight sign letters)); weight = weight }
-    first = ap (λ (positioned : List PositionedSign). record { word = Some (word_with weight (positioned_sign Nothing weight EDGE ∷ positioned_sign Nothing weight sign ∷ positioned)); weight = weight }) (letters_read weight letters)
+    first = ap (λ (positioned : List PositionedSign). record {
+      word = Some (word_with weight (positioned_sign Nothing weight EDGE ∷ positioned_sign Nothing weight sign ∷ positioned));
+      weight = weight;
+    }) (letters_read weight letters)
 
-    by_size : (small : Bool) → running_word before (cond small (Digit weight) (Weight weight) ∷ Letter sign ∷ letters_tokens weight letters) ≡ record { word = Some (word_with weight (written_signs weight sign letters)); weight = weight }
+    by_size : (small : Bool) → running_word before (cond small (Digit weight) (Weight weight) ∷ Letter sign ∷ letters_tokens weight letters)
+        ≡ record { word = Some (word_with weight (written_signs weight sign letters)); weight = weight }
     by_size true = first
     by_size false = first
 
-    by_test : (same : Bool) → (weight == before) ≡ same → running_word before (cond same [] (number_token weight ∷ []) ++ Letter sign ∷ letters_tokens weight letters) ≡ record { word = Some (word_with weight (written_signs weight sign letters)); weight = weight }
+    by_test : (same : Bool) → (weight == before) ≡ same → running_word before (cond same [] (number_token weight ∷ []) ++ Letter sign ∷ letters_tokens weight letters)
+        ≡ record { word = Some (word_with weight (written_signs weight sign letters)); weight = weight }
     by_test true is = ap (λ (k : ℕ). running_word k (Letter sign ∷ letters_tokens weight letters)) (sym (eqb-true weight before is)) ∙ first
     by_test false is = by_size (nat_lt weight 10)
 
 -- a list is its first two elements, those between, and its last
-pub parted : {X : Type 0} (xs : List X) (a b c : X) → 3 ≤ length xs → slice_get xs 0 ≡ Some a → slice_get xs 1 ≡ Some b → slice_get xs (length xs - 1) ≡ Some c → xs ≡ a ∷ b ∷ (between_letters xs ++ c ∷ [])
+pub parted : {X : Type 0} (xs : List X) (a b c : X) → 3 ≤ length xs → slice_get xs 0 ≡ Some a → slice_get xs 1 ≡ Some b → slice_get xs (length xs - 1)
+    ≡ Some c → xs ≡ a ∷ b ∷ (between_letters xs ++ c ∷ [])
 parted [] a b c long first second last = absurd (omega arith)
 parted (x ∷ []) a b c long first second last = absurd (omega arith)
 parted {X} (x ∷ y ∷ ys) a b c long first second last =
@@ -83,33 +91,41 @@ parted {X} (x ∷ y ∷ ys) a b c long first second last =
     let whole : ys ≡ take n ys ++ c ∷ [] = sym (take_all (n + 1) ys (omega arith)) ∙ take_more ys n c (omega arith) ∙ ap (λ (z : X). take n ys ++ z ∷ []) is_last in
     let x_is : x ≡ a = ap (λ (o : Option X). unwrap_or o x) first in
     let y_is : y ≡ b = ap (λ (o : Option X). unwrap_or o y) second in
-    ap (λ (zs : List X). x ∷ y ∷ zs) (whole ∙ ap (λ (k : ℕ). take k ys ++ c ∷ []) (sym size)) ∙ ap (λ (z : X). z ∷ y ∷ (between_letters (x ∷ y ∷ ys) ++ c ∷ [])) x_is ∙ ap (λ (z : X). a ∷ z ∷ (between_letters (x ∷ y ∷ ys) ++ c ∷ [])) y_is
+    ap (λ (zs : List X). x ∷ y ∷ zs) (whole ∙ ap (λ (k : ℕ). take k ys ++ c ∷ []) (sym size)) ∙ ap (λ (z : X). z ∷ y ∷ (between_letters (x ∷ y ∷ ys) ++ c ∷ [])) x_is
+    ∙ ap (λ (z : X). a ∷ z ∷ (between_letters (x ∷ y ∷ ys) ++ c ∷ [])) y_is
 
 -- the parts of written letters
-pub letters_signs : (marks : List Mark) (weights signs : List ℕ) → length weights ≡ length marks → length signs ≡ length marks → map (λ (l : Written). l.sign) (written_letters marks weights signs) ≡ signs
+pub letters_signs : (marks : List Mark) (weights signs : List ℕ) → length weights ≡ length marks → length signs ≡ length marks
+    → map (λ (l : Written). l.sign) (written_letters marks weights signs) ≡ signs
 letters_signs [] weights [] w s = refl
 letters_signs [] weights (x ∷ xs) w s = absurd (omega arith)
 letters_signs (m ∷ ms) [] signs w s = absurd (omega arith)
 letters_signs (m ∷ ms) (n ∷ ns) [] w s = absurd (omega arith)
 letters_signs (m ∷ ms) (n ∷ ns) (x ∷ xs) w s = ap (λ (ys : List ℕ). x ∷ ys) (letters_signs ms ns xs (omega arith) (omega arith))
 
-pub written_weights : (marks : List Mark) (weights signs : List ℕ) → length weights ≡ length marks → length signs ≡ length marks → map (λ (l : Written). l.weight) (written_letters marks weights signs) ≡ weights
+pub written_weights : (marks : List Mark) (weights signs : List ℕ) → length weights ≡ length marks → length signs ≡ length marks
+    → map (λ (l : Written). l.weight) (written_letters marks weights signs) ≡ weights
 written_weights [] [] signs w s = refl
 written_weights [] (x ∷ xs) signs w s = absurd (omega arith)
 written_weights (m ∷ ms) [] signs w s = absurd (omega arith)
 written_weights (m ∷ ms) (n ∷ ns) [] w s = absurd (omega arith)
 written_weights (m ∷ ms) (n ∷ ns) (x ∷ xs) w s = ap (λ (ys : List ℕ). n ∷ ys) (written_weights ms ns xs (omega arith) (omega arith))
 
-pub written_marks : (h : Mark → Bool) (marks : List Mark) (weights signs : List ℕ) → length weights ≡ length marks → length signs ≡ length marks → map (λ (l : Written). h l.mark) (written_letters marks weights signs) ≡ map h marks
+pub written_marks : (h : Mark → Bool) (marks : List Mark) (weights signs : List ℕ) → length weights ≡ length marks → length signs ≡ length marks
+    → map (λ (l : Written). h l.mark) (written_letters marks weights signs) ≡ map h marks
 written_marks h [] weights signs w s = refl
 written_marks h (m ∷ ms) [] signs w s = absurd (omega arith)
 written_marks h (m ∷ ms) (n ∷ ns) [] w s = absurd (omega arith)
 written_marks h (m ∷ ms) (n ∷ ns) (x ∷ xs) w s = ap (λ (ys : List Bool). h m ∷ ys) (written_marks h ms ns xs (omega arith) (omega arith))
 
 -- what written signs show
-pub shown : {X : Type 0} (h : PositionedSign → X) (weight sign : ℕ) (letters : List Written) → map h (written_signs weight sign letters) ≡ h (positioned_sign Nothing weight EDGE) ∷ h (positioned_sign Nothing weight sign) ∷ (map (λ (l : Written). h (positioned_sign l.mark l.weight l.sign)) letters ++ h (positioned_sign Nothing weight EDGE) ∷ [])
+pub shown : {X : Type 0} (h : PositionedSign → X) (weight sign : ℕ) (letters : List Written) → map h (written_signs weight sign letters)
+    ≡ h (positioned_sign Nothing weight EDGE) ∷ h (positioned_sign Nothing weight sign) ∷ (map (λ (l : Written). h (positioned_sign l.mark l.weight l.sign)) letters
+    ++ h (positioned_sign Nothing weight EDGE) ∷ [])
 shown {X} h weight sign letters =
-    ap (λ (xs : List X). h (positioned_sign Nothing weight EDGE) ∷ h (positioned_sign Nothing weight sign) ∷ xs) (map-append h (map (λ (l : Written). positioned_sign l.mark l.weight l.sign) letters) (positioned_sign Nothing weight EDGE ∷ []) ∙ ap (λ (xs : List X). xs ++ h (positioned_sign Nothing weight EDGE) ∷ []) (map-map h (λ (l : Written). positioned_sign l.mark l.weight l.sign) letters))
+    ap (λ (xs : List X). h (positioned_sign Nothing weight EDGE) ∷ h (positioned_sign Nothing weight sign) ∷ xs)
+    (map-append h (map (λ (l : Written). positioned_sign l.mark l.weight l.sign) letters) (positioned_sign Nothing weight EDGE ∷ [])
+    ∙ ap (λ (xs : List X). xs ++ h (positioned_sign Nothing weight EDGE) ∷ []) (map-map h (λ (l : Written). positioned_sign l.mark l.weight l.sign) letters))
   where
     map-map : {X : Type 0} (h : PositionedSign → X) (f : Written → PositionedSign) (ls : List Written) → map h (map f ls) ≡ map (λ (l : Written). h (f l)) ls
     map-map h f [] = refl
@@ -128,7 +144,8 @@ pub word_written : (w : Word) (marks : List Mark) → IsWord w → AreMarksOf w 
 word_written w marks is mean =
     let sign : ℕ = slice_index w.signs 1 in
     let letters : List Written = letters_with marks w in
-    let count : length marks ≡ length w.signs - 3 = sym (length-map marks sets_hyphen) ∙ ap (λ (xs : List Bool). length xs) mean.hyphens ∙ length-between_letters w.hyphens ∙ ap (λ (n : ℕ). n - 3) is.hyphens_len in
+    let count : length marks ≡ length w.signs - 3 = sym (length-map marks sets_hyphen) ∙ ap (λ (xs : List Bool). length xs) mean.hyphens
+    ∙ length-between_letters w.hyphens ∙ ap (λ (n : ℕ). n - 3) is.hyphens_len in
     let weights : length (between_letters w.weights) ≡ length marks = length-between_letters w.weights ∙ ap (λ (n : ℕ). n - 3) is.weights_len ∙ sym count in
     let signs : length (between_letters w.signs) ≡ length marks = length-between_letters w.signs ∙ sym count in
     let long = is.long in
@@ -150,4 +167,5 @@ word_written w marks is mean =
 -- what is written of a word is read back as that word
 pub word_is_read : (before : ℕ) (w : Word) (marks : List Mark) → IsWord w → AreMarksOf w marks → line_word before (word_tokens before marks w) ≡ record { word = Some w; weight = w.weight }
 word_is_read before w marks is mean =
-    sym (running_is before (word_tokens before marks w)) ∙ tokens_read before w.weight (slice_index w.signs 1) (letters_with marks w) ∙ ap (λ (v : Word). record { word = Some v; weight = w.weight }) (word_written w marks is mean)
+    sym (running_is before (word_tokens before marks w)) ∙ tokens_read before w.weight (slice_index w.signs 1) (letters_with marks w)
+    ∙ ap (λ (v : Word). record { word = Some v; weight = w.weight }) (word_written w marks is mean)

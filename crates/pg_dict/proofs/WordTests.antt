@@ -15,10 +15,12 @@ decides (hyphen ∷ hyphens) [] = true
 decides (hyphen ∷ hyphens) (care ∷ cares) = (not hyphen || care) && decides hyphens cares
 
 abbrev pub has_lengths : Word → Bool
-has_lengths w = nat_le 3 (length w.signs) && (nat_le (length w.signs) (WORD_LETTERS_MAX + 2) && (length w.hyphens == length w.signs && (length w.weights == length w.signs && length w.cares == length w.signs)))
+has_lengths w = nat_le 3 (length w.signs) && (nat_le (length w.signs) (WORD_LETTERS_MAX + 2)
+    && (length w.hyphens == length w.signs && (length w.weights == length w.signs && length w.cares == length w.signs)))
 
 abbrev pub has_signs : Word → Bool
-has_signs w = list_all (nat_le 1) w.signs && (slice_index w.signs 0 == EDGE && (slice_index w.signs (length w.signs - 1) == EDGE && list_all (nat_lt EDGE) (slice_range w.signs 1 (length w.signs - 1))))
+has_signs w = list_all (nat_le 1) w.signs && (slice_index w.signs 0 == EDGE
+    && (slice_index w.signs (length w.signs - 1) == EDGE && list_all (nat_lt EDGE) (slice_range w.signs 1 (length w.signs - 1))))
 
 abbrev pub has_weights : Word → Bool
 has_weights w = list_all is_weight w.weights && is_weight w.weight

@@ -63,7 +63,8 @@ copied_bit row width j within =
     let high : length row ≤ (64 * length row + j) / 64 = omega arith in
     let number : (64 * length row + j) / 64 - length row ≡ j / 64 = omega arith in
     let bit : (64 * length row + j) % 64 ≡ j % 64 = omega arith in
-    ap (λ v. nat_eq (bit_at v ((64 * length row + j) % 64)) 1) (get_or-append_right row (take width row) (length row) ((64 * length row + j) / 64) 0 refl high ∙ ap (λ k. get_or (take width row) k 0) number ∙ get_or-take width row (j / 64) 0 low)
+    ap (λ v. nat_eq (bit_at v ((64 * length row + j) % 64)) 1) (get_or-append_right row (take width row) (length row) ((64 * length row + j) / 64) 0 refl high
+    ∙ ap (λ k. get_or (take width row) k 0) number ∙ get_or-take width row (j / 64) 0 low)
     ∙ ap (λ k. nat_eq (bit_at (get_or row (j / 64) 0) k) 1) bit
 
 -- the row of a dot that is reached, and of another
@@ -125,7 +126,8 @@ closed_more old new width reached dot i d j low within inside is =
 
 -- the next length, for a dot that has a row in the end, and for another
 pub longer_dot : (old new : List ℕ) (width reached d j : ℕ) → d < reached → j < 64 * width
-    → has_bit new ((d + 1) * (64 * width) + j) ≡ (has_bit old ((d + 1) * (64 * width) + j) || (nat_le (128 * width) ((d + 1) * (64 * width) + j) && has_bit old ((d + 1) * (64 * width) + j - 64 * width)))
+    → has_bit new ((d + 1) * (64 * width) + j) ≡ (has_bit old ((d + 1) * (64 * width) + j)
+    || (nat_le (128 * width) ((d + 1) * (64 * width) + j) && has_bit old ((d + 1) * (64 * width) + j - 64 * width)))
     → has_bit new (row_of reached d * (64 * width) + j) ≡ (has_bit old (row_of reached d * (64 * width) + j) || (nat_le 1 d && has_bit old (row_of reached (d - 1) * (64 * width) + j)))
 longer_dot old new width reached d j low within is =
     let row = row_reached reached d low in
@@ -149,7 +151,8 @@ longer_dot old new width reached d j low within is =
     ]
 
 -- a part of the rows is the row of a dot
-pub row_part : (bits : List ℕ) (width reached dot start size i : ℕ) → dot < reached → i < 64 * width → start ≡ (dot + 1) * width → size ≡ width → has_bit (take size (drop start bits)) i ≡ has_bit bits (row_of reached dot * (64 * width) + i)
+pub row_part : (bits : List ℕ) (width reached dot start size i : ℕ) → dot < reached → i < 64 * width → start ≡ (dot + 1) * width → size ≡ width
+    → has_bit (take size (drop start bits)) i ≡ has_bit bits (row_of reached dot * (64 * width) + i)
 row_part bits width reached dot start size i low within begins is =
     part_bit bits start size i (omega arith)
     ∙ ap (has_bit bits) (let z : 64 * start + i ≡ (dot + 1) * (64 * width) + i = omega arith in z)
@@ -162,7 +165,8 @@ pub longer_grown : (mid new : List ℕ) (width reached k d j : ℕ) (closed : �
     → has_bit new (row_of reached d * (64 * width) + j) ≡ (closed d || (nat_le 1 d && closed (d - 1)))
 longer_grown mid new width reached k d j closed grown size within are beyond taken = elim (cases_lt d reached) [
   | inl low ↦
-      longer_dot mid new width reached d j low within (taken ((d + 1) * (64 * width) + j) (let rows : width * (d + 1) ≤ width * reached = mul-le-mul_left width (let z : d + 1 ≤ reached = omega arith in z) in omega arith))
+      longer_dot mid new width reached d j low within (taken ((d + 1) * (64 * width) + j)
+      (let rows : width * (d + 1) ≤ width * reached = mul-le-mul_left width (let z : d + 1 ≤ reached = omega arith in z) in omega arith))
       ∙ (λ i. are d i || (nat_le 1 d && are (d - 1) i))
   | inr high ↦
       let first : row_of reached d * (64 * width) + j ≡ j = ap (λ r. r * (64 * width) + j) (row_beyond reached d high) ∙ (let z : 0 * (64 * width) + j ≡ j = omega arith in z) in

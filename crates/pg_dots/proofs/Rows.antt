@@ -79,7 +79,8 @@ set_bit row i j within = elim (cases_eq (j / 64) (i / 64)) [
         ∙ sym (or_false (nat_eq j i) (has_bit row j) (ne_eqb j i apart))
 
 -- a bit less
-pub clear_bit : (row : List ℕ) (i j : ℕ) → i < 64 * length row → has_bit (set row (i / 64) (bit_and (get_or row (i / 64) 0) (bit_not w64 (1 * 2 ^ (i % 64) % 2 ^ 64)))) j ≡ (not (nat_eq j i) && has_bit row j)
+pub clear_bit : (row : List ℕ) (i j : ℕ) → i < 64 * length row → has_bit (set row (i / 64) (bit_and (get_or row (i / 64) 0) (bit_not w64 (1 * 2 ^ (i % 64) % 2 ^ 64)))) j
+    ≡ (not (nat_eq j i) && has_bit row j)
 unfolding has_bit
 clear_bit row i j within = elim (cases_eq (j / 64) (i / 64)) [
   | inl same ↦ elim (cases_eq (j % 64) (i % 64)) [
@@ -155,7 +156,8 @@ taken_in old new width j is = elim (cases_lt (j / 64) (2 * width)) [
         let bit : j % 64 ≡ (j - 64 * width) % 64 = omega arith in
         ap (λ v. nat_eq (bit_at v (j % 64)) 1) (is ∙ ap (λ b. cond b (bit_or (get_or old (j / 64) 0) (get_or old (j / 64 - width) 0)) (get_or old (j / 64) 0)) test)
         ∙ ap (λ b. nat_eq b 1) (bit_at_or (get_or old (j / 64) 0) (get_or old (j / 64 - width) 0) (j % 64))
-        ∙ either (bit_at (get_or old (j / 64) 0) (j % 64)) (bit_at (get_or old (j / 64 - width) 0) (j % 64)) (bit_at-lt (get_or old (j / 64) 0) (j % 64)) (bit_at-lt (get_or old (j / 64 - width) 0) (j % 64))
+        ∙ either (bit_at (get_or old (j / 64) 0) (j % 64)) (bit_at (get_or old (j / 64 - width) 0) (j % 64)) (bit_at-lt (get_or old (j / 64) 0) (j % 64))
+        (bit_at-lt (get_or old (j / 64 - width) 0) (j % 64))
         ∙ ap (λ k. nat_eq (bit_at (get_or old (j / 64) 0) (j % 64)) 1 || nat_eq (bit_at (get_or old k 0) (j % 64)) 1) number
         ∙ ap (λ k. nat_eq (bit_at (get_or old (j / 64) 0) (j % 64)) 1 || nat_eq (bit_at (get_or old ((j - 64 * width) / 64) 0) k) 1) bit
         ∙ sym (ap (λ b. has_bit old j || (b && has_bit old (j - 64 * width))) some)

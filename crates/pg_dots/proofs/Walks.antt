@@ -48,7 +48,8 @@ next_none test w end from none is ahead = record {
 }
 
 -- the lowest bit that is ahead is the next place
-module _ (test : ℕ → Bool) (w : Walk) (from lowest : ℕ) (low : lowest < 64) (is_set : bit_at w.ahead lowest ≡ 1) (before_it : (b : ℕ) → b < lowest → bit_at w.ahead b ≡ 0) (ahead : IsAhead test w from) where
+module _ (test : ℕ → Bool) (w : Walk) (from lowest : ℕ) (low : lowest < 64) (is_set : bit_at w.ahead lowest ≡ 1) (before_it : (b : ℕ) → b < lowest → bit_at w.ahead b ≡ 0)
+    (ahead : IsAhead test w from) where
   pub next_some : (end s : ℕ) → 64 * w.at + 64 ≤ end → s ≡ 64 * w.at + lowest → IsNext test end from s
   next_some end s inside is =
       let here = ahead.clear lowest low is_set in

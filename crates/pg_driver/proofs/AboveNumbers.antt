@@ -36,7 +36,8 @@ use Rattle.pg_driver.proofs.NumberSteps.{fate_there, have_more, still_have}
 use Rattle.pg_driver.proofs.OpenLevels.{found_is}
 
 -- a position of a level that counts by its status has its number
-pub numbered_by : (pass : Pass) (P : Patterns) (H : Hopeless) (words : List Word) (ws : Windows) (w : Word) (word p n : ℕ) → slice_get words word ≡ Some w → is_some (counts_as pass.level (status_at P w p)) ≡ true
+pub numbered_by : (pass : Pass) (P : Patterns) (H : Hopeless) (words : List Word) (ws : Windows) (w : Word) (word p n : ℕ) → slice_get words word ≡ Some w
+    → is_some (counts_as pass.level (status_at P w p)) ≡ true
     → GetsNumber (counted_at pass P H w p) ws (window w.signs p pass.len pass.dot) n → IsNumbered pass (uncovered_at pass P H) words ws (record { word = word; at = p }) n
 numbered_by pass P H words ws w word p n at counts gets = record {
   counted = λ v to is. (
@@ -71,7 +72,8 @@ above_counts level value o is = by (nat_lt level value) is
     by false some = absurd (let wrong : false ≡ true = some in cc)
 
 -- the test by what was found of the word
-pub above_found : (m : Meaning) (w : Word) (found : Positions) (level p : ℕ) (mark : Mark) → IsRead m w found → p < length w.signs → mark ≡ status (slice_index_or w.hyphens p false) (slice_index_or w.cares p true) (get_or found.values p 0)
+pub above_found : (m : Meaning) (w : Word) (found : Positions) (level p : ℕ) (mark : Mark) → IsRead m w found → p < length w.signs → mark
+    ≡ status (slice_index_or w.hyphens p false) (slice_index_or w.cares p true) (get_or found.values p 0)
     → is_some (cond (nat_lt level (get_or found.values p 0)) (counts_as level mark) None) ≡ is_some (counts_above level m.patterns w p)
 above_found m w found level p mark read within is =
     let value : get_or found.values p 0 ≡ value_at m.patterns w.signs p = read.values p within in
@@ -79,7 +81,8 @@ above_found m w found level p mark read within is =
     λ i. is_some (cond (nat_lt level (value i)) (counts_as level (same i)) None)
 
 -- the numbers after a position
-pub number_noted : (pass : Pass) (P : Patterns) (H : Hopeless) (words : List Word) (m n : Meaning) (seen : List CountedPosition) (entries : List WordPosition) (ns more : List ℕ) (w : Word) (word p number : ℕ)
+pub number_noted : (pass : Pass) (P : Patterns) (H : Hopeless) (words : List Word) (m n : Meaning) (seen : List CountedPosition) (entries : List WordPosition)
+    (ns more : List ℕ) (w : Word) (word p number : ℕ)
     → n ≡ meaning_after_counting m seen → slice_get words word ≡ Some w → GetsNumber (counted_at pass P H w p) n.windows (window w.signs p pass.len pass.dot) number
     → more ≡ cond (is_some (counts_above pass.level P w p)) (ns ++ number ∷ []) ns
     → HaveNumbers pass (uncovered_at pass P H) words m.windows entries ns
@@ -88,15 +91,18 @@ number_noted pass P H words m n seen entries ns more w word p number is at gets 
     subst (HaveNumbers pass (uncovered_at pass P H) words n.windows (entries ++ open_as word p (counts_above pass.level P w p))) (sym noted)
     (by (counts_above pass.level P w p) (above_counts pass.level (value_at P w.signs p) (counts_as pass.level (status_at P w p))))
   where
-    by : (o : Option Bool) → (is_some o ≡ true → is_some (counts_as pass.level (status_at P w p)) ≡ true) → HaveNumbers pass (uncovered_at pass P H) words n.windows (entries ++ open_as word p o) (cond (is_some o) (ns ++ number ∷ []) ns)
-    by None counts = subst (λ (es : List WordPosition). HaveNumbers pass (uncovered_at pass P H) words n.windows es ns) (sym (append-nil entries)) (still_have pass (uncovered_at pass P H) words m n seen entries ns is have)
+    by : (o : Option Bool) → (is_some o ≡ true → is_some (counts_as pass.level (status_at P w p)) ≡ true)
+        → HaveNumbers pass (uncovered_at pass P H) words n.windows (entries ++ open_as word p o) (cond (is_some o) (ns ++ number ∷ []) ns)
+    by None counts = subst (λ (es : List WordPosition). HaveNumbers pass (uncovered_at pass P H) words n.windows es ns) (sym (append-nil entries))
+        (still_have pass (uncovered_at pass P H) words m n seen entries ns is have)
     by (Some good) counts =
         have_more pass (uncovered_at pass P H) words n.windows entries ns (record { word = word; at = p }) number
         (still_have pass (uncovered_at pass P H) words m n seen entries ns is have)
         (numbered_by pass P H words n.windows w word p number at (counts refl) gets)
 
 -- once a pass is counted, what is not covered is what is counted
-covered_not_counted : (m : Minima) (words : List Word) (pass : Pass) (P : Patterns) (H : Hopeless) (counts : Counts) (u : List ℕ) → counts ≡ fold with_position [] (counted_positions m words pass P H) → is_covered pass.level P H u pass.dot ≡ true → is_counted counts u ≡ false
+covered_not_counted : (m : Minima) (words : List Word) (pass : Pass) (P : Patterns) (H : Hopeless) (counts : Counts) (u : List ℕ) → counts
+    ≡ fold with_position [] (counted_positions m words pass P H) → is_covered pass.level P H u pass.dot ≡ true → is_counted counts u ≡ false
 covered_not_counted m words pass P H counts u are is =
     ap (λ (cs : Counts). is_counted cs u) are
     ∙ ap is_some (found_is (counted_positions m words pass P H) u)
@@ -106,8 +112,10 @@ covered_not_counted m words pass P H counts u are is =
     by true wrong = absurd (let clash : true ≡ false = wrong refl in cc)
     by false wrong = refl
 
-module _ (pass : Pass) (P : Patterns) (H : Hopeless) (words : List Word) (counts : Counts) (ws : Windows) (are : AreNumbered ws counts) (uncounted : (u : List ℕ) → is_covered pass.level P H u pass.dot ≡ true → is_counted counts u ≡ false) (e : WordPosition) (n : ℕ) (is : IsNumbered pass (uncovered_at pass P H) words ws e n) where
-  is_uncovered : (w : Word) (f c : Bool) → (f && is_counted counts (window w.signs e.at pass.len pass.dot)) ≡ true → (c ≡ true → is_counted counts (window w.signs e.at pass.len pass.dot) ≡ false) → (f && not c) ≡ true
+module _ (pass : Pass) (P : Patterns) (H : Hopeless) (words : List Word) (counts : Counts) (ws : Windows) (are : AreNumbered ws counts)
+    (uncounted : (u : List ℕ) → is_covered pass.level P H u pass.dot ≡ true → is_counted counts u ≡ false) (e : WordPosition) (n : ℕ) (is : IsNumbered pass (uncovered_at pass P H) words ws e n) where
+  is_uncovered : (w : Word) (f c : Bool) → (f && is_counted counts (window w.signs e.at pass.len pass.dot)) ≡ true
+      → (c ≡ true → is_counted counts (window w.signs e.at pass.len pass.dot) ≡ false) → (f && not c) ≡ true
   is_uncovered w false c have lack = absurd (let wrong : false ≡ true = have in cc)
   is_uncovered w true true have lack = absurd (let wrong : false ≡ true = sym (lack refl) ∙ have in cc)
   is_uncovered w true false have lack = refl
@@ -122,11 +130,13 @@ module _ (pass : Pass) (P : Patterns) (H : Hopeless) (words : List Word) (counts
 
   as_counted : IsNumbered pass (is_counted_at pass counts) words ws e n
   as_counted = record {
-    counted = λ w at have. is.counted w at (is_uncovered w (fits w.signs e.at pass.len pass.dot) (is_covered pass.level P H (window w.signs e.at pass.len pass.dot) pass.dot) have (uncounted (window w.signs e.at pass.len pass.dot)));
+    counted = λ w at have. is.counted w at (is_uncovered w (fits w.signs e.at pass.len pass.dot) (is_covered pass.level P H (window w.signs e.at pass.len pass.dot) pass.dot) have
+        (uncounted (window w.signs e.at pass.len pass.dot)));
     uncounted = λ w at lack. not_counted w at lack (uncovered_at pass P H w e) refl;
   }
 
-pub numbered_as_counted : (m : Minima) (words : List Word) (pass : Pass) (P : Patterns) (H : Hopeless) (counts : Counts) (ws : Windows) (entries : List WordPosition) (ns : List ℕ) → AreNumbered ws counts → counts ≡ fold with_position [] (counted_positions m words pass P H)
+pub numbered_as_counted : (m : Minima) (words : List Word) (pass : Pass) (P : Patterns) (H : Hopeless) (counts : Counts) (ws : Windows) (entries : List WordPosition) (ns : List ℕ)
+    → AreNumbered ws counts → counts ≡ fold with_position [] (counted_positions m words pass P H)
     → HaveNumbers pass (uncovered_at pass P H) words ws entries ns → HaveNumbers pass (is_counted_at pass counts) words ws entries ns
 numbered_as_counted m words pass P H counts ws entries ns are counted have = record {
   size = have.size;
@@ -142,7 +152,8 @@ chosen_by_number params counts ws fates are decided few pass words e n w at is =
     u : List ℕ
     u = window w.signs e.at pass.len pass.dot
 
-    by_choice : (o : Option (ℕ × ℕ)) → option_map_or chooses (option_map (λ (sums : ℕ × ℕ). choice params sums.0 sums.1) o) false ≡ option_map_or (λ (sums : ℕ × ℕ). chooses (choice params sums.0 sums.1)) o false
+    by_choice : (o : Option (ℕ × ℕ)) → option_map_or chooses (option_map (λ (sums : ℕ × ℕ). choice params sums.0 sums.1) o) false
+        ≡ option_map_or (λ (sums : ℕ × ℕ). chooses (choice params sums.0 sums.1)) o false
     by_choice None = refl
     by_choice (Some sums) = refl
 
@@ -151,7 +162,8 @@ chosen_by_number params counts ws fates are decided few pass words e n w at is =
     none None true is = refl
     none (Some sums) true is = absurd (let wrong : true ≡ false = is in cc)
 
-    by : (b : Bool) → is_counted_at pass counts w e ≡ b → option_map_or chooses (slice_get fates n) false ≡ (fits w.signs e.at pass.len pass.dot && was_chosen params counts (window w.signs e.at pass.len pass.dot))
+    by : (b : Bool) → is_counted_at pass counts w e ≡ b → option_map_or chooses (slice_get fates n) false
+        ≡ (fits w.signs e.at pass.len pass.dot && was_chosen params counts (window w.signs e.at pass.len pass.dot))
     by true have =
         let parts = and_parts (fits w.signs e.at pass.len pass.dot) (is_counted counts (window w.signs e.at pass.len pass.dot)) have in
         ap (λ (o : Option Choice). option_map_or chooses o false) (sym (fate_there params counts ws fates are decided (window w.signs e.at pass.len pass.dot) n (is.counted w at have)))
@@ -173,7 +185,8 @@ module _ (params : LevelParams) (pass : Pass) (counts : Counts) (words : List Wo
         ap (λ (o : Option Word). sum_by weigh (option_map_or (λ (u : Word). counted_in pass.level pass.len pass.dot u e.at) o [] ++ [])) at
         ∙ by (fits w.signs e.at pass.len pass.dot)
       where
-        by : (f : Bool) → sum_by weigh (option_map_or (λ (good : Bool). record { window = window w.signs e.at pass.len pass.dot; good = good; weight = position_weight w e.at } ∷ []) (cond (f && true) (Some (is_good pass.level w e.at)) None) [] ++ []) ≡ cond f (weigh here) 0
+        by : (f : Bool) → sum_by weigh (option_map_or (λ (good : Bool). record { window = window w.signs e.at pass.len pass.dot; good = good; weight = position_weight w e.at } ∷ [])
+            (cond (f && true) (Some (is_good pass.level w e.at)) None) [] ++ []) ≡ cond f (weigh here) 0
         by true = omega (arith, sum_by-cons weigh here [])
         by false = refl
 
@@ -184,16 +197,19 @@ module _ (params : LevelParams) (pass : Pass) (counts : Counts) (words : List Wo
     tests true false true n = refl
     tests true false false n = refl
 
-    pub kept_more : (kept result : Kept) (chosen good : Bool) (weight : ℕ) → chosen ≡ (fits w.signs e.at pass.len pass.dot && was_chosen params counts (window w.signs e.at pass.len pass.dot)) → good ≡ is_good pass.level w e.at → weight ≡ position_weight w e.at
+    pub kept_more : (kept result : Kept) (chosen good : Bool) (weight : ℕ) → chosen ≡ (fits w.signs e.at pass.len pass.dot && was_chosen params counts (window w.signs e.at pass.len pass.dot))
+        → good ≡ is_good pass.level w e.at → weight ≡ position_weight w e.at
         → result.good ≡ kept.good + cond (chosen && good) weight 0 → result.bad ≡ kept.bad + cond (chosen && not good) weight 0
         → result ≡ with_kept kept (kept_by params pass counts words (e ∷ []))
     kept_more kept result chosen good weight is good_is weight_is good_more bad_more =
         let f : Bool = fits w.signs e.at pass.len pass.dot in
         let c : Bool = was_chosen params counts (window w.signs e.at pass.len pass.dot) in
         let goods : result.good ≡ kept.good + sum_by (good_kept params counts) (flat_map (window_of pass words) (e ∷ [])) =
-        good_more ∙ ap (λ (n : ℕ). kept.good + n) ((λ i. cond (is i && good_is i) (weight_is i) 0) ∙ sym (tests f c (is_good pass.level w e.at) (position_weight w e.at)) ∙ sym (one (good_kept params counts))) in
+        good_more ∙ ap (λ (n : ℕ). kept.good + n) ((λ i. cond (is i && good_is i) (weight_is i) 0) ∙ sym (tests f c (is_good pass.level w e.at) (position_weight w e.at))
+        ∙ sym (one (good_kept params counts))) in
         let bads : result.bad ≡ kept.bad + sum_by (bad_kept params counts) (flat_map (window_of pass words) (e ∷ [])) =
-        bad_more ∙ ap (λ (n : ℕ). kept.bad + n) ((λ i. cond (is i && not (good_is i)) (weight_is i) 0) ∙ sym (tests f c (not (is_good pass.level w e.at)) (position_weight w e.at)) ∙ sym (one (bad_kept params counts))) in
+        bad_more ∙ ap (λ (n : ℕ). kept.bad + n) ((λ i. cond (is i && not (good_is i)) (weight_is i) 0) ∙ sym (tests f c (not (is_good pass.level w e.at)) (position_weight w e.at))
+        ∙ sym (one (bad_kept params counts))) in
         λ i. record { good = goods i; bad = bads i }
 
   -- with those of none

@@ -46,12 +46,14 @@ same_states P Q H I fs gs p q r = λ i. record { known = record { patterns = p i
 abbrev pub state_with : ℕ → LevelParams → Pass → State → List Candidate → State
 state_with signs params pass s cs = state_after signs s.families (record { pass = pass; params = params; before = s.known; candidates = cs })
 
-families_append : (signs : ℕ) (xs ys : List Candidate) (o : Option Families) → option_map (λ fs. fold (λ fs c. enter signs fs c.window) fs (xs ++ ys)) o ≡ option_map (λ fs. fold (λ fs c. enter signs fs c.window) fs ys) (option_map (λ fs. fold (λ fs c. enter signs fs c.window) fs xs) o)
+families_append : (signs : ℕ) (xs ys : List Candidate) (o : Option Families) → option_map (λ fs. fold (λ fs c. enter signs fs c.window) fs (xs ++ ys)) o
+    ≡ option_map (λ fs. fold (λ fs c. enter signs fs c.window) fs ys) (option_map (λ fs. fold (λ fs c. enter signs fs c.window) fs xs) o)
 families_append signs xs ys None = refl
 families_append signs xs ys (Some fs) = ap (λ (gs : Families). Some gs) (fold-append (λ (fs : Families) (c : Candidate). enter signs fs c.window) fs xs ys)
 
 -- some candidates, and then others
-pub state_append : (signs : ℕ) (params : LevelParams) (pass : Pass) (s : State) (xs ys : List Candidate) → state_with signs params pass s (xs ++ ys) ≡ state_with signs params pass (state_with signs params pass s xs) ys
+pub state_append : (signs : ℕ) (params : LevelParams) (pass : Pass) (s : State) (xs ys : List Candidate) → state_with signs params pass s (xs ++ ys)
+    ≡ state_with signs params pass (state_with signs params pass s xs) ys
 state_append signs params pass s xs ys =
     same_states _ _ _ _ _ _
     (ap (fold (λ P (c : Candidate). raise P (c.window, pass.dot) pass.level) s.known.patterns) (filter-append (λ c. is_chosen params c) xs ys)
@@ -101,7 +103,8 @@ pub keeps_on : (m0 m n : Meaning) → KeepsButState m0 m → KeepsButState m n �
 keeps_on m0 m n first then = then ∙ ap (λ (x : Meaning). record x { patterns = n.patterns; hopeless = n.hopeless; families = n.families; tidy = n.tidy }) first
 
 -- a candidate, and then the rest
-pub state_step : (m0 m n : Meaning) (params : LevelParams) (c : Candidate) (cs : List Candidate) (whole : State) → KeepsButState m0 m → HasChosen params (c ∷ []) m n → state_with m0.signs params m0.pass (state_of m) (c ∷ cs) ≡ whole → state_with m0.signs params m0.pass (state_of n) cs ≡ whole
+pub state_step : (m0 m n : Meaning) (params : LevelParams) (c : Candidate) (cs : List Candidate) (whole : State) → KeepsButState m0 m → HasChosen params (c ∷ []) m n
+    → state_with m0.signs params m0.pass (state_of m) (c ∷ cs) ≡ whole → state_with m0.signs params m0.pass (state_of n) cs ≡ whole
 state_step m0 m n params c cs whole kept has left =
     let here : state_of n ≡ state_with m0.signs params m0.pass (state_of m) (c ∷ []) = has.state ∙ ap (λ (x : Meaning). state_with x.signs params x.pass (state_of m) (c ∷ [])) kept in
     ap (λ (s : State). state_with m0.signs params m0.pass s cs) here ∙ sym (state_append m0.signs params m0.pass (state_of m) (c ∷ []) cs) ∙ left
@@ -111,11 +114,13 @@ pub left_alone : (params : LevelParams) (n : Choices) (c : Candidate) → choice
 left_alone params n c is =
     let chosen : is_chosen params c ≡ false = chosen_is params c ∙ ap chooses is in
     let hopeless : is_hopeless params c ≡ false = hopeless_is params c ∙ ap gives_up is in
-    same_numbers (n.candidates + 1) n.chosen n.hopeless n.good n.bad (n.candidates + 1) (n.chosen + 0) (n.hopeless + 0) (n.good + 0) (n.bad + 0) refl (omega arith) (omega arith) (omega arith) (omega arith)
+    same_numbers (n.candidates + 1) n.chosen n.hopeless n.good n.bad (n.candidates + 1) (n.chosen + 0) (n.hopeless + 0) (n.good + 0) (n.bad + 0) refl
+    (omega arith) (omega arith) (omega arith) (omega arith)
     ∙ (λ i. by (sym chosen i) (sym hopeless i))
   where
     by : Bool → Bool → Choices
-    by x h = numbers (n.candidates + 1) (n.chosen + length (cond x (c ∷ []) [])) (n.hopeless + length (cond h (c ∷ []) [])) (n.good + sum_by (λ (x : Candidate). x.good) (cond x (c ∷ []) [])) (n.bad + sum_by (λ (x : Candidate). x.bad) (cond x (c ∷ []) []))
+    by x h = numbers (n.candidates + 1) (n.chosen + length (cond x (c ∷ []) [])) (n.hopeless + length (cond h (c ∷ []) []))
+        (n.good + sum_by (λ (x : Candidate). x.good) (cond x (c ∷ []) [])) (n.bad + sum_by (λ (x : Candidate). x.bad) (cond x (c ∷ []) []))
 
 -- the state with a candidate that is left
 pub left_state : (signs : ℕ) (params : LevelParams) (pass : Pass) (s : State) (c : Candidate) → choice_of params c ≡ Left → s ≡ state_with signs params pass s (c ∷ [])

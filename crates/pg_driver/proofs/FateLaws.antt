@@ -21,7 +21,8 @@ hopeless_is params c = by (nat_lt (c.good * params.good_wt) params.thresh) (nat_
 
 pub chosen_is : (params : LevelParams) (c : Candidate) → is_chosen params c ≡ chooses (choice_of params c)
 chosen_is params c =
-    by (nat_lt (c.good * params.good_wt) params.thresh) (nat_le (params.thresh + c.bad * params.bad_wt) (c.good * params.good_wt)) (apart (c.good * params.good_wt) (c.bad * params.bad_wt) params.thresh)
+    by (nat_lt (c.good * params.good_wt) params.thresh) (nat_le (params.thresh + c.bad * params.bad_wt) (c.good * params.good_wt))
+    (apart (c.good * params.good_wt) (c.bad * params.bad_wt) params.thresh)
   where
     by : (h x : Bool) → (h ≡ true → x ≡ false) → x ≡ chooses (cond h Hopeless (cond x Chosen Left))
     by true x other = other refl
@@ -31,7 +32,8 @@ chosen_is params c =
 -- a candidate is chosen, or hopeless, or neither
 pub by_fate : (params : LevelParams) (c : Candidate) (P : Bool → Bool → Type 0) → P true false → P false true → P false false → P (is_chosen params c) (is_hopeless params c)
 by_fate params c P chosen hopeless left =
-    by (nat_lt (c.good * params.good_wt) params.thresh) (nat_le (params.thresh + c.bad * params.bad_wt) (c.good * params.good_wt)) (apart (c.good * params.good_wt) (c.bad * params.bad_wt) params.thresh)
+    by (nat_lt (c.good * params.good_wt) params.thresh) (nat_le (params.thresh + c.bad * params.bad_wt) (c.good * params.good_wt))
+    (apart (c.good * params.good_wt) (c.bad * params.bad_wt) params.thresh)
   where
     by : (h x : Bool) → (h ≡ true → x ≡ false) → P x h
     by true true other = let wrong : true ≡ false = other refl in cc

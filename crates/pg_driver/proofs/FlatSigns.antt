@@ -52,13 +52,15 @@ fit_within size p len dot fit =
     (leb-true dot p parts.0, leb-true (p - dot + len) size parts.1)
 
 -- the window at a position of a word begins at this sign of all words
-pub flat_window : (words : List Word) (n p len dot first : ℕ) (w : Word) → slice_get words n ≡ Some w → fits w.signs p len dot ≡ true → first ≡ start_of words n + (p - dot) → take len (drop first (all_signs words)) ≡ window w.signs p len dot
+pub flat_window : (words : List Word) (n p len dot first : ℕ) (w : Word) → slice_get words n ≡ Some w → fits w.signs p len dot ≡ true → first
+    ≡ start_of words n + (p - dot) → take len (drop first (all_signs words)) ≡ window w.signs p len dot
 flat_window words n p len dot first w at fit is =
     ap (λ b. take len (drop b (all_signs words))) is
     ∙ flat_part words n (p - dot) len w at (fit_within (length w.signs) p len dot fit).1
 
 -- and ends before they do
-pub flat_inside : (words : List Word) (n p len dot first : ℕ) (w : Word) → slice_get words n ≡ Some w → fits w.signs p len dot ≡ true → first ≡ start_of words n + (p - dot) → first + len ≤ length (all_signs words)
+pub flat_inside : (words : List Word) (n p len dot first : ℕ) (w : Word) → slice_get words n ≡ Some w → fits w.signs p len dot ≡ true → first
+    ≡ start_of words n + (p - dot) → first + len ≤ length (all_signs words)
 flat_inside words n p len dot first w at fit is =
     let before = start_before words n (length words) w at (slice_get_within words n w at) in
     let whole = start_past words (length words) (omega arith) in
@@ -90,7 +92,8 @@ module _ {X : Type 0} (row : Word → List X) where
       omega (arith, length-append (row w) (flat_map row words), length-append w.signs (all_signs words))
 
   -- and that of a sign of a word stands at that sign
-  pub row_there : (words : List Word) → All (λ w. length (row w) ≡ length w.signs) words → (n p : ℕ) (w : Word) (x : X) → slice_get words n ≡ Some w → slice_get (row w) p ≡ Some x → slice_get (flat_map row words) (start_of words n + p) ≡ Some x
+  pub row_there : (words : List Word) → All (λ w. length (row w) ≡ length w.signs) words → (n p : ℕ) (w : Word) (x : X) → slice_get words n ≡ Some w
+      → slice_get (row w) p ≡ Some x → slice_get (flat_map row words) (start_of words n + p) ≡ Some x
   row_there [] each n p w x at is = absurd (let no : None ≡ Some w = at in cc)
   row_there (v ∷ words) each zero p w x at is =
       let same : w ≡ v = (let both : Some v ≡ Some w = at in cc) in
@@ -123,7 +126,8 @@ site_at words sites sign d are low =
       of = of;
       is =
           get_or_from_slice_get sites sign (site_of of.word of.at) d
-          (ap (λ (xs : List Site). slice_get xs sign) are ∙ ap (slice_get (all_sites words)) (sym of.is) ∙ row_there sites_in words (λ k d within. sites_len (get_or words k d)) of.number of.at of.word _ of.there (site_in of.word of.at of.within));
+          (ap (λ (xs : List Site). slice_get xs sign) are ∙ ap (slice_get (all_sites words)) (sym of.is)
+          ∙ row_there sites_in words (λ k d within. sites_len (get_or words k d)) of.number of.at of.word _ of.there (site_in of.word of.at of.within));
     }
 
 -- the weight at a sign is that of its position
@@ -131,7 +135,9 @@ pub weight_at : (words : List Word) (weights : List ℕ) (sign d : ℕ) (of : Is
 weight_at words weights sign d of are each =
     let word = word_in words of.number of.word each of.there in
     get_or_from_slice_get weights sign (position_weight of.word of.at) d
-    (ap (λ (xs : List ℕ). slice_get xs sign) are ∙ ap (slice_get (all_weights words)) (sym of.is) ∙ row_there (λ w. w.weights) words (λ k d within. (each k d within).weights_len) of.number of.at of.word _ of.there (slice_get-get_or of.word.weights of.at 0 (omega (arith, of.within, word.weights_len))))
+    (ap (λ (xs : List ℕ). slice_get xs sign) are ∙ ap (slice_get (all_weights words)) (sym of.is)
+    ∙ row_there (λ w. w.weights) words (λ k d within. (each k d within).weights_len) of.number of.at of.word _ of.there
+    (slice_get-get_or of.word.weights of.at 0 (omega (arith, of.within, word.weights_len))))
 
 -- what a pass counts at a position of a word where its window fits
 module _ (m : Meaning) (level len dot : ℕ) (words : List Word) (n p : ℕ) (w : Word) (at : slice_get words n ≡ Some w) where
@@ -143,7 +149,8 @@ module _ (m : Meaning) (level len dot : ℕ) (words : List Word) (n p : ℕ) (w 
   counted_fit u good weight fit u_is good_is weight_is =
       (λ i. after_count m (u_is i) (good_is i) (weight_is i)) ∙ sym (by (fits w.signs p len dot) fit) ∙ sym counted_there
     where
-      by : (b : Bool) → b ≡ true → meaning_after_counting m (option_map_or (λ good. record { window = window w.signs p len dot; good = good; weight = position_weight w p } ∷ []) (cond (b && true) (Some (is_good level w p)) None) []) ≡ after_count m (window w.signs p len dot) (is_good level w p) (position_weight w p)
+      by : (b : Bool) → b ≡ true → meaning_after_counting m (option_map_or (λ good. record { window = window w.signs p len dot; good = good; weight = position_weight w p } ∷ [])
+          (cond (b && true) (Some (is_good level w p)) None) []) ≡ after_count m (window w.signs p len dot) (is_good level w p) (position_weight w p)
       by true e = refl
       by false e = absurd (let wrong : false ≡ true = e in cc)
 
@@ -151,7 +158,8 @@ module _ (m : Meaning) (level len dot : ℕ) (words : List Word) (n p : ℕ) (w 
   pub counted_none : fits w.signs p len dot ≡ false → meaning_after_counting m (counted_of level len dot words (record { word = n; at = p })) ≡ m
   counted_none other = counted_there ∙ by (fits w.signs p len dot) other
     where
-      by : (b : Bool) → b ≡ false → meaning_after_counting m (option_map_or (λ good. record { window = window w.signs p len dot; good = good; weight = position_weight w p } ∷ []) (cond (b && true) (Some (is_good level w p)) None) []) ≡ m
+      by : (b : Bool) → b ≡ false → meaning_after_counting m (option_map_or (λ good. record { window = window w.signs p len dot; good = good; weight = position_weight w p } ∷ [])
+          (cond (b && true) (Some (is_good level w p)) None) []) ≡ m
       by true e = absurd (let wrong : true ≡ false = e in cc)
       by false e = refl
 

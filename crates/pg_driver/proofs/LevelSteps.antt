@@ -39,7 +39,8 @@ at_itself n = grind (arith, nat_tests)
 short_push : (len : ℕ) (ps : List PassTrace) (q : PassTrace) → q.pass.len ≡ len → list_all (λ p. nat_le p.pass.len len) ps ≡ true → list_all (λ p. nat_le p.pass.len len) (ps ++ q ∷ []) ≡ true
 short_push len ps q is short =
     list_all-append (λ (p : PassTrace). nat_le p.pass.len len) ps (q ∷ [])
-    ∙ and_from (list_all (λ p. nat_le p.pass.len len) ps) (list_all (λ p. nat_le p.pass.len len) (q ∷ [])) short (and_from (nat_le q.pass.len len) true (ap (λ n. nat_le n len) is ∙ at_itself len) refl)
+    ∙ and_from (list_all (λ p. nat_le p.pass.len len) ps) (list_all (λ p. nat_le p.pass.len len) (q ∷ [])) short
+    (and_from (nat_le q.pass.len len) true (ap (λ n. nat_le n len) is ∙ at_itself len) refl)
 
 longer_too : (n len : ℕ) → nat_le n len ≡ true → nat_le n (len + 1) ≡ true
 longer_too n len is = grind (arith, nat_tests)
@@ -62,7 +63,8 @@ no_layouts signs None xs = sym (append-nil xs)
 no_layouts signs (Some fs) xs = sym (append-nil xs)
 
 -- where a level begins
-pub at_level_start : (source : Source) (number len : ℕ) (m : Meaning) (r : Recorded) (flags : SkipFlags) → r.chosen ≡ 0 → flags.here ≡ no_flags → flags.longer ≡ no_flags → IsAt source number len (record { engine = m; records = r }) [] (point m r flags)
+pub at_level_start : (source : Source) (number len : ℕ) (m : Meaning) (r : Recorded) (flags : SkipFlags) → r.chosen ≡ 0 → flags.here ≡ no_flags
+    → flags.longer ≡ no_flags → IsAt source number len (record { engine = m; records = r }) [] (point m r flags)
 at_level_start source number len m r flags chosen here longer = record {
   signs = refl;
   state = state_begins m.signs (state_of m);
@@ -78,7 +80,8 @@ at_level_start source number len m r flags chosen here longer = record {
   closed = λ n dot is. cc;
 }
 
-module _ (source : Source) (params : LevelParams) (number len dot : ℕ) (m : Meaning) (start : LevelStart) (ps : List PassTrace) (r : Recorded) (old : SkipFlags) (at : IsAt source number len start ps (point m r old)) where
+module _ (source : Source) (params : LevelParams) (number len dot : ℕ) (m : Meaning) (start : LevelStart) (ps : List PassTrace) (r : Recorded)
+    (old : SkipFlags) (at : IsAt source number len start ps (point m r old)) where
   abbrev q : PassTrace
   q = made_by source params m (pass_with number len dot)
 
@@ -95,10 +98,12 @@ module _ (source : Source) (params : LevelParams) (number len dot : ℕ) (m : Me
   tells_on b new left here longer = tells_more number len dot source params (known_of m) old new ps at.tells here (subst (λ (b : Bool). Follows dot b old new) left longer)
 
   closed_after : (n : Meaning) → state_of n ≡ state_after m.signs m.families q → CountNothing source number (ps ++ q ∷ []) (known_of n)
-  closed_after n state = subst (λ (known : Known). CountNothing source number (ps ++ q ∷ []) known) (sym (ap (λ (s : State). s.known) state)) (closed_on source params number len dot (known_of m) ps at.closed)
+  closed_after n state = subst (λ (known : Known). CountNothing source number (ps ++ q ∷ []) known) (sym (ap (λ (s : State). s.known) state))
+      (closed_on source params number len dot (known_of m) ps at.closed)
 
 -- a pass that is skipped changes nothing
-state_stays : (source : Source) (params : LevelParams) (pass : Pass) (m : Meaning) → (made_by source params m pass).candidates ≡ [] → state_of m ≡ state_after m.signs m.families (made_by source params m pass)
+state_stays : (source : Source) (params : LevelParams) (pass : Pass) (m : Meaning) → (made_by source params m pass).candidates ≡ [] → state_of m
+    ≡ state_after m.signs m.families (made_by source params m pass)
 state_stays source params pass m none = sym (state_none m.signs params pass (state_of m)) ∙ ap (λ (cs : List Candidate). state_with m.signs params pass (state_of m) cs) (sym none)
 
 none_left : (params : LevelParams) (q : PassTrace) → q.candidates ≡ [] → true ≡ left_none q
@@ -106,10 +111,12 @@ none_left params q none = ap (λ (cs : List Candidate). list_all (is_entered q.p
 
 module _ (source : Source) (params : LevelParams) (number len dot : ℕ) (m : Meaning) (r : Recorded) (old new : SkipFlags) where
   -- a pass that was skipped
-  pub skipped_known : (start : LevelStart) (ps : List PassTrace) → is_set old.here dot ≡ true → IsAt source number len start ps (point m r old) → (made_by source params m (pass_with number len dot)).candidates ≡ []
+  pub skipped_known : (start : LevelStart) (ps : List PassTrace) → is_set old.here dot ≡ true → IsAt source number len start ps (point m r old)
+      → (made_by source params m (pass_with number len dot)).candidates ≡ []
   skipped_known start ps flag at = skipped_none source params number len dot (known_of m) ps at.closed (at.tells.here dot ∙ flag)
 
-  pub skipped_on : is_set old.here dot ≡ true → new.here ≡ old.here → Follows dot true old new → GoesOn source number len (made_by source params m (pass_with number len dot) ∷ []) (point m r old) (point m r new)
+  pub skipped_on : is_set old.here dot ≡ true → new.here ≡ old.here → Follows dot true old new
+      → GoesOn source number len (made_by source params m (pass_with number len dot) ∷ []) (point m r old) (point m r new)
   skipped_on flag here longer = λ start ps at.
       let q : PassTrace = made_by source params m (pass_with number len dot) in
       let none : q.candidates ≡ [] = skipped_known start ps flag at in
@@ -125,8 +132,10 @@ module _ (source : Source) (params : LevelParams) (number len dot : ℕ) (m : Me
       (on, ap (λ (s : State). s.known) state)
 
   -- a pass that was done
-  pub done_on : (n : Meaning) (s : Recorded) (rec : PassRecord) (b : Bool) → is_set old.here dot ≡ false → new.here ≡ old.here → Follows dot b old new → b ≡ (rec.chosen + rec.hopeless == rec.candidates) → n.signs ≡ m.signs
-      → DidPass source params (pass_with number len dot) m n rec → s ≡ with_pass r rec → GoesOn source number len (made_by source params m (pass_with number len dot) ∷ []) (point m r old) (point n s new)
+  pub done_on : (n : Meaning) (s : Recorded) (rec : PassRecord) (b : Bool) → is_set old.here dot ≡ false → new.here ≡ old.here → Follows dot b old new
+      → b ≡ (rec.chosen + rec.hopeless == rec.candidates) → n.signs ≡ m.signs
+      → DidPass source params (pass_with number len dot) m n rec → s ≡ with_pass r rec
+      → GoesOn source number len (made_by source params m (pass_with number len dot) ∷ []) (point m r old) (point n s new)
   done_on n s rec b flag here longer left signs did records = λ start ps at.
       let q : PassTrace = made_by source params m (pass_with number len dot) in
       let none : b ≡ left_none q = left ∙ ap (λ (x : PassLine). x.chosen + x.hopeless == x.candidates) did.line ∙ left_none_is params q.candidates in
@@ -143,7 +152,8 @@ module _ (source : Source) (params : LevelParams) (number len dot : ℕ) (m : Me
       (on, ap (λ (s : State). s.known) did.state)
 
 -- at the next length
-pub at_next : (source : Source) (number len : ℕ) (start : LevelStart) (ps : List PassTrace) (m : Meaning) (r : Recorded) (old new : SkipFlags) → new.here ≡ old.longer → new.longer ≡ no_flags → IsAt source number len start ps (point m r old) → IsAt source number (len + 1) start ps (point m r new)
+pub at_next : (source : Source) (number len : ℕ) (start : LevelStart) (ps : List PassTrace) (m : Meaning) (r : Recorded) (old new : SkipFlags) → new.here
+    ≡ old.longer → new.longer ≡ no_flags → IsAt source number len start ps (point m r old) → IsAt source number (len + 1) start ps (point m r new)
 at_next source number len start ps m r old new here longer at = record {
   signs = at.signs;
   state = at.state;
@@ -154,19 +164,22 @@ at_next source number len start ps m r old new here longer at = record {
 }
 
 -- passes that were made, and those that are left and lead to a whole
-pub record Reaches (source : Source) (params : LevelParams) (number len : ℕ) (start : LevelStart) (m : Meaning) (r : Recorded) (flags : SkipFlags) (rest : List Pass) (whole : List PassTrace) (end : Known) : Type 0 where
+pub record Reaches (source : Source) (params : LevelParams) (number len : ℕ) (start : LevelStart) (m : Meaning) (r : Recorded) (flags : SkipFlags)
+    (rest : List Pass) (whole : List PassTrace) (end : Known) : Type 0 where
   pub done : List PassTrace
   pub at : IsAt source number len start done (point m r flags)
   pub left : done ++ all_made_by source params m rest ≡ whole
   pub known : known_at_end (known_of m) (all_made_by source params m rest) ≡ end
 
 -- passes, and then others
-pub made_append : (source : Source) (params : LevelParams) (known : Known) (xs ys : List Pass) → passes_made source params known (xs ++ ys) ≡ passes_made source params known xs ++ passes_made source params (known_at_end known (passes_made source params known xs)) ys
+pub made_append : (source : Source) (params : LevelParams) (known : Known) (xs ys : List Pass) → passes_made source params known (xs ++ ys)
+    ≡ passes_made source params known xs ++ passes_made source params (known_at_end known (passes_made source params known xs)) ys
 made_append source params known [] ys = refl
 made_append source params known (x ∷ xs) ys = ap (λ ps. pass_made source params known x ∷ ps) (made_append source params (known_after (pass_made source params known x)) xs ys)
 
 -- some passes of those that are left
-pub made_on : (source : Source) (params : LevelParams) (m n : Meaning) (xs rest : List Pass) (done whole : List PassTrace) → known_of n ≡ known_at_end (known_of m) (all_made_by source params m xs) → done ++ all_made_by source params m (xs ++ rest) ≡ whole
+pub made_on : (source : Source) (params : LevelParams) (m n : Meaning) (xs rest : List Pass) (done whole : List PassTrace) → known_of n
+    ≡ known_at_end (known_of m) (all_made_by source params m xs) → done ++ all_made_by source params m (xs ++ rest) ≡ whole
     → (done ++ all_made_by source params m xs) ++ all_made_by source params n rest ≡ whole
 made_on source params m n xs rest done whole known left =
     append_assoc done (all_made_by source params m xs) (all_made_by source params n rest)
@@ -178,7 +191,8 @@ pub known_on : (source : Source) (params : LevelParams) (m n : Meaning) (xs rest
     → known_at_end (known_of m) (all_made_by source params m (xs ++ rest)) ≡ whole → known_at_end (known_of n) (all_made_by source params n rest) ≡ whole
 known_on source params m n xs rest whole known left =
     ap (λ (k : Known). known_at_end k (passes_made source params k rest)) known
-    ∙ sym (fold-append (λ (_ : Known) (p : PassTrace). known_after p) (known_of m) (all_made_by source params m xs) (passes_made source params (known_at_end (known_of m) (all_made_by source params m xs)) rest))
+    ∙ sym (fold-append (λ (_ : Known) (p : PassTrace). known_after p) (known_of m) (all_made_by source params m xs)
+    (passes_made source params (known_at_end (known_of m) (all_made_by source params m xs)) rest))
     ∙ ap (λ ps. known_at_end (known_of m) ps) (sym (made_append source params (known_of m) xs rest))
     ∙ left
 
@@ -206,8 +220,10 @@ pub no_lengths : (number end : ℕ) → lengths_from number end end ≡ []
 no_lengths number end = let none : end - end ≡ zero = omega arith in ap (λ n. flat_map (passes_of_length number) (range_with_len end n)) none
 
 -- some passes of those that are left
-pub reaches_on : (source : Source) (params : LevelParams) (number len : ℕ) (start : LevelStart) (m n : Meaning) (r s : Recorded) (old new : SkipFlags) (passes xs rest : List Pass) (whole : List PassTrace) (end : Known) → passes ≡ xs ++ rest
-    → GoesOn source number len (all_made_by source params m xs) (point m r old) (point n s new) → Reaches source params number len start m r old passes whole end → Reaches source params number len start n s new rest whole end
+pub reaches_on : (source : Source) (params : LevelParams) (number len : ℕ) (start : LevelStart) (m n : Meaning) (r s : Recorded) (old new : SkipFlags)
+    (passes xs rest : List Pass) (whole : List PassTrace) (end : Known) → passes ≡ xs ++ rest
+    → GoesOn source number len (all_made_by source params m xs) (point m r old) (point n s new) → Reaches source params number len start m r old passes whole end
+    → Reaches source params number len start n s new rest whole end
 reaches_on source params number len start m n r s old new passes xs rest whole end are on before =
     let after = on start before.done before.at in
     record {
@@ -218,7 +234,8 @@ reaches_on source params number len start m n r s old new passes xs rest whole e
     }
 
 -- where no pass is left, all are done
-pub at_whole : (source : Source) (params : LevelParams) (number len : ℕ) (start : LevelStart) (m : Meaning) (r : Recorded) (flags : SkipFlags) (rest : List Pass) (whole : List PassTrace) (end : Known) → rest ≡ [] → Reaches source params number len start m r flags rest whole end
+pub at_whole : (source : Source) (params : LevelParams) (number len : ℕ) (start : LevelStart) (m : Meaning) (r : Recorded) (flags : SkipFlags)
+    (rest : List Pass) (whole : List PassTrace) (end : Known) → rest ≡ [] → Reaches source params number len start m r flags rest whole end
     → IsAt source number len start whole (point m r flags) × (known_of m ≡ end)
 at_whole source params number len start m r flags rest whole end none reaches =
     let at : IsAt source number len start whole (point m r flags) =

@@ -92,7 +92,8 @@ order_whole ws counts ns numbered order =
     omega (arith, sizes, length-map ns (slice_get ws), length-map counts (λ (e : List ℕ × (ℕ × ℕ)). Some e.0), numbered.size)
 
 -- the window of a number and its sums are the only ones
-pub only_one : (ws : Windows) (counts : Counts) (n : ℕ) (u : List ℕ) (s : ℕ × ℕ) (v : List ℕ) (t : ℕ × ℕ) → HasNumber ws u n → counted_sums counts u ≡ Some s → HasNumber ws v n → counted_sums counts v ≡ Some t → t ≡ s
+pub only_one : (ws : Windows) (counts : Counts) (n : ℕ) (u : List ℕ) (s : ℕ × ℕ) (v : List ℕ) (t : ℕ × ℕ) → HasNumber ws u n → counted_sums counts u
+    ≡ Some s → HasNumber ws v n → counted_sums counts v ≡ Some t → t ≡ s
 only_one ws counts n u s v t first sums second others =
     let both : Some v ≡ Some u = sym second ∙ first in
     let same : v ≡ u = cc in
@@ -136,7 +137,8 @@ pub number_stays : (ws : Windows) (counts : Counts) (seen : List CountedPosition
 number_stays ws counts [] v n at = at
 number_stays ws counts (s ∷ seen) v n at = number_stays (with_window ws counts s.window) (with_position counts s) seen v n (window_stays ws counts s.window v n at)
 
-pub still_numbered : (pass : Pass) (test : Word → WordPosition → Bool) (words : List Word) (m n : Meaning) (seen : List CountedPosition) (e : WordPosition) (k : ℕ) → n ≡ meaning_after_counting m seen → IsNumbered pass test words m.windows e k → IsNumbered pass test words n.windows e k
+pub still_numbered : (pass : Pass) (test : Word → WordPosition → Bool) (words : List Word) (m n : Meaning) (seen : List CountedPosition) (e : WordPosition) (k : ℕ)
+    → n ≡ meaning_after_counting m seen → IsNumbered pass test words m.windows e k → IsNumbered pass test words n.windows e k
 still_numbered pass test words m n seen e k is numbered =
     let grown : n.windows ≡ windows_after m.windows m.counts seen = ap (λ (x : Meaning). x.windows) is in
     record {
@@ -147,32 +149,38 @@ still_numbered pass test words m n seen e k is numbered =
     }
 
 -- what one position adds to the windows
-pub window_in : (ws : Windows) (counts : Counts) (level len dot : ℕ) (w : Word) (p : ℕ) → fits w.signs p len dot ≡ true → windows_after ws counts (counted_in level len dot w p) ≡ with_window ws counts (window w.signs p len dot)
+pub window_in : (ws : Windows) (counts : Counts) (level len dot : ℕ) (w : Word) (p : ℕ) → fits w.signs p len dot ≡ true → windows_after ws counts (counted_in level len dot w p)
+    ≡ with_window ws counts (window w.signs p len dot)
 window_in ws counts level len dot w p fit = by (fits w.signs p len dot) fit
   where
-    by : (b : Bool) → b ≡ true → windows_after ws counts (option_map_or (λ good. record { window = window w.signs p len dot; good = good; weight = position_weight w p } ∷ []) (cond (b && true) (Some (is_good level w p)) None) []) ≡ with_window ws counts (window w.signs p len dot)
+    by : (b : Bool) → b ≡ true → windows_after ws counts (option_map_or (λ good. record { window = window w.signs p len dot; good = good; weight = position_weight w p } ∷ [])
+        (cond (b && true) (Some (is_good level w p)) None) []) ≡ with_window ws counts (window w.signs p len dot)
     by true e = refl
     by false e = absurd (let wrong : false ≡ true = e in cc)
 
 -- the elements of all that pass are among all
-pub filter_from : {X : Type 0} (test : X → Bool) (P : X → Type 0) (xs : List X) → ((k : ℕ) (x : X) → slice_get xs k ≡ Some x → P x) → (k : ℕ) (x : X) → slice_get (filter test xs) k ≡ Some x → (P x) × (test x ≡ true)
+pub filter_from : {X : Type 0} (test : X → Bool) (P : X → Type 0) (xs : List X) → ((k : ℕ) (x : X) → slice_get xs k ≡ Some x → P x) → (k : ℕ) (x : X)
+    → slice_get (filter test xs) k ≡ Some x → (P x) × (test x ≡ true)
 filter_from test P [] all k x at = absurd (let none : None ≡ Some x = at in cc)
 filter_from {X} test P (y ∷ xs) all k x at = by (test y) refl (λ j there. filter_from test P xs (λ i z here. all (suc i) z here) j x there) k at
   where
-    by : (b : Bool) → test y ≡ b → ((j : ℕ) → slice_get (filter test xs) j ≡ Some x → (P x) × (test x ≡ true)) → (k : ℕ) → slice_get (cond b (y ∷ filter test xs) (filter test xs)) k ≡ Some x → (P x) × (test x ≡ true)
+    by : (b : Bool) → test y ≡ b → ((j : ℕ) → slice_get (filter test xs) j ≡ Some x → (P x) × (test x ≡ true)) → (k : ℕ)
+        → slice_get (cond b (y ∷ filter test xs) (filter test xs)) k ≡ Some x → (P x) × (test x ≡ true)
     by true is later zero at = (let same : y ≡ x = (let both : Some y ≡ Some x = at in cc) in (subst P same (all 0 y refl), ap test (sym same) ∙ is))
     by true is later (suc k) at = later k at
     by false is later k at = later k at
 
 -- positions keep their numbers while more is counted
-pub still_have : (pass : Pass) (test : Word → WordPosition → Bool) (words : List Word) (m n : Meaning) (seen : List CountedPosition) (entries : List WordPosition) (ns : List ℕ) → n ≡ meaning_after_counting m seen → HaveNumbers pass test words m.windows entries ns → HaveNumbers pass test words n.windows entries ns
+pub still_have : (pass : Pass) (test : Word → WordPosition → Bool) (words : List Word) (m n : Meaning) (seen : List CountedPosition) (entries : List WordPosition) (ns : List ℕ)
+    → n ≡ meaning_after_counting m seen → HaveNumbers pass test words m.windows entries ns → HaveNumbers pass test words n.windows entries ns
 still_have pass test words m n seen entries ns is have = record {
   size = have.size;
   each = λ k e x at to. still_numbered pass test words m n seen e x is (have.each k e x at to);
 }
 
 -- a position more
-pub have_more : (pass : Pass) (test : Word → WordPosition → Bool) (words : List Word) (ws : Windows) (entries : List WordPosition) (ns : List ℕ) (e : WordPosition) (n : ℕ) → HaveNumbers pass test words ws entries ns → IsNumbered pass test words ws e n → HaveNumbers pass test words ws (entries ++ e ∷ []) (ns ++ n ∷ [])
+pub have_more : (pass : Pass) (test : Word → WordPosition → Bool) (words : List Word) (ws : Windows) (entries : List WordPosition) (ns : List ℕ) (e : WordPosition) (n : ℕ)
+    → HaveNumbers pass test words ws entries ns → IsNumbered pass test words ws e n → HaveNumbers pass test words ws (entries ++ e ∷ []) (ns ++ n ∷ [])
 have_more pass test words ws entries ns e n have numbered = record {
   size = (let size = have.size in omega (arith, length-append entries (e ∷ []), length-append ns (n ∷ [])));
   each = λ k x y at to. elim (cases_lt k (length ns)) [

@@ -90,7 +90,8 @@ module _ (ws : Windows) (counts : Counts) (u : List ℕ) (v : ℕ × ℕ) (sorte
       by true there = numbered_again there
       by false new = numbered_first new
 
-numbered_after : (ws : Windows) (counts : Counts) (seen : List CountedPosition) → T (is_sorted cmp counts) → AreNumbered ws counts → AreNumbered (windows_after ws counts seen) (fold with_position counts seen)
+numbered_after : (ws : Windows) (counts : Counts) (seen : List CountedPosition) → T (is_sorted cmp counts) → AreNumbered ws counts
+    → AreNumbered (windows_after ws counts seen) (fold with_position counts seen)
 numbered_after ws counts [] sorted are = are
 numbered_after ws counts (s ∷ seen) sorted are =
     let sums : ℕ × ℕ = with_weight (sums_of counts s.window) s.good s.weight in

@@ -38,7 +38,8 @@ is_open_sign closed end k s at =
         let same : 0 + j ≡ x = cc in
         omega arith
 
-module _ (params : LevelParams) (counts : Counts) (ws : Windows) (fates : List Choice) (are : AreNumbered ws counts) (decided : AreFates params counts ws fates) (few : length fates ≤ NOT_COUNTED) (pass : Pass) (words : List Word) (old : ℕ → ℕ → Bool) where
+module _ (params : LevelParams) (counts : Counts) (ws : Windows) (fates : List Choice) (are : AreNumbered ws counts) (decided : AreFates params counts ws fates)
+    (few : length fates ≤ NOT_COUNTED) (pass : Pass) (words : List Word) (old : ℕ → ℕ → Bool) where
   -- at a position of a word
   closes_at : (n p s number : ℕ) (w : Word) → slice_get words n ≡ Some w → old pass.dot s ≡ false → IsNumbered pass (counts_at pass) words ws (record { word = n; at = p }) number → (d : ℕ)
       → closed_by (λ c. old c s) pass.dot (slice_get fates number) d ≡ closed_in params pass counts w p (λ c. old c s) d
@@ -59,7 +60,8 @@ module _ (params : LevelParams) (counts : Counts) (ws : Windows) (fates : List C
       fitting o = option_map_or (λ (sums : ℕ × ℕ). closed_by (λ c. old c s) pass.dot (Some (choice params sums.0 sums.1)) d) o (old d s)
 
       by_sums : (o : Option (ℕ × ℕ)) → counted_sums counts (window w.signs p pass.len pass.dot) ≡ o → HasNumber ws (window w.signs p pass.len pass.dot) number
-          → closed_by (λ c. old c s) pass.dot (slice_get fates number) d ≡ option_map_or (λ (sums : ℕ × ℕ). closed_by (λ c. old c s) pass.dot (Some (choice params sums.0 sums.1)) d) (counted_sums counts (window w.signs p pass.len pass.dot)) (old d s)
+          → closed_by (λ c. old c s) pass.dot (slice_get fates number) d
+          ≡ option_map_or (λ (sums : ℕ × ℕ). closed_by (λ c. old c s) pass.dot (Some (choice params sums.0 sums.1)) d) (counted_sums counts (window w.signs p pass.len pass.dot)) (old d s)
       by_sums None is has = absurd (let wrong : false ≡ true = sym (ap is_some is) ∙ are.counted (window w.signs p pass.len pass.dot) number has in cc)
       by_sums (Some sums) is has =
           ap (λ (o : Option Choice). closed_by (λ c. old c s) pass.dot o d) (decided.each (window w.signs p pass.len pass.dot) number sums has is)
@@ -76,13 +78,17 @@ module _ (params : LevelParams) (counts : Counts) (ws : Windows) (fates : List C
     where
       by_word : (s d : ℕ) → old pass.dot s ≡ true → (o : Option Word) → option_map_or (λ (w : Word). closed_in params pass counts w (position_from 0 words s).at (λ c. old c s) d) o (old d s) ≡ old d s
       by_word s d shut None = refl
-      by_word s d shut (Some w) = ap (λ b. cond b (old d s) (cond (fits w.signs (position_from 0 words s).at pass.len pass.dot) (option_map_or (λ (sums : ℕ × ℕ). closed_by (λ c. old c s) pass.dot (Some (choice params sums.0 sums.1)) d) (counted_sums counts (window w.signs (position_from 0 words s).at pass.len pass.dot)) (old d s)) (old d s || nat_eq d pass.dot))) shut
+      by_word s d shut (Some w) =
+          ap (λ b. cond b (old d s) (cond (fits w.signs (position_from 0 words s).at pass.len pass.dot)
+          (option_map_or (λ (sums : ℕ × ℕ). closed_by (λ c. old c s) pass.dot (Some (choice params sums.0 sums.1)) d)
+          (counted_sums counts (window w.signs (position_from 0 words s).at pass.len pass.dot)) (old d s)) (old d s || nat_eq d pass.dot))) shut
 
       closes_sign : (k s n : ℕ) → slice_get (open_signs (old pass.dot) 0 (sign_count words)) k ≡ Some s → slice_get ns k ≡ Some n → (d : ℕ) → IsSignOf words s → old pass.dot s ≡ false
           → closed_by (λ c. old c s) pass.dot (slice_get fates n) d ≡ closed_after params pass counts words old d s
       closes_sign k s n at to d of free =
           let place = place_of words s of in
-          let numbered = subst (λ (e : WordPosition). IsNumbered pass (counts_at pass) words ws e n) place (have.each k (position_from 0 words s) n (get_map (position_from 0 words) (open_signs (old pass.dot) 0 (sign_count words)) k s at) to) in
+          let numbered = subst (λ (e : WordPosition). IsNumbered pass (counts_at pass) words ws e n) place
+          (have.each k (position_from 0 words s) n (get_map (position_from 0 words) (open_signs (old pass.dot) 0 (sign_count words)) k s at) to) in
           closes_at of.number of.at s n of.word of.there free numbered d
           ∙ sym (ap (λ (e : WordPosition). option_map_or (λ (w : Word). closed_in params pass counts w e.at (λ c. old c s) d) (slice_get words e.word) (old d s)) place
           ∙ ap (λ (o : Option Word). option_map_or (λ (w : Word). closed_in params pass counts w of.at (λ c. old c s) d) o (old d s)) of.there)

@@ -46,10 +46,12 @@ module _ (m : Minima) (level : ℕ) (P : Patterns) (w : Word) (first end : ℕ) 
       none true = refl
       none false = refl
 
-  pub opens_last : (start p s : ℕ) (old : Bool) → first ≤ p → end ≤ p → (not (nat_lt s (start + p) && is_open_first m level P w (s - start)) && old) ≡ (not (is_open_first m level P w (s - start)) && old)
+  pub opens_last : (start p s : ℕ) (old : Bool) → first ≤ p → end ≤ p → (not (nat_lt s (start + p) && is_open_first m level P w (s - start)) && old)
+      ≡ (not (is_open_first m level P w (s - start)) && old)
   opens_last start p s old some past = elim (cases_lt s (start + p)) [
     | inl low ↦ ap (λ b. not (b && is_open_first m level P w (s - start)) && old) (lt-ltb s (start + p) low)
-    | inr high ↦ ap (λ b. not (nat_lt s (start + p) && b) && old) (last_behind start p s some past high) ∙ ap (λ b. not b && old) (none (nat_lt s (start + p))) ∙ sym (ap (λ b. not b && old) (last_behind start p s some past high))
+    | inr high ↦ ap (λ b. not (nat_lt s (start + p) && b) && old) (last_behind start p s some past high) ∙ ap (λ b. not b && old) (none (nat_lt s (start + p)))
+        ∙ sym (ap (λ b. not b && old) (last_behind start p s some past high))
   ]
     where
       none : (b : Bool) → (b && false) ≡ false
@@ -58,11 +60,13 @@ module _ (m : Minima) (level : ℕ) (P : Patterns) (w : Word) (first end : ℕ) 
 
   -- a position more
   pub opens_next : (start p s : ℕ) (counts old : Bool) → first ≤ p → p < end → counts ≡ is_some (counts_as level (status_at P w p))
-      → (not (nat_eq s (start + p) && counts) && (not (nat_lt s (start + p) && is_open_first m level P w (s - start)) && old)) ≡ (not (nat_lt s (start + (p + 1)) && is_open_first m level P w (s - start)) && old)
+      → (not (nat_eq s (start + p) && counts) && (not (nat_lt s (start + p) && is_open_first m level P w (s - start)) && old))
+      ≡ (not (nat_lt s (start + (p + 1)) && is_open_first m level P w (s - start)) && old)
   opens_next start p s counts old some less same = elim (cases_eq s (start + p)) [
     | inl here ↦
         let place : s - start ≡ p = omega arith in
-        let opens : is_open_first m level P w (s - start) ≡ counts = ap (is_open_first m level P w) place ∙ ap (λ b. b && is_some (counts_as level (status_at P w p))) (reach_is p ∙ any_inside p first (end - first) some (omega arith)) ∙ sym same in
+        let opens : is_open_first m level P w (s - start) ≡ counts = ap (is_open_first m level P w) place
+        ∙ ap (λ b. b && is_some (counts_as level (status_at P w p))) (reach_is p ∙ any_inside p first (end - first) some (omega arith)) ∙ sym same in
         (λ i. not (eq-eqb s (start + p) here i && counts) && (not (le-ltb s (start + p) (omega arith) i && is_open_first m level P w (s - start)) && old))
         ∙ (λ i. not (sym (lt-ltb s (start + (p + 1)) (omega arith)) i && sym opens i) && old)
     | inr other ↦ elim (cases_lt s (start + p)) [
@@ -80,7 +84,8 @@ pub opens_behind : (m : Minima) (level : ℕ) (P : Patterns) (w : Word) (q : ℕ
 opens_behind m level P w q old past =
     ap (λ b. not (b && is_some (counts_as level (status_at P w q))) && old) (by (nat_le (m.left + m.right + 2) (length w.signs)) (leb-true (m.left + m.right + 2) (length w.signs)))
   where
-    by : (b : Bool) → (b ≡ true → m.left + m.right + 2 ≤ length w.signs) → list_any (nat_eq q) (option_map_or (λ (ends : ℕ × ℕ). range_with_len ends.0 (ends.1 + 1 - ends.0)) (cond b (Some (m.left + 1, length w.signs - m.right - 1)) None) []) ≡ false
+    by : (b : Bool) → (b ≡ true → m.left + m.right + 2 ≤ length w.signs)
+        → list_any (nat_eq q) (option_map_or (λ (ends : ℕ × ℕ). range_with_len ends.0 (ends.1 + 1 - ends.0)) (cond b (Some (m.left + 1, length w.signs - m.right - 1)) None) []) ≡ false
     by true enough = let long : m.left + m.right + 2 ≤ length w.signs = enough refl in any_above q (m.left + 1) (length w.signs - m.right - 1 + 1 - (m.left + 1)) (omega arith)
     by false enough = refl
 

@@ -31,18 +31,21 @@ use Rattle.pg_driver.proofs.OpenSigns.{place_at, sign_within}
 pub tells_same : (level len : ℕ) (P : Patterns) (H : Hopeless) (w : Word) (p : ℕ) (a b : ℕ → Bool) → ((d : ℕ) → d ≤ LENGTH_MAX → a d ≡ b d) → Tells level len P H w p a → Tells level len P H w p b
 tells_same level len P H w p a b same tells d within = tells d within ∙ ap (λ c. counted_with level w p len d c) (same d within)
 
-told_same : (level len : ℕ) (m : Minima) (P : Patterns) (H : Hopeless) (w : Word) (p : ℕ) (a b : ℕ → Bool) → ((d : ℕ) → d ≤ LENGTH_MAX → a d ≡ b d) → IsTold level len m P H w p a → IsTold level len m P H w p b
+told_same : (level len : ℕ) (m : Minima) (P : Patterns) (H : Hopeless) (w : Word) (p : ℕ) (a b : ℕ → Bool) → ((d : ℕ) → d ≤ LENGTH_MAX → a d ≡ b d)
+    → IsTold level len m P H w p a → IsTold level len m P H w p b
 told_same level len m P H w p a b same is = record {
   inside = λ reach. tells_same level len P H w p a b same (is.inside reach);
   outside = λ reach d within. sym (same d within) ∙ is.outside reach d within;
 }
 
-pub there_same : (level len : ℕ) (m : Minima) (words : List Word) (P : Patterns) (H : Hopeless) (old new : ℕ → ℕ → Bool) → ((d s : ℕ) → d ≤ LENGTH_MAX → s < sign_count words → new d s ≡ old d s) → IsThere level len m words P H old → IsThere level len m words P H new
+pub there_same : (level len : ℕ) (m : Minima) (words : List Word) (P : Patterns) (H : Hopeless) (old new : ℕ → ℕ → Bool)
+    → ((d s : ℕ) → d ≤ LENGTH_MAX → s < sign_count words → new d s ≡ old d s) → IsThere level len m words P H old → IsThere level len m words P H new
 there_same level len m words P H old new same is = record {
   short = is.short;
   upto = is.upto;
   known = λ n p w at low.
-      told_same level len m P H w p (λ d. old d (start_of words n + p)) (λ d. new d (start_of words n + p)) (λ d within. sym (same d (start_of words n + p) within (sign_within words n p w at low))) (is.known n p w at low);
+      told_same level len m P H w p (λ d. old d (start_of words n + p)) (λ d. new d (start_of words n + p))
+      (λ d within. sym (same d (start_of words n + p) within (sign_within words n p w at low))) (is.known n p w at low);
 }
 
 -- a level begins
@@ -70,7 +73,8 @@ there_first level len m words P closed below is = record {
 
     first : (w : Word) (p : ℕ) → IsTold level len m P [] w p (λ d. not (is_open_first m level P w p))
     first w p = record {
-      inside = λ reach. subst (λ (b : Bool). Tells level len P [] w p (λ d. not (b && is_some (counts_as level (status_at P w p))))) (sym reach) (by_status w p (counts_as level (status_at P w p)) refl);
+      inside = λ reach. subst (λ (b : Bool). Tells level len P [] w p (λ d. not (b && is_some (counts_as level (status_at P w p))))) (sym reach)
+          (by_status w p (counts_as level (status_at P w p)) refl);
       outside = λ reach d within. ap (λ b. not (b && is_some (counts_as level (status_at P w p)))) reach;
     }
 
@@ -95,7 +99,8 @@ there_longer level len m words P H old new on is = record {
     first false b is = absurd (let wrong : false ≡ true = is in cc)
 
 -- a level goes on after a pass
-module _ (level : LevelParams) (m : Minima) (words : List Word) (pass : Pass) (P : Patterns) (H : Hopeless) (counts : Counts) (low : pass.dot ≤ LENGTH_MAX) (counted : counts ≡ fold with_position [] (counted_positions m words pass P H)) where
+module _ (level : LevelParams) (m : Minima) (words : List Word) (pass : Pass) (P : Patterns) (H : Hopeless) (counts : Counts) (low : pass.dot ≤ LENGTH_MAX)
+    (counted : counts ≡ fold with_position [] (counted_positions m words pass P H)) where
   abbrev chosen : Candidate → Bool
   chosen c = is_chosen level c
 
@@ -119,7 +124,8 @@ module _ (level : LevelParams) (m : Minima) (words : List Word) (pass : Pass) (P
       one false false = refl
 
   -- a dot more that is closed tells the same, where no window with it counts
-  tells_shut : (Q : Patterns) (I : Hopeless) (w : Word) (p : ℕ) (closed : ℕ → Bool) → counted_at (pass_at pass.level pass.len pass.dot) Q I w p ≡ None → Tells pass.level pass.len Q I w p closed → Tells pass.level pass.len Q I w p (λ d. closed d || nat_eq d pass.dot)
+  tells_shut : (Q : Patterns) (I : Hopeless) (w : Word) (p : ℕ) (closed : ℕ → Bool) → counted_at (pass_at pass.level pass.len pass.dot) Q I w p ≡ None
+      → Tells pass.level pass.len Q I w p closed → Tells pass.level pass.len Q I w p (λ d. closed d || nat_eq d pass.dot)
   tells_shut Q I w p closed none tells d within = elim (cases_eq d pass.dot) [
     | inl same ↦
         ap (λ e. counted_at (pass_at pass.level pass.len e) Q I w p) same ∙ none
@@ -140,7 +146,8 @@ module _ (level : LevelParams) (m : Minima) (words : List Word) (pass : Pass) (P
 
   module _ (w : Word) (p : ℕ) (closed : ℕ → Bool) where
     -- where the window fits and the dot was open
-    fit_is : (d : ℕ) → ((is_candidate (λ (c : Candidate). is_chosen level c) (counted_positions m words pass P H) (window w.signs p pass.len pass.dot)) || (closed d || (nat_eq d pass.dot && (is_candidate (λ (c : Candidate). is_hopeless level c) (counted_positions m words pass P H) (window w.signs p pass.len pass.dot)))))
+    fit_is : (d : ℕ) → ((is_candidate (λ (c : Candidate). is_chosen level c) (counted_positions m words pass P H) (window w.signs p pass.len pass.dot))
+        || (closed d || (nat_eq d pass.dot && (is_candidate (λ (c : Candidate). is_hopeless level c) (counted_positions m words pass P H) (window w.signs p pass.len pass.dot)))))
         ≡ option_map_or (λ (sums : ℕ × ℕ). closed_by closed pass.dot (Some (choice level sums.0 sums.1)) d) (counted_sums counts (window w.signs p pass.len pass.dot)) (closed d)
     fit_is d =
         by (is_counted_window (counted_positions m words pass P H) (window w.signs p pass.len pass.dot))
@@ -152,29 +159,39 @@ module _ (level : LevelParams) (m : Minima) (words : List Word) (pass : Pass) (P
         none false true = refl
         none false false = refl
 
-        by : (s : Bool) → ((s && is_chosen level (candidate_at (counted_positions m words pass P H) (window w.signs p pass.len pass.dot))) || (closed d || (nat_eq d pass.dot && (s && is_hopeless level (candidate_at (counted_positions m words pass P H) (window w.signs p pass.len pass.dot))))))
-            ≡ option_map_or (λ (sums : ℕ × ℕ). closed_by closed pass.dot (Some (choice level sums.0 sums.1)) d) (cond s (Some (good_of (counted_positions m words pass P H) (window w.signs p pass.len pass.dot), bad_of (counted_positions m words pass P H) (window w.signs p pass.len pass.dot))) None) (closed d)
+        by : (s : Bool) → ((s && is_chosen level (candidate_at (counted_positions m words pass P H) (window w.signs p pass.len pass.dot)))
+            || (closed d || (nat_eq d pass.dot && (s && is_hopeless level (candidate_at (counted_positions m words pass P H) (window w.signs p pass.len pass.dot))))))
+            ≡ option_map_or (λ (sums : ℕ × ℕ). closed_by closed pass.dot (Some (choice level sums.0 sums.1)) d)
+            (cond s (Some (good_of (counted_positions m words pass P H) (window w.signs p pass.len pass.dot), bad_of (counted_positions m words pass P H) (window w.signs p pass.len pass.dot)))
+            None) (closed d)
         by true =
-            (λ i. chosen_is level (candidate_at (counted_positions m words pass P H) (window w.signs p pass.len pass.dot)) i || (closed d || (nat_eq d pass.dot && hopeless_is level (candidate_at (counted_positions m words pass P H) (window w.signs p pass.len pass.dot)) i)))
+            (λ i. chosen_is level (candidate_at (counted_positions m words pass P H) (window w.signs p pass.len pass.dot)) i
+            || (closed d || (nat_eq d pass.dot && hopeless_is level (candidate_at (counted_positions m words pass P H) (window w.signs p pass.len pass.dot)) i)))
             ∙ by_fate closed pass.dot d (choice_of level (candidate_at (counted_positions m words pass P H) (window w.signs p pass.len pass.dot)))
         by false = none (closed d) (nat_eq d pass.dot)
 
     -- a position in reach
     told_in : IsUpTo pass.level P → Tells pass.level pass.len P H w p closed
-        → Tells pass.level pass.len (patterns_after_pass m words pass P H (λ c. is_chosen level c)) (hopeless_after_pass m words pass P H (λ c. is_hopeless level c)) w p (closed_in level pass counts w p closed)
+        → Tells pass.level pass.len (patterns_after_pass m words pass P H (λ c. is_chosen level c)) (hopeless_after_pass m words pass P H (λ c. is_hopeless level c)) w p
+        (closed_in level pass counts w p closed)
     told_in upto tells = elim (cases_Bool (closed pass.dot)) [
       | inl shut ↦
-          tells_same pass.level pass.len (patterns_after_pass m words pass P H (λ c. is_chosen level c)) (hopeless_after_pass m words pass P H (λ c. is_hopeless level c)) w p _ (closed_in level pass counts w p closed)
+          tells_same pass.level pass.len (patterns_after_pass m words pass P H (λ c. is_chosen level c)) (hopeless_after_pass m words pass P H (λ c. is_hopeless level c)) w p _
+          (closed_in level pass counts w p closed)
           (λ d within. was_shut d shut) after
       | inr free ↦ elim (cases_Bool (fits w.signs p pass.len pass.dot)) [
         | inl fit ↦
-            tells_same pass.level pass.len (patterns_after_pass m words pass P H (λ c. is_chosen level c)) (hopeless_after_pass m words pass P H (λ c. is_hopeless level c)) w p _ (closed_in level pass counts w p closed)
+            tells_same pass.level pass.len (patterns_after_pass m words pass P H (λ c. is_chosen level c)) (hopeless_after_pass m words pass P H (λ c. is_hopeless level c)) w p _
+            (closed_in level pass counts w p closed)
             (λ d within. was_open d free fit) after
         | inr other ↦
-            tells_same pass.level pass.len (patterns_after_pass m words pass P H (λ c. is_chosen level c)) (hopeless_after_pass m words pass P H (λ c. is_hopeless level c)) w p (λ d. closed d || nat_eq d pass.dot) (closed_in level pass counts w p closed)
-            (λ d within. sym (ap (λ b. cond b (closed d) (cond (fits w.signs p pass.len pass.dot) (fitting d) (closed d || nat_eq d pass.dot))) free ∙ ap (λ b. cond b (fitting d) (closed d || nat_eq d pass.dot)) other))
+            tells_same pass.level pass.len (patterns_after_pass m words pass P H (λ c. is_chosen level c)) (hopeless_after_pass m words pass P H (λ c. is_hopeless level c)) w p
+            (λ d. closed d || nat_eq d pass.dot) (closed_in level pass counts w p closed)
+            (λ d within. sym (ap (λ b. cond b (closed d) (cond (fits w.signs p pass.len pass.dot) (fitting d) (closed d || nat_eq d pass.dot))) free
+            ∙ ap (λ b. cond b (fitting d) (closed d || nat_eq d pass.dot)) other))
             (tells_shut (patterns_after_pass m words pass P H (λ c. is_chosen level c)) (hopeless_after_pass m words pass P H (λ c. is_hopeless level c)) w p closed (unfit other)
-            (tells_same pass.level pass.len (patterns_after_pass m words pass P H (λ c. is_chosen level c)) (hopeless_after_pass m words pass P H (λ c. is_hopeless level c)) w p _ closed (λ d within. was_other d other) after))
+            (tells_same pass.level pass.len (patterns_after_pass m words pass P H (λ c. is_chosen level c)) (hopeless_after_pass m words pass P H (λ c. is_hopeless level c)) w p _ closed
+            (λ d within. was_other d other) after))
       ]
     ]
       where
@@ -188,7 +205,9 @@ module _ (level : LevelParams) (m : Minima) (words : List Word) (pass : Pass) (P
         given_up = is_candidate (λ (c : Candidate). is_hopeless level c) (counted_positions m words pass P H) (window w.signs p pass.len pass.dot)
 
         after : Tells pass.level pass.len (patterns_after_pass m words pass P H (λ c. is_chosen level c)) (hopeless_after_pass m words pass P H (λ c. is_hopeless level c)) w p
-            (dots_after_pass closed pass.dot (fits w.signs p pass.len pass.dot) (is_candidate (λ (c : Candidate). is_chosen level c) (counted_positions m words pass P H) (window w.signs p pass.len pass.dot)) (is_candidate (λ (c : Candidate). is_hopeless level c) (counted_positions m words pass P H) (window w.signs p pass.len pass.dot)))
+            (dots_after_pass closed pass.dot (fits w.signs p pass.len pass.dot)
+            (is_candidate (λ (c : Candidate). is_chosen level c) (counted_positions m words pass P H) (window w.signs p pass.len pass.dot))
+            (is_candidate (λ (c : Candidate). is_hopeless level c) (counted_positions m words pass P H) (window w.signs p pass.len pass.dot)))
         after = tells_after m words pass P H (λ c. is_chosen level c) (λ c. is_hopeless level c) w p closed upto low tells
 
         no_test : (f : Bool) (x y : Bool) → cond (f && false) x y ≡ y
@@ -196,48 +215,75 @@ module _ (level : LevelParams) (m : Minima) (words : List Word) (pass : Pass) (P
         no_test false x y = refl
 
         was_shut : (d : ℕ) → closed pass.dot ≡ true
-            → dots_after_pass closed pass.dot (fits w.signs p pass.len pass.dot) (is_candidate (λ (c : Candidate). is_chosen level c) (counted_positions m words pass P H) (window w.signs p pass.len pass.dot)) (is_candidate (λ (c : Candidate). is_hopeless level c) (counted_positions m words pass P H) (window w.signs p pass.len pass.dot)) d ≡ closed_in level pass counts w p closed d
+            → dots_after_pass closed pass.dot (fits w.signs p pass.len pass.dot)
+            (is_candidate (λ (c : Candidate). is_chosen level c) (counted_positions m words pass P H) (window w.signs p pass.len pass.dot))
+            (is_candidate (λ (c : Candidate). is_hopeless level c) (counted_positions m words pass P H) (window w.signs p pass.len pass.dot)) d ≡ closed_in level pass counts w p closed d
         was_shut d shut =
-            ap (λ b. cond (fits w.signs p pass.len pass.dot && not b) (is_candidate (λ (c : Candidate). is_chosen level c) (counted_positions m words pass P H) (window w.signs p pass.len pass.dot) || (closed d || (nat_eq d pass.dot && is_candidate (λ (c : Candidate). is_hopeless level c) (counted_positions m words pass P H) (window w.signs p pass.len pass.dot)))) (closed d)) shut
-            ∙ no_test (fits w.signs p pass.len pass.dot) (is_candidate (λ (c : Candidate). is_chosen level c) (counted_positions m words pass P H) (window w.signs p pass.len pass.dot) || (closed d || (nat_eq d pass.dot && is_candidate (λ (c : Candidate). is_hopeless level c) (counted_positions m words pass P H) (window w.signs p pass.len pass.dot)))) (closed d)
-            ∙ sym (ap (λ b. cond b (closed d) (cond (fits w.signs p pass.len pass.dot) (option_map_or (λ (sums : ℕ × ℕ). closed_by closed pass.dot (Some (choice level sums.0 sums.1)) d) (counted_sums counts (window w.signs p pass.len pass.dot)) (closed d)) (closed d || nat_eq d pass.dot))) shut)
+            ap (λ b. cond (fits w.signs p pass.len pass.dot && not b) (is_candidate (λ (c : Candidate). is_chosen level c) (counted_positions m words pass P H) (window w.signs p pass.len pass.dot)
+            || (closed d || (nat_eq d pass.dot && is_candidate (λ (c : Candidate). is_hopeless level c) (counted_positions m words pass P H) (window w.signs p pass.len pass.dot)))) (closed d))
+            shut
+            ∙ no_test (fits w.signs p pass.len pass.dot) (is_candidate (λ (c : Candidate). is_chosen level c) (counted_positions m words pass P H) (window w.signs p pass.len pass.dot)
+            || (closed d || (nat_eq d pass.dot && is_candidate (λ (c : Candidate). is_hopeless level c) (counted_positions m words pass P H) (window w.signs p pass.len pass.dot)))) (closed d)
+            ∙ sym (ap (λ b. cond b (closed d) (cond (fits w.signs p pass.len pass.dot)
+            (option_map_or (λ (sums : ℕ × ℕ). closed_by closed pass.dot (Some (choice level sums.0 sums.1)) d) (counted_sums counts (window w.signs p pass.len pass.dot)) (closed d))
+            (closed d || nat_eq d pass.dot))) shut)
 
         was_open : (d : ℕ) → closed pass.dot ≡ false → fits w.signs p pass.len pass.dot ≡ true
-            → dots_after_pass closed pass.dot (fits w.signs p pass.len pass.dot) (is_candidate (λ (c : Candidate). is_chosen level c) (counted_positions m words pass P H) (window w.signs p pass.len pass.dot)) (is_candidate (λ (c : Candidate). is_hopeless level c) (counted_positions m words pass P H) (window w.signs p pass.len pass.dot)) d ≡ closed_in level pass counts w p closed d
+            → dots_after_pass closed pass.dot (fits w.signs p pass.len pass.dot)
+            (is_candidate (λ (c : Candidate). is_chosen level c) (counted_positions m words pass P H) (window w.signs p pass.len pass.dot))
+            (is_candidate (λ (c : Candidate). is_hopeless level c) (counted_positions m words pass P H) (window w.signs p pass.len pass.dot)) d ≡ closed_in level pass counts w p closed d
         was_open d free fit =
-            (λ i. cond (fit i && not (free i)) (is_candidate (λ (c : Candidate). is_chosen level c) (counted_positions m words pass P H) (window w.signs p pass.len pass.dot) || (closed d || (nat_eq d pass.dot && is_candidate (λ (c : Candidate). is_hopeless level c) (counted_positions m words pass P H) (window w.signs p pass.len pass.dot)))) (closed d))
+            (λ i. cond (fit i && not (free i)) (is_candidate (λ (c : Candidate). is_chosen level c) (counted_positions m words pass P H) (window w.signs p pass.len pass.dot)
+            || (closed d || (nat_eq d pass.dot && is_candidate (λ (c : Candidate). is_hopeless level c) (counted_positions m words pass P H) (window w.signs p pass.len pass.dot)))) (closed d))
             ∙ fit_is d
-            ∙ sym (λ i. cond (free i) (closed d) (cond (fit i) (option_map_or (λ (sums : ℕ × ℕ). closed_by closed pass.dot (Some (choice level sums.0 sums.1)) d) (counted_sums counts (window w.signs p pass.len pass.dot)) (closed d)) (closed d || nat_eq d pass.dot)))
+            ∙ sym (λ i. cond (free i) (closed d) (cond (fit i) (option_map_or (λ (sums : ℕ × ℕ). closed_by closed pass.dot (Some (choice level sums.0 sums.1)) d)
+            (counted_sums counts (window w.signs p pass.len pass.dot)) (closed d)) (closed d || nat_eq d pass.dot)))
 
         was_other : (d : ℕ) → fits w.signs p pass.len pass.dot ≡ false
-            → dots_after_pass closed pass.dot (fits w.signs p pass.len pass.dot) (is_candidate (λ (c : Candidate). is_chosen level c) (counted_positions m words pass P H) (window w.signs p pass.len pass.dot)) (is_candidate (λ (c : Candidate). is_hopeless level c) (counted_positions m words pass P H) (window w.signs p pass.len pass.dot)) d ≡ closed d
+            → dots_after_pass closed pass.dot (fits w.signs p pass.len pass.dot)
+            (is_candidate (λ (c : Candidate). is_chosen level c) (counted_positions m words pass P H) (window w.signs p pass.len pass.dot))
+            (is_candidate (λ (c : Candidate). is_hopeless level c) (counted_positions m words pass P H) (window w.signs p pass.len pass.dot)) d ≡ closed d
         was_other d other =
-            ap (λ b. cond (b && not (closed pass.dot)) (is_candidate (λ (c : Candidate). is_chosen level c) (counted_positions m words pass P H) (window w.signs p pass.len pass.dot) || (closed d || (nat_eq d pass.dot && is_candidate (λ (c : Candidate). is_hopeless level c) (counted_positions m words pass P H) (window w.signs p pass.len pass.dot)))) (closed d)) other
+            ap (λ b. cond (b && not (closed pass.dot)) (is_candidate (λ (c : Candidate). is_chosen level c) (counted_positions m words pass P H) (window w.signs p pass.len pass.dot)
+            || (closed d || (nat_eq d pass.dot && is_candidate (λ (c : Candidate). is_hopeless level c) (counted_positions m words pass P H) (window w.signs p pass.len pass.dot)))) (closed d))
+            other
 
-        unfit : fits w.signs p pass.len pass.dot ≡ false → counted_at (pass_at pass.level pass.len pass.dot) (patterns_after_pass m words pass P H (λ c. is_chosen level c)) (hopeless_after_pass m words pass P H (λ c. is_hopeless level c)) w p ≡ None
-        unfit other = ap (λ b. cond (b && not (is_covered pass.level (patterns_after_pass m words pass P H (λ c. is_chosen level c)) (hopeless_after_pass m words pass P H (λ c. is_hopeless level c)) (window w.signs p pass.len pass.dot) pass.dot)) (counts_as pass.level (status_at (patterns_after_pass m words pass P H (λ c. is_chosen level c)) w p)) None) other
+        unfit : fits w.signs p pass.len pass.dot ≡ false → counted_at (pass_at pass.level pass.len pass.dot) (patterns_after_pass m words pass P H (λ c. is_chosen level c))
+            (hopeless_after_pass m words pass P H (λ c. is_hopeless level c)) w p ≡ None
+        unfit other = ap (λ b. cond (b && not (is_covered pass.level (patterns_after_pass m words pass P H (λ c. is_chosen level c))
+            (hopeless_after_pass m words pass P H (λ c. is_hopeless level c)) (window w.signs p pass.len pass.dot) pass.dot))
+            (counts_as pass.level (status_at (patterns_after_pass m words pass P H (λ c. is_chosen level c)) w p)) None) other
 
   -- each position
   pub there_after : (old new : ℕ → ℕ → Bool) → ((d s : ℕ) → d ≤ LENGTH_MAX → s < sign_count words → new d s ≡ closed_after level pass counts words old d s)
-      → IsThere pass.level pass.len m words P H old → IsThere pass.level pass.len m words (patterns_after_pass m words pass P H (λ c. is_chosen level c)) (hopeless_after_pass m words pass P H (λ c. is_hopeless level c)) new
+      → IsThere pass.level pass.len m words P H old → IsThere pass.level pass.len m words (patterns_after_pass m words pass P H (λ c. is_chosen level c))
+      (hopeless_after_pass m words pass P H (λ c. is_hopeless level c)) new
   there_after old new on is = record {
     short = covers_up_to_after m words pass P H chosen made_hopeless is.short;
     upto = up_to_after m words pass P H chosen pass.level (omega arith) is.upto;
     known = λ n p w at lies. each n p w at lies (is.known n p w at lies);
   }
     where
-      here : (n p : ℕ) (w : Word) → slice_get words n ≡ Some w → p < length w.signs → (d : ℕ) → closed_after level pass counts words old d (start_of words n + p) ≡ closed_in level pass counts w p (λ c. old c (start_of words n + p)) d
+      here : (n p : ℕ) (w : Word) → slice_get words n ≡ Some w → p < length w.signs → (d : ℕ) → closed_after level pass counts words old d (start_of words n + p)
+          ≡ closed_in level pass counts w p (λ c. old c (start_of words n + p)) d
       here n p w at lies d =
           let number : 0 + n ≡ n = omega arith in
-          ap (λ (e : WordPosition). option_map_or (λ (u : Word). closed_in level pass counts u e.at (λ c. old c (start_of words n + p)) d) (slice_get words e.word) (old d (start_of words n + p))) (place_at 0 words n p w at lies)
-          ∙ ap (λ (o : Option Word). option_map_or (λ (u : Word). closed_in level pass counts u p (λ c. old c (start_of words n + p)) d) o (old d (start_of words n + p))) (ap (slice_get words) number ∙ at)
+          ap (λ (e : WordPosition). option_map_or (λ (u : Word). closed_in level pass counts u e.at (λ c. old c (start_of words n + p)) d) (slice_get words e.word) (old d (start_of words n + p)))
+          (place_at 0 words n p w at lies)
+          ∙ ap (λ (o : Option Word). option_map_or (λ (u : Word). closed_in level pass counts u p (λ c. old c (start_of words n + p)) d) o (old d (start_of words n + p)))
+          (ap (slice_get words) number ∙ at)
 
       each : (n p : ℕ) (w : Word) → slice_get words n ≡ Some w → p < length w.signs → IsTold pass.level pass.len m P H w p (λ d. old d (start_of words n + p))
-          → IsTold pass.level pass.len m (patterns_after_pass m words pass P H (λ c. is_chosen level c)) (hopeless_after_pass m words pass P H (λ c. is_hopeless level c)) w p (λ d. new d (start_of words n + p))
+          → IsTold pass.level pass.len m (patterns_after_pass m words pass P H (λ c. is_chosen level c)) (hopeless_after_pass m words pass P H (λ c. is_hopeless level c)) w p
+          (λ d. new d (start_of words n + p))
       each n p w at lies before =
-          told_same pass.level pass.len m (patterns_after_pass m words pass P H (λ c. is_chosen level c)) (hopeless_after_pass m words pass P H (λ c. is_hopeless level c)) w p (closed_in level pass counts w p (λ c. old c (start_of words n + p))) (λ d. new d (start_of words n + p))
+          told_same pass.level pass.len m (patterns_after_pass m words pass P H (λ c. is_chosen level c)) (hopeless_after_pass m words pass P H (λ c. is_hopeless level c)) w p
+          (closed_in level pass counts w p (λ c. old c (start_of words n + p))) (λ d. new d (start_of words n + p))
           (λ d within. sym (on d (start_of words n + p) within (sign_within words n p w at lies) ∙ here n p w at lies d))
           (record {
             inside = λ reach. told_in w p (λ c. old c (start_of words n + p)) is.upto (before.inside reach);
-            outside = λ reach d within. ap (λ b. cond b (old d (start_of words n + p)) (cond (fits w.signs p pass.len pass.dot) (option_map_or (λ (sums : ℕ × ℕ). closed_by (λ c. old c (start_of words n + p)) pass.dot (Some (choice level sums.0 sums.1)) d) (counted_sums counts (window w.signs p pass.len pass.dot)) (old d (start_of words n + p))) (old d (start_of words n + p) || nat_eq d pass.dot))) (before.outside reach pass.dot low) ∙ before.outside reach d within;
+            outside = λ reach d within. ap (λ b. cond b (old d (start_of words n + p))
+                (cond (fits w.signs p pass.len pass.dot) (option_map_or (λ (sums : ℕ × ℕ). closed_by (λ c. old c (start_of words n + p)) pass.dot (Some (choice level sums.0 sums.1)) d)
+                (counted_sums counts (window w.signs p pass.len pass.dot)) (old d (start_of words n + p))) (old d (start_of words n + p) || nat_eq d pass.dot))) (before.outside reach pass.dot low)
+                ∙ before.outside reach d within;
           })

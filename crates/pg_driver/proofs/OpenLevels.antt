@@ -27,7 +27,8 @@ module _ (m : Minima) (words : List Word) (counts : Word → ℕ → Option Bool
   start_word n w at (p ∷ ps) =
       λ i. ap (λ (o : Option Word). option_map_or (λ (good : Bool). record { word = n; at = p } ∷ []) (start_in p o) []) (sym at) i ++ start_word n w at ps i
 
-  start_words : (n : ℕ) (ws : List Word) → ((k : ℕ) (w : Word) → slice_get ws k ≡ Some w → slice_get words (n + k) ≡ Some w) → listed_from m counts n ws ≡ flat_map (open_with start_at) (numbered_positions m n ws)
+  start_words : (n : ℕ) (ws : List Word) → ((k : ℕ) (w : Word) → slice_get ws k ≡ Some w → slice_get words (n + k) ≡ Some w) → listed_from m counts n ws
+      ≡ flat_map (open_with start_at) (numbered_positions m n ws)
   start_words n [] place = refl
   start_words n (w ∷ ws) place =
       let here : slice_get words n ≡ Some w = ap (slice_get words) (plus_zero n) ∙ place 0 w refl in

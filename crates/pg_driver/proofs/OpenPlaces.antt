@@ -27,7 +27,8 @@ ranged end n (suc k) within = All-cons (λ p. p < end) n (range_with_len (n + 1)
 in_reach : (left right size : ℕ) → All (λ p. p < size) (positions left right size)
 in_reach left right size = by_test (nat_le (left + right + 2) size) (leb-true (left + right + 2) size)
   where
-    by_test : (b : Bool) → (b ≡ true → left + right + 2 ≤ size) → All (λ p. p < size) (option_map_or (λ (ends : ℕ × ℕ). range_with_len ends.0 (ends.1 + 1 - ends.0)) (cond b (Some (left + 1, size - right - 1)) None) [])
+    by_test : (b : Bool) → (b ≡ true → left + right + 2 ≤ size) → All (λ p. p < size)
+        (option_map_or (λ (ends : ℕ × ℕ). range_with_len ends.0 (ends.1 + 1 - ends.0)) (cond b (Some (left + 1, size - right - 1)) None) [])
     by_test false enough = All-nil (λ p. p < size)
     by_test true enough = let long : left + right + 2 ≤ size = enough refl in ranged size (left + 1) (size - right - 1 + 1 - (left + 1)) (omega arith)
 
@@ -35,11 +36,13 @@ record IsNumbered (words : List Word) (s : ℕ × ℕ) : Type 0 where
   word : s.0 < length words
   within : (w : Word) → slice_get words s.0 ≡ Some w → s.1 < length w.signs
 
-numbered_in : (m : Minima) (words : List Word) (n : ℕ) (ws : List Word) → ((k : ℕ) (w : Word) → slice_get ws k ≡ Some w → slice_get words (n + k) ≡ Some w) → All (IsNumbered words) (numbered_positions m n ws)
+numbered_in : (m : Minima) (words : List Word) (n : ℕ) (ws : List Word) → ((k : ℕ) (w : Word) → slice_get ws k ≡ Some w → slice_get words (n + k) ≡ Some w)
+    → All (IsNumbered words) (numbered_positions m n ws)
 numbered_in m words n [] place = All-nil (IsNumbered words)
 numbered_in m words n (w ∷ ws) place =
     All-append (IsNumbered words) (map (λ p. (n, p)) (positions m.left m.right (length w.signs))) (numbered_positions m (n + 1) ws)
-    (All-map (IsNumbered words) (λ (p : ℕ). (n, p)) (positions m.left m.right (length w.signs)) (All-weaker (λ p. p < length w.signs) (λ p. IsNumbered words (n, p)) (λ p low. here_in p low) (positions m.left m.right (length w.signs)) (in_reach m.left m.right (length w.signs))))
+    (All-map (IsNumbered words) (λ (p : ℕ). (n, p)) (positions m.left m.right (length w.signs))
+    (All-weaker (λ p. p < length w.signs) (λ p. IsNumbered words (n, p)) (λ p low. here_in p low) (positions m.left m.right (length w.signs)) (in_reach m.left m.right (length w.signs))))
     (numbered_in m words (n + 1) ws (λ k v at. ap (slice_get words) (plus_one n k) ∙ place (suc k) v at))
   where
     plus_one : (n k : ℕ) → n + 1 + k ≡ n + suc k
@@ -68,10 +71,12 @@ placed_with words listed s here_in = by_listed (listed s.0 s.1)
     by_listed (Some good) = All-cons (IsPlaced words) (record { word = s.0; at = s.1 }) [] (record { word = here_in.word; within = here_in.within }) (All-nil (IsPlaced words))
 
 -- entries stand in the words
-pub entries_placed : (m : Minima) (words : List Word) (listed : ℕ → ℕ → Option Bool) (entries : List WordPosition) → entries ≡ flat_map (open_with listed) (numbered_positions m 0 words) → All (IsPlaced words) entries
+pub entries_placed : (m : Minima) (words : List Word) (listed : ℕ → ℕ → Option Bool) (entries : List WordPosition) → entries
+    ≡ flat_map (open_with listed) (numbered_positions m 0 words) → All (IsPlaced words) entries
 entries_placed m words listed entries are =
     All-same (IsPlaced words) entries (flat_map (open_with listed) (numbered_positions m 0 words)) are
-    (all_flat (IsPlaced words) (IsNumbered words) (open_with listed) (placed_with words listed) (numbered_positions m 0 words) (numbered_in m words 0 words (λ k w at. ap (slice_get words) (zero_plus k) ∙ at)))
+    (all_flat (IsPlaced words) (IsNumbered words) (open_with listed) (placed_with words listed) (numbered_positions m 0 words)
+    (numbered_in m words 0 words (λ k w at. ap (slice_get words) (zero_plus k) ∙ at)))
   where
     zero_plus : (k : ℕ) → 0 + k ≡ k
     zero_plus k = omega arith
@@ -91,10 +96,17 @@ numbered_length : (m : Minima) (n : ℕ) (words : List Word) → length (numbere
 numbered_length m n [] = refl
 numbered_length m n (w ∷ words) =
     let rest : length (numbered_positions m (n + 1) words) ≡ positions_in m words = numbered_length m (n + 1) words in
-    let sizes : length (map {B = ℕ × ℕ} (λ p. (n, p)) (positions m.left m.right (length w.signs))) ≡ length (positions m.left m.right (length w.signs)) = length-map (positions m.left m.right (length w.signs)) (λ (p : ℕ). (n, p)) in
-    omega (arith, length-append (map (λ p. (n, p)) (positions m.left m.right (length w.signs))) (numbered_positions m (n + 1) words), sizes, sum_by-cons (λ (w : Word). length (positions m.left m.right (length w.signs))) w words)
+    let sizes : length (map {B = ℕ × ℕ} (λ p. (n, p)) (positions m.left m.right (length w.signs))) ≡ length (positions m.left m.right (length w.signs)) =
+    length-map (positions m.left m.right (length w.signs)) (λ (p : ℕ). (n, p)) in
+    omega (
+      arith,
+      length-append (map (λ p. (n, p)) (positions m.left m.right (length w.signs))) (numbered_positions m (n + 1) words),
+      sizes,
+      sum_by-cons (λ (w : Word). length (positions m.left m.right (length w.signs))) w words,
+    )
 
 -- and there are no more than letters
-pub entries_few : (m : Minima) (words : List Word) (listed : ℕ → ℕ → Option Bool) (entries : List WordPosition) → positions_in m words ≤ sum_by letter_count words → entries ≡ flat_map (open_with listed) (numbered_positions m 0 words) → length entries ≤ sum_by letter_count words
+pub entries_few : (m : Minima) (words : List Word) (listed : ℕ → ℕ → Option Bool) (entries : List WordPosition) → positions_in m words ≤ sum_by letter_count words
+    → entries ≡ flat_map (open_with listed) (numbered_positions m 0 words) → length entries ≤ sum_by letter_count words
 entries_few m words listed entries reached are =
     omega (arith, ap (λ (es : List WordPosition). length es) are, few_open listed (numbered_positions m 0 words), numbered_length m 0 words)

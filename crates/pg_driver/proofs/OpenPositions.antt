@@ -20,7 +20,8 @@ module _ (m : Minima) (words : List Word) (listed : ℕ → ℕ → Option Bool)
   abbrev in_reach : Word → List CountedPosition
   in_reach w = flat_map (at_position w) (positions m.left m.right (length w.signs))
 
-  counted_words : (n : ℕ) (ws : List Word) → ((k : ℕ) (w : Word) → slice_get ws k ≡ Some w → slice_get words (n + k) ≡ Some w) → flat_map in_reach ws ≡ flat_map at_entry (flat_map (open_with listed) (numbered_positions m n ws))
+  counted_words : (n : ℕ) (ws : List Word) → ((k : ℕ) (w : Word) → slice_get ws k ≡ Some w → slice_get words (n + k) ≡ Some w) → flat_map in_reach ws
+      ≡ flat_map at_entry (flat_map (open_with listed) (numbered_positions m n ws))
   counted_words n [] place = refl
   counted_words n (w ∷ ws) place =
       let here : slice_get words n ≡ Some w = ap (slice_get words) (plus_zero n) ∙ place 0 w refl in

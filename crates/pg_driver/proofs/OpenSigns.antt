@@ -136,7 +136,8 @@ start_next (v ∷ words) zero w at =
     first (u ∷ ws) = (let z : length v.signs + 0 ≡ length v.signs = omega arith in z)
 start_next (v ∷ words) (suc n) w at =
     let next : suc n + 1 ≡ suc (n + 1) = omega arith in
-    ap (start_of (v ∷ words)) next ∙ ap (λ k. length v.signs + k) (start_next words n w at) ∙ (let z : length v.signs + (start_of words n + length w.signs) ≡ length v.signs + start_of words n + length w.signs = omega arith in z)
+    ap (start_of (v ∷ words)) next ∙ ap (λ k. length v.signs + k) (start_next words n w at)
+    ∙ (let z : length v.signs + (start_of words n + length w.signs) ≡ length v.signs + start_of words n + length w.signs = omega arith in z)
 
 pub start_zero : (words : List Word) → 0 ≡ start_of words 0
 start_zero [] = refl
@@ -186,7 +187,8 @@ place_at k (v ∷ words) zero p w at low =
 place_at k (v ∷ words) (suc n) p w at low =
     let left : length v.signs + start_of words n + p - length v.signs ≡ start_of words n + p = omega arith in
     let number : k + 1 + n ≡ k + suc n = omega arith in
-    ap (λ b. cond b (record { word = k; at = length v.signs + start_of words n + p }) (position_from (k + 1) words (length v.signs + start_of words n + p - length v.signs))) (le-ltb (length v.signs + start_of words n + p) (length v.signs) (omega arith))
+    ap (λ b. cond b (record { word = k; at = length v.signs + start_of words n + p }) (position_from (k + 1) words (length v.signs + start_of words n + p - length v.signs)))
+    (le-ltb (length v.signs + start_of words n + p) (length v.signs) (omega arith))
     ∙ ap (position_from (k + 1) words) left
     ∙ place_at (k + 1) words n p w at low
     ∙ ap (λ (m : ℕ). record { word = m; at = p }) number

@@ -27,17 +27,22 @@ use Rattle.pg_driver.specs.Inside.OpenPositions.{counted_in}
 pub added_step : {X Y : Type 0} (f : X → List Y) (items more whole : List Y) (x : X) (xs : List X) → more ≡ items ++ f x → items ++ flat_map f (x ∷ xs) ≡ whole → more ++ flat_map f xs ≡ whole
 added_step {Y = Y} f items more whole x xs is left = ap (λ (ys : List Y). ys ++ flat_map f xs) is ∙ append_assoc items (f x) (flat_map f xs) ∙ left
 
-pub position_added : {Y : Type 0} (f : ℕ → List Y) (items more whole : List Y) (p end : ℕ) → p < end → more ≡ items ++ f p → items ++ flat_map f (range_with_len p (end - p)) ≡ whole → more ++ flat_map f (range_with_len (p + 1) (end - (p + 1))) ≡ whole
+pub position_added : {Y : Type 0} (f : ℕ → List Y) (items more whole : List Y) (p end : ℕ) → p < end → more ≡ items ++ f p → items
+    ++ flat_map f (range_with_len p (end - p)) ≡ whole → more ++ flat_map f (range_with_len (p + 1) (end - (p + 1))) ≡ whole
 position_added {Y} f items more whole p end before is left =
     added_step f items more whole p (range_with_len (p + 1) (end - (p + 1))) is (ap (λ (ps : List ℕ). items ++ flat_map f ps) (sym (range_step p end before)) ∙ left)
 
 -- what is counted at an open position takes the room of one
-pub took_in : (counts : Counts) (level len dot : ℕ) (w : Word) (p n : ℕ) → 1 ≤ len → IsWord w → p < length w.signs → HasRoom counts n → TookRoom counts (fold with_position counts (counted_in level len dot w p)) 1
+pub took_in : (counts : Counts) (level len dot : ℕ) (w : Word) (p n : ℕ) → 1 ≤ len → IsWord w → p < length w.signs → HasRoom counts n
+    → TookRoom counts (fold with_position counts (counted_in level len dot w p)) 1
 took_in counts level len dot w p n long word within room = by_test (fits w.signs p len dot) refl
   where
-    by_test : (a : Bool) → fits w.signs p len dot ≡ a → TookRoom counts (fold with_position counts (option_map_or (λ good. record { window = window w.signs p len dot; good = good; weight = position_weight w p } ∷ []) (cond (a && true) (Some (is_good level w p)) None) [])) 1
+    by_test : (a : Bool) → fits w.signs p len dot ≡ a → TookRoom counts
+        (fold with_position counts (option_map_or (λ good. record { window = window w.signs p len dot; good = good; weight = position_weight w p } ∷ [])
+        (cond (a && true) (Some (is_good level w p)) None) [])) 1
     by_test false is = took_none counts n 1 room
-    by_test true is = took_with counts (record { window = window w.signs p len dot; good = is_good level w p; weight = position_weight w p }) n room (window_filled w.signs p len dot long is) (weight_small w p word within)
+    by_test true is = took_with counts (record { window = window w.signs p len dot; good = is_good level w p; weight = position_weight w p }) n room
+        (window_filled w.signs p len dot long is) (weight_small w p word within)
 
 -- sums that are found are small
 pub found_small : (counts : Counts) (u : List ℕ) (n good bad : ℕ) → HasRoom counts n → Some (good, bad) ≡ find cmp u counts → (good < 2 ^ 40) × (bad < 2 ^ 40)
@@ -47,7 +52,8 @@ found_small counts u n good bad room is =
     (omega (arith, weight_found u counts, room.light), omega (arith, weight_found u counts, room.light))
 
 -- and so for a meaning that counts it
-pub took_entry : (m n : Meaning) (level len dot : ℕ) (w : Word) (p k : ℕ) → 1 ≤ len → IsWord w → p < length w.signs → HasRoom m.counts k → n ≡ meaning_after_counting m (counted_in level len dot w p) → TookRoom m.counts n.counts 1
+pub took_entry : (m n : Meaning) (level len dot : ℕ) (w : Word) (p k : ℕ) → 1 ≤ len → IsWord w → p < length w.signs → HasRoom m.counts k → n
+    ≡ meaning_after_counting m (counted_in level len dot w p) → TookRoom m.counts n.counts 1
 took_entry m n level len dot w p k long word within room is =
     subst (λ (cs : Counts). TookRoom m.counts cs 1) (ap (λ (x : Meaning). x.counts) (sym is)) (took_in m.counts level len dot w p k long word within room)
 
@@ -60,7 +66,8 @@ few_words (w ∷ words) all =
     omega (arith, sum_by-cons letter_count w words, word.long)
 
 -- the positions of one word more
-pub word_added : (m : Minima) (counts : Word → ℕ → Option Bool) (items more whole : List WordPosition) (words : List Word) (i : ℕ) (w : Word) → slice_get words i ≡ Some w → more ≡ items ++ listed_in m counts i w → items ++ listed_from m counts i (drop i words) ≡ whole
+pub word_added : (m : Minima) (counts : Word → ℕ → Option Bool) (items more whole : List WordPosition) (words : List Word) (i : ℕ) (w : Word)
+    → slice_get words i ≡ Some w → more ≡ items ++ listed_in m counts i w → items ++ listed_from m counts i (drop i words) ≡ whole
     → more ++ listed_from m counts (i + 1) (drop (i + 1) words) ≡ whole
 word_added m counts items more whole words i w at is left =
     ap (λ (es : List WordPosition). es ++ listed_from m counts (i + 1) (drop (i + 1) words)) is

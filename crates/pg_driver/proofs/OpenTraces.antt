@@ -20,11 +20,13 @@ use Rattle.pg_driver.specs.Inside.LevelCounting.{Carries}
 module _ (source : Source) (params : LevelParams) (known : Known) (pass : Pass) where
   -- the totals after it
   pub totals_on : IsUpTo pass.level known.patterns
-      → Carries (is_odd pass.level) (totals_by source known.patterns) (totals_by source (known_after (pass_made source params known pass)).patterns) (sum_by (λ c. c.good) (chosen_in (pass_made source params known pass))) (sum_by (λ c. c.bad) (chosen_in (pass_made source params known pass)))
+      → Carries (is_odd pass.level) (totals_by source known.patterns) (totals_by source (known_after (pass_made source params known pass)).patterns)
+      (sum_by (λ c. c.good) (chosen_in (pass_made source params known pass))) (sum_by (λ c. c.bad) (chosen_in (pass_made source params known pass)))
   totals_on upto = totals_after source.minima source.words pass known.patterns known.hopeless (λ c. is_chosen params c) upto
 
 -- passes raise no value above what their level and the values were up to
-up_to_made : (source : Source) (params : LevelParams) (n : ℕ) (known : Known) (passes : List Pass) → list_all (λ (p : Pass). nat_le p.level n) passes ≡ true → IsUpTo n known.patterns → IsUpTo n (known_at_end known (passes_made source params known passes)).patterns
+up_to_made : (source : Source) (params : LevelParams) (n : ℕ) (known : Known) (passes : List Pass) → list_all (λ (p : Pass). nat_le p.level n) passes
+    ≡ true → IsUpTo n known.patterns → IsUpTo n (known_at_end known (passes_made source params known passes)).patterns
 up_to_made source params n known [] all upto = upto
 up_to_made source params n known (pass ∷ passes) all upto =
     let parts = and_parts (nat_le pass.level n) (list_all (λ (p : Pass). nat_le p.level n) passes) all in
@@ -33,7 +35,8 @@ up_to_made source params n known (pass ∷ passes) all upto =
 
 -- and so does a level
 pub up_to_level : (source : Source) (params : LevelParams) (number n : ℕ) (P : Patterns) → number ≤ n → IsUpTo n P → IsUpTo n (patterns_after (level_made source P (number, params)))
-up_to_level source params number n P within upto = up_to_made source params n (at_start P) (passes_of number params) (all_flat (range_with_len params.pat_start (params.pat_finish + 1 - params.pat_start))) upto
+up_to_level source params number n P within upto = up_to_made source params n (at_start P) (passes_of number params)
+    (all_flat (range_with_len params.pat_start (params.pat_finish + 1 - params.pat_start))) upto
   where
     here : nat_le number n ≡ true
     here = le-leb number n within
@@ -45,8 +48,10 @@ up_to_level source params number n P within upto = up_to_made source params n (a
     all_flat : (lens : List ℕ) → list_all (λ (p : Pass). nat_le p.level n) (flat_map (λ (len : ℕ). map (λ dot. record { level = number; len = len; dot = dot }) (order len)) lens) ≡ true
     all_flat [] = refl
     all_flat (len ∷ lens) =
-        list_all-append (λ (p : Pass). nat_le p.level n) (map (λ dot. record { level = number; len = len; dot = dot }) (order len)) (flat_map (λ (l : ℕ). map (λ dot. record { level = number; len = l; dot = dot }) (order l)) lens)
-        ∙ and_from (list_all (λ (p : Pass). nat_le p.level n) (map (λ dot. record { level = number; len = len; dot = dot }) (order len))) (list_all (λ (p : Pass). nat_le p.level n) (flat_map (λ (l : ℕ). map (λ dot. record { level = number; len = l; dot = dot }) (order l)) lens)) (all_dots_of len (order len)) (all_flat lens)
+        list_all-append (λ (p : Pass). nat_le p.level n) (map (λ dot. record { level = number; len = len; dot = dot }) (order len))
+        (flat_map (λ (l : ℕ). map (λ dot. record { level = number; len = l; dot = dot }) (order l)) lens)
+        ∙ and_from (list_all (λ (p : Pass). nat_le p.level n) (map (λ dot. record { level = number; len = len; dot = dot }) (order len)))
+        (list_all (λ (p : Pass). nat_le p.level n) (flat_map (λ (l : ℕ). map (λ dot. record { level = number; len = l; dot = dot }) (order l)) lens)) (all_dots_of len (order len)) (all_flat lens)
 
 -- a level begins below the level, where no starting value is as great
 pub below_level : (greatest number : ℕ) (P : Patterns) → IsUpTo (max greatest (number - 1)) P → 1 ≤ number → greatest < number → IsBelow number P
@@ -54,7 +59,8 @@ below_level greatest number P upto first low =
     let next : number - 1 + 1 ≡ number = omega arith in
     subst (λ (n : ℕ). IsBelow n P) next (next_is_below (number - 1) P (up_to_more (max greatest (number - 1)) (number - 1) P (omega arith) upto))
 
-pub up_to_next : (source : Source) (params : LevelParams) (greatest number : ℕ) (P Q : Patterns) → Q ≡ patterns_after (level_made source P (number, params)) → IsUpTo (max greatest (number - 1)) P → IsUpTo (max greatest (number + 1 - 1)) Q
+pub up_to_next : (source : Source) (params : LevelParams) (greatest number : ℕ) (P Q : Patterns) → Q ≡ patterns_after (level_made source P (number, params))
+    → IsUpTo (max greatest (number - 1)) P → IsUpTo (max greatest (number + 1 - 1)) Q
 up_to_next source params greatest number P Q is upto =
     subst (λ (R : Patterns). IsUpTo (max greatest (number + 1 - 1)) R) (sym is)
     (up_to_level source params number (max greatest (number + 1 - 1)) P (omega arith) (up_to_more (max greatest (number - 1)) (max greatest (number + 1 - 1)) P (omega arith) upto))

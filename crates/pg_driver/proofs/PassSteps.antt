@@ -37,11 +37,13 @@ counted_pass t words pass m = meaning_after_counting (after_begin_pass m pass.le
 abbrev pub pass_in : Alphabet → List Word → LevelParams → Pass → Meaning → PassTrace
 pass_in t words params pass m = made_by (over t words) params m pass
 
-pub counts_are : (t : Alphabet) (words : List Word) (params : LevelParams) (pass : Pass) (m m2 : Meaning) → m2 ≡ counted_pass t words pass m → map candidate_of m2.counts ≡ (pass_in t words params pass m).candidates
+pub counts_are : (t : Alphabet) (words : List Word) (params : LevelParams) (pass : Pass) (m m2 : Meaning) → m2 ≡ counted_pass t words pass m
+    → map candidate_of m2.counts ≡ (pass_in t words params pass m).candidates
 counts_are t words params pass m m2 is = ap (λ (x : Meaning). map candidate_of x.counts) is ∙ sym (tally_is (seen_in t words pass m))
 
 -- the state after the pass
-pub pass_state : (t : Alphabet) (words : List Word) (params : LevelParams) (pass : Pass) (m m2 n : Meaning) → m2 ≡ counted_pass t words pass m → HasChosen params (map candidate_of m2.counts) m2 n → state_of n ≡ state_after m.signs m.families (pass_in t words params pass m)
+pub pass_state : (t : Alphabet) (words : List Word) (params : LevelParams) (pass : Pass) (m m2 n : Meaning) → m2 ≡ counted_pass t words pass m
+    → HasChosen params (map candidate_of m2.counts) m2 n → state_of n ≡ state_after m.signs m.families (pass_in t words params pass m)
 pass_state t words params pass m m2 n is has =
     has.state
     ∙ ap (λ (x : Meaning). state_with x.signs params x.pass (state_of x) (map candidate_of m2.counts)) is
@@ -64,7 +66,8 @@ record_with pass before n layout = record {
 
 -- the line of the pass
 line_is : (source : Source) (params : LevelParams) (pass : Pass) (m : Meaning) (before : Totals) (n : Choices) (layout : Option Layout)
-    → before ≡ totals_by source m.patterns → n ≡ with_candidates params no_choices (made_by source params m pass).candidates → line_of (record_with pass before n layout) ≡ pass_line source (made_by source params m pass)
+    → before ≡ totals_by source m.patterns → n ≡ with_candidates params no_choices (made_by source params m pass).candidates → line_of (record_with pass before n layout)
+    ≡ pass_line source (made_by source params m pass)
 line_is source params pass m before n layout totals numbers =
     let cs : List Candidate = (made_by source params m pass).candidates in
     let candidates : n.candidates ≡ length cs = ap (λ (x : Choices). x.candidates) numbers ∙ zero_plus (length cs) in
@@ -78,11 +81,13 @@ line_is source params pass m before n layout totals numbers =
 abbrev told : Pass → ℕ → ℕ → Option (Pass × ℕ × ℕ)
 told pass a b = let p : Pass × ℕ × ℕ = (pass, a, b) in Some p
 
-some_layout : (pass : Pass) (o : Option Families) (l : Layout) → MatchOption o ⊥ (λ fs. (l.taken ≡ taken_count fs) × (l.top ≡ top fs)) → told pass l.taken l.top ≡ option_map (λ fs. (pass, taken_count fs, top fs)) o
+some_layout : (pass : Pass) (o : Option Families) (l : Layout) → MatchOption o ⊥ (λ fs. (l.taken ≡ taken_count fs) × (l.top ≡ top fs)) → told pass l.taken l.top
+    ≡ option_map (λ fs. (pass, taken_count fs, top fs)) o
 some_layout pass None l is = absurd is
 some_layout pass (Some fs) l is = λ i. told pass (is.0 i) (is.1 i)
 
-layout_is : (pass : Pass) (before : Totals) (n : Choices) (m : Meaning) (o : Option Layout) → IsLayout m o → layout_told (record_with pass before n o) ≡ option_map (λ fs. (pass, taken_count fs, top fs)) m.families
+layout_is : (pass : Pass) (before : Totals) (n : Choices) (m : Meaning) (o : Option Layout) → IsLayout m o → layout_told (record_with pass before n o)
+    ≡ option_map (λ fs. (pass, taken_count fs, top fs)) m.families
 layout_is pass before n m None is = ap (option_map (λ fs. (pass, taken_count fs, top fs))) (sym is)
 layout_is pass before n m (Some l) is = some_layout pass m.families l is.0
 
@@ -91,7 +96,8 @@ begun_kept params cs old new has = ap (λ (x : Meaning). x.begun) has.kept
 
 -- a pass that an engine counted and chose among
 pub did_pass : (t : Alphabet) (words : List Word) (params : LevelParams) (pass : Pass) (m m2 n : Meaning) (before : Totals) (numbers : Choices) (layout : Option Layout)
-    → m2 ≡ counted_pass t words pass m → before ≡ totals_by (over t words) m.patterns → HasChosen params (map candidate_of m2.counts) m2 n → numbers ≡ with_candidates params no_choices (map candidate_of m2.counts) → IsLayout n layout
+    → m2 ≡ counted_pass t words pass m → before ≡ totals_by (over t words) m.patterns → HasChosen params (map candidate_of m2.counts) m2 n → numbers
+    ≡ with_candidates params no_choices (map candidate_of m2.counts) → IsLayout n layout
     → DidPass (over t words) params pass m n (record_with pass before numbers layout)
 did_pass t words params pass m m2 n before numbers layout counted totals has chosen tells = record {
   state = pass_state t words params pass m m2 n counted has;
@@ -101,12 +107,15 @@ did_pass t words params pass m m2 n before numbers layout counted totals has cho
 }
 
 -- an engine that counted what a pass counts, and then chose
-pub counted_as : (t : Alphabet) (words : List Word) (pass : Pass) (m m1 m2 : Meaning) → m1 ≡ after_begin_pass m pass.level pass.len pass.dot → m2 ≡ meaning_after_counting m1 (counted_positions (minima_of t) words pass m1.patterns m1.hopeless) → m2 ≡ counted_pass t words pass m
+pub counted_as : (t : Alphabet) (words : List Word) (pass : Pass) (m m1 m2 : Meaning) → m1 ≡ after_begin_pass m pass.level pass.len pass.dot → m2
+    ≡ meaning_after_counting m1 (counted_positions (minima_of t) words pass m1.patterns m1.hopeless) → m2 ≡ counted_pass t words pass m
 counted_as t words pass m m1 m2 begins counts = counts ∙ ap (λ (x : Meaning). meaning_after_counting x (counted_positions (minima_of t) words pass x.patterns x.hopeless)) begins
 
-pub counts_kept : (t : Alphabet) (words : List Word) (params : LevelParams) (pass : Pass) (m m2 n : Meaning) → m2 ≡ counted_pass t words pass m → HasChosen params (map candidate_of m2.counts) m2 n → n.counts ≡ fold with_position [] (seen_in t words pass m)
+pub counts_kept : (t : Alphabet) (words : List Word) (params : LevelParams) (pass : Pass) (m m2 n : Meaning) → m2 ≡ counted_pass t words pass m
+    → HasChosen params (map candidate_of m2.counts) m2 n → n.counts ≡ fold with_position [] (seen_in t words pass m)
 counts_kept t words params pass m m2 n counted has = ap (λ (x : Meaning). x.counts) has.kept ∙ ap (λ (x : Meaning). x.counts) counted
 
-pub numbers_are : (t : Alphabet) (words : List Word) (params : LevelParams) (pass : Pass) (m m2 : Meaning) (numbers : Choices) → m2 ≡ counted_pass t words pass m → numbers ≡ with_candidates params no_choices (map candidate_of m2.counts)
+pub numbers_are : (t : Alphabet) (words : List Word) (params : LevelParams) (pass : Pass) (m m2 : Meaning) (numbers : Choices) → m2 ≡ counted_pass t words pass m
+    → numbers ≡ with_candidates params no_choices (map candidate_of m2.counts)
     → numbers ≡ with_candidates params no_choices (pass_in t words params pass m).candidates
 numbers_are t words params pass m m2 numbers counted is = is ∙ ap (λ (cs : List Candidate). with_candidates params no_choices cs) (counts_are t words params pass m m2 counted)

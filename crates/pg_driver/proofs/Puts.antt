@@ -38,7 +38,8 @@ weight_found u (e ∷ es) =
     ]
 
 -- sums that grow by n at one window
-pub weight_put : (u : List ℕ) (v : ℕ × ℕ) (n : ℕ) (counts : Counts) → T (is_sorted cmp counts) → v.0 + v.1 ≡ (sums_of counts u).0 + (sums_of counts u).1 + n → weight_in (put cmp u v counts) ≡ weight_in counts + n
+pub weight_put : (u : List ℕ) (v : ℕ × ℕ) (n : ℕ) (counts : Counts) → T (is_sorted cmp counts) → v.0 + v.1 ≡ (sums_of counts u).0 + (sums_of counts u).1 + n
+    → weight_in (put cmp u v counts) ≡ weight_in counts + n
 weight_put u v n [] sorted more = omega (arith, sum_by-cons entry_weight (u, v) [])
 weight_put u v n (e ∷ es) sorted more =
     elim (cmp u e.0) as (λ (r : Ordering). cmp u e.0 ≡ r → weight_in (by_order r ((u, v) ∷ e ∷ es) ((e.0, v) ∷ es) (e ∷ put cmp u v es)) ≡ weight_in (e ∷ es) + n) [

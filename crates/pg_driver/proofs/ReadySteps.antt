@@ -37,43 +37,53 @@ use Rattle.pg_driver.proofs.WordLevels.{words_after, words_can_move, words_place
 
 -- where a level begins
 pub ready_at_start : (source : Source) (level len : ℕ) (m : Meaning) (o : OpenLevel) → m.hopeless ≡ [] → IsBelow level m.patterns → IsBounded source
-    → sign_count source.words ≤ position_count o.dots → ((d n p : ℕ) (w : Word) → slice_get source.words n ≡ Some w → p < length w.signs → is_closed o.dots d (start_of source.words n + p) ≡ not (is_open_first source.minima level m.patterns w p))
+    → sign_count source.words ≤ position_count o.dots → ((d n p : ℕ) (w : Word) → slice_get source.words n ≡ Some w → p < length w.signs
+    → is_closed o.dots d (start_of source.words n + p) ≡ not (is_open_first source.minima level m.patterns w p))
     → o.totals ≡ totals_by source m.patterns → IsOpenAt source level len (known_of m) o
 ready_at_start source level len m o none below bounded size are totals = record {
   bounded = bounded;
   size = size;
-  dots = subst (λ (H : Hopeless). IsThere level len source.minima source.words m.patterns H (is_closed o.dots)) (sym none) (there_first level len source.minima source.words m.patterns (is_closed o.dots) below are);
+  dots = subst (λ (H : Hopeless). IsThere level len source.minima source.words m.patterns H (is_closed o.dots)) (sym none)
+      (there_first level len source.minima source.words m.patterns (is_closed o.dots) below are);
   totals = totals;
 }
 
 module _ (source : Source) (level len : ℕ) (known : Known) (o : OpenLevel) (ready : IsOpenAt source level len known o) where
   pub has_room : (counts : Counts) (dot : ℕ) → counts ≡ [] → len ≤ LENGTH_MAX → dot ≤ len → HasRoom counts (length (open_signs (is_closed o.dots dot) 0 (sign_count source.words)))
   has_room counts dot none short within =
-      let some : length (open_signs (is_closed o.dots dot) 0 (sign_count source.words)) ≤ sum_by letter_count source.words = few_there level len dot source.minima source.words known.patterns known.hopeless (is_closed o.dots) short within ready.bounded.reached ready.dots in
+      let some : length (open_signs (is_closed o.dots dot) 0 (sign_count source.words)) ≤ sum_by letter_count source.words =
+      few_there level len dot source.minima source.words known.patterns known.hopeless (is_closed o.dots) short within ready.bounded.reached ready.dots in
       let letters : sum_by letter_count source.words ≤ FILE_MAX = ready.bounded.few.letters in
-      subst (λ (cs : Counts). HasRoom cs (length (open_signs (is_closed o.dots dot) 0 (sign_count source.words)))) (sym none) (room_none (length (open_signs (is_closed o.dots dot) 0 (sign_count source.words))) (omega arith))
+      subst (λ (cs : Counts). HasRoom cs (length (open_signs (is_closed o.dots dot) 0 (sign_count source.words)))) (sym none)
+      (room_none (length (open_signs (is_closed o.dots dot) 0 (sign_count source.words))) (omega arith))
 
-  pub counts_all : (dot : ℕ) → len ≤ LENGTH_MAX → dot ≤ len → flat_map (counted_of level len dot source.words) (open_word_positions (is_closed o.dots dot) source.words) ≡ counted_positions source.minima source.words (record { level = level; len = len; dot = dot }) known.patterns known.hopeless
+  pub counts_all : (dot : ℕ) → len ≤ LENGTH_MAX → dot ≤ len → flat_map (counted_of level len dot source.words) (open_word_positions (is_closed o.dots dot) source.words)
+      ≡ counted_positions source.minima source.words (record { level = level; len = len; dot = dot }) known.patterns known.hopeless
   counts_all dot short within = sym (counted_there level len dot source.minima source.words known.patterns known.hopeless (is_closed o.dots) short within ready.dots)
 
   pub is_small : IsSmall o.totals
   is_small = subst IsSmall (sym ready.totals) (totals_are_small source known.patterns ready.bounded)
 
   -- at the next length
-  pub ready_longer : (p : OpenLevel) → position_count p.dots ≡ position_count o.dots → ((d j : ℕ) → d ≤ LENGTH_MAX → j < position_count o.dots → is_closed p.dots d j ≡ (is_closed o.dots d j || (nat_le 1 d && is_closed o.dots (d - 1) j))) → p.totals ≡ o.totals → IsOpenAt source level (len + 1) known p
+  pub ready_longer : (p : OpenLevel) → position_count p.dots ≡ position_count o.dots
+      → ((d j : ℕ) → d ≤ LENGTH_MAX → j < position_count o.dots → is_closed p.dots d j ≡ (is_closed o.dots d j || (nat_le 1 d && is_closed o.dots (d - 1) j)))
+      → p.totals ≡ o.totals → IsOpenAt source level (len + 1) known p
   ready_longer p wide are totals = record {
     bounded = ready.bounded;
     size = (let size = ready.size in omega arith);
-    dots = there_longer level len source.minima source.words known.patterns known.hopeless (is_closed o.dots) (is_closed p.dots) (λ d s within low. are d s within (let size = ready.size in omega arith)) ready.dots;
+    dots = there_longer level len source.minima source.words known.patterns known.hopeless (is_closed o.dots) (is_closed p.dots)
+        (λ d s within low. are d s within (let size = ready.size in omega arith)) ready.dots;
     totals = totals ∙ ready.totals;
   }
 
   -- where the same dots are closed
-  pub ready_same : (p : OpenLevel) → position_count p.dots ≡ position_count o.dots → ((d j : ℕ) → j < position_count o.dots → is_closed p.dots d j ≡ is_closed o.dots d j) → p.totals ≡ o.totals → IsOpenAt source level len known p
+  pub ready_same : (p : OpenLevel) → position_count p.dots ≡ position_count o.dots → ((d j : ℕ) → j < position_count o.dots → is_closed p.dots d j ≡ is_closed o.dots d j)
+      → p.totals ≡ o.totals → IsOpenAt source level len known p
   ready_same p wide are totals = record {
     bounded = ready.bounded;
     size = (let size = ready.size in omega arith);
-    dots = there_same level len source.minima source.words known.patterns known.hopeless (is_closed o.dots) (is_closed p.dots) (λ d s within low. are d s (let size = ready.size in omega arith)) ready.dots;
+    dots = there_same level len source.minima source.words known.patterns known.hopeless (is_closed o.dots) (is_closed p.dots)
+        (λ d s within low. are d s (let size = ready.size in omega arith)) ready.dots;
     totals = totals ∙ ready.totals;
   }
 
@@ -116,7 +126,8 @@ module _ (source : Source) (params : LevelParams) (known : Known) (pass : Pass) 
     carries =
         subst (λ (g : ℕ). Carries (is_odd pass.level) o.totals (totals_by source (known_after made).patterns) g n.bad) (sym of.good)
         (subst (λ (b : ℕ). Carries (is_odd pass.level) o.totals (totals_by source (known_after made).patterns) (sum_by (λ (c : Candidate). c.good) (chosen_in made)) b) (sym of.bad)
-        (subst (λ (t : Totals). Carries (is_odd pass.level) t (totals_by source (known_after made).patterns) (sum_by (λ (c : Candidate). c.good) (chosen_in made)) (sum_by (λ (c : Candidate). c.bad) (chosen_in made))) (sym ready.totals)
+        (subst (λ (t : Totals). Carries (is_odd pass.level) t (totals_by source (known_after made).patterns) (sum_by (λ (c : Candidate). c.good) (chosen_in made))
+        (sum_by (λ (c : Candidate). c.bad) (chosen_in made))) (sym ready.totals)
         (totals_on source params known pass ready.dots.upto)))
 
     can_carry : CanCarry (is_odd pass.level) o.totals n.good n.bad
@@ -129,7 +140,8 @@ module _ (source : Source) (params : LevelParams) (known : Known) (pass : Pass) 
           within = carried_within (is_odd pass.level) o.totals (totals_by source (known_after made).patterns) n.good n.bad carries;
         }
 
-    open_after : (counts : Counts) (p : OpenLevel) → pass.dot ≤ LENGTH_MAX → counts ≡ fold with_position [] (counted_positions source.minima source.words pass known.patterns known.hopeless) → IsAfterPass params pass counts source.words n o p
+    open_after : (counts : Counts) (p : OpenLevel) → pass.dot ≤ LENGTH_MAX → counts ≡ fold with_position [] (counted_positions source.minima source.words pass known.patterns known.hopeless)
+        → IsAfterPass params pass counts source.words n o p
         → IsOpenAt source pass.level pass.len (known_after made) p
     open_after counts p low counted is = record {
       bounded = ready.bounded;
@@ -138,11 +150,13 @@ module _ (source : Source) (params : LevelParams) (known : Known) (pass : Pass) 
       totals = carried_same (is_odd pass.level) o.totals p.totals (totals_by source (known_after made).patterns) n.good n.bad is.totals carries;
     }
 
-  pub can_go_on : (counts : Counts) (c : Counting) → AreOf → IsCounted c → counts ≡ fold with_position [] (counted_positions source.minima source.words pass known.patterns known.hopeless) → IsReady source pass.level pass.len known c → CanGoOn params pass counts source.words n c
+  pub can_go_on : (counts : Counts) (c : Counting) → AreOf → IsCounted c → counts ≡ fold with_position [] (counted_positions source.minima source.words pass known.patterns known.hopeless)
+      → IsReady source pass.level pass.len known c → CanGoOn params pass counts source.words n c
   can_go_on counts (Open o) of begun counted ready = can_carry o of ready
   can_go_on counts (EachWord e) of begun counted ready = words_can_move source params known pass n counts e ready begun counted of.good of.bad
 
-  pub ready_after : (counts : Counts) (c d : Counting) → AreOf → IsCounted c → pass.dot ≤ LENGTH_MAX → counts ≡ fold with_position [] (counted_positions source.minima source.words pass known.patterns known.hopeless) → GoesOnAfter params pass counts source.words n c d
+  pub ready_after : (counts : Counts) (c d : Counting) → AreOf → IsCounted c → pass.dot ≤ LENGTH_MAX → counts
+      ≡ fold with_position [] (counted_positions source.minima source.words pass known.patterns known.hopeless) → GoesOnAfter params pass counts source.words n c d
       → IsReady source pass.level pass.len known c → IsReady source pass.level pass.len (known_after made) d
   ready_after counts (Open o) (Open p) of begun low counted on ready = open_after o of ready counts p low counted on
   ready_after counts (Open o) (EachWord f) of begun low counted on ready = absurd on

@@ -57,7 +57,8 @@ none_more os ys zs more is none = is ∙ ap (λ xs. ys ++ xs) (sym (append-nil z
 
 -- a pass that was skipped
 pub recorded_none : (source : Source) (signs : ℕ) (families : Option Families) (ps : List PassTrace) (q : PassTrace) (old new : Recorded)
-    → q.candidates ≡ [] → list_all (λ p. nat_le p.pass.len q.pass.len) ps ≡ true → is_skippable ps q.pass ≡ true → AreRecorded source signs families ps old new → AreRecorded source signs families (ps ++ q ∷ []) old new
+    → q.candidates ≡ [] → list_all (λ p. nat_le p.pass.len q.pass.len) ps ≡ true → is_skippable ps q.pass ≡ true → AreRecorded source signs families ps old new
+    → AreRecorded source signs families (ps ++ q ∷ []) old new
 recorded_none source signs families ps q old new none short begun before =
     let no : has_candidate q ≡ false = ap (λ (cs : List Candidate). nat_lt 0 (length cs)) none in
     record {

@@ -74,12 +74,16 @@ window_filled w p len d long fit =
     filled (window w p len d) (omega (arith, length-take len (drop (p - d) w), length-drop (p - d) w))
 
 -- what a pass counts at a position takes the room of one
-pub took_position : (counts : Counts) (pass : Pass) (P : List ((List ℕ × ℕ) × ℕ)) (H : Hopeless) (w : Word) (p n : ℕ) → 1 ≤ pass.len → IsWord w → p < length w.signs → HasRoom counts n → TookRoom counts (fold with_position counts (counted_positions_at pass P H w p)) 1
+pub took_position : (counts : Counts) (pass : Pass) (P : List ((List ℕ × ℕ) × ℕ)) (H : Hopeless) (w : Word) (p n : ℕ) → 1 ≤ pass.len → IsWord w
+    → p < length w.signs → HasRoom counts n → TookRoom counts (fold with_position counts (counted_positions_at pass P H w p)) 1
 took_position counts pass P H w p n long word within room =
     by_test (fits w.signs p pass.len pass.dot) (not (is_covered pass.level P H (window w.signs p pass.len pass.dot) pass.dot)) (counts_as pass.level (status_at P w p)) refl
   where
-    by_test : (a b : Bool) (o : Option Bool) → fits w.signs p pass.len pass.dot ≡ a → TookRoom counts (fold with_position counts (option_map_or (λ good. record { window = window w.signs p pass.len pass.dot; good = good; weight = position_weight w p } ∷ []) (cond (a && b) o None) [])) 1
+    by_test : (a b : Bool) (o : Option Bool) → fits w.signs p pass.len pass.dot ≡ a
+        → TookRoom counts (fold with_position counts (option_map_or (λ good. record { window = window w.signs p pass.len pass.dot; good = good; weight = position_weight w p } ∷ [])
+        (cond (a && b) o None) [])) 1
     by_test false b o is = took_none counts n 1 room
     by_test true false o is = took_none counts n 1 room
     by_test true true None is = took_none counts n 1 room
-    by_test true true (Some good) is = took_with counts (record { window = window w.signs p pass.len pass.dot; good = good; weight = position_weight w p }) n room (window_filled w.signs p pass.len pass.dot long is) (weight_small w p word within)
+    by_test true true (Some good) is = took_with counts (record { window = window w.signs p pass.len pass.dot; good = good; weight = position_weight w p }) n room
+        (window_filled w.signs p pass.len pass.dot long is) (weight_small w p word within)

@@ -35,7 +35,8 @@ none_told layout f (r ∷ rs) (x ∷ xs) is =
 abbrev some_layout : Layout → Option Layout
 some_layout l = Some l
 
-first_layout : (P : Patterns) (o : Option Families) (l : Layout) → MatchOption o ⊥ (λ fs. (l.taken ≡ taken_count fs) × (l.top ≡ top fs)) → l.tails ≡ tails P → some_layout l ≡ option_map (λ fs. layout_of fs P) o
+first_layout : (P : Patterns) (o : Option Families) (l : Layout) → MatchOption o ⊥ (λ fs. (l.taken ≡ taken_count fs) × (l.top ≡ top fs)) → l.tails
+    ≡ tails P → some_layout l ≡ option_map (λ fs. layout_of fs P) o
 first_layout P None l is of_tails = absurd is
 first_layout P (Some fs) l is of_tails = λ i. some_layout (record { taken = is.0 i; top = is.1 i; tails = of_tails i })
 
@@ -54,12 +55,16 @@ module _ (source : Source) (run : Trace) (m n : Meaning) (r : Recorded) (P : Pat
       let sum : totals ≡ totals_by source (final_patterns m.patterns run) = sums ∙ ap (λ s. totals_by source s.known.patterns) did.state in
       λ i. record { passes = did.lines i; levels = did.levels i; totals = sum i }
 
-  cells_told : (o : Option Families) → first ≡ option_map (λ fs. layout_of fs m.patterns) o → map layout_told r.passes ≡ run_layouts m.signs o run → map level_layout_told r.levels ≡ level_layouts m.signs o run
+  cells_told : (o : Option Families) → first ≡ option_map (λ fs. layout_of fs m.patterns) o → map layout_told r.passes ≡ run_layouts m.signs o run
+      → map level_layout_told r.levels ≡ level_layouts m.signs o run
       → TellsCells (option_map (λ fs. cells_account m.signs fs m.patterns run) o) told_run
   cells_told None start passes levels =
       let in_pass : PassRecord → Layout → Pass × ℕ × ℕ = λ r l. (record { level = r.level; len = r.len; dot = r.dot }, l.taken, l.top) in
-      let in_level : LevelRecord → Layout → ℕ × Layout = λ r l. (r.level, l) in
-      (start, none_told (λ (r : PassRecord). r.layout) in_pass r.passes (flat_map (λ (l : LevelTrace). filter has_candidate l.passes) run) passes, none_told (λ (r : LevelRecord). r.layout) in_level r.levels run levels)
+      let in_level : LevelRecord → Layout → ℕ × Layout = λ r l. (r.level, l) in (
+        start,
+        none_told (λ (r : PassRecord). r.layout) in_pass r.passes (flat_map (λ (l : LevelTrace). filter has_candidate l.passes) run) passes,
+        none_told (λ (r : LevelRecord). r.layout) in_level r.levels run levels,
+      )
   cells_told (Some fs) start passes levels = (start, passes, levels)
 
   pub told_cells : IsLayout m first → m.tidy ≡ true → TellsCells (option_map (λ fs. cells_account m.signs fs m.patterns run) m.families) told_run

@@ -119,7 +119,12 @@ two_levels = told three_words levels_1_and_2 []
 two_levels_patterns : patterns three_words levels_1_and_2 [] ≡ ((2 ∷ 3 ∷ [], 1), 1) ∷ ((4 ∷ 2 ∷ 3 ∷ [], 2), 2) ∷ []
 two_levels_patterns = refl
 
-two_levels_passes : pass_numbers two_levels ≡ ((1, 2, 1), sums 0 0 2, (2, 1, 1), (2, 1)) ∷ ((1, 2, 0), sums 2 1 0, (1, 0, 1), (0, 0)) ∷ ((1, 2, 2), sums 2 1 0, (1, 0, 1), (0, 0)) ∷ ((2, 3, 1), sums 2 1 0, (1, 0, 0), (0, 0)) ∷ ((2, 3, 2), sums 2 1 0, (2, 1, 1), (1, 0)) ∷ []
+two_levels_passes : pass_numbers two_levels ≡ ((1, 2, 1), sums 0 0 2, (2, 1, 1), (2, 1)) ∷ ((1, 2, 0), sums 2 1 0, (1, 0, 1), (0, 0)) ∷ (
+  (1, 2, 2),
+  sums 2 1 0,
+  (1, 0, 1),
+  (0, 0),
+) ∷ ((2, 3, 1), sums 2 1 0, (1, 0, 0), (0, 0)) ∷ ((2, 3, 2), sums 2 1 0, (2, 1, 1), (1, 0)) ∷ []
 two_levels_passes = refl
 
 two_levels_levels : map level_numbers two_levels.levels ≡ (1, 1, sums 2 1 0) ∷ (2, 1, sums 2 0 0) ∷ []
@@ -127,14 +132,28 @@ two_levels_levels = refl
 
 -- ab-0c: a position of weight 0 gives candidates
 abbrev weight_0 : Account
-weight_0 = told (record { signs = 1 ∷ 2 ∷ 3 ∷ 4 ∷ 1 ∷ []; hyphens = false ∷ false ∷ false ∷ true ∷ false ∷ []; weights = 1 ∷ 1 ∷ 1 ∷ 0 ∷ 1 ∷ []; cares = true ∷ true ∷ true ∷ true ∷ true ∷ []; weight = 1 } ∷ []) (one_level (level 2 2 1 1 1)) []
+weight_0 = told (record {
+  signs = 1 ∷ 2 ∷ 3 ∷ 4 ∷ 1 ∷ [];
+  hyphens = false ∷ false ∷ false ∷ true ∷ false ∷ [];
+  weights = 1 ∷ 1 ∷ 1 ∷ 0 ∷ 1 ∷ [];
+  cares =
+      true ∷ true ∷ true ∷ true ∷ true ∷ [];
+  weight = 1;
+} ∷ []) (one_level (level 2 2 1 1 1)) []
 
 weight_0_passes : pass_numbers weight_0 ≡ ((1, 2, 1), sums 0 0 0, (2, 0, 2), (0, 0)) ∷ ((1, 2, 0), sums 0 0 0, (2, 0, 2), (0, 0)) ∷ ((1, 2, 2), sums 0 0 0, (2, 0, 2), (0, 0)) ∷ []
 weight_0_passes = refl
 
 -- ab?c and ab-a: a don't-care position counts nowhere
 abbrev with_dont_care : List Word
-with_dont_care = record { signs = 1 ∷ 2 ∷ 3 ∷ 4 ∷ 1 ∷ []; hyphens = false ∷ false ∷ false ∷ false ∷ false ∷ []; weights = 1 ∷ 1 ∷ 1 ∷ 1 ∷ 1 ∷ []; cares = true ∷ true ∷ true ∷ false ∷ true ∷ []; weight = 1 } ∷ word (1 ∷ 2 ∷ 3 ∷ 2 ∷ 1 ∷ []) (false ∷ false ∷ false ∷ true ∷ false ∷ []) ∷ []
+with_dont_care = record {
+  signs = 1 ∷ 2 ∷ 3 ∷ 4 ∷ 1 ∷ [];
+  hyphens = false ∷ false ∷ false ∷ false ∷ false ∷ [];
+  weights = 1 ∷ 1 ∷ 1 ∷ 1 ∷ 1 ∷ [];
+  cares =
+      true ∷ true ∷ true ∷ false ∷ true ∷ [];
+  weight = 1;
+} ∷ word (1 ∷ 2 ∷ 3 ∷ 2 ∷ 1 ∷ []) (false ∷ false ∷ false ∷ true ∷ false ∷ []) ∷ []
 
 abbrev dont_care : Account
 dont_care = told with_dont_care (one_level (level 2 2 1 1 1)) []
@@ -194,5 +213,6 @@ starting_values_levels : map level_numbers (told four_words levels_1_to_3 starti
 starting_values_levels = refl
 
 -- the orders of the dots
-orders : map order (1 ∷ 2 ∷ 3 ∷ 4 ∷ 5 ∷ 6 ∷ 7 ∷ []) ≡ (0 ∷ 1 ∷ []) ∷ (1 ∷ 0 ∷ 2 ∷ []) ∷ (1 ∷ 2 ∷ 0 ∷ 3 ∷ []) ∷ (2 ∷ 1 ∷ 3 ∷ 0 ∷ 4 ∷ []) ∷ (2 ∷ 3 ∷ 1 ∷ 4 ∷ 0 ∷ 5 ∷ []) ∷ (3 ∷ 2 ∷ 4 ∷ 1 ∷ 5 ∷ 0 ∷ 6 ∷ []) ∷ (3 ∷ 4 ∷ 2 ∷ 5 ∷ 1 ∷ 6 ∷ 0 ∷ 7 ∷ []) ∷ []
+orders : map order (1 ∷ 2 ∷ 3 ∷ 4 ∷ 5 ∷ 6 ∷ 7 ∷ [])
+    ≡ (0 ∷ 1 ∷ []) ∷ (1 ∷ 0 ∷ 2 ∷ []) ∷ (1 ∷ 2 ∷ 0 ∷ 3 ∷ []) ∷ (2 ∷ 1 ∷ 3 ∷ 0 ∷ 4 ∷ []) ∷ (2 ∷ 3 ∷ 1 ∷ 4 ∷ 0 ∷ 5 ∷ []) ∷ (3 ∷ 2 ∷ 4 ∷ 1 ∷ 5 ∷ 0 ∷ 6 ∷ []) ∷ (3 ∷ 4 ∷ 2 ∷ 5 ∷ 1 ∷ 6 ∷ 0 ∷ 7 ∷ []) ∷ []
 orders = refl

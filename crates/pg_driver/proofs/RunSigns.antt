@@ -104,7 +104,8 @@ module _ (n : ℕ) (source : Source) (params : LevelParams) (words : SignsAtMost
       low_passes (known_after made) passes (low_raised pass.level pass.dot known.patterns (chosen_in made) (low_chosen known pass) low)
 
 -- and through the levels
-low_levels : (n : ℕ) (source : Source) (words : SignsAtMost n source.words) (P : Patterns) (levels : List (ℕ × LevelParams)) → are_low n P ≡ true → are_low n (final_patterns P (levels_made source P levels)) ≡ true
+low_levels : (n : ℕ) (source : Source) (words : SignsAtMost n source.words) (P : Patterns) (levels : List (ℕ × LevelParams)) → are_low n P ≡ true
+    → are_low n (final_patterns P (levels_made source P levels)) ≡ true
 low_levels n source words P [] low = low
 low_levels n source words P (level ∷ levels) low =
     low_levels n source words (patterns_after (level_made source P level)) levels (low_passes n source level.1 words (at_start P) (passes_of level.0 level.1) low)

@@ -28,7 +28,8 @@ use Rattle.pg_driver.proofs.Numbers.{plus_zero, zero_plus}
 use Rattle.pg_driver.proofs.WordSteps.{drop_place}
 
 -- the end of a level
-families_end : (signs : ℕ) (l : LevelTrace) (P : Patterns) (o fo : Option Families) → P ≡ patterns_after l → o ≡ option_map (λ fs. after_passes signs fs l.passes) fo → option_map (kept_families (strings_in P)) o ≡ option_map (λ fs. after_level signs fs l) fo
+families_end : (signs : ℕ) (l : LevelTrace) (P : Patterns) (o fo : Option Families) → P ≡ patterns_after l → o ≡ option_map (λ fs. after_passes signs fs l.passes) fo
+    → option_map (kept_families (strings_in P)) o ≡ option_map (λ fs. after_level signs fs l) fo
 families_end signs l P o fo patterns families = ap (λ (Q : Patterns). option_map (kept_families (strings_in Q)) o) patterns ∙ ap (option_map (at_level_end l)) families ∙ composed fo
   where
     composed : (fo : Option Families) → option_map (at_level_end l) (option_map (λ fs. after_passes signs fs l.passes) fo) ≡ option_map (λ fs. after_level signs fs l) fo
@@ -38,16 +39,19 @@ families_end signs l P o fo patterns families = ap (λ (Q : Patterns). option_ma
 abbrev told : ℕ → Layout → Option (ℕ × Layout)
 told number l = let p : ℕ × Layout = (number, l) in Some p
 
-some_layout : (number : ℕ) (P : Patterns) (o : Option Families) (l : Layout) → MatchOption o ⊥ (λ fs. (l.taken ≡ taken_count fs) × (l.top ≡ top fs)) → l.tails ≡ tails P → told number l ≡ option_map (λ fs. (number, layout_of fs P)) o
+some_layout : (number : ℕ) (P : Patterns) (o : Option Families) (l : Layout) → MatchOption o ⊥ (λ fs. (l.taken ≡ taken_count fs) × (l.top ≡ top fs))
+    → l.tails ≡ tails P → told number l ≡ option_map (λ fs. (number, layout_of fs P)) o
 some_layout number P None l is of_tails = absurd is
 some_layout number P (Some fs) l is of_tails = λ i. told number (record { taken = is.0 i; top = is.1 i; tails = of_tails i })
 
 -- the layout that a tidy engine tells
-pub layout_is : (number : ℕ) (n : Meaning) (o : Option Layout) → IsLayout n o → n.tidy ≡ true → option_map {U = ℕ × Layout} (λ l. (number, l)) o ≡ option_map (λ fs. (number, layout_of fs n.patterns)) n.families
+pub layout_is : (number : ℕ) (n : Meaning) (o : Option Layout) → IsLayout n o → n.tidy ≡ true → option_map {U = ℕ × Layout} (λ l. (number, l)) o
+    ≡ option_map (λ fs. (number, layout_of fs n.patterns)) n.families
 layout_is number n None is tidy = ap (option_map (λ fs. (number, layout_of fs n.patterns))) (sym is)
 layout_is number n (Some l) is tidy = some_layout number n.patterns n.families l is.0 (is.1 tidy)
 
-both_maps : (signs number : ℕ) (l : LevelTrace) (P : Patterns) (o : Option Families) → l.number ≡ number → P ≡ patterns_after l → option_map (λ fs. (number, layout_of fs P)) (option_map (λ fs. after_level signs fs l) o) ≡ option_map (λ fs. level_layout signs fs l) o
+both_maps : (signs number : ℕ) (l : LevelTrace) (P : Patterns) (o : Option Families) → l.number ≡ number → P ≡ patterns_after l
+    → option_map (λ fs. (number, layout_of fs P)) (option_map (λ fs. after_level signs fs l) o) ≡ option_map (λ fs. level_layout signs fs l) o
 both_maps signs number l P None same patterns = refl
 both_maps signs number l P (Some fs) same patterns = λ i. let p : ℕ × Layout = (sym same i, layout_of (after_level signs fs l) (patterns i)) in Some p
 
@@ -63,19 +67,23 @@ module _ (source : Source) (number : ℕ) (params : LevelParams) (m0 m n : Meani
   same_passes = ap (λ (H : HopelessPlaces). passes_made source params (record { patterns = m0.patterns; hopeless = H }) (passes_of number params)) none
 
   same_known : known_at_end (known_of m0) passes ≡ known_at_end (at_start m0.patterns) level.passes
-  same_known = ap (λ (H : HopelessPlaces). known_at_end (record { patterns = m0.patterns; hopeless = H }) (passes_made source params (record { patterns = m0.patterns; hopeless = H }) (passes_of number params))) none
+  same_known = ap (λ (H : HopelessPlaces). known_at_end (record { patterns = m0.patterns; hopeless = H })
+      (passes_made source params (record { patterns = m0.patterns; hopeless = H }) (passes_of number params))) none
 
   patterns_end : state_of m ≡ state_at_end m0.signs (state_of m0) passes → m.patterns ≡ patterns_after level
   patterns_end state = ap (λ (x : State). x.known.patterns) state ∙ ap (λ (k : Known). k.patterns) same_known
 
   -- a level that was done
-  pub did_level : state_of m ≡ state_at_end m0.signs (state_of m0) passes → AreRecorded source m0.signs m0.families passes r0 r → r0.chosen ≡ 0 → n ≡ after_end_level m → totals ≡ totals_by source n.patterns → IsLayout n layout → s ≡ with_level r number totals layout
+  pub did_level : state_of m ≡ state_at_end m0.signs (state_of m0) passes → AreRecorded source m0.signs m0.families passes r0 r → r0.chosen ≡ 0 → n
+      ≡ after_end_level m → totals ≡ totals_by source n.patterns → IsLayout n layout → s ≡ with_level r number totals layout
       → DidLevel source level m0 n r0 s
   did_level state records chosen ends sums tells is =
       let patterns : m.patterns ≡ patterns_after level = patterns_end state in
       let after : n.patterns ≡ patterns_after level = ap (λ (x : Meaning). x.patterns) ends ∙ patterns in
-      let entered : m.families ≡ option_map (λ fs. after_passes m0.signs fs level.passes) m0.families = ap (λ (x : State). x.families) state ∙ ap (λ (ps : List PassTrace). option_map (λ fs. after_passes m0.signs fs ps) m0.families) same_passes in
-      let families : n.families ≡ option_map (λ fs. after_level m0.signs fs level) m0.families = ap (λ (x : Meaning). x.families) ends ∙ families_end m0.signs level m.patterns m.families m0.families patterns entered in
+      let entered : m.families ≡ option_map (λ fs. after_passes m0.signs fs level.passes) m0.families = ap (λ (x : State). x.families) state
+      ∙ ap (λ (ps : List PassTrace). option_map (λ fs. after_passes m0.signs fs ps) m0.families) same_passes in
+      let families : n.families ≡ option_map (λ fs. after_level m0.signs fs level) m0.families = ap (λ (x : Meaning). x.families) ends
+      ∙ families_end m0.signs level m.patterns m.families m0.families patterns entered in
       let hopeless : n.hopeless ≡ [] = ap (λ (x : Meaning). x.hopeless) ends in
       let kept_passes : s.passes ≡ r.passes = ap (λ (x : Recorded). x.passes) is in
       let own_record : LevelRecord = record { level = number; chosen = r.chosen; after = totals; layout = layout } in
@@ -90,19 +98,24 @@ module _ (source : Source) (number : ℕ) (params : LevelParams) (m0 m n : Meani
         state = λ i. record { known = record { patterns = after i; hopeless = hopeless i }; families = families i };
         lines = ap (map line_of) kept_passes ∙ records.lines ∙ ap (λ (ps : List PassTrace). map line_of r0.passes ++ map (pass_line source) (filter has_candidate ps)) same_passes;
         layouts = ap (map layout_told) kept_passes ∙ records.layouts ∙ ap (λ (ps : List PassTrace). map layout_told r0.passes ++ layouts_in m0.signs m0.families ps) same_passes;
-        levels = ap (map level_line_of) own ∙ map_push level_line_of r.levels own_record ∙ ap (λ (ls : List LevelRecord). map level_line_of ls ++ level_line_of own_record ∷ []) records.levels ∙ ap (λ (x : LevelLine). map level_line_of r0.levels ++ x ∷ []) line;
-        level_layouts = ap (map level_layout_told) own ∙ map_push level_layout_told r.levels own_record ∙ ap (λ (ls : List LevelRecord). map level_layout_told ls ++ option_map {U = ℕ × Layout} (λ l. (number, l)) layout ∷ []) records.levels ∙ ap (λ (x : Option (ℕ × Layout)). map level_layout_told r0.levels ++ x ∷ []) laid;
+        levels = ap (map level_line_of) own ∙ map_push level_line_of r.levels own_record ∙ ap (λ (ls : List LevelRecord). map level_line_of ls ++ level_line_of own_record ∷ []) records.levels
+            ∙ ap (λ (x : LevelLine). map level_line_of r0.levels ++ x ∷ []) line;
+        level_layouts = ap (map level_layout_told) own ∙ map_push level_layout_told r.levels own_record
+            ∙ ap (λ (ls : List LevelRecord). map level_layout_told ls ++ option_map {U = ℕ × Layout} (λ l. (number, l)) layout ∷ []) records.levels
+            ∙ ap (λ (x : Option (ℕ × Layout)). map level_layout_told r0.levels ++ x ∷ []) laid;
         begun = ap (λ (x : Recorded). x.begun) is ∙ records.begun ∙ ap (λ (ps : List PassTrace). r0.begun + length (begun_among ps)) same_passes;
       }
 
 -- the levels from a place on
-pub levels_step : (start i : ℕ) (levels : List LevelParams) (level : LevelParams) → slice_get levels i ≡ Some level → enumerate_from (start + i) (drop i levels) ≡ (start + i, level) ∷ enumerate_from (start + (i + 1)) (drop (i + 1) levels)
+pub levels_step : (start i : ℕ) (levels : List LevelParams) (level : LevelParams) → slice_get levels i ≡ Some level → enumerate_from (start + i) (drop i levels)
+    ≡ (start + i, level) ∷ enumerate_from (start + (i + 1)) (drop (i + 1) levels)
 levels_step start i levels level at =
     ap (λ (ls : List LevelParams). enumerate_from (start + i) ls) (drop_place levels i level at)
     ∙ ap (λ (n : ℕ). (start + i, level) ∷ enumerate_from n (drop (i + 1) levels)) (add_assoc start i 1)
 
 -- levels with the families before them, and one more
-with_families_push : (signs : ℕ) (fs : Families) (run : Trace) (l : LevelTrace) → levels_with_families signs fs (run ++ l ∷ []) ≡ levels_with_families signs fs run ++ (l, final_families signs fs run) ∷ []
+with_families_push : (signs : ℕ) (fs : Families) (run : Trace) (l : LevelTrace) → levels_with_families signs fs (run ++ l ∷ []) ≡ levels_with_families signs fs run
+    ++ (l, final_families signs fs run) ∷ []
 with_families_push signs fs [] l = refl
 with_families_push signs fs (k ∷ run) l = ap (λ es. (k, fs) ∷ es) (with_families_push signs (after_level signs fs k) run l)
 
@@ -115,10 +128,12 @@ passes_laid signs e = pass_layouts signs e.1 e.0.passes
 abbrev level_laid : ℕ → LevelTrace × Families → ℕ × Layout
 level_laid signs e = level_layout signs e.1 e.0
 
-run_layouts_push : (signs : ℕ) (o : Option Families) (run : Trace) (l : LevelTrace) → run_layouts signs o (run ++ l ∷ []) ≡ run_layouts signs o run ++ layouts_in signs (option_map (λ fs. final_families signs fs run) o) l.passes
+run_layouts_push : (signs : ℕ) (o : Option Families) (run : Trace) (l : LevelTrace) → run_layouts signs o (run ++ l ∷ []) ≡ run_layouts signs o run
+    ++ layouts_in signs (option_map (λ fs. final_families signs fs run) o) l.passes
 run_layouts_push signs None run l =
     let none : PassTrace → Option (Pass × ℕ × ℕ) = λ _. None in
-    ap (map none) (one_list (λ (l : LevelTrace). filter has_candidate l.passes) run l) ∙ map-append none (flat_map (λ (l : LevelTrace). filter has_candidate l.passes) run) (filter has_candidate l.passes)
+    ap (map none) (one_list (λ (l : LevelTrace). filter has_candidate l.passes) run l)
+    ∙ map-append none (flat_map (λ (l : LevelTrace). filter has_candidate l.passes) run) (filter has_candidate l.passes)
 run_layouts_push signs (Some fs) run l =
     let some : Pass × ℕ × ℕ → Option (Pass × ℕ × ℕ) = λ x. Some x in
     let last : LevelTrace × Families = (l, final_families signs fs run) in
@@ -126,7 +141,8 @@ run_layouts_push signs (Some fs) run l =
     ∙ ap (map some) (one_list (passes_laid signs) (levels_with_families signs fs run) last)
     ∙ map-append some (flat_map (passes_laid signs) (levels_with_families signs fs run)) (passes_laid signs last)
 
-level_layouts_push : (signs : ℕ) (o : Option Families) (run : Trace) (l : LevelTrace) → level_layouts signs o (run ++ l ∷ []) ≡ level_layouts signs o run ++ option_map (λ fs. level_layout signs fs l) (option_map (λ fs. final_families signs fs run) o) ∷ []
+level_layouts_push : (signs : ℕ) (o : Option Families) (run : Trace) (l : LevelTrace) → level_layouts signs o (run ++ l ∷ []) ≡ level_layouts signs o run
+    ++ option_map (λ fs. level_layout signs fs l) (option_map (λ fs. final_families signs fs run) o) ∷ []
 level_layouts_push signs None run l = map_push (λ (_ : LevelTrace). let none : Option (ℕ × Layout) = None in none) run l
 level_layouts_push signs (Some fs) run l =
     let some : ℕ × Layout → Option (ℕ × Layout) = λ x. Some x in
@@ -135,7 +151,8 @@ level_layouts_push signs (Some fs) run l =
     ∙ ap (map some) (map_push (level_laid signs) (levels_with_families signs fs run) last)
     ∙ map_push some (map (level_laid signs) (levels_with_families signs fs run)) (level_laid signs last)
 
-families_push : (signs : ℕ) (o : Option Families) (run : Trace) (l : LevelTrace) → option_map (λ fs. final_families signs fs (run ++ l ∷ [])) o ≡ option_map (λ fs. after_level signs fs l) (option_map (λ fs. final_families signs fs run) o)
+families_push : (signs : ℕ) (o : Option Families) (run : Trace) (l : LevelTrace) → option_map (λ fs. final_families signs fs (run ++ l ∷ [])) o
+    ≡ option_map (λ fs. after_level signs fs l) (option_map (λ fs. final_families signs fs run) o)
 families_push signs None run l = refl
 families_push signs (Some fs) run l = ap (λ (gs : Families). Some gs) (fold-append (after_level signs) fs run (l ∷ []))
 
@@ -143,7 +160,8 @@ patterns_push : (S : Patterns) (run : Trace) (l : LevelTrace) → final_patterns
 patterns_push S run l = fold-append (λ (_ : Patterns) (l : LevelTrace). patterns_after l) S run (l ∷ [])
 
 -- a level more
-pub run_push : (source : Source) (run : Trace) (l : LevelTrace) (m0 m n : Meaning) (r s : Recorded) → m.signs ≡ m0.signs → DidRun source run m0 m r → DidLevel source l m n r s → DidRun source (run ++ l ∷ []) m0 n s
+pub run_push : (source : Source) (run : Trace) (l : LevelTrace) (m0 m n : Meaning) (r s : Recorded) → m.signs ≡ m0.signs → DidRun source run m0 m r
+    → DidLevel source l m n r s → DidRun source (run ++ l ∷ []) m0 n s
 run_push source run l m0 m n r s signs before did =
     let families : m.families ≡ option_map (λ fs. final_families m0.signs fs run) m0.families = ap (λ (x : State). x.families) before.state in
     let patterns : n.patterns ≡ final_patterns m0.patterns (run ++ l ∷ []) = ap (λ (x : State). x.known.patterns) did.state ∙ sym (patterns_push m0.patterns run l) in
@@ -202,7 +220,8 @@ pub record RunReaches (source : Source) (m0 m : Meaning) (r : Recorded) (rest : 
   pub left : done ++ levels_made source m.patterns rest ≡ whole
 
 -- a level of those that are left
-pub level_on : (source : Source) (m0 m n : Meaning) (r s : Recorded) (level : ℕ × LevelParams) (levels rest : List (ℕ × LevelParams)) (whole : Trace) → m.signs ≡ m0.signs → levels ≡ level ∷ rest → DidLevel source (level_made source m.patterns level) m n r s
+pub level_on : (source : Source) (m0 m n : Meaning) (r s : Recorded) (level : ℕ × LevelParams) (levels rest : List (ℕ × LevelParams)) (whole : Trace)
+    → m.signs ≡ m0.signs → levels ≡ level ∷ rest → DidLevel source (level_made source m.patterns level) m n r s
     → RunReaches source m0 m r levels whole → RunReaches source m0 n s rest whole
 level_on source m0 m n r s level levels rest whole signs first did before =
     let l : LevelTrace = level_made source m.patterns level in

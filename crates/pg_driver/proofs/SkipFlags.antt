@@ -45,7 +45,8 @@ Follows dot b old new = (d : ℕ) → is_set new.longer d ≡ (b && (dot == d ||
 
 -- after a pass of the length
 pub tells_more : (number len dot : ℕ) (source : Source) (params : LevelParams) (known : Known) (old new : SkipFlags) (ps : List PassTrace) → Tells number len old ps → new.here ≡ old.here
-    → Follows dot (left_none (pass_made source params known (record { level = number; len = len; dot = dot }))) old new → Tells number len new (ps ++ pass_made source params known (record { level = number; len = len; dot = dot }) ∷ [])
+    → Follows dot (left_none (pass_made source params known (record { level = number; len = len; dot = dot }))) old new
+    → Tells number len new (ps ++ pass_made source params known (record { level = number; len = len; dot = dot }) ∷ [])
 tells_more number len dot source params known old new ps tells here longer =
     let q : PassTrace = pass_made source params known (record { level = number; len = len; dot = dot }) in
     let b : Bool = left_none q in

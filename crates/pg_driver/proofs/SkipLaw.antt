@@ -37,18 +37,21 @@ module _ (m : Minima) (words : List Word) (P : List ((List ℕ × ℕ) × ℕ)) 
       (subst (λ (d : ℕ). CountsNothing m words (record { level = number; len = a; dot = d }) P H) dot closed)
 
   -- the passes that are longer than a closed one by a sign
-  longer_closed : (number l d len dot : ℕ) → CountsNothing m words (record { level = number; len = l; dot = d }) P H → (l + 1 == len && (d == dot || d + 1 == dot)) ≡ true → CountsNothing m words (record { level = number; len = len; dot = dot }) P H
+  longer_closed : (number l d len dot : ℕ) → CountsNothing m words (record { level = number; len = l; dot = d }) P H → (l + 1 == len && (d == dot || d + 1 == dot))
+      ≡ true → CountsNothing m words (record { level = number; len = len; dot = dot }) P H
   longer_closed number l d len dot closed is =
       let parts = and_parts (l + 1 == len) (d == dot || d + 1 == dot) is in
       let longer : l + 1 ≡ len = (Decides-eqb (l + 1) len).0 parts.0 in
       ⊎_elim
       (λ (behind : (d == dot) ≡ true). same_pass number (l + 1) len d dot longer ((Decides-eqb d dot).0 behind) (closed_behind m words (record { level = number; len = l; dot = d }) P H closed))
-      (λ (before : (d + 1 == dot) ≡ true). same_pass number (l + 1) len (d + 1) dot longer ((Decides-eqb (d + 1) dot).0 before) (closed_before m words (record { level = number; len = l; dot = d }) P H closed))
+      (λ (before : (d + 1 == dot) ≡ true). same_pass number (l + 1) len (d + 1) dot longer ((Decides-eqb (d + 1) dot).0 before)
+      (closed_before m words (record { level = number; len = l; dot = d }) P H closed))
       (or_cases (d == dot) (d + 1 == dot) parts.1)
 
 -- each pass that can be skipped counts nothing, after a pass too
 pub closed_on : (source : Source) (params : LevelParams) (number l d : ℕ) (known : Known) (ps : List PassTrace) → CountNothing source number ps known
-    → CountNothing source number (ps ++ pass_made source params known (record { level = number; len = l; dot = d }) ∷ []) (known_after (pass_made source params known (record { level = number; len = l; dot = d })))
+    → CountNothing source number (ps ++ pass_made source params known (record { level = number; len = l; dot = d }) ∷ [])
+    (known_after (pass_made source params known (record { level = number; len = l; dot = d })))
 closed_on source params number l d known ps closed len dot is =
     let pass : Pass = record { level = number; len = l; dot = d } in
     let q : PassTrace = pass_made source params known pass in
@@ -63,10 +66,12 @@ closed_on source params number l d known ps closed len dot is =
     (λ (before : is_skippable ps (record { level = number; len = len; dot = dot }) ≡ true).
     closed_later source.minima source.words (record { level = number; len = len; dot = dot }) known.patterns after.patterns known.hopeless after.hopeless
     (later_after_pass number d known.patterns known.hopeless (chosen_of params q.candidates) (hopeless_of params q.candidates)) (closed len dot before))
-    (or_cases (none && (l + 1 == len && (d == dot || d + 1 == dot))) (is_skippable ps (record { level = number; len = len; dot = dot })) (sym (skippable_push ps q (record { level = number; len = len; dot = dot })) ∙ is))
+    (or_cases (none && (l + 1 == len && (d == dot || d + 1 == dot))) (is_skippable ps (record { level = number; len = len; dot = dot }))
+    (sym (skippable_push ps q (record { level = number; len = len; dot = dot })) ∙ is))
 
 -- so it has no candidate
-pub skipped_none : (source : Source) (params : LevelParams) (number len dot : ℕ) (known : Known) (ps : List PassTrace) → CountNothing source number ps known → is_skippable ps (record { level = number; len = len; dot = dot }) ≡ true
+pub skipped_none : (source : Source) (params : LevelParams) (number len dot : ℕ) (known : Known) (ps : List PassTrace) → CountNothing source number ps known
+    → is_skippable ps (record { level = number; len = len; dot = dot }) ≡ true
     → (pass_made source params known (record { level = number; len = len; dot = dot })).candidates ≡ []
 skipped_none source params number len dot known ps closed is = ap tally (closed len dot is)
 
@@ -91,7 +96,8 @@ pub left_none_is : (params : LevelParams) (cs : List Candidate) → (length (cho
 left_none_is params [] = refl
 left_none_is params (c ∷ cs) =
     let rest : (length (chosen_of params cs) + length (hopeless_of params cs) == length cs) ≡ list_all (is_entered params) cs = left_none_is params cs in
-    by_fate params c (λ x h. (length (cond x (c ∷ chosen_of params cs) (chosen_of params cs)) + length (cond h (c ∷ hopeless_of params cs) (hopeless_of params cs)) == length (c ∷ cs)) ≡ ((h || x) && list_all (is_entered params) cs))
+    by_fate params c (λ x h. (length (cond x (c ∷ chosen_of params cs) (chosen_of params cs)) + length (cond h (c ∷ hopeless_of params cs) (hopeless_of params cs)) == length (c ∷ cs))
+    ≡ ((h || x) && list_all (is_entered params) cs))
     (one_more_left (length (chosen_of params cs)) (length (hopeless_of params cs)) (length cs) ∙ rest)
     (one_more_right (length (chosen_of params cs)) (length (hopeless_of params cs)) (length cs) ∙ rest)
     (one_is_left (length (chosen_of params cs)) (length (hopeless_of params cs)) (length cs) (chosen_within params cs))

@@ -24,7 +24,8 @@ known_push : (known : Known) (ps : List PassTrace) (q : PassTrace) → known_at_
 known_push known [] q = refl
 known_push known (p ∷ ps) q = known_push (known_after p) ps q
 
-families_push : (signs : ℕ) (o : Option Families) (ps : List PassTrace) (q : PassTrace) → option_map (λ fs. after_passes signs fs (ps ++ q ∷ [])) o ≡ option_map (λ fs. after_pass signs fs q) (option_map (λ fs. after_passes signs fs ps) o)
+families_push : (signs : ℕ) (o : Option Families) (ps : List PassTrace) (q : PassTrace) → option_map (λ fs. after_passes signs fs (ps ++ q ∷ [])) o
+    ≡ option_map (λ fs. after_pass signs fs q) (option_map (λ fs. after_passes signs fs ps) o)
 families_push signs None ps q = refl
 families_push signs (Some fs) ps q = ap (λ (gs : Families). Some gs) (fold-append (after_pass signs) fs ps (q ∷ []))
 
@@ -47,7 +48,8 @@ filter_push g f xs y =
     ∙ ap (λ zs. map g (filter f xs) ++ zs) (one_more g (f y) y)
 
 -- passes with the families after them
-with_families_push : (signs : ℕ) (fs : Families) (ps : List PassTrace) (q : PassTrace) → passes_with_families signs fs (ps ++ q ∷ []) ≡ passes_with_families signs fs ps ++ (q, after_passes signs fs (ps ++ q ∷ [])) ∷ []
+with_families_push : (signs : ℕ) (fs : Families) (ps : List PassTrace) (q : PassTrace) → passes_with_families signs fs (ps ++ q ∷ [])
+    ≡ passes_with_families signs fs ps ++ (q, after_passes signs fs (ps ++ q ∷ [])) ∷ []
 with_families_push signs fs [] q = refl
 with_families_push signs fs (p ∷ ps) q = ap (λ es. (p, after_pass signs fs p) ∷ es) (with_families_push signs (after_pass signs fs p) ps q)
 
@@ -56,7 +58,8 @@ layout_after e = (e.0.pass, taken_count e.1, top e.1)
 
 -- the layouts of passes
 pub layouts_push : (signs : ℕ) (o : Option Families) (ps : List PassTrace) (q : PassTrace)
-    → layouts_in signs o (ps ++ q ∷ []) ≡ layouts_in signs o ps ++ cond (has_candidate q) (option_map (λ fs. (q.pass, taken_count fs, top fs)) (option_map (λ fs. after_passes signs fs (ps ++ q ∷ [])) o) ∷ []) []
+    → layouts_in signs o (ps ++ q ∷ []) ≡ layouts_in signs o ps ++ cond (has_candidate q)
+    (option_map (λ fs. (q.pass, taken_count fs, top fs)) (option_map (λ fs. after_passes signs fs (ps ++ q ∷ [])) o) ∷ []) []
 layouts_push signs None ps q = filter_push (λ (_ : PassTrace). let none : Option (Pass × ℕ × ℕ) = None in none) has_candidate ps q
 layouts_push signs (Some fs) ps q =
     let last : PassTrace × Families = (q, after_passes signs fs (ps ++ q ∷ [])) in
@@ -105,7 +108,8 @@ counted_one true q = refl
 counted_one false q = refl
 
 -- how many of passes are begun, and of those and one more that is not shorter
-pub begun_push : (ps : List PassTrace) (q : PassTrace) → list_all (λ p. nat_le p.pass.len q.pass.len) ps ≡ true → length (begun_among (ps ++ q ∷ [])) ≡ length (begun_among ps) + cond (is_skippable ps q.pass) 0 1
+pub begun_push : (ps : List PassTrace) (q : PassTrace) → list_all (λ p. nat_le p.pass.len q.pass.len) ps ≡ true → length (begun_among (ps ++ q ∷ []))
+    ≡ length (begun_among ps) + cond (is_skippable ps q.pass) 0 1
 begun_push ps q short =
     let f : PassTrace → Bool = λ x. not (is_skippable (ps ++ q ∷ []) x.pass) in
     let last : is_skippable (ps ++ q ∷ []) q.pass ≡ is_skippable ps q.pass = skippable_push ps q q.pass ∙ ap (λ b. b || is_skippable ps q.pass) (skips_none q q.pass (omega arith)) in

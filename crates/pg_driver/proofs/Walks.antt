@@ -49,12 +49,14 @@ read_on m0 m w found kept read =
     subst P (sym kept) (record { word = read.word; signs = read.signs; values = read.values; covers = read.covers })
 
 -- the counted positions of one part, and then those of the rest
-pub counted_step : {X : Type 0} (f : X → List CountedPosition) (m n whole : Meaning) (x : X) (xs : List X) → n ≡ meaning_after_counting m (f x) → meaning_after_counting m (flat_map f (x ∷ xs)) ≡ whole → meaning_after_counting n (flat_map f xs) ≡ whole
+pub counted_step : {X : Type 0} (f : X → List CountedPosition) (m n whole : Meaning) (x : X) (xs : List X) → n ≡ meaning_after_counting m (f x)
+    → meaning_after_counting m (flat_map f (x ∷ xs)) ≡ whole → meaning_after_counting n (flat_map f xs) ≡ whole
 counted_step f m n whole x xs is left = ap (λ (y : Meaning). meaning_after_counting y (flat_map f xs)) is ∙ sym (counting_append m (f x) (flat_map f xs)) ∙ left
 
 -- a position that was counted, and then the rest
 pub position_step : (m0 m n whole : Meaning) (w : Word) (p end : ℕ) → p < end → KeepsButCounts m0 m → n ≡ meaning_after_counting m (counted_positions_at m.pass m.patterns m.hopeless w p)
-    → meaning_after_counting m (flat_map (counted_positions_at m0.pass m0.patterns m0.hopeless w) (range_with_len p (end - p))) ≡ whole → meaning_after_counting n (flat_map (counted_positions_at m0.pass m0.patterns m0.hopeless w) (range_with_len (p + 1) (end - (p + 1)))) ≡ whole
+    → meaning_after_counting m (flat_map (counted_positions_at m0.pass m0.patterns m0.hopeless w) (range_with_len p (end - p))) ≡ whole
+    → meaning_after_counting n (flat_map (counted_positions_at m0.pass m0.patterns m0.hopeless w) (range_with_len (p + 1) (end - (p + 1)))) ≡ whole
 position_step m0 m n whole w p end before kept is left =
     let f : ℕ → List CountedPosition = counted_positions_at m0.pass m0.patterns m0.hopeless w in
     let same : n ≡ meaning_after_counting m (f p) = is ∙ ap (λ (x : Meaning). meaning_after_counting m (counted_positions_at x.pass x.patterns x.hopeless w p)) kept in
@@ -62,17 +64,20 @@ position_step m0 m n whole w p end before kept is left =
 
 -- a word that was counted, and then the rest
 pub word_step : (m0 m n whole : Meaning) (minima : Minima) (w : Word) (ws : List Word) → KeepsButCounts m0 m → n ≡ meaning_after_counting m (counted_positions_in minima m.pass m.patterns m.hopeless w)
-    → meaning_after_counting m (counted_positions minima (w ∷ ws) m0.pass m0.patterns m0.hopeless) ≡ whole → meaning_after_counting n (counted_positions minima ws m0.pass m0.patterns m0.hopeless) ≡ whole
+    → meaning_after_counting m (counted_positions minima (w ∷ ws) m0.pass m0.patterns m0.hopeless) ≡ whole
+    → meaning_after_counting n (counted_positions minima ws m0.pass m0.patterns m0.hopeless) ≡ whole
 word_step m0 m n whole minima w ws kept is left =
     let f : Word → List CountedPosition = counted_positions_in minima m0.pass m0.patterns m0.hopeless in
     let same : n ≡ meaning_after_counting m (f w) = is ∙ ap (λ (x : Meaning). meaning_after_counting m (counted_positions_in minima x.pass x.patterns x.hopeless w)) kept in
     counted_step f m n whole w ws same left
 
 -- the room that a position took
-pub room_on : (m0 m n : Meaning) (w : Word) (p k size : ℕ) → 1 ≤ m.pass.len → IsWord w → p < length w.signs → HasRoom m0.counts size → k < size → TookRoom m0.counts m.counts k → n ≡ meaning_after_counting m (counted_positions_at m.pass m.patterns m.hopeless w p) → TookRoom m0.counts n.counts (k + 1)
+pub room_on : (m0 m n : Meaning) (w : Word) (p k size : ℕ) → 1 ≤ m.pass.len → IsWord w → p < length w.signs → HasRoom m0.counts size → k < size
+    → TookRoom m0.counts m.counts k → n ≡ meaning_after_counting m (counted_positions_at m.pass m.patterns m.hopeless w p) → TookRoom m0.counts n.counts (k + 1)
 room_on m0 m n w p k size long word within room few took is =
     let here : HasRoom m.counts 1 = room_left m0.counts m.counts size k 1 room took (omega arith) in
-    let more : TookRoom m.counts (fold with_position m.counts (counted_positions_at m.pass m.patterns m.hopeless w p)) 1 = took_position m.counts m.pass m.patterns m.hopeless w p 1 long word within here in
+    let more : TookRoom m.counts (fold with_position m.counts (counted_positions_at m.pass m.patterns m.hopeless w p)) 1 =
+    took_position m.counts m.pass m.patterns m.hopeless w p 1 long word within here in
     let P : Counts → Type 0 = λ cs. TookRoom m0.counts cs (k + 1) in
     subst P (ap (λ (x : Meaning). x.counts) (sym is)) (took_more m0.counts m.counts _ k 1 (k + 1) took more (omega arith))
 

@@ -66,7 +66,8 @@ words_begin source level known e none empty = record {
     not_both b P is not = absurd (let wrong : false ≡ true = sym is ∙ not in cc)
 
 -- after a pass was counted: the first one lists the positions
-pub words_counted : (source : Source) (level : ℕ) (known : Known) (e f : WordLevel) → IsWordsAt source level known e → f.is_counted ≡ true → f.above.items ≡ e.above.items ++ listed_from source.minima (listing (not e.is_counted) level known.patterns) 0 source.words → f.totals ≡ totals_by source known.patterns → IsBounded source
+pub words_counted : (source : Source) (level : ℕ) (known : Known) (e f : WordLevel) → IsWordsAt source level known e → f.is_counted ≡ true → f.above.items
+    ≡ e.above.items ++ listed_from source.minima (listing (not e.is_counted) level known.patterns) 0 source.words → f.totals ≡ totals_by source known.patterns → IsBounded source
     → IsWordsAt source level known f
 words_counted source level known e f is counted more totals bounded = record {
   bounded = λ _. bounded;
@@ -77,15 +78,20 @@ words_counted source level known e f is counted more totals bounded = record {
     listed : Bool → List WordPosition
     listed b = listed_from source.minima (listing b level known.patterns) 0 source.words
 
-    whole : (b : Bool) → listed_from source.minima (listing b level known.patterns) 0 source.words ++ listed_from source.minima (listing (not b) level known.patterns) 0 source.words ≡ listed_from source.minima (listing true level known.patterns) 0 source.words
-    whole true = ap (λ (es : List WordPosition). listed_from source.minima (listing true level known.patterns) 0 source.words ++ es) (none_listed source.minima level known.patterns 0 source.words) ∙ append-nil (listed_from source.minima (listing true level known.patterns) 0 source.words)
+    whole : (b : Bool) → listed_from source.minima (listing b level known.patterns) 0 source.words ++ listed_from source.minima (listing (not b) level known.patterns) 0 source.words
+        ≡ listed_from source.minima (listing true level known.patterns) 0 source.words
+    whole true = ap (λ (es : List WordPosition). listed_from source.minima (listing true level known.patterns) 0 source.words ++ es) (none_listed source.minima level known.patterns 0 source.words)
+        ∙ append-nil (listed_from source.minima (listing true level known.patterns) 0 source.words)
     whole false = ap (λ (es : List WordPosition). es ++ listed_from source.minima (listing true level known.patterns) 0 source.words) (none_listed source.minima level known.patterns 0 source.words)
 
 -- listed positions stand in the words, and are no more than letters
-pub words_placed : (source : Source) (level : ℕ) (known : Known) (e : WordLevel) → e.is_counted ≡ true → IsWordsAt source level known e → All (IsPlaced source.words) e.above.items × (length e.above.items ≤ FILE_MAX)
+pub words_placed : (source : Source) (level : ℕ) (known : Known) (e : WordLevel) → e.is_counted ≡ true → IsWordsAt source level known e
+    → All (IsPlaced source.words) e.above.items × (length e.above.items ≤ FILE_MAX)
 words_placed source level known e begun is =
-    let are : e.above.items ≡ flat_map (open_with (start_at source.minima source.words (listing e.is_counted level known.patterns))) _ = is.above ∙ listed_are source.minima source.words (listing e.is_counted level known.patterns) in
-    let few : length e.above.items ≤ sum_by letter_count source.words = entries_few source.minima source.words (start_at source.minima source.words (listing e.is_counted level known.patterns)) e.above.items (is.bounded begun).reached are in
+    let are : e.above.items ≡ flat_map (open_with (start_at source.minima source.words (listing e.is_counted level known.patterns))) _ = is.above
+    ∙ listed_are source.minima source.words (listing e.is_counted level known.patterns) in
+    let few : length e.above.items ≤ sum_by letter_count source.words =
+    entries_few source.minima source.words (start_at source.minima source.words (listing e.is_counted level known.patterns)) e.above.items (is.bounded begun).reached are in
     let letters : sum_by letter_count source.words ≤ FILE_MAX = (is.bounded begun).few.letters in
     (entries_placed source.minima source.words (start_at source.minima source.words (listing e.is_counted level known.patterns)) e.above.items are, omega arith)
 
@@ -102,7 +108,8 @@ module _ (m : Minima) (words : List Word) (pass : Pass) (P : Patterns) where
   by_test w p true good is = good_is pass.level P w p good is
   by_test w p false good is = cc
 
-  one_fits : (w : Word) (p : ℕ) (f good : Bool) → good ≡ is_good pass.level w p → counted_as (window w.signs p pass.len pass.dot) (position_weight w p) (cond f (Some good) None) ≡ counted_as (window w.signs p pass.len pass.dot) (position_weight w p) (cond (f && true) (Some (is_good pass.level w p)) None)
+  one_fits : (w : Word) (p : ℕ) (f good : Bool) → good ≡ is_good pass.level w p → counted_as (window w.signs p pass.len pass.dot) (position_weight w p) (cond f (Some good) None)
+      ≡ counted_as (window w.signs p pass.len pass.dot) (position_weight w p) (cond (f && true) (Some (is_good pass.level w p)) None)
   one_fits w p true good is = ap (λ b. counted_as (window w.signs p pass.len pass.dot) (position_weight w p) (Some b)) is
   one_fits w p false good is = refl
 
@@ -116,7 +123,8 @@ module _ (m : Minima) (words : List Word) (pass : Pass) (P : Patterns) where
       started (Some u) = above u p
 
       by_count : (o : Option Bool) → above w p ≡ o
-          → counted_as (window w.signs p pass.len pass.dot) (position_weight w p) (cond (fits w.signs p pass.len pass.dot) o None) ≡ flat_map (window_of pass words) (option_map_or (λ (good : Bool). record { word = n; at = p } ∷ []) o [])
+          → counted_as (window w.signs p pass.len pass.dot) (position_weight w p) (cond (fits w.signs p pass.len pass.dot) o None)
+          ≡ flat_map (window_of pass words) (option_map_or (λ (good : Bool). record { word = n; at = p } ∷ []) o [])
       by_count None is = none_fits w p (fits w.signs p pass.len pass.dot)
       by_count (Some good) is =
           one_fits w p (fits w.signs p pass.len pass.dot) good (by_test w p (nat_lt pass.level (value_at P w.signs p)) good is)
@@ -127,12 +135,14 @@ module _ (m : Minima) (words : List Word) (pass : Pass) (P : Patterns) where
   windows_are entries are = sym (counted_by_entries m words (start_at m words above) (window_of pass words) (above_at pass P) each entries (are ∙ listed_are m words above))
 
 -- a window was chosen where it is a candidate that is
-chosen_is : (params : LevelParams) (counts : Counts) (counted : List CountedPosition) (u : List ℕ) → counts ≡ fold with_position [] counted → was_chosen params counts u ≡ is_candidate (λ (c : Candidate). is_chosen params c) counted u
+chosen_is : (params : LevelParams) (counts : Counts) (counted : List CountedPosition) (u : List ℕ) → counts ≡ fold with_position [] counted
+    → was_chosen params counts u ≡ is_candidate (λ (c : Candidate). is_chosen params c) counted u
 chosen_is params counts counted u are =
     ap (λ (o : Option (ℕ × ℕ)). option_map_or (λ (sums : ℕ × ℕ). chooses (choice params sums.0 sums.1)) o false) (ap (find cmp u) are ∙ found_is counted u)
     ∙ by_test (is_counted_window counted u)
   where
-    by_test : (b : Bool) → option_map_or (λ (sums : ℕ × ℕ). chooses (choice params sums.0 sums.1)) (cond b (Some (good_of counted u, bad_of counted u)) None) false ≡ (b && is_chosen params (candidate_at counted u))
+    by_test : (b : Bool) → option_map_or (λ (sums : ℕ × ℕ). chooses (choice params sums.0 sums.1)) (cond b (Some (good_of counted u, bad_of counted u)) None) false
+        ≡ (b && is_chosen params (candidate_at counted u))
     by_test true = sym (chosen_by_fate params (candidate_at counted u))
     by_test false = refl
 
@@ -150,7 +160,8 @@ module _ (source : Source) (params : LevelParams) (known : Known) (pass : Pass) 
   abbrev stays : List CountedPosition
   stays = above_positions source.minima source.words pass known.patterns
 
-  law : MovesAllBut (is_odd pass.level) (totals_by source known.patterns) (totals_by source (known_after made).patterns) (good_raised chosen counted) (bad_raised chosen counted) (good_above chosen counted stays) (bad_above chosen counted stays)
+  law : MovesAllBut (is_odd pass.level) (totals_by source known.patterns) (totals_by source (known_after made).patterns) (good_raised chosen counted)
+      (bad_raised chosen counted) (good_above chosen counted stays) (bad_above chosen counted stays)
   law = totals_after_above source.minima source.words pass known.patterns known.hopeless chosen
 
   module _ (counts : Counts) (e : WordLevel) (is : IsWordsAt source pass.level known e) (begun : e.is_counted ≡ true) (are : counts ≡ fold with_position [] counted)
@@ -159,7 +170,8 @@ module _ (source : Source) (params : LevelParams) (known : Known) (pass : Pass) 
     kept = kept_by params pass counts source.words e.above.items
 
     windows : flat_map (window_of pass source.words) e.above.items ≡ stays
-    windows = windows_are source.minima source.words pass known.patterns e.above.items (is.above ∙ ap (λ (b : Bool). listed_from source.minima (listing b pass.level known.patterns) 0 source.words) begun)
+    windows = windows_are source.minima source.words pass known.patterns e.above.items
+        (is.above ∙ ap (λ (b : Bool). listed_from source.minima (listing b pass.level known.patterns) 0 source.words) begun)
 
     good_is_kept : kept.good ≡ good_above chosen counted stays
     good_is_kept = λ i. sum_by (λ s. cond (s.good && chosen_is params counts counted s.window are i) s.weight 0) (windows i)
@@ -183,7 +195,8 @@ module _ (source : Source) (params : LevelParams) (known : Known) (pass : Pass) 
     carries =
         subst (λ (g : ℕ). Carries (is_odd pass.level) e.totals (totals_by source (known_after made).patterns) g (n.bad - kept.bad)) (sym good_rest)
         (subst (λ (b : ℕ). Carries (is_odd pass.level) e.totals (totals_by source (known_after made).patterns) (good_raised chosen counted - good_above chosen counted stays) b) (sym bad_rest)
-        (subst (λ (t : Totals). Carries (is_odd pass.level) t (totals_by source (known_after made).patterns) (good_raised chosen counted - good_above chosen counted stays) (bad_raised chosen counted - bad_above chosen counted stays)) (sym (is.totals begun)) law.totals))
+        (subst (λ (t : Totals). Carries (is_odd pass.level) t (totals_by source (known_after made).patterns) (good_raised chosen counted - good_above chosen counted stays)
+        (bad_raised chosen counted - bad_above chosen counted stays)) (sym (is.totals begun)) law.totals))
 
     pub words_can_move : CanMove (is_odd pass.level) e.totals n kept
     words_can_move =

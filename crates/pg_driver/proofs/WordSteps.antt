@@ -28,7 +28,8 @@ reach_few ps first end n are few = omega (arith, ap (λ (qs : List ℕ). length 
 abbrev pub AreReached : Minima → List Word → ℕ → Type 0
 AreReached m ws i = positions_in m ws + sum_by letter_count (drop i ws) ≤ sum_by letter_count ws + positions_in m (drop i ws)
 
-pub reached_on : (m : Minima) (ws : List Word) (i : ℕ) (w : Word) → slice_get ws i ≡ Some w → length (positions m.left m.right (length w.signs)) ≤ letter_count w → AreReached m ws i → AreReached m ws (i + 1)
+pub reached_on : (m : Minima) (ws : List Word) (i : ℕ) (w : Word) → slice_get ws i ≡ Some w → length (positions m.left m.right (length w.signs)) ≤ letter_count w
+    → AreReached m ws i → AreReached m ws (i + 1)
 reached_on m ws i w at few before =
     let here : positions_in m (drop i ws) ≡ length (positions m.left m.right (length w.signs)) + positions_in m (drop (i + 1) ws) =
     ap (λ us. positions_in m us) (drop_place ws i w at) ∙ sum_by-cons (λ (v : Word). length (positions m.left m.right (length v.signs))) w (drop (i + 1) ws) in

@@ -51,7 +51,8 @@ module _ (number : ℕ → ℕ × ℕ → ℕ) (F : List ℕ → List (ℕ × �
   pub word_within : (w : List ℕ) (p n : ℕ) → Bounds w p n → by_starts number F 0 w p ≤ n
   word_within w p n each = starts_within w p n each [] w 0 refl refl
 
-  strings_over : (start p : ℕ) (x : ℕ × ℕ) → start + x.1 ≡ p → (q : List ℕ) (s : ℕ) (more after : List ℕ) → In x (F (q ++ s ∷ more)) → number (length (q ++ s ∷ more)) x ≤ by_strings number F start q (s ∷ (more ++ after)) p
+  strings_over : (start p : ℕ) (x : ℕ × ℕ) → start + x.1 ≡ p → (q : List ℕ) (s : ℕ) (more after : List ℕ) → In x (F (q ++ s ∷ more))
+      → number (length (q ++ s ∷ more)) x ≤ by_strings number F start q (s ∷ (more ++ after)) p
   strings_over start p x at q s [] after here =
       most_first (by_list (number (length (q ++ s ∷ []))) start (F (q ++ s ∷ [])) p) (by_strings number F start (q ++ s ∷ []) after p) (number (length (q ++ s ∷ [])) x)
       (list_over (number (length (q ++ s ∷ []))) start p (F (q ++ s ∷ [])) x here at)
@@ -61,10 +62,12 @@ module _ (number : ℕ → ℕ × ℕ → ℕ) (F : List ℕ → List (ℕ × �
       (subst (λ (r : List ℕ). number (length r) x ≤ by_strings number F start (q ++ s ∷ []) (t ∷ (more ++ after)) p) same
       (strings_over start p x at (q ++ s ∷ []) t more after (subst (λ (r : List ℕ). In x (F r)) (sym same) here)))
 
-  starts_over : (p : ℕ) (x : ℕ × ℕ) (s : ℕ) (more after : List ℕ) → In x (F (s ∷ more)) → (before : List ℕ) (start : ℕ) → start + (length before + x.1) ≡ p → number (length (s ∷ more)) x ≤ by_starts number F start (before ++ (s ∷ (more ++ after))) p
+  starts_over : (p : ℕ) (x : ℕ × ℕ) (s : ℕ) (more after : List ℕ) → In x (F (s ∷ more)) → (before : List ℕ) (start : ℕ) → start + (length before + x.1)
+      ≡ p → number (length (s ∷ more)) x ≤ by_starts number F start (before ++ (s ∷ (more ++ after))) p
   starts_over p x s more after here [] start at =
       let there : start + x.1 ≡ p = omega arith in
-      most_first (by_strings number F start [] (s ∷ (more ++ after)) p) (by_starts number F (start + 1) (more ++ after) p) (number (length (s ∷ more)) x) (strings_over start p x there [] s more after here)
+      most_first (by_strings number F start [] (s ∷ (more ++ after)) p) (by_starts number F (start + 1) (more ++ after) p) (number (length (s ∷ more)) x)
+      (strings_over start p x there [] s more after here)
   starts_over p x s more after here (b ∷ before) start at =
       let there : start + 1 + (length before + x.1) ≡ p = omega arith in
       most_rest (by_strings number F start [] (b ∷ (before ++ (s ∷ (more ++ after)))) p) (by_starts number F (start + 1) (before ++ (s ∷ (more ++ after))) p) (number (length (s ∷ more)) x)

@@ -19,7 +19,8 @@ cut_applies w q d p cut =
     let dot : length cut.before + d ≡ p = cut.dot in
     let start : p - d ≡ length cut.before = omega arith in
     let rest : drop (p - d) w ≡ q ++ cut.after = ap (λ n. drop n w) start ∙ ap (λ (ys : List ℕ). drop (length cut.before) ys) whole ∙ drop_at cut.before (q ++ cut.after) (length cut.before) refl in
-    let size : length w ≡ length cut.before + (length q + length cut.after) = ap (λ (ys : List ℕ). length ys) whole ∙ length-append cut.before (q ++ cut.after) ∙ ap (λ n. length cut.before + n) (length-append q cut.after) in
+    let size : length w ≡ length cut.before + (length q + length cut.after) = ap (λ (ys : List ℕ). length ys) whole ∙ length-append cut.before (q ++ cut.after)
+    ∙ ap (λ n. length cut.before + n) (length-append q cut.after) in
     let same : take (length q) (drop (p - d) w) ≡ q = ap (λ (ys : List ℕ). take (length q) ys) rest ∙ take_at q cut.after (length q) refl in
     and_from (nat_le d p) (stands_at q w (p - d)) (le-leb d p (omega arith))
     (and_from (nat_le (p - d + length q) (length w)) (pointwise nat_eq q (take (length q) (drop (p - d) w))) (le-leb (p - d + length q) (length w) (omega arith))
@@ -67,7 +68,8 @@ module _ (w : List ℕ) (p len dot : ℕ) (fit : fits w p len dot ≡ true) wher
   pub out_of_window : (q : List ℕ) (d : ℕ) → Cut (window w p len dot) q d dot → Cut w q d p
   out_of_window q d cut =
       let rest : List ℕ = drop len (drop (p - dot) w) in
-      let whole : w ≡ take (p - dot) w ++ (window w p len dot ++ rest) = sym (take-append-drop (p - dot) w) ∙ ap (λ (ys : List ℕ). take (p - dot) w ++ ys) (sym (take-append-drop len (drop (p - dot) w))) in
+      let whole : w ≡ take (p - dot) w ++ (window w p len dot ++ rest) = sym (take-append-drop (p - dot) w)
+      ∙ ap (λ (ys : List ℕ). take (p - dot) w ++ ys) (sym (take-append-drop len (drop (p - dot) w))) in
       let upto : dot ≤ p = low in
       let inside : p - dot + len ≤ length w = room in
       let first : length (take (p - dot) w) ≡ p - dot = length-take-le (p - dot) w (omega arith) in
@@ -102,6 +104,7 @@ module _ (w : List ℕ) (p len dot : ℕ) (fit : fits w p len dot ≡ true) wher
       record {
         before = first;
         after = take n cut.after;
-        whole = ap (λ (ys : List ℕ). take len ys) from ∙ ap (λ k. take k (first ++ (q ++ cut.after))) parts ∙ take_past first (q ++ cut.after) (length q + n) ∙ ap (λ (ys : List ℕ). first ++ ys) (take_past q cut.after n);
+        whole = ap (λ (ys : List ℕ). take len ys) from ∙ ap (λ k. take k (first ++ (q ++ cut.after))) parts ∙ take_past first (q ++ cut.after) (length q + n)
+            ∙ ap (λ (ys : List ℕ). first ++ ys) (take_past q cut.after n);
         dot = omega arith;
       }

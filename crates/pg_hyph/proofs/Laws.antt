@@ -81,7 +81,8 @@ module _ (m : Maps) (kept : AreKept m) where
 
   -- the greatest value of the lists is that of the patterns
   pub values_law : (w : List ℕ) (p : ℕ) → by_starts value_by lists 0 w p ≡ value_at m.patterns w p
-  values_law w p = same_number (by_starts value_by lists 0 w p) (value_at m.patterns w p) (word_within value_by lists w p (value_at m.patterns w p) within) (best_within (applies w p) m.patterns (by_starts value_by lists 0 w p) over)
+  values_law w p = same_number (by_starts value_by lists 0 w p) (value_at m.patterns w p) (word_within value_by lists w p (value_at m.patterns w p) within)
+      (best_within (applies w p) m.patterns (by_starts value_by lists 0 w p) over)
     where
       within : (q : List ℕ) (x : ℕ × ℕ) → Cut w q x.1 p → In x (lists q) → value_given x.0 ≤ value_at m.patterns w p
       within q x cut here =
@@ -111,15 +112,18 @@ module _ (m : Maps) (kept : AreKept m) where
             let inner = into_window w p pass.len pass.dot fit q x.1 cut (leb-true x.1 pass.dot inside.0) (leb-true (length q + pass.dot) (pass.len + x.1) inside.1) in
             let stands = cut_applies (window w p pass.len pass.dot) q x.1 pass.dot inner in
             elim (in_outputs m.patterns m.hopeless q x here) [
-              | inl found ↦ or_left (list_any (λ e. nat_le pass.level e.1 && applies (window w p pass.len pass.dot) pass.dot e.0) m.patterns) (list_any (λ e. applies (window w p pass.len pass.dot) pass.dot e.0) m.hopeless)
+              | inl found ↦ or_left (list_any (λ e. nat_le pass.level e.1 && applies (window w p pass.len pass.dot) pass.dot e.0) m.patterns)
+                  (list_any (λ e. applies (window w p pass.len pass.dot) pass.dot e.0) m.hopeless)
                   (in_any (λ e. nat_le pass.level e.1 && applies (window w p pass.len pass.dot) pass.dot e.0) m.patterns ((q, x.1), x.0) (found_in (q, x.1) x.0 m.patterns found)
                   (and_from (nat_le pass.level x.0) (applies (window w p pass.len pass.dot) pass.dot (q, x.1)) parts.0 stands))
-              | inr mark ↦ or_right (list_any (λ e. nat_le pass.level e.1 && applies (window w p pass.len pass.dot) pass.dot e.0) m.patterns) (list_any (λ e. applies (window w p pass.len pass.dot) pass.dot e.0) m.hopeless)
+              | inr mark ↦ or_right (list_any (λ e. nat_le pass.level e.1 && applies (window w p pass.len pass.dot) pass.dot e.0) m.patterns)
+                  (list_any (λ e. applies (window w p pass.len pass.dot) pass.dot e.0) m.hopeless)
                   (in_any (λ e. applies (window w p pass.len pass.dot) pass.dot e.0) m.hopeless ((q, x.1), tt {0}) (found_in (q, x.1) (tt {0}) m.hopeless mark.1) stands)
             ]
 
     -- what stands in the window, with a value of at least the level, covers in the lists of the word
-    stands_over : (q : List ℕ) (d v : ℕ) → 1 ≤ length q → pass.level ≤ v → In (v, d) (lists q) → applies (window w p pass.len pass.dot) pass.dot (q, d) ≡ true → 1 ≤ by_starts (cover_by pass) lists 0 w p
+    stands_over : (q : List ℕ) (d v : ℕ) → 1 ≤ length q → pass.level ≤ v → In (v, d) (lists q) → applies (window w p pass.len pass.dot) pass.dot (q, d)
+        ≡ true → 1 ≤ by_starts (cover_by pass) lists 0 w p
     stands_over q d v some strong here stands =
         let inner = applies_cut (window w p pass.len pass.dot) q d pass.dot stands in
         let inside = within_window w p pass.len pass.dot fit q d inner in
@@ -131,7 +135,8 @@ module _ (m : Maps) (kept : AreKept m) where
 
     covers_over : cover ≡ true → 1 ≤ by_starts (cover_by pass) lists 0 w p
     covers_over is =
-        elim (or_cases (list_any (λ e. nat_le pass.level e.1 && applies (window w p pass.len pass.dot) pass.dot e.0) m.patterns) (list_any (λ e. applies (window w p pass.len pass.dot) pass.dot e.0) m.hopeless) is) [
+        elim (or_cases (list_any (λ e. nat_le pass.level e.1 && applies (window w p pass.len pass.dot) pass.dot e.0) m.patterns)
+        (list_any (λ e. applies (window w p pass.len pass.dot) pass.dot e.0) m.hopeless) is) [
           | inl value ↦
               let there = any_in (λ (e : (List ℕ × ℕ) × ℕ). nat_le pass.level e.1 && applies (window w p pass.len pass.dot) pass.dot e.0) m.patterns value in
               let e = there.0 in
@@ -146,7 +151,8 @@ module _ (m : Maps) (kept : AreKept m) where
 
     -- the greatest cover of the lists is that of the window
     pub covers_law : by_starts (cover_by pass) lists 0 w p ≡ bit cover
-    covers_law = same_number (by_starts (cover_by pass) lists 0 w p) (bit cover) (word_within (cover_by pass) lists w p (bit cover) covers_within) (bit_within cover (by_starts (cover_by pass) lists 0 w p) covers_over)
+    covers_law = same_number (by_starts (cover_by pass) lists 0 w p) (bit cover) (word_within (cover_by pass) lists w p (bit cover) covers_within)
+        (bit_within cover (by_starts (cover_by pass) lists 0 w p) covers_over)
 
 from_zero : (x y n : ℕ) → x ≡ 0 → y ≡ max x n → y ≡ n
 from_zero x y n p q = omega arith

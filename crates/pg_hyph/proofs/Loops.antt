@@ -62,7 +62,8 @@ module _ (number : ℕ → ℕ × ℕ → ℕ) (F : List ℕ → List (ℕ × �
       let none : start - start ≡ 0 = omega arith in
       ap (λ n. max (before p) (by_strings number F start (take n (drop start w)) (drop start w) p)) none
 
-  pub stop_next : (start stop s n : ℕ) (xs : List (ℕ × ℕ)) (before now new : ℕ → ℕ) → start ≤ stop → stop < length w → s ≡ get_or w stop 0 → n ≡ stop + 1 - start → xs ≡ F (take (stop - start) (drop start w) ++ s ∷ [])
+  pub stop_next : (start stop s n : ℕ) (xs : List (ℕ × ℕ)) (before now new : ℕ → ℕ) → start ≤ stop → stop < length w → s ≡ get_or w stop 0 → n
+      ≡ stop + 1 - start → xs ≡ F (take (stop - start) (drop start w) ++ s ∷ [])
       → AtStop start stop before now → Raises (by_list (number n) start xs) now new → AtStop start (stop + 1) before new
   stop_next start stop s n xs before now new low inside is size list level raises =
       let q : List ℕ = take (stop - start) (drop start w) in
@@ -71,12 +72,14 @@ module _ (number : ℕ → ℕ × ℕ → ℕ) (F : List ℕ → List (ℕ × �
       let more : length (q ++ s ∷ []) ≡ length (take (stop - start) (drop start w)) + 1 = length-append q (s ∷ []) in
       let long : n ≡ length (q ++ s ∷ []) = omega arith in
       subst (λ (r : List ℕ). Level (by_strings number F start r (drop (stop + 1) w)) (by_strings number F start [] (drop start w)) before new) (sym (longer w start stop s low inside is))
-      (level_step (by_strings number F start q (drop stop w)) (by_list (number (length (q ++ s ∷ []))) start (F (q ++ s ∷ []))) (by_strings number F start (q ++ s ∷ []) (drop (stop + 1) w)) (by_strings number F start [] (drop start w)) before now new
+      (level_step (by_strings number F start q (drop stop w)) (by_list (number (length (q ++ s ∷ []))) start (F (q ++ s ∷ [])))
+      (by_strings number F start (q ++ s ∷ []) (drop (stop + 1) w)) (by_strings number F start [] (drop start w)) before now new
       (λ p. ap (λ (ys : List ℕ). by_strings number F start q ys p) (ahead w stop s inside is)) level
       (subst (λ k. Raises (by_list (number k) start (F (q ++ s ∷ []))) now new) long (subst (λ (ys : List (ℕ × ℕ)). Raises (by_list (number n) start ys) now new) list raises)))
 
   -- no string that ends later has a list
-  pub stop_here : (start stop s : ℕ) (before now : ℕ → ℕ) → stop < length w → s ≡ get_or w stop 0 → ((more : List ℕ) → F ((take (stop - start) (drop start w) ++ s ∷ []) ++ more) ≡ []) → AtStop start stop before now
+  pub stop_here : (start stop s : ℕ) (before now : ℕ → ℕ) → stop < length w → s ≡ get_or w stop 0 → ((more : List ℕ) → F ((take (stop - start) (drop start w) ++ s ∷ []) ++ more) ≡ [])
+      → AtStop start stop before now
       → Raises (by_strings number F start [] (drop start w)) before now
   stop_here start stop s before now inside is none level =
       let q : List ℕ = take (stop - start) (drop start w) in
@@ -87,7 +90,8 @@ module _ (number : ℕ → ℕ × ℕ → ℕ) (F : List ℕ → List (ℕ × �
   pub stop_last : (start stop : ℕ) (before now : ℕ → ℕ) → length w ≤ stop → AtStop start stop before now → Raises (by_strings number F start [] (drop start w)) before now
   stop_last start stop before now past level =
       let q : List ℕ = take (stop - start) (drop start w) in
-      level_end (by_strings number F start q (drop stop w)) (by_strings number F start [] (drop start w)) before now (λ p. ap (λ (ys : List ℕ). by_strings number F start q ys p) (drop_all stop w past)) level
+      level_end (by_strings number F start q (drop stop w)) (by_strings number F start [] (drop start w)) before now
+      (λ p. ap (λ (ys : List ℕ). by_strings number F start q ys p) (drop_all stop w past)) level
 
   -- the strings that begin before a start were met
   abbrev pub AtStart : ℕ → (ℕ → ℕ) → (ℕ → ℕ) → Type 0
@@ -97,7 +101,8 @@ module _ (number : ℕ → ℕ × ℕ → ℕ) (F : List ℕ → List (ℕ × �
   start_next start before now new inside level raises =
       let cut : drop start w ≡ get_or w start 0 ∷ drop (start + 1) w = drop_more w start 0 inside in
       level_step (by_starts number F start (drop start w)) (by_strings number F start [] (drop start w)) (by_starts number F (start + 1) (drop (start + 1) w)) (by_starts number F 0 w) before now new
-      (λ p. ap (λ (ys : List ℕ). by_starts number F start ys p) cut ∙ ap (λ (ys : List ℕ). max (by_strings number F start [] ys p) (by_starts number F (start + 1) (drop (start + 1) w) p)) (sym cut)) level raises
+      (λ p. ap (λ (ys : List ℕ). by_starts number F start ys p) cut ∙ ap (λ (ys : List ℕ). max (by_strings number F start [] ys p) (by_starts number F (start + 1) (drop (start + 1) w) p)) (sym cut))
+      level raises
 
   pub start_last : (start : ℕ) (before now : ℕ → ℕ) → length w ≤ start → AtStart start before now → Raises (by_starts number F 0 w) before now
   start_last start before now past level =

@@ -57,7 +57,8 @@ unnamed_none : (a : Disk) (own : List ℕ) → id_at a own ≡ None → node_at 
 unnamed_none a own is = ap (λ (k : Option FileId). node_of k a.files) is
 
 -- the new file's name does not stand for the name whose place it is to take
-pub is_beside : (own name : List ℕ) (a : Disk) → IsNewName own name → own ≢ name → KnowsNewNames a → a.links.is_link name ≡ false → a.links.is_link own ≡ false → id_at a own ≡ None → IsBeside own name a
+pub is_beside : (own name : List ℕ) (a : Disk) → IsNewName own name → own ≢ name → KnowsNewNames a → a.links.is_link name ≡ false → a.links.is_link own
+    ≡ false → id_at a own ≡ None → IsBeside own name a
 is_beside own name a is_new apart known direct own_direct unnamed = record {
   real = name;
   direct = direct;
@@ -152,7 +153,8 @@ moved_same : (own name bytes : List ℕ) (mode : Option ℕ) (n : FileId) (a b c
 moved_same own name bytes mode n a b c ab bc other apart =
     ⊎_elim
     (λ (one : AreOne a other own). none_same a c other own (bc.links ∙ ab.beside.links) one ab.beside.unnamed (bc.gone (λ same. apart (one ∙ one_back a b own name ab.beside.links same))))
-    (λ not_own. same_on a b c other (bc.names other (λ one. not_own (one_back a b other own ab.beside.links one)) (λ one. apart (one_back a b other name ab.beside.links one))) bc.files (beside_same own n ab.node a b ab.beside other not_own))
+    (λ not_own. same_on a b c other (bc.names other (λ one. not_own (one_back a b other own ab.beside.links one)) (λ one. apart (one_back a b other name ab.beside.links one))) bc.files
+    (beside_same own n ab.node a b ab.beside other not_own))
     (same_or_not (a.links.real other) (a.links.real own))
 
 pub is_written : (own name bytes : List ℕ) (mode : Option ℕ) (n : FileId) (a b c : Disk) → IsReady own bytes mode n a b → Moved own name b c → IsWritten name bytes mode n a c

@@ -33,7 +33,8 @@ because_weaker F K U X F2 K2 U2 X2 f k u x error.Taken p = x p
 because_weaker F K U X F2 K2 U2 X2 f k u x error.Memory p = tt
 
 -- a result that is returned as it is
-pub still_because : {T : Type 0} (result : Result T WriteError) (F K U X F2 K2 U2 X2 : Type 0) → IfErr result (Because F K U X) → (F → F2) → (K → K2) → (U → U2) → (X → X2) → IfErr result (Because F2 K2 U2 X2)
+pub still_because : {T : Type 0} (result : Result T WriteError) (F K U X F2 K2 U2 X2 : Type 0) → IfErr result (Because F K U X) → (F → F2) → (K → K2)
+    → (U → U2) → (X → X2) → IfErr result (Because F2 K2 U2 X2)
 still_because (Ok value) F K U X F2 K2 U2 X2 p f k u x = tt
 still_because (Err e) F K U X F2 K2 U2 X2 p f k u x = because_weaker F K U X F2 K2 U2 X2 f k u x e p
 
@@ -42,7 +43,8 @@ pub passed_on : {T : Type 0} (result : Result T WriteError) (e : WriteError) (F 
 passed_on (Ok value) e F K U X is p = tt
 passed_on (Err d) e F K U X is p = subst (λ (d : WriteError). Because F K U X d) (sym is) p
 
-pub passed_weaker : {T : Type 0} (result : Result T WriteError) (e : WriteError) (F K U X F2 K2 U2 X2 : Type 0) → IsErrAnd result (λ d. d ≡ e) → Because F K U X e → (F → F2) → (K → K2) → (U → U2) → (X → X2) → IfErr result (Because F2 K2 U2 X2)
+pub passed_weaker : {T : Type 0} (result : Result T WriteError) (e : WriteError) (F K U X F2 K2 U2 X2 : Type 0) → IsErrAnd result (λ d. d ≡ e)
+    → Because F K U X e → (F → F2) → (K → K2) → (U → U2) → (X → X2) → IfErr result (Because F2 K2 U2 X2)
 passed_weaker result e F K U X F2 K2 U2 X2 is p f k u x = passed_on result e F2 K2 U2 X2 is (because_weaker F K U X F2 K2 U2 X2 f k u x e p)
 
 pub failed_on : {T : Type 0} (result : Result T WriteError) (F K U X : Type 0) → IsErrAnd result (λ d. d ≡ error.Failed) → F → IfErr result (Because F K U X)

@@ -28,7 +28,8 @@ stat_of : (name : List ℕ) (id : FileId) (seen : Seen) (a b : Option Told) → 
 stat_of name id seen a b opened ab stat = now_both _ _ b (keeps_now _ a b opened ab) stat
 
 -- a regular file that was opened is kept in mind
-pub is_noted : (name : List ℕ) (id : FileId) (seen : Seen) (kept : List FileId) (a b c : Option Told) → Now a (IsOpened name id) → Keeps a b → Now b (IsStat id seen) → (seen.is_regular ≡ true → IsIn seen.id kept) → Keeps b c → Now c (IsNoted name kept)
+pub is_noted : (name : List ℕ) (id : FileId) (seen : Seen) (kept : List FileId) (a b c : Option Told) → Now a (IsOpened name id) → Keeps a b
+    → Now b (IsStat id seen) → (seen.is_regular ≡ true → IsIn seen.id kept) → Keeps b c → Now c (IsNoted name kept)
 is_noted name id seen kept a b c opened ab stat noted bc =
     now_weaker _ _ c (keeps_now _ b c (stat_of name id seen a b opened ab stat) bc) (λ d s n leads plain. noted_at d n s.0 s.1 leads plain)
   where
@@ -40,13 +41,15 @@ is_noted name id seen kept a b c opened ab stat noted bc =
 leads_seen : (name : List ℕ) (id : FileId) (seen : Seen) (d : Disk) → IsOpened name id d → IsStat id seen d → LeadsTo name seen.id d
 leads_seen name id seen d opened stat = opened.leads ∙ ap (λ (k : FileId). Some k) (sym stat.is)
 
-pub keeps_only : (name : List ℕ) (id : FileId) (seen : Seen) (before kept : List FileId) (a b c : Option Told) → Now a (IsOpened name id) → Keeps a b → Now b (IsStat id seen) → (kept ≡ before) ⊎ (kept ≡ before ++ seen.id ∷ []) → Keeps b c → Now c (KeepsOnly name before kept)
+pub keeps_only : (name : List ℕ) (id : FileId) (seen : Seen) (before kept : List FileId) (a b c : Option Told) → Now a (IsOpened name id) → Keeps a b
+    → Now b (IsStat id seen) → (kept ≡ before) ⊎ (kept ≡ before ++ seen.id ∷ []) → Keeps b c → Now c (KeepsOnly name before kept)
 keeps_only name id seen before kept a b c opened ab stat only bc =
     now_weaker _ _ c (keeps_now _ b c (stat_of name id seen a b opened ab stat) bc)
     (λ d s. ⊎_elim (λ (same : kept ≡ before). inl same) (λ (grown : kept ≡ before ++ seen.id ∷ []). inr (seen.id, grown, leads_seen name id seen d s.0 s.1)) only)
 
 -- a regular file that was opened was kept in mind before
-pub was_kept : (name : List ℕ) (id : FileId) (seen : Seen) (kept : List FileId) (a b : Option Told) → Now a (IsOpened name id) → Keeps a b → Now b (IsStat id seen) → seen.is_regular ≡ true → IsIn seen.id kept → Now b (WasKept name kept)
+pub was_kept : (name : List ℕ) (id : FileId) (seen : Seen) (kept : List FileId) (a b : Option Told) → Now a (IsOpened name id) → Keeps a b
+    → Now b (IsStat id seen) → seen.is_regular ≡ true → IsIn seen.id kept → Now b (WasKept name kept)
 was_kept name id seen kept a b opened ab stat regular is =
     now_weaker _ _ b (stat_of name id seen a b opened ab stat) (λ d s. (
       seen.id,

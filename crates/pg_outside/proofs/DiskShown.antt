@@ -74,8 +74,10 @@ one_real d p q none one = sym (none.real p) ∙ one ∙ none.real q
 written_map : (name bytes : List ℕ) (mode : Option ℕ) (n : FileId) (a b : Disk) → HasNoLinks a → HasNoLinks b → IsWritten name bytes mode n a b → file_map b ≡ fin.insert (file_map a) name bytes
 written_map name bytes mode n a b no_a no_b w = same_maps (file_map b) (fin.insert (file_map a) name bytes)
     (λ q. held_node b q no_b ∙ ⊎_elim
-    (λ (is : q ≡ name). ap (λ (r : List ℕ). option_map (λ node. node.bytes) (node_at b r)) is ∙ ap (λ (o : Option Node). option_map (λ node. node.bytes) o) w.whole.there ∙ ap (λ (l : List ℕ). Some l) w.whole.bytes ∙ sym (inserted (file_map a) name bytes q is))
-    (λ apart. ap (λ (o : Option Node). option_map (λ node. node.bytes) o) (w.others q (λ one. apart (one_real a q name no_a one))).1 ∙ sym (held_node a q no_a) ∙ sym (not_inserted (file_map a) name bytes q apart))
+    (λ (is : q ≡ name). ap (λ (r : List ℕ). option_map (λ node. node.bytes) (node_at b r)) is ∙ ap (λ (o : Option Node). option_map (λ node. node.bytes) o) w.whole.there
+    ∙ ap (λ (l : List ℕ). Some l) w.whole.bytes ∙ sym (inserted (file_map a) name bytes q is))
+    (λ apart. ap (λ (o : Option Node). option_map (λ node. node.bytes) o) (w.others q (λ one. apart (one_real a q name no_a one))).1 ∙ sym (held_node a q no_a)
+    ∙ sym (not_inserted (file_map a) name bytes q apart))
     (apart_or_one q name))
 
 same_map_of : (a b : Disk) → HasNoLinks a → HasNoLinks b → IsSame a b → file_map b ≡ file_map a
@@ -111,17 +113,20 @@ not_shown d name names is = ap (λ (l : List (List ℕ)). d.links.is_plain && ha
     and_false true = refl
     and_false false = refl
 
-written_shown : (name bytes : List ℕ) (before kept : List FileId) (a b : Disk) → KnowsPlain a → KnowsPlain b → AfterWrite name bytes before kept a b → is_shown b ≡ true → (is_shown a ≡ true) × (file_map b ≡ fin.insert (file_map a) name bytes)
+written_shown : (name bytes : List ℕ) (before kept : List FileId) (a b : Disk) → KnowsPlain a → KnowsPlain b → AfterWrite name bytes before kept a b
+    → is_shown b ≡ true → (is_shown a ≡ true) × (file_map b ≡ fin.insert (file_map a) name bytes)
 written_shown name bytes before kept a b ka kb after shown =
     let plain = links_plain a b after.links shown in
     let no_a = ka plain.1 in
     let w = after.plain (plain_name a name no_a) in
     (sym (shown_same a b after.links w.written.refused) ∙ shown, written_map name bytes (mode_at name a) w.id a b no_a (kb plain.0) w.written)
 
-pub written_held : (P : Disk → Disk → Type 0) (name bytes : List ℕ) (before kept : List FileId) (a b : Option Told) → Now a KnowsPlain → Now b KnowsPlain → Runs a b P (AfterWrite name bytes before kept) → WasWritten (held_of a) (held_of b) name bytes
+pub written_held : (P : Disk → Disk → Type 0) (name bytes : List ℕ) (before kept : List FileId) (a b : Option Told) → Now a KnowsPlain → Now b KnowsPlain
+    → Runs a b P (AfterWrite name bytes before kept) → WasWritten (held_of a) (held_of b) name bytes
 written_held P name bytes before kept a None ka kb run = tt
 written_held P name bytes before kept None (Some b) ka kb run = absurd run
-written_held P name bytes before kept (Some a) (Some b) ka kb run = was_written (is_shown a.now) (is_shown b.now) name bytes (file_map a.now) (file_map b.now) (written_shown name bytes before kept a.now b.now ka kb run.end)
+written_held P name bytes before kept (Some a) (Some b) ka kb run = was_written (is_shown a.now) (is_shown b.now) name bytes (file_map a.now) (file_map b.now)
+    (written_shown name bytes before kept a.now b.now ka kb run.end)
 
 failed_shown : (name bytes : List ℕ) (a b : Disk) → KnowsPlain a → KnowsPlain b → AfterFailure name bytes a b → is_shown b ≡ true → (is_shown a ≡ true) × (file_map b ≡ file_map a)
 failed_shown name bytes a b ka kb after shown =
@@ -132,7 +137,8 @@ failed_shown name bytes a b ka kb after shown =
     (λ (rest : HasRest name a b). absurd (false≢true (sym (not_shown b rest.own a.refused rest.refused) ∙ shown)))
     (after.plain (plain_name a name no_a))
 
-pub failed_held : (P : Disk → Disk → Type 0) (name bytes : List ℕ) (a b : Option Told) → Now a KnowsPlain → Now b KnowsPlain → Runs a b P (AfterFailure name bytes) → WasPartWritten (held_of a) (held_of b) name bytes
+pub failed_held : (P : Disk → Disk → Type 0) (name bytes : List ℕ) (a b : Option Told) → Now a KnowsPlain → Now b KnowsPlain → Runs a b P (AfterFailure name bytes)
+    → WasPartWritten (held_of a) (held_of b) name bytes
 failed_held P name bytes a None ka kb run = tt
 failed_held P name bytes None (Some b) ka kb run = absurd run
 failed_held P name bytes (Some a) (Some b) ka kb run = was_part (is_shown a.now) (is_shown b.now) name bytes (file_map a.now) (file_map b.now) (failed_shown name bytes a.now b.now ka kb run.end)
@@ -152,7 +158,8 @@ file_where false m name bytes is = tt
 pub read_held : (name bytes : List ℕ) (a : Option Told) → Now a KnowsPlain → Now a (IsContent name bytes) → IsFile (held_of a) name bytes
 read_held name bytes None ka content = tt
 read_held name bytes (Some a) ka content = file_where (is_shown a.now) (file_map a.now) name bytes (λ shown.
-    held_node a.now name (ka (shown_plain a.now.links.is_plain (has_none a.now.refused) shown)) ∙ ap (λ (o : Option Node). option_map (λ node. node.bytes) o) content.there ∙ ap (λ (l : List ℕ). Some l) (sym content.all))
+    held_node a.now name (ka (shown_plain a.now.links.is_plain (has_none a.now.refused) shown)) ∙ ap (λ (o : Option Node). option_map (λ node. node.bytes) o) content.there
+    ∙ ap (λ (l : List ℕ). Some l) (sym content.all))
 
 cut_where : (s : Bool) (m : FileMap) (name : List ℕ) (limit : ℕ) (front : List ℕ) → (s ≡ true → IsCut (file_at m name) limit front) → IsFileCut (cond s (Some m) None) name limit front
 cut_where true m name limit front is = is refl

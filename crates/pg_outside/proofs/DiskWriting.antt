@@ -73,7 +73,8 @@ may_one kept d p q one may = record {
 pub at_one : (p q bytes : List ℕ) (kept : List FileId) (first disk : Disk) → AreOne first p q → AtWrite p bytes kept first disk → AtWrite q bytes kept first disk
 at_one p q bytes kept first disk one at = record {
   allowed = may_one kept first p q one at.allowed;
-  plain = λ plain. subst (λ (m : Option ℕ). AtMoment q bytes m first disk) (mode_one first p q one) (moment_one p q bytes (mode_at p first) first disk one (at.plain (plain_one first q p (sym one) plain)));
+  plain = λ plain. subst (λ (m : Option ℕ). AtMoment q bytes m first disk) (mode_one first p q one)
+      (moment_one p q bytes (mode_at p first) first disk one (at.plain (plain_one first q p (sym one) plain)));
   device = λ n is. at.device n (device_one n first q p (sym one) is);
 }
 
@@ -158,7 +159,8 @@ at_may name bytes kept mode d disk may at = record {
   device = λ n is. absurd (device_plain name n d is may.plain);
 }
 
-pub after_may : (name bytes : List ℕ) (before kept : List FileId) (mode : Option ℕ) (n : FileId) (d last : Disk) → MayReplace name before mode d → kept ≡ before ++ n ∷ [] → IsWritten name bytes mode n d last → AfterWrite name bytes before kept d last
+pub after_may : (name bytes : List ℕ) (before kept : List FileId) (mode : Option ℕ) (n : FileId) (d last : Disk) → MayReplace name before mode d → kept
+    ≡ before ++ n ∷ [] → IsWritten name bytes mode n d last → AfterWrite name bytes before kept d last
 after_may name bytes before kept mode n d last may grown written = record {
   links = written.links;
   allowed = may_write name before mode d may;
@@ -187,13 +189,17 @@ pub record Leads (real name : List ℕ) (kept : List FileId) (mode : Option ℕ)
 seen_one : (p q : List ℕ) (seen : Seen) (d : Disk) → AreOne d p q → IsSeen p seen d → IsSeen q seen d
 seen_one p q seen d one s = record { leads = leads_one seen.id d p q one s.leads; node = s.node; there = s.there; kind = s.kind; mode = s.mode; writable = s.writable }
 
-may_old : (real name : List ℕ) (kept : List FileId) (found : Option FileId) (old : Option Seen) (mode : Option ℕ) (d : Disk) → IsOld name old d → StandsFor real found name d → IsPlaceOf found old mode → IfSome old (λ seen. seen.is_regular ≡ true) → IfSome old (λ seen. IsIn seen.id kept → ⊥) → MayReplace real kept mode d
+may_old : (real name : List ℕ) (kept : List FileId) (found : Option FileId) (old : Option Seen) (mode : Option ℕ) (d : Disk) → IsOld name old d
+    → StandsFor real found name d → IsPlaceOf found old mode → IfSome old (λ seen. seen.is_regular ≡ true) → IfSome old (λ seen. IsIn seen.id kept → ⊥) → MayReplace real kept mode d
 may_old real name kept None None mode d is s place regular free = subst (λ (m : Option ℕ). MayReplace real kept m d) (sym place) (may_none real kept d s.leads)
-may_old real name kept (Some id) (Some seen) mode d is s place regular free = subst (λ (m : Option ℕ). MayReplace real kept m d) (sym place.1) (may_seen real kept seen d (seen_one name real seen d (sym s.one) is) regular free)
+may_old real name kept (Some id) (Some seen) mode d is s place regular free = subst (λ (m : Option ℕ). MayReplace real kept m d) (sym place.1)
+    (may_seen real kept seen d (seen_one name real seen d (sym s.one) is) regular free)
 may_old real name kept None (Some seen) mode d is s place regular free = absurd place
 may_old real name kept (Some id) None mode d is s place regular free = absurd place
 
-pub leads_old : (real name : List ℕ) (kept : List FileId) (found : Option FileId) (old : Option Seen) (mode : Option ℕ) (a b : Option Told) → Now a (IsOld name old) → Keeps a b → Now b (StandsFor real found name) → IsPlaceOf found old mode → IfSome old (λ seen. seen.is_regular ≡ true) → IfSome old (λ seen. IsIn seen.id kept → ⊥) → Now b (Leads real name kept mode)
+pub leads_old : (real name : List ℕ) (kept : List FileId) (found : Option FileId) (old : Option Seen) (mode : Option ℕ) (a b : Option Told)
+    → Now a (IsOld name old) → Keeps a b → Now b (StandsFor real found name) → IsPlaceOf found old mode → IfSome old (λ seen. seen.is_regular ≡ true)
+    → IfSome old (λ seen. IsIn seen.id kept → ⊥) → Now b (Leads real name kept mode)
 leads_old real name kept found old mode a b is ab stands place regular free =
     now_weaker _ _ b (now_both _ _ b (keeps_now _ a b is ab) stands) (λ d s. record {
       direct = s.1.direct;
@@ -208,7 +214,8 @@ found_old real name (Some id) (Some seen) d is s none = none (Some seen.mode) (s
 found_old real name None (Some seen) d is s none = none_some seen.id (sym s.leads ∙ id_one d real name s.one ∙ is.leads)
 found_old real name (Some id) None d is s none = none_some id (sym is ∙ sym (id_one d real name s.one) ∙ s.leads)
 
-pub no_other : (real name : List ℕ) (found : Option FileId) (old : Option Seen) (F : Disk → Type 0) (a b : Option Told) → Now a (IsOld name old) → Keeps a b → Now b (StandsFor real found name) → ((mode : Option ℕ) → IsPlaceOf found old mode → ⊥) → Now b F
+pub no_other : (real name : List ℕ) (found : Option FileId) (old : Option Seen) (F : Disk → Type 0) (a b : Option Told) → Now a (IsOld name old)
+    → Keeps a b → Now b (StandsFor real found name) → ((mode : Option ℕ) → IsPlaceOf found old mode → ⊥) → Now b F
 no_other real name found old F a b is ab stands none =
     now_weaker _ _ b (now_both _ _ b (keeps_now _ a b is ab) stands) (λ d s. absurd (found_old real name found old d s.0 s.1 none))
 
@@ -228,7 +235,8 @@ replaces_one real name bytes kept after mode n a b c ab leads grown bc =
 keeps_one_more : (kept : List FileId) (n id : FileId) → IsIn id kept → IsIn id (kept ++ n ∷ [])
 keeps_one_more kept n id is = grind (arith, common_steps)
 
-pub replaces_found : {T E : Type 0} (result : Result T E) (real name bytes : List ℕ) (kept after : List FileId) (mode : Option ℕ) (a b c : Option Told) (before between later : ℕ) → between ≡ before → Keeps a b → Now b (Leads real name kept mode)
+pub replaces_found : {T E : Type 0} (result : Result T E) (real name bytes : List ℕ) (kept after : List FileId) (mode : Option ℕ) (a b c : Option Told) (before between later : ℕ)
+    → between ≡ before → Keeps a b → Now b (Leads real name kept mode)
     → OnOk result ((later ≡ between) × (n : FileId) × (after ≡ kept ++ n ∷ []) × Runs b c (WhereDirect real (AtMoment real bytes mode)) (WhereDirect real (IsWritten real bytes mode n)))
     → OnOk result ((later ≡ before) × KeepsAll kept after × Runs a c (AtWrite name bytes kept) (AfterWrite name bytes kept after))
 replaces_found (Ok value) real name bytes kept after mode a b c before between later same ab leads run = (
@@ -291,14 +299,16 @@ after_device name bytes kept seen x y device p s = record {
   device = λ n is. (same_device (λ k. Wrote k bytes) name seen.id n x y s.leads is.leads p, refl);
 }
 
-pub writes_device : (name bytes : List ℕ) (kept : List FileId) (seen : Seen) (n : FileId) (a b c : Option Told) → Now a (IsOpened name n) → Now a (IsWritable n) → Keeps a b → Now b (IsStat n seen) → seen.is_regular ≡ false
+pub writes_device : (name bytes : List ℕ) (kept : List FileId) (seen : Seen) (n : FileId) (a b c : Option Told) → Now a (IsOpened name n) → Now a (IsWritable n)
+    → Keeps a b → Now b (IsStat n seen) → seen.is_regular ≡ false
     → Runs b c (WrotePart n bytes) (Wrote n bytes) → Runs a c (AtWrite name bytes kept) (AfterWrite name bytes kept kept)
 writes_device name bytes kept seen n a b c opened writable ab stat device bc =
     keeps_then _ _ a b c ab (known_start _ _ _ _ (λ d. IsSeen name seen d × IsStat n seen d) b c (now_both _ _ b (opened_seen name n seen a b opened writable ab stat) stat) bc
     (λ x y f p. at_device name bytes kept seen x y device (subst (λ (k : FileId). WrotePart k bytes x y) (sym f.1.is) p) f.0)
     (λ x y f p. after_device name bytes kept seen x y device (subst (λ (k : FileId). Wrote k bytes x y) (sym f.1.is) p) f.0))
 
-pub write_device_fails : (name bytes : List ℕ) (kept : List FileId) (seen : Seen) (n : FileId) (a b c : Option Told) → Now a (IsOpened name n) → Now a (IsWritable n) → Keeps a b → Now b (IsStat n seen) → seen.is_regular ≡ false
+pub write_device_fails : (name bytes : List ℕ) (kept : List FileId) (seen : Seen) (n : FileId) (a b c : Option Told) → Now a (IsOpened name n)
+    → Now a (IsWritable n) → Keeps a b → Now b (IsStat n seen) → seen.is_regular ≡ false
     → Runs b c (WrotePart n bytes) (WrotePart n bytes) → Runs a c (AtWrite name bytes kept) (AfterFailure name bytes)
 write_device_fails name bytes kept seen n a b c opened writable ab stat device bc =
     keeps_then _ _ a b c ab (known_start _ _ _ _ (λ d. IsSeen name seen d × IsStat n seen d) b c (now_both _ _ b (opened_seen name n seen a b opened writable ab stat) stat) bc
@@ -307,13 +317,16 @@ write_device_fails name bytes kept seen n a b c opened writable ab stat device b
 
 -- nothing was done
 pub nothing_failed : (name bytes : List ℕ) (kept : List FileId) (a b : Option Told) → Keeps a b → Runs a b (AtWrite name bytes kept) (AfterFailure name bytes)
-nothing_failed name bytes kept a b ab = no_step _ _ a b ab (λ x. record { links = refl; plain = λ plain. inl (record { links = refl; refused = refl; names = λ other. (refl, refl) }); device = λ n is. (0, wrote_nothing n x) })
+nothing_failed name bytes kept a b ab =
+    no_step _ _ a b ab (λ x. record { links = refl; plain = λ plain. inl (record { links = refl; refused = refl; names = λ other. (refl, refl) }); device = λ n is. (0, wrote_nothing n x) })
 
 -- a write that is passed on, after calls that changed nothing
-pub writes_later : {T : Type 0} (result : Result T WriteError) (first between last : ℕ) (before same kept : List FileId) (a b c : Option Told) (name bytes : List ℕ) → between ≡ first → same ≡ before → Keeps a b
+pub writes_later : {T : Type 0} (result : Result T WriteError) (first between last : ℕ) (before same kept : List FileId) (a b c : Option Told) (name bytes : List ℕ)
+    → between ≡ first → same ≡ before → Keeps a b
     → IsWrite result between last same kept b c name bytes → IsWrite result first last before kept a c name bytes
 writes_later result first between last before same kept a b c name bytes failures keeps ab write =
-    let known : IsWrite result first last before kept b c name bytes = subst (λ (n : ℕ). IsWrite result n last before kept b c name bytes) failures (subst (λ (k : List FileId). IsWrite result between last k kept b c name bytes) keeps write) in
+    let known : IsWrite result first last before kept b c name bytes = subst (λ (n : ℕ). IsWrite result n last before kept b c name bytes) failures
+    (subst (λ (k : List FileId). IsWrite result between last k kept b c name bytes) keeps write) in
     record {
       ok = on_ok_weaker result (λ run. (run.0, run.1, keeps_then _ _ _ _ _ ab run.2)) known.ok;
       err = on_err_weaker result (λ run. (run.0, keeps_then _ _ _ _ _ ab run.1)) known.err;
@@ -321,7 +334,8 @@ writes_later result first between last before same kept a b c name bytes failure
     }
 
 -- a write that fails before anything is changed
-pub writes_nothing : {T : Type 0} (result : Result T WriteError) (e : WriteError) (first last : ℕ) (before kept : List FileId) (a b : Option Told) (name bytes : List ℕ) → IsErr result → IsErrAnd result (λ d. d ≡ e) → kept ≡ before → Keeps a b
+pub writes_nothing : {T : Type 0} (result : Result T WriteError) (e : WriteError) (first last : ℕ) (before kept : List FileId) (a b : Option Told) (name bytes : List ℕ)
+    → IsErr result → IsErrAnd result (λ d. d ≡ e) → kept ≡ before → Keeps a b
     → Because (Rose first last) (Now b (WasKept name before)) (Now b (IsDeep name)) (Now b (IsFull name)) e → IsWrite result first last before kept a b name bytes
 writes_nothing result e first last before kept a b name bytes is_err is same ab because = record {
   ok = no_value _ result is_err;

@@ -18,7 +18,8 @@ pub not_followed : (told : Option Told) (name real : List ℕ) → real ≡ name
 not_followed told name real is = subst (λ (n : List ℕ). Now told (IsReached name n 0)) (sym is)
     (now_always (IsReached name name 0) told (λ d. record { one = refl; at = refl; links = λ before below. absurd (omega arith) }))
 
-reached : (name real text joined : List ℕ) (count : ℕ) (d : Disk) → IsReached name real count d → d.links.is_link real ≡ true → IsFollowedBy real text d → IsJoined real text joined → IsReached name joined (count + 1) d
+reached : (name real text joined : List ℕ) (count : ℕ) (d : Disk) → IsReached name real count d → d.links.is_link real ≡ true → IsFollowedBy real text d
+    → IsJoined real text joined → IsReached name joined (count + 1) d
 reached name real text joined count d so_far link text_of is_joined =
     let said = text_of joined is_joined in
     record {
@@ -31,21 +32,24 @@ reached name real text joined count d so_far link text_of is_joined =
     }
 
 -- one more link
-pub reached_on : (name real text joined : List ℕ) (count next : ℕ) (a b c : Option Told) → Now a (IsReached name real count) → Keeps a b → Now b (IsEntry real Link) → Keeps b c → Now c (IsFollowedBy real text) → IsJoined real text joined → next ≡ count + 1 → Now c (IsReached name joined next)
+pub reached_on : (name real text joined : List ℕ) (count next : ℕ) (a b c : Option Told) → Now a (IsReached name real count) → Keeps a b
+    → Now b (IsEntry real Link) → Keeps b c → Now c (IsFollowedBy real text) → IsJoined real text joined → next ≡ count + 1 → Now c (IsReached name joined next)
 reached_on name real text joined count next a b c so_far ab link bc text_of is_joined is =
     subst (λ (k : ℕ). Now c (IsReached name joined k)) (sym is)
     (now_weaker _ _ c (now_both _ _ c (keeps_now _ b c (now_both _ _ b (keeps_now _ a b so_far ab) link) bc) text_of)
     (λ d p. reached name real text joined count d p.0.0 p.0.1 p.1 is_joined))
 
 -- the links end at a name of no file
-pub stands_none : (name real found : List ℕ) (file : Option FileId) (count : ℕ) (a b : Option Told) → Now a (IsReached name real count) → Keeps a b → Now b (IsEntry real Missing) → found ≡ real → file ≡ None → Now b (StandsFor found file name)
+pub stands_none : (name real found : List ℕ) (file : Option FileId) (count : ℕ) (a b : Option Told) → Now a (IsReached name real count) → Keeps a b
+    → Now b (IsEntry real Missing) → found ≡ real → file ≡ None → Now b (StandsFor found file name)
 stands_none name real found file count a b so_far ab entry same none =
     subst (λ (n : List ℕ). Now b (StandsFor n file name)) (sym same)
     (subst (λ (f : Option FileId). Now b (StandsFor real f name)) (sym none)
     (now_weaker _ _ b (now_both _ _ b (keeps_now _ a b so_far ab) entry) (λ d p. record { direct = p.1.0; leads = p.1.1; one = p.0.one })))
 
 -- the links end at a name of a file
-pub stands_some : (name real found : List ℕ) (id : FileId) (file : Option FileId) (count : ℕ) (a b : Option Told) → Now a (IsReached name real count) → Keeps a b → Now b (IsEntry real (File id)) → found ≡ real → file ≡ Some id → Now b (StandsFor found file name)
+pub stands_some : (name real found : List ℕ) (id : FileId) (file : Option FileId) (count : ℕ) (a b : Option Told) → Now a (IsReached name real count)
+    → Keeps a b → Now b (IsEntry real (File id)) → found ≡ real → file ≡ Some id → Now b (StandsFor found file name)
 stands_some name real found id file count a b so_far ab entry same some =
     subst (λ (n : List ℕ). Now b (StandsFor n file name)) (sym same)
     (subst (λ (f : Option FileId). Now b (StandsFor real f name)) (sym some)

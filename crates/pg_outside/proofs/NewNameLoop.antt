@@ -37,7 +37,8 @@ one_more a b folder name tried next ab is so_far last = record {
 pub skipped : (a : Option Told) (folder name : List ℕ) (tried next : ℕ) → next ≡ tried + 1 → HasTried a folder name tried → new_name folder tried ≡ name → HasTried a folder name next
 skipped a folder name tried next is so_far same = one_more a a folder name tried next (keeps_self a) is so_far (now_always (IsTried folder name tried) a (λ d. inr (sym same)))
 
-pub taken : (a b : Option Told) (own folder name : List ℕ) (tried next : ℕ) → Keeps a b → next ≡ tried + 1 → own ≡ new_name folder tried → HasTried a folder name tried → Now b (IsTaken own) → HasTried b folder name next
+pub taken : (a b : Option Told) (own folder name : List ℕ) (tried next : ℕ) → Keeps a b → next ≡ tried + 1 → own ≡ new_name folder tried
+    → HasTried a folder name tried → Now b (IsTaken own) → HasTried b folder name next
 taken a b own folder name tried next ab is named so_far is_taken = one_more a b folder name tried next ab is so_far
     (now_weaker _ _ b (subst (λ (n : List ℕ). Now b (IsTaken n)) named is_taken) (λ d t. inl t))
 

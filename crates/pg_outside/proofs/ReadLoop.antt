@@ -34,18 +34,22 @@ pub more_bytes : (bytes more buffer rest : List ℕ) (count : ℕ) → count ≤
 more_bytes bytes more buffer rest count within items = items ∙ ap (λ (l : List ℕ). bytes ++ l) (take-append-le count buffer rest within)
 
 -- a read of as much as the limit leaves, and one byte
-pub within_limit : (bytes more buffer piece : List ℕ) (count most limit : ℕ) → more ≡ bytes ++ take count buffer → count ≤ length (take most piece) → most ≤ (limit - length bytes) + 1 → length bytes ≤ limit → length more ≤ limit + 1
+pub within_limit : (bytes more buffer piece : List ℕ) (count most limit : ℕ) → more ≡ bytes ++ take count buffer → count ≤ length (take most piece)
+    → most ≤ (limit - length bytes) + 1 → length bytes ≤ limit → length more ≤ limit + 1
 within_limit bytes more buffer piece count most limit is asked left below = rw is (grind (arith, common_steps))
 
-piece_front : (bytes piece all : List ℕ) (at count : ℕ) → at ≡ length bytes → bytes ≡ take (length bytes) all → at + count ≤ length all → piece ≡ take count (drop at all) → (bytes ++ piece ≡ take (at + count) all) × (length (bytes ++ piece) ≡ at + count)
+piece_front : (bytes piece all : List ℕ) (at count : ℕ) → at ≡ length bytes → bytes ≡ take (length bytes) all → at + count ≤ length all → piece
+    ≡ take count (drop at all) → (bytes ++ piece ≡ take (at + count) all) × (length (bytes ++ piece) ≡ at + count)
 piece_front bytes piece all at count on front within is =
-    let e : bytes ++ piece ≡ take (at + count) all = rw (take-add at count all) (ap (λ (l : List ℕ). l ++ piece) (front ∙ ap (λ (n : ℕ). take n all) (sym on)) ∙ ap (λ (l : List ℕ). take at all ++ l) is) in
+    let e : bytes ++ piece ≡ take (at + count) all = rw (take-add at count all) (ap (λ (l : List ℕ). l ++ piece) (front ∙ ap (λ (n : ℕ). take n all) (sym on))
+    ∙ ap (λ (l : List ℕ). take at all ++ l) is) in
     (e, grind (arith, common_steps))
 
 length_piece : (bytes buffer : List ℕ) (at count next : ℕ) → at ≡ length bytes → next ≡ at + count → count ≤ length buffer → next ≡ length (bytes ++ take count buffer)
 length_piece bytes buffer at count next on is within = grind (arith, common_steps)
 
-is_read_on : (n : FileId) (at next count room : ℕ) (bytes buffer : List ℕ) (d : Disk) → count ≤ length buffer → IsRead n at bytes d → HasPiece n at next count room buffer d → IsRead n next (bytes ++ take count buffer) d
+is_read_on : (n : FileId) (at next count room : ℕ) (bytes buffer : List ℕ) (d : Disk) → count ≤ length buffer → IsRead n at bytes d
+    → HasPiece n at next count room buffer d → IsRead n next (bytes ++ take count buffer) d
 is_read_on n at next count room bytes buffer d bound so_far piece = record {
   on = length_piece bytes buffer at count next so_far.on piece.on bound;
   front = λ node is. let f = piece_front bytes (take count buffer) node.bytes at count so_far.on (so_far.front node is) (piece.within node is) (piece.bytes node is) in rw f.1 f.0;
@@ -53,7 +57,9 @@ is_read_on n at next count room bytes buffer d bound so_far piece = record {
 }
 
 -- one more read
-pub reads_on : (before now after : Option Told) (file same after_same : FileId) (at next count room limit : ℕ) (bytes buffer more : List ℕ) → HasRead before now file same at bytes limit → Keeps now after → after_same ≡ same → Now after (HasPiece same at next count room buffer) → count ≤ length buffer → more ≡ bytes ++ take count buffer → length more ≤ limit + 1 → HasRead before after file after_same next more limit
+pub reads_on : (before now after : Option Told) (file same after_same : FileId) (at next count room limit : ℕ) (bytes buffer more : List ℕ)
+    → HasRead before now file same at bytes limit → Keeps now after → after_same ≡ same → Now after (HasPiece same at next count room buffer)
+    → count ≤ length buffer → more ≡ bytes ++ take count buffer → length more ≤ limit + 1 → HasRead before after file after_same next more limit
 reads_on before now after file same after_same at next count room limit bytes buffer more so_far keeps is piece bound items within = record {
   same_file = is ∙ so_far.same_file;
   keeps = keeps_both before now after so_far.keeps keeps;
@@ -70,7 +76,8 @@ whole_of_front bytes all front end = front ∙ take_all (length bytes) all end
     take_all n l within = grind (arith, common_steps)
 
 -- a read of nothing
-pub reads_end : (before now after : Option Told) (file same : FileId) (at next count room limit : ℕ) (bytes buffer : List ℕ) → HasRead before now file same at bytes limit → Keeps now after → Now after (HasPiece same at next count room buffer) → count ≡ 0 → 0 < room → Now after (IsAllOf file bytes)
+pub reads_end : (before now after : Option Told) (file same : FileId) (at next count room limit : ℕ) (bytes buffer : List ℕ) → HasRead before now file same at bytes limit
+    → Keeps now after → Now after (HasPiece same at next count room buffer) → count ≡ 0 → 0 < room → Now after (IsAllOf file bytes)
 reads_end before now after file same at next count room limit bytes buffer so_far keeps piece none room_left =
     now_weaker _ _ after (now_both _ _ after (keeps_now _ now after so_far.read keeps) (subst (λ (k : FileId). Now after (HasPiece k at next count room buffer)) so_far.same_file piece))
     (λ d p node is. whole_of_front bytes node.bytes (p.0.front node is) (at_end (length node.bytes) at (length bytes) (p.1.end node is none room_left) p.0.on))
@@ -79,7 +86,8 @@ reads_end before now after file same at next count room limit bytes buffer so_fa
     at_end a b c le is = omega arith
 
 -- more than the limit
-pub reads_past : (before now : Option Told) (file same : FileId) (at limit : ℕ) (bytes : List ℕ) → HasRead before now file same at bytes limit → limit < length bytes → Now now (IsFrontOf file limit bytes)
+pub reads_past : (before now : Option Told) (file same : FileId) (at limit : ℕ) (bytes : List ℕ) → HasRead before now file same at bytes limit
+    → limit < length bytes → Now now (IsFrontOf file limit bytes)
 reads_past before now file same at limit bytes so_far past =
     now_weaker _ _ now so_far.read (λ d p node is. (
       longer limit (length bytes) (length node.bytes) past (p.within node is),

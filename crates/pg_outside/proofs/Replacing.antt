@@ -13,7 +13,8 @@ still_direct : (a b : Disk) (q : List ℕ) → b.links ≡ a.links → a.links.i
 still_direct a b q links direct = ap (λ (l : Links). l.is_link q) links ∙ direct
 
 -- the file is filled and takes the name
-pub places : (own name bytes : List ℕ) (mode : Option ℕ) (n m : FileId) (seen : Seen) (a b c d : Option Told) → Runs a b (Disturbed n) (Filled n mode bytes) → m ≡ n → Keeps b c → Now c (IsStat m seen) → Steps c d (Renamed own name) → Runs a d (InPlacing own name n mode bytes) (PlacedAs own name n mode bytes seen.id)
+pub places : (own name bytes : List ℕ) (mode : Option ℕ) (n m : FileId) (seen : Seen) (a b c d : Option Told) → Runs a b (Disturbed n) (Filled n mode bytes)
+    → m ≡ n → Keeps b c → Now c (IsStat m seen) → Steps c d (Renamed own name) → Runs a d (InPlacing own name n mode bytes) (PlacedAs own name n mode bytes seen.id)
 places own name bytes mode n m seen a b c d ab same bc stat cd =
     runs_on _ _ _ _ _ _ a c d (known_end _ _ _ a c (then_keeps _ _ a b c ab bc) stat) (one_step (Renamed own name) c d cd)
     (λ x y p. inl p)
@@ -39,7 +40,9 @@ rest_beside : (own name : List ℕ) (n : FileId) (x y : Disk) → IsOwn own name
 rest_beside own name n x y is rest known direct = is_beside own name x is.is_new is.apart known direct rest.direct rest.beside.unnamed
 
 -- the new file takes the place
-pub replaces : (own name bytes : List ℕ) (mode : Option ℕ) (n found : FileId) (a b c : Option Told) → IsOwn own name → Now a KnowsNewNames → Steps a b (Made own n) → Runs b c (InPlacing own name n mode bytes) (PlacedAs own name n mode bytes found) → Runs a c (WhereDirect name (AtMoment name bytes mode)) (WhereDirect name (IsWritten name bytes mode found))
+pub replaces : (own name bytes : List ℕ) (mode : Option ℕ) (n found : FileId) (a b c : Option Told) → IsOwn own name → Now a KnowsNewNames
+    → Steps a b (Made own n) → Runs b c (InPlacing own name n mode bytes) (PlacedAs own name n mode bytes found)
+    → Runs a c (WhereDirect name (AtMoment name bytes mode)) (WhereDirect name (IsWritten name bytes mode found))
 replaces own name bytes mode n found a b c is known ab bc = where_known _ _ a c known
     (runs_on _ _ _ _ (Knowing (WhereDirect name (AtMoment name bytes mode))) (Knowing (WhereDirect name (IsWritten name bytes mode found))) a b c (one_step (Made own n) a b ab) bc
     (λ x y p k direct. at_made own name bytes mode n x y (made_beside own name n x y is p k direct) p)
@@ -49,7 +52,8 @@ replaces own name bytes mode n found a b c is known ab bc = where_known _ _ a c 
     at_once : (x y z : Disk) → Made own n x y → Placed own name n mode bytes y z → KnowsNewNames x → x.links.is_link name ≡ false → AtMoment name bytes mode x z
     at_once x y z q p k direct =
         let ready = made_then_filled own bytes mode n x y p.0 q p.1 in
-        at_placed own name bytes mode n x p.0 z (made_beside own name n x y is q k direct) ready (p.2 (still_direct x p.0 own ready.beside.links ready.direct) (still_direct x p.0 name ready.beside.links direct))
+        at_placed own name bytes mode n x p.0 z (made_beside own name n x y is q k direct) ready
+        (p.2 (still_direct x p.0 own ready.beside.links ready.direct) (still_direct x p.0 name ready.beside.links direct))
 
     at_last : (x y z : Disk) → Made own n x y → Placed own name n mode bytes y z → x.links.is_link name ≡ false → IsWritten name bytes mode n x z
     at_last x y z q p direct =
@@ -57,16 +61,19 @@ replaces own name bytes mode n found a b c is known ab bc = where_known _ _ a c 
         is_written own name bytes mode n x p.0 z ready (p.2 (still_direct x p.0 own ready.beside.links ready.direct) (still_direct x p.0 name ready.beside.links direct))
 
 -- the new file is given up
-gives_up : (own name bytes : List ℕ) (mode : Option ℕ) (n : FileId) (a b c : Option Told) → IsOwn own name → Steps a b (Made own n) → Runs b c (Disturbed n) (Disturbed n) → Runs a c (Knowing (WhereDirect name (AtMoment name bytes mode))) (HasBeside own n)
+gives_up : (own name bytes : List ℕ) (mode : Option ℕ) (n : FileId) (a b c : Option Told) → IsOwn own name → Steps a b (Made own n)
+    → Runs b c (Disturbed n) (Disturbed n) → Runs a c (Knowing (WhereDirect name (AtMoment name bytes mode))) (HasBeside own n)
 gives_up own name bytes mode n a b c is ab bc =
     runs_on _ _ _ _ _ _ a b c (one_step (Made own n) a b ab) bc
     (λ x y p k direct. at_made own name bytes mode n x y (made_beside own name n x y is p k direct) p)
     (λ x y z q p k direct. at_disturbed own name bytes mode n x y z (made_beside own name n x y is q k direct) q p)
     (λ x y z q p. made_then_disturbed own n x y z q p)
 
-removes : (own name bytes : List ℕ) (mode : Option ℕ) (n : FileId) (a b c d : Option Told) → IsOwn own name → Now a KnowsNewNames → Steps a b (Made own n) → Runs b c (Disturbed n) (Disturbed n) → Steps c d (RemovedName own) → Runs a d (WhereDirect name (AtMoment name bytes mode)) (WhereDirect name (IsAsBefore name))
+removes : (own name bytes : List ℕ) (mode : Option ℕ) (n : FileId) (a b c d : Option Told) → IsOwn own name → Now a KnowsNewNames → Steps a b (Made own n)
+    → Runs b c (Disturbed n) (Disturbed n) → Steps c d (RemovedName own) → Runs a d (WhereDirect name (AtMoment name bytes mode)) (WhereDirect name (IsAsBefore name))
 removes own name bytes mode n a b c d is known ab bc cd = where_known _ _ a d known
-    (runs_on _ _ _ _ (Knowing (WhereDirect name (AtMoment name bytes mode))) (Knowing (WhereDirect name (IsAsBefore name))) a c d (gives_up own name bytes mode n a b c is ab bc) (one_step (RemovedName own) c d cd)
+    (runs_on _ _ _ _ (Knowing (WhereDirect name (AtMoment name bytes mode))) (Knowing (WhereDirect name (IsAsBefore name))) a c d
+    (gives_up own name bytes mode n a b c is ab bc) (one_step (RemovedName own) c d cd)
     (λ x y p. p)
     (λ x y z q p k direct. at_same own name bytes mode x z (rest_beside own name n x y is q k direct) (is_same x y z q p))
     (λ x y z q p k direct. inl (is_same x y z q p)))
@@ -74,9 +81,11 @@ removes own name bytes mode n a b c d is known ab bc cd = where_known _ _ a d kn
     is_same : (x y z : Disk) → HasBeside own n x y → RemovedName own y z → IsSame x z
     is_same x y z q p = removed_same own n q.node x y z q.beside (p (still_direct x y own q.beside.links q.direct))
 
-refuses : (own name bytes : List ℕ) (mode : Option ℕ) (n : FileId) (a b c d : Option Told) → IsOwn own name → Now a KnowsNewNames → Steps a b (Made own n) → Runs b c (Disturbed n) (Disturbed n) → Steps c d (Refused own) → Runs a d (WhereDirect name (AtMoment name bytes mode)) (WhereDirect name (IsAsBefore name))
+refuses : (own name bytes : List ℕ) (mode : Option ℕ) (n : FileId) (a b c d : Option Told) → IsOwn own name → Now a KnowsNewNames → Steps a b (Made own n)
+    → Runs b c (Disturbed n) (Disturbed n) → Steps c d (Refused own) → Runs a d (WhereDirect name (AtMoment name bytes mode)) (WhereDirect name (IsAsBefore name))
 refuses own name bytes mode n a b c d is known ab bc cd = where_known _ _ a d known
-    (runs_on _ _ _ _ (Knowing (WhereDirect name (AtMoment name bytes mode))) (Knowing (WhereDirect name (IsAsBefore name))) a c d (gives_up own name bytes mode n a b c is ab bc) (one_step (Refused own) c d cd)
+    (runs_on _ _ _ _ (Knowing (WhereDirect name (AtMoment name bytes mode))) (Knowing (WhereDirect name (IsAsBefore name))) a c d
+    (gives_up own name bytes mode n a b c is ab bc) (one_step (Refused own) c d cd)
     (λ x y p. p)
     (λ x y z q p k direct. at_rest name bytes mode x z (has_rest x y z q p k direct))
     (λ x y z q p k direct. inr (has_rest x y z q p k direct)))
@@ -84,7 +93,9 @@ refuses own name bytes mode n a b c d is known ab bc cd = where_known _ _ a d kn
     has_rest : (x y z : Disk) → HasBeside own n x y → Refused own y z → KnowsNewNames x → x.links.is_link name ≡ false → HasRest name x z
     has_rest x y z q p k direct = refused_rest own name n q.node x y z (rest_beside own name n x y is q k direct) q.beside p
 
-pub gave_up : {T E : Type 0} → (result : Result T E) (own name bytes : List ℕ) (mode : Option ℕ) (n : FileId) (a b c d : Option Told) → IsOwn own name → Now a KnowsNewNames → Steps a b (Made own n) → Runs b c (Disturbed n) (Disturbed n) → OnOk result (Steps c d (RemovedName own)) → OnErr result (Steps c d (Refused own)) → Runs a d (WhereDirect name (AtMoment name bytes mode)) (WhereDirect name (IsAsBefore name))
+pub gave_up : {T E : Type 0} → (result : Result T E) (own name bytes : List ℕ) (mode : Option ℕ) (n : FileId) (a b c d : Option Told) → IsOwn own name
+    → Now a KnowsNewNames → Steps a b (Made own n) → Runs b c (Disturbed n) (Disturbed n) → OnOk result (Steps c d (RemovedName own))
+    → OnErr result (Steps c d (Refused own)) → Runs a d (WhereDirect name (AtMoment name bytes mode)) (WhereDirect name (IsAsBefore name))
 gave_up (Ok value) own name bytes mode n a b c d is known ab bc ok err = removes own name bytes mode n a b c d is known ab bc ok
 gave_up (Err error) own name bytes mode n a b c d is known ab bc ok err = refuses own name bytes mode n a b c d is known ab bc err
 

@@ -27,16 +27,21 @@ file_at-file_map files name = fin.get-from_entries nat_list_cmp_total (map name_
 
 module _ {A : Type 0} (view : StoredFile → A) (none : A) where
   -- the first file of a name
-  pub of_name-at : (files : List StoredFile) (place : ℕ) (d : StoredFile) (name : List ℕ) → place < length files → has_name name (get_or files place d) ≡ true → ((k : ℕ) → k < place → has_name name (get_or files k d) ≡ false) → of_name view none files name ≡ view (get_or files place d)
+  pub of_name-at : (files : List StoredFile) (place : ℕ) (d : StoredFile) (name : List ℕ) → place < length files → has_name name (get_or files place d)
+      ≡ true → ((k : ℕ) → k < place → has_name name (get_or files k d) ≡ false) → of_name view none files name ≡ view (get_or files place d)
   of_name-at [] place d name within found before = absurd (omega arith)
   of_name-at (file ∷ files) zero d name within found before = grind (arith, common_steps)
-  of_name-at (file ∷ files) (suc place) d name within found before = grind (arith, common_steps, before 0 (omega arith), of_name-at files place d name (omega arith) found (λ k below. before (suc k) (omega arith)))
+  of_name-at (file ∷ files) (suc place) d name within found before = grind
+      (arith, common_steps, before 0 (omega arith), of_name-at files place d name (omega arith) found (λ k below. before (suc k) (omega arith)))
 
   -- the first file of a name is set anew
-  pub of_name-set : (files : List StoredFile) (place : ℕ) (d file : StoredFile) (name q : List ℕ) → place < length files → has_name name (get_or files place d) ≡ true → ((k : ℕ) → k < place → has_name name (get_or files k d) ≡ false) → has_name name file ≡ true → of_name view none (set files place file) q ≡ cond (bytes_eq q name) (view file) (of_name view none files q)
+  pub of_name-set : (files : List StoredFile) (place : ℕ) (d file : StoredFile) (name q : List ℕ) → place < length files → has_name name (get_or files place d)
+      ≡ true → ((k : ℕ) → k < place → has_name name (get_or files k d) ≡ false) → has_name name file ≡ true → of_name view none (set files place file) q
+      ≡ cond (bytes_eq q name) (view file) (of_name view none files q)
   of_name-set [] place d file name q within found before same = absurd (omega arith)
   of_name-set (first ∷ files) zero d file name q within found before same = grind (arith, common_steps, bytes_eq-Decides)
-  of_name-set (first ∷ files) (suc place) d file name q within found before same = grind (arith, common_steps, bytes_eq-Decides, before 0 (omega arith), of_name-set files place d file name q (omega arith) found (λ k below. before (suc k) (omega arith)) same)
+  of_name-set (first ∷ files) (suc place) d file name q within found before same =
+      grind (arith, common_steps, bytes_eq-Decides, before 0 (omega arith), of_name-set files place d file name q (omega arith) found (λ k below. before (suc k) (omega arith)) same)
 
   -- no file of a name is there
   pub of_name-none : (files : List StoredFile) (name : List ℕ) → position (has_name name) files ≡ None → of_name view none files name ≡ none
@@ -44,7 +49,8 @@ module _ {A : Type 0} (view : StoredFile → A) (none : A) where
   of_name-none (file ∷ files) name missing = grind (arith, common_steps, of_name-none files name)
 
   -- a file of a new name is pushed
-  pub of_name-push : (files : List StoredFile) (file : StoredFile) (name q : List ℕ) → position (has_name name) files ≡ None → has_name name file ≡ true → of_name view none (files ++ file ∷ []) q ≡ cond (bytes_eq q name) (view file) (of_name view none files q)
+  pub of_name-push : (files : List StoredFile) (file : StoredFile) (name q : List ℕ) → position (has_name name) files ≡ None → has_name name file ≡ true
+      → of_name view none (files ++ file ∷ []) q ≡ cond (bytes_eq q name) (view file) (of_name view none files q)
   of_name-push [] file name q missing same = grind (arith, common_steps, bytes_eq-Decides)
   of_name-push (first ∷ files) file name q missing same = grind (arith, common_steps, bytes_eq-Decides, of_name-push files file name q)
 
@@ -68,16 +74,20 @@ place_within files name place at = grind (arith, common_steps)
 
 is_place : (files : List StoredFile) (name : List ℕ) (place : ℕ) → position (has_name name) files ≡ Some place → IsPlace name files place
 is_place files name place at =
-    let first : (d : StoredFile) → (place < length files) × (has_name name (get_or files place d) ≡ true) × ((k : ℕ) → k < place → has_name name (get_or files k d) ≡ false) = λ d. position-Some (has_name name) files place d at in
+    let first : (d : StoredFile) → (place < length files) × (has_name name (get_or files place d) ≡ true) × ((k : ℕ) → k < place → has_name name (get_or files k d) ≡ false) =
+    λ d. position-Some (has_name name) files place d at in
     let renamed : (file : StoredFile) → string_bytes file.name ≡ string_bytes (get_or files place file).name → has_name name file ≡ true = λ file same. grind (arith, (first file).1) in
     record {
       within = place_within files name place at;
-      there = λ file is. file_at-file_map files name ∙ of_name-at (λ f. Some f.bytes.items) None files place file name (first file).0 (first file).1 (first file).2 ∙ ap (λ (f : StoredFile). Some f.bytes.items) (sym is);
+      there = λ file is. file_at-file_map files name ∙ of_name-at (λ f. Some f.bytes.items) None files place file name (first file).0 (first file).1 (first file).2
+          ∙ ap (λ (f : StoredFile). Some f.bytes.items) (sym is);
       room = λ file is. of_name-at (λ f. vec_capacity f.bytes) 0 files place file name (first file).0 (first file).1 (first file).2 ∙ ap (λ (f : StoredFile). vec_capacity f.bytes) (sym is);
-      set_map = λ file same. same_files _ _ (λ q. of_name-set (λ f. Some f.bytes.items) None files place file file name q (first file).0 (first file).1 (first file).2 (renamed file same) ∙ sym (file_at-insert files name file.bytes.items q));
+      set_map = λ file same. same_files _ _ (λ q. of_name-set (λ f. Some f.bytes.items) None files place file file name q (first file).0 (first file).1 (first file).2 (renamed file same)
+          ∙ sym (file_at-insert files name file.bytes.items q));
       set_room = λ file same other. of_name-set (λ f. vec_capacity f.bytes) 0 files place file file name other (first file).0 (first file).1 (first file).2 (renamed file same);
       same_rooms = λ file same room other. of_name-set (λ f. vec_capacity f.bytes) 0 files place file file name other (first file).0 (first file).1 (first file).2 (renamed file same)
-          ∙ cond-same (bytes_eq other name) _ _ (λ is. room ∙ sym (of_name-at (λ f. vec_capacity f.bytes) 0 files place file name (first file).0 (first file).1 (first file).2) ∙ ap (room_in files) (sym ((bytes_eq-Decides other name).0 is)));
+          ∙ cond-same (bytes_eq other name) _ _ (λ is. room ∙ sym (of_name-at (λ f. vec_capacity f.bytes) 0 files place file name (first file).0 (first file).1 (first file).2)
+          ∙ ap (room_in files) (sym ((bytes_eq-Decides other name).0 is)));
     }
 
 pub found_place : (files : List StoredFile) (name : List ℕ) (result : Option ℕ) → result ≡ position (has_name name) files → IfSome result (IsPlace name files)

@@ -21,7 +21,8 @@ wrote_next n bytes done count a b c ab bc =
     subst (λ (l : List ℕ). Wrote n l a c) (sym (take-add done count bytes)) (wrote_on n (take done bytes) (take count (drop done bytes)) a b c ab bc)
 
 -- a call that writes behind what was written
-pub writes_on : (n : FileId) (bytes : List ℕ) (done count : ℕ) (a b c : Option Told) → Runs a b (WrotePart n bytes) (Wrote n (take done bytes)) → Steps b c (Wrote n (take count (drop done bytes))) → Runs a c (WrotePart n bytes) (Wrote n (take (done + count) bytes))
+pub writes_on : (n : FileId) (bytes : List ℕ) (done count : ℕ) (a b c : Option Told) → Runs a b (WrotePart n bytes) (Wrote n (take done bytes))
+    → Steps b c (Wrote n (take count (drop done bytes))) → Runs a c (WrotePart n bytes) (Wrote n (take (done + count) bytes))
 writes_on n bytes done count a b c ab bc =
     runs_on _ _ _ _ _ _ a b c ab (one_step (Wrote n (take count (drop done bytes))) b c bc)
     (λ x y p. p)
@@ -29,14 +30,16 @@ writes_on n bytes done count a b c ab bc =
     (λ x y z q p. wrote_next n bytes done count x y z q p)
 
 -- a call that fails after what was written
-pub fails_on : (n : FileId) (bytes : List ℕ) (done : ℕ) (a b c : Option Told) → Runs a b (WrotePart n bytes) (Wrote n (take done bytes)) → Steps b c (WrotePart n (drop done bytes)) → Runs a c (WrotePart n bytes) (WrotePart n bytes)
+pub fails_on : (n : FileId) (bytes : List ℕ) (done : ℕ) (a b c : Option Told) → Runs a b (WrotePart n bytes) (Wrote n (take done bytes))
+    → Steps b c (WrotePart n (drop done bytes)) → Runs a c (WrotePart n bytes) (WrotePart n bytes)
 fails_on n bytes done a b c ab bc =
     runs_on _ _ _ _ _ _ a b c ab (one_step (WrotePart n (drop done bytes)) b c bc)
     (λ x y p. p)
     (λ x y z q p. (done + p.0, wrote_next n bytes done p.0 x y z q p.1))
     (λ x y z q p. (done + p.0, wrote_next n bytes done p.0 x y z q p.1))
 
-pub written_step : (before now after : Option Told) (file same next : FileId) (bytes rest left : List ℕ) (count : ℕ) → HasWritten before now file same bytes rest → next ≡ same → Steps now after (Wrote same (take count rest)) → left ≡ drop count rest → HasWritten before after file next bytes left
+pub written_step : (before now after : Option Told) (file same next : FileId) (bytes rest left : List ℕ) (count : ℕ) → HasWritten before now file same bytes rest
+    → next ≡ same → Steps now after (Wrote same (take count rest)) → left ≡ drop count rest → HasWritten before after file next bytes left
 written_step before now after file same next bytes rest left count so_far is steps rests = record {
   same_file = is ∙ so_far.same_file;
   done = so_far.done + count;
@@ -46,7 +49,8 @@ written_step before now after file same next bytes rest left count so_far is ste
       (subst (λ (n : FileId). Steps now after (Wrote n (take count rest))) so_far.same_file steps));
 }
 
-pub written_then_failed : (before now after : Option Told) (file same : FileId) (bytes rest : List ℕ) → HasWritten before now file same bytes rest → Steps now after (WrotePart same rest) → Runs before after (WrotePart file bytes) (WrotePart file bytes)
+pub written_then_failed : (before now after : Option Told) (file same : FileId) (bytes rest : List ℕ) → HasWritten before now file same bytes rest
+    → Steps now after (WrotePart same rest) → Runs before after (WrotePart file bytes) (WrotePart file bytes)
 written_then_failed before now after file same bytes rest so_far steps =
     fails_on file bytes so_far.done before now after so_far.runs
     (subst (λ (l : List ℕ). Steps now after (WrotePart file l)) so_far.left
@@ -57,7 +61,8 @@ written_part before now file same bytes rest so_far =
     runs_weaker _ _ _ _ before now so_far.runs (λ x y p. p) (λ x y q. (so_far.done, q))
 
 -- the bytes behind the permissions
-pub mode_then_bytes : (n m : FileId) (mode : Option ℕ) (bytes : List ℕ) (a b c : Option Told) → Runs a b (Disturbed n) (HasMode n mode) → m ≡ n → Runs b c (WrotePart m bytes) (Wrote m bytes) → Runs a c (Disturbed n) (λ x z. (y : Disk) × HasMode n mode x y × Wrote n bytes y z)
+pub mode_then_bytes : (n m : FileId) (mode : Option ℕ) (bytes : List ℕ) (a b c : Option Told) → Runs a b (Disturbed n) (HasMode n mode) → m ≡ n
+    → Runs b c (WrotePart m bytes) (Wrote m bytes) → Runs a c (Disturbed n) (λ x z. (y : Disk) × HasMode n mode x y × Wrote n bytes y z)
 mode_then_bytes n m mode bytes a b c ab is bc =
     runs_on _ _ _ _ _ _ a b c ab (subst (λ (k : FileId). Runs b c (WrotePart k bytes) (Wrote k bytes)) is bc)
     (λ x y p. p)
@@ -65,7 +70,8 @@ mode_then_bytes n m mode bytes a b c ab is bc =
     (λ x y z q w. (y, q, w))
 
 -- a call fails behind the permissions
-pub mode_then_failed : (n m : FileId) (mode : Option ℕ) (bytes : List ℕ) (a b c : Option Told) → Runs a b (Disturbed n) (HasMode n mode) → m ≡ n → Runs b c (WrotePart m bytes) (WrotePart m bytes) → Runs a c (Disturbed n) (Disturbed n)
+pub mode_then_failed : (n m : FileId) (mode : Option ℕ) (bytes : List ℕ) (a b c : Option Told) → Runs a b (Disturbed n) (HasMode n mode) → m ≡ n
+    → Runs b c (WrotePart m bytes) (WrotePart m bytes) → Runs a c (Disturbed n) (Disturbed n)
 mode_then_failed n m mode bytes a b c ab is bc =
     runs_on _ _ _ _ _ _ a b c ab (subst (λ (k : FileId). Runs b c (WrotePart k bytes) (WrotePart k bytes)) is bc)
     (λ x y p. p)
@@ -73,14 +79,16 @@ mode_then_failed n m mode bytes a b c ab is bc =
     (λ x y z q p. disturbed_on n x y z (mode_disturbed n mode x y q) (part_disturbed n bytes y z p))
 
 -- permissions, bytes, and the device has them
-pub fills : (n m k : FileId) (mode : Option ℕ) (bytes : List ℕ) (a b c d : Option Told) → Runs a b (Disturbed n) (HasMode n mode) → m ≡ n → Runs b c (WrotePart m bytes) (Wrote m bytes) → k ≡ m → Steps c d (Stored k) → Runs a d (Disturbed n) (Filled n mode bytes)
+pub fills : (n m k : FileId) (mode : Option ℕ) (bytes : List ℕ) (a b c d : Option Told) → Runs a b (Disturbed n) (HasMode n mode) → m ≡ n
+    → Runs b c (WrotePart m bytes) (Wrote m bytes) → k ≡ m → Steps c d (Stored k) → Runs a d (Disturbed n) (Filled n mode bytes)
 fills n m k mode bytes a b c d ab is bc same cd =
     runs_on _ _ _ _ _ _ a c d (mode_then_bytes n m mode bytes a b c ab is bc) (one_step (Stored n) c d (subst (λ (j : FileId). Steps c d (Stored j)) (same ∙ is) cd))
     (λ x y p. p)
     (λ x y z q p. disturbed_on n x y z (disturbed_on n x q.0 y (mode_disturbed n mode x q.0 q.1) (wrote_disturbed n bytes q.0 y q.2)) (stored_disturbed n y z p))
     (λ x y z q p. filled_on n mode bytes x q.0 y z q.1 q.2 p)
 
-pub fill_fails : (n m k : FileId) (mode : Option ℕ) (bytes : List ℕ) (a b c d : Option Told) → Runs a b (Disturbed n) (HasMode n mode) → m ≡ n → Runs b c (WrotePart m bytes) (Wrote m bytes) → k ≡ m → Steps c d (Disturbed k) → Runs a d (Disturbed n) (Disturbed n)
+pub fill_fails : (n m k : FileId) (mode : Option ℕ) (bytes : List ℕ) (a b c d : Option Told) → Runs a b (Disturbed n) (HasMode n mode) → m ≡ n
+    → Runs b c (WrotePart m bytes) (Wrote m bytes) → k ≡ m → Steps c d (Disturbed k) → Runs a d (Disturbed n) (Disturbed n)
 fill_fails n m k mode bytes a b c d ab is bc same cd =
     runs_on _ _ _ _ _ _ a c d (mode_then_bytes n m mode bytes a b c ab is bc) (one_step (Disturbed n) c d (subst (λ (j : FileId). Steps c d (Disturbed j)) (same ∙ is) cd))
     (λ x y p. p)

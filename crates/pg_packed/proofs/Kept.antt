@@ -98,7 +98,8 @@ module _ (strings : List (List ℕ)) where
       by_tests false true = omega arith
       by_tests false false = omega arith
 
-  placed_stays : (few n : ℕ) (fs : Families) (p signs : List ℕ) → 1 ≤ length signs → list_all (λ s. keeps_cell strings (p ++ s ∷ [])) signs ≡ true → list_all stays fs ≡ true → list_all stays (with_placed_family few n fs p signs) ≡ true
+  placed_stays : (few n : ℕ) (fs : Families) (p signs : List ℕ) → 1 ≤ length signs → list_all (λ s. keeps_cell strings (p ++ s ∷ [])) signs ≡ true
+      → list_all stays fs ≡ true → list_all stays (with_placed_family few n fs p signs) ≡ true
   placed_stays few n fs p signs some keeps all =
       let base : ℕ = least_base few n fs signs in
       all_put (slice_cmp nat_cmp) stays same_string p (record { base = base; signs = signs }) fs (family_stays p base signs some keeps) all
@@ -111,9 +112,15 @@ module _ (strings : List (List ℕ)) where
   sign_stays few n fs p s new all = by_family (family_at fs p) refl
     where
       by_use : (f : Family) → stays (p, f) ≡ true → (b : Bool)
-          → list_all stays (elim b [ false ↦ put (slice_cmp nat_cmp) p (record { base = f.base; signs = with_one_sign s f.signs }) fs | true ↦ with_placed_family few n (without_family fs p) p (with_one_sign s f.signs) ]) ≡ true
-      by_use f here false = all_put (slice_cmp nat_cmp) stays same_string p (record { base = f.base; signs = with_one_sign s f.signs }) fs (family_stays p f.base (with_one_sign s f.signs) (one_more s f.signs) (one_sign (λ x. keeps_cell strings (p ++ x ∷ [])) s f.signs new (and_second _ _ here))) all
-      by_use f here true = placed_stays few n (without_family fs p) p (with_one_sign s f.signs) (one_more s f.signs) (one_sign (λ x. keeps_cell strings (p ++ x ∷ [])) s f.signs new (and_second _ _ here)) (without_stays fs p all)
+          → list_all stays (elim b [
+            | false ↦ put (slice_cmp nat_cmp) p (record { base = f.base; signs = with_one_sign s f.signs }) fs
+            | true ↦ with_placed_family few n
+                (without_family fs p) p (with_one_sign s f.signs)
+          ]) ≡ true
+      by_use f here false = all_put (slice_cmp nat_cmp) stays same_string p (record { base = f.base; signs = with_one_sign s f.signs }) fs
+          (family_stays p f.base (with_one_sign s f.signs) (one_more s f.signs) (one_sign (λ x. keeps_cell strings (p ++ x ∷ [])) s f.signs new (and_second _ _ here))) all
+      by_use f here true = placed_stays few n (without_family fs p) p (with_one_sign s f.signs) (one_more s f.signs)
+          (one_sign (λ x. keeps_cell strings (p ++ x ∷ [])) s f.signs new (and_second _ _ here)) (without_stays fs p all)
 
       by_family : (o : Option Family) → family_at fs p ≡ o
           → list_all stays (elim o [
@@ -130,7 +137,8 @@ module _ (strings : List (List ℕ)) where
   after_stays few n fs p [] begun all = all
   after_stays few n fs p (s ∷ q) begun all =
       let more : begins_one ((p ++ s ∷ []) ++ q) ≡ true = subst (λ x. begins_one x ≡ true) (sym (append_assoc p (s ∷ []) q)) begun in
-      let new : keeps_cell strings (p ++ s ∷ []) ≡ true = keeps_begun (p ++ s ∷ []) (any_weaker (λ t. starts_with nat_eq t ((p ++ s ∷ []) ++ q)) (λ t. starts_with nat_eq t (p ++ s ∷ [])) strings (λ t. starts_front t (p ++ s ∷ []) q) more) in
+      let new : keeps_cell strings (p ++ s ∷ []) ≡ true = keeps_begun (p ++ s ∷ [])
+      (any_weaker (λ t. starts_with nat_eq t ((p ++ s ∷ []) ++ q)) (λ t. starts_with nat_eq t (p ++ s ∷ [])) strings (λ t. starts_front t (p ++ s ∷ []) q) more) in
       after_stays few n (elim (cell_in fs p s) as (λ _. Families) [ Some cell ↦ fs | None ↦ with_sign few n fs p s ]) (p ++ s ∷ []) q more (by_cell new (cell_in fs p s))
     where
       by_cell : keeps_cell strings (p ++ s ∷ []) ≡ true → (o : Option ℕ) → list_all stays (elim o [ Some cell ↦ fs | None ↦ with_sign few n fs p s ]) ≡ true
@@ -141,7 +149,8 @@ module _ (strings : List (List ℕ)) where
   enter_stays n fs [] begun all = all
   enter_stays n fs (s ∷ q) begun all = after_stays FEW_SIGNS n fs (s ∷ []) q begun all
 
-  all_enter : (n : ℕ) (fs : Families) (es : List ((List ℕ × ℕ) × ℕ)) → list_all (λ e. begins_one e.0.0) es ≡ true → list_all stays fs ≡ true → list_all stays (fold (enter n) fs (map (λ (e : (List ℕ × ℕ) × ℕ). e.0.0) es)) ≡ true
+  all_enter : (n : ℕ) (fs : Families) (es : List ((List ℕ × ℕ) × ℕ)) → list_all (λ e. begins_one e.0.0) es ≡ true → list_all stays fs ≡ true
+      → list_all stays (fold (enter n) fs (map (λ (e : (List ℕ × ℕ) × ℕ). e.0.0) es)) ≡ true
   all_enter n fs [] begun all = all
   all_enter n fs (e ∷ es) begun all = all_enter n (enter n fs e.0.0) es (and_second _ _ begun) (enter_stays n fs e.0.0 (and_first _ _ begun) all)
 
@@ -157,7 +166,8 @@ all_there : (es : List ((List ℕ × ℕ) × ℕ)) → list_all (λ e. list_any 
 all_there [] = refl
 all_there (e ∷ es) =
     and_from _ _ (or_left _ _ (starts_itself e.0.0))
-    (all_weaker (λ (x : (List ℕ × ℕ) × ℕ). list_any (λ t. starts_with nat_eq t x.0.0) (map (λ y. y.0.0) es)) (λ (x : (List ℕ × ℕ) × ℕ). list_any (λ t. starts_with nat_eq t x.0.0) (map (λ y. y.0.0) (e ∷ es))) es
+    (all_weaker (λ (x : (List ℕ × ℕ) × ℕ). list_any (λ t. starts_with nat_eq t x.0.0) (map (λ y. y.0.0) es))
+    (λ (x : (List ℕ × ℕ) × ℕ). list_any (λ t. starts_with nat_eq t x.0.0) (map (λ y. y.0.0) (e ∷ es))) es
     (λ x there. or_right (starts_with nat_eq e.0.0 x.0.0) _ there) (all_there es))
 
 -- the families after the patterns are entered have no cell that no pattern needs

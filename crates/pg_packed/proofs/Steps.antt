@@ -71,7 +71,8 @@ pub signs_within : (n : ℕ) (P : Entries) (i : ℕ) (q : List ℕ) (dot v : ℕ
 signs_within n P i q dot v known there signs = within n q signs (upto_get n (q, dot) v P i known there)
 
 -- the next pattern is entered
-pub entered_next : (n : ℕ) (P : Entries) (i : ℕ) (k : List ℕ × ℕ) (v : ℕ) (old new : Maps) → IsPatternMap P → slice_get P i ≡ Some (k, v) → AreEntered n (take i P) old → new ≡ record old { patterns = raise old.patterns k v; families = enter old.signs old.families k.0; records = new.records } → AreEntered n (take (i + 1) P) new
+pub entered_next : (n : ℕ) (P : Entries) (i : ℕ) (k : List ℕ × ℕ) (v : ℕ) (old new : Maps) → IsPatternMap P → slice_get P i ≡ Some (k, v)
+    → AreEntered n (take i P) old → new ≡ record old { patterns = raise old.patterns k v; families = enter old.signs old.families k.0; records = new.records } → AreEntered n (take (i + 1) P) new
 entered_next n P i k v old new map there so raised = record {
   signs = ap (λ (m : Maps). m.signs) raised ∙ so.signs;
   families = ap (λ (m : Maps). m.families) raised ∙ ap (λ x. enter x old.families k.0) so.signs ∙ ap (λ fs. enter n fs k.0) so.families ∙ families_next n P i k v there;
@@ -80,10 +81,12 @@ entered_next n P i k v old new map there so raised = record {
 }
 
 -- deleting the hopeless marks, of which there are none, leaves the families
-pub entered_tidy : (n : ℕ) (P : Entries) (old new : Maps) → 1 ≤ n → AreEntered n P old → new ≡ record old { hopeless = []; families = kept_families (map (λ e. e.0.0) old.patterns) old.families; records = new.records } → AreEntered n P new
+pub entered_tidy : (n : ℕ) (P : Entries) (old new : Maps) → 1 ≤ n → AreEntered n P old → new
+    ≡ record old { hopeless = []; families = kept_families (map (λ e. e.0.0) old.patterns) old.families; records = new.records } → AreEntered n P new
 entered_tidy n P old new some so tidied = record {
   signs = ap (λ (m : Maps). m.signs) tidied ∙ so.signs;
-  families = ap (λ (m : Maps). m.families) tidied ∙ ap (λ es. kept_families (map (λ e. e.0.0) es) old.families) so.patterns ∙ ap (λ fs. kept_families (map (λ e. e.0.0) P) fs) so.families ∙ kept_entered n P some;
+  families = ap (λ (m : Maps). m.families) tidied ∙ ap (λ es. kept_families (map (λ e. e.0.0) es) old.families) so.patterns
+      ∙ ap (λ fs. kept_families (map (λ e. e.0.0) P) fs) so.families ∙ kept_entered n P some;
   patterns = ap (λ (m : Maps). m.patterns) tidied ∙ so.patterns;
   hopeless = ap (λ (m : Maps). m.hopeless) tidied;
 }

@@ -88,7 +88,8 @@ best_upto t (e ∷ es) n all =
     omega arith
 
 best_kept : (t : List ℕ × ℕ → Bool) (es fs : List ((List ℕ × ℕ) × ℕ)) → IsPermutation es fs → greatest_value t fs ≤ greatest_value t es
-best_kept t es fs moved = best_upto t fs (greatest_value t es) (All-permutation (λ (e : (List ℕ × ℕ) × ℕ). only (t e.0) e.1 ≤ greatest_value t es) es fs moved (all_upto t es (greatest_value t es) (omega arith)))
+best_kept t es fs moved = best_upto t fs (greatest_value t es) (All-permutation (λ (e : (List ℕ × ℕ) × ℕ). only (t e.0) e.1 ≤ greatest_value t es) es fs moved
+    (all_upto t es (greatest_value t es) (omega arith)))
 
 pub best-IsPermutation : (t : List ℕ × ℕ → Bool) (es fs : List ((List ℕ × ℕ) × ℕ)) → IsPermutation es fs → greatest_value t fs ≡ greatest_value t es
 best-IsPermutation t es fs moved =

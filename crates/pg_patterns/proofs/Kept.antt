@@ -99,10 +99,12 @@ best_below x k (e ∷ es) same below =
     ap (λ t. max (only t e.1) (greatest_value (same_dotted k) es)) other ∙ ap (λ n. max 0 n) (best_below x k es same (second_half _ _ below))
 
 -- the list that keeps the first of each place is a map, whose values are the greatest
-kept_below : (x : List ℕ × ℕ) (e : (List ℕ × ℕ) × ℕ) (es : List ((List ℕ × ℕ) × ℕ)) → InOrder (e ∷ es) → dotted_cmp x e.0 ≡ Less → T (below_all dotted_cmp x (dedup_from (λ f g. same_dotted f.0 g.0) e es))
+kept_below : (x : List ℕ × ℕ) (e : (List ℕ × ℕ) × ℕ) (es : List ((List ℕ × ℕ) × ℕ)) → InOrder (e ∷ es) → dotted_cmp x e.0 ≡ Less
+    → T (below_all dotted_cmp x (dedup_from (λ f g. same_dotted f.0 g.0) e es))
 kept_below x e [] order less = holds _ (and_from _ _ (ap is_lt less) refl)
 kept_below x e (f ∷ es) order less =
-    elim (same_dotted f.0 e.0) as (λ t. same_dotted f.0 e.0 ≡ t → T (below_all dotted_cmp x (cond t (dedup_from (λ f g. same_dotted f.0 g.0) e es) (e ∷ dedup_from (λ f g. same_dotted f.0 g.0) f es)))) [
+    elim (same_dotted f.0 e.0) as
+    (λ t. same_dotted f.0 e.0 ≡ t → T (below_all dotted_cmp x (cond t (dedup_from (λ f g. same_dotted f.0 g.0) e es) (e ∷ dedup_from (λ f g. same_dotted f.0 g.0) f es)))) [
       | true ↦ λ same. kept_below x e es (and_second _ _ order.0, order.1.1) less
       | false ↦ λ other. holds _ (and_from _ _ (ap is_lt less) (is_true _ (kept_below x f es order.1 (dotted_total.trans x e.0 f.0 less (apart e f (and_first _ _ order.0) other)))))
     ] refl
@@ -137,11 +139,13 @@ value_within e f after same = by_case (later e f after)
     by_case (inl less) = cc (sym same ∙ dotted_ties f.0 e.0 ∙ ap is_eq (dotted_total.antisymm f.0 e.0 ∙ ap ordering_reverse less))
     by_case (inr tied) = tied.1
 
-kept_value : (e : (List ℕ × ℕ) × ℕ) (es : List ((List ℕ × ℕ) × ℕ)) (k : List ℕ × ℕ) → InOrder (e ∷ es) → value_of (dedup_from (λ f g. same_dotted f.0 g.0) e es) k ≡ greatest_value (same_dotted k) (e ∷ es)
+kept_value : (e : (List ℕ × ℕ) × ℕ) (es : List ((List ℕ × ℕ) × ℕ)) (k : List ℕ × ℕ) → InOrder (e ∷ es) → value_of (dedup_from (λ f g. same_dotted f.0 g.0) e es) k
+    ≡ greatest_value (same_dotted k) (e ∷ es)
 kept_value e [] k order =
     ap (λ t. unwrap_or (cond t (Some e.1) None) 0) (sym (dotted_ties k e.0)) ∙ first_or_rest (same_dotted k e.0) e.1 0 None refl (λ _. refl)
 kept_value e (f ∷ es) k order =
-    elim (same_dotted f.0 e.0) as (λ t. same_dotted f.0 e.0 ≡ t → value_of (cond t (dedup_from (λ f g. same_dotted f.0 g.0) e es) (e ∷ dedup_from (λ f g. same_dotted f.0 g.0) f es)) k ≡ max (only (same_dotted k e.0) e.1) (max (only (same_dotted k f.0) f.1) (greatest_value (same_dotted k) es))) [
+    elim (same_dotted f.0 e.0) as (λ t. same_dotted f.0 e.0 ≡ t → value_of (cond t (dedup_from (λ f g. same_dotted f.0 g.0) e es) (e ∷ dedup_from (λ f g. same_dotted f.0 g.0) f es)) k
+    ≡ max (only (same_dotted k e.0) e.1) (max (only (same_dotted k f.0) f.1) (greatest_value (same_dotted k) es))) [
       | true ↦ λ same.
           let one : f.0 ≡ e.0 = dotted_exact f.0 e.0 (equal_is _ (sym (dotted_ties f.0 e.0) ∙ same)) in
           kept_value e es k (and_second _ _ order.0, order.1.1)
@@ -149,7 +153,8 @@ kept_value e (f ∷ es) k order =
       | false ↦ λ other.
           let less : dotted_cmp e.0 f.0 ≡ Less = apart e f (and_first _ _ order.0) other in
           ap (λ t. unwrap_or (cond t (Some e.1) (find dotted_cmp k (dedup_from (λ f g. same_dotted f.0 g.0) f es))) 0) (sym (dotted_ties k e.0))
-          ∙ first_or_rest (same_dotted k e.0) e.1 (greatest_value (same_dotted k) (f ∷ es)) (find dotted_cmp k (dedup_from (λ f g. same_dotted f.0 g.0) f es)) (kept_value f es k order.1) (λ same. best_below e.0 k (f ∷ es) same (holds _ (and_from _ _ (ap is_lt less) (is_true _ (below_rest e.0 f es less order.1.0)))))
+          ∙ first_or_rest (same_dotted k e.0) e.1 (greatest_value (same_dotted k) (f ∷ es)) (find dotted_cmp k (dedup_from (λ f g. same_dotted f.0 g.0) f es))
+          (kept_value f es k order.1) (λ same. best_below e.0 k (f ∷ es) same (holds _ (and_from _ _ (ap is_lt less) (is_true _ (below_rest e.0 f es less order.1.0)))))
     ] refl
 
 -- a strictly sorted list finds its greatest values
@@ -157,9 +162,11 @@ pub value_of_sorted : (es : List ((List ℕ × ℕ) × ℕ)) (k : List ℕ × �
 value_of_sorted [] k sorted = refl
 value_of_sorted (e ∷ es) k sorted =
     ap (λ t. unwrap_or (cond t (Some e.1) (find dotted_cmp k es)) 0) (sym (dotted_ties k e.0))
-    ∙ first_or_rest (same_dotted k e.0) e.1 (greatest_value (same_dotted k) es) (find dotted_cmp k es) (value_of_sorted es k (second_half _ _ sorted)) (λ same. best_below e.0 k es same (first_half _ _ sorted))
+    ∙ first_or_rest (same_dotted k e.0) e.1 (greatest_value (same_dotted k) es) (find dotted_cmp k es) (value_of_sorted es k (second_half _ _ sorted))
+    (λ same. best_below e.0 k es same (first_half _ _ sorted))
 
-kept_whole : (es : List ((List ℕ × ℕ) × ℕ)) → InOrder es → T (is_sorted dotted_cmp (dedup (λ f g. same_dotted f.0 g.0) es)) × ((k : List ℕ × ℕ) → value_of (dedup (λ f g. same_dotted f.0 g.0) es) k ≡ greatest_value (same_dotted k) es)
+kept_whole : (es : List ((List ℕ × ℕ) × ℕ)) → InOrder es → T (is_sorted dotted_cmp (dedup (λ f g. same_dotted f.0 g.0) es))
+    × ((k : List ℕ × ℕ) → value_of (dedup (λ f g. same_dotted f.0 g.0) es) k ≡ greatest_value (same_dotted k) es)
 kept_whole [] order = (tt, λ k. refl)
 kept_whole (e ∷ es) order = (kept_sorted e es order, λ k. kept_value e es k order)
 
@@ -173,7 +180,8 @@ told_all [] all = refl
 told_all (e ∷ es) all = and_from _ _ (All-head (λ (e : (List ℕ × ℕ) × ℕ). is_entry e ≡ true) e es all) (told_all es (All-tail (λ (e : (List ℕ × ℕ) × ℕ). is_entry e ≡ true) e es all))
 
 -- sorted by place and falling value, without the later entries of a place, a list is joined
-pub joined_by_sort : (es fs gs : List ((List ℕ × ℕ) × ℕ)) → list_all is_entry es ≡ true → IsPermutation es fs → IsSortedBy (λ e f. is_lt (entry_cmp e f)) fs → gs ≡ dedup (λ f g. same_dotted f.0 g.0) fs → IsPatternMap gs × (gs ≡ map_of_entries es)
+pub joined_by_sort : (es fs gs : List ((List ℕ × ℕ) × ℕ)) → list_all is_entry es ≡ true → IsPermutation es fs → IsSortedBy (λ e f. is_lt (entry_cmp e f)) fs
+    → gs ≡ dedup (λ f g. same_dotted f.0 g.0) fs → IsPatternMap gs × (gs ≡ map_of_entries es)
 joined_by_sort es fs gs sound moved sorted kept =
     let order : InOrder fs = in_order fs (sorted_far (λ e f. is_lt (entry_cmp e f)) entry_ranks fs sorted) in
     let whole = kept_whole fs order in

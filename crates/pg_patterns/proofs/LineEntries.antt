@@ -34,7 +34,8 @@ fold_signs d (Marked mark ∷ tokens) = fold_signs d tokens
 fold_signs d (Edge ∷ tokens) = fold_signs (draft_with_sign d EDGE) tokens ∙ append_assoc d.signs (EDGE ∷ []) (signs_of tokens)
 
 -- a digit more, and the digits from the next dot on
-digits_on : (d : Draft) (sign : ℕ) (tokens : List Token) → all_digits d ++ digits_from (length (d.signs ++ sign ∷ [])) 0 tokens ≡ d.digits ++ (digit_at_dot (length d.signs) d.digit ++ digits_from (length d.signs + 1) 0 tokens)
+digits_on : (d : Draft) (sign : ℕ) (tokens : List Token) → all_digits d ++ digits_from (length (d.signs ++ sign ∷ [])) 0 tokens ≡ d.digits
+    ++ (digit_at_dot (length d.signs) d.digit ++ digits_from (length d.signs + 1) 0 tokens)
 digits_on d sign tokens =
     ap (λ n. all_digits d ++ digits_from n 0 tokens) (length_push d.signs sign) ∙ append_assoc d.digits (digit_at_dot (length d.signs) d.digit) (digits_from (length d.signs + 1) 0 tokens)
 
@@ -48,7 +49,8 @@ fold_digits d (Edge ∷ tokens) = fold_digits (draft_with_sign d EDGE) tokens �
 
 entries_of_draft : (tokens : List Token) → entries_of_items tokens ≡ draft_entries (fold with_token no_draft tokens)
 entries_of_draft tokens =
-    ap (entries_at (signs_of tokens)) (sym (digits_are tokens)) ∙ ap (λ q. entries_at q (digits_from 0 0 tokens)) (sym (fold_signs no_draft tokens)) ∙ ap (entries_at (fold with_token no_draft tokens).signs) (sym (fold_digits no_draft tokens))
+    ap (entries_at (signs_of tokens)) (sym (digits_are tokens)) ∙ ap (λ q. entries_at q (digits_from 0 0 tokens)) (sym (fold_signs no_draft tokens))
+    ∙ ap (entries_at (fold with_token no_draft tokens).signs) (sym (fold_digits no_draft tokens))
 
 unless_fails : {X Y : Type 0} (o : Option Refusal) (x : X) (y : Y) (r : Refusal) → Err r ≡ unless o x → unless o y ≡ Err r
 unless_fails None x y r is = cc
@@ -66,10 +68,12 @@ line_fails t line text r is =
 -- a line gives the entries of its draft
 pub line_gives : (t : Alphabet) (line : ℕ) (text : List ℕ) (d : Draft) → Ok d ≡ line_draft t line text → entries_of_line t line text ≡ Ok (draft_entries d)
 line_gives t line text d is =
-    unless_gives draft_entries (line_refusal Patterns line (cut t Patterns text)) (fold with_token no_draft (tokens_of (cut t Patterns text))) d (entries_of_items (tokens_of (cut t Patterns text))) is (entries_of_draft (tokens_of (cut t Patterns text)))
+    unless_gives draft_entries (line_refusal Patterns line (cut t Patterns text)) (fold with_token no_draft (tokens_of (cut t Patterns text))) d
+    (entries_of_items (tokens_of (cut t Patterns text))) is (entries_of_draft (tokens_of (cut t Patterns text)))
 
 -- what was read, and a refused line
-pub left_fails : (t : Alphabet) (line : ℕ) (es : List ((List ℕ × ℕ) × ℕ)) (text rest after : List ℕ) (whole : Result (List ((List ℕ × ℕ) × ℕ)) Refusal) (r : Refusal) → both_parts (Ok es) (entries_from t line (lines rest)) ≡ whole → lines rest ≡ text ∷ lines after → Err r ≡ line_draft t line text → whole ≡ Err r
+pub left_fails : (t : Alphabet) (line : ℕ) (es : List ((List ℕ × ℕ) × ℕ)) (text rest after : List ℕ) (whole : Result (List ((List ℕ × ℕ) × ℕ)) Refusal) (r : Refusal)
+    → both_parts (Ok es) (entries_from t line (lines rest)) ≡ whole → lines rest ≡ text ∷ lines after → Err r ≡ line_draft t line text → whole ≡ Err r
 left_fails t line es text rest after whole r left cut is =
     sym left
     ∙ ap (λ x. both_parts (Ok es) (entries_from t line x)) cut
@@ -80,7 +84,9 @@ parts_joined es ds (Ok fs) = ap Ok (append_assoc es ds fs)
 parts_joined es ds (Err r) = refl
 
 -- what was read, and a line more
-pub left_more : (t : Alphabet) (line : ℕ) (es new : List ((List ℕ × ℕ) × ℕ)) (text rest after : List ℕ) (whole : Result (List ((List ℕ × ℕ) × ℕ)) Refusal) (d : Draft) → both_parts (Ok es) (entries_from t line (lines rest)) ≡ whole → lines rest ≡ text ∷ lines after → Ok d ≡ line_draft t line text → new ≡ es ++ draft_entries d → both_parts (Ok new) (entries_from t (line + 1) (lines after)) ≡ whole
+pub left_more : (t : Alphabet) (line : ℕ) (es new : List ((List ℕ × ℕ) × ℕ)) (text rest after : List ℕ) (whole : Result (List ((List ℕ × ℕ) × ℕ)) Refusal) (d : Draft)
+    → both_parts (Ok es) (entries_from t line (lines rest)) ≡ whole → lines rest ≡ text ∷ lines after → Ok d ≡ line_draft t line text → new ≡ es
+    ++ draft_entries d → both_parts (Ok new) (entries_from t (line + 1) (lines after)) ≡ whole
 left_more t line es new text rest after whole d left cut is more =
     ap (λ x. both_parts (Ok x) (entries_from t (line + 1) (lines after))) more
     ∙ parts_joined es (draft_entries d) (entries_from t (line + 1) (lines after))
@@ -92,14 +98,16 @@ signs_sound : (n : ℕ) (q : List ℕ) → All (λ s. (1 ≤ s) × (s ≤ n)) q 
 signs_sound n [] all = refl
 signs_sound n (s ∷ q) all = and_from _ _ (le-leb 1 s (All-head (λ s. (1 ≤ s) × (s ≤ n)) s q all).0) (signs_sound n q (All-tail (λ s. (1 ≤ s) × (s ≤ n)) s q all))
 
-entries_sound : (q : List ℕ) (digits : List (ℕ × ℕ)) → 1 ≤ length q → length q ≤ PATTERN_SIGNS_MAX → list_all is_sign q ≡ true → All (IsDotDigit (length q + 1)) digits → list_all is_entry (map (entry_at q) digits) ≡ true
+entries_sound : (q : List ℕ) (digits : List (ℕ × ℕ)) → 1 ≤ length q → length q ≤ PATTERN_SIGNS_MAX → list_all is_sign q ≡ true → All (IsDotDigit (length q + 1)) digits
+    → list_all is_entry (map (entry_at q) digits) ≡ true
 entries_sound q [] some few signs all = refl
 entries_sound q (x ∷ digits) some few signs all =
     let here = All-head (IsDotDigit (length q + 1)) x digits all in
     let bounds : EntryBounds ((q, x.0), x.1) = record { some = some; few = few; signs = signs; dot = omega (arith, here.0); low = here.1; high = here.2 } in
     and_from _ _ (entry_told ((q, x.0), x.1) bounds) (entries_sound q digits some few signs (All-tail (IsDotDigit (length q + 1)) x digits all))
 
-draft_parts_sound : (n : ℕ) (q : List ℕ) (digits : List (ℕ × ℕ)) → length q ≤ PATTERN_SIGNS_MAX → All (λ s. (1 ≤ s) × (s ≤ n)) q → All (IsDotDigit (length q + 1)) digits → list_all is_entry (entries_at q digits) ≡ true
+draft_parts_sound : (n : ℕ) (q : List ℕ) (digits : List (ℕ × ℕ)) → length q ≤ PATTERN_SIGNS_MAX → All (λ s. (1 ≤ s) × (s ≤ n)) q → All (IsDotDigit (length q + 1)) digits
+    → list_all is_entry (entries_at q digits) ≡ true
 draft_parts_sound n [] digits few signs all = refl
 draft_parts_sound n (s ∷ q) digits few signs all = entries_sound (s ∷ q) digits (omega arith) few (signs_sound n (s ∷ q) signs) all
 

@@ -49,7 +49,8 @@ digits_kept dot [] = refl
 digits_kept dot (gap ∷ more) =
     digit_kept dot (last_digit gap) (filter (λ d. nat_lt 0 d.1 && true) (enumerate_from (dot + 1) (map last_digit more))) (digits_at (dot + 1) more) (digits_kept (dot + 1) more)
 
-entries_by : (signs : List ℕ) (gs : List (List Token)) → map (λ d. ((signs, d.0), d.1)) (filter (λ d. nat_lt 0 d.1 && nat_lt 0 (length signs)) (enumerate_from 0 (map last_digit gs))) ≡ entries_at signs (digits_at 0 gs)
+entries_by : (signs : List ℕ) (gs : List (List Token)) → map (λ d. ((signs, d.0), d.1)) (filter (λ d. nat_lt 0 d.1 && nat_lt 0 (length signs)) (enumerate_from 0 (map last_digit gs)))
+    ≡ entries_at signs (digits_at 0 gs)
 entries_by [] gs = ap (map (entry_at [])) (none_kept (enumerate_from 0 (map last_digit gs)))
 entries_by (s ∷ ss) gs =
     ap (λ (some : Bool). map (entry_at (s ∷ ss)) (filter (λ d. nat_lt 0 d.1 && some) (enumerate_from 0 (map last_digit gs)))) (lt-ltb 0 (length (s ∷ ss)) (omega arith))
@@ -93,7 +94,8 @@ entries_as items plain =
     ∙ ap (λ (ns : List ℕ). map (entry_at (signs_of items)) (filter (λ d. nat_lt 0 d.1 && nat_lt 0 (length (signs_of items))) (enumerate_from 0 ns))) (last_alike items plain)
 
 -- the entries of lines, the first of which has this number
-lines_as : (t : Alphabet) (line : ℕ) (texts : List (List ℕ)) → entries_from t line texts ≡ unless (slice_get (refusals_from t Patterns line texts) 0) (flat_map line_entries (map (items_of t Patterns) texts))
+lines_as : (t : Alphabet) (line : ℕ) (texts : List (List ℕ)) → entries_from t line texts
+    ≡ unless (slice_get (refusals_from t Patterns line texts) 0) (flat_map line_entries (map (items_of t Patterns) texts))
 lines_as t line [] = refl
 lines_as t line (text ∷ texts) =
     let refusal : Option Refusal = line_refusal Patterns line (cut t Patterns text) in

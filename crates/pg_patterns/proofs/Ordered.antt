@@ -60,7 +60,8 @@ module _ {K X : Type 0} (R : K → K → Ordering) where
   pub put_over : (k : K) (v : X) (before rest : List (K × X)) → list_all (λ e. is_gt (R k e.0)) before ≡ true → put R k v (before ++ rest) ≡ before ++ put R k v rest
   put_over k v [] rest after = refl
   put_over k v (e ∷ es) rest after =
-      ap (λ r. by_order r ((k, v) ∷ e ∷ es ++ rest) ((e.0, v) ∷ es ++ rest) (e ∷ put R k v (es ++ rest))) (greater_is _ (and_first _ _ after)) ∙ ap (λ t. e ∷ t) (put_over k v es rest (and_second _ _ after))
+      ap (λ r. by_order r ((k, v) ∷ e ∷ es ++ rest) ((e.0, v) ∷ es ++ rest) (e ∷ put R k v (es ++ rest))) (greater_is _ (and_first _ _ after))
+      ∙ ap (λ t. e ∷ t) (put_over k v es rest (and_second _ _ after))
 
   -- where the key is that of the first entry
   pub put_there : (k : K) (v : X) (e : K × X) (es : List (K × X)) → is_eq (R k e.0) ≡ true → put R k v (e ∷ es) ≡ (e.0, v) ∷ es
@@ -75,7 +76,8 @@ module _ {K X : Type 0} (R : K → K → Ordering) where
   put_gap k v (e ∷ es) before at = ap (λ r. by_order r ((k, v) ∷ e ∷ es) ((e.0, v) ∷ es) (e ∷ put R k v es)) (less_left _ before at)
 
   -- the entries before a place, from a fact for each index
-  pub all_before : (k : K) (es : List (K × X)) (i : ℕ) → i ≤ length es → ((j : ℕ) (d : K × X) → 0 ≤ j → j < i → is_gt (R k (get_or es j d).0) ≡ true) → list_all (λ e. is_gt (R k e.0)) (take i es) ≡ true
+  pub all_before : (k : K) (es : List (K × X)) (i : ℕ) → i ≤ length es → ((j : ℕ) (d : K × X) → 0 ≤ j → j < i → is_gt (R k (get_or es j d).0) ≡ true)
+      → list_all (λ e. is_gt (R k e.0)) (take i es) ≡ true
   all_before k es zero within after = refl
   all_before k [] (suc i) within after = refl
   all_before k (e ∷ es) (suc i) within after =

@@ -97,7 +97,8 @@ tied k e same = sym (dotted_ties k e.0) ∙ same
 pub digit_there : (P : List ((List ℕ × ℕ) × ℕ)) (k : List ℕ × ℕ) (i v : ℕ) → HasRank P k i → Some v ≡ first_value k (drop i P) → value_digit P k ≡ (48 + v) ∷ []
 digit_there P k i v point first =
     let start = begins_there k (drop i P) v first in
-    let found : find dotted_cmp k P ≡ Some v = found_at P k i point ∙ ap (find dotted_cmp k) start.is ∙ find_there dotted_cmp k start.entry start.rest (tied k start.entry start.same) ∙ ap (λ (n : ℕ). Some n) (sym start.value) in
+    let found : find dotted_cmp k P ≡ Some v = found_at P k i point ∙ ap (find dotted_cmp k) start.is ∙ find_there dotted_cmp k start.entry start.rest (tied k start.entry start.same)
+    ∙ ap (λ (n : ℕ). Some n) (sym start.value) in
     ap (λ r. option_map_or (λ v. (48 + v) ∷ []) r []) found
 
 not_at : (k : List ℕ × ℕ) (es : List ((List ℕ × ℕ) × ℕ)) → begins_with k es ≡ false → first_at dotted_cmp k es ≡ false
@@ -109,7 +110,8 @@ not_before P k i point = first_not_before dotted_cmp k P i (λ d inside. point.b
 
 pub digit_gap : (P : List ((List ℕ × ℕ) × ℕ)) (k : List ℕ × ℕ) (i : ℕ) → T (is_sorted dotted_cmp P) → HasRank P k i → None ≡ first_value k (drop i P) → value_digit P k ≡ []
 digit_gap P k i sorted point first =
-    let found : find dotted_cmp k P ≡ None = found_at P k i point ∙ find_gap dotted_cmp dotted_total k (drop i P) (sorted_drop dotted_cmp P i sorted) (not_before P k i point) (not_at k (drop i P) (begins_not k (drop i P) first)) in
+    let found : find dotted_cmp k P ≡ None = found_at P k i point ∙ find_gap dotted_cmp dotted_total k (drop i P) (sorted_drop dotted_cmp P i sorted)
+    (not_before P k i point) (not_at k (drop i P) (begins_not k (drop i P) first)) in
     ap (λ r. option_map_or (λ v. (48 + v) ∷ []) r []) found
 
 inside_drop : (P : List ((List ℕ × ℕ) × ℕ)) (i : ℕ) (e : (List ℕ × ℕ) × ℕ) (rest : List ((List ℕ × ℕ) × ℕ)) → drop i P ≡ e ∷ rest → i < length P
@@ -125,7 +127,8 @@ read_drop (f ∷ P) zero e d rest is = cc
 read_drop (f ∷ P) (suc i) e d rest is = read_drop P i e d rest is
 
 -- behind the entry of a place stands the next dot
-pub next_there : (P : List ((List ℕ × ℕ) × ℕ)) (q : List ℕ) (dot i v : ℕ) → T (is_sorted dotted_cmp P) → HasRank P (q, dot) i → Some v ≡ first_value (q, dot) (drop i P) → HasRank P (q, dot + 1) (i + 1)
+pub next_there : (P : List ((List ℕ × ℕ) × ℕ)) (q : List ℕ) (dot i v : ℕ) → T (is_sorted dotted_cmp P) → HasRank P (q, dot) i → Some v
+    ≡ first_value (q, dot) (drop i P) → HasRank P (q, dot + 1) (i + 1)
 next_there P q dot i v sorted point first =
     let start = begins_there (q, dot) (drop i P) v first in
     let inside : i < length P = inside_drop P i start.entry start.rest start.is in
@@ -140,7 +143,8 @@ next_there P q dot i v sorted point first =
     }
 
 -- where a place has no entry, those behind it are later
-later_than : (P : List ((List ℕ × ℕ) × ℕ)) (q : List ℕ) (dot i j : ℕ) (d : (List ℕ × ℕ) × ℕ) → T (is_sorted dotted_cmp P) → HasRank P (q, dot) i → begins_with (q, dot) (drop i P) ≡ false → i ≤ j → j < length P → dotted_cmp (q, dot) (get_or P j d).0 ≡ Less
+later_than : (P : List ((List ℕ × ℕ) × ℕ)) (q : List ℕ) (dot i j : ℕ) (d : (List ℕ × ℕ) × ℕ) → T (is_sorted dotted_cmp P) → HasRank P (q, dot) i
+    → begins_with (q, dot) (drop i P) ≡ false → i ≤ j → j < length P → dotted_cmp (q, dot) (get_or P j d).0 ≡ Less
 later_than P q dot i j d sorted point none low high =
     let inside : i < length P = omega arith in
     let other : same_dotted (q, dot) (get_or P i d).0 ≡ false = ap (begins_with (q, dot)) (sym (drop_more P i d inside)) ∙ none in

@@ -13,7 +13,8 @@ use Rattle.pg_patterns.specs.Inside.Search.{is_after, begins_with}
 use Rattle.pg_patterns.proofs.Ordered.{put_over, find_over, put_there, find_there, put_gap, find_gap, first_before, first_at, all_before, first_not_before, sorted_drop, after_at}
 
 -- the entry of the place has the greater value
-pub raise_there : (k : List ℕ × ℕ) (v : ℕ) (before rest : List ((List ℕ × ℕ) × ℕ)) (e : (List ℕ × ℕ) × ℕ) → list_all (is_after k) before ≡ true → same_dotted k e.0 ≡ true → raise (before ++ e ∷ rest) k v ≡ before ++ (e.0, max v e.1) ∷ rest
+pub raise_there : (k : List ℕ × ℕ) (v : ℕ) (before rest : List ((List ℕ × ℕ) × ℕ)) (e : (List ℕ × ℕ) × ℕ) → list_all (is_after k) before ≡ true
+    → same_dotted k e.0 ≡ true → raise (before ++ e ∷ rest) k v ≡ before ++ (e.0, max v e.1) ∷ rest
 raise_there k v before rest e after same =
     let tied : is_eq (dotted_cmp k e.0) ≡ true = sym (dotted_ties k e.0) ∙ same in
     let found : value_of (before ++ e ∷ rest) k ≡ e.1 = ap (λ r. unwrap_or r 0) (find_over dotted_cmp k before (e ∷ rest) after ∙ find_there dotted_cmp k e rest tied) in
@@ -29,7 +30,8 @@ first_at_begins k [] = refl
 first_at_begins k (e ∷ es) = dotted_ties k e.0
 
 -- a place that has no entry gets one between those before it and those after it
-pub raise_gap : (k : List ℕ × ℕ) (v : ℕ) (before rest : List ((List ℕ × ℕ) × ℕ)) → list_all (is_after k) before ≡ true → T (is_sorted dotted_cmp rest) → first_before dotted_cmp k rest ≡ false → begins_with k rest ≡ false → raise (before ++ rest) k v ≡ before ++ (k, v) ∷ rest
+pub raise_gap : (k : List ℕ × ℕ) (v : ℕ) (before rest : List ((List ℕ × ℕ) × ℕ)) → list_all (is_after k) before ≡ true → T (is_sorted dotted_cmp rest)
+    → first_before dotted_cmp k rest ≡ false → begins_with k rest ≡ false → raise (before ++ rest) k v ≡ before ++ (k, v) ∷ rest
 raise_gap k v before rest after sorted first here =
     let at : first_at dotted_cmp k rest ≡ false = sym (first_at_begins k rest) ∙ here in
     let found : value_of (before ++ rest) k ≡ 0 = ap (λ r. unwrap_or r 0) (find_over dotted_cmp k before rest after ∙ find_gap dotted_cmp dotted_total k rest sorted first at) in
@@ -51,7 +53,8 @@ Point k es i = IsPartitionPoint (λ e. is_after k e ≡ true) (λ e. is_after k 
 max_swapped : (a b : ℕ) → max a b ≡ max b a
 max_swapped a b = omega arith
 
-pub raised_there : (k : List ℕ × ℕ) (v : ℕ) (es s t : List ((List ℕ × ℕ) × ℕ)) (i : ℕ) (e f : (List ℕ × ℕ) × ℕ) (w : ℕ) → s ≡ es → t ≡ es → i ≤ length s → Point k s i → begins_with k (drop i t) ≡ true → e ≡ get_or es i e → f ≡ get_or es i f → w ≡ max f.1 v → set es i (e.0, w) ≡ raise es k v
+pub raised_there : (k : List ℕ × ℕ) (v : ℕ) (es s t : List ((List ℕ × ℕ) × ℕ)) (i : ℕ) (e f : (List ℕ × ℕ) × ℕ) (w : ℕ) → s ≡ es → t ≡ es → i ≤ length s
+    → Point k s i → begins_with k (drop i t) ≡ true → e ≡ get_or es i e → f ≡ get_or es i f → w ≡ max f.1 v → set es i (e.0, w) ≡ raise es k v
 raised_there k v es s t i e f w first second bound point here entry held greater =
     let start : begins_with k (drop i es) ≡ true = subst (λ x. begins_with k (drop i x) ≡ true) second here in
     let inside : i < length es = within k es i start in
@@ -66,12 +69,14 @@ raised_there k v es s t i e f w first second bound point here entry held greater
     ∙ sym (raise_there k v (take i es) (drop (suc i) es) e (all_before dotted_cmp k es i upto search.0) same)
     ∙ ap (λ x. raise x k v) whole
 
-pub raised_gap : (k : List ℕ × ℕ) (v : ℕ) (es s t : List ((List ℕ × ℕ) × ℕ)) (i : ℕ) → s ≡ es → t ≡ es → T (is_sorted dotted_cmp es) → i ≤ length s → Point k s i → begins_with k (drop i t) ≡ false → insert es i (k, v) ≡ raise es k v
+pub raised_gap : (k : List ℕ × ℕ) (v : ℕ) (es s t : List ((List ℕ × ℕ) × ℕ)) (i : ℕ) → s ≡ es → t ≡ es → T (is_sorted dotted_cmp es) → i ≤ length s
+    → Point k s i → begins_with k (drop i t) ≡ false → insert es i (k, v) ≡ raise es k v
 raised_gap k v es s t i first second sorted bound point here =
     let start : begins_with k (drop i es) ≡ false = subst (λ x. begins_with k (drop i x) ≡ false) second here in
     let upto : i ≤ length es = subst (λ x. i ≤ length x) first bound in
     let search : Point k es i = subst (λ x. Point k x i) first point in
-    sym (raise_gap k v (take i es) (drop i es) (all_before dotted_cmp k es i upto search.0) (sorted_drop dotted_cmp es i sorted) (first_not_before dotted_cmp k es i (λ d inside. search.1 i d (omega arith) inside)) start)
+    sym (raise_gap k v (take i es) (drop i es) (all_before dotted_cmp k es i upto search.0) (sorted_drop dotted_cmp es i sorted)
+    (first_not_before dotted_cmp k es i (λ d inside. search.1 i d (omega arith) inside)) start)
     ∙ ap (λ x. raise x k v) (take-append-drop i es)
 
 -- what a search asks: what comes after an entry comes after those before it
@@ -79,11 +84,13 @@ pub parted : (k : List ℕ × ℕ) (es : List ((List ℕ × ℕ) × ℕ)) → T 
 parted k es sorted i j d upto inside after = after_at dotted_cmp dotted_total k es i j d sorted upto inside after
 
 -- what comes after the last entry comes after each
-pub after_each : (k : List ℕ × ℕ) (es : List ((List ℕ × ℕ) × ℕ)) (last : (List ℕ × ℕ) × ℕ) → T (is_sorted dotted_cmp es) → last ≡ get_or es (length es - 1) last → is_after k last ≡ true → (j : ℕ) (d : (List ℕ × ℕ) × ℕ) → j < length es → is_after k (get_or es j d) ≡ true
+pub after_each : (k : List ℕ × ℕ) (es : List ((List ℕ × ℕ) × ℕ)) (last : (List ℕ × ℕ) × ℕ) → T (is_sorted dotted_cmp es) → last ≡ get_or es (length es - 1) last
+    → is_after k last ≡ true → (j : ℕ) (d : (List ℕ × ℕ) × ℕ) → j < length es → is_after k (get_or es j d) ≡ true
 after_each k es last sorted is after j d inside =
     let there : get_or es (length es - 1) last ≡ get_or es (length es - 1) d = get_or_default es (length es - 1) last d (omega arith) in
     after_at dotted_cmp dotted_total k es j (length es - 1) d sorted (omega arith) (omega arith) (subst (λ x. is_after k x ≡ true) (is ∙ there) after)
 
-pub told_by_last : (k : List ℕ × ℕ) (es : List ((List ℕ × ℕ) × ℕ)) (last : (List ℕ × ℕ) × ℕ) (t : Bool) → T (is_sorted dotted_cmp es) → last ≡ get_or es (length es - 1) last → t ≡ is_after k last → OnTrue t (All (λ e. is_after k e ≡ true) es)
+pub told_by_last : (k : List ℕ × ℕ) (es : List ((List ℕ × ℕ) × ℕ)) (last : (List ℕ × ℕ) × ℕ) (t : Bool) → T (is_sorted dotted_cmp es) → last
+    ≡ get_or es (length es - 1) last → t ≡ is_after k last → OnTrue t (All (λ e. is_after k e ≡ true) es)
 told_by_last k es last false sorted is after = tt
 told_by_last k es last true sorted is after = after_each k es last sorted is (sym after)

@@ -103,7 +103,8 @@ sign_read t s rules low high =
       | false ↦ λ is. spelling_item t rules Patterns s (let other : ¬ (s ≡ 1) = eqb-false s 1 is in omega arith) high
     ] refl
 
-items_read : (t : Alphabet) (P : List ((List ℕ × ℕ) × ℕ)) (q : List ℕ) (dot : ℕ) (ss : List ℕ) → KeepsRules t → list_all is_entry P ≡ true → All (λ s. (1 ≤ s) × (s ≤ letters_of t + 1)) ss → AllByRecursion (IsPatternItem t) (items_from t P q dot ss)
+items_read : (t : Alphabet) (P : List ((List ℕ × ℕ) × ℕ)) (q : List ℕ) (dot : ℕ) (ss : List ℕ) → KeepsRules t → list_all is_entry P ≡ true
+    → All (λ s. (1 ≤ s) × (s ≤ letters_of t + 1)) ss → AllByRecursion (IsPatternItem t) (items_from t P q dot ss)
 items_read t P q dot [] rules sound signs = digit_read t P (q, dot) sound
 items_read t P q dot (s ∷ ss) rules sound signs =
     let here = All-head (λ s. (1 ≤ s) × (s ≤ letters_of t + 1)) s ss signs in
@@ -142,28 +143,33 @@ sign_digits : (t : Alphabet) (s dot digit : ℕ) (tokens : List Token) → digit
 sign_digits t s dot digit tokens =
     elim (s == EDGE) as (λ b. digits_from dot digit ((if b then Edge else Letter s) ∷ tokens) ≡ digit_at_dot dot digit ++ digits_from (dot + 1) 0 tokens) [ true ↦ refl | false ↦ refl ]
 
-digits_end : (P : List ((List ℕ × ℕ) × ℕ)) (k : List ℕ × ℕ) (dot : ℕ) → list_all is_entry P ≡ true → digits_from dot 0 (tokens_in (digit_items P k)) ≡ option_map_or (λ v. (dot, v) ∷ []) (find dotted_cmp k P) []
+digits_end : (P : List ((List ℕ × ℕ) × ℕ)) (k : List ℕ × ℕ) (dot : ℕ) → list_all is_entry P ≡ true → digits_from dot 0 (tokens_in (digit_items P k))
+    ≡ option_map_or (λ v. (dot, v) ∷ []) (find dotted_cmp k P) []
 digits_end P k dot sound =
     elim (find dotted_cmp k P) as (λ o. find dotted_cmp k P ≡ o → digits_from dot 0 (tokens_in (option_map_or (λ v. (Digit v, (48 + v) ∷ []) ∷ []) o [])) ≡ option_map_or (λ v. (dot, v) ∷ []) o []) [
       | None ↦ λ is. refl
       | Some v ↦ λ is. digit_there dot v (entry_bounds (k, v) (found_entry P k v sound is)).low
     ] refl
 
-digits_more : (t : Alphabet) (P : List ((List ℕ × ℕ) × ℕ)) (k : List ℕ × ℕ) (dot s : ℕ) (items : List (Token × List ℕ)) → list_all is_entry P ≡ true → digits_from dot 0 (tokens_in (digit_items P k ++ sign_item t s ∷ items)) ≡ option_map_or (λ v. (dot, v) ∷ []) (find dotted_cmp k P) [] ++ digits_from (dot + 1) 0 (tokens_in items)
+digits_more : (t : Alphabet) (P : List ((List ℕ × ℕ) × ℕ)) (k : List ℕ × ℕ) (dot s : ℕ) (items : List (Token × List ℕ)) → list_all is_entry P ≡ true
+    → digits_from dot 0 (tokens_in (digit_items P k ++ sign_item t s ∷ items)) ≡ option_map_or (λ v. (dot, v) ∷ []) (find dotted_cmp k P) [] ++ digits_from (dot + 1) 0 (tokens_in items)
 digits_more t P k dot s items sound =
-    elim (find dotted_cmp k P) as (λ o. find dotted_cmp k P ≡ o → digits_from dot 0 (tokens_in (option_map_or (λ v. (Digit v, (48 + v) ∷ []) ∷ []) o [] ++ sign_item t s ∷ items)) ≡ option_map_or (λ v. (dot, v) ∷ []) o [] ++ digits_from (dot + 1) 0 (tokens_in items)) [
+    elim (find dotted_cmp k P) as (λ o. find dotted_cmp k P ≡ o → digits_from dot 0 (tokens_in (option_map_or (λ v. (Digit v, (48 + v) ∷ []) ∷ []) o [] ++ sign_item t s ∷ items))
+    ≡ option_map_or (λ v. (dot, v) ∷ []) o [] ++ digits_from (dot + 1) 0 (tokens_in items)) [
       | None ↦ λ is. sign_digits t s dot 0 (tokens_in items)
       | Some v ↦ λ is. sign_digits t s dot v (tokens_in items) ∙ ap (λ x. x ++ digits_from (dot + 1) 0 (tokens_in items)) (digit_there dot v (entry_bounds (k, v) (found_entry P k v sound is)).low)
     ] refl
 
-digits_of_items : (t : Alphabet) (P : List ((List ℕ × ℕ) × ℕ)) (q : List ℕ) (dot : ℕ) (ss : List ℕ) → list_all is_entry P ≡ true → digits_from dot 0 (tokens_in (items_from t P q dot ss)) ≡ values_from P q dot ss
+digits_of_items : (t : Alphabet) (P : List ((List ℕ × ℕ) × ℕ)) (q : List ℕ) (dot : ℕ) (ss : List ℕ) → list_all is_entry P ≡ true
+    → digits_from dot 0 (tokens_in (items_from t P q dot ss)) ≡ values_from P q dot ss
 digits_of_items t P q dot [] sound = digits_end P (q, dot) dot sound
 digits_of_items t P q dot (s ∷ ss) sound =
     digits_more t P (q, dot) dot s (items_from t P q (dot + 1) ss) sound ∙ ap (λ x. option_map_or (λ v. (dot, v) ∷ []) (find dotted_cmp (q, dot) P) [] ++ x) (digits_of_items t P q (dot + 1) ss sound)
 
 entries_of_string : (t : Alphabet) (P : List ((List ℕ × ℕ) × ℕ)) (q : List ℕ) → list_all is_entry P ≡ true → entries_of_items (tokens_in (items_from t P q 0 q)) ≡ entries_of P q
 entries_of_string t P q sound =
-    ap (entries_at (signs_of (tokens_in (items_from t P q 0 q)))) (sym (digits_are (tokens_in (items_from t P q 0 q)))) ∙ ap (λ x. entries_at x (digits_from 0 0 (tokens_in (items_from t P q 0 q)))) (signs_from t P q 0 q) ∙ ap (entries_at q) (digits_of_items t P q 0 q sound)
+    ap (entries_at (signs_of (tokens_in (items_from t P q 0 q)))) (sym (digits_are (tokens_in (items_from t P q 0 q))))
+    ∙ ap (λ x. entries_at x (digits_from 0 0 (tokens_in (items_from t P q 0 q)))) (signs_from t P q 0 q) ∙ ap (entries_at q) (digits_of_items t P q 0 q sound)
 
 -- what is said of a string of the map
 pub record IsString (n : ℕ) (q : List ℕ) : Type 0 where
@@ -171,7 +177,8 @@ pub record IsString (n : ℕ) (q : List ℕ) : Type 0 where
   pub signs : All (λ s. (1 ≤ s) × (s ≤ n)) q
 
 -- the lines of strings give their entries
-pub strings_read : (t : Alphabet) (P : List ((List ℕ × ℕ) × ℕ)) (line : ℕ) (qs : List (List ℕ)) → KeepsRules t → list_all is_entry P ≡ true → AllByRecursion (IsString (letters_of t + 1)) qs → entries_from t line (lines (flat_map (pattern_line t P) qs)) ≡ Ok (flat_map (entries_of P) qs)
+pub strings_read : (t : Alphabet) (P : List ((List ℕ × ℕ) × ℕ)) (line : ℕ) (qs : List (List ℕ)) → KeepsRules t → list_all is_entry P ≡ true
+    → AllByRecursion (IsString (letters_of t + 1)) qs → entries_from t line (lines (flat_map (pattern_line t P) qs)) ≡ Ok (flat_map (entries_of P) qs)
 strings_read t P line [] rules sound strings = refl
 strings_read t P line (q ∷ qs) rules sound strings =
     let items = items_from t P q 0 q in

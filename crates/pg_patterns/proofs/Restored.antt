@@ -36,12 +36,14 @@ value_there P q dot =
 
 values_of : (P : List ((List ℕ × ℕ) × ℕ)) (q : List ℕ) (dot : ℕ) (ss : List ℕ) → All (λ (x : ℕ × ℕ). find dotted_cmp (q, x.0) P ≡ Some x.1) (values_from P q dot ss)
 values_of P q dot [] = value_there P q dot
-values_of P q dot (s ∷ ss) = All-append (λ (x : ℕ × ℕ). find dotted_cmp (q, x.0) P ≡ Some x.1) (option_map_or (λ v. (dot, v) ∷ []) (find dotted_cmp (q, dot) P) []) (values_from P q (dot + 1) ss) (value_there P q dot) (values_of P q (dot + 1) ss)
+values_of P q dot (s ∷ ss) = All-append (λ (x : ℕ × ℕ). find dotted_cmp (q, x.0) P ≡ Some x.1) (option_map_or (λ v. (dot, v) ∷ []) (find dotted_cmp (q, dot) P) [])
+    (values_from P q (dot + 1) ss) (value_there P q dot) (values_of P q (dot + 1) ss)
 
 entries_are_of : (P : List ((List ℕ × ℕ) × ℕ)) (q : List ℕ) (xs : List (ℕ × ℕ)) → All (λ (x : ℕ × ℕ). find dotted_cmp (q, x.0) P ≡ Some x.1) xs → All (IsOf P) (map (entry_at q) xs)
 entries_are_of P q [] all = All-nil (IsOf P)
 entries_are_of P q (x ∷ xs) all =
-    All-cons (IsOf P) ((q, x.0), x.1) (map (entry_at q) xs) (All-head (λ (x : ℕ × ℕ). find dotted_cmp (q, x.0) P ≡ Some x.1) x xs all) (entries_are_of P q xs (All-tail (λ (x : ℕ × ℕ). find dotted_cmp (q, x.0) P ≡ Some x.1) x xs all))
+    All-cons (IsOf P) ((q, x.0), x.1) (map (entry_at q) xs) (All-head (λ (x : ℕ × ℕ). find dotted_cmp (q, x.0) P ≡ Some x.1) x xs all)
+    (entries_are_of P q xs (All-tail (λ (x : ℕ × ℕ). find dotted_cmp (q, x.0) P ≡ Some x.1) x xs all))
 
 string_is_of : (P : List ((List ℕ × ℕ) × ℕ)) (q : List ℕ) (xs : List (ℕ × ℕ)) → All (λ (x : ℕ × ℕ). find dotted_cmp (q, x.0) P ≡ Some x.1) xs → All (IsOf P) (entries_at q xs)
 string_is_of P [] xs all = All-nil (IsOf P)
@@ -86,12 +88,14 @@ map_append : (q : List ℕ) (xs ys : List (ℕ × ℕ)) → map (entry_at q) (xs
 map_append q [] ys = refl
 map_append q (x ∷ xs) ys = ap (λ z. ((q, x.0), x.1) ∷ z) (map_append q xs ys)
 
-value_here : (P : List ((List ℕ × ℕ) × ℕ)) (q : List ℕ) (dot v : ℕ) → find dotted_cmp (q, dot) P ≡ Some v → v ≤ greatest_value (same_dotted (q, dot)) (map (entry_at q) (option_map_or (λ v. (dot, v) ∷ []) (find dotted_cmp (q, dot) P) []))
+value_here : (P : List ((List ℕ × ℕ) × ℕ)) (q : List ℕ) (dot v : ℕ) → find dotted_cmp (q, dot) P ≡ Some v
+    → v ≤ greatest_value (same_dotted (q, dot)) (map (entry_at q) (option_map_or (λ v. (dot, v) ∷ []) (find dotted_cmp (q, dot) P) []))
 value_here P q dot v is =
     subst (λ o. v ≤ greatest_value (same_dotted (q, dot)) (map (entry_at q) (option_map_or (λ v. (dot, v) ∷ []) o []))) (sym is)
     (let same : same_dotted (q, dot) (q, dot) ≡ true = dotted_equiv.refl (q, dot) in subst (λ b. v ≤ max (only b v) 0) (sym same) (omega arith))
 
-value_among : (P : List ((List ℕ × ℕ) × ℕ)) (q : List ℕ) (first dot v : ℕ) (ss : List ℕ) → first ≤ dot → dot ≤ first + length ss → find dotted_cmp (q, dot) P ≡ Some v → v ≤ greatest_value (same_dotted (q, dot)) (map (entry_at q) (values_from P q first ss))
+value_among : (P : List ((List ℕ × ℕ) × ℕ)) (q : List ℕ) (first dot v : ℕ) (ss : List ℕ) → first ≤ dot → dot ≤ first + length ss → find dotted_cmp (q, dot) P
+    ≡ Some v → v ≤ greatest_value (same_dotted (q, dot)) (map (entry_at q) (values_from P q first ss))
 value_among P q first dot v [] low high is =
     let one : first ≡ dot = omega arith in
     subst (λ n. v ≤ greatest_value (same_dotted (q, dot)) (map (entry_at q) (option_map_or (λ v. (n, v) ∷ []) (find dotted_cmp (q, n) P) []))) (sym one) (value_here P q dot v is)
@@ -99,10 +103,12 @@ value_among P q first dot v (s ∷ ss) low high is =
     let here : List (ℕ × ℕ) = option_map_or (λ v. (first, v) ∷ []) (find dotted_cmp (q, first) P) [] in
     subst (λ x. v ≤ greatest_value (same_dotted (q, dot)) x) (sym (map_append q here (values_from P q (first + 1) ss)))
     (⊎_elim
-    (λ later. within_of _ _ _ (value_among P q (first + 1) dot v ss (omega arith) (omega arith) is) (best_right (same_dotted (q, dot)) (map (entry_at q) here) (map (entry_at q) (values_from P q (first + 1) ss))))
+    (λ later. within_of _ _ _ (value_among P q (first + 1) dot v ss (omega arith) (omega arith) is)
+    (best_right (same_dotted (q, dot)) (map (entry_at q) here) (map (entry_at q) (values_from P q (first + 1) ss))))
     (λ upto.
     let one : first ≡ dot = omega arith in
-    let now : v ≤ greatest_value (same_dotted (q, dot)) (map (entry_at q) here) = subst (λ n. v ≤ greatest_value (same_dotted (q, dot)) (map (entry_at q) (option_map_or (λ v. (n, v) ∷ []) (find dotted_cmp (q, n) P) []))) (sym one) (value_here P q dot v is) in
+    let now : v ≤ greatest_value (same_dotted (q, dot)) (map (entry_at q) here) =
+    subst (λ n. v ≤ greatest_value (same_dotted (q, dot)) (map (entry_at q) (option_map_or (λ v. (n, v) ∷ []) (find dotted_cmp (q, n) P) []))) (sym one) (value_here P q dot v is) in
     within_of _ _ _ now (best_left (same_dotted (q, dot)) (map (entry_at q) here) (map (entry_at q) (values_from P q (first + 1) ss))))
     (cases_lt first dot))
 
@@ -126,7 +132,8 @@ string_among : (P : List ((List ℕ × ℕ) × ℕ)) (k : List ℕ × ℕ) (v : 
 string_among [] k v is = cc
 string_among (e ∷ es) k v is =
     string_added (pointwise nat_eq k.0) e.0.0 (strings_of es)
-    ∙ elim (eq_by_cmp dotted_cmp k e.0) as (λ b. eq_by_cmp dotted_cmp k e.0 ≡ b → cond b (Some e.1) (find dotted_cmp k es) ≡ Some v → (pointwise nat_eq k.0 e.0.0 || list_any (pointwise nat_eq k.0) (strings_of es)) ≡ true) [
+    ∙ elim (eq_by_cmp dotted_cmp k e.0) as (λ b. eq_by_cmp dotted_cmp k e.0 ≡ b → cond b (Some e.1) (find dotted_cmp k es) ≡ Some v
+    → (pointwise nat_eq k.0 e.0.0 || list_any (pointwise nat_eq k.0) (strings_of es)) ≡ true) [
       | true ↦ λ tied there. ap (λ b. b || list_any (pointwise nat_eq k.0) (strings_of es)) (and_first _ _ (dotted_ties k e.0 ∙ tied))
       | false ↦ λ apart further. or_true (pointwise nat_eq k.0 e.0.0) _ (string_among es k v further)
     ] refl is
@@ -135,14 +142,17 @@ string_among (e ∷ es) k v is =
     or_true true b is = refl
     or_true false b is = is
 
-value_of_string : (P : List ((List ℕ × ℕ) × ℕ)) (q : List ℕ) (dot v : ℕ) → 1 ≤ length q → dot ≤ length q → find dotted_cmp (q, dot) P ≡ Some v → v ≤ greatest_value (same_dotted (q, dot)) (entries_of P q)
+value_of_string : (P : List ((List ℕ × ℕ) × ℕ)) (q : List ℕ) (dot v : ℕ) → 1 ≤ length q → dot ≤ length q → find dotted_cmp (q, dot) P ≡ Some v
+    → v ≤ greatest_value (same_dotted (q, dot)) (entries_of P q)
 value_of_string P [] dot v some bound is = absurd (omega arith)
 value_of_string P (s ∷ q) dot v some bound is = value_among P (s ∷ q) 0 dot v (s ∷ q) (omega arith) (omega arith) is
 
-value_in_strings : (P : List ((List ℕ × ℕ) × ℕ)) (k : List ℕ × ℕ) (v : ℕ) (qs : List (List ℕ)) → 1 ≤ length k.0 → k.1 ≤ length k.0 → find dotted_cmp k P ≡ Some v → list_any (pointwise nat_eq k.0) qs ≡ true → v ≤ greatest_value (same_dotted k) (flat_map (entries_of P) qs)
+value_in_strings : (P : List ((List ℕ × ℕ) × ℕ)) (k : List ℕ × ℕ) (v : ℕ) (qs : List (List ℕ)) → 1 ≤ length k.0 → k.1 ≤ length k.0 → find dotted_cmp k P
+    ≡ Some v → list_any (pointwise nat_eq k.0) qs ≡ true → v ≤ greatest_value (same_dotted k) (flat_map (entries_of P) qs)
 value_in_strings P k v [] some bound is among = cc
 value_in_strings P k v (q ∷ qs) some bound is among =
-    elim (pointwise nat_eq k.0 q) as (λ b. pointwise nat_eq k.0 q ≡ b → (b || list_any (pointwise nat_eq k.0) qs) ≡ true → v ≤ greatest_value (same_dotted k) (entries_of P q ++ flat_map (entries_of P) qs)) [
+    elim (pointwise nat_eq k.0 q) as (λ b. pointwise nat_eq k.0 q ≡ b → (b || list_any (pointwise nat_eq k.0) qs) ≡ true
+    → v ≤ greatest_value (same_dotted k) (entries_of P q ++ flat_map (entries_of P) qs)) [
       | true ↦ λ same there.
           let one : k.0 ≡ q = equal_signs k.0 q (equal_is _ (sym (texts_ties k.0 q) ∙ same)) in
           let here : v ≤ greatest_value (same_dotted k) (entries_of P q) = subst (λ x. v ≤ greatest_value (same_dotted k) (entries_of P x)) one (value_of_string P k.0 k.1 v some bound is) in

@@ -45,7 +45,8 @@ entry_bounds e h =
 
 pub entry_told : (e : (List ℕ × ℕ) × ℕ) → EntryBounds e → is_entry e ≡ true
 entry_told e b =
-    and_from _ _ (and_from _ _ (and_from _ _ (and_from _ _ (and_from _ _ (le-leb 1 (length e.0.0) b.some) (le-leb (length e.0.0) PATTERN_SIGNS_MAX b.few)) b.signs) (le-leb e.0.1 (length e.0.0) b.dot)) (le-leb 1 e.1 b.low)) (le-leb e.1 LEVEL_MAX b.high)
+    and_from _ _ (and_from _ _ (and_from _ _ (and_from _ _ (and_from _ _ (le-leb 1 (length e.0.0) b.some) (le-leb (length e.0.0) PATTERN_SIGNS_MAX b.few)) b.signs)
+    (le-leb e.0.1 (length e.0.0) b.dot)) (le-leb 1 e.1 b.low)) (le-leb e.1 LEVEL_MAX b.high)
 
 pub entry_at : (P : List ((List ℕ × ℕ) × ℕ)) (i : ℕ) (d : (List ℕ × ℕ) × ℕ) → list_all is_entry P ≡ true → i < length P → is_entry (get_or P i d) ≡ true
 entry_at [] i d sound inside = absurd (omega arith)
@@ -53,7 +54,8 @@ entry_at (e ∷ es) zero d sound inside = and_first _ _ sound
 entry_at (e ∷ es) (suc i) d sound inside = entry_at es i d (and_second _ _ sound) (omega arith)
 
 -- the bounds of an entry that is lent in its parts
-pub bounds_lent : (P Q : List ((List ℕ × ℕ) × ℕ)) (i : ℕ) (e : (List ℕ × ℕ) × ℕ) (q : List ℕ) (dot : ℕ) → IsPatternMap P → P ≡ Q → i < length Q → e ≡ get_or P i e → q ≡ e.0.0 → dot ≡ e.0.1 → EntryBounds ((q, dot), e.1)
+pub bounds_lent : (P Q : List ((List ℕ × ℕ) × ℕ)) (i : ℕ) (e : (List ℕ × ℕ) × ℕ) (q : List ℕ) (dot : ℕ) → IsPatternMap P → P ≡ Q → i < length Q → e
+    ≡ get_or P i e → q ≡ e.0.0 → dot ≡ e.0.1 → EntryBounds ((q, dot), e.1)
 bounds_lent P Q i e q dot map same inside is signs at =
     let within : i < length P = subst (λ x. i < length x) (sym same) inside in
     let there : is_entry e ≡ true = subst (λ x. is_entry x ≡ true) (sym is) (entry_at P i e map.sound within) in

@@ -23,22 +23,28 @@ use Rattle.pg_patterns.specs.Inside.Drafts.{Draft, IsDraft, IsDotDigit, all_digi
 room_less : (n : ℕ) → n < PATTERN_SIGNS_MAX → PATTERN_SIGNS_MAX - n ≡ PATTERN_SIGNS_MAX - (n + 1) + 1
 room_less n room = omega arith
 
-pub sign_step : (t : Alphabet) (line size : ℕ) (d : Draft) (rest after : List ℕ) (token : Token) (sign : ℕ) → HasItem t Patterns rest token after → length rest ≤ size → sign_of token ≡ Some sign → with_token d token ≡ draft_with_sign d sign → length d.signs < PATTERN_SIGNS_MAX → draft_left t line size d rest ≡ draft_left t line size (draft_with_sign d sign) after
+pub sign_step : (t : Alphabet) (line size : ℕ) (d : Draft) (rest after : List ℕ) (token : Token) (sign : ℕ) → HasItem t Patterns rest token after
+    → length rest ≤ size → sign_of token ≡ Some sign → with_token d token ≡ draft_with_sign d sign → length d.signs < PATTERN_SIGNS_MAX
+    → draft_left t line size d rest ≡ draft_left t line size (draft_with_sign d sign) after
 sign_step t line size d rest after token sign takes bound is adds room =
     let n : ℕ = length d.signs in
     let column : ℕ = size - length rest + 1 in
     let behind : Cut = cut_rest t Patterns size after in
     ap (λ c. unless (refusal_after n line c) (fold with_token d (tokens_of c))) (cut_rest-takes t Patterns size token rest after takes bound)
-    ∙ ap (λ r. unless r (fold with_token (with_token d token) (tokens_of behind))) (ap (λ m. refusal_with_room Patterns line m (with_item column token behind)) (room_less n room) ∙ refusal_sign Patterns line (PATTERN_SIGNS_MAX - (n + 1)) column token sign behind is ∙ ap (λ n. refusal_after n line behind) (sym (length_push d.signs sign)))
+    ∙ ap (λ r. unless r (fold with_token (with_token d token) (tokens_of behind)))
+    (ap (λ m. refusal_with_room Patterns line m (with_item column token behind)) (room_less n room) ∙ refusal_sign Patterns line (PATTERN_SIGNS_MAX - (n + 1)) column token sign behind is
+    ∙ ap (λ n. refusal_after n line behind) (sym (length_push d.signs sign)))
     ∙ ap (λ e. unless (refusal_after (length (d.signs ++ sign ∷ [])) line behind) (fold with_token e (tokens_of behind))) adds
 
-pub sign_refused : (t : Alphabet) (line size : ℕ) (d : Draft) (rest after : List ℕ) (token : Token) (sign : ℕ) → HasItem t Patterns rest token after → length rest ≤ size → sign_of token ≡ Some sign → PATTERN_SIGNS_MAX ≤ length d.signs → draft_left t line size d rest ≡ Err (refusal_at line PatternTooLong (size - length rest + 1))
+pub sign_refused : (t : Alphabet) (line size : ℕ) (d : Draft) (rest after : List ℕ) (token : Token) (sign : ℕ) → HasItem t Patterns rest token after
+    → length rest ≤ size → sign_of token ≡ Some sign → PATTERN_SIGNS_MAX ≤ length d.signs → draft_left t line size d rest ≡ Err (refusal_at line PatternTooLong (size - length rest + 1))
 sign_refused t line size d rest after token sign takes bound is full =
     let column : ℕ = size - length rest + 1 in
     let behind : Cut = cut_rest t Patterns size after in
     let none : PATTERN_SIGNS_MAX - length d.signs ≡ 0 = omega arith in
     ap (λ c. unless (refusal_after (length d.signs) line c) (fold with_token d (tokens_of c))) (cut_rest-takes t Patterns size token rest after takes bound)
-    ∙ ap (λ r. unless r (fold with_token (with_token d token) (tokens_of behind))) (ap (λ m. refusal_with_room Patterns line m (with_item column token behind)) none ∙ refusal_full Patterns line column token sign behind is)
+    ∙ ap (λ r. unless r (fold with_token (with_token d token) (tokens_of behind))) (ap (λ m. refusal_with_room Patterns line m (with_item column token behind)) none
+    ∙ refusal_full Patterns line column token sign behind is)
 
 -- what a draft keeps, it keeps with one digit more at its dots
 pub keeps_digits : (n : ℕ) (d : Draft) → IsDraft n d → All (IsDotDigit (length d.signs + 1)) (all_digits d)

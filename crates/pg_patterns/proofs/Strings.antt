@@ -60,7 +60,8 @@ first_dot e =
     zero_upto Greater rank = absurd (omega arith)
 
 -- where the entries of a string begin, its first dot stands
-pub string_start : (P : List ((List ℕ × ℕ) × ℕ)) (i : ℕ) (e : (List ℕ × ℕ) × ℕ) → T (is_sorted dotted_cmp P) → i < length P → e ≡ get_or P i e → ((j : ℕ) (d : (List ℕ × ℕ) × ℕ) → j < i → is_after (e.0.0, 0) (get_or P j d) ≡ true) → HasRank P (e.0.0, 0) i
+pub string_start : (P : List ((List ℕ × ℕ) × ℕ)) (i : ℕ) (e : (List ℕ × ℕ) × ℕ) → T (is_sorted dotted_cmp P) → i < length P → e ≡ get_or P i e
+    → ((j : ℕ) (d : (List ℕ × ℕ) × ℕ) → j < i → is_after (e.0.0, 0) (get_or P j d) ≡ true) → HasRank P (e.0.0, 0) i
 string_start P i e sorted inside is before =
     record {
       within = omega arith;
@@ -74,7 +75,8 @@ string_start P i e sorted inside is before =
     }
 
 -- the entries before the end of a string are before the next string
-pub next_string : (P : List ((List ℕ × ℕ) × ℕ)) (q : List ℕ) (i : ℕ) (e : (List ℕ × ℕ) × ℕ) → IsPatternMap P → HasRank P (q, length q + 1) i → i < length P → e ≡ get_or P i e → slice_cmp nat_cmp q e.0.0 ≡ Less × ((j : ℕ) (d : (List ℕ × ℕ) × ℕ) → j < i → is_after (e.0.0, 0) (get_or P j d) ≡ true)
+pub next_string : (P : List ((List ℕ × ℕ) × ℕ)) (q : List ℕ) (i : ℕ) (e : (List ℕ × ℕ) × ℕ) → IsPatternMap P → HasRank P (q, length q + 1) i → i < length P
+    → e ≡ get_or P i e → slice_cmp nat_cmp q e.0.0 ≡ Less × ((j : ℕ) (d : (List ℕ × ℕ) × ℕ) → j < i → is_after (e.0.0, 0) (get_or P j d) ≡ true)
 next_string P q i e map point inside is =
     let bounds = entry_bounds e (subst (λ x. is_entry x ≡ true) (sym is) (entry_at P i e map.sound inside)) in
     let less : slice_cmp nat_cmp q e.0.0 ≡ Less = later_string q e bounds.dot (ap (is_after (q, length q + 1)) is ∙ point.behind i e (omega arith) inside) in
@@ -96,7 +98,8 @@ other_string q r (s ∷ rs) other =
       | false ↦ λ apart. ap (λ t. cond t (r ∷ s ∷ rs) (q ∷ r ∷ s ∷ rs)) other
     ] refl
 
-pub string_ends : (q : List ℕ) (es : List ((List ℕ × ℕ) × ℕ)) → ((d : (List ℕ × ℕ) × ℕ) → 0 < length es → pointwise nat_eq q (get_or es 0 d).0.0 ≡ false) → with_string q (strings_of es) ≡ q ∷ strings_of es
+pub string_ends : (q : List ℕ) (es : List ((List ℕ × ℕ) × ℕ)) → ((d : (List ℕ × ℕ) × ℕ) → 0 < length es → pointwise nat_eq q (get_or es 0 d).0.0 ≡ false)
+    → with_string q (strings_of es) ≡ q ∷ strings_of es
 string_ends q [] other = refl
 string_ends q (e ∷ es) other = other_string q e.0.0 (strings_of es) (other e (omega arith))
 
@@ -104,7 +107,8 @@ same_again : (q : List ℕ) (rs : List (List ℕ)) → with_string q (q ∷ rs) 
 same_again q rs = ap (λ t. cond t (q ∷ rs) (q ∷ q ∷ rs)) (texts_ties q q ∙ ap is_eq (same_signs q))
 
 -- entries of one string give it once
-pub string_once : (q : List ℕ) (es : List ((List ℕ × ℕ) × ℕ)) (n : ℕ) → ((j : ℕ) (d : (List ℕ × ℕ) × ℕ) → j < suc n → (get_or es j d).0.0 ≡ q) → suc n ≤ length es → with_string q (strings_of (drop (suc n) es)) ≡ q ∷ strings_of (drop (suc n) es) → strings_of es ≡ q ∷ strings_of (drop (suc n) es)
+pub string_once : (q : List ℕ) (es : List ((List ℕ × ℕ) × ℕ)) (n : ℕ) → ((j : ℕ) (d : (List ℕ × ℕ) × ℕ) → j < suc n → (get_or es j d).0.0 ≡ q)
+    → suc n ≤ length es → with_string q (strings_of (drop (suc n) es)) ≡ q ∷ strings_of (drop (suc n) es) → strings_of es ≡ q ∷ strings_of (drop (suc n) es)
 string_once q [] n same within ends = absurd (omega arith)
 string_once q (e ∷ es) zero same within ends = ap (λ r. with_string r (strings_of es)) (same 0 e (omega arith)) ∙ ends
 string_once q (e ∷ es) (suc n) same within ends =
@@ -122,12 +126,14 @@ string_progress P at n e map inside is point =
     cc (later, same_signs e.0.0))
     (cases_lt at n)
 
-string_cut : (P : List ((List ℕ × ℕ) × ℕ)) (at m : ℕ) (e : (List ℕ × ℕ) × ℕ) → IsPatternMap P → HasRank P (e.0.0, 0) at → HasRank P (e.0.0, length e.0.0 + 1) (at + suc m) → strings_of (drop at P) ≡ e.0.0 ∷ strings_of (drop (at + suc m) P)
+string_cut : (P : List ((List ℕ × ℕ) × ℕ)) (at m : ℕ) (e : (List ℕ × ℕ) × ℕ) → IsPatternMap P → HasRank P (e.0.0, 0) at → HasRank P (e.0.0, length e.0.0 + 1) (at + suc m)
+    → strings_of (drop at P) ≡ e.0.0 ∷ strings_of (drop (at + suc m) P)
 string_cut P at m e map begin end =
     let q = e.0.0 in
     let moved : drop (suc m) (drop at P) ≡ drop (at + suc m) P = drop-drop (suc m) at P in
     let same : (j : ℕ) (d : (List ℕ × ℕ) × ℕ) → j < suc m → (get_or (drop at P) j d).0.0 ≡ q = λ j d low.
-    ap (λ x. x.0.0) (get_or-drop at P j d) ∙ same_string q (length q + 1) (get_or P (at + j) d) (end.before (at + j) d (omega arith)) (begin.behind (at + j) d (omega arith) (omega (arith, end.within))) in
+    ap (λ x. x.0.0) (get_or-drop at P j d) ∙ same_string q (length q + 1) (get_or P (at + j) d) (end.before (at + j) d (omega arith))
+    (begin.behind (at + j) d (omega arith) (omega (arith, end.within))) in
     let ends : with_string q (strings_of (drop (at + suc m) P)) ≡ q ∷ strings_of (drop (at + suc m) P) =
     string_ends q (drop (at + suc m) P) (λ d some.
     let inside : at + suc m < length P = omega (arith, length-drop (at + suc m) P) in
@@ -137,14 +143,17 @@ string_cut P at m e map begin end =
     ∙ ap (λ x. q ∷ strings_of x) moved
 
 -- from where the entries of a string begin to where those of the next do
-pub string_step : (P : List ((List ℕ × ℕ) × ℕ)) (at n : ℕ) (e : (List ℕ × ℕ) × ℕ) → IsPatternMap P → at < length P → e ≡ get_or P at e → HasRank P (e.0.0, 0) at → HasRank P (e.0.0, length e.0.0 + 1) n → at < n × (strings_of (drop at P) ≡ e.0.0 ∷ strings_of (drop n P))
+pub string_step : (P : List ((List ℕ × ℕ) × ℕ)) (at n : ℕ) (e : (List ℕ × ℕ) × ℕ) → IsPatternMap P → at < length P → e ≡ get_or P at e → HasRank P (e.0.0, 0) at
+    → HasRank P (e.0.0, length e.0.0 + 1) n → at < n × (strings_of (drop at P) ≡ e.0.0 ∷ strings_of (drop n P))
 string_step P at n e map inside is begin end =
     let less : at < n = string_progress P at n e map inside is end in
     let size : n ≡ at + suc (n - at - 1) = omega arith in
     (less, string_cut P at (n - at - 1) e map begin (subst (λ x. HasRank P (e.0.0, length e.0.0 + 1) x) size end) ∙ ap (λ x. e.0.0 ∷ strings_of (drop x P)) (sym size))
 
 -- a line written is one line less to write
-pub line_step : (t : Alphabet) (P : List ((List ℕ × ℕ) × ℕ)) (at n : ℕ) (e : (List ℕ × ℕ) × ℕ) (q old new whole : List ℕ) → IsPatternMap P → at < length P → e ≡ get_or P at e → q ≡ e.0.0 → HasRank P (e.0.0, 0) at → HasRank P (q, length q + 1) n → new ≡ old ++ pattern_line t P q → old ++ flat_map (pattern_line t P) (strings_of (drop at P)) ≡ whole → new ++ flat_map (pattern_line t P) (strings_of (drop n P)) ≡ whole
+pub line_step : (t : Alphabet) (P : List ((List ℕ × ℕ) × ℕ)) (at n : ℕ) (e : (List ℕ × ℕ) × ℕ) (q old new whole : List ℕ) → IsPatternMap P → at < length P
+    → e ≡ get_or P at e → q ≡ e.0.0 → HasRank P (e.0.0, 0) at → HasRank P (q, length q + 1) n → new ≡ old ++ pattern_line t P q → old
+    ++ flat_map (pattern_line t P) (strings_of (drop at P)) ≡ whole → new ++ flat_map (pattern_line t P) (strings_of (drop n P)) ≡ whole
 line_step t P at n e q old new whole map inside is signs begin end pushed left =
     let point : HasRank P (e.0.0, length e.0.0 + 1) n = subst (λ x. HasRank P (x, length x + 1) n) signs end in
     let cut : strings_of (drop at P) ≡ q ∷ strings_of (drop n P) = (string_step P at n e map inside is begin point).1 ∙ ap (λ x. x ∷ strings_of (drop n P)) (sym signs) in

@@ -42,15 +42,18 @@ not_longer : (a b : ℕ) → b ≤ a → nat_lt a b ≡ false
 not_longer a b upto = le-ltb a b upto
 
 -- the text of a map is read back as the map
-pub text_reads_back : (t : Alphabet) (P : List ((List ℕ × ℕ) × ℕ)) → KeepsRules t → IsPatternMap P → SignsUpTo (letters_of t + 1) P → length (pattern_text t P) ≤ FILE_MAX → start t (pattern_text t P) ≡ Ok P
+pub text_reads_back : (t : Alphabet) (P : List ((List ℕ × ℕ) × ℕ)) → KeepsRules t → IsPatternMap P → SignsUpTo (letters_of t + 1) P
+    → length (pattern_text t P) ≤ FILE_MAX → start t (pattern_text t P) ≡ Ok P
 text_reads_back t P rules map known few =
-    ap (λ b. cond b (Err (record { kind = PatternsTooLong; line = 0; column = 0 })) (of_lines (λ ls. map_of_entries (flat_map line_entries ls)) t Patterns (lines (pattern_text t P)))) (not_longer FILE_MAX (length (pattern_text t P)) few)
+    ap (λ b. cond b (Err (record { kind = PatternsTooLong; line = 0; column = 0 })) (of_lines (λ ls. map_of_entries (flat_map line_entries ls)) t Patterns (lines (pattern_text t P))))
+    (not_longer FILE_MAX (length (pattern_text t P)) few)
     ∙ sym (joined_as t (lines (pattern_text t P)))
     ∙ ap joined_entries (strings_read t P 1 (strings_of P) rules map.sound (strings_known (letters_of t + 1) P map.sound known))
     ∙ ap Ok (joined_strings P map)
 
 -- a text that was written from the start is a pattern file of the map
-pub written_reads_back : (t : Alphabet) (P Q es : List ((List ℕ × ℕ) × ℕ)) (text before : List ℕ) → KeepsRules t → IsPatternMap P → P ≡ Q → es ≡ P → SignsUpTo (letters_of t + 1) Q → before ≡ [] → text ≡ before ++ pattern_text t es → length text ≤ FILE_MAX → start t text ≡ Ok Q
+pub written_reads_back : (t : Alphabet) (P Q es : List ((List ℕ × ℕ) × ℕ)) (text before : List ℕ) → KeepsRules t → IsPatternMap P → P ≡ Q → es ≡ P
+    → SignsUpTo (letters_of t + 1) Q → before ≡ [] → text ≡ before ++ pattern_text t es → length text ≤ FILE_MAX → start t text ≡ Ok Q
 written_reads_back t P Q es text before rules map same entries known none written few =
     let is : text ≡ pattern_text t Q = written ∙ ap (λ x. x ++ pattern_text t es) none ∙ ap (pattern_text t) (entries ∙ same) in
     ap (start t) is ∙ text_reads_back t Q rules (subst IsPatternMap same map) known (subst (λ x. length x ≤ FILE_MAX) is few)

@@ -22,7 +22,8 @@ module _ {X : Type 0} where
   pub all_both : (s t : X → Bool) (xs : List X) → list_all s xs ≡ true → list_all t xs ≡ true → list_all (λ x. s x && t x) xs ≡ true
   all_both s t [] p q = refl
   all_both s t (x ∷ xs) p q =
-      and_from (s x && t x) (list_all (λ x. s x && t x) xs) (and_from (s x) (t x) (and_first (s x) (list_all s xs) p) (and_first (t x) (list_all t xs) q)) (all_both s t xs (and_second (s x) (list_all s xs) p) (and_second (t x) (list_all t xs) q))
+      and_from (s x && t x) (list_all (λ x. s x && t x) xs) (and_from (s x) (t x) (and_first (s x) (list_all s xs) p) (and_first (t x) (list_all t xs) q))
+      (all_both s t xs (and_second (s x) (list_all s xs) p) (and_second (t x) (list_all t xs) q))
 
   -- a filter keeps what passes it
   pub all_filter : (keep : X → Bool) (xs : List X) → list_all keep (filter keep xs) ≡ true

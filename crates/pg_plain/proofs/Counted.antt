@@ -67,7 +67,8 @@ module _ (tallies : List (ℕ × ℕ)) where
   above_no u numbers r between none = above_seen u numbers ∙ ap (mapped (tally_at tallies)) (sym (between ∙ between_above u numbers) ∙ none)
 
   -- the least window above u
-  pub next_above : (numbers rest r : Numbers) (u v : List ℕ) (e : List ℕ × ℕ) → T (is_sorted (slice_cmp nat_cmp) numbers) → r ≡ entries_between (slice_cmp nat_cmp) (Excluded u) Unbounded numbers → r ≡ e ∷ rest → v ≡ e.0
+  pub next_above : (numbers rest r : Numbers) (u v : List ℕ) (e : List ℕ × ℕ) → T (is_sorted (slice_cmp nat_cmp) numbers) → r
+      ≡ entries_between (slice_cmp nat_cmp) (Excluded u) Unbounded numbers → r ≡ e ∷ rest → v ≡ e.0
       → windows_above u (mapped (tally_at tallies) numbers) ≡ (v, tally_at tallies e.1) ∷ windows_above v (mapped (tally_at tallies) numbers)
   next_above numbers rest r u v e sorted between cut is =
       let here : filter (λ x. is_lt (slice_cmp nat_cmp u x.0)) numbers ≡ e ∷ rest = sym (between ∙ between_above u numbers) ∙ cut in
@@ -77,14 +78,17 @@ module _ (tallies : List (ℕ × ℕ)) where
       ∙ ap (λ l. (e.0, tally_at tallies e.1) ∷ l) (sym (above_seen e.0 numbers))
       ∙ ap (λ x. (x, tally_at tallies e.1) ∷ windows_above x (mapped (tally_at tallies) numbers)) (sym is)
 
-cut_found : (u : List ℕ) (es rest : Numbers) (e : List ℕ × ℕ) → T (is_sorted (slice_cmp nat_cmp) es) → filter (λ x. is_lt (slice_cmp nat_cmp u x.0)) es ≡ e ∷ rest → find (slice_cmp nat_cmp) e.0 es ≡ Some e.1
+cut_found : (u : List ℕ) (es rest : Numbers) (e : List ℕ × ℕ) → T (is_sorted (slice_cmp nat_cmp) es) → filter (λ x. is_lt (slice_cmp nat_cmp u x.0)) es
+    ≡ e ∷ rest → find (slice_cmp nat_cmp) e.0 es ≡ Some e.1
 cut_found u [] rest e h cut = cc
 cut_found u (x ∷ es) rest e h cut =
-    elim (is_lt (slice_cmp nat_cmp u x.0)) as (λ b. cond b (x ∷ filter (λ y. is_lt (slice_cmp nat_cmp u y.0)) es) (filter (λ y. is_lt (slice_cmp nat_cmp u y.0)) es) ≡ e ∷ rest → find (slice_cmp nat_cmp) e.0 (x ∷ es) ≡ Some e.1) [
+    elim (is_lt (slice_cmp nat_cmp u x.0)) as (λ b. cond b (x ∷ filter (λ y. is_lt (slice_cmp nat_cmp u y.0)) es) (filter (λ y. is_lt (slice_cmp nat_cmp u y.0)) es)
+    ≡ e ∷ rest → find (slice_cmp nat_cmp) e.0 (x ∷ es) ≡ Some e.1) [
       | true ↦ λ cut. let same : x ≡ e = cc in subst (λ z. find (slice_cmp nat_cmp) z.0 (x ∷ es) ≡ Some z.1) same (first_at x es)
       | false ↦ λ cut. behind x es e.0 e.1 h (cut_found u es rest e (tail_sorted x es h) cut)
     ] cut
 
 -- and it is found
-pub next_found : (numbers rest r : Numbers) (u : List ℕ) (e : List ℕ × ℕ) → T (is_sorted (slice_cmp nat_cmp) numbers) → r ≡ entries_between (slice_cmp nat_cmp) (Excluded u) Unbounded numbers → r ≡ e ∷ rest → find (slice_cmp nat_cmp) e.0 numbers ≡ Some e.1
+pub next_found : (numbers rest r : Numbers) (u : List ℕ) (e : List ℕ × ℕ) → T (is_sorted (slice_cmp nat_cmp) numbers) → r
+    ≡ entries_between (slice_cmp nat_cmp) (Excluded u) Unbounded numbers → r ≡ e ∷ rest → find (slice_cmp nat_cmp) e.0 numbers ≡ Some e.1
 next_found numbers rest r u e sorted between cut = cut_found u numbers rest e sorted (sym (between ∙ between_above u numbers) ∙ cut)

@@ -115,7 +115,8 @@ module _ (numbers : Numbers) (tallies : List (ℕ × ℕ)) (windows : Windows) (
     set_seen =
         ap (λ counts. record { counts = counts; windows = by_number numbers })
         (set_counts ∙ ap (λ o. put order u (with_weight (unwrap_or o (0, 0)) good weight) (mapped (tally_at tallies) numbers)) (sym (sums_there u n at)))
-        ∙ ap (λ b. record { counts = with_count (mapped (tally_at tallies) numbers) u good weight; windows = cond b (by_number numbers) (by_number numbers ++ u ∷ []) }) (sym (ap is_some (sums_there u n at)))
+        ∙ ap (λ b. record { counts = with_count (mapped (tally_at tallies) numbers) u good weight; windows = cond b (by_number numbers) (by_number numbers ++ u ∷ []) })
+        (sym (ap is_some (sums_there u n at)))
 
     pub set_are : AreCounted numbers more windows
     set_are = record {
@@ -152,7 +153,8 @@ module _ (numbers : Numbers) (tallies : List (ℕ × ℕ)) (windows : Windows) (
 
     put_counts : mapped (tally_at more) after ≡ put order u first_sums (mapped (tally_at tallies) numbers)
     put_counts =
-        put_from u first_sums (mapped (tally_at tallies) numbers) (mapped (tally_at more) after) (sorted_mapped (tally_at tallies) numbers are.sorted) (sorted_mapped (tally_at more) after after_sorted)
+        put_from u first_sums (mapped (tally_at tallies) numbers) (mapped (tally_at more) after) (sorted_mapped (tally_at tallies) numbers are.sorted)
+        (sorted_mapped (tally_at more) after after_sorted)
         (found_mapped (tally_at more) u (length tallies) after found_new ∙ ap Some at_end) (λ p other. by p other (find order p numbers) refl)
       where
         same : (p : List ℕ) → p ≢ u → find order p after ≡ find order p numbers

@@ -24,7 +24,8 @@ pub entries_are_strings : (P : List ((List ℕ × ℕ) × ℕ)) → list_all is_
 entries_are_strings P all = all_weaker is_entry (λ (e : (List ℕ × ℕ) × ℕ). is_string e.0) P entry_string all
 
 -- the signs from k's place in the window on are those from its place in the word on
-inner : (w : List ℕ) (p len dot : ℕ) (k : List ℕ × ℕ) → k.1 ≤ dot → dot ≤ p → (dot - k.1) + length k.0 ≤ len → take (length k.0) (drop (dot - k.1) (window w p len dot)) ≡ take (length k.0) (drop (p - k.1) w)
+inner : (w : List ℕ) (p len dot : ℕ) (k : List ℕ × ℕ) → k.1 ≤ dot → dot ≤ p → (dot - k.1) + length k.0 ≤ len → take (length k.0) (drop (dot - k.1) (window w p len dot))
+    ≡ take (length k.0) (drop (p - k.1) w)
 inner w p len dot k low high size =
     let whole : len ≡ (dot - k.1) + (len - (dot - k.1)) = omega arith in
     let from : (p - dot) + (dot - k.1) ≡ p - k.1 = omega arith in
@@ -52,15 +53,19 @@ cover_law w p len dot k fit = both_ways _ _ out back
     out h =
         let low : k.1 ≤ dot = leb-true k.1 dot (and_first (nat_le k.1 dot) (stands_at k.0 (window w p len dot) (dot - k.1)) h) in
         let stands = and_second (nat_le k.1 dot) (stands_at k.0 (window w p len dot) (dot - k.1)) h in
-        let ends : (dot - k.1) + length k.0 ≤ length (window w p len dot) = leb-true ((dot - k.1) + length k.0) (length (window w p len dot)) (and_first (nat_le ((dot - k.1) + length k.0) (length (window w p len dot))) (starts_with nat_eq (drop (dot - k.1) (window w p len dot)) k.0) stands) in
+        let ends : (dot - k.1) + length k.0 ≤ length (window w p len dot) = leb-true ((dot - k.1) + length k.0) (length (window w p len dot))
+        (and_first (nat_le ((dot - k.1) + length k.0) (length (window w p len dot))) (starts_with nat_eq (drop (dot - k.1) (window w p len dot)) k.0) stands) in
         let fitting : (dot - k.1) + length k.0 ≤ len = subst (λ x. (dot - k.1) + length k.0 ≤ x) size ends in
-        let signs : k.0 ≡ take (length k.0) (drop (dot - k.1) (window w p len dot)) = (bytes_decides k.0 (take (length k.0) (drop (dot - k.1) (window w p len dot)))).0 (and_second (nat_le ((dot - k.1) + length k.0) (length (window w p len dot))) (starts_with nat_eq (drop (dot - k.1) (window w p len dot)) k.0) stands) in
+        let signs : k.0 ≡ take (length k.0) (drop (dot - k.1) (window w p len dot)) =
+        (bytes_decides k.0 (take (length k.0) (drop (dot - k.1) (window w p len dot)))).0
+        (and_second (nat_le ((dot - k.1) + length k.0) (length (window w p len dot))) (starts_with nat_eq (drop (dot - k.1) (window w p len dot)) k.0) stands) in
         let there : k.0 ≡ take (length k.0) (drop (p - k.1) w) = signs ∙ inner w p len dot k low high fitting in
         let up : dot ≤ p = high in
         let space : p - dot + len ≤ length w = room in
         and_from (applies w p k) (is_within len dot (length k.0) k.1)
         (and_from (nat_le k.1 p) (stands_at k.0 w (p - k.1)) (le-leb k.1 p (omega arith))
-        (and_from (nat_le ((p - k.1) + length k.0) (length w)) (starts_with nat_eq (drop (p - k.1) w) k.0) (le-leb ((p - k.1) + length k.0) (length w) (omega arith)) ((bytes_decides k.0 (take (length k.0) (drop (p - k.1) w))).1 there)))
+        (and_from (nat_le ((p - k.1) + length k.0) (length w)) (starts_with nat_eq (drop (p - k.1) w) k.0) (le-leb ((p - k.1) + length k.0) (length w) (omega arith))
+        ((bytes_decides k.0 (take (length k.0) (drop (p - k.1) w))).1 there)))
         (and_from (nat_le k.1 dot) (nat_le (length k.0 + dot) (len + k.1)) (le-leb k.1 dot low) (le-leb (length k.0 + dot) (len + k.1) (omega arith)))
 
     back : (applies w p k && is_within len dot (length k.0) k.1) ≡ true → applies (window w p len dot) dot k ≡ true
@@ -71,11 +76,13 @@ cover_law w p len dot k fit = both_ways _ _ out back
         let ends : length k.0 + dot ≤ len + k.1 = leb-true (length k.0 + dot) (len + k.1) (and_second (nat_le k.1 dot) (nat_le (length k.0 + dot) (len + k.1)) inside) in
         let fitting : (dot - k.1) + length k.0 ≤ len = omega arith in
         let stands = and_second (nat_le k.1 p) (stands_at k.0 w (p - k.1)) all in
-        let signs : k.0 ≡ take (length k.0) (drop (p - k.1) w) = (bytes_decides k.0 (take (length k.0) (drop (p - k.1) w))).0 (and_second (nat_le ((p - k.1) + length k.0) (length w)) (starts_with nat_eq (drop (p - k.1) w) k.0) stands) in
+        let signs : k.0 ≡ take (length k.0) (drop (p - k.1) w) = (bytes_decides k.0 (take (length k.0) (drop (p - k.1) w))).0
+        (and_second (nat_le ((p - k.1) + length k.0) (length w)) (starts_with nat_eq (drop (p - k.1) w) k.0) stands) in
         let there : k.0 ≡ take (length k.0) (drop (dot - k.1) (window w p len dot)) = signs ∙ sym (inner w p len dot k low high fitting) in
         and_from (nat_le k.1 dot) (stands_at k.0 (window w p len dot) (dot - k.1)) (le-leb k.1 dot low)
         (and_from (nat_le ((dot - k.1) + length k.0) (length (window w p len dot))) (starts_with nat_eq (drop (dot - k.1) (window w p len dot)) k.0)
-        (le-leb ((dot - k.1) + length k.0) (length (window w p len dot)) (subst (λ x. (dot - k.1) + length k.0 ≤ x) (sym size) fitting)) ((bytes_decides k.0 (take (length k.0) (drop (dot - k.1) (window w p len dot)))).1 there))
+        (le-leb ((dot - k.1) + length k.0) (length (window w p len dot)) (subst (λ x. (dot - k.1) + length k.0 ≤ x) (sym size) fitting))
+        ((bytes_decides k.0 (take (length k.0) (drop (dot - k.1) (window w p len dot)))).1 there))
 
 bit_or : (a b c : Bool) → bit ((a && b) || c) ≡ max (cond a (bit b) 0) (bit c)
 bit_or true true true = refl
@@ -86,7 +93,8 @@ bit_or false b true = refl
 bit_or false b false = refl
 
 -- whether an entry passes, as the greatest of the bits
-any_bit : {X : Type 0} (g h : (List ℕ × ℕ) × X → Bool) (t : List ℕ × ℕ → Bool) (es : List ((List ℕ × ℕ) × X)) → ((e : (List ℕ × ℕ) × X) → g e ≡ (t e.0 && h e)) → bit (list_any g es) ≡ greatest (λ e. bit (h e)) t es
+any_bit : {X : Type 0} (g h : (List ℕ × ℕ) × X → Bool) (t : List ℕ × ℕ → Bool) (es : List ((List ℕ × ℕ) × X)) → ((e : (List ℕ × ℕ) × X) → g e ≡ (t e.0 && h e))
+    → bit (list_any g es) ≡ greatest (λ e. bit (h e)) t es
 any_bit g h t [] same = refl
 any_bit g h t (e ∷ es) same =
     ap (λ b. bit (b || list_any g es)) (same e) ∙ bit_or (t e.0) (h e) (list_any g es) ∙ ap (λ n. max (cond (t e.0) (bit (h e)) 0) n) (any_bit g h t es same)
@@ -148,5 +156,6 @@ covers_end P H level len dot w x y z long start first second p inside fit =
     let hopeless : bit (list_any (λ e. applies (window w p len dot) dot e.0) H) ≡ greatest (λ e. bit (is_within len dot (length e.0.0) e.0.1)) (applies w p) H =
     any_bit (λ (e : (List ℕ × ℕ) × Unit {0}). applies (window w p len dot) dot e.0) (λ (e : (List ℕ × ℕ) × Unit {0}). is_within len dot (length e.0.0) e.0.1) (applies w p) H (λ e. law e.0) in
     same_bits (get_or z p false) (is_covered level P H (window w p len dot) dot)
-    (joined_bits (list_any (λ e. nat_le level e.1 && applies (window w p len dot) dot e.0) P) (list_any (λ e. applies (window w p len dot) dot e.0) H) (bit (get_or x p false)) (bit (get_or y p false)) (bit (get_or z p false))
+    (joined_bits (list_any (λ e. nat_le level e.1 && applies (window w p len dot) dot e.0) P) (list_any (λ e. applies (window w p len dot) dot e.0) H)
+    (bit (get_or x p false)) (bit (get_or y p false)) (bit (get_or z p false))
     (start_cover x p start room) (first p room ∙ ap (λ n. max (bit (get_or x p false)) n) (sym patterns)) (second p room ∙ ap (λ n. max (bit (get_or y p false)) n) (sym hopeless)))

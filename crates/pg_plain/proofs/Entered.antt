@@ -23,9 +23,11 @@ pub put_is : (H G : List ((List ℕ × ℕ) × Unit {0})) (k : List ℕ × ℕ) 
 put_is H G k x entered = entered ∙ insert-put dotted_cmp k x H
 
 -- places that pass a test stay so
-pub places_in : {X : Type 0} (good : List ℕ × ℕ → Bool) (M N : List ((List ℕ × ℕ) × X)) (k : List ℕ × ℕ) (v : X) → N ≡ insert_entry dotted_cmp M k v → list_all (λ e. good e.0) M ≡ true → good k ≡ true → list_all (λ e. good e.0) N ≡ true
+pub places_in : {X : Type 0} (good : List ℕ × ℕ → Bool) (M N : List ((List ℕ × ℕ) × X)) (k : List ℕ × ℕ) (v : X) → N ≡ insert_entry dotted_cmp M k v
+    → list_all (λ e. good e.0) M ≡ true → good k ≡ true → list_all (λ e. good e.0) N ≡ true
 places_in {X} good M N k v entered all new =
-    subst (λ x. list_all (λ (e : (List ℕ × ℕ) × X). good e.0) x ≡ true) (sym (entered ∙ insert-put dotted_cmp k v M)) (all_put dotted_cmp (λ (e : (List ℕ × ℕ) × X). good e.0) dotted_exact k v M new all)
+    subst (λ x. list_all (λ (e : (List ℕ × ℕ) × X). good e.0) x ≡ true) (sym (entered ∙ insert-put dotted_cmp k v M))
+    (all_put dotted_cmp (λ (e : (List ℕ × ℕ) × X). good e.0) dotted_exact k v M new all)
 
 greater_bounds : (v n : ℕ) → 1 ≤ v → v ≤ 9 → n ≤ 9 → (1 ≤ max v n) × (max v n ≤ 9)
 greater_bounds v n some most low = (omega arith, omega arith)
@@ -52,14 +54,16 @@ entries_raise P k v all new =
     all_put dotted_cmp is_entry dotted_exact k (max v (value_of P k)) P (greater_entry k v (value_of P k) new (value_bound P k all)) all
 
 -- the next entry of a map is entered behind those before it
-pub entered_next : (P M N : List ((List ℕ × ℕ) × ℕ)) (i : ℕ) (k : List ℕ × ℕ) (v : ℕ) → IsPatternMap P → M ≡ take i P → slice_get P i ≡ Some (k, v) → N ≡ insert_entry dotted_cmp M k v → N ≡ take (i + 1) P
+pub entered_next : (P M N : List ((List ℕ × ℕ) × ℕ)) (i : ℕ) (k : List ℕ × ℕ) (v : ℕ) → IsPatternMap P → M ≡ take i P → slice_get P i ≡ Some (k, v) → N
+    ≡ insert_entry dotted_cmp M k v → N ≡ take (i + 1) P
 entered_next P M N i k v map same there entered =
     entered ∙ ap (λ x. insert_entry dotted_cmp x k v) same ∙ insert-put dotted_cmp k v (take i P) ∙ put_next dotted_cmp dotted_total k v P i map.sorted there ∙ ap (λ x. take x P) (sym (add-one i))
 
 -- a counted window at a dot that is at most its length, with a level
 pub window_entry : (u : List ℕ) (dot level len : ℕ) → length u ≡ len → list_all is_sign u ≡ true → 1 ≤ len → len ≤ 15 → dot ≤ len → 1 ≤ level → level ≤ 9 → is_entry ((u, dot), level) ≡ true
 window_entry u dot level len size signs some few inside low high =
-    and_from _ _ (and_from _ _ (and_from _ _ (and_from _ _ (and_from _ _ (le-leb 1 (length u) (omega arith)) (le-leb (length u) 32 (omega arith))) signs) (le-leb dot (length u) (omega arith))) (le-leb 1 level low)) (le-leb level 9 high)
+    and_from _ _ (and_from _ _ (and_from _ _ (and_from _ _ (and_from _ _ (le-leb 1 (length u) (omega arith)) (le-leb (length u) 32 (omega arith))) signs) (le-leb dot (length u) (omega arith)))
+    (le-leb 1 level low)) (le-leb level 9 high)
 
 pub window_string : (u : List ℕ) (dot len : ℕ) → length u ≡ len → 1 ≤ len → len ≤ 15 → is_string (u, dot) ≡ true
 window_string u dot len size some few = and_from _ _ (le-leb 1 (length u) (omega arith)) (le-leb (length u) 32 (omega arith))

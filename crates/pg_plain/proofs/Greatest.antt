@@ -27,7 +27,8 @@ regroup_end : (a c f : ℕ) → c ≡ 0 → max a c ≡ f → a ≡ f
 regroup_end a c f p q = omega arith
 
 module _ {X : Type 0} (number : (List ℕ × ℕ) × X → ℕ) where
-  pub greatest-split : (good r s t : List ℕ × ℕ → Bool) (es : List ((List ℕ × ℕ) × X)) → list_all (λ e. good e.0) es ≡ true → ((k : List ℕ × ℕ) → good k ≡ true → r k ≡ (s k || t k)) → greatest number r es ≡ max (greatest number s es) (greatest number t es)
+  pub greatest-split : (good r s t : List ℕ × ℕ → Bool) (es : List ((List ℕ × ℕ) × X)) → list_all (λ e. good e.0) es ≡ true
+      → ((k : List ℕ × ℕ) → good k ≡ true → r k ≡ (s k || t k)) → greatest number r es ≡ max (greatest number s es) (greatest number t es)
   greatest-split good r s t [] all split = refl
   greatest-split good r s t (e ∷ es) all split =
       ap (λ b. max (cond b (number e) 0) (greatest number r es)) (split e.0 (and_first _ _ all))
@@ -40,13 +41,15 @@ module _ {X : Type 0} (number : (List ℕ × ℕ) × X → ℕ) where
       ap (λ b. max (cond b (number e) 0) (greatest number t es)) (none e.0 (and_first _ _ all))
       ∙ zero_max (greatest number t es) (greatest-none good t es (and_second _ _ all) none)
 
-  pub greatest-same : (good s t : List ℕ × ℕ → Bool) (es : List ((List ℕ × ℕ) × X)) → list_all (λ e. good e.0) es ≡ true → ((k : List ℕ × ℕ) → good k ≡ true → s k ≡ t k) → greatest number s es ≡ greatest number t es
+  pub greatest-same : (good s t : List ℕ × ℕ → Bool) (es : List ((List ℕ × ℕ) × X)) → list_all (λ e. good e.0) es ≡ true → ((k : List ℕ × ℕ) → good k ≡ true → s k ≡ t k)
+      → greatest number s es ≡ greatest number t es
   greatest-same good s t [] all same = refl
   greatest-same good s t (e ∷ es) all same =
       ap (λ b. max (cond b (number e) 0) (greatest number s es)) (same e.0 (and_first _ _ all))
       ∙ ap (λ n. max (cond (t e.0) (number e) 0) n) (greatest-same good s t es (and_second _ _ all) same)
 
-  pub greatest-filter : (t : List ℕ × ℕ → Bool) (keep : (List ℕ × ℕ) × X → Bool) (es : List ((List ℕ × ℕ) × X)) → ((e : (List ℕ × ℕ) × X) → t e.0 ≡ true → keep e ≡ true) → greatest number t (filter keep es) ≡ greatest number t es
+  pub greatest-filter : (t : List ℕ × ℕ → Bool) (keep : (List ℕ × ℕ) × X → Bool) (es : List ((List ℕ × ℕ) × X)) → ((e : (List ℕ × ℕ) × X) → t e.0 ≡ true → keep e ≡ true)
+      → greatest number t (filter keep es) ≡ greatest number t es
   greatest-filter t keep [] kept = refl
   greatest-filter t keep (e ∷ es) kept =
       elim (keep e) as (λ b. keep e ≡ b → greatest number t (cond b (e ∷ filter keep es) (filter keep es)) ≡ max (cond (t e.0) (number e) 0) (greatest number t es)) [
@@ -84,5 +87,6 @@ module _ {X : Type 0} (number : (List ℕ × ℕ) × X → ℕ) where
       → Level now (has_signs_at q i) (e ∷ rest) before all es → RaisesAt (i + e.0.1) (number e) now new → Level new (has_signs_at q i) rest before all es
   level_first q i all e rest es now new before same level raises p inside =
       let here : cond (has_signs_at q i p e.0) (number e) 0 ≡ cond (nat_eq (i + e.0.1) p) (number e) 0 = ap (λ b. cond (b && nat_eq (i + e.0.1) p) (number e) 0) same in
-      regroup (now p) (new p) (cond (nat_eq (i + e.0.1) p) (number e) 0) (max (cond (has_signs_at q i p e.0) (number e) 0) (greatest number (has_signs_at q i p) rest)) (greatest number (has_signs_at q i p) rest) (max (before p) (greatest number (all p) es))
+      regroup (now p) (new p) (cond (nat_eq (i + e.0.1) p) (number e) 0) (max (cond (has_signs_at q i p e.0) (number e) 0) (greatest number (has_signs_at q i p) rest))
+      (greatest number (has_signs_at q i p) rest) (max (before p) (greatest number (all p) es))
       (raises p inside) (ap (λ n. max n (greatest number (has_signs_at q i p) rest)) here) (level p inside)

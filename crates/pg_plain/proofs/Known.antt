@@ -21,16 +21,19 @@ pub within_told : (n : ℕ) (q : List ℕ) → has_signs_up_to n q ≡ true → 
 within_told n [] h = All-nil (λ s. (1 ≤ s) × (s ≤ n))
 within_told n (s ∷ q) h =
     let here = and_first (nat_le 1 s && nat_le s n) (has_signs_up_to n q) h in
-    All-cons (λ s. (1 ≤ s) × (s ≤ n)) s q (leb-true 1 s (and_first (nat_le 1 s) (nat_le s n) here), leb-true s n (and_second (nat_le 1 s) (nat_le s n) here)) (within_told n q (and_second (nat_le 1 s && nat_le s n) (has_signs_up_to n q) h))
+    All-cons (λ s. (1 ≤ s) × (s ≤ n)) s q (leb-true 1 s (and_first (nat_le 1 s) (nat_le s n) here), leb-true s n (and_second (nat_le 1 s) (nat_le s n) here))
+    (within_told n q (and_second (nat_le 1 s && nat_le s n) (has_signs_up_to n q) h))
 
 least_told : (n : ℕ) (q : List ℕ) → has_signs_up_to n q ≡ true → All (λ s. s ≤ n) q
 least_told n [] h = All-nil (λ s. s ≤ n)
-least_told n (s ∷ q) h = All-cons (λ s. s ≤ n) s q (leb-true s n (and_second (nat_le 1 s) (nat_le s n) (and_first (nat_le 1 s && nat_le s n) (has_signs_up_to n q) h))) (least_told n q (and_second (nat_le 1 s && nat_le s n) (has_signs_up_to n q) h))
+least_told n (s ∷ q) h = All-cons (λ s. s ≤ n) s q (leb-true s n (and_second (nat_le 1 s) (nat_le s n) (and_first (nat_le 1 s && nat_le s n) (has_signs_up_to n q) h)))
+    (least_told n q (and_second (nat_le 1 s && nat_le s n) (has_signs_up_to n q) h))
 
 both_told : (n : ℕ) (q : List ℕ) → list_all is_sign q ≡ true → All (λ s. s ≤ n) q → has_signs_up_to n q ≡ true
 both_told n [] signs upto = refl
 both_told n (s ∷ q) signs upto =
-    and_from (nat_le 1 s && nat_le s n) (has_signs_up_to n q) (and_from (nat_le 1 s) (nat_le s n) (and_first (is_sign s) (list_all is_sign q) signs) (le-leb s n (All-head (λ s. s ≤ n) s q upto))) (both_told n q (and_second (is_sign s) (list_all is_sign q) signs) (All-tail (λ s. s ≤ n) s q upto))
+    and_from (nat_le 1 s && nat_le s n) (has_signs_up_to n q) (and_from (nat_le 1 s) (nat_le s n) (and_first (is_sign s) (list_all is_sign q) signs) (le-leb s n (All-head (λ s. s ≤ n) s q upto)))
+    (both_told n q (and_second (is_sign s) (list_all is_sign q) signs) (All-tail (λ s. s ≤ n) s q upto))
 
 entry_signs : (e : (List ℕ × ℕ) × ℕ) → is_entry e ≡ true → list_all is_sign e.0.0 ≡ true
 entry_signs e h = and_second _ _ (and_first _ _ (and_first _ _ (and_first _ _ h)))
@@ -53,7 +56,8 @@ patterns_up_to n (e ∷ es) h =
 pub places_within : (n : ℕ) (H : List ((List ℕ × ℕ) × Unit {0})) → list_all (λ e. has_signs_up_to n e.0.0) H ≡ true → All (λ e. SignsWithin n e.0.0) H
 places_within n [] h = All-nil (λ (e : (List ℕ × ℕ) × Unit {0}). SignsWithin n e.0.0)
 places_within n (e ∷ es) h =
-    All-cons (λ (e : (List ℕ × ℕ) × Unit {0}). SignsWithin n e.0.0) e es (within_told n e.0.0 (and_first (has_signs_up_to n e.0.0) (list_all (λ (x : (List ℕ × ℕ) × Unit {0}). has_signs_up_to n x.0.0) es) h))
+    All-cons (λ (e : (List ℕ × ℕ) × Unit {0}). SignsWithin n e.0.0) e es
+    (within_told n e.0.0 (and_first (has_signs_up_to n e.0.0) (list_all (λ (x : (List ℕ × ℕ) × Unit {0}). has_signs_up_to n x.0.0) es) h))
     (places_within n es (and_second (has_signs_up_to n e.0.0) (list_all (λ (x : (List ℕ × ℕ) × Unit {0}). has_signs_up_to n x.0.0) es) h))
 
 pub counted_within : (n : ℕ) (C : Counts) → list_all (λ e. has_signs_up_to n e.0) C ≡ true → (u : List ℕ) → is_counted C u ≡ true → SignsWithin n u

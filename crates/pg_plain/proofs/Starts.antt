@@ -31,19 +31,24 @@ module _ {X : Type 0} (value cover : (List ℕ × ℕ) × X → ℕ) (w : List �
     covers = level_start cover is_string (applies_from_at_least w i 1) (applies_from w i) es (covers_of before) strings (longer_first w i);
   }
 
-  pub start_steps : (i n : ℕ) (q : List ℕ) (before now new : Positions) → i + n ≤ length w → q ≡ take ((i + n) - i) (drop i w) → Left value cover (applies_from_at_least w i n) (applies_from w i) es before now
-      → RaisesBy value (has_signs_at q i) es (values_of now) (values_of new) → RaisesBy cover (has_signs_at q i) es (covers_of now) (covers_of new) → Left value cover (applies_from_at_least w i (n + 1)) (applies_from w i) es before new
+  pub start_steps : (i n : ℕ) (q : List ℕ) (before now new : Positions) → i + n ≤ length w → q ≡ take ((i + n) - i) (drop i w)
+      → Left value cover (applies_from_at_least w i n) (applies_from w i) es before now
+      → RaisesBy value (has_signs_at q i) es (values_of now) (values_of new) → RaisesBy cover (has_signs_at q i) es (covers_of now) (covers_of new)
+      → Left value cover (applies_from_at_least w i (n + 1)) (applies_from w i) es before new
   start_steps i n q before now new inside cut left raised covered =
       let is : q ≡ take n (drop i w) = cut ∙ cut_is w i n in
       record {
-        values = level_step value is_string (applies_from_at_least w i n) (has_signs_at (take n (drop i w)) i) (applies_from_at_least w i (n + 1)) (applies_from w i) es es (values_of now) (values_of new) (values_of before) strings
+        values = level_step value is_string (applies_from_at_least w i n) (has_signs_at (take n (drop i w)) i) (applies_from_at_least w i (n + 1))
+            (applies_from w i) es es (values_of now) (values_of new) (values_of before) strings
             (λ p k string. longer_step w i n inside p k) left.values (subst (λ x. RaisesBy value (has_signs_at x i) es (values_of now) (values_of new)) is raised);
-        covers = level_step cover is_string (applies_from_at_least w i n) (has_signs_at (take n (drop i w)) i) (applies_from_at_least w i (n + 1)) (applies_from w i) es es (covers_of now) (covers_of new) (covers_of before) strings
+        covers = level_step cover is_string (applies_from_at_least w i n) (has_signs_at (take n (drop i w)) i) (applies_from_at_least w i (n + 1))
+            (applies_from w i) es es (covers_of now) (covers_of new) (covers_of before) strings
             (λ p k string. longer_step w i n inside p k) left.covers (subst (λ x. RaisesBy cover (has_signs_at x i) es (covers_of now) (covers_of new)) is covered);
       }
 
   -- the next string would reach over the end of the word
-  pub start_out : (i n : ℕ) (before now : Positions) → length w < i + n → Left value cover (applies_from_at_least w i n) (applies_from w i) es before now → Done value cover (applies_from w i) es before now
+  pub start_out : (i n : ℕ) (before now : Positions) → length w < i + n → Left value cover (applies_from_at_least w i n) (applies_from w i) es before now
+      → Done value cover (applies_from w i) es before now
   start_out i n before now past left = record {
     values = level_end value is_string (applies_from_at_least w i n) (applies_from w i) es es (values_of now) (values_of before) strings (λ p k string. longer_out w i n past p k) left.values;
     covers = level_end cover is_string (applies_from_at_least w i n) (applies_from w i) es es (covers_of now) (covers_of before) strings (λ p k string. longer_out w i n past p k) left.covers;
@@ -54,10 +59,13 @@ module _ {X : Type 0} (value cover : (List ℕ × ℕ) × X → ℕ) (w : List �
       → Left value cover (applies_from_at_least w i (n + 1)) (applies_from w i) es before new → Done value cover (applies_from w i) es before new
   start_stops i n q before new inside cut stops left =
       let is : q ≡ take n (drop i w) = cut ∙ cut_is w i n in
-      let none : list_all (λ (e : (List ℕ × ℕ) × X). not (is_extension (take n (drop i w)) e.0.0)) es ≡ true = all_not (λ (e : (List ℕ × ℕ) × X). is_extension (take n (drop i w)) e.0.0) es (subst (λ x. list_any (λ (e : (List ℕ × ℕ) × X). is_extension x e.0.0) es ≡ false) is stops) in
+      let none : list_all (λ (e : (List ℕ × ℕ) × X). not (is_extension (take n (drop i w)) e.0.0)) es
+      ≡ true = all_not (λ (e : (List ℕ × ℕ) × X). is_extension (take n (drop i w)) e.0.0) es (subst (λ x. list_any (λ (e : (List ℕ × ℕ) × X). is_extension x e.0.0) es ≡ false) is stops) in
       record {
-        values = level_end value (λ k. not (is_extension (take n (drop i w)) k.0)) (applies_from_at_least w i (n + 1)) (applies_from w i) es es (values_of new) (values_of before) none (λ p k good. longer_stops w i n inside p k (not-true _ good)) left.values;
-        covers = level_end cover (λ k. not (is_extension (take n (drop i w)) k.0)) (applies_from_at_least w i (n + 1)) (applies_from w i) es es (covers_of new) (covers_of before) none (λ p k good. longer_stops w i n inside p k (not-true _ good)) left.covers;
+        values = level_end value (λ k. not (is_extension (take n (drop i w)) k.0)) (applies_from_at_least w i (n + 1)) (applies_from w i) es es
+            (values_of new) (values_of before) none (λ p k good. longer_stops w i n inside p k (not-true _ good)) left.values;
+        covers = level_end cover (λ k. not (is_extension (take n (drop i w)) k.0)) (applies_from_at_least w i (n + 1)) (applies_from w i) es es
+            (covers_of new) (covers_of before) none (λ p k good. longer_stops w i n inside p k (not-true _ good)) left.covers;
       }
 
   pub start_ends : (i : ℕ) (before now : Positions) → Left value cover (applies_from_at_least w i 33) (applies_from w i) es before now → Done value cover (applies_from w i) es before now
@@ -73,10 +81,13 @@ module _ {X : Type 0} (value cover : (List ℕ × ℕ) × X → ℕ) (w : List �
   }
 
   pub walk_steps : (i : ℕ) (before now new : Positions) → Left value cover (applies_not_before w i) (applies w) es before now
-      → RaisesBy value (applies_from w i) es (values_of now) (values_of new) → RaisesBy cover (applies_from w i) es (covers_of now) (covers_of new) → Left value cover (applies_not_before w (i + 1)) (applies w) es before new
+      → RaisesBy value (applies_from w i) es (values_of now) (values_of new) → RaisesBy cover (applies_from w i) es (covers_of now) (covers_of new)
+      → Left value cover (applies_not_before w (i + 1)) (applies w) es before new
   walk_steps i before now new left raised covered = record {
-    values = level_step value is_string (applies_not_before w i) (applies_from w i) (applies_not_before w (i + 1)) (applies w) es es (values_of now) (values_of new) (values_of before) strings (λ p k string. later_step w i p k) left.values raised;
-    covers = level_step cover is_string (applies_not_before w i) (applies_from w i) (applies_not_before w (i + 1)) (applies w) es es (covers_of now) (covers_of new) (covers_of before) strings (λ p k string. later_step w i p k) left.covers covered;
+    values = level_step value is_string (applies_not_before w i) (applies_from w i) (applies_not_before w (i + 1)) (applies w) es es (values_of now)
+        (values_of new) (values_of before) strings (λ p k string. later_step w i p k) left.values raised;
+    covers = level_step cover is_string (applies_not_before w i) (applies_from w i) (applies_not_before w (i + 1)) (applies w) es es (covers_of now)
+        (covers_of new) (covers_of before) strings (λ p k string. later_step w i p k) left.covers covered;
   }
 
   pub walk_ends : (before now : Positions) → Left value cover (applies_not_before w (length w)) (applies w) es before now → Done value cover (applies w) es before now

@@ -37,7 +37,8 @@ cut_len : (w : List ℕ) (i n : ℕ) → i + n ≤ length w → length (take n (
 cut_len w i n inside = length-take-le n (drop i w) (left_len w i n inside)
 
 -- a string of at least n signs has n signs, or more
-pub longer_step : (w : List ℕ) (i n : ℕ) → i + n ≤ length w → (p : ℕ) (k : List ℕ × ℕ) → applies_from_at_least w i n p k ≡ (has_signs_at (take n (drop i w)) i p k || applies_from_at_least w i (n + 1) p k)
+pub longer_step : (w : List ℕ) (i n : ℕ) → i + n ≤ length w → (p : ℕ) (k : List ℕ × ℕ) → applies_from_at_least w i n p k
+    ≡ (has_signs_at (take n (drop i w)) i p k || applies_from_at_least w i (n + 1) p k)
 longer_step w i n inside p k = both_ways _ _ cut joined
   where
     cut : applies_from_at_least w i n p k ≡ true → (has_signs_at (take n (drop i w)) i p k || applies_from_at_least w i (n + 1) p k) ≡ true
@@ -47,11 +48,13 @@ longer_step w i n inside p k = both_ways _ _ cut joined
         let size : n ≤ length k.0 = leb-true n (length k.0) (and_second (applies_from w i p k) (nat_le n (length k.0)) h) in
         let dot : i + k.1 ≡ p = parts.dot in
         ⊎_elim
-        (λ (more : n < length k.0). or_right (has_signs_at (take n (drop i w)) i p k) (applies_from_at_least w i (n + 1) p k) (and_from (applies_from w i p k) (nat_le (n + 1) (length k.0)) starts (le-leb (n + 1) (length k.0) (omega arith))))
+        (λ (more : n < length k.0). or_right (has_signs_at (take n (drop i w)) i p k) (applies_from_at_least w i (n + 1) p k)
+        (and_from (applies_from w i p k) (nat_le (n + 1) (length k.0)) starts (le-leb (n + 1) (length k.0) (omega arith))))
         (λ (most : length k.0 ≤ n).
         let same : length k.0 ≡ n = omega arith in
         let signs : k.0 ≡ take n (drop i w) = subst (λ x. k.0 ≡ take x (drop i w)) same parts.signs in
-        or_left (has_signs_at (take n (drop i w)) i p k) (applies_from_at_least w i (n + 1) p k) (and_from (pointwise nat_eq k.0 (take n (drop i w))) (nat_eq (i + k.1) p) ((bytes_decides k.0 (take n (drop i w))).1 signs) (eq-eqb (i + k.1) p dot)))
+        or_left (has_signs_at (take n (drop i w)) i p k) (applies_from_at_least w i (n + 1) p k)
+        (and_from (pointwise nat_eq k.0 (take n (drop i w))) (nat_eq (i + k.1) p) ((bytes_decides k.0 (take n (drop i w))).1 signs) (eq-eqb (i + k.1) p dot)))
         (cases_lt n (length k.0))
 
     joined : (has_signs_at (take n (drop i w)) i p k || applies_from_at_least w i (n + 1) p k) ≡ true → applies_from_at_least w i n p k ≡ true
@@ -74,7 +77,8 @@ longer_step w i n inside p k = both_ways _ _ cut joined
 -- each string has at least one sign
 pub longer_first : (w : List ℕ) (i p : ℕ) (k : List ℕ × ℕ) → is_string k ≡ true → applies_from_at_least w i 1 p k ≡ applies_from w i p k
 longer_first w i p k string =
-    both_ways _ _ (λ h. and_first (applies_from w i p k) (nat_le 1 (length k.0)) h) (λ h. and_from (applies_from w i p k) (nat_le 1 (length k.0)) h (and_first (nat_le 1 (length k.0)) (nat_le (length k.0) 32) string))
+    both_ways _ _ (λ h. and_first (applies_from w i p k) (nat_le 1 (length k.0)) h)
+    (λ h. and_from (applies_from w i p k) (nat_le 1 (length k.0)) h (and_first (nat_le 1 (length k.0)) (nat_le (length k.0) 32) string))
 
 -- none has more than 32
 pub longer_last : (w : List ℕ) (i p : ℕ) (k : List ℕ × ℕ) → is_string k ≡ true → applies_from_at_least w i 33 p k ≡ false
@@ -121,7 +125,8 @@ later_step w i p k = both_ways _ _ cut joined
         (λ (more : i < p - k.1). or_right (applies_from w i p k) (applies_not_before w (i + 1) p k) (and_from (applies w p k) (nat_le (i + 1) (p - k.1)) all (le-leb (i + 1) (p - k.1) (omega arith))))
         (λ (most : p - k.1 ≤ i).
         let here : p - k.1 ≡ i = omega arith in
-        or_left (applies_from w i p k) (applies_not_before w (i + 1) p k) (and_from (nat_eq (i + k.1) p) (stands_at k.0 w i) (eq-eqb (i + k.1) p (omega arith)) (subst (λ x. stands_at k.0 w x ≡ true) here stands)))
+        or_left (applies_from w i p k) (applies_not_before w (i + 1) p k)
+        (and_from (nat_eq (i + k.1) p) (stands_at k.0 w i) (eq-eqb (i + k.1) p (omega arith)) (subst (λ x. stands_at k.0 w x ≡ true) here stands)))
         (cases_lt i (p - k.1))
 
     joined : (applies_from w i p k || applies_not_before w (i + 1) p k) ≡ true → applies_not_before w i p k ≡ true
@@ -148,6 +153,7 @@ later_last w p k string =
     let some : 1 ≤ length k.0 = leb-true 1 (length k.0) (and_first (nat_le 1 (length k.0)) (nat_le (length k.0) 32) string) in
     no_test _ (λ h.
     let stands : stands_at k.0 w (p - k.1) ≡ true = and_second (nat_le k.1 p) (stands_at k.0 w (p - k.1)) (and_first (applies w p k) (nat_le (length w) (p - k.1)) h) in
-    let fits : (p - k.1) + length k.0 ≤ length w = leb-true ((p - k.1) + length k.0) (length w) (and_first (nat_le ((p - k.1) + length k.0) (length w)) (starts_with nat_eq (drop (p - k.1) w) k.0) stands) in
+    let fits : (p - k.1) + length k.0 ≤ length w = leb-true ((p - k.1) + length k.0) (length w)
+    (and_first (nat_le ((p - k.1) + length k.0) (length w)) (starts_with nat_eq (drop (p - k.1) w) k.0) stands) in
     let from : length w ≤ p - k.1 = leb-true (length w) (p - k.1) (and_second (applies w p k) (nat_le (length w) (p - k.1)) h) in
     absurd (omega arith))

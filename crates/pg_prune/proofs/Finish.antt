@@ -16,20 +16,23 @@ to_rounds Q count = record { patterns = Q; count = count }
 
 module _ (m : Minima) (ws : List Word) (P : Patterns) where
   -- the entries that stay, with their needs and numbers, are what pruning comes to
-  pub finish : (kept : List ℕ) (found : List Need) (count : ℕ) → rounds (places m ws) P ≡ record { patterns = picked_entries P kept; count = count } → found ≡ needs (places m ws) (picked_entries P kept)
+  pub finish : (kept : List ℕ) (found : List Need) (count : ℕ) → rounds (places m ws) P ≡ record { patterns = picked_entries P kept; count = count }
+      → found ≡ needs (places m ws) (picked_entries P kept)
       → (Q : Patterns) (removed : ℕ) → Q ≡ picked_entries P kept → removed ≡ length P - length kept → record { patterns = Q; needs = found; rounds = count; removed = removed } ≡ pruned m ws P
   unfolding pruned
   finish kept found count done own Q removed is many =
       let size : removed ≡ length P - length (picked_entries P kept) = many ∙ ap (λ n. length P - n) (sym (length-map kept (entry_of P))) in
       let F : Patterns → List Need → ℕ → Found = λ q n r. record { patterns = q; needs = n; rounds = count; removed = r } in
-      ap (λ (q : Patterns). F q found removed) is ∙ ap (λ n. F (picked_entries P kept) n removed) own ∙ ap (λ r. F (picked_entries P kept) (needs (places m ws) (picked_entries P kept)) r) size ∙ ap (found_by (places m ws) (length P)) (sym done)
+      ap (λ (q : Patterns). F q found removed) is ∙ ap (λ n. F (picked_entries P kept) n removed) own ∙ ap (λ r. F (picked_entries P kept) (needs (places m ws) (picked_entries P kept)) r) size
+      ∙ ap (found_by (places m ws) (length P)) (sym done)
 
   pub rounds_patterns : (kept : List ℕ) (count : ℕ) → rounds (places m ws) P ≡ record { patterns = picked_entries P kept; count = count } → picked_entries P kept ≡ (pruned m ws P).patterns
   unfolding pruned
   rounds_patterns kept count done = ap (λ (r : Rounds). r.patterns) (sym done)
 
 -- the same entries with their numbers in another list
-pub with_kept : (places : List WordPlace) (P : Patterns) (stands holders : List (List ℕ)) (kept kept' : List ℕ) → kept' ≡ kept → RoundStart places P stands holders kept → RoundStart places P stands holders kept'
+pub with_kept : (places : List WordPlace) (P : Patterns) (stands holders : List (List ℕ)) (kept kept' : List ℕ) → kept' ≡ kept → RoundStart places P stands holders kept
+    → RoundStart places P stands holders kept'
 with_kept places P stands holders kept kept' is r = subst (λ ks. RoundStart places P stands holders ks) (sym is) r
 
 pub picked_few : (P : Patterns) (kept : List ℕ) (Q : Patterns) → length Q ≤ length P → picked_entries P kept ≡ Q → length kept ≤ length P

@@ -39,8 +39,10 @@ turn_after places P i = record { places = places; before = take i P; entry = ent
 pub with_next : (places : List WordPlace) (P : Patterns) (i : ℕ) → i < length P → take (i + 1) P ≡ with_entry (turn_after places P i)
 with_next places P i inside = take_more P i (([], 0), 0) inside
 
-pub turn_awaited : {V : Type 0} (items : V → List ℕ) (places : List WordPlace) (P : Patterns) (vs : List V) (count : ℕ) (holders : List (List ℕ)) (i : ℕ) (v : V) (numbers : List ℕ) (x : (List ℕ × ℕ) × ℕ) → IsGround places P (map items vs) count
-    → list_all is_entry P ≡ true → IsTallied places (take i P) holders → i < length P → i < 2 ^ 64 - 1 → v ≡ get_or vs i v → numbers ≡ items v → slice_get P i ≡ Some x → IsAwaited (turn_after places P i) holders numbers x.1
+pub turn_awaited : {V : Type 0} (items : V → List ℕ) (places : List WordPlace) (P : Patterns) (vs : List V) (count : ℕ) (holders : List (List ℕ)) (i : ℕ)
+    (v : V) (numbers : List ℕ) (x : (List ℕ × ℕ) × ℕ) → IsGround places P (map items vs) count
+    → list_all is_entry P ≡ true → IsTallied places (take i P) holders → i < length P → i < 2 ^ 64 - 1 → v ≡ get_or vs i v → numbers ≡ items v
+    → slice_get P i ≡ Some x → IsAwaited (turn_after places P i) holders numbers x.1
 turn_awaited items places P vs count holders i v numbers x g sound tallied inside room is own entry =
     let many : length vs ≡ length P = sym (length-map vs items) ∙ ap length g.all ∙ length-map P (places_of_entry places) in
     record {

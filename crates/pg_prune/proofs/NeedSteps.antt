@@ -29,7 +29,8 @@ module _ (places : List WordPlace) (P : Patterns) (kept : List ℕ) where
       sym (append-nil found) ∙ ap (λ left. found ++ needs_from places (picked_entries P (take i kept)) (picked_entries P left)) (sym (none_left kept i behind)) ∙ so
 
   pub needs_step : (found : List Need) (i : ℕ) → i < length kept → NeedsSoFar found i
-      → NeedsSoFar (found ++ need_list (first_difference places (with_entry (turn_of places P (take i kept) (get_or kept i 0) (drop (i + 1) kept))) (without_entry (turn_of places P (take i kept) (get_or kept i 0) (drop (i + 1) kept))))) (i + 1)
+      → NeedsSoFar (found ++ need_list (first_difference places (with_entry (turn_of places P (take i kept) (get_or kept i 0) (drop (i + 1) kept)))
+      (without_entry (turn_of places P (take i kept) (get_or kept i 0) (drop (i + 1) kept))))) (i + 1)
   needs_step found i inside so =
       let k = get_or kept i 0 in
       let before = picked_entries P (take i kept) in
@@ -43,11 +44,14 @@ module _ (places : List WordPlace) (P : Patterns) (kept : List ℕ) where
       ∙ so
 
   -- the turn of the i-th entry
-  pub need_turn : {V : Type 0} (items : V → List ℕ) (vs : List V) (holders : List (List ℕ)) (i : ℕ) (v : V) (numbers : List ℕ) (x : (List ℕ × ℕ) × ℕ) → RoundStart places P (map items vs) holders kept → i < length kept
-      → v ≡ get_or vs (get_or kept i 0) v → numbers ≡ items v → slice_get P (get_or kept i 0) ≡ Some x → IsHeld (turn_of places P (take i kept) (get_or kept i 0) (drop (i + 1) kept)) holders numbers x.1
+  pub need_turn : {V : Type 0} (items : V → List ℕ) (vs : List V) (holders : List (List ℕ)) (i : ℕ) (v : V) (numbers : List ℕ) (x : (List ℕ × ℕ) × ℕ)
+      → RoundStart places P (map items vs) holders kept → i < length kept
+      → v ≡ get_or vs (get_or kept i 0) v → numbers ≡ items v → slice_get P (get_or kept i 0) ≡ Some x
+      → IsHeld (turn_of places P (take i kept) (get_or kept i 0) (drop (i + 1) kept)) holders numbers x.1
   need_turn items vs holders i v numbers x s inside is own entry =
       let whole : picked_entries P kept ≡ picked_entries P (take i kept) ++ picked_entries P (get_or kept i 0 ∷ drop (i + 1) kept) =
-      ap (picked_entries P) (sym (take-append-drop i kept)) ∙ map-append (entry_of P) (take i kept) (drop i kept) ∙ ap (λ left. picked_entries P (take i kept) ++ picked_entries P left) (left_at kept i inside) in
+      ap (picked_entries P) (sym (take-append-drop i kept)) ∙ map-append (entry_of P) (take i kept) (drop i kept)
+      ∙ ap (λ left. picked_entries P (take i kept) ++ picked_entries P left) (left_at kept i inside) in
       turn_from items places P vs holders (take i kept) (get_or kept i 0) (drop (i + 1) kept) v numbers x s.all s.sound
       (All-take (λ i. i < length P) i kept s.within) (subst (All (λ i. i < length P)) (left_at kept i inside) (All-drop (λ i. i < length P) i kept s.within))
       (subst (λ (Q : Patterns). IsTallied places Q holders) whole s.tallied) is own entry

@@ -80,4 +80,5 @@ module _ (m : Minima) (ws : List Word) (P : Patterns) where
 
   pub pruned_few : length (pruned m ws P).patterns ≤ length P
   unfolding pruned rounds
-  pruned_few = rounds_keep (places m ws) P (λ Q. length Q ≤ length P) (λ before e rest goes few. (let a = length-append before (e ∷ rest) in let b = length-append before rest in omega (arith, a, b))) 0 (length P) P (omega arith)
+  pruned_few = rounds_keep (places m ws) P (λ Q. length Q ≤ length P) (λ before e rest goes few. (let a = length-append before (e ∷ rest) in let b = length-append before rest in omega (arith, a, b)))
+      0 (length P) P (omega arith)

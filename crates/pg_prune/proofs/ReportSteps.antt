@@ -17,7 +17,8 @@ use Rattle.pg_prune.specs.Reports.{keep_line}
 use Rattle.pg_prune.specs.Inside.Findings.{keep_lines}
 
 -- the lines are whole
-pub lines_end : (t : Alphabet) (P : Patterns) (needs : List Need) (done : List ℕ) (i : ℕ) → length P ≤ i → done ++ keep_lines t (drop i P) (drop i needs) ≡ keep_lines t P needs → done ≡ keep_lines t P needs
+pub lines_end : (t : Alphabet) (P : Patterns) (needs : List Need) (done : List ℕ) (i : ℕ) → length P ≤ i → done ++ keep_lines t (drop i P) (drop i needs)
+    ≡ keep_lines t P needs → done ≡ keep_lines t P needs
 lines_end t P needs done i behind so =
     let none : drop i P ≡ [] = nil_from_length (drop i P) (let many = length-drop i P in omega (arith, many)) in
     sym (append-nil done) ∙ ap (λ es. done ++ keep_lines t es (drop i needs)) (sym none) ∙ so
@@ -31,7 +32,8 @@ lines_beside t (e ∷ es) (n ∷ ns) = ap (λ more. keep_line t e n ++ more) (li
 -- an entry alone is sound
 pub alone_sound : (u : List ℕ) (d v : ℕ) → 0 < length u → length u ≤ PATTERN_SIGNS_MAX → list_all is_sign u ≡ true → d ≤ length u → 1 ≤ v → v ≤ LEVEL_MAX → list_all is_entry (((u, d), v) ∷ []) ≡ true
 alone_sound u d v some few signs dot low high =
-    and_from _ _ (and_from _ _ (and_from _ _ (and_from _ _ (and_from _ _ (and_from _ _ (le-leb 1 (length u) some) (le-leb (length u) PATTERN_SIGNS_MAX few)) signs) (le-leb d (length u) dot)) (le-leb 1 v low)) (le-leb v LEVEL_MAX high)) refl
+    and_from _ _ (and_from _ _ (and_from _ _ (and_from _ _ (and_from _ _ (and_from _ _ (le-leb 1 (length u) some) (le-leb (length u) PATTERN_SIGNS_MAX few)) signs) (le-leb d (length u) dot))
+    (le-leb 1 v low)) (le-leb v LEVEL_MAX high)) refl
 
 -- the signs of an entry alone are those of the map
 pub alone_known : (n : ℕ) (P : Patterns) (i : ℕ) (e : (List ℕ × ℕ) × ℕ) → SignsUpTo n P → slice_get P i ≡ Some e → SignsUpTo n (e ∷ [])

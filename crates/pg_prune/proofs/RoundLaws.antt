@@ -18,7 +18,8 @@ pub regrouped : {A : Type 0} (kept : List A) (e : A) (rest : List A) → (kept +
 regrouped kept e rest = append_assoc kept (e ∷ []) rest
 
 -- a fact that stays where an entry is taken out without a change of breaks holds after a round, and after all rounds
-module _ (places : List WordPlace) (P : Patterns) (Good : Patterns → Type 0) (step : (before : Patterns) (e : (List ℕ × ℕ) × ℕ) (rest : Patterns) → break_alike places P (before ++ rest) ≡ true → Good (before ++ e ∷ rest) → Good (before ++ rest)) where
+module _ (places : List WordPlace) (P : Patterns) (Good : Patterns → Type 0) (step : (before : Patterns) (e : (List ℕ × ℕ) × ℕ) (rest : Patterns)
+    → break_alike places P (before ++ rest) ≡ true → Good (before ++ e ∷ rest) → Good (before ++ rest)) where
   pub round_keeps : (kept rest : Patterns) → Good (kept ++ rest) → Good (round_from places P kept rest)
   round_keeps kept [] good = subst Good (append-nil kept) good
   round_keeps kept (e ∷ rest) good =
@@ -47,7 +48,8 @@ module _ (places : List WordPlace) (P : Patterns) where
   pub round_same : (kept rest : Patterns) → length (round_from places P kept rest) ≡ length kept + length rest → round_from places P kept rest ≡ kept ++ rest
   round_same kept [] = λ many. sym (append-nil kept)
   round_same kept (e ∷ rest) =
-      by_test (λ (R : Patterns). length R ≡ length kept + length (e ∷ rest) → R ≡ kept ++ e ∷ rest) (break_alike places P (kept ++ rest)) (round_from places P kept rest) (round_from places P (kept ++ e ∷ []) rest)
+      by_test (λ (R : Patterns). length R ≡ length kept + length (e ∷ rest) → R ≡ kept ++ e ∷ rest) (break_alike places P (kept ++ rest))
+      (round_from places P kept rest) (round_from places P (kept ++ e ∷ []) rest)
       (λ goes many. let fewer = round_length kept rest in absurd (omega arith))
       (λ stays many. round_same (kept ++ e ∷ []) rest (omega (arith, length-append kept (e ∷ []))) ∙ regrouped kept e rest)
 
@@ -61,7 +63,8 @@ module _ (places : List WordPlace) (P : Patterns) where
   none_more kept e rest stays none (b ∷ before) f behind is =
       let first : e ≡ b = cc in
       let others : rest ≡ before ++ f ∷ behind = cc in
-      let grouped : (kept ++ e ∷ []) ++ (before ++ behind) ≡ kept ++ b ∷ (before ++ behind) = regrouped kept e (before ++ behind) ∙ ap (λ (x : (List ℕ × ℕ) × ℕ). kept ++ x ∷ (before ++ behind)) first in
+      let grouped : (kept ++ e ∷ []) ++ (before ++ behind) ≡ kept ++ b ∷ (before ++ behind) = regrouped kept e (before ++ behind)
+      ∙ ap (λ (x : (List ℕ × ℕ) × ℕ). kept ++ x ∷ (before ++ behind)) first in
       subst (λ (r : Patterns). break_alike places P r ≡ false) grouped (none before f behind others)
 
   no_rest : (kept : Patterns) → NoneGoes kept []
@@ -72,7 +75,8 @@ module _ (places : List WordPlace) (P : Patterns) where
   pub round_stays : (kept rest : Patterns) → length (round_from places P kept rest) ≡ length kept + length rest → NoneGoes kept rest
   round_stays kept [] = λ many. no_rest kept
   round_stays kept (e ∷ rest) =
-      by_test (λ (R : Patterns). length R ≡ length kept + length (e ∷ rest) → NoneGoes kept (e ∷ rest)) (break_alike places P (kept ++ rest)) (round_from places P kept rest) (round_from places P (kept ++ e ∷ []) rest)
+      by_test (λ (R : Patterns). length R ≡ length kept + length (e ∷ rest) → NoneGoes kept (e ∷ rest)) (break_alike places P (kept ++ rest))
+      (round_from places P kept rest) (round_from places P (kept ++ e ∷ []) rest)
       (λ goes many. let fewer = round_length kept rest in absurd (omega arith))
       (λ stays many. none_more kept e rest stays (round_stays (kept ++ e ∷ []) rest (omega (arith, length-append kept (e ∷ [])))))
 
@@ -81,7 +85,8 @@ module _ (places : List WordPlace) (P : Patterns) where
   unfolding round
   rounds_end count zero Q few = let fewer : length (round_from places P [] Q) ≤ 0 + length Q = round_length [] Q in omega arith
   rounds_end count (suc most) Q few =
-      by_test (λ (r : Rounds). length (round places P r.patterns) ≡ length r.patterns) (nat_eq (length (round places P Q)) (length Q)) (record { patterns = Q; count = count + 1 }) (rounds_from places P (count + 1) most (round places P Q))
+      by_test (λ (r : Rounds). length (round places P r.patterns) ≡ length r.patterns) (nat_eq (length (round places P Q)) (length Q))
+      (record { patterns = Q; count = count + 1 }) (rounds_from places P (count + 1) most (round places P Q))
       (λ goes. eqb-true _ _ goes)
       (λ stays.
       let fewer : length (round_from places P [] Q) ≤ 0 + length Q = round_length [] Q in

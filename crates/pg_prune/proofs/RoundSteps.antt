@@ -48,7 +48,8 @@ turn_of places P stay k left = record { places = places; before = picked_entries
 
 -- what an entry's turn has: its places, its value, and the holders of the map
 module _ {V : Type 0} (items : V → List ℕ) (places : List WordPlace) (P : Patterns) (vs : List V) where
-  pub turn_from : (holders : List (List ℕ)) (stay : List ℕ) (k : ℕ) (left : List ℕ) (v : V) (numbers : List ℕ) (x : (List ℕ × ℕ) × ℕ) → map items vs ≡ places_of_entries places P → list_all is_entry P ≡ true
+  pub turn_from : (holders : List (List ℕ)) (stay : List ℕ) (k : ℕ) (left : List ℕ) (v : V) (numbers : List ℕ) (x : (List ℕ × ℕ) × ℕ) → map items vs
+      ≡ places_of_entries places P → list_all is_entry P ≡ true
       → All (λ i. i < length P) stay → All (λ i. i < length P) (k ∷ left) → IsTallied places (picked_entries P stay ++ picked_entries P (k ∷ left)) holders
       → v ≡ get_or vs k v → numbers ≡ items v → slice_get P k ≡ Some x → IsHeld (turn_of places P stay k left) holders numbers x.1
   turn_from holders stay k left v numbers x stands sound within rest tallied is own entry =
@@ -71,10 +72,12 @@ pub record Rounding (places : List WordPlace) (P : Patterns) (kept : List ℕ) (
   pub alike : break_alike places P (picked_entries P stay ++ picked_entries P left) ≡ true
   pub so_far : round_from places P (picked_entries P stay) (picked_entries P left) ≡ round places P (picked_entries P kept)
 
-continues_with : (places : List WordPlace) (P kept : Patterns) (e : (List ℕ × ℕ) × ℕ) (left : Patterns) → break_alike places P (kept ++ left) ≡ true → round_from places P kept (e ∷ left) ≡ round_from places P kept left
+continues_with : (places : List WordPlace) (P kept : Patterns) (e : (List ℕ × ℕ) × ℕ) (left : Patterns) → break_alike places P (kept ++ left) ≡ true
+    → round_from places P kept (e ∷ left) ≡ round_from places P kept left
 continues_with places P kept e left goes = ap (λ b. cond b (round_from places P kept left) (round_from places P (kept ++ e ∷ []) left)) goes
 
-stays_on : (places : List WordPlace) (P kept : Patterns) (e : (List ℕ × ℕ) × ℕ) (left : Patterns) → break_alike places P (kept ++ left) ≡ false → round_from places P kept (e ∷ left) ≡ round_from places P (kept ++ e ∷ []) left
+stays_on : (places : List WordPlace) (P kept : Patterns) (e : (List ℕ × ℕ) × ℕ) (left : Patterns) → break_alike places P (kept ++ left) ≡ false
+    → round_from places P kept (e ∷ left) ≡ round_from places P (kept ++ e ∷ []) left
 stays_on places P kept e left stays = ap (λ b. cond b (round_from places P kept left) (round_from places P (kept ++ e ∷ []) left)) stays
 
 is_alike : (b : Bool) → false ≡ not b → b ≡ true
@@ -95,9 +98,11 @@ module _ (places : List WordPlace) (P : Patterns) (stands : List (List ℕ)) (ke
   rounding_begins holders s = record { within = All-nil (λ i. i < length P); rest = s.within; tallied = s.tallied; alike = s.alike; so_far = refl }
 
   pub rounding_goes : (holders new : List (List ℕ)) (stay : List ℕ) (k : ℕ) (left : List ℕ) → Rounding places P kept holders stay (k ∷ left)
-      → false ≡ not (break_alike places (with_entry (turn_of places P stay k left)) (without_entry (turn_of places P stay k left))) → IsTallied places (without_entry (turn_of places P stay k left)) new → Rounding places P kept new stay left
+      → false ≡ not (break_alike places (with_entry (turn_of places P stay k left)) (without_entry (turn_of places P stay k left)))
+      → IsTallied places (without_entry (turn_of places P stay k left)) new → Rounding places P kept new stay left
   rounding_goes holders new stay k left r answer tallied =
-      let goes : break_alike places P (picked_entries P stay ++ picked_entries P left) ≡ true = alike_over places P (with_entry (turn_of places P stay k left)) (without_entry (turn_of places P stay k left)) r.alike (is_alike _ answer) in
+      let goes : break_alike places P (picked_entries P stay ++ picked_entries P left)
+      ≡ true = alike_over places P (with_entry (turn_of places P stay k left)) (without_entry (turn_of places P stay k left)) r.alike (is_alike _ answer) in
       record {
         within = r.within;
         rest = All-tail (λ i. i < length P) k left r.rest;
@@ -107,13 +112,16 @@ module _ (places : List WordPlace) (P : Patterns) (stands : List (List ℕ)) (ke
       }
 
   pub rounding_stays : (holders new : List (List ℕ)) (stay : List ℕ) (k : ℕ) (left : List ℕ) → Rounding places P kept holders stay (k ∷ left)
-      → true ≡ not (break_alike places (with_entry (turn_of places P stay k left)) (without_entry (turn_of places P stay k left))) → IsTallied places (with_entry (turn_of places P stay k left)) new → Rounding places P kept new (stay ++ k ∷ []) left
+      → true ≡ not (break_alike places (with_entry (turn_of places P stay k left)) (without_entry (turn_of places P stay k left)))
+      → IsTallied places (with_entry (turn_of places P stay k left)) new → Rounding places P kept new (stay ++ k ∷ []) left
   rounding_stays holders new stay k left r answer tallied =
       let t = turn_of places P stay k left in
       let stays : break_alike places P (picked_entries P stay ++ picked_entries P left) ≡ false =
-      unlike (break_alike places P (without_entry t)) (break_alike places (with_entry t) (without_entry t)) (λ goes. alike_over places (with_entry t) P (without_entry t) (alike_back places P (with_entry t) r.alike) goes) (is_unlike _ answer) in
+      unlike (break_alike places P (without_entry t)) (break_alike places (with_entry t) (without_entry t))
+      (λ goes. alike_over places (with_entry t) P (without_entry t) (alike_back places P (with_entry t) r.alike) goes) (is_unlike _ answer) in
       let longer : picked_entries P (stay ++ k ∷ []) ≡ picked_entries P stay ++ entry_of P k ∷ [] = map-append (entry_of P) stay (k ∷ []) in
-      let whole : picked_entries P (stay ++ k ∷ []) ++ picked_entries P left ≡ picked_entries P stay ++ entry_of P k ∷ picked_entries P left = ap (λ q. q ++ picked_entries P left) longer ∙ regrouped (picked_entries P stay) (entry_of P k) (picked_entries P left) in
+      let whole : picked_entries P (stay ++ k ∷ []) ++ picked_entries P left ≡ picked_entries P stay ++ entry_of P k ∷ picked_entries P left =
+      ap (λ q. q ++ picked_entries P left) longer ∙ regrouped (picked_entries P stay) (entry_of P k) (picked_entries P left) in
       record {
         within = All-push (λ i. i < length P) stay k r.within (All-head (λ i. i < length P) k left r.rest);
         rest = All-tail (λ i. i < length P) k left r.rest;
@@ -135,11 +143,13 @@ module _ (places : List WordPlace) (P : Patterns) (stands : List (List ℕ)) (ke
   }
 
 module _ {V : Type 0} (items : V → List ℕ) (places : List WordPlace) (P : Patterns) (vs : List V) (kept : List ℕ) where
-  pub rounding_at : (holders : List (List ℕ)) (stay : List ℕ) (i : ℕ) → i < length kept → Rounding places P kept holders stay (drop i kept) → Rounding places P kept holders stay (get_or kept i 0 ∷ drop (i + 1) kept)
+  pub rounding_at : (holders : List (List ℕ)) (stay : List ℕ) (i : ℕ) → i < length kept → Rounding places P kept holders stay (drop i kept)
+      → Rounding places P kept holders stay (get_or kept i 0 ∷ drop (i + 1) kept)
   rounding_at holders stay i inside r = subst (λ left. Rounding places P kept holders stay left) (left_at kept i inside) r
 
   -- the turn of the entry whose number is the i-th
-  pub turn_at : (start holders : List (List ℕ)) (stay : List ℕ) (i : ℕ) (v : V) (numbers : List ℕ) (x : (List ℕ × ℕ) × ℕ) → RoundStart places P (map items vs) start kept → Rounding places P kept holders stay (drop i kept) → i < length kept
+  pub turn_at : (start holders : List (List ℕ)) (stay : List ℕ) (i : ℕ) (v : V) (numbers : List ℕ) (x : (List ℕ × ℕ) × ℕ) → RoundStart places P (map items vs) start kept
+      → Rounding places P kept holders stay (drop i kept) → i < length kept
       → v ≡ get_or vs (get_or kept i 0) v → numbers ≡ items v → slice_get P (get_or kept i 0) ≡ Some x → IsHeld (turn_of places P stay (get_or kept i 0) (drop (i + 1) kept)) holders numbers x.1
   turn_at start holders stay i v numbers x s r inside is own entry =
       let at = rounding_at holders stay i inside r in

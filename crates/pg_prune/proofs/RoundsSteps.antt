@@ -53,7 +53,8 @@ module _ (places : List WordPlace) (P : Patterns) (stands : List (List ℕ)) whe
       let many : length (picked_entries P kept) ≡ length kept = length-map kept (entry_of P) in
       omega arith
 
-  one_more : (count most : ℕ) (Q : Patterns) → length Q ≤ most → length (round places P Q) < length Q → (n : ℕ) × (length (round places P Q) ≤ n) × (rounds_from places P count most Q ≡ rounds_from places P (count + 1) n (round places P Q))
+  one_more : (count most : ℕ) (Q : Patterns) → length Q ≤ most → length (round places P Q) < length Q → (n : ℕ) × (length (round places P Q) ≤ n)
+      × (rounds_from places P count most Q ≡ rounds_from places P (count + 1) n (round places P Q))
   one_more count zero Q few less = absurd (omega arith)
   one_more count (suc most) Q few less = (
     most,
@@ -62,7 +63,8 @@ module _ (places : List WordPlace) (P : Patterns) (stands : List (List ℕ)) whe
         (no_test (nat_eq (length (round places P Q)) (length Q)) (λ same. let is = eqb-true _ _ same in absurd (omega (arith, is)))),
   )
 
-  pub rounds_next : (old new : List (List ℕ)) (kept stay : List ℕ) (count : ℕ) → RoundsSoFar places P stands old kept count → RoundDone places P stands new kept stay → length stay ≢ length kept → RoundsSoFar places P stands new stay (count + 1)
+  pub rounds_next : (old new : List (List ℕ)) (kept stay : List ℕ) (count : ℕ) → RoundsSoFar places P stands old kept count → RoundDone places P stands new kept stay
+      → length stay ≢ length kept → RoundsSoFar places P stands new stay (count + 1)
   rounds_next old new kept stay count r d other =
       let left : length stay ≡ length (round places P (picked_entries P kept)) = left_by new kept stay d in
       let fewer = round_fewer new kept stay d in
@@ -88,7 +90,8 @@ module _ (places : List WordPlace) (P : Patterns) (stands : List (List ℕ)) whe
       let left : length stay ≡ length (round places P (picked_entries P kept)) = left_by new kept stay d in
       let many : length (picked_entries P kept) ≡ length kept = length-map kept (entry_of P) in
       let as_many : length (round places P (picked_entries P kept)) ≡ length (picked_entries P kept) = omega arith in
-      let is : picked_entries P stay ≡ picked_entries P kept = d.done ∙ round_same places P [] (picked_entries P kept) (let all : length (round places P (picked_entries P kept)) ≡ 0 + length (picked_entries P kept) = omega arith in all) in (
+      let is : picked_entries P stay ≡ picked_entries P kept = d.done ∙ round_same places P [] (picked_entries P kept)
+      (let all : length (round places P (picked_entries P kept)) ≡ 0 + length (picked_entries P kept) = omega arith in all) in (
         record {
           all = r.ready.all;
           sound = r.ready.sound;

@@ -31,7 +31,8 @@ map_more f g a (suc i) (suc n) inside more same =
     ∙ ap (λ t. g a ∷ t) (map_more f g (a + 1) i n (omega arith) (subst (λ k. f k ≡ g k + 1) at more) (λ u other. same u (subst (λ k. u ≢ k) (sym at) other)))
 
 -- an entry in a map counts once
-one_more : (before : Patterns) (e : (List ℕ × ℕ) × ℕ) (behind : Patterns) (x : WordPlace) (v : ℕ) → count_at (before ++ e ∷ behind) x v ≡ count_at (before ++ behind) x v + cond (stands e x && nat_eq e.1 v) 1 0
+one_more : (before : Patterns) (e : (List ℕ × ℕ) × ℕ) (behind : Patterns) (x : WordPlace) (v : ℕ) → count_at (before ++ e ∷ behind) x v
+    ≡ count_at (before ++ behind) x v + cond (stands e x && nat_eq e.1 v) 1 0
 one_more before e behind x v =
     let f : (List ℕ × ℕ) × ℕ → ℕ = λ e. cond (stands e x && nat_eq e.1 v) 1 0 in
     let whole : count_at (before ++ e ∷ behind) x v ≡ sum_by f before + sum_by f (e ∷ behind) = sum_by-append f before (e ∷ behind) in
@@ -56,8 +57,10 @@ module _ (before : Patterns) (e : (List ℕ × ℕ) × ℕ) (behind : Patterns) 
   tally_there low high there =
       let at : 1 + (e.1 - 1) ≡ e.1 = omega arith in
       map_more (count_at (before ++ e ∷ behind) x) (count_at (before ++ behind) x) 1 (e.1 - 1) 9 (omega arith)
-      (one_more before e behind x (1 + (e.1 - 1)) ∙ plus_one (count_at (before ++ behind) x (1 + (e.1 - 1))) (stands e x && nat_eq e.1 (1 + (e.1 - 1))) (ap (λ b. b && nat_eq e.1 (1 + (e.1 - 1))) there ∙ eq-eqb e.1 (1 + (e.1 - 1)) (sym at)))
-      (λ u other. one_more before e behind x u ∙ plus_none (count_at (before ++ behind) x u) (stands e x && nat_eq e.1 u) (ap (λ b. b && nat_eq e.1 u) there ∙ no_test (nat_eq e.1 u) (λ t. absurd (other (sym (eqb-true e.1 u t) ∙ sym at)))))
+      (one_more before e behind x (1 + (e.1 - 1)) ∙ plus_one (count_at (before ++ behind) x (1 + (e.1 - 1))) (stands e x && nat_eq e.1 (1 + (e.1 - 1)))
+      (ap (λ b. b && nat_eq e.1 (1 + (e.1 - 1))) there ∙ eq-eqb e.1 (1 + (e.1 - 1)) (sym at)))
+      (λ u other. one_more before e behind x u ∙ plus_none (count_at (before ++ behind) x u) (stands e x && nat_eq e.1 u)
+      (ap (λ b. b && nat_eq e.1 u) there ∙ no_test (nat_eq e.1 u) (λ t. absurd (other (sym (eqb-true e.1 u t) ∙ sym at)))))
 
 -- one more and one less is as before
 less_more : (c : List ℕ) (i : ℕ) → i < length c → set (set c i (get_or c i 0 + 1)) i (get_or (set c i (get_or c i 0 + 1)) i 0 - 1) ≡ c
@@ -119,6 +122,8 @@ greatest_value_is (e ∷ Q) x sound =
     let high = entry_high e (and_first _ _ sound) in
     let others = greatest_value_is Q x (and_second _ _ sound) in
     elim (either (stands e x)) [
-      | inl there ↦ ap greatest_value (tally_there [] e Q x low high there) ∙ greatest_value_with (holder_counts Q x) e.1 low (omega arith) ∙ ap (max e.1) others ∙ ap (λ b. max (cond b e.1 0) (value_at Q x.signs x.position)) (sym there)
-      | inr away ↦ ap greatest_value (tally_away [] e Q x away) ∙ others ∙ (let at : value_at Q x.signs x.position ≡ max 0 (value_at Q x.signs x.position) = omega arith in at) ∙ ap (λ b. max (cond b e.1 0) (value_at Q x.signs x.position)) (sym away)
+      | inl there ↦ ap greatest_value (tally_there [] e Q x low high there) ∙ greatest_value_with (holder_counts Q x) e.1 low (omega arith)
+          ∙ ap (max e.1) others ∙ ap (λ b. max (cond b e.1 0) (value_at Q x.signs x.position)) (sym there)
+      | inr away ↦ ap greatest_value (tally_away [] e Q x away) ∙ others ∙ (let at : value_at Q x.signs x.position ≡ max 0 (value_at Q x.signs x.position) = omega arith in at)
+          ∙ ap (λ b. max (cond b e.1 0) (value_at Q x.signs x.position)) (sym away)
     ]

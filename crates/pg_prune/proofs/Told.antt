@@ -30,7 +30,8 @@ module _ (P Q : Patterns) where
 
   alike_from : (number : ℕ) (w : Word) (ps : List ℕ) → AlikeIn w ps → list_all (break_alike_at P Q) (map (λ p. record { word = number; signs = w.signs; position = p }) ps) ≡ true
   alike_from number w [] all = refl
-  alike_from number w (p ∷ ps) all = and_from _ _ (eq-eqb _ _ (All-head (λ p. value_at P w.signs p % 2 ≡ value_at Q w.signs p % 2) p ps all)) (alike_from number w ps (All-tail (λ p. value_at P w.signs p % 2 ≡ value_at Q w.signs p % 2) p ps all))
+  alike_from number w (p ∷ ps) all = and_from _ _ (eq-eqb _ _ (All-head (λ p. value_at P w.signs p % 2 ≡ value_at Q w.signs p % 2) p ps all))
+      (alike_from number w ps (All-tail (λ p. value_at P w.signs p % 2 ≡ value_at Q w.signs p % 2) p ps all))
 
   module _ (m : Minima) where
     abbrev AlikeWord : Word → Type 0

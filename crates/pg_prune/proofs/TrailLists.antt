@@ -56,7 +56,8 @@ given_shifted h g d lo (suc n) same =
     ∙ ap (cons_option (g (lo + d))) (given_shifted h g d (lo + 1) n same ∙ ap (λ k. filter_map g (range_with_len k n)) place)
 
 -- what a function gives on an element more
-pub given_more : {X Y : Type 0} (f : X → Option Y) (xs : List X) (i : ℕ) (d : X) (y : Y) → i < length xs → Some y ≡ f (get_or xs i d) → filter_map f (take i xs) ++ y ∷ [] ≡ filter_map f (take (i + 1) xs)
+pub given_more : {X Y : Type 0} (f : X → Option Y) (xs : List X) (i : ℕ) (d : X) (y : Y) → i < length xs → Some y ≡ f (get_or xs i d) → filter_map f (take i xs)
+    ++ y ∷ [] ≡ filter_map f (take (i + 1) xs)
 given_more f xs i d y inside is =
     ap (λ o. filter_map f (take i xs) ++ cons_option o []) is
     ∙ sym (filter_map-append f (take i xs) (get_or xs i d ∷ []))

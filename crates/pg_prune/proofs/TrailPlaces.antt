@@ -95,19 +95,23 @@ module _ (u : List ℕ) (v d : ℕ) (w : List ℕ) (first last b : ℕ) where
       by_test false xs ys same = same
 
   -- the places in reach are all at which something is placed
-  by_reach : (total : ℕ) → last + 1 ≤ total → first ≤ last → filter_map (placed u d w (Some (first, last)) b) (range_with_len first (last + 1 - first)) ≡ filter_map (placed u d w (Some (first, last)) b) (range_with_len 0 total)
+  by_reach : (total : ℕ) → last + 1 ≤ total → first ≤ last → filter_map (placed u d w (Some (first, last)) b) (range_with_len first (last + 1 - first))
+      ≡ filter_map (placed u d w (Some (first, last)) b) (range_with_len 0 total)
   by_reach total inside some =
       let g = placed u d w (Some (first, last)) b in
       let size : total ≡ first + ((last + 1 - first) + (total - (last + 1))) = omega arith in
       let end : 0 + first + (last + 1 - first) ≡ last + 1 = omega arith in
       let begins : filter_map g (range_with_len 0 first) ≡ [] = nothing_in g 0 first (λ p low high. out_of_reach u d w (Some (first, last)) b p (before_reach p (omega arith))) in
-      let ends : filter_map g (range_with_len (0 + first + (last + 1 - first)) (total - (last + 1))) ≡ [] = nothing_in g (0 + first + (last + 1 - first)) (total - (last + 1)) (λ p low high. out_of_reach u d w (Some (first, last)) b p (behind_reach p (omega arith))) in
-      let parts : filter_map g (range_with_len 0 total) ≡ filter_map g (range_with_len 0 first) ++ (filter_map g (range_with_len (0 + first) (last + 1 - first)) ++ filter_map g (range_with_len (0 + first + (last + 1 - first)) (total - (last + 1)))) =
+      let ends : filter_map g (range_with_len (0 + first + (last + 1 - first)) (total - (last + 1)))
+      ≡ [] = nothing_in g (0 + first + (last + 1 - first)) (total - (last + 1)) (λ p low high. out_of_reach u d w (Some (first, last)) b p (behind_reach p (omega arith))) in
+      let parts : filter_map g (range_with_len 0 total) ≡ filter_map g (range_with_len 0 first)
+      ++ (filter_map g (range_with_len (0 + first) (last + 1 - first)) ++ filter_map g (range_with_len (0 + first + (last + 1 - first)) (total - (last + 1)))) =
       ap (λ n. filter_map g (range_with_len 0 n)) size
       ∙ ap (λ xs. filter_map g xs) (range_parts 0 first ((last + 1 - first) + (total - (last + 1))))
       ∙ filter_map-append g (range_with_len 0 first) (range_with_len (0 + first) ((last + 1 - first) + (total - (last + 1))))
       ∙ ap (λ xs. filter_map g (range_with_len 0 first) ++ filter_map g xs) (range_parts (0 + first) (last + 1 - first) (total - (last + 1)))
-      ∙ ap (λ xs. filter_map g (range_with_len 0 first) ++ xs) (filter_map-append g (range_with_len (0 + first) (last + 1 - first)) (range_with_len (0 + first + (last + 1 - first)) (total - (last + 1)))) in
+      ∙ ap (λ xs. filter_map g (range_with_len 0 first) ++ xs) (filter_map-append g (range_with_len (0 + first) (last + 1 - first))
+      (range_with_len (0 + first + (last + 1 - first)) (total - (last + 1)))) in
       let place : 0 + first ≡ first = omega arith in
       sym (parts
       ∙ ap (λ xs. xs ++ (filter_map g (range_with_len (0 + first) (last + 1 - first)) ++ filter_map g (range_with_len (0 + first + (last + 1 - first)) (total - (last + 1))))) begins
@@ -128,7 +132,8 @@ numbers-append test at (x ∷ xs) ys =
     by_test false front back whole same = same
 
 -- a function of what is kept
-kept_given : {X : Type 0} (f : X → Option ℕ) (p : X → Bool) (g : ℕ → X) (h : ℕ → Option ℕ) → ((a : ℕ) → h a ≡ only_if (p (g a)) (f (g a))) → (xs : List ℕ) → filter_map f (filter p (map g xs)) ≡ filter_map h xs
+kept_given : {X : Type 0} (f : X → Option ℕ) (p : X → Bool) (g : ℕ → X) (h : ℕ → Option ℕ) → ((a : ℕ) → h a ≡ only_if (p (g a)) (f (g a))) → (xs : List ℕ)
+    → filter_map f (filter p (map g xs)) ≡ filter_map h xs
 kept_given f p g h same [] = refl
 kept_given {X} f p g h same (a ∷ rest) =
     by_test (p (g a)) (filter p (map g rest)) ∙ ap (λ (o : Option ℕ). cons_option o (filter_map f (filter p (map g rest)))) (sym (same a))
@@ -140,7 +145,8 @@ kept_given {X} f p g h same (a ∷ rest) =
 
 module _ (m : Minima) (all : List Word) (u : List ℕ) (v d : ℕ) where
   -- the starts in a word, and what is placed there
-  in_word : (word b : ℕ) (w : Word) → slice_get all word ≡ Some w → filter_map (place_of m all d) (filter (begins_at all u) (starts_in word b (length w.signs))) ≡ filter_map (placed_start u d w.signs (reach m.left m.right (length w.signs)) b) (range_with_len 0 (length w.signs))
+  in_word : (word b : ℕ) (w : Word) → slice_get all word ≡ Some w → filter_map (place_of m all d) (filter (begins_at all u) (starts_in word b (length w.signs)))
+      ≡ filter_map (placed_start u d w.signs (reach m.left m.right (length w.signs)) b) (range_with_len 0 (length w.signs))
   in_word word b w at =
       kept_given (place_of m all d) (begins_at all u) (start_at word b) (placed_start u d w.signs (reach m.left m.right (length w.signs)) b)
       (λ a. ap (λ (s : List ℕ). only_if (stands_at u s a) (place_in (reach m.left m.right (length s)) b (a + d))) (sym (signs_at all word w at)))
@@ -163,7 +169,8 @@ module _ (m : Minima) (all : List Word) (u : List ℕ) (v d : ℕ) where
   width_is w number None = refl
   width_is w number (Some ends) = length-map-range_with_len (place_at number w.signs) ends.0 (ends.1 + 1 - ends.0)
 
-  in_words : (ws : List Word) (word b : ℕ) → drop word all ≡ ws → filter_map (place_of m all d) (filter (begins_at all u) (starts_from m word b ws)) ≡ numbers_of (stands ((u, d), v)) b (places_from m (word + 1) ws)
+  in_words : (ws : List Word) (word b : ℕ) → drop word all ≡ ws → filter_map (place_of m all d) (filter (begins_at all u) (starts_from m word b ws))
+      ≡ numbers_of (stands ((u, d), v)) b (places_from m (word + 1) ws)
   in_words [] word b is = refl
   in_words (w ∷ ws) word b is =
       let first : List Start = starts_in word b (length w.signs) in

@@ -18,7 +18,9 @@ start_more first word places at =
     ∙ ap (λ xs. first ++ xs) (sym (map-range_with_len_more (start_at word places) 0 at at (omega arith)))
 
 -- a word more
-pub word_more : (m : Minima) (ws : List Word) (word places : ℕ) (done total : List Start) (w : Word) → slice_get ws word ≡ Some w → done ++ starts_from m word places (drop word ws) ≡ total → (done ++ starts_in word places (length w.signs)) ++ starts_from m (word + 1) (places + place_count m (length w.signs)) (drop (word + 1) ws) ≡ total
+pub word_more : (m : Minima) (ws : List Word) (word places : ℕ) (done total : List Start) (w : Word) → slice_get ws word ≡ Some w → done
+    ++ starts_from m word places (drop word ws) ≡ total → (done ++ starts_in word places (length w.signs))
+    ++ starts_from m (word + 1) (places + place_count m (length w.signs)) (drop (word + 1) ws) ≡ total
 word_more m ws word places done total w at whole =
     append_assoc done (starts_in word places (length w.signs)) (starts_from m (word + 1) (places + place_count m (length w.signs)) (drop (word + 1) ws))
     ∙ ap (λ us. done ++ starts_from m word places us) (sym (drop_word ws word w at))

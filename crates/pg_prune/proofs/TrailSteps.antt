@@ -91,7 +91,8 @@ module _ (ws : List Word) (all : List Start) (u : List ℕ) where
 
   -- the empty string begins at each start
   pub all_begin : All (IsStart ws) all → all ≡ starts_of ws all []
-  all_begin known = filter_all (begins_at ws []) all (λ k d below. let at = (known k d below).at in stands_from [] (signs_of ws (get_or all k d).word) (get_or all k d).at (record { fits = omega (arith, at); signs = refl }))
+  all_begin known = filter_all (begins_at ws []) all (λ k d below. let at = (known k d below).at in
+      stands_from [] (signs_of ws (get_or all k d).word) (get_or all k d).at (record { fits = omega (arith, at); signs = refl }))
 
   -- the last list of a trail
   pub last_trail : (i : ℕ) → All (IsStart ws) all → last_of all (trail_upto ws all u i) ≡ starts_of ws all (take i u)

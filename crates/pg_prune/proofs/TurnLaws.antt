@@ -56,7 +56,8 @@ module _ (t : Turn) (numbers : List ℕ) (value : ℕ) (of : IsOf t numbers valu
   there_some x there =
       let high = value_high in
       let n = get_or (holder_counts (without_entry t) x) (value - 1) 0 in
-      let more : get_or (holder_counts (with_entry t) x) (value - 1) 0 ≡ n + 1 = ap (λ c. get_or c (value - 1) 0) (there_more x there) ∙ get_or-set_same (holder_counts (without_entry t) x) (value - 1) (n + 1) 0 (omega arith) in
+      let more : get_or (holder_counts (with_entry t) x) (value - 1) 0 ≡ n + 1 = ap (λ c. get_or c (value - 1) 0) (there_more x there)
+      ∙ get_or-set_same (holder_counts (without_entry t) x) (value - 1) (n + 1) 0 (omega arith) in
       omega arith
 
   top_with_is : (x : WordPlace) → greatest_value (holder_counts (with_entry t) x) ≡ value_at (with_entry t) x.signs x.position
@@ -65,7 +66,8 @@ module _ (t : Turn) (numbers : List ℕ) (value : ℕ) (of : IsOf t numbers valu
   top_without_is : (x : WordPlace) → greatest_value (holder_counts (without_entry t) x) ≡ value_at (without_entry t) x.signs x.position
   top_without_is x = greatest_value_is (without_entry t) x (sound_without t.before t.entry t.behind of.sound)
 
-  alike_as : (x : WordPlace) (c : List ℕ) → c ≡ holder_counts (without_entry t) x → break_alike_at (with_entry t) (without_entry t) x ≡ nat_eq (greatest_value (holder_counts (with_entry t) x) % 2) (greatest_value c % 2)
+  alike_as : (x : WordPlace) (c : List ℕ) → c ≡ holder_counts (without_entry t) x → break_alike_at (with_entry t) (without_entry t) x
+      ≡ nat_eq (greatest_value (holder_counts (with_entry t) x) % 2) (greatest_value c % 2)
   alike_as x c is =
       ap (λ v. nat_eq (v % 2) (value_at (without_entry t) x.signs x.position % 2)) (sym (top_with_is x))
       ∙ ap (λ v. nat_eq (greatest_value (holder_counts (with_entry t) x) % 2) (v % 2)) (sym (top_without_is x) ∙ ap greatest_value (sym is))
@@ -93,7 +95,8 @@ pub record LookStep (places : List WordPlace) (alike : WordPlace → Bool) (test
   pub next : alike place ≡ true → Looked places alike test ks
   pub found : alike place ≡ false → find (λ x. not (alike x)) places ≡ Some place
 
-find_behind : (alike : WordPlace → Bool) (front : List WordPlace) (x : WordPlace) (more : List WordPlace) → list_all alike front ≡ true → alike x ≡ false → find (λ x. not (alike x)) (front ++ x ∷ more) ≡ Some x
+find_behind : (alike : WordPlace → Bool) (front : List WordPlace) (x : WordPlace) (more : List WordPlace) → list_all alike front ≡ true → alike x ≡ false
+    → find (λ x. not (alike x)) (front ++ x ∷ more) ≡ Some x
 find_behind alike [] x more fine differs = ap (λ b. cond (not b) (Some x) (find (λ x. not (alike x)) more)) differs
 find_behind alike (y ∷ front) x more fine differs =
     ap (λ b. cond (not b) (Some y) (find (λ x. not (alike x)) (front ++ x ∷ more))) (and_first _ _ fine) ∙ find_behind alike front x more (and_second _ _ fine) differs
@@ -135,4 +138,5 @@ module _ (places : List WordPlace) (alike : WordPlace → Bool) (test : WordPlac
 
     pub look_ends : Looked places alike test [] → find (λ x. not (alike x)) places ≡ None
     look_ends w =
-        find_nothing alike places (ap (list_all alike) w.is ∙ list_all-append alike w.front w.back ∙ and_from _ _ w.fine (away_fine alike test away w.back (none_of test (length w.front) w.back (sym w.left_is))))
+        find_nothing alike places (ap (list_all alike) w.is ∙ list_all-append alike w.front w.back
+        ∙ and_from _ _ w.fine (away_fine alike test away w.back (none_of test (length w.front) w.back (sym w.left_is))))

@@ -33,7 +33,8 @@ module _ (t : Turn) (numbers : List ℕ) (value : ℕ) (start : List (List ℕ))
 
   pub off_ends : IsHeld t start numbers value → (held : List (List ℕ)) (i : ℕ) → length numbers ≤ i → Off held (drop i numbers) → held ≡ map (holder_counts (without_entry t)) t.places
   off_ends h held i behind w =
-      walk_ends t.places (holder_counts (with_entry t)) (holder_counts (without_entry t)) (stands t.entry) (away_same t numbers value h.entry) held (subst (λ left. Off held left) (none_left numbers i behind) w)
+      walk_ends t.places (holder_counts (with_entry t)) (holder_counts (without_entry t)) (stands t.entry) (away_same t numbers value h.entry) held
+      (subst (λ left. Off held left) (none_left numbers i behind) w)
 
   -- it is added
   abbrev pub On : List (List ℕ) → List ℕ → Type 0
@@ -45,12 +46,14 @@ module _ (t : Turn) (numbers : List ℕ) (value : ℕ) (start : List (List ℕ))
   pub on_steps : IsAwaited t start numbers value → (held : List (List ℕ)) (i : ℕ) → i < length numbers → On held (drop i numbers)
       → Step t.places (holder_counts (without_entry t)) (holder_counts (with_entry t)) (stands t.entry) held (get_or numbers i 0) (drop (i + 1) numbers)
   on_steps h held i inside w =
-      walk_steps t.places (holder_counts (without_entry t)) (holder_counts (with_entry t)) (stands t.entry) (λ x away. sym (away_same t numbers value h.entry x away)) held (get_or numbers i 0) (drop (i + 1) numbers)
+      walk_steps t.places (holder_counts (without_entry t)) (holder_counts (with_entry t)) (stands t.entry) (λ x away. sym (away_same t numbers value h.entry x away)) held
+      (get_or numbers i 0) (drop (i + 1) numbers)
       (subst (λ left. On held left) (left_at numbers i inside) w)
 
   pub on_ends : IsAwaited t start numbers value → (held : List (List ℕ)) (i : ℕ) → length numbers ≤ i → On held (drop i numbers) → held ≡ map (holder_counts (with_entry t)) t.places
   on_ends h held i behind w =
-      walk_ends t.places (holder_counts (without_entry t)) (holder_counts (with_entry t)) (stands t.entry) (λ x away. sym (away_same t numbers value h.entry x away)) held (subst (λ left. On held left) (none_left numbers i behind) w)
+      walk_ends t.places (holder_counts (without_entry t)) (holder_counts (with_entry t)) (stands t.entry) (λ x away. sym (away_same t numbers value h.entry x away)) held
+      (subst (λ left. On held left) (none_left numbers i behind) w)
 
   -- it is looked at
   abbrev pub Looks : List ℕ → Type 0
@@ -75,6 +78,7 @@ get_or-mapped f (y ∷ ys) zero x inside at d = ap f (at y)
 get_or-mapped f (y ∷ ys) (suc k) x inside at d = get_or-mapped f ys k x (omega arith) at d
 
 -- the holders at a place of the entry
-pub held_at : (t : Turn) (numbers : List ℕ) (value : ℕ) (start : List (List ℕ)) → IsHeld t start numbers value → (k : ℕ) (x : WordPlace) → k < length t.places → ((d : WordPlace) → get_or t.places k d ≡ x)
+pub held_at : (t : Turn) (numbers : List ℕ) (value : ℕ) (start : List (List ℕ)) → IsHeld t start numbers value → (k : ℕ) (x : WordPlace) → k < length t.places
+    → ((d : WordPlace) → get_or t.places k d ≡ x)
     → (d : List ℕ) → get_or start k d ≡ holder_counts (with_entry t) x
 held_at t numbers value start h k x inside at d = ap (λ s. get_or s k d) h.tallied ∙ get_or-mapped (holder_counts (with_entry t)) t.places k x inside at d

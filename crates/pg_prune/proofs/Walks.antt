@@ -29,14 +29,25 @@ next_in test n y ys k ks true there is others =
 next_in test n y ys k ks false away is others =
     let r = others is in
     let fails : not (test y) ≡ true = ap not away in
-    record { gap = y ∷ r.gap; place = r.place; more = r.more; is = ap (λ t. y ∷ t) r.is; fails = and_from _ _ fails r.fails; there = r.there; at = (let at : k ≡ n + 1 + length r.gap = r.at in omega arith); rest = r.rest }
+    record {
+      gap = y ∷ r.gap;
+      place = r.place;
+      more = r.more;
+      is = ap (λ t. y ∷ t) r.is;
+      fails = and_from _ _ fails r.fails;
+      there = r.there;
+      at =
+          (let at : k ≡ n + 1 + length r.gap = r.at in omega arith);
+      rest = r.rest;
+    }
 
 pub next_of : (test : WordPlace → Bool) (n : ℕ) (ys : List WordPlace) (k : ℕ) (ks : List ℕ) → numbers_of test n ys ≡ k ∷ ks → Next test n ys k ks
 next_of test n [] k ks is = absurd (cc)
 next_of test n (y ∷ ys) k ks is = next_in test n y ys k ks (test y) refl is (next_of test (n + 1) ys k ks)
 
 none_in : (test : WordPlace → Bool) (n : ℕ) (y : WordPlace) (ys : List WordPlace) (b : Bool) → test y ≡ b
-    → cond b (n ∷ numbers_of test (n + 1) ys) (numbers_of test (n + 1) ys) ≡ [] → (numbers_of test (n + 1) ys ≡ [] → list_all (λ y. not (test y)) ys ≡ true) → list_all (λ y. not (test y)) (y ∷ ys) ≡ true
+    → cond b (n ∷ numbers_of test (n + 1) ys) (numbers_of test (n + 1) ys) ≡ [] → (numbers_of test (n + 1) ys ≡ [] → list_all (λ y. not (test y)) ys ≡ true)
+    → list_all (λ y. not (test y)) (y ∷ ys) ≡ true
 none_in test n y ys true there is others = absurd (cc)
 none_in test n y ys false away is others = let fails : not (test y) ≡ true = ap not away in and_from _ _ fails (others is)
 
@@ -50,7 +61,8 @@ is_false true e = cc
 is_false false e = refl
 
 -- places that fail have the same in both lists
-pub same_in_gap : {A : Type 0} (test : WordPlace → Bool) (f g : WordPlace → A) → ((x : WordPlace) → test x ≡ false → f x ≡ g x) → (gap : List WordPlace) → list_all (λ y. not (test y)) gap ≡ true → map f gap ≡ map g gap
+pub same_in_gap : {A : Type 0} (test : WordPlace → Bool) (f g : WordPlace → A) → ((x : WordPlace) → test x ≡ false → f x ≡ g x) → (gap : List WordPlace)
+    → list_all (λ y. not (test y)) gap ≡ true → map f gap ≡ map g gap
 same_in_gap test f g same [] fails = refl
 same_in_gap test f g same (y ∷ ys) fails =
     ap (λ h. h ∷ map f ys) (same y (is_false (test y) (and_first _ _ fails))) ∙ ap (λ t. g y ∷ t) (same_in_gap test f g same ys (and_second _ _ fails))
@@ -84,7 +96,8 @@ module _ {A : Type 0} (places : List WordPlace) (f g : WordPlace → A) (test : 
         let whole : places ≡ front ++ n.place ∷ n.more = w.is ∙ ap (λ b. w.front ++ b) n.is ∙ sym (append_assoc w.front n.gap (n.place ∷ n.more)) in
         let behind : map f w.back ≡ map f n.gap ++ f n.place ∷ map f n.more = ap (map f) n.is ∙ map-append f n.gap (n.place ∷ n.more) in
         let written : map g w.front ++ map f n.gap ≡ map g front = ap (λ t. map g w.front ++ t) (same_in_gap test f g same n.gap n.fails) ∙ sym (map-append g w.front n.gap) in
-        let held_is : held ≡ map g front ++ f n.place ∷ map f n.more = w.held_is ∙ ap (λ t. map g w.front ++ t) behind ∙ sym (append_assoc (map g w.front) (map f n.gap) (f n.place ∷ map f n.more)) ∙ ap (λ t. t ++ f n.place ∷ map f n.more) written in
+        let held_is : held ≡ map g front ++ f n.place ∷ map f n.more = w.held_is ∙ ap (λ t. map g w.front ++ t) behind
+        ∙ sym (append_assoc (map g w.front) (map f n.gap) (f n.place ∷ map f n.more)) ∙ ap (λ t. t ++ f n.place ∷ map f n.more) written in
         let k_is : k ≡ length front = n.at ∙ sym (length-append w.front n.gap) in
         let k_at : k ≡ length (map g front) = k_is ∙ sym (length-map front g) in
         record {
@@ -98,7 +111,8 @@ module _ {A : Type 0} (places : List WordPlace) (f g : WordPlace → A) (test : 
             back = n.more;
             is = whole ∙ sym (append_assoc front (n.place ∷ []) n.more);
             held_is = ap (λ h. set h k new) held_is ∙ ap (λ j. set (map g front ++ f n.place ∷ map f n.more) j new) k_at ∙ set-append_seam (map g front) (f n.place) (map f n.more) new
-                ∙ ap (λ h. map g front ++ h ∷ map f n.more) is ∙ sym (append_assoc (map g front) (g n.place ∷ []) (map f n.more)) ∙ ap (λ t. t ++ map f n.more) (sym (map-append g front (n.place ∷ [])));
+                ∙ ap (λ h. map g front ++ h ∷ map f n.more) is ∙ sym (append_assoc (map g front) (g n.place ∷ []) (map f n.more))
+                ∙ ap (λ t. t ++ map f n.more) (sym (map-append g front (n.place ∷ [])));
             left_is = n.rest ∙ ap (λ j. numbers_of test j n.more) (let many = length-append front (n.place ∷ []) in omega (arith, many));
           };
         }

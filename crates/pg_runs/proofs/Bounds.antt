@@ -22,10 +22,12 @@ at : (counts : Counts) (n : ℕ) → AreAtMost counts n → (u : List ℕ) → A
 at counts n low u = (low.good u, low.bad u)
 
 -- a weight adds at most itself to each sum
-after : (counts : Counts) (window : List ℕ) (good : Bool) (weight n k : ℕ) → weight ≤ k → AreAtMost counts n → (u : List ℕ) → AtMost (n + k) (sums_of (with_position counts (record { window = window; good = good; weight = weight })) u)
+after : (counts : Counts) (window : List ℕ) (good : Bool) (weight n k : ℕ) → weight ≤ k → AreAtMost counts n → (u : List ℕ)
+    → AtMost (n + k) (sums_of (with_position counts (record { window = window; good = good; weight = weight })) u)
 after counts window good weight n k small low u =
     let sums = with_weight (sums_of counts window) good weight in
-    let there : sums_of (with_position counts (record { window = window; good = good; weight = weight })) u ≡ unwrap_or (cond (eq_by_cmp (slice_cmp nat_cmp) u window) (Some sums) (find (slice_cmp nat_cmp) u counts)) (0, 0) =
+    let there : sums_of (with_position counts (record { window = window; good = good; weight = weight })) u
+    ≡ unwrap_or (cond (eq_by_cmp (slice_cmp nat_cmp) u window) (Some sums) (find (slice_cmp nat_cmp) u counts)) (0, 0) =
     ap (λ o. unwrap_or o (0, 0)) (find-put (slice_cmp nat_cmp) nat_list_cmp_total u window sums counts) in
     subst (AtMost (n + k)) (sym there) (by_window (eq_by_cmp (slice_cmp nat_cmp) u window))
   where
@@ -34,10 +36,13 @@ after counts window good weight n k small low u =
     by_window false = same n k (sums_of counts u) (at counts n low u)
 
 -- the sums after a window is counted
-pub bound_more : (counts new : Counts) (window : List ℕ) (good : Bool) (weight n k m : ℕ) → weight ≤ k → n + k ≤ m → AreAtMost counts n → new ≡ with_position counts (record { window = window; good = good; weight = weight }) → AreAtMost new m
+pub bound_more : (counts new : Counts) (window : List ℕ) (good : Bool) (weight n k m : ℕ) → weight ≤ k → n + k ≤ m → AreAtMost counts n → new
+    ≡ with_position counts (record { window = window; good = good; weight = weight }) → AreAtMost new m
 bound_more counts new window good weight n k m small within low is =
     let P : Counts → Type 0 = λ cs. AreAtMost cs m in
     subst P (sym is) (record {
-      good = λ u. let first : AtMost (n + k) (sums_of (with_position counts (record { window = window; good = good; weight = weight })) u) = after counts window good weight n k small low u in omega (arith, first.0);
-      bad = λ u. let first : AtMost (n + k) (sums_of (with_position counts (record { window = window; good = good; weight = weight })) u) = after counts window good weight n k small low u in omega (arith, first.1);
+      good = λ u. let first : AtMost (n + k) (sums_of (with_position counts (record { window = window; good = good; weight = weight })) u) =
+          after counts window good weight n k small low u in omega (arith, first.0);
+      bad = λ u. let first : AtMost (n + k) (sums_of (with_position counts (record { window = window; good = good; weight = weight })) u) =
+          after counts window good weight n k small low u in omega (arith, first.1);
     })

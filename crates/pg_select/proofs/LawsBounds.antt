@@ -44,9 +44,11 @@ pub up_to_raised : (level dot n : ℕ) (P : Patterns) (cs : List Candidate) → 
 up_to_raised level dot n P [] within upto = upto
 up_to_raised level dot n P (c ∷ cs) within upto =
     let low : value_of P (c.window, dot) ≤ n = value_up_to n (c.window, dot) P upto in
-    up_to_raised level dot n (raise P (c.window, dot) level) cs within (all_put (λ (e : (List ℕ × ℕ) × ℕ). nat_le e.1 n) (c.window, dot) (max level (value_of P (c.window, dot))) P (le-leb (max level (value_of P (c.window, dot))) n (omega arith)) upto)
+    up_to_raised level dot n (raise P (c.window, dot) level) cs within
+    (all_put (λ (e : (List ℕ × ℕ) × ℕ). nat_le e.1 n) (c.window, dot) (max level (value_of P (c.window, dot))) P (le-leb (max level (value_of P (c.window, dot))) n (omega arith)) upto)
 
-pub up_to_after : (m : Minima) (words : List Word) (pass : Pass) (P : Patterns) (H : Hopeless) (raised : Candidate → Bool) (n : ℕ) → pass.level ≤ n → IsUpTo n P → IsUpTo n (patterns_after_pass m words pass P H raised)
+pub up_to_after : (m : Minima) (words : List Word) (pass : Pass) (P : Patterns) (H : Hopeless) (raised : Candidate → Bool) (n : ℕ) → pass.level ≤ n
+    → IsUpTo n P → IsUpTo n (patterns_after_pass m words pass P H raised)
 up_to_after m words pass P H raised n within upto = up_to_raised pass.level pass.dot n P (filter raised (tally (counted_positions m words pass P H))) within upto
 
 -- no string that covers is longer than the length, through a pass of the length
@@ -60,17 +62,21 @@ short_raised level dot len P (c ∷ cs) long short =
     (all_put (λ (e : (List ℕ × ℕ) × ℕ). not (nat_le level e.1) || nat_le (length e.0.0) len) (c.window, dot) (max level (value_of P (c.window, dot))) P
     (or_right (not (nat_le level (max level (value_of P (c.window, dot))))) (nat_le (length c.window) len) (le-leb (length c.window) len (omega arith))) short)
 
-short_hopeless : (dot len : ℕ) (H : Hopeless) (cs : List Candidate) → AreLong len cs → list_all (λ (e : (List ℕ × ℕ) × Unit {0}). nat_le (length e.0.0) len) H ≡ true → list_all (λ (e : (List ℕ × ℕ) × Unit {0}). nat_le (length e.0.0) len) (hopeless_all dot H cs) ≡ true
+short_hopeless : (dot len : ℕ) (H : Hopeless) (cs : List Candidate) → AreLong len cs → list_all (λ (e : (List ℕ × ℕ) × Unit {0}). nat_le (length e.0.0) len) H
+    ≡ true → list_all (λ (e : (List ℕ × ℕ) × Unit {0}). nat_le (length e.0.0) len) (hopeless_all dot H cs) ≡ true
 short_hopeless dot len H [] long short = short
 short_hopeless dot len H (c ∷ cs) long short =
     let parts = and_parts (nat_eq (length c.window) len) (list_all (λ (x : Candidate). nat_eq (length x.window) len) cs) long in
     let size : length c.window ≡ len = eqb-true (length c.window) len parts.0 in
-    short_hopeless dot len (put dotted_cmp (c.window, dot) (tt {0}) H) cs parts.1 (all_put (λ (e : (List ℕ × ℕ) × Unit {0}). nat_le (length e.0.0) len) (c.window, dot) (tt {0}) H (le-leb (length c.window) len (omega arith)) short)
+    short_hopeless dot len (put dotted_cmp (c.window, dot) (tt {0}) H) cs parts.1
+    (all_put (λ (e : (List ℕ × ℕ) × Unit {0}). nat_le (length e.0.0) len) (c.window, dot) (tt {0}) H (le-leb (length c.window) len (omega arith)) short)
 
 pub covers_up_to_longer : (level len : ℕ) (P : Patterns) (H : Hopeless) → CoversUpTo level len P H → CoversUpTo level (len + 1) P H
 covers_up_to_longer level len P H short = record {
-  patterns = all_weaker (λ (e : (List ℕ × ℕ) × ℕ). not (nat_le level e.1) || nat_le (length e.0.0) len) (λ (e : (List ℕ × ℕ) × ℕ). not (nat_le level e.1) || nat_le (length e.0.0) (len + 1)) (λ e is. either (not (nat_le level e.1)) (nat_le (length e.0.0) len) (nat_le (length e.0.0) (len + 1)) (upto (length e.0.0)) is) P short.patterns;
-  hopeless = all_weaker (λ (e : (List ℕ × ℕ) × Unit {0}). nat_le (length e.0.0) len) (λ (e : (List ℕ × ℕ) × Unit {0}). nat_le (length e.0.0) (len + 1)) (λ e is. upto (length e.0.0) is) H short.hopeless;
+  patterns = all_weaker (λ (e : (List ℕ × ℕ) × ℕ). not (nat_le level e.1) || nat_le (length e.0.0) len) (λ (e : (List ℕ × ℕ) × ℕ). not (nat_le level e.1) || nat_le (length e.0.0) (len + 1))
+      (λ e is. either (not (nat_le level e.1)) (nat_le (length e.0.0) len) (nat_le (length e.0.0) (len + 1)) (upto (length e.0.0)) is) P short.patterns;
+  hopeless = all_weaker (λ (e : (List ℕ × ℕ) × Unit {0}). nat_le (length e.0.0) len) (λ (e : (List ℕ × ℕ) × Unit {0}). nat_le (length e.0.0) (len + 1))
+      (λ e is. upto (length e.0.0) is) H short.hopeless;
 }
   where
     upto : (n : ℕ) → nat_le n len ≡ true → nat_le n (len + 1) ≡ true
@@ -90,7 +96,8 @@ covers_up_to_after m words pass P H raised hopeless short = record {
 -- at a level's start nothing covers
 pub covers_up_to_at_start : (level len : ℕ) (P : Patterns) → IsBelow level P → CoversUpTo level len P []
 covers_up_to_at_start level len P below = record {
-  patterns = all_weaker (λ (e : (List ℕ × ℕ) × ℕ). not (nat_le level e.1)) (λ (e : (List ℕ × ℕ) × ℕ). not (nat_le level e.1) || nat_le (length e.0.0) len) (λ e is. first (not (nat_le level e.1)) (nat_le (length e.0.0) len) is) P below;
+  patterns = all_weaker (λ (e : (List ℕ × ℕ) × ℕ). not (nat_le level e.1)) (λ (e : (List ℕ × ℕ) × ℕ). not (nat_le level e.1) || nat_le (length e.0.0) len)
+      (λ e is. first (not (nat_le level e.1)) (nat_le (length e.0.0) len) is) P below;
   hopeless = refl;
 }
   where
@@ -119,8 +126,10 @@ next_is_below level P upto = all_weaker (λ (e : (List ℕ × ℕ) × ℕ). nat_
 
 -- the greatest value is the least that all are up to
 pub up_to_more : (n k : ℕ) (P : Patterns) → n ≤ k → IsUpTo n P → IsUpTo k P
-up_to_more n k P more upto = all_weaker (λ (e : (List ℕ × ℕ) × ℕ). nat_le e.1 n) (λ (e : (List ℕ × ℕ) × ℕ). nat_le e.1 k) (λ e is. let low : e.1 ≤ n = leb-true e.1 n is in le-leb e.1 k (omega arith)) P upto
+up_to_more n k P more upto = all_weaker (λ (e : (List ℕ × ℕ) × ℕ). nat_le e.1 n) (λ (e : (List ℕ × ℕ) × ℕ). nat_le e.1 k)
+    (λ e is. let low : e.1 ≤ n = leb-true e.1 n is in le-leb e.1 k (omega arith)) P upto
 
 pub up_to_largest : (P : Patterns) → IsUpTo (largest P) P
 up_to_largest [] = refl
-up_to_largest (e ∷ es) = and_from (nat_le e.1 (largest (e ∷ es))) (list_all (λ (x : (List ℕ × ℕ) × ℕ). nat_le x.1 (largest (e ∷ es))) es) (le-leb e.1 (largest (e ∷ es)) (omega arith)) (up_to_more (largest es) (largest (e ∷ es)) es (omega arith) (up_to_largest es))
+up_to_largest (e ∷ es) = and_from (nat_le e.1 (largest (e ∷ es))) (list_all (λ (x : (List ℕ × ℕ) × ℕ). nat_le x.1 (largest (e ∷ es))) es)
+    (le-leb e.1 (largest (e ∷ es)) (omega arith)) (up_to_more (largest es) (largest (e ∷ es)) es (omega arith) (up_to_largest es))

@@ -25,10 +25,12 @@ use Rattle.pg_select.specs.Inside.WordCounts.{counted_positions_in}
 use Rattle.pg_select.proofs.LawsTally.{cmp, window_exact, counted_as}
 
 -- a test of all windows with one more
-all_put : (test : List ℕ → Bool) (u : List ℕ) (windows : List (List ℕ × Unit {0})) → list_all (λ (e : List ℕ × Unit {0}). test e.0) (put cmp u (tt {0}) windows) ≡ (test u && list_all (λ (e : List ℕ × Unit {0}). test e.0) windows)
+all_put : (test : List ℕ → Bool) (u : List ℕ) (windows : List (List ℕ × Unit {0})) → list_all (λ (e : List ℕ × Unit {0}). test e.0) (put cmp u (tt {0}) windows)
+    ≡ (test u && list_all (λ (e : List ℕ × Unit {0}). test e.0) windows)
 all_put test u [] = refl
 all_put test u (e ∷ es) =
-    elim (cmp u e.0) as (λ (r : Ordering). cmp u e.0 ≡ r → list_all (λ (x : List ℕ × Unit {0}). test x.0) (by_order r ((u, tt {0}) ∷ e ∷ es) ((e.0, tt {0}) ∷ es) (e ∷ put cmp u (tt {0}) es)) ≡ (test u && (test e.0 && list_all (λ (x : List ℕ × Unit {0}). test x.0) es))) [
+    elim (cmp u e.0) as (λ (r : Ordering). cmp u e.0 ≡ r → list_all (λ (x : List ℕ × Unit {0}). test x.0) (by_order r ((u, tt {0}) ∷ e ∷ es) ((e.0, tt {0}) ∷ es) (e ∷ put cmp u (tt {0}) es))
+    ≡ (test u && (test e.0 && list_all (λ (x : List ℕ × Unit {0}). test x.0) es))) [
       | Less ↦ λ r. refl
       | Equal ↦ λ r. twice (test u) (test e.0) (list_all (λ (x : List ℕ × Unit {0}). test x.0) es) (ap test (window_exact u e.0 r))
       | Greater ↦ λ r. ap (λ b. test e.0 && b) (all_put test u es) ∙ turned (test e.0) (test u) (list_all (λ (x : List ℕ × Unit {0}). test x.0) es)
@@ -44,7 +46,8 @@ all_put test u (e ∷ es) =
     turned false true c = refl
     turned false false c = refl
 
-all_windows : (test : List ℕ → Bool) (windows : List (List ℕ × Unit {0})) (counted : List CountedPosition) → list_all (λ (e : List ℕ × Unit {0}). test e.0) (fold with_window windows counted) ≡ (list_all (λ (e : List ℕ × Unit {0}). test e.0) windows && list_all (λ (s : CountedPosition). test s.window) counted)
+all_windows : (test : List ℕ → Bool) (windows : List (List ℕ × Unit {0})) (counted : List CountedPosition) → list_all (λ (e : List ℕ × Unit {0}). test e.0) (fold with_window windows counted)
+    ≡ (list_all (λ (e : List ℕ × Unit {0}). test e.0) windows && list_all (λ (s : CountedPosition). test s.window) counted)
 all_windows test windows [] = and_true (list_all (λ (e : List ℕ × Unit {0}). test e.0) windows)
   where
     and_true : (b : Bool) → b ≡ (b && true)
@@ -76,7 +79,8 @@ itself (x ∷ xs) = and_from (nat_eq x x) (pointwise nat_eq xs xs) (eq-eqb x x r
 pub applies_itself : (u : List ℕ) (d : ℕ) → applies u d (u, d) ≡ true
 applies_itself u d =
     let none : d - d ≡ 0 = omega arith in
-    let start : stands_at u u 0 ≡ true = and_from (nat_le (0 + length u) (length u)) (pointwise nat_eq u (take (length u) u)) (le-leb (0 + length u) (length u) (omega arith)) (ap (pointwise nat_eq u) (take_all (length u) u (omega arith)) ∙ itself u) in
+    let start : stands_at u u 0 ≡ true = and_from (nat_le (0 + length u) (length u)) (pointwise nat_eq u (take (length u) u)) (le-leb (0 + length u) (length u) (omega arith))
+    (ap (pointwise nat_eq u) (take_all (length u) u (omega arith)) ∙ itself u) in
     and_from (nat_le d d) (stands_at u u (d - d)) (le-leb d d (omega arith)) (ap (stands_at u u) none ∙ start)
 
 below : (level : ℕ) (P : List ((List ℕ × ℕ) × ℕ)) (u : List ℕ) (d : ℕ) → 1 ≤ level → list_any (λ (e : (List ℕ × ℕ) × ℕ). nat_le level e.1 && applies u d e.0) P ≡ false → value_of P (u, d) < level
@@ -96,7 +100,8 @@ below level (e ∷ es) u d low none =
 
 -- a window that is not covered has a value below the level
 pub low_uncovered : (level : ℕ) (P : List ((List ℕ × ℕ) × ℕ)) (H : Hopeless) (u : List ℕ) (d : ℕ) → 1 ≤ level → is_covered level P H u d ≡ false → value_of P (u, d) < level
-low_uncovered level P H u d low none = below level P u d low (or_parts (list_any (λ (e : (List ℕ × ℕ) × ℕ). nat_le level e.1 && applies u d e.0) P) (list_any (λ (e : (List ℕ × ℕ) × Unit {0}). applies u d e.0) H) none).0
+low_uncovered level P H u d low none = below level P u d low (or_parts (list_any (λ (e : (List ℕ × ℕ) × ℕ). nat_le level e.1 && applies u d e.0) P)
+    (list_any (λ (e : (List ℕ × ℕ) × Unit {0}). applies u d e.0) H) none).0
 
 -- what holds of all parts holds of the whole
 pub all_flat : {X Y : Type 0} (test : Y → Bool) (f : X → List Y) (xs : List X) → ((x : X) → list_all test (f x) ≡ true) → list_all test (flat_map f xs) ≡ true
@@ -104,7 +109,8 @@ all_flat test f [] each = refl
 all_flat test f (x ∷ xs) each = list_all-append test (f x) (flat_map f xs) ∙ and_from (list_all test (f x)) (list_all test (flat_map f xs)) (each x) (all_flat test f xs each)
 
 -- what holds of the windows that are not covered holds of those that are counted
-pub all_seen : (test : List ℕ → Bool) (m : Minima) (words : List Word) (pass : Pass) (P : List ((List ℕ × ℕ) × ℕ)) (H : Hopeless) → ((u : List ℕ) → is_covered pass.level P H u pass.dot ≡ false → test u ≡ true) → list_all (λ (s : CountedPosition). test s.window) (counted_positions m words pass P H) ≡ true
+pub all_seen : (test : List ℕ → Bool) (m : Minima) (words : List Word) (pass : Pass) (P : List ((List ℕ × ℕ) × ℕ)) (H : Hopeless)
+    → ((u : List ℕ) → is_covered pass.level P H u pass.dot ≡ false → test u ≡ true) → list_all (λ (s : CountedPosition). test s.window) (counted_positions m words pass P H) ≡ true
 all_seen test m words pass P H each =
     all_flat (λ (s : CountedPosition). test s.window) (counted_positions_in m pass P H) words (λ w.
     all_flat (λ (s : CountedPosition). test s.window) (counted_positions_at pass P H w) (positions m.left m.right (length w.signs)) (λ p. at w p))
@@ -117,14 +123,17 @@ all_seen test m words pass P H each =
 
     at : (w : Word) (p : ℕ) → list_all (λ (s : CountedPosition). test s.window) (counted_positions_at pass P H w p) ≡ true
     at w p =
-        by_test (window w.signs p pass.len pass.dot) (position_weight w p) (fits w.signs p pass.len pass.dot) (is_covered pass.level P H (window w.signs p pass.len pass.dot) pass.dot) (counts_as pass.level (status_at P w p)) (each (window w.signs p pass.len pass.dot))
+        by_test (window w.signs p pass.len pass.dot) (position_weight w p) (fits w.signs p pass.len pass.dot) (is_covered pass.level P H (window w.signs p pass.len pass.dot) pass.dot)
+        (counts_as pass.level (status_at P w p)) (each (window w.signs p pass.len pass.dot))
 
 -- so each candidate has at the dot a value below the level
-pub candidates_are_low : (m : Minima) (words : List Word) (pass : Pass) (P : List ((List ℕ × ℕ) × ℕ)) (H : Hopeless) → 1 ≤ pass.level → All (λ u. value_of P (u, pass.dot) < pass.level) (candidates (counted_positions m words pass P H))
+pub candidates_are_low : (m : Minima) (words : List Word) (pass : Pass) (P : List ((List ℕ × ℕ) × ℕ)) (H : Hopeless) → 1 ≤ pass.level
+    → All (λ u. value_of P (u, pass.dot) < pass.level) (candidates (counted_positions m words pass P H))
 candidates_are_low m words pass P H low i d inside =
     let all : list_all (λ (u : List ℕ). nat_lt (value_of P (u, pass.dot)) pass.level) (candidates (counted_positions m words pass P H)) ≡ true =
     all_candidates (λ (u : List ℕ). nat_lt (value_of P (u, pass.dot)) pass.level) (counted_positions m words pass P H)
-    ∙ all_seen (λ (u : List ℕ). nat_lt (value_of P (u, pass.dot)) pass.level) m words pass P H (λ u none. lt-ltb (value_of P (u, pass.dot)) pass.level (low_uncovered pass.level P H u pass.dot low none)) in
+    ∙ all_seen (λ (u : List ℕ). nat_lt (value_of P (u, pass.dot)) pass.level) m words pass P H
+    (λ u none. lt-ltb (value_of P (u, pass.dot)) pass.level (low_uncovered pass.level P H u pass.dot low none)) in
     ltb-true _ pass.level (AllPass-from_list_all (λ (u : List ℕ). nat_lt (value_of P (u, pass.dot)) pass.level) (candidates (counted_positions m words pass P H)) all i d inside)
 
 -- a place is the same as itself
@@ -132,7 +141,8 @@ same_itself : (k : List ℕ × ℕ) → same_dotted k k ≡ true
 same_itself k = and_from (pointwise nat_eq k.0 k.0) (nat_eq k.1 k.1) (itself k.0) (eq-eqb k.1 k.1 refl)
 
 -- and gets exactly the level when it is chosen
-pub chosen_get_level : (m : Minima) (words : List Word) (pass : Pass) (P : List ((List ℕ × ℕ) × ℕ)) (H : Hopeless) → 1 ≤ pass.level → All (λ u. value_of (raise P (u, pass.dot) pass.level) (u, pass.dot) ≡ pass.level) (candidates (counted_positions m words pass P H))
+pub chosen_get_level : (m : Minima) (words : List Word) (pass : Pass) (P : List ((List ℕ × ℕ) × ℕ)) (H : Hopeless) → 1 ≤ pass.level
+    → All (λ u. value_of (raise P (u, pass.dot) pass.level) (u, pass.dot) ≡ pass.level) (candidates (counted_positions m words pass P H))
 chosen_get_level m words pass P H low i d inside = gets _ (candidates_are_low m words pass P H low i d inside)
   where
     greater : (a b : ℕ) → a < b → max b a ≡ b

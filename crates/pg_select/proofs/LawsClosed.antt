@@ -25,17 +25,20 @@ use Rattle.pg_select.proofs.LawsLater.{later_at_once, later_still, later_raised,
 later_all_raised : (level dot : ℕ) (P : List ((List ℕ × ℕ) × ℕ)) (H : Hopeless) (cs : List Candidate) → Later level P H (raised_all level dot P cs) H
 later_all_raised level dot P H [] = later_at_once level P H
 later_all_raised level dot P H (c ∷ cs) =
-    later_still level P (raise P (c.window, dot) level) (raised_all level dot (raise P (c.window, dot) level) cs) H H H (later_raised level P H (c.window, dot)) (later_all_raised level dot (raise P (c.window, dot) level) H cs)
+    later_still level P (raise P (c.window, dot) level) (raised_all level dot (raise P (c.window, dot) level) cs) H H H (later_raised level P H (c.window, dot))
+    (later_all_raised level dot (raise P (c.window, dot) level) H cs)
 
 later_all_hopeless : (level dot : ℕ) (P : List ((List ℕ × ℕ) × ℕ)) (H : Hopeless) (cs : List Candidate) → Later level P H P (hopeless_all dot H cs)
 later_all_hopeless level dot P H [] = later_at_once level P H
 later_all_hopeless level dot P H (c ∷ cs) =
-    later_still level P P P H (put dotted_cmp (c.window, dot) (tt {0}) H) (hopeless_all dot (put dotted_cmp (c.window, dot) (tt {0}) H) cs) (later_hopeless level P H (c.window, dot)) (later_all_hopeless level dot P (put dotted_cmp (c.window, dot) (tt {0}) H) cs)
+    later_still level P P P H (put dotted_cmp (c.window, dot) (tt {0}) H) (hopeless_all dot (put dotted_cmp (c.window, dot) (tt {0}) H) cs)
+    (later_hopeless level P H (c.window, dot)) (later_all_hopeless level dot P (put dotted_cmp (c.window, dot) (tt {0}) H) cs)
 
 -- a pass leads to a later point
 pub later_after_pass : (level dot : ℕ) (P : List ((List ℕ × ℕ) × ℕ)) (H : Hopeless) (raised hopeless : List Candidate) → Later level P H (raised_all level dot P raised) (hopeless_all dot H hopeless)
 later_after_pass level dot P H raised hopeless =
-    later_still level P (raised_all level dot P raised) (raised_all level dot P raised) H H (hopeless_all dot H hopeless) (later_all_raised level dot P H raised) (later_all_hopeless level dot (raised_all level dot P raised) H hopeless)
+    later_still level P (raised_all level dot P raised) (raised_all level dot P raised) H H (hopeless_all dot H hopeless) (later_all_raised level dot P H raised)
+    (later_all_hopeless level dot (raised_all level dot P raised) H hopeless)
 
 -- a window is that of one of the candidates
 abbrev pub is_among : List ℕ → List Candidate → Bool
@@ -46,7 +49,8 @@ stands_same : (u v : List ℕ) (dot : ℕ) → same_signs u v ≡ true → appli
 stands_same u v dot same = ap (λ (x : List ℕ). applies u dot (x, dot)) (sym (same_window u v same)) ∙ applies_itself u dot
 
 -- each window that was raised is covered
-covered_all_raised : (level dot : ℕ) (P : List ((List ℕ × ℕ) × ℕ)) (H : Hopeless) (u : List ℕ) (cs : List Candidate) → is_among u cs ≡ true → is_covered level (raised_all level dot P cs) H u dot ≡ true
+covered_all_raised : (level dot : ℕ) (P : List ((List ℕ × ℕ) × ℕ)) (H : Hopeless) (u : List ℕ) (cs : List Candidate) → is_among u cs ≡ true
+    → is_covered level (raised_all level dot P cs) H u dot ≡ true
 covered_all_raised level dot P H u [] among = cc
 covered_all_raised level dot P H u (c ∷ cs) among =
     ⊎_elim
@@ -66,7 +70,8 @@ covered_all_hopeless level dot P H u (c ∷ cs) among =
     (or_cases (same_signs u c.window) (is_among u cs) among)
 
 -- what is counted of a window passes a test that fails where the window is counted still
-seen_tested : (test : List ℕ → Bool) (u : List ℕ) (x : ℕ) (o r : Option Bool) → ((g : Bool) → r ≡ Some g → o ≡ Some g) → ((g : Bool) → r ≡ Some g → test u ≡ false) → list_all (λ (s : CountedPosition). test s.window) (counted_as u x o) ≡ true → counted_as u x r ≡ []
+seen_tested : (test : List ℕ → Bool) (u : List ℕ) (x : ℕ) (o r : Option Bool) → ((g : Bool) → r ≡ Some g → o ≡ Some g) → ((g : Bool) → r ≡ Some g → test u ≡ false)
+    → list_all (λ (s : CountedPosition). test s.window) (counted_as u x o) ≡ true → counted_as u x r ≡ []
 seen_tested test u x o None back fails all = refl
 seen_tested test u x None (Some g) back fails all = cc (back g refl)
 seen_tested test u x (Some h) (Some g) back fails all = cc (fails g refl, (and_parts (test u) true all).0)
@@ -93,7 +98,8 @@ closed_when_covered m words pass P P' H H' later all =
     uncovered : (w : Word) (p : ℕ) (g : Bool) → counted_at pass P' H' w p ≡ Some g → is_covered pass.level P' H' (window w.signs p pass.len pass.dot) pass.dot ≡ false
     uncovered w p g is =
         let parts = some_parts (fits w.signs p pass.len pass.dot && not (is_covered pass.level P' H' (window w.signs p pass.len pass.dot) pass.dot)) (counts_as pass.level (status_at P' w p)) g is in
-        not-true (is_covered pass.level P' H' (window w.signs p pass.len pass.dot) pass.dot) (and_parts (fits w.signs p pass.len pass.dot) (not (is_covered pass.level P' H' (window w.signs p pass.len pass.dot) pass.dot)) parts.0).1
+        not-true (is_covered pass.level P' H' (window w.signs p pass.len pass.dot) pass.dot)
+        (and_parts (fits w.signs p pass.len pass.dot) (not (is_covered pass.level P' H' (window w.signs p pass.len pass.dot) pass.dot)) parts.0).1
 
 pub all_weaker : {X : Type 0} (t s : X → Bool) → ((x : X) → t x ≡ true → s x ≡ true) → (xs : List X) → list_all t xs ≡ true → list_all s xs ≡ true
 all_weaker t s more [] all = refl
@@ -129,15 +135,18 @@ all_decided raised hopeless (c ∷ cs) all =
     more : (x : Candidate) → is_decided raised hopeless cs x ≡ true → is_decided raised hopeless (c ∷ cs) x ≡ true
     more x decided =
         ⊎_elim
-        (λ (among : is_among x.window (filter raised cs) ≡ true). or_left (is_among x.window (filter raised (c ∷ cs))) (is_among x.window (filter hopeless (c ∷ cs))) (among_more raised x.window c cs among))
-        (λ (among : is_among x.window (filter hopeless cs) ≡ true). or_right (is_among x.window (filter raised (c ∷ cs))) (is_among x.window (filter hopeless (c ∷ cs))) (among_more hopeless x.window c cs among))
+        (λ (among : is_among x.window (filter raised cs) ≡ true). or_left (is_among x.window (filter raised (c ∷ cs))) (is_among x.window (filter hopeless (c ∷ cs)))
+        (among_more raised x.window c cs among))
+        (λ (among : is_among x.window (filter hopeless cs) ≡ true). or_right (is_among x.window (filter raised (c ∷ cs))) (is_among x.window (filter hopeless (c ∷ cs)))
+        (among_more hopeless x.window c cs among))
         (or_cases (is_among x.window (filter raised cs)) (is_among x.window (filter hopeless cs)) decided)
 
 -- candidates that were each raised or made hopeless are covered
 decided_covered : (level dot : ℕ) (P : List ((List ℕ × ℕ) × ℕ)) (H : Hopeless) (raised hopeless : Candidate → Bool) (cs : List Candidate) → list_all (λ c. raised c || hopeless c) cs ≡ true
     → list_all (λ c. is_covered level (raised_all level dot P (filter raised cs)) (hopeless_all dot H (filter hopeless cs)) c.window dot) cs ≡ true
 decided_covered level dot P H raised hopeless cs all =
-    all_weaker (is_decided raised hopeless cs) (λ (c : Candidate). is_covered level (raised_all level dot P (filter raised cs)) (hopeless_all dot H (filter hopeless cs)) c.window dot) (λ c decided. covers c decided) cs (all_decided raised hopeless cs all)
+    all_weaker (is_decided raised hopeless cs) (λ (c : Candidate). is_covered level (raised_all level dot P (filter raised cs)) (hopeless_all dot H (filter hopeless cs)) c.window dot)
+    (λ c decided. covers c decided) cs (all_decided raised hopeless cs all)
   where
     covers : (c : Candidate) → is_decided raised hopeless cs c ≡ true → is_covered level (raised_all level dot P (filter raised cs)) (hopeless_all dot H (filter hopeless cs)) c.window dot ≡ true
     covers c decided =
@@ -147,18 +156,25 @@ decided_covered level dot P H raised hopeless cs all =
         (λ (among : is_among c.window (filter hopeless cs) ≡ true). covered_all_hopeless level dot (raised_all level dot P (filter raised cs)) H c.window (filter hopeless cs) among)
         (or_cases (is_among c.window (filter raised cs)) (is_among c.window (filter hopeless cs)) decided)
 
-windows_of : (test : List ℕ → Bool) (counted : List CountedPosition) (us : List (List ℕ)) → list_all (λ (c : Candidate). test c.window) (map (λ (u : List ℕ). record { window = u; good = good_of counted u; bad = bad_of counted u }) us) ≡ list_all test us
+windows_of : (test : List ℕ → Bool) (counted : List CountedPosition) (us : List (List ℕ))
+    → list_all (λ (c : Candidate). test c.window) (map (λ (u : List ℕ). record { window = u; good = good_of counted u; bad = bad_of counted u }) us) ≡ list_all test us
 windows_of test counted [] = refl
 windows_of test counted (u ∷ us) = ap (λ b. test u && b) (windows_of test counted us)
 
 -- a pass of which each candidate was raised or made hopeless counts nothing afterwards
-pub closed_at_end : (m : Minima) (words : List Word) (pass : Pass) (P : List ((List ℕ × ℕ) × ℕ)) (H : Hopeless) (raised hopeless : Candidate → Bool) → list_all (λ c. raised c || hopeless c) (tally (counted_positions m words pass P H)) ≡ true
-    → counted_positions m words pass (raised_all pass.level pass.dot P (filter raised (tally (counted_positions m words pass P H)))) (hopeless_all pass.dot H (filter hopeless (tally (counted_positions m words pass P H)))) ≡ []
+pub closed_at_end : (m : Minima) (words : List Word) (pass : Pass) (P : List ((List ℕ × ℕ) × ℕ)) (H : Hopeless) (raised hopeless : Candidate → Bool)
+    → list_all (λ c. raised c || hopeless c) (tally (counted_positions m words pass P H)) ≡ true
+    → counted_positions m words pass (raised_all pass.level pass.dot P (filter raised (tally (counted_positions m words pass P H))))
+    (hopeless_all pass.dot H (filter hopeless (tally (counted_positions m words pass P H)))) ≡ []
 closed_at_end m words pass P H raised hopeless all = from (tally (counted_positions m words pass P H)) refl all
   where
-    from : (cs : List Candidate) → tally (counted_positions m words pass P H) ≡ cs → list_all (λ c. raised c || hopeless c) cs ≡ true → counted_positions m words pass (raised_all pass.level pass.dot P (filter raised cs)) (hopeless_all pass.dot H (filter hopeless cs)) ≡ []
+    from : (cs : List Candidate) → tally (counted_positions m words pass P H) ≡ cs → list_all (λ c. raised c || hopeless c) cs ≡ true
+        → counted_positions m words pass (raised_all pass.level pass.dot P (filter raised cs)) (hopeless_all pass.dot H (filter hopeless cs)) ≡ []
     from cs is all =
-        closed_when_covered m words pass P (raised_all pass.level pass.dot P (filter raised cs)) H (hopeless_all pass.dot H (filter hopeless cs)) (later_after_pass pass.level pass.dot P H (filter raised cs) (filter hopeless cs))
-        (sym (windows_of (λ (u : List ℕ). is_covered pass.level (raised_all pass.level pass.dot P (filter raised cs)) (hopeless_all pass.dot H (filter hopeless cs)) u pass.dot) (counted_positions m words pass P H) (candidates (counted_positions m words pass P H)))
-        ∙ ap (λ (xs : List Candidate). list_all (λ (c : Candidate). is_covered pass.level (raised_all pass.level pass.dot P (filter raised cs)) (hopeless_all pass.dot H (filter hopeless cs)) c.window pass.dot) xs) is
+        closed_when_covered m words pass P (raised_all pass.level pass.dot P (filter raised cs)) H (hopeless_all pass.dot H (filter hopeless cs))
+        (later_after_pass pass.level pass.dot P H (filter raised cs) (filter hopeless cs))
+        (sym (windows_of (λ (u : List ℕ). is_covered pass.level (raised_all pass.level pass.dot P (filter raised cs)) (hopeless_all pass.dot H (filter hopeless cs)) u pass.dot)
+        (counted_positions m words pass P H) (candidates (counted_positions m words pass P H)))
+        ∙ ap (λ (xs : List Candidate). list_all (λ (c : Candidate). is_covered pass.level (raised_all pass.level pass.dot P (filter raised cs))
+        (hopeless_all pass.dot H (filter hopeless cs)) c.window pass.dot) xs) is
         ∙ decided_covered pass.level pass.dot P H raised hopeless cs all)

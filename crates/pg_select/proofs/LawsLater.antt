@@ -36,7 +36,8 @@ later_at_once level P H = record { values = λ w p. inl refl; covers = λ u d is
 
 pub later_still : (level : ℕ) (P P' P'' : List ((List ℕ × ℕ) × ℕ)) (H H' H'' : Hopeless) → Later level P H P' H' → Later level P' H' P'' H'' → Later level P H P'' H''
 later_still level P P' P'' H H' H'' first second = record {
-  values = λ w p. ⊎_elim (λ (same : value_at P'' w p ≡ value_at P' w p). ⊎_elim (λ (kept : value_at P' w p ≡ value_at P w p). inl (same ∙ kept)) (λ (raised : value_at P' w p ≡ level). inr (same ∙ raised)) (first.values w p)) (λ (raised : value_at P'' w p ≡ level). inr raised) (second.values w p);
+  values = λ w p. ⊎_elim (λ (same : value_at P'' w p ≡ value_at P' w p). ⊎_elim (λ (kept : value_at P' w p ≡ value_at P w p). inl (same ∙ kept))
+      (λ (raised : value_at P' w p ≡ level). inr (same ∙ raised)) (first.values w p)) (λ (raised : value_at P'' w p ≡ level). inr raised) (second.values w p);
   covers = λ u d is. second.covers u d (first.covers u d is);
 }
 
@@ -67,7 +68,8 @@ uncovered_back true b more is = cc (more refl)
 uncovered_back false b more is = refl
 
 -- the first law: of the status of a position, and of the position with its window
-pub status_back : (level : ℕ) (P P' : List ((List ℕ × ℕ) × ℕ)) (H H' : Hopeless) (w : Word) (p : ℕ) (good : Bool) → Later level P H P' H' → counts_as level (status_at P' w p) ≡ Some good → counts_as level (status_at P w p) ≡ Some good
+pub status_back : (level : ℕ) (P P' : List ((List ℕ × ℕ) × ℕ)) (H H' : Hopeless) (w : Word) (p : ℕ) (good : Bool) → Later level P H P' H'
+    → counts_as level (status_at P' w p) ≡ Some good → counts_as level (status_at P w p) ≡ Some good
 status_back level P P' H H' w p good later is =
     ⊎_elim
     (λ (same : value_at P' w.signs p ≡ value_at P w.signs p). ap (λ (v : ℕ). counts_as level (status hyphen care v)) (sym same) ∙ is)
@@ -83,13 +85,15 @@ status_back level P P' H H' w p good later is =
     none_some : (g : Bool) → None ≡ Some g → ⊥
     none_some g is = cc
 
-pub counted_back : (pass : Pass) (P P' : List ((List ℕ × ℕ) × ℕ)) (H H' : Hopeless) (w : Word) (p : ℕ) (good : Bool) → Later pass.level P H P' H' → counted_at pass P' H' w p ≡ Some good → counted_at pass P H w p ≡ Some good
+pub counted_back : (pass : Pass) (P P' : List ((List ℕ × ℕ) × ℕ)) (H H' : Hopeless) (w : Word) (p : ℕ) (good : Bool) → Later pass.level P H P' H'
+    → counted_at pass P' H' w p ≡ Some good → counted_at pass P H w p ≡ Some good
 counted_back pass P P' H H' w p good later is =
     let parts = some_parts (fits w.signs p pass.len pass.dot && not (is_covered pass.level P' H' (window w.signs p pass.len pass.dot) pass.dot)) (counts_as pass.level (status_at P' w p)) good is in
     let tests = and_parts (fits w.signs p pass.len pass.dot) (not (is_covered pass.level P' H' (window w.signs p pass.len pass.dot) pass.dot)) parts.0 in
     some_from (fits w.signs p pass.len pass.dot && not (is_covered pass.level P H (window w.signs p pass.len pass.dot) pass.dot)) (counts_as pass.level (status_at P w p)) good
     (and_from (fits w.signs p pass.len pass.dot) (not (is_covered pass.level P H (window w.signs p pass.len pass.dot) pass.dot)) tests.0
-    (uncovered_back (is_covered pass.level P H (window w.signs p pass.len pass.dot) pass.dot) (is_covered pass.level P' H' (window w.signs p pass.len pass.dot) pass.dot) (later.covers (window w.signs p pass.len pass.dot) pass.dot) tests.1))
+    (uncovered_back (is_covered pass.level P H (window w.signs p pass.len pass.dot) pass.dot) (is_covered pass.level P' H' (window w.signs p pass.len pass.dot) pass.dot)
+    (later.covers (window w.signs p pass.len pass.dot) pass.dot) tests.1))
     (status_back pass.level P P' H H' w p good later parts.1)
 
 nil_parts : {X : Type 0} (xs ys : List X) → xs ++ ys ≡ [] → (xs ≡ []) × (ys ≡ [])
@@ -110,10 +114,14 @@ unseen_more u v x None (Some g) back is = cc (back g refl)
 unseen_more u v x (Some h) (Some g) back is = cc
 
 -- where nothing is counted, nothing is counted in a pass in which no other position is counted
-pub closed_more : (m : Minima) (words : List Word) (pass other : Pass) (P P' : List ((List ℕ × ℕ) × ℕ)) (H H' : Hopeless) → ((w : Word) (p : ℕ) (g : Bool) → counted_at other P' H' w p ≡ Some g → counted_at pass P H w p ≡ Some g) → counted_positions m words pass P H ≡ [] → counted_positions m words other P' H' ≡ []
+pub closed_more : (m : Minima) (words : List Word) (pass other : Pass) (P P' : List ((List ℕ × ℕ) × ℕ)) (H H' : Hopeless)
+    → ((w : Word) (p : ℕ) (g : Bool) → counted_at other P' H' w p ≡ Some g → counted_at pass P H w p ≡ Some g) → counted_positions m words pass P H ≡ [] → counted_positions m words other P' H' ≡ []
 closed_more m words pass other P P' H H' back is =
     nil_more (counted_positions_in m pass P H) (counted_positions_in m other P' H') (λ w.
-    nil_more (counted_positions_at pass P H w) (counted_positions_at other P' H' w) (λ p. unseen_more (window w.signs p pass.len pass.dot) (window w.signs p other.len other.dot) (position_weight w p) (counted_at pass P H w p) (counted_at other P' H' w p) (back w p)) (positions m.left m.right (length w.signs))) words is
+    nil_more (counted_positions_at pass P H w) (counted_positions_at other P' H' w)
+    (λ p. unseen_more (window w.signs p pass.len pass.dot) (window w.signs p other.len other.dot) (position_weight w p) (counted_at pass P H w p) (counted_at other P' H' w p) (back w p))
+    (positions m.left m.right (length w.signs))) words is
 
-pub closed_later : (m : Minima) (words : List Word) (pass : Pass) (P P' : List ((List ℕ × ℕ) × ℕ)) (H H' : Hopeless) → Later pass.level P H P' H' → counted_positions m words pass P H ≡ [] → counted_positions m words pass P' H' ≡ []
+pub closed_later : (m : Minima) (words : List Word) (pass : Pass) (P P' : List ((List ℕ × ℕ) × ℕ)) (H H' : Hopeless) → Later pass.level P H P' H'
+    → counted_positions m words pass P H ≡ [] → counted_positions m words pass P' H' ≡ []
 closed_later m words pass P P' H H' later is = closed_more m words pass pass P P' H H' (λ w p g counted. counted_back pass P P' H H' w p g later counted) is

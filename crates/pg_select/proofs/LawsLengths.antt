@@ -70,7 +70,8 @@ module _ (w : List ℕ) (p len d : ℕ) (fit : fits w p (len + 1) d ≡ true) wh
       (or_cases (applies (window w p len d) d k) (nat_le 1 d && applies (window w p len (d - 1)) (d - 1) k) is))
 
 -- a test of some element that is one or another
-any_split : {X : Type 0} (limit f g h : X → Bool) (b : Bool) → ((x : X) → limit x ≡ true → f x ≡ (g x || (b && h x))) → (xs : List X) → list_all limit xs ≡ true → list_any f xs ≡ (list_any g xs || (b && list_any h xs))
+any_split : {X : Type 0} (limit f g h : X → Bool) (b : Bool) → ((x : X) → limit x ≡ true → f x ≡ (g x || (b && h x))) → (xs : List X) → list_all limit xs
+    ≡ true → list_any f xs ≡ (list_any g xs || (b && list_any h xs))
 any_split limit f g h b each [] all = none b
   where
     none : (b : Bool) → false ≡ (false || (b && false))
@@ -112,16 +113,22 @@ length_step level len P H w p d short fit =
     with_level false l x y z true limit is = refl
     with_level false l x y z false limit is = refl
 
-    patterns : list_any (λ (e : (List ℕ × ℕ) × ℕ). nat_le level e.1 && applies (window w p (len + 1) d) d e.0) P ≡ (list_any (λ (e : (List ℕ × ℕ) × ℕ). nat_le level e.1 && applies (window w p len d) d e.0) P || (nat_le 1 d && list_any (λ (e : (List ℕ × ℕ) × ℕ). nat_le level e.1 && applies (window w p len (d - 1)) (d - 1) e.0) P))
+    patterns : list_any (λ (e : (List ℕ × ℕ) × ℕ). nat_le level e.1 && applies (window w p (len + 1) d) d e.0) P
+        ≡ (list_any (λ (e : (List ℕ × ℕ) × ℕ). nat_le level e.1 && applies (window w p len d) d e.0) P
+        || (nat_le 1 d && list_any (λ (e : (List ℕ × ℕ) × ℕ). nat_le level e.1 && applies (window w p len (d - 1)) (d - 1) e.0) P))
     patterns =
-        any_split (λ (e : (List ℕ × ℕ) × ℕ). not (nat_le level e.1) || nat_le (length e.0.0) len) (λ (e : (List ℕ × ℕ) × ℕ). nat_le level e.1 && applies (window w p (len + 1) d) d e.0) (λ (e : (List ℕ × ℕ) × ℕ). nat_le level e.1 && applies (window w p len d) d e.0) (λ (e : (List ℕ × ℕ) × ℕ). nat_le level e.1 && applies (window w p len (d - 1)) (d - 1) e.0) (nat_le 1 d)
-        (λ e limit. with_level (nat_le level e.1) (nat_le (length e.0.0) len) (applies (window w p (len + 1) d) d e.0) (applies (window w p len d) d e.0) (applies (window w p len (d - 1)) (d - 1) e.0) (nat_le 1 d) limit
+        any_split (λ (e : (List ℕ × ℕ) × ℕ). not (nat_le level e.1) || nat_le (length e.0.0) len) (λ (e : (List ℕ × ℕ) × ℕ). nat_le level e.1 && applies (window w p (len + 1) d) d e.0)
+        (λ (e : (List ℕ × ℕ) × ℕ). nat_le level e.1 && applies (window w p len d) d e.0) (λ (e : (List ℕ × ℕ) × ℕ). nat_le level e.1 && applies (window w p len (d - 1)) (d - 1) e.0) (nat_le 1 d)
+        (λ e limit. with_level (nat_le level e.1) (nat_le (length e.0.0) len) (applies (window w p (len + 1) d) d e.0) (applies (window w p len d) d e.0)
+        (applies (window w p len (d - 1)) (d - 1) e.0) (nat_le 1 d) limit
         (λ upto. applies_split w p len d fit e.0 (leb-true (length e.0.0) len upto)))
         P short.patterns
 
-    places : list_any (λ (e : (List ℕ × ℕ) × Unit {0}). applies (window w p (len + 1) d) d e.0) H ≡ (list_any (λ (e : (List ℕ × ℕ) × Unit {0}). applies (window w p len d) d e.0) H || (nat_le 1 d && list_any (λ (e : (List ℕ × ℕ) × Unit {0}). applies (window w p len (d - 1)) (d - 1) e.0) H))
+    places : list_any (λ (e : (List ℕ × ℕ) × Unit {0}). applies (window w p (len + 1) d) d e.0) H
+        ≡ (list_any (λ (e : (List ℕ × ℕ) × Unit {0}). applies (window w p len d) d e.0) H || (nat_le 1 d && list_any (λ (e : (List ℕ × ℕ) × Unit {0}). applies (window w p len (d - 1)) (d - 1) e.0) H))
     places =
-        any_split (λ (e : (List ℕ × ℕ) × Unit {0}). nat_le (length e.0.0) len) (λ (e : (List ℕ × ℕ) × Unit {0}). applies (window w p (len + 1) d) d e.0) (λ (e : (List ℕ × ℕ) × Unit {0}). applies (window w p len d) d e.0) (λ (e : (List ℕ × ℕ) × Unit {0}). applies (window w p len (d - 1)) (d - 1) e.0) (nat_le 1 d)
+        any_split (λ (e : (List ℕ × ℕ) × Unit {0}). nat_le (length e.0.0) len) (λ (e : (List ℕ × ℕ) × Unit {0}). applies (window w p (len + 1) d) d e.0)
+        (λ (e : (List ℕ × ℕ) × Unit {0}). applies (window w p len d) d e.0) (λ (e : (List ℕ × ℕ) × Unit {0}). applies (window w p len (d - 1)) (d - 1) e.0) (nat_le 1 d)
         (λ e upto. applies_split w p len d fit e.0 (leb-true (length e.0.0) len upto))
         H short.hopeless
 

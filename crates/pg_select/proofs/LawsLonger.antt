@@ -27,7 +27,8 @@ pub part_length : (w : List ℕ) (a len : ℕ) → a + len ≤ length w → leng
 part_length w a len inside = omega (arith, length-take len (drop a w), length-drop a w)
 
 -- what stands in a part of a word stands in another that has it
-pub stands_wider : (q w : List ℕ) (a len i b n j : ℕ) → a + len ≤ length w → b + n ≤ length w → a + i ≡ b + j → (i + length q ≤ len → j + length q ≤ n) → stands_at q (take len (drop a w)) i ≡ true → stands_at q (take n (drop b w)) j ≡ true
+pub stands_wider : (q w : List ℕ) (a len i b n j : ℕ) → a + len ≤ length w → b + n ≤ length w → a + i ≡ b + j → (i + length q ≤ len → j + length q ≤ n)
+    → stands_at q (take len (drop a w)) i ≡ true → stands_at q (take n (drop b w)) j ≡ true
 stands_wider q w a len i b n j fit wide place size is =
     let parts = and_parts (nat_le (i + length q) (length (take len (drop a w)))) (pointwise nat_eq q (take (length q) (drop i (take len (drop a w))))) is in
     let part : length (take len (drop a w)) ≡ len = part_length w a len fit in
@@ -48,10 +49,13 @@ any_weaker t s more (x ∷ xs) is = by_test (t x) (s x) (list_any t xs) (list_an
     by_test false b c d here rest is = or_right b d (rest is)
 
 -- what covers a window covers another in which all stands that stands in it
-covered_wider : (level : ℕ) (P : List ((List ℕ × ℕ) × ℕ)) (H : Hopeless) (u v : List ℕ) (d e : ℕ) → ((k : List ℕ × ℕ) → applies u d k ≡ true → applies v e k ≡ true) → is_covered level P H u d ≡ true → is_covered level P H v e ≡ true
+covered_wider : (level : ℕ) (P : List ((List ℕ × ℕ) × ℕ)) (H : Hopeless) (u v : List ℕ) (d e : ℕ) → ((k : List ℕ × ℕ) → applies u d k ≡ true → applies v e k ≡ true)
+    → is_covered level P H u d ≡ true → is_covered level P H v e ≡ true
 covered_wider level P H u v d e more is =
-    by_test (list_any (λ (x : (List ℕ × ℕ) × ℕ). nat_le level x.1 && applies u d x.0) P) (list_any (λ (x : (List ℕ × ℕ) × ℕ). nat_le level x.1 && applies v e x.0) P) (list_any (λ (x : (List ℕ × ℕ) × Unit {0}). applies u d x.0) H) (list_any (λ (x : (List ℕ × ℕ) × Unit {0}). applies v e x.0) H)
-    (any_weaker (λ (x : (List ℕ × ℕ) × ℕ). nat_le level x.1 && applies u d x.0) (λ (x : (List ℕ × ℕ) × ℕ). nat_le level x.1 && applies v e x.0) (λ x pass. let parts = and_parts (nat_le level x.1) (applies u d x.0) pass in and_from (nat_le level x.1) (applies v e x.0) parts.0 (more x.0 parts.1)) P)
+    by_test (list_any (λ (x : (List ℕ × ℕ) × ℕ). nat_le level x.1 && applies u d x.0) P) (list_any (λ (x : (List ℕ × ℕ) × ℕ). nat_le level x.1 && applies v e x.0) P)
+    (list_any (λ (x : (List ℕ × ℕ) × Unit {0}). applies u d x.0) H) (list_any (λ (x : (List ℕ × ℕ) × Unit {0}). applies v e x.0) H)
+    (any_weaker (λ (x : (List ℕ × ℕ) × ℕ). nat_le level x.1 && applies u d x.0) (λ (x : (List ℕ × ℕ) × ℕ). nat_le level x.1 && applies v e x.0)
+    (λ x pass. let parts = and_parts (nat_le level x.1) (applies u d x.0) pass in and_from (nat_le level x.1) (applies v e x.0) parts.0 (more x.0 parts.1)) P)
     (any_weaker (λ (x : (List ℕ × ℕ) × Unit {0}). applies u d x.0) (λ (x : (List ℕ × ℕ) × Unit {0}). applies v e x.0) (λ x pass. more x.0 pass) H)
     is
   where
@@ -61,21 +65,25 @@ covered_wider level P H u v d e more is =
 
 -- a position that is counted in a pass is counted in another of the level whose window fits, and is covered only where the first is
 counted_in : (pass other : Pass) (P : List ((List ℕ × ℕ) × ℕ)) (H : Hopeless) (w : Word) (p : ℕ) (good : Bool) → other.level ≡ pass.level
-    → (fits w.signs p other.len other.dot ≡ true → (fits w.signs p pass.len pass.dot ≡ true) × ((k : List ℕ × ℕ) → applies (window w.signs p pass.len pass.dot) pass.dot k ≡ true → applies (window w.signs p other.len other.dot) other.dot k ≡ true))
+    → (fits w.signs p other.len other.dot ≡ true → (fits w.signs p pass.len pass.dot ≡ true)
+    × ((k : List ℕ × ℕ) → applies (window w.signs p pass.len pass.dot) pass.dot k ≡ true → applies (window w.signs p other.len other.dot) other.dot k ≡ true))
     → counted_at other P H w p ≡ Some good → counted_at pass P H w p ≡ Some good
 counted_in pass other P H w p good level inner is =
-    let parts = some_parts (fits w.signs p other.len other.dot && not (is_covered other.level P H (window w.signs p other.len other.dot) other.dot)) (counts_as other.level (status_at P w p)) good is in
+    let parts = some_parts (fits w.signs p other.len other.dot && not (is_covered other.level P H (window w.signs p other.len other.dot) other.dot))
+    (counts_as other.level (status_at P w p)) good is in
     let tests = and_parts (fits w.signs p other.len other.dot) (not (is_covered other.level P H (window w.signs p other.len other.dot) other.dot)) parts.0 in
     let inside = inner tests.0 in
     some_from (fits w.signs p pass.len pass.dot && not (is_covered pass.level P H (window w.signs p pass.len pass.dot) pass.dot)) (counts_as pass.level (status_at P w p)) good
     (and_from (fits w.signs p pass.len pass.dot) (not (is_covered pass.level P H (window w.signs p pass.len pass.dot) pass.dot)) inside.0
     (uncovered_back (is_covered pass.level P H (window w.signs p pass.len pass.dot) pass.dot) (is_covered other.level P H (window w.signs p other.len other.dot) other.dot)
-    (λ cover. ap (λ (l : ℕ). is_covered l P H (window w.signs p other.len other.dot) other.dot) level ∙ covered_wider pass.level P H (window w.signs p pass.len pass.dot) (window w.signs p other.len other.dot) pass.dot other.dot inside.1 cover)
+    (λ cover. ap (λ (l : ℕ). is_covered l P H (window w.signs p other.len other.dot) other.dot) level
+    ∙ covered_wider pass.level P H (window w.signs p pass.len pass.dot) (window w.signs p other.len other.dot) pass.dot other.dot inside.1 cover)
     tests.1))
     (ap (λ (l : ℕ). counts_as l (status_at P w p)) (sym level) ∙ parts.1)
 
 -- a window and the same with a sign behind it
-behind_inner : (w : List ℕ) (p len d : ℕ) → fits w p (len + 1) d ≡ true → (fits w p len d ≡ true) × ((k : List ℕ × ℕ) → applies (window w p len d) d k ≡ true → applies (window w p (len + 1) d) d k ≡ true)
+behind_inner : (w : List ℕ) (p len d : ℕ) → fits w p (len + 1) d ≡ true → (fits w p len d ≡ true)
+    × ((k : List ℕ × ℕ) → applies (window w p len d) d k ≡ true → applies (window w p (len + 1) d) d k ≡ true)
 behind_inner w p len d fit =
     let parts = and_parts (nat_le d p) (nat_le (p - d + (len + 1)) (length w)) fit in
     let low : d ≤ p = leb-true d p parts.0 in
@@ -89,7 +97,8 @@ behind_inner w p len d fit =
     )
 
 -- a window and the same with a sign before it
-before_inner : (w : List ℕ) (p len d : ℕ) → fits w p (len + 1) (d + 1) ≡ true → (fits w p len d ≡ true) × ((k : List ℕ × ℕ) → applies (window w p len d) d k ≡ true → applies (window w p (len + 1) (d + 1)) (d + 1) k ≡ true)
+before_inner : (w : List ℕ) (p len d : ℕ) → fits w p (len + 1) (d + 1) ≡ true → (fits w p len d ≡ true)
+    × ((k : List ℕ × ℕ) → applies (window w p len d) d k ≡ true → applies (window w p (len + 1) (d + 1)) (d + 1) k ≡ true)
 before_inner w p len d fit =
     let parts = and_parts (nat_le (d + 1) p) (nat_le (p - (d + 1) + (len + 1)) (length w)) fit in
     let low : d + 1 ≤ p = leb-true (d + 1) p parts.0 in
@@ -105,15 +114,19 @@ before_inner w p len d fit =
     )
 
 -- the second law
-pub counted_behind : (pass : Pass) (P : List ((List ℕ × ℕ) × ℕ)) (H : Hopeless) (w : Word) (p : ℕ) (good : Bool) → counted_at (longer_behind pass) P H w p ≡ Some good → counted_at pass P H w p ≡ Some good
+pub counted_behind : (pass : Pass) (P : List ((List ℕ × ℕ) × ℕ)) (H : Hopeless) (w : Word) (p : ℕ) (good : Bool) → counted_at (longer_behind pass) P H w p
+    ≡ Some good → counted_at pass P H w p ≡ Some good
 counted_behind pass P H w p good is = counted_in pass (longer_behind pass) P H w p good refl (behind_inner w.signs p pass.len pass.dot) is
 
-pub counted_before : (pass : Pass) (P : List ((List ℕ × ℕ) × ℕ)) (H : Hopeless) (w : Word) (p : ℕ) (good : Bool) → counted_at (longer_before pass) P H w p ≡ Some good → counted_at pass P H w p ≡ Some good
+pub counted_before : (pass : Pass) (P : List ((List ℕ × ℕ) × ℕ)) (H : Hopeless) (w : Word) (p : ℕ) (good : Bool) → counted_at (longer_before pass) P H w p
+    ≡ Some good → counted_at pass P H w p ≡ Some good
 counted_before pass P H w p good is = counted_in pass (longer_before pass) P H w p good refl (before_inner w.signs p pass.len pass.dot) is
 
 -- so where a pass counts nothing, the longer ones count nothing
-pub closed_behind : (m : Minima) (words : List Word) (pass : Pass) (P : List ((List ℕ × ℕ) × ℕ)) (H : Hopeless) → counted_positions m words pass P H ≡ [] → counted_positions m words (longer_behind pass) P H ≡ []
+pub closed_behind : (m : Minima) (words : List Word) (pass : Pass) (P : List ((List ℕ × ℕ) × ℕ)) (H : Hopeless) → counted_positions m words pass P H
+    ≡ [] → counted_positions m words (longer_behind pass) P H ≡ []
 closed_behind m words pass P H is = closed_more m words pass (longer_behind pass) P P H H (λ w p g counted. counted_behind pass P H w p g counted) is
 
-pub closed_before : (m : Minima) (words : List Word) (pass : Pass) (P : List ((List ℕ × ℕ) × ℕ)) (H : Hopeless) → counted_positions m words pass P H ≡ [] → counted_positions m words (longer_before pass) P H ≡ []
+pub closed_before : (m : Minima) (words : List Word) (pass : Pass) (P : List ((List ℕ × ℕ) × ℕ)) (H : Hopeless) → counted_positions m words pass P H
+    ≡ [] → counted_positions m words (longer_before pass) P H ≡ []
 closed_before m words pass P H is = closed_more m words pass (longer_before pass) P P H H (λ w p g counted. counted_before pass P H w p g counted) is

@@ -32,12 +32,14 @@ same_itself u = ap is_eq (tied_itself nat_list_cmp_total u)
 
 -- what holds of the windows that fit and are not covered holds of those that are counted
 pub all_seen : (test : List ℕ → Bool) (m : Minima) (words : List Word) (pass : Pass) (P : Patterns) (H : Hopeless)
-    → ((w : List ℕ) (p : ℕ) → fits w p pass.len pass.dot ≡ true → is_covered pass.level P H (window w p pass.len pass.dot) pass.dot ≡ false → test (window w p pass.len pass.dot) ≡ true) → list_all (λ (s : CountedPosition). test s.window) (counted_positions m words pass P H) ≡ true
+    → ((w : List ℕ) (p : ℕ) → fits w p pass.len pass.dot ≡ true → is_covered pass.level P H (window w p pass.len pass.dot) pass.dot ≡ false → test (window w p pass.len pass.dot) ≡ true)
+    → list_all (λ (s : CountedPosition). test s.window) (counted_positions m words pass P H) ≡ true
 all_seen test m words pass P H each =
     all_flat (λ (s : CountedPosition). test s.window) (counted_positions_in m pass P H) words (λ w.
     all_flat (λ (s : CountedPosition). test s.window) (counted_positions_at pass P H w) (positions m.left m.right (length w.signs)) (λ p. at w p))
   where
-    by_test : (u : List ℕ) (x : ℕ) (a c : Bool) (o : Option Bool) → (a ≡ true → c ≡ false → test u ≡ true) → list_all (λ (s : CountedPosition). test s.window) (counted_as u x (cond (a && not c) o None)) ≡ true
+    by_test : (u : List ℕ) (x : ℕ) (a c : Bool) (o : Option Bool) → (a ≡ true → c ≡ false → test u ≡ true)
+        → list_all (λ (s : CountedPosition). test s.window) (counted_as u x (cond (a && not c) o None)) ≡ true
     by_test u x false c o holds = refl
     by_test u x true true o holds = refl
     by_test u x true false None holds = refl
@@ -45,10 +47,12 @@ all_seen test m words pass P H each =
 
     at : (w : Word) (p : ℕ) → list_all (λ (s : CountedPosition). test s.window) (counted_positions_at pass P H w p) ≡ true
     at w p =
-        by_test (window w.signs p pass.len pass.dot) (position_weight w p) (fits w.signs p pass.len pass.dot) (is_covered pass.level P H (window w.signs p pass.len pass.dot) pass.dot) (counts_as pass.level (status_at P w p)) (each w.signs p)
+        by_test (window w.signs p pass.len pass.dot) (position_weight w p) (fits w.signs p pass.len pass.dot) (is_covered pass.level P H (window w.signs p pass.len pass.dot) pass.dot)
+        (counts_as pass.level (status_at P w p)) (each w.signs p)
 
 -- what holds of all that is counted holds of a window that is counted
-all_of_seen : (test : List ℕ → Bool) (u : List ℕ) (counted : List CountedPosition) → list_all (λ (s : CountedPosition). test s.window) counted ≡ true → is_counted_window counted u ≡ true → test u ≡ true
+all_of_seen : (test : List ℕ → Bool) (u : List ℕ) (counted : List CountedPosition) → list_all (λ (s : CountedPosition). test s.window) counted ≡ true
+    → is_counted_window counted u ≡ true → test u ≡ true
 all_of_seen test u [] all is = cc
 all_of_seen test u (s ∷ counted) all is =
     let parts = and_parts (test s.window) (list_all (λ (x : CountedPosition). test x.window) counted) all in
@@ -58,7 +62,8 @@ all_of_seen test u (s ∷ counted) all is =
     (or_cases (same_signs u s.window) (is_counted_window counted u) is)
 
 -- the windows that are counted have the length of the pass, and none is covered
-pub counted_uncovered : (m : Minima) (words : List Word) (pass : Pass) (P : Patterns) (H : Hopeless) (u : List ℕ) → is_counted_window (counted_positions m words pass P H) u ≡ true → (length u ≡ pass.len) × (is_covered pass.level P H u pass.dot ≡ false)
+pub counted_uncovered : (m : Minima) (words : List Word) (pass : Pass) (P : Patterns) (H : Hopeless) (u : List ℕ) → is_counted_window (counted_positions m words pass P H) u
+    ≡ true → (length u ≡ pass.len) × (is_covered pass.level P H u pass.dot ≡ false)
 counted_uncovered m words pass P H u is =
     let tested = all_of_seen (λ (v : List ℕ). nat_eq (length v) pass.len && not (is_covered pass.level P H v pass.dot)) u (counted_positions m words pass P H)
     (all_seen (λ (v : List ℕ). nat_eq (length v) pass.len && not (is_covered pass.level P H v pass.dot)) m words pass P H
@@ -70,13 +75,16 @@ counted_uncovered m words pass P H u is =
     (eqb-true (length u) pass.len parts.0, not-true (is_covered pass.level P H u pass.dot) parts.1)
 
 -- the candidates that pass a test are the windows that are counted and pass it
-among_windows : (test : Candidate → Bool) (counted : List CountedPosition) (u : List ℕ) (us : List (List ℕ)) → is_among u (filter test (map (candidate_at counted) us)) ≡ (list_any (same_signs u) us && test (candidate_at counted u))
+among_windows : (test : Candidate → Bool) (counted : List CountedPosition) (u : List ℕ) (us : List (List ℕ)) → is_among u (filter test (map (candidate_at counted) us))
+    ≡ (list_any (same_signs u) us && test (candidate_at counted u))
 among_windows test counted u [] = refl
 among_windows test counted u (v ∷ us) =
     kept (test (candidate_at counted v))
-    ∙ by_same (same_signs u v) (test (candidate_at counted v)) (test (candidate_at counted u)) (list_any (same_signs u) us) (λ same. ap (λ (x : List ℕ). test (candidate_at counted x)) (sym (same_window u v same))) (among_windows test counted u us)
+    ∙ by_same (same_signs u v) (test (candidate_at counted v)) (test (candidate_at counted u)) (list_any (same_signs u) us)
+    (λ same. ap (λ (x : List ℕ). test (candidate_at counted x)) (sym (same_window u v same))) (among_windows test counted u us)
   where
-    kept : (b : Bool) → is_among u (cond b (candidate_at counted v ∷ filter test (map (candidate_at counted) us)) (filter test (map (candidate_at counted) us))) ≡ ((same_signs u v && b) || is_among u (filter test (map (candidate_at counted) us)))
+    kept : (b : Bool) → is_among u (cond b (candidate_at counted v ∷ filter test (map (candidate_at counted) us)) (filter test (map (candidate_at counted) us)))
+        ≡ ((same_signs u v && b) || is_among u (filter test (map (candidate_at counted) us)))
     kept true = at (same_signs u v)
       where
         at : (s : Bool) → (s || is_among u (filter test (map (candidate_at counted) us))) ≡ ((s && true) || is_among u (filter test (map (candidate_at counted) us)))
@@ -151,7 +159,8 @@ applies_window w v p len d dot long fit =
     let wide : d - dot + length v ≤ length (window w p len d) = leb-true (d - dot + length v) (length (window w p len d)) parts.0 in
     let same : d ≡ dot = omega arith in
     let none : d - dot ≡ 0 = omega arith in
-    let whole : take (length v) (drop (d - dot) (window w p len d)) ≡ window w p len d = ap (λ k. take (length v) (drop k (window w p len d))) none ∙ take_all (length v) (window w p len d) (omega arith) in
+    let whole : take (length v) (drop (d - dot) (window w p len d)) ≡ window w p len d = ap (λ k. take (length v) (drop k (window w p len d))) none
+    ∙ take_all (length v) (window w p len d) (omega arith) in
     and_from (nat_eq d dot) (same_signs (window w p len dot) v) (eq-eqb d dot same)
     (ap (λ k. same_signs (window w p len k) v) (sym same) ∙ sym (point_same (window w p len d) v) ∙ ap (pointwise nat_eq v) (sym whole) ∙ parts.1))
     (λ is.
@@ -160,7 +169,8 @@ applies_window w v p len d dot long fit =
     let tied : window w p len d ≡ v = ap (λ k. window w p len k) same ∙ same_window (window w p len dot) v parts.1 in
     (λ i. applies (tied i) (same i) (v, dot)) ∙ applies_itself v dot)
 
-any_applies : (w : List ℕ) (p len dot : ℕ) (cs : List Candidate) → AreLong len cs → list_any (λ (c : Candidate). applies w p (c.window, dot)) cs ≡ (fits w p len dot && is_among (window w p len dot) cs)
+any_applies : (w : List ℕ) (p len dot : ℕ) (cs : List Candidate) → AreLong len cs → list_any (λ (c : Candidate). applies w p (c.window, dot)) cs
+    ≡ (fits w p len dot && is_among (window w p len dot) cs)
 any_applies w p len dot [] long = none (fits w p len dot)
   where
     none : (b : Bool) → false ≡ (b && false)
@@ -168,13 +178,15 @@ any_applies w p len dot [] long = none (fits w p len dot)
     none false = refl
 any_applies w p len dot (c ∷ cs) long =
     let parts = and_parts (nat_eq (length c.window) len) (list_all (λ (x : Candidate). nat_eq (length x.window) len) cs) long in
-    (λ i. applies_word w c.window p len dot (eqb-true (length c.window) len parts.0) i || any_applies w p len dot cs parts.1 i) ∙ grouped (fits w p len dot) (same_signs (window w p len dot) c.window) (is_among (window w p len dot) cs)
+    (λ i. applies_word w c.window p len dot (eqb-true (length c.window) len parts.0) i || any_applies w p len dot cs parts.1 i)
+    ∙ grouped (fits w p len dot) (same_signs (window w p len dot) c.window) (is_among (window w p len dot) cs)
   where
     grouped : (a b c : Bool) → ((a && b) || (a && c)) ≡ (a && (b || c))
     grouped true b c = refl
     grouped false b c = refl
 
-any_covers : (w : List ℕ) (p len d dot : ℕ) (cs : List Candidate) → fits w p len d ≡ true → AreLong len cs → list_any (λ (c : Candidate). applies (window w p len d) d (c.window, dot)) cs ≡ (nat_eq d dot && is_among (window w p len dot) cs)
+any_covers : (w : List ℕ) (p len d dot : ℕ) (cs : List Candidate) → fits w p len d ≡ true → AreLong len cs → list_any (λ (c : Candidate). applies (window w p len d) d (c.window, dot)) cs
+    ≡ (nat_eq d dot && is_among (window w p len dot) cs)
 any_covers w p len d dot [] fit long = none (nat_eq d dot)
   where
     none : (b : Bool) → false ≡ (b && false)
@@ -182,14 +194,16 @@ any_covers w p len d dot [] fit long = none (nat_eq d dot)
     none false = refl
 any_covers w p len d dot (c ∷ cs) fit long =
     let parts = and_parts (nat_eq (length c.window) len) (list_all (λ (x : Candidate). nat_eq (length x.window) len) cs) long in
-    (λ i. applies_window w c.window p len d dot (eqb-true (length c.window) len parts.0) fit i || any_covers w p len d dot cs fit parts.1 i) ∙ grouped (nat_eq d dot) (same_signs (window w p len dot) c.window) (is_among (window w p len dot) cs)
+    (λ i. applies_window w c.window p len d dot (eqb-true (length c.window) len parts.0) fit i || any_covers w p len d dot cs fit parts.1 i)
+    ∙ grouped (nat_eq d dot) (same_signs (window w p len dot) c.window) (is_among (window w p len dot) cs)
   where
     grouped : (a b c : Bool) → ((a && b) || (a && c)) ≡ (a && (b || c))
     grouped true b c = refl
     grouped false b c = refl
 
 -- values and covers after raises, and covers after places that are made hopeless
-value_all : (level dot : ℕ) (P : Patterns) (w : List ℕ) (p : ℕ) (cs : List Candidate) → value_at (raised_all level dot P cs) w p ≡ max (only (list_any (λ (c : Candidate). applies w p (c.window, dot)) cs) level) (value_at P w p)
+value_all : (level dot : ℕ) (P : Patterns) (w : List ℕ) (p : ℕ) (cs : List Candidate) → value_at (raised_all level dot P cs) w p
+    ≡ max (only (list_any (λ (c : Candidate). applies w p (c.window, dot)) cs) level) (value_at P w p)
 value_all level dot P w p [] = none (value_at P w p)
   where
     none : (n : ℕ) → n ≡ max 0 n
@@ -209,14 +223,16 @@ turned true true c = refl
 turned true false c = refl
 turned false b c = refl
 
-cover_raised : (level dot : ℕ) (P : Patterns) (H : Hopeless) (u : List ℕ) (d : ℕ) (cs : List Candidate) → is_covered level (raised_all level dot P cs) H u d ≡ (list_any (λ (c : Candidate). applies u d (c.window, dot)) cs || is_covered level P H u d)
+cover_raised : (level dot : ℕ) (P : Patterns) (H : Hopeless) (u : List ℕ) (d : ℕ) (cs : List Candidate) → is_covered level (raised_all level dot P cs) H u d
+    ≡ (list_any (λ (c : Candidate). applies u d (c.window, dot)) cs || is_covered level P H u d)
 cover_raised level dot P H u d [] = refl
 cover_raised level dot P H u d (c ∷ cs) =
     cover_raised level dot (raise P (c.window, dot) level) H u d cs
     ∙ ap (λ b. list_any (λ (x : Candidate). applies u d (x.window, dot)) cs || b) (covered_raised level P H (c.window, dot) u d)
     ∙ turned (applies u d (c.window, dot)) (list_any (λ (x : Candidate). applies u d (x.window, dot)) cs) (is_covered level P H u d)
 
-cover_hopeless : (level dot : ℕ) (P : Patterns) (H : Hopeless) (u : List ℕ) (d : ℕ) (cs : List Candidate) → is_covered level P (hopeless_all dot H cs) u d ≡ (list_any (λ (c : Candidate). applies u d (c.window, dot)) cs || is_covered level P H u d)
+cover_hopeless : (level dot : ℕ) (P : Patterns) (H : Hopeless) (u : List ℕ) (d : ℕ) (cs : List Candidate) → is_covered level P (hopeless_all dot H cs) u d
+    ≡ (list_any (λ (c : Candidate). applies u d (c.window, dot)) cs || is_covered level P H u d)
 cover_hopeless level dot P H u d [] = refl
 cover_hopeless level dot P H u d (c ∷ cs) =
     cover_hopeless level dot P (put dotted_cmp (c.window, dot) (tt {0}) H) u d cs
@@ -224,7 +240,8 @@ cover_hopeless level dot P H u d (c ∷ cs) =
     ∙ turned (applies u d (c.window, dot)) (list_any (λ (x : Candidate). applies u d (x.window, dot)) cs) (is_covered level P H u d)
 
 pub values_after : (m : Minima) (words : List Word) (pass : Pass) (P : Patterns) (H : Hopeless) (raised : Candidate → Bool) (w : List ℕ) (p : ℕ)
-    → value_at (patterns_after_pass m words pass P H raised) w p ≡ max (cond (fits w p pass.len pass.dot && is_candidate raised (counted_positions m words pass P H) (window w p pass.len pass.dot)) pass.level 0) (value_at P w p)
+    → value_at (patterns_after_pass m words pass P H raised) w p ≡ max
+    (cond (fits w p pass.len pass.dot && is_candidate raised (counted_positions m words pass P H) (window w p pass.len pass.dot)) pass.level 0) (value_at P w p)
 values_after m words pass P H raised w p =
     value_all pass.level pass.dot P w p (filter raised (tally (counted_positions m words pass P H)))
     ∙ ap (λ b. max (only b pass.level) (value_at P w p))
@@ -233,14 +250,18 @@ values_after m words pass P H raised w p =
 
 pub covers_after : (m : Minima) (words : List Word) (pass : Pass) (P : Patterns) (H : Hopeless) (raised hopeless : Candidate → Bool) (w : List ℕ) (p d : ℕ) → fits w p pass.len d ≡ true
     → is_covered pass.level (patterns_after_pass m words pass P H raised) (hopeless_after_pass m words pass P H hopeless) (window w p pass.len d) d
-    ≡ ((nat_eq d pass.dot && (is_candidate raised (counted_positions m words pass P H) (window w p pass.len pass.dot) || is_candidate hopeless (counted_positions m words pass P H) (window w p pass.len pass.dot))) || is_covered pass.level P H (window w p pass.len d) d)
+    ≡ ((nat_eq d pass.dot && (is_candidate raised (counted_positions m words pass P H) (window w p pass.len pass.dot)
+    || is_candidate hopeless (counted_positions m words pass P H) (window w p pass.len pass.dot))) || is_covered pass.level P H (window w p pass.len d) d)
 covers_after m words pass P H raised hopeless w p d fit =
     cover_hopeless pass.level pass.dot (patterns_after_pass m words pass P H raised) H (window w p pass.len d) d (filter hopeless (tally (counted_positions m words pass P H)))
-    ∙ ap (λ b. list_any (λ (x : Candidate). applies (window w p pass.len d) d (x.window, pass.dot)) (filter hopeless (tally (counted_positions m words pass P H))) || b) (cover_raised pass.level pass.dot P H (window w p pass.len d) d (filter raised (tally (counted_positions m words pass P H))))
+    ∙ ap (λ b. list_any (λ (x : Candidate). applies (window w p pass.len d) d (x.window, pass.dot)) (filter hopeless (tally (counted_positions m words pass P H))) || b)
+    (cover_raised pass.level pass.dot P H (window w p pass.len d) d (filter raised (tally (counted_positions m words pass P H))))
     ∙ (λ i. those hopeless i || (those raised i || is_covered pass.level P H (window w p pass.len d) d))
-    ∙ grouped (nat_eq d pass.dot) (is_candidate raised (counted_positions m words pass P H) (window w p pass.len pass.dot)) (is_candidate hopeless (counted_positions m words pass P H) (window w p pass.len pass.dot)) (is_covered pass.level P H (window w p pass.len d) d)
+    ∙ grouped (nat_eq d pass.dot) (is_candidate raised (counted_positions m words pass P H) (window w p pass.len pass.dot))
+    (is_candidate hopeless (counted_positions m words pass P H) (window w p pass.len pass.dot)) (is_covered pass.level P H (window w p pass.len d) d)
   where
-    those : (test : Candidate → Bool) → list_any (λ (x : Candidate). applies (window w p pass.len d) d (x.window, pass.dot)) (filter test (tally (counted_positions m words pass P H))) ≡ (nat_eq d pass.dot && is_candidate test (counted_positions m words pass P H) (window w p pass.len pass.dot))
+    those : (test : Candidate → Bool) → list_any (λ (x : Candidate). applies (window w p pass.len d) d (x.window, pass.dot)) (filter test (tally (counted_positions m words pass P H)))
+        ≡ (nat_eq d pass.dot && is_candidate test (counted_positions m words pass P H) (window w p pass.len pass.dot))
     those test =
         any_covers w p pass.len d pass.dot (filter test (tally (counted_positions m words pass P H))) fit (passing_long test m words pass P H)
         ∙ ap (λ b. nat_eq d pass.dot && b) (among_candidates test (counted_positions m words pass P H) (window w p pass.len pass.dot))

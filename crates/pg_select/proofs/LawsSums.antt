@@ -38,7 +38,8 @@ weight_within w p word =
 pub positions_few : (left right signs : ℕ) → 1 ≤ left → length (positions left right signs) ≤ signs - 2
 positions_few left right signs low = by_test (nat_le (left + right + 2) signs) (leb-true (left + right + 2) signs)
   where
-    by_test : (b : Bool) → (b ≡ true → left + right + 2 ≤ signs) → length (option_map_or (λ (ends : ℕ × ℕ). range_with_len ends.0 (ends.1 + 1 - ends.0)) (cond b (Some (left + 1, signs - right - 1)) None) []) ≤ signs - 2
+    by_test : (b : Bool) → (b ≡ true → left + right + 2 ≤ signs) → length
+        (option_map_or (λ (ends : ℕ × ℕ). range_with_len ends.0 (ends.1 + 1 - ends.0)) (cond b (Some (left + 1, signs - right - 1)) None) []) ≤ signs - 2
     by_test false long = omega arith
     by_test true long =
         let enough : left + right + 2 ≤ signs = long refl in
@@ -54,7 +55,8 @@ positions_within m (w ∷ ws) low =
     omega (arith, sum_by-cons (reached m) w ws, sum_by-cons letter_count w ws, positions_few m.left m.right (length w.signs) low)
 
 -- a list of lists weighs no more than its parts may
-parts_within : {X Y : Type 0} (f : X → List Y) (g : Y → ℕ) (n : ℕ) (size : X → ℕ) (Holds : X → Type 0) → ((x : X) → Holds x → sum_by g (f x) ≤ n * size x) → (xs : List X) → All Holds xs → sum_by g (flat_map f xs) ≤ n * sum_by size xs
+parts_within : {X Y : Type 0} (f : X → List Y) (g : Y → ℕ) (n : ℕ) (size : X → ℕ) (Holds : X → Type 0) → ((x : X) → Holds x → sum_by g (f x) ≤ n * size x)
+    → (xs : List X) → All Holds xs → sum_by g (flat_map f xs) ≤ n * sum_by size xs
 parts_within f g n size Holds each [] all = omega arith
 parts_within f g n size Holds each (x ∷ xs) all =
     let here : sum_by g (f x) ≤ n * size x = each x (All-head Holds x xs all) in
@@ -64,11 +66,18 @@ parts_within f g n size Holds each (x ∷ xs) all =
     omega arith
 
 -- the marks of a word weigh no more than its positions may
-marks_within : (P : List ((List ℕ × ℕ) × ℕ)) (w : Word) → IsWord w → (ps : List ℕ) → sum_by (λ (e : Mark × ℕ). e.1) (map (λ (p : ℕ). (status_at P w p, position_weight w p)) ps) ≤ WEIGHT_MAX * length ps
+marks_within : (P : List ((List ℕ × ℕ) × ℕ)) (w : Word) → IsWord w → (ps : List ℕ)
+    → sum_by (λ (e : Mark × ℕ). e.1) (map (λ (p : ℕ). (status_at P w p, position_weight w p)) ps) ≤ WEIGHT_MAX * length ps
 marks_within P w word [] = omega arith
 marks_within P w word (p ∷ ps) =
     let rest = marks_within P w word ps in
-    omega (arith, weight_within w p word, marks_within P w word ps, sum_by-cons (λ (e : Mark × ℕ). e.1) (status_at P w p, position_weight w p) (map (λ (q : ℕ). (status_at P w q, position_weight w q)) ps))
+    omega (
+      arith,
+      weight_within w p word,
+      marks_within P w word ps,
+      sum_by-cons (λ (e : Mark × ℕ). e.1) (status_at P w p, position_weight w p)
+          (map (λ (q : ℕ). (status_at P w q, position_weight w q)) ps),
+    )
 
 -- a mark counts once at most
 one_mark : (m : Mark) (x : ℕ) → cond (is_found m) x 0 + cond (is_error m) x 0 + cond (is_missed m) x 0 ≤ x
@@ -92,7 +101,8 @@ three_within (e ∷ es) =
     )
 
 -- the totals are within the weights of the positions in reach
-pub totals_within : (m : Minima) (words : List Word) (P : List ((List ℕ × ℕ) × ℕ)) → All IsWord words → (totals m words P).good + (totals m words P).bad + (totals m words P).missed ≤ WEIGHT_MAX * positions_in m words
+pub totals_within : (m : Minima) (words : List Word) (P : List ((List ℕ × ℕ) × ℕ)) → All IsWord words
+    → (totals m words P).good + (totals m words P).bad + (totals m words P).missed ≤ WEIGHT_MAX * positions_in m words
 totals_within m words P each =
     let whole : sum_by (λ (e : Mark × ℕ). e.1) (flat_map (marks_in m P) words) ≤ WEIGHT_MAX * positions_in m words
     = parts_within (marks_in m P) (λ (e : Mark × ℕ). e.1) WEIGHT_MAX (reached m) IsWord (λ w word. marks_within P w word (positions m.left m.right (length w.signs))) words each in
@@ -103,16 +113,26 @@ seen_within : (o : Option Bool) (u : List ℕ) (x : ℕ) → sum_by (λ (s : Cou
 seen_within None u x = omega arith
 seen_within (Some good) u x = omega arith
 
-seen_in : (pass : Pass) (P : List ((List ℕ × ℕ) × ℕ)) (H : Hopeless) (w : Word) → IsWord w → (ps : List ℕ) → sum_by (λ (s : CountedPosition). s.weight) (flat_map (counted_positions_at pass P H w) ps) ≤ WEIGHT_MAX * length ps
+seen_in : (pass : Pass) (P : List ((List ℕ × ℕ) × ℕ)) (H : Hopeless) (w : Word) → IsWord w → (ps : List ℕ)
+    → sum_by (λ (s : CountedPosition). s.weight) (flat_map (counted_positions_at pass P H w) ps) ≤ WEIGHT_MAX * length ps
 seen_in pass P H w word [] = omega arith
 seen_in pass P H w word (p ∷ ps) =
-    let here : sum_by (λ (s : CountedPosition). s.weight) (counted_positions_at pass P H w p) ≤ position_weight w p = seen_within (counted_at pass P H w p) (window w.signs p pass.len pass.dot) (position_weight w p) in
-    omega (arith, weight_within w p word, seen_in pass P H w word ps, sum_by-append (λ (s : CountedPosition). s.weight) (counted_positions_at pass P H w p) (flat_map (counted_positions_at pass P H w) ps))
+    let here : sum_by (λ (s : CountedPosition). s.weight) (counted_positions_at pass P H w p) ≤ position_weight w p =
+    seen_within (counted_at pass P H w p) (window w.signs p pass.len pass.dot) (position_weight w p) in
+    omega (
+      arith,
+      weight_within w p word,
+      seen_in pass P H w word ps,
+      sum_by-append (λ (s : CountedPosition). s.weight) (counted_positions_at pass P H w p)
+          (flat_map (counted_positions_at pass P H w) ps),
+    )
 
 -- what a pass counts is within the weights of the positions in reach
-pub weights_within : (m : Minima) (words : List Word) (pass : Pass) (P : List ((List ℕ × ℕ) × ℕ)) (H : Hopeless) → All IsWord words → sum_by (λ (s : CountedPosition). s.weight) (counted_positions m words pass P H) ≤ WEIGHT_MAX * positions_in m words
+pub weights_within : (m : Minima) (words : List Word) (pass : Pass) (P : List ((List ℕ × ℕ) × ℕ)) (H : Hopeless) → All IsWord words
+    → sum_by (λ (s : CountedPosition). s.weight) (counted_positions m words pass P H) ≤ WEIGHT_MAX * positions_in m words
 weights_within m words pass P H each =
-    parts_within (counted_positions_in m pass P H) (λ (s : CountedPosition). s.weight) WEIGHT_MAX (reached m) IsWord (λ w word. seen_in pass P H w word (positions m.left m.right (length w.signs))) words each
+    parts_within (counted_positions_in m pass P H) (λ (s : CountedPosition). s.weight) WEIGHT_MAX (reached m) IsWord
+    (λ w word. seen_in pass P H w word (positions m.left m.right (length w.signs))) words each
 
 -- a window more, or none
 put_length : (u : List ℕ) (windows : List (List ℕ × Unit {0})) → length (put cmp u (tt {0}) windows) ≤ length windows + 1
@@ -136,29 +156,48 @@ seen_once (Some good) u x = omega arith
 counted_few_in : (pass : Pass) (P : List ((List ℕ × ℕ) × ℕ)) (H : Hopeless) (w : Word) (ps : List ℕ) → length (flat_map (counted_positions_at pass P H w) ps) ≤ length ps
 counted_few_in pass P H w [] = omega arith
 counted_few_in pass P H w (p ∷ ps) =
-    omega (arith, seen_once (counted_at pass P H w p) (window w.signs p pass.len pass.dot) (position_weight w p), counted_few_in pass P H w ps, length-append (counted_positions_at pass P H w p) (flat_map (counted_positions_at pass P H w) ps))
+    omega (
+      arith,
+      seen_once (counted_at pass P H w p) (window w.signs p pass.len pass.dot) (position_weight w p),
+      counted_few_in pass P H w ps,
+      length-append (counted_positions_at pass P H w p) (flat_map (counted_positions_at pass P H w) ps),
+    )
 
 -- a pass counts no more than positions in reach
 pub counted_few : (m : Minima) (words : List Word) (pass : Pass) (P : List ((List ℕ × ℕ) × ℕ)) (H : Hopeless) → length (counted_positions m words pass P H) ≤ positions_in m words
 counted_few m [] pass P H = omega arith
 counted_few m (w ∷ ws) pass P H =
-    omega (arith, counted_few m ws pass P H, counted_few_in pass P H w (positions m.left m.right (length w.signs)), sum_by-cons (reached m) w ws, length-append (counted_positions_in m pass P H w) (flat_map (counted_positions_in m pass P H) ws))
+    omega (
+      arith,
+      counted_few m ws pass P H,
+      counted_few_in pass P H w (positions m.left m.right (length w.signs)),
+      sum_by-cons (reached m) w ws,
+      length-append (counted_positions_in m pass P H w) (flat_map (counted_positions_in m pass P H) ws),
+    )
 
 -- and has no more candidates
 pub candidates_few : (m : Minima) (words : List Word) (pass : Pass) (P : List ((List ℕ × ℕ) × ℕ)) (H : Hopeless) → length (candidates (counted_positions m words pass P H)) ≤ positions_in m words
-candidates_few m words pass P H = omega (arith, counted_few m words pass P H, windows_few [] (counted_positions m words pass P H), keys_length (fold with_window [] (counted_positions m words pass P H)))
+candidates_few m words pass P H = omega (
+  arith,
+  counted_few m words pass P H,
+  windows_few [] (counted_positions m words pass P H),
+  keys_length (fold with_window [] (counted_positions m words pass P H)),
+)
 
 small : (n k : ℕ) → n ≤ WEIGHT_MAX * k → k ≤ FILE_MAX → n < 2 ^ 40
 small n k light few = omega arith
 
 -- the totals are small where no more positions are in reach than letters
-pub totals_small_within : (m : Minima) (words : List Word) (P : List ((List ℕ × ℕ) × ℕ)) → positions_in m words ≤ sum_by letter_count words → AreFew words → (totals m words P).good + (totals m words P).bad + (totals m words P).missed < 2 ^ 40
-totals_small_within m words P upto few = small ((totals m words P).good + (totals m words P).bad + (totals m words P).missed) (positions_in m words) (totals_within m words P few.each) (omega (arith, few.letters))
+pub totals_small_within : (m : Minima) (words : List Word) (P : List ((List ℕ × ℕ) × ℕ)) → positions_in m words ≤ sum_by letter_count words → AreFew words
+    → (totals m words P).good + (totals m words P).bad + (totals m words P).missed < 2 ^ 40
+totals_small_within m words P upto few = small ((totals m words P).good + (totals m words P).bad + (totals m words P).missed) (positions_in m words)
+    (totals_within m words P few.each) (omega (arith, few.letters))
 
 pub totals_small : (m : Minima) (words : List Word) (P : List ((List ℕ × ℕ) × ℕ)) → 1 ≤ m.left → AreFew words → (totals m words P).good + (totals m words P).bad + (totals m words P).missed < 2 ^ 40
 totals_small m words P low few = totals_small_within m words P (positions_within m words low) few
 
-pub counted_light : (m : Minima) (words : List Word) (pass : Pass) (P : List ((List ℕ × ℕ) × ℕ)) (H : Hopeless) → 1 ≤ m.left → AreFew words → sum_by (λ (s : CountedPosition). s.weight) (counted_positions m words pass P H) < 2 ^ 40
+pub counted_light : (m : Minima) (words : List Word) (pass : Pass) (P : List ((List ℕ × ℕ) × ℕ)) (H : Hopeless) → 1 ≤ m.left → AreFew words
+    → sum_by (λ (s : CountedPosition). s.weight) (counted_positions m words pass P H) < 2 ^ 40
 counted_light m words pass P H low few =
     let upto : positions_in m words ≤ sum_by letter_count words = positions_within m words low in
     small (sum_by (λ (s : CountedPosition). s.weight) (counted_positions m words pass P H)) (positions_in m words) (weights_within m words pass P H few.each) (omega (arith, few.letters))

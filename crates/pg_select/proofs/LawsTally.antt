@@ -50,7 +50,8 @@ one_window true b (Some x) = refl
 one_window false b o = refl
 
 -- the windows that are found are those of before and those that are counted
-pub windows_found : (u : List ℕ) (windows : List (List ℕ × Unit {0})) (counted : List CountedPosition) → is_some (find cmp u (fold with_window windows counted)) ≡ (is_some (find cmp u windows) || is_counted_window counted u)
+pub windows_found : (u : List ℕ) (windows : List (List ℕ × Unit {0})) (counted : List CountedPosition) → is_some (find cmp u (fold with_window windows counted))
+    ≡ (is_some (find cmp u windows) || is_counted_window counted u)
 windows_found u windows [] = or_false (is_some (find cmp u windows))
   where
     or_false : (b : Bool) → b ≡ (b || false)
@@ -71,7 +72,8 @@ sums good bad = Some (good, bad)
 pairs : (a b c d : ℕ) → a ≡ c → b ≡ d → sums a b ≡ sums c d
 pairs a b c d p q = λ i. sums (p i) (q i)
 
-one_more : (good : Bool) (weight : ℕ) (o : Option (ℕ × ℕ)) (b : Bool) (gs bs : ℕ) → added (Some (with_weight (unwrap_or o (0, 0)) good weight)) b gs bs ≡ added o true (cond good weight 0 + gs) (cond (not good) weight 0 + bs)
+one_more : (good : Bool) (weight : ℕ) (o : Option (ℕ × ℕ)) (b : Bool) (gs bs : ℕ) → added (Some (with_weight (unwrap_or o (0, 0)) good weight)) b gs bs
+    ≡ added o true (cond good weight 0 + gs) (cond (not good) weight 0 + bs)
 one_more true weight None b gs bs = pairs _ _ _ _ (omega arith) (omega arith)
 one_more false weight None b gs bs = pairs _ _ _ _ (omega arith) (omega arith)
 one_more true weight (Some x) b gs bs = pairs _ _ _ _ (omega arith) (omega arith)
@@ -90,14 +92,18 @@ none_more None = refl
 none_more (Some x) = pairs x.0 x.1 (x.0 + 0) (x.1 + 0) (omega arith) (omega arith)
 
 -- the sums that are found are those of before with those that are counted
-pub sums_found : (u : List ℕ) (counts : Counts) (counted : List CountedPosition) → find cmp u (fold with_position counts counted) ≡ added (find cmp u counts) (is_counted_window counted u) (good_of counted u) (bad_of counted u)
+pub sums_found : (u : List ℕ) (counts : Counts) (counted : List CountedPosition) → find cmp u (fold with_position counts counted)
+    ≡ added (find cmp u counts) (is_counted_window counted u) (good_of counted u) (bad_of counted u)
 sums_found u counts [] = none_more (find cmp u counts)
 sums_found u counts (s ∷ ss) =
     let good : good_of (s ∷ ss) u ≡ cond (same_signs u s.window && s.good) s.weight 0 + good_of ss u = sum_by-cons (λ (x : CountedPosition). cond (same_signs u x.window && x.good) x.weight 0) s ss in
-    let bad : bad_of (s ∷ ss) u ≡ cond (same_signs u s.window && not s.good) s.weight 0 + bad_of ss u = sum_by-cons (λ (x : CountedPosition). cond (same_signs u x.window && not x.good) x.weight 0) s ss in
+    let bad : bad_of (s ∷ ss) u ≡ cond (same_signs u s.window && not s.good) s.weight 0 + bad_of ss u =
+    sum_by-cons (λ (x : CountedPosition). cond (same_signs u x.window && not x.good) x.weight 0) s ss in
     sums_found u (with_position counts s) ss
-    ∙ ap (λ (o : Option (ℕ × ℕ)). added o (is_counted_window ss u) (good_of ss u) (bad_of ss u)) (find-put cmp nat_list_cmp_total u s.window (with_weight (sums_of counts s.window) s.good s.weight) counts)
-    ∙ one_position (same_signs u s.window) s.good s.weight (find cmp u counts) (find cmp s.window counts) (is_counted_window ss u) (good_of ss u) (bad_of ss u) (λ t. find_tied cmp nat_list_cmp_total u s.window (equal_is (cmp u s.window) t) counts)
+    ∙ ap (λ (o : Option (ℕ × ℕ)). added o (is_counted_window ss u) (good_of ss u) (bad_of ss u))
+    (find-put cmp nat_list_cmp_total u s.window (with_weight (sums_of counts s.window) s.good s.weight) counts)
+    ∙ one_position (same_signs u s.window) s.good s.weight (find cmp u counts) (find cmp s.window counts) (is_counted_window ss u) (good_of ss u)
+    (bad_of ss u) (λ t. find_tied cmp nat_list_cmp_total u s.window (equal_is (cmp u s.window) t) counts)
     ∙ (λ i. added (find cmp u counts) (is_counted_window (s ∷ ss) u) (sym good i) (sym bad i))
 
 -- the entries of windows with their sums
@@ -112,10 +118,12 @@ entries_sorted : (counted : List CountedPosition) (windows : List (List ℕ × U
 entries_sorted counted [] = refl
 entries_sorted counted (e ∷ es) = λ i. entries_below counted e.0 es i && entries_sorted counted es i
 
-entries_found : (counted : List CountedPosition) (u : List ℕ) (windows : List (List ℕ × Unit {0})) → find cmp u (entries_of counted windows) ≡ cond (is_some (find cmp u windows)) (Some (good_of counted u, bad_of counted u)) None
+entries_found : (counted : List CountedPosition) (u : List ℕ) (windows : List (List ℕ × Unit {0})) → find cmp u (entries_of counted windows)
+    ≡ cond (is_some (find cmp u windows)) (Some (good_of counted u, bad_of counted u)) None
 entries_found counted u [] = refl
 entries_found counted u (e ∷ es) =
-    elim (same_signs u e.0) as (λ (t : Bool). same_signs u e.0 ≡ t → cond t (Some (good_of counted e.0, bad_of counted e.0)) (find cmp u (entries_of counted es)) ≡ cond (is_some (cond t (Some e.1) (find cmp u es))) (Some (good_of counted u, bad_of counted u)) None) [
+    elim (same_signs u e.0) as (λ (t : Bool). same_signs u e.0 ≡ t → cond t (Some (good_of counted e.0, bad_of counted e.0)) (find cmp u (entries_of counted es))
+    ≡ cond (is_some (cond t (Some e.1) (find cmp u es))) (Some (good_of counted u, bad_of counted u)) None) [
       | true ↦ λ t. ap (λ (v : List ℕ). Some (good_of counted v, bad_of counted v)) (sym (same_window u e.0 t))
       | false ↦ λ t. entries_found counted u es
     ] refl
@@ -157,7 +165,8 @@ keys_length [] = refl
 keys_length (e ∷ es) = ap suc (keys_length es)
 
 -- the candidates stand in order
-pub candidates_in_order : (counted : List CountedPosition) (i j : ℕ) (d : List ℕ) → i < j → j < length (candidates counted) → cmp (get_or (candidates counted) i d) (get_or (candidates counted) j d) ≡ Less
+pub candidates_in_order : (counted : List CountedPosition) (i j : ℕ) (d : List ℕ) → i < j → j < length (candidates counted)
+    → cmp (get_or (candidates counted) i d) (get_or (candidates counted) j d) ≡ Less
 candidates_in_order counted i j d before inside =
     let windows : List (List ℕ × Unit {0}) = fold with_window [] counted in
     let within : j < length (fold with_window [] counted) = omega (arith, keys_length (fold with_window [] counted)) in

@@ -83,7 +83,8 @@ module _ (kind : CountedPosition → Bool) (test : List ℕ → Bool) where
   point false false false r a w is = refl
 
   -- one window more
-  one_more : (u : List ℕ) (us : List (List ℕ)) → list_any (same_signs u) us ≡ false → (counted : List CountedPosition) → cond (test u) (sum_by (own u) counted) 0 + sum_by (among us) counted ≡ sum_by (among (u ∷ us)) counted
+  one_more : (u : List ℕ) (us : List (List ℕ)) → list_any (same_signs u) us ≡ false → (counted : List CountedPosition)
+      → cond (test u) (sum_by (own u) counted) 0 + sum_by (among us) counted ≡ sum_by (among (u ∷ us)) counted
   one_more u us new [] = nothing (test u)
     where
       nothing : (b : Bool) → cond b 0 0 + 0 ≡ 0
@@ -124,21 +125,25 @@ module _ (kind : CountedPosition → Bool) (test : List ℕ → Bool) where
       none false w = refl
   swapped (e ∷ es) sorted counted =
       let parts = and_parts (below_all cmp e.0 es) (is_sorted cmp es) sorted in
-      let rest : sum_by (λ (u : List ℕ). cond (test u) (sum_by (own u) counted) 0) (map (λ (x : List ℕ × Unit {0}). x.0) es) ≡ sum_by (among (map (λ (x : List ℕ × Unit {0}). x.0) es)) counted = swapped es parts.1 counted in
+      let rest : sum_by (λ (u : List ℕ). cond (test u) (sum_by (own u) counted) 0) (map (λ (x : List ℕ × Unit {0}). x.0) es)
+      ≡ sum_by (among (map (λ (x : List ℕ × Unit {0}). x.0) es)) counted = swapped es parts.1 counted in
       sum_by-cons (λ (u : List ℕ). cond (test u) (sum_by (own u) counted) 0) e.0 (map (λ (x : List ℕ × Unit {0}). x.0) es)
       ∙ ap (λ n. cond (test e.0) (sum_by (own e.0) counted) 0 + n) rest
       ∙ one_more e.0 (map (λ (x : List ℕ × Unit {0}). x.0) es) (stands_once e.0 es parts.0) counted
 
 -- a sum over candidates that pass, as a sum over windows
-passing_sum : (raised : Candidate → Bool) (g : Candidate → ℕ) (counted : List CountedPosition) (us : List (List ℕ)) → sum_by g (filter raised (map (candidate_at counted) us)) ≡ sum_by (λ (u : List ℕ). cond (raised (candidate_at counted u)) (g (candidate_at counted u)) 0) us
+passing_sum : (raised : Candidate → Bool) (g : Candidate → ℕ) (counted : List CountedPosition) (us : List (List ℕ)) → sum_by g (filter raised (map (candidate_at counted) us))
+    ≡ sum_by (λ (u : List ℕ). cond (raised (candidate_at counted u)) (g (candidate_at counted u)) 0) us
 passing_sum raised g counted [] = refl
 passing_sum raised g counted (u ∷ us) =
-    let rest : sum_by g (filter raised (map (candidate_at counted) us)) ≡ sum_by (λ (v : List ℕ). cond (raised (candidate_at counted v)) (g (candidate_at counted v)) 0) us = passing_sum raised g counted us in
+    let rest : sum_by g (filter raised (map (candidate_at counted) us)) ≡ sum_by (λ (v : List ℕ). cond (raised (candidate_at counted v)) (g (candidate_at counted v)) 0) us =
+    passing_sum raised g counted us in
     kept (raised (candidate_at counted u))
     ∙ ap (λ n. cond (raised (candidate_at counted u)) (g (candidate_at counted u)) 0 + n) rest
     ∙ sym (sum_by-cons (λ (v : List ℕ). cond (raised (candidate_at counted v)) (g (candidate_at counted v)) 0) u us)
   where
-    kept : (b : Bool) → sum_by g (cond b (candidate_at counted u ∷ filter raised (map (candidate_at counted) us)) (filter raised (map (candidate_at counted) us))) ≡ cond b (g (candidate_at counted u)) 0 + sum_by g (filter raised (map (candidate_at counted) us))
+    kept : (b : Bool) → sum_by g (cond b (candidate_at counted u ∷ filter raised (map (candidate_at counted) us)) (filter raised (map (candidate_at counted) us)))
+        ≡ cond b (g (candidate_at counted u)) 0 + sum_by g (filter raised (map (candidate_at counted) us))
     kept true = sum_by-cons g (candidate_at counted u) (filter raised (map (candidate_at counted) us))
     kept false = zero (sum_by g (filter raised (map (candidate_at counted) us)))
       where
@@ -149,13 +154,17 @@ passing_sum raised g counted (u ∷ us) =
 abbrev pub raised_weight : (Candidate → Bool) → List CountedPosition → (CountedPosition → Bool) → CountedPosition → ℕ
 raised_weight raised counted kind s = cond (kind s && is_candidate raised counted s.window) s.weight 0
 
-sum_raised : (kind : CountedPosition → Bool) (raised : Candidate → Bool) (g : Candidate → ℕ) (counted : List CountedPosition) → ((u : List ℕ) → g (candidate_at counted u) ≡ sum_by (own kind (λ (u : List ℕ). raised (candidate_at counted u)) u) counted)
+sum_raised : (kind : CountedPosition → Bool) (raised : Candidate → Bool) (g : Candidate → ℕ) (counted : List CountedPosition)
+    → ((u : List ℕ) → g (candidate_at counted u) ≡ sum_by (own kind (λ (u : List ℕ). raised (candidate_at counted u)) u) counted)
     → sum_by g (filter raised (tally counted)) ≡ sum_by (raised_weight raised counted kind) counted
 sum_raised kind raised g counted part =
     passing_sum raised g counted (candidates counted)
-    ∙ sum_same (λ (u : List ℕ). cond (raised (candidate_at counted u)) (g (candidate_at counted u)) 0) (λ (u : List ℕ). cond (raised (candidate_at counted u)) (sum_by (own kind (λ (v : List ℕ). raised (candidate_at counted v)) u) counted) 0) (candidates counted) (λ u. ap (λ n. cond (raised (candidate_at counted u)) n 0) (part u))
+    ∙ sum_same (λ (u : List ℕ). cond (raised (candidate_at counted u)) (g (candidate_at counted u)) 0)
+    (λ (u : List ℕ). cond (raised (candidate_at counted u)) (sum_by (own kind (λ (v : List ℕ). raised (candidate_at counted v)) u) counted) 0)
+    (candidates counted) (λ u. ap (λ n. cond (raised (candidate_at counted u)) n 0) (part u))
     ∙ swapped kind (λ (u : List ℕ). raised (candidate_at counted u)) (fold with_window [] counted) (is_true (is_sorted cmp (fold with_window [] counted)) (windows_sorted [] counted tt)) counted
-    ∙ sum_same (among kind (λ (u : List ℕ). raised (candidate_at counted u)) (candidates counted)) (raised_weight raised counted kind) counted (λ s. ap (λ b. cond (kind s && (b && raised (candidate_at counted s.window))) s.weight 0) (candidates_are_counted counted s.window))
+    ∙ sum_same (among kind (λ (u : List ℕ). raised (candidate_at counted u)) (candidates counted)) (raised_weight raised counted kind) counted
+    (λ s. ap (λ b. cond (kind s && (b && raised (candidate_at counted s.window))) s.weight 0) (candidates_are_counted counted s.window))
 
 good_raised_sum : (raised : Candidate → Bool) (counted : List CountedPosition) → good_raised raised counted ≡ sum_by (raised_weight raised counted (λ (s : CountedPosition). s.good)) counted
 good_raised_sum raised counted = sum_raised (λ (s : CountedPosition). s.good) raised (λ (c : Candidate). c.good) counted (λ u. refl)
@@ -320,7 +329,8 @@ module _ (m : Minima) (words : List Word) (pass : Pass) (P : Patterns) (H : Hope
   abbrev part_of : (Bool → Bool) → CountedPosition → ℕ
   part_of kind = raised_weight raised (counted_positions m words pass P H) (λ (s : CountedPosition). kind s.good)
 
-  single : (kind : Bool → Bool) (o : Option Bool) → sum_by (part_of kind) (counted_as (window w.signs p pass.len pass.dot) (position_weight w p) o) ≡ changed_weight kind (position_weight w p) is_raised o
+  single : (kind : Bool → Bool) (o : Option Bool) → sum_by (part_of kind) (counted_as (window w.signs p pass.len pass.dot) (position_weight w p) o)
+      ≡ changed_weight kind (position_weight w p) is_raised o
   single kind None = refl
   single kind (Some good) = zero (cond (kind good && is_raised) (position_weight w p) 0)
     where
@@ -330,8 +340,11 @@ module _ (m : Minima) (words : List Word) (pass : Pass) (P : Patterns) (H : Hope
   moved_is : (kind : Bool → Bool) → sum_by (part_of kind) (counted_positions_at pass P H w p) ≡ changed_weight kind (position_weight w p) rises counts_before
   moved_is kind =
       single kind (counted_at pass P H w p)
-      ∙ changed_one kind (position_weight w p) (fits w.signs p pass.len pass.dot) is_raised (is_covered pass.level P H (window w.signs p pass.len pass.dot) pass.dot) (counts_as pass.level (status_at P w p))
-      (λ is. (counted_uncovered m words pass P H (window w.signs p pass.len pass.dot) (and_parts (is_counted_window (counted_positions m words pass P H) (window w.signs p pass.len pass.dot)) (raised (candidate_at (counted_positions m words pass P H) (window w.signs p pass.len pass.dot))) is).0).1)
+      ∙ changed_one kind (position_weight w p) (fits w.signs p pass.len pass.dot) is_raised (is_covered pass.level P H (window w.signs p pass.len pass.dot) pass.dot)
+      (counts_as pass.level (status_at P w p))
+      (λ is. (counted_uncovered m words pass P H (window w.signs p pass.len pass.dot)
+      (and_parts (is_counted_window (counted_positions m words pass P H) (window w.signs p pass.len pass.dot))
+      (raised (candidate_at (counted_positions m words pass P H) (window w.signs p pass.len pass.dot))) is).0).1)
       ∙ ap (λ (o : Option Bool). changed_weight kind (position_weight w p) rises o) (counts_by pass.level (status_at P w p))
 
   stays_is : (kind : Bool → Bool) → sum_by (part_of kind) (above_at pass P w p) ≡ changed_weight kind (position_weight w p) (rises && is_above) counts_before
@@ -349,17 +362,25 @@ module _ (m : Minima) (words : List Word) (pass : Pass) (P : Patterns) (H : Hope
 
   -- what a test of marks gains at the position, or loses
   gains : (test : Mark → Bool) (kind : Bool → Bool)
-      → weight_in test (mark_by hyphen_at care_at (cond (rises && not is_above) (is_odd pass.level) odd_before)) (position_weight w p) + 0 ≡ weight_in test (status_at P w p) (position_weight w p) + lifted kind
-      → weight_in test (status_at (patterns_after_pass m words pass P H raised) w p) (position_weight w p) + sum_by (part_of kind) (above_at pass P w p) ≡ weight_in test (status_at P w p) (position_weight w p) + sum_by (part_of kind) (counted_positions_at pass P H w p)
+      → weight_in test (mark_by hyphen_at care_at (cond (rises && not is_above) (is_odd pass.level) odd_before)) (position_weight w p) + 0
+      ≡ weight_in test (status_at P w p) (position_weight w p) + lifted kind
+      → weight_in test (status_at (patterns_after_pass m words pass P H raised) w p) (position_weight w p) + sum_by (part_of kind) (above_at pass P w p)
+      ≡ weight_in test (status_at P w p) (position_weight w p) + sum_by (part_of kind) (counted_positions_at pass P H w p)
   gains test kind is =
-      let mark : weight_in test (status_at (patterns_after_pass m words pass P H raised) w p) (position_weight w p) ≡ weight_in test (mark_by hyphen_at care_at (cond (rises && not is_above) (is_odd pass.level) odd_before)) (position_weight w p) = ap (λ (x : Mark). weight_in test x (position_weight w p)) mark_after in
+      let mark : weight_in test (status_at (patterns_after_pass m words pass P H raised) w p) (position_weight w p)
+      ≡ weight_in test (mark_by hyphen_at care_at (cond (rises && not is_above) (is_odd pass.level) odd_before)) (position_weight w p) =
+      ap (λ (x : Mark). weight_in test x (position_weight w p)) mark_after in
       omega (arith, mark, is, stays_is kind, moved_is kind, parted kind (position_weight w p) rises is_above counts_before)
 
   loses : (test : Mark → Bool) (kind : Bool → Bool)
-      → weight_in test (mark_by hyphen_at care_at (cond (rises && not is_above) (is_odd pass.level) odd_before)) (position_weight w p) + lifted kind ≡ weight_in test (status_at P w p) (position_weight w p) + 0
-      → weight_in test (status_at (patterns_after_pass m words pass P H raised) w p) (position_weight w p) + sum_by (part_of kind) (counted_positions_at pass P H w p) ≡ weight_in test (status_at P w p) (position_weight w p) + sum_by (part_of kind) (above_at pass P w p)
+      → weight_in test (mark_by hyphen_at care_at (cond (rises && not is_above) (is_odd pass.level) odd_before)) (position_weight w p) + lifted kind
+      ≡ weight_in test (status_at P w p) (position_weight w p) + 0
+      → weight_in test (status_at (patterns_after_pass m words pass P H raised) w p) (position_weight w p) + sum_by (part_of kind) (counted_positions_at pass P H w p)
+      ≡ weight_in test (status_at P w p) (position_weight w p) + sum_by (part_of kind) (above_at pass P w p)
   loses test kind is =
-      let mark : weight_in test (status_at (patterns_after_pass m words pass P H raised) w p) (position_weight w p) ≡ weight_in test (mark_by hyphen_at care_at (cond (rises && not is_above) (is_odd pass.level) odd_before)) (position_weight w p) = ap (λ (x : Mark). weight_in test x (position_weight w p)) mark_after in
+      let mark : weight_in test (status_at (patterns_after_pass m words pass P H raised) w p) (position_weight w p)
+      ≡ weight_in test (mark_by hyphen_at care_at (cond (rises && not is_above) (is_odd pass.level) odd_before)) (position_weight w p) =
+      ap (λ (x : Mark). weight_in test x (position_weight w p)) mark_after in
       omega (arith, mark, is, stays_is kind, moved_is kind, parted kind (position_weight w p) rises is_above counts_before)
 
 -- what balances at each position balances in sum
@@ -371,7 +392,8 @@ module _ (m : Minima) (P P' : Patterns) (test : Mark → Bool) (part : CountedPo
   abbrev in_reach : (Word → ℕ → List CountedPosition) → Word → List CountedPosition
   in_reach h w = flat_map (h w) (positions m.left m.right (length w.signs))
 
-  balanced_word : (w : Word) (ps : List ℕ) → sum_by weighed (map (λ p. (status_at P' w p, position_weight w p)) ps) + sum_by part (flat_map (f w) ps) ≡ sum_by weighed (map (λ p. (status_at P w p, position_weight w p)) ps) + sum_by part (flat_map (g w) ps)
+  balanced_word : (w : Word) (ps : List ℕ) → sum_by weighed (map (λ p. (status_at P' w p, position_weight w p)) ps) + sum_by part (flat_map (f w) ps)
+      ≡ sum_by weighed (map (λ p. (status_at P w p, position_weight w p)) ps) + sum_by part (flat_map (g w) ps)
   balanced_word w [] = refl
   balanced_word w (p ∷ ps) =
       joined _ _ _ _ _ _ _ _ _ _ _ _
@@ -382,7 +404,8 @@ module _ (m : Minima) (P P' : Patterns) (test : Mark → Bool) (part : CountedPo
       (sum_by-append part (f w p) (flat_map (f w) ps))
       (sum_by-append part (g w p) (flat_map (g w) ps))
 
-  balanced : (words : List Word) → weight_of test (flat_map (marks_in m P') words) + sum_by part (flat_map (in_reach f) words) ≡ weight_of test (flat_map (marks_in m P) words) + sum_by part (flat_map (in_reach g) words)
+  balanced : (words : List Word) → weight_of test (flat_map (marks_in m P') words) + sum_by part (flat_map (in_reach f) words)
+      ≡ weight_of test (flat_map (marks_in m P) words) + sum_by part (flat_map (in_reach g) words)
   balanced [] = refl
   balanced (w ∷ words) =
       joined _ _ _ _ _ _ _ _ _ _ _ _
@@ -394,7 +417,8 @@ module _ (m : Minima) (P P' : Patterns) (test : Mark → Bool) (part : CountedPo
       (sum_by-append part (in_reach g w) (flat_map (in_reach g) words))
 
 -- and so what is no more at each
-less_flat : {X : Type 0} (part : CountedPosition → ℕ) (f g : X → List CountedPosition) → ((x : X) → sum_by part (f x) ≤ sum_by part (g x)) → (xs : List X) → sum_by part (flat_map f xs) ≤ sum_by part (flat_map g xs)
+less_flat : {X : Type 0} (part : CountedPosition → ℕ) (f g : X → List CountedPosition) → ((x : X) → sum_by part (f x) ≤ sum_by part (g x)) → (xs : List X)
+    → sum_by part (flat_map f xs) ≤ sum_by part (flat_map g xs)
 less_flat part f g each [] = omega arith
 less_flat part f g each (x ∷ xs) = omega (arith, each x, less_flat part f g each xs, sum_by-append part (f x) (flat_map f xs), sum_by-append part (g x) (flat_map g xs))
 
@@ -415,7 +439,8 @@ none_above m words pass P upto = flat_none (above_in m pass P) (λ w. flat_none 
 
     here : (w : Word) (p : ℕ) → above_at pass P w p ≡ []
     here w p =
-        ap (λ b. counted_as (window w.signs p pass.len pass.dot) (position_weight w p) (cond (fits w.signs p pass.len pass.dot) (cond b (counts_as pass.level (status_at P w p)) None) None)) (not_above (value_at P w.signs p) (best_up_to pass.level (applies w.signs p) P upto))
+        ap (λ b. counted_as (window w.signs p pass.len pass.dot) (position_weight w p) (cond (fits w.signs p pass.len pass.dot) (cond b (counts_as pass.level (status_at P w p)) None) None))
+        (not_above (value_at P w.signs p) (best_up_to pass.level (applies w.signs p) P upto))
         ∙ none_at w p (fits w.signs p pass.len pass.dot) (counts_as pass.level (status_at P w p))
 
 module _ (m : Minima) (words : List Word) (pass : Pass) (P : Patterns) (H : Hopeless) (raised : Candidate → Bool) where
@@ -423,7 +448,8 @@ module _ (m : Minima) (words : List Word) (pass : Pass) (P : Patterns) (H : Hope
   weighs kind = raised_weight raised (counted_positions m words pass P H) (λ (s : CountedPosition). kind s.good)
 
   less_above : (kind : Bool → Bool) → sum_by (weighs kind) (above_positions m words pass P) ≤ sum_by (weighs kind) (counted_positions m words pass P H)
-  less_above kind = less_flat (weighs kind) (above_in m pass P) (counted_positions_in m pass P H) (λ w. less_flat (weighs kind) (above_at pass P w) (counted_positions_at pass P H w) (λ p. stays_less m words pass P H raised w p kind) (positions m.left m.right (length w.signs))) words
+  less_above kind = less_flat (weighs kind) (above_in m pass P) (counted_positions_in m pass P H)
+      (λ w. less_flat (weighs kind) (above_at pass P w) (counted_positions_at pass P H w) (λ p. stays_less m words pass P H raised w p kind) (positions m.left m.right (length w.signs))) words
 
   good_within : good_above raised (counted_positions m words pass P H) (above_positions m words pass P) ≤ good_raised raised (counted_positions m words pass P H)
   good_within = omega (arith, less_above itself, good_raised_sum raised (counted_positions m words pass P H))
@@ -433,18 +459,28 @@ module _ (m : Minima) (words : List Word) (pass : Pass) (P : Patterns) (H : Hope
 
   -- a test of marks gains at each position what is lifted there, or loses it, at a level that is odd or not
   abbrev GainsBy : (Mark → Bool) → (Bool → Bool) → Bool → Type 0
-  GainsBy test kind odd = (w : Word) (p : ℕ) → weight_in test (mark_by (hyphen_at m words pass P H raised w p) (care_at m words pass P H raised w p) (cond (rises m words pass P H raised w p && not (is_above m words pass P H raised w p)) odd (odd_before m words pass P H raised w p))) (position_weight w p) + 0
-      ≡ weight_in test (status_at P w p) (position_weight w p) + changed_weight kind (position_weight w p) (rises m words pass P H raised w p && not (is_above m words pass P H raised w p)) (counted_by odd (status_at P w p))
+  GainsBy test kind odd = (w : Word) (p : ℕ) → weight_in test (mark_by (hyphen_at m words pass P H raised w p) (care_at m words pass P H raised w p)
+      (cond (rises m words pass P H raised w p && not (is_above m words pass P H raised w p)) odd (odd_before m words pass P H raised w p))) (position_weight w p) + 0
+      ≡ weight_in test (status_at P w p) (position_weight w p) + changed_weight kind (position_weight w p) (rises m words pass P H raised w p && not (is_above m words pass P H raised w p))
+      (counted_by odd (status_at P w p))
 
   abbrev LosesBy : (Mark → Bool) → (Bool → Bool) → Bool → Type 0
-  LosesBy test kind odd = (w : Word) (p : ℕ) → weight_in test (mark_by (hyphen_at m words pass P H raised w p) (care_at m words pass P H raised w p) (cond (rises m words pass P H raised w p && not (is_above m words pass P H raised w p)) odd (odd_before m words pass P H raised w p))) (position_weight w p) + changed_weight kind (position_weight w p) (rises m words pass P H raised w p && not (is_above m words pass P H raised w p)) (counted_by odd (status_at P w p))
+  LosesBy test kind odd = (w : Word) (p : ℕ) → weight_in test (mark_by (hyphen_at m words pass P H raised w p) (care_at m words pass P H raised w p)
+      (cond (rises m words pass P H raised w p && not (is_above m words pass P H raised w p)) odd (odd_before m words pass P H raised w p)))
+      (position_weight w p) + changed_weight kind (position_weight w p) (rises m words pass P H raised w p && not (is_above m words pass P H raised w p)) (counted_by odd (status_at P w p))
       ≡ weight_in test (status_at P w p) (position_weight w p) + 0
 
-  gained_of : (test : Mark → Bool) (kind : Bool → Bool) → GainsBy test kind (is_odd pass.level) → weight_of test (flat_map (marks_in m (patterns_after_pass m words pass P H raised)) words) + sum_by (weighs kind) (above_positions m words pass P) ≡ weight_of test (flat_map (marks_in m P) words) + sum_by (weighs kind) (counted_positions m words pass P H)
-  gained_of test kind each = balanced m P (patterns_after_pass m words pass P H raised) test (weighs kind) (above_at pass P) (counted_positions_at pass P H) (λ w p. gains m words pass P H raised w p test kind (each w p)) words
+  gained_of : (test : Mark → Bool) (kind : Bool → Bool) → GainsBy test kind (is_odd pass.level)
+      → weight_of test (flat_map (marks_in m (patterns_after_pass m words pass P H raised)) words) + sum_by (weighs kind) (above_positions m words pass P)
+      ≡ weight_of test (flat_map (marks_in m P) words) + sum_by (weighs kind) (counted_positions m words pass P H)
+  gained_of test kind each = balanced m P (patterns_after_pass m words pass P H raised) test (weighs kind) (above_at pass P) (counted_positions_at pass P H)
+      (λ w p. gains m words pass P H raised w p test kind (each w p)) words
 
-  lost_of : (test : Mark → Bool) (kind : Bool → Bool) → LosesBy test kind (is_odd pass.level) → weight_of test (flat_map (marks_in m (patterns_after_pass m words pass P H raised)) words) + sum_by (weighs kind) (counted_positions m words pass P H) ≡ weight_of test (flat_map (marks_in m P) words) + sum_by (weighs kind) (above_positions m words pass P)
-  lost_of test kind each = balanced m P (patterns_after_pass m words pass P H raised) test (weighs kind) (counted_positions_at pass P H) (above_at pass P) (λ w p. loses m words pass P H raised w p test kind (each w p)) words
+  lost_of : (test : Mark → Bool) (kind : Bool → Bool) → LosesBy test kind (is_odd pass.level)
+      → weight_of test (flat_map (marks_in m (patterns_after_pass m words pass P H raised)) words) + sum_by (weighs kind) (counted_positions m words pass P H)
+      ≡ weight_of test (flat_map (marks_in m P) words) + sum_by (weighs kind) (above_positions m words pass P)
+  lost_of test kind each = balanced m P (patterns_after_pass m words pass P H raised) test (weighs kind) (counted_positions_at pass P H) (above_at pass P)
+      (λ w p. loses m words pass P H raised w p test kind (each w p)) words
 
   abbrev raised_good : ℕ
   raised_good = good_raised raised (counted_positions m words pass P H)
@@ -461,27 +497,37 @@ module _ (m : Minima) (words : List Word) (pass : Pass) (P : Patterns) (H : Hope
   abbrev new_totals : Totals
   new_totals = totals m words (patterns_after_pass m words pass P H raised)
 
-  odd_tests : (w : Word) (p : ℕ) → OddAt (hyphen_at m words pass P H raised w p) (care_at m words pass P H raised w p) (odd_before m words pass P H raised w p) (rises m words pass P H raised w p && not (is_above m words pass P H raised w p)) (position_weight w p)
-  odd_tests w p = odd_at (hyphen_at m words pass P H raised w p) (care_at m words pass P H raised w p) (odd_before m words pass P H raised w p) (rises m words pass P H raised w p && not (is_above m words pass P H raised w p)) (position_weight w p)
+  odd_tests : (w : Word) (p : ℕ) → OddAt (hyphen_at m words pass P H raised w p) (care_at m words pass P H raised w p) (odd_before m words pass P H raised w p)
+      (rises m words pass P H raised w p && not (is_above m words pass P H raised w p)) (position_weight w p)
+  odd_tests w p = odd_at (hyphen_at m words pass P H raised w p) (care_at m words pass P H raised w p) (odd_before m words pass P H raised w p)
+      (rises m words pass P H raised w p && not (is_above m words pass P H raised w p)) (position_weight w p)
 
-  even_tests : (w : Word) (p : ℕ) → EvenAt (hyphen_at m words pass P H raised w p) (care_at m words pass P H raised w p) (odd_before m words pass P H raised w p) (rises m words pass P H raised w p && not (is_above m words pass P H raised w p)) (position_weight w p)
-  even_tests w p = even_at (hyphen_at m words pass P H raised w p) (care_at m words pass P H raised w p) (odd_before m words pass P H raised w p) (rises m words pass P H raised w p && not (is_above m words pass P H raised w p)) (position_weight w p)
+  even_tests : (w : Word) (p : ℕ) → EvenAt (hyphen_at m words pass P H raised w p) (care_at m words pass P H raised w p) (odd_before m words pass P H raised w p)
+      (rises m words pass P H raised w p && not (is_above m words pass P H raised w p)) (position_weight w p)
+  even_tests w p = even_at (hyphen_at m words pass P H raised w p) (care_at m words pass P H raised w p) (odd_before m words pass P H raised w p)
+      (rises m words pass P H raised w p && not (is_above m words pass P H raised w p)) (position_weight w p)
 
   finds_more : is_odd pass.level ≡ true → FindsMore (totals m words P) new_totals (raised_good - stays_good) (raised_bad - stays_bad)
   finds_more odd = record {
-    found = gained _ _ _ _ _ _ (gained_of is_found itself (subst (GainsBy is_found itself) (sym odd) (λ w p. (odd_tests w p).0))) refl (good_raised_sum raised (counted_positions m words pass P H)) good_within;
-    errors = gained _ _ _ _ _ _ (gained_of is_error not (subst (GainsBy is_error not) (sym odd) (λ w p. (odd_tests w p).1))) refl (bad_raised_sum raised (counted_positions m words pass P H)) bad_within;
-    missed = lost _ _ _ _ _ _ (lost_of is_missed itself (subst (LosesBy is_missed itself) (sym odd) (λ w p. (odd_tests w p).2))) refl (good_raised_sum raised (counted_positions m words pass P H)) good_within;
+    found = gained _ _ _ _ _ _ (gained_of is_found itself (subst (GainsBy is_found itself) (sym odd) (λ w p. (odd_tests w p).0))) refl
+        (good_raised_sum raised (counted_positions m words pass P H)) good_within;
+    errors = gained _ _ _ _ _ _ (gained_of is_error not (subst (GainsBy is_error not) (sym odd) (λ w p. (odd_tests w p).1))) refl
+        (bad_raised_sum raised (counted_positions m words pass P H)) bad_within;
+    missed = lost _ _ _ _ _ _ (lost_of is_missed itself (subst (LosesBy is_missed itself) (sym odd) (λ w p. (odd_tests w p).2))) refl
+        (good_raised_sum raised (counted_positions m words pass P H)) good_within;
   }
 
   prevents_more : is_odd pass.level ≡ false → PreventsMore (totals m words P) new_totals (raised_good - stays_good) (raised_bad - stays_bad)
   prevents_more even = record {
     found = lost _ _ _ _ _ _ (lost_of is_found not (subst (LosesBy is_found not) (sym even) (λ w p. (even_tests w p).0))) refl (bad_raised_sum raised (counted_positions m words pass P H)) bad_within;
-    errors = lost _ _ _ _ _ _ (lost_of is_error itself (subst (LosesBy is_error itself) (sym even) (λ w p. (even_tests w p).1))) refl (good_raised_sum raised (counted_positions m words pass P H)) good_within;
-    missed = gained _ _ _ _ _ _ (gained_of is_missed not (subst (GainsBy is_missed not) (sym even) (λ w p. (even_tests w p).2))) refl (bad_raised_sum raised (counted_positions m words pass P H)) bad_within;
+    errors = lost _ _ _ _ _ _ (lost_of is_error itself (subst (LosesBy is_error itself) (sym even) (λ w p. (even_tests w p).1))) refl
+        (good_raised_sum raised (counted_positions m words pass P H)) good_within;
+    missed = gained _ _ _ _ _ _ (gained_of is_missed not (subst (GainsBy is_missed not) (sym even) (λ w p. (even_tests w p).2))) refl
+        (bad_raised_sum raised (counted_positions m words pass P H)) bad_within;
   }
 
-  by_parity : (odd : Bool) → is_odd pass.level ≡ odd → MatchBool odd (FindsMore (totals m words P) new_totals (raised_good - stays_good) (raised_bad - stays_bad)) (PreventsMore (totals m words P) new_totals (raised_good - stays_good) (raised_bad - stays_bad))
+  by_parity : (odd : Bool) → is_odd pass.level ≡ odd → MatchBool odd (FindsMore (totals m words P) new_totals (raised_good - stays_good) (raised_bad - stays_bad))
+      (PreventsMore (totals m words P) new_totals (raised_good - stays_good) (raised_bad - stays_bad))
   by_parity true odd = finds_more odd
   by_parity false even = prevents_more even
 
@@ -492,10 +538,12 @@ module _ (m : Minima) (words : List Word) (pass : Pass) (P : Patterns) (H : Hope
   abbrev Moves : ℕ → ℕ → Type 0
   Moves good bad = MatchBool (is_odd pass.level) (FindsMore (totals m words P) new_totals good bad) (PreventsMore (totals m words P) new_totals good bad)
 
-  pub totals_after : IsUpTo pass.level P → MatchBool (is_odd pass.level) (FindsMore (totals m words P) new_totals raised_good raised_bad) (PreventsMore (totals m words P) new_totals raised_good raised_bad)
+  pub totals_after : IsUpTo pass.level P → MatchBool (is_odd pass.level) (FindsMore (totals m words P) new_totals raised_good raised_bad)
+      (PreventsMore (totals m words P) new_totals raised_good raised_bad)
   totals_after upto =
       let some : Moves (raised_good - 0) (raised_bad - 0) =
-      subst (λ (above : List CountedPosition). Moves (raised_good - good_above raised (counted_positions m words pass P H) above) (raised_bad - bad_above raised (counted_positions m words pass P H) above)) (none_above m words pass P upto) totals_after_above.totals in
+      subst (λ (above : List CountedPosition). Moves (raised_good - good_above raised (counted_positions m words pass P H) above)
+      (raised_bad - bad_above raised (counted_positions m words pass P H) above)) (none_above m words pass P upto) totals_after_above.totals in
       subst (λ (good : ℕ). Moves good raised_bad) (less_none raised_good) (subst (Moves (raised_good - 0)) (less_none raised_bad) some)
     where
       less_none : (n : ℕ) → n - 0 ≡ n

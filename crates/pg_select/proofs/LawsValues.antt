@@ -17,7 +17,8 @@ use Rattle.pg_select.specs.Windows.{Hopeless, is_covered}
 best_put : (t : List ℕ × ℕ → Bool) (k : List ℕ × ℕ) (v : ℕ) (es : List ((List ℕ × ℕ) × ℕ)) → value_of es k ≤ v → greatest_value t (put dotted_cmp k v es) ≡ max (only (t k) v) (greatest_value t es)
 best_put t k v [] low = refl
 best_put t k v (e ∷ es) low =
-    elim (dotted_cmp k e.0) as (λ (r : Ordering). dotted_cmp k e.0 ≡ r → greatest_value t (by_order r ((k, v) ∷ e ∷ es) ((e.0, v) ∷ es) (e ∷ put dotted_cmp k v es)) ≡ max (only (t k) v) (max (only (t e.0) e.1) (greatest_value t es))) [
+    elim (dotted_cmp k e.0) as (λ (r : Ordering). dotted_cmp k e.0 ≡ r → greatest_value t (by_order r ((k, v) ∷ e ∷ es) ((e.0, v) ∷ es) (e ∷ put dotted_cmp k v es))
+    ≡ max (only (t k) v) (max (only (t e.0) e.1) (greatest_value t es))) [
       | Less ↦ λ r. refl
       | Equal ↦ λ r.
           let found : value_of (e ∷ es) k ≡ e.1 = ap (λ x. unwrap_or (cond (is_eq x) (Some e.1) (find dotted_cmp k es)) 0) r in
@@ -72,7 +73,8 @@ raised_to P k level w p = by_test (applies w p k) (raised_value P k level w p)
         (cases_lt (value_at P w p) level)
 
 -- an entry more that passes where the one of its place did
-any_put : {X : Type 0} (t : (List ℕ × ℕ) × X → Bool) (k : List ℕ × ℕ) (v : X) (es : List ((List ℕ × ℕ) × X)) → ((x : X) → t (k, x) ≡ true → t (k, v) ≡ true) → list_any t (put dotted_cmp k v es) ≡ (t (k, v) || list_any t es)
+any_put : {X : Type 0} (t : (List ℕ × ℕ) × X → Bool) (k : List ℕ × ℕ) (v : X) (es : List ((List ℕ × ℕ) × X)) → ((x : X) → t (k, x) ≡ true → t (k, v) ≡ true)
+    → list_any t (put dotted_cmp k v es) ≡ (t (k, v) || list_any t es)
 any_put t k v [] more = refl
 any_put {X} t k v (e ∷ es) more =
     elim (dotted_cmp k e.0) as (λ (r : Ordering). dotted_cmp k e.0 ≡ r → list_any t (by_order r ((k, v) ∷ e ∷ es) ((e.0, v) ∷ es) (e ∷ put dotted_cmp k v es)) ≡ (t (k, v) || (t e || list_any t es))) [
@@ -99,7 +101,8 @@ both_tests true b c = refl
 both_tests false b c = refl
 
 -- a place that is raised to the level covers where it applies
-pub covered_raised : (level : ℕ) (P : List ((List ℕ × ℕ) × ℕ)) (H : Hopeless) (k : List ℕ × ℕ) (u : List ℕ) (d : ℕ) → is_covered level (raise P k level) H u d ≡ (applies u d k || is_covered level P H u d)
+pub covered_raised : (level : ℕ) (P : List ((List ℕ × ℕ) × ℕ)) (H : Hopeless) (k : List ℕ × ℕ) (u : List ℕ) (d : ℕ) → is_covered level (raise P k level) H u d
+    ≡ (applies u d k || is_covered level P H u d)
 covered_raised level P H k u d =
     let high : nat_le level (max level (value_of P k)) ≡ true = le-leb level (max level (value_of P k)) (omega arith) in
     let here : (nat_le level (max level (value_of P k)) && applies u d k) ≡ applies u d k = ap (λ b. b && applies u d k) high in
@@ -109,7 +112,8 @@ covered_raised level P H k u d =
     ∙ both_tests (applies u d k) (list_any (λ (e : (List ℕ × ℕ) × ℕ). nat_le level e.1 && applies u d e.0) P) (list_any (λ (e : (List ℕ × ℕ) × Unit {0}). applies u d e.0) H)
 
 -- and so does a hopeless place
-pub covered_hopeless : (level : ℕ) (P : List ((List ℕ × ℕ) × ℕ)) (H : Hopeless) (k : List ℕ × ℕ) (u : List ℕ) (d : ℕ) → is_covered level P (put dotted_cmp k (tt {0}) H) u d ≡ (applies u d k || is_covered level P H u d)
+pub covered_hopeless : (level : ℕ) (P : List ((List ℕ × ℕ) × ℕ)) (H : Hopeless) (k : List ℕ × ℕ) (u : List ℕ) (d : ℕ) → is_covered level P (put dotted_cmp k (tt {0}) H) u d
+    ≡ (applies u d k || is_covered level P H u d)
 covered_hopeless level P H k u d =
     ap (λ b. list_any (λ (e : (List ℕ × ℕ) × ℕ). nat_le level e.1 && applies u d e.0) P || b) (any_put (λ (e : (List ℕ × ℕ) × Unit {0}). applies u d e.0) k (tt {0}) H (λ x pass. pass))
     ∙ turned (list_any (λ (e : (List ℕ × ℕ) × ℕ). nat_le level e.1 && applies u d e.0) P) (applies u d k) (list_any (λ (e : (List ℕ × ℕ) × Unit {0}). applies u d e.0) H)

@@ -27,11 +27,13 @@ weight_more test m x ms = sum_by-cons (λ (e : Mark × ℕ). cond (test e.0) e.1
 
 -- a position, and then the rest
 pub mark_step : (t : Totals) (m : Mark) (x : ℕ) (ms : List (Mark × ℕ)) → with_marks t ((m, x) ∷ ms) ≡ with_marks (with_mark t m x) ms
-mark_step t Nothing x ms = same_totals _ _ _ _ _ _ (omega (arith, weight_more is_found Nothing x ms)) (omega (arith, weight_more is_error Nothing x ms)) (omega (arith, weight_more is_missed Nothing x ms))
+mark_step t Nothing x ms = same_totals _ _ _ _ _ _ (omega (arith, weight_more is_found Nothing x ms)) (omega (arith, weight_more is_error Nothing x ms))
+    (omega (arith, weight_more is_missed Nothing x ms))
 mark_step t Error x ms = same_totals _ _ _ _ _ _ (omega (arith, weight_more is_found Error x ms)) (omega (arith, weight_more is_error Error x ms)) (omega (arith, weight_more is_missed Error x ms))
 mark_step t Missed x ms = same_totals _ _ _ _ _ _ (omega (arith, weight_more is_found Missed x ms)) (omega (arith, weight_more is_error Missed x ms)) (omega (arith, weight_more is_missed Missed x ms))
 mark_step t Found x ms = same_totals _ _ _ _ _ _ (omega (arith, weight_more is_found Found x ms)) (omega (arith, weight_more is_error Found x ms)) (omega (arith, weight_more is_missed Found x ms))
-mark_step t DontCare x ms = same_totals _ _ _ _ _ _ (omega (arith, weight_more is_found DontCare x ms)) (omega (arith, weight_more is_error DontCare x ms)) (omega (arith, weight_more is_missed DontCare x ms))
+mark_step t DontCare x ms = same_totals _ _ _ _ _ _ (omega (arith, weight_more is_found DontCare x ms)) (omega (arith, weight_more is_error DontCare x ms))
+    (omega (arith, weight_more is_missed DontCare x ms))
 
 -- no position more
 pub marks_none : (t : Totals) → with_marks t [] ≡ t
@@ -72,15 +74,18 @@ abbrev pub marks_from : List ((List ℕ × ℕ) × ℕ) → Word → ℕ → ℕ
 marks_from P w p end = marks_from_by (value_at P w.signs) w p end
 
 -- a position that was added, and then the rest
-pub marks_step_by : (t n whole : Totals) (value : ℕ → ℕ) (w : Word) (p end : ℕ) → p < end → n ≡ with_mark t (mark_by value w p) (position_weight w p) → with_marks t (marks_from_by value w p end) ≡ whole → with_marks n (marks_from_by value w (p + 1) end) ≡ whole
+pub marks_step_by : (t n whole : Totals) (value : ℕ → ℕ) (w : Word) (p end : ℕ) → p < end → n ≡ with_mark t (mark_by value w p) (position_weight w p)
+    → with_marks t (marks_from_by value w p end) ≡ whole → with_marks n (marks_from_by value w (p + 1) end) ≡ whole
 marks_step_by t n whole value w p end before is left =
     let mark : ℕ → Mark × ℕ = λ p. (mark_by value w p, position_weight w p) in
     let rest : List (Mark × ℕ) = marks_from_by value w (p + 1) end in
     ap (λ (x : Totals). with_marks x rest) is ∙ sym (mark_step t (mark_by value w p) (position_weight w p) rest) ∙ ap (λ ps. with_marks t (map mark ps)) (sym (range_step p end before)) ∙ left
 
-pub marks_step : (t n whole : Totals) (P : List ((List ℕ × ℕ) × ℕ)) (w : Word) (p end : ℕ) → p < end → n ≡ with_mark t (status_at P w p) (position_weight w p) → with_marks t (marks_from P w p end) ≡ whole → with_marks n (marks_from P w (p + 1) end) ≡ whole
+pub marks_step : (t n whole : Totals) (P : List ((List ℕ × ℕ) × ℕ)) (w : Word) (p end : ℕ) → p < end → n ≡ with_mark t (status_at P w p) (position_weight w p)
+    → with_marks t (marks_from P w p end) ≡ whole → with_marks n (marks_from P w (p + 1) end) ≡ whole
 marks_step t n whole P w p end before is left = marks_step_by t n whole (value_at P w.signs) w p end before is left
 
 -- a word that was added, and then the rest
-pub marks_word : (t n whole : Totals) (m : Minima) (P : List ((List ℕ × ℕ) × ℕ)) (w : Word) (ws : List Word) → n ≡ with_marks t (marks_in m P w) → with_marks t (flat_map (marks_in m P) (w ∷ ws)) ≡ whole → with_marks n (flat_map (marks_in m P) ws) ≡ whole
+pub marks_word : (t n whole : Totals) (m : Minima) (P : List ((List ℕ × ℕ) × ℕ)) (w : Word) (ws : List Word) → n ≡ with_marks t (marks_in m P w)
+    → with_marks t (flat_map (marks_in m P) (w ∷ ws)) ≡ whole → with_marks n (flat_map (marks_in m P) ws) ≡ whole
 marks_word t n whole m P w ws is left = ap (λ (x : Totals). with_marks x (flat_map (marks_in m P) ws)) is ∙ sym (marks_append t (marks_in m P w) (flat_map (marks_in m P) ws)) ∙ left

@@ -11,7 +11,8 @@ pub record Reaches (left right signs first last : ℕ) : Type 0 where
   pub begins : first ≡ left + 1
   pub ends : last + right + 1 ≡ signs
 
-reaches : (b : Bool) (left right signs first last : ℕ) → (b ≡ true → left + right + 2 ≤ signs) → cond {A = Option (ℕ × ℕ)} b (Some (left + 1, signs - right - 1)) None ≡ Some (first, last) → Reaches left right signs first last
+reaches : (b : Bool) (left right signs first last : ℕ) → (b ≡ true → left + right + 2 ≤ signs) → cond {A = Option (ℕ × ℕ)} b (Some (left + 1, signs - right - 1)) None
+    ≡ Some (first, last) → Reaches left right signs first last
 reaches false left right signs first last enough is = cc
 reaches true left right signs first last enough is =
     let begins : left + 1 ≡ first = ap (λ (o : Option (ℕ × ℕ)). (unwrap_or {T = ℕ × ℕ} o (0, 0)).0) is in

@@ -28,14 +28,22 @@ part_signs n folds fold inside i (w ∷ ws) most =
     all_if P (is_in_part folds fold inside i) w (part_from folds fold inside (i + 1) ws) (most 0 w (omega arith)) (part_signs n folds fold inside (i + 1) ws (All-tail P w ws most))
 
 -- the totals of one fold more
-totals_more : (f : ℕ → Totals) (n : ℕ) → record { good = (total_of (map f (range_with_len 0 n))).good + (f n).good; bad = (total_of (map f (range_with_len 0 n))).bad + (f n).bad; missed = (total_of (map f (range_with_len 0 n))).missed + (f n).missed } ≡ total_of (map f (range_with_len 0 (n + 1)))
+totals_more : (f : ℕ → Totals) (n : ℕ) → record {
+  good = (total_of (map f (range_with_len 0 n))).good + (f n).good;
+  bad = (total_of (map f (range_with_len 0 n))).bad + (f n).bad;
+  missed = (total_of (map f (range_with_len 0 n))).missed + (f n).missed;
+} ≡ total_of (map f (range_with_len 0 (n + 1)))
 totals_more f n =
-    let good : sum_by (λ (t : Totals). t.good) (map f (range_with_len 0 (n + 1))) ≡ sum_by (λ (t : Totals). t.good) (map f (range_with_len 0 n)) + (f n).good = sum_by-map-range_with_len_more (λ (t : Totals). t.good) f 0 n n (omega arith) in
-    let bad : sum_by (λ (t : Totals). t.bad) (map f (range_with_len 0 (n + 1))) ≡ sum_by (λ (t : Totals). t.bad) (map f (range_with_len 0 n)) + (f n).bad = sum_by-map-range_with_len_more (λ (t : Totals). t.bad) f 0 n n (omega arith) in
-    let missed : sum_by (λ (t : Totals). t.missed) (map f (range_with_len 0 (n + 1))) ≡ sum_by (λ (t : Totals). t.missed) (map f (range_with_len 0 n)) + (f n).missed = sum_by-map-range_with_len_more (λ (t : Totals). t.missed) f 0 n n (omega arith) in
+    let good : sum_by (λ (t : Totals). t.good) (map f (range_with_len 0 (n + 1))) ≡ sum_by (λ (t : Totals). t.good) (map f (range_with_len 0 n)) + (f n).good =
+    sum_by-map-range_with_len_more (λ (t : Totals). t.good) f 0 n n (omega arith) in
+    let bad : sum_by (λ (t : Totals). t.bad) (map f (range_with_len 0 (n + 1))) ≡ sum_by (λ (t : Totals). t.bad) (map f (range_with_len 0 n)) + (f n).bad =
+    sum_by-map-range_with_len_more (λ (t : Totals). t.bad) f 0 n n (omega arith) in
+    let missed : sum_by (λ (t : Totals). t.missed) (map f (range_with_len 0 (n + 1))) ≡ sum_by (λ (t : Totals). t.missed) (map f (range_with_len 0 n)) + (f n).missed =
+    sum_by-map-range_with_len_more (λ (t : Totals). t.missed) f 0 n n (omega arith) in
     rw (good, bad, missed) refl
 
-pub totals_step : (f : ℕ → Totals) (n : ℕ) (sums more : Totals) → sums ≡ total_of (map f (range_with_len 0 n)) → more ≡ f n → record { good = sums.good + more.good; bad = sums.bad + more.bad; missed = sums.missed + more.missed } ≡ total_of (map f (range_with_len 0 (n + 1)))
+pub totals_step : (f : ℕ → Totals) (n : ℕ) (sums more : Totals) → sums ≡ total_of (map f (range_with_len 0 n)) → more ≡ f n
+    → record { good = sums.good + more.good; bad = sums.bad + more.bad; missed = sums.missed + more.missed } ≡ total_of (map f (range_with_len 0 (n + 1)))
 totals_step f n sums more so_far here =
     let both : Totals → Totals → Totals = λ (a b : Totals). record { good = a.good + b.good; bad = a.bad + b.bad; missed = a.missed + b.missed } in
     ap (λ (a : Totals). both a more) so_far ∙ ap (λ (b : Totals). both (total_of (map f (range_with_len 0 n))) b) here ∙ totals_more f n
@@ -48,7 +56,8 @@ costs_from rows i d within =
     ∙ ap (λ cs. (slice_index_or rows i d).cost ∷ cs) (sym (drop-map (λ (r : SweepRow). r.cost) (i + 1) rows))
 
 -- a row more is looked at
-pub looked_at : (b : Bool) (best least i cost all : ℕ) (left rest : List ℕ) → left ≡ cost ∷ rest → nat_lt cost least ≡ b → winner_from best least (i + 1) left ≡ all → winner_from (if b then i + 1 else best) (if b then cost else least) (i + 1 + 1) rest ≡ all
+pub looked_at : (b : Bool) (best least i cost all : ℕ) (left rest : List ℕ) → left ≡ cost ∷ rest → nat_lt cost least ≡ b → winner_from best least (i + 1) left
+    ≡ all → winner_from (if b then i + 1 else best) (if b then cost else least) (i + 1 + 1) rest ≡ all
 looked_at b best least i cost all left rest is test whole =
     let e : winner_from best least (i + 1) (cost ∷ rest) ≡ all = ap (winner_from best least (i + 1)) (sym is) ∙ whole in
     subst (λ x. winner_from (if x then i + 1 else best) (if x then cost else least) (i + 1 + 1) rest ≡ all) test e

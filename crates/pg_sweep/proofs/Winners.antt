@@ -69,8 +69,11 @@ goes_on : (costs done : List ℕ) (best least number : ℕ) → number ≡ lengt
 goes_on [] done best least number here is = subst (λ (cs : List ℕ). IsWinner cs best) (sym (append-nil done)) (wins done best least is)
 goes_on (cost ∷ costs) done best least number here is =
     let more : IsBest (done ++ cost ∷ []) (if nat_lt cost least then length done + 1 else best) (if nat_lt cost least then cost else least) = grows (nat_lt cost least) done best least cost is refl in
-    let next : IsBest (done ++ cost ∷ []) (if nat_lt cost least then number else best) (if nat_lt cost least then cost else least) = subst (λ n. IsBest (done ++ cost ∷ []) (if nat_lt cost least then n else best) (if nat_lt cost least then cost else least)) (sym here) more in
-    let rest : IsWinner ((done ++ cost ∷ []) ++ costs) (winner_from best least number (cost ∷ costs)) = goes_on costs (done ++ cost ∷ []) (if nat_lt cost least then number else best) (if nat_lt cost least then cost else least) (number + 1) (omega (arith, here, length-append done (cost ∷ []))) next in
+    let next : IsBest (done ++ cost ∷ []) (if nat_lt cost least then number else best) (if nat_lt cost least then cost else least) =
+    subst (λ n. IsBest (done ++ cost ∷ []) (if nat_lt cost least then n else best) (if nat_lt cost least then cost else least)) (sym here) more in
+    let rest : IsWinner ((done ++ cost ∷ []) ++ costs) (winner_from best least number (cost ∷ costs)) =
+    goes_on costs (done ++ cost ∷ []) (if nat_lt cost least then number else best) (if nat_lt cost least then cost else least) (number + 1)
+    (omega (arith, here, length-append done (cost ∷ []))) next in
     subst (λ (cs : List ℕ). IsWinner cs (winner_from best least number (cost ∷ costs))) (append_assoc done (cost ∷ []) costs) rest
 
 -- the first of the least costs wins

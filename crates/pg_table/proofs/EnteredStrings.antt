@@ -53,7 +53,8 @@ one_string n q fs [] each again = refl
 one_string n q fs (e ∷ es) each again =
     ap (λ r. fold (enter n) (enter n fs r) (map (λ f. f.0.0) es)) (each 0 e refl) ∙ ap (λ gs. fold (enter n) gs (map (λ f. f.0.0) es)) again ∙ one_string n q fs es (λ k f at. each (suc k) f at) again
 
-some_string : (n : ℕ) (q : List ℕ) (fs : Families) (es : List Entry) → 0 < length es → ((k : ℕ) (e : Entry) → slice_get es k ≡ Some e → e.0.0 ≡ q) → enter n (enter n fs q) q ≡ enter n fs q → fold (enter n) fs (map (λ e. e.0.0) es) ≡ enter n fs q
+some_string : (n : ℕ) (q : List ℕ) (fs : Families) (es : List Entry) → 0 < length es → ((k : ℕ) (e : Entry) → slice_get es k ≡ Some e → e.0.0 ≡ q)
+    → enter n (enter n fs q) q ≡ enter n fs q → fold (enter n) fs (map (λ e. e.0.0) es) ≡ enter n fs q
 some_string n q fs [] some each again = absurd (omega arith)
 some_string n q fs (e ∷ es) some each again =
     ap (λ r. fold (enter n) (enter n fs r) (map (λ f. f.0.0) es)) (each 0 e refl) ∙ one_string n q (enter n fs q) es (λ k f at. each (suc k) f at) again
@@ -108,8 +109,10 @@ entered_none n P records none one_head held = record {
 
 module _ (n : ℕ) (P : List Entry) (sound : IsPatternMap P) (at end : ℕ) (q : List ℕ) (group : IsGroup P q at end) where
   module _ (h h1 h2 : ValuedFamilies ℕ) (rs new : List Record) (head c : ℕ) (to : EnteredTo n P at h rs)
-      (grows : Grows rs new) (inside : head ≤ length new) (list : list_of new head ≡ map value_and_dot (pairs P at end)) (shares : (lists : Lists) → Shares rs lists → Shares new (with_ends lists (pairs P at end)))
-      (held1 : AreValuedFamilies h1) (signs1 : h1.signs ≡ h.signs) (families1 : h1.families ≡ enter h.signs h.families q) (blanks : AddsBlanks q 0 h.values h1.values) (cell : cell_of h1.families q ≡ Some c)
+      (grows : Grows rs new) (inside : head ≤ length new) (list : list_of new head ≡ map value_and_dot (pairs P at end))
+      (shares : (lists : Lists) → Shares rs lists → Shares new (with_ends lists (pairs P at end)))
+      (held1 : AreValuedFamilies h1) (signs1 : h1.signs ≡ h.signs) (families1 : h1.families ≡ enter h.signs h.families q) (blanks : AddsBlanks q 0 h.values h1.values)
+      (cell : cell_of h1.families q ≡ Some c)
       (held2 : AreValuedFamilies h2) (is2 : h2 ≡ record h1 { values = put order q head h1.values }) where
     families2 : h2.families ≡ h1.families
     families2 = ap (λ (g : ValuedFamilies ℕ). g.families) is2
@@ -149,8 +152,11 @@ module _ (n : ℕ) (P : List Entry) (sound : IsPatternMap P) (at end : ℕ) (q :
     values_more r v is = elim (equal_or_not r q) [
       | inl same ↦
           let found : Some head ≡ Some v = sym (find_put_same q head h1.values) ∙ ap (find order q) (sym values2) ∙ ap (λ s. find order s h2.values) (sym same.0) ∙ is in
-          let here : v ≡ head = cc in
-          (omega (arith, here), ap (list_of new) here ∙ list ∙ ap (map value_and_dot) (sym (string_so_far P sound.sorted q at end group to.apart)) ∙ ap (λ s. map value_and_dot (outputs_of (take end P) s)) (sym same.0))
+          let here : v ≡ head = cc in (
+            omega (arith, here),
+            ap (list_of new) here ∙ list ∙ ap (map value_and_dot) (sym (string_so_far P sound.sorted q at end group to.apart))
+                ∙ ap (λ s. map value_and_dot (outputs_of (take end P) s)) (sym same.0),
+          )
       | inr other ↦ elim (was r v (other_value r v other.0 is)) [
         | inl old ↦
             let before = to.values r v old in
@@ -211,7 +217,8 @@ module _ (n : ℕ) (P : List Entry) (sound : IsPatternMap P) (at end : ℕ) (q :
       entered = entered_more;
       lists = with_ends to.lists (pairs P at end);
       shares = shares to.lists to.shares;
-      left = ap (λ l. with_strings P (with_ends to.lists l) (strings_of (drop end P))) (sym (string_whole P sound.sorted q at end group to.apart)) ∙ ap (with_strings P to.lists) (sym (strings_left P sound.sorted q at end group)) ∙ to.left;
+      left = ap (λ l. with_strings P (with_ends to.lists l) (strings_of (drop end P))) (sym (string_whole P sound.sorted q at end group to.apart))
+          ∙ ap (with_strings P to.lists) (sym (strings_left P sound.sorted q at end group)) ∙ to.left;
       apart = apart_more P sound.sorted q at end group to.apart;
     }
 

@@ -18,7 +18,14 @@ use Rattle.pg_table.proofs.Parts.{HasPart, part_first, part_rest, part_byte, par
 
 pub length-cell_bytes : (c : Cell) → length (cell_bytes c) ≡ 10
 length-cell_bytes c =
-    omega (arith, length-append (u16_bytes c.sign ++ u32_bytes c.child) (u32_bytes c.head), length-append (u16_bytes c.sign) (u32_bytes c.child), length-u16_bytes c.sign, length-u32_bytes c.child, length-u32_bytes c.head)
+    omega (
+      arith,
+      length-append (u16_bytes c.sign ++ u32_bytes c.child) (u32_bytes c.head),
+      length-append (u16_bytes c.sign) (u32_bytes c.child),
+      length-u16_bytes c.sign,
+      length-u32_bytes c.child,
+      length-u32_bytes c.head,
+    )
 
 pub length-record_bytes : (r : Record) → length (record_bytes r) ≡ 6
 length-record_bytes r = omega (arith, length-u32_bytes r.next)
@@ -95,7 +102,8 @@ module _ (n : ℕ) (cells : List Cell) (records : List Record) (small : AreSmall
 
   in_cells : HasPart b 16 (flat_map cell_bytes cells)
   in_cells =
-      part_rest b 0 16 (front n cells records) (flat_map cell_bytes cells) (part_first b 0 (front n cells records ++ flat_map cell_bytes cells) (flat_map record_bytes records) whole) (omega (arith, length-front n cells records))
+      part_rest b 0 16 (front n cells records) (flat_map cell_bytes cells) (part_first b 0 (front n cells records ++ flat_map cell_bytes cells) (flat_map record_bytes records) whole)
+      (omega (arith, length-front n cells records))
 
   pub cell_is : (at : ℕ) (c : Cell) → at < length cells → get_or cells at c ≡ c → cell_at b at ≡ c
   cell_is at c inside is =
@@ -103,11 +111,14 @@ module _ (n : ℕ) (cells : List Cell) (records : List Record) (small : AreSmall
       let has : HasPart b (cell_start at) (cell_bytes c) = part_of cell_bytes 10 length-cell_bytes b 16 (cell_start at) cells at c in_cells inside is refl in
       let first = part_first b (cell_start at) (u16_bytes c.sign ++ u32_bytes c.child) (u32_bytes c.head) has in
       let len : length (u16_bytes c.sign ++ u32_bytes c.child) ≡ 6 = omega (arith, length-append (u16_bytes c.sign) (u32_bytes c.child), length-u16_bytes c.sign, length-u32_bytes c.child) in
-      let sign : u16_at b (cell_start at) ≡ c.sign = u16_part b (cell_start at) c.sign (part_first b (cell_start at) (u16_bytes c.sign) (u32_bytes c.child) first) (omega (arith, sound.sign, small.few)) in
+      let sign : u16_at b (cell_start at) ≡ c.sign = u16_part b (cell_start at) c.sign (part_first b (cell_start at) (u16_bytes c.sign) (u32_bytes c.child) first)
+      (omega (arith, sound.sign, small.few)) in
       let child : u32_at b (cell_start at + 2) ≡ c.child =
-      u32_part b (cell_start at + 2) c.child (part_rest b (cell_start at) (cell_start at + 2) (u16_bytes c.sign) (u32_bytes c.child) first (omega (arith, length-u16_bytes c.sign))) (omega (arith, sound.child, small.short)) in
+      u32_part b (cell_start at + 2) c.child (part_rest b (cell_start at) (cell_start at + 2) (u16_bytes c.sign) (u32_bytes c.child) first (omega (arith, length-u16_bytes c.sign)))
+      (omega (arith, sound.child, small.short)) in
       let head : u32_at b (cell_start at + 6) ≡ c.head =
-      u32_part b (cell_start at + 6) c.head (part_rest b (cell_start at) (cell_start at + 6) (u16_bytes c.sign ++ u32_bytes c.child) (u32_bytes c.head) has (omega arith)) (omega (arith, sound.head, small.short)) in
+      u32_part b (cell_start at + 6) c.head (part_rest b (cell_start at) (cell_start at + 6) (u16_bytes c.sign ++ u32_bytes c.child) (u32_bytes c.head) has (omega arith))
+      (omega (arith, sound.head, small.short)) in
       λ i. record { sign = sign i; child = child i; head = head i }
 
   in_records : HasPart b (cell_start (length cells)) (flat_map record_bytes records)
@@ -124,7 +135,8 @@ module _ (n : ℕ) (cells : List Cell) (records : List Record) (small : AreSmall
       let size : length (record_bytes r) ≡ 6 = length-record_bytes r in
       let value : slice_index b start ≡ r.value = ap (slice_index b) (sym zero) ∙ part_byte b start 0 (record_bytes r) has (omega arith) in
       let dot : slice_index b (start + 1) ≡ r.dot = part_byte b start 1 (record_bytes r) has (omega arith) in
-      let next : u32_at b (start + 2) ≡ r.next = u32_part b (start + 2) r.next (part_rest b start (start + 2) (r.value ∷ r.dot ∷ []) (u32_bytes r.next) has refl) (omega (arith, sound.back, small.short)) in
+      let next : u32_at b (start + 2) ≡ r.next = u32_part b (start + 2) r.next (part_rest b start (start + 2) (r.value ∷ r.dot ∷ []) (u32_bytes r.next) has refl)
+      (omega (arith, sound.back, small.short)) in
       let here : record_at b i ≡ read_record b start = ap (λ (h : Head). read_record b (record_start h.cells i)) head_is in
       here ∙ (λ t. record { value = value t; dot = dot t; next = next t })
 

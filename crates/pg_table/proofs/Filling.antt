@@ -74,7 +74,8 @@ module _ (h : ValuedFamilies ℕ) (held : AreValuedFamilies h) (heads : List ℕ
       fronts : (k : ℕ) → k ≤ 0 → HasCell h heads row (take k q)
       fronts k low = let none : k ≡ 0 = omega arith in subst (λ j. HasCell h heads row (take j q)) (sym none) (has_empty row)
 
-  pub fills_more : (q : List ℕ) (i c : ℕ) (x : Cell) (old row : List Cell) → Fills h heads q i old row → c < length row → x ≡ cell_of_table h.families heads c → cell_of h.families (take (i + 1) q) ≡ Some c → Fills h heads q (i + 1) old (set row c x)
+  pub fills_more : (q : List ℕ) (i c : ℕ) (x : Cell) (old row : List Cell) → Fills h heads q i old row → c < length row → x ≡ cell_of_table h.families heads c
+      → cell_of h.families (take (i + 1) q) ≡ Some c → Fills h heads q (i + 1) old (set row c x)
   fills_more q i c x old row fills inside right is = record {
     row = row_set row c x fills.row inside right;
     keeps = λ r has_r. has_set row c x inside right r (fills.keeps r has_r);
@@ -88,14 +89,16 @@ module _ (h : ValuedFamilies ℕ) (held : AreValuedFamilies h) (heads : List ℕ
       ]
 
   -- where a front has no cell, no longer one has
-  pub fills_rest : (q : List ℕ) (i : ℕ) (p : List ℕ) (s : ℕ) (old row : List Cell) → Fills h heads q i old row → take (i + 1) q ≡ p ++ s ∷ [] → cell_of h.families (p ++ s ∷ []) ≡ None → (n : ℕ) → Fills h heads q n old row
+  pub fills_rest : (q : List ℕ) (i : ℕ) (p : List ℕ) (s : ℕ) (old row : List Cell) → Fills h heads q i old row → take (i + 1) q ≡ p ++ s ∷ []
+      → cell_of h.families (p ++ s ∷ []) ≡ None → (n : ℕ) → Fills h heads q n old row
   fills_rest q i p s old row fills front none n = record { row = fills.row; keeps = fills.keeps; fronts = λ k low. fronts k }
     where
       fronts : (k : ℕ) → HasCell h heads row (take k q)
       fronts k = elim (cases_lt i k) [
         | inr before ↦ fills.fronts k before
         | inl later ↦ λ d is.
-            let more : take k q ≡ (p ++ s ∷ []) ++ drop (i + 1) (take k q) = sym (take-append-drop (i + 1) (take k q)) ∙ ap (λ l. l ++ drop (i + 1) (take k q)) (take-take (i + 1) k q (omega arith) ∙ front) in
+            let more : take k q ≡ (p ++ s ∷ []) ++ drop (i + 1) (take k q) = sym (take-append-drop (i + 1) (take k q))
+            ∙ ap (λ l. l ++ drop (i + 1) (take k q)) (take-take (i + 1) k q (omega arith) ∙ front) in
             let z : None ≡ Some d = sym (held.closed p s (drop (i + 1) (take k q)) none) ∙ ap (cell_of h.families) (sym more) ∙ is in
             cc
       ]
@@ -108,7 +111,8 @@ module _ (h : ValuedFamilies ℕ) (held : AreValuedFamilies h) (heads : List ℕ
   }
 
 -- the row at the end
-pub row_last : (n : ℕ) (P : List Entry) (h : ValuedFamilies ℕ) (records : List Record) (row : List Cell) → IsEntered n P h records → IsRow h (head_in P) row → ((x : ℕ) → 1 ≤ x → x ≤ n → HasCell h (head_in P) row (x ∷ []))
+pub row_last : (n : ℕ) (P : List Entry) (h : ValuedFamilies ℕ) (records : List Record) (row : List Cell) → IsEntered n P h records → IsRow h (head_in P) row
+    → ((x : ℕ) → 1 ≤ x → x ≤ n → HasCell h (head_in P) row (x ∷ []))
     → ((j k : ℕ) (e : Entry) → j < length P → slice_get P j ≡ Some e → HasCell h (head_in P) row (take k e.0.0)) → row ≡ table_cells n P
 row_last n P h records row entered is roots fronts =
     let held = entered.packed.held in

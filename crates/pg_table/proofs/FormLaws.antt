@@ -157,7 +157,8 @@ records_pass b h = list_all (λ i. is_sound_record i (read_record b (record_star
 pub form_is : (b : List ℕ) (h : Head) (x y z : Bool) → has_head b ≡ x → h ≡ head_of b → cells_pass b h ≡ y → records_pass b h ≡ z → is_well_formed b ≡ (x && y && z)
 unfolding is_well_formed
 form_is b h x y z head same cells records =
-    ap (λ k. has_head b && cells_pass b k && records_pass b k) (sym same) ∙ ap (λ w. w && cells_pass b h && records_pass b h) head ∙ ap (λ w. x && w && records_pass b h) cells ∙ ap (λ w. x && y && w) records
+    ap (λ k. has_head b && cells_pass b k && records_pass b k) (sym same) ∙ ap (λ w. w && cells_pass b h && records_pass b h) head
+    ∙ ap (λ w. x && w && records_pass b h) cells ∙ ap (λ w. x && y && w) records
 
 pub no_head : (b : List ℕ) → has_head b ≡ false → is_well_formed b ≡ false
 no_head b none = form_is b (head_of b) false (cells_pass b (head_of b)) (records_pass b (head_of b)) none refl refl refl

@@ -42,7 +42,8 @@ values_as d (x ∷ xs) = by_dot (nat_eq x.1 d) (values_as d xs)
     kept : List (ℕ × ℕ)
     kept = filter (λ x. nat_eq x.1 d) xs
 
-    by_dot : (there : Bool) → value_in_list d xs ≡ fold max 0 (map (λ x. x.0) kept) → max (if there then x.0 else 0) (value_in_list d xs) ≡ fold max 0 (map (λ (x : ℕ × ℕ). x.0) (if there then x ∷ kept else kept))
+    by_dot : (there : Bool) → value_in_list d xs ≡ fold max 0 (map (λ x. x.0) kept) → max (if there then x.0 else 0) (value_in_list d xs)
+        ≡ fold max 0 (map (λ (x : ℕ × ℕ). x.0) (if there then x ∷ kept else kept))
     by_dot true rest =
         let own : fold max (max 0 x.0) (map (λ (x : ℕ × ℕ). x.0) kept) ≡ max (max 0 x.0) (fold max 0 (map (λ (x : ℕ × ℕ). x.0) kept)) = fold_max (max 0 x.0) (map (λ (x : ℕ × ℕ). x.0) kept) in
         omega (arith, rest, own)

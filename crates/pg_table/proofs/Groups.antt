@@ -37,7 +37,8 @@ module _ {X : Type 0} where
 -- the values of a string among entries, part by part
 pub outputs-append : (es fs : List Entry) (q : List ℕ) → outputs_of (es ++ fs) q ≡ outputs_of es q ++ outputs_of fs q
 outputs-append es fs q =
-    ap (map (λ e. (e.0.1, e.1))) (filter-append (λ e. pointwise nat_eq q e.0.0) es fs) ∙ map-append (λ e. (e.0.1, e.1)) (filter (λ e. pointwise nat_eq q e.0.0) es) (filter (λ e. pointwise nat_eq q e.0.0) fs)
+    ap (map (λ e. (e.0.1, e.1))) (filter-append (λ e. pointwise nat_eq q e.0.0) es fs)
+    ∙ map-append (λ e. (e.0.1, e.1)) (filter (λ e. pointwise nat_eq q e.0.0) es) (filter (λ e. pointwise nat_eq q e.0.0) fs)
 
 test_same : (q r : List ℕ) → r ≡ q → pointwise nat_eq q r ≡ true
 test_same q r same = texts_ties q r ∙ ap (same_string q) same ∙ same_itself q
@@ -54,7 +55,8 @@ outputs_all (e ∷ es) q each =
 pub outputs_none : (es : List Entry) (q : List ℕ) → ((k : ℕ) (e : Entry) → slice_get es k ≡ Some e → e.0.0 ≢ q) → outputs_of es q ≡ []
 outputs_none [] q each = refl
 outputs_none (e ∷ es) q each =
-    ap (λ t. map (λ f. (f.0.1, f.1)) (cond t (e ∷ filter (λ f. pointwise nat_eq q f.0.0) es) (filter (λ f. pointwise nat_eq q f.0.0) es))) (test_other q e.0.0 (each 0 e refl)) ∙ outputs_none es q (λ k f at. each (suc k) f at)
+    ap (λ t. map (λ f. (f.0.1, f.1)) (cond t (e ∷ filter (λ f. pointwise nat_eq q f.0.0) es) (filter (λ f. pointwise nat_eq q f.0.0) es))) (test_other q e.0.0 (each 0 e refl))
+    ∙ outputs_none es q (λ k f at. each (suc k) f at)
 
 -- no string before a place is one from it on
 pub record AreApart (P : List Entry) (at : ℕ) : Type 0 where
@@ -75,7 +77,8 @@ place_before P sorted i j e f low e_at f_at =
     ∙ ap (λ (x : Entry). dotted_cmp (get_or P i e).0 x.0) (sym (get_or_from_slice_get P j f e f_at))
     ∙ sorted_at dotted_cmp P i j e sorted low (slice_get_within P j f f_at)
 
-pub between_same : (P : List Entry) → T (is_sorted dotted_cmp P) → (i j k : ℕ) (e f g : Entry) → i < j → j < k → slice_get P i ≡ Some e → slice_get P j ≡ Some f → slice_get P k ≡ Some g → e.0.0 ≡ g.0.0 → f.0.0 ≡ e.0.0
+pub between_same : (P : List Entry) → T (is_sorted dotted_cmp P) → (i j k : ℕ) (e f g : Entry) → i < j → j < k → slice_get P i ≡ Some e → slice_get P j
+    ≡ Some f → slice_get P k ≡ Some g → e.0.0 ≡ g.0.0 → f.0.0 ≡ e.0.0
 between_same P sorted i j k e f g low high e_at f_at g_at same =
     elim (upto e.0.0 f.0.0 e.0.1 f.0.1 (place_before P sorted i j e f low e_at f_at)) [
       | inr one ↦ sym one
@@ -123,7 +126,8 @@ module _ (P : List Entry) (sorted : T (is_sorted dotted_cmp P)) (q : List ℕ) (
   -- the values of the other strings are as before
   pub others_same : (r : List ℕ) → r ≢ q → outputs_of (take end P) r ≡ outputs_of (take at P) r
   others_same r other =
-      ap (λ l. outputs_of l r) front_more ∙ outputs-append (take at P) part r ∙ ap (λ l. outputs_of (take at P) r ++ l) (outputs_none part r (λ k e is same. other (sym same ∙ part_each k e is))) ∙ append-nil (outputs_of (take at P) r)
+      ap (λ l. outputs_of l r) front_more ∙ outputs-append (take at P) part r ∙ ap (λ l. outputs_of (take at P) r ++ l) (outputs_none part r (λ k e is same. other (sym same ∙ part_each k e is)))
+      ∙ append-nil (outputs_of (take at P) r)
 
   module _ (before : AreApart P at) where
     none_before : outputs_of (take at P) q ≡ []
@@ -146,7 +150,8 @@ module _ (P : List Entry) (sorted : T (is_sorted dotted_cmp P)) (q : List ℕ) (
         let first : Entry = get_or P at e in
         let first_at : slice_get P at ≡ Some first = slice_get-get_or P at e (omega (arith, group.some, group.within)) in
         later.apart at (end + k) first e group.some (omega arith) first_at (sym (get_drop end P k) ∙ is) (group.each at first (omega arith) group.some first_at ∙ sym same)) in
-        ap (λ l. outputs_of l q) (sym (take-append-drop end P)) ∙ outputs-append (take end P) (drop end P) q ∙ ap (λ l. outputs_of (take end P) q ++ l) rest ∙ append-nil (outputs_of (take end P) q) ∙ string_so_far
+        ap (λ l. outputs_of l q) (sym (take-append-drop end P)) ∙ outputs-append (take end P) (drop end P) q ∙ ap (λ l. outputs_of (take end P) q ++ l) rest
+        ∙ append-nil (outputs_of (take end P) q) ∙ string_so_far
 
   -- the string stands once, before those that are left
   pub strings_left : strings_of (drop at P) ≡ q ∷ strings_of (drop end P)

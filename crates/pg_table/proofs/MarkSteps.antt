@@ -9,5 +9,6 @@ use Rattle.pg_select.proofs.MarkSteps.{marks_append}
 use Rattle.pg_table.specs.Inside.Marks.{table_marks}
 
 -- a word that was added, and then the rest
-pub marks_word : (t n whole : Totals) (m : Minima) (b : List ℕ) (w : Word) (ws : List Word) → n ≡ with_marks t (table_marks m b w) → with_marks t (flat_map (table_marks m b) (w ∷ ws)) ≡ whole → with_marks n (flat_map (table_marks m b) ws) ≡ whole
+pub marks_word : (t n whole : Totals) (m : Minima) (b : List ℕ) (w : Word) (ws : List Word) → n ≡ with_marks t (table_marks m b w)
+    → with_marks t (flat_map (table_marks m b) (w ∷ ws)) ≡ whole → with_marks n (flat_map (table_marks m b) ws) ≡ whole
 marks_word t n whole m b w ws is left = ap (λ (x : Totals). with_marks x (flat_map (table_marks m b) ws)) is ∙ sym (marks_append t (table_marks m b w) (flat_map (table_marks m b) ws)) ∙ left

@@ -117,12 +117,15 @@ module _ (P : List Entry) (b : List ℕ) (sound : IsPatternMap P) (has : HasEntr
       let inside : i + n ≤ length w = leb-true (i + n) (length w) stands.0 in
       let dot : p - i ≡ e.0.1 = omega arith in
       let test : (nat_le (i + n) (length w) && (nat_le i p && nat_le (p - i) n)) ≡ true =
-      and_from (nat_le (i + n) (length w)) (nat_le i p && nat_le (p - i) n) stands.0 (and_from (nat_le i p) (nat_le (p - i) n) (le-leb i p (omega arith)) (le-leb (p - i) n (omega (arith, ranges.dot)))) in
+      and_from (nat_le (i + n) (length w)) (nat_le i p && nat_le (p - i) n) stands.0
+      (and_from (nat_le i p) (nat_le (p - i) n) (le-leb i p (omega arith)) (le-leb (p - i) n (omega (arith, ranges.dot)))) in
       let value : value_from b w p i n ≡ greatest_value (same_dotted e.0) P =
-      ap (λ t. cond t (table_entry b (take n (drop i w)) (p - i)) 0) test ∙ ap (λ q. table_entry b q (p - i)) (front_from e.0.0 (drop i w) stands.1) ∙ ap (table_entry b e.0.0) dot ∙ has e.0.0 e.0.1 ∙ value_of_sorted P e.0 sound.sorted in
+      ap (λ t. cond t (table_entry b (take n (drop i w)) (p - i)) 0) test ∙ ap (λ q. table_entry b q (p - i)) (front_from e.0.0 (drop i w) stands.1)
+      ∙ ap (table_entry b e.0.0) dot ∙ has e.0.0 e.0.1 ∙ value_of_sorted P e.0 sound.sorted in
       let own : e.1 ≤ greatest_value (same_dotted e.0) P =
       best_over (same_dotted e.0) P k e at (and_from (pointwise nat_eq e.0.0 e.0.0) (nat_eq e.0.1 e.0.1) (texts_ties e.0.0 e.0.0 ∙ same_itself e.0.0) (eq-eqb e.0.1 e.0.1 refl)) in
-      let strings : value_from b w p i n ≤ greatest (value_from b w p i) (range_with_len 1 PATTERN_SIGNS_MAX) = greatest_over (value_from b w p i) 1 PATTERN_SIGNS_MAX n ranges.some (omega (arith, ranges.few)) in
+      let strings : value_from b w p i n ≤ greatest (value_from b w p i) (range_with_len 1 PATTERN_SIGNS_MAX) =
+      greatest_over (value_from b w p i) 1 PATTERN_SIGNS_MAX n ranges.some (omega (arith, ranges.few)) in
       let starts = greatest_over (λ j. greatest (value_from b w p j) (range_with_len 1 PATTERN_SIGNS_MAX)) 0 (length w) i (omega arith) (omega (arith, ranges.some)) in
       let whole = value_as b w p in
       omega arith
@@ -146,4 +149,5 @@ values_are_packed P b sound has w p = value_same P b sound has w p
 
 pub totals_are_packed : TotalsArePacked
 totals_are_packed P b sound has m words i =
-    totals_of (flat_map (λ (w : Word). map (λ p. (status (slice_index_or w.hyphens p false) (slice_index_or w.cares p true) (value_same P b sound has w.signs p i), position_weight w p)) (positions m.left m.right (length w.signs))) words)
+    totals_of (flat_map (λ (w : Word). map (λ p. (status (slice_index_or w.hyphens p false) (slice_index_or w.cares p true) (value_same P b sound has w.signs p i), position_weight w p))
+    (positions m.left m.right (length w.signs))) words)

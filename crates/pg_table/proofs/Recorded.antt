@@ -147,7 +147,8 @@ module _ (Good : ℕ × ℕ → Type 0) where
       (record { grows = record { keeps = λ i l at. whole.grows.keeps i l (shorter.grows.keeps i l at) }; ordered = whole.ordered; there = whole.there })
 
 -- the head of a list: the number of the first place where it stands, counted from 1, or 0 where it is not among the lists
-pub head_cases : (lists : Lists) (l : List (ℕ × ℕ)) → ((j : ℕ) × (head_among lists l ≡ j + 1) × (slice_get lists j ≡ Some l) × ((k : ℕ) → slice_get lists k ≡ Some l → j ≤ k)) ⊎ ((head_among lists l ≡ 0) × ((k : ℕ) → slice_get lists k ≢ Some l))
+pub head_cases : (lists : Lists) (l : List (ℕ × ℕ)) → ((j : ℕ) × (head_among lists l ≡ j + 1) × (slice_get lists j ≡ Some l) × ((k : ℕ) → slice_get lists k ≡ Some l → j ≤ k))
+    ⊎ ((head_among lists l ≡ 0) × ((k : ℕ) → slice_get lists k ≢ Some l))
 head_cases lists l = elim (find_cases (same_list l) lists) [
   | inl found ↦
       let j : ℕ = position_or_len (same_list l) lists in

@@ -22,7 +22,8 @@ pub record Conses (rs new : List Record) (r : Record) : Type 0 where
   pub one_head : OneHeadEach new
   pub shared : AreShared new
 
-module _ (rs new : List Record) (lists : Lists) (x : ℕ × ℕ) (rest : List (ℕ × ℕ)) (head : ℕ) (shares : Shares rs lists) (inside : head ≤ length rs) (list : list_of rs head ≡ map value_and_dot rest) where
+module _ (rs new : List Record) (lists : Lists) (x : ℕ × ℕ) (rest : List (ℕ × ℕ)) (head : ℕ) (shares : Shares rs lists) (inside : head ≤ length rs)
+    (list : list_of rs head ≡ map value_and_dot rest) where
   abbrev r : Record
   r = record { value = x.1; dot = x.0; next = head }
 

@@ -165,7 +165,8 @@ module _ (h : ValuedFamilies ℕ) (held : AreValuedFamilies h) where
     ]
 
     -- a cell is that of a string, or no string has it
-    pub cell_cases : (c : ℕ) → ((q : List ℕ) × (cell_of h.families q ≡ Some c) × (cell_of_table h.families heads c ≡ cell_for h.families heads q)) ⊎ (((q : List ℕ) → cell_of h.families q ≢ Some c) × (cell_of_table h.families heads c ≡ unused_cell))
+    pub cell_cases : (c : ℕ) → ((q : List ℕ) × (cell_of h.families q ≡ Some c) × (cell_of_table h.families heads c ≡ cell_for h.families heads q))
+        ⊎ (((q : List ℕ) → cell_of h.families q ≢ Some c) × (cell_of_table h.families heads c ≡ unused_cell))
     cell_cases c = elim (find_cases (in_use c) (cells_in_use h.families)) [
       | inl found ↦
           let number : c ≡ found.0.0 = eqb-true c found.0.0 found.2 in
@@ -178,7 +179,8 @@ module _ (h : ValuedFamilies ℕ) (held : AreValuedFamilies h) where
     ]
 
     -- each cell may stand at its place
-    pub cells_sound : (records : ℕ) → ((q : List ℕ) → heads q ≤ records) → (head : Head) → head.signs ≡ h.signs → head.cells ≡ top h.families + 1 → head.records ≡ records → (at : ℕ) → IsSoundCell head at (cell_of_table h.families heads at)
+    pub cells_sound : (records : ℕ) → ((q : List ℕ) → heads q ≤ records) → (head : Head) → head.signs ≡ h.signs → head.cells ≡ top h.families + 1
+        → head.records ≡ records → (at : ℕ) → IsSoundCell head at (cell_of_table h.families heads at)
     cells_sound records few head signs cells listed at = elim (cell_cases at) [
       | inl used ↦
           let q = used.0 in

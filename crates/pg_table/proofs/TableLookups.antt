@@ -25,13 +25,17 @@ pub record HasCells (b : List ℕ) (fs : Families) (heads : List ℕ → ℕ) : 
 
 module _ (b : List ℕ) (h : ValuedFamilies ℕ) (held : AreValuedFamilies h) (heads : List ℕ → ℕ) (has : HasCells b h.families heads) where
   -- where a string has a cell, the family before it has its last sign there
-  found : (p : List ℕ) (x base c : ℕ) → base_of h.families p ≡ Some base → cell_of h.families (p ++ x ∷ []) ≡ Some c → (cell_has_sign b base x ≡ true) × (cell_at b (base + x) ≡ cell_for h.families heads (p ++ x ∷ []))
+  found : (p : List ℕ) (x base c : ℕ) → base_of h.families p ≡ Some base → cell_of h.families (p ++ x ∷ []) ≡ Some c → (cell_has_sign b base x ≡ true)
+      × (cell_at b (base + x) ≡ cell_for h.families heads (p ++ x ∷ []))
   found p x base c below is =
       let place : c ≡ base + x = cell_at_base h.families p x base c below is in
       let within : base + x < top h.families + 1 = omega (arith, cell_within h held (p ++ x ∷ []) c is) in
       let here : cell_at b (base + x) ≡ cell_for h.families heads (p ++ x ∷ []) = has.each (base + x) within ∙ cell_with h held heads (p ++ x ∷ []) (base + x) (is ∙ ap Some place) in
-      let sign : (cell_at b (base + x)).sign ≡ x = ap (λ (k : Cell). k.sign) here ∙ last_sign_is p x in
-      (and_from (nat_lt (base + x) (head_of b).cells) (nat_eq (cell_at b (base + x)).sign x) (lt-ltb (base + x) (head_of b).cells (omega (arith, has.count))) (eq-eqb (cell_at b (base + x)).sign x sign), here)
+      let sign : (cell_at b (base + x)).sign ≡ x = ap (λ (k : Cell). k.sign) here ∙ last_sign_is p x in (
+        and_from (nat_lt (base + x) (head_of b).cells) (nat_eq (cell_at b (base + x)).sign x) (lt-ltb (base + x) (head_of b).cells (omega (arith, has.count)))
+            (eq-eqb (cell_at b (base + x)).sign x sign),
+        here,
+      )
 
   -- and else it lacks the sign, or the cell is unused
   lacks : (p : List ℕ) (x base : ℕ) → base_of h.families p ≡ Some base → cell_of h.families (p ++ x ∷ []) ≡ None → (cell_has_sign b base x ≡ false) ⊎ (cell_at b (base + x) ≡ unused_cell)
@@ -62,13 +66,15 @@ module _ (b : List ℕ) (h : ValuedFamilies ℕ) (held : AreValuedFamilies h) (h
       absurd (omega (arith, length_push p x))
 
   -- a prefix of a string with a cell has a cell, and a family below it
-  prefix_cell : (p : List ℕ) (x t : ℕ) (more : List ℕ) (c : ℕ) → cell_of h.families (p ++ x ∷ t ∷ more) ≡ Some c → (d : ℕ) × (base : ℕ) × (cell_of h.families (p ++ x ∷ []) ≡ Some d) × (base_of h.families (p ++ x ∷ []) ≡ Some base)
+  prefix_cell : (p : List ℕ) (x t : ℕ) (more : List ℕ) (c : ℕ) → cell_of h.families (p ++ x ∷ t ∷ more) ≡ Some c → (d : ℕ) × (base : ℕ)
+      × (cell_of h.families (p ++ x ∷ []) ≡ Some d) × (base_of h.families (p ++ x ∷ []) ≡ Some base)
   prefix_cell p x t more c is = by (cell_of h.families (p ++ x ∷ [])) (base_of h.families (p ++ x ∷ [])) refl refl
     where
       whole : cell_of h.families ((p ++ x ∷ []) ++ t ∷ more) ≡ Some c
       whole = ap (cell_of h.families) (append_assoc p (x ∷ []) (t ∷ more)) ∙ is
 
-      by : (o m : Option ℕ) → cell_of h.families (p ++ x ∷ []) ≡ o → base_of h.families (p ++ x ∷ []) ≡ m → (d : ℕ) × (base : ℕ) × (cell_of h.families (p ++ x ∷ []) ≡ Some d) × (base_of h.families (p ++ x ∷ []) ≡ Some base)
+      by : (o m : Option ℕ) → cell_of h.families (p ++ x ∷ []) ≡ o → base_of h.families (p ++ x ∷ []) ≡ m → (d : ℕ) × (base : ℕ)
+          × (cell_of h.families (p ++ x ∷ []) ≡ Some d) × (base_of h.families (p ++ x ∷ []) ≡ Some base)
       by None m e f = absurd (let n : None ≡ Some c = sym (held.closed p x (t ∷ more) e) ∙ whole in cc)
       by (Some d) (Some base) e f = (d, base, e, f)
       by (Some d) None e f =
@@ -102,9 +108,11 @@ module _ (b : List ℕ) (h : ValuedFamilies ℕ) (held : AreValuedFamilies h) (h
       | inr missing ↦ no_sign b base x missing []
     ]
   ]
-  list_without (x ∷ t ∷ more) p base below none = by (cell_of h.families (p ++ x ∷ [])) (base_of h.families (p ++ x ∷ [])) refl refl (λ next f. list_without (t ∷ more) (p ++ x ∷ []) next f (ap (cell_of h.families) (append_assoc p (x ∷ []) (t ∷ more)) ∙ none))
+  list_without (x ∷ t ∷ more) p base below none = by (cell_of h.families (p ++ x ∷ [])) (base_of h.families (p ++ x ∷ [])) refl refl
+      (λ next f. list_without (t ∷ more) (p ++ x ∷ []) next f (ap (cell_of h.families) (append_assoc p (x ∷ []) (t ∷ more)) ∙ none))
     where
-      by : (o m : Option ℕ) → cell_of h.families (p ++ x ∷ []) ≡ o → base_of h.families (p ++ x ∷ []) ≡ m → ((next : ℕ) → base_of h.families (p ++ x ∷ []) ≡ Some next → lookup_from b next (t ∷ more) ≡ []) → lookup_from b base (x ∷ t ∷ more) ≡ []
+      by : (o m : Option ℕ) → cell_of h.families (p ++ x ∷ []) ≡ o → base_of h.families (p ++ x ∷ []) ≡ m
+          → ((next : ℕ) → base_of h.families (p ++ x ∷ []) ≡ Some next → lookup_from b next (t ∷ more) ≡ []) → lookup_from b base (x ∷ t ∷ more) ≡ []
       by None m e f later = elim (lacks p x base below e) [
         | inl missing ↦ no_sign b base x missing (t ∷ more)
         | inr unused ↦ no_child b base x (ap (λ (k : Cell). k.child) unused) t more

@@ -116,7 +116,8 @@ module _ (records : List Record) (lists : Lists) (ordered : AreOrdered IsGood li
           let l_at : slice_get lists i ≡ Some l = slice_get-get_or lists i [] within in
           let is = ordered.each i l l_at in
           let back : r.next ≤ i = shares.shared.back i r at in
-          let list : (r.value, r.dot) ∷ list_of records r.next ≡ value_and_dot is.first ∷ map value_and_dot is.rest = sym (list_of-at records i r at back) ∙ shares.each i l l_at ∙ ap (map value_and_dot) is.whole in
+          let list : (r.value, r.dot) ∷ list_of records r.next ≡ value_and_dot is.first ∷ map value_and_dot is.rest = sym (list_of-at records i r at back)
+          ∙ shares.each i l l_at ∙ ap (map value_and_dot) is.whole in
           let first : (r.value, r.dot) ≡ value_and_dot is.first = cc in
           let rest : list_of records r.next ≡ map value_and_dot is.rest = cc in
           let known : (is.rest ≡ []) ⊎ Among lists is.rest = elim is.before [ inl none ↦ inl none | inr some ↦ inr (some.0, some.2) ] in

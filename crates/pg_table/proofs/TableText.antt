@@ -56,7 +56,8 @@ module _ (n : ℕ) (P : List ((List ℕ × ℕ) × ℕ)) (h : ValuedFamilies ℕ
 
   pub length-text : length (table_text n P) ≡ HEAD_LEN + CELL_LEN * (top h.families + 1) + RECORD_LEN * length (recorded_lists P)
   length-text =
-      ap length text_is ∙ length-file_of n cells records ∙ ap (λ k. HEAD_LEN + CELL_LEN * k + RECORD_LEN * length records) length-cells ∙ ap (λ k. HEAD_LEN + CELL_LEN * (top h.families + 1) + RECORD_LEN * k) length-records
+      ap length text_is ∙ length-file_of n cells records ∙ ap (λ k. HEAD_LEN + CELL_LEN * k + RECORD_LEN * length records) length-cells
+      ∙ ap (λ k. HEAD_LEN + CELL_LEN * (top h.families + 1) + RECORD_LEN * k) length-records
 
   cell_there : (at : ℕ) (d : Cell) → at < top h.families + 1 → get_or cells at d ≡ cell_of_table h.families (head_in P) at
   cell_there at d inside = get_or-map-range_with_len (cell_of_table h.families (head_in P)) 0 (top h.families + 1) at at d inside (omega arith)
@@ -72,12 +73,14 @@ module _ (n : ℕ) (P : List ((List ℕ × ℕ) × ℕ)) (h : ValuedFamilies ℕ
           let within : at < top h.families + 1 = omega (arith, length-cells) in
           let that : cell_of_table h.families (head_in P) at ≡ c = sym (cell_there at c within) ∙ is in
           subst (IsSoundCell (head_with n cells records) at) that
-          (cells_sound h packed.held (head_in P) (length records) (λ q. omega (arith, head_within (recorded_lists P) (outputs_of P q), length-records)) (head_with n cells records) (sym packed.signs) length-cells refl at);
+          (cells_sound h packed.held (head_in P) (length records) (λ q. omega (arith, head_within (recorded_lists P) (outputs_of P q), length-records))
+          (head_with n cells records) (sym packed.signs) length-cells refl at);
       records_sound = λ i r inside is.
           let within : i < length (recorded_lists P) = omega (arith, length-records) in
           let l : List (ℕ × ℕ) = get_or (recorded_lists P) i [] in
           let at : slice_get (recorded_lists P) i ≡ Some l = slice_get-get_or (recorded_lists P) i [] within in
-          let there : slice_get records i ≡ Some (record_of (recorded_lists P) l) = slice_get-map (record_of (recorded_lists P)) (recorded_lists P) i ∙ ap (option_map (record_of (recorded_lists P))) at in
+          let there : slice_get records i ≡ Some (record_of (recorded_lists P) l) = slice_get-map (record_of (recorded_lists P)) (recorded_lists P) i
+          ∙ ap (option_map (record_of (recorded_lists P))) at in
           let that : record_of (recorded_lists P) l ≡ r = sym (get_or_from_slice_get records i (record_of (recorded_lists P) l) r there) ∙ is in
           subst (IsSoundRecord i) that (sound_record (recorded_lists P) (recorded_ordered P sound.sound) i l at);
     }
@@ -116,7 +119,8 @@ module _ (n : ℕ) (P : List ((List ℕ × ℕ) × ℕ)) (h : ValuedFamilies ℕ
     text_entries q d = entry_as (table_text n P) q d ∙ ap (value_in_list d) (text_lists q) ∙ entry_is P q d sound
 
 -- the length of the file
-pub text_size : (n : ℕ) (P : List ((List ℕ × ℕ) × ℕ)) (h : ValuedFamilies ℕ) (rs : List Record) → IsPatternMap P → IsEntered n P h rs → length (table_text n P) ≡ HEAD_LEN + CELL_LEN * (top h.families + 1) + RECORD_LEN * length rs
+pub text_size : (n : ℕ) (P : List ((List ℕ × ℕ) × ℕ)) (h : ValuedFamilies ℕ) (rs : List Record) → IsPatternMap P → IsEntered n P h rs → length (table_text n P)
+    ≡ HEAD_LEN + CELL_LEN * (top h.families + 1) + RECORD_LEN * length rs
 text_size n P h rs sound entered =
     let size : length rs ≡ length (recorded_lists P) = ap length entered.records_are ∙ length-map (recorded_lists P) (record_of (recorded_lists P)) in
     length-text n P h sound entered.packed ∙ ap (λ k. HEAD_LEN + CELL_LEN * (top h.families + 1) + RECORD_LEN * k) (sym size)
@@ -131,7 +135,8 @@ text_of n P cs rs text is cells_is records_is = is ∙ ap (λ c. file_of n c rs)
 
 -- a result that is the text, where there is one, is a table that gives the values of the patterns
 module _ (n : ℕ) (P : List ((List ℕ × ℕ) × ℕ)) (h : ValuedFamilies ℕ) (records : List Record) (entered : IsEntered n P h records) (some : 1 ≤ n) (few : n ≤ SIGNS_MAX) where
-  pub sound_text : (r : Result (Vec ℕ Global) TableError) → OnOk r (length (table_text n P) ≤ TABLE_MAX) → IfOk r (λ text. text.items ≡ table_text n P) → IfOk r (λ text. is_well_formed text.items ≡ true)
+  pub sound_text : (r : Result (Vec ℕ Global) TableError) → OnOk r (length (table_text n P) ≤ TABLE_MAX) → IfOk r (λ text. text.items ≡ table_text n P)
+      → IfOk r (λ text. is_well_formed text.items ≡ true)
   sound_text (Ok text) short is = ap is_well_formed is ∙ text_sound n P h entered.sound entered.packed some few short
   sound_text (Err e) short is = tt
 
@@ -145,7 +150,8 @@ on_any (Ok value) holds = holds
 on_any (Err error) holds = tt
 
 -- a file that a test does not find too long is short enough
-pub fits : (n : ℕ) (P : List ((List ℕ × ℕ) × ℕ)) (h : ValuedFamilies ℕ) (rs : List Record) → IsPatternMap P → IsEntered n P h rs → (b : Bool) → (TABLE_MAX < HEAD_LEN + CELL_LEN * (top h.families + 1) + RECORD_LEN * length rs → b ≡ true) → b ≡ false → length (table_text n P) ≤ TABLE_MAX
+pub fits : (n : ℕ) (P : List ((List ℕ × ℕ) × ℕ)) (h : ValuedFamilies ℕ) (rs : List Record) → IsPatternMap P → IsEntered n P h rs → (b : Bool)
+    → (TABLE_MAX < HEAD_LEN + CELL_LEN * (top h.families + 1) + RECORD_LEN * length rs → b ≡ true) → b ≡ false → length (table_text n P) ≤ TABLE_MAX
 fits n P h rs sound entered b long fails = elim (cases_lt TABLE_MAX (HEAD_LEN + CELL_LEN * (top h.families + 1) + RECORD_LEN * length rs)) [
   | inl past ↦ absurd (false≢true (sym fails ∙ long past))
   | inr low ↦ omega (arith, text_size n P h rs sound entered)

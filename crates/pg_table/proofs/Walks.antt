@@ -30,7 +30,8 @@ pub no_child : (b : List ℕ) (base s : ℕ) → (cell_at b (base + s)).child �
 no_child b base s none t more =
     let ends : nat_lt 0 (cell_at b (base + s)).child ≡ false = le-ltb 0 (cell_at b (base + s)).child (omega arith) in
     elim (cases_Bool (cell_has_sign b base s)) [
-      | inl has ↦ ap (λ x. cond (cell_has_sign b base s && x) (lookup_from b (cell_at b (base + s)).child (t ∷ more)) []) ends ∙ ap (λ x. cond (x && false) (lookup_from b (cell_at b (base + s)).child (t ∷ more)) []) has
+      | inl has ↦ ap (λ x. cond (cell_has_sign b base s && x) (lookup_from b (cell_at b (base + s)).child (t ∷ more)) []) ends
+          ∙ ap (λ x. cond (x && false) (lookup_from b (cell_at b (base + s)).child (t ∷ more)) []) has
       | inr lacks ↦ no_sign b base s lacks (t ∷ more)
     ]
 
@@ -39,10 +40,12 @@ pub list_here : (b : List ℕ) (base s : ℕ) → cell_has_sign b base s ≡ tru
 list_here b base s has = ap (λ t. cond t (list_in b (cell_at b (base + s)).head) []) has
 
 -- and a longer one goes on in the family below it
-pub list_below : (b : List ℕ) (base s : ℕ) → cell_has_sign b base s ≡ true → (cell_at b (base + s)).child ≢ 0 → (t : ℕ) (more : List ℕ) → lookup_from b base (s ∷ t ∷ more) ≡ lookup_from b (cell_at b (base + s)).child (t ∷ more)
+pub list_below : (b : List ℕ) (base s : ℕ) → cell_has_sign b base s ≡ true → (cell_at b (base + s)).child ≢ 0 → (t : ℕ) (more : List ℕ)
+    → lookup_from b base (s ∷ t ∷ more) ≡ lookup_from b (cell_at b (base + s)).child (t ∷ more)
 list_below b base s has child t more =
     let goes : nat_lt 0 (cell_at b (base + s)).child ≡ true = lt-ltb 0 (cell_at b (base + s)).child (omega arith) in
-    ap (λ x. cond (cell_has_sign b base s && x) (lookup_from b (cell_at b (base + s)).child (t ∷ more)) []) goes ∙ ap (λ x. cond (x && true) (lookup_from b (cell_at b (base + s)).child (t ∷ more)) []) has
+    ap (λ x. cond (cell_has_sign b base s && x) (lookup_from b (cell_at b (base + s)).child (t ∷ more)) []) goes
+    ∙ ap (λ x. cond (x && true) (lookup_from b (cell_at b (base + s)).child (t ∷ more)) []) has
 
 -- the signs from a start on, up to a stop and on
 pub record GoesOn (w : List ℕ) (start stop n : ℕ) : Type 0 where
@@ -87,13 +90,15 @@ module _ (b w : List ℕ) where
   strings_none p start n none = greatest_none (value_from b w p start) n (PATTERN_SIGNS_MAX + 1 - n) (λ m low high. value_none p start m (none m low (omega arith)))
 
   -- what the strings of n signs or more give is what that of n signs gives, and what the longer ones do
-  pub strings_more : (p start n : ℕ) → n ≤ PATTERN_SIGNS_MAX → start + n ≤ length w → by_strings b w start n p ≡ max (by_record_list start n (lookup b (take n (drop start w))) p) (by_strings b w start (n + 1) p)
+  pub strings_more : (p start n : ℕ) → n ≤ PATTERN_SIGNS_MAX → start + n ≤ length w → by_strings b w start n p
+      ≡ max (by_record_list start n (lookup b (take n (drop start w))) p) (by_strings b w start (n + 1) p)
   unfolding by_strings
   strings_more p start n few inside =
       let size : PATTERN_SIGNS_MAX + 1 - n ≡ suc (PATTERN_SIGNS_MAX + 1 - (n + 1)) = omega arith in
       ap (λ k. greatest (value_from b w p start) (range_with_len n k)) size
       ∙ ap (λ v. max (cond (nat_le (start + n) (length w) && (nat_le start p && nat_le (p - start) n)) v 0) (by_strings b w start (n + 1) p)) (entry_as b (take n (drop start w)) (p - start))
-      ∙ ap (λ t. max (cond (t && (nat_le start p && nat_le (p - start) n)) (value_in_list (p - start) (lookup b (take n (drop start w)))) 0) (by_strings b w start (n + 1) p)) (le-leb (start + n) (length w) inside)
+      ∙ ap (λ t. max (cond (t && (nat_le start p && nat_le (p - start) n)) (value_in_list (p - start) (lookup b (take n (drop start w)))) 0) (by_strings b w start (n + 1) p))
+      (le-leb (start + n) (length w) inside)
 
   -- and so for the starts
   pub starts_more : (p start : ℕ) → start < length w → by_starts b w start p ≡ max (by_strings b w start 1 p) (by_starts b w (start + 1) p)
@@ -109,7 +114,8 @@ list_more start n x xs p = elim (cases_lt p start) [
       let no : nat_le start p ≡ false = lt-leb start p before in
       let other : nat_eq (start + x.1) p ≡ false = ne_eqb (start + x.1) p (λ e. omega arith) in
       ap (λ t. cond (t && nat_le (p - start) n) (value_in_list (p - start) (x ∷ xs)) 0) no
-      ∙ sym (ap (λ t. max (cond (nat_le x.1 n && t) x.0 0) (by_record_list start n xs p)) other ∙ ap (λ t. max (cond t x.0 0) (by_record_list start n xs p)) (no_and (nat_le x.1 n)) ∙ ap (λ t. max 0 (cond (t && nat_le (p - start) n) (value_in_list (p - start) xs) 0)) no)
+      ∙ sym (ap (λ t. max (cond (nat_le x.1 n && t) x.0 0) (by_record_list start n xs p)) other ∙ ap (λ t. max (cond t x.0 0) (by_record_list start n xs p)) (no_and (nat_le x.1 n))
+      ∙ ap (λ t. max 0 (cond (t && nat_le (p - start) n) (value_in_list (p - start) xs) 0)) no)
   | inr after ↦
       let yes : nat_le start p ≡ true = le-leb start p after in
       ap (λ t. cond (t && nat_le (p - start) n) (value_in_list (p - start) (x ∷ xs)) 0) yes
@@ -128,7 +134,8 @@ list_more start n x xs p = elim (cases_lt p start) [
     by_cases false false v g = refl
 
     inside : (same fits : Bool) → nat_eq x.1 (p - start) ≡ same → nat_le (p - start) n ≡ fits → start ≤ p
-        → cond (nat_le (p - start) n) (max (cond (nat_eq x.1 (p - start)) x.0 0) (value_in_list (p - start) xs)) 0 ≡ max (by_value start n x p) (cond (nat_le (p - start) n) (value_in_list (p - start) xs) 0)
+        → cond (nat_le (p - start) n) (max (cond (nat_eq x.1 (p - start)) x.0 0) (value_in_list (p - start) xs)) 0
+        ≡ max (by_value start n x p) (cond (nat_le (p - start) n) (value_in_list (p - start) xs) 0)
     inside same fits e d after =
         let g : ℕ = value_in_list (p - start) xs in
         let left : cond (nat_le (p - start) n) (max (cond (nat_eq x.1 (p - start)) x.0 0) g) 0 ≡ cond fits (max (cond same x.0 0) g) 0 =

@@ -8,11 +8,13 @@ pub two_numbers : (old f m g n end once twice all : List ℕ) → once ≡ old +
 two_numbers old f m g n end once twice all a b c = rw (c, b, a) (simp append_assoc)
 
 -- four numbers, the first at once
-pub four_numbers : (old k f l g m h n end one two three four all : List ℕ) → one ≡ old ++ k → two ≡ one ++ f ++ l → three ≡ two ++ g ++ m → four ≡ three ++ h ++ n → all ≡ four ++ end → all ≡ old ++ (k ++ f ++ l ++ g ++ m ++ h ++ n ++ end)
+pub four_numbers : (old k f l g m h n end one two three four all : List ℕ) → one ≡ old ++ k → two ≡ one ++ f ++ l → three ≡ two ++ g ++ m → four ≡ three
+    ++ h ++ n → all ≡ four ++ end → all ≡ old ++ (k ++ f ++ l ++ g ++ m ++ h ++ n ++ end)
 four_numbers old k f l g m h n end one two three four all a b c d e = rw (e, d, c, b, a) (simp append_assoc)
 
 -- three texts, each behind another, and an end
-pub three_texts : (old f x g y h z end one two three all : List ℕ) → one ≡ old ++ f ++ x → two ≡ one ++ g ++ y → three ≡ two ++ h ++ z → all ≡ three ++ end → all ≡ old ++ (f ++ x ++ g ++ y ++ h ++ z ++ end)
+pub three_texts : (old f x g y h z end one two three all : List ℕ) → one ≡ old ++ f ++ x → two ≡ one ++ g ++ y → three ≡ two ++ h ++ z → all ≡ three
+    ++ end → all ≡ old ++ (f ++ x ++ g ++ y ++ h ++ z ++ end)
 three_texts old f x g y h z end one two three all a b c d = rw (d, c, b, a) (simp append_assoc)
 
 -- two texts, each behind another
@@ -21,7 +23,8 @@ two_texts old f x g y one two three all a b c d = rw (d, c, b, a) (simp append_a
 
 module _ {X Y : Type 0} (f : Y → List ℕ) (h : X → Y) (xs : List X) (i : ℕ) where
   -- the text of an element more
-  pub lines_next : (d : X) (text new all : List ℕ) → i < length xs → new ≡ text ++ f (h (get_or xs i d)) → text ++ flat_map f (map h (drop i xs)) ≡ all → new ++ flat_map f (map h (drop (i + 1) xs)) ≡ all
+  pub lines_next : (d : X) (text new all : List ℕ) → i < length xs → new ≡ text ++ f (h (get_or xs i d)) → text ++ flat_map f (map h (drop i xs)) ≡ all
+      → new ++ flat_map f (map h (drop (i + 1) xs)) ≡ all
   lines_next d text new all inside here so =
       let rest : List ℕ = flat_map f (map h (drop (i + 1) xs)) in
       ap (λ t. t ++ rest) here ∙ append_assoc text (f (h (get_or xs i d))) rest ∙ ap (λ ys. text ++ flat_map f (map h ys)) (sym (drop_more xs i d inside)) ∙ so
@@ -32,13 +35,16 @@ module _ {X Y : Type 0} (f : Y → List ℕ) (h : X → Y) (xs : List X) (i : �
 
   module _ (test : Y → Bool) where
     -- an element more passes a test, or it does not
-    pub tested_next : (d : X) (text new all : List ℕ) → i < length xs → test (h (get_or xs i d)) ≡ true → new ≡ text ++ f (h (get_or xs i d)) → text ++ flat_map f (filter test (map h (drop i xs))) ≡ all → new ++ flat_map f (filter test (map h (drop (i + 1) xs))) ≡ all
+    pub tested_next : (d : X) (text new all : List ℕ) → i < length xs → test (h (get_or xs i d)) ≡ true → new ≡ text ++ f (h (get_or xs i d)) → text
+        ++ flat_map f (filter test (map h (drop i xs))) ≡ all → new ++ flat_map f (filter test (map h (drop (i + 1) xs))) ≡ all
     tested_next d text new all inside is here so =
         let y : Y = h (get_or xs i d) in
         let left : List Y = filter test (map h (drop (i + 1) xs)) in
-        ap (λ t. t ++ flat_map f left) here ∙ append_assoc text (f y) (flat_map f left) ∙ ap (λ b. text ++ flat_map f (cond b (y ∷ left) left)) (sym is) ∙ ap (λ ys. text ++ flat_map f (filter test (map h ys))) (sym (drop_more xs i d inside)) ∙ so
+        ap (λ t. t ++ flat_map f left) here ∙ append_assoc text (f y) (flat_map f left) ∙ ap (λ b. text ++ flat_map f (cond b (y ∷ left) left)) (sym is)
+        ∙ ap (λ ys. text ++ flat_map f (filter test (map h ys))) (sym (drop_more xs i d inside)) ∙ so
 
-    pub tested_skip : (d : X) (text all : List ℕ) → i < length xs → test (h (get_or xs i d)) ≡ false → text ++ flat_map f (filter test (map h (drop i xs))) ≡ all → text ++ flat_map f (filter test (map h (drop (i + 1) xs))) ≡ all
+    pub tested_skip : (d : X) (text all : List ℕ) → i < length xs → test (h (get_or xs i d)) ≡ false → text ++ flat_map f (filter test (map h (drop i xs)))
+        ≡ all → text ++ flat_map f (filter test (map h (drop (i + 1) xs))) ≡ all
     tested_skip d text all inside is so =
         let y : Y = h (get_or xs i d) in
         let left : List Y = filter test (map h (drop (i + 1) xs)) in

@@ -18,7 +18,8 @@ there f None a is = cc
 there f (Some l) a is = cc
 
 -- each value of a list is some
-each_there : {R A : Type 0} (layout : R → Option Layout) (f : R → Layout → A) (rs : List R) (xs : List A) → map (λ r. option_map (f r) (layout r)) rs ≡ map Some xs → map (λ r. f r (layout_there (layout r))) rs ≡ xs
+each_there : {R A : Type 0} (layout : R → Option Layout) (f : R → Layout → A) (rs : List R) (xs : List A) → map (λ r. option_map (f r) (layout r)) rs
+    ≡ map Some xs → map (λ r. f r (layout_there (layout r))) rs ≡ xs
 each_there layout f [] [] is = refl
 each_there layout f [] (a ∷ xs) is = cc
 each_there layout f (r ∷ rs) [] is = cc
@@ -29,7 +30,8 @@ each_there layout f (r ∷ rs) (a ∷ xs) is =
     let more : map (λ r. f r (layout_there (layout r))) rs ≡ xs = each_there layout f rs xs rest in
     cc
 
-same_account : {s z : Layout} {p q : List (Pass × ℕ × ℕ)} {l m : List (ℕ × Layout)} → s ≡ z → p ≡ q → l ≡ m → let A : Type 0 = CellsAccount in ◌≡◌ {A = A} (record { start = s; passes = p; levels = l }) (record { start = z; passes = q; levels = m })
+same_account : {s z : Layout} {p q : List (Pass × ℕ × ℕ)} {l m : List (ℕ × Layout)} → s ≡ z → p ≡ q → l ≡ m → let A : Type 0 = CellsAccount in
+    ◌≡◌ {A = A} (record { start = s; passes = p; levels = l }) (record { start = z; passes = q; levels = m })
 same_account a b c = cc
 
 -- a run tells the account of its cells
@@ -45,7 +47,8 @@ some_there : {A : Type 0} (f : Layout → A) (layout : Option Layout) (a : A) �
 some_there f None a is = cc
 some_there f (Some l) a is = refl
 
-each_some : {R A : Type 0} (layout : R → Option Layout) (f : R → Layout → A) (rs : List R) (xs : List A) → map (λ r. option_map (f r) (layout r)) rs ≡ map Some xs → AllByRecursion (λ r. IsSome (layout r)) rs
+each_some : {R A : Type 0} (layout : R → Option Layout) (f : R → Layout → A) (rs : List R) (xs : List A) → map (λ r. option_map (f r) (layout r)) rs
+    ≡ map Some xs → AllByRecursion (λ r. IsSome (layout r)) rs
 each_some layout f [] [] is = tt
 each_some layout f [] (a ∷ xs) is = tt
 each_some layout f (r ∷ rs) [] is = cc
@@ -57,6 +60,7 @@ each_some layout f (r ∷ rs) (a ∷ xs) is =
 pub layouts_there : (a : CellsAccount) (r : Finished) → TellsCells (Some a) r → HasLayouts r
 layouts_there a r tells = record {
   first = rw tells.0 refl;
-  passes = All-from_recursion (λ (p : PassRecord). IsSome p.layout) r.passes (each_some (λ p. p.layout) (λ p l. (record { level = p.level; len = p.len; dot = p.dot }, l.taken, l.top)) r.passes a.passes tells.1);
+  passes = All-from_recursion (λ (p : PassRecord). IsSome p.layout) r.passes
+      (each_some (λ p. p.layout) (λ p l. (record { level = p.level; len = p.len; dot = p.dot }, l.taken, l.top)) r.passes a.passes tells.1);
   levels = All-from_recursion (λ (l : LevelRecord). IsSome l.layout) r.levels (each_some (λ l. l.layout) (λ l layout. (l.level, layout)) r.levels a.levels tells.2);
 }

@@ -34,7 +34,8 @@ each_append P (x ∷ xs) ys front back = (front.0, each_append P xs ys front.1 b
 
 pub each_over_range : {A : Type 0} (P : A → Type 0) (f : ℕ → List A) (a n : ℕ) → ((p : ℕ) → a ≤ p → p < a + n → AllByRecursion P (f p)) → AllByRecursion P (flat_map f (range_with_len a n))
 each_over_range P f a zero each = tt
-each_over_range P f a (suc n) each = each_append P (f a) (flat_map f (range_with_len (a + 1) n)) (each a (omega arith) (omega arith)) (each_over_range P f (a + 1) n (λ p low high. each p (omega arith) (omega arith)))
+each_over_range P f a (suc n) each = each_append P (f a) (flat_map f (range_with_len (a + 1) n)) (each a (omega arith) (omega arith))
+    (each_over_range P f (a + 1) n (λ p low high. each p (omega arith) (omega arith)))
 
 -- a map goes into the pieces
 pub map_pieces : {X A B : Type 0} (g : A → B) (f : X → List A) (xs : List X) → map g (flat_map f xs) ≡ flat_map (λ x. map g (f x)) xs

@@ -25,7 +25,8 @@ pub record Laws (t : Alphabet) : Type 0 where
   pub spelled : SpellsLetters t
   pub items_lines : (items : List (Token × List ℕ)) → AllByRecursion (IsDictionaryItem t) items → IsLine (text_of_items items)
   pub words_read : (before : ℕ) (w : Word) (marks : List Mark) → IsWord w → AreMarksOf w marks → line_word before (word_tokens before marks w) ≡ record { word = Some w; weight = w.weight }
-  pub lines_read : (line weight : ℕ) (items : List (Token × List ℕ)) → AllByRecursion (IsDictionaryItem t) items → letters_among (map (λ item. item.0) items) ≤ WORD_LETTERS_MAX → line_reading t line weight (text_of_items items) ≡ Ok (line_word weight (map (λ item. item.0) items))
+  pub lines_read : (line weight : ℕ) (items : List (Token × List ℕ)) → AllByRecursion (IsDictionaryItem t) items → letters_among (map (λ item. item.0) items) ≤ WORD_LETTERS_MAX
+      → line_reading t line weight (text_of_items items) ≡ Ok (line_word weight (map (λ item. item.0) items))
   pub files_read : (texts : List (List ℕ)) (all : List Word) → AllByRecursion IsLine texts → LinesGive t 1 texts all → length (file_of texts) ≤ FILE_MAX → words t (file_of texts) ≡ Ok all
 
 -- the items of the line of a word, which is behind a line with this word weight
@@ -43,7 +44,8 @@ record IsKnown (t : Alphabet) (w : Word) : Type 0 where
   signs : All (λ s. s ≤ letters_of t + 1) w.signs
 
 -- the line of a word is read as the word
-line_read : (t : Alphabet) → Laws t → (P : Patterns) (before line : ℕ) (w : Word) → IsKnown t w → line_reading t line before (text_of_items (line_items t P before w)) ≡ Ok (record { word = Some w; weight = w.weight })
+line_read : (t : Alphabet) → Laws t → (P : Patterns) (before line : ℕ) (w : Word) → IsKnown t w → line_reading t line before (text_of_items (line_items t P before w))
+    ≡ Ok (record { word = Some w; weight = w.weight })
 line_read t laws P before line w known =
     let tokens : map (λ item. item.0) (line_items t P before w) ≡ word_tokens before (map (statuses t P w) (inner_positions w)) w = word_items_tokens t before (statuses t P w) w known.word in
     let few : letters_among (map (λ item. item.0) (line_items t P before w)) ≤ WORD_LETTERS_MAX = rw tokens (word_items_few before (statuses t P w) w known.word) in
@@ -78,9 +80,11 @@ part_known t (w ∷ ws) all signs =
     elim (cases_Bool (is_taking_part t w)) [ inl part ↦ rw part (here, rest) | inr out ↦ rw out rest ]
 
 -- a list of at most 2^26 bytes is read as the words that take part
-pub list_reads : (t : Alphabet) → Laws t → (P : Patterns) (ws : List Word) → All IsWord ws → SignsAtMost (letters_of t + 1) ws → length (pattmp_text t P ws) ≤ FILE_MAX → words t (pattmp_text t P ws) ≡ Ok (words_taking_part t ws)
+pub list_reads : (t : Alphabet) → Laws t → (P : Patterns) (ws : List Word) → All IsWord ws → SignsAtMost (letters_of t + 1) ws → length (pattmp_text t P ws) ≤ FILE_MAX
+    → words t (pattmp_text t P ws) ≡ Ok (words_taking_part t ws)
 list_reads t laws P ws all signs few =
     let known : AllByRecursion (IsKnown t) (words_taking_part t ws) = part_known t ws all signs in
     let whole : file_of (texts_behind t P 1 (words_taking_part t ws)) ≡ pattmp_text t P ws = texts_joined t P 1 (words_taking_part t ws) known in
     let short : length (file_of (texts_behind t P 1 (words_taking_part t ws))) ≤ FILE_MAX = omega (arith, ap length whole) in
-    ap (words t) (sym whole) ∙ laws.files_read (texts_behind t P 1 (words_taking_part t ws)) (words_taking_part t ws) (lines_are t laws P 1 (words_taking_part t ws) known) (lines_give t laws P 1 (words_taking_part t ws) known) short
+    ap (words t) (sym whole) ∙ laws.files_read (texts_behind t P 1 (words_taking_part t ws)) (words_taking_part t ws) (lines_are t laws P 1 (words_taking_part t ws) known)
+    (lines_give t laws P 1 (words_taking_part t ws) known) short

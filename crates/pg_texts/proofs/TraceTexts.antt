@@ -32,11 +32,13 @@ AreNumbered n (l ∷ ls) = (l.number ≡ n) × All (λ (p : PassTrace). p.pass.l
 passes_numbered : (n : ℕ) (lens : List ℕ) → All (λ (q : Pass). q.level ≡ n) (flat_map (λ len. map (λ dot. record { level = n; len = len; dot = dot }) (order len)) lens)
 passes_numbered n [] = All-nil (λ (q : Pass). q.level ≡ n)
 passes_numbered n (len ∷ lens) =
-    All-append (λ (q : Pass). q.level ≡ n) (map (λ dot. record { level = n; len = len; dot = dot }) (order len)) (flat_map (λ len. map (λ dot. record { level = n; len = len; dot = dot }) (order len)) lens)
+    All-append (λ (q : Pass). q.level ≡ n) (map (λ dot. record { level = n; len = len; dot = dot }) (order len))
+    (flat_map (λ len. map (λ dot. record { level = n; len = len; dot = dot }) (order len)) lens)
     (All-map (λ (q : Pass). q.level ≡ n) (λ dot. record { level = n; len = len; dot = dot }) (order len) (λ k d less. refl))
     (passes_numbered n lens)
 
-made_numbered : (source : Source) (params : LevelParams) (n : ℕ) (known : Known) (qs : List Pass) → All (λ (q : Pass). q.level ≡ n) qs → All (λ (p : PassTrace). p.pass.level ≡ n) (passes_made source params known qs)
+made_numbered : (source : Source) (params : LevelParams) (n : ℕ) (known : Known) (qs : List Pass) → All (λ (q : Pass). q.level ≡ n) qs
+    → All (λ (p : PassTrace). p.pass.level ≡ n) (passes_made source params known qs)
 made_numbered source params n known [] are = All-nil (λ (p : PassTrace). p.pass.level ≡ n)
 made_numbered source params n known (q ∷ qs) are =
     let p : PassTrace = pass_made source params known q in
@@ -45,8 +47,11 @@ made_numbered source params n known (q ∷ qs) are =
 
 levels_numbered : (source : Source) (n : ℕ) (P : Patterns) (levels : List LevelParams) → AreNumbered n (levels_made source P (enumerate_from n levels))
 levels_numbered source n P [] = tt
-levels_numbered source n P (params ∷ levels) =
-    (refl, made_numbered source params n (at_start P) (passes_of n params) (passes_numbered n (range_with_len params.pat_start (params.pat_finish + 1 - params.pat_start))), levels_numbered source (n + 1) (patterns_after (level_made source P (n, params))) levels)
+levels_numbered source n P (params ∷ levels) = (
+  refl,
+  made_numbered source params n (at_start P) (passes_of n params) (passes_numbered n (range_with_len params.pat_start (params.pat_finish + 1 - params.pat_start))),
+  levels_numbered source (n + 1) (patterns_after (level_made source P (n, params))) levels,
+)
 
 -- texts that are joined behind others
 of_five : (x a b c d e : List ℕ) → x ++ (a ++ b ++ c ++ d ++ e) ≡ x ++ a ++ b ++ c ++ d ++ e
@@ -73,8 +78,11 @@ passes_same source (p ∷ ps) = λ i. pass_same source p i ++ passes_same source
 -- the report
 report_rises : (source : Source) (n : ℕ) (run : Trace) → AreNumbered n run → Rises (pass_lines source) (λ l. l.number) (λ x. x.pass.level) n run
 report_rises source n [] are = tt
-report_rises source n (l ∷ ls) are =
-    (are.0, All-map (λ (x : PassLine). x.pass.level ≡ n) (pass_line source) (filter has_candidate l.passes) (All-filter has_candidate (λ (p : PassTrace). p.pass.level ≡ n) l.passes are.1), report_rises source (n + 1) ls are.2)
+report_rises source n (l ∷ ls) are = (
+  are.0,
+  All-map (λ (x : PassLine). x.pass.level ≡ n) (pass_line source) (filter has_candidate l.passes) (All-filter has_candidate (λ (p : PassTrace). p.pass.level ≡ n) l.passes are.1),
+  report_rises source (n + 1) ls are.2,
+)
 
 level_same : (source : Source) (l : LevelTrace) → flat_map pass_line_text (pass_lines source l) ++ level_line_text (level_line source l) ≡ level_text source l
 level_same source l =
@@ -85,7 +93,8 @@ levels_same : (source : Source) (run : Trace) → flat_map (λ l. flat_map pass_
 levels_same source [] = refl
 levels_same source (l ∷ ls) = λ i. level_same source l i ++ levels_same source ls i
 
-pub report_same : (source : Source) (parameters : Parameters) (S : Patterns) → account_text (largest S) parameters (account source S (trace source parameters S)) ≡ report_text source parameters S (trace source parameters S)
+pub report_same : (source : Source) (parameters : Parameters) (S : Patterns) → account_text (largest S) parameters (account source S (trace source parameters S))
+    ≡ report_text source parameters S (trace source parameters S)
 report_same source parameters S =
     let run : Trace = trace source parameters S in
     let lines = flat_map (pass_lines source) run in
@@ -97,10 +106,12 @@ report_same source parameters S =
     ap (λ t. warning_text (largest S) parameters ++ t ++ ending_text (totals_by source (final_patterns S run))) levels
 
 -- the cells file
-with_numbered : (signs n : ℕ) (fs : Families) (ps : List PassTrace) → All (λ (p : PassTrace). p.pass.level ≡ n) ps → All (λ (e : PassTrace × Families). e.0.pass.level ≡ n) (passes_with_families signs fs ps)
+with_numbered : (signs n : ℕ) (fs : Families) (ps : List PassTrace) → All (λ (p : PassTrace). p.pass.level ≡ n) ps
+    → All (λ (e : PassTrace × Families). e.0.pass.level ≡ n) (passes_with_families signs fs ps)
 with_numbered signs n fs [] are = All-nil (λ (e : PassTrace × Families). e.0.pass.level ≡ n)
 with_numbered signs n fs (p ∷ ps) are =
-    All-cons (λ (e : PassTrace × Families). e.0.pass.level ≡ n) (p, after_pass signs fs p) (passes_with_families signs (after_pass signs fs p) ps) (All-head (λ (p : PassTrace). p.pass.level ≡ n) p ps are)
+    All-cons (λ (e : PassTrace × Families). e.0.pass.level ≡ n) (p, after_pass signs fs p) (passes_with_families signs (after_pass signs fs p) ps)
+    (All-head (λ (p : PassTrace). p.pass.level ≡ n) p ps are)
     (with_numbered signs n (after_pass signs fs p) ps (All-tail (λ (p : PassTrace). p.pass.level ≡ n) p ps are))
 
 cells_rise : (signs n : ℕ) (fs : Families) (run : Trace) → AreNumbered n run
@@ -121,13 +132,15 @@ cells_passes signs fs (p ∷ ps) =
     after : Families
     after = after_pass signs fs p
 
-    by : (b : Bool) → flat_map pass_cells_text (map (λ (e : PassTrace × Families). (e.0.pass, taken_count e.1, top e.1)) (cond b ((p, after) ∷ filter (λ e. has_candidate e.0) (passes_with_families signs after ps)) (filter (λ e. has_candidate e.0) (passes_with_families signs after ps))))
+    by : (b : Bool) → flat_map pass_cells_text (map (λ (e : PassTrace × Families). (e.0.pass, taken_count e.1, top e.1))
+        (cond b ((p, after) ∷ filter (λ e. has_candidate e.0) (passes_with_families signs after ps)) (filter (λ e. has_candidate e.0) (passes_with_families signs after ps))))
         ≡ cond b (pass_front p.pass ++ used_text after ++ codes "\n") [] ++ flat_map pass_cells_text (pass_layouts signs after ps)
     by true = refl
     by false = refl
 
 cells_levels : (signs : ℕ) (fs : Families) (run : Trace)
-    → flat_map (λ (e : LevelTrace × Families). flat_map pass_cells_text (pass_layouts signs e.1 e.0.passes) ++ level_cells_line (level_layout signs e.1 e.0)) (levels_with_families signs fs run) ≡ levels_cells_text signs fs run
+    → flat_map (λ (e : LevelTrace × Families). flat_map pass_cells_text (pass_layouts signs e.1 e.0.passes) ++ level_cells_line (level_layout signs e.1 e.0)) (levels_with_families signs fs run)
+    ≡ levels_cells_text signs fs run
 cells_levels signs fs [] = refl
 cells_levels signs fs (l ∷ ls) =
     let after : Families = after_level signs fs l in
@@ -150,6 +163,7 @@ cells_same source parameters signs S =
 
 -- the layout after the last level
 pub last_same : (signs : ℕ) (fs : Families) (S : Patterns) (run : Trace)
-    → fold (λ _ (l : ℕ × Layout). l.1) (layout_of fs S) (map (λ (e : LevelTrace × Families). level_layout signs e.1 e.0) (levels_with_families signs fs run)) ≡ layout_of (fold (after_level signs) fs run) (final_patterns S run)
+    → fold (λ _ (l : ℕ × Layout). l.1) (layout_of fs S) (map (λ (e : LevelTrace × Families). level_layout signs e.1 e.0) (levels_with_families signs fs run))
+    ≡ layout_of (fold (after_level signs) fs run) (final_patterns S run)
 last_same signs fs S [] = refl
 last_same signs fs S (l ∷ ls) = last_same signs (after_level signs fs l) (patterns_after l) ls

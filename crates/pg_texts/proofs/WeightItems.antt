@@ -53,7 +53,11 @@ braces_item t weight small high =
     record { digits = decimal weight; text_is = refl; few = length-decimal-le 4 weight (omega arith) (omega arith) (omega arith); decimal = written.digits; value = written.value; some = omega arith }
 
 number_item : (t : Alphabet) (weight : ℕ) → weight ≤ WEIGHT_MAX → IsItem t Dictionary (number_token weight) (number_text weight)
-number_item t weight small = elim (cases_Bool (nat_lt weight 10)) [ inl low ↦ rw low (few_item t weight (grind (arith, nat_tests))) | inr high ↦ rw high (braces_item t weight small (grind (arith, nat_tests))) ]
+number_item t weight small = elim (cases_Bool (nat_lt weight 10)) [
+  | inl low ↦ rw low (few_item t weight (grind (arith, nat_tests)))
+  | inr high ↦ rw high
+      (braces_item t weight small (grind (arith, nat_tests)))
+]
 
 pub weight_items_each : (t : Alphabet) (other weight : ℕ) → weight ≤ WEIGHT_MAX → AllByRecursion (λ item. IsItem t Dictionary item.0 item.1) (weight_items other weight)
 weight_items_each t other weight small = elim (cases_Bool (weight == other)) [ inl same ↦ rw same tt | inr differs ↦ rw differs (number_item t weight small, tt) ]

@@ -67,7 +67,11 @@ written_tokens weight l = mark_tokens l.mark ++ (weight_tokens weight l.weight +
 position_items_tokens : (t : Alphabet) (marks : ℕ → Mark) (w : Word) (p : ℕ) → map (λ item. item.0) (position_items t marks w p) ≡ written_tokens w.weight (written_at marks w p)
 position_items_tokens t marks w p =
     map-append (λ item. item.0) (mark_items t (marks p)) (weight_items w.weight (position_weight w p) ++ letter_item t (slice_index w.signs p) ∷ [])
-    ∙ rw (mark_items_tokens t (marks p), map-append (λ item. item.0) (weight_items w.weight (position_weight w p)) (letter_item t (slice_index w.signs p) ∷ []), weight_items_tokens w.weight (position_weight w p)) refl
+    ∙ rw (
+      mark_items_tokens t (marks p),
+      map-append (λ item. item.0) (weight_items w.weight (position_weight w p)) (letter_item t (slice_index w.signs p) ∷ []),
+      weight_items_tokens w.weight (position_weight w p),
+    ) refl
 
 written_over : (marks : ℕ → Mark) (f g : ℕ → ℕ) (ps : List ℕ) → written_letters (map marks ps) (map f ps) (map g ps) ≡ map (λ p. record { mark = marks p; weight = f p; sign = g p }) ps
 written_over marks f g [] = refl
@@ -88,7 +92,8 @@ pub word_items_tokens : (t : Alphabet) (before : ℕ) (marks : ℕ → Mark) (w 
 word_items_tokens t before marks w word =
     let letters : map (λ item. item.0) (flat_map (position_items t marks w) (inner_positions w)) ≡ letters_tokens w.weight (letters_with (map marks (inner_positions w)) w) =
     map_pieces (λ item. item.0) (position_items t marks w) (inner_positions w)
-    ∙ same_over_range (λ p. map (λ item. item.0) (position_items t marks w p)) (λ p. written_tokens w.weight (written_at marks w p)) 2 (length w.signs - 3) (λ p low high. position_items_tokens t marks w p)
+    ∙ same_over_range (λ p. map (λ item. item.0) (position_items t marks w p)) (λ p. written_tokens w.weight (written_at marks w p)) 2 (length w.signs - 3)
+    (λ p low high. position_items_tokens t marks w p)
     ∙ sym (flat_map-map (written_tokens w.weight) (written_at marks w) (inner_positions w))
     ∙ ap (flat_map (written_tokens w.weight)) (sym (letters_written marks w word)) in
     map-append (λ item. item.0) (weight_items before w.weight) (letter_item t (slice_index w.signs 1) ∷ flat_map (position_items t marks w) (inner_positions w))
@@ -122,27 +127,38 @@ mark_and_weight t marks w p = mark_text t (marks p) ++ weight_text w.weight (pos
 position_items_joined : (t : Alphabet) (marks : ℕ → Mark) (w : Word) (p : ℕ) → text_of_items (position_items t marks w p) ≡ mark_and_weight t marks w p ++ spelling_of t (slice_index w.signs p)
 position_items_joined t marks w p =
     joined_append (mark_items t (marks p)) (weight_items w.weight (position_weight w p) ++ letter_item t (slice_index w.signs p) ∷ [])
-    ∙ rw (mark_items_joined t (marks p), joined_append (weight_items w.weight (position_weight w p)) (letter_item t (slice_index w.signs p) ∷ []), weight_items_joined w.weight (position_weight w p), joined_one (letter_item t (slice_index w.signs p))) (sym (append_assoc (mark_text t (marks p)) (weight_text w.weight (position_weight w p)) (spelling_of t (slice_index w.signs p))))
+    ∙ rw (
+      mark_items_joined t (marks p),
+      joined_append (weight_items w.weight (position_weight w p)) (letter_item t (slice_index w.signs p) ∷ []),
+      weight_items_joined w.weight (position_weight w p),
+      joined_one (letter_item t (slice_index w.signs p)),
+    )
+    (sym (append_assoc (mark_text t (marks p)) (weight_text w.weight (position_weight w p)) (spelling_of t (slice_index w.signs p))))
 
 -- the letters behind the first, each behind the mark and the weight of the position before it
 abbrev letters_behind : Alphabet → (ℕ → Mark) → Word → List ℕ
 letters_behind t marks w = flat_map (λ p. mark_and_weight t marks w p ++ spelling_of t (slice_index w.signs p)) (inner_positions w)
 
-word_letters : (t : Alphabet) (marks : ℕ → Mark) (w : Word) → 3 ≤ length w.signs → flat_map (position_text t marks w) (inner_positions w) ++ letter_text t w (length w.signs - 1) ≡ spelling_of t (slice_index w.signs 1) ++ letters_behind t marks w
+word_letters : (t : Alphabet) (marks : ℕ → Mark) (w : Word) → 3 ≤ length w.signs → flat_map (position_text t marks w) (inner_positions w)
+    ++ letter_text t w (length w.signs - 1) ≡ spelling_of t (slice_index w.signs 1) ++ letters_behind t marks w
 word_letters t marks w long =
     let last : length w.signs - 1 ≡ 2 + (length w.signs - 3) = omega arith in
     let front : flat_map (position_text t marks w) (inner_positions w) ≡ flat_map (λ p. letter_text t w p ++ mark_and_weight t marks w p) (inner_positions w) =
-    same_over_range (position_text t marks w) (λ p. letter_text t w p ++ mark_and_weight t marks w p) 2 (length w.signs - 3) (λ p low high. append_assoc (letter_text t w p) (mark_text t (marks p)) (weight_text w.weight (position_weight w p))) in
-    let moved = shifted (letter_text t w) (mark_and_weight t marks w) (λ p. spelling_of t (slice_index w.signs p)) (λ p. ap (λ q. spelling_of t (slice_index w.signs q)) (omega arith)) 2 (length w.signs - 3) in
+    same_over_range (position_text t marks w) (λ p. letter_text t w p ++ mark_and_weight t marks w p) 2 (length w.signs - 3)
+    (λ p low high. append_assoc (letter_text t w p) (mark_text t (marks p)) (weight_text w.weight (position_weight w p))) in
+    let moved = shifted (letter_text t w) (mark_and_weight t marks w) (λ p. spelling_of t (slice_index w.signs p)) (λ p. ap (λ q. spelling_of t (slice_index w.signs q)) (omega arith)) 2
+    (length w.signs - 3) in
     rw (front, last) moved
 
 pub word_items_joined : (t : Alphabet) (before : ℕ) (marks : ℕ → Mark) (w : Word) → 3 ≤ length w.signs → text_of_items (word_items t before marks w) ++ codes "\n" ≡ weight_text before w.weight ++ word_text t marks w
 word_items_joined t before marks w long =
     let letters : text_of_items (flat_map (position_items t marks w) (inner_positions w)) ≡ letters_behind t marks w =
     joined_pieces (position_items t marks w) (inner_positions w)
-    ∙ same_over_range (λ p. text_of_items (position_items t marks w p)) (λ p. mark_and_weight t marks w p ++ spelling_of t (slice_index w.signs p)) 2 (length w.signs - 3) (λ p low high. position_items_joined t marks w p) in
+    ∙ same_over_range (λ p. text_of_items (position_items t marks w p)) (λ p. mark_and_weight t marks w p ++ spelling_of t (slice_index w.signs p)) 2
+    (length w.signs - 3) (λ p low high. position_items_joined t marks w p) in
     let whole : text_of_items (word_items t before marks w) ≡ weight_text before w.weight ++ (spelling_of t (slice_index w.signs 1) ++ letters_behind t marks w) =
-    joined_append (weight_items before w.weight) (letter_item t (slice_index w.signs 1) ∷ flat_map (position_items t marks w) (inner_positions w)) ∙ rw (weight_items_joined before w.weight, letters) refl in
+    joined_append (weight_items before w.weight) (letter_item t (slice_index w.signs 1) ∷ flat_map (position_items t marks w) (inner_positions w))
+    ∙ rw (weight_items_joined before w.weight, letters) refl in
     rw (whole, word_letters t marks w long) (append_assoc (weight_text before w.weight) (spelling_of t (slice_index w.signs 1) ++ letters_behind t marks w) (codes "\n"))
 
 -- each is an item
@@ -166,17 +182,20 @@ letter_sign w p word low high =
 abbrev pub SpellsLetters : Alphabet → Type 0
 SpellsLetters t = (s : ℕ) → 2 ≤ s → s ≤ letters_of t + 1 → IsItem t Dictionary (Letter s) (spelling_of t s)
 
-letter_item_there : (t : Alphabet) (w : Word) (p : ℕ) → SpellsLetters t → IsWord w → All (λ s. s ≤ letters_of t + 1) w.signs → 1 ≤ p → p + 1 < length w.signs → IsDictionaryItem t (letter_item t (slice_index w.signs p))
+letter_item_there : (t : Alphabet) (w : Word) (p : ℕ) → SpellsLetters t → IsWord w → All (λ s. s ≤ letters_of t + 1) w.signs → 1 ≤ p → p + 1 < length w.signs
+    → IsDictionaryItem t (letter_item t (slice_index w.signs p))
 letter_item_there t w p spelled word known low high = spelled (slice_index w.signs p) (letter_sign w p word low high) (known p 0 (omega arith))
 
-position_items_each : (t : Alphabet) (marks : ℕ → Mark) (w : Word) (p : ℕ) → SpellsLetters t → IsWord w → All (λ s. s ≤ letters_of t + 1) w.signs → 1 ≤ p → p + 1 < length w.signs → AllByRecursion (IsDictionaryItem t) (position_items t marks w p)
+position_items_each : (t : Alphabet) (marks : ℕ → Mark) (w : Word) (p : ℕ) → SpellsLetters t → IsWord w → All (λ s. s ≤ letters_of t + 1) w.signs → 1 ≤ p
+    → p + 1 < length w.signs → AllByRecursion (IsDictionaryItem t) (position_items t marks w p)
 position_items_each t marks w p spelled word known low high =
     let weight : position_weight w p ≤ WEIGHT_MAX = word.weights p 0 (omega (arith, word.weights_len)) in
     each_append (IsDictionaryItem t) (mark_items t (marks p)) _ (mark_items_each t (marks p))
     (each_append (IsDictionaryItem t) (weight_items w.weight (position_weight w p)) _ (weight_items_each t w.weight (position_weight w p) weight)
     (letter_item_there t w p spelled word known low high, tt))
 
-pub word_items_each : (t : Alphabet) (before : ℕ) (marks : ℕ → Mark) (w : Word) → SpellsLetters t → IsWord w → All (λ s. s ≤ letters_of t + 1) w.signs → AllByRecursion (IsDictionaryItem t) (word_items t before marks w)
+pub word_items_each : (t : Alphabet) (before : ℕ) (marks : ℕ → Mark) (w : Word) → SpellsLetters t → IsWord w → All (λ s. s ≤ letters_of t + 1) w.signs
+    → AllByRecursion (IsDictionaryItem t) (word_items t before marks w)
 word_items_each t before marks w spelled word known =
     let long : 3 ≤ length w.signs = word.long in
     each_append (IsDictionaryItem t) (weight_items before w.weight) _ (weight_items_each t before w.weight word.weight) (
@@ -219,8 +238,11 @@ letters_counted weight (l ∷ ls) =
 
 pub word_items_few : (before : ℕ) (marks : ℕ → Mark) (w : Word) → IsWord w → letters_among (word_tokens before (map marks (inner_positions w)) w) ≤ WORD_LETTERS_MAX
 word_items_few before marks w word =
-    let written : length (letters_with (map marks (inner_positions w)) w) ≡ length w.signs - 3 = ap length (letters_written marks w word) ∙ length-map-range_with_len (written_at marks w) 2 (length w.signs - 3) in
-    let count : letters_among (word_tokens before (map marks (inner_positions w)) w) ≡ 0 + letters_among (Letter (slice_index w.signs 1) ∷ letters_tokens w.weight (letters_with (map marks (inner_positions w)) w)) =
-    letters_append (weight_tokens before w.weight) (Letter (slice_index w.signs 1) ∷ letters_tokens w.weight (letters_with (map marks (inner_positions w)) w)) ∙ ap (λ n. n + letters_among (Letter (slice_index w.signs 1) ∷ letters_tokens w.weight (letters_with (map marks (inner_positions w)) w))) (no_letter_weight before w.weight) in
+    let written : length (letters_with (map marks (inner_positions w)) w) ≡ length w.signs - 3 = ap length (letters_written marks w word)
+    ∙ length-map-range_with_len (written_at marks w) 2 (length w.signs - 3) in
+    let count : letters_among (word_tokens before (map marks (inner_positions w)) w)
+    ≡ 0 + letters_among (Letter (slice_index w.signs 1) ∷ letters_tokens w.weight (letters_with (map marks (inner_positions w)) w)) =
+    letters_append (weight_tokens before w.weight) (Letter (slice_index w.signs 1) ∷ letters_tokens w.weight (letters_with (map marks (inner_positions w)) w))
+    ∙ ap (λ n. n + letters_among (Letter (slice_index w.signs 1) ∷ letters_tokens w.weight (letters_with (map marks (inner_positions w)) w))) (no_letter_weight before w.weight) in
     let rest = letters_counted w.weight (letters_with (map marks (inner_positions w)) w) in
     omega (arith, word.long, word.short)

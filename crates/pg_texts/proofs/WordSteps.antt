@@ -19,7 +19,8 @@ use Rattle.pg_texts.specs.PattmpTexts.{is_taking_part, weight_text, position_tex
 use Rattle.pg_texts.specs.Inside.ReadBack.{words_taking_part}
 
 -- one position more of a range
-pub range_step : (f : ℕ → List ℕ) (p last : ℕ) (text new all : List ℕ) → p < last → new ≡ text ++ f p → text ++ flat_map f (range_with_len p (last - p)) ≡ all → new ++ flat_map f (range_with_len (p + 1) (last - (p + 1))) ≡ all
+pub range_step : (f : ℕ → List ℕ) (p last : ℕ) (text new all : List ℕ) → p < last → new ≡ text ++ f p → text ++ flat_map f (range_with_len p (last - p))
+    ≡ all → new ++ flat_map f (range_with_len (p + 1) (last - (p + 1))) ≡ all
 range_step f p last text new all inside here rest =
     let parts : last - p ≡ suc (last - (p + 1)) = omega arith in
     let whole : text ++ (f p ++ flat_map f (range_with_len (p + 1) (last - (p + 1)))) ≡ all = rw parts at rest in
@@ -57,8 +58,10 @@ by_test true hyphen care value = refl
 by_test false hyphen care value = refl
 
 -- the statuses that are found are those of the positions
-pub found_status : (t : Alphabet) (P : Patterns) (w : Word) (values : List ℕ) (r : ℕ × ℕ) (p : ℕ) → reach t.left t.right (length w.signs) ≡ Some r → slice_index values p ≡ value_at P w.signs p → status_found values r w p ≡ statuses t P w p
-found_status t P w values r p is value = rw (reach_test t.left t.right (length w.signs) r p is, value) (by_test (nat_le r.0 p && nat_le p r.1) (slice_index_or w.hyphens p false) (slice_index_or w.cares p true) (value_at P w.signs p))
+pub found_status : (t : Alphabet) (P : Patterns) (w : Word) (values : List ℕ) (r : ℕ × ℕ) (p : ℕ) → reach t.left t.right (length w.signs) ≡ Some r
+    → slice_index values p ≡ value_at P w.signs p → status_found values r w p ≡ statuses t P w p
+found_status t P w values r p is value = rw (reach_test t.left t.right (length w.signs) r p is, value)
+    (by_test (nat_le r.0 p && nat_le p r.1) (slice_index_or w.hyphens p false) (slice_index_or w.cares p true) (value_at P w.signs p))
 
 -- the text of a word by marks that agree at each position
 pub same_marks : (t : Alphabet) (marks others : ℕ → Mark) (w : Word) → ((p : ℕ) → p < length w.signs → marks p ≡ others p) → 3 ≤ length w.signs → word_text t marks w ≡ word_text t others w
@@ -72,17 +75,24 @@ joined_line : (text front line rest all behind new later : List ℕ) → later �
 joined_line text front line rest all behind new later same front_is line_is whole = rw (same, line_is, front_is) (simp append_assoc (simp append_assoc at whole))
 
 -- a word that takes part has its line
-pub line_step : (t : Alphabet) (P : Patterns) (words : List Word) (i weight : ℕ) (w : Word) (r : ℕ × ℕ) (values : List ℕ) (text behind new all : List ℕ) → slice_get words i ≡ Some w → reach t.left t.right (length w.signs) ≡ Some r → 3 ≤ length w.signs → ((p : ℕ) → p < length w.signs → slice_index values p ≡ value_at P w.signs p) → behind ≡ text ++ weight_text weight w.weight → new ≡ behind ++ word_text t (status_found values r w) w → text ++ lines_behind t P weight (words_taking_part t (drop i words)) ≡ all → new ++ lines_behind t P w.weight (words_taking_part t (drop (i + 1) words)) ≡ all
+pub line_step : (t : Alphabet) (P : Patterns) (words : List Word) (i weight : ℕ) (w : Word) (r : ℕ × ℕ) (values : List ℕ) (text behind new all : List ℕ)
+    → slice_get words i ≡ Some w → reach t.left t.right (length w.signs) ≡ Some r → 3 ≤ length w.signs → ((p : ℕ) → p < length w.signs → slice_index values p ≡ value_at P w.signs p)
+    → behind ≡ text ++ weight_text weight w.weight → new ≡ behind ++ word_text t (status_found values r w) w → text ++ lines_behind t P weight (words_taking_part t (drop i words))
+    ≡ all → new ++ lines_behind t P w.weight (words_taking_part t (drop (i + 1) words)) ≡ all
 line_step t P words i weight w r values text behind new all is reached long found front line whole =
     let there : drop i words ≡ w ∷ drop (suc i) words = word_there words i w is in
     let part : is_taking_part t w ≡ true = rw reached refl in
-    let marks : word_text t (status_found values r w) w ≡ word_text t (statuses t P w) w = same_marks t (status_found values r w) (statuses t P w) w (λ p inside. found_status t P w values r p reached (found p inside)) long in
+    let marks : word_text t (status_found values r w) w ≡ word_text t (statuses t P w) w =
+    same_marks t (status_found values r w) (statuses t P w) w (λ p inside. found_status t P w values r p reached (found p inside)) long in
     let lines : text ++ lines_behind t P weight (if is_taking_part t w then w ∷ words_taking_part t (drop (suc i) words) else words_taking_part t (drop (suc i) words)) ≡ all = rw there at whole in
     let more : text ++ (weight_text weight w.weight ++ word_text t (statuses t P w) w ++ lines_behind t P w.weight (words_taking_part t (drop (suc i) words))) ≡ all = rw part at lines in
-    joined_line text (weight_text weight w.weight) (word_text t (statuses t P w) w) (lines_behind t P w.weight (words_taking_part t (drop (suc i) words))) all behind new _ (rw add-one refl) front (line ∙ ap (λ x. behind ++ x) marks) more
+    joined_line text (weight_text weight w.weight) (word_text t (statuses t P w) w) (lines_behind t P w.weight (words_taking_part t (drop (suc i) words))) all behind new _
+    (rw add-one refl) front (line ∙ ap (λ x. behind ++ x) marks) more
 
 -- a word that takes no part has none
-pub no_line_step : (t : Alphabet) (P : Patterns) (words : List Word) (i weight : ℕ) (w : Word) (text all : List ℕ) → slice_get words i ≡ Some w → reach t.left t.right (length w.signs) ≡ None → text ++ lines_behind t P weight (words_taking_part t (drop i words)) ≡ all → text ++ lines_behind t P weight (words_taking_part t (drop (i + 1) words)) ≡ all
+pub no_line_step : (t : Alphabet) (P : Patterns) (words : List Word) (i weight : ℕ) (w : Word) (text all : List ℕ) → slice_get words i ≡ Some w
+    → reach t.left t.right (length w.signs) ≡ None → text ++ lines_behind t P weight (words_taking_part t (drop i words)) ≡ all → text
+    ++ lines_behind t P weight (words_taking_part t (drop (i + 1) words)) ≡ all
 no_line_step t P words i weight w text all is none whole =
     let there : drop i words ≡ w ∷ drop (suc i) words = word_there words i w is in
     let part : is_taking_part t w ≡ false = rw none refl in

@@ -39,17 +39,21 @@ is_linked b links log q is = told_now b links log (IsEntry q Link) is
 pub is_missing : (b : Bool) (links : List linked.Link) (log : List Change) (q : List ℕ) → is_some (link_in links q) ≡ false → number_in log q ≡ None → Now (told_where b links log) (IsEntry q Missing)
 is_missing b links log q unlinked none = told_now b links log (IsEntry q Missing) (unlinked, none_in links log q (stands links log q None unlinked none))
 
-pub is_file : (b : Bool) (links : List linked.Link) (log : List Change) (q : List ℕ) (n : ℕ) (id : FileId) → is_some (link_in links q) ≡ false → id ≡ id_of n → number_in log q ≡ Some n → Now (told_where b links log) (IsEntry q (File id))
-is_file b links log q n id unlinked named is = subst (λ (k : FileId). Now (told_where b links log) (IsEntry q (File k))) (sym named) (told_now b links log (IsEntry q (File (id_of n))) (unlinked, leads_in links log q n (stands links log q (Some n) unlinked is)))
+pub is_file : (b : Bool) (links : List linked.Link) (log : List Change) (q : List ℕ) (n : ℕ) (id : FileId) → is_some (link_in links q) ≡ false → id
+    ≡ id_of n → number_in log q ≡ Some n → Now (told_where b links log) (IsEntry q (File id))
+is_file b links log q n id unlinked named is = subst (λ (k : FileId). Now (told_where b links log) (IsEntry q (File k))) (sym named)
+    (told_now b links log (IsEntry q (File (id_of n))) (unlinked, leads_in links log q n (stands links log q (Some n) unlinked is)))
 
-followed_in : (links : List linked.Link) (log : List Change) (q text : List ℕ) (link : linked.Link) → link_in links q ≡ Some link → IsJoined q text (string_bytes link.said) → IsFollowedBy q text (disk_in links log)
+followed_in : (links : List linked.Link) (log : List Change) (q text : List ℕ) (link : linked.Link) → link_in links q ≡ Some link
+    → IsJoined q text (string_bytes link.said) → IsFollowedBy q text (disk_in links log)
 followed_in links log q text link is says = λ joined is_joined.
     let one = one_joined q text joined (string_bytes link.said) is_joined says in (
       one ∙ sym (ap (λ (o : Option linked.Link). said_or o q) is),
       ap (λ (n : List ℕ). real_in links n) one ∙ said_same links q link is,
     )
 
-pub is_followed : (b : Bool) (links : List linked.Link) (log : List Change) (q text : List ℕ) (link : linked.Link) → link_in links q ≡ Some link → IsJoined q text (string_bytes link.said) → Now (told_where b links log) (IsFollowedBy q text)
+pub is_followed : (b : Bool) (links : List linked.Link) (log : List Change) (q text : List ℕ) (link : linked.Link) → link_in links q ≡ Some link
+    → IsJoined q text (string_bytes link.said) → Now (told_where b links log) (IsFollowedBy q text)
 is_followed b links log q text link is says = told_now b links log (IsFollowedBy q text) (followed_in links log q text link is says)
 
 pub leads_none : (b : Bool) (links : List linked.Link) (log : List Change) (q : List ℕ) → number_in log (real_in links q) ≡ None → Now (told_where b links log) (LeadsToNone q)
@@ -81,46 +85,57 @@ taken_by_link b links log q is = told_now b links log (IsTaken q) (inl is)
 pub taken : (b : Bool) (links : List linked.Link) (log : List Change) (q : List ℕ) (n : ℕ) → is_some (link_in links q) ≡ false → number_in log q ≡ Some n → Now (told_where b links log) (IsTaken q)
 taken b links log q n unlinked is = told_now b links log (IsTaken q) (inr (id_of n, leads_in links log q n (stands links log q (Some n) unlinked is)))
 
-pub stat : (b : Bool) (links : List linked.Link) (log : List Change) (n mode : ℕ) (regular : Bool) (id : FileId) → id ≡ id_of n → mode_in log n ≡ Some mode → regular ≡ kind_in log n → Now (told_where b links log) (IsStat (id_of n) (record { id = id; is_regular = regular; mode = mode }))
+pub stat : (b : Bool) (links : List linked.Link) (log : List Change) (n mode : ℕ) (regular : Bool) (id : FileId) → id ≡ id_of n → mode_in log n ≡ Some mode
+    → regular ≡ kind_in log n → Now (told_where b links log) (IsStat (id_of n) (record { id = id; is_regular = regular; mode = mode }))
 stat b links log n mode regular id named modes kind = told_now b links log (IsStat (id_of n) (record { id = id; is_regular = regular; mode = mode }))
     (record { is = named; node = node_at log n mode; there = there_in links log n mode modes; kind = sym kind; mode = refl })
 
-pub made_step : (b b2 : Bool) (links links2 : List linked.Link) (log log2 : List Change) (own : String Global) (name : List ℕ) (n : ℕ) → (b2 ≡ true → b ≡ true) → links2 ≡ links → (b2 ≡ true → log2 ≡ Made own true ∷ log) → string_bytes own ≡ name → n ≡ length log → is_some (link_in links name) ≡ false → number_in log name ≡ None → Steps (told_where b links log) (told_where b2 links2 log2) (disk.Made name (id_of n))
+pub made_step : (b b2 : Bool) (links links2 : List linked.Link) (log log2 : List Change) (own : String Global) (name : List ℕ) (n : ℕ) → (b2 ≡ true → b ≡ true)
+    → links2 ≡ links → (b2 ≡ true → log2 ≡ Made own true ∷ log) → string_bytes own ≡ name → n ≡ length log → is_some (link_in links name) ≡ false
+    → number_in log name ≡ None → Steps (told_where b links log) (told_where b2 links2 log2) (disk.Made name (id_of n))
 made_step b b2 links links2 log log2 own name n told same is named counted unlinked none =
     subst (λ (q : List ℕ). Steps (told_where b links log) (told_where b2 links2 log2) (disk.Made q (id_of n))) named
     (subst (λ (k : ℕ). Steps (told_where b links log) (told_where b2 links2 log2) (disk.Made (string_bytes own) (id_of k))) (sym counted)
     (steps b b2 links links2 log log2 (Made own true) (disk.Made (string_bytes own) (id_of (length log))) told same is
     (made links log own (ap (λ (q : List ℕ). is_some (link_in links q)) named ∙ unlinked) (ap (λ (q : List ℕ). number_in log q) named ∙ none))))
 
-pub removed_step : (b b2 : Bool) (links links2 : List linked.Link) (log log2 : List Change) (own : String Global) (name : List ℕ) → (b2 ≡ true → b ≡ true) → links2 ≡ links → (b2 ≡ true → log2 ≡ Removed own ∷ log) → string_bytes own ≡ name → Steps (told_where b links log) (told_where b2 links2 log2) (disk.RemovedName name)
+pub removed_step : (b b2 : Bool) (links links2 : List linked.Link) (log log2 : List Change) (own : String Global) (name : List ℕ) → (b2 ≡ true → b ≡ true)
+    → links2 ≡ links → (b2 ≡ true → log2 ≡ Removed own ∷ log) → string_bytes own ≡ name → Steps (told_where b links log) (told_where b2 links2 log2) (disk.RemovedName name)
 removed_step b b2 links links2 log log2 own name told same is named =
     subst (λ (q : List ℕ). Steps (told_where b links log) (told_where b2 links2 log2) (disk.RemovedName q)) named
     (steps b b2 links links2 log log2 (Removed own) (disk.RemovedName (string_bytes own)) told same is (removed links log own))
 
-pub renamed_step : (b b2 : Bool) (links links2 : List linked.Link) (log log2 : List Change) (from to : String Global) (p q : List ℕ) → (b2 ≡ true → b ≡ true) → links2 ≡ links → (b2 ≡ true → log2 ≡ Renamed from to ∷ log) → string_bytes from ≡ p → string_bytes to ≡ q → Steps (told_where b links log) (told_where b2 links2 log2) (disk.Renamed p q)
+pub renamed_step : (b b2 : Bool) (links links2 : List linked.Link) (log log2 : List Change) (from to : String Global) (p q : List ℕ) → (b2 ≡ true → b ≡ true)
+    → links2 ≡ links → (b2 ≡ true → log2 ≡ Renamed from to ∷ log) → string_bytes from ≡ p → string_bytes to ≡ q → Steps (told_where b links log) (told_where b2 links2 log2) (disk.Renamed p q)
 renamed_step b b2 links links2 log log2 from to p q told same is one other =
     subst (λ (r : List ℕ). Steps (told_where b links log) (told_where b2 links2 log2) (disk.Renamed p r)) other
     (subst (λ (r : List ℕ). Steps (told_where b links log) (told_where b2 links2 log2) (disk.Renamed r (string_bytes to))) one
     (steps b b2 links links2 log log2 (Renamed from to) (disk.Renamed (string_bytes from) (string_bytes to)) told same is (renamed links log from to)))
 
-pub stayed_step : (b b2 : Bool) (links links2 : List linked.Link) (log log2 : List Change) (n : FileId) → (b2 ≡ true → b ≡ true) → links2 ≡ links → (b2 ≡ true → log2 ≡ Stayed ∷ log) → Steps (told_where b links log) (told_where b2 links2 log2) (Disturbed n)
+pub stayed_step : (b b2 : Bool) (links links2 : List linked.Link) (log log2 : List Change) (n : FileId) → (b2 ≡ true → b ≡ true) → links2 ≡ links
+    → (b2 ≡ true → log2 ≡ Stayed ∷ log) → Steps (told_where b links log) (told_where b2 links2 log2) (Disturbed n)
 stayed_step b b2 links links2 log log2 n told same is = steps b b2 links links2 log log2 Stayed (Disturbed n) told same is (stayed links log n)
 
-pub wrote_step : (b b2 : Bool) (links links2 : List linked.Link) (log log2 : List Change) (n : ℕ) (held : Vec ℕ Global) (bytes : List ℕ) → (b2 ≡ true → b ≡ true) → links2 ≡ links → (b2 ≡ true → log2 ≡ Wrote n held ∷ log) → held.items ≡ bytes → Steps (told_where b links log) (told_where b2 links2 log2) (disk.Wrote (id_of n) bytes)
+pub wrote_step : (b b2 : Bool) (links links2 : List linked.Link) (log log2 : List Change) (n : ℕ) (held : Vec ℕ Global) (bytes : List ℕ) → (b2 ≡ true → b ≡ true)
+    → links2 ≡ links → (b2 ≡ true → log2 ≡ Wrote n held ∷ log) → held.items ≡ bytes → Steps (told_where b links log) (told_where b2 links2 log2) (disk.Wrote (id_of n) bytes)
 wrote_step b b2 links links2 log log2 n held bytes told same is whole =
     subst (λ (l : List ℕ). Steps (told_where b links log) (told_where b2 links2 log2) (disk.Wrote (id_of n) l)) whole
     (steps b b2 links links2 log log2 (Wrote n held) (disk.Wrote (id_of n) held.items) told same is (wrote links log n held))
 
-pub part_step : (b b2 : Bool) (links links2 : List linked.Link) (log log2 : List Change) (n : FileId) (bytes : List ℕ) → (b2 ≡ true → b ≡ true) → links2 ≡ links → (b2 ≡ true → log2 ≡ Stayed ∷ log) → Steps (told_where b links log) (told_where b2 links2 log2) (WrotePart n bytes)
+pub part_step : (b b2 : Bool) (links links2 : List linked.Link) (log log2 : List Change) (n : FileId) (bytes : List ℕ) → (b2 ≡ true → b ≡ true) → links2
+    ≡ links → (b2 ≡ true → log2 ≡ Stayed ∷ log) → Steps (told_where b links log) (told_where b2 links2 log2) (WrotePart n bytes)
 part_step b b2 links links2 log log2 n bytes told same is = steps b b2 links links2 log log2 Stayed (WrotePart n bytes) told same is (stayed_part links log n bytes)
 
-pub mode_step : (b b2 : Bool) (links links2 : List linked.Link) (log log2 : List Change) (n mode : ℕ) → (b2 ≡ true → b ≡ true) → links2 ≡ links → (b2 ≡ true → log2 ≡ GotMode n mode ∷ log) → Steps (told_where b links log) (told_where b2 links2 log2) (disk.GotMode (id_of n) mode)
+pub mode_step : (b b2 : Bool) (links links2 : List linked.Link) (log log2 : List Change) (n mode : ℕ) → (b2 ≡ true → b ≡ true) → links2 ≡ links
+    → (b2 ≡ true → log2 ≡ GotMode n mode ∷ log) → Steps (told_where b links log) (told_where b2 links2 log2) (disk.GotMode (id_of n) mode)
 mode_step b b2 links links2 log log2 n mode told same is = steps b b2 links links2 log log2 (GotMode n mode) (disk.GotMode (id_of n) mode) told same is (got_mode links log n mode)
 
-pub stored_step : (b b2 : Bool) (links links2 : List linked.Link) (log log2 : List Change) (n : ℕ) → (b2 ≡ true → b ≡ true) → links2 ≡ links → (b2 ≡ true → log2 ≡ Stored n ∷ log) → Steps (told_where b links log) (told_where b2 links2 log2) (disk.Stored (id_of n))
+pub stored_step : (b b2 : Bool) (links links2 : List linked.Link) (log log2 : List Change) (n : ℕ) → (b2 ≡ true → b ≡ true) → links2 ≡ links
+    → (b2 ≡ true → log2 ≡ Stored n ∷ log) → Steps (told_where b links log) (told_where b2 links2 log2) (disk.Stored (id_of n))
 stored_step b b2 links links2 log log2 n told same is = steps b b2 links links2 log log2 (Stored n) (disk.Stored (id_of n)) told same is (stored links log n)
 
-pub refused_step : (b b2 : Bool) (links links2 : List linked.Link) (log log2 : List Change) (own : String Global) (name : List ℕ) → (b2 ≡ true → b ≡ true) → links2 ≡ links → (b2 ≡ true → log2 ≡ Refused own ∷ log) → string_bytes own ≡ name → Steps (told_where b links log) (told_where b2 links2 log2) (disk.Refused name)
+pub refused_step : (b b2 : Bool) (links links2 : List linked.Link) (log log2 : List Change) (own : String Global) (name : List ℕ) → (b2 ≡ true → b ≡ true)
+    → links2 ≡ links → (b2 ≡ true → log2 ≡ Refused own ∷ log) → string_bytes own ≡ name → Steps (told_where b links log) (told_where b2 links2 log2) (disk.Refused name)
 refused_step b b2 links links2 log log2 own name told same is named =
     subst (λ (q : List ℕ). Steps (told_where b links log) (told_where b2 links2 log2) (disk.Refused q)) named
     (steps b b2 links links2 log log2 (Refused own) (disk.Refused (string_bytes own)) told same is (refused links log own))

@@ -7,7 +7,8 @@ use Rattle.pg_told_disk.specs.Inside.Memory.{told_where}
 use Rattle.pg_told_disk.specs.declared.change.Change.{Change}
 use Rattle.pg_told_disk.specs.declared.links.Link.{Link}
 
-pub steps : (b b2 : Bool) (links links2 : List Link) (log log2 : List Change) (change : Change) (R : Disk → Disk → Type 0) → (b2 ≡ true → b ≡ true) → links2 ≡ links → (b2 ≡ true → log2 ≡ change ∷ log) → R (disk_in links log) (disk_in links (change ∷ log)) → Steps (told_where b links log) (told_where b2 links2 log2) R
+pub steps : (b b2 : Bool) (links links2 : List Link) (log log2 : List Change) (change : Change) (R : Disk → Disk → Type 0) → (b2 ≡ true → b ≡ true)
+    → links2 ≡ links → (b2 ≡ true → log2 ≡ change ∷ log) → R (disk_in links log) (disk_in links (change ∷ log)) → Steps (told_where b links log) (told_where b2 links2 log2) R
 steps b false links links2 log log2 change R told same is r = tt
 steps false true links links2 log log2 change R told same is r = absurd (false≢true (told refl))
 steps true true links links2 log log2 change R told same is r =

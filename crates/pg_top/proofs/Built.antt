@@ -55,7 +55,8 @@ may_build (ToPrune dict patterns output translate report) is = record { done = (
 may_build (ToSweep s) is = record { done = (0, omega arith, refl); refused = (1, omega arith, refl); reads = λ none. cc; sampled = λ answer old new. tt }
 
 -- such a command at its end
-pub built_run : {F : Type 0} (request : Request) (built : Result Outputs Stop) (before after : F) (s0 s1 s2 : FilesShown) (o0 o1 : SinkShown) (answer : Status) → IsBuilding request → Builds request s0 s1 built → EndsBuilt built answer (s1, o0) (s2, o1) → IsRun (Some request) answer before after (s0, o0) (s2, o1)
+pub built_run : {F : Type 0} (request : Request) (built : Result Outputs Stop) (before after : F) (s0 s1 s2 : FilesShown) (o0 o1 : SinkShown) (answer : Status)
+    → IsBuilding request → Builds request s0 s1 built → EndsBuilt built answer (s1, o0) (s2, o1) → IsRun (Some request) answer before after (s0, o0) (s2, o1)
 built_run request (Ok made) before after s0 s1 s2 o0 o1 answer building builds ends =
     let may : MayBuild request = may_build request building in
     let is : IsMade request s0 s1 made = builds.made in
@@ -63,7 +64,8 @@ built_run request (Ok made) before after s0 s1 s2 o0 o1 answer building builds e
       call = finished_call request (writing_of made.files.items) made.lines.items s0 s1 s2 o0 o1 answer may.done is.named builds.only.held builds.only.writes is.comes is.counted ends;
       sampled = may.sampled answer (s0, o0) (s2, o1);
       counted = counted_finish request (writing_of made.files.items) made.lines.items s0 s1 s2 o0 o1 answer is.named is.counted ends;
-      promised = promise_kept request answer (s0, o0) (s2, o1) (promised (writing_of made.files.items) made.lines.items s0 s1 s2 o0 o1 answer (λ files. Keeps request (file_at files)) builds.only.held is.keeps ends);
+      promised = promise_kept request answer (s0, o0) (s2, o1) (promised (writing_of made.files.items) made.lines.items s0 s1 s2 o0 o1 answer
+          (λ files. Keeps request (file_at files)) builds.only.held is.keeps ends);
       same = λ none. absurd (may.reads none);
     }
 built_run request (Err stop) before after s0 s1 s2 o0 o1 answer building builds ends =
@@ -78,7 +80,8 @@ built_run request (Err stop) before after s0 s1 s2 o0 o1 answer building builds 
     }
 
 -- `sample`, which has no files
-pub sample_run : {F : Type 0} (seed count : ℕ) (files : F) (s : FilesShown) (o0 o1 : SinkShown) (answer : Status) → PutsLines (sample_lines seed count) answer o0 o1 → LinesCounted answer o0 o1 → IsRun (Some (ToSample seed count)) answer files files (s, o0) (s, o1)
+pub sample_run : {F : Type 0} (seed count : ℕ) (files : F) (s : FilesShown) (o0 o1 : SinkShown) (answer : Status) → PutsLines (sample_lines seed count) answer o0 o1
+    → LinesCounted answer o0 o1 → IsRun (Some (ToSample seed count)) answer files files (s, o0) (s, o1)
 sample_run seed count files s o0 o1 answer lines puts = record {
   call = sample_call seed count s o0 o1 answer lines puts;
   sampled = put lines;
@@ -93,6 +96,8 @@ sample_run seed count files s o0 o1 answer lines puts = record {
     put (inr (inr h)) = subst (λ (answer : Status). IsSampled (Some (ToSample seed count)) answer (s, o0) (s, o1)) (sym h.0) tt
 
     counts : PutsLines (sample_lines seed count) answer o0 o1 → IsCountedCall (Some (ToSample seed count)) answer (s, o0) (s, o1)
-    counts (inl h) = subst (λ (answer : Status). IsCountedCall (Some (ToSample seed count)) answer (s, o0) (s, o1)) (sym h.0) (inl refl, subst (λ (answer : Status). LinesCounted answer o0 o1) h.0 puts)
-    counts (inr (inl h)) = subst (λ (answer : Status). IsCountedCall (Some (ToSample seed count)) answer (s, o0) (s, o1)) (sym h.0) (sample_whole seed count s o0 o1 (subst (λ (answer : Status). LinesCounted answer o0 o1) h.0 puts))
+    counts (inl h) = subst (λ (answer : Status). IsCountedCall (Some (ToSample seed count)) answer (s, o0) (s, o1)) (sym h.0)
+        (inl refl, subst (λ (answer : Status). LinesCounted answer o0 o1) h.0 puts)
+    counts (inr (inl h)) = subst (λ (answer : Status). IsCountedCall (Some (ToSample seed count)) answer (s, o0) (s, o1)) (sym h.0)
+        (sample_whole seed count s o0 o1 (subst (λ (answer : Status). LinesCounted answer o0 o1) h.0 puts))
     counts (inr (inr h)) = subst (λ (answer : Status). IsCountedCall (Some (ToSample seed count)) answer (s, o0) (s, o1)) (sym h.0) tt

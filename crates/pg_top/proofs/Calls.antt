@@ -83,7 +83,8 @@ may_want (ToTotals dict translate table) = (3, omega arith, refl)
 may_want (ToPrune dict patterns output translate report) = (3, omega arith, refl)
 may_want (ToSweep s) = (3, omega arith, refl)
 
-answered_as : (asked : Option Request) (status : Status) (old new : Moment) → OfFiles old new (λ before after. DoesAll old new status before after (outcome (file_at before) asked)) → IsAnswered asked status old new
+answered_as : (asked : Option Request) (status : Status) (old new : Moment) → OfFiles old new (λ before after. DoesAll old new status before after (outcome (file_at before) asked))
+    → IsAnswered asked status old new
 answered_as asked Done old new h = h
 answered_as asked Yes old new h = h
 answered_as asked No old new h = h
@@ -93,11 +94,13 @@ answered_as asked Fault old new h = tt
 answered_as asked Memory old new h = tt
 
 -- where the files kept what they held and were then written, this is so of those before and after
-of_files : (s0 s1 s2 : FilesShown) (writing : Writing) (Q : FileMap → Type 0) (P : FileMap → FileMap → Type 0) → KeepsHeld s0.held s1.held → IfSome s1.held Q → WroteAll s1 s2 writing → ((before after : FileMap) → Q before → after ≡ after_all before writing → P before after)
+of_files : (s0 s1 s2 : FilesShown) (writing : Writing) (Q : FileMap → Type 0) (P : FileMap → FileMap → Type 0) → KeepsHeld s0.held s1.held → IfSome s1.held Q
+    → WroteAll s1 s2 writing → ((before after : FileMap) → Q before → after ≡ after_all before writing → P before after)
     → IfSome s2.held (λ after. MatchOption s0.held ⊥ (λ before. P before after))
 of_files s0 s1 s2 writing Q P keeps told wrote f = by_cases s0.held s1.held s2.held keeps told wrote
   where
-    by_cases : (h0 h1 h2 : Option FileMap) → KeepsHeld h0 h1 → IfSome h1 Q → IfSome h2 (λ after. MatchOption h1 ⊥ (λ before. after ≡ after_all before writing)) → IfSome h2 (λ after. MatchOption h0 ⊥ (λ before. P before after))
+    by_cases : (h0 h1 h2 : Option FileMap) → KeepsHeld h0 h1 → IfSome h1 Q → IfSome h2 (λ after. MatchOption h1 ⊥ (λ before. after ≡ after_all before writing))
+        → IfSome h2 (λ after. MatchOption h0 ⊥ (λ before. P before after))
     by_cases h0 h1 None keeps told wrote = tt
     by_cases h0 None (Some after) keeps told wrote = absurd wrote
     by_cases h0 (Some before) (Some after) keeps told wrote = subst (λ held. MatchOption held ⊥ (λ before. P before after)) (sym keeps) (f before after told wrote)
@@ -115,7 +118,8 @@ module _ (request : Request) (wanted : Status) (writing : Writing) (lines : List
   Comes files = outcome_of (file_at files) request ≡ Ends wanted writing lines
 
   -- the outcome was done
-  done_call : (s0 s1 s2 : FilesShown) (o0 o1 : SinkShown) → IsEnd wanted → Contains (answers_to (Some request)) wanted → KeepsHeld s0.held s1.held → IfSome s1.held Comes → WroteAll s1 s2 writing → Puts o0 o1 lines → IsCall (Some request) wanted (s0, o0) (s2, o1)
+  done_call : (s0 s1 s2 : FilesShown) (o0 o1 : SinkShown) → IsEnd wanted → Contains (answers_to (Some request)) wanted → KeepsHeld s0.held s1.held
+      → IfSome s1.held Comes → WroteAll s1 s2 writing → Puts o0 o1 lines → IsCall (Some request) wanted (s0, o0) (s2, o1)
   done_call s0 s1 s2 o0 o1 end may keeps told wrote puts = record {
     answers = may;
     usage = λ is. absurd (no_usage wanted end is);
@@ -125,11 +129,13 @@ module _ (request : Request) (wanted : Status) (writing : Writing) (lines : List
     memory = λ is. absurd (no_memory wanted end is);
     fault = λ is. absurd (no_fault wanted end is);
     faulted = λ is. absurd (no_fault wanted end is);
-    complete = inr (inr (of_files s0 s1 s2 writing Comes (λ before after. IsAnswerOf wanted (outcome_of (file_at before) request)) keeps told wrote (λ before after comes written. subst (IsAnswerOf wanted) (sym comes) refl)));
+    complete = inr (inr (of_files s0 s1 s2 writing Comes (λ before after. IsAnswerOf wanted (outcome_of (file_at before) request)) keeps told wrote
+        (λ before after comes written. subst (IsAnswerOf wanted) (sym comes) refl)));
   }
 
   -- its lines could not be put
-  put_failed : (s0 s1 s2 : FilesShown) (o0 o1 : SinkShown) → IsEndCounted request wanted (s0, o0) (s2, o1) → KeepsHeld s0.held s1.held → IfSome s1.held Comes → WroteAll s1 s2 writing → PutRose o0 o1 → PutsPart o0 o1 lines → IsCall (Some request) Fault (s0, o0) (s2, o1)
+  put_failed : (s0 s1 s2 : FilesShown) (o0 o1 : SinkShown) → IsEndCounted request wanted (s0, o0) (s2, o1) → KeepsHeld s0.held s1.held → IfSome s1.held Comes
+      → WroteAll s1 s2 writing → PutRose o0 o1 → PutsPart o0 o1 lines → IsCall (Some request) Fault (s0, o0) (s2, o1)
   put_failed s0 s1 s2 o0 o1 counted keeps told wrote rose part = record {
     answers = may_fault request;
     usage = λ is. cc;
@@ -147,18 +153,24 @@ module _ (request : Request) (wanted : Status) (writing : Writing) (lines : List
   }
 
   -- all was written
-  pub ended_call : (s0 s1 s2 : FilesShown) (o0 o1 : SinkShown) (answer : Status) → IsEnd wanted → Contains (answers_to (Some request)) wanted → IsEndCounted request wanted (s0, o0) (s2, o1) → KeepsHeld s0.held s1.held → IfSome s1.held Comes → WroteAll s1 s2 writing → PutsAnswer lines wanted answer o0 o1 → IsCall (Some request) answer (s0, o0) (s2, o1)
-  ended_call s0 s1 s2 o0 o1 answer end may counted keeps told wrote (inl h) = subst (λ (status : Status). IsCall (Some request) status (s0, o0) (s2, o1)) (sym h.0) (done_call s0 s1 s2 o0 o1 end may keeps told wrote h.1)
-  ended_call s0 s1 s2 o0 o1 answer end may counted keeps told wrote (inr h) = subst (λ (status : Status). IsCall (Some request) status (s0, o0) (s2, o1)) (sym h.0) (put_failed s0 s1 s2 o0 o1 counted keeps told wrote h.1 h.2)
+  pub ended_call : (s0 s1 s2 : FilesShown) (o0 o1 : SinkShown) (answer : Status) → IsEnd wanted → Contains (answers_to (Some request)) wanted
+      → IsEndCounted request wanted (s0, o0) (s2, o1) → KeepsHeld s0.held s1.held → IfSome s1.held Comes → WroteAll s1 s2 writing → PutsAnswer lines wanted answer o0 o1
+      → IsCall (Some request) answer (s0, o0) (s2, o1)
+  ended_call s0 s1 s2 o0 o1 answer end may counted keeps told wrote (inl h) = subst (λ (status : Status). IsCall (Some request) status (s0, o0) (s2, o1))
+      (sym h.0) (done_call s0 s1 s2 o0 o1 end may keeps told wrote h.1)
+  ended_call s0 s1 s2 o0 o1 answer end may counted keeps told wrote (inr h) = subst (λ (status : Status). IsCall (Some request) status (s0, o0) (s2, o1))
+      (sym h.0) (put_failed s0 s1 s2 o0 o1 counted keeps told wrote h.1 h.2)
 
   -- where writing stopped, it stands there
-  stopped_writing : (s0 s1 s2 : FilesShown) (place : ℕ) (stopped : StoppedAt s1 s2 writing place) → KeepsHeld s0.held s1.held → IfSome s1.held Comes → IfSome s2.held (λ after. MatchOption s0.held ⊥ (λ before. StopsWriting stopped.write.0 before after (outcome_of (file_at before) request)))
+  stopped_writing : (s0 s1 s2 : FilesShown) (place : ℕ) (stopped : StoppedAt s1 s2 writing place) → KeepsHeld s0.held s1.held → IfSome s1.held Comes
+      → IfSome s2.held (λ after. MatchOption s0.held ⊥ (λ before. StopsWriting stopped.write.0 before after (outcome_of (file_at before) request)))
   stopped_writing s0 s1 s2 place stopped keeps told = by_cases s0.held s1.held s2.held keeps told stopped.part
     where
       name : List ℕ
       name = stopped.write.0
 
-      by_cases : (h0 h1 h2 : Option FileMap) → KeepsHeld h0 h1 → IfSome h1 Comes → IfSome h2 (λ after. MatchOption h1 ⊥ (λ before. IsPartWritten before after writing stopped.write.0)) → IfSome h2 (λ after. MatchOption h0 ⊥ (λ before. StopsWriting stopped.write.0 before after (outcome_of (file_at before) request)))
+      by_cases : (h0 h1 h2 : Option FileMap) → KeepsHeld h0 h1 → IfSome h1 Comes → IfSome h2 (λ after. MatchOption h1 ⊥ (λ before. IsPartWritten before after writing stopped.write.0))
+          → IfSome h2 (λ after. MatchOption h0 ⊥ (λ before. StopsWriting stopped.write.0 before after (outcome_of (file_at before) request)))
       by_cases h0 h1 None keeps told part = tt
       by_cases h0 None (Some after) keeps told part = absurd part
       by_cases h0 (Some before) (Some after) keeps told part =
@@ -166,11 +178,14 @@ module _ (request : Request) (wanted : Status) (writing : Writing) (lines : List
           (subst (StopsWriting stopped.write.0 before after) (sym told) part)
 
 -- an answer with no write
-pub answered_call : (request : Request) (wanted : Status) (lines : List ℕ) (s0 s1 : FilesShown) (o0 o1 : SinkShown) (answer : Status) → IsEnd wanted → Contains (answers_to (Some request)) wanted → IsEndCounted request wanted (s0, o0) (s1, o1) → KeepsHeld s0.held s1.held → IfSome s1.held (λ files. outcome_of (file_at files) request ≡ Ends wanted [] lines) → PutsAnswer lines wanted answer o0 o1 → IsCall (Some request) answer (s0, o0) (s1, o1)
+pub answered_call : (request : Request) (wanted : Status) (lines : List ℕ) (s0 s1 : FilesShown) (o0 o1 : SinkShown) (answer : Status) → IsEnd wanted
+    → Contains (answers_to (Some request)) wanted → IsEndCounted request wanted (s0, o0) (s1, o1) → KeepsHeld s0.held s1.held
+    → IfSome s1.held (λ files. outcome_of (file_at files) request ≡ Ends wanted [] lines) → PutsAnswer lines wanted answer o0 o1 → IsCall (Some request) answer (s0, o0) (s1, o1)
 answered_call request wanted lines s0 s1 o0 o1 answer end may counted keeps told puts = ended_call request wanted [] lines s0 s1 s1 o0 o1 answer end may counted keeps told (nothing_written s1) puts
 
 -- memory was wanted
-pub memory_call : (request : Request) (s0 s1 : FilesShown) (o0 o1 : SinkShown) (answer : Status) → KeepsHeld s0.held s1.held → answer ≡ Memory → Puts o0 o1 [] → IsCall (Some request) answer (s0, o0) (s1, o1)
+pub memory_call : (request : Request) (s0 s1 : FilesShown) (o0 o1 : SinkShown) (answer : Status) → KeepsHeld s0.held s1.held → answer ≡ Memory
+    → Puts o0 o1 [] → IsCall (Some request) answer (s0, o0) (s1, o1)
 memory_call request s0 s1 o0 o1 answer keeps is puts = subst (λ (status : Status). IsCall (Some request) status (s0, o0) (s1, o1)) (sym is) (record {
   answers = may_want request;
   usage = λ is. cc;
@@ -182,10 +197,17 @@ memory_call request s0 s1 o0 o1 answer keeps is puts = subst (λ (status : Statu
 })
 
 -- a file could not be read
-unread_call : (request : Request) (place : ℕ) (s0 s1 : FilesShown) (o0 o1 : SinkShown) → KeepsHeld s0.held s1.held → ReadsUpTo (reads_of request) place s0 s1 → (unread : IsUnreadAt (reads_of request) place s0 s1) → PutOrRose o0 o1 (reading_line unread.reading.name) → PutsFault o0 o1 → IsCall (Some request) Fault (s0, o0) (s1, o1)
+unread_call : (request : Request) (place : ℕ) (s0 s1 : FilesShown) (o0 o1 : SinkShown) → KeepsHeld s0.held s1.held → ReadsUpTo (reads_of request) place s0 s1
+    → (unread : IsUnreadAt (reads_of request) place s0 s1) → PutOrRose o0 o1 (reading_line unread.reading.name) → PutsFault o0 o1 → IsCall (Some request) Fault (s0, o0) (s1, o1)
 unread_call request place s0 s1 o0 o1 keeps read unread line puts =
     let rose : FilesRose request (s0, o0) (s1, o1) =
-    inl (place, unread.reading, slice_get_within (reads_of request) place unread.reading unread.there, get_or_from_slice_get (reads_of request) place unread.reading unread.reading unread.there, unread.rose) in
+    inl (
+      place,
+      unread.reading,
+      slice_get_within (reads_of request) place unread.reading unread.there,
+      get_or_from_slice_get (reads_of request) place unread.reading unread.reading unread.there,
+      unread.rose,
+    ) in
     record {
       answers = may_fault request;
       usage = λ is. cc;
@@ -197,19 +219,28 @@ unread_call request place s0 s1 o0 o1 keeps read unread line puts =
     }
 
 -- the line of a refusal was put, or could not be, at once
-refused_puts : (input : Input) (refusal : Refusal) (line : List ℕ) (answer : Status) (o0 o1 : SinkShown) → PutsAnswer line Refused answer o0 o1 → PutsCounted (stop.Refused input refusal) answer o0 o1 → MakesPuts o0 o1 1
+refused_puts : (input : Input) (refusal : Refusal) (line : List ℕ) (answer : Status) (o0 o1 : SinkShown) → PutsAnswer line Refused answer o0 o1
+    → PutsCounted (stop.Refused input refusal) answer o0 o1 → MakesPuts o0 o1 1
 refused_puts input refusal line answer o0 o1 (inl is) puts = subst (λ (answer : Status). PutsCounted (stop.Refused input refusal) answer o0 o1) is.0 puts
 refused_puts input refusal line answer o0 o1 (inr is) puts = subst (λ (answer : Status). PutsCounted (stop.Refused input refusal) answer o0 o1) is.0 puts
 
 -- a command stopped before it wrote
-pub stopped_command : (request : Request) (s0 s1 : FilesShown) (o0 o1 : SinkShown) (why : Stop) (answer : Status) → Contains (answers_to (Some request)) Refused → KeepsHeld s0.held s1.held → StopsCommand request s0 s1 why → PutsStop why answer o0 o1 → PutsCounted why answer o0 o1 → IsCall (Some request) answer (s0, o0) (s1, o1)
+pub stopped_command : (request : Request) (s0 s1 : FilesShown) (o0 o1 : SinkShown) (why : Stop) (answer : Status) → Contains (answers_to (Some request)) Refused
+    → KeepsHeld s0.held s1.held → StopsCommand request s0 s1 why → PutsStop why answer o0 o1 → PutsCounted why answer o0 o1 → IsCall (Some request) answer (s0, o0) (s1, o1)
 stopped_command request s0 s1 o0 o1 (stop.Refused input refusal) answer may keeps stops (inl h) puts = memory_call request s0 s1 o0 o1 answer keeps h.0 h.1
 stopped_command request s0 s1 o0 o1 (stop.Refused input refusal) answer may keeps stops (inr h) puts =
-    answered_call request Refused (refused_line input refusal) s0 s1 o0 o1 answer tt may (refused_counted request s0 s1 o0 o1 input refusal stops (refused_puts input refusal (refused_line input refusal) answer o0 o1 h puts)) keeps
-    (mapped s1.held (λ files. (outcome_of (file_at files) request ≡ refuses input refusal) × EndsAt request stops.place (file_at files)) (λ files. outcome_of (file_at files) request ≡ refuses input refusal) (λ files k. k.0) stops.why) h
+    answered_call request Refused (refused_line input refusal) s0 s1 o0 o1 answer tt may
+    (refused_counted request s0 s1 o0 o1 input refusal stops (refused_puts input refusal (refused_line input refusal) answer o0 o1 h puts)) keeps
+    (mapped s1.held (λ files. (outcome_of (file_at files) request ≡ refuses input refusal) × EndsAt request stops.place (file_at files))
+    (λ files. outcome_of (file_at files) request ≡ refuses input refusal) (λ files k. k.0) stops.why) h
 stopped_command request s0 s1 o0 o1 (stop.Unread name) answer may keeps stops line puts =
     let why = stops.why in
-    let unread : IsUnreadAt (reads_of request) stops.place s0 s1 = record { reading = why.0; there = why.1; rose = subst (λ (at : List ℕ). Rose (s0.read_faults at) (s1.read_faults at)) (sym why.2) why.3 } in
+    let unread : IsUnreadAt (reads_of request) stops.place s0 s1 = record {
+      reading = why.0;
+      there = why.1;
+      rose =
+          subst (λ (at : List ℕ). Rose (s0.read_faults at) (s1.read_faults at)) (sym why.2) why.3;
+    } in
     let named : PutOrRose o0 o1 (reading_line unread.reading.name) = subst (λ (at : List ℕ). PutOrRose o0 o1 (reading_line at)) (sym why.2) line.1 in
     subst (λ (status : Status). IsCall (Some request) status (s0, o0) (s1, o1)) (sym line.0)
     (unread_call request stops.place s0 s1 o0 o1 keeps stops.read unread named (subst (λ (answer : Status). PutsCounted (stop.Unread name) answer o0 o1) line.0 puts))
@@ -221,23 +252,30 @@ stops_reading request s0 s1 why stops = record { place = stops.place; read = sto
   where
     why_command : (why : Stop) (place : ℕ) → StopsWith (reads_of request) place s0 s1 why → StopsCommandWith request place s0 s1 why
     why_command (stop.Refused input refusal) place stops =
-        mapped s1.held (λ files. first_end (file_at files) (take (place + 1) (reads_of request)) ≡ Some (refuses input refusal)) (λ files. (outcome_of (file_at files) request ≡ refuses input refusal) × EndsAt request place (file_at files))
+        mapped s1.held (λ files. first_end (file_at files) (take (place + 1) (reads_of request)) ≡ Some (refuses input refusal))
+        (λ files. (outcome_of (file_at files) request ≡ refuses input refusal) × EndsAt request place (file_at files))
         (λ files is.
-        let end : outcome_of (file_at files) request ≡ refuses input refusal = ap (λ end. unwrap_or end (own_outcome (file_at files) request)) (end_of_all (file_at files) (place + 1) (reads_of request) (refuses input refusal) is) in
+        let end : outcome_of (file_at files) request ≡ refuses input refusal = ap (λ end. unwrap_or end (own_outcome (file_at files) request))
+        (end_of_all (file_at files) (place + 1) (reads_of request) (refuses input refusal) is) in
         (end, inl (is ∙ ap Some (sym end)))) stops
     why_command (stop.Unread name) place stops = stops
     why_command stop.Memory place stops = tt
 
-pub stopped_call : (request : Request) (s0 s1 : FilesShown) (o0 o1 : SinkShown) (why : Stop) (answer : Status) → Contains (answers_to (Some request)) Refused → KeepsHeld s0.held s1.held → StopsReading (reads_of request) s0 s1 why → PutsStop why answer o0 o1 → PutsCounted why answer o0 o1 → IsCall (Some request) answer (s0, o0) (s1, o1)
+pub stopped_call : (request : Request) (s0 s1 : FilesShown) (o0 o1 : SinkShown) (why : Stop) (answer : Status) → Contains (answers_to (Some request)) Refused
+    → KeepsHeld s0.held s1.held → StopsReading (reads_of request) s0 s1 why → PutsStop why answer o0 o1 → PutsCounted why answer o0 o1 → IsCall (Some request) answer (s0, o0) (s1, o1)
 stopped_call request s0 s1 o0 o1 why answer may keeps stops line puts = stopped_command request s0 s1 o0 o1 why answer may keeps (stops_reading request s0 s1 why stops) line puts
 
 -- a file could not be written
-write_failed : (request : Request) (writing : Writing) (lines : List ℕ) (s0 s1 s2 : FilesShown) (o0 o1 : SinkShown) (place : ℕ) (stopped : StoppedAt s1 s2 writing place) → written_names writing ≡ writes_of request → KeepsHeld s0.held s1.held → NoneFell s0.write_faults s1.write_faults → IfSome s1.held (λ files. outcome_of (file_at files) request ≡ Ends Done writing lines)
-    → MakesCalls s0 s1 (read_calls (reads_of request)) → MakesCalls s1 s2 (write_calls (take (place + 1) (written_names writing))) → PutOrRose o0 o1 (writing_line stopped.write.0) → PutsFault o0 o1 → IsCall (Some request) Fault (s0, o0) (s2, o1)
+write_failed : (request : Request) (writing : Writing) (lines : List ℕ) (s0 s1 s2 : FilesShown) (o0 o1 : SinkShown) (place : ℕ) (stopped : StoppedAt s1 s2 writing place)
+    → written_names writing ≡ writes_of request → KeepsHeld s0.held s1.held → NoneFell s0.write_faults s1.write_faults
+    → IfSome s1.held (λ files. outcome_of (file_at files) request ≡ Ends Done writing lines)
+    → MakesCalls s0 s1 (read_calls (reads_of request)) → MakesCalls s1 s2 (write_calls (take (place + 1) (written_names writing)))
+    → PutOrRose o0 o1 (writing_line stopped.write.0) → PutsFault o0 o1 → IsCall (Some request) Fault (s0, o0) (s2, o1)
 write_failed request writing lines s0 s1 s2 o0 o1 place stopped named keeps fell told read wrote line puts =
     let name : List ℕ = stopped.write.0 in
     let rose = rose_since (s0.write_faults name) (s1.write_faults name) (s2.write_faults name) (fell name) stopped.rose in
-    let there : slice_get (writes_of request) place ≡ Some name = ap (λ names. slice_get names place) (sym named) ∙ slice_get-map (λ (w : List ℕ × List ℕ). w.0) writing place ∙ ap (option_map (λ (w : List ℕ × List ℕ). w.0)) stopped.there in
+    let there : slice_get (writes_of request) place ≡ Some name = ap (λ names. slice_get names place) (sym named) ∙ slice_get-map (λ (w : List ℕ × List ℕ). w.0) writing place
+    ∙ ap (option_map (λ (w : List ℕ × List ℕ). w.0)) stopped.there in
     let within = slice_get_within (writes_of request) place name there in
     let at = get_or_from_slice_get (writes_of request) place name name there in
     record {
@@ -252,7 +290,8 @@ write_failed request writing lines s0 s1 s2 o0 o1 place stopped named keeps fell
         there = there;
         rose = rose;
         calls = calls_on (read_calls (reads_of request)) (write_calls (take (place + 1) (writes_of request))) s0 s1 s2 read
-            (calls_are (write_calls (take (place + 1) (written_names writing))) (write_calls (take (place + 1) (writes_of request))) s1 s2 (ap (λ (names : List (List ℕ)). write_calls (take (place + 1) names)) named) wrote);
+            (calls_are (write_calls (take (place + 1) (written_names writing))) (write_calls (take (place + 1) (writes_of request))) s1 s2
+            (ap (λ (names : List (List ℕ)). write_calls (take (place + 1) names)) named) wrote);
         part = stopped_writing request Done writing lines s0 s1 s2 place stopped keeps told;
         line = line;
         puts = puts;
@@ -261,17 +300,22 @@ write_failed request writing lines s0 s1 s2 o0 o1 place stopped named keeps fell
     }
 
 -- a command wrote its files and put its lines
-pub finished_call : (request : Request) (writing : Writing) (lines : List ℕ) (s0 s1 s2 : FilesShown) (o0 o1 : SinkShown) (answer : Status) → Contains (answers_to (Some request)) Done → written_names writing ≡ writes_of request → KeepsHeld s0.held s1.held → NoneFell s0.write_faults s1.write_faults → IfSome s1.held (λ files. outcome_of (file_at files) request ≡ Ends Done writing lines)
+pub finished_call : (request : Request) (writing : Writing) (lines : List ℕ) (s0 s1 s2 : FilesShown) (o0 o1 : SinkShown) (answer : Status)
+    → Contains (answers_to (Some request)) Done → written_names writing ≡ writes_of request → KeepsHeld s0.held s1.held → NoneFell s0.write_faults s1.write_faults
+    → IfSome s1.held (λ files. outcome_of (file_at files) request ≡ Ends Done writing lines)
     → MakesCalls s0 s1 (read_calls (reads_of request)) → Finishes writing lines answer (s1, o0) (s2, o1) → IsCall (Some request) answer (s0, o0) (s2, o1)
-finished_call request writing lines s0 s1 s2 o0 o1 answer may named keeps fell told read (inl h) = ended_call request Done writing lines s0 s1 s2 o0 o1 answer tt may (whole_calls request writing s0 s1 s2 named read h.2, h.3) keeps told h.0 h.1
-finished_call request writing lines s0 s1 s2 o0 o1 answer may named keeps fell told read (inr h) = subst (λ (status : Status). IsCall (Some request) status (s0, o0) (s2, o1)) (sym h.0) (write_failed request writing lines s0 s1 s2 o0 o1 h.1 h.2 named keeps fell told read h.4 h.3 h.5)
+finished_call request writing lines s0 s1 s2 o0 o1 answer may named keeps fell told read (inl h) =
+    ended_call request Done writing lines s0 s1 s2 o0 o1 answer tt may (whole_calls request writing s0 s1 s2 named read h.2, h.3) keeps told h.0 h.1
+finished_call request writing lines s0 s1 s2 o0 o1 answer may named keeps fell told read (inr h) =
+    subst (λ (status : Status). IsCall (Some request) status (s0, o0) (s2, o1)) (sym h.0) (write_failed request writing lines s0 s1 s2 o0 o1 h.1 h.2 named keeps fell told read h.4 h.3 h.5)
 
 -- words that are no command
 pub usage_call : (s : FilesShown) (o0 o1 : SinkShown) (answer : Status) → PutsAnswer usage_line Usage answer o0 o1 → IsCall None answer (s, o0) (s, o1)
 usage_call s o0 o1 answer (inl h) = subst (λ (status : Status). IsCall None status (s, o0) (s, o1)) (sym h.0) (record {
   answers = (0, omega arith, refl);
   usage = λ _. h.1;
-  answered = of_files s s s [] (λ _. Unit {0}) (λ before after. DoesAll (s, o0) (s, o1) Usage before after (outcome (file_at before) None)) (kept s.held) (told s.held) (nothing_written s) (λ before after _ same. (refl, same, h.1));
+  answered = of_files s s s [] (λ _. Unit {0}) (λ before after. DoesAll (s, o0) (s, o1) Usage before after (outcome (file_at before) None)) (kept s.held)
+      (told s.held) (nothing_written s) (λ before after _ same. (refl, same, h.1));
   memory = λ is. cc;
   fault = λ is. cc;
   faulted = λ is. cc;
@@ -300,13 +344,15 @@ usage_call s o0 o1 answer (inr h) = subst (λ (status : Status). IsCall None sta
     kept (Some files) = refl
 
 -- `sample` reads and writes nothing
-pub sample_call : (seed count : ℕ) (s : FilesShown) (o0 o1 : SinkShown) (answer : Status) → PutsLines (sample_lines seed count) answer o0 o1 → LinesCounted answer o0 o1 → IsCall (Some (ToSample seed count)) answer (s, o0) (s, o1)
+pub sample_call : (seed count : ℕ) (s : FilesShown) (o0 o1 : SinkShown) (answer : Status) → PutsLines (sample_lines seed count) answer o0 o1
+    → LinesCounted answer o0 o1 → IsCall (Some (ToSample seed count)) answer (s, o0) (s, o1)
 sample_call seed count s o0 o1 answer (inl h) puts = memory_call (ToSample seed count) s s o0 o1 answer (kept s.held) h.0 h.1
   where
     kept : (held : Option FileMap) → KeepsHeld held held
     kept None = tt
     kept (Some files) = refl
-sample_call seed count s o0 o1 answer (inr h) puts = answered_call (ToSample seed count) Done (sample_lines seed count) s s o0 o1 answer tt (0, omega arith, refl) (sample_whole seed count s o0 o1 (at_once h)) (kept s.held) (told s.held) h
+sample_call seed count s o0 o1 answer (inr h) puts = answered_call (ToSample seed count) Done (sample_lines seed count) s s o0 o1 answer tt
+    (0, omega arith, refl) (sample_whole seed count s o0 o1 (at_once h)) (kept s.held) (told s.held) h
   where
     at_once : PutsAnswer (sample_lines seed count) Done answer o0 o1 → MakesPuts o0 o1 1
     at_once (inl is) = subst (λ (answer : Status). LinesCounted answer o0 o1) is.0 puts

@@ -26,12 +26,14 @@ pub taken_more : {A : Type 0} (xs : List A) (i : ℕ) (x : A) → slice_get xs i
 taken_more xs i x at = take_more xs i x (slice_get_within xs i x at) ∙ ap (λ y. take i xs ++ y ∷ []) (get_or_from_slice_get xs i x x at)
 
 -- one more file is read, and one more is written
-pub read_more : (reads : List Reading) (i : ℕ) (r : Reading) (s0 s1 s2 : FilesShown) → slice_get reads i ≡ Some r → MakesCalls s0 s1 (read_calls (take i reads)) → MakesCalls s1 s2 (read_call r ∷ []) → MakesCalls s0 s2 (read_calls (take (i + 1) reads))
+pub read_more : (reads : List Reading) (i : ℕ) (r : Reading) (s0 s1 s2 : FilesShown) → slice_get reads i ≡ Some r → MakesCalls s0 s1 (read_calls (take i reads))
+    → MakesCalls s1 s2 (read_call r ∷ []) → MakesCalls s0 s2 (read_calls (take (i + 1) reads))
 read_more reads i r s0 s1 s2 at before here =
     let same : read_calls (take i reads) ++ read_call r ∷ [] ≡ read_calls (take (i + 1) reads) = sym (ap read_calls (taken_more reads i r at) ∙ map-append read_call (take i reads) (r ∷ [])) in
     calls_are (read_calls (take i reads) ++ read_call r ∷ []) (read_calls (take (i + 1) reads)) s0 s2 same (calls_on (read_calls (take i reads)) (read_call r ∷ []) s0 s1 s2 before here)
 
-pub write_more : (names : List (List ℕ)) (i : ℕ) (name : List ℕ) (s0 s1 s2 : FilesShown) → slice_get names i ≡ Some name → MakesCalls s0 s1 (write_calls (take i names)) → MakesCalls s1 s2 (Writes name ∷ []) → MakesCalls s0 s2 (write_calls (take (i + 1) names))
+pub write_more : (names : List (List ℕ)) (i : ℕ) (name : List ℕ) (s0 s1 s2 : FilesShown) → slice_get names i ≡ Some name → MakesCalls s0 s1 (write_calls (take i names))
+    → MakesCalls s1 s2 (Writes name ∷ []) → MakesCalls s0 s2 (write_calls (take (i + 1) names))
 write_more names i name s0 s1 s2 at before here =
     let same : write_calls (take i names) ++ Writes name ∷ [] ≡ write_calls (take (i + 1) names) = sym (ap write_calls (taken_more names i name at) ∙ map-append Writes (take i names) (name ∷ [])) in
     calls_are (write_calls (take i names) ++ Writes name ∷ []) (write_calls (take (i + 1) names)) s0 s2 same (calls_on (write_calls (take i names)) (Writes name ∷ []) s0 s1 s2 before here)

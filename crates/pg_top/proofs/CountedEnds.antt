@@ -20,21 +20,25 @@ use Rattle.pg_top.proofs.CountedCalls.{no_calls, calls_on, calls_are}
 use Rattle.pg_top.proofs.Orders.{mapped}
 
 -- a line was put, or could not be
-pub counted_line : (request : Request) (wanted : Status) (line : List ℕ) (s0 s1 : FilesShown) (o0 o1 : SinkShown) (answer : Status) → IsCountedCall (Some request) wanted (s0, o0) (s1, o1) → PutsAnswer line wanted answer o0 o1 → IsCountedCall (Some request) answer (s0, o0) (s1, o1)
+pub counted_line : (request : Request) (wanted : Status) (line : List ℕ) (s0 s1 : FilesShown) (o0 o1 : SinkShown) (answer : Status)
+    → IsCountedCall (Some request) wanted (s0, o0) (s1, o1) → PutsAnswer line wanted answer o0 o1 → IsCountedCall (Some request) answer (s0, o0) (s1, o1)
 counted_line request wanted line s0 s1 o0 o1 answer done (inl is) = subst (λ (answer : Status). IsCountedCall (Some request) answer (s0, o0) (s1, o1)) (sym is.0) done
 counted_line request wanted line s0 s1 o0 o1 answer done (inr is) = subst (λ (answer : Status). IsCountedCall (Some request) answer (s0, o0) (s1, o1)) (sym is.0) tt
 
 -- a refusal ended a command
-pub refused_counted : (request : Request) (s0 s1 : FilesShown) (o0 o1 : SinkShown) (at : Input) (refusal : Refusal) → StopsCommand request s0 s1 (stop.Refused at refusal) → MakesPuts o0 o1 1 → IsEndedCounted request (s0, o0) (s1, o1)
+pub refused_counted : (request : Request) (s0 s1 : FilesShown) (o0 o1 : SinkShown) (at : Input) (refusal : Refusal) → StopsCommand request s0 s1 (stop.Refused at refusal)
+    → MakesPuts o0 o1 1 → IsEndedCounted request (s0, o0) (s1, o1)
 refused_counted request s0 s1 o0 o1 at refusal stops puts = (
   stops.place,
   stops.read,
-  mapped s1.held (λ files. (outcome_of (file_at files) request ≡ refuses at refusal) × EndsAt request stops.place (file_at files)) (λ files. EndsAt request stops.place (file_at files)) (λ files h. h.1) stops.why,
+  mapped s1.held (λ files. (outcome_of (file_at files) request ≡ refuses at refusal) × EndsAt request stops.place (file_at files))
+      (λ files. EndsAt request stops.place (file_at files)) (λ files h. h.1) stops.why,
   puts,
 )
 
 -- a command that stopped before it wrote
-pub counted_stop : (request : Request) (s0 s1 : FilesShown) (o0 o1 : SinkShown) (why : Stop) (answer : Status) → StopsCommand request s0 s1 why → PutsCounted why answer o0 o1 → IsCountedCall (Some request) answer (s0, o0) (s1, o1)
+pub counted_stop : (request : Request) (s0 s1 : FilesShown) (o0 o1 : SinkShown) (why : Stop) (answer : Status) → StopsCommand request s0 s1 why
+    → PutsCounted why answer o0 o1 → IsCountedCall (Some request) answer (s0, o0) (s1, o1)
 counted_stop request s0 s1 o0 o1 (stop.Refused at refusal) Refused stops puts = refused_counted request s0 s1 o0 o1 at refusal stops puts
 counted_stop request s0 s1 o0 o1 why Fault stops puts = tt
 counted_stop request s0 s1 o0 o1 why Memory stops puts = (inr (stops.place, stops.read), wanted why puts)
@@ -46,11 +50,15 @@ counted_stop request s0 s1 o0 o1 why Memory stops puts = (inr (stops.place, stop
 counted_stop request s0 s1 o0 o1 why answer stops puts = absurd puts
 
 -- a command that read all and then wrote
-pub whole_calls : (request : Request) (writing : Writing) (s0 s1 s2 : FilesShown) → written_names writing ≡ writes_of request → MakesCalls s0 s1 (read_calls (reads_of request)) → MakesCalls s1 s2 (write_calls (written_names writing)) → MakesCalls s0 s2 (read_calls (reads_of request) ++ write_calls (writes_of request))
+pub whole_calls : (request : Request) (writing : Writing) (s0 s1 s2 : FilesShown) → written_names writing ≡ writes_of request
+    → MakesCalls s0 s1 (read_calls (reads_of request)) → MakesCalls s1 s2 (write_calls (written_names writing)) → MakesCalls s0 s2 (read_calls (reads_of request) ++ write_calls (writes_of request))
 whole_calls request writing s0 s1 s2 named read wrote =
-    calls_on (read_calls (reads_of request)) (write_calls (writes_of request)) s0 s1 s2 read (calls_are (write_calls (written_names writing)) (write_calls (writes_of request)) s1 s2 (ap write_calls named) wrote)
+    calls_on (read_calls (reads_of request)) (write_calls (writes_of request)) s0 s1 s2 read
+    (calls_are (write_calls (written_names writing)) (write_calls (writes_of request)) s1 s2 (ap write_calls named) wrote)
 
-pub counted_finish : (request : Request) (writing : Writing) (lines : List ℕ) (s0 s1 s2 : FilesShown) (o0 o1 : SinkShown) (answer : Status) → written_names writing ≡ writes_of request → MakesCalls s0 s1 (read_calls (reads_of request)) → Finishes writing lines answer (s1, o0) (s2, o1) → IsCountedCall (Some request) answer (s0, o0) (s2, o1)
+pub counted_finish : (request : Request) (writing : Writing) (lines : List ℕ) (s0 s1 s2 : FilesShown) (o0 o1 : SinkShown) (answer : Status)
+    → written_names writing ≡ writes_of request → MakesCalls s0 s1 (read_calls (reads_of request)) → Finishes writing lines answer (s1, o0) (s2, o1)
+    → IsCountedCall (Some request) answer (s0, o0) (s2, o1)
 counted_finish request writing lines s0 s1 s2 o0 o1 answer named read (inl h) = counted_line request Done lines s0 s2 o0 o1 answer (whole_calls request writing s0 s1 s2 named read h.2, h.3) h.1
 counted_finish request writing lines s0 s1 s2 o0 o1 answer named read (inr h) = subst (λ (answer : Status). IsCountedCall (Some request) answer (s0, o0) (s2, o1)) (sym h.0) tt
 

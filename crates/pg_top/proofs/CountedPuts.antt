@@ -11,7 +11,8 @@ use Rattle.pg_top.specs.declared.inputs.Input.{Input}
 use Rattle.pg_top.specs.declared.inputs.Stop.TheVariants.{Refused}
 
 -- the line of a refusal was put, or could not be
-pub refused_put : (input : Input) (refusal : Refusal) (line : List ℕ) (answer : Status) (o0 o1 : SinkShown) → PutsAnswer line status.Refused answer o0 o1 → o1.puts ≡ next_count o0.puts → PutsCounted (Refused input refusal) answer o0 o1
+pub refused_put : (input : Input) (refusal : Refusal) (line : List ℕ) (answer : Status) (o0 o1 : SinkShown) → PutsAnswer line status.Refused answer o0 o1
+    → o1.puts ≡ next_count o0.puts → PutsCounted (Refused input refusal) answer o0 o1
 refused_put input refusal line answer o0 o1 (inl is) put = subst (λ answer. PutsCounted (Refused input refusal) answer o0 o1) (sym is.0) put
 refused_put input refusal line answer o0 o1 (inr is) put = subst (λ answer. PutsCounted (Refused input refusal) answer o0 o1) (sym is.0) put
 

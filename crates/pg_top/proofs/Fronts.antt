@@ -59,7 +59,8 @@ is_whole n whole e =
     take_all (n + 1) whole (omega arith)
 
 -- a reader that refuses what is longer than the number tells no more from the whole than from its first bytes
-limited : {Y : Type 0} (refusal : Y) (rest : List ℕ → Y) (n : ℕ) (whole : List ℕ) → cond (nat_lt n (length (first_bytes n whole))) refusal (rest (first_bytes n whole)) ≡ cond (nat_lt n (length whole)) refusal (rest whole)
+limited : {Y : Type 0} (refusal : Y) (rest : List ℕ → Y) (n : ℕ) (whole : List ℕ) → cond (nat_lt n (length (first_bytes n whole))) refusal (rest (first_bytes n whole))
+    ≡ cond (nat_lt n (length whole)) refusal (rest whole)
 limited refusal rest n whole =
     elim (nat_lt n (length whole)) as (λ b. nat_lt n (length whole) ≡ b → cond (nat_lt n (length (first_bytes n whole))) refusal (rest (first_bytes n whole)) ≡ cond b refusal (rest whole)) [
       | true ↦ λ e. ap (λ b. cond b refusal (rest (first_bytes n whole))) (is_long n whole e)
@@ -74,7 +75,8 @@ abbrev pub IsReadByFront : {Y : Type 0} → (List ℕ → Result Y Refusal) → 
 IsReadByFront parse = IsReadUpTo FILE_MAX parse
 
 pub packed_table-front : (t : Alphabet) → IsReadUpTo TABLE_MAX (packed_table t)
-packed_table-front t whole = limited (Err (table_refused TableTooLong)) (λ b. cond (not (is_well_formed b)) (Err (table_refused BadTable)) (cond (nat_eq (head_of b).signs (letters_of t + 1)) (Ok b) (Err (table_refused OtherTable)))) TABLE_MAX whole
+packed_table-front t whole = limited (Err (table_refused TableTooLong))
+    (λ b. cond (not (is_well_formed b)) (Err (table_refused BadTable)) (cond (nat_eq (head_of b).signs (letters_of t + 1)) (Ok b) (Err (table_refused OtherTable)))) TABLE_MAX whole
 
 pub parameters-front : IsReadByFront parameters
 parameters-front whole = limited (Err (refusal_of_item 0 ParametersTooLong)) (λ bytes. unless (refusal_from 1 (demands (items bytes)) (items bytes)) (parameters_of (items bytes))) FILE_MAX whole
@@ -83,7 +85,8 @@ pub words-front : (t : Alphabet) → IsReadByFront (words t)
 words-front t whole = limited (Err (refused_in 0 DictionaryTooLong 0)) (λ bytes. of_lines (line_words 1) t Dictionary (lines bytes)) FILE_MAX whole
 
 pub start-front : (t : Alphabet) → IsReadByFront (start t)
-start-front t whole = limited (Err (record { kind = PatternsTooLong; line = 0; column = 0 })) (λ bytes. of_lines (λ ls. map_of_entries (flat_map line_entries ls)) t Patterns (lines bytes)) FILE_MAX whole
+start-front t whole = limited (Err (record { kind = PatternsTooLong; line = 0; column = 0 }))
+    (λ bytes. of_lines (λ ls. map_of_entries (flat_map line_entries ls)) t Patterns (lines bytes)) FILE_MAX whole
 
 -- a text that has a byte has a piece
 onto_first_filled : (b : ℕ) (pieces : List (List ℕ)) → (first : List ℕ) × (later : List (List ℕ)) × (onto_first b pieces ≡ first ∷ later)
@@ -98,7 +101,8 @@ pieces_filled b bs =
     ]
 
 -- a translate file that is too long is refused before all else
-too_long_by_pieces : (size : ℕ) (pieces : List (List ℕ)) (first : List ℕ) (later : List (List ℕ)) → pieces ≡ first ∷ later → nat_lt FILE_MAX size ≡ true → table_of size (map without_cr pieces) ≡ Err (record { kind = TranslateTooLong; line = 0; column = 0 })
+too_long_by_pieces : (size : ℕ) (pieces : List (List ℕ)) (first : List ℕ) (later : List (List ℕ)) → pieces ≡ first ∷ later → nat_lt FILE_MAX size ≡ true
+    → table_of size (map without_cr pieces) ≡ Err (record { kind = TranslateTooLong; line = 0; column = 0 })
 too_long_by_pieces size pieces first later cut long = rw (cut, long) refl
 
 table_too_long : (bytes : List ℕ) → nat_lt FILE_MAX (length bytes) ≡ true → table bytes ≡ Err (record { kind = TranslateTooLong; line = 0; column = 0 })
@@ -115,7 +119,8 @@ table-front whole =
     ] refl
 
 -- a file that is not too long is its first bytes
-pub front_of_held : (held : Option FileMap) (name bytes : List ℕ) (n : ℕ) → IfSome held (λ files. file_at files name ≡ Some bytes) → length bytes ≤ n → IfSome held (λ files. option_map (take (n + 1)) (file_at files name) ≡ Some bytes)
+pub front_of_held : (held : Option FileMap) (name bytes : List ℕ) (n : ℕ) → IfSome held (λ files. file_at files name ≡ Some bytes) → length bytes ≤ n
+    → IfSome held (λ files. option_map (take (n + 1)) (file_at files name) ≡ Some bytes)
 front_of_held None name bytes n e few = tt
 front_of_held (Some files) name bytes n e few = ap (option_map (take (n + 1))) e ∙ ap Some (take_all (n + 1) bytes (omega arith))
 
@@ -124,37 +129,46 @@ front_of_cut : (file : Option (List ℕ)) (bytes : List ℕ) (n : ℕ) → IsCut
 front_of_cut None bytes n cut = absurd cut
 front_of_cut (Some whole) bytes n cut = ap Some (sym cut.1)
 
-pub front_of_cut_held : (held : Option FileMap) (name bytes : List ℕ) (n : ℕ) → IfSome held (λ files. IsCut (file_at files name) n bytes) → IfSome held (λ files. option_map (take (n + 1)) (file_at files name) ≡ Some bytes)
+pub front_of_cut_held : (held : Option FileMap) (name bytes : List ℕ) (n : ℕ) → IfSome held (λ files. IsCut (file_at files name) n bytes)
+    → IfSome held (λ files. option_map (take (n + 1)) (file_at files name) ≡ Some bytes)
 front_of_cut_held None name bytes n cut = tt
 front_of_cut_held (Some files) name bytes n cut = front_of_cut (file_at files name) bytes n cut
 
 -- what the first bytes of a file are read as, the file is read as
-file_as_front : {Y : Type 0} (n : ℕ) (parse : List ℕ → Result Y Refusal) → IsReadUpTo n parse → (file : Option (List ℕ)) (bytes : List ℕ) → option_map (take (n + 1)) file ≡ Some bytes → option_map parse file ≡ Some (parse bytes)
+file_as_front : {Y : Type 0} (n : ℕ) (parse : List ℕ → Result Y Refusal) → IsReadUpTo n parse → (file : Option (List ℕ)) (bytes : List ℕ)
+    → option_map (take (n + 1)) file ≡ Some bytes → option_map parse file ≡ Some (parse bytes)
 file_as_front n parse front None bytes e = cc
 file_as_front n parse front (Some whole) bytes e =
     let same : take (n + 1) whole ≡ bytes = cc in
     ap Some (sym (front whole) ∙ ap parse same)
 
-pub read_up_to : {Y : Type 0} (n : ℕ) (parse : List ℕ → Result Y Refusal) → IsReadUpTo n parse → (held : Option FileMap) (name bytes : List ℕ) (reading : Result Y Refusal) → IfSome held (λ files. option_map (take (n + 1)) (file_at files name) ≡ Some bytes) → parse bytes ≡ reading → IfSome held (λ files. read_as parse (file_at files) name ≡ Some reading)
+pub read_up_to : {Y : Type 0} (n : ℕ) (parse : List ℕ → Result Y Refusal) → IsReadUpTo n parse → (held : Option FileMap) (name bytes : List ℕ) (reading : Result Y Refusal)
+    → IfSome held (λ files. option_map (take (n + 1)) (file_at files name) ≡ Some bytes) → parse bytes ≡ reading → IfSome held (λ files. read_as parse (file_at files) name ≡ Some reading)
 read_up_to n parse front None name bytes reading e r = tt
 read_up_to n parse front (Some files) name bytes reading e r = file_as_front n parse front (file_at files name) bytes e ∙ ap Some r
 
-pub read_by_front : {Y : Type 0} (parse : List ℕ → Result Y Refusal) → IsReadByFront parse → (held : Option FileMap) (name bytes : List ℕ) (reading : Result Y Refusal) → IfSome held (λ files. option_map (take (FILE_MAX + 1)) (file_at files name) ≡ Some bytes) → parse bytes ≡ reading → IfSome held (λ files. read_as parse (file_at files) name ≡ Some reading)
+pub read_by_front : {Y : Type 0} (parse : List ℕ → Result Y Refusal) → IsReadByFront parse → (held : Option FileMap) (name bytes : List ℕ) (reading : Result Y Refusal)
+    → IfSome held (λ files. option_map (take (FILE_MAX + 1)) (file_at files name) ≡ Some bytes) → parse bytes ≡ reading → IfSome held (λ files. read_as parse (file_at files) name ≡ Some reading)
 read_by_front parse front held name bytes reading e r = read_up_to FILE_MAX parse front held name bytes reading e r
 
 -- a file that its rules refuse is refused
-refused : {Y : Type 0} (input : Input) (parse : List ℕ → Result Y Refusal) (file : Option (List ℕ)) (refusal : Refusal) → option_map parse file ≡ Some (Err refusal) → option_map (λ bytes. unless_accepted input (parse bytes)) file ≡ Some (Some (refuses input refusal))
+refused : {Y : Type 0} (input : Input) (parse : List ℕ → Result Y Refusal) (file : Option (List ℕ)) (refusal : Refusal) → option_map parse file
+    ≡ Some (Err refusal) → option_map (λ bytes. unless_accepted input (parse bytes)) file ≡ Some (Some (refuses input refusal))
 refused input parse None refusal is = cc
 refused input parse (Some bytes) refusal is = let no : parse bytes ≡ Err refusal = cc in ap (λ got. Some (unless_accepted input got)) no
 
 -- a reader that failed on the first bytes stops the input
-pub stopped_up_to : {Y : Type 0} (n : ℕ) (parse : List ℕ → Result Y Refusal) → IsReadUpTo n parse → (input : Input) (name bytes : List ℕ) (old new : FilesShown) (error : ReadingError) → IfSome new.held (λ files. option_map (take (n + 1)) (file_at files name) ≡ Some bytes) → Fails error (parse bytes) → StopsAt (input_file input name (λ _. parse)) old new (stop_of input error)
+pub stopped_up_to : {Y : Type 0} (n : ℕ) (parse : List ℕ → Result Y Refusal) → IsReadUpTo n parse → (input : Input) (name bytes : List ℕ) (old new : FilesShown) (error : ReadingError)
+    → IfSome new.held (λ files. option_map (take (n + 1)) (file_at files name) ≡ Some bytes) → Fails error (parse bytes) → StopsAt (input_file input name (λ _. parse)) old new (stop_of input error)
 stopped_up_to n parse front input name bytes old new (reader.Refused refusal) e failed =
-    mapped new.held (λ files. read_as parse (file_at files) name ≡ Some (Err refusal)) (λ files. option_map (λ bytes. unless_accepted input (parse bytes)) (file_at files name) ≡ Some (Some (refuses input refusal)))
+    mapped new.held (λ files. read_as parse (file_at files) name ≡ Some (Err refusal))
+    (λ files. option_map (λ bytes. unless_accepted input (parse bytes)) (file_at files name) ≡ Some (Some (refuses input refusal)))
     (λ files is. refused input parse (file_at files name) refusal is) (read_up_to n parse front new.held name bytes (Err refusal) e failed)
 stopped_up_to n parse front input name bytes old new reader.Memory e failed = tt
 
-pub stopped_by_front : {Y : Type 0} (parse : List ℕ → Result Y Refusal) → IsReadByFront parse → (input : Input) (name bytes : List ℕ) (old new : FilesShown) (error : ReadingError) → IfSome new.held (λ files. option_map (take (FILE_MAX + 1)) (file_at files name) ≡ Some bytes) → Fails error (parse bytes) → StopsAt (input_file input name (λ _. parse)) old new (stop_of input error)
+pub stopped_by_front : {Y : Type 0} (parse : List ℕ → Result Y Refusal) → IsReadByFront parse → (input : Input) (name bytes : List ℕ) (old new : FilesShown) (error : ReadingError)
+    → IfSome new.held (λ files. option_map (take (FILE_MAX + 1)) (file_at files name) ≡ Some bytes) → Fails error (parse bytes)
+    → StopsAt (input_file input name (λ _. parse)) old new (stop_of input error)
 stopped_by_front parse front input name bytes old new error e failed = stopped_up_to FILE_MAX parse front input name bytes old new error e failed
 
 -- a stop at the first bytes of a file is a stop at the file
@@ -164,7 +178,8 @@ front_stop r old new (Unread name) stops = (stops.0, stops.1)
 front_stop r old new Memory stops = tt
 
 -- what a reader gave of the first bytes of a file is what the file gives
-module _ {Y : Type 0} (parse : List ℕ → Result Y Refusal) (front : IsReadByFront parse) (input : Input) (name bytes : List ℕ) (old new : FilesShown) (first : IfSome new.held (λ files. option_map (take (FILE_MAX + 1)) (file_at files name) ≡ Some bytes)) where
+module _ {Y : Type 0} (parse : List ℕ → Result Y Refusal) (front : IsReadByFront parse) (input : Input) (name bytes : List ℕ) (old new : FilesShown)
+    (first : IfSome new.held (λ files. option_map (take (FILE_MAX + 1)) (file_at files name) ≡ Some bytes)) where
   accepted_ok : (read : Result Y ReadingError) → Gives (λ y. y) read (parse bytes) → IfOk (accepted_as input read) (λ y. IfSome new.held (λ files. read_as parse (file_at files) name ≡ Some (Ok y)))
   accepted_ok (Ok y) gives = read_by_front parse front new.held name bytes (Ok y) first gives
   accepted_ok (Err error) gives = tt
@@ -174,12 +189,14 @@ module _ {Y : Type 0} (parse : List ℕ → Result Y Refusal) (front : IsReadByF
   accepted_stopped (Err error) gives = stopped_by_front parse front input name bytes old new error first gives
 
   -- so reading the input comes to what its reader gave
-  pub input_read : (read : Result Y ReadingError) (r : Result Y Stop) → r ≡ accepted_as input read → OnlyReads old new → MakesCalls old new (Reads name ∷ []) → Gives (λ y. y) read (parse bytes) → ReadsInput input name parse old new r
+  pub input_read : (read : Result Y ReadingError) (r : Result Y Stop) → r ≡ accepted_as input read → OnlyReads old new → MakesCalls old new (Reads name ∷ [])
+      → Gives (λ y. y) read (parse bytes) → ReadsInput input name parse old new r
   input_read read r is only calls gives =
       subst (ReadsInput input name parse old new) (sym is) (record { only = only; calls = calls; ok = accepted_ok read gives; stopped = accepted_stopped read gives })
 
 -- a stop at the first bytes stops the input
-pub input_stopped : {Y : Type 0} (parse : List ℕ → Result Y Refusal) (input : Input) (name : List ℕ) (old new : FilesShown) (r : Result Y Stop) (stop : Stop) → IsErrAnd r (λ y. y ≡ stop) → OnlyReads old new → MakesCalls old new (Reads name ∷ []) → StopsFront name old new stop → ReadsInput input name parse old new r
+pub input_stopped : {Y : Type 0} (parse : List ℕ → Result Y Refusal) (input : Input) (name : List ℕ) (old new : FilesShown) (r : Result Y Stop) (stop : Stop)
+    → IsErrAnd r (λ y. y ≡ stop) → OnlyReads old new → MakesCalls old new (Reads name ∷ []) → StopsFront name old new stop → ReadsInput input name parse old new r
 input_stopped parse input name old new r stop is only calls stops = record {
   only = only;
   calls = calls;

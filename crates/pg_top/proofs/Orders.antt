@@ -29,11 +29,13 @@ pub none_accepted : (held : Option FileMap) → IfSome held (λ files. AreAccept
 none_accepted None = tt
 none_accepted (Some files) = tt
 
-goes_on : (ends : List ℕ → Option Outcome) (file : Option (List ℕ)) (rest : Option Outcome) → option_map ends file ≡ Some None → option_map_or (λ bytes. option_or (ends bytes) rest) file (Some Unknown) ≡ rest
+goes_on : (ends : List ℕ → Option Outcome) (file : Option (List ℕ)) (rest : Option Outcome) → option_map ends file ≡ Some None
+    → option_map_or (λ bytes. option_or (ends bytes) rest) file (Some Unknown) ≡ rest
 goes_on ends None rest accepted = cc
 goes_on ends (Some bytes) rest accepted = let none : ends bytes ≡ None = cc in ap (λ end. option_or end rest) none
 
-stops_there : (ends : List ℕ → Option Outcome) (file : Option (List ℕ)) (rest : Option Outcome) (end : Outcome) → option_map ends file ≡ Some (Some end) → option_map_or (λ bytes. option_or (ends bytes) rest) file (Some Unknown) ≡ Some end
+stops_there : (ends : List ℕ → Option Outcome) (file : Option (List ℕ)) (rest : Option Outcome) (end : Outcome) → option_map ends file ≡ Some (Some end)
+    → option_map_or (λ bytes. option_or (ends bytes) rest) file (Some Unknown) ≡ Some end
 stops_there ends None rest end is = cc
 stops_there ends (Some bytes) rest end is = let some : ends bytes ≡ Some end = cc in ap (λ end. option_or end rest) some
 
@@ -47,7 +49,8 @@ accepted_all files [] accepted = refl
 accepted_all files (r ∷ reads) accepted = goes_on (r.ends files) (files r.name) (first_end files reads) accepted.0 ∙ accepted_all files reads accepted.1
 
 -- the first that is not accepted ends the call
-pub end_behind : (files : Held) (front : List Reading) (r : Reading) (rest : List Reading) (end : Outcome) → AreAccepted files front → option_map (r.ends files) (files r.name) ≡ Some (Some end) → first_end files (front ++ r ∷ rest) ≡ Some end
+pub end_behind : (files : Held) (front : List Reading) (r : Reading) (rest : List Reading) (end : Outcome) → AreAccepted files front
+    → option_map (r.ends files) (files r.name) ≡ Some (Some end) → first_end files (front ++ r ∷ rest) ≡ Some end
 end_behind files front r rest end accepted is = accepted_front files front (r ∷ rest) accepted ∙ stops_there (r.ends files) (files r.name) (first_end files rest) end is
 
 -- facts of files that are held
@@ -64,25 +67,34 @@ held_later old None P keeps p = tt
 held_later old (Some files) P keeps p = subst (λ held. IfSome held P) keeps p
 
 -- files that were read once each up to one behind those that are accepted
-read_behind : (front : List Reading) (r : Reading) (rest : List Reading) (s0 s2 : FilesShown) → MakesCalls s0 s2 (read_calls front ++ read_call r ∷ []) → IfSome s2.held (λ files. AreAccepted (file_at files) front) → ReadsUpTo (front ++ r ∷ rest) (length front) s0 s2
+read_behind : (front : List Reading) (r : Reading) (rest : List Reading) (s0 s2 : FilesShown) → MakesCalls s0 s2 (read_calls front ++ read_call r ∷ [])
+    → IfSome s2.held (λ files. AreAccepted (file_at files) front) → ReadsUpTo (front ++ r ∷ rest) (length front) s0 s2
 read_behind front r rest s0 s2 calls accepted = record {
   within = omega (arith, length-append front (r ∷ rest));
-  calls = calls_are (read_calls front ++ read_call r ∷ []) (read_calls (take (length front + 1) (front ++ r ∷ rest))) s0 s2 (sym (ap read_calls (take-append-add front (r ∷ rest) 1) ∙ map-append read_call front (r ∷ []))) calls;
+  calls = calls_are (read_calls front ++ read_call r ∷ []) (read_calls (take (length front + 1) (front ++ r ∷ rest))) s0 s2
+      (sym (ap read_calls (take-append-add front (r ∷ rest) 1) ∙ map-append read_call front (r ∷ []))) calls;
   before_it = mapped s2.held (λ files. AreAccepted (file_at files) front) (λ files. first_end (file_at files) (take (length front) (front ++ r ∷ rest)) ≡ None)
       (λ files h. ap (first_end (file_at files)) (take-append_seam front (r ∷ rest)) ∙ accepted_all (file_at files) front h) accepted;
 }
 
-why_behind : (front : List Reading) (r : Reading) (rest : List Reading) (s0 s1 s2 : FilesShown) (stop : Stop) → NoneFell s0.read_faults s1.read_faults → IfSome s2.held (λ files. AreAccepted (file_at files) front) → StopsAt r s1 s2 stop → StopsWith (front ++ r ∷ rest) (length front) s0 s2 stop
+why_behind : (front : List Reading) (r : Reading) (rest : List Reading) (s0 s1 s2 : FilesShown) (stop : Stop) → NoneFell s0.read_faults s1.read_faults
+    → IfSome s2.held (λ files. AreAccepted (file_at files) front) → StopsAt r s1 s2 stop → StopsWith (front ++ r ∷ rest) (length front) s0 s2 stop
 why_behind front r rest s0 s1 s2 (Refused input refusal) fell accepted stops =
-    mapped s2.held (λ files. AreAccepted (file_at files) front × (option_map (r.ends (file_at files)) (file_at files r.name) ≡ Some (Some (refuses input refusal)))) (λ files. first_end (file_at files) (take (length front + 1) (front ++ r ∷ rest)) ≡ Some (refuses input refusal))
+    mapped s2.held (λ files. AreAccepted (file_at files) front × (option_map (r.ends (file_at files)) (file_at files r.name) ≡ Some (Some (refuses input refusal))))
+    (λ files. first_end (file_at files) (take (length front + 1) (front ++ r ∷ rest)) ≡ Some (refuses input refusal))
     (λ files h. ap (first_end (file_at files)) (take-append-add front (r ∷ rest) 1) ∙ end_behind (file_at files) front r [] (refuses input refusal) h.0 h.1)
     (both s2.held (λ files. AreAccepted (file_at files) front) (λ files. option_map (r.ends (file_at files)) (file_at files r.name) ≡ Some (Some (refuses input refusal))) accepted stops)
-why_behind front r rest s0 s1 s2 (Unread name) fell accepted stops =
-    (r, slice_get_read (front ++ r ∷ rest) (length (front ++ r ∷ rest)) (length front) r refl (omega (arith, length-append front (r ∷ rest))) (sym (get_or-append_seam front r rest r)), sym stops.0, rose_since (s0.read_faults name.now) (s1.read_faults name.now) (s2.read_faults name.now) (fell name.now) stops.1)
+why_behind front r rest s0 s1 s2 (Unread name) fell accepted stops = (
+  r,
+  slice_get_read (front ++ r ∷ rest) (length (front ++ r ∷ rest)) (length front) r refl (omega (arith, length-append front (r ∷ rest))) (sym (get_or-append_seam front r rest r)),
+  sym stops.0,
+  rose_since (s0.read_faults name.now) (s1.read_faults name.now) (s2.read_faults name.now) (fell name.now) stops.1,
+)
 why_behind front r rest s0 s1 s2 Memory fell accepted stops = tt
 
 -- a stop at a file behind those that are accepted is a stop of all
-pub stopped_behind : (front : List Reading) (r : Reading) (rest : List Reading) (s0 s1 s2 : FilesShown) (stop : Stop) → NoneFell s0.read_faults s1.read_faults → MakesCalls s0 s2 (read_calls front ++ read_call r ∷ []) → IfSome s2.held (λ files. AreAccepted (file_at files) front) → StopsAt r s1 s2 stop → StopsReading (front ++ r ∷ rest) s0 s2 stop
+pub stopped_behind : (front : List Reading) (r : Reading) (rest : List Reading) (s0 s1 s2 : FilesShown) (stop : Stop) → NoneFell s0.read_faults s1.read_faults
+    → MakesCalls s0 s2 (read_calls front ++ read_call r ∷ []) → IfSome s2.held (λ files. AreAccepted (file_at files) front) → StopsAt r s1 s2 stop → StopsReading (front ++ r ∷ rest) s0 s2 stop
 stopped_behind front r rest s0 s1 s2 stop fell calls accepted stops = record {
   place = length front;
   read = read_behind front r rest s0 s2 calls accepted;
@@ -99,7 +111,8 @@ accepted_both files [] rest accepted more = more
 accepted_both files (r ∷ front) rest accepted more = (accepted.0, accepted_both files front rest accepted.1 more)
 
 -- files that were read after those of a front, which are accepted
-pub read_after : (front rest : List Reading) (place : ℕ) (s0 s1 s2 : FilesShown) → MakesCalls s0 s1 (read_calls front) → IfSome s2.held (λ files. AreAccepted (file_at files) front) → ReadsUpTo rest place s1 s2 → ReadsUpTo (front ++ rest) (length front + place) s0 s2
+pub read_after : (front rest : List Reading) (place : ℕ) (s0 s1 s2 : FilesShown) → MakesCalls s0 s1 (read_calls front) → IfSome s2.held (λ files. AreAccepted (file_at files) front)
+    → ReadsUpTo rest place s1 s2 → ReadsUpTo (front ++ rest) (length front + place) s0 s2
 read_after front rest place s0 s1 s2 calls accepted read =
     let within : place < length rest = read.within in
     let same : length front + place + 1 ≡ length front + (place + 1) = omega arith in
@@ -107,22 +120,29 @@ read_after front rest place s0 s1 s2 calls accepted read =
     sym (ap (λ n. read_calls (take n (front ++ rest))) same ∙ ap read_calls (take-append-add front rest (place + 1)) ∙ map-append read_call front (take (place + 1) rest)) in
     record {
       within = omega (arith, length-append front rest);
-      calls = calls_are (read_calls front ++ read_calls (take (place + 1) rest)) (read_calls (take (length front + place + 1) (front ++ rest))) s0 s2 are (calls_on (read_calls front) (read_calls (take (place + 1) rest)) s0 s1 s2 calls read.calls);
-      before_it = mapped s2.held (λ files. AreAccepted (file_at files) front × (first_end (file_at files) (take place rest) ≡ None)) (λ files. first_end (file_at files) (take (length front + place) (front ++ rest)) ≡ None)
+      calls = calls_are (read_calls front ++ read_calls (take (place + 1) rest)) (read_calls (take (length front + place + 1) (front ++ rest))) s0 s2 are
+          (calls_on (read_calls front) (read_calls (take (place + 1) rest)) s0 s1 s2 calls read.calls);
+      before_it = mapped s2.held (λ files. AreAccepted (file_at files) front × (first_end (file_at files) (take place rest) ≡ None))
+          (λ files. first_end (file_at files) (take (length front + place) (front ++ rest)) ≡ None)
           (λ files h. ap (first_end (file_at files)) (take-append-add front rest place) ∙ accepted_front (file_at files) front (take place rest) h.0 ∙ h.1)
           (both s2.held (λ files. AreAccepted (file_at files) front) (λ files. first_end (file_at files) (take place rest) ≡ None) accepted read.before_it);
     }
 
 -- one of them that ends the call ends it there
-pub end_after : (front rest : List Reading) (place : ℕ) (held : Option FileMap) (end : Outcome) → IfSome held (λ files. AreAccepted (file_at files) front) → IfSome held (λ files. first_end (file_at files) (take (place + 1) rest) ≡ Some end) → IfSome held (λ files. first_end (file_at files) (take (length front + place + 1) (front ++ rest)) ≡ Some end)
+pub end_after : (front rest : List Reading) (place : ℕ) (held : Option FileMap) (end : Outcome) → IfSome held (λ files. AreAccepted (file_at files) front)
+    → IfSome held (λ files. first_end (file_at files) (take (place + 1) rest) ≡ Some end)
+    → IfSome held (λ files. first_end (file_at files) (take (length front + place + 1) (front ++ rest)) ≡ Some end)
 end_after front rest place held end accepted is =
     let same : length front + place + 1 ≡ length front + (place + 1) = omega arith in
-    mapped held (λ files. AreAccepted (file_at files) front × (first_end (file_at files) (take (place + 1) rest) ≡ Some end)) (λ files. first_end (file_at files) (take (length front + place + 1) (front ++ rest)) ≡ Some end)
-    (λ files h. ap (λ n. first_end (file_at files) (take n (front ++ rest))) same ∙ ap (first_end (file_at files)) (take-append-add front rest (place + 1)) ∙ accepted_front (file_at files) front (take (place + 1) rest) h.0 ∙ h.1)
+    mapped held (λ files. AreAccepted (file_at files) front × (first_end (file_at files) (take (place + 1) rest) ≡ Some end))
+    (λ files. first_end (file_at files) (take (length front + place + 1) (front ++ rest)) ≡ Some end)
+    (λ files h. ap (λ n. first_end (file_at files) (take n (front ++ rest))) same ∙ ap (first_end (file_at files)) (take-append-add front rest (place + 1))
+    ∙ accepted_front (file_at files) front (take (place + 1) rest) h.0 ∙ h.1)
     (both held (λ files. AreAccepted (file_at files) front) (λ files. first_end (file_at files) (take (place + 1) rest) ≡ Some end) accepted is)
 
 -- a stop while more files are read is a stop of all
-pub stopped_after : (front rest : List Reading) (s0 s1 s2 : FilesShown) (stop : Stop) → NoneFell s0.read_faults s1.read_faults → MakesCalls s0 s1 (read_calls front) → IfSome s2.held (λ files. AreAccepted (file_at files) front) → StopsReading rest s1 s2 stop → StopsReading (front ++ rest) s0 s2 stop
+pub stopped_after : (front rest : List Reading) (s0 s1 s2 : FilesShown) (stop : Stop) → NoneFell s0.read_faults s1.read_faults → MakesCalls s0 s1 (read_calls front)
+    → IfSome s2.held (λ files. AreAccepted (file_at files) front) → StopsReading rest s1 s2 stop → StopsReading (front ++ rest) s0 s2 stop
 stopped_after front rest s0 s1 s2 stop fell calls accepted stops = record {
   place = length front + stops.place;
   read = read_after front rest stops.place s0 s1 s2 calls accepted stops.read;
@@ -141,7 +161,8 @@ stopped_after front rest s0 s1 s2 stop fell calls accepted stops = record {
     why_after Memory place within why = tt
 
 -- a stop at a file of the front is a stop of all
-ended_front : (ends : List ℕ → Option Outcome) (file : Option (List ℕ)) (a b : Option Outcome) (end : Outcome) → (a ≡ Some end → b ≡ Some end) → option_map_or (λ bytes. option_or (ends bytes) a) file (Some Unknown) ≡ Some end → option_map_or (λ bytes. option_or (ends bytes) b) file (Some Unknown) ≡ Some end
+ended_front : (ends : List ℕ → Option Outcome) (file : Option (List ℕ)) (a b : Option Outcome) (end : Outcome) → (a ≡ Some end → b ≡ Some end)
+    → option_map_or (λ bytes. option_or (ends bytes) a) file (Some Unknown) ≡ Some end → option_map_or (λ bytes. option_or (ends bytes) b) file (Some Unknown) ≡ Some end
 ended_front ends None a b end more is = is
 ended_front ends (Some bytes) a b end more is = by_end (ends bytes) is
   where
@@ -161,7 +182,8 @@ stopped_in_front front rest s0 s1 stop stops = record {
   place = stops.place;
   read = record {
     within = let within : stops.place < length front = stops.read.within in omega (arith, length-append front rest);
-    calls = calls_are (read_calls (take (stops.place + 1) front)) (read_calls (take (stops.place + 1) (front ++ rest))) s0 s1 (sym (ap read_calls (take-append-le (stops.place + 1) front rest (let within : stops.place < length front = stops.read.within in omega arith)))) stops.read.calls;
+    calls = calls_are (read_calls (take (stops.place + 1) front)) (read_calls (take (stops.place + 1) (front ++ rest))) s0 s1
+        (sym (ap read_calls (take-append-le (stops.place + 1) front rest (let within : stops.place < length front = stops.read.within in omega arith)))) stops.read.calls;
     before_it = mapped s1.held (λ files. first_end (file_at files) (take stops.place front) ≡ None) (λ files. first_end (file_at files) (take stops.place (front ++ rest)) ≡ None)
         (λ files is. ap (first_end (file_at files)) (take-append-le stops.place front rest (let within : stops.place < length front = stops.read.within in omega arith)) ∙ is) stops.read.before_it;
   };
@@ -170,7 +192,8 @@ stopped_in_front front rest s0 s1 stop stops = record {
   where
     why_in_front : (stop : Stop) (place : ℕ) → place < length front → StopsWith front place s0 s1 stop → StopsWith (front ++ rest) place s0 s1 stop
     why_in_front (Refused input refusal) place within why =
-        mapped s1.held (λ files. first_end (file_at files) (take (place + 1) front) ≡ Some (refuses input refusal)) (λ files. first_end (file_at files) (take (place + 1) (front ++ rest)) ≡ Some (refuses input refusal))
+        mapped s1.held (λ files. first_end (file_at files) (take (place + 1) front) ≡ Some (refuses input refusal))
+        (λ files. first_end (file_at files) (take (place + 1) (front ++ rest)) ≡ Some (refuses input refusal))
         (λ files is. ap (first_end (file_at files)) (take-append-le (place + 1) front rest (omega arith)) ∙ is) why
     why_in_front (Unread name) place within why = (
       why.0,
@@ -182,7 +205,8 @@ stopped_in_front front rest s0 s1 stop stops = record {
     why_in_front Memory place within why = tt
 
 -- where no file ends the call, none of the front does
-goes_before : (ends : List ℕ → Option Outcome) (file : Option (List ℕ)) (a b : Option Outcome) → (a ≡ None → b ≡ None) → option_map_or (λ bytes. option_or (ends bytes) a) file (Some Unknown) ≡ None → option_map_or (λ bytes. option_or (ends bytes) b) file (Some Unknown) ≡ None
+goes_before : (ends : List ℕ → Option Outcome) (file : Option (List ℕ)) (a b : Option Outcome) → (a ≡ None → b ≡ None)
+    → option_map_or (λ bytes. option_or (ends bytes) a) file (Some Unknown) ≡ None → option_map_or (λ bytes. option_or (ends bytes) b) file (Some Unknown) ≡ None
 goes_before ends None a b more is = is
 goes_before ends (Some bytes) a b more is = by_end (ends bytes) is
   where
@@ -195,16 +219,19 @@ none_before files [] rest is = refl
 none_before files (r ∷ front) rest is = goes_before (r.ends files) (files r.name) (first_end files (front ++ rest)) (first_end files front) (none_before files front rest) is
 
 -- all files were read once each, and are accepted
-pub reads_all : (reads : List Reading) (s0 s1 : FilesShown) → 0 < length reads → MakesCalls s0 s1 (read_calls reads) → IfSome s1.held (λ files. AreAccepted (file_at files) reads) → ReadsUpTo reads (length reads - 1) s0 s1
+pub reads_all : (reads : List Reading) (s0 s1 : FilesShown) → 0 < length reads → MakesCalls s0 s1 (read_calls reads) → IfSome s1.held (λ files. AreAccepted (file_at files) reads)
+    → ReadsUpTo reads (length reads - 1) s0 s1
 reads_all reads s0 s1 some calls accepted = record {
   within = omega arith;
   calls = up_to_all reads (length reads - 1 + 1) s0 s1 (omega arith) calls;
   before_it = mapped s1.held (λ files. AreAccepted (file_at files) reads) (λ files. first_end (file_at files) (take (length reads - 1) reads) ≡ None)
-      (λ files h. none_before (file_at files) (take (length reads - 1) reads) (drop (length reads - 1) reads) (ap (first_end (file_at files)) (take-append-drop (length reads - 1) reads) ∙ accepted_all (file_at files) reads h)) accepted;
+      (λ files h. none_before (file_at files) (take (length reads - 1) reads) (drop (length reads - 1) reads)
+      (ap (first_end (file_at files)) (take-append-drop (length reads - 1) reads) ∙ accepted_all (file_at files) reads h)) accepted;
 }
 
 -- and then memory was wanted
-pub wanted_after : (reads : List Reading) (s0 s1 : FilesShown) → 0 < length reads → MakesCalls s0 s1 (read_calls reads) → IfSome s1.held (λ files. AreAccepted (file_at files) reads) → StopsReading reads s0 s1 Memory
+pub wanted_after : (reads : List Reading) (s0 s1 : FilesShown) → 0 < length reads → MakesCalls s0 s1 (read_calls reads)
+    → IfSome s1.held (λ files. AreAccepted (file_at files) reads) → StopsReading reads s0 s1 Memory
 wanted_after reads s0 s1 some calls accepted = record { place = length reads - 1; read = reads_all reads s0 s1 some calls accepted; why = tt }
 
 -- files that are told are kept in two steps

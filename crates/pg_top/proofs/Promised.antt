@@ -24,10 +24,12 @@ stop_not_done (stop.Unread name) answer o0 o1 h is = cc
 stop_not_done stop.Memory answer o0 o1 h is = cc
 
 -- what is known of the files of a command that is done is known of those before it
-pub promised : (writing : Writing) (lines : List ℕ) (s0 s1 s2 : FilesShown) (o0 o1 : SinkShown) (answer : Status) (P : FileMap → Type 0) → KeepsHeld s0.held s1.held → IfSome s1.held P → Finishes writing lines answer (s1, o0) (s2, o1) → answer ≡ Done → OfFiles (s0, o0) (s2, o1) (λ before after. P before)
+pub promised : (writing : Writing) (lines : List ℕ) (s0 s1 s2 : FilesShown) (o0 o1 : SinkShown) (answer : Status) (P : FileMap → Type 0)
+    → KeepsHeld s0.held s1.held → IfSome s1.held P → Finishes writing lines answer (s1, o0) (s2, o1) → answer ≡ Done → OfFiles (s0, o0) (s2, o1) (λ before after. P before)
 promised writing lines s0 s1 s2 o0 o1 answer P keeps told (inl h) is = by_cases s0.held s1.held s2.held keeps told h.0
   where
-    by_cases : (h0 h1 h2 : Option FileMap) → KeepsHeld h0 h1 → IfSome h1 P → IfSome h2 (λ after. MatchOption h1 ⊥ (λ before. after ≡ after_all before writing)) → IfSome h2 (λ after. MatchOption h0 ⊥ P)
+    by_cases : (h0 h1 h2 : Option FileMap) → KeepsHeld h0 h1 → IfSome h1 P → IfSome h2 (λ after. MatchOption h1 ⊥ (λ before. after ≡ after_all before writing))
+        → IfSome h2 (λ after. MatchOption h0 ⊥ P)
     by_cases h0 h1 None keeps told wrote = tt
     by_cases h0 None (Some after) keeps told wrote = absurd wrote
     by_cases h0 (Some before) (Some after) keeps told wrote = subst (λ held. MatchOption held ⊥ P) (sym keeps) told

@@ -12,7 +12,8 @@ use Rattle.pg_words.specs.Requests.{Request}
 use Rattle.pg_top.proofs.Results.{no_value, that_error}
 
 -- files that were read up to one that stopped it
-pub files_stopped : {Y : Type 0} (reads : List Reading) (old new : FilesShown) (r : Result Y Stop) (Has : Held → Y → Type 0) (stop : Stop) → IsErrAnd r (λ y. y ≡ stop) → OnlyReads old new → StopsReading reads old new stop → ReadsFiles reads old new r Has
+pub files_stopped : {Y : Type 0} (reads : List Reading) (old new : FilesShown) (r : Result Y Stop) (Has : Held → Y → Type 0) (stop : Stop)
+    → IsErrAnd r (λ y. y ≡ stop) → OnlyReads old new → StopsReading reads old new stop → ReadsFiles reads old new r Has
 files_stopped reads old new r Has stop is only stops = record {
   only = only;
   ok = no_value r _ stop is;
@@ -21,7 +22,8 @@ files_stopped reads old new r Has stop is only stops = record {
 }
 
 -- a command that stopped before it wrote
-pub building_stopped : (request : Request) (old new : FilesShown) (r : Result Outputs Stop) (stop : Stop) → IsErrAnd r (λ y. y ≡ stop) → OnlyReads old new → StopsCommand request old new stop → Builds request old new r
+pub building_stopped : (request : Request) (old new : FilesShown) (r : Result Outputs Stop) (stop : Stop) → IsErrAnd r (λ y. y ≡ stop) → OnlyReads old new
+    → StopsCommand request old new stop → Builds request old new r
 building_stopped request old new r stop is only stops = record {
   only = only;
   made = no_value r _ stop is;

@@ -45,7 +45,8 @@ unfolding selection selected_cells_from
 cells_selected i m is = ap (cells_from i.table i.dictionary i.params) is
 
 -- the layout that a run tells last is the last of what is told of its cells
-last_of : (levels : List LevelRecord) (told : List (ℕ × Layout)) (first : Option Layout) (start : Layout) → first ≡ Some start → map level_layout_told levels ≡ map Some told → fold (λ _ l. l.layout) first levels ≡ Some (fold (λ _ l. l.1) start told)
+last_of : (levels : List LevelRecord) (told : List (ℕ × Layout)) (first : Option Layout) (start : Layout) → first ≡ Some start → map level_layout_told levels
+    ≡ map Some told → fold (λ _ l. l.layout) first levels ≡ Some (fold (λ _ l. l.1) start told)
 last_of [] [] first start is same = is
 last_of [] (t ∷ told) first start is same = cc
 last_of (l ∷ levels) [] first start is same = cc
@@ -66,7 +67,8 @@ pub last_is : (a : CellsAccount) (r : Finished) → TellsCells (Some a) r → la
 last_is a r tells = last_of r.levels a.levels r.first_layout a.start tells.0 tells.2
 
 -- over the packed engine these are the cells
-pub cells_packed : (i : Inputs) (fs : Option Families) (r : Finished) → fs ≡ Some (pattern_families (signs_of i) i.start) → TellsCells (option_map (selected_cells_from i) fs) r → TellsCells (Some (selected_cells i)) r
+pub cells_packed : (i : Inputs) (fs : Option Families) (r : Finished) → fs ≡ Some (pattern_families (signs_of i) i.start) → TellsCells (option_map (selected_cells_from i) fs) r
+    → TellsCells (Some (selected_cells i)) r
 unfolding selected_cells
 cells_packed i fs r is tells = subst (λ fs. TellsCells (option_map (selected_cells_from i) fs) r) is tells
 
@@ -99,6 +101,7 @@ pub end_selected : (i : Inputs) (x : List ℕ) → x ++ work_line (passes_begun 
     ≡ x ++ codes "work: " ++ decimal (begun_count (selection i)) ++ codes " passes, " ++ layout_text (families_at_end (signs_of i) i.start (selection i)) (selected i)
 unfolding selected passes_begun selected_cells selected_cells_from
 end_selected i x =
-    let last : last_layout (selected_cells i) ≡ layout_of (families_at_end (signs_of i) i.start (selection i)) (selected i) = last_same (signs_of i) (pattern_families (signs_of i) i.start) i.start (selection i) in
+    let last : last_layout (selected_cells i) ≡ layout_of (families_at_end (signs_of i) i.start (selection i)) (selected i) =
+    last_same (signs_of i) (pattern_families (signs_of i) i.start) i.start (selection i) in
     ap (λ (l : Layout). x ++ work_line (begun_count (selection i)) l) last
     ∙ behind x (codes "work: ") (decimal (begun_count (selection i))) (codes " passes, ") (layout_text (families_at_end (signs_of i) i.start (selection i)) (selected i))

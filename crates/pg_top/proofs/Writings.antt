@@ -30,7 +30,8 @@ at_first None ws = tt
 at_first (Some files) ws = record { all = refl; stands = λ after name h. h }
 
 -- a write more
-pub one_more : (h0 h1 h2 : Option FileMap) (ws rest : Writing) (w : List ℕ × List ℕ) → OfHeld h0 h1 (λ before mid. Continues before mid ws (w ∷ rest)) → WasWritten h1 h2 w.0 w.1 → OfHeld h0 h2 (λ before mid. Continues before mid ws rest)
+pub one_more : (h0 h1 h2 : Option FileMap) (ws rest : Writing) (w : List ℕ × List ℕ) → OfHeld h0 h1 (λ before mid. Continues before mid ws (w ∷ rest))
+    → WasWritten h1 h2 w.0 w.1 → OfHeld h0 h2 (λ before mid. Continues before mid ws rest)
 one_more h0 h1 None ws rest w so wrote = tt
 one_more h0 None (Some after) ws rest w so wrote = absurd wrote
 one_more None (Some mid) (Some after) ws rest w so wrote = absurd so
@@ -40,7 +41,8 @@ one_more (Some before) (Some mid) (Some after) ws rest w so wrote = record {
 }
 
 -- a write that failed
-pub failed_at : (h0 h1 h2 : Option FileMap) (ws rest : Writing) (w : List ℕ × List ℕ) → OfHeld h0 h1 (λ before mid. Continues before mid ws (w ∷ rest)) → WasPartWritten h1 h2 w.0 w.1 → OfHeld h0 h2 (λ before after. IsPartWritten before after ws w.0)
+pub failed_at : (h0 h1 h2 : Option FileMap) (ws rest : Writing) (w : List ℕ × List ℕ) → OfHeld h0 h1 (λ before mid. Continues before mid ws (w ∷ rest))
+    → WasPartWritten h1 h2 w.0 w.1 → OfHeld h0 h2 (λ before after. IsPartWritten before after ws w.0)
 failed_at h0 h1 None ws rest w so part = tt
 failed_at h0 None (Some after) ws rest w so part = absurd part
 failed_at None (Some mid) (Some after) ws rest w so part = absurd so
@@ -57,21 +59,26 @@ pub name_there : (ws : List Output) (i : ℕ) (w : Output) → slice_get ws i �
 name_there ws i w at = slice_get-map (λ (w : List ℕ × List ℕ). w.0) (writing_of ws) i ∙ ap (option_map (λ (w : List ℕ × List ℕ). w.0)) (place_of_map ws i w at)
 
 -- all are called once each
-pub all_called : (ws : List Output) (i : ℕ) (s0 s1 : FilesShown) → length ws ≤ i → MakesCalls s0 s1 (write_calls (take i (written_names (writing_of ws)))) → MakesCalls s0 s1 (write_calls (written_names (writing_of ws)))
+pub all_called : (ws : List Output) (i : ℕ) (s0 s1 : FilesShown) → length ws ≤ i → MakesCalls s0 s1 (write_calls (take i (written_names (writing_of ws))))
+    → MakesCalls s0 s1 (write_calls (written_names (writing_of ws)))
 all_called ws i s0 s1 far calls = all_writes (written_names (writing_of ws)) i s0 s1 (omega (arith, length-map (writing_of ws) (λ (w : List ℕ × List ℕ). w.0), length-map ws named_text)) calls
 
 -- the facts of the loop
-pub step_on : (h0 h1 h2 : Option FileMap) (ws : List Output) (i : ℕ) (w : Output) → slice_get ws i ≡ Some w → OfHeld h0 h1 (λ before mid. Continues before mid (writing_of ws) (writing_of (drop i ws))) → WasWritten h1 h2 w.name.now w.text.items
+pub step_on : (h0 h1 h2 : Option FileMap) (ws : List Output) (i : ℕ) (w : Output) → slice_get ws i ≡ Some w
+    → OfHeld h0 h1 (λ before mid. Continues before mid (writing_of ws) (writing_of (drop i ws))) → WasWritten h1 h2 w.name.now w.text.items
     → OfHeld h0 h2 (λ before mid. Continues before mid (writing_of ws) (writing_of (drop (i + 1) ws)))
-step_on h0 h1 h2 ws i w at so wrote = one_more h0 h1 h2 (writing_of ws) (writing_of (drop (i + 1) ws)) (named_text w) (subst (λ rest. OfHeld h0 h1 (λ before mid. Continues before mid (writing_of ws) rest)) (from_place ws i w at) so) wrote
+step_on h0 h1 h2 ws i w at so wrote = one_more h0 h1 h2 (writing_of ws) (writing_of (drop (i + 1) ws)) (named_text w)
+    (subst (λ rest. OfHeld h0 h1 (λ before mid. Continues before mid (writing_of ws) rest)) (from_place ws i w at) so) wrote
 
-pub step_failed : (s0 s1 s2 : FilesShown) (ws : List Output) (i : ℕ) (w : Output) → slice_get ws i ≡ Some w → OfHeld s0.held s1.held (λ before mid. Continues before mid (writing_of ws) (writing_of (drop i ws))) → NoneFell s0.write_faults s1.write_faults
+pub step_failed : (s0 s1 s2 : FilesShown) (ws : List Output) (i : ℕ) (w : Output) → slice_get ws i ≡ Some w
+    → OfHeld s0.held s1.held (λ before mid. Continues before mid (writing_of ws) (writing_of (drop i ws))) → NoneFell s0.write_faults s1.write_faults
     → WasPartWritten s1.held s2.held w.name.now w.text.items → Rose (s1.write_faults w.name.now) (s2.write_faults w.name.now) → StoppedAt s0 s2 (writing_of ws) i
 step_failed s0 s1 s2 ws i w at so fell part rose = record {
   write = named_text w;
   there = place_of_map ws i w at;
   rose = rose_since (s0.write_faults w.name.now) (s1.write_faults w.name.now) (s2.write_faults w.name.now) (fell w.name.now) rose;
-  part = failed_at s0.held s1.held s2.held (writing_of ws) (writing_of (drop (i + 1) ws)) (named_text w) (subst (λ rest. OfHeld s0.held s1.held (λ before mid. Continues before mid (writing_of ws) rest)) (from_place ws i w at) so) part;
+  part = failed_at s0.held s1.held s2.held (writing_of ws) (writing_of (drop (i + 1) ws)) (named_text w)
+      (subst (λ rest. OfHeld s0.held s1.held (λ before mid. Continues before mid (writing_of ws) rest)) (from_place ws i w at) so) part;
 }
 
 -- the place at which writing stopped is one of the list, and its name is that of its file

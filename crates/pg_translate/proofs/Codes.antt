@@ -62,7 +62,9 @@ longer_differs p q bp bq longer h =
 -- texts of bytes with one code are equal
 pub code_same : (p q : List ℕ) → AreBytes p → AreBytes q → front_code p ≡ front_code q → p ≡ q
 code_same p q bp bq h =
-    ⊎_elim (λ (lengths : length p ≡ length q). (same_from 1 1 p q bp bq lengths h).1) (λ other. ⊎_elim (λ (longer : length p < length q). absurd (longer_differs p q bp bq longer h)) (λ shorter. absurd (longer_differs q p bq bp shorter (sym h))) other) (cases_order (length p) (length q))
+    ⊎_elim (λ (lengths : length p ≡ length q). (same_from 1 1 p q bp bq lengths h).1)
+    (λ other. ⊎_elim (λ (longer : length p < length q). absurd (longer_differs p q bp bq longer h)) (λ shorter. absurd (longer_differs q p bq bp shorter (sym h))) other)
+    (cases_order (length p) (length q))
 
 -- the code of a text and a byte behind it
 pub code_push : (p : List ℕ) (b : ℕ) → front_code (p ++ b ∷ []) ≡ front_code p * 256 + b

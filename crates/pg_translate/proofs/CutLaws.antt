@@ -42,14 +42,16 @@ or_some None p x h = inr h
 or_some (Some y) p x h = inl h
 
 -- what is found at a letter
-letter_found : (t : Alphabet) → KeepsRules t → (text : List ℕ) (token : Token) (size : ℕ) → letter_at t.spellings text ≡ Some (token, size) → (sign : ℕ) × (token ≡ Letter sign) × IsAmong (sign, take size text) t.spellings × (0 < size) × (size ≤ length text)
+letter_found : (t : Alphabet) → KeepsRules t → (text : List ℕ) (token : Token) (size : ℕ) → letter_at t.spellings text ≡ Some (token, size) → (sign : ℕ)
+    × (token ≡ Letter sign) × IsAmong (sign, take size text) t.spellings × (0 < size) × (size ≤ length text)
 letter_found t rules text token size h = by_find (find (λ s. starts_with nat_eq text s.1) t.spellings) refl h
   where
     spelled_some : (text : List ℕ) → begins_well t.marks text ≡ true → 0 < length text
     spelled_some [] h = absurd (true≢false (sym h))
     spelled_some (b ∷ bs) h = omega arith
 
-    by_find : (o : Option (ℕ × List ℕ)) → o ≡ find (λ s. starts_with nat_eq text s.1) t.spellings → option_map {U = Token × ℕ} (λ (s : ℕ × List ℕ). (Letter s.0, length s.1)) o ≡ Some (token, size) → (sign : ℕ) × (token ≡ Letter sign) × IsAmong (sign, take size text) t.spellings × (0 < size) × (size ≤ length text)
+    by_find : (o : Option (ℕ × List ℕ)) → o ≡ find (λ s. starts_with nat_eq text s.1) t.spellings → option_map {U = Token × ℕ} (λ (s : ℕ × List ℕ). (Letter s.0, length s.1)) o
+        ≡ Some (token, size) → (sign : ℕ) × (token ≡ Letter sign) × IsAmong (sign, take size text) t.spellings × (0 < size) × (size ≤ length text)
     by_find None is h = absurd (cc)
     by_find (Some s) is h =
         let among : IsAmong s t.spellings = find_among (λ s. starts_with nat_eq text s.1) t.spellings s (sym is) in
@@ -64,16 +66,22 @@ letter_found t rules text token size h = by_find (find (λ s. starts_with nat_eq
         (s.0, what, subst (λ (b : List ℕ). IsAmong (s.0, b) t.spellings) text_is among, omega arith, omega arith)
 
 -- what is found at a digit
-digit_found : (text : List ℕ) (token : Token) (size : ℕ) → digit_at text ≡ Some (token, size) → (digit : ℕ) × (token ≡ Digit digit) × (digit ≤ 9) × (take size text ≡ (48 + digit) ∷ []) × (0 < size) × (size ≤ length text)
+digit_found : (text : List ℕ) (token : Token) (size : ℕ) → digit_at text ≡ Some (token, size) → (digit : ℕ) × (token ≡ Digit digit) × (digit ≤ 9)
+    × (take size text ≡ (48 + digit) ∷ []) × (0 < size) × (size ≤ length text)
 digit_found [] token size h = absurd (cc)
 digit_found (b ∷ bs) token size h =
-    ⊎_elim (λ (yes : is_ascii_digit b ≡ true). let found = rw yes at h in let both : (token ≡ Digit (b - 48)) × (size ≡ 1) = same_found (Digit (b - 48)) token 1 size found in let one : size ≡ 1 = both.1 in let tests : (nat_le 48 b ≡ true) × (nat_le b 57 ≡ true) = and_parts _ _ yes in let low : 48 ≤ b = leb-true 48 b tests.0 in let high : b ≤ 57 = leb-true b 57 tests.1 in let value : b ≡ 48 + (b - 48) = omega arith in (b - 48, both.0, omega arith, rw one (ap (λ (n : ℕ). n ∷ []) value), omega arith, omega arith)) (λ (no : is_ascii_digit b ≡ false). let none = rw no at h in absurd (cc)) (cases_Bool (is_ascii_digit b))
+    ⊎_elim (λ (yes : is_ascii_digit b ≡ true). let found = rw yes at h in let both : (token ≡ Digit (b - 48)) × (size ≡ 1) = same_found (Digit (b - 48)) token 1 size found in let one : size
+    ≡ 1 = both.1 in let tests : (nat_le 48 b ≡ true) × (nat_le b 57 ≡ true) = and_parts _ _ yes in let low : 48 ≤ b = leb-true 48 b tests.0 in
+    let high : b ≤ 57 = leb-true b 57 tests.1 in let value : b ≡ 48 + (b - 48) = omega arith in (b - 48, both.0, omega arith, rw one (ap (λ (n : ℕ). n ∷ []) value), omega arith, omega arith))
+    (λ (no : is_ascii_digit b ≡ false). let none = rw no at h in absurd (cc)) (cases_Bool (is_ascii_digit b))
 
 -- what is found at a dot
 edge_found : (text : List ℕ) (token : Token) (size : ℕ) → edge_at text ≡ Some (token, size) → (token ≡ Edge) × (take size text ≡ 46 ∷ []) × (0 < size) × (size ≤ length text)
 edge_found [] token size h = absurd (cc)
 edge_found (b ∷ bs) token size h =
-    ⊎_elim (λ (yes : (b == 46) ≡ true). let found = rw yes at h in let both : (token ≡ Edge) × (size ≡ 1) = same_found Edge token 1 size found in let one : size ≡ 1 = both.1 in (both.0, rw one (ap (λ (n : ℕ). n ∷ []) (eqb-true b 46 yes)), omega arith, omega arith)) (λ (no : (b == 46) ≡ false). let none = rw no at h in absurd (cc)) (cases_Bool (b == 46))
+    ⊎_elim (λ (yes : (b == 46) ≡ true). let found = rw yes at h in let both : (token ≡ Edge) × (size ≡ 1) = same_found Edge token 1 size found in let one : size
+    ≡ 1 = both.1 in (both.0, rw one (ap (λ (n : ℕ). n ∷ []) (eqb-true b 46 yes)), omega arith, omega arith)) (λ (no : (b == 46) ≡ false). let none = rw no at h in absurd (cc))
+    (cases_Bool (b == 46))
 
 -- what is found at a mark
 pub record FindsMark (marks : List ℕ) (b : ℕ) (token : Token) (size : ℕ) : Type 0 where
@@ -84,7 +92,20 @@ pub record FindsMark (marks : List ℕ) (b : ℕ) (token : Token) (size : ℕ) :
 
 mark_found : (marks : List ℕ) (b : ℕ) (bs : List ℕ) (token : Token) (size : ℕ) → mark_at marks (b ∷ bs) ≡ Some (token, size) → FindsMark marks b token size
 mark_found marks b bs token size h =
-    ⊎_elim (λ (yes : (b == slice_index marks 0) ≡ true). let found = rw yes at h in let both : (token ≡ Marked Error) × (size ≡ 1) = same_found (Marked Error) token 1 size found in record { mark = Error; token_is = both.0; one = both.1; byte = λ t is. rw is (ap (λ (n : ℕ). n ∷ []) (eqb-true _ _ yes)) }) (λ (no0 : (b == slice_index marks 0) ≡ false). let h1 = rw no0 at h in ⊎_elim (λ (yes : (b == slice_index marks 1) ≡ true). let found = rw yes at h1 in let both : (token ≡ Marked Missed) × (size ≡ 1) = same_found (Marked Missed) token 1 size found in record { mark = Missed; token_is = both.0; one = both.1; byte = λ t is. rw is (ap (λ (n : ℕ). n ∷ []) (eqb-true _ _ yes)) }) (λ (no1 : (b == slice_index marks 1) ≡ false). let h2 = rw no1 at h1 in ⊎_elim (λ (yes : (b == slice_index marks 2) ≡ true). let found = rw yes at h2 in let both : (token ≡ Marked Found) × (size ≡ 1) = same_found (Marked Found) token 1 size found in record { mark = Found; token_is = both.0; one = both.1; byte = λ t is. rw is (ap (λ (n : ℕ). n ∷ []) (eqb-true _ _ yes)) }) (λ (no2 : (b == slice_index marks 2) ≡ false). let h3 = rw no2 at h2 in ⊎_elim (λ (yes : (b == slice_index marks 3) ≡ true). let found = rw yes at h3 in let both : (token ≡ Marked DontCare) × (size ≡ 1) = same_found (Marked DontCare) token 1 size found in record { mark = DontCare; token_is = both.0; one = both.1; byte = λ t is. rw is (ap (λ (n : ℕ). n ∷ []) (eqb-true _ _ yes)) }) (λ (no3 : (b == slice_index marks 3) ≡ false). let none = rw no3 at h3 in absurd (cc)) (cases_Bool (b == slice_index marks 3))) (cases_Bool (b == slice_index marks 2))) (cases_Bool (b == slice_index marks 1))) (cases_Bool (b == slice_index marks 0))
+    ⊎_elim (λ (yes : (b == slice_index marks 0) ≡ true). let found = rw yes at h in let both : (token ≡ Marked Error)
+    × (size ≡ 1) = same_found (Marked Error) token 1 size found in record { mark = Error; token_is = both.0; one = both.1; byte = λ t is. rw is (ap (λ (n : ℕ). n ∷ []) (eqb-true _ _ yes)) })
+    (λ (no0 : (b == slice_index marks 0) ≡ false). let h1 = rw no0 at h in
+    ⊎_elim (λ (yes : (b == slice_index marks 1) ≡ true). let found = rw yes at h1 in let both : (token ≡ Marked Missed)
+    × (size ≡ 1) = same_found (Marked Missed) token 1 size found in record { mark = Missed; token_is = both.0; one = both.1; byte = λ t is. rw is (ap (λ (n : ℕ). n ∷ []) (eqb-true _ _ yes)) })
+    (λ (no1 : (b == slice_index marks 1) ≡ false). let h2 = rw no1 at h1 in
+    ⊎_elim (λ (yes : (b == slice_index marks 2) ≡ true). let found = rw yes at h2 in let both : (token ≡ Marked Found)
+    × (size ≡ 1) = same_found (Marked Found) token 1 size found in record { mark = Found; token_is = both.0; one = both.1; byte = λ t is. rw is (ap (λ (n : ℕ). n ∷ []) (eqb-true _ _ yes)) })
+    (λ (no2 : (b == slice_index marks 2) ≡ false). let h3 = rw no2 at h2 in
+    ⊎_elim (λ (yes : (b == slice_index marks 3) ≡ true). let found = rw yes at h3 in let both : (token ≡ Marked DontCare)
+    × (size ≡ 1) = same_found (Marked DontCare) token 1 size found in
+    record { mark = DontCare; token_is = both.0; one = both.1; byte = λ t is. rw is (ap (λ (n : ℕ). n ∷ []) (eqb-true _ _ yes)) })
+    (λ (no3 : (b == slice_index marks 3) ≡ false). let none = rw no3 at h3 in absurd (cc)) (cases_Bool (b == slice_index marks 3))) (cases_Bool (b == slice_index marks 2)))
+    (cases_Bool (b == slice_index marks 1))) (cases_Bool (b == slice_index marks 0))
 
 -- what is found at the rest of a weight
 pub record FindsWeight (room value size : ℕ) (text : List ℕ) (token : Token) (whole : ℕ) : Type 0 where
@@ -99,14 +120,29 @@ pub record FindsWeight (room value size : ℕ) (text : List ℕ) (token : Token)
 
 weight_ends : (room value size b : ℕ) (bs : List ℕ) (token : Token) (whole : ℕ) → weight_end value size b ≡ Some (token, whole) → FindsWeight room value size (b ∷ bs) token whole
 weight_ends room value size b bs token whole h =
-    ⊎_elim (λ (yes : (b == 125 && nat_lt 0 value) ≡ true). let found = rw yes at h in let both : (token ≡ Weight value) × (whole ≡ size + 1) = same_found (Weight value) token (size + 1) whole found in let same : whole ≡ size + 1 = both.1 in record { digits = []; front = ap (λ (n : ℕ). n ∷ []) (eqb-true b 125 (and_parts _ _ yes).0); within = omega arith; few = omega arith; decimal = refl; token_is = both.0; some = ltb-true 0 value (and_parts _ _ yes).1; size_is = omega arith }) (λ (no : (b == 125 && nat_lt 0 value) ≡ false). let none = rw no at h in absurd (cc)) (cases_Bool (b == 125 && nat_lt 0 value))
+    ⊎_elim (λ (yes : (b == 125 && nat_lt 0 value) ≡ true). let found = rw yes at h in let both : (token ≡ Weight value) × (whole ≡ size + 1) =
+    same_found (Weight value) token (size + 1) whole found in let same : whole ≡ size + 1 = both.1 in
+    record {
+      digits = [];
+      front = ap (λ (n : ℕ). n ∷ []) (eqb-true b 125 (and_parts _ _ yes).0);
+      within = omega arith;
+      few = omega arith;
+      decimal =
+          refl;
+      token_is = both.0;
+      some = ltb-true 0 value (and_parts _ _ yes).1;
+      size_is = omega arith;
+    }) (λ (no : (b == 125 && nat_lt 0 value) ≡ false). let none = rw no at h in absurd (cc))
+    (cases_Bool (b == 125 && nat_lt 0 value))
 
 weight_found : (room value size : ℕ) (text : List ℕ) (token : Token) (whole : ℕ) → weight_from room value size text ≡ Some (token, whole) → FindsWeight room value size text token whole
 weight_found zero value size [] token whole h = absurd (cc)
 weight_found (suc room) value size [] token whole h = absurd (cc)
 weight_found zero value size (b ∷ bs) token whole h = weight_ends zero value size b bs token whole h
 weight_found (suc room) value size (b ∷ bs) token whole h =
-    ⊎_elim (λ (yes : is_ascii_digit b ≡ true). let later : weight_from room (value * 10 + (b - 48)) (size + 1) bs ≡ Some (token, whole) = rw yes at h in more yes (weight_found room (value * 10 + (b - 48)) (size + 1) bs token whole later)) (λ (no : is_ascii_digit b ≡ false). let here : weight_end value size b ≡ Some (token, whole) = rw no at h in weight_ends (suc room) value size b bs token whole here) (cases_Bool (is_ascii_digit b))
+    ⊎_elim (λ (yes : is_ascii_digit b ≡ true). let later : weight_from room (value * 10 + (b - 48)) (size + 1) bs ≡ Some (token, whole) = rw yes at h in
+    more yes (weight_found room (value * 10 + (b - 48)) (size + 1) bs token whole later)) (λ (no : is_ascii_digit b ≡ false). let here : weight_end value size b
+    ≡ Some (token, whole) = rw no at h in weight_ends (suc room) value size b bs token whole here) (cases_Bool (is_ascii_digit b))
   where
     more : is_ascii_digit b ≡ true → FindsWeight room (value * 10 + (b - 48)) (size + 1) bs token whole → FindsWeight (suc room) value size (b ∷ bs) token whole
     more test rest =
@@ -114,19 +150,43 @@ weight_found (suc room) value size (b ∷ bs) token whole h =
         let room_left : length rest.digits ≤ room = rest.few in
         let size_is : whole ≡ size + 1 + length rest.digits + 1 = rest.size_is in
         let next : suc (length rest.digits) + 1 ≡ suc (length rest.digits + 1) = omega arith in
-        record { digits = b ∷ rest.digits; front = rw next (ap (λ (s : List ℕ). b ∷ s) rest.front); within = omega arith; few = omega arith; decimal = and_from _ _ test rest.decimal; token_is = rest.token_is; some = rest.some; size_is = omega arith }
+        record {
+          digits = b ∷ rest.digits;
+          front = rw next (ap (λ (s : List ℕ). b ∷ s) rest.front);
+          within = omega arith;
+          few = omega arith;
+          decimal =
+              and_from _ _ test rest.decimal;
+          token_is = rest.token_is;
+          some = rest.some;
+          size_is = omega arith;
+        }
 
 -- a weight in braces is one
-weight_is : (text : List ℕ) (token : Token) (size : ℕ) → weight_at text ≡ Some (token, size) → (weight : ℕ) × (token ≡ Weight weight) × IsWeight weight (take size text) × (0 < size) × (size ≤ length text)
+weight_is : (text : List ℕ) (token : Token) (size : ℕ) → weight_at text ≡ Some (token, size) → (weight : ℕ) × (token ≡ Weight weight)
+    × IsWeight weight (take size text) × (0 < size) × (size ≤ length text)
 weight_is [] token size h = absurd (cc)
 weight_is (b ∷ bs) token size h =
-    ⊎_elim (λ (yes : (b == 123) ≡ true). let inside : weight_from 4 0 1 bs ≡ Some (token, size) = rw yes at h in whole (eqb-true b 123 yes) (weight_found 4 0 1 bs token size inside)) (λ (no : (b == 123) ≡ false). let none = rw no at h in absurd (cc)) (cases_Bool (b == 123))
+    ⊎_elim (λ (yes : (b == 123) ≡ true). let inside : weight_from 4 0 1 bs ≡ Some (token, size) = rw yes at h in whole (eqb-true b 123 yes) (weight_found 4 0 1 bs token size inside))
+    (λ (no : (b == 123) ≡ false). let none = rw no at h in absurd (cc)) (cases_Bool (b == 123))
   where
     whole : b ≡ 123 → FindsWeight 4 0 1 bs token size → (weight : ℕ) × (token ≡ Weight weight) × IsWeight weight (take size (b ∷ bs)) × (0 < size) × (size ≤ length (b ∷ bs))
     whole brace found =
         let size_is : size ≡ suc (length found.digits + 1) = let raw : size ≡ 1 + length found.digits + 1 = found.size_is in omega arith in
-        let inner : length found.digits + 1 ≤ length bs = found.within in
-        (decimal_value found.digits, found.token_is, record { digits = found.digits; text_is = rw (size_is, brace) (ap (λ (s : List ℕ). 123 ∷ s) found.front); few = found.few; decimal = found.decimal; value = refl; some = found.some }, omega arith, omega arith)
+        let inner : length found.digits + 1 ≤ length bs = found.within in (
+          decimal_value found.digits,
+          found.token_is,
+          record {
+            digits = found.digits;
+            text_is = rw (size_is, brace) (ap (λ (s : List ℕ). 123 ∷ s) found.front);
+            few = found.few;
+            decimal = found.decimal;
+            value = refl;
+            some = found.some;
+          },
+          omega arith,
+          omega arith,
+        )
 
 -- a mark that begins a text
 mark_is : (t : Alphabet) (b : ℕ) (bs : List ℕ) (token : Token) (size : ℕ) → FindsMark t.marks b token size → Reads t Dictionary (b ∷ bs) token size
@@ -164,8 +224,12 @@ item_found t rules place text token size h = by_place place h
         record { item = rw found.0 found.1; some = found.2; within = found.3 }
 
     by_place : (place : Place) → item_at t place text ≡ Some (token, size) → Reads t place text token size
-    by_place Dictionary h = ⊎_elim (λ l. letter Dictionary l) (λ rest. ⊎_elim (λ d. digit Dictionary d) (λ rest. ⊎_elim (λ w. weight w) (λ m. mark text m) (or_some (weight_at text) (mark_at t.marks text) (token, size) rest)) (or_some (digit_at text) (option_or (weight_at text) (mark_at t.marks text)) (token, size) rest)) (or_some (letter_at t.spellings text) (option_or (digit_at text) (option_or (weight_at text) (mark_at t.marks text))) (token, size) h)
-    by_place Patterns h = ⊎_elim (λ l. letter Patterns l) (λ rest. ⊎_elim (λ d. digit Patterns d) (λ e. edge e) (or_some (digit_at text) (edge_at text) (token, size) rest)) (or_some (letter_at t.spellings text) (option_or (digit_at text) (edge_at text)) (token, size) h)
+    by_place Dictionary h = ⊎_elim (λ l. letter Dictionary l) (λ rest. ⊎_elim (λ d. digit Dictionary d)
+        (λ rest. ⊎_elim (λ w. weight w) (λ m. mark text m) (or_some (weight_at text) (mark_at t.marks text) (token, size) rest))
+        (or_some (digit_at text) (option_or (weight_at text) (mark_at t.marks text)) (token, size) rest))
+        (or_some (letter_at t.spellings text) (option_or (digit_at text) (option_or (weight_at text) (mark_at t.marks text))) (token, size) h)
+    by_place Patterns h = ⊎_elim (λ l. letter Patterns l) (λ rest. ⊎_elim (λ d. digit Patterns d) (λ e. edge e) (or_some (digit_at text) (edge_at text) (token, size) rest))
+        (or_some (letter_at t.spellings text) (option_or (digit_at text) (edge_at text)) (token, size) h)
 
 -- what begins with a text and more begins with the text, and what follows it begins with the more
 begins_split : (line text more : List ℕ) → starts_with nat_eq line (text ++ more) ≡ true → (line ≡ text ++ drop (length text) line) × (starts_with nat_eq (drop (length text) line) more ≡ true)
@@ -183,7 +247,8 @@ begins_join (suc n) [] more h = h
 begins_join (suc n) (b ∷ bs) more h = and_from _ _ (eq-eqb b b refl) (begins_join n bs more h)
 
 -- a cut that begins with an item: the item begins the line, and the rest is a cut of what follows
-cut_first : (t : Alphabet) → KeepsRules t → (place : Place) (line : List ℕ) (x : Token × List ℕ) (xs : List (Token × List ℕ)) → IsCut t place line (x ∷ xs) → (item_at t place line ≡ Some (x.0, length x.1)) × (line ≡ x.1 ++ drop (length x.1) line) × IsCut t place (drop (length x.1) line) xs
+cut_first : (t : Alphabet) → KeepsRules t → (place : Place) (line : List ℕ) (x : Token × List ℕ) (xs : List (Token × List ℕ)) → IsCut t place line (x ∷ xs)
+    → (item_at t place line ≡ Some (x.0, length x.1)) × (line ≡ x.1 ++ drop (length x.1) line) × IsCut t place (drop (length x.1) line) xs
 cut_first t rules place line x xs cut =
     let parts : (line ≡ x.1 ++ drop (length x.1) line) × (starts_with nat_eq (drop (length x.1) line) (text_of_items xs) ≡ true) = begins_split line x.1 (text_of_items xs) cut.prefix in
     let found : item_at t place (x.1 ++ drop (length x.1) line) ≡ Some (x.0, length x.1) = item_reads t rules place x.0 x.1 (drop (length x.1) line) cut.each.0 in
@@ -205,16 +270,23 @@ longest_none t rules place column line none = record {
 
     every : (other : List (Token × List ℕ)) → IsCut t place line other → IsPrefix other []
     every [] cut = ([], refl)
-    every (x ∷ xs) cut = let first : (item_at t place line ≡ Some (x.0, length x.1)) × (line ≡ x.1 ++ drop (length x.1) line) × IsCut t place (drop (length x.1) line) xs = cut_first t rules place line x xs cut in let found : Some _ ≡ None = sym first.0 ∙ none in absurd (cc)
+    every (x ∷ xs) cut = let first : (item_at t place line ≡ Some (x.0, length x.1)) × (line ≡ x.1 ++ drop (length x.1) line)
+        × IsCut t place (drop (length x.1) line) xs = cut_first t rules place line x xs cut in let found : Some _ ≡ None = sym first.0 ∙ none in absurd (cc)
 
 -- where an item begins the line, its longest cut has it before that of the rest
-longest_item : (t : Alphabet) → KeepsRules t → (place : Place) (column : ℕ) (line : List ℕ) (token : Token) (size : ℕ) → item_at t place line ≡ Some (token, size) → IsLongest t place (column + size) (drop size line) (cut_from t place (column + size) zero (drop size line)) → IsLongest t place column line (cut_from t place column zero line)
+longest_item : (t : Alphabet) → KeepsRules t → (place : Place) (column : ℕ) (line : List ℕ) (token : Token) (size : ℕ) → item_at t place line
+    ≡ Some (token, size) → IsLongest t place (column + size) (drop size line) (cut_from t place (column + size) zero (drop size line))
+    → IsLongest t place column line (cut_from t place column zero line)
 longest_item t rules place column line token size found rest = record {
   items = (token, take size line) ∷ rest.items;
   cut = record { each = (reads.item, rest.cut.each); prefix = begins_join size line (text_of_items rest.items) rest.cut.prefix };
-  items_are = ap (λ (c : Cut). c.items) is ∙ ap (λ (items : List Placed). record { column = column; token = token } ∷ items) (rest.items_are ∙ ap (λ (n : ℕ). items_at (column + n) rest.items) (sym front));
-  column_is = ap (λ (c : Cut). c.column) is ∙ rest.column_is ∙ (let same : column + size + length (text_of_items rest.items) ≡ column + length (take size line ++ text_of_items rest.items) = omega (arith, length-append (take size line) (text_of_items rest.items), front) in same);
-  rest_is = sym (take-append-drop size line) ∙ ap (λ (text : List ℕ). take size line ++ text) rest.rest_is ∙ sym (append_assoc (take size line) (text_of_items rest.items) (cut_from t place (column + size) zero (drop size line)).rest) ∙ ap (λ (c : Cut). (take size line ++ text_of_items rest.items) ++ c.rest) (sym is);
+  items_are = ap (λ (c : Cut). c.items) is ∙ ap (λ (items : List Placed). record { column = column; token = token } ∷ items)
+      (rest.items_are ∙ ap (λ (n : ℕ). items_at (column + n) rest.items) (sym front));
+  column_is = ap (λ (c : Cut). c.column) is ∙ rest.column_is ∙ (let same : column + size + length (text_of_items rest.items)
+      ≡ column + length (take size line ++ text_of_items rest.items) = omega (arith, length-append (take size line) (text_of_items rest.items), front) in same);
+  rest_is = sym (take-append-drop size line) ∙ ap (λ (text : List ℕ). take size line ++ text) rest.rest_is
+      ∙ sym (append_assoc (take size line) (text_of_items rest.items) (cut_from t place (column + size) zero (drop size line)).rest)
+      ∙ ap (λ (c : Cut). (take size line ++ text_of_items rest.items) ++ c.rest) (sym is);
   all = every;
 }
   where
@@ -247,12 +319,16 @@ longest t rules place zero column line few = by_item (item_at t place line) refl
   where
     by_item : (found : Option (Token × ℕ)) → found ≡ item_at t place line → IsLongest t place column line (cut_from t place column zero line)
     by_item None is = longest_none t rules place column line (sym is)
-    by_item (Some item) is = let reads : Reads t place line item.0 item.1 = item_found t rules place line item.0 item.1 (sym is) in let some : 0 < item.1 = reads.some in let within : item.1 ≤ length line = reads.within in absurd (omega arith)
+    by_item (Some item) is = let reads : Reads t place line item.0 item.1 = item_found t rules place line item.0 item.1 (sym is) in let some : 0 < item.1 =
+        reads.some in let within : item.1 ≤ length line = reads.within in absurd (omega arith)
 longest t rules place (suc n) column line few = by_item (longest t rules place n) (item_at t place line) refl
   where
-    by_item : ((column : ℕ) (line : List ℕ) → length line ≤ n → IsLongest t place column line (cut_from t place column zero line)) → (found : Option (Token × ℕ)) → found ≡ item_at t place line → IsLongest t place column line (cut_from t place column zero line)
+    by_item : ((column : ℕ) (line : List ℕ) → length line ≤ n → IsLongest t place column line (cut_from t place column zero line)) → (found : Option (Token × ℕ))
+        → found ≡ item_at t place line → IsLongest t place column line (cut_from t place column zero line)
     by_item less None is = longest_none t rules place column line (sym is)
-    by_item less (Some item) is = let reads : Reads t place line item.0 item.1 = item_found t rules place line item.0 item.1 (sym is) in let some : 0 < item.1 = reads.some in let size : length (drop item.1 line) ≡ length line - item.1 = length-drop item.1 line in longest_item t rules place column line item.0 item.1 (sym is) (less (column + item.1) (drop item.1 line) (omega arith))
+    by_item less (Some item) is = let reads : Reads t place line item.0 item.1 = item_found t rules place line item.0 item.1 (sym is) in let some : 0 < item.1 =
+        reads.some in let size : length (drop item.1 line) ≡ length line - item.1 = length-drop item.1 line in
+        longest_item t rules place column line item.0 item.1 (sym is) (less (column + item.1) (drop item.1 line) (omega arith))
 
 -- of two fronts of a list, one is a front of the other
 prefixes : (a b all : List (Token × List ℕ)) → IsPrefix a all → IsPrefix b all → IsPrefix a b ⊎ IsPrefix b a
@@ -265,7 +341,8 @@ prefixes (x ∷ xs) (y ∷ ys) (z ∷ zs) pa pb =
     let same : x ≡ y = cc in
     let one : zs ≡ xs ++ pa.0 = cc in
     let two : zs ≡ ys ++ pb.0 = cc in
-    ⊎_elim (λ (left : IsPrefix xs ys). inl (left.0, ap₂ (λ (w : Token × List ℕ) (ws : List (Token × List ℕ)). w ∷ ws) (sym same) left.1)) (λ (right : IsPrefix ys xs). inr (right.0, ap₂ (λ (w : Token × List ℕ) (ws : List (Token × List ℕ)). w ∷ ws) same right.1)) (prefixes xs ys zs (pa.0, one) (pb.0, two))
+    ⊎_elim (λ (left : IsPrefix xs ys). inl (left.0, ap₂ (λ (w : Token × List ℕ) (ws : List (Token × List ℕ)). w ∷ ws) (sym same) left.1))
+    (λ (right : IsPrefix ys xs). inr (right.0, ap₂ (λ (w : Token × List ℕ) (ws : List (Token × List ℕ)). w ∷ ws) same right.1)) (prefixes xs ys zs (pa.0, one) (pb.0, two))
 
 -- of two cuts of one line, one is a prefix of the other
 pub cuts_agree : (t : Alphabet) → KeepsRules t → (place : Place) (line : List ℕ) (a b : List (Token × List ℕ)) → IsCut t place line a → IsCut t place line b → IsPrefix a b ⊎ IsPrefix b a

@@ -16,7 +16,8 @@ cut_skip t place column (suc skip) (b ∷ bs) few =
     cut_skip t place (column + 1) skip bs (omega arith) ∙ ap (λ (n : ℕ). cut_from t place n zero (drop skip bs)) same
 
 -- behind an item the cut is that of what follows
-pub cut_item : (t : Alphabet) (place : Place) (column : ℕ) (text : List ℕ) (token : Token) (size : ℕ) → item_at t place text ≡ Some (token, size) → 0 < size → size ≤ length text → cut_from t place column zero text ≡ with_item column token (cut_from t place (column + size) zero (drop size text))
+pub cut_item : (t : Alphabet) (place : Place) (column : ℕ) (text : List ℕ) (token : Token) (size : ℕ) → item_at t place text ≡ Some (token, size)
+    → 0 < size → size ≤ length text → cut_from t place column zero text ≡ with_item column token (cut_from t place (column + size) zero (drop size text))
 cut_item t place column [] token size found some within = absurd (omega arith)
 cut_item t place column (b ∷ bs) token zero found some within = absurd (omega arith)
 cut_item t place column (b ∷ bs) token (suc size) found some within =
@@ -25,9 +26,11 @@ cut_item t place column (b ∷ bs) token (suc size) found some within =
     rw (found, less, cut_skip t place (column + 1) size bs (omega arith), same) refl
 
 -- at an item the cut has it first, and then those of what follows
-pub cut_takes : (t : Alphabet) (place : Place) (column : ℕ) (text after : List ℕ) (token : Token) → (takes : HasItem t place text token after) → cut_from t place column zero text ≡ with_item column token (cut_from t place (column + takes.size) zero after)
+pub cut_takes : (t : Alphabet) (place : Place) (column : ℕ) (text after : List ℕ) (token : Token) → (takes : HasItem t place text token after)
+    → cut_from t place column zero text ≡ with_item column token (cut_from t place (column + takes.size) zero after)
 cut_takes t place column text after token takes =
-    cut_item t place column text token takes.size takes.found takes.some takes.within ∙ ap (λ (rest : List ℕ). with_item column token (cut_from t place (column + takes.size) zero rest)) (sym takes.behind)
+    cut_item t place column text token takes.size takes.found takes.some takes.within
+    ∙ ap (λ (rest : List ℕ). with_item column token (cut_from t place (column + takes.size) zero rest)) (sym takes.behind)
 
 -- where no item stands the cut has none
 pub cut_none : (t : Alphabet) (place : Place) (column : ℕ) (text : List ℕ) → item_at t place text ≡ None → cut_from t place column zero text ≡ record { items = []; column = column; rest = text }

@@ -27,8 +27,10 @@ pub record FitsNext (n : ℕ) : Type 0 where
 pub default_fits : (n : ℕ) → n < A_TO_Z → FitsNext n
 default_fits n below =
     let all : fits_next n ≡ true = agree_below_at fits_next (λ k. true) A_TO_Z n refl below in
-    let parts : ((letters_in (defaults n) == n) ≡ true) × ((not (list_any (clash (n + 2, (97 + n) ∷ [])) (defaults n)) && not (list_any (clash (n + 2, (65 + n) ∷ [])) (defaults n ++ (n + 2, (97 + n) ∷ []) ∷ []))) ≡ true) = and_parts _ _ all in
-    let tests : (not (list_any (clash (n + 2, (97 + n) ∷ [])) (defaults n)) ≡ true) × (not (list_any (clash (n + 2, (65 + n) ∷ [])) (defaults n ++ (n + 2, (97 + n) ∷ []) ∷ [])) ≡ true) = and_parts _ _ parts.1 in
+    let parts : ((letters_in (defaults n) == n) ≡ true)
+    × ((not (list_any (clash (n + 2, (97 + n) ∷ [])) (defaults n)) && not (list_any (clash (n + 2, (65 + n) ∷ [])) (defaults n ++ (n + 2, (97 + n) ∷ []) ∷ []))) ≡ true) = and_parts _ _ all in
+    let tests : (not (list_any (clash (n + 2, (97 + n) ∷ [])) (defaults n)) ≡ true) × (not (list_any (clash (n + 2, (65 + n) ∷ [])) (defaults n ++ (n + 2, (97 + n) ∷ []) ∷ [])) ≡ true) =
+    and_parts _ _ parts.1 in
     record { letters = eqb-true _ _ parts.0; small = not-true _ tests.0; capital = not-true _ tests.1 }
 
 -- the letters of one number more
@@ -38,8 +40,11 @@ flat_map_range first (suc n) =
     let rest : flat_map default_letter (range_with_len (first + 1) (n + 1)) ≡ flat_map default_letter (range_with_len (first + 1) n) ++ default_letter (first + 1 + n) = flat_map_range (first + 1) n in
     let same : first + 1 + n ≡ first + suc n = omega arith in
     let next : suc n + 1 ≡ suc (n + 1) = omega arith in
-    rw (next) (ap (λ (ss : List (ℕ × List ℕ)). default_letter first ++ ss) (subst (λ (k : ℕ). flat_map default_letter (range_with_len (first + 1) (n + 1)) ≡ flat_map default_letter (range_with_len (first + 1) n) ++ default_letter k) same rest) ∙ sym (append_assoc (default_letter first) (flat_map default_letter (range_with_len (first + 1) n)) (default_letter (first + suc n))))
+    rw (next) (ap (λ (ss : List (ℕ × List ℕ)). default_letter first ++ ss)
+    (subst (λ (k : ℕ). flat_map default_letter (range_with_len (first + 1) (n + 1)) ≡ flat_map default_letter (range_with_len (first + 1) n) ++ default_letter k) same rest)
+    ∙ sym (append_assoc (default_letter first) (flat_map default_letter (range_with_len (first + 1) n)) (default_letter (first + suc n))))
 
 -- both spellings of a letter behind the first ones
 pub default_more : (n : ℕ) → defaults n ++ (n + 2, (97 + n) ∷ []) ∷ [] ++ (n + 2, (65 + n) ∷ []) ∷ [] ≡ defaults (n + 1)
-default_more n = append_assoc (defaults n) ((n + 2, (97 + n) ∷ []) ∷ []) ((n + 2, (65 + n) ∷ []) ∷ []) ∙ sym (flat_map_range 0 n ∙ ap (λ (k : ℕ). defaults n ++ default_letter k) (let same : 0 + n ≡ n = omega arith in same))
+default_more n = append_assoc (defaults n) ((n + 2, (97 + n) ∷ []) ∷ []) ((n + 2, (65 + n) ∷ []) ∷ [])
+    ∙ sym (flat_map_range 0 n ∙ ap (λ (k : ℕ). defaults n ++ default_letter k) (let same : 0 + n ≡ n = omega arith in same))

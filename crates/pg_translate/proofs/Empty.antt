@@ -11,12 +11,14 @@ use Rattle.pg_translate.specs.Inside.Fronts.{IsIndex, pairs, pair_of, front_code
 none_at : (n i : ℕ) → let nothing : Option Front = None in get_or (replicate n nothing) i nothing ≡ nothing
 none_at n i =
     let nothing : Option Front = None in
-    ⊎_elim (λ (inside : i < n). get_or-replicate n i nothing nothing inside) (λ (past : n ≤ i). get_or_past (replicate n nothing) i nothing (subst (λ (k : ℕ). k ≤ i) (sym (length-replicate n nothing)) past)) (cases_lt i n)
+    ⊎_elim (λ (inside : i < n). get_or-replicate n i nothing nothing inside)
+    (λ (past : n ≤ i). get_or_past (replicate n nothing) i nothing (subst (λ (k : ℕ). k ≤ i) (sym (length-replicate n nothing)) past)) (cases_lt i n)
 
 -- an index without spellings is one
 pub new_index : (index : Index) → index.spellings.items ≡ [] → index.firsts.items ≡ [] → index.heads ≡ replicate 256 None → index.longer.entries ≡ [] → IsIndex index
 new_index index spellings firsts heads longer = record {
-  fronts = λ text bytes some. ⊎_elim (λ (yes : nat_lt (front_code text) 512 ≡ true). rw (none, yes, heads) (none_at 256 (front_code text - 256))) (λ (no : nat_lt (front_code text) 512 ≡ false). rw (none, no, longer) refl) (cases_Bool (nat_lt (front_code text) 512));
+  fronts = λ text bytes some. ⊎_elim (λ (yes : nat_lt (front_code text) 512 ≡ true). rw (none, yes, heads) (none_at 256 (front_code text - 256)))
+      (λ (no : nat_lt (front_code text) 512 ≡ false). rw (none, no, longer) refl) (cases_Bool (nat_lt (front_code text) 512));
   firsts = λ n. rw (none, firsts) refl;
   letters = rw (none, firsts) refl;
   apart = λ s t among other. absurd (subst (IsAmong s) none among);

@@ -27,11 +27,13 @@ edge_of_patterns (b ∷ bs) = elim (b == 46) as (λ s. of_patterns (if s then So
 
 digit_of_patterns : (text : List ℕ) → of_patterns (option_or (digit_at text) (edge_at text)) ≡ true
 digit_of_patterns [] = refl
-digit_of_patterns (b ∷ bs) = elim (is_ascii_digit b) as (λ s. of_patterns (option_or (if s then Some (Digit (b - 48), 1) else None) (edge_at (b ∷ bs))) ≡ true) [ true ↦ refl | false ↦ edge_of_patterns (b ∷ bs) ]
+digit_of_patterns (b ∷ bs) = elim (is_ascii_digit b) as (λ s. of_patterns (option_or (if s then Some (Digit (b - 48), 1) else None) (edge_at (b ∷ bs)))
+    ≡ true) [ true ↦ refl | false ↦ edge_of_patterns (b ∷ bs) ]
 
 item_of_patterns : (t : Alphabet) (text : List ℕ) → of_patterns (item_at t Patterns text) ≡ true
 item_of_patterns t text =
-    elim (find (λ spelling. starts_with nat_eq text spelling.1) t.spellings) as (λ o. of_patterns (option_or (option_map (λ spelling. (Letter spelling.0, length spelling.1)) o) (option_or (digit_at text) (edge_at text))) ≡ true) [
+    elim (find (λ spelling. starts_with nat_eq text spelling.1) t.spellings) as
+    (λ o. of_patterns (option_or (option_map (λ spelling. (Letter spelling.0, length spelling.1)) o) (option_or (digit_at text) (edge_at text))) ≡ true) [
       | None ↦ digit_of_patterns text
       | Some spelling ↦ refl
     ]
@@ -48,7 +50,9 @@ item_plain (Weight weight) size is = is
 item_plain (Marked mark) size is = refl
 item_plain Edge size is = refl
 
-cut_plain : (t : Alphabet) (column : ℕ) (text bs : List ℕ) (o : Option (Token × ℕ)) → of_patterns o ≡ true → ((skip : ℕ) → list_all is_plain (tokens_of (cut_from t Patterns (column + 1) skip bs)) ≡ true) → list_all is_plain (tokens_of (cut_at column text o (λ more. cut_from t Patterns (column + 1) more bs))) ≡ true
+cut_plain : (t : Alphabet) (column : ℕ) (text bs : List ℕ) (o : Option (Token × ℕ)) → of_patterns o ≡ true
+    → ((skip : ℕ) → list_all is_plain (tokens_of (cut_from t Patterns (column + 1) skip bs)) ≡ true)
+    → list_all is_plain (tokens_of (cut_at column text o (λ more. cut_from t Patterns (column + 1) more bs))) ≡ true
 cut_plain t column text bs None is later = refl
 cut_plain t column text bs (Some (token, size)) is later = and_from _ _ (item_plain token size is) (later (size - 1))
 
@@ -75,7 +79,8 @@ either_of_dictionary None p first second = second
 either_of_dictionary (Some x) p first second = first
 
 letter_of_dictionary : (t : Alphabet) (text : List ℕ) → of_dictionary (letter_at t.spellings text) ≡ true
-letter_of_dictionary t text = elim (find (λ spelling. starts_with nat_eq text spelling.1) t.spellings) as (λ o. of_dictionary (option_map (λ spelling. (Letter spelling.0, length spelling.1)) o) ≡ true) [ None ↦ refl | Some spelling ↦ refl ]
+letter_of_dictionary t text = elim (find (λ spelling. starts_with nat_eq text spelling.1) t.spellings) as
+    (λ o. of_dictionary (option_map (λ spelling. (Letter spelling.0, length spelling.1)) o) ≡ true) [ None ↦ refl | Some spelling ↦ refl ]
 
 digit_of_dictionary : (text : List ℕ) → of_dictionary (digit_at text) ≡ true
 digit_of_dictionary [] = refl
@@ -102,7 +107,8 @@ mark_of_dictionary : (marks text : List ℕ) → of_dictionary (mark_at marks te
 mark_of_dictionary marks [] = refl
 mark_of_dictionary marks (b ∷ bs) = by_tests (b == slice_index marks 0) (b == slice_index marks 1) (b == slice_index marks 2) (b == slice_index marks 3)
   where
-    by_tests : (first second third fourth : Bool) → of_dictionary (if first then Some (Marked Error, 1) else if second then Some (Marked Missed, 1) else if third then Some (Marked Found, 1) else if fourth then Some (Marked DontCare, 1) else None) ≡ true
+    by_tests : (first second third fourth : Bool) → of_dictionary (if first then Some (Marked Error, 1) else if second then Some (Marked Missed, 1) else if third then Some
+        (Marked Found, 1) else if fourth then Some (Marked DontCare, 1) else None) ≡ true
     by_tests true second third fourth = refl
     by_tests false true third fourth = refl
     by_tests false false true fourth = refl
@@ -111,7 +117,8 @@ mark_of_dictionary marks (b ∷ bs) = by_tests (b == slice_index marks 0) (b == 
 
 item_of_dictionary : (t : Alphabet) (text : List ℕ) → of_dictionary (item_at t Dictionary text) ≡ true
 item_of_dictionary t text =
-    either_of_dictionary _ _ (letter_of_dictionary t text) (either_of_dictionary _ _ (digit_of_dictionary text) (either_of_dictionary _ _ (braced_of_dictionary text) (mark_of_dictionary t.marks text)))
+    either_of_dictionary _ _ (letter_of_dictionary t text) (either_of_dictionary _ _ (digit_of_dictionary text)
+    (either_of_dictionary _ _ (braced_of_dictionary text) (mark_of_dictionary t.marks text)))
 
 pub no_edge : (t : Alphabet) (rest after : List ℕ) → HasItem t Dictionary rest Edge after → ⊥
 no_edge t rest after takes = cc (ap of_dictionary takes.found, item_of_dictionary t rest)

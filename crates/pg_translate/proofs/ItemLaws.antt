@@ -31,7 +31,8 @@ begins_spelled t rules s among = begins_as t.marks s.1 ∙ (and_parts _ _ (and_p
 -- no spelling begins a text whose first byte may begin none
 pub no_letter : (t : Alphabet) → KeepsRules t → (b : ℕ) (bs : List ℕ) → may_begin t.marks b ≡ false → letter_at t.spellings (b ∷ bs) ≡ None
 no_letter t rules b bs bad =
-    let missed : find (λ spelling. starts_with nat_eq (b ∷ bs) spelling.1) t.spellings ≡ None = find_none (λ spelling. starts_with nat_eq (b ∷ bs) spelling.1) t.spellings (λ s among. false_from_ne_true _ (λ front. apart s.1 (begins_spelled t rules s among) front)) in
+    let missed : find (λ spelling. starts_with nat_eq (b ∷ bs) spelling.1) t.spellings
+    ≡ None = find_none (λ spelling. starts_with nat_eq (b ∷ bs) spelling.1) t.spellings (λ s among. false_from_ne_true _ (λ front. apart s.1 (begins_spelled t rules s among) front)) in
     rw missed refl
   where
     apart : (text : List ℕ) → begins_well t.marks text ≡ true → starts_with nat_eq (b ∷ bs) text ≡ true → ⊥
@@ -115,13 +116,21 @@ reads_fourth a b c d good =
     let da : (d == a) ≡ false = eqb_swap a d ad in
     let db : (d == b) ≡ false = eqb_swap b d rest.0 in
     let dc : (d == c) ≡ false = eqb_swap c d parts.0 in
-    record { digit = good.fourth.digit; space = good.fourth.space; brace = good.fourth.brace; there = rw (ad, rest.0, parts.0, eq-eqb d d refl) refl; found = λ more. rw (da, db, dc, eq-eqb d d refl) refl }
+    record {
+      digit = good.fourth.digit;
+      space = good.fourth.space;
+      brace = good.fourth.brace;
+      there = rw (ad, rest.0, parts.0, eq-eqb d d refl) refl;
+      found = λ more. rw (da, db, dc, eq-eqb d d refl) refl;
+    }
 
 -- what is said of the bytes of the four marks
-pub four_marks : (t : Alphabet) → KeepsRules t → ReadsMark t.marks Error (slice_index t.marks 0) × ReadsMark t.marks Missed (slice_index t.marks 1) × ReadsMark t.marks Found (slice_index t.marks 2) × ReadsMark t.marks DontCare (slice_index t.marks 3)
+pub four_marks : (t : Alphabet) → KeepsRules t → ReadsMark t.marks Error (slice_index t.marks 0) × ReadsMark t.marks Missed (slice_index t.marks 1)
+    × ReadsMark t.marks Found (slice_index t.marks 2) × ReadsMark t.marks DontCare (slice_index t.marks 3)
 four_marks t rules = by_list t.marks rules.four rules.marks_pass
   where
-    by_list : (marks : List ℕ) → length marks ≡ 4 → mark_checks marks ≡ [] → ReadsMark marks Error (slice_index marks 0) × ReadsMark marks Missed (slice_index marks 1) × ReadsMark marks Found (slice_index marks 2) × ReadsMark marks DontCare (slice_index marks 3)
+    by_list : (marks : List ℕ) → length marks ≡ 4 → mark_checks marks ≡ [] → ReadsMark marks Error (slice_index marks 0) × ReadsMark marks Missed (slice_index marks 1)
+        × ReadsMark marks Found (slice_index marks 2) × ReadsMark marks DontCare (slice_index marks 3)
     by_list [] four good = absurd (omega arith)
     by_list (a ∷ []) four good = absurd (omega arith)
     by_list (a ∷ b ∷ []) four good = absurd (omega arith)
@@ -138,13 +147,17 @@ found_byte t rules mark byte more reads =
     rw (none, reads.digit, reads.brace) (reads.found more)
 
 -- a weight is read from its digits to its brace
-pub weight_reads : (room value size : ℕ) (digits more : List ℕ) → length digits ≤ room → list_all is_ascii_digit digits ≡ true → 0 < fold (λ value b. value * 10 + (b - 48)) value digits → weight_from room value size (digits ++ 125 ∷ more) ≡ Some (Weight (fold (λ value b. value * 10 + (b - 48)) value digits), size + length digits + 1)
+pub weight_reads : (room value size : ℕ) (digits more : List ℕ) → length digits ≤ room → list_all is_ascii_digit digits ≡ true
+    → 0 < fold (λ value b. value * 10 + (b - 48)) value digits → weight_from room value size (digits ++ 125 ∷ more)
+    ≡ Some (Weight (fold (λ value b. value * 10 + (b - 48)) value digits), size + length digits + 1)
 weight_reads zero value size [] more few all some = rw (lt-ltb 0 value some, let same : size + 0 + 1 ≡ size + 1 = omega arith in same) refl
 weight_reads (suc room) value size [] more few all some = rw (lt-ltb 0 value some, let same : size + 0 + 1 ≡ size + 1 = omega arith in same) refl
 weight_reads zero value size (d ∷ ds) more few all some = absurd (omega arith)
 weight_reads (suc room) value size (d ∷ ds) more few all some =
     let parts : (is_ascii_digit d ≡ true) × (list_all is_ascii_digit ds ≡ true) = and_parts _ _ all in
-    let rest : weight_from room (value * 10 + (d - 48)) (size + 1) (ds ++ 125 ∷ more) ≡ Some (Weight (fold (λ value b. value * 10 + (b - 48)) (value * 10 + (d - 48)) ds), size + 1 + length ds + 1) = weight_reads room (value * 10 + (d - 48)) (size + 1) ds more (omega arith) parts.1 some in
+    let rest : weight_from room (value * 10 + (d - 48)) (size + 1) (ds ++ 125 ∷ more)
+    ≡ Some (Weight (fold (λ value b. value * 10 + (b - 48)) (value * 10 + (d - 48)) ds), size + 1 + length ds + 1) =
+    weight_reads room (value * 10 + (d - 48)) (size + 1) ds more (omega arith) parts.1 some in
     let same : size + 1 + length ds + 1 ≡ size + suc (length ds) + 1 = omega arith in
     rw parts.0 (rest ∙ ap (λ (n : ℕ). Some (Weight (fold (λ value b. value * 10 + (b - 48)) (value * 10 + (d - 48)) ds), n)) same)
 
@@ -152,10 +165,12 @@ weight_reads (suc room) value size (d ∷ ds) more few all some =
 found_weight : (t : Alphabet) → KeepsRules t → (weight : ℕ) (text more : List ℕ) → IsWeight weight text → item_at t Dictionary (text ++ more) ≡ Some (Weight weight, length text)
 found_weight t rules weight text more is =
     let whole : text ++ more ≡ 123 ∷ (is.digits ++ 125 ∷ more) = ap (λ (s : List ℕ). s ++ more) is.text_is ∙ ap (λ (s : List ℕ). 123 ∷ s) (append_assoc is.digits (125 ∷ []) more) in
-    let size : length text ≡ 1 + length is.digits + 1 = ap length is.text_is ∙ ap suc (length-append is.digits (125 ∷ [])) ∙ (let same : suc (length is.digits + 1) ≡ 1 + length is.digits + 1 = omega arith in same) in
+    let size : length text ≡ 1 + length is.digits + 1 = ap length is.text_is ∙ ap suc (length-append is.digits (125 ∷ []))
+    ∙ (let same : suc (length is.digits + 1) ≡ 1 + length is.digits + 1 = omega arith in same) in
     let positive : 0 < decimal_value is.digits = subst (λ (n : ℕ). 0 < n) is.value is.some in
     let none : letter_at t.spellings (123 ∷ (is.digits ++ 125 ∷ more)) ≡ None = no_letter t rules 123 (is.digits ++ 125 ∷ more) refl in
-    let read : weight_from 4 0 1 (is.digits ++ 125 ∷ more) ≡ Some (Weight weight, 1 + length is.digits + 1) = weight_reads 4 0 1 is.digits more is.few is.decimal positive ∙ ap (λ (n : ℕ). Some (Weight n, 1 + length is.digits + 1)) (sym is.value) in
+    let read : weight_from 4 0 1 (is.digits ++ 125 ∷ more) ≡ Some (Weight weight, 1 + length is.digits + 1) = weight_reads 4 0 1 is.digits more is.few is.decimal positive
+    ∙ ap (λ (n : ℕ). Some (Weight n, 1 + length is.digits + 1)) (sym is.value) in
     rw (whole, size, none, read) refl
 
 -- the byte of a digit
@@ -173,9 +188,11 @@ mark_reads t rules DontCare text more is = rw is (found_byte t rules DontCare _ 
 -- an item is read, whatever follows it
 pub item_reads : (t : Alphabet) → KeepsRules t → (place : Place) (token : Token) (text more : List ℕ) → IsItem t place token text → item_at t place (text ++ more) ≡ Some (token, length text)
 item_reads t rules Dictionary (Letter sign) text more is =
-    let hit : find (λ spelling. starts_with nat_eq (text ++ more) spelling.1) t.spellings ≡ Some (sign, text) = find_begins (text ++ more) t.spellings (sign, text) rules.apart is (begins-append text more) in rw hit refl
+    let hit : find (λ spelling. starts_with nat_eq (text ++ more) spelling.1) t.spellings ≡ Some (sign, text) =
+    find_begins (text ++ more) t.spellings (sign, text) rules.apart is (begins-append text more) in rw hit refl
 item_reads t rules Patterns (Letter sign) text more is =
-    let hit : find (λ spelling. starts_with nat_eq (text ++ more) spelling.1) t.spellings ≡ Some (sign, text) = find_begins (text ++ more) t.spellings (sign, text) rules.apart is (begins-append text more) in rw hit refl
+    let hit : find (λ spelling. starts_with nat_eq (text ++ more) spelling.1) t.spellings ≡ Some (sign, text) =
+    find_begins (text ++ more) t.spellings (sign, text) rules.apart is (begins-append text more) in rw hit refl
 item_reads t rules Dictionary (Digit digit) text more is =
     let test : is_ascii_digit (48 + digit) ≡ true = digit_test digit is.0 in
     let none : letter_at t.spellings ((48 + digit) ∷ more) ≡ None = no_letter t rules (48 + digit) more (digit_may_not t.marks (48 + digit) test) in

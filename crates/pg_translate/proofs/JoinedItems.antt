@@ -45,7 +45,8 @@ item_some t rules Dictionary Edge text item = absurd item
 item_some t rules Patterns Edge text item = omega (arith, ap (λ (xs : List ℕ). length xs) item)
 
 -- the cut of items that are joined has these items, and nothing is left
-pub cut_joined : (t : Alphabet) → KeepsRules t → (place : Place) (column : ℕ) (items : List (Token × List ℕ)) → AllByRecursion (λ (item : Token × List ℕ). IsItem t place item.0 item.1) items → (tokens_of (cut_from t place column zero (text_of_items items)) ≡ tokens_in items) × ((cut_from t place column zero (text_of_items items)).rest ≡ [])
+pub cut_joined : (t : Alphabet) → KeepsRules t → (place : Place) (column : ℕ) (items : List (Token × List ℕ)) → AllByRecursion (λ (item : Token × List ℕ). IsItem t place item.0 item.1) items
+    → (tokens_of (cut_from t place column zero (text_of_items items)) ≡ tokens_in items) × ((cut_from t place column zero (text_of_items items)).rest ≡ [])
 cut_joined t rules place column [] each = (refl, refl)
 cut_joined t rules place column (item ∷ items) each =
     let size : ℕ = length item.1 in
@@ -53,7 +54,8 @@ cut_joined t rules place column (item ∷ items) each =
     let within : size ≤ length (item.1 ++ text_of_items items) = omega (arith, length-append item.1 (text_of_items items)) in
     let behind : drop size (item.1 ++ text_of_items items) ≡ text_of_items items = drop_at item.1 (text_of_items items) size refl in
     let whole : cut_from t place column zero (text_of_items (item ∷ items)) ≡ with_item column item.0 (cut_from t place (column + size) zero (text_of_items items)) =
-    cut_item t place column (item.1 ++ text_of_items items) item.0 size found (item_some t rules place item.0 item.1 each.0) within ∙ ap (λ (rest : List ℕ). with_item column item.0 (cut_from t place (column + size) zero rest)) behind in
+    cut_item t place column (item.1 ++ text_of_items items) item.0 size found (item_some t rules place item.0 item.1 each.0) within
+    ∙ ap (λ (rest : List ℕ). with_item column item.0 (cut_from t place (column + size) zero rest)) behind in
     let p = cut_joined t rules place (column + size) items each.1 in
     (ap tokens_of whole ∙ ap (λ (tokens : List Token). item.0 ∷ tokens) p.0, ap (λ (c : Cut). c.rest) whole ∙ p.1)
 
@@ -61,7 +63,8 @@ cut_joined t rules place column (item ∷ items) each =
 pub length-sign_columns : (items : List Placed) → length (filter_map sign_column items) ≡ length (signs_of (map (λ (p : Placed). p.token) items))
 length-sign_columns [] = refl
 length-sign_columns (item ∷ items) =
-    elim (sign_of item.token) as (λ o. length (cons_option (option_map (λ (_ : ℕ). item.column) o) (filter_map sign_column items)) ≡ length (cons_option o (signs_of (map (λ (p : Placed). p.token) items)))) [
+    elim (sign_of item.token) as (λ o. length (cons_option (option_map (λ (_ : ℕ). item.column) o) (filter_map sign_column items))
+    ≡ length (cons_option o (signs_of (map (λ (p : Placed). p.token) items)))) [
       | None ↦ length-sign_columns items
       | Some sign ↦ ap suc (length-sign_columns items)
     ]
@@ -74,7 +77,9 @@ not_refused place line c few ended =
     ∙ ap (λ (rest : List ℕ). stop_refusal place line (record { items = c.items; column = c.column; rest = rest })) ended
 
 -- a line of items gives what the items give
-pub line_is_read : {X : Type 0} (give : List Token → X) (t : Alphabet) → KeepsRules t → (place : Place) (line : ℕ) (items : List (Token × List ℕ)) → AllByRecursion (λ (item : Token × List ℕ). IsItem t place item.0 item.1) items → length (signs_of (tokens_in items)) ≤ signs_max place → of_line give t place line (text_of_items items) ≡ Ok (give (tokens_in items))
+pub line_is_read : {X : Type 0} (give : List Token → X) (t : Alphabet) → KeepsRules t → (place : Place) (line : ℕ) (items : List (Token × List ℕ))
+    → AllByRecursion (λ (item : Token × List ℕ). IsItem t place item.0 item.1) items → length (signs_of (tokens_in items)) ≤ signs_max place
+    → of_line give t place line (text_of_items items) ≡ Ok (give (tokens_in items))
 line_is_read {X} give t rules place line items each few =
     let c : Cut = cut t place (text_of_items items) in
     let p = cut_joined t rules place 1 items each in

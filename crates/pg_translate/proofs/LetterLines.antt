@@ -17,24 +17,30 @@ pieces_empty delimiter (b ∷ bs) found =
     rw first.1 refl
 
 -- at the first delimiter a piece ends
-pub pieces_found : (delimiter : ℕ) (rest : List ℕ) (end : ℕ) → position (λ b. b == delimiter) rest ≡ Some end → 0 < end → pieces_of delimiter rest ≡ take end rest ∷ pieces_of delimiter (take (length rest - (end + 1)) (drop (end + 1) rest))
+pub pieces_found : (delimiter : ℕ) (rest : List ℕ) (end : ℕ) → position (λ b. b == delimiter) rest ≡ Some end → 0 < end → pieces_of delimiter rest
+    ≡ take end rest ∷ pieces_of delimiter (take (length rest - (end + 1)) (drop (end + 1) rest))
 pieces_found delimiter [] end found some = absurd (cc)
 pieces_found delimiter (b ∷ bs) zero found some = absurd (omega arith)
 pieces_found delimiter (b ∷ bs) (suc end) found some =
-    let first : (suc end < length (b ∷ bs)) × ((get_or (b ∷ bs) (suc end) 0 == delimiter) ≡ true) × ((k : ℕ) → k < suc end → (get_or (b ∷ bs) k 0 == delimiter) ≡ false) = position-Some (λ b. b == delimiter) (b ∷ bs) (suc end) 0 found in
-    let pieces : pieces_at (λ b. b == delimiter) (b ∷ bs) ≡ take (suc end) (b ∷ bs) ∷ pieces_at (λ b. b == delimiter) (drop (suc (suc end)) (b ∷ bs)) = pieces_at_first (λ b. b == delimiter) (b ∷ bs) (suc end) first.2 first.0 first.1 in
+    let first : (suc end < length (b ∷ bs)) × ((get_or (b ∷ bs) (suc end) 0 == delimiter) ≡ true) × ((k : ℕ) → k < suc end → (get_or (b ∷ bs) k 0 == delimiter) ≡ false) =
+    position-Some (λ b. b == delimiter) (b ∷ bs) (suc end) 0 found in
+    let pieces : pieces_at (λ b. b == delimiter) (b ∷ bs) ≡ take (suc end) (b ∷ bs) ∷ pieces_at (λ b. b == delimiter) (drop (suc (suc end)) (b ∷ bs)) =
+    pieces_at_first (λ b. b == delimiter) (b ∷ bs) (suc end) first.2 first.0 first.1 in
     let next : suc end + 1 ≡ suc (suc end) = omega arith in
     rw (take_rest (b ∷ bs) (suc end + 1), next) (ap before_empty pieces)
 
 -- a text without delimiter is one piece
-pub pieces_last : (delimiter : ℕ) (rest : List ℕ) → position (λ b. b == delimiter) rest ≡ None → (length rest == 0) ≡ false → pieces_of delimiter rest ≡ rest ∷ pieces_of delimiter (take (length rest - length rest) (drop (length rest) rest))
+pub pieces_last : (delimiter : ℕ) (rest : List ℕ) → position (λ b. b == delimiter) rest ≡ None → (length rest == 0) ≡ false → pieces_of delimiter rest
+    ≡ rest ∷ pieces_of delimiter (take (length rest - length rest) (drop (length rest) rest))
 pieces_last delimiter [] found some = absurd (cc)
 pieces_last delimiter (b ∷ bs) found some =
     let pieces : pieces_at (λ b. b == delimiter) (b ∷ bs) ≡ (b ∷ bs) ∷ [] = pieces_at_last (λ b. b == delimiter) b bs none in
     rw (take_rest (b ∷ bs) (length (b ∷ bs)), drop_all (length (b ∷ bs)) (b ∷ bs) (omega arith)) (ap before_empty pieces)
   where
     past : length (b ∷ bs) ≤ position_or_len (λ b. b == delimiter) (b ∷ bs)
-    past = ⊎_elim (λ (yes : nat_lt (position_or_len (λ b. b == delimiter) (b ∷ bs)) (length (b ∷ bs)) ≡ true). absurd (let there = rw yes at found in cc)) (λ (no : nat_lt (position_or_len (λ b. b == delimiter) (b ∷ bs)) (length (b ∷ bs)) ≡ false). ltb-false _ _ no) (cases_Bool (nat_lt (position_or_len (λ b. b == delimiter) (b ∷ bs)) (length (b ∷ bs))))
+    past = ⊎_elim (λ (yes : nat_lt (position_or_len (λ b. b == delimiter) (b ∷ bs)) (length (b ∷ bs)) ≡ true). absurd (let there = rw yes at found in cc))
+        (λ (no : nat_lt (position_or_len (λ b. b == delimiter) (b ∷ bs)) (length (b ∷ bs)) ≡ false). ltb-false _ _ no)
+        (cases_Bool (nat_lt (position_or_len (λ b. b == delimiter) (b ∷ bs)) (length (b ∷ bs))))
 
     none : (j : ℕ) → j < length (b ∷ bs) → (get_or (b ∷ bs) j 0 == delimiter) ≡ false
     none j below = fails_before_first (λ b. b == delimiter) (b ∷ bs) j 0 (omega (arith, past))
@@ -58,7 +64,8 @@ pub trim_more : (line : List ℕ) (end : ℕ) → 0 < end → end ≤ length lin
 trim_more line end some within blank =
     let front : take (end - 1 + 1) line ≡ take (end - 1) line ++ get_or line (end - 1) 0 ∷ [] = take_more line (end - 1) 0 (omega arith) in
     let same : end - 1 + 1 ≡ end = omega arith in
-    ap without_blanks (subst (λ (n : ℕ). take n line ≡ take (end - 1) line ++ get_or line (end - 1) 0 ∷ []) same front) ∙ ap (λ (b : ℕ). without_blanks (take (end - 1) line ++ b ∷ [])) blank ∙ trim_blank (take (end - 1) line)
+    ap without_blanks (subst (λ (n : ℕ). take n line ≡ take (end - 1) line ++ get_or line (end - 1) 0 ∷ []) same front)
+    ∙ ap (λ (b : ℕ). without_blanks (take (end - 1) line ++ b ∷ [])) blank ∙ trim_blank (take (end - 1) line)
 
 -- the end of the trim
 pub trim_end : (line : List ℕ) (end : ℕ) → 0 < end → end ≤ length line → (get_or line (end - 1) 0 == 32) ≡ false → without_blanks (take end line) ≡ take end line

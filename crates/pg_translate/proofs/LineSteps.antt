@@ -25,27 +25,31 @@ shorter t place rest after item takes =
     omega arith
 
 -- an item at the front of the rest of a line of this size is the first of its cut
-pub cut_rest-takes : (t : Alphabet) (place : Place) (size : ℕ) (item : Token) (rest after : List ℕ) → HasItem t place rest item after → length rest ≤ size → cut_rest t place size rest ≡ with_item (size - length rest + 1) item (cut_rest t place size after)
+pub cut_rest-takes : (t : Alphabet) (place : Place) (size : ℕ) (item : Token) (rest after : List ℕ) → HasItem t place rest item after → length rest ≤ size
+    → cut_rest t place size rest ≡ with_item (size - length rest + 1) item (cut_rest t place size after)
 cut_rest-takes t place size item rest after takes within =
     let left : length after ≡ length rest - takes.size = ap (λ (xs : List ℕ). length xs) takes.behind ∙ length-drop takes.size rest in
     let column : size - length rest + 1 + takes.size ≡ size - length after + 1 = omega (arith, takes.within) in
     cut_takes t place (size - length rest + 1) rest after item takes ∙ ap (λ (k : ℕ). with_item (size - length rest + 1) item (cut_from t place k zero after)) column
 
 -- what is known of a cut without its first item is known of the whole, and less is left to read
-pub along : {Y : Type 0} (F G : Cut → Y) (t : Alphabet) (place : Place) (size : ℕ) (item : Token) (rest after : List ℕ) → HasItem t place rest item after → length rest ≤ size → ((column : ℕ) (c : Cut) → G c ≡ F (with_item column item c)) → (G (cut_rest t place size after) ≡ F (cut_rest t place size rest)) × (length after < length rest)
+pub along : {Y : Type 0} (F G : Cut → Y) (t : Alphabet) (place : Place) (size : ℕ) (item : Token) (rest after : List ℕ) → HasItem t place rest item after
+    → length rest ≤ size → ((column : ℕ) (c : Cut) → G c ≡ F (with_item column item c)) → (G (cut_rest t place size after) ≡ F (cut_rest t place size rest)) × (length after < length rest)
 along F G t place size item rest after takes within same = (
   same _ (cut_rest t place size after) ∙ ap F (sym (cut_rest-takes t place size item rest after takes within)),
   shorter t place rest after item takes,
 )
 
 -- the refusal of a line whose first item stands for a sign, which leaves room for one less
-pub refusal_sign : (place : Place) (line room column : ℕ) (item : Token) (sign : ℕ) (c : Cut) → sign_of item ≡ Some sign → refusal_with_room place line (room + 1) (with_item column item c) ≡ refusal_with_room place line room c
+pub refusal_sign : (place : Place) (line room column : ℕ) (item : Token) (sign : ℕ) (c : Cut) → sign_of item ≡ Some sign
+    → refusal_with_room place line (room + 1) (with_item column item c) ≡ refusal_with_room place line room c
 refusal_sign place line room column item sign c is =
     let more : room + 1 ≡ suc room = omega arith in
     ap (λ o. option_or (option_map (refusal_at line (long_kind place)) (slice_get (cons_option (option_map (λ (_ : ℕ). column) o) (sign_columns c)) (room + 1))) (stop_refusal place line c)) is
     ∙ ap (λ (n : ℕ). option_or (option_map (refusal_at line (long_kind place)) (slice_get (column ∷ sign_columns c) n)) (stop_refusal place line c)) more
 
 -- where there is no room, the sign is refused
-pub refusal_full : (place : Place) (line column : ℕ) (item : Token) (sign : ℕ) (c : Cut) → sign_of item ≡ Some sign → refusal_with_room place line 0 (with_item column item c) ≡ Some (refusal_at line (long_kind place) column)
+pub refusal_full : (place : Place) (line column : ℕ) (item : Token) (sign : ℕ) (c : Cut) → sign_of item ≡ Some sign → refusal_with_room place line 0 (with_item column item c)
+    ≡ Some (refusal_at line (long_kind place) column)
 refusal_full place line column item sign c is =
     ap (λ o. option_or (option_map (refusal_at line (long_kind place)) (slice_get (cons_option (option_map (λ (_ : ℕ). column) o) (sign_columns c)) 0)) (stop_refusal place line c)) is

@@ -10,7 +10,8 @@ pub pieces_of_line : (text more : List ℕ) → list_all (λ b. not (is_line_fee
 pieces_of_line [] more whole = refl
 pieces_of_line (b ∷ bs) more whole =
     let p = and_parts (not (is_line_feed b)) (list_all (λ b. not (is_line_feed b)) bs) whole in
-    ap (λ (test : Bool). cond test ([] ∷ pieces_at is_line_feed (bs ++ 10 ∷ more)) (onto_first b (pieces_at is_line_feed (bs ++ 10 ∷ more)))) (not-true (is_line_feed b) p.0) ∙ ap (onto_first b) (pieces_of_line bs more p.1)
+    ap (λ (test : Bool). cond test ([] ∷ pieces_at is_line_feed (bs ++ 10 ∷ more)) (onto_first b (pieces_at is_line_feed (bs ++ 10 ∷ more)))) (not-true (is_line_feed b) p.0)
+    ∙ ap (onto_first b) (pieces_of_line bs more p.1)
 
 -- a text without a blank, a TAB, an LF and a CR holds no line feed, and no CR at its end
 pub unbroken_feed : (text : List ℕ) → list_any is_space text ≡ false → list_all (λ b. not (is_line_feed b)) text ≡ true

@@ -24,6 +24,7 @@ parts_behind None xs ys = refl
 parts_behind (Some r) xs ys = refl
 
 -- one line before others
-pub line_before : {X : Type 0} (refusal : Option Refusal) (more : List Refusal) (xs ys : List X) → both_parts (unless refusal xs) (unless (slice_get more 0) ys) ≡ unless (slice_get (cons_option refusal more) 0) (xs ++ ys)
+pub line_before : {X : Type 0} (refusal : Option Refusal) (more : List Refusal) (xs ys : List X) → both_parts (unless refusal xs) (unless (slice_get more 0) ys)
+    ≡ unless (slice_get (cons_option refusal more) 0) (xs ++ ys)
 line_before None more xs ys = parts_behind (slice_get more 0) xs ys
 line_before (Some r) more xs ys = refl

@@ -26,7 +26,8 @@ use Rattle.pg_translate.proofs.Walks.{sign_within}
 list_all_at : (test : ℕ × List ℕ → Bool) (spellings : List (ℕ × List ℕ)) (s : ℕ × List ℕ) → list_all test spellings ≡ true → IsAmong s spellings → test s ≡ true
 list_all_at test [] s all among = absurd among
 list_all_at test (x ∷ xs) s all among =
-    ⊎_elim (λ (here : s ≡ x). subst (λ (y : ℕ × List ℕ). test y ≡ true) (sym here) (and_parts (test x) (list_all test xs) all).0) (λ (later : IsAmong s xs). list_all_at test xs s (and_parts (test x) (list_all test xs) all).1 later) among
+    ⊎_elim (λ (here : s ≡ x). subst (λ (y : ℕ × List ℕ). test y ≡ true) (sym here) (and_parts (test x) (list_all test xs) all).0)
+    (λ (later : IsAmong s xs). list_all_at test xs s (and_parts (test x) (list_all test xs) all).1 later) among
 
 -- a letter that has a first spelling has it among its spellings
 first_is_among : (spellings : List (ℕ × List ℕ)) (sign : ℕ) (text : List ℕ) → first_of spellings sign ≡ Some text → IsAmong (sign, first_spelling spellings sign) spellings

@@ -28,7 +28,8 @@ one_digit : (d : Bool) (n m : ℕ) → n ≡ m → (if d then n else 0) ≡ unwr
 one_digit true n m same = same
 one_digit false n m same = refl
 
-two_digits : (d e : Bool) (n m one other : ℕ) → n ≡ m → (if d then (if e then n else if false then one else 0) else if false && e then other else 0) ≡ unwrap_or (if d && (e && true) then Some m else None) 0
+two_digits : (d e : Bool) (n m one other : ℕ) → n ≡ m → (if d then (if e then n else if false then one else 0) else if false && e then other else 0)
+    ≡ unwrap_or (if d && (e && true) then Some m else None) 0
 two_digits true true n m one other same = same
 two_digits true false n m one other same = refl
 two_digits false e n m one other same = refl
@@ -72,19 +73,22 @@ fourth_as : (a b c d : ℕ) → mark_fails (c ∷ b ∷ a ∷ []) d ≡ mark_fai
 fourth_as a b c d = ap (λ (t : Bool). is_ascii_digit d || is_space d || d == 123 || t) (swap_three (c == d) (b == d) (a == d))
 
 marks_as : (a b c d : ℕ) → mark_checks (a ∷ b ∷ c ∷ d ∷ []) ≡ flat_map (λ m. check (mark_fails (take m.0 (a ∷ b ∷ c ∷ d ∷ [])) m.1) BadMark 1 (m.0 + 5)) (enumerate_from 0 (a ∷ b ∷ c ∷ d ∷ []))
-marks_as a b c d = ap₂ (λ (third fourth : Bool). check (mark_fails [] a) BadMark 1 5 ++ (check (mark_fails (a ∷ []) b) BadMark 1 6 ++ (check third BadMark 1 7 ++ (check fourth BadMark 1 8 ++ [])))) (third_as a b c) (fourth_as a b c d)
+marks_as a b c d = ap₂ (λ (third fourth : Bool). check (mark_fails [] a) BadMark 1 5 ++ (check (mark_fails (a ∷ []) b) BadMark 1 6 ++ (check third BadMark 1 7 ++ (check fourth BadMark 1 8 ++ []))))
+    (third_as a b c) (fourth_as a b c d)
 
 -- the checks of the head
 pub heads_as : (head : List ℕ) → head_checks_by_pairs head ≡ head_checks head
 heads_as head =
     ap₂ (λ (left right : Bool). (check left BadMinima 1 1 ++ check right BadMinima 1 3) ++ mark_checks (marks_of head)) (fails_as head 1 3) (fails_as head 3 1)
-    ∙ ap (λ (rs : List Refusal). (check (minimum_fails head 1 3) BadMinima 1 1 ++ check (minimum_fails head 3 1) BadMinima 1 3) ++ rs) (marks_as (mark_in head 5 DEFAULT_ERROR) (mark_in head 6 DEFAULT_MISSED) (mark_in head 7 DEFAULT_FOUND) (mark_in head 8 DEFAULT_DONT_CARE))
+    ∙ ap (λ (rs : List Refusal). (check (minimum_fails head 1 3) BadMinima 1 1 ++ check (minimum_fails head 3 1) BadMinima 1 3) ++ rs)
+    (marks_as (mark_in head 5 DEFAULT_ERROR) (mark_in head 6 DEFAULT_MISSED) (mark_in head 7 DEFAULT_FOUND) (mark_in head 8 DEFAULT_DONT_CARE))
 
 -- a line without the blanks at its end
 abbrev blank_end : List ℕ → ℕ
 blank_end line = suffix_len (λ b. b == 32) line
 
-trim_step : (line : List ℕ) (n : ℕ) (blank : Bool) → suc n ≤ length line → (get_or line (suc n - 1) 0 == 32) ≡ blank → without_blanks (take n line) ≡ take (n - blank_end (take n line)) line → without_blanks (take (suc n) line) ≡ take (suc n - blank_end (take (suc n) line)) line
+trim_step : (line : List ℕ) (n : ℕ) (blank : Bool) → suc n ≤ length line → (get_or line (suc n - 1) 0 == 32) ≡ blank → without_blanks (take n line)
+    ≡ take (n - blank_end (take n line)) line → without_blanks (take (suc n) line) ≡ take (suc n - blank_end (take (suc n) line)) line
 trim_step line n true within is before =
     let back : suc n - 1 ≡ n = omega arith in
     let yes : blank_end (take (suc n) line) ≡ 1 + blank_end (take (suc n - 1) line) = suffix_len-take_yes (λ b. b == 32) line (suc n) 0 (omega arith) within is in
@@ -122,7 +126,8 @@ pieces_as line = delimited_as (without_blanks line) ∙ ap (λ (text : List ℕ)
 abbrev spellings_in : ℕ → ℕ → List (List (List ℕ)) → List ListedSpelling
 spellings_in line letter pieces = flat_map (λ l. spellings_at l.1.0 2 l.0 l.1.1) (enumerate_from letter (filter (λ l. nat_lt 0 (length l.1)) (enumerate_from line pieces)))
 
-with_line_as : (line letter : ℕ) (pieces : List (List ℕ)) (more : List (List (List ℕ))) (later : ℕ → List ListedSpelling) → ((next : ℕ) → later next ≡ spellings_in (line + 1) next more) → with_line_spellings line letter pieces later ≡ spellings_in line letter (pieces ∷ more)
+with_line_as : (line letter : ℕ) (pieces : List (List ℕ)) (more : List (List (List ℕ))) (later : ℕ → List ListedSpelling)
+    → ((next : ℕ) → later next ≡ spellings_in (line + 1) next more) → with_line_spellings line letter pieces later ≡ spellings_in line letter (pieces ∷ more)
 with_line_as line letter [] more later rest = rest letter
 with_line_as line letter (piece ∷ pieces) more later rest =
     let some : nat_lt 0 (length (piece ∷ pieces)) ≡ true = lt-ltb 0 (length (piece ∷ pieces)) (omega arith) in
@@ -140,14 +145,16 @@ pub spellings_as : (texts : List (List ℕ)) → spellings_from 2 1 texts ≡ sp
 spellings_as texts = lines_as texts 2 1
 
 -- the checks of the spellings, each beside those before it
-checks_behind : (marks : List ℕ) (all done later : List ListedSpelling) → done ++ later ≡ all → spelling_checks_from marks (map spelling_with_sign done) later ≡ flat_map (λ s. spelling_check marks (map spelling_with_sign (take s.0 all)) s.1) (enumerate_from (length done) later)
+checks_behind : (marks : List ℕ) (all done later : List ListedSpelling) → done ++ later ≡ all → spelling_checks_from marks (map spelling_with_sign done) later
+    ≡ flat_map (λ s. spelling_check marks (map spelling_with_sign (take s.0 all)) s.1) (enumerate_from (length done) later)
 checks_behind marks all done [] whole = refl
 checks_behind marks all done (s ∷ later) whole =
     let front : take (length done) all ≡ done = ap (take (length done)) (sym whole) ∙ take-append_seam done (s ∷ later) in
     let longer : length (done ++ s ∷ []) ≡ length done + 1 = length-append done (s ∷ []) in
     let rest = checks_behind marks all (done ++ s ∷ []) later (append_assoc done (s ∷ []) later ∙ whole) in
     ap₂ (λ (earlier : List ListedSpelling) (rs : List Refusal). spelling_check marks (map spelling_with_sign earlier) s ++ rs) (sym front)
-    (ap (λ (ss : List (ℕ × List ℕ)). spelling_checks_from marks ss later) (sym (map-append spelling_with_sign done (s ∷ []))) ∙ rest ∙ ap (λ (n : ℕ). flat_map (λ s. spelling_check marks (map spelling_with_sign (take s.0 all)) s.1) (enumerate_from n later)) longer)
+    (ap (λ (ss : List (ℕ × List ℕ)). spelling_checks_from marks ss later) (sym (map-append spelling_with_sign done (s ∷ []))) ∙ rest
+    ∙ ap (λ (n : ℕ). flat_map (λ s. spelling_check marks (map spelling_with_sign (take s.0 all)) s.1) (enumerate_from n later)) longer)
 
 pub checks_as : (marks : List ℕ) (all : List ListedSpelling) → spelling_checks_from marks [] all ≡ spelling_checks marks all
 checks_as marks all = checks_behind marks all [] all refl
@@ -162,8 +169,10 @@ alphabet_as head letter_lines = λ k. record {
 }
 
 -- what the head and the letter lines of a file come to
-pub read_as : (head : List ℕ) (letter_lines : List (List ℕ)) → first_refusal (head_checks_by_pairs head ++ spelling_checks_from (marks_of head) [] (spellings_from 2 1 letter_lines)) (alphabet_by_lines head letter_lines) ≡ first_refusal (head_checks head ++ spelling_checks (marks_of head) (spellings_of letter_lines)) (alphabet_of head letter_lines)
+pub read_as : (head : List ℕ) (letter_lines : List (List ℕ)) → first_refusal (head_checks_by_pairs head ++ spelling_checks_from (marks_of head) [] (spellings_from 2 1 letter_lines))
+    (alphabet_by_lines head letter_lines) ≡ first_refusal (head_checks head ++ spelling_checks (marks_of head) (spellings_of letter_lines)) (alphabet_of head letter_lines)
 read_as head letter_lines =
     ap₂ (λ (rs : List Refusal) (t : Alphabet). first_refusal rs t)
-    (ap₂ (λ (first later : List Refusal). first ++ later) (heads_as head) (ap (spelling_checks_from (marks_of head) []) (spellings_as letter_lines) ∙ checks_as (marks_of head) (spellings_of letter_lines)))
+    (ap₂ (λ (first later : List Refusal). first ++ later) (heads_as head) (ap (spelling_checks_from (marks_of head) []) (spellings_as letter_lines)
+    ∙ checks_as (marks_of head) (spellings_of letter_lines)))
     (alphabet_as head letter_lines)

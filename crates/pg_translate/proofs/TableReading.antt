@@ -39,20 +39,31 @@ first_none [] y z h = (refl, cc)
 first_none (r ∷ rs) y z h = absurd (cc)
 
 -- spellings whose checks pass have their form
-pub spelled_all : (marks : List ℕ) (earlier : List (ℕ × List ℕ)) (spellings : List ListedSpelling) → spelling_checks_from marks earlier spellings ≡ [] → list_all (λ s. is_spelling marks s.1) (map spelling_with_sign spellings) ≡ true
+pub spelled_all : (marks : List ℕ) (earlier : List (ℕ × List ℕ)) (spellings : List ListedSpelling) → spelling_checks_from marks earlier spellings ≡ []
+    → list_all (λ s. is_spelling marks s.1) (map spelling_with_sign spellings) ≡ true
 spelled_all marks earlier [] none = refl
 spelled_all marks earlier (s ∷ later) none =
-    let parts : (spelling_check marks earlier s ≡ []) × (spelling_checks_from marks (earlier ++ spelling_with_sign s ∷ []) later ≡ []) = none_parts (spelling_check marks earlier s) (spelling_checks_from marks (earlier ++ spelling_with_sign s ∷ []) later) none in
-    let own : (check (nat_lt (SIGNS_MAX - 1) s.letter) TooManyLetters s.line 1 ≡ []) × (check (not (is_spelling marks s.text)) BadSpelling s.line s.column ++ check (list_any (clash (spelling_with_sign s)) earlier) SpellingClash s.line s.column ≡ []) = none_parts (check (nat_lt (SIGNS_MAX - 1) s.letter) TooManyLetters s.line 1) (check (not (is_spelling marks s.text)) BadSpelling s.line s.column ++ check (list_any (clash (spelling_with_sign s)) earlier) SpellingClash s.line s.column) parts.0 in
-    let form : (check (not (is_spelling marks s.text)) BadSpelling s.line s.column ≡ []) × (check (list_any (clash (spelling_with_sign s)) earlier) SpellingClash s.line s.column ≡ []) = none_parts (check (not (is_spelling marks s.text)) BadSpelling s.line s.column) (check (list_any (clash (spelling_with_sign s)) earlier) SpellingClash s.line s.column) own.1 in
+    let parts : (spelling_check marks earlier s ≡ []) × (spelling_checks_from marks (earlier ++ spelling_with_sign s ∷ []) later ≡ []) =
+    none_parts (spelling_check marks earlier s) (spelling_checks_from marks (earlier ++ spelling_with_sign s ∷ []) later) none in
+    let own : (check (nat_lt (SIGNS_MAX - 1) s.letter) TooManyLetters s.line 1 ≡ [])
+    × (check (not (is_spelling marks s.text)) BadSpelling s.line s.column ++ check (list_any (clash (spelling_with_sign s)) earlier) SpellingClash s.line s.column ≡ []) =
+    none_parts (check (nat_lt (SIGNS_MAX - 1) s.letter) TooManyLetters s.line 1) (check (not (is_spelling marks s.text)) BadSpelling s.line s.column
+    ++ check (list_any (clash (spelling_with_sign s)) earlier) SpellingClash s.line s.column) parts.0 in
+    let form : (check (not (is_spelling marks s.text)) BadSpelling s.line s.column ≡ []) × (check (list_any (clash (spelling_with_sign s)) earlier) SpellingClash s.line s.column ≡ []) =
+    none_parts (check (not (is_spelling marks s.text)) BadSpelling s.line s.column) (check (list_any (clash (spelling_with_sign s)) earlier) SpellingClash s.line s.column) own.1 in
     and_from _ _ (not-false _ (check_none (not (is_spelling marks s.text)) BadSpelling s.line s.column form.0)) (spelled_all marks (earlier ++ spelling_with_sign s ∷ []) later parts.1)
 
 -- spellings whose checks pass have few letters
-few_letters : (n : ℕ) (marks : List ℕ) (earlier : List (ℕ × List ℕ)) (spellings : List ListedSpelling) → n ≤ SIGNS_MAX - 1 → spelling_checks_from marks earlier spellings ≡ [] → fold (λ n spelling. max n (spelling.0 - 1)) n (map spelling_with_sign spellings) ≤ SIGNS_MAX - 1
+few_letters : (n : ℕ) (marks : List ℕ) (earlier : List (ℕ × List ℕ)) (spellings : List ListedSpelling) → n ≤ SIGNS_MAX - 1 → spelling_checks_from marks earlier spellings
+    ≡ [] → fold (λ n spelling. max n (spelling.0 - 1)) n (map spelling_with_sign spellings) ≤ SIGNS_MAX - 1
 few_letters n marks earlier [] few none = few
 few_letters n marks earlier (s ∷ later) few none =
-    let parts : (spelling_check marks earlier s ≡ []) × (spelling_checks_from marks (earlier ++ spelling_with_sign s ∷ []) later ≡ []) = none_parts (spelling_check marks earlier s) (spelling_checks_from marks (earlier ++ spelling_with_sign s ∷ []) later) none in
-    let own : (check (nat_lt (SIGNS_MAX - 1) s.letter) TooManyLetters s.line 1 ≡ []) × (check (not (is_spelling marks s.text)) BadSpelling s.line s.column ++ check (list_any (clash (spelling_with_sign s)) earlier) SpellingClash s.line s.column ≡ []) = none_parts (check (nat_lt (SIGNS_MAX - 1) s.letter) TooManyLetters s.line 1) (check (not (is_spelling marks s.text)) BadSpelling s.line s.column ++ check (list_any (clash (spelling_with_sign s)) earlier) SpellingClash s.line s.column) parts.0 in
+    let parts : (spelling_check marks earlier s ≡ []) × (spelling_checks_from marks (earlier ++ spelling_with_sign s ∷ []) later ≡ []) =
+    none_parts (spelling_check marks earlier s) (spelling_checks_from marks (earlier ++ spelling_with_sign s ∷ []) later) none in
+    let own : (check (nat_lt (SIGNS_MAX - 1) s.letter) TooManyLetters s.line 1 ≡ [])
+    × (check (not (is_spelling marks s.text)) BadSpelling s.line s.column ++ check (list_any (clash (spelling_with_sign s)) earlier) SpellingClash s.line s.column ≡ []) =
+    none_parts (check (nat_lt (SIGNS_MAX - 1) s.letter) TooManyLetters s.line 1) (check (not (is_spelling marks s.text)) BadSpelling s.line s.column
+    ++ check (list_any (clash (spelling_with_sign s)) earlier) SpellingClash s.line s.column) parts.0 in
     let low : s.letter ≤ SIGNS_MAX - 1 = ltb-false (SIGNS_MAX - 1) s.letter (check_none (nat_lt (SIGNS_MAX - 1) s.letter) TooManyLetters s.line 1 own.0) in
     few_letters (max n (s.letter + 1 - 1)) marks (earlier ++ spelling_with_sign s ∷ []) later (omega arith) parts.1
 
@@ -62,7 +73,8 @@ first_of [] y = refl
 first_of (r ∷ rs) y = refl
 
 -- the table of a file that is not too long
-not_long : (bytes first : List ℕ) (later : List (List ℕ)) → lines bytes ≡ first ∷ later → length bytes ≤ FILE_MAX → table bytes ≡ first_refusal (head_checks_by_pairs first ++ spelling_checks_from (marks_of first) [] (spellings_from 2 1 later)) (alphabet_by_lines first later)
+not_long : (bytes first : List ℕ) (later : List (List ℕ)) → lines bytes ≡ first ∷ later → length bytes ≤ FILE_MAX → table bytes
+    ≡ first_refusal (head_checks_by_pairs first ++ spelling_checks_from (marks_of first) [] (spellings_from 2 1 later)) (alphabet_by_lines first later)
 not_long bytes first later cut few =
     let whole : table bytes ≡ table_of (length bytes) (first ∷ later) = ap (table_of (length bytes)) cut in
     whole ∙ rw (le-ltb FILE_MAX (length bytes) few) (first_of (head_checks first ++ spelling_checks (marks_of first) (spellings_of later)) (alphabet_of first later) ∙ sym (read_as first later))
@@ -73,14 +85,18 @@ first_fails [] after r y h = absurd (cc)
 first_fails (x ∷ xs) after r y h = let same : x ≡ r = cc in ap (λ (z : Refusal). Err z) same
 
 -- a file whose head is refused
-pub read_bad_head : (bytes first : List ℕ) (later : List (List ℕ)) (r : Refusal) → lines bytes ≡ first ∷ later → length bytes ≤ FILE_MAX → first_failure (head_checks_by_pairs first) ≡ Err r → table bytes ≡ Err r
-read_bad_head bytes first later r cut few fails = not_long bytes first later cut few ∙ first_fails (head_checks_by_pairs first) (spelling_checks_from (marks_of first) [] (spellings_from 2 1 later)) r (alphabet_by_lines first later) fails
+pub read_bad_head : (bytes first : List ℕ) (later : List (List ℕ)) (r : Refusal) → lines bytes ≡ first ∷ later → length bytes ≤ FILE_MAX
+    → first_failure (head_checks_by_pairs first) ≡ Err r → table bytes ≡ Err r
+read_bad_head bytes first later r cut few fails = not_long bytes first later cut few
+    ∙ first_fails (head_checks_by_pairs first) (spelling_checks_from (marks_of first) [] (spellings_from 2 1 later)) r (alphabet_by_lines first later) fails
 
 -- the table of a file whose head passes
-head_passed : (bytes first : List ℕ) (later : List (List ℕ)) (head : Head) → lines bytes ≡ first ∷ later → length bytes ≤ FILE_MAX → IsHead first head → table bytes ≡ first_refusal (spelling_checks_from (head_marks head) [] (spellings_from 2 1 later)) (alphabet_by_lines first later)
+head_passed : (bytes first : List ℕ) (later : List (List ℕ)) (head : Head) → lines bytes ≡ first ∷ later → length bytes ≤ FILE_MAX → IsHead first head
+    → table bytes ≡ first_refusal (spelling_checks_from (head_marks head) [] (spellings_from 2 1 later)) (alphabet_by_lines first later)
 head_passed bytes first later head cut few is =
     let passed : head_checks_by_pairs first ≡ [] = ap₂ (λ (a b : List Refusal). a ++ b) is.minima_pass is.marks_pass in
-    not_long bytes first later cut few ∙ ap (λ (rs : List Refusal). first_refusal (rs ++ spelling_checks_from (marks_of first) [] (spellings_from 2 1 later)) (alphabet_by_lines first later)) passed ∙ ap (λ (marks : List ℕ). first_refusal (spelling_checks_from marks [] (spellings_from 2 1 later)) (alphabet_by_lines first later)) (sym is.marks_are)
+    not_long bytes first later cut few ∙ ap (λ (rs : List Refusal). first_refusal (rs ++ spelling_checks_from (marks_of first) [] (spellings_from 2 1 later)) (alphabet_by_lines first later)) passed
+    ∙ ap (λ (marks : List ℕ). first_refusal (spelling_checks_from marks [] (spellings_from 2 1 later)) (alphabet_by_lines first later)) (sym is.marks_are)
 
 -- a refusal of checks, whatever they guard
 fails_other : {Y Z : Type 0} (e : ReadingError) (refusals : List Refusal) (y : Y) (z : Z) → Fails e (first_refusal refusals y) → Fails e (first_refusal refusals z)
@@ -89,18 +105,24 @@ fails_other (Refused r) (x ∷ xs) y z h = let same : x ≡ r = cc in ap (λ (w 
 fails_other Memory refusals y z h = tt
 
 -- a file whose letter lines are refused
-pub read_bad_letters : (bytes first : List ℕ) (later : List (List ℕ)) (head : Head) (e : ReadingError) → lines bytes ≡ first ∷ later → length bytes ≤ FILE_MAX → IsHead first head → Fails e (first_refusal (spelling_checks_from (head_marks head) [] (spellings_from 2 1 later)) (map spelling_with_sign (spellings_from 2 1 later))) → Fails e (table bytes)
+pub read_bad_letters : (bytes first : List ℕ) (later : List (List ℕ)) (head : Head) (e : ReadingError) → lines bytes ≡ first ∷ later → length bytes ≤ FILE_MAX
+    → IsHead first head → Fails e (first_refusal (spelling_checks_from (head_marks head) [] (spellings_from 2 1 later)) (map spelling_with_sign (spellings_from 2 1 later))) → Fails e (table bytes)
 read_bad_letters bytes first later head e cut few is fails =
-    subst (Fails e) (sym (head_passed bytes first later head cut few is)) (fails_other e (spelling_checks_from (head_marks head) [] (spellings_from 2 1 later)) (map spelling_with_sign (spellings_from 2 1 later)) (alphabet_by_lines first later) fails)
+    subst (Fails e) (sym (head_passed bytes first later head cut few is))
+    (fails_other e (spelling_checks_from (head_marks head) [] (spellings_from 2 1 later)) (map spelling_with_sign (spellings_from 2 1 later)) (alphabet_by_lines first later) fails)
 
 -- a file that is accepted
-pub read_whole : (bytes first : List ℕ) (later : List (List ℕ)) (head : Head) (index : Index) → lines bytes ≡ first ∷ later → length bytes ≤ FILE_MAX → IsHead first head → first_refusal (spelling_checks_from (head_marks head) [] (spellings_from 2 1 later)) (map spelling_with_sign (spellings_from 2 1 later)) ≡ Ok (pairs index) → table bytes ≡ Ok (record { left = head.left; right = head.right; marks = head_marks head; spellings = pairs index })
+pub read_whole : (bytes first : List ℕ) (later : List (List ℕ)) (head : Head) (index : Index) → lines bytes ≡ first ∷ later → length bytes ≤ FILE_MAX
+    → IsHead first head → first_refusal (spelling_checks_from (head_marks head) [] (spellings_from 2 1 later)) (map spelling_with_sign (spellings_from 2 1 later))
+    ≡ Ok (pairs index) → table bytes ≡ Ok (record { left = head.left; right = head.right; marks = head_marks head; spellings = pairs index })
 read_whole bytes first later head index cut few is answer =
-    let none : (spelling_checks_from (head_marks head) [] (spellings_from 2 1 later) ≡ []) × (map spelling_with_sign (spellings_from 2 1 later) ≡ pairs index) = first_none (spelling_checks_from (head_marks head) [] (spellings_from 2 1 later)) (map spelling_with_sign (spellings_from 2 1 later)) (pairs index) answer in
+    let none : (spelling_checks_from (head_marks head) [] (spellings_from 2 1 later) ≡ []) × (map spelling_with_sign (spellings_from 2 1 later) ≡ pairs index) =
+    first_none (spelling_checks_from (head_marks head) [] (spellings_from 2 1 later)) (map spelling_with_sign (spellings_from 2 1 later)) (pairs index) answer in
     head_passed bytes first later head cut few is ∙ ap (λ (rs : List Refusal). first_refusal rs (alphabet_by_lines first later)) none.0 ∙ rw (is.left_is, is.right_is, is.marks_are, none.1) refl
 
 -- the table that is read keeps the rules
-pub read_sound : (later : List (List ℕ)) (head : Head) (index : Index) → IsSoundHead head → IsIndex index → first_refusal (spelling_checks_from (head_marks head) [] (spellings_from 2 1 later)) (map spelling_with_sign (spellings_from 2 1 later)) ≡ Ok (pairs index) → IsTable head index
+pub read_sound : (later : List (List ℕ)) (head : Head) (index : Index) → IsSoundHead head → IsIndex index
+    → first_refusal (spelling_checks_from (head_marks head) [] (spellings_from 2 1 later)) (map spelling_with_sign (spellings_from 2 1 later)) ≡ Ok (pairs index) → IsTable head index
 read_sound later head index sound_head sound_index answer = record {
   head_sound = sound_head;
   index_sound = sound_index;

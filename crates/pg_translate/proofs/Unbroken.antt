@@ -101,7 +101,8 @@ mark_begun t rules text x found = false_from_ne_true _ (λ ended. apart (ended_n
         absurd (cc)
 
 -- the same of the answer of a look-up
-pub some_letter_begun : (t : Alphabet) → KeepsRules t → (text : List ℕ) (found : Option (ℕ × ℕ)) → MatchOption found (letter_at t.spellings text ≡ None) (λ l. letter_at t.spellings text ≡ Some (Letter l.0, l.1)) → IfSome found (λ _. is_ended text ≡ false)
+pub some_letter_begun : (t : Alphabet) → KeepsRules t → (text : List ℕ) (found : Option (ℕ × ℕ))
+    → MatchOption found (letter_at t.spellings text ≡ None) (λ l. letter_at t.spellings text ≡ Some (Letter l.0, l.1)) → IfSome found (λ _. is_ended text ≡ false)
 some_letter_begun t rules text None is = tt
 some_letter_begun t rules text (Some l) is = letter_begun t rules text (Letter l.0, l.1) is
 
@@ -114,16 +115,19 @@ pub second_mark : (marks text : List ℕ) → 0 < length text → ¬ (get_or tex
 second_mark marks [] some first second = absurd (omega arith)
 second_mark marks (b ∷ bs) some first second = rw (ne_eqb _ _ first, eq-eqb _ _ second) refl
 
-pub third_mark : (marks text : List ℕ) → 0 < length text → ¬ (get_or text 0 0 ≡ slice_index marks 0) → ¬ (get_or text 0 0 ≡ slice_index marks 1) → get_or text 0 0 ≡ slice_index marks 2 → mark_at marks text ≡ Some (Marked Found, 1)
+pub third_mark : (marks text : List ℕ) → 0 < length text → ¬ (get_or text 0 0 ≡ slice_index marks 0) → ¬ (get_or text 0 0 ≡ slice_index marks 1)
+    → get_or text 0 0 ≡ slice_index marks 2 → mark_at marks text ≡ Some (Marked Found, 1)
 third_mark marks [] some first second third = absurd (omega arith)
 third_mark marks (b ∷ bs) some first second third = rw (ne_eqb _ _ first, ne_eqb _ _ second, eq-eqb _ _ third) refl
 
-pub fourth_mark : (marks text : List ℕ) → 0 < length text → ¬ (get_or text 0 0 ≡ slice_index marks 0) → ¬ (get_or text 0 0 ≡ slice_index marks 1) → ¬ (get_or text 0 0 ≡ slice_index marks 2) → get_or text 0 0 ≡ slice_index marks 3 → mark_at marks text ≡ Some (Marked DontCare, 1)
+pub fourth_mark : (marks text : List ℕ) → 0 < length text → ¬ (get_or text 0 0 ≡ slice_index marks 0) → ¬ (get_or text 0 0 ≡ slice_index marks 1)
+    → ¬ (get_or text 0 0 ≡ slice_index marks 2) → get_or text 0 0 ≡ slice_index marks 3 → mark_at marks text ≡ Some (Marked DontCare, 1)
 fourth_mark marks [] some first second third fourth = absurd (omega arith)
 fourth_mark marks (b ∷ bs) some first second third fourth = rw (ne_eqb _ _ first, ne_eqb _ _ second, ne_eqb _ _ third, eq-eqb _ _ fourth) refl
 
 -- nor do items that are joined
-pub joined_unbroken : (t : Alphabet) → KeepsRules t → (place : Place) (items : List (Token × List ℕ)) → AllByRecursion (λ (item : Token × List ℕ). IsItem t place item.0 item.1) items → list_any is_space (text_of_items items) ≡ false
+pub joined_unbroken : (t : Alphabet) → KeepsRules t → (place : Place) (items : List (Token × List ℕ)) → AllByRecursion (λ (item : Token × List ℕ). IsItem t place item.0 item.1) items
+    → list_any is_space (text_of_items items) ≡ false
 joined_unbroken t rules place [] each = refl
 joined_unbroken t rules place (item ∷ items) each =
     list_any-append is_space item.1 (text_of_items items)

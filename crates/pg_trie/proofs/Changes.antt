@@ -33,18 +33,21 @@ sorted_marks cells records is = sorted-entries as_hopeless (list_of records) cel
 
 module _ {X : Type 0} (pick : ℕ → Option X) where
   -- entries that find alike are the same
-  same_found : (f g : ℕ → List (ℕ × ℕ)) (es fs : List (List ℕ × ℕ)) → T (is_sorted order es) → T (is_sorted order fs) → T (is_sorted dotted_cmp (entries pick f es)) → T (is_sorted dotted_cmp (entries pick g fs))
+  same_found : (f g : ℕ → List (ℕ × ℕ)) (es fs : List (List ℕ × ℕ)) → T (is_sorted order es) → T (is_sorted order fs) → T (is_sorted dotted_cmp (entries pick f es))
+      → T (is_sorted dotted_cmp (entries pick g fs))
       → ((q : List ℕ) (d : ℕ) → found_at pick f d (find order q es) ≡ found_at pick g d (find order q fs)) → entries pick f es ≡ entries pick g fs
   same_found f g es fs a b c d same =
       same_entries dotted_cmp dotted_total dotted_exact (entries pick f es) (entries pick g fs) c d
       (λ k. find-entries pick f es k.0 k.1 a ∙ same k.0 k.1 ∙ sym (find-entries pick g fs k.0 k.1 b))
 
   -- a string's new head whose list has one more
-  put_found : (f : ℕ → List (ℕ × ℕ)) (es : List (List ℕ × ℕ)) (q : List ℕ) (head new e : ℕ) (v : X) → T (is_sorted order es) → T (is_sorted order (put order q new es)) → T (is_sorted dotted_cmp (entries pick f es)) → T (is_sorted dotted_cmp (entries pick f (put order q new es)))
+  put_found : (f : ℕ → List (ℕ × ℕ)) (es : List (List ℕ × ℕ)) (q : List ℕ) (head new e : ℕ) (v : X) → T (is_sorted order es) → T (is_sorted order (put order q new es))
+      → T (is_sorted dotted_cmp (entries pick f es)) → T (is_sorted dotted_cmp (entries pick f (put order q new es)))
       → find order q es ≡ Some head → ((d : ℕ) → found_in pick d (f new) ≡ cond (nat_eq d e) (Some v) (found_in pick d (f head)))
       → entries pick f (put order q new es) ≡ put dotted_cmp (q, e) v (entries pick f es)
   put_found f es q head new e v a b c d at more =
-      same_entries dotted_cmp dotted_total dotted_exact (entries pick f (put order q new es)) (put dotted_cmp (q, e) v (entries pick f es)) d (is_sorted-put dotted_cmp dotted_total (q, e) v (entries pick f es) c)
+      same_entries dotted_cmp dotted_total dotted_exact (entries pick f (put order q new es)) (put dotted_cmp (q, e) v (entries pick f es)) d
+      (is_sorted-put dotted_cmp dotted_total (q, e) v (entries pick f es) c)
       (λ k. find-entries pick f (put order q new es) k.0 k.1 b ∙ by k.0 k.1 ∙ sym (find-put dotted_cmp dotted_total k (q, e) v (entries pick f es)))
     where
       by : (p : List ℕ) (d : ℕ) → found_at pick f d (find order p (put order q new es)) ≡ cond (eq_by_cmp dotted_cmp (p, d) (q, e)) (Some v) (find dotted_cmp (p, d) (entries pick f es))
@@ -62,7 +65,8 @@ module _ {X : Type 0} (pick : ℕ → Option X) where
       ]
 
   -- a string's new head whose list has the same
-  kept_found : (f : ℕ → List (ℕ × ℕ)) (es : List (List ℕ × ℕ)) (q : List ℕ) (head new : ℕ) → T (is_sorted order es) → T (is_sorted order (put order q new es)) → T (is_sorted dotted_cmp (entries pick f es)) → T (is_sorted dotted_cmp (entries pick f (put order q new es)))
+  kept_found : (f : ℕ → List (ℕ × ℕ)) (es : List (List ℕ × ℕ)) (q : List ℕ) (head new : ℕ) → T (is_sorted order es) → T (is_sorted order (put order q new es))
+      → T (is_sorted dotted_cmp (entries pick f es)) → T (is_sorted dotted_cmp (entries pick f (put order q new es)))
       → find order q es ≡ Some head → ((d : ℕ) → found_in pick d (f new) ≡ found_in pick d (f head))
       → entries pick f (put order q new es) ≡ entries pick f es
   kept_found f es q head new a b c d at same =
@@ -83,12 +87,15 @@ same_when : (cells : ValuedFamilies ℕ) (records : List Record) (cells' : Value
     → SameMaps cells records cells' records'
 same_when cells records cells' records' is is' same same_marks = record {
   trie = is';
-  patterns = same_found as_value (list_of records') (list_of records) cells'.values cells.values is'.held.ordered is.held.ordered (sorted_values cells' records' is') (sorted_values cells records is) same;
-  hopeless = same_found as_hopeless (list_of records') (list_of records) cells'.values cells.values is'.held.ordered is.held.ordered (sorted_marks cells' records' is') (sorted_marks cells records is) same_marks;
+  patterns = same_found as_value (list_of records') (list_of records) cells'.values cells.values is'.held.ordered is.held.ordered (sorted_values cells' records' is')
+      (sorted_values cells records is) same;
+  hopeless = same_found as_hopeless (list_of records') (list_of records) cells'.values cells.values is'.held.ordered is.held.ordered (sorted_marks cells' records' is')
+      (sorted_marks cells records is) same_marks;
 }
 
 -- new cells without a list
-pub blanks_stay : (cells cells' : ValuedFamilies ℕ) (records : List Record) (w : List ℕ) → IsTrie cells records → AreValuedFamilies cells' → cells'.signs ≡ cells.signs → length w ≤ PATTERN_SIGNS_MAX → AddsBlanks w 0 cells.values cells'.values → SameMaps cells records cells' records
+pub blanks_stay : (cells cells' : ValuedFamilies ℕ) (records : List Record) (w : List ℕ) → IsTrie cells records → AreValuedFamilies cells' → cells'.signs
+    ≡ cells.signs → length w ≤ PATTERN_SIGNS_MAX → AddsBlanks w 0 cells.values cells'.values → SameMaps cells records cells' records
 blanks_stay cells cells' records w is held signs short adds = same_when cells records cells' records is trie (same as_value) (same as_hopeless)
   where
     blank : (k : ℕ) → IsListHead records (take k w) 0
@@ -116,12 +123,14 @@ blanks_stay cells cells' records w is held signs short adds = same_when cells re
     same : {X : Type 0} (pick : ℕ → Option X) (q : List ℕ) (d : ℕ) → found_at pick (list_of records) d (find order q cells'.values) ≡ found_at pick (list_of records) d (find order q cells.values)
     same pick q d = by (find order q cells.values) (find order q cells'.values) refl refl
       where
-        by : (o n : Option ℕ) → find order q cells.values ≡ o → find order q cells'.values ≡ n → found_at pick (list_of records) d (find order q cells'.values) ≡ found_at pick (list_of records) d (find order q cells.values)
+        by : (o n : Option ℕ) → find order q cells.values ≡ o → find order q cells'.values ≡ n → found_at pick (list_of records) d (find order q cells'.values)
+            ≡ found_at pick (list_of records) d (find order q cells.values)
         by (Some u) n old new = ap (found_at pick (list_of records) d) (adds.keeps q u old ∙ sym old)
         by None None old new = ap (found_at pick (list_of records) d) (new ∙ sym old)
         by None (Some u) old new =
             let b = adds.blanks q u old new in
-            ap (found_at pick (list_of records) d) new ∙ ap (λ h. found_in pick d (list_of records h)) b.0 ∙ ap (found_in pick d) (list_of-zero records) ∙ sym (ap (found_at pick (list_of records) d) old)
+            ap (found_at pick (list_of records) d) new ∙ ap (λ h. found_in pick d (list_of records h)) b.0 ∙ ap (found_in pick d) (list_of-zero records)
+            ∙ sym (ap (found_at pick (list_of records) d) old)
 
 -- further records
 pub records_stay : (cells : ValuedFamilies ℕ) (records records' : List Record) → IsTrie cells records → Grows records records' → SameMaps cells records cells records'
@@ -154,11 +163,15 @@ both_stay a b c r s t x y = record { trie = y.trie; patterns = y.patterns ∙ x.
 -- a string's new head, whose list has x entered
 pub record Enters (cells : ValuedFamilies ℕ) (records : List Record) (q : List ℕ) (x : ℕ × ℕ) (cells' : ValuedFamilies ℕ) : Type 0 where
   pub trie : IsTrie cells' records
-  pub raised : nat_lt x.0 HOPELESS ≡ true → ((maps_of cells' records).patterns ≡ raise (maps_of cells records).patterns (q, x.1) x.0) × ((maps_of cells' records).hopeless ≡ (maps_of cells records).hopeless)
-  pub marked : nat_lt x.0 HOPELESS ≡ false → ((maps_of cells' records).patterns ≡ (maps_of cells records).patterns) × ((maps_of cells' records).hopeless ≡ put dotted_cmp (q, x.1) (tt {0}) (maps_of cells records).hopeless)
+  pub raised : nat_lt x.0 HOPELESS ≡ true → ((maps_of cells' records).patterns ≡ raise (maps_of cells records).patterns (q, x.1) x.0)
+      × ((maps_of cells' records).hopeless ≡ (maps_of cells records).hopeless)
+  pub marked : nat_lt x.0 HOPELESS ≡ false → ((maps_of cells' records).patterns ≡ (maps_of cells records).patterns)
+      × ((maps_of cells' records).hopeless ≡ put dotted_cmp (q, x.1) (tt {0}) (maps_of cells records).hopeless)
 
-pub enters : (cells cells' : ValuedFamilies ℕ) (records : List Record) (q : List ℕ) (head new : ℕ) (x : ℕ × ℕ) → IsTrie cells records → AreValuedFamilies cells' → cells' ≡ record cells { values = put order q new cells.values }
-    → find order q cells.values ≡ Some head → new ≤ length records → list_of records new ≡ list_with x (list_of records head) → 1 ≤ x.0 → x.0 ≤ HOPELESS → x.1 ≤ length q → Enters cells records q x cells'
+pub enters : (cells cells' : ValuedFamilies ℕ) (records : List Record) (q : List ℕ) (head new : ℕ) (x : ℕ × ℕ) → IsTrie cells records → AreValuedFamilies cells'
+    → cells' ≡ record cells { values = put order q new cells.values }
+    → find order q cells.values ≡ Some head → new ≤ length records → list_of records new ≡ list_with x (list_of records head) → 1 ≤ x.0 → x.0 ≤ HOPELESS
+    → x.1 ≤ length q → Enters cells records q x cells'
 enters cells cells' records q head new x is held put_is at inside list low high dot = record { trie = trie; raised = raised; marked = marked }
   where
     values : cells'.values ≡ put order q new cells.values
@@ -199,18 +212,22 @@ enters cells cells' records q head new x is held put_is at inside list low high 
     marks_in_order : T (is_sorted dotted_cmp (entries as_hopeless (list_of records) (put order q new cells.values)))
     marks_in_order = subst (λ es. T (is_sorted dotted_cmp (entries as_hopeless (list_of records) es))) values (sorted_marks cells' records trie)
 
-    raised : nat_lt x.0 HOPELESS ≡ true → ((maps_of cells' records).patterns ≡ raise (maps_of cells records).patterns (q, x.1) x.0) × ((maps_of cells' records).hopeless ≡ (maps_of cells records).hopeless)
+    raised : nat_lt x.0 HOPELESS ≡ true → ((maps_of cells' records).patterns ≡ raise (maps_of cells records).patterns (q, x.1) x.0)
+        × ((maps_of cells' records).hopeless ≡ (maps_of cells records).hopeless)
     raised value = (
       ap (entries as_value (list_of records)) values
-          ∙ put_found as_value (list_of records) cells.values q head new x.1 (max x.0 (value_of (maps_of cells records).patterns (q, x.1))) is.held.ordered ordered (sorted_values cells records is) in_order at
+          ∙ put_found as_value (list_of records) cells.values q head new x.1 (max x.0 (value_of (maps_of cells records).patterns (q, x.1))) is.held.ordered ordered
+          (sorted_values cells records is) in_order at
           (λ d. ap (found_in as_value d) list ∙ value-entered x value d 0 (list_of records head) here.rises
-          ∙ ap (λ o. cond (nat_eq d x.1) (Some (max x.0 (unwrap_or o 0))) (found_in as_value d (list_of records head))) (sym (find-entries as_value (list_of records) cells.values q x.1 is.held.ordered ∙ ap (found_at as_value (list_of records) x.1) at))),
+          ∙ ap (λ o. cond (nat_eq d x.1) (Some (max x.0 (unwrap_or o 0))) (found_in as_value d (list_of records head)))
+          (sym (find-entries as_value (list_of records) cells.values q x.1 is.held.ordered ∙ ap (found_at as_value (list_of records) x.1) at))),
       ap (entries as_hopeless (list_of records)) values
           ∙ kept_found as_hopeless (list_of records) cells.values q head new is.held.ordered ordered (sorted_marks cells records is) marks_in_order at
           (λ d. ap (found_in as_hopeless d) list ∙ marks_stay x value d (list_of records head)),
     )
 
-    marked : nat_lt x.0 HOPELESS ≡ false → ((maps_of cells' records).patterns ≡ (maps_of cells records).patterns) × ((maps_of cells' records).hopeless ≡ put dotted_cmp (q, x.1) (tt {0}) (maps_of cells records).hopeless)
+    marked : nat_lt x.0 HOPELESS ≡ false → ((maps_of cells' records).patterns ≡ (maps_of cells records).patterns)
+        × ((maps_of cells' records).hopeless ≡ put dotted_cmp (q, x.1) (tt {0}) (maps_of cells records).hopeless)
     marked mark = (
       ap (entries as_value (list_of records)) values
           ∙ kept_found as_value (list_of records) cells.values q head new is.held.ordered ordered (sorted_values cells records is) in_order at
@@ -221,7 +238,8 @@ enters cells cells' records q head new x is held put_is at inside list low high 
     )
 
 -- what is seen where the maps stay
-pub same_view : (cells : ValuedFamilies ℕ) (records : List Record) (cells' : ValuedFamilies ℕ) (records' : List Record) (m : Maps) → maps_of cells records ≡ m → SameMaps cells records cells' records' → cells'.signs ≡ cells.signs
+pub same_view : (cells : ValuedFamilies ℕ) (records : List Record) (cells' : ValuedFamilies ℕ) (records' : List Record) (m : Maps) → maps_of cells records
+    ≡ m → SameMaps cells records cells' records' → cells'.signs ≡ cells.signs
     → maps_of cells' records' ≡ record m { families = cells'.families; records = records' }
 same_view cells records cells' records' m seen s signs =
     let signs_are : cells'.signs ≡ m.signs = signs ∙ ap (λ (m : Maps). m.signs) seen in
@@ -230,7 +248,8 @@ same_view cells records cells' records' m seen s signs =
     λ i. record { signs = signs_are i; families = cells'.families; patterns = patterns_are i; hopeless = marks_are i; records = records' }
 
 -- what is seen after a value is entered
-pub raised_view : (old cells cells' : ValuedFamilies ℕ) (start records : List Record) (q : List ℕ) (x : ℕ × ℕ) (m : Maps) → maps_of old start ≡ m → SameMaps old start cells records → Enters cells records q x cells' → nat_lt x.0 HOPELESS ≡ true
+pub raised_view : (old cells cells' : ValuedFamilies ℕ) (start records : List Record) (q : List ℕ) (x : ℕ × ℕ) (m : Maps) → maps_of old start ≡ m
+    → SameMaps old start cells records → Enters cells records q x cells' → nat_lt x.0 HOPELESS ≡ true
     → cells'.signs ≡ old.signs → cells'.families ≡ enter old.signs old.families q
     → maps_of cells' records ≡ record m { patterns = raise m.patterns (q, x.1) x.0; families = enter m.signs m.families q; records = records }
 raised_view old cells cells' start records q x m seen s e value signs families =
@@ -242,7 +261,8 @@ raised_view old cells cells' start records q x m seen s e value signs families =
     λ i. record { signs = signs_are i; families = families_are i; patterns = patterns_are i; hopeless = marks_are i; records = records }
 
 -- what is seen after a mark is entered
-pub marked_view : (old cells cells' : ValuedFamilies ℕ) (start records : List Record) (q : List ℕ) (x : ℕ × ℕ) (m : Maps) → maps_of old start ≡ m → SameMaps old start cells records → Enters cells records q x cells' → nat_lt x.0 HOPELESS ≡ false
+pub marked_view : (old cells cells' : ValuedFamilies ℕ) (start records : List Record) (q : List ℕ) (x : ℕ × ℕ) (m : Maps) → maps_of old start ≡ m
+    → SameMaps old start cells records → Enters cells records q x cells' → nat_lt x.0 HOPELESS ≡ false
     → cells'.signs ≡ old.signs → cells'.families ≡ enter old.signs old.families q
     → maps_of cells' records ≡ record m { hopeless = put dotted_cmp (q, x.1) (tt {0}) m.hopeless; families = enter m.signs m.families q; records = records }
 marked_view old cells cells' start records q x m seen s e mark signs families =
@@ -250,16 +270,24 @@ marked_view old cells cells' start records q x m seen s e mark signs families =
     let signs_are : cells'.signs ≡ m.signs = signs ∙ ap (λ (m : Maps). m.signs) seen in
     let families_are : cells'.families ≡ enter m.signs m.families q = families ∙ ap (λ (m : Maps). enter m.signs m.families q) seen in
     let patterns_are : (maps_of cells' records).patterns ≡ m.patterns = r.0 ∙ s.patterns ∙ ap (λ (m : Maps). m.patterns) seen in
-    let marks_are : (maps_of cells' records).hopeless ≡ put dotted_cmp (q, x.1) (tt {0}) m.hopeless = r.1 ∙ ap (λ H. put dotted_cmp (q, x.1) (tt {0}) H) (s.hopeless ∙ ap (λ (m : Maps). m.hopeless) seen) in
+    let marks_are : (maps_of cells' records).hopeless ≡ put dotted_cmp (q, x.1) (tt {0}) m.hopeless = r.1
+    ∙ ap (λ H. put dotted_cmp (q, x.1) (tt {0}) H) (s.hopeless ∙ ap (λ (m : Maps). m.hopeless) seen) in
     λ i. record { signs = signs_are i; families = families_are i; patterns = patterns_are i; hopeless = marks_are i; records = records }
 
 -- a front of a string that is entered, seen from outside
-pub part_seen : (old new : ValuedFamilies ℕ) (records : List Record) (m : Maps) (q : List ℕ) → maps_of old records ≡ m → (k : ℕ) × (k < length q) × (new.families ≡ enter old.signs old.families (take k q)) → (k : ℕ) × (k ≤ length q) × (new.families ≡ enter m.signs m.families (take k q))
+pub part_seen : (old new : ValuedFamilies ℕ) (records : List Record) (m : Maps) (q : List ℕ) → maps_of old records ≡ m → (k : ℕ) × (k < length q)
+    × (new.families ≡ enter old.signs old.families (take k q)) → (k : ℕ) × (k ≤ length q) × (new.families ≡ enter m.signs m.families (take k q))
 part_seen old new records m q view part = (part.0, less_upto part.0 (length q) part.1, part.2 ∙ ap (λ (x : Maps). enter x.signs x.families (take part.0 q)) view)
   where
     less_upto : (a b : ℕ) → a < b → a ≤ b
     less_upto a b less = omega arith
 
 -- and the whole string
-pub whole_seen : (old new : ValuedFamilies ℕ) (records : List Record) (m : Maps) (q : List ℕ) → maps_of old records ≡ m → new.families ≡ enter old.signs old.families q → (k : ℕ) × (k ≤ length q) × (new.families ≡ enter m.signs m.families (take k q))
-whole_seen old new records m q view whole = (length q, omega arith, whole ∙ ap (λ (x : Maps). enter x.signs x.families q) view ∙ ap (λ x. enter m.signs m.families x) (sym (take_all (length q) q (omega arith))))
+pub whole_seen : (old new : ValuedFamilies ℕ) (records : List Record) (m : Maps) (q : List ℕ) → maps_of old records ≡ m → new.families
+    ≡ enter old.signs old.families q → (k : ℕ) × (k ≤ length q) × (new.families ≡ enter m.signs m.families (take k q))
+whole_seen old new records m q view whole = (
+  length q,
+  omega arith,
+  whole ∙ ap (λ (x : Maps). enter x.signs x.families q) view
+      ∙ ap (λ x. enter m.signs m.families x) (sym (take_all (length q) q (omega arith))),
+)

@@ -66,10 +66,12 @@ pub record HasFresh (cells : ValuedFamilies ℕ) (records : List Record) (cells'
   pub held : AreValuedFamilies cells'
   pub signs : cells'.signs ≡ cells.signs
   pub families : cells'.families ≡ cells.families
-  pub lists : (q : List ℕ) (u : ℕ) → find order q cells.values ≡ Some u → (head : ℕ) × (find order q cells'.values ≡ Some head) × (head ≤ length fresh) × (list_of fresh head ≡ values_in (list_of records u))
+  pub lists : (q : List ℕ) (u : ℕ) → find order q cells.values ≡ Some u → (head : ℕ) × (find order q cells'.values ≡ Some head) × (head ≤ length fresh)
+      × (list_of fresh head ≡ values_in (list_of records u))
   pub back : (q : List ℕ) (head : ℕ) → find order q cells'.values ≡ Some head → (u : ℕ) × (find order q cells.values ≡ Some u)
 
-pub has_fresh : (cells : ValuedFamilies ℕ) (records : List Record) (fresh : List Record) (heads : List ℕ) (cells' : ValuedFamilies ℕ) → AreValuedFamilies cells → AreFresh cells records fresh heads → Renews cells heads cells' → HasFresh cells records cells' fresh
+pub has_fresh : (cells : ValuedFamilies ℕ) (records : List Record) (fresh : List Record) (heads : List ℕ) (cells' : ValuedFamilies ℕ) → AreValuedFamilies cells
+    → AreFresh cells records fresh heads → Renews cells heads cells' → HasFresh cells records cells' fresh
 has_fresh cells records fresh heads cells' held f r = record {
   held = r.held;
   signs = r.signs;
@@ -83,7 +85,8 @@ has_fresh cells records fresh heads cells' held f r = record {
       held.valued q cell.0 (ap (λ fs. cell_of fs q) (sym r.families) ∙ cell.1);
 }
 
-module _ (cells : ValuedFamilies ℕ) (records : List Record) (is : IsTrie cells records) (cells' : ValuedFamilies ℕ) (fresh : List Record) (new : HasFresh cells records cells' fresh) (one_head : OneHeadEach fresh) where
+module _ (cells : ValuedFamilies ℕ) (records : List Record) (is : IsTrie cells records) (cells' : ValuedFamilies ℕ) (fresh : List Record)
+    (new : HasFresh cells records cells' fresh) (one_head : OneHeadEach fresh) where
   -- the strings of the patterns, and whether a string keeps its cell
   abbrev strings_of : List (List ℕ)
   strings_of = map (λ e. e.0.0) (maps_of cells records).patterns
@@ -102,7 +105,8 @@ module _ (cells : ValuedFamilies ℕ) (records : List Record) (is : IsTrie cells
   front_kept : (q : List ℕ) → 1 < length q → keeps q ≡ true → (t : List ℕ) × (u : ℕ) × (find order t cells.values ≡ Some u) × (starts_with nat_eq t q ≡ true) × (has_value (list_of records u) ≡ true)
   front_kept q long kept_is = elim (or_cases (nat_le (length q) 1) (list_any (λ t. starts_with nat_eq t q) strings_of) kept_is) [
     | inl short ↦ absurd (let le : length q ≤ 1 = leb-true (length q) 1 short in omega arith)
-    | inr any ↦ any_find (λ t. starts_with nat_eq t q) (λ h. has_value (list_of records h)) cells.values is.held.ordered (sym (any_entries (λ t. starts_with nat_eq t q) (list_of records) cells.values) ∙ any)
+    | inr any ↦ any_find (λ t. starts_with nat_eq t q) (λ h. has_value (list_of records h)) cells.values is.held.ordered
+        (sym (any_entries (λ t. starts_with nat_eq t q) (list_of records) cells.values) ∙ any)
   ]
 
   single : (q : List ℕ) → length q ≤ 1 → keeps q ≡ true
@@ -128,7 +132,8 @@ module _ (cells : ValuedFamilies ℕ) (records : List Record) (is : IsTrie cells
   goes_on q x kept_is = elim (or_cases (nat_le (length (q ++ x ∷ [])) 1) (list_any (λ t. starts_with nat_eq t (q ++ x ∷ [])) strings_of) kept_is) [
     | inl short ↦ let le : length (q ++ x ∷ []) ≤ 1 = leb-true (length (q ++ x ∷ [])) 1 short in single q (omega (arith, length_push q x))
     | inr any ↦
-        let t = any_find (λ t. starts_with nat_eq t (q ++ x ∷ [])) (λ h. has_value (list_of records h)) cells.values is.held.ordered (sym (any_entries (λ t. starts_with nat_eq t (q ++ x ∷ [])) (list_of records) cells.values) ∙ any) in
+        let t = any_find (λ t. starts_with nat_eq t (q ++ x ∷ [])) (λ h. has_value (list_of records h)) cells.values is.held.ordered
+        (sym (any_entries (λ t. starts_with nat_eq t (q ++ x ∷ [])) (list_of records) cells.values) ∙ any) in
         let whole = begun t.0 q (begun_less t.0 q x t.3) in
         kept_front q (drop (length q) t.0) t.1 (ap (λ p. find order p cells.values) (sym whole) ∙ t.2) t.4
   ]
@@ -145,7 +150,8 @@ module _ (cells : ValuedFamilies ℕ) (records : List Record) (is : IsTrie cells
       none_goes_on t u there value (x ∷ more) e =
           let cell = is.held.celled t u there in
           let whole : t ≡ (q ++ x ∷ []) ++ more = e ∙ sym (append_assoc q (x ∷ []) more) in
-          fronted (cell_of cells.families (q ++ x ∷ [])) refl (ap (cell_of cells.families) (sym whole) ∙ cell.1) (kept_front (q ++ x ∷ []) more u (ap (λ p. find order p cells.values) (sym whole) ∙ there) value)
+          fronted (cell_of cells.families (q ++ x ∷ [])) refl (ap (cell_of cells.families) (sym whole) ∙ cell.1)
+          (kept_front (q ++ x ∷ []) more u (ap (λ p. find order p cells.values) (sym whole) ∙ there) value)
         where
           fronted : (o : Option ℕ) → cell_of cells.families (q ++ x ∷ []) ≡ o → cell_of cells.families ((q ++ x ∷ []) ++ more) ≡ Some (is.held.celled t u there).0 → keeps (q ++ x ∷ []) ≡ true → ⊥
           fronted None nothing long_cell kept_is = none_some (cell_of cells.families ((q ++ x ∷ []) ++ more)) (is.held.celled t u there).0 (is.held.closed q x more nothing) long_cell
@@ -193,7 +199,8 @@ module _ (cells : ValuedFamilies ℕ) (records : List Record) (is : IsTrie cells
     left_values : (q : List ℕ) (d : ℕ) → found_at as_value (list_of fresh) d (find order q left.values) ≡ found_at as_value (list_of records) d (find order q cells.values)
     left_values q d = by (find order q cells.values) refl (keeps q) refl
       where
-        by : (o : Option ℕ) → find order q cells.values ≡ o → (b : Bool) → keeps q ≡ b → found_at as_value (list_of fresh) d (find order q left.values) ≡ found_at as_value (list_of records) d (find order q cells.values)
+        by : (o : Option ℕ) → find order q cells.values ≡ o → (b : Bool) → keeps q ≡ b → found_at as_value (list_of fresh) d (find order q left.values)
+            ≡ found_at as_value (list_of records) d (find order q cells.values)
         by None none b e = ap (found_at as_value (list_of fresh) d) (nothing (find order q left.values) refl) ∙ sym (ap (found_at as_value (list_of records) d) none)
           where
             nothing : (o : Option ℕ) → find order q left.values ≡ o → find order q left.values ≡ None
@@ -203,7 +210,8 @@ module _ (cells : ValuedFamilies ℕ) (records : List Record) (is : IsTrie cells
             let l = new.lists q u some in
             ap (found_at as_value (list_of fresh) d) (p.stays q e ∙ l.1) ∙ ap (found_in as_value d) l.3 ∙ values_found d (list_of records u) ∙ sym (ap (found_at as_value (list_of records) d) some)
         by (Some u) some false e =
-            let value : has_value (list_of records u) ≡ false = elim (cases_Bool (has_value (list_of records u))) [ inl v ↦ absurd (not_both (keeps q) (kept_front q [] u (ap (λ p. find order p cells.values) (append-nil q) ∙ some) v) e) | inr v ↦ v ] in
+            let value : has_value (list_of records u) ≡ false = elim (cases_Bool (has_value (list_of records u)))
+            [ inl v ↦ absurd (not_both (keeps q) (kept_front q [] u (ap (λ p. find order p cells.values) (append-nil q) ∙ some) v) e) | inr v ↦ v ] in
             ap (found_at as_value (list_of fresh) d) (p.gone q e)
             ∙ sym (ap (found_in as_value d) (without_values (list_of records u) value))
             ∙ values_found d (list_of records u)
@@ -245,7 +253,8 @@ pub record IsDeleted (m : Maps) (left : ValuedFamilies ℕ) (fresh : List Record
   pub trie : IsTrie left fresh
   pub view : maps_of left fresh ≡ record m { hopeless = []; families = kept_families (map (λ e. e.0.0) m.patterns) m.families; records = fresh }
 
-pub deleted : (cells : ValuedFamilies ℕ) (records : List Record) (is : IsTrie cells records) (cells' : ValuedFamilies ℕ) (fresh : List Record) (new : HasFresh cells records cells' fresh) (one_head : OneHeadEach fresh) (left : ValuedFamilies ℕ)
+pub deleted : (cells : ValuedFamilies ℕ) (records : List Record) (is : IsTrie cells records) (cells' : ValuedFamilies ℕ) (fresh : List Record)
+    (new : HasFresh cells records cells' fresh) (one_head : OneHeadEach fresh) (left : ValuedFamilies ℕ)
     → ((keep : List ℕ → Bool) → IsKeep keep cells' → Prunes keep cells' left) → (m : Maps) → maps_of cells records ≡ m → IsDeleted m left fresh
 deleted cells records is cells' fresh new one_head left prunes m seen =
     let p = prunes (keeps cells records is cells' fresh new one_head) (is_keep cells records is cells' fresh new one_head) in

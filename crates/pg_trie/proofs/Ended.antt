@@ -18,7 +18,8 @@ pub record IsLevelEnd (m : Maps) (left : ValuedFamilies ℕ) (records : List Rec
   pub tails_are : length records ≡ tails m.patterns
 
 -- the records were seen, the new heads were told to the cells, which are renewed
-module _ (cells : ValuedFamilies ℕ) (records : List Record) (is : IsTrie cells records) (seen : List Record) (same : seen ≡ records) (fresh : List Record) (heads told : List ℕ) (are : AreFresh cells seen fresh heads)
+module _ (cells : ValuedFamilies ℕ) (records : List Record) (is : IsTrie cells records) (seen : List Record) (same : seen ≡ records) (fresh : List Record)
+    (heads told : List ℕ) (are : AreFresh cells seen fresh heads)
     (told_is : told ≡ heads) (renewed : ValuedFamilies ℕ) (renews : Renews cells told renewed) where
   are_fresh : AreFresh cells records fresh heads
   are_fresh = subst (λ r. AreFresh cells r fresh heads) same are
@@ -30,7 +31,8 @@ module _ (cells : ValuedFamilies ℕ) (records : List Record) (is : IsTrie cells
   short q v at = let back = new.back q v at in (is.heads q back.0 back.1).short
 
   -- the cells that are left, and the last records, which are the new ones
-  pub level_end : (left : ValuedFamilies ℕ) → ((keep : List ℕ → Bool) → IsKeep keep renewed → Prunes keep renewed left) → (m : Maps) → maps_of cells records ≡ m → (last : List Record) → last ≡ fresh → IsLevelEnd m left last
+  pub level_end : (left : ValuedFamilies ℕ) → ((keep : List ℕ → Bool) → IsKeep keep renewed → Prunes keep renewed left) → (m : Maps) → maps_of cells records
+      ≡ m → (last : List Record) → last ≡ fresh → IsLevelEnd m left last
   level_end left prunes m view_is last last_is =
       let done : IsDeleted m left fresh = deleted cells records is renewed fresh new are_fresh.1.one_head left prunes m view_is in
       subst (IsLevelEnd m left) (sym last_is) (record {

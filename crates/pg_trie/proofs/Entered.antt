@@ -9,16 +9,25 @@ use Rattle.pg_trie.proofs.Rising.{rank_value, rank_mark, as_value_is, as_mark_is
 
 -- where x stands: before y, beside it, or behind it
 cases_entered : (x y : ℕ × ℕ) (ys : List (ℕ × ℕ))
-    → ((rank x < rank y) × (list_with x (y ∷ ys) ≡ x ∷ y ∷ ys)) ⊎ (((rank x ≡ rank y) × (list_with x (y ∷ ys) ≡ (max x.0 y.0, y.1) ∷ ys)) ⊎ ((rank y < rank x) × (list_with x (y ∷ ys) ≡ y ∷ list_with x ys)))
+    → ((rank x < rank y) × (list_with x (y ∷ ys) ≡ x ∷ y ∷ ys)) ⊎ (((rank x ≡ rank y) × (list_with x (y ∷ ys) ≡ (max x.0 y.0, y.1) ∷ ys))
+    ⊎ ((rank y < rank x) × (list_with x (y ∷ ys) ≡ y ∷ list_with x ys)))
 cases_entered x y ys =
     let later = cond (nat_eq (rank x) (rank y)) ((max x.0 y.0, y.1) ∷ ys) (y ∷ list_with x ys) in
     elim (cases_order (rank x) (rank y)) [
-      | inl e ↦ inr (inl (e, ap (λ b. cond b (x ∷ y ∷ ys) later) (le-ltb (rank x) (rank y) (omega arith)) ∙ ap (λ b. cond b ((max x.0 y.0, y.1) ∷ ys) (y ∷ list_with x ys)) (eq-eqb (rank x) (rank y) e)))
+      | inl e ↦ inr (inl (
+        e,
+        ap (λ b. cond b (x ∷ y ∷ ys) later) (le-ltb (rank x) (rank y) (omega arith))
+            ∙ ap (λ b. cond b ((max x.0 y.0, y.1) ∷ ys) (y ∷ list_with x ys)) (eq-eqb (rank x) (rank y) e),
+      ))
       | inr o ↦ elim o [
         | inl lt ↦ inl (lt, ap (λ b. cond b (x ∷ y ∷ ys) later) (lt-ltb (rank x) (rank y) lt))
         | inr gt ↦
             let other : rank x ≢ rank y = λ z. omega arith in
-            inr (inr (gt, ap (λ b. cond b (x ∷ y ∷ ys) later) (le-ltb (rank x) (rank y) (omega arith)) ∙ ap (λ b. cond b ((max x.0 y.0, y.1) ∷ ys) (y ∷ list_with x ys)) (ne_eqb (rank x) (rank y) other)))
+            inr (inr (
+              gt,
+              ap (λ b. cond b (x ∷ y ∷ ys) later) (le-ltb (rank x) (rank y) (omega arith))
+                  ∙ ap (λ b. cond b ((max x.0 y.0, y.1) ∷ ys) (y ∷ list_with x ys)) (ne_eqb (rank x) (rank y) other),
+            ))
       ]
     ]
 
@@ -136,7 +145,8 @@ value-entered x is d r (y ∷ ys) h = elim (cases_entered x y ys) [
               ap (found_in as_value d) c.1
               ∙ value_first d y (list_with x ys) e
               ∙ ap (cond (nat_eq d y.1) (Some y.0)) more
-              ∙ swapped (nat_eq d y.1) (nat_eq d x.1) (Some y.0) (Some (max x.0 (unwrap_or (found_in as_value x.1 ys) 0))) (found_in as_value d ys) (λ p q. other (sym (eqb-true d x.1 q) ∙ eqb-true d y.1 p))
+              ∙ swapped (nat_eq d y.1) (nat_eq d x.1) (Some y.0) (Some (max x.0 (unwrap_or (found_in as_value x.1 ys) 0))) (found_in as_value d ys)
+              (λ p q. other (sym (eqb-true d x.1 q) ∙ eqb-true d y.1 p))
               ∙ ap (cond (nat_eq d x.1) (Some (max x.0 (unwrap_or (found_in as_value x.1 ys) 0)))) (sym (value_first d y ys e))
               ∙ ap (λ o. cond (nat_eq d x.1) (Some (max x.0 (unwrap_or o 0))) (found_in as_value d (y ∷ ys))) (sym past)
           | inr e ↦

@@ -44,7 +44,8 @@ module _ {X : Type 0} (pick : ℕ → Option X) where
   found_at f d None = None
   found_at f d (Some head) = found_in d (f head)
 
-  find_in_string : (q : List ℕ) (d : ℕ) (xs : List (ℕ × ℕ)) (rest : List ((List ℕ × ℕ) × X)) → find dotted_cmp (q, d) (entries_of pick q xs ++ rest) ≡ or_else (found_in d xs) (find dotted_cmp (q, d) rest)
+  find_in_string : (q : List ℕ) (d : ℕ) (xs : List (ℕ × ℕ)) (rest : List ((List ℕ × ℕ) × X)) → find dotted_cmp (q, d) (entries_of pick q xs ++ rest)
+      ≡ or_else (found_in d xs) (find dotted_cmp (q, d) rest)
   find_in_string q d [] rest = refl
   find_in_string q d (x ∷ xs) rest =
       let more = find_in_string q d xs rest in
@@ -52,7 +53,8 @@ module _ {X : Type 0} (pick : ℕ → Option X) where
         | None ↦ more
         | Some v ↦
             ap (λ b. cond b (Some v) (find dotted_cmp (q, d) (entries_of pick q xs ++ rest))) (same_by_dots q d x.1)
-            ∙ elim (nat_eq d x.1) as (λ b. cond b (Some v) (find dotted_cmp (q, d) (entries_of pick q xs ++ rest)) ≡ or_else (cond b (Some v) (found_in d xs)) (find dotted_cmp (q, d) rest)) [ true ↦ refl | false ↦ more ]
+            ∙ elim (nat_eq d x.1) as (λ b. cond b (Some v) (find dotted_cmp (q, d) (entries_of pick q xs ++ rest))
+            ≡ or_else (cond b (Some v) (found_in d xs)) (find dotted_cmp (q, d) rest)) [ true ↦ refl | false ↦ more ]
       ]
 
   find_past_string : (q p : List ℕ) (d : ℕ) (xs : List (ℕ × ℕ)) (rest : List ((List ℕ × ℕ) × X)) → q ≢ p → find dotted_cmp (q, d) (entries_of pick p xs ++ rest) ≡ find dotted_cmp (q, d) rest
@@ -98,40 +100,48 @@ module _ {X : Type 0} (pick : ℕ → Option X) where
       subst (λ r. T (is_lt (ordering_then r (nat_cmp d e)))) (sym (tied_itself nat_list_cmp_total q))
       (subst (λ b. T (is_lt (cond b Less (cond (nat_eq d e) Equal Greater)))) (sym (lt-ltb d e (omega arith))) tt)
 
-  below_string : (q : List ℕ) (d r : ℕ) (xs : List (ℕ × ℕ)) (rest : List ((List ℕ × ℕ) × X)) → d + 1 ≤ r → PicksRise xs r → T (below_all dotted_cmp (q, d) rest) → T (below_all dotted_cmp (q, d) (entries_of pick q xs ++ rest))
+  below_string : (q : List ℕ) (d r : ℕ) (xs : List (ℕ × ℕ)) (rest : List ((List ℕ × ℕ) × X)) → d + 1 ≤ r → PicksRise xs r → T (below_all dotted_cmp (q, d) rest)
+      → T (below_all dotted_cmp (q, d) (entries_of pick q xs ++ rest))
   below_string q d r [] rest le rise below = below
   below_string q d r (x ∷ xs) rest le rise below =
       elim (pick x.0) as (λ o. picks_rise o r x.1 (PicksRise xs) → T (below_all dotted_cmp (q, d) (with_entry pick (q, x.1) o (entries_of pick q xs) ++ rest))) [
         | None ↦ λ h. below_string q d r xs rest le h below
-        | Some v ↦ λ h. both_halves (is_lt (dotted_cmp (q, d) (q, x.1))) (below_all dotted_cmp (q, d) (entries_of pick q xs ++ rest)) (below_dots q d x.1 (omega (arith, h.0))) (below_string q d (x.1 + 1) xs rest (omega (arith, h.0)) h.1 below)
+        | Some v ↦ λ h. both_halves (is_lt (dotted_cmp (q, d) (q, x.1))) (below_all dotted_cmp (q, d) (entries_of pick q xs ++ rest))
+            (below_dots q d x.1 (omega (arith, h.0))) (below_string q d (x.1 + 1) xs rest (omega (arith, h.0)) h.1 below)
       ] rise
 
-  sorted_string : (q : List ℕ) (r : ℕ) (xs : List (ℕ × ℕ)) (rest : List ((List ℕ × ℕ) × X)) → PicksRise xs r → T (is_sorted dotted_cmp rest) → ((d : ℕ) → T (below_all dotted_cmp (q, d) rest)) → T (is_sorted dotted_cmp (entries_of pick q xs ++ rest))
+  sorted_string : (q : List ℕ) (r : ℕ) (xs : List (ℕ × ℕ)) (rest : List ((List ℕ × ℕ) × X)) → PicksRise xs r → T (is_sorted dotted_cmp rest)
+      → ((d : ℕ) → T (below_all dotted_cmp (q, d) rest)) → T (is_sorted dotted_cmp (entries_of pick q xs ++ rest))
   sorted_string q r [] rest rise sorted below = sorted
   sorted_string q r (x ∷ xs) rest rise sorted below =
       elim (pick x.0) as (λ o. picks_rise o r x.1 (PicksRise xs) → T (is_sorted dotted_cmp (with_entry pick (q, x.1) o (entries_of pick q xs) ++ rest))) [
         | None ↦ λ h. sorted_string q r xs rest h sorted below
-        | Some v ↦ λ h. both_halves (below_all dotted_cmp (q, x.1) (entries_of pick q xs ++ rest)) (is_sorted dotted_cmp (entries_of pick q xs ++ rest)) (below_string q x.1 (x.1 + 1) xs rest (omega arith) h.1 (below x.1)) (sorted_string q (x.1 + 1) xs rest h.1 sorted below)
+        | Some v ↦ λ h. both_halves (below_all dotted_cmp (q, x.1) (entries_of pick q xs ++ rest)) (is_sorted dotted_cmp (entries_of pick q xs ++ rest))
+            (below_string q x.1 (x.1 + 1) xs rest (omega arith) h.1 (below x.1)) (sorted_string q (x.1 + 1) xs rest h.1 sorted below)
       ] rise
 
   -- the places of a string are before those of a greater one
-  before_string : (p q : List ℕ) (d : ℕ) (xs : List (ℕ × ℕ)) (rest : List ((List ℕ × ℕ) × X)) → T (is_lt (order p q)) → T (below_all dotted_cmp (p, d) rest) → T (below_all dotted_cmp (p, d) (entries_of pick q xs ++ rest))
+  before_string : (p q : List ℕ) (d : ℕ) (xs : List (ℕ × ℕ)) (rest : List ((List ℕ × ℕ) × X)) → T (is_lt (order p q)) → T (below_all dotted_cmp (p, d) rest)
+      → T (below_all dotted_cmp (p, d) (entries_of pick q xs ++ rest))
   before_string p q d [] rest lt below = below
   before_string p q d (x ∷ xs) rest lt below =
       let more = before_string p q d xs rest lt below in
       elim (pick x.0) as (λ o. T (below_all dotted_cmp (p, d) (with_entry pick (q, x.1) o (entries_of pick q xs) ++ rest))) [
         | None ↦ more
-        | Some v ↦ both_halves (is_lt (dotted_cmp (p, d) (q, x.1))) (below_all dotted_cmp (p, d) (entries_of pick q xs ++ rest)) (subst (λ r. T (is_lt (ordering_then r (nat_cmp d x.1)))) (sym (less_is (order p q) (is_true (is_lt (order p q)) lt))) tt) more
+        | Some v ↦ both_halves (is_lt (dotted_cmp (p, d) (q, x.1))) (below_all dotted_cmp (p, d) (entries_of pick q xs ++ rest))
+            (subst (λ r. T (is_lt (ordering_then r (nat_cmp d x.1)))) (sym (less_is (order p q) (is_true (is_lt (order p q)) lt))) tt) more
       ]
 
   below_entries : (f : ℕ → List (ℕ × ℕ)) (p : List ℕ) (d : ℕ) (es : List (List ℕ × ℕ)) → T (below_all order p es) → T (below_all dotted_cmp (p, d) (entries pick f es))
   unfolding entries
   below_entries f p d [] below = tt
   below_entries f p d (e ∷ es) below =
-      before_string p e.0 d (f e.1) (entries pick f es) (first_half (is_lt (order p e.0)) (below_all order p es) below) (below_entries f p d es (second_half (is_lt (order p e.0)) (below_all order p es) below))
+      before_string p e.0 d (f e.1) (entries pick f es) (first_half (is_lt (order p e.0)) (below_all order p es) below)
+      (below_entries f p d es (second_half (is_lt (order p e.0)) (below_all order p es) below))
 
   -- the entries stand in order where the strings do and the dots of each list rise
-  pub sorted-entries : (f : ℕ → List (ℕ × ℕ)) (es : List (List ℕ × ℕ)) → T (is_sorted order es) → ((q : List ℕ) (head : ℕ) → find order q es ≡ Some head → PicksRise (f head) 0) → T (is_sorted dotted_cmp (entries pick f es))
+  pub sorted-entries : (f : ℕ → List (ℕ × ℕ)) (es : List (List ℕ × ℕ)) → T (is_sorted order es) → ((q : List ℕ) (head : ℕ) → find order q es ≡ Some head → PicksRise (f head) 0)
+      → T (is_sorted dotted_cmp (entries pick f es))
   unfolding entries
   sorted-entries f [] sorted rise = tt
   sorted-entries f (e ∷ es) sorted rise =

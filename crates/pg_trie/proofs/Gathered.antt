@@ -69,7 +69,8 @@ best_elsewhere p q d (x ∷ xs) n =
     ]
 
 -- the value of a place by its string's list
-value_is : (cells : ValuedFamilies ℕ) (records : List Record) → IsTrie cells records → (q : List ℕ) (d : ℕ) → value_of (maps_of cells records).patterns (q, d) ≡ unwrap_or (found_at as_value (list_of records) d (find order q cells.values)) 0
+value_is : (cells : ValuedFamilies ℕ) (records : List Record) → IsTrie cells records → (q : List ℕ) (d : ℕ) → value_of (maps_of cells records).patterns (q, d)
+    ≡ unwrap_or (found_at as_value (list_of records) d (find order q cells.values)) 0
 value_is cells records is q d = ap (λ o. unwrap_or o 0) (find-entries as_value (list_of records) cells.values q d is.held.ordered)
 
 -- the entries of the strings below the number i are gathered
@@ -84,13 +85,15 @@ gathers_none P strings = record { sound = refl; under = λ k. omega arith; reach
 pub gathers_more : (cells : ValuedFamilies ℕ) (records : List Record) → IsTrie cells records → (strings : List (List ℕ × ℕ)) (i : ℕ) (es new : List ((List ℕ × ℕ) × ℕ)) (k : List ℕ × ℕ) (head : ℕ)
     → slice_get strings i ≡ Some k → find order k.0 cells.values ≡ Some head → new ≡ es ++ entries_of as_value k.0 (list_of records head)
     → Gathers (maps_of cells records).patterns strings i es → Gathers (maps_of cells records).patterns strings (i + 1) new
-gathers_more cells records is strings i es new k head at value more g = subst (λ l. Gathers (maps_of cells records).patterns strings (i + 1) l) (sym more) (record { sound = sound; under = λ j. under j.0 j.1; reached = reached })
+gathers_more cells records is strings i es new k head at value more g = subst (λ l. Gathers (maps_of cells records).patterns strings (i + 1) l) (sym more)
+    (record { sound = sound; under = λ j. under j.0 j.1; reached = reached })
   where
     here : IsListHead records k.0 head
     here = is.heads k.0 head value
 
     sound : list_all is_entry (es ++ entries_of as_value k.0 (list_of records head)) ≡ true
-    sound = list_all-append is_entry es (entries_of as_value k.0 (list_of records head)) ∙ and_from (list_all is_entry es) (list_all is_entry (entries_of as_value k.0 (list_of records head))) g.sound (string_entries cells records is k.0 head value)
+    sound = list_all-append is_entry es (entries_of as_value k.0 (list_of records head))
+        ∙ and_from (list_all is_entry es) (list_all is_entry (entries_of as_value k.0 (list_of records head))) g.sound (string_entries cells records is k.0 head value)
 
     is_here : (d : ℕ) → greatest_value (same_dotted (k.0, d)) (entries_of as_value k.0 (list_of records head)) ≡ value_of (maps_of cells records).patterns (k.0, d)
     is_here d = best_here k.0 d 0 (list_of records head) here.rises ∙ sym (value_is cells records is k.0 d ∙ ap (λ o. unwrap_or (found_at as_value (list_of records) d o) 0) value)
@@ -109,7 +112,8 @@ gathers_more cells records is strings i es new k head at value more g = subst (�
               omega arith
         ]
 
-    reached : (j : ℕ) (y : List ℕ × ℕ) → j < i + 1 → slice_get strings j ≡ Some y → (d : ℕ) → value_of (maps_of cells records).patterns (y.0, d) ≤ greatest_value (same_dotted (y.0, d)) (es ++ entries_of as_value k.0 (list_of records head))
+    reached : (j : ℕ) (y : List ℕ × ℕ) → j < i + 1 → slice_get strings j ≡ Some y → (d : ℕ)
+        → value_of (maps_of cells records).patterns (y.0, d) ≤ greatest_value (same_dotted (y.0, d)) (es ++ entries_of as_value k.0 (list_of records head))
     reached j y lt there d =
         let whole = best-append (same_dotted (y.0, d)) es (entries_of as_value k.0 (list_of records head)) in
         elim (cases_lt j i) [
@@ -119,14 +123,17 @@ gathers_more cells records is strings i es new k head at value more g = subst (�
               let both : Some y ≡ Some k = sym there ∙ ap (slice_get strings) e ∙ at in
               let y_is : y ≡ k = cc in
               let same : value_of (maps_of cells records).patterns (y.0, d) ≡ greatest_value (same_dotted (y.0, d)) (entries_of as_value k.0 (list_of records head)) =
-              ap (λ (x : List ℕ × ℕ). value_of (maps_of cells records).patterns (x.0, d)) y_is ∙ sym (is_here d) ∙ ap (λ (x : List ℕ × ℕ). greatest_value (same_dotted (x.0, d)) (entries_of as_value k.0 (list_of records head))) (sym y_is) in
+              ap (λ (x : List ℕ × ℕ). value_of (maps_of cells records).patterns (x.0, d)) y_is ∙ sym (is_here d)
+              ∙ ap (λ (x : List ℕ × ℕ). greatest_value (same_dotted (x.0, d)) (entries_of as_value k.0 (list_of records head))) (sym y_is) in
               omega arith
         ]
 
 -- the entries of all strings, joined, are the values
-pub gathered : (cells : ValuedFamilies ℕ) (records : List Record) → IsTrie cells records → (strings : List (List ℕ × ℕ)) → AreStrings cells strings → (es : List ((List ℕ × ℕ) × ℕ)) → Gathers (maps_of cells records).patterns strings (length strings) es → map_of_entries es ≡ (maps_of cells records).patterns
+pub gathered : (cells : ValuedFamilies ℕ) (records : List Record) → IsTrie cells records → (strings : List (List ℕ × ℕ)) → AreStrings cells strings
+    → (es : List ((List ℕ × ℕ) × ℕ)) → Gathers (maps_of cells records).patterns strings (length strings) es → map_of_entries es ≡ (maps_of cells records).patterns
 gathered cells records is strings listed es g =
-    same_maps (map_of_entries es) (maps_of cells records).patterns (joined_keeps es g.sound) (are_kept cells records is).patterns (λ k. value_of_joined es k ∙ same k.0 k.1 (find order k.0 cells.values) refl)
+    same_maps (map_of_entries es) (maps_of cells records).patterns (joined_keeps es g.sound) (are_kept cells records is).patterns
+    (λ k. value_of_joined es k ∙ same k.0 k.1 (find order k.0 cells.values) refl)
   where
     same : (q : List ℕ) (d : ℕ) (o : Option ℕ) → find order q cells.values ≡ o → greatest_value (same_dotted (q, d)) es ≡ value_of (maps_of cells records).patterns (q, d)
     same q d None none =

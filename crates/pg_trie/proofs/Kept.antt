@@ -27,7 +27,8 @@ use Rattle.pg_trie.proofs.Changes.{sorted_values, sorted_marks}
 
 module _ {X : Type 0} (pick : ℕ → Option X) (P : (List ℕ × ℕ) × X → Type 0) where
   -- what holds of the entries of each string holds of all
-  all-entries : (f : ℕ → List (ℕ × ℕ)) (es : List (List ℕ × ℕ)) → T (is_sorted order es) → ((q : List ℕ) (head : ℕ) → find order q es ≡ Some head → All P (entries_of pick q (f head))) → All P (entries pick f es)
+  all-entries : (f : ℕ → List (ℕ × ℕ)) (es : List (List ℕ × ℕ)) → T (is_sorted order es) → ((q : List ℕ) (head : ℕ) → find order q es ≡ Some head → All P (entries_of pick q (f head)))
+      → All P (entries pick f es)
   unfolding entries
   all-entries f [] sorted each = All-nil P
   all-entries f (e ∷ es) sorted each =
@@ -56,7 +57,8 @@ signs_behind h held p (x ∷ more) cell at =
     let there : cell_of h.families ((p ++ x ∷ []) ++ more) ≡ Some cell = ap (cell_of h.families) whole ∙ at in
     by (cell_of h.families (p ++ x ∷ [])) refl there (signs_behind h held (p ++ x ∷ []) more cell there)
   where
-    by : (o : Option ℕ) → cell_of h.families (p ++ x ∷ []) ≡ o → cell_of h.families ((p ++ x ∷ []) ++ more) ≡ Some cell → list_all (is_known h.signs) more ≡ true → list_all (is_known h.signs) (x ∷ more) ≡ true
+    by : (o : Option ℕ) → cell_of h.families (p ++ x ∷ []) ≡ o → cell_of h.families ((p ++ x ∷ []) ++ more) ≡ Some cell → list_all (is_known h.signs) more
+        ≡ true → list_all (is_known h.signs) (x ∷ more) ≡ true
     by None none there rest = absurd (let no : None ≡ Some cell = sym (held.closed p x more none) ∙ there in cc)
     by (Some c) some there rest =
         let known = held.signs p x c some in
@@ -72,11 +74,13 @@ string_some h (x ∷ q) cell at = omega arith
 
 signs_low : (n : ℕ) (q : List ℕ) → list_all (is_known n) q ≡ true → list_all is_sign q ≡ true
 signs_low n [] h = refl
-signs_low n (x ∷ q) h = and_from (nat_le 1 x) (list_all is_sign q) (and_first (nat_le 1 x) (nat_le x n) (and_first (is_known n x) (list_all (is_known n) q) h)) (signs_low n q (and_second (is_known n x) (list_all (is_known n) q) h))
+signs_low n (x ∷ q) h = and_from (nat_le 1 x) (list_all is_sign q) (and_first (nat_le 1 x) (nat_le x n) (and_first (is_known n x) (list_all (is_known n) q) h))
+    (signs_low n q (and_second (is_known n x) (list_all (is_known n) q) h))
 
 signs_high : (n : ℕ) (q : List ℕ) → list_all (is_known n) q ≡ true → All (λ s. s ≤ n) q
 signs_high n [] h = All-nil (λ s. s ≤ n)
-signs_high n (x ∷ q) h = All-cons (λ s. s ≤ n) x q (leb-true x n (and_second (nat_le 1 x) (nat_le x n) (and_first (is_known n x) (list_all (is_known n) q) h))) (signs_high n q (and_second (is_known n x) (list_all (is_known n) q) h))
+signs_high n (x ∷ q) h = All-cons (λ s. s ≤ n) x q (leb-true x n (and_second (nat_le 1 x) (nat_le x n) (and_first (is_known n x) (list_all (is_known n) q) h)))
+    (signs_high n q (and_second (is_known n x) (list_all (is_known n) q) h))
 
 -- the string of a list has so many signs
 record IsString (n : ℕ) (q : List ℕ) : Type 0 where
@@ -130,7 +134,8 @@ are_kept cells records is = record {
         (all-entries as_value (λ e. is_entry e ≡ true) (list_of records) cells.values is.held.ordered
         (λ q head at. let h = is.heads q head at in values_entries cells.signs q (string q head at) 0 (list_of records head) h.rises h.dots));
   };
-  known = all-entries as_value (λ e. All (λ s. s ≤ cells.signs) e.0.0) (list_of records) cells.values is.held.ordered (λ q head at. values_known cells.signs q (string q head at) (list_of records head));
+  known = all-entries as_value (λ e. All (λ s. s ≤ cells.signs) e.0.0) (list_of records) cells.values is.held.ordered
+      (λ q head at. values_known cells.signs q (string q head at) (list_of records head));
   sorted = sorted_marks cells records is;
   places = all_tests (λ e. is_dotted cells.signs e.0) (maps_of cells records).hopeless
       (all-entries as_hopeless (λ e. is_dotted cells.signs e.0 ≡ true) (list_of records) cells.values is.held.ordered
@@ -143,7 +148,8 @@ are_kept cells records is = record {
         record { some = string_some cells q cell.0 cell.1; few = (is.heads q head at).short; signs = string_signs cells is.held q cell.0 cell.1 }
 
 -- the values of a string are entries of patterns
-pub string_entries : (cells : ValuedFamilies ℕ) (records : List Record) → IsTrie cells records → (q : List ℕ) (head : ℕ) → find order q cells.values ≡ Some head → list_all is_entry (entries_of as_value q (list_of records head)) ≡ true
+pub string_entries : (cells : ValuedFamilies ℕ) (records : List Record) → IsTrie cells records → (q : List ℕ) (head : ℕ) → find order q cells.values
+    ≡ Some head → list_all is_entry (entries_of as_value q (list_of records head)) ≡ true
 string_entries cells records is q head at =
     let h = is.heads q head at in
     let cell = is.held.celled q head at in

@@ -46,7 +46,8 @@ find_one_other q p base (x ∷ xs) rest n = elim (equal_or_not q p) [ inl h ↦ 
 
 below_one : (q p : List ℕ) (base : ℕ) (l : List ℕ) (rest : Families) → T (is_lt (order q p)) → T (below_all order q rest) → T (below_all order q (with_one p base l rest))
 below_one q p base [] rest lt below = below
-below_one q p base (x ∷ xs) rest lt below = holds (is_lt (order q p) && below_all order q rest) (and_from (is_lt (order q p)) (below_all order q rest) (is_true (is_lt (order q p)) lt) (is_true (below_all order q rest) below))
+below_one q p base (x ∷ xs) rest lt below = holds (is_lt (order q p) && below_all order q rest)
+    (and_from (is_lt (order q p)) (below_all order q rest) (is_true (is_lt (order q p)) lt) (is_true (below_all order q rest) below))
 
 below_kept : (keep : List ℕ → Bool) (q : List ℕ) (fs : Families) → T (below_all order q fs) → T (below_all order q (kept_by keep fs))
 below_kept keep q [] below = tt
@@ -57,7 +58,8 @@ below_kept keep q (e ∷ es) below =
 
 sorted_one : (p : List ℕ) (base : ℕ) (l : List ℕ) (rest : Families) → T (below_all order p rest) → T (is_sorted order rest) → T (is_sorted order (with_one p base l rest))
 sorted_one p base [] rest below sorted = sorted
-sorted_one p base (x ∷ xs) rest below sorted = holds (below_all order p rest && is_sorted order rest) (and_from (below_all order p rest) (is_sorted order rest) (is_true (below_all order p rest) below) (is_true (is_sorted order rest) sorted))
+sorted_one p base (x ∷ xs) rest below sorted = holds (below_all order p rest && is_sorted order rest)
+    (and_from (below_all order p rest) (is_sorted order rest) (is_true (below_all order p rest) below) (is_true (is_sorted order rest) sorted))
 
 pub sorted_kept : (keep : List ℕ → Bool) (fs : Families) → T (is_sorted order fs) → T (is_sorted order (kept_by keep fs))
 sorted_kept keep [] sorted = tt
@@ -182,11 +184,17 @@ left_at : (fs : Families) (p : List ℕ) (s : ℕ) → family_at (without_sign f
 unfolding without_sign
 left_at fs p s = by (family_at fs p) refl
   where
-    by : (o : Option Family) → family_at fs p ≡ o → family_at (elim o as (λ _. Families) [ None ↦ fs | Some f ↦ elim (filter (λ x. not (nat_eq s x)) f.signs) [ [] ↦ without_family fs p | x ∷ xs ↦ put order p (record { base = f.base; signs = x ∷ xs }) fs ] ]) p ≡ left_of s o
+    by : (o : Option Family) → family_at fs p ≡ o
+        → family_at (elim o as (λ _. Families) [
+          | None ↦ fs
+          | Some f ↦ elim
+              (filter (λ x. not (nat_eq s x)) f.signs) [ [] ↦ without_family fs p | x ∷ xs ↦ put order p (record { base = f.base; signs = x ∷ xs }) fs ]
+        ]) p ≡ left_of s o
     by None at = at
     by (Some f) at = signs f (filter (λ x. not (nat_eq s x)) f.signs)
       where
-        signs : (f : Family) (l : List ℕ) → family_at (elim l as (λ _. Families) [ [] ↦ without_family fs p | x ∷ xs ↦ put order p (record { base = f.base; signs = x ∷ xs }) fs ]) p ≡ with_signs f.base l
+        signs : (f : Family) (l : List ℕ) → family_at (elim l as (λ _. Families) [ [] ↦ without_family fs p | x ∷ xs ↦ put order p (record { base = f.base; signs = x ∷ xs }) fs ]) p
+            ≡ with_signs f.base l
         signs f [] = find_without_same p fs
         signs f (x ∷ xs) = find_put_same p (record { base = f.base; signs = x ∷ xs }) fs
 
@@ -194,7 +202,12 @@ left_other : (fs : Families) (p q : List ℕ) (s : ℕ) → q ≢ p → family_a
 unfolding without_sign
 left_other fs p q s n = by (family_at fs p)
   where
-    by : (o : Option Family) → family_at (elim o as (λ _. Families) [ None ↦ fs | Some f ↦ elim (filter (λ x. not (nat_eq s x)) f.signs) [ [] ↦ without_family fs p | x ∷ xs ↦ put order p (record { base = f.base; signs = x ∷ xs }) fs ] ]) q ≡ family_at fs q
+    by : (o : Option Family)
+        → family_at (elim o as (λ _. Families) [
+          | None ↦ fs
+          | Some f ↦ elim
+              (filter (λ x. not (nat_eq s x)) f.signs) [ [] ↦ without_family fs p | x ∷ xs ↦ put order p (record { base = f.base; signs = x ∷ xs }) fs ]
+        ]) q ≡ family_at fs q
     by None = refl
     by (Some f) = signs f (filter (λ x. not (nat_eq s x)) f.signs)
       where
@@ -203,7 +216,8 @@ left_other fs p q s n = by (family_at fs p)
         signs f (x ∷ xs) = find_put_other q p (record { base = f.base; signs = x ∷ xs }) fs n
 
 -- a string taken away from what is kept
-pub kept_less : (t u : List ℕ → Bool) (fs : Families) (p : List ℕ) (s : ℕ) → T (is_sorted order fs) → T (is_sorted order (without_sign (kept_by t fs) p s)) → ((q : List ℕ) → q ≢ p ++ s ∷ [] → u q ≡ t q) → u (p ++ s ∷ []) ≡ false → without_sign (kept_by t fs) p s ≡ kept_by u fs
+pub kept_less : (t u : List ℕ → Bool) (fs : Families) (p : List ℕ) (s : ℕ) → T (is_sorted order fs) → T (is_sorted order (without_sign (kept_by t fs) p s))
+    → ((q : List ℕ) → q ≢ p ++ s ∷ [] → u q ≡ t q) → u (p ++ s ∷ []) ≡ false → without_sign (kept_by t fs) p s ≡ kept_by u fs
 kept_less t u fs p s sorted in_order same none =
     same_maps (without_sign (kept_by t fs) p s) (kept_by u fs) in_order (sorted_kept u fs sorted) (λ q. at q ∙ sym (kept_at u fs q sorted))
   where

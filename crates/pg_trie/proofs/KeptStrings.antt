@@ -94,7 +94,8 @@ any_entries test f (e ∷ es) =
     ∙ ap (λ b. (test e.0 && has_value (f e.1)) || b) (any_entries test f es)
 
 -- what passes both tests is found, and what is found and passes them is there
-pub any_find : (test : List ℕ → Bool) (g : ℕ → Bool) (es : List (List ℕ × ℕ)) → T (is_sorted order es) → list_any (λ e. test e.0 && g e.1) es ≡ true → (q : List ℕ) × (v : ℕ) × (find order q es ≡ Some v) × (test q ≡ true) × (g v ≡ true)
+pub any_find : (test : List ℕ → Bool) (g : ℕ → Bool) (es : List (List ℕ × ℕ)) → T (is_sorted order es) → list_any (λ e. test e.0 && g e.1) es ≡ true
+    → (q : List ℕ) × (v : ℕ) × (find order q es ≡ Some v) × (test q ≡ true) × (g v ≡ true)
 any_find test g [] sorted e = absurd (let n : false ≡ true = e in cc)
 any_find test g (x ∷ xs) sorted e = elim (or_cases (test x.0 && g x.1) (list_any (λ e. test e.0 && g e.1) xs) e) [
   | inl here ↦
@@ -105,7 +106,8 @@ any_find test g (x ∷ xs) sorted e = elim (or_cases (test x.0 && g x.1) (list_a
         rest.0,
         rest.1,
         elim (equal_or_not rest.0 x.0) [
-          | inl same ↦ absurd (let none = find_below x.0 xs (head_below x xs sorted) in let some : find order x.0 xs ≡ Some rest.1 = ap (λ q. find order q xs) (sym same.0) ∙ rest.2 in let n : None ≡ Some rest.1 = sym none ∙ some in cc)
+          | inl same ↦ absurd (let none = find_below x.0 xs (head_below x xs sorted) in let some : find order x.0 xs ≡ Some rest.1 = ap (λ q. find order q xs) (sym same.0)
+              ∙ rest.2 in let n : None ≡ Some rest.1 = sym none ∙ some in cc)
           | inr other ↦ ap (λ b. cond b (Some x.1) (find order rest.0 xs)) other.1 ∙ rest.2
         ],
         rest.3,

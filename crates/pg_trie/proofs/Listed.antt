@@ -17,18 +17,21 @@ use Rattle.pg_trie.proofs.Rebuilt.{part, same_parts, rebuilt}
 part_at : (ℕ → List (ℕ × ℕ)) → Option ℕ → ℕ → List (ℕ × ℕ)
 part_at f o d = value_part (found_at as_value f d o) d ++ hopeless_part (found_at as_hopeless f d o) d
 
-at_dot : (cells : ValuedFamilies ℕ) (records : List Record) → IsTrie cells records → (q : List ℕ) (d : ℕ) → outputs_at_dot (maps_of cells records).patterns (maps_of cells records).hopeless q d ≡ part_at (list_of records) (find order q cells.values) d
+at_dot : (cells : ValuedFamilies ℕ) (records : List Record) → IsTrie cells records → (q : List ℕ) (d : ℕ) → outputs_at_dot (maps_of cells records).patterns (maps_of cells records).hopeless q d
+    ≡ part_at (list_of records) (find order q cells.values) d
 unfolding part_at
 at_dot cells records is q d =
     ap (λ o. value_part o d ++ hopeless_part (find dotted_cmp (q, d) (maps_of cells records).hopeless) d) (find-entries as_value (list_of records) cells.values q d is.held.ordered)
     ∙ ap (λ o. value_part (found_at as_value (list_of records) d (find order q cells.values)) d ++ hopeless_part o d) (find-entries as_hopeless (list_of records) cells.values q d is.held.ordered)
 
-pub list_is : (cells : ValuedFamilies ℕ) (records : List Record) → IsTrie cells records → (q : List ℕ) (head : ℕ) → find order q cells.values ≡ Some head → list_of records head ≡ outputs_at (maps_of cells records).patterns (maps_of cells records).hopeless q
+pub list_is : (cells : ValuedFamilies ℕ) (records : List Record) → IsTrie cells records → (q : List ℕ) (head : ℕ) → find order q cells.values ≡ Some head
+    → list_of records head ≡ outputs_at (maps_of cells records).patterns (maps_of cells records).hopeless q
 unfolding outputs_at part_at
 list_is cells records is q head at =
     let h = is.heads q head at in
     sym (
-    same_parts (outputs_at_dot (maps_of cells records).patterns (maps_of cells records).hopeless q) (part (list_of records head)) 0 (length q + 1) (λ d le. at_dot cells records is q d ∙ ap (λ o. part_at (list_of records) o d) at)
+    same_parts (outputs_at_dot (maps_of cells records).patterns (maps_of cells records).hopeless q) (part (list_of records head)) 0 (length q + 1)
+    (λ d le. at_dot cells records is q d ∙ ap (λ o. part_at (list_of records) o d) at)
     ∙ rebuilt (length q + 1) 0 (length q) (list_of records head) h.rises h.dots (omega arith)
     )
 
@@ -36,8 +39,10 @@ no_parts : (a n : ℕ) → flat_map (λ (d : ℕ). let l : List (ℕ × ℕ) = [
 no_parts a zero = refl
 no_parts a (suc n) = no_parts (a + 1) n
 
-pub none_is : (cells : ValuedFamilies ℕ) (records : List Record) → IsTrie cells records → (q : List ℕ) → find order q cells.values ≡ None → outputs_at (maps_of cells records).patterns (maps_of cells records).hopeless q ≡ []
+pub none_is : (cells : ValuedFamilies ℕ) (records : List Record) → IsTrie cells records → (q : List ℕ) → find order q cells.values ≡ None
+    → outputs_at (maps_of cells records).patterns (maps_of cells records).hopeless q ≡ []
 unfolding outputs_at part_at
 none_is cells records is q none =
-    same_parts (outputs_at_dot (maps_of cells records).patterns (maps_of cells records).hopeless q) (λ d. []) 0 (length q + 1) (λ d le. at_dot cells records is q d ∙ ap (λ o. part_at (list_of records) o d) none)
+    same_parts (outputs_at_dot (maps_of cells records).patterns (maps_of cells records).hopeless q) (λ d. []) 0 (length q + 1)
+    (λ d le. at_dot cells records is q d ∙ ap (λ o. part_at (list_of records) o d) none)
     ∙ no_parts 0 (length q + 1)

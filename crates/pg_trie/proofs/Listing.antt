@@ -27,7 +27,8 @@ known_all : (n : ℕ) (q : List ℕ) → list_all (is_known n) q ≡ true → Al
 known_all n [] h = All-nil (λ s. (1 ≤ s) × (s ≤ n))
 known_all n (x ∷ q) h =
     let here = and_first (is_known n x) (list_all (is_known n) q) h in
-    All-cons (λ s. (1 ≤ s) × (s ≤ n)) x q (leb-true 1 x (and_first (nat_le 1 x) (nat_le x n) here), leb-true x n (and_second (nat_le 1 x) (nat_le x n) here)) (known_all n q (and_second (is_known n x) (list_all (is_known n) q) h))
+    All-cons (λ s. (1 ≤ s) × (s ≤ n)) x q (leb-true 1 x (and_first (nat_le 1 x) (nat_le x n) here), leb-true x n (and_second (nat_le 1 x) (nat_le x n) here))
+    (known_all n q (and_second (is_known n x) (list_all (is_known n) q) h))
 
 -- a string with a cell
 pub is_string : (h : ValuedFamilies ℕ) → AreValuedFamilies h → AreShort h → (q : List ℕ) (cell : ℕ) → cell_of h.families q ≡ Some cell → IsString h q
@@ -97,13 +98,15 @@ puts_nothing h held p m items ends = puts_start h p m items (λ s cell lt at.
     (cc))
 
 -- no sign stands before the first one of a family
-pub puts_first : (h : ValuedFamilies ℕ) → AreValuedFamilies h → (p : List ℕ) (first : ℕ) (items : List (List ℕ × ℕ)) → IsNext (goes_on h.values p) 0 first → PutsBelow h p (cond (nat_eq first 0) (h.signs + 1) first) items items
+pub puts_first : (h : ValuedFamilies ℕ) → AreValuedFamilies h → (p : List ℕ) (first : ℕ) (items : List (List ℕ × ℕ)) → IsNext (goes_on h.values p) 0 first
+    → PutsBelow h p (cond (nat_eq first 0) (h.signs + 1) first) items items
 puts_first h held p first items is = puts_start h p (cond (nat_eq first 0) (h.signs + 1) first) items (λ s cell lt at.
     let low = held.signs p s cell at in
     past first s (h.signs + 1) lt (is.least s low.0 (cell_goes h held p s cell at)))
 
 -- nor between a sign and the next one
-pub puts_next : (h : ValuedFamilies ℕ) → AreValuedFamilies h → (p : List ℕ) (s next : ℕ) (old new : List (List ℕ × ℕ)) → IsNext (goes_on h.values p) s next → PutsBelow h p (s + 1) old new → PutsBelow h p (cond (nat_eq next 0) (h.signs + 1) next) old new
+pub puts_next : (h : ValuedFamilies ℕ) → AreValuedFamilies h → (p : List ℕ) (s next : ℕ) (old new : List (List ℕ × ℕ)) → IsNext (goes_on h.values p) s next
+    → PutsBelow h p (s + 1) old new → PutsBelow h p (cond (nat_eq next 0) (h.signs + 1) next) old new
 puts_next h held p s next old new is puts = record {
   keeps = puts.keeps;
   longer = puts.longer;
@@ -115,7 +118,8 @@ puts_next h held p s next old new is puts = record {
 }
 
 -- the string with the sign m was put
-pub puts_one : (h : ValuedFamilies ℕ) (p : List ℕ) (m : ℕ) (old mid new : List (List ℕ × ℕ)) → PutsBelow h p m old mid → IsString h (p ++ m ∷ []) → new ≡ mid ++ (p ++ m ∷ [], 0) ∷ [] → PutsBelow h p (m + 1) old new
+pub puts_one : (h : ValuedFamilies ℕ) (p : List ℕ) (m : ℕ) (old mid new : List (List ℕ × ℕ)) → PutsBelow h p m old mid → IsString h (p ++ m ∷ []) → new
+    ≡ mid ++ (p ++ m ∷ [], 0) ∷ [] → PutsBelow h p (m + 1) old new
 puts_one h p m old mid new puts string is = subst (λ l. PutsBelow h p (m + 1) old l) (sym is) (record {
   keeps = λ j k at. get_longer mid ((p ++ m ∷ [], 0) ∷ []) j k (puts.keeps j k at);
   longer = omega (arith, puts.longer, length_push mid (p ++ m ∷ [], 0));
@@ -141,14 +145,16 @@ strings_start h held items puts = record {
 }
 
 -- the strings behind the next one
-pub strings_step : (h : ValuedFamilies ℕ) → AreValuedFamilies h → (i : ℕ) (old new : List (List ℕ × ℕ)) (k : List ℕ × ℕ) → AreStringsTo h old i → slice_get old i ≡ Some k → PutsBelow h k.0 (h.signs + 1) old new → AreStringsTo h new (i + 1)
+pub strings_step : (h : ValuedFamilies ℕ) → AreValuedFamilies h → (i : ℕ) (old new : List (List ℕ × ℕ)) (k : List ℕ × ℕ) → AreStringsTo h old i
+    → slice_get old i ≡ Some k → PutsBelow h k.0 (h.signs + 1) old new → AreStringsTo h new (i + 1)
 strings_step h held i old new k strings at puts = record {
   sound = λ j y there. elim (puts.sound j y there) [ inl before ↦ strings.sound j y before | inr s ↦ s ];
   below = λ j y lt there s cell celled. below j y lt there s cell celled (get_there old j (omega (arith, slice_get_within old i k at)));
   roots = λ s cell celled. let r = strings.roots s cell celled in (r.0, omega arith, puts.keeps r.0 (s ∷ [], 0) r.2);
 }
   where
-    below : (j : ℕ) (y : List ℕ × ℕ) → j < i + 1 → slice_get new j ≡ Some y → (s cell : ℕ) → cell_of h.families (y.0 ++ s ∷ []) ≡ Some cell → (x : List ℕ × ℕ) × (slice_get old j ≡ Some x) → StandsFrom new (j + 1) (y.0 ++ s ∷ [])
+    below : (j : ℕ) (y : List ℕ × ℕ) → j < i + 1 → slice_get new j ≡ Some y → (s cell : ℕ) → cell_of h.families (y.0 ++ s ∷ []) ≡ Some cell → (x : List ℕ × ℕ)
+        × (slice_get old j ≡ Some x) → StandsFrom new (j + 1) (y.0 ++ s ∷ [])
     below j y lt there s cell celled old_one =
         let same : Some y ≡ Some old_one.0 = sym there ∙ puts.keeps j old_one.0 old_one.1 in
         let is : y ≡ old_one.0 = cc in
@@ -178,7 +184,8 @@ every_string h held items strings (x ∷ q) cell at = from_root (cell_of h.famil
         let b = strings.below there.0 (p, 0) (slice_get_within items there.0 (p, 0) there.2) there.2 s front.0 front.1 in
         subst (StandsFrom items 0) whole (behind (p ++ s ∷ []) more cell (b.0, omega arith, b.2) at')
       where
-        fronted : (p : List ℕ) (s : ℕ) (more : List ℕ) (cell : ℕ) → cell_of h.families ((p ++ s ∷ []) ++ more) ≡ Some cell → (o : Option ℕ) → cell_of h.families (p ++ s ∷ []) ≡ o → (c : ℕ) × (cell_of h.families (p ++ s ∷ []) ≡ Some c)
+        fronted : (p : List ℕ) (s : ℕ) (more : List ℕ) (cell : ℕ) → cell_of h.families ((p ++ s ∷ []) ++ more) ≡ Some cell → (o : Option ℕ)
+            → cell_of h.families (p ++ s ∷ []) ≡ o → (c : ℕ) × (cell_of h.families (p ++ s ∷ []) ≡ Some c)
         fronted p s more cell at (Some c) is = (c, is)
         fronted p s more cell at None none = absurd (let no : None ≡ Some cell = sym (held.closed p s more none) ∙ at in cc)
 

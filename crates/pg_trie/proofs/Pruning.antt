@@ -32,7 +32,8 @@ pub none_some : {X : Type 0} (o : Option X) (v : X) → o ≡ None → o ≡ Som
 none_some o v e d = let no : None ≡ Some v = sym e ∙ d in cc
 
 -- a value that was not there does not come
-pub none_stays : (old new : ValuedFamilies ℕ) → ((r : List ℕ) (v : ℕ) → find order r new.values ≡ Some v → find order r old.values ≡ Some v) → (r : List ℕ) → find order r old.values ≡ None → find order r new.values ≡ None
+pub none_stays : (old new : ValuedFamilies ℕ) → ((r : List ℕ) (v : ℕ) → find order r new.values ≡ Some v → find order r old.values ≡ Some v) → (r : List ℕ)
+    → find order r old.values ≡ None → find order r new.values ≡ None
 none_stays old new less r none = by (find order r new.values) refl
   where
     by : (o : Option ℕ) → find order r new.values ≡ o → find order r new.values ≡ None
@@ -69,7 +70,8 @@ drops_other mid new k d r other = elim d.either [
   | inr drop ↦ dropped_stays mid new k drop r other
 ]
 
-module _ (keep : List ℕ → Bool) (start mid new : ValuedFamilies ℕ) (k : List ℕ) (held : AreValuedFamilies start) (is_keep : IsKeep keep start) (p : PrunesSome keep start mid) (gone : (x : ℕ) (more : List ℕ) → keep (k ++ x ∷ more) ≡ false → find order (k ++ x ∷ more) mid.values ≡ None) where
+module _ (keep : List ℕ → Bool) (start mid new : ValuedFamilies ℕ) (k : List ℕ) (held : AreValuedFamilies start) (is_keep : IsKeep keep start)
+    (p : PrunesSome keep start mid) (gone : (x : ℕ) (more : List ℕ) → keep (k ++ x ∷ more) ≡ false → find order (k ++ x ∷ more) mid.values ≡ None) where
   -- the value of a string was there from the start
   was_there : (q : List ℕ) (v : ℕ) → find order q mid.values ≡ Some v → find order q start.values ≡ Some v
   was_there q v now = elim (p.either q) [ inl same ↦ sym same ∙ now | inr none ↦ absurd (none_some (find order q mid.values) v none.0 now) ]
@@ -93,7 +95,8 @@ module _ (keep : List ℕ → Bool) (start mid new : ValuedFamilies ℕ) (k : Li
       several [] n e = absurd (n refl)
       several (z ∷ f) n e = omega (arith, ap length e, length_push f d.last)
 
-      by : (x v : ℕ) → find order (k ++ x ∷ []) start.values ≡ Some v → (find order (k ++ x ∷ []) mid.values ≡ find order (k ++ x ∷ []) start.values) ⊎ ((find order (k ++ x ∷ []) mid.values ≡ None) × (keep (k ++ x ∷ []) ≡ false)) → keep (k ++ x ∷ []) ≡ false
+      by : (x v : ℕ) → find order (k ++ x ∷ []) start.values ≡ Some v → (find order (k ++ x ∷ []) mid.values ≡ find order (k ++ x ∷ []) start.values)
+          ⊎ ((find order (k ++ x ∷ []) mid.values ≡ None) × (keep (k ++ x ∷ []) ≡ false)) → keep (k ++ x ∷ []) ≡ false
       by x v is (inl same) =
           let none : find order (k ++ x ∷ []) mid.values ≡ None = ap (λ q. find order q mid.values) (sym (append-nil (k ++ x ∷ []))) ∙ d.ends x [] in
           absurd (none_some (find order (k ++ x ∷ []) mid.values) v none (same ∙ is))
@@ -166,7 +169,8 @@ to_start h held q s next = record {
     late x l (inl z) = let up = l.0 in omega arith
     late x l (inr lt) = let le = l.1 in omega arith
 
-module _ (old now mid new : ValuedFamilies ℕ) (q : List ℕ) (s next : ℕ) (to : PrunesTo old now q s) (below : PrunesBelow now mid (q ++ s ∷ [])) (drop : Drops mid new (q ++ s ∷ [])) (is_next : IsNextSign now.values q s next) where
+module _ (old now mid new : ValuedFamilies ℕ) (q : List ℕ) (s next : ℕ) (to : PrunesTo old now q s) (below : PrunesBelow now mid (q ++ s ∷ []))
+    (drop : Drops mid new (q ++ s ∷ [])) (is_next : IsNextSign now.values q s next) where
   all_less : (r : List ℕ) (v : ℕ) → find order r new.values ≡ Some v → find order r now.values ≡ Some v
   all_less r v e = below.less r v (drops_less mid new (q ++ s ∷ []) drop r v e)
 
@@ -174,7 +178,8 @@ module _ (old now mid new : ValuedFamilies ℕ) (q : List ℕ) (s next : ℕ) (t
   pub step_elsewhere : (r : List ℕ) → (IsBelow (q ++ s ∷ []) r → ⊥) → r ≢ q ++ s ∷ [] → (find order r new.values ≡ find order r now.values) × (cell_of new.families r ≡ cell_of now.families r)
   step_elsewhere r off other = let b = below.elsewhere r off in (drops_other mid new (q ++ s ∷ []) drop r other ∙ b.0, drop.cells r other ∙ b.1)
 
-  step_gone_at : (keep : List ℕ → Bool) (start : ValuedFamilies ℕ) → IsKeep keep start → AreValuedFamilies start → PrunesSome keep start now → (more : List ℕ) → keep (q ++ s ∷ more) ≡ false → find order (q ++ s ∷ more) new.values ≡ None
+  step_gone_at : (keep : List ℕ → Bool) (start : ValuedFamilies ℕ) → IsKeep keep start → AreValuedFamilies start → PrunesSome keep start now → (more : List ℕ)
+      → keep (q ++ s ∷ more) ≡ false → find order (q ++ s ∷ more) new.values ≡ None
   step_gone_at keep start is_keep held0 p [] not_kept =
       step_gone keep start mid new (q ++ s ∷ []) held0 is_keep (below.some keep start is_keep held0 p) (λ x more off. below.gone keep start is_keep held0 p x more (inl refl) off) drop not_kept
   step_gone_at keep start is_keep held0 p (y ∷ ys) not_kept =
@@ -258,7 +263,8 @@ root_step old now new s up to below = record {
   gone = λ keep start is_keep held0 p x more early not_kept. by keep start is_keep held0 p x more not_kept (cases_eq x s) early;
 }
   where
-    by : (keep : List ℕ → Bool) (start : ValuedFamilies ℕ) → IsKeep keep start → AreValuedFamilies start → PrunesSome keep start old → (x : ℕ) (more : List ℕ) → keep (x ∷ more) ≡ false → (x ≡ s) ⊎ (x ≢ s) → (s + 1 ≡ 0) ⊎ (x < s + 1) → find order (x ∷ more) new.values ≡ None
+    by : (keep : List ℕ → Bool) (start : ValuedFamilies ℕ) → IsKeep keep start → AreValuedFamilies start → PrunesSome keep start old → (x : ℕ) (more : List ℕ)
+        → keep (x ∷ more) ≡ false → (x ≡ s) ⊎ (x ≢ s) → (s + 1 ≡ 0) ⊎ (x < s + 1) → find order (x ∷ more) new.values ≡ None
     by keep start is_keep held0 p x more not_kept e (inl z) = absurd (omega arith)
     by keep start is_keep held0 p x more not_kept (inr other) (inr lt) = none_stays now new below.less (x ∷ more) (to.gone keep start is_keep held0 p x more (inr (omega arith)) not_kept)
     by keep start is_keep held0 p x [] not_kept (inl e) (inr lt) = absurd (not_both (keep (x ∷ [])) (is_keep.single (x ∷ []) (omega arith)) not_kept)

@@ -43,7 +43,8 @@ cut_later a n l h dots =
 marks_part : (a : ℕ) (x : ℕ × ℕ) (xs : List (ℕ × ℕ)) → nat_lt x.0 HOPELESS ≡ false → x.1 ≡ a → 2 * a < rank x + 1 → x.0 ≤ HOPELESS → Rises (rank x + 1) xs → part (x ∷ xs) a ≡ x ∷ []
 marks_part a x xs e at lt le h =
     let value : found_in as_value a (x ∷ xs) ≡ None = ap (λ o. found_first a x.1 o (found_in as_value a xs)) (as_value_is x.0 false e) ∙ no_value (rank x + 1) a xs lt h in
-    let mark : found_in as_hopeless a (x ∷ xs) ≡ Some (tt {0}) = ap (λ o. found_first a x.1 o (found_in as_hopeless a xs)) (as_mark_is x.0 false e) ∙ ap (λ b. cond b (Some (tt {0})) (found_in as_hopeless a xs)) (eq-eqb a x.1 (sym at)) in
+    let mark : found_in as_hopeless a (x ∷ xs) ≡ Some (tt {0}) = ap (λ o. found_first a x.1 o (found_in as_hopeless a xs)) (as_mark_is x.0 false e)
+    ∙ ap (λ b. cond b (Some (tt {0})) (found_in as_hopeless a xs)) (eq-eqb a x.1 (sym at)) in
     let is : x.0 ≡ HOPELESS = let ge : HOPELESS ≤ x.0 = ltb-false x.0 HOPELESS e in omega arith in
     ap (λ o. value_part o a ++ hopeless_part (found_in as_hopeless a (x ∷ xs)) a) value
     ∙ ap (λ o. hopeless_part o a) mark
@@ -63,14 +64,16 @@ cut_marks a n x xs e at le h dots =
 -- what a list has that begins with a value of the dot a
 values_part : (a : ℕ) (x : ℕ × ℕ) (xs : List (ℕ × ℕ)) → nat_lt x.0 HOPELESS ≡ true → x.1 ≡ a → part (x ∷ xs) a ≡ x ∷ hopeless_part (found_in as_hopeless a xs) a
 values_part a x xs e at =
-    let value : found_in as_value a (x ∷ xs) ≡ Some x.0 = ap (λ o. found_first a x.1 o (found_in as_value a xs)) (as_value_is x.0 true e) ∙ ap (λ b. cond b (Some x.0) (found_in as_value a xs)) (eq-eqb a x.1 (sym at)) in
+    let value : found_in as_value a (x ∷ xs) ≡ Some x.0 = ap (λ o. found_first a x.1 o (found_in as_value a xs)) (as_value_is x.0 true e)
+    ∙ ap (λ b. cond b (Some x.0) (found_in as_value a xs)) (eq-eqb a x.1 (sym at)) in
     let mark : found_in as_hopeless a (x ∷ xs) ≡ found_in as_hopeless a xs = ap (λ o. found_first a x.1 o (found_in as_hopeless a xs)) (as_mark_is x.0 true e) in
     ap (λ o. value_part o a ++ hopeless_part (found_in as_hopeless a (x ∷ xs)) a) value
     ∙ ap (λ o. (x.0, a) ∷ hopeless_part o a) mark
     ∙ (λ i. (x.0, sym at i) ∷ hopeless_part (found_in as_hopeless a xs) a)
 
 -- behind a value of the dot a its mark may stand
-cut_values : (a n : ℕ) (x : ℕ × ℕ) (xs : List (ℕ × ℕ)) → nat_lt x.0 HOPELESS ≡ true → x.1 ≡ a → Rises (rank x + 1) xs → DotsUpTo n xs → (c : Cut a n xs) → found_in as_value a xs ≡ None → Cut a n (x ∷ xs)
+cut_values : (a n : ℕ) (x : ℕ × ℕ) (xs : List (ℕ × ℕ)) → nat_lt x.0 HOPELESS ≡ true → x.1 ≡ a → Rises (rank x + 1) xs → DotsUpTo n xs → (c : Cut a n xs)
+    → found_in as_value a xs ≡ None → Cut a n (x ∷ xs)
 cut_values a n x xs e at h dots c none =
     let marks : part xs a ≡ hopeless_part (found_in as_hopeless a xs) a = ap (λ o. value_part o a ++ hopeless_part (found_in as_hopeless a xs) a) none in
     record {

@@ -29,7 +29,8 @@ same_test c n other = elim (cases_lt c n) [
 ]
 
 -- one more record: it is there, or its head alone is new
-cons_list : (old new : List Record) (r : Record) → ((i : ℕ) → slice_get old i ≡ Some r → new ≡ old) → (Lacks old r → new ≡ old ++ r ∷ []) → (h : ℕ) → length old < h → h ≤ length new → list_of new h ≡ (r.value, r.dot) ∷ list_of old r.next
+cons_list : (old new : List Record) (r : Record) → ((i : ℕ) → slice_get old i ≡ Some r → new ≡ old) → (Lacks old r → new ≡ old ++ r ∷ []) → (h : ℕ)
+    → length old < h → h ≤ length new → list_of new h ≡ (r.value, r.dot) ∷ list_of old r.next
 cons_list old new r there added h low high = elim (there_or_new old r) [
   | inl t ↦ absurd (let same : new ≡ old = there _ t.at in let sizes : length new ≡ length old = ap length same in omega arith)
   | inr n ↦
@@ -40,8 +41,10 @@ cons_list old new r there added h low high = elim (there_or_new old r) [
 ]
 
 -- the heads that a value before the rest of a list needs
-pub needed_value : (old mid new : List Record) (v d next : ℕ) (rest list : List (ℕ × ℕ)) → list ≡ (v, d) ∷ rest → nat_lt v HOPELESS ≡ true → AreNeeded old mid (values_in rest) → list_of mid next ≡ values_in rest → Grows mid new
-    → ((i : ℕ) → slice_get mid i ≡ Some (record { value = v; dot = d; next = next }) → new ≡ mid) → (Lacks mid (record { value = v; dot = d; next = next }) → new ≡ mid ++ record { value = v; dot = d; next = next } ∷ [])
+pub needed_value : (old mid new : List Record) (v d next : ℕ) (rest list : List (ℕ × ℕ)) → list ≡ (v, d) ∷ rest → nat_lt v HOPELESS ≡ true
+    → AreNeeded old mid (values_in rest) → list_of mid next ≡ values_in rest → Grows mid new
+    → ((i : ℕ) → slice_get mid i ≡ Some (record { value = v; dot = d; next = next }) → new ≡ mid)
+    → (Lacks mid (record { value = v; dot = d; next = next }) → new ≡ mid ++ record { value = v; dot = d; next = next } ∷ [])
     → AreNeeded old new (values_in list)
 needed_value old mid new v d next rest list is value needed there_is grows there added h low high =
     let whole : values_in list ≡ (v, d) ∷ values_in rest = ap values_in is ∙ value_kept v d rest value in
@@ -52,11 +55,13 @@ needed_value old mid new v d next rest list is value needed there_is grows there
           ((v, d) ∷ n.0, whole ∙ ap (λ l. (v, d) ∷ l) n.1 ∙ ap (λ l. (v, d) ∷ (n.0 ++ l)) (sym (grows.same h ge)))
     ]
 
-pub needed_mark : (old new : List Record) (v d : ℕ) (rest list : List (ℕ × ℕ)) → list ≡ (v, d) ∷ rest → nat_lt v HOPELESS ≡ false → AreNeeded old new (values_in rest) → AreNeeded old new (values_in list)
+pub needed_mark : (old new : List Record) (v d : ℕ) (rest list : List (ℕ × ℕ)) → list ≡ (v, d) ∷ rest → nat_lt v HOPELESS ≡ false → AreNeeded old new (values_in rest)
+    → AreNeeded old new (values_in list)
 needed_mark old new v d rest list is mark needed = subst (AreNeeded old new) (sym (ap values_in is ∙ mark_left v d rest mark)) needed
 
 -- no head is told yet
-pub fresh_start : (cells : ValuedFamilies ℕ) (records : List Record) (fresh : List Record) (heads : List ℕ) → length fresh ≡ 0 → length heads ≡ length records + 1 → AreFreshTo cells records 0 fresh heads
+pub fresh_start : (cells : ValuedFamilies ℕ) (records : List Record) (fresh : List Record) (heads : List ℕ) → length fresh ≡ 0 → length heads
+    ≡ length records + 1 → AreFreshTo cells records 0 fresh heads
 fresh_start cells records fresh heads none size = record {
   size = size;
   one_head = λ h k low lower same. omega arith;
@@ -66,7 +71,8 @@ fresh_start cells records fresh heads none size = record {
 
 -- the new head of the string that has the cell
 pub fresh_step : (cells : ValuedFamilies ℕ) (records : List Record) → AreValuedFamilies cells → (cell : ℕ) (old new : List Record) (heads after : List ℕ) (q : List ℕ) (u head : ℕ)
-    → AreFreshTo cells records cell old heads → cell_of cells.families q ≡ Some cell → find order q cells.values ≡ Some u → u ≤ length records → Grows old new → OneHeadEach new → head ≤ length new → list_of new head ≡ values_in (list_of records u)
+    → AreFreshTo cells records cell old heads → cell_of cells.families q ≡ Some cell → find order q cells.values ≡ Some u → u ≤ length records
+    → Grows old new → OneHeadEach new → head ≤ length new → list_of new head ≡ values_in (list_of records u)
     → AreNeeded old new (values_in (list_of records u)) → after ≡ set heads u head → AreFreshTo cells records (cell + 1) new after
 fresh_step cells records held cell old new heads after q u head f at has within grows one_head inside list needed is = subst (AreFreshTo cells records (cell + 1) new) (sym is) (record {
   size = length-set heads u head ∙ f.size;
@@ -101,7 +107,13 @@ fresh_step cells records held cell old new heads after q u head f at has within 
 
 -- strings get their heads, cell by cell
 pub renew_start : (old : ValuedFamilies ℕ) (heads : List ℕ) → AreValuedFamilies old → RenewsTo old 0 heads old
-renew_start old heads held = record { held = held; signs = refl; families = refl; given = λ q cell u at there. there ∙ ap (λ b. Some (cond b (get_or heads u 0) u)) (sym (le-ltb cell 0 (omega arith))) }
+renew_start old heads held = record {
+  held = held;
+  signs = refl;
+  families = refl;
+  given = λ q cell u at there. there
+      ∙ ap (λ b. Some (cond b (get_or heads u 0) u)) (sym (le-ltb cell 0 (omega arith)));
+}
 
 pub renew_skip : (old mid : ValuedFamilies ℕ) (cell : ℕ) (heads : List ℕ) → RenewsTo old cell heads mid → ((q : List ℕ) → cell_of mid.families q ≡ Some cell → ⊥) → RenewsTo old (cell + 1) heads mid
 renew_skip old mid cell heads r none = record {
@@ -114,7 +126,9 @@ renew_skip old mid cell heads r none = record {
   ];
 }
 
-pub renew_step : (old mid new : ValuedFamilies ℕ) (cell : ℕ) (heads : List ℕ) (k : List ℕ) (head : ℕ) → AreValuedFamilies old → RenewsTo old cell heads mid → cell_of mid.families k ≡ Some cell → find order k mid.values ≡ Some head → AreValuedFamilies new → new ≡ record mid { values = put order k (get_or heads head 0) mid.values } → RenewsTo old (cell + 1) heads new
+pub renew_step : (old mid new : ValuedFamilies ℕ) (cell : ℕ) (heads : List ℕ) (k : List ℕ) (head : ℕ) → AreValuedFamilies old → RenewsTo old cell heads mid
+    → cell_of mid.families k ≡ Some cell → find order k mid.values ≡ Some head → AreValuedFamilies new → new ≡ record mid { values = put order k (get_or heads head 0) mid.values }
+    → RenewsTo old (cell + 1) heads new
 renew_step old mid new cell heads k head old_held r at has held is = record {
   held = held;
   signs = ap (λ (h : ValuedFamilies ℕ). h.signs) is ∙ r.signs;
@@ -128,7 +142,8 @@ renew_step old mid new cell heads k head old_held r at has held is = record {
     k_old : cell_of old.families k ≡ Some cell
     k_old = ap (λ fs. cell_of fs k) (sym r.families) ∙ at
 
-    by : (q : List ℕ) (c u : ℕ) → cell_of old.families q ≡ Some c → find order q old.values ≡ Some u → ((q ≡ k) × (same_string q k ≡ true)) ⊎ ((q ≢ k) × (same_string q k ≡ false)) → find order q new.values ≡ Some (cond (nat_lt c (cell + 1)) (get_or heads u 0) u)
+    by : (q : List ℕ) (c u : ℕ) → cell_of old.families q ≡ Some c → find order q old.values ≡ Some u → ((q ≡ k) × (same_string q k ≡ true))
+        ⊎ ((q ≢ k) × (same_string q k ≡ false)) → find order q new.values ≡ Some (cond (nat_lt c (cell + 1)) (get_or heads u 0) u)
     by q c u there value (inl h) =
         let cells : Some c ≡ Some cell = sym there ∙ ap (cell_of old.families) h.0 ∙ k_old in
         let c_is : c ≡ cell = cc in
@@ -142,14 +157,16 @@ renew_step old mid new cell heads k head old_held r at has held is = record {
         ap (find order q) values ∙ find_put_other q k (get_or heads head 0) mid.values h.0 ∙ r.given q c u there value ∙ ap (λ b. Some (cond b (get_or heads u 0) u)) (same_test c cell other)
 
 -- a string whose cell is not reached has its old head
-pub old_head : (old mid : ValuedFamilies ℕ) (cell : ℕ) (heads : List ℕ) (q : List ℕ) (head : ℕ) → AreValuedFamilies old → RenewsTo old cell heads mid → cell_of mid.families q ≡ Some cell → find order q mid.values ≡ Some head → find order q old.values ≡ Some head
+pub old_head : (old mid : ValuedFamilies ℕ) (cell : ℕ) (heads : List ℕ) (q : List ℕ) (head : ℕ) → AreValuedFamilies old → RenewsTo old cell heads mid
+    → cell_of mid.families q ≡ Some cell → find order q mid.values ≡ Some head → find order q old.values ≡ Some head
 old_head old mid cell heads q head held r at has =
     let at_old : cell_of old.families q ≡ Some cell = ap (λ fs. cell_of fs q) (sym r.families) ∙ at in
     let u = held.valued q cell at_old in
     let same : find order q mid.values ≡ Some u.0 = r.given q cell u.0 at_old u.1 ∙ ap (λ b. Some (cond b (get_or heads u.0 0) u.0)) (le-ltb cell cell (omega arith)) in
     u.1 ∙ sym same ∙ has
 
-pub renewed : (old new : ValuedFamilies ℕ) (n : ℕ) (heads : List ℕ) → AreValuedFamilies old → RenewsTo old n heads new → ((q : List ℕ) (cell : ℕ) → cell_of old.families q ≡ Some cell → cell < n) → Renews old heads new
+pub renewed : (old new : ValuedFamilies ℕ) (n : ℕ) (heads : List ℕ) → AreValuedFamilies old → RenewsTo old n heads new
+    → ((q : List ℕ) (cell : ℕ) → cell_of old.families q ≡ Some cell → cell < n) → Renews old heads new
 renewed old new n heads held r all = record {
   held = r.held;
   signs = r.signs;

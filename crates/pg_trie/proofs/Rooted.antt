@@ -53,6 +53,8 @@ root_trie n cells records few is held = record {
 pub root_view : (n : ℕ) (cells : ValuedFamilies ℕ) (records : List Record) → cells ≡ root_held n 0 → records ≡ []
     → maps_of cells records ≡ record { signs = n; families = root n; patterns = []; hopeless = []; records = [] }
 root_view n cells records is none =
-    let patterns_are : (maps_of cells records).patterns ≡ [] = ap (λ (h : ValuedFamilies ℕ). entries as_value (list_of records) h.values) is ∙ root_entries as_value (list_of records) (range_with_len 1 n) (list_of-zero records) in
-    let marks_are : (maps_of cells records).hopeless ≡ [] = ap (λ (h : ValuedFamilies ℕ). entries as_hopeless (list_of records) h.values) is ∙ root_entries as_hopeless (list_of records) (range_with_len 1 n) (list_of-zero records) in
+    let patterns_are : (maps_of cells records).patterns ≡ [] = ap (λ (h : ValuedFamilies ℕ). entries as_value (list_of records) h.values) is
+    ∙ root_entries as_value (list_of records) (range_with_len 1 n) (list_of-zero records) in
+    let marks_are : (maps_of cells records).hopeless ≡ [] = ap (λ (h : ValuedFamilies ℕ). entries as_hopeless (list_of records) h.values) is
+    ∙ root_entries as_hopeless (list_of records) (range_with_len 1 n) (list_of-zero records) in
     λ i. record { signs = (is i).signs; families = (is i).families; patterns = patterns_are i; hopeless = marks_are i; records = none i }

@@ -82,7 +82,8 @@ distinct fresh one a (suc n) le = (apart (a + 1) n (omega arith) (omega arith), 
     differ : (b : ℕ) → a < b → b ≤ length fresh → (t : Bool) → same_list (map turned (list_of fresh a)) (map turned (list_of fresh b)) ≡ t → t ≡ false
     differ b lt high false e = refl
     differ b lt high true e =
-        let same : list_of fresh a ≡ list_of fresh b = sym (turned_back (list_of fresh a)) ∙ ap (map turned) (exact (map turned (list_of fresh a)) (map turned (list_of fresh b)) e) ∙ turned_back (list_of fresh b) in
+        let same : list_of fresh a ≡ list_of fresh b = sym (turned_back (list_of fresh a)) ∙ ap (map turned) (exact (map turned (list_of fresh a)) (map turned (list_of fresh b)) e)
+        ∙ turned_back (list_of fresh b) in
         let at : a ≡ b = one a b (omega arith) high same in
         absurd (omega arith)
 
@@ -111,7 +112,8 @@ end_suffix [] x xs = or_left (same_list (x ∷ xs) (x ∷ xs)) (is_member same_l
 end_suffix (y ∷ front) x xs = or_right (same_list (x ∷ xs) (y ∷ (front ++ x ∷ xs))) (is_member same_list (suffixes (front ++ x ∷ xs)) (x ∷ xs)) (end_suffix front x xs)
 
 -- a member of lists that the strings of entries give
-any_flat : (G : List ℕ → List (List (ℕ × ℕ))) (s : List (ℕ × ℕ)) (P : List ((List ℕ × ℕ) × ℕ)) → is_member same_list (flat_map (λ e. G e.0.0) P) s ≡ list_any (λ q. is_member same_list (G q) s) (map (λ e. e.0.0) P)
+any_flat : (G : List ℕ → List (List (ℕ × ℕ))) (s : List (ℕ × ℕ)) (P : List ((List ℕ × ℕ) × ℕ)) → is_member same_list (flat_map (λ e. G e.0.0) P) s
+    ≡ list_any (λ q. is_member same_list (G q) s) (map (λ e. e.0.0) P)
 any_flat G s [] = refl
 any_flat G s (e ∷ es) = list_any-append (same_list s) (G e.0.0) (flat_map (λ e. G e.0.0) es) ∙ ap (λ b. is_member same_list (G e.0.0) s || b) (any_flat G s es)
 
@@ -123,7 +125,8 @@ outs_here q (x ∷ xs) rest =
     elim (cases_Bool (nat_lt x.0 HOPELESS)) [
       | inl e ↦
           ap (λ o. outputs_of (with_entry as_value (q, x.1) o (entries_of as_value q xs) ++ rest) q) (as_value_is x.0 true e)
-          ∙ ap (λ b. map (λ (y : (List ℕ × ℕ) × ℕ). (y.0.1, y.1)) (cond b (((q, x.1), x.0) ∷ filter (λ y. pointwise nat_eq q y.0.0) (entries_of as_value q xs ++ rest)) (filter (λ y. pointwise nat_eq q y.0.0) (entries_of as_value q xs ++ rest)))) (signs_same q)
+          ∙ ap (λ b. map (λ (y : (List ℕ × ℕ) × ℕ). (y.0.1, y.1)) (cond b (((q, x.1), x.0) ∷ filter (λ y. pointwise nat_eq q y.0.0) (entries_of as_value q xs ++ rest))
+          (filter (λ y. pointwise nat_eq q y.0.0) (entries_of as_value q xs ++ rest)))) (signs_same q)
           ∙ ap (λ l. (x.1, x.0) ∷ l) more
           ∙ sym (ap (λ l. map turned l ++ outputs_of rest q) (value_kept x.0 x.1 xs e))
       | inr e ↦
@@ -139,7 +142,8 @@ outs_other q p (x ∷ xs) rest n =
     elim (as_value x.0) as (λ o. outputs_of (with_entry as_value (p, x.1) o (entries_of as_value p xs) ++ rest) q ≡ outputs_of rest q) [
       | None ↦ more
       | Some v ↦
-          ap (λ b. map (λ (y : (List ℕ × ℕ) × ℕ). (y.0.1, y.1)) (cond b (((p, x.1), v) ∷ filter (λ y. pointwise nat_eq q y.0.0) (entries_of as_value p xs ++ rest)) (filter (λ y. pointwise nat_eq q y.0.0) (entries_of as_value p xs ++ rest)))) n ∙ more
+          ap (λ b. map (λ (y : (List ℕ × ℕ) × ℕ). (y.0.1, y.1)) (cond b (((p, x.1), v) ∷ filter (λ y. pointwise nat_eq q y.0.0) (entries_of as_value p xs ++ rest))
+          (filter (λ y. pointwise nat_eq q y.0.0) (entries_of as_value p xs ++ rest)))) n ∙ more
     ]
 
 abbrev outs_at : (ℕ → List (ℕ × ℕ)) → Option ℕ → List (ℕ × ℕ)
@@ -229,10 +233,13 @@ pub tails_is : (cells : ValuedFamilies ℕ) (records : List Record) → IsTrie c
     → length fresh ≡ tails (maps_of cells records).patterns
 tails_is cells records is cells' fresh new one needed =
     sym (length-map-range_with_len (λ h. map turned (list_of fresh h)) 1 (length fresh))
-    ∙ length-from_keys same_list_equiv (map (λ h. map turned (list_of fresh h)) (range_with_len 1 (length fresh))) (flat_map (λ e. suffixes (outputs_of (maps_of cells records).patterns e.0.0)) (maps_of cells records).patterns) (distinct fresh one 1 (length fresh) (omega arith))
-    (λ s. both_ways (is_member same_list (map (λ h. map turned (list_of fresh h)) (range_with_len 1 (length fresh))) s) (is_member same_list (flat_map (λ e. suffixes (outputs_of (maps_of cells records).patterns e.0.0)) (maps_of cells records).patterns) s)
+    ∙ length-from_keys same_list_equiv (map (λ h. map turned (list_of fresh h)) (range_with_len 1 (length fresh)))
+    (flat_map (λ e. suffixes (outputs_of (maps_of cells records).patterns e.0.0)) (maps_of cells records).patterns) (distinct fresh one 1 (length fresh) (omega arith))
+    (λ s. both_ways (is_member same_list (map (λ h. map turned (list_of fresh h)) (range_with_len 1 (length fresh))) s)
+    (is_member same_list (flat_map (λ e. suffixes (outputs_of (maps_of cells records).patterns e.0.0)) (maps_of cells records).patterns) s)
     (λ e. there s (range_has (λ h. map turned (list_of fresh h)) s 1 (length fresh) e))
-    (λ e. back s (any_find (λ q. is_member same_list (suffixes (outputs_of (maps_of cells records).patterns q)) s) (λ h. has_value (list_of records h)) cells.values is.held.ordered (sym (any_there s) ∙ e))))
+    (λ e. back s (any_find (λ q. is_member same_list (suffixes (outputs_of (maps_of cells records).patterns q)) s) (λ h. has_value (list_of records h)) cells.values is.held.ordered
+    (sym (any_there s) ∙ e))))
   where
     any_there : (s : List (ℕ × ℕ)) → is_member same_list (flat_map (λ e. suffixes (outputs_of (maps_of cells records).patterns e.0.0)) (maps_of cells records).patterns) s
         ≡ list_any (λ e. is_member same_list (suffixes (outputs_of (maps_of cells records).patterns e.0)) s && has_value (list_of records e.1)) cells.values
@@ -243,7 +250,8 @@ tails_is cells records is cells' fresh new one needed =
     outs : (q : List ℕ) (u : ℕ) → find order q cells.values ≡ Some u → outputs_of (maps_of cells records).patterns q ≡ map turned (values_in (list_of records u))
     outs q u at = outs_is (list_of records) cells.values q is.held.ordered ∙ ap (outs_at (list_of records)) at
 
-    there : (s : List (ℕ × ℕ)) → (h : ℕ) × (1 ≤ h) × (h < 1 + length fresh) × (s ≡ map turned (list_of fresh h)) → is_member same_list (flat_map (λ e. suffixes (outputs_of (maps_of cells records).patterns e.0.0)) (maps_of cells records).patterns) s ≡ true
+    there : (s : List (ℕ × ℕ)) → (h : ℕ) × (1 ≤ h) × (h < 1 + length fresh) × (s ≡ map turned (list_of fresh h))
+        → is_member same_list (flat_map (λ e. suffixes (outputs_of (maps_of cells records).patterns e.0.0)) (maps_of cells records).patterns) s ≡ true
     there s r = by (list_of fresh r.0) refl
       where
         by : (l : List (ℕ × ℕ)) → list_of fresh r.0 ≡ l → is_member same_list (flat_map (λ e. suffixes (outputs_of (maps_of cells records).patterns e.0.0)) (maps_of cells records).patterns) s ≡ true
@@ -253,26 +261,31 @@ tails_is cells records is cells' fresh new one needed =
         by (x ∷ xs) e =
             let n = needed r.0 (omega (arith, r.1)) (omega (arith, r.2)) in
             let ending : values_in (list_of records n.1) ≡ n.3.0 ++ x ∷ xs = n.3.1 ∙ ap (λ l. n.3.0 ++ l) e in
-            let value : has_value (list_of records n.1) ≡ true = elim (cases_Bool (has_value (list_of records n.1))) [ inl v ↦ v | inr v ↦ absurd (no_end n.3.0 x xs (sym (without_values (list_of records n.1) v) ∙ ending)) ] in
+            let value : has_value (list_of records n.1) ≡ true = elim (cases_Bool (has_value (list_of records n.1)))
+            [ inl v ↦ v | inr v ↦ absurd (no_end n.3.0 x xs (sym (without_values (list_of records n.1) v) ∙ ending)) ] in
             let whole : outputs_of (maps_of cells records).patterns n.0 ≡ map turned n.3.0 ++ turned x ∷ map turned xs = outs n.0 n.1 n.2 ∙ ap (map turned) ending ∙ map-append turned n.3.0 (x ∷ xs) in
             let s_is : s ≡ turned x ∷ map turned xs = r.3 ∙ ap (map turned) e in
             any_there s
             ∙ find_any (λ q. is_member same_list (suffixes (outputs_of (maps_of cells records).patterns q)) s) (λ h. has_value (list_of records h)) cells.values n.0 n.1 n.2
-            (ap (λ l. is_member same_list (suffixes l) s) whole ∙ ap (is_member same_list (suffixes (map turned n.3.0 ++ turned x ∷ map turned xs))) s_is ∙ end_suffix (map turned n.3.0) (turned x) (map turned xs))
+            (ap (λ l. is_member same_list (suffixes l) s) whole ∙ ap (is_member same_list (suffixes (map turned n.3.0 ++ turned x ∷ map turned xs))) s_is
+            ∙ end_suffix (map turned n.3.0) (turned x) (map turned xs))
             value
           where
             no_end : (f : List (ℕ × ℕ)) (x : ℕ × ℕ) (xs : List (ℕ × ℕ)) → [] ≡ f ++ x ∷ xs → ⊥
             no_end [] x xs e = cc
             no_end (y ∷ f) x xs e = cc
 
-    back : (s : List (ℕ × ℕ)) → (q : List ℕ) × (u : ℕ) × (find order q cells.values ≡ Some u) × (is_member same_list (suffixes (outputs_of (maps_of cells records).patterns q)) s ≡ true) × (has_value (list_of records u) ≡ true)
+    back : (s : List (ℕ × ℕ)) → (q : List ℕ) × (u : ℕ) × (find order q cells.values ≡ Some u) × (is_member same_list (suffixes (outputs_of (maps_of cells records).patterns q)) s ≡ true)
+        × (has_value (list_of records u) ≡ true)
         → is_member same_list (map (λ h. map turned (list_of fresh h)) (range_with_len 1 (length fresh))) s ≡ true
     back s f =
         let e = suffix_end s (map turned (values_in (list_of records f.1))) (ap (λ l. is_member same_list (suffixes l) s) (sym (outs f.0 f.1 f.2)) ∙ f.3) in
         let l = new.lists f.0 f.1 f.2 in
-        let list : list_of fresh l.0 ≡ map turned e.front ++ map turned (e.first ∷ e.rest) = l.3 ∙ sym (turned_back (values_in (list_of records f.1))) ∙ ap (map turned) e.whole ∙ map-append turned e.front (e.first ∷ e.rest) in
+        let list : list_of fresh l.0 ≡ map turned e.front ++ map turned (e.first ∷ e.rest) = l.3 ∙ sym (turned_back (values_in (list_of records f.1)))
+        ∙ ap (map turned) e.whole ∙ map-append turned e.front (e.first ∷ e.rest) in
         let h = end_head fresh (map turned e.front) (map turned (e.first ∷ e.rest)) l.0 l.2 list in
-        has_range (λ h. map turned (list_of fresh h)) s h.0 1 (length fresh) (some_head h.0 (turned e.first) (map turned e.rest) h.2) (omega (arith, h.1)) (e.is ∙ sym (turned_back (e.first ∷ e.rest)) ∙ ap (map turned) (sym h.2))
+        has_range (λ h. map turned (list_of fresh h)) s h.0 1 (length fresh) (some_head h.0 (turned e.first) (map turned e.rest) h.2) (omega (arith, h.1))
+        (e.is ∙ sym (turned_back (e.first ∷ e.rest)) ∙ ap (map turned) (sym h.2))
       where
         some_head : (h : ℕ) (x : ℕ × ℕ) (xs : List (ℕ × ℕ)) → list_of fresh h ≡ x ∷ xs → 1 ≤ h
         some_head zero x xs e = absurd (let n : [] ≡ x ∷ xs = sym (list_of-zero fresh) ∙ e in cc)

@@ -21,7 +21,8 @@ number_cut t digits n =
     ]
 
 -- one digit more
-pub number_more : (t : ℕ) (item : List ℕ) (i n next : ℕ) (whole : Option ℕ) → i < length item → is_ascii_digit (get_or item i 0) ≡ true → next ≡ min (n * 10 + (get_or item i 0 - 48)) t → option_map (λ (k : ℕ). min k t) (number_from n (drop i item)) ≡ whole → option_map (λ (k : ℕ). min k t) (number_from next (drop (i + 1) item)) ≡ whole
+pub number_more : (t : ℕ) (item : List ℕ) (i n next : ℕ) (whole : Option ℕ) → i < length item → is_ascii_digit (get_or item i 0) ≡ true → next
+    ≡ min (n * 10 + (get_or item i 0 - 48)) t → option_map (λ (k : ℕ). min k t) (number_from n (drop i item)) ≡ whole → option_map (λ (k : ℕ). min k t) (number_from next (drop (i + 1) item)) ≡ whole
 number_more t item i n next whole inside digit is so_far =
     let at : drop i item ≡ get_or item i 0 ∷ drop (i + 1) item = drop_more item i 0 inside in
     rw (is, number_cut t (drop (i + 1) item) (n * 10 + (get_or item i 0 - 48))) (rw (at, digit) at so_far)

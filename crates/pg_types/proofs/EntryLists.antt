@@ -90,7 +90,8 @@ module _ {K X : Type 0} (R : K → K → Ordering) where
     pub set_value-put : (k : K) (v w : X) (es : List (K × X)) → T (is_sorted R es) → find R k es ≡ Some w → set_value (is_at (R k)) es v ≡ put R k v es
     set_value-put k v w [] sorted found = cc
     set_value-put k v w (e ∷ es) sorted found =
-        elim (R k e.0) as (λ r. R k e.0 ≡ r → cond (is_eq r) (Some e.1) (find R k es) ≡ Some w → cond (is_eq r) ((e.0, v) ∷ es) (e ∷ set_value (is_at (R k)) es v) ≡ by_order r ((k, v) ∷ e ∷ es) ((e.0, v) ∷ es) (e ∷ put R k v es)) [
+        elim (R k e.0) as (λ r. R k e.0 ≡ r → cond (is_eq r) (Some e.1) (find R k es) ≡ Some w → cond (is_eq r) ((e.0, v) ∷ es) (e ∷ set_value (is_at (R k)) es v)
+        ≡ by_order r ((k, v) ∷ e ∷ es) ((e.0, v) ∷ es) (e ∷ put R k v es)) [
           | Less ↦ λ is there.
               let none : find R k es ≡ None = find_below k es (low_below k e.0 es is (first_half _ _ sorted)) in
               let wrong : None ≡ Some w = sym none ∙ there in

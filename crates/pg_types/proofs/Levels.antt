@@ -25,18 +25,22 @@ level_at xs i = level_of (drop (5 * i) xs)
 range_more : (i count : ℕ) → i < count → range_with_len i (count - i) ≡ i ∷ range_with_len (i + 1) (count - (i + 1))
 range_more i count more = let n : count - i ≡ suc (count - (i + 1)) = omega arith in ap (range_with_len i) n
 
-demands_more : (xs : List (List ℕ)) (i count : ℕ) → i < count → flat_map (demands_at xs) (range_with_len i (count - i)) ≡ demands_at xs i ++ flat_map (demands_at xs) (range_with_len (i + 1) (count - (i + 1)))
+demands_more : (xs : List (List ℕ)) (i count : ℕ) → i < count → flat_map (demands_at xs) (range_with_len i (count - i)) ≡ demands_at xs i
+    ++ flat_map (demands_at xs) (range_with_len (i + 1) (count - (i + 1)))
 demands_more xs i count more = ap (flat_map (demands_at xs)) (range_more i count more)
 
 -- after a level that is read, the same refusal is left
-pub left_more : (all xs xs' : List (List ℕ)) (place place' i count : ℕ) (whole : Option Refusal) → i < count → xs ≡ drop (5 * i) all → ((more : List Demand) → refusal_from place (level_demands xs ++ more) xs ≡ refusal_from place' more xs') → refusal_from place (flat_map (demands_at all) (range_with_len i (count - i))) xs ≡ whole → refusal_from place' (flat_map (demands_at all) (range_with_len (i + 1) (count - (i + 1)))) xs' ≡ whole
+pub left_more : (all xs xs' : List (List ℕ)) (place place' i count : ℕ) (whole : Option Refusal) → i < count → xs ≡ drop (5 * i) all
+    → ((more : List Demand) → refusal_from place (level_demands xs ++ more) xs ≡ refusal_from place' more xs')
+    → refusal_from place (flat_map (demands_at all) (range_with_len i (count - i))) xs ≡ whole → refusal_from place' (flat_map (demands_at all) (range_with_len (i + 1) (count - (i + 1)))) xs' ≡ whole
 left_more all xs xs' place place' i count whole more is passed left =
     let rest : List Demand = flat_map (demands_at all) (range_with_len (i + 1) (count - (i + 1))) in
     let here : refusal_from place (demands_at all i ++ rest) xs ≡ whole = subst (λ (ds : List Demand). refusal_from place ds xs ≡ whole) (demands_more all i count more) left in
     sym (passed rest) ∙ subst (λ (ys : List (List ℕ)). refusal_from place (level_demands ys ++ rest) xs ≡ whole) (sym is) here
 
 -- where a level is refused, its refusal is that of the whole
-pub left_refused : (all xs : List (List ℕ)) (place i count : ℕ) (whole : Option Refusal) (r : Refusal) → i < count → xs ≡ drop (5 * i) all → ((more : List Demand) → refusal_from place (level_demands xs ++ more) xs ≡ Some r) → refusal_from place (flat_map (demands_at all) (range_with_len i (count - i))) xs ≡ whole → whole ≡ Some r
+pub left_refused : (all xs : List (List ℕ)) (place i count : ℕ) (whole : Option Refusal) (r : Refusal) → i < count → xs ≡ drop (5 * i) all
+    → ((more : List Demand) → refusal_from place (level_demands xs ++ more) xs ≡ Some r) → refusal_from place (flat_map (demands_at all) (range_with_len i (count - i))) xs ≡ whole → whole ≡ Some r
 left_refused all xs place i count whole r more is refused left =
     let rest : List Demand = flat_map (demands_at all) (range_with_len (i + 1) (count - (i + 1))) in
     let here : refusal_from place (demands_at all i ++ rest) xs ≡ whole = subst (λ (ds : List Demand). refusal_from place ds xs ≡ whole) (demands_more all i count more) left in
@@ -49,9 +53,11 @@ rest_more all xs xs' i is next =
     next ∙ ap (drop 5) is ∙ drop-drop 5 (5 * i) all ∙ ap (λ (k : ℕ). drop k all) n
 
 -- one level more is read
-pub read_more : (all xs : List (List ℕ)) (i : ℕ) (levels levels' : List LevelParams) (level : LevelParams) → xs ≡ drop (5 * i) all → level ≡ level_of xs → levels' ≡ levels ++ level ∷ [] → levels ≡ map (level_at all) (range_with_len 0 i) → levels' ≡ map (level_at all) (range_with_len 0 (i + 1))
+pub read_more : (all xs : List (List ℕ)) (i : ℕ) (levels levels' : List LevelParams) (level : LevelParams) → xs ≡ drop (5 * i) all → level ≡ level_of xs
+    → levels' ≡ levels ++ level ∷ [] → levels ≡ map (level_at all) (range_with_len 0 i) → levels' ≡ map (level_at all) (range_with_len 0 (i + 1))
 read_more all xs i levels levels' level is level_is more read =
-    more ∙ ap (λ (ls : List LevelParams). ls ++ level ∷ []) read ∙ ap (λ (l : LevelParams). map (level_at all) (range_with_len 0 i) ++ l ∷ []) (level_is ∙ ap level_of is) ∙ sym (map-range_with_len_more (level_at all) 0 i i (omega arith))
+    more ∙ ap (λ (ls : List LevelParams). ls ++ level ∷ []) read ∙ ap (λ (l : LevelParams). map (level_at all) (range_with_len 0 i) ++ l ∷ []) (level_is ∙ ap level_of is)
+    ∙ sym (map-range_with_len_more (level_at all) 0 i i (omega arith))
 
 -- what the levels of a file demand
 abbrev pub levels_demanded : List (List ℕ) → List Demand
@@ -103,7 +109,8 @@ pub by_reading : (P : Result Parameters Refusal → Type 0) (bytes : List ℕ) �
 by_reading P bytes h = subst P (read_as bytes) h
 
 -- a file that is not too long is refused as its items are
-pub whole_refused : (bytes rest : List ℕ) (place : ℕ) (r : Refusal) → length bytes ≤ FILE_MAX → rest ≡ bytes → place ≡ 1 → refusal_from place (demands (items bytes)) (items rest) ≡ Some r → parameters bytes ≡ Err r
+pub whole_refused : (bytes rest : List ℕ) (place : ℕ) (r : Refusal) → length bytes ≤ FILE_MAX → rest ≡ bytes → place ≡ 1 → refusal_from place (demands (items bytes)) (items rest)
+    ≡ Some r → parameters bytes ≡ Err r
 whole_refused bytes rest place r fits is one refused =
     let here : refusal_from place (demands (items bytes)) (items bytes) ≡ Some r = subst (λ (b : List ℕ). refusal_from place (demands (items bytes)) (items b) ≡ Some r) is refused in
     let first : refusal_from 1 (demands (items bytes)) (items bytes) ≡ Some r = subst (λ (n : ℕ). refusal_from n (demands (items bytes)) (items bytes) ≡ Some r) one here in

@@ -20,7 +20,8 @@ pieces_head test b (x ∷ xs) k out is =
       | inl here ↦ let none : k ≡ 0 = rw here at is in rw (out, none, here) refl
       | inr here ↦
           let more : k ≡ suc (position_or_len test xs) = omega (arith, rw here at is) in
-          let rest : pieces_at test (x ∷ xs) ≡ (x ∷ take (position_or_len test xs) xs) ∷ pieces_at test (drop (suc (position_or_len test xs)) xs) = pieces_head test x xs (position_or_len test xs) here refl in
+          let rest : pieces_at test (x ∷ xs) ≡ (x ∷ take (position_or_len test xs) xs) ∷ pieces_at test (drop (suc (position_or_len test xs)) xs) =
+          pieces_head test x xs (position_or_len test xs) here refl in
           rw (out, more, rest) refl
     ]
 
@@ -36,7 +37,8 @@ items_gap (x ∷ xs) k is =
     ]
 
 -- the first item ends at the first separator
-pub items_first : (bytes : List ℕ) (k : ℕ) → (length bytes == 0) ≡ false → k ≡ position_or_len is_separator bytes → position_or_len (λ b. not (is_separator b)) bytes ≡ 0 → items bytes ≡ take k bytes ∷ items (drop k bytes)
+pub items_first : (bytes : List ℕ) (k : ℕ) → (length bytes == 0) ≡ false → k ≡ position_or_len is_separator bytes → position_or_len (λ b. not (is_separator b)) bytes
+    ≡ 0 → items bytes ≡ take k bytes ∷ items (drop k bytes)
 items_first [] k some is begins = cc
 items_first (b ∷ bs) k some is begins =
     elim (cases_Bool (is_separator b)) [

@@ -24,7 +24,8 @@ pub count-append : (xs ys : List ℕ) → line_count (xs ++ ys) ≡ line_count x
 count-append xs ys = sum_by-append _ xs ys
 
 -- a text with a line behind it
-pub with_line : (t l : List ℕ) (n : ℕ) → IsVisibleText t → line_count t ≡ n → n < LINES_MAX → list_all is_printable l ≡ true → IsVisibleText (t ++ (l ++ 10 ∷ [])) × (line_count (t ++ (l ++ 10 ∷ [])) ≡ n + 1)
+pub with_line : (t l : List ℕ) (n : ℕ) → IsVisibleText t → line_count t ≡ n → n < LINES_MAX → list_all is_printable l ≡ true → IsVisibleText (t ++ (l ++ 10 ∷ []))
+    × (line_count (t ++ (l ++ 10 ∷ [])) ≡ n + 1)
 with_line t l n e counted few h =
     let count : line_count (t ++ (l ++ 10 ∷ [])) ≡ n + 1 = grind (arith, count-append t (l ++ 10 ∷ []), count-append l (10 ∷ []), no_line l h) in (
       record {

@@ -37,7 +37,8 @@ three_words (x ∷ y ∷ z ∷ []) a b c some few is0 is1 is2 =
 three_words (_ ∷ _ ∷ _ ∷ _ ∷ words) a b c some few is0 is1 is2 = absurd (omega arith)
 
 -- five words, by their texts
-pub five_words : (words : List (String Global)) (a b c d e : List ℕ) → 5 ≤ length words → length words < 6 → IsWordAt words 0 a → IsWordAt words 1 b → IsWordAt words 2 c → IsWordAt words 3 d → IsWordAt words 4 e → words_of words ≡ a ∷ b ∷ c ∷ d ∷ e ∷ []
+pub five_words : (words : List (String Global)) (a b c d e : List ℕ) → 5 ≤ length words → length words < 6 → IsWordAt words 0 a → IsWordAt words 1 b
+    → IsWordAt words 2 c → IsWordAt words 3 d → IsWordAt words 4 e → words_of words ≡ a ∷ b ∷ c ∷ d ∷ e ∷ []
 five_words [] a b c d e some few is0 is1 is2 is3 is4 = absurd (omega arith)
 five_words (_ ∷ []) a b c d e some few is0 is1 is2 is3 is4 = absurd (omega arith)
 five_words (_ ∷ _ ∷ []) a b c d e some few is0 is1 is2 is3 is4 = absurd (omega arith)

@@ -153,8 +153,7 @@ sweep_in words = None
 
 -- what the words behind the word of one of the other commands ask for
 abbrev pub other_request : List ℕ → List (List ℕ) → Option Request
-other_request word words =
-    if bytes_eq word (codes "pack") then pack_in words
+other_request word words = if bytes_eq word (codes "pack") then pack_in words
     else (if bytes_eq word (codes "totals") then totals_in words
     else (if bytes_eq word (codes "prune") then prune_in words
     else (if bytes_eq word (codes "sweep") then sweep_in words else None)))

@@ -19,6 +19,7 @@ front_of None bytes size more is = cc
 front_of (Some whole) bytes size more is = by_size whole bytes size more (cc) (nat_lt (size + more) (length whole)) refl
 
 -- the first bytes of a file are the whole file, or the file is longer
-pub given_front : (held : Option FileMap) (name bytes : List ℕ) (size more : ℕ) → IfSome held (λ files. option_map (take (size + more + 1)) (file_at files name) ≡ Some bytes) → IfSome held (λ files. IsFrontOf (file_at files name) size more bytes)
+pub given_front : (held : Option FileMap) (name bytes : List ℕ) (size more : ℕ) → IfSome held (λ files. option_map (take (size + more + 1)) (file_at files name) ≡ Some bytes)
+    → IfSome held (λ files. IsFrontOf (file_at files name) size more bytes)
 given_front None name bytes size more is = tt
 given_front (Some files) name bytes size more is = front_of (file_at files name) bytes size more is

@@ -55,24 +55,28 @@ denied g None = refl
 denied g (Some d) = ap (λ t. Some (Ends No [] (codes "no: " ++ word_of (input.Given g) ++ codes " line " ++ decimal d.line ++ t ++ codes "\n"))) (text_by_form d.found)
 
 -- a file is judged by its front
-pub judged : (g : Given) (text : List ℕ) (file : Option (List ℕ)) (bytes : List ℕ) → IsFrontOf file (length text) 256 bytes → option_map (λ whole. option_map (denies g) (first_false whole text)) file ≡ Some (option_map (denies g) (first_false bytes text))
+pub judged : (g : Given) (text : List ℕ) (file : Option (List ℕ)) (bytes : List ℕ) → IsFrontOf file (length text) 256 bytes
+    → option_map (λ whole. option_map (denies g) (first_false whole text)) file ≡ Some (option_map (denies g) (first_false bytes text))
 judged g text None bytes front = absurd front
 judged g text (Some whole) bytes (inl same) = ap (λ b. Some (option_map (denies g) (first_false b text))) (sym same)
 judged g text (Some whole) bytes (inr h) =
-    let printed : option_map printed_of (first_false bytes text) ≡ option_map printed_of (first_false whole text) = ap (λ b. option_map printed_of (first_false b text)) h.1 ∙ part_printed whole text 256 (omega arith) h.0 in
+    let printed : option_map printed_of (first_false bytes text) ≡ option_map printed_of (first_false whole text) = ap (λ b. option_map printed_of (first_false b text)) h.1
+    ∙ part_printed whole text 256 (omega arith) h.0 in
     ap Some (denied g (first_false whole text) ∙ ap (option_map (λ p. Ends No [] (said g p))) (sym printed) ∙ sym (denied g (first_false bytes text)))
 
 pub one_wanted : (ws : List Wanted) (w : Wanted) → wanted_files (ws ++ w ∷ []) ≡ wanted_files ws ++ wanted_file w ∷ []
 one_wanted ws w = map-append wanted_file ws (w ∷ [])
 
 -- the given files, with the hyphenated list and without it
-pub listed_readings : (i : Inputs) (output report : List ℕ) (pattmp : Option (List ℕ)) → reading_of given.Patterns output (selected_text i) ∷ (if_asked pattmp (λ name. given_file (λ _. i) (given.Pattmp, name)) ++ reading_of given.Report report (selected_report i) ∷ [])
+pub listed_readings : (i : Inputs) (output report : List ℕ) (pattmp : Option (List ℕ))
+    → reading_of given.Patterns output (selected_text i) ∷ (if_asked pattmp (λ name. given_file (λ _. i) (given.Pattmp, name)) ++ reading_of given.Report report (selected_report i) ∷ [])
     ≡ map (given_file (λ _. i)) ((given.Patterns, output) ∷ if_asked pattmp (λ name. (given.Pattmp, name)) ++ (given.Report, report) ∷ [])
 listed_readings i output report None = refl
 listed_readings i output report (Some name) = refl
 
 -- the same files are judged alike where the inputs are the same
-same_ends : (files : Held) (inputs : Held → Inputs) (i : Inputs) → inputs files ≡ i → (gs : List (Given × List ℕ)) → first_end files (map (given_file inputs) gs) ≡ first_end files (map (given_file (λ _. i)) gs)
+same_ends : (files : Held) (inputs : Held → Inputs) (i : Inputs) → inputs files ≡ i → (gs : List (Given × List ℕ)) → first_end files (map (given_file inputs) gs)
+    ≡ first_end files (map (given_file (λ _. i)) gs)
 same_ends files inputs i is [] = refl
 same_ends files inputs i is (g ∷ gs) =
     ap (λ j. first_end files (given_file (λ _. j) g ∷ map (given_file inputs) gs)) is
@@ -104,34 +108,44 @@ module _ (n : FileNames) (i : Inputs) where
       accepted_front (file_at files) (inputs_of n) (given_files (λ files. inputs_in files n) n) (inputs_there files h)
       ∙ same_ends (file_at files) (λ files. inputs_in files n) i (inputs_same files h) (given_names n)
 
-  pub outcome_audited : (ws : List Wanted) (verdict : Verdict) (files : FileMap) → wanted_files ws ≡ given_files (λ _. i) n → HasInputs (file_at files) n i → first_end (file_at files) (wanted_files ws) ≡ end_of verdict → outcome_of (file_at files) (ToAudit n) ≡ outcome_by verdict
+  pub outcome_audited : (ws : List Wanted) (verdict : Verdict) (files : FileMap) → wanted_files ws ≡ given_files (λ _. i) n → HasInputs (file_at files) n i
+      → first_end (file_at files) (wanted_files ws) ≡ end_of verdict → outcome_of (file_at files) (ToAudit n) ≡ outcome_by verdict
   outcome_audited ws verdict files wanted h is = ap (λ end. unwrap_or end (Ends Yes [] yes_line)) (ends_with files h ∙ ap (first_end (file_at files)) (sym wanted) ∙ is)
 
   -- those at the front come to the same
-  same_front : (files : FileMap) → HasInputs (file_at files) n i → (k : ℕ) → first_end (file_at files) (take k (given_files (λ files. inputs_in files n) n)) ≡ first_end (file_at files) (take k (given_files (λ _. i) n))
+  same_front : (files : FileMap) → HasInputs (file_at files) n i → (k : ℕ) → first_end (file_at files) (take k (given_files (λ files. inputs_in files n) n))
+      ≡ first_end (file_at files) (take k (given_files (λ _. i) n))
   same_front files h k =
       ap (first_end (file_at files)) (take-map (given_file (λ files. inputs_in files n)) k (given_names n))
       ∙ same_ends (file_at files) (λ files. inputs_in files n) i (inputs_same files h) (take k (given_names n))
       ∙ ap (first_end (file_at files)) (sym (take-map (given_file (λ _. i)) k (given_names n)))
 
   -- given files that were read up to a place of the reading order
-  read_given : (place : ℕ) (s2 s3 : FilesShown) → IfSome s3.held (λ files. HasInputs (file_at files) n i) → ReadsUpTo (given_files (λ _. i) n) place s2 s3 → ReadsUpTo (given_files (λ files. inputs_in files n) n) place s2 s3
+  read_given : (place : ℕ) (s2 s3 : FilesShown) → IfSome s3.held (λ files. HasInputs (file_at files) n i) → ReadsUpTo (given_files (λ _. i) n) place s2 s3
+      → ReadsUpTo (given_files (λ files. inputs_in files n) n) place s2 s3
   read_given place s2 s3 h read = record {
-    within = let within : place < length (given_files (λ _. i) n) = read.within in omega (arith, length-map (given_names n) (given_file (λ _. i)), length-map (given_names n) (given_file (λ files. inputs_in files n)));
-    calls = calls_are (read_calls (take (place + 1) (given_files (λ _. i) n))) (read_calls (take (place + 1) (given_files (λ files. inputs_in files n) n))) s2 s3 (front_calls (λ _. i) (λ files. inputs_in files n) (place + 1) (given_names n)) read.calls;
-    before_it = mapped s3.held (λ files. HasInputs (file_at files) n i × (first_end (file_at files) (take place (given_files (λ _. i) n)) ≡ None)) (λ files. first_end (file_at files) (take place (given_files (λ files. inputs_in files n) n)) ≡ None)
+    within = let within : place < length (given_files (λ _. i) n) = read.within in
+        omega (arith, length-map (given_names n) (given_file (λ _. i)), length-map (given_names n) (given_file (λ files. inputs_in files n)));
+    calls = calls_are (read_calls (take (place + 1) (given_files (λ _. i) n))) (read_calls (take (place + 1) (given_files (λ files. inputs_in files n) n))) s2 s3
+        (front_calls (λ _. i) (λ files. inputs_in files n) (place + 1) (given_names n)) read.calls;
+    before_it = mapped s3.held (λ files. HasInputs (file_at files) n i × (first_end (file_at files) (take place (given_files (λ _. i) n)) ≡ None))
+        (λ files. first_end (file_at files) (take place (given_files (λ files. inputs_in files n) n)) ≡ None)
         (λ files k. same_front files k.0 place ∙ k.1)
         (both s3.held (λ files. HasInputs (file_at files) n i) (λ files. first_end (file_at files) (take place (given_files (λ _. i) n)) ≡ None) h read.before_it);
   }
 
-  end_given : (place : ℕ) (held : Option FileMap) (end : Outcome) → IfSome held (λ files. HasInputs (file_at files) n i) → IfSome held (λ files. first_end (file_at files) (take (place + 1) (given_files (λ _. i) n)) ≡ Some end) → IfSome held (λ files. first_end (file_at files) (take (place + 1) (given_files (λ files. inputs_in files n) n)) ≡ Some end)
+  end_given : (place : ℕ) (held : Option FileMap) (end : Outcome) → IfSome held (λ files. HasInputs (file_at files) n i)
+      → IfSome held (λ files. first_end (file_at files) (take (place + 1) (given_files (λ _. i) n)) ≡ Some end)
+      → IfSome held (λ files. first_end (file_at files) (take (place + 1) (given_files (λ files. inputs_in files n) n)) ≡ Some end)
   end_given place held end h is =
-      mapped held (λ files. HasInputs (file_at files) n i × (first_end (file_at files) (take (place + 1) (given_files (λ _. i) n)) ≡ Some end)) (λ files. first_end (file_at files) (take (place + 1) (given_files (λ files. inputs_in files n) n)) ≡ Some end)
+      mapped held (λ files. HasInputs (file_at files) n i × (first_end (file_at files) (take (place + 1) (given_files (λ _. i) n)) ≡ Some end))
+      (λ files. first_end (file_at files) (take (place + 1) (given_files (λ files. inputs_in files n) n)) ≡ Some end)
       (λ files k. same_front files k.0 (place + 1) ∙ k.1)
       (both held (λ files. HasInputs (file_at files) n i) (λ files. first_end (file_at files) (take (place + 1) (given_files (λ _. i) n)) ≡ Some end) h is)
 
   -- a stop at a given file, by what the inputs are read as
-  why_given : (place : ℕ) (s2 s3 : FilesShown) (stop : Stop) → IfSome s3.held (λ files. HasInputs (file_at files) n i) → StopsWith (given_files (λ _. i) n) place s2 s3 stop → StopsWith (given_files (λ files. inputs_in files n) n) place s2 s3 stop
+  why_given : (place : ℕ) (s2 s3 : FilesShown) (stop : Stop) → IfSome s3.held (λ files. HasInputs (file_at files) n i) → StopsWith (given_files (λ _. i) n) place s2 s3 stop
+      → StopsWith (given_files (λ files. inputs_in files n) n) place s2 s3 stop
   why_given place s2 s3 (Refused input refusal) h why = end_given place s3.held (refuses input refusal) h why
   why_given place s2 s3 (Unread name) h why =
       let there = sym (slice_get-map (given_file (λ _. i)) (given_names n) place) ∙ why.1 in
@@ -157,7 +171,9 @@ module _ (n : FileNames) (i : Inputs) where
   why_given place s2 s3 Memory h why = tt
 
   -- a stop at a given file is a stop of all
-  pub stopped_given : (ws : List Wanted) (s0 s2 s3 : FilesShown) (stop : Stop) → wanted_files ws ≡ given_files (λ _. i) n → NoneFell s0.read_faults s2.read_faults → MakesCalls s0 s2 (read_calls (inputs_of n)) → KeepsHeld s2.held s3.held → IfSome s2.held (λ files. HasInputs (file_at files) n i) → StopsReading (wanted_files ws) s2 s3 stop → StopsReading (reads_of (ToAudit n)) s0 s3 stop
+  pub stopped_given : (ws : List Wanted) (s0 s2 s3 : FilesShown) (stop : Stop) → wanted_files ws ≡ given_files (λ _. i) n → NoneFell s0.read_faults s2.read_faults
+      → MakesCalls s0 s2 (read_calls (inputs_of n)) → KeepsHeld s2.held s3.held → IfSome s2.held (λ files. HasInputs (file_at files) n i)
+      → StopsReading (wanted_files ws) s2 s3 stop → StopsReading (reads_of (ToAudit n)) s0 s3 stop
   stopped_given ws s0 s2 s3 stop wanted fell calls keeps h stops =
       let later : IfSome s3.held (λ files. HasInputs (file_at files) n i) = held_later s2.held s3.held (λ files. HasInputs (file_at files) n i) keeps h in
       let given_stops : StopsReading (given_files (λ _. i) n) s2 s3 stop = subst (λ (reads : List Reading). StopsReading reads s2 s3 stop) wanted stops in
@@ -170,17 +186,22 @@ module _ (n : FileNames) (i : Inputs) where
       })
 
   -- how far all files were read where this was found
-  pub found_given : (ws : List Wanted) (verdict : Verdict) (s0 s2 s3 : FilesShown) → wanted_files ws ≡ given_files (λ _. i) n → MakesCalls s0 s2 (read_calls (inputs_of n)) → KeepsHeld s2.held s3.held → IfSome s2.held (λ files. HasInputs (file_at files) n i) → ReadsToFind (wanted_files ws) verdict s2 s3 → ReadsToFind (reads_of (ToAudit n)) verdict s0 s3
+  pub found_given : (ws : List Wanted) (verdict : Verdict) (s0 s2 s3 : FilesShown) → wanted_files ws ≡ given_files (λ _. i) n → MakesCalls s0 s2 (read_calls (inputs_of n))
+      → KeepsHeld s2.held s3.held → IfSome s2.held (λ files. HasInputs (file_at files) n i) → ReadsToFind (wanted_files ws) verdict s2 s3 → ReadsToFind (reads_of (ToAudit n)) verdict s0 s3
   found_given ws Equal s0 s2 s3 wanted calls keeps h read =
       let given : read_calls (wanted_files ws) ≡ read_calls (given_files (λ files. inputs_in files n) n) = ap read_calls wanted ∙ same_calls (λ _. i) (λ files. inputs_in files n) (given_names n) in
-      let same : read_calls (inputs_of n) ++ read_calls (wanted_files ws) ≡ read_calls (reads_of (ToAudit n)) = ap (λ more. read_calls (inputs_of n) ++ more) given ∙ sym (map-append read_call (inputs_of n) (given_files (λ files. inputs_in files n) n)) in
-      calls_are (read_calls (inputs_of n) ++ read_calls (wanted_files ws)) (read_calls (reads_of (ToAudit n))) s0 s3 same (calls_on (read_calls (inputs_of n)) (read_calls (wanted_files ws)) s0 s2 s3 calls read)
+      let same : read_calls (inputs_of n) ++ read_calls (wanted_files ws) ≡ read_calls (reads_of (ToAudit n)) = ap (λ more. read_calls (inputs_of n) ++ more) given
+      ∙ sym (map-append read_call (inputs_of n) (given_files (λ files. inputs_in files n) n)) in
+      calls_are (read_calls (inputs_of n) ++ read_calls (wanted_files ws)) (read_calls (reads_of (ToAudit n))) s0 s3 same
+      (calls_on (read_calls (inputs_of n)) (read_calls (wanted_files ws)) s0 s2 s3 calls read)
   found_given ws (False line) s0 s2 s3 wanted calls keeps h found =
       let later : IfSome s3.held (λ files. HasInputs (file_at files) n i) = held_later s2.held s3.held (λ files. HasInputs (file_at files) n i) keeps h in
-      let front : IfSome s3.held (λ files. AreAccepted (file_at files) (inputs_of n)) = mapped s3.held (λ files. HasInputs (file_at files) n i) (λ files. AreAccepted (file_at files) (inputs_of n)) inputs_there later in
+      let front : IfSome s3.held (λ files. AreAccepted (file_at files) (inputs_of n)) =
+      mapped s3.held (λ files. HasInputs (file_at files) n i) (λ files. AreAccepted (file_at files) (inputs_of n)) inputs_there later in
       let place : ℕ = found.0 in
       let read : ReadsUpTo (given_files (λ _. i) n) place s2 s3 = subst (λ (reads : List Reading). ReadsUpTo reads place s2 s3) wanted found.1 in
-      let end : IfSome s3.held (λ files. first_end (file_at files) (take (place + 1) (given_files (λ _. i) n)) ≡ Some (Ends No [] line.items)) = subst (λ (reads : List Reading). IfSome s3.held (λ files. first_end (file_at files) (take (place + 1) reads) ≡ Some (Ends No [] line.items))) wanted found.2 in (
+      let end : IfSome s3.held (λ files. first_end (file_at files) (take (place + 1) (given_files (λ _. i) n)) ≡ Some (Ends No [] line.items)) =
+      subst (λ (reads : List Reading). IfSome s3.held (λ files. first_end (file_at files) (take (place + 1) reads) ≡ Some (Ends No [] line.items))) wanted found.2 in (
         4 + place,
         read_after (inputs_of n) (given_files (λ files. inputs_in files n) n) place s0 s2 s3 calls front (read_given place s2 s3 later read),
         end_after (inputs_of n) (given_files (λ files. inputs_in files n) n) place s3.held (Ends No [] line.items) front (end_given place s3.held (Ends No [] line.items) later end),
@@ -191,23 +212,31 @@ equal_counted : (n : FileNames) (s0 s1 : FilesShown) (o0 o1 : SinkShown) → Rea
 equal_counted n s0 s1 o0 o1 read put =
     (calls_are (read_calls (reads_of (ToAudit n))) (read_calls (reads_of (ToAudit n)) ++ []) s0 s1 (sym (append-nil (read_calls (reads_of (ToAudit n))))) read, put)
 
-false_counted : (n : FileNames) (line : Vec ℕ Global) (s0 s1 : FilesShown) (o0 o1 : SinkShown) → IfSome s1.held (λ files. outcome_of (file_at files) (ToAudit n) ≡ Ends No [] line.items) → ReadsToFind (reads_of (ToAudit n)) (False line) s0 s1 → MakesPuts o0 o1 1 → IsEndedCounted (ToAudit n) (s0, o0) (s1, o1)
+false_counted : (n : FileNames) (line : Vec ℕ Global) (s0 s1 : FilesShown) (o0 o1 : SinkShown) → IfSome s1.held (λ files. outcome_of (file_at files) (ToAudit n) ≡ Ends No [] line.items)
+    → ReadsToFind (reads_of (ToAudit n)) (False line) s0 s1 → MakesPuts o0 o1 1 → IsEndedCounted (ToAudit n) (s0, o0) (s1, o1)
 false_counted n line s0 s1 o0 o1 told found put = (found.0, found.1, ends, put)
   where
     ends : IfSome s1.held (λ files. EndsAt (ToAudit n) found.0 (file_at files))
     ends =
-        mapped s1.held (λ files. (outcome_of (file_at files) (ToAudit n) ≡ Ends No [] line.items) × (first_end (file_at files) (take (found.0 + 1) (reads_of (ToAudit n))) ≡ Some (Ends No [] line.items))) (λ files. EndsAt (ToAudit n) found.0 (file_at files))
+        mapped s1.held (λ files. (outcome_of (file_at files) (ToAudit n) ≡ Ends No [] line.items)
+        × (first_end (file_at files) (take (found.0 + 1) (reads_of (ToAudit n))) ≡ Some (Ends No [] line.items))) (λ files. EndsAt (ToAudit n) found.0 (file_at files))
         (λ files h. inl (h.1 ∙ ap Some (sym h.0)))
-        (both s1.held (λ files. outcome_of (file_at files) (ToAudit n) ≡ Ends No [] line.items) (λ files. first_end (file_at files) (take (found.0 + 1) (reads_of (ToAudit n))) ≡ Some (Ends No [] line.items)) told found.2)
+        (both s1.held (λ files. outcome_of (file_at files) (ToAudit n) ≡ Ends No [] line.items)
+        (λ files. first_end (file_at files) (take (found.0 + 1) (reads_of (ToAudit n))) ≡ Some (Ends No [] line.items)) told found.2)
 
 -- the answer of a verdict
-pub verdict_call : (n : FileNames) (verdict : Verdict) (s0 s1 : FilesShown) (o0 o1 : SinkShown) (answer : Status) → KeepsHeld s0.held s1.held → IfSome s1.held (λ files. outcome_of (file_at files) (ToAudit n) ≡ outcome_by verdict) → ReadsToFind (reads_of (ToAudit n)) verdict s0 s1 → PutsVerdict verdict answer o0 o1 → MakesPuts o0 o1 1
+pub verdict_call : (n : FileNames) (verdict : Verdict) (s0 s1 : FilesShown) (o0 o1 : SinkShown) (answer : Status) → KeepsHeld s0.held s1.held
+    → IfSome s1.held (λ files. outcome_of (file_at files) (ToAudit n) ≡ outcome_by verdict) → ReadsToFind (reads_of (ToAudit n)) verdict s0 s1 → PutsVerdict verdict answer o0 o1 → MakesPuts o0 o1 1
     → IsCall (Some (ToAudit n)) answer (s0, o0) (s1, o1)
-verdict_call n Equal s0 s1 o0 o1 answer keeps told read puts put = answered_call (ToAudit n) Yes yes_line s0 s1 o0 o1 answer tt (0, omega arith, refl) (equal_counted n s0 s1 o0 o1 read put) keeps told puts
-verdict_call n (False line) s0 s1 o0 o1 answer keeps told read puts put = answered_call (ToAudit n) No line.items s0 s1 o0 o1 answer tt (1, omega arith, refl) (false_counted n line s0 s1 o0 o1 told read put) keeps told puts
+verdict_call n Equal s0 s1 o0 o1 answer keeps told read puts put = answered_call (ToAudit n) Yes yes_line s0 s1 o0 o1 answer tt (0, omega arith, refl)
+    (equal_counted n s0 s1 o0 o1 read put) keeps told puts
+verdict_call n (False line) s0 s1 o0 o1 answer keeps told read puts put = answered_call (ToAudit n) No line.items s0 s1 o0 o1 answer tt (1, omega arith, refl)
+    (false_counted n line s0 s1 o0 o1 told read put) keeps told puts
 
 -- and its calls
-pub verdict_counted : (n : FileNames) (verdict : Verdict) (s0 s1 : FilesShown) (o0 o1 : SinkShown) (answer : Status) → IfSome s1.held (λ files. outcome_of (file_at files) (ToAudit n) ≡ outcome_by verdict) → ReadsToFind (reads_of (ToAudit n)) verdict s0 s1 → PutsVerdict verdict answer o0 o1 → MakesPuts o0 o1 1 → IsCountedCall (Some (ToAudit n)) answer (s0, o0) (s1, o1)
+pub verdict_counted : (n : FileNames) (verdict : Verdict) (s0 s1 : FilesShown) (o0 o1 : SinkShown) (answer : Status)
+    → IfSome s1.held (λ files. outcome_of (file_at files) (ToAudit n) ≡ outcome_by verdict) → ReadsToFind (reads_of (ToAudit n)) verdict s0 s1
+    → PutsVerdict verdict answer o0 o1 → MakesPuts o0 o1 1 → IsCountedCall (Some (ToAudit n)) answer (s0, o0) (s1, o1)
 verdict_counted n Equal s0 s1 o0 o1 answer told read puts put = counted_line (ToAudit n) Yes yes_line s0 s1 o0 o1 answer (equal_counted n s0 s1 o0 o1 read put) puts
 verdict_counted n (False line) s0 s1 o0 o1 answer told read puts put = counted_line (ToAudit n) No line.items s0 s1 o0 o1 answer (false_counted n line s0 s1 o0 o1 told read put) puts
 
@@ -218,59 +247,77 @@ module _ (ws : List Wanted) (i : ℕ) (w : Wanted) (at : slice_get ws i ≡ Some
 
   pub cut_there : wanted_files ws ≡ take i (wanted_files ws) ++ wanted_file w ∷ drop (i + 1) (wanted_files ws)
   cut_there = sym (take-append-drop i (wanted_files ws)) ∙ ap (λ rest. take i (wanted_files ws) ++ rest)
-      (drop_more (wanted_files ws) i (wanted_file w) (slice_get_within (wanted_files ws) i (wanted_file w) reads_at) ∙ ap (λ r. r ∷ drop (i + 1) (wanted_files ws)) (get_or_from_slice_get (wanted_files ws) i (wanted_file w) (wanted_file w) reads_at))
+      (drop_more (wanted_files ws) i (wanted_file w) (slice_get_within (wanted_files ws) i (wanted_file w) reads_at)
+      ∙ ap (λ r. r ∷ drop (i + 1) (wanted_files ws)) (get_or_from_slice_get (wanted_files ws) i (wanted_file w) (wanted_file w) reads_at))
 
   taken_there : take (i + 1) (wanted_files ws) ≡ take i (wanted_files ws) ++ wanted_file w ∷ []
   taken_there = taken_more (wanted_files ws) i (wanted_file w) reads_at
 
   -- so the files up to it are right
-  pub accepted_more : (held : Option FileMap) → IfSome held (λ files. AreAccepted (file_at files) (take i (wanted_files ws))) → IfSome held (λ files. IsAccepted (file_at files) (wanted_file w)) → IfSome held (λ files. AreAccepted (file_at files) (take (i + 1) (wanted_files ws)))
+  pub accepted_more : (held : Option FileMap) → IfSome held (λ files. AreAccepted (file_at files) (take i (wanted_files ws)))
+      → IfSome held (λ files. IsAccepted (file_at files) (wanted_file w)) → IfSome held (λ files. AreAccepted (file_at files) (take (i + 1) (wanted_files ws)))
   accepted_more held front here =
       mapped held (λ files. AreAccepted (file_at files) (take i (wanted_files ws)) × IsAccepted (file_at files) (wanted_file w)) (λ files. AreAccepted (file_at files) (take (i + 1) (wanted_files ws)))
       (λ files h. subst (AreAccepted (file_at files)) (sym taken_there) (accepted_and (file_at files) (take i (wanted_files ws)) (wanted_file w) h.0 h.1))
       (both held (λ files. AreAccepted (file_at files) (take i (wanted_files ws))) (λ files. IsAccepted (file_at files) (wanted_file w)) front here)
 
   -- the first that is false ends the call
-  pub false_ends : (held : Option FileMap) (verdict : Verdict) (end : Outcome) → end_of verdict ≡ Some end → IfSome held (λ files. AreAccepted (file_at files) (take i (wanted_files ws))) → IfSome held (λ files. option_map ((wanted_file w).ends (file_at files)) (file_at files w.name.now) ≡ Some (end_of verdict)) → IfSome held (λ files. first_end (file_at files) (wanted_files ws) ≡ end_of verdict)
+  pub false_ends : (held : Option FileMap) (verdict : Verdict) (end : Outcome) → end_of verdict ≡ Some end → IfSome held (λ files. AreAccepted (file_at files) (take i (wanted_files ws)))
+      → IfSome held (λ files. option_map ((wanted_file w).ends (file_at files)) (file_at files w.name.now) ≡ Some (end_of verdict))
+      → IfSome held (λ files. first_end (file_at files) (wanted_files ws) ≡ end_of verdict)
   false_ends held verdict end is front here =
-      mapped held (λ files. AreAccepted (file_at files) (take i (wanted_files ws)) × (option_map ((wanted_file w).ends (file_at files)) (file_at files w.name.now) ≡ Some (end_of verdict))) (λ files. first_end (file_at files) (wanted_files ws) ≡ end_of verdict)
+      mapped held (λ files. AreAccepted (file_at files) (take i (wanted_files ws)) × (option_map ((wanted_file w).ends (file_at files)) (file_at files w.name.now) ≡ Some (end_of verdict)))
+      (λ files. first_end (file_at files) (wanted_files ws) ≡ end_of verdict)
       (λ files h. ap (first_end (file_at files)) cut_there ∙ end_behind (file_at files) (take i (wanted_files ws)) (wanted_file w) (drop (i + 1) (wanted_files ws)) end h.0 (h.1 ∙ ap Some is) ∙ sym is)
-      (both held (λ files. AreAccepted (file_at files) (take i (wanted_files ws))) (λ files. option_map ((wanted_file w).ends (file_at files)) (file_at files w.name.now) ≡ Some (end_of verdict)) front here)
+      (both held (λ files. AreAccepted (file_at files) (take i (wanted_files ws))) (λ files. option_map ((wanted_file w).ends (file_at files)) (file_at files w.name.now)
+      ≡ Some (end_of verdict)) front here)
 
   -- the calls up to it
-  pub called_there : (s0 s1 s2 : FilesShown) → MakesCalls s0 s1 (read_calls (take i (wanted_files ws))) → MakesCalls s1 s2 (Reads w.name.now ∷ []) → MakesCalls s0 s2 (read_calls (take i (wanted_files ws)) ++ Reads w.name.now ∷ [])
+  pub called_there : (s0 s1 s2 : FilesShown) → MakesCalls s0 s1 (read_calls (take i (wanted_files ws))) → MakesCalls s1 s2 (Reads w.name.now ∷ [])
+      → MakesCalls s0 s2 (read_calls (take i (wanted_files ws)) ++ Reads w.name.now ∷ [])
   called_there s0 s1 s2 before here = calls_on (read_calls (take i (wanted_files ws))) (Reads w.name.now ∷ []) s0 s1 s2 before here
 
-  pub read_there : (s0 s1 s2 : FilesShown) → MakesCalls s0 s1 (read_calls (take i (wanted_files ws))) → MakesCalls s1 s2 (Reads w.name.now ∷ []) → MakesCalls s0 s2 (read_calls (take (i + 1) (wanted_files ws)))
+  pub read_there : (s0 s1 s2 : FilesShown) → MakesCalls s0 s1 (read_calls (take i (wanted_files ws))) → MakesCalls s1 s2 (Reads w.name.now ∷ [])
+      → MakesCalls s0 s2 (read_calls (take (i + 1) (wanted_files ws)))
   read_there s0 s1 s2 before here = read_more (wanted_files ws) i (wanted_file w) s0 s1 s2 reads_at before here
 
   -- a stop there, whose files were read once each
-  stop_there : (s0 s1 s2 : FilesShown) (stop : Stop) → NoneFell s0.read_faults s1.read_faults → MakesCalls s0 s2 (read_calls (take i (wanted_files ws)) ++ Reads w.name.now ∷ []) → IfSome s2.held (λ files. AreAccepted (file_at files) (take i (wanted_files ws))) → StopsAt (wanted_file w) s1 s2 stop → StopsReading (take i (wanted_files ws) ++ wanted_file w ∷ drop (i + 1) (wanted_files ws)) s0 s2 stop
+  stop_there : (s0 s1 s2 : FilesShown) (stop : Stop) → NoneFell s0.read_faults s1.read_faults → MakesCalls s0 s2 (read_calls (take i (wanted_files ws)) ++ Reads w.name.now ∷ [])
+      → IfSome s2.held (λ files. AreAccepted (file_at files) (take i (wanted_files ws))) → StopsAt (wanted_file w) s1 s2 stop
+      → StopsReading (take i (wanted_files ws) ++ wanted_file w ∷ drop (i + 1) (wanted_files ws)) s0 s2 stop
   stop_there s0 s1 s2 stop fell calls front stops =
       stopped_behind (take i (wanted_files ws)) (wanted_file w) (drop (i + 1) (wanted_files ws)) s0 s1 s2 stop fell calls front stops
 
-  pub stopped_there : (s0 s1 s2 : FilesShown) (stop : Stop) → NoneFell s0.read_faults s1.read_faults → MakesCalls s0 s2 (read_calls (take i (wanted_files ws)) ++ Reads w.name.now ∷ []) → IfSome s2.held (λ files. AreAccepted (file_at files) (take i (wanted_files ws))) → StopsAt (wanted_file w) s1 s2 stop → StopsReading (wanted_files ws) s0 s2 stop
+  pub stopped_there : (s0 s1 s2 : FilesShown) (stop : Stop) → NoneFell s0.read_faults s1.read_faults → MakesCalls s0 s2 (read_calls (take i (wanted_files ws)) ++ Reads w.name.now ∷ [])
+      → IfSome s2.held (λ files. AreAccepted (file_at files) (take i (wanted_files ws))) → StopsAt (wanted_file w) s1 s2 stop → StopsReading (wanted_files ws) s0 s2 stop
   stopped_there s0 s1 s2 stop fell calls front stops = subst (λ (reads : List Reading). StopsReading reads s0 s2 stop) (sym cut_there) (stop_there s0 s1 s2 stop fell calls front stops)
 
   -- a false line there
-  pub false_found : (line : Vec ℕ Global) (s0 s2 : FilesShown) → MakesCalls s0 s2 (read_calls (take (i + 1) (wanted_files ws))) → IfSome s2.held (λ files. AreAccepted (file_at files) (take i (wanted_files ws))) → IfSome s2.held (λ files. option_map ((wanted_file w).ends (file_at files)) (file_at files w.name.now) ≡ Some (Some (Ends No [] line.items))) → ReadsToFind (wanted_files ws) (False line) s0 s2
+  pub false_found : (line : Vec ℕ Global) (s0 s2 : FilesShown) → MakesCalls s0 s2 (read_calls (take (i + 1) (wanted_files ws)))
+      → IfSome s2.held (λ files. AreAccepted (file_at files) (take i (wanted_files ws)))
+      → IfSome s2.held (λ files. option_map ((wanted_file w).ends (file_at files)) (file_at files w.name.now) ≡ Some (Some (Ends No [] line.items))) → ReadsToFind (wanted_files ws) (False line) s0 s2
   false_found line s0 s2 calls front here = (i, up_to_there, end_there)
     where
       up_to_there : ReadsUpTo (wanted_files ws) i s0 s2
       up_to_there = record {
         within = slice_get_within (wanted_files ws) i (wanted_file w) reads_at;
         calls = calls;
-        before_it = mapped s2.held (λ files. AreAccepted (file_at files) (take i (wanted_files ws))) (λ files. first_end (file_at files) (take i (wanted_files ws)) ≡ None) (λ files h. accepted_all (file_at files) (take i (wanted_files ws)) h) front;
+        before_it = mapped s2.held (λ files. AreAccepted (file_at files) (take i (wanted_files ws))) (λ files. first_end (file_at files) (take i (wanted_files ws)) ≡ None)
+            (λ files h. accepted_all (file_at files) (take i (wanted_files ws)) h) front;
       }
 
       end_there : IfSome s2.held (λ files. first_end (file_at files) (take (i + 1) (wanted_files ws)) ≡ Some (Ends No [] line.items))
       end_there =
-          mapped s2.held (λ files. AreAccepted (file_at files) (take i (wanted_files ws)) × (option_map ((wanted_file w).ends (file_at files)) (file_at files w.name.now) ≡ Some (Some (Ends No [] line.items)))) (λ files. first_end (file_at files) (take (i + 1) (wanted_files ws)) ≡ Some (Ends No [] line.items))
+          mapped s2.held (λ files. AreAccepted (file_at files) (take i (wanted_files ws))
+          × (option_map ((wanted_file w).ends (file_at files)) (file_at files w.name.now) ≡ Some (Some (Ends No [] line.items))))
+          (λ files. first_end (file_at files) (take (i + 1) (wanted_files ws)) ≡ Some (Ends No [] line.items))
           (λ files h. ap (first_end (file_at files)) taken_there ∙ end_behind (file_at files) (take i (wanted_files ws)) (wanted_file w) [] (Ends No [] line.items) h.0 h.1)
-          (both s2.held (λ files. AreAccepted (file_at files) (take i (wanted_files ws))) (λ files. option_map ((wanted_file w).ends (file_at files)) (file_at files w.name.now) ≡ Some (Some (Ends No [] line.items))) front here)
+          (both s2.held (λ files. AreAccepted (file_at files) (take i (wanted_files ws)))
+          (λ files. option_map ((wanted_file w).ends (file_at files)) (file_at files w.name.now) ≡ Some (Some (Ends No [] line.items))) front here)
 
 -- where all are right nothing ends the call
-pub all_right : (ws : List Wanted) (i : ℕ) (held : Option FileMap) → length ws ≤ i → IfSome held (λ files. AreAccepted (file_at files) (take i (wanted_files ws))) → IfSome held (λ files. first_end (file_at files) (wanted_files ws) ≡ None)
+pub all_right : (ws : List Wanted) (i : ℕ) (held : Option FileMap) → length ws ≤ i → IfSome held (λ files. AreAccepted (file_at files) (take i (wanted_files ws)))
+    → IfSome held (λ files. first_end (file_at files) (wanted_files ws) ≡ None)
 all_right ws i held far front =
     mapped held (λ files. AreAccepted (file_at files) (take i (wanted_files ws))) (λ files. first_end (file_at files) (wanted_files ws) ≡ None)
     (λ files h. accepted_all (file_at files) (wanted_files ws) (subst (AreAccepted (file_at files)) (take_past (wanted_files ws) i (omega (arith, length-map ws wanted_file))) h)) front

@@ -69,30 +69,41 @@ outcome_generated n i files h =
     ∙ ap (outcome_of_generate n) (given n i.table i.params i.start i.dictionary files h)
 
 -- one input is read after the other, and the files stay as they are
-pub two_read : (n : FileNames) (t : Alphabet) (p : Parameters) (h1 h2 : Option FileMap) → KeepsHeld h1 h2 → IfSome h1 (HasTable n t) → IfSome h2 (λ files. read_as parameters (file_at files) n.params ≡ Some (Ok p)) → IfSome h2 (HasTwo n t p)
+pub two_read : (n : FileNames) (t : Alphabet) (p : Parameters) (h1 h2 : Option FileMap) → KeepsHeld h1 h2 → IfSome h1 (HasTable n t)
+    → IfSome h2 (λ files. read_as parameters (file_at files) n.params ≡ Some (Ok p)) → IfSome h2 (HasTwo n t p)
 two_read n t p h1 h2 keeps one more = both h2 (HasTable n t) (λ files. read_as parameters (file_at files) n.params ≡ Some (Ok p)) (held_later h1 h2 (HasTable n t) keeps one) more
 
-pub all_read : (n : FileNames) (t : Alphabet) (p : Parameters) (S : List ((List ℕ × ℕ) × ℕ)) (ws : List Word) (h2 h3 : Option FileMap) → KeepsHeld h2 h3 → IfSome h2 (HasTwo n t p) → IfSome h3 (λ files. HasLists (file_at files) t n.patterns n.dict S ws) → IfSome h3 (λ files. HasInputs (file_at files) n (record { table = t; params = p; start = S; dictionary = ws }))
+pub all_read : (n : FileNames) (t : Alphabet) (p : Parameters) (S : List ((List ℕ × ℕ) × ℕ)) (ws : List Word) (h2 h3 : Option FileMap) → KeepsHeld h2 h3
+    → IfSome h2 (HasTwo n t p) → IfSome h3 (λ files. HasLists (file_at files) t n.patterns n.dict S ws)
+    → IfSome h3 (λ files. HasInputs (file_at files) n (record { table = t; params = p; start = S; dictionary = ws }))
 all_read n t p S ws h2 h3 keeps two more =
-    mapped h3 (λ files. HasTwo n t p files × HasLists (file_at files) t n.patterns n.dict S ws) (λ files. HasInputs (file_at files) n (record { table = t; params = p; start = S; dictionary = ws })) (λ files h. record { table = h.0.0; params = h.0.1; start = h.1.start; words = h.1.words })
+    mapped h3 (λ files. HasTwo n t p files × HasLists (file_at files) t n.patterns n.dict S ws) (λ files. HasInputs (file_at files) n (record { table = t; params = p; start = S; dictionary = ws }))
+    (λ files h. record { table = h.0.0; params = h.0.1; start = h.1.start; words = h.1.words })
     (both h3 (HasTwo n t p) (λ files. HasLists (file_at files) t n.patterns n.dict S ws) (held_later h2 h3 (HasTwo n t p) keeps two) more)
 
 -- a stop at the first input, at the second, and at one of the last two
 pub stopped_1 : (n : FileNames) (s0 s1 : FilesShown) (stop : Stop) → MakesCalls s0 s1 (Reads n.translate ∷ []) → StopsAt (translate_file n.translate) s0 s1 stop → StopsReading (inputs_of n) s0 s1 stop
 stopped_1 n s0 s1 stop calls stops = stopped_first (translate_file n.translate) (parameters_input n ∷ patterns_file n.translate n.patterns ∷ words_file n.translate n.dict ∷ []) s0 s1 stop calls stops
 
-pub stopped_2 : (n : FileNames) (t : Alphabet) (s0 s1 s2 : FilesShown) (stop : Stop) → NoneFell s0.read_faults s1.read_faults → MakesCalls s0 s2 (Reads n.translate ∷ Reads n.params ∷ []) → KeepsHeld s1.held s2.held → IfSome s1.held (HasTable n t) → StopsAt (parameters_input n) s1 s2 stop → StopsReading (inputs_of n) s0 s2 stop
+pub stopped_2 : (n : FileNames) (t : Alphabet) (s0 s1 s2 : FilesShown) (stop : Stop) → NoneFell s0.read_faults s1.read_faults
+    → MakesCalls s0 s2 (Reads n.translate ∷ Reads n.params ∷ []) → KeepsHeld s1.held s2.held → IfSome s1.held (HasTable n t) → StopsAt (parameters_input n) s1 s2 stop
+    → StopsReading (inputs_of n) s0 s2 stop
 stopped_2 n t s0 s1 s2 stop fell calls keeps one stops =
     stopped_behind (translate_file n.translate ∷ []) (parameters_input n) (patterns_file n.translate n.patterns ∷ words_file n.translate n.dict ∷ []) s0 s1 s2 stop fell calls
-    (mapped s2.held (HasTable n t) (λ files. AreAccepted (file_at files) (translate_file n.translate ∷ [])) (λ files h. (table_accepted n.translate t files h, tt)) (held_later s1.held s2.held (HasTable n t) keeps one)) stops
+    (mapped s2.held (HasTable n t) (λ files. AreAccepted (file_at files) (translate_file n.translate ∷ [])) (λ files h. (table_accepted n.translate t files h, tt))
+    (held_later s1.held s2.held (HasTable n t) keeps one)) stops
 
-pub stopped_lists : (n : FileNames) (t : Alphabet) (p : Parameters) (s0 s2 s3 : FilesShown) (stop : Stop) → NoneFell s0.read_faults s2.read_faults → MakesCalls s0 s2 (Reads n.translate ∷ Reads n.params ∷ []) → KeepsHeld s2.held s3.held → IfSome s2.held (HasTwo n t p) → StopsReading (lists_under n.translate n.patterns n.dict) s2 s3 stop → StopsReading (inputs_of n) s0 s3 stop
+pub stopped_lists : (n : FileNames) (t : Alphabet) (p : Parameters) (s0 s2 s3 : FilesShown) (stop : Stop) → NoneFell s0.read_faults s2.read_faults
+    → MakesCalls s0 s2 (Reads n.translate ∷ Reads n.params ∷ []) → KeepsHeld s2.held s3.held → IfSome s2.held (HasTwo n t p)
+    → StopsReading (lists_under n.translate n.patterns n.dict) s2 s3 stop → StopsReading (inputs_of n) s0 s3 stop
 stopped_lists n t p s0 s2 s3 stop fell calls keeps two stops =
     stopped_after (translate_file n.translate ∷ parameters_input n ∷ []) (lists_under n.translate n.patterns n.dict) s0 s2 s3 stop fell calls
-    (mapped s3.held (HasTwo n t p) (λ files. AreAccepted (file_at files) (translate_file n.translate ∷ parameters_input n ∷ [])) (two_accepted n t p) (held_later s2.held s3.held (HasTwo n t p) keeps two)) stops
+    (mapped s3.held (HasTwo n t p) (λ files. AreAccepted (file_at files) (translate_file n.translate ∷ parameters_input n ∷ [])) (two_accepted n t p)
+    (held_later s2.held s3.held (HasTwo n t p) keeps two)) stops
 
 -- all were read, and then memory was wanted
-pub inputs_wanted : (n : FileNames) (i : Inputs) (s0 s1 : FilesShown) → MakesCalls s0 s1 (read_calls (inputs_of n)) → IfSome s1.held (λ files. HasInputs (file_at files) n i) → StopsReading (inputs_of n) s0 s1 Memory
+pub inputs_wanted : (n : FileNames) (i : Inputs) (s0 s1 : FilesShown) → MakesCalls s0 s1 (read_calls (inputs_of n)) → IfSome s1.held (λ files. HasInputs (file_at files) n i)
+    → StopsReading (inputs_of n) s0 s1 Memory
 inputs_wanted n i s0 s1 calls read =
     wanted_after (inputs_of n) s0 s1 (omega arith) calls
     (mapped s1.held (λ files. HasInputs (file_at files) n i) (λ files. AreAccepted (file_at files) (inputs_of n)) (λ files h. inputs_accepted n i.table i.params i.start i.dictionary files h) read)

@@ -25,10 +25,12 @@ use Rattle.pg_top.proofs.Orders.{AreAccepted, accepted_all, mapped, both, held_l
 use Rattle.pg_top.proofs.UnderTable.{HasTable, is_table, table_accepted, accepted_under, means_under}
 
 -- both files of `pack` are read, one after the other
-pub source_read : (p : PackRequest) (t : Alphabet) (P : Patterns) (h1 h2 : Option FileMap) → KeepsHeld h1 h2 → IfSome h1 (HasTable p.translate t) → IfSome h2 (λ files. read_as (start t) (file_at files) p.patterns ≡ Some (Ok P))
+pub source_read : (p : PackRequest) (t : Alphabet) (P : Patterns) (h1 h2 : Option FileMap) → KeepsHeld h1 h2 → IfSome h1 (HasTable p.translate t)
+    → IfSome h2 (λ files. read_as (start t) (file_at files) p.patterns ≡ Some (Ok P))
     → IfSome h2 (λ files. HasSource (file_at files) p.translate p.patterns (record { table = t; patterns = P }))
 source_read p t P h1 h2 keeps one more =
-    mapped h2 (λ files. HasTable p.translate t files × (read_as (start t) (file_at files) p.patterns ≡ Some (Ok P))) (λ files. HasSource (file_at files) p.translate p.patterns (record { table = t; patterns = P })) (λ files h. record { table = h.0; patterns = h.1 })
+    mapped h2 (λ files. HasTable p.translate t files × (read_as (start t) (file_at files) p.patterns ≡ Some (Ok P)))
+    (λ files. HasSource (file_at files) p.translate p.patterns (record { table = t; patterns = P })) (λ files h. record { table = h.0; patterns = h.1 })
     (both h2 (HasTable p.translate t) (λ files. read_as (start t) (file_at files) p.patterns ≡ Some (Ok P)) (held_later h1 h2 (HasTable p.translate t) keeps one) more)
 
 -- and are accepted
@@ -36,7 +38,8 @@ pack_accepted : (p : PackRequest) (s : Source) (files : FileMap) → HasSource (
 pack_accepted p s files h = (table_accepted p.translate s.table files h.table, (accepted_under p.translate s.table start input.Patterns p.patterns s.patterns files h.table h.patterns, tt))
 
 -- then it comes to the table of the patterns
-pub pack_outcome : (p : PackRequest) (s : Source) (files : FileMap) → HasSource (file_at files) p.translate p.patterns s → outcome_of (file_at files) (to_pack p) ≡ outcome_of_pack p.table s.table s.patterns
+pub pack_outcome : (p : PackRequest) (s : Source) (files : FileMap) → HasSource (file_at files) p.translate p.patterns s → outcome_of (file_at files) (to_pack p)
+    ≡ outcome_of_pack p.table s.table s.patterns
 pack_outcome p s files h =
     let is_t = is_table p.translate s.table files h.table in
     let is_P = means_under p.translate s.table start [] p.patterns s.patterns files h.table h.patterns in
@@ -44,7 +47,9 @@ pack_outcome p s files h =
     ∙ (λ k. outcome_of_pack p.table (is_t k) (is_P k))
 
 -- what it promises
-pub pack_keeps : (p : PackRequest) (s : Source) (writing : Writing) (lines : List ℕ) (files : FileMap) → outcome_of_pack p.table s.table s.patterns ≡ Ends Done writing lines → writing ≡ (p.table, packed_text s.table s.patterns) ∷ [] → packed_table s.table (packed_text s.table s.patterns) ≡ Ok (packed_text s.table s.patterns) → GivesValues (packed_text s.table s.patterns) s.patterns → HasSource (file_at files) p.translate p.patterns s → Keeps (to_pack p) (file_at files)
+pub pack_keeps : (p : PackRequest) (s : Source) (writing : Writing) (lines : List ℕ) (files : FileMap) → outcome_of_pack p.table s.table s.patterns
+    ≡ Ends Done writing lines → writing ≡ (p.table, packed_text s.table s.patterns) ∷ [] → packed_table s.table (packed_text s.table s.patterns)
+    ≡ Ok (packed_text s.table s.patterns) → GivesValues (packed_text s.table s.patterns) s.patterns → HasSource (file_at files) p.translate p.patterns s → Keeps (to_pack p) (file_at files)
 pack_keeps p s writing lines files made table accepted gives h = record {
   bytes = packed_text s.table s.patterns;
   lines = lines;
@@ -54,10 +59,12 @@ pack_keeps p s writing lines files made table accepted gives h = record {
 }
 
 -- a stop at making the table
-pub stopped_making : (p : PackRequest) (s : Source) (s0 s1 : FilesShown) (why : Stop) → MakesCalls s0 s1 (read_calls (reads_of (to_pack p))) → IfSome s1.held (λ files. HasSource (file_at files) p.translate p.patterns s) → StopsMaking (outcome_of_pack p.table s.table s.patterns) why → StopsCommand (to_pack p) s0 s1 why
+pub stopped_making : (p : PackRequest) (s : Source) (s0 s1 : FilesShown) (why : Stop) → MakesCalls s0 s1 (read_calls (reads_of (to_pack p)))
+    → IfSome s1.held (λ files. HasSource (file_at files) p.translate p.patterns s) → StopsMaking (outcome_of_pack p.table s.table s.patterns) why → StopsCommand (to_pack p) s0 s1 why
 stopped_making p s s0 s1 why calls h making = record {
   place = 1;
-  read = reads_all (reads_of (to_pack p)) s0 s1 (omega arith) calls (mapped s1.held (λ files. HasSource (file_at files) p.translate p.patterns s) (λ files. AreAccepted (file_at files) (reads_of (to_pack p))) (pack_accepted p s) h);
+  read = reads_all (reads_of (to_pack p)) s0 s1 (omega arith) calls (mapped s1.held (λ files. HasSource (file_at files) p.translate p.patterns s)
+      (λ files. AreAccepted (file_at files) (reads_of (to_pack p))) (pack_accepted p s) h);
   why = why_made why making;
 }
   where

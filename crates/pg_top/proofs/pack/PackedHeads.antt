@@ -42,7 +42,8 @@ module _ (n : ℕ) (P : Patterns) where
   text_signs few = file_signs few
 
 -- so it is a packed table for the letters of its table
-pub packed_accepted : (t : Alphabet) (P : Patterns) → letters_of t + 1 ≤ SIGNS_MAX → length (packed_text t P) ≤ TABLE_MAX → is_well_formed (packed_text t P) ≡ true → packed_table t (packed_text t P) ≡ Ok (packed_text t P)
+pub packed_accepted : (t : Alphabet) (P : Patterns) → letters_of t + 1 ≤ SIGNS_MAX → length (packed_text t P) ≤ TABLE_MAX → is_well_formed (packed_text t P)
+    ≡ true → packed_table t (packed_text t P) ≡ Ok (packed_text t P)
 packed_accepted t P few short well =
     let b : List ℕ = packed_text t P in
     let is_short = le-ltb TABLE_MAX (length b) short in

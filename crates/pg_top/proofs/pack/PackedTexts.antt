@@ -19,11 +19,13 @@ use Rattle.pg_top.specs.declared.inputs.Input.TheVariants as input
 module _ (name : List ℕ) (t : Alphabet) (P : Patterns) where
   -- a table that is not too long is written
   pub packed_short : length (packed_text t P) ≤ TABLE_MAX → outcome_of_pack name t P ≡ Ends Done ((name, packed_text t P) ∷ []) (packed_line (pattern_text t P) (packed_text t P))
-  packed_short short = ap (λ long. cond long (refuses input.Table (table_refused TableTooLong)) (Ends Done ((name, packed_text t P) ∷ []) (packed_line (pattern_text t P) (packed_text t P)))) (le-ltb TABLE_MAX (length (packed_text t P)) short)
+  packed_short short = ap (λ long. cond long (refuses input.Table (table_refused TableTooLong)) (Ends Done ((name, packed_text t P) ∷ []) (packed_line (pattern_text t P) (packed_text t P))))
+      (le-ltb TABLE_MAX (length (packed_text t P)) short)
 
   -- and one that is too long is refused
   packed_long : TABLE_MAX < length (packed_text t P) → outcome_of_pack name t P ≡ refuses input.Table (table_refused TableTooLong)
-  packed_long long = ap (λ long. cond long (refuses input.Table (table_refused TableTooLong)) (Ends Done ((name, packed_text t P) ∷ []) (packed_line (pattern_text t P) (packed_text t P)))) (lt-ltb TABLE_MAX (length (packed_text t P)) long)
+  packed_long long = ap (λ long. cond long (refuses input.Table (table_refused TableTooLong)) (Ends Done ((name, packed_text t P) ∷ []) (packed_line (pattern_text t P) (packed_text t P))))
+      (lt-ltb TABLE_MAX (length (packed_text t P)) long)
 
   -- why no table is made
   pub stops_making : (error : TableError) → (error ≡ table_error.TooLong → TABLE_MAX < length (packed_text t P)) → StopsMaking (outcome_of_pack name t P) (stop_of_table error)

@@ -34,25 +34,33 @@ module _ (p : PruneRequest) where
 
   module _ (t : Alphabet) where
     -- a stop at the patterns or at the dictionary
-    pub stopped_lists : (s0 s1 s2 : FilesShown) (stop : Stop) → NoneFell s0.read_faults s1.read_faults → MakesCalls s0 s1 (Reads p.translate ∷ []) → KeepsHeld s1.held s2.held → IfSome s1.held (HasTable p.translate t) → StopsReading (lists_under p.translate p.patterns p.dict) s1 s2 stop → StopsReading (reads_of (to_prune p)) s0 s2 stop
+    pub stopped_lists : (s0 s1 s2 : FilesShown) (stop : Stop) → NoneFell s0.read_faults s1.read_faults → MakesCalls s0 s1 (Reads p.translate ∷ [])
+        → KeepsHeld s1.held s2.held → IfSome s1.held (HasTable p.translate t) → StopsReading (lists_under p.translate p.patterns p.dict) s1 s2 stop → StopsReading (reads_of (to_prune p)) s0 s2 stop
     stopped_lists s0 s1 s2 stop fell calls keeps one stops =
         stopped_after (translate_file p.translate ∷ []) (lists_under p.translate p.patterns p.dict) s0 s1 s2 stop fell calls
-        (mapped s2.held (HasTable p.translate t) (λ files. AreAccepted (file_at files) (translate_file p.translate ∷ [])) (λ files h. (table_accepted p.translate t files h, tt)) (held_later s1.held s2.held (HasTable p.translate t) keeps one)) stops
+        (mapped s2.held (HasTable p.translate t) (λ files. AreAccepted (file_at files) (translate_file p.translate ∷ [])) (λ files h. (table_accepted p.translate t files h, tt))
+        (held_later s1.held s2.held (HasTable p.translate t) keeps one)) stops
 
     -- once all are read
-    pub all_read : (P : Patterns) (ws : List Word) (h1 h2 : Option FileMap) → KeepsHeld h1 h2 → IfSome h1 (HasTable p.translate t) → IfSome h2 (λ files. HasLists (file_at files) t p.patterns p.dict P ws)
+    pub all_read : (P : Patterns) (ws : List Word) (h1 h2 : Option FileMap) → KeepsHeld h1 h2 → IfSome h1 (HasTable p.translate t)
+        → IfSome h2 (λ files. HasLists (file_at files) t p.patterns p.dict P ws)
         → IfSome h2 (λ files. HasPrune (file_at files) p.translate p.patterns p.dict (record { table = t; patterns = P; dictionary = ws }))
     all_read P ws h1 h2 keeps one more =
-        mapped h2 (λ files. HasTable p.translate t files × HasLists (file_at files) t p.patterns p.dict P ws) (λ files. HasPrune (file_at files) p.translate p.patterns p.dict (record { table = t; patterns = P; dictionary = ws }))
+        mapped h2 (λ files. HasTable p.translate t files × HasLists (file_at files) t p.patterns p.dict P ws)
+        (λ files. HasPrune (file_at files) p.translate p.patterns p.dict (record { table = t; patterns = P; dictionary = ws }))
         (λ files h. record { table = h.0; patterns = h.1.start; words = h.1.words })
         (both h2 (HasTable p.translate t) (λ files. HasLists (file_at files) t p.patterns p.dict P ws) (held_later h1 h2 (HasTable p.translate t) keeps one) more)
 
 -- they are accepted
 pub prune_accepted : (p : PruneRequest) (i : PruneInputs) (files : FileMap) → HasPrune (file_at files) p.translate p.patterns p.dict i → AreAccepted (file_at files) (reads_of (to_prune p))
-prune_accepted p i files h = (table_accepted p.translate i.table files h.table, lists_accepted p.translate p.patterns p.dict i.table i.patterns i.dictionary files h.table (record { start = h.patterns; words = h.words }))
+prune_accepted p i files h = (
+  table_accepted p.translate i.table files h.table,
+  lists_accepted p.translate p.patterns p.dict i.table i.patterns i.dictionary files h.table (record { start = h.patterns; words = h.words }),
+)
 
 -- then it comes to what pruning writes and prints
-pub prune_outcome : (p : PruneRequest) (i : PruneInputs) (files : FileMap) → HasPrune (file_at files) p.translate p.patterns p.dict i → outcome_of (file_at files) (to_prune p) ≡ pruned_by p.output p.report i.table i.dictionary i.patterns
+pub prune_outcome : (p : PruneRequest) (i : PruneInputs) (files : FileMap) → HasPrune (file_at files) p.translate p.patterns p.dict i
+    → outcome_of (file_at files) (to_prune p) ≡ pruned_by p.output p.report i.table i.dictionary i.patterns
 prune_outcome p i files h =
     let t : Alphabet = i.table in
     let P : Patterns = i.patterns in
@@ -64,7 +72,8 @@ prune_outcome p i files h =
     ∙ (λ k. pruned_by p.output p.report (is_t k) (is_ws k) (is_P k))
 
 -- what it promises
-pub prune_keeps : (p : PruneRequest) (i : PruneInputs) (files : FileMap) → ReadsBack i.table (pruned (minima_of i.table) i.dictionary i.patterns).patterns → HasPrune (file_at files) p.translate p.patterns p.dict i → Keeps (to_prune p) (file_at files)
+pub prune_keeps : (p : PruneRequest) (i : PruneInputs) (files : FileMap) → ReadsBack i.table (pruned (minima_of i.table) i.dictionary i.patterns).patterns
+    → HasPrune (file_at files) p.translate p.patterns p.dict i → Keeps (to_prune p) (file_at files)
 prune_keeps p i files back h =
     let m = minima_of (table_named p.translate (file_at files)) in
     let ws : List Word = words_under (file_at files) p.translate p.dict in
@@ -72,7 +81,8 @@ prune_keeps p i files back h =
     let is_t : table_named p.translate (file_at files) ≡ i.table = is_table p.translate i.table files h.table in
     let is_P : P ≡ i.patterns = means_under p.translate i.table start [] p.patterns i.patterns files h.table h.patterns in
     let is_ws : ws ≡ i.dictionary = means_under p.translate i.table words [] p.dict i.dictionary files h.table h.words in
-    let with_P : ReadsBack i.table (pruned (minima_of i.table) i.dictionary P).patterns = subst (λ (Q : Patterns). ReadsBack i.table (pruned (minima_of i.table) i.dictionary Q).patterns) (sym is_P) back in
+    let with_P : ReadsBack i.table (pruned (minima_of i.table) i.dictionary P).patterns =
+    subst (λ (Q : Patterns). ReadsBack i.table (pruned (minima_of i.table) i.dictionary Q).patterns) (sym is_P) back in
     let with_ws : ReadsBack i.table (pruned (minima_of i.table) ws P).patterns = subst (λ (vs : List Word). ReadsBack i.table (pruned (minima_of i.table) vs P).patterns) (sym is_ws) with_P in
     record {
       kept = (pruned m ws P).patterns;

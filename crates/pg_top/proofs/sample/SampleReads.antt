@@ -23,6 +23,8 @@ pub dictionary_is : (seed count : ℕ) (found : List Word) → words default_alp
 unfolding sample_inputs
 dictionary_is seed count found is = sym (ap (λ (r : Result (List Word) Refusal). result_unwrap_or r []) is)
 
-pub inputs_are : (seed count : ℕ) (t : Alphabet) (p : Parameters) (S : List ((List ℕ × ℕ) × ℕ)) (found : List Word) → t ≡ default_alphabet → p ≡ sample_parameters → S ≡ [] → found ≡ (sample_inputs seed count).dictionary → let I : Type 0 = Inputs in ◌≡◌ {A = I} (record { table = t; params = p; start = S; dictionary = found }) (sample_inputs seed count)
+pub inputs_are : (seed count : ℕ) (t : Alphabet) (p : Parameters) (S : List ((List ℕ × ℕ) × ℕ)) (found : List Word) → t ≡ default_alphabet → p
+    ≡ sample_parameters → S ≡ [] → found ≡ (sample_inputs seed count).dictionary → let I : Type 0 = Inputs in
+    ◌≡◌ {A = I} (record { table = t; params = p; start = S; dictionary = found }) (sample_inputs seed count)
 unfolding sample_inputs
 inputs_are seed count t p S found is_t is_p is_S is = (λ k. record { table = is_t k; params = is_p k; start = is_S k; dictionary = is k })

@@ -7,7 +7,8 @@ use Rattle.pg_top.specs.sample.Sampled.{Made, syllable, further_syllables, word,
 further_next : (count i x : ℕ) → i < count → further_syllables (count - i) x ≡ further_syllables (suc (count - (i + 1))) x
 further_next count i x more = let same : count - i ≡ suc (count - (i + 1)) = omega arith in ap (λ n. further_syllables n x) same
 
-pub syllable_more : (count i x : ℕ) (so_far whole : List ℕ) → i < count → so_far ++ (further_syllables (count - i) x).text ≡ whole → ((so_far ++ 45 ∷ []) ++ (syllable x).text) ++ (further_syllables (count - (i + 1)) (syllable x).state).text ≡ whole
+pub syllable_more : (count i x : ℕ) (so_far whole : List ℕ) → i < count → so_far ++ (further_syllables (count - i) x).text ≡ whole
+    → ((so_far ++ 45 ∷ []) ++ (syllable x).text) ++ (further_syllables (count - (i + 1)) (syllable x).state).text ≡ whole
 syllable_more count i x so_far whole more is =
     append_assoc (so_far ++ 45 ∷ []) (syllable x).text (further_syllables (count - (i + 1)) (syllable x).state).text
     ∙ append_assoc so_far (45 ∷ []) ((syllable x).text ++ (further_syllables (count - (i + 1)) (syllable x).state).text)
@@ -34,7 +35,8 @@ syllables_state count i x whole past is = ap (λ (m : Made). m.state) (sym (syll
 sample_next : (count i x : ℕ) → i < count → sample_text x (count - i) ≡ sample_text x (suc (count - (i + 1)))
 sample_next count i x more = let same : count - i ≡ suc (count - (i + 1)) = omega arith in ap (λ n. sample_text x n) same
 
-pub word_more : (count i x : ℕ) (so_far whole : List ℕ) → i < count → so_far ++ sample_text x (count - i) ≡ whole → ((so_far ++ (word x).text) ++ 10 ∷ []) ++ sample_text (word x).state (count - (i + 1)) ≡ whole
+pub word_more : (count i x : ℕ) (so_far whole : List ℕ) → i < count → so_far ++ sample_text x (count - i) ≡ whole → ((so_far ++ (word x).text) ++ 10 ∷ [])
+    ++ sample_text (word x).state (count - (i + 1)) ≡ whole
 word_more count i x so_far whole more is =
     ap (λ front. front ++ sample_text (word x).state (count - (i + 1))) (append_assoc so_far (word x).text (10 ∷ []))
     ∙ append_assoc so_far ((word x).text ++ 10 ∷ []) (sample_text (word x).state (count - (i + 1)))

@@ -46,7 +46,8 @@ letter_among b letter =
     let high : b ≤ 122 = grind (arith, nat_tests) in
     let sign : b - 97 + 2 ≡ b - 95 = omega arith in
     let byte : 97 + (b - 97) ≡ b = omega arith in
-    subst (λ (s : ℕ). IsAmong (s, b ∷ []) default_alphabet.spellings) sign (subst (λ (c : ℕ). IsAmong (b - 97 + 2, c ∷ []) default_alphabet.spellings) byte (among_from 0 26 (b - 97) (omega arith) (omega arith)))
+    subst (λ (s : ℕ). IsAmong (s, b ∷ []) default_alphabet.spellings) sign
+    (subst (λ (c : ℕ). IsAmong (b - 97 + 2, c ∷ []) default_alphabet.spellings) byte (among_from 0 26 (b - 97) (omega arith) (omega arith)))
 
 -- the item of a byte
 abbrev token_of : Bool → ℕ → Token
@@ -86,13 +87,15 @@ record IsSampleLine (text : List ℕ) : Type 0 where
   short : length text ≤ 15
 
 word_there : (weight : ℕ) (first : Token) (rest : List Token) (s : ℕ) → first ≡ Letter s → (w : Word) × (line_word weight (first ∷ rest) ≡ record { word = Some w; weight = w.weight })
-word_there weight first rest s is = subst (λ (t : Token). (w : Word) × (line_word weight (t ∷ rest) ≡ record { word = Some w; weight = w.weight })) (sym is) (word_of_items (word_weight weight (Letter s ∷ rest)) (Letter s ∷ rest), refl)
+word_there weight first rest s is = subst (λ (t : Token). (w : Word) × (line_word weight (t ∷ rest) ≡ record { word = Some w; weight = w.weight }))
+    (sym is) (word_of_items (word_weight weight (Letter s ∷ rest)) (Letter s ∷ rest), refl)
 
 letter_first : (b : ℕ) (hyphen : Bool) → (b == 45) ≡ hyphen → is_letter b ≡ true → token_of hyphen b ≡ Letter (b - 95)
 letter_first b true is letter = absurd (grind (arith, nat_tests))
 letter_first b false is letter = refl
 
-line_given : (weight : ℕ) (text : List ℕ) → KeepsRules default_alphabet → IsSampleLine text → (w : Word) × ((line : ℕ) → line_reading default_alphabet line weight text ≡ Ok (record { word = Some w; weight = w.weight }))
+line_given : (weight : ℕ) (text : List ℕ) → KeepsRules default_alphabet → IsSampleLine text → (w : Word)
+    × ((line : ℕ) → line_reading default_alphabet line weight text ≡ Ok (record { word = Some w; weight = w.weight }))
 line_given weight [] rules good = absurd (omega (arith, good.some))
 line_given weight (b ∷ bs) rules good =
     let there = word_there weight (token_of (b == 45) b) (tokens bs) (b - 95) (letter_first b (b == 45) refl good.begins) in
@@ -136,7 +139,8 @@ ending_plain : (x : ℕ) → IsPlainText (ending x).text 1
 unfolding ending
 ending_plain x = by_draw (draw 4 x == 0)
   where
-    by_draw : (closed : Bool) → let made : Made = if closed then (record { text = slice_index closings (draw 3 (next_state x)) ∷ []; state = next_state x }) else (record { text = []; state = x }) in IsPlainText made.text 1
+    by_draw : (closed : Bool) → let made : Made = if closed then (record { text = slice_index closings (draw 3 (next_state x)) ∷ []; state = next_state x }) else (record { text = []; state = x }) in
+        IsPlainText made.text 1
     by_draw true = record { plain = rw (plain_letter (slice_index closings (draw 3 (next_state x))) (letter_at closings (draw 3 (next_state x)) refl (omega arith))) refl; short = omega arith }
     by_draw false = record { plain = refl; short = omega arith }
 
@@ -147,7 +151,11 @@ syllable_plain x =
     let v : ℕ = next_state c in
     let end = ending_plain (next_state v) in
     record {
-      plain = rw (plain_letter (slice_index consonants (draw 12 c)) (letter_at consonants (draw 12 c) refl (omega arith)), plain_letter (slice_index vowels (draw 5 v)) (letter_at vowels (draw 5 v) refl (omega arith)), end.plain) refl;
+      plain = rw (
+        plain_letter (slice_index consonants (draw 12 c)) (letter_at consonants (draw 12 c) refl (omega arith)),
+        plain_letter (slice_index vowels (draw 5 v)) (letter_at vowels (draw 5 v) refl (omega arith)),
+        end.plain,
+      ) refl;
       short = omega (arith, end.short);
     }
 

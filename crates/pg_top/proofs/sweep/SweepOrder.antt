@@ -40,19 +40,23 @@ module _ (s : SweepRequest) where
 
   pub all_calls : (s0 s2 s3 : FilesShown) → MakesCalls s0 s2 (read_calls set_front) → MakesCalls s2 s3 (Reads s.patterns ∷ Reads s.dict ∷ []) → MakesCalls s0 s3 (read_calls (reads_of (ToSweep s)))
   all_calls s0 s2 s3 front more =
-      calls_are (read_calls set_front ++ Reads s.patterns ∷ Reads s.dict ∷ []) (read_calls (reads_of (ToSweep s))) s0 s3 (sym (map-append read_call set_front (patterns_file s.translate s.patterns ∷ words_file s.translate s.dict ∷ [])))
+      calls_are (read_calls set_front ++ Reads s.patterns ∷ Reads s.dict ∷ []) (read_calls (reads_of (ToSweep s))) s0 s3
+      (sym (map-append read_call set_front (patterns_file s.translate s.patterns ∷ words_file s.translate s.dict ∷ [])))
       (calls_on (read_calls set_front) (Reads s.patterns ∷ Reads s.dict ∷ []) s0 s2 s3 front more)
 
   -- a stop at the translate file
   pub stopped_table : (s0 s1 : FilesShown) (stop : Stop) → MakesCalls s0 s1 (Reads s.translate ∷ []) → StopsAt (translate_file s.translate) s0 s1 stop → StopsReading (reads_of (ToSweep s)) s0 s1 stop
-  stopped_table s0 s1 stop calls stops = stopped_first (translate_file s.translate) (set_files 1 s.params ++ patterns_file s.translate s.patterns ∷ words_file s.translate s.dict ∷ []) s0 s1 stop calls stops
+  stopped_table s0 s1 stop calls stops = stopped_first (translate_file s.translate)
+      (set_files 1 s.params ++ patterns_file s.translate s.patterns ∷ words_file s.translate s.dict ∷ []) s0 s1 stop calls stops
 
   module _ (t : Alphabet) where
     -- a stop at a parameter file
-    pub stopped_sets : (s0 s1 s2 : FilesShown) (stop : Stop) → NoneFell s0.read_faults s1.read_faults → MakesCalls s0 s1 (Reads s.translate ∷ []) → KeepsHeld s1.held s2.held → IfSome s1.held (HasTable s.translate t) → StopsReading (set_files 1 s.params) s1 s2 stop → StopsReading (reads_of (ToSweep s)) s0 s2 stop
+    pub stopped_sets : (s0 s1 s2 : FilesShown) (stop : Stop) → NoneFell s0.read_faults s1.read_faults → MakesCalls s0 s1 (Reads s.translate ∷ [])
+        → KeepsHeld s1.held s2.held → IfSome s1.held (HasTable s.translate t) → StopsReading (set_files 1 s.params) s1 s2 stop → StopsReading (reads_of (ToSweep s)) s0 s2 stop
     stopped_sets s0 s1 s2 stop fell calls keeps one stops =
         stopped_after (translate_file s.translate ∷ []) (set_files 1 s.params ++ patterns_file s.translate s.patterns ∷ words_file s.translate s.dict ∷ []) s0 s1 s2 stop fell calls
-        (mapped s2.held (HasTable s.translate t) (λ files. AreAccepted (file_at files) (translate_file s.translate ∷ [])) (λ files h. (table_accepted s.translate t files h, tt)) (held_later s1.held s2.held (HasTable s.translate t) keeps one))
+        (mapped s2.held (HasTable s.translate t) (λ files. AreAccepted (file_at files) (translate_file s.translate ∷ [])) (λ files h. (table_accepted s.translate t files h, tt))
+        (held_later s1.held s2.held (HasTable s.translate t) keeps one))
         (stopped_in_front (set_files 1 s.params) (patterns_file s.translate s.patterns ∷ words_file s.translate s.dict ∷ []) s1 s2 stop stops)
 
     module _ (sets : List Parameters) where
@@ -67,7 +71,8 @@ module _ (s : SweepRequest) where
       front_read h1 h2 keeps one more = both h2 (HasTable s.translate t) (λ files. HasSets (file_at files) s.params sets) (held_later h1 h2 (HasTable s.translate t) keeps one) more
 
       -- a stop at the patterns or at the dictionary
-      pub stopped_lists : (s0 s2 s3 : FilesShown) (stop : Stop) → NoneFell s0.read_faults s2.read_faults → MakesCalls s0 s2 (read_calls set_front) → KeepsHeld s2.held s3.held → IfSome s2.held HasFront → StopsReading (lists_under s.translate s.patterns s.dict) s2 s3 stop → StopsReading (reads_of (ToSweep s)) s0 s3 stop
+      pub stopped_lists : (s0 s2 s3 : FilesShown) (stop : Stop) → NoneFell s0.read_faults s2.read_faults → MakesCalls s0 s2 (read_calls set_front)
+          → KeepsHeld s2.held s3.held → IfSome s2.held HasFront → StopsReading (lists_under s.translate s.patterns s.dict) s2 s3 stop → StopsReading (reads_of (ToSweep s)) s0 s3 stop
       stopped_lists s0 s2 s3 stop fell front keeps two stops =
           stopped_after set_front (lists_under s.translate s.patterns s.dict) s0 s2 s3 stop fell front
           (mapped s3.held HasFront (λ files. AreAccepted (file_at files) set_front) front_accepted (held_later s2.held s3.held HasFront keeps two)) stops
@@ -76,7 +81,8 @@ module _ (s : SweepRequest) where
       pub all_read : (P : Patterns) (ws : List Word) (h2 h3 : Option FileMap) → KeepsHeld h2 h3 → IfSome h2 HasFront → IfSome h3 (λ files. HasLists (file_at files) t s.patterns s.dict P ws)
           → IfSome h3 (λ files. HasSweep (file_at files) s (record { table = t; words = ws; start = P; folds = s.folds }) sets)
       all_read P ws h2 h3 keeps two more =
-          mapped h3 (λ files. HasFront files × HasLists (file_at files) t s.patterns s.dict P ws) (λ files. HasSweep (file_at files) s (record { table = t; words = ws; start = P; folds = s.folds }) sets)
+          mapped h3 (λ files. HasFront files × HasLists (file_at files) t s.patterns s.dict P ws)
+          (λ files. HasSweep (file_at files) s (record { table = t; words = ws; start = P; folds = s.folds }) sets)
           (λ files h. record { table = h.0.0; sets = h.0.1; start = h.1.start; words = h.1.words; folds = λ _. s.folds })
           (both h3 HasFront (λ files. HasLists (file_at files) t s.patterns s.dict P ws) (held_later h2 h3 HasFront keeps two) more)
 
@@ -84,11 +90,13 @@ module _ (s : SweepRequest) where
 pub sweep_accepted : (s : SweepRequest) (terms : Terms) (sets : List Parameters) (files : FileMap) → HasSweep (file_at files) s terms sets → AreAccepted (file_at files) (reads_of (ToSweep s))
 sweep_accepted s terms sets files h =
     let front : AreAccepted (file_at files) (set_front s) = front_accepted s terms.table sets files (h.table, h.sets) in
-    let rest : AreAccepted (file_at files) (patterns_file s.translate s.patterns ∷ words_file s.translate s.dict ∷ []) = lists_accepted s.translate s.patterns s.dict terms.table terms.start terms.words files h.table (record { start = h.start; words = h.words }) in
+    let rest : AreAccepted (file_at files) (patterns_file s.translate s.patterns ∷ words_file s.translate s.dict ∷ []) =
+    lists_accepted s.translate s.patterns s.dict terms.table terms.start terms.words files h.table (record { start = h.start; words = h.words }) in
     accepted_both (file_at files) (set_front s) (patterns_file s.translate s.patterns ∷ words_file s.translate s.dict ∷ []) front rest
 
 -- then it comes to what the sweep writes and prints
-pub sweep_outcome : (s : SweepRequest) (terms : Terms) (sets : List Parameters) (files : FileMap) → HasSweep (file_at files) s terms sets → outcome_of (file_at files) (ToSweep s) ≡ outcome_of_sets s terms sets
+pub sweep_outcome : (s : SweepRequest) (terms : Terms) (sets : List Parameters) (files : FileMap) → HasSweep (file_at files) s terms sets
+    → outcome_of (file_at files) (ToSweep s) ≡ outcome_of_sets s terms sets
 sweep_outcome s terms sets files h =
     let t : Alphabet = terms.table in
     let P : Patterns = terms.start in

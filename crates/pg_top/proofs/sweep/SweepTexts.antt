@@ -19,7 +19,8 @@ use Rattle.pg_top.specs.sweep.Inside.Inputs.{line_of_sweep, outcome_of_sets}
 use Rattle.pg_top.specs.declared.answers.Status.TheVariants.{Done}
 
 -- it is made of what was found
-pub sweep_made : (s : SweepRequest) (terms : Terms) (sets : List Parameters) (found : Found) (text line : List ℕ) → found.rows ≡ map (row_of terms s.bad s.missed) sets → found.winner ≡ winner_of (costs_of found.rows) → text ≡ sweep_file s.folds found.rows found.winner → line ≡ line_of_sweep found
+pub sweep_made : (s : SweepRequest) (terms : Terms) (sets : List Parameters) (found : Found) (text line : List ℕ) → found.rows ≡ map (row_of terms s.bad s.missed) sets
+    → found.winner ≡ winner_of (costs_of found.rows) → text ≡ sweep_file s.folds found.rows found.winner → line ≡ line_of_sweep found
     → outcome_of_sets s terms sets ≡ Ends Done ((s.output, text) ∷ []) line
 unfolding swept_rows
 sweep_made s terms sets found text line rows winner is_text is_line =
@@ -34,7 +35,8 @@ sweep_names s files none some = record {
   winner = winner_of (set_costs files s);
   text = sweep_file s.folds (swept_rows s (terms_in files s) (sets_in files s)) (winner_of (set_costs files s));
   comes = ap (λ end. unwrap_or end (own_outcome files (ToSweep s))) none;
-  wins = winner_wins (set_costs files s) (many (set_costs files s) (length-map (swept_rows s (terms_in files s) (sets_in files s)) (λ (r : SweepRow). r.cost) ∙ length-map (sets_in files s) (row_of (terms_in files s) s.bad s.missed) ∙ length-map s.params (parameters_named files)));
+  wins = winner_wins (set_costs files s) (many (set_costs files s) (length-map (swept_rows s (terms_in files s) (sets_in files s)) (λ (r : SweepRow). r.cost)
+      ∙ length-map (sets_in files s) (row_of (terms_in files s) s.bad s.missed) ∙ length-map s.params (parameters_named files)));
 }
   where
     many : (costs : List ℕ) → length costs ≡ length s.params → 1 ≤ length costs

@@ -32,14 +32,22 @@ use Rattle.pg_top.proofs.UnderTable.{HasTable, is_table, table_accepted, accepte
 abbrev pub HasWords : TotalsRequest → Alphabet → List Word → FileMap → Type 0
 HasWords p t ws files = HasTable p.translate t files × (read_as (words t) (file_at files) p.dict ≡ Some (Ok ws))
 
-pub words_read : (p : TotalsRequest) (t : Alphabet) (ws : List Word) (h1 h2 : Option FileMap) → KeepsHeld h1 h2 → IfSome h1 (HasTable p.translate t) → IfSome h2 (λ files. read_as (words t) (file_at files) p.dict ≡ Some (Ok ws)) → IfSome h2 (HasWords p t ws)
+pub words_read : (p : TotalsRequest) (t : Alphabet) (ws : List Word) (h1 h2 : Option FileMap) → KeepsHeld h1 h2 → IfSome h1 (HasTable p.translate t)
+    → IfSome h2 (λ files. read_as (words t) (file_at files) p.dict ≡ Some (Ok ws)) → IfSome h2 (HasWords p t ws)
 words_read p t ws h1 h2 keeps one more = both h2 (HasTable p.translate t) (λ files. read_as (words t) (file_at files) p.dict ≡ Some (Ok ws)) (held_later h1 h2 (HasTable p.translate t) keeps one) more
 
 -- once all are read it comes to the lines of the totals
-pub totals_outcome : (p : TotalsRequest) (t : Alphabet) (ws : List Word) (lines : List ℕ) (files : FileMap) → HasWords p t ws files → IsTotalled t ws (file_at files) p.table lines → outcome_of (file_at files) (to_totals p) ≡ Ends Done [] lines
+pub totals_outcome : (p : TotalsRequest) (t : Alphabet) (ws : List Word) (lines : List ℕ) (files : FileMap) → HasWords p t ws files
+    → IsTotalled t ws (file_at files) p.table lines → outcome_of (file_at files) (to_totals p) ≡ Ends Done [] lines
 totals_outcome p t ws lines files h is =
     let b : List ℕ = is.0 in
-    let accepted : AreAccepted (file_at files) (reads_of (to_totals p)) = (table_accepted p.translate t files h.0, (accepted_under p.translate t words input.Dictionary p.dict ws files h.0 h.1, (accepted_under p.translate t packed_table input.Table p.table b files h.0 is.1, tt))) in
+    let accepted : AreAccepted (file_at files) (reads_of (to_totals p)) = (
+      table_accepted p.translate t files h.0,
+      (
+        accepted_under p.translate t words input.Dictionary p.dict ws files h.0 h.1,
+        (accepted_under p.translate t packed_table input.Table p.table b files h.0 is.1, tt),
+      ),
+    ) in
     let is_t = is_table p.translate t files h.0 in
     let is_ws = means_under p.translate t words [] p.dict ws files h.0 h.1 in
     let is_b = means_under p.translate t packed_table [] p.table b files h.0 is.1 in
@@ -47,22 +55,28 @@ totals_outcome p t ws lines files h is =
     ∙ (λ k. Ends Done [] (totals_lines (is_t k) (is_ws k) (is_b k)))
     ∙ ap (Ends Done []) (sym is.2)
 
-pub totals_told : (p : TotalsRequest) (t : Alphabet) (ws : List Word) (lines : List ℕ) (h2 h3 : Option FileMap) → KeepsHeld h2 h3 → IfSome h2 (HasWords p t ws) → IfSome h3 (λ files. IsTotalled t ws (file_at files) p.table lines) → IfSome h3 (λ files. outcome_of (file_at files) (to_totals p) ≡ Ends Done [] lines)
+pub totals_told : (p : TotalsRequest) (t : Alphabet) (ws : List Word) (lines : List ℕ) (h2 h3 : Option FileMap) → KeepsHeld h2 h3 → IfSome h2 (HasWords p t ws)
+    → IfSome h3 (λ files. IsTotalled t ws (file_at files) p.table lines) → IfSome h3 (λ files. outcome_of (file_at files) (to_totals p) ≡ Ends Done [] lines)
 totals_told p t ws lines h2 h3 keeps two more =
-    mapped h3 (λ files. HasWords p t ws files × IsTotalled t ws (file_at files) p.table lines) (λ files. outcome_of (file_at files) (to_totals p) ≡ Ends Done [] lines) (λ files h. totals_outcome p t ws lines files h.0 h.1)
+    mapped h3 (λ files. HasWords p t ws files × IsTotalled t ws (file_at files) p.table lines) (λ files. outcome_of (file_at files) (to_totals p) ≡ Ends Done [] lines)
+    (λ files h. totals_outcome p t ws lines files h.0 h.1)
     (both h3 (HasWords p t ws) (λ files. IsTotalled t ws (file_at files) p.table lines) (held_later h2 h3 (HasWords p t ws) keeps two) more)
 
 -- a stop at the packed table
-pub stopped_table : (p : TotalsRequest) (t : Alphabet) (ws : List Word) (s0 s2 s3 : FilesShown) (why : Stop) → NoneFell s0.read_faults s2.read_faults → MakesCalls s0 s3 (read_calls (reads_of (to_totals p))) → KeepsHeld s2.held s3.held → IfSome s2.held (HasWords p t ws) → StopsAt (input_file input.Table p.table (λ _. packed_table t)) s2 s3 why → StopsReading (reads_of (to_totals p)) s0 s3 why
+pub stopped_table : (p : TotalsRequest) (t : Alphabet) (ws : List Word) (s0 s2 s3 : FilesShown) (why : Stop) → NoneFell s0.read_faults s2.read_faults
+    → MakesCalls s0 s3 (read_calls (reads_of (to_totals p))) → KeepsHeld s2.held s3.held → IfSome s2.held (HasWords p t ws)
+    → StopsAt (input_file input.Table p.table (λ _. packed_table t)) s2 s3 why → StopsReading (reads_of (to_totals p)) s0 s3 why
 stopped_table p t ws s0 s2 s3 why fell calls keeps two stops =
     let later : IfSome s3.held (HasWords p t ws) = held_later s2.held s3.held (HasWords p t ws) keeps two in
     let front : List Reading = input_file input.Translate p.translate (λ _. table) ∷ file_under p.translate input.Dictionary p.dict words ∷ [] in
     stopped_behind front (file_under p.translate input.Table p.table packed_table) [] s0 s2 s3 why fell calls
-    (mapped s3.held (HasWords p t ws) (λ files. AreAccepted (file_at files) front) (λ files h. (table_accepted p.translate t files h.0, (accepted_under p.translate t words input.Dictionary p.dict ws files h.0 h.1, tt))) later)
+    (mapped s3.held (HasWords p t ws) (λ files. AreAccepted (file_at files) front)
+    (λ files h. (table_accepted p.translate t files h.0, (accepted_under p.translate t words input.Dictionary p.dict ws files h.0 h.1, tt))) later)
     (stopped_under p.translate t packed_table input.Table p.table s2 s3 why (mapped s3.held (HasWords p t ws) (HasTable p.translate t) (λ files h. h.0) later) stops)
 
 -- a table that is accepted has the greatest sign of the letters
-accepted_signs : (long sound same : Bool) (bytes b : List ℕ) → cond {A = Result (List ℕ) Refusal} long (Err (table_refused TableTooLong)) (cond (not sound) (Err (table_refused BadTable)) (cond same (Ok bytes) (Err (table_refused OtherTable)))) ≡ Ok b → (same ≡ true) × (bytes ≡ b)
+accepted_signs : (long sound same : Bool) (bytes b : List ℕ) → cond {A = Result (List ℕ) Refusal} long (Err (table_refused TableTooLong))
+    (cond (not sound) (Err (table_refused BadTable)) (cond same (Ok bytes) (Err (table_refused OtherTable)))) ≡ Ok b → (same ≡ true) × (bytes ≡ b)
 accepted_signs true sound same bytes b is = absurd (cc)
 accepted_signs false false same bytes b is = absurd (cc)
 accepted_signs false true false bytes b is = absurd (cc)

@@ -10,7 +10,8 @@ use Rattle.pg_audit.proofs.lines.compare.Goals as goal
 -- a line that differs
 pub returns-then-ne-clause-answer : goal.returns-then-ne-clause-answer
 returns-then-ne-clause-answer c =
-    let other : not (bytes_eq (first_whole c.lines.rest.now) (first_whole c.lines.due.now)) ≡ true = rw (← c.first_line.ensures.line, ← c.first_line-in-lines.ensures.line) (sym c.ne.ensures ∙ c.if-ne.true) in
+    let other : not (bytes_eq (first_whole c.lines.rest.now) (first_whole c.lines.due.now))
+    ≡ true = rw (← c.first_line.ensures.line, ← c.first_line-in-lines.ensures.line) (sym c.ne.ensures ∙ c.if-ne.true) in
     sym c.lines.invariant.answer
     ∙ other_first c.lines.line c.lines.rest.now c.lines.due.now (sym c.is_empty.ensures ∙ c.lines-test.true) other
     ∙ ap (λ r. Some (record { line = c.lines.line; found = r })) (sym c.first_line.ensures.line)
@@ -40,7 +41,8 @@ pub lines-preserved : goal.lines-preserved
 lines-preserved c =
     let cut = whole_length c.lines.rest.now in
     let filled = filled_first c.lines.rest.now (sym c.is_empty.ensures ∙ c.lines-test.true) in
-    let same : not (bytes_eq (first_whole c.lines.rest.now) (first_whole c.lines.due.now)) ≡ false = rw (← c.first_line.ensures.line, ← c.first_line-in-lines.ensures.line) (sym c.ne.ensures ∙ c.if-ne.false) in
+    let same : not (bytes_eq (first_whole c.lines.rest.now) (first_whole c.lines.due.now))
+    ≡ false = rw (← c.first_line.ensures.line, ← c.first_line-in-lines.ensures.line) (sym c.ne.ensures ∙ c.if-ne.false) in
     record {
       answer =
           ap (λ r. difference_from (c.lines.line + 1) (whole_lines r) (whole_lines c.first_line-in-lines.result.1.now)) c.first_line.ensures.rest

@@ -40,7 +40,8 @@ pub returns-in_err-push_cell-clause-linked : goal.returns-in_err-push_cell-claus
 returns-in_err-push_cell-clause-linked g c = c.in_err-push_cell.ensures.linked
 
 pub returns-in_err-push_cell-clause-extends : goal.returns-in_err-push_cell-clause-extends
-returns-in_err-push_cell-clause-extends g c = subst (λ (cells : List (Cell g.row.V.Denot)). Extends (row_of c.args.cells.now.items) (row_of cells)) (sym c.in_err-push_cell.ensures.err) c.grow.invariant.extends
+returns-in_err-push_cell-clause-extends g c = subst (λ (cells : List (Cell g.row.V.Denot)). Extends (row_of c.args.cells.now.items) (row_of cells))
+    (sym c.in_err-push_cell.ensures.err) c.grow.invariant.extends
 
 pub returns-clause-linked : goal.returns-clause-linked
 returns-clause-linked g c = c.grow.invariant.linked

@@ -18,7 +18,8 @@ loop-k-preserved g c =
       up = omega arith;
       at = ap (cell_of c.step_or_add.new.cells.families) (way_more w k lt) ∙ c.in_ok-cell.ensures.cell (take k w) c.loop-k.invariant.at;
       families = enter_more g.row.FEW c.args.cells.now.signs c.loop-k.cells c.step_or_add.new.cells w k c.args.blank c.loop-k.invariant.signs lt steps ∙ c.loop-k.invariant.families;
-      front = front_more g.row.FEW c.args.cells.now.signs c.args.cells.now.families c.loop-k.cells c.step_or_add.new.cells w k c.args.blank c.loop-k.invariant.signs up lt steps c.loop-k.invariant.front;
+      front = front_more g.row.FEW c.args.cells.now.signs c.args.cells.now.families c.loop-k.cells c.step_or_add.new.cells w k c.args.blank
+          c.loop-k.invariant.signs up lt steps c.loop-k.invariant.front;
       blanks =
           more_added w c.args.blank c.args.cells.now.values c.loop-k.cells.values c.step_or_add.new.cells.values c.loop-k.invariant.blanks
           (step_values g.row.FEW w c.loop-k.cells c.step_or_add.new.cells (k + 1) (take k w) (get_or w k 0) c.args.blank c.loop-k.invariant.held (way_more w k lt) steps);
@@ -29,8 +30,10 @@ loop-k-preserved g c =
 pub returns-in_err-cell-clause-err : goal.returns-in_err-cell-clause-err
 returns-in_err-cell-clause-err g c =
     let err = err_from_is_err_and c.from_residual.result c.from_residual.ensures.1 in
-    let ends : EndsBefore c.loop-k.cells.values (take c.loop-k.k c.args.signs.now ++ get_or c.args.signs.now c.loop-k.k 0 ∷ []) = c.in_err-cell.ensures.ends (take c.loop-k.k c.args.signs.now) c.loop-k.invariant.at in
-    rw (err.1) (still_none c.args.signs.now c.args.blank c.args.cells.now.values c.loop-k.cells.values c.loop-k.invariant.blanks c.args.signs.now (not_reached c.loop-k.cells.values c.args.signs.now c.loop-k.k c.loop-k-test.true ends))
+    let ends : EndsBefore c.loop-k.cells.values (take c.loop-k.k c.args.signs.now ++ get_or c.args.signs.now c.loop-k.k 0 ∷ []) =
+    c.in_err-cell.ensures.ends (take c.loop-k.k c.args.signs.now) c.loop-k.invariant.at in
+    rw (err.1) (still_none c.args.signs.now c.args.blank c.args.cells.now.values c.loop-k.cells.values c.loop-k.invariant.blanks c.args.signs.now
+    (not_reached c.loop-k.cells.values c.args.signs.now c.loop-k.k c.loop-k-test.true ends))
 
 pub returns-in_err-cell-clause-part : goal.returns-in_err-cell-clause-part
 returns-in_err-cell-clause-part g c =
@@ -44,7 +47,16 @@ pub bounds-signs-k : goal.bounds-signs-k
 bounds-signs-k g c = c.loop-k-test.true
 
 pub step_or_add-requires : goal.step_or_add-requires
-step_or_add-requires g c = (omega arith, (c.loop-k.invariant.held, ((take c.loop-k.k c.args.signs.now, c.loop-k.invariant.at), subst (λ n. (1 ≤ get_or c.args.signs.now c.loop-k.k 0) × (get_or c.args.signs.now c.loop-k.k 0 ≤ n)) (sym c.loop-k.invariant.signs) (c.requires.signs c.loop-k.k 0 c.loop-k-test.true))))
+step_or_add-requires g c = (
+  omega arith,
+  (
+    c.loop-k.invariant.held,
+    (
+      (take c.loop-k.k c.args.signs.now, c.loop-k.invariant.at),
+      subst (λ n. (1 ≤ get_or c.args.signs.now c.loop-k.k 0) × (get_or c.args.signs.now c.loop-k.k 0 ≤ n)) (sym c.loop-k.invariant.signs) (c.requires.signs c.loop-k.k 0 c.loop-k-test.true),
+    ),
+  ),
+)
 
 pub returns-in_err-cell-clause-cell : goal.returns-in_err-cell-clause-cell
 returns-in_err-cell-clause-cell g c = let err = err_from_is_err_and c.from_residual.result c.from_residual.ensures.1 in rw (err.1) tt
@@ -53,7 +65,8 @@ pub returns-in_err-cell-clause-families : goal.returns-in_err-cell-clause-famili
 returns-in_err-cell-clause-families g c = let err = err_from_is_err_and c.from_residual.result c.from_residual.ensures.1 in rw (err.1) tt
 
 pub returns-in_err-cell-clause-blanks : goal.returns-in_err-cell-clause-blanks
-returns-in_err-cell-clause-blanks g c = subst (λ (h : ValuedFamilies g.row.V.Denot). AddsBlanks c.args.signs.now c.args.blank c.args.cells.now.values h.values) (sym c.in_err-cell.ensures.err) c.loop-k.invariant.blanks
+returns-in_err-cell-clause-blanks g c = subst (λ (h : ValuedFamilies g.row.V.Denot). AddsBlanks c.args.signs.now c.args.blank c.args.cells.now.values h.values)
+    (sym c.in_err-cell.ensures.err) c.loop-k.invariant.blanks
 
 pub returns-in_err-cell-clause-held : goal.returns-in_err-cell-clause-held
 returns-in_err-cell-clause-held g c = c.in_err-cell.ensures.kept
@@ -65,7 +78,8 @@ pub returns-clause-cell : goal.returns-clause-cell
 returns-clause-cell g c = subst (λ w. cell_of c.loop-k.cells.families w ≡ Some c.loop-k.cell) (take_all c.loop-k.k c.args.signs.now (omega arith)) c.loop-k.invariant.at
 
 pub returns-clause-families : goal.returns-clause-families
-returns-clause-families g c = subst (λ w. c.loop-k.cells.families ≡ enter_by g.row.FEW c.args.cells.now.signs c.args.cells.now.families w) (take_all c.loop-k.k c.args.signs.now (omega arith)) c.loop-k.invariant.front
+returns-clause-families g c = subst (λ w. c.loop-k.cells.families ≡ enter_by g.row.FEW c.args.cells.now.signs c.args.cells.now.families w)
+    (take_all c.loop-k.k c.args.signs.now (omega arith)) c.loop-k.invariant.front
 
 pub returns-clause-part : goal.returns-clause-part
 returns-clause-part g c = tt

@@ -45,10 +45,12 @@ pub returns-clause-count : goal.returns-clause-count
 returns-clause-count g c = (c.requires.some, omega arith)
 
 pub returns-clause-cell : goal.returns-clause-cell
-returns-clause-cell g c = let all : c.loop-k.k ≡ length c.args.signs.now = omega arith in subst (λ k. cell_of c.args.cells.now.families (take k c.args.signs.now) ≡ Some c.loop-k.cell) all c.loop-k.invariant.at
+returns-clause-cell g c = let all : c.loop-k.k ≡ length c.args.signs.now = omega arith in
+    subst (λ k. cell_of c.args.cells.now.families (take k c.args.signs.now) ≡ Some c.loop-k.cell) all c.loop-k.invariant.at
 
 pub returns-clause-known : goal.returns-clause-known
-returns-clause-known g c = let all : c.loop-k.k ≡ length c.args.signs.now = omega arith in subst (IsKnown g.row.FEW c.args.cells.now.signs c.args.cells.now.families c.args.signs.now) all c.loop-k.invariant.known
+returns-clause-known g c = let all : c.loop-k.k ≡ length c.args.signs.now = omega arith in
+    subst (IsKnown g.row.FEW c.args.cells.now.signs c.args.cells.now.families c.args.signs.now) all c.loop-k.invariant.known
 
 pub returns-clause-held : goal.returns-clause-held
 returns-clause-held g c = c.root_cell-cell.ensures.held

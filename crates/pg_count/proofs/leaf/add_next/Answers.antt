@@ -24,7 +24,8 @@ returns-clause-keeps c =
     let q = take c.args.way.at c.args.window.now in
     let adds = c.in_ok-cell.ensures.held q c.requires.way.there in
     let size = length-take-le c.args.way.at c.args.window.now c.requires.way.within in
-    added_keeps c.args.cells.now c.requires.leaves.0 _ c.requires.leaves.1 c.add.new.self q (get_or c.args.window.now c.args.way.at 0) adds c.requires.blank (c.requires.way.ends c.requires.less) (omega (arith, c.requires.less))
+    added_keeps c.args.cells.now c.requires.leaves.0 _ c.requires.leaves.1 c.add.new.self q (get_or c.args.window.now c.args.way.at 0) adds c.requires.blank
+    (c.requires.way.ends c.requires.less) (omega (arith, c.requires.less))
 
 pub returns-clause-signs : goal.returns-clause-signs
 returns-clause-signs c = (c.in_ok-cell.ensures.held (take c.args.way.at c.args.window.now) c.requires.way.there).signs
@@ -32,4 +33,5 @@ returns-clause-signs c = (c.in_ok-cell.ensures.held (take c.args.way.at c.args.w
 pub returns-clause-free : goal.returns-clause-free
 returns-clause-free c =
     let q = take c.args.way.at c.args.window.now in
-    added_free c.args.cells.now c.add.new.self c.args.window.now c.args.way.at c.args.way.cell c.in_ok-cell.cell c.requires.way c.requires.less (c.in_ok-cell.ensures.held q c.requires.way.there) (c.in_ok-cell.ensures.cell q c.requires.way.there)
+    added_free c.args.cells.now c.add.new.self c.args.window.now c.args.way.at c.args.way.cell c.in_ok-cell.cell c.requires.way c.requires.less
+    (c.in_ok-cell.ensures.held q c.requires.way.there) (c.in_ok-cell.ensures.cell q c.requires.way.there)

@@ -14,7 +14,8 @@ pub returns-in-Ok-clause-leaves : goal.returns-in-Ok-clause-leaves
 returns-in-Ok-clause-leaves c =
     let free = c.in_ok-cell.ensures.free in
     let within = subst (λ n. SignsWithin n c.args.window.now) (sym c.in_ok-cell.ensures.signs) c.requires.signs in
-    new_leaves c.leaf.new.cells c.count.new.self c.args.windows.now.items c.push.new.self.items c.args.window.now c.in_ok-cell.cell c.args.sums c.in_ok-cell.ensures.leaves free c.in-Ok.ensures.kept (c.in-Ok.ensures.held free.string free.there) c.in-Ok.ensures.size
+    new_leaves c.leaf.new.cells c.count.new.self c.args.windows.now.items c.push.new.self.items c.args.window.now c.in_ok-cell.cell c.args.sums c.in_ok-cell.ensures.leaves free c.in-Ok.ensures.kept
+    (c.in-Ok.ensures.held free.string free.there) c.in-Ok.ensures.size
     within (ap (λ (l : Listed). l.items) c.in_ok-push.ensures.ok)
 
 pub returns-in-Ok-clause-sets : goal.returns-in-Ok-clause-sets
@@ -22,7 +23,8 @@ returns-in-Ok-clause-sets c =
     let free = c.in_ok-cell.ensures.free in
     let within = subst (λ n. SignsWithin n c.args.window.now) (sym c.in_ok-cell.ensures.signs) c.requires.signs in
     keeps_sets c.in_ok-cell.ensures.keeps
-    (new_sets c.leaf.new.cells c.count.new.self c.args.windows.now.items c.push.new.self.items c.args.window.now c.in_ok-cell.cell c.args.sums c.in_ok-cell.ensures.leaves free c.in-Ok.ensures.kept (c.in-Ok.ensures.held free.string free.there) c.in-Ok.ensures.size
+    (new_sets c.leaf.new.cells c.count.new.self c.args.windows.now.items c.push.new.self.items c.args.window.now c.in_ok-cell.cell c.args.sums c.in_ok-cell.ensures.leaves free c.in-Ok.ensures.kept
+    (c.in-Ok.ensures.held free.string free.there) c.in-Ok.ensures.size
     within (ap (λ (l : Listed). l.items) c.in_ok-push.ensures.ok))
 
 pub pop-requires : goal.pop-requires

@@ -14,7 +14,8 @@ pub alike-init : goal.alike-init
 alike-init c =
     let row = c.get-other.result.now in
     let there = c.get-other.ensures in
-    let begins = row_begins c.args.cells.now c.args.windows.now.items c.args.window.now row c.args.number c.args.way.at c.requires.tally.0 c.requires.leaves c.requires.way.within c.requires.tally.1 there in
+    let begins = row_begins c.args.cells.now c.args.windows.now.items c.args.window.now row c.args.number c.args.way.at c.requires.tally.0 c.requires.leaves
+    c.requires.way.within c.requires.tally.1 there in
     let long = (c.requires.leaves.long row c.args.number there).0 in
     let other = λ (e : row ≡ c.args.window.now). c.requires.new c.args.number (subst (λ z. HasNumber c.args.windows.now.items z c.args.number) e there) in
     let lt = differ row c.args.window.now c.args.way.at long begins other in
@@ -53,7 +54,8 @@ push_down-requires-clause-cell c =
       (
         i.there,
         i.tally.1,
-        free_below c.alike.cells c.args.windows.now.items c.args.window.now c.get-other.result.now c.args.number c.alike.at i.tally.0 i.leaves i.row i.same i.less i.tally.1 (get_or c.get-other.result.now c.alike.at 0),
+        free_below c.alike.cells c.args.windows.now.items c.args.window.now c.get-other.result.now c.args.number c.alike.at i.tally.0 i.leaves i.row i.same i.less i.tally.1
+            (get_or c.get-other.result.now c.alike.at 0),
       ),
     )
 
@@ -79,7 +81,8 @@ alike-preserved c =
       some = omega arith;
       less = omega arith;
       same = take_more_same other u c.alike.at 0 (omega arith) i.less i.same same;
-      there = ap (cell_of g.families) (sym (parted_way h ws u other c.args.number c.alike.at i.tally.0 i.leaves i.row i.same i.less i.tally.1 g pushes same)) ∙ c.in_ok-cell.ensures.cell (take c.alike.at u) i.there;
+      there = ap (cell_of g.families) (sym (parted_way h ws u other c.args.number c.alike.at i.tally.0 i.leaves i.row i.same i.less i.tally.1 g pushes same))
+          ∙ c.in_ok-cell.ensures.cell (take c.alike.at u) i.there;
       tally = (i.tally.0, parted_there h ws u other c.args.number c.alike.at i.tally.0 i.leaves i.row i.same i.less i.tally.1 g pushes same);
       leaves = parted_leaves h ws u other c.args.number c.alike.at i.tally.0 i.leaves i.row i.same i.less i.tally.1 g pushes;
       keeps = keeps_on i.keeps (parted_keeps h ws u other c.args.number c.alike.at i.tally.0 i.leaves i.row i.same i.less i.tally.1 g pushes);
@@ -95,7 +98,8 @@ push_down-requires-2-clause-cell c =
       (
         i.there,
         i.tally.1,
-        free_below c.alike.cells c.args.windows.now.items c.args.window.now c.get-other.result.now c.args.number c.alike.at i.tally.0 i.leaves i.row i.same i.less i.tally.1 (get_or c.get-other.result.now c.alike.at 0),
+        free_below c.alike.cells c.args.windows.now.items c.args.window.now c.get-other.result.now c.args.number c.alike.at i.tally.0 i.leaves i.row i.same i.less i.tally.1
+            (get_or c.get-other.result.now c.alike.at 0),
       ),
     )
 
@@ -108,13 +112,15 @@ pub returns-clause-leaves : goal.returns-clause-leaves
 returns-clause-leaves c =
     let i = c.alike.invariant in
     let pushes = c.in_ok-push_down.ensures.held (take c.alike.at c.args.window.now) (c.args.number, i.tally.0) i.there i.tally.1 in
-    parted_leaves c.alike.cells c.args.windows.now.items c.args.window.now c.get-other.result.now c.args.number c.alike.at i.tally.0 i.leaves i.row i.same i.less i.tally.1 c.push_down-2.new.self pushes
+    parted_leaves c.alike.cells c.args.windows.now.items c.args.window.now c.get-other.result.now c.args.number c.alike.at i.tally.0 i.leaves i.row
+    i.same i.less i.tally.1 c.push_down-2.new.self pushes
 
 pub returns-clause-keeps : goal.returns-clause-keeps
 returns-clause-keeps c =
     let i = c.alike.invariant in
     let pushes = c.in_ok-push_down.ensures.held (take c.alike.at c.args.window.now) (c.args.number, i.tally.0) i.there i.tally.1 in
-    keeps_on i.keeps (parted_keeps c.alike.cells c.args.windows.now.items c.args.window.now c.get-other.result.now c.args.number c.alike.at i.tally.0 i.leaves i.row i.same i.less i.tally.1 c.push_down-2.new.self pushes)
+    keeps_on i.keeps (parted_keeps c.alike.cells c.args.windows.now.items c.args.window.now c.get-other.result.now c.args.number c.alike.at i.tally.0
+    i.leaves i.row i.same i.less i.tally.1 c.push_down-2.new.self pushes)
 
 pub returns-clause-signs : goal.returns-clause-signs
 returns-clause-signs c =
@@ -130,10 +136,12 @@ returns-clause-way c =
         some = i.some;
         within = omega (arith, i.less);
         there = c.in_ok-push_down.ensures.there (take c.alike.at c.args.window.now) i.there;
-        ends = λ lt. parted_ends c.alike.cells c.args.windows.now.items c.args.window.now c.get-other.result.now c.args.number c.alike.at i.tally.0 i.leaves i.row i.same i.less i.tally.1 c.push_down-2.new.self pushes c.alike-test.false;
+        ends = λ lt. parted_ends c.alike.cells c.args.windows.now.items c.args.window.now c.get-other.result.now c.args.number c.alike.at i.tally.0
+            i.leaves i.row i.same i.less i.tally.1 c.push_down-2.new.self pushes c.alike-test.false;
       },
       i.less,
-      parted_blank c.alike.cells c.args.windows.now.items c.args.window.now c.get-other.result.now c.args.number c.alike.at i.tally.0 i.leaves i.row i.same i.less i.tally.1 c.push_down-2.new.self pushes,
+      parted_blank c.alike.cells c.args.windows.now.items c.args.window.now c.get-other.result.now c.args.number c.alike.at i.tally.0 i.leaves i.row
+          i.same i.less i.tally.1 c.push_down-2.new.self pushes,
     )
 
 pub get-other-requires : goal.get-other-requires

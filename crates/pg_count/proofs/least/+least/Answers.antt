@@ -10,8 +10,10 @@ use Rattle.pg_count.proofs.least.+least.Goals as goal
 pub least-loop-s-init : goal.least-loop-s-init
 least-loop-s-init t c =
     let are = c.requires.leaves.1 in
-    let next = λ (p : List ℕ) (at : base_of c.args.cells.now.families p ≡ Some c.args.base). subst (λ f. IsNextSign c.args.cells.now.values p (f - 1) c.sign_from-s.result) c.first_of.ensures (c.sign_from-s.ensures p at) in
-    let told = λ (p : List ℕ) (at : base_of c.args.cells.now.families p ≡ Some c.args.base). subst (λ q. IsToldBy c.args.above.now q c.args.bound.now) (are.held.bases c.requires.base.0 p c.args.base c.requires.base.1.0 at) c.requires.base.1.2 in
+    let next = λ (p : List ℕ) (at : base_of c.args.cells.now.families p ≡ Some c.args.base). subst (λ f. IsNextSign c.args.cells.now.values p (f - 1) c.sign_from-s.result) c.first_of.ensures
+    (c.sign_from-s.ensures p at) in
+    let told = λ (p : List ℕ) (at : base_of c.args.cells.now.families p ≡ Some c.args.base). subst (λ q. IsToldBy c.args.above.now q c.args.bound.now)
+    (are.held.bases c.requires.base.0 p c.args.base c.requires.base.1.0 at) c.requires.base.1.2 in
     record {
       small = c.sign_from-s.type_inv;
       from = λ up. (let f = (next c.requires.base.0 c.requires.base.1.0).found up in let low = f.0 in omega arith);
@@ -59,7 +61,8 @@ least-next_sign-s-requires t c = (c.requires.base.0 ++ c.loop-s.s ∷ [], sym (c
 pub least-returns-in-Some : goal.least-returns-in-Some
 least-returns-in-Some t c p at =
     let found = c.in-Some.ensures (p ++ c.loop-s.s ∷ []) (sym (c.in_ok-cell.ensures p at)) in
-    up_found c.args.cells.now c.args.windows.now.items c.requires.leaves.0 c.requires.leaves.1 p c.args.base at c.args.above.now c.loop-s.s c.in-Some.number (λ x lt. c.loop-s.invariant.none p at x (inr lt)) found
+    up_found c.args.cells.now c.args.windows.now.items c.requires.leaves.0 c.requires.leaves.1 p c.args.base at c.args.above.now c.loop-s.s c.in-Some.number
+    (λ x lt. c.loop-s.invariant.none p at x (inr lt)) found
 
 pub least-loop-s-preserved : goal.least-loop-s-preserved
 least-loop-s-preserved t c =
@@ -70,7 +73,8 @@ least-loop-s-preserved t c =
       small = c.next_sign-s.type_inv;
       from = λ up. (let f = (next c.requires.base.0 c.requires.base.1.0).found up in let low = f.0 in let from = c.loop-s.invariant.from (omega (arith, c.loop-s-test.true)) in omega arith);
       there = λ p at up. ((next p at).found up).1;
-      none = λ p at. none_next c.args.cells.now c.args.windows.now.items c.requires.leaves.0 c.requires.leaves.1 p c.args.base at c.args.above.now c.loop-s.s c.next_sign-s.result (c.loop-s.invariant.none p at) (here p at) (next p at);
+      none = λ p at. none_next c.args.cells.now c.args.windows.now.items c.requires.leaves.0 c.requires.leaves.1 p c.args.base at c.args.above.now c.loop-s.s c.next_sign-s.result
+          (c.loop-s.invariant.none p at) (here p at) (next p at);
     }
 
 pub least-returns : goal.least-returns

@@ -20,12 +20,14 @@ pub returns-then-is_lt : goal.returns-then-is_lt
 returns-then-is_lt c q at last =
     let there = c.in_ok-number.ensures q at in
     let told = ap (λ u. order u c.get.result.now) (sym c.signs.ensures.value) ∙ sym c.cmp.ensures in
-    leaf_found c.args.cells.now c.args.windows.now.items c.requires.leaves.0 c.requires.leaves.1 q c.args.above.now c.get.result.now c.in_ok-number.number c.in_ok-number.field-0-1 last there c.get.ensures
+    leaf_found c.args.cells.now c.args.windows.now.items c.requires.leaves.0 c.requires.leaves.1 q c.args.above.now c.get.result.now c.in_ok-number.number
+    c.in_ok-number.field-0-1 last there c.get.ensures
     (told ∙ less_is c.cmp.result (sym c.if-is_lt.ensures))
 
 pub returns-else-is_lt : goal.returns-else-is_lt
 returns-else-is_lt c q at last =
     let there = c.in_ok-number.ensures q at in
     let told = ap (λ u. order u c.get.result.now) (sym c.signs.ensures.value) ∙ sym c.cmp.ensures in
-    leaf_low c.args.cells.now c.args.windows.now.items c.requires.leaves.0 c.requires.leaves.1 q c.args.above.now c.get.result.now c.in_ok-number.number c.in_ok-number.field-0-1 last there c.get.ensures
+    leaf_low c.args.cells.now c.args.windows.now.items c.requires.leaves.0 c.requires.leaves.1 q c.args.above.now c.get.result.now c.in_ok-number.number
+    c.in_ok-number.field-0-1 last there c.get.ensures
     (λ less. (let wrong : false ≡ true = c.if-is_lt.ensures ∙ ap is_lt (sym told ∙ less) in cc))

@@ -10,7 +10,8 @@ find-requires c = record { base = (c.requires.base.0, c.requires.base.1.0); sign
 
 pub loop-s-init : goal.loop-s-init
 loop-s-init c =
-    let next = λ (p : List ℕ) (at : base_of c.args.cells.now.families p ≡ Some c.args.base). subst (λ q. IsNextSign c.args.cells.now.values q 0 c.args.first) (c.requires.held.bases c.requires.base.0 p c.args.base c.requires.base.1.0 at) c.requires.base.1.1 in
+    let next = λ (p : List ℕ) (at : base_of c.args.cells.now.families p ≡ Some c.args.base). subst (λ q. IsNextSign c.args.cells.now.values q 0 c.args.first)
+    (c.requires.held.bases c.requires.base.0 p c.args.base c.requires.base.1.0 at) c.requires.base.1.1 in
     record {
       small = omega arith;
       there = λ p at up. ((next p at).found up).1;

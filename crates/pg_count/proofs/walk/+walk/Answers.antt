@@ -11,13 +11,15 @@ use Rattle.pg_count.proofs.walk.+walk.Goals as goal
 
 pub walk-loop-s-init : goal.walk-loop-s-init
 walk-loop-s-init t c =
-    let next = λ (p : List ℕ) (at : base_of c.args.cells.now.families p ≡ Some c.args.base). subst (λ q. IsNextSign c.args.cells.now.values q 0 c.args.first) (c.requires.held.bases c.requires.base.0 p c.args.base c.requires.base.1.0 at) c.requires.base.1.1 in
+    let next = λ (p : List ℕ) (at : base_of c.args.cells.now.families p ≡ Some c.args.base). subst (λ q. IsNextSign c.args.cells.now.values q 0 c.args.first)
+    (c.requires.held.bases c.requires.base.0 p c.args.base c.requires.base.1.0 at) c.requires.base.1.1 in
     record {
       small = omega arith;
       there = λ p at up. ((next p at).found up).1;
       passed = λ p at.
           sym (append-nil c.args.out.now.items)
-          ∙ ap (λ l. c.args.out.now.items ++ l) (sym (passed_first c.args.cells.now c.requires.held p (open_base c.args.cells.now c.requires.held c.requires.last p c.args.base at) c.args.first (next p at)));
+          ∙ ap (λ l. c.args.out.now.items ++ l)
+          (sym (passed_first c.args.cells.now c.requires.held p (open_base c.args.cells.now c.requires.held c.requires.last p c.args.base at) c.args.first (next p at)));
     }
 
 pub walk-find-requires : goal.walk-find-requires
@@ -58,13 +60,15 @@ walk-loop-s-preserved t c =
           c.in_ok-walk_at.ensures (p ++ c.loop-s.s ∷ []) (sym (c.in-Some.ensures p at))
           ∙ ap (λ l. l ++ numbers_under (p ++ c.loop-s.s ∷ []) c.args.cells.now.values) (c.loop-s.invariant.passed p at)
           ∙ append_assoc c.args.out.now.items (numbers_where (is_passed p c.loop-s.s) (numbers_in c.args.cells.now.values)) (numbers_under (p ++ c.loop-s.s ∷ []) c.args.cells.now.values)
-          ∙ ap (λ l. c.args.out.now.items ++ l) (sym (passed_next c.args.cells.now c.requires.held p (open_base c.args.cells.now c.requires.held c.requires.last p c.args.base at) c.loop-s.s c.next_sign-s.result other (next p at)));
+          ∙ ap (λ l. c.args.out.now.items ++ l)
+          (sym (passed_next c.args.cells.now c.requires.held p (open_base c.args.cells.now c.requires.held c.requires.last p c.args.base at) c.loop-s.s c.next_sign-s.result other (next p at)));
     }
 
 pub walk-returns : goal.walk-returns
 walk-returns t c = λ p at.
     let end : c.loop-s.s ≡ 0 = omega arith in
-    c.loop-s.invariant.passed p at ∙ ap (λ l. c.args.out.now.items ++ l) (passed_end c.args.cells.now c.requires.held p (open_base c.args.cells.now c.requires.held c.requires.last p c.args.base at) c.loop-s.s end)
+    c.loop-s.invariant.passed p at ∙ ap (λ l. c.args.out.now.items ++ l)
+    (passed_end c.args.cells.now c.requires.held p (open_base c.args.cells.now c.requires.held c.requires.last p c.args.base at) c.loop-s.s end)
 
 pub walk_at-returns-then-below-eq0 : goal.walk_at-returns-then-below-eq0
 walk_at-returns-then-below-eq0 t c = λ q at. c.last_at.ensures q at (childless_last c.args.cells.now c.requires.held q c.child-below.result (c.child-below.ensures q at) c.if-below-eq0.true)

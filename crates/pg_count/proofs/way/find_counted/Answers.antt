@@ -28,7 +28,8 @@ returns-then-eq-clause-some c =
     let there = c.in_ok-number.ensures q c.requires.way.there in (
       there,
       elim c.if-way-window.branch [
-        | then-way-window w ↦ whole_row c.args.cells.now c.args.windows.now.items c.args.window.now c.requires.leaves c.args.way.at c.args.way.cell c.requires.way w.if-way-window.true (c.in_ok-number.number, c.in_ok-number.sums) there
+        | then-way-window w ↦ whole_row c.args.cells.now c.args.windows.now.items c.args.window.now c.requires.leaves c.args.way.at c.args.way.cell c.requires.way w.if-way-window.true
+            (c.in_ok-number.number, c.in_ok-number.sums) there
         | else-way-window w ↦
             let same : w.get.result.now ≡ c.args.window.now = (bytes_decides w.get.result.now c.args.window.now).0 (sym w.eq.ensures ∙ sym w.value-is ∙ c.if-eq.true) in
             w.get.ensures ∙ ap Some same

@@ -36,7 +36,9 @@ pub push_sites-requires : goal.push_sites-requires
 push_sites-requires c = word_in (stored_words c.args.store.now) c.words.i (lent_word c.lend.result) c.requires.words (lent (goal.at.push_sites-requires c).After-lend)
 
 pub words-preserved : goal.words-preserved
-words-preserved c = word_added (stored_words c.args.store.now) c.words.sites.items c.push_sites.new.sites.items _ c.words.i (lent_word c.lend.result) (lent (goal.at.words-preserved c).After-lend) c.in_ok-push_sites.ensures c.words.invariant
+words-preserved c = word_added (stored_words c.args.store.now) c.words.sites.items c.push_sites.new.sites.items _ c.words.i (lent_word c.lend.result)
+    (lent (goal.at.words-preserved c).After-lend) c.in_ok-push_sites.ensures c.words.invariant
 
 pub returns : goal.returns
-returns c = words_added (stored_words c.args.store.now) c.words.sites.items _ c.words.i (omega (arith, length-map c.args.store.now.words.items (word_at (columns_of c.args.store.now)))) c.words.invariant
+returns c = words_added (stored_words c.args.store.now) c.words.sites.items _ c.words.i
+    (omega (arith, length-map c.args.store.now.words.items (word_at (columns_of c.args.store.now)))) c.words.invariant

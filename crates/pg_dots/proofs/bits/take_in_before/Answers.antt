@@ -14,7 +14,8 @@ numbers-preserved c = λ y within.
     let x = end - 1 - k in
     let size : length row ≡ end = c.numbers.auto.row in
     let test : k < end - 2 * width = c.numbers-test.true in
-    let plain : (z : ℕ) → z < end - k → get_or row z 0 ≡ get_or old z 0 = λ z less. c.numbers.invariant z (omega arith) ∙ ap (λ b. cond b (bit_or (get_or old z 0) (get_or old (z - width) 0)) (get_or old z 0)) (lt-leb (end - k) z less) in
+    let plain : (z : ℕ) → z < end - k → get_or row z 0 ≡ get_or old z 0 = λ z less. c.numbers.invariant z (omega arith)
+    ∙ ap (λ b. cond b (bit_or (get_or old z 0) (get_or old (z - width) 0)) (get_or old z 0)) (lt-leb (end - k) z less) in
     elim (cases_eq y x) [
       | inl same ↦
           ap (λ z. get_or (set row x (bit_or (get_or row x 0) (get_or row (x - width) 0))) z 0) same

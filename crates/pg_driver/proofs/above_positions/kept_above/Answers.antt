@@ -21,7 +21,8 @@ positions-preserved c = record {
       let within : k < length c.args.numbers.now = omega (arith, c.requires.size, c.positions-test.true) in
       kept_step params c.args.pass counts c.args.dictionary.now c.positions.kept _ _ c.args.above.now k no_position c.positions-test.true
       (c.add_kept-kept.ensures.value params counts ws are decided
-      (have.each k (get_or c.args.above.now k no_position) (get_or c.args.numbers.now k 0) (slice_get-get_or c.args.above.now k no_position c.positions-test.true) (slice_get-get_or c.args.numbers.now k 0 within)))
+      (have.each k (get_or c.args.above.now k no_position) (get_or c.args.numbers.now k 0) (slice_get-get_or c.args.above.now k no_position c.positions-test.true)
+      (slice_get-get_or c.args.numbers.now k 0 within)))
       (c.positions.invariant.whole params counts ws are decided have);
   took = omega (arith, c.positions.invariant.took, c.add_kept-kept.ensures.took);
 }

@@ -12,4 +12,5 @@ abbrev pub invariant-positions : goal.invariant-positions
 invariant-positions l =
     let w = lent_word l.w in
     (P : Patterns) → HasValues P l.w.signs.now l.found.values
-    → (l.above.items ++ flat_map (λ (p : ℕ). open_as l.word p (counts_above l.level P w p)) (range_with_len l.p (l.end - l.p))) ≡ (l.fn.above.items ++ listed_in (minima_of l.table) (counts_above l.level P) l.word w)
+    → (l.above.items ++ flat_map (λ (p : ℕ). open_as l.word p (counts_above l.level P w p)) (range_with_len l.p (l.end - l.p)))
+    ≡ (l.fn.above.items ++ listed_in (minima_of l.table) (counts_above l.level P) l.word w)

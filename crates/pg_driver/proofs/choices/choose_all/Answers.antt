@@ -41,7 +41,8 @@ bounds-fates-n g c =
     let inv = c.candidates.invariant in
     let windows : m.windows ≡ m0.windows = ap (λ (x : Meaning). x.windows) inv.kept in
     let counts : m.counts ≡ m0.counts = ap (λ (x : Meaning). x.counts) inv.kept in
-    let a : Ahead m0.windows m0.counts n more inv.rest = ahead m0.windows m0.counts n more inv.rest (sym (ap (map (slice_get m0.windows)) (drop_more c.args.order.now k 0 c.candidates-test.true)) ∙ inv.ahead) inv.part in
+    let a : Ahead m0.windows m0.counts n more inv.rest = ahead m0.windows m0.counts n more inv.rest
+    (sym (ap (map (slice_get m0.windows)) (drop_more c.args.order.now k 0 c.candidates-test.true)) ∙ inv.ahead) inv.part in
     let there : n < length m0.windows = slice_get_within m0.windows n a.entry.0 a.number in
     omega (arith, c.requires.fates.size, there)
 
@@ -55,7 +56,8 @@ choose_one-requires-clause-there g c =
     let inv = c.candidates.invariant in
     let windows : m.windows ≡ m0.windows = ap (λ (x : Meaning). x.windows) inv.kept in
     let counts : m.counts ≡ m0.counts = ap (λ (x : Meaning). x.counts) inv.kept in
-    let a : Ahead m0.windows m0.counts n more inv.rest = ahead m0.windows m0.counts n more inv.rest (sym (ap (map (slice_get m0.windows)) (drop_more c.args.order.now k 0 c.candidates-test.true)) ∙ inv.ahead) inv.part in
+    let a : Ahead m0.windows m0.counts n more inv.rest = ahead m0.windows m0.counts n more inv.rest
+    (sym (ap (map (slice_get m0.windows)) (drop_more c.args.order.now k 0 c.candidates-test.true)) ∙ inv.ahead) inv.part in
     let there : n < length m0.windows = slice_get_within m0.windows n a.entry.0 a.number in
     subst (λ (ws : List (List ℕ)). n < length ws) (sym windows) there
 
@@ -69,9 +71,11 @@ choose_one-requires-clause-fate g c = λ u sums it.
     let inv = c.candidates.invariant in
     let windows : m.windows ≡ m0.windows = ap (λ (x : Meaning). x.windows) inv.kept in
     let counts : m.counts ≡ m0.counts = ap (λ (x : Meaning). x.counts) inv.kept in
-    let a : Ahead m0.windows m0.counts n more inv.rest = ahead m0.windows m0.counts n more inv.rest (sym (ap (map (slice_get m0.windows)) (drop_more c.args.order.now k 0 c.candidates-test.true)) ∙ inv.ahead) inv.part in
+    let a : Ahead m0.windows m0.counts n more inv.rest = ahead m0.windows m0.counts n more inv.rest
+    (sym (ap (map (slice_get m0.windows)) (drop_more c.args.order.now k 0 c.candidates-test.true)) ∙ inv.ahead) inv.part in
     let there : n < length m0.windows = slice_get_within m0.windows n a.entry.0 a.number in
-    get_or_from_slice_get c.args.fates.now n _ _ (c.requires.fates.each u n sums (subst (λ (ws : List (List ℕ)). HasNumber ws u n) windows it.number) (ap (λ (es : Counts). counted_sums es u) (sym counts) ∙ it.sums))
+    get_or_from_slice_get c.args.fates.now n _ _ (c.requires.fates.each u n sums (subst (λ (ws : List (List ℕ)). HasNumber ws u n) windows it.number)
+    (ap (λ (es : Counts). counted_sums es u) (sym counts) ∙ it.sums))
 
 pub choose_one-requires-clause-sums : goal.choose_one-requires-clause-sums
 choose_one-requires-clause-sums g c = λ u sums it.
@@ -83,12 +87,26 @@ choose_one-requires-clause-sums g c = λ u sums it.
     let inv = c.candidates.invariant in
     let windows : m.windows ≡ m0.windows = ap (λ (x : Meaning). x.windows) inv.kept in
     let counts : m.counts ≡ m0.counts = ap (λ (x : Meaning). x.counts) inv.kept in
-    let a : Ahead m0.windows m0.counts n more inv.rest = ahead m0.windows m0.counts n more inv.rest (sym (ap (map (slice_get m0.windows)) (drop_more c.args.order.now k 0 c.candidates-test.true)) ∙ inv.ahead) inv.part in
+    let a : Ahead m0.windows m0.counts n more inv.rest = ahead m0.windows m0.counts n more inv.rest
+    (sym (ap (map (slice_get m0.windows)) (drop_more c.args.order.now k 0 c.candidates-test.true)) ∙ inv.ahead) inv.part in
     let there : n < length m0.windows = slice_get_within m0.windows n a.entry.0 a.number in
     let is : map candidate_of inv.rest ≡ candidate_of a.entry ∷ map candidate_of a.left = ap (λ (es : Counts). map candidate_of es) a.is in
-    let same = only_one m0.windows m0.counts n a.entry.0 a.entry.1 u sums a.number a.sums (subst (λ (ws : List (List ℕ)). HasNumber ws u n) windows it.number) (ap (λ (es : Counts). counted_sums es u) (sym counts) ∙ it.sums) in (
-      omega (arith, ap (λ (s : ℕ × ℕ). s.0) same, ap (λ (cs : List Candidate). sum_by (λ c. c.good) cs) is, sum_by-cons (λ (c : Candidate). c.good) (candidate_of a.entry) (map candidate_of a.left), inv.good),
-      omega (arith, ap (λ (s : ℕ × ℕ). s.1) same, ap (λ (cs : List Candidate). sum_by (λ c. c.bad) cs) is, sum_by-cons (λ (c : Candidate). c.bad) (candidate_of a.entry) (map candidate_of a.left), inv.bad),
+    let same = only_one m0.windows m0.counts n a.entry.0 a.entry.1 u sums a.number a.sums (subst (λ (ws : List (List ℕ)). HasNumber ws u n) windows it.number)
+    (ap (λ (es : Counts). counted_sums es u) (sym counts) ∙ it.sums) in (
+      omega (
+        arith,
+        ap (λ (s : ℕ × ℕ). s.0) same,
+        ap (λ (cs : List Candidate). sum_by (λ c. c.good) cs) is,
+        sum_by-cons (λ (c : Candidate). c.good) (candidate_of a.entry) (map candidate_of a.left),
+        inv.good,
+      ),
+      omega (
+        arith,
+        ap (λ (s : ℕ × ℕ). s.1) same,
+        ap (λ (cs : List Candidate). sum_by (λ c. c.bad) cs) is,
+        sum_by-cons (λ (c : Candidate). c.bad) (candidate_of a.entry) (map candidate_of a.left),
+        inv.bad,
+      ),
     )
 
 pub choose_one-requires-clause-few : goal.choose_one-requires-clause-few
@@ -101,7 +119,8 @@ choose_one-requires-clause-few g c =
     let inv = c.candidates.invariant in
     let windows : m.windows ≡ m0.windows = ap (λ (x : Meaning). x.windows) inv.kept in
     let counts : m.counts ≡ m0.counts = ap (λ (x : Meaning). x.counts) inv.kept in
-    let a : Ahead m0.windows m0.counts n more inv.rest = ahead m0.windows m0.counts n more inv.rest (sym (ap (map (slice_get m0.windows)) (drop_more c.args.order.now k 0 c.candidates-test.true)) ∙ inv.ahead) inv.part in
+    let a : Ahead m0.windows m0.counts n more inv.rest = ahead m0.windows m0.counts n more inv.rest
+    (sym (ap (map (slice_get m0.windows)) (drop_more c.args.order.now k 0 c.candidates-test.true)) ∙ inv.ahead) inv.part in
     let there : n < length m0.windows = slice_get_within m0.windows n a.entry.0 a.number in
     let is : map candidate_of inv.rest ≡ candidate_of a.entry ∷ map candidate_of a.left = ap (λ (es : Counts). map candidate_of es) a.is in
     omega (arith, ap (λ (cs : List Candidate). length cs) is, inv.few)
@@ -116,7 +135,8 @@ candidates-preserved g c =
     let inv = c.candidates.invariant in
     let windows : m.windows ≡ m0.windows = ap (λ (x : Meaning). x.windows) inv.kept in
     let counts : m.counts ≡ m0.counts = ap (λ (x : Meaning). x.counts) inv.kept in
-    let a : Ahead m0.windows m0.counts n more inv.rest = ahead m0.windows m0.counts n more inv.rest (sym (ap (map (slice_get m0.windows)) (drop_more c.args.order.now k 0 c.candidates-test.true)) ∙ inv.ahead) inv.part in
+    let a : Ahead m0.windows m0.counts n more inv.rest = ahead m0.windows m0.counts n more inv.rest
+    (sym (ap (map (slice_get m0.windows)) (drop_more c.args.order.now k 0 c.candidates-test.true)) ∙ inv.ahead) inv.part in
     let there : n < length m0.windows = slice_get_within m0.windows n a.entry.0 a.number in
     let is : map candidate_of inv.rest ≡ candidate_of a.entry ∷ map candidate_of a.left = ap (λ (es : Counts). map candidate_of es) a.is in
     let after = g.E.Engine.meaning c.choose_one.new.engine in
@@ -144,6 +164,20 @@ candidates-preserved g c =
           ∙ inv.choices;
       few = omega (arith, ap (λ (x : Choices). x.candidates) chosen, ap (λ (cs : List Candidate). length cs) is, inv.few);
       sound = c.in_ok-choose_one.ensures.sound;
-      good = omega (arith, ap (λ (x : Choices). x.good) chosen, good_adds params c.candidates.choices first, ap (λ (cs : List Candidate). sum_by (λ c. c.good) cs) is, sum_by-cons (λ (c : Candidate). c.good) first rest, inv.good);
-      bad = omega (arith, ap (λ (x : Choices). x.bad) chosen, bad_adds params c.candidates.choices first, ap (λ (cs : List Candidate). sum_by (λ c. c.bad) cs) is, sum_by-cons (λ (c : Candidate). c.bad) first rest, inv.bad);
+      good = omega (
+        arith,
+        ap (λ (x : Choices). x.good) chosen,
+        good_adds params c.candidates.choices first,
+        ap (λ (cs : List Candidate). sum_by (λ c. c.good) cs) is,
+        sum_by-cons (λ (c : Candidate). c.good) first rest,
+        inv.good,
+      );
+      bad = omega (
+        arith,
+        ap (λ (x : Choices). x.bad) chosen,
+        bad_adds params c.candidates.choices first,
+        ap (λ (cs : List Candidate). sum_by (λ c. c.bad) cs) is,
+        sum_by-cons (λ (c : Candidate). c.bad) first rest,
+        inv.bad,
+      );
     }

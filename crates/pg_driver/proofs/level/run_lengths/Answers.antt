@@ -40,7 +40,8 @@ lengths-preserved g c =
     let source = over c.args.table.now c.args.dictionary.now in
     let start : LevelStart = record { engine = m0; records = c.args.records.now } in
     let all = all_made_by source params m0 (passes_of number params) in
-    let reached = reaches_on source params number len start m n c.lengths.records c.run_length.new.records c.lengths.closed c.run_length.new.closed (lengths_from number len end) (passes_of_length number len) (lengths_from number (len + 1) end) all (known_at_end (known_of m0) all)
+    let reached = reaches_on source params number len start m n c.lengths.records c.run_length.new.records c.lengths.closed c.run_length.new.closed
+    (lengths_from number len end) (passes_of_length number len) (lengths_from number (len + 1) end) all (known_at_end (known_of m0) all)
     (lengths_step number len end c.lengths-test.true) c.in_ok-run_length.ensures.ok c.lengths.invariant.reaches in
     record {
       reaches = record {
@@ -70,7 +71,8 @@ returns-clause-state g c =
     let all = all_made_by source params m0 (passes_of number params) in
     let ends : c.lengths.len ≡ end = omega (arith, c.requires.level.start_high) in
     let none : lengths_from number c.lengths.len end ≡ [] = ap (λ len. lengths_from number len end) ends ∙ no_lengths number end in
-    (at_whole source params number c.lengths.len start (g.E.Engine.meaning c.lengths.engine) c.lengths.records c.lengths.closed (lengths_from number c.lengths.len end) all (known_at_end (known_of m0) all) none c.lengths.invariant.reaches).0.state
+    (at_whole source params number c.lengths.len start (g.E.Engine.meaning c.lengths.engine) c.lengths.records c.lengths.closed (lengths_from number c.lengths.len end) all
+    (known_at_end (known_of m0) all) none c.lengths.invariant.reaches).0.state
 
 pub returns-clause-records : goal.returns-clause-records
 returns-clause-records g c =
@@ -83,7 +85,8 @@ returns-clause-records g c =
     let all = all_made_by source params m0 (passes_of number params) in
     let ends : c.lengths.len ≡ end = omega (arith, c.requires.level.start_high) in
     let none : lengths_from number c.lengths.len end ≡ [] = ap (λ len. lengths_from number len end) ends ∙ no_lengths number end in
-    (at_whole source params number c.lengths.len start (g.E.Engine.meaning c.lengths.engine) c.lengths.records c.lengths.closed (lengths_from number c.lengths.len end) all (known_at_end (known_of m0) all) none c.lengths.invariant.reaches).0.records
+    (at_whole source params number c.lengths.len start (g.E.Engine.meaning c.lengths.engine) c.lengths.records c.lengths.closed (lengths_from number c.lengths.len end) all
+    (known_at_end (known_of m0) all) none c.lengths.invariant.reaches).0.records
 
 pub returns-clause-ready : goal.returns-clause-ready
 returns-clause-ready g c =

@@ -48,7 +48,8 @@ after_choices-requires-clause-totals g c =
     let counted = counted_as c.args.table.now words pass m _ _ c.begin_pass.ensures c.in_ok-before.ensures.did.counts in
     let numbers = numbers_are c.args.table.now words params pass m m2 c.in_ok-choices.choices counted c.in_ok-choices.ensures.choices in
     let source = over c.args.table.now words in
-    can_go_on source params (known_of m) pass c.in_ok-choices.choices n.counts c.count.new.self (are_of source params (known_of m) pass c.in_ok-choices.choices numbers) c.in_ok-before.ensures.counted (counts_kept c.args.table.now words params pass m m2 n counted c.in_ok-choices.ensures.ok) ready
+    can_go_on source params (known_of m) pass c.in_ok-choices.choices n.counts c.count.new.self (are_of source params (known_of m) pass c.in_ok-choices.choices numbers) c.in_ok-before.ensures.counted
+    (counts_kept c.args.table.now words params pass m m2 n counted c.in_ok-choices.ensures.ok) ready
 
 pub returns-clause-done : goal.returns-clause-done
 returns-clause-done g c =
@@ -56,7 +57,9 @@ returns-clause-done g c =
     let words = c.args.dictionary.now in
     let counted = counted_as c.args.table.now words c.args.pass m _ _ c.begin_pass.ensures c.in_ok-before.ensures.did.counts in
     let before = c.in_ok-before.ensures.did.totals ∙ ap (λ (x : Meaning). totals_by (over c.args.table.now words) x.patterns) c.begin_pass.ensures in
-    did_pass c.args.table.now words c.args.params.now c.args.pass m (g.E.Engine.meaning c.count.new.engine) (g.E.Engine.meaning c.choose_all.new.engine) c.in_ok-before.before c.in_ok-choices.choices c.layout.result counted before c.in_ok-choices.ensures.ok c.in_ok-choices.ensures.choices c.layout.ensures
+    did_pass c.args.table.now words c.args.params.now c.args.pass m (g.E.Engine.meaning c.count.new.engine)
+    (g.E.Engine.meaning c.choose_all.new.engine) c.in_ok-before.before c.in_ok-choices.choices c.layout.result counted before c.in_ok-choices.ensures.ok
+    c.in_ok-choices.ensures.choices c.layout.ensures
 
 pub returns-clause-ready : goal.returns-clause-ready
 returns-clause-ready g c =
@@ -73,11 +76,14 @@ returns-clause-ready g c =
     let ready : IsReady (over c.args.table.now c.args.dictionary.now) c.args.pass.level c.args.pass.len (known_of (g.E.Engine.meaning c.args.engine.now)) c.count.new.self =
     subst (λ (k : Known). IsReady (over c.args.table.now c.args.dictionary.now) c.args.pass.level c.args.pass.len k c.count.new.self) (ap known_of c.begin_pass.ensures) c.in_ok-before.ensures.ready in
     subst (λ (k : Known). IsReady source pass.level pass.len k c.after_choices.new.self) (sym (ap (λ (s : State). s.known) state))
-    (ready_after source params (known_of m) pass c.in_ok-choices.choices n.counts c.count.new.self c.after_choices.new.self (are_of source params (known_of m) pass c.in_ok-choices.choices numbers) c.in_ok-before.ensures.counted (omega (arith, c.requires.ranges.within, c.requires.ranges.len_high)) (counts_kept c.args.table.now words params pass m m2 n counted c.in_ok-choices.ensures.ok) c.after_choices.ensures ready)
+    (ready_after source params (known_of m) pass c.in_ok-choices.choices n.counts c.count.new.self c.after_choices.new.self
+    (are_of source params (known_of m) pass c.in_ok-choices.choices numbers) c.in_ok-before.ensures.counted (omega (arith, c.requires.ranges.within, c.requires.ranges.len_high))
+    (counts_kept c.args.table.now words params pass m m2 n counted c.in_ok-choices.ensures.ok) c.after_choices.ensures ready)
 
 pub returns-clause-counted : goal.returns-clause-counted
 returns-clause-counted g c =
-    counted_after c.args.params.now c.args.pass (g.E.Engine.meaning c.choose_all.new.engine).counts c.args.dictionary.now c.in_ok-choices.choices c.count.new.self c.after_choices.new.self c.after_choices.ensures c.in_ok-before.ensures.counted
+    counted_after c.args.params.now c.args.pass (g.E.Engine.meaning c.choose_all.new.engine).counts c.args.dictionary.now c.in_ok-choices.choices
+    c.count.new.self c.after_choices.new.self c.after_choices.ensures c.in_ok-before.ensures.counted
 
 pub returns-clause-sound : goal.returns-clause-sound
 returns-clause-sound g c = record { within = c.in_ok-choices.ensures.sound; before = c.in_ok-before.ensures.did.small }

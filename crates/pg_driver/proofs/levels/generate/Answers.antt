@@ -22,7 +22,8 @@ returns-clause-account g c =
     let m0 = g.E.Engine.meaning c.args.engine.now in
     let n = g.E.Engine.meaning c.run_levels.new.engine in
     let run = run_from c.args.table.now c.args.dictionary.now c.args.params.now m0 in
-    ap account_of c.new.ensures ∙ told_account (over c.args.table.now c.args.dictionary.now) run m0 n c.run_levels.new.records c.in_ok-patterns.patterns c.in_ok-totals.totals c.layout-first_layout.result c.in_ok-totals.ensures.run c.in_ok-totals.ensures.totals
+    ap account_of c.new.ensures ∙ told_account (over c.args.table.now c.args.dictionary.now) run m0 n c.run_levels.new.records c.in_ok-patterns.patterns
+    c.in_ok-totals.totals c.layout-first_layout.result c.in_ok-totals.ensures.run c.in_ok-totals.ensures.totals
 
 pub returns-clause-cells : goal.returns-clause-cells
 returns-clause-cells g c =
@@ -30,7 +31,8 @@ returns-clause-cells g c =
     let n = g.E.Engine.meaning c.run_levels.new.engine in
     let run = run_from c.args.table.now c.args.dictionary.now c.args.params.now m0 in
     subst (TellsCells (cells_from c.args.table.now c.args.dictionary.now c.args.params.now m0)) (sym c.new.ensures)
-    (told_cells (over c.args.table.now c.args.dictionary.now) run m0 n c.run_levels.new.records c.in_ok-patterns.patterns c.in_ok-totals.totals c.layout-first_layout.result c.in_ok-totals.ensures.run c.layout-first_layout.ensures c.requires.tidy)
+    (told_cells (over c.args.table.now c.args.dictionary.now) run m0 n c.run_levels.new.records c.in_ok-patterns.patterns c.in_ok-totals.totals
+    c.layout-first_layout.result c.in_ok-totals.ensures.run c.layout-first_layout.ensures c.requires.tidy)
 
 pub returns-clause-begun : goal.returns-clause-begun
 returns-clause-begun g c = ap (λ (r : Finished). r.begun) c.new.ensures ∙ c.in_ok-totals.ensures.run.begun

@@ -19,7 +19,13 @@ levels-init g c =
     let m0 = g.E.Engine.meaning c.args.engine.now in
     let source = over c.args.table.now c.args.dictionary.now in
     record {
-      reaches = record { done = []; did = run_begins source m0 c.args.records.now c.requires.hopeless c.requires.none; left = ap (λ (ls : List (ℕ × LevelParams)). levels_made source m0.patterns ls) (all_levels c.start-start.result c.args.params.now.levels ∙ ap (λ (n : ℕ). enumerate_from n c.args.params.now.levels) c.start-start.ensures.value) };
+      reaches = record {
+        done = [];
+        did = run_begins source m0 c.args.records.now c.requires.hopeless c.requires.none;
+        left =
+            ap (λ (ls : List (ℕ × LevelParams)). levels_made source m0.patterns ls) (all_levels c.start-start.result c.args.params.now.levels
+            ∙ ap (λ (n : ℕ). enumerate_from n c.args.params.now.levels) c.start-start.ensures.value);
+      };
       upto = up_to_starting c.largest-greatest.result (c.start-start.result + 0 - 1) m0.patterns (c.largest-greatest.ensures.value ∙ ap largest c.in_ok-copy_patterns.ensures);
       totals = tt;
       small = tt;
@@ -46,7 +52,8 @@ levels-preserved g c =
     let on : start + i + 1 ≡ start + (i + 1) = omega arith in
     record {
       reaches =
-          level_on source m0 m n c.levels.records c.run_level.new.records (start + i, c.level.result.now) (enumerate_from (start + i) (drop i levels)) (enumerate_from (start + (i + 1)) (drop (i + 1) levels)) (run_from c.args.table.now c.args.dictionary.now c.args.params.now m0) c.levels.invariant.signs
+          level_on source m0 m n c.levels.records c.run_level.new.records (start + i, c.level.result.now) (enumerate_from (start + i) (drop i levels))
+          (enumerate_from (start + (i + 1)) (drop (i + 1) levels)) (run_from c.args.table.now c.args.dictionary.now c.args.params.now m0) c.levels.invariant.signs
           (levels_step start i levels c.level.result.now c.level.ensures.value) c.in_ok-after.ensures.done c.levels.invariant.reaches;
       upto =
           subst (λ (k : ℕ). IsUpTo (max greatest (k - 1)) n.patterns) on
@@ -65,10 +72,12 @@ returns-in-Some-clause-run g c =
     let m0 = g.E.Engine.meaning c.args.engine.now in
     let m = g.E.Engine.meaning c.levels.engine in
     let rest = enumerate_from (c.start-start.result + c.levels.i) (drop c.levels.i c.args.params.now.levels) in
-    run_whole (over c.args.table.now c.args.dictionary.now) m0 m c.levels.records rest (run_from c.args.table.now c.args.dictionary.now c.args.params.now m0) (no_levels c.start-start.result c.levels.i c.args.params.now.levels (omega (arith, c.count-count.ensures.value))) c.levels.invariant.reaches
+    run_whole (over c.args.table.now c.args.dictionary.now) m0 m c.levels.records rest (run_from c.args.table.now c.args.dictionary.now c.args.params.now m0)
+    (no_levels c.start-start.result c.levels.i c.args.params.now.levels (omega (arith, c.count-count.ensures.value))) c.levels.invariant.reaches
 
 pub run_level-requires-clause-below : goal.run_level-requires-clause-below
-run_level-requires-clause-below g c = λ low. below_level c.largest-greatest.result (c.start-start.result + c.levels.i) (g.E.Engine.meaning c.levels.engine).patterns c.levels.invariant.upto (omega (arith, c.start-start.ensures.low)) low
+run_level-requires-clause-below g c = λ low. below_level c.largest-greatest.result (c.start-start.result + c.levels.i)
+    (g.E.Engine.meaning c.levels.engine).patterns c.levels.invariant.upto (omega (arith, c.start-start.ensures.low)) low
 
 pub returns-in-Some-clause-totals : goal.returns-in-Some-clause-totals
 returns-in-Some-clause-totals g c =

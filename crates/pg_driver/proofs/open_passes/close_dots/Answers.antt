@@ -15,7 +15,9 @@ record Ahead (c : After-next_open-sign) : Type 0 where
   low : c.next_open-sign.result < c.args.end
   wide : c.args.end ≤ places_in c.args.dots.now
   index : c.numbers.number-index < length (open_signs (is_closed c.args.dots.now c.args.dot) 0 c.args.end)
-  step : open_signs (is_closed c.args.dots.now c.args.dot) c.numbers.invariant.next c.args.end ≡ get_or (open_signs (is_closed c.args.dots.now c.args.dot) 0 c.args.end) c.numbers.number-index 0 ∷ drop (c.numbers.number-index + 1) (open_signs (is_closed c.args.dots.now c.args.dot) 0 c.args.end)
+  step : open_signs (is_closed c.args.dots.now c.args.dot) c.numbers.invariant.next c.args.end
+      ≡ get_or (open_signs (is_closed c.args.dots.now c.args.dot) 0 c.args.end) c.numbers.number-index 0 ∷ drop (c.numbers.number-index + 1)
+      (open_signs (is_closed c.args.dots.now c.args.dot) 0 c.args.end)
 
 ahead : (c : After-next_open-sign) → Ahead c
 ahead c =
@@ -71,7 +73,8 @@ numbers-preserved c =
     let wide : places_in c.numbers.dots ≡ places_in c.args.dots.now = inv.size in
     let within : at < places_in c.args.dots.now = omega (arith, a.low, a.wide) in
     let free : old dot at ≡ false = sym (inv.later dot at found.after within) ∙ found.fails (omega arith) in
-    let both : at ∷ open_signs (old dot) (at + 1) end ≡ get_or all k 0 ∷ drop (k + 1) all = sym (open_first (old dot) end at a.low free) ∙ sym (open_skip (old dot) end next at found.after a.shut) ∙ a.step in
+    let both : at ∷ open_signs (old dot) (at + 1) end ≡ get_or all k 0 ∷ drop (k + 1) all = sym (open_first (old dot) end at a.low free)
+    ∙ sym (open_skip (old dot) end next at found.after a.shut) ∙ a.step in
     let head : at ≡ get_or all k 0 = cc in
     let tail : open_signs (old dot) (at + 1) end ≡ drop (k + 1) all = cc in
     let here : slice_get all k ≡ Some at = slice_get-get_or all k 0 a.index ∙ ap Some (sym head) in

@@ -73,9 +73,11 @@ signs-preserved g c =
     let all = ap (λ (xs : List ℕ). length xs) c.all_signs-signs.ensures in
     let low : s < total = omega (arith, c.signs-test.true) in
     let free : closed s ≡ false = inv.free (omega (arith, c.requires.size)) in
-    let step : open_signs closed s total ≡ s ∷ open_signs closed t total = open_first closed total s low free ∙ ap (λ (xs : List ℕ). s ∷ xs) (open_skip closed total (s + 1) t later.after later.passes) in
+    let step : open_signs closed s total ≡ s ∷ open_signs closed t total = open_first closed total s low free
+    ∙ ap (λ (xs : List ℕ). s ∷ xs) (open_skip closed total (s + 1) t later.after later.passes) in
     let ok : after ≡ meaning_after_counting m (f (place s)) = c.in_ok-number.ensures.ok in
-    let front : map place (open_upto closed s) ++ place s ∷ [] ≡ map place (open_upto closed t) = sym (ap (map place) (sym (upto_skip closed (s + 1) t later.after later.passes) ∙ upto_open closed s free) ∙ map-append place (open_upto closed s) (s ∷ [])) in
+    let front : map place (open_upto closed s) ++ place s ∷ [] ≡ map place (open_upto closed t) =
+    sym (ap (map place) (sym (upto_skip closed (s + 1) t later.after later.passes) ∙ upto_open closed s free) ∙ map-append place (open_upto closed s) (s ∷ [])) in
     record {
       kept = kept_on m0 m after (f (place s)) inv.kept ok;
       whole = counted_step f m after _ (place s) (map place (open_signs closed t total)) ok (ap (λ (xs : List ℕ). meaning_after_counting m (flat_map f (map place xs))) (sym step) ∙ inv.whole);
@@ -84,7 +86,8 @@ signs-preserved g c =
           (subst (HaveNumbers pass (counts_at pass) words after.windows (map place (open_upto closed s) ++ place s ∷ [])) (sym c.in_ok-push.ensures.items)
           (have_more pass (counts_at pass) words after.windows (map place (open_upto closed s)) c.signs.numbers.items (place s) c.in_ok-number.number
           (still_have pass (counts_at pass) words m after (f (place s)) (map place (open_upto closed s)) c.signs.numbers.items ok inv.numbered) c.in_ok-number.ensures.number));
-      room = room_left m.counts after.counts (length (open_signs closed s total)) 1 (length (open_signs closed t total)) inv.room c.in_ok-number.ensures.took (omega (arith, ap (λ (xs : List ℕ). length xs) step));
+      room = room_left m.counts after.counts (length (open_signs closed s total)) 1 (length (open_signs closed t total)) inv.room c.in_ok-number.ensures.took
+          (omega (arith, ap (λ (xs : List ℕ). length xs) step));
       inside = later.within;
       free = later.fails;
       at = c.next_open-next-in-signs.ensures.within;

@@ -47,7 +47,8 @@ returns-then-not-has_around-clause-ok g c =
     let w = s.of.word in
     let p = s.of.at in
     let other : fits w.signs p pass.len pass.dot ≡ false = sym (c.has_around.ensures w p s.of.within s.is) ∙ c.if-not-has_around.true in
-    sym (ap (λ (e : WordPosition). meaning_after_counting m (counted_of pass.level pass.len pass.dot words e)) (place_of words c.args.sign s.of) ∙ counted_none m pass.level pass.len pass.dot words s.of.number p w s.of.there other)
+    sym (ap (λ (e : WordPosition). meaning_after_counting m (counted_of pass.level pass.len pass.dot words e)) (place_of words c.args.sign s.of)
+    ∙ counted_none m pass.level pass.len pass.dot words s.of.number p w s.of.there other)
 
 pub returns-then-not-has_around-clause-number : goal.returns-then-not-has_around-clause-number
 returns-then-not-has_around-clause-number g c =
@@ -58,7 +59,8 @@ returns-then-not-has_around-clause-number g c =
     let w = s.of.word in
     let p = s.of.at in
     let other : fits w.signs p pass.len pass.dot ≡ false = sym (c.has_around.ensures w p s.of.within s.is) ∙ c.if-not-has_around.true in
-    subst (λ (e : WordPosition). IsNumbered pass (counts_at pass) words m.windows e NOT_COUNTED) (sym (place_of words c.args.sign s.of)) (numbered_none pass words m.windows s.of.number p w NOT_COUNTED s.of.there other refl)
+    subst (λ (e : WordPosition). IsNumbered pass (counts_at pass) words m.windows e NOT_COUNTED) (sym (place_of words c.args.sign s.of))
+    (numbered_none pass words m.windows s.of.number p w NOT_COUNTED s.of.there other refl)
 
 pub overflow_sub-first : goal.overflow_sub-first
 overflow_sub-first g c =
@@ -118,7 +120,8 @@ count_numbered-requires-clause-small g c =
     let w = s.of.word in
     let p = s.of.at in
     let word = word_in words s.of.number w c.requires.words s.of.there in
-    room_small _ _ _ _ c.requires.room (subst (λ x. x ≤ WEIGHT_MAX) (sym (weight_at words c.all_weights-weights.result.now c.args.sign 0 s.of c.all_weights-weights.ensures c.requires.words)) (weight_small w p word s.of.within))
+    room_small _ _ _ _ c.requires.room (subst (λ x. x ≤ WEIGHT_MAX) (sym (weight_at words c.all_weights-weights.result.now c.args.sign 0 s.of c.all_weights-weights.ensures c.requires.words))
+    (weight_small w p word s.of.within))
 
 pub returns-clause-ok : goal.returns-clause-ok
 returns-clause-ok g c =
@@ -135,8 +138,11 @@ returns-clause-ok g c =
     let lent : take (first + c.from-2.result - first) (drop first c.all_signs-signs.result.now) ≡ window w.signs p pass.len pass.dot =
     (λ i. take (long i) (drop first (c.all_signs-signs.ensures i))) ∙ flat_window words s.of.number p pass.len pass.dot first w s.of.there fit begins in
     let hyphens = ap (λ (b : Bool). cond (is_odd pass.level) b (not b)) (c.has_hyphen.ensures w p s.is) in
-    let counted = counted_fit m pass.level pass.len pass.dot words s.of.number p w s.of.there (take (first + c.from-2.result - first) (drop first c.all_signs-signs.result.now)) c.is_good-good.result (get_or c.all_weights-weights.result.now c.args.sign 0) fit lent (c.is_good-good.ensures ∙ hyphens) (weight_at words c.all_weights-weights.result.now c.args.sign 0 s.of c.all_weights-weights.ensures c.requires.words) in
-    on_ok_weaker c.count_numbered.result (λ ok. ok ∙ counted ∙ sym (ap (λ (e : WordPosition). meaning_after_counting m (counted_of pass.level pass.len pass.dot words e)) (place_of words c.args.sign s.of))) c.count_numbered.ensures.ok
+    let counted = counted_fit m pass.level pass.len pass.dot words s.of.number p w s.of.there (take (first + c.from-2.result - first) (drop first c.all_signs-signs.result.now)) c.is_good-good.result
+    (get_or c.all_weights-weights.result.now c.args.sign 0) fit lent (c.is_good-good.ensures ∙ hyphens)
+    (weight_at words c.all_weights-weights.result.now c.args.sign 0 s.of c.all_weights-weights.ensures c.requires.words) in
+    on_ok_weaker c.count_numbered.result (λ ok. ok ∙ counted ∙ sym (ap (λ (e : WordPosition). meaning_after_counting m (counted_of pass.level pass.len pass.dot words e))
+    (place_of words c.args.sign s.of))) c.count_numbered.ensures.ok
 
 pub returns-clause-took : goal.returns-clause-took
 returns-clause-took g c =
@@ -154,9 +160,12 @@ returns-clause-took g c =
     let lent : take (first + c.from-2.result - first) (drop first c.all_signs-signs.result.now) ≡ window w.signs p pass.len pass.dot =
     (λ i. take (long i) (drop first (c.all_signs-signs.ensures i))) ∙ flat_window words s.of.number p pass.len pass.dot first w s.of.there fit begins in
     let hyphens = ap (λ (b : Bool). cond (is_odd pass.level) b (not b)) (c.has_hyphen.ensures w p s.is) in
-    let counted = counted_fit m pass.level pass.len pass.dot words s.of.number p w s.of.there (take (first + c.from-2.result - first) (drop first c.all_signs-signs.result.now)) c.is_good-good.result (get_or c.all_weights-weights.result.now c.args.sign 0) fit lent (c.is_good-good.ensures ∙ hyphens) (weight_at words c.all_weights-weights.result.now c.args.sign 0 s.of c.all_weights-weights.ensures c.requires.words) in
+    let counted = counted_fit m pass.level pass.len pass.dot words s.of.number p w s.of.there (take (first + c.from-2.result - first) (drop first c.all_signs-signs.result.now)) c.is_good-good.result
+    (get_or c.all_weights-weights.result.now c.args.sign 0) fit lent (c.is_good-good.ensures ∙ hyphens)
+    (weight_at words c.all_weights-weights.result.now c.args.sign 0 s.of c.all_weights-weights.ensures c.requires.words) in
     let word = word_in words s.of.number w c.requires.words s.of.there in
-    on_ok_weaker c.count_numbered.result (λ ok. took_entry m after pass.level pass.len pass.dot w p 1 c.requires.ranges.len_low word s.of.within c.requires.room (ok ∙ counted ∙ counted_there m pass.level pass.len pass.dot words s.of.number p w s.of.there)) c.count_numbered.ensures.ok
+    on_ok_weaker c.count_numbered.result (λ ok. took_entry m after pass.level pass.len pass.dot w p 1 c.requires.ranges.len_low word s.of.within c.requires.room
+    (ok ∙ counted ∙ counted_there m pass.level pass.len pass.dot words s.of.number p w s.of.there)) c.count_numbered.ensures.ok
 
 pub returns-clause-number : goal.returns-clause-number
 returns-clause-number g c =
@@ -172,7 +181,8 @@ returns-clause-number g c =
     let long : first + c.from-2.result - first ≡ pass.len = omega (arith, c.from-2.ensures) in
     let lent : take (first + c.from-2.result - first) (drop first c.all_signs-signs.result.now) ≡ window w.signs p pass.len pass.dot =
     (λ i. take (long i) (drop first (c.all_signs-signs.ensures i))) ∙ flat_window words s.of.number p pass.len pass.dot first w s.of.there fit begins in
-    IfOk-weaker c.count_numbered.result (HasNumber after.windows (take (first + c.from-2.result - first) (drop first c.all_signs-signs.result.now))) (IsNumbered pass (counts_at pass) words after.windows (position_from 0 words c.args.sign))
+    IfOk-weaker c.count_numbered.result (HasNumber after.windows (take (first + c.from-2.result - first) (drop first c.all_signs-signs.result.now)))
+    (IsNumbered pass (counts_at pass) words after.windows (position_from 0 words c.args.sign))
     (λ number has.
     subst (λ (e : WordPosition). IsNumbered pass (counts_at pass) words after.windows e number) (sym (place_of words c.args.sign s.of))
     (numbered_fit pass words after.windows s.of.number p w number s.of.there fit (subst (λ (u : List ℕ). HasNumber after.windows u number) lent has)))

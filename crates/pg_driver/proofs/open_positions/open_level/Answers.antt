@@ -36,7 +36,8 @@ words-preserved g c =
     let inv = c.words.invariant in
     let start = c.words.start in
     let wide : places_in c.open_word.new.opened.dots ≡ places_in before.dots = c.open_word.ensures.size in
-    let dots : (d s : ℕ) → s < places_in before.dots → is_closed c.open_word.new.opened.dots d s ≡ (not (is_open_first minima c.args.level P w (s - start)) && is_closed before.dots d s) = c.open_word.ensures.closed in
+    let dots : (d s : ℕ) → s < places_in before.dots → is_closed c.open_word.new.opened.dots d s
+    ≡ (not (is_open_first minima c.args.level P w (s - start)) && is_closed before.dots d s) = c.open_word.ensures.closed in
     record {
       size = omega (arith, inv.size);
       few = omega (arith, inv.few);
@@ -64,7 +65,8 @@ words-preserved g c =
       later = λ d s from low.
           let lies : s < places_in before.dots = omega arith in
           dots d s lies ∙ opens_behind minima c.args.level P w (s - start) (is_closed before.dots d s) (omega arith) ∙ inv.later d s (omega arith) lies;
-      sums = marks_word before.totals _ _ minima P w (drop (c.words.i + 1) words) c.open_word.ensures.totals (ap (λ (ws : List Word). with_marks before.totals (flat_map (marks_in minima P) ws)) (sym (drop_place words c.words.i w lent)) ∙ inv.sums);
+      sums = marks_word before.totals _ _ minima P w (drop (c.words.i + 1) words) c.open_word.ensures.totals
+          (ap (λ (ws : List Word). with_marks before.totals (flat_map (marks_in minima P) ws)) (sym (drop_place words c.words.i w lent)) ∙ inv.sums);
       reached = reached_on minima words c.words.i w lent c.open_word.ensures.reached inv.reached;
       room_for = omega (arith, letters_left words c.words.i w lent, inv.room_for, c.open_word.ensures.took);
     }
@@ -111,4 +113,5 @@ returns-clause-bounded g c = record {
 }
 
 pub returns-clause-closed : goal.returns-clause-closed
-returns-clause-closed g c = λ d n p w at low. c.words.invariant.before d n p w (let within = slice_get_within c.args.dictionary.now n w at in omega (arith, c.words-test.false, c.len-count.ensures.len)) at low
+returns-clause-closed g c = λ d n p w at low. c.words.invariant.before d n p w (let within = slice_get_within c.args.dictionary.now n w at in
+    omega (arith, c.words-test.false, c.len-count.ensures.len)) at low

@@ -19,7 +19,8 @@ invariant-words g l =
       few : places_in l.opened.dots < 2 ^ 40;
       none : l.opened.dots.reached ≡ 0;
       starts : l.start ≡ start_of l.dictionary l.i;
-      before : (d n p : ℕ) (w : Word) → n < l.i → slice_get l.dictionary n ≡ Some w → p < length w.signs → is_closed l.opened.dots d (start_of l.dictionary n + p) ≡ not (is_open_first minima l.level P w p);
+      before : (d n p : ℕ) (w : Word) → n < l.i → slice_get l.dictionary n ≡ Some w → p < length w.signs → is_closed l.opened.dots d (start_of l.dictionary n + p)
+          ≡ not (is_open_first minima l.level P w p);
       later : (d s : ℕ) → l.start ≤ s → s < places_in l.opened.dots → is_closed l.opened.dots d s ≡ true;
       sums : with_marks l.opened.totals (flat_map (marks_in minima P) (drop l.i l.dictionary)) ≡ totals minima l.dictionary P;
       reached : AreReached minima l.dictionary l.i;

@@ -23,7 +23,8 @@ positions-preserved g c =
     let before = c.positions.opened in
     let within : p < length w.signs = omega (arith, c.positions-test.true, c.in-Some.ensures.within) in
     let small : position_weight w p ≤ WEIGHT_MAX = weight_small w p c.requires.word within in
-    let mark : c.mark_at-mark.result ≡ status_at P w p = c.mark_at-mark.ensures ∙ ap (λ (v : ℕ). status (slice_index_or w.hyphens p false) (slice_index_or w.cares p true) v) (c.hyphenate.ensures.values p within) in
+    let mark : c.mark_at-mark.result ≡ status_at P w p = c.mark_at-mark.ensures
+    ∙ ap (λ (v : ℕ). status (slice_index_or w.hyphens p false) (slice_index_or w.cares p true) v) (c.hyphenate.ensures.values p within) in
     let sums : c.add_mark-opened.result ≡ with_mark before.totals (status_at P w p) (position_weight w p) =
     c.add_mark-opened.ensures ∙ ap (λ (x : Mark). with_mark before.totals x (position_weight w p)) mark in
     let took : sum_of c.add_mark-opened.result ≤ sum_of before.totals + position_weight w p = rw sums (mark_took before.totals (status_at P w p) (position_weight w p)) in
@@ -36,7 +37,8 @@ positions-preserved g c =
           let s0 = c.args.start in
           c.open_by_status.ensures.closed d s (omega (arith, c.positions.invariant.size))
           ∙ ap (λ b. not (nat_eq s (s0 + p) && is_some (counts_as c.args.level c.mark_at-mark.result)) && b) (c.positions.invariant.dots d s low)
-          ∙ opens_next m c.args.level P w c.in-Some.first c.in-Some.end c.in-Some.ensures.some s0 p s (is_some (counts_as c.args.level c.mark_at-mark.result)) (is_closed c.args.opened.now.dots d s) (omega (arith, c.positions.auto)) c.positions-test.true (ap (λ (x : Mark). is_some (counts_as c.args.level x)) mark);
+          ∙ opens_next m c.args.level P w c.in-Some.first c.in-Some.end c.in-Some.ensures.some s0 p s (is_some (counts_as c.args.level c.mark_at-mark.result))
+          (is_closed c.args.opened.now.dots d s) (omega (arith, c.positions.auto)) c.positions-test.true (ap (λ (x : Mark). is_some (counts_as c.args.level x)) mark);
       sums = marks_step before.totals _ _ P w p c.in-Some.end c.positions-test.true sums c.positions.invariant.sums;
       few = omega arith;
       took_for = omega (arith, c.positions.invariant.took_for);
@@ -52,7 +54,8 @@ positions-init g c =
       size = refl;
       none = c.requires.none;
       dots = λ d s low. opens_first m c.args.level P w c.in-Some.first c.in-Some.end c.in-Some.ensures.some c.args.start s (is_closed c.args.opened.now.dots d s);
-      sums = ap (λ (ps : List ℕ). with_marks c.args.opened.now.totals (map (λ (q : ℕ). (status (slice_index_or w.hyphens q false) (slice_index_or w.cares q true) (value_at P w.signs q), position_weight w q)) ps)) (sym c.in-Some.ensures.some);
+      sums = ap (λ (ps : List ℕ). with_marks c.args.opened.now.totals (map
+          (λ (q : ℕ). (status (slice_index_or w.hyphens q false) (slice_index_or w.cares q true) (value_at P w.signs q), position_weight w q)) ps)) (sym c.in-Some.ensures.some);
       few = omega arith;
       took_for = omega arith;
     }
@@ -66,4 +69,5 @@ returns-clause-closed g c = λ d s low.
     let w = lent_word c.args.w.now in
     let m = minima_of c.args.table.now in
     c.positions.invariant.dots d s low
-    ∙ opens_last m c.args.level P w c.in-Some.first c.in-Some.end c.in-Some.ensures.some c.args.start c.positions.p s (is_closed c.args.opened.now.dots d s) (omega (arith, c.positions.auto)) (omega (arith, c.positions-test.false))
+    ∙ opens_last m c.args.level P w c.in-Some.first c.in-Some.end c.in-Some.ensures.some c.args.start c.positions.p s (is_closed c.args.opened.now.dots d s)
+    (omega (arith, c.positions.auto)) (omega (arith, c.positions-test.false))

@@ -22,6 +22,7 @@ words-preserved g c =
     let w = lent_word c.word.result in
     let place = drop_place c.args.dictionary.now c.words.i w c.word.ensures.lent in
     record {
-      sums = marks_word c.words.sums _ _ minima P w (drop (c.words.i + 1) c.args.dictionary.now) c.add_word-sums.ensures.value (ap (λ (ws : List Word). with_marks c.words.sums (flat_map (marks_in minima P) ws)) (sym place) ∙ c.words.invariant.sums);
+      sums = marks_word c.words.sums _ _ minima P w (drop (c.words.i + 1) c.args.dictionary.now) c.add_word-sums.ensures.value
+          (ap (λ (ws : List Word). with_marks c.words.sums (flat_map (marks_in minima P) ws)) (sym place) ∙ c.words.invariant.sums);
       room_for = omega (arith, letters_left c.args.dictionary.now c.words.i w c.word.ensures.lent, c.words.invariant.room_for, c.add_word-sums.ensures.took);
     }

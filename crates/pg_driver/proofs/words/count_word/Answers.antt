@@ -27,7 +27,8 @@ count_position-requires-clause-pass g c = ap (λ (m : Meaning). m.pass) c.positi
 pub count_position-requires-clause-read : goal.count_position-requires-clause-read
 count_position-requires-clause-read g c =
     let m0 = g.E.Engine.meaning c.args.engine.now in
-    let read : IsRead m0 (lent_word c.args.w.now) c.hyphenate.new.out = record { word = c.requires.word; signs = c.requires.signs; values = c.hyphenate.ensures.values; covers = c.hyphenate.ensures.covers } in
+    let read : IsRead m0 (lent_word c.args.w.now) c.hyphenate.new.out =
+    record { word = c.requires.word; signs = c.requires.signs; values = c.hyphenate.ensures.values; covers = c.hyphenate.ensures.covers } in
     read_on m0 _ (lent_word c.args.w.now) _ c.positions.invariant.kept read
 
 pub count_position-requires-clause-room : goal.count_position-requires-clause-room
@@ -57,17 +58,22 @@ positions-preserved g c =
       kept = kept_on m0 m _ (counted_positions_at m.pass m.patterns m.hopeless w c.positions.p) kept c.in_ok-count_position.ensures.ok;
       whole = position_step m0 m _ _ w c.positions.p c.in-Some.end c.positions-test.true kept c.in_ok-count_position.ensures.ok c.positions.invariant.whole;
       few = omega arith;
-      took = rw on (room_on m0 m _ w c.positions.p (c.positions.p - c.in-Some.first) (letter_count w) long c.requires.word within c.requires.room (omega arith) c.positions.invariant.took c.in_ok-count_position.ensures.ok);
+      took = rw on (room_on m0 m _ w c.positions.p (c.positions.p - c.in-Some.first) (letter_count w) long c.requires.word within c.requires.room
+          (omega arith) c.positions.invariant.took c.in_ok-count_position.ensures.ok);
       sums = marks_step c.positions.sums _ _ m0.patterns w c.positions.p c.in-Some.end c.positions-test.true sums c.positions.invariant.sums;
       took_for = omega (arith, c.positions.invariant.took_for);
       listed = c.positions.invariant.listed ++ f c.positions.p;
-      upto = position_added f c.positions.invariant.listed (c.positions.invariant.listed ++ f c.positions.p) (listed_in (minima_of c.args.table.now) (counts_above c.args.pass.level m0.patterns) c.args.word w) c.positions.p c.in-Some.end c.positions-test.true refl c.positions.invariant.upto;
+      upto = position_added f c.positions.invariant.listed (c.positions.invariant.listed ++ f c.positions.p)
+          (listed_in (minima_of c.args.table.now) (counts_above c.args.pass.level m0.patterns) c.args.word w) c.positions.p c.in-Some.end c.positions-test.true refl c.positions.invariant.upto;
       numbers = λ words entries at before.
           let now : HaveNumbers pass (uncovered_at pass m.patterns m.hopeless) words m.windows (entries ++ c.positions.invariant.listed) c.positions.numbers.items =
-          subst (λ (x : Meaning). HaveNumbers pass (uncovered_at pass x.patterns x.hopeless) words m.windows (entries ++ c.positions.invariant.listed) c.positions.numbers.items) (sym kept) (c.positions.invariant.numbers words entries at before) in
+          subst (λ (x : Meaning). HaveNumbers pass (uncovered_at pass x.patterns x.hopeless) words m.windows (entries ++ c.positions.invariant.listed) c.positions.numbers.items)
+          (sym kept) (c.positions.invariant.numbers words entries at before) in
           let then = c.in_ok-count_position.ensures.numbers words (entries ++ c.positions.invariant.listed) at now in
-          subst (λ (es : List WordPosition). HaveNumbers pass (uncovered_at pass m0.patterns m0.hopeless) words n.windows es c.count_position.new.numbers.items) (append_assoc entries c.positions.invariant.listed (f c.positions.p))
-          (subst (λ (x : Meaning). HaveNumbers pass (uncovered_at pass x.patterns x.hopeless) words n.windows ((entries ++ c.positions.invariant.listed) ++ open_as c.args.word c.positions.p (counts_above pass.level x.patterns w c.positions.p)) c.count_position.new.numbers.items) kept then);
+          subst (λ (es : List WordPosition). HaveNumbers pass (uncovered_at pass m0.patterns m0.hopeless) words n.windows es c.count_position.new.numbers.items)
+          (append_assoc entries c.positions.invariant.listed (f c.positions.p))
+          (subst (λ (x : Meaning). HaveNumbers pass (uncovered_at pass x.patterns x.hopeless) words n.windows
+          ((entries ++ c.positions.invariant.listed) ++ open_as c.args.word c.positions.p (counts_above pass.level x.patterns w c.positions.p)) c.count_position.new.numbers.items) kept then);
     }
 
 pub returns-in_ok-list_above-clause-above : goal.returns-in_ok-list_above-clause-above
@@ -89,7 +95,8 @@ returns-else-lists-clause-above g c =
 pub returns-in_ok-list_above-clause-ok : goal.returns-in_ok-list_above-clause-ok
 returns-in_ok-list_above-clause-ok g c =
     let m0 = g.E.Engine.meaning c.args.engine.now in
-    counted_done (g.E.Engine.meaning c.positions.engine) _ (counted_positions_at m0.pass m0.patterns m0.hopeless (lent_word c.args.w.now)) c.positions.p c.in-Some.end c.positions-test.false c.positions.invariant.whole
+    counted_done (g.E.Engine.meaning c.positions.engine) _ (counted_positions_at m0.pass m0.patterns m0.hopeless (lent_word c.args.w.now)) c.positions.p
+    c.in-Some.end c.positions-test.false c.positions.invariant.whole
 
 pub returns-in_ok-list_above-clause-sums : goal.returns-in_ok-list_above-clause-sums
 returns-in_ok-list_above-clause-sums g c =
@@ -103,7 +110,8 @@ returns-in_ok-list_above-clause-numbers g c = λ words entries at before.
     let pass = c.args.pass in
     let w = lent_word c.args.w.now in
     let f : ℕ → List WordPosition = λ q. open_as c.args.word q (counts_above pass.level m0.patterns w q) in
-    let all = listed_done f c.positions.invariant.listed (listed_in (minima_of c.args.table.now) (counts_above pass.level m0.patterns) c.args.word w) c.positions.p c.in-Some.end c.positions-test.false c.positions.invariant.upto in
+    let all = listed_done f c.positions.invariant.listed (listed_in (minima_of c.args.table.now) (counts_above pass.level m0.patterns) c.args.word w)
+    c.positions.p c.in-Some.end c.positions-test.false c.positions.invariant.upto in
     subst (λ (es : List WordPosition). HaveNumbers pass (uncovered_at pass m0.patterns m0.hopeless) words m.windows (entries ++ es) c.positions.numbers.items) all
     (c.positions.invariant.numbers words entries at before)
 
@@ -120,7 +128,8 @@ returns-in_ok-list_above-clause-signs g c = ap (λ (m : Meaning). m.signs) c.pos
 pub returns-else-lists-clause-ok : goal.returns-else-lists-clause-ok
 returns-else-lists-clause-ok g c =
     let m0 = g.E.Engine.meaning c.args.engine.now in
-    counted_done (g.E.Engine.meaning c.positions.engine) _ (counted_positions_at m0.pass m0.patterns m0.hopeless (lent_word c.args.w.now)) c.positions.p c.in-Some.end c.positions-test.false c.positions.invariant.whole
+    counted_done (g.E.Engine.meaning c.positions.engine) _ (counted_positions_at m0.pass m0.patterns m0.hopeless (lent_word c.args.w.now)) c.positions.p
+    c.in-Some.end c.positions-test.false c.positions.invariant.whole
 
 pub returns-else-lists-clause-sums : goal.returns-else-lists-clause-sums
 returns-else-lists-clause-sums g c =
@@ -134,7 +143,8 @@ returns-else-lists-clause-numbers g c = λ words entries at before.
     let pass = c.args.pass in
     let w = lent_word c.args.w.now in
     let f : ℕ → List WordPosition = λ q. open_as c.args.word q (counts_above pass.level m0.patterns w q) in
-    let all = listed_done f c.positions.invariant.listed (listed_in (minima_of c.args.table.now) (counts_above pass.level m0.patterns) c.args.word w) c.positions.p c.in-Some.end c.positions-test.false c.positions.invariant.upto in
+    let all = listed_done f c.positions.invariant.listed (listed_in (minima_of c.args.table.now) (counts_above pass.level m0.patterns) c.args.word w)
+    c.positions.p c.in-Some.end c.positions-test.false c.positions.invariant.upto in
     subst (λ (es : List WordPosition). HaveNumbers pass (uncovered_at pass m0.patterns m0.hopeless) words m.windows (entries ++ es) c.positions.numbers.items) all
     (c.positions.invariant.numbers words entries at before)
 

@@ -21,12 +21,14 @@ invariant-positions g l =
     let m = g.E.Engine.meaning l.engine in
     record {
       kept : KeepsButCounts m0 m;
-      whole : meaning_after_counting m (flat_map (counted_positions_at m0.pass m0.patterns m0.hopeless (lent_word l.w)) (range_with_len l.p (l.end - l.p))) ≡ meaning_after_counting m0 (counted_positions_in (minima_of l.table) m0.pass m0.patterns m0.hopeless (lent_word l.w));
+      whole : meaning_after_counting m (flat_map (counted_positions_at m0.pass m0.patterns m0.hopeless (lent_word l.w)) (range_with_len l.p (l.end - l.p)))
+          ≡ meaning_after_counting m0 (counted_positions_in (minima_of l.table) m0.pass m0.patterns m0.hopeless (lent_word l.w));
       few : l.p - l.first ≤ letter_count (lent_word l.w);
       took : TookRoom m0.counts m.counts (l.p - l.first);
       sums : with_marks l.sums (marks_from m0.patterns (lent_word l.w) l.p l.end) ≡ with_marks l.fn.sums (marks_in (minima_of l.table) m0.patterns (lent_word l.w));
       took_for : TookRoomFor l.fn.sums l.sums (l.p - l.first);
       listed : List WordPosition;
-      upto : (listed ++ flat_map (λ (p : ℕ). open_as l.word p (counts_above l.pass.level m0.patterns (lent_word l.w) p)) (range_with_len l.p (l.end - l.p))) ≡ listed_in (minima_of l.table) (counts_above l.pass.level m0.patterns) l.word (lent_word l.w);
+      upto : (listed ++ flat_map (λ (p : ℕ). open_as l.word p (counts_above l.pass.level m0.patterns (lent_word l.w) p)) (range_with_len l.p (l.end - l.p)))
+          ≡ listed_in (minima_of l.table) (counts_above l.pass.level m0.patterns) l.word (lent_word l.w);
       numbers : NotesNumbers l.pass l.word (lent_word l.w) m0 m listed l.fn.numbers.items l.numbers.items;
     }

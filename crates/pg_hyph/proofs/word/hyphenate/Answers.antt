@@ -7,4 +7,5 @@ returns-clause-values c =
 
 pub returns-clause-covers : goal.returns-clause-covers
 returns-clause-covers c =
-    covers_end c.args.trie.now c.outputs-outputs.ensures.kept c.args.w.signs.now c.requires.word (record { level = c.args.level; len = c.args.len; dot = c.args.dot }) c.requires.level.1 c.new.result.covers c.walk.new.out.covers c.new.ensures.covers c.walk.ensures.covers
+    covers_end c.args.trie.now c.outputs-outputs.ensures.kept c.args.w.signs.now c.requires.word
+    (record { level = c.args.level; len = c.args.len; dot = c.args.dot }) c.requires.level.1 c.new.result.covers c.walk.new.out.covers c.new.ensures.covers c.walk.ensures.covers

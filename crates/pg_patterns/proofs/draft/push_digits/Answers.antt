@@ -24,4 +24,5 @@ pub returns-in_err-push : goal.returns-in_err-push
 returns-in_err-push c = IfOk-from_err c.from_residual.result _ c.from_residual.ensures.0
 
 pub returns : goal.returns
-returns c = c.loop-digit.invariant ∙ ap (λ (ds : List (ℕ × ℕ)). c.args.entries.now.items ++ map (entry_at c.args.signs.now) ds) (take_all c.loop-digit.digit-index c.args.digits.now c.loop-digit-test.false)
+returns c = c.loop-digit.invariant ∙ ap (λ (ds : List (ℕ × ℕ)). c.args.entries.now.items ++ map (entry_at c.args.signs.now) ds)
+    (take_all c.loop-digit.digit-index c.args.digits.now c.loop-digit-test.false)

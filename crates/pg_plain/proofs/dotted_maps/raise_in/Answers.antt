@@ -14,7 +14,8 @@ pub returns-clause-kept : goal.returns-clause-kept
 returns-clause-kept c = λ old new. record {
   sorted = sorted_from dotted_cmp c.insert.new.self.entries c.insert.ensures.ordered;
   sound = subst (λ x. list_all is_entry x ≡ true)
-      (sym (raised_in c.args.map.now.entries c.insert.new.self.entries c.args.place c.args.value c.value_in-held.result c.max.result c.value_in-held.ensures c.max.ensures c.in_ok-insert.ensures.entries))
+      (sym (raised_in c.args.map.now.entries c.insert.new.self.entries c.args.place c.args.value c.value_in-held.result c.max.result c.value_in-held.ensures
+      c.max.ensures c.in_ok-insert.ensures.entries))
       (entries_raise c.args.map.now.entries c.args.place c.args.value old.sound new);
 }
 

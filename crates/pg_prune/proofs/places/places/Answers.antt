@@ -16,4 +16,5 @@ words-init c =
 pub words-preserved : goal.words-preserved
 words-preserved c =
     let inside : c.words.i < length c.args.dictionary.now = omega (arith, c.len-i-end.ensures.len) in
-    word_more (minima_of c.args.table.now) c.words.i c.args.dictionary.now (lent_word c.word.result) c.words.places.items c.add_word.new.places.items inside c.word.ensures.lent c.in_ok-add_word.ensures ∙ c.words.invariant
+    word_more (minima_of c.args.table.now) c.words.i c.args.dictionary.now
+    (lent_word c.word.result) c.words.places.items c.add_word.new.places.items inside c.word.ensures.lent c.in_ok-add_word.ensures ∙ c.words.invariant

@@ -20,7 +20,8 @@ overflow_sub-removed g c =
     let xs = places m ws in
     let done = c.in_ok-finished.ensures xs c.requires.1.1.1 in
     let K = c.as_slice-kept.result.now in
-    let left : picked_entries P K ≡ (pruned m ws P).patterns = ap (picked_entries P) c.as_slice-kept.ensures.value ∙ rounds_patterns m ws P c.in_ok-finished.finished.kept.items c.in_ok-finished.finished.count done.done in
+    let left : picked_entries P K ≡ (pruned m ws P).patterns = ap (picked_entries P) c.as_slice-kept.ensures.value
+    ∙ rounds_patterns m ws P c.in_ok-finished.finished.kept.items c.in_ok-finished.finished.count done.done in
     let few : length K ≤ length P = picked_few P K (pruned m ws P).patterns (pruned_few m ws P) left in
     omega (arith, c.len-count.ensures.value)
 
@@ -32,7 +33,8 @@ kept_patterns-requires-clause-map g c =
     let xs = places m ws in
     let done = c.in_ok-finished.ensures xs c.requires.1.1.1 in
     let K = c.as_slice-kept.result.now in
-    let left : picked_entries P K ≡ (pruned m ws P).patterns = ap (picked_entries P) c.as_slice-kept.ensures.value ∙ rounds_patterns m ws P c.in_ok-finished.finished.kept.items c.in_ok-finished.finished.count done.done in
+    let left : picked_entries P K ≡ (pruned m ws P).patterns = ap (picked_entries P) c.as_slice-kept.ensures.value
+    ∙ rounds_patterns m ws P c.in_ok-finished.finished.kept.items c.in_ok-finished.finished.count done.done in
     subst (λ (Q : Patterns). IsPatternMap Q) (sym left) (pruned_map m ws P c.len-count.ensures.kept)
 
 pub new-requires : goal.new-requires
@@ -46,8 +48,10 @@ new-requires g c =
     let stands = map (λ l. l.items) c.args.standing.now in
     let ready = with_kept xs P stands c.all_rounds.new.holders c.in_ok-finished.finished.kept.items K c.as_slice-kept.ensures.value done.ready in
     let own : c.in_ok-needs.needs.items ≡ needs xs (picked_entries P K) = c.in_ok-needs.ensures xs c.requires.1.1.0 ready in
-    let rounded : rounds xs P ≡ record { patterns = picked_entries P K; count = c.in_ok-finished.finished.count } = done.done ∙ ap (λ ks. to_rounds (picked_entries P ks) c.in_ok-finished.finished.count) (sym c.as_slice-kept.ensures.value) in
-    let is = finish m ws P K c.in_ok-needs.needs.items c.in_ok-finished.finished.count rounded own c.in_ok-patterns.patterns (c.len-count.result - length K) c.in_ok-patterns.ensures (ap (λ n. n - length K) c.len-count.ensures.value) in
+    let rounded : rounds xs P ≡ record { patterns = picked_entries P K; count = c.in_ok-finished.finished.count } = done.done
+    ∙ ap (λ ks. to_rounds (picked_entries P ks) c.in_ok-finished.finished.count) (sym c.as_slice-kept.ensures.value) in
+    let is = finish m ws P K c.in_ok-needs.needs.items c.in_ok-finished.finished.count rounded own c.in_ok-patterns.patterns
+    (c.len-count.result - length K) c.in_ok-patterns.ensures (ap (λ n. n - length K) c.len-count.ensures.value) in
     subst (λ (f : Found). HasNeeds f) (sym is) (pruned_needs m ws P)
 
 pub returns : goal.returns
@@ -59,6 +63,8 @@ returns g c m ws lie start =
     let stands = map (λ l. l.items) c.args.standing.now in
     let ready = with_kept xs P stands c.all_rounds.new.holders c.in_ok-finished.finished.kept.items K c.as_slice-kept.ensures.value done.ready in
     let own : c.in_ok-needs.needs.items ≡ needs xs (picked_entries P K) = c.in_ok-needs.ensures xs lie ready in
-    let rounded : rounds xs P ≡ record { patterns = picked_entries P K; count = c.in_ok-finished.finished.count } = done.done ∙ ap (λ ks. to_rounds (picked_entries P ks) c.in_ok-finished.finished.count) (sym c.as_slice-kept.ensures.value) in
-    let is = finish m ws P K c.in_ok-needs.needs.items c.in_ok-finished.finished.count rounded own c.in_ok-patterns.patterns (c.len-count.result - length K) c.in_ok-patterns.ensures (ap (λ n. n - length K) c.len-count.ensures.value) in
+    let rounded : rounds xs P ≡ record { patterns = picked_entries P K; count = c.in_ok-finished.finished.count } = done.done
+    ∙ ap (λ ks. to_rounds (picked_entries P ks) c.in_ok-finished.finished.count) (sym c.as_slice-kept.ensures.value) in
+    let is = finish m ws P K c.in_ok-needs.needs.items c.in_ok-finished.finished.count rounded own c.in_ok-patterns.patterns
+    (c.len-count.result - length K) c.in_ok-patterns.ensures (ap (λ n. n - length K) c.len-count.ensures.value) in
     c.new.ensures ∙ is

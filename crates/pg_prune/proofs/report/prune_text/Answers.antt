@@ -12,4 +12,5 @@ returns c =
     let behind : length P ≤ c.entries.i = omega (arith, c.len-i-end.ensures.value) in
     let done = lines_end t P c.needs-needs.result.now c.entries.text.items c.entries.i behind c.entries.invariant in
     c.in_ok-push_last_line.ensures
-    ∙ ap (λ ns. ns ++ last_line c.args.pruned.now) (done ∙ ap (λ es. keep_lines t es c.needs-needs.result.now) c.patterns-patterns.ensures ∙ ap (keep_lines t c.args.pruned.now.patterns) c.needs-needs.ensures.value ∙ lines_beside t c.args.pruned.now.patterns c.args.pruned.now.needs)
+    ∙ ap (λ ns. ns ++ last_line c.args.pruned.now) (done ∙ ap (λ es. keep_lines t es c.needs-needs.result.now) c.patterns-patterns.ensures
+    ∙ ap (keep_lines t c.args.pruned.now.patterns) c.needs-needs.ensures.value ∙ lines_beside t c.args.pruned.now.patterns c.args.pruned.now.needs)

@@ -12,7 +12,8 @@ use Rattle.pg_prune.proofs.rounds.all_holders.Goals as goal
 
 pub places-preserved : goal.places-preserved
 places-preserved c =
-    c.in_ok-push.ensures.items ∙ ap (λ h. c.places.holders.items ++ h ∷ []) c.none.ensures ∙ ap (λ hs. hs ++ replicate 9 0 ∷ []) c.places.invariant ∙ sym (replicate_more c.places.counter (replicate 9 0))
+    c.in_ok-push.ensures.items ∙ ap (λ h. c.places.holders.items ++ h ∷ []) c.none.ensures ∙ ap (λ hs. hs ++ replicate 9 0 ∷ []) c.places.invariant
+    ∙ sym (replicate_more c.places.counter (replicate 9 0))
 
 pub entries-init : goal.entries-init
 entries-init c = λ places g.
@@ -24,9 +25,11 @@ add-requires c =
     let P = c.args.patterns.now in
     let room : c.entries.i < 2 ^ 64 - 1 = omega arith in
     let inside : c.entries.i < length P = omega (arith, c.len-i-end.ensures.value) in
-    let held : IsTallied c.requires.0 (take c.entries.i P) c.as_mut_slice.result.now = subst (λ hs. IsTallied c.requires.0 (take c.entries.i P) hs) (sym c.as_mut_slice.ensures.value) (c.entries.invariant c.requires.0 c.requires.1) in (
+    let held : IsTallied c.requires.0 (take c.entries.i P) c.as_mut_slice.result.now = subst (λ hs. IsTallied c.requires.0 (take c.entries.i P) hs)
+    (sym c.as_mut_slice.ensures.value) (c.entries.invariant c.requires.0 c.requires.1) in (
       turn_after c.requires.0 c.args.patterns.now c.entries.i,
-      turn_awaited (λ v. v.items) c.requires.0 c.args.patterns.now c.args.standing.now c.args.count c.as_mut_slice.result.now c.entries.i c.index-standing-i.result c.as_slice.result.now _ c.requires.1 c.len-i-end.ensures.kept.sound held inside room c.index-standing-i.is c.as_slice.ensures.value c.entry-value.ensures.value,
+      turn_awaited (λ v. v.items) c.requires.0 c.args.patterns.now c.args.standing.now c.args.count c.as_mut_slice.result.now c.entries.i
+          c.index-standing-i.result c.as_slice.result.now _ c.requires.1 c.len-i-end.ensures.kept.sound held inside room c.index-standing-i.is c.as_slice.ensures.value c.entry-value.ensures.value,
     )
 
 pub entries-preserved : goal.entries-preserved
@@ -34,14 +37,17 @@ entries-preserved c = λ places g.
     let P = c.args.patterns.now in
     let room : c.entries.i < 2 ^ 64 - 1 = omega arith in
     let inside : c.entries.i < length P = omega (arith, c.len-i-end.ensures.value) in
-    let held : IsTallied places (take c.entries.i P) c.as_mut_slice.result.now = subst (λ hs. IsTallied places (take c.entries.i P) hs) (sym c.as_mut_slice.ensures.value) (c.entries.invariant places g) in
-    let awaited = turn_awaited (λ v. v.items) places P c.args.standing.now c.args.count c.as_mut_slice.result.now c.entries.i c.index-standing-i.result c.as_slice.result.now _ g c.len-i-end.ensures.kept.sound held inside room c.index-standing-i.is c.as_slice.ensures.value c.entry-value.ensures.value in
+    let held : IsTallied places (take c.entries.i P) c.as_mut_slice.result.now =
+    subst (λ hs. IsTallied places (take c.entries.i P) hs) (sym c.as_mut_slice.ensures.value) (c.entries.invariant places g) in
+    let awaited = turn_awaited (λ v. v.items) places P c.args.standing.now c.args.count c.as_mut_slice.result.now c.entries.i c.index-standing-i.result
+    c.as_slice.result.now _ g c.len-i-end.ensures.kept.sound held inside room c.index-standing-i.is c.as_slice.ensures.value c.entry-value.ensures.value in
     let added = c.add.ensures (turn_after places P c.entries.i) awaited in
     let new = c.add.new.holders in
     let many : length new ≡ length c.as_mut_slice.result.now = c.add.auto.holders in
     let all : length c.as_mut_slice.result.now ≡ length c.entries.holders.items = ap length c.as_mut_slice.ensures.value in
     let size : c.entries.holders.len ≡ length new = omega (arith, c.entries.holders.ok.0) in
-    let whole : take c.entries.holders.len (new ++ drop (length new) c.entries.holders.items) ≡ new = ap (λ n. take n (new ++ drop (length new) c.entries.holders.items)) size ∙ take-append_seam new (drop (length new) c.entries.holders.items) in
+    let whole : take c.entries.holders.len (new ++ drop (length new) c.entries.holders.items) ≡ new = ap (λ n. take n (new ++ drop (length new) c.entries.holders.items)) size
+    ∙ take-append_seam new (drop (length new) c.entries.holders.items) in
     whole ∙ added ∙ ap (λ (Q : Patterns). map (holder_counts Q) places) (sym (with_next places P c.entries.i inside))
 
 pub places-init : goal.places-init
@@ -55,7 +61,8 @@ entry-value-requires c = omega (arith, c.len-i-end.ensures.value)
 
 pub bounds-standing-i : goal.bounds-standing-i
 bounds-standing-i c =
-    let many : length c.args.standing.now ≡ length c.args.patterns.now = sym (length-map c.args.standing.now (λ v. v.items)) ∙ ap length c.requires.1.all ∙ length-map c.args.patterns.now (places_of_entry c.requires.0) in
+    let many : length c.args.standing.now ≡ length c.args.patterns.now = sym (length-map c.args.standing.now (λ v. v.items)) ∙ ap length c.requires.1.all
+    ∙ length-map c.args.patterns.now (places_of_entry c.requires.0) in
     omega (arith, c.len-i-end.ensures.value)
 
 pub offset_bounds-standing-i : goal.offset_bounds-standing-i

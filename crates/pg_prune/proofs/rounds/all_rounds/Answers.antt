@@ -24,7 +24,8 @@ returns-then-len g c = λ places s.
     let P = c.args.patterns.now in
     let stands = map (λ v. v.items) c.args.standing.now in
     let r = c.rounds.invariant.1 places s in
-    let d = subst (λ ks. RoundDone places P stands c.round.new.holders ks c.in_ok-stay.stay.items) c.as_slice.ensures.value (c.in_ok-stay.ensures places (subst (λ ks. RoundStart places P stands c.rounds.holders ks) (sym c.as_slice.ensures.value) r.ready)) in
+    let d = subst (λ ks. RoundDone places P stands c.round.new.holders ks c.in_ok-stay.stay.items) c.as_slice.ensures.value
+    (c.in_ok-stay.ensures places (subst (λ ks. RoundStart places P stands c.rounds.holders ks) (sym c.as_slice.ensures.value) r.ready)) in
     let same : length c.in_ok-stay.stay.items ≡ length c.rounds.kept.items = omega (arith, c.in_ok-stay.stay.ok.0, c.rounds.kept.ok.0) in
     let end = rounds_end_with places P stands c.rounds.holders c.round.new.holders c.rounds.kept.items c.in_ok-stay.stay.items c.rounds.count r d same in
     record { ready = end.0; done = end.1 }
@@ -34,7 +35,8 @@ rounds-smaller g c =
     let P = c.args.patterns.now in
     let stands = map (λ v. v.items) c.args.standing.now in
     let r = c.rounds.invariant.1 c.requires.0 c.requires.1 in
-    let d = subst (λ ks. RoundDone c.requires.0 P stands c.round.new.holders ks c.in_ok-stay.stay.items) c.as_slice.ensures.value (c.in_ok-stay.ensures c.requires.0 (subst (λ ks. RoundStart c.requires.0 P stands c.rounds.holders ks) (sym c.as_slice.ensures.value) r.ready)) in
+    let d = subst (λ ks. RoundDone c.requires.0 P stands c.round.new.holders ks c.in_ok-stay.stay.items) c.as_slice.ensures.value
+    (c.in_ok-stay.ensures c.requires.0 (subst (λ ks. RoundStart c.requires.0 P stands c.rounds.holders ks) (sym c.as_slice.ensures.value) r.ready)) in
     let fewer : length c.in_ok-stay.stay.items ≤ length c.rounds.kept.items = round_fewer c.requires.0 P stands c.round.new.holders c.rounds.kept.items c.in_ok-stay.stay.items d in
     let less : length c.in_ok-stay.stay.items < length c.rounds.kept.items = omega (arith, c.in_ok-stay.stay.ok.0, c.rounds.kept.ok.0) in
     less
@@ -44,7 +46,8 @@ rounds-preserved g c = (
   (let P = c.args.patterns.now in
       let stands = map (λ v. v.items) c.args.standing.now in
       let r = c.rounds.invariant.1 c.requires.0 c.requires.1 in
-      let d = subst (λ ks. RoundDone c.requires.0 P stands c.round.new.holders ks c.in_ok-stay.stay.items) c.as_slice.ensures.value (c.in_ok-stay.ensures c.requires.0 (subst (λ ks. RoundStart c.requires.0 P stands c.rounds.holders ks) (sym c.as_slice.ensures.value) r.ready)) in
+      let d = subst (λ ks. RoundDone c.requires.0 P stands c.round.new.holders ks c.in_ok-stay.stay.items) c.as_slice.ensures.value
+      (c.in_ok-stay.ensures c.requires.0 (subst (λ ks. RoundStart c.requires.0 P stands c.rounds.holders ks) (sym c.as_slice.ensures.value) r.ready)) in
       let fewer : length c.in_ok-stay.stay.items ≤ length c.rounds.kept.items = round_fewer c.requires.0 P stands c.round.new.holders c.rounds.kept.items c.in_ok-stay.stay.items d in
       let few : c.rounds.count + length c.rounds.kept.items ≤ length c.in_ok-kept.kept.items = c.rounds.invariant.0 in
       omega (arith, c.in_ok-stay.stay.ok.0, c.rounds.kept.ok.0)),
@@ -52,7 +55,8 @@ rounds-preserved g c = (
       let P = c.args.patterns.now in
       let stands = map (λ v. v.items) c.args.standing.now in
       let r = c.rounds.invariant.1 places s in
-      let d = subst (λ ks. RoundDone places P stands c.round.new.holders ks c.in_ok-stay.stay.items) c.as_slice.ensures.value (c.in_ok-stay.ensures places (subst (λ ks. RoundStart places P stands c.rounds.holders ks) (sym c.as_slice.ensures.value) r.ready)) in
+      let d = subst (λ ks. RoundDone places P stands c.round.new.holders ks c.in_ok-stay.stay.items) c.as_slice.ensures.value
+      (c.in_ok-stay.ensures places (subst (λ ks. RoundStart places P stands c.rounds.holders ks) (sym c.as_slice.ensures.value) r.ready)) in
       let other : length c.in_ok-stay.stay.items ≢ length c.rounds.kept.items = omega (arith, c.in_ok-stay.stay.ok.0, c.rounds.kept.ok.0) in
       rounds_next places P stands c.rounds.holders c.round.new.holders c.rounds.kept.items c.in_ok-stay.stay.items c.rounds.count r d other,
 )

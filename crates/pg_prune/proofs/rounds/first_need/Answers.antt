@@ -24,7 +24,8 @@ pub stays_alike-requires-clause-some : goal.stays_alike-requires-clause-some
 stays_alike-requires-clause-some c =
     let t = c.requires.0 in
     let s = looks_step t c.args.places.now c.args.value c.args.holders.now c.requires.1 c.places.place-index c.places-test.true (c.places.invariant t c.requires.1) in
-    let at = c.index-holders-place.is ∙ held_at t c.args.places.now c.args.value c.args.holders.now c.requires.1 (get_or c.args.places.now c.places.place-index 0) s.place s.within s.at c.index-holders-place.result in
+    let at = c.index-holders-place.is ∙ held_at t c.args.places.now c.args.value c.args.holders.now c.requires.1
+    (get_or c.args.places.now c.places.place-index 0) s.place s.within s.at c.index-holders-place.result in
     subst (λ h. 0 < get_or h (c.args.value - 1) 0) (sym at) (there_some t c.args.places.now c.args.value c.requires.1.entry s.place s.there)
 
 pub places-init : goal.places-init
@@ -33,7 +34,8 @@ places-init c = λ turn held. looks_begin turn c.args.places.now c.args.value c.
 pub places-preserved : goal.places-preserved
 places-preserved c = λ turn held.
     let s = looks_step turn c.args.places.now c.args.value c.args.holders.now held c.places.place-index c.places-test.true (c.places.invariant turn held) in
-    let at = c.index-holders-place.is ∙ held_at turn c.args.places.now c.args.value c.args.holders.now held (get_or c.args.places.now c.places.place-index 0) s.place s.within s.at c.index-holders-place.result in
+    let at = c.index-holders-place.is ∙ held_at turn c.args.places.now c.args.value c.args.holders.now held
+    (get_or c.args.places.now c.places.place-index 0) s.place s.within s.at c.index-holders-place.result in
     let alike : break_alike_at (with_entry turn) (without_entry turn) s.place ≡ true =
     there_alike turn c.args.places.now c.args.value held.entry s.place s.there ∙ ap (stays_alike c.args.value) (sym at) ∙ sym c.stays_alike.ensures ∙ c.if-not-stays_alike.false in
     s.next alike
@@ -41,7 +43,8 @@ places-preserved c = λ turn held.
 pub returns-then-not-stays_alike : goal.returns-then-not-stays_alike
 returns-then-not-stays_alike c = λ turn held.
     let s = looks_step turn c.args.places.now c.args.value c.args.holders.now held c.places.place-index c.places-test.true (c.places.invariant turn held) in
-    let at = c.index-holders-place.is ∙ held_at turn c.args.places.now c.args.value c.args.holders.now held (get_or c.args.places.now c.places.place-index 0) s.place s.within s.at c.index-holders-place.result in
+    let at = c.index-holders-place.is ∙ held_at turn c.args.places.now c.args.value c.args.holders.now held
+    (get_or c.args.places.now c.places.place-index 0) s.place s.within s.at c.index-holders-place.result in
     let differs : break_alike_at (with_entry turn) (without_entry turn) s.place ≡ false =
     there_alike turn c.args.places.now c.args.value held.entry s.place s.there ∙ ap (stays_alike c.args.value) (sym at) ∙ sym c.stays_alike.ensures ∙ c.if-not-stays_alike.true in
     record { within = s.within; place = λ d. s.found differs ∙ ap Some (sym (s.at d)) }

@@ -18,7 +18,8 @@ first_need-requires c =
     let kept = c.args.kept.now in
     let i = c.entries.i-index in (
       turn_of c.requires.0 c.args.patterns.now (take i kept) (get_or kept i 0) (drop (i + 1) kept),
-      need_turn c.requires.0 c.args.patterns.now kept (λ v. v.items) c.args.standing.now c.args.holders.now i c.index-standing-i.result c.as_slice.result.now _ c.requires.2 c.entries-test.true c.index-standing-i.is c.as_slice.ensures.value c.entry-value.ensures.value,
+      need_turn c.requires.0 c.args.patterns.now kept (λ v. v.items) c.args.standing.now c.args.holders.now i c.index-standing-i.result c.as_slice.result.now
+          _ c.requires.2 c.entries-test.true c.index-standing-i.is c.as_slice.ensures.value c.entry-value.ensures.value,
     )
 
 pub bounds-places-place : goal.bounds-places-place
@@ -26,7 +27,8 @@ bounds-places-place c =
     let kept = c.args.kept.now in
     let i = c.entries.i-index in
     let turn = turn_of c.requires.0 c.args.patterns.now (take i kept) (get_or kept i 0) (drop (i + 1) kept) in
-    let held = need_turn c.requires.0 c.args.patterns.now kept (λ v. v.items) c.args.standing.now c.args.holders.now i c.index-standing-i.result c.as_slice.result.now _ c.requires.2 c.entries-test.true c.index-standing-i.is c.as_slice.ensures.value c.entry-value.ensures.value in
+    let held = need_turn c.requires.0 c.args.patterns.now kept (λ v. v.items) c.args.standing.now c.args.holders.now i c.index-standing-i.result
+    c.as_slice.result.now _ c.requires.2 c.entries-test.true c.index-standing-i.is c.as_slice.ensures.value c.entry-value.ensures.value in
     let within : c.in-Some.place < length c.requires.0 = (c.in-Some.ensures turn held).within in
     let many : length c.args.places.now ≡ length c.requires.0 = ap length c.requires.1 ∙ length-map c.requires.0 need_at in
     omega arith
@@ -39,12 +41,14 @@ entries-preserved c = λ all is s.
     let kept = c.args.kept.now in
     let i = c.entries.i-index in
     let turn = turn_of all c.args.patterns.now (take i kept) (get_or kept i 0) (drop (i + 1) kept) in
-    let held = need_turn all c.args.patterns.now kept (λ v. v.items) c.args.standing.now c.args.holders.now i c.index-standing-i.result c.as_slice.result.now _ s c.entries-test.true c.index-standing-i.is c.as_slice.ensures.value c.entry-value.ensures.value in
+    let held = need_turn all c.args.patterns.now kept (λ v. v.items) c.args.standing.now c.args.holders.now i c.index-standing-i.result c.as_slice.result.now
+    _ s c.entries-test.true c.index-standing-i.is c.as_slice.ensures.value c.entry-value.ensures.value in
     let found = first_difference all (with_entry turn) (without_entry turn) in
     let so = needs_step all c.args.patterns.now kept c.entries.needs.items i c.entries-test.true (c.entries.invariant all is s) in
     elim c.match-first_need.branch [
       | in-Some+in_ok-push w ↦
-          let need = need_found all found w.in-Some.place (record { word = 0; position = 0 }) (w.in-Some.ensures turn held) ∙ ap (λ ns. get_or ns w.in-Some.place (record { word = 0; position = 0 }) ∷ []) (sym is) in
+          let need = need_found all found w.in-Some.place (record { word = 0; position = 0 }) (w.in-Some.ensures turn held)
+          ∙ ap (λ ns. get_or ns w.in-Some.place (record { word = 0; position = 0 }) ∷ []) (sym is) in
           let longer = ap (λ v. v.items) w.needs-is ∙ w.in_ok-push.ensures.items ∙ ap (λ n. c.entries.needs.items ++ n) (sym need) in
           subst (λ ns. NeedsSoFar all c.args.patterns.now kept ns (i + 1)) (sym longer) so
       | in_default w ↦
@@ -62,7 +66,8 @@ pub bounds-standing-i : goal.bounds-standing-i
 bounds-standing-i c =
     let s = c.requires.2 in
     let inside : get_or c.args.kept.now c.entries.i-index 0 < length c.args.patterns.now = s.within c.entries.i-index 0 c.entries-test.true in
-    let many : length c.args.standing.now ≡ length c.args.patterns.now = sym (length-map c.args.standing.now (λ v. v.items)) ∙ ap length s.all ∙ length-map c.args.patterns.now (places_of_entry c.requires.0) in
+    let many : length c.args.standing.now ≡ length c.args.patterns.now = sym (length-map c.args.standing.now (λ v. v.items)) ∙ ap length s.all
+    ∙ length-map c.args.patterns.now (places_of_entry c.requires.0) in
     omega arith
 
 pub returns-in_err-push : goal.returns-in_err-push

@@ -18,7 +18,8 @@ keep_or_take_off-requires c =
     let places = c.requires.0 in
     let r = c.entries.invariant places c.requires.1 in (
       turn_of places c.args.patterns.now c.entries.stay.items (get_or c.args.kept.now c.entries.i-index 0) (drop (c.entries.i-index + 1) c.args.kept.now),
-      turn_at (λ v. v.items) places c.args.patterns.now c.args.standing.now c.args.kept.now c.args.holders.now c.entries.holders c.entries.stay.items c.entries.i-index c.index-standing-i.result c.as_slice.result.now _ c.requires.1 r c.entries-test.true c.index-standing-i.is c.as_slice.ensures.value c.entry-value.ensures.value,
+      turn_at (λ v. v.items) places c.args.patterns.now c.args.standing.now c.args.kept.now c.args.holders.now c.entries.holders c.entries.stay.items
+          c.entries.i-index c.index-standing-i.result c.as_slice.result.now _ c.requires.1 r c.entries-test.true c.index-standing-i.is c.as_slice.ensures.value c.entry-value.ensures.value,
     )
 
 pub entries-preserved : goal.entries-preserved
@@ -30,7 +31,8 @@ entries-preserved c = λ places s.
     let k = get_or kept i 0 in
     let r = c.entries.invariant places s in
     let turn = turn_of places P stay k (drop (i + 1) kept) in
-    let held = turn_at (λ v. v.items) places P c.args.standing.now kept c.args.holders.now c.entries.holders stay i c.index-standing-i.result c.as_slice.result.now _ s r c.entries-test.true c.index-standing-i.is c.as_slice.ensures.value c.entry-value.ensures.value in
+    let held = turn_at (λ v. v.items) places P c.args.standing.now kept c.args.holders.now c.entries.holders stay i c.index-standing-i.result
+    c.as_slice.result.now _ s r c.entries-test.true c.index-standing-i.is c.as_slice.ensures.value c.entry-value.ensures.value in
     let at = rounding_at (λ v. v.items) places P c.args.standing.now kept c.entries.holders stay i c.entries-test.true r in
     let answer = c.keep_or_take_off.ensures.answer turn held in
     let tallied = c.keep_or_take_off.ensures.holders turn held in
@@ -42,7 +44,8 @@ entries-preserved c = λ places s.
           let is = w.if-keep_or_take_off.true in
           let longer = ap (λ v. v.items) w.stay-is ∙ w.in_ok-push.ensures.items in
           subst (λ ks. Rounding places P kept new ks left) (sym longer)
-          (rounding_stays places P stands kept c.entries.holders new stay k left at (sym is ∙ answer) (subst (λ b. IsTallied places (if b then with_entry turn else without_entry turn) new) is tallied))
+          (rounding_stays places P stands kept c.entries.holders new stay k left at (sym is ∙ answer)
+          (subst (λ b. IsTallied places (if b then with_entry turn else without_entry turn) new) is tallied))
       | else-keep_or_take_off w ↦
           let is = w.if-keep_or_take_off.false in
           let same = ap (λ v. v.items) w.stay-is in
@@ -53,7 +56,8 @@ entries-preserved c = λ places s.
 pub returns : goal.returns
 returns c = λ places s.
     rounding_ends places c.args.patterns.now (map (λ v. v.items) c.args.standing.now) c.args.kept.now c.args.holders.now c.entries.holders c.entries.stay.items s
-    (subst (λ left. Rounding places c.args.patterns.now c.args.kept.now c.entries.holders c.entries.stay.items left) (none_left c.args.kept.now c.entries.i-index c.entries-test.false) (c.entries.invariant places s))
+    (subst (λ left. Rounding places c.args.patterns.now c.args.kept.now c.entries.holders c.entries.stay.items left) (none_left c.args.kept.now c.entries.i-index c.entries-test.false)
+    (c.entries.invariant places s))
 
 pub entry-value-requires : goal.entry-value-requires
 entry-value-requires c = c.requires.1.within c.entries.i-index 0 c.entries-test.true
@@ -62,7 +66,8 @@ pub bounds-standing-i : goal.bounds-standing-i
 bounds-standing-i c =
     let s = c.requires.1 in
     let inside : get_or c.args.kept.now c.entries.i-index 0 < length c.args.patterns.now = s.within c.entries.i-index 0 c.entries-test.true in
-    let many : length c.args.standing.now ≡ length c.args.patterns.now = sym (length-map c.args.standing.now (λ v. v.items)) ∙ ap length s.all ∙ length-map c.args.patterns.now (places_of_entry c.requires.0) in
+    let many : length c.args.standing.now ≡ length c.args.patterns.now = sym (length-map c.args.standing.now (λ v. v.items)) ∙ ap length s.all
+    ∙ length-map c.args.patterns.now (places_of_entry c.requires.0) in
     omega arith
 
 pub offset_bounds-standing-i : goal.offset_bounds-standing-i

@@ -6,7 +6,8 @@ use Rattle.pg_prune.proofs.rounds.take_off.Goals as goal
 
 pub bounds-holders-place : goal.bounds-holders-place
 bounds-holders-place c =
-    (off_steps c.requires.0 c.args.places.now c.args.value c.args.holders.now c.requires.1 c.places.holders c.places.place-index c.places-test.true (c.places.invariant c.requires.0 c.requires.1)).within
+    (off_steps c.requires.0 c.args.places.now c.args.value c.args.holders.now c.requires.1 c.places.holders c.places.place-index c.places-test.true
+    (c.places.invariant c.requires.0 c.requires.1)).within
 
 pub offset_bounds-holders-place : goal.offset_bounds-holders-place
 offset_bounds-holders-place c = let within : get_or c.args.places.now c.places.place-index 0 < length c.places.holders = bounds-holders-place c in omega arith

@@ -36,4 +36,5 @@ starts-preserved c =
     ]
 
 pub returns : goal.returns
-returns c = c.starts.invariant ∙ ap (λ (xs : List Start). filter (continues_with_by c.args.dictionary.now c.args.len c.args.sign) xs) (take_all c.starts.start-index c.args.starts.now c.starts-test.false)
+returns c = c.starts.invariant ∙ ap (λ (xs : List Start). filter (continues_with_by c.args.dictionary.now c.args.len c.args.sign) xs)
+    (take_all c.starts.start-index c.args.starts.now c.starts-test.false)

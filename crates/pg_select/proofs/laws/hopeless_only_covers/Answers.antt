@@ -10,5 +10,6 @@ returns c = record {
   values = λ m u tidy minima words w p. (refl, refl, refl);
   raised = covered_raised;
   hopeless = covered_hopeless;
-  given_up = λ m u x tidy d stands. covered_hopeless m.pass.level m.patterns m.hopeless (u, m.pass.dot) x d ∙ or_left (applies x d (u, m.pass.dot)) (is_covered m.pass.level m.patterns m.hopeless x d) stands;
+  given_up = λ m u x tidy d stands. covered_hopeless m.pass.level m.patterns m.hopeless (u, m.pass.dot) x d
+      ∙ or_left (applies x d (u, m.pass.dot)) (is_covered m.pass.level m.patterns m.hopeless x d) stands;
 }

@@ -21,7 +21,8 @@ positions-preserved c =
     record {
       sums = λ value values.
           marks_step_by c.positions.sums _ _ value w p c.in-Some.end c.positions-test.true
-          (sums ∙ ap (λ (x : Mark). with_mark c.positions.sums x (position_weight w p)) (c.mark_at.ensures ∙ ap (λ (v : ℕ). status (slice_index_or w.hyphens p false) (slice_index_or w.cares p true) v) (values p within)))
+          (sums ∙ ap (λ (x : Mark). with_mark c.positions.sums x (position_weight w p))
+          (c.mark_at.ensures ∙ ap (λ (v : ℕ). status (slice_index_or w.hyphens p false) (slice_index_or w.cares p true) v) (values p within)))
           (c.positions.invariant.sums value values);
       few = omega arith;
       took_for = omega (arith, c.positions.invariant.took_for);

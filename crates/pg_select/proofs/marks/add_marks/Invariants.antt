@@ -10,7 +10,8 @@ use Rattle.pg_select.proofs.marks.add_marks.Given as goal
 
 abbrev pub invariant-positions : goal.invariant-positions
 invariant-positions l = record {
-  sums : (value : ℕ → ℕ) → ((p : ℕ) → p < length l.w.signs.now → slice_index l.found.values p ≡ value p) → with_marks l.sums (marks_from_by value (lent_word l.w) l.p l.end) ≡ with_marks l.fn.sums (marks_by (minima_of l.table) value (lent_word l.w));
+  sums : (value : ℕ → ℕ) → ((p : ℕ) → p < length l.w.signs.now → slice_index l.found.values p ≡ value p) → with_marks l.sums (marks_from_by value (lent_word l.w) l.p l.end)
+      ≡ with_marks l.fn.sums (marks_by (minima_of l.table) value (lent_word l.w));
   few : l.p - l.first ≤ letter_count (lent_word l.w);
   took_for : TookRoomFor l.fn.sums l.sums (l.p - l.first);
 }

@@ -13,7 +13,8 @@ generate-requires-clause-signs g c =
 pub totals-requires : goal.totals-requires
 totals-requires g c =
     let n = letters_of c.args.given.now.table.now + 1 in
-    let greatest : (g.K.Made.Engine.meaning c.generate.new.engine).signs ≡ n = c.in_ok-generate.ensures.signs ∙ ap (λ (m : Meaning). m.signs) c.in_ok-engine.ensures ∙ ap (λ k. k + 1) c.letters.ensures.value in
+    let greatest : (g.K.Made.Engine.meaning c.generate.new.engine).signs ≡ n = c.in_ok-generate.ensures.signs ∙ ap (λ (m : Meaning). m.signs) c.in_ok-engine.ensures
+    ∙ ap (λ k. k + 1) c.letters.ensures.value in
     subst (λ k. SignsAtMost k c.args.left_out.now) (sym greatest) c.requires.left_out
 
 pub returns-clause-value : goal.returns-clause-value

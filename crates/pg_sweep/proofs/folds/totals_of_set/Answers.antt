@@ -10,5 +10,9 @@ folds-init g c = record { sums = refl; small = (omega arith, omega arith, omega 
 pub folds-preserved : goal.folds-preserved
 folds-preserved g c = record {
   sums = totals_step (fold_totals (terms c.args.given.now) c.args.params.now) c.folds.fold c.folds.sums c.in_ok-more.more c.folds.invariant.sums c.in_ok-more.ensures.value;
-  small = (omega (arith, c.folds.invariant.small.0, c.in_ok-more.ensures.small), omega (arith, c.folds.invariant.small.1, c.in_ok-more.ensures.small), omega (arith, c.folds.invariant.small.2, c.in_ok-more.ensures.small));
+  small = (
+    omega (arith, c.folds.invariant.small.0, c.in_ok-more.ensures.small),
+    omega (arith, c.folds.invariant.small.1, c.in_ok-more.ensures.small),
+    omega (arith, c.folds.invariant.small.2, c.in_ok-more.ensures.small),
+  );
 }

@@ -12,10 +12,16 @@ use Rattle.pg_sweep.proofs.rows.number_of_winner.Goals.{then-rows-i, else-rows-i
 pub rows-preserved : goal.rows-preserved
 rows-preserved c = elim c.if-rows-i.branch [
   | then-rows-i w ↦
-      let e : winner_from c.if-rows-i.winner c.if-rows-i.least (c.rows.i + 1 + 1) (drop (c.rows.i + 1) (costs_of c.args.rows.now)) ≡ first_least (costs_of c.args.rows.now) = rw (w.winner-is, w.least-is) (looked_at true c.rows.winner c.rows.least c.rows.i _ _ (drop c.rows.i (costs_of c.args.rows.now)) (drop (c.rows.i + 1) (costs_of c.args.rows.now)) (costs_from c.args.rows.now c.rows.i _ c.rows-test.true) (lt-ltb _ _ w.if-rows-i.true) c.rows.invariant) in
+      let e : winner_from c.if-rows-i.winner c.if-rows-i.least (c.rows.i + 1 + 1) (drop (c.rows.i + 1) (costs_of c.args.rows.now))
+      ≡ first_least (costs_of c.args.rows.now) = rw (w.winner-is, w.least-is)
+      (looked_at true c.rows.winner c.rows.least c.rows.i _ _ (drop c.rows.i (costs_of c.args.rows.now)) (drop (c.rows.i + 1) (costs_of c.args.rows.now))
+      (costs_from c.args.rows.now c.rows.i _ c.rows-test.true) (lt-ltb _ _ w.if-rows-i.true) c.rows.invariant) in
       e
   | else-rows-i w ↦
-      let e : winner_from c.if-rows-i.winner c.if-rows-i.least (c.rows.i + 1 + 1) (drop (c.rows.i + 1) (costs_of c.args.rows.now)) ≡ first_least (costs_of c.args.rows.now) = rw (w.winner-is, w.least-is) (looked_at false c.rows.winner c.rows.least c.rows.i _ _ (drop c.rows.i (costs_of c.args.rows.now)) (drop (c.rows.i + 1) (costs_of c.args.rows.now)) (costs_from c.args.rows.now c.rows.i _ c.rows-test.true) (le-ltb _ _ w.if-rows-i.false) c.rows.invariant) in
+      let e : winner_from c.if-rows-i.winner c.if-rows-i.least (c.rows.i + 1 + 1) (drop (c.rows.i + 1) (costs_of c.args.rows.now))
+      ≡ first_least (costs_of c.args.rows.now) = rw (w.winner-is, w.least-is)
+      (looked_at false c.rows.winner c.rows.least c.rows.i _ _ (drop c.rows.i (costs_of c.args.rows.now)) (drop (c.rows.i + 1) (costs_of c.args.rows.now))
+      (costs_from c.args.rows.now c.rows.i _ c.rows-test.true) (le-ltb _ _ w.if-rows-i.false) c.rows.invariant) in
       e
 ]
 

@@ -24,4 +24,5 @@ pub enter_strings-requires-clause-one_head : goal.enter_strings-requires-clause-
 enter_strings-requires-clause-one_head c = c.new-outputs.ensures.one_head
 
 pub returns : goal.returns
-returns c = subst (λ n. IsEntered n c.args.patterns.now c.enter_strings.new.cells c.enter_strings.new.outputs) (signs_of c.in_ok-cells.cells c.args.signs c.in_ok-cells.ensures.held) c.in_ok-enter_strings.ensures
+returns c = subst (λ n. IsEntered n c.args.patterns.now c.enter_strings.new.cells c.enter_strings.new.outputs)
+    (signs_of c.in_ok-cells.cells c.args.signs c.in_ok-cells.ensures.held) c.in_ok-enter_strings.ensures

@@ -34,7 +34,8 @@ pub enter-requires : goal.enter-requires
 enter-requires c =
     let known : All (λ s. (1 ≤ s) × (s ≤ c.strings.cells.signs)) c.entry.result.signs.now =
     subst (λ n. All (λ s. (1 ≤ s) × (s ≤ n)) c.entry.result.signs.now) (sym c.strings.invariant.signs)
-    (signs_within c.args.cells.now.signs c.args.patterns.now c.strings.at ((c.entry.result.signs.now, c.entry.result.dot), c.entry.result.value) c.requires.known c.entry.ensures.value c.entry.ensures.signs) in
+    (signs_within c.args.cells.now.signs c.args.patterns.now c.strings.at
+    ((c.entry.result.signs.now, c.entry.result.dot), c.entry.result.value) c.requires.known c.entry.ensures.value c.entry.ensures.signs) in
     (omega arith, (c.entry.ensures.some, known))
 
 pub strings-smaller : goal.strings-smaller
@@ -46,7 +47,8 @@ pub strings-preserved : goal.strings-preserved
 strings-preserved c =
     let q = c.entry.result.signs.now in
     let group = c.string_end-end.ensures ((c.entry.result.signs.now, c.entry.result.dot), c.entry.result.value) c.entry.ensures.value in
-    entered_string c.args.cells.now.signs c.args.patterns.now c.len.ensures.kept c.strings.at c.string_end-end.result q group c.strings.cells c.enter.new.cells c.set_value.new.self c.strings.outputs c.share.new.outputs c.in_ok-head.head c.in_ok-cell.cell c.strings.invariant
+    entered_string c.args.cells.now.signs c.args.patterns.now c.len.ensures.kept c.strings.at c.string_end-end.result q group c.strings.cells
+    c.enter.new.cells c.set_value.new.self c.strings.outputs c.share.new.outputs c.in_ok-head.head c.in_ok-cell.cell c.strings.invariant
     c.in_ok-head.ensures.grows c.in_ok-head.ensures.inside c.in_ok-head.ensures.list c.in_ok-head.ensures.shares
     c.in_ok-cell.ensures.held c.in_ok-cell.ensures.signs c.in_ok-cell.ensures.families c.in_ok-cell.ensures.blanks c.in_ok-cell.ensures.cell
     c.set_value.ensures.kept (c.set_value.ensures.held q c.in_ok-cell.ensures.cell)

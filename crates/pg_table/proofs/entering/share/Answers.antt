@@ -24,7 +24,8 @@ loop-i-preserved c =
     let x : ℕ × ℕ = (c.entry-entry.result.dot, c.entry-entry.result.value) in
     let rest : List (ℕ × ℕ) = pairs P c.loop-i.i c.args.end in
     let more : pairs P i c.args.end ≡ x ∷ rest =
-    pairs_more P i c.args.end ((c.entry-entry.result.signs.now, c.entry-entry.result.dot), c.entry-entry.result.value) c.entry-entry.ensures.value (omega (arith, c.loop-i.invariant.high)) ∙ ap (λ n. x ∷ pairs P n c.args.end) before in
+    pairs_more P i c.args.end ((c.entry-entry.result.signs.now, c.entry-entry.result.dot), c.entry-entry.result.value) c.entry-entry.ensures.value (omega (arith, c.loop-i.invariant.high))
+    ∙ ap (λ n. x ∷ pairs P n c.args.end) before in
     record {
       low = omega (arith, c.loop-i.invariant.low);
       high = omega (arith, c.loop-i.invariant.high);

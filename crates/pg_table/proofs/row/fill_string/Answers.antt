@@ -13,7 +13,8 @@ returns-in_default c heads has row =
     let w = c.args.signs.now in
     let i = c.loop-s.s-index in
     let front : take (i + 1) w ≡ take i w ++ get_or w i 0 ∷ [] = take_more w i 0 c.loop-s-test.true in
-    fills_rest h c.requires.held heads has w i (take i w) (get_or w i 0) c.args.row.now c.loop-s.row (c.loop-s.invariant.fills heads has row) front (sym (c.in_default.ensures.cell (take i w) c.loop-s.invariant.at)) (length w)
+    fills_rest h c.requires.held heads has w i (take i w) (get_or w i 0) c.args.row.now c.loop-s.row (c.loop-s.invariant.fills heads has row) front
+    (sym (c.in_default.ensures.cell (take i w) c.loop-s.invariant.at)) (length w)
 
 pub overflow_cast-row : goal.overflow_cast-row
 overflow_cast-row c =
@@ -57,5 +58,6 @@ loop-s-preserved c =
       at = ap (cell_of h.families) front ∙ cell;
       fills = λ heads has row.
           fills_more h c.requires.held heads has w i c.in-Some.cell x c.args.row.now c.loop-s.row (c.loop-s.invariant.fills heads has row) inside
-          (cell_told h c.requires.held heads has (take i w) s c.in-Some.cell c.child.result c.value.result cell (c.child.ensures.base q cell) (c.value.ensures q cell)) (ap (cell_of h.families) front ∙ cell);
+          (cell_told h c.requires.held heads has (take i w) s c.in-Some.cell c.child.result c.value.result cell (c.child.ensures.base q cell) (c.value.ensures q cell))
+          (ap (cell_of h.families) front ∙ cell);
     }

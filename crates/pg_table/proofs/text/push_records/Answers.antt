@@ -9,7 +9,8 @@ use Rattle.pg_table.proofs.text.push_records.Goals as goal
 use Rattle.pg_table.proofs.text.push_records.Goals.{in-Some+in_ok-push+in_ok-push-2+in_ok-push_u32, in_default}
 
 -- one more record is behind the text
-more : (old mid new : List ℕ) (rs : List Record) (head i : ℕ) (r : Record) → mid ≡ old ++ flat_map record_bytes (take (head - 1) rs) → head ≡ i + 1 → slice_get rs i ≡ Some r → new ≡ mid ++ record_bytes r → new ≡ old ++ flat_map record_bytes (take (head + 1 - 1) rs)
+more : (old mid new : List ℕ) (rs : List Record) (head i : ℕ) (r : Record) → mid ≡ old ++ flat_map record_bytes (take (head - 1) rs) → head ≡ i + 1
+    → slice_get rs i ≡ Some r → new ≡ mid ++ record_bytes r → new ≡ old ++ flat_map record_bytes (take (head + 1 - 1) rs)
 more old mid new rs head i r before place at pushed =
     let low : head - 1 ≡ i = omega arith in
     let high : head + 1 - 1 ≡ i + 1 = omega arith in
@@ -27,9 +28,11 @@ loop-head-preserved c = elim c.match-first.branch [
       let rest : List ℕ = u32_bytes w.in-Some.next in
       let pushed : w.push_u32.new.text.items ≡ mid ++ (w.in-Some.value ∷ w.in-Some.dot ∷ rest) =
       w.in_ok-push_u32.ensures
-      ∙ ap (λ (l : List ℕ). l ++ rest) (w.in_ok-push-2.ensures.items ∙ ap (λ (l : List ℕ). l ++ w.in-Some.dot ∷ []) w.in_ok-push.ensures.items ∙ append_assoc mid (w.in-Some.value ∷ []) (w.in-Some.dot ∷ []))
+      ∙ ap (λ (l : List ℕ). l ++ rest) (w.in_ok-push-2.ensures.items ∙ ap (λ (l : List ℕ). l ++ w.in-Some.dot ∷ []) w.in_ok-push.ensures.items
+      ∙ append_assoc mid (w.in-Some.value ∷ []) (w.in-Some.dot ∷ []))
       ∙ append_assoc mid (w.in-Some.value ∷ w.in-Some.dot ∷ []) rest in
-      more c.args.text.now.items mid c.match-first.text.items c.args.outputs.now c.loop-head.head there.0 (record { value = w.in-Some.value; dot = w.in-Some.dot; next = w.in-Some.next }) c.loop-head.invariant there.1 there.2
+      more c.args.text.now.items mid c.match-first.text.items c.args.outputs.now c.loop-head.head there.0
+      (record { value = w.in-Some.value; dot = w.in-Some.dot; next = w.in-Some.next }) c.loop-head.invariant there.1 there.2
       (ap (λ (t : Vec ℕ Global). t.items) w.text-is ∙ pushed)
   | in_default w ↦ absurd (omega (arith, w.in_default.ensures.none.0 refl, c.loop-head.auto.head))
 ]

@@ -29,6 +29,7 @@ words-preserved c =
     let w = lent_word c.word-w.result in
     let place = drop_place c.args.dictionary.now c.words.i w c.word-w.ensures.lent in
     record {
-      sums = marks_word c.words.sums _ _ minima b w (drop (c.words.i + 1) c.args.dictionary.now) (c.add_marks-sums.ensures.value (table_value b w.signs) c.values.ensures.values) (ap (λ (ws : List Word). with_marks c.words.sums (flat_map (table_marks minima b) ws)) (sym place) ∙ c.words.invariant.sums);
+      sums = marks_word c.words.sums _ _ minima b w (drop (c.words.i + 1) c.args.dictionary.now) (c.add_marks-sums.ensures.value (table_value b w.signs) c.values.ensures.values)
+          (ap (λ (ws : List Word). with_marks c.words.sums (flat_map (table_marks minima b) ws)) (sym place) ∙ c.words.invariant.sums);
       room_for = omega (arith, letters_left c.args.dictionary.now c.words.i w c.word-w.ensures.lent, c.words.invariant.room_for, c.add_marks-sums.ensures.took);
     }

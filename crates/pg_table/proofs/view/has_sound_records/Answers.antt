@@ -11,4 +11,5 @@ returns-then-not-is_sound_record c =
     (ap (λ (r : Record). is_sound_record c.loop-i.i r) (ap (read_record c.args.bytes.now) (sym c.record_start.ensures) ∙ sym c.read_record-record.ensures) ∙ sym c.if-not-is_sound_record.ensures))
 
 pub returns : goal.returns
-returns c = sym (range_passes (λ k. is_sound_record k (read_record c.args.bytes.now (record_start c.args.head.now.cells k))) 0 c.args.head.now.records (λ i low inside. c.loop-i.invariant i (omega arith)))
+returns c = sym (range_passes (λ k. is_sound_record k (read_record c.args.bytes.now (record_start c.args.head.now.cells k))) 0 c.args.head.now.records
+    (λ i low inside. c.loop-i.invariant i (omega arith)))

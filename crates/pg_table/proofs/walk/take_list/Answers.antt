@@ -15,15 +15,18 @@ loop-value-preserved c =
     let rest : List (ℕ × ℕ) = list_in c.args.view.now c.in-Some.next in
     record {
       inside = omega (arith, c.in-Some.ensures.back, c.loop-value.invariant.inside);
-      values = level_step (by_record_list c.args.start c.args.len (list_in c.args.view.now c.loop-value.at)) (by_value c.args.start c.args.len x) (by_record_list c.args.start c.args.len rest) (by_record_list c.args.start c.args.len (list_in c.args.view.now c.args.head))
+      values = level_step (by_record_list c.args.start c.args.len (list_in c.args.view.now c.loop-value.at)) (by_value c.args.start c.args.len x)
+          (by_record_list c.args.start c.args.len rest) (by_record_list c.args.start c.args.len (list_in c.args.view.now c.args.head))
           (values_of c.args.out.now) (values_of c.loop-value.out) (values_of c.raise.new.out)
-          (λ p. ap (λ (l : List (ℕ × ℕ)). by_record_list c.args.start c.args.len l p) c.in-Some.ensures.list ∙ list_more c.args.start c.args.len x rest p) c.loop-value.invariant.values c.raise.ensures.values;
+          (λ p. ap (λ (l : List (ℕ × ℕ)). by_record_list c.args.start c.args.len l p) c.in-Some.ensures.list
+          ∙ list_more c.args.start c.args.len x rest p) c.loop-value.invariant.values c.raise.ensures.values;
       uncovered = c.raise.ensures.uncovered;
     }
 
 pub returns : goal.returns
 returns c = record {
-  values = level_end (by_record_list c.args.start c.args.len (list_in c.args.view.now c.loop-value.at)) (by_record_list c.args.start c.args.len (list_in c.args.view.now c.args.head)) (values_of c.args.out.now) (values_of c.loop-value.out)
+  values = level_end (by_record_list c.args.start c.args.len (list_in c.args.view.now c.loop-value.at)) (by_record_list c.args.start c.args.len (list_in c.args.view.now c.args.head))
+      (values_of c.args.out.now) (values_of c.loop-value.out)
       (λ p. ap (λ (l : List (ℕ × ℕ)). by_record_list c.args.start c.args.len l p) c.in_default.ensures.list ∙ empty_list c.args.start c.args.len p) c.loop-value.invariant.values;
   uncovered = c.loop-value.invariant.uncovered;
 }

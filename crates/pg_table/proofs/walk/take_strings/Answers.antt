@@ -49,7 +49,8 @@ taken b w start stop base cell before now new low inside few leads has is level 
     let list : lookup b (take n (drop start w)) ≡ list_in b cell.head =
     ap (lookup b) goes.whole ∙ leads s goes.more ∙ ap (λ l. lookup_from b base (s ∷ l)) (goes.size refl) ∙ list_here b base s has ∙ ap (λ (x : Cell). list_in b x.head) (sym is) in
     level_step (by_strings b w start (stop - start + 1)) (by_record_list start n (list_in b cell.head)) (by_strings b w start (n + 1)) (by_strings b w start 1) before now new
-    (λ p. ap (λ k. by_strings b w start k p) same ∙ strings_more b w p start n (omega arith) (omega arith) ∙ ap (λ (l : List (ℕ × ℕ)). max (by_record_list start n l p) (by_strings b w start (n + 1) p)) list)
+    (λ p. ap (λ k. by_strings b w start k p) same ∙ strings_more b w p start n (omega arith) (omega arith)
+    ∙ ap (λ (l : List (ℕ × ℕ)). max (by_record_list start n l p) (by_strings b w start (n + 1) p)) list)
     level raises
 
 -- where the cell has no family below it, no longer string has a list
@@ -69,7 +70,8 @@ returns-then-cell-eq0-clause-values c =
     let goes = goes_on w start stop m c.loop-stop.auto.stop (omega arith) long in
     let more = goes.longer (omega arith) in
     ap (lookup b) goes.whole ∙ c.loop-stop.invariant.leads s goes.more ∙ ap (λ l. lookup_from b c.loop-stop.base (s ∷ l)) more.2 ∙ no_child b c.loop-stop.base s child more.0 more.1))
-    (taken b w start stop c.loop-stop.base c.in-Some.cell (values_of c.args.out.now) (values_of c.loop-stop.out) (values_of c.take_list.new.out) c.loop-stop.auto.stop inside few c.loop-stop.invariant.leads
+    (taken b w start stop c.loop-stop.base c.in-Some.cell (values_of c.args.out.now) (values_of c.loop-stop.out)
+    (values_of c.take_list.new.out) c.loop-stop.auto.stop inside few c.loop-stop.invariant.leads
     c.in-Some.ensures.cell.0 c.in-Some.ensures.cell.1 c.loop-stop.invariant.values c.take_list.ensures.values)
 
 pub loop-stop-preserved : goal.loop-stop-preserved
@@ -92,7 +94,8 @@ loop-stop-preserved c =
           ∙ c.loop-stop.invariant.leads s (t ∷ more)
           ∙ list_below b c.loop-stop.base s c.in-Some.ensures.cell.0 some t more
           ∙ ap (λ base. lookup_from b base (t ∷ more)) child;
-      values = taken b w start stop c.loop-stop.base c.in-Some.cell (values_of c.args.out.now) (values_of c.loop-stop.out) (values_of c.take_list.new.out) c.loop-stop.auto.stop inside few c.loop-stop.invariant.leads
+      values = taken b w start stop c.loop-stop.base c.in-Some.cell (values_of c.args.out.now) (values_of c.loop-stop.out)
+          (values_of c.take_list.new.out) c.loop-stop.auto.stop inside few c.loop-stop.invariant.leads
           c.in-Some.ensures.cell.0 c.in-Some.ensures.cell.1 c.loop-stop.invariant.values c.take_list.ensures.values;
       uncovered = c.take_list.ensures.uncovered;
     }

@@ -10,7 +10,8 @@ loop-start-preserved c =
     let b = c.args.view.now in
     let w = c.args.w.now in
     record {
-      values = level_step (by_starts b w c.loop-start.start) (by_strings b w c.loop-start.start 1) (by_starts b w (c.loop-start.start + 1)) (by_starts b w 0) (values_of c.args.out.now) (values_of c.loop-start.out) (values_of c.take_strings.new.out)
+      values = level_step (by_starts b w c.loop-start.start) (by_strings b w c.loop-start.start 1) (by_starts b w (c.loop-start.start + 1)) (by_starts b w 0)
+          (values_of c.args.out.now) (values_of c.loop-start.out) (values_of c.take_strings.new.out)
           (λ p. starts_more b w p c.loop-start.start c.loop-start-test.true) c.loop-start.invariant.values c.take_strings.ensures.values;
       uncovered = c.take_strings.ensures.uncovered;
     }
@@ -19,4 +20,5 @@ pub returns-clause-values : goal.returns-clause-values
 returns-clause-values c =
     let b = c.args.view.now in
     let w = c.args.w.now in
-    level_end (by_starts b w c.loop-start.start) (by_starts b w 0) (values_of c.args.out.now) (values_of c.loop-start.out) (λ p. starts_none b w p c.loop-start.start (omega arith)) c.loop-start.invariant.values
+    level_end (by_starts b w c.loop-start.start) (by_starts b w 0) (values_of c.args.out.now) (values_of c.loop-start.out)
+    (λ p. starts_none b w p c.loop-start.start (omega arith)) c.loop-start.invariant.values

@@ -23,7 +23,8 @@ words-preserved g c =
     elim c.match-reach.branch [
       | in-Some+in_ok-push_weight+in_ok-push_word w ↦
           rw (w.text-is, w.weight-is) (
-          line_step c.args.table.now (g.E.Engine.meaning c.args.engine.now).patterns c.args.dictionary.now c.words.i c.words.weight (lent_word c.word-word.result) w.in-Some.reach w.hyphenate.new.out.values
+          line_step c.args.table.now (g.E.Engine.meaning c.args.engine.now).patterns c.args.dictionary.now c.words.i c.words.weight
+          (lent_word c.word-word.result) w.in-Some.reach w.hyphenate.new.out.values
           c.words.text.items w.push_weight.new.text.items w.push_word.new.text.items _ c.word-word.ensures.lent (sym c.reach.ensures.value ∙ w.in-Some.is) c.word-word.ensures.word.long
           w.hyphenate.ensures.values w.in_ok-push_weight.ensures w.in_ok-push_word.ensures c.words.invariant)
       | in_default w ↦
@@ -40,4 +41,5 @@ returns-clause-text g c =
     let t = c.args.table.now in
     let P = (g.E.Engine.meaning c.args.engine.now).patterns in
     let past : length c.args.dictionary.now ≤ c.words.i = omega (arith, c.len-i-end.ensures.len) in
-    sym (append-nil c.words.text.items) ∙ ap (λ (ws : List Word). c.words.text.items ++ lines_behind t P c.words.weight (words_taking_part t ws)) (sym (drop_all c.words.i c.args.dictionary.now past)) ∙ c.words.invariant
+    sym (append-nil c.words.text.items) ∙ ap (λ (ws : List Word). c.words.text.items ++ lines_behind t P c.words.weight (words_taking_part t ws)) (sym (drop_all c.words.i c.args.dictionary.now past))
+    ∙ c.words.invariant

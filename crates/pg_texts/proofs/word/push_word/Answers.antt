@@ -7,6 +7,7 @@ use Rattle.pg_texts.proofs.word.push_word.Goals as goal
 
 pub positions-preserved : goal.positions-preserved
 positions-preserved c =
-    range_step (position_text c.args.table.now (status_found c.args.found.now.values c.args.reach (lent_word c.args.word)) (lent_word c.args.word)) c.positions.p (length c.args.word.signs.now - 1) c.positions.text.items c.push_position.new.text.items _ c.positions-test.true
+    range_step (position_text c.args.table.now (status_found c.args.found.now.values c.args.reach (lent_word c.args.word)) (lent_word c.args.word)) c.positions.p
+    (length c.args.word.signs.now - 1) c.positions.text.items c.push_position.new.text.items _ c.positions-test.true
     (c.in_ok-push_position.ensures ∙ ap (λ mark. c.positions.text.items ++ position_text c.args.table.now (λ _. mark) (lent_word c.args.word) c.positions.p) c.status_at.ensures)
     c.positions.invariant

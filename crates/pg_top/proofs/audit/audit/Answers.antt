@@ -8,17 +8,20 @@ use Rattle.pg_top.proofs.audit.audit.Goals as goal
 
 pub returns-in-Ok-clause-call : goal.returns-in-Ok-clause-call
 returns-in-Ok-clause-call g c =
-    verdict_call (texts_of c.args.names.now) c.in-Ok.verdict (g.F.Files.shown c.args.files.now) (g.F.Files.shown c.audit_files.new.files) (g.O.Sink.shown c.args.out.now) (g.O.Sink.shown c.put_verdict.new.out) c.put_verdict.result
+    verdict_call (texts_of c.args.names.now) c.in-Ok.verdict (g.F.Files.shown c.args.files.now) (g.F.Files.shown c.audit_files.new.files)
+    (g.O.Sink.shown c.args.out.now) (g.O.Sink.shown c.put_verdict.new.out) c.put_verdict.result
     c.in-Ok.ensures.only.held c.in-Ok.ensures.ok c.in-Ok.ensures.counted c.put_verdict.ensures.put c.put_verdict.ensures.counted
 
 pub returns-in-Err-clause-call : goal.returns-in-Err-clause-call
 returns-in-Err-clause-call g c =
-    stopped_call (ToAudit (texts_of c.args.names.now)) (g.F.Files.shown c.args.files.now) (g.F.Files.shown c.audit_files.new.files) (g.O.Sink.shown c.args.out.now) (g.O.Sink.shown c.put_stop.new.out) c.in-Err.stop c.put_stop.result
+    stopped_call (ToAudit (texts_of c.args.names.now)) (g.F.Files.shown c.args.files.now) (g.F.Files.shown c.audit_files.new.files) (g.O.Sink.shown c.args.out.now)
+    (g.O.Sink.shown c.put_stop.new.out) c.in-Err.stop c.put_stop.result
     (2, omega arith, refl) c.in-Err.ensures.only.held c.in-Err.ensures.stopped c.put_stop.ensures.put c.put_stop.ensures.counted
 
 pub returns-in-Ok-clause-counted : goal.returns-in-Ok-clause-counted
 returns-in-Ok-clause-counted g c =
-    verdict_counted (texts_of c.args.names.now) c.in-Ok.verdict (g.F.Files.shown c.args.files.now) (g.F.Files.shown c.audit_files.new.files) (g.O.Sink.shown c.args.out.now) (g.O.Sink.shown c.put_verdict.new.out) c.put_verdict.result
+    verdict_counted (texts_of c.args.names.now) c.in-Ok.verdict (g.F.Files.shown c.args.files.now) (g.F.Files.shown c.audit_files.new.files)
+    (g.O.Sink.shown c.args.out.now) (g.O.Sink.shown c.put_verdict.new.out) c.put_verdict.result
     c.in-Ok.ensures.ok c.in-Ok.ensures.counted c.put_verdict.ensures.put c.put_verdict.ensures.counted
 
 pub returns-in-Err-clause-counted : goal.returns-in-Err-clause-counted

@@ -44,7 +44,8 @@ returns-in_err-wanted g c =
       ok = IfOk-from_err r _ c.from_residual-in_err-wanted.ensures.0;
       counted = IfOk-from_err r _ c.from_residual-in_err-wanted.ensures.0;
       stopped = that_error r (StopsReading (reads_of (ToAudit n)) s0 s1) Memory is
-          (stopped_in_front (inputs_of n) (given_files (λ files. inputs_in files n) n) s0 s1 Memory (inputs_wanted n c.in_ok-inputs.inputs s0 s1 c.in_ok-inputs.ensures.read.counted c.in_ok-inputs.ensures.read.ok));
+          (stopped_in_front (inputs_of n) (given_files (λ files. inputs_in files n) n) s0 s1 Memory
+          (inputs_wanted n c.in_ok-inputs.inputs s0 s1 c.in_ok-inputs.ensures.read.counted c.in_ok-inputs.ensures.read.ok));
     }
 
 pub returns : goal.returns
@@ -65,7 +66,8 @@ returns g c =
     record {
       only = only_on s0 s1 s2 read.only c.compare_all.ensures.only;
       ok = IfOk-weaker c.compare_all.result _ _
-          (λ verdict found. mapped s2.held (λ files. HasInputs (file_at files) n i × (first_end (file_at files) (wanted_files ws) ≡ end_of verdict)) (λ files. outcome_of (file_at files) (ToAudit n) ≡ outcome_by verdict)
+          (λ verdict found. mapped s2.held (λ files. HasInputs (file_at files) n i × (first_end (file_at files) (wanted_files ws) ≡ end_of verdict))
+          (λ files. outcome_of (file_at files) (ToAudit n) ≡ outcome_by verdict)
           (λ files h. outcome_audited n i ws verdict files c.in_ok-wanted.ensures h.0 h.1)
           (both s2.held (λ files. HasInputs (file_at files) n i) (λ files. first_end (file_at files) (wanted_files ws) ≡ end_of verdict)
           (held_later s1.held s2.held (λ files. HasInputs (file_at files) n i) keeps has) found)) ok;

@@ -26,7 +26,8 @@ returns g c =
             (λ files h. pack_outcome p s files h ∙ c.in_ok-outputs.ensures.made) c.in_ok-source.ensures.read.ok;
         named = c.in_ok-outputs.ensures.named;
         keeps = mapped s1.held (λ files. HasSource (file_at files) p.translate p.patterns s) (λ files. Keeps (to_pack p) (file_at files))
-            (λ files h. pack_keeps p s (writing_of made.files.items) made.lines.items files c.in_ok-outputs.ensures.made c.in_ok-outputs.ensures.table c.in_ok-outputs.ensures.accepted c.in_ok-outputs.ensures.gives h) c.in_ok-source.ensures.read.ok;
+            (λ files h. pack_keeps p s (writing_of made.files.items) made.lines.items files c.in_ok-outputs.ensures.made c.in_ok-outputs.ensures.table
+            c.in_ok-outputs.ensures.accepted c.in_ok-outputs.ensures.gives h) c.in_ok-source.ensures.read.ok;
         counted = c.in_ok-source.ensures.read.counted;
       };
       stopped = tt;

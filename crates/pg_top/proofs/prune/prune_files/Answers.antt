@@ -26,7 +26,8 @@ returns g c =
             (λ files. outcome_of (file_at files) (to_prune p) ≡ Ends Done (writing_of made.files.items) made.lines.items)
             (λ files h. prune_outcome p i files h ∙ c.in_ok-outputs.ensures.made) c.in_ok-inputs.ensures.read.ok;
         named = c.in_ok-outputs.ensures.named;
-        keeps = mapped s1.held (λ files. HasPrune (file_at files) p.translate p.patterns p.dict i) (λ files. Keeps (to_prune p) (file_at files)) (λ files h. prune_keeps p i files c.in_ok-outputs.ensures.reads_back h) c.in_ok-inputs.ensures.read.ok;
+        keeps = mapped s1.held (λ files. HasPrune (file_at files) p.translate p.patterns p.dict i) (λ files. Keeps (to_prune p) (file_at files))
+            (λ files h. prune_keeps p i files c.in_ok-outputs.ensures.reads_back h) c.in_ok-inputs.ensures.read.ok;
         counted = c.in_ok-inputs.ensures.read.counted;
       };
       stopped = tt;
@@ -46,6 +47,7 @@ returns-in_err-outputs g c =
     let i = c.in_ok-inputs.inputs in
     let s0 = g.F.Files.shown c.args.files.now in
     let s1 = g.F.Files.shown c.read_prune.new.files in
-    let accepted = mapped s1.held (λ files. HasPrune (file_at files) p.translate p.patterns p.dict i) (λ files. AreAccepted (file_at files) (reads_of (to_prune p))) (prune_accepted p i) c.in_ok-inputs.ensures.read.ok in
+    let accepted = mapped s1.held (λ files. HasPrune (file_at files) p.translate p.patterns p.dict i) (λ files. AreAccepted (file_at files) (reads_of (to_prune p)))
+    (prune_accepted p i) c.in_ok-inputs.ensures.read.ok in
     building_stopped (to_prune p) s0 s1 c.from_residual-in_err-outputs.result Memory c.from_residual-in_err-outputs.ensures.1 c.read_prune.ensures.read.only
     (stops_reading (to_prune p) s0 s1 Memory (wanted_after (reads_of (to_prune p)) s0 s1 (omega arith) c.in_ok-inputs.ensures.read.counted accepted))

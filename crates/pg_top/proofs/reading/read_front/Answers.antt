@@ -6,7 +6,8 @@ pub returns-in-Ok-clause-front : goal.returns-in-Ok-clause-front
 returns-in-Ok-clause-front g c = front_of_held (g.F.Files.shown c.read.new.self).held c.args.name.now c.read.new.into.items c.args.limit c.in-Ok.ensures.file c.in-Ok.ensures.fits
 
 pub returns-in-Err-TooLong-clause-front : goal.returns-in-Err-TooLong-clause-front
-returns-in-Err-TooLong-clause-front g c = front_of_cut_held (g.F.Files.shown c.read.new.self).held c.args.name.now c.read.new.into.items c.args.limit (c.in-Err-TooLong.ensures.cut_file (ap Err c.in-Err-TooLong.field-0-is))
+returns-in-Err-TooLong-clause-front g c = front_of_cut_held (g.F.Files.shown c.read.new.self).held c.args.name.now c.read.new.into.items c.args.limit
+    (c.in-Err-TooLong.ensures.cut_file (ap Err c.in-Err-TooLong.field-0-is))
 
 pub returns-in-Err-Failed-clause-only : goal.returns-in-Err-Failed-clause-only
 returns-in-Err-Failed-clause-only g c = record { held = c.read.ensures.held; reads = c.read.ensures.reads; writes = c.read.ensures.writes }

@@ -54,7 +54,8 @@ returns g c =
     let then = c.read_dictionary.ensures.read in
     record {
       only = only_on s0 s1 s2 first.only then.only;
-      ok = both_read c.args.patterns.now c.args.dict.now c.args.table.now c.in_ok-start.start c.in_ok-dictionary.dictionary s1.held s2.held then.only.held c.in_ok-start.ensures.read.ok c.in_ok-dictionary.ensures.read.ok;
+      ok = both_read c.args.patterns.now c.args.dict.now c.args.table.now c.in_ok-start.start c.in_ok-dictionary.dictionary s1.held s2.held then.only.held
+          c.in_ok-start.ensures.read.ok c.in_ok-dictionary.ensures.read.ok;
       signs = (c.in_ok-start.ensures.known, c.in_ok-dictionary.ensures.signs);
       counted = calls_on (Reads c.args.patterns.now ∷ []) (Reads c.args.dict.now ∷ []) s0 s1 s2 first.calls then.calls;
       stopped = λ translate table. tt;

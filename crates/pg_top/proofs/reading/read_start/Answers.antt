@@ -14,7 +14,8 @@ returns g c =
     let s0 = g.F.Files.shown c.args.files.now in
     let s1 = g.F.Files.shown c.read_front.new.files in
     record {
-      read = input_read (start c.args.table.now) (start-front c.args.table.now) Patterns c.args.name.now c.in_ok-bytes.bytes.items s0 s1 c.in_ok-bytes.ensures.front c.read-read.result c.accepted.result c.accepted.ensures c.read_front.ensures.only c.read_front.ensures.calls gives;
+      read = input_read (start c.args.table.now) (start-front c.args.table.now) Patterns c.args.name.now c.in_ok-bytes.bytes.items s0 s1
+          c.in_ok-bytes.ensures.front c.read-read.result c.accepted.result c.accepted.ensures c.read_front.ensures.only c.read_front.ensures.calls gives;
       known = input_known Patterns c.read-read.result c.accepted.result (SignsUpTo (letters_of c.args.table.now + 1)) c.accepted.ensures c.read-read.ensures.known;
     }
 
@@ -23,6 +24,7 @@ returns-in_err-bytes g c =
     let s0 = g.F.Files.shown c.args.files.now in
     let s1 = g.F.Files.shown c.read_front.new.files in
     record {
-      read = input_stopped (start c.args.table.now) Patterns c.args.name.now s0 s1 c.from_residual.result c.in_err-bytes.field-0.0 c.from_residual.ensures.1 c.read_front.ensures.only c.read_front.ensures.calls c.in_err-bytes.ensures.stopped;
+      read = input_stopped (start c.args.table.now) Patterns c.args.name.now s0 s1 c.from_residual.result c.in_err-bytes.field-0.0 c.from_residual.ensures.1
+          c.read_front.ensures.only c.read_front.ensures.calls c.in_err-bytes.ensures.stopped;
       known = IfOk-from_err c.from_residual.result _ c.from_residual.ensures.0;
     }

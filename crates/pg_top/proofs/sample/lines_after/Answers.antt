@@ -11,8 +11,10 @@ pub returns : goal.returns
 returns c =
     let i = c.args.inputs.now in
     let text : c.in_ok-patterns.patterns.items ≡ selected_text i = c.in_ok-patterns.ensures.text ∙ text_selected i c.patterns.result.now (c.patterns.ensures ∙ c.requires.told.patterns) in
-    let report : c.in_ok-report.report.items ≡ selected_report i = c.in_ok-report.ensures ∙ report_selected i c.largest.result (account_of c.args.run.now) c.largest.ensures.value c.requires.told.account in
+    let report : c.in_ok-report.report.items ≡ selected_report i = c.in_ok-report.ensures
+    ∙ report_selected i c.largest.result (account_of c.args.run.now) c.largest.ensures.value c.requires.told.account in
     let totals = c.totals.ensures.value ∙ ap (λ (a : Account). a.totals) c.requires.told.account ∙ totals_selected i in
     let done : c.in_ok-done.done.items ≡ done_line (selected_text i) (selected_totals i) = c.in_ok-done.ensures ∙ (λ k. done_line ((c.deref.ensures.value ∙ text) k) (totals k)) in
-    let printed : c.push_printed.new.lines.items ≡ printed_part (selected_report i) = c.in_ok-push_printed.ensures ∙ ap (λ (xs : List ℕ). xs ++ printed_part c.deref-2.result.now) c.new-lines.ensures.items ∙ ap printed_part (c.deref-2.ensures.value ∙ report) in
+    let printed : c.push_printed.new.lines.items ≡ printed_part (selected_report i) = c.in_ok-push_printed.ensures
+    ∙ ap (λ (xs : List ℕ). xs ++ printed_part c.deref-2.result.now) c.new-lines.ensures.items ∙ ap printed_part (c.deref-2.ensures.value ∙ report) in
     c.in_ok-extend_from_slice.ensures.items ∙ (λ k. printed k ++ (c.deref-3.ensures.value ∙ done) k)

@@ -28,7 +28,7 @@ returns g c =
       told = record {
         patterns = c.in_ok-run.ensures.patterns ∙ patterns_selected i m c.requires.new;
         signs = subst (λ n. SignsUpTo n c.in_ok-run.run'.patterns) (ap (λ (m : Meaning). m.signs) c.requires.new)
-        (c.in_ok-run.ensures.pattern_signs (subst (λ (m : Meaning). SignsUpTo m.signs m.patterns) (sym c.requires.new) c.requires.signs.start));
+            (c.in_ok-run.ensures.pattern_signs (subst (λ (m : Meaning). SignsUpTo m.signs m.patterns) (sym c.requires.new) c.requires.signs.start));
         account = c.in_ok-run.ensures.account ∙ account_selected i m c.requires.new;
         begun = c.in_ok-run.ensures.begun ∙ begun_selected i m c.requires.new;
       };

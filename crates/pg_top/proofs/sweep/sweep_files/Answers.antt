@@ -56,6 +56,7 @@ returns-in_err-outputs g c =
     let sets = c.in_ok-inputs.inputs.sets.items in
     let s0 = g.F.Files.shown c.args.files.now in
     let s1 = g.F.Files.shown c.read_sweep.new.files in
-    let accepted = mapped s1.held (λ files. HasSweep (file_at files) s terms sets) (λ files. AreAccepted (file_at files) (reads_of (ToSweep s))) (sweep_accepted s terms sets) c.in_ok-inputs.ensures.read.ok in
+    let accepted = mapped s1.held (λ files. HasSweep (file_at files) s terms sets) (λ files. AreAccepted (file_at files) (reads_of (ToSweep s)))
+    (sweep_accepted s terms sets) c.in_ok-inputs.ensures.read.ok in
     building_stopped (ToSweep s) s0 s1 c.from_residual-in_err-outputs.result Memory c.from_residual-in_err-outputs.ensures.1 c.read_sweep.ensures.read.only
     (stops_reading (ToSweep s) s0 s1 Memory (wanted_after (reads_of (ToSweep s)) s0 s1 (omega arith) c.in_ok-inputs.ensures.read.counted accepted))

@@ -18,4 +18,5 @@ returns-in-None g c =
 
 pub returns-in-Some : goal.returns-in-Some
 returns-in-Some g c =
-    subst (λ asked. IsRun asked c.perform.result c.args.files.now c.perform.new.files (g.F.Files.shown c.args.files.now, g.O.Sink.shown c.args.out.now) (g.F.Files.shown c.perform.new.files, g.O.Sink.shown c.perform.new.out)) c.in-Some.ensures.value c.perform.ensures
+    subst (λ asked. IsRun asked c.perform.result c.args.files.now c.perform.new.files (g.F.Files.shown c.args.files.now, g.O.Sink.shown c.args.out.now)
+    (g.F.Files.shown c.perform.new.files, g.O.Sink.shown c.perform.new.out)) c.in-Some.ensures.value c.perform.ensures

@@ -17,7 +17,10 @@ pieces-init c = record {
 pub returns-in_err-add_spelling-clause-answer : goal.returns-in_err-add_spelling-clause-answer
 returns-in_err-add_spelling-clause-answer c =
     let p = err_from_is_err_and c.from_residual.result c.from_residual.ensures.1 in
-    rw (p.1, p.2) (pieces_fail c.args.index.now c.pieces.index c.args.marks.now c.args.line c.args.letter c.pieces.column c.args.delimiter c.args.text.now c.pieces.rest.now c.in-Some.piece.now c.in-Some.after.now _ c.pieces.invariant c.in-Some.ensures.pieces c.in_err-add_spelling.ensures.answer)
+    rw (p.1, p.2) (pieces_fail c.args.index.now c.pieces.index c.args.marks.now c.args.line c.args.letter c.pieces.column c.args.delimiter c.args.text.now
+    c.pieces.rest.now c.in-Some.piece.now c.in-Some.after.now _ c.pieces.invariant c.in-Some.ensures.pieces c.in_err-add_spelling.ensures.answer)
 
 pub pieces-preserved : goal.pieces-preserved
-pieces-preserved c = pieces_more c.args.index.now c.pieces.index c.add_spelling.new.index c.args.marks.now c.args.line c.args.letter c.pieces.column c.args.delimiter c.args.text.now c.pieces.rest.now c.in-Some.piece.now c.in-Some.after.now c.pieces.invariant c.in-Some.ensures.pieces c.in-Some.ensures.some c.in-Some.ensures.shorter c.in_ok-add_spelling.ensures.answer c.in_ok-add_spelling.ensures.spellings c.in_ok-add_spelling.ensures.letters c.in_ok-add_spelling.ensures.sound
+pieces-preserved c = pieces_more c.args.index.now c.pieces.index c.add_spelling.new.index c.args.marks.now c.args.line c.args.letter c.pieces.column
+    c.args.delimiter c.args.text.now c.pieces.rest.now c.in-Some.piece.now c.in-Some.after.now c.pieces.invariant c.in-Some.ensures.pieces c.in-Some.ensures.some
+    c.in-Some.ensures.shorter c.in_ok-add_spelling.ensures.answer c.in_ok-add_spelling.ensures.spellings c.in_ok-add_spelling.ensures.letters c.in_ok-add_spelling.ensures.sound

@@ -3,10 +3,12 @@ use Rattle.pg_translate.proofs.LetterLines.{pieces_empty, pieces_found, pieces_l
 use Rattle.pg_translate.proofs.reading.next_piece.Goals as goal
 
 pub returns-in-Some-eq0-clause-pieces : goal.returns-in-Some-eq0-clause-pieces
-returns-in-Some-eq0-clause-pieces c = pieces_empty c.args.delimiter c.args.rest.now (sym c.find_delimiter.ensures ∙ c.in-Some-eq0.is ∙ ap (λ (n : ℕ). Some n) (let zero : c.in-Some-eq0.field-0 ≡ 0 = omega arith in zero))
+returns-in-Some-eq0-clause-pieces c = pieces_empty c.args.delimiter c.args.rest.now (sym c.find_delimiter.ensures ∙ c.in-Some-eq0.is
+    ∙ ap (λ (n : ℕ). Some n) (let zero : c.in-Some-eq0.field-0 ≡ 0 = omega arith in zero))
 
 pub returns-in-Some-clause-pieces : goal.returns-in-Some-clause-pieces
-returns-in-Some-clause-pieces c = pieces_found c.args.delimiter c.args.rest.now c.in-Some.end (sym c.find_delimiter.ensures ∙ c.in-Some.is) (let some : 0 < c.in-Some.end = omega (arith, c.in-Some.end-test.1) in some)
+returns-in-Some-clause-pieces c = pieces_found c.args.delimiter c.args.rest.now c.in-Some.end (sym c.find_delimiter.ensures ∙ c.in-Some.is)
+    (let some : 0 < c.in-Some.end = omega (arith, c.in-Some.end-test.1) in some)
 
 pub returns-in-None-2-clause-pieces : goal.returns-in-None-2-clause-pieces
 returns-in-None-2-clause-pieces c = pieces_last c.args.delimiter c.args.rest.now (sym c.find_delimiter.ensures ∙ c.in-None-2.is) (sym c.is_empty.ensures ∙ c.if-is_empty.false)

@@ -11,7 +11,8 @@ weight_begins [] some is = absurd (omega arith)
 weight_begins (b ∷ bs) some is = rw (eq-eqb _ _ is) refl
 
 -- behind a digit more
-weight_goes : (text : List ℕ) (more value size : ℕ) → size < length text → is_ascii_digit (get_or text size 0) ≡ true → weight_from (suc more) value size (drop size text) ≡ weight_from more (value * 10 + (get_or text size 0 - 48)) (size + 1) (drop (size + 1) text)
+weight_goes : (text : List ℕ) (more value size : ℕ) → size < length text → is_ascii_digit (get_or text size 0) ≡ true → weight_from (suc more) value size (drop size text)
+    ≡ weight_from more (value * 10 + (get_or text size 0 - 48)) (size + 1) (drop (size + 1) text)
 weight_goes text more value size within digit = rw (drop_more text size 0 within, digit) refl
 
 pub digits-preserved : goal.digits-preserved

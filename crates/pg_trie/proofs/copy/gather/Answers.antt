@@ -10,18 +10,21 @@ use Rattle.pg_trie.proofs.Listing.{get_there, get_index}
 use Rattle.pg_trie.proofs.copy.gather.Goals as goal
 
 pub loop-string-init : goal.loop-string-init
-loop-string-init c = subst (λ es. Gathers (maps_of c.args.cells.now c.args.outputs.now).patterns c.args.strings.now 0 es) (sym c.new-entries.ensures.items) (gathers_none (maps_of c.args.cells.now c.args.outputs.now).patterns c.args.strings.now)
+loop-string-init c = subst (λ es. Gathers (maps_of c.args.cells.now c.args.outputs.now).patterns c.args.strings.now 0 es) (sym c.new-entries.ensures.items)
+    (gathers_none (maps_of c.args.cells.now c.args.outputs.now).patterns c.args.strings.now)
 
 pub value_of-head-requires-clause-signs : goal.value_of-head-requires-clause-signs
 value_of-head-requires-clause-signs c =
     let k = get_there c.args.strings.now c.loop-string.string-index c.loop-string-test.true in
-    let same : c.signs.result.now ≡ k.0.0 = c.signs.ensures.value ∙ ap (λ (x : List ℕ × ℕ). x.0) (c.string-item.is ∙ get_index c.args.strings.now c.loop-string.string-index k.0 c.string-item.result k.1) in
+    let same : c.signs.result.now ≡ k.0.0 = c.signs.ensures.value ∙ ap (λ (x : List ℕ × ℕ). x.0)
+    (c.string-item.is ∙ get_index c.args.strings.now c.loop-string.string-index k.0 c.string-item.result k.1) in
     subst (λ q. All (λ s. (1 ≤ s) × (s ≤ c.args.cells.now.signs)) q) (sym same) (c.requires.strings.sound c.loop-string.string-index k.0 k.1).known
 
 pub push_values-requires-clause-head : goal.push_values-requires-clause-head
 push_values-requires-clause-head c =
     let k = get_there c.args.strings.now c.loop-string.string-index c.loop-string-test.true in
-    let same : c.signs.result.now ≡ k.0.0 = c.signs.ensures.value ∙ ap (λ (x : List ℕ × ℕ). x.0) (c.string-item.is ∙ get_index c.args.strings.now c.loop-string.string-index k.0 c.string-item.result k.1) in
+    let same : c.signs.result.now ≡ k.0.0 = c.signs.ensures.value ∙ ap (λ (x : List ℕ × ℕ). x.0)
+    (c.string-item.is ∙ get_index c.args.strings.now c.loop-string.string-index k.0 c.string-item.result k.1) in
     let cell = (c.requires.strings.sound c.loop-string.string-index k.0 k.1).celled in
     let u = c.requires.trie.held.valued k.0.0 cell.0 cell.1 in
     let is : c.value_of-head.result ≡ u.0 = c.value_of-head.ensures u.0 (ap (λ q. find order q c.args.cells.now.values) same ∙ u.1) in

@@ -89,9 +89,11 @@ loop-s-preserved t c =
     record {
       small = c.next_sign-next.type_inv;
       to = λ q e.
-          to_step c.args.cells.now c.loop-s.cells c.prune_below.new.cells c.remove_blank.new.cells q c.loop-s.s c.next_sign-next.result (c.loop-s.invariant.to q e) (below q e) (c.remove_blank.ensures q (mid_at q e)) (c.next_sign-next.ensures q c.loop-s.s (there q e));
+          to_step c.args.cells.now c.loop-s.cells c.prune_below.new.cells c.remove_blank.new.cells q c.loop-s.s c.next_sign-next.result (c.loop-s.invariant.to q e)
+          (below q e) (c.remove_blank.ensures q (mid_at q e)) (c.next_sign-next.ensures q c.loop-s.s (there q e));
       goes = λ q e up.
-          next_goes c.args.cells.now c.loop-s.cells c.prune_below.new.cells c.remove_blank.new.cells q c.loop-s.s c.next_sign-next.result (c.loop-s.invariant.to q e) (below q e) (c.remove_blank.ensures q (mid_at q e)) (c.next_sign-next.ensures q c.loop-s.s (there q e)) up;
+          next_goes c.args.cells.now c.loop-s.cells c.prune_below.new.cells c.remove_blank.new.cells q c.loop-s.s c.next_sign-next.result
+          (c.loop-s.invariant.to q e) (below q e) (c.remove_blank.ensures q (mid_at q e)) (c.next_sign-next.ensures q c.loop-s.s (there q e)) up;
     }
 
 pub first_sign-s-requires : goal.first_sign-s-requires

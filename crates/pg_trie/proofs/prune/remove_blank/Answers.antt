@@ -8,7 +8,8 @@ use Rattle.pg_trie.proofs.prune.remove_blank.Goals.{else-number-eq0-via-then-num
 pub returns-then-child-eq0 : goal.returns-then-child-eq0
 returns-then-child-eq0 c q e =
     let same : c.requires.cell.0 ≡ q = c.requires.held.apart c.requires.cell.0 q c.args.parent c.requires.cell.1.0 e in
-    let at : cell_of c.args.cells.now.families (q ++ c.args.s ∷ []) ≡ Some c.args.cell = subst (λ p. cell_of c.args.cells.now.families (p ++ c.args.s ∷ []) ≡ Some c.args.cell) same c.requires.cell.1.1 in
+    let at : cell_of c.args.cells.now.families (q ++ c.args.s ∷ []) ≡ Some c.args.cell =
+    subst (λ p. cell_of c.args.cells.now.families (p ++ c.args.s ∷ []) ≡ Some c.args.cell) same c.requires.cell.1.1 in
     record {
       held = c.remove.ensures.kept;
       signs = ap (λ (h : ValuedFamilies ℕ). h.signs) (c.remove.ensures.held q e);
@@ -28,7 +29,8 @@ returns-then-child-eq0 c q e =
 pub returns-else-number-eq0 : goal.returns-else-number-eq0
 returns-else-number-eq0 c q e =
     let same : c.requires.cell.0 ≡ q = c.requires.held.apart c.requires.cell.0 q c.args.parent c.requires.cell.1.0 e in
-    let at : cell_of c.args.cells.now.families (q ++ c.args.s ∷ []) ≡ Some c.args.cell = subst (λ p. cell_of c.args.cells.now.families (p ++ c.args.s ∷ []) ≡ Some c.args.cell) same c.requires.cell.1.1 in
+    let at : cell_of c.args.cells.now.families (q ++ c.args.s ∷ []) ≡ Some c.args.cell =
+    subst (λ p. cell_of c.args.cells.now.families (p ++ c.args.s ∷ []) ≡ Some c.args.cell) same c.requires.cell.1.1 in
     record {
       held = c.requires.held;
       signs = refl;

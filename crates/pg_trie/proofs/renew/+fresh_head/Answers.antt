@@ -16,7 +16,8 @@ pub returns-then-value-lt-HOPELESS-clause-needed : goal.returns-then-value-lt-HO
 returns-then-value-lt-HOPELESS-clause-needed t c =
     on_value (AreNeeded c.args.fresh.now c.cons.new.self (values_in (list_of c.args.outputs.now c.args.head))) c.cons.result
     (λ h e.
-    needed_value c.args.fresh.now c.fresh_head.new.fresh c.cons.new.self c.in-Some.value c.in-Some.dot c.in_ok-rest.rest (list_of c.args.outputs.now c.in-Some.next) (list_of c.args.outputs.now c.args.head) c.in-Some.ensures.list
+    needed_value c.args.fresh.now c.fresh_head.new.fresh c.cons.new.self c.in-Some.value c.in-Some.dot c.in_ok-rest.rest (list_of c.args.outputs.now c.in-Some.next)
+    (list_of c.args.outputs.now c.args.head) c.in-Some.ensures.list
     (lt-ltb c.in-Some.value HOPELESS c.if-value-lt-HOPELESS.true) c.in_ok-rest.ensures.needed c.in_ok-rest.ensures.list c.cons.ensures.grows
     (λ i at. (c.cons.ensures.there i at).1)
     (λ lacks. (let added = c.cons.ensures.added lacks in rw e at added).1))

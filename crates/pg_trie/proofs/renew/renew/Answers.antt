@@ -26,7 +26,9 @@ loop-cell-preserved c = elim c.match-value_if_taken.branch [
   | in-Some w ↦
       let s = w.in-Some.ensures.some in
       rw w.cells-is
-      (renew_step c.args.cells.now c.loop-cell.cells w.set_value.new.self c.loop-cell.cell c.args.heads.now s.0 w.in-Some.head c.requires.held c.loop-cell.invariant s.1 s.2 w.set_value.ensures.kept (w.set_value.ensures.held s.0 s.1 ∙ ap (λ v. record c.loop-cell.cells { values = put order s.0 v c.loop-cell.cells.values }) (w.new.ensures ∙ ap (λ k. get_or c.args.heads.now k 0) w.number.ensures)))
+      (renew_step c.args.cells.now c.loop-cell.cells w.set_value.new.self c.loop-cell.cell c.args.heads.now s.0 w.in-Some.head c.requires.held c.loop-cell.invariant s.1 s.2 w.set_value.ensures.kept
+      (w.set_value.ensures.held s.0 s.1 ∙ ap (λ v. record c.loop-cell.cells { values = put order s.0 v c.loop-cell.cells.values })
+      (w.new.ensures ∙ ap (λ k. get_or c.args.heads.now k 0) w.number.ensures)))
   | in_default w ↦ rw w.cells-is (renew_skip c.args.cells.now c.loop-cell.cells c.loop-cell.cell c.args.heads.now c.loop-cell.invariant (w.in_default.ensures.none refl))
 ]
 

@@ -36,7 +36,8 @@ loop-s-preserved c =
       goes = λ up. (next.found up).1;
       puts = puts_next c.args.cells.now c.requires.held c.args.prefix.now c.loop-s.s c.next_sign-s.result c.args.strings.now.items c.push.new.self.items next
           (puts_one c.args.cells.now c.args.prefix.now c.loop-s.s c.args.strings.now.items c.loop-s.strings.items c.push.new.self.items
-          (subst (λ m. PutsBelow c.args.cells.now c.args.prefix.now m c.args.strings.now.items c.loop-s.strings.items) (bound_is c.loop-s.s (c.args.cells.now.signs + 1) (omega arith)) c.loop-s.invariant.puts)
+          (subst (λ m. PutsBelow c.args.cells.now c.args.prefix.now m c.args.strings.now.items c.loop-s.strings.items)
+          (bound_is c.loop-s.s (c.args.cells.now.signs + 1) (omega arith)) c.loop-s.invariant.puts)
           (is_string c.args.cells.now c.requires.held c.requires.short (c.args.prefix.now ++ c.loop-s.s ∷ []) c.in-Some.cell at)
           (c.in_ok-push.ensures.items ∙ ap (λ x. c.loop-s.strings.items ++ x ∷ []) c.longer.ensures));
     }

@@ -18,4 +18,5 @@ returns-then-is_empty c =
 pub returns : goal.returns
 returns c =
     let begins : position_or_len (λ b. not (is_separator b)) c.split_at.result.1.now ≡ 0 = rw c.split_at.ensures.back (begins_after c.args.rest.now _ c.separators_len.ensures) in
-    sym (items_after c.args.rest.now _ c.separators_len.ensures) ∙ ap items (sym c.split_at.ensures.back) ∙ rw (c.split_at-2.ensures.front, c.split_at-2.ensures.back) (items_first c.split_at.result.1.now _ (sym c.is_empty.ensures ∙ c.if-is_empty.false) c.item_len.ensures begins)
+    sym (items_after c.args.rest.now _ c.separators_len.ensures) ∙ ap items (sym c.split_at.ensures.back)
+    ∙ rw (c.split_at-2.ensures.front, c.split_at-2.ensures.back) (items_first c.split_at.result.1.now _ (sym c.is_empty.ensures ∙ c.if-is_empty.false) c.item_len.ensures begins)

@@ -26,4 +26,9 @@ returns-in-None-clause-line c =
 
 pub returns-in-None-clause-rest : goal.returns-in-None-clause-rest
 returns-in-None-clause-rest c =
-    rw (line_feed_nowhere c.args.rest.now c.in-None.ensures, take_rest c.args.rest.now (length c.args.rest.now), drop_all (length c.args.rest.now) c.args.rest.now (omega arith), drop_all (length c.args.rest.now + 1) c.args.rest.now (omega arith)) refl
+    rw (
+      line_feed_nowhere c.args.rest.now c.in-None.ensures,
+      take_rest c.args.rest.now (length c.args.rest.now),
+      drop_all (length c.args.rest.now) c.args.rest.now (omega arith),
+      drop_all (length c.args.rest.now + 1) c.args.rest.now (omega arith),
+    ) refl

@@ -11,5 +11,6 @@ invariant-levels l = record {
   place : l.items.place ≡ 3 + 5 * l.i;
   read : l.levels.items ≡ levels_of l.i (items l.fn.items.rest.now);
   ranges : All IsLevel l.levels.items;
-  left : refusal_from l.items.place (flat_map (λ (i : ℕ). level_demands (drop (5 * i) (items l.fn.items.rest.now))) (range_with_len l.i (l.count - l.i))) (items l.items.rest.now) ≡ refusal_from 3 (demands_of_levels l.count (items l.fn.items.rest.now)) (items l.fn.items.rest.now);
+  left : refusal_from l.items.place (flat_map (λ (i : ℕ). level_demands (drop (5 * i) (items l.fn.items.rest.now))) (range_with_len l.i (l.count - l.i))) (items l.items.rest.now)
+      ≡ refusal_from 3 (demands_of_levels l.count (items l.fn.items.rest.now)) (items l.fn.items.rest.now);
 }

@@ -22,8 +22,13 @@ pub returns-in_err-folds : goal.returns-in_err-folds
 returns-in_err-folds c =
     let words = c.args.words.now in
     let params = drop 7 words in
-    let parts = seven_words words (string_bytes c.dict-item.result) (string_bytes c.patterns-item.result) (string_bytes c.output-item.result) (string_bytes c.translate-item.result) c.as_str.result.now (string_bytes c.bad-item.result) (string_bytes c.missed-item.result) params c.in-len7-up.len_at_least (c.dict-item.result, c.dict-item.is, refl) (c.patterns-item.result, c.patterns-item.is, refl) (c.output-item.result, c.output-item.is, refl) (c.translate-item.result, c.translate-item.is, refl) (c.folds-item.result, c.folds-item.is, c.as_str.ensures.value) (c.bad-item.result, c.bad-item.is, refl) (c.missed-item.result, c.missed-item.is, refl) refl in
-    let none = no_folds (string_bytes c.dict-item.result) (string_bytes c.patterns-item.result) (string_bytes c.output-item.result) (string_bytes c.translate-item.result) c.as_str.result.now (string_bytes c.bad-item.result) (string_bytes c.missed-item.result) (words_of params) (sym c.in_err-folds.ensures.value) in
+    let parts = seven_words words (string_bytes c.dict-item.result) (string_bytes c.patterns-item.result) (string_bytes c.output-item.result)
+    (string_bytes c.translate-item.result) c.as_str.result.now (string_bytes c.bad-item.result) (string_bytes c.missed-item.result) params c.in-len7-up.len_at_least
+    (c.dict-item.result, c.dict-item.is, refl) (c.patterns-item.result, c.patterns-item.is, refl) (c.output-item.result, c.output-item.is, refl)
+    (c.translate-item.result, c.translate-item.is, refl) (c.folds-item.result, c.folds-item.is, c.as_str.ensures.value) (c.bad-item.result, c.bad-item.is, refl)
+    (c.missed-item.result, c.missed-item.is, refl) refl in
+    let none = no_folds (string_bytes c.dict-item.result) (string_bytes c.patterns-item.result) (string_bytes c.output-item.result)
+    (string_bytes c.translate-item.result) c.as_str.result.now (string_bytes c.bad-item.result) (string_bytes c.missed-item.result) (words_of params) (sym c.in_err-folds.ensures.value) in
     record {
       value = ap (option_map asked_by) c.from_residual.ensures ∙ sym none ∙ ap sweep_in (sym parts);
       within = rw c.from_residual.ensures tt;
@@ -33,8 +38,14 @@ pub returns-in_err-bad : goal.returns-in_err-bad
 returns-in_err-bad c =
     let words = c.args.words.now in
     let params = drop 7 words in
-    let parts = seven_words words (string_bytes c.dict-item.result) (string_bytes c.patterns-item.result) (string_bytes c.output-item.result) (string_bytes c.translate-item.result) c.as_str.result.now c.as_str-2.result.now (string_bytes c.missed-item.result) params c.in-len7-up.len_at_least (c.dict-item.result, c.dict-item.is, refl) (c.patterns-item.result, c.patterns-item.is, refl) (c.output-item.result, c.output-item.is, refl) (c.translate-item.result, c.translate-item.is, refl) (c.folds-item.result, c.folds-item.is, c.as_str.ensures.value) (c.bad-item.result, c.bad-item.is, c.as_str-2.ensures.value) (c.missed-item.result, c.missed-item.is, refl) refl in
-    let none = no_bad (string_bytes c.dict-item.result) (string_bytes c.patterns-item.result) (string_bytes c.output-item.result) (string_bytes c.translate-item.result) c.as_str.result.now c.as_str-2.result.now (string_bytes c.missed-item.result) (words_of params) c.in_ok-folds.folds (sym c.in_ok-folds.ensures.value) (sym c.in_err-bad.ensures.value) in
+    let parts = seven_words words (string_bytes c.dict-item.result) (string_bytes c.patterns-item.result) (string_bytes c.output-item.result)
+    (string_bytes c.translate-item.result) c.as_str.result.now c.as_str-2.result.now (string_bytes c.missed-item.result) params c.in-len7-up.len_at_least
+    (c.dict-item.result, c.dict-item.is, refl) (c.patterns-item.result, c.patterns-item.is, refl) (c.output-item.result, c.output-item.is, refl)
+    (c.translate-item.result, c.translate-item.is, refl) (c.folds-item.result, c.folds-item.is, c.as_str.ensures.value)
+    (c.bad-item.result, c.bad-item.is, c.as_str-2.ensures.value) (c.missed-item.result, c.missed-item.is, refl) refl in
+    let none = no_bad (string_bytes c.dict-item.result) (string_bytes c.patterns-item.result) (string_bytes c.output-item.result)
+    (string_bytes c.translate-item.result) c.as_str.result.now c.as_str-2.result.now (string_bytes c.missed-item.result) (words_of params) c.in_ok-folds.folds
+    (sym c.in_ok-folds.ensures.value) (sym c.in_err-bad.ensures.value) in
     record {
       value = ap (option_map asked_by) c.from_residual-in_err-bad.ensures ∙ sym none ∙ ap sweep_in (sym parts);
       within = rw c.from_residual-in_err-bad.ensures tt;
@@ -44,8 +55,14 @@ pub returns-in_err-missed : goal.returns-in_err-missed
 returns-in_err-missed c =
     let words = c.args.words.now in
     let params = drop 7 words in
-    let parts = seven_words words (string_bytes c.dict-item.result) (string_bytes c.patterns-item.result) (string_bytes c.output-item.result) (string_bytes c.translate-item.result) c.as_str.result.now c.as_str-2.result.now c.as_str-3.result.now params c.in-len7-up.len_at_least (c.dict-item.result, c.dict-item.is, refl) (c.patterns-item.result, c.patterns-item.is, refl) (c.output-item.result, c.output-item.is, refl) (c.translate-item.result, c.translate-item.is, refl) (c.folds-item.result, c.folds-item.is, c.as_str.ensures.value) (c.bad-item.result, c.bad-item.is, c.as_str-2.ensures.value) (c.missed-item.result, c.missed-item.is, c.as_str-3.ensures.value) refl in
-    let none = no_missed (string_bytes c.dict-item.result) (string_bytes c.patterns-item.result) (string_bytes c.output-item.result) (string_bytes c.translate-item.result) c.as_str.result.now c.as_str-2.result.now c.as_str-3.result.now (words_of params) c.in_ok-folds.folds c.in_ok-bad.bad (sym c.in_ok-folds.ensures.value) (sym c.in_ok-bad.ensures.value) (sym c.in_err-missed.ensures.value) in
+    let parts = seven_words words (string_bytes c.dict-item.result) (string_bytes c.patterns-item.result) (string_bytes c.output-item.result)
+    (string_bytes c.translate-item.result) c.as_str.result.now c.as_str-2.result.now c.as_str-3.result.now params c.in-len7-up.len_at_least
+    (c.dict-item.result, c.dict-item.is, refl) (c.patterns-item.result, c.patterns-item.is, refl) (c.output-item.result, c.output-item.is, refl)
+    (c.translate-item.result, c.translate-item.is, refl) (c.folds-item.result, c.folds-item.is, c.as_str.ensures.value)
+    (c.bad-item.result, c.bad-item.is, c.as_str-2.ensures.value) (c.missed-item.result, c.missed-item.is, c.as_str-3.ensures.value) refl in
+    let none = no_missed (string_bytes c.dict-item.result) (string_bytes c.patterns-item.result) (string_bytes c.output-item.result)
+    (string_bytes c.translate-item.result) c.as_str.result.now c.as_str-2.result.now c.as_str-3.result.now (words_of params) c.in_ok-folds.folds c.in_ok-bad.bad
+    (sym c.in_ok-folds.ensures.value) (sym c.in_ok-bad.ensures.value) (sym c.in_err-missed.ensures.value) in
     record {
       value = ap (option_map asked_by) c.from_residual-in_err-missed.ensures ∙ sym none ∙ ap sweep_in (sym parts);
       within = rw c.from_residual-in_err-missed.ensures tt;
@@ -64,11 +81,17 @@ returns c =
     let words = c.args.words.now in
     let params = take (length words - 7) (drop 7 words) in
     let texts = words_of params in
-    let parts = seven_words words c.as_str-dict.result.now c.as_str-patterns.result.now c.as_str-output.result.now c.as_str-translate.result.now c.as_str.result.now c.as_str-2.result.now c.as_str-3.result.now params c.in-len7-up.len_at_least (c.dict-item.result, c.dict-item.is, c.as_str-dict.ensures.value) (c.patterns-item.result, c.patterns-item.is, c.as_str-patterns.ensures.value) (c.output-item.result, c.output-item.is, c.as_str-output.ensures.value) (c.translate-item.result, c.translate-item.is, c.as_str-translate.ensures.value) (c.folds-item.result, c.folds-item.is, c.as_str.ensures.value) (c.bad-item.result, c.bad-item.is, c.as_str-2.ensures.value) (c.missed-item.result, c.missed-item.is, c.as_str-3.ensures.value) (take_all _ _ (omega (arith, length-drop 7 words))) in
+    let parts = seven_words words c.as_str-dict.result.now c.as_str-patterns.result.now c.as_str-output.result.now c.as_str-translate.result.now
+    c.as_str.result.now c.as_str-2.result.now c.as_str-3.result.now params c.in-len7-up.len_at_least (c.dict-item.result, c.dict-item.is, c.as_str-dict.ensures.value)
+    (c.patterns-item.result, c.patterns-item.is, c.as_str-patterns.ensures.value) (c.output-item.result, c.output-item.is, c.as_str-output.ensures.value)
+    (c.translate-item.result, c.translate-item.is, c.as_str-translate.ensures.value) (c.folds-item.result, c.folds-item.is, c.as_str.ensures.value)
+    (c.bad-item.result, c.bad-item.is, c.as_str-2.ensures.value) (c.missed-item.result, c.missed-item.is, c.as_str-3.ensures.value) (take_all _ _ (omega (arith, length-drop 7 words))) in
     let same : length texts ≡ length params = length-map params string_bytes in
     let some : (1 ≤ length params) × (length params ≤ SETS_MAX) = search rules in
     let count = is_count (length texts) (omega arith) (omega arith) in
-    let asked = all_within c.as_str-dict.result.now c.as_str-patterns.result.now c.as_str-output.result.now c.as_str-translate.result.now c.as_str.result.now c.as_str-2.result.now c.as_str-3.result.now texts c.in_ok-folds.folds c.in_ok-bad.bad c.in_ok-missed.missed (sym c.in_ok-folds.ensures.value) (sym c.in_ok-bad.ensures.value) (sym c.in_ok-missed.ensures.value) count in
+    let asked = all_within c.as_str-dict.result.now c.as_str-patterns.result.now c.as_str-output.result.now c.as_str-translate.result.now c.as_str.result.now
+    c.as_str-2.result.now c.as_str-3.result.now texts c.in_ok-folds.folds c.in_ok-bad.bad c.in_ok-missed.missed (sym c.in_ok-folds.ensures.value)
+    (sym c.in_ok-bad.ensures.value) (sym c.in_ok-missed.ensures.value) count in
     record {
       value = c.taken.ensures.value ∙ sym asked ∙ ap sweep_in (sym parts);
       within = c.taken.ensures.within;

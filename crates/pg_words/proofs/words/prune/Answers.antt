@@ -22,7 +22,9 @@ returns c =
     let o = c.as_str-output.result.now in
     let t = c.as_str-translate.result.now in
     let r = c.as_str-report.result.now in
-    let parts = five_words c.args.words.now d p o t r c.in-len5.len_at_least c.in-len5.len_below (c.dict-item.result, c.dict-item.is, c.as_str-dict.ensures.value) (c.patterns-item.result, c.patterns-item.is, c.as_str-patterns.ensures.value) (c.output-item.result, c.output-item.is, c.as_str-output.ensures.value) (c.translate-item.result, c.translate-item.is, c.as_str-translate.ensures.value) (c.report-item.result, c.report-item.is, c.as_str-report.ensures.value) in
+    let parts = five_words c.args.words.now d p o t r c.in-len5.len_at_least c.in-len5.len_below (c.dict-item.result, c.dict-item.is, c.as_str-dict.ensures.value)
+    (c.patterns-item.result, c.patterns-item.is, c.as_str-patterns.ensures.value) (c.output-item.result, c.output-item.is, c.as_str-output.ensures.value)
+    (c.translate-item.result, c.translate-item.is, c.as_str-translate.ensures.value) (c.report-item.result, c.report-item.is, c.as_str-report.ensures.value) in
     record {
       value = c.where_taken.ensures.value ∙ ap prune_in (sym parts);
       within = c.where_taken.ensures.within;

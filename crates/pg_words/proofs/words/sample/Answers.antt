@@ -7,16 +7,19 @@ use Rattle.pg_words.proofs.WordsAt.{two_words}
 use Rattle.pg_words.proofs.words.sample.Goals as goal
 
 -- what two words ask for, by their numbers
-by_numbers : (a b : List ℕ) (seed count : Option ℕ) → seed ≡ number_within DIGITS_MAX 0 SEED_MAX a → count ≡ number_within DIGITS_MAX 0 COUNT_MAX b → option_and_then (λ s. option_map (ToSample s) count) seed ≡ sample_in (a ∷ b ∷ [])
+by_numbers : (a b : List ℕ) (seed count : Option ℕ) → seed ≡ number_within DIGITS_MAX 0 SEED_MAX a → count ≡ number_within DIGITS_MAX 0 COUNT_MAX b
+    → option_and_then (λ s. option_map (ToSample s) count) seed ≡ sample_in (a ∷ b ∷ [])
 by_numbers a b seed count one two = λ i. option_and_then (λ s. option_map (ToSample s) (two i)) (one i)
 
 pub returns-in_err-count : goal.returns-in_err-count
 returns-in_err-count c =
     let a = c.as_str.result.now in
     let b = c.as_str-2.result.now in
-    let parts = two_words c.args.words.now a b c.in-len2.len_at_least c.in-len2.len_below (c.seed-item.result, c.seed-item.is, c.as_str.ensures.value) (c.count-item.result, c.count-item.is, c.as_str-2.ensures.value) in
+    let parts = two_words c.args.words.now a b c.in-len2.len_at_least c.in-len2.len_below (c.seed-item.result, c.seed-item.is, c.as_str.ensures.value)
+    (c.count-item.result, c.count-item.is, c.as_str-2.ensures.value) in
     record {
-      value = ap (option_map asked_by) c.from_residual-in_err-count.ensures ∙ by_numbers a b (Some c.in_ok-seed.seed) None c.in_ok-seed.ensures.value c.in_err-count.ensures.value ∙ ap sample_in (sym parts);
+      value = ap (option_map asked_by) c.from_residual-in_err-count.ensures ∙ by_numbers a b (Some c.in_ok-seed.seed) None c.in_ok-seed.ensures.value c.in_err-count.ensures.value
+          ∙ ap sample_in (sym parts);
       within = rw c.from_residual-in_err-count.ensures tt;
     }
 
@@ -24,7 +27,8 @@ pub returns : goal.returns
 returns c =
     let a = c.as_str.result.now in
     let b = c.as_str-2.result.now in
-    let parts = two_words c.args.words.now a b c.in-len2.len_at_least c.in-len2.len_below (c.seed-item.result, c.seed-item.is, c.as_str.ensures.value) (c.count-item.result, c.count-item.is, c.as_str-2.ensures.value) in
+    let parts = two_words c.args.words.now a b c.in-len2.len_at_least c.in-len2.len_below (c.seed-item.result, c.seed-item.is, c.as_str.ensures.value)
+    (c.count-item.result, c.count-item.is, c.as_str-2.ensures.value) in
     record {
       value = by_numbers a b (Some c.in_ok-seed.seed) (Some c.in_ok-count.count) c.in_ok-seed.ensures.value c.in_ok-count.ensures.value ∙ ap sample_in (sym parts);
       within = (c.in_ok-seed.ensures.within.1, c.in_ok-count.ensures.within.1);

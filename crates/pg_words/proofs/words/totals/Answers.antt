@@ -20,7 +20,8 @@ returns c =
     let d = c.as_str-dict.result.now in
     let t = c.as_str-translate.result.now in
     let e = c.as_str-table.result.now in
-    let parts = three_words c.args.words.now d t e c.in-len3.len_at_least c.in-len3.len_below (c.dict-item.result, c.dict-item.is, c.as_str-dict.ensures.value) (c.translate-item.result, c.translate-item.is, c.as_str-translate.ensures.value) (c.table-item.result, c.table-item.is, c.as_str-table.ensures.value) in
+    let parts = three_words c.args.words.now d t e c.in-len3.len_at_least c.in-len3.len_below (c.dict-item.result, c.dict-item.is, c.as_str-dict.ensures.value)
+    (c.translate-item.result, c.translate-item.is, c.as_str-translate.ensures.value) (c.table-item.result, c.table-item.is, c.as_str-table.ensures.value) in
     record {
       value = c.where_taken.ensures.value ∙ ap totals_in (sym parts);
       within = c.where_taken.ensures.within;

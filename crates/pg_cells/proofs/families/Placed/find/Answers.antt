@@ -9,7 +9,8 @@ use Rattle.pg_cells.proofs.families.Placed.find.Goals as goal
 
 pub overflow_add-cell : goal.overflow_add-cell
 overflow_add-cell g c =
-    let at : base_of c.self.inside.layout.0.families c.requires.base.0 ≡ Some c.args.base = subst (λ (h : ValuedFamilies (Member g.row.V.Denot)). base_of h.families c.requires.base.0 ≡ Some c.args.base) (sym c.self.view_is) c.requires.base.1 in
+    let at : base_of c.self.inside.layout.0.families c.requires.base.0 ≡ Some c.args.base =
+    subst (λ (h : ValuedFamilies (Member g.row.V.Denot)). base_of h.families c.requires.base.0 ≡ Some c.args.base) (sym c.self.view_is) c.requires.base.1 in
     let within = base_within c.self.inside.signs c.self.inside.store c.self.inside.layout.0 c.self.invariant.trie c.requires.base.0 c.args.base at in
     let small = c.self.invariant.row.small in
     let even = c.self.invariant.row.bases in

@@ -38,8 +38,10 @@ invariant_of-result-2 g c =
 pub returns-clause-held : goal.returns-clause-held
 returns-clause-held g c =
     let trie = root_trie c.args.blank c.args.signs c.take_root.new.store c.set_base.new.self c.requires.0 c.take_root.ensures.root_to c.set_base.ensures.sets in
-    let all : (d : Kept c.args.signs c.set_base.new.self) → ◌≡◌ {A = ValuedFamilies (Member g.row.V.Denot)} (record { signs = c.args.signs; families = d.0.families; values = d.0.values }) (root_held c.args.signs c.args.blank) =
-    λ d. ap (λ (t : Trie (Member g.row.V.Denot)). record { signs = c.args.signs; families = t.families; values = t.values }) (kept_is_only (member_code g.row.V.coded) c.args.signs c.set_base.new.self d _ trie) in
+    let all : (d : Kept c.args.signs c.set_base.new.self) → ◌≡◌ {A = ValuedFamilies (Member g.row.V.Denot)} (record { signs = c.args.signs; families = d.0.families; values = d.0.values })
+    (root_held c.args.signs c.args.blank) =
+    λ d. ap (λ (t : Trie (Member g.row.V.Denot)). record { signs = c.args.signs; families = t.families; values = t.values })
+    (kept_is_only (member_code g.row.V.coded) c.args.signs c.set_base.new.self d _ trie) in
     search all
 
 pub returns-clause-kept : goal.returns-clause-kept

@@ -26,21 +26,34 @@ pub take_root-requires-clause-length : goal.take_root-requires-clause-length
 take_root-requires-clause-length g c = let size = c.clear.ensures.least in omega arith
 
 pub invariant_of-self-inside : goal.invariant_of-self-inside
-invariant_of-self-inside g c =
-    ((record { families = root c.self.inside.signs; values = map (λ x. (x ∷ [], c.args.blank)) (range_with_len 1 c.self.inside.signs) }, ∣ root_trie c.args.blank c.self.inside.signs c.take_root.new.store c.set_base.new.self c.self.invariant.some c.take_root.ensures.root_to c.set_base.ensures.sets ∣₁), tt)
+invariant_of-self-inside g c = (
+  (
+    record { families = root c.self.inside.signs; values = map (λ x. (x ∷ [], c.args.blank)) (range_with_len 1 c.self.inside.signs) },
+    ∣ root_trie c.args.blank c.self.inside.signs c.take_root.new.store c.set_base.new.self c.self.invariant.some c.take_root.ensures.root_to c.set_base.ensures.sets ∣₁,
+  ),
+  tt,
+)
 
 pub invariant_of-self : goal.invariant_of-self
 invariant_of-self g c =
     let trie = root_trie c.args.blank c.self.inside.signs c.take_root.new.store c.set_base.new.self c.self.invariant.some c.take_root.ensures.root_to c.set_base.ensures.sets in
     let all : (d : Kept c.self.inside.signs c.set_base.new.self) → AreKept c.self.inside.signs c.set_base.new.self d.0 =
-    λ d. record { row = c.set_base.ensures.row; trie = held_is_kept (member_code g.row.V.coded) c.self.inside.signs c.set_base.new.self d _ trie; some = c.self.invariant.some; few = c.self.invariant.few } in
+    λ d. record {
+      row = c.set_base.ensures.row;
+      trie = held_is_kept (member_code g.row.V.coded) c.self.inside.signs c.set_base.new.self d _ trie;
+      some =
+          c.self.invariant.some;
+      few = c.self.invariant.few;
+    } in
     search all
 
 pub returns-clause-held : goal.returns-clause-held
 returns-clause-held g c =
     let trie = root_trie c.args.blank c.self.inside.signs c.take_root.new.store c.set_base.new.self c.self.invariant.some c.take_root.ensures.root_to c.set_base.ensures.sets in
-    let all : (d : Kept c.self.inside.signs c.set_base.new.self) → ◌≡◌ {A = ValuedFamilies (Member g.row.V.Denot)} (record { signs = c.self.inside.signs; families = d.0.families; values = d.0.values }) (root_held c.args.self.now.signs c.args.blank) =
-    λ d. ap (λ (t : Trie (Member g.row.V.Denot)). record { signs = c.self.inside.signs; families = t.families; values = t.values }) (kept_is_only (member_code g.row.V.coded) c.self.inside.signs c.set_base.new.self d _ trie)
+    let all : (d : Kept c.self.inside.signs c.set_base.new.self) → ◌≡◌ {A = ValuedFamilies (Member g.row.V.Denot)}
+    (record { signs = c.self.inside.signs; families = d.0.families; values = d.0.values }) (root_held c.args.self.now.signs c.args.blank) =
+    λ d. ap (λ (t : Trie (Member g.row.V.Denot)). record { signs = c.self.inside.signs; families = t.families; values = t.values })
+    (kept_is_only (member_code g.row.V.coded) c.self.inside.signs c.set_base.new.self d _ trie)
     ∙ ap (λ (h : ValuedFamilies (Member g.row.V.Denot)). root_held h.signs c.args.blank) c.self.view_is in
     search all
 

@@ -9,7 +9,8 @@ use Rattle.pg_cells.proofs.families.Placed.value_if_taken.Goals as goal
 
 pub returns-then-sign-eq0-clause-none : goal.returns-then-sign-eq0-clause-none
 returns-then-sign-eq0-clause-none g c none q e =
-    cell_taken c.self.inside.signs c.self.inside.store c.self.inside.layout.0 c.self.invariant.trie q c.args.cell (subst (λ (h : ValuedFamilies (Member g.row.V.Denot)). cell_of h.families q ≡ Some c.args.cell) (sym c.self.view_is) e)
+    cell_taken c.self.inside.signs c.self.inside.store c.self.inside.layout.0 c.self.invariant.trie q c.args.cell
+    (subst (λ (h : ValuedFamilies (Member g.row.V.Denot)). cell_of h.families q ≡ Some c.args.cell) (sym c.self.view_is) e)
     (sym c.sign.ensures ∙ c.if-sign-eq0.true)
 
 pub returns-else-sign-eq0-clause-some : goal.returns-else-sign-eq0-clause-some

@@ -14,25 +14,37 @@ give_up-requires-clause-taken g c x slot at = let stands = c.requires.can.stand 
 
 pub least_base-base-requires-clause-within : goal.least_base-base-requires-clause-within
 least_base-base-requires-clause-within g c =
-    let within = room_within c.args.signs c.args.store.now c.give_up.new.store c.drop_base.new.store c.args.was c.args.slots.now c.args.slot c.args.parent c.requires.can c.give_up.ensures c.drop_base.ensures c.top-top.result c.top-top.ensures c.max.result c.max.ensures in
+    let within = room_within c.args.signs c.args.store.now c.give_up.new.store c.drop_base.new.store c.args.was c.args.slots.now c.args.slot c.args.parent
+    c.requires.can c.give_up.ensures c.drop_base.ensures c.top-top.result c.top-top.ensures c.max.result c.max.ensures in
     let le : c.args.slot.sign ≤ c.args.signs = c.requires.can.sign.1 in
     omega arith
 
 pub least_base-base-requires-clause-wide : goal.least_base-base-requires-clause-wide
-least_base-base-requires-clause-wide g c = slots_within c.args.signs c.args.store.now c.give_up.new.store c.drop_base.new.store c.args.was c.args.slots.now c.args.slot c.args.parent c.requires.can c.give_up.ensures c.drop_base.ensures c.top-top.result c.top-top.ensures c.max.result c.max.ensures
+least_base-base-requires-clause-wide g c = slots_within c.args.signs c.args.store.now c.give_up.new.store c.drop_base.new.store c.args.was c.args.slots.now
+    c.args.slot c.args.parent c.requires.can c.give_up.ensures c.drop_base.ensures c.top-top.result c.top-top.ensures c.max.result c.max.ensures
 
 pub least_base-base-requires-clause-room : goal.least_base-base-requires-clause-room
-least_base-base-requires-clause-room g c = room_fits c.args.signs c.args.store.now c.give_up.new.store c.drop_base.new.store c.args.was c.args.slots.now c.args.slot c.args.parent c.requires.can c.give_up.ensures c.drop_base.ensures c.top-top.result c.top-top.ensures c.max.result c.max.ensures
+least_base-base-requires-clause-room g c = room_fits c.args.signs c.args.store.now c.give_up.new.store c.drop_base.new.store c.args.was c.args.slots.now
+    c.args.slot c.args.parent c.requires.can c.give_up.ensures c.drop_base.ensures c.top-top.result c.top-top.ensures c.max.result c.max.ensures
 
 pub put-requires-clause-free : goal.put-requires-clause-free
-put-requires-clause-free g c = rw (c.least_base-base.ensures.same) (can_put c.args.signs c.args.store.now c.give_up.new.store c.drop_base.new.store c.args.was c.args.slots.now c.args.slot c.args.parent c.requires.can c.give_up.ensures c.drop_base.ensures c.top-top.result c.top-top.ensures c.max.result c.max.ensures c.least_base-base.result c.least_base-base.ensures.room c.least_base-base.ensures.least.meets)
+put-requires-clause-free g c = rw (c.least_base-base.ensures.same) (can_put c.args.signs c.args.store.now c.give_up.new.store c.drop_base.new.store
+    c.args.was c.args.slots.now c.args.slot c.args.parent c.requires.can c.give_up.ensures c.drop_base.ensures c.top-top.result c.top-top.ensures
+    c.max.result c.max.ensures c.least_base-base.result c.least_base-base.ensures.room c.least_base-base.ensures.least.meets)
 
 pub take-requires-clause-free : goal.take-requires-clause-free
-take-requires-clause-free g c = can_take c.args.signs c.args.store.now c.give_up.new.store c.drop_base.new.store c.args.was c.args.slots.now c.args.slot c.args.parent c.requires.can c.give_up.ensures c.drop_base.ensures c.top-top.result c.top-top.ensures c.max.result c.max.ensures c.least_base-base.result c.least_base-base.ensures.room c.least_base-base.ensures.least.meets c.put.new.store (subst (λ r. Puts r c.put.new.store c.least_base-base.result c.args.slots.now) c.least_base-base.ensures.same c.put.ensures)
+take-requires-clause-free g c = can_take c.args.signs c.args.store.now c.give_up.new.store c.drop_base.new.store c.args.was c.args.slots.now c.args.slot
+    c.args.parent c.requires.can c.give_up.ensures c.drop_base.ensures c.top-top.result c.top-top.ensures c.max.result c.max.ensures c.least_base-base.result
+    c.least_base-base.ensures.room c.least_base-base.ensures.least.meets c.put.new.store
+    (subst (λ r. Puts r c.put.new.store c.least_base-base.result c.args.slots.now) c.least_base-base.ensures.same c.put.ensures)
 
 pub set_child-requires-clause-taken : goal.set_child-requires-clause-taken
 set_child-requires-clause-taken g c =
-    rw (c.set_sought.ensures) (parent_stays c.args.signs c.args.store.now c.give_up.new.store c.drop_base.new.store c.args.was c.args.slots.now c.args.slot c.args.parent c.requires.can c.give_up.ensures c.drop_base.ensures c.top-top.result c.top-top.ensures c.max.result c.max.ensures c.least_base-base.result c.least_base-base.ensures.room c.least_base-base.ensures.least.meets c.put.new.store (subst (λ r. Puts r c.put.new.store c.least_base-base.result c.args.slots.now) c.least_base-base.ensures.same c.put.ensures) c.take.new.self c.set_base.new.self c.take.ensures.takes c.set_base.ensures.sets)
+    rw (c.set_sought.ensures) (parent_stays c.args.signs c.args.store.now c.give_up.new.store c.drop_base.new.store c.args.was c.args.slots.now c.args.slot
+    c.args.parent c.requires.can c.give_up.ensures c.drop_base.ensures c.top-top.result c.top-top.ensures c.max.result c.max.ensures c.least_base-base.result
+    c.least_base-base.ensures.room c.least_base-base.ensures.least.meets c.put.new.store
+    (subst (λ r. Puts r c.put.new.store c.least_base-base.result c.args.slots.now) c.least_base-base.ensures.same c.put.ensures) c.take.new.self
+    c.set_base.new.self c.take.ensures.takes c.set_base.ensures.sets)
 
 pub least_base-base-requires-clause-tried : goal.least_base-base-requires-clause-tried
 least_base-base-requires-clause-tried g c k low lt =
@@ -45,7 +57,8 @@ set_sought-requires g c =
     blocked_after c.args.signs c.args.store.now c.give_up.new.store c.drop_base.new.store c.args.was c.args.slots.now c.args.slot c.args.parent c.requires.can c.give_up.ensures c.drop_base.ensures
     c.top-top.result c.top-top.ensures c.least_base-base.result c.lowest_base-low.result (let le = c.least_base-base.ensures.room in let is = c.max.ensures in omega arith)
     (let from = c.least_base-base.ensures.least.from in let up = c.lowest_base-low.ensures.positive in omega arith) c.least_base-base.ensures.least
-    c.put.new.store c.take.new.self c.set_base.new.self (subst (λ r. Puts r c.put.new.store c.least_base-base.result c.args.slots.now) c.least_base-base.ensures.same c.put.ensures) c.take.ensures.takes c.set_base.ensures.sets
+    c.put.new.store c.take.new.self c.set_base.new.self (subst (λ r. Puts r c.put.new.store c.least_base-base.result c.args.slots.now) c.least_base-base.ensures.same c.put.ensures)
+    c.take.ensures.takes c.set_base.ensures.sets
 
 pub give_up-requires-clause-distinct : goal.give_up-requires-clause-distinct
 give_up-requires-clause-distinct g c = c.requires.can.distinct
@@ -82,7 +95,8 @@ returns-clause-moved g c = record {
   drops = c.drop_base.ensures;
   top = c.top-top.result;
   is_top = c.top-top.ensures;
-  least = subst (λ low. IsLeast (fits_row c.drop_base.new.store (c.args.slot.sign ∷ signs_of c.args.slots.now)) low c.least_base-base.result) c.lowest_base-low.ensures.is c.least_base-base.ensures.least;
+  least = subst (λ low. IsLeast (fits_row c.drop_base.new.store (c.args.slot.sign ∷ signs_of c.args.slots.now)) low c.least_base-base.result)
+      c.lowest_base-low.ensures.is c.least_base-base.ensures.least;
   near = let room = c.least_base-base.ensures.room in let is = c.max.ensures in omega arith;
   puts = subst (λ r. Puts r c.put.new.store c.least_base-base.result c.args.slots.now) c.least_base-base.ensures.same c.put.ensures;
   takes = c.take.ensures.takes;
@@ -92,15 +106,18 @@ returns-clause-moved g c = record {
 
 pub put-requires-clause-base : goal.put-requires-clause-base
 put-requires-clause-base g c =
-    let size = dropped_size c.args.signs c.args.store.now c.give_up.new.store c.drop_base.new.store c.args.was c.args.slots.now c.args.slot c.args.parent c.requires.can c.give_up.ensures c.drop_base.ensures in
-    let within = room_within c.args.signs c.args.store.now c.give_up.new.store c.drop_base.new.store c.args.was c.args.slots.now c.args.slot c.args.parent c.requires.can c.give_up.ensures c.drop_base.ensures c.top-top.result c.top-top.ensures c.max.result c.max.ensures in
+    let size = dropped_size c.args.signs c.args.store.now c.give_up.new.store c.drop_base.new.store c.args.was c.args.slots.now c.args.slot c.args.parent
+    c.requires.can c.give_up.ensures c.drop_base.ensures in
+    let within = room_within c.args.signs c.args.store.now c.give_up.new.store c.drop_base.new.store c.args.was c.args.slots.now c.args.slot c.args.parent
+    c.requires.can c.give_up.ensures c.drop_base.ensures c.top-top.result c.top-top.ensures c.max.result c.max.ensures in
     let room = c.least_base-base.ensures.room in
     let small = c.requires.row.small in
     omega arith
 
 pub take-requires-clause-child : goal.take-requires-clause-child
 take-requires-clause-child g c =
-    let within = room_within c.args.signs c.args.store.now c.give_up.new.store c.drop_base.new.store c.args.was c.args.slots.now c.args.slot c.args.parent c.requires.can c.give_up.ensures c.drop_base.ensures c.top-top.result c.top-top.ensures c.max.result c.max.ensures in
+    let within = room_within c.args.signs c.args.store.now c.give_up.new.store c.drop_base.new.store c.args.was c.args.slots.now c.args.slot c.args.parent
+    c.requires.can c.give_up.ensures c.drop_base.ensures c.top-top.result c.top-top.ensures c.max.result c.max.ensures in
     let same = ap (λ (r : Row (Member g.row.V.Denot)). length r.signs) c.least_base-base.ensures.same in
     let child = c.requires.can.child in
     let put = c.put.ensures.others.size in
@@ -108,7 +125,8 @@ take-requires-clause-child g c =
 
 pub set_base-requires : goal.set_base-requires
 set_base-requires g c =
-    let within = room_within c.args.signs c.args.store.now c.give_up.new.store c.drop_base.new.store c.args.was c.args.slots.now c.args.slot c.args.parent c.requires.can c.give_up.ensures c.drop_base.ensures c.top-top.result c.top-top.ensures c.max.result c.max.ensures in
+    let within = room_within c.args.signs c.args.store.now c.give_up.new.store c.drop_base.new.store c.args.was c.args.slots.now c.args.slot c.args.parent
+    c.requires.can c.give_up.ensures c.drop_base.ensures c.top-top.result c.top-top.ensures c.max.result c.max.ensures in
     let same = ap (λ (r : Row (Member g.row.V.Denot)). length r.signs) c.least_base-base.ensures.same in
     let room = c.least_base-base.ensures.room in
     let put = c.put.ensures.others.size in
@@ -117,7 +135,8 @@ set_base-requires g c =
 
 pub set_child-requires-clause-child : goal.set_child-requires-clause-child
 set_child-requires-clause-child g c =
-    let within = room_within c.args.signs c.args.store.now c.give_up.new.store c.drop_base.new.store c.args.was c.args.slots.now c.args.slot c.args.parent c.requires.can c.give_up.ensures c.drop_base.ensures c.top-top.result c.top-top.ensures c.max.result c.max.ensures in
+    let within = room_within c.args.signs c.args.store.now c.give_up.new.store c.drop_base.new.store c.args.was c.args.slots.now c.args.slot c.args.parent
+    c.requires.can c.give_up.ensures c.drop_base.ensures c.top-top.result c.top-top.ensures c.max.result c.max.ensures in
     let same = ap (λ (r : Row (Member g.row.V.Denot)). length r.signs) c.least_base-base.ensures.same in
     let room = c.least_base-base.ensures.room in
     let put = c.put.ensures.others.size in
@@ -134,8 +153,10 @@ overflow_cast-slot g c = let le = c.requires.can.sign.1 in let few = c.requires.
 
 pub overflow_add-base : goal.overflow_add-base
 overflow_add-base g c =
-    let within = room_within c.args.signs c.args.store.now c.give_up.new.store c.drop_base.new.store c.args.was c.args.slots.now c.args.slot c.args.parent c.requires.can c.give_up.ensures c.drop_base.ensures c.top-top.result c.top-top.ensures c.max.result c.max.ensures in
-    let size = dropped_size c.args.signs c.args.store.now c.give_up.new.store c.drop_base.new.store c.args.was c.args.slots.now c.args.slot c.args.parent c.requires.can c.give_up.ensures c.drop_base.ensures in
+    let within = room_within c.args.signs c.args.store.now c.give_up.new.store c.drop_base.new.store c.args.was c.args.slots.now c.args.slot c.args.parent
+    c.requires.can c.give_up.ensures c.drop_base.ensures c.top-top.result c.top-top.ensures c.max.result c.max.ensures in
+    let size = dropped_size c.args.signs c.args.store.now c.give_up.new.store c.drop_base.new.store c.args.was c.args.slots.now c.args.slot c.args.parent
+    c.requires.can c.give_up.ensures c.drop_base.ensures in
     let room = c.least_base-base.ensures.room in
     let le = c.requires.can.sign.1 in
     let few = c.requires.signs in

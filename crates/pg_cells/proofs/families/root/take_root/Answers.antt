@@ -16,7 +16,8 @@ pub loop-sign-init : goal.loop-sign-init
 loop-sign-init g c = record { root_to = c.requires.empty; size = refl }
 
 pub take-requires-clause-free : goal.take-requires-clause-free
-take-requires-clause-free g c = let size = c.loop-sign.invariant.size in let long = c.requires.length in free_here c.args.blank c.loop-sign.sign c.loop-sign.store c.loop-sign.invariant.root_to (omega arith)
+take-requires-clause-free g c = let size = c.loop-sign.invariant.size in let long = c.requires.length in
+    free_here c.args.blank c.loop-sign.sign c.loop-sign.store c.loop-sign.invariant.root_to (omega arith)
 
 pub take-requires-clause-sign : goal.take-requires-clause-sign
 take-requires-clause-sign g c z = omega arith

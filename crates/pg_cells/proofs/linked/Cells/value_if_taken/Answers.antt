@@ -11,5 +11,6 @@ returns-clause-some g c =
     let there = c.in_ok-member.ensures.some in (
       there.0,
       subst (λ (h : ValuedFamilies g.row.V.Denot). cell_of h.families there.0 ≡ Some c.args.cell) c.self.view_is there.1,
-      subst (λ (h : ValuedFamilies g.row.V.Denot). find order there.0 h.values ≡ Some c.in_ok-member.member.value) c.self.view_is (found_plain there.0 c.in_ok-member.member c.self.inside.placed.values there.2),
+      subst (λ (h : ValuedFamilies g.row.V.Denot). find order there.0 h.values ≡ Some c.in_ok-member.member.value) c.self.view_is
+          (found_plain there.0 c.in_ok-member.member c.self.inside.placed.values there.2),
     )

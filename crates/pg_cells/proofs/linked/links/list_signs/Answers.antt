@@ -46,4 +46,10 @@ pub sign_after-next-requires : goal.sign_after-next-requires
 sign_after-next-requires g c = (omega arith, (c.requires.links, (c.requires.parent.0, (c.requires.parent.1.0, c.requires.parent.1.1, inl refl))))
 
 pub sign_after-next-requires-in-loop-next : goal.sign_after-next-requires-in-loop-next
-sign_after-next-requires-in-loop-next g c = (omega arith, (c.requires.links, (c.requires.parent.0, (c.requires.parent.1.0, c.requires.parent.1.1, inr ((c.loop-next.invariant.next c.requires.parent.0 c.requires.parent.1.0).found (omega arith)).1))))
+sign_after-next-requires-in-loop-next g c = (
+  omega arith,
+  (
+    c.requires.links,
+    (c.requires.parent.0, (c.requires.parent.1.0, c.requires.parent.1.1, inr ((c.loop-next.invariant.next c.requires.parent.0 c.requires.parent.1.0).found (omega arith)).1)),
+  ),
+)

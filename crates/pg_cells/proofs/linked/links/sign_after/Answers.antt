@@ -10,7 +10,8 @@ returns-then-base-eq0 g c q e =
     let h = c.args.cells.now in
     elim c.requires.parent.1.2 [
       | inl z ↦ absurd (c.if-s-eq0.false z)
-      | inr there ↦ absurd (both_ways (goes_on h.values c.requires.parent.0 c.args.s) (none_goes_on h c.requires.links.held c.requires.parent.0 c.args.base c.requires.parent.1.1 c.if-base-eq0.true c.args.s) there)
+      | inr there ↦ absurd (both_ways (goes_on h.values c.requires.parent.0 c.args.s)
+          (none_goes_on h c.requires.links.held c.requires.parent.0 c.args.base c.requires.parent.1.1 c.if-base-eq0.true c.args.s) there)
     ]
 
 pub returns-in-Some : goal.returns-in-Some
@@ -20,7 +21,8 @@ returns-in-Some g c q e =
     let has = some_base h.families c.requires.parent.0 c.args.base c.requires.parent.1.1 c.if-base-eq0.false in
     let at : cell_of h.families (c.requires.parent.0 ++ c.args.s ∷ []) ≡ Some c.in-Some.cell = sym (c.in-Some.ensures.cell c.requires.parent.0 has) in
     subst (λ p. IsNextSign h.values p c.args.s c.value-in-Some.result.next) same
-    (c.requires.links.next c.requires.parent.0 c.args.s c.value-in-Some.result (some_string h.families c.requires.parent.0 c.args.parent c.requires.parent.1.0) (c.value-in-Some.ensures (c.requires.parent.0 ++ c.args.s ∷ []) at))
+    (c.requires.links.next c.requires.parent.0 c.args.s c.value-in-Some.result (some_string h.families c.requires.parent.0 c.args.parent c.requires.parent.1.0)
+    (c.value-in-Some.ensures (c.requires.parent.0 ++ c.args.s ∷ []) at))
 
 pub returns-in-None : goal.returns-in-None
 returns-in-None g c q e =

@@ -45,7 +45,8 @@ returns-then-low-below g c q e =
     record {
       less = omega arith;
       there = inr (c.sign_down-below.ensures.there q told c.if-low-below.true);
-      most = below_most (goes_on c.args.cells.now.values q) c.sign_down-below.result c.args.s (none_down (goes_on c.args.cells.now.values q) c.loop-next.below c.sign_down-below.result c.args.s (c.loop-next.invariant.free q e) (c.sign_down-below.ensures.most q told));
+      most = below_most (goes_on c.args.cells.now.values q) c.sign_down-below.result c.args.s
+          (none_down (goes_on c.args.cells.now.values q) c.loop-next.below c.sign_down-below.result c.args.s (c.loop-next.invariant.free q e) (c.sign_down-below.ensures.most q told));
     }
 
 pub returns-after-loop-next : goal.returns-after-loop-next
@@ -65,7 +66,14 @@ pub overflow_sub-below : goal.overflow_sub-below
 overflow_sub-below g c = c.requires.sign.0
 
 pub sign_down-below-requires : goal.sign_down-below-requires
-sign_down-below-requires g c = let sub = c.saturating_sub-low.ensures in let under = c.loop-next.invariant.under in let high = c.requires.sign.1 in (omega arith, (c.requires.links.held, ((c.requires.parent.0, c.requires.parent.1.1), (omega arith, omega arith))))
+sign_down-below-requires g c = let sub = c.saturating_sub-low.ensures in let under = c.loop-next.invariant.under in let high = c.requires.sign.1 in
+    (omega arith, (c.requires.links.held, ((c.requires.parent.0, c.requires.parent.1.1), (omega arith, omega arith))))
 
 pub sign_after-next-requires-in-loop-next : goal.sign_after-next-requires-in-loop-next
-sign_after-next-requires-in-loop-next g c = (omega arith, (c.requires.links, (c.requires.parent.0, (c.requires.parent.1.0, c.requires.parent.1.1, inr ((c.loop-next.invariant.next c.requires.parent.0 c.requires.parent.1.0).0.found (omega arith)).1))))
+sign_after-next-requires-in-loop-next g c = (
+  omega arith,
+  (
+    c.requires.links,
+    (c.requires.parent.0, (c.requires.parent.1.0, c.requires.parent.1.1, inr ((c.loop-next.invariant.next c.requires.parent.0 c.requires.parent.1.0).0.found (omega arith)).1)),
+  ),
+)

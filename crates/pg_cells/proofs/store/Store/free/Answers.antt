@@ -38,7 +38,11 @@ invariant_of-self g c =
     let back = given_back c.free_cell.new.cells c.self.inside.cells.items c.self.inside.cells.len size in
     let seen : c.as_slice.result.now ≡ c.free_cell.new.cells = c.as_slice.ensures.value ∙ back in
     let taken : sign_at (row_of c.self.inside.cells.items) c.args.cell ≢ 0 = λ z. c.requires.taken (subst (λ r. sign_at r c.args.cell ≡ 0) c.self.view_is z) in
-    let within : c.args.cell < length c.self.inside.cells.items = omega (arith, taken_within (row_of c.self.inside.cells.items) c.args.cell taken, length-map c.self.inside.cells.items (λ x. x.sign)) in
+    let within : c.args.cell < length c.self.inside.cells.items = omega (
+      arith,
+      taken_within (row_of c.self.inside.cells.items) c.args.cell taken,
+      length-map c.self.inside.cells.items (λ x. x.sign),
+    ) in
     let r = c.taken_up_to-self-inside.result in
     let top = c.taken_up_to-self-inside.ensures in
     rw back
@@ -48,7 +52,8 @@ invariant_of-self g c =
           top.below (subst (λ cells. 0 < r → sign_at (row_of cells) r ≢ 0) seen top.used)
           (subst (λ cells. (k : ℕ) → k ≤ c.self.inside.top → sign_at (row_of cells) k ≢ 0 → k ≤ r) seen top.most);
       few = c.self.invariant.few;
-      bounds = bounds_free (row_of c.self.inside.cells.items) (row_of c.free_cell.new.cells) c.self.inside.lows.items c.self.inside.freed c.self.inside.dropped c.self.invariant.bounds c.args.cell _ (omega arith) (omega arith)
+      bounds = bounds_free (row_of c.self.inside.cells.items) (row_of c.free_cell.new.cells) c.self.inside.lows.items c.self.inside.freed c.self.inside.dropped c.self.invariant.bounds c.args.cell _
+          (omega arith) (omega arith)
           (subst (λ r. Frees (row_of c.self.inside.cells.items) r c.args.cell) (sym (c.free_cell.ensures.row ∙ ap (λ cells. with_free (row_of cells) c.args.cell) c.as_mut_slice.ensures.value))
           (row_frees c.self.inside.cells.items c.args.cell taken));
       blocked = blocked_none (row_of c.free_cell.new.cells) 0 c.self.inside.sought (omega arith);
@@ -62,17 +67,21 @@ overflow_sub-self g c =
 pub returns-clause-frees : goal.returns-clause-frees
 returns-clause-frees g c =
     let size : length c.free_cell.new.cells ≡ c.self.inside.cells.len = omega arith in
-    let left : row_of (take c.self.inside.cells.len (c.free_cell.new.cells ++ drop (length c.free_cell.new.cells) c.self.inside.cells.items)) ≡ with_free (row_of c.self.inside.cells.items) c.args.cell =
-    ap row_of (given_back c.free_cell.new.cells c.self.inside.cells.items c.self.inside.cells.len size) ∙ c.free_cell.ensures.row ∙ ap (λ cells. with_free (row_of cells) c.args.cell) c.as_mut_slice.ensures.value in
+    let left : row_of (take c.self.inside.cells.len (c.free_cell.new.cells ++ drop (length c.free_cell.new.cells) c.self.inside.cells.items))
+    ≡ with_free (row_of c.self.inside.cells.items) c.args.cell =
+    ap row_of (given_back c.free_cell.new.cells c.self.inside.cells.items c.self.inside.cells.len size) ∙ c.free_cell.ensures.row
+    ∙ ap (λ cells. with_free (row_of cells) c.args.cell) c.as_mut_slice.ensures.value in
     subst (λ r. Frees r (row_of (take c.self.inside.cells.len (c.free_cell.new.cells ++ drop (length c.free_cell.new.cells) c.self.inside.cells.items))) c.args.cell) c.self.view_is
-    (subst (λ r. Frees (row_of c.self.inside.cells.items) r c.args.cell) (sym left) (row_frees c.self.inside.cells.items c.args.cell (λ z. c.requires.taken (subst (λ r. sign_at r c.args.cell ≡ 0) c.self.view_is z))))
+    (subst (λ r. Frees (row_of c.self.inside.cells.items) r c.args.cell) (sym left)
+    (row_frees c.self.inside.cells.items c.args.cell (λ z. c.requires.taken (subst (λ r. sign_at r c.args.cell ≡ 0) c.self.view_is z))))
 
 pub returns-clause-row : goal.returns-clause-row
 returns-clause-row g c =
     let size : length c.free_cell.new.cells ≡ c.self.inside.cells.len = omega arith in
     let same : length c.free_cell.new.cells ≡ length c.self.inside.cells.items = omega arith in
     let small = c.self.invariant.kept.small in
-    subst (λ (cells : List (Cell g.row.V.Denot)). IsRow (row_of cells)) (sym (given_back c.free_cell.new.cells c.self.inside.cells.items c.self.inside.cells.len size)) (is_row c.free_cell.new.cells (omega arith))
+    subst (λ (cells : List (Cell g.row.V.Denot)). IsRow (row_of cells)) (sym (given_back c.free_cell.new.cells c.self.inside.cells.items c.self.inside.cells.len size))
+    (is_row c.free_cell.new.cells (omega arith))
 
 pub taken_up_to-self-inside-requires : goal.taken_up_to-self-inside-requires
 taken_up_to-self-inside-requires g c =

@@ -15,7 +15,8 @@ use Rattle.pg_cells.proofs.store.Store.set_base.Goals as goal
 
 pub set_base-requires : goal.set_base-requires
 set_base-requires g c =
-    subst (λ n. c.args.cell < n) (ap (λ (r : Row (Member g.row.V.Denot)). length r.signs) (sym (ap row_of c.as_mut_slice.ensures.value ∙ c.self.view_is)) ∙ signs_long c.as_mut_slice.result.now) c.requires
+    subst (λ n. c.args.cell < n) (ap (λ (r : Row (Member g.row.V.Denot)). length r.signs) (sym (ap row_of c.as_mut_slice.ensures.value ∙ c.self.view_is))
+    ∙ signs_long c.as_mut_slice.result.now) c.requires
 
 pub invariant_of-self : goal.invariant_of-self
 invariant_of-self g c =
@@ -23,9 +24,11 @@ invariant_of-self g c =
     let same : length c.set_base.new.cells ≡ length c.self.inside.cells.items = omega arith in
     rw (given_back c.set_base.new.cells c.self.inside.cells.items c.self.inside.cells.len size)
     (record {
-      kept = kept_write c.self.inside.cells.items c.set_base.new.cells _ _ c.self.invariant.kept same _ refl (c.set_base.ensures ∙ ap (λ cells. record (lists cells) { row = with_base (lists cells).row c.args.cell c.args.is_base }) c.as_mut_slice.ensures.value);
+      kept = kept_write c.self.inside.cells.items c.set_base.new.cells _ _ c.self.invariant.kept same _ refl
+          (c.set_base.ensures ∙ ap (λ cells. record (lists cells) { row = with_base (lists cells).row c.args.cell c.args.is_base }) c.as_mut_slice.ensures.value);
       few = c.self.invariant.few;
-      bounds = bounds_base (row_of c.self.inside.cells.items) (row_of c.set_base.new.cells) c.self.inside.lows.items c.self.inside.freed c.self.inside.dropped c.self.invariant.bounds c.args.cell c.least_dropped-self-inside.result c.args.is_base c.least_dropped-self-inside.ensures.least c.least_dropped-self-inside.ensures.base
+      bounds = bounds_base (row_of c.self.inside.cells.items) (row_of c.set_base.new.cells) c.self.inside.lows.items c.self.inside.freed c.self.inside.dropped
+          c.self.invariant.bounds c.args.cell c.least_dropped-self-inside.result c.args.is_base c.least_dropped-self-inside.ensures.least c.least_dropped-self-inside.ensures.base
           (subst (λ r. SetsBase (row_of c.self.inside.cells.items) r c.args.cell c.args.is_base)
           (sym (ap (λ (ls : Lists (Member g.row.V.Denot)). ls.row) c.set_base.ensures ∙ ap (λ cells. with_base (row_of cells) c.args.cell c.args.is_base) c.as_mut_slice.ensures.value))
           (row_base c.self.inside.cells.items c.args.cell c.args.is_base (subst (λ (r : Row (Member g.row.V.Denot)). c.args.cell < length r.signs) (sym c.self.view_is) c.requires)));
@@ -39,14 +42,18 @@ invariant_of-self g c =
 pub returns-clause-sets : goal.returns-clause-sets
 returns-clause-sets g c =
     let size : length c.set_base.new.cells ≡ c.self.inside.cells.len = omega arith in
-    let left : row_of (take c.self.inside.cells.len (c.set_base.new.cells ++ drop (length c.set_base.new.cells) c.self.inside.cells.items)) ≡ with_base (row_of c.self.inside.cells.items) c.args.cell c.args.is_base =
-    ap row_of (given_back c.set_base.new.cells c.self.inside.cells.items c.self.inside.cells.len size) ∙ ap (λ (ls : Lists (Member g.row.V.Denot)). ls.row) c.set_base.ensures ∙ ap (λ cells. with_base (row_of cells) c.args.cell c.args.is_base) c.as_mut_slice.ensures.value in
+    let left : row_of (take c.self.inside.cells.len (c.set_base.new.cells ++ drop (length c.set_base.new.cells) c.self.inside.cells.items))
+    ≡ with_base (row_of c.self.inside.cells.items) c.args.cell c.args.is_base =
+    ap row_of (given_back c.set_base.new.cells c.self.inside.cells.items c.self.inside.cells.len size) ∙ ap (λ (ls : Lists (Member g.row.V.Denot)). ls.row) c.set_base.ensures
+    ∙ ap (λ cells. with_base (row_of cells) c.args.cell c.args.is_base) c.as_mut_slice.ensures.value in
     subst (λ r. SetsBase r (row_of (take c.self.inside.cells.len (c.set_base.new.cells ++ drop (length c.set_base.new.cells) c.self.inside.cells.items))) c.args.cell c.args.is_base) c.self.view_is
-    (subst (λ r. SetsBase (row_of c.self.inside.cells.items) r c.args.cell c.args.is_base) (sym left) (row_base c.self.inside.cells.items c.args.cell c.args.is_base (subst (λ (r : Row (Member g.row.V.Denot)). c.args.cell < length r.signs) (sym c.self.view_is) c.requires)))
+    (subst (λ r. SetsBase (row_of c.self.inside.cells.items) r c.args.cell c.args.is_base) (sym left)
+    (row_base c.self.inside.cells.items c.args.cell c.args.is_base (subst (λ (r : Row (Member g.row.V.Denot)). c.args.cell < length r.signs) (sym c.self.view_is) c.requires)))
 
 pub returns-clause-row : goal.returns-clause-row
 returns-clause-row g c =
     let size : length c.set_base.new.cells ≡ c.self.inside.cells.len = omega arith in
     let same : length c.set_base.new.cells ≡ length c.self.inside.cells.items = omega arith in
     let small = c.self.invariant.kept.small in
-    subst (λ (cells : List (Cell g.row.V.Denot)). IsRow (row_of cells)) (sym (given_back c.set_base.new.cells c.self.inside.cells.items c.self.inside.cells.len size)) (is_row c.set_base.new.cells (omega arith))
+    subst (λ (cells : List (Cell g.row.V.Denot)). IsRow (row_of cells)) (sym (given_back c.set_base.new.cells c.self.inside.cells.items c.self.inside.cells.len size))
+    (is_row c.set_base.new.cells (omega arith))

@@ -17,7 +17,8 @@ set_child-requires g c =
     record {
       cell = taken.0;
       taken = taken.1;
-      child = child_fits c.self.inside.cells.items c.args.child (subst (λ (r : Row (Member g.row.V.Denot)). c.args.child < length r.signs) (sym c.self.view_is) c.requires.child) c.self.invariant.kept.small;
+      child = child_fits c.self.inside.cells.items c.args.child (subst (λ (r : Row (Member g.row.V.Denot)). c.args.child < length r.signs) (sym c.self.view_is) c.requires.child)
+          c.self.invariant.kept.small;
     }
 
 pub invariant_of-self : goal.invariant_of-self
@@ -26,10 +27,13 @@ invariant_of-self g c =
     let same : length c.set_child.new.cells ≡ length c.self.inside.cells.items = omega arith in
     rw (given_back c.set_child.new.cells c.self.inside.cells.items c.self.inside.cells.len size)
     (record {
-      kept = kept_child c.self.inside.cells.items c.set_child.new.cells _ _ c.self.invariant.kept same c.args.cell c.args.child (λ z. c.requires.taken (subst (λ r. sign_at r c.args.cell ≡ 0) c.self.view_is z))
-          (c.set_child.ensures ∙ ap (λ cells. record (lists cells) { row = with_child (lists cells).row c.args.cell c.args.child; afters = set (lists cells).afters c.args.cell c.args.child }) c.as_mut_slice.ensures.value);
+      kept = kept_child c.self.inside.cells.items c.set_child.new.cells _ _ c.self.invariant.kept same c.args.cell c.args.child
+          (λ z. c.requires.taken (subst (λ r. sign_at r c.args.cell ≡ 0) c.self.view_is z))
+          (c.set_child.ensures ∙ ap (λ cells. record (lists cells) { row = with_child (lists cells).row c.args.cell c.args.child; afters = set (lists cells).afters c.args.cell c.args.child })
+          c.as_mut_slice.ensures.value);
       few = c.self.invariant.few;
-      bounds = bounds_child (row_of c.self.inside.cells.items) (row_of c.set_child.new.cells) c.self.inside.lows.items c.self.inside.freed c.self.inside.dropped c.self.invariant.bounds c.args.cell c.args.child
+      bounds = bounds_child (row_of c.self.inside.cells.items) (row_of c.set_child.new.cells) c.self.inside.lows.items c.self.inside.freed c.self.inside.dropped
+          c.self.invariant.bounds c.args.cell c.args.child
           (subst (λ r. SetsChild (row_of c.self.inside.cells.items) r c.args.cell c.args.child)
           (sym (ap (λ (ls : Lists (Member g.row.V.Denot)). ls.row) c.set_child.ensures ∙ ap (λ cells. with_child (row_of cells) c.args.cell c.args.child) c.as_mut_slice.ensures.value))
           (row_child c.self.inside.cells.items c.args.cell c.args.child (λ z. c.requires.taken (subst (λ r. sign_at r c.args.cell ≡ 0) c.self.view_is z))));
@@ -42,14 +46,18 @@ invariant_of-self g c =
 pub returns-clause-sets : goal.returns-clause-sets
 returns-clause-sets g c =
     let size : length c.set_child.new.cells ≡ c.self.inside.cells.len = omega arith in
-    let left : row_of (take c.self.inside.cells.len (c.set_child.new.cells ++ drop (length c.set_child.new.cells) c.self.inside.cells.items)) ≡ with_child (row_of c.self.inside.cells.items) c.args.cell c.args.child =
-    ap row_of (given_back c.set_child.new.cells c.self.inside.cells.items c.self.inside.cells.len size) ∙ ap (λ (ls : Lists (Member g.row.V.Denot)). ls.row) c.set_child.ensures ∙ ap (λ cells. with_child (row_of cells) c.args.cell c.args.child) c.as_mut_slice.ensures.value in
+    let left : row_of (take c.self.inside.cells.len (c.set_child.new.cells ++ drop (length c.set_child.new.cells) c.self.inside.cells.items))
+    ≡ with_child (row_of c.self.inside.cells.items) c.args.cell c.args.child =
+    ap row_of (given_back c.set_child.new.cells c.self.inside.cells.items c.self.inside.cells.len size) ∙ ap (λ (ls : Lists (Member g.row.V.Denot)). ls.row) c.set_child.ensures
+    ∙ ap (λ cells. with_child (row_of cells) c.args.cell c.args.child) c.as_mut_slice.ensures.value in
     subst (λ r. SetsChild r (row_of (take c.self.inside.cells.len (c.set_child.new.cells ++ drop (length c.set_child.new.cells) c.self.inside.cells.items))) c.args.cell c.args.child) c.self.view_is
-    (subst (λ r. SetsChild (row_of c.self.inside.cells.items) r c.args.cell c.args.child) (sym left) (row_child c.self.inside.cells.items c.args.cell c.args.child (λ z. c.requires.taken (subst (λ r. sign_at r c.args.cell ≡ 0) c.self.view_is z))))
+    (subst (λ r. SetsChild (row_of c.self.inside.cells.items) r c.args.cell c.args.child) (sym left)
+    (row_child c.self.inside.cells.items c.args.cell c.args.child (λ z. c.requires.taken (subst (λ r. sign_at r c.args.cell ≡ 0) c.self.view_is z))))
 
 pub returns-clause-row : goal.returns-clause-row
 returns-clause-row g c =
     let size : length c.set_child.new.cells ≡ c.self.inside.cells.len = omega arith in
     let same : length c.set_child.new.cells ≡ length c.self.inside.cells.items = omega arith in
     let small = c.self.invariant.kept.small in
-    subst (λ (cells : List (Cell g.row.V.Denot)). IsRow (row_of cells)) (sym (given_back c.set_child.new.cells c.self.inside.cells.items c.self.inside.cells.len size)) (is_row c.set_child.new.cells (omega arith))
+    subst (λ (cells : List (Cell g.row.V.Denot)). IsRow (row_of cells)) (sym (given_back c.set_child.new.cells c.self.inside.cells.items c.self.inside.cells.len size))
+    (is_row c.set_child.new.cells (omega arith))

@@ -22,10 +22,16 @@ invariant_of-self g c =
     let same : length c.set_value.new.cells ≡ length c.self.inside.cells.items = omega arith in
     rw (given_back c.set_value.new.cells c.self.inside.cells.items c.self.inside.cells.len size)
     (record {
-      kept = kept_value c.self.inside.cells.items c.set_value.new.cells _ _ c.self.invariant.kept same c.args.cell (pair_of c.args.value.next c.args.value.first) c.args.value (λ z. c.requires (subst (λ r. sign_at r c.args.cell ≡ 0) c.self.view_is z))
-          (c.set_value.ensures ∙ ap (λ cells. record (lists cells) { row = with_value (lists cells).row c.args.cell c.args.value; befores = set (lists cells).befores c.args.cell (pair_of c.args.value.next c.args.value.first) }) c.as_mut_slice.ensures.value);
+      kept = kept_value c.self.inside.cells.items c.set_value.new.cells _ _ c.self.invariant.kept same c.args.cell (pair_of c.args.value.next c.args.value.first) c.args.value
+          (λ z. c.requires (subst (λ r. sign_at r c.args.cell ≡ 0) c.self.view_is z))
+          (c.set_value.ensures ∙ ap (λ cells. record (lists cells) {
+            row = with_value (lists cells).row c.args.cell c.args.value;
+            befores =
+                set (lists cells).befores c.args.cell (pair_of c.args.value.next c.args.value.first);
+          }) c.as_mut_slice.ensures.value);
       few = c.self.invariant.few;
-      bounds = bounds_value (row_of c.self.inside.cells.items) (row_of c.set_value.new.cells) c.self.inside.lows.items c.self.inside.freed c.self.inside.dropped c.self.invariant.bounds c.args.cell c.args.value
+      bounds = bounds_value (row_of c.self.inside.cells.items) (row_of c.set_value.new.cells) c.self.inside.lows.items c.self.inside.freed c.self.inside.dropped
+          c.self.invariant.bounds c.args.cell c.args.value
           (subst (λ r. SetsValue (row_of c.self.inside.cells.items) r c.args.cell c.args.value)
           (sym (ap (λ (ls : Lists (Member g.row.V.Denot)). ls.row) c.set_value.ensures ∙ ap (λ cells. with_value (row_of cells) c.args.cell c.args.value) c.as_mut_slice.ensures.value))
           (row_value c.self.inside.cells.items c.args.cell c.args.value (λ z. c.requires (subst (λ r. sign_at r c.args.cell ≡ 0) c.self.view_is z))));
@@ -38,14 +44,18 @@ invariant_of-self g c =
 pub returns-clause-sets : goal.returns-clause-sets
 returns-clause-sets g c =
     let size : length c.set_value.new.cells ≡ c.self.inside.cells.len = omega arith in
-    let left : row_of (take c.self.inside.cells.len (c.set_value.new.cells ++ drop (length c.set_value.new.cells) c.self.inside.cells.items)) ≡ with_value (row_of c.self.inside.cells.items) c.args.cell c.args.value =
-    ap row_of (given_back c.set_value.new.cells c.self.inside.cells.items c.self.inside.cells.len size) ∙ ap (λ (ls : Lists (Member g.row.V.Denot)). ls.row) c.set_value.ensures ∙ ap (λ cells. with_value (row_of cells) c.args.cell c.args.value) c.as_mut_slice.ensures.value in
+    let left : row_of (take c.self.inside.cells.len (c.set_value.new.cells ++ drop (length c.set_value.new.cells) c.self.inside.cells.items))
+    ≡ with_value (row_of c.self.inside.cells.items) c.args.cell c.args.value =
+    ap row_of (given_back c.set_value.new.cells c.self.inside.cells.items c.self.inside.cells.len size) ∙ ap (λ (ls : Lists (Member g.row.V.Denot)). ls.row) c.set_value.ensures
+    ∙ ap (λ cells. with_value (row_of cells) c.args.cell c.args.value) c.as_mut_slice.ensures.value in
     subst (λ r. SetsValue r (row_of (take c.self.inside.cells.len (c.set_value.new.cells ++ drop (length c.set_value.new.cells) c.self.inside.cells.items))) c.args.cell c.args.value) c.self.view_is
-    (subst (λ r. SetsValue (row_of c.self.inside.cells.items) r c.args.cell c.args.value) (sym left) (row_value c.self.inside.cells.items c.args.cell c.args.value (λ z. c.requires (subst (λ r. sign_at r c.args.cell ≡ 0) c.self.view_is z))))
+    (subst (λ r. SetsValue (row_of c.self.inside.cells.items) r c.args.cell c.args.value) (sym left)
+    (row_value c.self.inside.cells.items c.args.cell c.args.value (λ z. c.requires (subst (λ r. sign_at r c.args.cell ≡ 0) c.self.view_is z))))
 
 pub returns-clause-row : goal.returns-clause-row
 returns-clause-row g c =
     let size : length c.set_value.new.cells ≡ c.self.inside.cells.len = omega arith in
     let same : length c.set_value.new.cells ≡ length c.self.inside.cells.items = omega arith in
     let small = c.self.invariant.kept.small in
-    subst (λ (cells : List (Cell g.row.V.Denot)). IsRow (row_of cells)) (sym (given_back c.set_value.new.cells c.self.inside.cells.items c.self.inside.cells.len size)) (is_row c.set_value.new.cells (omega arith))
+    subst (λ (cells : List (Cell g.row.V.Denot)). IsRow (row_of cells)) (sym (given_back c.set_value.new.cells c.self.inside.cells.items c.self.inside.cells.len size))
+    (is_row c.set_value.new.cells (omega arith))

@@ -41,7 +41,8 @@ take_cell-requires-clause-cell g c = (
 
 pub take_cell-requires-clause-child : goal.take_cell-requires-clause-child
 take_cell-requires-clause-child g c =
-    child_fits c.self.inside.cells.items c.args.slot.child (subst (λ (r : Row (Member g.row.V.Denot)). c.args.slot.child < length r.signs) (sym c.self.view_is) c.requires.child) c.self.invariant.kept.small
+    child_fits c.self.inside.cells.items c.args.slot.child (subst (λ (r : Row (Member g.row.V.Denot)). c.args.slot.child < length r.signs) (sym c.self.view_is) c.requires.child)
+    c.self.invariant.kept.small
 
 pub invariant_of-self : goal.invariant_of-self
 invariant_of-self g c =
@@ -56,11 +57,13 @@ invariant_of-self g c =
       kept = kept_taken c.self.inside.cells.items c.take_cell.new.cells _ _ c.self.invariant.kept same c.args.cell c.args.slot.sign c.args.slot.value c.args.slot.child _ within free c.requires.sign
           (c.take_cell.ensures.row ∙ ap (λ cells. with_taken (row_of cells) c.args.cell c.args.slot.sign c.args.slot.value c.args.slot.child) value) c.take_cell.ensures.linked max;
       few = c.self.invariant.few;
-      bounds = bounds_take (row_of c.self.inside.cells.items) (row_of c.take_cell.new.cells) c.self.inside.lows.items c.self.inside.freed c.self.inside.dropped c.self.invariant.bounds c.args.cell c.args.slot.sign c.args.slot.child c.args.slot.value c.requires.sign
+      bounds = bounds_take (row_of c.self.inside.cells.items) (row_of c.take_cell.new.cells) c.self.inside.lows.items c.self.inside.freed c.self.inside.dropped
+          c.self.invariant.bounds c.args.cell c.args.slot.sign c.args.slot.child c.args.slot.value c.requires.sign
           (subst (λ r. Takes (row_of c.self.inside.cells.items) r c.args.cell c.args.slot.sign c.args.slot.value c.args.slot.child)
           (sym (c.take_cell.ensures.row ∙ ap (λ cells. with_taken (row_of cells) c.args.cell c.args.slot.sign c.args.slot.value c.args.slot.child) value))
           (row_takes c.self.inside.cells.items c.args.cell c.args.slot.sign c.args.slot.value c.args.slot.child free c.requires.sign));
-      blocked = blocked_take (row_of c.self.inside.cells.items) (row_of c.take_cell.new.cells) c.self.inside.placed c.self.inside.sought c.self.invariant.blocked c.args.cell c.args.slot.sign c.args.slot.child c.args.slot.value (free_sign (row_of c.self.inside.cells.items) c.args.cell free)
+      blocked = blocked_take (row_of c.self.inside.cells.items) (row_of c.take_cell.new.cells) c.self.inside.placed c.self.inside.sought c.self.invariant.blocked
+          c.args.cell c.args.slot.sign c.args.slot.child c.args.slot.value (free_sign (row_of c.self.inside.cells.items) c.args.cell free)
           (subst (λ r. Takes (row_of c.self.inside.cells.items) r c.args.cell c.args.slot.sign c.args.slot.value c.args.slot.child)
           (sym (c.take_cell.ensures.row ∙ ap (λ cells. with_taken (row_of cells) c.args.cell c.args.slot.sign c.args.slot.value c.args.slot.child) value))
           (row_takes c.self.inside.cells.items c.args.cell c.args.slot.sign c.args.slot.value c.args.slot.child free c.requires.sign));
@@ -69,14 +72,19 @@ invariant_of-self g c =
 pub returns-clause-takes : goal.returns-clause-takes
 returns-clause-takes g c =
     let size : length c.take_cell.new.cells ≡ c.self.inside.cells.len = omega arith in
-    let left : row_of (take c.self.inside.cells.len (c.take_cell.new.cells ++ drop (length c.take_cell.new.cells) c.self.inside.cells.items)) ≡ with_taken (row_of c.self.inside.cells.items) c.args.cell c.args.slot.sign c.args.slot.value c.args.slot.child =
-    ap row_of (given_back c.take_cell.new.cells c.self.inside.cells.items c.self.inside.cells.len size) ∙ c.take_cell.ensures.row ∙ ap (λ cells. with_taken (row_of cells) c.args.cell c.args.slot.sign c.args.slot.value c.args.slot.child) c.as_mut_slice.ensures.value in
-    subst (λ r. Takes r (row_of (take c.self.inside.cells.len (c.take_cell.new.cells ++ drop (length c.take_cell.new.cells) c.self.inside.cells.items))) c.args.cell c.args.slot.sign c.args.slot.value c.args.slot.child) c.self.view_is
-    (subst (λ r. Takes (row_of c.self.inside.cells.items) r c.args.cell c.args.slot.sign c.args.slot.value c.args.slot.child) (sym left) (row_takes c.self.inside.cells.items c.args.cell c.args.slot.sign c.args.slot.value c.args.slot.child (subst (λ r. IsFree r c.args.cell) (sym c.self.view_is) c.requires.free) c.requires.sign))
+    let left : row_of (take c.self.inside.cells.len (c.take_cell.new.cells ++ drop (length c.take_cell.new.cells) c.self.inside.cells.items))
+    ≡ with_taken (row_of c.self.inside.cells.items) c.args.cell c.args.slot.sign c.args.slot.value c.args.slot.child =
+    ap row_of (given_back c.take_cell.new.cells c.self.inside.cells.items c.self.inside.cells.len size) ∙ c.take_cell.ensures.row
+    ∙ ap (λ cells. with_taken (row_of cells) c.args.cell c.args.slot.sign c.args.slot.value c.args.slot.child) c.as_mut_slice.ensures.value in
+    subst (λ r. Takes r (row_of (take c.self.inside.cells.len (c.take_cell.new.cells ++ drop (length c.take_cell.new.cells) c.self.inside.cells.items)))
+    c.args.cell c.args.slot.sign c.args.slot.value c.args.slot.child) c.self.view_is
+    (subst (λ r. Takes (row_of c.self.inside.cells.items) r c.args.cell c.args.slot.sign c.args.slot.value c.args.slot.child) (sym left)
+    (row_takes c.self.inside.cells.items c.args.cell c.args.slot.sign c.args.slot.value c.args.slot.child (subst (λ r. IsFree r c.args.cell) (sym c.self.view_is) c.requires.free) c.requires.sign))
 
 pub returns-clause-row : goal.returns-clause-row
 returns-clause-row g c =
     let size : length c.take_cell.new.cells ≡ c.self.inside.cells.len = omega arith in
     let same : length c.take_cell.new.cells ≡ length c.self.inside.cells.items = omega arith in
     let small = c.self.invariant.kept.small in
-    subst (λ (cells : List (Cell g.row.V.Denot)). IsRow (row_of cells)) (sym (given_back c.take_cell.new.cells c.self.inside.cells.items c.self.inside.cells.len size)) (is_row c.take_cell.new.cells (omega arith))
+    subst (λ (cells : List (Cell g.row.V.Denot)). IsRow (row_of cells)) (sym (given_back c.take_cell.new.cells c.self.inside.cells.items c.self.inside.cells.len size))
+    (is_row c.take_cell.new.cells (omega arith))

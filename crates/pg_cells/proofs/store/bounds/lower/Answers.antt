@@ -13,7 +13,8 @@ loop-sign-preserved c =
     let least = c.min-in-loop-sign.ensures in
     let within : c.loop-sign.sign < length c.loop-sign.lows = omega arith in
     record {
-      below = lower_below c.loop-sign.lows c.args.lows.now c.args.freed c.args.dropped c.loop-sign.sign c.min-in-loop-sign.result within (omega arith) (omega arith) (omega arith) c.loop-sign.invariant.below c.loop-sign.invariant.above;
+      below = lower_below c.loop-sign.lows c.args.lows.now c.args.freed c.args.dropped c.loop-sign.sign c.min-in-loop-sign.result within (omega arith)
+          (omega arith) (omega arith) c.loop-sign.invariant.below c.loop-sign.invariant.above;
       above = λ s le. get_or-set_other c.loop-sign.lows c.loop-sign.sign s c.min-in-loop-sign.result 0 (omega arith) ∙ c.loop-sign.invariant.above s (omega arith);
     }
 

@@ -37,4 +37,5 @@ returns-clause-row g c =
 pub returns-clause-linked : goal.returns-clause-linked
 returns-clause-linked g c =
     let size : length c.put_last.new.cells ≡ c.push.new.self.len = omega arith in
-    subst (λ (cells : List (Cell g.row.V.Denot)). AreLinked (lists cells)) (sym (take_at c.put_last.new.cells (drop (length c.put_last.new.cells) c.push.new.self.items) c.push.new.self.len size)) c.put_last.ensures.linked
+    subst (λ (cells : List (Cell g.row.V.Denot)). AreLinked (lists cells))
+    (sym (take_at c.put_last.new.cells (drop (length c.put_last.new.cells) c.push.new.self.items) c.push.new.self.len size)) c.put_last.ensures.linked

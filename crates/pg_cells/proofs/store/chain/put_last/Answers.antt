@@ -15,7 +15,8 @@ put_after-requires g c =
     let is = c.before_of-before.ensures in
     let free = subst (IsFree (row_of c.args.cells.now)) (sym is) c.requires.linked.last_ok in
     let within : c.before_of-before.result < length c.args.cells.now = free_in c.args.cells.now c.before_of-before.result free in
-    let other : c.before_of-before.result ≢ length c.args.cells.now - 1 = λ e. not_free (row_of c.args.cells.now) (length c.args.cells.now - 1) c.requires.taken (subst (IsFree (row_of c.args.cells.now)) e free) in
+    let other : c.before_of-before.result ≢ length c.args.cells.now - 1 = λ e. not_free (row_of c.args.cells.now) (length c.args.cells.now - 1) c.requires.taken
+    (subst (IsFree (row_of c.args.cells.now)) e free) in
     record {
       linked = c.requires.linked;
       small = c.requires.small;

@@ -51,7 +51,8 @@ returns-clause-linked g c =
     after_taking (lists c.args.cells.now) (lists c.set_after.new.cells) (lists c.set_before.new.cells) (lists c.set_taken.new.cells)
     c.args.cell c.before_of-before.result c.after_of-after.result c.args.sign c.args.value c.args.child (pair_of c.args.value.next c.args.value.first)
     c.before_of-before.ensures c.after_of-after.ensures c.set_after.ensures c.set_before.ensures c.set_taken.ensures
-    (linked_taken (lists c.args.cells.now) c.args.cell c.args.sign c.args.value c.args.child (pair_of c.args.value.next c.args.value.first) c.requires.linked (lists_even c.args.cells.now) c.requires.cell.0 c.requires.free c.requires.sign)
+    (linked_taken (lists c.args.cells.now) c.args.cell c.args.sign c.args.value c.args.child (pair_of c.args.value.next c.args.value.first) c.requires.linked
+    (lists_even c.args.cells.now) c.requires.cell.0 c.requires.free c.requires.sign)
 
 pub before_of-before-requires : goal.before_of-before-requires
 before_of-before-requires g c = c.requires.cell.1

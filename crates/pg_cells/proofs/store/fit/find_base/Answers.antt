@@ -16,7 +16,8 @@ loop-at-init g c =
     let some : 0 < length (c.args.sign ∷ signs_of c.args.slots.now) = omega arith in
     let size : length (lists c.args.cells.now).row.signs ≡ length c.args.cells.now = length-map c.args.cells.now (λ x. x.sign) in
     let within : c.args.room + c.args.sign < length (lists c.args.cells.now).row.signs = rw size c.requires.within in
-    let s = sought_first (lists c.args.cells.now).row (c.args.sign ∷ signs_of c.args.slots.now) some c.args.sign refl c.args.low c.args.room c.requires.low within c.requires.room c.free_from-at.result c.free_from-at.ensures.from c.free_from-at.ensures.bound c.free_from-at.ensures.free c.free_from-at.ensures.first in
+    let s = sought_first (lists c.args.cells.now).row (c.args.sign ∷ signs_of c.args.slots.now) some c.args.sign refl c.args.low c.args.room c.requires.low
+    within c.requires.room c.free_from-at.result c.free_from-at.ensures.from c.free_from-at.ensures.bound c.free_from-at.ensures.free c.free_from-at.ensures.first in
     record { from = s.from; bound = s.bound; free = s.free; first = s.first_fit }
 
 pub loop-at-smaller : goal.loop-at-smaller
@@ -34,7 +35,8 @@ loop-at-smaller g c =
     let fails : fits_row (lists c.args.cells.now).row (c.args.sign ∷ signs_of c.args.slots.now) (c.loop-at.at - c.args.sign) ≡ false = whole ∙ own in
     rw c.after_of-at.ensures
     (nearer (lists c.args.cells.now).row (c.args.sign ∷ signs_of c.args.slots.now) some c.args.sign refl
-    c.args.low c.args.room c.requires.low within c.requires.room _ _ _ c.requires.linked (λ i. refl) c.loop-at.at (record { from = inv.from; bound = inv.bound; free = inv.free; first_fit = inv.first }) fails)
+    c.args.low c.args.room c.requires.low within c.requires.room _ _ _ c.requires.linked (λ i. refl) c.loop-at.at
+    (record { from = inv.from; bound = inv.bound; free = inv.free; first_fit = inv.first }) fails)
 
 pub loop-at-preserved : goal.loop-at-preserved
 loop-at-preserved g c =
@@ -50,7 +52,8 @@ loop-at-preserved g c =
     let own : fits_row (lists c.args.cells.now).row (signs_of c.args.slots.now) (c.loop-at.at - c.args.sign) ≡ false = search rules in
     let fails : fits_row (lists c.args.cells.now).row (c.args.sign ∷ signs_of c.args.slots.now) (c.loop-at.at - c.args.sign) ≡ false = whole ∙ own in
     let s = sought_next (lists c.args.cells.now).row (c.args.sign ∷ signs_of c.args.slots.now) some c.args.sign refl
-    c.args.low c.args.room c.requires.low within c.requires.room _ _ _ c.requires.linked (λ i. refl) c.loop-at.at (record { from = inv.from; bound = inv.bound; free = inv.free; first_fit = inv.first }) fails in
+    c.args.low c.args.room c.requires.low within c.requires.room _ _ _ c.requires.linked (λ i. refl) c.loop-at.at
+    (record { from = inv.from; bound = inv.bound; free = inv.free; first_fit = inv.first }) fails in
     rw c.after_of-at.ensures (record { from = s.from; bound = s.bound; free = s.free; first = s.first_fit })
 
 pub returns-clause-least : goal.returns-clause-least

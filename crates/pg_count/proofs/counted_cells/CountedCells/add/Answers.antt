@@ -18,7 +18,8 @@ invariant_of-self-2 c =
     let at = subst (λ (h : ValuedFamilies (Option Tally)). cell_of h.families q ≡ Some c.args.parent) (sym c.self.view_is) c.requires.parent.1.0 in
     let none = subst (λ (h : ValuedFamilies (Option Tally)). cell_of h.families (q ++ c.args.s ∷ []) ≡ None) (sym c.self.view_is) c.requires.parent.1.1 in
     let is = c.in_ok-cell.ensures.held q at in
-    added_are c.self.inside.cells c.add.new.self c.self.inside.first c.self.inside.tallies.items c.self.invariant q c.args.s (ap (λ (h : ValuedFamilies ℕ). h.signs) is) (ap (λ (h : ValuedFamilies ℕ). h.values) is) c.in_ok-cell.ensures.kept
+    added_are c.self.inside.cells c.add.new.self c.self.inside.first c.self.inside.tallies.items c.self.invariant q c.args.s (ap (λ (h : ValuedFamilies ℕ). h.signs) is)
+    (ap (λ (h : ValuedFamilies ℕ). h.values) is) c.in_ok-cell.ensures.kept
     (no_value c.self.inside.cells c.self.invariant.held (q ++ c.args.s ∷ []) none)
 
 pub returns-clause-held : goal.returns-clause-held
@@ -29,7 +30,8 @@ returns-clause-held c q e =
     let none = subst (λ (h : ValuedFamilies (Option Tally)). cell_of h.families (c.requires.parent.0 ++ c.args.s ∷ []) ≡ None) (sym c.self.view_is) c.requires.parent.1.1 in
     let is = c.in_ok-cell.ensures.held q at in
     subst (λ (h : ValuedFamilies (Option Tally)). Adds h (tallied_families c.add.new.self c.self.inside.first c.self.inside.tallies.items) q c.args.s) c.self.view_is
-    (added_tallied c.self.inside.cells c.add.new.self c.self.inside.first c.self.inside.tallies.items c.self.invariant q c.args.s (ap (λ (h : ValuedFamilies ℕ). h.signs) is) (ap (λ (h : ValuedFamilies ℕ). h.values) is) c.in_ok-cell.ensures.kept
+    (added_tallied c.self.inside.cells c.add.new.self c.self.inside.first c.self.inside.tallies.items c.self.invariant q c.args.s
+    (ap (λ (h : ValuedFamilies ℕ). h.signs) is) (ap (λ (h : ValuedFamilies ℕ). h.values) is) c.in_ok-cell.ensures.kept
     (no_value c.self.inside.cells c.self.invariant.held (q ++ c.args.s ∷ []) (subst (λ p. cell_of c.self.inside.cells.families (p ++ c.args.s ∷ []) ≡ None) same none)))
 
 pub add-requires : goal.add-requires

@@ -9,7 +9,8 @@ use Rattle.pg_count.proofs.Numbering.{held_tallied, cleared_kept, none_counted}
 use Rattle.pg_count.proofs.counted_cells.CountedCells.clear.Goals as goal
 
 pub invariant_of-self : goal.invariant_of-self
-invariant_of-self c = cleared_kept c.first_after-self-inside.new.cells c.first_after-self-inside.result c.clear.new.self.items c.clear.ensures.items c.first_after-self-inside.ensures.held c.first_after-self-inside.ensures.positive c.first_after-self-inside.ensures.few c.first_after-self-inside.ensures.past
+invariant_of-self c = cleared_kept c.first_after-self-inside.new.cells c.first_after-self-inside.result c.clear.new.self.items c.clear.ensures.items
+    c.first_after-self-inside.ensures.held c.first_after-self-inside.ensures.positive c.first_after-self-inside.ensures.few c.first_after-self-inside.ensures.past
 
 pub returns-clause-signs : goal.returns-clause-signs
 returns-clause-signs c = c.first_after-self-inside.ensures.signs ∙ ap (λ (h : ValuedFamilies (Option Tally)). h.signs) c.self.view_is
@@ -29,5 +30,6 @@ returns-clause-short c k some short q o at =
       | inr was ↦ (
           let alike : c.args.alike ≡ true = and_first c.args.alike c.if-has_none.many (and_first (c.args.alike && c.if-has_none.many) _ was.0) in
           let old = subst (λ (h : ValuedFamilies (Option Tally)). AreShort h.values k) (sym c.self.view_is) (short alike) in
-          old q (tally_by_number c.self.inside.first c.self.inside.tallies.items x.0) (found_mapped (tally_by_number c.self.inside.first c.self.inside.tallies.items) q x.0 c.self.inside.cells.values was.1))
+          old q (tally_by_number c.self.inside.first c.self.inside.tallies.items x.0)
+          (found_mapped (tally_by_number c.self.inside.first c.self.inside.tallies.items) q x.0 c.self.inside.cells.values was.1))
     ]

@@ -18,7 +18,8 @@ invariant_of-self-2 c =
     let q = c.requires.0 in
     let at = subst (λ (h : ValuedFamilies (Option Tally)). cell_of h.families q ≡ Some c.args.cell) (sym c.self.view_is) c.requires.1.0 in
     let blank = subst (λ (h : ValuedFamilies (Option Tally)). find order q h.values ≡ Some None) (sym c.self.view_is) c.requires.1.1 in
-    count_are c.self.inside.cells c.set_value.new.self c.self.inside.first c.self.inside.tallies.items c.push_sums.new.tallies.items c.self.invariant q c.args.sums c.in_ok-in_cell.ensures.items c.in_ok-in_cell.ensures.few
+    count_are c.self.inside.cells c.set_value.new.self c.self.inside.first c.self.inside.tallies.items c.push_sums.new.tallies.items c.self.invariant
+    q c.args.sums c.in_ok-in_cell.ensures.items c.in_ok-in_cell.ensures.few
     (c.set_value.ensures.held q at ∙ ap (λ n. record c.self.inside.cells { values = put order q n c.self.inside.cells.values }) c.in_ok-in_cell.ensures.number) c.set_value.ensures.kept blank
 
 pub returns-clause-held : goal.returns-clause-held
@@ -27,9 +28,13 @@ returns-clause-held c q e =
     let was = subst (λ (h : ValuedFamilies (Option Tally)). cell_of h.families c.requires.0 ≡ Some c.args.cell) (sym c.self.view_is) c.requires.1.0 in
     let same = c.self.invariant.held.apart c.requires.0 q c.args.cell was at in
     let blank = subst (λ (h : ValuedFamilies (Option Tally)). find order q h.values ≡ Some None) (sym c.self.view_is) (ap (λ x. find order x c.args.self.now.values) (sym same) ∙ c.requires.1.1) in
-    count_tallied c.self.inside.cells c.set_value.new.self c.self.inside.first c.self.inside.tallies.items c.push_sums.new.tallies.items c.self.invariant q c.args.sums c.in_ok-in_cell.ensures.items c.in_ok-in_cell.ensures.few
+    count_tallied c.self.inside.cells c.set_value.new.self c.self.inside.first c.self.inside.tallies.items c.push_sums.new.tallies.items c.self.invariant
+    q c.args.sums c.in_ok-in_cell.ensures.items c.in_ok-in_cell.ensures.few
     (c.set_value.ensures.held q at ∙ ap (λ n. record c.self.inside.cells { values = put order q n c.self.inside.cells.values }) c.in_ok-in_cell.ensures.number) c.set_value.ensures.kept blank
-    ∙ ap (λ n. record (tallied_families c.self.inside.cells c.self.inside.first c.self.inside.tallies.items) { values = put order q (Some (n, c.args.sums)) (tallied_families c.self.inside.cells c.self.inside.first c.self.inside.tallies.items).values }) (sym c.self.invariant.size)
+    ∙ ap (λ n. record (tallied_families c.self.inside.cells c.self.inside.first c.self.inside.tallies.items) {
+      values =
+          put order q (Some (n, c.args.sums)) (tallied_families c.self.inside.cells c.self.inside.first c.self.inside.tallies.items).values;
+    }) (sym c.self.invariant.size)
     ∙ ap (λ (h : ValuedFamilies (Option Tally)). record h { values = put order q (Some (length (numbers_in h.values), c.args.sums)) h.values }) c.self.view_is
 
 pub returns-clause-kept : goal.returns-clause-kept
@@ -41,7 +46,8 @@ returns-clause-size c =
     let at = subst (λ (h : ValuedFamilies (Option Tally)). cell_of h.families q ≡ Some c.args.cell) (sym c.self.view_is) c.requires.1.0 in
     let blank = subst (λ (h : ValuedFamilies (Option Tally)). find order q h.values ≡ Some None) (sym c.self.view_is) c.requires.1.1 in
     let are =
-    count_are c.self.inside.cells c.set_value.new.self c.self.inside.first c.self.inside.tallies.items c.push_sums.new.tallies.items c.self.invariant q c.args.sums c.in_ok-in_cell.ensures.items c.in_ok-in_cell.ensures.few
+    count_are c.self.inside.cells c.set_value.new.self c.self.inside.first c.self.inside.tallies.items c.push_sums.new.tallies.items c.self.invariant
+    q c.args.sums c.in_ok-in_cell.ensures.items c.in_ok-in_cell.ensures.few
     (c.set_value.ensures.held q at ∙ ap (λ n. record c.self.inside.cells { values = put order q n c.self.inside.cells.values }) c.in_ok-in_cell.ensures.number) c.set_value.ensures.kept blank in
     are.size ∙ ap length c.in_ok-in_cell.ensures.items ∙ length_push c.self.inside.tallies.items c.args.sums ∙ ap (λ k. k + 1) (sym c.self.invariant.size)
     ∙ ap (λ (h : ValuedFamilies (Option Tally)). length (numbers_in h.values) + 1) c.self.view_is

@@ -13,4 +13,5 @@ returns c q e =
     let es = c.self.inside.cells.values in
     let at = subst (λ (h : ValuedFamilies (Option Tally)). cell_of h.families q ≡ Some c.args.cell) (sym c.self.view_is) e in
     subst (λ (h : ValuedFamilies (Option Tally)). IsNextSign h.values q 0 c.first_sign.result) c.self.view_is
-    (next_alike (goes_on es q) (goes_on (mapped (tally_by_number c.self.inside.first c.self.inside.tallies.items) es) q) 0 c.first_sign.result (λ z up. goes_mapped (tally_by_number c.self.inside.first c.self.inside.tallies.items) es q z) (c.first_sign.ensures q at))
+    (next_alike (goes_on es q) (goes_on (mapped (tally_by_number c.self.inside.first c.self.inside.tallies.items) es) q) 0 c.first_sign.result
+    (λ z up. goes_mapped (tally_by_number c.self.inside.first c.self.inside.tallies.items) es q z) (c.first_sign.ensures q at))

@@ -13,4 +13,5 @@ returns c p s e =
     let es = c.self.inside.cells.values in
     let at = subst (λ (h : ValuedFamilies (Option Tally)). cell_of h.families (p ++ s ∷ []) ≡ Some c.args.cell) (sym c.self.view_is) e in
     subst (λ (h : ValuedFamilies (Option Tally)). IsNextSign h.values p s c.next_sign.result) c.self.view_is
-    (next_alike (goes_on es p) (goes_on (mapped (tally_by_number c.self.inside.first c.self.inside.tallies.items) es) p) s c.next_sign.result (λ z up. goes_mapped (tally_by_number c.self.inside.first c.self.inside.tallies.items) es p z) (c.next_sign.ensures p s at))
+    (next_alike (goes_on es p) (goes_on (mapped (tally_by_number c.self.inside.first c.self.inside.tallies.items) es) p) s c.next_sign.result
+    (λ z up. goes_mapped (tally_by_number c.self.inside.first c.self.inside.tallies.items) es p z) (c.next_sign.ensures p s at))

@@ -35,5 +35,6 @@ pub returns-clause-size : goal.returns-clause-size
 returns-clause-size c =
     let at = subst (λ (h : ValuedFamilies (Option Tally)). find order c.requires.0 h.values ≡ Some (Some (c.args.number, c.requires.1))) (sym c.self.view_is) c.requires.2 in
     let are = numbered_are c.self.inside.cells c.self.inside.first c.self.inside.tallies.items c.self.invariant c.requires.0 c.args.number c.requires.1 c.args.sums at in
-    ap (λ ts. length (numbers_in (tallied_families c.self.inside.cells c.self.inside.first ts).values)) c.set_sums_at.ensures ∙ are.size ∙ length-set c.self.inside.tallies.items c.args.number c.args.sums ∙ sym c.self.invariant.size
+    ap (λ ts. length (numbers_in (tallied_families c.self.inside.cells c.self.inside.first ts).values)) c.set_sums_at.ensures ∙ are.size
+    ∙ length-set c.self.inside.tallies.items c.args.number c.args.sums ∙ sym c.self.invariant.size
     ∙ ap (λ (h : ValuedFamilies (Option Tally)). length (numbers_in h.values)) c.self.view_is

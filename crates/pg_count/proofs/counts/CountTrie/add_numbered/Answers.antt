@@ -17,7 +17,8 @@ add_weight-requires c =
     let u = c.args.window.now in
     let ws = c.self.inside.windows.items in
     let some = c.in-Some.ensures.some in
-    let found = sym (ap (λ (d : Counting). counted_sums d.counts u) c.self.view_is) ∙ counts_there c.self.inside.cells ws c.self.inside.windows.len c.self.invariant.leaves u (c.in-Some.number, c.in-Some.sums) (take c.way_of-way.result.at u, some.0) some.1 in
+    let found = sym (ap (λ (d : Counting). counted_sums d.counts u) c.self.view_is)
+    ∙ counts_there c.self.inside.cells ws c.self.inside.windows.len c.self.invariant.leaves u (c.in-Some.number, c.in-Some.sums) (take c.way_of-way.result.at u, some.0) some.1 in
     subst (λ (o : Option (ℕ × ℕ)). AreSmall (with_weight (unwrap_or o (0, 0)) c.args.good c.args.weight)) found c.requires.small
 
 pub invariant_of-self : goal.invariant_of-self
@@ -27,7 +28,8 @@ invariant_of-self c =
     let set = c.set_sums.ensures.held q c.in-Some.sums there in
     record {
       leaves =
-          again_leaves c.self.inside.cells c.set_sums.new.self c.self.inside.windows.items c.self.inside.windows.len c.self.invariant.leaves q c.in-Some.number c.in-Some.sums c.add_weight.result c.set_sums.ensures.kept
+          again_leaves c.self.inside.cells c.set_sums.new.self c.self.inside.windows.items c.self.inside.windows.len c.self.invariant.leaves q
+          c.in-Some.number c.in-Some.sums c.add_weight.result c.set_sums.ensures.kept
           (ap (λ (h : ValuedFamilies (Option Tally)). h.signs) set) (ap (λ (h : ValuedFamilies (Option Tally)). h.values) set) c.set_sums.ensures.size there;
       some = c.self.invariant.some;
       most = c.self.invariant.most;
@@ -65,7 +67,8 @@ returns-in_err-number-in-None-clause-err c =
     let h = c.self.inside.cells in
     let g = c.count_new.new.cells in
     let ensures = c.in_err-number-in-None.ensures in
-    let new = subst (AreLeaves g ws) (c.requires.len ∙ sym (ap (λ (d : Counting). d.len) c.self.view_is)) (subst (λ (l : Listed). AreLeaves g l.items (length c.args.window.now)) ensures.err ensures.leaves) in
+    let new = subst (AreLeaves g ws) (c.requires.len ∙ sym (ap (λ (d : Counting). d.len) c.self.view_is))
+    (subst (λ (l : Listed). AreLeaves g l.items (length c.args.window.now)) ensures.err ensures.leaves) in
     rw (err.1) (ap (λ (l : Listed). counting_of g l.items l.len) ensures.err ∙ kept_counting h g ws len c.self.invariant.leaves new ensures.signs ensures.keeps ∙ c.self.view_is)
 
 pub returns-in_ok-number-in-None-clause-ok : goal.returns-in_ok-number-in-None-clause-ok
@@ -75,7 +78,8 @@ returns-in_ok-number-in-None-clause-ok c =
     let ensures = c.in_ok-number-in-None.ensures in
     let new = subst (AreLeaves c.count_new.new.cells c.count_new.new.windows.items) (c.requires.len ∙ sym (ap (λ (d : Counting). d.len) c.self.view_is)) ensures.leaves in
     ap (counting_of c.count_new.new.cells c.count_new.new.windows.items) (ap (λ (l : Listed). l.len) ensures.windows)
-    ∙ counted_new c.self.inside.cells c.count_new.new.cells ws c.count_new.new.windows.items c.self.inside.windows.len c.self.invariant.leaves new u c.add_weight-sums.result c.args.good c.args.weight ensures.signs (c.in-None.ensures.none refl) (ap (λ (l : Listed). l.items) ensures.windows) c.add_weight-sums.ensures ensures.sets
+    ∙ counted_new c.self.inside.cells c.count_new.new.cells ws c.count_new.new.windows.items c.self.inside.windows.len c.self.invariant.leaves new u
+    c.add_weight-sums.result c.args.good c.args.weight ensures.signs (c.in-None.ensures.none refl) (ap (λ (l : Listed). l.items) ensures.windows) c.add_weight-sums.ensures ensures.sets
     ∙ ap (λ (d : Counting). counted_more d u c.args.good c.args.weight) c.self.view_is
 
 pub returns-in_ok-number-in-None-clause-number : goal.returns-in_ok-number-in-None-clause-number

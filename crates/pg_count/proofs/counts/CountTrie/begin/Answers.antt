@@ -8,7 +8,8 @@ use Rattle.pg_count.proofs.counts.CountTrie.begin.Goals as goal
 
 pub invariant_of-self : goal.invariant_of-self
 invariant_of-self c =
-    let short = c.clear.ensures.short c.args.len c.requires.0 (λ same. subst (AreShort c.self.inside.cells.values) (sym (eqb-true c.args.len c.window_len.result same ∙ c.window_len.ensures)) c.self.invariant.leaves.short) in
+    let short = c.clear.ensures.short c.args.len c.requires.0 (λ same. subst (AreShort c.self.inside.cells.values)
+    (sym (eqb-true c.args.len c.window_len.result same ∙ c.window_len.ensures)) c.self.invariant.leaves.short) in
     subst (λ (l : Listed). AreCounting c.clear.new.self l.items l.len) (sym c.begin.ensures)
     (begun_kept c.clear.new.self [] c.self.inside.cells.signs c.args.len c.clear.ensures.signs c.clear.ensures.none refl c.clear.ensures.kept short c.requires.0 c.requires.1)
 

@@ -11,7 +11,8 @@ invariant_of-result c =
     let cells = c.in_ok-cells.cells in
     let root = c.in_ok-cells.ensures.held in
     subst (λ (l : Listed). AreCounting cells l.items l.len) (sym c.new-2.ensures)
-    (begun_kept cells [] c.args.signs 1 (ap (λ (h : ValuedFamilies (Option Tally)). h.signs) root) (root_none cells c.args.signs root) refl c.in_ok-cells.ensures.kept (root_short cells c.args.signs 1 root (omega arith)) (omega arith) (omega arith))
+    (begun_kept cells [] c.args.signs 1 (ap (λ (h : ValuedFamilies (Option Tally)). h.signs) root) (root_none cells c.args.signs root) refl c.in_ok-cells.ensures.kept
+    (root_short cells c.args.signs 1 root (omega arith)) (omega arith) (omega arith))
 
 pub returns : goal.returns
 returns c =

@@ -34,7 +34,8 @@ returns-in_err-number c =
     let leaves = c.self.invariant.leaves in
     let nearest = c.in_err-number.ensures [] leaves.held.root in
     rw c.from_residual.ensures (
-      ap (λ (d : Counting). windows_above c.args.at.now d.counts) (sym c.self.view_is) ∙ none_above c.self.inside.cells c.self.inside.windows.items c.self.inside.windows.len leaves c.args.at.now nearest,
+      ap (λ (d : Counting). windows_above c.args.at.now d.counts) (sym c.self.view_is)
+          ∙ none_above c.self.inside.cells c.self.inside.windows.items c.self.inside.windows.len leaves c.args.at.now nearest,
       refl,
     )
 

@@ -9,7 +9,14 @@ use Rattle.pg_count.proofs.Looking.{ordered_numbers}
 use Rattle.pg_count.proofs.counts.CountTrie.order.Goals as goal
 
 pub walk-requires-clause-base : goal.walk-requires-clause-base
-walk-requires-clause-base c = ([], (c.self.invariant.leaves.held.root, root_first c.self.inside.cells c.self.invariant.leaves.held, λ q o at. (let l = c.self.invariant.leaves.short q o at in omega (arith, c.window_len.ensures))))
+walk-requires-clause-base c = (
+  [],
+  (
+    c.self.invariant.leaves.held.root,
+    root_first c.self.inside.cells c.self.invariant.leaves.held,
+    λ q o at. (let l = c.self.invariant.leaves.short q o at in omega (arith, c.window_len.ensures)),
+  ),
+)
 
 pub returns-in_ok-walk : goal.returns-in_ok-walk
 returns-in_ok-walk c = (

@@ -12,12 +12,21 @@ push_word-requires-clause-few c = omega (arith, few_words c.words.store c.words.
 pub words-preserved : goal.words-preserved
 words-preserved c = elim c.if-belongs.branch [
   | then-belongs+in_ok-push_word w ↦ record {
-    words = rw (w.store-is, w.in_ok-push_word.ensures.words) (part_taken c.args.folds c.args.fold c.args.inside c.words.i (stored_words c.words.store) c.args.self.now _ (lent_word c.word-word.result) c.word-word.ensures.lent (sym c.belongs.ensures ∙ w.if-belongs.true) c.words.invariant.words);
+    words = rw (w.store-is, w.in_ok-push_word.ensures.words) (part_taken c.args.folds c.args.fold c.args.inside c.words.i (stored_words c.words.store) c.args.self.now _
+        (lent_word c.word-word.result) c.word-word.ensures.lent (sym c.belongs.ensures ∙ w.if-belongs.true) c.words.invariant.words);
     sound = rw (w.store-is) w.in_ok-push_word.ensures.sound;
-    few = rw (w.store-is) (omega (arith, letters_from c.args.self.now c.words.i (lent_word c.word-word.result) c.word-word.ensures.lent, c.words.invariant.few, w.in_ok-push_word.ensures.signs, w.in_ok-push_word.ensures.count, c.word-word.ensures.word.long));
+    few = rw (w.store-is) (omega (
+      arith,
+      letters_from c.args.self.now c.words.i (lent_word c.word-word.result) c.word-word.ensures.lent,
+      c.words.invariant.few,
+      w.in_ok-push_word.ensures.signs,
+      w.in_ok-push_word.ensures.count,
+      c.word-word.ensures.word.long,
+    ));
   }
   | else-belongs w ↦ record {
-    words = rw (w.store-is) (part_passed c.args.folds c.args.fold c.args.inside c.words.i (stored_words c.words.store) c.args.self.now _ (lent_word c.word-word.result) c.word-word.ensures.lent (sym c.belongs.ensures ∙ w.if-belongs.false) c.words.invariant.words);
+    words = rw (w.store-is) (part_passed c.args.folds c.args.fold c.args.inside c.words.i (stored_words c.words.store) c.args.self.now _
+        (lent_word c.word-word.result) c.word-word.ensures.lent (sym c.belongs.ensures ∙ w.if-belongs.false) c.words.invariant.words);
     sound = rw (w.store-is) c.words.invariant.sound;
     few = rw (w.store-is) (omega (arith, letters_from c.args.self.now c.words.i (lent_word c.word-word.result) c.word-word.ensures.lent, c.words.invariant.few));
   }

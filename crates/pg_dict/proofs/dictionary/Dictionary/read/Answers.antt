@@ -37,13 +37,17 @@ pub returns-in_err-weight-clause-words : goal.returns-in_err-weight-clause-words
 returns-in_err-weight-clause-words c =
     let p = err_from_is_err_and c.from_residual.result c.from_residual.ensures.1 in
     let F : Result (List Word) Refusal → Type 0 = λ reading. Fails c.in_err-weight.field-0.0 reading in
-    rw (p.1, p.2) (subst F (sym (words_short c.args.table.now c.args.bytes.now (omega arith))) (next_refused _ c.args.table.now c.lines.number c.lines.weight c.in-Some.text.now (lines c.in-Some.after.now) (lines c.lines.rest.now) (stored_words c.lines.store) _ c.in-Some.ensures.lines c.lines.invariant.whole c.in_err-weight.ensures.line))
+    rw (p.1, p.2) (subst F (sym (words_short c.args.table.now c.args.bytes.now (omega arith)))
+    (next_refused _ c.args.table.now c.lines.number c.lines.weight c.in-Some.text.now (lines c.in-Some.after.now) (lines c.lines.rest.now)
+    (stored_words c.lines.store) _ c.in-Some.ensures.lines c.lines.invariant.whole c.in_err-weight.ensures.line))
 
 pub lines-preserved : goal.lines-preserved
 lines-preserved c =
-    let size : size_of (lines c.lines.rest.now) ≡ length c.in-Some.text.now + size_of (lines c.in-Some.after.now) = ap size_of c.in-Some.ensures.lines ∙ size_of-cons c.in-Some.text.now (lines c.in-Some.after.now) in
+    let size : size_of (lines c.lines.rest.now) ≡ length c.in-Some.text.now + size_of (lines c.in-Some.after.now) = ap size_of c.in-Some.ensures.lines
+    ∙ size_of-cons c.in-Some.text.now (lines c.in-Some.after.now) in
     record {
-      whole = next_read c.args.table.now c.lines.number c.lines.weight c.in_ok-weight.weight c.in-Some.text.now (lines c.in-Some.after.now) (lines c.lines.rest.now) (stored_words c.lines.store) (stored_words c.read_line.new.store) c.in-Some.ensures.lines c.in_ok-weight.ensures.line ∙ c.lines.invariant.whole;
+      whole = next_read c.args.table.now c.lines.number c.lines.weight c.in_ok-weight.weight c.in-Some.text.now (lines c.in-Some.after.now)
+          (lines c.lines.rest.now) (stored_words c.lines.store) (stored_words c.read_line.new.store) c.in-Some.ensures.lines c.in_ok-weight.ensures.line ∙ c.lines.invariant.whole;
       sound = c.in_ok-weight.ensures.sound;
       fit = c.in_ok-weight.ensures.fit;
       small = c.in_ok-weight.ensures.small;
@@ -55,7 +59,8 @@ lines-preserved c =
 pub returns-clause-signs : goal.returns-clause-signs
 returns-clause-signs c =
     subst (SignsAtMost (letters_of c.args.table.now + 1)) (sym c.in_ok-dictionary.ensures)
-    (signs_at_most (letters_of c.args.table.now + 1) (stored_words c.lines.store) (ap (list_all (is_sign_up_to (letters_of c.args.table.now + 1))) (sym c.lines.invariant.sound.signs_joined) ∙ c.lines.invariant.fit.signs))
+    (signs_at_most (letters_of c.args.table.now + 1) (stored_words c.lines.store)
+    (ap (list_all (is_sign_up_to (letters_of c.args.table.now + 1))) (sym c.lines.invariant.sound.signs_joined) ∙ c.lines.invariant.fit.signs))
 
 pub returns-clause-words : goal.returns-clause-words
 returns-clause-words c =

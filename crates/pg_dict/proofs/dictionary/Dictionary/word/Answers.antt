@@ -17,5 +17,6 @@ returns-clause-lent c = word_stored c.self.inside.store c.args.self.now c.args.i
 
 pub returns-clause-word : goal.returns-clause-word
 returns-clause-word c =
-    subst IsWord (sym c.lend.ensures) (word_in c.args.self.now c.args.i (word_at (columns_of c.self.inside.store) c.index-word.result.now) (subst (All IsWord) c.self.view_is c.self.invariant.sound.words)
+    subst IsWord (sym c.lend.ensures) (word_in c.args.self.now c.args.i (word_at (columns_of c.self.inside.store) c.index-word.result.now)
+    (subst (All IsWord) c.self.view_is c.self.invariant.sound.words)
     (word_stored c.self.inside.store c.args.self.now c.args.i c.index-word.result.now c.self.view_is c.requires c.index-word.ensures))

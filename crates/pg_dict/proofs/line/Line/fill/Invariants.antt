@@ -8,7 +8,8 @@ use Rattle.pg_dict.proofs.line.Line.fill.Given as goal
 
 abbrev pub invariant-items : goal.invariant-items
 invariant-items l = record {
-  whole : columns_after l.self.table.now l.self.weight l.self.number l.self.size l.at.position.mark l.at.position.weight l.at.room (columns_of l.store) l.at.rest.now ≡ columns_after l.self.table.now l.self.weight l.self.number l.self.size Nothing l.self.weight (WORD_LETTERS_MAX - 1) (columns_of l.fn.store) l.fn.rest;
+  whole : columns_after l.self.table.now l.self.weight l.self.number l.self.size l.at.position.mark l.at.position.weight l.at.room (columns_of l.store) l.at.rest.now
+      ≡ columns_after l.self.table.now l.self.weight l.self.number l.self.size Nothing l.self.weight (WORD_LETTERS_MAX - 1) (columns_of l.fn.store) l.fn.rest;
   words : l.store.words.items ≡ l.fn.store.words.items;
   fit : IsFit (letters_of l.self.table.now + 1) l.store;
   within : length l.at.rest.now ≤ l.self.size;

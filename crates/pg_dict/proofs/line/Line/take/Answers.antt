@@ -8,16 +8,20 @@ use Rattle.pg_dict.proofs.Takes.{takes_item, takes_letter}
 use Rattle.pg_dict.proofs.line.Line.take.Goals as goal
 
 pub returns-in-Digit-clause-step : goal.returns-in-Digit-clause-step
-returns-in-Digit-clause-step c = rw (c.with_number.ensures.mark, c.with_number.ensures.weight, c.from.ensures) (takes_item _ _ _ _ _ _ _ _ _ _ _ _ _ _ _ c.in-Digit.ensures.item c.requires.within (λ _ _. refl))
+returns-in-Digit-clause-step c = rw (c.with_number.ensures.mark, c.with_number.ensures.weight, c.from.ensures)
+    (takes_item _ _ _ _ _ _ _ _ _ _ _ _ _ _ _ c.in-Digit.ensures.item c.requires.within (λ _ _. refl))
 
 pub returns-in-Weight-clause-step : goal.returns-in-Weight-clause-step
-returns-in-Weight-clause-step c = rw (c.with_number-in-Weight.ensures.mark, c.with_number-in-Weight.ensures.weight) (takes_item _ _ _ _ _ _ _ _ _ _ _ _ _ _ _ c.in-Weight.ensures.item c.requires.within (λ _ _. refl))
+returns-in-Weight-clause-step c = rw (c.with_number-in-Weight.ensures.mark, c.with_number-in-Weight.ensures.weight)
+    (takes_item _ _ _ _ _ _ _ _ _ _ _ _ _ _ _ c.in-Weight.ensures.item c.requires.within (λ _ _. refl))
 
 pub returns-in-Mark-clause-step : goal.returns-in-Mark-clause-step
 returns-in-Mark-clause-step c = rw (c.with_mark.ensures.mark, c.with_mark.ensures.weight) (takes_item _ _ _ _ _ _ _ _ _ _ _ _ _ _ _ c.in-Mark.ensures.item c.requires.within (λ _ _. refl))
 
 pub returns-in_ok-push-in-Letter-clause-step : goal.returns-in_ok-push-in-Letter-clause-step
-returns-in_ok-push-in-Letter-clause-step c = rw (c.plain.ensures.mark, c.plain.ensures.weight) (takes_letter _ _ _ _ c.args.at.position.mark c.args.at.position.weight _ _ (columns_of c.push.new.self) _ _ _ c.in-Letter.ensures.item c.requires.within c.if-room-eq0.false c.in_ok-push-in-Letter.ensures.ok)
+returns-in_ok-push-in-Letter-clause-step c = rw (c.plain.ensures.mark, c.plain.ensures.weight)
+    (takes_letter _ _ _ _ c.args.at.position.mark c.args.at.position.weight _ _
+    (columns_of c.push.new.self) _ _ _ c.in-Letter.ensures.item c.requires.within c.if-room-eq0.false c.in_ok-push-in-Letter.ensures.ok)
 
 pub unreachable-requires : goal.unreachable-requires
 unreachable-requires c = no_edge _ _ _ c.in-Edge.ensures.item
@@ -54,7 +58,8 @@ returns-in_ok-push-in-Letter-clause-words c = c.push.ensures.words
 
 pub returns-in_ok-push-in-Letter-clause-fit : goal.returns-in_ok-push-in-Letter-clause-fit
 returns-in_ok-push-in-Letter-clause-fit c =
-    pushed_fit (letters_of c.args.self.now.table.now + 1) c.args.store.now c.push.new.self c.args.at.position.mark c.args.at.position.weight c.in-Letter.sign c.requires.fit c.args.at.position.small (omega (arith, c.in-Letter.ensures.range)) (omega (arith, c.in-Letter.ensures.range)) c.in_ok-push-in-Letter.ensures.ok
+    pushed_fit (letters_of c.args.self.now.table.now + 1) c.args.store.now c.push.new.self c.args.at.position.mark c.args.at.position.weight c.in-Letter.sign c.requires.fit c.args.at.position.small
+    (omega (arith, c.in-Letter.ensures.range)) (omega (arith, c.in-Letter.ensures.range)) c.in_ok-push-in-Letter.ensures.ok
 
 pub returns-in_ok-push-in-Letter-clause-counted : goal.returns-in_ok-push-in-Letter-clause-counted
 returns-in_ok-push-in-Letter-clause-counted c =
@@ -69,7 +74,8 @@ returns-in_ok-push-in-End-clause-counted c = pushed_length c.args.store.now c.pu
 
 pub returns-in_ok-push-in-End-clause-fit : goal.returns-in_ok-push-in-End-clause-fit
 returns-in_ok-push-in-End-clause-fit c =
-    pushed_fit (letters_of c.args.self.now.table.now + 1) c.args.store.now c.push-in-End.new.self c.plain-in-End.result.mark c.plain-in-End.result.weight EDGE c.requires.fit c.plain-in-End.result.small (omega arith) (omega arith) c.in_ok-push-in-End.ensures.ok
+    pushed_fit (letters_of c.args.self.now.table.now + 1) c.args.store.now c.push-in-End.new.self c.plain-in-End.result.mark c.plain-in-End.result.weight
+    EDGE c.requires.fit c.plain-in-End.result.small (omega arith) (omega arith) c.in_ok-push-in-End.ensures.ok
 
 pub returns-in_ok-push-in-End-clause-step : goal.returns-in_ok-push-in-End-clause-step
 returns-in_ok-push-in-End-clause-step c = search rules

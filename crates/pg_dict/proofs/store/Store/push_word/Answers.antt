@@ -9,7 +9,14 @@ use Rattle.pg_dict.proofs.store.Store.push_word.Goals as goal
 
 -- the store at the return
 abbrev after : goal.In_ok-push → Store
-after c = record { signs = c.extend_from_slice.new.self; hyphens = c.extend_from_slice-2.new.self; weights = c.extend_from_slice-3.new.self; cares = c.extend_from_slice-4.new.self; words = c.push.new.self }
+after c = record {
+  signs = c.extend_from_slice.new.self;
+  hyphens = c.extend_from_slice-2.new.self;
+  weights = c.extend_from_slice-3.new.self;
+  cares =
+      c.extend_from_slice-4.new.self;
+  words = c.push.new.self;
+}
 
 -- the word is there, and the store stays sound
 pushed : (c : goal.In_ok-push) → (stored_words (after c) ≡ stored_words c.args.self.now ++ lent_word c.args.word.now ∷ []) × IsSound (after c)
@@ -34,4 +41,5 @@ returns-clause-signs c = ap (λ (xs : List ℕ). length xs) c.in_ok-extend_from_
 
 pub returns-clause-count : goal.returns-clause-count
 returns-clause-count c =
-    ap (λ (ws : List Stored). length ws) c.in_ok-push.ensures.items ∙ length_push c.args.self.now.words.items (record { start = c.len-start.result; end = c.len-end.result; weight = c.args.word.now.weight })
+    ap (λ (ws : List Stored). length ws) c.in_ok-push.ensures.items ∙ length_push c.args.self.now.words.items
+    (record { start = c.len-start.result; end = c.len-end.result; weight = c.args.word.now.weight })

@@ -10,7 +10,8 @@ returns-clause-next c = λ from begun.
     let o = c.args.self.now in
     let row = c.row.result.now in
     let bits = c.row.ensures.bits in
-    let ahead : IsAhead (has_bit row) c.args.walk.now from = ahead_kept (is_closed o c.args.dot) (has_bit row) c.args.walk.now from (64 * o.width) (omega (arith, c.requires.within)) (λ i behind low. bits i low) begun in
+    let ahead : IsAhead (has_bit row) c.args.walk.now from = ahead_kept (is_closed o c.args.dot) (has_bit row) c.args.walk.now from (64 * o.width)
+    (omega (arith, c.requires.within)) (λ i behind low. bits i low) begun in
     let next = c.next.ensures.next from ahead in
     record {
       after = next.after;
@@ -24,6 +25,7 @@ returns-clause-ahead c = λ from begun less.
     let o = c.args.self.now in
     let row = c.row.result.now in
     let bits = c.row.ensures.bits in
-    let ahead : IsAhead (has_bit row) c.args.walk.now from = ahead_kept (is_closed o c.args.dot) (has_bit row) c.args.walk.now from (64 * o.width) (omega (arith, c.requires.within)) (λ i behind low. bits i low) begun in
+    let ahead : IsAhead (has_bit row) c.args.walk.now from = ahead_kept (is_closed o c.args.dot) (has_bit row) c.args.walk.now from (64 * o.width)
+    (omega (arith, c.requires.within)) (λ i behind low. bits i low) begun in
     let then = c.next.ensures.ahead from ahead (omega (arith, c.row.ensures.size)) in
     ahead_kept (has_bit row) (is_closed o c.args.dot) c.next.new.self _ (64 * o.width) (omega (arith, c.next.ensures.within, c.row.ensures.size)) (λ i behind low. sym (bits i low)) then

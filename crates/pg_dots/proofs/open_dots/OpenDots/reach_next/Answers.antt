@@ -19,5 +19,6 @@ invariant_of-self-2 c =
       some = o.some;
       narrow = o.narrow;
       few = omega arith;
-      rows = ap length c.in_ok-push_first.ensures.ok ∙ length-append o.bits.items (take o.width o.bits.items) ∙ (let size = length-take-le o.width o.bits.items (omega (arith, o.rows)) in omega (arith, o.rows));
+      rows = ap length c.in_ok-push_first.ensures.ok ∙ length-append o.bits.items (take o.width o.bits.items)
+          ∙ (let size = length-take-le o.width o.bits.items (omega (arith, o.rows)) in omega (arith, o.rows));
     }

@@ -17,7 +17,8 @@ returns-clause-next c = λ from begun.
     let walk = c.on_open_number-walk.result in
     let found = c.on_open_number-walk.ensures in
     let low = c.lowest_set-bit.ensures in
-    next_some (has_bit c.args.row.now) walk from c.lowest_set-bit.result low.within low.set low.before (found.ahead from begun) (64 * length c.args.row.now) (walk.at * 64 + c.lowest_set-bit.result) (omega (arith, found.within)) (omega arith)
+    next_some (has_bit c.args.row.now) walk from c.lowest_set-bit.result low.within low.set low.before (found.ahead from begun) (64 * length c.args.row.now)
+    (walk.at * 64 + c.lowest_set-bit.result) (omega (arith, found.within)) (omega arith)
 
 pub returns-clause-ahead : goal.returns-clause-ahead
 returns-clause-ahead c = λ from begun less.

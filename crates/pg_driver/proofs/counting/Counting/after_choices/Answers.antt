@@ -21,7 +21,8 @@ returns-in-Open g c =
     let fates : List Choice = c.args.windows.now.fates.items in
     let ns : List ℕ = c.args.windows.now.numbers.items in
     let have : AreNumberedOpen pass words m.windows o ns = subst (λ (s : Counting). AreNumberedIn pass m.counts words m.windows s ns) c.in-Open.is c.requires.numbers in
-    let closes : ClosesBy after pass.dot fates old (open_signs (old pass.dot) 0 (sign_count words)) ns = closes_signs params m.counts m.windows fates c.requires.numbered c.requires.fates c.requires.few pass words old ns have.numbers in
+    let closes : ClosesBy after pass.dot fates old (open_signs (old pass.dot) 0 (sign_count words)) ns =
+    closes_signs params m.counts m.windows fates c.requires.numbered c.requires.fates c.requires.few pass words old ns have.numbers in
     let end : length c.all_signs-signs.result.now ≡ sign_count words = ap (λ (xs : List ℕ). length xs) c.all_signs-signs.ensures in
     let there = subst (λ (n : ℕ). ClosesBy after pass.dot c.deref.result.now old (open_signs (old pass.dot) 0 n) c.deref-in-Open.result.now) (sym end)
     (subst (λ (xs : List ℕ). ClosesBy after pass.dot c.deref.result.now old (open_signs (old pass.dot) 0 (sign_count words)) xs) (sym c.deref-in-Open.ensures.value)

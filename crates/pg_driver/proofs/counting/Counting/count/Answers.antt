@@ -15,7 +15,8 @@ count_open-requires-clause-room g c =
     let o = c.in-Open.open in
     let p : OpenLevel = record { dots = c.reach.new.self; totals = o.totals } in
     let ready : IsOpenAt source pass.level pass.len (known_of m) o = subst (IsReady source pass.level pass.len (known_of m)) c.in-Open.is c.requires.ready in
-    let now : IsOpenAt source pass.level pass.len (known_of m) p = ready_same source pass.level pass.len (known_of m) o ready p c.in_ok-reach-in-Open.ensures.places c.in_ok-reach-in-Open.ensures.closed refl in
+    let now : IsOpenAt source pass.level pass.len (known_of m) p = ready_same source pass.level pass.len
+    (known_of m) o ready p c.in_ok-reach-in-Open.ensures.places c.in_ok-reach-in-Open.ensures.closed refl in
     has_room source pass.level pass.len (known_of m) p now m.counts pass.dot c.requires.fresh c.requires.ranges.len_high c.requires.ranges.within
 
 pub returns-in_ok-count_open-in-Open-clause-did : goal.returns-in_ok-count_open-in-Open-clause-did
@@ -26,9 +27,11 @@ returns-in_ok-count_open-in-Open-clause-did g c =
     let o = c.in-Open.open in
     let p : OpenLevel = record { dots = c.reach.new.self; totals = o.totals } in
     let ready : IsOpenAt source pass.level pass.len (known_of m) o = subst (IsReady source pass.level pass.len (known_of m)) c.in-Open.is c.requires.ready in
-    let now : IsOpenAt source pass.level pass.len (known_of m) p = ready_same source pass.level pass.len (known_of m) o ready p c.in_ok-reach-in-Open.ensures.places c.in_ok-reach-in-Open.ensures.closed refl in
+    let now : IsOpenAt source pass.level pass.len (known_of m) p = ready_same source pass.level pass.len
+    (known_of m) o ready p c.in_ok-reach-in-Open.ensures.places c.in_ok-reach-in-Open.ensures.closed refl in
     record {
-      counts = c.in_ok-count_open-in-Open.ensures.ok ∙ ap (meaning_after_counting m) (counts_all source pass.level pass.len (known_of m) p now pass.dot c.requires.ranges.len_high c.requires.ranges.within);
+      counts = c.in_ok-count_open-in-Open.ensures.ok ∙ ap (meaning_after_counting m)
+          (counts_all source pass.level pass.len (known_of m) p now pass.dot c.requires.ranges.len_high c.requires.ranges.within);
       room = c.in_ok-count_open-in-Open.ensures.room;
       totals = ready.totals;
       small = is_small source pass.level pass.len (known_of m) o ready;

@@ -26,7 +26,9 @@ returns-clause-did g c =
 
 pub returns-clause-ready : goal.returns-clause-ready
 returns-clause-ready g c =
-    words_counted (over c.args.table.now c.args.dictionary.now) c.args.pass.level (known_of (g.E.Engine.meaning c.args.engine.now)) c.args.self.now (record { is_counted = true; above = c.count_words.new.above; totals = c.in_ok-before.before }) c.requires.ready refl c.in_ok-before.ensures.above c.in_ok-before.ensures.totals c.in_ok-before.ensures.bounded
+    words_counted (over c.args.table.now c.args.dictionary.now) c.args.pass.level (known_of (g.E.Engine.meaning c.args.engine.now)) c.args.self.now
+    (record { is_counted = true; above = c.count_words.new.above; totals = c.in_ok-before.before }) c.requires.ready refl c.in_ok-before.ensures.above
+    c.in_ok-before.ensures.totals c.in_ok-before.ensures.bounded
 
 pub returns-clause-numbers : goal.returns-clause-numbers
 returns-clause-numbers g c = λ numbered.
@@ -37,7 +39,8 @@ returns-clause-numbers g c = λ numbered.
     let minima = minima_of c.args.table.now in
     let after : WordLevel = record { is_counted = true; above = c.count_words.new.above; totals = c.in_ok-before.before } in
     let ready : IsWordsAt (over c.args.table.now words) pass.level (known_of m) after =
-    words_counted (over c.args.table.now words) pass.level (known_of m) c.args.self.now after c.requires.ready refl c.in_ok-before.ensures.above c.in_ok-before.ensures.totals c.in_ok-before.ensures.bounded in
+    words_counted (over c.args.table.now words) pass.level (known_of m) c.args.self.now after c.requires.ready refl c.in_ok-before.ensures.above
+    c.in_ok-before.ensures.totals c.in_ok-before.ensures.bounded in
     let counts : n.counts ≡ fold with_position [] (counted_positions minima words pass m.patterns m.hopeless) =
     ap (λ (x : Meaning). x.counts) c.in_ok-before.ensures.ok
     ∙ ap (λ (cs : Counts). fold with_position cs (counted_positions minima words m.pass m.patterns m.hopeless)) c.requires.fresh

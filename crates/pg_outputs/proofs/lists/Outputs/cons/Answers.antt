@@ -13,44 +13,53 @@ pub returns-in_err-index-clause-one_head : goal.returns-in_err-index-clause-one_
 returns-in_err-index-clause-one_head c = rw c.in_err-index.ensures.err (one_head_each _ c.self.invariant)
 
 pub invariant_of-self-2 : goal.invariant_of-self-2
-invariant_of-self-2 c = (inserted _ _ _ (record { value = c.args.value; dot = c.args.dot; next = c.args.next }) _ c.self.view_is c.self.invariant c.requires c.in_ok-index.ensures.keys c.in_ok-index.ensures.index).shared
+invariant_of-self-2 c = (inserted _ _ _ (record { value = c.args.value; dot = c.args.dot; next = c.args.next }) _ c.self.view_is c.self.invariant
+    c.requires c.in_ok-index.ensures.keys c.in_ok-index.ensures.index).shared
 
 pub returns-clause-list : goal.returns-clause-list
 returns-clause-list c =
-    let put = (inserted _ _ _ (record { value = c.args.value; dot = c.args.dot; next = c.args.next }) _ c.self.view_is c.self.invariant c.requires c.in_ok-index.ensures.keys c.in_ok-index.ensures.index) in
+    let put = (inserted _ _ _ (record { value = c.args.value; dot = c.args.dot; next = c.args.next }) _ c.self.view_is c.self.invariant c.requires
+    c.in_ok-index.ensures.keys c.in_ok-index.ensures.index) in
     rw c.head_at-2.ensures put.list
 
 pub returns-clause-there : goal.returns-clause-there
 returns-clause-there c i at =
-    let put = (inserted _ _ _ (record { value = c.args.value; dot = c.args.dot; next = c.args.next }) _ c.self.view_is c.self.invariant c.requires c.in_ok-index.ensures.keys c.in_ok-index.ensures.index) in
+    let put = (inserted _ _ _ (record { value = c.args.value; dot = c.args.dot; next = c.args.next }) _ c.self.view_is c.self.invariant c.requires
+    c.in_ok-index.ensures.keys c.in_ok-index.ensures.index) in
     let there = put.there i at in
     (ap Ok (c.head_at-2.ensures ∙ ap (λ n. n + 1) there.0), there.1)
 
 pub returns-clause-added : goal.returns-clause-added
 returns-clause-added c lacks =
-    let put = (inserted _ _ _ (record { value = c.args.value; dot = c.args.dot; next = c.args.next }) _ c.self.view_is c.self.invariant c.requires c.in_ok-index.ensures.keys c.in_ok-index.ensures.index) in
+    let put = (inserted _ _ _ (record { value = c.args.value; dot = c.args.dot; next = c.args.next }) _ c.self.view_is c.self.invariant c.requires
+    c.in_ok-index.ensures.keys c.in_ok-index.ensures.index) in
     let added = put.added lacks in
     (c.head_at-2.ensures ∙ ap (λ n. n + 1) added.0, added.1)
 
 pub returns-clause-grows : goal.returns-clause-grows
-returns-clause-grows c = (inserted _ _ _ (record { value = c.args.value; dot = c.args.dot; next = c.args.next }) _ c.self.view_is c.self.invariant c.requires c.in_ok-index.ensures.keys c.in_ok-index.ensures.index).grows
+returns-clause-grows c = (inserted _ _ _ (record { value = c.args.value; dot = c.args.dot; next = c.args.next }) _ c.self.view_is c.self.invariant
+    c.requires c.in_ok-index.ensures.keys c.in_ok-index.ensures.index).grows
 
 pub returns-clause-one_head : goal.returns-clause-one_head
-returns-clause-one_head c = one_head_each _ (inserted _ _ _ (record { value = c.args.value; dot = c.args.dot; next = c.args.next }) _ c.self.view_is c.self.invariant c.requires c.in_ok-index.ensures.keys c.in_ok-index.ensures.index).shared
+returns-clause-one_head c = one_head_each _ (inserted _ _ _ (record { value = c.args.value; dot = c.args.dot; next = c.args.next }) _ c.self.view_is
+    c.self.invariant c.requires c.in_ok-index.ensures.keys c.in_ok-index.ensures.index).shared
 
 pub returns-in_err-index-clause-shared : goal.returns-in_err-index-clause-shared
 returns-in_err-index-clause-shared c = rw c.in_err-index.ensures.err c.self.invariant
 
 pub returns-clause-record : goal.returns-clause-record
 returns-clause-record c =
-    let put = (inserted _ _ _ (record { value = c.args.value; dot = c.args.dot; next = c.args.next }) _ c.self.view_is c.self.invariant c.requires c.in_ok-index.ensures.keys c.in_ok-index.ensures.index) in
+    let put = (inserted _ _ _ (record { value = c.args.value; dot = c.args.dot; next = c.args.next }) _ c.self.view_is c.self.invariant c.requires
+    c.in_ok-index.ensures.keys c.in_ok-index.ensures.index) in
     (c.in_ok-index.index, c.head_at-2.ensures, put.at)
 
 pub returns-clause-adds : goal.returns-clause-adds
-returns-clause-adds c = (inserted _ _ _ (record { value = c.args.value; dot = c.args.dot; next = c.args.next }) _ c.self.view_is c.self.invariant c.requires c.in_ok-index.ensures.keys c.in_ok-index.ensures.index).adds
+returns-clause-adds c = (inserted _ _ _ (record { value = c.args.value; dot = c.args.dot; next = c.args.next }) _ c.self.view_is c.self.invariant
+    c.requires c.in_ok-index.ensures.keys c.in_ok-index.ensures.index).adds
 
 pub returns-clause-shared : goal.returns-clause-shared
-returns-clause-shared c = (inserted _ _ _ (record { value = c.args.value; dot = c.args.dot; next = c.args.next }) _ c.self.view_is c.self.invariant c.requires c.in_ok-index.ensures.keys c.in_ok-index.ensures.index).shared
+returns-clause-shared c = (inserted _ _ _ (record { value = c.args.value; dot = c.args.dot; next = c.args.next }) _ c.self.view_is c.self.invariant
+    c.requires c.in_ok-index.ensures.keys c.in_ok-index.ensures.index).shared
 
 pub returns-then-has_at-clause-list : goal.returns-then-has_at-clause-list
 returns-then-has_at-clause-list c =

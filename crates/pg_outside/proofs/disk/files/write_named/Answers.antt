@@ -8,7 +8,8 @@ returns-in_err-reserve g c = writes_nothing c.from_residual.result _ _ _ _ _ _ _
 
 pub returns-in_err-open_to_write : goal.returns-in_err-open_to_write
 returns-in_err-open_to_write g c =
-    writes_nothing c.from_residual-in_err-open_to_write.result _ _ _ _ _ _ _ _ _ c.from_residual-in_err-open_to_write.ensures.0 c.from_residual-in_err-open_to_write.ensures.1 c.reserve.ensures.items c.open_to_write.ensures.same c.in_err-open_to_write.ensures.failed
+    writes_nothing c.from_residual-in_err-open_to_write.result _ _ _ _ _ _ _ _ _ c.from_residual-in_err-open_to_write.ensures.0
+    c.from_residual-in_err-open_to_write.ensures.1 c.reserve.ensures.items c.open_to_write.ensures.same c.in_err-open_to_write.ensures.failed
 
 pub returns-in-None : goal.returns-in-None
 returns-in-None g c = writes_later c.write_regular.result _ _ _ _ _ _ _ _ _ _ _ c.in_ok-open_to_write.ensures.ok_failures c.reserve.ensures.items c.open_to_write.ensures.same c.write_regular.ensures

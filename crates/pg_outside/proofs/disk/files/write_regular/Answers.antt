@@ -8,12 +8,14 @@ use Rattle.pg_outside.proofs.disk.files.write_regular.Goals as goal
 
 pub returns : goal.returns
 returns g c =
-    let leads = leads_old _ c.args.name.now c.args.kept.now.items _ c.args.old c.in_ok-mode.mode _ _ c.requires.old c.find.ensures.same c.in_ok-found.ensures.found.1 c.in_ok-mode.ensures.mode c.requires.regular c.requires.free in
+    let leads = leads_old _ c.args.name.now c.args.kept.now.items _ c.args.old c.in_ok-mode.mode _ _ c.requires.old c.find.ensures.same
+    c.in_ok-found.ensures.found.1 c.in_ok-mode.ensures.mode c.requires.regular c.requires.free in
     let cause = rw c.as_str.ensures.value at c.replace_kept.ensures.cause in
     record {
       ok = replaces_found c.replace_kept.result _ _ _ _ _ _ _ _ _ _ _ _ c.in_ok-found.ensures.found.0 c.find.ensures.same leads (rw c.as_str.ensures.value at c.replace_kept.ensures.ok);
       err = on_err_weaker c.replace_kept.result (λ run. (run.0, replace_found_fails _ _ _ _ _ _ _ _ c.find.ensures.same leads (rw c.as_str.ensures.value at run.1))) c.replace_kept.ensures.err;
-      cause = still_because c.replace_kept.result _ _ _ _ _ _ _ _ cause (λ rose. rose_since _ _ _ c.in_ok-found.ensures.found.0 rose) (λ b. absurd b) (λ b. absurd b) (λ all. is_full _ c.args.name.now _ _ _ c.in_ok-found.ensures.found.1 all.0 all.1);
+      cause = still_because c.replace_kept.result _ _ _ _ _ _ _ _ cause (λ rose. rose_since _ _ _ c.in_ok-found.ensures.found.0 rose) (λ b. absurd b)
+          (λ b. absurd b) (λ all. is_full _ c.args.name.now _ _ _ c.in_ok-found.ensures.found.1 all.0 all.1);
     }
 
 pub returns-in_err-found : goal.returns-in_err-found
@@ -26,4 +28,5 @@ returns-in_err-found g c = record {
 pub returns-in_err-mode : goal.returns-in_err-mode
 returns-in_err-mode g c =
     let deep = no_other _ c.args.name.now _ c.args.old (IsDeep c.args.name.now) _ _ c.requires.old c.find.ensures.same c.in_ok-found.ensures.found.1 c.in_err-mode.ensures.other in
-    writes_nothing c.from_residual-in_err-mode.result _ _ _ _ _ _ _ _ _ c.from_residual-in_err-mode.ensures.0 c.from_residual-in_err-mode.ensures.1 refl c.find.ensures.same (because_unfollowed _ _ _ _ _ c.in_err-mode.ensures.error deep)
+    writes_nothing c.from_residual-in_err-mode.result _ _ _ _ _ _ _ _ _ c.from_residual-in_err-mode.ensures.0 c.from_residual-in_err-mode.ensures.1 refl c.find.ensures.same
+    (because_unfollowed _ _ _ _ _ c.in_err-mode.ensures.error deep)

@@ -12,7 +12,8 @@ loop-preserved g c =
     let joined = rw (c.as_str-in-Link-2.ensures.value, c.as_str-in-Link-3.ensures.value) at c.in_ok-real-in-Link.ensures in
     record {
       same = keeps_both _ _ _ (keeps_both _ _ _ c.loop.invariant.same c.look.ensures.same) c.read_link.ensures.same;
-      reached = reached_on _ (string_bytes c.loop.real) (string_bytes c.in_ok-text-in-Link.text) _ c.loop.counter _ _ _ _ c.loop.invariant.reached c.look.ensures.same entry c.read_link.ensures.same text joined refl;
+      reached = reached_on _ (string_bytes c.loop.real) (string_bytes c.in_ok-text-in-Link.text) _ c.loop.counter _ _ _ _ c.loop.invariant.reached
+          c.look.ensures.same entry c.read_link.ensures.same text joined refl;
       failures = c.in_ok-text-in-Link.ensures.ok_failures ∙ c.in_ok-look.ensures.ok_failures ∙ c.loop.invariant.failures;
     }
 
@@ -34,8 +35,11 @@ returns-in-Missing g c = record {
 pub returns-in-File : goal.returns-in-File
 returns-in-File g c = record {
   same = keeps_both _ _ _ c.loop.invariant.same c.look.ensures.same;
-  found = let entry = rw (c.as_str.ensures.value, c.in-File.is) at c.in_ok-look.ensures.entry in
-      (c.in_ok-look.ensures.ok_failures ∙ c.loop.invariant.failures, stands_some _ _ _ c.in-File.id _ _ _ _ c.loop.invariant.reached c.look.ensures.same entry c.make_found-in-File.ensures.name c.make_found-in-File.ensures.file);
+  found = let entry = rw (c.as_str.ensures.value, c.in-File.is) at c.in_ok-look.ensures.entry in (
+    c.in_ok-look.ensures.ok_failures ∙ c.loop.invariant.failures,
+    stands_some _ _ _ c.in-File.id _ _ _ _ c.loop.invariant.reached c.look.ensures.same
+        entry c.make_found-in-File.ensures.name c.make_found-in-File.ensures.file,
+  );
   cause = tt;
 }
 
@@ -64,7 +68,8 @@ pub returns-in_err-text-in-Link : goal.returns-in_err-text-in-Link
 returns-in_err-text-in-Link g c = record {
   same = keeps_both _ _ _ (keeps_both _ _ _ c.loop.invariant.same c.look.ensures.same) c.read_link.ensures.same;
   found = IfOk-from_err _ _ c.from_residual-in_err-text-in-Link.ensures.0;
-  cause = failed_on c.from_residual-in_err-text-in-Link.result _ _ _ _ c.from_residual-in_err-text-in-Link.ensures.1 (rose_since _ _ _ (c.in_ok-look.ensures.ok_failures ∙ c.loop.invariant.failures) c.in_err-text-in-Link.ensures.failed);
+  cause = failed_on c.from_residual-in_err-text-in-Link.result _ _ _ _ c.from_residual-in_err-text-in-Link.ensures.1
+      (rose_since _ _ _ (c.in_ok-look.ensures.ok_failures ∙ c.loop.invariant.failures) c.in_err-text-in-Link.ensures.failed);
 }
 
 pub returns-in_err-real-in-Link : goal.returns-in_err-real-in-Link

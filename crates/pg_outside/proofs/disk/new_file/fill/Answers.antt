@@ -27,8 +27,10 @@ returns g c = record {
   file = search rules;
   ok = on_ok_both _ _ c.sync.result
       (on_ok_weaker c.sync.result (λ same. same ∙ c.in_ok-write_all.ensures.ok.0 ∙ c.in_ok-keep_mode.ensures.ok.0) c.sync.ensures.ok_failures)
-      (on_ok_weaker c.sync.result (λ steps. fills _ _ _ c.args.mode c.args.bytes.now _ _ _ _ c.in_ok-keep_mode.ensures.ok.1 c.keep_mode.ensures.file c.in_ok-write_all.ensures.ok.1 c.write_all.ensures.file steps) c.sync.ensures.ok);
+      (on_ok_weaker c.sync.result (λ steps. fills _ _ _ c.args.mode c.args.bytes.now _ _ _ _ c.in_ok-keep_mode.ensures.ok.1 c.keep_mode.ensures.file
+      c.in_ok-write_all.ensures.ok.1 c.write_all.ensures.file steps) c.sync.ensures.ok);
   err = on_err_both _ _ c.sync.result
       (on_err_weaker c.sync.result (λ rose. rose_since _ _ _ (c.in_ok-write_all.ensures.ok.0 ∙ c.in_ok-keep_mode.ensures.ok.0) rose) c.sync.ensures.failed)
-      (on_err_weaker c.sync.result (λ steps. fill_fails _ _ _ c.args.mode c.args.bytes.now _ _ _ _ c.in_ok-keep_mode.ensures.ok.1 c.keep_mode.ensures.file c.in_ok-write_all.ensures.ok.1 c.write_all.ensures.file steps) c.sync.ensures.err);
+      (on_err_weaker c.sync.result (λ steps. fill_fails _ _ _ c.args.mode c.args.bytes.now _ _ _ _ c.in_ok-keep_mode.ensures.ok.1 c.keep_mode.ensures.file
+      c.in_ok-write_all.ensures.ok.1 c.write_all.ensures.file steps) c.sync.ensures.err);
 }

@@ -9,6 +9,7 @@ pub returns-in-Some : goal.returns-in-Some
 returns-in-Some g c = record {
   file = search rules;
   ok = on_ok_both _ _ c.set_mode.result c.set_mode.ensures.ok_failures
-      (on_ok_weaker c.set_mode.result (λ steps. rw c.in-Some.is (runs_weaker _ _ _ _ _ _ (one_step _ _ _ steps) (λ x y p. got_mode_disturbed _ _ x y p) (λ x y q. got_mode _ _ x y q))) c.set_mode.ensures.ok);
+      (on_ok_weaker c.set_mode.result (λ steps. rw c.in-Some.is (runs_weaker _ _ _ _ _ _ (one_step _ _ _ steps) (λ x y p. got_mode_disturbed _ _ x y p) (λ x y q. got_mode _ _ x y q)))
+      c.set_mode.ensures.ok);
   err = on_err_both _ _ c.set_mode.result c.set_mode.ensures.failed (on_err_weaker c.set_mode.result (λ steps. one_step _ _ _ steps) c.set_mode.ensures.err);
 }

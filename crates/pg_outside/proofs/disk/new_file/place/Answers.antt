@@ -40,6 +40,7 @@ returns-in_err-rename g c = record {
   ok = IfOk-from_err _ _ c.from_residual-in_err-rename.ensures.0;
   err = on_err c.from_residual-in_err-rename.result (
     rose_since _ _ _ (c.in_ok-seen.ensures.ok_failures ∙ c.in_ok-fill.ensures.ok.0) c.in_err-rename.ensures.failed,
-    then_keeps _ _ _ _ _ (then_keeps _ _ _ _ _ (runs_weaker _ _ _ _ _ _ c.in_ok-fill.ensures.ok.1 (λ x y p. p) (λ x y q. filled_disturbed _ c.args.mode c.args.bytes.now x y q)) c.stat.ensures.same) c.in_err-rename.ensures.err,
+    then_keeps _ _ _ _ _ (then_keeps _ _ _ _ _ (runs_weaker _ _ _ _ _ _ c.in_ok-fill.ensures.ok.1 (λ x y p. p) (λ x y q. filled_disturbed _ c.args.mode c.args.bytes.now x y q)) c.stat.ensures.same)
+        c.in_err-rename.ensures.err,
   );
 }

@@ -9,7 +9,8 @@ pub returns-in-Ok : goal.returns-in-Ok
 returns-in-Ok g c = record {
   ok = (
     c.in-Ok.ensures.ok.0 ∙ c.in_ok-new.ensures.ok_failures,
-    replaces _ _ c.args.bytes.now c.args.mode _ _ _ _ _ (record { is_new = c.in_ok-new.ensures.own; apart = c.in_ok-new.ensures.apart }) (g.met.S.System.new_names c.args.system.now) c.in_ok-new.ensures.ok c.in-Ok.ensures.ok.1,
+    replaces _ _ c.args.bytes.now c.args.mode _ _ _ _ _ (record { is_new = c.in_ok-new.ensures.own; apart = c.in_ok-new.ensures.apart })
+        (g.met.S.System.new_names c.args.system.now) c.in_ok-new.ensures.ok c.in-Ok.ensures.ok.1,
   );
   err = tt;
   cause = tt;
@@ -20,7 +21,8 @@ returns g c = record {
   ok = tt;
   err = let ok = rw (c.as_str.ensures.value, c.place.ensures.own) at c.remove.ensures.ok in
       let err = rw (c.as_str.ensures.value, c.place.ensures.own) at c.remove.ensures.err in
-      gave_up c.remove.result _ _ c.args.bytes.now c.args.mode _ _ _ _ _ (record { is_new = c.in_ok-new.ensures.own; apart = c.in_ok-new.ensures.apart }) (g.met.S.System.new_names c.args.system.now) c.in_ok-new.ensures.ok c.in-Err.ensures.err.1 ok err;
+      gave_up c.remove.result _ _ c.args.bytes.now c.args.mode _ _ _ _ _ (record { is_new = c.in_ok-new.ensures.own; apart = c.in_ok-new.ensures.apart })
+      (g.met.S.System.new_names c.args.system.now) c.in_ok-new.ensures.ok c.in-Err.ensures.err.1 ok err;
   cause = rose_then _ _ _ _ c.in_ok-new.ensures.ok_failures c.in-Err.ensures.err.0 c.remove.ensures.later;
 }
 

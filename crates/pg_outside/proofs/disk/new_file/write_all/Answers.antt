@@ -21,7 +21,8 @@ returns-then-count-eq0 g c = record {
   ok = tt;
   err = (
     rose_since _ _ _ c.loop-rest.invariant.failures (c.in_ok-count.ensures.none (omega arith)),
-    written_part _ _ _ _ _ _ (written_step _ _ _ _ _ _ _ _ _ c.in_ok-count.count c.loop-rest.invariant.written c.write_some.ensures.file c.in_ok-count.ensures.ok (take_rest c.loop-rest.rest.now c.in_ok-count.count)),
+    written_part _ _ _ _ _ _ (written_step _ _ _ _ _ _ _ _ _ c.in_ok-count.count c.loop-rest.invariant.written c.write_some.ensures.file c.in_ok-count.ensures.ok
+        (take_rest c.loop-rest.rest.now c.in_ok-count.count)),
   );
 }
 

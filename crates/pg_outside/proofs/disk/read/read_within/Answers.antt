@@ -22,8 +22,11 @@ returns-in-Ok-eq0 g c = record {
 pub loop-piece-preserved : goal.loop-piece-preserved
 loop-piece-preserved g c =
     let bound : c.in-Ok.count ≤ length c.read_some.new.buffer = omega (arith, c.in-Ok.ensures.bound, c.read_some.auto.buffer) in
-    let items : c.extend_from_slice.new.self.items ≡ c.loop-piece.into.items ++ take c.in-Ok.count c.read_some.new.buffer = more_bytes c.loop-piece.into.items c.extend_from_slice.new.self.items c.read_some.new.buffer (drop c.min-most.result c.loop-piece.piece) c.in-Ok.count bound c.in_ok-extend_from_slice-in-Ok.ensures.items in
-    let within : length c.extend_from_slice.new.self.items ≤ c.args.limit + 1 = within_limit c.loop-piece.into.items _ c.read_some.new.buffer c.loop-piece.piece c.in-Ok.count c.min-most.result c.args.limit items c.in-Ok.ensures.bound (omega arith) (omega arith) in
+    let items : c.extend_from_slice.new.self.items ≡ c.loop-piece.into.items ++ take c.in-Ok.count c.read_some.new.buffer =
+    more_bytes c.loop-piece.into.items c.extend_from_slice.new.self.items c.read_some.new.buffer
+    (drop c.min-most.result c.loop-piece.piece) c.in-Ok.count bound c.in_ok-extend_from_slice-in-Ok.ensures.items in
+    let within : length c.extend_from_slice.new.self.items ≤ c.args.limit + 1 =
+    within_limit c.loop-piece.into.items _ c.read_some.new.buffer c.loop-piece.piece c.in-Ok.count c.min-most.result c.args.limit items c.in-Ok.ensures.bound (omega arith) (omega arith) in
     record {
       read = reads_on _ _ _ _ _ _ _ _ _ _ _ _ _ _ c.loop-piece.invariant.read c.read_some.ensures.same c.read_some.ensures.file c.in-Ok.ensures.bytes bound items within;
       failures = c.in-Ok.ensures.ok_failures ∙ c.loop-piece.invariant.failures;

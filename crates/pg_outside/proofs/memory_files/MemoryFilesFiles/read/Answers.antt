@@ -9,26 +9,30 @@ use Rattle.pg_outside.proofs.memory_files.MemoryFilesFiles.read.Goals as goal
 pub returns-in-Some : goal.returns-in-Some
 returns-in-Some c = record {
   held = ap (λ (files : List StoredFile). Some (file_map files)) (sym (ap (λ v. v.items) c.next_plan.ensures.files));
-  reads = reads_later c.args.self.now.missing.items c.next_plan.new.self.missing.items c.args.self.now.reads_failed c.next_plan.new.self.reads_failed (ap (λ v. v.items) c.next_plan.ensures.missing) c.next_plan.ensures.reads;
+  reads = reads_later c.args.self.now.missing.items c.next_plan.new.self.missing.items c.args.self.now.reads_failed c.next_plan.new.self.reads_failed
+      (ap (λ v. v.items) c.next_plan.ensures.missing) c.next_plan.ensures.reads;
   writes = λ _. c.next_plan.ensures.writes;
   fits = tt;
   cut = λ is. absurd (long_or_failed _ is refl);
   file = tt;
   cut_file = λ is. absurd (long_or_failed _ is refl);
-  failed = λ _. reads_rose c.args.self.now.missing.items c.next_plan.new.self.missing.items c.args.self.now.reads_failed c.next_plan.new.self.reads_failed (ap (λ v. v.items) c.next_plan.ensures.missing) c.in-Some.ensures.reads_rose c.args.name.now;
+  failed = λ _. reads_rose c.args.self.now.missing.items c.next_plan.new.self.missing.items c.args.self.now.reads_failed c.next_plan.new.self.reads_failed
+      (ap (λ v. v.items) c.next_plan.ensures.missing) c.in-Some.ensures.reads_rose c.args.name.now;
   calls = c.next_plan.ensures.calls;
   made = c.next_plan.ensures.made ∙ c.and-self.ensures;
   listed = c.next_plan.ensures.listed;
   rooms = λ name. ap (λ (files : List StoredFile). room_in files name) (ap (λ v. v.items) c.next_plan.ensures.files);
   listed_fails = λ _. refl;
-  listed_reads = λ _. reads_rose c.args.self.now.missing.items c.next_plan.new.self.missing.items c.args.self.now.reads_failed c.next_plan.new.self.reads_failed (ap (λ v. v.items) c.next_plan.ensures.missing) c.in-Some.ensures.reads_rose;
+  listed_reads = λ _. reads_rose c.args.self.now.missing.items c.next_plan.new.self.missing.items c.args.self.now.reads_failed c.next_plan.new.self.reads_failed
+      (ap (λ v. v.items) c.next_plan.ensures.missing) c.in-Some.ensures.reads_rose;
   listed_writes = λ _ name. omega (arith, c.in-Some.ensures.writes_rose);
   found = λ unlisted. absurd (not_unlisted _ _ _ _ c.next_plan.ensures.plan c.in-Some.is unlisted);
   found_reads = λ unlisted. absurd (not_unlisted _ _ _ _ c.next_plan.ensures.plan c.in-Some.is unlisted);
   missing_reads = λ unlisted. absurd (not_unlisted _ _ _ _ c.next_plan.ensures.plan c.in-Some.is unlisted);
   memory_reads = search rules;
   unlisted_writes = λ unlisted. absurd (not_unlisted _ _ _ _ c.next_plan.ensures.plan c.in-Some.is unlisted);
-  reads_by_one = reads_by_one c.args.self.now.missing.items c.next_plan.new.self.missing.items c.args.self.now.reads_failed c.next_plan.new.self.reads_failed (ap (λ v. v.items) c.next_plan.ensures.missing) c.next_plan.ensures.reads_by_one;
+  reads_by_one = reads_by_one c.args.self.now.missing.items c.next_plan.new.self.missing.items c.args.self.now.reads_failed c.next_plan.new.self.reads_failed
+      (ap (λ v. v.items) c.next_plan.ensures.missing) c.next_plan.ensures.reads_by_one;
   writes_by_one = λ _. c.next_plan.ensures.writes_by_one;
 }
 

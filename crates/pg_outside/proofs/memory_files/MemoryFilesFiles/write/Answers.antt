@@ -10,8 +10,10 @@ use Rattle.pg_outside.proofs.memory_files.MemoryFilesFiles.write.Goals as goal
 pub returns-in-Some : goal.returns-in-Some
 returns-in-Some c = record {
   whole = tt;
-  part = subst (λ (files : List StoredFile). HasPart (file_map files) (file_map c.store_front.new.files.items) c.args.name.now c.args.bytes.now) (ap (λ v. v.items) c.next_plan.ensures.files) c.store_front.ensures.part;
-  reads = reads_later c.args.self.now.missing.items c.next_plan.new.self.missing.items c.args.self.now.reads_failed c.next_plan.new.self.reads_failed (ap (λ v. v.items) c.next_plan.ensures.missing) c.next_plan.ensures.reads;
+  part = subst (λ (files : List StoredFile). HasPart (file_map files) (file_map c.store_front.new.files.items) c.args.name.now c.args.bytes.now)
+      (ap (λ v. v.items) c.next_plan.ensures.files) c.store_front.ensures.part;
+  reads = reads_later c.args.self.now.missing.items c.next_plan.new.self.missing.items c.args.self.now.reads_failed c.next_plan.new.self.reads_failed
+      (ap (λ v. v.items) c.next_plan.ensures.missing) c.next_plan.ensures.reads;
   writes = λ _. c.next_plan.ensures.writes;
   failed = omega (arith, c.in-Some.ensures.writes_rose);
   calls = c.next_plan.ensures.calls;
@@ -19,7 +21,8 @@ returns-in-Some c = record {
   listed = c.next_plan.ensures.listed;
   rooms = subst (λ (files : List StoredFile). NoneFell (room_in files) (room_in c.store_front.new.files.items)) (ap (λ v. v.items) c.next_plan.ensures.files) c.store_front.ensures.rooms;
   listed_fails = λ _. refl;
-  listed_reads = λ _. reads_rose c.args.self.now.missing.items c.next_plan.new.self.missing.items c.args.self.now.reads_failed c.next_plan.new.self.reads_failed (ap (λ v. v.items) c.next_plan.ensures.missing) c.in-Some.ensures.reads_rose;
+  listed_reads = λ _. reads_rose c.args.self.now.missing.items c.next_plan.new.self.missing.items c.args.self.now.reads_failed c.next_plan.new.self.reads_failed
+      (ap (λ v. v.items) c.next_plan.ensures.missing) c.in-Some.ensures.reads_rose;
   keeps_none = search rules;
   keeps = search rules;
   keeps_within = search rules;
@@ -28,7 +31,8 @@ returns-in-Some c = record {
   failed_writes = λ _. omega (arith, c.in-Some.ensures.writes_rose);
   ok_writes = tt;
   unlisted_reads = λ unlisted. absurd (not_unlisted _ _ _ _ c.next_plan.ensures.plan c.in-Some.is unlisted);
-  reads_by_one = reads_by_one c.args.self.now.missing.items c.next_plan.new.self.missing.items c.args.self.now.reads_failed c.next_plan.new.self.reads_failed (ap (λ v. v.items) c.next_plan.ensures.missing) c.next_plan.ensures.reads_by_one;
+  reads_by_one = reads_by_one c.args.self.now.missing.items c.next_plan.new.self.missing.items c.args.self.now.reads_failed c.next_plan.new.self.reads_failed
+      (ap (λ v. v.items) c.next_plan.ensures.missing) c.next_plan.ensures.reads_by_one;
   writes_by_one = λ _. c.next_plan.ensures.writes_by_one;
 }
 
@@ -36,7 +40,8 @@ pub returns-then-is_err : goal.returns-then-is_err
 returns-then-is_err c = record {
   whole = tt;
   part = search rules;
-  reads = reads_later c.args.self.now.missing.items c.next_plan.new.self.missing.items c.args.self.now.reads_failed c.next_plan.new.self.reads_failed (ap (λ v. v.items) c.next_plan.ensures.missing) c.next_plan.ensures.reads;
+  reads = reads_later c.args.self.now.missing.items c.next_plan.new.self.missing.items c.args.self.now.reads_failed c.next_plan.new.self.reads_failed
+      (ap (λ v. v.items) c.next_plan.ensures.missing) c.next_plan.ensures.reads;
   writes = search rules;
   failed = search rules;
   calls = c.next_plan.ensures.calls;
@@ -52,8 +57,10 @@ returns-then-is_err c = record {
   unlisted_files = search rules;
   failed_writes = search rules;
   ok_writes = tt;
-  unlisted_reads = λ _. reads_same c.args.self.now.missing.items c.next_plan.new.self.missing.items c.args.self.now.reads_failed c.next_plan.new.self.reads_failed (ap (λ v. v.items) c.next_plan.ensures.missing) c.in-None.ensures.reads_same;
-  reads_by_one = reads_by_one c.args.self.now.missing.items c.next_plan.new.self.missing.items c.args.self.now.reads_failed c.next_plan.new.self.reads_failed (ap (λ v. v.items) c.next_plan.ensures.missing) c.next_plan.ensures.reads_by_one;
+  unlisted_reads = λ _. reads_same c.args.self.now.missing.items c.next_plan.new.self.missing.items c.args.self.now.reads_failed c.next_plan.new.self.reads_failed
+      (ap (λ v. v.items) c.next_plan.ensures.missing) c.in-None.ensures.reads_same;
+  reads_by_one = reads_by_one c.args.self.now.missing.items c.next_plan.new.self.missing.items c.args.self.now.reads_failed c.next_plan.new.self.reads_failed
+      (ap (λ v. v.items) c.next_plan.ensures.missing) c.next_plan.ensures.reads_by_one;
   writes_by_one = search rules;
 }
 
@@ -61,7 +68,8 @@ pub returns-else-is_err : goal.returns-else-is_err
 returns-else-is_err c = record {
   whole = search rules;
   part = tt;
-  reads = reads_later c.args.self.now.missing.items c.next_plan.new.self.missing.items c.args.self.now.reads_failed c.next_plan.new.self.reads_failed (ap (λ v. v.items) c.next_plan.ensures.missing) c.next_plan.ensures.reads;
+  reads = reads_later c.args.self.now.missing.items c.next_plan.new.self.missing.items c.args.self.now.reads_failed c.next_plan.new.self.reads_failed
+      (ap (λ v. v.items) c.next_plan.ensures.missing) c.next_plan.ensures.reads;
   writes = λ _. c.next_plan.ensures.writes;
   failed = tt;
   calls = c.next_plan.ensures.calls;
@@ -77,7 +85,9 @@ returns-else-is_err c = record {
   unlisted_files = λ _. tt;
   failed_writes = tt;
   ok_writes = λ _. c.in-None.ensures.writes_same;
-  unlisted_reads = λ _. reads_same c.args.self.now.missing.items c.next_plan.new.self.missing.items c.args.self.now.reads_failed c.next_plan.new.self.reads_failed (ap (λ v. v.items) c.next_plan.ensures.missing) c.in-None.ensures.reads_same;
-  reads_by_one = reads_by_one c.args.self.now.missing.items c.next_plan.new.self.missing.items c.args.self.now.reads_failed c.next_plan.new.self.reads_failed (ap (λ v. v.items) c.next_plan.ensures.missing) c.next_plan.ensures.reads_by_one;
+  unlisted_reads = λ _. reads_same c.args.self.now.missing.items c.next_plan.new.self.missing.items c.args.self.now.reads_failed c.next_plan.new.self.reads_failed
+      (ap (λ v. v.items) c.next_plan.ensures.missing) c.in-None.ensures.reads_same;
+  reads_by_one = reads_by_one c.args.self.now.missing.items c.next_plan.new.self.missing.items c.args.self.now.reads_failed c.next_plan.new.self.reads_failed
+      (ap (λ v. v.items) c.next_plan.ensures.missing) c.next_plan.ensures.reads_by_one;
   writes_by_one = λ _. c.next_plan.ensures.writes_by_one;
 }

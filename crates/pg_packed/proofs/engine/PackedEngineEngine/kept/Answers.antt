@@ -18,7 +18,8 @@ signs_of n (s ∷ q) h =
 
 place_signs : (n : ℕ) (k : List ℕ × ℕ) → is_dotted n k ≡ true → SignsWithin n k.0
 place_signs n k h =
-    signs_of n k.0 (and_second (nat_le 1 (length k.0) && nat_le (length k.0) PATTERN_SIGNS_MAX) (list_all (λ s. nat_le 1 s && nat_le s n) k.0) (and_first (nat_le 1 (length k.0) && nat_le (length k.0) PATTERN_SIGNS_MAX && list_all (λ s. nat_le 1 s && nat_le s n) k.0) (nat_le k.1 (length k.0)) h))
+    signs_of n k.0 (and_second (nat_le 1 (length k.0) && nat_le (length k.0) PATTERN_SIGNS_MAX) (list_all (λ s. nat_le 1 s && nat_le s n) k.0)
+    (and_first (nat_le 1 (length k.0) && nat_le (length k.0) PATTERN_SIGNS_MAX && list_all (λ s. nat_le 1 s && nat_le s n) k.0) (nat_le k.1 (length k.0)) h))
 
 hopeless_within : (n : ℕ) (H : List ((List ℕ × ℕ) × Unit {0})) → list_all (λ e. is_dotted n e.0) H ≡ true → All (λ e. SignsWithin n e.0.0) H
 hopeless_within n [] h = All-nil (λ (e : (List ℕ × ℕ) × Unit {0}). SignsWithin n e.0.0)

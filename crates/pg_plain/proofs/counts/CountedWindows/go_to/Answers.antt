@@ -23,4 +23,5 @@ returns c =
     let same : length (by_number c.self.inside.numbers.entries) ≡ length c.args.self.now.windows = ap (λ (d : Counted). length d.windows) c.self.view_is in
     let lt = c.requires in
     subst (λ (d : Counted). HasNumber d.windows c.set.new.self c.args.number) c.self.view_is
-    (window_read c.self.inside.numbers.entries c.self.inside.tallies.items c.self.inside.windows.items c.self.invariant c.args.number c.set.new.self c.index.result.now (omega arith) c.index.ensures (c.set.ensures ∙ c.signs.ensures.value))
+    (window_read c.self.inside.numbers.entries c.self.inside.tallies.items c.self.inside.windows.items c.self.invariant c.args.number c.set.new.self c.index.result.now
+    (omega arith) c.index.ensures (c.set.ensures ∙ c.signs.ensures.value))

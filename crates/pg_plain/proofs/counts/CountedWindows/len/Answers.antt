@@ -15,7 +15,9 @@ returns-clause-len c =
     omega arith
 
 pub returns-clause-ordered : goal.returns-clause-ordered
-returns-clause-ordered c = subst (λ (d : Counted). T (is_sorted (slice_cmp nat_cmp) d.counts)) c.self.view_is (ordered c.self.inside.numbers.entries c.self.inside.tallies.items c.self.inside.windows.items c.self.invariant)
+returns-clause-ordered c = subst (λ (d : Counted). T (is_sorted (slice_cmp nat_cmp) d.counts)) c.self.view_is
+    (ordered c.self.inside.numbers.entries c.self.inside.tallies.items c.self.inside.windows.items c.self.invariant)
 
 pub returns-clause-numbered : goal.returns-clause-numbered
-returns-clause-numbered c = subst (λ (d : Counted). AreNumbered d.windows d.counts) c.self.view_is (are_numbered c.self.inside.numbers.entries c.self.inside.tallies.items c.self.inside.windows.items c.self.invariant)
+returns-clause-numbered c = subst (λ (d : Counted). AreNumbered d.windows d.counts) c.self.view_is
+    (are_numbered c.self.inside.numbers.entries c.self.inside.tallies.items c.self.inside.windows.items c.self.invariant)

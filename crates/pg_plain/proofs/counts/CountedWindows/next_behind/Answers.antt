@@ -8,17 +8,21 @@ use Rattle.pg_plain.proofs.counts.CountedWindows.next_behind.Goals as goal
 pub index-sums-requires : goal.index-sums-requires
 index-sums-requires c =
     let e : List ℕ × ℕ = (c.in_ok-window.window.now, c.in_ok-window.number.now) in
-    let lt = within c.self.inside.numbers.entries c.self.inside.tallies.items c.self.inside.windows.items c.self.invariant c.in_ok-window.window.now c.in_ok-window.number.now (next_found c.self.inside.numbers.entries c.next.new.self c.range-behind.result c.args.at.now e c.self.invariant.sorted (c.range-behind.ensures.between tt) c.in_ok-window.ensures.steps) in
+    let lt = within c.self.inside.numbers.entries c.self.inside.tallies.items c.self.inside.windows.items c.self.invariant c.in_ok-window.window.now c.in_ok-window.number.now
+    (next_found c.self.inside.numbers.entries c.next.new.self c.range-behind.result c.args.at.now e c.self.invariant.sorted (c.range-behind.ensures.between tt) c.in_ok-window.ensures.steps) in
     omega arith
 
 pub returns : goal.returns
 returns c =
     let e : List ℕ × ℕ = (c.in_ok-window.window.now, c.in_ok-window.number.now) in
     let lt : c.in_ok-window.number.now < length c.self.inside.tallies.items =
-    within c.self.inside.numbers.entries c.self.inside.tallies.items c.self.inside.windows.items c.self.invariant c.in_ok-window.window.now c.in_ok-window.number.now (next_found c.self.inside.numbers.entries c.next.new.self c.range-behind.result c.args.at.now e c.self.invariant.sorted (c.range-behind.ensures.between tt) c.in_ok-window.ensures.steps) in
+    within c.self.inside.numbers.entries c.self.inside.tallies.items c.self.inside.windows.items c.self.invariant c.in_ok-window.window.now c.in_ok-window.number.now
+    (next_found c.self.inside.numbers.entries c.next.new.self c.range-behind.result c.args.at.now e c.self.invariant.sorted (c.range-behind.ensures.between tt) c.in_ok-window.ensures.steps) in
     sym (ap (λ (d : Counted). windows_above c.args.at.now d.counts) c.self.view_is)
-    ∙ next_above c.self.inside.tallies.items c.self.inside.numbers.entries c.next.new.self c.range-behind.result c.args.at.now c.set.new.self e c.self.invariant.sorted (c.range-behind.ensures.between tt) c.in_ok-window.ensures.steps (c.set.ensures ∙ c.signs.ensures.value)
-    ∙ ap (λ x. (c.set.new.self, x) ∷ windows_above c.set.new.self (map (λ e. (e.0, tally_at c.self.inside.tallies.items e.1)) c.self.inside.numbers.entries)) (sym (tally_read c.self.inside.tallies.items c.in_ok-window.number.now c.index-sums.result.now lt c.index-sums.ensures))
+    ∙ next_above c.self.inside.tallies.items c.self.inside.numbers.entries c.next.new.self c.range-behind.result c.args.at.now c.set.new.self e c.self.invariant.sorted
+    (c.range-behind.ensures.between tt) c.in_ok-window.ensures.steps (c.set.ensures ∙ c.signs.ensures.value)
+    ∙ ap (λ x. (c.set.new.self, x) ∷ windows_above c.set.new.self (map (λ e. (e.0, tally_at c.self.inside.tallies.items e.1)) c.self.inside.numbers.entries))
+    (sym (tally_read c.self.inside.tallies.items c.in_ok-window.number.now c.index-sums.result.now lt c.index-sums.ensures))
     ∙ ap (λ (d : Counted). (c.set.new.self, c.index-sums.result.now) ∷ windows_above c.set.new.self d.counts) c.self.view_is
 
 pub returns-in_err-window : goal.returns-in_err-window

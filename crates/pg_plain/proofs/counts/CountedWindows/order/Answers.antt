@@ -8,5 +8,6 @@ pub returns : goal.returns
 returns c = (
   map (λ e. e.1) c.self.inside.numbers.entries,
   c.in_ok-push_all.ensures,
-  subst (λ (d : Counted). AreInOrder d.windows d.counts (map (λ e. e.1) c.self.inside.numbers.entries)) c.self.view_is (are_in_order c.self.inside.numbers.entries c.self.inside.tallies.items c.self.inside.windows.items c.self.invariant),
+  subst (λ (d : Counted). AreInOrder d.windows d.counts (map (λ e. e.1) c.self.inside.numbers.entries)) c.self.view_is
+      (are_in_order c.self.inside.numbers.entries c.self.inside.tallies.items c.self.inside.windows.items c.self.invariant),
 )

@@ -19,5 +19,6 @@ returns c = λ u at.
     let same : length (by_number c.self.inside.numbers.entries) ≡ length c.args.self.now.windows = ap (λ (d : Counted). length d.windows) c.self.view_is in
     let lt = c.requires in
     sym (ap (λ (d : Counted). counted_sums d.counts u) c.self.view_is)
-    ∙ sums_by_number c.self.inside.numbers.entries c.self.inside.tallies.items c.self.inside.windows.items c.self.invariant c.args.number u (subst (λ (d : Counted). HasNumber d.windows u c.args.number) (sym c.self.view_is) at)
+    ∙ sums_by_number c.self.inside.numbers.entries c.self.inside.tallies.items c.self.inside.windows.items c.self.invariant c.args.number u
+    (subst (λ (d : Counted). HasNumber d.windows u c.args.number) (sym c.self.view_is) at)
     ∙ ap Some (sym (tally_read c.self.inside.tallies.items c.args.number c.index.result.now (omega arith) c.index.ensures))

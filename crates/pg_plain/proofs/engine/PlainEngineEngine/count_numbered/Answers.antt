@@ -10,8 +10,10 @@ set-requires-clause-signs c = signs_told c.args.self.now.signs c.args.window.now
 
 pub invariant_of-self-clause-windows : goal.invariant_of-self-clause-windows
 invariant_of-self-clause-windows c =
-    c.count.ensures.windows (λ (u : List ℕ). nat_eq (length u) c.args.self.now.pass.len) (eq-eqb (length c.set.new.self) c.args.self.now.pass.len (ap (λ x. length x) c.set.ensures ∙ c.requires.len)) c.args.self.now.windows
+    c.count.ensures.windows (λ (u : List ℕ). nat_eq (length u) c.args.self.now.pass.len)
+    (eq-eqb (length c.set.new.self) c.args.self.now.pass.len (ap (λ x. length x) c.set.ensures ∙ c.requires.len)) c.args.self.now.windows
 
 pub invariant_of-self-clause-counts_known : goal.invariant_of-self-clause-counts_known
 invariant_of-self-clause-counts_known c =
-    c.count.ensures.windows (has_signs_up_to c.args.self.now.signs) (ap (has_signs_up_to c.args.self.now.signs) c.set.ensures ∙ up_to_told c.args.self.now.signs c.args.window.now c.requires.signs) c.args.self.now.counts_known
+    c.count.ensures.windows (has_signs_up_to c.args.self.now.signs) (ap (has_signs_up_to c.args.self.now.signs) c.set.ensures
+    ∙ up_to_told c.args.self.now.signs c.args.window.now c.requires.signs) c.args.self.now.counts_known

@@ -39,7 +39,8 @@ signs-preserved c =
     let u = c.args.signs.now in
     let i = c.signs.i in
     let now : c.starts_of.result.now ≡ starts_of ws all (take i u) = c.starts_of.ensures ∙ ap (last_of all) c.signs.invariant.starts ∙ last_trail ws all u i c.requires.known in
-    let found : c.in_ok-starts.starts.items ≡ starts_of ws all (take (i + 1) u) = c.in_ok-starts.ensures ∙ ap (λ (xs : List Start). filter (continues_with_by ws i (get_or u i 0)) xs) now ∙ longer_starts ws all u i (omega arith) in
+    let found : c.in_ok-starts.starts.items ≡ starts_of ws all (take (i + 1) u) = c.in_ok-starts.ensures ∙ ap (λ (xs : List Start). filter (continues_with_by ws i (get_or u i 0)) xs) now
+    ∙ longer_starts ws all u i (omega arith) in
     record {
       signs = c.in_ok-push-2.ensures.items ∙ ap (λ xs. xs ++ get_or u i 0 ∷ []) c.signs.invariant.signs ∙ sym (take_more u i 0 (omega arith));
       starts =

@@ -27,7 +27,8 @@ files-preserved g c =
     let s1 : FilesShown = g.F.Files.shown c.files.files in
     let s2 : FilesShown = g.F.Files.shown c.compare_file.new.files in
     let right = held_later s1.held s2.held (λ files. AreAccepted (file_at files) (take c.files.i (wanted_files ws))) c.compare_file.ensures.only.held c.files.invariant.right in
-    let here = subst (λ (v : Verdict). IfSome s2.held (λ files. option_map ((wanted_file w).ends (file_at files)) (file_at files w.name.now) ≡ Some (end_of v))) c.in-Equal.is c.in_ok-verdict.ensures.ok in
+    let here = subst (λ (v : Verdict). IfSome s2.held (λ files. option_map ((wanted_file w).ends (file_at files)) (file_at files w.name.now) ≡ Some (end_of v)))
+    c.in-Equal.is c.in_ok-verdict.ensures.ok in
     record {
       only = only_on s0 s1 s2 c.files.invariant.only c.compare_file.ensures.only;
       calls = read_there ws c.files.i w c.wanted_at.ensures s0 s1 s2 c.files.invariant.calls c.compare_file.ensures.calls;
@@ -63,7 +64,8 @@ returns-in-False g c =
     let right = held_later s1.held s2.held (λ files. AreAccepted (file_at files) (take c.files.i (wanted_files ws))) c.compare_file.ensures.only.held c.files.invariant.right in
     let calls = read_there ws c.files.i w c.wanted_at.ensures s0 s1 s2 c.files.invariant.calls c.compare_file.ensures.calls in
     let is : end_of c.in_ok-verdict.verdict ≡ Some (Ends No [] c.in-False.line.items) = ap end_of c.in-False.is in
-    let here = subst (λ (v : Verdict). IfSome s2.held (λ files. option_map ((wanted_file w).ends (file_at files)) (file_at files w.name.now) ≡ Some (end_of v))) c.in-False.is c.in_ok-verdict.ensures.ok in
+    let here = subst (λ (v : Verdict). IfSome s2.held (λ files. option_map ((wanted_file w).ends (file_at files)) (file_at files w.name.now) ≡ Some (end_of v)))
+    c.in-False.is c.in_ok-verdict.ensures.ok in
     record {
       only = only_on s0 s1 s2 c.files.invariant.only c.compare_file.ensures.only;
       ok = subst (λ end. IfSome s2.held (λ files. first_end (file_at files) (wanted_files ws) ≡ end)) is

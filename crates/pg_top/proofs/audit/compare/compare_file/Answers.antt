@@ -47,8 +47,11 @@ returns g c =
     let s : FilesShown = g.F.Files.shown c.read_front.new.files in
     let text = c.as_slice-text.ensures.value in
     let size : length c.as_slice-text.result.now ≡ length w.text.items = ap (length {A = ℕ}) text in
-    let verdict : end_of c.in_ok-verdict.verdict ≡ option_map (denies w.given) (first_false c.in_ok-bytes.bytes.items w.text.items) = c.in_ok-verdict.ensures ∙ (λ k. option_map (denies w.given) (first_false (c.deref.ensures.value k) (text k))) in
-    let front : IfSome s.held (λ files. IsFrontOf (file_at files w.name.now) (length w.text.items) 256 c.in_ok-bytes.bytes.items) = subst (λ n. IfSome s.held (λ files. IsFrontOf (file_at files w.name.now) n 256 c.in_ok-bytes.bytes.items)) size (given_front s.held w.name.now c.in_ok-bytes.bytes.items (length c.as_slice-text.result.now) 256 c.in_ok-bytes.ensures.front) in
+    let verdict : end_of c.in_ok-verdict.verdict ≡ option_map (denies w.given) (first_false c.in_ok-bytes.bytes.items w.text.items) = c.in_ok-verdict.ensures
+    ∙ (λ k. option_map (denies w.given) (first_false (c.deref.ensures.value k) (text k))) in
+    let front : IfSome s.held (λ files. IsFrontOf (file_at files w.name.now) (length w.text.items) 256 c.in_ok-bytes.bytes.items) =
+    subst (λ n. IfSome s.held (λ files. IsFrontOf (file_at files w.name.now) n 256 c.in_ok-bytes.bytes.items)) size
+    (given_front s.held w.name.now c.in_ok-bytes.bytes.items (length c.as_slice-text.result.now) 256 c.in_ok-bytes.ensures.front) in
     record {
       only = c.read_front.ensures.only;
       calls = c.read_front.ensures.calls;

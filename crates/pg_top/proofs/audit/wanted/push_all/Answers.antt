@@ -20,7 +20,8 @@ returns g c =
     let list : List Reading = if_asked (name_now n.pattmp) (λ name. given_file (λ _. i) (Pattmp, name)) in
     let text : c.in_ok-text.text.items ≡ selected_text i = c.in_ok-text.ensures.text ∙ text_selected i c.patterns.result.now (c.patterns.ensures ∙ c.requires.told.patterns) in
     let report = c.in_ok-report.ensures ∙ report_selected i c.largest.result (account_of c.args.run.now) c.largest.ensures.value c.requires.told.account in
-    let first = c.in_ok-push_wanted.ensures ∙ ap (λ (ws : List Wanted). wanted_files ws ++ reading_of Patterns n.output.now c.in_ok-text.text.items ∷ []) c.requires.empty ∙ ap (λ (t : List ℕ). reading_of Patterns n.output.now t ∷ []) text in
+    let first = c.in_ok-push_wanted.ensures ∙ ap (λ (ws : List Wanted). wanted_files ws ++ reading_of Patterns n.output.now c.in_ok-text.text.items ∷ []) c.requires.empty
+    ∙ ap (λ (t : List ℕ). reading_of Patterns n.output.now t ∷ []) text in
     let second = c.in_ok-push_pattmp.ensures ∙ ap (λ (rs : List Reading). rs ++ list) first in
     on_ok_weaker c.push_wanted-2.result (λ is. is ∙ ap (λ (rs : List Reading). rs ++ reading_of Report n.report.now c.in_ok-report.report.items ∷ []) second
     ∙ ap (λ (t : List ℕ). reading_of Patterns n.output.now (selected_text i) ∷ (list ++ reading_of Report n.report.now t ∷ [])) report

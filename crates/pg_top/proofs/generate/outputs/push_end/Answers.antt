@@ -13,5 +13,6 @@ pub returns : goal.returns
 returns c =
     let end = sym c.in-Some.is ∙ c.last_layout.ensures ∙ last_is (selected_cells c.args.inputs.now) c.args.run.now c.requires.cells in
     let same : c.in-Some.layout ≡ last_layout (selected_cells c.args.inputs.now) = cc in
-    subst (λ n. OnOk c.push_work.result (c.push_work.new.lines.items ≡ c.args.lines.now.items ++ work_line n (last_layout (selected_cells c.args.inputs.now)))) (c.begun.ensures ∙ c.requires.told.begun)
+    subst (λ n. OnOk c.push_work.result (c.push_work.new.lines.items ≡ c.args.lines.now.items ++ work_line n (last_layout (selected_cells c.args.inputs.now))))
+    (c.begun.ensures ∙ c.requires.told.begun)
     (subst (λ (l : Layout). OnOk c.push_work.result (c.push_work.new.lines.items ≡ c.args.lines.now.items ++ work_line c.begun.result l)) same c.push_work.ensures)

@@ -14,6 +14,7 @@ returns c =
     let i = c.args.inputs.now in
     let text : c.in_ok-text.text.items ≡ selected_text i = c.in_ok-text.ensures.text ∙ text_selected i c.patterns.result.now (c.patterns.ensures ∙ c.requires.told.patterns) in
     record {
-      file = c.in_ok-push_file.ensures ∙ ap (λ (xs : List Output). writing_of xs ++ (c.args.name.now, c.in_ok-text.text.items) ∷ []) c.requires.empty ∙ ap (λ (t : List ℕ). (c.args.name.now, t) ∷ []) text;
+      file = c.in_ok-push_file.ensures ∙ ap (λ (xs : List Output). writing_of xs ++ (c.args.name.now, c.in_ok-text.text.items) ∷ []) c.requires.empty
+          ∙ ap (λ (t : List ℕ). (c.args.name.now, t) ∷ []) text;
       lines = c.in_ok-lines.ensures;
     }

@@ -43,7 +43,8 @@ returns-in_err-patterns g c =
     let is = c.from_residual-in_err-patterns.ensures.1 in
     record {
       read = files_stopped _ s0 s2 r _ c.in_err-patterns.field-0.0 is (only_on s0 s1 s2 first.only then.only)
-          (stopped_second t c.in_ok-table.table start Patterns P [] s0 s1 s2 c.in_err-patterns.field-0.0 first.only.reads calls then.only.held c.in_ok-table.ensures.ok c.in_err-patterns.ensures.read.stopped);
+          (stopped_second t c.in_ok-table.table start Patterns P [] s0 s1 s2 c.in_err-patterns.field-0.0 first.only.reads calls then.only.held
+          c.in_ok-table.ensures.ok c.in_err-patterns.ensures.read.stopped);
       known = IfOk-from_err r _ c.from_residual-in_err-patterns.ensures.0;
     }
 
@@ -59,7 +60,8 @@ returns g c =
     record {
       read = record {
         only = only_on s0 s1 s2 first.only then.only;
-        ok = source_read (record { patterns = P; translate = t; table = [] }) c.in_ok-table.table c.in_ok-patterns.patterns s1.held s2.held then.only.held c.in_ok-table.ensures.ok c.in_ok-patterns.ensures.read.ok;
+        ok = source_read (record { patterns = P; translate = t; table = [] }) c.in_ok-table.table c.in_ok-patterns.patterns s1.held s2.held then.only.held
+            c.in_ok-table.ensures.ok c.in_ok-patterns.ensures.read.ok;
         counted = calls_on (Reads t ∷ []) (Reads P ∷ []) s0 s1 s2 first.calls then.calls;
         stopped = tt;
       };

@@ -35,7 +35,8 @@ returns-in_err-patterns g c =
     let is = c.from_residual-in_err-patterns.ensures.1 in
     record {
       read = files_stopped _ s0 s2 r _ c.in_err-patterns.field-0.0 is (only_on s0 s1 s2 first.only then.only)
-          (stopped_lists p c.in_ok-table.table s0 s1 s2 c.in_err-patterns.field-0.0 first.only.reads first.calls then.only.held c.in_ok-table.ensures.ok (c.in_err-patterns.ensures.stopped p.translate c.in_ok-table.ensures.ok));
+          (stopped_lists p c.in_ok-table.table s0 s1 s2 c.in_err-patterns.field-0.0 first.only.reads first.calls then.only.held c.in_ok-table.ensures.ok
+          (c.in_err-patterns.ensures.stopped p.translate c.in_ok-table.ensures.ok));
       known = IfOk-from_err r _ c.from_residual-in_err-patterns.ensures.0;
     }
 

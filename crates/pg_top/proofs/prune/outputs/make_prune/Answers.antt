@@ -20,4 +20,5 @@ returns-clause-named g c = IfOk-weaker c.write_pruned.result _ _ (λ made files.
 
 pub returns-clause-reads_back : goal.returns-clause-reads_back
 returns-clause-reads_back g c =
-    IfOk-weaker c.write_pruned.result _ _ (λ made back. subst (λ (found : Found). ReadsBack c.args.inputs.now.table found.patterns) c.in_ok-pruned.ensures.pruned back) c.write_pruned.ensures.reads_back
+    IfOk-weaker c.write_pruned.result _ _ (λ made back. subst (λ (found : Found). ReadsBack c.args.inputs.now.table found.patterns) c.in_ok-pruned.ensures.pruned back)
+    c.write_pruned.ensures.reads_back

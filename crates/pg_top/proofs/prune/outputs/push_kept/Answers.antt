@@ -14,4 +14,5 @@ returns-clause-file c =
 pub returns-clause-reads_back : goal.returns-clause-reads_back
 returns-clause-reads_back c =
     let text = c.in_ok-text.ensures.text ∙ ap (pattern_text c.args.table.now) c.patterns.ensures in
-    on_ok_weaker c.push_file.result (λ is short. ap (start c.args.table.now) (sym text) ∙ c.in_ok-text.ensures.read_back (subst (λ (b : List ℕ). length b ≤ FILE_MAX) (sym text) short) ∙ ap Ok c.patterns.ensures) c.push_file.ensures
+    on_ok_weaker c.push_file.result (λ is short. ap (start c.args.table.now) (sym text) ∙ c.in_ok-text.ensures.read_back (subst (λ (b : List ℕ). length b ≤ FILE_MAX) (sym text) short)
+    ∙ ap Ok c.patterns.ensures) c.push_file.ensures

@@ -42,7 +42,8 @@ returns-in_err-set g c =
     let is = c.from_residual.ensures.1 in
     record {
       read = files_stopped _ s0 s2 r _ c.in_err-set.field-0.0 is (only_on s0 s1 s2 c.sets.invariant.only c.read_parameters.ensures.only)
-          (stopped_set names c.sets.i c.index-names-i.result c.index-names-i.is c.sets-test.true s0 s1 s2 c.sets.sets.items c.in_err-set.field-0.0 c.sets.invariant.only.reads calls c.read_parameters.ensures.only.held c.sets.invariant.taken stops);
+          (stopped_set names c.sets.i c.index-names-i.result c.index-names-i.is c.sets-test.true s0 s1 s2 c.sets.sets.items c.in_err-set.field-0.0
+          c.sets.invariant.only.reads calls c.read_parameters.ensures.only.held c.sets.invariant.taken stops);
       count = IfOk-from_err r _ c.from_residual.ensures.0;
     }
 
@@ -59,7 +60,8 @@ returns-in-Err g c =
         only = only_on s0 s1 s2 c.sets.invariant.only c.read_parameters.ensures.only;
         ok = tt;
         counted = tt;
-        stopped = stopped_set names c.sets.i c.index-names-i.result c.index-names-i.is c.sets-test.true s0 s1 s2 c.sets.sets.items Memory c.sets.invariant.only.reads calls c.read_parameters.ensures.only.held c.sets.invariant.taken tt;
+        stopped = stopped_set names c.sets.i c.index-names-i.result c.index-names-i.is c.sets-test.true s0 s1 s2 c.sets.sets.items Memory
+            c.sets.invariant.only.reads calls c.read_parameters.ensures.only.held c.sets.invariant.taken tt;
       };
       count = tt;
     }

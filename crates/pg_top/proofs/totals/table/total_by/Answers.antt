@@ -36,7 +36,8 @@ returns-in-Ok g c =
     record {
       only = c.read_front.ensures.only;
       calls = c.read_front.ensures.calls;
-      ok = mapped s.held (λ files. read_as (packed_table t) (file_at files) name ≡ Some (Ok b)) (λ files. IsTotalled t ws (file_at files) name c.in_ok-lines-in-Ok.lines.items) (λ files h. (b, h, lines))
+      ok = mapped s.held (λ files. read_as (packed_table t) (file_at files) name ≡ Some (Ok b)) (λ files. IsTotalled t ws (file_at files) name c.in_ok-lines-in-Ok.lines.items)
+          (λ files h. (b, h, lines))
           (read_up_to TABLE_MAX (packed_table t) (packed_table-front t) s.held name bytes (Ok b) c.in_ok-bytes.ensures.front is);
       stopped = tt;
     }
@@ -49,7 +50,8 @@ returns g c =
       only = c.read_front.ensures.only;
       calls = c.read_front.ensures.calls;
       ok = tt;
-      stopped = stopped_up_to TABLE_MAX (packed_table t) (packed_table-front t) input.Table c.args.name.now c.in_ok-bytes.bytes.items (g.F.Files.shown c.args.files.now) (g.F.Files.shown c.read_front.new.files) (reader.Refused c.in-Err.refusal) c.in_ok-bytes.ensures.front is;
+      stopped = stopped_up_to TABLE_MAX (packed_table t) (packed_table-front t) input.Table c.args.name.now c.in_ok-bytes.bytes.items
+          (g.F.Files.shown c.args.files.now) (g.F.Files.shown c.read_front.new.files) (reader.Refused c.in-Err.refusal) c.in_ok-bytes.ensures.front is;
     }
 
 pub returns-in_err-bytes : goal.returns-in_err-bytes

@@ -21,13 +21,16 @@ returns-in_err-check_marks-clause-answer c =
     let line = c.args.line.now in
     let refusal = c.in_err-check_marks.field-0.0 in
     let err = err_from_is_err_and c.from_residual-in_err-check_marks.result c.from_residual-in_err-check_marks.ensures.1 in
-    let marks : c.mark_in-error.result ∷ c.mark_in-missed.result ∷ c.mark_in-found.result ∷ c.mark_in-dont_care.result ∷ [] ≡ marks_of line = (λ i. c.mark_in-error.ensures i ∷ c.mark_in-missed.ensures i ∷ c.mark_in-found.ensures i ∷ c.mark_in-dont_care.ensures i ∷ []) in
-    rw (err.1, err.2) (subst (λ (checks : List Refusal). first_failure (checks ++ mark_checks (marks_of line)) ≡ Err refusal) (sym c.in_ok-left.ensures.answer.0) (subst (λ (ms : List ℕ). first_failure (mark_checks ms) ≡ Err refusal) marks c.in_err-check_marks.ensures))
+    let marks : c.mark_in-error.result ∷ c.mark_in-missed.result ∷ c.mark_in-found.result ∷ c.mark_in-dont_care.result ∷ []
+    ≡ marks_of line = (λ i. c.mark_in-error.ensures i ∷ c.mark_in-missed.ensures i ∷ c.mark_in-found.ensures i ∷ c.mark_in-dont_care.ensures i ∷ []) in
+    rw (err.1, err.2) (subst (λ (checks : List Refusal). first_failure (checks ++ mark_checks (marks_of line)) ≡ Err refusal) (sym c.in_ok-left.ensures.answer.0)
+    (subst (λ (ms : List ℕ). first_failure (mark_checks ms) ≡ Err refusal) marks c.in_err-check_marks.ensures))
 
 pub returns-clause-answer : goal.returns-clause-answer
 returns-clause-answer c =
     let line = c.args.line.now in
-    let marks : c.mark_in-error.result ∷ c.mark_in-missed.result ∷ c.mark_in-found.result ∷ c.mark_in-dont_care.result ∷ [] ≡ marks_of line = (λ i. c.mark_in-error.ensures i ∷ c.mark_in-missed.ensures i ∷ c.mark_in-found.ensures i ∷ c.mark_in-dont_care.ensures i ∷ []) in
+    let marks : c.mark_in-error.result ∷ c.mark_in-missed.result ∷ c.mark_in-found.result ∷ c.mark_in-dont_care.result ∷ []
+    ≡ marks_of line = (λ i. c.mark_in-error.ensures i ∷ c.mark_in-missed.ensures i ∷ c.mark_in-found.ensures i ∷ c.mark_in-dont_care.ensures i ∷ []) in
     record {
       minima_pass = c.in_ok-left.ensures.answer.0;
       marks_pass = subst (λ (ms : List ℕ). mark_checks ms ≡ []) marks c.in_ok-check_marks.ensures;

@@ -24,7 +24,8 @@ add-requires-2-clause-apart c = rw (c.in_ok-add.ensures.spellings, c.requires.be
 pub add-requires-2-clause-low : goal.add-requires-2-clause-low
 add-requires-2-clause-low c =
     let letters : letters_in (pairs c.args.self.now) ≡ c.args.n = ap letters_in c.requires.before ∙ (default_fits c.args.n c.requires.number).letters in
-    let more : letters_in (pairs c.add.new.self) ≡ max (letters_in (pairs c.args.self.now)) (c.args.n + 2 - 1) = ap letters_in c.in_ok-add.ensures.spellings ∙ letters_in-push (pairs c.args.self.now) (c.args.n + 2, (97 + c.args.n) ∷ []) in
+    let more : letters_in (pairs c.add.new.self) ≡ max (letters_in (pairs c.args.self.now)) (c.args.n + 2 - 1) = ap letters_in c.in_ok-add.ensures.spellings
+    ∙ letters_in-push (pairs c.args.self.now) (c.args.n + 2, (97 + c.args.n) ∷ []) in
     omega arith
 
 pub returns-clause-spellings : goal.returns-clause-spellings

@@ -24,23 +24,31 @@ front-requires c =
 
 pub returns-in-None : goal.returns-in-None
 returns-in-None c =
-    let past : front_in (pairs c.args.self.now) (take (c.bytes.i + 1) c.args.text.now) ≡ None = sym (walk_front _ _ _ _ c.requires.sound c.type_inv.text c.bytes.invariant.0 (omega arith)) ∙ sym c.front.ensures ∙ c.in-None.is in
+    let past : front_in (pairs c.args.self.now) (take (c.bytes.i + 1) c.args.text.now) ≡ None = sym (walk_front _ _ _ _ c.requires.sound c.type_inv.text c.bytes.invariant.0 (omega arith))
+    ∙ sym c.front.ensures ∙ c.in-None.is in
     sym (clash_miss _ _ _ _ past c.bytes.invariant.0.none)
 
 pub returns-then-i-text : goal.returns-then-i-text
 returns-then-i-text c =
-    let whole : front_in (pairs c.args.self.now) (take (c.bytes.i + 1) c.args.text.now) ≡ Some (Whole c.in-Some-Whole.other) = sym (walk_front _ _ _ _ c.requires.sound c.type_inv.text c.bytes.invariant.0 (omega arith)) ∙ sym c.front.ensures ∙ c.in-Some-Whole.is ∙ ap (λ (f : Front). Some f) c.in-Some-Whole.field-0-is in
+    let whole : front_in (pairs c.args.self.now) (take (c.bytes.i + 1) c.args.text.now) ≡ Some (Whole c.in-Some-Whole.other) =
+    sym (walk_front _ _ _ _ c.requires.sound c.type_inv.text c.bytes.invariant.0 (omega arith)) ∙ sym c.front.ensures ∙ c.in-Some-Whole.is
+    ∙ ap (λ (f : Front). Some f) c.in-Some-Whole.field-0-is in
     lt-ltb _ _ c.if-i-text.true ∙ sym (clash_front (pairs c.args.self.now) c.args.sign c.in-Some-Whole.other c.args.text.now c.bytes.i c.if-i-text.true whole)
 
 pub returns-else-i-text : goal.returns-else-i-text
 returns-else-i-text c =
-    let whole : front_in (pairs c.args.self.now) (take (c.bytes.i + 1) c.args.text.now) ≡ Some (Whole c.in-Some-Whole.other) = sym (walk_front _ _ _ _ c.requires.sound c.type_inv.text c.bytes.invariant.0 (omega arith)) ∙ sym c.front.ensures ∙ c.in-Some-Whole.is ∙ ap (λ (f : Front). Some f) c.in-Some-Whole.field-0-is in
+    let whole : front_in (pairs c.args.self.now) (take (c.bytes.i + 1) c.args.text.now) ≡ Some (Whole c.in-Some-Whole.other) =
+    sym (walk_front _ _ _ _ c.requires.sound c.type_inv.text c.bytes.invariant.0 (omega arith)) ∙ sym c.front.ensures ∙ c.in-Some-Whole.is
+    ∙ ap (λ (f : Front). Some f) c.in-Some-Whole.field-0-is in
     sym (clash_whole _ _ _ _ _ c.requires.sound.apart (omega arith) whole)
 
 pub bytes-preserved : goal.bytes-preserved
 bytes-preserved c =
-    let front : front_in (pairs c.args.self.now) (take (c.bytes.i + 1) c.args.text.now) ≡ Some Inside = sym (walk_front _ _ _ _ c.requires.sound c.type_inv.text c.bytes.invariant.0 (omega arith)) ∙ sym c.front.ensures ∙ c.in-Some-Inside.is ∙ ap (λ (f : Front). Some f) c.in-Some-Inside.field-0-is in
-    (walk_more _ _ _ _ c.requires.sound c.type_inv.text c.bytes.invariant.0 (omega arith) (sym c.front.ensures ∙ c.in-Some-Inside.is ∙ ap (λ (f : Front). Some f) c.in-Some-Inside.field-0-is), λ some. front)
+    let front : front_in (pairs c.args.self.now) (take (c.bytes.i + 1) c.args.text.now) ≡ Some Inside = sym (walk_front _ _ _ _ c.requires.sound c.type_inv.text c.bytes.invariant.0 (omega arith))
+    ∙ sym c.front.ensures ∙ c.in-Some-Inside.is ∙ ap (λ (f : Front). Some f) c.in-Some-Inside.field-0-is in (
+      walk_more _ _ _ _ c.requires.sound c.type_inv.text c.bytes.invariant.0 (omega arith) (sym c.front.ensures ∙ c.in-Some-Inside.is ∙ ap (λ (f : Front). Some f) c.in-Some-Inside.field-0-is),
+      λ some. front,
+    )
 
 pub returns : goal.returns
 returns c =

@@ -22,7 +22,10 @@ set_front-requires c =
 
 pub bytes-preserved : goal.bytes-preserved
 bytes-preserved c =
-    enter_more c.args.self.now c.bytes.self c.set_front.new.self (c.args.sign, c.args.text.now) c.bytes.i c.bytes.code c.type_inv.text c.bytes.invariant (omega arith) (λ other large. subst (λ (f : Front). front_at c.set_front.new.self other ≡ (if other == c.bytes.code * 256 + get_or c.args.text.now c.bytes.i 0 then Some f else front_at c.bytes.self other)) c.of_size.ensures (c.in_ok-set_front.ensures.front other large)) c.set_front.ensures.spellings c.set_front.ensures.firsts
+    enter_more c.args.self.now c.bytes.self c.set_front.new.self (c.args.sign, c.args.text.now) c.bytes.i c.bytes.code c.type_inv.text c.bytes.invariant
+    (omega arith) (λ other large. subst (λ (f : Front). front_at c.set_front.new.self other
+    ≡ (if other == c.bytes.code * 256 + get_or c.args.text.now c.bytes.i 0 then Some f else front_at c.bytes.self other)) c.of_size.ensures (c.in_ok-set_front.ensures.front other large))
+    c.set_front.ensures.spellings c.set_front.ensures.firsts
 
 pub returns-clause-fronts : goal.returns-clause-fronts
 returns-clause-fronts c = enter_end c.args.self.now c.bytes.self (c.args.sign, c.args.text.now) c.bytes.i c.bytes.code c.bytes.invariant (omega arith)

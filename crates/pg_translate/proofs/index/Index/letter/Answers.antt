@@ -24,17 +24,20 @@ front-requires c =
 
 pub returns-in-None-clause-letter : goal.returns-in-None-clause-letter
 returns-in-None-clause-letter c =
-    let past : front_in (pairs c.args.self.now) (take (c.bytes.i + 1) c.args.text.now) ≡ None = sym (walk_front _ _ _ _ c.requires c.type_inv.text c.bytes.invariant (omega arith)) ∙ sym c.front.ensures ∙ c.in-None.is in
+    let past : front_in (pairs c.args.self.now) (take (c.bytes.i + 1) c.args.text.now) ≡ None = sym (walk_front _ _ _ _ c.requires c.type_inv.text c.bytes.invariant (omega arith))
+    ∙ sym c.front.ensures ∙ c.in-None.is in
     walk_miss _ _ _ past c.bytes.invariant.none
 
 pub returns-in-Some-Whole-clause-letter : goal.returns-in-Some-Whole-clause-letter
 returns-in-Some-Whole-clause-letter c =
-    let whole : front_in (pairs c.args.self.now) (take (c.bytes.i + 1) c.args.text.now) ≡ Some (Whole c.in-Some-Whole.sign) = sym (walk_front _ _ _ _ c.requires c.type_inv.text c.bytes.invariant (omega arith)) ∙ sym c.front.ensures ∙ c.in-Some-Whole.is ∙ ap (λ (f : Front). Some f) c.in-Some-Whole.field-0-is in
+    let whole : front_in (pairs c.args.self.now) (take (c.bytes.i + 1) c.args.text.now) ≡ Some (Whole c.in-Some-Whole.sign) =
+    sym (walk_front _ _ _ _ c.requires c.type_inv.text c.bytes.invariant (omega arith)) ∙ sym c.front.ensures ∙ c.in-Some-Whole.is ∙ ap (λ (f : Front). Some f) c.in-Some-Whole.field-0-is in
     walk_hit _ _ _ _ c.requires.apart (omega arith) whole
 
 pub returns-in-Some-Whole-clause-sign : goal.returns-in-Some-Whole-clause-sign
 returns-in-Some-Whole-clause-sign c =
-    let whole : front_in (pairs c.args.self.now) (take (c.bytes.i + 1) c.args.text.now) ≡ Some (Whole c.in-Some-Whole.sign) = sym (walk_front _ _ _ _ c.requires c.type_inv.text c.bytes.invariant (omega arith)) ∙ sym c.front.ensures ∙ c.in-Some-Whole.is ∙ ap (λ (f : Front). Some f) c.in-Some-Whole.field-0-is in
+    let whole : front_in (pairs c.args.self.now) (take (c.bytes.i + 1) c.args.text.now) ≡ Some (Whole c.in-Some-Whole.sign) =
+    sym (walk_front _ _ _ _ c.requires c.type_inv.text c.bytes.invariant (omega arith)) ∙ sym c.front.ensures ∙ c.in-Some-Whole.is ∙ ap (λ (f : Front). Some f) c.in-Some-Whole.field-0-is in
     let among : IsAmong (c.in-Some-Whole.sign, take (c.bytes.i + 1) c.args.text.now) (pairs c.args.self.now) = whole_in _ _ _ whole in
     (c.requires.signs _ among, sign_within _ _ among)
 

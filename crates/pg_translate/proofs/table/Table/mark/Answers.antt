@@ -9,7 +9,8 @@ use Rattle.pg_translate.proofs.table.Table.mark.Goals as goal
 
 pub returns-then-byte-self-clause-mark : goal.returns-then-byte-self-clause-mark
 returns-then-byte-self-clause-mark c =
-    subst (λ (marks : List ℕ). mark_at marks c.args.text.now ≡ Some (Marked Error, 1)) (ap (λ (t : Alphabet). t.marks) c.self.view_is) (first_mark (head_marks c.self.inside.head) c.args.text.now c.requires c.if-byte-self.true)
+    subst (λ (marks : List ℕ). mark_at marks c.args.text.now ≡ Some (Marked Error, 1)) (ap (λ (t : Alphabet). t.marks) c.self.view_is)
+    (first_mark (head_marks c.self.inside.head) c.args.text.now c.requires c.if-byte-self.true)
 
 pub returns-then-byte-self-clause-begun : goal.returns-then-byte-self-clause-begun
 returns-then-byte-self-clause-begun c =
@@ -17,24 +18,30 @@ returns-then-byte-self-clause-begun c =
 
 pub returns-then-byte-self-2-clause-mark : goal.returns-then-byte-self-2-clause-mark
 returns-then-byte-self-2-clause-mark c =
-    subst (λ (marks : List ℕ). mark_at marks c.args.text.now ≡ Some (Marked Missed, 1)) (ap (λ (t : Alphabet). t.marks) c.self.view_is) (second_mark (head_marks c.self.inside.head) c.args.text.now c.requires c.if-byte-self.false c.if-byte-self-2.true)
+    subst (λ (marks : List ℕ). mark_at marks c.args.text.now ≡ Some (Marked Missed, 1)) (ap (λ (t : Alphabet). t.marks) c.self.view_is)
+    (second_mark (head_marks c.self.inside.head) c.args.text.now c.requires c.if-byte-self.false c.if-byte-self-2.true)
 
 pub returns-then-byte-self-2-clause-begun : goal.returns-then-byte-self-2-clause-begun
 returns-then-byte-self-2-clause-begun c =
-    mark_begun _ (keeps c.self.inside.head c.self.inside.index c.self.invariant) c.args.text.now _ (second_mark (head_marks c.self.inside.head) c.args.text.now c.requires c.if-byte-self.false c.if-byte-self-2.true)
+    mark_begun _ (keeps c.self.inside.head c.self.inside.index c.self.invariant) c.args.text.now _
+    (second_mark (head_marks c.self.inside.head) c.args.text.now c.requires c.if-byte-self.false c.if-byte-self-2.true)
 
 pub returns-then-byte-self-3-clause-mark : goal.returns-then-byte-self-3-clause-mark
 returns-then-byte-self-3-clause-mark c =
-    subst (λ (marks : List ℕ). mark_at marks c.args.text.now ≡ Some (Marked Found, 1)) (ap (λ (t : Alphabet). t.marks) c.self.view_is) (third_mark (head_marks c.self.inside.head) c.args.text.now c.requires c.if-byte-self.false c.if-byte-self-2.false c.if-byte-self-3.true)
+    subst (λ (marks : List ℕ). mark_at marks c.args.text.now ≡ Some (Marked Found, 1)) (ap (λ (t : Alphabet). t.marks) c.self.view_is)
+    (third_mark (head_marks c.self.inside.head) c.args.text.now c.requires c.if-byte-self.false c.if-byte-self-2.false c.if-byte-self-3.true)
 
 pub returns-then-byte-self-3-clause-begun : goal.returns-then-byte-self-3-clause-begun
 returns-then-byte-self-3-clause-begun c =
-    mark_begun _ (keeps c.self.inside.head c.self.inside.index c.self.invariant) c.args.text.now _ (third_mark (head_marks c.self.inside.head) c.args.text.now c.requires c.if-byte-self.false c.if-byte-self-2.false c.if-byte-self-3.true)
+    mark_begun _ (keeps c.self.inside.head c.self.inside.index c.self.invariant) c.args.text.now _
+    (third_mark (head_marks c.self.inside.head) c.args.text.now c.requires c.if-byte-self.false c.if-byte-self-2.false c.if-byte-self-3.true)
 
 pub returns-then-byte-self-4-clause-mark : goal.returns-then-byte-self-4-clause-mark
 returns-then-byte-self-4-clause-mark c =
-    subst (λ (marks : List ℕ). mark_at marks c.args.text.now ≡ Some (Marked DontCare, 1)) (ap (λ (t : Alphabet). t.marks) c.self.view_is) (fourth_mark (head_marks c.self.inside.head) c.args.text.now c.requires c.if-byte-self.false c.if-byte-self-2.false c.if-byte-self-3.false c.if-byte-self-4.true)
+    subst (λ (marks : List ℕ). mark_at marks c.args.text.now ≡ Some (Marked DontCare, 1)) (ap (λ (t : Alphabet). t.marks) c.self.view_is)
+    (fourth_mark (head_marks c.self.inside.head) c.args.text.now c.requires c.if-byte-self.false c.if-byte-self-2.false c.if-byte-self-3.false c.if-byte-self-4.true)
 
 pub returns-then-byte-self-4-clause-begun : goal.returns-then-byte-self-4-clause-begun
 returns-then-byte-self-4-clause-begun c =
-    mark_begun _ (keeps c.self.inside.head c.self.inside.index c.self.invariant) c.args.text.now _ (fourth_mark (head_marks c.self.inside.head) c.args.text.now c.requires c.if-byte-self.false c.if-byte-self-2.false c.if-byte-self-3.false c.if-byte-self-4.true)
+    mark_begun _ (keeps c.self.inside.head c.self.inside.index c.self.invariant) c.args.text.now _
+    (fourth_mark (head_marks c.self.inside.head) c.args.text.now c.requires c.if-byte-self.false c.if-byte-self-2.false c.if-byte-self-3.false c.if-byte-self-4.true)

@@ -16,15 +16,18 @@ renew-requires-clause-heads c q u at =
     omega arith
 
 pub prune-requires-clause-short : goal.prune-requires-clause-short
-prune-requires-clause-short c = short c.self.inside.cells c.self.inside.lists c.self.invariant c.outputs.result.now c.outputs.ensures c.fresh_heads.new.fresh c.in_ok-heads.heads.items c.deref.result.now c.in_ok-heads.ensures c.deref.ensures.value c.renew.new.cells c.renew.ensures
+prune-requires-clause-short c = short c.self.inside.cells c.self.inside.lists c.self.invariant c.outputs.result.now c.outputs.ensures c.fresh_heads.new.fresh
+    c.in_ok-heads.heads.items c.deref.result.now c.in_ok-heads.ensures c.deref.ensures.value c.renew.new.cells c.renew.ensures
 
 pub invariant_of-self : goal.invariant_of-self
 invariant_of-self c =
-    (level_end c.self.inside.cells c.self.inside.lists c.self.invariant c.outputs.result.now c.outputs.ensures c.fresh_heads.new.fresh c.in_ok-heads.heads.items c.deref.result.now c.in_ok-heads.ensures c.deref.ensures.value c.renew.new.cells c.renew.ensures
+    (level_end c.self.inside.cells c.self.inside.lists c.self.invariant c.outputs.result.now c.outputs.ensures c.fresh_heads.new.fresh c.in_ok-heads.heads.items
+    c.deref.result.now c.in_ok-heads.ensures c.deref.ensures.value c.renew.new.cells c.renew.ensures
     c.prune.new.cells c.prune.ensures c.args.self.now c.self.view_is c.new.result c.new.ensures).trie
 
 pub returns : goal.returns
 returns c =
-    let end = level_end c.self.inside.cells c.self.inside.lists c.self.invariant c.outputs.result.now c.outputs.ensures c.fresh_heads.new.fresh c.in_ok-heads.heads.items c.deref.result.now c.in_ok-heads.ensures c.deref.ensures.value c.renew.new.cells c.renew.ensures
+    let end = level_end c.self.inside.cells c.self.inside.lists c.self.invariant c.outputs.result.now c.outputs.ensures c.fresh_heads.new.fresh
+    c.in_ok-heads.heads.items c.deref.result.now c.in_ok-heads.ensures c.deref.ensures.value c.renew.new.cells c.renew.ensures
     c.prune.new.cells c.prune.ensures c.args.self.now c.self.view_is c.new.result c.new.ensures in
     record { ok = end.view; tails = end.tails_are; err = tt; signs = ap (λ (m : Maps). m.signs) end.view }

@@ -11,29 +11,34 @@ use Rattle.pg_trie.proofs.Changes.{SameMaps, blanks_stay, records_stay, both_sta
 use Rattle.pg_trie.proofs.trie.PatternTrie.enter.Goals as goal
 
 pub invariant_of-self : goal.invariant_of-self
-invariant_of-self c = (blanks_stay c.self.inside.cells c.enter.new.cells c.self.inside.lists c.args.signs.now c.self.invariant c.enter.ensures.held c.enter.ensures.signs c.requires.few (subst (λ b. AddsBlanks c.args.signs.now b c.self.inside.cells.values c.enter.new.cells.values) c.none.ensures c.enter.ensures.blanks)).trie
+invariant_of-self c = (blanks_stay c.self.inside.cells c.enter.new.cells c.self.inside.lists c.args.signs.now c.self.invariant c.enter.ensures.held c.enter.ensures.signs c.requires.few
+    (subst (λ b. AddsBlanks c.args.signs.now b c.self.inside.cells.values c.enter.new.cells.values) c.none.ensures c.enter.ensures.blanks)).trie
 
 pub returns-in_err-cell-clause-err : goal.returns-in_err-cell-clause-err
 returns-in_err-cell-clause-err c =
     let err = err_from_is_err_and c.from_residual.result c.from_residual.ensures.1 in
-    let same = blanks_stay c.self.inside.cells c.enter.new.cells c.self.inside.lists c.args.signs.now c.self.invariant c.enter.ensures.held c.enter.ensures.signs c.requires.few (subst (λ b. AddsBlanks c.args.signs.now b c.self.inside.cells.values c.enter.new.cells.values) c.none.ensures c.enter.ensures.blanks) in
+    let same = blanks_stay c.self.inside.cells c.enter.new.cells c.self.inside.lists c.args.signs.now c.self.invariant c.enter.ensures.held c.enter.ensures.signs c.requires.few
+    (subst (λ b. AddsBlanks c.args.signs.now b c.self.inside.cells.values c.enter.new.cells.values) c.none.ensures c.enter.ensures.blanks) in
     rw (err.1) (same_view c.self.inside.cells c.self.inside.lists c.enter.new.cells c.self.inside.lists c.args.self.now c.self.view_is same c.enter.ensures.signs)
 
 pub raised_head-requires-clause-head : goal.raised_head-requires-clause-head
 raised_head-requires-clause-head c =
-    let same = blanks_stay c.self.inside.cells c.enter.new.cells c.self.inside.lists c.args.signs.now c.self.invariant c.enter.ensures.held c.enter.ensures.signs c.requires.few (subst (λ b. AddsBlanks c.args.signs.now b c.self.inside.cells.values c.enter.new.cells.values) c.none.ensures c.enter.ensures.blanks) in
+    let same = blanks_stay c.self.inside.cells c.enter.new.cells c.self.inside.lists c.args.signs.now c.self.invariant c.enter.ensures.held c.enter.ensures.signs c.requires.few
+    (subst (λ b. AddsBlanks c.args.signs.now b c.self.inside.cells.values c.enter.new.cells.values) c.none.ensures c.enter.ensures.blanks) in
     let there = (c.value.ensures c.args.signs.now c.in_ok-cell.ensures.cell ∙ ap Some (sym c.number-old.ensures)) in
     (same.trie.heads c.args.signs.now c.number-old.result there).inside
 
 pub invariant_of-self-in_err-head : goal.invariant_of-self-in_err-head
 invariant_of-self-in_err-head c =
-    let same = blanks_stay c.self.inside.cells c.enter.new.cells c.self.inside.lists c.args.signs.now c.self.invariant c.enter.ensures.held c.enter.ensures.signs c.requires.few (subst (λ b. AddsBlanks c.args.signs.now b c.self.inside.cells.values c.enter.new.cells.values) c.none.ensures c.enter.ensures.blanks) in
+    let same = blanks_stay c.self.inside.cells c.enter.new.cells c.self.inside.lists c.args.signs.now c.self.invariant c.enter.ensures.held c.enter.ensures.signs c.requires.few
+    (subst (λ b. AddsBlanks c.args.signs.now b c.self.inside.cells.values c.enter.new.cells.values) c.none.ensures c.enter.ensures.blanks) in
     (records_stay c.enter.new.cells c.self.inside.lists c.raised_head.new.lists same.trie c.raised_head.ensures.grows).trie
 
 pub returns-in_err-head-clause-err : goal.returns-in_err-head-clause-err
 returns-in_err-head-clause-err c =
     let err = err_from_is_err_and c.from_residual-in_err-head.result c.from_residual-in_err-head.ensures.1 in
-    let same = blanks_stay c.self.inside.cells c.enter.new.cells c.self.inside.lists c.args.signs.now c.self.invariant c.enter.ensures.held c.enter.ensures.signs c.requires.few (subst (λ b. AddsBlanks c.args.signs.now b c.self.inside.cells.values c.enter.new.cells.values) c.none.ensures c.enter.ensures.blanks) in
+    let same = blanks_stay c.self.inside.cells c.enter.new.cells c.self.inside.lists c.args.signs.now c.self.invariant c.enter.ensures.held c.enter.ensures.signs c.requires.few
+    (subst (λ b. AddsBlanks c.args.signs.now b c.self.inside.cells.values c.enter.new.cells.values) c.none.ensures c.enter.ensures.blanks) in
     let more = records_stay c.enter.new.cells c.self.inside.lists c.raised_head.new.lists same.trie c.raised_head.ensures.grows in
     rw (err.1)
     (same_view c.self.inside.cells c.self.inside.lists c.enter.new.cells c.raised_head.new.lists c.args.self.now c.self.view_is
@@ -47,16 +52,19 @@ entering c =
     enters c.enter.new.cells c.set_value.new.self c.raised_head.new.lists c.args.signs.now c.number-old.result c.in_ok-head.head (c.args.value, c.args.dot) more.trie c.set_value.ensures.kept
     (c.set_value.ensures.held c.args.signs.now c.in_ok-cell.ensures.cell)
     there c.in_ok-head.ensures.inside
-    (c.in_ok-head.ensures.list ∙ ap (list_with (c.args.value, c.args.dot)) (sym (c.raised_head.ensures.grows.same c.number-old.result ((entered_cells c).trie.heads c.args.signs.now c.number-old.result there).inside)))
+    (c.in_ok-head.ensures.list ∙ ap (list_with (c.args.value, c.args.dot))
+    (sym (c.raised_head.ensures.grows.same c.number-old.result ((entered_cells c).trie.heads c.args.signs.now c.number-old.result there).inside)))
     c.requires.value.0 c.requires.value.1 c.requires.dot
   where
     entered_cells : (c : goal.After-set_value) → SameMaps c.self.inside.cells c.self.inside.lists c.enter.new.cells c.self.inside.lists
-    entered_cells c = blanks_stay c.self.inside.cells c.enter.new.cells c.self.inside.lists c.args.signs.now c.self.invariant c.enter.ensures.held c.enter.ensures.signs c.requires.few (subst (λ b. AddsBlanks c.args.signs.now b c.self.inside.cells.values c.enter.new.cells.values) c.none.ensures c.enter.ensures.blanks)
+    entered_cells c = blanks_stay c.self.inside.cells c.enter.new.cells c.self.inside.lists c.args.signs.now c.self.invariant c.enter.ensures.held c.enter.ensures.signs c.requires.few
+        (subst (λ b. AddsBlanks c.args.signs.now b c.self.inside.cells.values c.enter.new.cells.values) c.none.ensures c.enter.ensures.blanks)
 
 -- and what it stands on
 standing : (c : goal.After-set_value) → SameMaps c.self.inside.cells c.self.inside.lists c.enter.new.cells c.raised_head.new.lists
 standing c =
-    let same = blanks_stay c.self.inside.cells c.enter.new.cells c.self.inside.lists c.args.signs.now c.self.invariant c.enter.ensures.held c.enter.ensures.signs c.requires.few (subst (λ b. AddsBlanks c.args.signs.now b c.self.inside.cells.values c.enter.new.cells.values) c.none.ensures c.enter.ensures.blanks) in
+    let same = blanks_stay c.self.inside.cells c.enter.new.cells c.self.inside.lists c.args.signs.now c.self.invariant c.enter.ensures.held c.enter.ensures.signs c.requires.few
+    (subst (λ b. AddsBlanks c.args.signs.now b c.self.inside.cells.values c.enter.new.cells.values) c.none.ensures c.enter.ensures.blanks) in
     both_stay c.self.inside.cells c.enter.new.cells c.enter.new.cells c.self.inside.lists c.self.inside.lists c.raised_head.new.lists same
     (records_stay c.enter.new.cells c.self.inside.lists c.raised_head.new.lists same.trie c.raised_head.ensures.grows)
 
@@ -71,12 +79,14 @@ invariant_of-self-2 c = (entering c).trie
 
 pub returns-clause-raised : goal.returns-clause-raised
 returns-clause-raised c le =
-    raised_view c.self.inside.cells c.enter.new.cells c.set_value.new.self c.self.inside.lists c.raised_head.new.lists c.args.signs.now (c.args.value, c.args.dot) c.args.self.now c.self.view_is (standing c) (entering c)
+    raised_view c.self.inside.cells c.enter.new.cells c.set_value.new.self c.self.inside.lists c.raised_head.new.lists c.args.signs.now
+    (c.args.value, c.args.dot) c.args.self.now c.self.view_is (standing c) (entering c)
     (lt-ltb c.args.value HOPELESS (omega arith)) (signs_kept c) (families_kept c)
 
 pub returns-clause-marked : goal.returns-clause-marked
 returns-clause-marked c is =
-    marked_view c.self.inside.cells c.enter.new.cells c.set_value.new.self c.self.inside.lists c.raised_head.new.lists c.args.signs.now (c.args.value, c.args.dot) c.args.self.now c.self.view_is (standing c) (entering c)
+    marked_view c.self.inside.cells c.enter.new.cells c.set_value.new.self c.self.inside.lists c.raised_head.new.lists c.args.signs.now
+    (c.args.value, c.args.dot) c.args.self.now c.self.view_is (standing c) (entering c)
     (le-ltb c.args.value HOPELESS (omega arith)) (signs_kept c) (families_kept c)
 
 pub returns-in_err-cell-clause-signs : goal.returns-in_err-cell-clause-signs
