@@ -47,10 +47,14 @@ impl OpenDots {
             ≡ true) }
     {
         let width = size / NUMBER_BITS + 1;
+        let mut bits = vec![in alloc; u64::MAX; width]?;
+        // Room for the rows of all dots, so that the rows are never copied. What no row needs
+        // stays untouched. Where there is no such room, each row asks for its own.
+        let _ = bits.reserve_exact(width * DOTS);
         Ok(OpenDots {
             width,
             reached: 0,
-            bits: vec![in alloc; u64::MAX; width]?,
+            bits,
         })
     }
 
@@ -71,8 +75,8 @@ impl OpenDots {
         requires { dot ≤ LENGTH_MAX }
         ensures reached { OnOk result (dot < self.new.reached) }
         ensures places { position_count self.new ≡ position_count self.old }
-        ensures closed { OnOk result ((d j : ℕ) → j < position_count self.old
-            → is_closed self.new d j ≡ is_closed self.old d j) }
+        ensures closed { (d j : ℕ) → j < position_count self.old
+            → is_closed self.new d j ≡ is_closed self.old d j }
     {
         while self.reached <= usize::from(dot) {
             self.reach_next()?;
@@ -85,8 +89,8 @@ impl OpenDots {
         requires { self.old.reached < LENGTH_MAX + 1 }
         ensures reached { OnOk result (self.new.reached ≡ self.old.reached + 1) }
         ensures places { position_count self.new ≡ position_count self.old }
-        ensures closed { OnOk result ((d j : ℕ) → j < position_count self.old
-            → is_closed self.new d j ≡ is_closed self.old d j) }
+        ensures closed { (d j : ℕ) → j < position_count self.old
+            → is_closed self.new d j ≡ is_closed self.old d j }
     {
         push_first(&mut self.bits, self.width)?;
         self.reached += 1;
@@ -158,6 +162,8 @@ impl OpenDots {
         ensures closed { OnOk result ((d j : ℕ) → d ≤ LENGTH_MAX → j < position_count self.old
             → is_closed self.new d j
             ≡ (is_closed self.old d j || (nat_le 1 d && is_closed self.old (d - 1) j))) }
+        ensures err { OnErr result ((d j : ℕ) → j < position_count self.old
+            → is_closed self.new d j ≡ is_closed self.old d j) }
     {
         if self.reached == 0 {
             return Ok(());

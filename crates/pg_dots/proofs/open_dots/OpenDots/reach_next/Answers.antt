@@ -22,3 +22,9 @@ invariant_of-self-2 c =
       rows = ap length c.in_ok-push_first.ensures.ok ∙ length-append o.bits.items (take o.width o.bits.items)
           ∙ (let size = length-take-le o.width o.bits.items (omega (arith, o.rows)) in omega (arith, o.rows));
     }
+
+pub returns-in_err-push_first-clause-closed : goal.returns-in_err-push_first-clause-closed
+unfolding is_closed
+returns-in_err-push_first-clause-closed c = λ d j within.
+    let o = c.args.self.now in
+    ap (λ bits. has_bit bits (row_of o.reached d * (64 * o.width) + j)) c.in_err-push_first.ensures.err
