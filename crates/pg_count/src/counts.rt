@@ -65,7 +65,7 @@ impl CountTrie {
         requires { (1 ≤ len) × (len ≤ LENGTH_MAX) }
         ensures { self.new ≡ record self.old { len = len; counts = []; windows = [] } }
     {
-        self.cells.clear(self.windows.window_len() <= len);
+        self.cells.clear(len == self.windows.window_len());
         self.windows.begin(len);
     }
 

@@ -1,5 +1,5 @@
-use Rattle.std.proofs.Common.{[], refl, ap, sym, subst, ◌∙◌, arith}
-use Rattle.std.proofs.lemmas.Bool.{leb-true}
+use Rattle.std.proofs.Common.{[], refl, ap, sym, subst, ◌∙◌}
+use Rattle.std.proofs.lemmas.Bool.{eqb-true}
 use Rattle.pg_count.specs.Inside.Leaves.{AreCounting, AreShort}
 use Rattle.pg_count.specs.Inside.Listed.{Listed}
 use Rattle.pg_count.specs.Inside.Counting.{Counting, counting_of}
@@ -8,10 +8,8 @@ use Rattle.pg_count.proofs.counts.CountTrie.begin.Goals as goal
 
 pub invariant_of-self : goal.invariant_of-self
 invariant_of-self c =
-    let short = c.clear.ensures.short c.args.len c.requires.0 (λ wider q o found.
-    let less = leb-true c.window_len.result c.args.len wider in
-    let upto = c.self.invariant.leaves.short q o found in
-    omega (arith, less, upto, c.window_len.ensures)) in
+    let short = c.clear.ensures.short c.args.len c.requires.0 (λ same. subst (AreShort c.self.inside.cells.values)
+    (sym (eqb-true c.args.len c.window_len.result same ∙ c.window_len.ensures)) c.self.invariant.leaves.short) in
     subst (λ (l : Listed). AreCounting c.clear.new.self l.items l.len) (sym c.begin.ensures)
     (begun_kept c.clear.new.self [] c.self.inside.cells.signs c.args.len c.clear.ensures.signs c.clear.ensures.none refl c.clear.ensures.kept short c.requires.0 c.requires.1)
 
