@@ -86,7 +86,7 @@ impl Counting {
             (E.meaning engine.new).windows self.new windows.new.numbers.items) }
         ensures signs { (E.meaning engine.new).signs ≡ (E.meaning engine.old).signs }
     {
-        windows.numbers.clear();
+        windows.forget_numbers();
         match self {
             Counting::Open(open) => {
                 open.dots.reach(pass.dot)?;

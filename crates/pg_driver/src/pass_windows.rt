@@ -52,6 +52,19 @@ impl PassWindows {
         }
     }
 
+    /// Forgets the numbers of the pass before. Where they took less than a quarter of their memory,
+    /// all but twice what they took is given back: the first passes of a level have far more
+    /// positions than the last ones.
+    pub fn forget_numbers(&mut self)
+        ensures { self.new.numbers.items ≡ [] }
+    {
+        let used = self.numbers.len();
+        self.numbers.clear();
+        if used < self.numbers.capacity() / 4 {
+            self.numbers.shrink_to(2 * used);
+        }
+    }
+
     /// Forgets the order and the decisions of the pass before.
     fn forget(&mut self)
         ensures order { self.new.order.items ≡ [] }
