@@ -1,7 +1,7 @@
 -- The list through the free cells, gone along from the first.
-use Rattle.std.proofs.Common.{◌≢◌, ℕ, ◌<◌, ◌≤◌, inl, inr, arith}
+use Rattle.std.proofs.Common.{◌≡◌, ◌≢◌, ℕ, ◌<◌, ◌≤◌, inl, inr, sym, subst, arith}
 use Rattle.std.proofs.lemmas.Bool.{cases_lt}
-use Rattle.pg_cells.specs.Inside.Lists.{Lists, after_at, IsFree}
+use Rattle.pg_cells.specs.Inside.Lists.{Lists, before_at, after_at, IsFree}
 use Rattle.pg_cells.specs.Inside.FreeList.{AreLinked}
 
 module _ {V : Type 0} where
@@ -30,3 +30,24 @@ module _ {V : Type 0} where
         absurd (let beyond = far least.0 in let near = least.1 in omega arith)
     | inr le ↦ le
   ]
+
+  -- b is the last free cell below the cell
+  pub record IsLast (ls : Lists V) (cell b : ℕ) : Type 0 where
+    pub below : b < cell
+    pub free : IsFree ls.row b
+    pub last : (k : ℕ) → k < cell → IsFree ls.row k → k ≤ b
+
+  -- the first free cell from a taken one on has it before itself
+  pub free_before : (ls : Lists V) → AreLinked ls → (cell high b : ℕ) → cell < high → ((k : ℕ) → cell ≤ k → k < high → IsFree ls.row k → ⊥) → IsFree ls.row high → b ≡ before_at ls high → IsLast ls cell b
+  free_before ls linked cell high b up between free is =
+      let ok = linked.before_ok high (omega arith) free in
+      let here : IsFree ls.row b = subst (IsFree ls.row) (sym is) ok.1 in
+      let less = ok.0 in
+      record {
+        below = elim (cases_lt b cell) [
+          | inl lt ↦ lt
+          | inr le ↦ absurd (between b le (omega arith) here)
+        ];
+        free = here;
+        last = λ k lt there. (let most = linked.before_most high k (omega arith) free (omega arith) there in omega arith);
+      }

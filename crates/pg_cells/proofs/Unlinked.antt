@@ -10,7 +10,7 @@ use Rattle.pg_cells.specs.declared.store.member.Member.{Member}
 use Rattle.pg_cells.specs.Inside.ValuedFamilies.{ValuedFamilies}
 use Rattle.pg_cells.specs.Inside.AreValuedFamilies.{AreValuedFamilies}
 use Rattle.pg_cells.specs.Inside.Links.{unlinked}
-use Rattle.pg_cells.specs.Inside.Members.{goes_on}
+use Rattle.pg_cells.specs.Inside.Members.{IsBefore, goes_on}
 use Rattle.pg_cells.specs.Inside.Root.{root_held}
 use Rattle.pg_cells.proofs.StringMaps.{order, same_string, same_maps, without_key, find_put_same, find_put_other, find_without_same, find_without_other, sorted_put, sorted_without, equal_or_not}
 
@@ -36,6 +36,23 @@ module _ {V : Type 0} where
       by : (o : Option (Member V)) → is_some o ≡ is_some (option_map (λ (k : Member V). k.value) o)
       by None = refl
       by (Some m) = refl
+
+  -- the sign before another one is the same with the links and without them
+  pub before_plain : (es : List (List ℕ × Member V)) (q : List ℕ) (s b : ℕ) → IsBefore es q s b → IsBefore (plain es) q s b
+  before_plain es q s b is = record {
+    less = is.less;
+    there = elim is.there [ inl z ↦ inl z | inr goes ↦ inr (sym (goes_plain es q b) ∙ goes) ];
+    most = λ z lt goes. is.most z lt (goes_plain es q z ∙ goes);
+  }
+
+  pub before_seen : (h : ValuedFamilies (Member V)) (view : ValuedFamilies V) → unlinked h ≡ view → (q : List ℕ) (s b : ℕ) → IsBefore view.values q s b → IsBefore h.values q s b
+  before_seen h view seen q s b told =
+      let is : IsBefore (plain h.values) q s b = subst (λ (k : ValuedFamilies V). IsBefore k.values q s b) (sym seen) told in
+      record {
+        less = is.less;
+        there = elim is.there [ inl z ↦ inl z | inr goes ↦ inr (goes_plain h.values q b ∙ goes) ];
+        most = λ z lt goes. is.most z lt (sym (goes_plain h.values q z) ∙ goes);
+      }
 
   below_plain : (x : List ℕ) (es : List (List ℕ × Member V)) → below_all order x (plain es) ≡ below_all order x es
   below_plain x [] = refl

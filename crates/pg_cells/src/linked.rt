@@ -7,7 +7,7 @@ ghost use Rattle.pg_types.specs.Placement.{taken_count, top, cell_of, base_of, w
 ghost use Rattle.pg_types.specs.Inside.Placing.{without_sign};
 ghost use Rattle.pg_cells.specs.Inside.ValuedFamilies.{ValuedFamilies, without_key};
 ghost use Rattle.pg_cells.specs.Inside.AreValuedFamilies.{AreValuedFamilies};
-ghost use Rattle.pg_cells.specs.Inside.Members.{IsNextSign};
+ghost use Rattle.pg_cells.specs.Inside.Members.{IsNextSign, IsBefore};
 ghost use Rattle.pg_cells.specs.Inside.Root.{root_held};
 ghost use Rattle.pg_cells.specs.Inside.Walks.{EndsBefore};
 
@@ -204,6 +204,29 @@ impl<V: Copy, const FEW: usize> Cells<V, FEW> {
     {
         let base = self.placed.child(parent);
         let before = sign_before(&self.placed, parent, base, s);
+        self.remove_behind(parent, before, s);
+    }
+
+    /// Takes the sign away as [`Cells::remove`] does, where `before` is the sign before it in its
+    /// family, 0 for none. So that one is not sought.
+    pub fn remove_behind(&mut self, parent: usize, before: Sign, s: Sign)
+        requires parent { (q : List ℕ) × (cell : ℕ)
+            × ((cell_of self.old.families q ≡ Some parent)
+            × (cell_of self.old.families (q ++ s ∷ []) ≡ Some cell)
+            × (base_of self.old.families (q ++ s ∷ []) ≡ None)) }
+        requires before { (q : List ℕ) → cell_of self.old.families q ≡ Some parent →
+            IsBefore self.old.values q s before }
+        ensures held { (q : List ℕ) → cell_of self.old.families q ≡ Some parent →
+            self.new ≡ record self.old {
+              families = without_sign self.old.families q s;
+              values = without_key (q ++ s ∷ []) self.old.values;
+            } }
+        ensures cells { (q : List ℕ) → cell_of self.old.families q ≡ Some parent
+            → (p : List ℕ) → p ≢ q ++ s ∷ [] →
+            cell_of self.new.families p ≡ cell_of self.old.families p }
+        ensures kept { AreValuedFamilies self.new }
+    {
+        let base = self.placed.child(parent);
         let after = sign_after(&self.placed, parent, base, s);
         self.placed.remove(parent, s, is_alone(before, after));
         link(&mut self.placed, parent, before, after);

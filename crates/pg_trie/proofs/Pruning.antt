@@ -7,7 +7,7 @@ use Rattle.pg_types.specs.Placement.{cell_of}
 use Rattle.pg_types.specs.Inside.Placing.{without_sign}
 use Rattle.pg_cells.specs.Inside.ValuedFamilies.{ValuedFamilies, without_key}
 use Rattle.pg_cells.specs.Inside.AreValuedFamilies.{AreValuedFamilies}
-use Rattle.pg_cells.specs.Inside.Members.{IsNextSign, goes_on}
+use Rattle.pg_cells.specs.Inside.Members.{IsNextSign, IsBefore, goes_on}
 use Rattle.pg_cells.proofs.LinkLaws.{goes_cell, cell_goes}
 use Rattle.pg_cells.proofs.Walking.{ends_before}
 use Rattle.pg_cells.proofs.StringMaps.{order, equal_or_not, find_without_same, find_without_other}
@@ -147,6 +147,36 @@ absent_gone h held q x more off =
     none None e = e
     none (Some cell) e = absurd (let wrong : false ≡ true = sym off ∙ cell_goes h held q x cell e in cc)
 
+-- a sign that goes on did so before, where no value came
+less_goes : (old new : ValuedFamilies ℕ) → ((r : List ℕ) (v : ℕ) → find order r new.values ≡ Some v → find order r old.values ≡ Some v) → (q : List ℕ) (z : ℕ)
+    → goes_on new.values q z ≡ true → goes_on old.values q z ≡ true
+less_goes old new less q z on = by (find order (q ++ z ∷ []) new.values) refl
+  where
+    by : (o : Option ℕ) → find order (q ++ z ∷ []) new.values ≡ o → goes_on old.values q z ≡ true
+    by None e = absurd (let wrong : false ≡ true = sym (ap is_some e) ∙ on in cc)
+    by (Some v) e = ap is_some (less (q ++ z ∷ []) v e)
+
+-- the signs of a family go on as before, where strings below one of them lost their cells
+below_goes : (now mid : ValuedFamilies ℕ) (q : List ℕ) (s : ℕ) → PrunesBelow now mid (q ++ s ∷ []) → (z : ℕ) → goes_on mid.values q z ≡ goes_on now.values q z
+below_goes now mid q s below z =
+    ap is_some (below.elsewhere (q ++ z ∷ []) (λ b. omega (arith, ap length b.2, length_push q z, length-append (q ++ s ∷ []) (b.0 ∷ b.1), length_push q s))).0
+
+-- no sign is before the first one
+pub before_first : (h : ValuedFamilies ℕ) (q : List ℕ) (s : ℕ) → IsNextSign h.values q 0 s → 0 < s → IsBefore h.values q s 0
+before_first h q s next up = record { less = up; there = inl refl; most = λ z lt goes. most z lt goes (cases_lt 0 z) }
+  where
+    most : (z : ℕ) → z < s → goes_on h.values q z ≡ true → (0 < z) ⊎ (z ≤ 0) → z ≤ 0
+    most z lt goes (inl some) = let l = next.least z some goes in let late = l.1 in absurd (omega arith)
+    most z lt goes (inr none) = none
+
+-- the sign before another one is as before, where strings below that one lost their cells
+pub before_stays : (now mid : ValuedFamilies ℕ) (q : List ℕ) (s b : ℕ) → PrunesBelow now mid (q ++ s ∷ []) → IsBefore now.values q s b → IsBefore mid.values q s b
+before_stays now mid q s b below is = record {
+  less = is.less;
+  there = elim is.there [ inl z ↦ inl z | inr goes ↦ inr (below_goes now mid q s below b ∙ goes) ];
+  most = λ z lt goes. is.most z lt (sym (below_goes now mid q s below z) ∙ goes);
+}
+
 -- nothing is done yet
 pub to_start : (h : ValuedFamilies ℕ) → AreValuedFamilies h → (q : List ℕ) (s : ℕ) → IsNextSign h.values q 0 s → PrunesTo h h q s
 to_start h held q s next = record {
@@ -225,6 +255,41 @@ module _ (old now mid new : ValuedFamilies ℕ) (q : List ℕ) (s next : ℕ) (t
       (λ b. omega (arith, ap length b.2, length_push q next, length-append (q ++ s ∷ []) (b.0 ∷ b.1), length_push q s))
       (λ e. (let same = (same_from_push q q next s e).1 in let lt = f.0 in omega arith))).0
       ∙ f.1
+
+  -- the last sign that stayed is before the next one
+  pub next_before : (b last : ℕ) → IsBefore now.values q s b → last ≡ cond (goes_on new.values q s) s b → 0 < next → IsBefore new.values q next last
+  next_before b last before is up = by (goes_on new.values q s) refl
+    where
+      -- no sign stands between the two
+      up_to : (z : ℕ) → z < next → goes_on new.values q z ≡ true → z ≤ s
+      up_to z lt on = elim (cases_lt s z) [
+        | inr le ↦ le
+        | inl late ↦ absurd (let l = is_next.least z late (less_goes now new all_less q z on) in let le = l.1 in omega arith)
+      ]
+
+      stayed : goes_on new.values q s ≡ true → IsBefore new.values q next s
+      stayed goes = record { less = (is_next.found up).0; there = inr goes; most = up_to }
+
+      kept : (z : ℕ) → z ≢ s → goes_on new.values q z ≡ goes_on now.values q z
+      kept z other = ap is_some (drops_other mid new (q ++ s ∷ []) drop (q ++ z ∷ []) (λ e. other (same_from_push q q z s e).1)) ∙ below_goes now mid q s below z
+
+      went : goes_on new.values q s ≡ false → IsBefore new.values q next b
+      went gone = record {
+        less = let a = before.less in let c = (is_next.found up).0 in omega arith;
+        there = elim before.there [
+          | inl z ↦ inl z
+          | inr goes ↦ inr (kept b (λ e. (let a = before.less in omega arith)) ∙ goes)
+        ];
+        most = λ z lt on. most z (up_to z lt on) on (cases_eq z s);
+      }
+        where
+          most : (z : ℕ) → z ≤ s → goes_on new.values q z ≡ true → (z ≡ s) ⊎ (z ≢ s) → z ≤ b
+          most z le on (inl e) = absurd (not_both (goes_on new.values q s) (ap (goes_on new.values q) (sym e) ∙ on) gone)
+          most z le on (inr other) = before.most z (omega arith) (less_goes now new all_less q z on)
+
+      by : (t : Bool) → goes_on new.values q s ≡ t → IsBefore new.values q next last
+      by true goes = subst (IsBefore new.values q next) (sym (is ∙ ap (λ t. cond t s b) goes)) (stayed goes)
+      by false gone = subst (IsBefore new.values q next) (sym (is ∙ ap (λ t. cond t s b) gone)) (went gone)
 
 -- the root: below each sign in turn
 pub root_start : (h : ValuedFamilies ℕ) → AreValuedFamilies h → PrunesTo h h [] 1

@@ -1,8 +1,9 @@
 //! The strings that lose their cells when nothing is hopeless any more.
-ghost use Rattle.std.specs.Prelude.{◌≡◌, ℕ, ◌+◌, ◌≤◌, Bool, List, [], ◌∷◌, ◌++◌, length, Some};
+ghost use Rattle.std.specs.Prelude.{◌≡◌, ℕ, ◌+◌, ◌≤◌, Bool, List, [], ◌∷◌, ◌++◌, length, Some, if◌then◌else◌};
 ghost use Rattle.pg_types.specs.declared.limits.TheConstants.{PATTERN_SIGNS_MAX, SIGNS_MAX};
 ghost use Rattle.pg_types.specs.Placement.{cell_of};
 ghost use Rattle.pg_cells.specs.Inside.AreValuedFamilies.{AreValuedFamilies};
+ghost use Rattle.pg_cells.specs.Inside.Members.{IsBefore, goes_on};
 ghost use Rattle.pg_trie.specs.Inside.Pruned.{Drops, IsKeep, Prunes, PrunesBelow};
 ghost use Rattle.pg_trie.specs.Inside.Strings.{AreShort};
 
@@ -11,17 +12,30 @@ use pg_cells::{Cells, step};
 use pg_types::{FEW_SIGNS, PATTERN_SIGNS_MAX, Sign};
 
 // Takes away the cell of a string of several signs, where it has no list and no string goes on from
-// it.
-fn remove_blank(cells: &mut Cells<Head, FEW_SIGNS>, parent: usize, cell: usize, s: Sign)
+// it. `before` is the sign before `s` in its family, 0 for none. The answer is the sign that is then
+// before those behind `s`.
+fn remove_blank(
+    cells: &mut Cells<Head, FEW_SIGNS>,
+    parent: usize,
+    cell: usize,
+    before: Sign,
+    s: Sign,
+) -> Sign
     requires held { AreValuedFamilies cells.old }
     requires cell { (q : List ℕ) × ((cell_of cells.old.families q ≡ Some parent)
         × (cell_of cells.old.families (q ++ s ∷ []) ≡ Some cell)) }
-    ensures { (q : List ℕ) → cell_of cells.old.families q ≡ Some parent
+    requires before { (q : List ℕ) → cell_of cells.old.families q ≡ Some parent
+        → IsBefore cells.old.values q s before }
+    ensures drops { (q : List ℕ) → cell_of cells.old.families q ≡ Some parent
         → Drops cells.old cells.new (q ++ s ∷ []) }
+    ensures last { (q : List ℕ) → cell_of cells.old.families q ≡ Some parent
+        → result ≡ (if goes_on cells.new.values q s then s else before) }
 {
     if cells.value(cell).number() == 0 && cells.child(cell) == 0 {
-        cells.remove(parent, s);
+        cells.remove_behind(parent, before, s);
+        return before;
     }
+    s
 }
 
 // Takes away the cells of all strings that go on from the cell's string and have no list, where no
@@ -34,6 +48,7 @@ fn prune_below(cells: &mut Cells<Head, FEW_SIGNS>, cell: usize, more: usize)
     ensures { (q : List ℕ) → cell_of cells.old.families q ≡ Some cell
         → PrunesBelow cells.old cells.new q }
 {
+    let mut before = 0;
     let mut s = cells.first_sign(cell);
     while s != 0 {
         let Some(below) = step(cells, Some(cell), s) else {
@@ -41,7 +56,7 @@ fn prune_below(cells: &mut Cells<Head, FEW_SIGNS>, cell: usize, more: usize)
         };
         let next = cells.next_sign(below);
         prune_below(cells, below, more - 1);
-        remove_blank(cells, cell, below, s);
+        before = remove_blank(cells, cell, below, before, s);
         s = next;
     }
 }

@@ -1,5 +1,5 @@
 -- The links from sign to sign of the families below strings.
-use Rattle.std.specs.Prelude.{◌≡◌, ◌≢◌, ℕ, ◌<◌, ◌≤◌, ◌⊎◌, true, List, [], ◌∷◌, ◌++◌, Option, None, Some, map, nat_eq, ◌==◌, if◌then◌else◌}
+use Rattle.std.specs.Prelude.{◌≡◌, ◌≢◌, ℕ, List, [], ◌∷◌, ◌++◌, Option, None, Some, map, nat_eq, ◌==◌, if◌then◌else◌}
 use Rattle.std.specs.Ordering.{nat_cmp}
 use Rattle.std.specs.Cmp.Lexicographic.{slice_cmp}
 use Rattle.std.specs.FinMap.{find, put}
@@ -7,7 +7,7 @@ use Rattle.pg_types.specs.Placement.{Families, base_of}
 use Rattle.pg_cells.specs.declared.store.member.Member.{Member}
 use Rattle.pg_cells.specs.Inside.ValuedFamilies.{ValuedFamilies}
 use Rattle.pg_cells.specs.Inside.AreValuedFamilies.{AreValuedFamilies}
-use Rattle.pg_cells.specs.Inside.Members.{IsNextSign, goes_on}
+use Rattle.pg_cells.specs.Inside.Members.{IsNextSign}
 
 -- the family below the string has the base; 0 where there is none
 abbrev pub HasBase : Families → List ℕ → ℕ → Type 0
@@ -30,12 +30,6 @@ module _ {V : Type 0} where
     pub next : (q : List ℕ) (s : ℕ) (m : Member V)
         → q ≢ [] → find (slice_cmp nat_cmp) (q ++ s ∷ []) h.values ≡ Some m
         → IsNextSign h.values q s m.next
-
-  -- b is the greatest sign below s by which a string goes on from q, or 0 where there is none
-  pub record IsBefore (values : List (List ℕ × Member V)) (q : List ℕ) (s b : ℕ) : Type 0 where
-    pub less : b < s
-    pub there : (b ≡ 0) ⊎ (goes_on values q b ≡ true)
-    pub most : (z : ℕ) → z < s → goes_on values q z ≡ true → z ≤ b
 
   -- the values when `to` is the first sign below q, where q has a value; else as before
   abbrev pub with_first : Option (Member V) → ℕ → List ℕ

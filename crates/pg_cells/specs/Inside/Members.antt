@@ -1,5 +1,5 @@
--- The next sign of a family: told by a test, and by the strings of a map.
-use Rattle.std.specs.Prelude.{◌≡◌, ◌≢◌, ℕ, ◌<◌, ◌≤◌, Bool, true, false, List, [], ◌∷◌, ◌++◌, length, get_or}
+-- The sign after and before another one of a family: told by a test, and by the strings of a map.
+use Rattle.std.specs.Prelude.{◌≡◌, ◌≢◌, ℕ, ◌<◌, ◌≤◌, ◌⊎◌, Bool, true, false, List, [], ◌∷◌, ◌++◌, length, get_or}
 use Rattle.std.specs.Option.{is_some}
 use Rattle.std.specs.Ordering.{nat_cmp}
 use Rattle.std.specs.Cmp.Lexicographic.{slice_cmp}
@@ -18,6 +18,12 @@ goes_on values p s = is_some (find (slice_cmp nat_cmp) (p ++ s ∷ []) values)
 -- y is the least sign above s by which a string goes on from p, or 0 where there is none
 abbrev pub IsNextSign : {X : Type 0} → List (List ℕ × X) → List ℕ → ℕ → ℕ → Type 0
 IsNextSign values p s y = IsNext (goes_on values p) s y
+
+-- b is the greatest sign below s by which a string goes on from q, or 0 where there is none
+pub record IsBefore {X : Type 0} (values : List (List ℕ × X)) (q : List ℕ) (s b : ℕ) : Type 0 where
+  pub less : b < s
+  pub there : (b ≡ 0) ⊎ (goes_on values q b ≡ true)
+  pub most : (z : ℕ) → z < s → goes_on values q z ≡ true → z ≤ b
 
 -- whether the family below the string has the sign
 abbrev pub has_sign : Families → List ℕ → ℕ → Bool

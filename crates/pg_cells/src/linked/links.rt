@@ -4,8 +4,8 @@ ghost use Rattle.std.specs.Prelude.{◌≡◌, ◌≢◌, ℕ, ◌<◌, ◌≤�
 ghost use Rattle.pg_types.specs.Placement.{cell_of};
 ghost use Rattle.pg_types.specs.Inside.Placing.{joins_at};
 ghost use Rattle.pg_cells.specs.Inside.AreValuedFamilies.{AreValuedFamilies};
-ghost use Rattle.pg_cells.specs.Inside.Members.{IsNextSign, goes_on, has_sign, ArePassing};
-ghost use Rattle.pg_cells.specs.Inside.Links.{AreLinks, HasBase, IsBefore, with_link};
+ghost use Rattle.pg_cells.specs.Inside.Members.{IsNextSign, IsBefore, goes_on, has_sign, ArePassing};
+ghost use Rattle.pg_cells.specs.Inside.Links.{AreLinks, HasBase, with_link};
 
 use crate::families::Placed;
 use crate::store::member::Member;

@@ -46,24 +46,37 @@ pub fn free_cell<V: Copy>(cells: &mut [Cell<V>], cell: usize)
     put_after(cells, cell, before);
 }
 
-// The last free cell below a cell. It is sought from the cell down and, side by side, along the
-// free cells from the first.
+// The last free cell below a taken cell. It is sought from the cell down, along the free cells from
+// the first, and from the cell up, side by side. The first free cell above is linked with it.
 fn free_below<V: Copy>(cells: &[Cell<V>], cell: usize) -> usize
     requires linked { AreLinked (lists cells.now) }
-    requires cell { (0 < cell) × (cell ≤ length cells.now) }
+    requires cell { (0 < cell) × (cell < length cells.now) }
+    requires taken { sign_at (lists cells.now).row cell ≢ 0 }
     ensures below { result < cell }
     ensures free { IsFree (lists cells.now).row result }
     ensures last { (k : ℕ) → k < cell → IsFree (lists cells.now).row k → k ≤ result }
 {
-    let mut at = cell - 1;
+    let end = cells.len() - 1;
+    let mut low = cell - 1;
+    let mut high = end.min(cell + 1);
     let mut free = 0;
     let mut after = after_of(cells, free);
-    while sign_of(cells, at) != 0 && 0 < after && after < cell {
-        at -= 1;
+    'free: while sign_of(cells, high) != 0 {
+        if sign_of(cells, low) == 0 {
+            return low;
+        }
+        if after == 0 {
+            return free;
+        }
+        if cell <= after {
+            return free;
+        }
+        low -= 1;
+        high = end.min(high + 1);
         free = after;
         after = after_of(cells, free);
     }
-    if 0 < after && after < cell { at } else { free }
+    before_of(cells, high)
 }
 
 // Puts a cell into the list behind the free cell before it.

@@ -1,15 +1,18 @@
-use Rattle.std.proofs.Common.{◌≡◌, ℕ, ◌<◌, ◌≤◌}
+use Rattle.std.proofs.Common.{◌≡◌, ℕ, ◌<◌, ◌≤◌, length}
 use Rattle.pg_cells.specs.Inside.Lists.{lists, IsFree, after_at}
 use Rattle.pg_cells.proofs.store.chain.free_below.Given as goal
 
-abbrev pub invariant-loop-free : goal.invariant-loop-free
-invariant-loop-free g l = record {
-  below : l.at < l.cell;
-  last : (k : ℕ) → k < l.cell → IsFree (lists l.cells).row k → k ≤ l.at;
+abbrev pub invariant-free : goal.invariant-free
+invariant-free g l = record {
+  below : l.low < l.cell;
+  last : (k : ℕ) → k < l.cell → IsFree (lists l.cells).row k → k ≤ l.low;
+  above : l.cell ≤ l.high;
+  within : l.high < length l.cells;
+  between : (k : ℕ) → l.cell ≤ k → k < l.high → IsFree (lists l.cells).row k → ⊥;
   free : IsFree (lists l.cells).row l.free;
   before : l.free < l.cell;
   after : l.after ≡ after_at (lists l.cells) l.free;
 }
 
-abbrev pub decreases-loop-free : goal.decreases-loop-free
-decreases-loop-free g l = l.at
+abbrev pub decreases-free : goal.decreases-free
+decreases-free g l = l.low

@@ -1,8 +1,7 @@
-use Rattle.std.proofs.Common.{arith}
 use Rattle.pg_cells.proofs.store.chain.free_cell.Goals as goal
 
 pub free_below-before-requires : goal.free_below-before-requires
-free_below-before-requires g c = record { linked = c.requires.linked; cell = (c.requires.cell.0, omega arith) }
+free_below-before-requires g c = record { linked = c.requires.linked; cell = c.requires.cell; taken = c.requires.taken }
 
 pub put_after-requires : goal.put_after-requires
 put_after-requires g c =
