@@ -103,9 +103,7 @@ impl Engine for PlainEngine {
         good: bool,
         weight: Weight,
     ) -> Result<u32, AllocError> {
-        let mut at = Cursor::start();
-        at.set(window);
-        self.counts.count(at, good, u64::from(weight))
+        self.counts.count(window, good, u64::from(weight))
     }
 
     fn sums(&self, window: &[Sign]) -> Option<(u64, u64)> {

@@ -5,6 +5,7 @@ mod counts;
 mod dotted_entry;
 mod dotted_maps;
 pub mod engine;
+mod keys;
 mod walk;
 
 pub use engine::PlainEngine;
