@@ -63,7 +63,7 @@ fn sign_at(window: &[Sign], at: usize) -> u64
 }
 
 /// The four signs from an index on, as one number.
-fn packed_from(window: &[Sign], from: usize) -> u64
+pub fn packed_from(window: &[Sign], from: usize) -> u64
     requires { from ≤ LENGTH_MAX }
     ensures { result ≡ four_packed (drop from window.now) }
 {

@@ -3,6 +3,7 @@
 
 mod counts;
 mod dotted_entry;
+mod dotted_keys;
 mod dotted_maps;
 pub mod engine;
 mod keys;
