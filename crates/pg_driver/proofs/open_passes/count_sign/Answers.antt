@@ -26,10 +26,6 @@ pub bounds-sites-sign : goal.bounds-sites-sign
 bounds-sites-sign g c =
     omega (arith, ap (λ (xs : List Site). length xs) c.all_sites-sites.ensures, sites_count c.args.dictionary.now, c.requires.within)
 
-pub offset_bounds-sites-sign : goal.offset_bounds-sites-sign
-offset_bounds-sites-sign g c =
-    omega (arith, c.requires.within, signs_few c.args.dictionary.now c.requires.words, c.requires.letters)
-
 pub bounds-weights-sign : goal.bounds-weights-sign
 bounds-weights-sign g c =
     omega (arith, ap (λ (xs : List ℕ). length xs) c.all_weights-weights.ensures, weights_count c.args.dictionary.now c.requires.words, c.requires.within)
