@@ -14,3 +14,4 @@ pub mod WordLaws
 pub mod LineLaws
 pub mod Parts
 pub mod SiteRows
+pub mod Around

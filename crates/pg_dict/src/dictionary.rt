@@ -1,8 +1,9 @@
 //! The dictionary.
-ghost use Rattle.std.specs.Prelude.{◌≡◌, ◌<◌, ◌≤◌, ◌+◌, ◌*◌, length, Some, slice_get, IfOk, sum_by, All};
+ghost use Rattle.std.specs.Prelude.{◌≡◌, ℕ, ◌<◌, ◌≤◌, ◌+◌, ◌-◌, ◌*◌, ◌&&◌, nat_le, length, take, Some, slice_get, IfOk, sum_by, All};
 ghost use Rattle.pg_types.specs.Inside.Answers.{Gives};
 ghost use Rattle.pg_translate.specs.Alphabets as alphabet;
 ghost use Rattle.pg_dict.specs.Inside.SoundWords.{letter_count, IsWord, SignsAtMost};
+ghost use Rattle.pg_dict.specs.Word.{Word};
 ghost use Rattle.pg_dict.specs.Words.{words};
 ghost use Rattle.pg_dict.specs.Inside.Sites.{all_sites};
 ghost use Rattle.pg_dict.specs.Inside.Store.{all_signs, all_weights, stored_words, IsSound};
@@ -116,6 +117,25 @@ impl Dictionary {
         ensures { result.now ≡ all_sites self.now }
     {
         self.sites.as_slice()
+    }
+
+    /// Whether `len` signs lie in the word of a sign, of which the first `back` stand before it. The
+    /// sign is given by its place in `all_signs`.
+    ///
+    /// The sign with which they would begin tells how far its word goes. If it is one of a word
+    /// before, that word ends before the given sign.
+    pub fn fits_around(&self, sign: usize, back: u8, len: u8) -> bool
+        requires { sign < length (all_signs self.now) }
+        ensures { (n p : ℕ) (w : Word) → slice_get self.now n ≡ Some w → p < length w.signs
+            → sign ≡ length (all_signs (take n self.now)) + p
+            → result ≡ (nat_le back p && nat_le (p - back + len) (length w.signs)) }
+    {
+        let before = usize::from(back);
+        if sign < before {
+            return false;
+        }
+        let left = usize::from(self.sites[sign - before].left / 2);
+        before < left && usize::from(len) <= left
     }
 
     /// The words of a fold where `inside`, else all other words, in their order. Words are counted

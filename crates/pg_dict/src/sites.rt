@@ -1,6 +1,6 @@
 //! What stands at each sign of all words, in one row: what a walk over the signs asks at each of
 //! them.
-ghost use Rattle.std.specs.Prelude.{◌≡◌, ℕ, ◌+◌, ◌-◌, ◌<◌, ◌&&◌, nat_le, false, ◌++◌, length, slice_index_or, IfOk, OnOk};
+ghost use Rattle.std.specs.Prelude.{◌≡◌, ℕ, false, ◌++◌, slice_index_or, IfOk, OnOk};
 ghost use Rattle.pg_dict.specs.Word.{Word};
 ghost use Rattle.pg_dict.specs.Inside.SoundWords.{IsWord};
 ghost use Rattle.pg_dict.specs.Inside.Lent.{lent_word};
@@ -11,12 +11,10 @@ use crate::store::Store;
 use crate::word::WordRef;
 use std::alloc::{AllocError, Global};
 
-/// What stands at a sign of a word: where in its word it is, and whether the position before it has
-/// a hyphen.
+/// What stands at a sign of a word: how far its word goes from it on, and whether the position
+/// before it has a hyphen.
 #[derive(Clone, Copy)]
 pub struct Site {
-    /// How many signs of its word stand before it.
-    pub before: u8,
     /// Twice how many signs of its word there are from it on, and one more where the position
     /// before it has a hyphen.
     pub left: u8,
@@ -30,15 +28,6 @@ impl Site {
     {
         self.left % 2 == 1
     }
-
-    /// Whether `len` signs lie in the word, of which the first `back` stand before this one.
-    pub fn has_around(self, back: u8, len: u8) -> bool
-        ensures { (w : Word) (p : ℕ) → p < length w.signs → self ≡ site_of w p
-            → result ≡ (nat_le back p && nat_le (p - back + len) (length w.signs)) }
-    {
-        back <= self.before
-            && 2 * usize::from(len) <= usize::from(self.left) + 2 * usize::from(back)
-    }
 }
 
 /// Adds what stands at each sign of a word.
@@ -50,7 +39,6 @@ fn push_sites(sites: &mut Vec<Site>, w: &WordRef<'_>) -> Result<(), AllocError>
     'positions: for p in 0..size {
         let hyphen = u8::from(w.hyphens[p]);
         sites.push(Site {
-            before: p as u8,
             left: 2 * (size - p) as u8 + hyphen,
         })?;
     }

@@ -114,6 +114,18 @@ sites_count words = row_count sites_in words (λ k d within. sites_len (get_or w
 pub weights_count : (words : List Word) → All IsWord words → length (all_weights words) ≡ sign_count words
 weights_count words each = row_count (λ w. w.weights) words (λ k d within. (each k d within).weights_len)
 
+-- the signs of the words before a word
+start_is : (words : List Word) (n : ℕ) → start_of words n ≡ length (all_signs (take n words))
+start_is [] zero = refl
+start_is [] (suc n) = refl
+start_is (w ∷ words) zero = refl
+start_is (w ∷ words) (suc n) =
+    let rest = start_is words n in
+    omega (arith, length-append w.signs (all_signs (take n words)))
+
+pub sign_is : (words : List Word) (sign : ℕ) (of : IsSignOf words sign) → sign ≡ length (all_signs (take of.number words)) + of.at
+sign_is words sign of = let start = start_is words of.number in omega (arith, of.is)
+
 -- a sign of words, and its site
 pub record IsSiteOf (words : List Word) (sign : ℕ) (site : Site) : Type 0 where
   pub of : IsSignOf words sign

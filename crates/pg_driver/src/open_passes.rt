@@ -51,10 +51,10 @@ fn count_sign<E: Engine>(
     ensures signs { (E.meaning engine.new).signs ≡ (E.meaning engine.old).signs }
 {
     let sites = dictionary.all_sites();
-    let site = sites[sign];
-    if !site.has_around(pass.dot, pass.len) {
+    if !dictionary.fits_around(sign, pass.dot, pass.len) {
         return Ok(NOT_COUNTED);
     }
+    let site = sites[sign];
     let signs = dictionary.all_signs();
     let first = sign - usize::from(pass.dot);
     let window = &signs[first..first + usize::from(pass.len)];

@@ -66,6 +66,14 @@ module _ (numbers : Numbers) (tallies : List (ℕ × ℕ)) (windows : Windows) (
   pub has_number : (u : List ℕ) (n : ℕ) → find order u numbers ≡ Some n → HasNumber (by_number numbers) u n
   has_number u n at = number_of numbers are.sorted are.numbered u n at
 
+  -- the window with a number, as it is read
+  pub listed_window : (u v : List ℕ) (n : ℕ) → find order u numbers ≡ Some n → v ≡ get_or windows n v → v ≡ u
+  listed_window u v n at read =
+      let lt : n < length windows = (let a = within u n at in let b = size_windows in let d = size_listed in omega arith) in
+      let both : Some u ≡ Some (get_or windows n v) = sym (has_number u n at) ∙ ap (λ ws. slice_get ws n) (sym are.listed) ∙ slice_get-get_or windows n v lt in
+      let same : u ≡ get_or windows n v = cc in
+      read ∙ sym same
+
   pub are_numbered : AreNumbered (by_number numbers) (counted_of numbers tallies).counts
   are_numbered = record {
     size = length_by_number numbers ∙ sym (length-map numbers (λ e. (e.0, tally_at tallies e.1)));

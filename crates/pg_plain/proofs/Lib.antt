@@ -9,3 +9,4 @@ pub mod Counted
 pub mod Counting
 pub mod Entered
 pub mod Known
+pub mod PackedWindows

@@ -4,3 +4,4 @@ pub mod Strings
 pub mod Greatest
 pub mod Walks
 pub mod Engines
+pub mod Keys

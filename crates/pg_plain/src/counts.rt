@@ -7,9 +7,12 @@ ghost use Rattle.std.specs.FinMap.Entries.{put, is_sorted};
 ghost use Rattle.std.specs.Ordering.{nat_cmp};
 ghost use Rattle.pg_types.specs.Inside.Counts.{AreSmall, IsNextAbove, counted_sums, sums_of, with_weight, is_counted};
 ghost use Rattle.pg_types.specs.Inside.NumberedWindows.{AreInOrder, AreNumbered, HasNumber};
+ghost use Rattle.pg_types.specs.Inside.Signs.{is_sign};
+ghost use Rattle.pg_types.specs.declared.limits.TheConstants.{LENGTH_MAX};
 ghost use Rattle.pg_plain.specs.Inside.Counted.{counted_more, tally_at};
 
-use pg_types::Cursor;
+use crate::keys::WindowKey;
+use pg_types::{Cursor, Sign};
 use std::alloc::{AllocError, Global};
 use std::collections::BTreeMap;
 use std::marker::Model;
@@ -22,7 +25,7 @@ pub const NUMBERS_MAX: u32 = u32::MAX;
 /// and the windows stand by number.
 #[derive(Drop)]
 pub struct CountedWindows {
-    numbers: BTreeMap<Cursor, u32>,
+    numbers: BTreeMap<WindowKey, u32>,
     tallies: Vec<(u64, u64)>,
     windows: Vec<Cursor>,
 }
@@ -71,17 +74,20 @@ impl CountedWindows {
 
     /// Adds `weight` to the good or the bad sum of a window, and gives its number. A window that is
     /// counted already takes no memory.
-    pub fn count(&mut self, window: Cursor, good: bool, weight: u64) -> Result<u32, AllocError>
-        requires { AreSmall (with_weight (sums_of self.old.counts window) good weight) }
-        ensures ok { OnOk result (self.new ≡ counted_more self.old window good weight) }
-        ensures number { IfOk result (λ number. HasNumber self.new.windows window number) }
-        ensures there { is_counted self.old.counts window ≡ true → IsOk result }
+    pub fn count(&mut self, window: &[Sign], good: bool, weight: u64) -> Result<u32, AllocError>
+        requires len { length window.now ≤ LENGTH_MAX }
+        requires signs { list_all is_sign window.now ≡ true }
+        requires small { AreSmall (with_weight (sums_of self.old.counts window.now) good weight) }
+        ensures ok { OnOk result (self.new ≡ counted_more self.old window.now good weight) }
+        ensures number { IfOk result (λ number. HasNumber self.new.windows window.now number) }
+        ensures there { is_counted self.old.counts window.now ≡ true → IsOk result }
         ensures err { OnErr result (self.new ≡ self.old) }
-        ensures windows { (good : List ℕ → Bool) → good window ≡ true
+        ensures windows { (good : List ℕ → Bool) → good window.now ≡ true
             → list_all (λ e. good e.0) self.old.counts
             ≡ true → list_all (λ e. good e.0) self.new.counts ≡ true }
     {
-        match self.numbers.get(&window).copied() {
+        let key = WindowKey::new(window);
+        match self.numbers.get(&key).copied() {
             Some(number) => {
                 add_to(&mut self.tallies, number, good, weight);
                 Ok(number)
@@ -92,6 +98,7 @@ impl CountedWindows {
                     &mut self.numbers,
                     &mut self.tallies,
                     &mut self.windows,
+                    key,
                     window,
                     sums,
                 )?;
@@ -104,7 +111,8 @@ impl CountedWindows {
     pub fn sums(&self, window: &Cursor) -> Option<(u64, u64)>
         ensures { result ≡ counted_sums self.now.counts window.now }
     {
-        let number = self.numbers.get(window).copied()?;
+        let key = WindowKey::new(window.signs());
+        let number = self.numbers.get(&key).copied()?;
         Some(self.tallies[number as usize])
     }
 
@@ -140,12 +148,13 @@ impl CountedWindows {
     pub fn next_behind(&self, at: &mut Cursor) -> Option<(u64, u64)>
         ensures { IsNextAbove self.now.counts at.old at.new result }
     {
+        let key = WindowKey::new(at.signs());
         let mut behind = self
             .numbers
-            .range((Bound::Excluded(&*at), Bound::Unbounded));
-        let (window, number) = behind.next()?;
+            .range((Bound::Excluded(&key), Bound::Unbounded));
+        let (_, number) = behind.next()?;
         let sums = self.tallies[*number as usize];
-        at.set(window.signs());
+        at.set(self.windows[*number as usize].signs());
         Some(sums)
     }
 }
@@ -166,18 +175,22 @@ fn add_to(tallies: &mut Vec<(u64, u64)>, number: u32, good: bool, weight: u64)
 ///
 /// Refused: the map and the lists are as before.
 fn number_new(
-    numbers: &mut BTreeMap<Cursor, u32>,
+    numbers: &mut BTreeMap<WindowKey, u32>,
     tallies: &mut Vec<(u64, u64)>,
     windows: &mut Vec<Cursor>,
-    window: Cursor,
+    key: WindowKey,
+    window: &[Sign],
     sums: (u64, u64),
 ) -> Result<u32, AllocError>
-    requires { length tallies.old.items ≤ NUMBERS_MAX }
+    requires few { length tallies.old.items ≤ NUMBERS_MAX }
+    requires len { length window.now ≤ LENGTH_MAX }
+    requires signs { list_all is_sign window.now ≡ true }
+    requires key { key ≡ window.now }
     ensures number { IfOk result (λ number. number ≡ length tallies.old.items) }
     ensures numbers { OnOk result (numbers.new.entries
-        ≡ put (slice_cmp nat_cmp) window (length tallies.old.items) numbers.old.entries) }
+        ≡ put (slice_cmp nat_cmp) window.now (length tallies.old.items) numbers.old.entries) }
     ensures tallies { OnOk result (tallies.new.items ≡ tallies.old.items ++ sums ∷ []) }
-    ensures windows { OnOk result (windows.new.items ≡ windows.old.items ++ window ∷ []) }
+    ensures windows { OnOk result (windows.new.items ≡ windows.old.items ++ window.now ∷ []) }
     ensures few { length tallies.new.items ≤ NUMBERS_MAX }
     ensures err_numbers { OnErr result (numbers.new.entries ≡ numbers.old.entries) }
     ensures err_tallies { OnErr result (tallies.new.items ≡ tallies.old.items) }
@@ -187,8 +200,8 @@ fn number_new(
     if number == NUMBERS_MAX {
         return Err(AllocError);
     }
-    push_both(tallies, windows, sums, &window)?;
-    match numbers.insert(window, number) {
+    push_both(tallies, windows, sums, window)?;
+    match numbers.insert(key, number) {
         Ok(_) => Ok(number),
         Err(_) => {
             let _sums = tallies.pop();
@@ -203,15 +216,17 @@ fn push_both(
     tallies: &mut Vec<(u64, u64)>,
     windows: &mut Vec<Cursor>,
     sums: (u64, u64),
-    window: &Cursor,
+    window: &[Sign],
 ) -> Result<(), AllocError>
+    requires len { length window.now ≤ LENGTH_MAX }
+    requires signs { list_all is_sign window.now ≡ true }
     ensures tallies { OnOk result (tallies.new.items ≡ tallies.old.items ++ sums ∷ []) }
     ensures windows { OnOk result (windows.new.items ≡ windows.old.items ++ window.now ∷ []) }
     ensures err_tallies { OnErr result (tallies.new.items ≡ tallies.old.items) }
     ensures err_windows { OnErr result (windows.new.items ≡ windows.old.items) }
 {
     let mut listed = Cursor::start();
-    listed.set(window.signs());
+    listed.set(window);
     tallies.push(sums)?;
     match windows.push(listed) {
         Ok(()) => Ok(()),
@@ -223,7 +238,7 @@ fn push_both(
 }
 
 /// Appends the numbers in the order of the windows.
-fn push_all(numbers: &BTreeMap<Cursor, u32>, out: &mut Vec<u32>) -> Result<(), AllocError>
+fn push_all(numbers: &BTreeMap<WindowKey, u32>, out: &mut Vec<u32>) -> Result<(), AllocError>
     ensures { OnOk result (out.new.items ≡ out.old.items ++ map (λ e. e.1) numbers.now.entries) }
 {
     for number in numbers.values() {

@@ -6,12 +6,13 @@ ghost use Rattle.pg_patterns.specs.DottedSigns.{dotted_cmp};
 ghost use Rattle.pg_patterns.specs.Values.{raise, value_of};
 ghost use Rattle.pg_patterns.specs.Inside.PatternMaps.{IsPatternMap, is_entry};
 
+use crate::dotted_keys::DottedKey;
 use pg_patterns::{DottedSigns, Entry, PatternSet};
 use std::alloc::{AllocError, Global};
 use std::collections::BTreeMap;
 
 /// The value of a dotted string, 0 where it has none.
-fn value_in(map: &BTreeMap<DottedSigns, u8>, place: &DottedSigns) -> u8
+fn value_in(map: &BTreeMap<DottedKey, u8>, place: &DottedKey) -> u8
     ensures { result ≡ value_of map.now.entries place.now }
 {
     match map.get(place) {
@@ -22,8 +23,8 @@ fn value_in(map: &BTreeMap<DottedSigns, u8>, place: &DottedSigns) -> u8
 
 /// Raises the value of `place` to `value`, where it is less.
 pub fn raise_in(
-    map: &mut BTreeMap<DottedSigns, u8>,
-    place: DottedSigns,
+    map: &mut BTreeMap<DottedKey, u8>,
+    place: DottedKey,
     value: u8,
 ) -> Result<(), AllocError>
     ensures ok { OnOk result (map.new.entries ≡ raise map.old.entries place value) }
@@ -40,7 +41,7 @@ pub fn raise_in(
 }
 
 /// Puts `place` into a set.
-pub fn put_in(set: &mut BTreeMap<DottedSigns, ()>, place: DottedSigns) -> Result<(), AllocError>
+pub fn put_in(set: &mut BTreeMap<DottedKey, ()>, place: DottedKey) -> Result<(), AllocError>
     ensures ok { OnOk result (set.new.entries ≡ put dotted_cmp place (tt {0}) set.old.entries) }
     ensures err { OnErr result (set.new.entries ≡ set.old.entries) }
     ensures sorted { T (is_sorted dotted_cmp set.new.entries) }
@@ -53,20 +54,20 @@ pub fn put_in(set: &mut BTreeMap<DottedSigns, ()>, place: DottedSigns) -> Result
 }
 
 /// The map of a set of patterns.
-pub fn map_of(alloc: Global, patterns: &PatternSet) -> Result<BTreeMap<DottedSigns, u8>, AllocError>
+pub fn map_of(alloc: Global, patterns: &PatternSet) -> Result<BTreeMap<DottedKey, u8>, AllocError>
     ensures value { IfOk result (λ map. map.entries ≡ patterns.now) }
     ensures kept { IfOk result (λ map. IsPatternMap map.entries) }
 {
     let mut map = BTreeMap::new(alloc);
     for i in 0..patterns.len() {
         let Entry { signs, dot, value } = patterns.entry(i);
-        map.insert(DottedSigns::new(signs, dot), value)?;
+        map.insert(DottedKey::new(signs, dot), value)?;
     }
     Ok(map)
 }
 
 /// The set of the patterns of a map. It takes O(n), as the entries stand in order.
-pub fn set_of(alloc: Global, map: &BTreeMap<DottedSigns, u8>) -> Result<PatternSet, AllocError>
+pub fn set_of(alloc: Global, map: &BTreeMap<DottedKey, u8>) -> Result<PatternSet, AllocError>
     requires { list_all is_entry map.now.entries ≡ true }
     ensures { IfOk result (λ patterns. patterns ≡ map.now.entries) }
 {

@@ -8,10 +8,11 @@ ghost use Rattle.pg_patterns.specs.Inside.PatternMaps.{IsPatternMap};
 ghost use Rattle.pg_plain.specs.Inside.Strings.{is_string, has_signs_up_to};
 
 use crate::counts::CountedWindows;
+use crate::dotted_keys::DottedKey;
 use crate::dotted_maps::{map_of, put_in, raise_in, set_of};
 use crate::walk::walk;
 use pg_dict::WordRef;
-use pg_patterns::{DottedSigns, PatternSet};
+use pg_patterns::PatternSet;
 use pg_select::{Engine, Pass, WordState};
 use pg_types::{Cursor, Layout, Sign, Weight};
 use std::alloc::{AllocError, Global};
@@ -25,8 +26,8 @@ use std::collections::BTreeMap;
 #[derive(Drop)]
 pub struct PlainEngine {
     signs: u16,
-    patterns: BTreeMap<DottedSigns, u8>,
-    hopeless: BTreeMap<DottedSigns, ()>,
+    patterns: BTreeMap<DottedKey, u8>,
+    hopeless: BTreeMap<DottedKey, ()>,
     counts: CountedWindows,
     pass: Pass,
     begun: u64,
@@ -103,9 +104,7 @@ impl Engine for PlainEngine {
         good: bool,
         weight: Weight,
     ) -> Result<u32, AllocError> {
-        let mut at = Cursor::start();
-        at.set(window);
-        self.counts.count(at, good, u64::from(weight))
+        self.counts.count(window, good, u64::from(weight))
     }
 
     fn sums(&self, window: &[Sign]) -> Option<(u64, u64)> {
@@ -132,14 +131,14 @@ impl Engine for PlainEngine {
 
     fn choose(&mut self, at: &Cursor) -> Result<(), AllocError> {
         let signs = at.signs();
-        let place = DottedSigns::new(signs, self.pass.dot);
+        let place = DottedKey::new(signs, self.pass.dot);
         raise_in(&mut self.patterns, place, self.pass.level)?;
         Ok(())
     }
 
     fn give_up(&mut self, at: &Cursor) -> Result<(), AllocError> {
         let signs = at.signs();
-        let place = DottedSigns::new(signs, self.pass.dot);
+        let place = DottedKey::new(signs, self.pass.dot);
         put_in(&mut self.hopeless, place)?;
         Ok(())
     }

@@ -3,8 +3,10 @@
 
 mod counts;
 mod dotted_entry;
+mod dotted_keys;
 mod dotted_maps;
 pub mod engine;
+mod keys;
 mod walk;
 
 pub use engine::PlainEngine;

@@ -9,7 +9,7 @@ ghost use Rattle.pg_plain.specs.Inside.Strings.{is_string};
 ghost use Rattle.pg_plain.specs.Inside.Walks.{has_signs_at, is_extension, applies_from};
 
 use crate::dotted_entry::DottedEntry;
-use pg_patterns::DottedSigns;
+use crate::dotted_keys::DottedKey;
 use pg_select::{Pass, WordState};
 use pg_types::{PATTERN_SIGNS_MAX, Sign};
 use std::collections::BTreeMap;
@@ -21,7 +21,7 @@ use std::ops::Bound;
 /// each sign on it looks up each string of the word in the map, up to the first with which no
 /// longer string of the map begins.
 pub fn walk<F: DottedEntry>(
-    map: &BTreeMap<DottedSigns, F>,
+    map: &BTreeMap<DottedKey, F>,
     w: &[Sign],
     pass: &Pass,
     out: &mut WordState,
@@ -44,7 +44,7 @@ pub fn walk<F: DottedEntry>(
 
 /// Raises them by the entries whose signs stand in the word from `i` on, the shorter ones first.
 fn raise_from<F: DottedEntry>(
-    map: &BTreeMap<DottedSigns, F>,
+    map: &BTreeMap<DottedKey, F>,
     w: &[Sign],
     i: usize,
     pass: &Pass,
@@ -74,7 +74,7 @@ fn raise_from<F: DottedEntry>(
 /// Raises them by the entries whose signs are `q`, which stand in the word from `i` on. It is false
 /// only where no longer string of the map begins with `q`.
 fn raise_by_string<F: DottedEntry>(
-    map: &BTreeMap<DottedSigns, F>,
+    map: &BTreeMap<DottedKey, F>,
     q: &[Sign],
     i: usize,
     pass: &Pass,
@@ -91,7 +91,7 @@ fn raise_by_string<F: DottedEntry>(
     ensures ends { result ≡ false → list_any (λ e. is_extension q.now e.0.0) map.now.entries
         ≡ false }
 {
-    let first = DottedSigns::new(q, 0);
+    let first = DottedKey::new(q, 0);
     for (place, entry) in map.range((Bound::Included(&first), Bound::Unbounded)) {
         if place.signs() != q {
             return place.signs().starts_with(q);
@@ -103,7 +103,7 @@ fn raise_by_string<F: DottedEntry>(
 
 /// Raises them by an entry whose signs stand in the word from `i` on.
 fn raise_by_entry<F: DottedEntry>(
-    place: &DottedSigns,
+    place: &DottedKey,
     entry: &F,
     i: usize,
     pass: &Pass,

@@ -7,7 +7,6 @@ use Rattle.pg_dict.specs.declared.sites.Site.{Site}
 -- what stands at a sign of a word
 abbrev pub site_of : Word → ℕ → Site
 site_of w p = record {
-  before = p;
   left = 2 * (length w.signs - p) + (if slice_index_or w.hyphens p false then 1 else 0);
 }
 

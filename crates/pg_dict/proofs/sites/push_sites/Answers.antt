@@ -15,5 +15,5 @@ positions-preserved c =
     let p = c.positions.p in
     let hyphen : c.from-hyphen.result ≡ cond (get_or w.hyphens.now p false) 1 0 = c.from-hyphen.ensures ∙ byte_is (get_or w.hyphens.now p false) in
     site_added (lent_word w) c.positions.sites.items c.push.new.self.items _ p (length w.signs.now) _ c.positions-test.true c.in_ok-push.ensures.items
-    (λ i. record { before = p; left = 2 * (length w.signs.now - p) + hyphen i })
+    (λ i. record { left = 2 * (length w.signs.now - p) + hyphen i })
     c.positions.invariant

@@ -15,7 +15,7 @@ use Rattle.pg_driver.specs.Inside.Counting.{meaning_after_counting}
 use Rattle.pg_driver.specs.Inside.OpenPositions.{counted_of}
 use Rattle.pg_driver.specs.Inside.OpenSigns.{position_from, start_of}
 use Rattle.pg_driver.specs.Inside.PassWindows.{IsNumbered, counts_at}
-use Rattle.pg_driver.proofs.FlatSigns.{counted_fit, counted_none, counted_there, fit_within, flat_inside, flat_window, numbered_fit, numbered_none, site_at, sites_count, weight_at, weights_count}
+use Rattle.pg_driver.proofs.FlatSigns.{counted_fit, counted_none, counted_there, fit_within, flat_inside, flat_window, numbered_fit, numbered_none, sign_is, site_at, sites_count, weight_at, weights_count}
 use Rattle.pg_driver.proofs.OpenSigns.{place_of, signs_few}
 use Rattle.pg_driver.proofs.OpenSteps.{took_entry}
 use Rattle.pg_driver.proofs.Rooms.{room_small}
@@ -26,10 +26,6 @@ pub bounds-sites-sign : goal.bounds-sites-sign
 bounds-sites-sign g c =
     omega (arith, ap (λ (xs : List Site). length xs) c.all_sites-sites.ensures, sites_count c.args.dictionary.now, c.requires.within)
 
-pub offset_bounds-sites-sign : goal.offset_bounds-sites-sign
-offset_bounds-sites-sign g c =
-    omega (arith, c.requires.within, signs_few c.args.dictionary.now c.requires.words, c.requires.letters)
-
 pub bounds-weights-sign : goal.bounds-weights-sign
 bounds-weights-sign g c =
     omega (arith, ap (λ (xs : List ℕ). length xs) c.all_weights-weights.ensures, weights_count c.args.dictionary.now c.requires.words, c.requires.within)
@@ -38,27 +34,30 @@ pub offset_bounds-weights-sign : goal.offset_bounds-weights-sign
 offset_bounds-weights-sign g c =
     omega (arith, c.requires.within, signs_few c.args.dictionary.now c.requires.words, c.requires.letters)
 
-pub returns-then-not-has_around-clause-ok : goal.returns-then-not-has_around-clause-ok
-returns-then-not-has_around-clause-ok g c =
+pub fits_around-requires : goal.fits_around-requires
+fits_around-requires g c = c.requires.within
+
+pub returns-then-not-fits_around-clause-ok : goal.returns-then-not-fits_around-clause-ok
+returns-then-not-fits_around-clause-ok g c =
     let m = g.E.Engine.meaning c.args.engine.now in
     let words = c.args.dictionary.now in
     let pass = c.args.pass in
-    let s = site_at words c.all_sites-sites.result.now c.args.sign (record { before = 0; left = 0 }) c.all_sites-sites.ensures c.requires.within in
+    let s = site_at words c.all_sites-sites.result.now c.args.sign (record { left = 0 }) c.all_sites-sites.ensures c.requires.within in
     let w = s.of.word in
     let p = s.of.at in
-    let other : fits w.signs p pass.len pass.dot ≡ false = sym (c.has_around.ensures w p s.of.within s.is) ∙ c.if-not-has_around.true in
+    let other : fits w.signs p pass.len pass.dot ≡ false = sym (c.fits_around.ensures s.of.number p w s.of.there s.of.within (sign_is words c.args.sign s.of)) ∙ c.if-not-fits_around.true in
     sym (ap (λ (e : WordPosition). meaning_after_counting m (counted_of pass.level pass.len pass.dot words e)) (place_of words c.args.sign s.of)
     ∙ counted_none m pass.level pass.len pass.dot words s.of.number p w s.of.there other)
 
-pub returns-then-not-has_around-clause-number : goal.returns-then-not-has_around-clause-number
-returns-then-not-has_around-clause-number g c =
+pub returns-then-not-fits_around-clause-number : goal.returns-then-not-fits_around-clause-number
+returns-then-not-fits_around-clause-number g c =
     let m = g.E.Engine.meaning c.args.engine.now in
     let words = c.args.dictionary.now in
     let pass = c.args.pass in
-    let s = site_at words c.all_sites-sites.result.now c.args.sign (record { before = 0; left = 0 }) c.all_sites-sites.ensures c.requires.within in
+    let s = site_at words c.all_sites-sites.result.now c.args.sign (record { left = 0 }) c.all_sites-sites.ensures c.requires.within in
     let w = s.of.word in
     let p = s.of.at in
-    let other : fits w.signs p pass.len pass.dot ≡ false = sym (c.has_around.ensures w p s.of.within s.is) ∙ c.if-not-has_around.true in
+    let other : fits w.signs p pass.len pass.dot ≡ false = sym (c.fits_around.ensures s.of.number p w s.of.there s.of.within (sign_is words c.args.sign s.of)) ∙ c.if-not-fits_around.true in
     subst (λ (e : WordPosition). IsNumbered pass (counts_at pass) words m.windows e NOT_COUNTED) (sym (place_of words c.args.sign s.of))
     (numbered_none pass words m.windows s.of.number p w NOT_COUNTED s.of.there other refl)
 
@@ -66,20 +65,20 @@ pub overflow_sub-first : goal.overflow_sub-first
 overflow_sub-first g c =
     let words = c.args.dictionary.now in
     let pass = c.args.pass in
-    let s = site_at words c.all_sites-sites.result.now c.args.sign (record { before = 0; left = 0 }) c.all_sites-sites.ensures c.requires.within in
+    let s = site_at words c.all_sites-sites.result.now c.args.sign (record { left = 0 }) c.all_sites-sites.ensures c.requires.within in
     let w = s.of.word in
     let p = s.of.at in
-    let fit : fits w.signs p pass.len pass.dot ≡ true = sym (c.has_around.ensures w p s.of.within s.is) ∙ c.if-not-has_around.false in
+    let fit : fits w.signs p pass.len pass.dot ≡ true = sym (c.fits_around.ensures s.of.number p w s.of.there s.of.within (sign_is words c.args.sign s.of)) ∙ c.if-not-fits_around.false in
     omega (arith, c.from.ensures, s.of.is, (fit_within (length w.signs) p pass.len pass.dot fit).0)
 
 pub slice_bounds-window-end : goal.slice_bounds-window-end
 slice_bounds-window-end g c =
     let words = c.args.dictionary.now in
     let pass = c.args.pass in
-    let s = site_at words c.all_sites-sites.result.now c.args.sign (record { before = 0; left = 0 }) c.all_sites-sites.ensures c.requires.within in
+    let s = site_at words c.all_sites-sites.result.now c.args.sign (record { left = 0 }) c.all_sites-sites.ensures c.requires.within in
     let w = s.of.word in
     let p = s.of.at in
-    let fit : fits w.signs p pass.len pass.dot ≡ true = sym (c.has_around.ensures w p s.of.within s.is) ∙ c.if-not-has_around.false in
+    let fit : fits w.signs p pass.len pass.dot ≡ true = sym (c.fits_around.ensures s.of.number p w s.of.there s.of.within (sign_is words c.args.sign s.of)) ∙ c.if-not-fits_around.false in
     let first = c.args.sign - c.from.result in
     let begins : first ≡ start_of words s.of.number + (p - pass.dot) = omega (arith, c.from.ensures, s.of.is, (fit_within (length w.signs) p pass.len pass.dot fit).0) in
     omega (arith, flat_inside words s.of.number p pass.len pass.dot first w s.of.there fit begins, c.from-2.ensures, ap (λ (xs : List ℕ). length xs) c.all_signs-signs.ensures)
@@ -89,10 +88,10 @@ count_numbered-requires-clause-signs g c =
     let m = g.E.Engine.meaning c.args.engine.now in
     let words = c.args.dictionary.now in
     let pass = c.args.pass in
-    let s = site_at words c.all_sites-sites.result.now c.args.sign (record { before = 0; left = 0 }) c.all_sites-sites.ensures c.requires.within in
+    let s = site_at words c.all_sites-sites.result.now c.args.sign (record { left = 0 }) c.all_sites-sites.ensures c.requires.within in
     let w = s.of.word in
     let p = s.of.at in
-    let fit : fits w.signs p pass.len pass.dot ≡ true = sym (c.has_around.ensures w p s.of.within s.is) ∙ c.if-not-has_around.false in
+    let fit : fits w.signs p pass.len pass.dot ≡ true = sym (c.fits_around.ensures s.of.number p w s.of.there s.of.within (sign_is words c.args.sign s.of)) ∙ c.if-not-fits_around.false in
     let first = c.args.sign - c.from.result in
     let begins : first ≡ start_of words s.of.number + (p - pass.dot) = omega (arith, c.from.ensures, s.of.is, (fit_within (length w.signs) p pass.len pass.dot fit).0) in
     let long : first + c.from-2.result - first ≡ pass.len = omega (arith, c.from-2.ensures) in
@@ -106,7 +105,7 @@ pub count_numbered-requires-clause-weight : goal.count_numbered-requires-clause-
 count_numbered-requires-clause-weight g c =
     let words = c.args.dictionary.now in
     let pass = c.args.pass in
-    let s = site_at words c.all_sites-sites.result.now c.args.sign (record { before = 0; left = 0 }) c.all_sites-sites.ensures c.requires.within in
+    let s = site_at words c.all_sites-sites.result.now c.args.sign (record { left = 0 }) c.all_sites-sites.ensures c.requires.within in
     let w = s.of.word in
     let p = s.of.at in
     let word = word_in words s.of.number w c.requires.words s.of.there in
@@ -116,7 +115,7 @@ pub count_numbered-requires-clause-small : goal.count_numbered-requires-clause-s
 count_numbered-requires-clause-small g c =
     let words = c.args.dictionary.now in
     let pass = c.args.pass in
-    let s = site_at words c.all_sites-sites.result.now c.args.sign (record { before = 0; left = 0 }) c.all_sites-sites.ensures c.requires.within in
+    let s = site_at words c.all_sites-sites.result.now c.args.sign (record { left = 0 }) c.all_sites-sites.ensures c.requires.within in
     let w = s.of.word in
     let p = s.of.at in
     let word = word_in words s.of.number w c.requires.words s.of.there in
@@ -128,10 +127,10 @@ returns-clause-ok g c =
     let m = g.E.Engine.meaning c.args.engine.now in
     let words = c.args.dictionary.now in
     let pass = c.args.pass in
-    let s = site_at words c.all_sites-sites.result.now c.args.sign (record { before = 0; left = 0 }) c.all_sites-sites.ensures c.requires.within in
+    let s = site_at words c.all_sites-sites.result.now c.args.sign (record { left = 0 }) c.all_sites-sites.ensures c.requires.within in
     let w = s.of.word in
     let p = s.of.at in
-    let fit : fits w.signs p pass.len pass.dot ≡ true = sym (c.has_around.ensures w p s.of.within s.is) ∙ c.if-not-has_around.false in
+    let fit : fits w.signs p pass.len pass.dot ≡ true = sym (c.fits_around.ensures s.of.number p w s.of.there s.of.within (sign_is words c.args.sign s.of)) ∙ c.if-not-fits_around.false in
     let first = c.args.sign - c.from.result in
     let begins : first ≡ start_of words s.of.number + (p - pass.dot) = omega (arith, c.from.ensures, s.of.is, (fit_within (length w.signs) p pass.len pass.dot fit).0) in
     let long : first + c.from-2.result - first ≡ pass.len = omega (arith, c.from-2.ensures) in
@@ -150,10 +149,10 @@ returns-clause-took g c =
     let after = g.E.Engine.meaning c.count_numbered.new.self in
     let words = c.args.dictionary.now in
     let pass = c.args.pass in
-    let s = site_at words c.all_sites-sites.result.now c.args.sign (record { before = 0; left = 0 }) c.all_sites-sites.ensures c.requires.within in
+    let s = site_at words c.all_sites-sites.result.now c.args.sign (record { left = 0 }) c.all_sites-sites.ensures c.requires.within in
     let w = s.of.word in
     let p = s.of.at in
-    let fit : fits w.signs p pass.len pass.dot ≡ true = sym (c.has_around.ensures w p s.of.within s.is) ∙ c.if-not-has_around.false in
+    let fit : fits w.signs p pass.len pass.dot ≡ true = sym (c.fits_around.ensures s.of.number p w s.of.there s.of.within (sign_is words c.args.sign s.of)) ∙ c.if-not-fits_around.false in
     let first = c.args.sign - c.from.result in
     let begins : first ≡ start_of words s.of.number + (p - pass.dot) = omega (arith, c.from.ensures, s.of.is, (fit_within (length w.signs) p pass.len pass.dot fit).0) in
     let long : first + c.from-2.result - first ≡ pass.len = omega (arith, c.from-2.ensures) in
@@ -172,10 +171,10 @@ returns-clause-number g c =
     let after = g.E.Engine.meaning c.count_numbered.new.self in
     let words = c.args.dictionary.now in
     let pass = c.args.pass in
-    let s = site_at words c.all_sites-sites.result.now c.args.sign (record { before = 0; left = 0 }) c.all_sites-sites.ensures c.requires.within in
+    let s = site_at words c.all_sites-sites.result.now c.args.sign (record { left = 0 }) c.all_sites-sites.ensures c.requires.within in
     let w = s.of.word in
     let p = s.of.at in
-    let fit : fits w.signs p pass.len pass.dot ≡ true = sym (c.has_around.ensures w p s.of.within s.is) ∙ c.if-not-has_around.false in
+    let fit : fits w.signs p pass.len pass.dot ≡ true = sym (c.fits_around.ensures s.of.number p w s.of.there s.of.within (sign_is words c.args.sign s.of)) ∙ c.if-not-fits_around.false in
     let first = c.args.sign - c.from.result in
     let begins : first ≡ start_of words s.of.number + (p - pass.dot) = omega (arith, c.from.ensures, s.of.is, (fit_within (length w.signs) p pass.len pass.dot fit).0) in
     let long : first + c.from-2.result - first ≡ pass.len = omega (arith, c.from-2.ensures) in

@@ -12,81 +12,81 @@ use Rattle.pg_plain.proofs.counts.CountedWindows.count.Goals as goal
 
 pub add_to-requires-clause-there : goal.add_to-requires-clause-there
 add_to-requires-clause-there c =
-    let at : find (slice_cmp nat_cmp) c.args.window c.self.inside.numbers.entries ≡ Some c.in-Some.number = sym (c.in-Some.ensures ∙ c.get.ensures.value) in
-    within c.self.inside.numbers.entries c.self.inside.tallies.items c.self.inside.windows.items c.self.invariant c.args.window c.in-Some.number at
+    let at : find (slice_cmp nat_cmp) c.args.window.now c.self.inside.numbers.entries ≡ Some c.in-Some.number = ap (λ (u : List ℕ). find (slice_cmp nat_cmp) u c.self.inside.numbers.entries) (sym c.new-key.ensures) ∙ sym (c.in-Some.ensures ∙ c.get.ensures.value) in
+    within c.self.inside.numbers.entries c.self.inside.tallies.items c.self.inside.windows.items c.self.invariant c.args.window.now c.in-Some.number at
 
 pub add_to-requires-clause-small : goal.add_to-requires-clause-small
 add_to-requires-clause-small c =
-    let at : find (slice_cmp nat_cmp) c.args.window c.self.inside.numbers.entries ≡ Some c.in-Some.number = sym (c.in-Some.ensures ∙ c.get.ensures.value) in
-    subst (λ (s : ℕ × ℕ). AreSmall (with_weight s c.args.good c.args.weight)) (sym (ap (λ (d : Counted). sums_of d.counts c.args.window) c.self.view_is)
-    ∙ ap (λ o. unwrap_or o (0, 0)) (sums_there c.self.inside.numbers.entries c.self.inside.tallies.items c.self.inside.windows.items c.self.invariant c.args.window c.in-Some.number at)) c.requires
+    let at : find (slice_cmp nat_cmp) c.args.window.now c.self.inside.numbers.entries ≡ Some c.in-Some.number = ap (λ (u : List ℕ). find (slice_cmp nat_cmp) u c.self.inside.numbers.entries) (sym c.new-key.ensures) ∙ sym (c.in-Some.ensures ∙ c.get.ensures.value) in
+    subst (λ (s : ℕ × ℕ). AreSmall (with_weight s c.args.good c.args.weight)) (sym (ap (λ (d : Counted). sums_of d.counts c.args.window.now) c.self.view_is)
+    ∙ ap (λ o. unwrap_or o (0, 0)) (sums_there c.self.inside.numbers.entries c.self.inside.tallies.items c.self.inside.windows.items c.self.invariant c.args.window.now c.in-Some.number at)) c.requires.small
 
 pub returns-in_err-number-in-None-clause-there : goal.returns-in_err-number-in-None-clause-there
 returns-in_err-number-in-None-clause-there c = λ there.
-    let none : find (slice_cmp nat_cmp) c.args.window c.self.inside.numbers.entries ≡ None = sym (c.in-None.ensures ∙ c.get.ensures.value) in
-    absurd (absent_none c.self.inside.numbers.entries c.self.inside.tallies.items c.args.window none (ap (λ (d : Counted). is_counted d.counts c.args.window) c.self.view_is ∙ there))
+    let none : find (slice_cmp nat_cmp) c.args.window.now c.self.inside.numbers.entries ≡ None = ap (λ (u : List ℕ). find (slice_cmp nat_cmp) u c.self.inside.numbers.entries) (sym c.new-key.ensures) ∙ sym (c.in-None.ensures ∙ c.get.ensures.value) in
+    absurd (absent_none c.self.inside.numbers.entries c.self.inside.tallies.items c.args.window.now none (ap (λ (d : Counted). is_counted d.counts c.args.window.now) c.self.view_is ∙ there))
 
 pub invariant_of-self-in-None : goal.invariant_of-self-in-None
 invariant_of-self-in-None c =
-    let none : find (slice_cmp nat_cmp) c.args.window c.self.inside.numbers.entries ≡ None = sym (c.in-None.ensures ∙ c.get.ensures.value) in
+    let none : find (slice_cmp nat_cmp) c.args.window.now c.self.inside.numbers.entries ≡ None = ap (λ (u : List ℕ). find (slice_cmp nat_cmp) u c.self.inside.numbers.entries) (sym c.new-key.ensures) ∙ sym (c.in-None.ensures ∙ c.get.ensures.value) in
     let is : c.number_new.new.tallies.items ≡ c.self.inside.tallies.items ++ with_weight (0, 0) c.args.good c.args.weight ∷ [] = c.in_ok-number-in-None.ensures.tallies
     ∙ ap (λ s. c.self.inside.tallies.items ++ s ∷ []) c.added-sums.ensures in
-    new_are c.self.inside.numbers.entries c.self.inside.tallies.items c.self.inside.windows.items c.self.invariant c.args.window none c.args.good
+    new_are c.self.inside.numbers.entries c.self.inside.tallies.items c.self.inside.windows.items c.self.invariant c.args.window.now none c.args.good
     c.args.weight c.number_new.new.numbers.entries c.number_new.new.tallies.items c.in_ok-number-in-None.ensures.numbers is c.number_new.new.windows.items
     c.in_ok-number-in-None.ensures.windows c.in_ok-number-in-None.ensures.few
 
 pub returns-in-Some-clause-ok : goal.returns-in-Some-clause-ok
 returns-in-Some-clause-ok c =
-    let at : find (slice_cmp nat_cmp) c.args.window c.self.inside.numbers.entries ≡ Some c.in-Some.number = sym (c.in-Some.ensures ∙ c.get.ensures.value) in
-    set_seen c.self.inside.numbers.entries c.self.inside.tallies.items c.self.inside.windows.items c.self.invariant c.args.window c.in-Some.number at
-    c.args.good c.args.weight c.add_to.new.tallies.items c.add_to.ensures ∙ ap (λ (d : Counted). counted_more d c.args.window c.args.good c.args.weight) c.self.view_is
+    let at : find (slice_cmp nat_cmp) c.args.window.now c.self.inside.numbers.entries ≡ Some c.in-Some.number = ap (λ (u : List ℕ). find (slice_cmp nat_cmp) u c.self.inside.numbers.entries) (sym c.new-key.ensures) ∙ sym (c.in-Some.ensures ∙ c.get.ensures.value) in
+    set_seen c.self.inside.numbers.entries c.self.inside.tallies.items c.self.inside.windows.items c.self.invariant c.args.window.now c.in-Some.number at
+    c.args.good c.args.weight c.add_to.new.tallies.items c.add_to.ensures ∙ ap (λ (d : Counted). counted_more d c.args.window.now c.args.good c.args.weight) c.self.view_is
 
 pub returns-in-Some-clause-number : goal.returns-in-Some-clause-number
 returns-in-Some-clause-number c =
-    let at : find (slice_cmp nat_cmp) c.args.window c.self.inside.numbers.entries ≡ Some c.in-Some.number = sym (c.in-Some.ensures ∙ c.get.ensures.value) in
-    has_number c.self.inside.numbers.entries c.self.inside.tallies.items c.self.inside.windows.items c.self.invariant c.args.window c.in-Some.number at
+    let at : find (slice_cmp nat_cmp) c.args.window.now c.self.inside.numbers.entries ≡ Some c.in-Some.number = ap (λ (u : List ℕ). find (slice_cmp nat_cmp) u c.self.inside.numbers.entries) (sym c.new-key.ensures) ∙ sym (c.in-Some.ensures ∙ c.get.ensures.value) in
+    has_number c.self.inside.numbers.entries c.self.inside.tallies.items c.self.inside.windows.items c.self.invariant c.args.window.now c.in-Some.number at
 
 pub returns-in-Some-clause-windows : goal.returns-in-Some-clause-windows
 returns-in-Some-clause-windows c = λ good new all.
-    let at : find (slice_cmp nat_cmp) c.args.window c.self.inside.numbers.entries ≡ Some c.in-Some.number = sym (c.in-Some.ensures ∙ c.get.ensures.value) in
+    let at : find (slice_cmp nat_cmp) c.args.window.now c.self.inside.numbers.entries ≡ Some c.in-Some.number = ap (λ (u : List ℕ). find (slice_cmp nat_cmp) u c.self.inside.numbers.entries) (sym c.new-key.ensures) ∙ sym (c.in-Some.ensures ∙ c.get.ensures.value) in
     subst (λ (d : Counted). list_all (λ (e : List ℕ × (ℕ × ℕ)). good e.0) d.counts ≡ true)
-    (sym (set_seen c.self.inside.numbers.entries c.self.inside.tallies.items c.self.inside.windows.items c.self.invariant c.args.window c.in-Some.number
-    at c.args.good c.args.weight c.add_to.new.tallies.items c.add_to.ensures ∙ ap (λ (d : Counted). counted_more d c.args.window c.args.good c.args.weight) c.self.view_is))
-    (windows_put good c.args.self.now.counts c.args.window (with_weight (sums_of c.args.self.now.counts c.args.window) c.args.good c.args.weight) new all)
+    (sym (set_seen c.self.inside.numbers.entries c.self.inside.tallies.items c.self.inside.windows.items c.self.invariant c.args.window.now c.in-Some.number
+    at c.args.good c.args.weight c.add_to.new.tallies.items c.add_to.ensures ∙ ap (λ (d : Counted). counted_more d c.args.window.now c.args.good c.args.weight) c.self.view_is))
+    (windows_put good c.args.self.now.counts c.args.window.now (with_weight (sums_of c.args.self.now.counts c.args.window.now) c.args.good c.args.weight) new all)
 
 pub returns-in_ok-number-in-None-clause-ok : goal.returns-in_ok-number-in-None-clause-ok
 returns-in_ok-number-in-None-clause-ok c =
-    let none : find (slice_cmp nat_cmp) c.args.window c.self.inside.numbers.entries ≡ None = sym (c.in-None.ensures ∙ c.get.ensures.value) in
+    let none : find (slice_cmp nat_cmp) c.args.window.now c.self.inside.numbers.entries ≡ None = ap (λ (u : List ℕ). find (slice_cmp nat_cmp) u c.self.inside.numbers.entries) (sym c.new-key.ensures) ∙ sym (c.in-None.ensures ∙ c.get.ensures.value) in
     let is : c.number_new.new.tallies.items ≡ c.self.inside.tallies.items ++ with_weight (0, 0) c.args.good c.args.weight ∷ [] = c.in_ok-number-in-None.ensures.tallies
     ∙ ap (λ s. c.self.inside.tallies.items ++ s ∷ []) c.added-sums.ensures in
-    new_seen c.self.inside.numbers.entries c.self.inside.tallies.items c.self.inside.windows.items c.self.invariant c.args.window none c.args.good
+    new_seen c.self.inside.numbers.entries c.self.inside.tallies.items c.self.inside.windows.items c.self.invariant c.args.window.now none c.args.good
     c.args.weight c.number_new.new.numbers.entries c.number_new.new.tallies.items c.in_ok-number-in-None.ensures.numbers is
-    ∙ ap (λ (d : Counted). counted_more d c.args.window c.args.good c.args.weight) c.self.view_is
+    ∙ ap (λ (d : Counted). counted_more d c.args.window.now c.args.good c.args.weight) c.self.view_is
 
 pub returns-in_ok-number-in-None-clause-number : goal.returns-in_ok-number-in-None-clause-number
 returns-in_ok-number-in-None-clause-number c =
-    let none : find (slice_cmp nat_cmp) c.args.window c.self.inside.numbers.entries ≡ None = sym (c.in-None.ensures ∙ c.get.ensures.value) in
+    let none : find (slice_cmp nat_cmp) c.args.window.now c.self.inside.numbers.entries ≡ None = ap (λ (u : List ℕ). find (slice_cmp nat_cmp) u c.self.inside.numbers.entries) (sym c.new-key.ensures) ∙ sym (c.in-None.ensures ∙ c.get.ensures.value) in
     let is : c.number_new.new.tallies.items ≡ c.self.inside.tallies.items ++ with_weight (0, 0) c.args.good c.args.weight ∷ [] = c.in_ok-number-in-None.ensures.tallies
     ∙ ap (λ s. c.self.inside.tallies.items ++ s ∷ []) c.added-sums.ensures in
-    subst (λ k. HasNumber (by_number c.number_new.new.numbers.entries) c.args.window k) (sym c.in_ok-number-in-None.ensures.number)
-    (new_number c.self.inside.numbers.entries c.self.inside.tallies.items c.self.inside.windows.items c.self.invariant c.args.window none c.args.good
+    subst (λ k. HasNumber (by_number c.number_new.new.numbers.entries) c.args.window.now k) (sym c.in_ok-number-in-None.ensures.number)
+    (new_number c.self.inside.numbers.entries c.self.inside.tallies.items c.self.inside.windows.items c.self.invariant c.args.window.now none c.args.good
     c.args.weight c.number_new.new.numbers.entries c.number_new.new.tallies.items c.in_ok-number-in-None.ensures.numbers is c.in_ok-number-in-None.ensures.few)
 
 pub returns-in_ok-number-in-None-clause-windows : goal.returns-in_ok-number-in-None-clause-windows
 returns-in_ok-number-in-None-clause-windows c = λ good new all.
-    let none : find (slice_cmp nat_cmp) c.args.window c.self.inside.numbers.entries ≡ None = sym (c.in-None.ensures ∙ c.get.ensures.value) in
+    let none : find (slice_cmp nat_cmp) c.args.window.now c.self.inside.numbers.entries ≡ None = ap (λ (u : List ℕ). find (slice_cmp nat_cmp) u c.self.inside.numbers.entries) (sym c.new-key.ensures) ∙ sym (c.in-None.ensures ∙ c.get.ensures.value) in
     let is : c.number_new.new.tallies.items ≡ c.self.inside.tallies.items ++ with_weight (0, 0) c.args.good c.args.weight ∷ [] = c.in_ok-number-in-None.ensures.tallies
     ∙ ap (λ s. c.self.inside.tallies.items ++ s ∷ []) c.added-sums.ensures in
     subst (λ (d : Counted). list_all (λ (e : List ℕ × (ℕ × ℕ)). good e.0) d.counts ≡ true)
-    (sym (new_seen c.self.inside.numbers.entries c.self.inside.tallies.items c.self.inside.windows.items c.self.invariant c.args.window none c.args.good
+    (sym (new_seen c.self.inside.numbers.entries c.self.inside.tallies.items c.self.inside.windows.items c.self.invariant c.args.window.now none c.args.good
     c.args.weight c.number_new.new.numbers.entries c.number_new.new.tallies.items c.in_ok-number-in-None.ensures.numbers is
-    ∙ ap (λ (d : Counted). counted_more d c.args.window c.args.good c.args.weight) c.self.view_is))
-    (windows_put good c.args.self.now.counts c.args.window (with_weight (sums_of c.args.self.now.counts c.args.window) c.args.good c.args.weight) new all)
+    ∙ ap (λ (d : Counted). counted_more d c.args.window.now c.args.good c.args.weight) c.self.view_is))
+    (windows_put good c.args.self.now.counts c.args.window.now (with_weight (sums_of c.args.self.now.counts c.args.window.now) c.args.good c.args.weight) new all)
 
 pub invariant_of-self : goal.invariant_of-self
 invariant_of-self c =
-    let at : find (slice_cmp nat_cmp) c.args.window c.self.inside.numbers.entries ≡ Some c.in-Some.number = sym (c.in-Some.ensures ∙ c.get.ensures.value) in
-    set_are c.self.inside.numbers.entries c.self.inside.tallies.items c.self.inside.windows.items c.self.invariant c.args.window c.in-Some.number at
+    let at : find (slice_cmp nat_cmp) c.args.window.now c.self.inside.numbers.entries ≡ Some c.in-Some.number = ap (λ (u : List ℕ). find (slice_cmp nat_cmp) u c.self.inside.numbers.entries) (sym c.new-key.ensures) ∙ sym (c.in-Some.ensures ∙ c.get.ensures.value) in
+    set_are c.self.inside.numbers.entries c.self.inside.tallies.items c.self.inside.windows.items c.self.invariant c.args.window.now c.in-Some.number at
     c.args.good c.args.weight c.add_to.new.tallies.items c.add_to.ensures
 
 pub invariant_of-self-in_err-number-in-None : goal.invariant_of-self-in_err-number-in-None

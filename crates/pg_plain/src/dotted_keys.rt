@@ -1,0 +1,109 @@
+//! Dotted strings as the keys of maps.
+ghost use Rattle.std.specs.Prelude.{◌≡◌, ◌≤◌, length};
+ghost use Rattle.pg_types.specs.declared.limits.TheConstants.{PATTERN_SIGNS_MAX};
+
+use crate::keys::packed_from;
+use pg_patterns::DottedSigns;
+use pg_types::Sign;
+use std::cmp::Ordering;
+use std::marker::Model;
+
+/// A dotted string with its first four signs as one number, so that two of them are mostly told
+/// apart by one comparison.
+#[derive(Drop)]
+pub struct DottedKey {
+    head: u64,
+    place: DottedSigns,
+}
+
+impl Model for DottedKey {
+    ghost use Rattle.std.specs.Prelude.{ℕ, List};
+    ghost use Rattle.pg_plain.specs.Inside.Keys.{IsHead};
+
+    ghost Value = { List ℕ × ℕ };
+
+    ghost view = { λ k. k.place };
+
+    ghost invariant = { λ k. IsHead k.head k.place.0 };
+}
+
+impl DottedKey {
+    /// The dotted string of `dot` among `signs`.
+    pub fn new(signs: &[Sign], dot: u8) -> DottedKey
+        requires { length signs.now ≤ PATTERN_SIGNS_MAX }
+        ensures { result ≡ (signs.now, dot) }
+    {
+        DottedKey {
+            head: packed_from(signs, 0),
+            place: DottedSigns::new(signs, dot),
+        }
+    }
+
+    /// The signs.
+    pub fn signs(&self) -> &[Sign]
+        ensures value { result.now ≡ self.now.0 }
+        ensures few { length result.now ≤ PATTERN_SIGNS_MAX }
+    {
+        self.place.signs()
+    }
+
+    /// How many signs stand before the dot.
+    pub fn dot(&self) -> u8
+        ensures { result ≡ self.now.1 }
+    {
+        self.place.dot()
+    }
+}
+
+impl PartialEq for DottedKey {
+    ghost use Rattle.pg_patterns.specs.Inside.DottedOrder.{same_dotted, dotted_partial_equiv};
+
+    ghost eq = { same_dotted };
+
+    ghost laws = { dotted_partial_equiv };
+
+    fn eq(&self, other: &Self) -> bool {
+        self.place == other.place
+    }
+}
+
+impl Eq for DottedKey {
+    ghost use Rattle.pg_patterns.specs.Inside.DottedOrder.{dotted_equiv};
+
+    ghost laws = { dotted_equiv };
+}
+
+impl PartialOrd for DottedKey {
+    ghost use Rattle.std.specs.Prelude.{Some};
+    ghost use Rattle.pg_patterns.specs.DottedSigns.{dotted_cmp};
+    ghost use Rattle.pg_patterns.specs.Inside.DottedOrder.{dotted_partial_order};
+
+    ghost partial_cmp = { λ a b. Some (dotted_cmp a b) };
+
+    ghost laws = { dotted_partial_order };
+
+    fn partial_cmp(&self, other: &Self) -> Option<Ordering> {
+        Some(self.cmp(other))
+    }
+}
+
+impl Ord for DottedKey {
+    ghost use Rattle.std.specs.Prelude.{refl};
+    ghost use Rattle.pg_patterns.specs.DottedSigns.{dotted_cmp};
+    ghost use Rattle.pg_patterns.specs.Inside.DottedOrder.{dotted_total, dotted_ties};
+
+    ghost cmp = { dotted_cmp };
+
+    ghost total = { dotted_total };
+
+    ghost matches_partial_cmp = { λ a b. refl };
+
+    ghost matches_eq = { dotted_ties };
+
+    fn cmp(&self, other: &Self) -> Ordering {
+        if self.head != other.head {
+            return self.head.cmp(&other.head);
+        }
+        self.place.cmp(&other.place)
+    }
+}
