@@ -268,9 +268,19 @@ fn fault_of(want: &Line<'_>) -> io::Result<Fault> {
 
 /// Whether a line is of puts, and not of calls on the files.
 fn is_put(word: &str, name: &str) -> io::Result<bool> {
-    match (word, name) {
-        ("fails", "put") | ("puts", "") => Ok(true),
-        ("fails", "call") | ("calls", "") => Ok(false),
+    match word {
+        "fails" => is_put_named(name),
+        "puts" if name.is_empty() => Ok(true),
+        "calls" if name.is_empty() => Ok(false),
+        _ => Err(io::Error::other("a number of calls or puts has no name")),
+    }
+}
+
+/// Whether what fails is named as a put, and not as a call on the files.
+fn is_put_named(name: &str) -> io::Result<bool> {
+    match name {
+        "put" => Ok(true),
+        "call" => Ok(false),
         _ => Err(io::Error::other("what fails is no call and no put")),
     }
 }

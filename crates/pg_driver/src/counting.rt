@@ -6,7 +6,7 @@ ghost use Rattle.pg_select.specs.Inside.LawsSteps.{IsBelow};
 ghost use Rattle.pg_driver.specs.declared.pass_windows.TheConstants.{NOT_COUNTED};
 ghost use Rattle.pg_driver.specs.Inside.LevelCounting.{AreNumberedIn, ArePlaced, CanGoOn, DidCount, GoesOnAfter, IsCounted, IsOverOpen, IsReady, totals_in};
 ghost use Rattle.pg_driver.specs.Inside.PassWindows.{AreFates};
-ghost use Rattle.pg_driver.specs.Inside.States.{IsPass};
+ghost use Rattle.pg_driver.specs.Inside.States.{HasBegun, IsPass};
 ghost use Rattle.pg_driver.specs.Inside.RunAccounts.{known_of};
 ghost use Rattle.pg_driver.specs.Traces.{Known, Source, over};
 
@@ -69,10 +69,7 @@ impl Counting {
         pass: Pass,
         windows: &mut PassWindows,
     ) -> Result<Totals, AllocError>
-        requires ranges { IsPass pass }
-        requires pass { (E.meaning engine.old).pass ≡ pass }
-        requires fresh { (E.meaning engine.old).counts ≡ [] }
-        requires signs { SignsAtMost (E.meaning engine.old).signs dictionary.now }
+        requires begun { HasBegun pass dictionary.now (E.meaning engine.old) }
         requires ready { IsReady (over table.now dictionary.now) pass.level pass.len
             (known_of (E.meaning engine.old)) self.old }
         ensures did { IfOk result (DidCount (over table.now dictionary.now) pass

@@ -1,9 +1,8 @@
 //! A level in which each word is hyphenated in each pass. Its totals are carried from pass to pass.
 ghost use Rattle.std.specs.Prelude.{◌≡◌, [], false, true, IfOk, OnOk};
 ghost use Rattle.pg_types.specs.Inside.NumberedWindows.{AreNumbered};
-ghost use Rattle.pg_dict.specs.Inside.SoundWords.{SignsAtMost};
 ghost use Rattle.pg_driver.specs.Inside.PassWindows.{HaveNumbers, is_counted_at};
-ghost use Rattle.pg_driver.specs.Inside.States.{IsPass};
+ghost use Rattle.pg_driver.specs.Inside.States.{HasBegun};
 ghost use Rattle.pg_driver.specs.Inside.RunAccounts.{known_of};
 ghost use Rattle.pg_driver.specs.Traces.{over};
 ghost use Rattle.pg_select.specs.Statuses.{is_odd};
@@ -58,11 +57,8 @@ impl WordLevel {
         pass: Pass,
         numbers: &mut Vec<u32>,
     ) -> Result<Totals, AllocError>
-        requires ranges { IsPass pass }
-        requires pass { (E.meaning engine.old).pass ≡ pass }
-        requires fresh { (E.meaning engine.old).counts ≡ [] }
+        requires begun { HasBegun pass dictionary.now (E.meaning engine.old) }
         requires none { numbers.old.items ≡ [] }
-        requires signs { SignsAtMost (E.meaning engine.old).signs dictionary.now }
         requires ready { IsWordsAt (over table.now dictionary.now) pass.level
             (known_of (E.meaning engine.old))
             self.old }

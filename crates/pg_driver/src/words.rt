@@ -3,7 +3,7 @@ ghost use Rattle.std.specs.Prelude.{◌≡◌, ◌≤◌, ◌<◌, ◌+◌, ◌+
 ghost use Rattle.pg_types.specs.Inside.Counts.{SignsWithin};
 ghost use Rattle.pg_types.specs.declared.limits.TheConstants.{WORD_LETTERS_MAX};
 ghost use Rattle.pg_translate.specs.Reach.{positions as positions_of};
-ghost use Rattle.pg_dict.specs.Inside.SoundWords.{IsWord, SignsAtMost, letter_count};
+ghost use Rattle.pg_dict.specs.Inside.SoundWords.{IsWord, letter_count};
 ghost use Rattle.pg_dict.specs.Inside.Lent.{lent_word};
 ghost use Rattle.pg_select.specs.CountedPositions.{counted_at, counted_positions_at, counted_positions, counts_as as counts_as_of, minima_of};
 ghost use Rattle.pg_select.specs.Inside.WordCounts.{counted_positions_in};
@@ -16,7 +16,7 @@ ghost use Rattle.pg_driver.specs.Inside.Counting.{meaning_after_counting, HasRoo
 ghost use Rattle.pg_driver.specs.Inside.OpenLevels.{listed_in, listed_from, open_as};
 ghost use Rattle.pg_driver.specs.Inside.PassWindows.{GetsNumber, HaveNumbers, NotesNumbers, uncovered_at};
 ghost use Rattle.pg_driver.specs.Inside.Sound.{IsSmall};
-ghost use Rattle.pg_driver.specs.Inside.States.{IsPass};
+ghost use Rattle.pg_driver.specs.Inside.States.{HasBegun, IsPass};
 ghost use Rattle.pg_driver.specs.Inside.WordLevels.{listing};
 ghost use Rattle.pg_driver.specs.Traces.{over};
 
@@ -191,11 +191,8 @@ pub fn count_words<E: Engine>(
     above: &mut Vec<WordPosition>,
     numbers: &mut Vec<u32>,
 ) -> Result<Totals, AllocError>
-    requires ranges { IsPass pass }
-    requires pass { (E.meaning engine.old).pass ≡ pass }
-    requires fresh { (E.meaning engine.old).counts ≡ [] }
+    requires begun { HasBegun pass dictionary.now (E.meaning engine.old) }
     requires none { numbers.old.items ≡ [] }
-    requires signs { SignsAtMost (E.meaning engine.old).signs dictionary.now }
     ensures ok { OnOk result (E.meaning engine.new
         ≡ meaning_after_counting (E.meaning engine.old)
         (counted_positions (minima_of table.now) dictionary.now (E.meaning engine.old).pass

@@ -8,7 +8,7 @@ use std::process::Abort;
 use std::test::Fail;
 
 /// The files of a run whose three passes find the one pattern that two words need.
-const INPUTS: &[(&str, &[u8])] = &[
+pub(crate) const INPUTS: &[(&str, &[u8])] = &[
     ("T", b" 1 1\n a\n b\n c\n"),
     ("A", b"1 1 2 2 1 1 2"),
     ("P", b""),

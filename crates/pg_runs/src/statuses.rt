@@ -1,6 +1,6 @@
 //! The status of the program, by the words that it is handed or the reason why there are none.
 use crate::arguments::Given;
-use crate::quiet::words;
+use crate::quiet::{INPUTS, words};
 use crate::scripted::Broken;
 use pg_main::{NoWords, run_words, status_of};
 use pg_messages::Messages;
@@ -11,16 +11,9 @@ use std::rt::Clock;
 use std::test::Fail;
 use std::{fs, io};
 
-/// What the calls are given: the files of a small run, another pattern file than it writes, and a
-/// dictionary with a letter that the table lacks.
-const FILES: &[(&str, &[u8])] = &[
-    ("T", b" 1 1\n a\n b\n c\n"),
-    ("A", b"1 1 2 2 1 1 2"),
-    ("P", b""),
-    ("D", b"ab-c\nab-a\n"),
-    ("other", b"ab3\n"),
-    ("bad", b"zz\n"),
-];
+/// What the calls are given beside the files of a small run: another pattern file than it writes,
+/// and a dictionary with a letter that the table lacks.
+const MORE: &[(&str, &[u8])] = &[("other", b"ab3\n"), ("bad", b"zz\n")];
 
 /// The words of a call, and its status.
 const CALLS: &[(&str, u8)] = &[
@@ -31,9 +24,9 @@ const CALLS: &[(&str, u8)] = &[
     ("generate missing P O T A R", 4),
 ];
 
-/// Adds the files of a call.
-fn add_files(files: &mut MemoryFiles) -> Result<(), AllocError> {
-    for (name, bytes) in FILES {
+/// Adds these files.
+fn add_files(files: &mut MemoryFiles, added: &[(&str, &[u8])]) -> Result<(), AllocError> {
+    for (name, bytes) in added {
         files.add(name, bytes, 0)?;
     }
     Ok(())
@@ -42,7 +35,8 @@ fn add_files(files: &mut MemoryFiles) -> Result<(), AllocError> {
 /// The files of a call.
 fn given(alloc: Global) -> Result<MemoryFiles, AllocError> {
     let mut files = MemoryFiles::new(alloc);
-    add_files(&mut files)?;
+    add_files(&mut files, INPUTS)?;
+    add_files(&mut files, MORE)?;
     Ok(files)
 }
 

@@ -1,7 +1,7 @@
 //! Calls of the program over a disk that tells: what stands under each name when they are done, and
 //! when a call of the system stops the program or fails.
 use crate::disk::{holds, let_fail};
-use crate::quiet::words;
+use crate::quiet::{INPUTS, words};
 use pg_outside::{DiskFiles, MemorySink};
 use pg_told_disk::ToldDisk;
 use pg_top::{Status, run};
@@ -9,13 +9,9 @@ use std::alloc::{AllocError, Global};
 use std::process::Abort;
 use std::test::Fail;
 
-/// What stands on the disk: the files of a run whose three passes find the one pattern that two
-/// words need, and old files, one of them the one that the run writes.
-const FILES: &[(&str, &[u8])] = &[
-    ("T", b" 1 1\n a\n b\n c\n"),
-    ("A", b"1 1 2 2 1 1 2"),
-    ("P", b""),
-    ("D", b"ab-c\nab-a\n"),
+/// What stands on the disk beside the files of a small run: old files, one of them the one that the
+/// run writes.
+const OLD: &[(&str, &[u8])] = &[
     ("folder/old", b"old patterns, longer than the new\n"),
     ("R", b"old report\n"),
     ("good", b"ab1\n"),
@@ -35,8 +31,8 @@ const CALLS: &[(&str, Status)] = &[
 ];
 
 /// Adds these files to a disk.
-fn add_files(disk: &mut ToldDisk) -> Result<(), AllocError> {
-    for (name, bytes) in FILES {
+fn add_files(disk: &mut ToldDisk, added: &[(&str, &[u8])]) -> Result<(), AllocError> {
+    for (name, bytes) in added {
         disk.add(name, bytes, 0o644)?;
     }
     Ok(())
@@ -45,7 +41,8 @@ fn add_files(disk: &mut ToldDisk) -> Result<(), AllocError> {
 /// A disk of these files alone. It has no link, so what files over it hold is told.
 fn plain_disk(alloc: Global) -> Result<ToldDisk, AllocError> {
     let mut disk = ToldDisk::new(alloc);
-    add_files(&mut disk)?;
+    add_files(&mut disk, INPUTS)?;
+    add_files(&mut disk, OLD)?;
     Ok(disk)
 }
 

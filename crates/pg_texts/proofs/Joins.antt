@@ -7,6 +7,15 @@ use Rattle.std.proofs.lemmas.List.{append-nil, drop_all, drop_more}
 pub two_numbers : (old f m g n end once twice all : List ℕ) → once ≡ old ++ f ++ m → twice ≡ once ++ g ++ n → all ≡ twice ++ end → all ≡ old ++ (f ++ m ++ g ++ n ++ end)
 two_numbers old f m g n end once twice all a b c = rw (c, b, a) (simp append_assoc)
 
+-- a text, a number behind another, and an end
+pub then_a_number : (old k f l end one two all : List ℕ) → one ≡ old ++ k → two ≡ one ++ f ++ l → all ≡ two ++ end → all ≡ old ++ (k ++ f ++ l ++ end)
+then_a_number old k f l end one two all a b c = rw (c, b, a) (simp append_assoc)
+
+-- three numbers, the first at once
+pub three_numbers : (old k f l g m end one two three all : List ℕ) → one ≡ old ++ k → two ≡ one ++ f ++ l → three ≡ two ++ g ++ m → all ≡ three ++ end
+    → all ≡ old ++ (k ++ f ++ l ++ g ++ m ++ end)
+three_numbers old k f l g m end one two three all a b c d = rw (d, c, b, a) (simp append_assoc)
+
 -- four numbers, the first at once
 pub four_numbers : (old k f l g m h n end one two three four all : List ℕ) → one ≡ old ++ k → two ≡ one ++ f ++ l → three ≡ two ++ g ++ m → four ≡ three
     ++ h ++ n → all ≡ four ++ end → all ≡ old ++ (k ++ f ++ l ++ g ++ m ++ h ++ n ++ end)

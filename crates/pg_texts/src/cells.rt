@@ -32,7 +32,7 @@ fn push_used(text: &mut Vec<u8>, layout: &Layout) -> Result<(), AllocError>
 }
 
 /// Appends a layout and the line's end.
-fn push_layout(text: &mut Vec<u8>, layout: &Layout) -> Result<(), AllocError>
+pub fn push_layout(text: &mut Vec<u8>, layout: &Layout) -> Result<(), AllocError>
     ensures { OnOk result (text.new.items ≡ text.old.items ++ cells.layout_line_text layout.now) }
 {
     push_used(text, layout)?;

@@ -9,7 +9,7 @@ mod rates;
 mod report;
 mod word;
 
-pub use cells::cells_text;
+pub use cells::{cells_text, push_layout};
 pub use pattmp::pattmp_text;
-pub use rates::push_ending;
+pub use rates::{push_ending, push_totals};
 pub use report::report_text;

@@ -4,6 +4,7 @@ ghost use Rattle.pg_types.specs.Lines.{lines};
 ghost use Rattle.pg_top.specs.PrintedLines.{done_line as done_line_of, refused_line as refused_line_of, word_of, place_of};
 
 use crate::inputs::{Given, Input};
+use pg_texts::push_totals;
 use pg_types::{Refusal, Totals, next_line, push_number};
 use std::alloc::{AllocError, Global};
 
@@ -45,10 +46,9 @@ fn begin_done(line: &mut Vec<u8>, patterns: &[u8], totals: &Totals) -> Result<()
     ensures { OnOk result (line.new.items ≡ done_line_of patterns.now totals.now) }
 {
     push_number(line, b"done: ", count_lines(patterns) as u64)?;
-    push_number(line, b" patterns, ", totals.good)?;
-    push_number(line, b" good, ", totals.bad)?;
-    push_number(line, b" bad, ", totals.missed)?;
-    line.extend_from_slice(b" missed\n")
+    line.extend_from_slice(b" patterns, ")?;
+    push_totals(line, totals)?;
+    line.extend_from_slice(b"\n")
 }
 
 /// Appends the words for a file in a line of refusal or of `no`.

@@ -7,11 +7,13 @@ ghost use Rattle.pg_top.specs.Inside.SelectionSigns.{HasSigns};
 ghost use Rattle.pg_top.specs.Inside.SelectedRuns.{IsNew, TellsSelection, HasSelected};
 ghost use Rattle.pg_driver.specs.Inside.RunAccounts.{TellsCells};
 ghost use Rattle.pg_top.specs.Inside.Runs.{last_layout_told};
+ghost use Rattle.pg_top.specs.Selection.{selected_text, selected_list, selected_report};
 
 use pg_dict::Dictionary;
 use pg_driver::{Run, generate};
 use pg_patterns::PatternSet;
 use pg_select::Engine;
+use pg_texts::{pattmp_text, report_text};
 use pg_translate::Table;
 use pg_types::{Layout, Params};
 use std::alloc::{AllocError, Global};
@@ -59,4 +61,33 @@ pub fn last_layout(run: &Run) -> Option<Layout>
     } else {
         levels[levels.len() - 1].layout
     }
+}
+
+/// The pattern file of the inputs, by their run.
+pub fn pattern_file(alloc: Global, inputs: &Inputs, run: &Run) -> Result<Vec<u8>, AllocError>
+    requires { TellsSelection inputs.now run.now }
+    ensures { IfOk result (λ text. text.items ≡ selected_text inputs.now) }
+{
+    run.patterns().text(alloc, &inputs.table)
+}
+
+/// The hyphenated list of the inputs, by the engine that did their run.
+pub fn list_file<E: Engine>(
+    alloc: Global,
+    inputs: &Inputs,
+    engine: &E,
+) -> Result<Vec<u8>, AllocError>
+    requires signs { HasSigns inputs.now }
+    requires engine { HasSelected inputs.now (E.meaning engine.now) }
+    ensures { IfOk result (λ text. text.items ≡ selected_list inputs.now) }
+{
+    pattmp_text(alloc, engine, &inputs.dictionary, &inputs.table)
+}
+
+/// The report of the inputs, by their run.
+pub fn report_file(alloc: Global, inputs: &Inputs, run: &Run) -> Result<Vec<u8>, AllocError>
+    requires { TellsSelection inputs.now run.now }
+    ensures { IfOk result (λ text. text.items ≡ selected_report inputs.now) }
+{
+    report_text(alloc, inputs.start.largest(), &inputs.params, run)
 }

@@ -1,9 +1,11 @@
 -- What a run changes in an engine, from pass to pass.
-use Rattle.std.specs.Prelude.{◌≡◌, ℕ, ◌+◌, ◌≤◌, List, Option}
+use Rattle.std.specs.Prelude.{◌≡◌, ℕ, ◌+◌, ◌≤◌, List, [], Option}
 use Rattle.std.specs.Option.{option_map}
 use Rattle.pg_types.specs.declared.limits.TheConstants.{LENGTH_MAX, LEVEL_MAX}
 use Rattle.pg_types.specs.declared.parameters.LevelParams.{LevelParams}
 use Rattle.pg_types.specs.Placement.{Families, taken_count, top}
+use Rattle.pg_dict.specs.Word.{Word}
+use Rattle.pg_dict.specs.Inside.SoundWords.{SignsAtMost}
 use Rattle.pg_select.specs.Inside.Meanings.{Meaning}
 use Rattle.pg_driver.specs.declared.records.PassRecord.{PassRecord}
 use Rattle.pg_select.specs.declared.pass.Pass.{Pass}
@@ -43,6 +45,13 @@ pub record IsPass (pass : Pass) : Type 0 where
   pub len_low : 1 ≤ pass.len
   pub len_high : pass.len ≤ LENGTH_MAX
   pub within : pass.dot ≤ pass.len
+
+-- a pass has begun over these words, and no window is counted yet
+pub record HasBegun (pass : Pass) (words : List Word) (m : Meaning) : Type 0 where
+  pub ranges : IsPass pass
+  pub begun : m.pass ≡ pass
+  pub fresh : m.counts ≡ []
+  pub signs : SignsAtMost m.signs words
 
 -- the pass that is made from what an engine knows
 abbrev pub made_by : Source → LevelParams → Meaning → Pass → PassTrace

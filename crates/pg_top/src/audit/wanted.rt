@@ -8,11 +8,10 @@ ghost use Rattle.pg_top.specs.Inside.SelectedRuns.{IsNew, TellsSelection, HasSel
 ghost use Rattle.pg_top.specs.audit.Inside.Verdicts.{reading_of, wanted_files};
 
 use crate::inputs::Given;
-use crate::selection::{Inputs, select};
+use crate::selection::{Inputs, list_file, pattern_file, report_file, select};
 use pg_driver::Run;
 use pg_plain::PlainEngine;
 use pg_select::Engine;
-use pg_texts::{pattmp_text, report_text};
 use pg_watch::{Watch, Watched};
 use pg_words::Names;
 use std::alloc::{AllocError, Global};
@@ -58,7 +57,7 @@ fn push_pattmp<'a, E: Engine>(
         (λ name. given_file (λ _. inputs.now) (Given.Pattmp, name))) }
 {
     if let Some(name) = name {
-        let text = pattmp_text(alloc, engine, &inputs.dictionary, &inputs.table)?;
+        let text = list_file(alloc, inputs, engine)?;
         push_wanted(wanted, Given::Pattmp, name, text)?;
     }
     Ok(())
@@ -81,10 +80,10 @@ fn push_all<'a, E: Engine>(
     ensures { OnOk result
         (wanted_files wanted.new.items ≡ given_files (λ _. inputs.now) (texts_of names.now)) }
 {
-    let text = run.patterns().text(alloc, &inputs.table)?;
+    let text = pattern_file(alloc, inputs, run)?;
     push_wanted(wanted, Given::Patterns, names.output, text)?;
     push_pattmp(alloc, wanted, names.pattmp, engine, inputs)?;
-    let report = report_text(alloc, inputs.start.largest(), &inputs.params, run)?;
+    let report = report_file(alloc, inputs, run)?;
     push_wanted(wanted, Given::Report, names.report, report)
 }
 

@@ -7,18 +7,18 @@ ghost use Rattle.pg_top.specs.generate.Generated.{selected_files, selected_lines
 ghost use Rattle.pg_top.specs.Inside.SelectionAccounts.{work_line, selected_cells, passes_begun, last_layout as last_layout_of};
 ghost use Rattle.pg_top.specs.Inside.SelectedRuns.{IsNew, TellsSelection, HasSelected};
 ghost use Rattle.pg_words.specs.Requests.{if_asked};
-ghost use Rattle.pg_top.specs.Selection.{selected_list, selected_cells_text, selected_text, selected_report};
+ghost use Rattle.pg_top.specs.Selection.{selected_list, selected_cells_text, selected_text};
 ghost use Rattle.pg_top.specs.Inside.SelectionSigns.{HasSigns, signs_of};
 ghost use Rattle.pg_top.specs.Inside.WritesMade.{writing_of};
 ghost use Rattle.pg_types.specs.Lines.{lines};
 
 use crate::printed::done_line;
-use crate::selection::{Inputs, last_layout, select};
+use crate::selection::{Inputs, last_layout, list_file, pattern_file, report_file, select};
 use crate::writes::{Output, Outputs, push_file};
 use pg_driver::Run;
 use pg_packed::PackedEngine;
 use pg_select::Engine;
-use pg_texts::{cells_text, pattmp_text, report_text};
+use pg_texts::{cells_text, push_layout};
 use pg_types::{Layout, push_number};
 use pg_watch::{Watch, Watched};
 use pg_words::Names;
@@ -39,7 +39,7 @@ fn push_pattmp<'a, E: Engine>(
         (λ name. (name, selected_list inputs.now))) }
 {
     if let Some(name) = name {
-        let text = pattmp_text(alloc, engine, &inputs.dictionary, &inputs.table)?;
+        let text = list_file(alloc, inputs, engine)?;
         push_file(files, name, text)?;
     }
     Ok(())
@@ -70,10 +70,8 @@ pub fn push_work(lines: &mut Vec<u8>, passes: u64, layout: &Layout) -> Result<()
     ensures { OnOk result (lines.new.items ≡ lines.old.items ++ work_line passes layout.now) }
 {
     push_number(lines, b"work: ", passes)?;
-    push_number(lines, b" passes, ", layout.taken)?;
-    push_number(lines, b" taken, top ", layout.top)?;
-    push_number(lines, b", ", layout.tails)?;
-    lines.extend_from_slice(b" tails\n")
+    lines.extend_from_slice(b" passes, ")?;
+    push_layout(lines, layout)
 }
 
 /// Appends the work line of a run.
@@ -123,26 +121,10 @@ fn push_patterns<'a>(
         (writing_of files.new.items ≡ (name.now, selected_text inputs.now) ∷ []) }
     ensures lines { IfOk result (λ lines. lines.items ≡ selected_lines inputs.now) }
 {
-    let text = run.patterns().text(alloc, &inputs.table)?;
+    let text = pattern_file(alloc, inputs, run)?;
     let lines = make_lines(alloc, &text, run, inputs)?;
     push_file(files, name, text)?;
     Ok(lines)
-}
-
-/// Adds the report.
-fn push_report<'a>(
-    alloc: Global,
-    files: &mut Vec<Output<'a>>,
-    name: &'a str,
-    run: &Run,
-    inputs: &Inputs,
-) -> Result<(), AllocError>
-    requires { TellsSelection inputs.now run.now }
-    ensures { OnOk result (writing_of files.new.items
-        ≡ writing_of files.old.items ++ (name.now, selected_report inputs.now) ∷ []) }
-{
-    let text = report_text(alloc, inputs.start.largest(), &inputs.params, run)?;
-    push_file(files, name, text)
 }
 
 /// Adds the files behind the pattern file: the hyphenated list and the cells file, where they are
@@ -166,7 +148,8 @@ fn push_others<'a, E: Engine>(
 {
     push_pattmp(alloc, files, names.pattmp, engine, inputs)?;
     push_cells(alloc, files, names.cells, run, inputs)?;
-    push_report(alloc, files, names.report, run, inputs)
+    let report = report_file(alloc, inputs, run)?;
+    push_file(files, names.report, report)
 }
 
 /// Builds all that is written and printed, after the run over an engine.

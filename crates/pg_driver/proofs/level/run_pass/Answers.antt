@@ -1,5 +1,6 @@
 use Rattle.std.proofs.Common.{ℕ, List, sym, ap, subst, ◌∙◌, arith}
 use Rattle.pg_types.specs.Inside.NumberedWindows.{AreInOrder, AreNumbered}
+use Rattle.pg_dict.specs.Inside.SoundWords.{SignsAtMost}
 use Rattle.pg_select.specs.declared.choice.Choice.{Choice}
 use Rattle.pg_select.specs.Inside.Meanings.{Meaning}
 use Rattle.pg_driver.specs.Inside.PassWindows.{AreFates}
@@ -12,6 +13,14 @@ use Rattle.pg_driver.proofs.Numbered.{pass_numbered}
 use Rattle.pg_driver.proofs.PassSteps.{counted_as, counts_kept, did_pass, numbers_are, pass_state}
 use Rattle.pg_driver.proofs.ReadySteps.{are_of, can_go_on, counted_after, placed, ready_after}
 use Rattle.pg_driver.proofs.level.run_pass.Goals as goal
+
+pub count-requires-clause-begun : goal.count-requires-clause-begun
+count-requires-clause-begun g c = record {
+  ranges = c.requires.ranges;
+  begun = ap (λ (x : Meaning). x.pass) c.begin_pass.ensures;
+  fresh = ap (λ (x : Meaning). x.counts) c.begin_pass.ensures;
+  signs = subst (λ n. SignsAtMost n c.args.dictionary.now) (sym (ap (λ (x : Meaning). x.signs) c.begin_pass.ensures)) c.requires.signs;
+}
 
 pub after_choices-requires-clause-numbered : goal.after_choices-requires-clause-numbered
 after_choices-requires-clause-numbered g c =

@@ -25,11 +25,17 @@ use Rattle.pg_driver.proofs.words.count_words.Goals as goal
 pub overflow_cast-i : goal.overflow_cast-i
 overflow_cast-i g c = omega (arith, few_words c.args.dictionary.now c.len-i-end.ensures.words, c.len-i-end.ensures.letters, c.len-i-end.ensures.len, c.words-test.true)
 
+pub count_word-requires-clause-ranges : goal.count_word-requires-clause-ranges
+count_word-requires-clause-ranges g c = c.requires.begun.ranges
+
+pub count_word-requires-clause-pass : goal.count_word-requires-clause-pass
+count_word-requires-clause-pass g c = ap (λ (m : Meaning). m.pass) c.words.invariant.kept ∙ c.requires.begun.begun
+
 pub count_word-requires-clause-signs : goal.count_word-requires-clause-signs
 count_word-requires-clause-signs g c =
     let signs = ap (λ (m : Meaning). m.signs) c.words.invariant.kept in
     let P : ℕ → Type 0 = λ n. SignsWithin n c.word-w.result.signs.now in
-    subst P (sym signs) (signs_within _ c.args.dictionary.now c.words.i (lent_word c.word-w.result) c.word-w.ensures.lent c.requires.signs c.word-w.ensures.word)
+    subst P (sym signs) (signs_within _ c.args.dictionary.now c.words.i (lent_word c.word-w.result) c.word-w.ensures.lent c.requires.begun.signs c.word-w.ensures.word)
 
 pub count_word-requires-clause-room : goal.count_word-requires-clause-room
 count_word-requires-clause-room g c = room_less _ _ _ c.words.invariant.room (omega (arith, letters_left c.args.dictionary.now c.words.i (lent_word c.word-w.result) c.word-w.ensures.lent))
@@ -41,7 +47,7 @@ pub words-init : goal.words-init
 words-init g c = record {
   kept = refl;
   whole = refl;
-  room = subst (λ (cs : Counts). HasRoom cs (sum_by letter_count c.args.dictionary.now)) (sym c.requires.fresh) (room_none (sum_by letter_count c.args.dictionary.now) c.len-i-end.ensures.letters);
+  room = subst (λ (cs : Counts). HasRoom cs (sum_by letter_count c.args.dictionary.now)) (sym c.requires.begun.fresh) (room_none (sum_by letter_count c.args.dictionary.now) c.len-i-end.ensures.letters);
   sums = search rules;
   above = search rules;
   reached = omega arith;

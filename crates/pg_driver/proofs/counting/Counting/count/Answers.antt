@@ -7,6 +7,15 @@ use Rattle.pg_driver.specs.Traces.{over}
 use Rattle.pg_driver.proofs.ReadySteps.{counts_all, has_room, is_small, ready_same}
 use Rattle.pg_driver.proofs.counting.Counting.count.Goals as goal
 
+pub count_open-requires-clause-ranges : goal.count_open-requires-clause-ranges
+count_open-requires-clause-ranges g c = c.requires.begun.ranges
+
+pub count_open-requires-clause-pass : goal.count_open-requires-clause-pass
+count_open-requires-clause-pass g c = c.requires.begun.begun
+
+pub count_open-requires-clause-signs : goal.count_open-requires-clause-signs
+count_open-requires-clause-signs g c = c.requires.begun.signs
+
 pub count_open-requires-clause-room : goal.count_open-requires-clause-room
 count_open-requires-clause-room g c =
     let m = g.E.Engine.meaning c.args.engine.now in
@@ -17,7 +26,7 @@ count_open-requires-clause-room g c =
     let ready : IsOpenAt source pass.level pass.len (known_of m) o = subst (IsReady source pass.level pass.len (known_of m)) c.in-Open.is c.requires.ready in
     let now : IsOpenAt source pass.level pass.len (known_of m) p = ready_same source pass.level pass.len
     (known_of m) o ready p c.in_ok-reach-in-Open.ensures.places c.in_ok-reach-in-Open.ensures.closed refl in
-    has_room source pass.level pass.len (known_of m) p now m.counts pass.dot c.requires.fresh c.requires.ranges.len_high c.requires.ranges.within
+    has_room source pass.level pass.len (known_of m) p now m.counts pass.dot c.requires.begun.fresh c.requires.begun.ranges.len_high c.requires.begun.ranges.within
 
 pub returns-in_ok-count_open-in-Open-clause-did : goal.returns-in_ok-count_open-in-Open-clause-did
 returns-in_ok-count_open-in-Open-clause-did g c =
@@ -31,7 +40,7 @@ returns-in_ok-count_open-in-Open-clause-did g c =
     (known_of m) o ready p c.in_ok-reach-in-Open.ensures.places c.in_ok-reach-in-Open.ensures.closed refl in
     record {
       counts = c.in_ok-count_open-in-Open.ensures.ok ∙ ap (meaning_after_counting m)
-          (counts_all source pass.level pass.len (known_of m) p now pass.dot c.requires.ranges.len_high c.requires.ranges.within);
+          (counts_all source pass.level pass.len (known_of m) p now pass.dot c.requires.begun.ranges.len_high c.requires.begun.ranges.within);
       room = c.in_ok-count_open-in-Open.ensures.room;
       totals = ready.totals;
       small = is_small source pass.level pass.len (known_of m) o ready;

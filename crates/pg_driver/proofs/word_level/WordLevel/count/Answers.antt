@@ -18,7 +18,7 @@ pub returns-clause-did : goal.returns-clause-did
 returns-clause-did g c =
     let m = g.E.Engine.meaning c.args.engine.now in
     record {
-      counts = c.in_ok-before.ensures.ok ∙ ap (λ (p : Pass). meaning_after_counting m (counted_positions (minima_of c.args.table.now) c.args.dictionary.now p m.patterns m.hopeless)) c.requires.pass;
+      counts = c.in_ok-before.ensures.ok ∙ ap (λ (p : Pass). meaning_after_counting m (counted_positions (minima_of c.args.table.now) c.args.dictionary.now p m.patterns m.hopeless)) c.requires.begun.begun;
       room = c.in_ok-before.ensures.room;
       totals = c.in_ok-before.ensures.totals;
       small = c.in_ok-before.ensures.small;
@@ -43,7 +43,7 @@ returns-clause-numbers g c = λ numbered.
     c.in_ok-before.ensures.totals c.in_ok-before.ensures.bounded in
     let counts : n.counts ≡ fold with_position [] (counted_positions minima words pass m.patterns m.hopeless) =
     ap (λ (x : Meaning). x.counts) c.in_ok-before.ensures.ok
-    ∙ ap (λ (cs : Counts). fold with_position cs (counted_positions minima words m.pass m.patterns m.hopeless)) c.requires.fresh
-    ∙ ap (λ p. fold with_position [] (counted_positions minima words p m.patterns m.hopeless)) c.requires.pass in
+    ∙ ap (λ (cs : Counts). fold with_position cs (counted_positions minima words m.pass m.patterns m.hopeless)) c.requires.begun.fresh
+    ∙ ap (λ p. fold with_position [] (counted_positions minima words p m.patterns m.hopeless)) c.requires.begun.begun in
     subst (λ (es : List WordPosition). HaveNumbers pass (is_counted_at pass n.counts) words n.windows es c.count_words.new.numbers.items) (sym ready.above)
     (numbered_as_counted minima words pass m.patterns m.hopeless n.counts n.windows _ _ numbered counts c.in_ok-before.ensures.numbers)

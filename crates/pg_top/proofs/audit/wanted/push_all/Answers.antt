@@ -1,6 +1,5 @@
-use Rattle.std.proofs.Common.{◌≡◌, ◌∙◌, ◌++◌, ◌∷◌, [], List, ℕ, ap}
+use Rattle.std.proofs.Common.{◌∙◌, ◌++◌, ◌∷◌, [], List, ℕ, ap}
 use Rattle.std.proofs.lemmas.Result.{on_ok_weaker}
-use Rattle.pg_driver.specs.Inside.RunAccounts.{account_of}
 use Rattle.pg_top.specs.audit.Audited.{given_file}
 use Rattle.pg_words.specs.Inside.Asked.{name_now}
 use Rattle.pg_top.specs.Readings.{Reading}
@@ -9,7 +8,6 @@ use Rattle.pg_top.specs.Selection.{selected_text}
 use Rattle.pg_top.specs.audit.Inside.Verdicts.{reading_of, wanted_files}
 use Rattle.pg_top.specs.declared.audit.wanted.Wanted.{Wanted}
 use Rattle.pg_top.specs.declared.inputs.Given.TheVariants.{Patterns, Pattmp, Report}
-use Rattle.pg_top.proofs.Selections.{text_selected, report_selected}
 use Rattle.pg_top.proofs.audit.Judgements.{listed_readings}
 use Rattle.pg_top.proofs.audit.wanted.push_all.Goals as goal
 
@@ -18,11 +16,9 @@ returns g c =
     let i = c.args.inputs.now in
     let n = c.args.names.now in
     let list : List Reading = if_asked (name_now n.pattmp) (λ name. given_file (λ _. i) (Pattmp, name)) in
-    let text : c.in_ok-text.text.items ≡ selected_text i = c.in_ok-text.ensures.text ∙ text_selected i c.patterns.result.now (c.patterns.ensures ∙ c.requires.told.patterns) in
-    let report = c.in_ok-report.ensures ∙ report_selected i c.largest.result (account_of c.args.run.now) c.largest.ensures.value c.requires.told.account in
     let first = c.in_ok-push_wanted.ensures ∙ ap (λ (ws : List Wanted). wanted_files ws ++ reading_of Patterns n.output.now c.in_ok-text.text.items ∷ []) c.requires.empty
-    ∙ ap (λ (t : List ℕ). reading_of Patterns n.output.now t ∷ []) text in
+    ∙ ap (λ (t : List ℕ). reading_of Patterns n.output.now t ∷ []) c.in_ok-text.ensures in
     let second = c.in_ok-push_pattmp.ensures ∙ ap (λ (rs : List Reading). rs ++ list) first in
     on_ok_weaker c.push_wanted-2.result (λ is. is ∙ ap (λ (rs : List Reading). rs ++ reading_of Report n.report.now c.in_ok-report.report.items ∷ []) second
-    ∙ ap (λ (t : List ℕ). reading_of Patterns n.output.now (selected_text i) ∷ (list ++ reading_of Report n.report.now t ∷ [])) report
+    ∙ ap (λ (t : List ℕ). reading_of Patterns n.output.now (selected_text i) ∷ (list ++ reading_of Report n.report.now t ∷ [])) c.in_ok-report.ensures
     ∙ listed_readings i n.output.now n.report.now (name_now n.pattmp)) c.push_wanted-2.ensures

@@ -1,20 +1,14 @@
-use Rattle.std.proofs.Common.{◌≡◌, ◌∙◌, ◌++◌, ◌∷◌, [], List, ℕ, ap}
-use Rattle.pg_top.specs.Selection.{selected_text}
+use Rattle.std.proofs.Common.{◌∙◌, ◌++◌, ◌∷◌, [], List, ℕ, ap}
 use Rattle.pg_top.specs.Inside.WritesMade.{writing_of}
 use Rattle.pg_top.specs.declared.writes.Output.{Output}
-use Rattle.pg_top.proofs.Selections.{text_selected}
 use Rattle.pg_top.proofs.generate.outputs.push_patterns.Goals as goal
 
 pub make_lines-requires-clause-text : goal.make_lines-requires-clause-text
-make_lines-requires-clause-text c =
-    c.deref.ensures.value ∙ c.in_ok-text.ensures.text ∙ text_selected c.args.inputs.now c.patterns.result.now (c.patterns.ensures ∙ c.requires.told.patterns)
+make_lines-requires-clause-text c = c.deref.ensures.value ∙ c.in_ok-text.ensures
 
 pub returns : goal.returns
-returns c =
-    let i = c.args.inputs.now in
-    let text : c.in_ok-text.text.items ≡ selected_text i = c.in_ok-text.ensures.text ∙ text_selected i c.patterns.result.now (c.patterns.ensures ∙ c.requires.told.patterns) in
-    record {
-      file = c.in_ok-push_file.ensures ∙ ap (λ (xs : List Output). writing_of xs ++ (c.args.name.now, c.in_ok-text.text.items) ∷ []) c.requires.empty
-          ∙ ap (λ (t : List ℕ). (c.args.name.now, t) ∷ []) text;
-      lines = c.in_ok-lines.ensures;
-    }
+returns c = record {
+  file = c.in_ok-push_file.ensures ∙ ap (λ (xs : List Output). writing_of xs ++ (c.args.name.now, c.in_ok-text.text.items) ∷ []) c.requires.empty
+      ∙ ap (λ (t : List ℕ). (c.args.name.now, t) ∷ []) c.in_ok-text.ensures;
+  lines = c.in_ok-lines.ensures;
+}

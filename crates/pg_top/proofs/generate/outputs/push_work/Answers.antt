@@ -1,18 +1,18 @@
-use Rattle.std.proofs.Common.{◌++◌, codes, decimal}
-use Rattle.std.proofs.lemmas.Result.{on_ok_weaker}
-use Rattle.pg_texts.proofs.Joins.{appended}
+use Rattle.std.proofs.Common.{codes, decimal}
+use Rattle.std.proofs.lemmas.Result.{IfOk-from_err, on_ok_weaker}
+use Rattle.pg_texts.specs.Inside.CellsLines.{layout_line_text}
 use Rattle.pg_top.proofs.PrintedPieces.{work_pieces}
 use Rattle.pg_top.proofs.generate.outputs.push_work.Goals as goal
 
 pub returns : goal.returns
 returns c =
-    let l = c.args.layout.now in
-    let one = c.push_number.new.text.items in
-    let two = c.push_number-2.new.text.items in
-    let three = c.push_number-3.new.text.items in
-    let four = c.push_number-4.new.text.items in
-    let all = c.extend_from_slice.new.self.items in
-    on_ok_weaker c.extend_from_slice.result
-    (work_pieces c.args.lines.now.items (codes "work: ") (decimal c.args.passes) (codes " passes, ") (decimal l.taken) (codes " taken, top ") (decimal l.top) (codes ", ") (decimal l.tails) (codes " tails\n") one two three four all
-    c.in_ok-push_number.ensures c.in_ok-push_number-2.ensures c.in_ok-push_number-3.ensures c.in_ok-push_number-4.ensures)
-    (appended c.extend_from_slice.result all (four ++ codes " tails\n") four c.extend_from_slice.ensures.items)
+    on_ok_weaker c.push_layout.result
+    (work_pieces c.args.lines.now.items (codes "work: ") (decimal c.args.passes) (codes " passes, ") (layout_line_text c.args.layout.now) c.push_number.new.text.items
+    c.extend_from_slice.new.self.items c.push_layout.new.text.items c.in_ok-push_number.ensures c.in_ok-extend_from_slice.ensures.items)
+    c.push_layout.ensures
+
+pub returns-in_err-push_number : goal.returns-in_err-push_number
+returns-in_err-push_number c = IfOk-from_err c.from_residual.result _ c.from_residual.ensures.0
+
+pub returns-in_err-extend_from_slice : goal.returns-in_err-extend_from_slice
+returns-in_err-extend_from_slice c = IfOk-from_err c.from_residual-in_err-extend_from_slice.result _ c.from_residual-in_err-extend_from_slice.ensures.0
