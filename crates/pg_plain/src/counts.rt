@@ -6,10 +6,11 @@ ghost use Rattle.std.specs.Cmp.Lexicographic.{slice_cmp};
 ghost use Rattle.std.specs.FinMap.Entries.{put, is_sorted};
 ghost use Rattle.std.specs.Ordering.{nat_cmp};
 ghost use Rattle.pg_types.specs.Inside.Counts.{AreSmall, IsNextAbove, counted_sums, sums_of, with_weight, is_counted};
+ghost use Rattle.pg_types.specs.Inside.Signs.{is_sign};
 ghost use Rattle.pg_types.specs.Inside.NumberedWindows.{AreInOrder, AreNumbered, HasNumber};
 ghost use Rattle.pg_plain.specs.Inside.Counted.{counted_more, tally_at};
 
-use pg_types::Cursor;
+use pg_types::{Cursor, Sign};
 use std::alloc::{AllocError, Global};
 use std::collections::BTreeMap;
 use std::marker::Model;
@@ -117,12 +118,14 @@ impl CountedWindows {
         self.tallies[number as usize]
     }
 
-    /// Moves the cursor to the window with the number.
-    pub fn go_to(&self, number: u32, at: &mut Cursor)
+    /// The signs of the window with the number, lent from the list of windows.
+    pub fn window(&self, number: u32) -> &[Sign]
         requires { number < length self.now.windows }
-        ensures { HasNumber self.now.windows at.new number }
+        ensures number { HasNumber self.now.windows result.now number }
+        ensures counted { is_counted self.now.counts result.now ≡ true }
+        ensures signs { list_all is_sign result.now ≡ true }
     {
-        at.set(self.windows[number as usize].signs());
+        self.windows[number as usize].signs()
     }
 
     /// Appends the numbers of the windows in the order of signs. Refused: some of them may have
