@@ -1,5 +1,5 @@
 -- A step of the choice among the candidates.
-use Rattle.std.proofs.Common.{◌≡◌, ℕ, ◌+◌, ◌≤◌, Bool, true, false, cond, ◌||◌, List, [], ◌∷◌, ◌++◌, length, map, fold, Option, Some, None, refl, sym, ap, ◌∙◌, arith}
+use Rattle.std.proofs.Common.{◌≡◌, ℕ, ◌+◌, ◌≤◌, Bool, true, false, cond, ◌||◌, List, [], ◌∷◌, ◌++◌, length, map, fold, Option, Some, None, refl, sym, ap, subst, ◌∙◌, arith}
 use Rattle.std.specs.Option.{option_map}
 use Rattle.std.specs.List.{sum_by}
 use Rattle.std.specs.FinMap.Entries.{put}
@@ -11,8 +11,9 @@ use Rattle.pg_types.specs.Placement.{Families, enter}
 use Rattle.pg_patterns.specs.DottedSigns.{dotted_cmp}
 use Rattle.pg_patterns.specs.Values.{raise}
 use Rattle.pg_types.specs.Inside.Counts.{Counts}
-use Rattle.pg_select.specs.Inside.Meanings.{Meaning}
-use Rattle.pg_select.specs.declared.choice.Choice.TheVariants.{Left}
+use Rattle.pg_select.specs.Inside.Meanings.{Meaning, after_choose, after_give_up}
+use Rattle.pg_select.specs.declared.choice.Choice.{Choice}
+use Rattle.pg_select.specs.declared.choice.Choice.TheVariants.{Hopeless, Chosen, Left}
 use Rattle.pg_select.specs.declared.pass.Pass.{Pass}
 use Rattle.pg_select.specs.CountedPositions.{Candidate}
 use Rattle.pg_select.specs.Windows.{Hopeless as HopelessPlaces}
@@ -109,28 +110,67 @@ state_step m0 m n params c cs whole kept has left =
     let here : state_of n ≡ state_with m0.signs params m0.pass (state_of m) (c ∷ []) = has.state ∙ ap (λ (x : Meaning). state_with x.signs params x.pass (state_of m) (c ∷ [])) kept in
     ap (λ (s : State). state_with m0.signs params m0.pass s cs) here ∙ sym (state_append m0.signs params m0.pass (state_of m) (c ∷ []) cs) ∙ left
 
+-- the numbers with one candidate, by whether it is chosen and whether it is hopeless
+abbrev numbers_by : Choices → Candidate → Bool → Bool → Choices
+numbers_by n c chosen hopeless =
+    numbers (n.candidates + 1) (n.chosen + length (cond chosen (c ∷ []) [])) (n.hopeless + length (cond hopeless (c ∷ []) []))
+    (n.good + sum_by (λ (x : Candidate). x.good) (cond chosen (c ∷ []) [])) (n.bad + sum_by (λ (x : Candidate). x.bad) (cond chosen (c ∷ []) []))
+
+-- and the state
+abbrev state_by : ℕ → Pass → State → Candidate → Bool → Bool → State
+state_by signs pass s c chosen hopeless =
+    state (fold (λ P (c : Candidate). raise P (c.window, pass.dot) pass.level) s.known.patterns (cond chosen (c ∷ []) []))
+    (fold (λ H (c : Candidate). put dotted_cmp (c.window, pass.dot) (tt {0}) H) s.known.hopeless (cond hopeless (c ∷ []) []))
+    (option_map (λ fs. fold (λ fs (c : Candidate). enter signs fs c.window) fs (cond (hopeless || chosen) (c ∷ []) [])) s.families)
+
+module _ (params : LevelParams) (c : Candidate) (fate : Choice) (is : choice_of params c ≡ fate) where
+  numbers_of : (n : Choices) → numbers_by n c (chooses fate) (gives_up fate) ≡ with_candidates params n (c ∷ [])
+  numbers_of n = λ i. numbers_by n c (sym (chosen_is params c ∙ ap chooses is) i) (sym (hopeless_is params c ∙ ap gives_up is) i)
+
+  state_after_one : (signs : ℕ) (pass : Pass) (s : State) → state_by signs pass s c (chooses fate) (gives_up fate) ≡ state_with signs params pass s (c ∷ [])
+  state_after_one signs pass s = λ i. state_by signs pass s c (sym (chosen_is params c ∙ ap chooses is) i) (sym (hopeless_is params c ∙ ap gives_up is) i)
+
+-- one candidate is left
+pub left_one : (params : LevelParams) (m : Meaning) (c : Candidate) → choice_of params c ≡ Left → HasChosen params (c ∷ []) m m
+left_one params m c is = record {
+  state = same_states _ _ _ _ _ _ refl refl (sym (families_none m.families)) ∙ state_after_one params c Left is m.signs m.pass (state_of m);
+  kept = refl;
+}
+
+-- one candidate is chosen
+pub chosen_one : (params : LevelParams) (old new : Meaning) (c : Candidate) → choice_of params c ≡ Chosen → new ≡ after_choose old c.window new.tidy → HasChosen params (c ∷ []) old new
+chosen_one params old new c is chosen = record {
+  state = ap state_of chosen ∙ state_after_one params c Chosen is old.signs old.pass (state_of old);
+  kept = subst (λ (x : Meaning). KeepsButState old x) (sym chosen) refl;
+}
+
+-- one candidate is given up
+pub hopeless_one : (params : LevelParams) (old new : Meaning) (c : Candidate) → choice_of params c ≡ Hopeless → new ≡ after_give_up old c.window new.tidy → HasChosen params (c ∷ []) old new
+hopeless_one params old new c is given = record {
+  state = ap state_of given ∙ state_after_one params c Hopeless is old.signs old.pass (state_of old);
+  kept = subst (λ (x : Meaning). KeepsButState old x) (sym given) refl;
+}
+
 -- the numbers with a candidate that is left
-pub left_alone : (params : LevelParams) (n : Choices) (c : Candidate) → choice_of params c ≡ Left → record n { candidates = n.candidates + 1 } ≡ with_candidates params n (c ∷ [])
-left_alone params n c is =
-    let chosen : is_chosen params c ≡ false = chosen_is params c ∙ ap chooses is in
-    let hopeless : is_hopeless params c ≡ false = hopeless_is params c ∙ ap gives_up is in
+pub left_numbers : (params : LevelParams) (n : Choices) (c : Candidate) → choice_of params c ≡ Left → record n { candidates = n.candidates + 1 } ≡ with_candidates params n (c ∷ [])
+left_numbers params n c is =
     same_numbers (n.candidates + 1) n.chosen n.hopeless n.good n.bad (n.candidates + 1) (n.chosen + 0) (n.hopeless + 0) (n.good + 0) (n.bad + 0) refl
     (omega arith) (omega arith) (omega arith) (omega arith)
-    ∙ (λ i. by (sym chosen i) (sym hopeless i))
-  where
-    by : Bool → Bool → Choices
-    by x h = numbers (n.candidates + 1) (n.chosen + length (cond x (c ∷ []) [])) (n.hopeless + length (cond h (c ∷ []) []))
-        (n.good + sum_by (λ (x : Candidate). x.good) (cond x (c ∷ []) [])) (n.bad + sum_by (λ (x : Candidate). x.bad) (cond x (c ∷ []) []))
+    ∙ numbers_of params c Left is n
 
--- the state with a candidate that is left
-pub left_state : (signs : ℕ) (params : LevelParams) (pass : Pass) (s : State) (c : Candidate) → choice_of params c ≡ Left → s ≡ state_with signs params pass s (c ∷ [])
-left_state signs params pass s c is =
-    let chosen : is_chosen params c ≡ false = chosen_is params c ∙ ap chooses is in
-    let hopeless : is_hopeless params c ≡ false = hopeless_is params c ∙ ap gives_up is in
-    sym (state_none signs params pass s) ∙ (λ i. by (sym chosen i) (sym hopeless i))
-  where
-    by : Bool → Bool → State
-    by x h =
-        state (fold (λ P (c : Candidate). raise P (c.window, pass.dot) pass.level) s.known.patterns (cond x (c ∷ []) []))
-        (fold (λ H (c : Candidate). put dotted_cmp (c.window, pass.dot) (tt {0}) H) s.known.hopeless (cond h (c ∷ []) []))
-        (option_map (λ fs. fold (λ fs (c : Candidate). enter signs fs c.window) fs (cond (h || x) (c ∷ []) [])) s.families)
+-- with one that is chosen
+pub chosen_numbers : (params : LevelParams) (n : Choices) (c : Candidate) → choice_of params c ≡ Chosen
+    → numbers (n.candidates + 1) (n.chosen + 1) n.hopeless (n.good + c.good) (n.bad + c.bad) ≡ with_candidates params n (c ∷ [])
+chosen_numbers params n c is =
+    same_numbers (n.candidates + 1) (n.chosen + 1) n.hopeless (n.good + c.good) (n.bad + c.bad)
+    (n.candidates + 1) (n.chosen + 1) (n.hopeless + 0) (n.good + sum_by (λ (x : Candidate). x.good) (c ∷ [])) (n.bad + sum_by (λ (x : Candidate). x.bad) (c ∷ [])) refl
+    refl (omega arith) (omega (arith, sum_by-cons (λ (x : Candidate). x.good) c [])) (omega (arith, sum_by-cons (λ (x : Candidate). x.bad) c []))
+    ∙ numbers_of params c Chosen is n
+
+-- and with one that is hopeless
+pub hopeless_numbers : (params : LevelParams) (n : Choices) (c : Candidate) → choice_of params c ≡ Hopeless
+    → record n { candidates = n.candidates + 1; hopeless = n.hopeless + 1 } ≡ with_candidates params n (c ∷ [])
+hopeless_numbers params n c is =
+    same_numbers (n.candidates + 1) n.chosen (n.hopeless + 1) n.good n.bad (n.candidates + 1) (n.chosen + 0) (n.hopeless + 1) (n.good + 0) (n.bad + 0) refl
+    (omega arith) refl (omega arith) (omega arith)
+    ∙ numbers_of params c Hopeless is n

@@ -2,7 +2,6 @@
 ghost use Rattle.std.specs.Prelude.{◌≡◌, ◌≤◌, ◌<◌, ◌+◌, ◌∷◌, [], ℕ, List, true, length, map, IfOk, OnOk};
 ghost use Rattle.pg_types.specs.declared.limits.TheConstants.{FILE_MAX};
 ghost use Rattle.pg_types.specs.Inside.Ranges.{IsLevel};
-ghost use Rattle.pg_types.specs.Inside.Counts.{is_counted};
 ghost use Rattle.pg_types.specs.Inside.NumberedWindows.{AreInOrder};
 ghost use Rattle.pg_select.specs.Inside.Choices.{choice};
 ghost use Rattle.pg_driver.specs.Inside.PassWindows.{AreFates, IsCandidate};
@@ -11,7 +10,7 @@ ghost use Rattle.pg_types.specs.Inside.Limits.{sums_limit};
 ghost use Rattle.pg_driver.specs.Inside.Choosing.{with_candidates, no_choices, candidate_of, HasChosen};
 
 use pg_select::{Choice, Engine};
-use pg_types::{Cursor, LevelParams};
+use pg_types::LevelParams;
 use std::alloc::AllocError;
 
 /// What became of the candidates of a pass.
@@ -29,58 +28,13 @@ pub struct Choices {
     pub bad: u64,
 }
 
-/// Does with the candidate at the cursor what was decided: chooses it, makes it hopeless or leaves
-/// it. `good` and `bad` are its sums of weights.
-fn choose_at<E: Engine>(
-    engine: &mut E,
-    params: &LevelParams,
-    at: &Cursor,
-    good: u64,
-    bad: u64,
-    fate: Choice,
-    choices: &mut Choices,
-) -> Result<(), AllocError>
-    requires fate { fate ≡ choice params.now good bad }
-    requires level { IsLevel params.now }
-    requires counted { is_counted (E.meaning engine.old).counts at.now ≡ true }
-    requires sums { (choices.old.good + good < sums_limit) × (choices.old.bad + bad < sums_limit) }
-    requires few { choices.old.candidates < FILE_MAX }
-    requires sound { choices.old.chosen + choices.old.hopeless ≤ choices.old.candidates }
-    ensures ok { OnOk result
-        (HasChosen params.now (record { window = at.now; good = good; bad = bad } ∷ [])
-        (E.meaning engine.old) (E.meaning engine.new)) }
-    ensures choices { OnOk result (choices.new
-        ≡ with_candidates params.now choices.old
-        (record { window = at.now; good = good; bad = bad } ∷ [])) }
-    ensures sound { OnOk result
-        (choices.new.chosen + choices.new.hopeless ≤ choices.new.candidates) }
-    ensures signs { (E.meaning engine.new).signs ≡ (E.meaning engine.old).signs }
-{
-    choices.candidates += 1;
-    match fate {
-        Choice::Chosen => {
-            engine.choose(at)?;
-            choices.chosen += 1;
-            choices.good += good;
-            choices.bad += bad;
-        }
-        Choice::Hopeless => {
-            engine.give_up(at)?;
-            choices.hopeless += 1;
-        }
-        Choice::Left => {}
-    }
-    Ok(())
-}
-
-/// Chooses the candidate with the number, makes it hopeless or leaves it. Where it is left, neither
-/// its signs nor its sums are read. What the cursor holds does not matter.
+/// Chooses the candidate with the number, makes it hopeless or leaves it. Its signs are not copied,
+/// and its sums are read only where it is chosen.
 fn choose_one<E: Engine>(
     engine: &mut E,
     params: &LevelParams,
     number: u32,
     fate: Choice,
-    at: &mut Cursor,
     choices: &mut Choices,
 ) -> Result<(), AllocError>
     requires level { IsLevel params.now }
@@ -102,13 +56,23 @@ fn choose_one<E: Engine>(
         (choices.new.chosen + choices.new.hopeless ≤ choices.new.candidates) }
     ensures signs { (E.meaning engine.new).signs ≡ (E.meaning engine.old).signs }
 {
-    if let Choice::Left = fate {
-        choices.candidates += 1;
-        return Ok(());
+    choices.candidates += 1;
+    match fate {
+        Choice::Chosen => {
+            let (good, bad) = engine.sums_of(number);
+            engine.choose_numbered(number)?;
+            choices.chosen += 1;
+            choices.good += good;
+            choices.bad += bad;
+            Ok(())
+        }
+        Choice::Hopeless => {
+            engine.give_up_numbered(number)?;
+            choices.hopeless += 1;
+            Ok(())
+        }
+        Choice::Left => Ok(()),
     }
-    let (good, bad) = engine.sums_of(number);
-    engine.go_to(number, at);
-    choose_at(engine, params, at, good, bad, fate, choices)
 }
 
 /// Chooses each candidate of a pass, makes it hopeless or leaves it, in the order of signs, as was
@@ -134,7 +98,6 @@ pub fn choose_all<E: Engine>(
     ensures few { IfOk result (λ choices. choices.candidates ≤ FILE_MAX) }
     ensures signs { (E.meaning engine.new).signs ≡ (E.meaning engine.old).signs }
 {
-    let mut at = Cursor::start();
     let mut choices = Choices {
         candidates: 0,
         chosen: 0,
@@ -145,7 +108,7 @@ pub fn choose_all<E: Engine>(
     'candidates: for number in order {
         let n = *number;
         let fate = fates[n as usize];
-        choose_one(engine, params, n, fate, &mut at, &mut choices)?;
+        choose_one(engine, params, n, fate, &mut choices)?;
     }
     Ok(choices)
 }

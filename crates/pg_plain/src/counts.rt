@@ -125,12 +125,14 @@ impl CountedWindows {
         self.tallies[number as usize]
     }
 
-    /// Moves the cursor to the window with the number.
-    pub fn go_to(&self, number: u32, at: &mut Cursor)
+    /// The signs of the window with the number, lent from the list of windows.
+    pub fn window(&self, number: u32) -> &[Sign]
         requires { number < length self.now.windows }
-        ensures { HasNumber self.now.windows at.new number }
+        ensures number { HasNumber self.now.windows result.now number }
+        ensures counted { is_counted self.now.counts result.now ≡ true }
+        ensures signs { list_all is_sign result.now ≡ true }
     {
-        at.set(self.windows[number as usize].signs());
+        self.windows[number as usize].signs()
     }
 
     /// Appends the numbers of the windows in the order of signs. Refused: some of them may have

@@ -21,7 +21,7 @@ use std::collections::BTreeMap;
 /// An [`Engine`] over ordered maps, which tells no families.
 ///
 /// A word costs a look-up for each of its strings up to the longest that a pattern begins with. A
-/// window that is counted, chosen or given up costs a look-up, and to go to a window by its number
+/// window that is counted, chosen or given up costs a look-up, and to find a window by its number
 /// costs none. To begin a pass or end a level costs at most the size of what is emptied.
 #[derive(Drop)]
 pub struct PlainEngine {
@@ -117,10 +117,6 @@ impl Engine for PlainEngine {
         self.counts.sums_of(number)
     }
 
-    fn go_to(&self, number: u32, at: &mut Cursor) {
-        self.counts.go_to(number, at);
-    }
-
     fn order(&self, out: &mut Vec<u32>) -> Result<(), AllocError> {
         self.counts.order(out)
     }
@@ -139,6 +135,20 @@ impl Engine for PlainEngine {
     fn give_up(&mut self, at: &Cursor) -> Result<(), AllocError> {
         let signs = at.signs();
         let place = DottedKey::new(signs, self.pass.dot);
+        put_in(&mut self.hopeless, place)?;
+        Ok(())
+    }
+
+    fn choose_numbered(&mut self, number: u32) -> Result<(), AllocError> {
+        let signs = self.counts.window(number);
+        let place = DottedSigns::new(signs, self.pass.dot);
+        raise_in(&mut self.patterns, place, self.pass.level)?;
+        Ok(())
+    }
+
+    fn give_up_numbered(&mut self, number: u32) -> Result<(), AllocError> {
+        let signs = self.counts.window(number);
+        let place = DottedSigns::new(signs, self.pass.dot);
         put_in(&mut self.hopeless, place)?;
         Ok(())
     }

@@ -90,11 +90,6 @@ pub trait Engine {
         ensures { (u : List ℕ) → HasNumber (meaning self.now).windows u number
             → counted_sums (meaning self.now).counts u ≡ Some result };
 
-    /// Moves the cursor to the window with the number. It takes no memory.
-    fn go_to(&self, number: u32, at: &mut Cursor)
-        requires { number < length (meaning self.now).windows }
-        ensures { HasNumber (meaning self.now).windows at.new number };
-
     /// Appends the numbers of the counted windows in the order of signs, by one walk. Refused: some
     /// of them may have been appended.
     fn order(&self, out: &mut Vec<u32>) -> Result<(), AllocError>
@@ -124,6 +119,24 @@ pub trait Engine {
             (meaning self.new ≡ after_give_up (meaning self.old) at.now (meaning self.new).tidy) }
         ensures err { OnErr result
             (KeepsButFamilies at.now (meaning self.old) (meaning self.new)) };
+
+    /// Chooses the window with the number, as `choose` does the window at a cursor.
+    fn choose_numbered(&mut self, number: u32) -> Result<(), AllocError>
+        requires { number < length (meaning self.old).windows }
+        ensures ok { (u : List ℕ) → HasNumber (meaning self.old).windows u number
+            → OnOk result
+            (meaning self.new ≡ after_choose (meaning self.old) u (meaning self.new).tidy) }
+        ensures err { (u : List ℕ) → HasNumber (meaning self.old).windows u number
+            → OnErr result (KeepsButFamilies u (meaning self.old) (meaning self.new)) };
+
+    /// Makes the window with the number hopeless, as `give_up` does the window at a cursor.
+    fn give_up_numbered(&mut self, number: u32) -> Result<(), AllocError>
+        requires { number < length (meaning self.old).windows }
+        ensures ok { (u : List ℕ) → HasNumber (meaning self.old).windows u number
+            → OnOk result
+            (meaning self.new ≡ after_give_up (meaning self.old) u (meaning self.new).tidy) }
+        ensures err { (u : List ℕ) → HasNumber (meaning self.old).windows u number
+            → OnErr result (KeepsButFamilies u (meaning self.old) (meaning self.new)) };
 
     /// Ends the level: nothing is hopeless any more, and families that are told lose the cells that
     /// no pattern needs. Afterwards the engine is tidy.

@@ -1,21 +1,90 @@
-use Rattle.std.proofs.Common.{refl, sym, ◌∙◌}
-use Rattle.pg_select.specs.Inside.Meanings.{Meaning}
-use Rattle.pg_driver.specs.Inside.States.{state_of}
-use Rattle.pg_driver.proofs.ChoiceSteps.{left_alone, left_state}
+use Rattle.std.proofs.Common.{◌≡◌, ℕ, ◌+◌, List, [], length, get_or, Some, sym, ap, ◌∙◌, arith}
+use Rattle.std.proofs.lemmas.Option.{slice_get-get_or}
+use Rattle.pg_types.specs.Inside.NumberedWindows.{HasNumber}
+use Rattle.pg_select.specs.Inside.Meanings.{Meaning, KeepsButFamilies, after_choose, after_give_up}
+use Rattle.pg_driver.specs.Inside.PassWindows.{IsCandidate}
+use Rattle.pg_driver.proofs.ChoiceSteps.{left_one, left_numbers, chosen_one, chosen_numbers, hopeless_one, hopeless_numbers}
 use Rattle.pg_driver.proofs.choices.choose_one.Goals as goal
+
+pub overflow_add-choices-in-Chosen-2 : goal.overflow_add-choices-in-Chosen-2
+overflow_add-choices-in-Chosen-2 g c =
+    let m : Meaning = g.E.Engine.meaning c.args.engine.now in
+    let u : List ℕ = get_or m.windows c.args.number [] in
+    let at : HasNumber m.windows u c.args.number = slice_get-get_or m.windows c.args.number [] c.requires.there in
+    let it : IsCandidate m c.args.number u c.sums_of-good.result = record { number = at; sums = c.sums_of-good.ensures u at } in
+    omega (arith, (c.requires.sums u c.sums_of-good.result it).0)
+
+pub overflow_add-choices-in-Chosen-3 : goal.overflow_add-choices-in-Chosen-3
+overflow_add-choices-in-Chosen-3 g c =
+    let m : Meaning = g.E.Engine.meaning c.args.engine.now in
+    let u : List ℕ = get_or m.windows c.args.number [] in
+    let at : HasNumber m.windows u c.args.number = slice_get-get_or m.windows c.args.number [] c.requires.there in
+    let it : IsCandidate m c.args.number u c.sums_of-good.result = record { number = at; sums = c.sums_of-good.ensures u at } in
+    omega (arith, (c.requires.sums u c.sums_of-good.result it).1)
+
+pub returns-in_err-choose_numbered-in-Chosen-clause-signs : goal.returns-in_err-choose_numbered-in-Chosen-clause-signs
+returns-in_err-choose_numbered-in-Chosen-clause-signs g c =
+    let m : Meaning = g.E.Engine.meaning c.args.engine.now in
+    let u : List ℕ = get_or m.windows c.args.number [] in
+    let kept : KeepsButFamilies u m (g.E.Engine.meaning c.choose_numbered.new.self) =
+      c.in_err-choose_numbered-in-Chosen.ensures.err u (slice_get-get_or m.windows c.args.number [] c.requires.there) in
+    ap (λ (x : Meaning). x.signs) kept.kept
+
+pub returns-in_err-give_up_numbered-in-Hopeless-clause-signs : goal.returns-in_err-give_up_numbered-in-Hopeless-clause-signs
+returns-in_err-give_up_numbered-in-Hopeless-clause-signs g c =
+    let m : Meaning = g.E.Engine.meaning c.args.engine.now in
+    let u : List ℕ = get_or m.windows c.args.number [] in
+    let kept : KeepsButFamilies u m (g.E.Engine.meaning c.give_up_numbered.new.self) =
+      c.in_err-give_up_numbered-in-Hopeless.ensures.err u (slice_get-get_or m.windows c.args.number [] c.requires.there) in
+    ap (λ (x : Meaning). x.signs) kept.kept
+
+pub returns-in_ok-choose_numbered-in-Chosen-clause-ok : goal.returns-in_ok-choose_numbered-in-Chosen-clause-ok
+returns-in_ok-choose_numbered-in-Chosen-clause-ok g c = λ u sums it.
+    chosen_one c.args.params.now (g.E.Engine.meaning c.args.engine.now) (g.E.Engine.meaning c.choose_numbered.new.self) (record { window = u; good = sums.0; bad = sums.1 })
+    (sym (c.requires.fate u sums it) ∙ c.in-Chosen.is) (c.in_ok-choose_numbered-in-Chosen.ensures.ok u it.number)
+
+pub returns-in_ok-choose_numbered-in-Chosen-clause-choices : goal.returns-in_ok-choose_numbered-in-Chosen-clause-choices
+returns-in_ok-choose_numbered-in-Chosen-clause-choices g c = λ u sums it.
+    let read : Some c.sums_of-good.result ≡ Some sums = sym (c.sums_of-good.ensures u it.number) ∙ it.sums in
+    let same : c.sums_of-good.result ≡ sums = cc in
+    ap (λ (s : ℕ × ℕ). record {
+      candidates = c.args.choices.now.candidates + 1;
+      chosen = c.args.choices.now.chosen + 1;
+      hopeless = c.args.choices.now.hopeless;
+      good = c.args.choices.now.good + s.0;
+      bad = c.args.choices.now.bad + s.1;
+    }) same
+    ∙ chosen_numbers c.args.params.now c.args.choices.now (record { window = u; good = sums.0; bad = sums.1 }) (sym (c.requires.fate u sums it) ∙ c.in-Chosen.is)
+
+pub returns-in_ok-choose_numbered-in-Chosen-clause-signs : goal.returns-in_ok-choose_numbered-in-Chosen-clause-signs
+returns-in_ok-choose_numbered-in-Chosen-clause-signs g c =
+    let m : Meaning = g.E.Engine.meaning c.args.engine.now in
+    let n : Meaning = g.E.Engine.meaning c.choose_numbered.new.self in
+    let u : List ℕ = get_or m.windows c.args.number [] in
+    let chosen : n ≡ after_choose m u n.tidy = c.in_ok-choose_numbered-in-Chosen.ensures.ok u (slice_get-get_or m.windows c.args.number [] c.requires.there) in
+    ap (λ (x : Meaning). x.signs) chosen
+
+pub returns-in_ok-give_up_numbered-in-Hopeless-clause-ok : goal.returns-in_ok-give_up_numbered-in-Hopeless-clause-ok
+returns-in_ok-give_up_numbered-in-Hopeless-clause-ok g c = λ u sums it.
+    hopeless_one c.args.params.now (g.E.Engine.meaning c.args.engine.now) (g.E.Engine.meaning c.give_up_numbered.new.self) (record { window = u; good = sums.0; bad = sums.1 })
+    (sym (c.requires.fate u sums it) ∙ c.in-Hopeless.is) (c.in_ok-give_up_numbered-in-Hopeless.ensures.ok u it.number)
+
+pub returns-in_ok-give_up_numbered-in-Hopeless-clause-choices : goal.returns-in_ok-give_up_numbered-in-Hopeless-clause-choices
+returns-in_ok-give_up_numbered-in-Hopeless-clause-choices g c = λ u sums it.
+    hopeless_numbers c.args.params.now c.args.choices.now (record { window = u; good = sums.0; bad = sums.1 }) (sym (c.requires.fate u sums it) ∙ c.in-Hopeless.is)
+
+pub returns-in_ok-give_up_numbered-in-Hopeless-clause-signs : goal.returns-in_ok-give_up_numbered-in-Hopeless-clause-signs
+returns-in_ok-give_up_numbered-in-Hopeless-clause-signs g c =
+    let m : Meaning = g.E.Engine.meaning c.args.engine.now in
+    let n : Meaning = g.E.Engine.meaning c.give_up_numbered.new.self in
+    let u : List ℕ = get_or m.windows c.args.number [] in
+    let given : n ≡ after_give_up m u n.tidy = c.in_ok-give_up_numbered-in-Hopeless.ensures.ok u (slice_get-get_or m.windows c.args.number [] c.requires.there) in
+    ap (λ (x : Meaning). x.signs) given
 
 pub returns-in-Left-clause-ok : goal.returns-in-Left-clause-ok
 returns-in-Left-clause-ok g c = λ u sums it.
-    let m : Meaning = g.E.Engine.meaning c.args.engine.now in
-    record {
-      state = left_state m.signs c.args.params.now m.pass (state_of m) (record { window = u; good = sums.0; bad = sums.1 }) (sym (c.requires.fate u sums it) ∙ c.in-Left.is);
-      kept = refl;
-    }
+    left_one c.args.params.now (g.E.Engine.meaning c.args.engine.now) (record { window = u; good = sums.0; bad = sums.1 }) (sym (c.requires.fate u sums it) ∙ c.in-Left.is)
 
 pub returns-in-Left-clause-choices : goal.returns-in-Left-clause-choices
 returns-in-Left-clause-choices g c = λ u sums it.
-    left_alone c.args.params.now c.args.choices.now (record { window = u; good = sums.0; bad = sums.1 }) (sym (c.requires.fate u sums it) ∙ c.in-Left.is)
-
-pub choose_at-requires-clause-fate : goal.choose_at-requires-clause-fate
-choose_at-requires-clause-fate g c =
-    c.requires.fate c.go_to.new.at c.sums_of-good.result (record { number = c.go_to.ensures; sums = c.sums_of-good.ensures c.go_to.new.at c.go_to.ensures })
+    left_numbers c.args.params.now c.args.choices.now (record { window = u; good = sums.0; bad = sums.1 }) (sym (c.requires.fate u sums it) ∙ c.in-Left.is)
