@@ -26,7 +26,7 @@ const FEW_SIGNS: usize = 0;
 
 /// The cells of a pass stay for the next one where they are at most so many times its counted
 /// strings.
-const CELLS_PER_TALLY: usize = 3;
+const CELLS_PER_TALLY: usize = 4;
 
 /// The cells stay only where the numbers of the next pass begin here or before, so that half of all
 /// numbers are left for it.
@@ -79,7 +79,7 @@ impl CountedCells {
     }
 
     /// No string is counted. `alike` says that the next strings are as long as the last ones, so
-    /// that many may be the same. Then the cells stay, if at least a third of them are of counted
+    /// that many may be the same. Then the cells stay, if at least a quarter of them are of counted
     /// strings and enough numbers are left. They stay too where none is counted: such a pass tells
     /// nothing of the next one. Else each sign alone has a cell. It takes no memory.
     pub fn clear(&mut self, alike: bool)
