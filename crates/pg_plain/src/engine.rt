@@ -141,14 +141,14 @@ impl Engine for PlainEngine {
 
     fn choose_numbered(&mut self, number: u32) -> Result<(), AllocError> {
         let signs = self.counts.window(number);
-        let place = DottedSigns::new(signs, self.pass.dot);
+        let place = DottedKey::new(signs, self.pass.dot);
         raise_in(&mut self.patterns, place, self.pass.level)?;
         Ok(())
     }
 
     fn give_up_numbered(&mut self, number: u32) -> Result<(), AllocError> {
         let signs = self.counts.window(number);
-        let place = DottedSigns::new(signs, self.pass.dot);
+        let place = DottedKey::new(signs, self.pass.dot);
         put_in(&mut self.hopeless, place)?;
         Ok(())
     }
