@@ -3,14 +3,14 @@ ghost use Rattle.std.specs.Prelude.{◌<◌, length};
 ghost use Rattle.pg_types.specs.Inside.NumberedWindows.{HasNumber};
 
 use super::CountTrie;
-use pg_types::Cursor;
+use pg_types::Sign;
 
 impl CountTrie {
-    /// Moves the cursor to the window with the number. It takes no memory.
-    pub fn go_to(&self, number: u32, at: &mut Cursor)
+    /// The signs of the window with the number, lent from the list of windows.
+    pub fn window(&self, number: u32) -> &[Sign]
         requires { number < length self.now.windows }
-        ensures { HasNumber self.now.windows at.new number }
+        ensures { HasNumber self.now.windows result.now number }
     {
-        at.set(self.windows.get(number));
+        self.windows.get(number)
     }
 }
