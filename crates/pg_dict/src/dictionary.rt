@@ -119,8 +119,8 @@ impl Dictionary {
         self.sites.as_slice()
     }
 
-    /// Whether `len` signs lie in the word of a sign, of which the first `back` stand before it. The
-    /// sign is given by its place in `all_signs`.
+    /// Whether `len` signs lie in the word of a sign, of which the first `back` stand before it.
+    /// The sign is given by its place in `all_signs`.
     ///
     /// The sign with which they would begin tells how far its word goes. If it is one of a word
     /// before, that word ends before the given sign.

@@ -12,23 +12,28 @@ use Rattle.pg_plain.proofs.counts.CountedWindows.count.Goals as goal
 
 pub add_to-requires-clause-there : goal.add_to-requires-clause-there
 add_to-requires-clause-there c =
-    let at : find (slice_cmp nat_cmp) c.args.window.now c.self.inside.numbers.entries ≡ Some c.in-Some.number = ap (λ (u : List ℕ). find (slice_cmp nat_cmp) u c.self.inside.numbers.entries) (sym c.new-key.ensures) ∙ sym (c.in-Some.ensures ∙ c.get.ensures.value) in
+    let at : find (slice_cmp nat_cmp) c.args.window.now c.self.inside.numbers.entries ≡ Some c.in-Some.number =
+    ap (λ (u : List ℕ). find (slice_cmp nat_cmp) u c.self.inside.numbers.entries) (sym c.new-key.ensures) ∙ sym (c.in-Some.ensures ∙ c.get.ensures.value) in
     within c.self.inside.numbers.entries c.self.inside.tallies.items c.self.inside.windows.items c.self.invariant c.args.window.now c.in-Some.number at
 
 pub add_to-requires-clause-small : goal.add_to-requires-clause-small
 add_to-requires-clause-small c =
-    let at : find (slice_cmp nat_cmp) c.args.window.now c.self.inside.numbers.entries ≡ Some c.in-Some.number = ap (λ (u : List ℕ). find (slice_cmp nat_cmp) u c.self.inside.numbers.entries) (sym c.new-key.ensures) ∙ sym (c.in-Some.ensures ∙ c.get.ensures.value) in
+    let at : find (slice_cmp nat_cmp) c.args.window.now c.self.inside.numbers.entries ≡ Some c.in-Some.number =
+    ap (λ (u : List ℕ). find (slice_cmp nat_cmp) u c.self.inside.numbers.entries) (sym c.new-key.ensures) ∙ sym (c.in-Some.ensures ∙ c.get.ensures.value) in
     subst (λ (s : ℕ × ℕ). AreSmall (with_weight s c.args.good c.args.weight)) (sym (ap (λ (d : Counted). sums_of d.counts c.args.window.now) c.self.view_is)
-    ∙ ap (λ o. unwrap_or o (0, 0)) (sums_there c.self.inside.numbers.entries c.self.inside.tallies.items c.self.inside.windows.items c.self.invariant c.args.window.now c.in-Some.number at)) c.requires.small
+    ∙ ap (λ o. unwrap_or o (0, 0)) (sums_there c.self.inside.numbers.entries c.self.inside.tallies.items c.self.inside.windows.items c.self.invariant c.args.window.now c.in-Some.number at))
+    c.requires.small
 
 pub returns-in_err-number-in-None-clause-there : goal.returns-in_err-number-in-None-clause-there
 returns-in_err-number-in-None-clause-there c = λ there.
-    let none : find (slice_cmp nat_cmp) c.args.window.now c.self.inside.numbers.entries ≡ None = ap (λ (u : List ℕ). find (slice_cmp nat_cmp) u c.self.inside.numbers.entries) (sym c.new-key.ensures) ∙ sym (c.in-None.ensures ∙ c.get.ensures.value) in
+    let none : find (slice_cmp nat_cmp) c.args.window.now c.self.inside.numbers.entries ≡ None =
+    ap (λ (u : List ℕ). find (slice_cmp nat_cmp) u c.self.inside.numbers.entries) (sym c.new-key.ensures) ∙ sym (c.in-None.ensures ∙ c.get.ensures.value) in
     absurd (absent_none c.self.inside.numbers.entries c.self.inside.tallies.items c.args.window.now none (ap (λ (d : Counted). is_counted d.counts c.args.window.now) c.self.view_is ∙ there))
 
 pub invariant_of-self-in-None : goal.invariant_of-self-in-None
 invariant_of-self-in-None c =
-    let none : find (slice_cmp nat_cmp) c.args.window.now c.self.inside.numbers.entries ≡ None = ap (λ (u : List ℕ). find (slice_cmp nat_cmp) u c.self.inside.numbers.entries) (sym c.new-key.ensures) ∙ sym (c.in-None.ensures ∙ c.get.ensures.value) in
+    let none : find (slice_cmp nat_cmp) c.args.window.now c.self.inside.numbers.entries ≡ None =
+    ap (λ (u : List ℕ). find (slice_cmp nat_cmp) u c.self.inside.numbers.entries) (sym c.new-key.ensures) ∙ sym (c.in-None.ensures ∙ c.get.ensures.value) in
     let is : c.number_new.new.tallies.items ≡ c.self.inside.tallies.items ++ with_weight (0, 0) c.args.good c.args.weight ∷ [] = c.in_ok-number-in-None.ensures.tallies
     ∙ ap (λ s. c.self.inside.tallies.items ++ s ∷ []) c.added-sums.ensures in
     new_are c.self.inside.numbers.entries c.self.inside.tallies.items c.self.inside.windows.items c.self.invariant c.args.window.now none c.args.good
@@ -37,18 +42,21 @@ invariant_of-self-in-None c =
 
 pub returns-in-Some-clause-ok : goal.returns-in-Some-clause-ok
 returns-in-Some-clause-ok c =
-    let at : find (slice_cmp nat_cmp) c.args.window.now c.self.inside.numbers.entries ≡ Some c.in-Some.number = ap (λ (u : List ℕ). find (slice_cmp nat_cmp) u c.self.inside.numbers.entries) (sym c.new-key.ensures) ∙ sym (c.in-Some.ensures ∙ c.get.ensures.value) in
+    let at : find (slice_cmp nat_cmp) c.args.window.now c.self.inside.numbers.entries ≡ Some c.in-Some.number =
+    ap (λ (u : List ℕ). find (slice_cmp nat_cmp) u c.self.inside.numbers.entries) (sym c.new-key.ensures) ∙ sym (c.in-Some.ensures ∙ c.get.ensures.value) in
     set_seen c.self.inside.numbers.entries c.self.inside.tallies.items c.self.inside.windows.items c.self.invariant c.args.window.now c.in-Some.number at
     c.args.good c.args.weight c.add_to.new.tallies.items c.add_to.ensures ∙ ap (λ (d : Counted). counted_more d c.args.window.now c.args.good c.args.weight) c.self.view_is
 
 pub returns-in-Some-clause-number : goal.returns-in-Some-clause-number
 returns-in-Some-clause-number c =
-    let at : find (slice_cmp nat_cmp) c.args.window.now c.self.inside.numbers.entries ≡ Some c.in-Some.number = ap (λ (u : List ℕ). find (slice_cmp nat_cmp) u c.self.inside.numbers.entries) (sym c.new-key.ensures) ∙ sym (c.in-Some.ensures ∙ c.get.ensures.value) in
+    let at : find (slice_cmp nat_cmp) c.args.window.now c.self.inside.numbers.entries ≡ Some c.in-Some.number =
+    ap (λ (u : List ℕ). find (slice_cmp nat_cmp) u c.self.inside.numbers.entries) (sym c.new-key.ensures) ∙ sym (c.in-Some.ensures ∙ c.get.ensures.value) in
     has_number c.self.inside.numbers.entries c.self.inside.tallies.items c.self.inside.windows.items c.self.invariant c.args.window.now c.in-Some.number at
 
 pub returns-in-Some-clause-windows : goal.returns-in-Some-clause-windows
 returns-in-Some-clause-windows c = λ good new all.
-    let at : find (slice_cmp nat_cmp) c.args.window.now c.self.inside.numbers.entries ≡ Some c.in-Some.number = ap (λ (u : List ℕ). find (slice_cmp nat_cmp) u c.self.inside.numbers.entries) (sym c.new-key.ensures) ∙ sym (c.in-Some.ensures ∙ c.get.ensures.value) in
+    let at : find (slice_cmp nat_cmp) c.args.window.now c.self.inside.numbers.entries ≡ Some c.in-Some.number =
+    ap (λ (u : List ℕ). find (slice_cmp nat_cmp) u c.self.inside.numbers.entries) (sym c.new-key.ensures) ∙ sym (c.in-Some.ensures ∙ c.get.ensures.value) in
     subst (λ (d : Counted). list_all (λ (e : List ℕ × (ℕ × ℕ)). good e.0) d.counts ≡ true)
     (sym (set_seen c.self.inside.numbers.entries c.self.inside.tallies.items c.self.inside.windows.items c.self.invariant c.args.window.now c.in-Some.number
     at c.args.good c.args.weight c.add_to.new.tallies.items c.add_to.ensures ∙ ap (λ (d : Counted). counted_more d c.args.window.now c.args.good c.args.weight) c.self.view_is))
@@ -56,7 +64,8 @@ returns-in-Some-clause-windows c = λ good new all.
 
 pub returns-in_ok-number-in-None-clause-ok : goal.returns-in_ok-number-in-None-clause-ok
 returns-in_ok-number-in-None-clause-ok c =
-    let none : find (slice_cmp nat_cmp) c.args.window.now c.self.inside.numbers.entries ≡ None = ap (λ (u : List ℕ). find (slice_cmp nat_cmp) u c.self.inside.numbers.entries) (sym c.new-key.ensures) ∙ sym (c.in-None.ensures ∙ c.get.ensures.value) in
+    let none : find (slice_cmp nat_cmp) c.args.window.now c.self.inside.numbers.entries ≡ None =
+    ap (λ (u : List ℕ). find (slice_cmp nat_cmp) u c.self.inside.numbers.entries) (sym c.new-key.ensures) ∙ sym (c.in-None.ensures ∙ c.get.ensures.value) in
     let is : c.number_new.new.tallies.items ≡ c.self.inside.tallies.items ++ with_weight (0, 0) c.args.good c.args.weight ∷ [] = c.in_ok-number-in-None.ensures.tallies
     ∙ ap (λ s. c.self.inside.tallies.items ++ s ∷ []) c.added-sums.ensures in
     new_seen c.self.inside.numbers.entries c.self.inside.tallies.items c.self.inside.windows.items c.self.invariant c.args.window.now none c.args.good
@@ -65,7 +74,8 @@ returns-in_ok-number-in-None-clause-ok c =
 
 pub returns-in_ok-number-in-None-clause-number : goal.returns-in_ok-number-in-None-clause-number
 returns-in_ok-number-in-None-clause-number c =
-    let none : find (slice_cmp nat_cmp) c.args.window.now c.self.inside.numbers.entries ≡ None = ap (λ (u : List ℕ). find (slice_cmp nat_cmp) u c.self.inside.numbers.entries) (sym c.new-key.ensures) ∙ sym (c.in-None.ensures ∙ c.get.ensures.value) in
+    let none : find (slice_cmp nat_cmp) c.args.window.now c.self.inside.numbers.entries ≡ None =
+    ap (λ (u : List ℕ). find (slice_cmp nat_cmp) u c.self.inside.numbers.entries) (sym c.new-key.ensures) ∙ sym (c.in-None.ensures ∙ c.get.ensures.value) in
     let is : c.number_new.new.tallies.items ≡ c.self.inside.tallies.items ++ with_weight (0, 0) c.args.good c.args.weight ∷ [] = c.in_ok-number-in-None.ensures.tallies
     ∙ ap (λ s. c.self.inside.tallies.items ++ s ∷ []) c.added-sums.ensures in
     subst (λ k. HasNumber (by_number c.number_new.new.numbers.entries) c.args.window.now k) (sym c.in_ok-number-in-None.ensures.number)
@@ -74,7 +84,8 @@ returns-in_ok-number-in-None-clause-number c =
 
 pub returns-in_ok-number-in-None-clause-windows : goal.returns-in_ok-number-in-None-clause-windows
 returns-in_ok-number-in-None-clause-windows c = λ good new all.
-    let none : find (slice_cmp nat_cmp) c.args.window.now c.self.inside.numbers.entries ≡ None = ap (λ (u : List ℕ). find (slice_cmp nat_cmp) u c.self.inside.numbers.entries) (sym c.new-key.ensures) ∙ sym (c.in-None.ensures ∙ c.get.ensures.value) in
+    let none : find (slice_cmp nat_cmp) c.args.window.now c.self.inside.numbers.entries ≡ None =
+    ap (λ (u : List ℕ). find (slice_cmp nat_cmp) u c.self.inside.numbers.entries) (sym c.new-key.ensures) ∙ sym (c.in-None.ensures ∙ c.get.ensures.value) in
     let is : c.number_new.new.tallies.items ≡ c.self.inside.tallies.items ++ with_weight (0, 0) c.args.good c.args.weight ∷ [] = c.in_ok-number-in-None.ensures.tallies
     ∙ ap (λ s. c.self.inside.tallies.items ++ s ∷ []) c.added-sums.ensures in
     subst (λ (d : Counted). list_all (λ (e : List ℕ × (ℕ × ℕ)). good e.0) d.counts ≡ true)
@@ -85,7 +96,8 @@ returns-in_ok-number-in-None-clause-windows c = λ good new all.
 
 pub invariant_of-self : goal.invariant_of-self
 invariant_of-self c =
-    let at : find (slice_cmp nat_cmp) c.args.window.now c.self.inside.numbers.entries ≡ Some c.in-Some.number = ap (λ (u : List ℕ). find (slice_cmp nat_cmp) u c.self.inside.numbers.entries) (sym c.new-key.ensures) ∙ sym (c.in-Some.ensures ∙ c.get.ensures.value) in
+    let at : find (slice_cmp nat_cmp) c.args.window.now c.self.inside.numbers.entries ≡ Some c.in-Some.number =
+    ap (λ (u : List ℕ). find (slice_cmp nat_cmp) u c.self.inside.numbers.entries) (sym c.new-key.ensures) ∙ sym (c.in-Some.ensures ∙ c.get.ensures.value) in
     set_are c.self.inside.numbers.entries c.self.inside.tallies.items c.self.inside.windows.items c.self.invariant c.args.window.now c.in-Some.number at
     c.args.good c.args.weight c.add_to.new.tallies.items c.add_to.ensures
 

@@ -8,7 +8,8 @@ use Rattle.pg_plain.proofs.counts.CountedWindows.sums.Goals as goal
 
 pub returns-in_err-number : goal.returns-in_err-number
 returns-in_err-number c =
-    let none : find (slice_cmp nat_cmp) c.args.window.now c.self.inside.numbers.entries ≡ None = ap (λ (u : List ℕ). find (slice_cmp nat_cmp) u c.self.inside.numbers.entries) (sym (c.new-key.ensures ∙ c.signs.ensures.value)) ∙ sym (c.in_err-number.ensures ∙ c.get.ensures.value) in
+    let none : find (slice_cmp nat_cmp) c.args.window.now c.self.inside.numbers.entries ≡ None =
+    ap (λ (u : List ℕ). find (slice_cmp nat_cmp) u c.self.inside.numbers.entries) (sym (c.new-key.ensures ∙ c.signs.ensures.value)) ∙ sym (c.in_err-number.ensures ∙ c.get.ensures.value) in
     c.from_residual.ensures ∙ sym (sums_none c.self.inside.numbers.entries c.self.inside.tallies.items c.self.inside.windows.items c.self.invariant c.args.window.now none)
     ∙ ap (λ (d : Counted). counted_sums d.counts c.args.window.now) c.self.view_is
 
@@ -20,7 +21,8 @@ index-requires c =
 
 pub returns : goal.returns
 returns c =
-    let at : find (slice_cmp nat_cmp) c.args.window.now c.self.inside.numbers.entries ≡ Some c.in_ok-number.number = ap (λ (u : List ℕ). find (slice_cmp nat_cmp) u c.self.inside.numbers.entries) (sym (c.new-key.ensures ∙ c.signs.ensures.value)) ∙ sym (c.in_ok-number.ensures ∙ c.get.ensures.value) in
+    let at : find (slice_cmp nat_cmp) c.args.window.now c.self.inside.numbers.entries ≡ Some c.in_ok-number.number =
+    ap (λ (u : List ℕ). find (slice_cmp nat_cmp) u c.self.inside.numbers.entries) (sym (c.new-key.ensures ∙ c.signs.ensures.value)) ∙ sym (c.in_ok-number.ensures ∙ c.get.ensures.value) in
     ap Some (tally_read c.self.inside.tallies.items c.in_ok-number.number c.index.result.now
     (within c.self.inside.numbers.entries c.self.inside.tallies.items c.self.inside.windows.items c.self.invariant c.args.window.now c.in_ok-number.number at) c.index.ensures)
     ∙ sym (sums_there c.self.inside.numbers.entries c.self.inside.tallies.items c.self.inside.windows.items c.self.invariant c.args.window.now c.in_ok-number.number at)
