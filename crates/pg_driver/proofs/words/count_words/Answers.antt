@@ -47,7 +47,8 @@ pub words-init : goal.words-init
 words-init g c = record {
   kept = refl;
   whole = refl;
-  room = subst (λ (cs : Counts). HasRoom cs (sum_by letter_count c.args.dictionary.now)) (sym c.requires.begun.fresh) (room_none (sum_by letter_count c.args.dictionary.now) c.len-i-end.ensures.letters);
+  room = subst (λ (cs : Counts). HasRoom cs (sum_by letter_count c.args.dictionary.now)) (sym c.requires.begun.fresh)
+      (room_none (sum_by letter_count c.args.dictionary.now) c.len-i-end.ensures.letters);
   sums = search rules;
   above = search rules;
   reached = omega arith;

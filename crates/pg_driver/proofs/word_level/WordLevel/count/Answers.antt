@@ -18,7 +18,8 @@ pub returns-clause-did : goal.returns-clause-did
 returns-clause-did g c =
     let m = g.E.Engine.meaning c.args.engine.now in
     record {
-      counts = c.in_ok-before.ensures.ok ∙ ap (λ (p : Pass). meaning_after_counting m (counted_positions (minima_of c.args.table.now) c.args.dictionary.now p m.patterns m.hopeless)) c.requires.begun.begun;
+      counts = c.in_ok-before.ensures.ok
+          ∙ ap (λ (p : Pass). meaning_after_counting m (counted_positions (minima_of c.args.table.now) c.args.dictionary.now p m.patterns m.hopeless)) c.requires.begun.begun;
       room = c.in_ok-before.ensures.room;
       totals = c.in_ok-before.ensures.totals;
       small = c.in_ok-before.ensures.small;
