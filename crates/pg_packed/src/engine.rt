@@ -104,10 +104,6 @@ impl Engine for PackedEngine {
         self.counts.sums_of(number)
     }
 
-    fn go_to(&self, number: u32, at: &mut Cursor) {
-        self.counts.go_to(number, at);
-    }
-
     fn order(&self, out: &mut Vec<u32>) -> Result<(), AllocError> {
         self.counts.order(out)
     }
@@ -126,6 +122,18 @@ impl Engine for PackedEngine {
         let _len = self.counts.window_len();
         self.tidy = false;
         self.trie.enter(at.signs(), self.dot, HOPELESS)
+    }
+
+    fn choose_numbered(&mut self, number: u32) -> Result<(), AllocError> {
+        let _len = self.counts.window_len();
+        self.tidy = false;
+        self.trie.enter(self.counts.window(number), self.dot, self.level)
+    }
+
+    fn give_up_numbered(&mut self, number: u32) -> Result<(), AllocError> {
+        let _len = self.counts.window_len();
+        self.tidy = false;
+        self.trie.enter(self.counts.window(number), self.dot, HOPELESS)
     }
 
     fn end_level(&mut self) -> Result<(), AllocError> {

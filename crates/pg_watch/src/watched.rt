@@ -99,10 +99,6 @@ impl<'a, E: Engine, W: Watch> Engine for Watched<'a, E, W> {
         self.inner.sums_of(number)
     }
 
-    fn go_to(&self, number: u32, at: &mut Cursor) {
-        self.inner.go_to(number, at);
-    }
-
     fn order(&self, out: &mut Vec<u32>) -> Result<(), AllocError> {
         self.inner.order(out)
     }
@@ -117,6 +113,14 @@ impl<'a, E: Engine, W: Watch> Engine for Watched<'a, E, W> {
 
     fn give_up(&mut self, at: &Cursor) -> Result<(), AllocError> {
         self.inner.give_up(at)
+    }
+
+    fn choose_numbered(&mut self, number: u32) -> Result<(), AllocError> {
+        self.inner.choose_numbered(number)
+    }
+
+    fn give_up_numbered(&mut self, number: u32) -> Result<(), AllocError> {
+        self.inner.give_up_numbered(number)
     }
 
     fn end_level(&mut self) -> Result<(), AllocError> {
