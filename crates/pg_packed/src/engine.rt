@@ -127,13 +127,15 @@ impl Engine for PackedEngine {
     fn choose_numbered(&mut self, number: u32) -> Result<(), AllocError> {
         let _len = self.counts.window_len();
         self.tidy = false;
-        self.trie.enter(self.counts.window(number), self.dot, self.level)
+        self.trie
+            .enter(self.counts.window(number), self.dot, self.level)
     }
 
     fn give_up_numbered(&mut self, number: u32) -> Result<(), AllocError> {
         let _len = self.counts.window_len();
         self.tidy = false;
-        self.trie.enter(self.counts.window(number), self.dot, HOPELESS)
+        self.trie
+            .enter(self.counts.window(number), self.dot, HOPELESS)
     }
 
     fn end_level(&mut self) -> Result<(), AllocError> {

@@ -27,7 +27,7 @@ returns-in_err-choose_numbered-in-Chosen-clause-signs g c =
     let m : Meaning = g.E.Engine.meaning c.args.engine.now in
     let u : List ℕ = get_or m.windows c.args.number [] in
     let kept : KeepsButFamilies u m (g.E.Engine.meaning c.choose_numbered.new.self) =
-      c.in_err-choose_numbered-in-Chosen.ensures.err u (slice_get-get_or m.windows c.args.number [] c.requires.there) in
+    c.in_err-choose_numbered-in-Chosen.ensures.err u (slice_get-get_or m.windows c.args.number [] c.requires.there) in
     ap (λ (x : Meaning). x.signs) kept.kept
 
 pub returns-in_err-give_up_numbered-in-Hopeless-clause-signs : goal.returns-in_err-give_up_numbered-in-Hopeless-clause-signs
@@ -35,7 +35,7 @@ returns-in_err-give_up_numbered-in-Hopeless-clause-signs g c =
     let m : Meaning = g.E.Engine.meaning c.args.engine.now in
     let u : List ℕ = get_or m.windows c.args.number [] in
     let kept : KeepsButFamilies u m (g.E.Engine.meaning c.give_up_numbered.new.self) =
-      c.in_err-give_up_numbered-in-Hopeless.ensures.err u (slice_get-get_or m.windows c.args.number [] c.requires.there) in
+    c.in_err-give_up_numbered-in-Hopeless.ensures.err u (slice_get-get_or m.windows c.args.number [] c.requires.there) in
     ap (λ (x : Meaning). x.signs) kept.kept
 
 pub returns-in_ok-choose_numbered-in-Chosen-clause-ok : goal.returns-in_ok-choose_numbered-in-Chosen-clause-ok

@@ -26,8 +26,8 @@ returns-clause-counted c =
     let same : length (by_number c.self.inside.numbers.entries) ≡ length c.args.self.now.windows = ap (λ (d : Counted). length d.windows) c.self.view_is in
     let lt = c.requires in
     let there : HasNumber (by_number c.self.inside.numbers.entries) c.signs.result.now c.args.number =
-      window_read c.self.inside.numbers.entries c.self.inside.tallies.items c.self.inside.windows.items c.self.invariant c.args.number c.signs.result.now c.index.result.now
-      (omega arith) c.index.ensures c.signs.ensures.value in
+    window_read c.self.inside.numbers.entries c.self.inside.tallies.items c.self.inside.windows.items c.self.invariant c.args.number c.signs.result.now c.index.result.now
+    (omega arith) c.index.ensures c.signs.ensures.value in
     subst (λ (d : Counted). is_counted d.counts c.signs.result.now ≡ true) c.self.view_is
     ((are_numbered c.self.inside.numbers.entries c.self.inside.tallies.items c.self.inside.windows.items c.self.invariant).counted c.signs.result.now c.args.number there)
 

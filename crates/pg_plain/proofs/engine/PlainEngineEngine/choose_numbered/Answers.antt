@@ -8,13 +8,13 @@ use Rattle.pg_plain.proofs.engine.PlainEngineEngine.choose_numbered.Goals as goa
 pub new-place-requires : goal.new-place-requires
 new-place-requires c =
     let size : length c.window-signs.result.now ≡ c.args.self.now.pass.len =
-      counted_len c.args.self.now.counts.counts c.window-signs.result.now c.args.self.now.pass.len c.window-signs.ensures.counted c.args.self.now.windows in
+    counted_len c.args.self.now.counts.counts c.window-signs.result.now c.args.self.now.pass.len c.window-signs.ensures.counted c.args.self.now.windows in
     omega (arith, c.args.self.now.len.1)
 
 pub invariant_of-self-clause-entries : goal.invariant_of-self-clause-entries
 invariant_of-self-clause-entries c =
     let size : length c.window-signs.result.now ≡ c.args.self.now.pass.len =
-      counted_len c.args.self.now.counts.counts c.window-signs.result.now c.args.self.now.pass.len c.window-signs.ensures.counted c.args.self.now.windows in
+    counted_len c.args.self.now.counts.counts c.window-signs.result.now c.args.self.now.pass.len c.window-signs.ensures.counted c.args.self.now.windows in
     c.raise_in.ensures.kept c.args.self.now.entries
     (subst (λ k. is_entry (k, c.args.self.now.pass.level) ≡ true) (sym c.new-place.ensures)
     (window_entry c.window-signs.result.now c.args.self.now.pass.dot c.args.self.now.pass.level c.args.self.now.pass.len size c.window-signs.ensures.signs

@@ -7,13 +7,13 @@ use Rattle.pg_plain.proofs.engine.PlainEngineEngine.give_up_numbered.Goals as go
 pub new-place-requires : goal.new-place-requires
 new-place-requires c =
     let size : length c.window-signs.result.now ≡ c.args.self.now.pass.len =
-      counted_len c.args.self.now.counts.counts c.window-signs.result.now c.args.self.now.pass.len c.window-signs.ensures.counted c.args.self.now.windows in
+    counted_len c.args.self.now.counts.counts c.window-signs.result.now c.args.self.now.pass.len c.window-signs.ensures.counted c.args.self.now.windows in
     omega (arith, c.args.self.now.len.1)
 
 pub invariant_of-self-clause-strings : goal.invariant_of-self-clause-strings
 invariant_of-self-clause-strings c =
     let size : length c.window-signs.result.now ≡ c.args.self.now.pass.len =
-      counted_len c.args.self.now.counts.counts c.window-signs.result.now c.args.self.now.pass.len c.window-signs.ensures.counted c.args.self.now.windows in (
+    counted_len c.args.self.now.counts.counts c.window-signs.result.now c.args.self.now.pass.len c.window-signs.ensures.counted c.args.self.now.windows in (
       c.put_in.ensures.sorted,
       c.put_in.ensures.places is_string c.args.self.now.strings.1
           (subst (λ k. is_string k ≡ true) (sym c.new-place.ensures) (window_string c.window-signs.result.now c.args.self.now.pass.dot c.args.self.now.pass.len
