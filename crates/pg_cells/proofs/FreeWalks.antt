@@ -38,7 +38,8 @@ module _ {V : Type 0} where
     pub last : (k : ℕ) → k < cell → IsFree ls.row k → k ≤ b
 
   -- the first free cell from a taken one on has it before itself
-  pub free_before : (ls : Lists V) → AreLinked ls → (cell high b : ℕ) → cell < high → ((k : ℕ) → cell ≤ k → k < high → IsFree ls.row k → ⊥) → IsFree ls.row high → b ≡ before_at ls high → IsLast ls cell b
+  pub free_before : (ls : Lists V) → AreLinked ls → (cell high b : ℕ) → cell < high → ((k : ℕ) → cell ≤ k → k < high → IsFree ls.row k → ⊥) → IsFree ls.row high
+      → b ≡ before_at ls high → IsLast ls cell b
   free_before ls linked cell high b up between free is =
       let ok = linked.before_ok high (omega arith) free in
       let here : IsFree ls.row b = subst (IsFree ls.row) (sym is) ok.1 in

@@ -12,8 +12,8 @@ use pg_cells::{Cells, step};
 use pg_types::{FEW_SIGNS, PATTERN_SIGNS_MAX, Sign};
 
 // Takes away the cell of a string of several signs, where it has no list and no string goes on from
-// it. `before` is the sign before `s` in its family, 0 for none. The answer is the sign that is then
-// before those behind `s`.
+// it. `before` is the sign before `s` in its family, 0 for none. The answer is the sign that then
+// stands before those behind `s`.
 fn remove_blank(
     cells: &mut Cells<Head, FEW_SIGNS>,
     parent: usize,
