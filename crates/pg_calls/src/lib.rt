@@ -1,5 +1,7 @@
 //! The calls of the crates below the engines, on worked rows that name them: what dictionaries,
 //! patterns, cells, counts and tries give of small inputs, and cells beside a slow list of families.
+//! What files and sinks do whose calls fail is tried here too: a disk in memory, real files, and
+//! files and writers whose calls go as a list says.
 //!
 //! It stands on the lowest crates alone, so the gate can prove it early. Tests that need an engine,
 //! the driver or the program are in pg_runs, and whole calls are rows of patgen_rows.
@@ -12,13 +14,25 @@ mod count;
 #[cfg(test)]
 mod dict;
 #[cfg(test)]
+mod disk;
+#[cfg(test)]
 mod families;
+#[cfg(test)]
+mod folders;
+#[cfg(test)]
+mod host;
+#[cfg(test)]
+mod outcomes;
 #[cfg(test)]
 mod outputs;
 #[cfg(test)]
 mod patterns;
 #[cfg(test)]
 mod slow;
+#[cfg(test)]
+mod steps;
+#[cfg(test)]
+mod streams;
 #[cfg(test)]
 mod strings;
 #[cfg(test)]

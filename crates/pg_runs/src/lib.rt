@@ -3,25 +3,14 @@
 //! program over files that never fail; calls over a disk that stops or fails at each of its calls
 //! in turn; and the status of each answer. All other calls are rows of patgen_rows.
 //!
-//! What files and sinks do whose calls fail is tried here too: a disk in memory, real files, and
-//! files and writers whose calls go as a list says. The calls of the crates below the engines are
-//! tried in pg_calls.
+//! What files and sinks do whose calls fail, and the calls of the crates below the engines, are tried
+//! in pg_calls.
 #![tactic(auto)]
 
 #[cfg(test)]
-mod arguments;
-#[cfg(test)]
 mod counts;
 #[cfg(test)]
-mod disk;
-#[cfg(test)]
 mod engines;
-#[cfg(test)]
-mod folders;
-#[cfg(test)]
-mod host;
-#[cfg(test)]
-mod outcomes;
 #[cfg(test)]
 mod plain;
 #[cfg(test)]
@@ -29,15 +18,9 @@ mod quiet;
 #[cfg(test)]
 mod runs;
 #[cfg(test)]
-mod scripted;
-#[cfg(test)]
 mod statuses;
 #[cfg(test)]
-mod steps;
-#[cfg(test)]
 mod stopped;
-#[cfg(test)]
-mod streams;
 #[cfg(test)]
 mod unskipped;
 #[cfg(test)]

@@ -1,10 +1,9 @@
 //! The status of the program, by the words that it is handed or the reason why there are none.
-use crate::arguments::Given;
 use crate::quiet::{INPUTS, words};
-use crate::scripted::Broken;
 use pg_main::{NoWords, run_words, status_of};
 use pg_messages::Messages;
 use pg_outside::{HostSink, MemoryFiles};
+use pg_told_disk::{Broken, Given};
 use std::alloc::{AllocError, Global};
 use std::process::ExitCode;
 use std::rt::Clock;

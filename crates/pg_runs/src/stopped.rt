@@ -1,6 +1,5 @@
 //! Calls of the program over a disk that tells: what stands under each name when they are done, and
 //! when a call of the system stops the program or fails.
-use crate::disk::{holds, let_fail};
 use crate::quiet::{INPUTS, words};
 use pg_outside::{DiskFiles, MemorySink};
 use pg_told_disk::ToldDisk;
@@ -57,7 +56,7 @@ fn disk(alloc: Global) -> Result<ToldDisk, AllocError> {
 /// A disk that fails at a call, or at it and each later one.
 fn failing_disk(alloc: Global, call: u64, stops: bool) -> Result<ToldDisk, AllocError> {
     let mut disk = disk(alloc)?;
-    let_fail(&mut disk, call, stops);
+    disk.fail_at(call, stops);
     Ok(disk)
 }
 
@@ -108,7 +107,7 @@ fn is_old_or_new(disk: &ToldDisk, before: &ToldDisk, after: &ToldDisk) -> bool {
 
 /// Whether no new file is left.
 fn is_tidy(disk: &ToldDisk) -> bool {
-    holds(disk, "patgen-new-0", None) && holds(disk, "folder/patgen-new-0", None)
+    disk.holds("patgen-new-0", None) && disk.holds("folder/patgen-new-0", None)
 }
 
 /// Whether the call leaves old files and new ones, whole, where it is stopped at this call of the
@@ -202,7 +201,7 @@ fn compare_answer(
 /// Compares the two files that a call over files wrote.
 fn compare_written(rt: &impl Abort, disk: &ToldDisk) {
     let (patterns, list) = (Some(b"ab1\n".as_slice()), Some(b"ab*c\nab*a\n".as_slice()));
-    assert!(rt; holds(disk, "O", patterns) && holds(disk, "M", list));
+    assert!(rt; disk.holds("O", patterns) && disk.holds("M", list));
 }
 
 /// Does a call and one on the files that it leaves, and compares what comes of them.

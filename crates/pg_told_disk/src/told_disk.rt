@@ -160,24 +160,15 @@ impl ToldDisk {
         Ok(())
     }
 
-    /// Lets the call of this number fail, counted from 1.
-    pub fn fail_at(&mut self, call: u64)
+    /// Lets the call of this number fail, counted from 1. Where the program stops there, each later
+    /// one fails too, as if it had ended before that call.
+    pub fn fail_at(&mut self, call: u64, stops: bool)
         ensures links { self.new.links ≡ self.old.links }
         ensures log { self.new.log ≡ self.old.log }
         ensures told { self.new.is_told ≡ self.old.is_told }
     {
         self.failing.from = call;
-        self.failing.to = call;
-    }
-
-    /// Lets the call of this number and each later one fail, as if the program had ended before it.
-    pub fn stop_at(&mut self, call: u64)
-        ensures links { self.new.links ≡ self.old.links }
-        ensures log { self.new.log ≡ self.old.log }
-        ensures told { self.new.is_told ≡ self.old.is_told }
-    {
-        self.failing.from = call;
-        self.failing.to = u64::MAX;
+        self.failing.to = if stops { u64::MAX } else { call };
     }
 
     /// Whether it tells what it holds.
@@ -204,6 +195,15 @@ impl ToldDisk {
         match number_of(&self.log, real_of(&self.links, name)) {
             None => Ok(None),
             Some(number) => Ok(Some(bytes_of(self.alloc, &self.log, number)?)),
+        }
+    }
+
+    /// Whether the name leads to a file with these bytes, or to none where none are given.
+    pub fn holds(&self, name: &str, wanted: Option<&[u8]>) -> bool {
+        match (self.bytes(name), wanted) {
+            (Ok(Some(found)), Some(bytes)) => found.as_slice() == bytes,
+            (Ok(None), None) => true,
+            _ => false,
         }
     }
 

@@ -7,24 +7,33 @@ use std::io::{self, Error, ErrorKind, Read, Seek, SeekFrom, Write};
 pub enum Call {
     /// It takes at most so many bytes.
     Takes(usize),
+    /// It is interrupted, and takes none.
     Interrupted,
+    /// It fails.
     Fails,
 }
 
 /// A step of the system that fails.
 #[derive(Clone, Copy, PartialEq, Eq)]
 pub enum Broken {
+    /// None fails.
     Nothing,
+    /// Setting the permissions of an opened file.
     Permissions,
+    /// Handing a file to its device.
     Sync,
+    /// Giving a file another name.
     Rename,
 }
 
 /// A reader or writer whose calls go as the list says, and which takes all bytes after its end.
 #[derive(Drop)]
 pub struct Scripted<'a, F: Drop> {
+    /// What it reads or writes.
     pub inner: F,
+    /// How the next calls go.
     pub calls: &'a [Call],
+    /// The step that fails.
     pub broken: Broken,
 }
 
@@ -34,6 +43,7 @@ pub fn refused() -> Error {
 }
 
 impl<'a, F: Drop> Scripted<'a, F> {
+    /// Over this reader or writer, with these calls, and no other step that fails.
     pub fn new(inner: F, calls: &'a [Call]) -> Scripted<'a, F> {
         Scripted {
             inner,

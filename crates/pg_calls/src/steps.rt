@@ -1,9 +1,8 @@
 //! Reads and writes of real files whose calls end early or fail.
-use crate::arguments::Given;
 use crate::folders::{enter_folder, holds, is_new_file_left, leave_folder};
 use crate::outcomes::outcomes_by;
-use crate::scripted::{Broken, Call};
 use pg_outside::ReadError;
+use pg_told_disk::{Broken, Call, Given};
 use std::test::Fail;
 use std::{fs, io};
 

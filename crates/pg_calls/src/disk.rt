@@ -77,19 +77,10 @@ fn disk(alloc: Global) -> Result<ToldDisk, AllocError> {
     Ok(disk)
 }
 
-/// Whether the name leads to these bytes.
-pub(crate) fn holds(disk: &ToldDisk, name: &str, wanted: Option<&[u8]>) -> bool {
-    match (disk.bytes(name), wanted) {
-        (Ok(Some(found)), Some(bytes)) => found.as_slice() == bytes,
-        (Ok(None), None) => true,
-        _ => false,
-    }
-}
-
 /// Whether each file that is not written has what it had, and each link is one.
 fn is_rest_kept(disk: &ToldDisk) -> bool {
     for (name, bytes) in OTHERS {
-        if !holds(disk, name, Some(bytes)) {
+        if !disk.holds(name, Some(bytes)) {
             return false;
         }
     }
@@ -104,20 +95,11 @@ fn is_rest_kept(disk: &ToldDisk) -> bool {
 /// Whether no new file is left but the one of this name.
 fn is_tidy(disk: &ToldDisk, name: &str) -> bool {
     for own in NEW_NAMES {
-        if own != name && !holds(disk, own, None) {
+        if own != name && !disk.holds(own, None) {
             return false;
         }
     }
     true
-}
-
-/// Lets a disk fail at a call, or at it and each later one.
-pub(crate) fn let_fail(disk: &mut ToldDisk, call: u64, stops: bool) {
-    if stops {
-        disk.stop_at(call);
-    } else {
-        disk.fail_at(call);
-    }
 }
 
 /// Writes the file of this name over a disk that fails at a call, or at it and each later one.
@@ -128,7 +110,7 @@ fn written(
     stops: bool,
 ) -> Result<(bool, DiskFiles<ToldDisk>), AllocError> {
     let mut disk = disk(alloc)?;
-    let_fail(&mut disk, call, stops);
+    disk.fail_at(call, stops);
     let mut files = DiskFiles::new(alloc, disk);
     let is_written = files.write(name, NEW).is_ok();
     Ok((is_written, files))
@@ -138,7 +120,7 @@ fn written(
 fn calls_of(alloc: Global, name: &str) -> Result<u64, AllocError> {
     let (is_written, files) = written(alloc, name, 0, false)?;
     let disk = files.system();
-    let goes_well = is_written && holds(disk, name, Some(NEW)) && is_rest_kept(disk);
+    let goes_well = is_written && disk.holds(name, Some(NEW)) && is_rest_kept(disk);
     Ok(if goes_well && is_tidy(disk, name) {
         disk.calls()
     } else {
@@ -157,9 +139,9 @@ fn survives(
 ) -> Result<bool, AllocError> {
     let (is_written, files) = written(alloc, name, call, stops)?;
     let disk = files.system();
-    let is_old = holds(disk, name, old);
+    let is_old = disk.holds(name, old);
     let is_right = if stops {
-        is_old || holds(disk, name, Some(NEW))
+        is_old || disk.holds(name, Some(NEW))
     } else {
         !is_written && is_old && is_tidy(disk, name)
     };
@@ -202,7 +184,7 @@ fn is_kept_for(alloc: Global, first: &str, second: &str) -> Result<bool, AllocEr
     let mut files = DiskFiles::new(alloc, disk(alloc)?);
     let read = (first, 9, Ok(()), b"old\n".as_slice());
     let both = outcomes(alloc, &mut files, read, second, NEW);
-    Ok(both == [true, false] && holds(files.system(), second, Some(b"old\n")))
+    Ok(both == [true, false] && files.system().holds(second, Some(b"old\n")))
 }
 
 /// Whether a second write of what was written under one name is refused under another.
@@ -213,7 +195,7 @@ fn is_written_once(alloc: Global, second: &str) -> Result<bool, AllocError> {
         files.write(second, b"again").is_ok(),
     ];
     let disk = files.system();
-    Ok(outcomes == [true, false] && holds(disk, "O", Some(NEW)) && disk.mode("O") == Some(0o640))
+    Ok(outcomes == [true, false] && disk.holds("O", Some(NEW)) && disk.mode("O") == Some(0o640))
 }
 
 /// Whether a device takes what is written, one write behind the other.
@@ -223,7 +205,7 @@ fn takes_all(alloc: Global) -> Result<bool, AllocError> {
         files.write("null", b"one ").is_ok(),
         files.write("null", b"two").is_ok(),
     ];
-    Ok(outcomes == [true, true] && holds(files.system(), "null", Some(b"one two")))
+    Ok(outcomes == [true, true] && files.system().holds("null", Some(b"one two")))
 }
 
 #[test]

@@ -1,7 +1,7 @@
 //! Puts into files and pipes, whose writes end early or fail.
 use crate::folders::{enter_folder, holds, leave_folder};
-use crate::scripted::{Call, Scripted};
 use pg_outside::{HostSink, Sink};
+use pg_told_disk::{Call, Scripted};
 use std::test::Fail;
 use std::{fs, io};
 

@@ -13,9 +13,13 @@ use std::{io, rt};
 /// fails.
 #[derive(Drop)]
 pub struct Given<'a, R> {
+    /// The system that does all the rest.
     pub system: &'a R,
+    /// The words after the program's name.
     pub words: &'a [&'a [u8]],
+    /// How the reads and writes of each opened file go.
     pub calls: &'a [Call],
+    /// The step that fails.
     pub broken: Broken,
 }
 
