@@ -92,7 +92,7 @@ impl Counting {
                 Ok(open.totals)
             }
             Counting::EachWord(level) => {
-                level.count(engine, dictionary, table, pass, &mut windows.numbers)
+                level.count_each_word(engine, dictionary, table, pass, &mut windows.numbers)
             }
         }
     }

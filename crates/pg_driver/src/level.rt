@@ -132,8 +132,8 @@ fn run_length<E: Engine>(
     records: &mut Records,
 ) -> Result<(), AllocError>
     requires level { IsLevel params.now }
-    requires number { (1 ≤ number) × (number ≤ LEVEL_MAX) }
     requires len { (1 ≤ len) × (len ≤ LENGTH_MAX) }
+    requires number { (1 ≤ number) × (number ≤ LEVEL_MAX) }
     requires begun { (E.meaning engine.old).begun + length_passes < begun_before_pass }
     requires few { records.old.begun + length_passes < begun_before_pass }
     requires chosen { records.old.chosen + length_passes * FILE_MAX < begun_before_pass }

@@ -15,6 +15,9 @@ use std::alloc::{AllocError, Global};
 /// This stands for the number of a window at a position that was not counted.
 pub const NOT_COUNTED: u32 = u32::MAX;
 
+/// Memory for so many numbers is never given back: a smaller list would only grow anew.
+const NUMBERS_AT_LEAST: usize = 1 << 15;
+
 /// A position of a word.
 #[derive(Clone, Copy)]
 pub struct WordPosition {
@@ -53,15 +56,15 @@ impl PassWindows {
     }
 
     /// Forgets the numbers of the pass before. Where they took less than a quarter of their memory,
-    /// all but twice what they took is given back: the first passes of a level have far more
-    /// positions than the last ones.
+    /// all but twice what they took, or the least that is kept, is given back: the first passes of a
+    /// level have far more positions than the last ones.
     pub fn forget_numbers(&mut self)
         ensures { self.new.numbers.items ≡ [] }
     {
         let used = self.numbers.len();
         self.numbers.clear();
         if used < self.numbers.capacity() / 4 {
-            self.numbers.shrink_to(2 * used);
+            self.numbers.shrink_to(NUMBERS_AT_LEAST.max(2 * used));
         }
     }
 

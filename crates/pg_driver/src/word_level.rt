@@ -49,7 +49,7 @@ impl WordLevel {
     /// Counts the windows of a pass that has begun, and gives the totals before it. Each word is
     /// hyphenated once. Each position that is listed has the number of its window, where that is
     /// counted.
-    pub fn count<E: Engine>(
+    pub fn count_each_word<E: Engine>(
         &mut self,
         engine: &mut E,
         dictionary: &Dictionary,

@@ -1,5 +1,6 @@
 -- What only contracts between layers and proofs need.
 pub mod Choices
+pub mod EngineCalls
 pub mod Laws
 pub mod LawsSteps
 pub mod LawsClosedDots

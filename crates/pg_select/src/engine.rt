@@ -1,10 +1,11 @@
 //! The contract of an engine, which holds patterns and counts windows.
-ghost use Rattle.std.specs.Prelude.{◌≡◌, ℕ, ◌≤◌, ◌<◌, ◌+◌, ◌++◌, true, List, length, Some, IfOk, OnOk, OnErr, IsOk};
-ghost use Rattle.pg_types.specs.declared.limits.TheConstants.{LEVEL_MAX, LENGTH_MAX, WEIGHT_MAX, WORD_LETTERS_MAX};
+ghost use Rattle.std.specs.Prelude.{◌≡◌, ℕ, ◌≤◌, ◌<◌, ◌+◌, ◌++◌, true, List, length, Some, IfOk, OnOk, OnErr};
+ghost use Rattle.pg_types.specs.declared.limits.TheConstants.{LEVEL_MAX, LENGTH_MAX, WORD_LETTERS_MAX};
 ghost use Rattle.pg_types.specs.Inside.Limits.{begun_before_pass};
-ghost use Rattle.pg_types.specs.Inside.Counts.{AreSmall, IsNextAbove, SignsWithin, counted_sums, sums_of, with_weight, is_counted};
+ghost use Rattle.pg_types.specs.Inside.Counts.{IsNextAbove, SignsWithin, counted_sums, is_counted};
 ghost use Rattle.pg_types.specs.Inside.NumberedWindows.{AreInOrder, HasNumber};
-ghost use Rattle.pg_select.specs.Inside.Meanings.{Meaning, IsKept, KeepsButFamilies, SetsValues, SetsCovers, IsLayout, after_begin_pass, after_count, after_choose, after_give_up, after_end_level};
+ghost use Rattle.pg_select.specs.Inside.EngineCalls.{CanCount, CountsWindow, Enters, EntersNumbered};
+ghost use Rattle.pg_select.specs.Inside.Meanings.{Meaning, IsKept, SetsValues, SetsCovers, IsLayout, after_begin_pass, after_choose, after_give_up, after_end_level};
 
 use crate::word_state::WordState;
 use pg_dict::WordRef;
@@ -47,15 +48,9 @@ pub trait Engine {
     /// Adds `weight` to the good or the bad sum of a window. A window that is counted already takes
     /// no memory.
     fn count(&mut self, window: &[Sign], good: bool, weight: Weight) -> Result<(), AllocError>
-        requires len { length window.now ≡ (meaning self.old).pass.len }
-        requires signs { SignsWithin (meaning self.old).signs window.now }
-        requires weight { weight ≤ WEIGHT_MAX }
-        requires small { AreSmall
-            (with_weight (sums_of (meaning self.old).counts window.now) good weight) }
-        ensures ok { OnOk result
-            (meaning self.new ≡ after_count (meaning self.old) window.now good weight) }
-        ensures there { is_counted (meaning self.old).counts window.now ≡ true → IsOk result }
-        ensures err { OnErr result (meaning self.new ≡ meaning self.old) };
+        requires { CanCount (meaning self.old) window.now good weight }
+        ensures { CountsWindow result
+            (meaning self.old) (meaning self.new) window.now good weight };
 
     /// Counts as `count` does, and gives the window's number: its place, from 0, among the windows
     /// of the pass in the order in which they were first counted.
@@ -65,17 +60,11 @@ pub trait Engine {
         good: bool,
         weight: Weight,
     ) -> Result<u32, AllocError>
-        requires len { length window.now ≡ (meaning self.old).pass.len }
-        requires signs { SignsWithin (meaning self.old).signs window.now }
-        requires weight { weight ≤ WEIGHT_MAX }
-        requires small { AreSmall
-            (with_weight (sums_of (meaning self.old).counts window.now) good weight) }
-        ensures ok { OnOk result
-            (meaning self.new ≡ after_count (meaning self.old) window.now good weight) }
+        requires { CanCount (meaning self.old) window.now good weight }
+        ensures counts { CountsWindow result
+            (meaning self.old) (meaning self.new) window.now good weight }
         ensures number { IfOk result
-            (λ number. HasNumber (meaning self.new).windows window.now number) }
-        ensures there { is_counted (meaning self.old).counts window.now ≡ true → IsOk result }
-        ensures err { OnErr result (meaning self.new ≡ meaning self.old) };
+            (λ number. HasNumber (meaning self.new).windows window.now number) };
 
     /// The good and the bad sum of a window; none exactly where it is not counted. It takes no
     /// memory.
@@ -106,37 +95,25 @@ pub trait Engine {
     /// part of that.
     fn choose(&mut self, at: &Cursor) -> Result<(), AllocError>
         requires { is_counted (meaning self.old).counts at.now ≡ true }
-        ensures ok { OnOk result
-            (meaning self.new ≡ after_choose (meaning self.old) at.now (meaning self.new).tidy) }
-        ensures err { OnErr result
-            (KeepsButFamilies at.now (meaning self.old) (meaning self.new)) };
+        ensures { Enters result after_choose (meaning self.old) (meaning self.new) at.now };
 
     /// Makes the window at the cursor hopeless at the dot of the pass, to the end of the level. The
     /// window is entered into families that are told; a refused call may leave part of that.
     fn give_up(&mut self, at: &Cursor) -> Result<(), AllocError>
         requires { is_counted (meaning self.old).counts at.now ≡ true }
-        ensures ok { OnOk result
-            (meaning self.new ≡ after_give_up (meaning self.old) at.now (meaning self.new).tidy) }
-        ensures err { OnErr result
-            (KeepsButFamilies at.now (meaning self.old) (meaning self.new)) };
+        ensures { Enters result after_give_up (meaning self.old) (meaning self.new) at.now };
 
     /// Chooses the window with the number, as `choose` does the window at a cursor.
     fn choose_numbered(&mut self, number: u32) -> Result<(), AllocError>
         requires { number < length (meaning self.old).windows }
-        ensures ok { (u : List ℕ) → HasNumber (meaning self.old).windows u number
-            → OnOk result
-            (meaning self.new ≡ after_choose (meaning self.old) u (meaning self.new).tidy) }
-        ensures err { (u : List ℕ) → HasNumber (meaning self.old).windows u number
-            → OnErr result (KeepsButFamilies u (meaning self.old) (meaning self.new)) };
+        ensures { EntersNumbered result after_choose
+            (meaning self.old) (meaning self.new) number };
 
     /// Makes the window with the number hopeless, as `give_up` does the window at a cursor.
     fn give_up_numbered(&mut self, number: u32) -> Result<(), AllocError>
         requires { number < length (meaning self.old).windows }
-        ensures ok { (u : List ℕ) → HasNumber (meaning self.old).windows u number
-            → OnOk result
-            (meaning self.new ≡ after_give_up (meaning self.old) u (meaning self.new).tidy) }
-        ensures err { (u : List ℕ) → HasNumber (meaning self.old).windows u number
-            → OnErr result (KeepsButFamilies u (meaning self.old) (meaning self.new)) };
+        ensures { EntersNumbered result after_give_up
+            (meaning self.old) (meaning self.new) number };
 
     /// Ends the level: nothing is hopeless any more, and families that are told lose the cells that
     /// no pattern needs. Afterwards the engine is tidy.

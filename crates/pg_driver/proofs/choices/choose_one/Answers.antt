@@ -1,4 +1,4 @@
-use Rattle.std.proofs.Common.{◌≡◌, ℕ, ◌+◌, List, [], length, get_or, Some, sym, ap, ◌∙◌, arith}
+use Rattle.std.proofs.Common.{◌≡◌, ℕ, ◌+◌, List, [], get_or, Some, sym, ap, ◌∙◌, arith}
 use Rattle.std.proofs.lemmas.Option.{slice_get-get_or}
 use Rattle.pg_types.specs.Inside.NumberedWindows.{HasNumber}
 use Rattle.pg_select.specs.Inside.Meanings.{Meaning, KeepsButFamilies, after_choose, after_give_up}
@@ -27,7 +27,7 @@ returns-in_err-choose_numbered-in-Chosen-clause-signs g c =
     let m : Meaning = g.E.Engine.meaning c.args.engine.now in
     let u : List ℕ = get_or m.windows c.args.number [] in
     let kept : KeepsButFamilies u m (g.E.Engine.meaning c.choose_numbered.new.self) =
-    c.in_err-choose_numbered-in-Chosen.ensures.err u (slice_get-get_or m.windows c.args.number [] c.requires.there) in
+    (c.in_err-choose_numbered-in-Chosen.ensures u (slice_get-get_or m.windows c.args.number [] c.requires.there)).err in
     ap (λ (x : Meaning). x.signs) kept.kept
 
 pub returns-in_err-give_up_numbered-in-Hopeless-clause-signs : goal.returns-in_err-give_up_numbered-in-Hopeless-clause-signs
@@ -35,13 +35,13 @@ returns-in_err-give_up_numbered-in-Hopeless-clause-signs g c =
     let m : Meaning = g.E.Engine.meaning c.args.engine.now in
     let u : List ℕ = get_or m.windows c.args.number [] in
     let kept : KeepsButFamilies u m (g.E.Engine.meaning c.give_up_numbered.new.self) =
-    c.in_err-give_up_numbered-in-Hopeless.ensures.err u (slice_get-get_or m.windows c.args.number [] c.requires.there) in
+    (c.in_err-give_up_numbered-in-Hopeless.ensures u (slice_get-get_or m.windows c.args.number [] c.requires.there)).err in
     ap (λ (x : Meaning). x.signs) kept.kept
 
 pub returns-in_ok-choose_numbered-in-Chosen-clause-ok : goal.returns-in_ok-choose_numbered-in-Chosen-clause-ok
 returns-in_ok-choose_numbered-in-Chosen-clause-ok g c = λ u sums it.
     chosen_one c.args.params.now (g.E.Engine.meaning c.args.engine.now) (g.E.Engine.meaning c.choose_numbered.new.self) (record { window = u; good = sums.0; bad = sums.1 })
-    (sym (c.requires.fate u sums it) ∙ c.in-Chosen.is) (c.in_ok-choose_numbered-in-Chosen.ensures.ok u it.number)
+    (sym (c.requires.fate u sums it) ∙ c.in-Chosen.is) (c.in_ok-choose_numbered-in-Chosen.ensures u it.number).ok
 
 pub returns-in_ok-choose_numbered-in-Chosen-clause-choices : goal.returns-in_ok-choose_numbered-in-Chosen-clause-choices
 returns-in_ok-choose_numbered-in-Chosen-clause-choices g c = λ u sums it.
@@ -61,13 +61,13 @@ returns-in_ok-choose_numbered-in-Chosen-clause-signs g c =
     let m : Meaning = g.E.Engine.meaning c.args.engine.now in
     let n : Meaning = g.E.Engine.meaning c.choose_numbered.new.self in
     let u : List ℕ = get_or m.windows c.args.number [] in
-    let chosen : n ≡ after_choose m u n.tidy = c.in_ok-choose_numbered-in-Chosen.ensures.ok u (slice_get-get_or m.windows c.args.number [] c.requires.there) in
+    let chosen : n ≡ after_choose m u n.tidy = (c.in_ok-choose_numbered-in-Chosen.ensures u (slice_get-get_or m.windows c.args.number [] c.requires.there)).ok in
     ap (λ (x : Meaning). x.signs) chosen
 
 pub returns-in_ok-give_up_numbered-in-Hopeless-clause-ok : goal.returns-in_ok-give_up_numbered-in-Hopeless-clause-ok
 returns-in_ok-give_up_numbered-in-Hopeless-clause-ok g c = λ u sums it.
     hopeless_one c.args.params.now (g.E.Engine.meaning c.args.engine.now) (g.E.Engine.meaning c.give_up_numbered.new.self) (record { window = u; good = sums.0; bad = sums.1 })
-    (sym (c.requires.fate u sums it) ∙ c.in-Hopeless.is) (c.in_ok-give_up_numbered-in-Hopeless.ensures.ok u it.number)
+    (sym (c.requires.fate u sums it) ∙ c.in-Hopeless.is) (c.in_ok-give_up_numbered-in-Hopeless.ensures u it.number).ok
 
 pub returns-in_ok-give_up_numbered-in-Hopeless-clause-choices : goal.returns-in_ok-give_up_numbered-in-Hopeless-clause-choices
 returns-in_ok-give_up_numbered-in-Hopeless-clause-choices g c = λ u sums it.
@@ -78,7 +78,7 @@ returns-in_ok-give_up_numbered-in-Hopeless-clause-signs g c =
     let m : Meaning = g.E.Engine.meaning c.args.engine.now in
     let n : Meaning = g.E.Engine.meaning c.give_up_numbered.new.self in
     let u : List ℕ = get_or m.windows c.args.number [] in
-    let given : n ≡ after_give_up m u n.tidy = c.in_ok-give_up_numbered-in-Hopeless.ensures.ok u (slice_get-get_or m.windows c.args.number [] c.requires.there) in
+    let given : n ≡ after_give_up m u n.tidy = (c.in_ok-give_up_numbered-in-Hopeless.ensures u (slice_get-get_or m.windows c.args.number [] c.requires.there)).ok in
     ap (λ (x : Meaning). x.signs) given
 
 pub returns-in-Left-clause-ok : goal.returns-in-Left-clause-ok

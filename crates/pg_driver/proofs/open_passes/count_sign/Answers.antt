@@ -1,4 +1,4 @@
-use Rattle.std.proofs.Common.{◌≡◌, ℕ, ◌+◌, ◌-◌, ◌≤◌, List, Bool, true, false, cond, not, length, take, drop, get_or, refl, sym, ap, subst, ◌∙◌, arith}
+use Rattle.std.proofs.Common.{◌≡◌, ℕ, ◌+◌, ◌-◌, ◌≤◌, List, Bool, true, false, cond, not, length, take, drop, get_or, refl, sym, ap, subst, ◌∙◌, arith, rules}
 use Rattle.std.proofs.lemmas.List.Elements.{All-drop, All-take}
 use Rattle.std.proofs.lemmas.Result.{IfOk-weaker, on_ok_weaker}
 use Rattle.pg_types.specs.declared.limits.TheConstants.{WEIGHT_MAX}
@@ -83,8 +83,8 @@ slice_bounds-window-end g c =
     let begins : first ≡ start_of words s.of.number + (p - pass.dot) = omega (arith, c.from.ensures, s.of.is, (fit_within (length w.signs) p pass.len pass.dot fit).0) in
     omega (arith, flat_inside words s.of.number p pass.len pass.dot first w s.of.there fit begins, c.from-2.ensures, ap (λ (xs : List ℕ). length xs) c.all_signs-signs.ensures)
 
-pub count_numbered-requires-clause-signs : goal.count_numbered-requires-clause-signs
-count_numbered-requires-clause-signs g c =
+pub count_numbered-requires : goal.count_numbered-requires
+count_numbered-requires g c =
     let m = g.E.Engine.meaning c.args.engine.now in
     let words = c.args.dictionary.now in
     let pass = c.args.pass in
@@ -98,29 +98,16 @@ count_numbered-requires-clause-signs g c =
     let lent : take (first + c.from-2.result - first) (drop first c.all_signs-signs.result.now) ≡ window w.signs p pass.len pass.dot =
     (λ i. take (long i) (drop first (c.all_signs-signs.ensures i))) ∙ flat_window words s.of.number p pass.len pass.dot first w s.of.there fit begins in
     let word = word_in words s.of.number w c.requires.words s.of.there in
+    let IsSign : ℕ → Type 0 = λ x. (1 ≤ x) × (x ≤ m.signs) in
     let signs = signs_within m.signs words s.of.number w s.of.there c.requires.signs word in
-    subst (SignsWithin m.signs) (sym lent) (All-take (λ x. (1 ≤ x) × (x ≤ m.signs)) pass.len (drop (p - pass.dot) w.signs) (All-drop (λ x. (1 ≤ x) × (x ≤ m.signs)) (p - pass.dot) w.signs signs))
-
-pub count_numbered-requires-clause-weight : goal.count_numbered-requires-clause-weight
-count_numbered-requires-clause-weight g c =
-    let words = c.args.dictionary.now in
-    let pass = c.args.pass in
-    let s = site_at words c.all_sites-sites.result.now c.args.sign (record { left = 0 }) c.all_sites-sites.ensures c.requires.within in
-    let w = s.of.word in
-    let p = s.of.at in
-    let word = word_in words s.of.number w c.requires.words s.of.there in
-    subst (λ x. x ≤ WEIGHT_MAX) (sym (weight_at words c.all_weights-weights.result.now c.args.sign 0 s.of c.all_weights-weights.ensures c.requires.words)) (weight_small w p word s.of.within)
-
-pub count_numbered-requires-clause-small : goal.count_numbered-requires-clause-small
-count_numbered-requires-clause-small g c =
-    let words = c.args.dictionary.now in
-    let pass = c.args.pass in
-    let s = site_at words c.all_sites-sites.result.now c.args.sign (record { left = 0 }) c.all_sites-sites.ensures c.requires.within in
-    let w = s.of.word in
-    let p = s.of.at in
-    let word = word_in words s.of.number w c.requires.words s.of.there in
-    room_small _ _ _ _ c.requires.room (subst (λ x. x ≤ WEIGHT_MAX) (sym (weight_at words c.all_weights-weights.result.now c.args.sign 0 s.of c.all_weights-weights.ensures c.requires.words))
-    (weight_small w p word s.of.within))
+    let light = subst (λ x. x ≤ WEIGHT_MAX) (sym (weight_at words c.all_weights-weights.result.now c.args.sign 0 s.of c.all_weights-weights.ensures c.requires.words))
+    (weight_small w p word s.of.within) in
+    record {
+      len = search rules;
+      signs = subst (SignsWithin m.signs) (sym lent) (All-take IsSign pass.len (drop (p - pass.dot) w.signs) (All-drop IsSign (p - pass.dot) w.signs signs));
+      light = light;
+      small = room_small _ _ _ _ c.requires.room light;
+    }
 
 pub returns-clause-ok : goal.returns-clause-ok
 returns-clause-ok g c =
@@ -141,7 +128,7 @@ returns-clause-ok g c =
     (get_or c.all_weights-weights.result.now c.args.sign 0) fit lent (c.is_good-good.ensures ∙ hyphens)
     (weight_at words c.all_weights-weights.result.now c.args.sign 0 s.of c.all_weights-weights.ensures c.requires.words) in
     on_ok_weaker c.count_numbered.result (λ ok. ok ∙ counted ∙ sym (ap (λ (e : WordPosition). meaning_after_counting m (counted_of pass.level pass.len pass.dot words e))
-    (place_of words c.args.sign s.of))) c.count_numbered.ensures.ok
+    (place_of words c.args.sign s.of))) c.count_numbered.ensures.counts.ok
 
 pub returns-clause-took : goal.returns-clause-took
 returns-clause-took g c =
@@ -164,7 +151,7 @@ returns-clause-took g c =
     (weight_at words c.all_weights-weights.result.now c.args.sign 0 s.of c.all_weights-weights.ensures c.requires.words) in
     let word = word_in words s.of.number w c.requires.words s.of.there in
     on_ok_weaker c.count_numbered.result (λ ok. took_entry m after pass.level pass.len pass.dot w p 1 c.requires.ranges.len_low word s.of.within c.requires.room
-    (ok ∙ counted ∙ counted_there m pass.level pass.len pass.dot words s.of.number p w s.of.there)) c.count_numbered.ensures.ok
+    (ok ∙ counted ∙ counted_there m pass.level pass.len pass.dot words s.of.number p w s.of.there)) c.count_numbered.ensures.counts.ok
 
 pub returns-clause-number : goal.returns-clause-number
 returns-clause-number g c =

@@ -66,16 +66,16 @@ pub returns-in_ok-count_open-in-Open-clause-numbers : goal.returns-in_ok-count_o
 returns-in_ok-count_open-in-Open-clause-numbers g c = λ numbered. record { reached = c.in_ok-reach-in-Open.ensures.reached; numbers = c.in_ok-count_open-in-Open.ensures.numbers }
 
 pub returns-in-EachWord-clause-did : goal.returns-in-EachWord-clause-did
-returns-in-EachWord-clause-did g c = c.count.ensures.did
+returns-in-EachWord-clause-did g c = c.count_each_word.ensures.did
 
 pub returns-in-EachWord-clause-ready : goal.returns-in-EachWord-clause-ready
-returns-in-EachWord-clause-ready g c = c.count.ensures.ready
+returns-in-EachWord-clause-ready g c = c.count_each_word.ensures.ready
 
 pub returns-in-EachWord-clause-counted : goal.returns-in-EachWord-clause-counted
-returns-in-EachWord-clause-counted g c = c.count.ensures.counted
+returns-in-EachWord-clause-counted g c = c.count_each_word.ensures.counted
 
 pub returns-in-EachWord-clause-numbers : goal.returns-in-EachWord-clause-numbers
-returns-in-EachWord-clause-numbers g c = c.count.ensures.numbers
+returns-in-EachWord-clause-numbers g c = c.count_each_word.ensures.numbers
 
 pub returns-in-EachWord-clause-signs : goal.returns-in-EachWord-clause-signs
-returns-in-EachWord-clause-signs g c = c.count.ensures.signs
+returns-in-EachWord-clause-signs g c = c.count_each_word.ensures.signs

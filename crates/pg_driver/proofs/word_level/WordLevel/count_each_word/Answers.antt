@@ -12,7 +12,7 @@ use Rattle.pg_driver.specs.Traces.{over}
 use Rattle.pg_driver.specs.Inside.WordLevels.{IsWordsAt}
 use Rattle.pg_driver.proofs.AboveNumbers.{numbered_as_counted}
 use Rattle.pg_driver.proofs.WordLevels.{words_counted}
-use Rattle.pg_driver.proofs.word_level.WordLevel.count.Goals as goal
+use Rattle.pg_driver.proofs.word_level.WordLevel.count_each_word.Goals as goal
 
 pub returns-clause-did : goal.returns-clause-did
 returns-clause-did g c =
