@@ -11,6 +11,7 @@ pub mod Lists
 pub mod Members
 pub mod Moves
 pub mod OneTrie
+pub mod Removing
 pub mod Root
 pub mod Store
 pub mod Walks

@@ -7,7 +7,7 @@ use Rattle.pg_cells.specs.Inside.Links.{unlinked}
 use Rattle.pg_cells.proofs.StringMaps.{order}
 use Rattle.pg_cells.proofs.Relinked.{links_valued}
 use Rattle.pg_cells.proofs.Unlinked.{put_plain, held_unlinked}
-use Rattle.pg_cells.proofs.linked.Cells.set_value.Goals as goal
+use Rattle.pg_cells.proofs.linked.LinkedCells.set_value.Goals as goal
 
 pub invariant_of-self : goal.invariant_of-self
 invariant_of-self g c =
