@@ -1,9 +1,11 @@
--- What adding a sign and removing one give, by the tries that the row of cells holds.
+-- What adding a sign, removing one and writing a value give, by the tries that the row of cells
+-- holds.
 use Rattle.std.proofs.Common.{◌≡◌, ℕ, List, [], ◌∷◌, ◌++◌, length, Result, Ok, Err, IfOk, OnOk, Some, refl, sym, ◌∙◌, ap, subst}
 use Rattle.std.specs.FinMap.{put}
 use Rattle.pg_types.specs.Placement.{cell_of, with_sign}
 use Rattle.pg_types.specs.Inside.Placing.{without_sign}
 use Rattle.pg_cells.specs.Inside.Adding.{CanTakeSign, AddsSign, added}
+use Rattle.pg_cells.specs.Inside.CellValues.{SetsValue}
 use Rattle.pg_cells.specs.Inside.Layouts.{IsTrie}
 use Rattle.pg_cells.specs.Inside.Lists.{Row}
 use Rattle.pg_cells.specs.Inside.Removing.{CanRemoveSign, RemovesSign}
@@ -60,3 +62,20 @@ module _ {V : Type 0} (n : ℕ) (old new : Row V) (t : Trie V) (trie : IsTrie n 
     placed_removed u same =
         subst (λ (k : ValuedFamilies V). RemovesSign k (seen n u) parent s) view
         (subst (λ (x : Trie V). RemovesSign (seen n t) (seen n x) parent s) (sym same) remove_by)
+
+module _ {V : Type 0} (n : ℕ) (old new : Row V) (t : Trie V) (trie : IsTrie n old t) (even : length new.values ≡ length new.signs) (h : ValuedFamilies V) (view : seen n t ≡ h)
+    (p : List ℕ) (cell : ℕ) (v : V) (at : cell_of t.families p ≡ Some cell) where
+  abbrev written : Trie V
+  written = record { families = t.families; values = put order p v t.values }
+
+  module _ (is : IsTrie n new written) where
+    write_by : SetsValue (seen n t) (seen n written) cell v
+    write_by = record {
+      held = λ q e. ap (λ z. record (seen n t) { values = put order z v t.values }) (cells_apart n old t trie p q cell at e);
+      kept = is_held n new written is even;
+    }
+
+    -- the value is written
+    pub placed_written : (u : Trie V) → u ≡ written → SetsValue h (seen n u) cell v
+    placed_written u same =
+        subst (λ (k : ValuedFamilies V). SetsValue k (seen n u) cell v) view (subst (λ (x : Trie V). SetsValue (seen n t) (seen n x) cell v) (sym same) write_by)

@@ -2,6 +2,7 @@
 pub mod Adding
 pub mod Blocked
 pub mod Bounds
+pub mod CellValues
 pub mod Fit
 pub mod AreValuedFamilies
 pub mod Layouts

@@ -1,6 +1,6 @@
 //! The families of a trie, each with its cells at its base.
 ghost use Rattle.std.specs.Prelude.{◌≡◌, ℕ, ◌+◌, ◌<◌, ◌≤◌, List, [], ◌∷◌, ◌++◌, Some, None, IfOk, IfSome, ◌^◌, false, true, length, slice_index, MatchBool};
-ghost use Rattle.std.specs.FinMap.{find, put};
+ghost use Rattle.std.specs.FinMap.{find};
 ghost use Rattle.std.specs.Cmp.Lexicographic.{slice_cmp};
 ghost use Rattle.std.specs.Ordering.{nat_cmp};
 ghost use Rattle.pg_types.specs.Placement.{taken_count, top, cell_of, base_of};
@@ -8,6 +8,7 @@ ghost use Rattle.pg_types.specs.Inside.Placing.{joins_at};
 ghost use Rattle.pg_cells.specs.Inside.ValuedFamilies.{ValuedFamilies};
 ghost use Rattle.pg_cells.specs.Inside.AreValuedFamilies.{AreValuedFamilies};
 ghost use Rattle.pg_cells.specs.Inside.Adding.{AddsSign, CanTakeSign};
+ghost use Rattle.pg_cells.specs.Inside.CellValues.{HasValue, IsTaken, SetsValue};
 ghost use Rattle.pg_cells.specs.Inside.Removing.{CanRemoveSign, RemovesSign};
 ghost use Rattle.pg_cells.specs.Inside.Store.{member_code};
 ghost use Rattle.pg_cells.specs.Inside.Members.{ArePassing, IsAlone, HasOther, has_sign};
@@ -110,7 +111,7 @@ impl<V: Copy, const FEW: usize> Placed<V, FEW> {
 
     /// The base of the family below the cell's string, 0 for none.
     pub fn child(&self, cell: usize) -> usize
-        requires { (q : List ℕ) × (cell_of self.now.families q ≡ Some cell) }
+        requires { IsTaken self.now.families cell }
         ensures base { (q : List ℕ) → cell_of self.now.families q ≡ Some cell →
             HasBase self.now.families q result }
     {
@@ -119,10 +120,8 @@ impl<V: Copy, const FEW: usize> Placed<V, FEW> {
 
     /// The value of the cell's string.
     pub fn value(&self, cell: usize) -> Member<V>
-        requires { (q : List ℕ) × (cell_of self.now.families q ≡ Some cell) }
-        ensures { (q : List ℕ) → cell_of self.now.families q ≡ Some cell
-            → find (slice_cmp nat_cmp) q self.now.values
-            ≡ Some result }
+        requires { IsTaken self.now.families cell }
+        ensures { HasValue self.now cell result }
     {
         self.store.value(cell)
     }
@@ -200,10 +199,8 @@ impl<V: Copy, const FEW: usize> Placed<V, FEW> {
 
     /// Gives the cell's string the value.
     pub fn set_value(&mut self, cell: usize, v: Member<V>)
-        requires { (q : List ℕ) × (cell_of self.old.families q ≡ Some cell) }
-        ensures held { (q : List ℕ) → cell_of self.old.families q ≡ Some cell →
-            self.new ≡ record self.old { values = put (slice_cmp nat_cmp) q v self.old.values } }
-        ensures kept { AreValuedFamilies self.new }
+        requires { IsTaken self.old.families cell }
+        ensures { SetsValue self.old self.new cell v }
     {
         self.store.set_value(cell, v);
     }

@@ -1,12 +1,13 @@
 //! The families of a trie with links from sign to sign.
 ghost use Rattle.std.specs.Prelude.{◌≡◌, ℕ, ◌+◌, ◌<◌, ◌≤◌, ◌^◌, List, [], ◌∷◌, ◌++◌, Some, None, IfOk, IfSome};
-ghost use Rattle.std.specs.FinMap.{find, put};
+ghost use Rattle.std.specs.FinMap.{find};
 ghost use Rattle.std.specs.Cmp.Lexicographic.{slice_cmp};
 ghost use Rattle.std.specs.Ordering.{nat_cmp};
 ghost use Rattle.pg_types.specs.Placement.{taken_count, top, cell_of, base_of};
 ghost use Rattle.pg_cells.specs.Inside.ValuedFamilies.{ValuedFamilies};
 ghost use Rattle.pg_cells.specs.Inside.AreValuedFamilies.{AreValuedFamilies};
 ghost use Rattle.pg_cells.specs.Inside.Adding.{AddsSign, CanTakeSign};
+ghost use Rattle.pg_cells.specs.Inside.CellValues.{HasValue, IsTaken, SetsValue};
 ghost use Rattle.pg_cells.specs.Inside.Removing.{CanRemoveSign, RemovesSign};
 ghost use Rattle.pg_cells.specs.Inside.Members.{IsNextSign, IsBefore};
 ghost use Rattle.pg_cells.specs.Inside.Links.{HasBase};
@@ -100,7 +101,7 @@ impl<V: Copy, const FEW: usize> LinkedCells<V, FEW> {
     /// The base of the family below the cell's string, 0 for none. It tells whether a longer string
     /// has a value.
     pub fn child(&self, cell: usize) -> usize
-        requires { (q : List ℕ) × (cell_of self.now.families q ≡ Some cell) }
+        requires { IsTaken self.now.families cell }
         ensures base { (q : List ℕ) → cell_of self.now.families q ≡ Some cell →
             HasBase self.now.families q result }
         ensures none { (q : List ℕ) → cell_of self.now.families q ≡ Some cell
@@ -114,7 +115,7 @@ impl<V: Copy, const FEW: usize> LinkedCells<V, FEW> {
 
     /// The first sign of the family below the cell's string, 0 for none.
     pub fn first_sign(&self, cell: usize) -> Sign
-        requires { (q : List ℕ) × (cell_of self.now.families q ≡ Some cell) }
+        requires { IsTaken self.now.families cell }
         ensures { (q : List ℕ) → cell_of self.now.families q ≡ Some cell
             → IsNextSign self.now.values q 0 result }
     {
@@ -123,7 +124,7 @@ impl<V: Copy, const FEW: usize> LinkedCells<V, FEW> {
 
     /// The next sign of the family that the cell is in, 0 for none.
     pub fn next_sign(&self, cell: usize) -> Sign
-        requires { (q : List ℕ) × (cell_of self.now.families q ≡ Some cell) }
+        requires { IsTaken self.now.families cell }
         ensures { (p : List ℕ) (s : ℕ) → cell_of self.now.families (p ++ s ∷ []) ≡ Some cell →
             IsNextSign self.now.values p s result }
     {
@@ -139,10 +140,8 @@ impl<V: Copy, const FEW: usize> LinkedCells<V, FEW> {
 
     /// The value of the cell's string.
     pub fn value(&self, cell: usize) -> V
-        requires { (q : List ℕ) × (cell_of self.now.families q ≡ Some cell) }
-        ensures { (q : List ℕ) → cell_of self.now.families q ≡ Some cell
-            → find (slice_cmp nat_cmp) q self.now.values
-            ≡ Some result }
+        requires { IsTaken self.now.families cell }
+        ensures { HasValue self.now cell result }
     {
         self.placed.value(cell).value
     }
@@ -209,10 +208,8 @@ impl<V: Copy, const FEW: usize> LinkedCells<V, FEW> {
 
     /// Gives the cell's string the value.
     pub fn set_value(&mut self, cell: usize, v: V)
-        requires { (q : List ℕ) × (cell_of self.old.families q ≡ Some cell) }
-        ensures held { (q : List ℕ) → cell_of self.old.families q ≡ Some cell →
-            self.new ≡ record self.old { values = put (slice_cmp nat_cmp) q v self.old.values } }
-        ensures kept { AreValuedFamilies self.new }
+        requires { IsTaken self.old.families cell }
+        ensures { SetsValue self.old self.new cell v }
     {
         let member = self.placed.value(cell);
         self.placed.set_value(cell, Member { value: v, ..member });

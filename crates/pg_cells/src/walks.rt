@@ -5,6 +5,7 @@ ghost use Rattle.std.specs.Cmp.Lexicographic.{slice_cmp};
 ghost use Rattle.std.specs.Ordering.{nat_cmp};
 ghost use Rattle.pg_types.specs.Placement.{cell_of, enter_by};
 ghost use Rattle.pg_cells.specs.Inside.AreValuedFamilies.{AreValuedFamilies};
+ghost use Rattle.pg_cells.specs.Inside.CellValues.{IsTaken};
 ghost use Rattle.pg_cells.specs.Inside.Walks.{IsAt, EndsBefore, IsKnown, Steps, AddsBlanks};
 
 use crate::LinkedCells;
@@ -43,7 +44,7 @@ fn step_or_add<V: Copy, const FEW: usize>(
     blank: V,
 ) -> Result<usize, AllocError>
     requires held { AreValuedFamilies cells.old }
-    requires parent { (q : List ℕ) × (cell_of cells.old.families q ≡ Some parent) }
+    requires parent { IsTaken cells.old.families parent }
     requires sign { (1 ≤ s) × (s ≤ cells.old.signs) }
     ensures steps { (q : List ℕ) → cell_of cells.old.families q ≡ Some parent →
         OnOk result (Steps FEW cells.old cells.new q s blank) }
