@@ -1,7 +1,7 @@
 -- A slot is added to a family: what the steps need, and what they leave.
-use Rattle.std.proofs.Common.{◌≡◌, ◌≢◌, ℕ, ◌+◌, ◌<◌, ◌≤◌, true, false, ◌&&◌, nat_eq, nat_lt, List, [], ◌∷◌, ◌++◌, length, Result, Ok, Err, IfOk, OnOk, OnErr, None, Some, ap, sym, ◌∙◌, subst}
+use Rattle.std.proofs.Common.{◌≡◌, ◌≢◌, ℕ, ◌+◌, ◌<◌, ◌≤◌, true, false, ◌&&◌, nat_eq, nat_lt, List, [], ◌∷◌, ◌++◌, length, Result, Ok, Err, OnOk, OnErr, Some, sym, ◌∙◌, subst}
 use Rattle.std.proofs.lemmas.Bool.{and_parts, and_from, ltb-true, lt-ltb, eqb-true, eq-eqb, both_ways}
-use Rattle.pg_types.specs.Placement.{Families, cell_of, with_sign}
+use Rattle.pg_types.specs.Placement.{cell_of, with_sign}
 use Rattle.pg_types.specs.Inside.Placing.{joins_at}
 use Rattle.pg_cells.specs.declared.store.fit.Slot.{Slot}
 use Rattle.pg_cells.specs.Inside.Lists.{Row, sign_at, child_at, IsFree}
@@ -9,11 +9,10 @@ use Rattle.pg_cells.specs.Inside.Store.{Extends}
 use Rattle.pg_cells.specs.Inside.Writes.{Takes}
 use Rattle.pg_cells.specs.Inside.Moves.{CanPlace, Moved, Collected}
 use Rattle.pg_cells.specs.Inside.Members.{ArePassing, has_sign}
-use Rattle.pg_cells.specs.Inside.Adding.{CanAdd, added}
+use Rattle.pg_cells.specs.Inside.Adding.{CanAdd, CanTakeSign, added}
 use Rattle.pg_cells.specs.Inside.Layouts.{IsTrie}
 use Rattle.pg_cells.specs.Inside.ValuedFamilies.{Trie, ValuedFamilies}
 use Rattle.pg_cells.proofs.AddTrie.{grown, trie_extended, joins_trie, joins_cell, joins_free, settles_can, settles_trie, settles_cell}
-use Rattle.pg_cells.proofs.StringCells.{cells_apart}
 use Rattle.pg_cells.proofs.GivenMembers.{joins_told, given_none, given_some}
 
 module _ {V : Type 0} (few n : ℕ) (old r : Row V) (t : Trie V) (p : List ℕ) (parent s : ℕ) (members : List ℕ) (can : CanAdd n old t p parent s members) (more : Extends old r)
@@ -78,22 +77,12 @@ after_held few n old new t p s v (Err e) before ok err = trie_extended n old new
 
 -- what is required of the view holds of the trie behind it
 pub can_add : {V : Type 0} (n : ℕ) (r : Row V) (t : Trie V) → IsTrie n r t → (h : ValuedFamilies V) → ◌≡◌ {A = ValuedFamilies V} (record { signs = n; families = t.families; values = t.values }) h
-    → (p q : List ℕ) (parent s : ℕ) (members : List ℕ) → cell_of h.families p ≡ Some parent → cell_of h.families (p ++ s ∷ []) ≡ None → cell_of h.families q ≡ Some parent
-    → ((q : List ℕ) → cell_of h.families q ≡ Some parent → joins_at h.families q s ≡ false → ArePassing (has_sign h.families q) members) → CanAdd n r t q parent s members
-can_add {V} n r t trie h view p q parent s members at lacks there owed =
-    let at_p : cell_of t.families p ≡ Some parent = subst (λ (k : ValuedFamilies V). cell_of k.families p ≡ Some parent) (sym view) at in
-    let at_q : cell_of t.families q ≡ Some parent = subst (λ (k : ValuedFamilies V). cell_of k.families q ≡ Some parent) (sym view) there in
-    let same : p ≡ q = cells_apart n r t trie p q parent at_p at_q in
-    let lacks_q : cell_of h.families (q ++ s ∷ []) ≡ None = subst (λ z. cell_of h.families (z ++ s ∷ []) ≡ None) same lacks in
-    record {
-      trie = trie;
-      at = at_q;
-      lacks = subst (λ (k : ValuedFamilies V). cell_of k.families (q ++ s ∷ []) ≡ None) (sym view) lacks_q;
-      are = subst (λ (k : ValuedFamilies V). joins_at k.families q s ≡ false → ArePassing (has_sign k.families q) members) (sym view) (owed q there);
-    }
-
--- the cell that is answered, in families that are the same
-pub cell_alike : {E : Type 0} (answer : Result ℕ E) (fs gs : Families) (q : List ℕ) → OnOk answer (fs ≡ gs) → IfOk answer (λ cell. cell_of gs q ≡ Some cell)
-    → IfOk answer (λ cell. cell_of fs q ≡ Some cell)
-cell_alike (Ok cell) fs gs q same at = ap (λ x. cell_of x q) same ∙ at
-cell_alike (Err e) fs gs q same at = at
+    → (parent s : ℕ) (can : CanTakeSign n t.families parent s) (members : List ℕ)
+    → ((q : List ℕ) → cell_of h.families q ≡ Some parent → joins_at h.families q s ≡ false → ArePassing (has_sign h.families q) members) → CanAdd n r t can.prefix parent s members
+can_add {V} n r t trie h view parent s can members owed = record {
+  trie = trie;
+  at = can.at;
+  lacks = can.lacks;
+  are = subst (λ (k : ValuedFamilies V). (q : List ℕ) → cell_of k.families q ≡ Some parent → joins_at k.families q s ≡ false → ArePassing (has_sign k.families q) members) (sym view) owed
+      can.prefix can.at;
+}

@@ -10,6 +10,7 @@ use Rattle.pg_cells.specs.Inside.Store.{Extends}
 use Rattle.pg_cells.specs.Inside.Writes.{Frees}
 use Rattle.pg_cells.specs.Inside.ValuedFamilies.{Trie, ValuedFamilies}
 use Rattle.pg_cells.specs.Inside.Layouts.{IsTrie, standing}
+use Rattle.pg_cells.specs.Inside.Removing.{CanRemoveSign}
 use Rattle.pg_cells.specs.Inside.Members.{IsNext, ArePassing, number_before, has_sign, IsAlone, HasOther}
 use Rattle.pg_cells.proofs.LayoutLaws.{sign_stands, taken_used}
 use Rattle.pg_cells.proofs.StringCells.{cell_parts, found_is}
@@ -129,14 +130,14 @@ module _ {V : Type 0} (few n : ℕ) (old r : Row V) (t : Trie V) (before : IsTri
       let told = subst (λ (k : ValuedFamilies V). (q : List ℕ) → cell_of k.families q ≡ Some parent → joins_at k.families q s ≡ false → ArePassing (has_sign k.families q) xs) (sym view) owed in
       told p parent_is (sym joins_told ∙ off)
 
-module _ {V : Type 0} (n : ℕ) (r : Row V) (t : Trie V) (trie : IsTrie n r t) (p : List ℕ) (parent : ℕ) (parent_is : cell_of t.families p ≡ Some parent)
-    (s cell : ℕ) (cell_is : cell_of t.families (p ++ s ∷ []) ≡ Some cell) (childless : base_of t.families (p ++ s ∷ []) ≡ None) (base : ℕ) (base_is_child : base ≡ child_at r parent) where
+module _ {V : Type 0} (n : ℕ) (r : Row V) (t : Trie V) (trie : IsTrie n r t) (parent s : ℕ) (can : CanRemoveSign t.families parent s)
+    (base : ℕ) (base_is_child : base ≡ child_at r parent) where
   -- whether a family is left without a sign, as it was told
   pub removed_alone : (h : ValuedFamilies V) → ◌≡◌ {A = ValuedFamilies V} (record { signs = n; families = t.families; values = t.values }) h → (b : Bool)
       → ((q : List ℕ) → cell_of h.families q ≡ Some parent → MatchBool b (IsAlone h.families q s) (HasOther h.families q s))
       → (freed : Row V) → Frees r freed (base + s) → MatchBool b (standing n freed base ≡ []) (standing n freed base ≢ [])
   removed_alone h view b owed freed frees =
       let told = subst (λ (k : ValuedFamilies V). (q : List ℕ) → cell_of k.families q ≡ Some parent → MatchBool b (IsAlone k.families q s) (HasOther k.families q s)) (sym view) owed in
-      let f = its_family n r t trie p parent parent_is s cell cell_is childless base base_is_child in
-      let has : base_of t.families p ≡ Some base = ap (option_map (λ (g : Family). g.base)) f.1 ∙ ap Some (base_same n r t trie p parent parent_is s cell cell_is childless base base_is_child) in
-      alone_told n r t trie p base has s freed frees b (told p parent_is)
+      let f = its_family n r t trie parent s can base base_is_child in
+      let has : base_of t.families can.prefix ≡ Some base = ap (option_map (λ (g : Family). g.base)) f.1 ∙ ap Some (base_same n r t trie parent s can base base_is_child) in
+      alone_told n r t trie can.prefix base has s freed frees b (told can.prefix can.at)

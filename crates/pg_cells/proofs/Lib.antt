@@ -20,6 +20,7 @@ pub mod Joined
 pub mod LayoutLaws
 pub mod LinkLaws
 pub mod LinkedLists
+pub mod LinkedSigns
 pub mod LinkedSteps
 pub mod LoneStore
 pub mod MoveSteps
@@ -28,6 +29,7 @@ pub mod OneSign
 pub mod Owned
 pub mod PlacedFamily
 pub mod PlacedRoom
+pub mod PlacedSigns
 pub mod PlacedValues
 pub mod PlacementLaws
 pub mod RemoveTrie

@@ -5,11 +5,12 @@ use Rattle.std.proofs.lemmas.List.{same_from_push}
 use Rattle.std.specs.List.{list_any, range_with_len}
 use Rattle.std.specs.Option.{option_map}
 use Rattle.std.specs.FinMap.{put}
-use Rattle.pg_types.specs.Placement.{Family, Families, family_at, without_family, cell_of, base_of}
+use Rattle.pg_types.specs.Placement.{Family, Families, family_at, without_family}
 use Rattle.pg_types.specs.Inside.Placing.{without_sign}
 use Rattle.pg_cells.specs.Inside.Lists.{Row, sign_at, child_at}
 use Rattle.pg_cells.specs.Inside.Writes.{Frees, SetsBase}
 use Rattle.pg_cells.specs.Inside.Moves.{Prunes}
+use Rattle.pg_cells.specs.Inside.Removing.{CanRemoveSign}
 use Rattle.pg_cells.specs.Inside.ValuedFamilies.{Trie}
 use Rattle.pg_cells.specs.Inside.Layouts.{IsTrie, standing}
 use Rattle.pg_cells.proofs.LinkedLists.{taken_within}
@@ -74,19 +75,22 @@ no_base : (o : Option Family) → option_map (λ f. f.base) o ≡ None → o ≡
 no_base None e = refl
 no_base (Some f) e = cc
 
-module _ {V : Type 0} (n : ℕ) (r : Row V) (t : Trie V) (trie : IsTrie n r t) (p : List ℕ) (parent : ℕ) (parent_is : cell_of t.families p ≡ Some parent)
-    (s cell : ℕ) (cell_is : cell_of t.families (p ++ s ∷ []) ≡ Some cell) (childless : base_of t.families (p ++ s ∷ []) ≡ None) (base : ℕ) (base_is_child : base ≡ child_at r parent) where
+module _ {V : Type 0} (n : ℕ) (r : Row V) (t : Trie V) (trie : IsTrie n r t) (parent s : ℕ) (can : CanRemoveSign t.families parent s)
+    (base : ℕ) (base_is_child : base ≡ child_at r parent) where
+  abbrev p : List ℕ
+  p = can.prefix
+
   -- the family, which has the sign
-  pub its_family : (f : Family) × (family_at t.families p ≡ Some f) × (list_any (nat_eq s) f.signs ≡ true) × (cell ≡ f.base + s)
+  pub its_family : (f : Family) × (family_at t.families p ≡ Some f) × (list_any (nat_eq s) f.signs ≡ true) × (can.cell ≡ f.base + s)
   its_family =
-      let c = cell_parts t.families (p ++ s ∷ []) cell cell_is in
+      let c = cell_parts t.families (p ++ s ∷ []) can.cell can.there in
       let parts = same_from_push p c.front s c.last c.whole in
       (c.family, ap (family_at t.families) parts.0 ∙ c.at, ap (λ x. list_any (nat_eq x) c.family.signs) parts.1 ∙ c.has, c.is ∙ ap (λ x. c.family.base + x) (sym parts.1))
 
   pub base_same : its_family.0.base ≡ base
   base_same =
       let f = its_family in
-      let told = child_is n r t trie p parent parent_is in
+      let told = child_is n r t trie p parent can.at in
       let some : Some f.0.base ≡ cond (nat_eq (child_at r parent) 0) None (Some (child_at r parent)) = sym (ap (option_map (λ (g : Family). g.base)) f.1) ∙ told in
       by (nat_eq (child_at r parent) 0) some ∙ sym base_is_child
     where
@@ -94,7 +98,7 @@ module _ {V : Type 0} (n : ℕ) (r : Row V) (t : Trie V) (trie : IsTrie n r t) (
       by true e = cc
       by false e = cc
 
-  pub cell_same : base + s ≡ cell
+  pub cell_same : base + s ≡ can.cell
   cell_same = ap (λ b. b + s) (sym base_same) ∙ sym its_family.3
 
   pub sign_taken : (0 < s) × (sign_at r (base + s) ≢ 0)
@@ -108,23 +112,23 @@ module _ {V : Type 0} (n : ℕ) (r : Row V) (t : Trie V) (trie : IsTrie n r t) (
 
   pub parent_kept : (freed : Row V) → Frees r freed (base + s) → sign_at freed parent ≢ 0
   parent_kept freed frees z =
-      cell_taken n r t trie p parent parent_is (sym (frees.elsewhere.signs parent (λ e.
-      not_longer p s (sym (cells_apart n r t trie p (p ++ s ∷ []) cell (parent_is ∙ ap Some (e ∙ cell_same)) cell_is)))) ∙ z)
+      cell_taken n r t trie p parent can.at (sym (frees.elsewhere.signs parent (λ e.
+      not_longer p s (sym (cells_apart n r t trie p (p ++ s ∷ []) can.cell (can.at ∙ ap Some (e ∙ cell_same)) can.there)))) ∙ z)
 
   pub trie_removed : (freed new : Row V) → Frees r freed (base + s) → Prunes n freed new base parent → IsTrie n new (removed t p s)
   trie_removed freed new frees prunes =
       let f = its_family in
       let here : Frees r freed (f.0.base + s) = subst (λ b. Frees r freed (b + s)) (sym base_same) frees in
-      let gone = no_base (family_at t.families (p ++ s ∷ [])) childless in
+      let gone = no_base (family_at t.families (p ++ s ∷ [])) can.childless in
       let left : signs_left s f.0.signs ≡ standing n freed base = left_stands n r freed t trie p f.0 f.1 s f.2 here.sign_is here.elsewhere.signs ∙ ap (standing n freed) base_same in
       elim prunes [
         | inl h ↦
             let some : signs_left s f.0.signs ≢ [] = λ e. h.0 (sym left ∙ e) in
             subst (λ fs. IsTrie n new (record { families = fs; values = without_key (p ++ s ∷ []) t.values })) (sym (sign_left t.families p s f.0 f.1 some))
             (subst (λ k. IsTrie n k (record { families = put order p (record { base = f.0.base; signs = signs_left s f.0.signs }) t.families; values = without_key (p ++ s ∷ []) t.values })) (sym h.1)
-            (trie_left n r freed t trie p parent parent_is f.0 f.1 s f.2 gone here some))
+            (trie_left n r freed t trie p parent can.at f.0 f.1 s f.2 gone here some))
         | inr h ↦
             let none : signs_left s f.0.signs ≡ [] = left ∙ h.1 in
             subst (λ fs. IsTrie n new (record { families = fs; values = without_key (p ++ s ∷ []) t.values })) (sym (sign_last t.families p s f.0 f.1 none))
-            (trie_gone n r freed h.0 new t trie p parent parent_is f.0 f.1 s f.2 gone here h.2 (subst (λ b. SetsBase h.0 new b false) (sym base_same) h.3) none)
+            (trie_gone n r freed h.0 new t trie p parent can.at f.0 f.1 s f.2 gone here h.2 (subst (λ b. SetsBase h.0 new b false) (sym base_same) h.3) none)
       ]

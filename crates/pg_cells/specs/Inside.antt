@@ -2,6 +2,7 @@
 pub mod Adding
 pub mod Blocked
 pub mod Bounds
+pub mod CellValues
 pub mod Fit
 pub mod AreValuedFamilies
 pub mod Layouts
@@ -11,6 +12,7 @@ pub mod Lists
 pub mod Members
 pub mod Moves
 pub mod OneTrie
+pub mod Removing
 pub mod Root
 pub mod Store
 pub mod Walks

@@ -1,12 +1,15 @@
 //! The families of a trie, each with its cells at its base.
-ghost use Rattle.std.specs.Prelude.{◌≡◌, ◌≢◌, ℕ, ◌+◌, ◌<◌, ◌≤◌, List, [], ◌∷◌, ◌++◌, Some, None, IfOk, IfSome, OnOk, OnErr, ◌==◌, ◌^◌, false, true, length, slice_index, MatchBool, if◌then◌else◌};
-ghost use Rattle.std.specs.FinMap.{find, put};
+ghost use Rattle.std.specs.Prelude.{◌≡◌, ℕ, ◌+◌, ◌<◌, ◌≤◌, List, [], ◌∷◌, ◌++◌, Some, None, IfOk, IfSome, ◌^◌, false, true, length, slice_index, MatchBool};
+ghost use Rattle.std.specs.FinMap.{find};
 ghost use Rattle.std.specs.Cmp.Lexicographic.{slice_cmp};
 ghost use Rattle.std.specs.Ordering.{nat_cmp};
-ghost use Rattle.pg_types.specs.Placement.{taken_count, top, cell_of, base_of, with_sign};
-ghost use Rattle.pg_types.specs.Inside.Placing.{joins_at, without_sign};
-ghost use Rattle.pg_cells.specs.Inside.ValuedFamilies.{ValuedFamilies, without_key};
+ghost use Rattle.pg_types.specs.Placement.{taken_count, top, cell_of, base_of};
+ghost use Rattle.pg_types.specs.Inside.Placing.{joins_at};
+ghost use Rattle.pg_cells.specs.Inside.ValuedFamilies.{ValuedFamilies};
 ghost use Rattle.pg_cells.specs.Inside.AreValuedFamilies.{AreValuedFamilies};
+ghost use Rattle.pg_cells.specs.Inside.Adding.{AddsSign, CanTakeSign};
+ghost use Rattle.pg_cells.specs.Inside.CellValues.{HasValue, IsTaken, SetsValue};
+ghost use Rattle.pg_cells.specs.Inside.Removing.{CanRemoveSign, RemovesSign};
 ghost use Rattle.pg_cells.specs.Inside.Store.{member_code};
 ghost use Rattle.pg_cells.specs.Inside.Members.{ArePassing, IsAlone, HasOther, has_sign};
 ghost use Rattle.pg_cells.specs.Inside.OneTrie.{Kept, Kept-prop};
@@ -29,8 +32,8 @@ use pg_types::{SIGNS_MAX, Sign};
 use std::alloc::{AllocError, Global};
 use std::marker::Model;
 
-/// Families of cells, each cell with a value, placed as [`Cells`](crate::Cells) says. The links
-/// from sign to sign are a part of the values here.
+/// Families of cells, each cell with a value, placed as [`LinkedCells`](crate::LinkedCells) says.
+/// The links from sign to sign are a part of the values here.
 #[derive(Drop)]
 pub struct Placed<V: Copy, const FEW: usize> {
     signs: u16,
@@ -108,7 +111,7 @@ impl<V: Copy, const FEW: usize> Placed<V, FEW> {
 
     /// The base of the family below the cell's string, 0 for none.
     pub fn child(&self, cell: usize) -> usize
-        requires { (q : List ℕ) × (cell_of self.now.families q ≡ Some cell) }
+        requires { IsTaken self.now.families cell }
         ensures base { (q : List ℕ) → cell_of self.now.families q ≡ Some cell →
             HasBase self.now.families q result }
     {
@@ -117,10 +120,8 @@ impl<V: Copy, const FEW: usize> Placed<V, FEW> {
 
     /// The value of the cell's string.
     pub fn value(&self, cell: usize) -> Member<V>
-        requires { (q : List ℕ) × (cell_of self.now.families q ≡ Some cell) }
-        ensures { (q : List ℕ) → cell_of self.now.families q ≡ Some cell
-            → find (slice_cmp nat_cmp) q self.now.values
-            ≡ Some result }
+        requires { IsTaken self.now.families cell }
+        ensures { HasValue self.now cell result }
     {
         self.store.value(cell)
     }
@@ -140,9 +141,7 @@ impl<V: Copy, const FEW: usize> Placed<V, FEW> {
 
     /// Whether the sign joins the family below the parent's string in place.
     pub fn is_joining(&self, parent: usize, s: Sign) -> bool
-        requires parent { (q : List ℕ) × ((cell_of self.now.families q ≡ Some parent)
-            × (cell_of self.now.families (q ++ s ∷ []) ≡ None)) }
-        requires sign { (1 ≤ s) × (s ≤ self.now.signs) }
+        requires { CanTakeSign self.now.signs self.now.families parent s }
         ensures { (q : List ℕ) → cell_of self.now.families q ≡ Some parent
             → result ≡ joins_at self.now.families q s }
     {
@@ -151,8 +150,8 @@ impl<V: Copy, const FEW: usize> Placed<V, FEW> {
     }
 
     /// Adds the sign to the family below the parent's string, with the value, and gives its cell,
-    /// as [`Cells::add`](crate::Cells::add) does. The members are the family's signs, where the
-    /// sign does not join it in place.
+    /// as [`LinkedCells::add`](crate::LinkedCells::add) does. The members are the family's signs,
+    /// where the sign does not join it in place.
     pub fn add(
         &mut self,
         parent: usize,
@@ -160,25 +159,12 @@ impl<V: Copy, const FEW: usize> Placed<V, FEW> {
         v: Member<V>,
         members: &[Sign],
     ) -> Result<usize, AllocError>
-        requires parent { (q : List ℕ) × ((cell_of self.old.families q ≡ Some parent)
-            × (cell_of self.old.families (q ++ s ∷ []) ≡ None)) }
-        requires sign { (1 ≤ s) × (s ≤ self.old.signs) }
+        requires can { CanTakeSign self.old.signs self.old.families parent s }
         requires positive { (k : ℕ) → k < length members.now → 0 < slice_index members.now k }
         requires members { (q : List ℕ) → cell_of self.old.families q ≡ Some parent →
             joins_at self.old.families q s ≡ false
             → ArePassing (has_sign self.old.families q) members.now }
-        ensures held { (q : List ℕ) → cell_of self.old.families q ≡ Some parent →
-            OnOk result (self.new ≡ record self.old {
-              families = with_sign FEW self.old.signs self.old.families q s;
-              values = put (slice_cmp nat_cmp) (q ++ s ∷ []) v self.old.values;
-            }) }
-        ensures cell { (q : List ℕ) → cell_of self.old.families q ≡ Some parent →
-            IfOk result (λ cell. cell_of self.new.families (q ++ s ∷ []) ≡ Some cell) }
-        ensures cells { (q : List ℕ) → cell_of self.old.families q ≡ Some parent →
-            OnOk result ((p : List ℕ) → ((x : ℕ) → p ≢ q ++ x ∷ []) →
-            cell_of self.new.families p ≡ cell_of self.old.families p) }
-        ensures kept { OnOk result (AreValuedFamilies self.new) }
-        ensures err { OnErr result (self.new ≡ self.old) }
+        ensures { AddsSign FEW self.old self.new parent s v result }
     {
         let slot = Slot {
             value: v,
@@ -201,21 +187,10 @@ impl<V: Copy, const FEW: usize> Placed<V, FEW> {
     /// family has no other sign. A family without a sign is gone. Every other string keeps its
     /// cell.
     pub fn remove(&mut self, parent: usize, s: Sign, is_alone: bool)
-        requires parent { (q : List ℕ) × (cell : ℕ)
-            × ((cell_of self.old.families q ≡ Some parent)
-            × (cell_of self.old.families (q ++ s ∷ []) ≡ Some cell)
-            × (base_of self.old.families (q ++ s ∷ []) ≡ None)) }
+        requires can { CanRemoveSign self.old.families parent s }
         requires alone { (q : List ℕ) → cell_of self.old.families q ≡ Some parent →
             MatchBool is_alone (IsAlone self.old.families q s) (HasOther self.old.families q s) }
-        ensures held { (q : List ℕ) → cell_of self.old.families q ≡ Some parent →
-            self.new ≡ record self.old {
-              families = without_sign self.old.families q s;
-              values = without_key (q ++ s ∷ []) self.old.values;
-            } }
-        ensures cells { (q : List ℕ) → cell_of self.old.families q ≡ Some parent
-            → (p : List ℕ) → p ≢ q ++ s ∷ [] →
-            cell_of self.new.families p ≡ cell_of self.old.families p }
-        ensures kept { AreValuedFamilies self.new }
+        ensures { RemovesSign self.old self.new parent s }
     {
         let base = self.store.child(parent);
         self.store.free(base + s as usize);
@@ -224,10 +199,8 @@ impl<V: Copy, const FEW: usize> Placed<V, FEW> {
 
     /// Gives the cell's string the value.
     pub fn set_value(&mut self, cell: usize, v: Member<V>)
-        requires { (q : List ℕ) × (cell_of self.old.families q ≡ Some cell) }
-        ensures held { (q : List ℕ) → cell_of self.old.families q ≡ Some cell →
-            self.new ≡ record self.old { values = put (slice_cmp nat_cmp) q v self.old.values } }
-        ensures kept { AreValuedFamilies self.new }
+        requires { IsTaken self.old.families cell }
+        ensures { SetsValue self.old self.new cell v }
     {
         self.store.set_value(cell, v);
     }

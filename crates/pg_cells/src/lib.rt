@@ -27,5 +27,5 @@ mod linked;
 mod store;
 mod walks;
 
-pub use linked::Cells;
+pub use linked::{Cells, LinkedCells, NearCells};
 pub use walks::{enter, step};

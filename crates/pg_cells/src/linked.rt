@@ -1,13 +1,16 @@
 //! The families of a trie with links from sign to sign.
-ghost use Rattle.std.specs.Prelude.{◌≡◌, ◌≢◌, ℕ, ◌+◌, ◌<◌, ◌≤◌, ◌^◌, List, [], ◌∷◌, ◌++◌, Some, None, IfOk, IfSome, OnOk, OnErr, ◌==◌, if◌then◌else◌};
-ghost use Rattle.std.specs.FinMap.{find, put};
+ghost use Rattle.std.specs.Prelude.{◌≡◌, ℕ, ◌+◌, ◌<◌, ◌≤◌, ◌^◌, List, [], ◌∷◌, ◌++◌, Some, None, IfOk, IfSome};
+ghost use Rattle.std.specs.FinMap.{find};
 ghost use Rattle.std.specs.Cmp.Lexicographic.{slice_cmp};
 ghost use Rattle.std.specs.Ordering.{nat_cmp};
-ghost use Rattle.pg_types.specs.Placement.{taken_count, top, cell_of, base_of, with_sign};
-ghost use Rattle.pg_types.specs.Inside.Placing.{without_sign};
-ghost use Rattle.pg_cells.specs.Inside.ValuedFamilies.{ValuedFamilies, without_key};
+ghost use Rattle.pg_types.specs.Placement.{taken_count, top, cell_of, base_of};
+ghost use Rattle.pg_cells.specs.Inside.ValuedFamilies.{ValuedFamilies};
 ghost use Rattle.pg_cells.specs.Inside.AreValuedFamilies.{AreValuedFamilies};
+ghost use Rattle.pg_cells.specs.Inside.Adding.{AddsSign, CanTakeSign};
+ghost use Rattle.pg_cells.specs.Inside.CellValues.{HasValue, IsTaken, SetsValue};
+ghost use Rattle.pg_cells.specs.Inside.Removing.{CanRemoveSign, RemovesSign};
 ghost use Rattle.pg_cells.specs.Inside.Members.{IsNextSign, IsBefore};
+ghost use Rattle.pg_cells.specs.Inside.Links.{HasBase};
 ghost use Rattle.pg_cells.specs.Inside.Root.{root_held};
 ghost use Rattle.pg_cells.specs.Inside.Walks.{EndsBefore};
 
@@ -16,21 +19,29 @@ mod links;
 use crate::families::Placed;
 use crate::linked::links::{is_alone, link, list_moving, sign_after, sign_before};
 use crate::store::member::Member;
-use pg_types::{SIGNS_MAX, Sign};
+use pg_types::{FEW_SIGNS, SIGNS_MAX, Sign};
 use std::alloc::{AllocError, Global};
 use std::marker::Model;
 
 /// Families of cells, each cell with a value. The base of a family of up to `FEW` signs is sought
 /// from 1 on. For a greater one the search begins some way below the greatest taken cell. With
-/// `FEW` 4 this is the rule for patterns. With `FEW` 0 each search begins a little below that cell,
-/// and is short.
+/// `FEW` 0 it begins a little below that cell for each family, and is short.
 #[derive(Drop)]
-pub struct Cells<V: Copy, const FEW: usize> {
+pub struct LinkedCells<V: Copy, const FEW: usize> {
     placed: Placed<V, FEW>,
     members: Vec<Sign>,
 }
 
-impl<V: Copy, const FEW: usize> Model for Cells<V, FEW> {
+/// Cells whose families lie where the rule for patterns puts them.
+pub type Cells<V> = LinkedCells<V, FEW_SIGNS>;
+
+/// Cells whose families all lie near the greatest taken cell.
+pub type NearCells<V> = LinkedCells<V, NO_SIGNS>;
+
+// No family has so few signs that its base is sought from 1 on.
+const NO_SIGNS: usize = 0;
+
+impl<V: Copy, const FEW: usize> Model for LinkedCells<V, FEW> {
     ghost use Rattle.pg_cells.specs.Inside.ValuedFamilies.{ValuedFamilies, valued_families_code};
     ghost use Rattle.pg_cells.specs.Inside.Links.{unlinked, AreLinks};
 
@@ -43,15 +54,15 @@ impl<V: Copy, const FEW: usize> Model for Cells<V, FEW> {
     ghost invariant = { λ c. AreLinks c.placed };
 }
 
-impl<V: Copy, const FEW: usize> Cells<V, FEW> {
+impl<V: Copy, const FEW: usize> LinkedCells<V, FEW> {
     /// The root family alone, each value `blank`.
-    pub fn new(alloc: Global, signs: u16, blank: V) -> Result<Cells<V, FEW>, AllocError>
+    pub fn new(alloc: Global, signs: u16, blank: V) -> Result<LinkedCells<V, FEW>, AllocError>
         requires { (1 ≤ signs) × (signs ≤ SIGNS_MAX) }
         ensures held { IfOk result (λ c. c ≡ root_held signs blank) }
         ensures kept { IfOk result (λ c. AreValuedFamilies c) }
     {
         let placed = Placed::new(alloc, signs, Member::alone(blank))?;
-        Ok(Cells {
+        Ok(LinkedCells {
             placed,
             members: Vec::new(alloc),
         })
@@ -90,9 +101,9 @@ impl<V: Copy, const FEW: usize> Cells<V, FEW> {
     /// The base of the family below the cell's string, 0 for none. It tells whether a longer string
     /// has a value.
     pub fn child(&self, cell: usize) -> usize
-        requires { (q : List ℕ) × (cell_of self.now.families q ≡ Some cell) }
+        requires { IsTaken self.now.families cell }
         ensures base { (q : List ℕ) → cell_of self.now.families q ≡ Some cell →
-            base_of self.now.families q ≡ (if result == 0 then None else Some result) }
+            HasBase self.now.families q result }
         ensures none { (q : List ℕ) → cell_of self.now.families q ≡ Some cell
             → result ≡ 0 → (x : ℕ) →
             EndsBefore self.now.values (q ++ x ∷ []) }
@@ -104,7 +115,7 @@ impl<V: Copy, const FEW: usize> Cells<V, FEW> {
 
     /// The first sign of the family below the cell's string, 0 for none.
     pub fn first_sign(&self, cell: usize) -> Sign
-        requires { (q : List ℕ) × (cell_of self.now.families q ≡ Some cell) }
+        requires { IsTaken self.now.families cell }
         ensures { (q : List ℕ) → cell_of self.now.families q ≡ Some cell
             → IsNextSign self.now.values q 0 result }
     {
@@ -113,7 +124,7 @@ impl<V: Copy, const FEW: usize> Cells<V, FEW> {
 
     /// The next sign of the family that the cell is in, 0 for none.
     pub fn next_sign(&self, cell: usize) -> Sign
-        requires { (q : List ℕ) × (cell_of self.now.families q ≡ Some cell) }
+        requires { IsTaken self.now.families cell }
         ensures { (p : List ℕ) (s : ℕ) → cell_of self.now.families (p ++ s ∷ []) ≡ Some cell →
             IsNextSign self.now.values p s result }
     {
@@ -129,10 +140,8 @@ impl<V: Copy, const FEW: usize> Cells<V, FEW> {
 
     /// The value of the cell's string.
     pub fn value(&self, cell: usize) -> V
-        requires { (q : List ℕ) × (cell_of self.now.families q ≡ Some cell) }
-        ensures { (q : List ℕ) → cell_of self.now.families q ≡ Some cell
-            → find (slice_cmp nat_cmp) q self.now.values
-            ≡ Some result }
+        requires { IsTaken self.now.families cell }
+        ensures { HasValue self.now cell result }
     {
         self.placed.value(cell).value
     }
@@ -155,21 +164,8 @@ impl<V: Copy, const FEW: usize> Cells<V, FEW> {
     /// that was got before may then be that of another string's cell. The parent and each other
     /// string outside of the family keep their cells.
     pub fn add(&mut self, parent: usize, s: Sign, v: V) -> Result<usize, AllocError>
-        requires parent { (q : List ℕ) × ((cell_of self.old.families q ≡ Some parent)
-            × (cell_of self.old.families (q ++ s ∷ []) ≡ None)) }
-        requires sign { (1 ≤ s) × (s ≤ self.old.signs) }
-        ensures held { (q : List ℕ) → cell_of self.old.families q ≡ Some parent →
-            OnOk result (self.new ≡ record self.old {
-              families = with_sign FEW self.old.signs self.old.families q s;
-              values = put (slice_cmp nat_cmp) (q ++ s ∷ []) v self.old.values;
-            }) }
-        ensures cell { (q : List ℕ) → cell_of self.old.families q ≡ Some parent →
-            IfOk result (λ cell. cell_of self.new.families (q ++ s ∷ []) ≡ Some cell) }
-        ensures cells { (q : List ℕ) → cell_of self.old.families q ≡ Some parent →
-            OnOk result ((p : List ℕ) → ((x : ℕ) → p ≢ q ++ x ∷ []) →
-            cell_of self.new.families p ≡ cell_of self.old.families p) }
-        ensures kept { OnOk result (AreValuedFamilies self.new) }
-        ensures err { OnErr result (self.new ≡ self.old) }
+        requires { CanTakeSign self.old.signs self.old.families parent s }
+        ensures { AddsSign FEW self.old self.new parent s v result }
     {
         let base = self.placed.child(parent);
         let before = sign_before(&self.placed, parent, base, s);
@@ -188,43 +184,21 @@ impl<V: Copy, const FEW: usize> Cells<V, FEW> {
     /// Takes the sign away from the family below the parent's string. A family without a sign is
     /// gone. Every other string keeps its cell.
     pub fn remove(&mut self, parent: usize, s: Sign)
-        requires parent { (q : List ℕ) × (cell : ℕ)
-            × ((cell_of self.old.families q ≡ Some parent)
-            × (cell_of self.old.families (q ++ s ∷ []) ≡ Some cell)
-            × (base_of self.old.families (q ++ s ∷ []) ≡ None)) }
-        ensures held { (q : List ℕ) → cell_of self.old.families q ≡ Some parent →
-            self.new ≡ record self.old {
-              families = without_sign self.old.families q s;
-              values = without_key (q ++ s ∷ []) self.old.values;
-            } }
-        ensures cells { (q : List ℕ) → cell_of self.old.families q ≡ Some parent
-            → (p : List ℕ) → p ≢ q ++ s ∷ [] →
-            cell_of self.new.families p ≡ cell_of self.old.families p }
-        ensures kept { AreValuedFamilies self.new }
+        requires { CanRemoveSign self.old.families parent s }
+        ensures { RemovesSign self.old self.new parent s }
     {
         let base = self.placed.child(parent);
         let before = sign_before(&self.placed, parent, base, s);
         self.remove_behind(parent, before, s);
     }
 
-    /// Takes the sign away as [`Cells::remove`] does, where `before` is the sign before it in its
-    /// family, 0 for none. So that one is not sought.
+    /// Takes the sign away as [`LinkedCells::remove`] does, where `before` is the sign before it in
+    /// its family, 0 for none. So that one is not sought.
     pub fn remove_behind(&mut self, parent: usize, before: Sign, s: Sign)
-        requires parent { (q : List ℕ) × (cell : ℕ)
-            × ((cell_of self.old.families q ≡ Some parent)
-            × (cell_of self.old.families (q ++ s ∷ []) ≡ Some cell)
-            × (base_of self.old.families (q ++ s ∷ []) ≡ None)) }
+        requires can { CanRemoveSign self.old.families parent s }
         requires before { (q : List ℕ) → cell_of self.old.families q ≡ Some parent →
             IsBefore self.old.values q s before }
-        ensures held { (q : List ℕ) → cell_of self.old.families q ≡ Some parent →
-            self.new ≡ record self.old {
-              families = without_sign self.old.families q s;
-              values = without_key (q ++ s ∷ []) self.old.values;
-            } }
-        ensures cells { (q : List ℕ) → cell_of self.old.families q ≡ Some parent
-            → (p : List ℕ) → p ≢ q ++ s ∷ [] →
-            cell_of self.new.families p ≡ cell_of self.old.families p }
-        ensures kept { AreValuedFamilies self.new }
+        ensures { RemovesSign self.old self.new parent s }
     {
         let base = self.placed.child(parent);
         let after = sign_after(&self.placed, parent, base, s);
@@ -234,10 +208,8 @@ impl<V: Copy, const FEW: usize> Cells<V, FEW> {
 
     /// Gives the cell's string the value.
     pub fn set_value(&mut self, cell: usize, v: V)
-        requires { (q : List ℕ) × (cell_of self.old.families q ≡ Some cell) }
-        ensures held { (q : List ℕ) → cell_of self.old.families q ≡ Some cell →
-            self.new ≡ record self.old { values = put (slice_cmp nat_cmp) q v self.old.values } }
-        ensures kept { AreValuedFamilies self.new }
+        requires { IsTaken self.old.families cell }
+        ensures { SetsValue self.old self.new cell v }
     {
         let member = self.placed.value(cell);
         self.placed.set_value(cell, Member { value: v, ..member });

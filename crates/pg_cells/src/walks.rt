@@ -5,16 +5,17 @@ ghost use Rattle.std.specs.Cmp.Lexicographic.{slice_cmp};
 ghost use Rattle.std.specs.Ordering.{nat_cmp};
 ghost use Rattle.pg_types.specs.Placement.{cell_of, enter_by};
 ghost use Rattle.pg_cells.specs.Inside.AreValuedFamilies.{AreValuedFamilies};
+ghost use Rattle.pg_cells.specs.Inside.CellValues.{IsTaken};
 ghost use Rattle.pg_cells.specs.Inside.Walks.{IsAt, EndsBefore, IsKnown, Steps, AddsBlanks};
 
-use crate::Cells;
+use crate::LinkedCells;
 use pg_types::Sign;
 use std::alloc::AllocError;
 
 /// Goes from a cell, or from the start for `None`, to the cell of the string with the sign added.
 /// `None` tells that no string that begins with this one has a value.
 pub fn step<V: Copy, const FEW: usize>(
-    cells: &Cells<V, FEW>,
+    cells: &LinkedCells<V, FEW>,
     at: Option<usize>,
     s: Sign,
 ) -> Option<usize>
@@ -37,13 +38,13 @@ pub fn step<V: Copy, const FEW: usize>(
 
 // Goes from a cell to that of its string with the sign added, which is new where no string has it.
 fn step_or_add<V: Copy, const FEW: usize>(
-    cells: &mut Cells<V, FEW>,
+    cells: &mut LinkedCells<V, FEW>,
     parent: usize,
     s: Sign,
     blank: V,
 ) -> Result<usize, AllocError>
     requires held { AreValuedFamilies cells.old }
-    requires parent { (q : List ℕ) × (cell_of cells.old.families q ≡ Some parent) }
+    requires parent { IsTaken cells.old.families parent }
     requires sign { (1 ≤ s) × (s ≤ cells.old.signs) }
     ensures steps { (q : List ℕ) → cell_of cells.old.families q ≡ Some parent →
         OnOk result (Steps FEW cells.old cells.new q s blank) }
@@ -62,7 +63,10 @@ fn step_or_add<V: Copy, const FEW: usize>(
 
 // How many signs the longest prefix has that has a cell, and its cell. It only reads, so the walk
 // is short.
-fn known_prefix<V: Copy, const FEW: usize>(cells: &Cells<V, FEW>, signs: &[Sign]) -> (usize, usize)
+fn known_prefix<V: Copy, const FEW: usize>(
+    cells: &LinkedCells<V, FEW>,
+    signs: &[Sign],
+) -> (usize, usize)
     requires some { 0 < length signs.now }
     requires signs { All (λ s. (1 ≤ s) × (s ≤ cells.now.signs)) signs.now }
     ensures count { (0 < result.0) × (result.0 ≤ length signs.now) }
@@ -86,7 +90,7 @@ fn known_prefix<V: Copy, const FEW: usize>(cells: &Cells<V, FEW>, signs: &[Sign]
 /// Refused, as memory is short: a shorter prefix of the string is entered, and the rest is not. A
 /// string that has its cell already is never refused.
 pub fn enter<V: Copy, const FEW: usize>(
-    cells: &mut Cells<V, FEW>,
+    cells: &mut LinkedCells<V, FEW>,
     signs: &[Sign],
     blank: V,
 ) -> Result<usize, AllocError>

@@ -1,11 +1,14 @@
 //! The cells of strings of which some are counted.
-ghost use Rattle.std.specs.Prelude.{◌≡◌, ◌+◌, ◌<◌, ◌≤◌, ◌==◌, ◌⊎◌, true, ℕ, List, [], ◌∷◌, ◌++◌, length, IsTrue, ◌↔◌, Some, None, IfOk, OnOk, OnErr, if◌then◌else◌};
+ghost use Rattle.std.specs.Prelude.{◌≡◌, ◌+◌, ◌<◌, ◌≤◌, ◌⊎◌, true, ℕ, List, [], ◌∷◌, ◌++◌, length, IsTrue, ◌↔◌, Some, None, IfOk, OnOk, OnErr};
 ghost use Rattle.std.specs.FinMap.{find, put};
 ghost use Rattle.std.specs.Cmp.Lexicographic.{slice_cmp};
 ghost use Rattle.std.specs.Ordering.{nat_cmp};
 ghost use Rattle.pg_types.specs.declared.limits.TheConstants.{SIGNS_MAX};
 ghost use Rattle.pg_types.specs.Placement.{cell_of, base_of};
+ghost use Rattle.pg_cells.specs.Inside.Adding.{CanTakeSign};
 ghost use Rattle.pg_cells.specs.Inside.AreValuedFamilies.{AreValuedFamilies};
+ghost use Rattle.pg_cells.specs.Inside.CellValues.{HasValue, IsTaken};
+ghost use Rattle.pg_cells.specs.Inside.Links.{HasBase};
 ghost use Rattle.pg_cells.specs.Inside.Members.{IsNextSign};
 ghost use Rattle.pg_cells.specs.Inside.Root.{root_held};
 ghost use Rattle.pg_cells.specs.Inside.Walks.{IsAt};
@@ -16,13 +19,10 @@ ghost use Rattle.pg_count.specs.declared.tally_list.TheConstants.{NUMBERS_END};
 use crate::tally_list::{
     NOT_COUNTED, NUMBERS_END, push_sums, set_sums_at, sums_at, tally_by_number,
 };
-use pg_cells::Cells;
+use pg_cells::NearCells;
 use pg_types::Sign;
 use std::alloc::{AllocError, Global};
 use std::marker::Model;
-
-/// Each family of the windows is placed near the top, since no report tells their layout.
-const FEW_SIGNS: usize = 0;
 
 /// The cells of a pass stay for the next one where they are at most so many times its counted
 /// strings.
@@ -34,14 +34,14 @@ const LATEST_FIRST: u32 = NUMBERS_END / 2;
 
 /// Cells of strings, each with its sums where it is counted. The cell of a string has the number of
 /// its tally, and the tallies stand in a list of their own, since most cells are of strings that
-/// are not counted.
+/// are not counted. Each family lies near the top, since no report tells the layout.
 ///
 /// The tally at index i has the number `first` + i. A number below `first` is of an earlier pass,
 /// and says that the string is not counted. So a pass that keeps the cells begins without a walk
 /// over them.
 #[derive(Drop)]
 pub struct CountedCells {
-    cells: Cells<u32, FEW_SIGNS>,
+    cells: NearCells<u32>,
     tallies: Vec<(u64, u64)>,
     first: u32,
 }
@@ -69,7 +69,7 @@ impl CountedCells {
         ensures held { IfOk result (λ t. t ≡ root_held signs None) }
         ensures kept { IfOk result (λ t. AreValuedFamilies t) }
     {
-        let cells = Cells::new(alloc, signs, NOT_COUNTED)?;
+        let cells = NearCells::new(alloc, signs, NOT_COUNTED)?;
         let tallies = Vec::new(alloc);
         Ok(CountedCells {
             cells,
@@ -122,16 +122,16 @@ impl CountedCells {
 
     /// The base of the family below the cell's string, 0 for none.
     pub fn child(&self, cell: usize) -> usize
-        requires { (q : List ℕ) × (cell_of self.now.families q ≡ Some cell) }
+        requires { IsTaken self.now.families cell }
         ensures { (q : List ℕ) → cell_of self.now.families q ≡ Some cell →
-            base_of self.now.families q ≡ (if result == 0 then None else Some result) }
+            HasBase self.now.families q result }
     {
         self.cells.child(cell)
     }
 
     /// The first sign of the family below the cell's string, 0 for none.
     pub fn first_sign(&self, cell: usize) -> Sign
-        requires { (q : List ℕ) × (cell_of self.now.families q ≡ Some cell) }
+        requires { IsTaken self.now.families cell }
         ensures { (q : List ℕ) → cell_of self.now.families q ≡ Some cell
             → IsNextSign self.now.values q 0 result }
     {
@@ -140,7 +140,7 @@ impl CountedCells {
 
     /// The next sign of the family that the cell is in, 0 for none.
     pub fn next_sign(&self, cell: usize) -> Sign
-        requires { (q : List ℕ) × (cell_of self.now.families q ≡ Some cell) }
+        requires { IsTaken self.now.families cell }
         ensures { (p : List ℕ) (s : ℕ) → cell_of self.now.families (p ++ s ∷ []) ≡ Some cell →
             IsNextSign self.now.values p s result }
     {
@@ -160,10 +160,8 @@ impl CountedCells {
 
     /// The number and the sums of the cell's string, or `None` where it is not counted.
     pub fn number_and_sums(&self, cell: usize) -> Option<(u32, (u64, u64))>
-        requires { (q : List ℕ) × (cell_of self.now.families q ≡ Some cell) }
-        ensures { (q : List ℕ) → cell_of self.now.families q ≡ Some cell
-            → find (slice_cmp nat_cmp) q self.now.values
-            ≡ Some result }
+        requires { IsTaken self.now.families cell }
+        ensures { HasValue self.now cell result }
     {
         tally_by_number(self.tallies.as_slice(), self.first, self.cells.value(cell))
     }
@@ -183,9 +181,7 @@ impl CountedCells {
     /// the sign is not counted. The number of a cell of this family that was got before may then be
     /// that of another string's cell. Refused: nothing changes.
     pub fn add(&mut self, parent: usize, s: Sign) -> Result<usize, AllocError>
-        requires parent { (q : List ℕ) × ((cell_of self.old.families q ≡ Some parent)
-            × (cell_of self.old.families (q ++ s ∷ []) ≡ None)) }
-        requires sign { (1 ≤ s) × (s ≤ self.old.signs) }
+        requires { CanTakeSign self.old.signs self.old.families parent s }
         ensures held { (q : List ℕ) → cell_of self.old.families q ≡ Some parent
             → OnOk result (Adds self.old self.new q s) }
         ensures cell { (q : List ℕ) → cell_of self.old.families q ≡ Some parent →
@@ -260,7 +256,7 @@ impl CountedCells {
 
 // The number of the first tally of the next pass, past each number in the cells. It is `next`, and
 // each string keeps its cell; or the numbers begin again from 1, and each sign alone has a cell.
-fn first_after(cells: &mut Cells<u32, FEW_SIGNS>, next: u32, keeps: bool) -> u32
+fn first_after(cells: &mut NearCells<u32>, next: u32, keeps: bool) -> u32
     requires held { AreValuedFamilies cells.old }
     requires positive { 1 ≤ next }
     requires few { next ≤ NUMBERS_END }

@@ -4,6 +4,7 @@ ghost use Rattle.std.specs.Prelude.{◌≡◌, ◌≢◌, ℕ, ◌<◌, ◌≤�
 ghost use Rattle.pg_types.specs.Placement.{cell_of};
 ghost use Rattle.pg_types.specs.Inside.Placing.{joins_at};
 ghost use Rattle.pg_cells.specs.Inside.AreValuedFamilies.{AreValuedFamilies};
+ghost use Rattle.pg_cells.specs.Inside.CellValues.{IsTaken};
 ghost use Rattle.pg_cells.specs.Inside.Members.{IsNextSign, IsBefore, goes_on, has_sign, ArePassing};
 ghost use Rattle.pg_cells.specs.Inside.Links.{AreLinks, HasBase, with_link};
 
@@ -176,7 +177,7 @@ pub fn is_alone(before: Sign, after: Sign) -> bool
 
 // Makes `to` the first sign of the family below the parent's string.
 fn set_first<V: Copy, const FEW: usize>(cells: &mut Placed<V, FEW>, parent: usize, to: Sign)
-    requires { (q : List ℕ) × (cell_of cells.old.families q ≡ Some parent) }
+    requires { IsTaken cells.old.families parent }
     ensures linked { (q : List ℕ) → cell_of cells.old.families q ≡ Some parent →
         cells.new ≡ with_link cells.old q 0 to }
     ensures kept { AreValuedFamilies cells.new }
@@ -193,7 +194,7 @@ fn set_first<V: Copy, const FEW: usize>(cells: &mut Placed<V, FEW>, parent: usiz
 
 // Makes `to` the sign behind that of the cell.
 fn set_next<V: Copy, const FEW: usize>(cells: &mut Placed<V, FEW>, cell: usize, to: Sign)
-    requires { (q : List ℕ) × (cell_of cells.old.families q ≡ Some cell) }
+    requires { IsTaken cells.old.families cell }
     ensures linked { (q : List ℕ) (s : ℕ) → s ≢ 0 →
         cell_of cells.old.families (q ++ s ∷ []) ≡ Some cell →
         cells.new ≡ with_link cells.old q s to }

@@ -5,12 +5,17 @@ use Rattle.pg_count.proofs.Parting.{added_free}
 use Rattle.pg_count.proofs.Ways.{ends_none}
 use Rattle.pg_count.proofs.leaf.add_next.Goals as goal
 
-pub add-requires-clause-parent : goal.add-requires-clause-parent
-add-requires-clause-parent c =
-    let q = take c.args.way.at c.args.window.now in (
-      q,
-      (c.requires.way.there, ends_none c.args.cells.now c.requires.leaves.1.held (q ++ get_or c.args.window.now c.args.way.at 0 ∷ []) (c.requires.way.ends c.requires.less)),
-    )
+pub add-requires : goal.add-requires
+add-requires c =
+    let q = take c.args.way.at c.args.window.now in
+    let s = get_or c.args.window.now c.args.way.at 0 in
+    record {
+      prefix = q;
+      at = c.requires.way.there;
+      lacks = ends_none c.args.cells.now c.requires.leaves.1.held (q ++ s ∷ []) (c.requires.way.ends c.requires.less);
+      low = (c.requires.signs c.args.way.at 0 c.requires.less).0;
+      high = (c.requires.signs c.args.way.at 0 c.requires.less).1;
+    }
 
 pub returns-clause-leaves : goal.returns-clause-leaves
 returns-clause-leaves c windows are =

@@ -10,7 +10,16 @@ returns-clause-signs g c q e no_join =
     passing_alike (goes_on h.values q) (has_sign h.families q) c.list_signs.new.signs.items (λ z up. goes_has h c.requires.links.held q z) (c.in_ok-list_signs.ensures.signs q e)
 
 pub is_joining-requires : goal.is_joining-requires
-is_joining-requires g c = (omega arith, ((c.requires.parent.0, (c.requires.parent.1.0, c.requires.parent.1.1)), c.requires.sign))
+is_joining-requires g c = (
+  omega arith,
+  record {
+    prefix = c.requires.parent.0;
+    at = c.requires.parent.1.0;
+    lacks = c.requires.parent.1.1;
+    low = c.requires.sign.0;
+    high = c.requires.sign.1;
+  },
+)
 
 pub returns-then-is_joining-clause-positive : goal.returns-then-is_joining-clause-positive
 returns-then-is_joining-clause-positive g c k lt = absurd (let size = ap length c.clear.ensures.items in omega arith)

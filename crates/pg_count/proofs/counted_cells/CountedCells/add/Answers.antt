@@ -1,6 +1,7 @@
 use Rattle.std.proofs.lemmas.Result.{err_from_is_err_and}
-use Rattle.std.proofs.Common.{◌≡◌, ℕ, [], ◌∷◌, ◌++◌, Option, Some, None, ap, sym, subst, lit<, ◌≤◌, ◌∙◌}
+use Rattle.std.proofs.Common.{◌≡◌, ℕ, [], ◌∷◌, ◌++◌, Option, Some, None, ap, sym, subst, lit<, ◌∙◌}
 use Rattle.pg_types.specs.Placement.{cell_of}
+use Rattle.pg_cells.specs.Inside.Adding.{CanTakeSign}
 use Rattle.pg_cells.specs.Inside.ValuedFamilies.{ValuedFamilies}
 use Rattle.pg_count.specs.Inside.Counting.{Tally}
 use Rattle.pg_count.specs.Inside.Leaves.{Adds}
@@ -14,32 +15,27 @@ invariant_of-self c = subst (λ h. AreCellNumbers h c.self.inside.first c.self.i
 
 pub invariant_of-self-2 : goal.invariant_of-self-2
 invariant_of-self-2 c =
-    let q = c.requires.parent.0 in
-    let at = subst (λ (h : ValuedFamilies (Option Tally)). cell_of h.families q ≡ Some c.args.parent) (sym c.self.view_is) c.requires.parent.1.0 in
-    let none = subst (λ (h : ValuedFamilies (Option Tally)). cell_of h.families (q ++ c.args.s ∷ []) ≡ None) (sym c.self.view_is) c.requires.parent.1.1 in
-    let is = c.in_ok-cell.ensures.held q at in
-    added_are c.self.inside.cells c.add.new.self c.self.inside.first c.self.inside.tallies.items c.self.invariant q c.args.s (ap (λ (h : ValuedFamilies ℕ). h.signs) is)
+    let can : CanTakeSign c.self.inside.cells.signs c.self.inside.cells.families c.args.parent c.args.s =
+    subst (λ (h : ValuedFamilies (Option Tally)). CanTakeSign h.signs h.families c.args.parent c.args.s) (sym c.self.view_is) c.requires in
+    let is = c.in_ok-cell.ensures.held can.prefix can.at in
+    added_are c.self.inside.cells c.add.new.self c.self.inside.first c.self.inside.tallies.items c.self.invariant can.prefix c.args.s (ap (λ (h : ValuedFamilies ℕ). h.signs) is)
     (ap (λ (h : ValuedFamilies ℕ). h.values) is) c.in_ok-cell.ensures.kept
-    (no_value c.self.inside.cells c.self.invariant.held (q ++ c.args.s ∷ []) none)
+    (no_value c.self.inside.cells c.self.invariant.held (can.prefix ++ c.args.s ∷ []) can.lacks)
 
 pub returns-clause-held : goal.returns-clause-held
 returns-clause-held c q e =
+    let can : CanTakeSign c.self.inside.cells.signs c.self.inside.cells.families c.args.parent c.args.s =
+    subst (λ (h : ValuedFamilies (Option Tally)). CanTakeSign h.signs h.families c.args.parent c.args.s) (sym c.self.view_is) c.requires in
     let at = subst (λ (h : ValuedFamilies (Option Tally)). cell_of h.families q ≡ Some c.args.parent) (sym c.self.view_is) e in
-    let was = subst (λ (h : ValuedFamilies (Option Tally)). cell_of h.families c.requires.parent.0 ≡ Some c.args.parent) (sym c.self.view_is) c.requires.parent.1.0 in
-    let same = c.self.invariant.held.apart c.requires.parent.0 q c.args.parent was at in
-    let none = subst (λ (h : ValuedFamilies (Option Tally)). cell_of h.families (c.requires.parent.0 ++ c.args.s ∷ []) ≡ None) (sym c.self.view_is) c.requires.parent.1.1 in
+    let same = c.self.invariant.held.apart can.prefix q c.args.parent can.at at in
     let is = c.in_ok-cell.ensures.held q at in
     subst (λ (h : ValuedFamilies (Option Tally)). Adds h (tallied_families c.add.new.self c.self.inside.first c.self.inside.tallies.items) q c.args.s) c.self.view_is
     (added_tallied c.self.inside.cells c.add.new.self c.self.inside.first c.self.inside.tallies.items c.self.invariant q c.args.s
     (ap (λ (h : ValuedFamilies ℕ). h.signs) is) (ap (λ (h : ValuedFamilies ℕ). h.values) is) c.in_ok-cell.ensures.kept
-    (no_value c.self.inside.cells c.self.invariant.held (q ++ c.args.s ∷ []) (subst (λ p. cell_of c.self.inside.cells.families (p ++ c.args.s ∷ []) ≡ None) same none)))
+    (no_value c.self.inside.cells c.self.invariant.held (q ++ c.args.s ∷ []) (subst (λ p. cell_of c.self.inside.cells.families (p ++ c.args.s ∷ []) ≡ None) same can.lacks)))
 
 pub add-requires : goal.add-requires
-add-requires c =
-    let q = c.requires.parent.0 in
-    let at = subst (λ (h : ValuedFamilies (Option Tally)). cell_of h.families q ≡ Some c.args.parent) (sym c.self.view_is) c.requires.parent.1.0 in
-    let none = subst (λ (h : ValuedFamilies (Option Tally)). cell_of h.families (q ++ c.args.s ∷ []) ≡ None) (sym c.self.view_is) c.requires.parent.1.1 in
-    (lit< tt, ((q, (at, none)), subst (λ (h : ValuedFamilies (Option Tally)). (1 ≤ c.args.s) × (c.args.s ≤ h.signs)) (sym c.self.view_is) c.requires.sign))
+add-requires c = (lit< tt, subst (λ (h : ValuedFamilies (Option Tally)). CanTakeSign h.signs h.families c.args.parent c.args.s) (sym c.self.view_is) c.requires)
 
 pub returns-in_err-cell : goal.returns-in_err-cell
 returns-in_err-cell c =

@@ -64,7 +64,8 @@ add-requires c =
     let q = c.requires.cell.0 in
     let at = subst (λ (h : ValuedFamilies (Option Tally)). cell_of h.families q ≡ Some c.args.cell) (sym c.self.view_is) c.requires.cell.2.0 in
     let none = subst (λ (h : ValuedFamilies (Option Tally)). cell_of h.families (q ++ c.args.s ∷ []) ≡ None) (sym c.self.view_is) c.requires.cell.2.2 in
-    (lit< tt, ((q, (at, none)), subst (λ (h : ValuedFamilies (Option Tally)). (1 ≤ c.args.s) × (c.args.s ≤ h.signs)) (sym c.self.view_is) c.requires.sign))
+    let sign = subst (λ (h : ValuedFamilies (Option Tally)). (1 ≤ c.args.s) × (c.args.s ≤ h.signs)) (sym c.self.view_is) c.requires.sign in
+    (lit< tt, record { prefix = q; at = at; lacks = none; low = sign.0; high = sign.1 })
 
 pub set_value-requires : goal.set_value-requires
 set_value-requires c =

@@ -4,7 +4,7 @@ use Rattle.pg_cells.specs.Inside.ValuedFamilies.{ValuedFamilies}
 use Rattle.pg_cells.specs.Inside.AreValuedFamilies.{AreValuedFamilies}
 use Rattle.pg_cells.proofs.Unlinked.{held_unlinked}
 use Rattle.pg_cells.proofs.Walking.{ends_before}
-use Rattle.pg_cells.proofs.linked.Cells.find.Goals as goal
+use Rattle.pg_cells.proofs.linked.LinkedCells.find.Goals as goal
 
 pub returns-clause-cell : goal.returns-clause-cell
 returns-clause-cell g c p e =

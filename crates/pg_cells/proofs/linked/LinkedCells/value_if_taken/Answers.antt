@@ -4,7 +4,7 @@ use Rattle.pg_types.specs.Placement.{cell_of}
 use Rattle.pg_cells.specs.Inside.ValuedFamilies.{ValuedFamilies}
 use Rattle.pg_cells.proofs.StringMaps.{order}
 use Rattle.pg_cells.proofs.Unlinked.{found_plain}
-use Rattle.pg_cells.proofs.linked.Cells.value_if_taken.Goals as goal
+use Rattle.pg_cells.proofs.linked.LinkedCells.value_if_taken.Goals as goal
 
 pub returns-clause-some : goal.returns-clause-some
 returns-clause-some g c =

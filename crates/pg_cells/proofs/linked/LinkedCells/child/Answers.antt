@@ -5,7 +5,7 @@ use Rattle.pg_cells.specs.Inside.AreValuedFamilies.{AreValuedFamilies}
 use Rattle.pg_cells.specs.Inside.Links.{HasBase}
 use Rattle.pg_cells.proofs.Unlinked.{held_unlinked}
 use Rattle.pg_cells.proofs.Walking.{none_below, some_below}
-use Rattle.pg_cells.proofs.linked.Cells.child.Goals as goal
+use Rattle.pg_cells.proofs.linked.LinkedCells.child.Goals as goal
 
 pub returns-clause-base : goal.returns-clause-base
 returns-clause-base g c q e =

@@ -4,7 +4,7 @@ use Rattle.pg_cells.specs.Inside.ValuedFamilies.{ValuedFamilies}
 use Rattle.pg_cells.specs.Inside.Members.{IsNextSign, goes_on}
 use Rattle.pg_cells.proofs.GivenMembers.{next_alike}
 use Rattle.pg_cells.proofs.Unlinked.{plain, goes_plain}
-use Rattle.pg_cells.proofs.linked.Cells.first_sign.Goals as goal
+use Rattle.pg_cells.proofs.linked.LinkedCells.first_sign.Goals as goal
 
 pub returns : goal.returns
 returns g c q e =

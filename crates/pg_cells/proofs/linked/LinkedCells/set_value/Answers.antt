@@ -7,7 +7,7 @@ use Rattle.pg_cells.specs.Inside.Links.{unlinked}
 use Rattle.pg_cells.proofs.StringMaps.{order}
 use Rattle.pg_cells.proofs.Relinked.{links_valued}
 use Rattle.pg_cells.proofs.Unlinked.{put_plain, held_unlinked}
-use Rattle.pg_cells.proofs.linked.Cells.set_value.Goals as goal
+use Rattle.pg_cells.proofs.linked.LinkedCells.set_value.Goals as goal
 
 pub invariant_of-self : goal.invariant_of-self
 invariant_of-self g c =
@@ -16,15 +16,15 @@ invariant_of-self g c =
     links_valued c.self.inside.placed c.set_value.new.self c.self.invariant c.set_value.ensures.kept c.requires.0 m (record m { value = c.args.v }) (c.value-member.ensures c.requires.0 at)
     (ap (λ (h : ValuedFamilies (Member g.row.V.Denot)). h.values) (c.set_value.ensures.held c.requires.0 at)) refl refl
 
-pub returns-clause-held : goal.returns-clause-held
-returns-clause-held g c q e =
-    let at = subst (λ (h : ValuedFamilies g.row.V.Denot). cell_of h.families q ≡ Some c.args.cell) (sym c.self.view_is) e in
-    ap unlinked (c.set_value.ensures.held q at)
-    ∙ ap (λ es. record (unlinked c.self.inside.placed) { values = es }) (put_plain q (record c.value-member.result { value = c.args.v }) c.self.inside.placed.values c.self.invariant.held.ordered)
-    ∙ ap (λ (h : ValuedFamilies g.row.V.Denot). record h { values = put order q c.args.v h.values }) c.self.view_is
-
-pub returns-clause-kept : goal.returns-clause-kept
-returns-clause-kept g c = held_unlinked c.set_value.new.self c.set_value.ensures.kept
+pub returns : goal.returns
+returns g c = record {
+  held = λ q e.
+      let at = subst (λ (h : ValuedFamilies g.row.V.Denot). cell_of h.families q ≡ Some c.args.cell) (sym c.self.view_is) e in
+      ap unlinked (c.set_value.ensures.held q at)
+      ∙ ap (λ es. record (unlinked c.self.inside.placed) { values = es }) (put_plain q (record c.value-member.result { value = c.args.v }) c.self.inside.placed.values c.self.invariant.held.ordered)
+      ∙ ap (λ (h : ValuedFamilies g.row.V.Denot). record h { values = put order q c.args.v h.values }) c.self.view_is;
+  kept = held_unlinked c.set_value.new.self c.set_value.ensures.kept;
+}
 
 pub value-member-requires : goal.value-member-requires
 value-member-requires g c = (omega arith, (c.requires.0, subst (λ (k : ValuedFamilies g.row.V.Denot). cell_of k.families c.requires.0 ≡ Some c.args.cell) (sym c.self.view_is) c.requires.1))

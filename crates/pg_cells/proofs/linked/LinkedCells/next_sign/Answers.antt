@@ -5,7 +5,7 @@ use Rattle.pg_cells.specs.Inside.Members.{IsNextSign, goes_on}
 use Rattle.pg_cells.proofs.GivenMembers.{next_alike}
 use Rattle.pg_cells.proofs.LinkLaws.{root_next, root_last, not_root}
 use Rattle.pg_cells.proofs.Unlinked.{plain, goes_plain}
-use Rattle.pg_cells.proofs.linked.Cells.next_sign.Goals as goal
+use Rattle.pg_cells.proofs.linked.LinkedCells.next_sign.Goals as goal
 
 pub returns-then-cell-from : goal.returns-then-cell-from
 returns-then-cell-from g c p s e =

@@ -4,7 +4,7 @@ use Rattle.pg_types.specs.Placement.{cell_of}
 use Rattle.pg_cells.specs.Inside.ValuedFamilies.{ValuedFamilies}
 use Rattle.pg_cells.proofs.StringMaps.{order}
 use Rattle.pg_cells.proofs.Unlinked.{found_plain}
-use Rattle.pg_cells.proofs.linked.Cells.value.Goals as goal
+use Rattle.pg_cells.proofs.linked.LinkedCells.value.Goals as goal
 
 pub returns : goal.returns
 returns g c q e =

@@ -4,7 +4,7 @@ use Rattle.pg_cells.specs.Inside.ValuedFamilies.{ValuedFamilies}
 use Rattle.pg_cells.specs.Inside.Root.{root_held}
 use Rattle.pg_cells.proofs.RootLinks.{root_links, root_seen}
 use Rattle.pg_cells.proofs.Unlinked.{held_unlinked}
-use Rattle.pg_cells.proofs.linked.Cells.reset.Goals as goal
+use Rattle.pg_cells.proofs.linked.LinkedCells.reset.Goals as goal
 
 pub invariant_of-self : goal.invariant_of-self
 invariant_of-self g c = root_links c.self.inside.placed.signs c.alone.result c.reset.new.self (ap (λ (m : Member g.row.V.Denot). m.first) c.alone.ensures) c.reset.ensures.held c.reset.ensures.kept

@@ -2,7 +2,7 @@ use Rattle.std.proofs.Common.{ap}
 use Rattle.pg_cells.specs.declared.store.member.Member.{Member}
 use Rattle.pg_cells.proofs.RootLinks.{root_links, root_seen}
 use Rattle.pg_cells.proofs.Unlinked.{held_unlinked}
-use Rattle.pg_cells.proofs.linked.Cells.new.Goals as goal
+use Rattle.pg_cells.proofs.linked.LinkedCells.new.Goals as goal
 
 pub invariant_of-result : goal.invariant_of-result
 invariant_of-result g c = root_links c.args.signs c.alone.result c.in_ok-placed.placed

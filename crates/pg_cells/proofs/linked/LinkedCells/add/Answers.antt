@@ -1,0 +1,66 @@
+use Rattle.std.proofs.Common.{Ok, sym, subst, rules, arith}
+use Rattle.pg_cells.specs.Inside.Adding.{CanTakeSign, AddsSign}
+use Rattle.pg_cells.specs.Inside.ValuedFamilies.{ValuedFamilies}
+use Rattle.pg_cells.specs.Inside.Links.{unlinked}
+use Rattle.pg_cells.proofs.LinkedSigns.{prefix_added, before_added, links_of_added, linked_added}
+use Rattle.pg_cells.proofs.linked.LinkedCells.add.Goals as goal
+
+pub child-base-requires : goal.child-base-requires
+child-base-requires g c =
+    let h = c.self.inside.placed in
+    let can : CanTakeSign h.signs h.families c.args.parent c.args.s =
+    subst (λ (k : ValuedFamilies g.row.V.Denot). CanTakeSign k.signs k.families c.args.parent c.args.s) (sym c.self.view_is) c.requires in
+    (omega arith, (can.prefix, can.at))
+
+pub sign_before-before-requires : goal.sign_before-before-requires
+sign_before-before-requires g c =
+    let h = c.self.inside.placed in
+    let can : CanTakeSign h.signs h.families c.args.parent c.args.s =
+    subst (λ (k : ValuedFamilies g.row.V.Denot). CanTakeSign k.signs k.families c.args.parent c.args.s) (sym c.self.view_is) c.requires in
+    (search rules, (c.self.invariant, ((can.prefix, (can.at, c.child-base.ensures.base can.prefix can.at)), (can.low, can.high))))
+
+pub list_moving-requires : goal.list_moving-requires
+list_moving-requires g c =
+    let h = c.self.inside.placed in
+    let can : CanTakeSign h.signs h.families c.args.parent c.args.s =
+    subst (λ (k : ValuedFamilies g.row.V.Denot). CanTakeSign k.signs k.families c.args.parent c.args.s) (sym c.self.view_is) c.requires in
+    (search rules, (c.self.invariant, ((can.prefix, (can.at, can.lacks, c.child-base.ensures.base can.prefix can.at)), (can.low, can.high))))
+
+pub link-requires : goal.link-requires
+link-requires g c =
+    let h = c.self.inside.placed in
+    let can : CanTakeSign h.signs h.families c.args.parent c.args.s =
+    subst (λ (k : ValuedFamilies g.row.V.Denot). CanTakeSign k.signs k.families c.args.parent c.args.s) (sym c.self.view_is) c.requires in (
+      search rules,
+      (
+        c.in_ok-cell.ensures.kept,
+        (
+          can.prefix,
+          (
+            prefix_added g.row.FEW h c.add.new.self c.add.new.self c.self.invariant c.args.parent c.args.s can c.sign_before-before.result (c.sign_before-before.ensures can.prefix can.at)
+                c.sign_after-after.result (c.sign_after-after.ensures can.prefix can.at) c.args.v c.in_ok-cell.cell c.in_ok-cell.ensures,
+            before_added g.row.FEW h c.add.new.self c.add.new.self c.self.invariant c.args.parent c.args.s can c.sign_before-before.result (c.sign_before-before.ensures can.prefix can.at)
+                c.sign_after-after.result (c.sign_after-after.ensures can.prefix can.at) c.args.v c.in_ok-cell.cell c.in_ok-cell.ensures,
+          ),
+        ),
+      ),
+    )
+
+pub invariant_of-self-2 : goal.invariant_of-self-2
+invariant_of-self-2 g c =
+    let h = c.self.inside.placed in
+    let can : CanTakeSign h.signs h.families c.args.parent c.args.s =
+    subst (λ (k : ValuedFamilies g.row.V.Denot). CanTakeSign k.signs k.families c.args.parent c.args.s) (sym c.self.view_is) c.requires in
+    links_of_added g.row.FEW h c.add.new.self c.link.new.cells c.self.invariant c.args.parent c.args.s can c.sign_before-before.result (c.sign_before-before.ensures can.prefix can.at)
+    c.sign_after-after.result (c.sign_after-after.ensures can.prefix can.at) c.args.v c.in_ok-cell.cell c.in_ok-cell.ensures
+    c.link.ensures.kept c.link.ensures.linked
+
+pub returns : goal.returns
+returns g c =
+    let h = c.self.inside.placed in
+    let can : CanTakeSign h.signs h.families c.args.parent c.args.s =
+    subst (λ (k : ValuedFamilies g.row.V.Denot). CanTakeSign k.signs k.families c.args.parent c.args.s) (sym c.self.view_is) c.requires in
+    subst (λ (k : ValuedFamilies g.row.V.Denot). AddsSign g.row.FEW k (unlinked c.link.new.cells) c.args.parent c.args.s c.args.v (Ok c.in_ok-cell.cell)) c.self.view_is
+    (linked_added g.row.FEW h c.add.new.self c.link.new.cells c.self.invariant c.args.parent c.args.s can c.sign_before-before.result (c.sign_before-before.ensures can.prefix can.at)
+    c.sign_after-after.result (c.sign_after-after.ensures can.prefix can.at) c.args.v c.in_ok-cell.cell c.in_ok-cell.ensures
+    c.link.ensures.kept c.link.ensures.linked)
