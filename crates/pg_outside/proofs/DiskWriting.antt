@@ -4,7 +4,6 @@ use Rattle.std.specs.FinMap as fin
 use Rattle.std.specs.Result.{IsErrAnd}
 use Rattle.std.proofs.lemmas.Grind.{common_steps}
 use Rattle.std.proofs.lemmas.Result.{on_err_weaker, on_ok_weaker}
-use Rattle.pg_outside.specs.Faults.{Rose}
 use Rattle.pg_outside.specs.Inside.Causes.{Because}
 use Rattle.pg_outside.specs.Inside.Disk.{Node, Disk, Told, AreOne, Keeps, Now, LeadsTo, LeadsToNone, IsOpened, IsWritable, IsStat, Wrote, WrotePart, id_at, node_at, node_of}
 use Rattle.pg_outside.specs.Inside.DiskWrites.{IsIn, KeepsAll, IsPlain, IsDevice, IsProtected, MayWrite, AtWrite, AfterWrite, AfterFailure, IsSeen, IsOld, IsPlaceOf, AllTaken, IsDeep, IsFull, IsWrite, WasKept, StandsFor, mode_of, mode_at}
@@ -336,9 +335,9 @@ writes_later result first between last before same kept a b c name bytes failure
 -- a write that fails before anything is changed
 pub writes_nothing : {T : Type 0} (result : Result T WriteError) (e : WriteError) (first last : ℕ) (before kept : List FileId) (a b : Option Told) (name bytes : List ℕ)
     → IsErr result → IsErrAnd result (λ d. d ≡ e) → kept ≡ before → Keeps a b
-    → Because (Rose first last) (Now b (WasKept name before)) (Now b (IsDeep name)) (Now b (IsFull name)) e → IsWrite result first last before kept a b name bytes
+    → Because first last (Now b (WasKept name before)) (Now b (IsDeep name)) (Now b (IsFull name)) e → IsWrite result first last before kept a b name bytes
 writes_nothing result e first last before kept a b name bytes is_err is same ab because = record {
   ok = no_value _ result is_err;
   err = on_err result (same, nothing_failed _ _ _ _ _ ab);
-  cause = passed_on result e _ _ _ _ is because;
+  cause = passed_on result e _ _ _ _ _ is because;
 }

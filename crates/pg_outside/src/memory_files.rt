@@ -1,14 +1,13 @@
 //! Files in memory that can fail at a chosen call.
-ghost use Rattle.std.specs.Prelude.{◌≡◌, ◌≢◌, ℕ, ◌+◌, ◌-◌, ◌^◌, ◌<◌, ◌≤◌, ◌⊎◌, List, [], ◌∷◌, ◌++◌, take, length, min, Option, Some, None, OnOk, OnErr, IsOk, IsErr, IsSome, IfSome, IfNone, OnSome, IsErrOf};
+ghost use Rattle.std.specs.Prelude.{◌≡◌, ℕ, ◌+◌, ◌-◌, ◌^◌, ◌<◌, ◌≤◌, ◌⊎◌, List, [], take, length, min, Option, Some, None, OnOk, OnErr, IsOk, IsErr, IsSome, IfNone, OnSome, IsErrOf};
 ghost use Rattle.std.specs.Option.{option_copied, option_map};
 ghost use Rattle.std.specs.FinMap as fin;
-ghost use Rattle.pg_outside.specs.Content.{file_at, HasPart, KeepsHeld};
+ghost use Rattle.pg_outside.specs.Content.{file_at, HasPart};
 ghost use Rattle.pg_outside.specs.Inside.MissingNames.{times_in};
 ghost use Rattle.pg_outside.specs.Inside.StoredFile.{file_map, room_in};
-ghost use Rattle.pg_outside.specs.Inside.ToldFiles.{IsCut, IsFile, IsFileCut, WasWritten, WasPartWritten};
+ghost use Rattle.pg_outside.specs.Inside.ToldFiles.{IsCut, IsReadOf, IsWriteOf};
 ghost use Rattle.pg_outside.specs.Faults.{next_count};
-ghost use Rattle.pg_outside.specs.Inside.NameFaults.{RoseFor, RoseByOneAtMost, NoneFell, SameCounts, SameOthers};
-ghost use Rattle.pg_outside.specs.FilesCalls.{Reads, Writes};
+ghost use Rattle.pg_outside.specs.Inside.NameFaults.{RoseByOneAtMost, NoneFell, SameCounts, SameOthers};
 
 use super::call_log::{Call, CallLog};
 use super::missing::note_name;
@@ -209,14 +208,9 @@ fn store_front(
 }
 
 impl Files for MemoryFiles {
-    ghost use Rattle.pg_outside.specs.Inside.MemoryFiles.{files_of, room_of, reads_failed_of, writes_failed_of, calls_of, made_of, listed_of, next_listed, IsListed, IsUnlisted, HasFile, SameFiles, SameReads, SameWrites, ReadsRose, WritesRose, ReadsByOne, WritesByOne, KeepsFront, KeepsFrontWithin};
+    ghost use Rattle.pg_outside.specs.Inside.MemoryFiles.{memory_shown, room_of, reads_failed_of, calls_of, listed_of, next_listed, IsListed, IsUnlisted, HasFile, SameFiles, SameReads, SameWrites, ReadsRose, WritesRose, ReadsByOne, WritesByOne, KeepsFront, KeepsFrontWithin};
 
-    ghost shown = { λ memory. record {
-      held = Some (files_of memory);
-      read_faults = reads_failed_of memory;
-      write_faults = writes_failed_of memory;
-      calls = made_of memory;
-    } };
+    ghost shown = { memory_shown };
 
     fn read(
         &mut self,
@@ -229,20 +223,11 @@ impl Files for MemoryFiles {
         requires limit { limit < 2 ^ 64 - 1 }
 
         // As for all files.
-        ensures held { KeepsHeld (Some (files_of self.old)) (Some (files_of self.new)) }
-        ensures reads { NoneFell (reads_failed_of self.old) (reads_failed_of self.new) }
-        ensures writes { NoneFell (writes_failed_of self.old) (writes_failed_of self.new) }
-        ensures fits { OnOk result (length into.new.items ≤ limit) }
-        ensures cut { IsErrOf result ReadError.TooLong → length into.new.items ≡ limit + 1 }
-        ensures file { OnOk result (IsFile (Some (files_of self.new)) name.now into.new.items) }
-        ensures cut_file { IsErrOf result ReadError.TooLong
-            → IsFileCut (Some (files_of self.new)) name.now limit into.new.items }
-        ensures failed { IsErrOf result ReadError.Failed
-            → RoseFor (reads_failed_of self.old) (reads_failed_of self.new) name.now }
+        ensures all { IsReadOf result name.now limit into.new.items
+            (memory_shown self.old) (memory_shown self.new) }
 
         // The call is counted, and the calls that are to fail stay listed.
         ensures calls { calls_of self.new ≡ next_count (calls_of self.old) }
-        ensures made { made_of self.new ≡ made_of self.old ++ Reads name.now ∷ [] }
         ensures listed { listed_of self.new ≡ listed_of self.old }
         ensures rooms { SameCounts (room_of self.old) (room_of self.new) }
 
@@ -274,19 +259,11 @@ impl Files for MemoryFiles {
 
     fn write(&mut self, name: &str, bytes: &[u8]) -> Result<(), Failed>
         // As for all files.
-        ensures whole { OnOk result
-            (WasWritten (Some (files_of self.old)) (Some (files_of self.new)) name.now bytes.now) }
-        ensures part { OnErr result
-            (WasPartWritten (Some (files_of self.old))
-            (Some (files_of self.new)) name.now bytes.now) }
-        ensures reads { NoneFell (reads_failed_of self.old) (reads_failed_of self.new) }
-        ensures writes { NoneFell (writes_failed_of self.old) (writes_failed_of self.new) }
-        ensures failed { OnErr result
-            (RoseFor (writes_failed_of self.old) (writes_failed_of self.new) name.now) }
+        ensures all { IsWriteOf result name.now bytes.now
+            (memory_shown self.old) (memory_shown self.new) }
 
         // The call is counted, and the calls that are to fail stay listed.
         ensures calls { calls_of self.new ≡ next_count (calls_of self.old) }
-        ensures made { made_of self.new ≡ made_of self.old ++ Writes name.now ∷ [] }
         ensures listed { listed_of self.new ≡ listed_of self.old }
         ensures rooms { NoneFell (room_of self.old) (room_of self.new) }
 

@@ -1,10 +1,8 @@
 //! The two traits through which a command reads, writes and prints.
-ghost use Rattle.std.specs.Prelude.{◌≡◌, ℕ, ◌+◌, ◌-◌, ◌^◌, ◌<◌, ◌≤◌, List, [], ◌∷◌, ◌++◌, length, Option, OnOk, OnErr, IfSome, IsErrOf};
-ghost use Rattle.pg_outside.specs.Content.{FilesShown, SinkShown, KeepsHeld, WasPut, WasPartPut};
-ghost use Rattle.pg_outside.specs.Inside.ToldFiles.{IsFile, IsFileCut, WasWritten, WasPartWritten};
+ghost use Rattle.std.specs.Prelude.{◌≡◌, ◌-◌, ◌^◌, ◌<◌, ◌≤◌, [], OnOk, OnErr};
+ghost use Rattle.pg_outside.specs.Content.{FilesShown, SinkShown, WasPut, WasPartPut};
+ghost use Rattle.pg_outside.specs.Inside.ToldFiles.{IsReadOf, IsWriteOf};
 ghost use Rattle.pg_outside.specs.Faults.{next_count, Rose};
-ghost use Rattle.pg_outside.specs.Inside.NameFaults.{RoseFor, NoneFell};
-ghost use Rattle.pg_outside.specs.FilesCalls.{Reads, Writes};
 
 use std::alloc::{AllocError, Global};
 use std::io;
@@ -80,41 +78,15 @@ pub trait Files {
     ) -> Result<(), ReadError>
         requires empty { into.old.items ≡ [] }
         requires limit { limit < 2 ^ 64 - 1 }
-
-        // Every read leaves the files as they were, and no count falls.
-        ensures held { KeepsHeld (shown self.old).held (shown self.new).held }
-        ensures reads { NoneFell (shown self.old).read_faults (shown self.new).read_faults }
-        ensures writes { NoneFell (shown self.old).write_faults (shown self.new).write_faults }
-
-        // The call is one more.
-        ensures calls { (shown self.new).calls ≡ (shown self.old).calls ++ Reads name.now ∷ [] }
-
-        // The lengths hold whether the files are told or not.
-        ensures fits { OnOk result (length into.new.items ≤ limit) }
-        ensures cut { IsErrOf result ReadError.TooLong → length into.new.items ≡ limit + 1 }
-
-        // Where the files are told, the bytes are those of the file.
-        ensures file { OnOk result (IsFile (shown self.new).held name.now into.new.items) }
-        ensures cut_file { IsErrOf result ReadError.TooLong
-            → IsFileCut (shown self.new).held name.now limit into.new.items }
-
-        ensures failed { IsErrOf result ReadError.Failed
-            → RoseFor (shown self.old).read_faults (shown self.new).read_faults name.now };
+        ensures { IsReadOf result name.now limit into.new.items
+            (shown self.old) (shown self.new) };
 
     /// Sets the file of this name to `bytes`, and leaves all others as they were.
     ///
     /// # Errors
     /// Where the write faults of `name` rose; the file is then as before or a prefix of `bytes`.
     fn write(&mut self, name: &str, bytes: &[u8]) -> Result<(), Failed>
-        ensures whole { OnOk result
-            (WasWritten (shown self.old).held (shown self.new).held name.now bytes.now) }
-        ensures part { OnErr result
-            (WasPartWritten (shown self.old).held (shown self.new).held name.now bytes.now) }
-        ensures reads { NoneFell (shown self.old).read_faults (shown self.new).read_faults }
-        ensures writes { NoneFell (shown self.old).write_faults (shown self.new).write_faults }
-        ensures failed { OnErr result
-            (RoseFor (shown self.old).write_faults (shown self.new).write_faults name.now) }
-        ensures calls { (shown self.new).calls ≡ (shown self.old).calls ++ Writes name.now ∷ [] };
+        ensures { IsWriteOf result name.now bytes.now (shown self.old) (shown self.new) };
 }
 
 /// Where lines are printed.

@@ -1,11 +1,9 @@
 //! Files in memory that never fail.
-ghost use Rattle.std.specs.Prelude.{◌≡◌, ◌^◌, ◌-◌, ◌+◌, ◌<◌, ◌≤◌, ℕ, List, [], ◌∷◌, ◌++◌, length, Option, Some, None, Bool, true, false, OnOk, OnErr, IsOk, IsErrOf};
+ghost use Rattle.std.specs.Prelude.{◌≡◌, ◌^◌, ◌-◌, ◌<◌, ◌≤◌, [], length, Option, Some, None, true, false, OnOk, OnErr, IsOk, IsErrOf};
 ghost use Rattle.std.specs.Option.{option_copied};
 ghost use Rattle.std.specs.FinMap as fin;
-ghost use Rattle.pg_outside.specs.Content.{file_at, KeepsHeld};
-ghost use Rattle.pg_outside.specs.Inside.ToldFiles.{IsFile, IsFileCut, WasWritten, WasPartWritten};
-ghost use Rattle.pg_outside.specs.Inside.NameFaults.{RoseFor, NoneFell, SameCounts};
-ghost use Rattle.pg_outside.specs.FilesCalls.{Reads, Writes};
+ghost use Rattle.pg_outside.specs.Inside.ToldFiles.{IsReadOf, IsWriteOf};
+ghost use Rattle.pg_outside.specs.Inside.NameFaults.{NoneFell, SameCounts};
 
 use super::call_log::{Call, CallLog};
 use super::outside::{Failed, Files, ReadError};
@@ -82,7 +80,7 @@ impl QuietFiles {
 }
 
 impl Files for QuietFiles {
-    ghost use Rattle.pg_outside.specs.Inside.QuietFiles.{quiet_files_of, quiet_room_of, quiet_calls_of, is_telling, told_files, quiet_shown, StoresFile, LacksFile, StaysTelling};
+    ghost use Rattle.pg_outside.specs.Inside.QuietFiles.{quiet_files_of, quiet_room_of, is_telling, quiet_shown, StoresFile, LacksFile, StaysTelling};
 
     ghost shown = { quiet_shown };
 
@@ -97,20 +95,8 @@ impl Files for QuietFiles {
         requires limit { limit < 2 ^ 64 - 1 }
 
         // As for all files.
-        ensures held { KeepsHeld (told_files self.old) (told_files self.new) }
-        ensures reads { NoneFell (quiet_shown self.old).read_faults
-            (quiet_shown self.new).read_faults }
-        ensures writes { NoneFell (quiet_shown self.old).write_faults
-            (quiet_shown self.new).write_faults }
-        ensures calls { quiet_calls_of self.new ≡ quiet_calls_of self.old ++ Reads name.now ∷ [] }
-        ensures fits { OnOk result (length into.new.items ≤ limit) }
-        ensures cut { IsErrOf result ReadError.TooLong → length into.new.items ≡ limit + 1 }
-        ensures file { OnOk result (IsFile (told_files self.new) name.now into.new.items) }
-        ensures cut_file { IsErrOf result ReadError.TooLong
-            → IsFileCut (told_files self.new) name.now limit into.new.items }
-        ensures failed { IsErrOf result ReadError.Failed
-            → RoseFor (quiet_shown self.old).read_faults
-            (quiet_shown self.new).read_faults name.now }
+        ensures all { IsReadOf result name.now limit into.new.items
+            (quiet_shown self.old) (quiet_shown self.new) }
 
         // A name that is not there is read as no byte, and nothing is told from then on.
         ensures missing { LacksFile self.old name.now → IsOk result }
@@ -135,18 +121,8 @@ impl Files for QuietFiles {
 
     fn write(&mut self, name: &str, bytes: &[u8]) -> Result<(), Failed>
         // As for all files.
-        ensures whole { OnOk result
-            (WasWritten (told_files self.old) (told_files self.new) name.now bytes.now) }
-        ensures part { OnErr result
-            (WasPartWritten (told_files self.old) (told_files self.new) name.now bytes.now) }
-        ensures reads { NoneFell (quiet_shown self.old).read_faults
-            (quiet_shown self.new).read_faults }
-        ensures writes { NoneFell (quiet_shown self.old).write_faults
-            (quiet_shown self.new).write_faults }
-        ensures failed { OnErr result
-            (RoseFor (quiet_shown self.old).write_faults
-            (quiet_shown self.new).write_faults name.now) }
-        ensures calls { quiet_calls_of self.new ≡ quiet_calls_of self.old ++ Writes name.now ∷ [] }
+        ensures all { IsWriteOf result name.now bytes.now
+            (quiet_shown self.old) (quiet_shown self.new) }
 
         // Every write succeeds, and one to a name that is there stays told within its room.
         ensures succeeds { IsOk result }

@@ -1,11 +1,13 @@
 -- Why a write failed.
+use Rattle.std.specs.Prelude.{◌≡◌, ℕ}
+use Rattle.pg_outside.specs.Faults.{Rose}
 use Rattle.pg_outside.specs.declared.disk.error.WriteError.{WriteError}
 use Rattle.pg_outside.specs.declared.disk.error.WriteError.TheVariants as error
 
--- what each error says: a failed call, a file kept in mind, a link not followed, or no free name
-abbrev pub Because : Type 0 → Type 0 → Type 0 → Type 0 → WriteError → Type 0
-Because failed kept unfollowed taken error.Failed = failed
-Because failed kept unfollowed taken error.Kept = kept
-Because failed kept unfollowed taken error.Unfollowed = unfollowed
-Because failed kept unfollowed taken error.Taken = taken
-Because failed kept unfollowed taken error.Memory = Unit {0}
+-- each error's cause: a failed call; or none, and a file kept in mind, deep links, or no free name
+abbrev pub Because : ℕ → ℕ → Type 0 → Type 0 → Type 0 → WriteError → Type 0
+Because before now kept unfollowed taken error.Failed = Rose before now
+Because before now kept unfollowed taken error.Kept = (now ≡ before) × kept
+Because before now kept unfollowed taken error.Unfollowed = (now ≡ before) × unfollowed
+Because before now kept unfollowed taken error.Taken = (now ≡ before) × taken
+Because before now kept unfollowed taken error.Memory = now ≡ before

@@ -1,7 +1,7 @@
 -- What files over a system of files show.
 use Rattle.std.specs.Prelude.{ℕ, List, [], ◌∷◌, map, Bool, true, false, cond, ◌&&◌, Option, Some, None}
 use Rattle.std.specs.FinMap as fin
-use Rattle.pg_outside.specs.Content.{FileMap}
+use Rattle.pg_outside.specs.Content.{FileMap, FilesShown}
 use Rattle.pg_outside.specs.Inside.Disk.{Node, Disk, Told}
 use Rattle.pg_outside.specs.FilesCalls.{FilesCall}
 use Rattle.pg_outside.specs.declared.disk.files.DiskFiles.{DiskFiles}
@@ -37,3 +37,12 @@ all_faults files = files.failed
 -- the reads and writes that there were, in their order
 abbrev pub disk_calls : {S File : Type 0} → DiskFiles S File → List FilesCall
 disk_calls files = files.calls.made
+
+-- what it shows of a system that tells its disk: each fault counts for every name
+abbrev pub disk_shown : {S File : Type 0} → (S → Option Told) → DiskFiles S File → FilesShown
+disk_shown told files = record {
+  held = held_of (told files.system);
+  read_faults = λ _. all_faults files;
+  write_faults = λ _. all_faults files;
+  calls = disk_calls files;
+}

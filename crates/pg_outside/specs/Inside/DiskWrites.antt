@@ -1,10 +1,12 @@
 -- What reads and writes by name do to a disk.
 use Rattle.std.specs.Prelude.{◌≡◌, ℕ, zero, suc, ◌+◌, ◌<◌, List, [], ◌∷◌, ◌++◌, take, length, Bool, true, false, Option, Some, None, IfSome, Result, OnOk, OnErr, IfErr, nat_eq, ◌&&◌, ◌⊎◌}
 use Rattle.std.specs.List.{list_any}
-use Rattle.pg_outside.specs.Faults.{Rose}
+use Rattle.pg_outside.specs.Faults.{next_count}
 use Rattle.pg_outside.specs.Inside.Causes.{Because}
 use Rattle.pg_outside.specs.Inside.Disk.{Node, Disk, Told, AreOne, LeadsTo, LeadsToNone, Wrote, WrotePart, IsTaken, Now, id_at, node_at}
 use Rattle.pg_outside.specs.Inside.NewNames.{IsFolderOf, new_name}
+use Rattle.pg_outside.specs.Inside.DiskHeld.{all_faults}
+use Rattle.pg_outside.specs.declared.disk.files.DiskFiles.{DiskFiles}
 use Rattle.pg_outside.specs.declared.disk.system.FileId.{FileId}
 use Rattle.pg_outside.specs.declared.disk.system.Seen.{Seen}
 use Rattle.pg_outside.specs.declared.disk.error.WriteError.{WriteError}
@@ -166,5 +168,23 @@ pub record IsWrite {T : Type 0} (result : Result T WriteError) (failed_before fa
       × Runs old new (AtWrite name bytes before) (AfterWrite name bytes before kept))
   pub err : OnErr result ((kept ≡ before)
       × Runs old new (AtWrite name bytes before) (AfterFailure name bytes))
-  pub cause : IfErr result (Because (Rose failed_before failed)
+  pub cause : IfErr result (Because failed_before failed
       (Now new (WasKept name before)) (Now new (IsDeep name)) (Now new (IsFull name)))
+
+-- what a write of a file leaves, on a disk that is told so, with so many failed calls of the system
+pub record IsDiskWrite {S File T E : Type 0} (told : S → Option Told) (failures : S → ℕ)
+    (result : Result T E) (old new : DiskFiles S File) (name bytes : List ℕ) : Type 0 where
+  -- at each moment between two calls of the system, and at the end
+  pub ok : OnOk result (Runs (told old.system) (told new.system)
+      (AtWrite name bytes old.kept.items)
+      (AfterWrite name bytes old.kept.items new.kept.items))
+  pub err : OnErr result (Runs (told old.system) (told new.system)
+      (AtWrite name bytes old.kept.items) (AfterFailure name bytes))
+  -- a file that was kept in mind still is, and a write that fails adds none
+  pub kept : KeepsAll old.kept.items new.kept.items
+  pub err_kept : OnErr result (new.kept.items ≡ old.kept.items)
+  -- where it is done no call of the system failed, so none was tried again
+  pub ok_failures : OnOk result (failures new.system ≡ failures old.system)
+  -- a write that fails is one fault, and no other write is one
+  pub one_fault : OnErr result (all_faults new ≡ next_count (all_faults old))
+  pub ok_faults : OnOk result (all_faults new ≡ all_faults old)

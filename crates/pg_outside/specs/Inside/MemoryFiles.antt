@@ -2,7 +2,7 @@
 use Rattle.std.specs.Prelude.{◌≡◌, ℕ, ◌+◌, ◌≤◌, List, take, length, min, Option, Some, None, IsSome, ◌⊎◌}
 use Rattle.std.specs.FinMap as fin
 use Rattle.pg_outside.specs.Inside.Calls.{ListedCalls, listed_calls}
-use Rattle.pg_outside.specs.Content.{FileMap, file_at}
+use Rattle.pg_outside.specs.Content.{FileMap, FilesShown, file_at}
 use Rattle.pg_outside.specs.Faults.{next_count}
 use Rattle.pg_outside.specs.Inside.NameFaults.{EachRose, RoseByOneAtMost, SameCounts}
 use Rattle.pg_outside.specs.FilesCalls.{FilesCall}
@@ -33,6 +33,15 @@ calls_of memory = memory.plans.calls
 -- the reads and writes that there were, in their order
 abbrev pub made_of : MemoryFiles → List FilesCall
 made_of memory = memory.log.made
+
+-- what it shows: it always tells its files
+abbrev pub memory_shown : MemoryFiles → FilesShown
+memory_shown memory = record {
+  held = Some (files_of memory);
+  read_faults = reads_failed_of memory;
+  write_faults = writes_failed_of memory;
+  calls = made_of memory;
+}
 
 -- the calls that are to fail
 abbrev pub listed_of : MemoryFiles → ListedCalls

@@ -1,12 +1,12 @@
 //! Files by name over a system of files: which file is read, replaced or written in place, and what
 //! is a fault.
-ghost use Rattle.std.specs.Prelude.{◌≡◌, ℕ, ◌+◌, ◌-◌, ◌^◌, ◌<◌, ◌≤◌, List, [], ◌∷◌, ◌++◌, length, true, Option, OnOk, OnErr, IfOk, IfErr, IfSome, IsErrOf, ◌⊎◌, vec_len, vec_capacity};
+ghost use Rattle.std.specs.Prelude.{◌≡◌, ◌≢◌, ℕ, ◌+◌, ◌-◌, ◌^◌, ◌<◌, ◌≤◌, [], ◌∷◌, ◌++◌, length, true, Option, OnOk, OnErr, IfOk, IfErr, IfSome, IsErrOf, ◌⊎◌, vec_len, vec_capacity};
 ghost use Rattle.pg_outside.specs.Faults.{next_count, Rose};
-ghost use Rattle.pg_outside.specs.FilesCalls.{Reads, Writes};
+ghost use Rattle.pg_outside.specs.FilesCalls.{Writes};
 ghost use Rattle.pg_outside.specs.Inside.Causes.{Because};
 ghost use Rattle.pg_outside.specs.Inside.Disk.{Keeps, Now, IsOpened, IsWritable};
 ghost use Rattle.pg_outside.specs.Inside.Moments.{Runs, WhereDirect, AtMoment, IsWritten, IsAsBefore};
-ghost use Rattle.pg_outside.specs.Inside.DiskWrites.{IsIn, KeepsAll, KeepsOnly, IsContent, IsContentCut, IsNoted, IsOld, IsPlaceOf, IsDeep, IsFull, IsWrite, AllTaken, WasKept, AtWrite, AfterWrite, AfterFailure};
+ghost use Rattle.pg_outside.specs.Inside.DiskWrites.{IsIn, KeepsAll, KeepsOnly, IsContent, IsContentCut, IsNoted, IsOld, IsPlaceOf, IsDeep, IsFull, IsWrite, IsDiskWrite, AllTaken, WasKept};
 
 use super::error::WriteError;
 use super::links::find;
@@ -88,6 +88,8 @@ fn read_named<S: System>(
         × Now (S.told system.new) (IsNoted name.now kept.new.items) }
     ensures failed { IsErrOf result ReadError.Failed
         → Rose (S.failures system.old) (S.failures system.new) }
+    ensures other_failures { IfErr result
+        (λ error. error ≢ ReadError.Failed → S.failures system.new ≡ S.failures system.old) }
 {
     let Ok(mut file) = system.open(name) else {
         return Err(ReadError::Failed);
@@ -128,7 +130,7 @@ fn replace_kept<S: System>(
         × Runs (S.told system.old) (S.told system.new)
         (WhereDirect name.now (AtMoment name.now bytes.now mode))
         (WhereDirect name.now (IsAsBefore name.now))) }
-    ensures cause { IfErr result (Because (Rose (S.failures system.old) (S.failures system.new))
+    ensures cause { IfErr result (Because (S.failures system.old) (S.failures system.new)
         ⊥ ⊥ (Keeps (S.told system.old) (S.told system.new)
         × Now (S.told system.new) (AllTaken name.now))) }
 {
@@ -262,36 +264,19 @@ impl<S: System + Drop> DiskFiles<S> {
     /// did a call before. `Taken` where each of a thousand names that a new file could have is
     /// taken. `Memory` may always come.
     pub fn write_file(&mut self, name: &str, bytes: &[u8]) -> Result<(), WriteError>
-        // At each moment between two calls of the system, and at the end.
-        ensures ok { OnOk result (Runs (S.told self.old.system) (S.told self.new.system)
-            (AtWrite name.now bytes.now self.old.kept.items)
-            (AfterWrite name.now bytes.now self.old.kept.items self.new.kept.items)) }
-        ensures err { OnErr result (Runs (S.told self.old.system) (S.told self.new.system)
-            (AtWrite name.now bytes.now self.old.kept.items) (AfterFailure name.now bytes.now)) }
+        // What it leaves.
+        ensures disk { IsDiskWrite S.told S.failures result
+            self.old self.new name.now bytes.now }
 
-        // A file that was kept in mind still is, and a write that fails adds none.
-        ensures kept { KeepsAll self.old.kept.items self.new.kept.items }
-        ensures err_kept { OnErr result (self.new.kept.items ≡ self.old.kept.items) }
+        // Each failure has its cause, and `Failed` alone comes where a call of the system failed.
+        ensures cause { IfErr result
+            (Because (S.failures self.old.system) (S.failures self.new.system)
+            (Now (S.told self.new.system) (WasKept name.now self.old.kept.items))
+            (Now (S.told self.new.system) (IsDeep name.now))
+            (Now (S.told self.new.system) (IsFull name.now))) }
 
-        // Each failure but a shortage of memory has its cause.
-        ensures failed { IsErrOf result WriteError.Failed
-            → Rose (S.failures self.old.system) (S.failures self.new.system) }
-        ensures protected { IsErrOf result WriteError.Kept
-            → Now (S.told self.new.system) (WasKept name.now self.old.kept.items) }
-        ensures unfollowed { IsErrOf result WriteError.Unfollowed
-            → Now (S.told self.new.system) (IsDeep name.now) }
-        ensures taken { IsErrOf result WriteError.Taken
-            → Now (S.told self.new.system) (IsFull name.now) }
-
-        // Where it is done no call of the system failed, so none was tried again.
-        ensures ok_failures { OnOk result
-            (S.failures self.new.system ≡ S.failures self.old.system) }
-
-        // A write that fails is one fault, and no other write is one. The call is one more.
+        // No count of faults falls, and the call is one more.
         ensures later { all_faults self.old ≤ all_faults self.new }
-        ensures one_fault { OnErr result
-            (all_faults self.new ≡ next_count (all_faults self.old)) }
-        ensures ok_faults { OnOk result (all_faults self.new ≡ all_faults self.old) }
         ensures calls { disk_calls self.new ≡ disk_calls self.old ++ Writes name.now ∷ [] }
     {
         self.calls = self.calls.and(&Call::Write(name));
@@ -302,16 +287,10 @@ impl<S: System + Drop> DiskFiles<S> {
 }
 
 impl<S: System + Drop> Files for DiskFiles<S> {
-    ghost use Rattle.pg_outside.specs.Content.{KeepsHeld};
-    ghost use Rattle.pg_outside.specs.Inside.ToldFiles.{IsFile, IsFileCut, WasWritten, WasPartWritten};
-    ghost use Rattle.pg_outside.specs.Inside.DiskHeld.{held_of, all_faults, disk_calls};
+    ghost use Rattle.pg_outside.specs.Inside.ToldFiles.{IsReadOf, IsWriteOf};
+    ghost use Rattle.pg_outside.specs.Inside.DiskHeld.{all_faults, disk_shown};
 
-    ghost shown = { λ files. record {
-      held = held_of (S.told files.system);
-      read_faults = λ _. all_faults files;
-      write_faults = λ _. all_faults files;
-      calls = disk_calls files;
-    } };
+    ghost shown = { disk_shown S.told };
 
     fn read(
         &mut self,
@@ -324,19 +303,8 @@ impl<S: System + Drop> Files for DiskFiles<S> {
         requires limit { limit < 2 ^ 64 - 1 }
 
         // As for all files.
-        ensures held { KeepsHeld (held_of (S.told self.old.system))
-            (held_of (S.told self.new.system)) }
-        ensures reads { List ℕ → all_faults self.old ≤ all_faults self.new }
-        ensures writes { List ℕ → all_faults self.old ≤ all_faults self.new }
-        ensures fits { OnOk result (length into.new.items ≤ limit) }
-        ensures cut { IsErrOf result ReadError.TooLong → length into.new.items ≡ limit + 1 }
-        ensures file { OnOk result
-            (IsFile (held_of (S.told self.new.system)) name.now into.new.items) }
-        ensures cut_file { IsErrOf result ReadError.TooLong
-            → IsFileCut (held_of (S.told self.new.system)) name.now limit into.new.items }
-        ensures failed { IsErrOf result ReadError.Failed
-            → Rose (all_faults self.old) (all_faults self.new) }
-        ensures calls { disk_calls self.new ≡ disk_calls self.old ++ Reads name.now ∷ [] }
+        ensures all { IsReadOf result name.now limit into.new.items
+            (disk_shown S.told self.old) (disk_shown S.told self.new) }
 
         // The disk is as before, and where it is told, the bytes are those of the file that the
         // name leads to.
@@ -360,9 +328,12 @@ impl<S: System + Drop> Files for DiskFiles<S> {
         ensures cause { IsErrOf result ReadError.Failed
             → Rose (S.failures self.old.system) (S.failures self.new.system) }
 
-        // Where it is done no call of the system failed, so none was tried again.
+        // Where it is done no call of the system failed, so none was tried again. Nor did one where
+        // the file is too long or memory is short.
         ensures ok_failures { OnOk result
             (S.failures self.new.system ≡ S.failures self.old.system) }
+        ensures other_failures { IfErr result (λ error. error ≢ ReadError.Failed
+            → S.failures self.new.system ≡ S.failures self.old.system) }
 
         // A read that fails is one fault, and no other read is one.
         ensures one_fault { IsErrOf result ReadError.Failed
@@ -381,34 +352,12 @@ impl<S: System + Drop> Files for DiskFiles<S> {
 
     fn write(&mut self, name: &str, bytes: &[u8]) -> Result<(), Failed>
         // As for all files.
-        ensures whole { OnOk result (WasWritten (held_of (S.told self.old.system))
-            (held_of (S.told self.new.system)) name.now bytes.now) }
-        ensures part { OnErr result (WasPartWritten (held_of (S.told self.old.system))
-            (held_of (S.told self.new.system)) name.now bytes.now) }
-        ensures reads { List ℕ → all_faults self.old ≤ all_faults self.new }
-        ensures writes { List ℕ → all_faults self.old ≤ all_faults self.new }
-        ensures failed { OnErr result (Rose (all_faults self.old) (all_faults self.new)) }
-        ensures calls { disk_calls self.new ≡ disk_calls self.old ++ Writes name.now ∷ [] }
+        ensures all { IsWriteOf result name.now bytes.now
+            (disk_shown S.told self.old) (disk_shown S.told self.new) }
 
-        // At each moment between two calls of the system, and at the end.
-        ensures ok { OnOk result (Runs (S.told self.old.system) (S.told self.new.system)
-            (AtWrite name.now bytes.now self.old.kept.items)
-            (AfterWrite name.now bytes.now self.old.kept.items self.new.kept.items)) }
-        ensures err { OnErr result (Runs (S.told self.old.system) (S.told self.new.system)
-            (AtWrite name.now bytes.now self.old.kept.items) (AfterFailure name.now bytes.now)) }
-
-        // A file that was kept in mind still is, and a write that fails adds none.
-        ensures kept { KeepsAll self.old.kept.items self.new.kept.items }
-        ensures err_kept { OnErr result (self.new.kept.items ≡ self.old.kept.items) }
-
-        // Where it is done no call of the system failed, so none was tried again.
-        ensures ok_failures { OnOk result
-            (S.failures self.new.system ≡ S.failures self.old.system) }
-
-        // A write that fails is one fault, and no other write is one.
-        ensures one_fault { OnErr result
-            (all_faults self.new ≡ next_count (all_faults self.old)) }
-        ensures ok_faults { OnOk result (all_faults self.new ≡ all_faults self.old) }
+        // What it leaves.
+        ensures disk { IsDiskWrite S.told S.failures result
+            self.old self.new name.now bytes.now }
     {
         match self.write_file(name, bytes) {
             Ok(()) => Ok(()),

@@ -1,6 +1,5 @@
 //! The folder of a name, and what a name stands for once its links are followed.
 ghost use Rattle.std.specs.Prelude.{◌≡◌, IfOk, IfErr, string_bytes};
-ghost use Rattle.pg_outside.specs.Faults.{Rose};
 ghost use Rattle.pg_outside.specs.Inside.Causes.{Because};
 ghost use Rattle.pg_outside.specs.Inside.Disk.{Keeps, Now};
 ghost use Rattle.pg_outside.specs.Inside.NewNames.{IsFolderOf, IsJoined};
@@ -60,7 +59,7 @@ pub(crate) fn find<S: System>(
     ensures same { Keeps (S.told system.old) (S.told system.new) }
     ensures found { IfOk result (λ found. (S.failures system.new ≡ S.failures system.old)
         × Now (S.told system.new) (StandsFor (string_bytes found.name) found.file name.now)) }
-    ensures cause { IfErr result (Because (Rose (S.failures system.old) (S.failures system.new))
+    ensures cause { IfErr result (Because (S.failures system.old) (S.failures system.new)
         ⊥ (Now (S.told system.new) (IsDeep name.now)) ⊥) }
 {
     let mut real = String::from_str(alloc, name)?;

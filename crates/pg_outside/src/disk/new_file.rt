@@ -37,7 +37,7 @@ fn make_beside<S: System>(
     ensures own { IfOk result (λ made. IsNewName (string_bytes made.own) name.now) }
     ensures apart { IfOk result (λ made. string_bytes made.own ≢ name.now) }
     ensures ok_failures { OnOk result (S.failures system.new ≡ S.failures system.old) }
-    ensures cause { IfErr result (Because (Rose (S.failures system.old) (S.failures system.new))
+    ensures cause { IfErr result (Because (S.failures system.old) (S.failures system.new)
         ⊥ ⊥ (Now (S.told system.new) (AllTaken name.now))) }
 {
     let folder = folder_of(name);
@@ -162,7 +162,7 @@ pub(crate) fn replace<S: System>(
     ensures err { OnErr result (Runs (S.told system.old) (S.told system.new)
         (WhereDirect name.now (AtMoment name.now bytes.now mode))
         (WhereDirect name.now (IsAsBefore name.now))) }
-    ensures cause { IfErr result (Because (Rose (S.failures system.old) (S.failures system.new))
+    ensures cause { IfErr result (Because (S.failures system.old) (S.failures system.new)
         ⊥ ⊥ (Keeps (S.told system.old) (S.told system.new)
         × Now (S.told system.new) (AllTaken name.now))) }
 {

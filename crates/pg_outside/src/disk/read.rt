@@ -1,5 +1,5 @@
 //! A file is read to its end, up to a limit.
-ghost use Rattle.std.specs.Prelude.{◌≡◌, ◌+◌, ◌-◌, ◌^◌, ◌<◌, ◌≤◌, [], length, OnOk, IsErrOf};
+ghost use Rattle.std.specs.Prelude.{◌≡◌, ◌≢◌, ◌+◌, ◌-◌, ◌^◌, ◌<◌, ◌≤◌, [], length, OnOk, IfErr, IsErrOf};
 ghost use Rattle.pg_outside.specs.Faults.{Rose};
 ghost use Rattle.pg_outside.specs.Inside.Disk.{Keeps, Now};
 ghost use Rattle.pg_outside.specs.Inside.DiskReads.{IsAllOf, IsFrontOf};
@@ -33,6 +33,8 @@ pub(crate) fn read_within<S: System>(
         × Now (S.told system.new) (IsFrontOf (S.id file.old) limit into.new.items) }
     ensures failed { IsErrOf result ReadError.Failed
         → Rose (S.failures system.old) (S.failures system.new) }
+    ensures other_failures { IfErr result
+        (λ error. error ≢ ReadError.Failed → S.failures system.new ≡ S.failures system.old) }
 {
     let _ = into.reserve(limit + 1);
     let mut piece = [0u8; PIECE];

@@ -1,9 +1,9 @@
 use Rattle.std.proofs.Common.{◌∙◌, inl, refl, rules}
-use Rattle.std.proofs.lemmas.Result.{on_ok_weaker}
+use Rattle.std.proofs.lemmas.Result.{on_ok_weaker, IfErr-weaker}
 use Rattle.pg_outside.specs.Inside.DiskWrites.{KeepsOnly}
 use Rattle.pg_outside.proofs.Causes.{rose_since}
 use Rattle.pg_outside.proofs.DiskReading.{reads_content, reads_front, is_noted, keeps_only}
-use Rattle.pg_outside.proofs.Results.{no_value}
+use Rattle.pg_outside.proofs.Results.{if_err, no_value}
 use Rattle.pg_outside.proofs.Runs.{keeps_self, keeps_both, now_always}
 use Rattle.pg_outside.proofs.ReadErrors.{long_or_failed, memory_or_long, memory_or_failed}
 use Rattle.pg_outside.proofs.disk.files.read_named.Goals as goal
@@ -14,6 +14,7 @@ returns-in_default g c = record {
   all = tt;
   front = λ is. absurd (long_or_failed _ is refl);
   failed = search rules;
+  other_failures = λ apart. absurd (apart refl);
 }
 
 pub returns-in_err-keep_regular : goal.returns-in_err-keep_regular
@@ -26,6 +27,7 @@ returns-in_err-keep_regular g c = record {
   all = no_value _ c.from_residual.result c.from_residual.ensures.0;
   front = λ is. absurd (memory_or_long _ c.from_residual.ensures.1 is);
   failed = λ is. absurd (memory_or_failed _ c.from_residual.ensures.1 is);
+  other_failures = if_err _ c.from_residual.result (λ _ _. c.in-Ok-stat.ensures.ok_failures ∙ c.in-Ok.ensures.ok_failures);
 }
 
 pub returns : goal.returns
@@ -48,4 +50,5 @@ returns g c = record {
         is_noted _ _ _ _ _ _ _ c.in-Ok.ensures.opened c.stat.ensures.same c.in-Ok-stat.ensures.seen c.in_ok-keep_regular.ensures.noted c.read_within.ensures.same,
       );
   failed = λ is. rose_since _ _ _ (c.in-Ok-stat.ensures.ok_failures ∙ c.in-Ok.ensures.ok_failures) (c.read_within.ensures.failed is);
+  other_failures = IfErr-weaker c.read_within.result _ _ (λ _ same apart. same apart ∙ c.in-Ok-stat.ensures.ok_failures ∙ c.in-Ok.ensures.ok_failures) c.read_within.ensures.other_failures;
 }

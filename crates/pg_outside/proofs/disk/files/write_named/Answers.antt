@@ -4,7 +4,7 @@ use Rattle.pg_outside.proofs.Runs.{keeps_self}
 use Rattle.pg_outside.proofs.disk.files.write_named.Goals as goal
 
 pub returns-in_err-reserve : goal.returns-in_err-reserve
-returns-in_err-reserve g c = writes_nothing c.from_residual.result _ _ _ _ _ _ _ _ _ c.from_residual.ensures.0 c.from_residual.ensures.1 c.reserve.ensures.items (keeps_self _) tt
+returns-in_err-reserve g c = writes_nothing c.from_residual.result _ _ _ _ _ _ _ _ _ c.from_residual.ensures.0 c.from_residual.ensures.1 c.reserve.ensures.items (keeps_self _) refl
 
 pub returns-in_err-open_to_write : goal.returns-in_err-open_to_write
 returns-in_err-open_to_write g c =

@@ -19,7 +19,7 @@ returns-in_err-write_all g c = record {
     refl,
     write_device_fails _ _ _ _ _ _ _ _ c.requires.opened c.requires.writable c.stat.ensures.same c.in_ok-seen.ensures.seen c.if-not-seen.true c.in_err-write_all.ensures.err.1,
   );
-  cause = failed_on c.from_residual-in_err-write_all.result _ _ _ _ c.from_residual-in_err-write_all.ensures.1 (rose_since _ _ _ c.in_ok-seen.ensures.ok_failures c.in_err-write_all.ensures.err.0);
+  cause = failed_on c.from_residual-in_err-write_all.result _ _ _ _ _ c.from_residual-in_err-write_all.ensures.1 (rose_since _ _ _ c.in_ok-seen.ensures.ok_failures c.in_err-write_all.ensures.err.0);
 }
 
 pub returns-then-not-seen : goal.returns-then-not-seen
@@ -39,7 +39,7 @@ returns-then-contains g c =
     record {
       ok = tt;
       err = (refl, nothing_failed _ _ _ _ _ c.stat.ensures.same);
-      cause = was_kept _ _ _ _ _ _ c.requires.opened c.stat.ensures.same c.in_ok-seen.ensures.seen c.if-not-seen.false is_kept;
+      cause = (c.in_ok-seen.ensures.ok_failures, was_kept _ _ _ _ _ _ c.requires.opened c.stat.ensures.same c.in_ok-seen.ensures.seen c.if-not-seen.false is_kept);
     }
 
 pub returns : goal.returns

@@ -1,7 +1,7 @@
 use Rattle.std.proofs.Common.{refl}
 use Rattle.std.proofs.lemmas.Result.{on_err_weaker}
 use Rattle.pg_outside.specs.Inside.DiskWrites.{IsDeep}
-use Rattle.pg_outside.proofs.Causes.{rose_since, still_because, because_unfollowed, passed_weaker}
+use Rattle.pg_outside.proofs.Causes.{still_because, because_unfollowed, passed_since}
 use Rattle.pg_outside.proofs.DiskWriting.{leads_old, no_other, is_full, replaces_found, replace_found_fails, nothing_failed, writes_nothing}
 use Rattle.pg_outside.proofs.Results.{on_err, no_value}
 use Rattle.pg_outside.proofs.disk.files.write_regular.Goals as goal
@@ -14,19 +14,19 @@ returns g c =
     record {
       ok = replaces_found c.replace_kept.result _ _ _ _ _ _ _ _ _ _ _ _ c.in_ok-found.ensures.found.0 c.find.ensures.same leads (rw c.as_str.ensures.value at c.replace_kept.ensures.ok);
       err = on_err_weaker c.replace_kept.result (λ run. (run.0, replace_found_fails _ _ _ _ _ _ _ _ c.find.ensures.same leads (rw c.as_str.ensures.value at run.1))) c.replace_kept.ensures.err;
-      cause = still_because c.replace_kept.result _ _ _ _ _ _ _ _ cause (λ rose. rose_since _ _ _ c.in_ok-found.ensures.found.0 rose) (λ b. absurd b)
-          (λ b. absurd b) (λ all. is_full _ c.args.name.now _ _ _ c.in_ok-found.ensures.found.1 all.0 all.1);
+      cause = still_because c.replace_kept.result _ _ _ _ _ _ _ _ _ cause c.in_ok-found.ensures.found.0 (λ b. absurd b) (λ b. absurd b)
+          (λ all. is_full _ c.args.name.now _ _ _ c.in_ok-found.ensures.found.1 all.0 all.1);
     }
 
 pub returns-in_err-found : goal.returns-in_err-found
 returns-in_err-found g c = record {
   ok = no_value _ c.from_residual.result c.from_residual.ensures.0;
   err = on_err c.from_residual.result (refl, nothing_failed _ _ _ _ _ c.find.ensures.same);
-  cause = passed_weaker c.from_residual.result _ _ _ _ _ _ _ _ _ c.from_residual.ensures.1 c.in_err-found.ensures.cause (λ r. r) (λ b. absurd b) (λ d. d) (λ b. absurd b);
+  cause = passed_since c.from_residual.result _ _ _ _ _ _ _ _ _ _ c.from_residual.ensures.1 c.in_err-found.ensures.cause refl (λ b. absurd b) (λ d. d) (λ b. absurd b);
 }
 
 pub returns-in_err-mode : goal.returns-in_err-mode
 returns-in_err-mode g c =
     let deep = no_other _ c.args.name.now _ c.args.old (IsDeep c.args.name.now) _ _ c.requires.old c.find.ensures.same c.in_ok-found.ensures.found.1 c.in_err-mode.ensures.other in
     writes_nothing c.from_residual-in_err-mode.result _ _ _ _ _ _ _ _ _ c.from_residual-in_err-mode.ensures.0 c.from_residual-in_err-mode.ensures.1 refl c.find.ensures.same
-    (because_unfollowed _ _ _ _ _ c.in_err-mode.ensures.error deep)
+    (because_unfollowed _ _ _ _ _ _ c.in_err-mode.ensures.error c.in_ok-found.ensures.found.0 deep)

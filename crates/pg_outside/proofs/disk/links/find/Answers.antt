@@ -47,28 +47,28 @@ pub returns : goal.returns
 returns g c = record {
   same = c.loop.invariant.same;
   found = tt;
-  cause = is_deep _ _ _ _ (omega arith) c.loop.invariant.reached;
+  cause = (c.loop.invariant.failures, is_deep _ _ _ _ (omega arith) c.loop.invariant.reached);
 }
 
 pub returns-in_err-real : goal.returns-in_err-real
 returns-in_err-real g c = record {
   same = keeps_self _;
   found = IfOk-from_err _ _ c.from_residual.ensures.0;
-  cause = memory_on c.from_residual.result _ _ _ _ c.from_residual.ensures.1;
+  cause = memory_on c.from_residual.result _ _ _ _ _ c.from_residual.ensures.1 refl;
 }
 
 pub returns-in_err-look : goal.returns-in_err-look
 returns-in_err-look g c = record {
   same = keeps_both _ _ _ c.loop.invariant.same c.look.ensures.same;
   found = IfOk-from_err _ _ c.from_residual-in_err-look.ensures.0;
-  cause = failed_on c.from_residual-in_err-look.result _ _ _ _ c.from_residual-in_err-look.ensures.1 (rose_since _ _ _ c.loop.invariant.failures c.in_err-look.ensures.failed);
+  cause = failed_on c.from_residual-in_err-look.result _ _ _ _ _ c.from_residual-in_err-look.ensures.1 (rose_since _ _ _ c.loop.invariant.failures c.in_err-look.ensures.failed);
 }
 
 pub returns-in_err-text-in-Link : goal.returns-in_err-text-in-Link
 returns-in_err-text-in-Link g c = record {
   same = keeps_both _ _ _ (keeps_both _ _ _ c.loop.invariant.same c.look.ensures.same) c.read_link.ensures.same;
   found = IfOk-from_err _ _ c.from_residual-in_err-text-in-Link.ensures.0;
-  cause = failed_on c.from_residual-in_err-text-in-Link.result _ _ _ _ c.from_residual-in_err-text-in-Link.ensures.1
+  cause = failed_on c.from_residual-in_err-text-in-Link.result _ _ _ _ _ c.from_residual-in_err-text-in-Link.ensures.1
       (rose_since _ _ _ (c.in_ok-look.ensures.ok_failures ∙ c.loop.invariant.failures) c.in_err-text-in-Link.ensures.failed);
 }
 
@@ -76,5 +76,6 @@ pub returns-in_err-real-in-Link : goal.returns-in_err-real-in-Link
 returns-in_err-real-in-Link g c = record {
   same = keeps_both _ _ _ (keeps_both _ _ _ c.loop.invariant.same c.look.ensures.same) c.read_link.ensures.same;
   found = IfOk-from_err _ _ c.from_residual-in_err-real-in-Link.ensures.0;
-  cause = memory_on c.from_residual-in_err-real-in-Link.result _ _ _ _ c.from_residual-in_err-real-in-Link.ensures.1;
+  cause = memory_on c.from_residual-in_err-real-in-Link.result _ _ _ _ _ c.from_residual-in_err-real-in-Link.ensures.1
+      (c.in_ok-text-in-Link.ensures.ok_failures ∙ c.in_ok-look.ensures.ok_failures ∙ c.loop.invariant.failures);
 }

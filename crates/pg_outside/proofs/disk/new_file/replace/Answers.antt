@@ -1,5 +1,5 @@
-use Rattle.std.proofs.Common.{◌∙◌}
-use Rattle.pg_outside.proofs.Causes.{rose_then, passed_weaker}
+use Rattle.std.proofs.Common.{◌∙◌, refl}
+use Rattle.pg_outside.proofs.Causes.{rose_then, passed_since}
 use Rattle.pg_outside.proofs.Results.{on_err}
 use Rattle.pg_outside.proofs.Replacing.{replaces, gave_up, nothing_done}
 use Rattle.std.proofs.lemmas.Result.{IfOk-from_err}
@@ -30,5 +30,5 @@ pub returns-in_err-new : goal.returns-in_err-new
 returns-in_err-new g c = record {
   ok = IfOk-from_err _ _ c.from_residual.ensures.0;
   err = on_err c.from_residual.result (nothing_done _ _ _ _ _ c.in_err-new.ensures.err);
-  cause = passed_weaker c.from_residual.result _ _ _ _ _ _ _ _ _ c.from_residual.ensures.1 c.in_err-new.ensures.cause (λ r. r) (λ b. b) (λ b. b) (λ all. (c.in_err-new.ensures.err, all));
+  cause = passed_since c.from_residual.result _ _ _ _ _ _ _ _ _ _ c.from_residual.ensures.1 c.in_err-new.ensures.cause refl (λ b. b) (λ b. b) (λ all. (c.in_err-new.ensures.err, all));
 }

@@ -1,5 +1,5 @@
 use Rattle.pg_outside.proofs.Causes.{rose_since}
-use Rattle.pg_outside.proofs.Results.{no_value, not_err}
+use Rattle.pg_outside.proofs.Results.{if_err, no_value, not_err}
 use Rattle.pg_outside.proofs.Runs.{keeps_both}
 use Rattle.std.proofs.Common.{refl, ◌∙◌, ◌≡◌, ◌<◌, ◌≤◌, ◌+◌, ◌++◌, length, take, drop, arith}
 use Rattle.std.proofs.lemmas.Grind.{common_steps}
@@ -17,6 +17,7 @@ returns-in-Ok-eq0 g c = record {
   );
   front = λ is. absurd (not_err _ _ is);
   failed = λ is. absurd (not_err _ _ is);
+  other_failures = tt;
 }
 
 pub loop-piece-preserved : goal.loop-piece-preserved
@@ -40,6 +41,7 @@ returns g c = record {
       let within = c.loop-piece.invariant.read.within in
       λ long. (omega arith, reads_past _ _ _ _ _ _ _ c.loop-piece.invariant.read past);
   failed = λ is. absurd (long_or_failed _ refl is);
+  other_failures = λ _. c.loop-piece.invariant.failures;
 }
 
 pub returns-in_err-extend_from_slice-in-Ok : goal.returns-in_err-extend_from_slice-in-Ok
@@ -48,6 +50,7 @@ returns-in_err-extend_from_slice-in-Ok g c = record {
   all = no_value _ c.from_residual.result c.from_residual.ensures.0;
   front = λ is. absurd (memory_or_long _ c.from_residual.ensures.1 is);
   failed = λ is. absurd (memory_or_failed _ c.from_residual.ensures.1 is);
+  other_failures = if_err _ c.from_residual.result (λ _ _. c.in-Ok.ensures.ok_failures ∙ c.loop-piece.invariant.failures);
 }
 
 pub returns-in-Err : goal.returns-in-Err
@@ -56,6 +59,7 @@ returns-in-Err g c = record {
   all = tt;
   front = λ is. absurd (long_or_failed _ is refl);
   failed = λ _. rose_since _ _ _ c.loop-piece.invariant.failures c.in-Err.ensures.failed;
+  other_failures = λ apart. absurd (apart refl);
 }
 
 pub loop-piece-init : goal.loop-piece-init

@@ -8,18 +8,20 @@ use Rattle.pg_outside.proofs.memory_files.MemoryFilesFiles.read.Goals as goal
 
 pub returns-in-Some : goal.returns-in-Some
 returns-in-Some c = record {
-  held = ap (λ (files : List StoredFile). Some (file_map files)) (sym (ap (λ v. v.items) c.next_plan.ensures.files));
-  reads = reads_later c.args.self.now.missing.items c.next_plan.new.self.missing.items c.args.self.now.reads_failed c.next_plan.new.self.reads_failed
-      (ap (λ v. v.items) c.next_plan.ensures.missing) c.next_plan.ensures.reads;
-  writes = λ _. c.next_plan.ensures.writes;
-  fits = tt;
-  cut = λ is. absurd (long_or_failed _ is refl);
-  file = tt;
-  cut_file = λ is. absurd (long_or_failed _ is refl);
-  failed = λ _. reads_rose c.args.self.now.missing.items c.next_plan.new.self.missing.items c.args.self.now.reads_failed c.next_plan.new.self.reads_failed
-      (ap (λ v. v.items) c.next_plan.ensures.missing) c.in-Some.ensures.reads_rose c.args.name.now;
+  all = record {
+    held = ap (λ (files : List StoredFile). Some (file_map files)) (sym (ap (λ v. v.items) c.next_plan.ensures.files));
+    reads = reads_later c.args.self.now.missing.items c.next_plan.new.self.missing.items c.args.self.now.reads_failed c.next_plan.new.self.reads_failed
+        (ap (λ v. v.items) c.next_plan.ensures.missing) c.next_plan.ensures.reads;
+    writes = λ _. c.next_plan.ensures.writes;
+    calls = c.next_plan.ensures.made ∙ c.and-self.ensures;
+    fits = tt;
+    cut = λ is. absurd (long_or_failed _ is refl);
+    file = tt;
+    cut_file = λ is. absurd (long_or_failed _ is refl);
+    failed = λ _. reads_rose c.args.self.now.missing.items c.next_plan.new.self.missing.items c.args.self.now.reads_failed c.next_plan.new.self.reads_failed
+        (ap (λ v. v.items) c.next_plan.ensures.missing) c.in-Some.ensures.reads_rose c.args.name.now;
+  };
   calls = c.next_plan.ensures.calls;
-  made = c.next_plan.ensures.made ∙ c.and-self.ensures;
   listed = c.next_plan.ensures.listed;
   rooms = λ name. ap (λ (files : List StoredFile). room_in files name) (ap (λ v. v.items) c.next_plan.ensures.files);
   listed_fails = λ _. refl;
@@ -38,16 +40,18 @@ returns-in-Some c = record {
 
 pub returns-in-None : goal.returns-in-None
 returns-in-None c = record {
-  held = ap (λ (files : List StoredFile). Some (file_map files)) (sym (ap (λ v. v.items) c.next_plan.ensures.files));
-  reads = λ name. grind (arith, c.read_or_note.ensures.later name);
-  writes = λ _. c.next_plan.ensures.writes;
-  fits = c.read_or_note.ensures.fits;
-  cut = c.read_or_note.ensures.cut;
-  file = search rules;
-  cut_file = search rules;
-  failed = search rules;
+  all = record {
+    held = ap (λ (files : List StoredFile). Some (file_map files)) (sym (ap (λ v. v.items) c.next_plan.ensures.files));
+    reads = λ name. grind (arith, c.read_or_note.ensures.later name);
+    writes = λ _. c.next_plan.ensures.writes;
+    calls = c.next_plan.ensures.made ∙ c.and-self.ensures;
+    fits = c.read_or_note.ensures.fits;
+    cut = c.read_or_note.ensures.cut;
+    file = search rules;
+    cut_file = search rules;
+    failed = search rules;
+  };
   calls = c.next_plan.ensures.calls;
-  made = c.next_plan.ensures.made ∙ c.and-self.ensures;
   listed = c.next_plan.ensures.listed;
   rooms = λ name. ap (λ (files : List StoredFile). room_in files name) (ap (λ v. v.items) c.next_plan.ensures.files);
   listed_fails = λ listed. absurd (not_listed _ _ _ c.next_plan.ensures.plan c.in-None.is listed);

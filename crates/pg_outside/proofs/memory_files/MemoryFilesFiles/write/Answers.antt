@@ -9,15 +9,17 @@ use Rattle.pg_outside.proofs.memory_files.MemoryFilesFiles.write.Goals as goal
 
 pub returns-in-Some : goal.returns-in-Some
 returns-in-Some c = record {
-  whole = tt;
-  part = subst (λ (files : List StoredFile). HasPart (file_map files) (file_map c.store_front.new.files.items) c.args.name.now c.args.bytes.now)
-      (ap (λ v. v.items) c.next_plan.ensures.files) c.store_front.ensures.part;
-  reads = reads_later c.args.self.now.missing.items c.next_plan.new.self.missing.items c.args.self.now.reads_failed c.next_plan.new.self.reads_failed
-      (ap (λ v. v.items) c.next_plan.ensures.missing) c.next_plan.ensures.reads;
-  writes = λ _. c.next_plan.ensures.writes;
-  failed = omega (arith, c.in-Some.ensures.writes_rose);
+  all = record {
+    whole = tt;
+    part = subst (λ (files : List StoredFile). HasPart (file_map files) (file_map c.store_front.new.files.items) c.args.name.now c.args.bytes.now)
+        (ap (λ v. v.items) c.next_plan.ensures.files) c.store_front.ensures.part;
+    reads = reads_later c.args.self.now.missing.items c.next_plan.new.self.missing.items c.args.self.now.reads_failed c.next_plan.new.self.reads_failed
+        (ap (λ v. v.items) c.next_plan.ensures.missing) c.next_plan.ensures.reads;
+    writes = λ _. c.next_plan.ensures.writes;
+    failed = omega (arith, c.in-Some.ensures.writes_rose);
+    calls = c.next_plan.ensures.made ∙ c.and-self.ensures;
+  };
   calls = c.next_plan.ensures.calls;
-  made = c.next_plan.ensures.made ∙ c.and-self.ensures;
   listed = c.next_plan.ensures.listed;
   rooms = subst (λ (files : List StoredFile). NoneFell (room_in files) (room_in c.store_front.new.files.items)) (ap (λ v. v.items) c.next_plan.ensures.files) c.store_front.ensures.rooms;
   listed_fails = λ _. refl;
@@ -38,14 +40,16 @@ returns-in-Some c = record {
 
 pub returns-then-is_err : goal.returns-then-is_err
 returns-then-is_err c = record {
-  whole = tt;
-  part = search rules;
-  reads = reads_later c.args.self.now.missing.items c.next_plan.new.self.missing.items c.args.self.now.reads_failed c.next_plan.new.self.reads_failed
-      (ap (λ v. v.items) c.next_plan.ensures.missing) c.next_plan.ensures.reads;
-  writes = search rules;
-  failed = search rules;
+  all = record {
+    whole = tt;
+    part = search rules;
+    reads = reads_later c.args.self.now.missing.items c.next_plan.new.self.missing.items c.args.self.now.reads_failed c.next_plan.new.self.reads_failed
+        (ap (λ v. v.items) c.next_plan.ensures.missing) c.next_plan.ensures.reads;
+    writes = search rules;
+    failed = search rules;
+    calls = c.next_plan.ensures.made ∙ c.and-self.ensures;
+  };
   calls = c.next_plan.ensures.calls;
-  made = c.next_plan.ensures.made ∙ c.and-self.ensures;
   listed = c.next_plan.ensures.listed;
   rooms = subst (λ (files : List StoredFile). NoneFell (room_in files) (room_in c.store.new.files.items)) (ap (λ v. v.items) c.next_plan.ensures.files) c.store.ensures.rooms;
   listed_fails = λ listed. absurd (not_listed _ _ _ c.next_plan.ensures.plan c.in-None.is listed);
@@ -66,14 +70,16 @@ returns-then-is_err c = record {
 
 pub returns-else-is_err : goal.returns-else-is_err
 returns-else-is_err c = record {
-  whole = search rules;
-  part = tt;
-  reads = reads_later c.args.self.now.missing.items c.next_plan.new.self.missing.items c.args.self.now.reads_failed c.next_plan.new.self.reads_failed
-      (ap (λ v. v.items) c.next_plan.ensures.missing) c.next_plan.ensures.reads;
-  writes = λ _. c.next_plan.ensures.writes;
-  failed = tt;
+  all = record {
+    whole = search rules;
+    part = tt;
+    reads = reads_later c.args.self.now.missing.items c.next_plan.new.self.missing.items c.args.self.now.reads_failed c.next_plan.new.self.reads_failed
+        (ap (λ v. v.items) c.next_plan.ensures.missing) c.next_plan.ensures.reads;
+    writes = λ _. c.next_plan.ensures.writes;
+    failed = tt;
+    calls = c.next_plan.ensures.made ∙ c.and-self.ensures;
+  };
   calls = c.next_plan.ensures.calls;
-  made = c.next_plan.ensures.made ∙ c.and-self.ensures;
   listed = c.next_plan.ensures.listed;
   rooms = subst (λ (files : List StoredFile). NoneFell (room_in files) (room_in c.store.new.files.items)) (ap (λ v. v.items) c.next_plan.ensures.files) c.store.ensures.rooms;
   listed_fails = λ listed. absurd (not_listed _ _ _ c.next_plan.ensures.plan c.in-None.is listed);

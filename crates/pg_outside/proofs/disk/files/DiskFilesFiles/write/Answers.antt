@@ -4,34 +4,28 @@ use Rattle.pg_outside.proofs.disk.files.DiskFilesFiles.write.Goals as goal
 
 pub returns-in-Ok : goal.returns-in-Ok
 returns-in-Ok g c = record {
-  whole = written_held _ _ _ _ _ _ _ (g.met.S.System.plain c.args.self.now.system) (g.met.S.System.plain c.write_file.new.self.system) c.in-Ok.ensures.ok;
-  part = tt;
-  reads = λ _. c.write_file.ensures.later;
-  writes = λ _. c.write_file.ensures.later;
-  failed = tt;
-  calls = c.write_file.ensures.calls;
-  ok = c.in-Ok.ensures.ok;
-  err = tt;
-  kept = c.write_file.ensures.kept;
-  err_kept = tt;
-  ok_failures = c.in-Ok.ensures.ok_failures;
-  one_fault = tt;
-  ok_faults = c.in-Ok.ensures.ok_faults;
+  all = record {
+    whole = written_held _ _ _ _ _ _ _ (g.met.S.System.plain c.args.self.now.system) (g.met.S.System.plain c.write_file.new.self.system) c.in-Ok.ensures.disk.ok;
+    part = tt;
+    reads = λ _. c.write_file.ensures.later;
+    writes = λ _. c.write_file.ensures.later;
+    failed = tt;
+    calls = c.write_file.ensures.calls;
+  };
+  disk = let left = c.in-Ok.ensures.disk in
+      record { ok = left.ok; err = tt; kept = left.kept; err_kept = tt; ok_failures = left.ok_failures; one_fault = tt; ok_faults = left.ok_faults };
 }
 
 pub returns-in-Err : goal.returns-in-Err
 returns-in-Err g c = record {
-  whole = tt;
-  part = failed_held _ _ _ _ _ (g.met.S.System.plain c.args.self.now.system) (g.met.S.System.plain c.write_file.new.self.system) c.in-Err.ensures.err;
-  reads = λ _. c.write_file.ensures.later;
-  writes = λ _. c.write_file.ensures.later;
-  failed = rose_one _ _ c.in-Err.ensures.one_fault;
-  calls = c.write_file.ensures.calls;
-  ok = tt;
-  err = c.in-Err.ensures.err;
-  kept = c.write_file.ensures.kept;
-  err_kept = c.in-Err.ensures.err_kept;
-  ok_failures = tt;
-  one_fault = c.in-Err.ensures.one_fault;
-  ok_faults = tt;
+  all = record {
+    whole = tt;
+    part = failed_held _ _ _ _ _ (g.met.S.System.plain c.args.self.now.system) (g.met.S.System.plain c.write_file.new.self.system) c.in-Err.ensures.disk.err;
+    reads = λ _. c.write_file.ensures.later;
+    writes = λ _. c.write_file.ensures.later;
+    failed = rose_one _ _ c.in-Err.ensures.disk.one_fault;
+    calls = c.write_file.ensures.calls;
+  };
+  disk = let left = c.in-Err.ensures.disk in
+      record { ok = tt; err = left.err; kept = left.kept; err_kept = left.err_kept; ok_failures = tt; one_fault = left.one_fault; ok_faults = tt };
 }
