@@ -12,14 +12,13 @@ ghost use Rattle.pg_table.specs.Inside.Sharing.{Lists, Shares, value_and_dot, wi
 use pg_cells::{Cells, enter};
 use pg_outputs::Outputs;
 use pg_patterns::PatternSet;
-use pg_types::FEW_SIGNS;
 use std::alloc::{AllocError, Global};
 
 /// The cells of the strings of patterns, each with the head of its string's list.
 #[derive(Drop)]
 pub struct Packed {
     /// A cell for each string, with the head of its list.
-    pub cells: Cells<u64, FEW_SIGNS>,
+    pub cells: Cells<u64>,
     /// The lists, each value with its dot.
     pub outputs: Outputs,
 }
@@ -39,7 +38,7 @@ pub fn enter_all(alloc: Global, signs: u16, patterns: &PatternSet) -> Result<Pac
 /// Enters all patterns into cells and records that have none yet.
 fn enter_strings(
     patterns: &PatternSet,
-    cells: &mut Cells<u64, FEW_SIGNS>,
+    cells: &mut Cells<u64>,
     outputs: &mut Outputs,
 ) -> Result<(), AllocError>
     requires known { SignsUpTo cells.old.signs patterns.now }

@@ -16,7 +16,7 @@ use crate::cell::Cell;
 use crate::entering::Packed;
 use pg_cells::{Cells, step};
 use pg_patterns::PatternSet;
-use pg_types::{FEW_SIGNS, Sign};
+use pg_types::Sign;
 use std::alloc::{AllocError, Global};
 
 /// A cell that no string has.
@@ -64,7 +64,7 @@ fn fill(signs: u16, patterns: &PatternSet, packed: &Packed, row: &mut [Cell])
 }
 
 /// Fills in the cells of a string and of its fronts.
-fn fill_string(cells: &Cells<u64, FEW_SIGNS>, signs: &[Sign], row: &mut [Cell])
+fn fill_string(cells: &Cells<u64>, signs: &[Sign], row: &mut [Cell])
     requires held { AreValuedFamilies cells.now }
     requires signs { All (λ s. (1 ≤ s) × (s ≤ cells.now.signs)) signs.now }
     requires size { length row.old ≡ top cells.now.families + 1 }

@@ -15,7 +15,6 @@ use crate::strings::{strings, value_of};
 use pg_cells::Cells;
 use pg_outputs::Outputs;
 use pg_patterns::DottedSigns;
-use pg_types::FEW_SIGNS;
 use std::alloc::{AllocError, Global};
 
 // Puts the values of a string's list behind the entries.
@@ -43,7 +42,7 @@ fn push_values(
 // The values of the strings, each with its dotted string.
 fn gather(
     alloc: Global,
-    cells: &Cells<Head, FEW_SIGNS>,
+    cells: &Cells<Head>,
     strings: &[DottedSigns],
     outputs: &Outputs,
 ) -> Result<Vec<(DottedSigns, u8)>, AllocError>
@@ -64,7 +63,7 @@ fn gather(
 /// The values of all strings, each with its dotted string.
 pub fn entries(
     alloc: Global,
-    cells: &Cells<Head, FEW_SIGNS>,
+    cells: &Cells<Head>,
     outputs: &Outputs,
 ) -> Result<Vec<(DottedSigns, u8)>, AllocError>
     requires { IsTrie cells.now outputs.now }

@@ -9,18 +9,12 @@ ghost use Rattle.pg_trie.specs.Inside.Strings.{AreShort};
 
 use crate::head::Head;
 use pg_cells::{Cells, step};
-use pg_types::{FEW_SIGNS, PATTERN_SIGNS_MAX, Sign};
+use pg_types::{PATTERN_SIGNS_MAX, Sign};
 
 // Takes away the cell of a string of several signs, where it has no list and no string goes on from
 // it. `before` is the sign before `s` in its family, 0 for none. The answer is the sign that then
 // stands before those behind `s`.
-fn remove_blank(
-    cells: &mut Cells<Head, FEW_SIGNS>,
-    parent: usize,
-    cell: usize,
-    before: Sign,
-    s: Sign,
-) -> Sign
+fn remove_blank(cells: &mut Cells<Head>, parent: usize, cell: usize, before: Sign, s: Sign) -> Sign
     requires held { AreValuedFamilies cells.old }
     requires cell { (q : List ℕ) × ((cell_of cells.old.families q ≡ Some parent)
         × (cell_of cells.old.families (q ++ s ∷ []) ≡ Some cell)) }
@@ -40,7 +34,7 @@ fn remove_blank(
 
 // Takes away the cells of all strings that go on from the cell's string and have no list, where no
 // string that stays goes on from them. A string below it has at most so many signs more.
-fn prune_below(cells: &mut Cells<Head, FEW_SIGNS>, cell: usize, more: usize)
+fn prune_below(cells: &mut Cells<Head>, cell: usize, more: usize)
     requires held { AreValuedFamilies cells.old }
     requires short { AreShort cells.old }
     requires cell { (q : List ℕ) × ((cell_of cells.old.families q ≡ Some cell)
@@ -63,7 +57,7 @@ fn prune_below(cells: &mut Cells<Head, FEW_SIGNS>, cell: usize, more: usize)
 
 /// Takes away the cells of all strings that have several signs and no list, where no string that
 /// stays goes on from them.
-pub fn prune(cells: &mut Cells<Head, FEW_SIGNS>)
+pub fn prune(cells: &mut Cells<Head>)
     requires held { AreValuedFamilies cells.old }
     requires short { AreShort cells.old }
     requires signs { cells.old.signs ≤ SIGNS_MAX }

@@ -13,7 +13,6 @@ use crate::head::{Head, in_four_bytes};
 use crate::hopeless::HOPELESS;
 use pg_cells::Cells;
 use pg_outputs::Outputs;
-use pg_types::FEW_SIGNS;
 use std::alloc::{AllocError, Global};
 
 // The head of a list's values without its hopeless entry, among the new records.
@@ -50,7 +49,7 @@ fn no_heads(alloc: Global, count: u64) -> Result<Vec<u32>, AllocError>
 
 // The new head of the string with the cell, beside its old one.
 fn renew_cell(
-    cells: &Cells<Head, FEW_SIGNS>,
+    cells: &Cells<Head>,
     cell: usize,
     outputs: &Outputs,
     fresh: &mut Outputs,
@@ -74,7 +73,7 @@ fn renew_cell(
 /// only those of the ends of these lists.
 pub fn fresh_heads(
     alloc: Global,
-    cells: &Cells<Head, FEW_SIGNS>,
+    cells: &Cells<Head>,
     outputs: &Outputs,
     fresh: &mut Outputs,
 ) -> Result<Vec<u32>, AllocError>
@@ -91,7 +90,7 @@ pub fn fresh_heads(
 }
 
 /// Gives each string its new head.
-pub fn renew(cells: &mut Cells<Head, FEW_SIGNS>, heads: &[u32])
+pub fn renew(cells: &mut Cells<Head>, heads: &[u32])
     requires held { AreValuedFamilies cells.old }
     requires heads { (q : List ℕ) (u : ℕ) → find (slice_cmp nat_cmp) q cells.old.values ≡ Some u →
         u < length heads.now }

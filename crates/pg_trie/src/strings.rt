@@ -12,11 +12,11 @@ ghost use Rattle.pg_trie.specs.Inside.Strings.{AreShort, IsString, PutsBelow, Ar
 use crate::head::Head;
 use pg_cells::{Cells, step};
 use pg_patterns::DottedSigns;
-use pg_types::{EDGE, FEW_SIGNS, PATTERN_SIGNS_MAX, Sign};
+use pg_types::{EDGE, PATTERN_SIGNS_MAX, Sign};
 use std::alloc::{AllocError, Global};
 
 /// The cell of a string, or `None` where it has none.
-pub fn find_cell(cells: &Cells<Head, FEW_SIGNS>, signs: &[Sign]) -> Option<usize>
+pub fn find_cell(cells: &Cells<Head>, signs: &[Sign]) -> Option<usize>
     requires held { AreValuedFamilies cells.now }
     requires signs { All (λ s. (1 ≤ s) × (s ≤ cells.now.signs)) signs.now }
     ensures { result ≡ cell_of cells.now.families signs.now }
@@ -29,7 +29,7 @@ pub fn find_cell(cells: &Cells<Head, FEW_SIGNS>, signs: &[Sign]) -> Option<usize
 }
 
 /// The value of a string that has a cell.
-pub fn value_of(cells: &Cells<Head, FEW_SIGNS>, signs: &[Sign]) -> u64
+pub fn value_of(cells: &Cells<Head>, signs: &[Sign]) -> u64
     requires held { AreValuedFamilies cells.now }
     requires signs { All (λ s. (1 ≤ s) × (s ≤ cells.now.signs)) signs.now }
     ensures { (v : ℕ) → find (slice_cmp nat_cmp) signs.now cells.now.values ≡ Some v → result ≡ v }
@@ -54,7 +54,7 @@ fn longer(prefix: &[Sign], s: Sign) -> DottedSigns
 // Puts the strings of the family with the base and the first sign behind the others. It goes along
 // the signs of the family.
 fn push_family(
-    cells: &Cells<Head, FEW_SIGNS>,
+    cells: &Cells<Head>,
     prefix: &[Sign],
     base: usize,
     first: Sign,
@@ -80,7 +80,7 @@ fn push_family(
 
 // Puts the strings with one sign more than that with the number `i` behind the others.
 fn push_below(
-    cells: &Cells<Head, FEW_SIGNS>,
+    cells: &Cells<Head>,
     strings: &mut Vec<DottedSigns>,
     i: usize,
 ) -> Result<(), AllocError>
@@ -104,10 +104,7 @@ fn push_below(
 }
 
 /// The strings that have a cell, each before those with one sign more.
-pub fn strings(
-    alloc: Global,
-    cells: &Cells<Head, FEW_SIGNS>,
-) -> Result<Vec<DottedSigns>, AllocError>
+pub fn strings(alloc: Global, cells: &Cells<Head>) -> Result<Vec<DottedSigns>, AllocError>
     requires held { AreValuedFamilies cells.now }
     requires short { AreShort cells.now }
     requires signs { cells.now.signs ≤ SIGNS_MAX }

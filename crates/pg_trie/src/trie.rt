@@ -21,7 +21,7 @@ use crate::renew::{fresh_heads, renew};
 use pg_cells::Cells;
 use pg_outputs::Outputs;
 use pg_patterns::PatternSet;
-use pg_types::{FEW_SIGNS, Layout, Sign};
+use pg_types::{Layout, Sign};
 use std::alloc::{AllocError, Global};
 use std::marker::Model;
 
@@ -33,7 +33,7 @@ use std::marker::Model;
 #[derive(Drop)]
 pub struct PatternTrie {
     alloc: Global,
-    cells: Cells<Head, FEW_SIGNS>,
+    cells: Cells<Head>,
     lists: Lists,
 }
 
