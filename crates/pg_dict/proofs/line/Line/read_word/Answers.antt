@@ -60,5 +60,6 @@ returns-clause-counted c =
     let first = pushed_length c.args.store.now c.push.new.self c.plain.result.mark c.plain.result.weight EDGE c.in_ok-push.ensures.ok in
     let second = pushed_length c.push.new.self c.push-2.new.self c.plain-2.result.mark c.plain-2.result.weight c.args.sign c.in_ok-push-2.ensures.ok in
     let kept = ap (λ (ws : List Stored). length ws) (c.fill.ensures.words ∙ c.push-2.ensures.words ∙ c.push.ensures.words) in
-    let more = ap (λ (ws : List Stored). length ws) (stored c) ∙ length_push c.fill.new.store.words.items (record { start = c.len-start.result; end = c.len-end.result; weight = c.args.self.now.weight }) in
+    let more = ap (λ (ws : List Stored). length ws) (stored c)
+    ∙ length_push c.fill.new.store.words.items (record { start = c.len-start.result; end = c.len-end.result; weight = c.args.self.now.weight }) in
     omega (arith, c.in_ok-fill.ensures.counted.1)
