@@ -37,11 +37,7 @@ impl Line<'_> {
         store.push(Position::plain(self.weight), sign)?;
         self.fill(store, rest)?;
         let end = store.signs.len();
-        store.words.push(Stored {
-            start: start as u32,
-            end: end as u32,
-            weight: self.weight,
-        })?;
+        store.words.push(Stored::new(start, end, self.weight))?;
         Ok(())
     }
 }

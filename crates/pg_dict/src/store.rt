@@ -23,6 +23,23 @@ pub(crate) struct Stored {
     pub weight: Weight,
 }
 
+impl Stored {
+    ghost use Rattle.std.specs.Prelude.{◌≡◌, ◌<◌, ◌^◌};
+
+    /// A word of this weight whose signs have the indices from `start` to before `end`.
+    pub(crate) fn new(start: usize, end: usize, weight: Weight) -> Stored
+        requires start { start < 2 ^ 32 }
+        requires end { end < 2 ^ 32 }
+        ensures { result ≡ record { start = start; end = end; weight = weight } }
+    {
+        Stored {
+            start: start as u32,
+            end: end as u32,
+            weight,
+        }
+    }
+}
+
 /// The words of a dictionary, each a part of the four columns.
 #[derive(Drop)]
 pub(crate) struct Store {
@@ -106,11 +123,7 @@ impl Store {
         self.weights.extend_from_slice(word.weights)?;
         self.cares.extend_from_slice(word.cares)?;
         let end = self.signs.len();
-        self.words.push(Stored {
-            start: start as u32,
-            end: end as u32,
-            weight: word.weight,
-        })?;
+        self.words.push(Stored::new(start, end, word.weight))?;
         Ok(())
     }
 }

@@ -56,8 +56,8 @@ impl PassWindows {
     }
 
     /// Forgets the numbers of the pass before. Where they took less than a quarter of their memory,
-    /// all but twice what they took, or the least that is kept, is given back: the first passes of a
-    /// level have far more positions than the last ones.
+    /// all but twice what they took, or the least that is kept, is given back: the first passes of
+    /// a level have far more positions than the last ones.
     pub fn forget_numbers(&mut self)
         ensures { self.new.numbers.items ≡ [] }
     {

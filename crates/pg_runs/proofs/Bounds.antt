@@ -1,9 +1,10 @@
 -- The bound of the sums while windows are counted.
-use Rattle.std.proofs.Common.{◌≡◌, ℕ, ◌+◌, ◌≤◌, Bool, true, false, cond, List, Some, unwrap_or, nat_cmp, sym, ap, subst, arith}
+use Rattle.std.proofs.Common.{◌≡◌, ℕ, ◌+◌, ◌≤◌, ◌<◌, Bool, true, false, cond, List, Some, unwrap_or, nat_cmp, sym, ap, subst, arith}
 use Rattle.std.specs.Cmp.Lexicographic.{slice_cmp, nat_list_cmp_total}
 use Rattle.std.specs.FinMap.Entries.{find, find-put}
 use Rattle.std.specs.Ordering.{eq_by_cmp}
-use Rattle.pg_types.specs.Inside.Counts.{Counts, sums_of, with_weight}
+use Rattle.pg_types.specs.Inside.Limits.{counts_limit}
+use Rattle.pg_types.specs.Inside.Counts.{AreSmall, Counts, sums_of, with_weight}
 use Rattle.pg_select.specs.Inside.Meanings.{with_position}
 use Rattle.pg_runs.specs.Inside.Keeping.{AreAtMost}
 
@@ -34,6 +35,12 @@ after counts window good weight n k small low u =
     by_window : (t : Bool) → AtMost (n + k) (unwrap_or (cond t (Some (with_weight (sums_of counts window) good weight)) (find (slice_cmp nat_cmp) u counts)) (0, 0))
     by_window true = more n k weight good (sums_of counts window) small (at counts n low window)
     by_window false = same n k (sums_of counts u) (at counts n low u)
+
+-- sums that are at most n are small with a weight more, where there is room for it
+pub small_more : (counts : Counts) (u : List ℕ) (good : Bool) (weight n k : ℕ) → weight ≤ k → n + k < counts_limit → AreAtMost counts n → AreSmall (with_weight (sums_of counts u) good weight)
+small_more counts u good weight n k small room low =
+    let most : AtMost (n + k) (with_weight (sums_of counts u) good weight) = more n k weight good (sums_of counts u) small (at counts n low u) in
+    (omega (arith, room, most.0), omega (arith, room, most.1))
 
 -- the sums after a window is counted
 pub bound_more : (counts new : Counts) (window : List ℕ) (good : Bool) (weight n k m : ℕ) → weight ≤ k → n + k ≤ m → AreAtMost counts n → new

@@ -15,6 +15,11 @@ use Rattle.pg_dict.proofs.line.Line.read_word.Goals as goal
 abbrev after : goal.In_ok-push-3 → Store
 after c = record { signs = c.fill.new.store.signs; hyphens = c.fill.new.store.hyphens; weights = c.fill.new.store.weights; cares = c.fill.new.store.cares; words = c.push-3.new.self }
 
+-- the words of the store are those before, and this one
+stored : (c : goal.In_ok-push-3) → c.push-3.new.self.items
+    ≡ c.fill.new.store.words.items ++ record { start = c.len-start.result; end = c.len-end.result; weight = c.args.self.now.weight } ∷ []
+stored c = c.in_ok-push-3.ensures.items ∙ ap (λ (w : Stored). c.fill.new.store.words.items ++ w ∷ []) c.new.ensures
+
 -- the word is entered, and the store stays sound
 entered : (c : goal.In_ok-push-3) → (with_word (stored_words c.args.store.now)
     (word_reading c.args.self.now.table.now c.args.self.now.number c.args.self.now.size c.args.self.now.weight c.args.sign c.args.rest.now)
@@ -25,7 +30,7 @@ entered c =
     (rw (c.plain.ensures.mark, c.plain.ensures.weight) at c.in_ok-push.ensures.ok)
     (rw (c.plain-2.ensures.mark, c.plain-2.ensures.weight) at c.in_ok-push-2.ensures.ok)
     c.in_ok-fill.ensures.fills
-    (c.in_ok-push-3.ensures.items ∙ ap (λ (words : List Stored). words ++ record { start = c.len-start.result; end = c.len-end.result; weight = c.args.self.now.weight } ∷ [])
+    (stored c ∙ ap (λ (words : List Stored). words ++ record { start = c.len-start.result; end = c.len-end.result; weight = c.args.self.now.weight } ∷ [])
     (c.fill.ensures.words ∙ c.push-2.ensures.words ∙ c.push.ensures.words))
     (c.len-start.ensures ∙ c.args.store.now.signs.ok.0)
     (c.len-end.ensures ∙ c.fill.new.store.signs.ok.0)
@@ -55,6 +60,6 @@ returns-clause-counted c =
     let first = pushed_length c.args.store.now c.push.new.self c.plain.result.mark c.plain.result.weight EDGE c.in_ok-push.ensures.ok in
     let second = pushed_length c.push.new.self c.push-2.new.self c.plain-2.result.mark c.plain-2.result.weight c.args.sign c.in_ok-push-2.ensures.ok in
     let kept = ap (λ (ws : List Stored). length ws) (c.fill.ensures.words ∙ c.push-2.ensures.words ∙ c.push.ensures.words) in
-    let more = ap (λ (ws : List Stored). length ws) c.in_ok-push-3.ensures.items
+    let more = ap (λ (ws : List Stored). length ws) (stored c)
     ∙ length_push c.fill.new.store.words.items (record { start = c.len-start.result; end = c.len-end.result; weight = c.args.self.now.weight }) in
     omega (arith, c.in_ok-fill.ensures.counted.1)

@@ -18,6 +18,11 @@ after c = record {
   words = c.push.new.self;
 }
 
+-- the words of the store are those before, and this one
+stored : (c : goal.In_ok-push) → c.push.new.self.items
+    ≡ c.args.self.now.words.items ++ record { start = c.len-start.result; end = c.len-end.result; weight = c.args.word.now.weight } ∷ []
+stored c = c.in_ok-push.ensures.items ∙ ap (λ (w : Stored). c.args.self.now.words.items ++ w ∷ []) c.new.ensures
+
 -- the word is there, and the store stays sound
 pushed : (c : goal.In_ok-push) → (stored_words (after c) ≡ stored_words c.args.self.now ++ lent_word c.args.word.now ∷ []) × IsSound (after c)
 pushed c =
@@ -26,7 +31,7 @@ pushed c =
     c.in_ok-extend_from_slice-2.ensures.items
     c.in_ok-extend_from_slice-3.ensures.items
     c.in_ok-extend_from_slice-4.ensures.items
-    c.in_ok-push.ensures.items
+    (stored c)
     (c.len-start.ensures ∙ c.args.self.now.signs.ok.0)
     (c.len-end.ensures ∙ c.extend_from_slice.new.self.ok.0)
 
@@ -41,5 +46,5 @@ returns-clause-signs c = ap (λ (xs : List ℕ). length xs) c.in_ok-extend_from_
 
 pub returns-clause-count : goal.returns-clause-count
 returns-clause-count c =
-    ap (λ (ws : List Stored). length ws) c.in_ok-push.ensures.items ∙ length_push c.args.self.now.words.items
+    ap (λ (ws : List Stored). length ws) (stored c) ∙ length_push c.args.self.now.words.items
     (record { start = c.len-start.result; end = c.len-end.result; weight = c.args.word.now.weight })
