@@ -10,21 +10,21 @@ use std::test::Fail;
 type Told = (&'static [Sign], Option<(usize, usize, u32)>);
 
 /// Compares what is told of strings with these.
-fn compare_told(rt: &impl Abort, cells: &Cells<u32, 4>, strings: &[Told]) {
+fn compare_told(rt: &impl Abort, cells: &Cells<u32>, strings: &[Told]) {
     for (string, wanted) in strings {
         assert_eq!(rt; told(cells, string), *wanted);
     }
 }
 
 /// Compares the number of taken cells and the greatest of them with these.
-fn compare_counts(rt: &impl Abort, cells: &Cells<u32, 4>, taken: usize, top: usize) {
+fn compare_counts(rt: &impl Abort, cells: &Cells<u32>, taken: usize, top: usize) {
     assert_eq!(rt; (cells.taken(), cells.top()), (taken, top));
 }
 
 /// Adds the sign 1 with a value below a string, and compares its cell with this one.
 fn compare_added(
     rt: &impl Abort,
-    cells: &mut Cells<u32, 4>,
+    cells: &mut Cells<u32>,
     string: &[Sign],
     value: u32,
     cell: usize,
@@ -41,7 +41,7 @@ const ONE_SIGN: &[Told] = &[
 ];
 
 /// Adds two strings to a table of one sign, and compares after each.
-fn add_strings(rt: &impl Abort, cells: &mut Cells<u32, 4>) -> Result<(), Fail> {
+fn add_strings(rt: &impl Abort, cells: &mut Cells<u32>) -> Result<(), Fail> {
     compare_added(rt, cells, &[1], 8, 2)?;
     compare_told(rt, cells, &ONE_SIGN[..1]);
     compare_added(rt, cells, &[1, 1], 9, 3)?;
@@ -52,7 +52,7 @@ fn add_strings(rt: &impl Abort, cells: &mut Cells<u32, 4>) -> Result<(), Fail> {
 
 #[test]
 fn one_sign(rt: HostRuntime) -> Result<(), Fail> {
-    add_strings(&rt, &mut Cells::<u32, 4>::new(rt.alloc(), 1, 7)?)
+    add_strings(&rt, &mut Cells::<u32>::new(rt.alloc(), 1, 7)?)
 }
 
 /// Steps in a table of the edge and three letters: each adds the second sign below the first. The
@@ -74,7 +74,7 @@ const BEHIND_STEPS: &[Told] = &[
 ];
 
 /// Takes the steps, and compares after each.
-fn take_steps(rt: &impl Abort, cells: &mut Cells<u32, 4>) -> Result<(), Fail> {
+fn take_steps(rt: &impl Abort, cells: &mut Cells<u32>) -> Result<(), Fail> {
     for ([first, second], taken, top) in STEPS {
         change_at(cells, &[first], second, 1)?;
         compare_counts(rt, cells, taken, top);
@@ -83,7 +83,7 @@ fn take_steps(rt: &impl Abort, cells: &mut Cells<u32, 4>) -> Result<(), Fail> {
 }
 
 /// Takes back all steps but the first.
-fn take_back(cells: &mut Cells<u32, 4>) -> Result<(), Fail> {
+fn take_back(cells: &mut Cells<u32>) -> Result<(), Fail> {
     for ([first, second], _, _) in &STEPS[1..] {
         change_at(cells, &[*first], *second, 0)?;
     }
@@ -91,7 +91,7 @@ fn take_back(cells: &mut Cells<u32, 4>) -> Result<(), Fail> {
 }
 
 /// Takes the steps and goes back, and compares after each.
-fn step_and_back(rt: &impl Abort, cells: &mut Cells<u32, 4>) -> Result<(), Fail> {
+fn step_and_back(rt: &impl Abort, cells: &mut Cells<u32>) -> Result<(), Fail> {
     compare_counts(rt, cells, 4, 4);
     take_steps(rt, cells)?;
     compare_told(rt, cells, BEHIND_STEPS);
@@ -102,5 +102,5 @@ fn step_and_back(rt: &impl Abort, cells: &mut Cells<u32, 4>) -> Result<(), Fail>
 
 #[test]
 fn small_steps(rt: HostRuntime) -> Result<(), Fail> {
-    step_and_back(&rt, &mut Cells::<u32, 4>::new(rt.alloc(), 4, 0)?)
+    step_and_back(&rt, &mut Cells::<u32>::new(rt.alloc(), 4, 0)?)
 }

@@ -27,7 +27,7 @@ impl Draws {
 
 /// One step, on both, below one of the taken cells.
 fn take_step(
-    cells: &mut Cells<u32, 4>,
+    cells: &mut Cells<u32>,
     families: &mut Families,
     taken: &[usize],
     draws: &mut Draws,
@@ -40,7 +40,7 @@ fn take_step(
 }
 
 /// Compares each cell with its family.
-fn compare_cells(rt: &impl Abort, cells: &Cells<u32, 4>, families: &Families) {
+fn compare_cells(rt: &impl Abort, cells: &Cells<u32>, families: &Families) {
     for used in families.list() {
         if used.cell != 0 {
             let parent = families.parent(used.family);
@@ -50,7 +50,7 @@ fn compare_cells(rt: &impl Abort, cells: &Cells<u32, 4>, families: &Families) {
 }
 
 /// Compares the number of taken cells, the top and each cell with its family.
-fn compare(rt: &impl Abort, cells: &Cells<u32, 4>, families: &Families, taken: &[usize]) {
+fn compare(rt: &impl Abort, cells: &Cells<u32>, families: &Families, taken: &[usize]) {
     let top = taken.last().copied().unwrap_or(0);
     assert_eq!(rt; (cells.taken(), cells.top()), (taken.len(), top));
     compare_cells(rt, cells, families);
@@ -61,7 +61,7 @@ fn compare(rt: &impl Abort, cells: &Cells<u32, 4>, families: &Families, taken: &
 fn run(rt: &impl Abort, alloc: Global, signs: Sign, steps: u32) -> Result<usize, Fail>
     requires { (1 ≤ signs) × (signs ≤ SIGNS_MAX) }
 {
-    let mut cells = Cells::<u32, 4>::new(alloc, signs, 0)?;
+    let mut cells = Cells::<u32>::new(alloc, signs, 0)?;
     let mut families = Families::new(alloc, signs)?;
     take_steps(rt, &mut cells, &mut families, steps)?;
     Ok(cells.taken())
@@ -70,7 +70,7 @@ fn run(rt: &impl Abort, alloc: Global, signs: Sign, steps: u32) -> Result<usize,
 /// Takes steps in both, and compares after each.
 fn take_steps(
     rt: &impl Abort,
-    cells: &mut Cells<u32, 4>,
+    cells: &mut Cells<u32>,
     families: &mut Families,
     steps: u32,
 ) -> Result<(), Fail> {

@@ -7,7 +7,7 @@ use pg_types::Sign;
 use std::test::Fail;
 
 /// The cell of the sign in the family below a cell, or below the root for `None`.
-pub fn cell_below(cells: &Cells<u32, 4>, parent: Option<usize>, s: Sign) -> Option<usize> {
+pub fn cell_below(cells: &Cells<u32>, parent: Option<usize>, s: Sign) -> Option<usize> {
     if s < 1 || cells.signs() < s {
         return None;
     }
@@ -21,7 +21,7 @@ pub fn cell_below(cells: &Cells<u32, 4>, parent: Option<usize>, s: Sign) -> Opti
 }
 
 /// The cell of a string.
-fn cell_of(cells: &Cells<u32, 4>, string: &[Sign]) -> Option<usize> {
+fn cell_of(cells: &Cells<u32>, string: &[Sign]) -> Option<usize> {
     let mut at = None;
     for s in string {
         at = Some(cell_below(cells, at, *s)?);
@@ -30,7 +30,7 @@ fn cell_of(cells: &Cells<u32, 4>, string: &[Sign]) -> Option<usize> {
 }
 
 /// The cell of a string, the base of the family below it, 0 for none, and its value.
-pub fn told(cells: &Cells<u32, 4>, string: &[Sign]) -> Option<(usize, usize, u32)> {
+pub fn told(cells: &Cells<u32>, string: &[Sign]) -> Option<(usize, usize, u32)> {
     let cell = cell_of(cells, string)?;
     let value = cells.value_if_taken(cell)?;
     Some((cell, cells.child(cell), value))
@@ -38,12 +38,7 @@ pub fn told(cells: &Cells<u32, 4>, string: &[Sign]) -> Option<(usize, usize, u32
 
 /// Adds the sign with the value below the string of a cell, and gives its cell, or removes it where
 /// it is there and no family is below it.
-fn change(
-    cells: &mut Cells<u32, 4>,
-    parent: usize,
-    s: Sign,
-    value: u32,
-) -> Result<Option<usize>, Fail>
+fn change(cells: &mut Cells<u32>, parent: usize, s: Sign, value: u32) -> Result<Option<usize>, Fail>
     requires parent { (q : List ℕ) × (cell_of cells.old.families q ≡ Some parent) }
     requires sign { (1 ≤ s) × (s ≤ cells.old.signs) }
 {
@@ -60,7 +55,7 @@ fn change(
 
 /// The same below a cell that may be free.
 pub fn change_below(
-    cells: &mut Cells<u32, 4>,
+    cells: &mut Cells<u32>,
     parent: usize,
     s: Sign,
     value: u32,
@@ -76,7 +71,7 @@ pub fn change_below(
 
 /// The same below a string.
 pub fn change_at(
-    cells: &mut Cells<u32, 4>,
+    cells: &mut Cells<u32>,
     string: &[Sign],
     s: Sign,
     value: u32,
