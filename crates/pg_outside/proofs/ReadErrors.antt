@@ -17,3 +17,7 @@ memory_or_long (Err e) memory long = cc
 pub memory_or_failed : {T : Type 0} (result : Result T ReadError) → IsErrAnd result (λ d. d ≡ error.Memory) → IsErrOf result error.Failed → ⊥
 memory_or_failed (Ok value) memory failed = memory
 memory_or_failed (Err e) memory failed = cc
+
+-- a read that failed did not find memory short
+pub failed_or_memory : {T : Type 0} (result : Result T ReadError) → IsErrOf result error.Failed → IsErrOf result error.Memory → ⊥
+failed_or_memory result failed memory = cc

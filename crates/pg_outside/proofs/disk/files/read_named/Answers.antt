@@ -1,4 +1,4 @@
-use Rattle.std.proofs.Common.{◌∙◌, inl, refl, rules}
+use Rattle.std.proofs.Common.{◌∙◌, inl, refl}
 use Rattle.std.proofs.lemmas.Result.{on_ok_weaker, IfErr-weaker}
 use Rattle.pg_outside.specs.Inside.DiskWrites.{KeepsOnly}
 use Rattle.pg_outside.proofs.Causes.{rose_since}
@@ -13,7 +13,16 @@ returns-in_default g c = record {
   same = (c.open.ensures.same, λ id is. is, now_always (KeepsOnly _ _ _) _ (λ d. inl refl));
   all = tt;
   front = λ is. absurd (long_or_failed _ is refl);
-  failed = search rules;
+  failed = λ _. c.in_default.ensures.failed;
+  other_failures = λ apart. absurd (apart refl);
+}
+
+pub returns-in_default-stat : goal.returns-in_default-stat
+returns-in_default-stat g c = record {
+  same = (keeps_both _ _ _ c.open.ensures.same c.stat.ensures.same, λ id is. is, now_always (KeepsOnly _ _ _) _ (λ d. inl refl));
+  all = tt;
+  front = λ is. absurd (long_or_failed _ is refl);
+  failed = λ _. rose_since _ _ _ c.in-Ok.ensures.ok_failures c.in_default-stat.ensures.failed;
   other_failures = λ apart. absurd (apart refl);
 }
 

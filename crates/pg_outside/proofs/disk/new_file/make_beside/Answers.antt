@@ -7,12 +7,14 @@ use Rattle.pg_outside.proofs.Results.{on_err, no_value}
 use Rattle.pg_outside.proofs.NewNameLoop.{is_named, none_tried, skipped, taken, all_taken}
 use Rattle.pg_outside.proofs.Runs.{keeps_self, keeps_both, keeps_steps}
 use Rattle.std.proofs.lemmas.Result.{IfOk-from_err}
+use Rattle.std.specs.Str.{bytes_eq}
 use Rattle.pg_outside.proofs.disk.new_file.make_beside.Goals as goal
 
 pub loop-number-preserved-then-eq : goal.loop-number-preserved-then-eq
 loop-number-preserved-then-eq g c =
     let own : string_bytes c.in_ok-own.own ≡ new_name c.folder_of-folder.result.now c.loop-number.number-counter = is_named _ _ _ c.in_ok-own.ensures.ok in
-    let same : string_bytes c.in_ok-own.own ≡ c.args.name.now = sym c.as_str.ensures.value ∙ (bytes_eq-Decides c.as_str.result.now c.args.name.now).0 (sym c.if-eq.ensures) in
+    let same : string_bytes c.in_ok-own.own ≡ c.args.name.now =
+    sym c.as_str.ensures.value ∙ (bytes_eq-Decides c.as_str.result.now c.args.name.now).0 (sym {b = bytes_eq c.as_str.result.now c.args.name.now} c.if-eq.ensures) in
     record {
       same = c.loop-number.invariant.same;
       failures = c.loop-number.invariant.failures;

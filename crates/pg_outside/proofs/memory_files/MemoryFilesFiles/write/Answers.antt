@@ -1,10 +1,12 @@
-use Rattle.std.proofs.Common.{List, ap, ◌∙◌, subst, arith, rules, refl}
+use Rattle.std.proofs.Common.{◌≡◌, List, inl, ap, sym, ◌∙◌, subst, arith, rules, refl}
+use Rattle.std.specs.FinMap as fin
 use Rattle.pg_outside.specs.Content.{HasPart}
 use Rattle.pg_outside.specs.Inside.NameFaults.{NoneFell}
 use Rattle.pg_outside.specs.Inside.StoredFile.{file_map, room_in}
 use Rattle.pg_outside.specs.declared.stored.StoredFile.{StoredFile}
 use Rattle.pg_outside.proofs.ListedCalls.{not_listed, not_unlisted, not_kept}
 use Rattle.pg_outside.proofs.MemoryCounts.{reads_later, reads_by_one, reads_same, reads_rose}
+use Rattle.pg_outside.proofs.Results.{at_err, at_ok}
 use Rattle.pg_outside.proofs.memory_files.MemoryFilesFiles.write.Goals as goal
 
 pub returns-in-Some : goal.returns-in-Some
@@ -42,11 +44,12 @@ pub returns-then-is_err : goal.returns-then-is_err
 returns-then-is_err c = record {
   all = record {
     whole = tt;
-    part = search rules;
+    part = inl (at_err c.store.result (sym c.is_err.ensures.value ∙ c.if-is_err.true) c.store.ensures.err
+        ∙ ap file_map (ap (λ v. v.items) c.next_plan.ensures.files));
     reads = reads_later c.args.self.now.missing.items c.next_plan.new.self.missing.items c.args.self.now.reads_failed c.next_plan.new.self.reads_failed
         (ap (λ v. v.items) c.next_plan.ensures.missing) c.next_plan.ensures.reads;
-    writes = search rules;
-    failed = search rules;
+    writes = λ _. omega (arith, c.in-None.ensures.writes_same);
+    failed = omega (arith, c.in-None.ensures.writes_same);
     calls = c.next_plan.ensures.made ∙ c.and-self.ensures;
   };
   calls = c.next_plan.ensures.calls;
@@ -58,20 +61,22 @@ returns-then-is_err c = record {
   keeps = λ keep kept. absurd (not_kept _ _ _ _ c.next_plan.ensures.plan c.in-None.is kept);
   keeps_within = λ keep kept. absurd (not_kept _ _ _ _ c.next_plan.ensures.plan c.in-None.is kept);
   within = search rules;
-  unlisted_files = search rules;
-  failed_writes = search rules;
+  unlisted_files = λ _. at_err c.store.result (sym c.is_err.ensures.value ∙ c.if-is_err.true) c.store.ensures.err
+      ∙ ap file_map (ap (λ v. v.items) c.next_plan.ensures.files);
+  failed_writes = λ _. omega (arith, c.in-None.ensures.writes_same);
   ok_writes = tt;
   unlisted_reads = λ _. reads_same c.args.self.now.missing.items c.next_plan.new.self.missing.items c.args.self.now.reads_failed c.next_plan.new.self.reads_failed
       (ap (λ v. v.items) c.next_plan.ensures.missing) c.in-None.ensures.reads_same;
   reads_by_one = reads_by_one c.args.self.now.missing.items c.next_plan.new.self.missing.items c.args.self.now.reads_failed c.next_plan.new.self.reads_failed
       (ap (λ v. v.items) c.next_plan.ensures.missing) c.next_plan.ensures.reads_by_one;
-  writes_by_one = search rules;
+  writes_by_one = λ _. omega (arith, c.in-None.ensures.writes_same);
 }
 
 pub returns-else-is_err : goal.returns-else-is_err
 returns-else-is_err c = record {
   all = record {
-    whole = search rules;
+    whole = subst (λ (files : List StoredFile). file_map c.store.new.files.items ≡ fin.insert (file_map files) c.args.name.now c.args.bytes.now)
+        (ap (λ v. v.items) c.next_plan.ensures.files) (at_ok c.store.result (sym c.is_err.ensures.value ∙ c.if-is_err.false) c.store.ensures.ok);
     part = tt;
     reads = reads_later c.args.self.now.missing.items c.next_plan.new.self.missing.items c.args.self.now.reads_failed c.next_plan.new.self.reads_failed
         (ap (λ v. v.items) c.next_plan.ensures.missing) c.next_plan.ensures.reads;
