@@ -14,8 +14,9 @@
 //!   sign of the family below it. So the signs of a family are found without a look at every cell.
 //! - The free cells are linked too, in rising order and both ways, through cell 0. So the search
 //!   for a base passes over taken cells.
-//! - A *bound* of a sign is a base below which none is free with the cell of the sign, but for what
-//!   was given up since the bounds were last lowered. A search begins there.
+//! - A *bound* of a sign is a base. Below it no base can be taken for a family with this sign,
+//!   since the base or the sign's cell there is taken. Cells and bases that are given up lower the
+//!   bounds. A search begins at the bound.
 //!
 //! `store` is the row, with its cells, its free cells, its bounds and the search for a base.
 //! `families` is the placement, with its steps. `linked` adds the links, and `walks` goes from

@@ -31,9 +31,9 @@ const CELLS_AT_FIRST: usize = 1 << 18;
 
 /// The cells. Cell 0 is never taken.
 ///
-/// `lows` has a bound for each sign. No base below it is free with the cell of the sign, but for
-/// what was given up since the bounds were lowered: `freed` is the least such cell, and `dropped`
-/// the least such base.
+/// `lows` has a bound for each sign: below it no base can be taken, since the base or the cell of
+/// the sign is taken. Since the bounds were lowered last, cells and bases may have been given up.
+/// `freed` is the least such cell, and `dropped` the least such base.
 ///
 /// `placed` is the base of the family that was placed last, and `sought` the base at which its
 /// search began. `placed` is 0 where a cell or a base was given up since.

@@ -10,9 +10,9 @@ use crate::counted_cells::CountedCells;
 use pg_types::Sign;
 use std::alloc::AllocError;
 
-/// Appends the numbers of the counted strings that begin with the string of the family with the
-/// base and the first sign, and have at most so many more signs, in the order of signs. It goes
-/// along the signs of the families.
+/// Appends the numbers of the counted strings of a family and of those below it, in the order of
+/// signs. The family has the base, and `first` is the first of its signs. No string of these has
+/// more than `more` signs behind the family's prefix. It goes along the signs of the families.
 #[cycle(walk)]
 pub fn walk(
     cells: &CountedCells,

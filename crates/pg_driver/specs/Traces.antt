@@ -23,7 +23,7 @@ pub record Source : Type 0 where
 abbrev pub over : Alphabet → List Word → Source
 over t words = record { minima = minima_of t; words = words }
 
--- what is known at a moment: the patterns so far, and the places that are hopeless at this level
+-- what is known at a moment: the patterns so far, and the dotted strings that are hopeless now
 pub record Known : Type 0 where
   pub patterns : Patterns
   pub hopeless : HopelessPlaces

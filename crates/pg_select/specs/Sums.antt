@@ -16,11 +16,11 @@ abbrev pub marks_by : Minima → (ℕ → ℕ) → Word → List (Mark × ℕ)
 marks_by m value w = map (λ p. (status_with w p (value p), position_weight w p))
     (positions m.left m.right (length w.signs))
 
--- the mark and the weight of each position in reach, by the patterns
+-- the status and the weight of each position in reach, by the patterns
 abbrev pub marks_in : Minima → Patterns → Word → List (Mark × ℕ)
 marks_in m P w = marks_by m (value_at P w.signs) w
 
--- the weights of the marks that pass a test
+-- the weights of the positions whose status passes a test
 abbrev pub weight_of : (Mark → Bool) → List (Mark × ℕ) → ℕ
 weight_of test marks = sum_by (λ m. if test m.0 then m.1 else 0) marks
 

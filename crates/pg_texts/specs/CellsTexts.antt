@@ -8,11 +8,11 @@ use Rattle.pg_driver.specs.Layouts.{strings_in, after_pass, after_level}
 use Rattle.pg_driver.specs.Traces.{PassTrace, Trace, patterns_after}
 use Rattle.pg_texts.specs.Fronts.{pass_front, level_front}
 
--- how many cells families use, and the greatest of them: `T taken_count, top U`
+-- how many cells families use, and the greatest of them: `T taken, top U`
 abbrev pub used_text : Families → List ℕ
 used_text fs = decimal (taken_count fs) ++ codes " taken, top " ++ decimal (top fs)
 
--- the same with the tails of patterns: `T taken_count, top U, K tails` and the line's end
+-- the same with the tails of patterns: `T taken, top U, K tails` and the line's end
 abbrev pub layout_text : Families → Patterns → List ℕ
 layout_text fs P = used_text fs ++ codes ", " ++ decimal (tails P) ++ codes " tails\n"
 

@@ -1,4 +1,4 @@
-//! The mark of a hopeless place.
+//! What stands for a hopeless entry.
 
 use pg_types::LEVEL_MAX;
 

@@ -9,7 +9,7 @@ use pg_outputs::Outputs;
 use std::alloc::AllocError;
 
 // Whether a value at a dot stands before another: by the dot, and at one dot a value before the
-// mark.
+// hopeless entry.
 fn stands_before(value: u8, dot: u8, other: u8, other_dot: u8) -> bool
     ensures { IsTrue result ↔ (rank (value, dot) < rank (other, other_dot)) }
 {

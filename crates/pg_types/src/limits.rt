@@ -33,7 +33,7 @@ pub const WORD_LETTERS_MAX: usize = 100;
 /// The most signs that a pattern may have.
 pub const PATTERN_SIGNS_MAX: usize = 32;
 
-/// A family of a pattern's cells with up to so many signs is placed from base 1 on, a greater one
+/// In the pattern trie a family of up to so many signs is placed from base 1 on, and a greater one
 /// near the greatest used cell.
 pub const FEW_SIGNS: usize = 4;
 

@@ -1,4 +1,4 @@
--- What the words of a call ask for.
+-- The request that the words of a call are, with the words as bytes.
 use Rattle.std.specs.Prelude.{List, String, map, string_bytes, Option}
 use Rattle.std.specs.declared.alloc.Global.{Global}
 use Rattle.pg_words.specs.Requests.{Request, request_of}

@@ -19,7 +19,7 @@ pub record LeastUnder (windows : Windows) (p u : List ℕ) (n : ℕ) : Type 0 wh
       → slice_cmp nat_cmp u (p ++ v) ≡ Less
       → slice_cmp nat_cmp (p ++ v) (p ++ rest) ≡ Less → ⊥
 
--- the window with this number is the least above u that begins with p; none where none is above
+-- the number of the least window above u that begins with p, or none where there is no such one
 abbrev pub IsNearest : Windows → List ℕ → List ℕ → Option ℕ → Type 0
 IsNearest windows p u None = NoneUnder windows p u
 IsNearest windows p u (Some n) = LeastUnder windows p u n

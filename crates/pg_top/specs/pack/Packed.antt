@@ -1,4 +1,4 @@
--- What `pack` reads, writes and prints.
+-- What `pack` writes and prints.
 use Rattle.std.specs.Prelude.{ℕ, ◌+◌, nat_lt, if◌then◌else◌, List, [], ◌∷◌, ◌++◌, length, codes, decimal}
 use Rattle.pg_types.specs.Lines.{lines}
 use Rattle.pg_types.specs.Reading.{refusal_at}

@@ -1,4 +1,4 @@
--- What `prune` reads, writes and prints.
+-- What `prune` writes and prints.
 use Rattle.std.specs.Prelude.{ℕ, List, [], ◌∷◌, ◌++◌, length, codes, decimal}
 use Rattle.pg_translate.specs.Alphabets.{Alphabet}
 use Rattle.pg_patterns.specs.Texts.{pattern_text}
