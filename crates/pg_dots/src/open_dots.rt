@@ -11,6 +11,10 @@ use std::alloc::{AllocError, Global};
 /// How many dots there are: those of the greatest length.
 const DOTS: usize = LENGTH_MAX as usize + 1;
 
+/// There is room for at least so many numbers, 32 MB. A smaller block that is freed would make the
+/// allocator of the C library keep later vectors in its heap, where they leave holes as they grow.
+const ROOM_AT_LEAST: usize = 1 << 22;
+
 /// Which dots are closed at which positions of the words of a dictionary. The positions are
 /// numbered through all words, from 0, and for each dot there is a row with one bit for each of
 /// them.
@@ -50,7 +54,7 @@ impl OpenDots {
         let mut bits = vec![in alloc; u64::MAX; width]?;
         // Room for the rows of all dots, so that the rows are never copied. What no row needs
         // stays untouched. Where there is no such room, each row asks for its own.
-        let _ = bits.reserve_exact(width * DOTS);
+        let _ = bits.reserve_exact(ROOM_AT_LEAST.max(width * DOTS));
         Ok(OpenDots {
             width,
             reached: 0,
