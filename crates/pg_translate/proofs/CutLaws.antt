@@ -12,7 +12,7 @@ use Rattle.pg_translate.specs.Alphabets.{Alphabet}
 use Rattle.pg_translate.specs.Inside.Beginnings.{begins_well}
 use Rattle.pg_translate.specs.Inside.Members.{IsAmong}
 use Rattle.std.specs.Char.{is_ascii_digit}
-use Rattle.pg_translate.specs.Tokens.{Token, Letter, Digit, Weight, Marked, Edge, letter_at, digit_at, weight_at, weight_from, weight_end, mark_at, edge_at, item_at}
+use Rattle.pg_translate.specs.Tokens.{Token, Letter, Digit, Weight, Marked, Edge, letter_at, digit_at, weight_at, mark_at, edge_at, item_at}
 use Rattle.pg_translate.specs.Cuts.{Placed, Cut, cut_from}
 use Rattle.pg_translate.specs.Inside.Rests.{with_item}
 use Rattle.pg_translate.specs.Inside.Items.{IsItem, IsWeight, IsMark, IsCut, IsPrefix, IsLongest, items_at, text_of_items, decimal_value}
@@ -21,6 +21,7 @@ use Rattle.pg_translate.proofs.Prefixes.{begins_front, begins_within}
 use Rattle.pg_translate.proofs.Firsts.{find_among, found_passes}
 use Rattle.pg_translate.proofs.Cuts.{cut_item, cut_none}
 use Rattle.pg_translate.proofs.ItemLaws.{begins_spelled, item_reads}
+use Rattle.pg_translate.proofs.WeightDigits.{FindsWeight, weight_found}
 
 -- an item, with its size, begins a text
 pub record Reads (t : Alphabet) (place : Place) (text : List ℕ) (token : Token) (size : ℕ) : Type 0 where
@@ -107,86 +108,18 @@ mark_found marks b bs token size h =
     (λ (no3 : (b == slice_index marks 3) ≡ false). let none = rw no3 at h3 in absurd (cc)) (cases_Bool (b == slice_index marks 3))) (cases_Bool (b == slice_index marks 2)))
     (cases_Bool (b == slice_index marks 1))) (cases_Bool (b == slice_index marks 0))
 
--- what is found at the rest of a weight
-pub record FindsWeight (room value size : ℕ) (text : List ℕ) (token : Token) (whole : ℕ) : Type 0 where
-  pub digits : List ℕ
-  pub front : take (length digits + 1) text ≡ digits ++ 125 ∷ []
-  pub within : length digits + 1 ≤ length text
-  pub few : length digits ≤ room
-  pub decimal : list_all is_ascii_digit digits ≡ true
-  pub token_is : token ≡ Weight (fold (λ value b. value * 10 + (b - 48)) value digits)
-  pub some : 0 < fold (λ value b. value * 10 + (b - 48)) value digits
-  pub size_is : whole ≡ size + length digits + 1
-
-weight_ends : (room value size b : ℕ) (bs : List ℕ) (token : Token) (whole : ℕ) → weight_end value size b ≡ Some (token, whole) → FindsWeight room value size (b ∷ bs) token whole
-weight_ends room value size b bs token whole h =
-    ⊎_elim (λ (yes : (b == 125 && nat_lt 0 value) ≡ true). let found = rw yes at h in let both : (token ≡ Weight value) × (whole ≡ size + 1) =
-    same_found (Weight value) token (size + 1) whole found in let same : whole ≡ size + 1 = both.1 in
-    record {
-      digits = [];
-      front = ap (λ (n : ℕ). n ∷ []) (eqb-true b 125 (and_parts _ _ yes).0);
-      within = omega arith;
-      few = omega arith;
-      decimal =
-          refl;
-      token_is = both.0;
-      some = ltb-true 0 value (and_parts _ _ yes).1;
-      size_is = omega arith;
-    }) (λ (no : (b == 125 && nat_lt 0 value) ≡ false). let none = rw no at h in absurd (cc))
-    (cases_Bool (b == 125 && nat_lt 0 value))
-
-weight_found : (room value size : ℕ) (text : List ℕ) (token : Token) (whole : ℕ) → weight_from room value size text ≡ Some (token, whole) → FindsWeight room value size text token whole
-weight_found zero value size [] token whole h = absurd (cc)
-weight_found (suc room) value size [] token whole h = absurd (cc)
-weight_found zero value size (b ∷ bs) token whole h = weight_ends zero value size b bs token whole h
-weight_found (suc room) value size (b ∷ bs) token whole h =
-    ⊎_elim (λ (yes : is_ascii_digit b ≡ true). let later : weight_from room (value * 10 + (b - 48)) (size + 1) bs ≡ Some (token, whole) = rw yes at h in
-    more yes (weight_found room (value * 10 + (b - 48)) (size + 1) bs token whole later)) (λ (no : is_ascii_digit b ≡ false). let here : weight_end value size b
-    ≡ Some (token, whole) = rw no at h in weight_ends (suc room) value size b bs token whole here) (cases_Bool (is_ascii_digit b))
-  where
-    more : is_ascii_digit b ≡ true → FindsWeight room (value * 10 + (b - 48)) (size + 1) bs token whole → FindsWeight (suc room) value size (b ∷ bs) token whole
-    more test rest =
-        let inner : length rest.digits + 1 ≤ length bs = rest.within in
-        let room_left : length rest.digits ≤ room = rest.few in
-        let size_is : whole ≡ size + 1 + length rest.digits + 1 = rest.size_is in
-        let next : suc (length rest.digits) + 1 ≡ suc (length rest.digits + 1) = omega arith in
-        record {
-          digits = b ∷ rest.digits;
-          front = rw next (ap (λ (s : List ℕ). b ∷ s) rest.front);
-          within = omega arith;
-          few = omega arith;
-          decimal =
-              and_from _ _ test rest.decimal;
-          token_is = rest.token_is;
-          some = rest.some;
-          size_is = omega arith;
-        }
-
 -- a weight in braces is one
 weight_is : (text : List ℕ) (token : Token) (size : ℕ) → weight_at text ≡ Some (token, size) → (weight : ℕ) × (token ≡ Weight weight)
     × IsWeight weight (take size text) × (0 < size) × (size ≤ length text)
-weight_is [] token size h = absurd (cc)
-weight_is (b ∷ bs) token size h =
-    ⊎_elim (λ (yes : (b == 123) ≡ true). let inside : weight_from 4 0 1 bs ≡ Some (token, size) = rw yes at h in whole (eqb-true b 123 yes) (weight_found 4 0 1 bs token size inside))
-    (λ (no : (b == 123) ≡ false). let none = rw no at h in absurd (cc)) (cases_Bool (b == 123))
-  where
-    whole : b ≡ 123 → FindsWeight 4 0 1 bs token size → (weight : ℕ) × (token ≡ Weight weight) × IsWeight weight (take size (b ∷ bs)) × (0 < size) × (size ≤ length (b ∷ bs))
-    whole brace found =
-        let size_is : size ≡ suc (length found.digits + 1) = let raw : size ≡ 1 + length found.digits + 1 = found.size_is in omega arith in
-        let inner : length found.digits + 1 ≤ length bs = found.within in (
-          decimal_value found.digits,
-          found.token_is,
-          record {
-            digits = found.digits;
-            text_is = rw (size_is, brace) (ap (λ (s : List ℕ). 123 ∷ s) found.front);
-            few = found.few;
-            decimal = found.decimal;
-            value = refl;
-            some = found.some;
-          },
-          omega arith,
-          omega arith,
-        )
+weight_is text token size h =
+    let found : FindsWeight text token size = weight_found text token size h in
+    let size_is : size ≡ length found.digits + 2 = found.size_is in (
+      decimal_value found.digits,
+      found.token_is,
+      record { digits = found.digits; text_is = found.text_is; few = found.few; decimal = found.decimal; value = refl; some = found.some },
+      omega arith,
+      found.within,
+    )
 
 -- a mark that begins a text
 mark_is : (t : Alphabet) (b : ℕ) (bs : List ℕ) (token : Token) (size : ℕ) → FindsMark t.marks b token size → Reads t Dictionary (b ∷ bs) token size

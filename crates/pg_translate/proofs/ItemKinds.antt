@@ -1,6 +1,9 @@
 -- Which items the lines of a dictionary and of patterns do not have.
-use Rattle.std.proofs.Common.{◌≡◌, ℕ, ◌+◌, ◌-◌, ◌*◌, ◌==◌, nat_lt, ◌&&◌, Bool, true, false, if◌then◌else◌, List, [], ◌∷◌, length, slice_index, find, Option, Some, None, option_map, refl, ap, suc, zero, nat_eq}
+use Rattle.std.proofs.Common.{◌≡◌, ℕ, ◌+◌, ◌-◌, ◌*◌, ◌==◌, nat_lt, nat_le, ◌&&◌, Bool, true, false, if◌then◌else◌, List, [], ◌∷◌, ◌++◌, length, drop, fold, slice_index, find, Option, Some, None, option_map, refl, ap, suc, zero, nat_eq}
+use Rattle.std.specs.Prelude.{take_while, codes}
 use Rattle.std.specs.List.{starts_with, list_all}
+use Rattle.pg_types.specs.Parameters.{with_digit}
+use Rattle.pg_translate.specs.declared.weights.TheConstants.{WEIGHT_DIGITS_MAX}
 use Rattle.std.proofs.lemmas.Bool.{and_from}
 use Rattle.pg_translate.specs.Cuts.{cut_at, cut_from, tokens_of}
 use Rattle.std.specs.Option.{option_or}
@@ -10,7 +13,7 @@ use Rattle.pg_translate.specs.declared.items.Place.TheVariants.{Dictionary, Patt
 use Rattle.pg_translate.specs.Alphabets.{Alphabet}
 use Rattle.pg_translate.specs.Inside.Answers.{HasItem}
 use Rattle.std.specs.Char.{is_ascii_digit}
-use Rattle.pg_translate.specs.Tokens.{Token, Letter, Digit, Weight, Marked, Edge, item_at, letter_at, digit_at, weight_at, weight_from, weight_end, mark_at, edge_at}
+use Rattle.pg_translate.specs.Tokens.{Token, Letter, Digit, Weight, Marked, Edge, item_at, letter_at, digit_at, weight_at, mark_at, edge_at}
 
 -- an item of a pattern line is a letter, a digit or the edge
 abbrev of_patterns : Option (Token × ℕ) → Bool
@@ -86,22 +89,11 @@ digit_of_dictionary : (text : List ℕ) → of_dictionary (digit_at text) ≡ tr
 digit_of_dictionary [] = refl
 digit_of_dictionary (b ∷ bs) = elim (is_ascii_digit b) as (λ s. of_dictionary (if s then Some (Digit (b - 48), 1) else None) ≡ true) [ true ↦ refl | false ↦ refl ]
 
-end_of_dictionary : (value size b : ℕ) → of_dictionary (weight_end value size b) ≡ true
-end_of_dictionary value size b = elim (b == 125 && nat_lt 0 value) as (λ s. of_dictionary (if s then Some (Weight value, size + 1) else None) ≡ true) [ true ↦ refl | false ↦ refl ]
-
-weight_of_dictionary : (more value size : ℕ) (text : List ℕ) → of_dictionary (weight_from more value size text) ≡ true
-weight_of_dictionary zero value size [] = refl
-weight_of_dictionary (suc more) value size [] = refl
-weight_of_dictionary zero value size (b ∷ bs) = end_of_dictionary value size b
-weight_of_dictionary (suc more) value size (b ∷ bs) =
-    elim (is_ascii_digit b) as (λ s. of_dictionary (if s then weight_from more (value * 10 + (b - 48)) (size + 1) bs else weight_end value size b) ≡ true) [
-      | true ↦ weight_of_dictionary more (value * 10 + (b - 48)) (size + 1) bs
-      | false ↦ end_of_dictionary value size b
-    ]
-
-braced_of_dictionary : (text : List ℕ) → of_dictionary (weight_at text) ≡ true
-braced_of_dictionary [] = refl
-braced_of_dictionary (b ∷ bs) = elim (b == 123) as (λ s. of_dictionary (if s then weight_from 4 0 1 bs else None) ≡ true) [ true ↦ weight_of_dictionary 4 0 1 bs | false ↦ refl ]
+weight_of_dictionary : (text : List ℕ) → of_dictionary (weight_at text) ≡ true
+weight_of_dictionary text =
+    let digits : List ℕ = take_while is_ascii_digit (drop 1 text) in
+    elim (starts_with nat_eq text (codes "{" ++ digits ++ codes "}") && nat_le (length digits) WEIGHT_DIGITS_MAX && nat_lt 0 (fold with_digit 0 digits)) as
+    (λ s. of_dictionary (if s then Some (Weight (fold with_digit 0 digits), length digits + 2) else None) ≡ true) [ true ↦ refl | false ↦ refl ]
 
 mark_of_dictionary : (marks text : List ℕ) → of_dictionary (mark_at marks text) ≡ true
 mark_of_dictionary marks [] = refl
@@ -118,7 +110,7 @@ mark_of_dictionary marks (b ∷ bs) = by_tests (b == slice_index marks 0) (b == 
 item_of_dictionary : (t : Alphabet) (text : List ℕ) → of_dictionary (item_at t Dictionary text) ≡ true
 item_of_dictionary t text =
     either_of_dictionary _ _ (letter_of_dictionary t text) (either_of_dictionary _ _ (digit_of_dictionary text)
-    (either_of_dictionary _ _ (braced_of_dictionary text) (mark_of_dictionary t.marks text)))
+    (either_of_dictionary _ _ (weight_of_dictionary text) (mark_of_dictionary t.marks text)))
 
 pub no_edge : (t : Alphabet) (rest after : List ℕ) → HasItem t Dictionary rest Edge after → ⊥
 no_edge t rest after takes = cc (ap of_dictionary takes.found, item_of_dictionary t rest)

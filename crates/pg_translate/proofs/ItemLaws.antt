@@ -17,12 +17,13 @@ use Rattle.pg_translate.specs.Inside.Members.{IsAmong}
 use Rattle.std.specs.Char.{is_ascii_digit}
 use Rattle.pg_translate.specs.Tables.{check, mark_fails}
 use Rattle.pg_translate.specs.Inside.Checks.{mark_checks_from, mark_checks}
-use Rattle.pg_translate.specs.Tokens.{Token, Letter, Digit, Weight, Marked, Edge, letter_at, weight_from, mark_at, item_at}
+use Rattle.pg_translate.specs.Tokens.{Token, Letter, Digit, Weight, Marked, Edge, letter_at, weight_at, mark_at, item_at}
 use Rattle.pg_translate.specs.Inside.Items.{IsItem, IsWeight, IsMark, decimal_value}
 use Rattle.pg_translate.specs.Inside.Rules.{KeepsRules}
 use Rattle.pg_translate.proofs.Beginnings.{begins_as}
 use Rattle.pg_translate.proofs.Prefixes.{begins-append}
 use Rattle.pg_translate.proofs.Fronts.{find_begins, find_none}
+use Rattle.pg_translate.proofs.WeightDigits.{eqb_swap, no_weight_at, weight_reads}
 
 -- a spelling begins with a byte that may begin one
 pub begins_spelled : (t : Alphabet) → KeepsRules t → (s : ℕ × List ℕ) → IsAmong s t.spellings → begins_well t.marks s.1 ≡ true
@@ -78,10 +79,6 @@ good_marks a b c d pass =
     let three = check_passes (mark_fails (b ∷ a ∷ []) c) BadMark 1 7 (mark_checks_from 8 (c ∷ b ∷ a ∷ []) (d ∷ [])) two.1 in
     let four = check_passes (mark_fails (c ∷ b ∷ a ∷ []) d) BadMark 1 8 [] three.1 in
     record { first = good_mark [] a one.0; second = good_mark (a ∷ []) b two.0; third = good_mark (b ∷ a ∷ []) c three.0; fourth = good_mark (c ∷ b ∷ a ∷ []) d four.0 }
-
--- two bytes that are no equal ones in one order are none in the other
-eqb_swap : (x y : ℕ) → (x == y) ≡ false → (y == x) ≡ false
-eqb_swap x y h = ne_eqb y x (λ same. eqb-false x y h (sym same))
 
 -- what is said of the byte of a mark
 pub record ReadsMark (marks : List ℕ) (mark : Mark) (byte : ℕ) : Type 0 where
@@ -144,33 +141,18 @@ four_marks t rules = by_list t.marks rules.four rules.marks_pass
 found_byte : (t : Alphabet) → KeepsRules t → (mark : Mark) (byte : ℕ) (more : List ℕ) → ReadsMark t.marks mark byte → item_at t Dictionary (byte ∷ more) ≡ Some (Marked mark, 1)
 found_byte t rules mark byte more reads =
     let none : letter_at t.spellings (byte ∷ more) ≡ None = no_letter t rules byte more (not_from_true _ (or_right ((is_ascii_digit byte || byte == 46) || byte == 123) _ reads.there)) in
-    rw (none, reads.digit, reads.brace) (reads.found more)
-
--- a weight is read from its digits to its brace
-pub weight_reads : (room value size : ℕ) (digits more : List ℕ) → length digits ≤ room → list_all is_ascii_digit digits ≡ true
-    → 0 < fold (λ value b. value * 10 + (b - 48)) value digits → weight_from room value size (digits ++ 125 ∷ more)
-    ≡ Some (Weight (fold (λ value b. value * 10 + (b - 48)) value digits), size + length digits + 1)
-weight_reads zero value size [] more few all some = rw (lt-ltb 0 value some, let same : size + 0 + 1 ≡ size + 1 = omega arith in same) refl
-weight_reads (suc room) value size [] more few all some = rw (lt-ltb 0 value some, let same : size + 0 + 1 ≡ size + 1 = omega arith in same) refl
-weight_reads zero value size (d ∷ ds) more few all some = absurd (omega arith)
-weight_reads (suc room) value size (d ∷ ds) more few all some =
-    let parts : (is_ascii_digit d ≡ true) × (list_all is_ascii_digit ds ≡ true) = and_parts _ _ all in
-    let rest : weight_from room (value * 10 + (d - 48)) (size + 1) (ds ++ 125 ∷ more)
-    ≡ Some (Weight (fold (λ value b. value * 10 + (b - 48)) (value * 10 + (d - 48)) ds), size + 1 + length ds + 1) =
-    weight_reads room (value * 10 + (d - 48)) (size + 1) ds more (omega arith) parts.1 some in
-    let same : size + 1 + length ds + 1 ≡ size + suc (length ds) + 1 = omega arith in
-    rw parts.0 (rest ∙ ap (λ (n : ℕ). Some (Weight (fold (λ value b. value * 10 + (b - 48)) (value * 10 + (d - 48)) ds), n)) same)
+    rw (none, reads.digit, no_weight_at byte more reads.brace) (reads.found more)
 
 -- a weight in braces, where no spelling stands
 found_weight : (t : Alphabet) → KeepsRules t → (weight : ℕ) (text more : List ℕ) → IsWeight weight text → item_at t Dictionary (text ++ more) ≡ Some (Weight weight, length text)
 found_weight t rules weight text more is =
     let whole : text ++ more ≡ 123 ∷ (is.digits ++ 125 ∷ more) = ap (λ (s : List ℕ). s ++ more) is.text_is ∙ ap (λ (s : List ℕ). 123 ∷ s) (append_assoc is.digits (125 ∷ []) more) in
-    let size : length text ≡ 1 + length is.digits + 1 = ap length is.text_is ∙ ap suc (length-append is.digits (125 ∷ []))
-    ∙ (let same : suc (length is.digits + 1) ≡ 1 + length is.digits + 1 = omega arith in same) in
+    let size : length text ≡ length is.digits + 2 = ap length is.text_is ∙ ap suc (length-append is.digits (125 ∷ []))
+    ∙ (let same : suc (length is.digits + 1) ≡ length is.digits + 2 = omega arith in same) in
     let positive : 0 < decimal_value is.digits = subst (λ (n : ℕ). 0 < n) is.value is.some in
     let none : letter_at t.spellings (123 ∷ (is.digits ++ 125 ∷ more)) ≡ None = no_letter t rules 123 (is.digits ++ 125 ∷ more) refl in
-    let read : weight_from 4 0 1 (is.digits ++ 125 ∷ more) ≡ Some (Weight weight, 1 + length is.digits + 1) = weight_reads 4 0 1 is.digits more is.few is.decimal positive
-    ∙ ap (λ (n : ℕ). Some (Weight n, 1 + length is.digits + 1)) (sym is.value) in
+    let read : weight_at (123 ∷ (is.digits ++ 125 ∷ more)) ≡ Some (Weight weight, length is.digits + 2) = weight_reads is.digits more is.few is.decimal positive
+    ∙ ap (λ (n : ℕ). Some (Weight n, length is.digits + 2)) (sym is.value) in
     rw (whole, size, none, read) refl
 
 -- the byte of a digit

@@ -1,10 +1,11 @@
 -- The item that begins a text, for both kinds of lines.
-use Rattle.std.specs.Prelude.{ℕ, zero, suc, ◌+◌, ◌-◌, ◌==◌, nat_lt, Bool, true, ◌&&◌, ◌||◌, if◌then◌else◌, List, [], ◌∷◌, length, slice_index, find, Option, None, Some, option_map, nat_eq}
+use Rattle.std.specs.Prelude.{ℕ, ◌+◌, ◌-◌, ◌==◌, nat_lt, nat_le, Bool, true, ◌&&◌, ◌||◌, if◌then◌else◌, List, [], ◌∷◌, ◌++◌, length, drop, fold, take_while, slice_index, find, Option, None, Some, option_map, nat_eq, codes}
 use Rattle.std.specs.List.{starts_with}
 use Rattle.std.specs.Option.{option_or}
 use Rattle.pg_types.specs.Parameters.{with_digit}
 use Rattle.pg_types.specs.declared.marks.Mark.{Mark}
 use Rattle.pg_types.specs.declared.marks.Mark.TheVariants.{Error, Missed, Found, DontCare}
+use Rattle.pg_translate.specs.declared.weights.TheConstants.{WEIGHT_DIGITS_MAX}
 use Rattle.pg_translate.specs.declared.items.Place.{Place}
 use Rattle.pg_translate.specs.declared.items.Place.TheVariants.{Dictionary, Patterns}
 use Rattle.pg_translate.specs.Alphabets.{Alphabet}
@@ -36,21 +37,13 @@ mark_at marks (b ∷ bs) = if b == slice_index marks 0 then Some (Marked Error, 
     else if b == slice_index marks 2 then Some (Marked Found, 1)
     else if b == slice_index marks 3 then Some (Marked DontCare, 1) else None
 
--- the end of a weight: the closing brace, where the value is not 0
-abbrev pub weight_end : ℕ → ℕ → ℕ → Option (Token × ℕ)
-weight_end value size b = if b == 125 && nat_lt 0 value then Some (Weight value, size + 1) else None
-
--- the rest of a weight that has a value and a size so far, with at most so many digits more
-abbrev pub weight_from : ℕ → ℕ → ℕ → List ℕ → Option (Token × ℕ)
-weight_from more value size [] = None
-weight_from zero value size (b ∷ bs) = weight_end value size b
-weight_from (suc more) value size (b ∷ bs) = if is_ascii_digit b
-    then weight_from more (with_digit value b) (size + 1) bs else weight_end value size b
-
 -- the weight in braces that begins a text: one to four digits, with a value above 0
 abbrev pub weight_at : List ℕ → Option (Token × ℕ)
-weight_at [] = None
-weight_at (b ∷ bs) = if b == 123 then weight_from 4 0 1 bs else None
+weight_at text = let digits = take_while is_ascii_digit (drop 1 text) in
+    let value = fold with_digit 0 digits in
+    if starts_with nat_eq text (codes "{" ++ digits ++ codes "}")
+    && nat_le (length digits) WEIGHT_DIGITS_MAX && nat_lt 0 value
+    then Some (Weight value, length digits + 2) else None
 
 -- the dot of the edge, where it begins a text
 abbrev pub edge_at : List ℕ → Option (Token × ℕ)

@@ -4,6 +4,7 @@ use Rattle.std.specs.List.{list_all, concat, AllByRecursion, starts_with}
 use Rattle.pg_types.specs.Parameters.{with_digit}
 use Rattle.pg_types.specs.declared.marks.Mark.{Mark}
 use Rattle.pg_types.specs.declared.marks.Mark.TheVariants.{Nothing, Error, Missed, Found, DontCare}
+use Rattle.pg_translate.specs.declared.weights.TheConstants.{WEIGHT_DIGITS_MAX}
 use Rattle.pg_translate.specs.declared.items.Place.{Place}
 use Rattle.pg_translate.specs.declared.items.Place.TheVariants.{Dictionary, Patterns}
 use Rattle.pg_translate.specs.Alphabets.{Alphabet}
@@ -17,11 +18,11 @@ use Rattle.pg_translate.specs.Cuts.{Placed, Cut}
 abbrev pub decimal_value : List ℕ → ℕ
 decimal_value digits = fold with_digit 0 digits
 
--- a text is a weight in braces: a brace, at most four digits whose value is not 0, and a brace
+-- a text is a weight in braces: a brace, one to four digits with a value above 0, and a brace
 pub record IsWeight (weight : ℕ) (text : List ℕ) : Type 0 where
   pub digits : List ℕ
   pub text_is : text ≡ 123 ∷ (digits ++ 125 ∷ [])
-  pub few : length digits ≤ 4
+  pub few : length digits ≤ WEIGHT_DIGITS_MAX
   pub decimal : list_all is_ascii_digit digits ≡ true
   pub value : weight ≡ decimal_value digits
   pub some : 0 < weight
