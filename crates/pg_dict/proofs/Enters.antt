@@ -69,5 +69,5 @@ enters t rules weight line size sign n rest s p q u start end sound is_edge is_f
     let size_q : length q.signs.items ≡ length p.signs.items + 1 = length_signs p q (positioned_sign Nothing weight sign ∷ []) is_first in (
       ap (with_word (stored_words s)) r.0 ∙ ap (λ (words : List Word). Ok (record { words = words; weight = weight })) (sym (adds_words s u positioned start end weight sound grown added from to)),
       adds_sound s u positioned start end weight sound grown added from to
-          (word_from _ (fits_word n s u weight sign items fit grown (omega arith) small letter (items_sound t rules (size - length rest + 1) 0 rest))),
+          (word_from _ (fits_word n s u weight sign items fit grown (omega arith) small letter (items_sound t rules (length rest) (size - length rest + 1) rest))),
     )

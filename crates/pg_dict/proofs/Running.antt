@@ -166,5 +166,5 @@ running_is before (Marked m ∷ items) = running_is before items ∙ given_mark 
 pub line_runs : (t : Alphabet) (line size weight : ℕ) (text : List ℕ) → length text ≡ size → rest_reading t line size weight text ≡ line_reading t line weight text
 line_runs t line size weight text is =
     let first : size - length text + 1 ≡ 1 = omega arith in
-    ap (λ (column : ℕ). let c = cut_from t Dictionary column 0 text in unless (line_refusal Dictionary line c) (running_word weight (tokens_of c))) first
+    ap (λ (column : ℕ). let c = cut_from t Dictionary (length text) column text in unless (line_refusal Dictionary line c) (running_word weight (tokens_of c))) first
     ∙ ap (unless (line_refusal Dictionary line (cut t Dictionary text))) (running_is weight (tokens_of (cut t Dictionary text)))

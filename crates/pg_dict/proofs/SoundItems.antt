@@ -1,11 +1,12 @@
 -- The letters of a line have signs of letters.
-use Rattle.std.proofs.Common.{◌≡◌, ℕ, ◌+◌, ◌-◌, true, zero, suc, List, [], ◌∷◌, Option, None, Some, refl}
+use Rattle.std.proofs.Common.{◌≡◌, ℕ, ◌+◌, true, zero, suc, List, [], ◌∷◌, drop, Option, None, Some, refl}
 use Rattle.std.specs.List.{list_all}
+use Rattle.std.specs.Option.{option_map_or}
 use Rattle.std.proofs.lemmas.Bool.{and_from, lt-ltb}
 use Rattle.pg_types.specs.declared.limits.TheConstants.{EDGE}
 use Rattle.pg_translate.specs.Alphabets.{Alphabet}
 use Rattle.pg_translate.specs.Tokens.{Token, Letter, Digit, Weight, Marked, Edge, item_at}
-use Rattle.pg_translate.specs.Cuts.{Cut, cut_at, cut_from, tokens_of}
+use Rattle.pg_translate.specs.Cuts.{Cut, cut_from, with_item, tokens_of}
 use Rattle.pg_translate.specs.Inside.Items.{IsItem}
 use Rattle.pg_translate.specs.Inside.Rules.{KeepsRules}
 use Rattle.pg_translate.specs.declared.items.Place.TheVariants.{Dictionary}
@@ -21,16 +22,16 @@ item_sound t rules (Marked m) text item = refl
 item_sound t rules Edge text item = absurd item
 
 -- so is the first item of a cut, where those behind it are
-cut_sound : (t : Alphabet) → KeepsRules t → (column : ℕ) (text : List ℕ) (found : Option (Token × ℕ)) → item_at t Dictionary text ≡ found → (behind : ℕ → Cut)
-    → ((k : ℕ) → list_all is_sound_item (tokens_of (behind k)) ≡ true) → list_all is_sound_item (tokens_of (cut_at column text found behind)) ≡ true
+cut_sound : (t : Alphabet) → KeepsRules t → (column : ℕ) (text : List ℕ) (found : Option (Token × ℕ)) → item_at t Dictionary text ≡ found → (behind : Token × ℕ → Cut)
+    → ((item : Token × ℕ) → list_all is_sound_item (tokens_of (behind item)) ≡ true)
+    → list_all is_sound_item (tokens_of (option_map_or (λ item. with_item column item.0 (behind item)) found (record { items = []; column = column; rest = text }))) ≡ true
 cut_sound t rules column text None is behind sound = refl
 cut_sound t rules column text (Some item) is behind sound =
     let reads = item_found t rules Dictionary text item.0 item.1 is in
-    and_from _ _ (item_sound t rules item.0 _ reads.item) (sound (item.1 - 1))
+    and_from _ _ (item_sound t rules item.0 _ reads.item) (sound item)
 
 -- all items of a cut
-pub items_sound : (t : Alphabet) → KeepsRules t → (column skip : ℕ) (text : List ℕ) → list_all is_sound_item (tokens_of (cut_from t Dictionary column skip text)) ≡ true
-items_sound t rules column skip [] = refl
-items_sound t rules column zero (b ∷ bs) = cut_sound t rules column (b ∷ bs) (item_at t Dictionary (b ∷ bs)) refl (λ more. cut_from t Dictionary (column + 1) more bs)
-    (λ k. items_sound t rules (column + 1) k bs)
-items_sound t rules column (suc skip) (b ∷ bs) = items_sound t rules (column + 1) skip bs
+pub items_sound : (t : Alphabet) → KeepsRules t → (most column : ℕ) (text : List ℕ) → list_all is_sound_item (tokens_of (cut_from t Dictionary most column text)) ≡ true
+items_sound t rules zero column text = refl
+items_sound t rules (suc more) column text = cut_sound t rules column text (item_at t Dictionary text) refl (λ item. cut_from t Dictionary more (column + item.1) (drop item.1 text))
+    (λ item. items_sound t rules more (column + item.1) (drop item.1 text))

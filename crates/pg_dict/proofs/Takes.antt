@@ -6,8 +6,7 @@ use Rattle.pg_types.specs.declared.marks.Mark.TheVariants.{Nothing}
 use Rattle.pg_types.specs.Reading.{unless}
 use Rattle.pg_translate.specs.Alphabets.{Alphabet}
 use Rattle.pg_translate.specs.Tokens.{Token, Letter}
-use Rattle.pg_translate.specs.Cuts.{Cut, tokens_of}
-use Rattle.pg_translate.specs.Inside.Rests.{with_item}
+use Rattle.pg_translate.specs.Cuts.{Cut, with_item, tokens_of}
 use Rattle.pg_translate.specs.Inside.Answers.{HasItem}
 use Rattle.pg_translate.specs.declared.items.Place.TheVariants.{Dictionary}
 use Rattle.pg_types.specs.declared.refusals.Refusal.{Refusal}

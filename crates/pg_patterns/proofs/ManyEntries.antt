@@ -99,7 +99,7 @@ lines_as : (t : Alphabet) (line : ℕ) (texts : List (List ℕ)) → entries_fro
 lines_as t line [] = refl
 lines_as t line (text ∷ texts) =
     let refusal : Option Refusal = line_refusal Patterns line (cut t Patterns text) in
-    ap₂ both_parts (ap (unless refusal) (entries_as (items_of t Patterns text) (no_weight t 1 zero text))) (lines_as t (line + 1) texts)
+    ap₂ both_parts (ap (unless refusal) (entries_as (items_of t Patterns text) (no_weight t (length text) 1 text))) (lines_as t (line + 1) texts)
     ∙ line_before refusal (refusals_from t Patterns (line + 1) texts) (line_entries (items_of t Patterns text)) (flat_map line_entries (map (items_of t Patterns) texts))
 
 map_unless : (refusal : Option Refusal) (es : List ((List ℕ × ℕ) × ℕ)) → joined_entries (unless refusal es) ≡ unless refusal (map_of_entries es)

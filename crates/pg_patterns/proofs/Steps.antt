@@ -10,8 +10,8 @@ use Rattle.pg_types.specs.Reading.{unless, refusal_at}
 use Rattle.pg_translate.specs.declared.items.Place.TheVariants.{Patterns}
 use Rattle.pg_translate.specs.Alphabets.{Alphabet}
 use Rattle.pg_translate.specs.Tokens.{Token}
-use Rattle.pg_translate.specs.Cuts.{Cut, tokens_of}
-use Rattle.pg_translate.specs.Inside.Rests.{cut_rest, with_item}
+use Rattle.pg_translate.specs.Cuts.{Cut, with_item, tokens_of}
+use Rattle.pg_translate.specs.Inside.Rests.{cut_rest}
 use Rattle.pg_translate.specs.Inside.Answers.{HasItem}
 use Rattle.pg_translate.specs.Gaps.{sign_of}
 use Rattle.pg_translate.specs.Inside.Refusing.{refusal_with_room}

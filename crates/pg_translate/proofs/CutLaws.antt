@@ -13,8 +13,7 @@ use Rattle.pg_translate.specs.Inside.Beginnings.{begins_well}
 use Rattle.pg_translate.specs.Inside.Members.{IsAmong}
 use Rattle.std.specs.Char.{is_ascii_digit}
 use Rattle.pg_translate.specs.Tokens.{Token, Letter, Digit, Weight, Marked, Edge, letter_at, digit_at, weight_at, mark_at, edge_at, item_at}
-use Rattle.pg_translate.specs.Cuts.{Placed, Cut, cut_from}
-use Rattle.pg_translate.specs.Inside.Rests.{with_item}
+use Rattle.pg_translate.specs.Cuts.{Placed, Cut, cut_from, with_item}
 use Rattle.pg_translate.specs.Inside.Items.{IsItem, IsWeight, IsMark, IsCut, IsPrefix, IsLongest, items_at, text_of_items, decimal_value}
 use Rattle.pg_translate.specs.Inside.Rules.{KeepsRules}
 use Rattle.pg_translate.proofs.Prefixes.{begins_front, begins_within}
@@ -164,6 +163,18 @@ item_found t rules place text token size h = by_place place h
     by_place Patterns h = ⊎_elim (λ l. letter Patterns l) (λ rest. ⊎_elim (λ d. digit Patterns d) (λ e. edge e) (or_some (digit_at text) (edge_at text) (token, size) rest))
         (or_some (letter_at t.spellings text) (option_or (digit_at text) (edge_at text)) (token, size) h)
 
+-- no item begins a text without bytes
+pub no_item : (t : Alphabet) → KeepsRules t → (place : Place) (text : List ℕ) → length text ≤ 0 → item_at t place text ≡ None
+no_item t rules place text few = by_item (item_at t place text) refl
+  where
+    by_item : (found : Option (Token × ℕ)) → item_at t place text ≡ found → item_at t place text ≡ None
+    by_item None is = is
+    by_item (Some item) is =
+        let reads : Reads t place text item.0 item.1 = item_found t rules place text item.0 item.1 is in
+        let some : 0 < item.1 = reads.some in
+        let within : item.1 ≤ length text = reads.within in
+        absurd (omega arith)
+
 -- what begins with a text and more begins with the text, and what follows it begins with the more
 begins_split : (line text more : List ℕ) → starts_with nat_eq line (text ++ more) ≡ true → (line ≡ text ++ drop (length text) line) × (starts_with nat_eq (drop (length text) line) more ≡ true)
 begins_split line [] more h = (refl, h)
@@ -188,8 +199,8 @@ cut_first t rules place line x xs cut =
     (subst (λ (l : List ℕ). item_at t place l ≡ Some (x.0, length x.1)) (sym parts.0) found, parts.0, record { each = cut.each.1; prefix = parts.1 })
 
 -- where no item begins the line, its longest cut is empty
-longest_none : (t : Alphabet) → KeepsRules t → (place : Place) (column : ℕ) (line : List ℕ) → item_at t place line ≡ None → IsLongest t place column line (cut_from t place column zero line)
-longest_none t rules place column line none = record {
+longest_none : (t : Alphabet) → KeepsRules t → (place : Place) (most column : ℕ) (line : List ℕ) → item_at t place line ≡ None → IsLongest t place column line (cut_from t place most column line)
+longest_none t rules place most column line none = record {
   items = [];
   cut = record { each = tt; prefix = refl };
   items_are = ap (λ (c : Cut). c.items) is;
@@ -198,8 +209,8 @@ longest_none t rules place column line none = record {
   all = every;
 }
   where
-    is : cut_from t place column zero line ≡ record { items = []; column = column; rest = line }
-    is = cut_none t place column line none
+    is : cut_from t place most column line ≡ record { items = []; column = column; rest = line }
+    is = cut_none t place most column line none
 
     every : (other : List (Token × List ℕ)) → IsCut t place line other → IsPrefix other []
     every [] cut = ([], refl)
@@ -207,10 +218,10 @@ longest_none t rules place column line none = record {
         × IsCut t place (drop (length x.1) line) xs = cut_first t rules place line x xs cut in let found : Some _ ≡ None = sym first.0 ∙ none in absurd (cc)
 
 -- where an item begins the line, its longest cut has it before that of the rest
-longest_item : (t : Alphabet) → KeepsRules t → (place : Place) (column : ℕ) (line : List ℕ) (token : Token) (size : ℕ) → item_at t place line
-    ≡ Some (token, size) → IsLongest t place (column + size) (drop size line) (cut_from t place (column + size) zero (drop size line))
-    → IsLongest t place column line (cut_from t place column zero line)
-longest_item t rules place column line token size found rest = record {
+longest_item : (t : Alphabet) → KeepsRules t → (place : Place) (more column : ℕ) (line : List ℕ) (token : Token) (size : ℕ) → item_at t place line
+    ≡ Some (token, size) → IsLongest t place (column + size) (drop size line) (cut_from t place more (column + size) (drop size line))
+    → IsLongest t place column line (cut_from t place (suc more) column line)
+longest_item t rules place more column line token size found rest = record {
   items = (token, take size line) ∷ rest.items;
   cut = record { each = (reads.item, rest.cut.each); prefix = begins_join size line (text_of_items rest.items) rest.cut.prefix };
   items_are = ap (λ (c : Cut). c.items) is ∙ ap (λ (items : List Placed). record { column = column; token = token } ∷ items)
@@ -218,7 +229,7 @@ longest_item t rules place column line token size found rest = record {
   column_is = ap (λ (c : Cut). c.column) is ∙ rest.column_is ∙ (let same : column + size + length (text_of_items rest.items)
       ≡ column + length (take size line ++ text_of_items rest.items) = omega (arith, length-append (take size line) (text_of_items rest.items), front) in same);
   rest_is = sym (take-append-drop size line) ∙ ap (λ (text : List ℕ). take size line ++ text) rest.rest_is
-      ∙ sym (append_assoc (take size line) (text_of_items rest.items) (cut_from t place (column + size) zero (drop size line)).rest)
+      ∙ sym (append_assoc (take size line) (text_of_items rest.items) (cut_from t place more (column + size) (drop size line)).rest)
       ∙ ap (λ (c : Cut). (take size line ++ text_of_items rest.items) ++ c.rest) (sym is);
   all = every;
 }
@@ -226,8 +237,8 @@ longest_item t rules place column line token size found rest = record {
     reads : Reads t place line token size
     reads = item_found t rules place line token size found
 
-    is : cut_from t place column zero line ≡ with_item column token (cut_from t place (column + size) zero (drop size line))
-    is = cut_item t place column line token size found reads.some reads.within
+    is : cut_from t place (suc more) column line ≡ with_item column token (cut_from t place more (column + size) (drop size line))
+    is = cut_item t place more column line token size found
 
     front : length (take size line) ≡ size
     front = length-take-le size line reads.within
@@ -247,21 +258,40 @@ longest_item t rules place column line token size found rest = record {
         (more.0, ap₂ (λ (y : Token × List ℕ) (ys : List (Token × List ℕ)). y ∷ ys) head more.1)
 
 -- each line has a longest cut
-pub longest : (t : Alphabet) → KeepsRules t → (place : Place) (n column : ℕ) (line : List ℕ) → length line ≤ n → IsLongest t place column line (cut_from t place column zero line)
+pub longest : (t : Alphabet) → KeepsRules t → (place : Place) (most column : ℕ) (line : List ℕ) → length line ≤ most → IsLongest t place column line (cut_from t place most column line)
 longest t rules place zero column line few = by_item (item_at t place line) refl
   where
-    by_item : (found : Option (Token × ℕ)) → found ≡ item_at t place line → IsLongest t place column line (cut_from t place column zero line)
-    by_item None is = longest_none t rules place column line (sym is)
+    by_item : (found : Option (Token × ℕ)) → found ≡ item_at t place line → IsLongest t place column line (cut_from t place zero column line)
+    by_item None is = longest_none t rules place zero column line (sym is)
     by_item (Some item) is = let reads : Reads t place line item.0 item.1 = item_found t rules place line item.0 item.1 (sym is) in let some : 0 < item.1 =
         reads.some in let within : item.1 ≤ length line = reads.within in absurd (omega arith)
-longest t rules place (suc n) column line few = by_item (longest t rules place n) (item_at t place line) refl
+longest t rules place (suc more) column line few = by_item (longest t rules place more) (item_at t place line) refl
   where
-    by_item : ((column : ℕ) (line : List ℕ) → length line ≤ n → IsLongest t place column line (cut_from t place column zero line)) → (found : Option (Token × ℕ))
-        → found ≡ item_at t place line → IsLongest t place column line (cut_from t place column zero line)
-    by_item less None is = longest_none t rules place column line (sym is)
+    by_item : ((column : ℕ) (line : List ℕ) → length line ≤ more → IsLongest t place column line (cut_from t place more column line)) → (found : Option (Token × ℕ))
+        → found ≡ item_at t place line → IsLongest t place column line (cut_from t place (suc more) column line)
+    by_item less None is = longest_none t rules place (suc more) column line (sym is)
     by_item less (Some item) is = let reads : Reads t place line item.0 item.1 = item_found t rules place line item.0 item.1 (sym is) in let some : 0 < item.1 =
         reads.some in let size : length (drop item.1 line) ≡ length line - item.1 = length-drop item.1 line in
-        longest_item t rules place column line item.0 item.1 (sym is) (less (column + item.1) (drop item.1 line) (omega arith))
+        longest_item t rules place more column line item.0 item.1 (sym is) (less (column + item.1) (drop item.1 line) (omega arith))
+
+-- as many items as the text has bytes are enough
+pub cut_enough : (t : Alphabet) → KeepsRules t → (place : Place) (n m column : ℕ) (text : List ℕ) → length text ≤ n → length text ≤ m
+    → cut_from t place n column text ≡ cut_from t place m column text
+cut_enough t rules place zero zero column text few short = refl
+cut_enough t rules place zero (suc m) column text few short = sym (cut_none t place (suc m) column text (no_item t rules place text (omega arith)))
+cut_enough t rules place (suc n) zero column text few short = cut_none t place (suc n) column text (no_item t rules place text (omega arith))
+cut_enough t rules place (suc n) (suc m) column text few short = by_item (cut_enough t rules place n m) (item_at t place text) refl
+  where
+    by_item : ((column : ℕ) (text : List ℕ) → length text ≤ n → length text ≤ m → cut_from t place n column text ≡ cut_from t place m column text) → (found : Option (Token × ℕ))
+        → found ≡ item_at t place text → cut_from t place (suc n) column text ≡ cut_from t place (suc m) column text
+    by_item less None is = cut_none t place (suc n) column text (sym is) ∙ sym (cut_none t place (suc m) column text (sym is))
+    by_item less (Some item) is =
+        let reads : Reads t place text item.0 item.1 = item_found t rules place text item.0 item.1 (sym is) in
+        let some : 0 < item.1 = reads.some in
+        let size : length (drop item.1 text) ≡ length text - item.1 = length-drop item.1 text in
+        cut_item t place n column text item.0 item.1 (sym is)
+        ∙ ap (with_item column item.0) (less (column + item.1) (drop item.1 text) (omega arith) (omega arith))
+        ∙ sym (cut_item t place m column text item.0 item.1 (sym is))
 
 -- of two fronts of a list, one is a front of the other
 prefixes : (a b all : List (Token × List ℕ)) → IsPrefix a all → IsPrefix b all → IsPrefix a b ⊎ IsPrefix b a
@@ -280,5 +310,5 @@ prefixes (x ∷ xs) (y ∷ ys) (z ∷ zs) pa pb =
 -- of two cuts of one line, one is a prefix of the other
 pub cuts_agree : (t : Alphabet) → KeepsRules t → (place : Place) (line : List ℕ) (a b : List (Token × List ℕ)) → IsCut t place line a → IsCut t place line b → IsPrefix a b ⊎ IsPrefix b a
 cuts_agree t rules place line a b cut_a cut_b =
-    let whole : IsLongest t place 1 line (cut_from t place 1 zero line) = longest t rules place (length line) 1 line (le_refl (length line)) in
+    let whole : IsLongest t place 1 line (cut_from t place (length line) 1 line) = longest t rules place (length line) 1 line (le_refl (length line)) in
     prefixes a b whole.items (whole.all a cut_a) (whole.all b cut_b)

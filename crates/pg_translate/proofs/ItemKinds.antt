@@ -5,8 +5,8 @@ use Rattle.std.specs.List.{starts_with, list_all}
 use Rattle.pg_types.specs.Parameters.{with_digit}
 use Rattle.pg_translate.specs.declared.weights.TheConstants.{WEIGHT_DIGITS_MAX}
 use Rattle.std.proofs.lemmas.Bool.{and_from}
-use Rattle.pg_translate.specs.Cuts.{cut_at, cut_from, tokens_of}
-use Rattle.std.specs.Option.{option_or}
+use Rattle.pg_translate.specs.Cuts.{Cut, cut_from, with_item, tokens_of}
+use Rattle.std.specs.Option.{option_or, option_map_or}
 use Rattle.pg_types.specs.declared.marks.Mark.{Mark}
 use Rattle.pg_types.specs.declared.marks.Mark.TheVariants.{Error, Missed, Found, DontCare}
 use Rattle.pg_translate.specs.declared.items.Place.TheVariants.{Dictionary, Patterns}
@@ -53,17 +53,16 @@ item_plain (Weight weight) size is = is
 item_plain (Marked mark) size is = refl
 item_plain Edge size is = refl
 
-cut_plain : (t : Alphabet) (column : ℕ) (text bs : List ℕ) (o : Option (Token × ℕ)) → of_patterns o ≡ true
-    → ((skip : ℕ) → list_all is_plain (tokens_of (cut_from t Patterns (column + 1) skip bs)) ≡ true)
-    → list_all is_plain (tokens_of (cut_at column text o (λ more. cut_from t Patterns (column + 1) more bs))) ≡ true
-cut_plain t column text bs None is later = refl
-cut_plain t column text bs (Some (token, size)) is later = and_from _ _ (item_plain token size is) (later (size - 1))
+cut_plain : (column : ℕ) (text : List ℕ) (o : Option (Token × ℕ)) → of_patterns o ≡ true → (behind : Token × ℕ → Cut) → ((item : Token × ℕ) → list_all is_plain (tokens_of (behind item)) ≡ true)
+    → list_all is_plain (tokens_of (option_map_or (λ item. with_item column item.0 (behind item)) o (record { items = []; column = column; rest = text }))) ≡ true
+cut_plain column text None is behind later = refl
+cut_plain column text (Some item) is behind later = and_from _ _ (item_plain item.0 item.1 is) (later item)
 
 -- a line of patterns has no weight
-pub no_weight : (t : Alphabet) (column skip : ℕ) (text : List ℕ) → list_all is_plain (tokens_of (cut_from t Patterns column skip text)) ≡ true
-no_weight t column skip [] = refl
-no_weight t column (suc skip) (b ∷ bs) = no_weight t (column + 1) skip bs
-no_weight t column zero (b ∷ bs) = cut_plain t column (b ∷ bs) bs (item_at t Patterns (b ∷ bs)) (item_of_patterns t (b ∷ bs)) (λ skip. no_weight t (column + 1) skip bs)
+pub no_weight : (t : Alphabet) (most column : ℕ) (text : List ℕ) → list_all is_plain (tokens_of (cut_from t Patterns most column text)) ≡ true
+no_weight t zero column text = refl
+no_weight t (suc more) column text = cut_plain column text (item_at t Patterns text) (item_of_patterns t text) (λ item. cut_from t Patterns more (column + item.1) (drop item.1 text))
+    (λ item. no_weight t more (column + item.1) (drop item.1 text))
 
 pub no_mark : (t : Alphabet) (rest after : List ℕ) (mark : Mark) → HasItem t Patterns rest (Marked mark) after → ⊥
 no_mark t rest after mark takes = cc (ap of_patterns takes.found, item_of_patterns t rest)

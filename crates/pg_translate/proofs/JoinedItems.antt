@@ -1,5 +1,5 @@
 -- A line of items is cut into them, and is read as they say.
-use Rattle.std.proofs.Common.{◌≡◌, ℕ, ◌+◌, ◌<◌, ◌≤◌, true, List, [], ◌∷◌, ◌++◌, length, map, drop, Some, None, Option, option_map, Ok, refl, ap, ◌∙◌, arith, suc, zero, length-append}
+use Rattle.std.proofs.Common.{◌≡◌, ℕ, ◌+◌, ◌<◌, ◌≤◌, true, List, [], ◌∷◌, ◌++◌, length, map, drop, Some, None, Option, option_map, Ok, refl, ap, ◌∙◌, le_refl, arith, suc, zero, length-append}
 use Rattle.std.specs.List.{AllByRecursion, cons_option, filter_map}
 use Rattle.std.specs.Option.{option_or}
 use Rattle.std.proofs.lemmas.Bool.{false≢true}
@@ -13,15 +13,15 @@ use Rattle.pg_translate.specs.declared.items.Place.TheVariants.{Dictionary, Patt
 use Rattle.pg_translate.specs.Alphabets.{Alphabet}
 use Rattle.pg_translate.specs.Inside.Beginnings.{begins_well}
 use Rattle.pg_translate.specs.Tokens.{Token, Letter, Digit, Weight, Marked, Edge, item_at}
-use Rattle.pg_translate.specs.Cuts.{Placed, Cut, cut, cut_from, tokens_of}
-use Rattle.pg_translate.specs.Inside.Rests.{with_item}
+use Rattle.pg_translate.specs.Cuts.{Placed, Cut, cut, cut_from, with_item, tokens_of}
 use Rattle.pg_translate.specs.Gaps.{sign_of, signs_of}
 use Rattle.pg_translate.specs.Inside.Items.{IsItem, text_of_items, tokens_in}
 use Rattle.pg_translate.specs.LineRefusals.{sign_columns, line_refusal}
 use Rattle.pg_translate.specs.Inside.Refusing.{signs_max, long_kind}
 use Rattle.pg_translate.specs.Inside.Refusing.{of_line, sign_column, stop_refusal}
 use Rattle.pg_translate.specs.Inside.Rules.{KeepsRules}
-use Rattle.pg_translate.proofs.Cuts.{cut_item}
+use Rattle.pg_translate.proofs.Cuts.{cut_item, cut_none}
+use Rattle.pg_translate.proofs.CutLaws.{no_item}
 use Rattle.pg_translate.proofs.ItemLaws.{item_reads, begins_spelled}
 
 -- a spelling has a byte
@@ -45,18 +45,20 @@ item_some t rules Dictionary Edge text item = absurd item
 item_some t rules Patterns Edge text item = omega (arith, ap (λ (xs : List ℕ). length xs) item)
 
 -- the cut of items that are joined has these items, and nothing is left
-pub cut_joined : (t : Alphabet) → KeepsRules t → (place : Place) (column : ℕ) (items : List (Token × List ℕ)) → AllByRecursion (λ (item : Token × List ℕ). IsItem t place item.0 item.1) items
-    → (tokens_of (cut_from t place column zero (text_of_items items)) ≡ tokens_in items) × ((cut_from t place column zero (text_of_items items)).rest ≡ [])
-cut_joined t rules place column [] each = (refl, refl)
-cut_joined t rules place column (item ∷ items) each =
+pub cut_joined : (t : Alphabet) → KeepsRules t → (place : Place) (most column : ℕ) (items : List (Token × List ℕ)) → AllByRecursion (λ (item : Token × List ℕ). IsItem t place item.0 item.1) items
+    → length (text_of_items items) ≤ most → (tokens_of (cut_from t place most column (text_of_items items)) ≡ tokens_in items) × ((cut_from t place most column (text_of_items items)).rest ≡ [])
+cut_joined t rules place most column [] each few =
+    let none : cut_from t place most column [] ≡ record { items = []; column = column; rest = [] } = cut_none t place most column [] (no_item t rules place [] (omega arith)) in
+    (ap tokens_of none, ap (λ (c : Cut). c.rest) none)
+cut_joined t rules place zero column (item ∷ items) each few = absurd (omega (arith, item_some t rules place item.0 item.1 each.0, length-append item.1 (text_of_items items)))
+cut_joined t rules place (suc more) column (item ∷ items) each few =
     let size : ℕ = length item.1 in
     let found : item_at t place (item.1 ++ text_of_items items) ≡ Some (item.0, size) = item_reads t rules place item.0 item.1 (text_of_items items) each.0 in
-    let within : size ≤ length (item.1 ++ text_of_items items) = omega (arith, length-append item.1 (text_of_items items)) in
     let behind : drop size (item.1 ++ text_of_items items) ≡ text_of_items items = drop_at item.1 (text_of_items items) size refl in
-    let whole : cut_from t place column zero (text_of_items (item ∷ items)) ≡ with_item column item.0 (cut_from t place (column + size) zero (text_of_items items)) =
-    cut_item t place column (item.1 ++ text_of_items items) item.0 size found (item_some t rules place item.0 item.1 each.0) within
-    ∙ ap (λ (rest : List ℕ). with_item column item.0 (cut_from t place (column + size) zero rest)) behind in
-    let p = cut_joined t rules place (column + size) items each.1 in
+    let whole : cut_from t place (suc more) column (text_of_items (item ∷ items)) ≡ with_item column item.0 (cut_from t place more (column + size) (text_of_items items)) =
+    cut_item t place more column (item.1 ++ text_of_items items) item.0 size found ∙ ap (λ (rest : List ℕ). with_item column item.0 (cut_from t place more (column + size) rest)) behind in
+    let some : 0 < size = item_some t rules place item.0 item.1 each.0 in
+    let p = cut_joined t rules place more (column + size) items each.1 (omega (arith, length-append item.1 (text_of_items items))) in
     (ap tokens_of whole ∙ ap (λ (tokens : List Token). item.0 ∷ tokens) p.0, ap (λ (c : Cut). c.rest) whole ∙ p.1)
 
 -- each sign has a column
@@ -82,7 +84,7 @@ pub line_is_read : {X : Type 0} (give : List Token → X) (t : Alphabet) → Kee
     → of_line give t place line (text_of_items items) ≡ Ok (give (tokens_in items))
 line_is_read {X} give t rules place line items each few =
     let c : Cut = cut t place (text_of_items items) in
-    let p = cut_joined t rules place 1 items each in
+    let p = cut_joined t rules place (length (text_of_items items)) 1 items each (le_refl (length (text_of_items items))) in
     let tokens : tokens_of c ≡ tokens_in items = p.0 in
     let short : length (signs_of (tokens_of c)) ≤ signs_max place = omega (arith, few, ap (λ (ts : List Token). length (signs_of ts)) tokens) in
     ap (λ (refusal : Option Refusal). unless refusal (give (tokens_of c))) (not_refused place line c short p.1) ∙ ap (λ (ts : List Token). Ok (give ts)) tokens

@@ -1,20 +1,21 @@
 -- An item more of a line, and what it changes of the line's cut and refusal.
-use Rattle.std.proofs.Common.{◌≡◌, ℕ, ◌+◌, ◌-◌, ◌<◌, ◌≤◌, List, ◌∷◌, length, Some, option_map, sym, ap, ◌∙◌, arith, suc, zero}
+use Rattle.std.proofs.Common.{◌≡◌, ℕ, ◌+◌, ◌-◌, ◌<◌, ◌≤◌, List, ◌∷◌, length, Some, option_map, sym, ap, ◌∙◌, le_refl, arith, suc}
 use Rattle.std.specs.List.{cons_option, slice_get}
 use Rattle.std.specs.Option.{option_or}
 use Rattle.std.proofs.lemmas.List.{length-drop}
 use Rattle.pg_translate.specs.declared.items.Place.{Place}
 use Rattle.pg_translate.specs.Alphabets.{Alphabet}
 use Rattle.pg_translate.specs.Tokens.{Token}
-use Rattle.pg_translate.specs.Cuts.{Cut, cut_from}
-use Rattle.pg_translate.specs.Inside.Rests.{cut_rest, with_item}
+use Rattle.pg_translate.specs.Cuts.{Cut, cut_from, with_item}
+use Rattle.pg_translate.specs.Inside.Rests.{cut_rest}
 use Rattle.pg_translate.specs.Inside.Answers.{HasItem}
 use Rattle.pg_translate.specs.Gaps.{sign_of}
 use Rattle.pg_translate.specs.LineRefusals.{sign_columns}
 use Rattle.pg_translate.specs.Inside.Refusing.{long_kind}
 use Rattle.pg_types.specs.Reading.{refusal_at}
 use Rattle.pg_translate.specs.Inside.Refusing.{stop_refusal, refusal_with_room}
-use Rattle.pg_translate.proofs.Cuts.{cut_takes}
+use Rattle.pg_translate.proofs.Cuts.{cut_item}
+use Rattle.pg_translate.proofs.CutLaws.{cut_enough}
 
 -- what follows an item is shorter
 pub shorter : (t : Alphabet) (place : Place) (rest after : List ℕ) (item : Token) → HasItem t place rest item after → length after < length rest
@@ -30,7 +31,15 @@ pub cut_rest-takes : (t : Alphabet) (place : Place) (size : ℕ) (item : Token) 
 cut_rest-takes t place size item rest after takes within =
     let left : length after ≡ length rest - takes.size = ap (λ (xs : List ℕ). length xs) takes.behind ∙ length-drop takes.size rest in
     let column : size - length rest + 1 + takes.size ≡ size - length after + 1 = omega (arith, takes.within) in
-    cut_takes t place (size - length rest + 1) rest after item takes ∙ ap (λ (k : ℕ). with_item (size - length rest + 1) item (cut_from t place k zero after)) column
+    let some : 0 < takes.size = takes.some in
+    let more : length rest ≤ suc (length rest) = omega arith in
+    let less : length after ≤ length rest = omega arith in
+    let at : ℕ = size - length rest + 1 in
+    cut_enough t takes.rules place (length rest) (suc (length rest)) at rest (le_refl (length rest)) more
+    ∙ cut_item t place (length rest) at rest item takes.size takes.found
+    ∙ ap (λ (text : List ℕ). with_item at item (cut_from t place (length rest) (at + takes.size) text)) (sym takes.behind)
+    ∙ ap (with_item at item) (cut_enough t takes.rules place (length rest) (length after) (at + takes.size) after less (le_refl (length after)))
+    ∙ ap (λ (k : ℕ). with_item at item (cut_from t place (length after) k after)) column
 
 -- what is known of a cut without its first item is known of the whole, and less is left to read
 pub along : {Y : Type 0} (F G : Cut → Y) (t : Alphabet) (place : Place) (size : ℕ) (item : Token) (rest after : List ℕ) → HasItem t place rest item after

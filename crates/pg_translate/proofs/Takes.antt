@@ -8,12 +8,13 @@ use Rattle.pg_translate.specs.Alphabets.{Alphabet}
 use Rattle.std.specs.Char.{is_ascii_digit}
 use Rattle.pg_translate.specs.Tokens.{Token, Digit, Marked, letter_at, digit_at, weight_at, mark_at, item_at}
 use Rattle.pg_translate.specs.Inside.Answers.{HasItem}
+use Rattle.pg_translate.specs.Inside.Rules.{KeepsRules}
 
 -- an item of one byte
-pub takes_one : (t : Alphabet) (place : Place) (text : List ℕ) (token : Token) → item_at t place text ≡ Some (token, 1) → (length text == 0) ≡ false
+pub takes_one : (t : Alphabet) → KeepsRules t → (place : Place) (text : List ℕ) (token : Token) → item_at t place text ≡ Some (token, 1) → (length text == 0) ≡ false
     → HasItem t place text token (take (length text - 1) (drop 1 text))
-takes_one t place [] token found some = absurd (cc)
-takes_one t place (b ∷ bs) token found some = record { size = 1; found = found; some = omega arith; within = omega arith; behind = take_rest (b ∷ bs) 1 }
+takes_one t rules place [] token found some = absurd (cc)
+takes_one t rules place (b ∷ bs) token found some = record { rules = rules; size = 1; found = found; some = omega arith; within = omega arith; behind = take_rest (b ∷ bs) 1 }
 
 -- a digit, where no spelling stands
 pub found_digit : (t : Alphabet) (place : Place) (text : List ℕ) → letter_at t.spellings text ≡ None → (length text == 0) ≡ false → is_ascii_digit (get_or text 0 0)

@@ -1,5 +1,6 @@
 -- A line cut into items.
-use Rattle.std.specs.Prelude.{ℕ, zero, suc, ◌+◌, ◌-◌, List, [], ◌∷◌, map, Option, None, Some}
+use Rattle.std.specs.Prelude.{ℕ, zero, suc, ◌+◌, List, [], ◌∷◌, length, drop, map}
+use Rattle.std.specs.Option.{option_map_or}
 use Rattle.pg_translate.specs.declared.items.Place.{Place}
 use Rattle.pg_translate.specs.Alphabets.{Alphabet}
 use Rattle.pg_translate.specs.Tokens.{Token, item_at}
@@ -15,22 +16,20 @@ pub record Cut : Type 0 where
   pub column : ℕ
   pub rest : List ℕ
 
--- the cut at a column: the item that begins there and the cut behind it, or no item
-abbrev pub cut_at : ℕ → List ℕ → Option (Token × ℕ) → (ℕ → Cut) → Cut
-cut_at column text None behind = record { items = []; column = column; rest = text }
-cut_at column text (Some item) behind = let c = behind (item.1 - 1) in
-    record c { items = record { column = column; token = item.0 } ∷ c.items }
+-- a cut with one item more before it
+abbrev pub with_item : ℕ → Token → Cut → Cut
+with_item column token c = record c { items = record { column = column; token = token } ∷ c.items }
 
--- the longest cut from a column on, where so many bytes belong to the item before
+-- the cut from a column on: at most so many items, one behind the other, until none begins
 abbrev pub cut_from : Alphabet → Place → ℕ → ℕ → List ℕ → Cut
-cut_from t place column skip [] = record { items = []; column = column; rest = [] }
-cut_from t place column (suc skip) (b ∷ bs) = cut_from t place (column + 1) skip bs
-cut_from t place column zero (b ∷ bs) = cut_at column (b ∷ bs) (item_at t place (b ∷ bs))
-    (λ more. cut_from t place (column + 1) more bs)
+cut_from t place zero column text = record { items = []; column = column; rest = text }
+cut_from t place (suc more) column text = option_map_or
+    (λ item. with_item column item.0 (cut_from t place more (column + item.1) (drop item.1 text)))
+    (item_at t place text) (record { items = []; column = column; rest = text })
 
--- the longest cut of a line
+-- the longest cut of a line, which has no more items than bytes
 abbrev pub cut : Alphabet → Place → List ℕ → Cut
-cut t place line = cut_from t place 1 zero line
+cut t place line = cut_from t place (length line) 1 line
 
 -- what the items of a cut mean
 abbrev pub tokens_of : Cut → List Token

@@ -42,6 +42,7 @@ impl Table {
     ghost use Rattle.std.specs.Prelude.{◌≡◌, ◌+◌, ◌-◌, ◌<◌, ◌≤◌, true, false, length, MatchOption, IfSome, IfOk, Some, None};
     ghost use Rattle.pg_translate.specs.Alphabets.{letters_of, spelling_of};
     ghost use Rattle.pg_translate.specs.Inside.MarkBytes.{mark_byte_of};
+    ghost use Rattle.pg_translate.specs.Inside.Rules.{KeepsRules};
     ghost use Rattle.pg_types.specs.Inside.Answers.{Gives};
     ghost use Rattle.pg_translate.specs.Tables.{default_alphabet, table};
     ghost use Rattle.pg_translate.specs.Tokens.{letter_at, mark_at, is_ended};
@@ -149,6 +150,7 @@ impl Table {
         ensures sign { IfSome result (λ l. (1 < l.0) × (l.0 ≤ letters_of self.now + 1)) }
         ensures within { IfSome result (λ l. (0 < l.1) × (l.1 ≤ length text.now)) }
         ensures begun { IfSome result (λ _. is_ended text.now ≡ false) }
+        ensures rules { KeepsRules self.now }
     {
         self.index.letter(text)
     }

@@ -5,11 +5,13 @@ use Rattle.pg_translate.specs.declared.items.Place.{Place}
 use Rattle.pg_translate.specs.declared.items.Item.{Item}
 use Rattle.pg_translate.specs.declared.items.Item.TheVariants as answer
 use Rattle.pg_translate.specs.Alphabets.{Alphabet, letters_of}
+use Rattle.pg_translate.specs.Inside.Rules.{KeepsRules}
 use Rattle.pg_translate.specs.Tokens.{Token, Letter, Digit, Weight, Marked, Edge, item_at, is_ended}
 
--- an item begins the text, has a text of its own, and the rest is what follows it
+-- an item begins the text under a table's rules, has a text of its own, and the rest follows it
 pub record HasItem (t : Alphabet) (place : Place)
     (text : List ℕ) (token : Token) (after : List ℕ) : Type 0 where
+  pub rules : KeepsRules t
   pub size : ℕ
   pub found : item_at t place text ≡ Some (token, size)
   pub some : 0 < size
