@@ -21,7 +21,7 @@ value_of_put : (t : Bool) (v : ℕ) (r s : Option ℕ) → (t ≡ true → r ≡
 value_of_put true v r s tied = ap (λ x. max v (unwrap_or x 0)) (tied refl)
 value_of_put false v r s tied = omega arith
 
--- a raise changes the value of its place alone
+-- a raise changes the value of its dotted string alone
 pub value_of_raise : (P : List ((List ℕ × ℕ) × ℕ)) (j k : List ℕ × ℕ) (v : ℕ) → value_of (raise P j v) k ≡ max (only (same_dotted k j) v) (value_of P k)
 value_of_raise P j k v =
     ap (λ r. unwrap_or r 0) (find-put dotted_cmp dotted_total k j (max v (value_of P j)) P)

@@ -1,4 +1,4 @@
--- What a sort by place and falling value leaves, when the first entry of each place is kept.
+-- What a sort by dotted string and falling value leaves, when the first entry of each is kept.
 use Rattle.std.proofs.Common.{◌≡◌, ℕ, suc, ◌<◌, ◌≤◌, Bool, true, false, cond, not, T, ◌⊎◌, inl, inr, List, [], ◌∷◌, length, get_or, Option, Some, None, unwrap_or, max, nat_cmp, sym, refl, ap, subst, ◌∙◌, arith}
 use Rattle.std.proofs.lemmas.Cmp.{ranked, then_total, on_total, back_total}
 use Rattle.std.proofs.lemmas.List.Elements.{All-nil, All-cons, All-head, All-tail}
@@ -45,7 +45,7 @@ in_order [] far = tt
 in_order (e ∷ es) far =
     (each_after e es (λ j d inside. far 0 (suc j) d (omega arith) (omega arith)), in_order es (λ i j d upto inside. far (suc i) (suc j) d (omega arith) (omega arith)))
 
--- what does not come before e is of a later place, or of the same with a value that is not greater
+-- what does not come before e is of a later dotted string, or of the same with a value that is not greater
 rank_cases : (r s : Ordering) → is_lt (ordering_then r s) ≡ false → (r ≡ Greater) ⊎ ((r ≡ Equal) × (is_lt s ≡ false))
 rank_cases Less s after = cc
 rank_cases Equal s after = inr (refl, after)
@@ -71,7 +71,7 @@ later e f after = by_case (rank_cases (dotted_cmp f.0 e.0) (nat_cmp e.1 f.1) (no
     by_case (inl after) = inl (dotted_total.antisymm e.0 f.0 ∙ turn (dotted_cmp f.0 e.0) after)
     by_case (inr tied) = inr (tied.0, value_upto e.1 f.1 tied.1)
 
--- of another place
+-- of another dotted string
 apart : (e f : (List ℕ × ℕ) × ℕ) → not_first e f ≡ true → same_dotted f.0 e.0 ≡ false → dotted_cmp e.0 f.0 ≡ Less
 apart e f after other = by_case (later e f after)
   where
@@ -79,7 +79,7 @@ apart e f after other = by_case (later e f after)
     by_case (inl less) = less
     by_case (inr tied) = cc (dotted_ties f.0 e.0 ∙ ap is_eq tied.0, other)
 
--- a place before the first is before all
+-- a dotted string before the first is before all
 below_rest : (x : List ℕ × ℕ) (e : (List ℕ × ℕ) × ℕ) (es : List ((List ℕ × ℕ) × ℕ)) → dotted_cmp x e.0 ≡ Less → list_all (not_first e) es ≡ true → T (below_all dotted_cmp x es)
 below_rest x e [] less after = tt
 below_rest x e (f ∷ es) less after =
@@ -89,7 +89,7 @@ below_rest x e (f ∷ es) less after =
     by_case (inl further) = dotted_total.trans x e.0 f.0 less further
     by_case (inr tied) = ap (λ k. dotted_cmp x k) (dotted_exact f.0 e.0 tied.0) ∙ less
 
--- a place before all has no value
+-- a dotted string before all has no value
 best_below : (x k : List ℕ × ℕ) (es : List ((List ℕ × ℕ) × ℕ)) → same_dotted k x ≡ true → T (below_all dotted_cmp x es) → greatest_value (same_dotted k) es ≡ 0
 best_below x k [] same below = refl
 best_below x k (e ∷ es) same below =
@@ -98,7 +98,7 @@ best_below x k (e ∷ es) same below =
     let other : same_dotted k e.0 ≡ false = dotted_ties k e.0 ∙ ap is_eq less in
     ap (λ t. max (only t e.1) (greatest_value (same_dotted k) es)) other ∙ ap (λ n. max 0 n) (best_below x k es same (second_half _ _ below))
 
--- the list that keeps the first of each place is a map, whose values are the greatest
+-- the list that keeps the first of each dotted string is a map, whose values are the greatest
 kept_below : (x : List ℕ × ℕ) (e : (List ℕ × ℕ) × ℕ) (es : List ((List ℕ × ℕ) × ℕ)) → InOrder (e ∷ es) → dotted_cmp x e.0 ≡ Less
     → T (below_all dotted_cmp x (dedup_from (λ f g. same_dotted f.0 g.0) e es))
 kept_below x e [] order less = holds _ (and_from _ _ (ap is_lt less) refl)
@@ -131,7 +131,7 @@ first_or_rest false a n r is none = is ∙ sym (max_first n)
     max_first : (m : ℕ) → max 0 m ≡ m
     max_first m = omega arith
 
--- of the same place
+-- of the same dotted string
 value_within : (e f : (List ℕ × ℕ) × ℕ) → not_first e f ≡ true → same_dotted f.0 e.0 ≡ true → f.1 ≤ e.1
 value_within e f after same = by_case (later e f after)
   where
@@ -179,7 +179,7 @@ pub told_all : (es : List ((List ℕ × ℕ) × ℕ)) → All (λ (e : (List ℕ
 told_all [] all = refl
 told_all (e ∷ es) all = and_from _ _ (All-head (λ (e : (List ℕ × ℕ) × ℕ). is_entry e ≡ true) e es all) (told_all es (All-tail (λ (e : (List ℕ × ℕ) × ℕ). is_entry e ≡ true) e es all))
 
--- sorted by place and falling value, without the later entries of a place, a list is joined
+-- sorted by dotted string and falling value, without the later entries of one, a list is joined
 pub joined_by_sort : (es fs gs : List ((List ℕ × ℕ) × ℕ)) → list_all is_entry es ≡ true → IsPermutation es fs → IsSortedBy (λ e f. is_lt (entry_cmp e f)) fs
     → gs ≡ dedup (λ f g. same_dotted f.0 g.0) fs → IsPatternMap gs × (gs ≡ map_of_entries es)
 joined_by_sort es fs gs sound moved sorted kept =

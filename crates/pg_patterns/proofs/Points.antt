@@ -1,4 +1,4 @@
--- Where a place stands in a list of entries in order, from dot to dot and from string to string.
+-- Where a dotted string stands in a list of entries in order, from dot to dot and from string to string.
 use Rattle.std.proofs.Common.{◌≡◌, ℕ, suc, zero, ◌+◌, ◌<◌, ◌≤◌, true, false, cond, T, List, [], ◌∷◌, length, drop, take, get_or, Some, None, nat_cmp, sym, refl, ap, ◌∙◌, ⊎_elim, arith}
 use Rattle.std.proofs.lemmas.Bool.{cases_lt}
 use Rattle.std.proofs.lemmas.Cmp.{ranked}
@@ -29,7 +29,7 @@ next_upto a b Greater s low high less = cc
 next_dot_upto : (a b : ℕ) → nat_cmp a b ≡ Less → is_gt (nat_cmp (a + 1) b) ≡ false
 next_dot_upto a b less = next_upto a b (nat_cmp a b) (nat_cmp (a + 1) b) (ranked a b _ refl) (ranked (a + 1) b _ refl) less
 
--- a place after that of a dot is not before that of the next
+-- a dotted string after that of a dot is not before that of the next
 step_upto : (r : Ordering) (a b : ℕ) → ordering_then r (nat_cmp a b) ≡ Less → is_gt (ordering_then r (nat_cmp (a + 1) b)) ≡ false
 step_upto Less a b less = refl
 step_upto Equal a b less = next_dot_upto a b less
@@ -49,14 +49,14 @@ dot_less a = by_rank (nat_cmp a (a + 1)) (ranked a (a + 1) _ refl)
 pub same_signs : (q : List ℕ) → slice_cmp nat_cmp q q ≡ Equal
 same_signs q = tied_itself nat_list_cmp_total q
 
--- the next dot is a later place
+-- that of the next dot is later
 pub next_is_less : (q : List ℕ) (dot : ℕ) → dotted_cmp (q, dot) (q, dot + 1) ≡ Less
 next_is_less q dot = ap (λ r. ordering_then r (nat_cmp dot (dot + 1))) (same_signs q) ∙ dot_less dot
 
 pub turned_after : (a b : List ℕ × ℕ) → dotted_cmp a b ≡ Less → is_gt (dotted_cmp b a) ≡ true
 turned_after a b less = ap is_gt (dotted_total.antisymm b a ∙ ap ordering_reverse less)
 
--- what is before a place is before the next dot
+-- what is before a dotted string is before that of the next dot
 pub after_next : (q : List ℕ) (dot : ℕ) (e : (List ℕ × ℕ) × ℕ) → is_after (q, dot) e ≡ true → is_after (q, dot + 1) e ≡ true
 after_next q dot e after =
     let less : dotted_cmp e.0 (q, dot) ≡ Less = dotted_total.antisymm e.0 (q, dot) ∙ ap ordering_reverse (greater_is _ after) in
@@ -86,7 +86,7 @@ begins_not k (e ∷ es) first =
 before_all : (P : List ((List ℕ × ℕ) × ℕ)) (k : List ℕ × ℕ) (i : ℕ) → HasRank P k i → list_all (is_after k) (take i P) ≡ true
 before_all P k i point = all_before dotted_cmp k P i point.within (λ j d low high. point.before j d high)
 
--- a place is found where it stands
+-- a dotted string is found where it stands
 found_at : (P : List ((List ℕ × ℕ) × ℕ)) (k : List ℕ × ℕ) (i : ℕ) → HasRank P k i → find dotted_cmp k P ≡ find dotted_cmp k (drop i P)
 found_at P k i point =
     ap (find dotted_cmp k) (sym (take-append-drop i P)) ∙ find_over dotted_cmp k (take i P) (drop i P) (before_all P k i point)
@@ -126,7 +126,7 @@ read_drop [] (suc i) e d rest is = cc
 read_drop (f ∷ P) zero e d rest is = cc
 read_drop (f ∷ P) (suc i) e d rest is = read_drop P i e d rest is
 
--- behind the entry of a place stands the next dot
+-- behind the entry of a dotted string stands that of the next dot
 pub next_there : (P : List ((List ℕ × ℕ) × ℕ)) (q : List ℕ) (dot i v : ℕ) → T (is_sorted dotted_cmp P) → HasRank P (q, dot) i → Some v
     ≡ first_value (q, dot) (drop i P) → HasRank P (q, dot + 1) (i + 1)
 next_there P q dot i v sorted point first =
@@ -142,7 +142,7 @@ next_there P q dot i v sorted point first =
       behind = λ j d low high. next_is_after q dot (get_or P j d) (ap (λ k. dotted_cmp k (get_or P j d).0) (sym (read d)) ∙ sorted_at dotted_cmp P i j d sorted (omega arith) high);
     }
 
--- where a place has no entry, those behind it are later
+-- where a dotted string has no entry, those behind it are later
 later_than : (P : List ((List ℕ × ℕ) × ℕ)) (q : List ℕ) (dot i j : ℕ) (d : (List ℕ × ℕ) × ℕ) → T (is_sorted dotted_cmp P) → HasRank P (q, dot) i
     → begins_with (q, dot) (drop i P) ≡ false → i ≤ j → j < length P → dotted_cmp (q, dot) (get_or P j d).0 ≡ Less
 later_than P q dot i j d sorted point none low high =
@@ -153,7 +153,7 @@ later_than P q dot i j d sorted point none low high =
     (λ upto. let one : i ≡ j = omega arith in ap (λ n. dotted_cmp (q, dot) (get_or P n d).0) (sym one) ∙ first)
     (cases_lt i j)
 
--- where a place has no entry, the next dot stands there too
+-- where a dotted string has no entry, that of the next dot stands there too
 pub next_gap : (P : List ((List ℕ × ℕ) × ℕ)) (q : List ℕ) (dot i : ℕ) → T (is_sorted dotted_cmp P) → HasRank P (q, dot) i → None ≡ first_value (q, dot) (drop i P) → HasRank P (q, dot + 1) i
 next_gap P q dot i sorted point first =
     record {

@@ -12,7 +12,7 @@ use Rattle.pg_patterns.specs.Values.{raise, value_of}
 use Rattle.pg_patterns.specs.Inside.Search.{is_after, begins_with}
 use Rattle.pg_patterns.proofs.Ordered.{put_over, find_over, put_there, find_there, put_gap, find_gap, first_before, first_at, all_before, first_not_before, sorted_drop, after_at}
 
--- the entry of the place has the greater value
+-- the entry of the dotted string has the greater value
 pub raise_there : (k : List ℕ × ℕ) (v : ℕ) (before rest : List ((List ℕ × ℕ) × ℕ)) (e : (List ℕ × ℕ) × ℕ) → list_all (is_after k) before ≡ true
     → same_dotted k e.0 ≡ true → raise (before ++ e ∷ rest) k v ≡ before ++ (e.0, max v e.1) ∷ rest
 raise_there k v before rest e after same =
@@ -29,7 +29,7 @@ first_at_begins : (k : List ℕ × ℕ) (es : List ((List ℕ × ℕ) × ℕ)) �
 first_at_begins k [] = refl
 first_at_begins k (e ∷ es) = dotted_ties k e.0
 
--- a place that has no entry gets one between those before it and those after it
+-- a dotted string that has no entry gets one between those before it and those after it
 pub raise_gap : (k : List ℕ × ℕ) (v : ℕ) (before rest : List ((List ℕ × ℕ) × ℕ)) → list_all (is_after k) before ≡ true → T (is_sorted dotted_cmp rest)
     → first_before dotted_cmp k rest ≡ false → begins_with k rest ≡ false → raise (before ++ rest) k v ≡ before ++ (k, v) ∷ rest
 raise_gap k v before rest after sorted first here =
@@ -46,7 +46,7 @@ within k [] (suc i) here = cc
 within k (e ∷ es) zero here = omega arith
 within k (e ∷ es) (suc i) here = let inside : i < length es = within k es i here in omega arith
 
--- where a search says that the place k stands at i, in s and in t, which are es
+-- where a search says that the dotted string k stands at i, in s and in t, which are es
 abbrev pub Point : List ℕ × ℕ → List ((List ℕ × ℕ) × ℕ) → ℕ → Type 0
 Point k es i = IsPartitionPoint (λ e. is_after k e ≡ true) (λ e. is_after k e ≡ false) es i
 

@@ -34,7 +34,7 @@ use Rattle.pg_translate.proofs.Unbroken.{joined_unbroken}
 abbrev IsPatternItem : Alphabet → Token × List ℕ → Type 0
 IsPatternItem t item = IsItem t Patterns item.0 item.1
 
--- the item of a digit, where a place has a value
+-- the item of a digit, where a dotted string has a value
 abbrev digit_items : List ((List ℕ × ℕ) × ℕ) → List ℕ × ℕ → List (Token × List ℕ)
 digit_items P k = option_map_or (λ v. (Digit v, (48 + v) ∷ []) ∷ []) (find dotted_cmp k P) []
 

@@ -69,7 +69,7 @@ all_upto_value P [] k all = All-nil (λ (e : (List ℕ × ℕ) × ℕ). only (sa
 all_upto_value P (e ∷ es) k all =
     All-cons (λ (e : (List ℕ × ℕ) × ℕ). only (same_dotted k e.0) e.1 ≤ value_of P k) e es (value_upto P k e (All-head (IsOf P) e es all)) (all_upto_value P es k (All-tail (IsOf P) e es all))
 
--- the value of each place is there
+-- the value of each dotted string is there
 best_left : (t : List ℕ × ℕ → Bool) (xs ys : List ((List ℕ × ℕ) × ℕ)) → greatest_value t xs ≤ greatest_value t (xs ++ ys)
 best_left t [] ys = omega arith
 best_left t (x ∷ xs) ys = larger (only (t x.0) x.1) (greatest_value t xs) (greatest_value t (xs ++ ys)) (best_left t xs ys)
@@ -112,7 +112,7 @@ value_among P q first dot v (s ∷ ss) low high is =
     within_of _ _ _ now (best_left (same_dotted (q, dot)) (map (entry_at q) here) (map (entry_at q) (values_from P q (first + 1) ss))))
     (cases_lt first dot))
 
--- the string of a place that has a value is one of the map
+-- the string of a dotted string that has a value is one of the map
 string_added : (test : List ℕ → Bool) (q : List ℕ) (rs : List (List ℕ)) → list_any test (with_string q rs) ≡ (test q || list_any test rs)
 string_added test q [] = refl
 string_added test q (r ∷ rs) =

@@ -12,51 +12,51 @@ ghost use Rattle.pg_patterns.specs.Inside.Search.{is_after, begins_with};
 use crate::dotted_signs::DottedSigns;
 use std::alloc::AllocError;
 
-/// How many entries stand before `place`. Where it comes after all of them, one comparison tells.
-fn seek(entries: &[(DottedSigns, u8)], place: &DottedSigns) -> usize
+/// How many entries stand before a dotted string. Where it comes after all, one comparison tells.
+fn seek(entries: &[(DottedSigns, u8)], dotted: &DottedSigns) -> usize
     requires { T (is_sorted dotted_cmp entries.now) }
     ensures bound { result ≤ length entries.now }
-    ensures point { IsPartitionPoint (λ e. is_after place.now e ≡ true)
-        (λ e. is_after place.now e ≡ false) entries.now result }
+    ensures point { IsPartitionPoint (λ e. is_after dotted.now e ≡ true)
+        (λ e. is_after dotted.now e ≡ false) entries.now result }
 {
-    if comes_last(entries, place) {
+    if comes_last(entries, dotted) {
         return entries.len();
     }
-    entries.partition_point(|entry| *place > entry.0)
+    entries.partition_point(|entry| *dotted > entry.0)
 }
 
-/// Whether there is a last entry, and `place` comes after it, and so after each.
-fn comes_last(entries: &[(DottedSigns, u8)], place: &DottedSigns) -> bool
+/// Whether there is a last entry, and a dotted string comes after it, and so after each.
+fn comes_last(entries: &[(DottedSigns, u8)], dotted: &DottedSigns) -> bool
     requires { T (is_sorted dotted_cmp entries.now) }
-    ensures { OnTrue result (All (λ e. is_after place.now e ≡ true) entries.now) }
+    ensures { OnTrue result (All (λ e. is_after dotted.now e ≡ true) entries.now) }
 {
-    !entries.is_empty() && *place > entries[entries.len() - 1].0
+    !entries.is_empty() && *dotted > entries[entries.len() - 1].0
 }
 
-/// Whether the entry at `at` is there, and is that of `place`.
-pub fn is_entry_of(entries: &[(DottedSigns, u8)], at: usize, place: &DottedSigns) -> bool
-    ensures { result ≡ begins_with place.now (drop at entries.now) }
+/// Whether the entry at `at` is there, and is that of a dotted string.
+pub fn is_entry_of(entries: &[(DottedSigns, u8)], at: usize, dotted: &DottedSigns) -> bool
+    ensures { result ≡ begins_with dotted.now (drop at entries.now) }
 {
-    at < entries.len() && *place == entries[at].0
+    at < entries.len() && *dotted == entries[at].0
 }
 
-/// Raises the value of `place` to at least `value`.
+/// Raises the value of a dotted string to at least `value`.
 pub fn raise_in(
     entries: &mut Vec<(DottedSigns, u8)>,
-    place: DottedSigns,
+    dotted: DottedSigns,
     value: u8,
 ) -> Result<(), AllocError>
     requires { T (is_sorted dotted_cmp entries.old.items) }
-    ensures ok { OnOk result (entries.new.items ≡ raise entries.old.items place value) }
+    ensures ok { OnOk result (entries.new.items ≡ raise entries.old.items dotted value) }
     ensures err { OnErr result (entries.new.items ≡ entries.old.items) }
 {
-    let at = seek(entries.as_slice(), &place);
-    if is_entry_of(entries.as_slice(), at, &place) {
+    let at = seek(entries.as_slice(), &dotted);
+    if is_entry_of(entries.as_slice(), at, &dotted) {
         let held = entries[at].1;
         entries[at].1 = held.max(value);
         return Ok(());
     }
-    entries.insert(at, (place, value))?;
+    entries.insert(at, (dotted, value))?;
     Ok(())
 }
 

@@ -101,8 +101,8 @@ fn entry_value_at(
 }
 
 /// Whether the dotted string is that of `dot` among `signs`.
-fn is_dotted(place: &DottedSigns, signs: &[Sign], dot: usize) -> bool
-    ensures { result ≡ same_dotted (signs.now, dot) place.now }
+fn is_dotted(dotted: &DottedSigns, signs: &[Sign], dot: usize) -> bool
+    ensures { result ≡ same_dotted (signs.now, dot) dotted.now }
 {
-    usize::from(place.dot()) == dot && signs == place.signs()
+    usize::from(dotted.dot()) == dot && signs == dotted.signs()
 }

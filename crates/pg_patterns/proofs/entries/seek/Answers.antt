@@ -9,4 +9,4 @@ returns-then-comes_last-clause-point c = (λ k d low inside. c.if-comes_last.ens
 
 pub returns-clause-point : goal.returns-clause-point
 returns-clause-point c =
-    IsPartitionPoint-from_clause (is_after c.args.place.now) c.args.entries.now c.partition_point.result c.partition_point.ensures.partitioned (parted _ _ c.requires) (λ a r f' t. search rules)
+    IsPartitionPoint-from_clause (is_after c.args.dotted.now) c.args.entries.now c.partition_point.result c.partition_point.ensures.partitioned (parted _ _ c.requires) (λ a r f' t. search rules)
