@@ -28,7 +28,6 @@ use pg_dict::{Dictionary, WordRef};
 use pg_select::marks::{mark_at, positions};
 use pg_select::{Choice, Pass, WordState};
 use pg_translate::Table;
-use pg_types::Mark;
 use std::alloc::AllocError;
 
 /// The weights of positions whose windows were chosen and whose values stay: of the good ones, and
@@ -41,15 +40,14 @@ pub struct Kept {
     pub bad: u64,
 }
 
-/// Whether position `p` of a word, which has this status, counts at a level and the value that was
-/// found for it is above the level.
-pub fn is_above(level: u8, found: &WordState, p: usize, mark: Mark) -> bool
+/// Whether position `p` of a word counts by its status, as `good` says, and the value that was found
+/// for it is above the level.
+pub fn is_above(level: u8, found: &WordState, p: usize, good: Option<bool>) -> bool
     requires { p < WORD_LETTERS_MAX + 2 }
     ensures { result ≡ is_some
-        (if nat_lt level (slice_index found.now.values p) then counts_as_of level mark
-        else None) }
+        (if nat_lt level (slice_index found.now.values p) then good else None) }
 {
-    found.value(p) > level && counts_as(level, mark).is_some()
+    found.value(p) > level && good.is_some()
 }
 
 /// Lists position `p` of a word, where it counts at a level and the value that was found for it is
@@ -70,7 +68,8 @@ fn list_at(
         (slice_index found.now.values p)) else None)) }
 {
     let at = usize::from(p);
-    if is_above(level, found, at, mark_at(w, found, at)) {
+    let good = counts_as(level, mark_at(w, found, at));
+    if is_above(level, found, at, good) {
         above.push(WordPosition { word, at: p })?;
     }
     Ok(())

@@ -12,6 +12,7 @@ ghost use Rattle.pg_driver.specs.Inside.OpenSigns.{ClosesBy, closed_by, open_wor
 ghost use Rattle.pg_driver.specs.Inside.OpenPositions.{counted_of};
 ghost use Rattle.pg_driver.specs.Inside.PassWindows.{HaveNumbers, IsNumbered, counts_at};
 
+use crate::marks::window_at;
 use crate::pass_windows::NOT_COUNTED;
 use pg_dict::Dictionary;
 use pg_dots::OpenDots;
@@ -42,7 +43,7 @@ fn count_sign<E: Engine>(
     requires room { HasRoom (E.meaning engine.old).counts 1 }
     ensures ok { OnOk result (E.meaning engine.new
         ≡ meaning_after_counting (E.meaning engine.old)
-        (counted_of pass.level pass.len pass.dot dictionary.now
+        (counted_of pass dictionary.now
         (position_from 0 dictionary.now sign))) }
     ensures took { OnOk result
         (TookRoom (E.meaning engine.old).counts (E.meaning engine.new).counts 1) }
@@ -56,8 +57,7 @@ fn count_sign<E: Engine>(
     }
     let site = sites[sign];
     let signs = dictionary.all_signs();
-    let first = sign - usize::from(pass.dot);
-    let window = &signs[first..first + usize::from(pass.len)];
+    let window = window_at(pass, signs, sign);
     let good = is_good(pass.level, site.has_hyphen());
     let weights = dictionary.all_weights();
     engine.count_numbered(window, good, weights[sign])
@@ -85,7 +85,7 @@ pub fn count_open<E: Engine>(
     requires none { numbers.old.items ≡ [] }
     ensures ok { OnOk result (E.meaning engine.new
         ≡ meaning_after_counting (E.meaning engine.old)
-        (flat_map (counted_of pass.level pass.len pass.dot dictionary.now)
+        (flat_map (counted_of pass dictionary.now)
         (open_word_positions (is_closed dots.now pass.dot) dictionary.now))) }
     ensures room { OnOk result (HasRoom (E.meaning engine.new).counts 0) }
     ensures numbers { OnOk result

@@ -21,24 +21,30 @@ ghost use Rattle.pg_driver.specs.Inside.WordLevels.{listing};
 ghost use Rattle.pg_driver.specs.Traces.{over};
 
 use crate::above_positions::{is_above, list_above};
-use crate::marks::{counts_as, fits};
+use crate::marks::{counts_as, fits, window_at};
 use crate::pass_windows::{NOT_COUNTED, WordPosition};
 use pg_dict::{Dictionary, WordRef};
 use pg_select::marks::{add_mark, mark_at, no_totals, positions};
 use pg_select::{Engine, Pass, WordState};
 use pg_translate::Table;
-use pg_types::{Mark, Totals};
+use pg_types::Totals;
 use std::alloc::AllocError;
 
-/// Whether position `p` of a word, which has this status, counts as good or as bad in a pass: its
-/// window fits in the word and is not covered.
-fn counted(pass: Pass, w: &WordRef<'_>, found: &WordState, p: usize, mark: Mark) -> Option<bool>
+/// Whether position `p` of a word counts as good or as bad in a pass: it does so by its status, as
+/// `good` says, and its window fits in the word and is not covered.
+fn counted(
+    pass: Pass,
+    w: &WordRef<'_>,
+    found: &WordState,
+    p: usize,
+    good: Option<bool>,
+) -> Option<bool>
     requires within { p < length w.now.signs.now }
     requires short { length w.now.signs.now ≤ WORD_LETTERS_MAX + 2 }
     ensures { result ≡ (if fits_in w.now.signs.now p pass.len pass.dot && not
-        (slice_index_or found.now.covers p false) then counts_as_of pass.level mark else None) }
+        (slice_index_or found.now.covers p false) then good else None) }
 {
-    let good = counts_as(pass.level, mark)?;
+    let good = good?;
     if fits(pass, w.signs.len(), p) && !found.covered(p) {
         Some(good)
     } else {
@@ -46,21 +52,22 @@ fn counted(pass: Pass, w: &WordRef<'_>, found: &WordState, p: usize, mark: Mark)
     }
 }
 
-/// Counts the window at position `p` of a word, which has this status, where it counts in the pass,
-/// and gives its number; `NOT_COUNTED` where it does not count.
+/// Counts the window at position `p` of a word, which counts by its status as `good` says, where it
+/// counts in the pass, and gives its number; `NOT_COUNTED` where it does not count.
 fn count_at<E: Engine>(
     engine: &mut E,
     pass: Pass,
     w: &WordRef<'_>,
     found: &WordState,
     p: usize,
-    mark: Mark,
+    good: Option<bool>,
 ) -> Result<u32, AllocError>
     requires ranges { IsPass pass }
     requires pass { (E.meaning engine.old).pass ≡ pass }
     requires read { IsRead (E.meaning engine.old) (lent_word w.now) found.now }
     requires within { p < length w.now.signs.now }
-    requires mark { mark ≡ status_at (E.meaning engine.old).patterns (lent_word w.now) p }
+    requires good { good ≡ counts_as_of pass.level
+        (status_at (E.meaning engine.old).patterns (lent_word w.now) p) }
     requires room { HasRoom (E.meaning engine.old).counts 1 }
     ensures ok { OnOk result (E.meaning engine.new
         ≡ meaning_after_counting (E.meaning engine.old)
@@ -72,11 +79,10 @@ fn count_at<E: Engine>(
         (E.meaning engine.new).windows (window_of_word w.now.signs.now p pass.len pass.dot) n) }
     ensures signs { (E.meaning engine.new).signs ≡ (E.meaning engine.old).signs }
 {
-    let Some(good) = counted(pass, w, found, p, mark) else {
+    let Some(good) = counted(pass, w, found, p, good) else {
         return Ok(NOT_COUNTED);
     };
-    let from = p - usize::from(pass.dot);
-    let window = &w.signs[from..from + usize::from(pass.len)];
+    let window = window_at(pass, w.signs, p);
     engine.count_numbered(window, good, w.weights[p])
 }
 
@@ -114,8 +120,9 @@ fn count_position<E: Engine>(
 {
     let mark = mark_at(w, found, p);
     *sums = add_mark(*sums, mark, w.weights[p]);
-    let number = count_at(engine, pass, w, found, p, mark)?;
-    if is_above(pass.level, found, p, mark) {
+    let good = counts_as(pass.level, mark);
+    let number = count_at(engine, pass, w, found, p, good)?;
+    if is_above(pass.level, found, p, good) {
         numbers.push(number)?;
     }
     Ok(())

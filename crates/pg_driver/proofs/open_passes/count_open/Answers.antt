@@ -26,7 +26,7 @@ signs-init g c =
     let none : [] ≡ open_upto closed next = upto_skip closed 0 next later.after later.passes in
     record {
       kept = refl;
-      whole = ap (λ (xs : List ℕ). meaning_after_counting m0 (flat_map (counted_of pass.level pass.len pass.dot words) (map (position_from 0 words) xs))) (sym skipped);
+      whole = ap (λ (xs : List ℕ). meaning_after_counting m0 (flat_map (counted_of pass words) (map (position_from 0 words) xs))) (sym skipped);
       numbered =
           subst (λ (xs : List ℕ). HaveNumbers pass (counts_at pass) words m0.windows (map (position_from 0 words) xs) c.args.numbers.now.items) none
           (subst (HaveNumbers pass (counts_at pass) words m0.windows []) (sym c.requires.none) (record { size = refl; each = λ k e n at to. absurd (let no : None ≡ Some e = at in cc) }));
@@ -61,7 +61,7 @@ signs-preserved g c =
     let after = g.E.Engine.meaning c.count_sign.new.engine in
     let words = c.args.dictionary.now in
     let pass = c.args.pass in
-    let f = counted_of pass.level pass.len pass.dot words in
+    let f = counted_of pass words in
     let place : ℕ → WordPosition = position_from 0 words in
     let closed : ℕ → Bool = is_closed c.args.dots.now pass.dot in
     let total = sign_count words in

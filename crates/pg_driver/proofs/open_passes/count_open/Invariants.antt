@@ -18,8 +18,8 @@ invariant-signs g l =
     let closed = is_closed l.dots l.pass.dot in
     record {
       kept : KeepsButCounts m0 m;
-      whole : meaning_after_counting m (flat_map (counted_of l.pass.level l.pass.len l.pass.dot words) (map (position_from 0 words) (open_signs closed l.next (sign_count words))))
-          ≡ meaning_after_counting m0 (flat_map (counted_of l.pass.level l.pass.len l.pass.dot words) (open_word_positions closed words));
+      whole : meaning_after_counting m (flat_map (counted_of l.pass words) (map (position_from 0 words) (open_signs closed l.next (sign_count words))))
+          ≡ meaning_after_counting m0 (flat_map (counted_of l.pass words) (open_word_positions closed words));
       numbered : HaveNumbers l.pass (counts_at l.pass) words m.windows (map (position_from 0 words) (open_upto closed l.next)) l.numbers.items;
       room : HasRoom m.counts (length (open_signs closed l.next (sign_count words)));
       inside : l.next ≤ places_in l.dots;

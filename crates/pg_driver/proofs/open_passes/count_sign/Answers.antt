@@ -46,7 +46,7 @@ returns-then-not-fits_around-clause-ok g c =
     let w = s.of.word in
     let p = s.of.at in
     let other : fits w.signs p pass.len pass.dot ≡ false = sym (c.fits_around.ensures s.of.number p w s.of.there s.of.within (sign_is words c.args.sign s.of)) ∙ c.if-not-fits_around.true in
-    sym (ap (λ (e : WordPosition). meaning_after_counting m (counted_of pass.level pass.len pass.dot words e)) (place_of words c.args.sign s.of)
+    sym (ap (λ (e : WordPosition). meaning_after_counting m (counted_of pass words e)) (place_of words c.args.sign s.of)
     ∙ counted_none m pass.level pass.len pass.dot words s.of.number p w s.of.there other)
 
 pub returns-then-not-fits_around-clause-number : goal.returns-then-not-fits_around-clause-number
@@ -61,27 +61,27 @@ returns-then-not-fits_around-clause-number g c =
     subst (λ (e : WordPosition). IsNumbered pass (counts_at pass) words m.windows e NOT_COUNTED) (sym (place_of words c.args.sign s.of))
     (numbered_none pass words m.windows s.of.number p w NOT_COUNTED s.of.there other refl)
 
-pub overflow_sub-first : goal.overflow_sub-first
-overflow_sub-first g c =
+pub window_at-window-requires-clause-dot : goal.window_at-window-requires-clause-dot
+window_at-window-requires-clause-dot g c =
     let words = c.args.dictionary.now in
     let pass = c.args.pass in
     let s = site_at words c.all_sites-sites.result.now c.args.sign (record { left = 0 }) c.all_sites-sites.ensures c.requires.within in
     let w = s.of.word in
     let p = s.of.at in
     let fit : fits w.signs p pass.len pass.dot ≡ true = sym (c.fits_around.ensures s.of.number p w s.of.there s.of.within (sign_is words c.args.sign s.of)) ∙ c.if-not-fits_around.false in
-    omega (arith, c.from.ensures, s.of.is, (fit_within (length w.signs) p pass.len pass.dot fit).0)
+    omega (arith, s.of.is, (fit_within (length w.signs) p pass.len pass.dot fit).0)
 
-pub slice_bounds-window-end : goal.slice_bounds-window-end
-slice_bounds-window-end g c =
+pub window_at-window-requires-clause-end : goal.window_at-window-requires-clause-end
+window_at-window-requires-clause-end g c =
     let words = c.args.dictionary.now in
     let pass = c.args.pass in
     let s = site_at words c.all_sites-sites.result.now c.args.sign (record { left = 0 }) c.all_sites-sites.ensures c.requires.within in
     let w = s.of.word in
     let p = s.of.at in
     let fit : fits w.signs p pass.len pass.dot ≡ true = sym (c.fits_around.ensures s.of.number p w s.of.there s.of.within (sign_is words c.args.sign s.of)) ∙ c.if-not-fits_around.false in
-    let first = c.args.sign - c.from.result in
-    let begins : first ≡ start_of words s.of.number + (p - pass.dot) = omega (arith, c.from.ensures, s.of.is, (fit_within (length w.signs) p pass.len pass.dot fit).0) in
-    omega (arith, flat_inside words s.of.number p pass.len pass.dot first w s.of.there fit begins, c.from-2.ensures, ap (λ (xs : List ℕ). length xs) c.all_signs-signs.ensures)
+    let first = c.args.sign - pass.dot in
+    let begins : first ≡ start_of words s.of.number + (p - pass.dot) = omega (arith, s.of.is, (fit_within (length w.signs) p pass.len pass.dot fit).0) in
+    omega (arith, flat_inside words s.of.number p pass.len pass.dot first w s.of.there fit begins, ap (λ (xs : List ℕ). length xs) c.all_signs-signs.ensures)
 
 pub count_numbered-requires : goal.count_numbered-requires
 count_numbered-requires g c =
@@ -92,11 +92,10 @@ count_numbered-requires g c =
     let w = s.of.word in
     let p = s.of.at in
     let fit : fits w.signs p pass.len pass.dot ≡ true = sym (c.fits_around.ensures s.of.number p w s.of.there s.of.within (sign_is words c.args.sign s.of)) ∙ c.if-not-fits_around.false in
-    let first = c.args.sign - c.from.result in
-    let begins : first ≡ start_of words s.of.number + (p - pass.dot) = omega (arith, c.from.ensures, s.of.is, (fit_within (length w.signs) p pass.len pass.dot fit).0) in
-    let long : first + c.from-2.result - first ≡ pass.len = omega (arith, c.from-2.ensures) in
-    let lent : take (first + c.from-2.result - first) (drop first c.all_signs-signs.result.now) ≡ window w.signs p pass.len pass.dot =
-    (λ i. take (long i) (drop first (c.all_signs-signs.ensures i))) ∙ flat_window words s.of.number p pass.len pass.dot first w s.of.there fit begins in
+    let first = c.args.sign - pass.dot in
+    let begins : first ≡ start_of words s.of.number + (p - pass.dot) = omega (arith, s.of.is, (fit_within (length w.signs) p pass.len pass.dot fit).0) in
+    let lent : c.window_at-window.result.now ≡ window w.signs p pass.len pass.dot =
+    c.window_at-window.ensures.is ∙ (λ i. take pass.len (drop first (c.all_signs-signs.ensures i))) ∙ flat_window words s.of.number p pass.len pass.dot first w s.of.there fit begins in
     let word = word_in words s.of.number w c.requires.words s.of.there in
     let IsSign : ℕ → Type 0 = λ x. (1 ≤ x) × (x ≤ m.signs) in
     let signs = signs_within m.signs words s.of.number w s.of.there c.requires.signs word in
@@ -118,16 +117,15 @@ returns-clause-ok g c =
     let w = s.of.word in
     let p = s.of.at in
     let fit : fits w.signs p pass.len pass.dot ≡ true = sym (c.fits_around.ensures s.of.number p w s.of.there s.of.within (sign_is words c.args.sign s.of)) ∙ c.if-not-fits_around.false in
-    let first = c.args.sign - c.from.result in
-    let begins : first ≡ start_of words s.of.number + (p - pass.dot) = omega (arith, c.from.ensures, s.of.is, (fit_within (length w.signs) p pass.len pass.dot fit).0) in
-    let long : first + c.from-2.result - first ≡ pass.len = omega (arith, c.from-2.ensures) in
-    let lent : take (first + c.from-2.result - first) (drop first c.all_signs-signs.result.now) ≡ window w.signs p pass.len pass.dot =
-    (λ i. take (long i) (drop first (c.all_signs-signs.ensures i))) ∙ flat_window words s.of.number p pass.len pass.dot first w s.of.there fit begins in
+    let first = c.args.sign - pass.dot in
+    let begins : first ≡ start_of words s.of.number + (p - pass.dot) = omega (arith, s.of.is, (fit_within (length w.signs) p pass.len pass.dot fit).0) in
+    let lent : c.window_at-window.result.now ≡ window w.signs p pass.len pass.dot =
+    c.window_at-window.ensures.is ∙ (λ i. take pass.len (drop first (c.all_signs-signs.ensures i))) ∙ flat_window words s.of.number p pass.len pass.dot first w s.of.there fit begins in
     let hyphens = ap (λ (b : Bool). cond (is_odd pass.level) b (not b)) (c.has_hyphen.ensures w p s.is) in
-    let counted = counted_fit m pass.level pass.len pass.dot words s.of.number p w s.of.there (take (first + c.from-2.result - first) (drop first c.all_signs-signs.result.now)) c.is_good-good.result
+    let counted = counted_fit m pass.level pass.len pass.dot words s.of.number p w s.of.there c.window_at-window.result.now c.is_good-good.result
     (get_or c.all_weights-weights.result.now c.args.sign 0) fit lent (c.is_good-good.ensures ∙ hyphens)
     (weight_at words c.all_weights-weights.result.now c.args.sign 0 s.of c.all_weights-weights.ensures c.requires.words) in
-    on_ok_weaker c.count_numbered.result (λ ok. ok ∙ counted ∙ sym (ap (λ (e : WordPosition). meaning_after_counting m (counted_of pass.level pass.len pass.dot words e))
+    on_ok_weaker c.count_numbered.result (λ ok. ok ∙ counted ∙ sym (ap (λ (e : WordPosition). meaning_after_counting m (counted_of pass words e))
     (place_of words c.args.sign s.of))) c.count_numbered.ensures.counts.ok
 
 pub returns-clause-took : goal.returns-clause-took
@@ -140,13 +138,12 @@ returns-clause-took g c =
     let w = s.of.word in
     let p = s.of.at in
     let fit : fits w.signs p pass.len pass.dot ≡ true = sym (c.fits_around.ensures s.of.number p w s.of.there s.of.within (sign_is words c.args.sign s.of)) ∙ c.if-not-fits_around.false in
-    let first = c.args.sign - c.from.result in
-    let begins : first ≡ start_of words s.of.number + (p - pass.dot) = omega (arith, c.from.ensures, s.of.is, (fit_within (length w.signs) p pass.len pass.dot fit).0) in
-    let long : first + c.from-2.result - first ≡ pass.len = omega (arith, c.from-2.ensures) in
-    let lent : take (first + c.from-2.result - first) (drop first c.all_signs-signs.result.now) ≡ window w.signs p pass.len pass.dot =
-    (λ i. take (long i) (drop first (c.all_signs-signs.ensures i))) ∙ flat_window words s.of.number p pass.len pass.dot first w s.of.there fit begins in
+    let first = c.args.sign - pass.dot in
+    let begins : first ≡ start_of words s.of.number + (p - pass.dot) = omega (arith, s.of.is, (fit_within (length w.signs) p pass.len pass.dot fit).0) in
+    let lent : c.window_at-window.result.now ≡ window w.signs p pass.len pass.dot =
+    c.window_at-window.ensures.is ∙ (λ i. take pass.len (drop first (c.all_signs-signs.ensures i))) ∙ flat_window words s.of.number p pass.len pass.dot first w s.of.there fit begins in
     let hyphens = ap (λ (b : Bool). cond (is_odd pass.level) b (not b)) (c.has_hyphen.ensures w p s.is) in
-    let counted = counted_fit m pass.level pass.len pass.dot words s.of.number p w s.of.there (take (first + c.from-2.result - first) (drop first c.all_signs-signs.result.now)) c.is_good-good.result
+    let counted = counted_fit m pass.level pass.len pass.dot words s.of.number p w s.of.there c.window_at-window.result.now c.is_good-good.result
     (get_or c.all_weights-weights.result.now c.args.sign 0) fit lent (c.is_good-good.ensures ∙ hyphens)
     (weight_at words c.all_weights-weights.result.now c.args.sign 0 s.of c.all_weights-weights.ensures c.requires.words) in
     let word = word_in words s.of.number w c.requires.words s.of.there in
@@ -162,12 +159,11 @@ returns-clause-number g c =
     let w = s.of.word in
     let p = s.of.at in
     let fit : fits w.signs p pass.len pass.dot ≡ true = sym (c.fits_around.ensures s.of.number p w s.of.there s.of.within (sign_is words c.args.sign s.of)) ∙ c.if-not-fits_around.false in
-    let first = c.args.sign - c.from.result in
-    let begins : first ≡ start_of words s.of.number + (p - pass.dot) = omega (arith, c.from.ensures, s.of.is, (fit_within (length w.signs) p pass.len pass.dot fit).0) in
-    let long : first + c.from-2.result - first ≡ pass.len = omega (arith, c.from-2.ensures) in
-    let lent : take (first + c.from-2.result - first) (drop first c.all_signs-signs.result.now) ≡ window w.signs p pass.len pass.dot =
-    (λ i. take (long i) (drop first (c.all_signs-signs.ensures i))) ∙ flat_window words s.of.number p pass.len pass.dot first w s.of.there fit begins in
-    IfOk-weaker c.count_numbered.result (HasNumber after.windows (take (first + c.from-2.result - first) (drop first c.all_signs-signs.result.now)))
+    let first = c.args.sign - pass.dot in
+    let begins : first ≡ start_of words s.of.number + (p - pass.dot) = omega (arith, s.of.is, (fit_within (length w.signs) p pass.len pass.dot fit).0) in
+    let lent : c.window_at-window.result.now ≡ window w.signs p pass.len pass.dot =
+    c.window_at-window.ensures.is ∙ (λ i. take pass.len (drop first (c.all_signs-signs.ensures i))) ∙ flat_window words s.of.number p pass.len pass.dot first w s.of.there fit begins in
+    IfOk-weaker c.count_numbered.result (HasNumber after.windows c.window_at-window.result.now)
     (IsNumbered pass (counts_at pass) words after.windows (position_from 0 words c.args.sign))
     (λ number has.
     subst (λ (e : WordPosition). IsNumbered pass (counts_at pass) words after.windows e number) (sym (place_of words c.args.sign s.of))

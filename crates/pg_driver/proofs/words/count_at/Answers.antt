@@ -1,4 +1,4 @@
-use Rattle.std.proofs.Common.{ℕ, ◌≤◌, rules}
+use Rattle.std.proofs.Common.{ℕ, ◌≤◌, All, sym, subst, rules}
 use Rattle.std.proofs.lemmas.List.Elements.{All-drop, All-take}
 use Rattle.pg_dict.specs.Inside.Lent.{lent_word}
 use Rattle.pg_select.proofs.MarkSteps.{weight_small}
@@ -11,7 +11,7 @@ count_numbered-requires g c =
     let light = weight_small (lent_word c.args.w.now) c.args.p c.requires.read.word c.requires.within in
     record {
       len = search rules;
-      signs = All-take IsSign _ _ (All-drop IsSign _ _ c.requires.read.signs);
+      signs = subst (All IsSign) (sym c.window_at-window.ensures.is) (All-take IsSign _ _ (All-drop IsSign _ _ c.requires.read.signs));
       light = light;
       small = room_small _ _ c.in-Some.good _ c.requires.room light;
     }
