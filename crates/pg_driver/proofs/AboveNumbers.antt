@@ -23,7 +23,7 @@ use Rattle.pg_select.specs.Windows.{Hopeless, Patterns, is_covered, fits, window
 use Rattle.pg_patterns.specs.Values.{value_at}
 use Rattle.pg_select.proofs.LawsRaised.{counted_uncovered}
 use Rattle.pg_select.proofs.LawsTally.{is_counted_window}
-use Rattle.pg_driver.specs.declared.above_positions.Kept.{Kept}
+use Rattle.pg_driver.specs.declared.counting.above_positions.Kept.{Kept}
 use Rattle.pg_driver.specs.declared.pass_windows.WordPosition.{WordPosition}
 use Rattle.pg_driver.specs.declared.pass_windows.TheConstants.{NOT_COUNTED}
 use Rattle.pg_driver.specs.Inside.Counting.{IsRead, meaning_after_counting}

@@ -17,7 +17,7 @@ use Rattle.pg_select.specs.Windows.{Hopeless, Patterns}
 use Rattle.pg_driver.specs.declared.choices.Choices.{Choices}
 use Rattle.pg_driver.specs.declared.counting.Counting.{Counting}
 use Rattle.pg_driver.specs.declared.counting.Counting.TheVariants.{Open, EachWord}
-use Rattle.pg_driver.specs.declared.open_positions.OpenLevel.{OpenLevel}
+use Rattle.pg_driver.specs.declared.counting.open_positions.OpenLevel.{OpenLevel}
 use Rattle.pg_driver.specs.Accounts.{totals_by}
 use Rattle.pg_driver.specs.Inside.Choosing.{no_choices, with_candidates}
 use Rattle.pg_driver.specs.Inside.Counting.{HasRoom, IsBounded}

@@ -23,10 +23,10 @@ use Rattle.pg_patterns.specs.Values.{value_at}
 use Rattle.pg_select.proofs.LawsClosedDots.{good_is}
 use Rattle.pg_select.proofs.LawsTally.{cmp, counted_as, is_counted_window}
 use Rattle.pg_select.proofs.LawsTotals.{above_stay, totals_after_above}
-use Rattle.pg_driver.specs.declared.above_positions.Kept.{Kept}
+use Rattle.pg_driver.specs.declared.counting.above_positions.Kept.{Kept}
 use Rattle.pg_driver.specs.declared.choices.Choices.{Choices}
 use Rattle.pg_driver.specs.declared.pass_windows.WordPosition.{WordPosition}
-use Rattle.pg_driver.specs.declared.word_level.WordLevel.{WordLevel}
+use Rattle.pg_driver.specs.declared.counting.word_level.WordLevel.{WordLevel}
 use Rattle.pg_driver.specs.Accounts.{totals_by}
 use Rattle.pg_driver.specs.Inside.Counting.{IsBounded}
 use Rattle.pg_driver.specs.Inside.LevelCounting.{CanMove, Carries, IsAfterWords}

@@ -14,12 +14,15 @@ ghost use Rattle.pg_driver.specs.Inside.RunAccounts.{known_of};
 ghost use Rattle.pg_driver.specs.Traces.{level_made, passes_of, over};
 ghost use Rattle.pg_driver.specs.Inside.Passes.{passes_of_length};
 
+mod dots;
+mod skippable;
+
 use crate::choices::choose_all;
 use crate::counting::Counting;
-use crate::dots::dot_at;
+use crate::level::dots::dot_at;
+use crate::level::skippable::Skippable;
 use crate::pass_windows::PassWindows;
 use crate::records::{PassRecord, Records};
-use crate::skippable::Skippable;
 use pg_dict::Dictionary;
 use pg_select::{Engine, Pass};
 use pg_translate::Table;
