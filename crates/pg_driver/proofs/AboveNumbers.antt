@@ -23,15 +23,15 @@ use Rattle.pg_select.specs.Windows.{Hopeless, Patterns, is_covered, fits, window
 use Rattle.pg_patterns.specs.Values.{value_at}
 use Rattle.pg_select.proofs.LawsRaised.{counted_uncovered}
 use Rattle.pg_select.proofs.LawsTally.{is_counted_window}
-use Rattle.pg_driver.specs.declared.above_positions.Kept.{Kept}
+use Rattle.pg_driver.specs.declared.counting.above_positions.Kept.{Kept}
 use Rattle.pg_driver.specs.declared.pass_windows.WordPosition.{WordPosition}
 use Rattle.pg_driver.specs.declared.pass_windows.TheConstants.{NOT_COUNTED}
 use Rattle.pg_driver.specs.Inside.Counting.{IsRead, meaning_after_counting}
 use Rattle.pg_driver.specs.Inside.OpenLevels.{open_as}
-use Rattle.pg_driver.specs.Inside.OpenPositions.{counted_in}
+use Rattle.pg_driver.specs.Inside.OpenPositions.{counted_in, counted_of}
 use Rattle.pg_driver.specs.Inside.PassWindows.{AreFates, GetsNumber, HaveNumbers, IsNumbered, is_counted_at, uncovered_at}
 use Rattle.pg_driver.specs.Inside.Fates.{chooses}
-use Rattle.pg_driver.specs.Inside.WordLevels.{bad_kept, good_kept, kept_by, was_chosen, window_of, with_kept}
+use Rattle.pg_driver.specs.Inside.WordLevels.{bad_kept, good_kept, kept_by, was_chosen, with_kept}
 use Rattle.pg_driver.proofs.NumberSteps.{fate_there, have_more, still_have}
 use Rattle.pg_driver.proofs.OpenLevels.{found_is}
 
@@ -70,6 +70,10 @@ above_counts level value o is = by (nat_lt level value) is
     by : (b : Bool) → is_some (cond b o None) ≡ true → is_some o ≡ true
     by true some = some
     by false some = absurd (let wrong : false ≡ true = some in cc)
+
+-- the test that the code makes
+abbrev pub is_some_above : ℕ → Positions → ℕ → Option Bool → Bool
+is_some_above level found p good = is_some (cond (nat_lt level (get_or found.values p 0)) good None)
 
 -- the test by what was found of the word
 pub above_found : (m : Meaning) (w : Word) (found : Positions) (level p : ℕ) (mark : Mark) → IsRead m w found → p < length w.signs → mark
@@ -180,9 +184,9 @@ module _ (params : LevelParams) (pass : Pass) (counts : Counts) (words : List Wo
     abbrev here : CountedPosition
     here = record { window = window w.signs e.at pass.len pass.dot; good = is_good pass.level w e.at; weight = position_weight w e.at }
 
-    one : (weigh : CountedPosition → ℕ) → sum_by weigh (flat_map (window_of pass words) (e ∷ [])) ≡ cond (fits w.signs e.at pass.len pass.dot) (weigh here) 0
+    one : (weigh : CountedPosition → ℕ) → sum_by weigh (flat_map (counted_of pass words) (e ∷ [])) ≡ cond (fits w.signs e.at pass.len pass.dot) (weigh here) 0
     one weigh =
-        ap (λ (o : Option Word). sum_by weigh (option_map_or (λ (u : Word). counted_in pass.level pass.len pass.dot u e.at) o [] ++ [])) at
+        ap (λ (o : Option Word). sum_by weigh (option_map_or (λ (u : Word). counted_in pass u e.at) o [] ++ [])) at
         ∙ by (fits w.signs e.at pass.len pass.dot)
       where
         by : (f : Bool) → sum_by weigh (option_map_or (λ (good : Bool). record { window = window w.signs e.at pass.len pass.dot; good = good; weight = position_weight w e.at } ∷ [])
@@ -204,10 +208,10 @@ module _ (params : LevelParams) (pass : Pass) (counts : Counts) (words : List Wo
     kept_more kept result chosen good weight is good_is weight_is good_more bad_more =
         let f : Bool = fits w.signs e.at pass.len pass.dot in
         let c : Bool = was_chosen params counts (window w.signs e.at pass.len pass.dot) in
-        let goods : result.good ≡ kept.good + sum_by (good_kept params counts) (flat_map (window_of pass words) (e ∷ [])) =
+        let goods : result.good ≡ kept.good + sum_by (good_kept params counts) (flat_map (counted_of pass words) (e ∷ [])) =
         good_more ∙ ap (λ (n : ℕ). kept.good + n) ((λ i. cond (is i && good_is i) (weight_is i) 0) ∙ sym (tests f c (is_good pass.level w e.at) (position_weight w e.at))
         ∙ sym (one (good_kept params counts))) in
-        let bads : result.bad ≡ kept.bad + sum_by (bad_kept params counts) (flat_map (window_of pass words) (e ∷ [])) =
+        let bads : result.bad ≡ kept.bad + sum_by (bad_kept params counts) (flat_map (counted_of pass words) (e ∷ [])) =
         bad_more ∙ ap (λ (n : ℕ). kept.bad + n) ((λ i. cond (is i && not (good_is i)) (weight_is i) 0) ∙ sym (tests f c (not (is_good pass.level w e.at)) (position_weight w e.at))
         ∙ sym (one (bad_kept params counts))) in
         λ i. record { good = goods i; bad = bads i }

@@ -15,7 +15,7 @@ use Rattle.pg_dict.specs.Inside.SoundWords.{IsWord}
 use Rattle.pg_dict.specs.Inside.Store.{all_signs, all_weights}
 use Rattle.pg_dict.specs.Word.{Word}
 use Rattle.pg_select.specs.declared.pass.Pass.{Pass}
-use Rattle.pg_select.specs.Inside.LawsClosedDots.{is_good}
+use Rattle.pg_select.specs.Inside.LawsClosedDots.{is_good, pass_at}
 use Rattle.pg_select.specs.Inside.Meanings.{Meaning, after_count}
 use Rattle.pg_select.specs.Statuses.{position_weight}
 use Rattle.pg_select.specs.Windows.{window, fits}
@@ -153,11 +153,11 @@ weight_at words weights sign d of are each =
 
 -- what a pass counts at a position of a word where its window fits
 module _ (m : Meaning) (level len dot : ℕ) (words : List Word) (n p : ℕ) (w : Word) (at : slice_get words n ≡ Some w) where
-  pub counted_there : meaning_after_counting m (counted_of level len dot words (record { word = n; at = p })) ≡ meaning_after_counting m (counted_in level len dot w p)
-  counted_there = ap (λ (o : Option Word). meaning_after_counting m (option_map_or (λ (v : Word). counted_in level len dot v p) o [])) at
+  pub counted_there : meaning_after_counting m (counted_of (pass_at level len dot) words (record { word = n; at = p })) ≡ meaning_after_counting m (counted_in (pass_at level len dot) w p)
+  counted_there = ap (λ (o : Option Word). meaning_after_counting m (option_map_or (λ (v : Word). counted_in (pass_at level len dot) v p) o [])) at
 
   pub counted_fit : (u : List ℕ) (good : Bool) (weight : ℕ) → fits w.signs p len dot ≡ true → u ≡ window w.signs p len dot → good ≡ is_good level w p → weight ≡ position_weight w p
-      → after_count m u good weight ≡ meaning_after_counting m (counted_of level len dot words (record { word = n; at = p }))
+      → after_count m u good weight ≡ meaning_after_counting m (counted_of (pass_at level len dot) words (record { word = n; at = p }))
   counted_fit u good weight fit u_is good_is weight_is =
       (λ i. after_count m (u_is i) (good_is i) (weight_is i)) ∙ sym (by (fits w.signs p len dot) fit) ∙ sym counted_there
     where
@@ -167,7 +167,7 @@ module _ (m : Meaning) (level len dot : ℕ) (words : List Word) (n p : ℕ) (w 
       by false e = absurd (let wrong : false ≡ true = e in cc)
 
   -- and where it does not
-  pub counted_none : fits w.signs p len dot ≡ false → meaning_after_counting m (counted_of level len dot words (record { word = n; at = p })) ≡ m
+  pub counted_none : fits w.signs p len dot ≡ false → meaning_after_counting m (counted_of (pass_at level len dot) words (record { word = n; at = p })) ≡ m
   counted_none other = counted_there ∙ by (fits w.signs p len dot) other
     where
       by : (b : Bool) → b ≡ false → meaning_after_counting m (option_map_or (λ good. record { window = window w.signs p len dot; good = good; weight = position_weight w p } ∷ [])

@@ -5,7 +5,6 @@ use Rattle.std.specs.Option.{option_map}
 use Rattle.std.proofs.lemmas.Bool.{and_parts, and_from}
 use Rattle.std.proofs.lemmas.Bool.Decides.{nat_tests}
 use Rattle.std.proofs.lemmas.List.Folds.{list_all-append}
-use Rattle.std.proofs.lemmas.List.Sums.{fold-append}
 use Rattle.pg_types.specs.declared.parameters.LevelParams.{LevelParams}
 use Rattle.pg_types.specs.Placement.{Families, taken_count, top}
 use Rattle.pg_select.specs.Inside.Meanings.{Meaning}
@@ -77,7 +76,7 @@ at_level_start source number len m r flags chosen here longer = record {
   };
   short = refl;
   tells = tells_none number len flags here longer;
-  closed = λ n dot is. cc;
+  skippable = λ n dot is. cc;
 }
 
 module _ (source : Source) (params : LevelParams) (number len dot : ℕ) (m : Meaning) (start : LevelStart) (ps : List PassTrace) (r : Recorded)
@@ -99,7 +98,7 @@ module _ (source : Source) (params : LevelParams) (number len dot : ℕ) (m : Me
 
   closed_after : (n : Meaning) → state_of n ≡ state_after m.signs m.families q → CountNothing source number (ps ++ q ∷ []) (known_of n)
   closed_after n state = subst (λ (known : Known). CountNothing source number (ps ++ q ∷ []) known) (sym (ap (λ (s : State). s.known) state))
-      (closed_on source params number len dot (known_of m) ps at.closed)
+      (closed_on source params number len dot (known_of m) ps at.skippable)
 
 -- a pass that is skipped changes nothing
 state_stays : (source : Source) (params : LevelParams) (pass : Pass) (m : Meaning) → (made_by source params m pass).candidates ≡ [] → state_of m
@@ -113,7 +112,7 @@ module _ (source : Source) (params : LevelParams) (number len dot : ℕ) (m : Me
   -- a pass that was skipped
   pub skipped_known : (start : LevelStart) (ps : List PassTrace) → is_set old.here dot ≡ true → IsAt source number len start ps (point m r old)
       → (made_by source params m (pass_with number len dot)).candidates ≡ []
-  skipped_known start ps flag at = skipped_none source params number len dot (known_of m) ps at.closed (at.tells.here dot ∙ flag)
+  skipped_known start ps flag at = skipped_none source params number len dot (known_of m) ps at.skippable (at.tells.here dot ∙ flag)
 
   pub skipped_on : is_set old.here dot ≡ true → new.here ≡ old.here → Follows dot true old new
       → GoesOn source number len (made_by source params m (pass_with number len dot) ∷ []) (point m r old) (point m r new)
@@ -127,7 +126,7 @@ module _ (source : Source) (params : LevelParams) (number len dot : ℕ) (m : Me
         records = recorded_none source start.engine.signs start.engine.families ps q start.records r none at.short (at.tells.here dot ∙ flag) at.records;
         short = short_on source params number len dot m start ps r old at;
         tells = tells_on source params number len dot m start ps r old at true new (none_left params q none) here longer;
-        closed = closed_after source params number len dot m start ps r old at m state;
+        skippable = closed_after source params number len dot m start ps r old at m state;
       } in
       (on, ap (λ (s : State). s.known) state)
 
@@ -147,7 +146,7 @@ module _ (source : Source) (params : LevelParams) (number len dot : ℕ) (m : Me
         records = recorded_pass source start.engine.signs start.engine.families ps q start.records r s rec did.line layout records at.short (at.tells.here dot ∙ flag) at.records;
         short = short_on source params number len dot m start ps r old at;
         tells = tells_on source params number len dot m start ps r old at b new none here longer;
-        closed = closed_after source params number len dot m start ps r old at n did.state;
+        skippable = closed_after source params number len dot m start ps r old at n did.state;
       } in
       (on, ap (λ (s : State). s.known) did.state)
 
@@ -160,7 +159,7 @@ at_next source number len start ps m r old new here longer at = record {
   records = at.records;
   short = short_next len ps at.short;
   tells = tells_next number len old new ps at.tells here longer;
-  closed = at.closed;
+  skippable = at.skippable;
 }
 
 -- passes that were made, and those that are left and lead to a whole
@@ -187,11 +186,16 @@ made_on source params m n xs rest done whole known left =
     ∙ ap (λ ps. done ++ ps) (sym (made_append source params (known_of m) xs rest))
     ∙ left
 
+-- what is known at the end of passes, and then of others
+known_append : (known : Known) (ps qs : List PassTrace) → known_at_end known (ps ++ qs) ≡ known_at_end (known_at_end known ps) qs
+known_append known [] qs = refl
+known_append known (p ∷ ps) qs = known_append (known_after p) ps qs
+
 pub known_on : (source : Source) (params : LevelParams) (m n : Meaning) (xs rest : List Pass) (whole : Known) → known_of n ≡ known_at_end (known_of m) (all_made_by source params m xs)
     → known_at_end (known_of m) (all_made_by source params m (xs ++ rest)) ≡ whole → known_at_end (known_of n) (all_made_by source params n rest) ≡ whole
 known_on source params m n xs rest whole known left =
     ap (λ (k : Known). known_at_end k (passes_made source params k rest)) known
-    ∙ sym (fold-append (λ (_ : Known) (p : PassTrace). known_after p) (known_of m) (all_made_by source params m xs)
+    ∙ sym (known_append (known_of m) (all_made_by source params m xs)
     (passes_made source params (known_at_end (known_of m) (all_made_by source params m xs)) rest))
     ∙ ap (λ ps. known_at_end (known_of m) ps) (sym (made_append source params (known_of m) xs rest))
     ∙ left

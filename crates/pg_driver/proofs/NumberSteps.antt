@@ -19,7 +19,7 @@ use Rattle.pg_select.specs.declared.choice.Choice.{Choice}
 use Rattle.pg_select.specs.declared.pass.Pass.{Pass}
 use Rattle.pg_select.specs.Inside.Choices.{choice}
 use Rattle.pg_select.specs.Statuses.{position_weight}
-use Rattle.pg_select.specs.Inside.LawsClosedDots.{is_good}
+use Rattle.pg_select.specs.Inside.LawsClosedDots.{is_good, pass_at}
 use Rattle.pg_select.specs.Windows.{window, fits}
 use Rattle.pg_driver.specs.declared.pass_windows.WordPosition.{WordPosition}
 use Rattle.pg_driver.specs.Inside.PassWindows.{IsNumbered, HaveNumbers, AreFates, IsPart}
@@ -149,7 +149,7 @@ still_numbered pass test words m n seen e k is numbered =
     }
 
 -- what one position adds to the windows
-pub window_in : (ws : Windows) (counts : Counts) (level len dot : ℕ) (w : Word) (p : ℕ) → fits w.signs p len dot ≡ true → windows_after ws counts (counted_in level len dot w p)
+pub window_in : (ws : Windows) (counts : Counts) (level len dot : ℕ) (w : Word) (p : ℕ) → fits w.signs p len dot ≡ true → windows_after ws counts (counted_in (pass_at level len dot) w p)
     ≡ with_window ws counts (window w.signs p len dot)
 window_in ws counts level len dot w p fit = by (fits w.signs p len dot) fit
   where

@@ -91,7 +91,7 @@ module _ (level len dot : ℕ) (m : Minima) (words : List Word) (P : Patterns) (
   -- a position
   counted_one : (n p : ℕ) (w : Word) (c : ℕ → Bool) → slice_get words n ≡ Some w → IsTold level len m P H w p c
       → cond (is_in_reach m w p) (counted_positions_at (pass_at level len dot) P H w p) []
-      ≡ flat_map (counted_of level len dot words) (map (λ (q : ℕ). record { word = n; at = q }) (cond (not (c dot)) (p ∷ []) []))
+      ≡ flat_map (counted_of (pass_at level len dot) words) (map (λ (q : ℕ). record { word = n; at = q }) (cond (not (c dot)) (p ∷ []) []))
   counted_one n p w c at told = elim (cases_Bool (is_in_reach m w p)) [
     | inl reach ↦
         ap (λ b. cond b (counted_positions_at (pass_at level len dot) P H w p) []) reach
@@ -99,7 +99,7 @@ module _ (level len dot : ℕ) (m : Minima) (words : List Word) (P : Patterns) (
         ∙ by (c dot)
     | inr other ↦
         ap (λ b. cond b (counted_positions_at (pass_at level len dot) P H w p) []) other
-        ∙ ap (λ b. flat_map (counted_of level len dot words) (map (λ (q : ℕ). record { word = n; at = q }) (cond (not b) (p ∷ []) []))) (sym (told.outside other dot (omega arith)))
+        ∙ ap (λ b. flat_map (counted_of (pass_at level len dot) words) (map (λ (q : ℕ). record { word = n; at = q }) (cond (not b) (p ∷ []) []))) (sym (told.outside other dot (omega arith)))
   ]
     where
       nothing : (f : Bool) → counted_as (window w.signs p len dot) (position_weight w p) (cond (f && false) (Some (is_good level w p)) None) ≡ []
@@ -107,30 +107,30 @@ module _ (level len dot : ℕ) (m : Minima) (words : List Word) (P : Patterns) (
       nothing false = refl
 
       by : (b : Bool) → counted_as (window w.signs p len dot) (position_weight w p) (counted_with level w p len dot b)
-          ≡ flat_map (counted_of level len dot words) (map (λ (q : ℕ). record { word = n; at = q }) (cond (not b) (p ∷ []) []))
+          ≡ flat_map (counted_of (pass_at level len dot) words) (map (λ (q : ℕ). record { word = n; at = q }) (cond (not b) (p ∷ []) []))
       by true = nothing (fits w.signs p len dot)
       by false =
-          ap (λ (o : Option Word). option_map_or (λ (u : Word). counted_in level len dot u p) o []) (sym at)
-          ∙ sym (append-nil (counted_of level len dot words (record { word = n; at = p })))
+          ap (λ (o : Option Word). option_map_or (λ (u : Word). counted_in (pass_at level len dot) u p) o []) (sym at)
+          ∙ sym (append-nil (counted_of (pass_at level len dot) words (record { word = n; at = p })))
 
   -- the positions of a word
   counted_word : (n start : ℕ) (w : Word) (ws : List Word) → slice_get words n ≡ Some w → ((p : ℕ) → p < length w.signs → IsTold level len m P H w p (λ d. dots d (start + p)))
       → (a k : ℕ) → a + k ≤ length w.signs
       → flat_map (λ (p : ℕ). cond (is_in_reach m w p) (counted_positions_at (pass_at level len dot) P H w p) []) (range_with_len a k)
-      ≡ flat_map (counted_of level len dot words) (map (position_from n (w ∷ ws)) (filter (λ s. not (closed (start + s))) (range_with_len a k)))
+      ≡ flat_map (counted_of (pass_at level len dot) words) (map (position_from n (w ∷ ws)) (filter (λ s. not (closed (start + s))) (range_with_len a k)))
   counted_word n start w ws at told a zero inside = refl
   counted_word n start w ws at told a (suc k) inside =
       (λ i. counted_one n a w (λ d. dots d (start + a)) at (told a (omega arith)) i ++ counted_word n start w ws at told (a + 1) k (omega arith) i)
-      ∙ ap (λ b. flat_map (counted_of level len dot words) (map (λ (q : ℕ). record { word = n; at = q }) (cond (not b) (a ∷ []) [])) ++ rest) (is (start + a))
+      ∙ ap (λ b. flat_map (counted_of (pass_at level len dot) words) (map (λ (q : ℕ). record { word = n; at = q }) (cond (not b) (a ∷ []) [])) ++ rest) (is (start + a))
       ∙ ap (λ (ys : List CountedPosition). ys ++ rest) (places (not (closed (start + a))))
-      ∙ sym (split (counted_of level len dot words) (position_from n (w ∷ ws)) (not (closed (start + a))) a (filter (λ s. not (closed (start + s))) (range_with_len (a + 1) k)))
+      ∙ sym (split (counted_of (pass_at level len dot) words) (position_from n (w ∷ ws)) (not (closed (start + a))) a (filter (λ s. not (closed (start + s))) (range_with_len (a + 1) k)))
     where
       rest : List CountedPosition
-      rest = flat_map (counted_of level len dot words) (map (position_from n (w ∷ ws)) (filter (λ s. not (closed (start + s))) (range_with_len (a + 1) k)))
+      rest = flat_map (counted_of (pass_at level len dot) words) (map (position_from n (w ∷ ws)) (filter (λ s. not (closed (start + s))) (range_with_len (a + 1) k)))
 
-      places : (b : Bool) → flat_map (counted_of level len dot words) (map (λ (q : ℕ). record { word = n; at = q }) (cond b (a ∷ []) []))
-          ≡ flat_map (counted_of level len dot words) (map (position_from n (w ∷ ws)) (cond b (a ∷ []) []))
-      places true = ap (λ (e : WordPosition). counted_of level len dot words e ++ [])
+      places : (b : Bool) → flat_map (counted_of (pass_at level len dot) words) (map (λ (q : ℕ). record { word = n; at = q }) (cond b (a ∷ []) []))
+          ≡ flat_map (counted_of (pass_at level len dot) words) (map (position_from n (w ∷ ws)) (cond b (a ∷ []) []))
+      places true = ap (λ (e : WordPosition). counted_of (pass_at level len dot) words e ++ [])
           (sym (ap (λ b. cond b (record { word = n; at = a }) (position_from (n + 1) ws (a - length w.signs))) (lt-ltb a (length w.signs) (omega arith))))
       places false = refl
 
@@ -166,11 +166,11 @@ module _ (level len dot : ℕ) (m : Minima) (words : List Word) (P : Patterns) (
   counted_words : (n start : ℕ) (ws : List Word) → ((k : ℕ) (w : Word) → slice_get ws k ≡ Some w → slice_get words (n + k) ≡ Some w)
       → ((k p : ℕ) (w : Word) → slice_get ws k ≡ Some w → p < length w.signs → IsTold level len m P H w p (λ d. dots d (start + (start_of ws k + p))))
       → flat_map (counted_positions_in m (pass_at level len dot) P H) ws
-      ≡ flat_map (counted_of level len dot words) (map (position_from n ws) (filter (λ s. not (closed (start + s))) (range_with_len 0 (sign_count ws))))
+      ≡ flat_map (counted_of (pass_at level len dot) words) (map (position_from n ws) (filter (λ s. not (closed (start + s))) (range_with_len 0 (sign_count ws))))
   counted_words n start [] place told = refl
   counted_words n start (w ∷ ws) place told =
       let size = length w.signs in
-      let f : WordPosition → List CountedPosition = counted_of level len dot words in
+      let f : WordPosition → List CountedPosition = counted_of (pass_at level len dot) words in
       let g : ℕ → WordPosition = position_from n (w ∷ ws) in
       let test : ℕ → Bool = λ s. not (closed (start + s)) in
       let here : slice_get words n ≡ Some w = ap (slice_get words) (let z : n ≡ n + 0 = omega arith in z) ∙ place 0 w refl in
@@ -189,11 +189,11 @@ module _ (level len dot : ℕ) (m : Minima) (words : List Word) (P : Patterns) (
 
 -- what a pass counts
 pub counted_there : (level len dot : ℕ) (m : Minima) (words : List Word) (P : Patterns) (H : Hopeless) (dots : ℕ → ℕ → Bool) → len ≤ LENGTH_MAX → dot ≤ len → IsThere level len m words P H dots
-    → counted_positions m words (pass_at level len dot) P H ≡ flat_map (counted_of level len dot words) (open_word_positions (dots dot) words)
+    → counted_positions m words (pass_at level len dot) P H ≡ flat_map (counted_of (pass_at level len dot) words) (open_word_positions (dots dot) words)
 counted_there level len dot m words P H dots short within is =
     counted_words level len dot m words P H (dots dot) dots (λ s. refl) short within 0 0 words (λ k w at. ap (slice_get words) (zero_plus k) ∙ at)
     (λ k p w at low. subst (λ (s : ℕ). IsTold level len m P H w p (λ d. dots d s)) (sym (zero_plus (start_of words k + p))) (is.known k p w at low))
-    ∙ (λ i. flat_map (counted_of level len dot words) (map (position_from 0 words) (filter (λ s. not (dots dot (zero_plus s i))) (range_with_len 0 (less_none (sign_count words) i)))))
+    ∙ (λ i. flat_map (counted_of (pass_at level len dot) words) (map (position_from 0 words) (filter (λ s. not (dots dot (zero_plus s i))) (range_with_len 0 (less_none (sign_count words) i)))))
   where
     zero_plus : (k : ℕ) → 0 + k ≡ k
     zero_plus k = omega arith

@@ -20,7 +20,7 @@ use Rattle.pg_driver.proofs.Rooms.{took_none, took_with, window_filled}
 use Rattle.pg_driver.proofs.WordSteps.{drop_place}
 use Rattle.pg_driver.specs.declared.pass_windows.WordPosition.{WordPosition}
 use Rattle.pg_driver.specs.Inside.OpenLevels.{listed_in, listed_from}
-use Rattle.pg_select.specs.Inside.LawsClosedDots.{is_good}
+use Rattle.pg_select.specs.Inside.LawsClosedDots.{is_good, pass_at}
 use Rattle.pg_driver.specs.Inside.OpenPositions.{counted_in}
 
 -- one part more
@@ -34,7 +34,7 @@ position_added {Y} f items more whole p end before is left =
 
 -- what is counted at an open position takes the room of one
 pub took_in : (counts : Counts) (level len dot : ℕ) (w : Word) (p n : ℕ) → 1 ≤ len → IsWord w → p < length w.signs → HasRoom counts n
-    → TookRoom counts (fold with_position counts (counted_in level len dot w p)) 1
+    → TookRoom counts (fold with_position counts (counted_in (pass_at level len dot) w p)) 1
 took_in counts level len dot w p n long word within room = by_test (fits w.signs p len dot) refl
   where
     by_test : (a : Bool) → fits w.signs p len dot ≡ a → TookRoom counts
@@ -53,7 +53,7 @@ found_small counts u n good bad room is =
 
 -- and so for a meaning that counts it
 pub took_entry : (m n : Meaning) (level len dot : ℕ) (w : Word) (p k : ℕ) → 1 ≤ len → IsWord w → p < length w.signs → HasRoom m.counts k → n
-    ≡ meaning_after_counting m (counted_in level len dot w p) → TookRoom m.counts n.counts 1
+    ≡ meaning_after_counting m (counted_in (pass_at level len dot) w p) → TookRoom m.counts n.counts 1
 took_entry m n level len dot w p k long word within room is =
     subst (λ (cs : Counts). TookRoom m.counts cs 1) (ap (λ (x : Meaning). x.counts) (sym is)) (took_in m.counts level len dot w p k long word within room)
 

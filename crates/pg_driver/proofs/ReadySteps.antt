@@ -7,6 +7,7 @@ use Rattle.pg_types.specs.declared.parameters.LevelParams.{LevelParams}
 use Rattle.pg_types.specs.Inside.Counts.{Counts}
 use Rattle.pg_dict.specs.Word.{Word}
 use Rattle.pg_dict.specs.Inside.SoundWords.{letter_count}
+use Rattle.pg_select.specs.Inside.LawsClosedDots.{pass_at}
 use Rattle.pg_select.specs.declared.pass.Pass.{Pass}
 use Rattle.pg_select.specs.Inside.LawsSteps.{IsBelow}
 use Rattle.pg_select.specs.Inside.Meanings.{Meaning, with_position}
@@ -16,7 +17,7 @@ use Rattle.pg_select.specs.Windows.{Hopeless, Patterns}
 use Rattle.pg_driver.specs.declared.choices.Choices.{Choices}
 use Rattle.pg_driver.specs.declared.counting.Counting.{Counting}
 use Rattle.pg_driver.specs.declared.counting.Counting.TheVariants.{Open, EachWord}
-use Rattle.pg_driver.specs.declared.open_positions.OpenLevel.{OpenLevel}
+use Rattle.pg_driver.specs.declared.counting.open_positions.OpenLevel.{OpenLevel}
 use Rattle.pg_driver.specs.Accounts.{totals_by}
 use Rattle.pg_driver.specs.Inside.Choosing.{no_choices, with_candidates}
 use Rattle.pg_driver.specs.Inside.Counting.{HasRoom, IsBounded}
@@ -57,7 +58,7 @@ module _ (source : Source) (level len : ℕ) (known : Known) (o : OpenLevel) (re
       subst (λ (cs : Counts). HasRoom cs (length (open_signs (is_closed o.dots dot) 0 (sign_count source.words)))) (sym none)
       (room_none (length (open_signs (is_closed o.dots dot) 0 (sign_count source.words))) (omega arith))
 
-  pub counts_all : (dot : ℕ) → len ≤ LENGTH_MAX → dot ≤ len → flat_map (counted_of level len dot source.words) (open_word_positions (is_closed o.dots dot) source.words)
+  pub counts_all : (dot : ℕ) → len ≤ LENGTH_MAX → dot ≤ len → flat_map (counted_of (pass_at level len dot) source.words) (open_word_positions (is_closed o.dots dot) source.words)
       ≡ counted_positions source.minima source.words (record { level = level; len = len; dot = dot }) known.patterns known.hopeless
   counts_all dot short within = sym (counted_there level len dot source.minima source.words known.patterns known.hopeless (is_closed o.dots) short within ready.dots)
 

@@ -157,7 +157,8 @@ families_push signs None run l = refl
 families_push signs (Some fs) run l = ap (λ (gs : Families). Some gs) (fold-append (after_level signs) fs run (l ∷ []))
 
 patterns_push : (S : Patterns) (run : Trace) (l : LevelTrace) → final_patterns S (run ++ l ∷ []) ≡ patterns_after l
-patterns_push S run l = fold-append (λ (_ : Patterns) (l : LevelTrace). patterns_after l) S run (l ∷ [])
+patterns_push S [] l = refl
+patterns_push S (k ∷ run) l = patterns_push (patterns_after k) run l
 
 -- a level more
 pub run_push : (source : Source) (run : Trace) (l : LevelTrace) (m0 m n : Meaning) (r s : Recorded) → m.signs ≡ m0.signs → DidRun source run m0 m r

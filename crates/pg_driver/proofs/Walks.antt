@@ -1,11 +1,12 @@
 -- A step of the walk over the words of a pass.
-use Rattle.std.proofs.Common.{◌≡◌, ℕ, ◌+◌, ◌-◌, ◌<◌, ◌≤◌, List, [], ◌∷◌, ◌++◌, length, fold, map, refl, sym, ap, subst, ◌∙◌, append-nil, arith}
+use Rattle.std.proofs.Common.{◌≡◌, ℕ, ◌+◌, ◌-◌, ◌<◌, ◌≤◌, List, [], ◌∷◌, ◌++◌, length, fold, refl, sym, ap, subst, ◌∙◌, append-nil, arith}
 use Rattle.std.specs.List.{flat_map, range_with_len}
 use Rattle.std.proofs.lemmas.List.Sums.{fold-append}
 use Rattle.pg_dict.specs.Word.{Word}
 use Rattle.pg_dict.specs.Inside.SoundWords.{IsWord}
 use Rattle.pg_types.specs.Inside.Counts.{Counts}
 use Rattle.pg_types.specs.Inside.NumberedWindows.{Windows, with_window}
+use Rattle.pg_patterns.specs.Values.{value_at}
 use Rattle.pg_select.specs.Inside.Meanings.{Meaning, with_position}
 use Rattle.pg_select.specs.Inside.Positions.{Positions}
 use Rattle.pg_select.specs.CountedPositions.{Minima, CountedPosition, counted_positions_at, counted_positions}
@@ -13,11 +14,9 @@ use Rattle.pg_select.specs.Inside.WordCounts.{counted_positions_in}
 use Rattle.pg_driver.specs.Inside.Counting.{meaning_after_counting, windows_after, IsRead, HasRoom, TookRoom}
 use Rattle.pg_driver.proofs.Rooms.{room_left, took_position, took_more}
 use Rattle.pg_select.proofs.Reaches.{range_step}
-use Rattle.pg_select.proofs.MarkSteps.{marks_from}
-use Rattle.pg_select.specs.Statuses.{status_at, position_weight}
+use Rattle.pg_select.proofs.MarkSteps.{marks_done_by, marks_from}
 use Rattle.pg_select.specs.Inside.SumSteps.{with_marks}
 use Rattle.pg_types.specs.declared.marks.Totals.{Totals}
-use Rattle.pg_types.specs.declared.marks.Mark.{Mark}
 
 -- all but the counts and the windows are kept
 abbrev pub KeepsButCounts : Meaning → Meaning → Type 0
@@ -88,14 +87,7 @@ counted_done m whole f p end past left =
     subst (λ n. meaning_after_counting m (flat_map f (range_with_len p n)) ≡ whole) none left
 
 pub marks_done : (t whole : Totals) (P : List ((List ℕ × ℕ) × ℕ)) (w : Word) (p end : ℕ) → end ≤ p → with_marks t (marks_from P w p end) ≡ whole → t ≡ whole
-marks_done t whole P w p end past left =
-    let none : end - p ≡ 0 = omega arith in
-    let mark : ℕ → Mark × ℕ = λ q. (status_at P w q, position_weight w q) in
-    let good : t.good + 0 ≡ t.good = omega arith in
-    let bad : t.bad + 0 ≡ t.bad = omega arith in
-    let missed : t.missed + 0 ≡ t.missed = omega arith in
-    let same : with_marks t [] ≡ t = λ i. record { good = good i; bad = bad i; missed = missed i } in
-    sym same ∙ subst (λ n. with_marks t (map mark (range_with_len p n)) ≡ whole) none left
+marks_done t whole P w p end past left = marks_done_by t whole (value_at P w.signs) w p end past left
 
 pub listed_done : {X : Type 0} (f : ℕ → List X) (xs whole : List X) (p end : ℕ) → end ≤ p → xs ++ flat_map f (range_with_len p (end - p)) ≡ whole → xs ≡ whole
 listed_done f xs whole p end past left =

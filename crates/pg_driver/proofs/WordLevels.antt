@@ -23,20 +23,20 @@ use Rattle.pg_patterns.specs.Values.{value_at}
 use Rattle.pg_select.proofs.LawsClosedDots.{good_is}
 use Rattle.pg_select.proofs.LawsTally.{cmp, counted_as, is_counted_window}
 use Rattle.pg_select.proofs.LawsTotals.{above_stay, totals_after_above}
-use Rattle.pg_driver.specs.declared.above_positions.Kept.{Kept}
+use Rattle.pg_driver.specs.declared.counting.above_positions.Kept.{Kept}
 use Rattle.pg_driver.specs.declared.choices.Choices.{Choices}
 use Rattle.pg_driver.specs.declared.pass_windows.WordPosition.{WordPosition}
-use Rattle.pg_driver.specs.declared.word_level.WordLevel.{WordLevel}
+use Rattle.pg_driver.specs.declared.counting.word_level.WordLevel.{WordLevel}
 use Rattle.pg_driver.specs.Accounts.{totals_by}
 use Rattle.pg_driver.specs.Inside.Counting.{IsBounded}
 use Rattle.pg_driver.specs.Inside.LevelCounting.{CanMove, Carries, IsAfterWords}
 use Rattle.pg_driver.specs.Inside.OpenLevels.{listed_from, listed_in, open_as}
-use Rattle.pg_driver.specs.Inside.OpenPositions.{IsPlaced, counted_in, open_with}
+use Rattle.pg_driver.specs.Inside.OpenPositions.{IsPlaced, counted_in, counted_of, open_with}
 use Rattle.pg_driver.specs.Inside.Sound.{IsSmall}
 use Rattle.pg_driver.specs.Traces.{Known, PassTrace, Source, chosen_in, is_chosen, known_after, pass_made}
 use Rattle.pg_driver.specs.Inside.Fates.{chooses}
 use Rattle.pg_driver.proofs.FateLaws.{chosen_is as chosen_by_fate}
-use Rattle.pg_driver.specs.Inside.WordLevels.{IsWordsAt, kept_by, listing, was_chosen, window_of}
+use Rattle.pg_driver.specs.Inside.WordLevels.{IsWordsAt, kept_by, listing, was_chosen}
 use Rattle.pg_driver.proofs.CarriedTotals.{carried_same, carried_small, carried_within, totals_are_small}
 use Rattle.pg_driver.proofs.OpenLevels.{found_is, listed_are, start_at}
 use Rattle.pg_driver.proofs.OpenPlaces.{entries_few, entries_placed}
@@ -113,10 +113,10 @@ module _ (m : Minima) (words : List Word) (pass : Pass) (P : Patterns) where
   one_fits w p true good is = ap (λ b. counted_as (window w.signs p pass.len pass.dot) (position_weight w p) (Some b)) is
   one_fits w p false good is = refl
 
-  each : (n p : ℕ) (w : Word) → slice_get words n ≡ Some w → above_at pass P w p ≡ flat_map (window_of pass words) (open_with (start_at m words above) (n, p))
+  each : (n p : ℕ) (w : Word) → slice_get words n ≡ Some w → above_at pass P w p ≡ flat_map (counted_of pass words) (open_with (start_at m words above) (n, p))
   each n p w at =
       by_count (above w p) refl
-      ∙ ap (λ (o : Option Word). flat_map (window_of pass words) (option_map_or (λ (good : Bool). record { word = n; at = p } ∷ []) (started o) [])) (sym at)
+      ∙ ap (λ (o : Option Word). flat_map (counted_of pass words) (option_map_or (λ (good : Bool). record { word = n; at = p } ∷ []) (started o) [])) (sym at)
     where
       started : Option Word → Option Bool
       started None = None
@@ -124,15 +124,15 @@ module _ (m : Minima) (words : List Word) (pass : Pass) (P : Patterns) where
 
       by_count : (o : Option Bool) → above w p ≡ o
           → counted_as (window w.signs p pass.len pass.dot) (position_weight w p) (cond (fits w.signs p pass.len pass.dot) o None)
-          ≡ flat_map (window_of pass words) (option_map_or (λ (good : Bool). record { word = n; at = p } ∷ []) o [])
+          ≡ flat_map (counted_of pass words) (option_map_or (λ (good : Bool). record { word = n; at = p } ∷ []) o [])
       by_count None is = none_fits w p (fits w.signs p pass.len pass.dot)
       by_count (Some good) is =
           one_fits w p (fits w.signs p pass.len pass.dot) good (by_test w p (nat_lt pass.level (value_at P w.signs p)) good is)
-          ∙ ap (λ (o : Option Word). option_map_or (λ (u : Word). counted_in pass.level pass.len pass.dot u p) o []) (sym at)
-          ∙ sym (append-nil (window_of pass words (record { word = n; at = p })))
+          ∙ ap (λ (o : Option Word). option_map_or (λ (u : Word). counted_in pass u p) o []) (sym at)
+          ∙ sym (append-nil (counted_of pass words (record { word = n; at = p })))
 
-  windows_are : (entries : List WordPosition) → entries ≡ listed_from m above 0 words → flat_map (window_of pass words) entries ≡ above_positions m words pass P
-  windows_are entries are = sym (counted_by_entries m words (start_at m words above) (window_of pass words) (above_at pass P) each entries (are ∙ listed_are m words above))
+  windows_are : (entries : List WordPosition) → entries ≡ listed_from m above 0 words → flat_map (counted_of pass words) entries ≡ above_positions m words pass P
+  windows_are entries are = sym (counted_by_entries m words (start_at m words above) (counted_of pass words) (above_at pass P) each entries (are ∙ listed_are m words above))
 
 -- a window was chosen where it is a candidate that is
 chosen_is : (params : LevelParams) (counts : Counts) (counted : List CountedPosition) (u : List ℕ) → counts ≡ fold with_position [] counted
@@ -169,7 +169,7 @@ module _ (source : Source) (params : LevelParams) (known : Known) (pass : Pass) 
     abbrev kept : Kept
     kept = kept_by params pass counts source.words e.above.items
 
-    windows : flat_map (window_of pass source.words) e.above.items ≡ stays
+    windows : flat_map (counted_of pass source.words) e.above.items ≡ stays
     windows = windows_are source.minima source.words pass known.patterns e.above.items
         (is.above ∙ ap (λ (b : Bool). listed_from source.minima (listing b pass.level known.patterns) 0 source.words) begun)
 

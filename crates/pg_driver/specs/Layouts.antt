@@ -20,5 +20,4 @@ after_level signs fs l =
 
 -- the families at the end of a run from S, which begins with those of the strings of S
 abbrev pub families_at_end : ℕ → Patterns → Trace → Families
-families_at_end signs S run =
-    fold (after_level signs) (entered_families signs (strings_in S)) run
+families_at_end signs S run = fold (after_level signs) (entered_families signs (strings_in S)) run

@@ -13,6 +13,7 @@ use Rattle.pg_select.specs.declared.pass.Pass.{Pass}
 use Rattle.pg_select.specs.CountedPositions.{Minima, Candidate, counted_positions, tally, minima_of}
 use Rattle.pg_driver.specs.Dots.{order}
 use Rattle.pg_translate.specs.Alphabets.{Alphabet}
+use Rattle.pg_translate.specs.Gaps.{last_else}
 
 -- what a run goes over: the minima of the table, and the words
 pub record Source : Type 0 where
@@ -83,8 +84,7 @@ pass_made source params known pass =
 -- passes that are made one after the other: each begins with what is known after the one before it
 abbrev pub passes_made : Source → LevelParams → Known → List Pass → List PassTrace
 passes_made source params known [] = []
-passes_made source params known (pass ∷ passes) =
-    let p = pass_made source params known pass in
+passes_made source params known (pass ∷ passes) = let p = pass_made source params known pass in
     p ∷ passes_made source params (known_after p) passes
 
 -- the passes of a level in their order: those of each length, and of a length each dot in its order
@@ -103,9 +103,9 @@ level_made source P level =
     let passes = passes_made source level.1 (at_start P) (passes_of level.0 level.1) in
     record { number = level.0; before = P; passes = passes }
 
--- the patterns after a level: those that are known after its last pass
+-- the patterns after a level: those known after its last pass, or else those before it
 abbrev pub patterns_after : LevelTrace → Patterns
-patterns_after l = (fold (λ _ p. known_after p) (at_start l.before) l.passes).patterns
+patterns_after l = (last_else (at_start l.before) (map known_after l.passes)).patterns
 
 -- levels that are made one after the other: each begins with the patterns after the one before it
 abbrev pub levels_made : Source → Patterns → List (ℕ × LevelParams) → Trace
@@ -117,6 +117,6 @@ levels_made source P (level ∷ levels) = let l = level_made source P level in
 abbrev pub trace : Source → Parameters → Patterns → Trace
 trace source parameters S = levels_made source S (enumerate_from parameters.start parameters.levels)
 
--- the patterns at the end of a run from S: those after its last level
+-- the patterns at the end of a run from S: those after its last level, or else S
 abbrev pub final_patterns : Patterns → Trace → Patterns
-final_patterns S run = fold (λ _ l. patterns_after l) S run
+final_patterns S run = last_else S (map patterns_after run)

@@ -10,13 +10,21 @@ ghost use Rattle.pg_driver.specs.Inside.States.{HasBegun, IsPass};
 ghost use Rattle.pg_driver.specs.Inside.RunAccounts.{known_of};
 ghost use Rattle.pg_driver.specs.Traces.{Known, Source, over};
 
-use crate::above_positions::kept_above;
-use crate::carried_totals::totals_after;
+mod above_positions;
+mod carried_totals;
+mod marks;
+mod open_passes;
+mod open_positions;
+mod word_level;
+mod words;
+
 use crate::choices::Choices;
-use crate::open_passes::{close_dots, count_open};
-use crate::open_positions::{OpenLevel, open_level};
+use crate::counting::above_positions::kept_above;
+use crate::counting::carried_totals::totals_after;
+use crate::counting::open_passes::{close_dots, count_open};
+use crate::counting::open_positions::{OpenLevel, open_level};
+use crate::counting::word_level::WordLevel;
 use crate::pass_windows::PassWindows;
-use crate::word_level::WordLevel;
 use pg_dict::Dictionary;
 use pg_select::{Engine, Pass};
 use pg_translate::Table;

@@ -14,12 +14,15 @@ ghost use Rattle.pg_driver.specs.Inside.RunAccounts.{known_of};
 ghost use Rattle.pg_driver.specs.Traces.{level_made, passes_of, over};
 ghost use Rattle.pg_driver.specs.Inside.Passes.{passes_of_length};
 
+mod dots;
+mod skippable;
+
 use crate::choices::choose_all;
 use crate::counting::Counting;
-use crate::dots::dot_at;
+use crate::level::dots::dot_at;
+use crate::level::skippable::Skippable;
 use crate::pass_windows::PassWindows;
 use crate::records::{PassRecord, Records};
-use crate::skippable::Skippable;
 use pg_dict::Dictionary;
 use pg_select::{Engine, Pass};
 use pg_translate::Table;
@@ -80,7 +83,7 @@ fn run_or_skip<E: Engine>(
     table: &Table,
     params: &LevelParams,
     pass: Pass,
-    closed: &mut Skippable,
+    skippable: &mut Skippable,
     counting: &mut Counting,
     windows: &mut PassWindows,
     records: &mut Records,
@@ -96,24 +99,25 @@ fn run_or_skip<E: Engine>(
         counting.old }
     ensures ok { OnOk result (GoesOn (over table.now dictionary.now) pass.level pass.len
         (made_by (over table.now dictionary.now) params.now (E.meaning engine.old) pass ∷ [])
-        (point (E.meaning engine.old) records.old closed.old)
-        (point (E.meaning engine.new) records.new closed.new)) }
+        (point (E.meaning engine.old) records.old skippable.old)
+        (point (E.meaning engine.new) records.new skippable.new)) }
     ensures begun { OnOk result
         (BeganAll (E.meaning engine.old) (E.meaning engine.new) records.old records.new) }
     ensures few { OnOk result (records.new.begun ≤ records.old.begun + 1) }
     ensures chosen { OnOk result (records.new.chosen ≤ records.old.chosen + FILE_MAX) }
     ensures ready { OnOk result (IsReady (over table.now dictionary.now) pass.level pass.len
         (known_of (E.meaning engine.new)) counting.new) }
-    ensures here { closed.new.here ≡ closed.old.here }
-    ensures counted { OnOk result (WillCount closed.old counting.old → IsCounted counting.new) }
+    ensures here { skippable.new.here ≡ skippable.old.here }
+    ensures counted { OnOk result
+        (WillCount skippable.old counting.old → IsCounted counting.new) }
     ensures signs { (E.meaning engine.new).signs ≡ (E.meaning engine.old).signs }
 {
-    if closed.is_skippable(pass.dot) {
-        closed.set(pass.dot, true);
+    if skippable.is_skippable(pass.dot) {
+        skippable.set(pass.dot, true);
         return Ok(());
     }
     let record = run_pass(engine, dictionary, table, params, pass, counting, windows)?;
-    closed.set(pass.dot, record.left_none());
+    skippable.set(pass.dot, record.left_none());
     records.add_pass(record)?;
     Ok(())
 }
@@ -126,7 +130,7 @@ fn run_length<E: Engine>(
     params: &LevelParams,
     number: u8,
     len: u8,
-    closed: &mut Skippable,
+    skippable: &mut Skippable,
     counting: &mut Counting,
     windows: &mut PassWindows,
     records: &mut Records,
@@ -141,11 +145,11 @@ fn run_length<E: Engine>(
     requires ready { IsReady (over table.now dictionary.now) number len
         (known_of (E.meaning engine.old))
         counting.old }
-    requires counts { WillCount closed.old counting.old }
+    requires counts { WillCount skippable.old counting.old }
     ensures ok { OnOk result (GoesOn (over table.now dictionary.now) number len
         (all_made_by (over table.now dictionary.now) params.now (E.meaning engine.old)
-        (passes_of_length number len)) (point (E.meaning engine.old) records.old closed.old)
-        (point (E.meaning engine.new) records.new closed.new)) }
+        (passes_of_length number len)) (point (E.meaning engine.old) records.old skippable.old)
+        (point (E.meaning engine.new) records.new skippable.new)) }
     ensures begun { OnOk result
         (BeganAll (E.meaning engine.old) (E.meaning engine.new) records.old records.new) }
     ensures few { OnOk result (records.new.begun ≤ records.old.begun + length_passes) }
@@ -164,7 +168,7 @@ fn run_length<E: Engine>(
             dot: dot_at(len, k),
         };
         run_or_skip(
-            engine, dictionary, table, params, pass, closed, counting, windows, records,
+            engine, dictionary, table, params, pass, skippable, counting, windows, records,
         )?;
     }
     Ok(())
@@ -206,7 +210,7 @@ fn run_lengths<E: Engine>(
         counting.new) }
     ensures signs { (E.meaning engine.new).signs ≡ (E.meaning engine.old).signs }
 {
-    let mut closed = Skippable::new();
+    let mut skippable = Skippable::new();
     let end = params.pat_finish + 1;
     'lengths: for len in params.pat_start..end {
         run_length(
@@ -216,12 +220,12 @@ fn run_lengths<E: Engine>(
             params,
             number,
             len,
-            &mut closed,
+            &mut skippable,
             counting,
             windows,
             records,
         )?;
-        closed.next_length();
+        skippable.next_length();
         counting.next_length()?;
     }
     Ok(())

@@ -1,5 +1,5 @@
 -- Totals with a position more.
-use Rattle.std.proofs.Common.{◌≡◌, ℕ, ◌+◌, ◌-◌, ◌≤◌, ◌<◌, Bool, true, false, cond, List, [], ◌∷◌, ◌++◌, length, map, sym, ap, ◌∙◌, arith}
+use Rattle.std.proofs.Common.{◌≡◌, ℕ, ◌+◌, ◌-◌, ◌≤◌, ◌<◌, Bool, true, false, cond, List, [], ◌∷◌, ◌++◌, length, map, sym, ap, subst, ◌∙◌, arith}
 use Rattle.std.specs.List.{flat_map, range_with_len, slice_index_or}
 use Rattle.std.proofs.lemmas.List.Sums.{sum_by-cons, sum_by-append}
 use Rattle.std.proofs.lemmas.List.Elements.{All-get_or}
@@ -84,6 +84,13 @@ marks_step_by t n whole value w p end before is left =
 pub marks_step : (t n whole : Totals) (P : List ((List ℕ × ℕ) × ℕ)) (w : Word) (p end : ℕ) → p < end → n ≡ with_mark t (status_at P w p) (position_weight w p)
     → with_marks t (marks_from P w p end) ≡ whole → with_marks n (marks_from P w (p + 1) end) ≡ whole
 marks_step t n whole P w p end before is left = marks_step_by t n whole (value_at P w.signs) w p end before is left
+
+-- no position is left
+pub marks_done_by : (t whole : Totals) (value : ℕ → ℕ) (w : Word) (p end : ℕ) → end ≤ p → with_marks t (marks_from_by value w p end) ≡ whole → t ≡ whole
+marks_done_by t whole value w p end past left =
+    let none : end - p ≡ 0 = omega arith in
+    let mark : ℕ → Mark × ℕ = λ q. (mark_by value w q, position_weight w q) in
+    sym (marks_none t) ∙ subst (λ n. with_marks t (map mark (range_with_len p n)) ≡ whole) none left
 
 -- a word that was added, and then the rest
 pub marks_word : (t n whole : Totals) (m : Minima) (P : List ((List ℕ × ℕ) × ℕ)) (w : Word) (ws : List Word) → n ≡ with_marks t (marks_in m P w)

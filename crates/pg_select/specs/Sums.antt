@@ -6,19 +6,18 @@ use Rattle.pg_types.specs.declared.marks.Mark.TheVariants.{Error, Missed, Found}
 use Rattle.pg_types.specs.declared.marks.Totals.{Totals}
 use Rattle.pg_dict.specs.Word.{Word}
 use Rattle.pg_translate.specs.Reach.{positions}
-use Rattle.pg_patterns.specs.Values.{value_at}
-use Rattle.pg_select.specs.Statuses.{status_with, position_weight}
+use Rattle.pg_select.specs.Statuses.{status_at, position_weight}
 use Rattle.pg_select.specs.CountedPositions.{Minima}
 use Rattle.pg_select.specs.Windows.{Patterns}
 
--- the status and the weight of each position in reach of a word, by the values of its positions
-abbrev pub marks_by : Minima → (ℕ → ℕ) → Word → List (Mark × ℕ)
-marks_by m value w = map (λ p. (status_with w p (value p), position_weight w p))
+-- the status and the weight of each position in reach of a word whose positions have these statuses
+abbrev pub marks_by : Minima → (ℕ → Mark) → Word → List (Mark × ℕ)
+marks_by m status w = map (λ p. (status p, position_weight w p))
     (positions m.left m.right (length w.signs))
 
 -- the status and the weight of each position in reach, by the patterns
 abbrev pub marks_in : Minima → Patterns → Word → List (Mark × ℕ)
-marks_in m P w = marks_by m (value_at P w.signs) w
+marks_in m P w = marks_by m (status_at P w) w
 
 -- the weights of the positions whose status passes a test
 abbrev pub weight_of : (Mark → Bool) → List (Mark × ℕ) → ℕ

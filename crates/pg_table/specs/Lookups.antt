@@ -7,6 +7,7 @@ use Rattle.pg_types.specs.declared.marks.Totals.{Totals}
 use Rattle.pg_dict.specs.Word.{Word}
 use Rattle.pg_outputs.specs.Lists.{list_of}
 use Rattle.pg_select.specs.CountedPositions.{Minima}
+use Rattle.pg_select.specs.Statuses.{status_with}
 use Rattle.pg_select.specs.Sums.{marks_by, totals_of}
 use Rattle.pg_table.specs.Forms.{head_of, cell_at, records_of}
 
@@ -43,4 +44,5 @@ table_value b w p = fold max 0 (flat_map
 
 -- the totals of all words by the table
 abbrev pub table_totals : Minima → List Word → List ℕ → Totals
-table_totals m words b = totals_of (flat_map (λ w. marks_by m (table_value b w.signs) w) words)
+table_totals m words b = totals_of (flat_map
+    (λ w. marks_by m (λ p. status_with w p (table_value b w.signs p)) w) words)

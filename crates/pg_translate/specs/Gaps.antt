@@ -1,5 +1,5 @@
 -- The signs of a line, and its gaps: the items before, between and behind the signs.
-use Rattle.std.specs.Prelude.{ℕ, ◌-◌, List, length, fold, slice_range, Option, None, Some}
+use Rattle.std.specs.Prelude.{ℕ, ◌-◌, List, [], ◌∷◌, length, slice_range, Option, None, Some}
 use Rattle.std.specs.Option.{is_some}
 use Rattle.std.specs.List.{filter_map, slice_split}
 use Rattle.pg_types.specs.declared.limits.TheConstants.{EDGE}
@@ -38,7 +38,8 @@ mark_of item = None
 
 -- the last of a list, else what is given
 abbrev pub last_else : {X : Type 0} → X → List X → X
-last_else given xs = fold (λ _ x. x) given xs
+last_else given [] = given
+last_else given (x ∷ xs) = last_else x xs
 
 -- the last number of a gap, else what is given
 abbrev pub last_number : ℕ → List Token → ℕ

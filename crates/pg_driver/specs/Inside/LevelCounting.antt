@@ -16,9 +16,9 @@ use Rattle.pg_select.specs.Windows.{Patterns}
 use Rattle.pg_driver.specs.declared.choices.Choices.{Choices}
 use Rattle.pg_driver.specs.declared.counting.Counting.{Counting}
 use Rattle.pg_driver.specs.declared.counting.Counting.TheVariants.{Open, EachWord}
-use Rattle.pg_driver.specs.declared.open_positions.OpenLevel.{OpenLevel}
-use Rattle.pg_driver.specs.declared.word_level.WordLevel.{WordLevel}
-use Rattle.pg_driver.specs.declared.above_positions.Kept.{Kept}
+use Rattle.pg_driver.specs.declared.counting.open_positions.OpenLevel.{OpenLevel}
+use Rattle.pg_driver.specs.declared.counting.word_level.WordLevel.{WordLevel}
+use Rattle.pg_driver.specs.declared.counting.above_positions.Kept.{Kept}
 use Rattle.pg_driver.specs.Accounts.{totals_by}
 use Rattle.pg_dots.specs.Inside.Dots.{is_closed, position_count}
 use Rattle.pg_driver.specs.Inside.Counting.{HasRoom, IsBounded, meaning_after_counting}

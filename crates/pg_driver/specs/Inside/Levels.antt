@@ -99,7 +99,7 @@ pub record IsAt (source : Source) (number len : ℕ)
       start.records at.records
   pub short : list_all (λ p. nat_le p.pass.len len) ps ≡ true
   pub tells : Tells number len at.flags ps
-  pub closed : CountNothing source number ps (known_of at.engine)
+  pub skippable : CountNothing source number ps (known_of at.engine)
 
 -- further passes lead from one point at a length to another
 abbrev pub GoesOn : Source → ℕ → ℕ → List PassTrace → Point → Point → Type 0

@@ -3,6 +3,7 @@ use Rattle.std.specs.Prelude.{◌≡◌, ℕ, ◌+◌, ◌<◌, Bool, false, Lis
 use Rattle.std.specs.Option.{option_map_or}
 use Rattle.pg_translate.specs.Reach.{positions}
 use Rattle.pg_dict.specs.Word.{Word}
+use Rattle.pg_select.specs.declared.pass.Pass.{Pass}
 use Rattle.pg_select.specs.CountedPositions.{Minima, CountedPosition}
 use Rattle.pg_select.specs.Statuses.{position_weight}
 use Rattle.pg_select.specs.Windows.{window}
@@ -20,16 +21,15 @@ abbrev pub open_with : (ℕ → ℕ → Option Bool) → ℕ × ℕ → List Wor
 open_with listed s = option_map_or (λ _. record { word = s.0; at = s.1 } ∷ []) (listed s.0 s.1) []
 
 -- what a pass counts at an open position of a word
-abbrev pub counted_in : ℕ → ℕ → ℕ → Word → ℕ → List CountedPosition
-counted_in level len dot w p =
-    option_map_or (λ good.
-    record { window = window w.signs p len dot; good = good; weight = position_weight w p } ∷ [])
-    (counted_with level w p len dot false) []
+abbrev pub counted_in : Pass → Word → ℕ → List CountedPosition
+counted_in pass w p = let u = window w.signs p pass.len pass.dot in option_map_or
+    (λ good. record { window = u; good = good; weight = position_weight w p } ∷ [])
+    (counted_with pass.level w p pass.len pass.dot false) []
 
 -- what a pass counts at an open position that is given with the number of its word
-abbrev pub counted_of : ℕ → ℕ → ℕ → List Word → WordPosition → List CountedPosition
-counted_of level len dot words e = option_map_or
-    (λ w. counted_in level len dot w e.at) (slice_get words e.word) []
+abbrev pub counted_of : Pass → List Word → WordPosition → List CountedPosition
+counted_of pass words e = option_map_or
+    (λ w. counted_in pass w e.at) (slice_get words e.word) []
 
 -- an open position stands in one of the words
 pub record IsPlaced (words : List Word) (e : WordPosition) : Type 0 where

@@ -1,6 +1,6 @@
 -- A level in which each word is hyphenated in each pass: its positions whose value is above the
 -- level, and the totals.
-use Rattle.std.specs.Prelude.{◌≡◌, ℕ, ◌+◌, ◌*◌, ◌≤◌, Bool, true, false, not, ◌&&◌, if◌then◌else◌, List, [], sum_by, slice_get, Option, None}
+use Rattle.std.specs.Prelude.{◌≡◌, ℕ, ◌+◌, ◌*◌, ◌≤◌, Bool, true, false, not, ◌&&◌, if◌then◌else◌, List, sum_by, Option, None}
 use Rattle.std.specs.List.{flat_map}
 use Rattle.std.specs.Option.{option_map_or}
 use Rattle.std.specs.Ordering.{nat_cmp}
@@ -15,13 +15,13 @@ use Rattle.pg_select.specs.Inside.Choices.{choice}
 use Rattle.pg_select.specs.CountedPositions.{CountedPosition}
 use Rattle.pg_select.specs.Inside.LawsAbove.{counts_above}
 use Rattle.pg_select.specs.Windows.{Patterns}
-use Rattle.pg_driver.specs.declared.above_positions.Kept.{Kept}
+use Rattle.pg_driver.specs.declared.counting.above_positions.Kept.{Kept}
 use Rattle.pg_driver.specs.declared.pass_windows.WordPosition.{WordPosition}
-use Rattle.pg_driver.specs.declared.word_level.WordLevel.{WordLevel}
+use Rattle.pg_driver.specs.declared.counting.word_level.WordLevel.{WordLevel}
 use Rattle.pg_driver.specs.Accounts.{totals_by}
 use Rattle.pg_driver.specs.Inside.Counting.{IsBounded}
 use Rattle.pg_driver.specs.Inside.OpenLevels.{listed_from}
-use Rattle.pg_driver.specs.Inside.OpenPositions.{counted_in}
+use Rattle.pg_driver.specs.Inside.OpenPositions.{counted_of}
 use Rattle.pg_driver.specs.Traces.{Known, Source}
 use Rattle.pg_driver.specs.Inside.Fates.{chooses}
 
@@ -50,17 +50,11 @@ good_kept params counts s = if s.good && was_chosen params counts s.window then 
 abbrev pub bad_kept : LevelParams → Counts → CountedPosition → ℕ
 bad_kept params counts s = if not s.good && was_chosen params counts s.window then s.weight else 0
 
--- a listed position with its window of a pass, where that fits
-abbrev pub window_of : Pass → List Word → WordPosition → List CountedPosition
-window_of pass words e =
-    option_map_or (λ w. counted_in pass.level pass.len pass.dot w e.at)
-    (slice_get words e.word) []
-
 -- the weights of listed positions whose windows were chosen: of the good ones, and of the bad ones
 abbrev pub kept_by : LevelParams → Pass → Counts → List Word → List WordPosition → Kept
 kept_by params pass counts words above = record {
-  good = sum_by (good_kept params counts) (flat_map (window_of pass words) above);
-  bad = sum_by (bad_kept params counts) (flat_map (window_of pass words) above);
+  good = sum_by (good_kept params counts) (flat_map (counted_of pass words) above);
+  bad = sum_by (bad_kept params counts) (flat_map (counted_of pass words) above);
 }
 
 -- sums with those of one position more

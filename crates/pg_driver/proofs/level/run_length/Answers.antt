@@ -41,13 +41,13 @@ dots-preserved g c =
     let k = c.dots.k in
     let source = over c.args.table.now c.args.dictionary.now in
     let all = all_made_by source params m0 (passes_of_length number len) in
-    let on : GoesOn source number len (all_made_by source params m (pass_with number len (dot_at len k) ∷ [])) (point m c.dots.records c.dots.closed)
-    (point n c.run_or_skip.new.records c.run_or_skip.new.closed) =
-    subst (λ (dot : ℕ). GoesOn source number len (all_made_by source params m (pass_with number len dot ∷ [])) (point m c.dots.records c.dots.closed)
-    (point n c.run_or_skip.new.records c.run_or_skip.new.closed)) c.dot_at.ensures.dot c.in_ok-run_or_skip.ensures.ok in
+    let on : GoesOn source number len (all_made_by source params m (pass_with number len (dot_at len k) ∷ [])) (point m c.dots.records c.dots.skippable)
+    (point n c.run_or_skip.new.records c.run_or_skip.new.skippable) =
+    subst (λ (dot : ℕ). GoesOn source number len (all_made_by source params m (pass_with number len dot ∷ [])) (point m c.dots.records c.dots.skippable)
+    (point n c.run_or_skip.new.records c.run_or_skip.new.skippable)) c.dot_at.ensures.dot c.in_ok-run_or_skip.ensures.ok in
     record {
       reaches = λ start ps at.
-          reaches_on source params number len start m n c.dots.records c.run_or_skip.new.records c.dots.closed c.run_or_skip.new.closed
+          reaches_on source params number len start m n c.dots.records c.run_or_skip.new.records c.dots.skippable c.run_or_skip.new.skippable
           (passes_from number len k (len + 1)) (pass_with number len (dot_at len k) ∷ []) (passes_from number len (k + 1) (len + 1)) (ps ++ all) (known_at_end (known_of m0) all)
           (passes_step number len k (len + 1) c.dots-test.true) on (c.dots.invariant.reaches start ps at);
       ready = c.in_ok-run_or_skip.ensures.ready;
@@ -70,7 +70,7 @@ returns-clause-ok g c = λ start ps at.
     let all = all_made_by source c.args.params.now m0 (passes_of_length number len) in
     let ends : c.dots.k ≡ len + 1 = omega arith in
     let none : passes_from number len c.dots.k (len + 1) ≡ [] = ap (λ k. passes_from number len k (len + 1)) ends ∙ none_from number len (len + 1) in
-    at_whole source c.args.params.now number len start (g.E.Engine.meaning c.dots.engine) c.dots.records c.dots.closed (passes_from number len c.dots.k (len + 1))
+    at_whole source c.args.params.now number len start (g.E.Engine.meaning c.dots.engine) c.dots.records c.dots.skippable (passes_from number len c.dots.k (len + 1))
     (ps ++ all) (known_at_end (known_of m0) all) none (c.dots.invariant.reaches start ps at)
 
 pub returns-clause-counted : goal.returns-clause-counted

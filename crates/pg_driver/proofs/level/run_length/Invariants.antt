@@ -14,11 +14,11 @@ invariant-dots g l =
     let source = over l.table l.dictionary in
     let all = all_made_by source l.params m0 (passes_of_length l.number l.len) in
     record {
-      reaches : (start : LevelStart) (ps : List PassTrace) → IsAt source l.number l.len start ps (point m0 l.fn.records l.fn.closed)
-          → Reaches source l.params l.number l.len start m l.records l.closed (passes_from l.number l.len l.k l.end) (ps ++ all) (known_at_end (known_of m0) all);
+      reaches : (start : LevelStart) (ps : List PassTrace) → IsAt source l.number l.len start ps (point m0 l.fn.records l.fn.skippable)
+          → Reaches source l.params l.number l.len start m l.records l.skippable (passes_from l.number l.len l.k l.end) (ps ++ all) (known_at_end (known_of m0) all);
       ready : IsReady source l.number l.len (known_of m) l.counting;
-      here : l.closed.here ≡ l.fn.closed.here;
-      will : WillCount l.closed l.counting;
+      here : l.skippable.here ≡ l.fn.skippable.here;
+      will : WillCount l.skippable l.counting;
       counted : 1 ≤ l.k → IsCounted l.counting;
       signs : m.signs ≡ m0.signs;
       begun : m.begun + l.fn.records.begun ≡ m0.begun + l.records.begun;

@@ -14,12 +14,12 @@ lengths-init g c =
     record {
       reaches = record {
         done = [];
-        at = at_level_start source c.args.number c.args.params.now.pat_start m0 c.args.records.now c.new-closed.result c.requires.chosen c.new-closed.ensures.here c.new-closed.ensures.longer;
+        at = at_level_start source c.args.number c.args.params.now.pat_start m0 c.args.records.now c.new-skippable.result c.requires.chosen c.new-skippable.ensures.here c.new-skippable.ensures.longer;
         left = refl;
         known = refl;
       };
       ready = c.requires.ready c.args.params.now.pat_start;
-      will = inl c.new-closed.ensures.here;
+      will = inl c.new-skippable.ensures.here;
       counted = λ some. absurd (omega arith);
       signs = refl;
       begun = refl;
@@ -40,13 +40,13 @@ lengths-preserved g c =
     let source = over c.args.table.now c.args.dictionary.now in
     let start : LevelStart = record { engine = m0; records = c.args.records.now } in
     let all = all_made_by source params m0 (passes_of number params) in
-    let reached = reaches_on source params number len start m n c.lengths.records c.run_length.new.records c.lengths.closed c.run_length.new.closed
+    let reached = reaches_on source params number len start m n c.lengths.records c.run_length.new.records c.lengths.skippable c.run_length.new.skippable
     (lengths_from number len end) (passes_of_length number len) (lengths_from number (len + 1) end) all (known_at_end (known_of m0) all)
     (lengths_step number len end c.lengths-test.true) c.in_ok-run_length.ensures.ok c.lengths.invariant.reaches in
     record {
       reaches = record {
         done = reached.done;
-        at = at_next source number len start reached.done n c.run_length.new.records c.run_length.new.closed c.next_length.new.self c.next_length.ensures.here c.next_length.ensures.longer reached.at;
+        at = at_next source number len start reached.done n c.run_length.new.records c.run_length.new.skippable c.next_length.new.self c.next_length.ensures.here c.next_length.ensures.longer reached.at;
         left = reached.left;
         known = reached.known;
       };
@@ -71,7 +71,7 @@ returns-clause-state g c =
     let all = all_made_by source params m0 (passes_of number params) in
     let ends : c.lengths.len ≡ end = omega (arith, c.requires.level.start_high) in
     let none : lengths_from number c.lengths.len end ≡ [] = ap (λ len. lengths_from number len end) ends ∙ no_lengths number end in
-    (at_whole source params number c.lengths.len start (g.E.Engine.meaning c.lengths.engine) c.lengths.records c.lengths.closed (lengths_from number c.lengths.len end) all
+    (at_whole source params number c.lengths.len start (g.E.Engine.meaning c.lengths.engine) c.lengths.records c.lengths.skippable (lengths_from number c.lengths.len end) all
     (known_at_end (known_of m0) all) none c.lengths.invariant.reaches).0.state
 
 pub returns-clause-records : goal.returns-clause-records
@@ -85,7 +85,7 @@ returns-clause-records g c =
     let all = all_made_by source params m0 (passes_of number params) in
     let ends : c.lengths.len ≡ end = omega (arith, c.requires.level.start_high) in
     let none : lengths_from number c.lengths.len end ≡ [] = ap (λ len. lengths_from number len end) ends ∙ no_lengths number end in
-    (at_whole source params number c.lengths.len start (g.E.Engine.meaning c.lengths.engine) c.lengths.records c.lengths.closed (lengths_from number c.lengths.len end) all
+    (at_whole source params number c.lengths.len start (g.E.Engine.meaning c.lengths.engine) c.lengths.records c.lengths.skippable (lengths_from number c.lengths.len end) all
     (known_at_end (known_of m0) all) none c.lengths.invariant.reaches).0.records
 
 pub returns-clause-ready : goal.returns-clause-ready

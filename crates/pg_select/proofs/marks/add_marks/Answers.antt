@@ -5,7 +5,7 @@ use Rattle.pg_select.specs.Statuses.{status, position_weight}
 use Rattle.pg_select.specs.Inside.SumSteps.{with_mark, sum_of}
 use Rattle.pg_types.specs.declared.marks.Mark.{Mark}
 use Rattle.pg_types.specs.declared.limits.TheConstants.{WEIGHT_MAX}
-use Rattle.pg_select.proofs.MarkSteps.{marks_step_by, mark_took, weight_small}
+use Rattle.pg_select.proofs.MarkSteps.{marks_done_by, marks_step_by, mark_took, weight_small}
 use Rattle.pg_select.proofs.marks.add_marks.Goals as goal
 
 pub positions-preserved : goal.positions-preserved
@@ -27,3 +27,7 @@ positions-preserved c =
       few = omega arith;
       took_for = omega (arith, c.positions.invariant.took_for);
     }
+
+pub returns-clause-value : goal.returns-clause-value
+returns-clause-value c = λ value values.
+    marks_done_by c.positions.sums _ value (lent_word c.args.w.now) c.positions.p c.in-Some.end c.positions-test.false (c.positions.invariant.sums value values)

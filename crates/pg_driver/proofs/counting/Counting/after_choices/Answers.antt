@@ -3,7 +3,7 @@ use Rattle.pg_dots.specs.Inside.Dots.{is_closed}
 use Rattle.pg_select.specs.declared.choice.Choice.{Choice}
 use Rattle.pg_driver.specs.declared.counting.Counting.{Counting}
 use Rattle.pg_driver.specs.declared.counting.Counting.TheVariants.{Open}
-use Rattle.pg_driver.specs.declared.open_positions.OpenLevel.{OpenLevel}
+use Rattle.pg_driver.specs.declared.counting.open_positions.OpenLevel.{OpenLevel}
 use Rattle.pg_driver.specs.Inside.LevelCounting.{AreNumberedIn, AreNumberedOpen, GoesOnAfter}
 use Rattle.pg_driver.specs.Inside.OpenSigns.{ClosesBy, closed_after, open_signs, sign_count}
 use Rattle.pg_driver.proofs.OpenCloses.{closes_signs}

@@ -1,5 +1,5 @@
 use Rattle.std.proofs.Common.{refl, subst, ap, ◌∙◌}
-use Rattle.pg_driver.specs.declared.open_positions.OpenLevel.{OpenLevel}
+use Rattle.pg_driver.specs.declared.counting.open_positions.OpenLevel.{OpenLevel}
 use Rattle.pg_driver.specs.Inside.Counting.{meaning_after_counting}
 use Rattle.pg_driver.specs.Inside.LevelCounting.{IsOpenAt, IsReady}
 use Rattle.pg_driver.specs.Inside.RunAccounts.{known_of}

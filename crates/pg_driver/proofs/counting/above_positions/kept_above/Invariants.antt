@@ -1,0 +1,16 @@
+use Rattle.std.proofs.Common.{◌≡◌, drop}
+use Rattle.pg_types.specs.declared.parameters.LevelParams.{LevelParams}
+use Rattle.pg_types.specs.Inside.Counts.{Counts}
+use Rattle.pg_types.specs.Inside.NumberedWindows.{AreNumbered, Windows}
+use Rattle.pg_driver.specs.Inside.PassWindows.{AreFates, HaveNumbers, is_counted_at}
+use Rattle.pg_driver.specs.Inside.WordLevels.{TookKept, kept_by, with_kept}
+use Rattle.pg_driver.proofs.counting.above_positions.kept_above.Given as goal
+
+abbrev pub invariant-positions : goal.invariant-positions
+invariant-positions l =
+    record {
+      whole : (params : LevelParams) (counts : Counts) (ws : Windows) → AreNumbered ws counts → AreFates params counts ws l.fates
+          → HaveNumbers l.pass (is_counted_at l.pass counts) l.dictionary ws l.above l.numbers
+          → with_kept l.kept (kept_by params l.pass counts l.dictionary (drop l.k l.above)) ≡ kept_by params l.pass counts l.dictionary l.above;
+      took : TookKept (record { good = 0; bad = 0 }) l.kept l.k;
+    }

@@ -1,0 +1,117 @@
+use Rattle.std.proofs.Common.{◌≡◌, ◌+◌, ◌-◌, ◌<◌, ◌≤◌, ℕ, List, Bool, Some, true, false, not, ◌&&◌, slice_get, drop, length, inl, inr, refl, ap, sym, ◌∙◌, arith, rules}
+use Rattle.std.specs.List.{flat_map}
+use Rattle.std.proofs.lemmas.Bool.{cases_lt}
+use Rattle.std.proofs.lemmas.Option.{slice_get_within}
+use Rattle.pg_dots.specs.Inside.Dots.{is_closed, position_count as places_in}
+use Rattle.pg_dict.specs.Inside.Lent.{lent_word}
+use Rattle.pg_select.specs.CountedPositions.{minima_of}
+use Rattle.pg_dict.specs.Word.{Word}
+use Rattle.pg_select.specs.Sums.{marks_in}
+use Rattle.pg_select.specs.Inside.SumSteps.{with_marks}
+use Rattle.pg_select.proofs.MarkSteps.{marks_word}
+use Rattle.pg_driver.specs.Inside.OpenSigns.{is_open_first, start_of}
+use Rattle.pg_driver.proofs.OpenFirst.{opens_before, opens_behind}
+use Rattle.pg_driver.proofs.OpenSigns.{sign_within, signs_few, start_before, start_next, start_past, start_zero}
+use Rattle.pg_driver.proofs.WordSteps.{all_reached, drop_place, letters_left, reached_on, signs_within}
+use Rattle.pg_driver.proofs.counting.open_positions.open_level.Goals as goal
+
+pub open_word-requires-clause-signs : goal.open_word-requires-clause-signs
+open_word-requires-clause-signs g c = signs_within _ c.args.dictionary.now c.words.i (lent_word c.word-w.result) c.word-w.ensures.lent c.requires c.word-w.ensures.word
+
+pub open_word-requires-clause-room : goal.open_word-requires-clause-room
+open_word-requires-clause-room g c = omega (arith, letters_left c.args.dictionary.now c.words.i (lent_word c.word-w.result) c.word-w.ensures.lent, c.words.invariant.room_for)
+
+all_true : (b : Bool) → (b && true) ≡ b
+all_true true = refl
+all_true false = refl
+
+pub words-preserved : goal.words-preserved
+words-preserved g c =
+    let P = (g.E.Engine.meaning c.args.engine.now).patterns in
+    let minima = minima_of c.args.table.now in
+    let words = c.args.dictionary.now in
+    let w = lent_word c.word-w.result in
+    let lent = c.word-w.ensures.lent in
+    let before = c.words.opened in
+    let inv = c.words.invariant in
+    let start = c.words.start in
+    let wide : places_in c.open_word.new.opened.dots ≡ places_in before.dots = c.open_word.ensures.size in
+    let dots : (d s : ℕ) → s < places_in before.dots → is_closed c.open_word.new.opened.dots d s
+    ≡ (not (is_open_first minima c.args.level P w (s - start)) && is_closed before.dots d s) = c.open_word.ensures.closed in
+    record {
+      size = omega (arith, inv.size);
+      few = omega (arith, inv.few);
+      none = c.open_word.ensures.none;
+      starts = ap (λ k. k + length w.signs) inv.starts ∙ sym (start_next words c.words.i w lent);
+      before = λ d n p v low at inside.
+          let s = start_of words n + p in
+          let lies : s < places_in before.dots = omega (arith, sign_within words n p v at inside, inv.size) in
+          elim (cases_lt n c.words.i) [
+            | inl earlier ↦
+                dots d s lies
+                ∙ opens_before minima c.args.level P w start s (is_closed before.dots d s) (omega (arith, start_before words n c.words.i v at earlier, inv.starts))
+                ∙ inv.before d n p v earlier at inside
+            | inr from ↦
+                let here : n ≡ c.words.i = omega arith in
+                let both : Some v ≡ Some w = sym at ∙ ap (slice_get words) here ∙ lent in
+                let same : w ≡ v = cc in
+                let place : s - start ≡ p = (let begins = ap (start_of words) here in omega (arith, inv.starts)) in
+                let behind : start ≤ s = (let begins = ap (start_of words) here in omega (arith, inv.starts)) in
+                dots d s lies
+                ∙ ap (λ b. not (is_open_first minima c.args.level P w (s - start)) && b) (inv.later d s behind lies)
+                ∙ all_true (not (is_open_first minima c.args.level P w (s - start)))
+                ∙ (λ k. not (is_open_first minima c.args.level P (same k) (place k)))
+          ];
+      later = λ d s from low.
+          let lies : s < places_in before.dots = omega arith in
+          dots d s lies ∙ opens_behind minima c.args.level P w (s - start) (is_closed before.dots d s) (omega arith) ∙ inv.later d s (omega arith) lies;
+      sums = marks_word before.totals _ _ minima P w (drop (c.words.i + 1) words) c.open_word.ensures.totals
+          (ap (λ (ws : List Word). with_marks before.totals (flat_map (marks_in minima P) ws)) (sym (drop_place words c.words.i w lent)) ∙ inv.sums);
+      reached = reached_on minima words c.words.i w lent c.open_word.ensures.reached inv.reached;
+      room_for = omega (arith, letters_left words c.words.i w lent, inv.room_for, c.open_word.ensures.took);
+    }
+
+pub closed-requires : goal.closed-requires
+closed-requires g c =
+    let all = ap (λ (xs : List ℕ). length xs) c.all_signs-signs.ensures in
+    omega (arith, signs_few c.args.dictionary.now c.len-count.ensures.words, c.len-count.ensures.letters)
+
+pub words-init : goal.words-init
+words-init g c =
+    let all = ap (λ (xs : List ℕ). length xs) c.all_signs-signs.ensures in
+    let few = signs_few c.args.dictionary.now c.len-count.ensures.words in
+    record {
+      size = omega (arith, c.in_ok-dots.ensures.size);
+      few = omega (arith, c.in_ok-dots.ensures.few, c.len-count.ensures.letters);
+      none = c.in_ok-dots.ensures.none;
+      starts = start_zero c.args.dictionary.now;
+      before = λ d n p w low at inside. absurd (omega arith);
+      later = λ d s from low. c.in_ok-dots.ensures.closed d s low;
+      sums = search rules;
+      reached = omega arith;
+      room_for = search rules;
+    }
+
+pub open_word-requires-clause-within : goal.open_word-requires-clause-within
+open_word-requires-clause-within g c =
+    let w = lent_word c.word-w.result in
+    let behind = start_before c.args.dictionary.now c.words.i (length c.args.dictionary.now) w c.word-w.ensures.lent (omega (arith, c.words-test.true, c.len-count.ensures.len)) in
+    let whole = start_past c.args.dictionary.now (length c.args.dictionary.now) (omega arith) in
+    omega (arith, behind, whole, c.words.invariant.starts, c.words.invariant.size)
+
+pub overflow_add-start : goal.overflow_add-start
+overflow_add-start g c =
+    let w = lent_word c.word-w.result in
+    let behind = start_before c.args.dictionary.now c.words.i (length c.args.dictionary.now) w c.word-w.ensures.lent (omega (arith, c.words-test.true, c.len-count.ensures.len)) in
+    let whole = start_past c.args.dictionary.now (length c.args.dictionary.now) (omega arith) in
+    omega (arith, behind, whole, c.words.invariant.starts, c.words.invariant.size, c.words.invariant.few)
+
+pub returns-clause-bounded : goal.returns-clause-bounded
+returns-clause-bounded g c = record {
+  few = record { each = c.len-count.ensures.words; letters = c.len-count.ensures.letters };
+  reached = all_reached (minima_of c.args.table.now) c.args.dictionary.now c.words.i (omega (arith, c.words-test.false, c.len-count.ensures.len)) c.words.invariant.reached;
+}
+
+pub returns-clause-closed : goal.returns-clause-closed
+returns-clause-closed g c = λ d n p w at low. c.words.invariant.before d n p w (let within = slice_get_within c.args.dictionary.now n w at in
+    omega (arith, c.words-test.false, c.len-count.ensures.len)) at low

@@ -1,0 +1,33 @@
+use Rattle.std.proofs.Common.{◌≡◌, true, is_some, cond, Bool, List, ℕ, ◌++◌, ◌∷◌, [], sym, ap, ◌∙◌}
+use Rattle.pg_dict.specs.Inside.Lent.{lent_word}
+use Rattle.pg_select.specs.CountedPositions.{counted_positions_at}
+use Rattle.pg_select.specs.Inside.LawsAbove.{counts_above}
+use Rattle.pg_driver.proofs.AboveNumbers.{above_found, is_some_above, number_noted}
+use Rattle.pg_driver.proofs.counting.words.count_position.Goals as goal
+
+pub returns-in_ok-push-clause-numbers : goal.returns-in_ok-push-clause-numbers
+returns-in_ok-push-clause-numbers g c = λ words entries at have.
+    let m = g.E.Engine.meaning c.args.engine.now in
+    let n = g.E.Engine.meaning c.count_at.new.engine in
+    let w = lent_word c.args.w.now in
+    let pass = c.args.pass in
+    let ns : List ℕ = c.args.numbers.now.items in
+    let above : is_some (counts_above pass.level m.patterns w c.args.p) ≡ true =
+    sym (above_found m w c.args.found.now pass.level c.args.p c.mark_at-mark.result c.requires.read c.requires.within c.mark_at-mark.ensures)
+    ∙ sym (c.is_above.ensures ∙ ap (is_some_above pass.level c.args.found.now c.args.p) c.counts_as-good.ensures) ∙ c.if-is_above.true in
+    number_noted pass m.patterns m.hopeless words m n (counted_positions_at m.pass m.patterns m.hopeless w c.args.p) entries ns c.push.new.self.items
+    w c.args.word c.args.p c.in_ok-number.number c.in_ok-number.ensures.ok at c.in_ok-number.ensures.number
+    (c.in_ok-push.ensures.items ∙ ap (λ (b : Bool). cond b (ns ++ c.in_ok-number.number ∷ []) ns) (sym above)) have
+
+pub returns-else-is_above-clause-numbers : goal.returns-else-is_above-clause-numbers
+returns-else-is_above-clause-numbers g c = λ words entries at have.
+    let m = g.E.Engine.meaning c.args.engine.now in
+    let n = g.E.Engine.meaning c.count_at.new.engine in
+    let w = lent_word c.args.w.now in
+    let pass = c.args.pass in
+    let ns : List ℕ = c.args.numbers.now.items in
+    let above = sym (above_found m w c.args.found.now pass.level c.args.p c.mark_at-mark.result c.requires.read c.requires.within c.mark_at-mark.ensures)
+    ∙ sym (c.is_above.ensures ∙ ap (is_some_above pass.level c.args.found.now c.args.p) c.counts_as-good.ensures) ∙ c.if-is_above.false in
+    number_noted pass m.patterns m.hopeless words m n (counted_positions_at m.pass m.patterns m.hopeless w c.args.p) entries ns ns w c.args.word c.args.p
+    c.in_ok-number.number c.in_ok-number.ensures.ok at c.in_ok-number.ensures.number
+    (ap (λ (b : Bool). cond b (ns ++ c.in_ok-number.number ∷ []) ns) (sym above)) have

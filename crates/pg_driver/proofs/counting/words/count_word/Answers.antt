@@ -1,0 +1,159 @@
+use Rattle.std.proofs.Common.{◌≡◌, ℕ, ◌≤◌, ◌<◌, ◌+◌, ◌-◌, ◌++◌, Bool, List, length, refl, sym, ap, subst, ◌∙◌, append-nil, append_assoc, arith}
+use Rattle.pg_dict.specs.Inside.Lent.{lent_word}
+use Rattle.pg_dict.specs.Inside.SoundWords.{letter_count}
+use Rattle.pg_select.specs.Inside.Meanings.{Meaning}
+use Rattle.pg_select.specs.declared.pass.Pass.{Pass}
+use Rattle.pg_select.specs.CountedPositions.{counted_positions_at, minima_of}
+use Rattle.pg_driver.specs.declared.pass_windows.WordPosition.{WordPosition}
+use Rattle.pg_driver.specs.Inside.OpenLevels.{listed_in, open_as}
+use Rattle.pg_driver.specs.Inside.PassWindows.{HaveNumbers, uncovered_at}
+use Rattle.pg_driver.proofs.OpenSteps.{position_added}
+use Rattle.pg_select.specs.Inside.LawsAbove.{counts_above}
+use Rattle.pg_driver.specs.Inside.WordLevels.{listing}
+use Rattle.pg_driver.proofs.WordLevels.{none_listed_in}
+use Rattle.pg_select.specs.Statuses.{status_at, position_weight}
+use Rattle.pg_types.specs.declared.limits.TheConstants.{WEIGHT_MAX}
+use Rattle.pg_driver.specs.Inside.Counting.{IsRead}
+use Rattle.pg_select.specs.Inside.SumSteps.{with_mark, sum_of}
+use Rattle.pg_select.proofs.MarkSteps.{marks_step, mark_took, weight_small}
+use Rattle.pg_driver.proofs.Rooms.{room_left, took_less}
+use Rattle.pg_driver.proofs.Walks.{kept_on, read_on, position_step, room_on, counted_done, marks_done, listed_done}
+use Rattle.pg_driver.proofs.WordSteps.{reach_few}
+use Rattle.pg_driver.proofs.counting.words.count_word.Goals as goal
+
+pub count_position-requires-clause-pass : goal.count_position-requires-clause-pass
+count_position-requires-clause-pass g c = ap (λ (m : Meaning). m.pass) c.positions.invariant.kept ∙ c.requires.pass
+
+pub count_position-requires-clause-read : goal.count_position-requires-clause-read
+count_position-requires-clause-read g c =
+    let m0 = g.E.Engine.meaning c.args.engine.now in
+    let read : IsRead m0 (lent_word c.args.w.now) c.hyphenate.new.out =
+    record { word = c.requires.word; signs = c.requires.signs; values = c.hyphenate.ensures.values; covers = c.hyphenate.ensures.covers } in
+    read_on m0 _ (lent_word c.args.w.now) _ c.positions.invariant.kept read
+
+pub count_position-requires-clause-room : goal.count_position-requires-clause-room
+count_position-requires-clause-room g c = room_left _ _ _ _ 1 c.requires.room c.positions.invariant.took (omega (arith, c.positions-test.true, c.in-Some.ensures.few))
+
+pub positions-preserved : goal.positions-preserved
+positions-preserved g c =
+    let m0 = g.E.Engine.meaning c.args.engine.now in
+    let m = g.E.Engine.meaning c.positions.engine in
+    let w = lent_word c.args.w.now in
+    let n = g.E.Engine.meaning c.count_position.new.engine in
+    let pass = c.args.pass in
+    let kept = c.positions.invariant.kept in
+    let f : ℕ → List WordPosition = λ q. open_as c.args.word q (counts_above c.args.pass.level m0.patterns w q) in
+    let within : c.positions.p < length w.signs = omega (arith, c.positions-test.true, c.in-Some.ensures.within) in
+    let long : 1 ≤ m.pass.len =
+    let e : m.pass.len ≡ c.args.pass.len = ap (λ (m : Meaning). m.pass.len) kept ∙ ap (λ (pass : Pass). pass.len) c.requires.pass in
+    omega (arith, c.requires.ranges.len_low) in
+    let small : position_weight w c.positions.p ≤ WEIGHT_MAX = weight_small w c.positions.p c.requires.word within in
+    let sums : c.count_position.new.sums ≡ with_mark c.positions.sums (status_at m0.patterns w c.positions.p) (position_weight w c.positions.p) =
+    c.in_ok-count_position.ensures.sums ∙ ap (λ (x : Meaning). with_mark c.positions.sums (status_at x.patterns w c.positions.p) (position_weight w c.positions.p)) kept in
+    let took : sum_of c.count_position.new.sums ≤ sum_of c.positions.sums + position_weight w c.positions.p =
+    rw sums (mark_took c.positions.sums (status_at m0.patterns w c.positions.p) (position_weight w c.positions.p)) in
+    let few : c.positions.p - c.in-Some.first + 1 ≤ letter_count w = omega (arith, c.positions-test.true, c.in-Some.ensures.few, c.positions.auto) in
+    let on : c.positions.p + 1 - c.in-Some.first ≡ c.positions.p - c.in-Some.first + 1 = omega (arith, c.positions.auto) in
+    record {
+      kept = kept_on m0 m _ (counted_positions_at m.pass m.patterns m.hopeless w c.positions.p) kept c.in_ok-count_position.ensures.ok;
+      whole = position_step m0 m _ _ w c.positions.p c.in-Some.end c.positions-test.true kept c.in_ok-count_position.ensures.ok c.positions.invariant.whole;
+      few = omega arith;
+      took = rw on (room_on m0 m _ w c.positions.p (c.positions.p - c.in-Some.first) (letter_count w) long c.requires.word within c.requires.room
+          (omega arith) c.positions.invariant.took c.in_ok-count_position.ensures.ok);
+      sums = marks_step c.positions.sums _ _ m0.patterns w c.positions.p c.in-Some.end c.positions-test.true sums c.positions.invariant.sums;
+      took_for = omega (arith, c.positions.invariant.took_for);
+      listed = c.positions.invariant.listed ++ f c.positions.p;
+      upto = position_added f c.positions.invariant.listed (c.positions.invariant.listed ++ f c.positions.p)
+          (listed_in (minima_of c.args.table.now) (counts_above c.args.pass.level m0.patterns) c.args.word w) c.positions.p c.in-Some.end c.positions-test.true refl c.positions.invariant.upto;
+      numbers = λ words entries at before.
+          let now : HaveNumbers pass (uncovered_at pass m.patterns m.hopeless) words m.windows (entries ++ c.positions.invariant.listed) c.positions.numbers.items =
+          subst (λ (x : Meaning). HaveNumbers pass (uncovered_at pass x.patterns x.hopeless) words m.windows (entries ++ c.positions.invariant.listed) c.positions.numbers.items)
+          (sym kept) (c.positions.invariant.numbers words entries at before) in
+          let then = c.in_ok-count_position.ensures.numbers words (entries ++ c.positions.invariant.listed) at now in
+          subst (λ (es : List WordPosition). HaveNumbers pass (uncovered_at pass m0.patterns m0.hopeless) words n.windows es c.count_position.new.numbers.items)
+          (append_assoc entries c.positions.invariant.listed (f c.positions.p))
+          (subst (λ (x : Meaning). HaveNumbers pass (uncovered_at pass x.patterns x.hopeless) words n.windows
+          ((entries ++ c.positions.invariant.listed) ++ open_as c.args.word c.positions.p (counts_above pass.level x.patterns w c.positions.p)) c.count_position.new.numbers.items) kept then);
+    }
+
+pub returns-in_ok-list_above-clause-above : goal.returns-in_ok-list_above-clause-above
+returns-in_ok-list_above-clause-above g c =
+    let P = (g.E.Engine.meaning c.args.engine.now).patterns in
+    let w = lent_word c.args.w.now in
+    c.in_ok-list_above.ensures P c.hyphenate.ensures.values
+    ∙ ap (λ (lists : Bool). c.args.above.now.items ++ listed_in (minima_of c.args.table.now) (listing lists c.args.pass.level P) c.args.word w) (sym c.if-lists.true)
+
+pub returns-else-lists-clause-above : goal.returns-else-lists-clause-above
+returns-else-lists-clause-above g c =
+    let P = (g.E.Engine.meaning c.args.engine.now).patterns in
+    let w = lent_word c.args.w.now in
+    let minima = minima_of c.args.table.now in
+    sym (append-nil c.args.above.now.items)
+    ∙ ap (λ (es : List WordPosition). c.args.above.now.items ++ es) (sym (none_listed_in minima c.args.pass.level P c.args.word w))
+    ∙ ap (λ (lists : Bool). c.args.above.now.items ++ listed_in minima (listing lists c.args.pass.level P) c.args.word w) (sym c.if-lists.false)
+
+pub returns-in_ok-list_above-clause-ok : goal.returns-in_ok-list_above-clause-ok
+returns-in_ok-list_above-clause-ok g c =
+    let m0 = g.E.Engine.meaning c.args.engine.now in
+    counted_done (g.E.Engine.meaning c.positions.engine) _ (counted_positions_at m0.pass m0.patterns m0.hopeless (lent_word c.args.w.now)) c.positions.p
+    c.in-Some.end c.positions-test.false c.positions.invariant.whole
+
+pub returns-in_ok-list_above-clause-sums : goal.returns-in_ok-list_above-clause-sums
+returns-in_ok-list_above-clause-sums g c =
+    let m0 = g.E.Engine.meaning c.args.engine.now in
+    marks_done c.positions.sums _ m0.patterns (lent_word c.args.w.now) c.positions.p c.in-Some.end c.positions-test.false c.positions.invariant.sums
+
+pub returns-in_ok-list_above-clause-numbers : goal.returns-in_ok-list_above-clause-numbers
+returns-in_ok-list_above-clause-numbers g c = λ words entries at before.
+    let m0 = g.E.Engine.meaning c.args.engine.now in
+    let m = g.E.Engine.meaning c.positions.engine in
+    let pass = c.args.pass in
+    let w = lent_word c.args.w.now in
+    let f : ℕ → List WordPosition = λ q. open_as c.args.word q (counts_above pass.level m0.patterns w q) in
+    let all = listed_done f c.positions.invariant.listed (listed_in (minima_of c.args.table.now) (counts_above pass.level m0.patterns) c.args.word w)
+    c.positions.p c.in-Some.end c.positions-test.false c.positions.invariant.upto in
+    subst (λ (es : List WordPosition). HaveNumbers pass (uncovered_at pass m0.patterns m0.hopeless) words m.windows (entries ++ es) c.positions.numbers.items) all
+    (c.positions.invariant.numbers words entries at before)
+
+pub returns-in_ok-list_above-clause-reached : goal.returns-in_ok-list_above-clause-reached
+returns-in_ok-list_above-clause-reached g c = reach_few _ c.in-Some.first c.in-Some.end _ c.in-Some.ensures.some c.in-Some.ensures.few
+
+pub returns-in_ok-list_above-clause-took : goal.returns-in_ok-list_above-clause-took
+returns-in_ok-list_above-clause-took g c =
+    took_less (g.E.Engine.meaning c.args.engine.now).counts (g.E.Engine.meaning c.positions.engine).counts _ _ c.positions.invariant.few c.positions.invariant.took
+
+pub returns-in_ok-list_above-clause-signs : goal.returns-in_ok-list_above-clause-signs
+returns-in_ok-list_above-clause-signs g c = ap (λ (m : Meaning). m.signs) c.positions.invariant.kept
+
+pub returns-else-lists-clause-ok : goal.returns-else-lists-clause-ok
+returns-else-lists-clause-ok g c =
+    let m0 = g.E.Engine.meaning c.args.engine.now in
+    counted_done (g.E.Engine.meaning c.positions.engine) _ (counted_positions_at m0.pass m0.patterns m0.hopeless (lent_word c.args.w.now)) c.positions.p
+    c.in-Some.end c.positions-test.false c.positions.invariant.whole
+
+pub returns-else-lists-clause-sums : goal.returns-else-lists-clause-sums
+returns-else-lists-clause-sums g c =
+    let m0 = g.E.Engine.meaning c.args.engine.now in
+    marks_done c.positions.sums _ m0.patterns (lent_word c.args.w.now) c.positions.p c.in-Some.end c.positions-test.false c.positions.invariant.sums
+
+pub returns-else-lists-clause-numbers : goal.returns-else-lists-clause-numbers
+returns-else-lists-clause-numbers g c = λ words entries at before.
+    let m0 = g.E.Engine.meaning c.args.engine.now in
+    let m = g.E.Engine.meaning c.positions.engine in
+    let pass = c.args.pass in
+    let w = lent_word c.args.w.now in
+    let f : ℕ → List WordPosition = λ q. open_as c.args.word q (counts_above pass.level m0.patterns w q) in
+    let all = listed_done f c.positions.invariant.listed (listed_in (minima_of c.args.table.now) (counts_above pass.level m0.patterns) c.args.word w)
+    c.positions.p c.in-Some.end c.positions-test.false c.positions.invariant.upto in
+    subst (λ (es : List WordPosition). HaveNumbers pass (uncovered_at pass m0.patterns m0.hopeless) words m.windows (entries ++ es) c.positions.numbers.items) all
+    (c.positions.invariant.numbers words entries at before)
+
+pub returns-else-lists-clause-reached : goal.returns-else-lists-clause-reached
+returns-else-lists-clause-reached g c = reach_few _ c.in-Some.first c.in-Some.end _ c.in-Some.ensures.some c.in-Some.ensures.few
+
+pub returns-else-lists-clause-took : goal.returns-else-lists-clause-took
+returns-else-lists-clause-took g c =
+    took_less (g.E.Engine.meaning c.args.engine.now).counts (g.E.Engine.meaning c.positions.engine).counts _ _ c.positions.invariant.few c.positions.invariant.took
+
+pub returns-else-lists-clause-signs : goal.returns-else-lists-clause-signs
+returns-else-lists-clause-signs g c = ap (λ (m : Meaning). m.signs) c.positions.invariant.kept

@@ -1,0 +1,105 @@
+use Rattle.std.proofs.Common.{◌≡◌, ◌+◌, ◌++◌, ℕ, None, Some, List, [], drop, length, refl, ap, subst, sym, ◌∙◌, arith, rules}
+use Rattle.std.specs.List.{flat_map, sum_by}
+use Rattle.pg_dict.specs.Inside.Lent.{lent_word}
+use Rattle.pg_dict.specs.Word.{Word}
+use Rattle.pg_dict.specs.Inside.SoundWords.{letter_count}
+use Rattle.pg_types.specs.Inside.Counts.{Counts, SignsWithin}
+use Rattle.pg_select.specs.Inside.Meanings.{Meaning}
+use Rattle.pg_select.specs.CountedPositions.{counted_positions, minima_of}
+use Rattle.pg_select.specs.Inside.WordCounts.{counted_positions_in}
+use Rattle.pg_select.specs.Sums.{marks_in}
+use Rattle.pg_select.specs.Inside.SumSteps.{with_marks}
+use Rattle.pg_driver.specs.Inside.Counting.{HasRoom, meaning_after_counting}
+use Rattle.pg_select.proofs.MarkSteps.{marks_word}
+use Rattle.pg_driver.specs.Inside.OpenLevels.{listed_in}
+use Rattle.pg_select.specs.Inside.LawsAbove.{counts_above}
+use Rattle.pg_driver.specs.declared.pass_windows.WordPosition.{WordPosition}
+use Rattle.pg_driver.specs.Inside.PassWindows.{HaveNumbers, uncovered_at}
+use Rattle.pg_driver.specs.Inside.WordLevels.{listing}
+use Rattle.pg_driver.proofs.OpenSteps.{few_words, word_added}
+use Rattle.pg_driver.proofs.Rooms.{room_left, room_less, room_none}
+use Rattle.pg_driver.proofs.Walks.{kept_on, word_step}
+use Rattle.pg_driver.proofs.WordSteps.{all_reached, drop_place, letters_left, reached_on, signs_within}
+use Rattle.pg_driver.proofs.counting.words.count_words.Goals as goal
+
+pub overflow_cast-i : goal.overflow_cast-i
+overflow_cast-i g c = omega (arith, few_words c.args.dictionary.now c.len-i-end.ensures.words, c.len-i-end.ensures.letters, c.len-i-end.ensures.len, c.words-test.true)
+
+pub count_word-requires-clause-ranges : goal.count_word-requires-clause-ranges
+count_word-requires-clause-ranges g c = c.requires.begun.ranges
+
+pub count_word-requires-clause-pass : goal.count_word-requires-clause-pass
+count_word-requires-clause-pass g c = ap (λ (m : Meaning). m.pass) c.words.invariant.kept ∙ c.requires.begun.begun
+
+pub count_word-requires-clause-signs : goal.count_word-requires-clause-signs
+count_word-requires-clause-signs g c =
+    let signs = ap (λ (m : Meaning). m.signs) c.words.invariant.kept in
+    let P : ℕ → Type 0 = λ n. SignsWithin n c.word-w.result.signs.now in
+    subst P (sym signs) (signs_within _ c.args.dictionary.now c.words.i (lent_word c.word-w.result) c.word-w.ensures.lent c.requires.begun.signs c.word-w.ensures.word)
+
+pub count_word-requires-clause-room : goal.count_word-requires-clause-room
+count_word-requires-clause-room g c = room_less _ _ _ c.words.invariant.room (omega (arith, letters_left c.args.dictionary.now c.words.i (lent_word c.word-w.result) c.word-w.ensures.lent))
+
+pub count_word-requires-clause-room_for : goal.count_word-requires-clause-room_for
+count_word-requires-clause-room_for g c = omega (arith, letters_left c.args.dictionary.now c.words.i (lent_word c.word-w.result) c.word-w.ensures.lent, c.words.invariant.room_for)
+
+pub words-init : goal.words-init
+words-init g c = record {
+  kept = refl;
+  whole = refl;
+  room = subst (λ (cs : Counts). HasRoom cs (sum_by letter_count c.args.dictionary.now)) (sym c.requires.begun.fresh)
+      (room_none (sum_by letter_count c.args.dictionary.now) c.len-i-end.ensures.letters);
+  sums = search rules;
+  above = search rules;
+  reached = omega arith;
+  room_for = search rules;
+  listed = [];
+  upto = refl;
+  numbers = record { size = ap length c.requires.none; each = λ k e n at to. absurd (let no : None ≡ Some e = at in cc) };
+}
+
+pub returns-clause-bounded : goal.returns-clause-bounded
+returns-clause-bounded g c = record {
+  few = record { each = c.len-i-end.ensures.words; letters = c.len-i-end.ensures.letters };
+  reached = all_reached (minima_of c.args.table.now) c.args.dictionary.now c.words.i (omega (arith, c.words-test.false, c.len-i-end.ensures.len)) c.words.invariant.reached;
+}
+
+pub words-preserved : goal.words-preserved
+words-preserved g c =
+    let m0 = g.E.Engine.meaning c.args.engine.now in
+    let m = g.E.Engine.meaning c.words.engine in
+    let n = g.E.Engine.meaning c.count_word.new.engine in
+    let pass = c.args.pass in
+    let minima = minima_of c.args.table.now in
+    let w = lent_word c.word-w.result in
+    let rest = drop (c.words.i + 1) c.args.dictionary.now in
+    let kept = c.words.invariant.kept in
+    let place = drop_place c.args.dictionary.now c.words.i w c.word-w.ensures.lent in
+    let letters = letters_left c.args.dictionary.now c.words.i w c.word-w.ensures.lent in
+    let here : List WordPosition = listed_in minima (counts_above pass.level m0.patterns) c.words.i w in
+    let sums = c.in_ok-count_word.ensures.sums ∙ ap (λ (x : Meaning). with_marks c.words.sums (marks_in minima x.patterns w)) kept in
+    record {
+      kept = kept_on m0 m _ (counted_positions_in minima m.pass m.patterns m.hopeless w) kept c.in_ok-count_word.ensures.ok;
+      whole = word_step m0 m _ _ minima w rest kept c.in_ok-count_word.ensures.ok
+          (ap (λ (ws : List Word). meaning_after_counting m (counted_positions minima ws m0.pass m0.patterns m0.hopeless)) (sym place) ∙ c.words.invariant.whole);
+      room = room_left m.counts _ (sum_by letter_count (drop c.words.i c.args.dictionary.now)) (letter_count w)
+          (sum_by letter_count rest) c.words.invariant.room c.in_ok-count_word.ensures.took (omega (arith, letters));
+      sums = marks_word c.words.sums _ _ minima m0.patterns w rest sums (ap (λ (ws : List Word). with_marks c.words.sums (flat_map (marks_in minima m0.patterns) ws)) (sym place)
+          ∙ c.words.invariant.sums);
+      above =
+          word_added minima (listing c.args.lists c.args.pass.level m0.patterns) c.words.above.items c.count_word.new.above.items _ c.args.dictionary.now c.words.i w c.word-w.ensures.lent
+          (c.in_ok-count_word.ensures.above ∙ ap (λ (x : Meaning). c.words.above.items ++ listed_in minima (listing c.args.lists c.args.pass.level x.patterns) c.words.i w) kept)
+          c.words.invariant.above;
+      reached = reached_on minima c.args.dictionary.now c.words.i w c.word-w.ensures.lent c.in_ok-count_word.ensures.reached c.words.invariant.reached;
+      room_for = omega (arith, letters, c.words.invariant.room_for, c.in_ok-count_word.ensures.took_for);
+      listed = c.words.invariant.listed ++ here;
+      upto = word_added minima (counts_above pass.level m0.patterns) c.words.invariant.listed
+          (c.words.invariant.listed ++ here) _ c.args.dictionary.now c.words.i w c.word-w.ensures.lent refl c.words.invariant.upto;
+      numbers =
+          let now : HaveNumbers pass (uncovered_at pass m.patterns m.hopeless) c.args.dictionary.now m.windows c.words.invariant.listed c.words.numbers.items =
+          subst (λ (x : Meaning). HaveNumbers pass (uncovered_at pass x.patterns x.hopeless) c.args.dictionary.now m.windows c.words.invariant.listed c.words.numbers.items)
+          (sym kept) c.words.invariant.numbers in
+          subst (λ (x : Meaning). HaveNumbers pass (uncovered_at pass x.patterns x.hopeless) c.args.dictionary.now n.windows
+          (c.words.invariant.listed ++ listed_in minima (counts_above pass.level x.patterns) c.words.i w) c.count_word.new.numbers.items) kept
+          (c.in_ok-count_word.ensures.numbers c.args.dictionary.now c.words.invariant.listed c.word-w.ensures.lent now);
+    }

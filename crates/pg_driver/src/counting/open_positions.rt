@@ -1,0 +1,126 @@
+//! The open positions of a level: those that count by their status, with their closed dots. The
+//! totals stand beside them.
+ghost use Rattle.std.specs.Prelude.{◌≡◌, ◌≤◌, ◌<◌, ◌+◌, ◌-◌, ◌^◌, ◌==◌, ◌&&◌, ℕ, not, length, slice_get, Some, IfOk, OnOk, is_some};
+ghost use Rattle.pg_types.specs.Inside.Counts.{SignsWithin};
+ghost use Rattle.pg_dots.specs.Inside.Dots.{is_closed, position_count as places_in};
+ghost use Rattle.pg_translate.specs.Reach.{positions as positions_of};
+ghost use Rattle.pg_dict.specs.Word.{Word};
+ghost use Rattle.pg_dict.specs.Inside.SoundWords.{IsWord, SignsAtMost, letter_count};
+ghost use Rattle.pg_dict.specs.Inside.Lent.{lent_word};
+ghost use Rattle.pg_select.specs.CountedPositions.{counts_as as counts_as_of, minima_of};
+ghost use Rattle.pg_select.specs.Sums.{totals as totals_of_words, marks_in};
+ghost use Rattle.pg_select.specs.Inside.SumSteps.{with_marks, HasRoomFor, TookRoomFor};
+ghost use Rattle.pg_driver.specs.Inside.Counting.{IsBounded};
+ghost use Rattle.pg_driver.specs.Inside.OpenSigns.{is_open_first, sign_count, start_of};
+ghost use Rattle.pg_driver.specs.Traces.{over};
+
+use crate::counting::marks::counts_as;
+use pg_dict::{Dictionary, WordRef};
+use pg_dots::OpenDots;
+use pg_select::marks::{add_mark, mark_at, no_totals, positions};
+use pg_select::{Engine, WordState};
+use pg_translate::Table;
+use pg_types::{Mark, Totals};
+use std::alloc::{AllocError, Global};
+
+/// The open positions of a level, and the totals, which are carried from pass to pass.
+#[derive(Drop)]
+pub struct OpenLevel {
+    /// Which dots are closed at each sign of the words, which are numbered through.
+    pub dots: OpenDots,
+    /// The totals by the patterns as they are now.
+    pub totals: Totals,
+}
+
+/// Opens a position where it counts at a level by this status.
+fn open_by_status(level: u8, sign: usize, mark: Mark, dots: &mut OpenDots)
+    requires within { sign < places_in dots.old }
+    requires none { dots.old.reached ≡ 0 }
+    ensures size { places_in dots.new ≡ places_in dots.old }
+    ensures none { dots.new.reached ≡ 0 }
+    ensures closed { (d s : ℕ) → s < places_in dots.old → is_closed dots.new d s
+        ≡ (not (s == sign && is_some (counts_as_of level mark)) && is_closed dots.old d s) }
+{
+    if counts_as(level, mark).is_some() {
+        dots.open(sign);
+    }
+}
+
+/// Opens the positions of a word that count at a level, and adds all positions in reach to the
+/// totals. The signs of the word begin at `start`. What `found` holds does not matter.
+fn open_word<E: Engine>(
+    engine: &E,
+    table: &Table,
+    level: u8,
+    start: usize,
+    w: &WordRef<'_>,
+    found: &mut WordState,
+    opened: &mut OpenLevel,
+)
+    requires word { IsWord (lent_word w.now) }
+    requires signs { SignsWithin (E.meaning engine.now).signs w.now.signs.now }
+    requires room { HasRoomFor opened.old.totals (letter_count (lent_word w.now)) }
+    requires within { start + length w.now.signs.now ≤ places_in opened.old.dots }
+    requires few { places_in opened.old.dots < 2 ^ 40 }
+    requires none { opened.old.dots.reached ≡ 0 }
+    ensures size { places_in opened.new.dots ≡ places_in opened.old.dots }
+    ensures none { opened.new.dots.reached ≡ 0 }
+    ensures closed { (d s : ℕ) → s < places_in opened.old.dots → is_closed opened.new.dots d s
+        ≡ (not (is_open_first (minima_of table.now) level
+        (E.meaning engine.now).patterns (lent_word w.now)
+        (s - start)) && is_closed opened.old.dots d s) }
+    ensures totals { opened.new.totals
+        ≡ with_marks opened.old.totals
+        (marks_in (minima_of table.now) (E.meaning engine.now).patterns
+        (lent_word w.now)) }
+    ensures took { TookRoomFor opened.old.totals opened.new.totals
+        (letter_count (lent_word w.now)) }
+    ensures reached { length (positions_of table.now.left table.now.right
+        (length w.now.signs.now)) ≤ letter_count (lent_word w.now) }
+{
+    let Some((first, end)) = positions(table, w) else {
+        return;
+    };
+    engine.hyphenate(*w, found);
+    'positions: for p in first..end {
+        let mark = mark_at(w, found, p);
+        opened.totals = add_mark(opened.totals, mark, w.weights[p]);
+        open_by_status(level, start + p, mark, &mut opened.dots);
+    }
+}
+
+/// The positions that count at a level's start are open, and each dot of the others is closed. The
+/// totals stand beside them. Each word is hyphenated once.
+pub fn open_level<E: Engine>(
+    engine: &E,
+    dictionary: &Dictionary,
+    table: &Table,
+    level: u8,
+    alloc: Global,
+) -> Result<OpenLevel, AllocError>
+    requires { SignsAtMost (E.meaning engine.now).signs dictionary.now }
+    ensures size { IfOk result (λ opened. sign_count dictionary.now ≤ places_in opened.dots) }
+    ensures closed { IfOk result
+        (λ opened. (d n p : ℕ) (w : Word) → slice_get dictionary.now n ≡ Some w
+        → p < length w.signs → is_closed opened.dots d (start_of dictionary.now n + p)
+        ≡ not (is_open_first (minima_of table.now) level (E.meaning engine.now).patterns w p)) }
+    ensures totals { IfOk result (λ opened. opened.totals
+        ≡ totals_of_words (minima_of table.now) dictionary.now (E.meaning engine.now).patterns) }
+    ensures bounded { OnOk result (IsBounded (over table.now dictionary.now)) }
+{
+    let count = dictionary.len();
+    let signs = dictionary.all_signs();
+    let dots = OpenDots::closed(alloc, signs.len())?;
+    let mut found = WordState::new();
+    let mut opened = OpenLevel {
+        dots,
+        totals: no_totals(),
+    };
+    let mut start = 0;
+    'words: for i in 0..count {
+        let w = dictionary.word(i);
+        open_word(engine, table, level, start, &w, &mut found, &mut opened);
+        start += w.signs.len();
+    }
+    Ok(opened)
+}

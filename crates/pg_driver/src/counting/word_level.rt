@@ -1,0 +1,102 @@
+//! A level in which each word is hyphenated in each pass. Its totals are carried from pass to pass.
+ghost use Rattle.std.specs.Prelude.{◌≡◌, [], false, true, IfOk, OnOk};
+ghost use Rattle.pg_types.specs.Inside.NumberedWindows.{AreNumbered};
+ghost use Rattle.pg_driver.specs.Inside.PassWindows.{HaveNumbers, is_counted_at};
+ghost use Rattle.pg_driver.specs.Inside.States.{HasBegun};
+ghost use Rattle.pg_driver.specs.Inside.RunAccounts.{known_of};
+ghost use Rattle.pg_driver.specs.Traces.{over};
+ghost use Rattle.pg_select.specs.Statuses.{is_odd};
+ghost use Rattle.pg_driver.specs.Inside.LevelCounting.{CanMove, DidCount, IsAfterWords};
+ghost use Rattle.pg_driver.specs.Inside.WordLevels.{IsWordsAt};
+
+use crate::choices::Choices;
+use crate::counting::above_positions::Kept;
+use crate::counting::carried_totals::totals_after;
+use crate::counting::words::count_words;
+use crate::pass_windows::WordPosition;
+use pg_dict::Dictionary;
+use pg_select::marks::no_totals;
+use pg_select::{Engine, Pass};
+use pg_translate::Table;
+use pg_types::Totals;
+use std::alloc::{AllocError, Global};
+
+/// A level in which each word is hyphenated in each pass. The first pass that is counted lists the
+/// positions whose value is above the level: they stay the same in the level.
+#[derive(Drop)]
+pub struct WordLevel {
+    /// Whether a pass was counted.
+    pub is_counted: bool,
+    /// The positions that count and have a value above the level, once a pass was counted.
+    pub above: Vec<WordPosition>,
+    /// The totals, once a pass was counted.
+    pub totals: Totals,
+}
+
+impl WordLevel {
+    /// A level that begins: no pass was counted.
+    pub fn new(alloc: Global) -> WordLevel
+        ensures counted { result.is_counted ≡ false }
+        ensures above { result.above.items ≡ [] }
+    {
+        WordLevel {
+            is_counted: false,
+            above: Vec::new(alloc),
+            totals: no_totals(),
+        }
+    }
+
+    /// Counts the windows of a pass that has begun, and gives the totals before it. Each word is
+    /// hyphenated once. Each position that is listed has the number of its window, where that is
+    /// counted.
+    pub fn count_each_word<E: Engine>(
+        &mut self,
+        engine: &mut E,
+        dictionary: &Dictionary,
+        table: &Table,
+        pass: Pass,
+        numbers: &mut Vec<u32>,
+    ) -> Result<Totals, AllocError>
+        requires begun { HasBegun pass dictionary.now (E.meaning engine.old) }
+        requires none { numbers.old.items ≡ [] }
+        requires ready { IsWordsAt (over table.now dictionary.now) pass.level
+            (known_of (E.meaning engine.old))
+            self.old }
+        ensures did { IfOk result (DidCount (over table.now dictionary.now) pass
+            (E.meaning engine.old) (E.meaning engine.new)) }
+        ensures ready { OnOk result (IsWordsAt (over table.now dictionary.now) pass.level
+            (known_of (E.meaning engine.old)) self.new) }
+        ensures counted { OnOk result (self.new.is_counted ≡ true) }
+        ensures numbers { OnOk result
+            (AreNumbered (E.meaning engine.new).windows (E.meaning engine.new).counts
+            → HaveNumbers pass (is_counted_at pass (E.meaning engine.new).counts)
+            dictionary.now (E.meaning engine.new).windows
+            self.new.above.items numbers.new.items) }
+        ensures signs { (E.meaning engine.new).signs ≡ (E.meaning engine.old).signs }
+    {
+        let lists = !self.is_counted;
+        let before = count_words(
+            engine,
+            dictionary,
+            table,
+            pass,
+            lists,
+            &mut self.above,
+            numbers,
+        )?;
+        self.is_counted = true;
+        self.totals = before;
+        Ok(before)
+    }
+
+    /// Carries the totals on past the choices of a pass. Those of the listed positions, which are
+    /// `kept`, change no value, so their weights are left out.
+    pub fn after_choices(&mut self, level: u8, choices: Choices, kept: Kept)
+        requires { CanMove (is_odd level) self.old.totals choices kept }
+        ensures { IsAfterWords (is_odd level) choices kept self.old self.new }
+    {
+        let good = choices.good - kept.good;
+        let bad = choices.bad - kept.bad;
+        self.totals = totals_after(self.totals, level, good, bad);
+    }
+}
