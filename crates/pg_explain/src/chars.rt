@@ -2,17 +2,17 @@
 
 use pg_translate::{Item, Place, Table};
 
-/// The bytes before a place, all where there are not so many.
+/// The first `end` bytes; all where there are fewer.
 pub(crate) fn up_to(bytes: &[u8], end: usize) -> &[u8] {
     bytes.get(..end).unwrap_or(bytes)
 }
 
-/// The bytes from a place on, none where there are not so many.
+/// The bytes behind the first `start`; none where there are fewer.
 pub(crate) fn behind(bytes: &[u8], start: usize) -> &[u8] {
     bytes.get(start..).unwrap_or(&[])
 }
 
-/// The character with which bytes begin; none where they do not begin with one.
+/// The character that these bytes begin with, if they begin with one.
 pub(crate) fn first_char(bytes: &[u8]) -> Option<char> {
     for size in 1..5 {
         if let Ok(text) = str::from_utf8(up_to(bytes, size)) {
@@ -22,8 +22,8 @@ pub(crate) fn first_char(bytes: &[u8]) -> Option<char> {
     None
 }
 
-/// The bytes of the character with which bytes begin, or the first of them where they do not begin
-/// with one.
+/// The bytes of the character that these bytes begin with. It is the first byte alone where they
+/// begin with no character.
 pub(crate) fn first_bytes(bytes: &[u8]) -> &[u8] {
     let len = match first_char(bytes) {
         Some(c) => c.len_utf8(),
@@ -57,8 +57,7 @@ pub(crate) fn small_of(c: char) -> Option<char> {
     Some(small)
 }
 
-/// Whether a head has a digit where the minima are due, so that the marks behind them are meant as
-/// such.
+/// Whether a head has a digit where the minima are due. The bytes behind are then meant as marks.
 pub(crate) fn has_minima(head: &[u8]) -> bool {
     for byte in up_to(head, 4) {
         if byte.is_ascii_digit() {

@@ -37,9 +37,9 @@ fn push(text: &mut Text, wrong: &Wrong<'_>) -> Result<(), AllocError> {
     }
 }
 
-/// What is wrong and where, and what is due there, in a few lines of English for standard error. It
-/// is empty where there is nothing to say. Any bytes may stand in the names and files: their
-/// control bytes are shown by their numbers.
+/// What is wrong, where, and what is due there, in a few lines of English for standard error. It is
+/// empty where there is nothing to say. Names and files may hold any bytes: control bytes are shown
+/// by their numbers.
 pub fn explain(alloc: Global, wrong: &Wrong<'_>) -> Result<Vec<u8>, AllocError>
     ensures { IfOk result (λ text. IsVisibleText text.items) }
 {

@@ -1,24 +1,17 @@
-//! What a call says on standard error when it does not go well: what is wrong, where, and what is
-//! due there. Each text is a few whole lines of plain English, and no byte of a file or name in it
-//! reaches the terminal as a control byte.
+//! What a call says on standard error: what is wrong, where, and what is due there. Each text is a
+//! few whole lines of plain English. No byte of a file or of a name reaches the terminal as a
+//! control byte.
+//!
+//! `wrong` says what can be explained, and `explanation` is the call. Each status has a module:
+//! `notes` (0), `false_lines` (1), `words` (2), `refused` (3) and `faults` (4).
 #![tactic(auto)]
 
-mod causes;
 mod chars;
 mod explanation;
 mod false_lines;
 mod faults;
-mod forms;
-mod heads;
-mod letter_causes;
-mod letter_lines;
-mod more;
 mod notes;
-mod parameters;
 mod refused;
-mod tables;
-mod word_faults;
-mod word_lines;
 mod words;
 mod wrong;
 

@@ -53,7 +53,8 @@ pub(crate) fn push_low_start(
     ])
 }
 
-/// Where what follows the first blank or TAB of a line begins, where something does.
+/// How many bytes stand before what follows the first blank or TAB of a line; none where nothing
+/// follows.
 fn behind_blank(line: &[u8]) -> Option<usize> {
     let mut is_behind = false;
     for (place, byte) in line.iter().enumerate() {
@@ -66,7 +67,7 @@ fn behind_blank(line: &[u8]) -> Option<usize> {
     None
 }
 
-/// The first line with something behind its first blank, and how many lines have that.
+/// The first line that has more behind its first blank, and how many lines have more.
 fn lines_behind(bytes: &[u8]) -> Option<(Spot<'_>, usize)> {
     let mut first = None;
     let mut count = 0_usize;
@@ -84,7 +85,7 @@ fn lines_behind(bytes: &[u8]) -> Option<(Spot<'_>, usize)> {
     Some((first?, count))
 }
 
-/// Appends that lines of patterns have more behind their first blank, where some have.
+/// Appends that lines of patterns have more behind their first blank, where some do.
 pub(crate) fn push_behind(text: &mut Text, patterns: &str, bytes: &[u8]) -> Result<(), AllocError> {
     let Some((spot, count)) = lines_behind(bytes) else {
         return Ok(());

@@ -1,12 +1,21 @@
 //! Status 3: a file is refused.
 
-use crate::causes::push_cause;
-use crate::heads::{push_mark, push_minimum};
-use crate::letter_lines::{push_clash, push_delimiter, push_many_letters, push_spelling};
-use crate::more::push_more;
-use crate::parameters::{item_spot, push_item};
-use crate::tables::{push_bad_table, push_long_table, push_other_table};
-use crate::word_lines::{push_character, push_long, push_weight};
+mod causes;
+mod heads;
+mod letter_causes;
+mod letter_lines;
+mod more;
+mod packed_tables;
+mod parameters;
+mod word_lines;
+
+use crate::refused::causes::push_cause;
+use crate::refused::heads::{push_mark, push_minimum};
+use crate::refused::letter_lines::{push_clash, push_delimiter, push_many_letters, push_spelling};
+use crate::refused::more::push_more;
+use crate::refused::packed_tables::{push_bad_table, push_long_table, push_other_table};
+use crate::refused::parameters::{item_spot, push_item};
+use crate::refused::word_lines::{push_character, push_long, push_weight};
 use crate::wrong::Refused;
 use pg_types::Kind;
 use pg_visible::Part::{Say, Show};
@@ -62,8 +71,8 @@ fn push_reason<'a>(
     }
 }
 
-/// Appends the line of a refusal with a caret, its cause where the bytes show one, and how many
-/// more lines would be refused.
+/// Appends the line of a refusal with a caret. Its cause follows where the bytes show one, and then
+/// how many more lines would be refused.
 fn push_place(text: &mut Text, refused: &Refused<'_>, spot: &Spot<'_>) -> Result<(), AllocError> {
     text.excerpt(spot)?;
     if refused.refusal.kind == Kind::BadSpelling {
@@ -73,8 +82,8 @@ fn push_place(text: &mut Text, refused: &Refused<'_>, spot: &Spot<'_>) -> Result
     push_more(text, refused)
 }
 
-/// Appends where and why a file is refused: the place and what is due there, and where it has one,
-/// the line with a caret below the place and what follows that.
+/// Appends where and why a file is refused, and what is due there. A refusal that has a place also
+/// gets its line with a caret, its cause, and how many more lines would be refused.
 pub(crate) fn push_refused(text: &mut Text, refused: &Refused<'_>) -> Result<(), AllocError> {
     let spot = spot_of(refused);
     push_reason(text, refused, &spot)?;

@@ -39,8 +39,8 @@ pub enum Wrong<'a> {
         /// The first level.
         start: u8,
     },
-    /// An accepted pattern file. Nothing is said where none of its lines has more behind its first
-    /// blank.
+    /// A pattern file was accepted. If lines of it have more behind their first blank, that is
+    /// said.
     Behind {
         /// The name of the file.
         patterns: &'a str,
@@ -54,7 +54,7 @@ pub enum Wrong<'a> {
 pub struct Refused<'a> {
     /// Its name as it was given.
     pub name: &'a str,
-    /// What was read of it; nothing where `pack` refuses the table that it would write.
+    /// What was read of it. It is empty where `pack` refuses the table that it would write.
     pub bytes: &'a [u8],
     /// Why and where it is refused.
     pub refusal: Refusal,
@@ -94,7 +94,7 @@ pub enum Deed {
 pub struct Fault<'a> {
     /// What failed.
     pub deed: Deed,
-    /// The name of the file as it was given. It is not read where lines could not be printed.
+    /// The name of the file as it was given. It does not count where lines could not be printed.
     pub name: &'a str,
     /// The system's own reason; empty where it gave none.
     pub reason: &'a str,

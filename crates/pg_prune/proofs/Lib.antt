@@ -1,12 +1,12 @@
 pub mod RoundLaws
-pub mod PlaceForms
+pub mod PositionForms
 pub mod Told
 pub mod NeedLaws
 pub mod PrunedLaws
 pub mod TrailLists
 pub mod TrailStarts
 pub mod TrailSteps
-pub mod TrailPlaces
+pub mod TrailPositions
 pub mod Tallies
 pub mod Walks
 pub mod TurnLaws
@@ -17,6 +17,6 @@ pub mod NeedSteps
 pub mod Picking
 pub mod RoundsSteps
 pub mod HolderSteps
-pub mod PlaceSteps
+pub mod PositionSteps
 pub mod Finish
 pub mod ReportSteps

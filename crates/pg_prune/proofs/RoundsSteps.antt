@@ -8,7 +8,7 @@ use Rattle.std.proofs.lemmas.Bool.{eq-eqb, eqb-true}
 use Rattle.pg_types.proofs.BoolFacts.{no_test}
 use Rattle.pg_patterns.specs.Inside.PatternMaps.{is_entry}
 use Rattle.pg_select.specs.Windows.{Patterns}
-use Rattle.pg_prune.specs.Places.{WordPlace}
+use Rattle.pg_prune.specs.Positions.{WordPosition}
 use Rattle.pg_prune.specs.Prunes.{round, rounds_from, rounds, Rounds}
 use Rattle.pg_prune.specs.Inside.Alike.{break_alike}
 use Rattle.pg_prune.specs.Inside.Turns.{IsTallied}
@@ -19,54 +19,54 @@ use Rattle.pg_prune.specs.Inside.Picks.{entry_of}
 use Rattle.pg_prune.proofs.Picking.{picked_all, range_below}
 
 -- so many rounds are made, and the entries with the numbers `kept` are left
-pub record RoundsSoFar (places : List WordPlace) (P : Patterns) (stands : List (List ℕ)) (holders : List (List ℕ)) (kept : List ℕ) (count : ℕ) : Type 0 where
-  pub ready : RoundStart places P stands holders kept
+pub record RoundsSoFar (positions : List WordPosition) (P : Patterns) (stands : List (List ℕ)) (holders : List (List ℕ)) (kept : List ℕ) (count : ℕ) : Type 0 where
+  pub ready : RoundStart positions P stands holders kept
   pub most : ℕ
   pub few : length kept ≤ most
-  pub so_far : rounds places P ≡ rounds_from places P count most (picked_entries P kept)
+  pub so_far : rounds positions P ≡ rounds_from positions P count most (picked_entries P kept)
 
-module _ (places : List WordPlace) (P : Patterns) (stands : List (List ℕ)) where
-  pub rounds_begin : (holders : List (List ℕ)) → list_all is_entry P ≡ true → RoundsStart places P stands holders → RoundsSoFar places P stands holders (range_with_len 0 (length P)) 0
+module _ (positions : List WordPosition) (P : Patterns) (stands : List (List ℕ)) where
+  pub rounds_begin : (holders : List (List ℕ)) → list_all is_entry P ≡ true → RoundsStart positions P stands holders → RoundsSoFar positions P stands holders (range_with_len 0 (length P)) 0
   unfolding rounds
   rounds_begin holders sound s = record {
     ready = record {
       all = s.all;
       sound = sound;
       within = range_below 0 (length P) (length P) (omega arith);
-      tallied = subst (λ (Q : Patterns). IsTallied places Q holders) (sym (picked_all P)) s.tallied;
-      alike = subst (λ (Q : Patterns). break_alike places P Q ≡ true) (sym (picked_all P)) (alike_self places P);
+      tallied = subst (λ (Q : Patterns). IsTallied positions Q holders) (sym (picked_all P)) s.tallied;
+      alike = subst (λ (Q : Patterns). break_alike positions P Q ≡ true) (sym (picked_all P)) (alike_self positions P);
     };
     most = length P;
     few = (let many = length-range_with_len 0 (length P) in omega (arith, many));
-    so_far = ap (λ (Q : Patterns). rounds_from places P 0 (length P) Q) (sym (picked_all P));
+    so_far = ap (λ (Q : Patterns). rounds_from positions P 0 (length P) Q) (sym (picked_all P));
   }
 
   -- how many entries a round leaves
-  left_by : (holders : List (List ℕ)) (kept stay : List ℕ) → RoundDone places P stands holders kept stay → length stay ≡ length (round places P (picked_entries P kept))
+  left_by : (holders : List (List ℕ)) (kept stay : List ℕ) → RoundDone positions P stands holders kept stay → length stay ≡ length (round positions P (picked_entries P kept))
   left_by holders kept stay d = sym (length-map stay (entry_of P)) ∙ ap length d.done
 
-  pub round_fewer : (holders : List (List ℕ)) (kept stay : List ℕ) → RoundDone places P stands holders kept stay → length stay ≤ length kept
+  pub round_fewer : (holders : List (List ℕ)) (kept stay : List ℕ) → RoundDone positions P stands holders kept stay → length stay ≤ length kept
   unfolding round
   round_fewer holders kept stay d =
-      let left : length stay ≡ length (round places P (picked_entries P kept)) = left_by holders kept stay d in
-      let fewer : length (round places P (picked_entries P kept)) ≤ 0 + length (picked_entries P kept) = round_length places P [] (picked_entries P kept) in
+      let left : length stay ≡ length (round positions P (picked_entries P kept)) = left_by holders kept stay d in
+      let fewer : length (round positions P (picked_entries P kept)) ≤ 0 + length (picked_entries P kept) = round_length positions P [] (picked_entries P kept) in
       let many : length (picked_entries P kept) ≡ length kept = length-map kept (entry_of P) in
       omega arith
 
-  one_more : (count most : ℕ) (Q : Patterns) → length Q ≤ most → length (round places P Q) < length Q → (n : ℕ) × (length (round places P Q) ≤ n)
-      × (rounds_from places P count most Q ≡ rounds_from places P (count + 1) n (round places P Q))
+  one_more : (count most : ℕ) (Q : Patterns) → length Q ≤ most → length (round positions P Q) < length Q → (n : ℕ) × (length (round positions P Q) ≤ n)
+      × (rounds_from positions P count most Q ≡ rounds_from positions P (count + 1) n (round positions P Q))
   one_more count zero Q few less = absurd (omega arith)
   one_more count (suc most) Q few less = (
     most,
     omega arith,
-    ap (λ b. cond {A = Rounds} b (record { patterns = Q; count = count + 1 }) (rounds_from places P (count + 1) most (round places P Q)))
-        (no_test (nat_eq (length (round places P Q)) (length Q)) (λ same. let is = eqb-true _ _ same in absurd (omega (arith, is)))),
+    ap (λ b. cond {A = Rounds} b (record { patterns = Q; count = count + 1 }) (rounds_from positions P (count + 1) most (round positions P Q)))
+        (no_test (nat_eq (length (round positions P Q)) (length Q)) (λ same. let is = eqb-true _ _ same in absurd (omega (arith, is)))),
   )
 
-  pub rounds_next : (old new : List (List ℕ)) (kept stay : List ℕ) (count : ℕ) → RoundsSoFar places P stands old kept count → RoundDone places P stands new kept stay
-      → length stay ≢ length kept → RoundsSoFar places P stands new stay (count + 1)
+  pub rounds_next : (old new : List (List ℕ)) (kept stay : List ℕ) (count : ℕ) → RoundsSoFar positions P stands old kept count → RoundDone positions P stands new kept stay
+      → length stay ≢ length kept → RoundsSoFar positions P stands new stay (count + 1)
   rounds_next old new kept stay count r d other =
-      let left : length stay ≡ length (round places P (picked_entries P kept)) = left_by new kept stay d in
+      let left : length stay ≡ length (round positions P (picked_entries P kept)) = left_by new kept stay d in
       let fewer = round_fewer new kept stay d in
       let many : length (picked_entries P kept) ≡ length kept = length-map kept (entry_of P) in
       let few : length kept ≤ r.most = r.few in
@@ -75,28 +75,29 @@ module _ (places : List WordPlace) (P : Patterns) (stands : List (List ℕ)) whe
         ready = d.next;
         most = more.0;
         few = (let low = more.1 in omega (arith, low));
-        so_far = r.so_far ∙ more.2 ∙ ap (λ (Q : Patterns). rounds_from places P (count + 1) more.0 Q) (sym d.done);
+        so_far = r.so_far ∙ more.2 ∙ ap (λ (Q : Patterns). rounds_from positions P (count + 1) more.0 Q) (sym d.done);
       }
 
-  no_more : (count most : ℕ) (Q : Patterns) → length (round places P Q) ≡ length Q → rounds_from places P count most Q ≡ record { patterns = Q; count = count + 1 }
+  no_more : (count most : ℕ) (Q : Patterns) → length (round positions P Q) ≡ length Q → rounds_from positions P count most Q ≡ record { patterns = Q; count = count + 1 }
   no_more count zero Q same = refl
   no_more count (suc most) Q same =
-      ap (λ b. cond {A = Rounds} b (record { patterns = Q; count = count + 1 }) (rounds_from places P (count + 1) most (round places P Q))) (eq-eqb (length (round places P Q)) (length Q) same)
+      ap (λ b. cond {A = Rounds} b (record { patterns = Q; count = count + 1 })
+      (rounds_from positions P (count + 1) most (round positions P Q))) (eq-eqb (length (round positions P Q)) (length Q) same)
 
-  pub rounds_end_with : (old new : List (List ℕ)) (kept stay : List ℕ) (count : ℕ) → RoundsSoFar places P stands old kept count → RoundDone places P stands new kept stay → length stay ≡ length kept
-      → RoundStart places P stands new kept × (rounds places P ≡ record { patterns = picked_entries P kept; count = count + 1 })
+  pub rounds_end_with : (old new : List (List ℕ)) (kept stay : List ℕ) (count : ℕ) → RoundsSoFar positions P stands old kept count → RoundDone positions P stands new kept stay
+      → length stay ≡ length kept → RoundStart positions P stands new kept × (rounds positions P ≡ record { patterns = picked_entries P kept; count = count + 1 })
   unfolding round
   rounds_end_with old new kept stay count r d same =
-      let left : length stay ≡ length (round places P (picked_entries P kept)) = left_by new kept stay d in
+      let left : length stay ≡ length (round positions P (picked_entries P kept)) = left_by new kept stay d in
       let many : length (picked_entries P kept) ≡ length kept = length-map kept (entry_of P) in
-      let as_many : length (round places P (picked_entries P kept)) ≡ length (picked_entries P kept) = omega arith in
-      let is : picked_entries P stay ≡ picked_entries P kept = d.done ∙ round_same places P [] (picked_entries P kept)
-      (let all : length (round places P (picked_entries P kept)) ≡ 0 + length (picked_entries P kept) = omega arith in all) in (
+      let as_many : length (round positions P (picked_entries P kept)) ≡ length (picked_entries P kept) = omega arith in
+      let is : picked_entries P stay ≡ picked_entries P kept = d.done ∙ round_same positions P [] (picked_entries P kept)
+      (let all : length (round positions P (picked_entries P kept)) ≡ 0 + length (picked_entries P kept) = omega arith in all) in (
         record {
           all = r.ready.all;
           sound = r.ready.sound;
           within = r.ready.within;
-          tallied = subst (λ (Q : Patterns). IsTallied places Q new) is d.next.tallied;
+          tallied = subst (λ (Q : Patterns). IsTallied positions Q new) is d.next.tallied;
           alike = r.ready.alike;
         },
         r.so_far ∙ no_more count r.most (picked_entries P kept) as_many,

@@ -16,12 +16,12 @@ range_agree f g lo (suc n) same =
 pub range_parts : (lo m n : ℕ) → range_with_len lo (m + n) ≡ range_with_len lo m ++ range_with_len (lo + m) n
 range_parts lo zero n =
     let size : 0 + n ≡ n = omega arith in
-    let place : lo ≡ lo + 0 = omega arith in
-    ap (range_with_len lo) size ∙ ap (λ k. range_with_len k n) place
+    let position : lo ≡ lo + 0 = omega arith in
+    ap (range_with_len lo) size ∙ ap (λ k. range_with_len k n) position
 range_parts lo (suc m) n =
     let size : suc m + n ≡ suc (m + n) = omega arith in
-    let place : lo + 1 + m ≡ lo + suc m = omega arith in
-    ap (range_with_len lo) size ∙ ap (λ xs. lo ∷ xs) (range_parts (lo + 1) m n ∙ ap (λ k. range_with_len (lo + 1) m ++ range_with_len k n) place)
+    let position : lo + 1 + m ≡ lo + suc m = omega arith in
+    ap (range_with_len lo) size ∙ ap (λ xs. lo ∷ xs) (range_parts (lo + 1) m n ∙ ap (λ k. range_with_len (lo + 1) m ++ range_with_len k n) position)
 
 -- what is kept of what is kept
 kept_both : {X : Type 0} (p : X → Bool) (x : X) (qs rs : List X) (a c : Bool) → c ≡ (a && p x) → filter p qs ≡ rs → filter p (cond a (x ∷ qs) qs) ≡ cond c (x ∷ rs) rs
@@ -51,9 +51,9 @@ nothing_in g lo (suc n) none =
 pub given_shifted : {Y : Type 0} (h g : ℕ → Option Y) (d lo n : ℕ) → ((k : ℕ) → h k ≡ g (k + d)) → filter_map h (range_with_len lo n) ≡ filter_map g (range_with_len (lo + d) n)
 given_shifted h g d lo zero same = refl
 given_shifted h g d lo (suc n) same =
-    let place : lo + 1 + d ≡ lo + d + 1 = omega arith in
+    let position : lo + 1 + d ≡ lo + d + 1 = omega arith in
     ap (λ o. cons_option o (filter_map h (range_with_len (lo + 1) n))) (same lo)
-    ∙ ap (cons_option (g (lo + d))) (given_shifted h g d (lo + 1) n same ∙ ap (λ k. filter_map g (range_with_len k n)) place)
+    ∙ ap (cons_option (g (lo + d))) (given_shifted h g d (lo + 1) n same ∙ ap (λ k. filter_map g (range_with_len k n)) position)
 
 -- what a function gives on an element more
 pub given_more : {X Y : Type 0} (f : X → Option Y) (xs : List X) (i : ℕ) (d : X) (y : Y) → i < length xs → Some y ≡ f (get_or xs i d) → filter_map f (take i xs)

@@ -30,7 +30,7 @@ stands_from q w a h =
     and_from (nat_le (a + length q) (length w)) (starts_with nat_eq (drop a w) q)
     (le-leb (a + length q) (length w) h.fits) ((bytes_decides q (take (length q) (drop a w))).1 h.signs)
 
--- the signs of a word from a place on, and the next one
+-- the signs of a word from one of them on, and the next one
 next_sign : (w : List ℕ) (a n : ℕ) → a + n < length w → take (n + 1) (drop a w) ≡ take n (drop a w) ++ get_or w (a + n) 0 ∷ []
 next_sign w a n inside =
     let size : length (drop a w) ≡ length w - a = length-drop a w in
@@ -73,7 +73,7 @@ module _ (q w : List ℕ) (a s : ℕ) where
       ∙ sym (next_sign w a (length q) inside) ∙ ap (λ (n : ℕ). take n (drop a w)) (sym size) in
       stands_from (q ++ s ∷ []) w a (record { fits = omega arith; signs = signs })
 
-  -- a string stands at a place where it stands without its last sign, and that follows
+  -- a string stands where it stands without its last sign and that sign follows
   pub stands_longer : stands_at (q ++ s ∷ []) w a ≡ (stands_at q w a && (nat_lt (a + length q) (length w) && nat_eq (get_or w (a + length q) 0) s))
   stands_longer = both_ways _ _ longer_cut longer_joined
 

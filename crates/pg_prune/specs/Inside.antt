@@ -8,6 +8,6 @@ pub mod Picks
 pub mod Ends
 pub mod Trails
 pub mod Findings
-pub mod WordPlaces
+pub mod WordPositions
 pub mod Needs
 pub mod Prunings

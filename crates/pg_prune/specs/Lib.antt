@@ -1,4 +1,4 @@
-pub mod Places
+pub mod Positions
 pub mod Prunes
 pub mod Promises
 pub mod Reports

@@ -11,7 +11,7 @@ abbrev pub BreakAlike : Minima → List Word → Patterns → Patterns → Type 
 BreakAlike m words P Q = All (λ (w : Word). All (λ p. value_at P w.signs p % 2
     ≡ value_at Q w.signs p % 2) (positions m.left m.right (length w.signs))) words
 
--- no entry can be taken alone out of Q so that it still breaks alike with P
+-- no entry can be taken out of Q alone so that the rest still breaks alike with P
 abbrev pub NoneCanGo : Minima → List Word → Patterns → Patterns → Type 0
 NoneCanGo m words P Q = (before : Patterns) (e : (List ℕ × ℕ) × ℕ) (behind : Patterns)
     → Q ≡ before ++ e ∷ behind → ¬ BreakAlike m words P (before ++ behind)

@@ -8,53 +8,53 @@ use Rattle.pg_patterns.specs.Values.{value_at}
 use Rattle.pg_select.specs.CountedPositions.{Minima}
 use Rattle.pg_select.specs.Windows.{Patterns}
 use Rattle.pg_prune.specs.declared.pruned.Need.{Need}
-use Rattle.pg_prune.specs.Places.{WordPlace, places}
+use Rattle.pg_prune.specs.Positions.{WordPosition, positions_in_reach}
 
--- two maps break alike at a place: the value there is odd in both, or in neither
-abbrev pub break_alike_at : Patterns → Patterns → WordPlace → Bool
+-- two maps break alike at a position: the value there is odd in both, or in neither
+abbrev pub break_alike_at : Patterns → Patterns → WordPosition → Bool
 break_alike_at P Q x = nat_eq (value_at P x.signs x.position % 2)
     (value_at Q x.signs x.position % 2)
 
 -- the rest of a round, behind the entries `kept`: an entry goes where the others break as P does
-abbrev pub round_from : List WordPlace → Patterns → Patterns → Patterns → Patterns
-round_from places P kept [] = kept
-round_from places P kept (e ∷ rest) = if list_all (break_alike_at P (kept ++ rest)) places
-    then round_from places P kept rest else round_from places P (kept ++ e ∷ []) rest
+abbrev pub round_from : List WordPosition → Patterns → Patterns → Patterns → Patterns
+round_from positions P kept [] = kept
+round_from positions P kept (e ∷ rest) = if list_all (break_alike_at P (kept ++ rest)) positions
+    then round_from positions P kept rest else round_from positions P (kept ++ e ∷ []) rest
 
 -- a round through all entries of the map Q
-unfoldable pub round : List WordPlace → Patterns → Patterns → Patterns
-round places P Q = round_from places P [] Q
+unfoldable pub round : List WordPosition → Patterns → Patterns → Patterns
+round positions P Q = round_from positions P [] Q
 
 -- what rounds leave, and how many they are
 pub record Rounds : Type 0 where
   pub patterns : Patterns
   pub count : ℕ
 
--- further rounds from Q, of at most so many entries, until one takes out nothing, which counts too
-abbrev pub rounds_from : List WordPlace → Patterns → ℕ → ℕ → Patterns → Rounds
-rounds_from places P count zero Q = record { patterns = Q; count = count + 1 }
-rounds_from places P count (suc most) Q =
-    if nat_eq (length (round places P Q)) (length Q) then record { patterns = Q; count = count + 1 }
-    else rounds_from places P (count + 1) most (round places P Q)
+-- the rounds from Q, of at most so many entries, on; the last takes out nothing and counts too
+abbrev pub rounds_from : List WordPosition → Patterns → ℕ → ℕ → Patterns → Rounds
+rounds_from positions P count zero Q = record { patterns = Q; count = count + 1 }
+rounds_from positions P count (suc most) Q = let next = round positions P Q in
+    if nat_eq (length next) (length Q) then record { patterns = Q; count = count + 1 }
+    else rounds_from positions P (count + 1) most next
 
 -- all rounds, the first of which starts with P
-unfoldable pub rounds : List WordPlace → Patterns → Rounds
-rounds places P = rounds_from places P 0 (length P) P
+unfoldable pub rounds : List WordPosition → Patterns → Rounds
+rounds positions P = rounds_from positions P 0 (length P) P
 
--- the number of the word and the position of a place
-abbrev pub need_at : WordPlace → Need
+-- the need at a position: the number of the word, and the position in it
+abbrev pub need_at : WordPosition → Need
 need_at x = record { word = x.word; position = x.position }
 
--- the need of each entry from `rest` on: the first place that breaks otherwise without it
-abbrev pub needs_from : List WordPlace → Patterns → Patterns → List Need
-needs_from places before [] = []
-needs_from places before (e ∷ rest) = option_to_list (option_map need_at (find
-    (λ x. not (break_alike_at (before ++ e ∷ rest) (before ++ rest) x)) places))
-    ++ needs_from places (before ++ e ∷ []) rest
+-- the need of each entry from `rest` on: the first position that breaks otherwise without it
+abbrev pub needs_from : List WordPosition → Patterns → Patterns → List Need
+needs_from positions before [] = []
+needs_from positions before (e ∷ rest) = option_to_list (option_map need_at (find
+    (λ x. not (break_alike_at (before ++ e ∷ rest) (before ++ rest) x)) positions))
+    ++ needs_from positions (before ++ e ∷ []) rest
 
 -- the needs of all entries of a map
-unfoldable pub needs : List WordPlace → Patterns → List Need
-needs places Q = needs_from places [] Q
+unfoldable pub needs : List WordPosition → Patterns → List Need
+needs positions Q = needs_from positions [] Q
 
 -- what pruning comes to: the patterns that stay, their needs, and how many rounds and removals
 pub record Found : Type 0 where
@@ -65,9 +65,9 @@ pub record Found : Type 0 where
 
 -- patterns pruned by the words of a dictionary
 unfoldable pub pruned : Minima → List Word → Patterns → Found
-pruned m words P = let r = rounds (places m words) P in record {
+pruned m words P = let r = rounds (positions_in_reach m words) P in record {
   patterns = r.patterns;
-  needs = needs (places m words) r.patterns;
+  needs = needs (positions_in_reach m words) r.patterns;
   rounds = r.count;
   removed = length P - length r.patterns;
 }

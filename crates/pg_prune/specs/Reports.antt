@@ -1,4 +1,4 @@
--- The text of what pruning comes to.
+-- The report of what comes out of pruning.
 use Rattle.std.specs.Prelude.{ℕ, ◌-◌, List, [], ◌∷◌, ◌++◌, length, flat_map, take, codes, decimal}
 use Rattle.std.specs.List.{zip}
 use Rattle.pg_translate.specs.Alphabets.{Alphabet}

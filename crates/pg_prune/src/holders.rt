@@ -1,11 +1,11 @@
-//! How many entries give each value to a place.
+//! How many entries give each value to a position.
 use pg_types::LEVEL_MAX;
 use std::marker::Model;
 
 /// How many values a pattern can have.
 const VALUES: usize = LEVEL_MAX as usize;
 
-/// For each value of a pattern the number of entries that give it to a place.
+/// How many entries give each value to a position.
 #[derive(Drop)]
 pub(crate) struct Holders {
     counts: [u64; VALUES],

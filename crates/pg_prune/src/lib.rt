@@ -4,7 +4,7 @@
 mod gather;
 mod holders;
 mod kept_patterns;
-mod places;
+mod positions;
 pub mod pruned;
 pub mod pruning;
 pub mod report;

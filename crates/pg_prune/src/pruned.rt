@@ -1,9 +1,9 @@
-//! What pruning comes to.
+//! What comes out of pruning.
 use pg_patterns::PatternSet;
 use std::marker::Model;
 
-/// The first position that needs an entry: without the entry its value would be odd in place of
-/// even, or even in place of odd.
+/// The first position that needs an entry. Without the entry its value would be odd where it is
+/// even, or even where it is odd.
 #[derive(Clone, Copy, Debug, PartialEq, Eq)]
 pub struct Need {
     /// The number of the word in the dictionary, from 1.
@@ -12,8 +12,8 @@ pub struct Need {
     pub position: u8,
 }
 
-/// What pruning comes to: the patterns that stay, the need of each entry of them in order, the
-/// number of rounds, and how many entries were taken out.
+/// What comes out of pruning: the patterns that stay, the need of each of their entries, the number
+/// of rounds, and how many entries were taken out.
 #[derive(Drop)]
 pub struct Pruned {
     patterns: PatternSet,
@@ -47,7 +47,7 @@ impl Pruned {
     ghost use Rattle.std.specs.Prelude.{◌≡◌};
     ghost use Rattle.pg_prune.specs.Inside.Needs.{HasNeeds};
 
-    /// What pruning with these patterns, needs and numbers came to.
+    /// The patterns, needs and numbers as one.
     pub(crate) fn new(patterns: PatternSet, needs: Vec<Need>, rounds: u64, removed: u64) -> Pruned
         requires { HasNeeds (record {
           patterns = patterns;

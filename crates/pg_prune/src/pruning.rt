@@ -4,7 +4,7 @@ ghost use Rattle.pg_translate.specs.Alphabets.{letters_of};
 ghost use Rattle.pg_patterns.specs.Inside.PatternMaps.{SignsUpTo};
 ghost use Rattle.pg_dict.specs.Word.{Word};
 ghost use Rattle.pg_select.specs.CountedPositions.{Minima, minima_of};
-ghost use Rattle.pg_prune.specs.Places.{places as places_of};
+ghost use Rattle.pg_prune.specs.Positions.{positions_in_reach as positions_of};
 ghost use Rattle.pg_prune.specs.Prunes.{need_at, pruned};
 ghost use Rattle.pg_prune.specs.Inside.Picks.{RoundsStart};
 ghost use Rattle.pg_prune.specs.Inside.Prunings.{IsPruning};
@@ -12,7 +12,7 @@ ghost use Rattle.pg_prune.specs.Inside.Prunings.{IsPruning};
 use crate::gather::gather;
 use crate::holders::Holders;
 use crate::kept_patterns::kept_patterns;
-use crate::places::places;
+use crate::positions::positions_in_reach;
 use crate::pruned::{Need, Pruned};
 use crate::rounds::{Rounds, Unseen, all_holders, all_rounds, needs};
 use pg_dict::Dictionary;
@@ -20,14 +20,14 @@ use pg_patterns::PatternSet;
 use pg_translate::Table;
 use std::alloc::{AllocError, Global};
 
-/// Takes the entries that change no break of the words out of `patterns`, in rounds, and finds for
-/// each entry that stays the first position that needs it.
+/// Takes the entries that change no break of the words out of `patterns`, in rounds. Finds for each
+/// entry that stays the first position that needs it.
 ///
 /// Values are compared at all positions in reach of the words that take part, also where a position
-/// is marked don't-care. An entry goes where each of these values stays odd, or even, without it.
-/// Rounds through the entries, in the order of signs and then of dots, are made until one takes out
-/// nothing. A round costs about the number of places at which its entries stand. The only error is
-/// a lack of memory.
+/// is marked don't-care. An entry goes where each of these values stays odd, or even, without it. A
+/// round goes through the entries in the order of signs and then of dots, and the last round takes
+/// out nothing. A round costs about the number of positions at which its entries stand. The only
+/// error is a lack of memory.
 pub fn prune(
     alloc: Global,
     dictionary: &Dictionary,
@@ -41,7 +41,7 @@ pub fn prune(
     prune_watched(alloc, dictionary, table, patterns, &Unseen)
 }
 
-/// Does what `prune` does, and tells the observer where a round begins.
+/// Does what `prune` does, and tells the observer of each round.
 pub fn prune_watched<W: Rounds>(
     alloc: Global,
     dictionary: &Dictionary,
@@ -56,7 +56,7 @@ pub fn prune_watched<W: Rounds>(
     find(alloc, dictionary, table, patterns, watch)
 }
 
-/// Does what `prune_watched` does. Its contract names only the definition.
+/// What `prune_watched` gives. This contract names the definition alone.
 fn find<W: Rounds>(
     alloc: Global,
     dictionary: &Dictionary,
@@ -67,43 +67,44 @@ fn find<W: Rounds>(
     ensures { IfOk result
         (λ found. found ≡ pruned (minima_of table.now) dictionary.now patterns.now) }
 {
-    let places = places(alloc, dictionary, table)?;
+    let positions = positions_in_reach(alloc, dictionary, table)?;
     let lists = gather(alloc, dictionary, table, patterns)?;
     let standing = lists.as_slice();
-    let mut all = all_holders(alloc, patterns, standing, places.len())?;
+    let mut all = all_holders(alloc, patterns, standing, positions.len())?;
     settle(
         alloc,
         patterns,
         standing,
-        places.as_slice(),
+        positions.as_slice(),
         all.as_mut_slice(),
         watch,
     )
 }
 
-/// Makes the rounds. `places` are those of the words, `standing` says at which of them each entry
-/// stands, and `holders` what all entries give to each.
+/// Makes the rounds. `positions` are those of the words, and `standing` says at which of them each
+/// entry stands. `holders` says what all entries give to each.
 fn settle<W: Rounds>(
     alloc: Global,
     patterns: &PatternSet,
     standing: &[Vec<usize>],
-    places: &[Need],
+    positions: &[Need],
     holders: &mut [Holders],
     watch: &W,
 ) -> Result<Pruned, AllocError>
     requires { (m : Minima) × ((words : List Word)
-        × ((places.now ≡ map need_at (places_of m words))
-        × RoundsStart (places_of m words) patterns.now (map (λ l. l.items) standing.now)
+        × ((positions.now ≡ map need_at (positions_of m words))
+        × RoundsStart (positions_of m words) patterns.now (map (λ l. l.items) standing.now)
         holders.old)) }
-    ensures { (m : Minima) (words : List Word) → places.now ≡ map need_at (places_of m words)
-        → RoundsStart (places_of m words) patterns.now (map (λ l. l.items) standing.now)
+    ensures { (m : Minima) (words : List Word)
+        → positions.now ≡ map need_at (positions_of m words)
+        → RoundsStart (positions_of m words) patterns.now (map (λ l. l.items) standing.now)
         holders.old
         → IfOk result (λ found. found ≡ pruned m words patterns.now) }
 {
     let count = patterns.len();
     let finished = all_rounds(alloc, patterns, standing, holders, watch)?;
     let kept = finished.kept.as_slice();
-    let needs = needs(alloc, patterns, standing, places, holders, kept)?;
+    let needs = needs(alloc, patterns, standing, positions, holders, kept)?;
     let removed = count - kept.len();
     let patterns = kept_patterns(alloc, patterns, kept)?;
     Ok(Pruned::new(patterns, needs, finished.count, removed as u64))

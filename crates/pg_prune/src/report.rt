@@ -55,7 +55,7 @@ fn push_line(
     text.extend_from_slice(b" letters\n")
 }
 
-/// Appends the last line: the numbers of rounds, and of entries that were taken out and that stay.
+/// Appends the last line: how many rounds there were, and how many entries went and stay.
 fn push_last_line(text: &mut Vec<u8>, pruned: &Pruned) -> Result<(), AllocError>
     ensures { OnOk result (text.new.items ≡ text.old.items ++ last_line pruned.now) }
 {
@@ -66,8 +66,8 @@ fn push_last_line(text: &mut Vec<u8>, pruned: &Pruned) -> Result<(), AllocError>
     Ok(())
 }
 
-/// The report: a line for each entry that stays, with its need, and a last line with the numbers of
-/// rounds, of entries that were taken out and of those that stay.
+/// The report: a line for each entry that stays, with its need. The last line has the numbers of
+/// rounds, of entries that were taken out, and of those that stay.
 pub fn prune_text(alloc: Global, table: &Table, pruned: &Pruned) -> Result<Vec<u8>, AllocError>
     requires { SignsUpTo (letters_of table.now + 1) pruned.now.patterns }
     ensures { IfOk result (λ text. text.items ≡ prune_report table.now pruned.now) }

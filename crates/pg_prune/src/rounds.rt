@@ -1,10 +1,10 @@
 //! The rounds.
 ghost use Rattle.std.specs.Prelude.{◌≡◌, ◌<◌, ◌≤◌, not, [], ◌∷◌, List, length, map, if◌then◌else◌, IfOk, None, MatchOption};
-ghost use Rattle.pg_prune.specs.Places.{WordPlace};
+ghost use Rattle.pg_prune.specs.Positions.{WordPosition};
 ghost use Rattle.pg_prune.specs.Prunes.{need_at, needs as needs_of};
 ghost use Rattle.pg_prune.specs.Inside.Alike.{break_alike};
 ghost use Rattle.pg_prune.specs.Inside.Findings.{first_difference};
-ghost use Rattle.pg_prune.specs.Inside.Standing.{places_of_entries};
+ghost use Rattle.pg_prune.specs.Inside.Standing.{positions_of_entries};
 ghost use Rattle.pg_prune.specs.Inside.Picks.{picked_entries, IsGround, RoundStart, RoundDone, RoundsStart};
 ghost use Rattle.std.specs.List.{range_with_len};
 ghost use Rattle.pg_prune.specs.Inside.Ends.{RoundsDone};
@@ -29,59 +29,59 @@ impl Rounds for Unseen {
     fn begins(&self, _round: u64) {}
 }
 
-/// Adds an entry with this value at its places.
-fn add(holders: &mut [Holders], places: &[usize], value: u8)
-    requires { (turn : Turn) × IsAwaited turn holders.old places.now value }
-    ensures { (turn : Turn) → IsAwaited turn holders.old places.now value
-        → IsTallied turn.places (with_entry turn) holders.new }
+/// Adds an entry with this value at its positions.
+fn add(holders: &mut [Holders], positions: &[usize], value: u8)
+    requires { (turn : Turn) × IsAwaited turn holders.old positions.now value }
+    ensures { (turn : Turn) → IsAwaited turn holders.old positions.now value
+        → IsTallied turn.positions (with_entry turn) holders.new }
 {
-    'places: for place in places {
-        holders[*place].add(value);
+    'positions: for position in positions {
+        holders[*position].add(value);
     }
 }
 
-/// Takes an entry with this value off its places.
-fn take_off(holders: &mut [Holders], places: &[usize], value: u8)
-    requires { (turn : Turn) × IsHeld turn holders.old places.now value }
-    ensures { (turn : Turn) → IsHeld turn holders.old places.now value
-        → IsTallied turn.places (without_entry turn) holders.new }
+/// Takes an entry with this value off its positions.
+fn take_off(holders: &mut [Holders], positions: &[usize], value: u8)
+    requires { (turn : Turn) × IsHeld turn holders.old positions.now value }
+    ensures { (turn : Turn) → IsHeld turn holders.old positions.now value
+        → IsTallied turn.positions (without_entry turn) holders.new }
 {
-    'places: for place in places {
-        holders[*place].take_off(value);
+    'positions: for position in positions {
+        holders[*position].take_off(value);
     }
 }
 
-/// The first of an entry's places that needs the entry: the value there would not stay odd, or
+/// The first of an entry's positions that needs the entry: the value there would not stay odd, or
 /// even, without it. None where the entry can go.
-fn first_need(holders: &[Holders], places: &[usize], value: u8) -> Option<usize>
-    requires { (turn : Turn) × IsHeld turn holders.now places.now value }
-    ensures { (turn : Turn) → IsHeld turn holders.now places.now value
-        → (let found = first_difference turn.places (with_entry turn) (without_entry turn) in
-        MatchOption result (found ≡ None) (IsFound turn.places found)) }
+fn first_need(holders: &[Holders], positions: &[usize], value: u8) -> Option<usize>
+    requires { (turn : Turn) × IsHeld turn holders.now positions.now value }
+    ensures { (turn : Turn) → IsHeld turn holders.now positions.now value
+        → (let found = first_difference turn.positions (with_entry turn) (without_entry turn) in
+        MatchOption result (found ≡ None) (IsFound turn.positions found)) }
 {
-    'places: for place in places {
-        if !holders[*place].stays_alike(value) {
-            return Some(*place);
+    'positions: for position in positions {
+        if !holders[*position].stays_alike(value) {
+            return Some(*position);
         }
     }
     None
 }
 
-/// How many entries give each value to each of `count` places, where all entries stay.
+/// How many entries give each value to each of `count` positions, where all entries stay.
 pub(crate) fn all_holders(
     alloc: Global,
     patterns: &PatternSet,
     standing: &[Vec<usize>],
     count: usize,
 ) -> Result<Vec<Holders>, AllocError>
-    requires { (places : List WordPlace)
-        × IsGround places patterns.now (map (λ l. l.items) standing.now) count }
-    ensures { (places : List WordPlace)
-        → IsGround places patterns.now (map (λ l. l.items) standing.now) count
-        → IfOk result (λ holders. IsTallied places patterns.now holders.items) }
+    requires { (positions : List WordPosition)
+        × IsGround positions patterns.now (map (λ l. l.items) standing.now) count }
+    ensures { (positions : List WordPosition)
+        → IsGround positions patterns.now (map (λ l. l.items) standing.now) count
+        → IfOk result (λ holders. IsTallied positions patterns.now holders.items) }
 {
     let mut holders = Vec::new(alloc);
-    'places: for _ in 0..count {
+    'positions: for _ in 0..count {
         holders.push(Holders::none())?;
     }
     'entries: for i in 0..patterns.len() {
@@ -91,25 +91,24 @@ pub(crate) fn all_holders(
     Ok(holders)
 }
 
-/// Takes an entry with this value off its places, where none of them needs it. The answer is
+/// Takes an entry with this value off its positions, where none of them needs it. The answer says
 /// whether one does.
-fn keep_or_take_off(holders: &mut [Holders], places: &[usize], value: u8) -> bool
-    requires { (turn : Turn) × IsHeld turn holders.old places.now value }
-    ensures answer { (turn : Turn) → IsHeld turn holders.old places.now value
-        → result ≡ not (break_alike turn.places (with_entry turn) (without_entry turn)) }
-    ensures holders { (turn : Turn) → IsHeld turn holders.old places.now value
-        → IsTallied turn.places
+fn keep_or_take_off(holders: &mut [Holders], positions: &[usize], value: u8) -> bool
+    requires { (turn : Turn) × IsHeld turn holders.old positions.now value }
+    ensures answer { (turn : Turn) → IsHeld turn holders.old positions.now value
+        → result ≡ not (break_alike turn.positions (with_entry turn) (without_entry turn)) }
+    ensures holders { (turn : Turn) → IsHeld turn holders.old positions.now value
+        → IsTallied turn.positions
         (if result then with_entry turn else without_entry turn) holders.new }
 {
-    let is_needed = first_need(holders, places, value).is_some();
+    let is_needed = first_need(holders, positions, value).is_some();
     if !is_needed {
-        take_off(holders, places, value);
+        take_off(holders, positions, value);
     }
     is_needed
 }
 
-/// Makes a round through the entries with the numbers `kept`, and gives the numbers of those that
-/// stay.
+/// Makes a round through the entries with the numbers `kept`. Gives the numbers of those that stay.
 pub(crate) fn round(
     alloc: Global,
     patterns: &PatternSet,
@@ -117,12 +116,14 @@ pub(crate) fn round(
     holders: &mut [Holders],
     kept: &[usize],
 ) -> Result<Vec<usize>, AllocError>
-    requires { (places : List WordPlace)
-        × RoundStart places patterns.now (map (λ l. l.items) standing.now) holders.old kept.now }
-    ensures { (places : List WordPlace)
-        → RoundStart places patterns.now (map (λ l. l.items) standing.now) holders.old kept.now
+    requires { (positions : List WordPosition)
+        × RoundStart positions patterns.now
+        (map (λ l. l.items) standing.now) holders.old kept.now }
+    ensures { (positions : List WordPosition)
+        → RoundStart positions patterns.now
+        (map (λ l. l.items) standing.now) holders.old kept.now
         → IfOk result (λ stay.
-        RoundDone places patterns.now
+        RoundDone positions patterns.now
         (map (λ l. l.items) standing.now) holders.new kept.now stay.items) }
 {
     let mut stay = Vec::new(alloc);
@@ -161,11 +162,11 @@ pub(crate) fn all_rounds<W: Rounds>(
     holders: &mut [Holders],
     watch: &W,
 ) -> Result<Finished, AllocError>
-    requires { (places : List WordPlace)
-        × RoundsStart places patterns.now (map (λ l. l.items) standing.now) holders.old }
-    ensures { (places : List WordPlace)
-        → RoundsStart places patterns.now (map (λ l. l.items) standing.now) holders.old
-        → IfOk result (RoundsDone places patterns.now
+    requires { (positions : List WordPosition)
+        × RoundsStart positions patterns.now (map (λ l. l.items) standing.now) holders.old }
+    ensures { (positions : List WordPosition)
+        → RoundsStart positions patterns.now (map (λ l. l.items) standing.now) holders.old
+        → IfOk result (RoundsDone positions patterns.now
         (map (λ l. l.items) standing.now) holders.new) }
 {
     let mut kept = numbers(alloc, patterns.len())?;
@@ -186,21 +187,21 @@ pub(crate) fn needs(
     alloc: Global,
     patterns: &PatternSet,
     standing: &[Vec<usize>],
-    places: &[Need],
+    positions: &[Need],
     holders: &[Holders],
     kept: &[usize],
 ) -> Result<Vec<Need>, AllocError>
-    requires { (all : List WordPlace) × (places.now ≡ map need_at all)
+    requires { (all : List WordPosition) × (positions.now ≡ map need_at all)
         × RoundStart all patterns.now (map (λ l. l.items) standing.now) holders.now kept.now }
-    ensures { (all : List WordPlace) → (places.now ≡ map need_at all)
+    ensures { (all : List WordPosition) → (positions.now ≡ map need_at all)
         → RoundStart all patterns.now (map (λ l. l.items) standing.now) holders.now kept.now
         → IfOk result (λ needs. needs.items ≡ needs_of all (picked_entries patterns.now kept.now)) }
 {
     let mut needs = Vec::new(alloc);
     'entries: for i in kept {
         let value = patterns.entry(*i).value;
-        if let Some(place) = first_need(holders, standing[*i].as_slice(), value) {
-            needs.push(places[place])?;
+        if let Some(position) = first_need(holders, standing[*i].as_slice(), value) {
+            needs.push(positions[position])?;
         }
     }
     Ok(needs)

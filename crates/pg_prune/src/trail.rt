@@ -1,9 +1,10 @@
-//! The starts of strings in the words, from a string to the one that is longer by a sign.
+//! The starts of strings in the words. Those of a string are among those of the string that is
+//! shorter by a sign.
 ghost use Rattle.std.specs.Prelude.{◌≡◌, ◌≤◌, ◌+◌, ◌++◌, [], length, take, map, slice_index_or, IfOk, OnOk, All};
 ghost use Rattle.std.specs.List.{filter, filter_map};
 ghost use Rattle.pg_types.specs.declared.limits.TheConstants.{PATTERN_SIGNS_MAX};
 ghost use Rattle.pg_select.specs.CountedPositions.{minima_of};
-ghost use Rattle.pg_prune.specs.Inside.Trails.{IsStart, IsTrail, starts_in, all_starts as all_starts_of, continues_with as continues_with_by, starts_of as starts_by, last_of, place_of as place_by};
+ghost use Rattle.pg_prune.specs.Inside.Trails.{IsStart, IsTrail, starts_in, all_starts as all_starts_of, continues_with as continues_with_by, starts_of as starts_by, last_of, number_at_dot as number_by};
 
 use pg_dict::Dictionary;
 use pg_translate::Table;
@@ -15,18 +16,18 @@ use std::alloc::{AllocError, Global};
 pub(crate) struct Start {
     /// The number of the word, from 0.
     pub word: usize,
-    /// The number of the first place of the word, from 0.
-    pub places: usize,
+    /// How many positions in reach stand before those of the word.
+    pub before: usize,
     /// How many signs of the word stand before the string.
     pub at: usize,
 }
 
-/// The starts of a string, and those of all its first parts that have a sign.
+/// A string, with its starts and those of its first parts.
 #[derive(Drop)]
 pub(crate) struct Trail {
     /// The string.
     pub signs: Vec<Sign>,
-    /// The starts of its first parts, the shorter ones first, and its own last.
+    /// The starts of its first parts, from that of one sign up to the whole string.
     pub starts: Vec<Vec<Start>>,
 }
 
@@ -41,12 +42,12 @@ pub(crate) fn all_starts(
     ensures known { IfOk result (λ starts. All (IsStart dictionary.now) starts.items) }
 {
     let mut starts = Vec::new(alloc);
-    let mut places = 0;
+    let mut before = 0;
     'words: for word in 0..dictionary.len() {
         let w = dictionary.word(word);
-        push_starts(&mut starts, word, places, w.signs.len())?;
+        push_starts(&mut starts, word, before, w.signs.len())?;
         if let Some((first, last)) = table.reach(w.signs.len()) {
-            places += last + 1 - first;
+            before += last + 1 - first;
         }
     }
     Ok(starts)
@@ -56,13 +57,13 @@ pub(crate) fn all_starts(
 fn push_starts(
     starts: &mut Vec<Start>,
     word: usize,
-    places: usize,
+    before: usize,
     len: usize,
 ) -> Result<(), AllocError>
-    ensures { OnOk result (starts.new.items ≡ starts.old.items ++ starts_in word places len) }
+    ensures { OnOk result (starts.new.items ≡ starts.old.items ++ starts_in word before len) }
 {
     'signs: for at in 0..len {
-        starts.push(Start { word, places, at })?;
+        starts.push(Start { word, before, at })?;
     }
     Ok(())
 }
@@ -127,8 +128,8 @@ impl Trail {
         }
     }
 
-    /// Goes to another string, where `all` are all starts. What it has in common with the last one
-    /// stays.
+    /// Goes to another string, where `all` are all starts. What both strings begin with keeps its
+    /// starts.
     fn go_to(
         &mut self,
         alloc: Global,
@@ -155,9 +156,9 @@ impl Trail {
         Ok(())
     }
 
-    /// Goes to another string, and gives the numbers of the places at which a dot of it stands, where
-    /// `all` are all starts.
-    pub fn places(
+    /// Goes to another string, where `all` are all starts. Gives the numbers of the positions at
+    /// which a dot of it stands.
+    pub fn positions(
         &mut self,
         alloc: Global,
         dictionary: &Dictionary,
@@ -170,8 +171,8 @@ impl Trail {
             (map (λ l. l.items) self.old.starts.items) }
         requires known { All (IsStart dictionary.now) all.now }
         requires few { length signs.now ≤ PATTERN_SIGNS_MAX }
-        ensures places { IfOk result (λ places. places.items ≡ filter_map
-            (place_by (minima_of table.now) dictionary.now dot)
+        ensures positions { IfOk result (λ numbers. numbers.items ≡ filter_map
+            (number_by (minima_of table.now) dictionary.now dot)
             (starts_by dictionary.now all.now signs.now)) }
         ensures trail { OnOk result
             (IsTrail dictionary.now all.now signs.now (map (λ l. l.items) self.new.starts.items)) }
@@ -194,21 +195,21 @@ impl Trail {
     }
 }
 
-/// The number of the place at which the dot of a string stands; none where that is out of reach.
-fn place_of(dictionary: &Dictionary, table: &Table, start: Start, dot: u8) -> Option<usize>
+/// The number of the position at which the dot of a string stands; none where that is out of reach.
+fn number_at_dot(dictionary: &Dictionary, table: &Table, start: Start, dot: u8) -> Option<usize>
     requires { IsStart dictionary.now start }
-    ensures { result ≡ place_by (minima_of table.now) dictionary.now dot start }
+    ensures { result ≡ number_by (minima_of table.now) dictionary.now dot start }
 {
     let (first, last) = table.reach(dictionary.word(start.word).signs.len())?;
     let position = start.at + usize::from(dot);
     if first <= position && position <= last {
-        Some(start.places + (position - first))
+        Some(start.before + (position - first))
     } else {
         None
     }
 }
 
-/// The numbers of the places at which the dot of a string stands, by its starts.
+/// The numbers of the positions at which the dot of a string stands, by its starts.
 fn standing(
     alloc: Global,
     dictionary: &Dictionary,
@@ -217,14 +218,14 @@ fn standing(
     dot: u8,
 ) -> Result<Vec<usize>, AllocError>
     requires { All (IsStart dictionary.now) starts.now }
-    ensures { IfOk result (λ places. places.items
-        ≡ filter_map (place_by (minima_of table.now) dictionary.now dot) starts.now) }
+    ensures { IfOk result (λ numbers. numbers.items
+        ≡ filter_map (number_by (minima_of table.now) dictionary.now dot) starts.now) }
 {
-    let mut places = Vec::new(alloc);
+    let mut numbers = Vec::new(alloc);
     'starts: for start in starts {
-        if let Some(place) = place_of(dictionary, table, *start, dot) {
-            places.push(place)?;
+        if let Some(number) = number_at_dot(dictionary, table, *start, dot) {
+            numbers.push(number)?;
         }
     }
-    Ok(places)
+    Ok(numbers)
 }

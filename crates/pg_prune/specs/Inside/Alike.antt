@@ -1,10 +1,10 @@
--- Maps that break alike at all places.
+-- Maps that break alike at all positions.
 use Rattle.std.specs.Prelude.{Bool, List}
 use Rattle.std.specs.List.{list_all}
 use Rattle.pg_select.specs.Windows.{Patterns}
-use Rattle.pg_prune.specs.Places.{WordPlace}
+use Rattle.pg_prune.specs.Positions.{WordPosition}
 use Rattle.pg_prune.specs.Prunes.{break_alike_at}
 
--- two maps break alike at all places
-abbrev pub break_alike : List WordPlace → Patterns → Patterns → Bool
-break_alike places P Q = list_all (break_alike_at P Q) places
+-- two maps break alike at all positions
+abbrev pub break_alike : List WordPosition → Patterns → Patterns → Bool
+break_alike positions P Q = list_all (break_alike_at P Q) positions

@@ -5,24 +5,24 @@ use Rattle.std.specs.Option.{option_map, option_to_list}
 use Rattle.pg_translate.specs.Alphabets.{Alphabet}
 use Rattle.pg_select.specs.Windows.{Patterns}
 use Rattle.pg_prune.specs.declared.pruned.Need.{Need}
-use Rattle.pg_prune.specs.Places.{WordPlace}
+use Rattle.pg_prune.specs.Positions.{WordPosition}
 use Rattle.pg_prune.specs.Prunes.{break_alike_at, need_at, needs, Found, Rounds}
 use Rattle.pg_prune.specs.Reports.{keep_line}
 
--- the first place at which two maps do not break alike, where there is one
-abbrev pub first_difference : List WordPlace → Patterns → Patterns → Option WordPlace
-first_difference places P Q = find (λ x. not (break_alike_at P Q x)) places
+-- the first position at which two maps do not break alike, where there is one
+abbrev pub first_difference : List WordPosition → Patterns → Patterns → Option WordPosition
+first_difference positions P Q = find (λ x. not (break_alike_at P Q x)) positions
 
 -- a need as a list
-abbrev pub need_list : Option WordPlace → List Need
-need_list place = option_to_list (option_map need_at place)
+abbrev pub need_list : Option WordPosition → List Need
+need_list position = option_to_list (option_map need_at position)
 
 -- what the rounds come to, where so many entries were there at first
-abbrev pub found_by : List WordPlace → ℕ → Rounds → Found
-found_by places first r =
+abbrev pub found_by : List WordPosition → ℕ → Rounds → Found
+found_by positions first r =
     record {
       patterns = r.patterns;
-      needs = needs places r.patterns;
+      needs = needs positions r.patterns;
       rounds = r.count;
       removed = first - length r.patterns;
     }

@@ -1,17 +1,17 @@
--- How many entries give each value to a place.
+-- How many entries give each value to a position.
 use Rattle.std.specs.Prelude.{ℕ, ◌+◌, ◌-◌, ◌%◌, Bool, ◌&&◌, nat_eq, nat_lt, if◌then◌else◌, List, [], ◌∷◌, map, count_by, slice_index, slice_set}
 use Rattle.std.specs.List.{range_with_len}
 use Rattle.pg_types.specs.declared.limits.TheConstants.{LEVEL_MAX}
 use Rattle.pg_select.specs.Windows.{Patterns}
-use Rattle.pg_prune.specs.Places.{WordPlace}
+use Rattle.pg_prune.specs.Positions.{WordPosition}
 use Rattle.pg_prune.specs.Inside.Standing.{stands}
 
--- how many entries of a map stand at a place and have this value
-abbrev pub count_at : Patterns → WordPlace → ℕ → ℕ
+-- how many entries of a map stand at a position and have this value
+abbrev pub count_at : Patterns → WordPosition → ℕ → ℕ
 count_at Q x v = count_by (λ e. stands e x && nat_eq e.1 v) Q
 
--- how many entries of a map stand at a place and have the value 1, 2 and so on to 9
-abbrev pub holder_counts : Patterns → WordPlace → List ℕ
+-- how many entries of a map stand at a position and have the value 1, 2 and so on to 9
+abbrev pub holder_counts : Patterns → WordPosition → List ℕ
 holder_counts Q x = map (count_at Q x) (range_with_len 1 LEVEL_MAX)
 
 -- the greatest value above v that some entry gives, by how many give v + 1 and so on; else `best`

@@ -3,10 +3,10 @@ use Rattle.std.specs.Prelude.{◌≡◌, ℕ, ◌<◌, true, List, [], map, leng
 use Rattle.std.specs.List.{All, list_all}
 use Rattle.pg_patterns.specs.Inside.PatternMaps.{is_entry}
 use Rattle.pg_select.specs.Windows.{Patterns}
-use Rattle.pg_prune.specs.Places.{WordPlace}
+use Rattle.pg_prune.specs.Positions.{WordPosition}
 use Rattle.pg_prune.specs.Prunes.{round}
 use Rattle.pg_prune.specs.Inside.Alike.{break_alike}
-use Rattle.pg_prune.specs.Inside.Standing.{places_of_entries}
+use Rattle.pg_prune.specs.Inside.Standing.{positions_of_entries}
 use Rattle.pg_prune.specs.Inside.Turns.{IsTallied}
 
 -- the entry of a map with a number
@@ -17,29 +17,29 @@ entry_of P i = slice_index_or P i (([], 0), 0)
 abbrev pub picked_entries : Patterns → List ℕ → Patterns
 picked_entries P numbers = map (entry_of P) numbers
 
--- the numbers of the places at which the entries of a map stand, and how many places there are
-pub record IsGround (places : List WordPlace) (P : Patterns)
+-- the numbers of the positions at which entries stand, and how many positions there are
+pub record IsGround (positions : List WordPosition) (P : Patterns)
     (stands : List (List ℕ)) (count : ℕ) : Type 0 where
-  pub all : stands ≡ places_of_entries places P
-  pub many : count ≡ length places
+  pub all : stands ≡ positions_of_entries positions P
+  pub many : count ≡ length positions
 
 -- a round begins: the entries `kept` of P break alike with P, and the holders are theirs
-pub record RoundStart (places : List WordPlace) (P : Patterns)
+pub record RoundStart (positions : List WordPosition) (P : Patterns)
     (stands : List (List ℕ)) (holders : List (List ℕ)) (kept : List ℕ) : Type 0 where
-  pub all : stands ≡ places_of_entries places P
+  pub all : stands ≡ positions_of_entries positions P
   pub sound : list_all is_entry P ≡ true
   pub within : All (λ i. i < length P) kept
-  pub tallied : IsTallied places (picked_entries P kept) holders
-  pub alike : break_alike places P (picked_entries P kept) ≡ true
+  pub tallied : IsTallied positions (picked_entries P kept) holders
+  pub alike : break_alike positions P (picked_entries P kept) ≡ true
 
 -- a round is done: the entries `stay` are those that it leaves, and the holders are theirs
-pub record RoundDone (places : List WordPlace) (P : Patterns)
+pub record RoundDone (positions : List WordPosition) (P : Patterns)
     (stands : List (List ℕ)) (holders : List (List ℕ)) (kept stay : List ℕ) : Type 0 where
-  pub next : RoundStart places P stands holders stay
-  pub done : picked_entries P stay ≡ round places P (picked_entries P kept)
+  pub next : RoundStart positions P stands holders stay
+  pub done : picked_entries P stay ≡ round positions P (picked_entries P kept)
 
 -- before the first round: the holders are those of all entries
-pub record RoundsStart (places : List WordPlace) (P : Patterns)
+pub record RoundsStart (positions : List WordPosition) (P : Patterns)
     (stands : List (List ℕ)) (holders : List (List ℕ)) : Type 0 where
-  pub all : stands ≡ places_of_entries places P
-  pub tallied : IsTallied places P holders
+  pub all : stands ≡ positions_of_entries positions P
+  pub tallied : IsTallied positions P holders

@@ -1,4 +1,4 @@
--- What pruning gives.
+-- What is known of what comes out of pruning.
 use Rattle.std.specs.Prelude.{◌≡◌, ℕ, List, All, Contains}
 use Rattle.pg_dict.specs.Word.{Word}
 use Rattle.pg_patterns.specs.Inside.PatternMaps.{SignsUpTo}

@@ -1,23 +1,23 @@
--- Where the entries of a map stand: the numbers of the places at which they apply.
+-- Where the entries of a map stand: the numbers of the positions at which they apply.
 use Rattle.std.specs.Prelude.{ℕ, ◌+◌, Bool, if◌then◌else◌, List, [], ◌∷◌, map}
 use Rattle.pg_patterns.specs.Values.{applies}
 use Rattle.pg_select.specs.Windows.{Patterns}
-use Rattle.pg_prune.specs.Places.{WordPlace}
+use Rattle.pg_prune.specs.Positions.{WordPosition}
 
 -- the numbers of the elements that pass a test, where the first has this number
-abbrev pub numbers_of : (WordPlace → Bool) → ℕ → List WordPlace → List ℕ
+abbrev pub numbers_of : (WordPosition → Bool) → ℕ → List WordPosition → List ℕ
 numbers_of test number [] = []
 numbers_of test number (x ∷ xs) = if test x then number ∷ numbers_of test (number + 1) xs
     else numbers_of test (number + 1) xs
 
--- whether an entry stands at a place
-abbrev pub stands : (List ℕ × ℕ) × ℕ → WordPlace → Bool
+-- whether an entry stands at a position
+abbrev pub stands : (List ℕ × ℕ) × ℕ → WordPosition → Bool
 stands e x = applies x.signs x.position e.0
 
--- the numbers of the places at which an entry stands, counted from 0
-abbrev pub places_of_entry : List WordPlace → (List ℕ × ℕ) × ℕ → List ℕ
-places_of_entry places e = numbers_of (stands e) 0 places
+-- the numbers of the positions at which an entry stands, counted from 0
+abbrev pub positions_of_entry : List WordPosition → (List ℕ × ℕ) × ℕ → List ℕ
+positions_of_entry positions e = numbers_of (stands e) 0 positions
 
--- the numbers of the places at which an entry stands, for each entry of a map
-abbrev pub places_of_entries : List WordPlace → Patterns → List (List ℕ)
-places_of_entries places P = map (places_of_entry places) P
+-- the numbers of the positions at which an entry stands, for each entry of a map
+abbrev pub positions_of_entries : List WordPosition → Patterns → List (List ℕ)
+positions_of_entries positions P = map (positions_of_entry positions) P

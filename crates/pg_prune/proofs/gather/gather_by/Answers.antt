@@ -5,28 +5,28 @@ use Rattle.std.proofs.lemmas.Option.{get_or_from_slice_get}
 use Rattle.std.proofs.lemmas.Result.{IfOk-from_err}
 use Rattle.pg_select.specs.CountedPositions.{minima_of}
 use Rattle.pg_select.specs.Windows.{Patterns}
-use Rattle.pg_prune.specs.Places.{places as places_of}
-use Rattle.pg_prune.specs.Inside.Standing.{places_of_entry as standing_of}
-use Rattle.pg_prune.specs.Inside.Standing.{places_of_entries}
+use Rattle.pg_prune.specs.Positions.{positions_in_reach as positions_of}
+use Rattle.pg_prune.specs.Inside.Standing.{positions_of_entry as standing_of}
+use Rattle.pg_prune.specs.Inside.Standing.{positions_of_entries}
 use Rattle.pg_prune.specs.declared.trail.Start.{Start}
-use Rattle.pg_prune.specs.Inside.Trails.{starts_of, trail_upto, place_of}
-use Rattle.pg_prune.proofs.TrailPlaces.{places_by_starts}
+use Rattle.pg_prune.specs.Inside.Trails.{starts_of, trail_upto, number_at_dot}
+use Rattle.pg_prune.proofs.TrailPositions.{positions_by_starts}
 use Rattle.pg_prune.proofs.gather.gather_by.Goals as goal
 
 pub entry-entry-requires : goal.entry-entry-requires
 entry-entry-requires c = omega (arith, c.len-i-end.ensures.value)
 
-pub places-requires-clause-trail : goal.places-requires-clause-trail
-places-requires-clause-trail c = c.entries.invariant.trail
+pub positions-requires-clause-trail : goal.positions-requires-clause-trail
+positions-requires-clause-trail c = c.entries.invariant.trail
 
-pub places-requires-clause-known : goal.places-requires-clause-known
-places-requires-clause-known c = c.requires.known
+pub positions-requires-clause-known : goal.positions-requires-clause-known
+positions-requires-clause-known c = c.requires.known
 
-pub places-requires-clause-few : goal.places-requires-clause-few
-places-requires-clause-few c = c.entry-entry.ensures.few
+pub positions-requires-clause-few : goal.positions-requires-clause-few
+positions-requires-clause-few c = c.entry-entry.ensures.few
 
-pub returns-in_err-places : goal.returns-in_err-places
-returns-in_err-places c = IfOk-from_err c.from_residual.result _ c.from_residual.ensures.0
+pub returns-in_err-positions : goal.returns-in_err-positions
+returns-in_err-positions c = IfOk-from_err c.from_residual.result _ c.from_residual.ensures.0
 
 pub returns-in_err-push : goal.returns-in_err-push
 returns-in_err-push c = IfOk-from_err c.from_residual-in_err-push.result _ c.from_residual-in_err-push.ensures.0
@@ -40,19 +40,19 @@ entries-preserved c =
     let u = c.entry-entry.result.signs.now in
     let d = c.entry-entry.result.dot in
     let v = c.entry-entry.result.value in
-    let standing = standing_of (places_of m ws) in
+    let standing = standing_of (positions_of m ws) in
     let entry : get_or P i (([], 0), 0) ≡ ((u, d), v) = get_or_from_slice_get P i ((u, d), v) (([], 0), 0) c.entry-entry.ensures.value in
-    let found : c.in_ok-places.field-0.items ≡ standing (get_or P i (([], 0), 0)) =
-    c.in_ok-places.ensures.places
-    ∙ ap (λ (xs : List Start). filter_map (place_of m ws d) (starts_of ws xs u)) c.requires.starts
-    ∙ places_by_starts m ws u v d ∙ ap standing (sym entry) in
+    let found : c.in_ok-positions.field-0.items ≡ standing (get_or P i (([], 0), 0)) =
+    c.in_ok-positions.ensures.positions
+    ∙ ap (λ (xs : List Start). filter_map (number_at_dot m ws d) (starts_of ws xs u)) c.requires.starts
+    ∙ positions_by_starts m ws u v d ∙ ap standing (sym entry) in
     let inside : i < length P = omega (arith, c.len-i-end.ensures.value) in
     record {
-      trail = c.in_ok-places.ensures.trail ∙ ap (λ (q : List ℕ). trail_upto ws c.args.all.now q (length q)) (sym c.in_ok-places.ensures.signs);
+      trail = c.in_ok-positions.ensures.trail ∙ ap (λ (q : List ℕ). trail_upto ws c.args.all.now q (length q)) (sym c.in_ok-positions.ensures.signs);
       lists =
           ap (λ ls. map (λ t. t.items) ls) c.in_ok-push.ensures.items
-          ∙ map-append (λ t. t.items) c.entries.lists.items (c.in_ok-places.field-0 ∷ [])
-          ∙ ap (λ (ls : List (List ℕ)). ls ++ c.in_ok-places.field-0.items ∷ []) c.entries.invariant.lists
+          ∙ map-append (λ t. t.items) c.entries.lists.items (c.in_ok-positions.field-0 ∷ [])
+          ∙ ap (λ (ls : List (List ℕ)). ls ++ c.in_ok-positions.field-0.items ∷ []) c.entries.invariant.lists
           ∙ ap (λ (x : List ℕ). map standing (take i P) ++ x ∷ []) found
           ∙ sym (map_more standing P i (([], 0), 0) inside);
     }
@@ -60,4 +60,4 @@ entries-preserved c =
 pub returns : goal.returns
 returns c =
     let behind : length c.args.patterns.now ≤ c.entries.i = omega (arith, c.len-i-end.ensures.value) in
-    c.entries.invariant.lists ∙ ap (λ (Q : Patterns). places_of_entries (places_of (minima_of c.args.table.now) c.args.dictionary.now) Q) (take_all c.entries.i c.args.patterns.now behind)
+    c.entries.invariant.lists ∙ ap (λ (Q : Patterns). positions_of_entries (positions_of (minima_of c.args.table.now) c.args.dictionary.now) Q) (take_all c.entries.i c.args.patterns.now behind)

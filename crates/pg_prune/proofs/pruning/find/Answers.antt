@@ -1,7 +1,7 @@
 use Rattle.std.proofs.Common.{◌≡◌, ◌∙◌, map, length, ap}
 use Rattle.std.proofs.lemmas.List.{length-map}
 use Rattle.pg_select.specs.CountedPositions.{minima_of}
-use Rattle.pg_prune.specs.Places.{places}
+use Rattle.pg_prune.specs.Positions.{positions_in_reach}
 use Rattle.pg_prune.specs.Prunes.{need_at}
 use Rattle.pg_prune.proofs.pruning.find.Goals as goal
 
@@ -9,18 +9,18 @@ pub settle-requires : goal.settle-requires
 settle-requires g c =
     let m = minima_of c.args.table.now in
     let ws = c.args.dictionary.now in
-    let xs = places m ws in
+    let xs = positions_in_reach m ws in
     let stands = ap (map (λ l. l.items)) c.as_slice-standing.ensures.value ∙ c.in_ok-lists.ensures in
-    let many : c.len.result ≡ length xs = c.len.ensures ∙ c.in_ok-places.places.ok.0 ∙ ap length c.in_ok-places.ensures ∙ length-map xs need_at in
+    let many : c.len.result ≡ length xs = c.len.ensures ∙ c.in_ok-positions.positions.ok.0 ∙ ap length c.in_ok-positions.ensures ∙ length-map xs need_at in
     let tallied = c.in_ok-all.ensures xs (record { all = stands; many = many }) in
-    (m, (ws, (c.as_slice.ensures.value ∙ c.in_ok-places.ensures, record { all = stands; tallied = c.as_mut_slice.ensures.value ∙ tallied })))
+    (m, (ws, (c.as_slice.ensures.value ∙ c.in_ok-positions.ensures, record { all = stands; tallied = c.as_mut_slice.ensures.value ∙ tallied })))
 
 pub returns : goal.returns
 returns g c =
     let m = minima_of c.args.table.now in
     let ws = c.args.dictionary.now in
-    let xs = places m ws in
+    let xs = positions_in_reach m ws in
     let stands = ap (map (λ l. l.items)) c.as_slice-standing.ensures.value ∙ c.in_ok-lists.ensures in
-    let many : c.len.result ≡ length xs = c.len.ensures ∙ c.in_ok-places.places.ok.0 ∙ ap length c.in_ok-places.ensures ∙ length-map xs need_at in
+    let many : c.len.result ≡ length xs = c.len.ensures ∙ c.in_ok-positions.positions.ok.0 ∙ ap length c.in_ok-positions.ensures ∙ length-map xs need_at in
     let tallied = c.in_ok-all.ensures xs (record { all = stands; many = many }) in
-    c.settle.ensures m ws (c.as_slice.ensures.value ∙ c.in_ok-places.ensures) (record { all = stands; tallied = c.as_mut_slice.ensures.value ∙ tallied })
+    c.settle.ensures m ws (c.as_slice.ensures.value ∙ c.in_ok-positions.ensures) (record { all = stands; tallied = c.as_mut_slice.ensures.value ∙ tallied })

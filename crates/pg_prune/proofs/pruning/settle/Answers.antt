@@ -1,7 +1,7 @@
 use Rattle.std.proofs.Common.{◌≡◌, ◌≤◌, ◌-◌, ◌∙◌, map, length, ap, sym, subst, arith}
 use Rattle.pg_patterns.specs.Inside.PatternMaps.{IsPatternMap}
 use Rattle.pg_select.specs.Windows.{Patterns}
-use Rattle.pg_prune.specs.Places.{places}
+use Rattle.pg_prune.specs.Positions.{positions_in_reach}
 use Rattle.pg_prune.specs.Prunes.{pruned, needs, rounds, Found}
 use Rattle.pg_prune.specs.Inside.Needs.{HasNeeds}
 use Rattle.pg_prune.specs.Inside.Picks.{picked_entries}
@@ -10,14 +10,14 @@ use Rattle.pg_prune.proofs.Finish.{finish, to_rounds, rounds_patterns, with_kept
 use Rattle.pg_prune.proofs.pruning.settle.Goals as goal
 
 pub all_rounds-requires : goal.all_rounds-requires
-all_rounds-requires g c = (places c.requires.0 c.requires.1.0, c.requires.1.1.1)
+all_rounds-requires g c = (positions_in_reach c.requires.0 c.requires.1.0, c.requires.1.1.1)
 
 pub overflow_sub-removed : goal.overflow_sub-removed
 overflow_sub-removed g c =
     let m = c.requires.0 in
     let ws = c.requires.1.0 in
     let P = c.args.patterns.now in
-    let xs = places m ws in
+    let xs = positions_in_reach m ws in
     let done = c.in_ok-finished.ensures xs c.requires.1.1.1 in
     let K = c.as_slice-kept.result.now in
     let left : picked_entries P K ≡ (pruned m ws P).patterns = ap (picked_entries P) c.as_slice-kept.ensures.value
@@ -30,7 +30,7 @@ kept_patterns-requires-clause-map g c =
     let m = c.requires.0 in
     let ws = c.requires.1.0 in
     let P = c.args.patterns.now in
-    let xs = places m ws in
+    let xs = positions_in_reach m ws in
     let done = c.in_ok-finished.ensures xs c.requires.1.1.1 in
     let K = c.as_slice-kept.result.now in
     let left : picked_entries P K ≡ (pruned m ws P).patterns = ap (picked_entries P) c.as_slice-kept.ensures.value
@@ -42,7 +42,7 @@ new-requires g c =
     let m = c.requires.0 in
     let ws = c.requires.1.0 in
     let P = c.args.patterns.now in
-    let xs = places m ws in
+    let xs = positions_in_reach m ws in
     let done = c.in_ok-finished.ensures xs c.requires.1.1.1 in
     let K = c.as_slice-kept.result.now in
     let stands = map (λ l. l.items) c.args.standing.now in
@@ -57,7 +57,7 @@ new-requires g c =
 pub returns : goal.returns
 returns g c m ws lie start =
     let P = c.args.patterns.now in
-    let xs = places m ws in
+    let xs = positions_in_reach m ws in
     let done = c.in_ok-finished.ensures xs start in
     let K = c.as_slice-kept.result.now in
     let stands = map (λ l. l.items) c.args.standing.now in

@@ -5,6 +5,6 @@ use Rattle.pg_prune.specs.Inside.Turns.{Turn, with_entry, without_entry, IsAwait
 use Rattle.pg_prune.proofs.Walks.{Walked}
 use Rattle.pg_prune.proofs.rounds.add.Given as goal
 
-abbrev pub invariant-places : goal.invariant-places
-invariant-places l = (turn : Turn) → IsAwaited turn l.initial.holders l.places l.value
-    → Walked turn.places (holder_counts (without_entry turn)) (holder_counts (with_entry turn)) (stands turn.entry) l.holders (drop l.place-index l.places)
+abbrev pub invariant-positions : goal.invariant-positions
+invariant-positions l = (turn : Turn) → IsAwaited turn l.initial.holders l.positions l.value
+    → Walked turn.positions (holder_counts (without_entry turn)) (holder_counts (with_entry turn)) (stands turn.entry) l.holders (drop l.position-index l.positions)

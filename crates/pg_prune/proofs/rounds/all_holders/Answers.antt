@@ -1,5 +1,5 @@
 use Rattle.std.proofs.lemmas.Result.{IfOk-from_err}
-use Rattle.pg_prune.specs.Inside.Standing.{places_of_entry}
+use Rattle.pg_prune.specs.Inside.Standing.{positions_of_entry}
 use Rattle.std.proofs.lemmas.List.{length-map, take_all}
 use Rattle.std.proofs.Common.{◌≡◌, ◌<◌, ◌-◌, ◌^◌, ◌∙◌, ◌∷◌, ◌++◌, [], map, take, drop, length, ap, sym, subst, arith, ◌≤◌}
 use Rattle.std.proofs.Math.Seq.{take-append_seam}
@@ -10,15 +10,15 @@ use Rattle.pg_prune.specs.Inside.Turns.{IsTallied}
 use Rattle.pg_prune.proofs.HolderSteps.{none_tallied, replicate_more, turn_after, turn_awaited, with_next}
 use Rattle.pg_prune.proofs.rounds.all_holders.Goals as goal
 
-pub places-preserved : goal.places-preserved
-places-preserved c =
-    c.in_ok-push.ensures.items ∙ ap (λ h. c.places.holders.items ++ h ∷ []) c.none.ensures ∙ ap (λ hs. hs ++ replicate 9 0 ∷ []) c.places.invariant
-    ∙ sym (replicate_more c.places.counter (replicate 9 0))
+pub positions-preserved : goal.positions-preserved
+positions-preserved c =
+    c.in_ok-push.ensures.items ∙ ap (λ h. c.positions.holders.items ++ h ∷ []) c.none.ensures ∙ ap (λ hs. hs ++ replicate 9 0 ∷ []) c.positions.invariant
+    ∙ sym (replicate_more c.positions.counter (replicate 9 0))
 
 pub entries-init : goal.entries-init
-entries-init c = λ places g.
-    let all : c.places.counter ≡ length places = (let many : c.args.count ≡ length places = g.many in omega arith) in
-    c.places.invariant ∙ ap (λ n. replicate n (replicate 9 0)) all ∙ none_tallied places
+entries-init c = λ positions g.
+    let all : c.positions.counter ≡ length positions = (let many : c.args.count ≡ length positions = g.many in omega arith) in
+    c.positions.invariant ∙ ap (λ n. replicate n (replicate 9 0)) all ∙ none_tallied positions
 
 pub add-requires : goal.add-requires
 add-requires c =
@@ -33,28 +33,28 @@ add-requires c =
     )
 
 pub entries-preserved : goal.entries-preserved
-entries-preserved c = λ places g.
+entries-preserved c = λ positions g.
     let P = c.args.patterns.now in
     let room : c.entries.i < 2 ^ 64 - 1 = omega arith in
     let inside : c.entries.i < length P = omega (arith, c.len-i-end.ensures.value) in
-    let held : IsTallied places (take c.entries.i P) c.as_mut_slice.result.now =
-    subst (λ hs. IsTallied places (take c.entries.i P) hs) (sym c.as_mut_slice.ensures.value) (c.entries.invariant places g) in
-    let awaited = turn_awaited (λ v. v.items) places P c.args.standing.now c.args.count c.as_mut_slice.result.now c.entries.i c.index-standing-i.result
+    let held : IsTallied positions (take c.entries.i P) c.as_mut_slice.result.now =
+    subst (λ hs. IsTallied positions (take c.entries.i P) hs) (sym c.as_mut_slice.ensures.value) (c.entries.invariant positions g) in
+    let awaited = turn_awaited (λ v. v.items) positions P c.args.standing.now c.args.count c.as_mut_slice.result.now c.entries.i c.index-standing-i.result
     c.as_slice.result.now _ g c.len-i-end.ensures.kept.sound held inside room c.index-standing-i.is c.as_slice.ensures.value c.entry-value.ensures.value in
-    let added = c.add.ensures (turn_after places P c.entries.i) awaited in
+    let added = c.add.ensures (turn_after positions P c.entries.i) awaited in
     let new = c.add.new.holders in
     let many : length new ≡ length c.as_mut_slice.result.now = c.add.auto.holders in
     let all : length c.as_mut_slice.result.now ≡ length c.entries.holders.items = ap length c.as_mut_slice.ensures.value in
     let size : c.entries.holders.len ≡ length new = omega (arith, c.entries.holders.ok.0) in
     let whole : take c.entries.holders.len (new ++ drop (length new) c.entries.holders.items) ≡ new = ap (λ n. take n (new ++ drop (length new) c.entries.holders.items)) size
     ∙ take-append_seam new (drop (length new) c.entries.holders.items) in
-    whole ∙ added ∙ ap (λ (Q : Patterns). map (holder_counts Q) places) (sym (with_next places P c.entries.i inside))
+    whole ∙ added ∙ ap (λ (Q : Patterns). map (holder_counts Q) positions) (sym (with_next positions P c.entries.i inside))
 
-pub places-init : goal.places-init
-places-init c = c.new-holders.ensures.items
+pub positions-init : goal.positions-init
+positions-init c = c.new-holders.ensures.items
 
 pub returns-in_err-push : goal.returns-in_err-push
-returns-in_err-push c = λ places g. IfOk-from_err c.from_residual.result _ c.from_residual.ensures.0
+returns-in_err-push c = λ positions g. IfOk-from_err c.from_residual.result _ c.from_residual.ensures.0
 
 pub entry-value-requires : goal.entry-value-requires
 entry-value-requires c = omega (arith, c.len-i-end.ensures.value)
@@ -62,13 +62,13 @@ entry-value-requires c = omega (arith, c.len-i-end.ensures.value)
 pub bounds-standing-i : goal.bounds-standing-i
 bounds-standing-i c =
     let many : length c.args.standing.now ≡ length c.args.patterns.now = sym (length-map c.args.standing.now (λ v. v.items)) ∙ ap length c.requires.1.all
-    ∙ length-map c.args.patterns.now (places_of_entry c.requires.0) in
+    ∙ length-map c.args.patterns.now (positions_of_entry c.requires.0) in
     omega (arith, c.len-i-end.ensures.value)
 
 pub offset_bounds-standing-i : goal.offset_bounds-standing-i
 offset_bounds-standing-i c = let within : c.entries.i < length c.args.standing.now = bounds-standing-i c in omega arith
 
 pub returns : goal.returns
-returns c = λ places g.
+returns c = λ positions g.
     let behind : length c.args.patterns.now ≤ c.entries.i = omega (arith, c.len-i-end.ensures.value) in
-    c.entries.invariant places g ∙ ap (λ (Q : Patterns). map (holder_counts Q) places) (take_all c.entries.i c.args.patterns.now behind)
+    c.entries.invariant positions g ∙ ap (λ (Q : Patterns). map (holder_counts Q) positions) (take_all c.entries.i c.args.patterns.now behind)

@@ -7,47 +7,47 @@ use Rattle.pg_prune.proofs.TurnLaws.{there_alike, there_some, value_low, value_h
 use Rattle.pg_prune.proofs.TurnSteps.{looks_begin, looks_step, looks_end, held_at}
 use Rattle.pg_prune.proofs.rounds.first_need.Goals as goal
 
-pub bounds-holders-place : goal.bounds-holders-place
-bounds-holders-place c =
+pub bounds-holders-position : goal.bounds-holders-position
+bounds-holders-position c =
     let t = c.requires.0 in
-    let within = (looks_step t c.args.places.now c.args.value c.args.holders.now c.requires.1 c.places.place-index c.places-test.true (c.places.invariant t c.requires.1)).within in
-    let many : length c.args.holders.now ≡ length t.places = ap length c.requires.1.tallied ∙ length-map t.places (holder_counts (with_entry t)) in
+    let within = (looks_step t c.args.positions.now c.args.value c.args.holders.now c.requires.1 c.positions.position-index c.positions-test.true (c.positions.invariant t c.requires.1)).within in
+    let many : length c.args.holders.now ≡ length t.positions = ap length c.requires.1.tallied ∙ length-map t.positions (holder_counts (with_entry t)) in
     omega arith
 
-pub offset_bounds-holders-place : goal.offset_bounds-holders-place
-offset_bounds-holders-place c = let within : get_or c.args.places.now c.places.place-index 0 < length c.args.holders.now = bounds-holders-place c in omega arith
+pub offset_bounds-holders-position : goal.offset_bounds-holders-position
+offset_bounds-holders-position c = let within : get_or c.args.positions.now c.positions.position-index 0 < length c.args.holders.now = bounds-holders-position c in omega arith
 
 pub stays_alike-requires-clause-value : goal.stays_alike-requires-clause-value
-stays_alike-requires-clause-value c = (value_low c.requires.0 c.args.places.now c.args.value c.requires.1.entry, value_high c.requires.0 c.args.places.now c.args.value c.requires.1.entry)
+stays_alike-requires-clause-value c = (value_low c.requires.0 c.args.positions.now c.args.value c.requires.1.entry, value_high c.requires.0 c.args.positions.now c.args.value c.requires.1.entry)
 
 pub stays_alike-requires-clause-some : goal.stays_alike-requires-clause-some
 stays_alike-requires-clause-some c =
     let t = c.requires.0 in
-    let s = looks_step t c.args.places.now c.args.value c.args.holders.now c.requires.1 c.places.place-index c.places-test.true (c.places.invariant t c.requires.1) in
-    let at = c.index-holders-place.is ∙ held_at t c.args.places.now c.args.value c.args.holders.now c.requires.1
-    (get_or c.args.places.now c.places.place-index 0) s.place s.within s.at c.index-holders-place.result in
-    subst (λ h. 0 < get_or h (c.args.value - 1) 0) (sym at) (there_some t c.args.places.now c.args.value c.requires.1.entry s.place s.there)
+    let s = looks_step t c.args.positions.now c.args.value c.args.holders.now c.requires.1 c.positions.position-index c.positions-test.true (c.positions.invariant t c.requires.1) in
+    let at = c.index-holders-position.is ∙ held_at t c.args.positions.now c.args.value c.args.holders.now c.requires.1
+    (get_or c.args.positions.now c.positions.position-index 0) s.position s.within s.at c.index-holders-position.result in
+    subst (λ h. 0 < get_or h (c.args.value - 1) 0) (sym at) (there_some t c.args.positions.now c.args.value c.requires.1.entry s.position s.there)
 
-pub places-init : goal.places-init
-places-init c = λ turn held. looks_begin turn c.args.places.now c.args.value c.args.holders.now held
+pub positions-init : goal.positions-init
+positions-init c = λ turn held. looks_begin turn c.args.positions.now c.args.value c.args.holders.now held
 
-pub places-preserved : goal.places-preserved
-places-preserved c = λ turn held.
-    let s = looks_step turn c.args.places.now c.args.value c.args.holders.now held c.places.place-index c.places-test.true (c.places.invariant turn held) in
-    let at = c.index-holders-place.is ∙ held_at turn c.args.places.now c.args.value c.args.holders.now held
-    (get_or c.args.places.now c.places.place-index 0) s.place s.within s.at c.index-holders-place.result in
-    let alike : break_alike_at (with_entry turn) (without_entry turn) s.place ≡ true =
-    there_alike turn c.args.places.now c.args.value held.entry s.place s.there ∙ ap (stays_alike c.args.value) (sym at) ∙ sym c.stays_alike.ensures ∙ c.if-not-stays_alike.false in
+pub positions-preserved : goal.positions-preserved
+positions-preserved c = λ turn held.
+    let s = looks_step turn c.args.positions.now c.args.value c.args.holders.now held c.positions.position-index c.positions-test.true (c.positions.invariant turn held) in
+    let at = c.index-holders-position.is ∙ held_at turn c.args.positions.now c.args.value c.args.holders.now held
+    (get_or c.args.positions.now c.positions.position-index 0) s.position s.within s.at c.index-holders-position.result in
+    let alike : break_alike_at (with_entry turn) (without_entry turn) s.position ≡ true =
+    there_alike turn c.args.positions.now c.args.value held.entry s.position s.there ∙ ap (stays_alike c.args.value) (sym at) ∙ sym c.stays_alike.ensures ∙ c.if-not-stays_alike.false in
     s.next alike
 
 pub returns-then-not-stays_alike : goal.returns-then-not-stays_alike
 returns-then-not-stays_alike c = λ turn held.
-    let s = looks_step turn c.args.places.now c.args.value c.args.holders.now held c.places.place-index c.places-test.true (c.places.invariant turn held) in
-    let at = c.index-holders-place.is ∙ held_at turn c.args.places.now c.args.value c.args.holders.now held
-    (get_or c.args.places.now c.places.place-index 0) s.place s.within s.at c.index-holders-place.result in
-    let differs : break_alike_at (with_entry turn) (without_entry turn) s.place ≡ false =
-    there_alike turn c.args.places.now c.args.value held.entry s.place s.there ∙ ap (stays_alike c.args.value) (sym at) ∙ sym c.stays_alike.ensures ∙ c.if-not-stays_alike.true in
-    record { within = s.within; place = λ d. s.found differs ∙ ap Some (sym (s.at d)) }
+    let s = looks_step turn c.args.positions.now c.args.value c.args.holders.now held c.positions.position-index c.positions-test.true (c.positions.invariant turn held) in
+    let at = c.index-holders-position.is ∙ held_at turn c.args.positions.now c.args.value c.args.holders.now held
+    (get_or c.args.positions.now c.positions.position-index 0) s.position s.within s.at c.index-holders-position.result in
+    let differs : break_alike_at (with_entry turn) (without_entry turn) s.position ≡ false =
+    there_alike turn c.args.positions.now c.args.value held.entry s.position s.there ∙ ap (stays_alike c.args.value) (sym at) ∙ sym c.stays_alike.ensures ∙ c.if-not-stays_alike.true in
+    record { within = s.within; position = λ d. s.found differs ∙ ap Some (sym (s.at d)) }
 
 pub returns : goal.returns
-returns c = λ turn held. looks_end turn c.args.places.now c.args.value c.args.holders.now held c.places.place-index c.places-test.false (c.places.invariant turn held)
+returns c = λ turn held. looks_end turn c.args.positions.now c.args.value c.args.holders.now held c.positions.position-index c.positions-test.false (c.positions.invariant turn held)

@@ -5,6 +5,6 @@ use Rattle.pg_prune.specs.Inside.Turns.{Turn, with_entry, without_entry, IsHeld}
 use Rattle.pg_prune.proofs.TurnLaws.{Looked}
 use Rattle.pg_prune.proofs.rounds.first_need.Given as goal
 
-abbrev pub invariant-places : goal.invariant-places
-invariant-places l = (turn : Turn) → IsHeld turn l.holders l.places l.value
-    → Looked turn.places (break_alike_at (with_entry turn) (without_entry turn)) (stands turn.entry) (drop l.place-index l.places)
+abbrev pub invariant-positions : goal.invariant-positions
+invariant-positions l = (turn : Turn) → IsHeld turn l.holders l.positions l.value
+    → Looked turn.positions (break_alike_at (with_entry turn) (without_entry turn)) (stands turn.entry) (drop l.position-index l.positions)

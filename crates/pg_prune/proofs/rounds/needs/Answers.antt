@@ -3,7 +3,7 @@ use Rattle.std.proofs.Common.{◌≡◌, ◌<◌, ◌+◌, ◌∙◌, ◌∷◌,
 use Rattle.std.proofs.lemmas.List.{length-map, append-nil}
 use Rattle.pg_prune.specs.Prunes.{need_at}
 use Rattle.pg_prune.specs.Inside.Findings.{need_list, first_difference}
-use Rattle.pg_prune.specs.Inside.Standing.{places_of_entry}
+use Rattle.pg_prune.specs.Inside.Standing.{positions_of_entry}
 use Rattle.pg_prune.specs.Inside.Turns.{with_entry, without_entry}
 use Rattle.pg_prune.proofs.NeedSteps.{NeedsSoFar, needs_begin, needs_step, needs_end, need_turn, need_found}
 use Rattle.pg_prune.proofs.RoundSteps.{turn_of}
@@ -22,19 +22,19 @@ first_need-requires c =
           _ c.requires.2 c.entries-test.true c.index-standing-i.is c.as_slice.ensures.value c.entry-value.ensures.value,
     )
 
-pub bounds-places-place : goal.bounds-places-place
-bounds-places-place c =
+pub bounds-positions-position : goal.bounds-positions-position
+bounds-positions-position c =
     let kept = c.args.kept.now in
     let i = c.entries.i-index in
     let turn = turn_of c.requires.0 c.args.patterns.now (take i kept) (get_or kept i 0) (drop (i + 1) kept) in
     let held = need_turn c.requires.0 c.args.patterns.now kept (λ v. v.items) c.args.standing.now c.args.holders.now i c.index-standing-i.result
     c.as_slice.result.now _ c.requires.2 c.entries-test.true c.index-standing-i.is c.as_slice.ensures.value c.entry-value.ensures.value in
-    let within : c.in-Some.place < length c.requires.0 = (c.in-Some.ensures turn held).within in
-    let many : length c.args.places.now ≡ length c.requires.0 = ap length c.requires.1 ∙ length-map c.requires.0 need_at in
+    let within : c.in-Some.position < length c.requires.0 = (c.in-Some.ensures turn held).within in
+    let many : length c.args.positions.now ≡ length c.requires.0 = ap length c.requires.1 ∙ length-map c.requires.0 need_at in
     omega arith
 
-pub offset_bounds-places-place : goal.offset_bounds-places-place
-offset_bounds-places-place c = let within : c.in-Some.place < length c.args.places.now = bounds-places-place c in omega arith
+pub offset_bounds-positions-position : goal.offset_bounds-positions-position
+offset_bounds-positions-position c = let within : c.in-Some.position < length c.args.positions.now = bounds-positions-position c in omega arith
 
 pub entries-preserved : goal.entries-preserved
 entries-preserved c = λ all is s.
@@ -47,8 +47,8 @@ entries-preserved c = λ all is s.
     let so = needs_step all c.args.patterns.now kept c.entries.needs.items i c.entries-test.true (c.entries.invariant all is s) in
     elim c.match-first_need.branch [
       | in-Some+in_ok-push w ↦
-          let need = need_found all found w.in-Some.place (record { word = 0; position = 0 }) (w.in-Some.ensures turn held)
-          ∙ ap (λ ns. get_or ns w.in-Some.place (record { word = 0; position = 0 }) ∷ []) (sym is) in
+          let need = need_found all found w.in-Some.position (record { word = 0; position = 0 }) (w.in-Some.ensures turn held)
+          ∙ ap (λ ns. get_or ns w.in-Some.position (record { word = 0; position = 0 }) ∷ []) (sym is) in
           let longer = ap (λ v. v.items) w.needs-is ∙ w.in_ok-push.ensures.items ∙ ap (λ n. c.entries.needs.items ++ n) (sym need) in
           subst (λ ns. NeedsSoFar all c.args.patterns.now kept ns (i + 1)) (sym longer) so
       | in_default w ↦
@@ -67,7 +67,7 @@ bounds-standing-i c =
     let s = c.requires.2 in
     let inside : get_or c.args.kept.now c.entries.i-index 0 < length c.args.patterns.now = s.within c.entries.i-index 0 c.entries-test.true in
     let many : length c.args.standing.now ≡ length c.args.patterns.now = sym (length-map c.args.standing.now (λ v. v.items)) ∙ ap length s.all
-    ∙ length-map c.args.patterns.now (places_of_entry c.requires.0) in
+    ∙ length-map c.args.patterns.now (positions_of_entry c.requires.0) in
     omega arith
 
 pub returns-in_err-push : goal.returns-in_err-push

@@ -4,27 +4,28 @@ use Rattle.pg_prune.proofs.TurnLaws.{there_less, there_some}
 use Rattle.pg_prune.proofs.TurnSteps.{off_begins, off_steps, off_ends}
 use Rattle.pg_prune.proofs.rounds.take_off.Goals as goal
 
-pub bounds-holders-place : goal.bounds-holders-place
-bounds-holders-place c =
-    (off_steps c.requires.0 c.args.places.now c.args.value c.args.holders.now c.requires.1 c.places.holders c.places.place-index c.places-test.true
-    (c.places.invariant c.requires.0 c.requires.1)).within
+pub bounds-holders-position : goal.bounds-holders-position
+bounds-holders-position c =
+    (off_steps c.requires.0 c.args.positions.now c.args.value c.args.holders.now c.requires.1 c.positions.holders c.positions.position-index c.positions-test.true
+    (c.positions.invariant c.requires.0 c.requires.1)).within
 
-pub offset_bounds-holders-place : goal.offset_bounds-holders-place
-offset_bounds-holders-place c = let within : get_or c.args.places.now c.places.place-index 0 < length c.places.holders = bounds-holders-place c in omega arith
+pub offset_bounds-holders-position : goal.offset_bounds-holders-position
+offset_bounds-holders-position c = let within : get_or c.args.positions.now c.positions.position-index 0 < length c.positions.holders = bounds-holders-position c in omega arith
 
 pub take_off-requires-clause-some : goal.take_off-requires-clause-some
 take_off-requires-clause-some c =
     let t = c.requires.0 in
-    let s = off_steps t c.args.places.now c.args.value c.args.holders.now c.requires.1 c.places.holders c.places.place-index c.places-test.true (c.places.invariant t c.requires.1) in
-    subst (λ h. 0 < get_or h (c.args.value - 1) 0) (sym (s.at c.index-holders-place.result)) (there_some t c.args.places.now c.args.value c.requires.1.entry s.place s.there)
+    let s = off_steps t c.args.positions.now c.args.value c.args.holders.now c.requires.1 c.positions.holders c.positions.position-index c.positions-test.true (c.positions.invariant t c.requires.1) in
+    subst (λ h. 0 < get_or h (c.args.value - 1) 0) (sym (s.at c.index-holders-position.result)) (there_some t c.args.positions.now c.args.value c.requires.1.entry s.position s.there)
 
-pub places-init : goal.places-init
-places-init c = λ turn held. off_begins turn c.args.places.now c.args.value c.args.holders.now held
+pub positions-init : goal.positions-init
+positions-init c = λ turn held. off_begins turn c.args.positions.now c.args.value c.args.holders.now held
 
-pub places-preserved : goal.places-preserved
-places-preserved c = λ turn held.
-    let s = off_steps turn c.args.places.now c.args.value c.args.holders.now held c.places.holders c.places.place-index c.places-test.true (c.places.invariant turn held) in
-    s.next c.take_off.new.self (c.take_off.ensures ∙ ap (λ h. less_one h c.args.value) (s.at c.index-holders-place.result) ∙ there_less turn c.args.places.now c.args.value held.entry s.place s.there)
+pub positions-preserved : goal.positions-preserved
+positions-preserved c = λ turn held.
+    let s = off_steps turn c.args.positions.now c.args.value c.args.holders.now held c.positions.holders c.positions.position-index c.positions-test.true (c.positions.invariant turn held) in
+    s.next c.take_off.new.self (c.take_off.ensures ∙ ap (λ h. less_one h c.args.value) (s.at c.index-holders-position.result)
+    ∙ there_less turn c.args.positions.now c.args.value held.entry s.position s.there)
 
 pub returns : goal.returns
-returns c = λ turn held. off_ends turn c.args.places.now c.args.value c.args.holders.now held c.places.holders c.places.place-index c.places-test.false (c.places.invariant turn held)
+returns c = λ turn held. off_ends turn c.args.positions.now c.args.value c.args.holders.now held c.positions.holders c.positions.position-index c.positions-test.false (c.positions.invariant turn held)

@@ -4,7 +4,7 @@ use Rattle.pg_dict.specs.Inside.Lent.{lent_word}
 use Rattle.pg_dict.specs.Inside.SoundWords.{letter_count}
 use Rattle.pg_dict.proofs.Parts.{letters_from}
 use Rattle.pg_select.specs.CountedPositions.{minima_of}
-use Rattle.pg_prune.specs.Inside.Trails.{IsStart, starts_in, starts_from, place_count, position_count}
+use Rattle.pg_prune.specs.Inside.Trails.{IsStart, starts_in, starts_from, reach_count, position_count}
 use Rattle.pg_prune.specs.Inside.Trails.{all_starts as all_starts_of}
 use Rattle.pg_prune.proofs.TrailStarts.{word_more, known_in}
 use Rattle.pg_prune.proofs.trail.all_starts.Goals as goal
@@ -15,23 +15,23 @@ words-preserved c =
     let ws = c.args.dictionary.now in
     let m = minima_of c.args.table.now in
     let w = lent_word c.word-w.result in
-    let added : c.push_starts.new.starts.items ≡ c.words.starts.items ++ starts_in c.words.word c.words.places (length w.signs) = c.in_ok-push_starts.ensures in
-    let size : (c.match-reach.places ≡ c.words.places + place_count m (length w.signs)) × (place_count m (length w.signs) ≤ letter_count w) =
+    let added : c.push_starts.new.starts.items ≡ c.words.starts.items ++ starts_in c.words.word c.words.before (length w.signs) = c.in_ok-push_starts.ensures in
+    let size : (c.match-reach.before ≡ c.words.before + reach_count m (length w.signs)) × (reach_count m (length w.signs) ≤ letter_count w) =
     elim c.match-reach.branch [
       | in-Some v ↦
-          let wide : v.in-Some.last + 1 - v.in-Some.first ≡ place_count m (length w.signs) = ap position_count v.in-Some.ensures.value in
-          (omega (arith, v.places-is), omega (arith, v.in-Some.ensures.between))
-      | in_default v ↦ let wide : 0 ≡ place_count m (length w.signs) = ap position_count v.in_default.ensures.value in (omega (arith, v.places-is), omega arith)
+          let wide : v.in-Some.last + 1 - v.in-Some.first ≡ reach_count m (length w.signs) = ap position_count v.in-Some.ensures.value in
+          (omega (arith, v.before-is), omega (arith, v.in-Some.ensures.between))
+      | in_default v ↦ let wide : 0 ≡ reach_count m (length w.signs) = ap position_count v.in_default.ensures.value in (omega (arith, v.before-is), omega arith)
     ] in
-    let next : c.match-reach.places ≡ c.words.places + place_count m (length w.signs) = size.0 in
-    let fewer : place_count m (length w.signs) ≤ letter_count w = size.1 in
+    let next : c.match-reach.before ≡ c.words.before + reach_count m (length w.signs) = size.0 in
+    let fewer : reach_count m (length w.signs) ≤ letter_count w = size.1 in
     let letters : sum_by letter_count (drop c.words.word ws) ≡ letter_count w + sum_by letter_count (drop (c.words.word + 1) ws) = letters_from ws c.words.word w c.word-w.ensures.lent in
     record {
       whole =
-          ap (λ xs. xs ++ starts_from m (c.words.word + 1) c.match-reach.places (drop (c.words.word + 1) ws)) added
-          ∙ ap (λ n. (c.words.starts.items ++ starts_in c.words.word c.words.places (length w.signs)) ++ starts_from m (c.words.word + 1) n (drop (c.words.word + 1) ws)) next
-          ∙ word_more m ws c.words.word c.words.places c.words.starts.items (all_starts_of m ws) w c.word-w.ensures.lent c.words.invariant.whole;
+          ap (λ xs. xs ++ starts_from m (c.words.word + 1) c.match-reach.before (drop (c.words.word + 1) ws)) added
+          ∙ ap (λ n. (c.words.starts.items ++ starts_in c.words.word c.words.before (length w.signs)) ++ starts_from m (c.words.word + 1) n (drop (c.words.word + 1) ws)) next
+          ∙ word_more m ws c.words.word c.words.before c.words.starts.items (all_starts_of m ws) w c.word-w.ensures.lent c.words.invariant.whole;
       few = omega (arith, c.words.invariant.few);
-      known = All-same (IsStart ws) _ _ added (All-append (IsStart ws) c.words.starts.items (starts_in c.words.word c.words.places (length w.signs)) c.words.invariant.known
-          (known_in ws c.words.word c.words.places w c.word-w.ensures.lent (omega arith) (omega (arith, c.words.invariant.few))));
+      known = All-same (IsStart ws) _ _ added (All-append (IsStart ws) c.words.starts.items (starts_in c.words.word c.words.before (length w.signs)) c.words.invariant.known
+          (known_in ws c.words.word c.words.before w c.word-w.ensures.lent (omega arith) (omega (arith, c.words.invariant.few))));
     }

@@ -8,7 +8,7 @@ use Rattle.pg_prune.proofs.trail.all_starts.Given as goal
 
 abbrev pub invariant-words : goal.invariant-words
 invariant-words l = record {
-  whole : l.starts.items ++ starts_from (minima_of l.table) l.word l.places (drop l.word l.dictionary) ≡ all_starts_of (minima_of l.table) l.dictionary;
-  few : l.places + sum_by letter_count (drop l.word l.dictionary) ≤ FILE_MAX;
+  whole : l.starts.items ++ starts_from (minima_of l.table) l.word l.before (drop l.word l.dictionary) ≡ all_starts_of (minima_of l.table) l.dictionary;
+  few : l.before + sum_by letter_count (drop l.word l.dictionary) ≤ FILE_MAX;
   known : All (IsStart l.dictionary) l.starts.items;
 }

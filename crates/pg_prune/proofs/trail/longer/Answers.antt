@@ -27,12 +27,12 @@ starts-preserved c =
       | then-continues_with+in_ok-push w ↦
           ap (λ (v : Vec Start Global). v.items) w.found-is
           ∙ w.in_ok-push.ensures.items
-          ∙ ap (λ (xs : List Start). xs ++ get_or c.args.starts.now c.starts.start-index (record { word = 0; places = 0; at = 0 }) ∷ []) c.starts.invariant
+          ∙ ap (λ (xs : List Start). xs ++ get_or c.args.starts.now c.starts.start-index (record { word = 0; before = 0; at = 0 }) ∷ []) c.starts.invariant
           ∙ passed_more test c.args.starts.now c.starts.start-index _ c.starts-test.true (sym w.if-continues_with.ensures)
       | else-continues_with w ↦
           ap (λ (v : Vec Start Global). v.items) w.found-is
           ∙ c.starts.invariant
-          ∙ passed_none test c.args.starts.now c.starts.start-index (record { word = 0; places = 0; at = 0 }) c.starts-test.true (sym w.if-continues_with.ensures)
+          ∙ passed_none test c.args.starts.now c.starts.start-index (record { word = 0; before = 0; at = 0 }) c.starts-test.true (sym w.if-continues_with.ensures)
     ]
 
 pub returns : goal.returns

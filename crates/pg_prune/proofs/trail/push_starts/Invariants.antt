@@ -3,4 +3,4 @@ use Rattle.pg_prune.specs.Inside.Trails.{starts_in}
 use Rattle.pg_prune.proofs.trail.push_starts.Given as goal
 
 abbrev pub invariant-signs : goal.invariant-signs
-invariant-signs l = l.starts.items ≡ l.fn.starts.items ++ starts_in l.word l.places l.at
+invariant-signs l = l.starts.items ≡ l.fn.starts.items ++ starts_in l.word l.before l.at

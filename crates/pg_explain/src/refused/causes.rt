@@ -1,7 +1,7 @@
-//! The usual causes of a refusal that lie in the whole file, where its bytes show one.
+//! The usual causes of a refusal that lie in the whole file.
 
 use crate::chars::{has_minima, up_to};
-use crate::letter_causes::push_letter_cause;
+use crate::refused::letter_causes::push_letter_cause;
 use crate::wrong::Refused;
 use pg_types::Kind;
 use pg_visible::Part::{Say, Show};
@@ -35,7 +35,8 @@ fn byte_cause(rest: &[u8]) -> Option<&'static [u8]> {
     }
 }
 
-/// The same for the first line of a translate file, where a letter may stand for the minima.
+/// What is said of a translate file for its first line, where that shows a cause: it may be a
+/// letter line.
 fn head_cause(head: &[u8]) -> Option<&'static [u8]> {
     let cause = byte_cause(head);
     if cause.is_some() || has_minima(head) {
@@ -44,7 +45,7 @@ fn head_cause(head: &[u8]) -> Option<&'static [u8]> {
     Some(NO_HEAD)
 }
 
-/// The same for the place of a refusal.
+/// What is said of a file for the place of its refusal, where that shows a cause.
 fn place_cause(kind: Kind, spot: &Spot<'_>) -> Option<&'static [u8]> {
     match kind {
         Kind::BadMinima => head_cause(spot.text),

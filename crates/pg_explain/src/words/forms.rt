@@ -9,7 +9,7 @@ pub(crate) struct Range {
     pub most: u64,
     /// What it has to be.
     pub due: &'static [u8],
-    /// The same, with the most digits.
+    /// What it has to be, and in how many digits.
     pub digits_due: &'static [u8],
 }
 
@@ -33,25 +33,25 @@ impl Slot {
     }
 }
 
-/// What may stand behind the words that each call of a command has.
+/// What may follow the words that each call of a command has.
 #[derive(Clone, Copy)]
 pub(crate) enum Behind {
     Nothing,
-    /// Options, of files that are written.
+    /// Options, whose files are written.
     WrittenFiles,
-    /// Options, of files that are read. The cells file is none of them.
+    /// Options, whose files are read. The cells file is none of them.
     ReadFiles,
     /// The names of parameter files.
     Sets,
 }
 
-/// A command.
+/// A command, and what its words have to be.
 #[derive(Clone, Copy)]
 pub(crate) struct Command {
     pub word: &'static str,
-    /// All its words.
+    /// The whole form, as it is shown.
     pub words: &'static [u8],
-    /// The words behind its own that each call has.
+    /// The words behind the command that each call has.
     pub slots: &'static [Slot],
     pub behind: Behind,
 }
@@ -172,7 +172,7 @@ pub(crate) fn commands() -> &'static [Command] {
     COMMANDS
 }
 
-/// The command of this word.
+/// The command that this word names.
 pub(crate) fn command_of(word: &str) -> Option<&'static Command> {
     for command in commands() {
         if command.word == word {
@@ -180,4 +180,14 @@ pub(crate) fn command_of(word: &str) -> Option<&'static Command> {
         }
     }
     None
+}
+
+/// Whether a word is an option of some command.
+pub(crate) fn is_option(word: &str) -> bool {
+    word == "--pattmp" || word == "--cells"
+}
+
+/// Whether options may follow the names of a command.
+pub(crate) fn has_options(command: &Command) -> bool {
+    matches!(command.behind, Behind::WrittenFiles | Behind::ReadFiles)
 }

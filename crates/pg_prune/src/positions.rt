@@ -1,10 +1,10 @@
-//! The places at which words can break.
+//! The positions that pruning compares.
 ghost use Rattle.std.specs.Prelude.{◌≡◌, ◌+◌, ◌++◌, map, IfOk, OnOk};
 ghost use Rattle.pg_dict.specs.Inside.SoundWords.{IsWord};
 ghost use Rattle.pg_dict.specs.Inside.Lent.{lent_word};
 ghost use Rattle.pg_select.specs.CountedPositions.{minima_of};
-ghost use Rattle.pg_prune.specs.Places.{places as places_of};
-ghost use Rattle.pg_prune.specs.Inside.WordPlaces.{places_in};
+ghost use Rattle.pg_prune.specs.Positions.{positions_in_reach as positions_of};
+ghost use Rattle.pg_prune.specs.Inside.WordPositions.{positions_in};
 ghost use Rattle.pg_prune.specs.Prunes.{need_at};
 
 use crate::pruned::Need;
@@ -15,38 +15,38 @@ use std::alloc::{AllocError, Global};
 
 /// Adds the positions in reach of the word with this number.
 fn add_word(
-    places: &mut Vec<Need>,
+    all: &mut Vec<Need>,
     table: &Table,
     word: u64,
     w: &WordRef<'_>,
 ) -> Result<(), AllocError>
     requires { IsWord (lent_word w.now) }
-    ensures { OnOk result (places.new.items
-        ≡ places.old.items ++ map need_at
-        (places_in (minima_of table.now) word (lent_word w.now))) }
+    ensures { OnOk result (all.new.items
+        ≡ all.old.items ++ map need_at
+        (positions_in (minima_of table.now) word (lent_word w.now))) }
 {
     let Some((first, end)) = positions(table, w) else {
         return Ok(());
     };
     'positions: for p in first..end {
         let position = p as u8;
-        places.push(Need { word, position })?;
+        all.push(Need { word, position })?;
     }
     Ok(())
 }
 
-/// All places of the words, in the order of words and positions.
-pub(crate) fn places(
+/// All positions in reach of the words, word by word.
+pub(crate) fn positions_in_reach(
     alloc: Global,
     dictionary: &Dictionary,
     table: &Table,
 ) -> Result<Vec<Need>, AllocError>
     ensures { IfOk result
-        (λ places. places.items ≡ map need_at (places_of (minima_of table.now) dictionary.now)) }
+        (λ all. all.items ≡ map need_at (positions_of (minima_of table.now) dictionary.now)) }
 {
-    let mut places = Vec::new(alloc);
+    let mut all = Vec::new(alloc);
     'words: for i in 0..dictionary.len() {
-        add_word(&mut places, table, i as u64 + 1, &dictionary.word(i))?;
+        add_word(&mut all, table, i as u64 + 1, &dictionary.word(i))?;
     }
-    Ok(places)
+    Ok(all)
 }

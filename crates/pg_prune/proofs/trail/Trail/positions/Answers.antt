@@ -4,9 +4,9 @@ use Rattle.std.proofs.lemmas.List.Elements.{All-filter, All-same}
 use Rattle.std.proofs.lemmas.Result.{IfOk-weaker}
 use Rattle.pg_select.specs.CountedPositions.{minima_of}
 use Rattle.pg_prune.specs.declared.trail.Start.{Start}
-use Rattle.pg_prune.specs.Inside.Trails.{IsStart, begins_at, starts_of, place_of}
+use Rattle.pg_prune.specs.Inside.Trails.{IsStart, begins_at, starts_of, number_at_dot}
 use Rattle.pg_prune.proofs.TrailSteps.{whole_trail}
-use Rattle.pg_prune.proofs.trail.Trail.places.Goals as goal
+use Rattle.pg_prune.proofs.trail.Trail.positions.Goals as goal
 
 pub standing-requires : goal.standing-requires
 standing-requires c =
@@ -17,11 +17,11 @@ standing-requires c =
     let now : c.starts_of.result.now ≡ starts_of ws all u = c.starts_of.ensures ∙ whole_trail ws all u lists c.requires.known c.in_ok-go_to.ensures.trail in
     All-same (IsStart ws) _ _ now (All-filter (begins_at ws u) (IsStart ws) all c.requires.known)
 
-pub returns-clause-places : goal.returns-clause-places
-returns-clause-places c =
+pub returns-clause-positions : goal.returns-clause-positions
+returns-clause-positions c =
     let ws = c.args.dictionary.now in
     let all = c.args.all.now in
     let u = c.args.signs.now in
     let lists : List (List Start) = map (λ t. t.items) c.go_to.new.self.starts.items in
     let now : c.starts_of.result.now ≡ starts_of ws all u = c.starts_of.ensures ∙ whole_trail ws all u lists c.requires.known c.in_ok-go_to.ensures.trail in
-    IfOk-weaker c.standing.result _ _ (λ places is. is ∙ ap (λ (xs : List Start). filter_map (place_of (minima_of c.args.table.now) ws c.args.dot) xs) now) c.standing.ensures
+    IfOk-weaker c.standing.result _ _ (λ positions is. is ∙ ap (λ (xs : List Start). filter_map (number_at_dot (minima_of c.args.table.now) ws c.args.dot) xs) now) c.standing.ensures

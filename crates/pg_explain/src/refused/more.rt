@@ -1,7 +1,7 @@
 //! How many more lines of a refused file would be refused.
 
 use crate::chars::has_minima;
-use crate::parameters::push_more_items;
+use crate::refused::parameters::push_more_items;
 use crate::wrong::Refused;
 use pg_dict::Dictionary;
 use pg_patterns::PatternSet;
@@ -26,7 +26,7 @@ fn refusal_of<T: Drop>(read: Result<T, ReadingError>) -> Result<Option<Refusal>,
     }
 }
 
-/// Appends how many more lines or items of a file would be refused: all of them, or at least so
+/// Appends how many more lines or items of a file would be refused, or that there are at least so
 /// many.
 pub(crate) fn push_count(
     text: &mut Text,
@@ -55,7 +55,7 @@ pub(crate) fn push_count(
     ])
 }
 
-/// How many lines behind the refused one are refused by themselves, up to a hundred.
+/// How many lines behind the refused one are refused when each is read by itself, up to a hundred.
 fn refused_behind(
     alloc: Global,
     refused: &Refused<'_>,
@@ -103,8 +103,9 @@ fn blank_out(file: &mut [u8], refusal: &Refusal) {
     }
 }
 
-/// How many lines behind its head have to be blank, besides what is refused, until a translate file
-/// is accepted, and whether these are all. The count ends at `most`.
+/// Blanks what is refused out of a translate file, then what is refused next, and so on until the
+/// file is accepted. Gives how many lines behind the head were blanked after the first refusal, and
+/// whether these are all: the count ends at `most`.
 fn refused_besides(
     alloc: Global,
     file: &mut [u8],
@@ -127,8 +128,8 @@ fn refused_besides(
     Ok((more, false))
 }
 
-/// Appends how many more lines of a translate file would be refused. The lines behind a refused
-/// head are read as behind one whose minima, or else all of it, are blank.
+/// Appends how many more lines of a translate file would be refused. Where the head is refused, the
+/// lines behind it are read as if its minima were blank, or all of it where it has none.
 fn push_more_letters(text: &mut Text, refused: &Refused<'_>) -> Result<(), AllocError> {
     let most = (AGAIN_MAX / refused.bytes.len().max(1))
         .min(MORE_MAX)

@@ -1,4 +1,5 @@
-//! The usual causes of a refusal that one character shows beside the table of letters.
+//! The usual causes of a refusal that a character shows when it is compared with the letters of the
+//! table.
 
 use crate::chars::{first_bytes, first_char, is_letter, is_letter_char, small_of};
 use crate::wrong::{Letters, Refused};
@@ -27,7 +28,7 @@ enum Cause {
     NewLetter,
 }
 
-/// Whether a character is a letter of the table as the one byte that it has in Latin-1.
+/// Whether the table has a character as the one byte that it is in Latin-1.
 fn is_latin_letter(letters: &Letters<'_>, c: char) -> bool {
     match u8::try_from(u32::from(c)) {
         Ok(byte) => is_letter(letters.table, &[byte]),
@@ -35,7 +36,7 @@ fn is_latin_letter(letters: &Letters<'_>, c: char) -> bool {
     }
 }
 
-/// The small letter of a capital, where that one is a letter of the table.
+/// The small letter of a capital, where the table has it.
 fn small_letter(letters: &Letters<'_>, c: char) -> Option<char> {
     let small = small_of(c)?;
     if is_letter_char(letters.table, small) {
@@ -76,7 +77,7 @@ fn cause_of(letters: &Letters<'_>, kind: Kind, rest: &[u8]) -> Option<Cause> {
     }
 }
 
-/// Appends which character a byte is in Latin-1, and that the table has it in UTF-8, where it does.
+/// Appends which character a byte is in Latin-1, and that the table has it in UTF-8, where it has.
 fn push_latin1<'a>(
     text: &mut Text,
     refused: &Refused<'a>,
@@ -149,7 +150,7 @@ fn push_utf8<'a>(text: &mut Text, letters: &Letters<'a>, c: &'a [u8]) -> Result<
     ])
 }
 
-/// Appends which mark is the one of a hyphen.
+/// Appends which byte is the mark of a hyphen.
 fn push_hyphen(text: &mut Text, letters: &Letters<'_>) -> Result<(), AllocError> {
     text.line(&[
         Say(b"this is a hyphen of Unicode; the mark of a hyphen is "),
@@ -174,7 +175,7 @@ fn push_dictionary_mark(text: &mut Text, c: &[u8]) -> Result<(), AllocError> {
     ])
 }
 
-/// Appends why the bytes that begin no item are none, where they show it.
+/// Appends why bytes begin no item, where they show it.
 pub(crate) fn push_letter_cause<'a>(
     text: &mut Text,
     refused: &Refused<'a>,

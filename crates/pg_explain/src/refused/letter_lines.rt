@@ -46,7 +46,7 @@ const NEVER_HELD: &[(u8, &[u8])] = &[
     (b'\r', b" holds a CR"),
 ];
 
-/// Why the bytes in place of a spelling are none.
+/// Why bytes are no spelling.
 fn fault_of(spelling: &[u8]) -> &'static [u8] {
     for (byte, words) in NEVER_HELD {
         if spelling.contains(byte) {
@@ -61,7 +61,7 @@ fn fault_of(spelling: &[u8]) -> &'static [u8] {
     }
 }
 
-/// Appends what the delimiter of a line is, where it is no blank.
+/// Appends which byte is the delimiter of a line, where it is no blank.
 pub(crate) fn push_delimiter(text: &mut Text, line: &[u8]) -> Result<(), AllocError> {
     match line.first() {
         Some(b' ') | None => Ok(()),
@@ -129,8 +129,8 @@ fn clash_in<'a>(line: &'a [u8], spelling: &[u8], is_same_letter: bool) -> Option
     None
 }
 
-/// The first spelling of the letter lines up to this one that clashes with this spelling, and the
-/// number of its line.
+/// The first spelling of the letter lines, up to the line `last`, that clashes with this one, and
+/// the number of its line.
 fn clash_before<'a>(bytes: &'a [u8], last: usize, spelling: &[u8]) -> Option<(usize, &'a [u8])> {
     let (_, mut rest) = next_line(bytes)?;
     for line in 2..last.saturating_add(1) {

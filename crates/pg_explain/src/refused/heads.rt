@@ -6,7 +6,7 @@ use pg_visible::Part::{Byte, Count, Say, Show};
 use pg_visible::{Spot, Text};
 use std::alloc::AllocError;
 
-/// A side of a word, whose minimum a head gives.
+/// A side of a word, for which a head gives the minimum.
 struct Side {
     columns: &'static [u8],
     name: &'static [u8],
@@ -99,7 +99,7 @@ fn same_mark(head: &[u8], column: usize) -> Option<usize> {
     None
 }
 
-/// Appends that the mark in a column is that of another too.
+/// Appends that the mark in a column is that of another column too.
 fn push_same_mark(
     text: &mut Text,
     name: &str,
@@ -126,7 +126,7 @@ fn push_same_mark(
     )
 }
 
-/// Appends why the mark in a column is none.
+/// Appends why the byte in a column is no mark.
 pub(crate) fn push_mark(text: &mut Text, name: &str, spot: &Spot<'_>) -> Result<(), AllocError> {
     if let Some(column) = same_mark(spot.text, spot.column) {
         return push_same_mark(text, name, spot, column);

@@ -7,7 +7,7 @@ use pg_visible::Part::{Count, Hex, Say, Show};
 use pg_visible::{Spot, Text, is_invisible};
 use std::alloc::AllocError;
 
-/// The letters that a byte does not begin: a to z, or those of a named translate file.
+/// Whose letters are meant where a byte begins none: a to z, or those of a translate file.
 fn letters_of<'a>(refused: &Refused<'a>) -> &'a str {
     match &refused.letters {
         Some(letters) if letters.is_no_file() => "a to z",
@@ -24,7 +24,7 @@ fn else_due(kind: Kind) -> &'static [u8] {
     }
 }
 
-/// Whether a character can be shown by itself: one that can be seen, and no accent of a letter
+/// Whether a character can be shown by itself: it can be seen, and is no accent of the letter
 /// before it.
 fn is_seen_alone(c: char) -> bool {
     !is_invisible(c) && !matches!(c, '\u{300}'..='\u{36F}')
@@ -58,7 +58,7 @@ pub(crate) fn push_character<'a>(
     }
 }
 
-/// What may have so many signs and no more: how the next one would be counted, and what it is in.
+/// What may have at most so many signs, how the next one would be called, and what it would be in.
 struct Longest {
     most: usize,
     next: &'static [u8],
@@ -103,7 +103,7 @@ pub(crate) fn push_long(
     )
 }
 
-/// How many bytes a weight has with which bytes begin, 1 where it does not end.
+/// How many bytes the weight has that these bytes begin with; 1 where it does not end.
 fn weight_len(rest: &[u8]) -> usize {
     for (place, byte) in rest.iter().enumerate() {
         if *byte == b'}' {

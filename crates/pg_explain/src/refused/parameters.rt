@@ -1,138 +1,15 @@
-//! A refused parameters file: where its items stand, and what is due there.
+//! A refused parameters file: what is due at its items.
 
-use crate::chars::{behind, up_to};
-use crate::more::{MORE_MAX, push_count};
+mod items;
+
+use crate::refused::more::{MORE_MAX, push_count};
+use crate::refused::parameters::items::{first_item, items_in, next_item, number_at, number_of};
 use crate::wrong::Refused;
+pub(crate) use items::item_spot;
 use pg_types::{COST_MAX, Kind, LENGTH_MAX, LEVEL_MAX};
 use pg_visible::Part::{Count, Say, Show};
 use pg_visible::{Spot, Text};
 use std::alloc::AllocError;
-
-/// A number of items that is greater than that of any accepted parameters file.
-const ITEMS_MAX: usize = 100;
-
-/// Whether a byte stands between items.
-fn is_separator(byte: u8) -> bool {
-    matches!(byte, b' ' | b'\t' | b'\r' | b'\n')
-}
-
-/// How many separators stand before the next item.
-fn separators_in(rest: &[u8]) -> usize {
-    for (place, byte) in rest.iter().enumerate() {
-        if !is_separator(*byte) {
-            return place;
-        }
-    }
-    rest.len()
-}
-
-/// The bytes from the next item on.
-fn from_item(rest: &[u8]) -> &[u8] {
-    behind(rest, separators_in(rest))
-}
-
-/// How many bytes the item has with which bytes begin.
-fn item_len(rest: &[u8]) -> usize {
-    for (place, byte) in rest.iter().enumerate() {
-        if is_separator(*byte) {
-            return place;
-        }
-    }
-    rest.len()
-}
-
-/// The item with which bytes begin.
-fn first_item(rest: &[u8]) -> &[u8] {
-    up_to(rest, item_len(rest))
-}
-
-/// The next item, and the bytes behind it.
-fn next_item(bytes: &[u8]) -> Option<(&[u8], &[u8])> {
-    let rest = from_item(bytes);
-    let item = first_item(rest);
-    if item.is_empty() {
-        return None;
-    }
-    Some((item, behind(rest, item.len())))
-}
-
-/// The bytes from the item with this number on, counted from 1.
-fn from_item_at(bytes: &[u8], item: usize) -> &[u8] {
-    let mut rest = from_item(bytes);
-    for _ in 1..item.min(ITEMS_MAX) {
-        rest = from_item(behind(rest, item_len(rest)));
-    }
-    rest
-}
-
-/// How many bytes there are up to the end of the last item.
-fn items_end(bytes: &[u8]) -> usize {
-    let mut end = 0;
-    for (place, byte) in bytes.iter().enumerate() {
-        if !is_separator(*byte) {
-            end = place.saturating_add(1);
-        }
-    }
-    end
-}
-
-/// The line and the column behind bytes.
-fn place_behind(before: &[u8]) -> (usize, usize) {
-    let mut line = 1_usize;
-    let mut column = 1_usize;
-    for byte in before {
-        column = column.saturating_add(1);
-        if *byte == b'\n' {
-            line = line.saturating_add(1);
-            column = 1;
-        }
-    }
-    (line, column)
-}
-
-/// The place of the item with this number, counted from 1; where there is none, that behind the
-/// last one.
-pub(crate) fn item_spot(bytes: &[u8], item: usize) -> Spot<'_> {
-    let rest = from_item_at(bytes, item);
-    let at = if rest.is_empty() {
-        items_end(bytes)
-    } else {
-        bytes.len().saturating_sub(rest.len())
-    };
-    let (line, column) = place_behind(up_to(bytes, at));
-    Spot::new(bytes, line, column)
-}
-
-/// How many items there are.
-fn items_in(bytes: &[u8]) -> usize {
-    let mut rest = bytes;
-    for count in 0..bytes.len() {
-        match next_item(rest) {
-            Some((_, after)) => rest = after,
-            None => return count,
-        }
-    }
-    bytes.len()
-}
-
-/// The number that an item is; 0 where it is none.
-fn number_of(item: &[u8]) -> usize {
-    let mut value = 0_usize;
-    for digit in item {
-        if !digit.is_ascii_digit() {
-            return 0;
-        }
-        value = value
-            .saturating_mul(10)
-            .saturating_add(usize::from(*digit - b'0'));
-    }
-    value
-}
-
-/// The number that the item with this number is.
-fn number_at(bytes: &[u8], item: usize) -> usize {
-    number_of(first_item(from_item_at(bytes, item)))
-}
 
 /// What is due at the item with this number. Behind the first two there are five for each level.
 fn name_of(item: usize) -> &'static [u8] {
@@ -159,7 +36,7 @@ fn range_of(item: usize, before: usize) -> (usize, usize) {
     }
 }
 
-/// Appends an item, with `words` before it and `after` behind it, and what is due there.
+/// Appends an item, with `words` before it and `after` behind it, and then what is due there.
 fn push_due(
     text: &mut Text,
     refused: &Refused<'_>,
@@ -213,7 +90,7 @@ fn numbers_of(levels: usize) -> usize {
     levels.saturating_mul(5).saturating_add(2)
 }
 
-/// The words between a number of levels and how many numbers they take.
+/// The words between a number of levels and the number of numbers that they take.
 fn take(levels: usize) -> &'static [u8] {
     if levels == 1 {
         b" level takes "
@@ -261,8 +138,8 @@ fn is_answer(item: &[u8]) -> bool {
     matches!(item, b"y" | b"Y" | b"n" | b"N")
 }
 
-/// Whether an item may stand at a place behind one that is this number. The file should have so
-/// many numbers; none where its levels are not known.
+/// Whether an item may stand at a place, where the item before it is the number `before`. The file
+/// should have `numbers` numbers; none where its levels are not known.
 fn is_due(numbers: Option<usize>, place: usize, item: &[u8], before: usize) -> bool {
     let (least, most) = range_of(place, before);
     let number = number_of(item);
@@ -294,8 +171,8 @@ fn refused_behind(bytes: &[u8], item: usize, numbers: Option<usize>) -> usize {
     more.min(MORE_MAX)
 }
 
-/// Appends how many more items of a file would be refused, and how many numbers it should have
-/// where it has fewer.
+/// Appends how many more items of a file would be refused. Where it has fewer numbers than it
+/// should, it appends how many it should have.
 pub(crate) fn push_more_items(text: &mut Text, refused: &Refused<'_>) -> Result<(), AllocError> {
     let item = refused.refusal.line as usize;
     let levels = levels_of(refused.bytes);

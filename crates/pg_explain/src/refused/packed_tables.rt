@@ -14,7 +14,7 @@ const CELL_LEN: usize = 10;
 
 const RECORD_LEN: usize = 6;
 
-/// The number that `len` bytes at a place are, with the most significant byte first.
+/// The number that `len` bytes from `at` on are, with the most significant byte first.
 fn number(bytes: &[u8], at: usize, len: usize) -> usize {
     let mut value = 0_usize;
     for byte in up_to(behind(bytes, at), len) {
@@ -23,7 +23,7 @@ fn number(bytes: &[u8], at: usize, len: usize) -> usize {
     value
 }
 
-/// What is wrong with a cell or a record: words, and the number that they end with, if they do.
+/// What is wrong with a cell or a record: words, and the number behind them or nothing.
 type PartFault = (Part<'static>, Part<'static>);
 
 /// The first cell or record that breaks a rule.
@@ -81,8 +81,7 @@ impl Head {
         Some((Say(words), Say(b"")))
     }
 
-    /// What is wrong with a record, if something is, and the number behind these words. Records are
-    /// counted from 0 here.
+    /// What is wrong with a record, if something is. Records are counted from 0 here.
     fn record_fault(&self, bytes: &[u8], record: usize) -> Option<PartFault> {
         let cells = self.cells.saturating_mul(CELL_LEN).saturating_add(HEAD_LEN);
         let at = record.saturating_mul(RECORD_LEN).saturating_add(cells);
@@ -140,7 +139,7 @@ fn push_parts(text: &mut Text, name: &str, bytes: &[u8], head: &Head) -> Result<
     }
 }
 
-/// Appends what in the head of a table breaks a rule, or else which cell or record does.
+/// Appends which number of the head breaks a rule, or else which cell or record does.
 fn push_numbers(text: &mut Text, name: &str, bytes: &[u8]) -> Result<(), AllocError> {
     let head = Head::read(bytes);
     if head.file_len() != bytes.len() {

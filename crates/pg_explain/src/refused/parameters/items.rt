@@ -1,0 +1,130 @@
+//! The items of a parameters file, and where they stand.
+
+use crate::chars::{behind, up_to};
+use pg_visible::Spot;
+
+/// A number of items that is greater than that of any accepted parameters file.
+const ITEMS_MAX: usize = 100;
+
+/// Whether a byte stands between items.
+fn is_separator(byte: u8) -> bool {
+    matches!(byte, b' ' | b'\t' | b'\r' | b'\n')
+}
+
+/// How many separators stand before the next item.
+fn separators_in(rest: &[u8]) -> usize {
+    for (place, byte) in rest.iter().enumerate() {
+        if !is_separator(*byte) {
+            return place;
+        }
+    }
+    rest.len()
+}
+
+/// The bytes from the next item on.
+fn from_item(rest: &[u8]) -> &[u8] {
+    behind(rest, separators_in(rest))
+}
+
+/// How many bytes the first item has.
+fn item_len(rest: &[u8]) -> usize {
+    for (place, byte) in rest.iter().enumerate() {
+        if is_separator(*byte) {
+            return place;
+        }
+    }
+    rest.len()
+}
+
+/// The item that these bytes begin with.
+pub(crate) fn first_item(rest: &[u8]) -> &[u8] {
+    up_to(rest, item_len(rest))
+}
+
+/// The next item, and the bytes behind it.
+pub(crate) fn next_item(bytes: &[u8]) -> Option<(&[u8], &[u8])> {
+    let rest = from_item(bytes);
+    let item = first_item(rest);
+    if item.is_empty() {
+        return None;
+    }
+    Some((item, behind(rest, item.len())))
+}
+
+/// The bytes from the item with this number on, counted from 1.
+fn from_item_at(bytes: &[u8], item: usize) -> &[u8] {
+    let mut rest = from_item(bytes);
+    for _ in 1..item.min(ITEMS_MAX) {
+        rest = from_item(behind(rest, item_len(rest)));
+    }
+    rest
+}
+
+/// How many bytes there are up to the end of the last item.
+fn items_end(bytes: &[u8]) -> usize {
+    let mut end = 0;
+    for (place, byte) in bytes.iter().enumerate() {
+        if !is_separator(*byte) {
+            end = place.saturating_add(1);
+        }
+    }
+    end
+}
+
+/// The line and the column of what follows these bytes.
+fn place_behind(before: &[u8]) -> (usize, usize) {
+    let mut line = 1_usize;
+    let mut column = 1_usize;
+    for byte in before {
+        column = column.saturating_add(1);
+        if *byte == b'\n' {
+            line = line.saturating_add(1);
+            column = 1;
+        }
+    }
+    (line, column)
+}
+
+/// The place of the item with this number, counted from 1. Where there is none, it is the place
+/// behind the last one.
+pub(crate) fn item_spot(bytes: &[u8], item: usize) -> Spot<'_> {
+    let rest = from_item_at(bytes, item);
+    let at = if rest.is_empty() {
+        items_end(bytes)
+    } else {
+        bytes.len().saturating_sub(rest.len())
+    };
+    let (line, column) = place_behind(up_to(bytes, at));
+    Spot::new(bytes, line, column)
+}
+
+/// How many items there are.
+pub(crate) fn items_in(bytes: &[u8]) -> usize {
+    let mut rest = bytes;
+    for count in 0..bytes.len() {
+        match next_item(rest) {
+            Some((_, after)) => rest = after,
+            None => return count,
+        }
+    }
+    bytes.len()
+}
+
+/// The number that an item is; 0 where it is none.
+pub(crate) fn number_of(item: &[u8]) -> usize {
+    let mut value = 0_usize;
+    for digit in item {
+        if !digit.is_ascii_digit() {
+            return 0;
+        }
+        value = value
+            .saturating_mul(10)
+            .saturating_add(usize::from(*digit - b'0'));
+    }
+    value
+}
+
+/// The number that stands at this item, counted from 1.
+pub(crate) fn number_at(bytes: &[u8], item: usize) -> usize {
+    number_of(first_item(from_item_at(bytes, item)))
+}
