@@ -58,7 +58,8 @@ pub(crate) fn push_character<'a>(
     }
 }
 
-/// What may have so many signs and no more: how the next one would be counted, and what it is in.
+/// A pattern or a word: the most signs that it may have, how the ordinal of the next one goes on,
+/// and what it is called.
 struct Longest {
     most: usize,
     next: &'static [u8],

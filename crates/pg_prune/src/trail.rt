@@ -21,12 +21,12 @@ pub(crate) struct Start {
     pub at: usize,
 }
 
-/// The starts of a string, and those of all its first parts that have a sign.
+/// The starts of a string, and those of each of its prefixes that has a sign.
 #[derive(Drop)]
 pub(crate) struct Trail {
     /// The string.
     pub signs: Vec<Sign>,
-    /// The starts of its first parts, the shorter ones first, and its own last.
+    /// The starts of its prefixes, the shorter ones first, and its own last.
     pub starts: Vec<Vec<Start>>,
 }
 
@@ -67,7 +67,7 @@ fn push_starts(
     Ok(())
 }
 
-/// The starts behind whose first `len` signs this sign follows.
+/// Of these starts, those where the sign follows the first `len` signs.
 fn longer(
     alloc: Global,
     dictionary: &Dictionary,
