@@ -65,6 +65,7 @@ abbrev pub first_from : (ℕ → Bool) → ℕ → ℕ → ℕ
 first_from test zero b = b
 first_from test (suc more) b = elim (test b) [ true ↦ b | false ↦ first_from test more (b + 1) ]
 
+-- `least_base_is` in proofs/LeastBase says that it is the least, if no family lacks signs
 -- the least base at which the signs may stand; at the greatest used cell they always may
 abbrev pub least_base : ℕ → ℕ → Families → List ℕ → ℕ
 least_base few n fs signs = first_from (fits_at fs signs)
