@@ -35,8 +35,7 @@ fn byte_cause(rest: &[u8]) -> Option<&'static [u8]> {
     }
 }
 
-/// What is said of the first line of a translate file, where it shows a cause. A letter may stand
-/// where the minima are due.
+/// The same for the first line of a translate file, where a letter may stand for the minima.
 fn head_cause(head: &[u8]) -> Option<&'static [u8]> {
     let cause = byte_cause(head);
     if cause.is_some() || has_minima(head) {
@@ -45,7 +44,7 @@ fn head_cause(head: &[u8]) -> Option<&'static [u8]> {
     Some(NO_HEAD)
 }
 
-/// What is said of the place of a refusal, where its bytes show a cause.
+/// The same for the place of a refusal.
 fn place_cause(kind: Kind, spot: &Spot<'_>) -> Option<&'static [u8]> {
     match kind {
         Kind::BadMinima => head_cause(spot.text),

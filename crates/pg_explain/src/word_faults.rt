@@ -67,7 +67,7 @@ fn dashes_fault<'a>(name: &'static str, word: &'a str, is_early: bool) -> Fault<
     of_two(word, b" stands where ", name, behind)
 }
 
-/// What is wrong with a word as a name. An option stands too early if it may follow the names.
+/// What is wrong with a word as a name. An option is early where it may stand behind that.
 fn name_fault<'a>(name: &'static str, word: &'a str, has_options: bool) -> Option<Fault<'a>> {
     if word.is_empty() {
         return Some(of_word(name, b" is empty, and has to be a name"));
@@ -121,7 +121,7 @@ fn slots_fault<'a>(command: &Command, words: &'a [String]) -> Option<Fault<'a>> 
     None
 }
 
-/// What is said of a word that is no option here, or of an option that is there twice.
+/// What is said of a word that is no option here, or once more the same.
 fn option_words(command: &Command, option: &str, is_first: bool) -> Option<&'static [u8]> {
     if !is_option(option) {
         return Some(b" is one word too many");

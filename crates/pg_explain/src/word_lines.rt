@@ -58,8 +58,7 @@ pub(crate) fn push_character<'a>(
     }
 }
 
-/// A pattern or a word: the most signs that it may have, how the ordinal of the next one goes on,
-/// and what it is called.
+/// What may have so many signs and no more: how the next one would be counted, and what it is in.
 struct Longest {
     most: usize,
     next: &'static [u8],

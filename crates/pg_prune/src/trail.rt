@@ -21,12 +21,12 @@ pub(crate) struct Start {
     pub at: usize,
 }
 
-/// The starts of a string, and those of each of its prefixes that has a sign.
+/// The starts of a string, and those of all its first parts that have a sign.
 #[derive(Drop)]
 pub(crate) struct Trail {
     /// The string.
     pub signs: Vec<Sign>,
-    /// The starts of its prefixes, the shorter ones first, and its own last.
+    /// The starts of its first parts, the shorter ones first, and its own last.
     pub starts: Vec<Vec<Start>>,
 }
 
