@@ -18,7 +18,7 @@ use Rattle.pg_top.specs.declared.inputs.Input.TheVariants as input
 abbrev pub Held : Type 0
 Held = List ℕ → Option (List ℕ)
 
--- what the file of a name is read as; `other` if it is not held or is refused
+-- what the file of a name means, where it is held and accepted, and else this
 abbrev pub meaning : {Y : Type 0} → (List ℕ → Result Y Refusal) → Y → Held → List ℕ → Y
 meaning parse other files name =
     option_map_or (λ bytes. result_unwrap_or (parse bytes) other) (files name) other

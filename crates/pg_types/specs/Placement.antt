@@ -65,7 +65,6 @@ abbrev pub first_from : (ℕ → Bool) → ℕ → ℕ → ℕ
 first_from test zero b = b
 first_from test (suc more) b = elim (test b) [ true ↦ b | false ↦ first_from test more (b + 1) ]
 
--- `least_base_is` in proofs/LeastBase says that it is the least, if no family lacks signs
 -- the least base at which the signs may stand; at the greatest used cell they always may
 abbrev pub least_base : ℕ → ℕ → Families → List ℕ → ℕ
 least_base few n fs signs = first_from (fits_at fs signs)
@@ -82,8 +81,7 @@ with_one_sign s [] = s ∷ []
 with_one_sign s (x ∷ xs) = if nat_lt s x then s ∷ x ∷ xs
     else (if nat_eq s x then x ∷ xs else x ∷ with_one_sign s xs)
 
--- the families after the sign s is added below the prefix p: in a new family, in place, or with the
--- family placed anew
+-- the families with s in that of p: it is placed with s, joined in place, or placed anew
 unfoldable pub with_sign : ℕ → ℕ → Families → List ℕ → ℕ → Families
 with_sign few n fs p s = elim (family_at fs p) [
   | None ↦ with_placed_family few n fs p (s ∷ [])
@@ -119,8 +117,7 @@ cell_of fs q = cell_after fs [] q
 abbrev pub base_of : Families → List ℕ → Option ℕ
 base_of fs p = option_map (λ f. f.base) (family_at fs p)
 
--- the families after the signs of q are added one after the other, each below the string so far,
--- which is p at first
+-- the families with each sign of q, in turn, in the family of the string before it, from p on
 abbrev pub enter_after : ℕ → ℕ → Families → List ℕ → List ℕ → Families
 enter_after few n fs p [] = fs
 enter_after few n fs p (s ∷ q) = enter_after few n
