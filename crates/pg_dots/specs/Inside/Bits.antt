@@ -6,8 +6,7 @@ use Rattle.std.specs.Int.{bit_at}
 unfoldable pub has_bit : List ℕ → ℕ → Bool
 has_bit row i = bit_at (slice_index row (i / 64)) (i % 64) == 1
 
--- `next` is the first index from `from` on at which the test fails, or the end where it fails at
--- none
+-- `next` is the first index from `from` on at which the test fails, or else the end
 pub record IsNext (test : ℕ → Bool) (end from next : ℕ) : Type 0 where
   pub after : from ≤ next
   pub within : next ≤ end
