@@ -98,7 +98,8 @@ pub(crate) fn hold_given<'a>(
     }
 }
 
-/// The same for the files of the table, but for those that a row is without.
+/// From now on the files have to hold what a table gives all its rows, but for what a row is
+/// without.
 fn hold_shared<'a>(
     holds: &mut Vec<Held<'a>>,
     table: &'a Table<'a>,
@@ -112,7 +113,7 @@ fn hold_shared<'a>(
     Ok(())
 }
 
-/// The same for the files of a row.
+/// From now on the files have to hold what a row gives itself.
 fn hold_own<'a>(
     holds: &mut Vec<Held<'a>>,
     table: &'a Table<'a>,

@@ -53,7 +53,7 @@ fn change(cells: &mut Cells<u32>, parent: usize, s: Sign, value: u32) -> Result<
     }
 }
 
-/// The same below a cell that may be free.
+/// Adds or removes a sign below a cell, as `change` does. The cell may be free, which is an error.
 pub fn change_below(
     cells: &mut Cells<u32>,
     parent: usize,
@@ -69,7 +69,7 @@ pub fn change_below(
     }
 }
 
-/// The same below a string.
+/// Adds or removes a sign below a string, as `change` does. A string without a cell is an error.
 pub fn change_at(
     cells: &mut Cells<u32>,
     string: &[Sign],

@@ -253,7 +253,8 @@ impl<V: Copy> Store<V> {
         self.dropped = usize::MAX;
     }
 
-    /// From the answer up to `base`, no base but `base` can take the family that stands at `base`.
+    /// Where the search for the family at `base` began; `base` itself if that is not remembered.
+    /// The bases from there up to `base` cannot take this family.
     pub fn sought_from(&self, base: usize) -> usize
         ensures { AreBlocked self.now base result }
     {

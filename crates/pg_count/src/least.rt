@@ -83,7 +83,8 @@ pub fn least(
     None
 }
 
-// The same among the windows that begin with the string that has the cell.
+// The number of the least window above another, among those that begin with the string that has the
+// cell.
 #[cycle(least)]
 fn least_at(
     cells: &CountedCells,
@@ -107,7 +108,8 @@ fn least_at(
     least(cells, windows, above, below, first, bound, more)
 }
 
-// The same where no sign follows.
+// The number of the window that is the string with the cell, if it is above the other window. No
+// sign follows this string.
 fn leaf_above(
     cells: &CountedCells,
     windows: &WindowList,

@@ -39,7 +39,7 @@ pub fn walk(
     Ok(())
 }
 
-// The same for the string that has the cell.
+// Appends the numbers of the counted strings that begin with the string that has the cell.
 #[cycle(walk)]
 fn walk_at(
     cells: &CountedCells,
@@ -61,7 +61,7 @@ fn walk_at(
     walk(cells, below, cells.first_sign(cell), more, out)
 }
 
-// The same where no sign follows.
+// Appends the number of the string that has the cell, which no sign follows.
 fn last_at(cells: &CountedCells, cell: usize, out: &mut Vec<u32>) -> Result<(), AllocError>
     requires cell { (q : List ℕ) × (cell_of cells.now.families q ≡ Some cell) }
     requires held { AreValuedFamilies cells.now }

@@ -25,11 +25,13 @@ abbrev pub keeps_care : Mark → Bool
 keeps_care DontCare = false
 keeps_care mark = true
 
--- what a word has at its positions: one thing at the first two and the last, else what the gap says
+-- what a word has at its positions: `plain` at the first two and the last, and at the others what
+-- their gap gives
 abbrev pub at_positions : {X : Type 0} → X → (List Token → X) → List Token → List X
 at_positions plain of_gap items = plain ∷ plain ∷ (map of_gap (inner_gaps items) ++ plain ∷ [])
 
--- the word of a line: its letters between edges; a gap's last mark and number are its position's
+-- the word of a line: its letters between two edges. A position has the last mark and the last
+-- number of its gap
 abbrev pub word_of_items : ℕ → List Token → Word
 word_of_items weight items = record {
   signs = EDGE ∷ (signs_of items ++ EDGE ∷ []);

@@ -23,8 +23,9 @@ use std::marker::Model;
 /// The words of a dictionary file, in its order. All of them lie in one store, and what stands at
 /// their signs in one row.
 ///
-/// Every word has 3 to 102 signs, each at least 1, and weights of at most
-/// [`WEIGHT_MAX`](pg_types::WEIGHT_MAX). Together the words have at most 2^26 letters.
+/// Every word has 1 to [`WORD_LETTERS_MAX`](pg_types::WORD_LETTERS_MAX) letters and the two edges,
+/// each sign at least 1, and weights of at most [`WEIGHT_MAX`](pg_types::WEIGHT_MAX). Together the
+/// words have at most [`FILE_MAX`](pg_types::FILE_MAX) letters.
 #[derive(Drop)]
 pub struct Dictionary {
     store: Store,
@@ -47,10 +48,10 @@ impl Model for Dictionary {
 impl Dictionary {
     /// Reads a dictionary file under a table, in one pass.
     ///
-    /// A file of more than 2^26 bytes is refused 403. Else the first refused place, from line to
-    /// line and left to right, is refused 401, 402 or 404: a byte that begins no item, or the 101st
-    /// letter of a line. The rules are patgen's, with weights in braces and don't-care marks
-    /// besides.
+    /// A file of more than [`FILE_MAX`](pg_types::FILE_MAX) bytes is refused 403. In any other, the
+    /// first refused place, from line to line and left to right, is refused 401, 402 or 404: a byte
+    /// that begins no item, or the 101st letter of a line. The rules are patgen's, with weights in
+    /// braces and don't-care marks besides.
     pub fn read(alloc: Global, table: &Table, bytes: &[u8]) -> Result<Dictionary, ReadingError>
         ensures words { Gives (λ dictionary. dictionary) result (words table.now bytes.now) }
         ensures signs { IfOk result (SignsAtMost (alphabet.letters_of table.now + 1)) }

@@ -23,7 +23,8 @@ pub fn words_are_read()
         ≡ record { word = Some w; weight = w.weight } }
 {}
 
-/// A line of items with at most 100 letters is accepted, and gives what its items give.
+/// A line of items with at most [`WORD_LETTERS_MAX`](pg_types::WORD_LETTERS_MAX) letters is
+/// accepted, and gives what its items give.
 pub fn lines_are_read(table: &Table)
     ensures { (line weight : ℕ) (items : List (Token × List ℕ))
         → AreItems table.now Dictionary items

@@ -11,8 +11,8 @@ use crate::store::Store;
 use crate::word::WordRef;
 use std::alloc::{AllocError, Global};
 
-/// What stands at a sign of a word: how far its word goes from it on, and whether the position
-/// before it has a hyphen.
+/// What stands at a sign of a word: how many signs of its word stand from it on, and whether the
+/// position before it has a hyphen.
 #[derive(Clone, Copy)]
 pub struct Site {
     /// Twice how many signs of its word there are from it on, and one more where the position

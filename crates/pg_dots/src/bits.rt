@@ -32,8 +32,8 @@ pub fn lowest_set(number: u64) -> usize
     number.trailing_zeros() as usize
 }
 
-/// Sets the bits of each number that are set in the one `width` numbers before it, from number `2 *
-/// width` on. The last is done first, so that each takes in what was there before.
+/// Adds to each row of bits, from the third on, the bits of the row before it. A row has `width`
+/// numbers. The last number is done first, so that a row takes in the old bits of the one before.
 pub fn take_in_before(row: &mut [u64], width: usize)
     requires width { 2 * width ≤ length row.old }
     requires few { 64 * length row.old < 2 ^ 64 }

@@ -20,7 +20,7 @@ pub record Source : Type 0 where
   pub minima : Minima
   pub words : List Word
 
--- what a run over these words goes over under a table
+-- the source of a run over these words, with the minima of a table
 abbrev pub over : Alphabet → List Word → Source
 over t words = record { minima = minima_of t; words = words }
 

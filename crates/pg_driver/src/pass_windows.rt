@@ -55,9 +55,9 @@ impl PassWindows {
         }
     }
 
-    /// Forgets the numbers of the pass before. Where they took less than a quarter of their memory,
-    /// all but twice what they took, or the least that is kept, is given back: the first passes of
-    /// a level have far more positions than the last ones.
+    /// Forgets the numbers of the pass before. If they took less than a quarter of their memory,
+    /// the list keeps twice what they took, at least [`NUMBERS_AT_LEAST`], and gives the rest back.
+    /// The first passes of a level have far more positions than the last ones.
     pub fn forget_numbers(&mut self)
         ensures { self.new.numbers.items ≡ [] }
     {

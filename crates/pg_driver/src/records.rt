@@ -6,9 +6,9 @@ use std::marker::Model;
 /// What a run records of a pass. It keeps this record only where the pass has a candidate.
 #[derive(Clone, Copy, Debug, PartialEq, Eq)]
 pub struct PassRecord {
-    /// The level, 1 to 9.
+    /// The level, 1 to [`LEVEL_MAX`](pg_types::LEVEL_MAX).
     pub level: u8,
-    /// The length of the windows in signs, 1 to 15.
+    /// The length of the windows in signs, 1 to [`LENGTH_MAX`](pg_types::LENGTH_MAX).
     pub len: u8,
     /// How many signs stand before the dot, 0 to `len`.
     pub dot: u8,
@@ -45,7 +45,7 @@ impl PassRecord {
 /// What a run records of a level.
 #[derive(Clone, Copy, Debug, PartialEq, Eq)]
 pub struct LevelRecord {
-    /// The level, 1 to 9.
+    /// The level, 1 to [`LEVEL_MAX`](pg_types::LEVEL_MAX).
     pub level: u8,
     /// How many windows its passes chose.
     pub chosen: u64,

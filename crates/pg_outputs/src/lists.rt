@@ -11,13 +11,13 @@ use indexmap::IndexSet;
 use std::alloc::{AllocError, Global};
 use std::marker::Model;
 
-/// For so many dots, from 0 on, the latest records are kept apart.
+/// The latest records are remembered apart for each dot modulo this number.
 const DOTS: usize = 16;
 
-/// For each dot so many records are kept apart, by their value and next.
+/// For each such dot, they are remembered apart for each sum of value and next modulo this number.
 const ROWS: usize = 16;
 
-/// The number of records that are kept apart.
+/// The number of latest records that are remembered.
 const PLACES: usize = DOTS * ROWS;
 
 /// Lists of (value, dot) that share their ends. Head 0 is the empty list, and head `h` is the

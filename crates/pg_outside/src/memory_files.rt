@@ -267,8 +267,8 @@ impl Files for MemoryFiles {
         ensures listed { listed_of self.new ≡ listed_of self.old }
         ensures rooms { NoneFell (room_of self.old) (room_of self.new) }
 
-        // A listed write fails. The file is as before, or the bytes that the call keeps, and it
-        // is these where it is there and they are within its room.
+        // A listed write fails. The file is then as before, or has the bytes that the call keeps.
+        // It has these if it was there and they fit into its room.
         ensures listed_fails { IsListed self.old → IsErr result }
         ensures listed_reads { IsListed self.old → ReadsRose self.old self.new }
         ensures keeps_none { next_listed self.old ≡ Some None → SameFiles self.old self.new }

@@ -6,7 +6,7 @@ use Rattle.std.specs.Cmp.Lexicographic.{pointwise}
 use Rattle.pg_translate.specs.Alphabets.{Alphabet, spelling_of}
 use Rattle.pg_patterns.specs.DottedSigns.{dotted_cmp}
 
--- a string before others, where the first of them is another
+-- strings with one more in front, unless it is the first of them already
 abbrev pub with_string : List ℕ → List (List ℕ) → List (List ℕ)
 with_string q [] = q ∷ []
 with_string q (r ∷ rs) = if pointwise nat_eq q r then r ∷ rs else q ∷ r ∷ rs

@@ -35,7 +35,7 @@ impl Model for PatternSet {
 /// An entry of a [`PatternSet`].
 #[derive(Clone, Copy, Debug)]
 pub struct Entry<'a> {
-    /// The signs of its string, 1 to 32.
+    /// The signs of its string, 1 to [`PATTERN_SIGNS_MAX`](pg_types::PATTERN_SIGNS_MAX).
     pub signs: &'a [Sign],
     /// How many signs stand before the dot.
     pub dot: u8,
@@ -67,7 +67,8 @@ impl PatternSet {
     }
 
     /// The patterns of a file. A file of more than [`FILE_MAX`](pg_types::FILE_MAX) bytes is
-    /// refused, and else the first line with a byte that begins no item, or with a sign too many.
+    /// refused. In any other, the first line with a byte that begins no item, or with a sign too
+    /// many, is refused.
     pub fn read(alloc: Global, table: &Table, bytes: &[u8]) -> Result<PatternSet, ReadingError>
         ensures value { Gives (λ set. set) result (start table.now bytes.now) }
         ensures known { IfOk result (SignsUpTo (letters_of table.now + 1)) }

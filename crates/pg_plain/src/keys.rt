@@ -9,7 +9,7 @@ use pg_types::Sign;
 use std::cmp::Ordering;
 use std::marker::Model;
 
-/// So many numbers has a place for a sign.
+/// How many values fit into the room of a sign: 16 bits.
 const SIGN_ROOM: u64 = 65_536;
 
 /// A window as the key of a map. Each number has four signs, so that windows are mostly told apart

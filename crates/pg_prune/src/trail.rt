@@ -68,7 +68,7 @@ fn push_starts(
     Ok(())
 }
 
-/// The starts behind whose first `len` signs this sign follows.
+/// Of these starts, those where the sign follows the first `len` signs.
 fn longer(
     alloc: Global,
     dictionary: &Dictionary,

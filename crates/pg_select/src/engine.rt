@@ -22,8 +22,8 @@ use std::alloc::{AllocError, Global};
 pub trait Engine {
     ghost meaning: { Self → Meaning };
 
-    /// Tells what every engine keeps: its maps stand in order, each value is 1 to 9, and no sign is
-    /// above the greatest. A call does nothing.
+    /// Tells what every engine keeps: its maps stand in order, each value is 1 to
+    /// [`LEVEL_MAX`](pg_types::LEVEL_MAX), and no sign is above the greatest. A call does nothing.
     fn kept(&self)
         ensures { IsKept (meaning self.now) };
 

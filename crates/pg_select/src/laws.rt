@@ -51,7 +51,8 @@ pub fn hopeless_only_covers()
     ensures given_up { GivenUpCovers }
 {}
 
-/// The points of a level follow one another, and a choice or a giving up leads to a later one.
+/// The points of a level follow one another. Choosing a window and giving one up each lead to a
+/// later point.
 pub fn levels_go_on()
     ensures at_once { LaterAtOnce }
     ensures still { LaterStill }

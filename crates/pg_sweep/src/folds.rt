@@ -18,13 +18,11 @@ use std::alloc::{AllocError, Global};
 /// What all runs of a sweep share.
 #[derive(Clone, Copy)]
 pub(crate) struct Given<'a> {
-    /// The words.
     pub dictionary: &'a Dictionary,
-    /// The table by which they were read.
+    /// The table by which the words were read.
     pub table: &'a Table,
     /// The patterns to start with.
     pub start: &'a PatternSet,
-    /// The number of folds.
     pub folds: u8,
 }
 

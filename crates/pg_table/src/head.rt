@@ -15,9 +15,7 @@ pub const FILE_MARK: &[u8] = b"PGT1";
 pub struct Head {
     /// The greatest sign.
     pub signs: u32,
-    /// The number of cells.
     pub cells: u32,
-    /// The number of records.
     pub records: u32,
 }
 

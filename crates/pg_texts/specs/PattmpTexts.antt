@@ -43,7 +43,7 @@ abbrev pub word_text : Alphabet → (ℕ → Mark) → Word → List ℕ
 word_text t marks w = flat_map (position_text t marks w) (range_with_len 2 (length w.signs - 3))
     ++ letter_text t w (length w.signs - 1) ++ codes "\n"
 
--- the status of a position of a word: in reach by the patterns, and else as where the value is 0
+-- the status of a position: in reach by the value of the patterns, out of reach as by the value 0
 abbrev pub statuses : Alphabet → Patterns → Word → ℕ → Mark
 statuses t P w p = if list_any (nat_eq p) (positions t.left t.right (length w.signs))
     then status_at P w p else status_with w p 0

@@ -11,7 +11,7 @@ use pg_driver::{LevelRecord, PassRecord, Run};
 use pg_types::{Layout, push_number};
 use std::alloc::{AllocError, Global};
 
-/// A layout that is there.
+/// The layout, which every record of this run has.
 fn layout_of(layout: Option<Layout>) -> Layout
     requires { IsSome layout }
     ensures { result ≡ layout_there layout }

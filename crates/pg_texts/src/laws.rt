@@ -13,7 +13,7 @@ use pg_translate::{Place, Table};
 
 /// The hyphenated list of words, by any patterns, is a dictionary file of those that take part,
 /// under the same table: with their hyphens, their cares, their weights and their word weights. It
-/// must have at most 2^26 bytes.
+/// must have at most [`FILE_MAX`](pg_types::FILE_MAX) bytes.
 pub fn lists_are_read(table: &Table)
     ensures { (P : Patterns) (words : List Word) → All IsWord words
         → SignsAtMost (letters_of table.now + 1) words

@@ -16,8 +16,9 @@ use std::alloc::{AllocError, Global};
 /// marks of its positions by the patterns of the engine, and with the weights that differ from
 /// those before them.
 ///
-/// Where it has at most 2^26 bytes it is a dictionary file of these words, under the same table,
-/// with their hyphens, their cares and all their weights. Each word is hyphenated once.
+/// If it has at most [`FILE_MAX`](pg_types::FILE_MAX) bytes, it is a dictionary file of these
+/// words, under the same table, with their hyphens, their cares and all their weights. Each word is
+/// hyphenated once.
 pub fn pattmp_text<E: Engine>(
     alloc: Global,
     engine: &E,

@@ -23,11 +23,9 @@ use std::alloc::{AllocError, Global};
 pub struct Inputs {
     /// The table of the translate file.
     pub table: Table,
-    /// The parameters.
     pub params: Params,
     /// The starting patterns.
     pub start: PatternSet,
-    /// The words.
     pub dictionary: Dictionary,
 }
 

@@ -20,8 +20,8 @@ use pg_watch::Watch;
 use pg_words::SweepWords;
 use std::alloc::Global;
 
-/// Tells the observer of the set whose first level is the lowest. Where that level is above the
-/// values of the starting patterns, the first level of each set is.
+/// Tells the observer of the set whose first level is the lowest. If this level is above the values
+/// of the starting patterns, so is the first level of every set.
 fn tell_lowest<W: Watch>(name: &str, sets: &[Params], start: &PatternSet, watch: &W)
     requires { 1 ≤ length sets.now }
 {

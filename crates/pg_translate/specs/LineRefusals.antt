@@ -1,4 +1,4 @@
--- When a line of a dictionary or of patterns is refused, and what lines give else.
+-- When a line of a dictionary or of patterns is refused, and what accepted lines give.
 use Rattle.std.specs.Prelude.{ℕ, ◌==◌, if◌then◌else◌, List, map, slice_get, slice_index, Option, None, Some, option_map, Result}
 use Rattle.std.specs.List.{filter_map, enumerate_from}
 use Rattle.std.specs.Option.{option_or}

@@ -30,7 +30,7 @@ minimum_at head column = unwrap_or (number (filter (λ b. not (b == 32))
 abbrev pub is_blank_at : List ℕ → ℕ → Bool
 is_blank_at head column = in_column head column == 32 && in_column head (column + 1) == 32
 
--- a minimum fails where it is blank and the other is not, or where it is not blank and none
+-- a minimum fails if it alone is blank, or if it is not blank and its bytes are no number from 1 on
 abbrev pub minimum_fails : List ℕ → ℕ → ℕ → Bool
 minimum_fails head column other = if is_blank_at head column then not (is_blank_at head other)
     else minimum_at head column == 0

@@ -18,7 +18,7 @@ pub enum Item<'a> {
     Letter(Sign, &'a [u8]),
     /// A digit, 0 to 9.
     Digit(u8, &'a [u8]),
-    /// A weight in braces, 1 to 9,999.
+    /// A weight in braces, 1 to [`WEIGHT_MAX`](pg_types::WEIGHT_MAX).
     Weight(Weight, &'a [u8]),
     /// The byte of a mark.
     Mark(Mark, &'a [u8]),

@@ -77,7 +77,8 @@ impl Table {
         Ok(Table { head, index })
     }
 
-    /// The number of letters, 0 to 2,000.
+    /// The number of letters, less than [`SIGNS_MAX`](pg_types::SIGNS_MAX), since the edge is a
+    /// sign too.
     pub fn letters(&self) -> u16
         ensures value { result ≡ letters_of self.now }
         ensures few { result ≤ SIGNS_MAX - 1 }
@@ -85,7 +86,7 @@ impl Table {
         self.index.letters() as u16
     }
 
-    /// The left minimum, 1 to 99.
+    /// The left minimum, 1 to [`MINIMUM_MAX`].
     pub fn left(&self) -> u8
         ensures value { result ≡ self.now.left }
         ensures range { (0 < result) × (result ≤ MINIMUM_MAX) }
@@ -93,7 +94,7 @@ impl Table {
         self.head.left
     }
 
-    /// The right minimum, 1 to 99.
+    /// The right minimum, 1 to [`MINIMUM_MAX`].
     pub fn right(&self) -> u8
         ensures value { result ≡ self.now.right }
         ensures range { (0 < result) × (result ≤ MINIMUM_MAX) }
@@ -182,8 +183,8 @@ impl Table {
     ///
     /// `End` comes exactly where the line ends here, or a blank or TAB stands here. `Bad` comes
     /// exactly where no item stands here and the line does not end. Letters have signs 2 to
-    /// `letters` + 1, digits are 0 to 9, and weights 1 to 9,999. Marks and weights come only in a
-    /// dictionary, and `Edge` only in patterns.
+    /// `letters` + 1, digits are 0 to 9, and weights 1 to [`WEIGHT_MAX`](pg_types::WEIGHT_MAX).
+    /// Marks and weights come only in a dictionary, and `Edge` only in patterns.
     #[inline]
     pub fn item<'a>(&self, place: Place, rest: &'a [u8]) -> Item<'a>
         ensures item { IsFirstItem self.now place rest.now result }

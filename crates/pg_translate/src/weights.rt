@@ -8,7 +8,7 @@ use pg_types::{WEIGHT_MAX, Weight};
 /// The most digits of a weight in braces.
 const WEIGHT_DIGITS_MAX: usize = 4;
 
-/// Whether the value of a weight's digits is one: it is not 0.
+/// Whether the value of the digits is a weight: it is not 0.
 fn is_weight(value: Weight) -> bool
     ensures { result ≡ nat_lt 0 value }
 {

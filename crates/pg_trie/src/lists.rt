@@ -16,7 +16,6 @@ const PLACES: usize = 64;
 /// A head, and that of its list with a value at a dot. The value 0 says that there is none.
 #[derive(Clone, Copy)]
 pub struct Raised {
-    /// The value.
     pub value: u8,
     /// How many signs stand before the value.
     pub dot: u8,

@@ -52,7 +52,8 @@ abbrev pub level_of : List (List ℕ) → LevelParams
 level_of xs = let n = number_at xs in
     record { pat_start = n 0; pat_finish = n 1; good_wt = n 2; bad_wt = n 3; thresh = n 4 }
 
--- the items from each level that is run on: behind the first two, each level has five
+-- for each level that is run, the items from its first one on. Two items stand before those of all
+-- levels, and each level has five
 abbrev pub level_items : List (List ℕ) → List (List (List ℕ))
 level_items xs = map (λ i. drop (2 + 5 * i) xs)
     (range_with_len 0 (min (number_at xs 1) LEVEL_MAX + 1 - number_at xs 0))

@@ -10,7 +10,7 @@ use crate::limits::{COST_MAX, LENGTH_MAX};
 use crate::parameters::LevelParams;
 use crate::refusals::{Kind, Refusal};
 
-/// What a number that is greater than every range is cut to, so that its digits cannot overflow.
+/// A greater number is read as this one, which is out of every range. So no number overflows.
 const TOO_GREAT: u32 = COST_MAX + 1;
 
 /// A number of items that is greater than that of any accepted file.

@@ -8,11 +8,10 @@ use pg_types::next_line;
 /// A place in a file, with its line without its end. Columns count bytes.
 #[derive(Clone, Copy)]
 pub struct Spot<'a> {
-    /// The number of its line, from 1.
+    /// From 1.
     pub line: usize,
-    /// The number of its column, from 1.
+    /// From 1.
     pub column: usize,
-    /// Its line.
     pub text: &'a [u8],
 }
 

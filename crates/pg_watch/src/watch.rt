@@ -8,7 +8,7 @@ use pg_types::{Params, Refusal};
 /// The pass of a selection that begins.
 #[derive(Clone, Copy, Debug, PartialEq, Eq)]
 pub struct Pass {
-    /// Its level, 1 to 9.
+    /// Its level, 1 to [`LEVEL_MAX`](pg_types::LEVEL_MAX).
     pub level: u8,
     /// The last level of the run.
     pub last: u8,
@@ -35,8 +35,8 @@ pub struct Turn {
     pub folds: u8,
 }
 
-/// A file of patterns, of words or of cells that was refused under the letters of a table, or a
-/// translate file or parameters, which need none.
+/// A refused file. Patterns, dictionaries and packed tables are read under the letters of a table,
+/// translate files and parameters without them.
 #[derive(Clone, Copy)]
 pub struct Refused<'a> {
     /// The name of the file.

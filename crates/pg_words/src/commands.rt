@@ -3,15 +3,12 @@
 /// The names that `generate` and `audit` are given. `audit` reads the files that `generate` writes.
 #[derive(Clone, Copy)]
 pub struct Names<'a> {
-    /// The dictionary.
     pub dict: &'a str,
     /// The starting patterns.
     pub patterns: &'a str,
     /// Where the patterns are written.
     pub output: &'a str,
-    /// The translate file.
     pub translate: &'a str,
-    /// The parameters.
     pub params: &'a str,
     /// Where the report is written.
     pub report: &'a str,
@@ -24,21 +21,19 @@ pub struct Names<'a> {
 /// What `sweep` is given.
 #[derive(Clone, Copy)]
 pub struct SweepWords<'a> {
-    /// The dictionary.
     pub dict: &'a str,
     /// The starting patterns.
     pub patterns: &'a str,
     /// Where the table of the sweep is written.
     pub output: &'a str,
-    /// The translate file.
     pub translate: &'a str,
-    /// The number of folds, 2 to 10.
+    /// 2 to [`FOLDS_MAX`].
     pub folds: u8,
-    /// What a unit of bad costs, 1 to 1,000.
+    /// What a unit of bad costs, 1 to [`PRICE_MAX`].
     pub bad: u32,
-    /// What a unit of missed costs, 1 to 1,000.
+    /// What a unit of missed costs, 1 to [`PRICE_MAX`].
     pub missed: u32,
-    /// The parameter files, 1 to 16.
+    /// The parameter files, 1 to [`SETS_MAX`](pg_types::SETS_MAX).
     pub params: &'a [String],
 }
 
@@ -54,32 +49,24 @@ pub enum Command<'a> {
     Sample(u32, u32),
     /// To write the packed table of patterns.
     Pack {
-        /// The pattern file.
         patterns: &'a str,
-        /// The translate file.
         translate: &'a str,
         /// Where the table is written.
         table: &'a str,
     },
     /// To print the totals of a dictionary by a packed table.
     Totals {
-        /// The dictionary.
         dict: &'a str,
-        /// The translate file.
         translate: &'a str,
-        /// The packed table.
         table: &'a str,
     },
     /// To take out the entries of patterns that change no break of a dictionary, and to write the
     /// rest and a report.
     Prune {
-        /// The dictionary.
         dict: &'a str,
-        /// The pattern file.
         patterns: &'a str,
         /// Where the patterns that stay are written.
         output: &'a str,
-        /// The translate file.
         translate: &'a str,
         /// Where the report is written.
         report: &'a str,

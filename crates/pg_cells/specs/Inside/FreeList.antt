@@ -3,7 +3,7 @@
 use Rattle.std.specs.Prelude.{◌≡◌, ◌≢◌, ℕ, ◌+◌, ◌<◌, ◌≤◌, false, get_or}
 use Rattle.pg_cells.specs.Inside.Lists.{Lists, base_at, before_at, after_at}
 
--- S is 0 at the free cells, and B and A give the free cell before and after
+-- at a free cell S has 0, B the free cell before it, and A the free cell after it
 pub record Linked (S B A : ℕ → ℕ) : Type 0 where
   pub head : S 0 ≡ 0
   pub after_ok : (i : ℕ) → S i ≡ 0 → A i ≢ 0 → (i < A i) × (S (A i) ≡ 0)

@@ -45,8 +45,8 @@ fn drop_base<V: Copy>(store: &mut Store<V>, base: usize)
     }
 }
 
-// The end of the bases from `low` on that were tried before, for a family that moves. Its base
-// `was` was found by a search from `sought` on.
+// Below the answer no base from `low` on is free for a family that moves. They were tried when its
+// old base `was` was found, by a search that began at `sought`.
 fn tried_up_to(was: usize, sought: usize, low: usize) -> usize
     requires { was < 2 ^ 32 }
     ensures { low < result → (0 < was) × (sought ≤ low) × (result ≡ was + 1) }

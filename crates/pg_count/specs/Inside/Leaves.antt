@@ -59,7 +59,7 @@ pub record Keeps (old new : Tallies) : Type 0 where
   pub keeps : (t : Tally) → HasTally old t → HasTally new t
   pub back : (t : Tally) → HasTally new t → HasTally old t
 
--- there is this tally, and those with other numbers are the same
+-- some string has this tally, and the tallies with other numbers stay
 pub record Sets (old new : Tallies) (t : Tally) : Type 0 where
   pub here : HasTally new t
   pub keeps : (v : Tally) → v.0 ≢ t.0 → HasTally old v → HasTally new v

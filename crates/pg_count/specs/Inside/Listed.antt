@@ -14,7 +14,7 @@ first_parts len zero row = []
 first_parts len (suc k) [] = []
 first_parts len (suc k) (s ∷ row) = take len (s ∷ row) ∷ first_parts len k (drop len (s ∷ row))
 
--- all of them: there are no more than it has signs
+-- all parts of a row, which are at most as many as its signs
 unfoldable pub parts : ℕ → List ℕ → Windows
 parts len row = first_parts len (length row) row
 

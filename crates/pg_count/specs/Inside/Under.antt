@@ -19,7 +19,7 @@ is_before [] s (x ∷ r) = nat_lt x s
 is_before (y ∷ p) s [] = false
 is_before (y ∷ p) s (x ∷ r) = nat_eq y x && is_before p s r
 
--- what a walk over the signs below p has behind it where it comes to s, which is 0 at its end
+-- a walk over the signs below p has passed the string r when it is at s; s is 0 at its end
 abbrev pub is_passed : List ℕ → ℕ → List ℕ → Bool
 is_passed p s r = if nat_eq s 0 then is_under p r else is_before p s r
 

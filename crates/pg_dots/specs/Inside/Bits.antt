@@ -6,7 +6,7 @@ use Rattle.std.specs.Int.{bit_at}
 unfoldable pub has_bit : List ℕ → ℕ → Bool
 has_bit row i = bit_at (slice_index row (i / 64)) (i % 64) == 1
 
--- the first place from a place on at which a test fails; the end where it fails at none
+-- `next` is the first index from `from` on at which the test fails, or else the end
 pub record IsNext (test : ℕ → Bool) (end from next : ℕ) : Type 0 where
   pub after : from ≤ next
   pub within : next ≤ end

@@ -71,7 +71,8 @@ totals_in (EachWord e) = e.totals
 abbrev pub TellsTotals : Source → Patterns → Counting → Type 0
 TellsTotals source P c = (totals_in c ≡ totals_by source P) × IsSmall (totals_in c)
 
--- there is a bit for each sign; or each listed position is one of a word, and they are not too many
+-- the open dots have a bit for each sign of the words; or, if each word is hyphenated, the listed
+-- positions lie in the words, and are at most FILE_MAX
 abbrev pub ArePlaced : List Word → Counting → Type 0
 ArePlaced words (Open o) = sign_count words ≤ position_count o.dots
 ArePlaced words (EachWord e) = All (IsPlaced words) e.above.items

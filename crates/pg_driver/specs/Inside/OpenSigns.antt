@@ -68,7 +68,8 @@ pub record IsThere (level len : ℕ) (m : Minima) (words : List Word) (P : Patte
   pub known : (n p : ℕ) (w : Word) → slice_get words n ≡ Some w → p < length w.signs
       → IsTold level len m P H w p (λ d. closed d (start_of words n + p))
 
--- the closed dots of an open position, by what became of its window; one that does not fit closes
+-- the closed dots of an open position, by what became of its window. A dot whose window does not
+-- fit is closed too
 abbrev pub closed_by : (ℕ → Bool) → ℕ → Option Choice → ℕ → Bool
 closed_by closed dot None d = closed d || nat_eq d dot
 closed_by closed dot (Some Left) d = closed d

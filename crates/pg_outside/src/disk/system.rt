@@ -39,7 +39,7 @@ pub enum Entry {
 pub struct Seen {
     pub id: FileId,
     pub is_regular: bool,
-    /// Its permissions.
+    /// Its permissions, as bits.
     pub mode: u32,
 }
 

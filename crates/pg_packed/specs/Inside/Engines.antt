@@ -3,7 +3,7 @@ use Rattle.std.specs.Prelude.{Some}
 use Rattle.pg_select.specs.Inside.Meanings.{Meaning}
 use Rattle.pg_packed.specs.declared.engine.PackedEngine.{PackedEngine}
 
--- its maps are those of its tries, and the families of the patterns' trie are told
+-- what the engine means: the maps of its tries. The families of the patterns' trie are told
 abbrev pub meaning_of : PackedEngine → Meaning
 meaning_of e = record {
   signs = e.trie.signs;

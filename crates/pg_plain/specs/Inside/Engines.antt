@@ -3,7 +3,7 @@ use Rattle.std.specs.Prelude.{true, None}
 use Rattle.pg_select.specs.Inside.Meanings.{Meaning}
 use Rattle.pg_plain.specs.declared.engine.PlainEngine.{PlainEngine}
 
--- its maps are the entries in their order, and no families are told
+-- what the engine means: its maps are the entries in their order. No families are told
 abbrev pub meaning_of : PlainEngine → Meaning
 meaning_of e = record {
   signs = e.signs;

@@ -116,7 +116,7 @@ pub record KeepsButFamilies (u : List ℕ) (old new : Meaning) : Type 0 where
 abbrev pub SetsValues : Meaning → List ℕ → List ℕ → Type 0
 SetsValues m w values = HasValues m.patterns w values
 
--- the covers are right at each position whose window fits in the word
+-- the covers say at each position whether its window is covered, where a window fits in the word
 abbrev pub SetsCovers : Meaning → List ℕ → List Bool → Type 0
 SetsCovers m w covers = HasCovers m.pass m.patterns m.hopeless w covers
 

@@ -14,7 +14,7 @@ pub record Positions : Type 0 where
 abbrev pub HasValues : Patterns → List ℕ → List ℕ → Type 0
 HasValues P w values = (p : ℕ) → p < length w → get_or values p 0 ≡ value_at P w p
 
--- the covers are right at each position whose window of the pass fits in the word
+-- the covers say at each position whether its window is covered, where a window of the pass fits
 abbrev pub HasCovers : Pass → Patterns → Hopeless → List ℕ → List Bool → Type 0
 HasCovers pass P H w covers = (p : ℕ) → p < length w → fits w p pass.len pass.dot ≡ true
     → get_or covers p false ≡ is_covered pass.level P H (window w p pass.len pass.dot) pass.dot

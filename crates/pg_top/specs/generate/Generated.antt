@@ -35,8 +35,7 @@ selected_files n i = (n.output, selected_text i)
     ++ if_asked n.cells (λ name. (name, selected_cells_text i))
     ++ (n.report, selected_report i) ∷ []
 
--- the lines that are put: the Done line, and then how many passes were begun, and the layout at the
--- end
+-- the lines that are put: the `done:` line, and one with the passes begun and the last layout
 abbrev pub selected_lines : Inputs → List ℕ
 selected_lines i = done_line (selected_text i) (selected_totals i)
     ++ codes "work: " ++ decimal (begun_count (selection i)) ++ codes " passes, "

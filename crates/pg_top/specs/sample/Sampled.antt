@@ -71,7 +71,7 @@ abbrev pub is_printed : List ℕ → Bool
 is_printed line = starts_with nat_eq line (codes "level")
     || starts_with nat_eq line (codes "total") || starts_with nat_eq line (codes "rate")
 
--- what `sample` prints: those lines of the report, and the Done line
+-- what `sample` prints: those lines of the report, and the `done:` line
 abbrev pub sample_lines : ℕ → ℕ → List ℕ
 sample_lines seed count = let i = sample_inputs seed count in
     flat_map (λ line. line ++ 10 ∷ []) (filter is_printed (lines (selected_report i)))

@@ -29,7 +29,6 @@ pub struct SweepInputs {
     pub sets: Vec<Params>,
     /// The starting patterns.
     pub start: PatternSet,
-    /// The words.
     pub dictionary: Dictionary,
 }
 

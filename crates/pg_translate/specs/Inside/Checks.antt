@@ -30,7 +30,7 @@ pair_value first second =
     else if second == 32 then first - 48 else 0)
     else if first == 32 && is_ascii_digit second then second - 48 else 0
 
--- a pair fails where it is blank and the other is not, or where it is not blank and no minimum
+-- a pair fails if it alone is blank, or if it is not blank and its bytes are no number from 1 on
 abbrev pub pair_fails : ℕ × ℕ → ℕ × ℕ → Bool
 pair_fails pair other = if is_blank_pair pair then not (is_blank_pair other)
     else pair_value pair.0 pair.1 == 0
