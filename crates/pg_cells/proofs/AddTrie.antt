@@ -9,6 +9,7 @@ use Rattle.pg_types.specs.Placement.{Family, Families, family_at, without_family
 use Rattle.pg_cells.specs.declared.store.fit.Slot.{Slot}
 use Rattle.pg_cells.specs.Inside.Lists.{Row, sign_at, child_at, base_at, IsFree}
 use Rattle.pg_cells.specs.Inside.Store.{Extends}
+use Rattle.pg_cells.specs.Inside.Searches.{search_start}
 use Rattle.pg_cells.specs.Inside.Fit.{signs_of, slot_of}
 use Rattle.pg_cells.specs.Inside.Writes.{Takes}
 use Rattle.pg_cells.specs.Inside.Moves.{Outside, CanPlace, Moved, Collected}
@@ -50,48 +51,48 @@ without_none fs p sorted none = same_maps (without_family fs p) fs (sorted_witho
 
 -- the step of the placement, in its three cases
 pub sign_new : (few n : ℕ) (fs : Families) (p : List ℕ) (s : ℕ) → T (is_sorted order fs) → family_at fs p ≡ None
-    → with_sign few n fs p s ≡ put order p (record { base = least_base few n (without_family fs p) (s ∷ []); signs = s ∷ [] }) (without_family fs p)
+    → with_sign (search_start few n) fs p s ≡ put order p (record { base = least_base (search_start few n) (without_family fs p) (s ∷ []); signs = s ∷ [] }) (without_family fs p)
 unfolding with_sign
 sign_new few n fs p s sorted none =
     ap (λ o. elim o as (λ _. Families) [
-      | None ↦ with_placed_family few n fs p (s ∷ [])
+      | None ↦ with_placed_family (search_start few n) fs p (s ∷ [])
       | Some f ↦ elim (is_used fs (f.base + s)) as (λ _. Families) [
         | false ↦ put order p (record { base = f.base; signs = with_one_sign s f.signs }) fs
-        | true ↦ with_placed_family few n (without_family fs p) p (with_one_sign s f.signs)
+        | true ↦ with_placed_family (search_start few n) (without_family fs p) p (with_one_sign s f.signs)
       ]
     ]) none
-    ∙ ap (λ l. put order p (record { base = least_base few n l (s ∷ []); signs = s ∷ [] }) l) (sym (without_none fs p sorted none))
+    ∙ ap (λ l. put order p (record { base = least_base (search_start few n) l (s ∷ []); signs = s ∷ [] }) l) (sym (without_none fs p sorted none))
 
 pub sign_joins : (few n : ℕ) (fs : Families) (p : List ℕ) (s : ℕ) (f : Family) → family_at fs p ≡ Some f → is_used fs (f.base + s) ≡ false
-    → with_sign few n fs p s ≡ put order p (record { base = f.base; signs = with_one_sign s f.signs }) fs
+    → with_sign (search_start few n) fs p s ≡ put order p (record { base = f.base; signs = with_one_sign s f.signs }) fs
 unfolding with_sign
 sign_joins few n fs p s f at free =
     ap (λ o. elim o as (λ _. Families) [
-      | None ↦ with_placed_family few n fs p (s ∷ [])
+      | None ↦ with_placed_family (search_start few n) fs p (s ∷ [])
       | Some f ↦ elim (is_used fs (f.base + s)) as (λ _. Families) [
         | false ↦ put order p (record { base = f.base; signs = with_one_sign s f.signs }) fs
-        | true ↦ with_placed_family few n (without_family fs p) p (with_one_sign s f.signs)
+        | true ↦ with_placed_family (search_start few n) (without_family fs p) p (with_one_sign s f.signs)
       ]
     ]) at
     ∙ ap (λ b. elim b as (λ _. Families) [
       | false ↦ put order p (record { base = f.base; signs = with_one_sign s f.signs }) fs
-      | true ↦ with_placed_family few n (without_family fs p) p (with_one_sign s f.signs)
+      | true ↦ with_placed_family (search_start few n) (without_family fs p) p (with_one_sign s f.signs)
     ]) free
 
 pub sign_moves : (few n : ℕ) (fs : Families) (p : List ℕ) (s : ℕ) (f : Family) → family_at fs p ≡ Some f → is_used fs (f.base + s) ≡ true
-    → with_sign few n fs p s ≡ with_placed_family few n (without_family fs p) p (with_one_sign s f.signs)
+    → with_sign (search_start few n) fs p s ≡ with_placed_family (search_start few n) (without_family fs p) p (with_one_sign s f.signs)
 unfolding with_sign
 sign_moves few n fs p s f at used =
     ap (λ o. elim o as (λ _. Families) [
-      | None ↦ with_placed_family few n fs p (s ∷ [])
+      | None ↦ with_placed_family (search_start few n) fs p (s ∷ [])
       | Some f ↦ elim (is_used fs (f.base + s)) as (λ _. Families) [
         | false ↦ put order p (record { base = f.base; signs = with_one_sign s f.signs }) fs
-        | true ↦ with_placed_family few n (without_family fs p) p (with_one_sign s f.signs)
+        | true ↦ with_placed_family (search_start few n) (without_family fs p) p (with_one_sign s f.signs)
       ]
     ]) at
     ∙ ap (λ b. elim b as (λ _. Families) [
       | false ↦ put order p (record { base = f.base; signs = with_one_sign s f.signs }) fs
-      | true ↦ with_placed_family few n (without_family fs p) p (with_one_sign s f.signs)
+      | true ↦ with_placed_family (search_start few n) (without_family fs p) p (with_one_sign s f.signs)
     ]) used
 
 module _ {V : Type 0} (few n : ℕ) (r : Row V) (t : Trie V) (trie : IsTrie n r t) (p : List ℕ) (parent : ℕ) (parent_is : cell_of t.families p ≡ Some parent)
@@ -199,15 +200,16 @@ module _ {V : Type 0} (few n : ℕ) (r : Row V) (t : Trie V) (trie : IsTrie n r 
 
     -- the family, or none, is settled with the sign
     pub trie_settles : (new : Row V) (base : ℕ) (slot : Slot V) → slot.sign ≡ s → CanPlace n r was slots slot parent → Moved few n r new was base slots slot parent
-        → with_sign few n t.families p s ≡ put order p (record { base = least_base few n (without_family t.families p) (with_one_sign s (signs_of slots)); signs = with_one_sign s (signs_of slots) })
+        → with_sign (search_start few n) t.families p s
+        ≡ put order p (record { base = least_base (search_start few n) (without_family t.families p) (with_one_sign s (signs_of slots)); signs = with_one_sign s (signs_of slots) })
         (without_family t.families p)
         → IsTrie n new (added few n t p s slot.value)
     trie_settles new base slot is can moved step =
         let whole = trie_moved few n r new t trie p parent parent_is was base slots slot own can moved in
         let least = base_is few n r new t trie p parent parent_is was base slots slot own can moved in
-        let families : put order p (record { base = base; signs = with_one_sign slot.sign (signs_of slots) }) (without_family t.families p) ≡ with_sign few n t.families p s =
+        let families : put order p (record { base = base; signs = with_one_sign slot.sign (signs_of slots) }) (without_family t.families p) ≡ with_sign (search_start few n) t.families p s =
         (λ i. put order p (record { base = least i; signs = with_one_sign slot.sign (signs_of slots) }) (without_family t.families p))
-        ∙ (λ i. put order p (record { base = least_base few n (without_family t.families p) (with_one_sign (is i) (signs_of slots)); signs = with_one_sign (is i) (signs_of slots) })
+        ∙ (λ i. put order p (record { base = least_base (search_start few n) (without_family t.families p) (with_one_sign (is i) (signs_of slots)); signs = with_one_sign (is i) (signs_of slots) })
         (without_family t.families p))
         ∙ sym step in
         subst (IsTrie n new) (λ i. record { families = families i; values = put order (p ++ is i ∷ []) slot.value t.values }) whole
@@ -258,7 +260,7 @@ module _ {V : Type 0} (few n : ℕ) (old r : Row V) (t : Trie V) (before : IsTri
       let f = some_family up in
       trie_joins few n r t grown p parent parent_is s low high lacks f.0 f.1 (ap (λ b. sign_at r (b + s)) f.2 ∙ free) new v (subst (λ b. Takes r new (b + s) s v 0) (sym f.2) takes)
 
-  pub joins_cell : 0 < base → sign_at r (base + s) ≡ 0 → cell_of (with_sign few n t.families p s) (p ++ s ∷ []) ≡ Some (base + s)
+  pub joins_cell : 0 < base → sign_at r (base + s) ≡ 0 → cell_of (with_sign (search_start few n) t.families p s) (p ++ s ∷ []) ≡ Some (base + s)
   joins_cell up free =
       let f = some_family up in
       let unused = join_free few n r t grown p parent parent_is s low high lacks f.0 f.1 (ap (λ b. sign_at r (b + s)) f.2 ∙ free) in
@@ -296,30 +298,33 @@ module _ {V : Type 0} (few n : ℕ) (old r : Row V) (t : Trie V) (before : IsTri
         can_settle few n r t grown p parent parent_is s low high lacks base slots owned slot is no_child no_join even (λ i up. room i (λ z. up (more.signs i ∙ z)))
 
     -- the step of the placement, where the sign does not join
-    pub settles_step : with_sign few n t.families p s
-        ≡ put order p (record { base = least_base few n (without_family t.families p) (with_one_sign s (signs_of slots)); signs = with_one_sign s (signs_of slots) }) (without_family t.families p)
+    pub settles_step : with_sign (search_start few n) t.families p s
+        ≡ put order p (record { base = least_base (search_start few n) (without_family t.families p) (with_one_sign s (signs_of slots)); signs = with_one_sign s (signs_of slots) })
+        (without_family t.families p)
     settles_step = elim (cases_eq base 0) [
       | inl z ↦
           sign_new few n t.families p s grown.sorted (no_family z)
-          ∙ ap (λ l. put order p (record { base = least_base few n (without_family t.families p) (with_one_sign s (signs_of l)); signs = with_one_sign s (signs_of l) }) (without_family t.families p))
+          ∙ ap (λ l. put order p (record { base = least_base (search_start few n) (without_family t.families p) (with_one_sign s (signs_of l)); signs = with_one_sign s (signs_of l) })
+          (without_family t.families p))
           (sym (none z))
       | inr up ↦
           let f = some_family (omega arith) in
           let used = taken_used n r t.families grown.sorted grown.layout (f.0.base + s) (λ z. no_join (omega arith) (ap (λ b. sign_at r (b + s)) (sym f.2) ∙ z)) in
           let signs : f.0.signs ≡ signs_of slots = grown.layout.members p f.0 f.1 ∙ ap (standing n r) f.2 ∙ sym (some (omega arith)).signs in
           sign_moves few n t.families p s f.0 f.1 used
-          ∙ ap (λ xs. put order p (record { base = least_base few n (without_family t.families p) (with_one_sign s xs); signs = with_one_sign s xs }) (without_family t.families p)) signs
+          ∙ ap (λ xs. put order p (record { base = least_base (search_start few n) (without_family t.families p) (with_one_sign s xs); signs = with_one_sign s xs })
+          (without_family t.families p)) signs
     ]
 
     module _ (new : Row V) (at : ℕ) (slot : Slot V) (is : slot.sign ≡ s) (can : CanPlace n r base slots slot parent) (moved : Moved few n r new base at slots slot parent) where
       pub settles_trie : IsTrie n new (added few n t p s slot.value)
       settles_trie = trie_settles few n r t grown p parent parent_is s low high lacks base slots owned new at slot is can moved settles_step
 
-      pub settles_cell : cell_of (with_sign few n t.families p s) (p ++ s ∷ []) ≡ Some (at + s)
+      pub settles_cell : cell_of (with_sign (search_start few n) t.families p s) (p ++ s ∷ []) ≡ Some (at + s)
       settles_cell =
           let least = base_is few n r new t grown p parent parent_is base at slots slot owned can moved in
-          let same : least_base few n (without_family t.families p) (with_one_sign s (signs_of slots)) ≡ at =
-          ap (λ x. least_base few n (without_family t.families p) (with_one_sign x (signs_of slots))) (sym is) ∙ sym least in
+          let same : least_base (search_start few n) (without_family t.families p) (with_one_sign s (signs_of slots)) ≡ at =
+          ap (λ x. least_base (search_start few n) (without_family t.families p) (with_one_sign x (signs_of slots))) (sym is) ∙ sym least in
           ap (λ fs. cell_of fs (p ++ s ∷ [])) (settles_step ∙ ap (λ b. put order p (record { base = b; signs = with_one_sign s (signs_of slots) }) (without_family t.families p)) same)
           ∙ parts_cell (put order p (record { base = at; signs = with_one_sign s (signs_of slots) }) (without_family t.families p)) p s (record { base = at; signs = with_one_sign s (signs_of slots) })
           (find_put_same p (record { base = at; signs = with_one_sign s (signs_of slots) }) (without_family t.families p))

@@ -2,6 +2,7 @@
 use Rattle.std.proofs.Common.{◌≡◌, ◌≢◌, ℕ, ◌+◌, ◌<◌, ◌≤◌, true, false, ◌&&◌, nat_eq, nat_lt, List, [], ◌∷◌, ◌++◌, length, Result, Ok, Err, OnOk, OnErr, Some, sym, ◌∙◌, subst}
 use Rattle.std.proofs.lemmas.Bool.{and_parts, and_from, ltb-true, lt-ltb, eqb-true, eq-eqb, both_ways}
 use Rattle.pg_types.specs.Placement.{cell_of, with_sign}
+use Rattle.pg_cells.specs.Inside.Searches.{search_start}
 use Rattle.pg_types.specs.Inside.Placing.{joins_at}
 use Rattle.pg_cells.specs.declared.store.fit.Slot.{Slot}
 use Rattle.pg_cells.specs.Inside.Lists.{Row, sign_at, child_at, IsFree}
@@ -32,7 +33,7 @@ module _ {V : Type 0} (few n : ℕ) (old r : Row V) (t : Trie V) (p : List ℕ) 
     joining_trie new v child none takes =
         joins_trie few n old r t can.trie more p parent can.at s low high can.lacks base base_is up free new v (subst (Takes r new (base + s) s v) none takes)
 
-    pub joining_cell : cell_of (with_sign few n t.families p s) (p ++ s ∷ []) ≡ Some (base + s)
+    pub joining_cell : cell_of (with_sign (search_start few n) t.families p s) (p ++ s ∷ []) ≡ Some (base + s)
     joining_cell = joins_cell few n old r t can.trie more p parent can.at s low high can.lacks base base_is up free
 
   -- it does not join, and the family is put at another base
@@ -62,7 +63,7 @@ module _ {V : Type 0} (few n : ℕ) (old r : Row V) (t : Trie V) (p : List ℕ) 
       pub moving_trie : IsTrie n new (added few n t p s slot.value)
       moving_trie = settles_trie few n old r t can.trie more p parent can.at s low high can.lacks base base_is slots empty full stays new at slot is place moved
 
-      pub moving_cell : cell_of (with_sign few n t.families p s) (p ++ s ∷ []) ≡ Some (at + s)
+      pub moving_cell : cell_of (with_sign (search_start few n) t.families p s) (p ++ s ∷ []) ≡ Some (at + s)
       moving_cell = settles_cell few n old r t can.trie more p parent can.at s low high can.lacks base base_is slots empty full stays new at slot is place moved
 
 -- the trie that is held after an answer

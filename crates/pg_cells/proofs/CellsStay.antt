@@ -9,6 +9,7 @@ use Rattle.pg_types.specs.Inside.Placing.{without_sign}
 use Rattle.pg_cells.specs.Inside.OneTrie.{last_of}
 use Rattle.pg_cells.proofs.StringMaps.{order, equal_or_not, find_put_same, find_put_other, find_without_same, find_without_other}
 use Rattle.pg_cells.proofs.StringCells.{cell_parts}
+use Rattle.pg_cells.specs.Inside.Searches.{search_start}
 use Rattle.pg_cells.proofs.PlacementLaws.{cell_of_last}
 use Rattle.pg_cells.proofs.Removing.{signs_left}
 use Rattle.pg_cells.proofs.RemovedValues.{cell_told}
@@ -72,35 +73,35 @@ cells_stay fs q s cell is p other =
     ]
 
 -- a sign that is added leaves the other families
-other_families : (few n : ℕ) (fs : Families) (q : List ℕ) (s : ℕ) (p : List ℕ) → p ≢ q → family_at (with_sign few n fs q s) p ≡ family_at fs p
+other_families : (few n : ℕ) (fs : Families) (q : List ℕ) (s : ℕ) (p : List ℕ) → p ≢ q → family_at (with_sign (search_start few n) fs q s) p ≡ family_at fs p
 unfolding with_sign
 other_families few n fs q s p other = by (family_at fs q)
   where
     used : (f : Family) (b : Bool) → family_at (elim b as (λ _. Families) [
       | false ↦ put order q (record { base = f.base; signs = with_one_sign s f.signs }) fs
-      | true ↦ with_placed_family few n (without_family fs q) q (with_one_sign s f.signs)
+      | true ↦ with_placed_family (search_start few n) (without_family fs q) q (with_one_sign s f.signs)
     ]) p ≡ family_at fs p
     used f false = find_put_other p q (record { base = f.base; signs = with_one_sign s f.signs }) fs other
     used f true =
-        find_put_other p q (record { base = least_base few n (without_family fs q) (with_one_sign s f.signs); signs = with_one_sign s f.signs }) (without_family fs q) other
+        find_put_other p q (record { base = least_base (search_start few n) (without_family fs q) (with_one_sign s f.signs); signs = with_one_sign s f.signs }) (without_family fs q) other
         ∙ find_without_other p q fs other
 
     by : (o : Option Family) → family_at (elim o as (λ _. Families) [
-      | None ↦ with_placed_family few n fs q (s ∷ [])
+      | None ↦ with_placed_family (search_start few n) fs q (s ∷ [])
       | Some f ↦ elim (is_used fs (f.base + s)) as (λ _. Families) [
         | false ↦ put order q (record { base = f.base; signs = with_one_sign s f.signs }) fs
-        | true ↦ with_placed_family few n (without_family fs q) q (with_one_sign s f.signs)
+        | true ↦ with_placed_family (search_start few n) (without_family fs q) q (with_one_sign s f.signs)
       ]
     ]) p ≡ family_at fs p
-    by None = find_put_other p q (record { base = least_base few n fs (s ∷ []); signs = s ∷ [] }) fs other
+    by None = find_put_other p q (record { base = least_base (search_start few n) fs (s ∷ []); signs = s ∷ [] }) fs other
     by (Some f) = used f (is_used fs (f.base + s))
 
 -- and each string outside of its family its cell
-pub cells_outside : (few n : ℕ) (fs : Families) (q : List ℕ) (s : ℕ) (p : List ℕ) → ((x : ℕ) → p ≢ q ++ x ∷ []) → cell_of (with_sign few n fs q s) p ≡ cell_of fs p
+pub cells_outside : (few n : ℕ) (fs : Families) (q : List ℕ) (s : ℕ) (p : List ℕ) → ((x : ℕ) → p ≢ q ++ x ∷ []) → cell_of (with_sign (search_start few n) fs q s) p ≡ cell_of fs p
 cells_outside few n fs q s p other = elim (last_of p) [
-  | inl e ↦ ap (cell_of (with_sign few n fs q s)) e ∙ sym (ap (cell_of fs) e)
+  | inl e ↦ ap (cell_of (with_sign (search_start few n) fs q s)) e ∙ sym (ap (cell_of fs) e)
   | inr h ↦
-      ap (cell_of (with_sign few n fs q s)) h.whole ∙ cell_of_last (with_sign few n fs q s) h.front h.last
+      ap (cell_of (with_sign (search_start few n) fs q s)) h.whole ∙ cell_of_last (with_sign (search_start few n) fs q s) h.front h.last
       ∙ ap (λ o. cell_told o h.last) (other_families few n fs q s h.front (λ z. other h.last (h.whole ∙ ap (λ l. l ++ h.last ∷ []) z)))
       ∙ sym (ap (cell_of fs) h.whole ∙ cell_of_last fs h.front h.last)
 ]

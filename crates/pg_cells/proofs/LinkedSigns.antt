@@ -2,6 +2,7 @@
 use Rattle.std.proofs.Common.{◌≡◌, ℕ, ◌≤◌, ◌⊎◌, true, List, [], ◌∷◌, ◌++◌, Ok, Some, sym, ◌∙◌, ap}
 use Rattle.std.specs.FinMap.{put}
 use Rattle.pg_types.specs.Placement.{cell_of, with_sign}
+use Rattle.pg_cells.specs.Inside.Searches.{search_start}
 use Rattle.pg_types.specs.Inside.Placing.{without_sign}
 use Rattle.pg_cells.specs.declared.store.member.Member.{Member}
 use Rattle.pg_cells.specs.Inside.Adding.{CanTakeSign, AddsSign}
@@ -35,11 +36,11 @@ module _ {V E : Type 0} (few : ℕ) (h mid new : ValuedFamilies (Member V)) (lin
     pub links_of_added : AreLinks new
     links_of_added = links_added h mid new links can.prefix parent can.at s can.low b before can.lacks after next v values_by_add kept is_linked
 
-    seen_added : unlinked new ≡ record (unlinked h) { families = with_sign few h.signs h.families can.prefix s; values = put order (can.prefix ++ s ∷ []) v (plain h.values) }
+    seen_added : unlinked new ≡ record (unlinked h) { families = with_sign (search_start few h.signs) h.families can.prefix s; values = put order (can.prefix ++ s ∷ []) v (plain h.values) }
     seen_added =
         let held = adds.held can.prefix can.at in
         let signs : new.signs ≡ h.signs = ap (λ (k : ValuedFamilies (Member V)). k.signs) is_linked ∙ ap (λ (k : ValuedFamilies (Member V)). k.signs) held in
-        let families : new.families ≡ with_sign few h.signs h.families can.prefix s =
+        let families : new.families ≡ with_sign (search_start few h.signs) h.families can.prefix s =
         ap (λ (k : ValuedFamilies (Member V)). k.families) is_linked ∙ ap (λ (k : ValuedFamilies (Member V)). k.families) held in
         let values = values_added h mid new links can.prefix parent can.at s can.low b before can.lacks after next v values_by_add adds.kept.ordered is_linked in
         λ i. record { signs = signs i; families = families i; values = values i }
@@ -47,7 +48,8 @@ module _ {V E : Type 0} (few : ℕ) (h mid new : ValuedFamilies (Member V)) (lin
     pub linked_added : AddsSign {E = E} few (unlinked h) (unlinked new) parent s v (Ok cell)
     linked_added = record {
       held = λ q e. seen_added
-          ∙ ap (λ z. record (unlinked h) { families = with_sign few h.signs h.families z s; values = put order (z ++ s ∷ []) v (plain h.values) }) (links.held.apart can.prefix q parent can.at e);
+          ∙ ap (λ z. record (unlinked h) { families = with_sign (search_start few h.signs) h.families z s; values = put order (z ++ s ∷ []) v (plain h.values) })
+          (links.held.apart can.prefix q parent can.at e);
       cell = λ q e. ap (λ (k : ValuedFamilies (Member V)). cell_of k.families (q ++ s ∷ [])) is_linked ∙ adds.cell q e;
       cells = λ q e r off. ap (λ (k : ValuedFamilies (Member V)). cell_of k.families r) is_linked ∙ adds.cells q e r off;
       kept = held_unlinked new kept;

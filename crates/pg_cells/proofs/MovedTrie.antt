@@ -5,7 +5,6 @@ use Rattle.std.proofs.lemmas.List.{length-map}
 use Rattle.std.specs.List.{list_any, list_all}
 use Rattle.std.specs.FinMap.{put}
 use Rattle.pg_types.specs.Placement.{Family, Families, family_at, without_family, least_base, with_one_sign, cell_of}
-use Rattle.pg_types.proofs.LeastBase.{lowest_positive}
 use Rattle.pg_cells.specs.declared.store.fit.Slot.{Slot}
 use Rattle.pg_cells.specs.Inside.Lists.{Row, sign_at, child_at, base_at}
 use Rattle.pg_cells.specs.Inside.Fit.{signs_of, slot_of}
@@ -14,7 +13,8 @@ use Rattle.pg_cells.specs.Inside.Store.{taken_in}
 use Rattle.pg_cells.specs.Inside.ValuedFamilies.{Trie}
 use Rattle.pg_cells.specs.Inside.Layouts.{IsTrie, standing}
 use Rattle.pg_cells.proofs.StringMaps.{order, find_put_same, find_put_other, find_without_same, find_without_other, sorted_put, sorted_without, equal_or_not}
-use Rattle.pg_cells.proofs.PlacementLaws.{size_of, taken_put, taken_without}
+use Rattle.pg_cells.specs.Inside.Searches.{search_start}
+use Rattle.pg_cells.proofs.PlacementLaws.{start_positive, size_of, taken_put, taken_without}
 use Rattle.pg_cells.proofs.LayoutLaws.{sign_stands}
 use Rattle.pg_cells.proofs.OneSign.{filter_more, length_one_more, any_one_more}
 use Rattle.pg_cells.proofs.Slots.{slot_or_none, slot_has, has_slot, outside_or, outside_here}
@@ -158,7 +158,7 @@ module _ {V : Type 0} (few n : ℕ) (r new : Row V) (t : Trie V) (trie : IsTrie 
       ]
 
   positive_base : 0 < base
-  positive_base = let from = moved.least.from in let low = lowest_positive few n (length slots + 1) moved.top in omega arith
+  positive_base = let from = moved.least.from in let low = start_positive few n (length slots + 1) moved.top in omega arith
 
   here : family_at families p ≡ Some family
   here = find_put_same p family (without_family t.families p)
@@ -344,5 +344,5 @@ module _ {V : Type 0} (few n : ℕ) (r new : Row V) (t : Trie V) (trie : IsTrie 
   }
 
   -- the base is the least one of the placement
-  pub base_is : base ≡ least_base few n (without_family t.families p) (with_one_sign slot.sign (signs_of slots))
+  pub base_is : base ≡ least_base (search_start few n) (without_family t.families p) (with_one_sign slot.sign (signs_of slots))
   base_is = least_same n r moved.gave moved.dropped t trie p was slots own moved.gives moved.drops few slot.sign base moved.top can.new moved.is_top moved.least moved.near

@@ -3,6 +3,7 @@
 use Rattle.std.proofs.Common.{◌≡◌, ℕ, List, [], ◌∷◌, ◌++◌, length, Result, Ok, Err, IfOk, OnOk, Some, refl, sym, ◌∙◌, ap, subst}
 use Rattle.std.specs.FinMap.{put}
 use Rattle.pg_types.specs.Placement.{cell_of, with_sign}
+use Rattle.pg_cells.specs.Inside.Searches.{search_start}
 use Rattle.pg_types.specs.Inside.Placing.{without_sign}
 use Rattle.pg_cells.specs.Inside.Adding.{CanTakeSign, AddsSign, added}
 use Rattle.pg_cells.specs.Inside.CellValues.{SetsValue}
@@ -27,11 +28,11 @@ module _ {V : Type 0} (n : ℕ) (old new : Row V) (t : Trie V) (trie : IsTrie n 
     same_add q e = cells_apart n old t trie can.prefix q parent can.at e
 
     add_by : {E : Type 0} (answer : Result ℕ E) → OnOk answer (IsTrie n new (added few n t can.prefix s v))
-        → IfOk answer (λ cell. cell_of (with_sign few n t.families can.prefix s) (can.prefix ++ s ∷ []) ≡ Some cell)
+        → IfOk answer (λ cell. cell_of (with_sign (search_start few n) t.families can.prefix s) (can.prefix ++ s ∷ []) ≡ Some cell)
         → AddsSign few (seen n t) (seen n (after few n t can.prefix s v answer)) parent s v answer
     add_by (Ok cell) is at = record {
-      held = λ q e. ap (λ z. record (seen n t) { families = with_sign few n t.families z s; values = put order (z ++ s ∷ []) v t.values }) (same_add q e);
-      cell = λ q e. subst (λ z. cell_of (with_sign few n t.families can.prefix s) (z ++ s ∷ []) ≡ Some cell) (same_add q e) at;
+      held = λ q e. ap (λ z. record (seen n t) { families = with_sign (search_start few n) t.families z s; values = put order (z ++ s ∷ []) v t.values }) (same_add q e);
+      cell = λ q e. subst (λ z. cell_of (with_sign (search_start few n) t.families can.prefix s) (z ++ s ∷ []) ≡ Some cell) (same_add q e) at;
       cells = λ q e r off. cells_outside few n t.families can.prefix s r (λ x z. off x (z ∙ ap (λ p. p ++ x ∷ []) (same_add q e)));
       kept = is_held n new (added few n t can.prefix s v) is even;
       err = tt;
@@ -40,7 +41,7 @@ module _ {V : Type 0} (n : ℕ) (old new : Row V) (t : Trie V) (trie : IsTrie n 
 
     -- the sign is added, or memory is short
     pub placed_added : {E : Type 0} (answer : Result ℕ E) → OnOk answer (IsTrie n new (added few n t can.prefix s v))
-        → IfOk answer (λ cell. cell_of (with_sign few n t.families can.prefix s) (can.prefix ++ s ∷ []) ≡ Some cell)
+        → IfOk answer (λ cell. cell_of (with_sign (search_start few n) t.families can.prefix s) (can.prefix ++ s ∷ []) ≡ Some cell)
         → (u : Trie V) → u ≡ after few n t can.prefix s v answer → AddsSign few h (seen n u) parent s v answer
     placed_added answer is at u same =
         subst (λ (k : ValuedFamilies V). AddsSign few k (seen n u) parent s v answer) view

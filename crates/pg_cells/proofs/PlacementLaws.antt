@@ -1,6 +1,6 @@
 -- Laws of placements: which cells are used and which bases are had, how many cells there are and which is the greatest, and
 -- the least base.
-use Rattle.std.proofs.Common.{◌≡◌, ℕ, ◌+◌, ◌<◌, ◌≤◌, max, inl, inr, Bool, true, false, not, cond, ◌||◌, T, nat_eq, List, [], ◌∷◌, ◌++◌, length, map, fold, Option, None, Some, suc, zero, refl, sym, ◌∙◌, ap, subst, arith}
+use Rattle.std.proofs.Common.{◌≡◌, ℕ, ◌+◌, ◌-◌, ◌<◌, ◌≤◌, max, inl, inr, Bool, true, false, not, cond, ◌||◌, T, nat_eq, nat_le, List, [], ◌∷◌, ◌++◌, length, map, fold, Option, None, Some, suc, zero, refl, sym, ◌∙◌, ap, subst, arith}
 use Rattle.std.proofs.lemmas.Bool.{cases_Bool, cases_eq, false≢true, or_cases, or_left, or_right, eqb-true, eq-eqb, both_ways}
 use Rattle.std.proofs.lemmas.List.{length-append, length-map, append-nil, append_assoc}
 use Rattle.std.proofs.lemmas.List.Folds.{list_any-append}
@@ -11,7 +11,8 @@ use Rattle.std.specs.FinMap.{find, put, is_sorted}
 use Rattle.std.specs.FinMap.Entries.{by_order}
 use Rattle.pg_types.specs.Placement.{Family, Families, family_at, without_family, used_cells, taken_count, top, is_used, is_base, first_from, cell_in, cell_after, cell_of}
 use Rattle.pg_types.specs.Inside.Placing.{cells_of}
-use Rattle.pg_types.proofs.LeastBase.{used_le_top}
+use Rattle.pg_types.proofs.LeastBase.{used_le_top, lowest_up}
+use Rattle.pg_cells.specs.Inside.Searches.{far_from_top, search_start}
 use Rattle.pg_cells.proofs.StringMaps.{order, equal_or_not, any_found, found_any, find_below, below_less, head_below, tail_sorted}
 
 -- a test of some element of lists joined end to end
@@ -131,6 +132,10 @@ first_is test (suc more) from b le within passes before =
           subst (λ t. (elim t as (λ _. ℕ) [ true ↦ from | false ↦ first_from test more (from + 1) ]) ≡ b) (sym failed)
           (first_is test more (from + 1) b later (omega arith) passes (λ k l lt. before k (omega arith) lt))
     ]
+
+-- no base below 1 is tried
+pub start_positive : (few n count t : ℕ) → 1 ≤ search_start few n count t
+start_positive few n count t = lowest_up (nat_le count few) (t - far_from_top few n)
 
 -- the cell of a string that has a last sign
 pub cell_after_last : (fs : Families) (a p : List ℕ) (x : ℕ) → cell_after fs a (p ++ x ∷ []) ≡ cell_in fs (a ++ p) x

@@ -10,6 +10,7 @@ use Rattle.pg_cells.specs.Inside.ValuedFamilies.{ValuedFamilies}
 use Rattle.pg_cells.specs.Inside.AreValuedFamilies.{AreValuedFamilies}
 use Rattle.pg_cells.specs.Inside.Walks.{EndsBefore, IsKnown, StepsBy, Steps, AddsBlanks}
 use Rattle.pg_cells.proofs.StringMaps.{order, equal_or_not, find_put_same, find_put_other}
+use Rattle.pg_cells.specs.Inside.Searches.{search_start}
 use Rattle.pg_cells.proofs.PlacementLaws.{cell_of_last}
 
 -- where there is no family, it has no sign
@@ -27,22 +28,22 @@ way_more w k lt = take_more w k 0 lt
 
 -- a sign in the family of a string, which is new where no string has its cell
 abbrev pub entered : ℕ → ℕ → Families → List ℕ → ℕ → Families
-entered few n fs p s = elim (cell_in fs p s) [ Some cell ↦ fs | None ↦ with_sign few n fs p s ]
+entered few n fs p s = elim (cell_in fs p s) [ Some cell ↦ fs | None ↦ with_sign (search_start few n) fs p s ]
 
 -- the last sign of a string is entered last
-enter_after_last : (few n : ℕ) (fs : Families) (a q : List ℕ) (s : ℕ) → enter_after few n fs a (q ++ s ∷ []) ≡ entered few n (enter_after few n fs a q) (a ++ q) s
+enter_after_last : (few n : ℕ) (fs : Families) (a q : List ℕ) (s : ℕ) → enter_after (search_start few n) fs a (q ++ s ∷ []) ≡ entered few n (enter_after (search_start few n) fs a q) (a ++ q) s
 enter_after_last few n fs a [] s = ap (λ p. entered few n fs p s) (sym (append-nil a))
 enter_after_last few n fs a (t ∷ q) s =
     enter_after_last few n (entered few n fs a t) (a ++ t ∷ []) q s
-    ∙ ap (λ p. entered few n (enter_after few n (entered few n fs a t) (a ++ t ∷ []) q) p s) (append_assoc a (t ∷ []) q)
+    ∙ ap (λ p. entered few n (enter_after (search_start few n) (entered few n fs a t) (a ++ t ∷ []) q) p s) (append_assoc a (t ∷ []) q)
 
-enter_last : (few n : ℕ) (fs : Families) (w : List ℕ) (s : ℕ) → 0 < length w → enter_by few n fs (w ++ s ∷ []) ≡ entered few n (enter_by few n fs w) w s
+enter_last : (few n : ℕ) (fs : Families) (w : List ℕ) (s : ℕ) → 0 < length w → enter_by (search_start few n) fs (w ++ s ∷ []) ≡ entered few n (enter_by (search_start few n) fs w) w s
 enter_last few n fs [] s some = absurd (omega arith)
 enter_last few n fs (t ∷ q) s some = enter_after_last few n fs (t ∷ []) q s
 
 -- where the string has its cell, to enter its last sign changes nothing
 stays : (few n : ℕ) (fs : Families) (p : List ℕ) (s cell : ℕ) → cell_of fs (p ++ s ∷ []) ≡ Some cell → entered few n fs p s ≡ fs
-stays few n fs p s cell there = ap (λ o. elim o as (λ _. Families) [ Some c ↦ fs | None ↦ with_sign few n fs p s ]) (sym (cell_of_last fs p s) ∙ there)
+stays few n fs p s cell there = ap (λ o. elim o as (λ _. Families) [ Some c ↦ fs | None ↦ with_sign (search_start few n) fs p s ]) (sym (cell_of_last fs p s) ∙ there)
 
 -- the first sign of a string is known
 pub first_known : (few n : ℕ) (fs : Families) (w : List ℕ) → 0 < length w → IsKnown few n fs w 1
@@ -61,11 +62,11 @@ more_known few n fs w k cell up lt there known =
           sym same
           ∙ ap (λ g. entered few n g p s) known.front
           ∙ sym (enter_last few n fs p s (omega (arith, length-take k w)))
-          ∙ sym (ap (enter_by few n fs) (way_more w k lt));
+          ∙ sym (ap (enter_by (search_start few n) fs) (way_more w k lt));
       rest =
-          ap (λ l. enter_after few n fs l (drop (k + 1) w)) (way_more w k lt)
-          ∙ sym (ap (λ g. enter_after few n g (p ++ s ∷ []) (drop (k + 1) w)) same)
-          ∙ sym (ap (enter_after few n fs p) (drop_more w k 0 lt))
+          ap (λ l. enter_after (search_start few n) fs l (drop (k + 1) w)) (way_more w k lt)
+          ∙ sym (ap (λ g. enter_after (search_start few n) g (p ++ s ∷ []) (drop (k + 1) w)) same)
+          ∙ sym (ap (enter_after (search_start few n) fs p) (drop_more w k 0 lt))
           ∙ known.rest;
     }
 
@@ -141,17 +142,18 @@ module _ {V : Type 0} where
 
   -- the families after a step
   pub step_families : (few : ℕ) (old new : ValuedFamilies V) (q : List ℕ) (s : ℕ) (blank : V) → Steps few old new q s blank
-      → new.families ≡ (elim (cell_in old.families q s) as (λ _. Families) [ Some cell ↦ old.families | None ↦ with_sign few old.signs old.families q s ])
+      → new.families ≡ (elim (cell_in old.families q s) as (λ _. Families) [ Some cell ↦ old.families | None ↦ with_sign (search_start few old.signs) old.families q s ])
   step_families few old new q s blank steps = by (cell_of old.families (q ++ s ∷ [])) refl
     where
       by : (o : Option ℕ) → cell_of old.families (q ++ s ∷ []) ≡ o
-          → new.families ≡ (elim (cell_in old.families q s) as (λ _. Families) [ Some cell ↦ old.families | None ↦ with_sign few old.signs old.families q s ])
+          → new.families ≡ (elim (cell_in old.families q s) as (λ _. Families) [ Some cell ↦ old.families | None ↦ with_sign (search_start few old.signs) old.families q s ])
       by o is =
           let there : cell_in old.families q s ≡ o = sym (cell_of_last old.families q s) ∙ is in
           at o (subst (λ x. StepsBy few x old new q s blank) is steps)
-          ∙ sym (ap (λ x. elim x as (λ _. Families) [ Some cell ↦ old.families | None ↦ with_sign few old.signs old.families q s ]) there)
+          ∙ sym (ap (λ x. elim x as (λ _. Families) [ Some cell ↦ old.families | None ↦ with_sign (search_start few old.signs) old.families q s ]) there)
         where
-          at : (x : Option ℕ) → StepsBy few x old new q s blank → new.families ≡ (elim x as (λ _. Families) [ Some cell ↦ old.families | None ↦ with_sign few old.signs old.families q s ])
+          at : (x : Option ℕ) → StepsBy few x old new q s blank
+              → new.families ≡ (elim x as (λ _. Families) [ Some cell ↦ old.families | None ↦ with_sign (search_start few old.signs) old.families q s ])
           at None e = ap (λ (h : ValuedFamilies V). h.families) e
           at (Some cell) e = ap (λ (h : ValuedFamilies V). h.families) e
 
@@ -175,19 +177,19 @@ module _ {V : Type 0} where
       by (Some cell) is e = none_added w blank old.values new.values (ap (λ (h : ValuedFamilies V). h.values) e)
 
   pub enter_more : (few n : ℕ) (old new : ValuedFamilies V) (w : List ℕ) (k : ℕ) (blank : V) → old.signs ≡ n → k < length w → Steps few old new (take k w) (get_or w k 0) blank
-      → enter_after few n new.families (take (k + 1) w) (drop (k + 1) w) ≡ enter_after few n old.families (take k w) (drop k w)
+      → enter_after (search_start few n) new.families (take (k + 1) w) (drop (k + 1) w) ≡ enter_after (search_start few n) old.families (take k w) (drop k w)
   enter_more few n old new w k blank signs lt steps =
       let p = take k w in
       let s = get_or w k 0 in
       let families = step_families few old new p s blank steps in
-      ap (λ l. enter_after few n new.families l (drop (k + 1) w)) (way_more w k lt)
-      ∙ ap (λ l. enter_after few n l (p ++ s ∷ []) (drop (k + 1) w)) (families
-      ∙ ap (λ m. elim (cell_in old.families p s) as (λ _. Families) [ Some cell ↦ old.families | None ↦ with_sign few m old.families p s ]) signs)
-      ∙ sym (ap (enter_after few n old.families p) (drop_more w k 0 lt))
+      ap (λ l. enter_after (search_start few n) new.families l (drop (k + 1) w)) (way_more w k lt)
+      ∙ ap (λ l. enter_after (search_start few n) l (p ++ s ∷ []) (drop (k + 1) w)) (families
+      ∙ ap (λ m. elim (cell_in old.families p s) as (λ _. Families) [ Some cell ↦ old.families | None ↦ with_sign (search_start few m) old.families p s ]) signs)
+      ∙ sym (ap (enter_after (search_start few n) old.families p) (drop_more w k 0 lt))
 
   -- so much of w is entered
   pub front_more : (few n : ℕ) (fs : Families) (old new : ValuedFamilies V) (w : List ℕ) (k : ℕ) (blank : V) → old.signs ≡ n → 0 < k → k < length w → Steps few old new (take k w) (get_or w k 0) blank
-      → old.families ≡ enter_by few n fs (take k w) → new.families ≡ enter_by few n fs (take (k + 1) w)
+      → old.families ≡ enter_by (search_start few n) fs (take k w) → new.families ≡ enter_by (search_start few n) fs (take (k + 1) w)
   front_more few n fs old new w k blank signs up lt steps front =
       let p = take k w in
       let s = get_or w k 0 in
@@ -195,7 +197,7 @@ module _ {V : Type 0} where
       ∙ ap (λ m. entered few m old.families p s) signs
       ∙ ap (λ g. entered few n g p s) front
       ∙ sym (enter_last few n fs p s (omega (arith, length-take k w)))
-      ∙ sym (ap (enter_by few n fs) (way_more w k lt))
+      ∙ sym (ap (enter_by (search_start few n) fs) (way_more w k lt))
 
   -- the string that a refused step does not reach has no value
   pub not_reached : (values : List (List ℕ × V)) (w : List ℕ) (k : ℕ) → k < length w → EndsBefore values (take k w ++ get_or w k 0 ∷ []) → find order w values ≡ None

@@ -14,6 +14,7 @@ pub mod Moves
 pub mod OneTrie
 pub mod Removing
 pub mod Root
+pub mod Searches
 pub mod Store
 pub mod Walks
 pub mod Writes

@@ -6,6 +6,7 @@ ghost use Rattle.std.specs.Ordering.{nat_cmp};
 ghost use Rattle.pg_types.specs.Placement.{cell_of, enter_by};
 ghost use Rattle.pg_cells.specs.Inside.AreValuedFamilies.{AreValuedFamilies};
 ghost use Rattle.pg_cells.specs.Inside.CellValues.{IsTaken};
+ghost use Rattle.pg_cells.specs.Inside.Searches.{search_start};
 ghost use Rattle.pg_cells.specs.Inside.Walks.{IsAt, EndsBefore, IsKnown, Steps, AddsBlanks};
 
 use crate::LinkedCells;
@@ -98,10 +99,11 @@ pub fn enter<V: Copy, const FEW: usize>(
     requires signs { All (λ s. (1 ≤ s) × (s ≤ cells.old.signs)) signs.now }
     ensures cell { IfOk result (λ cell. cell_of cells.new.families signs.now ≡ Some cell) }
     ensures families { OnOk result
-        (cells.new.families ≡ enter_by FEW cells.old.signs cells.old.families signs.now) }
+        (cells.new.families
+        ≡ enter_by (search_start FEW cells.old.signs) cells.old.families signs.now) }
     ensures part { OnErr result ((k : ℕ) × (k < length signs.now)
         × (cells.new.families
-        ≡ enter_by FEW cells.old.signs cells.old.families (take k signs.now))) }
+        ≡ enter_by (search_start FEW cells.old.signs) cells.old.families (take k signs.now))) }
     ensures blanks { AddsBlanks signs.now blank cells.old.values cells.new.values }
     ensures held { AreValuedFamilies cells.new }
     ensures signs { cells.new.signs ≡ cells.old.signs }

@@ -8,8 +8,7 @@ use Rattle.std.specs.Cmp.Lexicographic.{slice_cmp}
 use Rattle.std.specs.FinMap.{nat_cmp-IsAntisymmetric, slice_cmp-IsAntisymmetric}
 use Rattle.std.specs.FinMap.Entries.{put, find, by_order}
 use Rattle.std.specs.List.{filter, list_all, list_any, range_with_len, starts_with}
-use Rattle.pg_types.specs.declared.limits.TheConstants.{FEW_SIGNS}
-use Rattle.pg_types.specs.Placement.{Family, Families, keeps_cell, kept_families, least_base, with_placed_family, with_one_sign, with_sign, family_at, without_family, is_used, cell_in, enter_after, enter, root}
+use Rattle.pg_types.specs.Placement.{Family, Families, keeps_cell, kept_families, lowest_base, least_base, with_placed_family, with_one_sign, with_sign, family_at, without_family, is_used, cell_in, enter_after, enter, root}
 use Rattle.pg_packed.specs.Inside.Starts.{pattern_families}
 use Rattle.pg_types.proofs.EntryLists.{find_good, all_put}
 use Rattle.pg_types.proofs.BoolFacts.{and_first, and_second, all_weaker, some_is}
@@ -98,56 +97,56 @@ module _ (strings : List (List ℕ)) where
       by_tests false true = omega arith
       by_tests false false = omega arith
 
-  placed_stays : (few n : ℕ) (fs : Families) (p signs : List ℕ) → 1 ≤ length signs → list_all (λ s. keeps_cell strings (p ++ s ∷ [])) signs ≡ true
-      → list_all stays fs ≡ true → list_all stays (with_placed_family few n fs p signs) ≡ true
-  placed_stays few n fs p signs some keeps all =
-      let base : ℕ = least_base few n fs signs in
+  placed_stays : (lowest : ℕ → ℕ → ℕ) (fs : Families) (p signs : List ℕ) → 1 ≤ length signs → list_all (λ s. keeps_cell strings (p ++ s ∷ [])) signs ≡ true
+      → list_all stays fs ≡ true → list_all stays (with_placed_family lowest fs p signs) ≡ true
+  placed_stays lowest fs p signs some keeps all =
+      let base : ℕ = least_base lowest fs signs in
       all_put (slice_cmp nat_cmp) stays same_string p (record { base = base; signs = signs }) fs (family_stays p base signs some keeps) all
 
   without_stays : (fs : Families) (p : List ℕ) → list_all stays fs ≡ true → list_all stays (without_family fs p) ≡ true
   without_stays fs p all = all_filter stays (λ e. not (eq_by_cmp (slice_cmp nat_cmp) p e.0)) fs all
 
-  sign_stays : (few n : ℕ) (fs : Families) (p : List ℕ) (s : ℕ) → keeps_cell strings (p ++ s ∷ []) ≡ true → list_all stays fs ≡ true → list_all stays (with_sign few n fs p s) ≡ true
+  sign_stays : (lowest : ℕ → ℕ → ℕ) (fs : Families) (p : List ℕ) (s : ℕ) → keeps_cell strings (p ++ s ∷ []) ≡ true → list_all stays fs ≡ true → list_all stays (with_sign lowest fs p s) ≡ true
   unfolding with_sign
-  sign_stays few n fs p s new all = by_family (family_at fs p) refl
+  sign_stays lowest fs p s new all = by_family (family_at fs p) refl
     where
       by_use : (f : Family) → stays (p, f) ≡ true → (b : Bool)
           → list_all stays (elim b [
             | false ↦ put (slice_cmp nat_cmp) p (record { base = f.base; signs = with_one_sign s f.signs }) fs
-            | true ↦ with_placed_family few n
+            | true ↦ with_placed_family lowest
                 (without_family fs p) p (with_one_sign s f.signs)
           ]) ≡ true
       by_use f here false = all_put (slice_cmp nat_cmp) stays same_string p (record { base = f.base; signs = with_one_sign s f.signs }) fs
           (family_stays p f.base (with_one_sign s f.signs) (one_more s f.signs) (one_sign (λ x. keeps_cell strings (p ++ x ∷ [])) s f.signs new (and_second _ _ here))) all
-      by_use f here true = placed_stays few n (without_family fs p) p (with_one_sign s f.signs) (one_more s f.signs)
+      by_use f here true = placed_stays lowest (without_family fs p) p (with_one_sign s f.signs) (one_more s f.signs)
           (one_sign (λ x. keeps_cell strings (p ++ x ∷ [])) s f.signs new (and_second _ _ here)) (without_stays fs p all)
 
       by_family : (o : Option Family) → family_at fs p ≡ o
           → list_all stays (elim o [
-            | None ↦ with_placed_family few n fs p (s ∷ [])
+            | None ↦ with_placed_family lowest fs p (s ∷ [])
             | Some f ↦ elim (is_used fs (f.base + s)) [
               | false ↦ put (slice_cmp nat_cmp) p (record { base = f.base; signs = with_one_sign s f.signs }) fs
-              | true ↦ with_placed_family few n (without_family fs p) p (with_one_sign s f.signs)
+              | true ↦ with_placed_family lowest (without_family fs p) p (with_one_sign s f.signs)
             ]
           ]) ≡ true
-      by_family None is = placed_stays few n fs p (s ∷ []) (omega arith) (and_from _ _ new refl) all
+      by_family None is = placed_stays lowest fs p (s ∷ []) (omega arith) (and_from _ _ new refl) all
       by_family (Some f) is = by_use f (find_good (slice_cmp nat_cmp) stays same_string p f fs is all) (is_used fs (f.base + s))
 
-  after_stays : (few n : ℕ) (fs : Families) (p q : List ℕ) → begins_one (p ++ q) ≡ true → list_all stays fs ≡ true → list_all stays (enter_after few n fs p q) ≡ true
-  after_stays few n fs p [] begun all = all
-  after_stays few n fs p (s ∷ q) begun all =
+  after_stays : (lowest : ℕ → ℕ → ℕ) (fs : Families) (p q : List ℕ) → begins_one (p ++ q) ≡ true → list_all stays fs ≡ true → list_all stays (enter_after lowest fs p q) ≡ true
+  after_stays lowest fs p [] begun all = all
+  after_stays lowest fs p (s ∷ q) begun all =
       let more : begins_one ((p ++ s ∷ []) ++ q) ≡ true = subst (λ x. begins_one x ≡ true) (sym (append_assoc p (s ∷ []) q)) begun in
       let new : keeps_cell strings (p ++ s ∷ []) ≡ true = keeps_begun (p ++ s ∷ [])
       (any_weaker (λ t. starts_with nat_eq t ((p ++ s ∷ []) ++ q)) (λ t. starts_with nat_eq t (p ++ s ∷ [])) strings (λ t. starts_front t (p ++ s ∷ []) q) more) in
-      after_stays few n (elim (cell_in fs p s) as (λ _. Families) [ Some cell ↦ fs | None ↦ with_sign few n fs p s ]) (p ++ s ∷ []) q more (by_cell new (cell_in fs p s))
+      after_stays lowest (elim (cell_in fs p s) as (λ _. Families) [ Some cell ↦ fs | None ↦ with_sign lowest fs p s ]) (p ++ s ∷ []) q more (by_cell new (cell_in fs p s))
     where
-      by_cell : keeps_cell strings (p ++ s ∷ []) ≡ true → (o : Option ℕ) → list_all stays (elim o [ Some cell ↦ fs | None ↦ with_sign few n fs p s ]) ≡ true
+      by_cell : keeps_cell strings (p ++ s ∷ []) ≡ true → (o : Option ℕ) → list_all stays (elim o [ Some cell ↦ fs | None ↦ with_sign lowest fs p s ]) ≡ true
       by_cell new (Some cell) = all
-      by_cell new None = sign_stays few n fs p s new all
+      by_cell new None = sign_stays lowest fs p s new all
 
   enter_stays : (n : ℕ) (fs : Families) (q : List ℕ) → begins_one q ≡ true → list_all stays fs ≡ true → list_all stays (enter n fs q) ≡ true
   enter_stays n fs [] begun all = all
-  enter_stays n fs (s ∷ q) begun all = after_stays FEW_SIGNS n fs (s ∷ []) q begun all
+  enter_stays n fs (s ∷ q) begun all = after_stays (lowest_base n) fs (s ∷ []) q begun all
 
   all_enter : (n : ℕ) (fs : Families) (es : List ((List ℕ × ℕ) × ℕ)) → list_all (λ e. begins_one e.0.0) es ≡ true → list_all stays fs ≡ true
       → list_all stays (fold (enter n) fs (map (λ (e : (List ℕ × ℕ) × ℕ). e.0.0) es)) ≡ true

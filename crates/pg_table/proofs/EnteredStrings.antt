@@ -6,8 +6,7 @@ use Rattle.std.proofs.lemmas.Bool.{cases_Bool}
 use Rattle.std.proofs.lemmas.List.{map-append, take_all, drop_all, length-drop, length-take-le}
 use Rattle.std.proofs.lemmas.List.Sums.{fold-append}
 use Rattle.std.proofs.lemmas.Option.{slice_get_within, slice_get-get_or, get_or_from_slice_get}
-use Rattle.pg_types.specs.declared.limits.TheConstants.{FEW_SIGNS}
-use Rattle.pg_types.specs.Placement.{Families, root, enter, enter_after, cell_in, cell_of, with_sign}
+use Rattle.pg_types.specs.Placement.{Families, lowest_base, root, enter, enter_after, cell_in, cell_of, with_sign}
 use Rattle.pg_types.specs.Tails.{outputs_of}
 use Rattle.pg_patterns.specs.Inside.PatternMaps.{IsPatternMap, SignsUpTo}
 use Rattle.pg_patterns.proofs.Sound.{each_sign}
@@ -37,15 +36,15 @@ pub enter_there : (n : ℕ) (h : ValuedFamilies ℕ) → AreValuedFamilies h →
 enter_there n h held [] c is = refl
 enter_there n h held (s ∷ q) c is = after (s ∷ []) q is
   where
-    after : (p q : List ℕ) → cell_of h.families (p ++ q) ≡ Some c → enter_after FEW_SIGNS n h.families p q ≡ h.families
+    after : (p q : List ℕ) → cell_of h.families (p ++ q) ≡ Some c → enter_after (lowest_base n) h.families p q ≡ h.families
     after p [] is = refl
     after p (t ∷ q) is = by (cell_in h.families p t) refl (after (p ++ t ∷ []) q (ap (cell_of h.families) (append_assoc p (t ∷ []) q) ∙ is))
       where
-        by : (o : Option ℕ) → cell_in h.families p t ≡ o → enter_after FEW_SIGNS n h.families (p ++ t ∷ []) q ≡ h.families → enter_after FEW_SIGNS n h.families p (t ∷ q) ≡ h.families
+        by : (o : Option ℕ) → cell_in h.families p t ≡ o → enter_after (lowest_base n) h.families (p ++ t ∷ []) q ≡ h.families → enter_after (lowest_base n) h.families p (t ∷ q) ≡ h.families
         by None e rest =
             absurd (let z : None ≡ Some c = sym (held.closed p t q (cell_of_last h.families p t ∙ e)) ∙ ap (cell_of h.families) (append_assoc p (t ∷ []) q) ∙ is in cc)
         by (Some d) e rest =
-            ap (λ o. enter_after FEW_SIGNS n (elim o as (λ _. Families) [ Some cell ↦ h.families | None ↦ with_sign FEW_SIGNS n h.families p t ]) (p ++ t ∷ []) q) e ∙ rest
+            ap (λ o. enter_after (lowest_base n) (elim o as (λ _. Families) [ Some cell ↦ h.families | None ↦ with_sign (lowest_base n) h.families p t ]) (p ++ t ∷ []) q) e ∙ rest
 
 -- entries of one string are entered once
 one_string : (n : ℕ) (q : List ℕ) (fs : Families) (es : List Entry) → ((k : ℕ) (e : Entry) → slice_get es k ≡ Some e → e.0.0 ≡ q) → enter n fs q ≡ fs → fold (enter n) fs (map (λ e. e.0.0) es) ≡ fs

@@ -3,7 +3,8 @@ use Rattle.std.proofs.Common.{◌≡◌, ℕ, ◌+◌, ◌-◌, ◌<◌, ◌≤�
 use Rattle.std.proofs.lemmas.Bool.{cases_Bool, cases_eq, false≢true, or_cases, or_left, or_right, and_parts, and_from, eqb-true, eq-eqb, ne_eqb, leb-true}
 use Rattle.std.proofs.lemmas.List.Folds.{list_any-append}
 use Rattle.std.specs.List.{list_any, list_all}
-use Rattle.pg_types.specs.Placement.{Families, used_cells, top, is_used, is_base, fits_at, far_from_top, lowest_base, first_from, least_base}
+use Rattle.pg_types.specs.Placement.{Families, used_cells, top, is_used, is_base, fits_at, lowest_base, first_from, least_base}
+use Rattle.pg_types.specs.declared.limits.TheConstants.{FEW_SIGNS, FAR_BELOW}
 use Rattle.pg_types.specs.Inside.Placing.{IsLeast, cells_of}
 
 -- the greatest of a list
@@ -80,17 +81,22 @@ first_from_is test (suc more) from last = elim (cases_Bool (test from)) [
       })
 ]
 
-lowest_up : (b : Bool) (k : ℕ) → 1 ≤ cond b 1 (max 1 k)
+-- no base below 1 is tried
+pub lowest_up : (b : Bool) (k : ℕ) → 1 ≤ cond b 1 (max 1 k)
 lowest_up true k = omega arith
 lowest_up false k = omega arith
 
--- no base below 1 is tried
-pub lowest_positive : (few n count t : ℕ) → 1 ≤ lowest_base few n count t
-lowest_positive few n count t = lowest_up (nat_le count few) (t - far_from_top few n)
+pub lowest_positive : (n count t : ℕ) → 1 ≤ lowest_base n count t
+lowest_positive n count t = lowest_up (nat_le count FEW_SIGNS) (t - max FAR_BELOW n)
 
--- the base at which a family is placed is the least one, from the lowest on, that no family has and where the cells of its signs
--- are unused
-pub least_base_is : (few n : ℕ) (fs : Families) (signs : List ℕ) → have_signs fs ≡ true → IsLeast (fits_at fs signs) (lowest_base few n (length signs) (top fs)) (least_base few n fs signs)
-least_base_is few n fs signs some =
-    let up = lowest_positive few n (length signs) (top fs) in
-    first_from_is (fits_at fs signs) (top fs) (lowest_base few n (length signs) (top fs)) (past_top fs signs (lowest_base few n (length signs) (top fs) + top fs) some (omega arith))
+-- a search from a lowest base of at least 1 on finds the least base, from there on, that no family has and where the cells of
+-- the signs are unused
+pub least_base_is : (lowest : ℕ → ℕ → ℕ) (fs : Families) (signs : List ℕ) → have_signs fs ≡ true → 1 ≤ lowest (length signs) (top fs)
+    → IsLeast (fits_at fs signs) (lowest (length signs) (top fs)) (least_base lowest fs signs)
+least_base_is lowest fs signs some up =
+    first_from_is (fits_at fs signs) (top fs) (lowest (length signs) (top fs)) (past_top fs signs (lowest (length signs) (top fs) + top fs) some (omega arith))
+
+-- so does the placement of patterns
+pub pattern_base_is : (n : ℕ) (fs : Families) (signs : List ℕ) → have_signs fs ≡ true
+    → IsLeast (fits_at fs signs) (lowest_base n (length signs) (top fs)) (least_base (lowest_base n) fs signs)
+pattern_base_is n fs signs some = least_base_is (lowest_base n) fs signs some (lowest_positive n (length signs) (top fs))

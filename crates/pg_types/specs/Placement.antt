@@ -1,6 +1,7 @@
 -- Where the families of a trie lie in one row of cells. The signs that follow one prefix are a
 -- family. It has a base, and its sign s has the cell base + s. A placement is the list of the
--- families in the order of their prefixes.
+-- families in the order of their prefixes. A base is sought from a lowest one on, which the number
+-- of signs and the greatest used cell give.
 use Rattle.std.specs.Prelude.{ℕ, suc, zero, ◌+◌, ◌-◌, max, Bool, true, false, if◌then◌else◌, not, ◌&&◌, ◌||◌, nat_eq, nat_lt, nat_le, List, [], ◌∷◌, ◌++◌, length, map, filter, fold, Option, Some, None}
 use Rattle.std.specs.List.{flat_map, list_any, list_all, range_with_len, starts_with}
 use Rattle.std.specs.Ordering.{nat_cmp, eq_by_cmp}
@@ -8,7 +9,7 @@ use Rattle.std.specs.Cmp.Lexicographic.{slice_cmp}
 use Rattle.std.specs.FinMap.{find, put}
 use Rattle.std.specs.FinMap.Entries.{where_key}
 use Rattle.std.specs.Option.{option_map}
-use Rattle.pg_types.specs.declared.limits.TheConstants.{FEW_SIGNS, FAR_BELOW, NEAR_BELOW}
+use Rattle.pg_types.specs.declared.limits.TheConstants.{FEW_SIGNS, FAR_BELOW}
 
 -- the base, and the signs in rising order
 pub record Family : Type 0 where
@@ -52,28 +53,24 @@ is_base fs b = list_any (λ e. nat_eq b e.1.base) fs
 abbrev pub fits_at : Families → List ℕ → ℕ → Bool
 fits_at fs signs b = not (is_base fs b) && list_all (λ s. not (is_used fs (b + s))) signs
 
--- how far below the top a family of more than few signs is sought, in a table of n signs
-abbrev pub far_from_top : ℕ → ℕ → ℕ
-far_from_top few n = if nat_eq few 0 then NEAR_BELOW else max FAR_BELOW n
-
--- the lowest base that is tried for so many signs, where t is the greatest used cell
-abbrev pub lowest_base : ℕ → ℕ → ℕ → ℕ → ℕ
-lowest_base few n count t = if nat_le count few then 1 else max 1 (t - far_from_top few n)
+-- the lowest base tried for so many signs, in a table of n signs; t is the greatest used cell
+abbrev pub lowest_base : ℕ → ℕ → ℕ → ℕ
+lowest_base n count t = if nat_le count FEW_SIGNS then 1 else max 1 (t - max FAR_BELOW n)
 
 -- the first of b, b + 1 and so on that meets the test; after so many that fail, the next one
 abbrev pub first_from : (ℕ → Bool) → ℕ → ℕ → ℕ
 first_from test zero b = b
 first_from test (suc more) b = elim (test b) [ true ↦ b | false ↦ first_from test more (b + 1) ]
 
--- the least base at which the signs may stand; at the greatest used cell they always may
-abbrev pub least_base : ℕ → ℕ → Families → List ℕ → ℕ
-least_base few n fs signs = first_from (fits_at fs signs)
-    (top fs) (lowest_base few n (length signs) (top fs))
+-- the least base, from the lowest on, at which the signs may stand; past the top they always may,
+-- where no family is empty: the law is in proofs/LeastBase
+abbrev pub least_base : (ℕ → ℕ → ℕ) → Families → List ℕ → ℕ
+least_base lowest fs signs = first_from (fits_at fs signs) (top fs) (lowest (length signs) (top fs))
 
 -- the families with one more, placed at the least base
-abbrev pub with_placed_family : ℕ → ℕ → Families → List ℕ → List ℕ → Families
-with_placed_family few n fs p signs = put (slice_cmp nat_cmp) p
-    (record { base = least_base few n fs signs; signs = signs }) fs
+abbrev pub with_placed_family : (ℕ → ℕ → ℕ) → Families → List ℕ → List ℕ → Families
+with_placed_family lowest fs p signs = put (slice_cmp nat_cmp) p
+    (record { base = least_base lowest fs signs; signs = signs }) fs
 
 -- the signs, in rising order, with s
 abbrev pub with_one_sign : ℕ → List ℕ → List ℕ
@@ -82,13 +79,13 @@ with_one_sign s (x ∷ xs) = if nat_lt s x then s ∷ x ∷ xs
     else (if nat_eq s x then x ∷ xs else x ∷ with_one_sign s xs)
 
 -- the families with s in that of p: it is placed with s, joined in place, or placed anew
-unfoldable pub with_sign : ℕ → ℕ → Families → List ℕ → ℕ → Families
-with_sign few n fs p s = elim (family_at fs p) [
-  | None ↦ with_placed_family few n fs p (s ∷ [])
+unfoldable pub with_sign : (ℕ → ℕ → ℕ) → Families → List ℕ → ℕ → Families
+with_sign lowest fs p s = elim (family_at fs p) [
+  | None ↦ with_placed_family lowest fs p (s ∷ [])
   | Some f ↦ elim (is_used fs (f.base + s)) [
     | false ↦ put (slice_cmp nat_cmp) p
         (record { base = f.base; signs = with_one_sign s f.signs }) fs
-    | true ↦ with_placed_family few n (without_family fs p) p (with_one_sign s f.signs)
+    | true ↦ with_placed_family lowest (without_family fs p) p (with_one_sign s f.signs)
   ]
 ]
 
@@ -118,19 +115,19 @@ abbrev pub base_of : Families → List ℕ → Option ℕ
 base_of fs p = option_map (λ f. f.base) (family_at fs p)
 
 -- the families with each sign of q, in turn, in the family of the string before it, from p on
-abbrev pub enter_after : ℕ → ℕ → Families → List ℕ → List ℕ → Families
-enter_after few n fs p [] = fs
-enter_after few n fs p (s ∷ q) = enter_after few n
-    (elim (cell_in fs p s) [ Some cell ↦ fs | None ↦ with_sign few n fs p s ]) (p ++ s ∷ []) q
+abbrev pub enter_after : (ℕ → ℕ → ℕ) → Families → List ℕ → List ℕ → Families
+enter_after lowest fs p [] = fs
+enter_after lowest fs p (s ∷ q) = enter_after lowest
+    (elim (cell_in fs p s) [ Some cell ↦ fs | None ↦ with_sign lowest fs p s ]) (p ++ s ∷ []) q
 
--- the families after the string is entered; families of up to few signs are placed from base 1 on
-abbrev pub enter_by : ℕ → ℕ → Families → List ℕ → Families
-enter_by few n fs [] = fs
-enter_by few n fs (s ∷ q) = enter_after few n fs (s ∷ []) q
+-- the families after the string is entered; its first sign has a cell in the root
+abbrev pub enter_by : (ℕ → ℕ → ℕ) → Families → List ℕ → Families
+enter_by lowest fs [] = fs
+enter_by lowest fs (s ∷ q) = enter_after lowest fs (s ∷ []) q
 
 -- the families of patterns after the string is entered
 abbrev pub enter : ℕ → Families → List ℕ → Families
-enter n fs q = enter_by FEW_SIGNS n fs q
+enter n fs q = enter_by (lowest_base n) fs q
 
 -- the families of patterns after the strings are entered in their order, from the root alone
 abbrev pub entered_families : ℕ → List (List ℕ) → Families

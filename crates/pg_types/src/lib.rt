@@ -14,8 +14,8 @@ pub mod refusals;
 
 pub use cursor::Cursor;
 pub use limits::{
-    COST_MAX, EDGE, FAR_BELOW, FEW_SIGNS, FILE_MAX, LENGTH_MAX, LEVEL_MAX, NEAR_BELOW,
-    PATTERN_SIGNS_MAX, SETS_MAX, SIGNS_MAX, Sign, WEIGHT_MAX, WORD_LETTERS_MAX, Weight,
+    COST_MAX, EDGE, FAR_BELOW, FEW_SIGNS, FILE_MAX, LENGTH_MAX, LEVEL_MAX, PATTERN_SIGNS_MAX,
+    SETS_MAX, SIGNS_MAX, Sign, WEIGHT_MAX, WORD_LETTERS_MAX, Weight,
 };
 pub use lines::next_line;
 pub use marks::{Layout, Mark, Totals};

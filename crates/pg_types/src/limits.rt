@@ -41,9 +41,5 @@ pub const FEW_SIGNS: usize = 4;
 /// begins farther below where the table has more signs than this.
 pub const FAR_BELOW: usize = 255;
 
-/// Where no family is placed from base 1 on, each search begins this far below the greatest used
-/// cell. The search is short then, and most free cells are used all the same.
-pub const NEAR_BELOW: usize = 32;
-
 /// The most parameter files that `sweep` takes.
 pub const SETS_MAX: usize = 16;

@@ -5,6 +5,7 @@ use Rattle.std.specs.Cmp.Lexicographic.{slice_cmp}
 use Rattle.std.specs.FinMap.{put}
 use Rattle.pg_types.specs.Placement.{Families, cell_of, with_sign}
 use Rattle.pg_types.specs.Inside.Placing.{joins_at}
+use Rattle.pg_cells.specs.Inside.Searches.{search_start}
 use Rattle.pg_cells.specs.Inside.ValuedFamilies.{Trie, ValuedFamilies}
 use Rattle.pg_cells.specs.Inside.AreValuedFamilies.{AreValuedFamilies}
 use Rattle.pg_cells.specs.Inside.Lists.{Row}
@@ -26,7 +27,7 @@ module _ {V E : Type 0} where
     -- the families are placed by their rule, and the longer string has the value
     pub held : (q : List ℕ) → cell_of old.families q ≡ Some parent → OnOk result (new
         ≡ record old {
-          families = with_sign few old.signs old.families q s;
+          families = with_sign (search_start few old.signs) old.families q s;
           values = put (slice_cmp nat_cmp) (q ++ s ∷ []) v old.values;
         })
     -- the answer is the cell of the longer string
@@ -51,6 +52,6 @@ module _ {V : Type 0} where
   -- the trie with the sign added below the string, and the value of the longer string
   abbrev pub added : ℕ → ℕ → Trie V → List ℕ → ℕ → V → Trie V
   added few n t p s v = record {
-    families = with_sign few n t.families p s;
+    families = with_sign (search_start few n) t.families p s;
     values = put (slice_cmp nat_cmp) (p ++ s ∷ []) v t.values;
   }

@@ -2,9 +2,9 @@
 use Rattle.std.specs.Prelude.{◌≡◌, ◌≢◌, ℕ, ◌+◌, ◌<◌, ◌≤◌, ◌⊎◌, max, true, false, List, [], ◌∷◌, ◌++◌, length, take, get_or, slice_get, None, Some}
 use Rattle.pg_cells.specs.declared.store.fit.Slot.{Slot}
 use Rattle.pg_cells.specs.Inside.Lists.{Row, sign_at, child_at, base_at}
-use Rattle.pg_types.specs.Placement.{lowest_base}
 use Rattle.pg_types.specs.Inside.Placing.{IsLeast}
 use Rattle.pg_cells.specs.Inside.Store.{taken_in, IsTop}
+use Rattle.pg_cells.specs.Inside.Searches.{search_start}
 use Rattle.pg_cells.specs.Inside.Writes.{Takes, SetsBase, SetsChild}
 use Rattle.pg_cells.specs.Inside.Fit.{signs_of, slot_of, fits_row}
 use Rattle.pg_cells.specs.Inside.Layouts.{standing}
@@ -99,7 +99,7 @@ module _ {V : Type 0} where
     pub top : ℕ
     pub is_top : IsTop dropped.signs top
     pub least : IsLeast (fits_row dropped (slot.sign ∷ signs_of slots))
-        (lowest_base few n (length slots + 1) top) base
+        (search_start few n (length slots + 1) top) base
     pub near : base ≤ max 1 top
     pub puts : Puts dropped settled base slots
     pub takes : Takes settled took (base + slot.sign) slot.sign slot.value slot.child

@@ -4,6 +4,7 @@ use Rattle.std.specs.Ordering.{nat_cmp}
 use Rattle.std.specs.Cmp.Lexicographic.{slice_cmp}
 use Rattle.std.specs.FinMap.{find, put}
 use Rattle.pg_types.specs.Placement.{Families, cell_of, with_sign, enter_by, enter_after}
+use Rattle.pg_cells.specs.Inside.Searches.{search_start}
 use Rattle.pg_cells.specs.Inside.ValuedFamilies.{ValuedFamilies}
 
 -- where a walk stands: at the empty string, or at the string that has the cell
@@ -13,8 +14,9 @@ IsAt fs (Some cell) q = cell_of fs q ≡ Some cell
 
 -- to enter w is to enter what follows its first k signs, which need no new cell
 pub record IsKnown (few n : ℕ) (fs : Families) (w : List ℕ) (k : ℕ) : Type 0 where
-  pub front : fs ≡ enter_by few n fs (take k w)
-  pub rest : enter_after few n fs (take k w) (drop k w) ≡ enter_by few n fs w
+  pub front : fs ≡ enter_by (search_start few n) fs (take k w)
+  pub rest : enter_after (search_start few n) fs (take k w) (drop k w)
+      ≡ enter_by (search_start few n) fs w
 
 module _ {V : Type 0} where
   -- no string that begins with q has a value
@@ -25,7 +27,7 @@ module _ {V : Type 0} where
   abbrev pub StepsBy : ℕ → Option ℕ → ValuedFamilies V → ValuedFamilies V → List ℕ → ℕ → V → Type 0
   StepsBy few None old new q s v = new
       ≡ record old {
-        families = with_sign few old.signs old.families q s;
+        families = with_sign (search_start few old.signs) old.families q s;
         values = put (slice_cmp nat_cmp) (q ++ s ∷ []) v old.values;
       }
   StepsBy few (Some cell) old new q s v = new ≡ old

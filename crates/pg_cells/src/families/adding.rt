@@ -6,6 +6,7 @@ ghost use Rattle.pg_cells.specs.declared.store.member.Member.{Member as MemberOf
 ghost use Rattle.pg_cells.specs.Inside.Lists.{sign_at};
 ghost use Rattle.pg_cells.specs.Inside.Store.{Extends, IsRow};
 ghost use Rattle.pg_cells.specs.Inside.Layouts.{IsTrie};
+ghost use Rattle.pg_cells.specs.Inside.Searches.{search_start};
 ghost use Rattle.pg_cells.specs.Inside.Adding.{CanAdd, added};
 
 use crate::families::moves::collect;
@@ -47,7 +48,7 @@ pub fn add_slot<V: Copy>(
         OnOk result (IsTrie signs store.new (added few signs t q slot.sign slot.value)) }
     ensures cell { (t : Trie (MemberOf V)) (q : List ℕ) →
         CanAdd signs store.old t q parent slot.sign members.now →
-        IfOk result (λ cell. cell_of (with_sign few signs t.families q slot.sign)
+        IfOk result (λ cell. cell_of (with_sign (search_start few signs) t.families q slot.sign)
         (q ++ slot.sign ∷ []) ≡ Some cell) }
     ensures err { OnErr result (Extends store.old store.new) }
     ensures row { IsRow store.new }

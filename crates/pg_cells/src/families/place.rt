@@ -1,8 +1,8 @@
 //! A family is put at the least base that fits.
 ghost use Rattle.std.specs.Prelude.{◌≡◌, ◌≢◌, ℕ, ◌+◌, ◌<◌, ◌≤◌, ◌^◌, max, true, false, ◌∷◌, length, slice_index};
-ghost use Rattle.pg_types.specs.Placement.{far_from_top, lowest_base};
 ghost use Rattle.pg_types.specs.Inside.Placing.{IsLeast};
 ghost use Rattle.pg_cells.specs.Inside.Fit.{fits_row, signs_of};
+ghost use Rattle.pg_cells.specs.Inside.Searches.{far_from_top, search_start};
 ghost use Rattle.pg_cells.specs.Inside.Moves.{Drops, Moved, CanPlace};
 ghost use Rattle.pg_cells.specs.Inside.Store.{IsRow};
 
@@ -10,7 +10,11 @@ use crate::families::moves::{give_up, put};
 use crate::store::Store;
 use crate::store::fit::Slot;
 use crate::store::member::Member;
-use pg_types::{FAR_BELOW, NEAR_BELOW, SIGNS_MAX};
+use pg_types::{FAR_BELOW, SIGNS_MAX};
+
+/// Where no family is placed from base 1 on, each search begins this far below the greatest used
+/// cell. The search is short then, and most free cells are used all the same.
+pub const NEAR_BELOW: usize = 32;
 
 // How far below the top the search for a base begins.
 fn far_from_top(few: usize, signs: u16) -> usize
@@ -25,7 +29,7 @@ fn far_from_top(few: usize, signs: u16) -> usize
 
 // The lowest base that is tried.
 fn lowest_base(few: usize, signs: u16, count: usize, top: usize) -> usize
-    ensures is { result ≡ lowest_base few signs count top }
+    ensures is { result ≡ search_start few signs count top }
     ensures positive { 0 < result }
 {
     if count <= few {

@@ -3,6 +3,7 @@ use Rattle.std.proofs.Common.{◌+◌, ◌<◌, [], ◌∷◌, ◌++◌, length,
 use Rattle.std.proofs.lemmas.Result.{err_from_is_err_and}
 use Rattle.pg_types.specs.Placement.{cell_of, enter_by}
 use Rattle.pg_cells.specs.Inside.ValuedFamilies.{ValuedFamilies}
+use Rattle.pg_cells.specs.Inside.Searches.{search_start}
 use Rattle.pg_cells.specs.Inside.Walks.{EndsBefore, Steps, AddsBlanks}
 use Rattle.pg_cells.proofs.Walking.{way_more, enter_more, front_more, more_added, step_values, step_signs, still_none, not_reached}
 use Rattle.pg_cells.proofs.walks.enter.Goals as goal
@@ -78,7 +79,7 @@ pub returns-clause-cell : goal.returns-clause-cell
 returns-clause-cell g c = subst (λ w. cell_of c.loop-k.cells.families w ≡ Some c.loop-k.cell) (take_all c.loop-k.k c.args.signs.now (omega arith)) c.loop-k.invariant.at
 
 pub returns-clause-families : goal.returns-clause-families
-returns-clause-families g c = subst (λ w. c.loop-k.cells.families ≡ enter_by g.row.FEW c.args.cells.now.signs c.args.cells.now.families w)
+returns-clause-families g c = subst (λ w. c.loop-k.cells.families ≡ enter_by (search_start g.row.FEW c.args.cells.now.signs) c.args.cells.now.families w)
     (take_all c.loop-k.k c.args.signs.now (omega arith)) c.loop-k.invariant.front
 
 pub returns-clause-part : goal.returns-clause-part

@@ -1,0 +1,14 @@
+-- From where on the base of a family is sought, by the greatest number of signs with which a family
+-- is placed from base 1 on. With the 4 of patterns this is the rule of patterns. With 0 each family
+-- is placed near the greatest used cell.
+use Rattle.std.specs.Prelude.{ℕ, ◌-◌, max, if◌then◌else◌, nat_eq, nat_le}
+use Rattle.pg_types.specs.declared.limits.TheConstants.{FAR_BELOW}
+use Rattle.pg_cells.specs.declared.families.place.TheConstants.{NEAR_BELOW}
+
+-- how far below the top a family of more than few signs is sought, in a table of n signs
+abbrev pub far_from_top : ℕ → ℕ → ℕ
+far_from_top few n = if nat_eq few 0 then NEAR_BELOW else max FAR_BELOW n
+
+-- the lowest base that is tried for so many signs, where t is the greatest used cell
+abbrev pub search_start : ℕ → ℕ → ℕ → ℕ → ℕ
+search_start few n count t = if nat_le count few then 1 else max 1 (t - far_from_top few n)
