@@ -1,5 +1,5 @@
 -- The letters of a line have signs of letters.
-use Rattle.std.proofs.Common.{◌≡◌, ℕ, ◌+◌, true, zero, suc, List, [], ◌∷◌, drop, Option, None, Some, refl}
+use Rattle.std.proofs.Common.{◌≡◌, ℕ, ◌+◌, true, zero, suc, List, [], drop, Option, None, Some, refl}
 use Rattle.std.specs.List.{list_all}
 use Rattle.std.specs.Option.{option_map_or}
 use Rattle.std.proofs.lemmas.Bool.{and_from, lt-ltb}

@@ -1,7 +1,7 @@
 -- An item is found where it stands, whatever follows it.
-use Rattle.std.proofs.Common.{◌≡◌, ℕ, ◌+◌, ◌-◌, ◌*◌, ◌<◌, ◌≤◌, ◌==◌, Bool, true, false, ◌||◌, List, [], ◌∷◌, ◌++◌, length, fold, find, slice_index, Some, None, refl, sym, ap, ◌∙◌, subst, arith, suc, zero, nat_eq}
-use Rattle.std.specs.List.{list_any, list_all, starts_with}
-use Rattle.std.proofs.lemmas.Bool.{and_parts, or_parts, or_right, not_from_true, true≢false, false_from_ne_true, eqb-true, eqb-false, eq-eqb, ne_eqb, lt-ltb, le-leb}
+use Rattle.std.proofs.Common.{◌≡◌, ℕ, ◌+◌, ◌-◌, ◌<◌, ◌≤◌, ◌==◌, Bool, true, false, ◌||◌, List, [], ◌∷◌, ◌++◌, length, find, slice_index, Some, None, refl, sym, ap, ◌∙◌, subst, arith, suc, nat_eq}
+use Rattle.std.specs.List.{list_any, starts_with}
+use Rattle.std.proofs.lemmas.Bool.{and_parts, or_parts, or_right, not_from_true, true≢false, false_from_ne_true, eqb-true, eq-eqb, le-leb}
 use Rattle.std.proofs.lemmas.List.{append_assoc, length-append}
 use Rattle.pg_types.specs.declared.marks.Mark.{Mark}
 use Rattle.pg_types.specs.declared.marks.Mark.TheVariants.{Nothing, Error, Missed, Found, DontCare}
