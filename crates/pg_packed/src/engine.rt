@@ -1,6 +1,6 @@
 //! The packed engine.
 ghost use Rattle.std.specs.Prelude.{◌≡◌, ◌≤◌, true, length};
-ghost use Rattle.pg_types.specs.declared.limits.TheConstants.{LEVEL_MAX};
+ghost use Rattle.pg_types.specs.declared.limits.TheConstants.{LENGTH_MAX, LEVEL_MAX};
 ghost use Rattle.pg_types.specs.Tails.{tails};
 
 use crate::start::trie_of;
@@ -8,7 +8,7 @@ use pg_count::CountTrie;
 use pg_dict::WordRef;
 use pg_hyph::hyphenate;
 use pg_patterns::PatternSet;
-use pg_select::{Engine, WordState};
+use pg_select::{Engine, Pass, WordState};
 use pg_trie::{HOPELESS, PatternTrie};
 use pg_types::{Cursor, Layout, Sign, Weight};
 use std::alloc::{AllocError, Global};
@@ -22,13 +22,14 @@ use std::alloc::{AllocError, Global};
 pub struct PackedEngine {
     trie: PatternTrie,
     counts: CountTrie,
-    level: u8,
-    dot: u8,
+    pass: Pass,
     begun: u64,
     tidy: bool,
     ghost one_alphabet: { counts.signs ≡ trie.signs },
-    ghost level_bounds: { (1 ≤ level) × (level ≤ LEVEL_MAX) },
-    ghost dot_inside: { dot ≤ counts.len },
+    ghost window_len: { counts.len ≡ pass.len },
+    ghost level_bounds: { (1 ≤ pass.level) × (pass.level ≤ LEVEL_MAX) },
+    ghost len_bounds: { (1 ≤ pass.len) × (pass.len ≤ LENGTH_MAX) },
+    ghost dot_inside: { pass.dot ≤ pass.len },
     ghost tidy_tails: { tidy ≡ true → length trie.records ≡ tails trie.patterns },
 }
 
@@ -52,8 +53,11 @@ impl PackedEngine {
         Ok(PackedEngine {
             trie: trie_of(alloc, signs, start)?,
             counts: CountTrie::new(alloc, signs)?,
-            level: 1,
-            dot: 0,
+            pass: Pass {
+                level: 1,
+                len: 1,
+                dot: 0,
+            },
             begun: 0,
             tidy: true,
         })
@@ -72,14 +76,13 @@ impl Engine for PackedEngine {
 
     fn begin_pass(&mut self, level: u8, len: u8, dot: u8) {
         self.counts.begin(len);
-        self.level = level;
-        self.dot = dot;
+        self.pass = Pass { level, len, dot };
         self.begun += 1;
     }
 
     fn hyphenate(&self, w: WordRef<'_>, out: &mut WordState) {
-        let len = self.counts.window_len();
-        hyphenate(&self.trie, w, self.level, len, self.dot, out);
+        let Pass { level, len, dot } = self.pass;
+        hyphenate(&self.trie, w, level, len, dot, out);
     }
 
     fn count(&mut self, window: &[Sign], good: bool, weight: Weight) -> Result<(), AllocError> {
@@ -115,27 +118,27 @@ impl Engine for PackedEngine {
     fn choose(&mut self, at: &Cursor) -> Result<(), AllocError> {
         let _len = self.counts.window_len();
         self.tidy = false;
-        self.trie.enter(at.signs(), self.dot, self.level)
+        self.trie.enter(at.signs(), self.pass.dot, self.pass.level)
     }
 
     fn give_up(&mut self, at: &Cursor) -> Result<(), AllocError> {
         let _len = self.counts.window_len();
         self.tidy = false;
-        self.trie.enter(at.signs(), self.dot, HOPELESS)
+        self.trie.enter(at.signs(), self.pass.dot, HOPELESS)
     }
 
     fn choose_numbered(&mut self, number: u32) -> Result<(), AllocError> {
         let _len = self.counts.window_len();
         self.tidy = false;
         self.trie
-            .enter(self.counts.window(number), self.dot, self.level)
+            .enter(self.counts.window(number), self.pass.dot, self.pass.level)
     }
 
     fn give_up_numbered(&mut self, number: u32) -> Result<(), AllocError> {
         let _len = self.counts.window_len();
         self.tidy = false;
         self.trie
-            .enter(self.counts.window(number), self.dot, HOPELESS)
+            .enter(self.counts.window(number), self.pass.dot, HOPELESS)
     }
 
     fn end_level(&mut self) -> Result<(), AllocError> {

@@ -11,7 +11,7 @@ meaning_of e = record {
   hopeless = e.trie.hopeless;
   counts = e.counts.counts;
   windows = e.counts.windows;
-  pass = record { level = e.level; len = e.counts.len; dot = e.dot };
+  pass = e.pass;
   families = Some e.trie.families;
   begun = e.begun;
   tidy = e.tidy;
