@@ -1,6 +1,8 @@
 -- What reads and writes by name do to a disk.
 use Rattle.std.specs.Prelude.{◌≡◌, ℕ, zero, suc, ◌+◌, ◌<◌, List, [], ◌∷◌, ◌++◌, take, length, Bool, true, false, Option, Some, None, IfSome, Result, OnOk, OnErr, IfErr, nat_eq, ◌&&◌, ◌⊎◌}
 use Rattle.std.specs.List.{list_any}
+use Rattle.pg_outside.specs.declared.disk.links.TheConstants.{LINK_NAMES_MAX}
+use Rattle.pg_outside.specs.declared.disk.new_file.TheConstants.{NEW_NAMES_MAX}
 use Rattle.pg_outside.specs.Faults.{next_count}
 use Rattle.pg_outside.specs.Inside.Causes.{Because}
 use Rattle.pg_outside.specs.Inside.Disk.{Node, Disk, Told, AreOne, LeadsTo, LeadsToNone, Wrote, WrotePart, IsTaken, Now, id_at, node_at}
@@ -137,14 +139,14 @@ followed_name disk (suc count) name = disk.links.next (followed_name disk count 
 
 -- the name begins a row of more than 40 links
 abbrev pub IsDeep : List ℕ → Disk → Type 0
-IsDeep name disk = (count : ℕ) → count < 41 → disk.links.is_link (followed_name disk count name)
-    ≡ true
+IsDeep name disk = (count : ℕ) → count < LINK_NAMES_MAX
+    → disk.links.is_link (followed_name disk count name) ≡ true
 
 -- each of the thousand names of a new file beside this one is taken, or is this one
 pub record AllTaken (name : List ℕ) (disk : Disk) : Type 0 where
   pub folder : List ℕ
   pub is_folder : IsFolderOf folder name
-  pub taken : (counted : ℕ) → counted < 1000
+  pub taken : (counted : ℕ) → counted < NEW_NAMES_MAX
       → IsTaken (new_name folder counted) disk ⊎ (name ≡ new_name folder counted)
 
 -- there is no name for a new file beside what the name leads to

@@ -10,7 +10,7 @@ use super::system::{Entry, FileId, System};
 use std::alloc::{AllocError, Global};
 
 /// How many names are looked at: a name, and those that up to 40 links say, one after the other.
-const NAMES: u32 = 41;
+const LINK_NAMES_MAX: u32 = 41;
 
 /// The folder of a name with its last slash, and nothing where the name has no slash.
 pub(crate) fn folder_of(name: &str) -> &str
@@ -63,7 +63,7 @@ pub(crate) fn find<S: System>(
         ⊥ (Now (S.told system.new) (IsDeep name.now)) ⊥) }
 {
     let mut real = String::from_str(alloc, name)?;
-    for _ in 0..NAMES {
+    for _ in 0..LINK_NAMES_MAX {
         match system.look(real.as_str())? {
             Entry::Link => {
                 let text = system.read_link(alloc, real.as_str())?;

@@ -16,7 +16,7 @@ use std::alloc::Global;
 const NEW_NAME: &str = "patgen-new-";
 
 /// How many names are tried for a new file.
-const NEW_NAMES: u32 = 1000;
+const NEW_NAMES_MAX: u32 = 1000;
 
 /// A new file, and the name under which it was made.
 #[derive(Drop)]
@@ -41,7 +41,7 @@ fn make_beside<S: System>(
         ⊥ ⊥ (Now (S.told system.new) (AllTaken name.now))) }
 {
     let folder = folder_of(name);
-    for number in 0..NEW_NAMES {
+    for number in 0..NEW_NAMES_MAX {
         let own = format!(in alloc; "{folder}{NEW_NAME}{number}")?;
         if own.as_str() == name {
             continue;
