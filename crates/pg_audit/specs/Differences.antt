@@ -10,7 +10,7 @@ whole_lines [] = []
 whole_lines (b ∷ bs) = if is_line_feed b then (b ∷ []) ∷ whole_lines bs
     else onto_first b (whole_lines bs)
 
--- where two files differ: the line's number, from 1, and the given line, empty where it is missing
+-- where files differ: the number of the line, from 1, and the given line, empty where it is missing
 pub record Difference : Type 0 where
   pub line : ℕ
   pub found : List ℕ

@@ -15,8 +15,8 @@ pub const SHOWN_MAX: usize = 200;
 pub struct FalseLine<'a> {
     /// The number of the line, counted from 1.
     pub line: u64,
-    /// What the given file has there, its LF included where it has one; empty where it has no such
-    /// line.
+    /// The line that the given file has there, with its LF if it has one. It is empty where the
+    /// file has no such line.
     pub found: &'a [u8],
 }
 

@@ -128,8 +128,8 @@ fn calls_of(alloc: Global, name: &str) -> Result<u64, AllocError> {
     })
 }
 
-/// Whether a write that is stopped at a call leaves the old bytes or the new ones, or one that fails
-/// there is a fault and leaves the disk as it was.
+/// Tries a write that is stopped at a call, or one that fails there. Whether the first leaves the
+/// old bytes or the new ones, or the second is a fault and leaves the disk as it was.
 fn survives(
     alloc: Global,
     name: &str,

@@ -1,6 +1,6 @@
 //! The calls of the crates below the engines, on worked rows that name them: what dictionaries,
-//! patterns, cells, counts and tries give of small inputs, and cells beside a slow list of families.
-//! What files and sinks do whose calls fail is tried here too: a disk in memory, real files, and
+//! patterns, cells, counts and tries give of small inputs, and cells beside a slow list of
+//! families. Files and sinks whose calls fail are tried here too: a disk in memory, real files, and
 //! files and writers whose calls go as a list says.
 //!
 //! It stands on the lowest crates alone, so the gate can prove it early. Tests that need an engine,

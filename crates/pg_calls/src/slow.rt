@@ -10,12 +10,13 @@ use std::alloc::Global;
 use std::process::Abort;
 use std::test::Fail;
 
-/// A row of numbers that a seed gives.
+/// A row of numbers that a seed gives. The worked row takes its steps from the draw of the rule of
+/// `sample`, and these crates have no call that draws. So the rule stands here once more.
 #[derive(Drop)]
 struct Draws(u64);
 
 impl Draws {
-    // The next number, below `count`.
+    /// The next number, below `count`.
     fn draw(&mut self, count: usize) -> usize
         ensures { result < max count 1 }
     {

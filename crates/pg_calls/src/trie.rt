@@ -8,10 +8,10 @@ use std::alloc::Global;
 use std::process::Abort;
 use std::test::Fail;
 
-/// A string of two signs, a dot of it, and a value or the mark.
+/// A string of two signs, a dot of it, and a value or `HOPELESS`.
 type Given = ([Sign; 2], u8, u8);
 
-/// Enters a value, or the mark, at the dot of a string.
+/// Enters a value or a hopeless entry at the dot of a string.
 fn enter(trie: &mut PatternTrie, signs: [Sign; 2], dot: u8, value: u8) -> Result<(), Fail>
     requires { trie.old.signs ≡ 4 }
     ensures { OnOk result (trie.new.signs ≡ 4) }
@@ -21,13 +21,13 @@ fn enter(trie: &mut PatternTrie, signs: [Sign; 2], dot: u8, value: u8) -> Result
         return Err(Fail::new("a string of the edge and three letters"));
     }
     if 2 < dot || value < 1 || HOPELESS < value {
-        return Err(Fail::new("a dot within the string, and a value or the mark"));
+        return Err(Fail::new("a dot within the string, and a value or a hopeless entry"));
     }
     trie.enter(&[first, second], dot, value)?;
     Ok(())
 }
 
-/// Enters the strings with their dots and values, and takes the mark out.
+/// Enters the strings with their dots and values, and takes the hopeless entries out.
 fn enter_all(trie: &mut PatternTrie, entries: &[Given]) -> Result<(), Fail>
     requires { trie.old.signs ≡ 4 }
     ensures { OnOk result (trie.new.signs ≡ 4) }
@@ -39,7 +39,7 @@ fn enter_all(trie: &mut PatternTrie, entries: &[Given]) -> Result<(), Fail>
     Ok(())
 }
 
-/// The trie of the strings with their dots and values, without the mark.
+/// The trie of the strings with their dots and values, without the hopeless entries.
 fn deleted(alloc: Global, entries: &[Given]) -> Result<PatternTrie, Fail>
     ensures { IfOk result (λ t. t.signs ≡ 4) }
 {
@@ -70,7 +70,7 @@ fn has_alone(patterns: &PatternSet, signs: &[Sign], dot: u8, value: u8) -> bool 
 /// Compares the one record of a trie with the value 1 at the dot 1, and its one pattern with that
 /// of a and b.
 fn compare_record(rt: &impl Abort, alloc: Global, trie: &PatternTrie) -> Result<(), Fail> {
-    // The value is the one record that is left, so no mark is.
+    // The value is the one record that is left, so no hopeless entry is.
     if trie.outputs().len() != 1 || trie.outputs().first(1) != Some((1, 1, 0)) {
         return Err(Fail::new("one record"));
     }
@@ -78,17 +78,17 @@ fn compare_record(rt: &impl Abort, alloc: Global, trie: &PatternTrie) -> Result<
     Ok(())
 }
 
-/// Compares the trie of a mark beside a value.
-fn compare_mark(rt: &impl Abort, alloc: Global, trie: &PatternTrie) -> Result<(), Fail> {
+/// Compares the trie of a hopeless entry beside a value.
+fn compare_beside(rt: &impl Abort, alloc: Global, trie: &PatternTrie) -> Result<(), Fail> {
     compare_record(rt, alloc, trie)?;
     compare_layout(rt, trie, 5, 1);
     Ok(())
 }
 
 #[test]
-fn a_mark_beside_a_value(rt: HostRuntime) -> Result<(), Fail> {
+fn a_hopeless_entry_beside_a_value(rt: HostRuntime) -> Result<(), Fail> {
     let trie = deleted(rt.alloc(), &[([2, 3], 1, 1), ([2, 3], 1, HOPELESS)])?;
-    compare_mark(&rt, rt.alloc(), &trie)
+    compare_beside(&rt, rt.alloc(), &trie)
 }
 
 /// Compares the trie of tails that are shared.

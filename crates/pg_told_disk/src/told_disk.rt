@@ -150,7 +150,8 @@ impl ToldDisk {
         Ok(())
     }
 
-    /// Takes the permission to make, remove and rename in this folder, whose name ends in a slash.
+    /// Takes away the permission to make, remove and rename in this folder, whose name ends in a
+    /// slash.
     ///
     /// # Errors
     /// Where there is not enough memory.
@@ -160,8 +161,8 @@ impl ToldDisk {
         Ok(())
     }
 
-    /// Lets the call of this number fail, counted from 1. Where the program stops there, each later
-    /// one fails too, as if it had ended before that call.
+    /// Lets the call of this number fail, counted from 1. Where `stops` is set, each later call
+    /// fails too, as if the program had ended before that call.
     pub fn fail_at(&mut self, call: u64, stops: bool)
         ensures links { self.new.links ≡ self.old.links }
         ensures log { self.new.log ≡ self.old.log }

@@ -1,4 +1,4 @@
--- The first false line: told by the numbers of lines, and with a part of its bytes.
+-- The first false line, found by the numbers of lines, and what is shown of it.
 use Rattle.std.specs.Prelude.{◌≡◌, ◌≢◌, ℕ, ◌+◌, ◌<◌, List, [], length, take, Option, slice_get, unwrap_or, option_map}
 use Rattle.pg_audit.specs.Differences.{whole_lines, Difference, first_false}
 

@@ -12,7 +12,7 @@ has_feed line = is_line_feed (slice_index line (length line - 1))
 abbrev pub without_feed : List ℕ → List ℕ
 without_feed line = if has_feed line then take (length line - 1) line else line
 
--- no line, the first 200 bytes of a longer one, a line with its line feed, or the file's last line
+-- no line, the first 200 bytes of a longer one, a line that a line feed ends, or one without it
 pub data FoundLine : Type 0 where
   Missing : FoundLine
   Begins : List ℕ → FoundLine

@@ -1,5 +1,5 @@
--- A disk in memory without links and devices is plain, and two names that are no links stand for
--- one only if they are one name.
+-- A disk in memory is plain where it has no links and no devices. Two names that are no links
+-- stand for one only if they are one name.
 use Rattle.std.specs.Prelude.{◌≡◌, List, [], ◌∷◌, Bool, true, false, Some, refl}
 use Rattle.std.proofs.Common.{sym, ap, subst, ◌∙◌}
 use Rattle.std.specs.Option.{option_map}
