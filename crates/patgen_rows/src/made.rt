@@ -29,7 +29,9 @@ impl Spellings {
     }
 }
 
-/// The next number below `most` of those that are drawn from a seed, as `sample` draws them.
+/// The next number below `most`, by the draw of the rule of `sample`. The rows want results that
+/// were found from the words drawn so. The rule stands here once more, since these words must not
+/// come from the program that is tried.
 fn draw(state: &mut u32, most: u32) -> u32 {
     let next = (1_103_515_245 * u64::from(*state) + 12_345) % 2_147_483_648;
     *state = next as u32;

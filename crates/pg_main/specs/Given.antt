@@ -18,7 +18,7 @@ code_of_none Unreadable = 6
 abbrev pub words_in : IntoIter (String Global) Global → List (String Global)
 words_in arguments = drop 1 (into_iter_items arguments)
 
--- why the system's error left no words
+-- why there are no words where the system gave this error
 pub record IsReasonOf (error : Error) (reason : NoWords) : Type 0 where
   pub memory : error_kind error ≡ OutOfMemory → reason ≡ Memory
   pub other : (error_kind error ≡ OutOfMemory → ⊥) → reason ≡ Unreadable

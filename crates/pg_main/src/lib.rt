@@ -1,5 +1,5 @@
-//! What a program does that runs one command: it takes the words, works on the files of the system,
-//! and gives the status.
+//! What a program of one command does: it takes the words, works on the files of the system, and
+//! gives the status.
 #![tactic(auto)]
 
 ghost use Rattle.std.specs.Prelude.{◌≡◌, ◌≤◌, ◌⊎◌, IfOk, IfErr, MatchResult};
@@ -50,8 +50,8 @@ pub fn words_after_name(alloc: Global, arguments: Args) -> Result<Vec<String>, N
 /// It is that of the answer of a call of `run` on these words: 0 where all went well, 1 for a file
 /// that is not the wanted one, 2 where the words are no command, 3 for a refused file, 4 for a file
 /// that could not be read or written, and 5 where memory was short. Where there are no words, it is
-/// 5 if there was no memory for them and 6 if the system gave none, and neither `files` nor `out`
-/// was called. The observer is told of the call and of its answer.
+/// 5 if there was no memory for them and 6 if the system gave none. Neither `files` nor `out` is
+/// called then. The observer is told of the call and of its answer.
 pub fn status_of<F: Files, O: Sink, L: Listen>(
     alloc: Global,
     words: Result<Vec<String>, NoWords>,
@@ -82,7 +82,7 @@ pub fn status_of<F: Files, O: Sink, L: Listen>(
     }
 }
 
-/// The words of a program by what the system says of its arguments.
+/// The words of a program, from what the system gives as its arguments.
 ///
 /// # Errors
 /// Where there is not enough memory, here or in the system, and where the system does not give the
@@ -108,9 +108,9 @@ fn code_from(status: u8) -> ExitCode
 
 /// Does what the arguments ask for, and gives the exit code.
 ///
-/// It is that of the answer of a call of `run` on all words after the program's name, 5 where there
-/// is no memory for these words, here or in the system, and 6 where the system does not give them.
-/// The observer is told of the call and of its answer.
+/// It is that of the answer of a call of `run` on all words after the program's name. It is 5 where
+/// there is no memory for these words, here or in the system, and 6 where the system does not give
+/// them. The observer is told of the call and of its answer.
 pub fn exit_of<F: Files, O: Sink, L: Listen>(
     alloc: Global,
     arguments: io::Result<Args>,
@@ -144,9 +144,10 @@ fn reason_text(alloc: Global, reason: Option<io::Error>) -> String {
 /// Does what the arguments of the program ask for, over the files of the system and a writer, which
 /// is to be standard output.
 ///
-/// On `err`, which is to be standard error, stands a line that says where the call is, while it
-/// works, and what explains the answer at the end. The variable `PATGEN_PROGRESS` says whether the
-/// line is shown: `always`, `never`, or anything else for only where standard error is a terminal.
+/// While the call works, a line on `err`, which is to be standard error, says where it is. At the
+/// end `err` gets what explains the answer. The variable `PATGEN_PROGRESS` says whether the line is
+/// shown: `always` or `never`. With any other value it is shown only where standard error is a
+/// terminal.
 pub fn run_words<
     R: rt::Files + rt::Env + rt::Clock + AllocGlobal,
     W: Write + Drop,

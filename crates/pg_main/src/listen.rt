@@ -1,4 +1,4 @@
-//! The observer of a program.
+//! What the observer of a program is told beside the steps of a call.
 use crate::NoWords;
 use pg_messages::Messages;
 use pg_top::Status;

@@ -1,9 +1,9 @@
-//! Names of the system, and the files behind them.
+//! Whether two names of the system are of one file.
 use pg_messages::SameFile;
 use std::os::unix::fs::MetadataExt;
 use std::{fs, rt};
 
-/// Tells by device and inode whether two names of the system are of one file.
+/// The names of a system. Two are of one file where device and inode are the same.
 #[derive(Clone, Copy)]
 pub(crate) struct Named<'a, R> {
     system: &'a R,

@@ -1,4 +1,4 @@
-//! The observer of a program.
+//! What the observer keeps and shows.
 use pg_audit::FalseLine;
 use pg_dict::Dictionary;
 use pg_explain::{
@@ -33,7 +33,7 @@ pub struct Messages<'a, C, E: Drop> {
     screen: Screen<'a, C, E>,
     /// The first word.
     command: RefCell<String>,
-    /// The run of a sweep.
+    /// Which run of a sweep goes on.
     turn: Cell<Option<Turn>>,
     /// The files that were read and written, in this order.
     calls: RefCell<Vec<Call>>,
@@ -82,7 +82,7 @@ fn shown_name(alloc: Global, name: &str) -> Vec<u8> {
 }
 
 impl<'a, C: Clock, E: Write + Drop> Messages<'a, C, E> {
-    /// An observer on standard error, which shows where a call is or does not.
+    /// An observer on standard error. `is_shown` says whether it shows where a call is.
     pub fn new(alloc: Global, clock: &'a C, err: E, is_shown: bool) -> Messages<'a, C, E> {
         Messages {
             alloc,
@@ -98,7 +98,7 @@ impl<'a, C: Clock, E: Write + Drop> Messages<'a, C, E> {
         }
     }
 
-    /// Shows what the call does, where the line is to be shown now.
+    /// Shows what the call does, if a line is due now.
     fn step(&self, step: &Step, name: &str) {
         let Some(seconds) = self.screen.due() else {
             return;
@@ -163,7 +163,7 @@ impl<'a, C: Clock, E: Write + Drop> Messages<'a, C, E> {
         }
     }
 
-    /// Puts on standard error why these words are no command.
+    /// Puts on standard error what is wrong with these words.
     pub fn put_words(&self, words: &[String]) {
         self.put_wrong(&Wrong::Words(words));
     }
@@ -192,9 +192,9 @@ impl<'a, C: Clock, E: Write + Drop> Messages<'a, C, E> {
         self.fault.set(true);
     }
 
-    /// Puts on standard error why a file could not be read or written, or a line could not be put,
-    /// if the answer was such a fault: the reason of the system, and what was done before with the
-    /// same file.
+    /// If the answer was a fault, puts on standard error why a file could not be read or written,
+    /// or a line could not be put: the reason of the system, and what was done before with the same
+    /// file.
     pub fn put_fault<S: SameFile>(&self, reasons: &Reasons<'_>, same: &S) {
         if !self.fault.get() {
             return;
@@ -206,8 +206,8 @@ impl<'a, C: Clock, E: Write + Drop> Messages<'a, C, E> {
     }
 }
 
-/// Why the last calls of the system that failed did, as the system says it. A reason is empty where
-/// no such call failed, and where the system gave none.
+/// Why calls failed, in the words of the system. A reason is empty where no such call failed, and
+/// where the system gave none.
 #[derive(Clone, Copy, Debug)]
 pub struct Reasons<'a> {
     /// The reason of the last call on files that failed.
@@ -216,13 +216,13 @@ pub struct Reasons<'a> {
     pub puts: &'a str,
 }
 
-/// Tells whether two names are of one file.
+/// What knows the files behind names.
 pub trait SameFile {
     /// Whether the two names are of one file.
     fn is_same(&self, one: &str, other: &str) -> bool;
 }
 
-/// The fault of the last of these calls where it failed, else that of a put.
+/// The fault of the last of these calls, if it failed; else that of a put.
 fn fault_of<'b, S: SameFile>(
     calls: &'b [Call],
     failed: bool,
@@ -245,7 +245,7 @@ fn fault_of<'b, S: SameFile>(
     }
 }
 
-/// The first of the earlier calls that was on the file of the last one.
+/// The first of the earlier calls on the file of the last one.
 fn before_of<'b, S: SameFile>(earlier: &'b [Call], last: &Call, same: &S) -> Option<Before<'b>> {
     'calls: for call in earlier {
         if same.is_same(&call.name, &last.name) {
