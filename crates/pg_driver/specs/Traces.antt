@@ -115,7 +115,8 @@ level_traces source P (level ∷ levels) = let l = level_trace source P level in
 
 -- the trace of the run from starting patterns: one level for each of the parameters
 abbrev pub trace : Source → Parameters → Patterns → Trace
-trace source parameters S = level_traces source S (enumerate_from parameters.start parameters.levels)
+trace source parameters S =
+    level_traces source S (enumerate_from parameters.start parameters.levels)
 
 -- the patterns at the end of a run from S: those after its last level, or else S
 abbrev pub final_patterns : Patterns → Trace → Patterns

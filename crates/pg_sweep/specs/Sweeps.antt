@@ -21,7 +21,8 @@ pub record Terms : Type 0 where
 -- the totals of a fold by the patterns that are selected from all other words
 abbrev pub fold_totals : Terms → Parameters → ℕ → Totals
 fold_totals s set fold = totals_by (source_of s.table (part_of s.folds fold true s.words))
-    (final_patterns s.start (trace (source_of s.table (part_of s.folds fold false s.words)) set s.start))
+    (final_patterns s.start
+    (trace (source_of s.table (part_of s.folds fold false s.words)) set s.start))
 
 -- the sums of several totals
 abbrev pub total_of : List Totals → Totals
