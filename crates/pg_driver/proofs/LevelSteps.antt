@@ -18,7 +18,7 @@ use Rattle.pg_driver.specs.Inside.Levels.{CountNothing, SkipFlags, GoesOn, IsAt,
 use Rattle.pg_driver.specs.Inside.Sound.{Recorded, with_pass}
 use Rattle.pg_driver.specs.Inside.States.{DidPass, State, made_by, state_after, state_at_end, state_of}
 use Rattle.pg_driver.specs.Inside.RunAccounts.{known_of}
-use Rattle.pg_driver.specs.Traces.{Known, PassTrace, Source, is_entered, known_after, pass_made, passes_made}
+use Rattle.pg_driver.specs.Traces.{Known, PassTrace, Source, is_entered, known_after, pass_trace, pass_traces}
 use Rattle.pg_driver.specs.Inside.Passes.{known_at_end, passes_of_length}
 use Rattle.pg_driver.proofs.ChoiceSteps.{state_none, state_with}
 use Rattle.pg_driver.proofs.Numbers.{plus_zero}
@@ -171,10 +171,10 @@ pub record Reaches (source : Source) (params : LevelParams) (number len : ℕ) (
   pub known : known_at_end (known_of m) (all_made_by source params m rest) ≡ end
 
 -- passes, and then others
-pub made_append : (source : Source) (params : LevelParams) (known : Known) (xs ys : List Pass) → passes_made source params known (xs ++ ys)
-    ≡ passes_made source params known xs ++ passes_made source params (known_at_end known (passes_made source params known xs)) ys
+pub made_append : (source : Source) (params : LevelParams) (known : Known) (xs ys : List Pass) → pass_traces source params known (xs ++ ys)
+    ≡ pass_traces source params known xs ++ pass_traces source params (known_at_end known (pass_traces source params known xs)) ys
 made_append source params known [] ys = refl
-made_append source params known (x ∷ xs) ys = ap (λ ps. pass_made source params known x ∷ ps) (made_append source params (known_after (pass_made source params known x)) xs ys)
+made_append source params known (x ∷ xs) ys = ap (λ ps. pass_trace source params known x ∷ ps) (made_append source params (known_after (pass_trace source params known x)) xs ys)
 
 -- some passes of those that are left
 pub made_on : (source : Source) (params : LevelParams) (m n : Meaning) (xs rest : List Pass) (done whole : List PassTrace) → known_of n
@@ -182,7 +182,7 @@ pub made_on : (source : Source) (params : LevelParams) (m n : Meaning) (xs rest 
     → (done ++ all_made_by source params m xs) ++ all_made_by source params n rest ≡ whole
 made_on source params m n xs rest done whole known left =
     append_assoc done (all_made_by source params m xs) (all_made_by source params n rest)
-    ∙ ap (λ (k : Known). done ++ (all_made_by source params m xs ++ passes_made source params k rest)) known
+    ∙ ap (λ (k : Known). done ++ (all_made_by source params m xs ++ pass_traces source params k rest)) known
     ∙ ap (λ ps. done ++ ps) (sym (made_append source params (known_of m) xs rest))
     ∙ left
 
@@ -194,9 +194,9 @@ known_append known (p ∷ ps) qs = known_append (known_after p) ps qs
 pub known_on : (source : Source) (params : LevelParams) (m n : Meaning) (xs rest : List Pass) (whole : Known) → known_of n ≡ known_at_end (known_of m) (all_made_by source params m xs)
     → known_at_end (known_of m) (all_made_by source params m (xs ++ rest)) ≡ whole → known_at_end (known_of n) (all_made_by source params n rest) ≡ whole
 known_on source params m n xs rest whole known left =
-    ap (λ (k : Known). known_at_end k (passes_made source params k rest)) known
+    ap (λ (k : Known). known_at_end k (pass_traces source params k rest)) known
     ∙ sym (known_append (known_of m) (all_made_by source params m xs)
-    (passes_made source params (known_at_end (known_of m) (all_made_by source params m xs)) rest))
+    (pass_traces source params (known_at_end (known_of m) (all_made_by source params m xs)) rest))
     ∙ ap (λ ps. known_at_end (known_of m) ps) (sym (made_append source params (known_of m) xs rest))
     ∙ left
 

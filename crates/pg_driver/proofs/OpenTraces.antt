@@ -13,28 +13,28 @@ use Rattle.pg_select.proofs.LawsBounds.{next_is_below, up_to_largest, up_to_more
 use Rattle.pg_select.proofs.LawsTotals.{totals_after}
 use Rattle.pg_driver.specs.Accounts.{totals_by}
 use Rattle.pg_driver.specs.Dots.{order}
-use Rattle.pg_driver.specs.Traces.{Source, Known, is_chosen, chosen_in, known_after, pass_made, passes_made, at_start, level_made, passes_of, patterns_after}
+use Rattle.pg_driver.specs.Traces.{Source, Known, is_chosen, chosen_in, known_after, pass_trace, pass_traces, at_start, level_trace, passes_of, patterns_after}
 use Rattle.pg_driver.specs.Inside.Passes.{known_at_end}
 use Rattle.pg_driver.specs.Inside.LevelCounting.{Carries}
 
 module _ (source : Source) (params : LevelParams) (known : Known) (pass : Pass) where
   -- the totals after it
   pub totals_on : IsUpTo pass.level known.patterns
-      → Carries (is_odd pass.level) (totals_by source known.patterns) (totals_by source (known_after (pass_made source params known pass)).patterns)
-      (sum_by (λ c. c.good) (chosen_in (pass_made source params known pass))) (sum_by (λ c. c.bad) (chosen_in (pass_made source params known pass)))
+      → Carries (is_odd pass.level) (totals_by source known.patterns) (totals_by source (known_after (pass_trace source params known pass)).patterns)
+      (sum_by (λ c. c.good) (chosen_in (pass_trace source params known pass))) (sum_by (λ c. c.bad) (chosen_in (pass_trace source params known pass)))
   totals_on upto = totals_after source.minima source.words pass known.patterns known.hopeless (λ c. is_chosen params c) upto
 
 -- passes raise no value above what their level and the values were up to
 up_to_made : (source : Source) (params : LevelParams) (n : ℕ) (known : Known) (passes : List Pass) → list_all (λ (p : Pass). nat_le p.level n) passes
-    ≡ true → IsUpTo n known.patterns → IsUpTo n (known_at_end known (passes_made source params known passes)).patterns
+    ≡ true → IsUpTo n known.patterns → IsUpTo n (known_at_end known (pass_traces source params known passes)).patterns
 up_to_made source params n known [] all upto = upto
 up_to_made source params n known (pass ∷ passes) all upto =
     let parts = and_parts (nat_le pass.level n) (list_all (λ (p : Pass). nat_le p.level n) passes) all in
-    up_to_made source params n (known_after (pass_made source params known pass)) passes parts.1
-    (up_to_raised pass.level pass.dot n known.patterns (chosen_in (pass_made source params known pass)) (leb-true pass.level n parts.0) upto)
+    up_to_made source params n (known_after (pass_trace source params known pass)) passes parts.1
+    (up_to_raised pass.level pass.dot n known.patterns (chosen_in (pass_trace source params known pass)) (leb-true pass.level n parts.0) upto)
 
 -- and so does a level
-pub up_to_level : (source : Source) (params : LevelParams) (number n : ℕ) (P : Patterns) → number ≤ n → IsUpTo n P → IsUpTo n (patterns_after (level_made source P (number, params)))
+pub up_to_level : (source : Source) (params : LevelParams) (number n : ℕ) (P : Patterns) → number ≤ n → IsUpTo n P → IsUpTo n (patterns_after (level_trace source P (number, params)))
 up_to_level source params number n P within upto = up_to_made source params n (at_start P) (passes_of number params)
     (all_flat (range_with_len params.pat_start (params.pat_finish + 1 - params.pat_start))) upto
   where
@@ -59,7 +59,7 @@ below_level greatest number P upto first low =
     let next : number - 1 + 1 ≡ number = omega arith in
     subst (λ (n : ℕ). IsBelow n P) next (next_is_below (number - 1) P (up_to_more (max greatest (number - 1)) (number - 1) P (omega arith) upto))
 
-pub up_to_next : (source : Source) (params : LevelParams) (greatest number : ℕ) (P Q : Patterns) → Q ≡ patterns_after (level_made source P (number, params))
+pub up_to_next : (source : Source) (params : LevelParams) (greatest number : ℕ) (P Q : Patterns) → Q ≡ patterns_after (level_trace source P (number, params))
     → IsUpTo (max greatest (number - 1)) P → IsUpTo (max greatest (number + 1 - 1)) Q
 up_to_next source params greatest number P Q is upto =
     subst (λ (R : Patterns). IsUpTo (max greatest (number + 1 - 1)) R) (sym is)

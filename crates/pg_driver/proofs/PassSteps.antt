@@ -20,7 +20,7 @@ use Rattle.pg_driver.specs.Inside.Choosing.{HasChosen, candidate_of, no_choices,
 use Rattle.pg_driver.specs.Inside.Counting.{meaning_after_counting}
 use Rattle.pg_driver.specs.Inside.States.{DidPass, made_by, state_of, state_after}
 use Rattle.pg_driver.specs.Inside.RunAccounts.{layout_told, line_of}
-use Rattle.pg_driver.specs.Traces.{PassTrace, Source, over}
+use Rattle.pg_driver.specs.Traces.{PassTrace, Source, source_of}
 use Rattle.pg_driver.specs.Inside.Fates.{chosen_of, hopeless_of}
 use Rattle.pg_driver.proofs.ChoiceSteps.{state_with}
 use Rattle.pg_driver.proofs.Numbers.{zero_plus}
@@ -35,7 +35,7 @@ counted_pass t words pass m = meaning_after_counting (after_begin_pass m pass.le
 
 -- the pass, and its candidates
 abbrev pub pass_in : Alphabet → List Word → LevelParams → Pass → Meaning → PassTrace
-pass_in t words params pass m = made_by (over t words) params m pass
+pass_in t words params pass m = made_by (source_of t words) params m pass
 
 pub counts_are : (t : Alphabet) (words : List Word) (params : LevelParams) (pass : Pass) (m m2 : Meaning) → m2 ≡ counted_pass t words pass m
     → map candidate_of m2.counts ≡ (pass_in t words params pass m).candidates
@@ -96,12 +96,12 @@ begun_kept params cs old new has = ap (λ (x : Meaning). x.begun) has.kept
 
 -- a pass that an engine counted and chose among
 pub did_pass : (t : Alphabet) (words : List Word) (params : LevelParams) (pass : Pass) (m m2 n : Meaning) (before : Totals) (numbers : Choices) (layout : Option Layout)
-    → m2 ≡ counted_pass t words pass m → before ≡ totals_by (over t words) m.patterns → HasChosen params (map candidate_of m2.counts) m2 n → numbers
+    → m2 ≡ counted_pass t words pass m → before ≡ totals_by (source_of t words) m.patterns → HasChosen params (map candidate_of m2.counts) m2 n → numbers
     ≡ with_candidates params no_choices (map candidate_of m2.counts) → IsLayout n layout
-    → DidPass (over t words) params pass m n (record_with pass before numbers layout)
+    → DidPass (source_of t words) params pass m n (record_with pass before numbers layout)
 did_pass t words params pass m m2 n before numbers layout counted totals has chosen tells = record {
   state = pass_state t words params pass m m2 n counted has;
-  line = line_is (over t words) params pass m before numbers layout totals (chosen ∙ ap (λ (cs : List Candidate). with_candidates params no_choices cs) (counts_are t words params pass m m2 counted));
+  line = line_is (source_of t words) params pass m before numbers layout totals (chosen ∙ ap (λ (cs : List Candidate). with_candidates params no_choices cs) (counts_are t words params pass m m2 counted));
   layout = layout_is pass before numbers n layout tells;
   begun = begun_kept params (map candidate_of m2.counts) m2 n has ∙ ap (λ (x : Meaning). x.begun) counted;
 }

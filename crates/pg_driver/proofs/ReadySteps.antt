@@ -27,7 +27,7 @@ use Rattle.pg_driver.specs.Inside.OpenSigns.{IsThere, is_open_first, open_word_p
 use Rattle.pg_driver.specs.Inside.OpenPositions.{counted_of}
 use Rattle.pg_driver.specs.Inside.Sound.{IsSmall}
 use Rattle.pg_driver.specs.Inside.RunAccounts.{known_of}
-use Rattle.pg_driver.specs.Traces.{Known, PassTrace, Source, chosen_in, known_after, pass_made}
+use Rattle.pg_driver.specs.Traces.{Known, PassTrace, Source, chosen_in, known_after, pass_trace}
 use Rattle.pg_driver.proofs.CarriedTotals.{carried_same, carried_small, carried_within, totals_are_small}
 use Rattle.pg_driver.proofs.Numbers.{zero_plus}
 use Rattle.pg_driver.proofs.OpenCounted.{counted_there, few_there}
@@ -109,7 +109,7 @@ placed source level len known (EachWord e) counted ready = words_placed source l
 -- after a pass
 module _ (source : Source) (params : LevelParams) (known : Known) (pass : Pass) (n : Choices) where
   abbrev made : PassTrace
-  made = pass_made source params known pass
+  made = pass_trace source params known pass
 
   -- the numbers of its choices
   pub record AreOf : Type 0 where

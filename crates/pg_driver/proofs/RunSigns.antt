@@ -25,7 +25,7 @@ use Rattle.pg_select.proofs.LawsRaised.{all_kept}
 use Rattle.pg_select.proofs.LawsTally.{counted_as}
 use Rattle.pg_driver.specs.Inside.Passes.{known_at_end}
 use Rattle.pg_driver.specs.Inside.RunAccounts.{patterns_from}
-use Rattle.pg_driver.specs.Traces.{Known, Source, at_start, chosen_in, final_patterns, is_chosen, known_after, level_made, levels_made, over, pass_made, passes_made, passes_of, patterns_after}
+use Rattle.pg_driver.specs.Traces.{Known, Source, at_start, chosen_in, final_patterns, is_chosen, known_after, level_trace, level_traces, source_of, pass_trace, pass_traces, passes_of, patterns_after}
 
 -- the signs of a string are at most n
 abbrev is_low : ℕ → List ℕ → Bool
@@ -82,7 +82,7 @@ abbrev low_candidates : ℕ → List Candidate → Bool
 low_candidates n cs = list_all (λ (c : Candidate). is_low n c.window) cs
 
 module _ (n : ℕ) (source : Source) (params : LevelParams) (words : SignsAtMost n source.words) where
-  low_chosen : (known : Known) (pass : Pass) → low_candidates n (chosen_in (pass_made source params known pass)) ≡ true
+  low_chosen : (known : Known) (pass : Pass) → low_candidates n (chosen_in (pass_trace source params known pass)) ≡ true
   low_chosen known pass =
       let seen : List CountedPosition = counted_positions source.minima source.words pass known.patterns known.hopeless in
       all_kept (λ (c : Candidate). is_low n c.window) (is_chosen params) (tally seen)
@@ -97,20 +97,20 @@ module _ (n : ℕ) (source : Source) (params : LevelParams) (words : SignsAtMost
       low_raised level dot (raise P (c.window, dot) level) cs parts.1 (all_put (λ (e : (List ℕ × ℕ) × ℕ). is_low n e.0.0) (c.window, dot) (max level (value_of P (c.window, dot))) P parts.0 low)
 
   -- through the passes of a level
-  low_passes : (known : Known) (passes : List Pass) → are_low n known.patterns ≡ true → are_low n (known_at_end known (passes_made source params known passes)).patterns ≡ true
+  low_passes : (known : Known) (passes : List Pass) → are_low n known.patterns ≡ true → are_low n (known_at_end known (pass_traces source params known passes)).patterns ≡ true
   low_passes known [] low = low
   low_passes known (pass ∷ passes) low =
-      let made = pass_made source params known pass in
+      let made = pass_trace source params known pass in
       low_passes (known_after made) passes (low_raised pass.level pass.dot known.patterns (chosen_in made) (low_chosen known pass) low)
 
 -- and through the levels
 low_levels : (n : ℕ) (source : Source) (words : SignsAtMost n source.words) (P : Patterns) (levels : List (ℕ × LevelParams)) → are_low n P ≡ true
-    → are_low n (final_patterns P (levels_made source P levels)) ≡ true
+    → are_low n (final_patterns P (level_traces source P levels)) ≡ true
 low_levels n source words P [] low = low
 low_levels n source words P (level ∷ levels) low =
-    low_levels n source words (patterns_after (level_made source P level)) levels (low_passes n source level.1 words (at_start P) (passes_of level.0 level.1) low)
+    low_levels n source words (patterns_after (level_trace source P level)) levels (low_passes n source level.1 words (at_start P) (passes_of level.0 level.1) low)
 
 -- the signs of the patterns at the end are at most n, where those of the words and of the start are
 pub run_signs : (n : ℕ) (t : Alphabet) (words : List Word) (parameters : Parameters) (m : Meaning) → SignsAtMost n words → SignsUpTo n m.patterns → SignsUpTo n (patterns_from t words parameters m)
 run_signs n t words parameters m all start =
-    patterns_tell n (patterns_from t words parameters m) (low_levels n (over t words) all m.patterns (enumerate_from parameters.start parameters.levels) (patterns_low n m.patterns start))
+    patterns_tell n (patterns_from t words parameters m) (low_levels n (source_of t words) all m.patterns (enumerate_from parameters.start parameters.levels) (patterns_low n m.patterns start))

@@ -22,7 +22,7 @@ use Rattle.pg_driver.specs.Inside.RunAccounts.{final_families, known_of, layout_
 use Rattle.pg_driver.specs.Inside.Levels.{AreRecorded, DidLevel, DidRun, all_made_by, layouts_in, level_layouts, run_layouts}
 use Rattle.pg_driver.specs.Inside.Sound.{Recorded, with_level}
 use Rattle.pg_driver.specs.Inside.States.{State, state_at_end, state_of}
-use Rattle.pg_driver.specs.Traces.{Known, LevelTrace, PassTrace, Source, Trace, at_start, final_patterns, level_made, levels_made, passes_made, passes_of, patterns_after}
+use Rattle.pg_driver.specs.Traces.{Known, LevelTrace, PassTrace, Source, Trace, at_start, final_patterns, level_trace, level_traces, pass_traces, passes_of, patterns_after}
 use Rattle.pg_driver.specs.Inside.Passes.{known_at_end}
 use Rattle.pg_driver.proofs.Numbers.{plus_zero, zero_plus}
 use Rattle.pg_driver.proofs.WordSteps.{drop_place}
@@ -57,18 +57,18 @@ both_maps signs number l P (Some fs) same patterns = λ i. let p : ℕ × Layout
 
 module _ (source : Source) (number : ℕ) (params : LevelParams) (m0 m n : Meaning) (r0 r s : Recorded) (totals : Totals) (layout : Option Layout) (none : m0.hopeless ≡ []) where
   abbrev level : LevelTrace
-  level = level_made source m0.patterns (number, params)
+  level = level_trace source m0.patterns (number, params)
 
   -- the passes of the level
   abbrev passes : List PassTrace
   passes = all_made_by source params m0 (passes_of number params)
 
   same_passes : passes ≡ level.passes
-  same_passes = ap (λ (H : HopelessPlaces). passes_made source params (record { patterns = m0.patterns; hopeless = H }) (passes_of number params)) none
+  same_passes = ap (λ (H : HopelessPlaces). pass_traces source params (record { patterns = m0.patterns; hopeless = H }) (passes_of number params)) none
 
   same_known : known_at_end (known_of m0) passes ≡ known_at_end (at_start m0.patterns) level.passes
   same_known = ap (λ (H : HopelessPlaces). known_at_end (record { patterns = m0.patterns; hopeless = H })
-      (passes_made source params (record { patterns = m0.patterns; hopeless = H }) (passes_of number params))) none
+      (pass_traces source params (record { patterns = m0.patterns; hopeless = H }) (passes_of number params))) none
 
   patterns_end : state_of m ≡ state_at_end m0.signs (state_of m0) passes → m.patterns ≡ patterns_after level
   patterns_end state = ap (λ (x : State). x.known.patterns) state ∙ ap (λ (k : Known). k.patterns) same_known
@@ -218,28 +218,28 @@ run_begins source m r none is = record {
 pub record RunReaches (source : Source) (m0 m : Meaning) (r : Recorded) (rest : List (ℕ × LevelParams)) (whole : Trace) : Type 0 where
   pub done : Trace
   pub did : DidRun source done m0 m r
-  pub left : done ++ levels_made source m.patterns rest ≡ whole
+  pub left : done ++ level_traces source m.patterns rest ≡ whole
 
 -- a level of those that are left
 pub level_on : (source : Source) (m0 m n : Meaning) (r s : Recorded) (level : ℕ × LevelParams) (levels rest : List (ℕ × LevelParams)) (whole : Trace)
-    → m.signs ≡ m0.signs → levels ≡ level ∷ rest → DidLevel source (level_made source m.patterns level) m n r s
+    → m.signs ≡ m0.signs → levels ≡ level ∷ rest → DidLevel source (level_trace source m.patterns level) m n r s
     → RunReaches source m0 m r levels whole → RunReaches source m0 n s rest whole
 level_on source m0 m n r s level levels rest whole signs first did before =
-    let l : LevelTrace = level_made source m.patterns level in
+    let l : LevelTrace = level_trace source m.patterns level in
     record {
       done = before.done ++ l ∷ [];
       did = run_push source before.done l m0 m n r s signs before.did did;
       left =
-          append_assoc before.done (l ∷ []) (levels_made source n.patterns rest)
-          ∙ ap (λ (x : State). before.done ++ l ∷ levels_made source x.known.patterns rest) did.state
-          ∙ ap (λ (ls : List (ℕ × LevelParams)). before.done ++ levels_made source m.patterns ls) (sym first)
+          append_assoc before.done (l ∷ []) (level_traces source n.patterns rest)
+          ∙ ap (λ (x : State). before.done ++ l ∷ level_traces source x.known.patterns rest) did.state
+          ∙ ap (λ (ls : List (ℕ × LevelParams)). before.done ++ level_traces source m.patterns ls) (sym first)
           ∙ before.left;
     }
 
 pub run_whole : (source : Source) (m0 m : Meaning) (r : Recorded) (rest : List (ℕ × LevelParams)) (whole : Trace) → rest ≡ [] → RunReaches source m0 m r rest whole → DidRun source whole m0 m r
 run_whole source m0 m r rest whole none reaches =
     subst (λ (run : Trace). DidRun source run m0 m r)
-    (sym (append-nil reaches.done) ∙ ap (λ (ls : List (ℕ × LevelParams)). reaches.done ++ levels_made source m.patterns ls) (sym none) ∙ reaches.left)
+    (sym (append-nil reaches.done) ∙ ap (λ (ls : List (ℕ × LevelParams)). reaches.done ++ level_traces source m.patterns ls) (sym none) ∙ reaches.left)
     reaches.did
 
 pub no_levels : (start i : ℕ) (levels : List LevelParams) → length levels ≤ i → enumerate_from (start + i) (drop i levels) ≡ []

@@ -4,7 +4,7 @@ use Rattle.std.proofs.lemmas.Bool.Decides.{nat_tests}
 use Rattle.pg_types.specs.declared.parameters.LevelParams.{LevelParams}
 use Rattle.pg_driver.specs.Inside.AccountLines.{is_skippable, left_none}
 use Rattle.pg_driver.specs.Inside.Levels.{SkipFlags, Tells, is_set, no_flags}
-use Rattle.pg_driver.specs.Traces.{Known, PassTrace, Source, pass_made}
+use Rattle.pg_driver.specs.Traces.{Known, PassTrace, Source, pass_trace}
 use Rattle.pg_driver.proofs.TraceSteps.{skippable_push}
 
 unset_at : (n i : ℕ) → get_or (replicate n false) i false ≡ false
@@ -45,10 +45,10 @@ Follows dot b old new = (d : ℕ) → is_set new.longer d ≡ (b && (dot == d ||
 
 -- after a pass of the length
 pub tells_more : (number len dot : ℕ) (source : Source) (params : LevelParams) (known : Known) (old new : SkipFlags) (ps : List PassTrace) → Tells number len old ps → new.here ≡ old.here
-    → Follows dot (left_none (pass_made source params known (record { level = number; len = len; dot = dot }))) old new
-    → Tells number len new (ps ++ pass_made source params known (record { level = number; len = len; dot = dot }) ∷ [])
+    → Follows dot (left_none (pass_trace source params known (record { level = number; len = len; dot = dot }))) old new
+    → Tells number len new (ps ++ pass_trace source params known (record { level = number; len = len; dot = dot }) ∷ [])
 tells_more number len dot source params known old new ps tells here longer =
-    let q : PassTrace = pass_made source params known (record { level = number; len = len; dot = dot }) in
+    let q : PassTrace = pass_trace source params known (record { level = number; len = len; dot = dot }) in
     let b : Bool = left_none q in
     record {
       here = λ d.

@@ -14,7 +14,7 @@ use Rattle.pg_select.proofs.LawsLonger.{closed_behind, closed_before}
 use Rattle.pg_select.proofs.LawsClosed.{closed_at_end, later_after_pass}
 use Rattle.pg_driver.specs.Inside.AccountLines.{is_skippable, left_none}
 use Rattle.pg_driver.specs.Inside.Levels.{CountNothing}
-use Rattle.pg_driver.specs.Traces.{Known, PassTrace, Source, is_chosen, is_hopeless, is_entered, known_after, pass_made}
+use Rattle.pg_driver.specs.Traces.{Known, PassTrace, Source, is_chosen, is_hopeless, is_entered, known_after, pass_trace}
 use Rattle.pg_driver.specs.Inside.Fates.{chosen_of, hopeless_of}
 use Rattle.pg_driver.proofs.FateLaws.{by_fate}
 use Rattle.pg_driver.proofs.TraceSteps.{skippable_push}
@@ -50,11 +50,11 @@ module _ (m : Minima) (words : List Word) (P : List ((List ℕ × ℕ) × ℕ)) 
 
 -- each pass that can be skipped counts nothing, after a pass too
 pub closed_on : (source : Source) (params : LevelParams) (number l d : ℕ) (known : Known) (ps : List PassTrace) → CountNothing source number ps known
-    → CountNothing source number (ps ++ pass_made source params known (record { level = number; len = l; dot = d }) ∷ [])
-    (known_after (pass_made source params known (record { level = number; len = l; dot = d })))
+    → CountNothing source number (ps ++ pass_trace source params known (record { level = number; len = l; dot = d }) ∷ [])
+    (known_after (pass_trace source params known (record { level = number; len = l; dot = d })))
 closed_on source params number l d known ps closed len dot is =
     let pass : Pass = record { level = number; len = l; dot = d } in
-    let q : PassTrace = pass_made source params known pass in
+    let q : PassTrace = pass_trace source params known pass in
     let after : Known = known_after q in
     let none : Bool = left_none q in
     ⊎_elim
@@ -72,7 +72,7 @@ closed_on source params number l d known ps closed len dot is =
 -- so it has no candidate
 pub skipped_none : (source : Source) (params : LevelParams) (number len dot : ℕ) (known : Known) (ps : List PassTrace) → CountNothing source number ps known
     → is_skippable ps (record { level = number; len = len; dot = dot }) ≡ true
-    → (pass_made source params known (record { level = number; len = len; dot = dot })).candidates ≡ []
+    → (pass_trace source params known (record { level = number; len = len; dot = dot })).candidates ≡ []
 skipped_none source params number len dot known ps closed is = ap tally (closed len dot is)
 
 -- what became of candidates tells whether one was left

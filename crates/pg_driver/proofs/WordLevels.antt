@@ -33,7 +33,7 @@ use Rattle.pg_driver.specs.Inside.LevelCounting.{CanMove, Carries, IsAfterWords}
 use Rattle.pg_driver.specs.Inside.OpenLevels.{listed_from, listed_in, open_as}
 use Rattle.pg_driver.specs.Inside.OpenPositions.{IsPlaced, counted_in, counted_of, open_with}
 use Rattle.pg_driver.specs.Inside.Sound.{IsSmall}
-use Rattle.pg_driver.specs.Traces.{Known, PassTrace, Source, chosen_in, is_chosen, known_after, pass_made}
+use Rattle.pg_driver.specs.Traces.{Known, PassTrace, Source, chosen_in, is_chosen, known_after, pass_trace}
 use Rattle.pg_driver.specs.Inside.Fates.{chooses}
 use Rattle.pg_driver.proofs.FateLaws.{chosen_is as chosen_by_fate}
 use Rattle.pg_driver.specs.Inside.WordLevels.{IsWordsAt, kept_by, listing, was_chosen}
@@ -149,7 +149,7 @@ chosen_is params counts counted u are =
 -- after a pass
 module _ (source : Source) (params : LevelParams) (known : Known) (pass : Pass) (n : Choices) where
   abbrev made : PassTrace
-  made = pass_made source params known pass
+  made = pass_trace source params known pass
 
   abbrev chosen : Candidate → Bool
   chosen c = is_chosen params c

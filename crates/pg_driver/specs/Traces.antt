@@ -21,8 +21,8 @@ pub record Source : Type 0 where
   pub words : List Word
 
 -- the source of a run over these words, with the minima of a table
-abbrev pub over : Alphabet → List Word → Source
-over t words = record { minima = minima_of t; words = words }
+abbrev pub source_of : Alphabet → List Word → Source
+source_of t words = record { minima = minima_of t; words = words }
 
 -- what is known at a moment: the patterns so far, and the dotted strings that are hopeless now
 pub record Known : Type 0 where
@@ -76,16 +76,16 @@ known_after p = record {
 }
 
 -- a pass that is made when this is known
-abbrev pub pass_made : Source → LevelParams → Known → Pass → PassTrace
-pass_made source params known pass =
+abbrev pub pass_trace : Source → LevelParams → Known → Pass → PassTrace
+pass_trace source params known pass =
     let counted = counted_positions source.minima source.words pass known.patterns known.hopeless in
     record { pass = pass; params = params; before = known; candidates = tally counted }
 
 -- passes that are made one after the other: each begins with what is known after the one before it
-abbrev pub passes_made : Source → LevelParams → Known → List Pass → List PassTrace
-passes_made source params known [] = []
-passes_made source params known (pass ∷ passes) = let p = pass_made source params known pass in
-    p ∷ passes_made source params (known_after p) passes
+abbrev pub pass_traces : Source → LevelParams → Known → List Pass → List PassTrace
+pass_traces source params known [] = []
+pass_traces source params known (pass ∷ passes) = let p = pass_trace source params known pass in
+    p ∷ pass_traces source params (known_after p) passes
 
 -- the passes of a level in their order: those of each length, and of a length each dot in its order
 abbrev pub passes_of : ℕ → LevelParams → List Pass
@@ -98,9 +98,9 @@ abbrev pub at_start : Patterns → Known
 at_start P = record { patterns = P; hopeless = [] }
 
 -- a level that is made when these are the patterns
-abbrev pub level_made : Source → Patterns → ℕ × LevelParams → LevelTrace
-level_made source P level =
-    let passes = passes_made source level.1 (at_start P) (passes_of level.0 level.1) in
+abbrev pub level_trace : Source → Patterns → ℕ × LevelParams → LevelTrace
+level_trace source P level =
+    let passes = pass_traces source level.1 (at_start P) (passes_of level.0 level.1) in
     record { number = level.0; before = P; passes = passes }
 
 -- the patterns after a level: those known after its last pass, or else those before it
@@ -108,14 +108,15 @@ abbrev pub patterns_after : LevelTrace → Patterns
 patterns_after l = (last_else (at_start l.before) (map known_after l.passes)).patterns
 
 -- levels that are made one after the other: each begins with the patterns after the one before it
-abbrev pub levels_made : Source → Patterns → List (ℕ × LevelParams) → Trace
-levels_made source P [] = []
-levels_made source P (level ∷ levels) = let l = level_made source P level in
-    l ∷ levels_made source (patterns_after l) levels
+abbrev pub level_traces : Source → Patterns → List (ℕ × LevelParams) → Trace
+level_traces source P [] = []
+level_traces source P (level ∷ levels) = let l = level_trace source P level in
+    l ∷ level_traces source (patterns_after l) levels
 
 -- the trace of the run from starting patterns: one level for each of the parameters
 abbrev pub trace : Source → Parameters → Patterns → Trace
-trace source parameters S = levels_made source S (enumerate_from parameters.start parameters.levels)
+trace source parameters S =
+    level_traces source S (enumerate_from parameters.start parameters.levels)
 
 -- the patterns at the end of a run from S: those after its last level, or else S
 abbrev pub final_patterns : Patterns → Trace → Patterns

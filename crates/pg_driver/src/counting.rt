@@ -8,7 +8,7 @@ ghost use Rattle.pg_driver.specs.Inside.LevelCounting.{AreNumberedIn, ArePlaced,
 ghost use Rattle.pg_driver.specs.Inside.PassWindows.{AreFates};
 ghost use Rattle.pg_driver.specs.Inside.States.{HasBegun, IsPass};
 ghost use Rattle.pg_driver.specs.Inside.RunAccounts.{known_of};
-ghost use Rattle.pg_driver.specs.Traces.{Known, Source, over};
+ghost use Rattle.pg_driver.specs.Traces.{Known, Source, source_of};
 
 mod above_positions;
 mod carried_totals;
@@ -56,7 +56,7 @@ impl Counting {
         requires hopeless { (E.meaning engine.now).hopeless ≡ [] }
         requires below { greatest < level → IsBelow level (E.meaning engine.now).patterns }
         ensures ready { IfOk result (λ counting. (len : ℕ)
-            → IsReady (over table.now dictionary.now) level len
+            → IsReady (source_of table.now dictionary.now) level len
             (known_of (E.meaning engine.now)) counting) }
         ensures form { IfOk result (λ counting. greatest < level → IsOverOpen counting) }
     {
@@ -78,11 +78,11 @@ impl Counting {
         windows: &mut PassWindows,
     ) -> Result<Totals, AllocError>
         requires begun { HasBegun pass dictionary.now (E.meaning engine.old) }
-        requires ready { IsReady (over table.now dictionary.now) pass.level pass.len
+        requires ready { IsReady (source_of table.now dictionary.now) pass.level pass.len
             (known_of (E.meaning engine.old)) self.old }
-        ensures did { IfOk result (DidCount (over table.now dictionary.now) pass
+        ensures did { IfOk result (DidCount (source_of table.now dictionary.now) pass
             (E.meaning engine.old) (E.meaning engine.new)) }
-        ensures ready { OnOk result (IsReady (over table.now dictionary.now) pass.level pass.len
+        ensures ready { OnOk result (IsReady (source_of table.now dictionary.now) pass.level pass.len
             (known_of (E.meaning engine.old)) self.new) }
         ensures counted { OnOk result (IsCounted self.new) }
         ensures numbers { OnOk result

@@ -11,7 +11,7 @@ ghost use Rattle.pg_driver.specs.Inside.Sound.{IsSmall, IsSoundPass};
 ghost use Rattle.pg_types.specs.Inside.Limits.{begun_before_pass, length_passes, level_passes};
 ghost use Rattle.pg_driver.specs.Inside.States.{DidPass, IsPass, made_by, state_of, state_at_end};
 ghost use Rattle.pg_driver.specs.Inside.RunAccounts.{known_of};
-ghost use Rattle.pg_driver.specs.Traces.{level_made, passes_of, over};
+ghost use Rattle.pg_driver.specs.Traces.{level_trace, passes_of, source_of};
 ghost use Rattle.pg_driver.specs.Inside.Passes.{passes_of_length};
 
 mod dots;
@@ -44,15 +44,15 @@ fn run_pass<E: Engine>(
     requires level { IsLevel params.now }
     requires begun { (E.meaning engine.old).begun < begun_before_pass }
     requires signs { SignsAtMost (E.meaning engine.old).signs dictionary.now }
-    requires ready { IsReady (over table.now dictionary.now) pass.level pass.len
+    requires ready { IsReady (source_of table.now dictionary.now) pass.level pass.len
         (known_of (E.meaning engine.old))
         counting.old }
     ensures done { IfOk result
-        (DidPass (over table.now dictionary.now) params.now pass (E.meaning engine.old)
+        (DidPass (source_of table.now dictionary.now) params.now pass (E.meaning engine.old)
         (E.meaning engine.new)) }
     ensures sound { IfOk result IsSoundPass }
     ensures few { IfOk result (λ r. r.chosen ≤ FILE_MAX) }
-    ensures ready { OnOk result (IsReady (over table.now dictionary.now) pass.level pass.len
+    ensures ready { OnOk result (IsReady (source_of table.now dictionary.now) pass.level pass.len
         (known_of (E.meaning engine.new)) counting.new) }
     ensures counted { OnOk result (IsCounted counting.new) }
     ensures signs { (E.meaning engine.new).signs ≡ (E.meaning engine.old).signs }
@@ -94,18 +94,18 @@ fn run_or_skip<E: Engine>(
     requires few { records.old.begun < begun_before_pass }
     requires chosen { records.old.chosen + FILE_MAX < begun_before_pass }
     requires signs { SignsAtMost (E.meaning engine.old).signs dictionary.now }
-    requires ready { IsReady (over table.now dictionary.now) pass.level pass.len
+    requires ready { IsReady (source_of table.now dictionary.now) pass.level pass.len
         (known_of (E.meaning engine.old))
         counting.old }
-    ensures ok { OnOk result (GoesOn (over table.now dictionary.now) pass.level pass.len
-        (made_by (over table.now dictionary.now) params.now (E.meaning engine.old) pass ∷ [])
+    ensures ok { OnOk result (GoesOn (source_of table.now dictionary.now) pass.level pass.len
+        (made_by (source_of table.now dictionary.now) params.now (E.meaning engine.old) pass ∷ [])
         (point (E.meaning engine.old) records.old skippable.old)
         (point (E.meaning engine.new) records.new skippable.new)) }
     ensures begun { OnOk result
         (BeganAll (E.meaning engine.old) (E.meaning engine.new) records.old records.new) }
     ensures few { OnOk result (records.new.begun ≤ records.old.begun + 1) }
     ensures chosen { OnOk result (records.new.chosen ≤ records.old.chosen + FILE_MAX) }
-    ensures ready { OnOk result (IsReady (over table.now dictionary.now) pass.level pass.len
+    ensures ready { OnOk result (IsReady (source_of table.now dictionary.now) pass.level pass.len
         (known_of (E.meaning engine.new)) counting.new) }
     ensures here { skippable.new.here ≡ skippable.old.here }
     ensures counted { OnOk result
@@ -142,12 +142,12 @@ fn run_length<E: Engine>(
     requires few { records.old.begun + length_passes < begun_before_pass }
     requires chosen { records.old.chosen + length_passes * FILE_MAX < begun_before_pass }
     requires signs { SignsAtMost (E.meaning engine.old).signs dictionary.now }
-    requires ready { IsReady (over table.now dictionary.now) number len
+    requires ready { IsReady (source_of table.now dictionary.now) number len
         (known_of (E.meaning engine.old))
         counting.old }
     requires counts { WillCount skippable.old counting.old }
-    ensures ok { OnOk result (GoesOn (over table.now dictionary.now) number len
-        (all_made_by (over table.now dictionary.now) params.now (E.meaning engine.old)
+    ensures ok { OnOk result (GoesOn (source_of table.now dictionary.now) number len
+        (all_made_by (source_of table.now dictionary.now) params.now (E.meaning engine.old)
         (passes_of_length number len)) (point (E.meaning engine.old) records.old skippable.old)
         (point (E.meaning engine.new) records.new skippable.new)) }
     ensures begun { OnOk result
@@ -155,7 +155,7 @@ fn run_length<E: Engine>(
     ensures few { OnOk result (records.new.begun ≤ records.old.begun + length_passes) }
     ensures chosen { OnOk result
         (records.new.chosen ≤ records.old.chosen + length_passes * FILE_MAX) }
-    ensures ready { OnOk result (IsReady (over table.now dictionary.now) number len
+    ensures ready { OnOk result (IsReady (source_of table.now dictionary.now) number len
         (known_of (E.meaning engine.new)) counting.new) }
     ensures counted { OnOk result (IsCounted counting.new) }
     ensures signs { (E.meaning engine.new).signs ≡ (E.meaning engine.old).signs }
@@ -191,22 +191,22 @@ fn run_lengths<E: Engine>(
     requires few { records.old.begun + level_passes < begun_before_pass }
     requires chosen { records.old.chosen ≡ 0 }
     requires signs { SignsAtMost (E.meaning engine.old).signs dictionary.now }
-    requires ready { (len : ℕ) → IsReady (over table.now dictionary.now) number len
+    requires ready { (len : ℕ) → IsReady (source_of table.now dictionary.now) number len
         (known_of (E.meaning engine.old)) counting.old }
     ensures state { OnOk result (state_of (E.meaning engine.new)
         ≡ state_at_end (E.meaning engine.old).signs (state_of (E.meaning engine.old))
-        (all_made_by (over table.now dictionary.now) params.now (E.meaning engine.old)
+        (all_made_by (source_of table.now dictionary.now) params.now (E.meaning engine.old)
         (passes_of number params.now))) }
     ensures records { OnOk result
-        (AreRecorded (over table.now dictionary.now) (E.meaning engine.old).signs
+        (AreRecorded (source_of table.now dictionary.now) (E.meaning engine.old).signs
         (E.meaning engine.old).families
-        (all_made_by (over table.now dictionary.now) params.now (E.meaning engine.old)
+        (all_made_by (source_of table.now dictionary.now) params.now (E.meaning engine.old)
         (passes_of number params.now)) records.old records.new) }
     ensures begun { OnOk result
         (BeganAll (E.meaning engine.old) (E.meaning engine.new) records.old records.new) }
     ensures few { OnOk result (records.new.begun ≤ records.old.begun + level_passes) }
     ensures ready { OnOk result
-        (TellsTotals (over table.now dictionary.now) (E.meaning engine.new).patterns
+        (TellsTotals (source_of table.now dictionary.now) (E.meaning engine.new).patterns
         counting.new) }
     ensures signs { (E.meaning engine.new).signs ≡ (E.meaning engine.old).signs }
 {
@@ -252,12 +252,12 @@ pub fn run_level<E: Engine>(
     requires chosen { records.old.chosen ≡ 0 }
     requires signs { SignsAtMost (E.meaning engine.old).signs dictionary.now }
     requires below { greatest < number → IsBelow number (E.meaning engine.old).patterns }
-    ensures done { OnOk result (DidLevel (over table.now dictionary.now)
-        (level_made (over table.now dictionary.now)
+    ensures done { OnOk result (DidLevel (source_of table.now dictionary.now)
+        (level_trace (source_of table.now dictionary.now)
         (E.meaning engine.old).patterns (number, params.now))
         (E.meaning engine.old) (E.meaning engine.new) records.old records.new) }
     ensures totals { IfOk result (λ after. after
-        ≡ totals_by (over table.now dictionary.now) (E.meaning engine.new).patterns) }
+        ≡ totals_by (source_of table.now dictionary.now) (E.meaning engine.new).patterns) }
     ensures small { IfOk result IsSmall }
     ensures tidy { OnOk result ((E.meaning engine.new).tidy ≡ true) }
     ensures begun { OnOk result

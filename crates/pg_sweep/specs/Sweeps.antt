@@ -8,7 +8,7 @@ use Rattle.pg_dict.specs.Word.{Word}
 use Rattle.pg_dict.specs.Parts.{part_of}
 use Rattle.pg_select.specs.Windows.{Patterns}
 use Rattle.pg_driver.specs.Accounts.{totals_by}
-use Rattle.pg_driver.specs.Traces.{trace, final_patterns, over}
+use Rattle.pg_driver.specs.Traces.{trace, final_patterns, source_of}
 use Rattle.pg_sweep.specs.declared.rows.SweepRow.{SweepRow}
 
 -- what the runs of a sweep share: the table, the words, the starting patterns, the number of folds
@@ -20,8 +20,9 @@ pub record Terms : Type 0 where
 
 -- the totals of a fold by the patterns that are selected from all other words
 abbrev pub fold_totals : Terms → Parameters → ℕ → Totals
-fold_totals s set fold = totals_by (over s.table (part_of s.folds fold true s.words))
-    (final_patterns s.start (trace (over s.table (part_of s.folds fold false s.words)) set s.start))
+fold_totals s set fold = totals_by (source_of s.table (part_of s.folds fold true s.words))
+    (final_patterns s.start
+    (trace (source_of s.table (part_of s.folds fold false s.words)) set s.start))
 
 -- the sums of several totals
 abbrev pub total_of : List Totals → Totals

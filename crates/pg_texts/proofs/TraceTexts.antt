@@ -15,7 +15,7 @@ use Rattle.pg_driver.specs.Dots.{order}
 use Rattle.pg_driver.specs.Inside.AccountLines.{PassLine, account, chosen_by, level_line, pass_line, pass_lines}
 use Rattle.pg_driver.specs.Inside.CellsAccounts.{cells_account, layout_of, level_layout, levels_with_families, pass_layouts, passes_with_families}
 use Rattle.pg_driver.specs.Layouts.{strings_in, after_level, after_pass}
-use Rattle.pg_driver.specs.Traces.{Known, LevelTrace, PassTrace, Source, Trace, at_start, final_patterns, known_after, level_made, levels_made, pass_made, passes_made, passes_of, patterns_after, trace}
+use Rattle.pg_driver.specs.Traces.{Known, LevelTrace, PassTrace, Source, Trace, at_start, final_patterns, known_after, level_trace, level_traces, pass_trace, pass_traces, passes_of, patterns_after, trace}
 use Rattle.pg_texts.specs.Fronts.{level_front, pass_front}
 use Rattle.pg_texts.specs.CellsTexts.{cells_text, layout_text, levels_cells_text, passes_cells_text, used_text}
 use Rattle.pg_texts.specs.ReportTexts.{ending_text, level_text, pass_text, report_text, totals_text, warning_text}
@@ -38,19 +38,19 @@ passes_numbered n (len ∷ lens) =
     (passes_numbered n lens)
 
 made_numbered : (source : Source) (params : LevelParams) (n : ℕ) (known : Known) (qs : List Pass) → All (λ (q : Pass). q.level ≡ n) qs
-    → All (λ (p : PassTrace). p.pass.level ≡ n) (passes_made source params known qs)
+    → All (λ (p : PassTrace). p.pass.level ≡ n) (pass_traces source params known qs)
 made_numbered source params n known [] are = All-nil (λ (p : PassTrace). p.pass.level ≡ n)
 made_numbered source params n known (q ∷ qs) are =
-    let p : PassTrace = pass_made source params known q in
-    All-cons (λ (p : PassTrace). p.pass.level ≡ n) p (passes_made source params (known_after p) qs) (All-head (λ (q : Pass). q.level ≡ n) q qs are)
+    let p : PassTrace = pass_trace source params known q in
+    All-cons (λ (p : PassTrace). p.pass.level ≡ n) p (pass_traces source params (known_after p) qs) (All-head (λ (q : Pass). q.level ≡ n) q qs are)
     (made_numbered source params n (known_after p) qs (All-tail (λ (q : Pass). q.level ≡ n) q qs are))
 
-levels_numbered : (source : Source) (n : ℕ) (P : Patterns) (levels : List LevelParams) → AreNumbered n (levels_made source P (enumerate_from n levels))
+levels_numbered : (source : Source) (n : ℕ) (P : Patterns) (levels : List LevelParams) → AreNumbered n (level_traces source P (enumerate_from n levels))
 levels_numbered source n P [] = tt
 levels_numbered source n P (params ∷ levels) = (
   refl,
   made_numbered source params n (at_start P) (passes_of n params) (passes_numbered n (range_with_len params.pat_start (params.pat_finish + 1 - params.pat_start))),
-  levels_numbered source (n + 1) (patterns_after (level_made source P (n, params))) levels,
+  levels_numbered source (n + 1) (patterns_after (level_trace source P (n, params))) levels,
 )
 
 -- texts that are joined behind others

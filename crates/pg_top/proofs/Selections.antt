@@ -7,7 +7,7 @@ use Rattle.pg_select.specs.Inside.Meanings.{Meaning}
 use Rattle.pg_driver.specs.declared.records.LevelRecord.{LevelRecord}
 use Rattle.pg_driver.specs.Accounts.{begun_count}
 use Rattle.pg_driver.specs.Layouts.{families_at_end}
-use Rattle.pg_driver.specs.Traces.{over}
+use Rattle.pg_driver.specs.Traces.{source_of}
 use Rattle.pg_driver.specs.Inside.CellsAccounts.{CellsAccount, layout_of}
 use Rattle.pg_driver.specs.Inside.Sound.{Finished}
 use Rattle.pg_driver.specs.Inside.RunAccounts.{patterns_from, account_from, begun_from, cells_from, TellsCells, level_layout_told}
@@ -83,11 +83,11 @@ list_selected i P is = ap (λ P. pattmp_text i.table P i.dictionary) is
 
 pub cells_text_selected : (i : Inputs) → account_cells_text (selected_cells i) ≡ selected_cells_text i
 unfolding selection selected_cells selected_cells_from selected_cells_text
-cells_text_selected i = cells_same (over i.table i.dictionary) i.params (signs_of i) i.start
+cells_text_selected i = cells_same (source_of i.table i.dictionary) i.params (signs_of i) i.start
 
 pub report_selected : (i : Inputs) (value : ℕ) (a : Account) → value ≡ largest i.start → a ≡ selected_account i → account_text value i.params a ≡ selected_report i
 unfolding selection selected_account selected_report
-report_selected i value a same is = (λ k. account_text (same k) i.params (is k)) ∙ report_same (over i.table i.dictionary) i.params i.start
+report_selected i value a same is = (λ k. account_text (same k) i.params (is k)) ∙ report_same (source_of i.table i.dictionary) i.params i.start
 
 -- the totals, and the last line of `generate`
 pub totals_selected : (i : Inputs) → (selected_account i).totals ≡ selected_totals i

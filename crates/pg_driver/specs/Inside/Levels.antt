@@ -12,7 +12,7 @@ use Rattle.pg_select.specs.Inside.Laws.{CountsNothing}
 use Rattle.pg_select.specs.Windows.{Patterns}
 use Rattle.pg_driver.specs.declared.counting.Counting.{Counting}
 use Rattle.pg_driver.specs.Inside.LevelCounting.{IsCounted}
-use Rattle.pg_driver.specs.Traces.{Known, Source, PassTrace, LevelTrace, Trace, patterns_after, final_patterns, passes_made, at_start}
+use Rattle.pg_driver.specs.Traces.{Known, Source, PassTrace, LevelTrace, Trace, patterns_after, final_patterns, pass_traces, at_start}
 use Rattle.pg_driver.specs.Inside.Passes.{known_at_end}
 use Rattle.pg_driver.specs.Accounts.{has_candidate, begun_count}
 use Rattle.pg_driver.specs.Inside.AccountLines.{pass_line, pass_lines, chosen_by, level_line, is_skippable, begun_among}
@@ -109,7 +109,7 @@ GoesOn source number len more old new = (start : LevelStart) (ps : List PassTrac
 
 -- the passes that are made from what an engine knows
 abbrev pub all_made_by : Source → LevelParams → Meaning → List Pass → List PassTrace
-all_made_by source params m passes = passes_made source params (known_of m) passes
+all_made_by source params m passes = pass_traces source params (known_of m) passes
 
 -- the state after a level, where these families were told before it: nothing is hopeless
 abbrev pub state_after_level : ℕ → Option Families → LevelTrace → State

@@ -9,7 +9,7 @@ use Rattle.pg_dict.specs.Inside.SoundWords.{SignsAtMost}
 use Rattle.pg_select.specs.Inside.Meanings.{Meaning}
 use Rattle.pg_driver.specs.declared.records.PassRecord.{PassRecord}
 use Rattle.pg_select.specs.declared.pass.Pass.{Pass}
-use Rattle.pg_driver.specs.Traces.{Known, Source, PassTrace, known_after, pass_made}
+use Rattle.pg_driver.specs.Traces.{Known, Source, PassTrace, known_after, pass_trace}
 use Rattle.pg_driver.specs.Inside.Passes.{known_at_end}
 use Rattle.pg_driver.specs.Inside.AccountLines.{pass_line}
 use Rattle.pg_driver.specs.Layouts.{after_pass}
@@ -55,7 +55,7 @@ pub record HasBegun (pass : Pass) (words : List Word) (m : Meaning) : Type 0 whe
 
 -- the pass that is made from what an engine knows
 abbrev pub made_by : Source → LevelParams → Meaning → Pass → PassTrace
-made_by source params m pass = pass_made source params (known_of m) pass
+made_by source params m pass = pass_trace source params (known_of m) pass
 
 -- a pass was done: the engine is as after it, and the record has its line and its layout
 pub record DidPass (source : Source) (params : LevelParams)

@@ -12,7 +12,7 @@ ghost use Rattle.pg_select.specs.Sums.{totals as totals_of_words, marks_in};
 ghost use Rattle.pg_select.specs.Inside.SumSteps.{with_marks, HasRoomFor, TookRoomFor};
 ghost use Rattle.pg_driver.specs.Inside.Counting.{IsBounded};
 ghost use Rattle.pg_driver.specs.Inside.OpenSigns.{is_open_first, sign_count, start_of};
-ghost use Rattle.pg_driver.specs.Traces.{over};
+ghost use Rattle.pg_driver.specs.Traces.{source_of};
 
 use crate::counting::marks::counts_as;
 use pg_dict::{Dictionary, WordRef};
@@ -106,7 +106,7 @@ pub fn open_level<E: Engine>(
         ≡ not (is_open_first (minima_of table.now) level (E.meaning engine.now).patterns w p)) }
     ensures totals { IfOk result (λ opened. opened.totals
         ≡ totals_of_words (minima_of table.now) dictionary.now (E.meaning engine.now).patterns) }
-    ensures bounded { OnOk result (IsBounded (over table.now dictionary.now)) }
+    ensures bounded { OnOk result (IsBounded (source_of table.now dictionary.now)) }
 {
     let count = dictionary.len();
     let signs = dictionary.all_signs();

@@ -4,7 +4,7 @@ ghost use Rattle.pg_types.specs.Inside.NumberedWindows.{AreNumbered};
 ghost use Rattle.pg_driver.specs.Inside.PassWindows.{HaveNumbers, is_counted_at};
 ghost use Rattle.pg_driver.specs.Inside.States.{HasBegun};
 ghost use Rattle.pg_driver.specs.Inside.RunAccounts.{known_of};
-ghost use Rattle.pg_driver.specs.Traces.{over};
+ghost use Rattle.pg_driver.specs.Traces.{source_of};
 ghost use Rattle.pg_select.specs.Statuses.{is_odd};
 ghost use Rattle.pg_driver.specs.Inside.LevelCounting.{CanMove, DidCount, IsAfterWords};
 ghost use Rattle.pg_driver.specs.Inside.WordLevels.{IsWordsAt};
@@ -59,12 +59,12 @@ impl WordLevel {
     ) -> Result<Totals, AllocError>
         requires begun { HasBegun pass dictionary.now (E.meaning engine.old) }
         requires none { numbers.old.items ≡ [] }
-        requires ready { IsWordsAt (over table.now dictionary.now) pass.level
+        requires ready { IsWordsAt (source_of table.now dictionary.now) pass.level
             (known_of (E.meaning engine.old))
             self.old }
-        ensures did { IfOk result (DidCount (over table.now dictionary.now) pass
+        ensures did { IfOk result (DidCount (source_of table.now dictionary.now) pass
             (E.meaning engine.old) (E.meaning engine.new)) }
-        ensures ready { OnOk result (IsWordsAt (over table.now dictionary.now) pass.level
+        ensures ready { OnOk result (IsWordsAt (source_of table.now dictionary.now) pass.level
             (known_of (E.meaning engine.old)) self.new) }
         ensures counted { OnOk result (self.new.is_counted ≡ true) }
         ensures numbers { OnOk result

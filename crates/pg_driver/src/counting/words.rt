@@ -18,7 +18,7 @@ ghost use Rattle.pg_driver.specs.Inside.PassWindows.{GetsNumber, HaveNumbers, No
 ghost use Rattle.pg_driver.specs.Inside.Sound.{IsSmall};
 ghost use Rattle.pg_driver.specs.Inside.States.{HasBegun, IsPass};
 ghost use Rattle.pg_driver.specs.Inside.WordLevels.{listing};
-ghost use Rattle.pg_driver.specs.Traces.{over};
+ghost use Rattle.pg_driver.specs.Traces.{source_of};
 
 use crate::counting::above_positions::{is_above, list_above};
 use crate::counting::marks::{counts_as, fits, window_at};
@@ -207,7 +207,7 @@ pub fn count_words<E: Engine>(
     ensures totals { IfOk result (λ sums. sums
         ≡ totals_of_words (minima_of table.now) dictionary.now (E.meaning engine.old).patterns) }
     ensures small { IfOk result IsSmall }
-    ensures bounded { OnOk result (IsBounded (over table.now dictionary.now)) }
+    ensures bounded { OnOk result (IsBounded (source_of table.now dictionary.now)) }
     ensures above { OnOk result
         (above.new.items ≡ above.old.items ++ listed_from (minima_of table.now)
         (listing lists pass.level (E.meaning engine.old).patterns) 0 dictionary.now) }

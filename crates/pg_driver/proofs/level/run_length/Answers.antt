@@ -2,7 +2,7 @@ use Rattle.std.proofs.Common.{◌≡◌, ℕ, ◌+◌, ◌≤◌, inr, List, [],
 use Rattle.pg_select.specs.declared.pass.Pass.{Pass}
 use Rattle.pg_driver.specs.Inside.Levels.{GoesOn, all_made_by, point}
 use Rattle.pg_driver.specs.Inside.RunAccounts.{known_of}
-use Rattle.pg_driver.specs.Traces.{over}
+use Rattle.pg_driver.specs.Traces.{source_of}
 use Rattle.pg_driver.specs.Inside.Passes.{known_at_end, passes_of_length}
 use Rattle.pg_driver.proofs.LevelSteps.{all_from, at_whole, none_from, pass_with, passes_from, passes_step, reaches_on}
 use Rattle.pg_driver.specs.Dots.{dot_at}
@@ -11,7 +11,7 @@ use Rattle.pg_driver.proofs.level.run_length.Goals as goal
 pub dots-init : goal.dots-init
 dots-init g c =
     let m0 = g.E.Engine.meaning c.args.engine.now in
-    let source = over c.args.table.now c.args.dictionary.now in
+    let source = source_of c.args.table.now c.args.dictionary.now in
     record {
       reaches = λ start ps at. record {
         done = ps;
@@ -39,7 +39,7 @@ dots-preserved g c =
     let number = c.args.number in
     let len = c.args.len in
     let k = c.dots.k in
-    let source = over c.args.table.now c.args.dictionary.now in
+    let source = source_of c.args.table.now c.args.dictionary.now in
     let all = all_made_by source params m0 (passes_of_length number len) in
     let on : GoesOn source number len (all_made_by source params m (pass_with number len (dot_at len k) ∷ [])) (point m c.dots.records c.dots.skippable)
     (point n c.run_or_skip.new.records c.run_or_skip.new.skippable) =
@@ -66,7 +66,7 @@ returns-clause-ok g c = λ start ps at.
     let m0 = g.E.Engine.meaning c.args.engine.now in
     let number = c.args.number in
     let len = c.args.len in
-    let source = over c.args.table.now c.args.dictionary.now in
+    let source = source_of c.args.table.now c.args.dictionary.now in
     let all = all_made_by source c.args.params.now m0 (passes_of_length number len) in
     let ends : c.dots.k ≡ len + 1 = omega arith in
     let none : passes_from number len c.dots.k (len + 1) ≡ [] = ap (λ k. passes_from number len k (len + 1)) ends ∙ none_from number len (len + 1) in

@@ -2,7 +2,7 @@ use Rattle.std.proofs.Common.{◌≡◌, ◌+◌, ◌*◌, ◌^◌, ◌≤◌, �
 use Rattle.pg_driver.specs.Inside.LevelCounting.{IsCounted, IsReady}
 use Rattle.pg_driver.specs.Inside.Levels.{IsAt, LevelStart, WillCount, all_made_by, point}
 use Rattle.pg_driver.specs.Inside.RunAccounts.{known_of}
-use Rattle.pg_driver.specs.Traces.{PassTrace, over}
+use Rattle.pg_driver.specs.Traces.{PassTrace, source_of}
 use Rattle.pg_driver.specs.Inside.Passes.{known_at_end, passes_of_length}
 use Rattle.pg_driver.proofs.LevelSteps.{Reaches, passes_from}
 use Rattle.pg_driver.proofs.level.run_length.Given as goal
@@ -11,7 +11,7 @@ abbrev pub invariant-dots : goal.invariant-dots
 invariant-dots g l =
     let m0 = g.E.Engine.meaning l.fn.engine in
     let m = g.E.Engine.meaning l.engine in
-    let source = over l.table l.dictionary in
+    let source = source_of l.table l.dictionary in
     let all = all_made_by source l.params m0 (passes_of_length l.number l.len) in
     record {
       reaches : (start : LevelStart) (ps : List PassTrace) → IsAt source l.number l.len start ps (point m0 l.fn.records l.fn.skippable)

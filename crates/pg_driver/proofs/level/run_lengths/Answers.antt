@@ -1,7 +1,7 @@
 use Rattle.std.proofs.Common.{◌≡◌, ◌+◌, ◌<◌, inl, inr, [], refl, ap, ◌∙◌, arith}
 use Rattle.pg_driver.specs.Inside.Levels.{LevelStart, all_made_by}
 use Rattle.pg_driver.specs.Inside.RunAccounts.{known_of}
-use Rattle.pg_driver.specs.Traces.{passes_of, over}
+use Rattle.pg_driver.specs.Traces.{passes_of, source_of}
 use Rattle.pg_driver.specs.Inside.Passes.{known_at_end, passes_of_length}
 use Rattle.pg_driver.proofs.LevelSteps.{at_level_start, at_next, at_whole, lengths_from, lengths_step, no_lengths, reaches_on}
 use Rattle.pg_driver.proofs.ReadySteps.{tells_totals}
@@ -10,7 +10,7 @@ use Rattle.pg_driver.proofs.level.run_lengths.Goals as goal
 pub lengths-init : goal.lengths-init
 lengths-init g c =
     let m0 = g.E.Engine.meaning c.args.engine.now in
-    let source = over c.args.table.now c.args.dictionary.now in
+    let source = source_of c.args.table.now c.args.dictionary.now in
     record {
       reaches = record {
         done = [];
@@ -37,7 +37,7 @@ lengths-preserved g c =
     let number = c.args.number in
     let len = c.lengths.len in
     let end = params.pat_finish + 1 in
-    let source = over c.args.table.now c.args.dictionary.now in
+    let source = source_of c.args.table.now c.args.dictionary.now in
     let start : LevelStart = record { engine = m0; records = c.args.records.now } in
     let all = all_made_by source params m0 (passes_of number params) in
     let reached = reaches_on source params number len start m n c.lengths.records c.run_length.new.records c.lengths.skippable c.run_length.new.skippable
@@ -66,7 +66,7 @@ returns-clause-state g c =
     let params = c.args.params.now in
     let number = c.args.number in
     let end = params.pat_finish + 1 in
-    let source = over c.args.table.now c.args.dictionary.now in
+    let source = source_of c.args.table.now c.args.dictionary.now in
     let start : LevelStart = record { engine = m0; records = c.args.records.now } in
     let all = all_made_by source params m0 (passes_of number params) in
     let ends : c.lengths.len ≡ end = omega (arith, c.requires.level.start_high) in
@@ -80,7 +80,7 @@ returns-clause-records g c =
     let params = c.args.params.now in
     let number = c.args.number in
     let end = params.pat_finish + 1 in
-    let source = over c.args.table.now c.args.dictionary.now in
+    let source = source_of c.args.table.now c.args.dictionary.now in
     let start : LevelStart = record { engine = m0; records = c.args.records.now } in
     let all = all_made_by source params m0 (passes_of number params) in
     let ends : c.lengths.len ≡ end = omega (arith, c.requires.level.start_high) in
@@ -92,4 +92,4 @@ pub returns-clause-ready : goal.returns-clause-ready
 returns-clause-ready g c =
     let m = g.E.Engine.meaning c.lengths.engine in
     let some : c.args.params.now.pat_start < c.lengths.len = omega (arith, c.requires.level.start_high) in
-    tells_totals (over c.args.table.now c.args.dictionary.now) c.args.number c.lengths.len (known_of m) m.patterns c.lengths.counting refl (c.lengths.invariant.counted some) c.lengths.invariant.ready
+    tells_totals (source_of c.args.table.now c.args.dictionary.now) c.args.number c.lengths.len (known_of m) m.patterns c.lengths.counting refl (c.lengths.invariant.counted some) c.lengths.invariant.ready

@@ -2,7 +2,7 @@ use Rattle.std.proofs.Common.{◌≡◌, ◌+◌, ◌*◌, ◌^◌, ◌≤◌, �
 use Rattle.pg_driver.specs.Inside.LevelCounting.{IsCounted, IsReady}
 use Rattle.pg_driver.specs.Inside.Levels.{WillCount, all_made_by}
 use Rattle.pg_driver.specs.Inside.RunAccounts.{known_of}
-use Rattle.pg_driver.specs.Traces.{passes_of, over}
+use Rattle.pg_driver.specs.Traces.{passes_of, source_of}
 use Rattle.pg_driver.specs.Inside.Passes.{known_at_end}
 use Rattle.pg_driver.proofs.LevelSteps.{Reaches, lengths_from}
 use Rattle.pg_driver.proofs.level.run_lengths.Given as goal
@@ -11,7 +11,7 @@ abbrev pub invariant-lengths : goal.invariant-lengths
 invariant-lengths g l =
     let m0 = g.E.Engine.meaning l.fn.engine in
     let m = g.E.Engine.meaning l.engine in
-    let source = over l.table l.dictionary in
+    let source = source_of l.table l.dictionary in
     let all = all_made_by source l.params m0 (passes_of l.number l.params) in
     record {
       reaches : Reaches source l.params l.number l.len (record { engine = m0; records = l.fn.records }) m l.records l.skippable (lengths_from l.number l.len l.end) all (known_at_end (known_of m0) all);

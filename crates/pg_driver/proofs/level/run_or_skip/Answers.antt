@@ -3,21 +3,21 @@ use Rattle.pg_driver.specs.Inside.LevelCounting.{IsCounted}
 use Rattle.pg_driver.specs.Inside.Levels.{is_set, no_flags}
 use Rattle.pg_driver.specs.Inside.Sound.{Recorded}
 use Rattle.pg_driver.proofs.SkipFlags.{none_set}
-use Rattle.pg_driver.specs.Traces.{over}
+use Rattle.pg_driver.specs.Traces.{source_of}
 use Rattle.pg_driver.proofs.LevelSteps.{done_on, skipped_on}
 use Rattle.pg_driver.proofs.level.run_or_skip.Goals as goal
 
 pub returns-then-is_skippable-clause-ok : goal.returns-then-is_skippable-clause-ok
 returns-then-is_skippable-clause-ok g c =
     let pass = c.args.pass in
-    skipped_on (over c.args.table.now c.args.dictionary.now) c.args.params.now pass.level pass.len pass.dot
+    skipped_on (source_of c.args.table.now c.args.dictionary.now) c.args.params.now pass.level pass.len pass.dot
     (g.E.Engine.meaning c.args.engine.now) c.args.records.now c.args.skippable.now c.set.new.self (sym c.is_skippable.ensures ∙ c.if-is_skippable.true) c.set.ensures.here c.set.ensures.longer
 
 pub returns-clause-ok : goal.returns-clause-ok
 returns-clause-ok g c =
     let m = g.E.Engine.meaning c.args.engine.now in
     let pass = c.args.pass in
-    done_on (over c.args.table.now c.args.dictionary.now) c.args.params.now pass.level pass.len pass.dot m c.args.records.now c.args.skippable.now c.set-2.new.self
+    done_on (source_of c.args.table.now c.args.dictionary.now) c.args.params.now pass.level pass.len pass.dot m c.args.records.now c.args.skippable.now c.set-2.new.self
     (g.E.Engine.meaning c.run_pass.new.engine) c.add_pass.new.self c.in_ok-record.record c.left_none.result
     (sym c.is_skippable.ensures ∙ c.if-is_skippable.false)
     c.set-2.ensures.here

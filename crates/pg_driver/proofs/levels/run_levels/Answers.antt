@@ -9,7 +9,7 @@ use Rattle.pg_driver.specs.Accounts.{totals_by}
 use Rattle.pg_driver.specs.Inside.Sound.{IsSmall, Recorded}
 use Rattle.pg_driver.specs.Inside.States.{State}
 use Rattle.pg_driver.specs.Inside.RunAccounts.{run_from}
-use Rattle.pg_driver.specs.Traces.{levels_made, over}
+use Rattle.pg_driver.specs.Traces.{level_traces, source_of}
 use Rattle.pg_driver.proofs.OpenTraces.{below_level, up_to_next, up_to_starting}
 use Rattle.pg_driver.proofs.RunSteps.{all_levels, level_on, levels_step, no_levels, run_begins, run_whole}
 use Rattle.pg_driver.proofs.levels.run_levels.Goals as goal
@@ -17,13 +17,13 @@ use Rattle.pg_driver.proofs.levels.run_levels.Goals as goal
 pub levels-init : goal.levels-init
 levels-init g c =
     let m0 = g.E.Engine.meaning c.args.engine.now in
-    let source = over c.args.table.now c.args.dictionary.now in
+    let source = source_of c.args.table.now c.args.dictionary.now in
     record {
       reaches = record {
         done = [];
         did = run_begins source m0 c.args.records.now c.requires.hopeless c.requires.none;
         left =
-            ap (λ (ls : List (ℕ × LevelParams)). levels_made source m0.patterns ls) (all_levels c.start-start.result c.args.params.now.levels
+            ap (λ (ls : List (ℕ × LevelParams)). level_traces source m0.patterns ls) (all_levels c.start-start.result c.args.params.now.levels
             ∙ ap (λ (n : ℕ). enumerate_from n c.args.params.now.levels) c.start-start.ensures.value);
       };
       upto = up_to_starting c.largest-greatest.result (c.start-start.result + 0 - 1) m0.patterns (c.largest-greatest.ensures.value ∙ ap largest c.in_ok-copy_patterns.ensures);
@@ -44,7 +44,7 @@ levels-preserved g c =
     let m0 = g.E.Engine.meaning c.args.engine.now in
     let m = g.E.Engine.meaning c.levels.engine in
     let n = g.E.Engine.meaning c.run_level.new.engine in
-    let source = over c.args.table.now c.args.dictionary.now in
+    let source = source_of c.args.table.now c.args.dictionary.now in
     let start = c.start-start.result in
     let i = c.levels.i in
     let levels = c.args.params.now.levels in
@@ -72,7 +72,7 @@ returns-in-Some-clause-run g c =
     let m0 = g.E.Engine.meaning c.args.engine.now in
     let m = g.E.Engine.meaning c.levels.engine in
     let rest = enumerate_from (c.start-start.result + c.levels.i) (drop c.levels.i c.args.params.now.levels) in
-    run_whole (over c.args.table.now c.args.dictionary.now) m0 m c.levels.records rest (run_from c.args.table.now c.args.dictionary.now c.args.params.now m0)
+    run_whole (source_of c.args.table.now c.args.dictionary.now) m0 m c.levels.records rest (run_from c.args.table.now c.args.dictionary.now c.args.params.now m0)
     (no_levels c.start-start.result c.levels.i c.args.params.now.levels (omega (arith, c.count-count.ensures.value))) c.levels.invariant.reaches
 
 pub run_level-requires-clause-below : goal.run_level-requires-clause-below
@@ -82,7 +82,7 @@ run_level-requires-clause-below g c = λ low. below_level c.largest-greatest.res
 pub returns-in-Some-clause-totals : goal.returns-in-Some-clause-totals
 returns-in-Some-clause-totals g c =
     let m = g.E.Engine.meaning c.levels.engine in
-    subst (λ (o : Option Totals). IfSome o (λ after. after ≡ totals_by (over c.args.table.now c.args.dictionary.now) m.patterns)) c.in-Some.is c.levels.invariant.totals
+    subst (λ (o : Option Totals). IfSome o (λ after. after ≡ totals_by (source_of c.args.table.now c.args.dictionary.now) m.patterns)) c.in-Some.is c.levels.invariant.totals
 
 pub returns-in-Some-clause-small : goal.returns-in-Some-clause-small
 returns-in-Some-clause-small g c = subst (λ (o : Option Totals). IfSome o IsSmall) c.in-Some.is c.levels.invariant.small

@@ -4,7 +4,7 @@ use Rattle.std.specs.Option.{IfSome}
 use Rattle.pg_select.specs.Inside.LawsSteps.{IsUpTo}
 use Rattle.pg_driver.specs.Accounts.{totals_by}
 use Rattle.pg_driver.specs.Inside.Sound.{IsSmall}
-use Rattle.pg_driver.specs.Traces.{over}
+use Rattle.pg_driver.specs.Traces.{source_of}
 use Rattle.pg_driver.specs.Inside.RunAccounts.{run_from}
 use Rattle.pg_driver.proofs.RunSteps.{RunReaches}
 use Rattle.pg_driver.proofs.levels.run_levels.Given as goal
@@ -15,9 +15,9 @@ invariant-levels g l =
     let m0 = g.E.Engine.meaning l.fn.engine in
     let m = g.E.Engine.meaning l.engine in
     record {
-      reaches : RunReaches (over l.table l.dictionary) m0 m l.records (enumerate_from (l.start + l.i) (drop l.i l.params.levels)) (run_from l.table l.dictionary l.params m0);
+      reaches : RunReaches (source_of l.table l.dictionary) m0 m l.records (enumerate_from (l.start + l.i) (drop l.i l.params.levels)) (run_from l.table l.dictionary l.params m0);
       upto : IsUpTo (max l.greatest (l.start + l.i - 1)) m.patterns;
-      totals : IfSome l.last (λ after. after ≡ totals_by (over l.table l.dictionary) m.patterns);
+      totals : IfSome l.last (λ after. after ≡ totals_by (source_of l.table l.dictionary) m.patterns);
       small : IfSome l.last IsSmall;
       signs : m.signs ≡ m0.signs;
       tidy : m.tidy ≡ true;

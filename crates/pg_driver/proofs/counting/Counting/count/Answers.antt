@@ -3,7 +3,7 @@ use Rattle.pg_driver.specs.declared.counting.open_positions.OpenLevel.{OpenLevel
 use Rattle.pg_driver.specs.Inside.Counting.{meaning_after_counting}
 use Rattle.pg_driver.specs.Inside.LevelCounting.{IsOpenAt, IsReady}
 use Rattle.pg_driver.specs.Inside.RunAccounts.{known_of}
-use Rattle.pg_driver.specs.Traces.{over}
+use Rattle.pg_driver.specs.Traces.{source_of}
 use Rattle.pg_driver.proofs.ReadySteps.{counts_all, has_room, is_small, ready_same}
 use Rattle.pg_driver.proofs.counting.Counting.count.Goals as goal
 
@@ -19,7 +19,7 @@ count_open-requires-clause-signs g c = c.requires.begun.signs
 pub count_open-requires-clause-room : goal.count_open-requires-clause-room
 count_open-requires-clause-room g c =
     let m = g.E.Engine.meaning c.args.engine.now in
-    let source = over c.args.table.now c.args.dictionary.now in
+    let source = source_of c.args.table.now c.args.dictionary.now in
     let pass = c.args.pass in
     let o = c.in-Open.open in
     let p : OpenLevel = record { dots = c.reach.new.self; totals = o.totals } in
@@ -31,7 +31,7 @@ count_open-requires-clause-room g c =
 pub returns-in_ok-count_open-in-Open-clause-did : goal.returns-in_ok-count_open-in-Open-clause-did
 returns-in_ok-count_open-in-Open-clause-did g c =
     let m = g.E.Engine.meaning c.args.engine.now in
-    let source = over c.args.table.now c.args.dictionary.now in
+    let source = source_of c.args.table.now c.args.dictionary.now in
     let pass = c.args.pass in
     let o = c.in-Open.open in
     let p : OpenLevel = record { dots = c.reach.new.self; totals = o.totals } in
@@ -49,7 +49,7 @@ returns-in_ok-count_open-in-Open-clause-did g c =
 pub returns-in_ok-count_open-in-Open-clause-ready : goal.returns-in_ok-count_open-in-Open-clause-ready
 returns-in_ok-count_open-in-Open-clause-ready g c =
     let known = known_of (g.E.Engine.meaning c.args.engine.now) in
-    let source = over c.args.table.now c.args.dictionary.now in
+    let source = source_of c.args.table.now c.args.dictionary.now in
     let pass = c.args.pass in
     let o = c.in-Open.open in
     let p : OpenLevel = record { dots = c.reach.new.self; totals = o.totals } in

@@ -1,13 +1,13 @@
 use Rattle.std.proofs.Common.{arith}
 use Rattle.pg_driver.specs.Inside.RunAccounts.{known_of}
-use Rattle.pg_driver.specs.Traces.{over}
+use Rattle.pg_driver.specs.Traces.{source_of}
 use Rattle.pg_driver.proofs.WordLevels.{words_begin}
 use Rattle.pg_driver.proofs.ReadySteps.{ready_at_start}
 use Rattle.pg_driver.proofs.counting.Counting.start.Goals as goal
 
 pub returns-clause-ready : goal.returns-clause-ready
 returns-clause-ready g c = λ len.
-    ready_at_start (over c.args.table.now c.args.dictionary.now) c.args.level len (g.E.Engine.meaning c.args.engine.now) c.in_ok-opened.opened
+    ready_at_start (source_of c.args.table.now c.args.dictionary.now) c.args.level len (g.E.Engine.meaning c.args.engine.now) c.in_ok-opened.opened
     c.requires.hopeless
     (c.requires.below (omega (arith, c.if-level-greatest.false)))
     c.in_ok-opened.ensures.bounded
@@ -20,6 +20,6 @@ returns-then-level-greatest-clause-form g c = λ low. absurd (omega (arith, c.if
 
 pub returns-then-level-greatest-clause-ready : goal.returns-then-level-greatest-clause-ready
 returns-then-level-greatest-clause-ready g c = λ len.
-    words_begin (over c.args.table.now c.args.dictionary.now) c.args.level (known_of (g.E.Engine.meaning c.args.engine.now)) c.new.result
+    words_begin (source_of c.args.table.now c.args.dictionary.now) c.args.level (known_of (g.E.Engine.meaning c.args.engine.now)) c.new.result
     c.new.ensures.counted
     c.new.ensures.above

@@ -8,7 +8,7 @@ use Rattle.pg_driver.specs.declared.counting.word_level.WordLevel.{WordLevel}
 use Rattle.pg_driver.specs.Inside.Counting.{meaning_after_counting}
 use Rattle.pg_driver.specs.Inside.PassWindows.{HaveNumbers, is_counted_at}
 use Rattle.pg_driver.specs.Inside.RunAccounts.{known_of}
-use Rattle.pg_driver.specs.Traces.{over}
+use Rattle.pg_driver.specs.Traces.{source_of}
 use Rattle.pg_driver.specs.Inside.WordLevels.{IsWordsAt}
 use Rattle.pg_driver.proofs.AboveNumbers.{numbered_as_counted}
 use Rattle.pg_driver.proofs.WordLevels.{words_counted}
@@ -27,7 +27,7 @@ returns-clause-did g c =
 
 pub returns-clause-ready : goal.returns-clause-ready
 returns-clause-ready g c =
-    words_counted (over c.args.table.now c.args.dictionary.now) c.args.pass.level (known_of (g.E.Engine.meaning c.args.engine.now)) c.args.self.now
+    words_counted (source_of c.args.table.now c.args.dictionary.now) c.args.pass.level (known_of (g.E.Engine.meaning c.args.engine.now)) c.args.self.now
     (record { is_counted = true; above = c.count_words.new.above; totals = c.in_ok-before.before }) c.requires.ready refl c.in_ok-before.ensures.above
     c.in_ok-before.ensures.totals c.in_ok-before.ensures.bounded
 
@@ -39,8 +39,8 @@ returns-clause-numbers g c = λ numbered.
     let pass = c.args.pass in
     let minima = minima_of c.args.table.now in
     let after : WordLevel = record { is_counted = true; above = c.count_words.new.above; totals = c.in_ok-before.before } in
-    let ready : IsWordsAt (over c.args.table.now words) pass.level (known_of m) after =
-    words_counted (over c.args.table.now words) pass.level (known_of m) c.args.self.now after c.requires.ready refl c.in_ok-before.ensures.above
+    let ready : IsWordsAt (source_of c.args.table.now words) pass.level (known_of m) after =
+    words_counted (source_of c.args.table.now words) pass.level (known_of m) c.args.self.now after c.requires.ready refl c.in_ok-before.ensures.above
     c.in_ok-before.ensures.totals c.in_ok-before.ensures.bounded in
     let counts : n.counts ≡ fold with_position [] (counted_positions minima words pass m.patterns m.hopeless) =
     ap (λ (x : Meaning). x.counts) c.in_ok-before.ensures.ok
