@@ -101,7 +101,8 @@ pub did_pass : (t : Alphabet) (words : List Word) (params : LevelParams) (pass :
     → DidPass (source_of t words) params pass m n (record_with pass before numbers layout)
 did_pass t words params pass m m2 n before numbers layout counted totals has chosen tells = record {
   state = pass_state t words params pass m m2 n counted has;
-  line = line_is (source_of t words) params pass m before numbers layout totals (chosen ∙ ap (λ (cs : List Candidate). with_candidates params no_choices cs) (counts_are t words params pass m m2 counted));
+  line = line_is (source_of t words) params pass m before numbers layout totals (chosen
+      ∙ ap (λ (cs : List Candidate). with_candidates params no_choices cs) (counts_are t words params pass m m2 counted));
   layout = layout_is pass before numbers n layout tells;
   begun = begun_kept params (map candidate_of m2.counts) m2 n has ∙ ap (λ (x : Meaning). x.begun) counted;
 }

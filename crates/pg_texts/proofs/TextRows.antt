@@ -48,7 +48,13 @@ two_words = word (1 ∷ 2 ∷ 3 ∷ 4 ∷ 1 ∷ []) (false ∷ false ∷ false �
 one_pattern : patterns two_words (one_level (level 2 2 1 1 2)) [] ≡ ((2 ∷ 3 ∷ [], 2), 1) ∷ []
 one_pattern = refl
 
-one_pattern_report : report two_words (one_level (level 2 2 1 1 2)) [] ≡ codes "pass 1 2 1: 0 good, 0 bad, 2 missed; 3 candidates, 0 chosen, 3 hopeless, 0 left; 0 good, 0 bad\npass 1 2 0: 0 good, 0 bad, 2 missed; 4 candidates, 0 chosen, 4 hopeless, 0 left; 0 good, 0 bad\npass 1 2 2: 0 good, 0 bad, 2 missed; 2 candidates, 1 chosen, 1 hopeless, 0 left; 2 good, 0 bad\nlevel 1: 1 chosen, 2 good, 0 bad, 0 missed\ntotal: 2 good, 0 bad, 0 missed\nrate: 100.00 % good, 0.00 % bad, 0.00 % missed\n"
+one_pattern_report : report two_words (one_level (level 2 2 1 1 2)) []
+    ≡ codes "pass 1 2 1: 0 good, 0 bad, 2 missed; 3 candidates, 0 chosen, 3 hopeless, 0 left; 0 good, 0 bad\n"
+    ++ codes "pass 1 2 0: 0 good, 0 bad, 2 missed; 4 candidates, 0 chosen, 4 hopeless, 0 left; 0 good, 0 bad\n"
+    ++ codes "pass 1 2 2: 0 good, 0 bad, 2 missed; 2 candidates, 1 chosen, 1 hopeless, 0 left; 2 good, 0 bad\n"
+    ++ codes "level 1: 1 chosen, 2 good, 0 bad, 0 missed\n"
+    ++ codes "total: 2 good, 0 bad, 0 missed\n"
+    ++ codes "rate: 100.00 % good, 0.00 % bad, 0.00 % missed\n"
 unfolding digits
 one_pattern_report = refl
 
@@ -61,32 +67,70 @@ abbrev ab_0c : Word
 ab_0c = record { signs = 1 ∷ 2 ∷ 3 ∷ 4 ∷ 1 ∷ []; hyphens = false ∷ false ∷ false ∷ true ∷ false ∷ []; weights = 1 ∷ 1 ∷ 1 ∷ 0 ∷ 1 ∷ []; cares = true ∷ true ∷ true ∷ true ∷ true ∷ []; weight = 1 }
 
 -- Threshold 1 is met at the first dot
-first_dot_report : report two_words (one_level (level 2 2 1 1 1)) [] ≡ codes "pass 1 2 1: 0 good, 0 bad, 2 missed; 3 candidates, 2 chosen, 1 hopeless, 0 left; 2 good, 0 bad\npass 1 2 0: 2 good, 0 bad, 0 missed; 2 candidates, 0 chosen, 2 hopeless, 0 left; 0 good, 0 bad\npass 1 2 2: 2 good, 0 bad, 0 missed; 1 candidates, 0 chosen, 1 hopeless, 0 left; 0 good, 0 bad\nlevel 1: 2 chosen, 2 good, 0 bad, 0 missed\ntotal: 2 good, 0 bad, 0 missed\nrate: 100.00 % good, 0.00 % bad, 0.00 % missed\n"
+first_dot_report : report two_words (one_level (level 2 2 1 1 1)) []
+    ≡ codes "pass 1 2 1: 0 good, 0 bad, 2 missed; 3 candidates, 2 chosen, 1 hopeless, 0 left; 2 good, 0 bad\n"
+    ++ codes "pass 1 2 0: 2 good, 0 bad, 0 missed; 2 candidates, 0 chosen, 2 hopeless, 0 left; 0 good, 0 bad\n"
+    ++ codes "pass 1 2 2: 2 good, 0 bad, 0 missed; 1 candidates, 0 chosen, 1 hopeless, 0 left; 0 good, 0 bad\n"
+    ++ codes "level 1: 2 chosen, 2 good, 0 bad, 0 missed\n"
+    ++ codes "total: 2 good, 0 bad, 0 missed\n"
+    ++ codes "rate: 100.00 % good, 0.00 % bad, 0.00 % missed\n"
 unfolding digits
 first_dot_report = refl
 
 -- A covered window is no candidate
-covered_window_report : report two_words (one_level (level 2 2 1 1 1)) (((3 ∷ 4 ∷ [], 1), 2) ∷ []) ≡ codes "warning: starting value 2 is not below level 1\npass 1 2 1: 0 good, 0 bad, 2 missed; 2 candidates, 1 chosen, 1 hopeless, 0 left; 1 good, 0 bad\npass 1 2 0: 1 good, 0 bad, 1 missed; 3 candidates, 1 chosen, 2 hopeless, 0 left; 1 good, 0 bad\npass 1 2 2: 1 good, 0 bad, 1 missed; 2 candidates, 1 chosen, 1 hopeless, 0 left; 1 good, 0 bad\nlevel 1: 3 chosen, 1 good, 0 bad, 1 missed\ntotal: 1 good, 0 bad, 1 missed\nrate: 50.00 % good, 0.00 % bad, 50.00 % missed\n"
+covered_window_report : report two_words (one_level (level 2 2 1 1 1)) (((3 ∷ 4 ∷ [], 1), 2) ∷ []) ≡ codes "warning: starting value 2 is not below level 1\n"
+    ++ codes "pass 1 2 1: 0 good, 0 bad, 2 missed; 2 candidates, 1 chosen, 1 hopeless, 0 left; 1 good, 0 bad\n"
+    ++ codes "pass 1 2 0: 1 good, 0 bad, 1 missed; 3 candidates, 1 chosen, 2 hopeless, 0 left; 1 good, 0 bad\n"
+    ++ codes "pass 1 2 2: 1 good, 0 bad, 1 missed; 2 candidates, 1 chosen, 1 hopeless, 0 left; 1 good, 0 bad\n"
+    ++ codes "level 1: 3 chosen, 1 good, 0 bad, 1 missed\n"
+    ++ codes "total: 1 good, 0 bad, 1 missed\n"
+    ++ codes "rate: 50.00 % good, 0.00 % bad, 50.00 % missed\n"
 unfolding digits
 covered_window_report = refl
 
 -- Two levels
-two_levels_report : report (a_b ∷ a_b ∷ word (1 ∷ 4 ∷ 2 ∷ 3 ∷ 1 ∷ []) (false ∷ false ∷ false ∷ false ∷ false ∷ []) ∷ []) (record { start = 1; finish = 2; levels = level 2 2 1 1 1 ∷ level 3 3 1 1 1 ∷ [] }) [] ≡ codes "pass 1 2 1: 0 good, 0 bad, 2 missed; 2 candidates, 1 chosen, 1 hopeless, 0 left; 2 good, 1 bad\npass 1 2 0: 2 good, 1 bad, 0 missed; 1 candidates, 0 chosen, 1 hopeless, 0 left; 0 good, 0 bad\npass 1 2 2: 2 good, 1 bad, 0 missed; 1 candidates, 0 chosen, 1 hopeless, 0 left; 0 good, 0 bad\nlevel 1: 1 chosen, 2 good, 1 bad, 0 missed\npass 2 3 1: 2 good, 1 bad, 0 missed; 1 candidates, 0 chosen, 0 hopeless, 1 left; 0 good, 0 bad\npass 2 3 2: 2 good, 1 bad, 0 missed; 2 candidates, 1 chosen, 1 hopeless, 0 left; 1 good, 0 bad\nlevel 2: 1 chosen, 2 good, 0 bad, 0 missed\ntotal: 2 good, 0 bad, 0 missed\nrate: 100.00 % good, 0.00 % bad, 0.00 % missed\n"
+two_levels_report : report (a_b ∷ a_b ∷ word (1 ∷ 4 ∷ 2 ∷ 3 ∷ 1 ∷ []) (false ∷ false ∷ false ∷ false ∷ false ∷ [])
+    ∷ []) (record { start = 1; finish = 2; levels = level 2 2 1 1 1 ∷ level 3 3 1 1 1 ∷ [] }) []
+    ≡ codes "pass 1 2 1: 0 good, 0 bad, 2 missed; 2 candidates, 1 chosen, 1 hopeless, 0 left; 2 good, 1 bad\n"
+    ++ codes "pass 1 2 0: 2 good, 1 bad, 0 missed; 1 candidates, 0 chosen, 1 hopeless, 0 left; 0 good, 0 bad\n"
+    ++ codes "pass 1 2 2: 2 good, 1 bad, 0 missed; 1 candidates, 0 chosen, 1 hopeless, 0 left; 0 good, 0 bad\n"
+    ++ codes "level 1: 1 chosen, 2 good, 1 bad, 0 missed\n"
+    ++ codes "pass 2 3 1: 2 good, 1 bad, 0 missed; 1 candidates, 0 chosen, 0 hopeless, 1 left; 0 good, 0 bad\n"
+    ++ codes "pass 2 3 2: 2 good, 1 bad, 0 missed; 2 candidates, 1 chosen, 1 hopeless, 0 left; 1 good, 0 bad\n"
+    ++ codes "level 2: 1 chosen, 2 good, 0 bad, 0 missed\n"
+    ++ codes "total: 2 good, 0 bad, 0 missed\n"
+    ++ codes "rate: 100.00 % good, 0.00 % bad, 0.00 % missed\n"
 unfolding digits
 two_levels_report = refl
 
 -- Weight 0 gives candidates
-weight_0_report : report (ab_0c ∷ []) (one_level (level 2 2 1 1 1)) [] ≡ codes "pass 1 2 1: 0 good, 0 bad, 0 missed; 2 candidates, 0 chosen, 2 hopeless, 0 left; 0 good, 0 bad\npass 1 2 0: 0 good, 0 bad, 0 missed; 2 candidates, 0 chosen, 2 hopeless, 0 left; 0 good, 0 bad\npass 1 2 2: 0 good, 0 bad, 0 missed; 2 candidates, 0 chosen, 2 hopeless, 0 left; 0 good, 0 bad\nlevel 1: 0 chosen, 0 good, 0 bad, 0 missed\ntotal: 0 good, 0 bad, 0 missed\n"
+weight_0_report : report (ab_0c ∷ []) (one_level (level 2 2 1 1 1)) []
+    ≡ codes "pass 1 2 1: 0 good, 0 bad, 0 missed; 2 candidates, 0 chosen, 2 hopeless, 0 left; 0 good, 0 bad\n"
+    ++ codes "pass 1 2 0: 0 good, 0 bad, 0 missed; 2 candidates, 0 chosen, 2 hopeless, 0 left; 0 good, 0 bad\n"
+    ++ codes "pass 1 2 2: 0 good, 0 bad, 0 missed; 2 candidates, 0 chosen, 2 hopeless, 0 left; 0 good, 0 bad\n"
+    ++ codes "level 1: 0 chosen, 0 good, 0 bad, 0 missed\n"
+    ++ codes "total: 0 good, 0 bad, 0 missed\n"
 unfolding digits
 weight_0_report = refl
 
 -- A don't-care position
-dont_care_report : report (record { signs = 1 ∷ 2 ∷ 3 ∷ 4 ∷ 1 ∷ []; hyphens = false ∷ false ∷ false ∷ false ∷ false ∷ []; weights = 1 ∷ 1 ∷ 1 ∷ 1 ∷ 1 ∷ []; cares = true ∷ true ∷ true ∷ false ∷ true ∷ []; weight = 1 } ∷ word (1 ∷ 2 ∷ 3 ∷ 2 ∷ 1 ∷ []) (false ∷ false ∷ false ∷ true ∷ false ∷ []) ∷ []) (one_level (level 2 2 1 1 1)) [] ≡ codes "pass 1 2 1: 0 good, 0 bad, 1 missed; 2 candidates, 1 chosen, 1 hopeless, 0 left; 1 good, 0 bad\npass 1 2 0: 1 good, 0 bad, 0 missed; 2 candidates, 0 chosen, 2 hopeless, 0 left; 0 good, 0 bad\npass 1 2 2: 1 good, 0 bad, 0 missed; 1 candidates, 0 chosen, 1 hopeless, 0 left; 0 good, 0 bad\nlevel 1: 1 chosen, 1 good, 0 bad, 0 missed\ntotal: 1 good, 0 bad, 0 missed\nrate: 100.00 % good, 0.00 % bad, 0.00 % missed\n"
+dont_care_report : report (record { signs = 1 ∷ 2 ∷ 3 ∷ 4 ∷ 1 ∷ []; hyphens = false ∷ false ∷ false ∷ false ∷ false ∷ []; weights = 1 ∷ 1 ∷ 1 ∷ 1 ∷ 1
+    ∷ []; cares = true ∷ true ∷ true ∷ false ∷ true ∷ []; weight = 1 } ∷ word (1 ∷ 2 ∷ 3 ∷ 2 ∷ 1 ∷ []) (false ∷ false ∷ false ∷ true ∷ false ∷ [])
+    ∷ []) (one_level (level 2 2 1 1 1)) [] ≡ codes "pass 1 2 1: 0 good, 0 bad, 1 missed; 2 candidates, 1 chosen, 1 hopeless, 0 left; 1 good, 0 bad\n"
+    ++ codes "pass 1 2 0: 1 good, 0 bad, 0 missed; 2 candidates, 0 chosen, 2 hopeless, 0 left; 0 good, 0 bad\n"
+    ++ codes "pass 1 2 2: 1 good, 0 bad, 0 missed; 1 candidates, 0 chosen, 1 hopeless, 0 left; 0 good, 0 bad\n"
+    ++ codes "level 1: 1 chosen, 1 good, 0 bad, 0 missed\n"
+    ++ codes "total: 1 good, 0 bad, 0 missed\n"
+    ++ codes "rate: 100.00 % good, 0.00 % bad, 0.00 % missed\n"
 unfolding digits
 dont_care_report = refl
 
 -- The cells file, and that of starting patterns and no level
-cells_file : cells two_words (one_level (level 2 2 1 1 2)) [] ≡ codes "start: 4 taken, top 4, 0 tails\npass 1 2 1: 7 taken, top 8\npass 1 2 0: 9 taken, top 10\npass 1 2 2: 10 taken, top 10\nlevel 1: 5 taken, top 9, 1 tails\n"
+cells_file : cells two_words (one_level (level 2 2 1 1 2)) [] ≡ codes "start: 4 taken, top 4, 0 tails\n"
+    ++ codes "pass 1 2 1: 7 taken, top 8\n"
+    ++ codes "pass 1 2 0: 9 taken, top 10\n"
+    ++ codes "pass 1 2 2: 10 taken, top 10\n"
+    ++ codes "level 1: 5 taken, top 9, 1 tails\n"
 unfolding digits with_sign
 cells_file = refl
 
@@ -121,7 +165,8 @@ weight_0_list = refl
 abbrev letters_abcde : Alphabet
 letters_abcde = record { left = 2; right = 3; marks = codes ".-*?"; spellings = (2, codes "a") ∷ (3, codes "b") ∷ (4, codes "c") ∷ (5, codes "d") ∷ (6, codes "e") ∷ [] }
 
-out_of_reach : pattmp_text letters_abcde (((2 ∷ 3 ∷ [], 1), 1) ∷ ((3 ∷ 4 ∷ [], 1), 1) ∷ ((4 ∷ 5 ∷ [], 1), 1) ∷ ((5 ∷ 6 ∷ [], 1), 1) ∷ []) (word (1 ∷ 2 ∷ 3 ∷ 4 ∷ 5 ∷ 6 ∷ 1 ∷ []) (false ∷ false ∷ true ∷ true ∷ true ∷ true ∷ false ∷ []) ∷ []) ≡ codes "a-b*c-d-e\n"
+out_of_reach : pattmp_text letters_abcde (((2 ∷ 3 ∷ [], 1), 1) ∷ ((3 ∷ 4 ∷ [], 1), 1) ∷ ((4 ∷ 5 ∷ [], 1), 1) ∷ ((5 ∷ 6 ∷ [], 1), 1) ∷ []) (word (1 ∷ 2 ∷ 3 ∷ 4
+    ∷ 5 ∷ 6 ∷ 1 ∷ []) (false ∷ false ∷ true ∷ true ∷ true ∷ true ∷ false ∷ []) ∷ []) ≡ codes "a-b*c-d-e\n"
 unfolding digits
 out_of_reach = refl
 
@@ -129,11 +174,13 @@ out_of_reach = refl
 abbrev plain : ℕ → List ℕ → Word
 plain weight signs = record { signs = signs; hyphens = map (λ _. false) signs; weights = map (λ _. weight) signs; cares = map (λ _. true) signs; weight = weight }
 
-running_weights : pattmp_text letters_abcde [] (plain 3 (1 ∷ 2 ∷ 3 ∷ 1 ∷ []) ∷ plain 5 (1 ∷ 2 ∷ 3 ∷ 4 ∷ 5 ∷ 6 ∷ 1 ∷ []) ∷ plain 3 (1 ∷ 2 ∷ 3 ∷ 4 ∷ 5 ∷ 1 ∷ []) ∷ plain 5 (1 ∷ 2 ∷ 3 ∷ 4 ∷ 5 ∷ 6 ∷ 1 ∷ []) ∷ plain 1 (1 ∷ 2 ∷ 3 ∷ 4 ∷ 5 ∷ 6 ∷ 1 ∷ []) ∷ []) ≡ codes "5abcde\nabcde\n1abcde\n"
+running_weights : pattmp_text letters_abcde [] (plain 3 (1 ∷ 2 ∷ 3 ∷ 1 ∷ []) ∷ plain 5 (1 ∷ 2 ∷ 3 ∷ 4 ∷ 5 ∷ 6 ∷ 1 ∷ []) ∷ plain 3 (1 ∷ 2 ∷ 3 ∷ 4 ∷ 5 ∷ 1 ∷ [])
+    ∷ plain 5 (1 ∷ 2 ∷ 3 ∷ 4 ∷ 5 ∷ 6 ∷ 1 ∷ []) ∷ plain 1 (1 ∷ 2 ∷ 3 ∷ 4 ∷ 5 ∷ 6 ∷ 1 ∷ []) ∷ []) ≡ codes "5abcde\nabcde\n1abcde\n"
 unfolding digits
 running_weights = refl
 
 -- a-2b*c.a with a further weight of 12: braces and a don't-care position
-marked : pattmp_text letters_abc [] (record { signs = 1 ∷ 2 ∷ 3 ∷ 4 ∷ 2 ∷ 1 ∷ []; hyphens = false ∷ false ∷ true ∷ true ∷ false ∷ false ∷ []; weights = 1 ∷ 1 ∷ 2 ∷ 12 ∷ 1 ∷ 1 ∷ []; cares = true ∷ true ∷ true ∷ true ∷ false ∷ true ∷ []; weight = 1 } ∷ []) ≡ codes "a-2b-{12}c?a\n"
+marked : pattmp_text letters_abc [] (record { signs = 1 ∷ 2 ∷ 3 ∷ 4 ∷ 2 ∷ 1 ∷ []; hyphens = false ∷ false ∷ true ∷ true ∷ false ∷ false ∷ []; weights = 1 ∷ 1
+    ∷ 2 ∷ 12 ∷ 1 ∷ 1 ∷ []; cares = true ∷ true ∷ true ∷ true ∷ false ∷ true ∷ []; weight = 1 } ∷ []) ≡ codes "a-2b-{12}c?a\n"
 unfolding digits
 marked = refl

@@ -150,7 +150,8 @@ word_letters t marks w long =
     (length w.signs - 3) in
     rw (front, last) moved
 
-pub word_items_joined : (t : Alphabet) (before : ℕ) (marks : ℕ → Mark) (w : Word) → 3 ≤ length w.signs → text_of_items (word_items t before marks w) ++ codes "\n" ≡ weight_text before w.weight ++ word_text t marks w
+pub word_items_joined : (t : Alphabet) (before : ℕ) (marks : ℕ → Mark) (w : Word) → 3 ≤ length w.signs → text_of_items (word_items t before marks w)
+    ++ codes "\n" ≡ weight_text before w.weight ++ word_text t marks w
 word_items_joined t before marks w long =
     let letters : text_of_items (flat_map (position_items t marks w) (inner_positions w)) ≡ letters_behind t marks w =
     joined_pieces (position_items t marks w) (inner_positions w)

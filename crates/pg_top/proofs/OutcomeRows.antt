@@ -29,7 +29,8 @@ asks : request_of (codes "generate" ∷ codes "D" ∷ codes "P" ∷ codes "O" �
 unfolding names
 asks = refl
 
-asks_all : request_of (codes "generate" ∷ codes "D" ∷ codes "P" ∷ codes "O" ∷ codes "T" ∷ codes "A" ∷ codes "R" ∷ codes "--cells" ∷ codes "C" ∷ codes "--pattmp" ∷ codes "M" ∷ []) ≡ Some (ToGenerate (record names { pattmp = Some (codes "M"); cells = Some (codes "C") }))
+asks_all : request_of (codes "generate" ∷ codes "D" ∷ codes "P" ∷ codes "O" ∷ codes "T" ∷ codes "A" ∷ codes "R" ∷ codes "--cells" ∷ codes "C" ∷ codes "--pattmp"
+    ∷ codes "M" ∷ []) ≡ Some (ToGenerate (record names { pattmp = Some (codes "M"); cells = Some (codes "C") }))
 unfolding names
 asks_all = refl
 
@@ -77,7 +78,12 @@ one_pattern : outcome_of (files (codes "ab-c\nab-a\n") []) (ToGenerate (record n
     ((codes "O", codes "ab1\n")
     ∷ (codes "M", codes "ab*c\nab*a\n")
     ∷ (codes "C", codes "start: 4 taken, top 4, 0 tails\npass 1 2 1: 7 taken, top 8\npass 1 2 0: 9 taken, top 10\npass 1 2 2: 10 taken, top 10\nlevel 1: 5 taken, top 9, 1 tails\n")
-    ∷ (codes "R", codes "pass 1 2 1: 0 good, 0 bad, 2 missed; 3 candidates, 0 chosen, 3 hopeless, 0 left; 0 good, 0 bad\npass 1 2 0: 0 good, 0 bad, 2 missed; 4 candidates, 0 chosen, 4 hopeless, 0 left; 0 good, 0 bad\npass 1 2 2: 0 good, 0 bad, 2 missed; 2 candidates, 1 chosen, 1 hopeless, 0 left; 2 good, 0 bad\nlevel 1: 1 chosen, 2 good, 0 bad, 0 missed\ntotal: 2 good, 0 bad, 0 missed\nrate: 100.00 % good, 0.00 % bad, 0.00 % missed\n")
+    ∷ (codes "R", codes "pass 1 2 1: 0 good, 0 bad, 2 missed; 3 candidates, 0 chosen, 3 hopeless, 0 left; 0 good, 0 bad\n"
+        ++ codes "pass 1 2 0: 0 good, 0 bad, 2 missed; 4 candidates, 0 chosen, 4 hopeless, 0 left; 0 good, 0 bad\n"
+        ++ codes "pass 1 2 2: 0 good, 0 bad, 2 missed; 2 candidates, 1 chosen, 1 hopeless, 0 left; 2 good, 0 bad\n"
+        ++ codes "level 1: 1 chosen, 2 good, 0 bad, 0 missed\n"
+        ++ codes "total: 2 good, 0 bad, 0 missed\n"
+        ++ codes "rate: 100.00 % good, 0.00 % bad, 0.00 % missed\n")
     ∷ [])
     (codes "done: 1 patterns, 2 good, 0 bad, 0 missed\nwork: 3 passes, 5 taken, top 9, 1 tails\n")
 unfolding names files found selection selected selected_totals selected_text selected_list selected_cells_text selected_report digits with_sign
@@ -90,7 +96,12 @@ refused_dictionary = refl
 
 -- `audit` of the right files, of a pattern file without its line feed and of an empty one
 right_report : List ℕ
-right_report = codes "pass 1 2 1: 0 good, 0 bad, 2 missed; 3 candidates, 0 chosen, 3 hopeless, 0 left; 0 good, 0 bad\npass 1 2 0: 0 good, 0 bad, 2 missed; 4 candidates, 0 chosen, 4 hopeless, 0 left; 0 good, 0 bad\npass 1 2 2: 0 good, 0 bad, 2 missed; 2 candidates, 1 chosen, 1 hopeless, 0 left; 2 good, 0 bad\nlevel 1: 1 chosen, 2 good, 0 bad, 0 missed\ntotal: 2 good, 0 bad, 0 missed\nrate: 100.00 % good, 0.00 % bad, 0.00 % missed\n"
+right_report = codes "pass 1 2 1: 0 good, 0 bad, 2 missed; 3 candidates, 0 chosen, 3 hopeless, 0 left; 0 good, 0 bad\n"
+    ++ codes "pass 1 2 0: 0 good, 0 bad, 2 missed; 4 candidates, 0 chosen, 4 hopeless, 0 left; 0 good, 0 bad\n"
+    ++ codes "pass 1 2 2: 0 good, 0 bad, 2 missed; 2 candidates, 1 chosen, 1 hopeless, 0 left; 2 good, 0 bad\n"
+    ++ codes "level 1: 1 chosen, 2 good, 0 bad, 0 missed\n"
+    ++ codes "total: 2 good, 0 bad, 0 missed\n"
+    ++ codes "rate: 100.00 % good, 0.00 % bad, 0.00 % missed\n"
 
 right_files : outcome_of (files (codes "ab-c\nab-a\n") ((codes "O", codes "ab1\n") ∷ (codes "R", right_report) ∷ [])) (ToAudit names) ≡ Ends Yes [] (codes "yes\n")
 unfolding names files found selection selected selected_text selected_report right_report digits

@@ -117,7 +117,8 @@ a_question_mark_before_the_fourth = refl
 pub a_brace_is_no_mark : of_lines (codes " 1 1{" ∷ []) ≡ refused BadMark 1 5
 a_brace_is_no_mark = refl
 
-pub marks_and_weights : tokens_of (cut abc Dictionary (codes "{250}a.b-2c*?a{12}9 x")) ≡ Weight 250 ∷ Letter 2 ∷ Marked Error ∷ Letter 3 ∷ Marked Missed ∷ Digit 2 ∷ Letter 4 ∷ Marked Found ∷ Marked DontCare ∷ Letter 2 ∷ Weight 12 ∷ Digit 9 ∷ []
+pub marks_and_weights : tokens_of (cut abc Dictionary (codes "{250}a.b-2c*?a{12}9 x")) ≡ Weight 250 ∷ Letter 2 ∷ Marked Error ∷ Letter 3 ∷ Marked Missed
+    ∷ Digit 2 ∷ Letter 4 ∷ Marked Found ∷ Marked DontCare ∷ Letter 2 ∷ Weight 12 ∷ Digit 9 ∷ []
 marks_and_weights = refl
 
 pub refused_letter : cut abc Dictionary (codes "ad") ≡ record { items = record { column = 1; token = Letter 2 } ∷ []; column = 2; rest = codes "d" }
@@ -148,7 +149,8 @@ no_mark_in_a_pattern = refl
 pub no_weight_in_a_pattern : item_at abc Patterns (codes "{1}") ≡ None
 no_weight_in_a_pattern = refl
 
-pub columns_count_bytes : cut (record { left = 1; right = 1; marks = codes ".-*?"; spellings = (2, 195 ∷ 164 ∷ []) ∷ [] }) Patterns (195 ∷ 164 ∷ 195 ∷ []) ≡ record { items = record { column = 1; token = Letter 2 } ∷ []; column = 3; rest = 195 ∷ [] }
+pub columns_count_bytes : cut (record { left = 1; right = 1; marks = codes ".-*?"; spellings = (2, 195 ∷ 164 ∷ []) ∷ [] }) Patterns (195 ∷ 164 ∷ 195 ∷ [])
+    ≡ record { items = record { column = 1; token = Letter 2 } ∷ []; column = 3; rest = 195 ∷ [] }
 columns_count_bytes = refl
 
 pub minima_of_the_default_table : map (positions 2 3) (6 ∷ 7 ∷ 8 ∷ []) ≡ [] ∷ (3 ∷ []) ∷ (3 ∷ 4 ∷ []) ∷ []

@@ -46,7 +46,8 @@ lengths-preserved g c =
     record {
       reaches = record {
         done = reached.done;
-        at = at_next source number len start reached.done n c.run_length.new.records c.run_length.new.skippable c.next_length.new.self c.next_length.ensures.here c.next_length.ensures.longer reached.at;
+        at = at_next source number len start reached.done n c.run_length.new.records c.run_length.new.skippable c.next_length.new.self
+            c.next_length.ensures.here c.next_length.ensures.longer reached.at;
         left = reached.left;
         known = reached.known;
       };
@@ -92,4 +93,5 @@ pub returns-clause-ready : goal.returns-clause-ready
 returns-clause-ready g c =
     let m = g.E.Engine.meaning c.lengths.engine in
     let some : c.args.params.now.pat_start < c.lengths.len = omega (arith, c.requires.level.start_high) in
-    tells_totals (source_of c.args.table.now c.args.dictionary.now) c.args.number c.lengths.len (known_of m) m.patterns c.lengths.counting refl (c.lengths.invariant.counted some) c.lengths.invariant.ready
+    tells_totals (source_of c.args.table.now c.args.dictionary.now) c.args.number c.lengths.len (known_of m) m.patterns c.lengths.counting refl
+        (c.lengths.invariant.counted some) c.lengths.invariant.ready

@@ -14,7 +14,8 @@ invariant-lengths g l =
     let source = source_of l.table l.dictionary in
     let all = all_made_by source l.params m0 (passes_of l.number l.params) in
     record {
-      reaches : Reaches source l.params l.number l.len (record { engine = m0; records = l.fn.records }) m l.records l.skippable (lengths_from l.number l.len l.end) all (known_at_end (known_of m0) all);
+      reaches : Reaches source l.params l.number l.len (record { engine = m0; records = l.fn.records }) m l.records l.skippable (lengths_from l.number l.len
+          l.end) all (known_at_end (known_of m0) all);
       ready : IsReady source l.number l.len (known_of m) l.counting;
       will : WillCount l.skippable l.counting;
       counted : l.params.pat_start < l.len → IsCounted l.counting;
