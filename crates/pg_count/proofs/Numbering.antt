@@ -10,7 +10,7 @@ use Rattle.pg_cells.specs.Inside.ValuedFamilies.{ValuedFamilies}
 use Rattle.pg_cells.specs.Inside.AreValuedFamilies.{AreValuedFamilies}
 use Rattle.pg_cells.specs.Inside.Root.{root_held}
 use Rattle.pg_cells.proofs.StringMaps.{order, equal_or_not, find_put_same, find_put_other}
-use Rattle.pg_count.specs.declared.tally_list.TheConstants.{NOT_COUNTED, NUMBERS_END}
+use Rattle.pg_count.specs.declared.tally_list.TheConstants.{NO_TALLY, NUMBERS_END}
 use Rattle.std.specs.Option.{option_map, is_some}
 use Rattle.std.specs.FinMap.Entries.{length-put}
 use Rattle.std.specs.Cmp.Lexicographic.{nat_list_cmp_total}
@@ -108,15 +108,15 @@ module _ (h : ValuedFamilies ℕ) (first : ℕ) (tallies : Sums) (none : tallies
   }
 
 -- the root alone
-module _ (n : ℕ) (h : ValuedFamilies ℕ) (root : h ≡ root_held n NOT_COUNTED) where
+module _ (n : ℕ) (h : ValuedFamilies ℕ) (root : h ≡ root_held n NO_TALLY) where
   pub root_tallied : (tallies : Sums) → tallies ≡ [] → tallied_families h 1 tallies ≡ root_held n None
   root_tallied tallies none =
       ap (λ t. tallied_families h 1 t) none ∙ ap (λ k. tallied_families k 1 []) root
-      ∙ ap (λ es. record { signs = n; families = (root_held n NOT_COUNTED).families; values = es }) (root_mapped (tally_by_number 1 []) NOT_COUNTED (range_with_len 1 n))
+      ∙ ap (λ es. record { signs = n; families = (root_held n NO_TALLY).families; values = es }) (root_mapped (tally_by_number 1 []) NO_TALLY (range_with_len 1 n))
 
   pub root_past : (q : List ℕ) (k : ℕ) → find order q h.values ≡ Some k → k < 1
   root_past q k e =
-      let blank = root_blank q NOT_COUNTED k (range_with_len 1 n) (ap (λ (g : ValuedFamilies ℕ). find order q g.values) (sym root) ∙ e) in
+      let blank = root_blank q NO_TALLY k (range_with_len 1 n) (ap (λ (g : ValuedFamilies ℕ). find order q g.values) (sym root) ∙ e) in
       omega arith
 
 -- a number was put into the cell of a string
@@ -131,11 +131,11 @@ tallied_put h g first tallies q k held new values =
 
 -- the string q with the sign s got a cell
 module _ (h g : ValuedFamilies ℕ) (first : ℕ) (tallies : Sums) (are : AreCellNumbers h first tallies) (q : List ℕ) (s : ℕ) (signs : g.signs ≡ h.signs)
-    (values : g.values ≡ put order (q ++ s ∷ []) NOT_COUNTED h.values) (held : AreValuedFamilies g)
+    (values : g.values ≡ put order (q ++ s ∷ []) NO_TALLY h.values) (held : AreValuedFamilies g)
     (none : find order (q ++ s ∷ []) h.values ≡ None) where
   added_values : (tallied_families g first tallies).values ≡ put order (q ++ s ∷ []) None (tallied_families h first tallies).values
-  added_values = tallied_put h g first tallies (q ++ s ∷ []) NOT_COUNTED are.held held values
-      ∙ ap (λ o. put order (q ++ s ∷ []) o (tallied_families h first tallies).values) (older_none first tallies NOT_COUNTED are.positive)
+  added_values = tallied_put h g first tallies (q ++ s ∷ []) NO_TALLY are.held held values
+      ∙ ap (λ o. put order (q ++ s ∷ []) o (tallied_families h first tallies).values) (older_none first tallies NO_TALLY are.positive)
 
   added_size : length (numbers_in (tallied_families g first tallies).values) ≡ length (numbers_in (tallied_families h first tallies).values)
   added_size =
@@ -146,8 +146,8 @@ module _ (h g : ValuedFamilies ℕ) (first : ℕ) (tallies : Sums) (are : AreCel
   pub added_tallied : Adds (tallied_families h first tallies) (tallied_families g first tallies) q s
   added_tallied = record { held = held_tallied g first tallies held; signs = signs; values = added_values; size = added_size }
 
-  added_which : (p : List ℕ) (k : ℕ) → find order p g.values ≡ Some k → (k ≡ NOT_COUNTED) ⊎ (find order p h.values ≡ Some k)
-  added_which p k at = elim (found_put p (q ++ s ∷ []) NOT_COUNTED k h.values (sym (ap (find order p) values) ∙ at)) [
+  added_which : (p : List ℕ) (k : ℕ) → find order p g.values ≡ Some k → (k ≡ NO_TALLY) ⊎ (find order p h.values ≡ Some k)
+  added_which p k at = elim (found_put p (q ++ s ∷ []) NO_TALLY k h.values (sym (ap (find order p) values) ∙ at)) [
     | inl new ↦ inl (sym new.1)
     | inr old ↦ inr old.1
   ]
@@ -171,14 +171,14 @@ module _ (h g : ValuedFamilies ℕ) (first : ℕ) (tallies : Sums) (are : AreCel
 -- the string q with the sign s got a cell, and the number of q
 module _ (h mid g : ValuedFamilies ℕ) (first : ℕ) (tallies : Sums) (are : AreCellNumbers h first tallies) (q : List ℕ) (s k : ℕ) (t : Tally)
     (signs : g.signs ≡ h.signs) (added : mid.values ≡ put order (q ++ s ∷ []) k h.values) (between : AreValuedFamilies mid)
-    (values : g.values ≡ put order q NOT_COUNTED mid.values) (held : AreValuedFamilies g) (at : find order q h.values ≡ Some k)
+    (values : g.values ≡ put order q NO_TALLY mid.values) (held : AreValuedFamilies g) (at : find order q h.values ≡ Some k)
     (none : find order (q ++ s ∷ []) h.values ≡ None) (there : find order q (tallied_families h first tallies).values ≡ Some (Some t)) where
   pushed_tally : tally_by_number first tallies k ≡ Some t
   pushed_tally = let both : Some (tally_by_number first tallies k) ≡ Some (Some t) = sym (found_mapped (tally_by_number first tallies) q k h.values at) ∙ there in cc
 
   pushed_values : (tallied_families g first tallies).values ≡ put order q None (put order (q ++ s ∷ []) (Some t) (tallied_families h first tallies).values)
   pushed_values =
-      tallied_put mid g first tallies q NOT_COUNTED between held values ∙ ap (λ o. put order q o (tallied_families mid first tallies).values) (older_none first tallies NOT_COUNTED are.positive)
+      tallied_put mid g first tallies q NO_TALLY between held values ∙ ap (λ o. put order q o (tallied_families mid first tallies).values) (older_none first tallies NO_TALLY are.positive)
       ∙ ap (put order q None) (tallied_put h mid first tallies (q ++ s ∷ []) k are.held between added ∙ ap (λ o. put order (q ++ s ∷ []) o (tallied_families h first tallies).values) pushed_tally)
 
   pushed_size : length (numbers_in (tallied_families g first tallies).values) ≡ length (numbers_in (tallied_families h first tallies).values)
@@ -190,8 +190,8 @@ module _ (h mid g : ValuedFamilies ℕ) (first : ℕ) (tallies : Sums) (are : Ar
   pub pushed_tallied : PushesDown (tallied_families h first tallies) (tallied_families g first tallies) q s t
   pushed_tallied = record { held = held_tallied g first tallies held; signs = signs; values = pushed_values; size = pushed_size }
 
-  pushed_which : (p : List ℕ) (m : ℕ) → find order p g.values ≡ Some m → (m ≡ NOT_COUNTED) ⊎ (((p ≡ q ++ s ∷ []) × (m ≡ k)) ⊎ ((p ≢ q) × (find order p h.values ≡ Some m)))
-  pushed_which p m e = elim (found_put p q NOT_COUNTED m mid.values (sym (ap (find order p) values) ∙ e)) [
+  pushed_which : (p : List ℕ) (m : ℕ) → find order p g.values ≡ Some m → (m ≡ NO_TALLY) ⊎ (((p ≡ q ++ s ∷ []) × (m ≡ k)) ⊎ ((p ≢ q) × (find order p h.values ≡ Some m)))
+  pushed_which p m e = elim (found_put p q NO_TALLY m mid.values (sym (ap (find order p) values) ∙ e)) [
     | inl up ↦ inl (sym up.1)
     | inr off ↦ elim (found_put p (q ++ s ∷ []) k m h.values (sym (ap (find order p) added) ∙ off.1)) [
       | inl down ↦ inr (inl (down.0, sym down.1))

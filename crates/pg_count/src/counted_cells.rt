@@ -16,9 +16,7 @@ ghost use Rattle.pg_count.specs.Inside.Counting.{Tally, counts_in, numbers_in};
 ghost use Rattle.pg_count.specs.Inside.Leaves.{Adds, AreShort, PushesDown};
 ghost use Rattle.pg_count.specs.declared.tally_list.TheConstants.{NUMBERS_END};
 
-use crate::tally_list::{
-    NOT_COUNTED, NUMBERS_END, push_sums, set_sums_at, sums_at, tally_by_number,
-};
+use crate::tally_list::{NO_TALLY, NUMBERS_END, push_sums, set_sums_at, sums_at, tally_by_number};
 use pg_cells::NearCells;
 use pg_types::Sign;
 use std::alloc::{AllocError, Global};
@@ -69,7 +67,7 @@ impl CountedCells {
         ensures held { IfOk result (λ t. t ≡ root_held signs None) }
         ensures kept { IfOk result (λ t. AreValuedFamilies t) }
     {
-        let cells = NearCells::new(alloc, signs, NOT_COUNTED)?;
+        let cells = NearCells::new(alloc, signs, NO_TALLY)?;
         let tallies = Vec::new(alloc);
         Ok(CountedCells {
             cells,
@@ -188,7 +186,7 @@ impl CountedCells {
             IfOk result (λ cell. cell_of self.new.families (q ++ s ∷ []) ≡ Some cell) }
         ensures err { OnErr result (self.new ≡ self.old) }
     {
-        let cell = self.cells.add(parent, s, NOT_COUNTED)?;
+        let cell = self.cells.add(parent, s, NO_TALLY)?;
         Ok(cell)
     }
 
@@ -210,7 +208,7 @@ impl CountedCells {
     {
         let number = self.cells.value(cell);
         let below = self.cells.add(cell, s, number)?;
-        self.cells.set_value(cell, NOT_COUNTED);
+        self.cells.set_value(cell, NO_TALLY);
         Ok(below)
     }
 
@@ -275,6 +273,6 @@ fn first_after(cells: &mut NearCells<u32>, next: u32, keeps: bool) -> u32
     if keeps {
         return next;
     }
-    cells.reset(NOT_COUNTED);
+    cells.reset(NO_TALLY);
     1
 }

@@ -8,11 +8,10 @@ ghost use Rattle.pg_count.specs.Inside.Counting.{IsCounting, counted_more};
 use crate::counted_cells::CountedCells;
 use crate::leaf::count_new;
 use crate::least::least;
-use crate::tally_list::add_weight;
 use crate::walk::walk;
 use crate::way::{find_counted, way_of};
 use crate::window_list::WindowList;
-use pg_types::{Cursor, EDGE, Sign, Weight};
+use pg_types::{Cursor, EDGE, Sign, Weight, add_weight};
 use std::alloc::{AllocError, Global};
 use std::marker::Model;
 
@@ -114,11 +113,12 @@ impl CountTrie {
         let way = way_of(&self.cells, window);
         match find_counted(&self.cells, &self.windows, way, window) {
             Some((number, sums)) => {
-                self.cells.set_sums(number, add_weight(sums, good, weight));
+                self.cells
+                    .set_sums(number, add_weight(sums, good, u64::from(weight)));
                 Ok(number)
             }
             None => {
-                let sums = add_weight((0, 0), good, weight);
+                let sums = add_weight((0, 0), good, u64::from(weight));
                 let number = count_new(&mut self.cells, &mut self.windows, way, window, sums)?;
                 Ok(number)
             }

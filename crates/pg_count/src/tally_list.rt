@@ -1,29 +1,14 @@
 //! The sums of good and bad weights of a string, as one tally of a list.
 ghost use Rattle.std.specs.Prelude.{◌≡◌, ◌+◌, ◌<◌, ◌≤◌, ◌++◌, [], ◌∷◌, length, set, slice_get, Some, IfOk, OnOk, OnErr};
-ghost use Rattle.pg_types.specs.Inside.Counts.{AreSmall, with_weight};
 ghost use Rattle.pg_count.specs.Inside.CellNumbers.{tally_by_number};
 
-use pg_types::Weight;
 use std::alloc::AllocError;
 
 /// This number in a cell says that the string was never counted: tallies are numbered from 1 on.
-pub const NOT_COUNTED: u32 = 0;
+pub const NO_TALLY: u32 = 0;
 
 /// The number of each tally is below this one.
 pub const NUMBERS_END: u32 = u32::MAX;
-
-/// The sums with one weight more, in the good or the bad one.
-pub fn add_weight(sums: (u64, u64), good: bool, weight: Weight) -> (u64, u64)
-    requires { AreSmall (with_weight sums good weight) }
-    ensures { result ≡ with_weight sums good weight }
-{
-    let weight = u64::from(weight);
-    if good {
-        (sums.0 + weight, sums.1)
-    } else {
-        (sums.0, sums.1 + weight)
-    }
-}
 
 /// The tally with the number of a cell, where they are numbered from `first` on, or `None` where no
 /// tally has it. Before its sums stands its own number, from 0 on.

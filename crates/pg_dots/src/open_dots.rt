@@ -66,7 +66,7 @@ impl OpenDots {
     pub fn open(&mut self, i: usize)
         requires within { i < position_count self.old }
         requires none { self.old.reached ≡ 0 }
-        ensures places { position_count self.new ≡ position_count self.old }
+        ensures positions { position_count self.new ≡ position_count self.old }
         ensures none { self.new.reached ≡ 0 }
         ensures closed { (dot j : ℕ) → j < position_count self.old
             → is_closed self.new dot j ≡ (not (j == i) && is_closed self.old dot j) }
@@ -78,7 +78,7 @@ impl OpenDots {
     pub fn reach(&mut self, dot: u8) -> Result<(), AllocError>
         requires { dot ≤ LENGTH_MAX }
         ensures reached { OnOk result (dot < self.new.reached) }
-        ensures places { position_count self.new ≡ position_count self.old }
+        ensures positions { position_count self.new ≡ position_count self.old }
         ensures closed { (d j : ℕ) → j < position_count self.old
             → is_closed self.new d j ≡ is_closed self.old d j }
     {
@@ -92,7 +92,7 @@ impl OpenDots {
     fn reach_next(&mut self) -> Result<(), AllocError>
         requires { self.old.reached < LENGTH_MAX + 1 }
         ensures reached { OnOk result (self.new.reached ≡ self.old.reached + 1) }
-        ensures places { position_count self.new ≡ position_count self.old }
+        ensures positions { position_count self.new ≡ position_count self.old }
         ensures closed { (d j : ℕ) → j < position_count self.old
             → is_closed self.new d j ≡ is_closed self.old d j }
     {
@@ -140,7 +140,7 @@ impl OpenDots {
     pub fn close(&mut self, dot: u8, i: usize)
         requires dot { dot < self.old.reached }
         requires within { i < position_count self.old }
-        ensures places { position_count self.new ≡ position_count self.old }
+        ensures positions { position_count self.new ≡ position_count self.old }
         ensures reached { self.new.reached ≡ self.old.reached }
         ensures closed { (d j : ℕ) → j < position_count self.old
             → is_closed self.new d j ≡ ((d == dot && j == i) || is_closed self.old d j) }
@@ -152,7 +152,7 @@ impl OpenDots {
     /// Closes every dot at a position.
     pub fn close_all(&mut self, i: usize)
         requires within { i < position_count self.old }
-        ensures places { position_count self.new ≡ position_count self.old }
+        ensures positions { position_count self.new ≡ position_count self.old }
         ensures reached { self.new.reached ≡ self.old.reached }
         ensures closed { (d j : ℕ) → j < position_count self.old
             → is_closed self.new d j ≡ (j == i || is_closed self.old d j) }
@@ -162,7 +162,7 @@ impl OpenDots {
 
     /// Goes on to the next length: a dot is closed where it was, or where the dot before it was.
     pub fn next_length(&mut self) -> Result<(), AllocError>
-        ensures places { position_count self.new ≡ position_count self.old }
+        ensures positions { position_count self.new ≡ position_count self.old }
         ensures closed { OnOk result ((d j : ℕ) → d ≤ LENGTH_MAX → j < position_count self.old
             → is_closed self.new d j
             ≡ (is_closed self.old d j || (nat_le 1 d && is_closed self.old (d - 1) j))) }

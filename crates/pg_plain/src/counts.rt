@@ -12,7 +12,7 @@ ghost use Rattle.pg_types.specs.declared.limits.TheConstants.{LENGTH_MAX};
 ghost use Rattle.pg_plain.specs.Inside.Counted.{counted_more, tally_at};
 
 use crate::keys::WindowKey;
-use pg_types::{Cursor, Sign};
+use pg_types::{Cursor, Sign, add_weight};
 use std::alloc::{AllocError, Global};
 use std::collections::BTreeMap;
 use std::marker::Model;
@@ -93,7 +93,7 @@ impl CountedWindows {
                 Ok(number)
             }
             None => {
-                let sums = added((0, 0), good, weight);
+                let sums = add_weight((0, 0), good, weight);
                 let number = number_new(
                     &mut self.numbers,
                     &mut self.tallies,
@@ -170,7 +170,7 @@ fn add_to(tallies: &mut Vec<(u64, u64)>, number: u32, good: bool, weight: u64)
         (with_weight (tally_at tallies.old.items number) good weight) }
 {
     let sums = tallies[number as usize];
-    tallies[number as usize] = added(sums, good, weight);
+    tallies[number as usize] = add_weight(sums, good, weight);
 }
 
 /// Gives a window that is not counted the next number, with its sums, and tells that number.
@@ -247,16 +247,4 @@ fn push_all(numbers: &BTreeMap<WindowKey, u32>, out: &mut Vec<u32>) -> Result<()
         out.push(*number)?;
     }
     Ok(())
-}
-
-/// Sums with one weight more.
-fn added(sums: (u64, u64), good: bool, weight: u64) -> (u64, u64)
-    requires { AreSmall (with_weight sums good weight) }
-    ensures { result ≡ with_weight sums good weight }
-{
-    if good {
-        (sums.0 + weight, sums.1)
-    } else {
-        (sums.0, sums.1 + weight)
-    }
 }

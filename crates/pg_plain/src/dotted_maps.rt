@@ -12,44 +12,44 @@ use std::alloc::{AllocError, Global};
 use std::collections::BTreeMap;
 
 /// The value of a dotted string, 0 where it has none.
-fn value_in(map: &BTreeMap<DottedKey, u8>, place: &DottedKey) -> u8
-    ensures { result ≡ value_of map.now.entries place.now }
+fn value_in(map: &BTreeMap<DottedKey, u8>, dotted: &DottedKey) -> u8
+    ensures { result ≡ value_of map.now.entries dotted.now }
 {
-    match map.get(place) {
+    match map.get(dotted) {
         Some(value) => *value,
         None => 0,
     }
 }
 
-/// Raises the value of `place` to `value`, where it is less.
+/// Raises the value of `dotted` to `value`, where it is less.
 pub fn raise_in(
     map: &mut BTreeMap<DottedKey, u8>,
-    place: DottedKey,
+    dotted: DottedKey,
     value: u8,
 ) -> Result<(), AllocError>
-    ensures ok { OnOk result (map.new.entries ≡ raise map.old.entries place value) }
+    ensures ok { OnOk result (map.new.entries ≡ raise map.old.entries dotted value) }
     ensures err { OnErr result (map.new.entries ≡ map.old.entries) }
-    ensures kept { IsPatternMap map.old.entries → is_entry (place, value) ≡ true
+    ensures kept { IsPatternMap map.old.entries → is_entry (dotted, value) ≡ true
         → IsPatternMap map.new.entries }
     ensures places { (good : List ℕ × ℕ → Bool) → list_all (λ e. good e.0) map.old.entries ≡ true
-        → good place
+        → good dotted
         ≡ true → list_all (λ e. good e.0) map.new.entries ≡ true }
 {
-    let held = value_in(map, &place);
-    map.insert(place, value.max(held))?;
+    let held = value_in(map, &dotted);
+    map.insert(dotted, value.max(held))?;
     Ok(())
 }
 
-/// Puts `place` into a set.
-pub fn put_in(set: &mut BTreeMap<DottedKey, ()>, place: DottedKey) -> Result<(), AllocError>
-    ensures ok { OnOk result (set.new.entries ≡ put dotted_cmp place (tt {0}) set.old.entries) }
+/// Puts `dotted` into a set.
+pub fn put_in(set: &mut BTreeMap<DottedKey, ()>, dotted: DottedKey) -> Result<(), AllocError>
+    ensures ok { OnOk result (set.new.entries ≡ put dotted_cmp dotted (tt {0}) set.old.entries) }
     ensures err { OnErr result (set.new.entries ≡ set.old.entries) }
     ensures sorted { T (is_sorted dotted_cmp set.new.entries) }
     ensures places { (good : List ℕ × ℕ → Bool) → list_all (λ e. good e.0) set.old.entries ≡ true
-        → good place
+        → good dotted
         ≡ true → list_all (λ e. good e.0) set.new.entries ≡ true }
 {
-    set.insert(place, ())?;
+    set.insert(dotted, ())?;
     Ok(())
 }
 
@@ -72,8 +72,8 @@ pub fn set_of(alloc: Global, map: &BTreeMap<DottedKey, u8>) -> Result<PatternSet
     ensures { IfOk result (λ patterns. patterns ≡ map.now.entries) }
 {
     let mut entries = Vec::new(alloc);
-    for (place, value) in map.iter() {
-        entries.push((DottedSigns::new(place.signs(), place.dot()), *value))?;
+    for (dotted, value) in map.iter() {
+        entries.push((DottedSigns::new(dotted.signs(), dotted.dot()), *value))?;
     }
     Ok(PatternSet::from_entries(entries))
 }

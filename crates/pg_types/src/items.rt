@@ -6,18 +6,15 @@ ghost use Rattle.pg_types.specs.Parameters.{items, is_separator as is_separator_
 ghost use Rattle.pg_types.specs.Inside.Parts.{refusal_of_item};
 ghost use Rattle.pg_types.specs.Inside.Ranges.{IsLevel};
 
-use crate::limits::{COST_MAX, LENGTH_MAX};
+use crate::limits::{COST_MAX, ITEMS_MAX, LENGTH_MAX};
 use crate::parameters::LevelParams;
 use crate::refusals::{Kind, Refusal};
 
 /// A greater number is read as this one, which is out of every range. So no number overflows.
 const TOO_GREAT: u32 = COST_MAX + 1;
 
-/// A number of items that is greater than that of any accepted file.
-const PLACE_MAX: u32 = 100;
-
 /// Whether the byte stands between items.
-fn is_separator(byte: u8) -> bool
+pub fn is_separator(byte: u8) -> bool
     ensures { result ≡ is_separator_byte byte }
 {
     matches!(byte, b' ' | b'\t' | b'\r' | b'\n')
@@ -52,7 +49,7 @@ fn first_separator(rest: &[u8]) -> Option<usize>
 }
 
 /// The first item of `rest` and what follows it.
-fn next_item(rest: &[u8]) -> Option<(&[u8], &[u8])>
+pub fn next_item(rest: &[u8]) -> Option<(&[u8], &[u8])>
     ensures { MatchOption result (items rest.now ≡ [])
         (λ r. items rest.now ≡ r.0.now ∷ items r.1.now) }
 {
@@ -78,7 +75,7 @@ fn read_number(item: &[u8]) -> Option<u32>
 }
 
 /// Whether the item answers patgen's last question.
-fn is_answer(item: &[u8]) -> bool
+pub fn is_answer(item: &[u8]) -> bool
     ensures { result ≡ is_answer_item item.now }
 {
     matches!(item, [b'y' | b'Y' | b'n' | b'N'])
@@ -106,7 +103,7 @@ impl<'a> Items<'a> {
     /// Takes a number from `least` to `greatest`, or refuses the item.
     pub fn number(&mut self, least: u32, greatest: u32) -> Result<u32, Refusal>
         requires range { greatest ≤ COST_MAX }
-        requires place { self.old.place < PLACE_MAX }
+        requires place { self.old.place < ITEMS_MAX }
         ensures value { IfOk result (λ n. n ≡ number_at (items self.old.rest.now) 0) }
         ensures low { IfOk result (λ n. least ≤ n) }
         ensures high { IfOk result (λ n. n ≤ greatest) }
@@ -132,7 +129,7 @@ impl<'a> Items<'a> {
 
     /// Takes the five numbers of a level.
     pub fn level(&mut self) -> Result<LevelParams, Refusal>
-        requires { self.old.place + 5 ≤ PLACE_MAX }
+        requires { self.old.place + 5 ≤ ITEMS_MAX }
         ensures value { IfOk result (λ level. level ≡ level_of (items self.old.rest.now)) }
         ensures ranges { IfOk result (λ level. IsLevel level) }
         ensures rest { OnOk result (items self.new.rest.now ≡ drop 5 (items self.old.rest.now)) }
@@ -158,7 +155,7 @@ impl<'a> Items<'a> {
     /// Refuses the first item too many. Only one answer of patgen's last question may be left: `y`,
     /// `Y`, `n` or `N`.
     pub fn end(&self) -> Result<(), Refusal>
-        requires { self.now.place ≤ PLACE_MAX }
+        requires { self.now.place ≤ ITEMS_MAX }
         ensures passed { OnOk result (surplus self.now.place (items self.now.rest.now) ≡ None) }
         ensures refused { IfErr result
             (λ refusal. surplus self.now.place (items self.now.rest.now) ≡ Some refusal) }

@@ -11,14 +11,17 @@ pub mod marks;
 pub mod numbers;
 pub mod parameters;
 pub mod refusals;
+mod sums;
 
 pub use cursor::Cursor;
+pub use items::{is_answer, is_separator, next_item};
 pub use limits::{
-    COST_MAX, EDGE, FAR_BELOW, FEW_SIGNS, FILE_MAX, LENGTH_MAX, LEVEL_MAX, PATTERN_SIGNS_MAX,
-    SETS_MAX, SIGNS_MAX, Sign, WEIGHT_MAX, WORD_LETTERS_MAX, Weight,
+    COST_MAX, EDGE, FAR_BELOW, FEW_SIGNS, FILE_MAX, ITEMS_MAX, LENGTH_MAX, LEVEL_MAX,
+    PATTERN_SIGNS_MAX, SETS_MAX, SIGNS_MAX, Sign, WEIGHT_MAX, WORD_LETTERS_MAX, Weight,
 };
 pub use lines::next_line;
 pub use marks::{Layout, Mark, Totals};
 pub use numbers::push_number;
 pub use parameters::{LevelParams, Params, read_params};
 pub use refusals::{Kind, ReadingError, Refusal};
+pub use sums::add_weight;

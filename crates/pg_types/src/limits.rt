@@ -27,6 +27,9 @@ pub const LENGTH_MAX: u8 = 15;
 /// The greatest good weight, bad weight and threshold of a level.
 pub const COST_MAX: u32 = 1_000_000;
 
+/// A number of items that is greater than that of any accepted parameters file.
+pub const ITEMS_MAX: u32 = 100;
+
 /// The most letters that a word may have.
 pub const WORD_LETTERS_MAX: usize = 100;
 

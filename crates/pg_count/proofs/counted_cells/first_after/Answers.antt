@@ -2,7 +2,7 @@ use Rattle.std.proofs.Common.{ℕ, inl, ap, sym, ◌∙◌}
 use Rattle.std.specs.FinMap.{find}
 use Rattle.std.specs.List.{range_with_len}
 use Rattle.pg_cells.proofs.StringMaps.{order}
-use Rattle.pg_count.specs.declared.tally_list.TheConstants.{NOT_COUNTED}
+use Rattle.pg_count.specs.declared.tally_list.TheConstants.{NO_TALLY}
 use Rattle.pg_count.proofs.Mapped.{root_strings}
 use Rattle.pg_cells.specs.Inside.ValuedFamilies.{ValuedFamilies}
 use Rattle.pg_count.proofs.Numbering.{root_past}
@@ -18,4 +18,4 @@ pub returns-clause-signs : goal.returns-clause-signs
 returns-clause-signs c = ap (λ (h : ValuedFamilies ℕ). h.signs) c.reset.ensures.held
 
 pub returns-clause-strings : goal.returns-clause-strings
-returns-clause-strings c q k at = inl (root_strings q NOT_COUNTED k (range_with_len 1 c.args.cells.now.signs) (ap (λ (h : ValuedFamilies ℕ). find order q h.values) (sym c.reset.ensures.held) ∙ at))
+returns-clause-strings c q k at = inl (root_strings q NO_TALLY k (range_with_len 1 c.args.cells.now.signs) (ap (λ (h : ValuedFamilies ℕ). find order q h.values) (sym c.reset.ensures.held) ∙ at))

@@ -19,7 +19,8 @@ add_weight-requires c =
     let some = c.in-Some.ensures.some in
     let found = sym (ap (λ (d : Counting). counted_sums d.counts u) c.self.view_is)
     ∙ counts_there c.self.inside.cells ws c.self.inside.windows.len c.self.invariant.leaves u (c.in-Some.number, c.in-Some.sums) (take c.way_of-way.result.at u, some.0) some.1 in
-    subst (λ (o : Option (ℕ × ℕ)). AreSmall (with_weight (unwrap_or o (0, 0)) c.args.good c.args.weight)) found c.requires.small
+    subst (λ (k : ℕ). AreSmall (with_weight c.in-Some.sums c.args.good k)) (sym c.from.ensures)
+    (subst (λ (o : Option (ℕ × ℕ)). AreSmall (with_weight (unwrap_or o (0, 0)) c.args.good c.args.weight)) found c.requires.small)
 
 pub invariant_of-self : goal.invariant_of-self
 invariant_of-self c =
@@ -50,7 +51,8 @@ returns-in-Some-clause-ok c =
     let values = ap (λ (h : ValuedFamilies (Option Tally)). h.values) set in
     let new = again_leaves h g ws len c.self.invariant.leaves q c.in-Some.number c.in-Some.sums c.add_weight.result c.set_sums.ensures.kept signs values c.set_sums.ensures.size there in
     let sets = again_sets h g ws len c.self.invariant.leaves q c.in-Some.number c.in-Some.sums c.add_weight.result c.set_sums.ensures.kept signs values c.set_sums.ensures.size there in
-    counted_again h g ws len c.self.invariant.leaves new u c.in-Some.number c.in-Some.sums c.add_weight.result c.args.good c.args.weight signs at (q, there) c.add_weight.ensures sets
+    counted_again h g ws len c.self.invariant.leaves new u c.in-Some.number c.in-Some.sums c.add_weight.result c.args.good c.args.weight signs at (q, there)
+    (c.add_weight.ensures ∙ ap (with_weight c.in-Some.sums c.args.good) c.from.ensures) sets
     ∙ ap (λ (d : Counting). counted_more d u c.args.good c.args.weight) c.self.view_is
 
 pub returns-in_err-number-in-None-clause-there : goal.returns-in_err-number-in-None-clause-there
@@ -79,7 +81,8 @@ returns-in_ok-number-in-None-clause-ok c =
     let new = subst (AreLeaves c.count_new.new.cells c.count_new.new.windows.items) (c.requires.len ∙ sym (ap (λ (d : Counting). d.len) c.self.view_is)) ensures.leaves in
     ap (counting_of c.count_new.new.cells c.count_new.new.windows.items) (ap (λ (l : Listed). l.len) ensures.windows)
     ∙ counted_new c.self.inside.cells c.count_new.new.cells ws c.count_new.new.windows.items c.self.inside.windows.len c.self.invariant.leaves new u
-    c.add_weight-sums.result c.args.good c.args.weight ensures.signs (c.in-None.ensures.none refl) (ap (λ (l : Listed). l.items) ensures.windows) c.add_weight-sums.ensures ensures.sets
+    c.add_weight-sums.result c.args.good c.args.weight ensures.signs (c.in-None.ensures.none refl) (ap (λ (l : Listed). l.items) ensures.windows)
+    (c.add_weight-sums.ensures ∙ ap (with_weight (0, 0) c.args.good) c.from-in-None.ensures) ensures.sets
     ∙ ap (λ (d : Counting). counted_more d u c.args.good c.args.weight) c.self.view_is
 
 pub returns-in_ok-number-in-None-clause-number : goal.returns-in_ok-number-in-None-clause-number

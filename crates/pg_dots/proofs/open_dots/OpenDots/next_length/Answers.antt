@@ -37,7 +37,7 @@ returns-clause-closed c = λ d j upto within.
     ∙ elim c.if-self-lt-DOTS.branch [
       | then-self-lt-DOTS+in_ok-reach_next w ↦
           let more = w.in_ok-reach_next.ensures in
-          let wide : m.width ≡ o.width = omega (arith, ap (λ (x : OpenDots). x.width) w.self-is, more.places) in
+          let wide : m.width ≡ o.width = omega (arith, ap (λ (x : OpenDots). x.width) w.self-is, more.positions) in
           let grown : m.reached ≡ o.reached + 1 = ap (λ (x : OpenDots). x.reached) w.self-is ∙ more.reached in
           longer_grown m.bits.items now m.width m.reached o.reached d j (λ e. is_closed o e j) grown m.rows (omega arith)
           (λ e. ap (λ (x : OpenDots). is_closed x e j) w.self-is ∙ more.closed e j within)

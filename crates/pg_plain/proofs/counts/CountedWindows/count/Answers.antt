@@ -35,7 +35,7 @@ invariant_of-self-in-None c =
     let none : find (slice_cmp nat_cmp) c.args.window.now c.self.inside.numbers.entries ≡ None =
     ap (λ (u : List ℕ). find (slice_cmp nat_cmp) u c.self.inside.numbers.entries) (sym c.new-key.ensures) ∙ sym (c.in-None.ensures ∙ c.get.ensures.value) in
     let is : c.number_new.new.tallies.items ≡ c.self.inside.tallies.items ++ with_weight (0, 0) c.args.good c.args.weight ∷ [] = c.in_ok-number-in-None.ensures.tallies
-    ∙ ap (λ s. c.self.inside.tallies.items ++ s ∷ []) c.added-sums.ensures in
+    ∙ ap (λ s. c.self.inside.tallies.items ++ s ∷ []) c.add_weight-sums.ensures in
     new_are c.self.inside.numbers.entries c.self.inside.tallies.items c.self.inside.windows.items c.self.invariant c.args.window.now none c.args.good
     c.args.weight c.number_new.new.numbers.entries c.number_new.new.tallies.items c.in_ok-number-in-None.ensures.numbers is c.number_new.new.windows.items
     c.in_ok-number-in-None.ensures.windows c.in_ok-number-in-None.ensures.few
@@ -67,7 +67,7 @@ returns-in_ok-number-in-None-clause-ok c =
     let none : find (slice_cmp nat_cmp) c.args.window.now c.self.inside.numbers.entries ≡ None =
     ap (λ (u : List ℕ). find (slice_cmp nat_cmp) u c.self.inside.numbers.entries) (sym c.new-key.ensures) ∙ sym (c.in-None.ensures ∙ c.get.ensures.value) in
     let is : c.number_new.new.tallies.items ≡ c.self.inside.tallies.items ++ with_weight (0, 0) c.args.good c.args.weight ∷ [] = c.in_ok-number-in-None.ensures.tallies
-    ∙ ap (λ s. c.self.inside.tallies.items ++ s ∷ []) c.added-sums.ensures in
+    ∙ ap (λ s. c.self.inside.tallies.items ++ s ∷ []) c.add_weight-sums.ensures in
     new_seen c.self.inside.numbers.entries c.self.inside.tallies.items c.self.inside.windows.items c.self.invariant c.args.window.now none c.args.good
     c.args.weight c.number_new.new.numbers.entries c.number_new.new.tallies.items c.in_ok-number-in-None.ensures.numbers is
     ∙ ap (λ (d : Counted). counted_more d c.args.window.now c.args.good c.args.weight) c.self.view_is
@@ -77,7 +77,7 @@ returns-in_ok-number-in-None-clause-number c =
     let none : find (slice_cmp nat_cmp) c.args.window.now c.self.inside.numbers.entries ≡ None =
     ap (λ (u : List ℕ). find (slice_cmp nat_cmp) u c.self.inside.numbers.entries) (sym c.new-key.ensures) ∙ sym (c.in-None.ensures ∙ c.get.ensures.value) in
     let is : c.number_new.new.tallies.items ≡ c.self.inside.tallies.items ++ with_weight (0, 0) c.args.good c.args.weight ∷ [] = c.in_ok-number-in-None.ensures.tallies
-    ∙ ap (λ s. c.self.inside.tallies.items ++ s ∷ []) c.added-sums.ensures in
+    ∙ ap (λ s. c.self.inside.tallies.items ++ s ∷ []) c.add_weight-sums.ensures in
     subst (λ k. HasNumber (by_number c.number_new.new.numbers.entries) c.args.window.now k) (sym c.in_ok-number-in-None.ensures.number)
     (new_number c.self.inside.numbers.entries c.self.inside.tallies.items c.self.inside.windows.items c.self.invariant c.args.window.now none c.args.good
     c.args.weight c.number_new.new.numbers.entries c.number_new.new.tallies.items c.in_ok-number-in-None.ensures.numbers is c.in_ok-number-in-None.ensures.few)
@@ -87,7 +87,7 @@ returns-in_ok-number-in-None-clause-windows c = λ good new all.
     let none : find (slice_cmp nat_cmp) c.args.window.now c.self.inside.numbers.entries ≡ None =
     ap (λ (u : List ℕ). find (slice_cmp nat_cmp) u c.self.inside.numbers.entries) (sym c.new-key.ensures) ∙ sym (c.in-None.ensures ∙ c.get.ensures.value) in
     let is : c.number_new.new.tallies.items ≡ c.self.inside.tallies.items ++ with_weight (0, 0) c.args.good c.args.weight ∷ [] = c.in_ok-number-in-None.ensures.tallies
-    ∙ ap (λ s. c.self.inside.tallies.items ++ s ∷ []) c.added-sums.ensures in
+    ∙ ap (λ s. c.self.inside.tallies.items ++ s ∷ []) c.add_weight-sums.ensures in
     subst (λ (d : Counted). list_all (λ (e : List ℕ × (ℕ × ℕ)). good e.0) d.counts ≡ true)
     (sym (new_seen c.self.inside.numbers.entries c.self.inside.tallies.items c.self.inside.windows.items c.self.invariant c.args.window.now none c.args.good
     c.args.weight c.number_new.new.numbers.entries c.number_new.new.tallies.items c.in_ok-number-in-None.ensures.numbers is

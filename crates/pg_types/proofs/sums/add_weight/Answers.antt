@@ -1,5 +1,5 @@
 use Rattle.std.proofs.Common.{rules}
-use Rattle.pg_count.proofs.tally_list.add_weight.Goals as goal
+use Rattle.pg_types.proofs.sums.add_weight.Goals as goal
 
 pub returns-then-good : goal.returns-then-good
 returns-then-good c = search rules
