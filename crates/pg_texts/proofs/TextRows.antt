@@ -114,8 +114,14 @@ unfolding digits
 weight_0_report = refl
 
 -- A don't-care position
-dont_care_report : report (record { signs = 1 ∷ 2 ∷ 3 ∷ 4 ∷ 1 ∷ []; hyphens = false ∷ false ∷ false ∷ false ∷ false ∷ []; weights = 1 ∷ 1 ∷ 1 ∷ 1 ∷ 1
-    ∷ []; cares = true ∷ true ∷ true ∷ false ∷ true ∷ []; weight = 1 } ∷ word (1 ∷ 2 ∷ 3 ∷ 2 ∷ 1 ∷ []) (false ∷ false ∷ false ∷ true ∷ false ∷ [])
+dont_care_report : report (record {
+  signs = 1 ∷ 2 ∷ 3 ∷ 4 ∷ 1 ∷ [];
+  hyphens = false ∷ false ∷ false ∷ false ∷ false ∷ [];
+  weights = 1 ∷ 1 ∷ 1 ∷ 1 ∷ 1
+      ∷ [];
+  cares = true ∷ true ∷ true ∷ false ∷ true ∷ [];
+  weight = 1;
+} ∷ word (1 ∷ 2 ∷ 3 ∷ 2 ∷ 1 ∷ []) (false ∷ false ∷ false ∷ true ∷ false ∷ [])
     ∷ []) (one_level (level 2 2 1 1 1)) [] ≡ codes "pass 1 2 1: 0 good, 0 bad, 1 missed; 2 candidates, 1 chosen, 1 hopeless, 0 left; 1 good, 0 bad\n"
     ++ codes "pass 1 2 0: 1 good, 0 bad, 0 missed; 2 candidates, 0 chosen, 2 hopeless, 0 left; 0 good, 0 bad\n"
     ++ codes "pass 1 2 2: 1 good, 0 bad, 0 missed; 1 candidates, 0 chosen, 1 hopeless, 0 left; 0 good, 0 bad\n"
@@ -180,7 +186,13 @@ unfolding digits
 running_weights = refl
 
 -- a-2b*c.a with a further weight of 12: braces and a don't-care position
-marked : pattmp_text letters_abc [] (record { signs = 1 ∷ 2 ∷ 3 ∷ 4 ∷ 2 ∷ 1 ∷ []; hyphens = false ∷ false ∷ true ∷ true ∷ false ∷ false ∷ []; weights = 1 ∷ 1
-    ∷ 2 ∷ 12 ∷ 1 ∷ 1 ∷ []; cares = true ∷ true ∷ true ∷ true ∷ false ∷ true ∷ []; weight = 1 } ∷ []) ≡ codes "a-2b-{12}c?a\n"
+marked : pattmp_text letters_abc [] (record {
+  signs = 1 ∷ 2 ∷ 3 ∷ 4 ∷ 2 ∷ 1 ∷ [];
+  hyphens = false ∷ false ∷ true ∷ true ∷ false ∷ false ∷ [];
+  weights = 1 ∷ 1
+      ∷ 2 ∷ 12 ∷ 1 ∷ 1 ∷ [];
+  cares = true ∷ true ∷ true ∷ true ∷ false ∷ true ∷ [];
+  weight = 1;
+} ∷ []) ≡ codes "a-2b-{12}c?a\n"
 unfolding digits
 marked = refl

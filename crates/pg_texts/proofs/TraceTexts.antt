@@ -69,7 +69,7 @@ pass_same source p =
     let line : PassLine = pass_line source p in
     of_twelve (pass_front p.pass ++ totals_text line.before ++ codes "; ")
     (decimal line.candidates) (codes " candidates, ") (decimal line.chosen) (codes " chosen, ") (decimal line.hopeless) (codes " hopeless, ") (decimal
-        (line.candidates - line.chosen - line.hopeless)) (codes " left; ")
+    (line.candidates - line.chosen - line.hopeless)) (codes " left; ")
     (decimal line.good) (codes " good, ") (decimal line.bad) (codes " bad\n")
 
 passes_same : (source : Source) (ps : List PassTrace) → flat_map pass_line_text (map (pass_line source) ps) ≡ flat_map (pass_text source) ps
@@ -89,7 +89,7 @@ level_same : (source : Source) (l : LevelTrace) → flat_map pass_line_text (pas
 level_same source l =
     ap (λ t. t ++ level_line_text (level_line source l)) (passes_same source (filter has_candidate l.passes))
     ∙ of_five (flat_map (pass_text source) (filter has_candidate l.passes)) (level_front l.number) (decimal (chosen_by l.passes)) (codes " chosen, ")
-        (totals_text (totals_by source (patterns_after l))) (codes "\n")
+    (totals_text (totals_by source (patterns_after l))) (codes "\n")
 
 levels_same : (source : Source) (run : Trace) → flat_map (λ l. flat_map pass_line_text (pass_lines source l) ++ level_line_text (level_line source l)) run ≡ flat_map (level_text source) run
 levels_same source [] = refl

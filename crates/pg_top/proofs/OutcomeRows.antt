@@ -78,12 +78,15 @@ one_pattern : outcome_of (files (codes "ab-c\nab-a\n") []) (ToGenerate (record n
     ((codes "O", codes "ab1\n")
     ∷ (codes "M", codes "ab*c\nab*a\n")
     ∷ (codes "C", codes "start: 4 taken, top 4, 0 tails\npass 1 2 1: 7 taken, top 8\npass 1 2 0: 9 taken, top 10\npass 1 2 2: 10 taken, top 10\nlevel 1: 5 taken, top 9, 1 tails\n")
-    ∷ (codes "R", codes "pass 1 2 1: 0 good, 0 bad, 2 missed; 3 candidates, 0 chosen, 3 hopeless, 0 left; 0 good, 0 bad\n"
-        ++ codes "pass 1 2 0: 0 good, 0 bad, 2 missed; 4 candidates, 0 chosen, 4 hopeless, 0 left; 0 good, 0 bad\n"
-        ++ codes "pass 1 2 2: 0 good, 0 bad, 2 missed; 2 candidates, 1 chosen, 1 hopeless, 0 left; 2 good, 0 bad\n"
-        ++ codes "level 1: 1 chosen, 2 good, 0 bad, 0 missed\n"
-        ++ codes "total: 2 good, 0 bad, 0 missed\n"
-        ++ codes "rate: 100.00 % good, 0.00 % bad, 0.00 % missed\n")
+    ∷ (
+      codes "R",
+      codes "pass 1 2 1: 0 good, 0 bad, 2 missed; 3 candidates, 0 chosen, 3 hopeless, 0 left; 0 good, 0 bad\n"
+          ++ codes "pass 1 2 0: 0 good, 0 bad, 2 missed; 4 candidates, 0 chosen, 4 hopeless, 0 left; 0 good, 0 bad\n"
+          ++ codes "pass 1 2 2: 0 good, 0 bad, 2 missed; 2 candidates, 1 chosen, 1 hopeless, 0 left; 2 good, 0 bad\n"
+          ++ codes "level 1: 1 chosen, 2 good, 0 bad, 0 missed\n"
+          ++ codes "total: 2 good, 0 bad, 0 missed\n"
+          ++ codes "rate: 100.00 % good, 0.00 % bad, 0.00 % missed\n",
+    )
     ∷ [])
     (codes "done: 1 patterns, 2 good, 0 bad, 0 missed\nwork: 3 passes, 5 taken, top 9, 1 tails\n")
 unfolding names files found selection selected selected_totals selected_text selected_list selected_cells_text selected_report digits with_sign

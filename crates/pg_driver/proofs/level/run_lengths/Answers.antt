@@ -94,4 +94,4 @@ returns-clause-ready g c =
     let m = g.E.Engine.meaning c.lengths.engine in
     let some : c.args.params.now.pat_start < c.lengths.len = omega (arith, c.requires.level.start_high) in
     tells_totals (source_of c.args.table.now c.args.dictionary.now) c.args.number c.lengths.len (known_of m) m.patterns c.lengths.counting refl
-        (c.lengths.invariant.counted some) c.lengths.invariant.ready
+    (c.lengths.invariant.counted some) c.lengths.invariant.ready

@@ -42,7 +42,7 @@ pub after_choices-requires-clause-placed : goal.after_choices-requires-clause-pl
 after_choices-requires-clause-placed g c =
     let ready : IsReady (source_of c.args.table.now c.args.dictionary.now) c.args.pass.level c.args.pass.len (known_of (g.E.Engine.meaning c.args.engine.now)) c.count.new.self =
     subst (λ (k : Known). IsReady (source_of c.args.table.now c.args.dictionary.now) c.args.pass.level c.args.pass.len k c.count.new.self) (ap known_of
-        c.begin_pass.ensures) c.in_ok-before.ensures.ready in
+    c.begin_pass.ensures) c.in_ok-before.ensures.ready in
     placed (source_of c.args.table.now c.args.dictionary.now) c.args.pass.level c.args.pass.len (known_of (g.E.Engine.meaning c.args.engine.now)) c.count.new.self c.in_ok-before.ensures.counted ready
 
 pub after_choices-requires-clause-totals : goal.after_choices-requires-clause-totals
@@ -55,7 +55,7 @@ after_choices-requires-clause-totals g c =
     let pass = c.args.pass in
     let ready : IsReady (source_of c.args.table.now c.args.dictionary.now) c.args.pass.level c.args.pass.len (known_of (g.E.Engine.meaning c.args.engine.now)) c.count.new.self =
     subst (λ (k : Known). IsReady (source_of c.args.table.now c.args.dictionary.now) c.args.pass.level c.args.pass.len k c.count.new.self) (ap known_of
-        c.begin_pass.ensures) c.in_ok-before.ensures.ready in
+    c.begin_pass.ensures) c.in_ok-before.ensures.ready in
     let counted = counted_as c.args.table.now words pass m _ _ c.begin_pass.ensures c.in_ok-before.ensures.did.counts in
     let numbers = numbers_are c.args.table.now words params pass m m2 c.in_ok-choices.choices counted c.in_ok-choices.ensures.choices in
     let source = source_of c.args.table.now words in
@@ -86,7 +86,7 @@ returns-clause-ready g c =
     let state = pass_state c.args.table.now words params pass m m2 n counted c.in_ok-choices.ensures.ok in
     let ready : IsReady (source_of c.args.table.now c.args.dictionary.now) c.args.pass.level c.args.pass.len (known_of (g.E.Engine.meaning c.args.engine.now)) c.count.new.self =
     subst (λ (k : Known). IsReady (source_of c.args.table.now c.args.dictionary.now) c.args.pass.level c.args.pass.len k c.count.new.self) (ap known_of
-        c.begin_pass.ensures) c.in_ok-before.ensures.ready in
+    c.begin_pass.ensures) c.in_ok-before.ensures.ready in
     subst (λ (k : Known). IsReady source pass.level pass.len k c.after_choices.new.self) (sym (ap (λ (s : State). s.known) state))
     (ready_after source params (known_of m) pass c.in_ok-choices.choices n.counts c.count.new.self c.after_choices.new.self
     (are_of source params (known_of m) pass c.in_ok-choices.choices numbers) c.in_ok-before.ensures.counted (omega (arith, c.requires.ranges.within, c.requires.ranges.len_high))

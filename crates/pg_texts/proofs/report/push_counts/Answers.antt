@@ -6,8 +6,8 @@ use Rattle.pg_texts.proofs.report.push_counts.Goals as goal
 pub returns : goal.returns
 returns c =
     four_numbers c.args.text.now.items (decimal c.args.pass.now.candidates) (codes " candidates, ") (decimal c.args.pass.now.chosen) (codes " chosen, ")
-        (decimal c.args.pass.now.hopeless) (codes " hopeless, ") (decimal (c.args.pass.now.candidates - c.args.pass.now.chosen - c.args.pass.now.hopeless))
-        (codes " left; ")
+    (decimal c.args.pass.now.hopeless) (codes " hopeless, ") (decimal (c.args.pass.now.candidates - c.args.pass.now.chosen - c.args.pass.now.hopeless))
+    (codes " left; ")
     c.push_number.new.text.items c.push_number-2.new.text.items c.push_number-3.new.text.items c.push_number-4.new.text.items c.extend_from_slice.new.self.items
     (c.in_ok-push_number.ensures ∙ ap (λ t. t ++ decimal c.args.pass.now.candidates) (append-nil c.args.text.now.items)) c.in_ok-push_number-2.ensures
     c.in_ok-push_number-3.ensures c.in_ok-push_number-4.ensures c.in_ok-extend_from_slice.ensures.items
