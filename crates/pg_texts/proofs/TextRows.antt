@@ -117,8 +117,7 @@ weight_0_report = refl
 dont_care_report : report (record {
   signs = 1 ∷ 2 ∷ 3 ∷ 4 ∷ 1 ∷ [];
   hyphens = false ∷ false ∷ false ∷ false ∷ false ∷ [];
-  weights = 1 ∷ 1 ∷ 1 ∷ 1 ∷ 1
-      ∷ [];
+  weights = 1 ∷ 1 ∷ 1 ∷ 1 ∷ 1 ∷ [];
   cares = true ∷ true ∷ true ∷ false ∷ true ∷ [];
   weight = 1;
 } ∷ word (1 ∷ 2 ∷ 3 ∷ 2 ∷ 1 ∷ []) (false ∷ false ∷ false ∷ true ∷ false ∷ [])
@@ -189,8 +188,7 @@ running_weights = refl
 marked : pattmp_text letters_abc [] (record {
   signs = 1 ∷ 2 ∷ 3 ∷ 4 ∷ 2 ∷ 1 ∷ [];
   hyphens = false ∷ false ∷ true ∷ true ∷ false ∷ false ∷ [];
-  weights = 1 ∷ 1
-      ∷ 2 ∷ 12 ∷ 1 ∷ 1 ∷ [];
+  weights = 1 ∷ 1 ∷ 2 ∷ 12 ∷ 1 ∷ 1 ∷ [];
   cares = true ∷ true ∷ true ∷ true ∷ false ∷ true ∷ [];
   weight = 1;
 } ∷ []) ≡ codes "a-2b-{12}c?a\n"
