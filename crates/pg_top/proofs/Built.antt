@@ -27,9 +27,9 @@ promise_kept : (request : Request) (answer : Status) (old new : Moment) → (ans
 promise_kept (ToGenerate n) answer old new kept = tt
 promise_kept (ToAudit n) answer old new kept = tt
 promise_kept (ToSample seed count) answer old new kept = tt
-promise_kept (ToPack patterns translate table) answer old new kept = kept
-promise_kept (ToTotals dict translate table) answer old new kept = tt
-promise_kept (ToPrune dict patterns output translate report) answer old new kept = kept
+promise_kept (ToPack n) answer old new kept = kept
+promise_kept (ToTotals n) answer old new kept = tt
+promise_kept (ToPrune n) answer old new kept = kept
 promise_kept (ToSweep s) answer old new kept = kept
 
 -- a command that builds what it writes and prints
@@ -49,9 +49,9 @@ may_build : (request : Request) → IsBuilding request → MayBuild request
 may_build (ToGenerate n) is = record { done = (0, omega arith, refl); refused = (1, omega arith, refl); reads = λ none. cc; sampled = λ answer old new. tt }
 may_build (ToAudit n) is = absurd is
 may_build (ToSample seed count) is = absurd is
-may_build (ToPack patterns translate table) is = record { done = (0, omega arith, refl); refused = (1, omega arith, refl); reads = λ none. cc; sampled = λ answer old new. tt }
-may_build (ToTotals dict translate table) is = record { done = (0, omega arith, refl); refused = (1, omega arith, refl); reads = λ none. cc; sampled = λ answer old new. tt }
-may_build (ToPrune dict patterns output translate report) is = record { done = (0, omega arith, refl); refused = (1, omega arith, refl); reads = λ none. cc; sampled = λ answer old new. tt }
+may_build (ToPack n) is = record { done = (0, omega arith, refl); refused = (1, omega arith, refl); reads = λ none. cc; sampled = λ answer old new. tt }
+may_build (ToTotals n) is = record { done = (0, omega arith, refl); refused = (1, omega arith, refl); reads = λ none. cc; sampled = λ answer old new. tt }
+may_build (ToPrune n) is = record { done = (0, omega arith, refl); refused = (1, omega arith, refl); reads = λ none. cc; sampled = λ answer old new. tt }
 may_build (ToSweep s) is = record { done = (0, omega arith, refl); refused = (1, omega arith, refl); reads = λ none. cc; sampled = λ answer old new. tt }
 
 -- such a command at its end

@@ -1,20 +1,18 @@
 -- What is said of the answer of a command at each of its ends.
 use Rattle.std.proofs.Common.{◌≡◌, ℕ, ◌+◌, arith, List, [], Contains, take, Option, None, Some, IfSome, MatchOption, inl, inr, refl, sym, ap, ◌∙◌, subst}
 use Rattle.std.specs.Prelude.{slice_get, unwrap_or}
-use Rattle.std.proofs.lemmas.Option.{get_or_from_slice_get, slice_get_within, slice_get-map}
+use Rattle.std.proofs.lemmas.Option.{slice_get-map}
 use Rattle.std.specs.Option.{option_map}
 use Rattle.pg_types.specs.declared.refusals.Refusal.{Refusal}
 use Rattle.pg_outside.specs.Content.{FileMap, FilesShown, SinkShown, KeepsHeld, file_at}
-use Rattle.pg_outside.specs.Faults.{Rose}
 use Rattle.pg_outside.specs.Inside.NameFaults.{NoneFell}
 use Rattle.pg_top.specs.Answers.{answers_to, IsAnswered, IsCall}
 use Rattle.pg_top.specs.Calls.{outcome, outcome_of, own_outcome, reads_of, writes_of}
 use Rattle.pg_top.specs.Counted.{MakesCalls, MakesPuts, read_calls, PutsFault, ReadsUpTo, EndsAt, IsEndCounted}
 use Rattle.pg_top.specs.Inside.ReadCalls.{write_calls}
-use Rattle.pg_top.specs.Inside.UnreadFiles.{IsUnreadAt}
 use Rattle.pg_top.specs.Inside.PutCounts.{PutsCounted, LinesCounted}
 use Rattle.pg_top.specs.Moments.{Moment, OfFiles, PutOrRose}
-use Rattle.pg_top.specs.Inside.Puts.{Puts, PutsPart, PutRose, FilesRose}
+use Rattle.pg_top.specs.Inside.Puts.{Puts, PutsPart, PutRose}
 use Rattle.pg_top.specs.Outcomes.{Outcome, Ends, Writing, IsKnown}
 use Rattle.pg_top.specs.Inside.Refusing.{refuses}
 use Rattle.pg_top.specs.PrintedLines.{usage_line, refused_line}
@@ -22,7 +20,7 @@ use Rattle.pg_top.specs.Inside.FaultLines.{reading_line, writing_line}
 use Rattle.pg_top.specs.Readings.{first_end}
 use Rattle.pg_words.specs.Requests.{Request, ToGenerate, ToAudit, ToSample, ToPack, ToTotals, ToPrune, ToSweep}
 use Rattle.pg_top.specs.sample.Sampled.{sample_lines}
-use Rattle.pg_top.specs.Inside.Stops.{StopsWith, StopsReading, StopsCommandWith, StopsCommand, PutsAnswer, PutsLines, PutsStop, Finishes}
+use Rattle.pg_top.specs.Inside.Stops.{ReadRose, ReadRoseAt, StopsWith, StopsReading, StopsCommandWith, StopsCommand, PutsAnswer, PutsLines, PutsStop, Finishes}
 use Rattle.pg_top.specs.Writings.{after_all, IsPartWritten}
 use Rattle.pg_top.specs.Inside.WritesMade.{written_names, WroteAll, StoppedAt}
 use Rattle.pg_top.specs.declared.answers.Status.{Status}
@@ -35,7 +33,7 @@ use Rattle.pg_top.proofs.CountedEnds.{refused_counted, whole_calls, sample_whole
 use Rattle.pg_top.proofs.Faults.{rose_since}
 use Rattle.pg_top.proofs.Orders.{mapped, end_of_all}
 
--- an outcome was done by an answer: whole, up to its lines, and up to a write; and its answer alone
+-- an outcome was done by an answer: whole, up to its lines, and up to a write
 abbrev DoesAll : Moment → Moment → Status → FileMap → FileMap → Outcome → Type 0
 DoesAll old new status before after end = IsKnown end (λ wanted writing lines. (status ≡ wanted) × (after ≡ after_all before writing) × Puts old.1 new.1 lines)
 
@@ -44,9 +42,6 @@ DoesPart old new wanted before after end = IsKnown end (λ status writing lines.
 
 abbrev StopsWriting : List ℕ → FileMap → FileMap → Outcome → Type 0
 StopsWriting name before after end = IsKnown end (λ status writing lines. IsPartWritten before after writing name)
-
-abbrev IsAnswerOf : Status → Outcome → Type 0
-IsAnswerOf status end = IsKnown end (λ wanted writing lines. status ≡ wanted)
 
 -- the answers that are those of an outcome
 abbrev pub IsEnd : Status → Type 0
@@ -69,18 +64,18 @@ pub may_fault : (request : Request) → Contains (answers_to (Some request)) Fau
 may_fault (ToGenerate n) = (2, omega arith, refl)
 may_fault (ToAudit n) = (3, omega arith, refl)
 may_fault (ToSample seed count) = (1, omega arith, refl)
-may_fault (ToPack patterns translate table) = (2, omega arith, refl)
-may_fault (ToTotals dict translate table) = (2, omega arith, refl)
-may_fault (ToPrune dict patterns output translate report) = (2, omega arith, refl)
+may_fault (ToPack n) = (2, omega arith, refl)
+may_fault (ToTotals n) = (2, omega arith, refl)
+may_fault (ToPrune n) = (2, omega arith, refl)
 may_fault (ToSweep s) = (2, omega arith, refl)
 
 pub may_want : (request : Request) → Contains (answers_to (Some request)) Memory
 may_want (ToGenerate n) = (3, omega arith, refl)
 may_want (ToAudit n) = (4, omega arith, refl)
 may_want (ToSample seed count) = (2, omega arith, refl)
-may_want (ToPack patterns translate table) = (3, omega arith, refl)
-may_want (ToTotals dict translate table) = (3, omega arith, refl)
-may_want (ToPrune dict patterns output translate report) = (3, omega arith, refl)
+may_want (ToPack n) = (3, omega arith, refl)
+may_want (ToTotals n) = (3, omega arith, refl)
+may_want (ToPrune n) = (3, omega arith, refl)
 may_want (ToSweep s) = (3, omega arith, refl)
 
 answered_as : (asked : Option Request) (status : Status) (old new : Moment) → OfFiles old new (λ before after. DoesAll old new status before after (outcome (file_at before) asked))
@@ -127,10 +122,7 @@ module _ (request : Request) (wanted : Status) (writing : Writing) (lines : List
         (of_files s0 s1 s2 writing Comes (λ before after. DoesAll (s0, o0) (s2, o1) wanted before after (outcome_of (file_at before) request)) keeps told wrote
         (λ before after comes written. subst (DoesAll (s0, o0) (s2, o1) wanted before after) (sym comes) (refl, written, puts)));
     memory = λ is. absurd (no_memory wanted end is);
-    fault = λ is. absurd (no_fault wanted end is);
     faulted = λ is. absurd (no_fault wanted end is);
-    complete = inr (inr (of_files s0 s1 s2 writing Comes (λ before after. IsAnswerOf wanted (outcome_of (file_at before) request)) keeps told wrote
-        (λ before after comes written. subst (IsAnswerOf wanted) (sym comes) refl)));
   }
 
   -- its lines could not be put
@@ -141,7 +133,6 @@ module _ (request : Request) (wanted : Status) (writing : Writing) (lines : List
     usage = λ is. cc;
     answered = tt;
     memory = λ is. cc;
-    fault = λ _. inl rose;
     faulted = λ _. inr (inr (record {
       wanted = wanted;
       counted = counted;
@@ -149,7 +140,6 @@ module _ (request : Request) (wanted : Status) (writing : Writing) (lines : List
       part = of_files s0 s1 s2 writing Comes (λ before after. DoesPart (s0, o0) (s2, o1) wanted before after (outcome_of (file_at before) request)) keeps told wrote
           (λ before after comes written. subst (DoesPart (s0, o0) (s2, o1) wanted before after) (sym comes) (refl, written, part));
     }));
-    complete = inl (inl rose);
   }
 
   -- all was written
@@ -191,32 +181,28 @@ memory_call request s0 s1 o0 o1 answer keeps is puts = subst (λ (status : Statu
   usage = λ is. cc;
   answered = tt;
   memory = λ _. (keeps, puts);
-  fault = λ is. cc;
   faulted = λ is. cc;
-  complete = inr (inl refl);
 })
 
 -- a file could not be read
-unread_call : (request : Request) (place : ℕ) (s0 s1 : FilesShown) (o0 o1 : SinkShown) → KeepsHeld s0.held s1.held → ReadsUpTo (reads_of request) place s0 s1
-    → (unread : IsUnreadAt (reads_of request) place s0 s1) → PutOrRose o0 o1 (reading_line unread.reading.name) → PutsFault o0 o1 → IsCall (Some request) Fault (s0, o0) (s1, o1)
-unread_call request place s0 s1 o0 o1 keeps read unread line puts =
-    let rose : FilesRose request (s0, o0) (s1, o1) =
-    inl (
-      place,
-      unread.reading,
-      slice_get_within (reads_of request) place unread.reading unread.there,
-      get_or_from_slice_get (reads_of request) place unread.reading unread.reading unread.there,
-      unread.rose,
-    ) in
-    record {
-      answers = may_fault request;
-      usage = λ is. cc;
-      answered = tt;
-      memory = λ is. cc;
-      fault = λ _. inr rose;
-      faulted = λ _. inl (record { place = place; read = read; reading = unread.reading; there = unread.there; rose = unread.rose; unchanged = keeps; line = line; puts = puts });
-      complete = inl (inr rose);
-    }
+unread_call : (request : Request) (place : ℕ) (name : List ℕ) (s0 s1 : FilesShown) (o0 o1 : SinkShown) → KeepsHeld s0.held s1.held → ReadsUpTo (reads_of request) place s0 s1
+    → ReadRoseAt (reads_of request) place s0 s1 name → PutOrRose o0 o1 (reading_line name) → PutsFault o0 o1 → IsCall (Some request) Fault (s0, o0) (s1, o1)
+unread_call request place name s0 s1 o0 o1 keeps read why line puts = record {
+  answers = may_fault request;
+  usage = λ is. cc;
+  answered = tt;
+  memory = λ is. cc;
+  faulted = λ _. inl (record {
+    place = place;
+    read = read;
+    reading = why.0;
+    there = why.1;
+    rose = subst (ReadRose s0 s1) (sym why.2) why.3;
+    unchanged = keeps;
+    line = subst (λ (at : List ℕ). PutOrRose o0 o1 (reading_line at)) (sym why.2) line;
+    puts = puts;
+  });
+}
 
 -- the line of a refusal was put, or could not be, at once
 refused_puts : (input : Input) (refusal : Refusal) (line : List ℕ) (answer : Status) (o0 o1 : SinkShown) → PutsAnswer line Refused answer o0 o1
@@ -234,16 +220,8 @@ stopped_command request s0 s1 o0 o1 (stop.Refused input refusal) answer may keep
     (mapped s1.held (λ files. (outcome_of (file_at files) request ≡ refuses input refusal) × EndsAt request stops.place (file_at files))
     (λ files. outcome_of (file_at files) request ≡ refuses input refusal) (λ files k. k.0) stops.why) h
 stopped_command request s0 s1 o0 o1 (stop.Unread name) answer may keeps stops line puts =
-    let why = stops.why in
-    let unread : IsUnreadAt (reads_of request) stops.place s0 s1 = record {
-      reading = why.0;
-      there = why.1;
-      rose =
-          subst (λ (at : List ℕ). Rose (s0.read_faults at) (s1.read_faults at)) (sym why.2) why.3;
-    } in
-    let named : PutOrRose o0 o1 (reading_line unread.reading.name) = subst (λ (at : List ℕ). PutOrRose o0 o1 (reading_line at)) (sym why.2) line.1 in
     subst (λ (status : Status). IsCall (Some request) status (s0, o0) (s1, o1)) (sym line.0)
-    (unread_call request stops.place s0 s1 o0 o1 keeps stops.read unread named (subst (λ (answer : Status). PutsCounted (stop.Unread name) answer o0 o1) line.0 puts))
+    (unread_call request stops.place name.now s0 s1 o0 o1 keeps stops.read stops.why line.1 (subst (λ (answer : Status). PutsCounted (stop.Unread name) answer o0 o1) line.0 puts))
 stopped_command request s0 s1 o0 o1 stop.Memory answer may keeps stops line puts = memory_call request s0 s1 o0 o1 answer keeps line.0 line.1
 
 -- it stopped while it read
@@ -276,14 +254,11 @@ write_failed request writing lines s0 s1 s2 o0 o1 place stopped named keeps fell
     let rose = rose_since (s0.write_faults name) (s1.write_faults name) (s2.write_faults name) (fell name) stopped.rose in
     let there : slice_get (writes_of request) place ≡ Some name = ap (λ names. slice_get names place) (sym named) ∙ slice_get-map (λ (w : List ℕ × List ℕ). w.0) writing place
     ∙ ap (option_map (λ (w : List ℕ × List ℕ). w.0)) stopped.there in
-    let within = slice_get_within (writes_of request) place name there in
-    let at = get_or_from_slice_get (writes_of request) place name name there in
     record {
       answers = may_fault request;
       usage = λ is. cc;
       answered = tt;
       memory = λ is. cc;
-      fault = λ _. inr (inr (place, name, within, at, rose));
       faulted = λ _. inr (inl (record {
         place = place;
         name = name;
@@ -296,7 +271,6 @@ write_failed request writing lines s0 s1 s2 o0 o1 place stopped named keeps fell
         line = line;
         puts = puts;
       }));
-      complete = inl (inr (inr (place, name, within, at, rose)));
     }
 
 -- a command wrote its files and put its lines
@@ -317,9 +291,7 @@ usage_call s o0 o1 answer (inl h) = subst (λ (status : Status). IsCall None sta
   answered = of_files s s s [] (λ _. Unit {0}) (λ before after. DoesAll (s, o0) (s, o1) Usage before after (outcome (file_at before) None)) (kept s.held)
       (told s.held) (nothing_written s) (λ before after _ same. (refl, same, h.1));
   memory = λ is. cc;
-  fault = λ is. cc;
   faulted = λ is. cc;
-  complete = inr refl;
 })
   where
     told : (held : Option FileMap) → IfSome held (λ _. Unit {0})
@@ -334,9 +306,7 @@ usage_call s o0 o1 answer (inr h) = subst (λ (status : Status). IsCall None sta
   usage = λ is. cc;
   answered = tt;
   memory = λ is. cc;
-  fault = λ _. h.1;
   faulted = λ _. (kept s.held, h.1, h.2);
-  complete = inl h.1;
 })
   where
     kept : (held : Option FileMap) → KeepsHeld held held

@@ -15,4 +15,5 @@ pub mod ListOrder
 pub mod Calls
 pub mod Promised
 pub mod Built
+pub mod Completeness
 pub mod OutcomeRows

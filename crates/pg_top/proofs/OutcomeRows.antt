@@ -13,13 +13,11 @@ use Rattle.pg_top.specs.Outcomes.{Ends, Unknown}
 use Rattle.pg_top.specs.PrintedLines.{refused_line}
 use Rattle.pg_top.specs.Inside.FaultLines.{reading_line}
 use Rattle.pg_top.specs.Readings.{Held}
-use Rattle.pg_words.specs.Requests.{FileNames, SweepRequest, ToGenerate, ToAudit, ToSample, ToSweep, request_of}
+use Rattle.pg_words.specs.Requests.{FileNames, PackRequest, TotalsRequest, SweepRequest, ToGenerate, ToAudit, ToSample, ToPack, ToTotals, ToSweep, request_of}
 use Rattle.pg_top.specs.sample.Sampled.{ending, syllable, word, sample_text}
 use Rattle.pg_top.specs.Selection.{selection, selected, selected_totals, selected_text, selected_list, selected_cells_text, selected_report}
 use Rattle.pg_top.specs.declared.answers.Status.TheVariants.{Done, Yes, No, Refused}
 use Rattle.pg_top.specs.declared.inputs.Input.TheVariants as input
-use Rattle.pg_top.specs.pack.Inside.Inputs.{PackRequest, to_pack}
-use Rattle.pg_top.specs.totals.Inside.Inputs.{TotalsRequest, to_totals}
 
 names : FileNames
 names = record { dict = codes "D"; patterns = codes "P"; output = codes "O"; translate = codes "T"; params = codes "A"; report = codes "R"; pattmp = None; cells = None }
@@ -145,14 +143,14 @@ packed_names = record { patterns = codes "P"; translate = codes "T"; table = cod
 totalled_names : TotalsRequest
 totalled_names = record { dict = codes "D"; translate = codes "T"; table = codes "B" }
 
-asks_pack : request_of (codes "pack" ∷ codes "P" ∷ codes "T" ∷ codes "B" ∷ []) ≡ Some (to_pack packed_names)
+asks_pack : request_of (codes "pack" ∷ codes "P" ∷ codes "T" ∷ codes "B" ∷ []) ≡ Some (ToPack packed_names)
 unfolding packed_names
 asks_pack = refl
 
 table_is_input : request_of (codes "pack" ∷ codes "P" ∷ codes "T" ∷ codes "P" ∷ []) ≡ None
 table_is_input = refl
 
-asks_totals : request_of (codes "totals" ∷ codes "D" ∷ codes "T" ∷ codes "D" ∷ []) ≡ Some (to_totals (record totalled_names { table = codes "D" }))
+asks_totals : request_of (codes "totals" ∷ codes "D" ∷ codes "T" ∷ codes "D" ∷ []) ≡ Some (ToTotals (record totalled_names { table = codes "D" }))
 unfolding totalled_names
 asks_totals = refl
 
@@ -165,12 +163,12 @@ packed_pattern =
     ++ (0 ∷ 4 ∷ 0 ∷ 0 ∷ 0 ∷ 0 ∷ 0 ∷ 0 ∷ 0 ∷ 0 ∷ []) ++ (0 ∷ 3 ∷ 0 ∷ 0 ∷ 0 ∷ 0 ∷ 0 ∷ 0 ∷ 0 ∷ 1 ∷ [])
     ++ (1 ∷ 2 ∷ 0 ∷ 0 ∷ 0 ∷ 0 ∷ [])
 
-packs : outcome_of (found ((codes "T", codes " 1 1\n a\n b\n c\n") ∷ (codes "P", codes "ab1\n") ∷ [])) (to_pack packed_names)
+packs : outcome_of (found ((codes "T", codes " 1 1\n a\n b\n c\n") ∷ (codes "P", codes "ab1\n") ∷ [])) (ToPack packed_names)
     ≡ Ends Done ((codes "B", packed_pattern) ∷ []) (codes "packed: 1 patterns, 82 bytes\n")
 unfolding packed_names found packed_pattern table_text u16_bytes u32_bytes digits with_sign
 packs = refl
 
-other_letters : outcome_of (found ((codes "T", []) ∷ (codes "D", []) ∷ (codes "B", packed_pattern) ∷ [])) (to_totals totalled_names)
+other_letters : outcome_of (found ((codes "T", []) ∷ (codes "D", []) ∷ (codes "B", packed_pattern) ∷ [])) (ToTotals totalled_names)
     ≡ Ends Refused [] (codes "refused: table 603 OtherTable\n")
 unfolding totalled_names found packed_pattern is_well_formed u16_at u32_at digits
 other_letters = refl

@@ -1,8 +1,8 @@
 -- What each answer of a call says. A call goes from the moment old to the moment new.
-use Rattle.std.specs.Prelude.{◌≡◌, List, [], ◌∷◌, Contains, Option, None, Some, ◌⊎◌}
+use Rattle.std.specs.Prelude.{◌≡◌, List, [], ◌∷◌, Contains, Option, None, Some}
 use Rattle.pg_outside.specs.Content.{KeepsHeld, WasPut, file_at}
-use Rattle.pg_top.specs.Calls.{outcome, outcome_of}
-use Rattle.pg_top.specs.Faults.{SomeRose, IsFault}
+use Rattle.pg_top.specs.Calls.{outcome}
+use Rattle.pg_top.specs.Faults.{IsFault}
 use Rattle.pg_top.specs.Moments.{Moment, OfFiles}
 use Rattle.pg_top.specs.Outcomes.{IsKnown}
 use Rattle.pg_top.specs.PrintedLines.{usage_line}
@@ -12,7 +12,7 @@ use Rattle.pg_top.specs.Writings.{after_all}
 use Rattle.pg_top.specs.declared.answers.Status.{Status}
 use Rattle.pg_top.specs.declared.answers.Status.TheVariants.{Done, Yes, No, Usage, Refused, Fault, Memory}
 
--- the answers that a call may give
+-- the answers that a call may give. This alone says it where the files tell nothing
 abbrev pub answers_to : Option Request → List Status
 answers_to None = Usage ∷ Fault ∷ []
 answers_to (Some (ToAudit n)) = Yes ∷ No ∷ Refused ∷ Fault ∷ Memory ∷ []
@@ -33,18 +33,10 @@ IsSampled (Some (ToSample seed count)) Done old new =
     WasPut old.1.text new.1.text (sample_lines seed count)
 IsSampled asked status old new = Unit {0}
 
--- where no fault rose the answer is usage, or that of the outcome, or a lack of memory
-abbrev pub IsComplete : Option Request → Status → Moment → Moment → Type 0
-IsComplete None status old new = status ≡ Usage
-IsComplete (Some request) status old new = (status ≡ Memory) ⊎ OfFiles old new (λ before after.
-    IsKnown (outcome_of (file_at before) request) (λ wanted writing lines. status ≡ wanted))
-
 -- all that is said of the answer of a call
 pub record IsCall (asked : Option Request) (status : Status) (old new : Moment) : Type 0 where
   pub answers : Contains (answers_to asked) status
   pub usage : status ≡ Usage → WasPut old.1.text new.1.text usage_line
   pub answered : IsAnswered asked status old new
   pub memory : status ≡ Memory → KeepsHeld old.0.held new.0.held × WasPut old.1.text new.1.text []
-  pub fault : status ≡ Fault → SomeRose asked old new
   pub faulted : status ≡ Fault → IsFault asked old new
-  pub complete : SomeRose asked old new ⊎ IsComplete asked status old new

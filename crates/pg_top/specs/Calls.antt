@@ -24,20 +24,19 @@ abbrev pub reads_of : Request → List Reading
 reads_of (ToGenerate n) = inputs_of n
 reads_of (ToSample seed count) = []
 reads_of (ToAudit n) = inputs_of n ++ given_files (λ files. inputs_in files n) n
-reads_of (ToPack patterns translate table) =
-    translate_file translate ∷ patterns_file translate patterns ∷ []
-reads_of (ToTotals dict translate table) = translate_file translate ∷ words_file translate dict
-    ∷ input_file input.Table table (λ files. packed_table (table_named translate files)) ∷ []
-reads_of (ToPrune dict patterns output translate report) = translate_file translate
-    ∷ patterns_file translate patterns ∷ words_file translate dict ∷ []
+reads_of (ToPack n) = translate_file n.translate ∷ patterns_file n.translate n.patterns ∷ []
+reads_of (ToTotals n) = translate_file n.translate ∷ words_file n.translate n.dict
+    ∷ input_file input.Table n.table (λ files. packed_table (table_named n.translate files)) ∷ []
+reads_of (ToPrune n) = translate_file n.translate ∷ patterns_file n.translate n.patterns
+    ∷ words_file n.translate n.dict ∷ []
 reads_of (ToSweep s) = translate_file s.translate ∷ set_files 1 s.params
     ++ patterns_file s.translate s.patterns ∷ words_file s.translate s.dict ∷ []
 
 -- the names that a command writes, in its order
 abbrev pub writes_of : Request → List (List ℕ)
 writes_of (ToGenerate n) = output_names n
-writes_of (ToPack patterns translate table) = table ∷ []
-writes_of (ToPrune dict patterns output translate report) = output ∷ report ∷ []
+writes_of (ToPack n) = n.table ∷ []
+writes_of (ToPrune n) = n.output ∷ n.report ∷ []
 writes_of (ToSweep s) = s.output ∷ []
 writes_of request = []
 
@@ -46,14 +45,14 @@ abbrev pub own_outcome : Held → Request → Outcome
 own_outcome files (ToGenerate n) = outcome_of_generate n (inputs_in files n)
 own_outcome files (ToAudit n) = Ends Yes [] (codes "yes\n")
 own_outcome files (ToSample seed count) = Ends Done [] (sample_lines seed count)
-own_outcome files (ToPack patterns translate table) = outcome_of_pack table
-    (table_named translate files) (patterns_under files translate patterns)
-own_outcome files (ToTotals dict translate table) = let t = table_named translate files in
-    Ends Done [] (ending_text (table_totals (minima_of t) (words_under files translate dict)
-    (meaning (packed_table t) [] files table)))
-own_outcome files (ToPrune dict patterns output translate report) =
-    let t = table_named translate files in outcome_of_prune output report t (pruned (minima_of t)
-    (words_under files translate dict) (patterns_under files translate patterns))
+own_outcome files (ToPack n) = outcome_of_pack n.table
+    (table_named n.translate files) (patterns_under files n.translate n.patterns)
+own_outcome files (ToTotals n) = let t = table_named n.translate files in
+    Ends Done [] (ending_text (table_totals (minima_of t) (words_under files n.translate n.dict)
+    (meaning (packed_table t) [] files n.table)))
+own_outcome files (ToPrune n) = let t = table_named n.translate files in
+    outcome_of_prune n.output n.report t (pruned (minima_of t)
+    (words_under files n.translate n.dict) (patterns_under files n.translate n.patterns))
 own_outcome files (ToSweep s) =
     outcome_of_sweep s (swept_rows s (terms_in files s) (sets_in files s))
 

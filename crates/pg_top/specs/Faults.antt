@@ -1,5 +1,5 @@
 -- What stands after a fault. A call goes from the moment old to the moment new.
-use Rattle.std.specs.Prelude.{◌≡◌, ℕ, ◌+◌, ◌++◌, List, Option, None, Some, slice_get, map, take, codes, Any, ◌⊎◌}
+use Rattle.std.specs.Prelude.{◌≡◌, ℕ, ◌+◌, ◌++◌, List, Option, None, Some, slice_get, map, take, codes, ◌⊎◌}
 use Rattle.pg_outside.specs.Content.{KeepsHeld, WasPartPut, file_at}
 use Rattle.pg_outside.specs.Faults.{Rose}
 use Rattle.pg_outside.specs.FilesCalls.{Writes}
@@ -12,13 +12,6 @@ use Rattle.pg_top.specs.PrintedLines.{usage_line}
 use Rattle.pg_words.specs.Requests.{Request}
 use Rattle.pg_top.specs.Writings.{after_all, IsPartWritten}
 use Rattle.pg_top.specs.declared.answers.Status.{Status}
-
--- some fault rose: of the sink, of reading a file that is read, or of writing one that is written
-abbrev pub SomeRose : Option Request → Moment → Moment → Type 0
-SomeRose None old new = Rose old.1.faults new.1.faults
-SomeRose (Some request) old new = Rose old.1.faults new.1.faults
-    ⊎ (Any (λ r. Rose (old.0.read_faults r.name) (new.0.read_faults r.name)) (reads_of request)
-    ⊎ Any (λ name. Rose (old.0.write_faults name) (new.0.write_faults name)) (writes_of request))
 
 -- a file could not be read: none behind it was, none changed, and the line of the fault was put
 pub record IsReadFault (request : Request) (old new : Moment) : Type 0 where

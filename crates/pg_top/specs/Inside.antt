@@ -1,9 +1,9 @@
 -- What only contracts between layers and proofs need.
 pub mod Built
+pub mod Completeness
 pub mod Runs
 pub mod Stops
 pub mod UnderTable
-pub mod UnreadFiles
 pub mod FaultLines
 pub mod Lists
 pub mod PutCounts

@@ -20,7 +20,7 @@ use Rattle.pg_top.specs.Outcomes.{Ends}
 use Rattle.pg_top.specs.Readings.{Held, table_named, patterns_under, words_under}
 use Rattle.pg_top.specs.totals.Totalled.{packed_table}
 use Rattle.pg_top.specs.sweep.Swept.{winner_line, terms_in, sets_in, swept_rows}
-use Rattle.pg_words.specs.Requests.{Request, SweepRequest, ToPack, ToPrune, ToSweep}
+use Rattle.pg_words.specs.Requests.{Request, PackRequest, PruneRequest, SweepRequest, ToPack, ToPrune, ToSweep}
 use Rattle.pg_top.specs.declared.answers.Status.{Status}
 use Rattle.pg_top.specs.declared.answers.Status.TheVariants.{Done}
 
@@ -30,31 +30,30 @@ pub record GivesValues (bytes : List ℕ) (P : Patterns) : Type 0 where
   pub totals : (m : Minima) (ws : List Word) → table_totals m ws bytes ≡ totals m ws P
 
 -- `pack` writes bytes that `totals` accepts, and that give the values of the patterns
-pub record PackKeeps (files : Held) (patterns translate table : List ℕ) : Type 0 where
+pub record PackKeeps (files : Held) (n : PackRequest) : Type 0 where
   pub bytes : List ℕ
   pub lines : List ℕ
-  pub comes : outcome_of files (ToPack patterns translate table)
-      ≡ Ends Done ((table, bytes) ∷ []) lines
-  pub accepted : packed_table (table_named translate files) bytes ≡ Ok bytes
-  pub gives : GivesValues bytes (patterns_under files translate patterns)
+  pub comes : outcome_of files (ToPack n) ≡ Ends Done ((n.table, bytes) ∷ []) lines
+  pub accepted : packed_table (table_named n.translate files) bytes ≡ Ok bytes
+  pub gives : GivesValues bytes (patterns_under files n.translate n.patterns)
 
 -- the text of patterns is read as these patterns, where it is no longer than a pattern file may be
 abbrev pub ReadsBack : Alphabet → Patterns → Type 0
 ReadsBack t P = length (pattern_text t P) ≤ FILE_MAX → start t (pattern_text t P) ≡ Ok P
 
 -- `prune` writes entries of what it read that break alike with it, and none of which can go alone
-pub record PruneKeeps (files : Held) (dict patterns output translate report : List ℕ) : Type 0 where
+pub record PruneKeeps (files : Held) (n : PruneRequest) : Type 0 where
   pub kept : Patterns
   pub told : List ℕ
   pub lines : List ℕ
-  pub comes : outcome_of files (ToPrune dict patterns output translate report) ≡ Ends Done
-      ((output, pattern_text (table_named translate files) kept) ∷ (report, told) ∷ []) lines
-  pub part : All (Contains (patterns_under files translate patterns)) kept
-  pub reads_back : ReadsBack (table_named translate files) kept
-  pub alike : BreakAlike (minima_of (table_named translate files))
-      (words_under files translate dict) (patterns_under files translate patterns) kept
-  pub least : NoneCanGo (minima_of (table_named translate files))
-      (words_under files translate dict) (patterns_under files translate patterns) kept
+  pub comes : outcome_of files (ToPrune n) ≡ Ends Done
+      ((n.output, pattern_text (table_named n.translate files) kept) ∷ (n.report, told) ∷ []) lines
+  pub part : All (Contains (patterns_under files n.translate n.patterns)) kept
+  pub reads_back : ReadsBack (table_named n.translate files) kept
+  pub alike : BreakAlike (minima_of (table_named n.translate files))
+      (words_under files n.translate n.dict) (patterns_under files n.translate n.patterns) kept
+  pub least : NoneCanGo (minima_of (table_named n.translate files))
+      (words_under files n.translate n.dict) (patterns_under files n.translate n.patterns) kept
 
 -- what the sets of a sweep cost
 abbrev pub set_costs : Held → SweepRequest → List ℕ
@@ -70,10 +69,10 @@ pub record SweepNames (files : Held) (s : SweepRequest) : Type 0 where
 
 -- where a command is done, its promise was kept
 abbrev pub IsPromised : Option Request → Status → Moment → Moment → Type 0
-IsPromised (Some (ToPack patterns translate table)) status old new = status ≡ Done →
-    OfFiles old new (λ before after. PackKeeps (file_at before) patterns translate table)
-IsPromised (Some (ToPrune d p o t r)) status old new =
-    status ≡ Done → OfFiles old new (λ before after. PruneKeeps (file_at before) d p o t r)
+IsPromised (Some (ToPack n)) status old new =
+    status ≡ Done → OfFiles old new (λ before after. PackKeeps (file_at before) n)
+IsPromised (Some (ToPrune n)) status old new =
+    status ≡ Done → OfFiles old new (λ before after. PruneKeeps (file_at before) n)
 IsPromised (Some (ToSweep s)) status old new =
     status ≡ Done → OfFiles old new (λ before after. SweepNames (file_at before) s)
 IsPromised asked status old new = Unit {0}

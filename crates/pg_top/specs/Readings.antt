@@ -18,7 +18,7 @@ use Rattle.pg_top.specs.declared.inputs.Input.TheVariants as input
 abbrev pub Held : Type 0
 Held = List ℕ → Option (List ℕ)
 
--- what the file of a name means, where it is held and accepted, and else this
+-- what the file of a name means; where none is accepted the call ends there, and this stands in
 abbrev pub meaning : {Y : Type 0} → (List ℕ → Result Y Refusal) → Y → Held → List ℕ → Y
 meaning parse other files name =
     option_map_or (λ bytes. result_unwrap_or (parse bytes) other) (files name) other

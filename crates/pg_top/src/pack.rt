@@ -1,5 +1,5 @@
 //! `pack`: patterns as a packed table.
-ghost use Rattle.pg_words.specs.Requests.{ToPack};
+ghost use Rattle.pg_words.specs.Inside.Asked.{to_pack};
 ghost use Rattle.pg_top.specs.Inside.Built.{Builds};
 
 mod inputs;
@@ -22,7 +22,7 @@ pub fn pack_files<'a, F: Files, W: Watch>(
     files: &mut F,
     watch: &W,
 ) -> Result<Outputs<'a>, Stop<'a>>
-    ensures { Builds (ToPack patterns.now translate.now table.now)
+    ensures { Builds (to_pack patterns.now translate.now table.now)
         (F.shown files.old) (F.shown files.new) result }
 {
     let source = read_source(alloc, translate, patterns, files, watch)?;

@@ -1,5 +1,5 @@
 //! `prune`: the patterns that a dictionary needs.
-ghost use Rattle.pg_words.specs.Requests.{ToPrune};
+ghost use Rattle.pg_words.specs.Inside.Asked.{to_prune};
 ghost use Rattle.pg_top.specs.Inside.Built.{Builds};
 
 mod inputs;
@@ -24,7 +24,7 @@ pub fn prune_files<'a, F: Files, W: Watch>(
     files: &mut F,
     watch: &W,
 ) -> Result<Outputs<'a>, Stop<'a>>
-    ensures { Builds (ToPrune dict.now patterns.now output.now translate.now report.now)
+    ensures { Builds (to_prune dict.now patterns.now output.now translate.now report.now)
         (F.shown files.old) (F.shown files.new) result }
 {
     let inputs = read_prune(alloc, translate, patterns, dict, files, watch)?;

@@ -3,7 +3,7 @@ use Rattle.std.proofs.Common.{◌≡◌, ℕ, ◌<◌, ◌≤◌, nat_lt, nat_le
 use Rattle.std.proofs.lemmas.Bool.Decides.{nat_tests}
 use Rattle.pg_words.specs.Requests.{ToSweep, where_taken, number_within, sweep_in}
 use Rattle.pg_types.specs.declared.limits.TheConstants.{SETS_MAX}
-use Rattle.pg_words.specs.declared.limits.TheConstants.{FOLDS_MAX, PRICE_MAX}
+use Rattle.pg_words.specs.declared.limits.TheConstants.{FOLDS_MAX, FOLDS_DIGITS, PRICE_MAX, PRICE_DIGITS}
 
 -- too few words
 pub too_few : (words : List (List ℕ)) → length words < 7 → None ≡ sweep_in words
@@ -17,20 +17,20 @@ too_few (a ∷ b ∷ c ∷ d ∷ e ∷ f ∷ []) few = refl
 too_few (a ∷ b ∷ c ∷ d ∷ e ∷ f ∷ g ∷ words) few = absurd (omega arith)
 
 -- parts whose first number is none
-pub no_folds : (dict patterns output translate k bad_word missed_word : List ℕ) (params : List (List ℕ)) → number_within 2 2 FOLDS_MAX k ≡ None
+pub no_folds : (dict patterns output translate k bad_word missed_word : List ℕ) (params : List (List ℕ)) → number_within FOLDS_DIGITS 2 FOLDS_MAX k ≡ None
     → sweep_in (dict ∷ patterns ∷ output ∷ translate ∷ k ∷ bad_word ∷ missed_word ∷ params) ≡ None
 no_folds dict patterns output translate k bad_word missed_word params one = rw one refl
 
 -- parts whose second number is none
-pub no_bad : (dict patterns output translate k bad_word missed_word : List ℕ) (params : List (List ℕ)) (folds : ℕ) → number_within 2 2 FOLDS_MAX k
-    ≡ Some folds → number_within 4 1 PRICE_MAX bad_word ≡ None
+pub no_bad : (dict patterns output translate k bad_word missed_word : List ℕ) (params : List (List ℕ)) (folds : ℕ) → number_within FOLDS_DIGITS 2 FOLDS_MAX k
+    ≡ Some folds → number_within PRICE_DIGITS 1 PRICE_MAX bad_word ≡ None
     → sweep_in (dict ∷ patterns ∷ output ∷ translate ∷ k ∷ bad_word ∷ missed_word ∷ params) ≡ None
 no_bad dict patterns output translate k bad_word missed_word params folds one two = rw (one, two) refl
 
 -- parts whose third number is none
-pub no_missed : (dict patterns output translate k bad_word missed_word : List ℕ) (params : List (List ℕ)) (folds bad : ℕ) → number_within 2 2 FOLDS_MAX k
-    ≡ Some folds → number_within 4 1 PRICE_MAX bad_word ≡ Some bad
-    → number_within 4 1 PRICE_MAX missed_word ≡ None → sweep_in (dict ∷ patterns ∷ output ∷ translate ∷ k ∷ bad_word ∷ missed_word ∷ params) ≡ None
+pub no_missed : (dict patterns output translate k bad_word missed_word : List ℕ) (params : List (List ℕ)) (folds bad : ℕ) → number_within FOLDS_DIGITS 2 FOLDS_MAX k
+    ≡ Some folds → number_within PRICE_DIGITS 1 PRICE_MAX bad_word ≡ Some bad
+    → number_within PRICE_DIGITS 1 PRICE_MAX missed_word ≡ None → sweep_in (dict ∷ patterns ∷ output ∷ translate ∷ k ∷ bad_word ∷ missed_word ∷ params) ≡ None
 no_missed dict patterns output translate k bad_word missed_word params folds bad one two three = rw (one, two, three) refl
 
 -- a number of parameter files that is within its bounds
@@ -38,8 +38,8 @@ pub is_count : (count : ℕ) → 1 ≤ count → count ≤ SETS_MAX → (nat_lt 
 is_count count some few = grind (arith, nat_tests)
 
 -- parts whose numbers are within their bounds
-pub all_within : (dict patterns output translate k bad_word missed_word : List ℕ) (params : List (List ℕ)) (folds bad missed : ℕ) → number_within 2 2 FOLDS_MAX k
-    ≡ Some folds → number_within 4 1 PRICE_MAX bad_word ≡ Some bad → number_within 4 1 PRICE_MAX missed_word ≡ Some missed → (nat_lt 0 (length params) && nat_le (length params) SETS_MAX) ≡ true
+pub all_within : (dict patterns output translate k bad_word missed_word : List ℕ) (params : List (List ℕ)) (folds bad missed : ℕ) → number_within FOLDS_DIGITS 2 FOLDS_MAX k
+    ≡ Some folds → number_within PRICE_DIGITS 1 PRICE_MAX bad_word ≡ Some bad → number_within PRICE_DIGITS 1 PRICE_MAX missed_word ≡ Some missed → (nat_lt 0 (length params) && nat_le (length params) SETS_MAX) ≡ true
     → sweep_in (dict ∷ patterns ∷ output ∷ translate ∷ k ∷ bad_word ∷ missed_word ∷ params) ≡ where_taken (dict ∷ patterns ∷ translate ∷ params) (output ∷ []) (ToSweep (record {
       dict = dict;
       patterns = patterns;

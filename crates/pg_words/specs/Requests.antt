@@ -5,7 +5,7 @@ use Rattle.std.specs.Option.{option_and_then, option_map, option_map_or, is_none
 use Rattle.std.specs.Str.{bytes_eq}
 use Rattle.pg_types.specs.Parameters.{number}
 use Rattle.pg_types.specs.declared.limits.TheConstants.{SETS_MAX}
-use Rattle.pg_words.specs.declared.limits.TheConstants.{SEED_MAX, COUNT_MAX, DIGITS_MAX, FOLDS_MAX, PRICE_MAX}
+use Rattle.pg_words.specs.declared.limits.TheConstants.{SEED_MAX, COUNT_MAX, SAMPLE_DIGITS, FOLDS_MAX, FOLDS_DIGITS, PRICE_MAX, PRICE_DIGITS}
 
 -- the names of `generate` and `audit` as bytes; that of an option is there where it is asked for
 pub record FileNames : Type 0 where
@@ -17,6 +17,26 @@ pub record FileNames : Type 0 where
   pub report : List ℕ
   pub pattmp : Option (List ℕ)
   pub cells : Option (List ℕ)
+
+-- the names of `pack` as bytes
+pub record PackRequest : Type 0 where
+  pub patterns : List ℕ
+  pub translate : List ℕ
+  pub table : List ℕ
+
+-- the names of `totals` as bytes
+pub record TotalsRequest : Type 0 where
+  pub dict : List ℕ
+  pub translate : List ℕ
+  pub table : List ℕ
+
+-- the names of `prune` as bytes
+pub record PruneRequest : Type 0 where
+  pub dict : List ℕ
+  pub patterns : List ℕ
+  pub output : List ℕ
+  pub translate : List ℕ
+  pub report : List ℕ
 
 -- what `sweep` is asked for: its files, the number of folds, two prices, and the parameter files
 pub record SweepRequest : Type 0 where
@@ -34,9 +54,9 @@ pub data Request : Type 0 where
   ToGenerate : FileNames → Request
   ToAudit : FileNames → Request
   ToSample : (seed count : ℕ) → Request
-  ToPack : (patterns translate table : List ℕ) → Request
-  ToTotals : (dict translate table : List ℕ) → Request
-  ToPrune : (dict patterns output translate report : List ℕ) → Request
+  ToPack : PackRequest → Request
+  ToTotals : TotalsRequest → Request
+  ToPrune : PruneRequest → Request
   ToSweep : SweepRequest → Request
 
 -- one for what is asked for by an option, and none where it is not
@@ -113,24 +133,25 @@ number_within digits least most word = if nat_lt 0 (length word) && nat_le (leng
 -- `sample N COUNT`
 abbrev pub sample_in : List (List ℕ) → Option Request
 sample_in (seed ∷ count ∷ []) = option_and_then (λ s. option_map (ToSample s)
-    (number_within DIGITS_MAX 0 COUNT_MAX count)) (number_within DIGITS_MAX 0 SEED_MAX seed)
+    (number_within SAMPLE_DIGITS 0 COUNT_MAX count)) (number_within SAMPLE_DIGITS 0 SEED_MAX seed)
 sample_in words = None
 
 -- `pack PATTERNS TRANSLATE TABLE`, where the table is an output
 abbrev pub pack_in : List (List ℕ) → Option Request
 pack_in (patterns ∷ translate ∷ table ∷ []) = where_taken (patterns ∷ translate ∷ []) (table ∷ [])
-    (ToPack patterns translate table)
+    (ToPack (record { patterns = patterns; translate = translate; table = table }))
 pack_in words = None
 
 -- `totals DICT TRANSLATE TABLE`, whose names may be equal
 abbrev pub totals_in : List (List ℕ) → Option Request
 totals_in (dict ∷ translate ∷ table ∷ []) = where_taken (dict ∷ translate ∷ table ∷ []) []
-    (ToTotals dict translate table)
+    (ToTotals (record { dict = dict; translate = translate; table = table }))
 totals_in words = None
 
 -- `prune DICT PATTERNS OUT TRANSLATE REPORT`
 abbrev pub prune_in : List (List ℕ) → Option Request
-prune_in (d ∷ p ∷ o ∷ t ∷ r ∷ []) = where_taken (d ∷ p ∷ t ∷ []) (o ∷ r ∷ []) (ToPrune d p o t r)
+prune_in (d ∷ p ∷ o ∷ t ∷ r ∷ []) = where_taken (d ∷ p ∷ t ∷ []) (o ∷ r ∷ [])
+    (ToPrune (record { dict = d; patterns = p; output = o; translate = t; report = r }))
 prune_in words = None
 
 -- `sweep DICT PATTERNS OUT TRANSLATE K BAD MISSED`, then the names of 1 to 16 parameter files
@@ -147,16 +168,9 @@ sweep_in (dict ∷ patterns ∷ output ∷ translate ∷ k ∷ bad_word ∷ miss
       bad = bad;
       missed = missed;
       params = params;
-    })) else None) (number_within 4 1 PRICE_MAX missed_word))
-    (number_within 4 1 PRICE_MAX bad_word)) (number_within 2 2 FOLDS_MAX k)
+    })) else None) (number_within PRICE_DIGITS 1 PRICE_MAX missed_word))
+    (number_within PRICE_DIGITS 1 PRICE_MAX bad_word)) (number_within FOLDS_DIGITS 2 FOLDS_MAX k)
 sweep_in words = None
-
--- what the words behind the word of one of the other commands ask for
-abbrev pub other_request : List ℕ → List (List ℕ) → Option Request
-other_request word words = if bytes_eq word (codes "pack") then pack_in words
-    else (if bytes_eq word (codes "totals") then totals_in words
-    else (if bytes_eq word (codes "prune") then prune_in words
-    else (if bytes_eq word (codes "sweep") then sweep_in words else None)))
 
 -- what words ask for
 abbrev pub request_of : List (List ℕ) → Option Request
@@ -165,4 +179,7 @@ request_of (word ∷ words) =
     if bytes_eq word (codes "generate") then option_and_then to_generate (names_in words)
     else (if bytes_eq word (codes "audit") then option_and_then to_audit (names_in words)
     else (if bytes_eq word (codes "sample") then sample_in words
-    else other_request word words))
+    else (if bytes_eq word (codes "pack") then pack_in words
+    else (if bytes_eq word (codes "totals") then totals_in words
+    else (if bytes_eq word (codes "prune") then prune_in words
+    else (if bytes_eq word (codes "sweep") then sweep_in words else None))))))

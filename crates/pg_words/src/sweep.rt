@@ -6,7 +6,7 @@ ghost use Rattle.pg_words.specs.Inside.Names.{texts, words_of};
 ghost use Rattle.pg_words.specs.Inside.Asked.{asked_by, sweep_of, sweep_inputs, KeepsSweepLimits, KeepsLimits};
 
 use crate::commands::{Command, SweepWords};
-use crate::limits::{FOLDS_MAX, PRICE_MAX};
+use crate::limits::{FOLDS_DIGITS, FOLDS_MAX, PRICE_DIGITS, PRICE_MAX};
 use crate::names::where_taken;
 use crate::numbers::number_within;
 use arrayvec::ArrayVec;
@@ -33,7 +33,8 @@ fn inputs_of<'a>(words: &SweepWords<'a>) -> ArrayVec<&'a str, INPUTS_MAX>
 /// The command of a sweep, where it takes these names.
 fn taken(words: SweepWords<'_>) -> Option<Command<'_>>
     requires { KeepsSweepLimits words }
-    ensures value { option_map asked_by result ≡ where_taken_of (sweep_inputs (sweep_of words.entry))
+    ensures value { option_map asked_by result
+        ≡ where_taken_of (sweep_inputs (sweep_of words.entry))
         (words.entry.output.now ∷ []) (ToSweep (sweep_of words.entry)) }
     ensures within { IfSome result KeepsLimits }
 {
@@ -60,9 +61,9 @@ pub fn sweep(words: &[String]) -> Option<Command<'_>>
     else {
         return None;
     };
-    let folds = number_within(folds.as_str(), 2, 2, FOLDS_MAX)?;
-    let bad = number_within(bad.as_str(), 4, 1, PRICE_MAX)?;
-    let missed = number_within(missed.as_str(), 4, 1, PRICE_MAX)?;
+    let folds = number_within(folds.as_str(), FOLDS_DIGITS, 2, FOLDS_MAX)?;
+    let bad = number_within(bad.as_str(), PRICE_DIGITS, 1, PRICE_MAX)?;
+    let missed = number_within(missed.as_str(), PRICE_DIGITS, 1, PRICE_MAX)?;
     if params.is_empty() || params.len() > SETS_MAX {
         return None;
     }

@@ -1,13 +1,13 @@
 //! The words of a command.
 ghost use Rattle.std.specs.Prelude.{◌≡◌, ◌∷◌, IfSome};
 ghost use Rattle.std.specs.Option.{option_map};
-ghost use Rattle.pg_words.specs.Requests.{sample_in, pack_in, totals_in, prune_in, other_request, request_of};
+ghost use Rattle.pg_words.specs.Requests.{sample_in, pack_in, totals_in, prune_in, request_of};
 ghost use Rattle.pg_words.specs.Inside.Names.{words_of};
 ghost use Rattle.pg_words.specs.Inside.Asked.{asked_by, KeepsLimits};
 
 use crate::commands::Command;
 use crate::generate::{audit, generate};
-use crate::limits::{COUNT_MAX, DIGITS_MAX, SEED_MAX};
+use crate::limits::{COUNT_MAX, SAMPLE_DIGITS, SEED_MAX};
 use crate::names::where_taken;
 use crate::numbers::number_within;
 use crate::sweep::sweep;
@@ -20,8 +20,8 @@ fn sample(words: &[String]) -> Option<Command<'_>>
     let [seed, count] = words else {
         return None;
     };
-    let seed = number_within(seed.as_str(), DIGITS_MAX, 0, SEED_MAX)?;
-    let count = number_within(count.as_str(), DIGITS_MAX, 0, COUNT_MAX)?;
+    let seed = number_within(seed.as_str(), SAMPLE_DIGITS, 0, SEED_MAX)?;
+    let count = number_within(count.as_str(), SAMPLE_DIGITS, 0, COUNT_MAX)?;
     Some(Command::Sample(seed, count))
 }
 
@@ -88,24 +88,6 @@ fn prune(words: &[String]) -> Option<Command<'_>>
     )
 }
 
-/// What the words behind a word ask for, where it is `pack`, `totals`, `prune` or `sweep`.
-fn other_command<'a>(word: &str, behind: &'a [String]) -> Option<Command<'a>>
-    ensures value { option_map asked_by result ≡ other_request word.now (words_of behind.now) }
-    ensures within { IfSome result KeepsLimits }
-{
-    if word == "pack" {
-        pack(behind)
-    } else if word == "totals" {
-        totals(behind)
-    } else if word == "prune" {
-        prune(behind)
-    } else if word == "sweep" {
-        sweep(behind)
-    } else {
-        None
-    }
-}
-
 /// What the words behind the word of a command ask for.
 fn command_of<'a>(word: &str, behind: &'a [String]) -> Option<Command<'a>>
     ensures value { option_map asked_by result ≡ request_of (word.now ∷ words_of behind.now) }
@@ -117,8 +99,16 @@ fn command_of<'a>(word: &str, behind: &'a [String]) -> Option<Command<'a>>
         audit(behind)
     } else if word == "sample" {
         sample(behind)
+    } else if word == "pack" {
+        pack(behind)
+    } else if word == "totals" {
+        totals(behind)
+    } else if word == "prune" {
+        prune(behind)
+    } else if word == "sweep" {
+        sweep(behind)
     } else {
-        other_command(word, behind)
+        None
     }
 }
 

@@ -20,6 +20,7 @@ use Rattle.pg_dict.specs.Inside.LineWords.{word_weight}
 use Rattle.pg_dict.specs.Inside.LineWords.{line_reading, line_word}
 use Rattle.pg_dict.specs.Inside.Written.{letters_among, IsLine, file_of, LinesGive}
 use Rattle.pg_dict.proofs.LineLaws.{line_is_read, file_is_read, items_line}
+use Rattle.pg_words.specs.declared.limits.TheConstants.{COUNT_MAX}
 use Rattle.pg_top.specs.sample.Sampled.{Made, next_state, draw, ending, syllable, further_syllables, word, words_made, sample_text}
 use Rattle.pg_top.specs.sample.Inside.Lines.{closings, consonants, vowels}
 use Rattle.pg_types.proofs.BoolFacts.{and_first, and_second}
@@ -199,7 +200,7 @@ words_count zero x = omega arith
 words_count (suc n) x = let rest = words_count n (word x).state in omega arith
 
 -- so it is accepted
-pub sample_accepted : (seed count : ℕ) → KeepsRules default_alphabet → count ≤ 100000 → (ws : List Word) × (words default_alphabet (sample_text seed count) ≡ Ok ws)
+pub sample_accepted : (seed count : ℕ) → KeepsRules default_alphabet → count ≤ COUNT_MAX → (ws : List Word) × (words default_alphabet (sample_text seed count) ≡ Ok ws)
 sample_accepted seed count rules few =
     let good : AllByRecursion IsSampleLine (words_made count seed) = words_lines count seed in
     let given = lines_given 1 (words_made count seed) rules good in

@@ -18,8 +18,8 @@ use Rattle.pg_top.specs.declared.writes.Outputs.{Outputs}
 
 -- what a command promises of the files that it read
 abbrev pub Keeps : Request → Held → Type 0
-Keeps (ToPack patterns translate table) files = PackKeeps files patterns translate table
-Keeps (ToPrune d p o t r) files = PruneKeeps files d p o t r
+Keeps (ToPack n) files = PackKeeps files n
+Keeps (ToPrune n) files = PruneKeeps files n
 Keeps (ToSweep s) files = SweepNames files s
 Keeps request files = Unit {0}
 

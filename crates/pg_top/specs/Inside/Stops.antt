@@ -30,23 +30,31 @@ pub record OnlyReads (old new : FilesShown) : Type 0 where
   pub reads : NoneFell old.read_faults new.read_faults
   pub writes : NoneFell old.write_faults new.write_faults
 
--- why reading one file stopped: it is refused, its read faults rose, or memory was short
-abbrev pub StopsAt : Reading → FilesShown → FilesShown → Stop → Type 0
-StopsAt r old new (Refused input refusal) = IfSome new.held (λ files.
-    option_map (r.ends (file_at files)) (file_at files r.name)
-    ≡ Some (Some (refuses input refusal)))
-StopsAt r old new (Unread name) = (name.now ≡ r.name)
-    × Rose (old.read_faults name.now) (new.read_faults name.now)
-StopsAt r old new Memory = Unit {0}
+-- why a command stops: such a refusal, a file of such a name that cannot be read, or want of memory
+abbrev pub StopsBy : (Outcome → Type 0) → (List ℕ → Type 0) → Stop → Type 0
+StopsBy Refuses CannotRead (Refused input refusal) = Refuses (refuses input refusal)
+StopsBy Refuses CannotRead (Unread name) = CannotRead name.now
+StopsBy Refuses CannotRead Memory = Unit {0}
 
--- why reading stopped at a place of the order: a refusal, a read that failed, or want of memory
+-- the file of a name could not be read
+abbrev pub ReadRose : FilesShown → FilesShown → List ℕ → Type 0
+ReadRose old new name = Rose (old.read_faults name) (new.read_faults name)
+
+-- the file at a place of the order has this name, and could not be read
+abbrev pub ReadRoseAt : List Reading → ℕ → FilesShown → FilesShown → List ℕ → Type 0
+ReadRoseAt reads at old new name = (reading : Reading) × (slice_get reads at ≡ Some reading)
+    × (reading.name ≡ name) × ReadRose old new name
+
+-- why reading one file stopped
+abbrev pub StopsAt : Reading → FilesShown → FilesShown → Stop → Type 0
+StopsAt r old new = StopsBy (λ refused. IfSome new.held (λ files.
+    option_map (r.ends (file_at files)) (file_at files r.name) ≡ Some (Some refused)))
+    (λ name. (name ≡ r.name) × ReadRose old new name)
+
+-- why reading stopped at a place of the order
 abbrev pub StopsWith : List Reading → ℕ → FilesShown → FilesShown → Stop → Type 0
-StopsWith reads at old new (Refused input refusal) = IfSome new.held (λ files.
-    first_end (file_at files) (take (at + 1) reads) ≡ Some (refuses input refusal))
-StopsWith reads at old new (Unread name) =
-    (reading : Reading) × (slice_get reads at ≡ Some reading) × (reading.name ≡ name.now)
-    × Rose (old.read_faults name.now) (new.read_faults name.now)
-StopsWith reads at old new Memory = Unit {0}
+StopsWith reads at old new = StopsBy (λ refused. IfSome new.held (λ files.
+    first_end (file_at files) (take (at + 1) reads) ≡ Some refused)) (ReadRoseAt reads at old new)
 
 -- reading files stopped: those up to a place were read once each, and this is why it stopped there
 pub record StopsReading (reads : List Reading) (old new : FilesShown) (stop : Stop) : Type 0 where
@@ -54,16 +62,11 @@ pub record StopsReading (reads : List Reading) (old new : FilesShown) (stop : St
   pub read : ReadsUpTo reads place old new
   pub why : StopsWith reads place old new stop
 
--- why a command stopped, with the files up to a place read: a refusal, a fault, or want of memory
+-- why a command stopped, with the files up to a place read
 abbrev pub StopsCommandWith : Request → ℕ → FilesShown → FilesShown → Stop → Type 0
-StopsCommandWith request at old new (Refused input refusal) = IfSome new.held (λ files.
-    (outcome_of (file_at files) request ≡ refuses input refusal)
-    × EndsAt request at (file_at files))
-StopsCommandWith request at old new (Unread name) =
-    (reading : Reading) × (slice_get (reads_of request) at ≡ Some reading)
-    × (reading.name ≡ name.now)
-    × Rose (old.read_faults name.now) (new.read_faults name.now)
-StopsCommandWith request at old new Memory = Unit {0}
+StopsCommandWith request at old new = StopsBy (λ refused. IfSome new.held (λ files.
+    (outcome_of (file_at files) request ≡ refused) × EndsAt request at (file_at files)))
+    (ReadRoseAt (reads_of request) at old new)
 
 -- a command stopped before it wrote: the files up to a place were read once, and this is why
 pub record StopsCommand (request : Request) (old new : FilesShown) (stop : Stop) : Type 0 where
@@ -71,18 +74,13 @@ pub record StopsCommand (request : Request) (old new : FilesShown) (stop : Stop)
   pub read : ReadsUpTo (reads_of request) place old new
   pub why : StopsCommandWith request place old new stop
 
--- why a command stopped while it built its texts: it is refused, or memory was short
+-- why a command stopped while it built its texts, and read no more
 abbrev pub StopsMaking : Outcome → Stop → Type 0
-StopsMaking outcome (Refused input refusal) = outcome ≡ refuses input refusal
-StopsMaking outcome (Unread name) = ⊥
-StopsMaking outcome Memory = Unit {0}
+StopsMaking outcome = StopsBy (λ refused. outcome ≡ refused) (λ name. ⊥)
 
--- why reading the first bytes of a file stopped: its read faults rose, or memory was short
+-- why reading the first bytes of the file of a name stopped, which refuses none
 abbrev pub StopsFront : List ℕ → FilesShown → FilesShown → Stop → Type 0
-StopsFront name old new (Refused input refusal) = ⊥
-StopsFront name old new (Unread at) = (at.now ≡ name)
-    × Rose (old.read_faults at.now) (new.read_faults at.now)
-StopsFront name old new Memory = Unit {0}
+StopsFront file old new = StopsBy (λ refused. ⊥) (λ name. (name ≡ file) × ReadRose old new name)
 
 -- why a command stops at an input whose reader failed
 abbrev pub stop_of : Input → ReadingError → Stop

@@ -1,5 +1,6 @@
 //! The dictionary of `sample`: words made from a number.
 ghost use Rattle.std.specs.Prelude.{◌≡◌, ◌≤◌, ◌<◌, ◌^◌, ◌++◌, IfOk, OnOk};
+ghost use Rattle.pg_words.specs.declared.limits.TheConstants.{SEED_MAX, COUNT_MAX};
 ghost use Rattle.pg_top.specs.sample.Sampled.{next_state, ending, syllable as syllable_of, further_syllables, word as word_of_state, sample_text as text_of};
 
 use std::alloc::{AllocError, Global};
@@ -87,14 +88,15 @@ fn push_word(text: &mut Vec<u8>, draws: &mut Draws) -> Result<(), AllocError>
     push_further(text, draws, more)
 }
 
-/// The dictionary of `sample`: `count` words, at most 100,000, from the seed.
+/// The dictionary of `sample`: so many words from a seed, both at most those that its words may
+/// name.
 ///
 /// Each word has two to four syllables with a hyphen between two. A syllable is a consonant, a
 /// vowel, and in one of four cases a final consonant. All are drawn by a linear congruential
 /// generator modulo 2^31, of which the higher bits are used.
 pub fn sample_text(alloc: Global, seed: u32, count: u32) -> Result<Vec<u8>, AllocError>
-    requires seed { seed < 2 ^ 31 }
-    requires count { count ≤ 100000 }
+    requires seed { seed ≤ SEED_MAX }
+    requires count { count ≤ COUNT_MAX }
     ensures { IfOk result (λ text. text.items ≡ text_of seed count) }
 {
     let mut text = Vec::new(alloc);

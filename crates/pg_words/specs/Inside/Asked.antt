@@ -45,15 +45,30 @@ sweep_of w = record {
 abbrev pub sweep_inputs : SweepRequest → List (List ℕ)
 sweep_inputs s = s.dict ∷ s.patterns ∷ s.translate ∷ s.params
 
+-- `pack` with these names
+abbrev pub to_pack : List ℕ → List ℕ → List ℕ → Request
+to_pack patterns translate table =
+    ToPack (record { patterns = patterns; translate = translate; table = table })
+
+-- `totals` with these names
+abbrev pub to_totals : List ℕ → List ℕ → List ℕ → Request
+to_totals dict translate table =
+    ToTotals (record { dict = dict; translate = translate; table = table })
+
+-- `prune` with these names
+abbrev pub to_prune : List ℕ → List ℕ → List ℕ → List ℕ → List ℕ → Request
+to_prune d p o t r =
+    ToPrune (record { dict = d; patterns = p; output = o; translate = t; report = r })
+
 -- the command as what it asks for
 abbrev pub asked_by : Command → Request
 asked_by (Generate names) = ToGenerate (texts_of names)
 asked_by (Audit names) = ToAudit (texts_of names)
 asked_by (Sample seed count) = ToSample seed count
-asked_by (Pack patterns translate table) = ToPack patterns.now translate.now table.now
-asked_by (Totals dict translate table) = ToTotals dict.now translate.now table.now
+asked_by (Pack patterns translate table) = to_pack patterns.now translate.now table.now
+asked_by (Totals dict translate table) = to_totals dict.now translate.now table.now
 asked_by (Prune dict patterns output translate report) =
-    ToPrune dict.now patterns.now output.now translate.now report.now
+    to_prune dict.now patterns.now output.now translate.now report.now
 asked_by (Sweep words) = ToSweep (sweep_of words)
 
 -- the numbers of `sweep` are within their limits

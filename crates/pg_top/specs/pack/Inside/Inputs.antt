@@ -1,4 +1,4 @@
--- What `pack` is given and has read, its table, and why it makes none.
+-- What `pack` has read, its table, and why it makes none.
 use Rattle.std.specs.Prelude.{◌≡◌, ℕ, ◌+◌, List, [], ◌∷◌, Some, Ok}
 use Rattle.pg_types.specs.declared.refusals.Kind.{Kind}
 use Rattle.pg_types.specs.declared.refusals.Kind.TheVariants.{TableTooLong}
@@ -10,7 +10,6 @@ use Rattle.pg_select.specs.Windows.{Patterns}
 use Rattle.pg_table.specs.Texts.{table_text}
 use Rattle.pg_table.specs.declared.error.TableError.{TableError}
 use Rattle.pg_table.specs.declared.error.TableError.TheVariants as table_error
-use Rattle.pg_words.specs.Requests.{Request, ToPack}
 use Rattle.pg_top.specs.Readings.{Held, Reading, translate_file, patterns_file}
 use Rattle.pg_top.specs.Inside.ReadAs.{read_as}
 use Rattle.pg_top.specs.declared.inputs.Input.TheVariants as input
@@ -21,16 +20,6 @@ use Rattle.pg_top.specs.declared.pack.inputs.Source.{Source}
 -- a table is refused, without a place
 abbrev pub table_refused : Kind → Refusal
 table_refused kind = record { kind = kind; line = 0; column = 0 }
-
--- the names that `pack` is given
-pub record PackRequest : Type 0 where
-  pub patterns : List ℕ
-  pub translate : List ℕ
-  pub table : List ℕ
-
--- what they ask for
-abbrev pub to_pack : PackRequest → Request
-to_pack p = ToPack p.patterns p.translate p.table
 
 -- the files that `pack` reads, in its order
 abbrev pub source_files : List ℕ → List ℕ → List Reading

@@ -1,4 +1,4 @@
--- What `prune` is given and has read, and what it makes of it.
+-- What `prune` has read, and what it makes of it.
 use Rattle.std.specs.Prelude.{◌≡◌, ℕ, ◌+◌, List, [], ◌∷◌, length, Some, Ok}
 use Rattle.pg_translate.specs.Alphabets.{Alphabet, letters_of}
 use Rattle.pg_translate.specs.Tables.{table}
@@ -16,20 +16,7 @@ use Rattle.pg_top.specs.prune.Pruned.{outcome_of_prune, pruned_line}
 use Rattle.pg_top.specs.Readings.{Held, Reading, translate_file}
 use Rattle.pg_top.specs.Inside.Lists.{lists_under}
 use Rattle.pg_top.specs.Inside.ReadAs.{read_as}
-use Rattle.pg_words.specs.Requests.{Request, ToPrune}
 use Rattle.pg_top.specs.declared.prune.inputs.PruneInputs.{PruneInputs}
-
--- the names that `prune` is given
-pub record PruneRequest : Type 0 where
-  pub dict : List ℕ
-  pub patterns : List ℕ
-  pub output : List ℕ
-  pub translate : List ℕ
-  pub report : List ℕ
-
--- what they ask for
-abbrev pub to_prune : PruneRequest → Request
-to_prune p = ToPrune p.dict p.patterns p.output p.translate p.report
 
 -- the files that `prune` reads, in its order
 abbrev pub prune_reads : List ℕ → List ℕ → List ℕ → List Reading

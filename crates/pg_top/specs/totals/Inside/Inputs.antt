@@ -1,24 +1,13 @@
--- What `totals` is given, and what it reads of a packed table.
+-- What `totals` reads of a packed table, as it is accepted.
 use Rattle.std.specs.Prelude.{◌≡◌, ℕ, List, Some, Ok}
 use Rattle.pg_translate.specs.Alphabets.{Alphabet}
 use Rattle.pg_dict.specs.Word.{Word}
 use Rattle.pg_select.specs.CountedPositions.{minima_of}
 use Rattle.pg_table.specs.Lookups.{table_totals}
 use Rattle.pg_texts.specs.ReportTexts.{ending_text}
-use Rattle.pg_words.specs.Requests.{Request, ToTotals}
 use Rattle.pg_top.specs.Readings.{Held}
 use Rattle.pg_top.specs.Inside.ReadAs.{read_as}
 use Rattle.pg_top.specs.totals.Totalled.{packed_table}
-
--- the names that `totals` is given
-pub record TotalsRequest : Type 0 where
-  pub dict : List ℕ
-  pub translate : List ℕ
-  pub table : List ℕ
-
--- what they ask for
-abbrev pub to_totals : TotalsRequest → Request
-to_totals p = ToTotals p.dict p.translate p.table
 
 -- what `totals` prints: the totals of the words by a packed table, and the rates
 abbrev pub totals_lines : Alphabet → List Word → List ℕ → List ℕ

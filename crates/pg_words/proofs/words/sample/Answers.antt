@@ -1,13 +1,13 @@
 use Rattle.std.proofs.Common.{◌≡◌, ℕ, List, [], ◌∷◌, ◌∙◌, Option, None, Some, sym, ap}
 use Rattle.std.specs.Option.{option_and_then, option_map}
-use Rattle.pg_words.specs.declared.limits.TheConstants.{SEED_MAX, COUNT_MAX, DIGITS_MAX}
+use Rattle.pg_words.specs.declared.limits.TheConstants.{SEED_MAX, COUNT_MAX, SAMPLE_DIGITS}
 use Rattle.pg_words.specs.Inside.Asked.{asked_by}
 use Rattle.pg_words.specs.Requests.{ToSample, number_within, sample_in}
 use Rattle.pg_words.proofs.WordsAt.{two_words}
 use Rattle.pg_words.proofs.words.sample.Goals as goal
 
 -- what two words ask for, by their numbers
-by_numbers : (a b : List ℕ) (seed count : Option ℕ) → seed ≡ number_within DIGITS_MAX 0 SEED_MAX a → count ≡ number_within DIGITS_MAX 0 COUNT_MAX b
+by_numbers : (a b : List ℕ) (seed count : Option ℕ) → seed ≡ number_within SAMPLE_DIGITS 0 SEED_MAX a → count ≡ number_within SAMPLE_DIGITS 0 COUNT_MAX b
     → option_and_then (λ s. option_map (ToSample s) count) seed ≡ sample_in (a ∷ b ∷ [])
 by_numbers a b seed count one two = λ i. option_and_then (λ s. option_map (ToSample s) (two i)) (one i)
 
