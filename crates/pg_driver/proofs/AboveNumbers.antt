@@ -25,7 +25,7 @@ use Rattle.pg_select.proofs.LawsRaised.{counted_uncovered}
 use Rattle.pg_select.proofs.LawsTally.{is_counted_window}
 use Rattle.pg_driver.specs.declared.counting.above_positions.Kept.{Kept}
 use Rattle.pg_driver.specs.declared.pass_windows.WordPosition.{WordPosition}
-use Rattle.pg_driver.specs.declared.pass_windows.TheConstants.{NOT_COUNTED}
+use Rattle.pg_driver.specs.declared.pass_windows.TheConstants.{NO_NUMBER}
 use Rattle.pg_driver.specs.Inside.Counting.{IsRead, meaning_after_counting}
 use Rattle.pg_driver.specs.Inside.OpenLevels.{open_as}
 use Rattle.pg_driver.specs.Inside.OpenPositions.{counted_in, counted_of}
@@ -59,7 +59,7 @@ numbered_by pass P H words ws w word p n at counts gets = record {
     by_true (Some good) true is some gets = gets
     by_true (Some good) false is some gets = absurd (let wrong : false ≡ true = is in cc)
 
-    by_false : (o : Option Bool) (b : Bool) → b ≡ false → GetsNumber (cond b o None) ws (window w.signs p pass.len pass.dot) n → n ≡ NOT_COUNTED
+    by_false : (o : Option Bool) (b : Bool) → b ≡ false → GetsNumber (cond b o None) ws (window w.signs p pass.len pass.dot) n → n ≡ NO_NUMBER
     by_false o true is gets = absurd (let wrong : true ≡ false = is in cc)
     by_false o false is gets = gets
 
@@ -124,7 +124,7 @@ module _ (pass : Pass) (P : Patterns) (H : Hopeless) (words : List Word) (counts
   is_uncovered w true true have lack = absurd (let wrong : false ≡ true = sym (lack refl) ∙ have in cc)
   is_uncovered w true false have lack = refl
 
-  not_counted : (w : Word) → slice_get words e.word ≡ Some w → is_counted_at pass counts w e ≡ false → (b : Bool) → uncovered_at pass P H w e ≡ b → n ≡ NOT_COUNTED
+  not_counted : (w : Word) → slice_get words e.word ≡ Some w → is_counted_at pass counts w e ≡ false → (b : Bool) → uncovered_at pass P H w e ≡ b → n ≡ NO_NUMBER
   not_counted w at lack false free = is.uncounted w at free
   not_counted w at lack true free = absurd (
       let counted : is_counted counts (window w.signs e.at pass.len pass.dot) ≡ true = are.counted (window w.signs e.at pass.len pass.dot) n (is.counted w at free) in
@@ -148,7 +148,7 @@ numbered_as_counted m words pass P H counts ws entries ns are counted have = rec
 }
 
 -- a listed position was chosen where its number says so
-pub chosen_by_number : (params : LevelParams) (counts : Counts) (ws : Windows) (fates : List Choice) → AreNumbered ws counts → AreFates params counts ws fates → length fates ≤ NOT_COUNTED
+pub chosen_by_number : (params : LevelParams) (counts : Counts) (ws : Windows) (fates : List Choice) → AreNumbered ws counts → AreFates params counts ws fates → length fates ≤ NO_NUMBER
     → (pass : Pass) (words : List Word) (e : WordPosition) (n : ℕ) (w : Word) → slice_get words e.word ≡ Some w → IsNumbered pass (is_counted_at pass counts) words ws e n
     → option_map_or chooses (slice_get fates n) false ≡ (fits w.signs e.at pass.len pass.dot && was_chosen params counts (window w.signs e.at pass.len pass.dot))
 chosen_by_number params counts ws fates are decided few pass words e n w at is = by (is_counted_at pass counts w e) refl

@@ -13,10 +13,10 @@ use Rattle.pg_patterns.specs.Values.{raise}
 use Rattle.pg_types.specs.Inside.Counts.{Counts}
 use Rattle.pg_select.specs.Inside.Meanings.{Meaning, after_choose, after_give_up}
 use Rattle.pg_select.specs.declared.choice.Choice.{Choice}
-use Rattle.pg_select.specs.declared.choice.Choice.TheVariants.{Hopeless, Chosen, Left}
+use Rattle.pg_select.specs.declared.choice.Choice.TheVariants.{Hopeless as GivenUp, Chosen, Left}
 use Rattle.pg_select.specs.declared.pass.Pass.{Pass}
 use Rattle.pg_select.specs.CountedPositions.{Candidate}
-use Rattle.pg_select.specs.Windows.{Hopeless as HopelessPlaces}
+use Rattle.pg_select.specs.Windows.{Hopeless}
 use Rattle.pg_driver.specs.declared.choices.Choices.{Choices}
 use Rattle.pg_driver.specs.Inside.Counting.{weight_in}
 use Rattle.pg_driver.specs.Inside.Choosing.{candidate_of, with_candidates, HasChosen}
@@ -37,10 +37,10 @@ pub bad_within : (counts : Counts) → sum_by (λ (c : Candidate). c.bad) (map c
 bad_within [] = omega arith
 bad_within (e ∷ es) = omega (arith, bad_within es, sum_by-cons (λ (c : Candidate). c.bad) (candidate_of e) (map candidate_of es), sum_by-cons (λ (e : Entry). e.1.0 + e.1.1) e es)
 
-abbrev state : List ((List ℕ × ℕ) × ℕ) → HopelessPlaces → Option Families → State
+abbrev state : List ((List ℕ × ℕ) × ℕ) → Hopeless → Option Families → State
 state P H fs = record { known = record { patterns = P; hopeless = H }; families = fs }
 
-same_states : (P Q : List ((List ℕ × ℕ) × ℕ)) (H I : HopelessPlaces) (fs gs : Option Families) → P ≡ Q → H ≡ I → fs ≡ gs → state P H fs ≡ state Q I gs
+same_states : (P Q : List ((List ℕ × ℕ) × ℕ)) (H I : Hopeless) (fs gs : Option Families) → P ≡ Q → H ≡ I → fs ≡ gs → state P H fs ≡ state Q I gs
 same_states P Q H I fs gs p q r = λ i. record { known = record { patterns = p i; hopeless = q i }; families = r i }
 
 -- the state after a pass that has these candidates
@@ -145,9 +145,9 @@ chosen_one params old new c is chosen = record {
 }
 
 -- one candidate is given up
-pub hopeless_one : (params : LevelParams) (old new : Meaning) (c : Candidate) → choice_of params c ≡ Hopeless → new ≡ after_give_up old c.window new.tidy → HasChosen params (c ∷ []) old new
+pub hopeless_one : (params : LevelParams) (old new : Meaning) (c : Candidate) → choice_of params c ≡ GivenUp → new ≡ after_give_up old c.window new.tidy → HasChosen params (c ∷ []) old new
 hopeless_one params old new c is given = record {
-  state = ap state_of given ∙ state_after_one params c Hopeless is old.signs old.pass (state_of old);
+  state = ap state_of given ∙ state_after_one params c GivenUp is old.signs old.pass (state_of old);
   kept = subst (λ (x : Meaning). KeepsButState old x) (sym given) refl;
 }
 
@@ -168,9 +168,9 @@ chosen_numbers params n c is =
     ∙ numbers_of params c Chosen is n
 
 -- and with one that is hopeless
-pub hopeless_numbers : (params : LevelParams) (n : Choices) (c : Candidate) → choice_of params c ≡ Hopeless
+pub hopeless_numbers : (params : LevelParams) (n : Choices) (c : Candidate) → choice_of params c ≡ GivenUp
     → record n { candidates = n.candidates + 1; hopeless = n.hopeless + 1 } ≡ with_candidates params n (c ∷ [])
 hopeless_numbers params n c is =
     same_numbers (n.candidates + 1) n.chosen (n.hopeless + 1) n.good n.bad (n.candidates + 1) (n.chosen + 0) (n.hopeless + 1) (n.good + 0) (n.bad + 0) refl
     (omega arith) refl (omega arith) (omega arith)
-    ∙ numbers_of params c Hopeless is n
+    ∙ numbers_of params c GivenUp is n

@@ -19,7 +19,7 @@ use Rattle.pg_select.specs.Inside.LawsClosedDots.{is_good, pass_at}
 use Rattle.pg_select.specs.Inside.Meanings.{Meaning, after_count}
 use Rattle.pg_select.specs.Statuses.{position_weight}
 use Rattle.pg_select.specs.Windows.{window, fits}
-use Rattle.pg_driver.specs.declared.pass_windows.TheConstants.{NOT_COUNTED}
+use Rattle.pg_driver.specs.declared.pass_windows.TheConstants.{NO_NUMBER}
 use Rattle.pg_driver.specs.Inside.Counting.{meaning_after_counting}
 use Rattle.pg_driver.specs.Inside.OpenPositions.{counted_in, counted_of}
 use Rattle.pg_driver.specs.Inside.OpenSigns.{sign_count, start_of}
@@ -190,7 +190,7 @@ module _ (pass : Pass) (words : List Word) (ws : Windows) (n p : ℕ) (w : Word)
         cc);
   }
 
-  pub numbered_none : fits w.signs p pass.len pass.dot ≡ false → k ≡ NOT_COUNTED → IsNumbered pass (counts_at pass) words ws (record { word = n; at = p }) k
+  pub numbered_none : fits w.signs p pass.len pass.dot ≡ false → k ≡ NO_NUMBER → IsNumbered pass (counts_at pass) words ws (record { word = n; at = p }) k
   numbered_none other is = record {
     counted = λ v to fit. absurd (
         let both : Some w ≡ Some v = sym at ∙ to in

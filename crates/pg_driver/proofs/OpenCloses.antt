@@ -14,7 +14,7 @@ use Rattle.pg_select.specs.declared.pass.Pass.{Pass}
 use Rattle.pg_select.specs.Inside.Choices.{choice}
 use Rattle.pg_select.specs.Windows.{window, fits}
 use Rattle.pg_driver.specs.declared.pass_windows.WordPosition.{WordPosition}
-use Rattle.pg_driver.specs.declared.pass_windows.TheConstants.{NOT_COUNTED}
+use Rattle.pg_driver.specs.declared.pass_windows.TheConstants.{NO_NUMBER}
 use Rattle.pg_driver.specs.Inside.OpenSigns.{ClosesBy, closed_after, closed_by, closed_in, open_word_positions, open_signs, position_from, sign_count}
 use Rattle.pg_driver.specs.Inside.PassWindows.{AreFates, HaveNumbers, IsNumbered, counts_at}
 use Rattle.pg_driver.proofs.NumberSteps.{filter_from}
@@ -39,7 +39,7 @@ is_open_sign closed end k s at =
         omega arith
 
 module _ (params : LevelParams) (counts : Counts) (ws : Windows) (fates : List Choice) (are : AreNumbered ws counts) (decided : AreFates params counts ws fates)
-    (few : length fates ≤ NOT_COUNTED) (pass : Pass) (words : List Word) (old : ℕ → ℕ → Bool) where
+    (few : length fates ≤ NO_NUMBER) (pass : Pass) (words : List Word) (old : ℕ → ℕ → Bool) where
   -- at a position of a word
   closes_at : (n p s number : ℕ) (w : Word) → slice_get words n ≡ Some w → old pass.dot s ≡ false → IsNumbered pass (counts_at pass) words ws (record { word = n; at = p }) number → (d : ℕ)
       → closed_by (λ c. old c s) pass.dot (slice_get fates number) d ≡ closed_in params pass counts w p (λ c. old c s) d

@@ -12,7 +12,7 @@ use Rattle.pg_types.specs.Placement.{Families, kept_families, taken_count, top}
 use Rattle.pg_types.specs.Tails.{tails}
 use Rattle.pg_select.specs.Inside.Meanings.{IsLayout, Meaning, after_end_level}
 use Rattle.pg_select.specs.declared.pass.Pass.{Pass}
-use Rattle.pg_select.specs.Windows.{Hopeless as HopelessPlaces, Patterns}
+use Rattle.pg_select.specs.Windows.{Hopeless, Patterns}
 use Rattle.pg_driver.specs.declared.records.LevelRecord.{LevelRecord}
 use Rattle.pg_driver.specs.Accounts.{has_candidate, totals_by}
 use Rattle.pg_driver.specs.Inside.AccountLines.{LevelLine, begun_among, chosen_by, level_line, pass_line, pass_lines}
@@ -64,10 +64,10 @@ module _ (source : Source) (number : ℕ) (params : LevelParams) (m0 m n : Meani
   passes = all_made_by source params m0 (passes_of number params)
 
   same_passes : passes ≡ level.passes
-  same_passes = ap (λ (H : HopelessPlaces). pass_traces source params (record { patterns = m0.patterns; hopeless = H }) (passes_of number params)) none
+  same_passes = ap (λ (H : Hopeless). pass_traces source params (record { patterns = m0.patterns; hopeless = H }) (passes_of number params)) none
 
   same_known : known_at_end (known_of m0) passes ≡ known_at_end (at_start m0.patterns) level.passes
-  same_known = ap (λ (H : HopelessPlaces). known_at_end (record { patterns = m0.patterns; hopeless = H })
+  same_known = ap (λ (H : Hopeless). known_at_end (record { patterns = m0.patterns; hopeless = H })
       (pass_traces source params (record { patterns = m0.patterns; hopeless = H }) (passes_of number params))) none
 
   patterns_end : state_of m ≡ state_at_end m0.signs (state_of m0) passes → m.patterns ≡ patterns_after level

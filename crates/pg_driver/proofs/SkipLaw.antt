@@ -8,7 +8,7 @@ use Rattle.pg_dict.specs.Word.{Word}
 use Rattle.pg_select.specs.Inside.Laws.{CountsNothing}
 use Rattle.pg_select.specs.declared.pass.Pass.{Pass}
 use Rattle.pg_select.specs.CountedPositions.{Minima, Candidate, tally}
-use Rattle.pg_select.specs.Windows.{Hopeless as HopelessPlaces}
+use Rattle.pg_select.specs.Windows.{Hopeless}
 use Rattle.pg_select.proofs.LawsLater.{closed_later}
 use Rattle.pg_select.proofs.LawsLonger.{closed_behind, closed_before}
 use Rattle.pg_select.proofs.LawsClosed.{closed_at_end, later_after_pass}
@@ -29,7 +29,7 @@ all_chosen_or_hopeless : (params : LevelParams) (cs : List Candidate) → list_a
 all_chosen_or_hopeless params [] = refl
 all_chosen_or_hopeless params (c ∷ cs) = λ i. chosen_or_hopeless (is_hopeless params c) (is_chosen params c) i && all_chosen_or_hopeless params cs i
 
-module _ (m : Minima) (words : List Word) (P : List ((List ℕ × ℕ) × ℕ)) (H : HopelessPlaces) where
+module _ (m : Minima) (words : List Word) (P : List ((List ℕ × ℕ) × ℕ)) (H : Hopeless) where
   -- a pass with the same numbers
   same_pass : (number a b x y : ℕ) → a ≡ b → x ≡ y → CountsNothing m words (record { level = number; len = a; dot = x }) P H → CountsNothing m words (record { level = number; len = b; dot = y }) P H
   same_pass number a b x y len dot closed =

@@ -8,7 +8,7 @@ use Rattle.pg_types.specs.Parameters.{Parameters}
 use Rattle.pg_dict.specs.Word.{Word}
 use Rattle.pg_patterns.specs.DottedSigns.{dotted_cmp}
 use Rattle.pg_patterns.specs.Values.{raise}
-use Rattle.pg_select.specs.Windows.{Patterns, Hopeless as HopelessPlaces}
+use Rattle.pg_select.specs.Windows.{Patterns, Hopeless}
 use Rattle.pg_select.specs.declared.pass.Pass.{Pass}
 use Rattle.pg_select.specs.CountedPositions.{Minima, Candidate, counted_positions, tally, minima_of}
 use Rattle.pg_driver.specs.Dots.{order}
@@ -27,7 +27,7 @@ source_of t words = record { minima = minima_of t; words = words }
 -- what is known at a moment: the patterns so far, and the dotted strings that are hopeless now
 pub record Known : Type 0 where
   pub patterns : Patterns
-  pub hopeless : HopelessPlaces
+  pub hopeless : Hopeless
 
 -- a pass of the run: what it is, what is known before it, and its candidates in the order of signs
 pub record PassTrace : Type 0 where

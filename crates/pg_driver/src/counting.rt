@@ -3,7 +3,7 @@ ghost use Rattle.std.specs.Prelude.{◌≡◌, ◌≤◌, ◌<◌, ◌+◌, [], 
 ghost use Rattle.pg_types.specs.Inside.NumberedWindows.{AreNumbered};
 ghost use Rattle.pg_dict.specs.Inside.SoundWords.{SignsAtMost};
 ghost use Rattle.pg_select.specs.Inside.LawsSteps.{IsBelow};
-ghost use Rattle.pg_driver.specs.declared.pass_windows.TheConstants.{NOT_COUNTED};
+ghost use Rattle.pg_driver.specs.declared.pass_windows.TheConstants.{NO_NUMBER};
 ghost use Rattle.pg_driver.specs.Inside.LevelCounting.{AreNumberedIn, ArePlaced, CanGoOn, DidCount, GoesOnAfter, IsCounted, IsOverOpen, IsReady, totals_in};
 ghost use Rattle.pg_driver.specs.Inside.PassWindows.{AreFates};
 ghost use Rattle.pg_driver.specs.Inside.States.{HasBegun, IsPass};
@@ -124,7 +124,7 @@ impl Counting {
         requires fates { AreFates params.now (E.meaning engine.now).counts
             (E.meaning engine.now).windows
             windows.now.fates.items }
-        requires few { length windows.now.fates.items ≤ NOT_COUNTED }
+        requires few { length windows.now.fates.items ≤ NO_NUMBER }
         requires numbers { AreNumberedIn pass (E.meaning engine.now).counts dictionary.now
             (E.meaning engine.now).windows self.old windows.now.numbers.items }
         requires totals { CanGoOn params.now pass

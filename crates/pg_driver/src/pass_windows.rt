@@ -4,7 +4,7 @@ ghost use Rattle.pg_types.specs.Inside.Counts.{counted_sums};
 ghost use Rattle.pg_types.specs.Inside.NumberedWindows.{HasNumber};
 ghost use Rattle.pg_types.specs.Inside.Ranges.{IsLevel};
 ghost use Rattle.pg_select.specs.Inside.Choices.{choice};
-ghost use Rattle.pg_driver.specs.declared.pass_windows.TheConstants.{NOT_COUNTED};
+ghost use Rattle.pg_driver.specs.declared.pass_windows.TheConstants.{NO_NUMBER};
 ghost use Rattle.pg_driver.specs.Inside.Counting.{HasRoom};
 ghost use Rattle.pg_driver.specs.Inside.PassWindows.{AreFates};
 
@@ -13,7 +13,7 @@ use pg_types::LevelParams;
 use std::alloc::{AllocError, Global};
 
 /// This stands for the number of a window at a position that was not counted.
-pub const NOT_COUNTED: u32 = u32::MAX;
+pub const NO_NUMBER: u32 = u32::MAX;
 
 /// Memory for so many numbers is never given back: a smaller list would only grow anew.
 const NUMBERS_AT_LEAST: usize = 1 << 15;
@@ -42,7 +42,7 @@ impl PassWindows {
     ghost use Rattle.std.specs.Prelude.{◌≡◌, ◌≤◌, [], length, OnOk};
     ghost use Rattle.pg_types.specs.Inside.NumberedWindows.{AreInOrder, AreNumbered};
     ghost use Rattle.pg_types.specs.Inside.Ranges.{IsLevel};
-    ghost use Rattle.pg_driver.specs.declared.pass_windows.TheConstants.{NOT_COUNTED};
+    ghost use Rattle.pg_driver.specs.declared.pass_windows.TheConstants.{NO_NUMBER};
     ghost use Rattle.pg_driver.specs.Inside.Counting.{HasRoom};
     ghost use Rattle.pg_driver.specs.Inside.PassWindows.{AreFates};
 
@@ -90,7 +90,7 @@ impl PassWindows {
         ensures fates { OnOk result
             (AreFates params.now (E.meaning engine.now).counts (E.meaning engine.now).windows
             self.new.fates.items) }
-        ensures few { OnOk result (length self.new.fates.items ≤ NOT_COUNTED) }
+        ensures few { OnOk result (length self.new.fates.items ≤ NO_NUMBER) }
         ensures numbers { self.new.numbers.items ≡ self.old.numbers.items }
     {
         self.forget();
@@ -110,7 +110,7 @@ fn decide_all<E: Engine>(
     requires level { IsLevel params.now }
     requires room { HasRoom (E.meaning engine.now).counts 0 }
     requires windows { windows ≡ length (E.meaning engine.now).windows }
-    requires few { windows ≤ NOT_COUNTED }
+    requires few { windows ≤ NO_NUMBER }
     ensures { OnOk result ((more : List Choice)
         × (fates.new.items ≡ fates.old.items ++ more)
         × AreFates params.now (E.meaning engine.now).counts (E.meaning engine.now).windows more) }

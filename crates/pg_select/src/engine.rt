@@ -5,7 +5,8 @@ ghost use Rattle.pg_types.specs.Inside.Limits.{begun_before_pass};
 ghost use Rattle.pg_types.specs.Inside.Counts.{IsNextAbove, SignsWithin, counted_sums, is_counted};
 ghost use Rattle.pg_types.specs.Inside.NumberedWindows.{AreInOrder, HasNumber};
 ghost use Rattle.pg_select.specs.Inside.EngineCalls.{CanCount, CountsWindow, Enters, EntersNumbered};
-ghost use Rattle.pg_select.specs.Inside.Meanings.{Meaning, IsKept, SetsValues, SetsCovers, IsLayout, after_begin_pass, after_choose, after_give_up, after_end_level};
+ghost use Rattle.pg_select.specs.Inside.Meanings.{Meaning, IsKept, IsLayout, after_begin_pass, after_choose, after_give_up, after_end_level};
+ghost use Rattle.pg_select.specs.Inside.Positions.{HasValues, HasCovers};
 
 use crate::word_state::WordState;
 use pg_dict::WordRef;
@@ -42,8 +43,9 @@ pub trait Engine {
     fn hyphenate(&self, w: WordRef<'_>, out: &mut WordState)
         requires len { length w.signs.now ≤ WORD_LETTERS_MAX + 2 }
         requires signs { SignsWithin (meaning self.now).signs w.signs.now }
-        ensures values { SetsValues (meaning self.now) w.entry.signs.now out.new.values }
-        ensures covers { SetsCovers (meaning self.now) w.entry.signs.now out.new.covers };
+        ensures values { HasValues (meaning self.now).patterns w.entry.signs.now out.new.values }
+        ensures covers { let m = meaning self.now in
+            HasCovers m.pass m.patterns m.hopeless w.entry.signs.now out.new.covers };
 
     /// Adds `weight` to the good or the bad sum of a window. A window that is counted already takes
     /// no memory.

@@ -10,8 +10,8 @@ use Rattle.pg_dict.specs.Inside.SoundWords.{IsWord, letter_count}
 use Rattle.pg_types.specs.Inside.Counts.{Counts, SignsWithin}
 use Rattle.pg_types.specs.Inside.NumberedWindows.{Windows, with_window}
 use Rattle.pg_select.specs.Inside.Laws.{AreFew, positions_in}
-use Rattle.pg_select.specs.Inside.Meanings.{Meaning, SetsValues, SetsCovers, with_position}
-use Rattle.pg_select.specs.Inside.Positions.{Positions}
+use Rattle.pg_select.specs.Inside.Meanings.{Meaning, with_position}
+use Rattle.pg_select.specs.Inside.Positions.{Positions, HasValues, HasCovers}
 use Rattle.pg_select.specs.CountedPositions.{CountedPosition}
 use Rattle.pg_driver.specs.Traces.{Source}
 
@@ -32,8 +32,8 @@ meaning_after_counting m seen = record m {
 pub record IsRead (m : Meaning) (w : Word) (at : Positions) : Type 0 where
   pub word : IsWord w
   pub signs : SignsWithin m.signs w.signs
-  pub values : SetsValues m w.signs at.values
-  pub covers : SetsCovers m w.signs at.covers
+  pub values : HasValues m.patterns w.signs at.values
+  pub covers : HasCovers m.pass m.patterns m.hopeless w.signs at.covers
 
 -- the words are few, and have together no more positions in reach than letters
 pub record IsBounded (source : Source) : Type 0 where

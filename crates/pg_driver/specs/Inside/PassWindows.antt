@@ -10,7 +10,7 @@ use Rattle.pg_select.specs.Inside.Choices.{choice}
 use Rattle.pg_select.specs.Inside.Meanings.{Meaning}
 use Rattle.pg_select.specs.Windows.{Hopeless, Patterns, window, fits, is_covered}
 use Rattle.pg_driver.specs.declared.pass_windows.WordPosition.{WordPosition}
-use Rattle.pg_driver.specs.declared.pass_windows.TheConstants.{NOT_COUNTED}
+use Rattle.pg_driver.specs.declared.pass_windows.TheConstants.{NO_NUMBER}
 
 -- whether a pass counts at an open position
 abbrev pub counts_at : Pass → Word → WordPosition → Bool
@@ -27,17 +27,17 @@ abbrev pub is_counted_at : Pass → Counts → Word → WordPosition → Bool
 is_counted_at pass counts w e =
     fits w.signs e.at pass.len pass.dot && is_counted counts (window w.signs e.at pass.len pass.dot)
 
--- n is the number of the position's window where the window counts, and else `NOT_COUNTED`
+-- n is the number of the position's window where the window counts, and else `NO_NUMBER`
 pub record IsNumbered (pass : Pass) (counts : Word → WordPosition → Bool) (words : List Word)
     (ws : Windows) (e : WordPosition) (n : ℕ) : Type 0 where
   pub counted : (w : Word) → slice_get words e.word ≡ Some w → counts w e ≡ true
       → HasNumber ws (window w.signs e.at pass.len pass.dot) n
   pub uncounted : (w : Word) → slice_get words e.word ≡ Some w → counts w e ≡ false
-      → n ≡ NOT_COUNTED
+      → n ≡ NO_NUMBER
 
--- a position gets the number of its window where it counts, as good or as bad; else `NOT_COUNTED`
+-- a position gets the number of its window where it counts, as good or as bad; else `NO_NUMBER`
 abbrev pub GetsNumber : Option Bool → Windows → List ℕ → ℕ → Type 0
-GetsNumber None ws u n = n ≡ NOT_COUNTED
+GetsNumber None ws u n = n ≡ NO_NUMBER
 GetsNumber (Some good) ws u n = HasNumber ws u n
 
 -- each position has its number

@@ -14,7 +14,7 @@ ghost use Rattle.pg_select.specs.Inside.LawsAbove.{counts_above};
 ghost use Rattle.pg_select.specs.Inside.Positions.{HasValues};
 ghost use Rattle.pg_select.specs.Statuses.{status};
 ghost use Rattle.pg_select.specs.Windows.{Patterns};
-ghost use Rattle.pg_driver.specs.declared.pass_windows.TheConstants.{NOT_COUNTED};
+ghost use Rattle.pg_driver.specs.declared.pass_windows.TheConstants.{NO_NUMBER};
 ghost use Rattle.pg_driver.specs.Inside.OpenLevels.{listed_in, open_as};
 ghost use Rattle.pg_driver.specs.Inside.OpenPositions.{IsPlaced};
 ghost use Rattle.pg_driver.specs.Inside.PassWindows.{AreFates, HaveNumbers, IsNumbered, is_counted_at};
@@ -100,7 +100,7 @@ pub fn list_above(
     Ok(())
 }
 
-/// Whether the window with this number was chosen. It is false for `NOT_COUNTED`.
+/// Whether the window with this number was chosen. It is false for `NO_NUMBER`.
 fn is_chosen_by(fates: &[Choice], number: u32) -> bool
     ensures { result ≡ option_map_or chooses (slice_get fates.now number) false }
 {
@@ -117,7 +117,7 @@ fn add_kept(
     kept: Kept,
 ) -> Kept
     requires placed { IsPlaced dictionary.now position }
-    requires few { length fates.now ≤ NOT_COUNTED }
+    requires few { length fates.now ≤ NO_NUMBER }
     requires room { kept.good + kept.bad + WEIGHT_MAX < 2 ^ 64 }
     ensures value { (params : LevelParams) (counts : Counts) (ws : Windows) → AreNumbered ws counts
         → AreFates params counts ws fates.now
@@ -155,7 +155,7 @@ pub fn kept_above(
 ) -> Kept
     requires placed { All (IsPlaced dictionary.now) above.now }
     requires above { length above.now ≤ FILE_MAX }
-    requires fates { length fates.now ≤ NOT_COUNTED }
+    requires fates { length fates.now ≤ NO_NUMBER }
     requires size { length numbers.now ≡ length above.now }
     ensures { (params : LevelParams) (counts : Counts) (ws : Windows) → AreNumbered ws counts
         → AreFates params counts ws fates.now

@@ -2,7 +2,7 @@
 //! dots after its choices.
 ghost use Rattle.std.specs.Prelude.{◌≡◌, ◌≢◌, ◌≤◌, ◌<◌, not, if◌then◌else◌, [], ℕ, Bool, length, slice_get, sum_by, All, IfOk, OnOk};
 ghost use Rattle.std.specs.List.{flat_map};
-ghost use Rattle.pg_dots.specs.Inside.Dots.{is_closed, position_count as places_in};
+ghost use Rattle.pg_dots.specs.Inside.Dots.{is_closed, position_count};
 ghost use Rattle.pg_types.specs.declared.limits.TheConstants.{FILE_MAX};
 ghost use Rattle.pg_dict.specs.Inside.SoundWords.{IsWord, SignsAtMost, letter_count};
 ghost use Rattle.pg_select.specs.Statuses.{is_odd};
@@ -13,7 +13,7 @@ ghost use Rattle.pg_driver.specs.Inside.OpenPositions.{counted_of};
 ghost use Rattle.pg_driver.specs.Inside.PassWindows.{HaveNumbers, IsNumbered, counts_at};
 
 use crate::counting::marks::window_at;
-use crate::pass_windows::NOT_COUNTED;
+use crate::pass_windows::NO_NUMBER;
 use pg_dict::Dictionary;
 use pg_dots::OpenDots;
 use pg_select::{Choice, Engine, Pass};
@@ -53,7 +53,7 @@ fn count_sign<E: Engine>(
 {
     let sites = dictionary.all_sites();
     if !dictionary.fits_around(sign, pass.dot, pass.len) {
-        return Ok(NOT_COUNTED);
+        return Ok(NO_NUMBER);
     }
     let site = sites[sign];
     let signs = dictionary.all_signs();
@@ -79,7 +79,7 @@ pub fn count_open<E: Engine>(
     requires words { All IsWord dictionary.now }
     requires letters { sum_by letter_count dictionary.now ≤ FILE_MAX }
     requires reached { pass.dot < dots.now.reached }
-    requires size { sign_count dictionary.now ≤ places_in dots.now }
+    requires size { sign_count dictionary.now ≤ position_count dots.now }
     requires room { HasRoom (E.meaning engine.old).counts
         (length (open_signs (is_closed dots.now pass.dot) 0 (sign_count dictionary.now))) }
     requires none { numbers.old.items ≡ [] }
@@ -105,7 +105,7 @@ pub fn count_open<E: Engine>(
     Ok(())
 }
 
-/// What became of the window with this number; `None` for `NOT_COUNTED`.
+/// What became of the window with this number; `None` for `NO_NUMBER`.
 fn fate_of(fates: &[Choice], number: u32) -> Option<Choice>
     ensures { result ≡ slice_get fates.now number }
 {
@@ -116,12 +116,12 @@ fn fate_of(fates: &[Choice], number: u32) -> Option<Choice>
 /// Where no window fits, no longer window with the dot fits either.
 fn close_at(dots: &mut OpenDots, dot: u8, sign: usize, fate: Option<Choice>)
     requires dot { dot < dots.old.reached }
-    requires within { sign < places_in dots.old }
-    ensures size { places_in dots.new ≡ places_in dots.old }
+    requires within { sign < position_count dots.old }
+    ensures size { position_count dots.new ≡ position_count dots.old }
     ensures reached { dots.new.reached ≡ dots.old.reached }
     ensures here { (d : ℕ) → is_closed dots.new d sign
         ≡ closed_by (λ c. is_closed dots.old c sign) dot fate d }
-    ensures others { (d s : ℕ) → s < places_in dots.old → s ≢ sign
+    ensures others { (d s : ℕ) → s < position_count dots.old → s ≢ sign
         → is_closed dots.new d s ≡ is_closed dots.old d s }
 {
     match fate {
@@ -135,9 +135,9 @@ fn close_at(dots: &mut OpenDots, dot: u8, sign: usize, fate: Option<Choice>)
 /// its dot is open. `end` is how many signs there are. It takes no memory.
 pub fn close_dots(dot: u8, fates: &[Choice], numbers: &[u32], end: usize, dots: &mut OpenDots)
     requires dot { dot < dots.old.reached }
-    requires size { end ≤ places_in dots.old }
+    requires size { end ≤ position_count dots.old }
     requires numbers { length numbers.now ≡ length (open_signs (is_closed dots.old dot) 0 end) }
-    ensures size { places_in dots.new ≡ places_in dots.old }
+    ensures size { position_count dots.new ≡ position_count dots.old }
     ensures reached { dots.new.reached ≡ dots.old.reached }
     ensures closed { (after : ℕ → ℕ → Bool) → ClosesBy after dot fates.now (is_closed dots.old)
         (open_signs (is_closed dots.old dot) 0 end) numbers.now

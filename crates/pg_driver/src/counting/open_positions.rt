@@ -2,7 +2,7 @@
 //! totals stand beside them.
 ghost use Rattle.std.specs.Prelude.{◌≡◌, ◌≤◌, ◌<◌, ◌+◌, ◌-◌, ◌^◌, ◌==◌, ◌&&◌, ℕ, not, length, slice_get, Some, IfOk, OnOk, is_some};
 ghost use Rattle.pg_types.specs.Inside.Counts.{SignsWithin};
-ghost use Rattle.pg_dots.specs.Inside.Dots.{is_closed, position_count as places_in};
+ghost use Rattle.pg_dots.specs.Inside.Dots.{is_closed, position_count};
 ghost use Rattle.pg_translate.specs.Reach.{positions as positions_of};
 ghost use Rattle.pg_dict.specs.Word.{Word};
 ghost use Rattle.pg_dict.specs.Inside.SoundWords.{IsWord, SignsAtMost, letter_count};
@@ -34,11 +34,11 @@ pub struct OpenLevel {
 
 /// Opens a position where it counts at a level by this status.
 fn open_by_status(level: u8, sign: usize, mark: Mark, dots: &mut OpenDots)
-    requires within { sign < places_in dots.old }
+    requires within { sign < position_count dots.old }
     requires none { dots.old.reached ≡ 0 }
-    ensures size { places_in dots.new ≡ places_in dots.old }
+    ensures size { position_count dots.new ≡ position_count dots.old }
     ensures none { dots.new.reached ≡ 0 }
-    ensures closed { (d s : ℕ) → s < places_in dots.old → is_closed dots.new d s
+    ensures closed { (d s : ℕ) → s < position_count dots.old → is_closed dots.new d s
         ≡ (not (s == sign && is_some (counts_as_of level mark)) && is_closed dots.old d s) }
 {
     if counts_as(level, mark).is_some() {
@@ -60,12 +60,12 @@ fn open_word<E: Engine>(
     requires word { IsWord (lent_word w.now) }
     requires signs { SignsWithin (E.meaning engine.now).signs w.now.signs.now }
     requires room { HasRoomFor opened.old.totals (letter_count (lent_word w.now)) }
-    requires within { start + length w.now.signs.now ≤ places_in opened.old.dots }
-    requires few { places_in opened.old.dots < 2 ^ 40 }
+    requires within { start + length w.now.signs.now ≤ position_count opened.old.dots }
+    requires few { position_count opened.old.dots < 2 ^ 40 }
     requires none { opened.old.dots.reached ≡ 0 }
-    ensures size { places_in opened.new.dots ≡ places_in opened.old.dots }
+    ensures size { position_count opened.new.dots ≡ position_count opened.old.dots }
     ensures none { opened.new.dots.reached ≡ 0 }
-    ensures closed { (d s : ℕ) → s < places_in opened.old.dots → is_closed opened.new.dots d s
+    ensures closed { (d s : ℕ) → s < position_count opened.old.dots → is_closed opened.new.dots d s
         ≡ (not (is_open_first (minima_of table.now) level
         (E.meaning engine.now).patterns (lent_word w.now)
         (s - start)) && is_closed opened.old.dots d s) }
@@ -99,7 +99,7 @@ pub fn open_level<E: Engine>(
     alloc: Global,
 ) -> Result<OpenLevel, AllocError>
     requires { SignsAtMost (E.meaning engine.now).signs dictionary.now }
-    ensures size { IfOk result (λ opened. sign_count dictionary.now ≤ places_in opened.dots) }
+    ensures size { IfOk result (λ opened. sign_count dictionary.now ≤ position_count opened.dots) }
     ensures closed { IfOk result
         (λ opened. (d n p : ℕ) (w : Word) → slice_get dictionary.now n ≡ Some w
         → p < length w.signs → is_closed opened.dots d (start_of dictionary.now n + p)

@@ -22,7 +22,7 @@ ghost use Rattle.pg_driver.specs.Traces.{source_of};
 
 use crate::counting::above_positions::{is_above, list_above};
 use crate::counting::marks::{counts_as, fits, window_at};
-use crate::pass_windows::{NOT_COUNTED, WordPosition};
+use crate::pass_windows::{NO_NUMBER, WordPosition};
 use pg_dict::{Dictionary, WordRef};
 use pg_select::marks::{add_mark, mark_at, no_totals, positions};
 use pg_select::{Engine, Pass, WordState};
@@ -53,7 +53,7 @@ fn counted(
 }
 
 /// Counts the window at position `p` of a word, which counts by its status as `good` says, where it
-/// counts in the pass, and gives its number; `NOT_COUNTED` where it does not count.
+/// counts in the pass, and gives its number; `NO_NUMBER` where it does not count.
 fn count_at<E: Engine>(
     engine: &mut E,
     pass: Pass,
@@ -80,7 +80,7 @@ fn count_at<E: Engine>(
     ensures signs { (E.meaning engine.new).signs ≡ (E.meaning engine.old).signs }
 {
     let Some(good) = counted(pass, w, found, p, good) else {
-        return Ok(NOT_COUNTED);
+        return Ok(NO_NUMBER);
     };
     let window = window_at(pass, w.signs, p);
     engine.count_numbered(window, good, w.weights[p])

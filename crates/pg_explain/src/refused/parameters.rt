@@ -3,10 +3,10 @@
 mod items;
 
 use crate::refused::more::{MORE_MAX, push_count};
-use crate::refused::parameters::items::{first_item, items_in, next_item, number_at, number_of};
+use crate::refused::parameters::items::{first_item, items_in, number_at, number_of};
 use crate::wrong::Refused;
 pub(crate) use items::item_spot;
-use pg_types::{COST_MAX, Kind, LENGTH_MAX, LEVEL_MAX};
+use pg_types::{COST_MAX, Kind, LENGTH_MAX, LEVEL_MAX, is_answer, next_item};
 use pg_visible::Part::{Count, Say, Show};
 use pg_visible::{Spot, Text};
 use std::alloc::AllocError;
@@ -131,11 +131,6 @@ pub(crate) fn push_item(
         Kind::BadNumber => push_due(text, refused, spot, b" is ", b", which is no number: "),
         _ => push_due(text, refused, spot, b" is ", b", which is out of range: "),
     }
-}
-
-/// Whether an item answers patgen's last question.
-fn is_answer(item: &[u8]) -> bool {
-    matches!(item, b"y" | b"Y" | b"n" | b"N")
 }
 
 /// Whether an item may stand at a place, where the item before it is the number `before`. The file

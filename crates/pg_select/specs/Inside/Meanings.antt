@@ -13,7 +13,6 @@ use Rattle.pg_types.specs.Tails.{tails}
 use Rattle.pg_patterns.specs.DottedSigns.{dotted_cmp}
 use Rattle.pg_patterns.specs.Values.{raise}
 use Rattle.pg_patterns.specs.Inside.PatternMaps.{IsPatternMap, SignsUpTo}
-use Rattle.pg_select.specs.Inside.Positions.{HasValues, HasCovers}
 use Rattle.pg_select.specs.Windows.{Patterns, Hopeless}
 use Rattle.pg_select.specs.declared.pass.Pass.{Pass}
 use Rattle.pg_select.specs.CountedPositions.{CountedPosition}
@@ -111,14 +110,6 @@ pub record KeepsButFamilies (u : List ℕ) (old new : Meaning) : Type 0 where
   pub kept : new ≡ record old { families = new.families; tidy = new.tidy }
   pub k : ℕ
   pub part : new.families ≡ families_with old (take k u)
-
--- the values of the positions of a word are those that the patterns give
-abbrev pub SetsValues : Meaning → List ℕ → List ℕ → Type 0
-SetsValues m w values = HasValues m.patterns w values
-
--- the covers say at each position whether its window is covered, where a window fits in the word
-abbrev pub SetsCovers : Meaning → List ℕ → List Bool → Type 0
-SetsCovers m w covers = HasCovers m.pass m.patterns m.hopeless w covers
 
 -- the numbers of the families, where told; in a tidy engine the tails are those of the patterns
 abbrev pub IsLayout : Meaning → Option Layout → Type 0

@@ -1,63 +1,38 @@
 //! The items of a parameters file, and where they stand.
 
 use crate::chars::{behind, up_to};
+use pg_types::{ITEMS_MAX, is_separator, next_item};
 use pg_visible::Spot;
-
-/// A number of items that is greater than that of any accepted parameters file.
-const ITEMS_MAX: usize = 100;
-
-/// Whether a byte stands between items.
-fn is_separator(byte: u8) -> bool {
-    matches!(byte, b' ' | b'\t' | b'\r' | b'\n')
-}
-
-/// How many separators stand before the next item.
-fn separators_in(rest: &[u8]) -> usize {
-    for (place, byte) in rest.iter().enumerate() {
-        if !is_separator(*byte) {
-            return place;
-        }
-    }
-    rest.len()
-}
 
 /// The bytes from the next item on.
 fn from_item(rest: &[u8]) -> &[u8] {
-    behind(rest, separators_in(rest))
-}
-
-/// How many bytes the first item has.
-fn item_len(rest: &[u8]) -> usize {
-    for (place, byte) in rest.iter().enumerate() {
-        if is_separator(*byte) {
-            return place;
+    match next_item(rest) {
+        Some((item, after)) => {
+            let before = rest.len().saturating_sub(item.len());
+            behind(rest, before.saturating_sub(after.len()))
         }
+        None => b"",
     }
-    rest.len()
 }
 
-/// The item that these bytes begin with.
+/// The first item of these bytes; nothing where there is none.
 pub(crate) fn first_item(rest: &[u8]) -> &[u8] {
-    up_to(rest, item_len(rest))
-}
-
-/// The next item, and the bytes behind it.
-pub(crate) fn next_item(bytes: &[u8]) -> Option<(&[u8], &[u8])> {
-    let rest = from_item(bytes);
-    let item = first_item(rest);
-    if item.is_empty() {
-        return None;
+    match next_item(rest) {
+        Some((item, _)) => item,
+        None => b"",
     }
-    Some((item, behind(rest, item.len())))
 }
 
 /// The bytes from the item with this number on, counted from 1.
 fn from_item_at(bytes: &[u8], item: usize) -> &[u8] {
-    let mut rest = from_item(bytes);
-    for _ in 1..item.min(ITEMS_MAX) {
-        rest = from_item(behind(rest, item_len(rest)));
+    let mut rest = bytes;
+    for _ in 1..item.min(ITEMS_MAX as usize) {
+        match next_item(rest) {
+            Some((_, after)) => rest = after,
+            None => return b"",
+        }
     }
-    rest
+    from_item(rest)
 }
 
 /// How many bytes there are up to the end of the last item.

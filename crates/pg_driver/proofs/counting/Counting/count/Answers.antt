@@ -25,7 +25,7 @@ count_open-requires-clause-room g c =
     let p : OpenLevel = record { dots = c.reach.new.self; totals = o.totals } in
     let ready : IsOpenAt source pass.level pass.len (known_of m) o = subst (IsReady source pass.level pass.len (known_of m)) c.in-Open.is c.requires.ready in
     let now : IsOpenAt source pass.level pass.len (known_of m) p = ready_same source pass.level pass.len
-    (known_of m) o ready p c.in_ok-reach-in-Open.ensures.places c.in_ok-reach-in-Open.ensures.closed refl in
+    (known_of m) o ready p c.in_ok-reach-in-Open.ensures.positions c.in_ok-reach-in-Open.ensures.closed refl in
     has_room source pass.level pass.len (known_of m) p now m.counts pass.dot c.requires.begun.fresh c.requires.begun.ranges.len_high c.requires.begun.ranges.within
 
 pub returns-in_ok-count_open-in-Open-clause-did : goal.returns-in_ok-count_open-in-Open-clause-did
@@ -37,7 +37,7 @@ returns-in_ok-count_open-in-Open-clause-did g c =
     let p : OpenLevel = record { dots = c.reach.new.self; totals = o.totals } in
     let ready : IsOpenAt source pass.level pass.len (known_of m) o = subst (IsReady source pass.level pass.len (known_of m)) c.in-Open.is c.requires.ready in
     let now : IsOpenAt source pass.level pass.len (known_of m) p = ready_same source pass.level pass.len
-    (known_of m) o ready p c.in_ok-reach-in-Open.ensures.places c.in_ok-reach-in-Open.ensures.closed refl in
+    (known_of m) o ready p c.in_ok-reach-in-Open.ensures.positions c.in_ok-reach-in-Open.ensures.closed refl in
     record {
       counts = c.in_ok-count_open-in-Open.ensures.ok ∙ ap (meaning_after_counting m)
           (counts_all source pass.level pass.len (known_of m) p now pass.dot c.requires.begun.ranges.len_high c.requires.begun.ranges.within);
@@ -54,7 +54,7 @@ returns-in_ok-count_open-in-Open-clause-ready g c =
     let o = c.in-Open.open in
     let p : OpenLevel = record { dots = c.reach.new.self; totals = o.totals } in
     let ready : IsOpenAt source pass.level pass.len known o = subst (IsReady source pass.level pass.len known) c.in-Open.is c.requires.ready in
-    ready_same source pass.level pass.len known o ready p c.in_ok-reach-in-Open.ensures.places c.in_ok-reach-in-Open.ensures.closed refl
+    ready_same source pass.level pass.len known o ready p c.in_ok-reach-in-Open.ensures.positions c.in_ok-reach-in-Open.ensures.closed refl
 
 pub returns-in_ok-count_open-in-Open-clause-counted : goal.returns-in_ok-count_open-in-Open-clause-counted
 returns-in_ok-count_open-in-Open-clause-counted g c = tt

@@ -7,4 +7,4 @@ pub returns-in_ok-next_length-clause-ready : goal.returns-in_ok-next_length-clau
 returns-in_ok-next_length-clause-ready c = λ source level len known ready.
     let o = c.in-Open.open in
     ready_longer source level len known o (subst (IsReady source level len known) c.in-Open.is ready)
-    (record { dots = c.next_length.new.self; totals = o.totals }) c.in_ok-next_length.ensures.places c.in_ok-next_length.ensures.closed refl
+    (record { dots = c.next_length.new.self; totals = o.totals }) c.in_ok-next_length.ensures.positions c.in_ok-next_length.ensures.closed refl

@@ -2,7 +2,7 @@ use Rattle.std.proofs.Common.{◌≡◌, ℕ, ◌+◌, ◌<◌, ◌≤◌, [], �
 use Rattle.std.proofs.lemmas.Bool.{cases_eq, cases_lt}
 use Rattle.std.proofs.lemmas.List.{drop_more, drop_all}
 use Rattle.std.proofs.lemmas.Option.{slice_get-get_or}
-use Rattle.pg_dots.specs.Inside.Dots.{is_closed, position_count as places_in}
+use Rattle.pg_dots.specs.Inside.Dots.{is_closed, position_count}
 use Rattle.pg_dots.proofs.Walks.{ahead_kept}
 use Rattle.pg_driver.specs.Inside.OpenSigns.{closed_by, open_signs}
 use Rattle.pg_driver.proofs.OpenSigns.{all_shut, open_first, open_skip, open_there}
@@ -13,7 +13,7 @@ use Rattle.pg_driver.proofs.counting.open_passes.close_dots.Goals.{After-next_op
 record Ahead (c : After-next_open-sign) : Type 0 where
   shut : (i : ℕ) → c.numbers.invariant.next ≤ i → i < c.next_open-sign.result → is_closed c.args.dots.now c.args.dot i ≡ true
   low : c.next_open-sign.result < c.args.end
-  wide : c.args.end ≤ places_in c.args.dots.now
+  wide : c.args.end ≤ position_count c.args.dots.now
   index : c.numbers.number-index < length (open_signs (is_closed c.args.dots.now c.args.dot) 0 c.args.end)
   step : open_signs (is_closed c.args.dots.now c.args.dot) c.numbers.invariant.next c.args.end
       ≡ get_or (open_signs (is_closed c.args.dots.now c.args.dot) 0 c.args.end) c.numbers.number-index 0 ∷ drop (c.numbers.number-index + 1)
@@ -70,8 +70,8 @@ numbers-preserved c =
     let next = c.numbers.invariant.next in
     let at = c.next_open-sign.result in
     let found = c.next_open-sign.ensures.next c.numbers.invariant.next c.numbers.invariant.ahead in
-    let wide : places_in c.numbers.dots ≡ places_in c.args.dots.now = inv.size in
-    let within : at < places_in c.args.dots.now = omega (arith, a.low, a.wide) in
+    let wide : position_count c.numbers.dots ≡ position_count c.args.dots.now = inv.size in
+    let within : at < position_count c.args.dots.now = omega (arith, a.low, a.wide) in
     let free : old dot at ≡ false = sym (inv.later dot at found.after within) ∙ found.fails (omega arith) in
     let both : at ∷ open_signs (old dot) (at + 1) end ≡ get_or all k 0 ∷ drop (k + 1) all = sym (open_first (old dot) end at a.low free)
     ∙ sym (open_skip (old dot) end next at found.after a.shut) ∙ a.step in
@@ -85,7 +85,8 @@ numbers-preserved c =
       within = omega arith;
       at = omega (arith, c.next_open-sign.ensures.within, c.close_at.ensures.size);
       ahead =
-          ahead_kept (is_closed c.numbers.dots dot) (is_closed c.close_at.new.dots dot) c.next_open-sign.new.walk (at + 1) (places_in c.numbers.dots) (omega (arith, c.next_open-sign.ensures.within))
+          ahead_kept (is_closed c.numbers.dots dot) (is_closed c.close_at.new.dots dot) c.next_open-sign.new.walk (at + 1) (position_count c.numbers.dots)
+          (omega (arith, c.next_open-sign.ensures.within))
           (λ i from low. c.close_at.ensures.others dot i low (λ is. omega arith)) (c.next_open-sign.ensures.ahead next inv.ahead (omega (arith, within, wide)));
       left = tail;
       later = λ d s from low. c.close_at.ensures.others d s (omega arith) (λ is. omega arith) ∙ inv.later d s (omega (arith, found.after)) low;

@@ -1,6 +1,6 @@
 use Rattle.std.proofs.Common.{◌≡◌, ℕ, ◌+◌, ◌-◌, ◌≤◌, ◌<◌, true, false, length, map}
 use Rattle.std.specs.List.{flat_map}
-use Rattle.pg_dots.specs.Inside.Dots.{HasWalk, is_closed, position_count as places_in}
+use Rattle.pg_dots.specs.Inside.Dots.{HasWalk, is_closed, position_count}
 use Rattle.pg_dots.specs.Inside.Walks.{IsAhead}
 use Rattle.pg_driver.proofs.OpenSigns.{open_upto}
 use Rattle.pg_driver.proofs.Walks.{KeepsButCounts}
@@ -22,10 +22,10 @@ invariant-signs g l =
           ≡ meaning_after_counting m0 (flat_map (counted_of l.pass words) (open_word_positions closed words));
       numbered : HaveNumbers l.pass (counts_at l.pass) words m.windows (map (position_from 0 words) (open_upto closed l.next)) l.numbers.items;
       room : HasRoom m.counts (length (open_signs closed l.next (sign_count words)));
-      inside : l.next ≤ places_in l.dots;
-      free : l.next < places_in l.dots → closed l.next ≡ false;
+      inside : l.next ≤ position_count l.dots;
+      free : l.next < position_count l.dots → closed l.next ≡ false;
       at : HasWalk l.dots l.walk;
-      ahead : l.next < places_in l.dots → IsAhead closed l.walk (l.next + 1);
+      ahead : l.next < position_count l.dots → IsAhead closed l.walk (l.next + 1);
       beyond : (i : ℕ) → sign_count words ≤ i → i < l.next → closed i ≡ true;
     }
 

@@ -10,7 +10,7 @@ use Rattle.pg_select.proofs.MarkSteps.{weight_small}
 use Rattle.pg_select.specs.Statuses.{is_odd}
 use Rattle.pg_select.specs.Windows.{fits, window}
 use Rattle.pg_driver.specs.declared.pass_windows.WordPosition.{WordPosition}
-use Rattle.pg_driver.specs.declared.pass_windows.TheConstants.{NOT_COUNTED}
+use Rattle.pg_driver.specs.declared.pass_windows.TheConstants.{NO_NUMBER}
 use Rattle.pg_driver.specs.Inside.Counting.{meaning_after_counting}
 use Rattle.pg_driver.specs.Inside.OpenPositions.{counted_of}
 use Rattle.pg_driver.specs.Inside.OpenSigns.{position_from, start_of}
@@ -58,8 +58,8 @@ returns-then-not-fits_around-clause-number g c =
     let w = s.of.word in
     let p = s.of.at in
     let other : fits w.signs p pass.len pass.dot ≡ false = sym (c.fits_around.ensures s.of.number p w s.of.there s.of.within (sign_is words c.args.sign s.of)) ∙ c.if-not-fits_around.true in
-    subst (λ (e : WordPosition). IsNumbered pass (counts_at pass) words m.windows e NOT_COUNTED) (sym (place_of words c.args.sign s.of))
-    (numbered_none pass words m.windows s.of.number p w NOT_COUNTED s.of.there other refl)
+    subst (λ (e : WordPosition). IsNumbered pass (counts_at pass) words m.windows e NO_NUMBER) (sym (place_of words c.args.sign s.of))
+    (numbered_none pass words m.windows s.of.number p w NO_NUMBER s.of.there other refl)
 
 pub window_at-window-requires-clause-dot : goal.window_at-window-requires-clause-dot
 window_at-window-requires-clause-dot g c =

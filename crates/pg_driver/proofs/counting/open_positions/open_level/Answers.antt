@@ -2,7 +2,7 @@ use Rattle.std.proofs.Common.{◌≡◌, ◌+◌, ◌-◌, ◌<◌, ◌≤◌, �
 use Rattle.std.specs.List.{flat_map}
 use Rattle.std.proofs.lemmas.Bool.{cases_lt}
 use Rattle.std.proofs.lemmas.Option.{slice_get_within}
-use Rattle.pg_dots.specs.Inside.Dots.{is_closed, position_count as places_in}
+use Rattle.pg_dots.specs.Inside.Dots.{is_closed, position_count}
 use Rattle.pg_dict.specs.Inside.Lent.{lent_word}
 use Rattle.pg_select.specs.CountedPositions.{minima_of}
 use Rattle.pg_dict.specs.Word.{Word}
@@ -35,8 +35,8 @@ words-preserved g c =
     let before = c.words.opened in
     let inv = c.words.invariant in
     let start = c.words.start in
-    let wide : places_in c.open_word.new.opened.dots ≡ places_in before.dots = c.open_word.ensures.size in
-    let dots : (d s : ℕ) → s < places_in before.dots → is_closed c.open_word.new.opened.dots d s
+    let wide : position_count c.open_word.new.opened.dots ≡ position_count before.dots = c.open_word.ensures.size in
+    let dots : (d s : ℕ) → s < position_count before.dots → is_closed c.open_word.new.opened.dots d s
     ≡ (not (is_open_first minima c.args.level P w (s - start)) && is_closed before.dots d s) = c.open_word.ensures.closed in
     record {
       size = omega (arith, inv.size);
@@ -45,7 +45,7 @@ words-preserved g c =
       starts = ap (λ k. k + length w.signs) inv.starts ∙ sym (start_next words c.words.i w lent);
       before = λ d n p v low at inside.
           let s = start_of words n + p in
-          let lies : s < places_in before.dots = omega (arith, sign_within words n p v at inside, inv.size) in
+          let lies : s < position_count before.dots = omega (arith, sign_within words n p v at inside, inv.size) in
           elim (cases_lt n c.words.i) [
             | inl earlier ↦
                 dots d s lies
@@ -63,7 +63,7 @@ words-preserved g c =
                 ∙ (λ k. not (is_open_first minima c.args.level P (same k) (place k)))
           ];
       later = λ d s from low.
-          let lies : s < places_in before.dots = omega arith in
+          let lies : s < position_count before.dots = omega arith in
           dots d s lies ∙ opens_behind minima c.args.level P w (s - start) (is_closed before.dots d s) (omega arith) ∙ inv.later d s (omega arith) lies;
       sums = marks_word before.totals _ _ minima P w (drop (c.words.i + 1) words) c.open_word.ensures.totals
           (ap (λ (ws : List Word). with_marks before.totals (flat_map (marks_in minima P) ws)) (sym (drop_place words c.words.i w lent)) ∙ inv.sums);

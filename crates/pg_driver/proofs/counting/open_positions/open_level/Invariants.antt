@@ -1,5 +1,5 @@
 use Rattle.std.proofs.Common.{◌≡◌, ℕ, ◌≤◌, ◌<◌, ◌+◌, ◌^◌, true, not, drop, length, slice_get, Some}
-use Rattle.pg_dots.specs.Inside.Dots.{is_closed, position_count as places_in}
+use Rattle.pg_dots.specs.Inside.Dots.{is_closed, position_count}
 use Rattle.pg_select.specs.CountedPositions.{minima_of}
 use Rattle.std.specs.List.{flat_map, sum_by}
 use Rattle.pg_dict.specs.Word.{Word}
@@ -15,13 +15,13 @@ invariant-words g l =
     let P = (g.E.Engine.meaning l.engine).patterns in
     let minima = minima_of l.table in
     record {
-      size : sign_count l.dictionary ≤ places_in l.opened.dots;
-      few : places_in l.opened.dots < 2 ^ 40;
+      size : sign_count l.dictionary ≤ position_count l.opened.dots;
+      few : position_count l.opened.dots < 2 ^ 40;
       none : l.opened.dots.reached ≡ 0;
       starts : l.start ≡ start_of l.dictionary l.i;
       before : (d n p : ℕ) (w : Word) → n < l.i → slice_get l.dictionary n ≡ Some w → p < length w.signs → is_closed l.opened.dots d (start_of l.dictionary n + p)
           ≡ not (is_open_first minima l.level P w p);
-      later : (d s : ℕ) → l.start ≤ s → s < places_in l.opened.dots → is_closed l.opened.dots d s ≡ true;
+      later : (d s : ℕ) → l.start ≤ s → s < position_count l.opened.dots → is_closed l.opened.dots d s ≡ true;
       sums : with_marks l.opened.totals (flat_map (marks_in minima P) (drop l.i l.dictionary)) ≡ totals minima l.dictionary P;
       reached : AreReached minima l.dictionary l.i;
       room_for : HasRoomFor l.opened.totals (sum_by letter_count (drop l.i l.dictionary));

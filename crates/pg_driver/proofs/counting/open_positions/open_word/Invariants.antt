@@ -1,5 +1,5 @@
 use Rattle.std.proofs.Common.{◌≡◌, ℕ, ◌≤◌, ◌<◌, ◌+◌, ◌-◌, nat_lt, not, ◌&&◌}
-use Rattle.pg_dots.specs.Inside.Dots.{is_closed, position_count as places_in}
+use Rattle.pg_dots.specs.Inside.Dots.{is_closed, position_count}
 use Rattle.pg_dict.specs.Inside.SoundWords.{letter_count}
 use Rattle.pg_dict.specs.Inside.Lent.{lent_word}
 use Rattle.pg_select.specs.CountedPositions.{minima_of}
@@ -14,9 +14,9 @@ invariant-positions g l =
     let m = g.E.Engine.meaning l.engine in
     let w = lent_word l.w in
     record {
-      size : places_in l.opened.dots ≡ places_in l.fn.opened.dots;
+      size : position_count l.opened.dots ≡ position_count l.fn.opened.dots;
       none : l.opened.dots.reached ≡ 0;
-      dots : (d s : ℕ) → s < places_in l.fn.opened.dots → is_closed l.opened.dots d s
+      dots : (d s : ℕ) → s < position_count l.fn.opened.dots → is_closed l.opened.dots d s
           ≡ (not (nat_lt s (l.start + l.p) && is_open_first (minima_of l.table) l.level m.patterns w (s - l.start)) && is_closed l.fn.opened.dots d s);
       sums : with_marks l.opened.totals (marks_from m.patterns w l.p l.end) ≡ with_marks l.fn.opened.totals (marks_in (minima_of l.table) m.patterns w);
       few : l.p - l.first ≤ letter_count w;
