@@ -10,7 +10,7 @@ use Rattle.pg_top.specs.Counted.{MakesCalls, read_calls, ReadsUpTo}
 use Rattle.pg_top.specs.Inside.ReadCalls.{read_call}
 use Rattle.pg_top.specs.Outcomes.{Outcome, Unknown}
 use Rattle.pg_top.specs.Inside.Refusing.{refuses}
-use Rattle.pg_top.specs.Readings.{Held, Reading, first_end}
+use Rattle.pg_top.specs.Readings.{HeldFiles, Reading, first_end}
 use Rattle.pg_top.specs.Inside.Stops.{OnlyReads, StopsAt, StopsWith, StopsReading}
 use Rattle.pg_top.specs.declared.inputs.Stop.{Stop}
 use Rattle.pg_top.specs.declared.inputs.Stop.TheVariants.{Refused, Unread, Memory}
@@ -18,10 +18,10 @@ use Rattle.pg_top.proofs.CountedCalls.{calls_on, calls_are, up_to_all}
 use Rattle.pg_top.proofs.Faults.{rose_since, none_fell}
 
 -- a file that is held and does not end the call, and all files of a list
-abbrev pub IsAccepted : Held → Reading → Type 0
+abbrev pub IsAccepted : HeldFiles → Reading → Type 0
 IsAccepted files r = option_map (r.ends files) (files r.name) ≡ Some None
 
-abbrev pub AreAccepted : Held → List Reading → Type 0
+abbrev pub AreAccepted : HeldFiles → List Reading → Type 0
 AreAccepted files [] = Unit {0}
 AreAccepted files (r ∷ rs) = IsAccepted files r × AreAccepted files rs
 
@@ -40,16 +40,16 @@ stops_there ends None rest end is = cc
 stops_there ends (Some bytes) rest end is = let some : ends bytes ≡ Some end = cc in ap (λ end. option_or end rest) some
 
 -- files that are accepted leave the call to the files behind them
-pub accepted_front : (files : Held) (front rest : List Reading) → AreAccepted files front → first_end files (front ++ rest) ≡ first_end files rest
+pub accepted_front : (files : HeldFiles) (front rest : List Reading) → AreAccepted files front → first_end files (front ++ rest) ≡ first_end files rest
 accepted_front files [] rest accepted = refl
 accepted_front files (r ∷ front) rest accepted = goes_on (r.ends files) (files r.name) (first_end files (front ++ rest)) accepted.0 ∙ accepted_front files front rest accepted.1
 
-pub accepted_all : (files : Held) (reads : List Reading) → AreAccepted files reads → first_end files reads ≡ None
+pub accepted_all : (files : HeldFiles) (reads : List Reading) → AreAccepted files reads → first_end files reads ≡ None
 accepted_all files [] accepted = refl
 accepted_all files (r ∷ reads) accepted = goes_on (r.ends files) (files r.name) (first_end files reads) accepted.0 ∙ accepted_all files reads accepted.1
 
 -- the first that is not accepted ends the call
-pub end_behind : (files : Held) (front : List Reading) (r : Reading) (rest : List Reading) (end : Outcome) → AreAccepted files front
+pub end_behind : (files : HeldFiles) (front : List Reading) (r : Reading) (rest : List Reading) (end : Outcome) → AreAccepted files front
     → option_map (r.ends files) (files r.name) ≡ Some (Some end) → first_end files (front ++ r ∷ rest) ≡ Some end
 end_behind files front r rest end accepted is = accepted_front files front (r ∷ rest) accepted ∙ stops_there (r.ends files) (files r.name) (first_end files rest) end is
 
@@ -102,11 +102,11 @@ stopped_behind front r rest s0 s1 s2 stop fell calls accepted stops = record {
 }
 
 -- one more file that is accepted
-pub accepted_and : (files : Held) (front : List Reading) (r : Reading) → AreAccepted files front → IsAccepted files r → AreAccepted files (front ++ r ∷ [])
+pub accepted_and : (files : HeldFiles) (front : List Reading) (r : Reading) → AreAccepted files front → IsAccepted files r → AreAccepted files (front ++ r ∷ [])
 accepted_and files [] r accepted here = (here, tt)
 accepted_and files (first ∷ front) r accepted here = (accepted.0, accepted_and files front r accepted.1 here)
 
-pub accepted_both : (files : Held) (front rest : List Reading) → AreAccepted files front → AreAccepted files rest → AreAccepted files (front ++ rest)
+pub accepted_both : (files : HeldFiles) (front rest : List Reading) → AreAccepted files front → AreAccepted files rest → AreAccepted files (front ++ rest)
 accepted_both files [] rest accepted more = more
 accepted_both files (r ∷ front) rest accepted more = (accepted.0, accepted_both files front rest accepted.1 more)
 
@@ -170,11 +170,11 @@ ended_front ends (Some bytes) a b end more is = by_end (ends bytes) is
     by_end None is = more is
     by_end (Some x) is = is
 
-end_in_front : (files : Held) (front rest : List Reading) (end : Outcome) → first_end files front ≡ Some end → first_end files (front ++ rest) ≡ Some end
+end_in_front : (files : HeldFiles) (front rest : List Reading) (end : Outcome) → first_end files front ≡ Some end → first_end files (front ++ rest) ≡ Some end
 end_in_front files [] rest end is = cc
 end_in_front files (r ∷ front) rest end is = ended_front (r.ends files) (files r.name) (first_end files front) (first_end files (front ++ rest)) end (end_in_front files front rest end) is
 
-pub end_of_all : (files : Held) (n : ℕ) (reads : List Reading) (end : Outcome) → first_end files (take n reads) ≡ Some end → first_end files reads ≡ Some end
+pub end_of_all : (files : HeldFiles) (n : ℕ) (reads : List Reading) (end : Outcome) → first_end files (take n reads) ≡ Some end → first_end files reads ≡ Some end
 end_of_all files n reads end is = ap (first_end files) (sym (take-append-drop n reads)) ∙ end_in_front files (take n reads) (drop n reads) end is
 
 pub stopped_in_front : (front rest : List Reading) (s0 s1 : FilesShown) (stop : Stop) → StopsReading front s0 s1 stop → StopsReading (front ++ rest) s0 s1 stop
@@ -214,7 +214,7 @@ goes_before ends (Some bytes) a b more is = by_end (ends bytes) is
     by_end None is = more is
     by_end (Some x) is = is
 
-none_before : (files : Held) (front rest : List Reading) → first_end files (front ++ rest) ≡ None → first_end files front ≡ None
+none_before : (files : HeldFiles) (front rest : List Reading) → first_end files (front ++ rest) ≡ None → first_end files front ≡ None
 none_before files [] rest is = refl
 none_before files (r ∷ front) rest is = goes_before (r.ends files) (files r.name) (first_end files (front ++ rest)) (first_end files front) (none_before files front rest) is
 

@@ -12,10 +12,10 @@ use Rattle.pg_top.specs.Calls.{outcome_of}
 use Rattle.pg_top.specs.Outcomes.{Ends, Unknown}
 use Rattle.pg_top.specs.PrintedLines.{refused_line}
 use Rattle.pg_top.specs.Inside.FaultLines.{reading_line}
-use Rattle.pg_top.specs.Readings.{Held}
+use Rattle.pg_top.specs.Readings.{HeldFiles}
 use Rattle.pg_words.specs.Requests.{FileNames, PackRequest, TotalsRequest, SweepRequest, ToGenerate, ToAudit, ToSample, ToPack, ToTotals, ToSweep, request_of}
 use Rattle.pg_top.specs.sample.Sampled.{ending, syllable, word, sample_text}
-use Rattle.pg_top.specs.Selection.{selection, selected, selected_totals, selected_text, selected_list, selected_cells_text, selected_report}
+use Rattle.pg_top.specs.Selection.{selection, selected_patterns, selected_totals, selected_text, selected_list, selected_cells_text, selected_report}
 use Rattle.pg_top.specs.declared.answers.Status.TheVariants.{Done, Yes, No, Refused}
 use Rattle.pg_top.specs.declared.inputs.Input.TheVariants as input
 
@@ -67,7 +67,7 @@ found : List (List ℕ × List ℕ) → List ℕ → Option (List ℕ)
 found [] name = None
 found (e ∷ es) name = if bytes_eq e.0 name then Some e.1 else found es name
 
-files : List ℕ → List (List ℕ × List ℕ) → Held
+files : List ℕ → List (List ℕ × List ℕ) → HeldFiles
 files dict more = found ((codes "T", codes " 1 1\n a\n b\n c\n") ∷ (codes "P", []) ∷ (codes "A", codes "1 1 2 2 1 1 2\n") ∷ (codes "D", dict) ∷ more)
 
 -- two words that give one pattern, with the hyphenated list and the cells file
@@ -87,7 +87,7 @@ one_pattern : outcome_of (files (codes "ab-c\nab-a\n") []) (ToGenerate (record n
     )
     ∷ [])
     (codes "done: 1 patterns, 2 good, 0 bad, 0 missed\nwork: 3 passes, 5 taken, top 9, 1 tails\n")
-unfolding names files found selection selected selected_totals selected_text selected_list selected_cells_text selected_report digits with_sign
+unfolding names files found selection selected_patterns selected_totals selected_text selected_list selected_cells_text selected_report digits with_sign
 one_pattern = refl
 
 -- the third line of the dictionary is refused
@@ -105,15 +105,15 @@ right_report = codes "pass 1 2 1: 0 good, 0 bad, 2 missed; 3 candidates, 0 chose
     ++ codes "rate: 100.00 % good, 0.00 % bad, 0.00 % missed\n"
 
 right_files : outcome_of (files (codes "ab-c\nab-a\n") ((codes "O", codes "ab1\n") ∷ (codes "R", right_report) ∷ [])) (ToAudit names) ≡ Ends Yes [] (codes "yes\n")
-unfolding names files found selection selected selected_text selected_report right_report digits
+unfolding names files found selection selected_patterns selected_text selected_report right_report digits
 right_files = refl
 
 no_line_feed : outcome_of (files (codes "ab-c\nab-a\n") ((codes "O", codes "ab1") ∷ [])) (ToAudit names) ≡ Ends No [] (codes "no: patterns line 1 found ab1 and the file ends\n")
-unfolding names files found selection selected selected_text digits
+unfolding names files found selection selected_patterns selected_text digits
 no_line_feed = refl
 
 empty_file : outcome_of (files (codes "ab-c\nab-a\n") ((codes "O", []) ∷ [])) (ToAudit names) ≡ Ends No [] (codes "no: patterns line 1 is missing\n")
-unfolding names files found selection selected selected_text digits
+unfolding names files found selection selected_patterns selected_text digits
 empty_file = refl
 
 -- no file is held

@@ -2,7 +2,7 @@
 use Rattle.std.proofs.Common.{◌≡◌, List, Result}
 use Rattle.std.specs.Result.{IsErrAnd}
 use Rattle.pg_outside.specs.Content.{FilesShown}
-use Rattle.pg_top.specs.Readings.{Held, Reading}
+use Rattle.pg_top.specs.Readings.{HeldFiles, Reading}
 use Rattle.pg_top.specs.Inside.Built.{Builds}
 use Rattle.pg_top.specs.Inside.ReadsMade.{ReadsFiles}
 use Rattle.pg_top.specs.Inside.Stops.{OnlyReads, StopsCommand, StopsReading}
@@ -12,7 +12,7 @@ use Rattle.pg_words.specs.Requests.{Request}
 use Rattle.pg_top.proofs.Results.{no_value, that_error}
 
 -- files that were read up to one that stopped it
-pub files_stopped : {Y : Type 0} (reads : List Reading) (old new : FilesShown) (r : Result Y Stop) (Has : Held → Y → Type 0) (stop : Stop)
+pub files_stopped : {Y : Type 0} (reads : List Reading) (old new : FilesShown) (r : Result Y Stop) (Has : HeldFiles → Y → Type 0) (stop : Stop)
     → IsErrAnd r (λ y. y ≡ stop) → OnlyReads old new → StopsReading reads old new stop → ReadsFiles reads old new r Has
 files_stopped reads old new r Has stop is only stops = record {
   only = only;

@@ -22,14 +22,14 @@ use Rattle.pg_texts.specs.Inside.ReportLines.{account_text}
 use Rattle.pg_texts.specs.PattmpTexts.{pattmp_text}
 use Rattle.pg_texts.proofs.TraceTexts.{cells_same, last_same, report_same}
 use Rattle.pg_top.specs.Inside.Runs.{last_layout_told}
-use Rattle.pg_top.specs.Selection.{selection, selected, selected_totals, selected_text, selected_list, selected_cells_text, selected_report}
+use Rattle.pg_top.specs.Selection.{selection, selected_patterns, selected_totals, selected_text, selected_list, selected_cells_text, selected_report}
 use Rattle.pg_top.specs.Inside.SelectionSigns.{signs_of}
 use Rattle.pg_top.specs.Inside.SelectionAccounts.{selected_account, passes_begun, selected_cells_from, selected_cells, last_layout, work_line}
 use Rattle.pg_top.specs.Inside.SelectedRuns.{IsNew}
 use Rattle.pg_top.specs.declared.selection.Inputs.{Inputs}
 
-pub patterns_selected : (i : Inputs) (m : Meaning) → IsNew i m → patterns_from i.table i.dictionary i.params m ≡ selected i
-unfolding selection selected
+pub patterns_selected : (i : Inputs) (m : Meaning) → IsNew i m → patterns_from i.table i.dictionary i.params m ≡ selected_patterns i
+unfolding selection selected_patterns
 patterns_selected i m is = ap (patterns_from i.table i.dictionary i.params) is
 
 pub account_selected : (i : Inputs) (m : Meaning) → IsNew i m → account_from i.table i.dictionary i.params m ≡ selected_account i
@@ -73,11 +73,11 @@ unfolding selected_cells
 cells_packed i fs r is tells = subst (λ fs. TellsCells (option_map (selected_cells_from i) fs) r) is tells
 
 -- the texts of the selection
-pub text_selected : (i : Inputs) (P : Patterns) → P ≡ selected i → pattern_text i.table P ≡ selected_text i
+pub text_selected : (i : Inputs) (P : Patterns) → P ≡ selected_patterns i → pattern_text i.table P ≡ selected_text i
 unfolding selected_text
 text_selected i P is = ap (pattern_text i.table) is
 
-pub list_selected : (i : Inputs) (P : Patterns) → P ≡ selected i → pattmp_text i.table P i.dictionary ≡ selected_list i
+pub list_selected : (i : Inputs) (P : Patterns) → P ≡ selected_patterns i → pattmp_text i.table P i.dictionary ≡ selected_list i
 unfolding selected_list
 list_selected i P is = ap (λ P. pattmp_text i.table P i.dictionary) is
 
@@ -91,17 +91,17 @@ report_selected i value a same is = (λ k. account_text (same k) i.params (is k)
 
 -- the totals, and the last line of `generate`
 pub totals_selected : (i : Inputs) → (selected_account i).totals ≡ selected_totals i
-unfolding selected selected_account selected_totals
+unfolding selected_patterns selected_account selected_totals
 totals_selected i = refl
 
 behind : (x a b c d : List ℕ) → x ++ (a ++ b ++ c ++ d) ≡ x ++ a ++ b ++ c ++ d
 behind x a b c d = simp append_assoc
 
 pub end_selected : (i : Inputs) (x : List ℕ) → x ++ work_line (passes_begun i) (last_layout (selected_cells i))
-    ≡ x ++ codes "work: " ++ decimal (begun_count (selection i)) ++ codes " passes, " ++ layout_text (families_at_end (signs_of i) i.start (selection i)) (selected i)
-unfolding selected passes_begun selected_cells selected_cells_from
+    ≡ x ++ codes "work: " ++ decimal (begun_count (selection i)) ++ codes " passes, " ++ layout_text (families_at_end (signs_of i) i.start (selection i)) (selected_patterns i)
+unfolding selected_patterns passes_begun selected_cells selected_cells_from
 end_selected i x =
-    let last : last_layout (selected_cells i) ≡ layout_of (families_at_end (signs_of i) i.start (selection i)) (selected i) =
+    let last : last_layout (selected_cells i) ≡ layout_of (families_at_end (signs_of i) i.start (selection i)) (selected_patterns i) =
     last_same (signs_of i) (pattern_families (signs_of i) i.start) i.start (selection i) in
     ap (λ (l : Layout). x ++ work_line (begun_count (selection i)) l) last
-    ∙ behind x (codes "work: ") (decimal (begun_count (selection i))) (codes " passes, ") (layout_text (families_at_end (signs_of i) i.start (selection i)) (selected i))
+    ∙ behind x (codes "work: ") (decimal (begun_count (selection i))) (codes " passes, ") (layout_text (families_at_end (signs_of i) i.start (selection i)) (selected_patterns i))

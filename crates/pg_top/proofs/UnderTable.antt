@@ -11,7 +11,7 @@ use Rattle.pg_translate.specs.Tables.{table, default_alphabet}
 use Rattle.pg_top.specs.Counted.{MakesCalls}
 use Rattle.pg_top.specs.Outcomes.{unless_accepted}
 use Rattle.pg_top.specs.Inside.Refusing.{refuses}
-use Rattle.pg_top.specs.Readings.{Held, Reading, meaning, input_file, table_named, translate_file}
+use Rattle.pg_top.specs.Readings.{HeldFiles, Reading, meaning, input_file, table_named, translate_file}
 use Rattle.pg_top.specs.Inside.ReadAs.{read_as}
 use Rattle.pg_top.specs.Inside.UnderTable.{file_under, meaning_under}
 use Rattle.pg_top.specs.Inside.Stops.{StopsAt, StopsReading}
@@ -27,7 +27,7 @@ pub accepted : {Y : Type 0} (input : Input) (parse : List ℕ → Result Y Refus
 accepted input parse None y is = cc
 accepted input parse (Some bytes) y is = let ok : parse bytes ≡ Ok y = cc in ap (λ got. Some (unless_accepted input got)) ok
 
-pub means : {Y : Type 0} (parse : List ℕ → Result Y Refusal) (other : Y) (files : Held) (name : List ℕ) (y : Y) → read_as parse files name ≡ Some (Ok y) → meaning parse other files name ≡ y
+pub means : {Y : Type 0} (parse : List ℕ → Result Y Refusal) (other : Y) (files : HeldFiles) (name : List ℕ) (y : Y) → read_as parse files name ≡ Some (Ok y) → meaning parse other files name ≡ y
 means {Y} parse other files name y is = by_file (files name) is
   where
     by_file : (file : Option (List ℕ)) → option_map parse file ≡ Some (Ok y) → option_map_or (λ bytes. result_unwrap_or (parse bytes) other) file other ≡ y

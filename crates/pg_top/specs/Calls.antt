@@ -11,7 +11,7 @@ use Rattle.pg_top.specs.audit.Audited.{given_files}
 use Rattle.pg_top.specs.Outcomes.{Outcome, Ends}
 use Rattle.pg_top.specs.totals.Totalled.{packed_table}
 use Rattle.pg_top.specs.PrintedLines.{usage_line}
-use Rattle.pg_top.specs.Readings.{Held, Reading, first_end, translate_file, patterns_file, words_file, input_file, words_under, patterns_under, table_named, meaning}
+use Rattle.pg_top.specs.Readings.{HeldFiles, Reading, first_end, translate_file, patterns_file, words_file, input_file, words_under, patterns_under, table_named, meaning}
 use Rattle.pg_words.specs.Requests.{Request, ToGenerate, ToAudit, ToSample, ToPack, ToTotals, ToPrune, ToSweep, output_names}
 use Rattle.pg_top.specs.sample.Sampled.{sample_lines}
 use Rattle.pg_top.specs.generate.Generated.{inputs_of, inputs_in, outcome_of_generate}
@@ -41,7 +41,7 @@ writes_of (ToSweep s) = s.output ∷ []
 writes_of request = []
 
 -- what a command comes to where no file that it reads ends the call
-abbrev pub own_outcome : Held → Request → Outcome
+abbrev pub own_outcome : HeldFiles → Request → Outcome
 own_outcome files (ToGenerate n) = outcome_of_generate n (inputs_in files n)
 own_outcome files (ToAudit n) = Ends Yes [] (codes "yes\n")
 own_outcome files (ToSample seed count) = Ends Done [] (sample_lines seed count)
@@ -57,9 +57,9 @@ own_outcome files (ToSweep s) =
     outcome_of_sweep s (swept_rows s (terms_in files s) (sets_in files s))
 
 -- the outcome of a command: that of the first file that ends the call, else its own
-abbrev pub outcome_of : Held → Request → Outcome
+abbrev pub outcome_of : HeldFiles → Request → Outcome
 outcome_of files asked = unwrap_or (first_end files (reads_of asked)) (own_outcome files asked)
 
 -- the outcome of a call, where words that are no command come to usage
-abbrev pub outcome : Held → Option Request → Outcome
+abbrev pub outcome : HeldFiles → Option Request → Outcome
 outcome files asked = option_map_or (outcome_of files) asked (Ends Usage [] usage_line)

@@ -5,7 +5,7 @@ use Rattle.pg_outside.specs.Faults.{next_count}
 use Rattle.pg_outside.specs.FilesCalls.{FilesCall, Reads, Writes}
 use Rattle.pg_top.specs.Calls.{outcome_of, reads_of, writes_of}
 use Rattle.pg_top.specs.Moments.{Moment}
-use Rattle.pg_top.specs.Readings.{Held, Reading, first_end}
+use Rattle.pg_top.specs.Readings.{HeldFiles, Reading, first_end}
 use Rattle.pg_words.specs.Requests.{Request}
 use Rattle.pg_top.specs.declared.answers.Status.{Status}
 use Rattle.pg_top.specs.declared.answers.Status.TheVariants as status
@@ -38,7 +38,7 @@ pub record ReadsUpTo (reads : List Reading) (at : ℕ) (old new : FilesShown) : 
   pub before_it : IfSome new.held (λ files. first_end (file_at files) (take at reads) ≡ None)
 
 -- the file at this place of the order ends the call; or the place is the end, and no file does
-abbrev pub EndsAt : Request → ℕ → Held → Type 0
+abbrev pub EndsAt : Request → ℕ → HeldFiles → Type 0
 EndsAt request at files =
     (first_end files (take (at + 1) (reads_of request)) ≡ Some (outcome_of files request))
     ⊎ ((at + 1 ≡ length (reads_of request)) × (first_end files (reads_of request) ≡ None))

@@ -17,7 +17,7 @@ use Rattle.pg_sweep.specs.Winners.{IsWinner}
 use Rattle.pg_top.specs.Calls.{outcome_of}
 use Rattle.pg_top.specs.Moments.{Moment, OfFiles}
 use Rattle.pg_top.specs.Outcomes.{Ends}
-use Rattle.pg_top.specs.Readings.{Held, table_named, patterns_under, words_under}
+use Rattle.pg_top.specs.Readings.{HeldFiles, table_named, patterns_under, words_under}
 use Rattle.pg_top.specs.totals.Totalled.{packed_table}
 use Rattle.pg_top.specs.sweep.Swept.{winner_line, terms_in, sets_in, swept_rows}
 use Rattle.pg_words.specs.Requests.{Request, PackRequest, PruneRequest, SweepRequest, ToPack, ToPrune, ToSweep}
@@ -30,7 +30,7 @@ pub record GivesValues (bytes : List ℕ) (P : Patterns) : Type 0 where
   pub totals : (m : Minima) (ws : List Word) → table_totals m ws bytes ≡ totals m ws P
 
 -- `pack` writes bytes that `totals` accepts, and that give the values of the patterns
-pub record PackKeeps (files : Held) (n : PackRequest) : Type 0 where
+pub record PackKeeps (files : HeldFiles) (n : PackRequest) : Type 0 where
   pub bytes : List ℕ
   pub lines : List ℕ
   pub comes : outcome_of files (ToPack n) ≡ Ends Done ((n.table, bytes) ∷ []) lines
@@ -42,7 +42,7 @@ abbrev pub ReadsBack : Alphabet → Patterns → Type 0
 ReadsBack t P = length (pattern_text t P) ≤ FILE_MAX → start t (pattern_text t P) ≡ Ok P
 
 -- `prune` writes entries of what it read that break alike with it, and none of which can go alone
-pub record PruneKeeps (files : Held) (n : PruneRequest) : Type 0 where
+pub record PruneKeeps (files : HeldFiles) (n : PruneRequest) : Type 0 where
   pub kept : Patterns
   pub told : List ℕ
   pub lines : List ℕ
@@ -56,11 +56,11 @@ pub record PruneKeeps (files : Held) (n : PruneRequest) : Type 0 where
       (words_under files n.translate n.dict) (patterns_under files n.translate n.patterns) kept
 
 -- what the sets of a sweep cost
-abbrev pub set_costs : Held → SweepRequest → List ℕ
+abbrev pub set_costs : HeldFiles → SweepRequest → List ℕ
 set_costs files s = costs_of (swept_rows s (terms_in files s) (sets_in files s))
 
 -- `sweep` names the set that costs least, the first of these
-pub record SweepNames (files : Held) (s : SweepRequest) : Type 0 where
+pub record SweepNames (files : HeldFiles) (s : SweepRequest) : Type 0 where
   pub winner : ℕ
   pub text : List ℕ
   pub comes : outcome_of files (ToSweep s) ≡ Ends Done ((s.output, text) ∷ [])

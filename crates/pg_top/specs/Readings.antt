@@ -15,32 +15,32 @@ use Rattle.pg_top.specs.declared.inputs.Input.{Input}
 use Rattle.pg_top.specs.declared.inputs.Input.TheVariants as input
 
 -- the files that are held: to each name the bytes of its file, none where it is not held
-abbrev pub Held : Type 0
-Held = List ℕ → Option (List ℕ)
+abbrev pub HeldFiles : Type 0
+HeldFiles = List ℕ → Option (List ℕ)
 
 -- what the file of a name means; where none is accepted the call ends there, and this stands in
-abbrev pub meaning : {Y : Type 0} → (List ℕ → Result Y Refusal) → Y → Held → List ℕ → Y
+abbrev pub meaning : {Y : Type 0} → (List ℕ → Result Y Refusal) → Y → HeldFiles → List ℕ → Y
 meaning parse other files name =
     option_map_or (λ bytes. result_unwrap_or (parse bytes) other) (files name) other
 
 -- a file that is read: its name, and the outcome where its bytes end the call
 pub record Reading : Type 0 where
   pub name : List ℕ
-  pub ends : Held → List ℕ → Option Outcome
+  pub ends : HeldFiles → List ℕ → Option Outcome
 
 -- an input, which ends the call where it breaks the rules of its kind
-abbrev pub input_file : {Y : Type 0} → Input → List ℕ → (Held → List ℕ → Result Y Refusal) → Reading
+abbrev pub input_file : {Y : Type 0} → Input → List ℕ → (HeldFiles → List ℕ → Result Y Refusal) → Reading
 input_file input name parse =
     record { name = name; ends = λ files bytes. unless_accepted input (parse files bytes) }
 
 -- the outcome of the first file that ends the call; a name that is not held ends it too
-abbrev pub first_end : Held → List Reading → Option Outcome
+abbrev pub first_end : HeldFiles → List Reading → Option Outcome
 first_end files [] = None
 first_end files (r ∷ rs) = option_map_or (λ bytes. option_or (r.ends files bytes)
     (first_end files rs)) (files r.name) (Some Unknown)
 
 -- the table of a translate file that is held
-abbrev pub table_named : List ℕ → Held → Alphabet
+abbrev pub table_named : List ℕ → HeldFiles → Alphabet
 table_named name files = meaning table default_alphabet files name
 
 -- a translate file that is read
@@ -56,14 +56,14 @@ abbrev pub words_file : List ℕ → List ℕ → Reading
 words_file translate name = input_file input.Dictionary name (λ f. words (table_named translate f))
 
 -- the patterns of a pattern file, under the table of a translate file
-abbrev pub patterns_under : Held → List ℕ → List ℕ → Patterns
+abbrev pub patterns_under : HeldFiles → List ℕ → List ℕ → Patterns
 patterns_under files translate name = meaning (start (table_named translate files)) [] files name
 
 -- the parameters of a parameter file
-abbrev pub parameters_named : Held → List ℕ → Parameters
+abbrev pub parameters_named : HeldFiles → List ℕ → Parameters
 parameters_named files name =
     meaning parameters (record { start = 1; finish = 1; levels = [] }) files name
 
 -- the words of a dictionary, under the table of a translate file
-abbrev pub words_under : Held → List ℕ → List ℕ → List Word
+abbrev pub words_under : HeldFiles → List ℕ → List ℕ → List Word
 words_under files translate name = meaning (words (table_named translate files)) [] files name

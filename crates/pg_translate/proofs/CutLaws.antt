@@ -13,7 +13,7 @@ use Rattle.pg_translate.specs.Inside.Beginnings.{begins_well}
 use Rattle.pg_translate.specs.Inside.Members.{IsAmong}
 use Rattle.std.specs.Char.{is_ascii_digit}
 use Rattle.pg_translate.specs.Tokens.{Token, Letter, Digit, Weight, Marked, Edge, letter_at, digit_at, weight_at, mark_at, edge_at, item_at}
-use Rattle.pg_translate.specs.Cuts.{Placed, Cut, cut_from, with_item}
+use Rattle.pg_translate.specs.Cuts.{PlacedItem, Cut, cut_from, with_item}
 use Rattle.pg_translate.specs.Inside.Items.{IsItem, IsWeight, IsMark, IsCut, IsPrefix, IsLongest, items_at, text_of_items, decimal_value}
 use Rattle.pg_translate.specs.Inside.Rules.{KeepsRules}
 use Rattle.pg_translate.proofs.Prefixes.{begins_front, begins_within}
@@ -224,7 +224,7 @@ longest_item : (t : Alphabet) → KeepsRules t → (place : Place) (more column 
 longest_item t rules place more column line token size found rest = record {
   items = (token, take size line) ∷ rest.items;
   cut = record { each = (reads.item, rest.cut.each); prefix = begins_join size line (text_of_items rest.items) rest.cut.prefix };
-  items_are = ap (λ (c : Cut). c.items) is ∙ ap (λ (items : List Placed). record { column = column; token = token } ∷ items)
+  items_are = ap (λ (c : Cut). c.items) is ∙ ap (λ (items : List PlacedItem). record { column = column; token = token } ∷ items)
       (rest.items_are ∙ ap (λ (n : ℕ). items_at (column + n) rest.items) (sym front));
   column_is = ap (λ (c : Cut). c.column) is ∙ rest.column_is ∙ (let same : column + size + length (text_of_items rest.items)
       ≡ column + length (take size line ++ text_of_items rest.items) = omega (arith, length-append (take size line) (text_of_items rest.items), front) in same);

@@ -13,7 +13,7 @@ use Rattle.pg_translate.specs.declared.items.Place.TheVariants.{Dictionary, Patt
 use Rattle.pg_translate.specs.Alphabets.{Alphabet}
 use Rattle.pg_translate.specs.Inside.Beginnings.{begins_well}
 use Rattle.pg_translate.specs.Tokens.{Token, Letter, Digit, Weight, Marked, Edge, item_at}
-use Rattle.pg_translate.specs.Cuts.{Placed, Cut, cut, cut_from, with_item, tokens_of}
+use Rattle.pg_translate.specs.Cuts.{PlacedItem, Cut, cut, cut_from, with_item, tokens_of}
 use Rattle.pg_translate.specs.Gaps.{sign_of, signs_of}
 use Rattle.pg_translate.specs.Inside.Items.{IsItem, text_of_items, tokens_in}
 use Rattle.pg_translate.specs.LineRefusals.{sign_columns, line_refusal}
@@ -62,11 +62,11 @@ cut_joined t rules place (suc more) column (item ∷ items) each few =
     (ap tokens_of whole ∙ ap (λ (tokens : List Token). item.0 ∷ tokens) p.0, ap (λ (c : Cut). c.rest) whole ∙ p.1)
 
 -- each sign has a column
-pub length-sign_columns : (items : List Placed) → length (filter_map sign_column items) ≡ length (signs_of (map (λ (p : Placed). p.token) items))
+pub length-sign_columns : (items : List PlacedItem) → length (filter_map sign_column items) ≡ length (signs_of (map (λ (p : PlacedItem). p.token) items))
 length-sign_columns [] = refl
 length-sign_columns (item ∷ items) =
     elim (sign_of item.token) as (λ o. length (cons_option (option_map (λ (_ : ℕ). item.column) o) (filter_map sign_column items))
-    ≡ length (cons_option o (signs_of (map (λ (p : Placed). p.token) items)))) [
+    ≡ length (cons_option o (signs_of (map (λ (p : PlacedItem). p.token) items)))) [
       | None ↦ length-sign_columns items
       | Some sign ↦ ap suc (length-sign_columns items)
     ]

@@ -6,13 +6,13 @@ use Rattle.pg_translate.specs.Alphabets.{Alphabet}
 use Rattle.pg_translate.specs.Tokens.{Token, item_at}
 
 -- an item of a line, and the column of its first byte
-pub record Placed : Type 0 where
+pub record PlacedItem : Type 0 where
   pub column : ℕ
   pub token : Token
 
 -- the items of a line, the column behind the last, and what stands there
 pub record Cut : Type 0 where
-  pub items : List Placed
+  pub items : List PlacedItem
   pub column : ℕ
   pub rest : List ℕ
 

@@ -22,7 +22,7 @@ use Rattle.pg_top.specs.Inside.ReadCalls.{read_call}
 use Rattle.pg_top.specs.Outcomes.{Outcome, Unknown, Ends}
 use Rattle.pg_top.specs.Inside.Refusing.{refuses}
 use Rattle.pg_top.specs.PrintedLines.{word_of}
-use Rattle.pg_top.specs.Readings.{Held, Reading, first_end}
+use Rattle.pg_top.specs.Readings.{HeldFiles, Reading, first_end}
 use Rattle.pg_words.specs.Requests.{FileNames, ToAudit, if_asked}
 use Rattle.pg_top.specs.Selection.{selected_text, selected_report}
 use Rattle.pg_top.specs.generate.Generated.{inputs_in, inputs_of}
@@ -75,7 +75,7 @@ listed_readings i output report None = refl
 listed_readings i output report (Some name) = refl
 
 -- the same files are judged alike where the inputs are the same
-same_ends : (files : Held) (inputs : Held → Inputs) (i : Inputs) → inputs files ≡ i → (gs : List (Given × List ℕ)) → first_end files (map (given_file inputs) gs)
+same_ends : (files : HeldFiles) (inputs : HeldFiles → Inputs) (i : Inputs) → inputs files ≡ i → (gs : List (Given × List ℕ)) → first_end files (map (given_file inputs) gs)
     ≡ first_end files (map (given_file (λ _. i)) gs)
 same_ends files inputs i is [] = refl
 same_ends files inputs i is (g ∷ gs) =
@@ -83,14 +83,14 @@ same_ends files inputs i is (g ∷ gs) =
     ∙ ap (λ rest. option_map_or (λ bytes. option_or ((given_file (λ _. i) g).ends files bytes) rest) (files g.1) (Some Unknown)) (same_ends files inputs i is gs)
 
 -- they are read alike under whatever inputs
-given_calls : (inputs : Held → Inputs) (gs : List (Given × List ℕ)) → read_calls (map (given_file inputs) gs) ≡ map (λ g. Reads g.1) gs
+given_calls : (inputs : HeldFiles → Inputs) (gs : List (Given × List ℕ)) → read_calls (map (given_file inputs) gs) ≡ map (λ g. Reads g.1) gs
 given_calls inputs [] = refl
 given_calls inputs (g ∷ gs) = ap (λ calls. Reads g.1 ∷ calls) (given_calls inputs gs)
 
-same_calls : (inputs others : Held → Inputs) (gs : List (Given × List ℕ)) → read_calls (map (given_file inputs) gs) ≡ read_calls (map (given_file others) gs)
+same_calls : (inputs others : HeldFiles → Inputs) (gs : List (Given × List ℕ)) → read_calls (map (given_file inputs) gs) ≡ read_calls (map (given_file others) gs)
 same_calls inputs others gs = given_calls inputs gs ∙ sym (given_calls others gs)
 
-front_calls : (inputs others : Held → Inputs) (k : ℕ) (gs : List (Given × List ℕ)) → read_calls (take k (map (given_file inputs) gs)) ≡ read_calls (take k (map (given_file others) gs))
+front_calls : (inputs others : HeldFiles → Inputs) (k : ℕ) (gs : List (Given × List ℕ)) → read_calls (take k (map (given_file inputs) gs)) ≡ read_calls (take k (map (given_file others) gs))
 front_calls inputs others k gs =
     ap read_calls (take-map (given_file inputs) k gs) ∙ same_calls inputs others (take k gs) ∙ ap read_calls (sym (take-map (given_file others) k gs))
 

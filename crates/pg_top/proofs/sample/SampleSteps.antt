@@ -1,7 +1,7 @@
 -- The loops that make the dictionary of `sample`: what is made so far, with the rest behind it, is the whole.
 use Rattle.std.proofs.Common.{◌≡◌, ℕ, suc, ◌+◌, ◌-◌, ◌<◌, ◌≤◌, List, [], ◌∷◌, ◌++◌, sym, ap, ◌∙◌, append_assoc, arith}
 use Rattle.std.proofs.lemmas.List.{append-nil}
-use Rattle.pg_top.specs.sample.Sampled.{Made, syllable, further_syllables, word, sample_text}
+use Rattle.pg_top.specs.sample.Sampled.{MadeText, syllable, further_syllables, word, sample_text}
 
 -- a syllable more
 further_next : (count i x : ℕ) → i < count → further_syllables (count - i) x ≡ further_syllables (suc (count - (i + 1))) x
@@ -12,11 +12,11 @@ pub syllable_more : (count i x : ℕ) (so_far whole : List ℕ) → i < count �
 syllable_more count i x so_far whole more is =
     append_assoc (so_far ++ 45 ∷ []) (syllable x).text (further_syllables (count - (i + 1)) (syllable x).state).text
     ∙ append_assoc so_far (45 ∷ []) ((syllable x).text ++ (further_syllables (count - (i + 1)) (syllable x).state).text)
-    ∙ ap (λ (m : Made). so_far ++ m.text) (sym (further_next count i x more))
+    ∙ ap (λ (m : MadeText). so_far ++ m.text) (sym (further_next count i x more))
     ∙ is
 
 pub state_more : (count i x whole : ℕ) → i < count → (further_syllables (count - i) x).state ≡ whole → (further_syllables (count - (i + 1)) (syllable x).state).state ≡ whole
-state_more count i x whole more is = ap (λ (m : Made). m.state) (sym (further_next count i x more)) ∙ is
+state_more count i x whole more is = ap (λ (m : MadeText). m.state) (sym (further_next count i x more)) ∙ is
 
 -- all syllables, and none
 pub syllables_begun : (count x : ℕ) → further_syllables (count - 0) x ≡ further_syllables count x
@@ -26,10 +26,10 @@ syllables_done : (count i x : ℕ) → count ≤ i → further_syllables (count 
 syllables_done count i x past = let none : count - i ≡ 0 = omega arith in ap (λ n. further_syllables n x) none
 
 pub syllables_text : (count i x : ℕ) (so_far whole : List ℕ) → count ≤ i → so_far ++ (further_syllables (count - i) x).text ≡ whole → so_far ≡ whole
-syllables_text count i x so_far whole past is = sym (append-nil so_far) ∙ ap (λ (m : Made). so_far ++ m.text) (sym (syllables_done count i x past)) ∙ is
+syllables_text count i x so_far whole past is = sym (append-nil so_far) ∙ ap (λ (m : MadeText). so_far ++ m.text) (sym (syllables_done count i x past)) ∙ is
 
 pub syllables_state : (count i x whole : ℕ) → count ≤ i → (further_syllables (count - i) x).state ≡ whole → x ≡ whole
-syllables_state count i x whole past is = ap (λ (m : Made). m.state) (sym (syllables_done count i x past)) ∙ is
+syllables_state count i x whole past is = ap (λ (m : MadeText). m.state) (sym (syllables_done count i x past)) ∙ is
 
 -- a word more
 sample_next : (count i x : ℕ) → i < count → sample_text x (count - i) ≡ sample_text x (suc (count - (i + 1)))

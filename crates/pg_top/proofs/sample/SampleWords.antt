@@ -21,7 +21,7 @@ use Rattle.pg_dict.specs.Inside.LineWords.{line_reading, line_word}
 use Rattle.pg_dict.specs.Inside.Written.{letters_among, IsLine, file_of, LinesGive}
 use Rattle.pg_dict.proofs.LineLaws.{line_is_read, file_is_read, items_line}
 use Rattle.pg_words.specs.declared.limits.TheConstants.{COUNT_MAX}
-use Rattle.pg_top.specs.sample.Sampled.{Made, next_state, draw, ending, syllable, further_syllables, word, words_made, sample_text}
+use Rattle.pg_top.specs.sample.Sampled.{MadeText, next_state, draw, ending, syllable, further_syllables, word, words_made, sample_text}
 use Rattle.pg_top.specs.sample.Inside.Lines.{closings, consonants, vowels}
 use Rattle.pg_types.proofs.BoolFacts.{and_first, and_second}
 
@@ -140,7 +140,7 @@ ending_plain : (x : ℕ) → IsPlainText (ending x).text 1
 unfolding ending
 ending_plain x = by_draw (draw 4 x == 0)
   where
-    by_draw : (closed : Bool) → let made : Made = if closed then (record { text = slice_index closings (draw 3 (next_state x)) ∷ []; state = next_state x }) else (record { text = []; state = x }) in
+    by_draw : (closed : Bool) → let made : MadeText = if closed then (record { text = slice_index closings (draw 3 (next_state x)) ∷ []; state = next_state x }) else (record { text = []; state = x }) in
         IsPlainText made.text 1
     by_draw true = record { plain = rw (plain_letter (slice_index closings (draw 3 (next_state x))) (letter_at closings (draw 3 (next_state x)) refl (omega arith))) refl; short = omega arith }
     by_draw false = record { plain = refl; short = omega arith }

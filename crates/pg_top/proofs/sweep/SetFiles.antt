@@ -9,7 +9,7 @@ use Rattle.pg_outside.specs.Inside.NameFaults.{NoneFell}
 use Rattle.pg_outside.specs.FilesCalls.{Reads}
 use Rattle.pg_words.specs.Inside.Names.{words_of}
 use Rattle.pg_top.specs.Counted.{MakesCalls, read_calls}
-use Rattle.pg_top.specs.Readings.{Held, Reading, parameters_named}
+use Rattle.pg_top.specs.Readings.{HeldFiles, Reading, parameters_named}
 use Rattle.pg_top.specs.Inside.ReadAs.{read_as}
 use Rattle.pg_top.specs.Inside.Stops.{StopsAt, StopsReading}
 use Rattle.pg_top.specs.sweep.Swept.{set_files}
@@ -22,7 +22,7 @@ use Rattle.pg_top.proofs.Orders.{AreAccepted, both, held_later, mapped, stopped_
 use Rattle.pg_top.proofs.UnderTable.{accepted, means}
 
 -- files that are accepted as sets are accepted, under whatever numbers
-pub sets_accepted : (files : Held) (number : ℕ) (names : List (List ℕ)) (sets : List Parameters) → HasSets files names sets → AreAccepted files (set_files number names)
+pub sets_accepted : (files : HeldFiles) (number : ℕ) (names : List (List ℕ)) (sets : List Parameters) → HasSets files names sets → AreAccepted files (set_files number names)
 sets_accepted files number [] sets h = tt
 sets_accepted files number (name ∷ names) [] h = absurd (cc)
 sets_accepted files number (name ∷ names) (set ∷ sets) h =
@@ -31,7 +31,7 @@ sets_accepted files number (name ∷ names) (set ∷ sets) h =
     (accepted (input.Set number) parameters (files name) set first, sets_accepted files (number + 1) names sets later)
 
 -- and mean these sets
-pub sets_mean : (files : Held) (names : List (List ℕ)) (sets : List Parameters) → HasSets files names sets → map (parameters_named files) names ≡ sets
+pub sets_mean : (files : HeldFiles) (names : List (List ℕ)) (sets : List Parameters) → HasSets files names sets → map (parameters_named files) names ≡ sets
 sets_mean files [] [] h = refl
 sets_mean files [] (set ∷ sets) h = absurd (cc)
 sets_mean files (name ∷ names) [] h = absurd (cc)
@@ -43,7 +43,7 @@ sets_mean files (name ∷ names) (set ∷ sets) h =
     cc
 
 -- one more set
-sets_and : (files : Held) (names : List (List ℕ)) (sets : List Parameters) (name : List ℕ) (set : Parameters) → HasSets files names sets
+sets_and : (files : HeldFiles) (names : List (List ℕ)) (sets : List Parameters) (name : List ℕ) (set : Parameters) → HasSets files names sets
     → read_as parameters files name ≡ Some (Ok set) → HasSets files (names ++ name ∷ []) (sets ++ set ∷ [])
 sets_and files names sets name set h more =
     map-append (read_as parameters files) names (name ∷ [])

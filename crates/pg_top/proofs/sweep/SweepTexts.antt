@@ -13,7 +13,7 @@ use Rattle.pg_top.specs.Calls.{own_outcome, reads_of}
 use Rattle.pg_top.specs.Outcomes.{Ends}
 use Rattle.pg_top.specs.sweep.Swept.{winner_line, terms_in, sets_in, swept_rows, outcome_of_sweep}
 use Rattle.pg_top.specs.Promises.{set_costs, SweepNames}
-use Rattle.pg_top.specs.Readings.{Held, first_end, parameters_named}
+use Rattle.pg_top.specs.Readings.{HeldFiles, first_end, parameters_named}
 use Rattle.pg_words.specs.Requests.{SweepRequest, ToSweep}
 use Rattle.pg_top.specs.sweep.Inside.Inputs.{line_of_sweep, outcome_of_sets}
 use Rattle.pg_top.specs.declared.answers.Status.TheVariants.{Done}
@@ -29,7 +29,7 @@ sweep_made s terms sets found text line rows winner is_text is_line =
     ∙ (λ k. Ends Done ((s.output, sym is_text k) ∷ []) (sym is_line k))
 
 -- what it promises, where no file ends the call
-pub sweep_names : (s : SweepRequest) (files : Held) → first_end files (reads_of (ToSweep s)) ≡ None → 1 ≤ length s.params → SweepNames files s
+pub sweep_names : (s : SweepRequest) (files : HeldFiles) → first_end files (reads_of (ToSweep s)) ≡ None → 1 ≤ length s.params → SweepNames files s
 unfolding swept_rows
 sweep_names s files none some = record {
   winner = winner_of (set_costs files s);

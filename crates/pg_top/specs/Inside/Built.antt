@@ -9,7 +9,7 @@ use Rattle.pg_top.specs.Inside.WritesMade.{written_names, writing_of}
 use Rattle.pg_top.specs.Moments.{Moment}
 use Rattle.pg_top.specs.Outcomes.{Ends}
 use Rattle.pg_top.specs.Promises.{PackKeeps, PruneKeeps, SweepNames}
-use Rattle.pg_top.specs.Readings.{Held}
+use Rattle.pg_top.specs.Readings.{HeldFiles}
 use Rattle.pg_words.specs.Requests.{Request, ToPack, ToPrune, ToSweep}
 use Rattle.pg_top.specs.declared.answers.Status.{Status}
 use Rattle.pg_top.specs.declared.answers.Status.TheVariants.{Done}
@@ -17,7 +17,7 @@ use Rattle.pg_top.specs.declared.inputs.Stop.{Stop}
 use Rattle.pg_top.specs.declared.writes.Outputs.{Outputs}
 
 -- what a command promises of the files that it read
-abbrev pub Keeps : Request → Held → Type 0
+abbrev pub Keeps : Request → HeldFiles → Type 0
 Keeps (ToPack n) files = PackKeeps files n
 Keeps (ToPrune n) files = PruneKeeps files n
 Keeps (ToSweep s) files = SweepNames files s

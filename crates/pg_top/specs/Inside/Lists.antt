@@ -5,7 +5,7 @@ use Rattle.pg_dict.specs.Word.{Word}
 use Rattle.pg_dict.specs.Words.{words}
 use Rattle.pg_patterns.specs.Starts.{start}
 use Rattle.pg_select.specs.Windows.{Patterns}
-use Rattle.pg_top.specs.Readings.{Held, Reading, patterns_file, words_file}
+use Rattle.pg_top.specs.Readings.{HeldFiles, Reading, patterns_file, words_file}
 use Rattle.pg_top.specs.Inside.ReadAs.{read_as}
 
 -- the files of these names in their order, under the table of the translate file
@@ -14,7 +14,7 @@ lists_under translate patterns dict =
     patterns_file translate patterns ∷ words_file translate dict ∷ []
 
 -- the files that are held are accepted under a table as these patterns and words
-pub record HasLists (files : Held) (t : Alphabet) (patterns dict : List ℕ)
+pub record HasLists (files : HeldFiles) (t : Alphabet) (patterns dict : List ℕ)
     (P : Patterns) (ws : List Word) : Type 0 where
   pub start : read_as (start t) files patterns ≡ Some (Ok P)
   pub words : read_as (words t) files dict ≡ Some (Ok ws)

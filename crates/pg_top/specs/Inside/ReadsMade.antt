@@ -6,7 +6,7 @@ use Rattle.pg_outside.specs.FilesCalls.{Reads}
 use Rattle.pg_top.specs.Counted.{MakesCalls, read_calls}
 use Rattle.pg_top.specs.Inside.ReadAs.{read_as}
 use Rattle.pg_top.specs.Inside.Stops.{OnlyReads, StopsAt, StopsReading}
-use Rattle.pg_top.specs.Readings.{Held, Reading, input_file}
+use Rattle.pg_top.specs.Readings.{HeldFiles, Reading, input_file}
 use Rattle.pg_top.specs.declared.inputs.Input.{Input}
 use Rattle.pg_top.specs.declared.inputs.Stop.{Stop}
 
@@ -22,7 +22,7 @@ pub record ReadsInput {Y : Type 0} (input : Input) (name : List ℕ)
 
 -- files were read in their order: once each, and they are accepted as this; or reading stopped
 pub record ReadsFiles {Y : Type 0} (reads : List Reading) (old new : FilesShown)
-    (result : Result Y Stop) (Has : Held → Y → Type 0) : Type 0 where
+    (result : Result Y Stop) (Has : HeldFiles → Y → Type 0) : Type 0 where
   pub only : OnlyReads old new
   pub ok : IfOk result (λ y. IfSome new.held (λ files. Has (file_at files) y))
   pub counted : IfOk result (λ _. MakesCalls old new (read_calls reads))

@@ -4,7 +4,7 @@ use Rattle.pg_patterns.specs.Inside.PatternMaps.{SignsUpTo}
 use Rattle.pg_select.specs.Inside.Meanings.{Meaning, new_engine}
 use Rattle.pg_driver.specs.Inside.RunAccounts.{account_of}
 use Rattle.pg_driver.specs.Inside.Sound.{Finished}
-use Rattle.pg_top.specs.Selection.{selected}
+use Rattle.pg_top.specs.Selection.{selected_patterns}
 use Rattle.pg_top.specs.Inside.SelectionAccounts.{selected_account, passes_begun}
 use Rattle.pg_top.specs.Inside.SelectionSigns.{signs_of}
 use Rattle.pg_top.specs.declared.selection.Inputs.{Inputs}
@@ -15,7 +15,7 @@ IsNew i m = m ≡ new_engine (signs_of i) i.start m.families
 
 -- a run tells of the selection: its patterns, what is told of it, and how many passes were begun
 pub record TellsSelection (i : Inputs) (run : Finished) : Type 0 where
-  pub patterns : run.patterns ≡ selected i
+  pub patterns : run.patterns ≡ selected_patterns i
   pub signs : SignsUpTo (signs_of i) run.patterns
   pub account : account_of run ≡ selected_account i
   pub begun : run.begun ≡ passes_begun i
@@ -23,4 +23,4 @@ pub record TellsSelection (i : Inputs) (run : Finished) : Type 0 where
 -- an engine has the selected patterns, and the signs of the inputs
 pub record HasSelected (i : Inputs) (m : Meaning) : Type 0 where
   pub signs : m.signs ≡ signs_of i
-  pub patterns : m.patterns ≡ selected i
+  pub patterns : m.patterns ≡ selected_patterns i

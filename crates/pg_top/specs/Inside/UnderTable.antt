@@ -2,7 +2,7 @@
 use Rattle.std.specs.Prelude.{ℕ, List, Result}
 use Rattle.pg_types.specs.declared.refusals.Refusal.{Refusal}
 use Rattle.pg_translate.specs.Alphabets.{Alphabet}
-use Rattle.pg_top.specs.Readings.{Held, Reading, input_file, meaning, table_named}
+use Rattle.pg_top.specs.Readings.{HeldFiles, Reading, input_file, meaning, table_named}
 use Rattle.pg_top.specs.declared.inputs.Input.{Input}
 
 -- a file that is read under the table of the translate file of a name
@@ -13,6 +13,6 @@ file_under translate input name parse =
 
 -- what such a file means
 abbrev pub meaning_under : {Y : Type 0} → List ℕ → (Alphabet → List ℕ → Result Y Refusal)
-    → Y → Held → List ℕ → Y
+    → Y → HeldFiles → List ℕ → Y
 meaning_under translate parse other files name =
     meaning (parse (table_named translate files)) other files name

@@ -5,7 +5,7 @@ use Rattle.pg_audit.specs.Differences.{Difference, first_false}
 use Rattle.pg_audit.specs.FoundLines.{found_text}
 use Rattle.pg_top.specs.Outcomes.{Outcome, Ends}
 use Rattle.pg_top.specs.PrintedLines.{word_of}
-use Rattle.pg_top.specs.Readings.{Held, Reading}
+use Rattle.pg_top.specs.Readings.{HeldFiles, Reading}
 use Rattle.pg_words.specs.Requests.{FileNames, if_asked}
 use Rattle.pg_top.specs.Selection.{selected_text, selected_list, selected_report}
 use Rattle.pg_top.specs.declared.answers.Status.TheVariants.{No}
@@ -26,12 +26,12 @@ denies given d = Ends No [] (codes "no: " ++ word_of (input.Given given) ++ code
     ++ decimal d.line ++ found_text d.found ++ codes "\n")
 
 -- a given file, which ends the call where a line of it is false
-abbrev pub given_file : (Held → Inputs) → Given × List ℕ → Reading
-given_file inputs g = let ends : Held → List ℕ → Option Outcome = λ files bytes.
+abbrev pub given_file : (HeldFiles → Inputs) → Given × List ℕ → Reading
+given_file inputs g = let ends : HeldFiles → List ℕ → Option Outcome = λ files bytes.
     option_map (denies g.0) (first_false bytes (wanted_text (inputs files) g.0)) in
     record { name = g.1; ends = ends }
 
 -- the given files in their order, each of which ends the call where a line of it is false
-abbrev pub given_files : (Held → Inputs) → FileNames → List Reading
+abbrev pub given_files : (HeldFiles → Inputs) → FileNames → List Reading
 given_files inputs n = map (given_file inputs) ((given.Patterns, n.output)
     ∷ if_asked n.pattmp (λ name. (given.Pattmp, name)) ++ (given.Report, n.report) ∷ [])

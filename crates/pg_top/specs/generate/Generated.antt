@@ -7,15 +7,15 @@ use Rattle.pg_driver.specs.Layouts.{families_at_end}
 use Rattle.pg_texts.specs.CellsTexts.{layout_text}
 use Rattle.pg_top.specs.Outcomes.{Outcome, Ends, Writing}
 use Rattle.pg_top.specs.PrintedLines.{done_line}
-use Rattle.pg_top.specs.Readings.{Held, Reading, input_file, table_named, parameters_named, patterns_under, words_under, translate_file, patterns_file, words_file}
+use Rattle.pg_top.specs.Readings.{HeldFiles, Reading, input_file, table_named, parameters_named, patterns_under, words_under, translate_file, patterns_file, words_file}
 use Rattle.pg_words.specs.Requests.{FileNames, if_asked}
-use Rattle.pg_top.specs.Selection.{selection, selected, selected_totals, selected_text, selected_list, selected_cells_text, selected_report}
+use Rattle.pg_top.specs.Selection.{selection, selected_patterns, selected_totals, selected_text, selected_list, selected_cells_text, selected_report}
 use Rattle.pg_top.specs.declared.answers.Status.TheVariants.{Done}
 use Rattle.pg_top.specs.declared.inputs.Input.TheVariants as input
 use Rattle.pg_top.specs.declared.selection.Inputs.{Inputs}
 
 -- what the files give a selection: the table, the parameters, the starting patterns and the words
-abbrev pub inputs_in : Held → FileNames → Inputs
+abbrev pub inputs_in : HeldFiles → FileNames → Inputs
 inputs_in files n = record {
   table = table_named n.translate files;
   params = parameters_named files n.params;
@@ -39,7 +39,7 @@ selected_files n i = (n.output, selected_text i)
 abbrev pub selected_lines : Inputs → List ℕ
 selected_lines i = done_line (selected_text i) (selected_totals i)
     ++ codes "work: " ++ decimal (begun_count (selection i)) ++ codes " passes, "
-    ++ layout_text (families_at_end (letters_of i.table + 1) i.start (selection i)) (selected i)
+    ++ layout_text (families_at_end (letters_of i.table + 1) i.start (selection i)) (selected_patterns i)
 
 -- what is written and printed when all that is read is accepted
 abbrev pub outcome_of_generate : FileNames → Inputs → Outcome

@@ -19,30 +19,30 @@ abbrev pub draw : ℕ → ℕ → ℕ
 draw m x = x / 65536 % m
 
 -- a text that was made, and the state behind it
-pub record Made : Type 0 where
+pub record MadeText : Type 0 where
   pub text : List ℕ
   pub state : ℕ
 
 -- the end of a syllable: one of these consonants where the draw before it is 0, else nothing
-unfoldable pub ending : ℕ → Made
+unfoldable pub ending : ℕ → MadeText
 ending x = let y = next_state x in if draw 4 x == 0
     then record { text = slice_index (codes "nrs") (draw 3 y) ∷ []; state = y }
     else record { text = []; state = x }
 
 -- a syllable: a consonant, a vowel, and its end
-unfoldable pub syllable : ℕ → Made
+unfoldable pub syllable : ℕ → MadeText
 syllable x = let c = next_state x in let v = next_state c in let end = ending (next_state v) in
     let front = slice_index (codes "aeiou") (draw 5 v) ∷ end.text in
     record { text = slice_index (codes "bdfgklmnprst") (draw 12 c) ∷ front; state = end.state }
 
 -- so many further syllables, each behind a hyphen
-abbrev pub further_syllables : ℕ → ℕ → Made
+abbrev pub further_syllables : ℕ → ℕ → MadeText
 further_syllables zero x = record { text = []; state = x }
 further_syllables (suc n) x = let one = syllable x in let more = further_syllables n one.state in
     record { text = 45 ∷ (one.text ++ more.text); state = more.state }
 
 -- a word of 2 to 4 syllables
-unfoldable pub word : ℕ → Made
+unfoldable pub word : ℕ → MadeText
 word x = let size = next_state x in let first = syllable size in
     let more = further_syllables (draw 3 size + 1) first.state in
     record { text = first.text ++ more.text; state = more.state }

@@ -6,7 +6,7 @@ use Rattle.pg_sweep.specs.Sweeps.{Terms, row_of, costs_of}
 use Rattle.pg_sweep.specs.Winners.{winner_of}
 use Rattle.pg_sweep.specs.declared.rows.SweepRow.{SweepRow}
 use Rattle.pg_top.specs.Outcomes.{Outcome, Ends}
-use Rattle.pg_top.specs.Readings.{Held, Reading, input_file, table_named, parameters_named, words_under, patterns_under}
+use Rattle.pg_top.specs.Readings.{HeldFiles, Reading, input_file, table_named, parameters_named, words_under, patterns_under}
 use Rattle.pg_words.specs.Requests.{SweepRequest}
 use Rattle.pg_top.specs.declared.answers.Status.TheVariants.{Done}
 use Rattle.pg_top.specs.declared.inputs.Input.TheVariants as input
@@ -18,7 +18,7 @@ set_files number (name ∷ names) = input_file (input.Set number) name (λ files
     ∷ set_files (number + 1) names
 
 -- what the runs of a sweep share, by the files that are held
-abbrev pub terms_in : Held → SweepRequest → Terms
+abbrev pub terms_in : HeldFiles → SweepRequest → Terms
 terms_in files s = record {
   table = table_named s.translate files;
   words = words_under files s.translate s.dict;
@@ -27,7 +27,7 @@ terms_in files s = record {
 }
 
 -- the sets of parameters, by the files that are held
-abbrev pub sets_in : Held → SweepRequest → List Parameters
+abbrev pub sets_in : HeldFiles → SweepRequest → List Parameters
 sets_in files s = map (parameters_named files) s.params
 
 -- the rows of the sets

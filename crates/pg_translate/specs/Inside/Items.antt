@@ -12,7 +12,7 @@ use Rattle.pg_translate.specs.Inside.MarkBytes.{mark_byte_of}
 use Rattle.pg_translate.specs.Inside.Members.{IsAmong}
 use Rattle.std.specs.Char.{is_ascii_digit}
 use Rattle.pg_translate.specs.Tokens.{Token, Letter, Digit, Weight, Marked, Edge}
-use Rattle.pg_translate.specs.Cuts.{Placed, Cut}
+use Rattle.pg_translate.specs.Cuts.{PlacedItem, Cut}
 
 -- the value of decimal digits
 abbrev pub decimal_value : List ℕ → ℕ
@@ -69,7 +69,7 @@ abbrev pub IsPrefix : List (Token × List ℕ) → List (Token × List ℕ) → 
 IsPrefix items all = (more : List (Token × List ℕ)) × (all ≡ items ++ more)
 
 -- items, each with the column of its first byte, from a column on
-abbrev pub items_at : ℕ → List (Token × List ℕ) → List Placed
+abbrev pub items_at : ℕ → List (Token × List ℕ) → List PlacedItem
 items_at column [] = []
 items_at column (item ∷ items) = record { column = column; token = item.0 } ∷ items_at
     (column + length item.1) items

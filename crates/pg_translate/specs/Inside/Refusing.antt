@@ -7,7 +7,7 @@ use Rattle.pg_translate.specs.declared.items.Place.{Place}
 use Rattle.pg_types.specs.Reading.{refusal_at, unless}
 use Rattle.pg_translate.specs.Alphabets.{Alphabet}
 use Rattle.pg_translate.specs.Tokens.{Token, is_ended}
-use Rattle.pg_translate.specs.Cuts.{Placed, Cut, cut, tokens_of}
+use Rattle.pg_translate.specs.Cuts.{PlacedItem, Cut, cut, tokens_of}
 use Rattle.pg_translate.specs.Gaps.{sign_of}
 use Rattle.pg_translate.specs.LineRefusals.{limit, bad_kind, sign_columns, line_refusal}
 
@@ -20,7 +20,7 @@ abbrev pub long_kind : Place → Kind
 long_kind place = (limit place).1
 
 -- the column of a sign
-abbrev pub sign_column : Placed → Option ℕ
+abbrev pub sign_column : PlacedItem → Option ℕ
 sign_column item = option_map (λ _. item.column) (sign_of item.token)
 
 -- the refusal where the cut of a line stops, unless that is at its end or before a blank or TAB

@@ -4,13 +4,13 @@ use Rattle.pg_types.specs.Parameters.{parameters}
 use Rattle.pg_translate.specs.Tables.{table}
 use Rattle.pg_dict.specs.Words.{words}
 use Rattle.pg_patterns.specs.Starts.{start}
-use Rattle.pg_top.specs.Readings.{Held}
+use Rattle.pg_top.specs.Readings.{HeldFiles}
 use Rattle.pg_top.specs.Inside.ReadAs.{read_as}
 use Rattle.pg_words.specs.Requests.{FileNames}
 use Rattle.pg_top.specs.declared.selection.Inputs.{Inputs}
 
 -- the files that are held are accepted as these inputs
-pub record HasInputs (files : Held) (n : FileNames) (i : Inputs) : Type 0 where
+pub record HasInputs (files : HeldFiles) (n : FileNames) (i : Inputs) : Type 0 where
   pub table : read_as table files n.translate ≡ Some (Ok i.table)
   pub params : read_as parameters files n.params ≡ Some (Ok i.params)
   pub start : read_as (start i.table) files n.patterns ≡ Some (Ok i.start)

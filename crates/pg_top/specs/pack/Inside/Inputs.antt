@@ -10,7 +10,7 @@ use Rattle.pg_select.specs.Windows.{Patterns}
 use Rattle.pg_table.specs.Texts.{table_text}
 use Rattle.pg_table.specs.declared.error.TableError.{TableError}
 use Rattle.pg_table.specs.declared.error.TableError.TheVariants as table_error
-use Rattle.pg_top.specs.Readings.{Held, Reading, translate_file, patterns_file}
+use Rattle.pg_top.specs.Readings.{HeldFiles, Reading, translate_file, patterns_file}
 use Rattle.pg_top.specs.Inside.ReadAs.{read_as}
 use Rattle.pg_top.specs.declared.inputs.Input.TheVariants as input
 use Rattle.pg_top.specs.declared.inputs.Stop.{Stop}
@@ -30,7 +30,7 @@ abbrev pub packed_text : Alphabet → Patterns → List ℕ
 packed_text t P = table_text (letters_of t + 1) P
 
 -- the files that are held are accepted as these
-pub record HasSource (files : Held) (translate pattern_file : List ℕ) (s : Source) : Type 0 where
+pub record HasSource (files : HeldFiles) (translate pattern_file : List ℕ) (s : Source) : Type 0 where
   pub table : read_as table files translate ≡ Some (Ok s.table)
   pub patterns : read_as (start s.table) files pattern_file ≡ Some (Ok s.patterns)
 

@@ -13,7 +13,7 @@ use Rattle.pg_prune.specs.Prunes.{Found, pruned}
 use Rattle.pg_prune.specs.Reports.{prune_report}
 use Rattle.pg_top.specs.Outcomes.{Outcome, Writing}
 use Rattle.pg_top.specs.prune.Pruned.{outcome_of_prune, pruned_line}
-use Rattle.pg_top.specs.Readings.{Held, Reading, translate_file}
+use Rattle.pg_top.specs.Readings.{HeldFiles, Reading, translate_file}
 use Rattle.pg_top.specs.Inside.Lists.{lists_under}
 use Rattle.pg_top.specs.Inside.ReadAs.{read_as}
 use Rattle.pg_top.specs.declared.prune.inputs.PruneInputs.{PruneInputs}
@@ -24,7 +24,7 @@ prune_reads translate patterns dict =
     translate_file translate ∷ lists_under translate patterns dict
 
 -- the files that are held are accepted as these
-pub record HasPrune (files : Held) (translate pattern_file dict : List ℕ)
+pub record HasPrune (files : HeldFiles) (translate pattern_file dict : List ℕ)
     (i : PruneInputs) : Type 0 where
   pub table : read_as table files translate ≡ Some (Ok i.table)
   pub patterns : read_as (start i.table) files pattern_file ≡ Some (Ok i.patterns)

@@ -6,7 +6,7 @@ use Rattle.pg_translate.specs.Tables.{table}
 use Rattle.pg_dict.specs.Words.{words}
 use Rattle.pg_patterns.specs.Starts.{start}
 use Rattle.pg_sweep.specs.Sweeps.{Terms}
-use Rattle.pg_top.specs.Readings.{Held}
+use Rattle.pg_top.specs.Readings.{HeldFiles}
 use Rattle.pg_top.specs.Inside.ReadAs.{read_as}
 use Rattle.pg_words.specs.Requests.{SweepRequest}
 
@@ -15,11 +15,11 @@ abbrev pub accepted_set : Parameters → Option (Result Parameters Refusal)
 accepted_set set = Some (Ok set)
 
 -- the files of these names are accepted as these sets
-abbrev pub HasSets : Held → List (List ℕ) → List Parameters → Type 0
+abbrev pub HasSets : HeldFiles → List (List ℕ) → List Parameters → Type 0
 HasSets files names sets = map (read_as parameters files) names ≡ map accepted_set sets
 
 -- the files that are held are accepted as these terms and sets
-pub record HasSweep (files : Held) (s : SweepRequest)
+pub record HasSweep (files : HeldFiles) (s : SweepRequest)
     (terms : Terms) (params : List Parameters) : Type 0 where
   pub table : read_as table files s.translate ≡ Some (Ok terms.table)
   pub sets : HasSets files s.params params

@@ -5,7 +5,7 @@ use Rattle.pg_dict.specs.Word.{Word}
 use Rattle.pg_select.specs.CountedPositions.{minima_of}
 use Rattle.pg_table.specs.Lookups.{table_totals}
 use Rattle.pg_texts.specs.ReportTexts.{ending_text}
-use Rattle.pg_top.specs.Readings.{Held}
+use Rattle.pg_top.specs.Readings.{HeldFiles}
 use Rattle.pg_top.specs.Inside.ReadAs.{read_as}
 use Rattle.pg_top.specs.totals.Totalled.{packed_table}
 
@@ -14,7 +14,7 @@ abbrev pub totals_lines : Alphabet → List Word → List ℕ → List ℕ
 totals_lines t words b = ending_text (table_totals (minima_of t) words b)
 
 -- the file of this name is accepted as a packed table, and the totals by it have these lines
-abbrev pub IsTotalled : Alphabet → List Word → Held → List ℕ → List ℕ → Type 0
+abbrev pub IsTotalled : Alphabet → List Word → HeldFiles → List ℕ → List ℕ → Type 0
 IsTotalled t words files name lines =
     (b : List ℕ) × (read_as (packed_table t) files name ≡ Some (Ok b))
     × (lines ≡ totals_lines t words b)

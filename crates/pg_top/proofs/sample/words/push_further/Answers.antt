@@ -1,6 +1,6 @@
 use Rattle.pg_top.proofs.sample.SampleSteps.{syllable_more, state_more, syllables_begun, syllables_text, syllables_state}
 use Rattle.std.proofs.Common.{◌++◌, ap}
-use Rattle.pg_top.specs.sample.Sampled.{Made, further_syllables}
+use Rattle.pg_top.specs.sample.Sampled.{MadeText, further_syllables}
 use Rattle.pg_top.proofs.sample.words.push_further.Goals as goal
 
 pub syllables-preserved : goal.syllables-preserved
@@ -15,7 +15,7 @@ syllables-preserved c =
 pub syllables-init : goal.syllables-init
 syllables-init c =
     let begun = syllables_begun c.args.count c.args.draws.now.state in
-    record { text = ap (λ (m : Made). c.args.text.now.items ++ m.text) begun; state = ap (λ (m : Made). m.state) begun }
+    record { text = ap (λ (m : MadeText). c.args.text.now.items ++ m.text) begun; state = ap (λ (m : MadeText). m.state) begun }
 
 pub returns : goal.returns
 returns c =
