@@ -78,7 +78,8 @@ with_one_sign s [] = s ∷ []
 with_one_sign s (x ∷ xs) = if nat_lt s x then s ∷ x ∷ xs
     else (if nat_eq s x then x ∷ xs else x ∷ with_one_sign s xs)
 
--- the families with s in that of p: it is placed with s, joined in place, or placed anew
+-- the families after the sign s is added below the prefix p: in a new family, in place, or with the
+-- family placed anew
 unfoldable pub with_sign : (ℕ → ℕ → ℕ) → Families → List ℕ → ℕ → Families
 with_sign lowest fs p s = elim (family_at fs p) [
   | None ↦ with_placed_family lowest fs p (s ∷ [])
@@ -114,7 +115,8 @@ cell_of fs q = cell_after fs [] q
 abbrev pub base_of : Families → List ℕ → Option ℕ
 base_of fs p = option_map (λ f. f.base) (family_at fs p)
 
--- the families with each sign of q, in turn, in the family of the string before it, from p on
+-- the families after the signs of q are added one after the other, each below the string so far,
+-- which is p at first
 abbrev pub enter_after : (ℕ → ℕ → ℕ) → Families → List ℕ → List ℕ → Families
 enter_after lowest fs p [] = fs
 enter_after lowest fs p (s ∷ q) = enter_after lowest
