@@ -1,5 +1,5 @@
 -- Worked rows of the texts, computed on the traces of their runs. The table has the minima 1 and 1, and the letters a, b and c with the signs 2, 3 and 4.
-use Rattle.std.proofs.Common.{◌≡◌, ℕ, Bool, true, false, List, [], ◌∷◌, map, refl, codes}
+use Rattle.std.proofs.Common.{◌≡◌, ℕ, Bool, true, false, List, [], ◌∷◌, ◌++◌, map, refl, codes}
 use Rattle.std.specs.Fmt.{digits}
 use Rattle.pg_types.specs.declared.parameters.LevelParams.{LevelParams}
 use Rattle.pg_types.specs.Parameters.{Parameters}
