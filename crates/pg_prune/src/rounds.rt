@@ -1,5 +1,6 @@
 //! The rounds.
-ghost use Rattle.std.specs.Prelude.{◌≡◌, ◌<◌, ◌≤◌, not, [], ◌∷◌, List, length, map, if◌then◌else◌, IfOk, None, MatchOption};
+ghost use Rattle.std.specs.Prelude.{◌≡◌, ◌<◌, ◌≤◌, not, [], ◌∷◌, List, length, map, if◌then◌else◌, replicate, IfOk, None, MatchOption};
+ghost use Rattle.pg_types.specs.declared.limits.TheConstants.{LEVEL_MAX};
 ghost use Rattle.pg_prune.specs.Positions.{WordPosition};
 ghost use Rattle.pg_prune.specs.Prunes.{need_at, needs as needs_of};
 ghost use Rattle.pg_prune.specs.Inside.Alike.{break_alike};
@@ -67,6 +68,17 @@ fn first_need(holders: &[Holders], positions: &[usize], value: u8) -> Option<usi
     None
 }
 
+/// No entry at any of `count` positions.
+fn no_holders(alloc: Global, count: usize) -> Result<Vec<Holders>, AllocError>
+    ensures { IfOk result (λ holders. holders.items ≡ replicate count (replicate LEVEL_MAX 0)) }
+{
+    let mut holders = Vec::new(alloc);
+    'positions: for _ in 0..count {
+        holders.push(Holders::none())?;
+    }
+    Ok(holders)
+}
+
 /// How many entries give each value to each of `count` positions, where all entries stay.
 pub(crate) fn all_holders(
     alloc: Global,
@@ -80,10 +92,7 @@ pub(crate) fn all_holders(
         → IsGround positions patterns.now (map (λ l. l.items) standing.now) count
         → IfOk result (λ holders. IsTallied positions patterns.now holders.items) }
 {
-    let mut holders = Vec::new(alloc);
-    'positions: for _ in 0..count {
-        holders.push(Holders::none())?;
-    }
+    let mut holders = no_holders(alloc, count)?;
     'entries: for i in 0..patterns.len() {
         let value = patterns.entry(i).value;
         add(holders.as_mut_slice(), standing[i].as_slice(), value);

@@ -7,18 +7,13 @@ use Rattle.std.specs.Prelude.{replicate}
 use Rattle.pg_select.specs.Windows.{Patterns}
 use Rattle.pg_prune.specs.Inside.Holders.{holder_counts}
 use Rattle.pg_prune.specs.Inside.Turns.{IsTallied}
-use Rattle.pg_prune.proofs.HolderSteps.{none_tallied, replicate_more, turn_after, turn_awaited, with_next}
+use Rattle.pg_prune.proofs.HolderSteps.{none_tallied, turn_after, turn_awaited, with_next}
 use Rattle.pg_prune.proofs.rounds.all_holders.Goals as goal
-
-pub positions-preserved : goal.positions-preserved
-positions-preserved c =
-    c.in_ok-push.ensures.items ∙ ap (λ h. c.positions.holders.items ++ h ∷ []) c.none.ensures ∙ ap (λ hs. hs ++ replicate 9 0 ∷ []) c.positions.invariant
-    ∙ sym (replicate_more c.positions.counter (replicate 9 0))
 
 pub entries-init : goal.entries-init
 entries-init c = λ positions g.
-    let all : c.positions.counter ≡ length positions = (let many : c.args.count ≡ length positions = g.many in omega arith) in
-    c.positions.invariant ∙ ap (λ n. replicate n (replicate 9 0)) all ∙ none_tallied positions
+    let all : c.args.count ≡ length positions = g.many in
+    c.in_ok-holders.ensures ∙ ap (λ n. replicate n (replicate 9 0)) all ∙ none_tallied positions
 
 pub add-requires : goal.add-requires
 add-requires c =
@@ -50,11 +45,8 @@ entries-preserved c = λ positions g.
     ∙ take-append_seam new (drop (length new) c.entries.holders.items) in
     whole ∙ added ∙ ap (λ (Q : Patterns). map (holder_counts Q) positions) (sym (with_next positions P c.entries.i inside))
 
-pub positions-init : goal.positions-init
-positions-init c = c.new-holders.ensures.items
-
-pub returns-in_err-push : goal.returns-in_err-push
-returns-in_err-push c = λ positions g. IfOk-from_err c.from_residual.result _ c.from_residual.ensures.0
+pub returns-in_err-holders : goal.returns-in_err-holders
+returns-in_err-holders c = λ positions g. IfOk-from_err c.from_residual.result _ c.from_residual.ensures.0
 
 pub entry-value-requires : goal.entry-value-requires
 entry-value-requires c = omega (arith, c.len-i-end.ensures.value)

@@ -1,12 +1,8 @@
-use Rattle.std.proofs.Common.{◌≡◌, List, map, take}
-use Rattle.std.specs.Prelude.{replicate}
+use Rattle.std.proofs.Common.{List, map, take}
 use Rattle.pg_prune.specs.Positions.{WordPosition}
 use Rattle.pg_prune.specs.Inside.Picks.{IsGround}
 use Rattle.pg_prune.specs.Inside.Turns.{IsTallied}
 use Rattle.pg_prune.proofs.rounds.all_holders.Given as goal
-
-abbrev pub invariant-positions : goal.invariant-positions
-invariant-positions l = l.holders.items ≡ replicate l.counter (replicate 9 0)
 
 abbrev pub invariant-entries : goal.invariant-entries
 invariant-entries l = (positions : List WordPosition) → IsGround positions l.patterns (map (λ s. s.items) l.standing) l.count
