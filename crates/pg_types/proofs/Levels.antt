@@ -14,7 +14,7 @@ use Rattle.pg_types.specs.Parameters.{items, level_demands, level_of, level_item
 use Rattle.pg_types.specs.Inside.Parts.{refusal_of_item}
 use Rattle.pg_types.specs.Inside.ItemSteps.{Demand, number_between, demands_of_levels, levels_of}
 
--- what the level at a place demands, and what it is
+-- what the level with the number i demands, and what it is
 abbrev pub demands_at : List (List ℕ) → ℕ → List Demand
 demands_at xs i = level_demands (drop (5 * i) xs)
 
@@ -30,21 +30,21 @@ demands_more : (xs : List (List ℕ)) (i count : ℕ) → i < count → flat_map
 demands_more xs i count more = ap (flat_map (demands_at xs)) (range_more i count more)
 
 -- after a level that is read, the same refusal is left
-pub left_more : (all xs xs' : List (List ℕ)) (place place' i count : ℕ) (whole : Option Refusal) → i < count → xs ≡ drop (5 * i) all
-    → ((more : List Demand) → refusal_from place (level_demands xs ++ more) xs ≡ refusal_from place' more xs')
-    → refusal_from place (flat_map (demands_at all) (range_with_len i (count - i))) xs ≡ whole → refusal_from place' (flat_map (demands_at all) (range_with_len (i + 1) (count - (i + 1)))) xs' ≡ whole
-left_more all xs xs' place place' i count whole more is passed left =
+pub left_more : (all xs xs' : List (List ℕ)) (n n' i count : ℕ) (whole : Option Refusal) → i < count → xs ≡ drop (5 * i) all
+    → ((more : List Demand) → refusal_from n (level_demands xs ++ more) xs ≡ refusal_from n' more xs')
+    → refusal_from n (flat_map (demands_at all) (range_with_len i (count - i))) xs ≡ whole → refusal_from n' (flat_map (demands_at all) (range_with_len (i + 1) (count - (i + 1)))) xs' ≡ whole
+left_more all xs xs' n n' i count whole more is passed left =
     let rest : List Demand = flat_map (demands_at all) (range_with_len (i + 1) (count - (i + 1))) in
-    let here : refusal_from place (demands_at all i ++ rest) xs ≡ whole = subst (λ (ds : List Demand). refusal_from place ds xs ≡ whole) (demands_more all i count more) left in
-    sym (passed rest) ∙ subst (λ (ys : List (List ℕ)). refusal_from place (level_demands ys ++ rest) xs ≡ whole) (sym is) here
+    let here : refusal_from n (demands_at all i ++ rest) xs ≡ whole = subst (λ (ds : List Demand). refusal_from n ds xs ≡ whole) (demands_more all i count more) left in
+    sym (passed rest) ∙ subst (λ (ys : List (List ℕ)). refusal_from n (level_demands ys ++ rest) xs ≡ whole) (sym is) here
 
 -- where a level is refused, its refusal is that of the whole
-pub left_refused : (all xs : List (List ℕ)) (place i count : ℕ) (whole : Option Refusal) (r : Refusal) → i < count → xs ≡ drop (5 * i) all
-    → ((more : List Demand) → refusal_from place (level_demands xs ++ more) xs ≡ Some r) → refusal_from place (flat_map (demands_at all) (range_with_len i (count - i))) xs ≡ whole → whole ≡ Some r
-left_refused all xs place i count whole r more is refused left =
+pub left_refused : (all xs : List (List ℕ)) (n i count : ℕ) (whole : Option Refusal) (r : Refusal) → i < count → xs ≡ drop (5 * i) all
+    → ((more : List Demand) → refusal_from n (level_demands xs ++ more) xs ≡ Some r) → refusal_from n (flat_map (demands_at all) (range_with_len i (count - i))) xs ≡ whole → whole ≡ Some r
+left_refused all xs n i count whole r more is refused left =
     let rest : List Demand = flat_map (demands_at all) (range_with_len (i + 1) (count - (i + 1))) in
-    let here : refusal_from place (demands_at all i ++ rest) xs ≡ whole = subst (λ (ds : List Demand). refusal_from place ds xs ≡ whole) (demands_more all i count more) left in
-    sym (subst (λ (ys : List (List ℕ)). refusal_from place (level_demands ys ++ rest) xs ≡ whole) (sym is) here) ∙ refused rest
+    let here : refusal_from n (demands_at all i ++ rest) xs ≡ whole = subst (λ (ds : List Demand). refusal_from n ds xs ≡ whole) (demands_more all i count more) left in
+    sym (subst (λ (ys : List (List ℕ)). refusal_from n (level_demands ys ++ rest) xs ≡ whole) (sym is) here) ∙ refused rest
 
 -- five items less are left
 pub rest_more : (all xs xs' : List (List ℕ)) (i : ℕ) → xs ≡ drop (5 * i) all → xs' ≡ drop 5 xs → xs' ≡ drop (5 * (i + 1)) all
@@ -109,9 +109,9 @@ pub by_reading : (P : Result Parameters Refusal → Type 0) (bytes : List ℕ) �
 by_reading P bytes h = subst P (read_as bytes) h
 
 -- a file that is not too long is refused as its items are
-pub whole_refused : (bytes rest : List ℕ) (place : ℕ) (r : Refusal) → length bytes ≤ FILE_MAX → rest ≡ bytes → place ≡ 1 → refusal_from place (demands (items bytes)) (items rest)
+pub whole_refused : (bytes rest : List ℕ) (n : ℕ) (r : Refusal) → length bytes ≤ FILE_MAX → rest ≡ bytes → n ≡ 1 → refusal_from n (demands (items bytes)) (items rest)
     ≡ Some r → parameters bytes ≡ Err r
-whole_refused bytes rest place r fits is one refused =
-    let here : refusal_from place (demands (items bytes)) (items bytes) ≡ Some r = subst (λ (b : List ℕ). refusal_from place (demands (items bytes)) (items b) ≡ Some r) is refused in
+whole_refused bytes rest n r fits is one refused =
+    let here : refusal_from n (demands (items bytes)) (items bytes) ≡ Some r = subst (λ (b : List ℕ). refusal_from n (demands (items bytes)) (items b) ≡ Some r) is refused in
     let first : refusal_from 1 (demands (items bytes)) (items bytes) ≡ Some r = subst (λ (n : ℕ). refusal_from n (demands (items bytes)) (items bytes) ≡ Some r) one here in
     rw (le-ltb FILE_MAX (length bytes) fits, first) refl

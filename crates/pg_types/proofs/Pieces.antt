@@ -42,7 +42,7 @@ lines_last (b ∷ bs) line some is before =
     let pieces : pieces_at is_line_feed (b ∷ bs) ≡ (b ∷ bs) ∷ [] = pieces_at_last is_line_feed b bs (λ j below. false_from_ne_true _ (before j (omega arith) below)) in
     rw (take_rest (b ∷ bs) (length (b ∷ bs)), drop_all (length (b ∷ bs)) (b ∷ bs) (omega arith), is) (ap (map without_cr) pieces)
 
--- the place of the first LF
+-- where the first LF stands
 pub line_feed_at : (bytes : List ℕ) (k : ℕ) → ((j : ℕ) → 0 ≤ j → j < k → ¬ (is_line_feed (get_or bytes j 0) ≡ true)) → k < length bytes
     → is_line_feed (get_or bytes k 0) ≡ true → position_or_len is_line_feed bytes ≡ k
 line_feed_at bytes k before inside here =

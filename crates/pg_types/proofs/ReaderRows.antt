@@ -36,7 +36,7 @@ separators : parameters (codes "002" ++ 9 ∷ 13 ∷ 10 ∷ 10 ∷ codes "1") �
 separators = refl
 
 abbrev fails_with : List ℕ → Kind → ℕ → Type 0
-fails_with bytes kind place = parameters bytes ≡ Err (refusal_of_item place kind)
+fails_with bytes kind i = parameters bytes ≡ Err (refusal_of_item i kind)
 
 weight_of_0 : fails_with (codes "1 1 2 2 1 0 5") OutOfRange 6
 weight_of_0 = refl

@@ -6,7 +6,7 @@ use Rattle.std.proofs.lemmas.Bool.{cases_Bool, eqb-true}
 use Rattle.pg_types.specs.Lines.{pieces_at}
 use Rattle.pg_types.specs.Parameters.{items, is_separator, has_byte}
 
--- the place that a search finds, or the length
+-- where a search finds it, or the length
 pub unwrap_or-position : {X : Type 0} → (p : X → Bool) (xs : List X) (r : Option ℕ) → r ≡ position p xs → unwrap_or r (length xs) ≡ position_or_len p xs
 unwrap_or-position p xs r is =
     let within : position_or_len p xs ≤ length xs = prefix_len-le-length (λ x. not (p x)) xs in

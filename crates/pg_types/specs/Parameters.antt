@@ -77,18 +77,18 @@ abbrev pub is_answer : List ℕ → Bool
 is_answer (b ∷ []) = b == 121 || b == 89 || b == 110 || b == 78
 is_answer item = false
 
--- the refusal of the first item behind the numbers, where one answer may stand
+-- the refusal of the first item behind the numbers, with the number i, where one answer may stand
 abbrev pub surplus : ℕ → List (List ℕ) → Option Refusal
-surplus place [] = None
-surplus place (x ∷ []) = if is_answer x then None else Some (refusal_at place Extra 0)
-surplus place (x ∷ y ∷ xs) = Some (refusal_at (if is_answer x then place + 1 else place) Extra 0)
+surplus i [] = None
+surplus i (x ∷ []) = if is_answer x then None else Some (refusal_at i Extra 0)
+surplus i (x ∷ y ∷ xs) = Some (refusal_at (if is_answer x then i + 1 else i) Extra 0)
 
--- the refusal of the first item that fails its demand, where the first item has the number place
+-- the refusal of the first item that fails its demand, where the first item has the number i
 abbrev pub refusal_from : ℕ → List (ℕ × ℕ) → List (List ℕ) → Option Refusal
-refusal_from place [] xs = surplus place xs
-refusal_from place (d ∷ ds) [] = Some (refusal_at place Missing 0)
-refusal_from place (d ∷ ds) (x ∷ xs) = option_map_or (λ kind. Some (refusal_at place kind 0))
-    (failure d x) (refusal_from (place + 1) ds xs)
+refusal_from i [] xs = surplus i xs
+refusal_from i (d ∷ ds) [] = Some (refusal_at i Missing 0)
+refusal_from i (d ∷ ds) (x ∷ xs) = option_map_or (λ kind. Some (refusal_at i kind 0))
+    (failure d x) (refusal_from (i + 1) ds xs)
 
 -- the parameters that a file holds, or its refusal
 abbrev pub parameters : List ℕ → Result Parameters Refusal

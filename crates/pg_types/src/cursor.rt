@@ -1,4 +1,4 @@
-//! A window of signs, as the place of a walk over the windows that are counted.
+//! A window of signs, by which a walk over the windows that are counted knows where it is.
 
 use crate::limits::{LENGTH_MAX, Sign};
 use std::cmp::Ordering;
@@ -8,7 +8,7 @@ use std::marker::Model;
 const ROOM: usize = LENGTH_MAX as usize;
 
 /// A window, of at most [`LENGTH_MAX`](crate::LENGTH_MAX) signs, compared in the order of signs. A
-/// walk over windows keeps its place by one.
+/// walk over windows keeps the last one that it came to.
 #[derive(Drop)]
 pub struct Cursor {
     signs: [Sign; ROOM],

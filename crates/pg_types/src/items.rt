@@ -85,30 +85,30 @@ pub fn is_answer(item: &[u8]) -> bool
 #[derive(Clone, Copy)]
 pub struct Items<'a> {
     rest: &'a [u8],
-    place: u32,
+    item_number: u32,
 }
 
 impl<'a> Items<'a> {
     /// All items of a file.
     pub fn new(bytes: &'a [u8]) -> Items<'a>
         ensures rest { result.rest.now ≡ bytes.now }
-        ensures place { result.place ≡ 1 }
+        ensures item_number { result.item_number ≡ 1 }
     {
         Items {
             rest: bytes,
-            place: 1,
+            item_number: 1,
         }
     }
 
     /// Takes a number from `least` to `greatest`, or refuses the item.
     pub fn number(&mut self, least: u32, greatest: u32) -> Result<u32, Refusal>
         requires range { greatest ≤ COST_MAX }
-        requires place { self.old.place < ITEMS_MAX }
+        requires item_number { self.old.item_number < ITEMS_MAX }
         ensures value { IfOk result (λ n. n ≡ number_at (items self.old.rest.now) 0) }
         ensures low { IfOk result (λ n. least ≤ n) }
         ensures high { IfOk result (λ n. n ≤ greatest) }
         ensures rest { OnOk result (items self.new.rest.now ≡ drop 1 (items self.old.rest.now)) }
-        ensures place { OnOk result (self.new.place ≡ self.old.place + 1) }
+        ensures item_number { OnOk result (self.new.item_number ≡ self.old.item_number + 1) }
         ensures passed { OnOk result (Meets (number_between least greatest
             ∷ []) self.old self.new) }
         ensures refused { IfErr result (Misses (number_between least greatest ∷ []) self.old) }
@@ -123,17 +123,17 @@ impl<'a> Items<'a> {
             return Err(self.refusal(Kind::OutOfRange));
         }
         self.rest = rest;
-        self.place += 1;
+        self.item_number += 1;
         Ok(number)
     }
 
     /// Takes the five numbers of a level.
     pub fn level(&mut self) -> Result<LevelParams, Refusal>
-        requires { self.old.place + 5 ≤ ITEMS_MAX }
+        requires { self.old.item_number + 5 ≤ ITEMS_MAX }
         ensures value { IfOk result (λ level. level ≡ level_of (items self.old.rest.now)) }
         ensures ranges { IfOk result (λ level. IsLevel level) }
         ensures rest { OnOk result (items self.new.rest.now ≡ drop 5 (items self.old.rest.now)) }
-        ensures place { OnOk result (self.new.place ≡ self.old.place + 5) }
+        ensures item_number { OnOk result (self.new.item_number ≡ self.old.item_number + 5) }
         ensures passed { OnOk result
             (Meets (level_demands (items self.old.rest.now)) self.old self.new) }
         ensures refused { IfErr result (Misses (level_demands (items self.old.rest.now)) self.old) }
@@ -155,10 +155,11 @@ impl<'a> Items<'a> {
     /// Refuses the first item too many. Only one answer of patgen's last question may be left: `y`,
     /// `Y`, `n` or `N`.
     pub fn end(&self) -> Result<(), Refusal>
-        requires { self.now.place ≤ ITEMS_MAX }
-        ensures passed { OnOk result (surplus self.now.place (items self.now.rest.now) ≡ None) }
+        requires { self.now.item_number ≤ ITEMS_MAX }
+        ensures passed { OnOk result
+            (surplus self.now.item_number (items self.now.rest.now) ≡ None) }
         ensures refused { IfErr result
-            (λ refusal. surplus self.now.place (items self.now.rest.now) ≡ Some refusal) }
+            (λ refusal. surplus self.now.item_number (items self.now.rest.now) ≡ Some refusal) }
     {
         let Some((answer, rest)) = next_item(self.rest) else {
             return Ok(());
@@ -168,7 +169,7 @@ impl<'a> Items<'a> {
         }
         let behind = Items {
             rest,
-            place: self.place + 1,
+            item_number: self.item_number + 1,
         };
         match next_item(behind.rest) {
             Some(_) => Err(behind.refusal(Kind::Extra)),
@@ -178,11 +179,11 @@ impl<'a> Items<'a> {
 
     /// The refusal of the next item.
     fn refusal(&self, kind: Kind) -> Refusal
-        ensures { result ≡ refusal_of_item self.now.place kind }
+        ensures { result ≡ refusal_of_item self.now.item_number kind }
     {
         Refusal {
             kind,
-            line: self.place,
+            line: self.item_number,
             column: 0,
         }
     }

@@ -136,14 +136,14 @@ fn read_levels(
     items: &mut Items<'_>,
     count: u8,
 ) -> Result<Vec<LevelParams>, ReadingError>
-    requires place { items.old.place ≡ 3 }
+    requires item_number { items.old.item_number ≡ 3 }
     requires count { count ≤ LEVEL_MAX }
     ensures value { IfOk result
         (λ levels. levels.items ≡ levels_of count (items_of items.old.rest.now)) }
     ensures ranges { IfOk result (λ levels. All IsLevel levels.items) }
-    ensures place { OnOk result (items.new.place ≤ items_end) }
+    ensures item_number { OnOk result (items.new.item_number ≤ items_end) }
     ensures passed { OnOk result (levels_refusal count items.old
-        ≡ surplus items.new.place (items_of items.new.rest.now)) }
+        ≡ surplus items.new.item_number (items_of items.new.rest.now)) }
     ensures refused { IfErr result (λ error. FailsBy error (levels_refusal count items.old)) }
 {
     let mut levels = Vec::new(alloc);

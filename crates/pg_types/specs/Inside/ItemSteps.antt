@@ -20,13 +20,13 @@ items_left i = items i.rest.now
 
 -- items that met these demands were taken: the refusal is that of the others
 abbrev pub Meets : List Demand → Items → Items → Type 0
-Meets ds old new = (more : List Demand) → refusal_from old.place (ds ++ more) (items_left old)
-    ≡ refusal_from new.place more (items_left new)
+Meets ds old new = (more : List Demand) → refusal_from old.item_number (ds ++ more) (items_left old)
+    ≡ refusal_from new.item_number more (items_left new)
 
 -- an item fails one of these demands, with this refusal
 abbrev pub Misses : List Demand → Items → Refusal → Type 0
 Misses ds old refusal = (more : List Demand)
-    → refusal_from old.place (ds ++ more) (items_left old) ≡ Some refusal
+    → refusal_from old.item_number (ds ++ more) (items_left old) ≡ Some refusal
 
 -- what so many levels demand of these items
 abbrev pub demands_of_levels : ℕ → List (List ℕ) → List Demand

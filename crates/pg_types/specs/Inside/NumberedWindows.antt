@@ -1,5 +1,5 @@
 -- The windows that are counted in a pass, in the order in which they were first counted. A window's
--- number is its place among them, from 0.
+-- number is its index among them, from 0.
 use Rattle.std.specs.Prelude.{◌≡◌, ℕ, true, if◌then◌else◌, List, [], ◌∷◌, ◌++◌, length, map, slice_get, Some}
 use Rattle.pg_types.specs.Inside.Counts.{Counts, is_counted}
 

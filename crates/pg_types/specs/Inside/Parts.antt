@@ -27,4 +27,4 @@ number_from n digits = if list_all is_ascii_digit digits then Some (fold with_di
 
 -- the refusal of the item with this number
 abbrev pub refusal_of_item : ℕ → Kind → Refusal
-refusal_of_item place kind = refusal_at place kind 0
+refusal_of_item i kind = refusal_at i kind 0

@@ -14,7 +14,7 @@ returns-in_err-level-clause-refused c =
 pub levels-preserved : goal.levels-preserved
 levels-preserved c = record {
   rest = rest_more (items c.args.items.now.rest.now) _ _ c.levels.i c.levels.invariant.rest c.in_ok-level.ensures.rest;
-  place = search rules;
+  item_number = search rules;
   read = read_more (items c.args.items.now.rest.now) _ c.levels.i _ _ _ c.levels.invariant.rest c.in_ok-level.ensures.value c.in_ok-push.ensures.items c.levels.invariant.read;
   ranges = rw c.in_ok-push.ensures.items (All-push IsLevel _ _ c.levels.invariant.ranges c.in_ok-level.ensures.ranges);
   left = left_more (items c.args.items.now.rest.now) _ _ _ _ c.levels.i c.args.count _ c.levels-test.true c.levels.invariant.rest c.in_ok-level.ensures.passed c.levels.invariant.left;

@@ -8,9 +8,9 @@ use Rattle.pg_types.proofs.parameters.read_levels.Given as goal
 abbrev pub invariant-levels : goal.invariant-levels
 invariant-levels l = record {
   rest : items l.items.rest.now ≡ drop (5 * l.i) (items l.fn.items.rest.now);
-  place : l.items.place ≡ 3 + 5 * l.i;
+  item_number : l.items.item_number ≡ 3 + 5 * l.i;
   read : l.levels.items ≡ levels_of l.i (items l.fn.items.rest.now);
   ranges : All IsLevel l.levels.items;
-  left : refusal_from l.items.place (flat_map (λ (i : ℕ). level_demands (drop (5 * i) (items l.fn.items.rest.now))) (range_with_len l.i (l.count - l.i))) (items l.items.rest.now)
+  left : refusal_from l.items.item_number (flat_map (λ (i : ℕ). level_demands (drop (5 * i) (items l.fn.items.rest.now))) (range_with_len l.i (l.count - l.i))) (items l.items.rest.now)
       ≡ refusal_from 3 (demands_of_levels l.count (items l.fn.items.rest.now)) (items l.fn.items.rest.now);
 }

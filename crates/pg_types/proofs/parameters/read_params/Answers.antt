@@ -16,13 +16,13 @@ short bytes test is fits = ltb-false FILE_MAX (length bytes) (sym is ∙ fits)
 pub returns-in_err-start : goal.returns-in_err-start
 returns-in_err-start c =
     let p = err_from_is_err_and c.from_residual.result c.from_residual.ensures.1 in
-    rw (p.1, p.2) (whole_refused c.args.bytes.now _ _ _ (short c.args.bytes.now _ c.is_too_long.ensures c.if-is_too_long.false) c.new-items.ensures.rest c.new-items.ensures.place
+    rw (p.1, p.2) (whole_refused c.args.bytes.now _ _ _ (short c.args.bytes.now _ c.is_too_long.ensures c.if-is_too_long.false) c.new-items.ensures.rest c.new-items.ensures.item_number
     (c.in_err-start.ensures.refused (number_between 1 LEVEL_MAX ∷ levels_demanded (items c.args.bytes.now))))
 
 pub returns-in_err-finish : goal.returns-in_err-finish
 returns-in_err-finish c =
     let p = err_from_is_err_and c.from_residual-in_err-finish.result c.from_residual-in_err-finish.ensures.1 in
-    rw (p.1, p.2) (whole_refused c.args.bytes.now _ _ _ (short c.args.bytes.now _ c.is_too_long.ensures c.if-is_too_long.false) c.new-items.ensures.rest c.new-items.ensures.place
+    rw (p.1, p.2) (whole_refused c.args.bytes.now _ _ _ (short c.args.bytes.now _ c.is_too_long.ensures c.if-is_too_long.false) c.new-items.ensures.rest c.new-items.ensures.item_number
     (c.in_ok-start.ensures.passed (number_between 1 LEVEL_MAX ∷ levels_demanded (items c.args.bytes.now)) ∙ c.in_err-finish.ensures.refused (levels_demanded (items c.args.bytes.now))))
 
 pub returns-in_err-levels : goal.returns-in_err-levels
