@@ -5,13 +5,17 @@ use Rattle.std.specs.List.{slice_get}
 use Rattle.std.specs.FinMap.Entries.{find, put}
 use Rattle.pg_cells.specs.Inside.ValuedFamilies.{ValuedFamilies}
 use Rattle.pg_types.specs.Inside.Counts.{with_weight, with_count}
-use Rattle.pg_types.specs.Inside.NumberedWindows.{Windows, HasNumber}
+use Rattle.pg_types.specs.Inside.NumberedWindows.{Windows, HasNumber, with_counted}
 use Rattle.pg_types.proofs.Numbering.{get_left, get_seam}
 use Rattle.pg_types.proofs.StringEntries.{order}
-use Rattle.pg_count.specs.Inside.Counting.{Tally, counted_more, counting_of}
+use Rattle.pg_count.specs.Inside.Counting.{Counting, Tally, counting_of}
 use Rattle.pg_count.specs.Inside.Leaves.{AreLeaves, HasTally, Sets}
 use Rattle.pg_count.proofs.Fronts.{which_number}
 use Rattle.pg_count.proofs.Wholes.{counts, counts_there, none_counted, set_counts}
+
+-- a count trie after a window is counted
+abbrev pub counting_with : Counting → List ℕ → Bool → ℕ → Counting
+counting_with c u good weight = record c { counted = with_counted c.counted u good weight }
 
 -- a window that is counted with a number is counted again
 module _ (h g : ValuedFamilies (Option Tally)) (windows : Windows) (len : ℕ) (are : AreLeaves h windows len) (new : AreLeaves g windows len) (u : List ℕ)
@@ -28,10 +32,10 @@ module _ (h g : ValuedFamilies (Option Tally)) (windows : Windows) (len : ℕ) (
       set_counts h g windows windows len are new u (n, sums) sets at others others
       ∙ ap (λ s. put order u s (counts h windows len are)) (is ∙ ap (λ o. with_weight (unwrap_or o (0, 0)) good weight) (sym found))
 
-  pub counted_again : counting_of g windows len ≡ counted_more (counting_of h windows len) u good weight
+  pub counted_again : counting_of g windows len ≡ counting_with (counting_of h windows len) u good weight
   counted_again =
-      (λ i. record { signs = signs i; len = len; counts = again_counts i; windows = windows })
-      ∙ ap (λ b. record { signs = h.signs; len = len; counts = with_count (counts h windows len are) u good weight; windows = cond b windows (windows ++ u ∷ []) }) (sym (ap is_some found))
+      (λ i. record { signs = signs i; len = len; counted = record { counts = again_counts i; windows = windows } })
+      ∙ ap (λ b. record { signs = h.signs; len = len; counted = record { counts = with_count (counts h windows len are) u good weight; windows = cond b windows (windows ++ u ∷ []) } }) (sym (ap is_some found))
 
 -- a window that is not counted gets the next number
 module _ (h g : ValuedFamilies (Option Tally)) (windows more : Windows) (len : ℕ) (are : AreLeaves h windows len) (new : AreLeaves g more len) (u : List ℕ) (sums : ℕ × ℕ) (good : Bool) (weight : ℕ)
@@ -57,7 +61,7 @@ module _ (h g : ValuedFamilies (Option Tally)) (windows more : Windows) (len : �
       set_counts h g windows more len are new u (length windows, sums) sets seam to from
       ∙ ap (λ s. put order u s (counts h windows len are)) (is ∙ ap (λ o. with_weight (unwrap_or o (0, 0)) good weight) (sym absent))
 
-  pub counted_new : counting_of g more len ≡ counted_more (counting_of h windows len) u good weight
+  pub counted_new : counting_of g more len ≡ counting_with (counting_of h windows len) u good weight
   counted_new =
-      (λ i. record { signs = signs i; len = len; counts = new_counts i; windows = pushed i })
-      ∙ ap (λ b. record { signs = h.signs; len = len; counts = with_count (counts h windows len are) u good weight; windows = cond b windows (windows ++ u ∷ []) }) (sym (ap is_some absent))
+      (λ i. record { signs = signs i; len = len; counted = record { counts = new_counts i; windows = pushed i } })
+      ∙ ap (λ b. record { signs = h.signs; len = len; counted = record { counts = with_count (counts h windows len are) u good weight; windows = cond b windows (windows ++ u ∷ []) } }) (sym (ap is_some absent))

@@ -3,7 +3,7 @@ use Rattle.std.proofs.Common.{◌≡◌, ℕ, ◌≤◌, List, [], map, length, 
 use Rattle.std.specs.List.{range_with_len, slice_get}
 use Rattle.std.specs.FinMap.Entries.{find}
 use Rattle.pg_types.specs.declared.limits.TheConstants.{LENGTH_MAX}
-use Rattle.pg_types.specs.Inside.NumberedWindows.{Windows, HasNumber}
+use Rattle.pg_types.specs.Inside.NumberedWindows.{Windows, HasNumber, no_counts}
 use Rattle.pg_types.proofs.StringEntries.{order}
 use Rattle.pg_cells.specs.Inside.ValuedFamilies.{ValuedFamilies}
 use Rattle.pg_cells.specs.Inside.AreValuedFamilies.{AreValuedFamilies}
@@ -14,17 +14,19 @@ use Rattle.pg_count.proofs.Counted.{seen_root, none_seen, seen_there}
 use Rattle.pg_count.proofs.Mapped.{root_strings}
 
 module _ (cells : ValuedFamilies (Option Tally)) (windows : Windows) (n len : ℕ) (signs : cells.signs ≡ n) (none : counts_in cells.values ≡ []) (empty : windows ≡ []) where
-  pub begun : counting_of cells windows len ≡ record { signs = n; len = len; counts = []; windows = [] }
+  pub begun : counting_of cells windows len ≡ record { signs = n; len = len; counted = no_counts }
   begun =
-      ap (λ k. record { signs = k; len = len; counts = (counting_of cells windows len).counts; windows = windows }) signs
+      ap (λ k. record { signs = k; len = len; counted = (counting_of cells windows len).counted }) signs
       ∙ ap (λ (es : List (List ℕ × Tally)). record {
         signs = n;
         len = len;
-        counts =
-            map (λ (e : List ℕ × Tally). (e.0, sums_seen e.1)) (map (λ (e : List ℕ × Tally). (window_at windows e.1.0, e.1)) es);
-        windows = windows;
+        counted = record {
+          counts =
+              map (λ (e : List ℕ × Tally). (e.0, sums_seen e.1)) (map (λ (e : List ℕ × Tally). (window_at windows e.1.0, e.1)) es);
+          windows = windows;
+        };
       }) (none_seen sums_seen (λ t. t) cells.values none)
-      ∙ ap (λ ws. record { signs = n; len = len; counts = []; windows = ws }) empty
+      ∙ ap (λ ws. record { signs = n; len = len; counted = record { counts = []; windows = ws } }) empty
 
   pub begun_kept : AreValuedFamilies cells → AreShort cells.values len → 1 ≤ len → len ≤ LENGTH_MAX → AreCounting cells windows len
   begun_kept held short some most = record {

@@ -117,7 +117,7 @@ module _ (h : ValuedFamilies (Option Tally)) (windows : Windows) (len : ℕ) (ar
       ((r.0, there), subst (λ v. HasNumber windows v t.0) (sym (window_of windows (r.0 ++ f.0) t.0 f.1) ∙ r.2) f.1)
 
   abbrev pub counts : Counts
-  counts = (counting_of h windows len).counts
+  counts = (counting_of h windows len).counted.counts
 
   pub sorted_counts : T (is_sorted order counts)
   sorted_counts = sorted_mapped sums_seen (wholes windows h.values) sorted_wholes
@@ -216,4 +216,4 @@ kept_counting h g windows len are new signs keeps =
     let same : counts g windows len new ≡ counts h windows len are = same_maps (counts g windows len new) (counts h windows len are) (sorted_counts g windows len new)
     (sorted_counts h windows len are) (λ p.
     agree h g windows windows len are new p (λ t has at. (keeps.keeps t has, at)) (λ t has at. (keeps.back t has, at))) in
-    λ i. record { signs = signs i; len = len; counts = same i; windows = windows }
+    λ i. record { signs = signs i; len = len; counted = record { counts = same i; windows = windows } }

@@ -12,4 +12,4 @@ returns-clause-kept c =
 pub returns-clause-numbered : goal.returns-clause-numbered
 returns-clause-numbered c =
     let kept = c.self.invariant in
-    subst (λ (d : Counting). AreNumbered d.windows d.counts) c.self.view_is (are_numbered c.self.inside.cells c.self.inside.windows.items c.self.inside.windows.len kept.leaves)
+    subst (λ (d : Counting). AreNumbered d.counted.windows d.counted.counts) c.self.view_is (are_numbered c.self.inside.cells c.self.inside.windows.items c.self.inside.windows.len kept.leaves)
