@@ -44,14 +44,14 @@ older_none first tallies k lt = elim (older_or_not first k) [
   | inr new ↦ absurd (let le = new.0 in omega arith)
 ]
 
--- another is that of the tally at its place
+-- another is that of the tally at its index
 tally_is : (first : ℕ) (tallies : Sums) (k : ℕ) → first ≤ k → tally_by_number first tallies k ≡ option_map (λ sums. (k - first, sums)) (slice_get tallies (k - first))
 tally_is first tallies k le = elim (older_or_not first k) [
   | inl old ↦ absurd (let lt = old.0 in omega arith)
   | inr new ↦ ap (λ b. cond b None (option_map (λ sums. (k - first, sums)) (slice_get tallies (k - first)))) new.1
 ]
 
--- where two lists have one tally at a number's place, the number is that of the same tally in both
+-- where two lists have one tally at a number's index, the number is that of the same tally in both
 same_tally : (first : ℕ) (ts us : Sums) (k : ℕ) → (first ≤ k → slice_get ts (k - first) ≡ slice_get us (k - first)) → tally_by_number first ts k ≡ tally_by_number first us k
 same_tally first ts us k same = elim (older_or_not first k) [
   | inl old ↦ older_none first ts k old.0 ∙ sym (older_none first us k old.0)
@@ -309,8 +309,8 @@ module _ (h new : ValuedFamilies ℕ) (first : ℕ) (tallies more : Sums) (are :
   size : length more ≡ length tallies + 1
   size = ap length pushed ∙ length-append tallies (sums ∷ [])
 
-  place : (first + length tallies) - first ≡ length tallies
-  place = omega arith
+  index : (first + length tallies) - first ≡ length tallies
+  index = omega arith
 
   there : slice_get more (length tallies) ≡ Some sums
   there =
@@ -318,7 +318,7 @@ module _ (h new : ValuedFamilies ℕ) (first : ℕ) (tallies more : Sums) (are :
 
   here : tally_by_number first more (first + length tallies) ≡ Some (length tallies, sums)
   here =
-      tally_is first more (first + length tallies) (omega arith) ∙ ap (λ n. option_map (λ x. (n, x)) (slice_get more n)) place
+      tally_is first more (first + length tallies) (omega arith) ∙ ap (λ n. option_map (λ x. (n, x)) (slice_get more n)) index
       ∙ ap (option_map (λ x. (length tallies, x))) there
 
   kept_there : (m : ℕ) → m < first + length tallies → tally_by_number first more m ≡ tally_by_number first tallies m

@@ -93,7 +93,7 @@ impl CountTrie {
         Ok(())
     }
 
-    /// Adds as `add` does, and gives the window's number: its place, from 0, among the windows of
+    /// Adds as `add` does, and gives the window's number: its index, from 0, among the windows of
     /// the pass in the order in which they were first counted.
     #[inline(always)]
     pub fn add_numbered(

@@ -60,7 +60,7 @@ word_pushed s u w start end sound good signs hyphens weights cares words from to
       adds_sound s u positioned start end w.weight sound grown words from to (subst IsWord (sym back) good),
     )
 
--- the words from a place on
+-- the words from a number on
 pub drop_word : (ws : List Word) (i : ℕ) (w : Word) → slice_get ws i ≡ Some w → drop i ws ≡ w ∷ drop (i + 1) ws
 drop_word ws i w at = drop_more ws i w (slice_get_within ws i w at) ∙ ap (λ y. y ∷ drop (i + 1) ws) (get_or_from_slice_get ws i w w at)
 

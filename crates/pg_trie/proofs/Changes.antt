@@ -165,14 +165,14 @@ pub record Enters (cells : ValuedFamilies ℕ) (records : List Record) (q : List
   pub trie : IsTrie cells' records
   pub raised : nat_lt x.0 HOPELESS ≡ true → ((maps_of cells' records).patterns ≡ raise (maps_of cells records).patterns (q, x.1) x.0)
       × ((maps_of cells' records).hopeless ≡ (maps_of cells records).hopeless)
-  pub marked : nat_lt x.0 HOPELESS ≡ false → ((maps_of cells' records).patterns ≡ (maps_of cells records).patterns)
+  pub given_up : nat_lt x.0 HOPELESS ≡ false → ((maps_of cells' records).patterns ≡ (maps_of cells records).patterns)
       × ((maps_of cells' records).hopeless ≡ put dotted_cmp (q, x.1) (tt {0}) (maps_of cells records).hopeless)
 
 pub enters : (cells cells' : ValuedFamilies ℕ) (records : List Record) (q : List ℕ) (head new : ℕ) (x : ℕ × ℕ) → IsTrie cells records → AreValuedFamilies cells'
     → cells' ≡ record cells { values = put order q new cells.values }
     → find order q cells.values ≡ Some head → new ≤ length records → list_of records new ≡ list_with x (list_of records head) → 1 ≤ x.0 → x.0 ≤ HOPELESS
     → x.1 ≤ length q → Enters cells records q x cells'
-enters cells cells' records q head new x is held put_is at inside list low high dot = record { trie = trie; raised = raised; marked = marked }
+enters cells cells' records q head new x is held put_is at inside list low high dot = record { trie = trie; raised = raised; given_up = given_up }
   where
     values : cells'.values ≡ put order q new cells.values
     values = ap (λ (h : ValuedFamilies ℕ). h.values) put_is
@@ -226,15 +226,15 @@ enters cells cells' records q head new x is held put_is at inside list low high 
           (λ d. ap (found_in as_hopeless d) list ∙ marks_stay x value d (list_of records head)),
     )
 
-    marked : nat_lt x.0 HOPELESS ≡ false → ((maps_of cells' records).patterns ≡ (maps_of cells records).patterns)
+    given_up : nat_lt x.0 HOPELESS ≡ false → ((maps_of cells' records).patterns ≡ (maps_of cells records).patterns)
         × ((maps_of cells' records).hopeless ≡ put dotted_cmp (q, x.1) (tt {0}) (maps_of cells records).hopeless)
-    marked mark = (
+    given_up most = (
       ap (entries as_value (list_of records)) values
           ∙ kept_found as_value (list_of records) cells.values q head new is.held.ordered ordered (sorted_values cells records is) in_order at
-          (λ d. ap (found_in as_value d) list ∙ values_stay x mark d (list_of records head)),
+          (λ d. ap (found_in as_value d) list ∙ values_stay x most d (list_of records head)),
       ap (entries as_hopeless (list_of records)) values
           ∙ put_found as_hopeless (list_of records) cells.values q head new x.1 (tt {0}) is.held.ordered ordered (sorted_marks cells records is) marks_in_order at
-          (λ d. ap (found_in as_hopeless d) list ∙ mark-entered x mark d (list_of records head)),
+          (λ d. ap (found_in as_hopeless d) list ∙ mark-entered x most d (list_of records head)),
     )
 
 -- what is seen where the maps stay
@@ -260,13 +260,13 @@ raised_view old cells cells' start records q x m seen s e value signs families =
     let marks_are : (maps_of cells' records).hopeless ≡ m.hopeless = r.1 ∙ s.hopeless ∙ ap (λ (m : Maps). m.hopeless) seen in
     λ i. record { signs = signs_are i; families = families_are i; patterns = patterns_are i; hopeless = marks_are i; records = records }
 
--- what is seen after a mark is entered
-pub marked_view : (old cells cells' : ValuedFamilies ℕ) (start records : List Record) (q : List ℕ) (x : ℕ × ℕ) (m : Maps) → maps_of old start ≡ m
+-- what is seen after a hopeless entry is entered
+pub given_up_view : (old cells cells' : ValuedFamilies ℕ) (start records : List Record) (q : List ℕ) (x : ℕ × ℕ) (m : Maps) → maps_of old start ≡ m
     → SameMaps old start cells records → Enters cells records q x cells' → nat_lt x.0 HOPELESS ≡ false
     → cells'.signs ≡ old.signs → cells'.families ≡ enter old.signs old.families q
     → maps_of cells' records ≡ record m { hopeless = put dotted_cmp (q, x.1) (tt {0}) m.hopeless; families = enter m.signs m.families q; records = records }
-marked_view old cells cells' start records q x m seen s e mark signs families =
-    let r = e.marked mark in
+given_up_view old cells cells' start records q x m seen s e most signs families =
+    let r = e.given_up most in
     let signs_are : cells'.signs ≡ m.signs = signs ∙ ap (λ (m : Maps). m.signs) seen in
     let families_are : cells'.families ≡ enter m.signs m.families q = families ∙ ap (λ (m : Maps). enter m.signs m.families q) seen in
     let patterns_are : (maps_of cells' records).patterns ≡ m.patterns = r.0 ∙ s.patterns ∙ ap (λ (m : Maps). m.patterns) seen in

@@ -12,11 +12,11 @@ use Rattle.pg_types.proofs.BoolFacts.{equal_is, first_half, second_half, is_true
 use Rattle.pg_cells.proofs.StringMaps.{order, equal_or_not, find_below, head_below, tail_sorted}
 use Rattle.pg_trie.specs.Inside.Maps.{with_entry, entries_of, entries}
 
--- places of one string are told apart by their dots
+-- dotted strings of one string are told apart by their dots
 pub same_by_dots : (q : List ℕ) (d e : ℕ) → eq_by_cmp dotted_cmp (q, d) (q, e) ≡ nat_eq d e
 same_by_dots q d e = ap (λ r. is_eq (ordering_then r (nat_cmp d e))) (tied_itself nat_list_cmp_total q) ∙ unsigned_tied d e
 
--- and places of two strings are not the same
+-- and those of two strings are not the same
 pub other_place : (q p : List ℕ) (d e : ℕ) → q ≢ p → eq_by_cmp dotted_cmp (q, d) (p, e) ≡ false
 other_place q p d e n = false_from_ne_true (eq_by_cmp dotted_cmp (q, d) (p, e)) (λ t. n (ap (λ (k : List ℕ × ℕ). k.0) (dotted_exact (q, d) (p, e) (equal_is (dotted_cmp (q, d) (p, e)) t))))
 
@@ -66,7 +66,7 @@ module _ {X : Type 0} (pick : ℕ → Option X) where
         | Some v ↦ ap (λ b. cond b (Some v) (find dotted_cmp (q, d) (entries_of pick p xs ++ rest))) (other_place q p d x.1 n) ∙ more
       ]
 
-  -- what the entries have at a place is what its string's list has
+  -- what the entries have at a dotted string is what its string's list has
   pub find-entries : (f : ℕ → List (ℕ × ℕ)) (es : List (List ℕ × ℕ)) (q : List ℕ) (d : ℕ) → T (is_sorted order es) → find dotted_cmp (q, d) (entries pick f es) ≡ found_at f d (find order q es)
   unfolding entries
   find-entries f [] q d sorted = refl
@@ -120,7 +120,7 @@ module _ {X : Type 0} (pick : ℕ → Option X) where
             (below_string q x.1 (x.1 + 1) xs rest (omega arith) h.1 (below x.1)) (sorted_string q (x.1 + 1) xs rest h.1 sorted below)
       ] rise
 
-  -- the places of a string are before those of a greater one
+  -- the dotted strings of a string are before those of a greater one
   before_string : (p q : List ℕ) (d : ℕ) (xs : List (ℕ × ℕ)) (rest : List ((List ℕ × ℕ) × X)) → T (is_lt (order p q)) → T (below_all dotted_cmp (p, d) rest)
       → T (below_all dotted_cmp (p, d) (entries_of pick q xs ++ rest))
   before_string p q d [] rest lt below = below

@@ -29,7 +29,7 @@ best-append : (t : List ℕ × ℕ → Bool) (xs ys : List ((List ℕ × ℕ) ×
 best-append t [] ys = omega arith
 best-append t (x ∷ xs) ys = let more = best-append t xs ys in omega arith
 
--- the value of a place among the entries of one string
+-- the value of a dotted string among the entries of one string
 best_here : (q : List ℕ) (d r : ℕ) (xs : List (ℕ × ℕ)) → Rises r xs → greatest_value (same_dotted (q, d)) (entries_of as_value q xs) ≡ unwrap_or (found_in as_value d xs) 0
 best_here q d r [] h = refl
 best_here q d r (x ∷ xs) h =
@@ -58,7 +58,7 @@ best_here q d r (x ∷ xs) h =
         let none : found_in as_value d xs ≡ None = no_value (rank x + 1) d xs (omega arith) h.3 in
         ap (λ o. max x.0 (unwrap_or o 0)) none ∙ (omega arith)
 
--- no other string has a place there
+-- no other string has an entry there
 best_elsewhere : (p q : List ℕ) (d : ℕ) (xs : List (ℕ × ℕ)) → pointwise nat_eq p q ≡ false → greatest_value (same_dotted (p, d)) (entries_of as_value q xs) ≡ 0
 best_elsewhere p q d [] n = refl
 best_elsewhere p q d (x ∷ xs) n =
@@ -68,7 +68,7 @@ best_elsewhere p q d (x ∷ xs) n =
       | Some v ↦ ap (λ b. max (cond (b && nat_eq d x.1) v 0) (greatest_value (same_dotted (p, d)) (entries_of as_value q xs))) n ∙ ap (λ m. max 0 m) more ∙ (omega arith)
     ]
 
--- the value of a place by its string's list
+-- the value of a dotted string by its string's list
 value_is : (cells : ValuedFamilies ℕ) (records : List Record) → IsTrie cells records → (q : List ℕ) (d : ℕ) → value_of (maps_of cells records).patterns (q, d)
     ≡ unwrap_or (found_at as_value (list_of records) d (find order q cells.values)) 0
 value_is cells records is q d = ap (λ o. unwrap_or o 0) (find-entries as_value (list_of records) cells.values q d is.held.ordered)

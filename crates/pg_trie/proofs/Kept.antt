@@ -137,7 +137,7 @@ are_kept cells records is = record {
   known = all-entries as_value (λ e. All (λ s. s ≤ cells.signs) e.0.0) (list_of records) cells.values is.held.ordered
       (λ q head at. values_known cells.signs q (string q head at) (list_of records head));
   sorted = sorted_marks cells records is;
-  places = all_tests (λ e. is_dotted cells.signs e.0) (maps_of cells records).hopeless
+  dotted = all_tests (λ e. is_dotted cells.signs e.0) (maps_of cells records).hopeless
       (all-entries as_hopeless (λ e. is_dotted cells.signs e.0 ≡ true) (list_of records) cells.values is.held.ordered
       (λ q head at. let h = is.heads q head at in marks_places cells.signs q (string q head at) (list_of records head) h.dots));
 }

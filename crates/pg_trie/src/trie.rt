@@ -84,7 +84,7 @@ impl PatternTrie {
               families = enter self.old.signs self.old.families signs.now;
               records = self.new.records;
             }) }
-        ensures marked { OnOk result (value ≡ HOPELESS →
+        ensures hopeless { OnOk result (value ≡ HOPELESS →
             self.new ≡ record self.old {
               hopeless = put dotted_cmp (signs.now, dot) (tt {0}) self.old.hopeless;
               families = enter self.old.signs self.old.families signs.now;
