@@ -5,12 +5,12 @@ ghost use Rattle.pg_types.specs.Inside.Counts.{AreSmall, SignsWithin, counted_su
 ghost use Rattle.pg_types.specs.Inside.NumberedWindows.{AreInOrder, AreNumbered, HasNumber, no_counts, with_counted};
 ghost use Rattle.pg_count.specs.Inside.Counting.{IsCounting};
 
-use crate::counted_cells::CountedCells;
 use crate::leaf::count_new;
-use crate::least::least;
-use crate::walk::walk;
-use crate::way::{find_counted, way_of};
-use crate::window_list::WindowList;
+use crate::store::counted_cells::CountedCells;
+use crate::store::window_list::WindowList;
+use crate::walks::least::least;
+use crate::walks::walk::walk;
+use crate::walks::way::{find_counted, way_of};
 use pg_types::{Cursor, EDGE, Sign, Weight, add_weight};
 use std::alloc::{AllocError, Global};
 use std::marker::Model;

@@ -7,9 +7,9 @@ use Rattle.pg_cells.specs.Inside.ValuedFamilies.{ValuedFamilies}
 use Rattle.pg_count.specs.Inside.Counting.{Counting, Tally, counting_of}
 use Rattle.pg_count.specs.Inside.Leaves.{AreLeaves}
 use Rattle.pg_count.specs.Inside.Listed.{Listed}
-use Rattle.pg_count.proofs.Adding.{counting_with, counted_again, counted_new}
-use Rattle.pg_count.proofs.Leaves.{again_leaves, again_sets}
-use Rattle.pg_count.proofs.Wholes.{counted_back, counts_there, kept_counting}
+use Rattle.pg_count.proofs.LeafLaws.Adding.{counting_with, counted_again, counted_new}
+use Rattle.pg_count.proofs.LeafLaws.Leaves.{again_leaves, again_sets}
+use Rattle.pg_count.proofs.LeafLaws.Wholes.{counted_back, counts_there, kept_counting}
 use Rattle.pg_count.proofs.counts.CountTrie.add_numbered.Goals as goal
 
 pub add_weight-requires : goal.add_weight-requires

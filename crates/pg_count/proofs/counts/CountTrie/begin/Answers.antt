@@ -4,7 +4,7 @@ use Rattle.pg_types.specs.Inside.NumberedWindows.{no_counts}
 use Rattle.pg_count.specs.Inside.Leaves.{AreCounting, AreShort}
 use Rattle.pg_count.specs.Inside.Listed.{Listed}
 use Rattle.pg_count.specs.Inside.Counting.{Counting, counting_of}
-use Rattle.pg_count.proofs.Beginning.{begun, begun_kept}
+use Rattle.pg_count.proofs.CellLaws.Beginning.{begun, begun_kept}
 use Rattle.pg_count.proofs.counts.CountTrie.begin.Goals as goal
 
 pub invariant_of-self : goal.invariant_of-self

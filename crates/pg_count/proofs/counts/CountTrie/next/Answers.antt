@@ -4,9 +4,9 @@ use Rattle.pg_types.specs.Inside.Counts.{windows_above}
 use Rattle.pg_types.proofs.StringEntries.{order}
 use Rattle.pg_cells.proofs.LinkLaws.{root_first}
 use Rattle.pg_count.specs.Inside.Counting.{Counting, Tally, sums_seen, window_at}
-use Rattle.pg_count.proofs.Counted.{none_seen}
-use Rattle.pg_count.proofs.Nexting.{none_above, least_is}
-use Rattle.pg_count.proofs.Parting.{signs_told}
+use Rattle.pg_count.proofs.CellLaws.Counted.{none_seen}
+use Rattle.pg_count.proofs.WalkLaws.Nexting.{none_above, least_is}
+use Rattle.pg_count.proofs.LeafLaws.Parting.{signs_told}
 use Rattle.pg_count.proofs.counts.CountTrie.next.Goals as goal
 
 pub least-requires-clause-base : goal.least-requires-clause-base

@@ -4,8 +4,8 @@ use Rattle.pg_types.specs.Inside.NumberedWindows.{AreInOrder}
 use Rattle.pg_cells.proofs.LinkLaws.{root_first}
 use Rattle.pg_count.specs.Inside.Counting.{Counting, Tally, sums_seen, window_at}
 use Rattle.pg_count.specs.Inside.Under.{numbers_under}
-use Rattle.pg_count.proofs.Counted.{none_seen}
-use Rattle.pg_count.proofs.Looking.{ordered_numbers}
+use Rattle.pg_count.proofs.CellLaws.Counted.{none_seen}
+use Rattle.pg_count.proofs.WalkLaws.Looking.{ordered_numbers}
 use Rattle.pg_count.proofs.counts.CountTrie.order.Goals as goal
 
 pub walk-requires-clause-base : goal.walk-requires-clause-base

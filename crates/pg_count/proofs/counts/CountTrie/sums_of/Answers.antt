@@ -3,7 +3,7 @@ use Rattle.std.proofs.lemmas.Option.{slice_get-get_or}
 use Rattle.pg_types.specs.Inside.Counts.{counted_sums}
 use Rattle.pg_types.specs.Inside.NumberedWindows.{HasNumber}
 use Rattle.pg_count.specs.Inside.Counting.{Counting}
-use Rattle.pg_count.proofs.Wholes.{counts_there}
+use Rattle.pg_count.proofs.LeafLaws.Wholes.{counts_there}
 use Rattle.pg_count.proofs.counts.CountTrie.sums_of.Goals as goal
 
 pub sums-requires : goal.sums-requires

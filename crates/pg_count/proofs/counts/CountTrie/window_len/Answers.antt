@@ -1,7 +1,7 @@
 use Rattle.std.proofs.Common.{subst}
 use Rattle.pg_types.specs.Inside.NumberedWindows.{AreNumbered}
 use Rattle.pg_count.specs.Inside.Counting.{Counting, IsCounting}
-use Rattle.pg_count.proofs.Wholes.{are_numbered, is_counting}
+use Rattle.pg_count.proofs.LeafLaws.Wholes.{are_numbered, is_counting}
 use Rattle.pg_count.proofs.counts.CountTrie.window_len.Goals as goal
 
 pub returns-clause-kept : goal.returns-clause-kept
