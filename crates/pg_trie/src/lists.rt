@@ -4,8 +4,11 @@ ghost use Rattle.pg_outputs.specs.Lists.{list_of};
 ghost use Rattle.pg_outputs.specs.Inside.Heads.{Grows};
 ghost use Rattle.pg_trie.specs.Inside.Lists.{list_with};
 
-use crate::head::{Head, in_four_bytes};
-use crate::raise::raised;
+pub mod head;
+mod raise;
+
+use crate::lists::head::{Head, in_four_bytes};
+use crate::lists::raise::raised;
 use pg_outputs::Outputs;
 use std::alloc::AllocError;
 use std::marker::Model;

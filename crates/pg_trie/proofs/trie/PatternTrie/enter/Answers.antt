@@ -7,7 +7,7 @@ use Rattle.pg_cells.specs.Inside.Walks.{AddsBlanks}
 use Rattle.pg_trie.specs.declared.hopeless.TheConstants.{HOPELESS}
 use Rattle.pg_trie.specs.Inside.Lists.{list_with}
 use Rattle.pg_trie.specs.Inside.Maps.{Maps}
-use Rattle.pg_trie.proofs.Changes.{SameMaps, blanks_stay, records_stay, both_stay, Enters, enters, same_view, raised_view, given_up_view, part_seen, whole_seen}
+use Rattle.pg_trie.proofs.TrieLaws.Changes.{SameMaps, blanks_stay, records_stay, both_stay, Enters, enters, same_view, raised_view, given_up_view, part_seen, whole_seen}
 use Rattle.pg_trie.proofs.trie.PatternTrie.enter.Goals as goal
 
 pub invariant_of-self : goal.invariant_of-self
