@@ -2,15 +2,15 @@
 ghost use Rattle.std.specs.Prelude.{◌≡◌, ℕ, ◌≤◌, ◌<◌, true, List, [], ◌∷◌, ◌++◌, length, Some, IfOk, OnOk, OnErr, IsOk, MatchOption};
 ghost use Rattle.pg_types.specs.declared.limits.TheConstants.{LENGTH_MAX, SIGNS_MAX, WEIGHT_MAX};
 ghost use Rattle.pg_types.specs.Inside.Counts.{AreSmall, SignsWithin, counted_sums, sums_of, with_weight, is_counted, windows_above};
-ghost use Rattle.pg_types.specs.Inside.NumberedWindows.{AreInOrder, AreNumbered, HasNumber};
-ghost use Rattle.pg_count.specs.Inside.Counting.{IsCounting, counted_more};
+ghost use Rattle.pg_types.specs.Inside.NumberedWindows.{AreInOrder, AreNumbered, HasNumber, no_counts, with_counted};
+ghost use Rattle.pg_count.specs.Inside.Counting.{IsCounting};
 
-use crate::counted_cells::CountedCells;
 use crate::leaf::count_new;
-use crate::least::least;
-use crate::walk::walk;
-use crate::way::{find_counted, way_of};
-use crate::window_list::WindowList;
+use crate::store::counted_cells::CountedCells;
+use crate::store::window_list::WindowList;
+use crate::walks::least::least;
+use crate::walks::walk::walk;
+use crate::walks::way::{find_counted, way_of};
 use pg_types::{Cursor, EDGE, Sign, Weight, add_weight};
 use std::alloc::{AllocError, Global};
 use std::marker::Model;
@@ -47,7 +47,7 @@ impl CountTrie {
     pub fn new(alloc: Global, signs: u16) -> Result<CountTrie, AllocError>
         requires { (1 ≤ signs) × (signs ≤ SIGNS_MAX) }
         ensures { IfOk result
-            (λ counts. counts ≡ record { signs = signs; len = 1; counts = []; windows = [] }) }
+            (λ counts. counts ≡ record { signs = signs; len = 1; counted = no_counts }) }
     {
         let cells = CountedCells::new(alloc, signs)?;
         Ok(CountTrie {
@@ -62,7 +62,7 @@ impl CountTrie {
     /// pass.
     pub fn begin(&mut self, len: u8)
         requires { (1 ≤ len) × (len ≤ LENGTH_MAX) }
-        ensures { self.new ≡ record self.old { len = len; counts = []; windows = [] } }
+        ensures { self.new ≡ record self.old { len = len; counted = no_counts } }
     {
         self.cells.clear(len == self.windows.window_len());
         self.windows.begin(len);
@@ -72,7 +72,7 @@ impl CountTrie {
     pub fn window_len(&self) -> u8
         ensures len { result ≡ self.now.len }
         ensures kept { IsCounting self.now }
-        ensures numbered { AreNumbered self.now.windows self.now.counts }
+        ensures numbered { AreNumbered self.now.counted.windows self.now.counted.counts }
     {
         self.windows.window_len()
     }
@@ -83,16 +83,17 @@ impl CountTrie {
         requires len { length window.now ≡ self.old.len }
         requires signs { SignsWithin self.old.signs window.now }
         requires weight { weight ≤ WEIGHT_MAX }
-        requires small { AreSmall (with_weight (sums_of self.old.counts window.now) good weight) }
-        ensures ok { OnOk result (self.new ≡ counted_more self.old window.now good weight) }
-        ensures there { is_counted self.old.counts window.now ≡ true → IsOk result }
+        requires small { AreSmall (with_weight (sums_of self.old.counted.counts window.now) good weight) }
+        ensures ok { OnOk result (self.new
+            ≡ record self.old { counted = with_counted self.old.counted window.now good weight }) }
+        ensures there { is_counted self.old.counted.counts window.now ≡ true → IsOk result }
         ensures err { OnErr result (self.new ≡ self.old) }
     {
         self.add_numbered(window, good, weight)?;
         Ok(())
     }
 
-    /// Adds as `add` does, and gives the window's number: its place, from 0, among the windows of
+    /// Adds as `add` does, and gives the window's number: its index, from 0, among the windows of
     /// the pass in the order in which they were first counted.
     #[inline(always)]
     pub fn add_numbered(
@@ -104,10 +105,11 @@ impl CountTrie {
         requires len { length window.now ≡ self.old.len }
         requires signs { SignsWithin self.old.signs window.now }
         requires weight { weight ≤ WEIGHT_MAX }
-        requires small { AreSmall (with_weight (sums_of self.old.counts window.now) good weight) }
-        ensures ok { OnOk result (self.new ≡ counted_more self.old window.now good weight) }
-        ensures number { IfOk result (λ number. HasNumber self.new.windows window.now number) }
-        ensures there { is_counted self.old.counts window.now ≡ true → IsOk result }
+        requires small { AreSmall (with_weight (sums_of self.old.counted.counts window.now) good weight) }
+        ensures ok { OnOk result (self.new
+            ≡ record self.old { counted = with_counted self.old.counted window.now good weight }) }
+        ensures number { IfOk result (λ number. HasNumber self.new.counted.windows window.now number) }
+        ensures there { is_counted self.old.counted.counts window.now ≡ true → IsOk result }
         ensures err { OnErr result (self.new ≡ self.old) }
     {
         let way = way_of(&self.cells, window);
@@ -130,7 +132,7 @@ impl CountTrie {
     pub fn sums(&self, window: &[Sign]) -> Option<(u64, u64)>
         requires len { length window.now ≡ self.now.len }
         requires signs { SignsWithin self.now.signs window.now }
-        ensures { result ≡ counted_sums self.now.counts window.now }
+        ensures { result ≡ counted_sums self.now.counted.counts window.now }
     {
         let way = way_of(&self.cells, window);
         let (_, sums) = find_counted(&self.cells, &self.windows, way, window)?;
@@ -139,9 +141,9 @@ impl CountTrie {
 
     /// The good and the bad sum of the window with the number. It takes no memory.
     pub fn sums_of(&self, number: u32) -> (u64, u64)
-        requires { number < length self.now.windows }
-        ensures { (u : List ℕ) → HasNumber self.now.windows u number
-            → counted_sums self.now.counts u ≡ Some result }
+        requires { number < length self.now.counted.windows }
+        ensures { (u : List ℕ) → HasNumber self.now.counted.windows u number
+            → counted_sums self.now.counted.counts u ≡ Some result }
     {
         self.cells.sums(number)
     }
@@ -150,7 +152,7 @@ impl CountTrie {
     /// signs of the families. Refused: some of them may have been appended.
     pub fn order(&self, out: &mut Vec<u32>) -> Result<(), AllocError>
         ensures { OnOk result ((ns : List ℕ) × (out.new.items ≡ out.old.items ++ ns)
-            × AreInOrder self.now.windows self.now.counts ns) }
+            × AreInOrder self.now.counted.windows self.now.counted.counts ns) }
     {
         if !self.cells.has_none() {
             walk(&self.cells, 0, EDGE, self.windows.window_len(), out)?;
@@ -161,9 +163,9 @@ impl CountTrie {
     /// Moves the cursor to the least counted window that is greater, and gives its good and bad
     /// sums; none exactly where there is no such window, and the cursor stays. It takes no memory.
     pub fn next(&self, at: &mut Cursor) -> Option<(u64, u64)>
-        ensures { MatchOption result ((windows_above at.old self.now.counts ≡ [])
-            × (at.new ≡ at.old)) (λ sums. windows_above at.old self.now.counts
-            ≡ (at.new, sums) ∷ windows_above at.new self.now.counts) }
+        ensures { MatchOption result ((windows_above at.old self.now.counted.counts ≡ [])
+            × (at.new ≡ at.old)) (λ sums. windows_above at.old self.now.counted.counts
+            ≡ (at.new, sums) ∷ windows_above at.new self.now.counted.counts) }
     {
         if self.cells.has_none() {
             return None;

@@ -7,9 +7,9 @@ ghost use Rattle.pg_types.specs.Inside.Counts.{SignsWithin};
 ghost use Rattle.pg_types.specs.Inside.NumberedWindows.{HasNumber, Windows};
 ghost use Rattle.pg_count.specs.Inside.Leaves.{AreLeaves, IsFree, IsWay, Keeps, Sets};
 
-use crate::counted_cells::CountedCells;
-use crate::way::Way;
-use crate::window_list::WindowList;
+use crate::store::counted_cells::CountedCells;
+use crate::store::window_list::WindowList;
+use crate::walks::way::Way;
 use pg_types::Sign;
 use std::alloc::AllocError;
 

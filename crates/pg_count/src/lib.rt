@@ -2,14 +2,9 @@
 //! cells.
 #![tactic(auto)]
 
-mod bound;
-mod counted_cells;
 mod counts;
 mod leaf;
-mod least;
-mod tally_list;
-mod walk;
-mod way;
-mod window_list;
+mod store;
+mod walks;
 
 pub use counts::CountTrie;

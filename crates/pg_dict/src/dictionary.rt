@@ -121,7 +121,7 @@ impl Dictionary {
     }
 
     /// Whether `len` signs lie in the word of a sign, of which the first `back` stand before it.
-    /// The sign is given by its place in `all_signs`.
+    /// The sign is given by its index in `all_signs`.
     ///
     /// The sign with which they would begin tells how far its word goes. If it is one of a word
     /// before, that word ends before the given sign.

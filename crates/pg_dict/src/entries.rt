@@ -4,13 +4,17 @@ ghost use Rattle.pg_types.specs.Inside.Answers.{Gives};
 ghost use Rattle.pg_translate.specs.Alphabets.{letters_of};
 ghost use Rattle.pg_translate.specs.Inside.Rules.{KeepsRules};
 ghost use Rattle.pg_dict.specs.Inside.LineWords.{line_reading};
-ghost use Rattle.pg_dict.specs.Inside.LineStarts.{word_reading_by};
-ghost use Rattle.pg_dict.specs.Inside.Entries.{with_word, entries_of, GrowsBy};
+ghost use Rattle.pg_dict.specs.Inside.Lines.LineStarts.{word_reading_by};
+ghost use Rattle.pg_dict.specs.Inside.Lines.Entries.{with_word, entries_of, GrowsBy};
 ghost use Rattle.pg_dict.specs.Inside.Store.{stored_words, IsSound, IsFit};
 
-use crate::line::Line;
-use crate::line_start::LineStart;
-use crate::position::Position;
+mod letters;
+mod line;
+mod line_start;
+
+use crate::entries::line::Line;
+use crate::entries::line_start::LineStart;
+use crate::store::position::Position;
 use crate::store::{Store, Stored};
 use pg_translate::Table;
 use pg_types::{EDGE, FILE_MAX, ReadingError, Sign, WEIGHT_MAX, Weight};

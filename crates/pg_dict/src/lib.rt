@@ -4,10 +4,6 @@
 pub mod dictionary;
 mod entries;
 pub mod laws;
-mod letters;
-mod line;
-mod line_start;
-mod position;
 mod sites;
 mod store;
 pub mod word;

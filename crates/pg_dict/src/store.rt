@@ -2,12 +2,14 @@
 //! care of the position before it.
 ghost use Rattle.std.specs.Prelude.{◌≡◌, ◌≤◌, ◌+◌, ◌*◌, [], ◌∷◌, ◌++◌, length, OnOk};
 ghost use Rattle.pg_types.specs.declared.limits.TheConstants.{FILE_MAX};
-ghost use Rattle.pg_dict.specs.Inside.PositionedSigns.{with_signs, no_columns, positioned_sign};
+ghost use Rattle.pg_dict.specs.Inside.Lines.PositionedSigns.{with_signs, no_columns, positioned_sign};
 ghost use Rattle.pg_dict.specs.Inside.Store.{columns_of, word_at, stored_words, IsSound};
 ghost use Rattle.pg_dict.specs.Inside.SoundWords.{IsWord};
 ghost use Rattle.pg_dict.specs.Inside.Lent.{lent_word};
 
-use crate::position::Position;
+pub mod position;
+
+use crate::store::position::Position;
 use crate::word::WordRef;
 use pg_types::{Sign, Weight};
 use std::alloc::{AllocError, Global};

@@ -6,7 +6,7 @@ use pg_types::{Sign, Weight};
 /// A word, lent by its dictionary. Its four slices have one length, that of the word in signs. They
 /// are parts of the dictionary's store, so a `WordRef` does not outlive its dictionary.
 ///
-/// Position `p` is the place that has `p` signs of the word before it.
+/// Position `p` has `p` signs of the word before it.
 #[derive(Clone, Copy, Debug)]
 pub struct WordRef<'a> {
     /// The edge, the letters of the word, and the edge again.

@@ -10,7 +10,7 @@ use Rattle.std.proofs.lemmas.Option.{get_or_from_slice_get, slice_get_within, sl
 use Rattle.pg_types.specs.Inside.NumberedWindows.{HasNumber, Windows}
 use Rattle.pg_dict.specs.declared.sites.Site.{Site}
 use Rattle.pg_dict.specs.Inside.Sites.{all_sites, site_of, sites_in}
-use Rattle.pg_dict.proofs.Told.{word_in}
+use Rattle.pg_dict.proofs.WordStore.Told.{word_in}
 use Rattle.pg_dict.specs.Inside.SoundWords.{IsWord}
 use Rattle.pg_dict.specs.Inside.Store.{all_signs, all_weights}
 use Rattle.pg_dict.specs.Word.{Word}

@@ -37,13 +37,13 @@ entry_sound e is =
     let value : e.1 ≤ LEVEL_MAX = leb-true _ _ a.1 in
     record { some = leb-true _ _ f.0; dot = leb-true _ _ c.1; value = omega arith }
 
--- what the place of a mark keeps
+-- what a hopeless dotted string keeps
 record IsIn (k : List ℕ × ℕ) : Type 0 where
   some : 1 ≤ length k.0
   dot : k.1 ≤ length k.0
 
-place_in : (n : ℕ) (k : List ℕ × ℕ) → is_dotted n k ≡ true → IsIn k
-place_in n k is =
+dotted_in : (n : ℕ) (k : List ℕ × ℕ) → is_dotted n k ≡ true → IsIn k
+dotted_in n k is =
     let a = and_parts _ _ is in
     let b = and_parts _ _ a.0 in
     let c = and_parts _ _ b.0 in
@@ -73,11 +73,11 @@ module _ (m : Maps) (kept : AreKept m) where
       let sound = entry_sound e (all_in is_entry m.patterns e kept.patterns.sound here) in
       outputs_value m.patterns m.hopeless e.0.0 e.1 e.0.1 sound.dot (in_found m.patterns e kept.patterns.sorted here)
 
-  mark_place : (e : (List ℕ × ℕ) × Unit {0}) → In e m.hopeless → IsIn e.0
-  mark_place e here = place_in m.signs e.0 (all_in (λ (x : (List ℕ × ℕ) × Unit {0}). is_dotted m.signs x.0) m.hopeless e kept.places here)
+  hopeless_in : (e : (List ℕ × ℕ) × Unit {0}) → In e m.hopeless → IsIn e.0
+  hopeless_in e here = dotted_in m.signs e.0 (all_in (λ (x : (List ℕ × ℕ) × Unit {0}). is_dotted m.signs x.0) m.hopeless e kept.dotted here)
 
   mark_listed : (e : (List ℕ × ℕ) × Unit {0}) → In e m.hopeless → In (HOPELESS, e.0.1) (lists e.0.0)
-  mark_listed e here = outputs_mark m.patterns m.hopeless e.0.0 e.0.1 (mark_place e here).dot (in_found m.hopeless e kept.sorted here)
+  mark_listed e here = outputs_mark m.patterns m.hopeless e.0.0 e.0.1 (hopeless_in e here).dot (in_found m.hopeless e kept.sorted here)
 
   -- the greatest value of the lists is that of the patterns
   pub values_law : (w : List ℕ) (p : ℕ) → by_starts value_by lists 0 w p ≡ value_at m.patterns w p
@@ -146,7 +146,7 @@ module _ (m : Maps) (kept : AreKept m) where
           | inr mark ↦
               let there = any_in (λ (e : (List ℕ × ℕ) × Unit {0}). applies (window w p pass.len pass.dot) pass.dot e.0) m.hopeless mark in
               let e = there.0 in
-              stands_over e.0.0 e.0.1 HOPELESS (mark_place e there.1).some high (mark_listed e there.1) there.2
+              stands_over e.0.0 e.0.1 HOPELESS (hopeless_in e there.1).some high (mark_listed e there.1) there.2
         ]
 
     -- the greatest cover of the lists is that of the window

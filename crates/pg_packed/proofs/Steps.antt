@@ -26,7 +26,7 @@ Entries = List ((List ℕ × ℕ) × ℕ)
 after_first : (k : List ℕ × ℕ) (v : ℕ) (e : (List ℕ × ℕ) × ℕ) (es : Entries) (i : ℕ) → T (is_sorted dotted_cmp (e ∷ es)) → slice_get es i ≡ Some (k, v) → dotted_cmp k e.0 ≡ Greater
 after_first k v e es i sorted there = dotted_total.antisymm k e.0 ∙ ap ordering_reverse (below_get dotted_cmp dotted_total e.0 k v es i (first_half _ _ sorted) there)
 
--- its place has no value before
+-- it has no value before
 not_before : (k : List ℕ × ℕ) (v : ℕ) (es : Entries) (i : ℕ) → T (is_sorted dotted_cmp es) → slice_get es i ≡ Some (k, v) → find dotted_cmp k (take i es) ≡ None
 not_before k v [] zero sorted there = cc
 not_before k v [] (suc i) sorted there = cc

@@ -7,11 +7,11 @@ use Rattle.std.specs.Prelude.{slice_get}
 use Rattle.std.specs.FinMap.Entries.{find, put, is_sorted, length-put}
 use Rattle.std.specs.Cmp.Lexicographic.{nat_list_cmp_total}
 use Rattle.pg_types.specs.Inside.Counts.{counted_sums, with_weight, with_count, is_counted}
-use Rattle.pg_types.specs.Inside.NumberedWindows.{Windows, AreNumbered, AreInOrder, HasNumber}
+use Rattle.pg_types.specs.Inside.NumberedWindows.{Windows, AreNumbered, AreInOrder, HasNumber, with_counted}
 use Rattle.pg_types.specs.Inside.NumberedStrings.{Numbers, AreNumbers, by_number}
 use Rattle.pg_types.proofs.Numbering.{number_of, numbered_found, numbers_none, numbers_put, by_number_none, by_number_put, length_by_number, in_order}
 use Rattle.pg_types.proofs.StringEntries.{order, mapped, found_mapped, none_mapped, sorted_mapped, sorted_put, find_put_same, find_put_other, put_from}
-use Rattle.pg_plain.specs.Inside.Counted.{AreCounted, counted_of, counted_more, tally_at}
+use Rattle.pg_plain.specs.Inside.Counted.{AreCounted, counted_of, tally_at}
 use Rattle.pg_plain.specs.declared.counts.TheConstants.{NUMBERS_MAX}
 
 -- sums that were read
@@ -119,7 +119,7 @@ module _ (numbers : Numbers) (tallies : List (ℕ × ℕ)) (windows : Windows) (
             ∙ ap Some (ap (λ ts. tally_at ts m) is ∙ get_or-set_other tallies n m sums (0, 0) apart)
             ∙ sym (found_mapped (tally_at tallies) p m numbers e)
 
-    pub set_seen : counted_of numbers more ≡ counted_more (counted_of numbers tallies) u good weight
+    pub set_seen : counted_of numbers more ≡ with_counted (counted_of numbers tallies) u good weight
     set_seen =
         ap (λ counts. record { counts = counts; windows = by_number numbers })
         (set_counts ∙ ap (λ o. put order u (with_weight (unwrap_or o (0, 0)) good weight) (mapped (tally_at tallies) numbers)) (sym (sums_there u n at)))
@@ -178,7 +178,7 @@ module _ (numbers : Numbers) (tallies : List (ℕ × ℕ)) (windows : Windows) (
     listed_more : by_number after ≡ by_number numbers ++ u ∷ []
     listed_more = ap by_number after_is ∙ by_number_put numbers are.sorted are.numbered u none put_sorted
 
-    pub new_seen : counted_of after more ≡ counted_more (counted_of numbers tallies) u good weight
+    pub new_seen : counted_of after more ≡ with_counted (counted_of numbers tallies) u good weight
     new_seen =
         ap (λ counts. record { counts = counts; windows = by_number after })
         (put_counts ∙ ap (λ o. put order u (with_weight (unwrap_or o (0, 0)) good weight) (mapped (tally_at tallies) numbers)) (sym (sums_none u none)))

@@ -23,7 +23,7 @@ entry_string e h = and_first _ _ (and_first _ _ (and_first _ _ (and_first _ _ h)
 pub entries_are_strings : (P : List ((List ℕ × ℕ) × ℕ)) → list_all is_entry P ≡ true → list_all (λ e. is_string e.0) P ≡ true
 entries_are_strings P all = all_weaker is_entry (λ (e : (List ℕ × ℕ) × ℕ). is_string e.0) P entry_string all
 
--- the signs from k's place in the window on are those from its place in the word on
+-- the signs from where k stands in the window are those from where it stands in the word
 inner : (w : List ℕ) (p len dot : ℕ) (k : List ℕ × ℕ) → k.1 ≤ dot → dot ≤ p → (dot - k.1) + length k.0 ≤ len → take (length k.0) (drop (dot - k.1) (window w p len dot))
     ≡ take (length k.0) (drop (p - k.1) w)
 inner w p len dot k low high size =
@@ -36,7 +36,7 @@ inner w p len dot k low high size =
     ∙ ap (λ x. take (length k.0) x) (drop-drop (dot - k.1) (p - dot) w)
     ∙ ap (λ x. take (length k.0) (drop x w)) from
 
--- a place applies in a window that fits where it applies in the word, and stands within the window
+-- a dotted string applies in a window that fits where it applies in the word, and stands within the window
 pub cover_law : (w : List ℕ) (p len dot : ℕ) (k : List ℕ × ℕ) → fits w p len dot ≡ true → applies (window w p len dot) dot k ≡ (applies w p k && is_within len dot (length k.0) k.1)
 cover_law w p len dot k fit = both_ways _ _ out back
   where
@@ -132,7 +132,7 @@ start_value values p is inside = ap (λ x. get_or x p 0) is ∙ get_or-replicate
 start_cover : (covers : List Bool) (p : ℕ) → covers ≡ replicate (WORD_LETTERS_MAX + 2) false → p < WORD_LETTERS_MAX + 2 → bit (get_or covers p false) ≡ 0
 start_cover covers p is inside = ap (λ x. bit (get_or x p false)) is ∙ ap bit (get_or-replicate (WORD_LETTERS_MAX + 2) p false false inside)
 
--- the values of a word: those of the patterns, and hopeless places give none
+-- the values of a word: those of the patterns, and hopeless dotted strings give none
 pub values_end : (P : List ((List ℕ × ℕ) × ℕ)) (H : Hopeless) (w x y z : List ℕ) → length w ≤ WORD_LETTERS_MAX + 2 → x ≡ replicate (WORD_LETTERS_MAX + 2) 0
     → ((p : ℕ) → p < WORD_LETTERS_MAX + 2 → get_or y p 0 ≡ max (get_or x p 0) (greatest (λ e. e.1) (applies w p) P))
     → ((p : ℕ) → p < WORD_LETTERS_MAX + 2 → get_or z p 0 ≡ max (get_or y p 0) (greatest (λ e. 0) (applies w p) H))

@@ -22,24 +22,24 @@ raised_in P Q k v held n is greater entered =
 pub put_is : (H G : List ((List ℕ × ℕ) × Unit {0})) (k : List ℕ × ℕ) (x : Unit {0}) → G ≡ insert_entry dotted_cmp H k x → G ≡ put dotted_cmp k (tt {0}) H
 put_is H G k x entered = entered ∙ insert-put dotted_cmp k x H
 
--- places that pass a test stay so
-pub places_in : {X : Type 0} (good : List ℕ × ℕ → Bool) (M N : List ((List ℕ × ℕ) × X)) (k : List ℕ × ℕ) (v : X) → N ≡ insert_entry dotted_cmp M k v
+-- dotted strings that pass a test stay so
+pub dotted_in : {X : Type 0} (good : List ℕ × ℕ → Bool) (M N : List ((List ℕ × ℕ) × X)) (k : List ℕ × ℕ) (v : X) → N ≡ insert_entry dotted_cmp M k v
     → list_all (λ e. good e.0) M ≡ true → good k ≡ true → list_all (λ e. good e.0) N ≡ true
-places_in {X} good M N k v entered all new =
+dotted_in {X} good M N k v entered all new =
     subst (λ x. list_all (λ (e : (List ℕ × ℕ) × X). good e.0) x ≡ true) (sym (entered ∙ insert-put dotted_cmp k v M))
     (all_put dotted_cmp (λ (e : (List ℕ × ℕ) × X). good e.0) dotted_exact k v M new all)
 
 greater_bounds : (v n : ℕ) → 1 ≤ v → v ≤ 9 → n ≤ 9 → (1 ≤ max v n) × (max v n ≤ 9)
 greater_bounds v n some most low = (omega arith, omega arith)
 
--- the entry of a place with the greater of two lawful values
+-- the entry of a dotted string with the greater of two lawful values
 greater_entry : (k : List ℕ × ℕ) (v n : ℕ) → is_entry (k, v) ≡ true → n ≤ 9 → is_entry (k, max v n) ≡ true
 greater_entry k v n new low =
-    let place = and_first _ _ (and_first _ _ new) in
+    let dotted = and_first _ _ (and_first _ _ new) in
     let some : 1 ≤ v = leb-true 1 v (and_second _ _ (and_first _ _ new)) in
     let most : v ≤ 9 = leb-true v 9 (and_second _ _ new) in
     let value = greater_bounds v n some most low in
-    and_from _ _ (and_from _ _ place (le-leb 1 (max v n) value.0)) (le-leb (max v n) 9 value.1)
+    and_from _ _ (and_from _ _ dotted (le-leb 1 (max v n) value.0)) (le-leb (max v n) 9 value.1)
 
 value_bound : (P : List ((List ℕ × ℕ) × ℕ)) (k : List ℕ × ℕ) → list_all is_entry P ≡ true → value_of P k ≤ 9
 value_bound P k all = by_find (find dotted_cmp k P) refl

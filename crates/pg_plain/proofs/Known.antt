@@ -52,7 +52,7 @@ patterns_up_to n (e ∷ es) h =
     All-cons (λ (e : (List ℕ × ℕ) × ℕ). All (λ s. s ≤ n) e.0.0) e es (least_told n e.0.0 (and_first (has_signs_up_to n e.0.0) (list_all (λ (x : (List ℕ × ℕ) × ℕ). has_signs_up_to n x.0.0) es) h))
     (patterns_up_to n es (and_second (has_signs_up_to n e.0.0) (list_all (λ (x : (List ℕ × ℕ) × ℕ). has_signs_up_to n x.0.0) es) h))
 
--- those of hopeless places, and of counted windows
+-- those of hopeless dotted strings, and of counted windows
 pub places_within : (n : ℕ) (H : List ((List ℕ × ℕ) × Unit {0})) → list_all (λ e. has_signs_up_to n e.0.0) H ≡ true → All (λ e. SignsWithin n e.0.0) H
 places_within n [] h = All-nil (λ (e : (List ℕ × ℕ) × Unit {0}). SignsWithin n e.0.0)
 places_within n (e ∷ es) h =

@@ -78,7 +78,7 @@ then_upto Less s low first = refl
 then_upto Equal s low first = first
 then_upto Greater s low first = sym low
 
--- the places of strings that are not before q do not come before the first dot of q
+-- the dotted strings of strings that are not before q do not come before the first dot of q
 pub from_string : (q : List ℕ) (k : List ℕ × ℕ) → is_gt (slice_cmp nat_cmp q k.0) ≡ false → is_le (dotted_cmp (q, 0) k) ≡ true
 from_string q k low = then_upto (slice_cmp nat_cmp q k.0) (nat_cmp 0 k.1) low (first_dot k.1)
 

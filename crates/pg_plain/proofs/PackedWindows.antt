@@ -163,9 +163,9 @@ signs_of_row (a ∷ b ∷ c ∷ d ∷ u) h =
     ∙ ap (λ x. a ∷ x) (kept b (c ∷ d ∷ []) (head_sign b (c ∷ d ∷ u) k)
     ∙ ap (λ x. b ∷ x) (kept c (d ∷ []) (head_sign c (d ∷ u) l) ∙ ap (λ x. c ∷ x) (kept d [] (head_sign d u (tail_signs c (d ∷ u) l)))))
 
-places : (a b c d n : ℕ) → a < 65536 → b < 65536 → c < 65536 → d < 65536 → n ≡ ((a * 65536 + b) * 65536 + c) * 65536 + d
+sign_digits : (a b c d n : ℕ) → a < 65536 → b < 65536 → c < 65536 → d < 65536 → n ≡ ((a * 65536 + b) * 65536 + c) * 65536 + d
     → filter is_sign (n / 281474976710656 ∷ n / 4294967296 % 65536 ∷ n / 65536 % 65536 ∷ n % 65536 ∷ []) ≡ filter is_sign (a ∷ b ∷ c ∷ d ∷ [])
-places a b c d n ah bh ch dh is =
+sign_digits a b c d n ah bh ch dh is =
     let one : n / 281474976710656 ≡ a = omega arith in
     let two : n / 4294967296 % 65536 ≡ b = omega arith in
     let three : n / 65536 % 65536 ≡ c = omega arith in
@@ -174,7 +174,7 @@ places a b c d n ah bh ch dh is =
 
 signs_back : (u : List ℕ) → list_all is_sign u ≡ true → ((i : ℕ) → get_or u i 0 < 65536) → four_signs (four_packed u) ≡ take 4 u
 unfolding four_signs four_packed
-signs_back u h small = places (get_or u 0 0) (get_or u 1 0) (get_or u 2 0) (get_or u 3 0) _ (small 0) (small 1) (small 2) (small 3) refl ∙ signs_of_row u h
+signs_back u h small = sign_digits (get_or u 0 0) (get_or u 1 0) (get_or u 2 0) (get_or u 3 0) _ (small 0) (small 1) (small 2) (small 3) refl ∙ signs_of_row u h
 
 -- the numbers of a window have its signs
 pub window_back : (u : List ℕ) → length u ≤ 16 → list_all is_sign u ≡ true → ((i : ℕ) → get_or u i 0 < 65536)

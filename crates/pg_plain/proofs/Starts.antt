@@ -1,4 +1,4 @@
--- The entries of a word, met from string to string and from place to place.
+-- The entries of a word, met from string to string and from dot to dot.
 use Rattle.std.proofs.Common.{◌≡◌, ℕ, ◌+◌, ◌-◌, ◌<◌, ◌≤◌, Bool, true, false, not, List, length, take, drop, ap, subst, ◌∙◌, arith}
 use Rattle.std.specs.List.{list_all, list_any}
 use Rattle.pg_patterns.specs.Values.{applies}
@@ -11,7 +11,7 @@ use Rattle.pg_plain.proofs.Greatest.{Level, level_step, level_end, level_start}
 use Rattle.pg_plain.proofs.Strings.{longer_step, longer_first, longer_last, longer_out, longer_stops, later_step, later_first, later_last}
 use Rattle.std.proofs.lemmas.Bool.{not-true}
 
--- the entries whose places pass the tests were met, beside those that are left
+-- the entries whose dotted strings pass the tests were met, beside those that are left
 pub record Left {X : Type 0} (value cover : (List ℕ × ℕ) × X → ℕ) (left all : ℕ → List ℕ × ℕ → Bool) (es : List ((List ℕ × ℕ) × X)) (before now : Positions) : Type 0 where
   pub values : Level value (values_of now) left es (values_of before) all es
   pub covers : Level cover (covers_of now) left es (covers_of before) all es

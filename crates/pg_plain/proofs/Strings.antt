@@ -1,4 +1,4 @@
--- The strings that stand in a word from a place on, and the places of a word.
+-- The strings that stand in a word from a position on, and the dotted strings of a word.
 use Rattle.std.proofs.Common.{◌≡◌, ℕ, ◌+◌, ◌-◌, ◌<◌, ◌≤◌, true, false, not, ◌||◌, ⊎_elim, List, length, take, drop, nat_le, nat_eq, sym, ap, subst, ◌∙◌, arith}
 use Rattle.std.proofs.lemmas.Bool.{leb-true, le-leb, eqb-true, eq-eqb, cases_lt, or_cases, and_from, not_from_false, or_left, or_right}
 use Rattle.std.proofs.lemmas.List.{length-take-le, length-drop, take-take}

@@ -6,10 +6,10 @@ ghost use Rattle.std.specs.Cmp.Lexicographic.{slice_cmp};
 ghost use Rattle.std.specs.FinMap.Entries.{put, is_sorted};
 ghost use Rattle.std.specs.Ordering.{nat_cmp};
 ghost use Rattle.pg_types.specs.Inside.Counts.{AreSmall, IsNextAbove, counted_sums, sums_of, with_weight, is_counted};
-ghost use Rattle.pg_types.specs.Inside.NumberedWindows.{AreInOrder, AreNumbered, HasNumber};
+ghost use Rattle.pg_types.specs.Inside.NumberedWindows.{AreInOrder, AreNumbered, HasNumber, no_counts, with_counted};
 ghost use Rattle.pg_types.specs.Inside.Signs.{is_sign};
 ghost use Rattle.pg_types.specs.declared.limits.TheConstants.{LENGTH_MAX};
-ghost use Rattle.pg_plain.specs.Inside.Counted.{counted_more, tally_at};
+ghost use Rattle.pg_plain.specs.Inside.Counted.{tally_at};
 
 use crate::keys::WindowKey;
 use pg_types::{Cursor, Sign, add_weight};
@@ -31,9 +31,9 @@ pub struct CountedWindows {
 }
 
 impl Model for CountedWindows {
-    ghost use Rattle.pg_plain.specs.Inside.Counted.{Counted};
+    ghost use Rattle.pg_types.specs.Inside.NumberedWindows.{WindowCounts};
 
-    ghost Value = { Counted };
+    ghost Value = { WindowCounts };
 
     ghost use Rattle.pg_plain.specs.Inside.Counted.{counted_of, AreCounted};
 
@@ -45,7 +45,7 @@ impl Model for CountedWindows {
 impl CountedWindows {
     /// No window is counted.
     pub fn new(alloc: Global) -> CountedWindows
-        ensures { result ≡ record { counts = []; windows = [] } }
+        ensures { result ≡ no_counts }
     {
         CountedWindows {
             numbers: BTreeMap::new(alloc),
@@ -56,7 +56,7 @@ impl CountedWindows {
 
     /// No window is counted any more.
     pub fn clear(&mut self)
-        ensures { self.new ≡ record { counts = []; windows = [] } }
+        ensures { self.new ≡ no_counts }
     {
         self.numbers.clear();
         self.tallies.clear();
@@ -78,7 +78,7 @@ impl CountedWindows {
         requires len { length window.now ≤ LENGTH_MAX }
         requires signs { list_all is_sign window.now ≡ true }
         requires small { AreSmall (with_weight (sums_of self.old.counts window.now) good weight) }
-        ensures ok { OnOk result (self.new ≡ counted_more self.old window.now good weight) }
+        ensures ok { OnOk result (self.new ≡ with_counted self.old window.now good weight) }
         ensures number { IfOk result (λ number. HasNumber self.new.windows window.now number) }
         ensures there { is_counted self.old.counts window.now ≡ true → IsOk result }
         ensures err { OnErr result (self.new ≡ self.old) }

@@ -13,7 +13,7 @@ use std::marker::Model;
 #[derive(Drop)]
 pub struct DottedKey {
     head: u64,
-    place: DottedSigns,
+    dotted: DottedSigns,
 }
 
 impl Model for DottedKey {
@@ -22,9 +22,9 @@ impl Model for DottedKey {
 
     ghost Value = { List ℕ × ℕ };
 
-    ghost view = { λ k. k.place };
+    ghost view = { λ k. k.dotted };
 
-    ghost invariant = { λ k. IsHead k.head k.place.0 };
+    ghost invariant = { λ k. IsHead k.head k.dotted.0 };
 }
 
 impl DottedKey {
@@ -35,7 +35,7 @@ impl DottedKey {
     {
         DottedKey {
             head: packed_from(signs, 0),
-            place: DottedSigns::new(signs, dot),
+            dotted: DottedSigns::new(signs, dot),
         }
     }
 
@@ -44,14 +44,14 @@ impl DottedKey {
         ensures value { result.now ≡ self.now.0 }
         ensures few { length result.now ≤ PATTERN_SIGNS_MAX }
     {
-        self.place.signs()
+        self.dotted.signs()
     }
 
     /// How many signs stand before the dot.
     pub fn dot(&self) -> u8
         ensures { result ≡ self.now.1 }
     {
-        self.place.dot()
+        self.dotted.dot()
     }
 }
 
@@ -63,7 +63,7 @@ impl PartialEq for DottedKey {
     ghost laws = { dotted_partial_equiv };
 
     fn eq(&self, other: &Self) -> bool {
-        self.place == other.place
+        self.dotted == other.dotted
     }
 }
 
@@ -104,6 +104,6 @@ impl Ord for DottedKey {
         if self.head != other.head {
             return self.head.cmp(&other.head);
         }
-        self.place.cmp(&other.place)
+        self.dotted.cmp(&other.dotted)
     }
 }

@@ -31,7 +31,7 @@ pub fn raise_in(
     ensures err { OnErr result (map.new.entries ≡ map.old.entries) }
     ensures kept { IsPatternMap map.old.entries → is_entry (dotted, value) ≡ true
         → IsPatternMap map.new.entries }
-    ensures places { (good : List ℕ × ℕ → Bool) → list_all (λ e. good e.0) map.old.entries ≡ true
+    ensures dotted { (good : List ℕ × ℕ → Bool) → list_all (λ e. good e.0) map.old.entries ≡ true
         → good dotted
         ≡ true → list_all (λ e. good e.0) map.new.entries ≡ true }
 {
@@ -45,7 +45,7 @@ pub fn put_in(set: &mut BTreeMap<DottedKey, ()>, dotted: DottedKey) -> Result<()
     ensures ok { OnOk result (set.new.entries ≡ put dotted_cmp dotted (tt {0}) set.old.entries) }
     ensures err { OnErr result (set.new.entries ≡ set.old.entries) }
     ensures sorted { T (is_sorted dotted_cmp set.new.entries) }
-    ensures places { (good : List ℕ × ℕ → Bool) → list_all (λ e. good e.0) set.old.entries ≡ true
+    ensures dotted { (good : List ℕ × ℕ → Bool) → list_all (λ e. good e.0) set.old.entries ≡ true
         → good dotted
         ≡ true → list_all (λ e. good e.0) set.new.entries ≡ true }
 {

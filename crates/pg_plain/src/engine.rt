@@ -127,29 +127,29 @@ impl Engine for PlainEngine {
 
     fn choose(&mut self, at: &Cursor) -> Result<(), AllocError> {
         let signs = at.signs();
-        let place = DottedKey::new(signs, self.pass.dot);
-        raise_in(&mut self.patterns, place, self.pass.level)?;
+        let dotted = DottedKey::new(signs, self.pass.dot);
+        raise_in(&mut self.patterns, dotted, self.pass.level)?;
         Ok(())
     }
 
     fn give_up(&mut self, at: &Cursor) -> Result<(), AllocError> {
         let signs = at.signs();
-        let place = DottedKey::new(signs, self.pass.dot);
-        put_in(&mut self.hopeless, place)?;
+        let dotted = DottedKey::new(signs, self.pass.dot);
+        put_in(&mut self.hopeless, dotted)?;
         Ok(())
     }
 
     fn choose_numbered(&mut self, number: u32) -> Result<(), AllocError> {
         let signs = self.counts.window(number);
-        let place = DottedKey::new(signs, self.pass.dot);
-        raise_in(&mut self.patterns, place, self.pass.level)?;
+        let dotted = DottedKey::new(signs, self.pass.dot);
+        raise_in(&mut self.patterns, dotted, self.pass.level)?;
         Ok(())
     }
 
     fn give_up_numbered(&mut self, number: u32) -> Result<(), AllocError> {
         let signs = self.counts.window(number);
-        let place = DottedKey::new(signs, self.pass.dot);
-        put_in(&mut self.hopeless, place)?;
+        let dotted = DottedKey::new(signs, self.pass.dot);
+        put_in(&mut self.hopeless, dotted)?;
         Ok(())
     }
 

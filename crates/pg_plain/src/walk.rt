@@ -92,30 +92,30 @@ fn raise_by_string<F: DottedEntry>(
         ≡ false }
 {
     let first = DottedKey::new(q, 0);
-    for (place, entry) in map.range((Bound::Included(&first), Bound::Unbounded)) {
-        if place.signs() != q {
-            return place.signs().starts_with(q);
+    for (dotted, entry) in map.range((Bound::Included(&first), Bound::Unbounded)) {
+        if dotted.signs() != q {
+            return dotted.signs().starts_with(q);
         }
-        raise_by_entry(place, entry, i, pass, out);
+        raise_by_entry(dotted, entry, i, pass, out);
     }
     false
 }
 
 /// Raises them by an entry whose signs stand in the word from `i` on.
 fn raise_by_entry<F: DottedEntry>(
-    place: &DottedKey,
+    dotted: &DottedKey,
     entry: &F,
     i: usize,
     pass: &Pass,
     out: &mut WordState,
 )
     requires { i ≤ WORD_LETTERS_MAX + 2 }
-    ensures values { RaisesAt (i + place.now.1) (F.given entry.now)
+    ensures values { RaisesAt (i + dotted.now.1) (F.given entry.now)
         (values_of out.old) (values_of out.new) }
-    ensures covers { RaisesAt (i + place.now.1)
-        (entry_cover F.covers_at pass.now (place.now, entry.now))
+    ensures covers { RaisesAt (i + dotted.now.1)
+        (entry_cover F.covers_at pass.now (dotted.now, entry.now))
         (covers_of out.old) (covers_of out.new) }
 {
-    let covered = entry.covers(pass.level) && pass.has_within(place.signs().len(), place.dot());
-    out.raise(i + usize::from(place.dot()), entry.value(), covered);
+    let covered = entry.covers(pass.level) && pass.has_within(dotted.signs().len(), dotted.dot());
+    out.raise(i + usize::from(dotted.dot()), entry.value(), covered);
 }

@@ -6,7 +6,7 @@ use Rattle.std.proofs.lemmas.List.FromFn.{map-range_with_len_more, get_or-range_
 use Rattle.std.proofs.lemmas.List.Elements.{All-map}
 use Rattle.pg_types.specs.declared.limits.TheConstants.{FILE_MAX}
 use Rattle.pg_dict.specs.Word.{Word}
-use Rattle.pg_dict.proofs.Parts.{drop_word}
+use Rattle.pg_dict.proofs.WordStore.Parts.{drop_word}
 use Rattle.pg_select.specs.CountedPositions.{Minima}
 use Rattle.pg_prune.specs.declared.trail.Start.{Start}
 use Rattle.pg_prune.specs.Inside.Trails.{signs_of, reach_count, start_at, starts_in, starts_from, IsStart}

@@ -9,9 +9,11 @@ ghost use Rattle.pg_trie.specs.Inside.IsTrie.{IsTrie};
 ghost use Rattle.pg_trie.specs.Inside.Maps.{maps_of, entries_of, as_value};
 ghost use Rattle.pg_trie.specs.Inside.Strings.{AreStrings};
 
-use crate::head::Head;
+mod strings;
+
+use crate::copy::strings::{strings, value_of};
 use crate::hopeless::HOPELESS;
-use crate::strings::{strings, value_of};
+use crate::lists::head::Head;
 use pg_cells::Cells;
 use pg_outputs::Outputs;
 use pg_patterns::DottedSigns;

@@ -3,13 +3,9 @@
 #![tactic(auto)]
 
 mod copy;
-mod head;
+mod deleting;
 mod hopeless;
 mod lists;
-mod prune;
-mod raise;
-mod renew;
-mod strings;
 mod trie;
 
 pub use hopeless::HOPELESS;

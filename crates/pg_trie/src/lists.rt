@@ -4,14 +4,17 @@ ghost use Rattle.pg_outputs.specs.Lists.{list_of};
 ghost use Rattle.pg_outputs.specs.Inside.Heads.{Grows};
 ghost use Rattle.pg_trie.specs.Inside.Lists.{list_with};
 
-use crate::head::{Head, in_four_bytes};
-use crate::raise::raised;
+pub mod head;
+mod raise;
+
+use crate::lists::head::{Head, in_four_bytes};
+use crate::lists::raise::raised;
 use pg_outputs::Outputs;
 use std::alloc::AllocError;
 use std::marker::Model;
 
 /// So many raised heads are kept.
-const PLACES: usize = 64;
+const SLOTS: usize = 64;
 
 /// A head, and that of its list with a value at a dot. The value 0 says that there is none.
 #[derive(Clone, Copy)]
@@ -30,11 +33,11 @@ pub struct Raised {
 /// The strings that are entered in a pass get one value at one dot, and most of their lists are
 /// equal to one of few. So a head that was raised is kept beside the new one, and the next string
 /// with this list gets its head without a look at the records. Heads that differ by a multiple of
-/// 64 share one place.
+/// 64 share one slot.
 #[derive(Drop)]
 pub struct Lists {
     outputs: Outputs,
-    raised: [Raised; PLACES],
+    raised: [Raised; SLOTS],
 }
 
 impl Model for Lists {
@@ -62,7 +65,7 @@ impl Lists {
         };
         Lists {
             outputs,
-            raised: [none; PLACES],
+            raised: [none; SLOTS],
         }
     }
 
@@ -83,13 +86,13 @@ impl Lists {
         ensures inside { IfOk result (λ h. h ≤ length self.new) }
         ensures grows { Grows self.old self.new }
     {
-        let place = head as usize % PLACES;
-        let last = self.raised[place];
+        let slot = head as usize % SLOTS;
+        let last = self.raised[slot];
         if last.value == value && last.dot == dot && last.before == head {
             return Ok(last.after);
         }
         let after = raised(&mut self.outputs, head, value, dot)?;
-        self.raised[place] = Raised {
+        self.raised[slot] = Raised {
             value,
             dot,
             before: head,

@@ -14,10 +14,10 @@ ghost use Rattle.pg_trie.specs.Inside.Lists.{outputs_at};
 ghost use Rattle.pg_trie.specs.Inside.Maps.{AreKept};
 
 use crate::copy::entries;
-use crate::head::Head;
+use crate::deleting::prune::prune;
+use crate::deleting::renew::{fresh_heads, renew};
+use crate::lists::head::Head;
 use crate::lists::{Lists, raised_head};
-use crate::prune::prune;
-use crate::renew::{fresh_heads, renew};
 use pg_cells::Cells;
 use pg_outputs::Outputs;
 use pg_patterns::PatternSet;
@@ -84,7 +84,7 @@ impl PatternTrie {
               families = enter self.old.signs self.old.families signs.now;
               records = self.new.records;
             }) }
-        ensures marked { OnOk result (value ≡ HOPELESS →
+        ensures hopeless { OnOk result (value ≡ HOPELESS →
             self.new ≡ record self.old {
               hopeless = put dotted_cmp (signs.now, dot) (tt {0}) self.old.hopeless;
               families = enter self.old.signs self.old.families signs.now;

@@ -1,5 +1,5 @@
 -- A count trie as its counts and windows, and how these stand in its cells.
-use Rattle.std.specs.Prelude.{◌≡◌, ℕ, ◌≤◌, Bool, true, T, List, [], map, length, get_or, unwrap_or, Option, None}
+use Rattle.std.specs.Prelude.{◌≡◌, ℕ, ◌≤◌, true, T, List, [], map, length, get_or, unwrap_or, Option, None}
 use Rattle.std.specs.List.{filter_map}
 use Rattle.std.specs.Option.{option_map}
 use Rattle.std.specs.Ordering.{nat_cmp}
@@ -7,34 +7,25 @@ use Rattle.std.specs.Cmp.Lexicographic.{slice_cmp}
 use Rattle.std.specs.FinMap.Entries.{find, is_sorted}
 use Rattle.pg_types.specs.declared.limits.TheConstants.{LENGTH_MAX}
 use Rattle.pg_cells.specs.Inside.ValuedFamilies.{ValuedFamilies}
-use Rattle.pg_types.specs.Inside.Counts.{Counts, SignsWithin, is_counted, with_count}
-use Rattle.pg_types.specs.Inside.NumberedWindows.{Windows, with_window}
+use Rattle.pg_types.specs.Inside.Counts.{Counts, SignsWithin, is_counted}
+use Rattle.pg_types.specs.Inside.NumberedWindows.{Windows, WindowCounts}
 use Rattle.pg_types.specs.Inside.NumberedStrings.{Numbers}
 
--- what a pass has counted: the counts of its windows, and the windows in the order of their numbers
+-- a count trie: the greatest sign, how many signs a window has, and what the pass has counted
 pub record Counting : Type 0 where
   pub signs : ℕ
   pub len : ℕ
-  pub counts : Counts
-  pub windows : Windows
+  pub counted : WindowCounts
 
 -- what is always true of a count trie
 pub record IsCounting (c : Counting) : Type 0 where
   pub some : 1 ≤ c.len
   pub len : c.len ≤ LENGTH_MAX
   -- the windows stand in the order of signs
-  pub sorted : T (is_sorted (slice_cmp nat_cmp) c.counts)
+  pub sorted : T (is_sorted (slice_cmp nat_cmp) c.counted.counts)
   -- each has that length, and signs of the table
-  pub windows : (u : List ℕ) → is_counted c.counts u ≡ true → length u ≡ c.len
-  pub signs : (u : List ℕ) → is_counted c.counts u ≡ true → SignsWithin c.signs u
-
--- a window was counted: its sums have the weight, and it is among the windows
-abbrev pub counted_more : Counting → List ℕ → Bool → ℕ → Counting
-counted_more c u good weight =
-    record c {
-      counts = with_count c.counts u good weight;
-      windows = with_window c.windows c.counts u;
-    }
+  pub windows : (u : List ℕ) → is_counted c.counted.counts u ≡ true → length u ≡ c.len
+  pub signs : (u : List ℕ) → is_counted c.counted.counts u ≡ true → SignsWithin c.signs u
 
 -- the number of a string, and its sums
 abbrev pub Tally : Type 0
@@ -82,6 +73,8 @@ counting_of cells windows len =
     record {
       signs = cells.signs;
       len = len;
-      counts = map (λ e. (e.0, sums_seen e.1)) (wholes windows cells.values);
-      windows = windows;
+      counted = record {
+        counts = map (λ e. (e.0, sums_seen e.1)) (wholes windows cells.values);
+        windows = windows;
+      };
     }

@@ -8,8 +8,8 @@ use pg_types::Sign;
 impl CountTrie {
     /// The signs of the window with the number, lent from the list of windows.
     pub fn window(&self, number: u32) -> &[Sign]
-        requires { number < length self.now.windows }
-        ensures { HasNumber self.now.windows result.now number }
+        requires { number < length self.now.counted.windows }
+        ensures { HasNumber self.now.counted.windows result.now number }
     {
         self.windows.get(number)
     }

@@ -1,7 +1,7 @@
 -- Words from their signs, and what every word of a dictionary keeps.
 use Rattle.std.specs.Prelude.{◌≡◌, ℕ, ◌+◌, ◌-◌, ◌<◌, ◌≤◌, nat_le, Bool, true, false, List, map, length, slice_get, slice_range, Some, All}
 use Rattle.pg_types.specs.declared.limits.TheConstants.{EDGE, WEIGHT_MAX, WORD_LETTERS_MAX}
-use Rattle.pg_dict.specs.Inside.PositionedSigns.{PositionedSign}
+use Rattle.pg_dict.specs.Inside.Lines.PositionedSigns.{PositionedSign}
 use Rattle.pg_dict.specs.Word.{Word}
 
 -- a word of this weight from its signs, each with the position before it

@@ -4,7 +4,7 @@ use Rattle.std.specs.List.{list_all, flat_map}
 use Rattle.pg_types.specs.declared.limits.TheConstants.{FILE_MAX}
 use Rattle.pg_dict.specs.Word.{Word}
 use Rattle.pg_dict.specs.Inside.SoundWords.{IsWord, is_weight}
-use Rattle.pg_dict.specs.Inside.PositionedSigns.{Columns}
+use Rattle.pg_dict.specs.Inside.Lines.PositionedSigns.{Columns}
 use Rattle.pg_dict.specs.Inside.Sites.{all_sites}
 use Rattle.pg_dict.specs.declared.sites.Site.{Site}
 use Rattle.pg_dict.specs.declared.store.Store.{Store}

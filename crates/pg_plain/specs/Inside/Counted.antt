@@ -1,33 +1,19 @@
 -- The counted windows, and how they stand in a map from windows to their numbers, in a list of sums
 -- by number and in a list of windows by number.
-use Rattle.std.specs.Prelude.{◌≡◌, ℕ, ◌≤◌, Bool, T, List, map, length, slice_index_or}
+use Rattle.std.specs.Prelude.{◌≡◌, ℕ, ◌≤◌, T, List, map, length, slice_index_or}
 use Rattle.std.specs.Ordering.{nat_cmp}
 use Rattle.std.specs.Cmp.Lexicographic.{slice_cmp}
 use Rattle.std.specs.FinMap.Entries.{is_sorted}
-use Rattle.pg_types.specs.Inside.Counts.{Counts, with_count}
-use Rattle.pg_types.specs.Inside.NumberedWindows.{Windows, with_window}
+use Rattle.pg_types.specs.Inside.NumberedWindows.{Windows, WindowCounts}
 use Rattle.pg_types.specs.Inside.NumberedStrings.{Numbers, AreNumbers, by_number}
 use Rattle.pg_plain.specs.declared.counts.TheConstants.{NUMBERS_MAX}
-
--- the windows with their sums, and the windows in the order of their numbers
-pub record Counted : Type 0 where
-  pub counts : Counts
-  pub windows : Windows
-
--- a window was counted: its sums have the weight, and it is among the windows
-abbrev pub counted_more : Counted → List ℕ → Bool → ℕ → Counted
-counted_more c u good weight =
-    record {
-      counts = with_count c.counts u good weight;
-      windows = with_window c.windows c.counts u;
-    }
 
 -- the sums by a number
 abbrev pub tally_at : List (ℕ × ℕ) → ℕ → ℕ × ℕ
 tally_at tallies n = slice_index_or tallies n (0, 0)
 
 -- the windows by their numbers and the sums by number
-abbrev pub counted_of : Numbers → List (ℕ × ℕ) → Counted
+abbrev pub counted_of : Numbers → List (ℕ × ℕ) → WindowCounts
 counted_of numbers tallies =
     record { counts = map (λ e. (e.0, tally_at tallies e.1)) numbers; windows = by_number numbers }
 

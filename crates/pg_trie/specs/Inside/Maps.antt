@@ -64,4 +64,4 @@ pub record AreKept (m : Maps) : Type 0 where
   pub patterns : IsPatternMap m.patterns
   pub known : SignsUpTo m.signs m.patterns
   pub sorted : T (is_sorted dotted_cmp m.hopeless)
-  pub places : list_all (λ e. is_dotted m.signs e.0) m.hopeless ≡ true
+  pub dotted : list_all (λ e. is_dotted m.signs e.0) m.hopeless ≡ true

@@ -1,7 +1,7 @@
 -- The windows that are counted in a pass, in the order in which they were first counted. A window's
 -- number is its index among them, from 0.
-use Rattle.std.specs.Prelude.{◌≡◌, ℕ, true, if◌then◌else◌, List, [], ◌∷◌, ◌++◌, length, map, slice_get, Some}
-use Rattle.pg_types.specs.Inside.Counts.{Counts, is_counted}
+use Rattle.std.specs.Prelude.{◌≡◌, ℕ, Bool, true, if◌then◌else◌, List, [], ◌∷◌, ◌++◌, length, map, slice_get, Some}
+use Rattle.pg_types.specs.Inside.Counts.{Counts, is_counted, with_count}
 
 -- the windows that a pass counts, in the order in which they were first counted
 abbrev pub Windows : Type 0
@@ -10,6 +10,23 @@ Windows = List (List ℕ)
 -- the windows after one is counted: it stands at the end where it was not counted before
 abbrev pub with_window : Windows → Counts → List ℕ → Windows
 with_window windows counts u = if is_counted counts u then windows else windows ++ u ∷ []
+
+-- what a pass has counted: the counts of its windows, and the windows in the order of their numbers
+pub record WindowCounts : Type 0 where
+  pub counts : Counts
+  pub windows : Windows
+
+-- no window is counted
+abbrev pub no_counts : WindowCounts
+no_counts = record { counts = []; windows = [] }
+
+-- a window is counted: its sums have one weight more, and it is among the windows
+abbrev pub with_counted : WindowCounts → List ℕ → Bool → ℕ → WindowCounts
+with_counted c u good weight =
+    record {
+      counts = with_count c.counts u good weight;
+      windows = with_window c.windows c.counts u;
+    }
 
 -- the window has the number
 abbrev pub HasNumber : Windows → List ℕ → ℕ → Type 0

@@ -6,5 +6,5 @@ abbrev pub invariant-loop-window : goal.invariant-loop-window
 invariant-loop-window l = record {
   signs : l.counts.signs ≡ 4;
   len : l.counts.len ≡ 2;
-  room : (u : List ℕ) → ((sums_of l.counts.counts u).0 ≤ 9 * l.window-index) × ((sums_of l.counts.counts u).1 ≤ 9 * l.window-index);
+  room : (u : List ℕ) → ((sums_of l.counts.counted.counts u).0 ≤ 9 * l.window-index) × ((sums_of l.counts.counted.counts u).1 ≤ 9 * l.window-index);
 }

@@ -1,8 +1,8 @@
 use Rattle.std.proofs.Common.{[], ◌∷◌, ◌++◌, take, get_or, arith}
 use Rattle.std.proofs.lemmas.List.{length-take-le}
-use Rattle.pg_count.proofs.Leaves.{added_leaves, added_keeps}
-use Rattle.pg_count.proofs.Parting.{added_free}
-use Rattle.pg_count.proofs.Ways.{ends_none}
+use Rattle.pg_count.proofs.LeafLaws.Leaves.{added_leaves, added_keeps}
+use Rattle.pg_count.proofs.LeafLaws.Parting.{added_free}
+use Rattle.pg_count.proofs.WalkLaws.Ways.{ends_none}
 use Rattle.pg_count.proofs.leaf.add_next.Goals as goal
 
 pub add-requires : goal.add-requires

@@ -6,8 +6,8 @@ use Rattle.std.proofs.lemmas.List.{length_push}
 use Rattle.pg_types.specs.Inside.Counts.{SignsWithin}
 use Rattle.pg_count.specs.Inside.Leaves.{AreLeaves, Keeps}
 use Rattle.pg_count.specs.Inside.Listed.{Listed}
-use Rattle.pg_count.proofs.Listing.{put_back}
-use Rattle.pg_count.proofs.Parting.{keeps_sets, new_leaves, new_sets}
+use Rattle.pg_count.proofs.WalkLaws.Listing.{put_back}
+use Rattle.pg_count.proofs.LeafLaws.Parting.{keeps_sets, new_leaves, new_sets}
 use Rattle.pg_count.proofs.leaf.count_new.Goals as goal
 
 pub returns-in-Ok-clause-leaves : goal.returns-in-Ok-clause-leaves

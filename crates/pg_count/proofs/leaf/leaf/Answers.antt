@@ -1,8 +1,8 @@
 use Rattle.std.proofs.Common.{take, refl, sym, ◌∙◌, subst}
 use Rattle.std.proofs.lemmas.Result.{err_from_is_err_and}
 use Rattle.pg_types.specs.Inside.Counts.{SignsWithin}
-use Rattle.pg_count.proofs.Parting.{keeps_none, keeps_on, way_free, way_goes_on}
-use Rattle.pg_count.proofs.Walking.{childless_last, family_below}
+use Rattle.pg_count.proofs.LeafLaws.Parting.{keeps_none, keeps_on, way_free, way_goes_on}
+use Rattle.pg_count.proofs.WalkLaws.Walking.{childless_last, family_below}
 use Rattle.pg_count.proofs.leaf.leaf.Goals as goal
 
 pub number_and_sums-requires : goal.number_and_sums-requires

@@ -1,4 +1,4 @@
-use Rattle.pg_dict.proofs.LineLaws.{file_is_read}
+use Rattle.pg_dict.proofs.LineReading.LineLaws.{file_is_read}
 use Rattle.pg_dict.proofs.laws.files_are_read.Goals as goal
 
 pub returns : goal.returns

@@ -1,4 +1,4 @@
-use Rattle.pg_dict.proofs.LineLaws.{items_line}
+use Rattle.pg_dict.proofs.LineReading.LineLaws.{items_line}
 use Rattle.pg_dict.proofs.laws.items_are_lines.Goals as goal
 
 pub returns : goal.returns

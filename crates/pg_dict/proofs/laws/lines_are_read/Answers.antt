@@ -1,4 +1,4 @@
-use Rattle.pg_dict.proofs.LineLaws.{line_is_read}
+use Rattle.pg_dict.proofs.LineReading.LineLaws.{line_is_read}
 use Rattle.pg_dict.proofs.laws.lines_are_read.Goals as goal
 
 pub returns : goal.returns

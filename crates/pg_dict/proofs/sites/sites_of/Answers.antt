@@ -8,8 +8,8 @@ use Rattle.pg_dict.specs.Word.{Word}
 use Rattle.pg_dict.specs.Inside.Sites.{all_sites}
 use Rattle.pg_dict.specs.Inside.Store.{columns_of, word_at, stored_words, IsSound}
 use Rattle.pg_dict.specs.Inside.Lent.{lent_word}
-use Rattle.pg_dict.proofs.Told.{word_in, word_stored, word_within}
-use Rattle.pg_dict.proofs.SiteRows.{word_added, words_added}
+use Rattle.pg_dict.proofs.WordStore.Told.{word_in, word_stored, word_within}
+use Rattle.pg_dict.proofs.WordStore.SiteRows.{word_added, words_added}
 use Rattle.pg_dict.proofs.sites.sites_of.Goals as goal
 use Rattle.pg_dict.proofs.sites.sites_of.Goals.{After-lend}
 

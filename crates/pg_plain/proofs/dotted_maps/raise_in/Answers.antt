@@ -3,7 +3,7 @@ use Rattle.std.specs.List.{list_all}
 use Rattle.pg_patterns.specs.DottedSigns.{dotted_cmp}
 use Rattle.pg_patterns.specs.Inside.PatternMaps.{is_entry}
 use Rattle.pg_types.proofs.EntryLists.{sorted_from}
-use Rattle.pg_plain.proofs.Entered.{raised_in, entries_raise, places_in}
+use Rattle.pg_plain.proofs.Entered.{raised_in, entries_raise, dotted_in}
 use Rattle.pg_plain.proofs.dotted_maps.raise_in.Goals as goal
 
 pub returns-clause-ok : goal.returns-clause-ok
@@ -19,5 +19,5 @@ returns-clause-kept c = λ old new. record {
       (entries_raise c.args.map.now.entries c.args.dotted c.args.value old.sound new);
 }
 
-pub returns-clause-places : goal.returns-clause-places
-returns-clause-places c = λ good all new. places_in good c.args.map.now.entries c.insert.new.self.entries c.args.dotted c.max.result c.in_ok-insert.ensures.entries all new
+pub returns-clause-dotted : goal.returns-clause-dotted
+returns-clause-dotted c = λ good all new. dotted_in good c.args.map.now.entries c.insert.new.self.entries c.args.dotted c.max.result c.in_ok-insert.ensures.entries all new

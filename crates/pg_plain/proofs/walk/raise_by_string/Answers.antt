@@ -8,39 +8,39 @@ use Rattle.pg_plain.proofs.OneString.{string_begins, string_steps, string_stops,
 use Rattle.pg_plain.proofs.walk.raise_by_string.Goals as goal
 use Rattle.std.proofs.lemmas.Bool.{not-true, not-false}
 
-pub loop-place-init : goal.loop-place-init
-loop-place-init g c =
+pub loop-dotted-init : goal.loop-dotted-init
+loop-dotted-init g c =
     string_begins (entry_value g.F.DottedEntry.given) (entry_cover g.F.DottedEntry.covers_at c.args.pass.now) c.args.q.now c.args.i c.args.map.now.entries
-    c.new-first.result c.into_iter-place-iterator.result c.args.out.now c.new-first.ensures
-    (sorted_from dotted_cmp c.args.map.now.entries c.range-place-items.ensures.ordered) (c.into_iter-place-iterator.ensures.into_iter_gives ∙ c.range-place-items.ensures.between tt)
+    c.new-first.result c.into_iter-dotted-iterator.result c.args.out.now c.new-first.ensures
+    (sorted_from dotted_cmp c.args.map.now.entries c.range-dotted-items.ensures.ordered) (c.into_iter-dotted-iterator.ensures.into_iter_gives ∙ c.range-dotted-items.ensures.between tt)
 
 pub returns-then-ne-clause-values : goal.returns-then-ne-clause-values
 returns-then-ne-clause-values g c =
-    let other : pointwise nat_eq c.in-Some.place.now.0 c.args.q.now ≡ false = subst (λ s. pointwise nat_eq s c.args.q.now ≡ false) c.signs.ensures.value
+    let other : pointwise nat_eq c.in-Some.dotted.now.0 c.args.q.now ≡ false = subst (λ s. pointwise nat_eq s c.args.q.now ≡ false) c.signs.ensures.value
     (not-true _ (sym c.ne.ensures ∙ c.if-ne.true)) in
     (string_stops (entry_value g.F.DottedEntry.given) (entry_cover g.F.DottedEntry.covers_at c.args.pass.now) c.args.q.now c.args.i c.args.map.now.entries
-    (c.in-Some.place.now, c.in-Some.entry.now) c.next.new.self c.loop-place.place-iterator c.args.out.now c.loop-place.out c.in-Some.ensures.steps c.loop-place.invariant other).values
+    (c.in-Some.dotted.now, c.in-Some.entry.now) c.next.new.self c.loop-dotted.dotted-iterator c.args.out.now c.loop-dotted.out c.in-Some.ensures.steps c.loop-dotted.invariant other).values
 
 pub returns-then-ne-clause-covers : goal.returns-then-ne-clause-covers
 returns-then-ne-clause-covers g c =
-    let other : pointwise nat_eq c.in-Some.place.now.0 c.args.q.now ≡ false = subst (λ s. pointwise nat_eq s c.args.q.now ≡ false) c.signs.ensures.value
+    let other : pointwise nat_eq c.in-Some.dotted.now.0 c.args.q.now ≡ false = subst (λ s. pointwise nat_eq s c.args.q.now ≡ false) c.signs.ensures.value
     (not-true _ (sym c.ne.ensures ∙ c.if-ne.true)) in
     (string_stops (entry_value g.F.DottedEntry.given) (entry_cover g.F.DottedEntry.covers_at c.args.pass.now) c.args.q.now c.args.i c.args.map.now.entries
-    (c.in-Some.place.now, c.in-Some.entry.now) c.next.new.self c.loop-place.place-iterator c.args.out.now c.loop-place.out c.in-Some.ensures.steps c.loop-place.invariant other).covers
+    (c.in-Some.dotted.now, c.in-Some.entry.now) c.next.new.self c.loop-dotted.dotted-iterator c.args.out.now c.loop-dotted.out c.in-Some.ensures.steps c.loop-dotted.invariant other).covers
 
 pub returns-then-ne-clause-ends : goal.returns-then-ne-clause-ends
 returns-then-ne-clause-ends g c =
     λ stops.
-    let apart : starts_with nat_eq c.in-Some.place.now.0 c.args.q.now ≡ false =
+    let apart : starts_with nat_eq c.in-Some.dotted.now.0 c.args.q.now ≡ false =
     subst (λ s. starts_with nat_eq s c.args.q.now ≡ false) c.signs-then-ne.ensures.value (sym c.starts_with.ensures.value ∙ stops) in
     string_stops_ends (entry_value g.F.DottedEntry.given) (entry_cover g.F.DottedEntry.covers_at c.args.pass.now) c.args.q.now c.args.i c.args.map.now.entries
-    (c.in-Some.place.now, c.in-Some.entry.now) c.next.new.self c.loop-place.place-iterator c.args.out.now c.loop-place.out c.in-Some.ensures.steps c.loop-place.invariant apart
+    (c.in-Some.dotted.now, c.in-Some.entry.now) c.next.new.self c.loop-dotted.dotted-iterator c.args.out.now c.loop-dotted.out c.in-Some.ensures.steps c.loop-dotted.invariant apart
 
-pub loop-place-preserved : goal.loop-place-preserved
-loop-place-preserved g c =
-    let same : pointwise nat_eq c.in-Some.place.now.0 c.args.q.now ≡ true = subst (λ s. pointwise nat_eq s c.args.q.now ≡ true) c.signs.ensures.value
+pub loop-dotted-preserved : goal.loop-dotted-preserved
+loop-dotted-preserved g c =
+    let same : pointwise nat_eq c.in-Some.dotted.now.0 c.args.q.now ≡ true = subst (λ s. pointwise nat_eq s c.args.q.now ≡ true) c.signs.ensures.value
     (not-false _ (sym c.ne.ensures ∙ c.if-ne.false)) in
     string_steps (entry_value g.F.DottedEntry.given) (entry_cover g.F.DottedEntry.covers_at c.args.pass.now) c.args.q.now c.args.i c.args.map.now.entries
-    (c.in-Some.place.now, c.in-Some.entry.now) c.next.new.self c.loop-place.place-iterator c.args.out.now c.loop-place.out c.raise_by_entry.new.out
-    c.in-Some.ensures.steps c.loop-place.invariant same
+    (c.in-Some.dotted.now, c.in-Some.entry.now) c.next.new.self c.loop-dotted.dotted-iterator c.args.out.now c.loop-dotted.out c.raise_by_entry.new.out
+    c.in-Some.ensures.steps c.loop-dotted.invariant same
     c.raise_by_entry.ensures.values c.raise_by_entry.ensures.covers

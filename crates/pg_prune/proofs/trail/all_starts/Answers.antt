@@ -2,7 +2,7 @@ use Rattle.std.proofs.Common.{◌≡◌, ◌≤◌, ◌+◌, ◌-◌, ◌++◌, 
 use Rattle.std.proofs.lemmas.List.Elements.{All-append, All-same}
 use Rattle.pg_dict.specs.Inside.Lent.{lent_word}
 use Rattle.pg_dict.specs.Inside.SoundWords.{letter_count}
-use Rattle.pg_dict.proofs.Parts.{letters_from}
+use Rattle.pg_dict.proofs.WordStore.Parts.{letters_from}
 use Rattle.pg_select.specs.CountedPositions.{minima_of}
 use Rattle.pg_prune.specs.Inside.Trails.{IsStart, starts_in, starts_from, reach_count, position_count}
 use Rattle.pg_prune.specs.Inside.Trails.{all_starts as all_starts_of}

@@ -5,8 +5,8 @@ use Rattle.pg_types.specs.declared.limits.TheConstants.{PATTERN_SIGNS_MAX}
 use Rattle.pg_outputs.specs.Lists.{list_of}
 use Rattle.pg_cells.proofs.StringMaps.{order}
 use Rattle.pg_trie.specs.Inside.Maps.{maps_of, entries_of, as_value}
-use Rattle.pg_trie.proofs.Gathered.{Gathers, gathers_none, gathers_more, gathered}
-use Rattle.pg_trie.proofs.Listing.{get_there, get_index}
+use Rattle.pg_trie.proofs.ListLaws.Gathered.{Gathers, gathers_none, gathers_more, gathered}
+use Rattle.pg_trie.proofs.TrieLaws.Listing.{get_there, get_index}
 use Rattle.pg_trie.proofs.copy.gather.Goals as goal
 
 pub loop-string-init : goal.loop-string-init

@@ -1,5 +1,5 @@
 use Rattle.pg_trie.specs.Inside.Maps.{maps_of}
-use Rattle.pg_trie.proofs.Gathered.{Gathers}
+use Rattle.pg_trie.proofs.ListLaws.Gathered.{Gathers}
 use Rattle.pg_trie.proofs.copy.gather.Given as goal
 
 abbrev pub invariant-loop-string : goal.invariant-loop-string

@@ -4,12 +4,12 @@ use Rattle.std.specs.List.{slice_get}
 use Rattle.pg_types.proofs.Numbering.{get_seam}
 use Rattle.pg_types.specs.Inside.Counts.{AreSmall, counted_sums, is_counted, with_weight, SignsWithin}
 use Rattle.pg_cells.specs.Inside.ValuedFamilies.{ValuedFamilies}
-use Rattle.pg_count.specs.Inside.Counting.{Counting, Tally, counted_more, counting_of}
+use Rattle.pg_count.specs.Inside.Counting.{Counting, Tally, counting_of}
 use Rattle.pg_count.specs.Inside.Leaves.{AreLeaves}
 use Rattle.pg_count.specs.Inside.Listed.{Listed}
-use Rattle.pg_count.proofs.Adding.{counted_again, counted_new}
-use Rattle.pg_count.proofs.Leaves.{again_leaves, again_sets}
-use Rattle.pg_count.proofs.Wholes.{counted_back, counts_there, kept_counting}
+use Rattle.pg_count.proofs.LeafLaws.Adding.{counting_with, counted_again, counted_new}
+use Rattle.pg_count.proofs.LeafLaws.Leaves.{again_leaves, again_sets}
+use Rattle.pg_count.proofs.LeafLaws.Wholes.{counted_back, counts_there, kept_counting}
 use Rattle.pg_count.proofs.counts.CountTrie.add_numbered.Goals as goal
 
 pub add_weight-requires : goal.add_weight-requires
@@ -17,7 +17,7 @@ add_weight-requires c =
     let u = c.args.window.now in
     let ws = c.self.inside.windows.items in
     let some = c.in-Some.ensures.some in
-    let found = sym (ap (λ (d : Counting). counted_sums d.counts u) c.self.view_is)
+    let found = sym (ap (λ (d : Counting). counted_sums d.counted.counts u) c.self.view_is)
     ∙ counts_there c.self.inside.cells ws c.self.inside.windows.len c.self.invariant.leaves u (c.in-Some.number, c.in-Some.sums) (take c.way_of-way.result.at u, some.0) some.1 in
     subst (λ (k : ℕ). AreSmall (with_weight c.in-Some.sums c.args.good k)) (sym c.from.ensures)
     (subst (λ (o : Option (ℕ × ℕ)). AreSmall (with_weight (unwrap_or o (0, 0)) c.args.good c.args.weight)) found c.requires.small)
@@ -53,12 +53,12 @@ returns-in-Some-clause-ok c =
     let sets = again_sets h g ws len c.self.invariant.leaves q c.in-Some.number c.in-Some.sums c.add_weight.result c.set_sums.ensures.kept signs values c.set_sums.ensures.size there in
     counted_again h g ws len c.self.invariant.leaves new u c.in-Some.number c.in-Some.sums c.add_weight.result c.args.good c.args.weight signs at (q, there)
     (c.add_weight.ensures ∙ ap (with_weight c.in-Some.sums c.args.good) c.from.ensures) sets
-    ∙ ap (λ (d : Counting). counted_more d u c.args.good c.args.weight) c.self.view_is
+    ∙ ap (λ (d : Counting). counting_with d u c.args.good c.args.weight) c.self.view_is
 
 pub returns-in_err-number-in-None-clause-there : goal.returns-in_err-number-in-None-clause-there
 returns-in_err-number-in-None-clause-there c = λ counted.
     let u = c.args.window.now in
-    let t = counted_back c.self.inside.cells c.self.inside.windows.items c.self.inside.windows.len c.self.invariant.leaves u (ap (λ (d : Counting). is_counted d.counts u) c.self.view_is ∙ counted) in
+    let t = counted_back c.self.inside.cells c.self.inside.windows.items c.self.inside.windows.len c.self.invariant.leaves u (ap (λ (d : Counting). is_counted d.counted.counts u) c.self.view_is ∙ counted) in
     absurd (c.in-None.ensures.none refl t.0.0 t.1.1)
 
 pub returns-in_err-number-in-None-clause-err : goal.returns-in_err-number-in-None-clause-err
@@ -83,7 +83,7 @@ returns-in_ok-number-in-None-clause-ok c =
     ∙ counted_new c.self.inside.cells c.count_new.new.cells ws c.count_new.new.windows.items c.self.inside.windows.len c.self.invariant.leaves new u
     c.add_weight-sums.result c.args.good c.args.weight ensures.signs (c.in-None.ensures.none refl) (ap (λ (l : Listed). l.items) ensures.windows)
     (c.add_weight-sums.ensures ∙ ap (with_weight (0, 0) c.args.good) c.from-in-None.ensures) ensures.sets
-    ∙ ap (λ (d : Counting). counted_more d u c.args.good c.args.weight) c.self.view_is
+    ∙ ap (λ (d : Counting). counting_with d u c.args.good c.args.weight) c.self.view_is
 
 pub returns-in_ok-number-in-None-clause-number : goal.returns-in_ok-number-in-None-clause-number
 returns-in_ok-number-in-None-clause-number c =

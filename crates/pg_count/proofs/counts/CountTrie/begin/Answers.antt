@@ -1,9 +1,10 @@
 use Rattle.std.proofs.Common.{[], refl, ap, sym, subst, ◌∙◌}
 use Rattle.std.proofs.lemmas.Bool.{eqb-true}
+use Rattle.pg_types.specs.Inside.NumberedWindows.{no_counts}
 use Rattle.pg_count.specs.Inside.Leaves.{AreCounting, AreShort}
 use Rattle.pg_count.specs.Inside.Listed.{Listed}
 use Rattle.pg_count.specs.Inside.Counting.{Counting, counting_of}
-use Rattle.pg_count.proofs.Beginning.{begun, begun_kept}
+use Rattle.pg_count.proofs.CellLaws.Beginning.{begun, begun_kept}
 use Rattle.pg_count.proofs.counts.CountTrie.begin.Goals as goal
 
 pub invariant_of-self : goal.invariant_of-self
@@ -17,4 +18,4 @@ pub returns : goal.returns
 returns c =
     ap (λ (l : Listed). counting_of c.clear.new.self l.items l.len) c.begin.ensures
     ∙ begun c.clear.new.self [] c.self.inside.cells.signs c.args.len c.clear.ensures.signs c.clear.ensures.none refl
-    ∙ ap (λ (d : Counting). record { signs = d.signs; len = c.args.len; counts = []; windows = [] }) c.self.view_is
+    ∙ ap (λ (d : Counting). record { signs = d.signs; len = c.args.len; counted = no_counts }) c.self.view_is

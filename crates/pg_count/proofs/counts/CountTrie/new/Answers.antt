@@ -3,7 +3,7 @@ use Rattle.pg_count.specs.Inside.Counting.{Tally, counting_of}
 use Rattle.pg_count.specs.Inside.Leaves.{AreCounting}
 use Rattle.pg_count.specs.Inside.Listed.{Listed}
 use Rattle.pg_cells.specs.Inside.ValuedFamilies.{ValuedFamilies}
-use Rattle.pg_count.proofs.Beginning.{begun, begun_kept, root_none, root_short}
+use Rattle.pg_count.proofs.CellLaws.Beginning.{begun, begun_kept, root_none, root_short}
 use Rattle.pg_count.proofs.counts.CountTrie.new.Goals as goal
 
 pub invariant_of-result : goal.invariant_of-result

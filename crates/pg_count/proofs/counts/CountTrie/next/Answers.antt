@@ -4,9 +4,9 @@ use Rattle.pg_types.specs.Inside.Counts.{windows_above}
 use Rattle.pg_types.proofs.StringEntries.{order}
 use Rattle.pg_cells.proofs.LinkLaws.{root_first}
 use Rattle.pg_count.specs.Inside.Counting.{Counting, Tally, sums_seen, window_at}
-use Rattle.pg_count.proofs.Counted.{none_seen}
-use Rattle.pg_count.proofs.Nexting.{none_above, least_is}
-use Rattle.pg_count.proofs.Parting.{signs_told}
+use Rattle.pg_count.proofs.CellLaws.Counted.{none_seen}
+use Rattle.pg_count.proofs.WalkLaws.Nexting.{none_above, least_is}
+use Rattle.pg_count.proofs.LeafLaws.Parting.{signs_told}
 use Rattle.pg_count.proofs.counts.CountTrie.next.Goals as goal
 
 pub least-requires-clause-base : goal.least-requires-clause-base
@@ -24,8 +24,8 @@ least-requires-clause-base c =
 pub returns-then-has_none : goal.returns-then-has_none
 returns-then-has_none c =
     let none = none_seen sums_seen (λ t. t) c.self.inside.cells.values (c.has_none.ensures.0 c.if-has_none.true) in
-    let counts : c.args.self.now.counts ≡ [] =
-    sym (ap (λ (d : Counting). d.counts) c.self.view_is)
+    let counts : c.args.self.now.counted.counts ≡ [] =
+    sym (ap (λ (d : Counting). d.counted.counts) c.self.view_is)
     ∙ ap (λ (es : List (List ℕ × Tally)). map (λ (e : List ℕ × Tally). (e.0, sums_seen e.1)) (map (λ (e : List ℕ × Tally). (window_at c.self.inside.windows.items e.1.0, e.1)) es)) none in
     (ap (windows_above c.args.at.now) counts, refl)
 
@@ -34,7 +34,7 @@ returns-in_err-number c =
     let leaves = c.self.invariant.leaves in
     let nearest = c.in_err-number.ensures [] leaves.held.root in
     rw c.from_residual.ensures (
-      ap (λ (d : Counting). windows_above c.args.at.now d.counts) (sym c.self.view_is)
+      ap (λ (d : Counting). windows_above c.args.at.now d.counted.counts) (sym c.self.view_is)
           ∙ none_above c.self.inside.cells c.self.inside.windows.items c.self.inside.windows.len leaves c.args.at.now nearest,
       refl,
     )
@@ -62,7 +62,7 @@ returns c =
     let both : Some c.get.result.now ≡ Some l.rest = sym c.get.ensures ∙ l.there in
     let row : c.get.result.now ≡ l.rest = cc in
     let same : c.set.new.self ≡ l.rest = c.set.ensures ∙ row in
-    ap (λ (d : Counting). windows_above c.args.at.now d.counts) (sym c.self.view_is)
+    ap (λ (d : Counting). windows_above c.args.at.now d.counted.counts) (sym c.self.view_is)
     ∙ least_is c.self.inside.cells ws c.self.inside.windows.len leaves c.args.at.now c.in_ok-number.number l c.sums.result c.sums.ensures
-    ∙ ap (λ (d : Counting). (l.rest, c.sums.result) ∷ windows_above l.rest d.counts) c.self.view_is
-    ∙ ap (λ (u : List ℕ). (u, c.sums.result) ∷ windows_above u c.args.self.now.counts) (sym same)
+    ∙ ap (λ (d : Counting). (l.rest, c.sums.result) ∷ windows_above l.rest d.counted.counts) c.self.view_is
+    ∙ ap (λ (u : List ℕ). (u, c.sums.result) ∷ windows_above u c.args.self.now.counted.counts) (sym same)

@@ -5,8 +5,8 @@ use Rattle.pg_count.proofs.counts.CountTrie.window.Goals as goal
 
 pub get-requires : goal.get-requires
 get-requires c =
-    let same = ap (λ (d : Counting). length d.windows) c.self.view_is in
+    let same = ap (λ (d : Counting). length d.counted.windows) c.self.view_is in
     omega (arith, c.requires)
 
 pub returns : goal.returns
-returns c = ap (λ (d : Counting). slice_get d.windows c.args.number) (sym c.self.view_is) ∙ c.get.ensures
+returns c = ap (λ (d : Counting). slice_get d.counted.windows c.args.number) (sym c.self.view_is) ∙ c.get.ensures

@@ -2,7 +2,7 @@ use Rattle.std.proofs.Common.{◌≡◌, ◌-◌, ◌/◌, ◌<◌, ◌≤◌, �
 use Rattle.std.proofs.lemmas.Bool.{lt-ltb, le-ltb}
 use Rattle.pg_dict.specs.declared.sites.Site.{Site}
 use Rattle.pg_dict.specs.Inside.Sites.{all_sites}
-use Rattle.pg_dict.proofs.Around.{sites_count, around}
+use Rattle.pg_dict.proofs.WordStore.Around.{sites_count, around}
 use Rattle.pg_dict.proofs.dictionary.Dictionary.fits_around.Goals as goal
 use Rattle.pg_dict.proofs.dictionary.Dictionary.fits_around.Goals.{After-from-left}
 

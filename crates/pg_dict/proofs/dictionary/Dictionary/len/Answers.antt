@@ -1,4 +1,4 @@
-use Rattle.pg_dict.proofs.Told.{few_letters}
+use Rattle.pg_dict.proofs.WordStore.Told.{few_letters}
 use Rattle.pg_dict.proofs.dictionary.Dictionary.len.Goals as goal
 
 pub returns-clause-words : goal.returns-clause-words

@@ -1,8 +1,8 @@
 use Rattle.std.proofs.Common.{◌∙◌, sym, arith}
 use Rattle.pg_dict.specs.Inside.Lent.{lent_word}
 use Rattle.pg_dict.specs.Inside.Store.{stored_words}
-use Rattle.pg_dict.proofs.Parts.{part_taken, part_passed, letters_from}
-use Rattle.pg_dict.proofs.Told.{few_words}
+use Rattle.pg_dict.proofs.WordStore.Parts.{part_taken, part_passed, letters_from}
+use Rattle.pg_dict.proofs.WordStore.Told.{few_words}
 use Rattle.pg_dict.proofs.dictionary.Dictionary.part.Goals as goal
 use Rattle.pg_dict.proofs.dictionary.Dictionary.part.Goals.{then-belongs+in_ok-push_word, else-belongs}
 

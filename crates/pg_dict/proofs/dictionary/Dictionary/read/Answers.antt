@@ -5,13 +5,13 @@ use Rattle.pg_types.specs.declared.refusals.Refusal.{Refusal}
 use Rattle.pg_types.specs.Inside.Answers.{Fails}
 use Rattle.pg_types.specs.Lines.{lines}
 use Rattle.pg_translate.specs.Alphabets.{letters_of}
-use Rattle.pg_dict.specs.Inside.PositionedSigns.{Columns}
+use Rattle.pg_dict.specs.Inside.Lines.PositionedSigns.{Columns}
 use Rattle.pg_dict.specs.Word.{Word}
 use Rattle.pg_dict.specs.Inside.SoundWords.{SignsAtMost}
 use Rattle.pg_dict.specs.Inside.Store.{stored_words, is_sign_up_to}
-use Rattle.pg_dict.proofs.Sizes.{size_of, size_of-cons, size_of-lines}
-use Rattle.pg_dict.proofs.Lines.{next_read, next_refused, words_short, all_read, starts, starts_sound, starts_fit}
-use Rattle.pg_dict.proofs.Told.{few_words, signs_at_most}
+use Rattle.pg_dict.proofs.LineReading.Sizes.{size_of, size_of-cons, size_of-lines}
+use Rattle.pg_dict.proofs.LineReading.Lines.{next_read, next_refused, words_short, all_read, starts, starts_sound, starts_fit}
+use Rattle.pg_dict.proofs.WordStore.Told.{few_words, signs_at_most}
 use Rattle.pg_dict.proofs.dictionary.Dictionary.read.Goals as goal
 
 pub lines-init : goal.lines-init

@@ -5,7 +5,7 @@ use Rattle.pg_translate.specs.Alphabets.{letters_of}
 use Rattle.pg_types.specs.Inside.Parts.{both_parts}
 use Rattle.pg_dict.specs.Inside.LineWords.{words_from}
 use Rattle.pg_dict.specs.Inside.Store.{stored_words, IsSound, IsFit}
-use Rattle.pg_dict.proofs.Sizes.{size_of}
+use Rattle.pg_dict.proofs.LineReading.Sizes.{size_of}
 use Rattle.pg_dict.proofs.dictionary.Dictionary.read.Given as goal
 
 abbrev pub invariant-lines : goal.invariant-lines

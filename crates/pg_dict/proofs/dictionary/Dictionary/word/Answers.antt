@@ -3,7 +3,7 @@ use Rattle.std.specs.List.{All}
 use Rattle.pg_dict.specs.Word.{Word}
 use Rattle.pg_dict.specs.Inside.SoundWords.{IsWord}
 use Rattle.pg_dict.specs.Inside.Store.{columns_of, word_at}
-use Rattle.pg_dict.proofs.Told.{word_in, word_stored, word_within}
+use Rattle.pg_dict.proofs.WordStore.Told.{word_in, word_stored, word_within}
 use Rattle.pg_dict.proofs.dictionary.Dictionary.word.Goals as goal
 
 pub lend-requires-clause-begins : goal.lend-requires-clause-begins

@@ -4,7 +4,7 @@ use Rattle.pg_dict.specs.declared.store.Stored.{Stored}
 use Rattle.pg_dict.specs.declared.store.Store.{Store}
 use Rattle.pg_dict.specs.Inside.Store.{stored_words, IsSound}
 use Rattle.pg_dict.specs.Inside.Lent.{lent_word}
-use Rattle.pg_dict.proofs.Parts.{word_pushed}
+use Rattle.pg_dict.proofs.WordStore.Parts.{word_pushed}
 use Rattle.pg_dict.proofs.store.Store.push_word.Goals as goal
 
 -- the store at the return

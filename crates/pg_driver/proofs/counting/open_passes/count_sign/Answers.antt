@@ -5,7 +5,7 @@ use Rattle.pg_types.specs.declared.limits.TheConstants.{WEIGHT_MAX}
 use Rattle.pg_types.specs.Inside.Counts.{SignsWithin}
 use Rattle.pg_types.specs.Inside.NumberedWindows.{HasNumber}
 use Rattle.pg_dict.specs.declared.sites.Site.{Site}
-use Rattle.pg_dict.proofs.Told.{word_in}
+use Rattle.pg_dict.proofs.WordStore.Told.{word_in}
 use Rattle.pg_select.proofs.MarkSteps.{weight_small}
 use Rattle.pg_select.specs.Statuses.{is_odd}
 use Rattle.pg_select.specs.Windows.{fits, window}

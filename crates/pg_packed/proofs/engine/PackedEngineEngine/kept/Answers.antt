@@ -8,7 +8,7 @@ use Rattle.pg_trie.specs.Inside.Maps.{is_dotted}
 use Rattle.pg_packed.proofs.engine.PackedEngineEngine.kept.Goals as goal
 use Rattle.pg_types.proofs.BoolFacts.{and_first, and_second}
 
--- the signs of a place, and of all hopeless places
+-- the signs of a dotted string, and of all hopeless ones
 signs_of : (n : ℕ) (q : List ℕ) → list_all (λ s. nat_le 1 s && nat_le s n) q ≡ true → SignsWithin n q
 signs_of n [] h = All-nil (λ s. (1 ≤ s) × (s ≤ n))
 signs_of n (s ∷ q) h =
@@ -36,7 +36,7 @@ returns c =
       hopeless_order = trie.sorted;
       counts_order = counts.sorted;
       pattern_signs = trie.known;
-      hopeless_signs = hopeless_within c.args.self.now.trie.signs c.args.self.now.trie.hopeless trie.places;
+      hopeless_signs = hopeless_within c.args.self.now.trie.signs c.args.self.now.trie.hopeless trie.dotted;
       numbered = c.window_len-len.ensures.numbered;
       counted_signs = λ u there. subst (λ n. SignsWithin n u) c.args.self.now.one_alphabet (counts.signs u there);
     }

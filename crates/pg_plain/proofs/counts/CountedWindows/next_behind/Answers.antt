@@ -2,7 +2,8 @@ use Rattle.std.proofs.Common.{◌≡◌, ℕ, ◌<◌, List, [], ◌∷◌, Some
 use Rattle.std.specs.Cmp.Lexicographic.{slice_cmp}
 use Rattle.std.specs.FinMap.Entries.{find}
 use Rattle.pg_types.specs.Inside.Counts.{windows_above}
-use Rattle.pg_plain.specs.Inside.Counted.{Counted, tally_at}
+use Rattle.pg_types.specs.Inside.NumberedWindows.{WindowCounts}
+use Rattle.pg_plain.specs.Inside.Counted.{tally_at}
 use Rattle.pg_plain.proofs.Counted.{above_no, next_above, next_found}
 use Rattle.pg_plain.proofs.Counting.{within, size_windows, size_listed, tally_read, listed_window}
 use Rattle.pg_plain.proofs.counts.CountedWindows.next_behind.Goals as goal
@@ -35,17 +36,17 @@ returns c =
     ∙ listed_window c.self.inside.numbers.entries c.self.inside.tallies.items c.self.inside.windows.items c.self.invariant c.in_ok-number.field-0-0.now c.index.result.now
     c.in_ok-number.number.now (found at) c.index.ensures in
     ap (λ u. windows_above u c.args.self.now.counts) (sym (c.new-key.ensures ∙ c.signs.ensures.value))
-    ∙ sym (ap (λ (d : Counted). windows_above c.new-key.result d.counts) c.self.view_is)
+    ∙ sym (ap (λ (d : WindowCounts). windows_above c.new-key.result d.counts) c.self.view_is)
     ∙ next_above c.self.inside.tallies.items c.self.inside.numbers.entries c.next.new.self c.range-behind.result c.new-key.result c.set.new.self e c.self.invariant.sorted
     (c.range-behind.ensures.between tt) c.in_ok-number.ensures.steps window
     ∙ ap (λ x. (c.set.new.self, x) ∷ windows_above c.set.new.self (map (λ e. (e.0, tally_at c.self.inside.tallies.items e.1)) c.self.inside.numbers.entries))
     (sym (tally_read c.self.inside.tallies.items c.in_ok-number.number.now c.index-sums.result.now (low at) c.index-sums.ensures))
-    ∙ ap (λ (d : Counted). (c.set.new.self, c.index-sums.result.now) ∷ windows_above c.set.new.self d.counts) c.self.view_is
+    ∙ ap (λ (d : WindowCounts). (c.set.new.self, c.index-sums.result.now) ∷ windows_above c.set.new.self d.counts) c.self.view_is
 
 pub returns-in_err-number : goal.returns-in_err-number
 returns-in_err-number c =
     let none : windows_above c.args.at.now c.args.self.now.counts ≡ [] =
     ap (λ u. windows_above u c.args.self.now.counts) (sym (c.new-key.ensures ∙ c.signs.ensures.value))
-    ∙ sym (ap (λ (d : Counted). windows_above c.new-key.result d.counts) c.self.view_is)
+    ∙ sym (ap (λ (d : WindowCounts). windows_above c.new-key.result d.counts) c.self.view_is)
     ∙ above_no c.self.inside.tallies.items c.new-key.result c.self.inside.numbers.entries c.range-behind.result (c.range-behind.ensures.between tt) c.in_err-number.ensures.steps.0 in
     rw c.from_residual.ensures (none, refl)

@@ -2,7 +2,7 @@ use Rattle.std.proofs.Common.{◌≡◌, ℕ, List, None, Some, nat_cmp, ap, sym
 use Rattle.std.specs.Cmp.Lexicographic.{slice_cmp}
 use Rattle.std.specs.FinMap.Entries.{find}
 use Rattle.pg_types.specs.Inside.Counts.{counted_sums}
-use Rattle.pg_plain.specs.Inside.Counted.{Counted}
+use Rattle.pg_types.specs.Inside.NumberedWindows.{WindowCounts}
 use Rattle.pg_plain.proofs.Counting.{sums_none, sums_there, within, tally_read}
 use Rattle.pg_plain.proofs.counts.CountedWindows.sums.Goals as goal
 
@@ -11,7 +11,7 @@ returns-in_err-number c =
     let none : find (slice_cmp nat_cmp) c.args.window.now c.self.inside.numbers.entries ≡ None =
     ap (λ (u : List ℕ). find (slice_cmp nat_cmp) u c.self.inside.numbers.entries) (sym (c.new-key.ensures ∙ c.signs.ensures.value)) ∙ sym (c.in_err-number.ensures ∙ c.get.ensures.value) in
     c.from_residual.ensures ∙ sym (sums_none c.self.inside.numbers.entries c.self.inside.tallies.items c.self.inside.windows.items c.self.invariant c.args.window.now none)
-    ∙ ap (λ (d : Counted). counted_sums d.counts c.args.window.now) c.self.view_is
+    ∙ ap (λ (d : WindowCounts). counted_sums d.counts c.args.window.now) c.self.view_is
 
 pub index-requires : goal.index-requires
 index-requires c =
@@ -26,4 +26,4 @@ returns c =
     ap Some (tally_read c.self.inside.tallies.items c.in_ok-number.number c.index.result.now
     (within c.self.inside.numbers.entries c.self.inside.tallies.items c.self.inside.windows.items c.self.invariant c.args.window.now c.in_ok-number.number at) c.index.ensures)
     ∙ sym (sums_there c.self.inside.numbers.entries c.self.inside.tallies.items c.self.inside.windows.items c.self.invariant c.args.window.now c.in_ok-number.number at)
-    ∙ ap (λ (d : Counted). counted_sums d.counts c.args.window.now) c.self.view_is
+    ∙ ap (λ (d : WindowCounts). counted_sums d.counts c.args.window.now) c.self.view_is

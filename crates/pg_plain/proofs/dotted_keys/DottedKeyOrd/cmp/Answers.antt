@@ -8,6 +8,6 @@ pub returns-then-self-other : goal.returns-then-self-other
 returns-then-self-other c =
     let x = c.self.inside in
     let y = c.other.inside in
-    c.cmp.ensures ∙ sym (decided x.head y.head (nat_cmp x.place.1 y.place.1) c.if-self-other.true)
-    ∙ sym (ap (λ o. ordering_then o (nat_cmp x.place.1 y.place.1)) (heads_differ x.head y.head x.place.0 y.place.0 c.self.invariant c.other.invariant c.if-self-other.true))
+    c.cmp.ensures ∙ sym (decided x.head y.head (nat_cmp x.dotted.1 y.dotted.1) c.if-self-other.true)
+    ∙ sym (ap (λ o. ordering_then o (nat_cmp x.dotted.1 y.dotted.1)) (heads_differ x.head y.head x.dotted.0 y.dotted.0 c.self.invariant c.other.invariant c.if-self-other.true))
     ∙ (λ i. dotted_cmp (c.self.view_is i) (c.other.view_is i))

@@ -10,12 +10,12 @@ invariant_of-self-clause-entries c =
     let size : length c.signs-signs.result.now ≡ c.args.self.now.pass.len = ap (λ x. length x) c.signs-signs.ensures.value
     ∙ counted_len c.args.self.now.counts.counts c.args.at.now c.args.self.now.pass.len c.requires c.args.self.now.windows in
     c.raise_in.ensures.kept c.args.self.now.entries
-    (subst (λ k. is_entry (k, c.args.self.now.pass.level) ≡ true) (sym c.new-place.ensures)
+    (subst (λ k. is_entry (k, c.args.self.now.pass.level) ≡ true) (sym c.new-dotted.ensures)
     (window_entry c.signs-signs.result.now c.args.self.now.pass.dot c.args.self.now.pass.level c.args.self.now.pass.len size c.signs-signs.ensures.signs
     c.args.self.now.len.0 c.args.self.now.len.1 c.args.self.now.dot c.args.self.now.level.0 c.args.self.now.level.1))
 
 pub invariant_of-self-clause-known : goal.invariant_of-self-clause-known
 invariant_of-self-clause-known c =
-    c.raise_in.ensures.places (λ k. has_signs_up_to c.args.self.now.signs k.0) c.args.self.now.known
-    (ap (λ (k : List ℕ × ℕ). has_signs_up_to c.args.self.now.signs k.0) c.new-place.ensures ∙ ap (has_signs_up_to c.args.self.now.signs) c.signs-signs.ensures.value
+    c.raise_in.ensures.dotted (λ k. has_signs_up_to c.args.self.now.signs k.0) c.args.self.now.known
+    (ap (λ (k : List ℕ × ℕ). has_signs_up_to c.args.self.now.signs k.0) c.new-dotted.ensures ∙ ap (has_signs_up_to c.args.self.now.signs) c.signs-signs.ensures.value
     ∙ counted_good (has_signs_up_to c.args.self.now.signs) c.args.self.now.counts.counts c.args.at.now c.requires c.args.self.now.counts_known)

@@ -5,8 +5,8 @@ use Rattle.pg_plain.proofs.Counted.{counted_len, counted_good}
 use Rattle.pg_plain.proofs.Entered.{window_entry}
 use Rattle.pg_plain.proofs.engine.PlainEngineEngine.choose_numbered.Goals as goal
 
-pub new-place-requires : goal.new-place-requires
-new-place-requires c =
+pub new-dotted-requires : goal.new-dotted-requires
+new-dotted-requires c =
     let size : length c.window-signs.result.now ≡ c.args.self.now.pass.len =
     counted_len c.args.self.now.counts.counts c.window-signs.result.now c.args.self.now.pass.len c.window-signs.ensures.counted c.args.self.now.windows in
     omega (arith, c.args.self.now.len.1)
@@ -16,12 +16,12 @@ invariant_of-self-clause-entries c =
     let size : length c.window-signs.result.now ≡ c.args.self.now.pass.len =
     counted_len c.args.self.now.counts.counts c.window-signs.result.now c.args.self.now.pass.len c.window-signs.ensures.counted c.args.self.now.windows in
     c.raise_in.ensures.kept c.args.self.now.entries
-    (subst (λ k. is_entry (k, c.args.self.now.pass.level) ≡ true) (sym c.new-place.ensures)
+    (subst (λ k. is_entry (k, c.args.self.now.pass.level) ≡ true) (sym c.new-dotted.ensures)
     (window_entry c.window-signs.result.now c.args.self.now.pass.dot c.args.self.now.pass.level c.args.self.now.pass.len size c.window-signs.ensures.signs
     c.args.self.now.len.0 c.args.self.now.len.1 c.args.self.now.dot c.args.self.now.level.0 c.args.self.now.level.1))
 
 pub invariant_of-self-clause-known : goal.invariant_of-self-clause-known
 invariant_of-self-clause-known c =
-    c.raise_in.ensures.places (λ k. has_signs_up_to c.args.self.now.signs k.0) c.args.self.now.known
-    (ap (λ (k : List ℕ × ℕ). has_signs_up_to c.args.self.now.signs k.0) c.new-place.ensures
+    c.raise_in.ensures.dotted (λ k. has_signs_up_to c.args.self.now.signs k.0) c.args.self.now.known
+    (ap (λ (k : List ℕ × ℕ). has_signs_up_to c.args.self.now.signs k.0) c.new-dotted.ensures
     ∙ counted_good (has_signs_up_to c.args.self.now.signs) c.args.self.now.counts.counts c.window-signs.result.now c.window-signs.ensures.counted c.args.self.now.counts_known)

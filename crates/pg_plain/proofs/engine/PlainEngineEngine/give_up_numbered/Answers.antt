@@ -4,8 +4,8 @@ use Rattle.pg_plain.proofs.Counted.{counted_len, counted_good}
 use Rattle.pg_plain.proofs.Entered.{window_string}
 use Rattle.pg_plain.proofs.engine.PlainEngineEngine.give_up_numbered.Goals as goal
 
-pub new-place-requires : goal.new-place-requires
-new-place-requires c =
+pub new-dotted-requires : goal.new-dotted-requires
+new-dotted-requires c =
     let size : length c.window-signs.result.now ≡ c.args.self.now.pass.len =
     counted_len c.args.self.now.counts.counts c.window-signs.result.now c.args.self.now.pass.len c.window-signs.ensures.counted c.args.self.now.windows in
     omega (arith, c.args.self.now.len.1)
@@ -15,13 +15,13 @@ invariant_of-self-clause-strings c =
     let size : length c.window-signs.result.now ≡ c.args.self.now.pass.len =
     counted_len c.args.self.now.counts.counts c.window-signs.result.now c.args.self.now.pass.len c.window-signs.ensures.counted c.args.self.now.windows in (
       c.put_in.ensures.sorted,
-      c.put_in.ensures.places is_string c.args.self.now.strings.1
-          (subst (λ k. is_string k ≡ true) (sym c.new-place.ensures) (window_string c.window-signs.result.now c.args.self.now.pass.dot c.args.self.now.pass.len
+      c.put_in.ensures.dotted is_string c.args.self.now.strings.1
+          (subst (λ k. is_string k ≡ true) (sym c.new-dotted.ensures) (window_string c.window-signs.result.now c.args.self.now.pass.dot c.args.self.now.pass.len
           size c.args.self.now.len.0 c.args.self.now.len.1)),
     )
 
 pub invariant_of-self-clause-hopeless_known : goal.invariant_of-self-clause-hopeless_known
 invariant_of-self-clause-hopeless_known c =
-    c.put_in.ensures.places (λ k. has_signs_up_to c.args.self.now.signs k.0) c.args.self.now.hopeless_known
-    (ap (λ (k : List ℕ × ℕ). has_signs_up_to c.args.self.now.signs k.0) c.new-place.ensures
+    c.put_in.ensures.dotted (λ k. has_signs_up_to c.args.self.now.signs k.0) c.args.self.now.hopeless_known
+    (ap (λ (k : List ℕ × ℕ). has_signs_up_to c.args.self.now.signs k.0) c.new-dotted.ensures
     ∙ counted_good (has_signs_up_to c.args.self.now.signs) c.args.self.now.counts.counts c.window-signs.result.now c.window-signs.ensures.counted c.args.self.now.counts_known)

@@ -1,7 +1,7 @@
 use Rattle.std.proofs.Common.{length, sym, ap, subst, arith}
 use Rattle.pg_trie.specs.Inside.IsTrie.{IsTrie}
 use Rattle.pg_trie.specs.Inside.Maps.{Maps}
-use Rattle.pg_trie.proofs.Ended.{short, level_end}
+use Rattle.pg_trie.proofs.DeletingLaws.Ended.{short, level_end}
 use Rattle.pg_trie.proofs.trie.PatternTrie.delete_hopeless.Goals as goal
 
 pub fresh_heads-requires-clause-trie : goal.fresh_heads-requires-clause-trie

@@ -7,7 +7,7 @@ use Rattle.pg_cells.specs.Inside.Walks.{AddsBlanks}
 use Rattle.pg_trie.specs.declared.hopeless.TheConstants.{HOPELESS}
 use Rattle.pg_trie.specs.Inside.Lists.{list_with}
 use Rattle.pg_trie.specs.Inside.Maps.{Maps}
-use Rattle.pg_trie.proofs.Changes.{SameMaps, blanks_stay, records_stay, both_stay, Enters, enters, same_view, raised_view, marked_view, part_seen, whole_seen}
+use Rattle.pg_trie.proofs.TrieLaws.Changes.{SameMaps, blanks_stay, records_stay, both_stay, Enters, enters, same_view, raised_view, given_up_view, part_seen, whole_seen}
 use Rattle.pg_trie.proofs.trie.PatternTrie.enter.Goals as goal
 
 pub invariant_of-self : goal.invariant_of-self
@@ -83,9 +83,9 @@ returns-clause-raised c le =
     (c.args.value, c.args.dot) c.args.self.now c.self.view_is (standing c) (entering c)
     (lt-ltb c.args.value HOPELESS (omega arith)) (signs_kept c) (families_kept c)
 
-pub returns-clause-marked : goal.returns-clause-marked
-returns-clause-marked c is =
-    marked_view c.self.inside.cells c.enter.new.cells c.set_value.new.self c.self.inside.lists c.raised_head.new.lists c.args.signs.now
+pub returns-clause-hopeless : goal.returns-clause-hopeless
+returns-clause-hopeless c is =
+    given_up_view c.self.inside.cells c.enter.new.cells c.set_value.new.self c.self.inside.lists c.raised_head.new.lists c.args.signs.now
     (c.args.value, c.args.dot) c.args.self.now c.self.view_is (standing c) (entering c)
     (le-ltb c.args.value HOPELESS (omega arith)) (signs_kept c) (families_kept c)
 

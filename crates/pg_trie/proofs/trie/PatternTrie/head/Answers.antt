@@ -3,7 +3,7 @@ use Rattle.pg_types.specs.Placement.{cell_of}
 use Rattle.pg_outputs.specs.Lists.{list_of}
 use Rattle.pg_trie.specs.Inside.Lists.{outputs_at}
 use Rattle.pg_trie.specs.Inside.Maps.{Maps}
-use Rattle.pg_trie.proofs.Listed.{list_is}
+use Rattle.pg_trie.proofs.TrieLaws.Listed.{list_is}
 use Rattle.pg_trie.proofs.trie.PatternTrie.head.Goals as goal
 
 pub returns-clause-list : goal.returns-clause-list

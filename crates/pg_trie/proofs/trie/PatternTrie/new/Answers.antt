@@ -1,6 +1,6 @@
 use Rattle.std.proofs.Common.{ap, ◌∙◌}
 use Rattle.pg_cells.specs.Inside.Root.{root_held}
-use Rattle.pg_trie.proofs.Rooted.{root_trie, root_view}
+use Rattle.pg_trie.proofs.TrieLaws.Rooted.{root_trie, root_view}
 use Rattle.pg_trie.proofs.trie.PatternTrie.new.Goals as goal
 
 pub invariant_of-result : goal.invariant_of-result

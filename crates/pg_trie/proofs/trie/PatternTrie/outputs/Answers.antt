@@ -1,6 +1,6 @@
 use Rattle.std.proofs.Common.{ap, subst, ◌∙◌}
 use Rattle.pg_trie.specs.Inside.Maps.{AreKept, Maps}
-use Rattle.pg_trie.proofs.Kept.{are_kept}
+use Rattle.pg_trie.proofs.TrieLaws.Kept.{are_kept}
 use Rattle.pg_trie.proofs.trie.PatternTrie.outputs.Goals as goal
 
 pub returns-clause-kept : goal.returns-clause-kept

@@ -2,7 +2,7 @@ use Rattle.std.proofs.Common.{◌≡◌, [], ◌∷◌, ◌++◌, sym, subst}
 use Rattle.pg_cells.specs.Inside.Walks.{IsAt}
 use Rattle.pg_trie.specs.Inside.Lists.{outputs_at}
 use Rattle.pg_trie.specs.Inside.Maps.{Maps}
-use Rattle.pg_trie.proofs.Listed.{none_is}
+use Rattle.pg_trie.proofs.TrieLaws.Listed.{none_is}
 use Rattle.pg_trie.proofs.trie.PatternTrie.step.Goals as goal
 
 pub returns-clause-none : goal.returns-clause-none

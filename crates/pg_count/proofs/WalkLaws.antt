@@ -1,0 +1,9 @@
+-- What ways, walks and searches find.
+pub mod Above
+pub mod Bounding
+pub mod Listing
+pub mod Looking
+pub mod Nexting
+pub mod Searching
+pub mod Walking
+pub mod Ways

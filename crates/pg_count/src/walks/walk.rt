@@ -1,0 +1,76 @@
+//! The walk over the counted strings, in the order of signs.
+ghost use Rattle.std.specs.Prelude.{◌≡◌, ◌+◌, ◌<◌, ℕ, List, ◌++◌, length, Some, OnOk};
+ghost use Rattle.pg_types.specs.Placement.{base_of, cell_of};
+ghost use Rattle.pg_cells.specs.Inside.AreValuedFamilies.{AreValuedFamilies};
+ghost use Rattle.pg_cells.specs.Inside.Members.{IsNextSign};
+ghost use Rattle.pg_count.specs.Inside.Leaves.{AreLast, AreShort, IsLast};
+ghost use Rattle.pg_count.specs.Inside.Under.{numbers_under};
+
+use crate::store::counted_cells::CountedCells;
+use pg_types::Sign;
+use std::alloc::AllocError;
+
+/// Appends the numbers of the counted strings of a family and of those below it, in the order of
+/// signs. The family has the base, and `first` is the first of its signs. No string of these has
+/// more than `more` signs behind the family's prefix. It goes along the signs of the families.
+#[cycle(walk)]
+pub fn walk(
+    cells: &CountedCells,
+    base: usize,
+    first: Sign,
+    more: u8,
+    out: &mut Vec<u32>,
+) -> Result<(), AllocError>
+    requires held { AreValuedFamilies cells.now }
+    requires base { (p : List ℕ) × ((base_of cells.now.families p ≡ Some base)
+        × IsNextSign cells.now.values p 0 first × AreShort cells.now.values (length p + more)) }
+    requires last { AreLast cells.now.values }
+    ensures { (p : List ℕ) → base_of cells.now.families p ≡ Some base →
+        OnOk result (out.new.items ≡ out.old.items ++ numbers_under p cells.now.values) }
+{
+    let mut s = first;
+    while s != 0 {
+        let Some(cell) = cells.find(base, s) else {
+            return Ok(());
+        };
+        walk_at(cells, cell, more - 1, out)?;
+        s = cells.next_sign(cell);
+    }
+    Ok(())
+}
+
+// Appends the numbers of the counted strings that begin with the string that has the cell.
+#[cycle(walk)]
+fn walk_at(
+    cells: &CountedCells,
+    cell: usize,
+    more: u8,
+    out: &mut Vec<u32>,
+) -> Result<(), AllocError>
+    requires held { AreValuedFamilies cells.now }
+    requires cell { (q : List ℕ) × ((cell_of cells.now.families q ≡ Some cell)
+        × AreShort cells.now.values (length q + more)) }
+    requires last { AreLast cells.now.values }
+    ensures { (q : List ℕ) → cell_of cells.now.families q ≡ Some cell →
+        OnOk result (out.new.items ≡ out.old.items ++ numbers_under q cells.now.values) }
+{
+    let below = cells.child(cell);
+    if below == 0 {
+        return last_at(cells, cell, out);
+    }
+    walk(cells, below, cells.first_sign(cell), more, out)
+}
+
+// Appends the number of the string that has the cell, which no sign follows.
+fn last_at(cells: &CountedCells, cell: usize, out: &mut Vec<u32>) -> Result<(), AllocError>
+    requires cell { (q : List ℕ) × (cell_of cells.now.families q ≡ Some cell) }
+    requires held { AreValuedFamilies cells.now }
+    ensures { (q : List ℕ) → cell_of cells.now.families q ≡ Some cell
+        → IsLast cells.now.values q →
+        OnOk result (out.new.items ≡ out.old.items ++ numbers_under q cells.now.values) }
+{
+    if let Some((number, _)) = cells.number_and_sums(cell) {
+        out.push(number)?;
+    }
+    Ok(())
+}

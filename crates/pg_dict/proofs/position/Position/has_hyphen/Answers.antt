@@ -1,5 +1,0 @@
-use Rattle.std.proofs.Common.{rules}
-use Rattle.pg_dict.proofs.position.Position.has_hyphen.Goals as goal
-
-pub returns-in-Missed : goal.returns-in-Missed
-returns-in-Missed c = search rules

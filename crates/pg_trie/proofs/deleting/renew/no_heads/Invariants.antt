@@ -1,0 +1,8 @@
+use Rattle.std.proofs.Common.{◌+◌, ◌-◌, ◌≤◌, length}
+use Rattle.pg_trie.proofs.deleting.renew.no_heads.Given as goal
+
+abbrev pub invariant-fill : goal.invariant-fill
+invariant-fill l = length l.heads.items ≤ l.count + 1
+
+abbrev pub decreases-fill : goal.decreases-fill
+decreases-fill l = l.count + 1 - length l.heads.items

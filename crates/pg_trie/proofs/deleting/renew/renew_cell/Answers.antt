@@ -1,0 +1,40 @@
+use Rattle.std.proofs.lemmas.Result.{err_from_is_err_and}
+use Rattle.std.proofs.Common.{ap, set, ◌∙◌, subst, arith}
+use Rattle.pg_outputs.specs.Lists.{list_of}
+use Rattle.pg_trie.specs.Inside.Renewed.{values_in, AreNeeded}
+use Rattle.pg_trie.proofs.DeletingLaws.Renewing.{fresh_step}
+use Rattle.pg_trie.proofs.deleting.renew.renew_cell.Goals as goal
+
+pub fresh_head-requires : goal.fresh_head-requires
+fresh_head-requires c =
+    let s = c.in-Some.ensures.some in
+    let head = (c.requires.trie.heads s.0 c.in-Some.head s.2).inside in
+    omega (arith, c.number-old_head.ensures, head)
+
+pub bounds-heads-old_head : goal.bounds-heads-old_head
+bounds-heads-old_head c =
+    let s = c.in-Some.ensures.some in
+    let head = (c.requires.trie.heads s.0 c.in-Some.head s.2).inside in
+    omega (arith, c.requires.heads.size, c.number-old_head.ensures, head)
+
+pub offset_bounds-heads-old_head : goal.offset_bounds-heads-old_head
+offset_bounds-heads-old_head c =
+    let s = c.in-Some.ensures.some in
+    let head = (c.requires.trie.heads s.0 c.in-Some.head s.2).inside in
+    omega (arith, c.requires.heads.size, c.number-old_head.ensures, head)
+
+pub returns : goal.returns
+returns c =
+    let s = c.in-Some.ensures.some in
+    fresh_step c.args.cells.now c.args.outputs.now c.requires.trie.held c.args.cell c.args.fresh.now c.fresh_head.new.fresh c.args.heads.now _ s.0 c.in-Some.head c.in_ok-number.number
+    c.requires.heads s.1 s.2 (c.requires.trie.heads s.0 c.in-Some.head s.2).inside c.in_ok-number.ensures.grows (c.in_ok-number.ensures.one_head c.requires.heads.one_head)
+    c.in_ok-number.ensures.inside
+    (c.in_ok-number.ensures.list ∙ ap (λ h. values_in (list_of c.args.outputs.now h)) c.number-old_head.ensures)
+    (subst (λ h. AreNeeded c.args.fresh.now c.fresh_head.new.fresh (values_in (list_of c.args.outputs.now h))) c.number-old_head.ensures c.in_ok-number.ensures.needed)
+    (λ t. set c.args.heads.now (c.number-old_head.ensures t) (c.in_ok-new_head.ensures t))
+
+pub returns-in_err-number : goal.returns-in_err-number
+returns-in_err-number c = let err = err_from_is_err_and c.from_residual.result c.from_residual.ensures.1 in rw err.1 tt
+
+pub returns-in_err-new_head : goal.returns-in_err-new_head
+returns-in_err-new_head c = let err = err_from_is_err_and c.from_residual-in_err-new_head.result c.from_residual-in_err-new_head.ensures.1 in rw err.1 tt

@@ -1,6 +1,0 @@
-use Rattle.std.proofs.Common.{[]}
-use Rattle.pg_trie.specs.Inside.Pruned.{PrunesTo}
-use Rattle.pg_trie.proofs.prune.prune.Given as goal
-
-abbrev pub invariant-loop-s : goal.invariant-loop-s
-invariant-loop-s l = PrunesTo l.fn.cells l.cells [] l.s

@@ -1,5 +1,0 @@
-use Rattle.pg_trie.specs.Inside.Renewed.{AreFreshTo}
-use Rattle.pg_trie.proofs.renew.fresh_heads.Given as goal
-
-abbrev pub invariant-loop-cell : goal.invariant-loop-cell
-invariant-loop-cell l = AreFreshTo l.cells l.outputs l.cell l.fresh l.heads.items

@@ -1,5 +1,0 @@
-use Rattle.pg_trie.specs.Inside.Renewed.{RenewsTo}
-use Rattle.pg_trie.proofs.renew.renew.Given as goal
-
-abbrev pub invariant-loop-cell : goal.invariant-loop-cell
-invariant-loop-cell l = RenewsTo l.fn.cells l.cell l.heads l.cells

@@ -1,6 +1,0 @@
-use Rattle.std.proofs.Common.{take}
-use Rattle.pg_cells.specs.Inside.Walks.{IsAt}
-use Rattle.pg_trie.proofs.strings.find_cell.Given as goal
-
-abbrev pub invariant-loop-s : goal.invariant-loop-s
-invariant-loop-s l = IsAt l.cells.families l.at (take l.s-index l.signs)

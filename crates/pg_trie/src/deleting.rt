@@ -1,0 +1,3 @@
+//! What the end of a level deletes: records that no value needs, and cells that none does.
+pub mod prune;
+pub mod renew;
