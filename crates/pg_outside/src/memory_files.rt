@@ -36,7 +36,7 @@ pub struct MemoryFiles {
 }
 
 impl MemoryFiles {
-    ghost use Rattle.pg_outside.specs.Inside.MemoryFiles.{files_of, room_of, reads_failed_of, writes_failed_of, calls_of, made_of, listed_of, next_listed};
+    ghost use Rattle.pg_outside.specs.Inside.MemoryFiles.{files_of, reads_failed_of, writes_failed_of, calls_of, made_of, listed_of, next_listed};
 
     /// No file, no call so far and none that is to fail.
     pub fn new(alloc: Global) -> MemoryFiles
@@ -66,12 +66,13 @@ impl MemoryFiles {
     pub fn add(&mut self, name: &str, bytes: &[u8], room: usize) -> Result<(), AllocError>
         ensures ok { OnOk result
             (files_of self.new ≡ fin.insert (files_of self.old) name.now bytes.now) }
-        ensures room { OnOk result (room ≤ room_of self.new name.now) }
-        ensures rooms { NoneFell (room_of self.old) (room_of self.new) }
+        ensures room { OnOk result (room ≤ room_in self.new.files.items name.now) }
+        ensures rooms { NoneFell (room_in self.old.files.items) (room_in self.new.files.items) }
 
         // Refused, the files and their room are as before.
         ensures err { OnErr result (files_of self.new ≡ files_of self.old) }
-        ensures err_rooms { OnErr result (SameCounts (room_of self.old) (room_of self.new)) }
+        ensures err_rooms { OnErr result
+            (SameCounts (room_in self.old.files.items) (room_in self.new.files.items)) }
 
         // Calls and counts are as before in both cases.
         ensures listed { listed_of self.new ≡ listed_of self.old }
@@ -95,7 +96,7 @@ impl MemoryFiles {
 
         // All else is as before in both cases.
         ensures files { files_of self.new ≡ files_of self.old }
-        ensures rooms { SameCounts (room_of self.old) (room_of self.new) }
+        ensures rooms { SameCounts (room_in self.old.files.items) (room_in self.new.files.items) }
         ensures calls { calls_of self.new ≡ calls_of self.old }
         ensures made { made_of self.new ≡ made_of self.old }
         ensures reads { SameCounts (reads_failed_of self.old) (reads_failed_of self.new) }
@@ -208,7 +209,7 @@ fn store_front(
 }
 
 impl Files for MemoryFiles {
-    ghost use Rattle.pg_outside.specs.Inside.MemoryFiles.{memory_shown, room_of, reads_failed_of, calls_of, listed_of, next_listed, IsListed, IsUnlisted, HasFile, SameFiles, SameReads, SameWrites, ReadsRose, WritesRose, ReadsByOne, WritesByOne, KeepsFront, KeepsFrontWithin};
+    ghost use Rattle.pg_outside.specs.Inside.MemoryFiles.{memory_shown, reads_failed_of, calls_of, listed_of, next_listed, IsListed, IsUnlisted, HasFile, SameFiles, SameReads, SameWrites, ReadsRose, WritesRose, ReadsByOne, WritesByOne, KeepsFront, KeepsFrontWithin};
 
     ghost shown = { memory_shown };
 
@@ -229,7 +230,7 @@ impl Files for MemoryFiles {
         // The call is counted, and the calls that are to fail stay listed.
         ensures calls { calls_of self.new ≡ next_count (calls_of self.old) }
         ensures listed { listed_of self.new ≡ listed_of self.old }
-        ensures rooms { SameCounts (room_of self.old) (room_of self.new) }
+        ensures rooms { SameCounts (room_in self.old.files.items) (room_in self.new.files.items) }
 
         // A listed read fails and raises both counts of every name.
         ensures listed_fails { IsListed self.old → IsErrOf result ReadError.Failed }
@@ -265,7 +266,7 @@ impl Files for MemoryFiles {
         // The call is counted, and the calls that are to fail stay listed.
         ensures calls { calls_of self.new ≡ next_count (calls_of self.old) }
         ensures listed { listed_of self.new ≡ listed_of self.old }
-        ensures rooms { NoneFell (room_of self.old) (room_of self.new) }
+        ensures rooms { NoneFell (room_in self.old.files.items) (room_in self.new.files.items) }
 
         // A listed write fails. The file is then as before, or has the bytes that the call keeps.
         // It has these if it was there and they fit into its room.
@@ -277,7 +278,7 @@ impl Files for MemoryFiles {
 
         // Any other write fails only where memory is short, and then changes no file.
         ensures within { IsUnlisted self.old → HasFile self.old name.now
-            → length bytes.now ≤ room_of self.old name.now → IsOk result }
+            → length bytes.now ≤ room_in self.old.files.items name.now → IsOk result }
         ensures unlisted_files { IsUnlisted self.old → OnErr result (SameFiles self.old self.new) }
 
         // A failed write raises the write faults of every name. Nothing else raises a count.

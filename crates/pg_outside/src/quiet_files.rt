@@ -4,6 +4,7 @@ ghost use Rattle.std.specs.Option.{option_copied};
 ghost use Rattle.std.specs.FinMap as fin;
 ghost use Rattle.pg_outside.specs.Inside.ToldFiles.{IsReadOf, IsWriteOf};
 ghost use Rattle.pg_outside.specs.Inside.NameFaults.{NoneFell, SameCounts};
+ghost use Rattle.pg_outside.specs.Inside.StoredFile.{room_in};
 
 use super::call_log::{Call, CallLog};
 use super::outside::{Failed, Files, ReadError};
@@ -23,7 +24,7 @@ pub struct QuietFiles {
 }
 
 impl QuietFiles {
-    ghost use Rattle.pg_outside.specs.Inside.QuietFiles.{quiet_files_of, quiet_room_of, quiet_calls_of, is_telling, told_file, StaysTelling};
+    ghost use Rattle.pg_outside.specs.Inside.QuietFiles.{quiet_files_of, quiet_calls_of, is_telling, told_file, StaysTelling};
 
     /// No file; it tells this.
     pub fn new(alloc: Global) -> QuietFiles
@@ -46,13 +47,13 @@ impl QuietFiles {
     pub fn add(&mut self, name: &str, bytes: &[u8], room: usize) -> Result<(), AllocError>
         ensures ok { OnOk result
             (quiet_files_of self.new ≡ fin.insert (quiet_files_of self.old) name.now bytes.now) }
-        ensures room { OnOk result (room ≤ quiet_room_of self.new name.now) }
-        ensures rooms { NoneFell (quiet_room_of self.old) (quiet_room_of self.new) }
+        ensures room { OnOk result (room ≤ room_in self.new.files.items name.now) }
+        ensures rooms { NoneFell (room_in self.old.files.items) (room_in self.new.files.items) }
 
         // Refused, the files and their room are as before.
         ensures err { OnErr result (quiet_files_of self.new ≡ quiet_files_of self.old) }
         ensures err_rooms { OnErr result
-            (SameCounts (quiet_room_of self.old) (quiet_room_of self.new)) }
+            (SameCounts (room_in self.old.files.items) (room_in self.new.files.items)) }
 
         ensures told { StaysTelling self.old self.new }
         ensures calls { quiet_calls_of self.new ≡ quiet_calls_of self.old }
@@ -80,7 +81,7 @@ impl QuietFiles {
 }
 
 impl Files for QuietFiles {
-    ghost use Rattle.pg_outside.specs.Inside.QuietFiles.{quiet_files_of, quiet_room_of, is_telling, quiet_shown, StoresFile, LacksFile, StaysTelling};
+    ghost use Rattle.pg_outside.specs.Inside.QuietFiles.{quiet_files_of, is_telling, quiet_shown, StoresFile, LacksFile, StaysTelling};
 
     ghost shown = { quiet_shown };
 
@@ -107,7 +108,7 @@ impl Files for QuietFiles {
         ensures quiet { IsErrOf result ReadError.Failed → ⊥ }
         ensures found { StoresFile self.old name.now → StaysTelling self.old self.new }
         ensures files { quiet_files_of self.new ≡ quiet_files_of self.old }
-        ensures rooms { SameCounts (quiet_room_of self.old) (quiet_room_of self.new) }
+        ensures rooms { SameCounts (room_in self.old.files.items) (room_in self.new.files.items) }
     {
         self.calls = self.calls.and(&Call::Read(name));
         match bytes_of(&self.files, name) {
@@ -127,9 +128,9 @@ impl Files for QuietFiles {
         // Every write succeeds, and one to a name that is there stays told within its room.
         ensures succeeds { IsOk result }
         ensures within { StoresFile self.old name.now
-            → length bytes.now ≤ quiet_room_of self.old name.now
+            → length bytes.now ≤ room_in self.old.files.items name.now
             → StaysTelling self.old self.new }
-        ensures rooms { NoneFell (quiet_room_of self.old) (quiet_room_of self.new) }
+        ensures rooms { NoneFell (room_in self.old.files.items) (room_in self.new.files.items) }
     {
         self.calls = self.calls.and(&Call::Write(name));
         if store(self.alloc, &mut self.files, name, bytes, 0).is_err() {

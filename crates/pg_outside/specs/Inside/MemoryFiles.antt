@@ -1,4 +1,4 @@
--- What `MemoryFiles` shows: its files and their room, its counts of faults, and its calls.
+-- What `MemoryFiles` shows: its files, its counts of faults, and its calls.
 use Rattle.std.specs.Prelude.{◌≡◌, ℕ, ◌+◌, ◌≤◌, List, take, length, min, Option, Some, None, IsSome, ◌⊎◌}
 use Rattle.std.specs.FinMap as fin
 use Rattle.pg_outside.specs.Inside.Calls.{ListedCalls, listed_calls}
@@ -13,10 +13,6 @@ use Rattle.pg_outside.specs.declared.memory_files.MemoryFiles.{MemoryFiles}
 -- the files
 abbrev pub files_of : MemoryFiles → FileMap
 files_of memory = file_map memory.files.items
-
--- how many bytes the file of this name holds without more memory, and 0 where there is none
-abbrev pub room_of : MemoryFiles → List ℕ → ℕ
-room_of memory name = room_in memory.files.items name
 
 -- the read faults of this name: those of every name, and the reads of this name that found no file
 abbrev pub reads_failed_of : MemoryFiles → List ℕ → ℕ
@@ -104,4 +100,4 @@ KeepsFront old new name bytes = (keep : ℕ) → next_listed old ≡ Some (Some 
 abbrev pub KeepsFrontWithin : MemoryFiles → MemoryFiles → List ℕ → List ℕ → Type 0
 KeepsFrontWithin old new name bytes = (keep : ℕ) → next_listed old ≡ Some (Some keep)
     → HasFile old name
-    → min keep (length bytes) ≤ room_of old name → WasSet old new name (take keep bytes)
+    → min keep (length bytes) ≤ room_in old.files.items name → WasSet old new name (take keep bytes)

@@ -1,17 +1,13 @@
--- What `QuietFiles` shows: the files that it stores, their room, and whether it tells them.
+-- What `QuietFiles` shows: the files that it stores, and whether it tells them.
 use Rattle.std.specs.Prelude.{◌≡◌, ℕ, List, Bool, cond, Option, Some, None, IsSome}
 use Rattle.pg_outside.specs.Content.{FileMap, FilesShown, file_at}
 use Rattle.pg_outside.specs.FilesCalls.{FilesCall}
-use Rattle.pg_outside.specs.Inside.StoredFile.{file_map, room_in}
+use Rattle.pg_outside.specs.Inside.StoredFile.{file_map}
 use Rattle.pg_outside.specs.declared.quiet_files.QuietFiles.{QuietFiles}
 
 -- the files that it stores, whether it tells them or not
 abbrev pub quiet_files_of : QuietFiles → FileMap
 quiet_files_of quiet = file_map quiet.files.items
-
--- how many bytes the file of this name holds without more memory, and 0 where there is none
-abbrev pub quiet_room_of : QuietFiles → List ℕ → ℕ
-quiet_room_of quiet name = room_in quiet.files.items name
 
 -- whether it tells its files
 abbrev pub is_telling : QuietFiles → Bool

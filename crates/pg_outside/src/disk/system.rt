@@ -6,11 +6,9 @@ ghost use Rattle.pg_outside.specs.Inside.Disk.{Told, Keeps, Steps, Now, Made, Wr
 
 use std::alloc::Global;
 use std::io;
-use thiserror::Error;
 
 /// A call of the system failed.
-#[derive(Clone, Copy, Debug, PartialEq, Eq, Error)]
-#[error("a call of the system failed")]
+#[derive(Clone, Copy)]
 pub struct CallFailed;
 
 impl From<io::Error> for CallFailed {
