@@ -1,103 +1,128 @@
--- The ends of a command that built what it writes and prints.
-use Rattle.std.proofs.Common.{◌≡◌, [], Contains, Some, inl, inr, refl, sym, subst, arith}
-use Rattle.std.specs.Prelude.{ℕ, Result, Ok, Err}
-use Rattle.pg_outside.specs.Content.{FilesShown, SinkShown, file_at}
-use Rattle.pg_top.specs.Answers.{answers_to, IsSampled, IsCall}
-use Rattle.pg_top.specs.Calls.{reads_of}
-use Rattle.pg_top.specs.Counted.{IsCountedCall}
+-- The ends of the commands, and of words that are none.
+use Rattle.std.proofs.Common.{◌≡◌, List, [], ◌∷◌, Contains, Option, None, Some, IfSome, MatchOption, inl, inr, refl, sym, subst, ◌∙◌, arith}
+use Rattle.std.specs.Prelude.{ℕ, Result, Ok, Err, ◌⊎◌}
+use Rattle.pg_outside.specs.Content.{FileMap, FilesShown, SinkShown, WasPut, WasPartPut, file_at}
+use Rattle.pg_top.specs.Answers.{IsCall}
+use Rattle.pg_top.specs.Calls.{rule_of, usage_rule}
+use Rattle.pg_top.specs.Counted.{MakesPuts, IsCountedCall}
 use Rattle.pg_top.specs.Inside.Built.{Keeps, IsMade, Builds, EndsBuilt}
 use Rattle.pg_top.specs.Inside.PutCounts.{LinesCounted}
-use Rattle.pg_top.specs.Inside.Stops.{StopsCommand, PutsLines}
+use Rattle.pg_top.specs.Inside.Stops.{StopsCommand, PutsAnswer, PutsLines}
 use Rattle.pg_top.specs.Inside.WritesMade.{writing_of}
-use Rattle.pg_top.specs.Moments.{Moment, OfFiles}
-use Rattle.pg_top.specs.Promises.{IsPromised}
+use Rattle.pg_top.specs.Moments.{OfFiles}
+use Rattle.pg_top.specs.Outcomes.{IsKnown}
+use Rattle.pg_top.specs.PrintedLines.{usage_line}
+use Rattle.pg_top.specs.Rules.{CommandRule, outcome_of}
 use Rattle.pg_top.specs.WholeCalls.{IsRun}
-use Rattle.pg_top.specs.sample.Sampled.{sample_lines}
+use Rattle.pg_top.specs.Writings.{after_all}
+use Rattle.pg_top.specs.audit.Audited.{audit_rule}
+use Rattle.pg_top.specs.sample.Sampled.{sample_lines, sample_rule}
 use Rattle.pg_top.specs.declared.answers.Status.{Status}
-use Rattle.pg_top.specs.declared.answers.Status.TheVariants.{Done, Refused}
+use Rattle.pg_top.specs.declared.answers.Status.TheVariants.{Done, Usage, Refused, Fault, Memory}
 use Rattle.pg_top.specs.declared.inputs.Stop.{Stop}
 use Rattle.pg_top.specs.declared.writes.Outputs.{Outputs}
-use Rattle.pg_words.specs.Requests.{Request, ToGenerate, ToAudit, ToSample, ToPack, ToTotals, ToPrune, ToSweep}
-use Rattle.pg_top.proofs.Calls.{finished_call, stopped_command, sample_call}
-use Rattle.pg_top.proofs.CountedEnds.{counted_finish, counted_stop, sample_whole}
+use Rattle.pg_words.specs.Requests.{FileNames, Request, ToAudit, ToSample}
+use Rattle.pg_top.proofs.Calls.{IsEnd, finished_call, stopped_command, usage_call, sample_call}
+use Rattle.pg_top.proofs.CountedCalls.{no_calls}
+use Rattle.pg_top.proofs.CountedEnds.{counted_finish, counted_line, counted_stop}
 use Rattle.pg_top.proofs.Promised.{promised, stop_not_done}
 
--- what a command promises is kept where it is done
-promise_kept : (request : Request) (answer : Status) (old new : Moment) → (answer ≡ Done → OfFiles old new (λ before after. Keeps request (file_at before))) → IsPromised (Some request) answer old new
-promise_kept (ToGenerate n) answer old new kept = tt
-promise_kept (ToAudit n) answer old new kept = tt
-promise_kept (ToSample seed count) answer old new kept = tt
-promise_kept (ToPack n) answer old new kept = kept
-promise_kept (ToTotals n) answer old new kept = tt
-promise_kept (ToPrune n) answer old new kept = kept
-promise_kept (ToSweep s) answer old new kept = kept
-
--- a command that builds what it writes and prints
-abbrev pub IsBuilding : Request → Type 0
-IsBuilding (ToAudit n) = ⊥
-IsBuilding (ToSample seed count) = ⊥
-IsBuilding request = Unit {0}
-
--- it may be done or refused, it reads files, and nothing is said of a sample
-record MayBuild (request : Request) : Type 0 where
-  done : Contains (answers_to (Some request)) Done
-  refused : Contains (answers_to (Some request)) Refused
-  reads : reads_of request ≡ [] → ⊥
-  sampled : (answer : Status) (old new : Moment) → IsSampled (Some request) answer old new
-
-may_build : (request : Request) → IsBuilding request → MayBuild request
-may_build (ToGenerate n) is = record { done = (0, omega arith, refl); refused = (1, omega arith, refl); reads = λ none. cc; sampled = λ answer old new. tt }
-may_build (ToAudit n) is = absurd is
-may_build (ToSample seed count) is = absurd is
-may_build (ToPack n) is = record { done = (0, omega arith, refl); refused = (1, omega arith, refl); reads = λ none. cc; sampled = λ answer old new. tt }
-may_build (ToTotals n) is = record { done = (0, omega arith, refl); refused = (1, omega arith, refl); reads = λ none. cc; sampled = λ answer old new. tt }
-may_build (ToPrune n) is = record { done = (0, omega arith, refl); refused = (1, omega arith, refl); reads = λ none. cc; sampled = λ answer old new. tt }
-may_build (ToSweep s) is = record { done = (0, omega arith, refl); refused = (1, omega arith, refl); reads = λ none. cc; sampled = λ answer old new. tt }
+-- a command that builds what it writes and prints: what it may answer, and that it reads files
+pub record IsBuilding (rule : CommandRule) : Type 0 where
+  pub answers : rule.answers ≡ Done ∷ Refused ∷ Memory ∷ []
+  pub reads : rule.reads ≡ [] → ⊥
 
 -- such a command at its end
-pub built_run : {F : Type 0} (request : Request) (built : Result Outputs Stop) (before after : F) (s0 s1 s2 : FilesShown) (o0 o1 : SinkShown) (answer : Status)
-    → IsBuilding request → Builds request s0 s1 built → EndsBuilt built answer (s1, o0) (s2, o1) → IsRun (Some request) answer before after (s0, o0) (s2, o1)
-built_run request (Ok made) before after s0 s1 s2 o0 o1 answer building builds ends =
-    let may : MayBuild request = may_build request building in
-    let is : IsMade request s0 s1 made = builds.made in
+pub built_run : {F : Type 0} (asked : Option Request) (built : Result Outputs Stop) (before after : F) (s0 s1 s2 : FilesShown) (o0 o1 : SinkShown) (answer : Status)
+    → IsBuilding (rule_of asked) → Builds (rule_of asked) s0 s1 built → EndsBuilt built answer (s1, o0) (s2, o1) → IsRun asked answer before after (s0, o0) (s2, o1)
+built_run asked (Ok made) before after s0 s1 s2 o0 o1 answer building builds ends =
+    let rule = rule_of asked in
+    let is : IsMade rule s0 s1 made = builds.made in
+    let may : Contains rule.answers Done = subst (λ (answers : List Status). Contains answers Done) (sym building.answers) (0, omega arith, refl) in
     record {
-      call = finished_call request (writing_of made.files.items) made.lines.items s0 s1 s2 o0 o1 answer may.done is.named builds.only.held builds.only.writes is.comes is.counted ends;
-      sampled = may.sampled answer (s0, o0) (s2, o1);
-      counted = counted_finish request (writing_of made.files.items) made.lines.items s0 s1 s2 o0 o1 answer is.named is.counted ends;
-      promised = promise_kept request answer (s0, o0) (s2, o1) (promised (writing_of made.files.items) made.lines.items s0 s1 s2 o0 o1 answer
-          (λ files. Keeps request (file_at files)) builds.only.held is.keeps ends);
-      same = λ none. absurd (may.reads none);
+      call = finished_call rule (writing_of made.files.items) made.lines.items s0 s1 s2 o0 o1 answer may is.named builds.only.held builds.only.writes is.comes is.counted ends;
+      counted = counted_finish rule (writing_of made.files.items) made.lines.items s0 s1 s2 o0 o1 answer is.named is.counted ends;
+      promised = promised (writing_of made.files.items) made.lines.items s0 s1 s2 o0 o1 answer (λ files. Keeps rule (file_at files)) builds.only.held is.keeps ends;
+      unread = λ none. absurd (building.reads none);
     }
-built_run request (Err stop) before after s0 s1 s2 o0 o1 answer building builds ends =
-    let may : MayBuild request = may_build request building in
-    let stops : StopsCommand request s0 s1 stop = builds.stopped in
+built_run asked (Err stop) before after s0 s1 s2 o0 o1 answer building builds ends =
+    let rule = rule_of asked in
+    let stops : StopsCommand rule s0 s1 stop = builds.stopped in
+    let may : Contains rule.answers Refused = subst (λ (answers : List Status). Contains answers Refused) (sym building.answers) (1, omega arith, refl) in
+    let wants : Contains rule.answers Memory = subst (λ (answers : List Status). Contains answers Memory) (sym building.answers) (2, omega arith, refl) in
     record {
-      call = subst (λ (s : FilesShown). IsCall (Some request) answer (s0, o0) (s, o1)) (sym ends.0) (stopped_command request s0 s1 o0 o1 stop answer may.refused builds.only.held stops ends.1 ends.2);
-      sampled = may.sampled answer (s0, o0) (s2, o1);
-      counted = subst (λ (s : FilesShown). IsCountedCall (Some request) answer (s0, o0) (s, o1)) (sym ends.0) (counted_stop request s0 s1 o0 o1 stop answer stops ends.2);
-      promised = promise_kept request answer (s0, o0) (s2, o1) (λ is. absurd (stop_not_done stop answer o0 o1 ends.1 is));
-      same = λ none. absurd (may.reads none);
+      call = subst (λ (s : FilesShown). IsCall rule answer (s0, o0) (s, o1)) (sym ends.0) (stopped_command rule s0 s1 o0 o1 stop answer may wants builds.only.held stops ends.1 ends.2);
+      counted = subst (λ (s : FilesShown). IsCountedCall rule answer (s0, o0) (s, o1)) (sym ends.0) (counted_stop rule s0 s1 o0 o1 stop answer stops ends.2);
+      promised = λ is. absurd (stop_not_done stop answer o0 o1 ends.1 is);
+      unread = λ none. absurd (building.reads none);
     }
+
+-- nothing is promised where a rule promises nothing
+nothing_kept : (s : FilesShown) → IfSome s.held (λ after. MatchOption s.held ⊥ (λ before. Unit {0}))
+nothing_kept s = by_cases s.held
+  where
+    by_cases : (h : Option FileMap) → IfSome h (λ after. MatchOption h ⊥ (λ before. Unit {0}))
+    by_cases None = tt
+    by_cases (Some files) = tt
+
+-- the line of an answer was put, or a part of it
+lines_put : (wanted answer : Status) (lines : List ℕ) (o0 o1 : SinkShown) → IsEnd wanted → PutsAnswer lines wanted answer o0 o1
+    → (answer ≡ wanted → WasPut o0.text o1.text lines) × (answer ≡ Fault → WasPartPut o0.text o1.text lines)
+lines_put wanted answer lines o0 o1 end (inl h) = (λ _. h.1, λ is. absurd (subst IsEnd (sym h.0 ∙ is) end))
+lines_put wanted answer lines o0 o1 end (inr h) = (λ is. absurd (subst IsEnd (sym is ∙ h.0) end), λ _. h.2)
+
+-- words that are no command
+pub usage_run : {F : Type 0} (files : F) (s : FilesShown) (o0 o1 : SinkShown) (answer : Status) → PutsAnswer usage_line Usage answer o0 o1 → MakesPuts o0 o1 1
+    → IsRun None answer files files (s, o0) (s, o1)
+usage_run files s o0 o1 answer line puts = record {
+  call = usage_call s o0 o1 answer line puts;
+  counted = counted_line usage_rule Usage usage_line s s o0 o1 answer (no_calls s, puts) line;
+  promised = λ _. nothing_kept s;
+  unread = λ _. (refl, lines_put Usage answer usage_line o0 o1 tt line);
+}
 
 -- `sample`, which has no files
 pub sample_run : {F : Type 0} (seed count : ℕ) (files : F) (s : FilesShown) (o0 o1 : SinkShown) (answer : Status) → PutsLines (sample_lines seed count) answer o0 o1
     → LinesCounted answer o0 o1 → IsRun (Some (ToSample seed count)) answer files files (s, o0) (s, o1)
 sample_run seed count files s o0 o1 answer lines puts = record {
   call = sample_call seed count s o0 o1 answer lines puts;
-  sampled = put lines;
   counted = counts lines;
-  promised = tt;
-  same = λ _. refl;
+  promised = λ _. nothing_kept s;
+  unread = λ _. (refl, put lines);
 }
   where
-    put : PutsLines (sample_lines seed count) answer o0 o1 → IsSampled (Some (ToSample seed count)) answer (s, o0) (s, o1)
-    put (inl h) = subst (λ (answer : Status). IsSampled (Some (ToSample seed count)) answer (s, o0) (s, o1)) (sym h.0) tt
-    put (inr (inl h)) = subst (λ (answer : Status). IsSampled (Some (ToSample seed count)) answer (s, o0) (s, o1)) (sym h.0) h.1
-    put (inr (inr h)) = subst (λ (answer : Status). IsSampled (Some (ToSample seed count)) answer (s, o0) (s, o1)) (sym h.0) tt
+    put : PutsLines (sample_lines seed count) answer o0 o1
+        → (answer ≡ Done → WasPut o0.text o1.text (sample_lines seed count)) × (answer ≡ Fault → WasPartPut o0.text o1.text (sample_lines seed count))
+    put (inl h) = (λ is. absurd (let wanted = h.0 in cc), λ is. absurd (let wanted = h.0 in cc))
+    put (inr h) = lines_put Done answer (sample_lines seed count) o0 o1 tt h
 
-    counts : PutsLines (sample_lines seed count) answer o0 o1 → IsCountedCall (Some (ToSample seed count)) answer (s, o0) (s, o1)
-    counts (inl h) = subst (λ (answer : Status). IsCountedCall (Some (ToSample seed count)) answer (s, o0) (s, o1)) (sym h.0)
+    counts : PutsLines (sample_lines seed count) answer o0 o1 → IsCountedCall (sample_rule seed count) answer (s, o0) (s, o1)
+    counts (inl h) = subst (λ (answer : Status). IsCountedCall (sample_rule seed count) answer (s, o0) (s, o1)) (sym h.0)
         (inl refl, subst (λ (answer : Status). LinesCounted answer o0 o1) h.0 puts)
-    counts (inr (inl h)) = subst (λ (answer : Status). IsCountedCall (Some (ToSample seed count)) answer (s, o0) (s, o1)) (sym h.0)
-        (sample_whole seed count s o0 o1 (subst (λ (answer : Status). LinesCounted answer o0 o1) h.0 puts))
-    counts (inr (inr h)) = subst (λ (answer : Status). IsCountedCall (Some (ToSample seed count)) answer (s, o0) (s, o1)) (sym h.0) tt
+    counts (inr (inl h)) = subst (λ (answer : Status). IsCountedCall (sample_rule seed count) answer (s, o0) (s, o1)) (sym h.0)
+        (no_calls s, subst (λ (answer : Status). LinesCounted answer o0 o1) h.0 puts)
+    counts (inr (inr h)) = subst (λ (answer : Status). IsCountedCall (sample_rule seed count) answer (s, o0) (s, o1)) (sym h.0) tt
+
+-- `audit`
+pub audit_run : {F : Type 0} (n : FileNames) (before after : F) (s0 s1 : FilesShown) (o0 o1 : SinkShown) (answer : Status) → IsCall (audit_rule n) answer (s0, o0) (s1, o1)
+    → IsCountedCall (audit_rule n) answer (s0, o0) (s1, o1) → IsRun (Some (ToAudit n)) answer before after (s0, o0) (s1, o1)
+audit_run n before after s0 s1 o0 o1 answer call counted = record {
+  call = call;
+  counted = counted;
+  promised = kept call.answered;
+  unread = λ none. cc;
+}
+  where
+    by_held : (h0 h1 : Option FileMap) (P : FileMap → FileMap → Type 0) → IfSome h1 (λ after. MatchOption h0 ⊥ (λ before. P before after))
+        → IfSome h1 (λ after. MatchOption h0 ⊥ (λ before. Unit {0}))
+    by_held h0 None P told = tt
+    by_held None (Some after) P told = absurd told
+    by_held (Some before) (Some after) P told = tt
+
+    kept : (answer ≡ Fault) ⊎ ((answer ≡ Memory) ⊎ OfFiles (s0, o0) (s1, o1) (λ before after. IsKnown (outcome_of (file_at before) (audit_rule n))
+        (λ wanted writing lines. (answer ≡ wanted) × (after ≡ after_all before writing) × WasPut o0.text o1.text lines)))
+        → answer ≡ Done → OfFiles (s0, o0) (s1, o1) (λ before after. (audit_rule n).keeps (file_at before) (outcome_of (file_at before) (audit_rule n)))
+    kept (inl h) is = absurd (subst IsEnd (sym is ∙ h) tt)
+    kept (inr (inl h)) is = absurd (subst IsEnd (sym is ∙ h) tt)
+    kept (inr (inr h)) is = by_held s0.held s1.held (λ before after. IsKnown (outcome_of (file_at before) (audit_rule n))
+        (λ wanted writing lines. (answer ≡ wanted) × (after ≡ after_all before writing) × WasPut o0.text o1.text lines)) h

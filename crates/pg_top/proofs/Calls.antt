@@ -6,32 +6,32 @@ use Rattle.std.specs.Option.{option_map}
 use Rattle.pg_types.specs.declared.refusals.Refusal.{Refusal}
 use Rattle.pg_outside.specs.Content.{FileMap, FilesShown, SinkShown, KeepsHeld, file_at}
 use Rattle.pg_outside.specs.Inside.NameFaults.{NoneFell}
-use Rattle.pg_top.specs.Answers.{answers_to, IsAnswered, IsCall}
-use Rattle.pg_top.specs.Calls.{outcome, outcome_of, own_outcome, reads_of, writes_of}
+use Rattle.pg_top.specs.Answers.{IsCall}
+use Rattle.pg_top.specs.Calls.{usage_rule}
 use Rattle.pg_top.specs.Counted.{MakesCalls, MakesPuts, read_calls, PutsFault, ReadsUpTo, EndsAt, IsEndCounted}
 use Rattle.pg_top.specs.Inside.ReadCalls.{write_calls}
 use Rattle.pg_top.specs.Inside.PutCounts.{PutsCounted, LinesCounted}
-use Rattle.pg_top.specs.Moments.{Moment, OfFiles, PutOrRose}
+use Rattle.pg_top.specs.Moments.{Moment, PutOrRose}
 use Rattle.pg_top.specs.Inside.Puts.{Puts, PutsPart, PutRose}
 use Rattle.pg_top.specs.Outcomes.{Outcome, Ends, Writing, IsKnown}
 use Rattle.pg_top.specs.Inside.Refusing.{refuses}
 use Rattle.pg_top.specs.PrintedLines.{usage_line, refused_line}
 use Rattle.pg_top.specs.Inside.FaultLines.{reading_line, writing_line}
 use Rattle.pg_top.specs.Readings.{first_end}
-use Rattle.pg_words.specs.Requests.{Request, ToGenerate, ToAudit, ToSample, ToPack, ToTotals, ToPrune, ToSweep}
-use Rattle.pg_top.specs.sample.Sampled.{sample_lines}
+use Rattle.pg_top.specs.sample.Sampled.{sample_rule, sample_lines}
 use Rattle.pg_top.specs.Inside.Stops.{ReadRose, ReadRoseAt, StopsWith, StopsReading, StopsCommandWith, StopsCommand, PutsAnswer, PutsLines, PutsStop, Finishes}
 use Rattle.pg_top.specs.Writings.{after_all, IsPartWritten}
 use Rattle.pg_top.specs.Inside.WritesMade.{written_names, WroteAll, StoppedAt}
 use Rattle.pg_top.specs.declared.answers.Status.{Status}
-use Rattle.pg_top.specs.declared.answers.Status.TheVariants.{Done, Yes, No, Usage, Refused, Fault, Memory}
+use Rattle.pg_top.specs.declared.answers.Status.TheVariants.{Done, Usage, Refused, Fault, Memory}
 use Rattle.pg_top.specs.declared.inputs.Input.{Input}
 use Rattle.pg_top.specs.declared.inputs.Stop.{Stop}
 use Rattle.pg_top.specs.declared.inputs.Stop.TheVariants as stop
-use Rattle.pg_top.proofs.CountedCalls.{calls_on, calls_are}
-use Rattle.pg_top.proofs.CountedEnds.{refused_counted, whole_calls, sample_whole}
+use Rattle.pg_top.proofs.CountedCalls.{no_calls, calls_on, calls_are}
+use Rattle.pg_top.proofs.CountedEnds.{refused_counted, whole_calls}
 use Rattle.pg_top.proofs.Faults.{rose_since}
 use Rattle.pg_top.proofs.Orders.{mapped, end_of_all}
+use Rattle.pg_top.specs.Rules.{CommandRule, outcome_of}
 
 -- an outcome was done by an answer: whole, up to its lines, and up to a write
 abbrev DoesAll : Moment → Moment → Status → FileMap → FileMap → Outcome → Type 0
@@ -45,48 +45,15 @@ StopsWriting name before after end = IsKnown end (λ status writing lines. IsPar
 
 -- the answers that are those of an outcome
 abbrev pub IsEnd : Status → Type 0
-IsEnd Usage = ⊥
 IsEnd Fault = ⊥
 IsEnd Memory = ⊥
 IsEnd status = Unit {0}
-
-no_usage : (status : Status) → IsEnd status → status ≡ Usage → ⊥
-no_usage status end is = subst IsEnd is end
 
 no_fault : (status : Status) → IsEnd status → status ≡ Fault → ⊥
 no_fault status end is = subst IsEnd is end
 
 no_memory : (status : Status) → IsEnd status → status ≡ Memory → ⊥
 no_memory status end is = subst IsEnd is end
-
--- of every command these may be answered
-pub may_fault : (request : Request) → Contains (answers_to (Some request)) Fault
-may_fault (ToGenerate n) = (2, omega arith, refl)
-may_fault (ToAudit n) = (3, omega arith, refl)
-may_fault (ToSample seed count) = (1, omega arith, refl)
-may_fault (ToPack n) = (2, omega arith, refl)
-may_fault (ToTotals n) = (2, omega arith, refl)
-may_fault (ToPrune n) = (2, omega arith, refl)
-may_fault (ToSweep s) = (2, omega arith, refl)
-
-pub may_want : (request : Request) → Contains (answers_to (Some request)) Memory
-may_want (ToGenerate n) = (3, omega arith, refl)
-may_want (ToAudit n) = (4, omega arith, refl)
-may_want (ToSample seed count) = (2, omega arith, refl)
-may_want (ToPack n) = (3, omega arith, refl)
-may_want (ToTotals n) = (3, omega arith, refl)
-may_want (ToPrune n) = (3, omega arith, refl)
-may_want (ToSweep s) = (3, omega arith, refl)
-
-answered_as : (asked : Option Request) (status : Status) (old new : Moment) → OfFiles old new (λ before after. DoesAll old new status before after (outcome (file_at before) asked))
-    → IsAnswered asked status old new
-answered_as asked Done old new h = h
-answered_as asked Yes old new h = h
-answered_as asked No old new h = h
-answered_as asked Usage old new h = h
-answered_as asked Refused old new h = h
-answered_as asked Fault old new h = tt
-answered_as asked Memory old new h = tt
 
 -- where the files kept what they held and were then written, this is so of those before and after
 of_files : (s0 s1 s2 : FilesShown) (writing : Writing) (Q : FileMap → Type 0) (P : FileMap → FileMap → Type 0) → KeepsHeld s0.held s1.held → IfSome s1.held Q
@@ -108,89 +75,85 @@ nothing_written s = by_cases s.held
     by_cases None = tt
     by_cases (Some files) = refl
 
-module _ (request : Request) (wanted : Status) (writing : Writing) (lines : List ℕ) where
+module _ (rule : CommandRule) (wanted : Status) (writing : Writing) (lines : List ℕ) where
   abbrev Comes : FileMap → Type 0
-  Comes files = outcome_of (file_at files) request ≡ Ends wanted writing lines
+  Comes files = outcome_of (file_at files) rule ≡ Ends wanted writing lines
 
   -- the outcome was done
-  done_call : (s0 s1 s2 : FilesShown) (o0 o1 : SinkShown) → IsEnd wanted → Contains (answers_to (Some request)) wanted → KeepsHeld s0.held s1.held
-      → IfSome s1.held Comes → WroteAll s1 s2 writing → Puts o0 o1 lines → IsCall (Some request) wanted (s0, o0) (s2, o1)
+  done_call : (s0 s1 s2 : FilesShown) (o0 o1 : SinkShown) → IsEnd wanted → Contains rule.answers wanted → KeepsHeld s0.held s1.held
+      → IfSome s1.held Comes → WroteAll s1 s2 writing → Puts o0 o1 lines → IsCall rule wanted (s0, o0) (s2, o1)
   done_call s0 s1 s2 o0 o1 end may keeps told wrote puts = record {
-    answers = may;
-    usage = λ is. absurd (no_usage wanted end is);
-    answered = answered_as (Some request) wanted (s0, o0) (s2, o1)
-        (of_files s0 s1 s2 writing Comes (λ before after. DoesAll (s0, o0) (s2, o1) wanted before after (outcome_of (file_at before) request)) keeps told wrote
-        (λ before after comes written. subst (DoesAll (s0, o0) (s2, o1) wanted before after) (sym comes) (refl, written, puts)));
+    answers = inr may;
+    answered = inr (inr
+        (of_files s0 s1 s2 writing Comes (λ before after. DoesAll (s0, o0) (s2, o1) wanted before after (outcome_of (file_at before) rule)) keeps told wrote
+        (λ before after comes written. subst (DoesAll (s0, o0) (s2, o1) wanted before after) (sym comes) (refl, written, puts))));
     memory = λ is. absurd (no_memory wanted end is);
     faulted = λ is. absurd (no_fault wanted end is);
   }
 
   -- its lines could not be put
-  put_failed : (s0 s1 s2 : FilesShown) (o0 o1 : SinkShown) → IsEndCounted request wanted (s0, o0) (s2, o1) → KeepsHeld s0.held s1.held → IfSome s1.held Comes
-      → WroteAll s1 s2 writing → PutRose o0 o1 → PutsPart o0 o1 lines → IsCall (Some request) Fault (s0, o0) (s2, o1)
+  put_failed : (s0 s1 s2 : FilesShown) (o0 o1 : SinkShown) → IsEndCounted rule wanted (s0, o0) (s2, o1) → KeepsHeld s0.held s1.held → IfSome s1.held Comes
+      → WroteAll s1 s2 writing → PutRose o0 o1 → PutsPart o0 o1 lines → IsCall rule Fault (s0, o0) (s2, o1)
   put_failed s0 s1 s2 o0 o1 counted keeps told wrote rose part = record {
-    answers = may_fault request;
-    usage = λ is. cc;
-    answered = tt;
+    answers = inl refl;
+    answered = inl refl;
     memory = λ is. cc;
     faulted = λ _. inr (inr (record {
       wanted = wanted;
       counted = counted;
       rose = rose;
-      part = of_files s0 s1 s2 writing Comes (λ before after. DoesPart (s0, o0) (s2, o1) wanted before after (outcome_of (file_at before) request)) keeps told wrote
+      part = of_files s0 s1 s2 writing Comes (λ before after. DoesPart (s0, o0) (s2, o1) wanted before after (outcome_of (file_at before) rule)) keeps told wrote
           (λ before after comes written. subst (DoesPart (s0, o0) (s2, o1) wanted before after) (sym comes) (refl, written, part));
     }));
   }
 
   -- all was written
-  pub ended_call : (s0 s1 s2 : FilesShown) (o0 o1 : SinkShown) (answer : Status) → IsEnd wanted → Contains (answers_to (Some request)) wanted
-      → IsEndCounted request wanted (s0, o0) (s2, o1) → KeepsHeld s0.held s1.held → IfSome s1.held Comes → WroteAll s1 s2 writing → PutsAnswer lines wanted answer o0 o1
-      → IsCall (Some request) answer (s0, o0) (s2, o1)
-  ended_call s0 s1 s2 o0 o1 answer end may counted keeps told wrote (inl h) = subst (λ (status : Status). IsCall (Some request) status (s0, o0) (s2, o1))
+  pub ended_call : (s0 s1 s2 : FilesShown) (o0 o1 : SinkShown) (answer : Status) → IsEnd wanted → Contains rule.answers wanted
+      → IsEndCounted rule wanted (s0, o0) (s2, o1) → KeepsHeld s0.held s1.held → IfSome s1.held Comes → WroteAll s1 s2 writing → PutsAnswer lines wanted answer o0 o1
+      → IsCall rule answer (s0, o0) (s2, o1)
+  ended_call s0 s1 s2 o0 o1 answer end may counted keeps told wrote (inl h) = subst (λ (status : Status). IsCall rule status (s0, o0) (s2, o1))
       (sym h.0) (done_call s0 s1 s2 o0 o1 end may keeps told wrote h.1)
-  ended_call s0 s1 s2 o0 o1 answer end may counted keeps told wrote (inr h) = subst (λ (status : Status). IsCall (Some request) status (s0, o0) (s2, o1))
+  ended_call s0 s1 s2 o0 o1 answer end may counted keeps told wrote (inr h) = subst (λ (status : Status). IsCall rule status (s0, o0) (s2, o1))
       (sym h.0) (put_failed s0 s1 s2 o0 o1 counted keeps told wrote h.1 h.2)
 
   -- where writing stopped, it stands there
   stopped_writing : (s0 s1 s2 : FilesShown) (place : ℕ) (stopped : StoppedAt s1 s2 writing place) → KeepsHeld s0.held s1.held → IfSome s1.held Comes
-      → IfSome s2.held (λ after. MatchOption s0.held ⊥ (λ before. StopsWriting stopped.write.0 before after (outcome_of (file_at before) request)))
+      → IfSome s2.held (λ after. MatchOption s0.held ⊥ (λ before. StopsWriting stopped.write.0 before after (outcome_of (file_at before) rule)))
   stopped_writing s0 s1 s2 place stopped keeps told = by_cases s0.held s1.held s2.held keeps told stopped.part
     where
       name : List ℕ
       name = stopped.write.0
 
       by_cases : (h0 h1 h2 : Option FileMap) → KeepsHeld h0 h1 → IfSome h1 Comes → IfSome h2 (λ after. MatchOption h1 ⊥ (λ before. IsPartWritten before after writing stopped.write.0))
-          → IfSome h2 (λ after. MatchOption h0 ⊥ (λ before. StopsWriting stopped.write.0 before after (outcome_of (file_at before) request)))
+          → IfSome h2 (λ after. MatchOption h0 ⊥ (λ before. StopsWriting stopped.write.0 before after (outcome_of (file_at before) rule)))
       by_cases h0 h1 None keeps told part = tt
       by_cases h0 None (Some after) keeps told part = absurd part
       by_cases h0 (Some before) (Some after) keeps told part =
-          subst (λ held. MatchOption held ⊥ (λ before. StopsWriting stopped.write.0 before after (outcome_of (file_at before) request))) (sym keeps)
+          subst (λ held. MatchOption held ⊥ (λ before. StopsWriting stopped.write.0 before after (outcome_of (file_at before) rule))) (sym keeps)
           (subst (StopsWriting stopped.write.0 before after) (sym told) part)
 
 -- an answer with no write
-pub answered_call : (request : Request) (wanted : Status) (lines : List ℕ) (s0 s1 : FilesShown) (o0 o1 : SinkShown) (answer : Status) → IsEnd wanted
-    → Contains (answers_to (Some request)) wanted → IsEndCounted request wanted (s0, o0) (s1, o1) → KeepsHeld s0.held s1.held
-    → IfSome s1.held (λ files. outcome_of (file_at files) request ≡ Ends wanted [] lines) → PutsAnswer lines wanted answer o0 o1 → IsCall (Some request) answer (s0, o0) (s1, o1)
-answered_call request wanted lines s0 s1 o0 o1 answer end may counted keeps told puts = ended_call request wanted [] lines s0 s1 s1 o0 o1 answer end may counted keeps told (nothing_written s1) puts
+pub answered_call : (rule : CommandRule) (wanted : Status) (lines : List ℕ) (s0 s1 : FilesShown) (o0 o1 : SinkShown) (answer : Status) → IsEnd wanted
+    → Contains rule.answers wanted → IsEndCounted rule wanted (s0, o0) (s1, o1) → KeepsHeld s0.held s1.held
+    → IfSome s1.held (λ files. outcome_of (file_at files) rule ≡ Ends wanted [] lines) → PutsAnswer lines wanted answer o0 o1 → IsCall rule answer (s0, o0) (s1, o1)
+answered_call rule wanted lines s0 s1 o0 o1 answer end may counted keeps told puts = ended_call rule wanted [] lines s0 s1 s1 o0 o1 answer end may counted keeps told (nothing_written s1) puts
 
 -- memory was wanted
-pub memory_call : (request : Request) (s0 s1 : FilesShown) (o0 o1 : SinkShown) (answer : Status) → KeepsHeld s0.held s1.held → answer ≡ Memory
-    → Puts o0 o1 [] → IsCall (Some request) answer (s0, o0) (s1, o1)
-memory_call request s0 s1 o0 o1 answer keeps is puts = subst (λ (status : Status). IsCall (Some request) status (s0, o0) (s1, o1)) (sym is) (record {
-  answers = may_want request;
-  usage = λ is. cc;
-  answered = tt;
+pub memory_call : (rule : CommandRule) (s0 s1 : FilesShown) (o0 o1 : SinkShown) (answer : Status) → Contains rule.answers Memory → KeepsHeld s0.held s1.held → answer ≡ Memory
+    → Puts o0 o1 [] → IsCall rule answer (s0, o0) (s1, o1)
+memory_call rule s0 s1 o0 o1 answer may keeps is puts = subst (λ (status : Status). IsCall rule status (s0, o0) (s1, o1)) (sym is) (record {
+  answers = inr may;
+  answered = inr (inl refl);
   memory = λ _. (keeps, puts);
   faulted = λ is. cc;
 })
 
 -- a file could not be read
-unread_call : (request : Request) (place : ℕ) (name : List ℕ) (s0 s1 : FilesShown) (o0 o1 : SinkShown) → KeepsHeld s0.held s1.held → ReadsUpTo (reads_of request) place s0 s1
-    → ReadRoseAt (reads_of request) place s0 s1 name → PutOrRose o0 o1 (reading_line name) → PutsFault o0 o1 → IsCall (Some request) Fault (s0, o0) (s1, o1)
-unread_call request place name s0 s1 o0 o1 keeps read why line puts = record {
-  answers = may_fault request;
-  usage = λ is. cc;
-  answered = tt;
+unread_call : (rule : CommandRule) (place : ℕ) (name : List ℕ) (s0 s1 : FilesShown) (o0 o1 : SinkShown) → KeepsHeld s0.held s1.held → ReadsUpTo rule.reads place s0 s1
+    → ReadRoseAt rule.reads place s0 s1 name → PutOrRose o0 o1 (reading_line name) → PutsFault o0 o1 → IsCall rule Fault (s0, o0) (s1, o1)
+unread_call rule place name s0 s1 o0 o1 keeps read why line puts = record {
+  answers = inl refl;
+  answered = inl refl;
   memory = λ is. cc;
   faulted = λ _. inl (record {
     place = place;
@@ -211,127 +174,100 @@ refused_puts input refusal line answer o0 o1 (inl is) puts = subst (λ (answer :
 refused_puts input refusal line answer o0 o1 (inr is) puts = subst (λ (answer : Status). PutsCounted (stop.Refused input refusal) answer o0 o1) is.0 puts
 
 -- a command stopped before it wrote
-pub stopped_command : (request : Request) (s0 s1 : FilesShown) (o0 o1 : SinkShown) (why : Stop) (answer : Status) → Contains (answers_to (Some request)) Refused
-    → KeepsHeld s0.held s1.held → StopsCommand request s0 s1 why → PutsStop why answer o0 o1 → PutsCounted why answer o0 o1 → IsCall (Some request) answer (s0, o0) (s1, o1)
-stopped_command request s0 s1 o0 o1 (stop.Refused input refusal) answer may keeps stops (inl h) puts = memory_call request s0 s1 o0 o1 answer keeps h.0 h.1
-stopped_command request s0 s1 o0 o1 (stop.Refused input refusal) answer may keeps stops (inr h) puts =
-    answered_call request Refused (refused_line input refusal) s0 s1 o0 o1 answer tt may
-    (refused_counted request s0 s1 o0 o1 input refusal stops (refused_puts input refusal (refused_line input refusal) answer o0 o1 h puts)) keeps
-    (mapped s1.held (λ files. (outcome_of (file_at files) request ≡ refuses input refusal) × EndsAt request stops.place (file_at files))
-    (λ files. outcome_of (file_at files) request ≡ refuses input refusal) (λ files k. k.0) stops.why) h
-stopped_command request s0 s1 o0 o1 (stop.Unread name) answer may keeps stops line puts =
-    subst (λ (status : Status). IsCall (Some request) status (s0, o0) (s1, o1)) (sym line.0)
-    (unread_call request stops.place name.now s0 s1 o0 o1 keeps stops.read stops.why line.1 (subst (λ (answer : Status). PutsCounted (stop.Unread name) answer o0 o1) line.0 puts))
-stopped_command request s0 s1 o0 o1 stop.Memory answer may keeps stops line puts = memory_call request s0 s1 o0 o1 answer keeps line.0 line.1
+pub stopped_command : (rule : CommandRule) (s0 s1 : FilesShown) (o0 o1 : SinkShown) (why : Stop) (answer : Status) → Contains rule.answers Refused
+    → Contains rule.answers Memory → KeepsHeld s0.held s1.held → StopsCommand rule s0 s1 why → PutsStop why answer o0 o1 → PutsCounted why answer o0 o1 → IsCall rule answer (s0, o0) (s1, o1)
+stopped_command rule s0 s1 o0 o1 (stop.Refused input refusal) answer may wants keeps stops (inl h) puts = memory_call rule s0 s1 o0 o1 answer wants keeps h.0 h.1
+stopped_command rule s0 s1 o0 o1 (stop.Refused input refusal) answer may wants keeps stops (inr h) puts =
+    answered_call rule Refused (refused_line input refusal) s0 s1 o0 o1 answer tt may
+    (refused_counted rule s0 s1 o0 o1 input refusal stops (refused_puts input refusal (refused_line input refusal) answer o0 o1 h puts)) keeps
+    (mapped s1.held (λ files. (outcome_of (file_at files) rule ≡ refuses input refusal) × EndsAt rule stops.place (file_at files))
+    (λ files. outcome_of (file_at files) rule ≡ refuses input refusal) (λ files k. k.0) stops.why) h
+stopped_command rule s0 s1 o0 o1 (stop.Unread name) answer may wants keeps stops line puts =
+    subst (λ (status : Status). IsCall rule status (s0, o0) (s1, o1)) (sym line.0)
+    (unread_call rule stops.place name.now s0 s1 o0 o1 keeps stops.read stops.why line.1 (subst (λ (answer : Status). PutsCounted (stop.Unread name) answer o0 o1) line.0 puts))
+stopped_command rule s0 s1 o0 o1 stop.Memory answer may wants keeps stops line puts = memory_call rule s0 s1 o0 o1 answer wants keeps line.0 line.1
 
 -- it stopped while it read
-pub stops_reading : (request : Request) (s0 s1 : FilesShown) (why : Stop) → StopsReading (reads_of request) s0 s1 why → StopsCommand request s0 s1 why
-stops_reading request s0 s1 why stops = record { place = stops.place; read = stops.read; why = why_command why stops.place stops.why }
+pub stops_reading : (rule : CommandRule) (s0 s1 : FilesShown) (why : Stop) → StopsReading rule.reads s0 s1 why → StopsCommand rule s0 s1 why
+stops_reading rule s0 s1 why stops = record { place = stops.place; read = stops.read; why = why_command why stops.place stops.why }
   where
-    why_command : (why : Stop) (place : ℕ) → StopsWith (reads_of request) place s0 s1 why → StopsCommandWith request place s0 s1 why
+    why_command : (why : Stop) (place : ℕ) → StopsWith rule.reads place s0 s1 why → StopsCommandWith rule place s0 s1 why
     why_command (stop.Refused input refusal) place stops =
-        mapped s1.held (λ files. first_end (file_at files) (take (place + 1) (reads_of request)) ≡ Some (refuses input refusal))
-        (λ files. (outcome_of (file_at files) request ≡ refuses input refusal) × EndsAt request place (file_at files))
+        mapped s1.held (λ files. first_end (file_at files) (take (place + 1) rule.reads) ≡ Some (refuses input refusal))
+        (λ files. (outcome_of (file_at files) rule ≡ refuses input refusal) × EndsAt rule place (file_at files))
         (λ files is.
-        let end : outcome_of (file_at files) request ≡ refuses input refusal = ap (λ end. unwrap_or end (own_outcome (file_at files) request))
-        (end_of_all (file_at files) (place + 1) (reads_of request) (refuses input refusal) is) in
+        let end : outcome_of (file_at files) rule ≡ refuses input refusal = ap (λ end. unwrap_or end (rule.comes (file_at files)))
+        (end_of_all (file_at files) (place + 1) rule.reads (refuses input refusal) is) in
         (end, inl (is ∙ ap Some (sym end)))) stops
     why_command (stop.Unread name) place stops = stops
     why_command stop.Memory place stops = tt
 
-pub stopped_call : (request : Request) (s0 s1 : FilesShown) (o0 o1 : SinkShown) (why : Stop) (answer : Status) → Contains (answers_to (Some request)) Refused
-    → KeepsHeld s0.held s1.held → StopsReading (reads_of request) s0 s1 why → PutsStop why answer o0 o1 → PutsCounted why answer o0 o1 → IsCall (Some request) answer (s0, o0) (s1, o1)
-stopped_call request s0 s1 o0 o1 why answer may keeps stops line puts = stopped_command request s0 s1 o0 o1 why answer may keeps (stops_reading request s0 s1 why stops) line puts
+pub stopped_call : (rule : CommandRule) (s0 s1 : FilesShown) (o0 o1 : SinkShown) (why : Stop) (answer : Status) → Contains rule.answers Refused
+    → Contains rule.answers Memory → KeepsHeld s0.held s1.held → StopsReading rule.reads s0 s1 why → PutsStop why answer o0 o1 → PutsCounted why answer o0 o1 → IsCall rule answer (s0, o0) (s1, o1)
+stopped_call rule s0 s1 o0 o1 why answer may wants keeps stops line puts = stopped_command rule s0 s1 o0 o1 why answer may wants keeps (stops_reading rule s0 s1 why stops) line puts
 
 -- a file could not be written
-write_failed : (request : Request) (writing : Writing) (lines : List ℕ) (s0 s1 s2 : FilesShown) (o0 o1 : SinkShown) (place : ℕ) (stopped : StoppedAt s1 s2 writing place)
-    → written_names writing ≡ writes_of request → KeepsHeld s0.held s1.held → NoneFell s0.write_faults s1.write_faults
-    → IfSome s1.held (λ files. outcome_of (file_at files) request ≡ Ends Done writing lines)
-    → MakesCalls s0 s1 (read_calls (reads_of request)) → MakesCalls s1 s2 (write_calls (take (place + 1) (written_names writing)))
-    → PutOrRose o0 o1 (writing_line stopped.write.0) → PutsFault o0 o1 → IsCall (Some request) Fault (s0, o0) (s2, o1)
-write_failed request writing lines s0 s1 s2 o0 o1 place stopped named keeps fell told read wrote line puts =
+write_failed : (rule : CommandRule) (writing : Writing) (lines : List ℕ) (s0 s1 s2 : FilesShown) (o0 o1 : SinkShown) (place : ℕ) (stopped : StoppedAt s1 s2 writing place)
+    → written_names writing ≡ rule.writes → KeepsHeld s0.held s1.held → NoneFell s0.write_faults s1.write_faults
+    → IfSome s1.held (λ files. outcome_of (file_at files) rule ≡ Ends Done writing lines)
+    → MakesCalls s0 s1 (read_calls rule.reads) → MakesCalls s1 s2 (write_calls (take (place + 1) (written_names writing)))
+    → PutOrRose o0 o1 (writing_line stopped.write.0) → PutsFault o0 o1 → IsCall rule Fault (s0, o0) (s2, o1)
+write_failed rule writing lines s0 s1 s2 o0 o1 place stopped named keeps fell told read wrote line puts =
     let name : List ℕ = stopped.write.0 in
     let rose = rose_since (s0.write_faults name) (s1.write_faults name) (s2.write_faults name) (fell name) stopped.rose in
-    let there : slice_get (writes_of request) place ≡ Some name = ap (λ names. slice_get names place) (sym named) ∙ slice_get-map (λ (w : List ℕ × List ℕ). w.0) writing place
+    let there : slice_get rule.writes place ≡ Some name = ap (λ names. slice_get names place) (sym named) ∙ slice_get-map (λ (w : List ℕ × List ℕ). w.0) writing place
     ∙ ap (option_map (λ (w : List ℕ × List ℕ). w.0)) stopped.there in
     record {
-      answers = may_fault request;
-      usage = λ is. cc;
-      answered = tt;
+      answers = inl refl;
+      answered = inl refl;
       memory = λ is. cc;
       faulted = λ _. inr (inl (record {
         place = place;
         name = name;
         there = there;
         rose = rose;
-        calls = calls_on (read_calls (reads_of request)) (write_calls (take (place + 1) (writes_of request))) s0 s1 s2 read
-            (calls_are (write_calls (take (place + 1) (written_names writing))) (write_calls (take (place + 1) (writes_of request))) s1 s2
+        calls = calls_on (read_calls rule.reads) (write_calls (take (place + 1) rule.writes)) s0 s1 s2 read
+            (calls_are (write_calls (take (place + 1) (written_names writing))) (write_calls (take (place + 1) rule.writes)) s1 s2
             (ap (λ (names : List (List ℕ)). write_calls (take (place + 1) names)) named) wrote);
-        part = stopped_writing request Done writing lines s0 s1 s2 place stopped keeps told;
+        part = stopped_writing rule Done writing lines s0 s1 s2 place stopped keeps told;
         line = line;
         puts = puts;
       }));
     }
 
 -- a command wrote its files and put its lines
-pub finished_call : (request : Request) (writing : Writing) (lines : List ℕ) (s0 s1 s2 : FilesShown) (o0 o1 : SinkShown) (answer : Status)
-    → Contains (answers_to (Some request)) Done → written_names writing ≡ writes_of request → KeepsHeld s0.held s1.held → NoneFell s0.write_faults s1.write_faults
-    → IfSome s1.held (λ files. outcome_of (file_at files) request ≡ Ends Done writing lines)
-    → MakesCalls s0 s1 (read_calls (reads_of request)) → Finishes writing lines answer (s1, o0) (s2, o1) → IsCall (Some request) answer (s0, o0) (s2, o1)
-finished_call request writing lines s0 s1 s2 o0 o1 answer may named keeps fell told read (inl h) =
-    ended_call request Done writing lines s0 s1 s2 o0 o1 answer tt may (whole_calls request writing s0 s1 s2 named read h.2, h.3) keeps told h.0 h.1
-finished_call request writing lines s0 s1 s2 o0 o1 answer may named keeps fell told read (inr h) =
-    subst (λ (status : Status). IsCall (Some request) status (s0, o0) (s2, o1)) (sym h.0) (write_failed request writing lines s0 s1 s2 o0 o1 h.1 h.2 named keeps fell told read h.4 h.3 h.5)
+pub finished_call : (rule : CommandRule) (writing : Writing) (lines : List ℕ) (s0 s1 s2 : FilesShown) (o0 o1 : SinkShown) (answer : Status)
+    → Contains rule.answers Done → written_names writing ≡ rule.writes → KeepsHeld s0.held s1.held → NoneFell s0.write_faults s1.write_faults
+    → IfSome s1.held (λ files. outcome_of (file_at files) rule ≡ Ends Done writing lines)
+    → MakesCalls s0 s1 (read_calls rule.reads) → Finishes writing lines answer (s1, o0) (s2, o1) → IsCall rule answer (s0, o0) (s2, o1)
+finished_call rule writing lines s0 s1 s2 o0 o1 answer may named keeps fell told read (inl h) =
+    ended_call rule Done writing lines s0 s1 s2 o0 o1 answer tt may (whole_calls rule writing s0 s1 s2 named read h.2, h.3) keeps told h.0 h.1
+finished_call rule writing lines s0 s1 s2 o0 o1 answer may named keeps fell told read (inr h) =
+    subst (λ (status : Status). IsCall rule status (s0, o0) (s2, o1)) (sym h.0) (write_failed rule writing lines s0 s1 s2 o0 o1 h.1 h.2 named keeps fell told read h.4 h.3 h.5)
+
+-- files that stay hold what they held
+pub held_still : (held : Option FileMap) → KeepsHeld held held
+held_still None = tt
+held_still (Some files) = refl
+
+-- what is so of all files is so of those that are held
+of_held : (held : Option FileMap) (P : FileMap → Type 0) → ((files : FileMap) → P files) → IfSome held P
+of_held None P all = tt
+of_held (Some files) P all = all files
 
 -- words that are no command
-pub usage_call : (s : FilesShown) (o0 o1 : SinkShown) (answer : Status) → PutsAnswer usage_line Usage answer o0 o1 → IsCall None answer (s, o0) (s, o1)
-usage_call s o0 o1 answer (inl h) = subst (λ (status : Status). IsCall None status (s, o0) (s, o1)) (sym h.0) (record {
-  answers = (0, omega arith, refl);
-  usage = λ _. h.1;
-  answered = of_files s s s [] (λ _. Unit {0}) (λ before after. DoesAll (s, o0) (s, o1) Usage before after (outcome (file_at before) None)) (kept s.held)
-      (told s.held) (nothing_written s) (λ before after _ same. (refl, same, h.1));
-  memory = λ is. cc;
-  faulted = λ is. cc;
-})
-  where
-    told : (held : Option FileMap) → IfSome held (λ _. Unit {0})
-    told None = tt
-    told (Some files) = tt
-
-    kept : (held : Option FileMap) → KeepsHeld held held
-    kept None = tt
-    kept (Some files) = refl
-usage_call s o0 o1 answer (inr h) = subst (λ (status : Status). IsCall None status (s, o0) (s, o1)) (sym h.0) (record {
-  answers = (1, omega arith, refl);
-  usage = λ is. cc;
-  answered = tt;
-  memory = λ is. cc;
-  faulted = λ _. (kept s.held, h.1, h.2);
-})
-  where
-    kept : (held : Option FileMap) → KeepsHeld held held
-    kept None = tt
-    kept (Some files) = refl
+pub usage_call : (s : FilesShown) (o0 o1 : SinkShown) (answer : Status) → PutsAnswer usage_line Usage answer o0 o1 → MakesPuts o0 o1 1 → IsCall usage_rule answer (s, o0) (s, o1)
+usage_call s o0 o1 answer h puts = answered_call usage_rule Usage usage_line s s o0 o1 answer tt (0, omega arith, refl) (no_calls s, puts)
+    (held_still s.held) (of_held s.held (λ files. outcome_of (file_at files) usage_rule ≡ Ends Usage [] usage_line) (λ files. refl)) h
 
 -- `sample` reads and writes nothing
 pub sample_call : (seed count : ℕ) (s : FilesShown) (o0 o1 : SinkShown) (answer : Status) → PutsLines (sample_lines seed count) answer o0 o1
-    → LinesCounted answer o0 o1 → IsCall (Some (ToSample seed count)) answer (s, o0) (s, o1)
-sample_call seed count s o0 o1 answer (inl h) puts = memory_call (ToSample seed count) s s o0 o1 answer (kept s.held) h.0 h.1
-  where
-    kept : (held : Option FileMap) → KeepsHeld held held
-    kept None = tt
-    kept (Some files) = refl
-sample_call seed count s o0 o1 answer (inr h) puts = answered_call (ToSample seed count) Done (sample_lines seed count) s s o0 o1 answer tt
-    (0, omega arith, refl) (sample_whole seed count s o0 o1 (at_once h)) (kept s.held) (told s.held) h
+    → LinesCounted answer o0 o1 → IsCall (sample_rule seed count) answer (s, o0) (s, o1)
+sample_call seed count s o0 o1 answer (inl h) puts = memory_call (sample_rule seed count) s s o0 o1 answer (1, omega arith, refl) (held_still s.held) h.0 h.1
+sample_call seed count s o0 o1 answer (inr h) puts = answered_call (sample_rule seed count) Done (sample_lines seed count) s s o0 o1 answer tt
+    (0, omega arith, refl) (no_calls s, at_once h) (held_still s.held)
+    (of_held s.held (λ files. outcome_of (file_at files) (sample_rule seed count) ≡ Ends Done [] (sample_lines seed count)) (λ files. refl)) h
   where
     at_once : PutsAnswer (sample_lines seed count) Done answer o0 o1 → MakesPuts o0 o1 1
     at_once (inl is) = subst (λ (answer : Status). LinesCounted answer o0 o1) is.0 puts
     at_once (inr is) = subst (λ (answer : Status). LinesCounted answer o0 o1) is.0 puts
-
-    kept : (held : Option FileMap) → KeepsHeld held held
-    kept None = tt
-    kept (Some files) = refl
-
-    told : (held : Option FileMap) → IfSome held (λ files. outcome_of (file_at files) (ToSample seed count) ≡ Ends Done [] (sample_lines seed count))
-    told None = tt
-    told (Some files) = refl

@@ -1,14 +1,12 @@
 -- The calls and puts of a command at each of its ends.
-use Rattle.std.proofs.Common.{◌≡◌, ℕ, List, ◌++◌, Some, inl, inr, sym, subst, ap}
+use Rattle.std.proofs.Common.{◌≡◌, ℕ, List, ◌++◌, inl, inr, sym, subst, ap}
 use Rattle.pg_types.specs.declared.refusals.Refusal.{Refusal}
 use Rattle.pg_outside.specs.Content.{FilesShown, SinkShown, file_at}
-use Rattle.pg_top.specs.Calls.{reads_of, writes_of, outcome_of}
-use Rattle.pg_top.specs.Counted.{MakesCalls, MakesPuts, read_calls, EndsAt, IsEndedCounted, IsEndCounted, IsCountedCall}
+use Rattle.pg_top.specs.Counted.{MakesCalls, MakesPuts, read_calls, EndsAt, IsEndedCounted, IsCountedCall}
 use Rattle.pg_top.specs.Inside.ReadCalls.{write_calls}
 use Rattle.pg_top.specs.Inside.PutCounts.{PutsCounted}
 use Rattle.pg_top.specs.Outcomes.{Writing}
 use Rattle.pg_top.specs.Inside.Refusing.{refuses}
-use Rattle.pg_words.specs.Requests.{Request, ToSample}
 use Rattle.pg_top.specs.Inside.Stops.{StopsCommand, PutsAnswer, Finishes}
 use Rattle.pg_top.specs.Inside.WritesMade.{written_names}
 use Rattle.pg_top.specs.declared.answers.Status.{Status}
@@ -16,52 +14,49 @@ use Rattle.pg_top.specs.declared.answers.Status.TheVariants.{Done, Refused, Faul
 use Rattle.pg_top.specs.declared.inputs.Input.{Input}
 use Rattle.pg_top.specs.declared.inputs.Stop.{Stop}
 use Rattle.pg_top.specs.declared.inputs.Stop.TheVariants as stop
-use Rattle.pg_top.proofs.CountedCalls.{no_calls, calls_on, calls_are}
+use Rattle.pg_top.proofs.CountedCalls.{calls_on, calls_are}
 use Rattle.pg_top.proofs.Orders.{mapped}
+use Rattle.pg_top.specs.Rules.{CommandRule, outcome_of}
 
 -- a line was put, or could not be
-pub counted_line : (request : Request) (wanted : Status) (line : List ℕ) (s0 s1 : FilesShown) (o0 o1 : SinkShown) (answer : Status)
-    → IsCountedCall (Some request) wanted (s0, o0) (s1, o1) → PutsAnswer line wanted answer o0 o1 → IsCountedCall (Some request) answer (s0, o0) (s1, o1)
-counted_line request wanted line s0 s1 o0 o1 answer done (inl is) = subst (λ (answer : Status). IsCountedCall (Some request) answer (s0, o0) (s1, o1)) (sym is.0) done
-counted_line request wanted line s0 s1 o0 o1 answer done (inr is) = subst (λ (answer : Status). IsCountedCall (Some request) answer (s0, o0) (s1, o1)) (sym is.0) tt
+pub counted_line : (rule : CommandRule) (wanted : Status) (line : List ℕ) (s0 s1 : FilesShown) (o0 o1 : SinkShown) (answer : Status)
+    → IsCountedCall rule wanted (s0, o0) (s1, o1) → PutsAnswer line wanted answer o0 o1 → IsCountedCall rule answer (s0, o0) (s1, o1)
+counted_line rule wanted line s0 s1 o0 o1 answer done (inl is) = subst (λ (answer : Status). IsCountedCall rule answer (s0, o0) (s1, o1)) (sym is.0) done
+counted_line rule wanted line s0 s1 o0 o1 answer done (inr is) = subst (λ (answer : Status). IsCountedCall rule answer (s0, o0) (s1, o1)) (sym is.0) tt
 
 -- a refusal ended a command
-pub refused_counted : (request : Request) (s0 s1 : FilesShown) (o0 o1 : SinkShown) (at : Input) (refusal : Refusal) → StopsCommand request s0 s1 (stop.Refused at refusal)
-    → MakesPuts o0 o1 1 → IsEndedCounted request (s0, o0) (s1, o1)
-refused_counted request s0 s1 o0 o1 at refusal stops puts = (
+pub refused_counted : (rule : CommandRule) (s0 s1 : FilesShown) (o0 o1 : SinkShown) (at : Input) (refusal : Refusal) → StopsCommand rule s0 s1 (stop.Refused at refusal)
+    → MakesPuts o0 o1 1 → IsEndedCounted rule (s0, o0) (s1, o1)
+refused_counted rule s0 s1 o0 o1 at refusal stops puts = (
   stops.place,
   stops.read,
-  mapped s1.held (λ files. (outcome_of (file_at files) request ≡ refuses at refusal) × EndsAt request stops.place (file_at files))
-      (λ files. EndsAt request stops.place (file_at files)) (λ files h. h.1) stops.why,
+  mapped s1.held (λ files. (outcome_of (file_at files) rule ≡ refuses at refusal) × EndsAt rule stops.place (file_at files))
+      (λ files. EndsAt rule stops.place (file_at files)) (λ files h. h.1) stops.why,
   puts,
 )
 
 -- a command that stopped before it wrote
-pub counted_stop : (request : Request) (s0 s1 : FilesShown) (o0 o1 : SinkShown) (why : Stop) (answer : Status) → StopsCommand request s0 s1 why
-    → PutsCounted why answer o0 o1 → IsCountedCall (Some request) answer (s0, o0) (s1, o1)
-counted_stop request s0 s1 o0 o1 (stop.Refused at refusal) Refused stops puts = refused_counted request s0 s1 o0 o1 at refusal stops puts
-counted_stop request s0 s1 o0 o1 why Fault stops puts = tt
-counted_stop request s0 s1 o0 o1 why Memory stops puts = (inr (stops.place, stops.read), wanted why puts)
+pub counted_stop : (rule : CommandRule) (s0 s1 : FilesShown) (o0 o1 : SinkShown) (why : Stop) (answer : Status) → StopsCommand rule s0 s1 why
+    → PutsCounted why answer o0 o1 → IsCountedCall rule answer (s0, o0) (s1, o1)
+counted_stop rule s0 s1 o0 o1 (stop.Refused at refusal) Refused stops puts = refused_counted rule s0 s1 o0 o1 at refusal stops puts
+counted_stop rule s0 s1 o0 o1 why Fault stops puts = tt
+counted_stop rule s0 s1 o0 o1 why Memory stops puts = (inr (stops.place, stops.read), wanted why puts)
   where
     wanted : (why : Stop) → PutsCounted why Memory o0 o1 → MakesPuts o0 o1 0
     wanted (stop.Refused at refusal) puts = puts
     wanted (stop.Unread name) puts = puts
     wanted stop.Memory puts = puts
-counted_stop request s0 s1 o0 o1 why answer stops puts = absurd puts
+counted_stop rule s0 s1 o0 o1 why answer stops puts = absurd puts
 
 -- a command that read all and then wrote
-pub whole_calls : (request : Request) (writing : Writing) (s0 s1 s2 : FilesShown) → written_names writing ≡ writes_of request
-    → MakesCalls s0 s1 (read_calls (reads_of request)) → MakesCalls s1 s2 (write_calls (written_names writing)) → MakesCalls s0 s2 (read_calls (reads_of request) ++ write_calls (writes_of request))
-whole_calls request writing s0 s1 s2 named read wrote =
-    calls_on (read_calls (reads_of request)) (write_calls (writes_of request)) s0 s1 s2 read
-    (calls_are (write_calls (written_names writing)) (write_calls (writes_of request)) s1 s2 (ap write_calls named) wrote)
+pub whole_calls : (rule : CommandRule) (writing : Writing) (s0 s1 s2 : FilesShown) → written_names writing ≡ rule.writes
+    → MakesCalls s0 s1 (read_calls rule.reads) → MakesCalls s1 s2 (write_calls (written_names writing)) → MakesCalls s0 s2 (read_calls rule.reads ++ write_calls rule.writes)
+whole_calls rule writing s0 s1 s2 named read wrote =
+    calls_on (read_calls rule.reads) (write_calls rule.writes) s0 s1 s2 read
+    (calls_are (write_calls (written_names writing)) (write_calls rule.writes) s1 s2 (ap write_calls named) wrote)
 
-pub counted_finish : (request : Request) (writing : Writing) (lines : List ℕ) (s0 s1 s2 : FilesShown) (o0 o1 : SinkShown) (answer : Status)
-    → written_names writing ≡ writes_of request → MakesCalls s0 s1 (read_calls (reads_of request)) → Finishes writing lines answer (s1, o0) (s2, o1)
-    → IsCountedCall (Some request) answer (s0, o0) (s2, o1)
-counted_finish request writing lines s0 s1 s2 o0 o1 answer named read (inl h) = counted_line request Done lines s0 s2 o0 o1 answer (whole_calls request writing s0 s1 s2 named read h.2, h.3) h.1
-counted_finish request writing lines s0 s1 s2 o0 o1 answer named read (inr h) = subst (λ (answer : Status). IsCountedCall (Some request) answer (s0, o0) (s2, o1)) (sym h.0) tt
-
--- `sample` reads and writes nothing
-pub sample_whole : (seed count : ℕ) (s : FilesShown) (o0 o1 : SinkShown) → MakesPuts o0 o1 1 → IsEndCounted (ToSample seed count) Done (s, o0) (s, o1)
-sample_whole seed count s o0 o1 puts = (no_calls s, puts)
+pub counted_finish : (rule : CommandRule) (writing : Writing) (lines : List ℕ) (s0 s1 s2 : FilesShown) (o0 o1 : SinkShown) (answer : Status)
+    → written_names writing ≡ rule.writes → MakesCalls s0 s1 (read_calls rule.reads) → Finishes writing lines answer (s1, o0) (s2, o1)
+    → IsCountedCall rule answer (s0, o0) (s2, o1)
+counted_finish rule writing lines s0 s1 s2 o0 o1 answer named read (inl h) = counted_line rule Done lines s0 s2 o0 o1 answer (whole_calls rule writing s0 s1 s2 named read h.2, h.3) h.1
+counted_finish rule writing lines s0 s1 s2 o0 o1 answer named read (inr h) = subst (λ (answer : Status). IsCountedCall rule answer (s0, o0) (s2, o1)) (sym h.0) tt

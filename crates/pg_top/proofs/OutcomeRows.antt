@@ -8,7 +8,12 @@ use Rattle.pg_types.specs.declared.refusals.Kind.TheVariants.{OutOfRange, Parame
 use Rattle.pg_table.specs.Forms.{is_well_formed}
 use Rattle.pg_table.specs.Numbers.{u16_at, u32_at, u16_bytes, u32_bytes}
 use Rattle.pg_table.specs.Texts.{table_text}
-use Rattle.pg_top.specs.Calls.{outcome_of}
+use Rattle.pg_top.specs.Rules.{outcome_of}
+use Rattle.pg_top.specs.audit.Audited.{audit_rule}
+use Rattle.pg_top.specs.generate.Generated.{generate_rule}
+use Rattle.pg_top.specs.pack.Packed.{pack_rule}
+use Rattle.pg_top.specs.sweep.Swept.{sweep_rule}
+use Rattle.pg_top.specs.totals.Totalled.{totals_rule}
 use Rattle.pg_top.specs.Outcomes.{Ends, Unknown}
 use Rattle.pg_top.specs.PrintedLines.{refused_line}
 use Rattle.pg_top.specs.Inside.FaultLines.{reading_line}
@@ -71,7 +76,7 @@ files : List ℕ → List (List ℕ × List ℕ) → HeldFiles
 files dict more = found ((codes "T", codes " 1 1\n a\n b\n c\n") ∷ (codes "P", []) ∷ (codes "A", codes "1 1 2 2 1 1 2\n") ∷ (codes "D", dict) ∷ more)
 
 -- two words that give one pattern, with the hyphenated list and the cells file
-one_pattern : outcome_of (files (codes "ab-c\nab-a\n") []) (ToGenerate (record names { pattmp = Some (codes "M"); cells = Some (codes "C") }))
+one_pattern : outcome_of (files (codes "ab-c\nab-a\n") []) (generate_rule (record names { pattmp = Some (codes "M"); cells = Some (codes "C") }))
     ≡ Ends Done
     ((codes "O", codes "ab1\n")
     ∷ (codes "M", codes "ab*c\nab*a\n")
@@ -91,7 +96,7 @@ unfolding names files found selection selected_patterns selected_totals selected
 one_pattern = refl
 
 -- the third line of the dictionary is refused
-refused_dictionary : outcome_of (files (codes "abc\ncba\nad\n") []) (ToGenerate names) ≡ Ends Refused [] (codes "refused: dictionary 401 DictionaryCharacter line 3 column 2\n")
+refused_dictionary : outcome_of (files (codes "abc\ncba\nad\n") []) (generate_rule names) ≡ Ends Refused [] (codes "refused: dictionary 401 DictionaryCharacter line 3 column 2\n")
 unfolding names files found digits
 refused_dictionary = refl
 
@@ -104,20 +109,20 @@ right_report = codes "pass 1 2 1: 0 good, 0 bad, 2 missed; 3 candidates, 0 chose
     ++ codes "total: 2 good, 0 bad, 0 missed\n"
     ++ codes "rate: 100.00 % good, 0.00 % bad, 0.00 % missed\n"
 
-right_files : outcome_of (files (codes "ab-c\nab-a\n") ((codes "O", codes "ab1\n") ∷ (codes "R", right_report) ∷ [])) (ToAudit names) ≡ Ends Yes [] (codes "yes\n")
+right_files : outcome_of (files (codes "ab-c\nab-a\n") ((codes "O", codes "ab1\n") ∷ (codes "R", right_report) ∷ [])) (audit_rule names) ≡ Ends Yes [] (codes "yes\n")
 unfolding names files found selection selected_patterns selected_text selected_report right_report digits
 right_files = refl
 
-no_line_feed : outcome_of (files (codes "ab-c\nab-a\n") ((codes "O", codes "ab1") ∷ [])) (ToAudit names) ≡ Ends No [] (codes "no: patterns line 1 found ab1 and the file ends\n")
+no_line_feed : outcome_of (files (codes "ab-c\nab-a\n") ((codes "O", codes "ab1") ∷ [])) (audit_rule names) ≡ Ends No [] (codes "no: patterns line 1 found ab1 and the file ends\n")
 unfolding names files found selection selected_patterns selected_text digits
 no_line_feed = refl
 
-empty_file : outcome_of (files (codes "ab-c\nab-a\n") ((codes "O", []) ∷ [])) (ToAudit names) ≡ Ends No [] (codes "no: patterns line 1 is missing\n")
+empty_file : outcome_of (files (codes "ab-c\nab-a\n") ((codes "O", []) ∷ [])) (audit_rule names) ≡ Ends No [] (codes "no: patterns line 1 is missing\n")
 unfolding names files found selection selected_patterns selected_text digits
 empty_file = refl
 
 -- no file is held
-nothing_held : outcome_of (λ _. None) (ToGenerate names) ≡ Unknown
+nothing_held : outcome_of (λ _. None) (generate_rule names) ≡ Unknown
 nothing_held = refl
 
 -- refusals with an item and without a place
@@ -163,12 +168,12 @@ packed_pattern =
     ++ (0 ∷ 4 ∷ 0 ∷ 0 ∷ 0 ∷ 0 ∷ 0 ∷ 0 ∷ 0 ∷ 0 ∷ []) ++ (0 ∷ 3 ∷ 0 ∷ 0 ∷ 0 ∷ 0 ∷ 0 ∷ 0 ∷ 0 ∷ 1 ∷ [])
     ++ (1 ∷ 2 ∷ 0 ∷ 0 ∷ 0 ∷ 0 ∷ [])
 
-packs : outcome_of (found ((codes "T", codes " 1 1\n a\n b\n c\n") ∷ (codes "P", codes "ab1\n") ∷ [])) (ToPack packed_names)
+packs : outcome_of (found ((codes "T", codes " 1 1\n a\n b\n c\n") ∷ (codes "P", codes "ab1\n") ∷ [])) (pack_rule packed_names)
     ≡ Ends Done ((codes "B", packed_pattern) ∷ []) (codes "packed: 1 patterns, 82 bytes\n")
 unfolding packed_names found packed_pattern table_text u16_bytes u32_bytes digits with_sign
 packs = refl
 
-other_letters : outcome_of (found ((codes "T", []) ∷ (codes "D", []) ∷ (codes "B", packed_pattern) ∷ [])) (ToTotals totalled_names)
+other_letters : outcome_of (found ((codes "T", []) ∷ (codes "D", []) ∷ (codes "B", packed_pattern) ∷ [])) (totals_rule totalled_names)
     ≡ Ends Refused [] (codes "refused: table 603 OtherTable\n")
 unfolding totalled_names found packed_pattern is_well_formed u16_at u32_at digits
 other_letters = refl
@@ -187,6 +192,6 @@ no_set = refl
 output_is_set : request_of (codes "sweep" ∷ codes "D" ∷ codes "P" ∷ codes "O" ∷ codes "T" ∷ codes "2" ∷ codes "3" ∷ codes "1" ∷ codes "O" ∷ []) ≡ None
 output_is_set = refl
 
-refused_second : outcome_of (files (codes "ab-c\nab-c\n") ((codes "B", codes "1 1 2 2 1 0 5\n") ∷ [])) (ToSweep two_sets) ≡ Ends Refused [] (codes "refused: set 2 202 OutOfRange item 6\n")
+refused_second : outcome_of (files (codes "ab-c\nab-c\n") ((codes "B", codes "1 1 2 2 1 0 5\n") ∷ [])) (sweep_rule two_sets) ≡ Ends Refused [] (codes "refused: set 2 202 OutOfRange item 6\n")
 unfolding two_sets files found digits
 refused_second = refl

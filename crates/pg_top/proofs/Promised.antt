@@ -7,13 +7,13 @@ use Rattle.pg_patterns.specs.Inside.PatternMaps.{IsPatternMap}
 use Rattle.pg_select.specs.Windows.{Patterns}
 use Rattle.pg_top.specs.Moments.{OfFiles}
 use Rattle.pg_top.specs.Outcomes.{Writing}
-use Rattle.pg_top.specs.Promises.{GivesValues}
 use Rattle.pg_top.specs.Inside.Stops.{PutsStop, Finishes}
 use Rattle.pg_top.specs.Writings.{after_all}
 use Rattle.pg_top.specs.declared.answers.Status.{Status}
 use Rattle.pg_top.specs.declared.answers.Status.TheVariants.{Done}
 use Rattle.pg_top.specs.declared.inputs.Stop.{Stop}
 use Rattle.pg_top.specs.declared.inputs.Stop.TheVariants as stop
+use Rattle.pg_top.specs.pack.Packed.{GivesValues}
 
 -- a command that stopped is not done
 pub stop_not_done : (why : Stop) (answer : Status) (o0 o1 : SinkShown) → PutsStop why answer o0 o1 → answer ≡ Done → ⊥

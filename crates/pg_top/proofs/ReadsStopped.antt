@@ -8,8 +8,8 @@ use Rattle.pg_top.specs.Inside.ReadsMade.{ReadsFiles}
 use Rattle.pg_top.specs.Inside.Stops.{OnlyReads, StopsCommand, StopsReading}
 use Rattle.pg_top.specs.declared.inputs.Stop.{Stop}
 use Rattle.pg_top.specs.declared.writes.Outputs.{Outputs}
-use Rattle.pg_words.specs.Requests.{Request}
 use Rattle.pg_top.proofs.Results.{no_value, that_error}
+use Rattle.pg_top.specs.Rules.{CommandRule}
 
 -- files that were read up to one that stopped it
 pub files_stopped : {Y : Type 0} (reads : List Reading) (old new : FilesShown) (r : Result Y Stop) (Has : HeldFiles → Y → Type 0) (stop : Stop)
@@ -22,10 +22,10 @@ files_stopped reads old new r Has stop is only stops = record {
 }
 
 -- a command that stopped before it wrote
-pub building_stopped : (request : Request) (old new : FilesShown) (r : Result Outputs Stop) (stop : Stop) → IsErrAnd r (λ y. y ≡ stop) → OnlyReads old new
-    → StopsCommand request old new stop → Builds request old new r
-building_stopped request old new r stop is only stops = record {
+pub building_stopped : (rule : CommandRule) (old new : FilesShown) (r : Result Outputs Stop) (stop : Stop) → IsErrAnd r (λ y. y ≡ stop) → OnlyReads old new
+    → StopsCommand rule old new stop → Builds rule old new r
+building_stopped rule old new r stop is only stops = record {
   only = only;
   made = no_value r _ stop is;
-  stopped = that_error r (StopsCommand request old new) stop is stops;
+  stopped = that_error r (StopsCommand rule old new) stop is stops;
 }

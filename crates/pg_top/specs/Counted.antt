@@ -1,12 +1,11 @@
 -- Which calls a command makes on files, in their order, and how many on the sink.
-use Rattle.std.specs.Prelude.{◌≡◌, ℕ, zero, suc, ◌+◌, ◌<◌, ◌≤◌, List, ◌++◌, length, map, take, Option, None, Some, IfSome, ◌⊎◌}
+use Rattle.std.specs.Prelude.{◌≡◌, ℕ, zero, suc, ◌+◌, ◌<◌, ◌≤◌, List, ◌++◌, length, map, take, None, Some, IfSome, ◌⊎◌}
 use Rattle.pg_outside.specs.Content.{FilesShown, SinkShown, file_at}
 use Rattle.pg_outside.specs.Faults.{next_count}
 use Rattle.pg_outside.specs.FilesCalls.{FilesCall, Reads, Writes}
-use Rattle.pg_top.specs.Calls.{outcome_of, reads_of, writes_of}
 use Rattle.pg_top.specs.Moments.{Moment}
 use Rattle.pg_top.specs.Readings.{HeldFiles, Reading, first_end}
-use Rattle.pg_words.specs.Requests.{Request}
+use Rattle.pg_top.specs.Rules.{CommandRule, outcome_of}
 use Rattle.pg_top.specs.declared.answers.Status.{Status}
 use Rattle.pg_top.specs.declared.answers.Status.TheVariants as status
 
@@ -38,33 +37,32 @@ pub record ReadsUpTo (reads : List Reading) (at : ℕ) (old new : FilesShown) : 
   pub before_it : IfSome new.held (λ files. first_end (file_at files) (take at reads) ≡ None)
 
 -- the file at this place of the order ends the call; or the place is the end, and no file does
-abbrev pub EndsAt : Request → ℕ → HeldFiles → Type 0
-EndsAt request at files =
-    (first_end files (take (at + 1) (reads_of request)) ≡ Some (outcome_of files request))
-    ⊎ ((at + 1 ≡ length (reads_of request)) × (first_end files (reads_of request) ≡ None))
+abbrev pub EndsAt : CommandRule → ℕ → HeldFiles → Type 0
+EndsAt rule at files =
+    (first_end files (take (at + 1) rule.reads) ≡ Some (outcome_of files rule))
+    ⊎ ((at + 1 ≡ length rule.reads) × (first_end files rule.reads ≡ None))
 
 -- a file ended the call, or the command did once all were read; one line was put at once
-abbrev pub IsEndedCounted : Request → Moment → Moment → Type 0
-IsEndedCounted request old new = (at : ℕ) × ReadsUpTo (reads_of request) at old.0 new.0
-    × IfSome new.0.held (λ files. EndsAt request at (file_at files)) × MakesPuts old.1 new.1 1
+abbrev pub IsEndedCounted : CommandRule → Moment → Moment → Type 0
+IsEndedCounted rule old new = (at : ℕ) × ReadsUpTo rule.reads at old.0 new.0
+    × IfSome new.0.held (λ files. EndsAt rule at (file_at files)) × MakesPuts old.1 new.1 1
 
 -- each file was read once, then each written once, and the lines were put at once
-abbrev pub IsWholeCounted : Request → Moment → Moment → Type 0
-IsWholeCounted request old new = MakesCalls old.0 new.0
-    (read_calls (reads_of request) ++ map Writes (writes_of request)) × MakesPuts old.1 new.1 1
+abbrev pub IsWholeCounted : CommandRule → Moment → Moment → Type 0
+IsWholeCounted rule old new = MakesCalls old.0 new.0
+    (read_calls rule.reads ++ map Writes rule.writes) × MakesPuts old.1 new.1 1
 
 -- the calls of an answer that comes from the outcome
-abbrev pub IsEndCounted : Request → Status → Moment → Moment → Type 0
-IsEndCounted request status.Done old new = IsWholeCounted request old new
-IsEndCounted request status.Yes old new = IsWholeCounted request old new
-IsEndCounted request status.No old new = IsEndedCounted request old new
-IsEndCounted request status.Refused old new = IsEndedCounted request old new
-IsEndCounted request answer old new = ⊥
+abbrev pub IsEndCounted : CommandRule → Status → Moment → Moment → Type 0
+IsEndCounted rule status.No old new = IsEndedCounted rule old new
+IsEndCounted rule status.Refused old new = IsEndedCounted rule old new
+IsEndCounted rule status.Fault old new = ⊥
+IsEndCounted rule status.Memory old new = ⊥
+IsEndCounted rule answer old new = IsWholeCounted rule old new
 
--- the calls of each answer but a fault, whose own clauses tell its calls; usage calls no file
-abbrev pub IsCountedCall : Option Request → Status → Moment → Moment → Type 0
-IsCountedCall None answer old new = (new.0.calls ≡ old.0.calls) × MakesPuts old.1 new.1 1
-IsCountedCall (Some request) status.Memory old new = ((new.0.calls ≡ old.0.calls)
-    ⊎ ((at : ℕ) × ReadsUpTo (reads_of request) at old.0 new.0)) × MakesPuts old.1 new.1 0
-IsCountedCall (Some request) status.Fault old new = Unit {0}
-IsCountedCall (Some request) answer old new = IsEndCounted request answer old new
+-- the calls of each answer but a fault, whose own clauses tell its calls
+abbrev pub IsCountedCall : CommandRule → Status → Moment → Moment → Type 0
+IsCountedCall rule status.Memory old new = ((new.0.calls ≡ old.0.calls)
+    ⊎ ((at : ℕ) × ReadsUpTo rule.reads at old.0 new.0)) × MakesPuts old.1 new.1 0
+IsCountedCall rule status.Fault old new = Unit {0}
+IsCountedCall rule answer old new = IsEndCounted rule answer old new

@@ -2,6 +2,7 @@ pub mod Statuses
 pub mod PrintedLines
 pub mod Outcomes
 pub mod Readings
+pub mod Rules
 pub mod Selection
 pub mod generate
 pub mod audit
@@ -16,6 +17,5 @@ pub mod Moments
 pub mod Faults
 pub mod Answers
 pub mod Counted
-pub mod Promises
 pub mod WholeCalls
 pub mod Inside

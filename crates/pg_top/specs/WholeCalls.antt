@@ -1,19 +1,25 @@
 -- All that is said of a call of the program.
-use Rattle.std.specs.Prelude.{◌≡◌, [], Option}
-use Rattle.std.specs.Option.{option_map_or}
-use Rattle.pg_top.specs.Answers.{IsCall, IsSampled}
-use Rattle.pg_top.specs.Calls.{reads_of}
+use Rattle.std.specs.Prelude.{◌≡◌, [], Option, None}
+use Rattle.pg_outside.specs.Content.{WasPut, WasPartPut, file_at}
+use Rattle.pg_top.specs.Answers.{IsCall}
+use Rattle.pg_top.specs.Calls.{rule_of}
 use Rattle.pg_top.specs.Counted.{IsCountedCall}
-use Rattle.pg_top.specs.Moments.{Moment}
-use Rattle.pg_top.specs.Promises.{IsPromised}
+use Rattle.pg_top.specs.Moments.{Moment, OfFiles}
+use Rattle.pg_top.specs.Outcomes.{IsKnown}
+use Rattle.pg_top.specs.Rules.{outcome_of}
 use Rattle.pg_words.specs.Requests.{Request}
 use Rattle.pg_top.specs.declared.answers.Status.{Status}
+use Rattle.pg_top.specs.declared.answers.Status.TheVariants.{Done, Fault}
 
 -- files and a sink were handed to a call that was asked for this, and it gave this answer
 pub record IsRun {F : Type 0} (asked : Option Request) (status : Status)
     (before after : F) (old new : Moment) : Type 0 where
-  pub call : IsCall asked status old new
-  pub sampled : IsSampled asked status old new
-  pub counted : IsCountedCall asked status old new
-  pub promised : IsPromised asked status old new
-  pub same : option_map_or reads_of asked [] ≡ [] → after ≡ before
+  pub call : IsCall (rule_of asked) status old new
+  pub counted : IsCountedCall (rule_of asked) status old new
+  pub promised : status ≡ Done → OfFiles old new (λ before after.
+      (rule_of asked).keeps (file_at before) (outcome_of (file_at before) (rule_of asked)))
+  -- without a file that is read, the files stay, and the lines are known where files tell nothing
+  pub unread : (rule_of asked).reads ≡ [] → (after ≡ before)
+      × IsKnown ((rule_of asked).comes (λ _. None)) (λ wanted writing lines.
+      (status ≡ wanted → WasPut old.1.text new.1.text lines)
+      × (status ≡ Fault → WasPartPut old.1.text new.1.text lines))

@@ -1,10 +1,10 @@
 //! `audit`: given files, which are compared with those that `generate` would write.
-ghost use Rattle.std.specs.Prelude.{◌≡◌, IfOk, IfErr, IfSome, Some};
+ghost use Rattle.std.specs.Prelude.{◌≡◌, IfOk, IfErr, IfSome};
 ghost use Rattle.pg_outside.specs.Content.{file_at};
 ghost use Rattle.pg_outside.specs.Faults.{next_count};
-ghost use Rattle.pg_top.specs.Calls.{outcome_of, reads_of};
+ghost use Rattle.pg_top.specs.Rules.{outcome_of};
+ghost use Rattle.pg_top.specs.audit.Audited.{audit_rule};
 ghost use Rattle.pg_words.specs.Inside.Asked.{texts_of};
-ghost use Rattle.pg_words.specs.Requests.{ToAudit};
 ghost use Rattle.pg_top.specs.Inside.Stops.{OnlyReads, StopsReading};
 ghost use Rattle.pg_top.specs.audit.Inside.Verdicts.{outcome_by, ReadsToFind, PutsVerdict};
 ghost use Rattle.pg_top.specs.Answers.{IsCall};
@@ -37,12 +37,12 @@ pub fn audit_files<'a, F: Files, W: Watch>(
 ) -> Result<Verdict, Stop<'a>>
     ensures only { OnlyReads (F.shown files.old) (F.shown files.new) }
     ensures ok { IfOk result (λ verdict. IfSome (F.shown files.new).held (λ files.
-        outcome_of (file_at files) (ToAudit (texts_of names.now)) ≡ outcome_by verdict)) }
+        outcome_of (file_at files) (audit_rule (texts_of names.now)) ≡ outcome_by verdict)) }
     ensures counted { IfOk result (λ verdict.
-        ReadsToFind (reads_of (ToAudit (texts_of names.now))) verdict
+        ReadsToFind (audit_rule (texts_of names.now)).reads verdict
         (F.shown files.old) (F.shown files.new)) }
     ensures stopped { IfErr result
-        (StopsReading (reads_of (ToAudit (texts_of names.now)))
+        (StopsReading (audit_rule (texts_of names.now)).reads
         (F.shown files.old) (F.shown files.new)) }
 {
     let inputs = read_inputs(alloc, names, files, watch)?;
@@ -71,9 +71,9 @@ pub fn audit<F: Files, O: Sink, W: Watch>(
     out: &mut O,
     watch: &W,
 ) -> Status
-    ensures call { IsCall (Some (ToAudit (texts_of names.now))) result
+    ensures call { IsCall (audit_rule (texts_of names.now)) result
         (F.shown files.old, O.shown out.old) (F.shown files.new, O.shown out.new) }
-    ensures counted { IsCountedCall (Some (ToAudit (texts_of names.now))) result
+    ensures counted { IsCountedCall (audit_rule (texts_of names.now)) result
         (F.shown files.old, O.shown out.old) (F.shown files.new, O.shown out.new) }
 {
     match audit_files(alloc, names, files, watch) {

@@ -1,6 +1,6 @@
 //! `generate`: the patterns that a selection finds, and what is told of them.
 ghost use Rattle.pg_words.specs.Inside.Asked.{texts_of};
-ghost use Rattle.pg_words.specs.Requests.{ToGenerate};
+ghost use Rattle.pg_top.specs.generate.Generated.{generate_rule};
 ghost use Rattle.pg_top.specs.Inside.Built.{Builds};
 
 mod inputs;
@@ -22,7 +22,7 @@ pub fn generate_files<'a, F: Files, W: Watch>(
     files: &mut F,
     watch: &W,
 ) -> Result<Outputs<'a>, Stop<'a>>
-    ensures { Builds (ToGenerate (texts_of names.now))
+    ensures { Builds (generate_rule (texts_of names.now))
         (F.shown files.old) (F.shown files.new) result }
 {
     let inputs = read_inputs(alloc, names, files, watch)?;

@@ -1,5 +1,7 @@
 //! `pack`: patterns as a packed table.
 ghost use Rattle.pg_words.specs.Inside.Asked.{to_pack};
+ghost use Rattle.std.specs.Prelude.{Some};
+ghost use Rattle.pg_top.specs.Calls.{rule_of};
 ghost use Rattle.pg_top.specs.Inside.Built.{Builds};
 
 mod inputs;
@@ -22,7 +24,7 @@ pub fn pack_files<'a, F: Files, W: Watch>(
     files: &mut F,
     watch: &W,
 ) -> Result<Outputs<'a>, Stop<'a>>
-    ensures { Builds (to_pack patterns.now translate.now table.now)
+    ensures { Builds (rule_of (Some (to_pack patterns.now translate.now table.now)))
         (F.shown files.old) (F.shown files.new) result }
 {
     let source = read_source(alloc, translate, patterns, files, watch)?;

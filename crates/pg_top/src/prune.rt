@@ -1,5 +1,7 @@
 //! `prune`: the patterns that a dictionary needs.
 ghost use Rattle.pg_words.specs.Inside.Asked.{to_prune};
+ghost use Rattle.std.specs.Prelude.{Some};
+ghost use Rattle.pg_top.specs.Calls.{rule_of};
 ghost use Rattle.pg_top.specs.Inside.Built.{Builds};
 
 mod inputs;
@@ -24,7 +26,8 @@ pub fn prune_files<'a, F: Files, W: Watch>(
     files: &mut F,
     watch: &W,
 ) -> Result<Outputs<'a>, Stop<'a>>
-    ensures { Builds (to_prune dict.now patterns.now output.now translate.now report.now)
+    ensures { Builds
+        (rule_of (Some (to_prune dict.now patterns.now output.now translate.now report.now)))
         (F.shown files.old) (F.shown files.new) result }
 {
     let inputs = read_prune(alloc, translate, patterns, dict, files, watch)?;

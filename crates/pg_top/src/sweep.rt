@@ -1,7 +1,7 @@
 //! `sweep`: the cheapest of several parameter files.
 ghost use Rattle.std.specs.Prelude.{◌≤◌, length};
 ghost use Rattle.pg_words.specs.Inside.Asked.{sweep_of, KeepsSweepLimits};
-ghost use Rattle.pg_words.specs.Requests.{ToSweep};
+ghost use Rattle.pg_top.specs.sweep.Swept.{sweep_rule};
 ghost use Rattle.pg_top.specs.Inside.Built.{Builds};
 
 mod engines;
@@ -42,7 +42,8 @@ pub fn sweep_files<'a, F: Files, W: Watch>(
     watch: &W,
 ) -> Result<Outputs<'a>, Stop<'a>>
     requires { KeepsSweepLimits words.now }
-    ensures { Builds (ToSweep (sweep_of words.now)) (F.shown files.old) (F.shown files.new) result }
+    ensures { Builds (sweep_rule (sweep_of words.now))
+        (F.shown files.old) (F.shown files.new) result }
 {
     let inputs = read_sweep(alloc, words, files, watch)?;
     tell_lowest(words.patterns, &inputs.sets, &inputs.start, watch);

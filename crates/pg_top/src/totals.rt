@@ -1,4 +1,6 @@
 //! `totals`: the totals of a dictionary by a packed table.
+ghost use Rattle.std.specs.Prelude.{Some};
+ghost use Rattle.pg_top.specs.Calls.{rule_of};
 ghost use Rattle.pg_top.specs.Inside.Built.{Builds};
 ghost use Rattle.pg_words.specs.Inside.Asked.{to_totals};
 
@@ -22,7 +24,7 @@ pub fn total_files<'a, F: Files, W: Watch>(
     files: &mut F,
     watch: &W,
 ) -> Result<Outputs<'a>, Stop<'a>>
-    ensures { Builds (to_totals dict.now translate.now table.now)
+    ensures { Builds (rule_of (Some (to_totals dict.now translate.now table.now)))
         (F.shown files.old) (F.shown files.new) result }
 {
     let letters = read_table(alloc, translate, files, watch)?;

@@ -13,20 +13,19 @@ use Rattle.pg_outside.specs.Content.{FileMap, FilesShown, SinkShown, KeepsHeld, 
 use Rattle.pg_outside.specs.Inside.NameFaults.{NoneFell}
 use Rattle.pg_outside.specs.FilesCalls.{Reads}
 use Rattle.pg_top.specs.Answers.{IsCall}
-use Rattle.pg_top.specs.audit.Audited.{denies, given_file, given_files}
+use Rattle.pg_top.specs.audit.Audited.{audit_rule, denies, given_file, given_files}
 use Rattle.pg_top.specs.audit.Inside.GivenNames.{given_names}
 use Rattle.pg_top.specs.audit.Inside.Verdicts.{yes_line, reading_of, wanted_file, wanted_files, end_of, outcome_by, ReadsToFind, IsFrontOf, PutsVerdict}
-use Rattle.pg_top.specs.Calls.{outcome_of, reads_of}
 use Rattle.pg_top.specs.Counted.{MakesCalls, MakesPuts, read_calls, ReadsUpTo, EndsAt, IsEndedCounted, IsWholeCounted, IsCountedCall}
 use Rattle.pg_top.specs.Inside.ReadCalls.{read_call}
 use Rattle.pg_top.specs.Outcomes.{Outcome, Unknown, Ends}
 use Rattle.pg_top.specs.Inside.Refusing.{refuses}
 use Rattle.pg_top.specs.PrintedLines.{word_of}
 use Rattle.pg_top.specs.Readings.{HeldFiles, Reading, first_end}
-use Rattle.pg_words.specs.Requests.{FileNames, ToAudit, if_asked}
+use Rattle.pg_words.specs.Requests.{FileNames, if_asked}
 use Rattle.pg_top.specs.Selection.{selected_text, selected_report}
-use Rattle.pg_top.specs.generate.Generated.{inputs_in, inputs_of}
-use Rattle.pg_top.specs.generate.Inside.Accepted.{HasInputs}
+use Rattle.pg_top.specs.generate.Generated.{inputs_in}
+use Rattle.pg_top.specs.generate.Inside.Accepted.{inputs_of, HasInputs}
 use Rattle.pg_top.specs.Inside.Stops.{StopsAt, StopsWith, StopsReading}
 use Rattle.pg_top.specs.declared.answers.Status.{Status}
 use Rattle.pg_top.specs.declared.answers.Status.TheVariants.{Yes, No}
@@ -44,6 +43,7 @@ use Rattle.pg_top.proofs.CountedCalls.{calls_on, calls_are, taken_more, read_mor
 use Rattle.pg_top.proofs.CountedEnds.{counted_line}
 use Rattle.pg_top.proofs.generate.InputOrder.{inputs_accepted, given as given_inputs}
 use Rattle.pg_top.proofs.Orders.{IsAccepted, AreAccepted, accepted_and, accepted_front, accepted_all, end_behind, mapped, both, held_later, stopped_behind, stopped_after, read_after, end_after}
+use Rattle.pg_top.specs.Rules.{outcome_of}
 
 -- what is said of a difference is said by what is printed of it
 said : Given → ℕ × FoundLine → List ℕ
@@ -103,13 +103,13 @@ module _ (n : FileNames) (i : Inputs) where
   inputs_same files h = given_inputs n i.table i.params i.start i.dictionary files h
 
   -- what reading all comes to is what the given files come to
-  ends_with : (files : FileMap) → HasInputs (file_at files) n i → first_end (file_at files) (reads_of (ToAudit n)) ≡ first_end (file_at files) (given_files (λ _. i) n)
+  ends_with : (files : FileMap) → HasInputs (file_at files) n i → first_end (file_at files) (audit_rule n).reads ≡ first_end (file_at files) (given_files (λ _. i) n)
   ends_with files h =
       accepted_front (file_at files) (inputs_of n) (given_files (λ files. inputs_in files n) n) (inputs_there files h)
       ∙ same_ends (file_at files) (λ files. inputs_in files n) i (inputs_same files h) (given_names n)
 
   pub outcome_audited : (ws : List Wanted) (verdict : Verdict) (files : FileMap) → wanted_files ws ≡ given_files (λ _. i) n → HasInputs (file_at files) n i
-      → first_end (file_at files) (wanted_files ws) ≡ end_of verdict → outcome_of (file_at files) (ToAudit n) ≡ outcome_by verdict
+      → first_end (file_at files) (wanted_files ws) ≡ end_of verdict → outcome_of (file_at files) (audit_rule n) ≡ outcome_by verdict
   outcome_audited ws verdict files wanted h is = ap (λ end. unwrap_or end (Ends Yes [] yes_line)) (ends_with files h ∙ ap (first_end (file_at files)) (sym wanted) ∙ is)
 
   -- those at the front come to the same
@@ -173,7 +173,7 @@ module _ (n : FileNames) (i : Inputs) where
   -- a stop at a given file is a stop of all
   pub stopped_given : (ws : List Wanted) (s0 s2 s3 : FilesShown) (stop : Stop) → wanted_files ws ≡ given_files (λ _. i) n → NoneFell s0.read_faults s2.read_faults
       → MakesCalls s0 s2 (read_calls (inputs_of n)) → KeepsHeld s2.held s3.held → IfSome s2.held (λ files. HasInputs (file_at files) n i)
-      → StopsReading (wanted_files ws) s2 s3 stop → StopsReading (reads_of (ToAudit n)) s0 s3 stop
+      → StopsReading (wanted_files ws) s2 s3 stop → StopsReading (audit_rule n).reads s0 s3 stop
   stopped_given ws s0 s2 s3 stop wanted fell calls keeps h stops =
       let later : IfSome s3.held (λ files. HasInputs (file_at files) n i) = held_later s2.held s3.held (λ files. HasInputs (file_at files) n i) keeps h in
       let given_stops : StopsReading (given_files (λ _. i) n) s2 s3 stop = subst (λ (reads : List Reading). StopsReading reads s2 s3 stop) wanted stops in
@@ -187,12 +187,12 @@ module _ (n : FileNames) (i : Inputs) where
 
   -- how far all files were read where this was found
   pub found_given : (ws : List Wanted) (verdict : Verdict) (s0 s2 s3 : FilesShown) → wanted_files ws ≡ given_files (λ _. i) n → MakesCalls s0 s2 (read_calls (inputs_of n))
-      → KeepsHeld s2.held s3.held → IfSome s2.held (λ files. HasInputs (file_at files) n i) → ReadsToFind (wanted_files ws) verdict s2 s3 → ReadsToFind (reads_of (ToAudit n)) verdict s0 s3
+      → KeepsHeld s2.held s3.held → IfSome s2.held (λ files. HasInputs (file_at files) n i) → ReadsToFind (wanted_files ws) verdict s2 s3 → ReadsToFind (audit_rule n).reads verdict s0 s3
   found_given ws Equal s0 s2 s3 wanted calls keeps h read =
       let given : read_calls (wanted_files ws) ≡ read_calls (given_files (λ files. inputs_in files n) n) = ap read_calls wanted ∙ same_calls (λ _. i) (λ files. inputs_in files n) (given_names n) in
-      let same : read_calls (inputs_of n) ++ read_calls (wanted_files ws) ≡ read_calls (reads_of (ToAudit n)) = ap (λ more. read_calls (inputs_of n) ++ more) given
+      let same : read_calls (inputs_of n) ++ read_calls (wanted_files ws) ≡ read_calls (audit_rule n).reads = ap (λ more. read_calls (inputs_of n) ++ more) given
       ∙ sym (map-append read_call (inputs_of n) (given_files (λ files. inputs_in files n) n)) in
-      calls_are (read_calls (inputs_of n) ++ read_calls (wanted_files ws)) (read_calls (reads_of (ToAudit n))) s0 s3 same
+      calls_are (read_calls (inputs_of n) ++ read_calls (wanted_files ws)) (read_calls (audit_rule n).reads) s0 s3 same
       (calls_on (read_calls (inputs_of n)) (read_calls (wanted_files ws)) s0 s2 s3 calls read)
   found_given ws (False line) s0 s2 s3 wanted calls keeps h found =
       let later : IfSome s3.held (λ files. HasInputs (file_at files) n i) = held_later s2.held s3.held (λ files. HasInputs (file_at files) n i) keeps h in
@@ -208,37 +208,37 @@ module _ (n : FileNames) (i : Inputs) where
       )
 
 -- all were right, or one had a false line: the calls
-equal_counted : (n : FileNames) (s0 s1 : FilesShown) (o0 o1 : SinkShown) → ReadsToFind (reads_of (ToAudit n)) Equal s0 s1 → MakesPuts o0 o1 1 → IsWholeCounted (ToAudit n) (s0, o0) (s1, o1)
+equal_counted : (n : FileNames) (s0 s1 : FilesShown) (o0 o1 : SinkShown) → ReadsToFind (audit_rule n).reads Equal s0 s1 → MakesPuts o0 o1 1 → IsWholeCounted (audit_rule n) (s0, o0) (s1, o1)
 equal_counted n s0 s1 o0 o1 read put =
-    (calls_are (read_calls (reads_of (ToAudit n))) (read_calls (reads_of (ToAudit n)) ++ []) s0 s1 (sym (append-nil (read_calls (reads_of (ToAudit n))))) read, put)
+    (calls_are (read_calls (audit_rule n).reads) (read_calls (audit_rule n).reads ++ []) s0 s1 (sym (append-nil (read_calls (audit_rule n).reads))) read, put)
 
-false_counted : (n : FileNames) (line : Vec ℕ Global) (s0 s1 : FilesShown) (o0 o1 : SinkShown) → IfSome s1.held (λ files. outcome_of (file_at files) (ToAudit n) ≡ Ends No [] line.items)
-    → ReadsToFind (reads_of (ToAudit n)) (False line) s0 s1 → MakesPuts o0 o1 1 → IsEndedCounted (ToAudit n) (s0, o0) (s1, o1)
+false_counted : (n : FileNames) (line : Vec ℕ Global) (s0 s1 : FilesShown) (o0 o1 : SinkShown) → IfSome s1.held (λ files. outcome_of (file_at files) (audit_rule n) ≡ Ends No [] line.items)
+    → ReadsToFind (audit_rule n).reads (False line) s0 s1 → MakesPuts o0 o1 1 → IsEndedCounted (audit_rule n) (s0, o0) (s1, o1)
 false_counted n line s0 s1 o0 o1 told found put = (found.0, found.1, ends, put)
   where
-    ends : IfSome s1.held (λ files. EndsAt (ToAudit n) found.0 (file_at files))
+    ends : IfSome s1.held (λ files. EndsAt (audit_rule n) found.0 (file_at files))
     ends =
-        mapped s1.held (λ files. (outcome_of (file_at files) (ToAudit n) ≡ Ends No [] line.items)
-        × (first_end (file_at files) (take (found.0 + 1) (reads_of (ToAudit n))) ≡ Some (Ends No [] line.items))) (λ files. EndsAt (ToAudit n) found.0 (file_at files))
+        mapped s1.held (λ files. (outcome_of (file_at files) (audit_rule n) ≡ Ends No [] line.items)
+        × (first_end (file_at files) (take (found.0 + 1) (audit_rule n).reads) ≡ Some (Ends No [] line.items))) (λ files. EndsAt (audit_rule n) found.0 (file_at files))
         (λ files h. inl (h.1 ∙ ap Some (sym h.0)))
-        (both s1.held (λ files. outcome_of (file_at files) (ToAudit n) ≡ Ends No [] line.items)
-        (λ files. first_end (file_at files) (take (found.0 + 1) (reads_of (ToAudit n))) ≡ Some (Ends No [] line.items)) told found.2)
+        (both s1.held (λ files. outcome_of (file_at files) (audit_rule n) ≡ Ends No [] line.items)
+        (λ files. first_end (file_at files) (take (found.0 + 1) (audit_rule n).reads) ≡ Some (Ends No [] line.items)) told found.2)
 
 -- the answer of a verdict
 pub verdict_call : (n : FileNames) (verdict : Verdict) (s0 s1 : FilesShown) (o0 o1 : SinkShown) (answer : Status) → KeepsHeld s0.held s1.held
-    → IfSome s1.held (λ files. outcome_of (file_at files) (ToAudit n) ≡ outcome_by verdict) → ReadsToFind (reads_of (ToAudit n)) verdict s0 s1 → PutsVerdict verdict answer o0 o1 → MakesPuts o0 o1 1
-    → IsCall (Some (ToAudit n)) answer (s0, o0) (s1, o1)
-verdict_call n Equal s0 s1 o0 o1 answer keeps told read puts put = answered_call (ToAudit n) Yes yes_line s0 s1 o0 o1 answer tt (0, omega arith, refl)
+    → IfSome s1.held (λ files. outcome_of (file_at files) (audit_rule n) ≡ outcome_by verdict) → ReadsToFind (audit_rule n).reads verdict s0 s1 → PutsVerdict verdict answer o0 o1 → MakesPuts o0 o1 1
+    → IsCall (audit_rule n) answer (s0, o0) (s1, o1)
+verdict_call n Equal s0 s1 o0 o1 answer keeps told read puts put = answered_call (audit_rule n) Yes yes_line s0 s1 o0 o1 answer tt (0, omega arith, refl)
     (equal_counted n s0 s1 o0 o1 read put) keeps told puts
-verdict_call n (False line) s0 s1 o0 o1 answer keeps told read puts put = answered_call (ToAudit n) No line.items s0 s1 o0 o1 answer tt (1, omega arith, refl)
+verdict_call n (False line) s0 s1 o0 o1 answer keeps told read puts put = answered_call (audit_rule n) No line.items s0 s1 o0 o1 answer tt (1, omega arith, refl)
     (false_counted n line s0 s1 o0 o1 told read put) keeps told puts
 
 -- and its calls
 pub verdict_counted : (n : FileNames) (verdict : Verdict) (s0 s1 : FilesShown) (o0 o1 : SinkShown) (answer : Status)
-    → IfSome s1.held (λ files. outcome_of (file_at files) (ToAudit n) ≡ outcome_by verdict) → ReadsToFind (reads_of (ToAudit n)) verdict s0 s1
-    → PutsVerdict verdict answer o0 o1 → MakesPuts o0 o1 1 → IsCountedCall (Some (ToAudit n)) answer (s0, o0) (s1, o1)
-verdict_counted n Equal s0 s1 o0 o1 answer told read puts put = counted_line (ToAudit n) Yes yes_line s0 s1 o0 o1 answer (equal_counted n s0 s1 o0 o1 read put) puts
-verdict_counted n (False line) s0 s1 o0 o1 answer told read puts put = counted_line (ToAudit n) No line.items s0 s1 o0 o1 answer (false_counted n line s0 s1 o0 o1 told read put) puts
+    → IfSome s1.held (λ files. outcome_of (file_at files) (audit_rule n) ≡ outcome_by verdict) → ReadsToFind (audit_rule n).reads verdict s0 s1
+    → PutsVerdict verdict answer o0 o1 → MakesPuts o0 o1 1 → IsCountedCall (audit_rule n) answer (s0, o0) (s1, o1)
+verdict_counted n Equal s0 s1 o0 o1 answer told read puts put = counted_line (audit_rule n) Yes yes_line s0 s1 o0 o1 answer (equal_counted n s0 s1 o0 o1 read put) puts
+verdict_counted n (False line) s0 s1 o0 o1 answer told read puts put = counted_line (audit_rule n) No line.items s0 s1 o0 o1 answer (false_counted n line s0 s1 o0 o1 told read put) puts
 
 -- the loop over given files: one more is right
 module _ (ws : List Wanted) (i : ℕ) (w : Wanted) (at : slice_get ws i ≡ Some w) where

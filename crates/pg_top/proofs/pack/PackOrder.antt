@@ -5,16 +5,14 @@ use Rattle.pg_outside.specs.Content.{FileMap, FilesShown, KeepsHeld, file_at}
 use Rattle.pg_translate.specs.Alphabets.{Alphabet}
 use Rattle.pg_patterns.specs.Starts.{start}
 use Rattle.pg_select.specs.Windows.{Patterns}
-use Rattle.pg_top.specs.Calls.{outcome_of, own_outcome, reads_of}
 use Rattle.pg_top.specs.Counted.{MakesCalls, read_calls, EndsAt}
 use Rattle.pg_top.specs.Outcomes.{Ends, Writing}
 use Rattle.pg_top.specs.Inside.Refusing.{refuses}
-use Rattle.pg_top.specs.Promises.{GivesValues}
 use Rattle.pg_top.specs.Inside.ReadAs.{read_as}
-use Rattle.pg_top.specs.pack.Packed.{outcome_of_pack}
+use Rattle.pg_top.specs.pack.Packed.{GivesValues, pack_rule, outcome_of_pack}
 use Rattle.pg_top.specs.totals.Totalled.{packed_table}
 use Rattle.pg_top.specs.pack.Inside.Inputs.{HasSource, packed_text}
-use Rattle.pg_words.specs.Requests.{PackRequest, ToPack}
+use Rattle.pg_words.specs.Requests.{PackRequest}
 use Rattle.pg_top.specs.Inside.Built.{Keeps}
 use Rattle.pg_top.specs.Inside.Stops.{StopsCommandWith, StopsCommand, StopsMaking}
 use Rattle.pg_top.specs.declared.answers.Status.TheVariants.{Done}
@@ -24,6 +22,7 @@ use Rattle.pg_top.specs.declared.inputs.Stop.TheVariants.{Refused, Unread, Memor
 use Rattle.pg_top.specs.declared.pack.inputs.Source.{Source}
 use Rattle.pg_top.proofs.Orders.{AreAccepted, accepted_all, mapped, both, held_later, reads_all}
 use Rattle.pg_top.proofs.UnderTable.{HasTable, is_table, table_accepted, accepted_under, means_under}
+use Rattle.pg_top.specs.Rules.{outcome_of}
 
 -- both files of `pack` are read, one after the other
 pub source_read : (p : PackRequest) (t : Alphabet) (P : Patterns) (h1 h2 : Option FileMap) → KeepsHeld h1 h2 → IfSome h1 (HasTable p.translate t)
@@ -35,22 +34,22 @@ source_read p t P h1 h2 keeps one more =
     (both h2 (HasTable p.translate t) (λ files. read_as (start t) (file_at files) p.patterns ≡ Some (Ok P)) (held_later h1 h2 (HasTable p.translate t) keeps one) more)
 
 -- and are accepted
-pack_accepted : (p : PackRequest) (s : Source) (files : FileMap) → HasSource (file_at files) p.translate p.patterns s → AreAccepted (file_at files) (reads_of (ToPack p))
+pack_accepted : (p : PackRequest) (s : Source) (files : FileMap) → HasSource (file_at files) p.translate p.patterns s → AreAccepted (file_at files) (pack_rule p).reads
 pack_accepted p s files h = (table_accepted p.translate s.table files h.table, (accepted_under p.translate s.table start input.Patterns p.patterns s.patterns files h.table h.patterns, tt))
 
 -- then it comes to the table of the patterns
-pub pack_outcome : (p : PackRequest) (s : Source) (files : FileMap) → HasSource (file_at files) p.translate p.patterns s → outcome_of (file_at files) (ToPack p)
+pub pack_outcome : (p : PackRequest) (s : Source) (files : FileMap) → HasSource (file_at files) p.translate p.patterns s → outcome_of (file_at files) (pack_rule p)
     ≡ outcome_of_pack p.table s.table s.patterns
 pack_outcome p s files h =
     let is_t = is_table p.translate s.table files h.table in
     let is_P = means_under p.translate s.table start [] p.patterns s.patterns files h.table h.patterns in
-    ap (λ end. unwrap_or end (own_outcome (file_at files) (ToPack p))) (accepted_all (file_at files) (reads_of (ToPack p)) (pack_accepted p s files h))
+    ap (λ end. unwrap_or end ((pack_rule p).comes (file_at files))) (accepted_all (file_at files) (pack_rule p).reads (pack_accepted p s files h))
     ∙ (λ k. outcome_of_pack p.table (is_t k) (is_P k))
 
 -- what it promises
 pub pack_keeps : (p : PackRequest) (s : Source) (writing : Writing) (lines : List ℕ) (files : FileMap) → outcome_of_pack p.table s.table s.patterns
     ≡ Ends Done writing lines → writing ≡ (p.table, packed_text s.table s.patterns) ∷ [] → packed_table s.table (packed_text s.table s.patterns)
-    ≡ Ok (packed_text s.table s.patterns) → GivesValues (packed_text s.table s.patterns) s.patterns → HasSource (file_at files) p.translate p.patterns s → Keeps (ToPack p) (file_at files)
+    ≡ Ok (packed_text s.table s.patterns) → GivesValues (packed_text s.table s.patterns) s.patterns → HasSource (file_at files) p.translate p.patterns s → Keeps (pack_rule p) (file_at files)
 pack_keeps p s writing lines files made table accepted gives h = record {
   bytes = packed_text s.table s.patterns;
   lines = lines;
@@ -60,18 +59,18 @@ pack_keeps p s writing lines files made table accepted gives h = record {
 }
 
 -- a stop at making the table
-pub stopped_making : (p : PackRequest) (s : Source) (s0 s1 : FilesShown) (why : Stop) → MakesCalls s0 s1 (read_calls (reads_of (ToPack p)))
-    → IfSome s1.held (λ files. HasSource (file_at files) p.translate p.patterns s) → StopsMaking (outcome_of_pack p.table s.table s.patterns) why → StopsCommand (ToPack p) s0 s1 why
+pub stopped_making : (p : PackRequest) (s : Source) (s0 s1 : FilesShown) (why : Stop) → MakesCalls s0 s1 (read_calls (pack_rule p).reads)
+    → IfSome s1.held (λ files. HasSource (file_at files) p.translate p.patterns s) → StopsMaking (outcome_of_pack p.table s.table s.patterns) why → StopsCommand (pack_rule p) s0 s1 why
 stopped_making p s s0 s1 why calls h making = record {
   place = 1;
-  read = reads_all (reads_of (ToPack p)) s0 s1 (omega arith) calls (mapped s1.held (λ files. HasSource (file_at files) p.translate p.patterns s)
-      (λ files. AreAccepted (file_at files) (reads_of (ToPack p))) (pack_accepted p s) h);
+  read = reads_all (pack_rule p).reads s0 s1 (omega arith) calls (mapped s1.held (λ files. HasSource (file_at files) p.translate p.patterns s)
+      (λ files. AreAccepted (file_at files) (pack_rule p).reads) (pack_accepted p s) h);
   why = why_made why making;
 }
   where
-    why_made : (why : Stop) → StopsMaking (outcome_of_pack p.table s.table s.patterns) why → StopsCommandWith (ToPack p) 1 s0 s1 why
+    why_made : (why : Stop) → StopsMaking (outcome_of_pack p.table s.table s.patterns) why → StopsCommandWith (pack_rule p) 1 s0 s1 why
     why_made (Refused at refusal) is =
-        mapped s1.held (λ files. HasSource (file_at files) p.translate p.patterns s) (λ files. (outcome_of (file_at files) (ToPack p) ≡ refuses at refusal) × EndsAt (ToPack p) 1 (file_at files))
-        (λ files k. (pack_outcome p s files k ∙ is, inr (refl, accepted_all (file_at files) (reads_of (ToPack p)) (pack_accepted p s files k)))) h
+        mapped s1.held (λ files. HasSource (file_at files) p.translate p.patterns s) (λ files. (outcome_of (file_at files) (pack_rule p) ≡ refuses at refusal) × EndsAt (pack_rule p) 1 (file_at files))
+        (λ files k. (pack_outcome p s files k ∙ is, inr (refl, accepted_all (file_at files) (pack_rule p).reads (pack_accepted p s files k)))) h
     why_made (Unread at) is = absurd is
     why_made Memory is = tt

@@ -9,17 +9,15 @@ use Rattle.pg_dict.specs.Word.{Word}
 use Rattle.pg_dict.specs.Words.{words}
 use Rattle.pg_patterns.specs.Starts.{start}
 use Rattle.pg_select.specs.Windows.{Patterns}
-use Rattle.pg_top.specs.Calls.{outcome_of, own_outcome, reads_of}
 use Rattle.pg_top.specs.Counted.{MakesCalls}
 use Rattle.pg_top.specs.Readings.{table_named, translate_file, patterns_file, words_file, patterns_under, words_under}
 use Rattle.pg_top.specs.prune.Inside.Inputs.{HasPrune, line_of_pruned, pruned_by}
-use Rattle.pg_words.specs.Requests.{PruneRequest, ToPrune}
+use Rattle.pg_words.specs.Requests.{PruneRequest}
 use Rattle.pg_top.specs.Inside.Built.{Keeps}
 use Rattle.pg_prune.specs.Prunes.{pruned}
 use Rattle.pg_prune.specs.Reports.{prune_report}
 use Rattle.pg_prune.proofs.PrunedLaws.{pruned_part, pruned_alike, pruned_least}
 use Rattle.pg_select.specs.CountedPositions.{minima_of}
-use Rattle.pg_top.specs.Promises.{ReadsBack}
 use Rattle.pg_top.specs.Inside.Lists.{lists_under, HasLists}
 use Rattle.pg_top.specs.Inside.Stops.{StopsAt, StopsReading}
 use Rattle.pg_top.specs.declared.inputs.Stop.{Stop}
@@ -27,16 +25,18 @@ use Rattle.pg_top.specs.declared.prune.inputs.PruneInputs.{PruneInputs}
 use Rattle.pg_top.proofs.ListOrder.{lists_accepted}
 use Rattle.pg_top.proofs.Orders.{AreAccepted, accepted_all, both, held_later, mapped, stopped_after}
 use Rattle.pg_top.proofs.UnderTable.{HasTable, is_table, table_accepted, means_under, stopped_first}
+use Rattle.pg_top.specs.Rules.{outcome_of}
+use Rattle.pg_top.specs.prune.Pruned.{ReadsBack, prune_rule}
 
 module _ (p : PruneRequest) where
   -- a stop at the translate file
-  pub stopped_table : (s0 s1 : FilesShown) (stop : Stop) → MakesCalls s0 s1 (Reads p.translate ∷ []) → StopsAt (translate_file p.translate) s0 s1 stop → StopsReading (reads_of (ToPrune p)) s0 s1 stop
+  pub stopped_table : (s0 s1 : FilesShown) (stop : Stop) → MakesCalls s0 s1 (Reads p.translate ∷ []) → StopsAt (translate_file p.translate) s0 s1 stop → StopsReading (prune_rule p).reads s0 s1 stop
   stopped_table s0 s1 stop calls stops = stopped_first (translate_file p.translate) (patterns_file p.translate p.patterns ∷ words_file p.translate p.dict ∷ []) s0 s1 stop calls stops
 
   module _ (t : Alphabet) where
     -- a stop at the patterns or at the dictionary
     pub stopped_lists : (s0 s1 s2 : FilesShown) (stop : Stop) → NoneFell s0.read_faults s1.read_faults → MakesCalls s0 s1 (Reads p.translate ∷ [])
-        → KeepsHeld s1.held s2.held → IfSome s1.held (HasTable p.translate t) → StopsReading (lists_under p.translate p.patterns p.dict) s1 s2 stop → StopsReading (reads_of (ToPrune p)) s0 s2 stop
+        → KeepsHeld s1.held s2.held → IfSome s1.held (HasTable p.translate t) → StopsReading (lists_under p.translate p.patterns p.dict) s1 s2 stop → StopsReading (prune_rule p).reads s0 s2 stop
     stopped_lists s0 s1 s2 stop fell calls keeps one stops =
         stopped_after (translate_file p.translate ∷ []) (lists_under p.translate p.patterns p.dict) s0 s1 s2 stop fell calls
         (mapped s2.held (HasTable p.translate t) (λ files. AreAccepted (file_at files) (translate_file p.translate ∷ [])) (λ files h. (table_accepted p.translate t files h, tt))
@@ -53,7 +53,7 @@ module _ (p : PruneRequest) where
         (both h2 (HasTable p.translate t) (λ files. HasLists (file_at files) t p.patterns p.dict P ws) (held_later h1 h2 (HasTable p.translate t) keeps one) more)
 
 -- they are accepted
-pub prune_accepted : (p : PruneRequest) (i : PruneInputs) (files : FileMap) → HasPrune (file_at files) p.translate p.patterns p.dict i → AreAccepted (file_at files) (reads_of (ToPrune p))
+pub prune_accepted : (p : PruneRequest) (i : PruneInputs) (files : FileMap) → HasPrune (file_at files) p.translate p.patterns p.dict i → AreAccepted (file_at files) (prune_rule p).reads
 prune_accepted p i files h = (
   table_accepted p.translate i.table files h.table,
   lists_accepted p.translate p.patterns p.dict i.table i.patterns i.dictionary files h.table (record { start = h.patterns; words = h.words }),
@@ -61,7 +61,7 @@ prune_accepted p i files h = (
 
 -- then it comes to what pruning writes and prints
 pub prune_outcome : (p : PruneRequest) (i : PruneInputs) (files : FileMap) → HasPrune (file_at files) p.translate p.patterns p.dict i
-    → outcome_of (file_at files) (ToPrune p) ≡ pruned_by p.output p.report i.table i.dictionary i.patterns
+    → outcome_of (file_at files) (prune_rule p) ≡ pruned_by p.output p.report i.table i.dictionary i.patterns
 prune_outcome p i files h =
     let t : Alphabet = i.table in
     let P : Patterns = i.patterns in
@@ -69,12 +69,12 @@ prune_outcome p i files h =
     let is_t = is_table p.translate t files h.table in
     let is_P = means_under p.translate t start [] p.patterns P files h.table h.patterns in
     let is_ws = means_under p.translate t words [] p.dict ws files h.table h.words in
-    ap (λ end. unwrap_or end (own_outcome (file_at files) (ToPrune p))) (accepted_all (file_at files) (reads_of (ToPrune p)) (prune_accepted p i files h))
+    ap (λ end. unwrap_or end ((prune_rule p).comes (file_at files))) (accepted_all (file_at files) (prune_rule p).reads (prune_accepted p i files h))
     ∙ (λ k. pruned_by p.output p.report (is_t k) (is_ws k) (is_P k))
 
 -- what it promises
 pub prune_keeps : (p : PruneRequest) (i : PruneInputs) (files : FileMap) → ReadsBack i.table (pruned (minima_of i.table) i.dictionary i.patterns).patterns
-    → HasPrune (file_at files) p.translate p.patterns p.dict i → Keeps (ToPrune p) (file_at files)
+    → HasPrune (file_at files) p.translate p.patterns p.dict i → Keeps (prune_rule p) (file_at files)
 prune_keeps p i files back h =
     let m = minima_of (table_named p.translate (file_at files)) in
     let ws : List Word = words_under (file_at files) p.translate p.dict in
@@ -89,7 +89,7 @@ prune_keeps p i files back h =
       kept = (pruned m ws P).patterns;
       told = prune_report (table_named p.translate (file_at files)) (pruned m ws P);
       lines = line_of_pruned (pruned m ws P);
-      comes = ap (λ end. unwrap_or end (own_outcome (file_at files) (ToPrune p))) (accepted_all (file_at files) (reads_of (ToPrune p)) (prune_accepted p i files h));
+      comes = ap (λ end. unwrap_or end ((prune_rule p).comes (file_at files))) (accepted_all (file_at files) (prune_rule p).reads (prune_accepted p i files h));
       part = pruned_part m ws P;
       reads_back = subst (λ (t : Alphabet). ReadsBack t (pruned (minima_of t) ws P).patterns) (sym is_t) with_ws;
       alike = pruned_alike m ws P;

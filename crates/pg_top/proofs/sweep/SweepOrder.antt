@@ -13,14 +13,13 @@ use Rattle.pg_patterns.specs.Starts.{start}
 use Rattle.pg_select.specs.Windows.{Patterns}
 use Rattle.pg_sweep.specs.Sweeps.{Terms}
 use Rattle.pg_top.specs.sweep.Inside.Inputs.{outcome_of_sets}
-use Rattle.pg_top.specs.Calls.{outcome_of, own_outcome, reads_of}
 use Rattle.pg_top.specs.Counted.{MakesCalls, read_calls}
 use Rattle.pg_top.specs.Inside.ReadCalls.{read_call}
 use Rattle.pg_top.specs.Readings.{Reading, translate_file, patterns_file, words_file}
-use Rattle.pg_words.specs.Requests.{SweepRequest, ToSweep}
+use Rattle.pg_words.specs.Requests.{SweepRequest}
 use Rattle.pg_top.specs.Inside.Lists.{lists_under, HasLists}
 use Rattle.pg_top.specs.Inside.Stops.{StopsAt, StopsReading}
-use Rattle.pg_top.specs.sweep.Swept.{set_files}
+use Rattle.pg_top.specs.sweep.Swept.{swept_rows, sweep_rule, set_files}
 use Rattle.pg_top.specs.sweep.Inside.Accepted.{HasSets, HasSweep}
 use Rattle.pg_top.specs.declared.inputs.Stop.{Stop}
 use Rattle.pg_top.proofs.ListOrder.{lists_accepted}
@@ -28,6 +27,7 @@ use Rattle.pg_top.proofs.Orders.{AreAccepted, accepted_all, accepted_both, both,
 use Rattle.pg_top.proofs.CountedCalls.{calls_on, calls_are}
 use Rattle.pg_top.proofs.sweep.SetFiles.{sets_accepted, sets_mean}
 use Rattle.pg_top.proofs.UnderTable.{HasTable, is_table, table_accepted, means_under, stopped_first}
+use Rattle.pg_top.specs.Rules.{outcome_of}
 
 module _ (s : SweepRequest) where
   -- the files that are read before the patterns
@@ -38,21 +38,21 @@ module _ (s : SweepRequest) where
   pub front_calls : (s0 s1 s2 : FilesShown) → MakesCalls s0 s1 (Reads s.translate ∷ []) → MakesCalls s1 s2 (read_calls (set_files 1 s.params)) → MakesCalls s0 s2 (read_calls set_front)
   front_calls s0 s1 s2 one more = calls_on (Reads s.translate ∷ []) (read_calls (set_files 1 s.params)) s0 s1 s2 one more
 
-  pub all_calls : (s0 s2 s3 : FilesShown) → MakesCalls s0 s2 (read_calls set_front) → MakesCalls s2 s3 (Reads s.patterns ∷ Reads s.dict ∷ []) → MakesCalls s0 s3 (read_calls (reads_of (ToSweep s)))
+  pub all_calls : (s0 s2 s3 : FilesShown) → MakesCalls s0 s2 (read_calls set_front) → MakesCalls s2 s3 (Reads s.patterns ∷ Reads s.dict ∷ []) → MakesCalls s0 s3 (read_calls (sweep_rule s).reads)
   all_calls s0 s2 s3 front more =
-      calls_are (read_calls set_front ++ Reads s.patterns ∷ Reads s.dict ∷ []) (read_calls (reads_of (ToSweep s))) s0 s3
+      calls_are (read_calls set_front ++ Reads s.patterns ∷ Reads s.dict ∷ []) (read_calls (sweep_rule s).reads) s0 s3
       (sym (map-append read_call set_front (patterns_file s.translate s.patterns ∷ words_file s.translate s.dict ∷ [])))
       (calls_on (read_calls set_front) (Reads s.patterns ∷ Reads s.dict ∷ []) s0 s2 s3 front more)
 
   -- a stop at the translate file
-  pub stopped_table : (s0 s1 : FilesShown) (stop : Stop) → MakesCalls s0 s1 (Reads s.translate ∷ []) → StopsAt (translate_file s.translate) s0 s1 stop → StopsReading (reads_of (ToSweep s)) s0 s1 stop
+  pub stopped_table : (s0 s1 : FilesShown) (stop : Stop) → MakesCalls s0 s1 (Reads s.translate ∷ []) → StopsAt (translate_file s.translate) s0 s1 stop → StopsReading (sweep_rule s).reads s0 s1 stop
   stopped_table s0 s1 stop calls stops = stopped_first (translate_file s.translate)
       (set_files 1 s.params ++ patterns_file s.translate s.patterns ∷ words_file s.translate s.dict ∷ []) s0 s1 stop calls stops
 
   module _ (t : Alphabet) where
     -- a stop at a parameter file
     pub stopped_sets : (s0 s1 s2 : FilesShown) (stop : Stop) → NoneFell s0.read_faults s1.read_faults → MakesCalls s0 s1 (Reads s.translate ∷ [])
-        → KeepsHeld s1.held s2.held → IfSome s1.held (HasTable s.translate t) → StopsReading (set_files 1 s.params) s1 s2 stop → StopsReading (reads_of (ToSweep s)) s0 s2 stop
+        → KeepsHeld s1.held s2.held → IfSome s1.held (HasTable s.translate t) → StopsReading (set_files 1 s.params) s1 s2 stop → StopsReading (sweep_rule s).reads s0 s2 stop
     stopped_sets s0 s1 s2 stop fell calls keeps one stops =
         stopped_after (translate_file s.translate ∷ []) (set_files 1 s.params ++ patterns_file s.translate s.patterns ∷ words_file s.translate s.dict ∷ []) s0 s1 s2 stop fell calls
         (mapped s2.held (HasTable s.translate t) (λ files. AreAccepted (file_at files) (translate_file s.translate ∷ [])) (λ files h. (table_accepted s.translate t files h, tt))
@@ -72,7 +72,7 @@ module _ (s : SweepRequest) where
 
       -- a stop at the patterns or at the dictionary
       pub stopped_lists : (s0 s2 s3 : FilesShown) (stop : Stop) → NoneFell s0.read_faults s2.read_faults → MakesCalls s0 s2 (read_calls set_front)
-          → KeepsHeld s2.held s3.held → IfSome s2.held HasFront → StopsReading (lists_under s.translate s.patterns s.dict) s2 s3 stop → StopsReading (reads_of (ToSweep s)) s0 s3 stop
+          → KeepsHeld s2.held s3.held → IfSome s2.held HasFront → StopsReading (lists_under s.translate s.patterns s.dict) s2 s3 stop → StopsReading (sweep_rule s).reads s0 s3 stop
       stopped_lists s0 s2 s3 stop fell front keeps two stops =
           stopped_after set_front (lists_under s.translate s.patterns s.dict) s0 s2 s3 stop fell front
           (mapped s3.held HasFront (λ files. AreAccepted (file_at files) set_front) front_accepted (held_later s2.held s3.held HasFront keeps two)) stops
@@ -87,7 +87,7 @@ module _ (s : SweepRequest) where
           (both h3 HasFront (λ files. HasLists (file_at files) t s.patterns s.dict P ws) (held_later h2 h3 HasFront keeps two) more)
 
 -- they are accepted
-pub sweep_accepted : (s : SweepRequest) (terms : Terms) (sets : List Parameters) (files : FileMap) → HasSweep (file_at files) s terms sets → AreAccepted (file_at files) (reads_of (ToSweep s))
+pub sweep_accepted : (s : SweepRequest) (terms : Terms) (sets : List Parameters) (files : FileMap) → HasSweep (file_at files) s terms sets → AreAccepted (file_at files) (sweep_rule s).reads
 sweep_accepted s terms sets files h =
     let front : AreAccepted (file_at files) (set_front s) = front_accepted s terms.table sets files (h.table, h.sets) in
     let rest : AreAccepted (file_at files) (patterns_file s.translate s.patterns ∷ words_file s.translate s.dict ∷ []) =
@@ -96,7 +96,8 @@ sweep_accepted s terms sets files h =
 
 -- then it comes to what the sweep writes and prints
 pub sweep_outcome : (s : SweepRequest) (terms : Terms) (sets : List Parameters) (files : FileMap) → HasSweep (file_at files) s terms sets
-    → outcome_of (file_at files) (ToSweep s) ≡ outcome_of_sets s terms sets
+    → outcome_of (file_at files) (sweep_rule s) ≡ outcome_of_sets s terms sets
+unfolding swept_rows
 sweep_outcome s terms sets files h =
     let t : Alphabet = terms.table in
     let P : Patterns = terms.start in
@@ -105,5 +106,5 @@ sweep_outcome s terms sets files h =
     let is_P = means_under s.translate t start [] s.patterns P files h.table h.start in
     let is_ws = means_under s.translate t words [] s.dict ws files h.table h.words in
     let is_sets = sets_mean (file_at files) s.params sets h.sets in
-    ap (λ end. unwrap_or end (own_outcome (file_at files) (ToSweep s))) (accepted_all (file_at files) (reads_of (ToSweep s)) (sweep_accepted s terms sets files h))
+    ap (λ end. unwrap_or end ((sweep_rule s).comes (file_at files))) (accepted_all (file_at files) (sweep_rule s).reads (sweep_accepted s terms sets files h))
     ∙ (λ k. outcome_of_sets s (record { table = is_t k; words = is_ws k; start = is_P k; folds = sym h.folds k }) (is_sets k))

@@ -9,12 +9,11 @@ use Rattle.pg_sweep.specs.Inside.Found.{Found}
 use Rattle.pg_sweep.specs.Winners.{winner_of}
 use Rattle.pg_sweep.specs.declared.rows.SweepRow.{SweepRow}
 use Rattle.pg_sweep.proofs.Winners.{winner_wins}
-use Rattle.pg_top.specs.Calls.{own_outcome, reads_of}
 use Rattle.pg_top.specs.Outcomes.{Ends}
-use Rattle.pg_top.specs.sweep.Swept.{winner_line, terms_in, sets_in, swept_rows, outcome_of_sweep}
-use Rattle.pg_top.specs.Promises.{set_costs, SweepNames}
+use Rattle.pg_top.specs.Rules.{outcome_of}
+use Rattle.pg_top.specs.sweep.Swept.{SweepNames, sweep_rule, winner_line, terms_in, swept_rows, outcome_of_sweep}
 use Rattle.pg_top.specs.Readings.{HeldFiles, first_end, parameters_named}
-use Rattle.pg_words.specs.Requests.{SweepRequest, ToSweep}
+use Rattle.pg_words.specs.Requests.{SweepRequest}
 use Rattle.pg_top.specs.sweep.Inside.Inputs.{line_of_sweep, outcome_of_sets}
 use Rattle.pg_top.specs.declared.answers.Status.TheVariants.{Done}
 
@@ -22,21 +21,20 @@ use Rattle.pg_top.specs.declared.answers.Status.TheVariants.{Done}
 pub sweep_made : (s : SweepRequest) (terms : Terms) (sets : List Parameters) (found : Found) (text line : List ℕ) → found.rows ≡ map (row_of terms s.bad s.missed) sets
     → found.winner ≡ winner_of (costs_of found.rows) → text ≡ sweep_file s.folds found.rows found.winner → line ≡ line_of_sweep found
     → outcome_of_sets s terms sets ≡ Ends Done ((s.output, text) ∷ []) line
-unfolding swept_rows
 sweep_made s terms sets found text line rows winner is_text is_line =
     ap (outcome_of_sweep s) (sym rows)
     ∙ ap (λ (w : ℕ). Ends Done ((s.output, sweep_file s.folds found.rows w) ∷ []) (winner_line w (slice_index (costs_of found.rows) (w - 1)))) (sym winner)
     ∙ (λ k. Ends Done ((s.output, sym is_text k) ∷ []) (sym is_line k))
 
 -- what it promises, where no file ends the call
-pub sweep_names : (s : SweepRequest) (files : HeldFiles) → first_end files (reads_of (ToSweep s)) ≡ None → 1 ≤ length s.params → SweepNames files s
+pub sweep_names : (s : SweepRequest) (files : HeldFiles) → first_end files (sweep_rule s).reads ≡ None → 1 ≤ length s.params → SweepNames s files (outcome_of files (sweep_rule s))
 unfolding swept_rows
 sweep_names s files none some = record {
-  winner = winner_of (set_costs files s);
-  text = sweep_file s.folds (swept_rows s (terms_in files s) (sets_in files s)) (winner_of (set_costs files s));
-  comes = ap (λ end. unwrap_or end (own_outcome files (ToSweep s))) none;
-  wins = winner_wins (set_costs files s) (many (set_costs files s) (length-map (swept_rows s (terms_in files s) (sets_in files s)) (λ (r : SweepRow). r.cost)
-      ∙ length-map (sets_in files s) (row_of (terms_in files s) s.bad s.missed) ∙ length-map s.params (parameters_named files)));
+  winner = winner_of (costs_of (swept_rows files s));
+  text = sweep_file s.folds (swept_rows files s) (winner_of (costs_of (swept_rows files s)));
+  comes = ap (λ end. unwrap_or end ((sweep_rule s).comes files)) none;
+  wins = winner_wins (costs_of (swept_rows files s)) (many (costs_of (swept_rows files s)) (length-map (swept_rows files s) (λ (r : SweepRow). r.cost)
+      ∙ length-map (map (parameters_named files) s.params) (row_of (terms_in files s) s.bad s.missed) ∙ length-map s.params (parameters_named files)));
 }
   where
     many : (costs : List ℕ) → length costs ≡ length s.params → 1 ≤ length costs

@@ -12,22 +12,22 @@ use Rattle.pg_dict.specs.Word.{Word}
 use Rattle.pg_dict.specs.Words.{words}
 use Rattle.pg_table.specs.declared.limits.TheConstants.{TABLE_MAX}
 use Rattle.pg_table.specs.Forms.{head_of, is_well_formed}
-use Rattle.pg_top.specs.Calls.{outcome_of, own_outcome, reads_of}
 use Rattle.pg_top.specs.Counted.{MakesCalls, read_calls}
 use Rattle.pg_top.specs.Outcomes.{Ends}
 use Rattle.pg_top.specs.Readings.{Reading, input_file}
 use Rattle.pg_top.specs.Inside.ReadAs.{read_as}
 use Rattle.pg_top.specs.Inside.UnderTable.{file_under}
 use Rattle.pg_top.specs.pack.Inside.Inputs.{table_refused}
-use Rattle.pg_top.specs.totals.Totalled.{packed_table}
+use Rattle.pg_top.specs.totals.Totalled.{totals_rule, packed_table}
 use Rattle.pg_top.specs.totals.Inside.Inputs.{IsTotalled, totals_lines}
-use Rattle.pg_words.specs.Requests.{TotalsRequest, ToTotals}
+use Rattle.pg_words.specs.Requests.{TotalsRequest}
 use Rattle.pg_top.specs.Inside.Stops.{StopsAt, StopsReading}
 use Rattle.pg_top.specs.declared.answers.Status.TheVariants.{Done}
 use Rattle.pg_top.specs.declared.inputs.Input.TheVariants as input
 use Rattle.pg_top.specs.declared.inputs.Stop.{Stop}
 use Rattle.pg_top.proofs.Orders.{AreAccepted, accepted_all, mapped, both, held_later, stopped_behind}
 use Rattle.pg_top.proofs.UnderTable.{HasTable, is_table, table_accepted, accepted_under, means_under, stopped_under}
+use Rattle.pg_top.specs.Rules.{outcome_of}
 
 -- what is known once two files of `totals` are read
 abbrev pub HasWords : TotalsRequest → Alphabet → List Word → FileMap → Type 0
@@ -39,10 +39,10 @@ words_read p t ws h1 h2 keeps one more = both h2 (HasTable p.translate t) (λ fi
 
 -- once all are read it comes to the lines of the totals
 pub totals_outcome : (p : TotalsRequest) (t : Alphabet) (ws : List Word) (lines : List ℕ) (files : FileMap) → HasWords p t ws files
-    → IsTotalled t ws (file_at files) p.table lines → outcome_of (file_at files) (ToTotals p) ≡ Ends Done [] lines
+    → IsTotalled t ws (file_at files) p.table lines → outcome_of (file_at files) (totals_rule p) ≡ Ends Done [] lines
 totals_outcome p t ws lines files h is =
     let b : List ℕ = is.0 in
-    let accepted : AreAccepted (file_at files) (reads_of (ToTotals p)) = (
+    let accepted : AreAccepted (file_at files) (totals_rule p).reads = (
       table_accepted p.translate t files h.0,
       (
         accepted_under p.translate t words input.Dictionary p.dict ws files h.0 h.1,
@@ -52,21 +52,21 @@ totals_outcome p t ws lines files h is =
     let is_t = is_table p.translate t files h.0 in
     let is_ws = means_under p.translate t words [] p.dict ws files h.0 h.1 in
     let is_b = means_under p.translate t packed_table [] p.table b files h.0 is.1 in
-    ap (λ end. unwrap_or end (own_outcome (file_at files) (ToTotals p))) (accepted_all (file_at files) (reads_of (ToTotals p)) accepted)
+    ap (λ end. unwrap_or end ((totals_rule p).comes (file_at files))) (accepted_all (file_at files) (totals_rule p).reads accepted)
     ∙ (λ k. Ends Done [] (totals_lines (is_t k) (is_ws k) (is_b k)))
     ∙ ap (Ends Done []) (sym is.2)
 
 pub totals_told : (p : TotalsRequest) (t : Alphabet) (ws : List Word) (lines : List ℕ) (h2 h3 : Option FileMap) → KeepsHeld h2 h3 → IfSome h2 (HasWords p t ws)
-    → IfSome h3 (λ files. IsTotalled t ws (file_at files) p.table lines) → IfSome h3 (λ files. outcome_of (file_at files) (ToTotals p) ≡ Ends Done [] lines)
+    → IfSome h3 (λ files. IsTotalled t ws (file_at files) p.table lines) → IfSome h3 (λ files. outcome_of (file_at files) (totals_rule p) ≡ Ends Done [] lines)
 totals_told p t ws lines h2 h3 keeps two more =
-    mapped h3 (λ files. HasWords p t ws files × IsTotalled t ws (file_at files) p.table lines) (λ files. outcome_of (file_at files) (ToTotals p) ≡ Ends Done [] lines)
+    mapped h3 (λ files. HasWords p t ws files × IsTotalled t ws (file_at files) p.table lines) (λ files. outcome_of (file_at files) (totals_rule p) ≡ Ends Done [] lines)
     (λ files h. totals_outcome p t ws lines files h.0 h.1)
     (both h3 (HasWords p t ws) (λ files. IsTotalled t ws (file_at files) p.table lines) (held_later h2 h3 (HasWords p t ws) keeps two) more)
 
 -- a stop at the packed table
 pub stopped_table : (p : TotalsRequest) (t : Alphabet) (ws : List Word) (s0 s2 s3 : FilesShown) (why : Stop) → NoneFell s0.read_faults s2.read_faults
-    → MakesCalls s0 s3 (read_calls (reads_of (ToTotals p))) → KeepsHeld s2.held s3.held → IfSome s2.held (HasWords p t ws)
-    → StopsAt (input_file input.Table p.table (λ _. packed_table t)) s2 s3 why → StopsReading (reads_of (ToTotals p)) s0 s3 why
+    → MakesCalls s0 s3 (read_calls (totals_rule p).reads) → KeepsHeld s2.held s3.held → IfSome s2.held (HasWords p t ws)
+    → StopsAt (input_file input.Table p.table (λ _. packed_table t)) s2 s3 why → StopsReading (totals_rule p).reads s0 s3 why
 stopped_table p t ws s0 s2 s3 why fell calls keeps two stops =
     let later : IfSome s3.held (HasWords p t ws) = held_later s2.held s3.held (HasWords p t ws) keeps two in
     let front : List Reading = input_file input.Translate p.translate (λ _. table) ∷ file_under p.translate input.Dictionary p.dict words ∷ [] in

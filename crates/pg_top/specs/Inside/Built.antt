@@ -1,42 +1,37 @@
 -- What a command builds from the files that it reads, before it writes and prints.
 use Rattle.std.specs.Prelude.{◌≡◌, Result, Ok, Err, IfSome, IfOk, IfErr}
 use Rattle.pg_outside.specs.Content.{FilesShown, file_at}
-use Rattle.pg_top.specs.Calls.{outcome_of, reads_of, writes_of}
 use Rattle.pg_top.specs.Counted.{MakesCalls, read_calls}
 use Rattle.pg_top.specs.Inside.PutCounts.{PutsCounted}
 use Rattle.pg_top.specs.Inside.Stops.{OnlyReads, StopsCommand, PutsStop, Finishes}
 use Rattle.pg_top.specs.Inside.WritesMade.{written_names, writing_of}
 use Rattle.pg_top.specs.Moments.{Moment}
 use Rattle.pg_top.specs.Outcomes.{Ends}
-use Rattle.pg_top.specs.Promises.{PackKeeps, PruneKeeps, SweepNames}
 use Rattle.pg_top.specs.Readings.{HeldFiles}
-use Rattle.pg_words.specs.Requests.{Request, ToPack, ToPrune, ToSweep}
+use Rattle.pg_top.specs.Rules.{CommandRule, outcome_of}
 use Rattle.pg_top.specs.declared.answers.Status.{Status}
 use Rattle.pg_top.specs.declared.answers.Status.TheVariants.{Done}
 use Rattle.pg_top.specs.declared.inputs.Stop.{Stop}
 use Rattle.pg_top.specs.declared.writes.Outputs.{Outputs}
 
 -- what a command promises of the files that it read
-abbrev pub Keeps : Request → HeldFiles → Type 0
-Keeps (ToPack n) files = PackKeeps files n
-Keeps (ToPrune n) files = PruneKeeps files n
-Keeps (ToSweep s) files = SweepNames files s
-Keeps request files = Unit {0}
+abbrev pub Keeps : CommandRule → HeldFiles → Type 0
+Keeps rule files = rule.keeps files (outcome_of files rule)
 
 -- the files were read once each, and this is what the command is to write and print
-pub record IsMade (request : Request) (old new : FilesShown) (made : Outputs) : Type 0 where
-  pub comes : IfSome new.held (λ files. outcome_of (file_at files) request
+pub record IsMade (rule : CommandRule) (old new : FilesShown) (made : Outputs) : Type 0 where
+  pub comes : IfSome new.held (λ files. outcome_of (file_at files) rule
       ≡ Ends Done (writing_of made.files.items) made.lines.items)
-  pub named : written_names (writing_of made.files.items) ≡ writes_of request
-  pub keeps : IfSome new.held (λ files. Keeps request (file_at files))
-  pub counted : MakesCalls old new (read_calls (reads_of request))
+  pub named : written_names (writing_of made.files.items) ≡ rule.writes
+  pub keeps : IfSome new.held (λ files. Keeps rule (file_at files))
+  pub counted : MakesCalls old new (read_calls rule.reads)
 
 -- files were only read, and this was built of them; or the command stopped before it wrote
-pub record Builds (request : Request) (old new : FilesShown)
+pub record Builds (rule : CommandRule) (old new : FilesShown)
     (built : Result Outputs Stop) : Type 0 where
   pub only : OnlyReads old new
-  pub made : IfOk built (IsMade request old new)
-  pub stopped : IfErr built (StopsCommand request old new)
+  pub made : IfOk built (IsMade rule old new)
+  pub stopped : IfErr built (StopsCommand rule old new)
 
 -- what a command built was written and put; or it had stopped, and the line of that was put
 abbrev pub EndsBuilt : Result Outputs Stop → Status → Moment → Moment → Type 0

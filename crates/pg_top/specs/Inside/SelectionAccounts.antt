@@ -1,5 +1,5 @@
 -- What is told of the run of a selection.
-use Rattle.std.specs.Prelude.{ℕ, List, ◌++◌, codes, decimal, fold}
+use Rattle.std.specs.Prelude.{ℕ, List, ◌++◌, codes, decimal}
 use Rattle.pg_types.specs.declared.marks.Layout.{Layout}
 use Rattle.pg_types.specs.Placement.{Families}
 use Rattle.pg_packed.specs.Inside.Starts.{pattern_families}
@@ -9,6 +9,7 @@ use Rattle.pg_driver.specs.Inside.AccountLines.{Account, account}
 use Rattle.pg_driver.specs.Inside.CellsAccounts.{CellsAccount, cells_account}
 use Rattle.pg_texts.specs.Inside.CellsLines.{layout_line_text}
 use Rattle.pg_top.specs.Selection.{selection}
+use Rattle.pg_top.specs.Inside.Runs.{last_part}
 use Rattle.pg_top.specs.Inside.SelectionSigns.{signs_of}
 use Rattle.pg_top.specs.declared.selection.Inputs.{Inputs}
 
@@ -28,9 +29,9 @@ selected_cells_from i fs = cells_account (signs_of i) fs i.start (selection i)
 unfoldable pub selected_cells : Inputs → CellsAccount
 selected_cells i = selected_cells_from i (pattern_families (signs_of i) i.start)
 
--- the layout after the last level of a run; where it has no level, the layout at its start
+-- the last layout that is told of the cells of a run
 abbrev pub last_layout : CellsAccount → Layout
-last_layout a = fold (λ _ l. l.1) a.start a.levels
+last_layout a = last_part (λ l. l.1) a.start a.levels
 
 -- the line of how many passes were begun, and of a layout
 abbrev pub work_line : ℕ → Layout → List ℕ

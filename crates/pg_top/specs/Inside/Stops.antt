@@ -6,7 +6,6 @@ use Rattle.pg_types.specs.declared.refusals.ReadingError.TheVariants as reader
 use Rattle.pg_outside.specs.Content.{FilesShown, SinkShown, KeepsHeld, file_at}
 use Rattle.pg_outside.specs.Faults.{Rose}
 use Rattle.pg_outside.specs.Inside.NameFaults.{NoneFell}
-use Rattle.pg_top.specs.Calls.{outcome_of, reads_of}
 use Rattle.pg_top.specs.Counted.{MakesCalls, MakesPuts, PutsFault, ReadsUpTo, EndsAt}
 use Rattle.pg_top.specs.Inside.ReadCalls.{write_calls}
 use Rattle.pg_top.specs.Moments.{Moment, PutOrRose}
@@ -16,7 +15,7 @@ use Rattle.pg_top.specs.Inside.Refusing.{refuses}
 use Rattle.pg_top.specs.PrintedLines.{refused_line}
 use Rattle.pg_top.specs.Inside.FaultLines.{reading_line, writing_line}
 use Rattle.pg_top.specs.Readings.{Reading, first_end}
-use Rattle.pg_words.specs.Requests.{Request}
+use Rattle.pg_top.specs.Rules.{CommandRule, outcome_of}
 use Rattle.pg_top.specs.Inside.WritesMade.{written_names, WroteAll, StoppedAt}
 use Rattle.pg_top.specs.declared.answers.Status.{Status}
 use Rattle.pg_top.specs.declared.answers.Status.TheVariants as status
@@ -63,16 +62,16 @@ pub record StopsReading (reads : List Reading) (old new : FilesShown) (stop : St
   pub why : StopsWith reads place old new stop
 
 -- why a command stopped, with the files up to a place read
-abbrev pub StopsCommandWith : Request → ℕ → FilesShown → FilesShown → Stop → Type 0
-StopsCommandWith request at old new = StopsBy (λ refused. IfSome new.held (λ files.
-    (outcome_of (file_at files) request ≡ refused) × EndsAt request at (file_at files)))
-    (ReadRoseAt (reads_of request) at old new)
+abbrev pub StopsCommandWith : CommandRule → ℕ → FilesShown → FilesShown → Stop → Type 0
+StopsCommandWith rule at old new = StopsBy (λ refused. IfSome new.held (λ files.
+    (outcome_of (file_at files) rule ≡ refused) × EndsAt rule at (file_at files)))
+    (ReadRoseAt rule.reads at old new)
 
 -- a command stopped before it wrote: the files up to a place were read once, and this is why
-pub record StopsCommand (request : Request) (old new : FilesShown) (stop : Stop) : Type 0 where
+pub record StopsCommand (rule : CommandRule) (old new : FilesShown) (stop : Stop) : Type 0 where
   pub place : ℕ
-  pub read : ReadsUpTo (reads_of request) place old new
-  pub why : StopsCommandWith request place old new stop
+  pub read : ReadsUpTo rule.reads place old new
+  pub why : StopsCommandWith rule place old new stop
 
 -- why a command stopped while it built its texts, and read no more
 abbrev pub StopsMaking : Outcome → Stop → Type 0

@@ -6,9 +6,11 @@ use Rattle.pg_audit.specs.FoundLines.{found_text}
 use Rattle.pg_top.specs.Outcomes.{Outcome, Ends}
 use Rattle.pg_top.specs.PrintedLines.{word_of}
 use Rattle.pg_top.specs.Readings.{HeldFiles, Reading}
+use Rattle.pg_top.specs.Rules.{CommandRule, usual_rule}
+use Rattle.pg_top.specs.generate.Generated.{inputs_in, generate_rule}
 use Rattle.pg_words.specs.Requests.{FileNames, if_asked}
 use Rattle.pg_top.specs.Selection.{selected_text, selected_list, selected_report}
-use Rattle.pg_top.specs.declared.answers.Status.TheVariants.{No}
+use Rattle.pg_top.specs.declared.answers.Status.TheVariants.{Yes, No, Refused, Memory}
 use Rattle.pg_top.specs.declared.inputs.Given.{Given}
 use Rattle.pg_top.specs.declared.inputs.Given.TheVariants as given
 use Rattle.pg_top.specs.declared.inputs.Input.TheVariants as input
@@ -35,3 +37,11 @@ given_file inputs g = let ends : HeldFiles → List ℕ → Option Outcome = λ 
 abbrev pub given_files : (HeldFiles → Inputs) → FileNames → List Reading
 given_files inputs n = map (given_file inputs) ((given.Patterns, n.output)
     ∷ if_asked n.pattmp (λ name. (given.Pattmp, name)) ++ (given.Report, n.report) ∷ [])
+
+-- the rule of `audit`, which reads what `generate` reads, and then the given files
+abbrev pub audit_rule : FileNames → CommandRule
+audit_rule n = record usual_rule {
+  reads = (generate_rule n).reads ++ given_files (λ files. inputs_in files n) n;
+  answers = Yes ∷ No ∷ Refused ∷ Memory ∷ [];
+  comes = λ files. Ends Yes [] (codes "yes\n");
+}

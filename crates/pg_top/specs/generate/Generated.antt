@@ -5,10 +5,11 @@ use Rattle.pg_translate.specs.Alphabets.{letters_of}
 use Rattle.pg_driver.specs.Accounts.{begun_count}
 use Rattle.pg_driver.specs.Layouts.{families_at_end}
 use Rattle.pg_texts.specs.CellsTexts.{layout_text}
-use Rattle.pg_top.specs.Outcomes.{Outcome, Ends, Writing}
+use Rattle.pg_top.specs.Outcomes.{Ends, Writing}
+use Rattle.pg_top.specs.Rules.{CommandRule, usual_rule}
 use Rattle.pg_top.specs.PrintedLines.{done_line}
-use Rattle.pg_top.specs.Readings.{HeldFiles, Reading, input_file, table_named, parameters_named, patterns_under, words_under, translate_file, patterns_file, words_file}
-use Rattle.pg_words.specs.Requests.{FileNames, if_asked}
+use Rattle.pg_top.specs.Readings.{HeldFiles, input_file, table_named, parameters_named, patterns_under, words_under, translate_file, patterns_file, words_file}
+use Rattle.pg_words.specs.Requests.{FileNames, if_asked, output_names}
 use Rattle.pg_top.specs.Selection.{selection, selected_patterns, selected_totals, selected_text, selected_list, selected_cells_text, selected_report}
 use Rattle.pg_top.specs.declared.answers.Status.TheVariants.{Done}
 use Rattle.pg_top.specs.declared.inputs.Input.TheVariants as input
@@ -23,11 +24,6 @@ inputs_in files n = record {
   dictionary = words_under files n.translate n.dict;
 }
 
--- what `generate` reads, in its order
-abbrev pub inputs_of : FileNames → List Reading
-inputs_of n = translate_file n.translate ∷ input_file input.Parameters n.params (λ _. parameters)
-    ∷ patterns_file n.translate n.patterns ∷ words_file n.translate n.dict ∷ []
-
 -- the files that are written: patterns, hyphenated list and cells if asked for, and the report
 abbrev pub selected_files : FileNames → Inputs → Writing
 selected_files n i = (n.output, selected_text i)
@@ -41,6 +37,11 @@ selected_lines i = done_line (selected_text i) (selected_totals i)
     ++ codes "work: " ++ decimal (begun_count (selection i)) ++ codes " passes, "
     ++ layout_text (families_at_end (letters_of i.table + 1) i.start (selection i)) (selected_patterns i)
 
--- what is written and printed when all that is read is accepted
-abbrev pub outcome_of_generate : FileNames → Inputs → Outcome
-outcome_of_generate n i = Ends Done (selected_files n i) (selected_lines i)
+-- the rule of `generate`
+abbrev pub generate_rule : FileNames → CommandRule
+generate_rule n = record usual_rule {
+  reads = translate_file n.translate ∷ input_file input.Parameters n.params (λ _. parameters)
+      ∷ patterns_file n.translate n.patterns ∷ words_file n.translate n.dict ∷ [];
+  writes = output_names n;
+  comes = λ files. let i = inputs_in files n in Ends Done (selected_files n i) (selected_lines i);
+}

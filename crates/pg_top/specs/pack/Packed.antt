@@ -1,16 +1,24 @@
 -- What `pack` writes and prints.
-use Rattle.std.specs.Prelude.{ℕ, ◌+◌, nat_lt, if◌then◌else◌, List, [], ◌∷◌, ◌++◌, length, codes, decimal}
+use Rattle.std.specs.Prelude.{◌≡◌, ℕ, ◌+◌, nat_lt, if◌then◌else◌, List, [], ◌∷◌, ◌++◌, length, codes, decimal, Ok}
 use Rattle.pg_types.specs.Lines.{lines}
 use Rattle.pg_types.specs.Reading.{refusal_at}
 use Rattle.pg_types.specs.declared.refusals.Kind.TheVariants.{TableTooLong}
 use Rattle.pg_translate.specs.Alphabets.{Alphabet, letters_of}
-use Rattle.pg_translate.specs.Tables.{table}
+use Rattle.pg_dict.specs.Word.{Word}
 use Rattle.pg_patterns.specs.Texts.{pattern_text}
+use Rattle.pg_patterns.specs.Values.{value_at}
+use Rattle.pg_select.specs.CountedPositions.{Minima}
+use Rattle.pg_select.specs.Sums.{totals}
 use Rattle.pg_select.specs.Windows.{Patterns}
 use Rattle.pg_table.specs.declared.limits.TheConstants.{TABLE_MAX}
+use Rattle.pg_table.specs.Lookups.{table_value, table_totals}
 use Rattle.pg_table.specs.Texts.{table_text}
 use Rattle.pg_top.specs.Outcomes.{Outcome, Ends}
 use Rattle.pg_top.specs.PrintedLines.{refused_line}
+use Rattle.pg_top.specs.Readings.{HeldFiles, table_named, patterns_under, translate_file, patterns_file}
+use Rattle.pg_top.specs.Rules.{CommandRule, usual_rule}
+use Rattle.pg_top.specs.totals.Totalled.{packed_table}
+use Rattle.pg_words.specs.Requests.{PackRequest}
 use Rattle.pg_top.specs.declared.answers.Status.TheVariants.{Done, Refused}
 use Rattle.pg_top.specs.declared.inputs.Input.TheVariants as input
 
@@ -25,3 +33,26 @@ outcome_of_pack name t P = let text = table_text (letters_of t + 1) P in
     if nat_lt TABLE_MAX (length text)
     then Ends Refused [] (refused_line input.Table (refusal_at 0 TableTooLong 0))
     else Ends Done ((name, text) ∷ []) (packed_line (pattern_text t P) text)
+
+-- a packed table gives each position of each word the value of the patterns, and so their totals
+pub record GivesValues (bytes : List ℕ) (P : Patterns) : Type 0 where
+  pub values : (w : List ℕ) (p : ℕ) → table_value bytes w p ≡ value_at P w p
+  pub totals : (m : Minima) (ws : List Word) → table_totals m ws bytes ≡ totals m ws P
+
+-- `pack` writes bytes that `totals` accepts, and that give the values of the patterns
+pub record PackKeeps (n : PackRequest) (files : HeldFiles) (end : Outcome) : Type 0 where
+  pub bytes : List ℕ
+  pub lines : List ℕ
+  pub comes : end ≡ Ends Done ((n.table, bytes) ∷ []) lines
+  pub accepted : packed_table (table_named n.translate files) bytes ≡ Ok bytes
+  pub gives : GivesValues bytes (patterns_under files n.translate n.patterns)
+
+-- the rule of `pack`
+abbrev pub pack_rule : PackRequest → CommandRule
+pack_rule n = record usual_rule {
+  reads = translate_file n.translate ∷ patterns_file n.translate n.patterns ∷ [];
+  writes = n.table ∷ [];
+  comes = λ files. outcome_of_pack n.table (table_named n.translate files)
+      (patterns_under files n.translate n.patterns);
+  keeps = PackKeeps n;
+}

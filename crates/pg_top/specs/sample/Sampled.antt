@@ -8,6 +8,9 @@ use Rattle.pg_translate.specs.Tables.{default_alphabet}
 use Rattle.pg_dict.specs.Words.{words}
 use Rattle.pg_top.specs.PrintedLines.{done_line}
 use Rattle.pg_top.specs.Selection.{selected_text, selected_report, selected_totals}
+use Rattle.pg_top.specs.Outcomes.{Ends}
+use Rattle.pg_top.specs.Rules.{CommandRule, usual_rule}
+use Rattle.pg_top.specs.declared.answers.Status.TheVariants.{Done, Memory}
 use Rattle.pg_top.specs.declared.selection.Inputs.{Inputs}
 
 -- the state after a draw
@@ -76,3 +79,8 @@ abbrev pub sample_lines : ℕ → ℕ → List ℕ
 sample_lines seed count = let i = sample_inputs seed count in
     flat_map (λ line. line ++ 10 ∷ []) (filter is_printed (lines (selected_report i)))
     ++ done_line (selected_text i) (selected_totals i)
+
+-- the rule of `sample`, which reads no file
+abbrev pub sample_rule : ℕ → ℕ → CommandRule
+sample_rule seed count = let lines = sample_lines seed count in
+    record usual_rule { answers = Done ∷ Memory ∷ []; comes = λ _. Ends Done [] lines }

@@ -1,12 +1,13 @@
 -- What `sweep` reads, writes and prints.
-use Rattle.std.specs.Prelude.{ℕ, ◌+◌, ◌-◌, List, [], ◌∷◌, ◌++◌, map, slice_index, codes, decimal}
-use Rattle.pg_types.specs.Parameters.{Parameters, parameters}
+use Rattle.std.specs.Prelude.{◌≡◌, ℕ, ◌+◌, ◌-◌, List, [], ◌∷◌, ◌++◌, map, slice_index, codes, decimal}
+use Rattle.pg_types.specs.Parameters.{parameters}
 use Rattle.pg_sweep.specs.Files.{sweep_file}
 use Rattle.pg_sweep.specs.Sweeps.{Terms, row_of, costs_of}
-use Rattle.pg_sweep.specs.Winners.{winner_of}
+use Rattle.pg_sweep.specs.Winners.{winner_of, IsWinner}
 use Rattle.pg_sweep.specs.declared.rows.SweepRow.{SweepRow}
 use Rattle.pg_top.specs.Outcomes.{Outcome, Ends}
-use Rattle.pg_top.specs.Readings.{HeldFiles, Reading, input_file, table_named, parameters_named, words_under, patterns_under}
+use Rattle.pg_top.specs.Readings.{HeldFiles, Reading, input_file, table_named, parameters_named, words_under, patterns_under, translate_file, patterns_file, words_file}
+use Rattle.pg_top.specs.Rules.{CommandRule, usual_rule}
 use Rattle.pg_words.specs.Requests.{SweepRequest}
 use Rattle.pg_top.specs.declared.answers.Status.TheVariants.{Done}
 use Rattle.pg_top.specs.declared.inputs.Input.TheVariants as input
@@ -26,13 +27,10 @@ terms_in files s = record {
   folds = s.folds;
 }
 
--- the sets of parameters, by the files that are held
-abbrev pub sets_in : HeldFiles → SweepRequest → List Parameters
-sets_in files s = map (parameters_named files) s.params
-
--- the rows of the sets
-unfoldable pub swept_rows : SweepRequest → Terms → List Parameters → List SweepRow
-swept_rows s terms sets = map (row_of terms s.bad s.missed) sets
+-- the rows of the sets of parameters, by the files that are held
+unfoldable pub swept_rows : HeldFiles → SweepRequest → List SweepRow
+swept_rows files s =
+    map (row_of (terms_in files s) s.bad s.missed) (map (parameters_named files) s.params)
 
 -- where `sweep` is done: the number of the cheapest set of parameters, and what it costs
 abbrev pub winner_line : ℕ → ℕ → List ℕ
@@ -44,3 +42,21 @@ abbrev pub outcome_of_sweep : SweepRequest → List SweepRow → Outcome
 outcome_of_sweep s rows = let winner = winner_of (costs_of rows) in
     Ends Done ((s.output, sweep_file s.folds rows winner) ∷ [])
     (winner_line winner (slice_index (costs_of rows) (winner - 1)))
+
+-- `sweep` names the set that costs least, the first of these
+pub record SweepNames (s : SweepRequest) (files : HeldFiles) (end : Outcome) : Type 0 where
+  pub winner : ℕ
+  pub text : List ℕ
+  pub comes : end ≡ Ends Done ((s.output, text) ∷ [])
+      (winner_line winner (slice_index (costs_of (swept_rows files s)) (winner - 1)))
+  pub wins : IsWinner (costs_of (swept_rows files s)) winner
+
+-- the rule of `sweep`
+abbrev pub sweep_rule : SweepRequest → CommandRule
+sweep_rule s = record usual_rule {
+  reads = translate_file s.translate ∷ set_files 1 s.params
+      ++ patterns_file s.translate s.patterns ∷ words_file s.translate s.dict ∷ [];
+  writes = s.output ∷ [];
+  comes = λ files. outcome_of_sweep s (swept_rows files s);
+  keeps = SweepNames s;
+}

@@ -1,10 +1,19 @@
--- What `totals` reads of a packed table.
-use Rattle.std.specs.Prelude.{ℕ, ◌+◌, not, nat_eq, nat_lt, if◌then◌else◌, List, length, Result, Ok, Err}
+-- What `totals` reads of a packed table, and what it prints.
+use Rattle.std.specs.Prelude.{ℕ, ◌+◌, not, nat_eq, nat_lt, if◌then◌else◌, List, [], ◌∷◌, length, Result, Ok, Err}
 use Rattle.pg_types.specs.Reading.{refusal_at}
 use Rattle.pg_types.specs.declared.refusals.Kind.TheVariants.{TableTooLong, BadTable, OtherTable}
 use Rattle.pg_types.specs.declared.refusals.Refusal.{Refusal}
 use Rattle.pg_translate.specs.Alphabets.{Alphabet, letters_of}
 use Rattle.pg_table.specs.declared.limits.TheConstants.{TABLE_MAX}
+use Rattle.pg_select.specs.CountedPositions.{minima_of}
+use Rattle.pg_table.specs.Lookups.{table_totals}
+use Rattle.pg_texts.specs.ReportTexts.{ending_text}
+use Rattle.pg_top.specs.Outcomes.{Ends}
+use Rattle.pg_top.specs.Readings.{translate_file, words_file, input_file, table_named, words_under, meaning}
+use Rattle.pg_top.specs.Rules.{CommandRule, usual_rule}
+use Rattle.pg_words.specs.Requests.{TotalsRequest}
+use Rattle.pg_top.specs.declared.answers.Status.TheVariants.{Done}
+use Rattle.pg_top.specs.declared.inputs.Input.TheVariants as input
 use Rattle.pg_table.specs.Forms.{head_of, is_well_formed}
 
 -- the bytes of a packed table for the letters of a table, or why they are refused
@@ -13,3 +22,13 @@ packed_table t b = if nat_lt TABLE_MAX (length b) then Err (refusal_at 0 TableTo
     else (if not (is_well_formed b) then Err (refusal_at 0 BadTable 0)
     else (if nat_eq (head_of b).signs (letters_of t + 1) then Ok b
     else Err (refusal_at 0 OtherTable 0)))
+
+-- the rule of `totals`
+abbrev pub totals_rule : TotalsRequest → CommandRule
+totals_rule n = record usual_rule {
+  reads = translate_file n.translate ∷ words_file n.translate n.dict
+      ∷ input_file input.Table n.table (λ files. packed_table (table_named n.translate files)) ∷ [];
+  comes = λ files. let t = table_named n.translate files in Ends Done [] (ending_text
+      (table_totals (minima_of t) (words_under files n.translate n.dict)
+      (meaning (packed_table t) [] files n.table)));
+}

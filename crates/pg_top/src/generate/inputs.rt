@@ -1,8 +1,7 @@
 //! What `generate` reads.
 ghost use Rattle.std.specs.Prelude.{IfOk};
 ghost use Rattle.pg_words.specs.Inside.Asked.{texts_of};
-ghost use Rattle.pg_top.specs.generate.Generated.{inputs_of};
-ghost use Rattle.pg_top.specs.generate.Inside.Accepted.{HasInputs};
+ghost use Rattle.pg_top.specs.generate.Inside.Accepted.{HasInputs, inputs_of};
 ghost use Rattle.pg_top.specs.Inside.SelectionSigns.{HasSigns};
 ghost use Rattle.pg_top.specs.Inside.ReadsMade.{ReadsFiles};
 

@@ -6,7 +6,7 @@ ghost use Rattle.pg_prune.specs.Reports.{prune_report};
 ghost use Rattle.pg_translate.specs.Alphabets.{letters_of};
 ghost use Rattle.pg_prune.specs.Prunes.{pruned as pruned_found};
 ghost use Rattle.pg_select.specs.CountedPositions.{minima_of};
-ghost use Rattle.pg_top.specs.Promises.{ReadsBack};
+ghost use Rattle.pg_top.specs.prune.Pruned.{ReadsBack};
 ghost use Rattle.pg_top.specs.Outcomes.{Ends};
 ghost use Rattle.pg_top.specs.prune.Inside.Inputs.{HasKnownSigns, pruned_files, line_of_pruned, pruned_by};
 ghost use Rattle.pg_top.specs.prune.Pruned.{pruned_line as pruned_line_of};

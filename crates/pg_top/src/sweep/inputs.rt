@@ -1,9 +1,8 @@
 //! What `sweep` reads.
 ghost use Rattle.std.specs.Prelude.{◌≤◌, length, IfOk};
 ghost use Rattle.pg_words.specs.Inside.Asked.{sweep_of, KeepsSweepLimits};
-ghost use Rattle.pg_words.specs.Requests.{ToSweep};
 ghost use Rattle.pg_types.specs.declared.limits.TheConstants.{SETS_MAX};
-ghost use Rattle.pg_top.specs.Calls.{reads_of};
+ghost use Rattle.pg_top.specs.sweep.Swept.{sweep_rule};
 ghost use Rattle.pg_top.specs.Inside.ReadsMade.{ReadsFiles};
 ghost use Rattle.pg_top.specs.sweep.Inside.Inputs.{terms_of, HasSigns};
 ghost use Rattle.pg_top.specs.sweep.Inside.Accepted.{HasSweep};
@@ -40,7 +39,7 @@ pub fn read_sweep<'a, F: Files, W: Watch>(
     watch: &W,
 ) -> Result<SweepInputs, Stop<'a>>
     requires { KeepsSweepLimits words.now }
-    ensures read { ReadsFiles (reads_of (ToSweep (sweep_of words.now)))
+    ensures read { ReadsFiles (sweep_rule (sweep_of words.now)).reads
         (F.shown files.old) (F.shown files.new) result
         (λ files inputs. HasSweep files (sweep_of words.now)
         (terms_of words.now.folds inputs) inputs.sets.items) }

@@ -80,10 +80,6 @@ pub record KeepsSweepLimits (w : SweepWords) : Type 0 where
 
 -- the numbers of `sample` and `sweep` are within their limits
 abbrev pub KeepsLimits : Command → Type 0
-KeepsLimits (Generate names) = Unit {0}
-KeepsLimits (Audit names) = Unit {0}
 KeepsLimits (Sample seed count) = (seed ≤ SEED_MAX) × (count ≤ COUNT_MAX)
-KeepsLimits (Pack patterns translate table) = Unit {0}
-KeepsLimits (Totals dict translate table) = Unit {0}
-KeepsLimits (Prune dict patterns output translate report) = Unit {0}
 KeepsLimits (Sweep words) = KeepsSweepLimits words
+KeepsLimits command = Unit {0}

@@ -1,13 +1,12 @@
 use Rattle.std.proofs.Common.{◌≡◌}
 use Rattle.std.proofs.lemmas.Result.{IfOk-from_err, IfOk-weaker}
 use Rattle.pg_outside.specs.Content.{FilesShown, file_at}
-use Rattle.pg_top.specs.audit.Audited.{given_files}
-use Rattle.pg_top.specs.Calls.{outcome_of, reads_of}
+use Rattle.pg_top.specs.audit.Audited.{audit_rule, given_files}
 use Rattle.pg_words.specs.Inside.Asked.{texts_of}
 use Rattle.pg_top.specs.Readings.{first_end}
-use Rattle.pg_words.specs.Requests.{FileNames, ToAudit}
-use Rattle.pg_top.specs.generate.Generated.{inputs_of, inputs_in}
-use Rattle.pg_top.specs.generate.Inside.Accepted.{HasInputs}
+use Rattle.pg_words.specs.Requests.{FileNames}
+use Rattle.pg_top.specs.generate.Generated.{inputs_in}
+use Rattle.pg_top.specs.generate.Inside.Accepted.{inputs_of, HasInputs}
 use Rattle.pg_top.specs.audit.Inside.Verdicts.{wanted_files, end_of, outcome_by}
 use Rattle.pg_top.specs.declared.inputs.Stop.TheVariants.{Memory}
 use Rattle.pg_top.proofs.generate.InputOrder.{inputs_wanted}
@@ -16,6 +15,7 @@ use Rattle.pg_top.proofs.Orders.{mapped, both, held_later, only_on, stopped_in_f
 use Rattle.pg_top.specs.Inside.Stops.{StopsReading}
 use Rattle.pg_top.proofs.Results.{err_by, that_error}
 use Rattle.pg_top.proofs.audit.audit_files.Goals as goal
+use Rattle.pg_top.specs.Rules.{outcome_of}
 
 pub returns-in_err-inputs : goal.returns-in_err-inputs
 returns-in_err-inputs g c =
@@ -28,7 +28,7 @@ returns-in_err-inputs g c =
       only = c.read_inputs.ensures.read.only;
       ok = IfOk-from_err r _ c.from_residual.ensures.0;
       counted = IfOk-from_err r _ c.from_residual.ensures.0;
-      stopped = that_error r (StopsReading (reads_of (ToAudit n)) s0 s1) c.in_err-inputs.field-0.0 is
+      stopped = that_error r (StopsReading (audit_rule n).reads s0 s1) c.in_err-inputs.field-0.0 is
           (stopped_in_front (inputs_of n) (given_files (λ files. inputs_in files n) n) s0 s1 c.in_err-inputs.field-0.0 c.in_err-inputs.ensures.read.stopped);
     }
 
@@ -43,7 +43,7 @@ returns-in_err-wanted g c =
       only = c.read_inputs.ensures.read.only;
       ok = IfOk-from_err r _ c.from_residual-in_err-wanted.ensures.0;
       counted = IfOk-from_err r _ c.from_residual-in_err-wanted.ensures.0;
-      stopped = that_error r (StopsReading (reads_of (ToAudit n)) s0 s1) Memory is
+      stopped = that_error r (StopsReading (audit_rule n).reads s0 s1) Memory is
           (stopped_in_front (inputs_of n) (given_files (λ files. inputs_in files n) n) s0 s1 Memory
           (inputs_wanted n c.in_ok-inputs.inputs s0 s1 c.in_ok-inputs.ensures.read.counted c.in_ok-inputs.ensures.read.ok));
     }
@@ -67,7 +67,7 @@ returns g c =
       only = only_on s0 s1 s2 read.only c.compare_all.ensures.only;
       ok = IfOk-weaker c.compare_all.result _ _
           (λ verdict found. mapped s2.held (λ files. HasInputs (file_at files) n i × (first_end (file_at files) (wanted_files ws) ≡ end_of verdict))
-          (λ files. outcome_of (file_at files) (ToAudit n) ≡ outcome_by verdict)
+          (λ files. outcome_of (file_at files) (audit_rule n) ≡ outcome_by verdict)
           (λ files h. outcome_audited n i ws verdict files c.in_ok-wanted.ensures h.0 h.1)
           (both s2.held (λ files. HasInputs (file_at files) n i) (λ files. first_end (file_at files) (wanted_files ws) ≡ end_of verdict)
           (held_later s1.held s2.held (λ files. HasInputs (file_at files) n i) keeps has) found)) ok;

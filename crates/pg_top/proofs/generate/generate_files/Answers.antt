@@ -1,9 +1,7 @@
 use Rattle.std.proofs.Common.{◌≡◌, ◌∙◌, sym, ap}
 use Rattle.pg_outside.specs.Content.{file_at}
-use Rattle.pg_top.specs.Calls.{outcome_of}
 use Rattle.pg_words.specs.Inside.Asked.{texts_of}
 use Rattle.pg_top.specs.Outcomes.{Ends}
-use Rattle.pg_words.specs.Requests.{ToGenerate}
 use Rattle.pg_top.specs.Inside.Built.{Keeps}
 use Rattle.pg_top.specs.generate.Inside.Accepted.{HasInputs}
 use Rattle.pg_top.specs.Inside.WritesMade.{written_names, writing_of}
@@ -15,6 +13,8 @@ use Rattle.pg_top.proofs.ReadsStopped.{building_stopped}
 use Rattle.pg_top.proofs.Orders.{mapped}
 use Rattle.pg_top.proofs.generate.WrittenNames.{names_of_files}
 use Rattle.pg_top.proofs.generate.generate_files.Goals as goal
+use Rattle.pg_top.specs.Rules.{outcome_of}
+use Rattle.pg_top.specs.generate.Generated.{generate_rule}
 
 pub returns : goal.returns
 returns g c =
@@ -25,10 +25,10 @@ returns g c =
       only = c.read_inputs.ensures.read.only;
       made = record {
         comes = mapped s1.held (λ files. HasInputs (file_at files) n i)
-            (λ files. outcome_of (file_at files) (ToGenerate n) ≡ Ends Done (writing_of c.in_ok-outputs.field-0.files.items) c.in_ok-outputs.field-0.lines.items)
+            (λ files. outcome_of (file_at files) (generate_rule n) ≡ Ends Done (writing_of c.in_ok-outputs.field-0.files.items) c.in_ok-outputs.field-0.lines.items)
             (λ files h. outcome_generated n i files h ∙ (λ k. Ends Done (sym c.in_ok-outputs.ensures.files k) (sym c.in_ok-outputs.ensures.lines k))) c.in_ok-inputs.ensures.read.ok;
         named = ap written_names c.in_ok-outputs.ensures.files ∙ names_of_files n i;
-        keeps = mapped s1.held (λ files. HasInputs (file_at files) n i) (λ files. Keeps (ToGenerate n) (file_at files)) (λ files h. tt) c.in_ok-inputs.ensures.read.ok;
+        keeps = mapped s1.held (λ files. HasInputs (file_at files) n i) (λ files. Keeps (generate_rule n) (file_at files)) (λ files h. tt) c.in_ok-inputs.ensures.read.ok;
         counted = c.in_ok-inputs.ensures.read.counted;
       };
       stopped = tt;
@@ -39,13 +39,13 @@ returns-in_err-inputs g c =
     let n = texts_of c.args.names.now in
     let s0 = g.F.Files.shown c.args.files.now in
     let s1 = g.F.Files.shown c.read_inputs.new.files in
-    building_stopped (ToGenerate n) s0 s1 c.from_residual.result c.in_err-inputs.field-0.0 c.from_residual.ensures.1 c.read_inputs.ensures.read.only
-    (stops_reading (ToGenerate n) s0 s1 c.in_err-inputs.field-0.0 c.in_err-inputs.ensures.read.stopped)
+    building_stopped (generate_rule n) s0 s1 c.from_residual.result c.in_err-inputs.field-0.0 c.from_residual.ensures.1 c.read_inputs.ensures.read.only
+    (stops_reading (generate_rule n) s0 s1 c.in_err-inputs.field-0.0 c.in_err-inputs.ensures.read.stopped)
 
 pub returns-in_err-outputs : goal.returns-in_err-outputs
 returns-in_err-outputs g c =
     let n = texts_of c.args.names.now in
     let s0 = g.F.Files.shown c.args.files.now in
     let s1 = g.F.Files.shown c.read_inputs.new.files in
-    building_stopped (ToGenerate n) s0 s1 c.from_residual-in_err-outputs.result Memory c.from_residual-in_err-outputs.ensures.1 c.read_inputs.ensures.read.only
-    (stops_reading (ToGenerate n) s0 s1 Memory (inputs_wanted n c.in_ok-inputs.inputs s0 s1 c.in_ok-inputs.ensures.read.counted c.in_ok-inputs.ensures.read.ok))
+    building_stopped (generate_rule n) s0 s1 c.from_residual-in_err-outputs.result Memory c.from_residual-in_err-outputs.ensures.1 c.read_inputs.ensures.read.only
+    (stops_reading (generate_rule n) s0 s1 Memory (inputs_wanted n c.in_ok-inputs.inputs s0 s1 c.in_ok-inputs.ensures.read.counted c.in_ok-inputs.ensures.read.ok))

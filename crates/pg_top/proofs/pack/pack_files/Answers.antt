@@ -1,10 +1,9 @@
 use Rattle.std.proofs.Common.{◌≡◌, ◌∙◌}
 use Rattle.pg_outside.specs.Content.{file_at}
-use Rattle.pg_top.specs.Calls.{outcome_of}
 use Rattle.pg_top.specs.Outcomes.{Ends}
 use Rattle.pg_top.specs.Inside.Built.{Keeps}
 use Rattle.pg_top.specs.pack.Inside.Inputs.{HasSource}
-use Rattle.pg_words.specs.Requests.{PackRequest, ToPack}
+use Rattle.pg_words.specs.Requests.{PackRequest}
 use Rattle.pg_top.specs.Inside.WritesMade.{writing_of}
 use Rattle.pg_top.specs.declared.answers.Status.TheVariants.{Done}
 use Rattle.pg_top.proofs.Calls.{stops_reading}
@@ -12,6 +11,8 @@ use Rattle.pg_top.proofs.ReadsStopped.{building_stopped}
 use Rattle.pg_top.proofs.Orders.{mapped}
 use Rattle.pg_top.proofs.pack.PackOrder.{pack_outcome, pack_keeps, stopped_making}
 use Rattle.pg_top.proofs.pack.pack_files.Goals as goal
+use Rattle.pg_top.specs.Rules.{outcome_of}
+use Rattle.pg_top.specs.pack.Packed.{pack_rule}
 
 pub returns : goal.returns
 returns g c =
@@ -23,10 +24,10 @@ returns g c =
       only = c.read_source.ensures.read.only;
       made = record {
         comes = mapped s1.held (λ files. HasSource (file_at files) p.translate p.patterns s)
-            (λ files. outcome_of (file_at files) (ToPack p) ≡ Ends Done (writing_of made.files.items) made.lines.items)
+            (λ files. outcome_of (file_at files) (pack_rule p) ≡ Ends Done (writing_of made.files.items) made.lines.items)
             (λ files h. pack_outcome p s files h ∙ c.in_ok-outputs.ensures.made) c.in_ok-source.ensures.read.ok;
         named = c.in_ok-outputs.ensures.named;
-        keeps = mapped s1.held (λ files. HasSource (file_at files) p.translate p.patterns s) (λ files. Keeps (ToPack p) (file_at files))
+        keeps = mapped s1.held (λ files. HasSource (file_at files) p.translate p.patterns s) (λ files. Keeps (pack_rule p) (file_at files))
             (λ files h. pack_keeps p s (writing_of made.files.items) made.lines.items files c.in_ok-outputs.ensures.made c.in_ok-outputs.ensures.table
             c.in_ok-outputs.ensures.accepted c.in_ok-outputs.ensures.gives h) c.in_ok-source.ensures.read.ok;
         counted = c.in_ok-source.ensures.read.counted;
@@ -39,13 +40,13 @@ returns-in_err-source g c =
     let s0 = g.F.Files.shown c.args.files.now in
     let s1 = g.F.Files.shown c.read_source.new.files in
     let p : PackRequest = record { patterns = c.args.patterns.now; translate = c.args.translate.now; table = c.args.table.now } in
-    building_stopped (ToPack p) s0 s1 c.from_residual.result c.in_err-source.field-0.0 c.from_residual.ensures.1 c.read_source.ensures.read.only
-    (stops_reading (ToPack p) s0 s1 c.in_err-source.field-0.0 c.in_err-source.ensures.read.stopped)
+    building_stopped (pack_rule p) s0 s1 c.from_residual.result c.in_err-source.field-0.0 c.from_residual.ensures.1 c.read_source.ensures.read.only
+    (stops_reading (pack_rule p) s0 s1 c.in_err-source.field-0.0 c.in_err-source.ensures.read.stopped)
 
 pub returns-in_err-outputs : goal.returns-in_err-outputs
 returns-in_err-outputs g c =
     let s0 = g.F.Files.shown c.args.files.now in
     let s1 = g.F.Files.shown c.read_source.new.files in
     let p : PackRequest = record { patterns = c.args.patterns.now; translate = c.args.translate.now; table = c.args.table.now } in
-    building_stopped (ToPack p) s0 s1 c.from_residual-in_err-outputs.result c.in_err-outputs.field-0.0 c.from_residual-in_err-outputs.ensures.1 c.read_source.ensures.read.only
+    building_stopped (pack_rule p) s0 s1 c.from_residual-in_err-outputs.result c.in_err-outputs.field-0.0 c.from_residual-in_err-outputs.ensures.1 c.read_source.ensures.read.only
     (stopped_making p c.in_ok-source.source s0 s1 c.in_err-outputs.field-0.0 c.in_ok-source.ensures.read.counted c.in_ok-source.ensures.read.ok c.in_err-outputs.ensures.stopped)

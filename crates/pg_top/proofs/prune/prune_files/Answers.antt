@@ -1,10 +1,9 @@
 use Rattle.std.proofs.Common.{◌≡◌, ◌∙◌, arith}
 use Rattle.pg_outside.specs.Content.{file_at}
-use Rattle.pg_top.specs.Calls.{outcome_of, reads_of}
 use Rattle.pg_top.specs.Outcomes.{Ends}
 use Rattle.pg_top.specs.Inside.Built.{Keeps}
 use Rattle.pg_top.specs.prune.Inside.Inputs.{HasPrune}
-use Rattle.pg_words.specs.Requests.{PruneRequest, ToPrune}
+use Rattle.pg_words.specs.Requests.{PruneRequest}
 use Rattle.pg_top.specs.Inside.WritesMade.{writing_of}
 use Rattle.pg_top.specs.declared.answers.Status.TheVariants.{Done}
 use Rattle.pg_top.specs.declared.inputs.Stop.TheVariants.{Memory}
@@ -13,6 +12,8 @@ use Rattle.pg_top.proofs.ReadsStopped.{building_stopped}
 use Rattle.pg_top.proofs.Orders.{AreAccepted, mapped, wanted_after}
 use Rattle.pg_top.proofs.prune.PruneOrder.{prune_accepted, prune_outcome, prune_keeps}
 use Rattle.pg_top.proofs.prune.prune_files.Goals as goal
+use Rattle.pg_top.specs.Rules.{outcome_of}
+use Rattle.pg_top.specs.prune.Pruned.{prune_rule}
 
 pub returns : goal.returns
 returns g c =
@@ -24,10 +25,10 @@ returns g c =
       only = c.read_prune.ensures.read.only;
       made = record {
         comes = mapped s1.held (λ files. HasPrune (file_at files) p.translate p.patterns p.dict i)
-            (λ files. outcome_of (file_at files) (ToPrune p) ≡ Ends Done (writing_of made.files.items) made.lines.items)
+            (λ files. outcome_of (file_at files) (prune_rule p) ≡ Ends Done (writing_of made.files.items) made.lines.items)
             (λ files h. prune_outcome p i files h ∙ c.in_ok-outputs.ensures.made) c.in_ok-inputs.ensures.read.ok;
         named = c.in_ok-outputs.ensures.named;
-        keeps = mapped s1.held (λ files. HasPrune (file_at files) p.translate p.patterns p.dict i) (λ files. Keeps (ToPrune p) (file_at files))
+        keeps = mapped s1.held (λ files. HasPrune (file_at files) p.translate p.patterns p.dict i) (λ files. Keeps (prune_rule p) (file_at files))
             (λ files h. prune_keeps p i files c.in_ok-outputs.ensures.reads_back h) c.in_ok-inputs.ensures.read.ok;
         counted = c.in_ok-inputs.ensures.read.counted;
       };
@@ -39,8 +40,8 @@ returns-in_err-inputs g c =
     let s0 = g.F.Files.shown c.args.files.now in
     let s1 = g.F.Files.shown c.read_prune.new.files in
     let p : PruneRequest = record { dict = c.args.dict.now; patterns = c.args.patterns.now; output = c.args.output.now; translate = c.args.translate.now; report = c.args.report.now } in
-    building_stopped (ToPrune p) s0 s1 c.from_residual.result c.in_err-inputs.field-0.0 c.from_residual.ensures.1 c.read_prune.ensures.read.only
-    (stops_reading (ToPrune p) s0 s1 c.in_err-inputs.field-0.0 c.in_err-inputs.ensures.read.stopped)
+    building_stopped (prune_rule p) s0 s1 c.from_residual.result c.in_err-inputs.field-0.0 c.from_residual.ensures.1 c.read_prune.ensures.read.only
+    (stops_reading (prune_rule p) s0 s1 c.in_err-inputs.field-0.0 c.in_err-inputs.ensures.read.stopped)
 
 pub returns-in_err-outputs : goal.returns-in_err-outputs
 returns-in_err-outputs g c =
@@ -48,7 +49,7 @@ returns-in_err-outputs g c =
     let i = c.in_ok-inputs.inputs in
     let s0 = g.F.Files.shown c.args.files.now in
     let s1 = g.F.Files.shown c.read_prune.new.files in
-    let accepted = mapped s1.held (λ files. HasPrune (file_at files) p.translate p.patterns p.dict i) (λ files. AreAccepted (file_at files) (reads_of (ToPrune p)))
+    let accepted = mapped s1.held (λ files. HasPrune (file_at files) p.translate p.patterns p.dict i) (λ files. AreAccepted (file_at files) (prune_rule p).reads)
     (prune_accepted p i) c.in_ok-inputs.ensures.read.ok in
-    building_stopped (ToPrune p) s0 s1 c.from_residual-in_err-outputs.result Memory c.from_residual-in_err-outputs.ensures.1 c.read_prune.ensures.read.only
-    (stops_reading (ToPrune p) s0 s1 Memory (wanted_after (reads_of (ToPrune p)) s0 s1 (omega arith) c.in_ok-inputs.ensures.read.counted accepted))
+    building_stopped (prune_rule p) s0 s1 c.from_residual-in_err-outputs.result Memory c.from_residual-in_err-outputs.ensures.1 c.read_prune.ensures.read.only
+    (stops_reading (prune_rule p) s0 s1 Memory (wanted_after (prune_rule p).reads s0 s1 (omega arith) c.in_ok-inputs.ensures.read.counted accepted))

@@ -2,11 +2,9 @@ use Rattle.std.proofs.Common.{◌≡◌, ◌∙◌, ◌≤◌, length, sym, subs
 use Rattle.std.specs.Prelude.{string_bytes}
 use Rattle.std.proofs.lemmas.List.{length-map}
 use Rattle.pg_outside.specs.Content.{file_at}
-use Rattle.pg_top.specs.Calls.{outcome_of, reads_of}
 use Rattle.pg_words.specs.Inside.Asked.{sweep_of}
 use Rattle.pg_top.specs.Outcomes.{Ends}
 use Rattle.pg_top.specs.Inside.Built.{Keeps}
-use Rattle.pg_words.specs.Requests.{ToSweep}
 use Rattle.pg_top.specs.sweep.Inside.Inputs.{terms_of}
 use Rattle.pg_top.specs.sweep.Inside.Accepted.{HasSweep}
 use Rattle.pg_top.specs.Inside.WritesMade.{writing_of}
@@ -18,6 +16,8 @@ use Rattle.pg_top.proofs.Orders.{AreAccepted, accepted_all, mapped, wanted_after
 use Rattle.pg_top.proofs.sweep.SweepTexts.{sweep_names}
 use Rattle.pg_top.proofs.sweep.SweepOrder.{sweep_accepted, sweep_outcome}
 use Rattle.pg_top.proofs.sweep.sweep_files.Goals as goal
+use Rattle.pg_top.specs.Rules.{outcome_of}
+use Rattle.pg_top.specs.sweep.Swept.{sweep_rule}
 
 pub returns : goal.returns
 returns g c =
@@ -31,11 +31,11 @@ returns g c =
       only = c.read_sweep.ensures.read.only;
       made = record {
         comes = mapped s1.held (λ files. HasSweep (file_at files) s terms sets)
-            (λ files. outcome_of (file_at files) (ToSweep s) ≡ Ends Done (writing_of made.files.items) made.lines.items)
+            (λ files. outcome_of (file_at files) (sweep_rule s) ≡ Ends Done (writing_of made.files.items) made.lines.items)
             (λ files h. sweep_outcome s terms sets files h ∙ c.in_ok-outputs.ensures.made) c.in_ok-inputs.ensures.read.ok;
         named = c.in_ok-outputs.ensures.named;
-        keeps = mapped s1.held (λ files. HasSweep (file_at files) s terms sets) (λ files. Keeps (ToSweep s) (file_at files))
-            (λ files h. sweep_names s (file_at files) (accepted_all (file_at files) (reads_of (ToSweep s)) (sweep_accepted s terms sets files h)) some) c.in_ok-inputs.ensures.read.ok;
+        keeps = mapped s1.held (λ files. HasSweep (file_at files) s terms sets) (λ files. Keeps (sweep_rule s) (file_at files))
+            (λ files h. sweep_names s (file_at files) (accepted_all (file_at files) (sweep_rule s).reads (sweep_accepted s terms sets files h)) some) c.in_ok-inputs.ensures.read.ok;
         counted = c.in_ok-inputs.ensures.read.counted;
       };
       stopped = tt;
@@ -46,8 +46,8 @@ returns-in_err-inputs g c =
     let s = sweep_of c.args.words.now in
     let s0 = g.F.Files.shown c.args.files.now in
     let s1 = g.F.Files.shown c.read_sweep.new.files in
-    building_stopped (ToSweep s) s0 s1 c.from_residual.result c.in_err-inputs.field-0.0 c.from_residual.ensures.1 c.read_sweep.ensures.read.only
-    (stops_reading (ToSweep s) s0 s1 c.in_err-inputs.field-0.0 c.in_err-inputs.ensures.read.stopped)
+    building_stopped (sweep_rule s) s0 s1 c.from_residual.result c.in_err-inputs.field-0.0 c.from_residual.ensures.1 c.read_sweep.ensures.read.only
+    (stops_reading (sweep_rule s) s0 s1 c.in_err-inputs.field-0.0 c.in_err-inputs.ensures.read.stopped)
 
 pub returns-in_err-outputs : goal.returns-in_err-outputs
 returns-in_err-outputs g c =
@@ -56,7 +56,7 @@ returns-in_err-outputs g c =
     let sets = c.in_ok-inputs.inputs.sets.items in
     let s0 = g.F.Files.shown c.args.files.now in
     let s1 = g.F.Files.shown c.read_sweep.new.files in
-    let accepted = mapped s1.held (λ files. HasSweep (file_at files) s terms sets) (λ files. AreAccepted (file_at files) (reads_of (ToSweep s)))
+    let accepted = mapped s1.held (λ files. HasSweep (file_at files) s terms sets) (λ files. AreAccepted (file_at files) (sweep_rule s).reads)
     (sweep_accepted s terms sets) c.in_ok-inputs.ensures.read.ok in
-    building_stopped (ToSweep s) s0 s1 c.from_residual-in_err-outputs.result Memory c.from_residual-in_err-outputs.ensures.1 c.read_sweep.ensures.read.only
-    (stops_reading (ToSweep s) s0 s1 Memory (wanted_after (reads_of (ToSweep s)) s0 s1 (omega arith) c.in_ok-inputs.ensures.read.counted accepted))
+    building_stopped (sweep_rule s) s0 s1 c.from_residual-in_err-outputs.result Memory c.from_residual-in_err-outputs.ensures.1 c.read_sweep.ensures.read.only
+    (stops_reading (sweep_rule s) s0 s1 Memory (wanted_after (sweep_rule s).reads s0 s1 (omega arith) c.in_ok-inputs.ensures.read.counted accepted))

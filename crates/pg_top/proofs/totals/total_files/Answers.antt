@@ -4,15 +4,14 @@ use Rattle.pg_outside.specs.Content.{FilesShown, file_at}
 use Rattle.pg_outside.specs.FilesCalls.{Reads}
 use Rattle.pg_translate.specs.Tables.{table}
 use Rattle.pg_top.specs.Readings.{input_file}
-use Rattle.pg_top.specs.Calls.{outcome_of}
 use Rattle.pg_top.specs.Outcomes.{Ends}
 use Rattle.pg_top.specs.Inside.Built.{Keeps}
 use Rattle.pg_top.specs.Inside.WritesMade.{written_names, writing_of}
 use Rattle.pg_top.specs.declared.writes.Output.{Output}
 use Rattle.pg_top.specs.declared.answers.Status.TheVariants.{Done}
 use Rattle.pg_top.specs.Inside.UnderTable.{file_under}
-use Rattle.pg_top.specs.totals.Totalled.{packed_table}
-use Rattle.pg_words.specs.Requests.{TotalsRequest, ToTotals}
+use Rattle.pg_top.specs.totals.Totalled.{totals_rule, packed_table}
+use Rattle.pg_words.specs.Requests.{TotalsRequest}
 use Rattle.pg_top.specs.declared.inputs.Input.TheVariants as input
 use Rattle.pg_top.proofs.Calls.{stops_reading}
 use Rattle.pg_top.proofs.ReadsStopped.{building_stopped}
@@ -22,6 +21,7 @@ use Rattle.pg_top.proofs.Orders.{mapped, only_on}
 use Rattle.pg_top.proofs.totals.TotalsOrder.{HasWords, words_read, totals_told, stopped_table}
 use Rattle.pg_top.proofs.UnderTable.{stopped_first, stopped_second}
 use Rattle.pg_top.proofs.totals.total_files.Goals as goal
+use Rattle.pg_top.specs.Rules.{outcome_of}
 
 pub returns : goal.returns
 returns g c =
@@ -43,10 +43,10 @@ returns g c =
     record {
       only = only_on s0 s2 s3 two_only c.total_by-lines.ensures.only;
       made = record {
-        comes = subst (λ (files : List Output). IfSome s3.held (λ held. outcome_of (file_at held) (ToTotals p) ≡ Ends Done (writing_of files) c.in_ok-lines.lines.items))
+        comes = subst (λ (files : List Output). IfSome s3.held (λ held. outcome_of (file_at held) (totals_rule p) ≡ Ends Done (writing_of files) c.in_ok-lines.lines.items))
             (sym c.new.ensures.items) told;
         named = ap (λ (files : List Output). written_names (writing_of files)) c.new.ensures.items;
-        keeps = mapped s3.held (λ files. outcome_of (file_at files) (ToTotals p) ≡ Ends Done [] c.in_ok-lines.lines.items) (λ files. Keeps (ToTotals p) (file_at files)) (λ files h. tt) told;
+        keeps = mapped s3.held (λ files. outcome_of (file_at files) (totals_rule p) ≡ Ends Done [] c.in_ok-lines.lines.items) (λ files. Keeps (totals_rule p) (file_at files)) (λ files h. tt) told;
         counted = all_calls;
       };
       stopped = tt;
@@ -62,8 +62,8 @@ returns-in_err-letters g c =
     let s1 : FilesShown = g.F.Files.shown c.read_table.new.files in
     let reading = stopped_first (input_file input.Translate t (λ _. table))
     (file_under t input.Dictionary d words ∷ file_under t input.Table n packed_table ∷ []) s0 s1 c.in_err-letters.field-0.0 c.read_table.ensures.calls c.in_err-letters.ensures.stopped in
-    building_stopped (ToTotals p) s0 s1 c.from_residual.result c.in_err-letters.field-0.0 c.from_residual.ensures.1 c.read_table.ensures.only
-    (stops_reading (ToTotals p) s0 s1 c.in_err-letters.field-0.0 reading)
+    building_stopped (totals_rule p) s0 s1 c.from_residual.result c.in_err-letters.field-0.0 c.from_residual.ensures.1 c.read_table.ensures.only
+    (stops_reading (totals_rule p) s0 s1 c.in_err-letters.field-0.0 reading)
 
 pub returns-in_err-dictionary : goal.returns-in_err-dictionary
 returns-in_err-dictionary g c =
@@ -79,8 +79,8 @@ returns-in_err-dictionary g c =
     let letters = c.in_ok-letters.letters in
     let reading = stopped_second t letters words input.Dictionary d (file_under t input.Table n packed_table ∷ []) s0 s1 s2 c.in_err-dictionary.field-0.0
     c.read_table.ensures.only.reads two_calls c.read_dictionary.ensures.read.only.held c.in_ok-letters.ensures.ok c.in_err-dictionary.ensures.read.stopped in
-    building_stopped (ToTotals p) s0 s2 c.from_residual-in_err-dictionary.result c.in_err-dictionary.field-0.0 c.from_residual-in_err-dictionary.ensures.1 two_only
-    (stops_reading (ToTotals p) s0 s2 c.in_err-dictionary.field-0.0 reading)
+    building_stopped (totals_rule p) s0 s2 c.from_residual-in_err-dictionary.result c.in_err-dictionary.field-0.0 c.from_residual-in_err-dictionary.ensures.1 two_only
+    (stops_reading (totals_rule p) s0 s2 c.in_err-dictionary.field-0.0 reading)
 
 pub returns-in_err-lines : goal.returns-in_err-lines
 returns-in_err-lines g c =
@@ -101,5 +101,5 @@ returns-in_err-lines g c =
     let reading = stopped_table p letters ws s0 s2 s3 c.in_err-lines.field-0.0
     (none_fell s0.read_faults s1.read_faults s2.read_faults c.read_table.ensures.only.reads c.read_dictionary.ensures.read.only.reads) all_calls
     c.total_by-lines.ensures.only.held two c.in_err-lines.ensures.stopped in
-    building_stopped (ToTotals p) s0 s3 c.from_residual-in_err-lines.result c.in_err-lines.field-0.0 c.from_residual-in_err-lines.ensures.1 (only_on s0 s2 s3 two_only c.total_by-lines.ensures.only)
-    (stops_reading (ToTotals p) s0 s3 c.in_err-lines.field-0.0 reading)
+    building_stopped (totals_rule p) s0 s3 c.from_residual-in_err-lines.result c.in_err-lines.field-0.0 c.from_residual-in_err-lines.ensures.1 (only_on s0 s2 s3 two_only c.total_by-lines.ensures.only)
+    (stops_reading (totals_rule p) s0 s3 c.in_err-lines.field-0.0 reading)

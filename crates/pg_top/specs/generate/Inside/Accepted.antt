@@ -1,10 +1,11 @@
 -- The files of a selection, as they are accepted.
-use Rattle.std.specs.Prelude.{◌≡◌, Some, Ok}
+use Rattle.std.specs.Prelude.{◌≡◌, List, Some, Ok}
 use Rattle.pg_types.specs.Parameters.{parameters}
 use Rattle.pg_translate.specs.Tables.{table}
 use Rattle.pg_dict.specs.Words.{words}
 use Rattle.pg_patterns.specs.Starts.{start}
-use Rattle.pg_top.specs.Readings.{HeldFiles}
+use Rattle.pg_top.specs.Readings.{HeldFiles, Reading}
+use Rattle.pg_top.specs.generate.Generated.{generate_rule}
 use Rattle.pg_top.specs.Inside.ReadAs.{read_as}
 use Rattle.pg_words.specs.Requests.{FileNames}
 use Rattle.pg_top.specs.declared.selection.Inputs.{Inputs}
@@ -15,3 +16,7 @@ pub record HasInputs (files : HeldFiles) (n : FileNames) (i : Inputs) : Type 0 w
   pub params : read_as parameters files n.params ≡ Some (Ok i.params)
   pub start : read_as (start i.table) files n.patterns ≡ Some (Ok i.start)
   pub words : read_as (words i.table) files n.dict ≡ Some (Ok i.dictionary)
+
+-- what `generate` reads, in its order
+abbrev pub inputs_of : FileNames → List Reading
+inputs_of n = (generate_rule n).reads

@@ -1,14 +1,14 @@
 -- What `sweep` has read, and what a sweep writes and prints.
-use Rattle.std.specs.Prelude.{ℕ, ◌+◌, ◌-◌, List, slice_index}
+use Rattle.std.specs.Prelude.{ℕ, ◌+◌, ◌-◌, List, map, slice_index}
 use Rattle.pg_types.specs.Parameters.{Parameters}
 use Rattle.pg_translate.specs.Alphabets.{letters_of}
 use Rattle.pg_dict.specs.Inside.SoundWords.{SignsAtMost}
 use Rattle.pg_patterns.specs.Inside.PatternMaps.{SignsUpTo}
-use Rattle.pg_sweep.specs.Sweeps.{Terms, costs_of}
+use Rattle.pg_sweep.specs.Sweeps.{Terms, row_of, costs_of}
 use Rattle.pg_sweep.specs.Inside.Found.{Found}
 use Rattle.pg_words.specs.Requests.{SweepRequest}
 use Rattle.pg_top.specs.Outcomes.{Outcome}
-use Rattle.pg_top.specs.sweep.Swept.{winner_line, outcome_of_sweep, swept_rows}
+use Rattle.pg_top.specs.sweep.Swept.{winner_line, outcome_of_sweep}
 use Rattle.pg_top.specs.declared.sweep.inputs.SweepInputs.{SweepInputs}
 
 -- what the runs of a sweep with so many folds share
@@ -27,4 +27,4 @@ line_of_sweep found = winner_line found.winner
 
 -- what a sweep of these sets writes and prints
 abbrev pub outcome_of_sets : SweepRequest → Terms → List Parameters → Outcome
-outcome_of_sets s terms sets = outcome_of_sweep s (swept_rows s terms sets)
+outcome_of_sets s terms sets = outcome_of_sweep s (map (row_of terms s.bad s.missed) sets)
