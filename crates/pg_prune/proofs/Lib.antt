@@ -11,11 +11,11 @@ pub mod Tallies
 pub mod Walks
 pub mod TurnLaws
 pub mod TurnSteps
-pub mod Found
+pub mod NeedSearch
 pub mod RoundSteps
 pub mod NeedSteps
 pub mod Picking
-pub mod RoundsSteps
+pub mod AllRounds
 pub mod HolderSteps
 pub mod PositionSteps
 pub mod Finish

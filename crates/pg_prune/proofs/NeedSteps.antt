@@ -10,7 +10,7 @@ use Rattle.pg_prune.specs.Positions.{WordPosition}
 use Rattle.pg_prune.specs.Prunes.{need_at, needs_from, needs}
 use Rattle.pg_prune.specs.Inside.Findings.{need_list, first_difference}
 use Rattle.pg_prune.specs.Inside.Turns.{with_entry, without_entry, IsHeld, IsTallied, IsFound}
-use Rattle.pg_prune.specs.Inside.Picks.{picked_entries, RoundStart}
+use Rattle.pg_prune.specs.Inside.Picks.{picked_entries, IsKeptSoFar}
 use Rattle.pg_prune.proofs.TurnSteps.{left_at, none_left}
 use Rattle.pg_prune.proofs.RoundSteps.{turn_of, turn_from}
 use Rattle.pg_prune.specs.Inside.Picks.{entry_of}
@@ -45,7 +45,7 @@ module _ (positions : List WordPosition) (P : Patterns) (kept : List ℕ) where
 
   -- the turn of the i-th entry
   pub need_turn : {V : Type 0} (items : V → List ℕ) (vs : List V) (holders : List (List ℕ)) (i : ℕ) (v : V) (numbers : List ℕ) (x : (List ℕ × ℕ) × ℕ)
-      → RoundStart positions P (map items vs) holders kept → i < length kept
+      → IsKeptSoFar positions P (map items vs) holders kept → i < length kept
       → v ≡ get_or vs (get_or kept i 0) v → numbers ≡ items v → slice_get P (get_or kept i 0) ≡ Some x
       → IsHeld (turn_of positions P (take i kept) (get_or kept i 0) (drop (i + 1) kept)) holders numbers x.1
   need_turn items vs holders i v numbers x s inside is own entry =

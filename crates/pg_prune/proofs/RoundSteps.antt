@@ -15,7 +15,7 @@ use Rattle.pg_prune.specs.Prunes.{round_from, round}
 use Rattle.pg_prune.specs.Inside.Alike.{break_alike}
 use Rattle.pg_prune.specs.Inside.Standing.{positions_of_entry, positions_of_entries}
 use Rattle.pg_prune.specs.Inside.Turns.{Turn, with_entry, without_entry, IsHeld, IsTallied}
-use Rattle.pg_prune.specs.Inside.Picks.{entry_of, picked_entries, RoundStart, RoundDone}
+use Rattle.pg_prune.specs.Inside.Picks.{entry_of, picked_entries, IsKeptSoFar, IsOneRound}
 use Rattle.pg_prune.proofs.RoundLaws.{regrouped}
 use Rattle.pg_prune.proofs.NeedLaws.{alike_over}
 use Rattle.pg_prune.proofs.TurnSteps.{left_at}
@@ -93,7 +93,7 @@ unlike true c both e = absurd (cc (both refl))
 unlike false c both e = refl
 
 module _ (positions : List WordPosition) (P : Patterns) (stands : List (List ℕ)) (kept : List ℕ) where
-  pub rounding_begins : (holders : List (List ℕ)) → RoundStart positions P stands holders kept → Rounding positions P kept holders [] kept
+  pub rounding_begins : (holders : List (List ℕ)) → IsKeptSoFar positions P stands holders kept → Rounding positions P kept holders [] kept
   unfolding round
   rounding_begins holders s = record { within = All-nil (λ i. i < length P); rest = s.within; tallied = s.tallied; alike = s.alike; so_far = refl }
 
@@ -131,8 +131,8 @@ module _ (positions : List WordPosition) (P : Patterns) (stands : List (List ℕ
             ∙ sym (stays_on positions P (picked_entries P stay) (entry_of P k) (picked_entries P left) stays) ∙ r.so_far;
       }
 
-  pub rounding_ends : (start holders : List (List ℕ)) (stay : List ℕ) → RoundStart positions P stands start kept → Rounding positions P kept holders stay []
-      → RoundDone positions P stands holders kept stay
+  pub rounding_ends : (start holders : List (List ℕ)) (stay : List ℕ) → IsKeptSoFar positions P stands start kept → Rounding positions P kept holders stay []
+      → IsOneRound positions P stands holders kept stay
   rounding_ends start holders stay s r = record {
     next = record {
       all = s.all;
@@ -150,7 +150,7 @@ module _ {V : Type 0} (items : V → List ℕ) (positions : List WordPosition) (
   rounding_at holders stay i inside r = subst (λ left. Rounding positions P kept holders stay left) (left_at kept i inside) r
 
   -- the turn of the entry whose number is the i-th
-  pub turn_at : (start holders : List (List ℕ)) (stay : List ℕ) (i : ℕ) (v : V) (numbers : List ℕ) (x : (List ℕ × ℕ) × ℕ) → RoundStart positions P (map items vs) start kept
+  pub turn_at : (start holders : List (List ℕ)) (stay : List ℕ) (i : ℕ) (v : V) (numbers : List ℕ) (x : (List ℕ × ℕ) × ℕ) → IsKeptSoFar positions P (map items vs) start kept
       → Rounding positions P kept holders stay (drop i kept) → i < length kept
       → v ≡ get_or vs (get_or kept i 0) v → numbers ≡ items v → slice_get P (get_or kept i 0) ≡ Some x → IsHeld (turn_of positions P stay (get_or kept i 0) (drop (i + 1) kept)) holders numbers x.1
   turn_at start holders stay i v numbers x s r inside is own entry =

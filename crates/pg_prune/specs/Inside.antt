@@ -5,7 +5,7 @@ pub mod Standing
 pub mod Holders
 pub mod Turns
 pub mod Picks
-pub mod Ends
+pub mod AllRounds
 pub mod Trails
 pub mod Findings
 pub mod WordPositions

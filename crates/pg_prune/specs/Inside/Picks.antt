@@ -23,8 +23,8 @@ pub record IsGround (positions : List WordPosition) (P : Patterns)
   pub all : stands ≡ positions_of_entries positions P
   pub many : count ≡ length positions
 
--- a round begins: the entries `kept` of P break alike with P, and the holders are theirs
-pub record RoundStart (positions : List WordPosition) (P : Patterns)
+-- so far the entries `kept` of P are left: they break alike with P, and the holders are theirs
+pub record IsKeptSoFar (positions : List WordPosition) (P : Patterns)
     (stands : List (List ℕ)) (holders : List (List ℕ)) (kept : List ℕ) : Type 0 where
   pub all : stands ≡ positions_of_entries positions P
   pub sound : list_all is_entry P ≡ true
@@ -32,14 +32,14 @@ pub record RoundStart (positions : List WordPosition) (P : Patterns)
   pub tallied : IsTallied positions (picked_entries P kept) holders
   pub alike : break_alike positions P (picked_entries P kept) ≡ true
 
--- a round is done: the entries `stay` are those that it leaves, and the holders are theirs
-pub record RoundDone (positions : List WordPosition) (P : Patterns)
+-- one round from `kept` on: the entries `stay` are those that it leaves, with their holders
+pub record IsOneRound (positions : List WordPosition) (P : Patterns)
     (stands : List (List ℕ)) (holders : List (List ℕ)) (kept stay : List ℕ) : Type 0 where
-  pub next : RoundStart positions P stands holders stay
+  pub next : IsKeptSoFar positions P stands holders stay
   pub done : picked_entries P stay ≡ round positions P (picked_entries P kept)
 
--- before the first round: the holders are those of all entries
-pub record RoundsStart (positions : List WordPosition) (P : Patterns)
+-- before all rounds: the holders are those of all entries
+pub record HasAllEntries (positions : List WordPosition) (P : Patterns)
     (stands : List (List ℕ)) (holders : List (List ℕ)) : Type 0 where
   pub all : stands ≡ positions_of_entries positions P
   pub tallied : IsTallied positions P holders

@@ -4,11 +4,11 @@ use Rattle.pg_select.specs.Windows.{Patterns}
 use Rattle.pg_prune.specs.declared.rounds.Finished.{Finished}
 use Rattle.pg_prune.specs.Positions.{WordPosition}
 use Rattle.pg_prune.specs.Prunes.{rounds}
-use Rattle.pg_prune.specs.Inside.Picks.{picked_entries, RoundStart}
+use Rattle.pg_prune.specs.Inside.Picks.{picked_entries, IsKeptSoFar}
 
 -- the entries that stay are those of all rounds, and the holders are theirs
-pub record RoundsDone (positions : List WordPosition) (P : Patterns)
+pub record IsFinished (positions : List WordPosition) (P : Patterns)
     (stands : List (List ℕ)) (holders : List (List ℕ)) (f : Finished) : Type 0 where
-  pub ready : RoundStart positions P stands holders f.kept.items
+  pub ready : IsKeptSoFar positions P stands holders f.kept.items
   pub done : rounds positions P
       ≡ record { patterns = picked_entries P f.kept.items; count = f.count }

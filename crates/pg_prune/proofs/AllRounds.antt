@@ -12,7 +12,7 @@ use Rattle.pg_prune.specs.Positions.{WordPosition}
 use Rattle.pg_prune.specs.Prunes.{round, rounds_from, rounds, Rounds}
 use Rattle.pg_prune.specs.Inside.Alike.{break_alike}
 use Rattle.pg_prune.specs.Inside.Turns.{IsTallied}
-use Rattle.pg_prune.specs.Inside.Picks.{picked_entries, RoundStart, RoundDone, RoundsStart}
+use Rattle.pg_prune.specs.Inside.Picks.{picked_entries, IsKeptSoFar, IsOneRound, HasAllEntries}
 use Rattle.pg_prune.proofs.RoundLaws.{round_length, round_same}
 use Rattle.pg_prune.proofs.NeedLaws.{alike_self}
 use Rattle.pg_prune.specs.Inside.Picks.{entry_of}
@@ -20,13 +20,13 @@ use Rattle.pg_prune.proofs.Picking.{picked_all, range_below}
 
 -- so many rounds are made, and the entries with the numbers `kept` are left
 pub record RoundsSoFar (positions : List WordPosition) (P : Patterns) (stands : List (List ℕ)) (holders : List (List ℕ)) (kept : List ℕ) (count : ℕ) : Type 0 where
-  pub ready : RoundStart positions P stands holders kept
+  pub ready : IsKeptSoFar positions P stands holders kept
   pub most : ℕ
   pub few : length kept ≤ most
   pub so_far : rounds positions P ≡ rounds_from positions P count most (picked_entries P kept)
 
 module _ (positions : List WordPosition) (P : Patterns) (stands : List (List ℕ)) where
-  pub rounds_begin : (holders : List (List ℕ)) → list_all is_entry P ≡ true → RoundsStart positions P stands holders → RoundsSoFar positions P stands holders (range_with_len 0 (length P)) 0
+  pub rounds_begin : (holders : List (List ℕ)) → list_all is_entry P ≡ true → HasAllEntries positions P stands holders → RoundsSoFar positions P stands holders (range_with_len 0 (length P)) 0
   unfolding rounds
   rounds_begin holders sound s = record {
     ready = record {
@@ -42,10 +42,10 @@ module _ (positions : List WordPosition) (P : Patterns) (stands : List (List ℕ
   }
 
   -- how many entries a round leaves
-  left_by : (holders : List (List ℕ)) (kept stay : List ℕ) → RoundDone positions P stands holders kept stay → length stay ≡ length (round positions P (picked_entries P kept))
+  left_by : (holders : List (List ℕ)) (kept stay : List ℕ) → IsOneRound positions P stands holders kept stay → length stay ≡ length (round positions P (picked_entries P kept))
   left_by holders kept stay d = sym (length-map stay (entry_of P)) ∙ ap length d.done
 
-  pub round_fewer : (holders : List (List ℕ)) (kept stay : List ℕ) → RoundDone positions P stands holders kept stay → length stay ≤ length kept
+  pub round_fewer : (holders : List (List ℕ)) (kept stay : List ℕ) → IsOneRound positions P stands holders kept stay → length stay ≤ length kept
   unfolding round
   round_fewer holders kept stay d =
       let left : length stay ≡ length (round positions P (picked_entries P kept)) = left_by holders kept stay d in
@@ -63,7 +63,7 @@ module _ (positions : List WordPosition) (P : Patterns) (stands : List (List ℕ
         (no_test (nat_eq (length (round positions P Q)) (length Q)) (λ same. let is = eqb-true _ _ same in absurd (omega (arith, is)))),
   )
 
-  pub rounds_next : (old new : List (List ℕ)) (kept stay : List ℕ) (count : ℕ) → RoundsSoFar positions P stands old kept count → RoundDone positions P stands new kept stay
+  pub rounds_next : (old new : List (List ℕ)) (kept stay : List ℕ) (count : ℕ) → RoundsSoFar positions P stands old kept count → IsOneRound positions P stands new kept stay
       → length stay ≢ length kept → RoundsSoFar positions P stands new stay (count + 1)
   rounds_next old new kept stay count r d other =
       let left : length stay ≡ length (round positions P (picked_entries P kept)) = left_by new kept stay d in
@@ -84,8 +84,8 @@ module _ (positions : List WordPosition) (P : Patterns) (stands : List (List ℕ
       ap (λ b. cond {A = Rounds} b (record { patterns = Q; count = count + 1 })
       (rounds_from positions P (count + 1) most (round positions P Q))) (eq-eqb (length (round positions P Q)) (length Q) same)
 
-  pub rounds_end_with : (old new : List (List ℕ)) (kept stay : List ℕ) (count : ℕ) → RoundsSoFar positions P stands old kept count → RoundDone positions P stands new kept stay
-      → length stay ≡ length kept → RoundStart positions P stands new kept × (rounds positions P ≡ record { patterns = picked_entries P kept; count = count + 1 })
+  pub rounds_end_with : (old new : List (List ℕ)) (kept stay : List ℕ) (count : ℕ) → RoundsSoFar positions P stands old kept count → IsOneRound positions P stands new kept stay
+      → length stay ≡ length kept → IsKeptSoFar positions P stands new kept × (rounds positions P ≡ record { patterns = picked_entries P kept; count = count + 1 })
   unfolding round
   rounds_end_with old new kept stay count r d same =
       let left : length stay ≡ length (round positions P (picked_entries P kept)) = left_by new kept stay d in
