@@ -3,7 +3,7 @@ use Rattle.std.specs.Prelude.{ℕ, List, [], ◌∷◌, ◌++◌, Option, unwrap
 use Rattle.std.specs.Option.{option_map_or}
 use Rattle.pg_select.specs.CountedPositions.{minima_of}
 use Rattle.pg_table.specs.Lookups.{table_totals}
-use Rattle.pg_prune.specs.Prunes.{pruned}
+use Rattle.pg_prune.specs.Prunes.{pruning_of}
 use Rattle.pg_texts.specs.ReportTexts.{ending_text}
 use Rattle.pg_top.specs.pack.Packed.{outcome_of_pack}
 use Rattle.pg_top.specs.prune.Pruned.{outcome_of_prune}
@@ -51,7 +51,7 @@ own_outcome files (ToTotals n) = let t = table_named n.translate files in
     Ends Done [] (ending_text (table_totals (minima_of t) (words_under files n.translate n.dict)
     (meaning (packed_table t) [] files n.table)))
 own_outcome files (ToPrune n) = let t = table_named n.translate files in
-    outcome_of_prune n.output n.report t (pruned (minima_of t)
+    outcome_of_prune n.output n.report t (pruning_of (minima_of t)
     (words_under files n.translate n.dict) (patterns_under files n.translate n.patterns))
 own_outcome files (ToSweep s) =
     outcome_of_sweep s (swept_rows s (terms_in files s) (sets_in files s))
