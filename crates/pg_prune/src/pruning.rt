@@ -6,14 +6,14 @@ ghost use Rattle.pg_dict.specs.Word.{Word};
 ghost use Rattle.pg_select.specs.CountedPositions.{Minima, minima_of};
 ghost use Rattle.pg_prune.specs.Positions.{positions_in_reach as positions_of};
 ghost use Rattle.pg_prune.specs.Prunes.{need_at, pruning_of};
-ghost use Rattle.pg_prune.specs.Inside.Picks.{HasAllEntries};
+ghost use Rattle.pg_prune.specs.Inside.rounds.Picks.{HasAllEntries};
 ghost use Rattle.pg_prune.specs.Inside.Prunings.{IsPruning};
 
-use crate::gather::gather;
-use crate::holders::Holders;
-use crate::kept_patterns::kept_patterns;
+use crate::positions::gather::gather;
 use crate::positions::positions_in_reach;
 use crate::pruned::{Need, Pruned};
+use crate::rounds::holders::Holders;
+use crate::rounds::kept_patterns::kept_patterns;
 use crate::rounds::{Rounds, Unseen, all_holders, all_rounds, needs};
 use pg_dict::Dictionary;
 use pg_patterns::PatternSet;

@@ -3,16 +3,19 @@ ghost use Rattle.std.specs.Prelude.{◌≡◌, ◌<◌, ◌≤◌, not, [], ◌�
 ghost use Rattle.pg_types.specs.declared.limits.TheConstants.{LEVEL_MAX};
 ghost use Rattle.pg_prune.specs.Positions.{WordPosition};
 ghost use Rattle.pg_prune.specs.Prunes.{need_at, needs as needs_of};
-ghost use Rattle.pg_prune.specs.Inside.Alike.{break_alike};
+ghost use Rattle.pg_prune.specs.Inside.rounds.Alike.{break_alike};
 ghost use Rattle.pg_prune.specs.Inside.Findings.{first_difference};
-ghost use Rattle.pg_prune.specs.Inside.Standing.{positions_of_entries};
-ghost use Rattle.pg_prune.specs.Inside.Picks.{picked_entries, IsGround, IsKeptSoFar, IsOneRound, HasAllEntries};
+ghost use Rattle.pg_prune.specs.Inside.positions.Standing.{positions_of_entries};
+ghost use Rattle.pg_prune.specs.Inside.rounds.Picks.{picked_entries, IsGround, IsKeptSoFar, IsOneRound, HasAllEntries};
 ghost use Rattle.std.specs.List.{range_with_len};
-ghost use Rattle.pg_prune.specs.Inside.AllRounds.{IsFinished};
-ghost use Rattle.pg_prune.specs.Inside.Turns.{Turn, with_entry, without_entry, IsHeld, IsAwaited, IsTallied, IsFound};
+ghost use Rattle.pg_prune.specs.Inside.rounds.AllRounds.{IsFinished};
+ghost use Rattle.pg_prune.specs.Inside.rounds.Turns.{Turn, with_entry, without_entry, IsHeld, IsAwaited, IsTallied, IsFound};
 
-use crate::holders::Holders;
+pub mod holders;
+pub mod kept_patterns;
+
 use crate::pruned::Need;
+use crate::rounds::holders::Holders;
 use pg_patterns::PatternSet;
 use std::alloc::{AllocError, Global};
 

@@ -17,7 +17,7 @@ use Rattle.pg_words.specs.Requests.{PruneRequest, ToPrune}
 use Rattle.pg_top.specs.Inside.Built.{Keeps}
 use Rattle.pg_prune.specs.Prunes.{pruning_of}
 use Rattle.pg_prune.specs.Reports.{prune_report}
-use Rattle.pg_prune.proofs.PrunedLaws.{pruned_part, pruned_alike, pruned_least}
+use Rattle.pg_prune.proofs.pruning.PrunedLaws.{pruned_part, pruned_alike, pruned_least}
 use Rattle.pg_select.specs.CountedPositions.{minima_of}
 use Rattle.pg_top.specs.Promises.{ReadsBack}
 use Rattle.pg_top.specs.Inside.Lists.{lists_under, HasLists}

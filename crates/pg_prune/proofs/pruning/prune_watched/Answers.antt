@@ -5,7 +5,7 @@ use Rattle.pg_translate.specs.Alphabets.{letters_of}
 use Rattle.pg_select.specs.CountedPositions.{minima_of}
 use Rattle.pg_prune.specs.Prunes.{Pruning}
 use Rattle.pg_prune.specs.Inside.Prunings.{IsPruning}
-use Rattle.pg_prune.proofs.PrunedLaws.{pruned_all, pruned_part, pruned_alike, pruned_least, pruned_needs}
+use Rattle.pg_prune.proofs.pruning.PrunedLaws.{pruned_all, pruned_part, pruned_alike, pruned_least, pruned_needs}
 use Rattle.pg_prune.proofs.pruning.prune_watched.Goals as goal
 
 pub returns : goal.returns

@@ -4,9 +4,9 @@ use Rattle.pg_select.specs.Windows.{Patterns}
 use Rattle.pg_prune.specs.Positions.{positions_in_reach}
 use Rattle.pg_prune.specs.Prunes.{pruning_of, needs, rounds, Pruning}
 use Rattle.pg_prune.specs.Inside.Needs.{HasNeeds}
-use Rattle.pg_prune.specs.Inside.Picks.{picked_entries}
-use Rattle.pg_prune.proofs.PrunedLaws.{pruned_map, pruned_needs, pruned_few}
-use Rattle.pg_prune.proofs.Finish.{finish, to_rounds, rounds_patterns, with_kept, picked_few}
+use Rattle.pg_prune.specs.Inside.rounds.Picks.{picked_entries}
+use Rattle.pg_prune.proofs.pruning.PrunedLaws.{pruned_map, pruned_needs, pruned_few}
+use Rattle.pg_prune.proofs.pruning.Finish.{finish, to_rounds, rounds_patterns, with_kept, picked_few}
 use Rattle.pg_prune.proofs.pruning.settle.Goals as goal
 
 pub all_rounds-requires : goal.all_rounds-requires

@@ -1,7 +1,7 @@
 use Rattle.std.proofs.Common.{◌≡◌, ◌≢◌, ◌<◌, ◌≤◌, ◌+◌, ◌∙◌, map, length, ap, sym, subst, arith}
 use Rattle.std.specs.List.{range_with_len}
-use Rattle.pg_prune.specs.Inside.Picks.{IsKeptSoFar, IsOneRound}
-use Rattle.pg_prune.proofs.AllRounds.{RoundsSoFar, rounds_begin, round_fewer, rounds_next, rounds_end_with}
+use Rattle.pg_prune.specs.Inside.rounds.Picks.{IsKeptSoFar, IsOneRound}
+use Rattle.pg_prune.proofs.rounds.AllRounds.{RoundsSoFar, rounds_begin, round_fewer, rounds_next, rounds_end_with}
 use Rattle.pg_prune.proofs.rounds.all_rounds.Goals as goal
 
 pub rounds-init : goal.rounds-init

@@ -1,7 +1,7 @@
 use Rattle.std.proofs.Common.{◌+◌, ◌≤◌, List, map, length}
 use Rattle.pg_prune.specs.Positions.{WordPosition}
-use Rattle.pg_prune.specs.Inside.Picks.{HasAllEntries}
-use Rattle.pg_prune.proofs.AllRounds.{RoundsSoFar}
+use Rattle.pg_prune.specs.Inside.rounds.Picks.{HasAllEntries}
+use Rattle.pg_prune.proofs.rounds.AllRounds.{RoundsSoFar}
 use Rattle.pg_prune.proofs.rounds.all_rounds.Given as goal
 
 abbrev pub invariant-rounds : goal.invariant-rounds

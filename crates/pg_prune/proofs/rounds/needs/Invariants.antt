@@ -1,8 +1,8 @@
 use Rattle.std.proofs.Common.{◌≡◌, List, map}
 use Rattle.pg_prune.specs.Positions.{WordPosition}
 use Rattle.pg_prune.specs.Prunes.{need_at}
-use Rattle.pg_prune.specs.Inside.Picks.{IsKeptSoFar}
-use Rattle.pg_prune.proofs.NeedSteps.{NeedsSoFar}
+use Rattle.pg_prune.specs.Inside.rounds.Picks.{IsKeptSoFar}
+use Rattle.pg_prune.proofs.rounds.NeedSteps.{NeedsSoFar}
 use Rattle.pg_prune.proofs.rounds.needs.Given as goal
 
 abbrev pub invariant-entries : goal.invariant-entries

@@ -1,7 +1,7 @@
 use Rattle.std.proofs.Common.{drop, List, map}
 use Rattle.pg_prune.specs.Positions.{WordPosition}
-use Rattle.pg_prune.specs.Inside.Picks.{IsKeptSoFar}
-use Rattle.pg_prune.proofs.RoundSteps.{Rounding}
+use Rattle.pg_prune.specs.Inside.rounds.Picks.{IsKeptSoFar}
+use Rattle.pg_prune.proofs.rounds.RoundSteps.{Rounding}
 use Rattle.pg_prune.proofs.rounds.round.Given as goal
 
 abbrev pub invariant-entries : goal.invariant-entries
