@@ -57,15 +57,15 @@ unfoldable pub needs : List WordPosition → Patterns → List Need
 needs positions Q = needs_from positions [] Q
 
 -- what pruning comes to: the patterns that stay, their needs, and how many rounds and removals
-pub record Found : Type 0 where
+pub record Pruning : Type 0 where
   pub patterns : Patterns
   pub needs : List Need
   pub rounds : ℕ
   pub removed : ℕ
 
 -- patterns pruned by the words of a dictionary
-unfoldable pub pruned : Minima → List Word → Patterns → Found
-pruned m words P = let r = rounds (positions_in_reach m words) P in record {
+unfoldable pub pruning_of : Minima → List Word → Patterns → Pruning
+pruning_of m words P = let r = rounds (positions_in_reach m words) P in record {
   patterns = r.patterns;
   needs = needs (positions_in_reach m words) r.patterns;
   rounds = r.count;

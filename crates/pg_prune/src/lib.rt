@@ -1,15 +1,11 @@
 //! Patterns pruned by a dictionary: the entries that it needs, and where it needs them.
 #![tactic(auto)]
 
-mod gather;
-mod holders;
-mod kept_patterns;
 mod positions;
 pub mod pruned;
 pub mod pruning;
 pub mod report;
 mod rounds;
-mod trail;
 
 pub use pruned::{Need, Pruned};
 pub use pruning::{prune, prune_watched};

@@ -23,10 +23,10 @@ pub struct Pruned {
 }
 
 impl Model for Pruned {
-    ghost use Rattle.pg_prune.specs.Prunes.{Found};
+    ghost use Rattle.pg_prune.specs.Prunes.{Pruning};
     ghost use Rattle.pg_prune.specs.Inside.Needs.{HasNeeds};
 
-    ghost Value = { Found };
+    ghost Value = { Pruning };
 
     ghost view = { λ p. record {
       patterns = p.patterns;

@@ -5,15 +5,15 @@ ghost use Rattle.pg_patterns.specs.Inside.PatternMaps.{SignsUpTo};
 ghost use Rattle.pg_dict.specs.Word.{Word};
 ghost use Rattle.pg_select.specs.CountedPositions.{Minima, minima_of};
 ghost use Rattle.pg_prune.specs.Positions.{positions_in_reach as positions_of};
-ghost use Rattle.pg_prune.specs.Prunes.{need_at, pruned};
-ghost use Rattle.pg_prune.specs.Inside.Picks.{RoundsStart};
+ghost use Rattle.pg_prune.specs.Prunes.{need_at, pruning_of};
+ghost use Rattle.pg_prune.specs.Inside.rounds.Picks.{HasAllEntries};
 ghost use Rattle.pg_prune.specs.Inside.Prunings.{IsPruning};
 
-use crate::gather::gather;
-use crate::holders::Holders;
-use crate::kept_patterns::kept_patterns;
+use crate::positions::gather::gather;
 use crate::positions::positions_in_reach;
 use crate::pruned::{Need, Pruned};
+use crate::rounds::holders::Holders;
+use crate::rounds::kept_patterns::kept_patterns;
 use crate::rounds::{Rounds, Unseen, all_holders, all_rounds, needs};
 use pg_dict::Dictionary;
 use pg_patterns::PatternSet;
@@ -65,7 +65,7 @@ fn find<W: Rounds>(
     watch: &W,
 ) -> Result<Pruned, AllocError>
     ensures { IfOk result
-        (λ found. found ≡ pruned (minima_of table.now) dictionary.now patterns.now) }
+        (λ found. found ≡ pruning_of (minima_of table.now) dictionary.now patterns.now) }
 {
     let positions = positions_in_reach(alloc, dictionary, table)?;
     let lists = gather(alloc, dictionary, table, patterns)?;
@@ -93,13 +93,13 @@ fn settle<W: Rounds>(
 ) -> Result<Pruned, AllocError>
     requires { (m : Minima) × ((words : List Word)
         × ((positions.now ≡ map need_at (positions_of m words))
-        × RoundsStart (positions_of m words) patterns.now (map (λ l. l.items) standing.now)
+        × HasAllEntries (positions_of m words) patterns.now (map (λ l. l.items) standing.now)
         holders.old)) }
     ensures { (m : Minima) (words : List Word)
         → positions.now ≡ map need_at (positions_of m words)
-        → RoundsStart (positions_of m words) patterns.now (map (λ l. l.items) standing.now)
+        → HasAllEntries (positions_of m words) patterns.now (map (λ l. l.items) standing.now)
         holders.old
-        → IfOk result (λ found. found ≡ pruned m words patterns.now) }
+        → IfOk result (λ found. found ≡ pruning_of m words patterns.now) }
 {
     let count = patterns.len();
     let finished = all_rounds(alloc, patterns, standing, holders, watch)?;

@@ -2,7 +2,7 @@
 ghost use Rattle.std.specs.Prelude.{◌≡◌, ◌≤◌, ◌+◌, ◌++◌, [], ◌∷◌, length, ◌<◌, OnOk, IfOk};
 ghost use Rattle.pg_translate.specs.Alphabets.{letters_of};
 ghost use Rattle.pg_patterns.specs.Inside.PatternMaps.{SignsUpTo};
-ghost use Rattle.pg_prune.specs.Inside.Picks.{entry_of};
+ghost use Rattle.pg_prune.specs.Inside.rounds.Picks.{entry_of};
 ghost use Rattle.pg_prune.specs.Reports.{keep_line, last_line, prune_report};
 ghost use Rattle.pg_prune.specs.Inside.EntryTexts.{entry_text};
 

@@ -3,16 +3,19 @@ ghost use Rattle.std.specs.Prelude.{◌≡◌, ◌<◌, ◌≤◌, not, [], ◌�
 ghost use Rattle.pg_types.specs.declared.limits.TheConstants.{LEVEL_MAX};
 ghost use Rattle.pg_prune.specs.Positions.{WordPosition};
 ghost use Rattle.pg_prune.specs.Prunes.{need_at, needs as needs_of};
-ghost use Rattle.pg_prune.specs.Inside.Alike.{break_alike};
+ghost use Rattle.pg_prune.specs.Inside.rounds.Alike.{break_alike};
 ghost use Rattle.pg_prune.specs.Inside.Findings.{first_difference};
-ghost use Rattle.pg_prune.specs.Inside.Standing.{positions_of_entries};
-ghost use Rattle.pg_prune.specs.Inside.Picks.{picked_entries, IsGround, RoundStart, RoundDone, RoundsStart};
+ghost use Rattle.pg_prune.specs.Inside.positions.Standing.{positions_of_entries};
+ghost use Rattle.pg_prune.specs.Inside.rounds.Picks.{picked_entries, IsGround, IsKeptSoFar, IsOneRound, HasAllEntries};
 ghost use Rattle.std.specs.List.{range_with_len};
-ghost use Rattle.pg_prune.specs.Inside.Ends.{RoundsDone};
-ghost use Rattle.pg_prune.specs.Inside.Turns.{Turn, with_entry, without_entry, IsHeld, IsAwaited, IsTallied, IsFound};
+ghost use Rattle.pg_prune.specs.Inside.rounds.AllRounds.{IsFinished};
+ghost use Rattle.pg_prune.specs.Inside.rounds.Turns.{Turn, with_entry, without_entry, IsHeld, IsAwaited, IsTallied, IsFound};
 
-use crate::holders::Holders;
+pub mod holders;
+pub mod kept_patterns;
+
 use crate::pruned::Need;
+use crate::rounds::holders::Holders;
 use pg_patterns::PatternSet;
 use std::alloc::{AllocError, Global};
 
@@ -126,13 +129,13 @@ pub(crate) fn round(
     kept: &[usize],
 ) -> Result<Vec<usize>, AllocError>
     requires { (positions : List WordPosition)
-        × RoundStart positions patterns.now
+        × IsKeptSoFar positions patterns.now
         (map (λ l. l.items) standing.now) holders.old kept.now }
     ensures { (positions : List WordPosition)
-        → RoundStart positions patterns.now
+        → IsKeptSoFar positions patterns.now
         (map (λ l. l.items) standing.now) holders.old kept.now
         → IfOk result (λ stay.
-        RoundDone positions patterns.now
+        IsOneRound positions patterns.now
         (map (λ l. l.items) standing.now) holders.new kept.now stay.items) }
 {
     let mut stay = Vec::new(alloc);
@@ -172,10 +175,10 @@ pub(crate) fn all_rounds<W: Rounds>(
     watch: &W,
 ) -> Result<Finished, AllocError>
     requires { (positions : List WordPosition)
-        × RoundsStart positions patterns.now (map (λ l. l.items) standing.now) holders.old }
+        × HasAllEntries positions patterns.now (map (λ l. l.items) standing.now) holders.old }
     ensures { (positions : List WordPosition)
-        → RoundsStart positions patterns.now (map (λ l. l.items) standing.now) holders.old
-        → IfOk result (RoundsDone positions patterns.now
+        → HasAllEntries positions patterns.now (map (λ l. l.items) standing.now) holders.old
+        → IfOk result (IsFinished positions patterns.now
         (map (λ l. l.items) standing.now) holders.new) }
 {
     let mut kept = numbers(alloc, patterns.len())?;
@@ -201,9 +204,9 @@ pub(crate) fn needs(
     kept: &[usize],
 ) -> Result<Vec<Need>, AllocError>
     requires { (all : List WordPosition) × (positions.now ≡ map need_at all)
-        × RoundStart all patterns.now (map (λ l. l.items) standing.now) holders.now kept.now }
+        × IsKeptSoFar all patterns.now (map (λ l. l.items) standing.now) holders.now kept.now }
     ensures { (all : List WordPosition) → (positions.now ≡ map need_at all)
-        → RoundStart all patterns.now (map (λ l. l.items) standing.now) holders.now kept.now
+        → IsKeptSoFar all patterns.now (map (λ l. l.items) standing.now) holders.now kept.now
         → IfOk result (λ needs. needs.items ≡ needs_of all (picked_entries patterns.now kept.now)) }
 {
     let mut needs = Vec::new(alloc);

@@ -4,14 +4,14 @@ use Rattle.pg_dict.specs.Word.{Word}
 use Rattle.pg_patterns.specs.Inside.PatternMaps.{SignsUpTo}
 use Rattle.pg_select.specs.CountedPositions.{Minima}
 use Rattle.pg_select.specs.Windows.{Patterns}
-use Rattle.pg_prune.specs.Prunes.{Found, pruned as pruned_of}
+use Rattle.pg_prune.specs.Prunes.{Pruning, pruning_of}
 use Rattle.pg_prune.specs.Promises.{BreakAlike, NoneCanGo}
 use Rattle.pg_prune.specs.Inside.Needs.{HasNeeds}
 
 -- what is found where P, whose signs are at most n, is pruned for these words
 pub record IsPruning (m : Minima) (n : ℕ) (words : List Word) (P : Patterns)
-    (found : Found) : Type 0 where
-  pub pruned : found ≡ pruned_of m words P
+    (found : Pruning) : Type 0 where
+  pub pruned : found ≡ pruning_of m words P
   pub alike : BreakAlike m words P found.patterns
   pub least : NoneCanGo m words P found.patterns
   pub needs : HasNeeds found

@@ -14,9 +14,9 @@ use Rattle.pg_top.specs.Readings.{table_named, translate_file, patterns_file, wo
 use Rattle.pg_top.specs.prune.Inside.Inputs.{HasPrune, line_of_pruned, pruned_by}
 use Rattle.pg_words.specs.Requests.{PruneRequest}
 use Rattle.pg_top.specs.Inside.Built.{Keeps}
-use Rattle.pg_prune.specs.Prunes.{pruned}
+use Rattle.pg_prune.specs.Prunes.{pruning_of}
 use Rattle.pg_prune.specs.Reports.{prune_report}
-use Rattle.pg_prune.proofs.PrunedLaws.{pruned_part, pruned_alike, pruned_least}
+use Rattle.pg_prune.proofs.pruning.PrunedLaws.{pruned_part, pruned_alike, pruned_least}
 use Rattle.pg_select.specs.CountedPositions.{minima_of}
 use Rattle.pg_top.specs.Inside.Lists.{lists_under, HasLists}
 use Rattle.pg_top.specs.Inside.Stops.{StopsAt, StopsReading}
@@ -73,7 +73,7 @@ prune_outcome p i files h =
     ∙ (λ k. pruned_by p.output p.report (is_t k) (is_ws k) (is_P k))
 
 -- what it promises
-pub prune_keeps : (p : PruneRequest) (i : PruneInputs) (files : FileMap) → ReadsBack i.table (pruned (minima_of i.table) i.dictionary i.patterns).patterns
+pub prune_keeps : (p : PruneRequest) (i : PruneInputs) (files : FileMap) → ReadsBack i.table (pruning_of (minima_of i.table) i.dictionary i.patterns).patterns
     → HasPrune (file_at files) p.translate p.patterns p.dict i → Keeps (prune_rule p) (file_at files)
 prune_keeps p i files back h =
     let m = minima_of (table_named p.translate (file_at files)) in
@@ -82,16 +82,16 @@ prune_keeps p i files back h =
     let is_t : table_named p.translate (file_at files) ≡ i.table = is_table p.translate i.table files h.table in
     let is_P : P ≡ i.patterns = means_under p.translate i.table start [] p.patterns i.patterns files h.table h.patterns in
     let is_ws : ws ≡ i.dictionary = means_under p.translate i.table words [] p.dict i.dictionary files h.table h.words in
-    let with_P : ReadsBack i.table (pruned (minima_of i.table) i.dictionary P).patterns =
-    subst (λ (Q : Patterns). ReadsBack i.table (pruned (minima_of i.table) i.dictionary Q).patterns) (sym is_P) back in
-    let with_ws : ReadsBack i.table (pruned (minima_of i.table) ws P).patterns = subst (λ (vs : List Word). ReadsBack i.table (pruned (minima_of i.table) vs P).patterns) (sym is_ws) with_P in
+    let with_P : ReadsBack i.table (pruning_of (minima_of i.table) i.dictionary P).patterns =
+    subst (λ (Q : Patterns). ReadsBack i.table (pruning_of (minima_of i.table) i.dictionary Q).patterns) (sym is_P) back in
+    let with_ws : ReadsBack i.table (pruning_of (minima_of i.table) ws P).patterns = subst (λ (vs : List Word). ReadsBack i.table (pruning_of (minima_of i.table) vs P).patterns) (sym is_ws) with_P in
     record {
-      kept = (pruned m ws P).patterns;
-      told = prune_report (table_named p.translate (file_at files)) (pruned m ws P);
-      lines = line_of_pruned (pruned m ws P);
+      kept = (pruning_of m ws P).patterns;
+      told = prune_report (table_named p.translate (file_at files)) (pruning_of m ws P);
+      lines = line_of_pruned (pruning_of m ws P);
       comes = ap (λ end. unwrap_or end ((prune_rule p).comes (file_at files))) (accepted_all (file_at files) (prune_rule p).reads (prune_accepted p i files h));
       part = pruned_part m ws P;
-      reads_back = subst (λ (t : Alphabet). ReadsBack t (pruned (minima_of t) ws P).patterns) (sym is_t) with_ws;
+      reads_back = subst (λ (t : Alphabet). ReadsBack t (pruning_of (minima_of t) ws P).patterns) (sym is_t) with_ws;
       alike = pruned_alike m ws P;
       least = pruned_least m ws P;
     }

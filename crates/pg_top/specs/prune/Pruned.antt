@@ -6,7 +6,7 @@ use Rattle.pg_dict.specs.Word.{Word}
 use Rattle.pg_patterns.specs.Starts.{start}
 use Rattle.pg_patterns.specs.Texts.{pattern_text}
 use Rattle.pg_prune.specs.Promises.{BreakAlike, NoneCanGo}
-use Rattle.pg_prune.specs.Prunes.{Found, pruned}
+use Rattle.pg_prune.specs.Prunes.{Pruning, pruning_of}
 use Rattle.pg_prune.specs.Reports.{prune_report}
 use Rattle.pg_top.specs.Outcomes.{Outcome, Ends}
 use Rattle.pg_select.specs.CountedPositions.{minima_of}
@@ -22,7 +22,7 @@ pruned_line rounds removed kept = codes "done: " ++ decimal rounds ++ codes " ro
     ++ decimal removed ++ codes " removed, " ++ decimal kept ++ codes " kept\n"
 
 -- what `prune` writes, its patterns and its report, and prints where pruning finds this
-abbrev pub outcome_of_prune : List ℕ → List ℕ → Alphabet → Found → Outcome
+abbrev pub outcome_of_prune : List ℕ → List ℕ → Alphabet → Pruning → Outcome
 outcome_of_prune output report t found = Ends Done
     ((output, pattern_text t found.patterns) ∷ (report, prune_report t found) ∷ [])
     (pruned_line found.rounds found.removed (length found.patterns))
@@ -50,7 +50,7 @@ prune_rule n = record usual_rule {
       ∷ words_file n.translate n.dict ∷ [];
   writes = n.output ∷ n.report ∷ [];
   comes = λ files. let t = table_named n.translate files in outcome_of_prune n.output n.report t
-      (pruned (minima_of t) (words_under files n.translate n.dict)
+      (pruning_of (minima_of t) (words_under files n.translate n.dict)
       (patterns_under files n.translate n.patterns));
   keeps = λ files. PruneKeeps n (table_named n.translate files)
       (words_under files n.translate n.dict) (patterns_under files n.translate n.patterns);

@@ -4,7 +4,7 @@ ghost use Rattle.pg_patterns.specs.Texts.{pattern_text};
 ghost use Rattle.pg_patterns.specs.Inside.PatternMaps.{SignsUpTo};
 ghost use Rattle.pg_prune.specs.Reports.{prune_report};
 ghost use Rattle.pg_translate.specs.Alphabets.{letters_of};
-ghost use Rattle.pg_prune.specs.Prunes.{pruned as pruned_found};
+ghost use Rattle.pg_prune.specs.Prunes.{pruning_of};
 ghost use Rattle.pg_select.specs.CountedPositions.{minima_of};
 ghost use Rattle.pg_top.specs.prune.Pruned.{ReadsBack};
 ghost use Rattle.pg_top.specs.Outcomes.{Ends};
@@ -132,7 +132,7 @@ pub fn make_prune<'a, W: Watch>(
         written_names (writing_of made.files.items)
         ≡ output.now ∷ report.now ∷ []) }
     ensures reads_back { IfOk result (λ _. ReadsBack inputs.now.table
-        (pruned_found (minima_of inputs.now.table)
+        (pruning_of (minima_of inputs.now.table)
         inputs.now.dictionary inputs.now.patterns).patterns) }
 {
     let pruned = prune_watched(

@@ -2,7 +2,7 @@ use Rattle.std.proofs.Common.{◌≡◌, ◌∙◌, ◌∷◌, ◌++◌, ◌+◌
 use Rattle.std.specs.List.{range_with_len}
 use Rattle.std.proofs.lemmas.List.{append-nil, append_assoc}
 use Rattle.pg_select.proofs.Reaches.{range_step}
-use Rattle.pg_prune.proofs.PositionSteps.{at_word, needs_in}
+use Rattle.pg_prune.proofs.positions.PositionSteps.{at_word, needs_in}
 use Rattle.pg_prune.proofs.positions.add_word.Goals as goal
 
 pub positions-preserved : goal.positions-preserved

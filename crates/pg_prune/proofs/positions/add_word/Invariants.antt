@@ -1,6 +1,6 @@
 use Rattle.std.proofs.Common.{◌≡◌, ◌++◌, ◌-◌, map}
 use Rattle.std.specs.List.{range_with_len}
-use Rattle.pg_prune.proofs.PositionSteps.{at_word}
+use Rattle.pg_prune.proofs.positions.PositionSteps.{at_word}
 use Rattle.pg_prune.proofs.positions.add_word.Given as goal
 
 abbrev pub invariant-positions : goal.invariant-positions

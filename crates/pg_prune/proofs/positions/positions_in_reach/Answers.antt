@@ -2,10 +2,10 @@ use Rattle.std.proofs.Common.{◌∙◌, ◌++◌, map, ap}
 use Rattle.pg_select.specs.CountedPositions.{minima_of}
 use Rattle.pg_dict.specs.Inside.Lent.{lent_word}
 use Rattle.std.proofs.Common.{arith, ◌<◌, length}
-use Rattle.pg_prune.specs.Inside.WordPositions.{positions_from}
+use Rattle.pg_prune.specs.Inside.positions.WordPositions.{positions_from}
 use Rattle.pg_prune.specs.Prunes.{need_at}
-use Rattle.pg_prune.proofs.PositionSteps.{word_more}
-use Rattle.pg_prune.proofs.PositionForms.{positions_as}
+use Rattle.pg_prune.proofs.positions.PositionSteps.{word_more}
+use Rattle.pg_prune.proofs.positions.PositionForms.{positions_as}
 use Rattle.pg_prune.proofs.positions.positions_in_reach.Goals as goal
 
 pub words-init : goal.words-init

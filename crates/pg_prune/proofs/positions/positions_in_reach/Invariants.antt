@@ -1,7 +1,7 @@
 use Rattle.std.proofs.Common.{◌≡◌, ◌++◌, ◌+◌, map, drop}
 use Rattle.pg_select.specs.CountedPositions.{minima_of}
 use Rattle.pg_prune.specs.Positions.{positions_in_reach}
-use Rattle.pg_prune.specs.Inside.WordPositions.{positions_from}
+use Rattle.pg_prune.specs.Inside.positions.WordPositions.{positions_from}
 use Rattle.pg_prune.specs.Prunes.{need_at}
 use Rattle.pg_prune.proofs.positions.positions_in_reach.Given as goal
 

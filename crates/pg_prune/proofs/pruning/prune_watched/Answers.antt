@@ -3,9 +3,9 @@ use Rattle.std.proofs.lemmas.Result.{IfOk-weaker}
 use Rattle.std.specs.List.{All}
 use Rattle.pg_translate.specs.Alphabets.{letters_of}
 use Rattle.pg_select.specs.CountedPositions.{minima_of}
-use Rattle.pg_prune.specs.Prunes.{Found}
+use Rattle.pg_prune.specs.Prunes.{Pruning}
 use Rattle.pg_prune.specs.Inside.Prunings.{IsPruning}
-use Rattle.pg_prune.proofs.PrunedLaws.{pruned_all, pruned_part, pruned_alike, pruned_least, pruned_needs}
+use Rattle.pg_prune.proofs.pruning.PrunedLaws.{pruned_all, pruned_part, pruned_alike, pruned_least, pruned_needs}
 use Rattle.pg_prune.proofs.pruning.prune_watched.Goals as goal
 
 pub returns : goal.returns
@@ -14,7 +14,7 @@ returns g c =
     let ws = c.args.dictionary.now in
     let P = c.args.patterns.now in
     let n = letters_of c.args.table.now + 1 in
-    IfOk-weaker c.find.result _ _ (λ (found : Found) is. subst (IsPruning m n ws P) (sym is) (record {
+    IfOk-weaker c.find.result _ _ (λ (found : Pruning) is. subst (IsPruning m n ws P) (sym is) (record {
       pruned = refl;
       alike = pruned_alike m ws P;
       least = pruned_least m ws P;

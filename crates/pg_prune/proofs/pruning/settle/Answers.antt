@@ -2,11 +2,11 @@ use Rattle.std.proofs.Common.{◌≡◌, ◌≤◌, ◌-◌, ◌∙◌, map, len
 use Rattle.pg_patterns.specs.Inside.PatternMaps.{IsPatternMap}
 use Rattle.pg_select.specs.Windows.{Patterns}
 use Rattle.pg_prune.specs.Positions.{positions_in_reach}
-use Rattle.pg_prune.specs.Prunes.{pruned, needs, rounds, Found}
+use Rattle.pg_prune.specs.Prunes.{pruning_of, needs, rounds, Pruning}
 use Rattle.pg_prune.specs.Inside.Needs.{HasNeeds}
-use Rattle.pg_prune.specs.Inside.Picks.{picked_entries}
-use Rattle.pg_prune.proofs.PrunedLaws.{pruned_map, pruned_needs, pruned_few}
-use Rattle.pg_prune.proofs.Finish.{finish, to_rounds, rounds_patterns, with_kept, picked_few}
+use Rattle.pg_prune.specs.Inside.rounds.Picks.{picked_entries}
+use Rattle.pg_prune.proofs.pruning.PrunedLaws.{pruned_map, pruned_needs, pruned_few}
+use Rattle.pg_prune.proofs.pruning.Finish.{finish, to_rounds, rounds_patterns, with_kept, picked_few}
 use Rattle.pg_prune.proofs.pruning.settle.Goals as goal
 
 pub all_rounds-requires : goal.all_rounds-requires
@@ -20,9 +20,9 @@ overflow_sub-removed g c =
     let xs = positions_in_reach m ws in
     let done = c.in_ok-finished.ensures xs c.requires.1.1.1 in
     let K = c.as_slice-kept.result.now in
-    let left : picked_entries P K ≡ (pruned m ws P).patterns = ap (picked_entries P) c.as_slice-kept.ensures.value
+    let left : picked_entries P K ≡ (pruning_of m ws P).patterns = ap (picked_entries P) c.as_slice-kept.ensures.value
     ∙ rounds_patterns m ws P c.in_ok-finished.finished.kept.items c.in_ok-finished.finished.count done.done in
-    let few : length K ≤ length P = picked_few P K (pruned m ws P).patterns (pruned_few m ws P) left in
+    let few : length K ≤ length P = picked_few P K (pruning_of m ws P).patterns (pruned_few m ws P) left in
     omega (arith, c.len-count.ensures.value)
 
 pub kept_patterns-requires-clause-map : goal.kept_patterns-requires-clause-map
@@ -33,7 +33,7 @@ kept_patterns-requires-clause-map g c =
     let xs = positions_in_reach m ws in
     let done = c.in_ok-finished.ensures xs c.requires.1.1.1 in
     let K = c.as_slice-kept.result.now in
-    let left : picked_entries P K ≡ (pruned m ws P).patterns = ap (picked_entries P) c.as_slice-kept.ensures.value
+    let left : picked_entries P K ≡ (pruning_of m ws P).patterns = ap (picked_entries P) c.as_slice-kept.ensures.value
     ∙ rounds_patterns m ws P c.in_ok-finished.finished.kept.items c.in_ok-finished.finished.count done.done in
     subst (λ (Q : Patterns). IsPatternMap Q) (sym left) (pruned_map m ws P c.len-count.ensures.kept)
 
@@ -52,7 +52,7 @@ new-requires g c =
     ∙ ap (λ ks. to_rounds (picked_entries P ks) c.in_ok-finished.finished.count) (sym c.as_slice-kept.ensures.value) in
     let is = finish m ws P K c.in_ok-needs.needs.items c.in_ok-finished.finished.count rounded own c.in_ok-patterns.patterns
     (c.len-count.result - length K) c.in_ok-patterns.ensures (ap (λ n. n - length K) c.len-count.ensures.value) in
-    subst (λ (f : Found). HasNeeds f) (sym is) (pruned_needs m ws P)
+    subst (λ (f : Pruning). HasNeeds f) (sym is) (pruned_needs m ws P)
 
 pub returns : goal.returns
 returns g c m ws lie start =

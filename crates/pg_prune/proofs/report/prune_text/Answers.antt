@@ -1,7 +1,7 @@
 use Rattle.std.proofs.Common.{◌≤◌, ◌∙◌, ◌++◌, length, ap, arith}
 use Rattle.pg_prune.specs.Reports.{last_line, prune_report}
 use Rattle.pg_prune.specs.Inside.Findings.{keep_lines}
-use Rattle.pg_prune.proofs.ReportSteps.{lines_end, lines_beside}
+use Rattle.pg_prune.proofs.report.ReportSteps.{lines_end, lines_beside}
 use Rattle.pg_prune.proofs.report.prune_text.Goals as goal
 
 pub returns : goal.returns

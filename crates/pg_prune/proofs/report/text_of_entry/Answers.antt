@@ -6,8 +6,8 @@ use Rattle.pg_patterns.specs.Inside.PatternMaps.{SignsUpTo, is_entry}
 use Rattle.pg_select.specs.Windows.{Patterns}
 use Rattle.std.proofs.lemmas.Option.{get_or_from_slice_get}
 use Rattle.pg_patterns.specs.Texts.{pattern_text}
-use Rattle.pg_prune.specs.Inside.Picks.{entry_of}
-use Rattle.pg_prune.proofs.ReportSteps.{alone_sound, alone_known, map_alone}
+use Rattle.pg_prune.specs.Inside.rounds.Picks.{entry_of}
+use Rattle.pg_prune.proofs.report.ReportSteps.{alone_sound, alone_known, map_alone}
 use Rattle.pg_prune.proofs.report.text_of_entry.Goals as goal
 
 pub entry-entry-requires : goal.entry-entry-requires

@@ -1,8 +1,8 @@
 use Rattle.std.proofs.Common.{◌<◌, ◌-◌, ◌^◌, ◌∙◌, length, get_or, ap, sym, subst, arith}
-use Rattle.pg_prune.specs.Inside.Holders.{with_one}
-use Rattle.pg_prune.specs.Inside.Turns.{without_entry}
-use Rattle.pg_prune.proofs.TurnLaws.{there_more, held_low, value_low, value_high}
-use Rattle.pg_prune.proofs.TurnSteps.{on_begins, on_steps, on_ends}
+use Rattle.pg_prune.specs.Inside.rounds.Holders.{with_one}
+use Rattle.pg_prune.specs.Inside.rounds.Turns.{without_entry}
+use Rattle.pg_prune.proofs.rounds.TurnLaws.{there_more, held_low, value_low, value_high}
+use Rattle.pg_prune.proofs.rounds.TurnSteps.{on_begins, on_steps, on_ends}
 use Rattle.pg_prune.proofs.rounds.add.Goals as goal
 
 pub bounds-holders-position : goal.bounds-holders-position

@@ -1,8 +1,8 @@
 use Rattle.std.proofs.Common.{drop}
-use Rattle.pg_prune.specs.Inside.Standing.{stands}
-use Rattle.pg_prune.specs.Inside.Holders.{holder_counts}
-use Rattle.pg_prune.specs.Inside.Turns.{Turn, with_entry, without_entry, IsAwaited}
-use Rattle.pg_prune.proofs.Walks.{Walked}
+use Rattle.pg_prune.specs.Inside.positions.Standing.{stands}
+use Rattle.pg_prune.specs.Inside.rounds.Holders.{holder_counts}
+use Rattle.pg_prune.specs.Inside.rounds.Turns.{Turn, with_entry, without_entry, IsAwaited}
+use Rattle.pg_prune.proofs.rounds.Walks.{Walked}
 use Rattle.pg_prune.proofs.rounds.add.Given as goal
 
 abbrev pub invariant-positions : goal.invariant-positions

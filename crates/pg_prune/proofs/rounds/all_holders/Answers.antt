@@ -1,13 +1,13 @@
 use Rattle.std.proofs.lemmas.Result.{IfOk-from_err}
-use Rattle.pg_prune.specs.Inside.Standing.{positions_of_entry}
+use Rattle.pg_prune.specs.Inside.positions.Standing.{positions_of_entry}
 use Rattle.std.proofs.lemmas.List.{length-map, take_all}
 use Rattle.std.proofs.Common.{◌≡◌, ◌<◌, ◌-◌, ◌^◌, ◌∙◌, ◌∷◌, ◌++◌, [], map, take, drop, length, ap, sym, subst, arith, ◌≤◌}
 use Rattle.std.proofs.Math.Seq.{take-append_seam}
 use Rattle.std.specs.Prelude.{replicate}
 use Rattle.pg_select.specs.Windows.{Patterns}
-use Rattle.pg_prune.specs.Inside.Holders.{holder_counts}
-use Rattle.pg_prune.specs.Inside.Turns.{IsTallied}
-use Rattle.pg_prune.proofs.HolderSteps.{none_tallied, turn_after, turn_awaited, with_next}
+use Rattle.pg_prune.specs.Inside.rounds.Holders.{holder_counts}
+use Rattle.pg_prune.specs.Inside.rounds.Turns.{IsTallied}
+use Rattle.pg_prune.proofs.rounds.HolderSteps.{none_tallied, turn_after, turn_awaited, with_next}
 use Rattle.pg_prune.proofs.rounds.all_holders.Goals as goal
 
 pub entries-init : goal.entries-init

@@ -1,7 +1,7 @@
 use Rattle.std.proofs.Common.{List, map, take}
 use Rattle.pg_prune.specs.Positions.{WordPosition}
-use Rattle.pg_prune.specs.Inside.Picks.{IsGround}
-use Rattle.pg_prune.specs.Inside.Turns.{IsTallied}
+use Rattle.pg_prune.specs.Inside.rounds.Picks.{IsGround}
+use Rattle.pg_prune.specs.Inside.rounds.Turns.{IsTallied}
 use Rattle.pg_prune.proofs.rounds.all_holders.Given as goal
 
 abbrev pub invariant-entries : goal.invariant-entries

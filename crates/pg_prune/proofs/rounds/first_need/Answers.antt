@@ -1,10 +1,10 @@
 use Rattle.std.proofs.Common.{◌≡◌, ◌<◌, ◌-◌, ◌∙◌, true, false, length, get_or, Some, ap, sym, subst, arith}
 use Rattle.std.proofs.lemmas.List.{length-map}
-use Rattle.pg_prune.specs.Inside.Holders.{holder_counts, stays_alike}
+use Rattle.pg_prune.specs.Inside.rounds.Holders.{holder_counts, stays_alike}
 use Rattle.pg_prune.specs.Prunes.{break_alike_at}
-use Rattle.pg_prune.specs.Inside.Turns.{with_entry, without_entry}
-use Rattle.pg_prune.proofs.TurnLaws.{there_alike, there_some, value_low, value_high}
-use Rattle.pg_prune.proofs.TurnSteps.{looks_begin, looks_step, looks_end, held_at}
+use Rattle.pg_prune.specs.Inside.rounds.Turns.{with_entry, without_entry}
+use Rattle.pg_prune.proofs.rounds.TurnLaws.{there_alike, there_some, value_low, value_high}
+use Rattle.pg_prune.proofs.rounds.TurnSteps.{looks_begin, looks_step, looks_end, held_at}
 use Rattle.pg_prune.proofs.rounds.first_need.Goals as goal
 
 pub bounds-holders-position : goal.bounds-holders-position

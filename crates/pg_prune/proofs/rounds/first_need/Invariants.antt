@@ -1,8 +1,8 @@
 use Rattle.std.proofs.Common.{drop}
 use Rattle.pg_prune.specs.Prunes.{break_alike_at}
-use Rattle.pg_prune.specs.Inside.Standing.{stands}
-use Rattle.pg_prune.specs.Inside.Turns.{Turn, with_entry, without_entry, IsHeld}
-use Rattle.pg_prune.proofs.TurnLaws.{Looked}
+use Rattle.pg_prune.specs.Inside.positions.Standing.{stands}
+use Rattle.pg_prune.specs.Inside.rounds.Turns.{Turn, with_entry, without_entry, IsHeld}
+use Rattle.pg_prune.proofs.rounds.TurnLaws.{Looked}
 use Rattle.pg_prune.proofs.rounds.first_need.Given as goal
 
 abbrev pub invariant-positions : goal.invariant-positions

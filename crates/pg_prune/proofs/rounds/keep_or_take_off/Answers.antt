@@ -1,6 +1,6 @@
 use Rattle.std.proofs.Common.{◌∙◌}
-use Rattle.pg_prune.specs.Inside.Turns.{with_entry, without_entry}
-use Rattle.pg_prune.proofs.Found.{some_need}
+use Rattle.pg_prune.specs.Inside.rounds.Turns.{with_entry, without_entry}
+use Rattle.pg_prune.proofs.rounds.NeedSearch.{some_need}
 use Rattle.pg_prune.proofs.rounds.keep_or_take_off.Goals as goal
 
 pub returns-then-not-is_needed-clause-answer : goal.returns-then-not-is_needed-clause-answer

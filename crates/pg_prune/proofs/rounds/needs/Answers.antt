@@ -3,10 +3,10 @@ use Rattle.std.proofs.Common.{◌≡◌, ◌<◌, ◌+◌, ◌∙◌, ◌∷◌,
 use Rattle.std.proofs.lemmas.List.{length-map, append-nil}
 use Rattle.pg_prune.specs.Prunes.{need_at}
 use Rattle.pg_prune.specs.Inside.Findings.{need_list, first_difference}
-use Rattle.pg_prune.specs.Inside.Standing.{positions_of_entry}
-use Rattle.pg_prune.specs.Inside.Turns.{with_entry, without_entry}
-use Rattle.pg_prune.proofs.NeedSteps.{NeedsSoFar, needs_begin, needs_step, needs_end, need_turn, need_found}
-use Rattle.pg_prune.proofs.RoundSteps.{turn_of}
+use Rattle.pg_prune.specs.Inside.positions.Standing.{positions_of_entry}
+use Rattle.pg_prune.specs.Inside.rounds.Turns.{with_entry, without_entry}
+use Rattle.pg_prune.proofs.rounds.NeedSteps.{NeedsSoFar, needs_begin, needs_step, needs_end, need_turn, need_found}
+use Rattle.pg_prune.proofs.rounds.RoundSteps.{turn_of}
 use Rattle.pg_prune.proofs.rounds.needs.Goals as goal
 use Rattle.pg_prune.proofs.rounds.needs.Goals.{in-Some+in_ok-push, in_default}
 

@@ -1,6 +1,6 @@
 use Rattle.std.proofs.Common.{◌∙◌, ◌∷◌, ◌++◌, [], ap, sym}
 use Rattle.std.specs.Prelude.{replicate}
-use Rattle.pg_prune.proofs.HolderSteps.{replicate_more}
+use Rattle.pg_prune.proofs.rounds.HolderSteps.{replicate_more}
 use Rattle.pg_prune.proofs.rounds.no_holders.Goals as goal
 
 pub positions-preserved : goal.positions-preserved

@@ -1,5 +1,5 @@
 use Rattle.std.proofs.Common.{◌∙◌, ◌∷◌, ◌++◌, [], ap, sym}
-use Rattle.pg_prune.proofs.Picking.{range_more}
+use Rattle.pg_prune.proofs.rounds.Picking.{range_more}
 use Rattle.pg_prune.proofs.rounds.numbers.Goals as goal
 
 pub numbers-preserved : goal.numbers-preserved

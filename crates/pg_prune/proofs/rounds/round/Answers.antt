@@ -1,10 +1,10 @@
 use Rattle.std.proofs.lemmas.Result.{IfOk-from_err}
-use Rattle.pg_prune.specs.Inside.Standing.{positions_of_entry}
+use Rattle.pg_prune.specs.Inside.positions.Standing.{positions_of_entry}
 use Rattle.std.proofs.lemmas.List.{length-map}
 use Rattle.std.proofs.Common.{◌∙◌, ◌+◌, if◌then◌else◌, map, get_or, drop, sym, subst, ap, ◌≡◌, ◌<◌, length, arith}
-use Rattle.pg_prune.specs.Inside.Turns.{with_entry, without_entry, IsTallied}
-use Rattle.pg_prune.proofs.RoundSteps.{Rounding, rounding_begins, rounding_at, turn_at, turn_of, rounding_goes, rounding_stays, rounding_ends}
-use Rattle.pg_prune.proofs.TurnSteps.{none_left}
+use Rattle.pg_prune.specs.Inside.rounds.Turns.{with_entry, without_entry, IsTallied}
+use Rattle.pg_prune.proofs.rounds.RoundSteps.{Rounding, rounding_begins, rounding_at, turn_at, turn_of, rounding_goes, rounding_stays, rounding_ends}
+use Rattle.pg_prune.proofs.rounds.TurnSteps.{none_left}
 use Rattle.pg_prune.proofs.rounds.round.Goals as goal
 use Rattle.pg_prune.proofs.rounds.round.Goals.{then-keep_or_take_off+in_ok-push, else-keep_or_take_off}
 

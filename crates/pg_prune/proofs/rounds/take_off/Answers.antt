@@ -1,7 +1,7 @@
 use Rattle.std.proofs.Common.{◌<◌, ◌-◌, ◌∙◌, length, get_or, ap, sym, subst, arith}
-use Rattle.pg_prune.specs.Inside.Holders.{less_one}
-use Rattle.pg_prune.proofs.TurnLaws.{there_less, there_some}
-use Rattle.pg_prune.proofs.TurnSteps.{off_begins, off_steps, off_ends}
+use Rattle.pg_prune.specs.Inside.rounds.Holders.{less_one}
+use Rattle.pg_prune.proofs.rounds.TurnLaws.{there_less, there_some}
+use Rattle.pg_prune.proofs.rounds.TurnSteps.{off_begins, off_steps, off_ends}
 use Rattle.pg_prune.proofs.rounds.take_off.Goals as goal
 
 pub bounds-holders-position : goal.bounds-holders-position

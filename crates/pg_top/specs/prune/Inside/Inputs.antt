@@ -9,7 +9,7 @@ use Rattle.pg_patterns.specs.Texts.{pattern_text}
 use Rattle.pg_patterns.specs.Inside.PatternMaps.{SignsUpTo}
 use Rattle.pg_select.specs.CountedPositions.{minima_of}
 use Rattle.pg_select.specs.Windows.{Patterns}
-use Rattle.pg_prune.specs.Prunes.{Found, pruned}
+use Rattle.pg_prune.specs.Prunes.{Pruning, pruning_of}
 use Rattle.pg_prune.specs.Reports.{prune_report}
 use Rattle.pg_top.specs.Outcomes.{Outcome, Writing}
 use Rattle.pg_top.specs.prune.Pruned.{outcome_of_prune, pruned_line}
@@ -35,14 +35,14 @@ abbrev pub HasKnownSigns : PruneInputs → Type 0
 HasKnownSigns i = SignsUpTo (letters_of i.table + 1) i.patterns
 
 -- the files that are written: the text of the patterns that stay, and then the report
-abbrev pub pruned_files : List ℕ → List ℕ → Alphabet → Found → Writing
+abbrev pub pruned_files : List ℕ → List ℕ → Alphabet → Pruning → Writing
 pruned_files output report t found =
     (output, pattern_text t found.patterns) ∷ (report, prune_report t found) ∷ []
 
 -- the line that `prune` prints where pruning finds this
-abbrev pub line_of_pruned : Found → List ℕ
+abbrev pub line_of_pruned : Pruning → List ℕ
 line_of_pruned found = pruned_line found.rounds found.removed (length found.patterns)
 
 -- what pruning these patterns by these words comes to
 abbrev pub pruned_by : List ℕ → List ℕ → Alphabet → List Word → Patterns → Outcome
-pruned_by output report t ws P = outcome_of_prune output report t (pruned (minima_of t) ws P)
+pruned_by output report t ws P = outcome_of_prune output report t (pruning_of (minima_of t) ws P)

@@ -1,0 +1,4 @@
+pub mod Finish
+pub mod PrunedLaws
+pub mod Told
+pub mod NeedLaws

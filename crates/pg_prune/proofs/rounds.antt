@@ -1,0 +1,11 @@
+pub mod Picking
+pub mod RoundLaws
+pub mod RoundSteps
+pub mod AllRounds
+pub mod Tallies
+pub mod TurnLaws
+pub mod TurnSteps
+pub mod Walks
+pub mod HolderSteps
+pub mod NeedSearch
+pub mod NeedSteps
