@@ -1,62 +1,43 @@
 //! Status 1: a line of an audited file is not the one that the inputs give.
 
 use crate::wrong::FalseLine;
-use pg_visible::Part::{Count, Say, Show};
+use pg_visible::Part::{Count, Name, Show};
 use pg_visible::Text;
 use std::alloc::AllocError;
 
-/// A line without its LF.
-fn without_feed(line: &[u8]) -> &[u8] {
+/// A line without its LF; nothing where there is no line.
+fn without_feed(line: Option<&[u8]>) -> &[u8] {
+    let line = line.unwrap_or(&[]);
     line.strip_suffix(b"\n").unwrap_or(line)
 }
 
-/// Appends two lines that differ.
-fn push_lines<'a>(
-    text: &mut Text,
-    name: &'a [u8],
-    line: usize,
-    found: &'a [u8],
-    wanted: &'a [u8],
-) -> Result<(), AllocError> {
-    let found = without_feed(found);
-    let wanted = without_feed(wanted);
-    if found == wanted {
-        return text.line(&[
-            Show(name),
-            Say(b":"),
-            Count(line),
-            Say(b": the line is right but for its end, which should be one LF"),
-        ]);
+/// What is said of a false line, in its first line of words. `is_same` says whether both lines are
+/// the same but for their ends.
+fn words_of(line: &FalseLine<'_>, is_same: bool) -> &'static str {
+    if line.wanted.is_none() {
+        "$0:$1: no line is due here: the file should end before it"
+    } else if line.found.is_none() {
+        "$0 ends before line $1, which is due and is"
+    } else if is_same {
+        "$0:$1: the line is right but for its end, which should be one LF"
+    } else {
+        "$0:$1: the inputs give another line; found and due are"
     }
-    text.line(&[
-        Show(name),
-        Say(b":"),
-        Count(line),
-        Say(b": the inputs give another line; found and due are"),
-    ])?;
-    text.line(&[Say(b"    "), Show(found)])?;
-    text.line(&[Say(b"    "), Show(wanted)])
 }
 
-/// Appends the line that should be there, or that none should.
+/// Appends that a line is false, and the lines that were found and that should be there, where
+/// these show it.
 pub(crate) fn push_false_line(text: &mut Text, line: &FalseLine<'_>) -> Result<(), AllocError> {
-    let name = line.name.as_bytes();
-    match (line.found, line.wanted) {
-        (Some(found), Some(wanted)) => push_lines(text, name, line.line, found, wanted),
-        (None, Some(wanted)) => {
-            text.line(&[
-                Show(name),
-                Say(b" ends before line "),
-                Count(line.line),
-                Say(b", which is due and is"),
-            ])?;
-            text.line(&[Say(b"    "), Show(without_feed(wanted))])
-        }
-        (_, None) => text.line(&[
-            Show(name),
-            Say(b":"),
-            Count(line.line),
-            Say(b": no line is due here: the file should end before it"),
-        ]),
+    let found = without_feed(line.found);
+    let wanted = without_feed(line.wanted);
+    let is_same = line.found.is_some() && found == wanted;
+    let words = words_of(line, is_same);
+    text.line(words, &[Name(line.name), Count(line.line)])?;
+    if is_same || line.wanted.is_none() {
+        return Ok(());
     }
+    if line.found.is_some() {
+        text.line("    $0", &[Show(found)])?;
+    }
+    text.line("    $0", &[Show(wanted)])
 }

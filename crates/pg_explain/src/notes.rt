@@ -1,16 +1,14 @@
 //! Status 0: what is said although nothing is wrong.
 
 use pg_types::next_line;
-use pg_visible::Part::{Count, Say, Show};
+use pg_visible::Part::{Count, Name};
 use pg_visible::{Spot, Text};
 use std::alloc::AllocError;
 
 /// Appends that a dictionary has no word.
 pub(crate) fn push_no_word(text: &mut Text, dict: &str) -> Result<(), AllocError> {
-    text.line(&[
-        Show(dict.as_bytes()),
-        Say(b" has no word: a word is a line with a letter before its first blank"),
-    ])
+    let words = "$0 has no word: a word is a line with a letter before its first blank";
+    text.line(words, &[Name(dict)])
 }
 
 /// Appends that no word of a dictionary takes part.
@@ -21,19 +19,18 @@ pub(crate) fn push_no_part(
     left: u8,
     right: u8,
 ) -> Result<(), AllocError> {
-    text.line(&[
-        Say(b"no word of "),
-        Show(dict.as_bytes()),
-        Say(b" takes part, of "),
-        Count(words),
-        Say(b": with the minima "),
-        Count(usize::from(left)),
-        Say(b" and "),
-        Count(usize::from(right)),
-        Say(b" a word needs at least "),
-        Count(usize::from(left) + usize::from(right)),
-        Say(b" letters"),
-    ])
+    let left = usize::from(left);
+    let right = usize::from(right);
+    text.line(
+        "no word of $0 takes part, of $1: with the minima $2 and $3 a word needs at least $4 letters",
+        &[
+            Name(dict),
+            Count(words),
+            Count(left),
+            Count(right),
+            Count(left + right),
+        ],
+    )
 }
 
 /// Appends that the first level is not above the starting values.
@@ -43,14 +40,12 @@ pub(crate) fn push_low_start(
     largest: u8,
     start: u8,
 ) -> Result<(), AllocError> {
-    text.line(&[
-        Show(patterns.as_bytes()),
-        Say(b" has the value "),
-        Count(usize::from(largest)),
-        Say(b", and the first level is "),
-        Count(usize::from(start)),
-        Say(b": give a first level above the greatest value"),
-    ])
+    let largest = Count(usize::from(largest));
+    let start = Count(usize::from(start));
+    text.line(
+        "$0 has the value $1, and the first level is $2: give a first level above the greatest value",
+        &[Name(patterns), largest, start],
+    )
 }
 
 /// How many bytes stand before what follows the first blank or TAB of a line; none where nothing
@@ -90,23 +85,13 @@ pub(crate) fn push_behind(text: &mut Text, patterns: &str, bytes: &[u8]) -> Resu
     let Some((spot, count)) = lines_behind(bytes) else {
         return Ok(());
     };
-    text.place(
-        patterns,
-        &spot,
-        &[Say(b"a line ends at its first blank, and what follows it here is not read")],
-    )?;
+    let words = "a line ends at its first blank, and what follows it here is not read";
+    text.place(patterns, &spot, words, &[])?;
     text.excerpt(&spot)?;
-    if count == 1 {
-        return text.line(&[
-            Say(b"no other line of "),
-            Show(patterns.as_bytes()),
-            Say(b" has more"),
-        ]);
-    }
-    text.line(&[
-        Count(count),
-        Say(b" lines of "),
-        Show(patterns.as_bytes()),
-        Say(b" have more behind their first blank"),
-    ])
+    let words = if count == 1 {
+        "no other line of $0 has more"
+    } else {
+        "$1 lines of $0 have more behind their first blank"
+    };
+    text.line(words, &[Name(patterns), Count(count)])
 }

@@ -11,16 +11,22 @@ mod word_lines;
 
 use crate::refused::causes::push_cause;
 use crate::refused::heads::{push_mark, push_minimum};
-use crate::refused::letter_lines::{push_clash, push_delimiter, push_many_letters, push_spelling};
+use crate::refused::letter_lines::{push_clash, push_delimiter, push_spelling};
 use crate::refused::more::push_more;
 use crate::refused::packed_tables::{push_bad_table, push_long_table, push_other_table};
 use crate::refused::parameters::{item_spot, push_item};
 use crate::refused::word_lines::{push_character, push_long, push_weight};
 use crate::wrong::Refused;
 use pg_types::Kind;
-use pg_visible::Part::{Say, Show};
+use pg_visible::Part::Name;
 use pg_visible::{Spot, Text};
 use std::alloc::AllocError;
+
+/// What is said of a file with too many bytes.
+const LONG_FILE: &str = "$0 has more than 67,108,864 bytes (2^26), the most that is read";
+
+/// What is said of the first letter that is one too many.
+const MANY_LETTERS: &str = "2,000 letters stand above this line, the most that a table has";
 
 /// The place of a refusal.
 fn spot_of<'a>(refused: &Refused<'a>) -> Spot<'a> {
@@ -37,12 +43,6 @@ fn spot_of<'a>(refused: &Refused<'a>) -> Spot<'a> {
     }
 }
 
-/// Appends that a file has too many bytes.
-fn push_long_file(text: &mut Text, name: &str) -> Result<(), AllocError> {
-    let words = b" has more than 67,108,864 bytes (2^26), the most that is read";
-    text.line(&[Show(name.as_bytes()), Say(words)])
-}
-
 /// Appends where and why a file is refused.
 fn push_reason<'a>(
     text: &mut Text,
@@ -53,12 +53,12 @@ fn push_reason<'a>(
         Kind::TranslateTooLong
         | Kind::ParametersTooLong
         | Kind::PatternsTooLong
-        | Kind::DictionaryTooLong => push_long_file(text, refused.name),
+        | Kind::DictionaryTooLong => text.line(LONG_FILE, &[Name(refused.name)]),
         Kind::BadMinima => push_minimum(text, refused.name, spot),
         Kind::BadMark => push_mark(text, refused.name, spot),
         Kind::BadSpelling => push_spelling(text, refused.name, spot),
         Kind::SpellingClash => push_clash(text, refused, spot),
-        Kind::TooManyLetters => push_many_letters(text, refused.name, spot),
+        Kind::TooManyLetters => text.place(refused.name, spot, MANY_LETTERS, &[]),
         Kind::BadNumber | Kind::OutOfRange | Kind::Missing | Kind::Extra => {
             push_item(text, refused, spot)
         }

@@ -6,60 +6,69 @@ mod one_name;
 mod rest;
 mod slots;
 
-use crate::words::fault::Fault;
-use crate::words::forms::{Command, command_of, commands};
+use crate::words::fault::{Fault, of_words};
+use crate::words::forms::{Behind, COMMANDS, Command, command_of};
 use crate::words::one_name::pair_fault;
 use crate::words::rest::rest_fault;
-use crate::words::slots::slots_fault;
-use pg_visible::Part::{Say, Show};
+use crate::words::slots::slot_fault;
+use pg_types::SETS_MAX;
+use pg_visible::Part::{Count, Name, Say};
 use pg_visible::Text;
 use std::alloc::AllocError;
 
+/// What is wrong with the word at a place behind a command, or with that one is missing there.
+fn word_fault<'a>(command: &Command, words: &'a [String], place: usize) -> Option<Fault<'a>> {
+    let has_options = matches!(command.behind, Behind::WrittenFiles | Behind::ReadFiles);
+    let has_sets = matches!(command.behind, Behind::Sets);
+    match (command.slots.get(place), words.get(place)) {
+        (Some(slot), Some(word)) => slot_fault(slot, word.as_str(), has_options),
+        (Some(slot), None) => Some(of_words("$0: $1 is missing", slot.name(), "", "")),
+        (None, Some(_)) => rest_fault(command, words, place),
+        (None, None) if has_sets && place == command.slots.len() => {
+            Some(of_words("$0: PARAMS is missing", "", "", ""))
+        }
+        (None, None) => None,
+    }
+}
+
 /// The first thing that is wrong with the words that follow a command.
 fn fault_of<'a>(command: &Command, words: &'a [String]) -> Option<Fault<'a>> {
-    let fault = slots_fault(command, words);
-    if fault.is_some() {
-        return fault;
-    }
-    let rest = words.get(command.slots.len()..).unwrap_or(&[]);
-    let fault = rest_fault(command, rest);
-    if fault.is_some() {
-        return fault;
+    for place in 0..words.len().saturating_add(1) {
+        let fault = word_fault(command, words, place);
+        if fault.is_some() {
+            return fault;
+        }
     }
     pair_fault(command, words)
 }
 
-/// Appends what is wrong with the words of a command.
-fn push_fault(text: &mut Text, command: &Command, fault: &Fault<'_>) -> Result<(), AllocError> {
-    text.line(&[
-        Say(command.word.as_bytes()),
-        Say(b": "),
-        fault.word,
-        Say(fault.is),
-        fault.other,
-        Say(fault.behind),
-        Show(fault.third.as_bytes()),
-        Say(fault.end),
-    ])
-}
-
 /// Appends the form of a command.
 fn push_form(text: &mut Text, command: &Command) -> Result<(), AllocError> {
-    text.line(&[Say(b"    patgen "), Say(command.words)])
+    text.line("    patgen $0", &[Say(command.words)])
 }
 
-/// Appends the forms of all commands.
-fn push_forms(text: &mut Text) -> Result<(), AllocError> {
-    for command in commands() {
+/// Appends that a word is no command, and the forms of all commands.
+fn push_no_command(text: &mut Text, words: &'static str, word: &str) -> Result<(), AllocError> {
+    text.line(words, &[Name(word)])?;
+    for command in COMMANDS {
         push_form(text, command)?;
     }
     Ok(())
 }
 
-/// Appends that a word is no command, and the forms of all commands.
-fn push_no_command(text: &mut Text, word: &str, is: &'static [u8]) -> Result<(), AllocError> {
-    text.line(&[Show(word.as_bytes()), Say(is)])?;
-    push_forms(text)
+/// Appends what is wrong with the words of a command.
+fn push_fault(text: &mut Text, command: &Command, fault: &Fault<'_>) -> Result<(), AllocError> {
+    text.line(
+        fault.words,
+        &[
+            Say(command.word),
+            Name(fault.first),
+            Name(fault.second),
+            Name(fault.third),
+            Count(fault.number),
+            Count(SETS_MAX),
+        ],
+    )
 }
 
 /// Appends which of the words that follow a command is wrong, and what is due there.
@@ -73,10 +82,10 @@ fn push_command(text: &mut Text, command: &Command, words: &[String]) -> Result<
 /// Appends which word is wrong, and what is due there.
 pub(crate) fn push_words(text: &mut Text, words: &[String]) -> Result<(), AllocError> {
     let Some((first, rest)) = words.split_first() else {
-        return push_no_command(text, "", b"a command is missing; the commands are");
+        return push_no_command(text, "a command is missing; the commands are", "");
     };
     match command_of(first.as_str()) {
         Some(command) => push_command(text, command, rest),
-        None => push_no_command(text, first.as_str(), b" is no command; the commands are"),
+        None => push_no_command(text, "$0 is no command; the commands are", first.as_str()),
     }
 }

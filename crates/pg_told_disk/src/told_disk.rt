@@ -221,7 +221,12 @@ impl ToldDisk {
     /// Whether the folder of this name may be changed.
     fn is_open(&self, name: &str) -> bool {
         let folder = folder_of(name);
-        self.closed.iter().all(|closed| closed.as_str() != folder)
+        for closed in &self.closed {
+            if closed.as_str() == folder {
+                return false;
+            }
+        }
+        true
     }
 
     /// Makes a change.

@@ -22,23 +22,23 @@ fn cut(line: &[u8], at: usize) -> (&[u8], &[u8])
 /// Appends what is shown of the line before a place.
 fn add_front(line: &mut Line, spot: &Spot<'_>) -> Result<(), AllocError> {
     let (before, _) = cut(spot.text, spot.offset());
-    let dots: &[u8] = if before.len() < spot.offset() {
-        b"..."
+    let dots = if before.len() < spot.offset() {
+        "..."
     } else {
-        b""
+        ""
     };
-    line.add_all(&[Part::Say(b"    "), Part::Say(dots), Part::Show(before)])
+    line.say("    $0$1", &[Part::Say(dots), Part::Show(before)])
 }
 
 /// Appends what is shown of the line from a place on.
 fn add_rest(line: &mut Line, spot: &Spot<'_>) -> Result<(), AllocError> {
     let (_, after) = cut(spot.text, spot.offset());
-    let dots: &[u8] = if after.len() < spot.rest().len() {
-        b"..."
+    let dots = if after.len() < spot.rest().len() {
+        "..."
     } else {
-        b""
+        ""
     };
-    line.add_all(&[Part::Show(after), Part::Say(dots)])
+    line.say("$0$1", &[Part::Show(after), Part::Say(dots)])
 }
 
 /// A caret in the column of a place, under the line as it is shown.

@@ -14,8 +14,10 @@ const SHOWN_MAX: usize = 200;
 #[derive(Clone, Copy)]
 pub enum Part<'a> {
     /// Words of the program.
-    Say(&'a [u8]),
-    /// Bytes of a name or a file, made visible, and cut where they are many.
+    Say(&'a str),
+    /// A name or a word of a call, made visible, and cut where it is long.
+    Name(&'a str),
+    /// Bytes of a file, made visible, and cut where they are many.
     Show(&'a [u8]),
     /// The numbers of bytes, as `C3 9F`.
     Hex(&'a [u8]),
@@ -171,12 +173,18 @@ impl Line {
         }
     }
 
+    /// Appends a text, and the numbers of the bytes of each character that cannot be seen.
+    fn push_text(&mut self, text: &str) -> Result<(), AllocError> {
+        for c in text.chars() {
+            self.push_char(c)?;
+        }
+        Ok(())
+    }
+
     /// Appends bytes: text as it is, and the numbers of all that is no text or cannot be seen.
     pub fn show(&mut self, bytes: &[u8]) -> Result<(), AllocError> {
         for chunk in bytes.utf8_chunks() {
-            for c in chunk.valid().chars() {
-                self.push_char(c)?;
-            }
+            self.push_text(chunk.valid())?;
             self.push_numbers(chunk.invalid())?;
         }
         Ok(())
@@ -207,9 +215,10 @@ impl Line {
     }
 
     /// Appends a piece.
-    pub fn add(&mut self, part: &Part<'_>) -> Result<(), AllocError> {
+    fn add(&mut self, part: &Part<'_>) -> Result<(), AllocError> {
         match part {
-            Part::Say(words) => self.show(words),
+            Part::Say(words) => self.push_text(words),
+            Part::Name(name) => self.show_front(name.as_bytes()),
             Part::Show(bytes) => self.show_front(bytes),
             Part::Hex(bytes) => self.push_hex(bytes),
             Part::Char(c) => self.push_char(*c),
@@ -218,10 +227,26 @@ impl Line {
         }
     }
 
-    /// Appends pieces, one behind the other.
-    pub fn add_all(&mut self, parts: &[Part<'_>]) -> Result<(), AllocError> {
-        for part in parts {
+    /// Appends the piece whose number the words begin with, and the words behind that digit.
+    fn add_numbered(&mut self, words: &str, parts: &[Part<'_>]) -> Result<(), AllocError> {
+        let Some((digit, words)) = words.as_bytes().split_first() else {
+            return Ok(());
+        };
+        if let Some(part) = parts.get(usize::from(digit.wrapping_sub(b'0'))) {
             self.add(part)?;
+        }
+        self.push_all(words)
+    }
+
+    /// Appends words of the program. A `$` with a digit behind it stands for the piece with this
+    /// number, from 0.
+    pub fn say(&mut self, words: &str, parts: &[Part<'_>]) -> Result<(), AllocError> {
+        let mut pieces = words.split('$');
+        if let Some(front) = pieces.next() {
+            self.push_text(front)?;
+        }
+        for piece in pieces {
+            self.add_numbered(piece, parts)?;
         }
         Ok(())
     }

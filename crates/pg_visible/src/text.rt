@@ -1,6 +1,7 @@
 //! A text of a few lines.
 
-use crate::line::{Line, Part};
+use crate::line::Line;
+use crate::line::Part::{self, Count, Name};
 use crate::places::Spot;
 use std::alloc::{AllocError, Global};
 use std::marker::Model;
@@ -26,18 +27,6 @@ impl Model for Text {
     ghost view = { λ t. t.bytes.items };
 
     ghost invariant = { λ t. (IsVisibleText t.bytes.items) × (line_count t.bytes.items ≡ t.lines) };
-}
-
-/// Appends the name of a file and a place in it.
-fn add_place(line: &mut Line, name: &str, spot: &Spot<'_>) -> Result<(), AllocError> {
-    line.add_all(&[
-        Part::Show(name.as_bytes()),
-        Part::Say(b":"),
-        Part::Count(spot.line),
-        Part::Say(b":"),
-        Part::Count(spot.column),
-        Part::Say(b": "),
-    ])
 }
 
 impl Text {
@@ -73,27 +62,30 @@ impl Text {
         Ok(())
     }
 
-    /// Appends a line of these pieces.
-    pub fn line(&mut self, parts: &[Part<'_>]) -> Result<(), AllocError>
+    /// Appends a line of these words. A `$` with a digit behind it stands for the piece with this
+    /// number, from 0.
+    pub fn line(&mut self, words: &str, parts: &[Part<'_>]) -> Result<(), AllocError>
         ensures { OnOk result (Keeps self.old self.new) }
     {
         let mut line = Line::new(self.alloc);
-        line.add_all(parts)?;
+        line.say(words, parts)?;
         self.push(&line)
     }
 
-    /// Appends a line of these pieces behind the name of a file and a place in it.
+    /// Appends such a line behind the name of a file and a place in it.
     pub fn place(
         &mut self,
         name: &str,
         spot: &Spot<'_>,
+        words: &str,
         parts: &[Part<'_>],
     ) -> Result<(), AllocError>
         ensures { OnOk result (Keeps self.old self.new) }
     {
         let mut line = Line::new(self.alloc);
-        add_place(&mut line, name, spot)?;
-        line.add_all(parts)?;
+        let place = [Name(name), Count(spot.line), Count(spot.column)];
+        line.say("$0:$1:$2: ", &place)?;
+        line.say(words, parts)?;
         self.push(&line)
     }
 

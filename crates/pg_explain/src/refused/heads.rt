@@ -6,77 +6,34 @@ use pg_visible::Part::{Byte, Count, Say, Show};
 use pg_visible::{Spot, Text};
 use std::alloc::AllocError;
 
-/// A side of a word, for which a head gives the minimum.
-struct Side {
-    columns: &'static [u8],
-    name: &'static [u8],
-    other: &'static [u8],
-}
-
-const LEFT: Side = Side {
-    columns: b"columns 1 and 2",
-    name: b"left",
-    other: b"right",
-};
-
-const RIGHT: Side = Side {
-    columns: b"columns 3 and 4",
-    name: b"right",
-    other: b"left",
-};
-
 /// Appends why the bytes that begin at a place are no minimum.
 pub(crate) fn push_minimum(text: &mut Text, name: &str, spot: &Spot<'_>) -> Result<(), AllocError> {
-    let side = if spot.column < 3 { &LEFT } else { &RIGHT };
     let pair = up_to(spot.rest(), 2);
-    if is_blank(pair) {
-        return push_blank_side(text, name, spot, side);
-    }
-    text.place(
-        name,
-        spot,
-        &[
-            Say(side.columns),
-            Say(b" are \""),
-            Show(pair),
-            Say(b"\", and the "),
-            Say(side.name),
-            Say(b" minimum is due there: a number from 1 to "),
-            Count(usize::from(MINIMUM_MAX)),
-        ],
-    )
-}
-
-/// Appends that the minimum of a side is blank.
-fn push_blank_side(
-    text: &mut Text,
-    name: &str,
-    spot: &Spot<'_>,
-    side: &Side,
-) -> Result<(), AllocError> {
-    text.place(
-        name,
-        spot,
-        &[
-            Say(side.columns),
-            Say(b" are blank, and the "),
-            Say(side.name),
-            Say(b" minimum is due there, 1 to "),
-            Count(usize::from(MINIMUM_MAX)),
-            Say(b", since the "),
-            Say(side.other),
-            Say(b" one is given"),
-        ],
-    )
+    let words = match (spot.column < 3, is_blank(pair)) {
+        (true, true) => {
+            "columns 1 and 2 are blank, and the left minimum is due there, 1 to $1, since the right one is given"
+        }
+        (false, true) => {
+            "columns 3 and 4 are blank, and the right minimum is due there, 1 to $1, since the left one is given"
+        }
+        (true, false) => {
+            "columns 1 and 2 are \"$0\", and the left minimum is due there: a number from 1 to $1"
+        }
+        (false, false) => {
+            "columns 3 and 4 are \"$0\", and the right minimum is due there: a number from 1 to $1"
+        }
+    };
+    let most = Count(usize::from(MINIMUM_MAX));
+    text.place(name, spot, words, &[Show(pair), most])
 }
 
 /// What the mark in a column means, and the byte that a blank there means.
-fn mark_in(column: usize) -> (&'static [u8], u8) {
+fn mark_in(column: usize) -> (&'static str, u8) {
     match column {
-        5 => (b"an error", b'.'),
-        6 => (b"a missed hyphen", b'-'),
-        7 => (b"a found hyphen", b'*'),
-        _ => (b"a don't-care position", b'?'),
+        5 => ("an error", b'.'),
+        6 => ("a missed hyphen", b'-'),
+        7 => ("a found hyphen", b'*'),
+        _ => ("a don't-care position", b'?'),
     }
 }
 
@@ -99,46 +56,17 @@ fn same_mark(head: &[u8], column: usize) -> Option<usize> {
     None
 }
 
-/// Appends that the mark in a column is that of another column too.
-fn push_same_mark(
-    text: &mut Text,
-    name: &str,
-    spot: &Spot<'_>,
-    column: usize,
-) -> Result<(), AllocError> {
-    let blank: &[u8] = if is_blank(up_to(spot.rest(), 1)) {
-        b", as a blank means it"
-    } else {
-        b""
-    };
-    text.place(
-        name,
-        spot,
-        &[
-            Byte(mark_byte(spot.text, spot.column)),
-            Say(b" is the mark of "),
-            Say(mark_in(spot.column).0),
-            Say(blank),
-            Say(b", and that of column "),
-            Count(column),
-            Say(b" too: the four marks differ"),
-        ],
-    )
-}
-
 /// Appends why the byte in a column is no mark.
 pub(crate) fn push_mark(text: &mut Text, name: &str, spot: &Spot<'_>) -> Result<(), AllocError> {
-    if let Some(column) = same_mark(spot.text, spot.column) {
-        return push_same_mark(text, name, spot, column);
-    }
-    text.place(
-        name,
-        spot,
-        &[
-            Byte(mark_byte(spot.text, spot.column)),
-            Say(b" is no mark of "),
-            Say(mark_in(spot.column).0),
-            Say(b": a mark is no digit, TAB, CR or {"),
-        ],
-    )
+    let same = same_mark(spot.text, spot.column);
+    let words = match same {
+        None => "$0 is no mark of $1: a mark is no digit, TAB, CR or {",
+        Some(_) if is_blank(up_to(spot.rest(), 1)) => {
+            "$0 is the mark of $1, as a blank means it, and that of column $2 too: the four marks differ"
+        }
+        Some(_) => "$0 is the mark of $1, and that of column $2 too: the four marks differ",
+    };
+    let mark = Byte(mark_byte(spot.text, spot.column));
+    let of = Say(mark_in(spot.column).0);
+    text.place(name, spot, words, &[mark, of, Count(same.unwrap_or(0))])
 }

@@ -4,7 +4,7 @@ use crate::chars::{behind, up_to};
 use crate::wrong::Refused;
 use pg_translate::SPELLING_MAX;
 use pg_types::next_line;
-use pg_visible::Part::{Count, Say, Show};
+use pg_visible::Part::{Count, Show};
 use pg_visible::{Spot, Text};
 use std::alloc::AllocError;
 
@@ -39,38 +39,40 @@ fn spelling_at<'a>(spot: &Spot<'a>) -> &'a [u8] {
     }
 }
 
-/// The bytes that no spelling holds, in the order in which they are named.
-const NEVER_HELD: &[(u8, &[u8])] = &[
-    (b' ', b" holds a blank"),
-    (b'\t', b" holds a TAB"),
-    (b'\r', b" holds a CR"),
-];
-
-/// Why bytes are no spelling.
-fn fault_of(spelling: &[u8]) -> &'static [u8] {
+/// Why bytes are no spelling, which are `$0`, and so many as `$1`.
+fn words_of(spelling: &[u8]) -> &'static str {
+    if spelling.len() > SPELLING_MAX {
+        return "the spelling \"$0\" has $1 bytes, and $2 is the most";
+    }
     for (byte, words) in NEVER_HELD {
         if spelling.contains(byte) {
             return words;
         }
     }
     match spelling.first() {
-        Some(b'0'..=b'9') => b" begins with a digit",
-        Some(b'.') => b" begins with a dot, which is the edge of words",
-        Some(b'{') => b" begins with a brace, which begins a weight",
-        _ => b" begins with a mark of the head",
+        Some(b'0'..=b'9') => "the spelling \"$0\" begins with a digit",
+        Some(b'.') => "the spelling \"$0\" begins with a dot, which is the edge of words",
+        Some(b'{') => "the spelling \"$0\" begins with a brace, which begins a weight",
+        _ => "the spelling \"$0\" begins with a mark of the head",
     }
 }
 
+/// The bytes that no spelling holds, in the order in which they are named.
+const NEVER_HELD: &[(u8, &str)] = &[
+    (b' ', "the spelling \"$0\" holds a blank"),
+    (b'\t', "the spelling \"$0\" holds a TAB"),
+    (b'\r', "the spelling \"$0\" holds a CR"),
+];
+
 /// Appends which byte is the delimiter of a line, where it is no blank.
 pub(crate) fn push_delimiter(text: &mut Text, line: &[u8]) -> Result<(), AllocError> {
-    match line.first() {
-        Some(b' ') | None => Ok(()),
-        Some(_) => text.line(&[
-            Say(b"the first byte of a letter line stands between its spellings; here it is "),
-            Show(up_to(line, 1)),
-            Say(b", and mostly it is a blank"),
-        ]),
+    if line.is_empty() || line.starts_with(b" ") {
+        return Ok(());
     }
+    text.line(
+        "the first byte of a letter line stands between its spellings; here it is $0, and mostly it is a blank",
+        &[Show(up_to(line, 1))],
+    )
 }
 
 /// Appends why the bytes at a place are no spelling.
@@ -80,31 +82,9 @@ pub(crate) fn push_spelling(
     spot: &Spot<'_>,
 ) -> Result<(), AllocError> {
     let spelling = spelling_at(spot);
-    if spelling.len() > SPELLING_MAX {
-        return text.place(
-            name,
-            spot,
-            &[
-                Say(b"the spelling \""),
-                Show(spelling),
-                Say(b"\" has "),
-                Count(spelling.len()),
-                Say(b" bytes, and "),
-                Count(SPELLING_MAX),
-                Say(b" is the most"),
-            ],
-        );
-    }
-    text.place(
-        name,
-        spot,
-        &[
-            Say(b"the spelling \""),
-            Show(spelling),
-            Say(b"\""),
-            Say(fault_of(spelling)),
-        ],
-    )
+    let len = spelling.len();
+    let parts = [Show(spelling), Count(len), Count(SPELLING_MAX)];
+    text.place(name, spot, words_of(spelling), &parts)
 }
 
 /// Whether one of two spellings begins with the other. Two equal spellings of one letter do not
@@ -143,17 +123,15 @@ fn clash_before<'a>(bytes: &'a [u8], last: usize, spelling: &[u8]) -> Option<(us
     None
 }
 
-/// How a spelling and an earlier one clash, and which rule they break.
-fn clash_words(spelling: &[u8], other: &[u8]) -> (&'static [u8], &'static [u8]) {
+/// How a spelling, which is `$0`, and an earlier one clash, which is `$1`.
+fn clash_words(spelling: &[u8], other: &[u8]) -> &'static str {
     if other == spelling {
-        return (b"\" is \"", b": a spelling belongs to one letter");
-    }
-    let how: &[u8] = if other.starts_with(spelling) {
-        b"\" begins \""
+        "\"$0\" is \"$1\", a spelling of line $2: a spelling belongs to one letter"
+    } else if other.starts_with(spelling) {
+        "\"$0\" begins \"$1\", a spelling of line $2: no spelling begins another"
     } else {
-        b"\" begins with \""
-    };
-    (how, b": no spelling begins another")
+        "\"$0\" begins with \"$1\", a spelling of line $2: no spelling begins another"
+    }
 }
 
 /// Appends which spellings clash.
@@ -164,37 +142,10 @@ pub(crate) fn push_clash<'a>(
 ) -> Result<(), AllocError> {
     let spelling = spelling_at(spot);
     let Some((line, other)) = clash_before(refused.bytes, spot.line, spelling) else {
-        return text.place(
-            refused.name,
-            spot,
-            &[Say(b"this spelling clashes with an earlier one")],
-        );
+        let words = "this spelling clashes with an earlier one";
+        return text.place(refused.name, spot, words, &[]);
     };
-    let (how, rule) = clash_words(spelling, other);
-    text.place(
-        refused.name,
-        spot,
-        &[
-            Say(b"\""),
-            Show(spelling),
-            Say(how),
-            Show(other),
-            Say(b"\", a spelling of line "),
-            Count(line),
-            Say(rule),
-        ],
-    )
-}
-
-/// Appends that there are too many letters.
-pub(crate) fn push_many_letters(
-    text: &mut Text,
-    name: &str,
-    spot: &Spot<'_>,
-) -> Result<(), AllocError> {
-    text.place(
-        name,
-        spot,
-        &[Say(b"2,000 letters stand above this line, the most that a table has")],
-    )
+    let words = clash_words(spelling, other);
+    let parts = [Show(spelling), Show(other), Count(line)];
+    text.place(refused.name, spot, words, &parts)
 }

@@ -1,13 +1,13 @@
 //! How many more lines of a refused file would be refused.
 
-use crate::chars::has_minima;
+use crate::chars::{has_minima, up_to};
 use crate::refused::parameters::push_more_items;
 use crate::wrong::Refused;
 use pg_dict::Dictionary;
 use pg_patterns::PatternSet;
 use pg_translate::Table;
-use pg_types::{Kind, ReadingError, Refusal};
-use pg_visible::Part::{Count, Say, Show};
+use pg_types::{Kind, ReadingError, Refusal, next_line};
+use pg_visible::Part::{Count, Name, Say};
 use pg_visible::{Spot, Text};
 use std::alloc::{AllocError, Global};
 
@@ -31,28 +31,32 @@ fn refusal_of<T: Drop>(read: Result<T, ReadingError>) -> Result<Option<Refusal>,
 pub(crate) fn push_count(
     text: &mut Text,
     name: &str,
-    thing: &'static [u8],
+    thing: &'static str,
     more: usize,
     is_all: bool,
 ) -> Result<(), AllocError> {
-    let front: &[u8] = if is_all { b"" } else { b"at least " };
-    let number = if more == 0 {
-        Say(b"no other ")
-    } else {
-        Count(more)
+    let words = match more {
+        0 => "$0no other $1 of $2 would be refused",
+        1 => "$0$3 more $1 of $2 would be refused",
+        _ => "$0$3 more $1s of $2 would be refused",
     };
-    let behind: &[u8] = if more == 0 { b"" } else { b" more " };
-    let plural: &[u8] = if more < 2 { b"" } else { b"s" };
-    text.line(&[
-        Say(front),
-        number,
-        Say(behind),
-        Say(thing),
-        Say(plural),
-        Say(b" of "),
-        Show(name.as_bytes()),
-        Say(b" would be refused"),
-    ])
+    let front = if is_all { "" } else { "at least " };
+    text.line(words, &[Say(front), Say(thing), Name(name), Count(more)])
+}
+
+/// Whether a line of patterns or of a dictionary is refused when it is read by itself.
+fn is_refused(
+    alloc: Global,
+    table: &Table,
+    line: &[u8],
+    is_pattern: bool,
+) -> Result<bool, AllocError> {
+    let refusal = if is_pattern {
+        refusal_of(PatternSet::read(alloc, table, line))?
+    } else {
+        refusal_of(Dictionary::read(alloc, table, line))?
+    };
+    Ok(refusal.is_some())
 }
 
 /// How many lines behind the refused one are refused when each is read by itself, up to a hundred.
@@ -62,17 +66,17 @@ fn refused_behind(
     table: &Table,
     is_pattern: bool,
 ) -> Result<usize, AllocError> {
-    let lines = refused.bytes.split_inclusive(|byte| *byte == b'\n');
-    let mut more = 0;
-    for line in lines.skip(refused.refusal.line as usize) {
-        if more < MORE_MAX {
-            let refusal = if is_pattern {
-                refusal_of(PatternSet::read(alloc, table, line))?
-            } else {
-                refusal_of(Dictionary::read(alloc, table, line))?
-            };
-            more += usize::from(refusal.is_some());
+    let first = refused.refusal.line as usize;
+    let mut more = 0_usize;
+    let mut line = 0_usize;
+    let mut rest = refused.bytes;
+    'lines: while let Some((_, after)) = next_line(rest) {
+        let whole = up_to(rest, rest.len().saturating_sub(after.len()));
+        line = line.saturating_add(1);
+        if first < line && more < MORE_MAX {
+            more += usize::from(is_refused(alloc, table, whole, is_pattern)?);
         }
+        rest = after;
     }
     Ok(more)
 }
@@ -136,7 +140,7 @@ fn push_more_letters(text: &mut Text, refused: &Refused<'_>) -> Result<(), Alloc
         .max(1);
     let mut file = Vec::from_slice(text.alloc(), refused.bytes)?;
     let (more, is_all) = refused_besides(text.alloc(), &mut file, refused.refusal, most)?;
-    push_count(text, refused.name, b"line", more, is_all)
+    push_count(text, refused.name, "line", more, is_all)
 }
 
 /// Appends how many more lines of a dictionary or a file of patterns would be refused.
@@ -148,7 +152,7 @@ fn push_more_words(
     match &refused.letters {
         Some(letters) => {
             let more = refused_behind(text.alloc(), refused, letters.table, is_pattern)?;
-            push_count(text, refused.name, b"line", more, more < MORE_MAX)
+            push_count(text, refused.name, "line", more, more < MORE_MAX)
         }
         None => Ok(()),
     }

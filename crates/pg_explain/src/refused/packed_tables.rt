@@ -1,17 +1,23 @@
-//! Refused packed tables: which of their rules they break.
+//! Refused packed tables: which of their rules they break. The lengths and the mark of a file are
+//! those of pg_table, on which this crate does not stand.
 
 use crate::chars::{behind, up_to};
 use crate::wrong::Refused;
 use pg_types::{LEVEL_MAX, PATTERN_SIGNS_MAX, SIGNS_MAX};
-use pg_visible::Part::{self, Count, Say, Show};
+use pg_visible::Part::{Count, Name};
 use pg_visible::Text;
 use std::alloc::AllocError;
 
-/// How many bytes the head, a cell and a record have.
+/// The bytes that a packed table begins with.
+const FILE_MARK: &[u8] = b"PGT1";
+
+/// How many bytes the head has.
 const HEAD_LEN: usize = 16;
 
+/// How many bytes a cell has.
 const CELL_LEN: usize = 10;
 
+/// How many bytes a record has.
 const RECORD_LEN: usize = 6;
 
 /// The number that `len` bytes from `at` on are, with the most significant byte first.
@@ -23,15 +29,9 @@ fn number(bytes: &[u8], at: usize, len: usize) -> usize {
     value
 }
 
-/// What is wrong with a cell or a record: words, and the number behind them or nothing.
-type PartFault = (Part<'static>, Part<'static>);
-
-/// The first cell or record that breaks a rule.
-#[derive(Clone, Copy)]
-struct Broken {
-    part: &'static [u8],
-    number: usize,
-    fault: PartFault,
+/// Where the part with this number begins, from 0, of parts of this length behind `front` bytes.
+fn start_of(front: usize, len: usize, number: usize) -> usize {
+    len.saturating_mul(number).saturating_add(front)
 }
 
 /// The numbers of a table's head.
@@ -41,6 +41,9 @@ struct Head {
     cells: usize,
     records: usize,
 }
+
+/// A rule that a file breaks: words in which `$0` is the file, and the number for `$1`.
+type Broken = (&'static str, usize);
 
 impl Head {
     /// The numbers of the head of a file.
@@ -52,172 +55,162 @@ impl Head {
         }
     }
 
+    /// The length of the head and the cells.
+    fn cells_len(&self) -> usize {
+        start_of(HEAD_LEN, CELL_LEN, self.cells)
+    }
+
     /// The length of a file with this head.
     fn file_len(&self) -> usize {
-        let cells = self.cells.saturating_mul(CELL_LEN);
-        let records = self.records.saturating_mul(RECORD_LEN);
-        cells.saturating_add(records).saturating_add(HEAD_LEN)
+        start_of(self.cells_len(), RECORD_LEN, self.records)
     }
 
     /// What is wrong with a cell, if something is.
-    fn cell_fault(&self, bytes: &[u8], cell: usize) -> Option<PartFault> {
-        let at = cell.saturating_mul(CELL_LEN).saturating_add(HEAD_LEN);
+    fn cell_fault(&self, bytes: &[u8], cell: usize) -> Option<&'static str> {
+        let at = start_of(HEAD_LEN, CELL_LEN, cell);
         let sign = number(bytes, at, 2);
         let child = number(bytes, at.saturating_add(2), 4);
         let head = number(bytes, at.saturating_add(6), 4);
-        let words: &[u8] = if cell <= self.signs && sign != cell {
-            b"stands at the root, and its sign is not its own number"
+        if cell <= self.signs && sign != cell {
+            Some(
+                "$0 is no packed table: its cell $1 stands at the root, and its sign is not its own number",
+            )
         } else if sign == 0 && (child != 0 || head != 0) {
-            b"has no sign, and is not all 0"
+            Some("$0 is no packed table: its cell $1 has no sign, and is not all 0")
         } else if sign > self.signs {
-            b"has a sign above the greatest"
+            Some("$0 is no packed table: its cell $1 has a sign above the greatest")
         } else if child >= self.cells {
-            b"leads to a family behind the last cell"
+            Some("$0 is no packed table: its cell $1 leads to a family behind the last cell")
         } else if head > self.records {
-            b"leads to a record behind the last"
+            Some("$0 is no packed table: its cell $1 leads to a record behind the last")
         } else {
-            return None;
-        };
-        Some((Say(words), Say(b"")))
+            None
+        }
     }
 
     /// What is wrong with a record, if something is. Records are counted from 0 here.
-    fn record_fault(&self, bytes: &[u8], record: usize) -> Option<PartFault> {
-        let cells = self.cells.saturating_mul(CELL_LEN).saturating_add(HEAD_LEN);
-        let at = record.saturating_mul(RECORD_LEN).saturating_add(cells);
+    fn record_fault(&self, bytes: &[u8], record: usize) -> Option<&'static str> {
+        let at = start_of(self.cells_len(), RECORD_LEN, record);
         let value = number(bytes, at, 1);
         if value == 0 || value > usize::from(LEVEL_MAX) {
-            let most = Count(usize::from(LEVEL_MAX));
-            Some((Say(b"has a value that is not 1 to "), most))
+            Some("$0 is no packed table: its record $1 has a value that is not 1 to $2")
         } else if number(bytes, at.saturating_add(1), 1) > PATTERN_SIGNS_MAX {
-            Some((Say(b"has a dot above "), Count(PATTERN_SIGNS_MAX)))
+            Some("$0 is no packed table: its record $1 has a dot above $3")
         } else if number(bytes, at.saturating_add(2), 4) > record {
-            Some((Say(b"leads to itself or a later one"), Say(b"")))
+            Some("$0 is no packed table: its record $1 leads to itself or a later one")
         } else {
             None
         }
     }
 }
 
-/// The first cell that breaks a rule, or else the first record. Records are counted from 1.
-fn first_broken(head: &Head, bytes: &[u8]) -> Option<Broken> {
+/// The first cell that breaks a rule.
+fn broken_cell(head: &Head, bytes: &[u8]) -> Option<Broken> {
     for cell in 0..head.cells {
-        if let Some(fault) = head.cell_fault(bytes, cell) {
-            return Some(Broken {
-                part: b"cell ",
-                number: cell,
-                fault,
-            });
-        }
-    }
-    for record in 0..head.records {
-        if let Some(fault) = head.record_fault(bytes, record) {
-            return Some(Broken {
-                part: b"record ",
-                number: record.saturating_add(1),
-                fault,
-            });
+        if let Some(words) = head.cell_fault(bytes, cell) {
+            return Some((words, cell));
         }
     }
     None
 }
 
-/// Appends that a cell or record breaks a rule, where one does.
-fn push_parts(text: &mut Text, name: &str, bytes: &[u8], head: &Head) -> Result<(), AllocError> {
-    let name = Show(name.as_bytes());
-    match first_broken(head, bytes) {
-        Some(broken) => text.line(&[
-            name,
-            Say(b" is no packed table: its "),
-            Say(broken.part),
-            Count(broken.number),
-            Say(b" "),
-            broken.fault.0,
-            broken.fault.1,
-        ]),
-        None => text.line(&[name, Say(b" is no packed table")]),
+/// The first record that breaks a rule. Records are counted from 1.
+fn broken_record(head: &Head, bytes: &[u8]) -> Option<Broken> {
+    for record in 0..head.records {
+        if let Some(words) = head.record_fault(bytes, record) {
+            return Some((words, record.saturating_add(1)));
+        }
+    }
+    None
+}
+
+/// The first cell that breaks a rule, or else the first record.
+fn first_broken(head: &Head, bytes: &[u8]) -> Broken {
+    match broken_cell(head, bytes) {
+        Some(broken) => broken,
+        None => broken_record(head, bytes).unwrap_or(("$0 is no packed table", 0)),
     }
 }
 
-/// Appends which number of the head breaks a rule, or else which cell or record does.
-fn push_numbers(text: &mut Text, name: &str, bytes: &[u8]) -> Result<(), AllocError> {
-    let head = Head::read(bytes);
+/// The rule that a file with a head breaks first.
+fn broken_rule(head: &Head, bytes: &[u8]) -> Broken {
+    let signs = head.signs;
     if head.file_len() != bytes.len() {
-        return text.line(&[
-            Show(name.as_bytes()),
-            Say(b" is no packed table: by its head it has "),
-            Count(head.file_len()),
-            Say(b" bytes, and it has "),
-            Count(bytes.len()),
-        ]);
+        let words = "$0 is no packed table: by its head it has $1 bytes, and it has $4";
+        return (words, head.file_len());
     }
-    if head.signs == 0 || head.signs > usize::from(SIGNS_MAX) || head.signs >= head.cells {
-        return text.line(&[
-            Show(name.as_bytes()),
-            Say(b" is no packed table: its greatest sign is "),
-            Count(head.signs),
-            Say(b", and has to be 1 to "),
-            Count(usize::from(SIGNS_MAX)),
-            Say(b" and below the number of cells, "),
-            Count(head.cells),
-        ]);
+    if signs == 0 || signs > usize::from(SIGNS_MAX) || signs >= head.cells {
+        let words =
+            "$0 is no packed table: its greatest sign is $1, and has to be 1 to $5 and below the number of cells, $6";
+        return (words, signs);
     }
-    push_parts(text, name, bytes, &head)
+    first_broken(head, bytes)
 }
 
-/// Appends why a file does not begin with the head of a packed table.
-fn push_no_head(text: &mut Text, name: &str, bytes: &[u8]) -> Result<(), AllocError> {
-    let (words, len, end) = if bytes.is_empty() {
-        (Say(b"it is empty"), Say(b""), Say(b""))
-    } else if bytes.starts_with(b"PGT1") {
-        let words = Say(b"it ends inside its head of ");
-        (words, Count(HEAD_LEN), Say(b" bytes"))
+/// What is wrong with the first bytes of a file; nothing where it has a head.
+fn head_fault(bytes: &[u8]) -> Option<&'static str> {
+    if bytes.is_empty() {
+        Some("$0 is no packed table: it is empty")
+    } else if !bytes.starts_with(FILE_MARK) {
+        Some("$0 is no packed table: it does not begin with PGT1, as a file of pack does")
+    } else if bytes.len() < HEAD_LEN {
+        Some("$0 is no packed table: it ends inside its head of $1 bytes")
     } else {
-        let words = Say(b"it does not begin with PGT1, as a file of pack does");
-        (words, Say(b""), Say(b""))
-    };
-    let front = Say(b" is no packed table: ");
-    text.line(&[Show(name.as_bytes()), front, words, len, end])
+        None
+    }
 }
 
 /// Appends which rule of packed tables a file breaks first. Its cells lead to one another, so
 /// nothing behind the first fault is judged.
 pub(crate) fn push_bad_table(text: &mut Text, refused: &Refused<'_>) -> Result<(), AllocError> {
-    let name = refused.name;
     let bytes = refused.bytes;
-    if bytes.len() >= HEAD_LEN && bytes.starts_with(b"PGT1") {
-        push_numbers(text, name, bytes)?;
-        let words = b"what stands behind that is not judged: pack makes a table anew";
-        return text.line(&[Say(words)]);
+    if let Some(words) = head_fault(bytes) {
+        return text.line(words, &[Name(refused.name), Count(HEAD_LEN)]);
     }
-    push_no_head(text, name, bytes)
+    let head = Head::read(bytes);
+    let (words, number) = broken_rule(&head, bytes);
+    let level_max = Count(usize::from(LEVEL_MAX));
+    let signs_max = Count(usize::from(SIGNS_MAX));
+    text.line(
+        words,
+        &[
+            Name(refused.name),
+            Count(number),
+            level_max,
+            Count(PATTERN_SIGNS_MAX),
+            Count(bytes.len()),
+            signs_max,
+            Count(head.cells),
+        ],
+    )?;
+    let words = "what stands behind that is not judged: pack makes a table anew";
+    text.line(words, &[])
 }
 
 /// Appends that a packed table is of another number of letters.
 pub(crate) fn push_other_table(text: &mut Text, refused: &Refused<'_>) -> Result<(), AllocError> {
-    let own = Head::read(refused.bytes).signs.saturating_sub(1);
-    let name = Show(refused.name.as_bytes());
+    let own = Count(Head::read(refused.bytes).signs.saturating_sub(1));
+    let name = Name(refused.name);
     match &refused.letters {
-        Some(letters) => text.line(&[
-            name,
-            Say(b" was packed for "),
-            Count(own),
-            Say(b" letters, and "),
-            Show(letters.name.as_bytes()),
-            Say(b" has "),
-            Count(usize::from(letters.table.letters())),
-            Say(b": give the translate file that it was packed with"),
-        ]),
-        None => text.line(&[name, Say(b" was packed for "), Count(own), Say(b" letters")]),
+        Some(letters) => text.line(
+            "$0 was packed for $1 letters, and $2 has $3: give the translate file that it was packed with",
+            &[
+                name,
+                own,
+                Name(letters.name),
+                Count(usize::from(letters.table.letters())),
+            ],
+        ),
+        None => text.line("$0 was packed for $1 letters", &[name, own]),
     }
 }
 
 /// Appends that a packed table has too many bytes.
 pub(crate) fn push_long_table(text: &mut Text, refused: &Refused<'_>) -> Result<(), AllocError> {
-    let words: &[u8] = if refused.bytes.is_empty() {
-        b" would have more than 268,435,456 bytes (2^28), the most of a packed table"
+    let words = if refused.bytes.is_empty() {
+        "$0 would have more than 268,435,456 bytes (2^28), the most of a packed table"
     } else {
-        b" has more than 268,435,456 bytes (2^28), the most of a packed table"
+        "$0 has more than 268,435,456 bytes (2^28), the most of a packed table"
     };
-    text.line(&[Show(refused.name.as_bytes()), Say(words)])
+    text.line(words, &[Name(refused.name)])
 }

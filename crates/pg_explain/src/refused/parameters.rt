@@ -7,20 +7,20 @@ use crate::refused::parameters::items::{first_item, items_in, number_at, number_
 use crate::wrong::Refused;
 pub(crate) use items::item_spot;
 use pg_types::{COST_MAX, Kind, LENGTH_MAX, LEVEL_MAX, is_answer, next_item};
-use pg_visible::Part::{Count, Say, Show};
+use pg_visible::Part::{Count, Name, Say, Show};
 use pg_visible::{Spot, Text};
 use std::alloc::AllocError;
 
 /// What is due at the item with this number. Behind the first two there are five for each level.
-fn name_of(item: usize) -> &'static [u8] {
+fn name_of(item: usize) -> &'static str {
     match item.saturating_sub(3) % 5 {
-        _ if item <= 1 => b"the first level",
-        _ if item == 2 => b"the last level",
-        0 => b"the least length",
-        1 => b"the greatest length",
-        2 => b"the good weight",
-        3 => b"the bad weight",
-        _ => b"the threshold",
+        _ if item <= 1 => "the first level",
+        _ if item == 2 => "the last level",
+        0 => "the least length",
+        1 => "the greatest length",
+        2 => "the good weight",
+        3 => "the bad weight",
+        _ => "the threshold",
     }
 }
 
@@ -36,43 +36,41 @@ fn range_of(item: usize, before: usize) -> (usize, usize) {
     }
 }
 
-/// Appends an item, with `words` before it and `after` behind it, and then what is due there.
-fn push_due(
-    text: &mut Text,
-    refused: &Refused<'_>,
-    spot: &Spot<'_>,
-    words: &'static [u8],
-    after: &'static [u8],
-) -> Result<(), AllocError> {
+/// What is said of an item and of what is due there.
+fn due_words(kind: Kind, item: usize) -> &'static str {
+    match (kind, item < 3) {
+        (Kind::Missing, true) => "item $0 is missing: $2 is due, $4 to $5",
+        (Kind::Missing, false) => "item $0 is missing: $2 of level $3 is due, $4 to $5",
+        (Kind::BadNumber, true) => "item $0 is $1, which is no number: $2 is due, $4 to $5",
+        (Kind::BadNumber, false) => {
+            "item $0 is $1, which is no number: $2 of level $3 is due, $4 to $5"
+        }
+        (_, true) => "item $0 is $1, which is out of range: $2 is due, $4 to $5",
+        (_, false) => "item $0 is $1, which is out of range: $2 of level $3 is due, $4 to $5",
+    }
+}
+
+/// Appends why an item is refused, and what is due there.
+fn push_due(text: &mut Text, refused: &Refused<'_>, spot: &Spot<'_>) -> Result<(), AllocError> {
     let item = refused.refusal.line as usize;
     let (least, most) = range_of(item, number_at(refused.bytes, item.saturating_sub(1)));
-    let (of, level) = if item < 3 {
-        (Say(b""), Say(b""))
-    } else {
-        let first = number_at(refused.bytes, 1);
-        let level = first.saturating_add(item.saturating_sub(3) / 5);
-        (Say(b" of level "), Count(level))
-    };
+    let level = number_at(refused.bytes, 1).saturating_add(item.saturating_sub(3) / 5);
     let most = if most == COST_MAX as usize {
-        Say(b"1,000,000")
+        Say("1,000,000")
     } else {
         Count(most)
     };
+    let words = due_words(refused.refusal.kind, item);
     text.place(
         refused.name,
         spot,
+        words,
         &[
-            Say(b"item "),
             Count(item),
-            Say(words),
             Show(first_item(spot.rest())),
-            Say(after),
             Say(name_of(item)),
-            of,
-            level,
-            Say(b" is due, "),
+            Count(level),
             Count(least),
-            Say(b" to "),
             most,
         ],
     )
@@ -90,31 +88,23 @@ fn numbers_of(levels: usize) -> usize {
     levels.saturating_mul(5).saturating_add(2)
 }
 
-/// The words between a number of levels and the number of numbers that they take.
-fn take(levels: usize) -> &'static [u8] {
-    if levels == 1 {
-        b" level takes "
-    } else {
-        b" levels take "
-    }
-}
-
 /// Appends that an item may not follow.
 fn push_extra(text: &mut Text, refused: &Refused<'_>, spot: &Spot<'_>) -> Result<(), AllocError> {
     let levels = levels_of(refused.bytes);
+    let words = if levels == 1 {
+        "item $0 is $1, and the file should end: $2 level takes $3 numbers, and one y or n may follow"
+    } else {
+        "item $0 is $1, and the file should end: $2 levels take $3 numbers, and one y or n may follow"
+    };
     text.place(
         refused.name,
         spot,
+        words,
         &[
-            Say(b"item "),
             Count(refused.refusal.line as usize),
-            Say(b" is "),
             Show(first_item(spot.rest())),
-            Say(b", and the file should end: "),
             Count(levels),
-            Say(take(levels)),
             Count(numbers_of(levels)),
-            Say(b" numbers, and one y or n may follow"),
         ],
     )
 }
@@ -125,12 +115,10 @@ pub(crate) fn push_item(
     refused: &Refused<'_>,
     spot: &Spot<'_>,
 ) -> Result<(), AllocError> {
-    match refused.refusal.kind {
-        Kind::Extra => push_extra(text, refused, spot),
-        Kind::Missing => push_due(text, refused, spot, b" is missing", b": "),
-        Kind::BadNumber => push_due(text, refused, spot, b" is ", b", which is no number: "),
-        _ => push_due(text, refused, spot, b" is ", b", which is out of range: "),
+    if refused.refusal.kind == Kind::Extra {
+        return push_extra(text, refused, spot);
     }
+    push_due(text, refused, spot)
 }
 
 /// Whether an item may stand at a place, where the item before it is the number `before`. The file
@@ -176,19 +164,20 @@ pub(crate) fn push_more_items(text: &mut Text, refused: &Refused<'_>) -> Result<
     if refused.refusal.kind != Kind::Missing {
         let due = if is_known { Some(numbers) } else { None };
         let more = refused_behind(refused.bytes, item, due);
-        push_count(text, refused.name, b"item", more, more < MORE_MAX)?;
+        push_count(text, refused.name, "item", more, more < MORE_MAX)?;
     }
     let has = items_in(refused.bytes);
     if !is_known || numbers <= has {
         return Ok(());
     }
-    text.line(&[
-        Count(levels),
-        Say(take(levels)),
-        Count(numbers),
-        Say(b" numbers, and "),
-        Show(refused.name.as_bytes()),
-        Say(b" has "),
-        Count(has),
-    ])
+    let words = if levels == 1 {
+        "$0 level takes $1 numbers, and $2 has $3"
+    } else {
+        "$0 levels take $1 numbers, and $2 has $3"
+    };
+    let levels = Count(levels);
+    text.line(
+        words,
+        &[levels, Count(numbers), Name(refused.name), Count(has)],
+    )
 }

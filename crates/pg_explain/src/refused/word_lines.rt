@@ -3,7 +3,7 @@
 use crate::chars::{first_bytes, first_char, up_to};
 use crate::wrong::Refused;
 use pg_types::{Kind, PATTERN_SIGNS_MAX, WORD_LETTERS_MAX};
-use pg_visible::Part::{Count, Hex, Say, Show};
+use pg_visible::Part::{Count, Hex, Name, Say, Show};
 use pg_visible::{Spot, Text, is_invisible};
 use std::alloc::AllocError;
 
@@ -13,14 +13,6 @@ fn letters_of<'a>(refused: &Refused<'a>) -> &'a str {
         Some(letters) if letters.is_no_file() => "a to z",
         Some(letters) => letters.name,
         None => "the translate file",
-    }
-}
-
-/// What else may stand in a line.
-fn else_due(kind: Kind) -> &'static [u8] {
-    match kind {
-        Kind::PatternCharacter => b", and is no digit and no dot",
-        _ => b", and is no mark, digit or weight",
     }
 }
 
@@ -37,45 +29,18 @@ pub(crate) fn push_character<'a>(
     spot: &Spot<'a>,
 ) -> Result<(), AllocError> {
     let bytes = first_bytes(spot.rest());
-    let letters = Show(letters_of(refused).as_bytes());
-    let due = Say(else_due(refused.refusal.kind));
-    let begins = Say(b" begins no letter of ");
-    match first_char(bytes) {
-        Some(c) if is_seen_alone(c) => text.place(
-            refused.name,
-            spot,
-            &[
-                Hex(bytes),
-                Say(b" ("),
-                Show(bytes),
-                Say(b")"),
-                begins,
-                letters,
-                due,
-            ],
-        ),
-        _ => text.place(refused.name, spot, &[Hex(bytes), begins, letters, due]),
-    }
+    let words = match first_char(bytes) {
+        Some(c) if is_seen_alone(c) => "$0 ($1) begins no letter of $2, and is no $3",
+        _ => "$0 begins no letter of $2, and is no $3",
+    };
+    let due = match refused.refusal.kind {
+        Kind::PatternCharacter => "digit and no dot",
+        _ => "mark, digit or weight",
+    };
+    let letters = Name(letters_of(refused));
+    let parts = [Hex(bytes), Show(bytes), letters, Say(due)];
+    text.place(refused.name, spot, words, &parts)
 }
-
-/// What may have at most so many signs, how the next one would be called, and what it would be in.
-struct Longest {
-    most: usize,
-    next: &'static [u8],
-    whole: &'static [u8],
-}
-
-const PATTERN: Longest = Longest {
-    most: PATTERN_SIGNS_MAX,
-    next: b"rd letter or dot",
-    whole: b"pattern",
-};
-
-const WORD: Longest = Longest {
-    most: WORD_LETTERS_MAX,
-    next: b"st letter",
-    whole: b"word",
-};
 
 /// Appends that a pattern or a word is too long.
 pub(crate) fn push_long(
@@ -83,24 +48,14 @@ pub(crate) fn push_long(
     refused: &Refused<'_>,
     spot: &Spot<'_>,
 ) -> Result<(), AllocError> {
-    let longest = if refused.refusal.kind == Kind::WordTooLong {
-        &WORD
+    let (most, words) = if refused.refusal.kind == Kind::WordTooLong {
+        let words = "the $0st letter of the line begins here, and a word has at most $1";
+        (WORD_LETTERS_MAX, words)
     } else {
-        &PATTERN
+        let words = "the $0rd letter or dot of the line begins here, and a pattern has at most $1";
+        (PATTERN_SIGNS_MAX, words)
     };
-    text.place(
-        refused.name,
-        spot,
-        &[
-            Say(b"the "),
-            Count(longest.most.saturating_add(1)),
-            Say(longest.next),
-            Say(b" of the line begins here, and a "),
-            Say(longest.whole),
-            Say(b" has at most "),
-            Count(longest.most),
-        ],
-    )
+    text.place(refused.name, spot, words, &[Count(most + 1), Count(most)])
 }
 
 /// How many bytes the weight has that these bytes begin with; 1 where it does not end.
@@ -119,11 +74,7 @@ pub(crate) fn push_weight(text: &mut Text, name: &str, spot: &Spot<'_>) -> Resul
     text.place(
         name,
         spot,
-        &[
-            Show(up_to(rest, weight_len(rest))),
-            Say(
-                b" is no weight: a weight is {, one to four digits with a value from 1 to 9,999, and }",
-            ),
-        ],
+        "$0 is no weight: a weight is {, one to four digits with a value from 1 to 9,999, and }",
+        &[Show(up_to(rest, weight_len(rest)))],
     )
 }

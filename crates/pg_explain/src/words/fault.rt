@@ -1,46 +1,28 @@
 //! What is wrong with a word of a command.
 
-use pg_visible::Part::{self, Say, Show};
-
-/// What is said of a wrong word, or of a missing one: up to three words or numbers, and the text
-/// behind each.
+/// What is said of a wrong word, or of a missing one: words in which `$0` is the command, `$1` to
+/// `$3` are these, and `$4` is the number.
 #[derive(Clone, Copy)]
 pub(crate) struct Fault<'a> {
-    pub word: Part<'a>,
-    pub is: &'static [u8],
-    pub other: Part<'a>,
-    pub behind: &'static [u8],
+    pub words: &'static str,
+    pub first: &'a str,
+    pub second: &'a str,
     pub third: &'a str,
-    pub end: &'static [u8],
+    pub number: usize,
 }
 
-/// What is said of one word or number.
-pub(crate) fn of_part<'a>(word: Part<'a>, is: &'static [u8]) -> Fault<'a> {
-    Fault {
-        word,
-        is,
-        other: Say(b""),
-        behind: b"",
-        third: "",
-        end: b"",
-    }
-}
-
-/// What is said of one word.
-pub(crate) fn of_word<'a>(word: &'a str, is: &'static [u8]) -> Fault<'a> {
-    of_part(Show(word.as_bytes()), is)
-}
-
-/// What is said of one word beside another.
-pub(crate) fn of_two<'a>(
-    word: &'a str,
-    is: &'static [u8],
-    other: &'a str,
-    behind: &'static [u8],
+/// What is said of up to three words.
+pub(crate) fn of_words<'a>(
+    words: &'static str,
+    first: &'a str,
+    second: &'a str,
+    third: &'a str,
 ) -> Fault<'a> {
     Fault {
-        other: Show(other.as_bytes()),
-        behind,
-        ..of_word(word, is)
+        words,
+        first,
+        second,
+        third,
+        number: 0,
     }
 }

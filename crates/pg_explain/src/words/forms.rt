@@ -1,4 +1,26 @@
-//! The commands, and what each of their words has to be.
+//! The commands, and what each of their words has to be. The limits of numbers are those of
+//! pg_words, on which this crate does not stand.
+
+/// The greatest number from which `sample` draws.
+const SEED_MAX: u64 = 2_147_483_647;
+
+/// The most words that `sample` draws.
+const COUNT_MAX: u64 = 100_000;
+
+/// The most digits of both numbers of `sample`.
+const SAMPLE_DIGITS: usize = 10;
+
+/// The most folds of a sweep; the fewest are 2.
+const FOLDS_MAX: u64 = 10;
+
+/// The most digits of the number of folds.
+const FOLDS_DIGITS: usize = 2;
+
+/// The most that a unit of an error, or of a missed hyphen, may cost in a sweep.
+const PRICE_MAX: u64 = 1_000;
+
+/// The most digits of such a price.
+const PRICE_DIGITS: usize = 4;
 
 /// A number of a command.
 #[derive(Clone, Copy)]
@@ -7,10 +29,8 @@ pub(crate) struct Range {
     pub digits: usize,
     pub least: u64,
     pub most: u64,
-    /// What it has to be.
-    pub due: &'static [u8],
-    /// What it has to be, and in how many digits.
-    pub digits_due: &'static [u8],
+    /// The bounds, as they are said.
+    pub due: &'static str,
 }
 
 /// What a word of a command has to be, and how it is called.
@@ -50,7 +70,7 @@ pub(crate) enum Behind {
 pub(crate) struct Command {
     pub word: &'static str,
     /// The whole form, as it is shown.
-    pub words: &'static [u8],
+    pub words: &'static str,
     /// The words behind the command that each call has.
     pub slots: &'static [Slot],
     pub behind: Behind,
@@ -68,25 +88,45 @@ const OUT: Slot = Slot::Output("OUT");
 
 const REPORT: Slot = Slot::Output("REPORT");
 
-/// What a unit of an error, or of a missed hyphen, may cost in a sweep.
-const PRICE: Range = Range {
-    digits: 4,
-    least: 1,
-    most: 1_000,
-    due: b", and has to be 1 to 1,000",
-    digits_due: b", and has to be 1 to 1,000, in at most 4 digits",
+const SEED: Range = Range {
+    digits: SAMPLE_DIGITS,
+    least: 0,
+    most: SEED_MAX,
+    due: "0 to 2,147,483,647",
 };
 
-const COMMANDS: &[Command] = &[
+const COUNT: Range = Range {
+    digits: SAMPLE_DIGITS,
+    least: 0,
+    most: COUNT_MAX,
+    due: "0 to 100,000",
+};
+
+const FOLDS: Range = Range {
+    digits: FOLDS_DIGITS,
+    least: 2,
+    most: FOLDS_MAX,
+    due: "2 to 10",
+};
+
+const PRICE: Range = Range {
+    digits: PRICE_DIGITS,
+    least: 1,
+    most: PRICE_MAX,
+    due: "1 to 1,000",
+};
+
+/// All commands.
+pub(crate) const COMMANDS: &[Command] = &[
     Command {
         word: "generate",
-        words: b"generate DICT PATTERNS OUT TRANSLATE PARAMS REPORT [--pattmp FILE] [--cells FILE]",
+        words: "generate DICT PATTERNS OUT TRANSLATE PARAMS REPORT [--pattmp FILE] [--cells FILE]",
         slots: &[DICT, PATTERNS, OUT, TRANSLATE, PARAMS, REPORT],
         behind: Behind::WrittenFiles,
     },
     Command {
         word: "audit",
-        words: b"audit DICT PATTERNS OUT TRANSLATE PARAMS REPORT [--pattmp FILE]",
+        words: "audit DICT PATTERNS OUT TRANSLATE PARAMS REPORT [--pattmp FILE]",
         slots: &[
             DICT,
             PATTERNS,
@@ -99,67 +139,37 @@ const COMMANDS: &[Command] = &[
     },
     Command {
         word: "sample",
-        words: b"sample N COUNT",
-        slots: &[
-            Slot::Number(
-                "N",
-                Range {
-                    digits: 10,
-                    least: 0,
-                    most: 2_147_483_647,
-                    due: b", and has to be 0 to 2,147,483,647",
-                    digits_due: b", and has to be 0 to 2,147,483,647, in at most 10 digits",
-                },
-            ),
-            Slot::Number(
-                "COUNT",
-                Range {
-                    digits: 10,
-                    least: 0,
-                    most: 100_000,
-                    due: b", and has to be 0 to 100,000",
-                    digits_due: b", and has to be 0 to 100,000, in at most 10 digits",
-                },
-            ),
-        ],
+        words: "sample N COUNT",
+        slots: &[Slot::Number("N", SEED), Slot::Number("COUNT", COUNT)],
         behind: Behind::Nothing,
     },
     Command {
         word: "pack",
-        words: b"pack PATTERNS TRANSLATE TABLE",
+        words: "pack PATTERNS TRANSLATE TABLE",
         slots: &[PATTERNS, TRANSLATE, Slot::Output("TABLE")],
         behind: Behind::Nothing,
     },
     Command {
         word: "totals",
-        words: b"totals DICT TRANSLATE TABLE",
+        words: "totals DICT TRANSLATE TABLE",
         slots: &[DICT, TRANSLATE, Slot::Input("TABLE")],
         behind: Behind::Nothing,
     },
     Command {
         word: "prune",
-        words: b"prune DICT PATTERNS OUT TRANSLATE REPORT",
+        words: "prune DICT PATTERNS OUT TRANSLATE REPORT",
         slots: &[DICT, PATTERNS, OUT, TRANSLATE, REPORT],
         behind: Behind::Nothing,
     },
     Command {
         word: "sweep",
-        words: b"sweep DICT PATTERNS OUT TRANSLATE K BAD MISSED PARAMS..",
+        words: "sweep DICT PATTERNS OUT TRANSLATE K BAD MISSED PARAMS..",
         slots: &[
             DICT,
             PATTERNS,
             OUT,
             TRANSLATE,
-            Slot::Number(
-                "K",
-                Range {
-                    digits: 2,
-                    least: 2,
-                    most: 10,
-                    due: b", and has to be 2 to 10",
-                    digits_due: b", and has to be 2 to 10, in at most 2 digits",
-                },
-            ),
+            Slot::Number("K", FOLDS),
             Slot::Number("BAD", PRICE),
             Slot::Number("MISSED", PRICE),
         ],
@@ -167,14 +177,9 @@ const COMMANDS: &[Command] = &[
     },
 ];
 
-/// All commands.
-pub(crate) fn commands() -> &'static [Command] {
-    COMMANDS
-}
-
 /// The command that this word names.
 pub(crate) fn command_of(word: &str) -> Option<&'static Command> {
-    for command in commands() {
+    for command in COMMANDS {
         if command.word == word {
             return Some(command);
         }
@@ -185,9 +190,4 @@ pub(crate) fn command_of(word: &str) -> Option<&'static Command> {
 /// Whether a word is an option of some command.
 pub(crate) fn is_option(word: &str) -> bool {
     word == "--pattmp" || word == "--cells"
-}
-
-/// Whether options may follow the names of a command.
-pub(crate) fn has_options(command: &Command) -> bool {
-    matches!(command.behind, Behind::WrittenFiles | Behind::ReadFiles)
 }
