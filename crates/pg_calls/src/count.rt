@@ -37,7 +37,6 @@ fn count_window(
 fn count(counts: &mut CountTrie, seen: &[(Sign, Sign, bool, Weight)]) -> Result<(), Fail>
     requires signs { counts.old.signs ≡ 4 }
     requires few { length seen.now < 100 }
-    ensures { counts.new.signs ≡ 4 }
 {
     counts.begin(2);
     for window in seen {
@@ -46,33 +45,20 @@ fn count(counts: &mut CountTrie, seen: &[(Sign, Sign, bool, Weight)]) -> Result<
     Ok(())
 }
 
-/// The sums of the next window that is counted. The cursor goes to it.
-fn next(counts: &CountTrie, at: &mut Cursor) -> Option<(u64, u64)> {
-    counts.next(at)
-}
-
 /// Compares the windows that are counted, in their order, with these: each has sums, and at the end
 /// the cursor stays.
 fn compare(rt: &impl Abort, counts: &CountTrie, windows: &[([Sign; 2], Option<(u64, u64)>)]) {
     let mut at = Cursor::start();
     for (window, sums) in windows {
-        assert_eq!(rt; next(counts, &mut at), *sums);
+        assert_eq!(rt; counts.next(&mut at), *sums);
         assert_eq!(rt; at.signs(), window.as_slice());
     }
 }
 
-/// Counts in two passes, of which the second is left.
-fn count_twice(counts: &mut CountTrie) -> Result<(), Fail>
-    requires { counts.old.signs ≡ 4 }
-{
-    count(counts, &[(4, 1, true, 9)])?;
-    count(
-        counts,
-        &[(3, 2, true, 3), (2, 3, false, 2), (3, 2, false, 1)],
-    )
-}
+/// Windows of a pass.
+const SEEN: &[(Sign, Sign, bool, Weight)] = &[(3, 2, true, 3), (2, 3, false, 2), (3, 2, false, 1)];
 
-/// The windows of the second pass, and the end.
+/// Those that are counted then, in the order of signs, and the end.
 const WINDOWS: &[([Sign; 2], Option<(u64, u64)>)] = &[
     ([2, 3], Some((0, 2))),
     ([3, 2], Some((3, 1))),
@@ -82,7 +68,7 @@ const WINDOWS: &[([Sign; 2], Option<(u64, u64)>)] = &[
 #[test]
 fn counts_in_order_of_signs(rt: HostRuntime) -> Result<(), Fail> {
     let mut counts = CountTrie::new(rt.alloc(), 4)?;
-    count_twice(&mut counts)?;
+    count(&mut counts, SEEN)?;
     compare(&rt, &counts, WINDOWS);
     Ok(())
 }

@@ -1,6 +1,6 @@
 //! Reads and writes of real files whose calls end early or fail.
 use crate::folders::{enter_folder, holds, is_new_file_left, leave_folder};
-use crate::outcomes::outcomes_by;
+use crate::outcomes::outcomes;
 use pg_outside::ReadError;
 use pg_told_disk::{Broken, Call, Given};
 use std::test::Fail;
@@ -74,7 +74,7 @@ const ROWS: [Row; 10] = [
 fn goes_so(rt: &HostRuntime, row: &Row) -> bool {
     let (calls, broken, wanted, given, left) = *row;
     let system = Given::with_calls(rt, calls, broken);
-    let both = outcomes_by(rt.alloc(), system, ("D", 5, wanted, given), "O", LINE);
+    let both = outcomes(rt.alloc(), system, ("D", 5, wanted, given), "O", LINE);
     both == [true, left == LINE] && holds(rt, "O", left) && !is_new_file_left(rt)
 }
 

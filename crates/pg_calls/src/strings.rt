@@ -21,19 +21,12 @@ pub fn cell_below(cells: &Cells<u32>, parent: Option<usize>, s: Sign) -> Option<
 }
 
 /// The cell of a string.
-fn cell_of(cells: &Cells<u32>, string: &[Sign]) -> Option<usize> {
+pub fn cell_of(cells: &Cells<u32>, string: &[Sign]) -> Option<usize> {
     let mut at = None;
     for s in string {
         at = Some(cell_below(cells, at, *s)?);
     }
     at
-}
-
-/// The cell of a string, the base of the family below it, 0 for none, and its value.
-pub fn told(cells: &Cells<u32>, string: &[Sign]) -> Option<(usize, usize, u32)> {
-    let cell = cell_of(cells, string)?;
-    let value = cells.value_if_taken(cell)?;
-    Some((cell, cells.child(cell), value))
 }
 
 /// Adds the sign with the value below the string of a cell, and gives its cell, or removes it where

@@ -3,9 +3,8 @@ ghost use Rattle.std.specs.Prelude.{◌≡◌, IfOk, OnOk};
 
 use pg_patterns::PatternSet;
 use pg_trie::{HOPELESS, PatternTrie};
-use pg_types::{Layout, Sign};
-use std::alloc::Global;
-use std::process::Abort;
+use pg_types::Sign;
+use std::alloc::{AllocError, Global};
 use std::test::Fail;
 
 /// A string of two signs, a dot of it, and a value or `HOPELESS`.
@@ -48,62 +47,48 @@ fn deleted(alloc: Global, entries: &[Given]) -> Result<PatternTrie, Fail>
     Ok(trie)
 }
 
-/// Compares what a trie says of its cells and records.
-fn compare_layout(rt: &impl Abort, trie: &PatternTrie, cells: u64, tails: u64) {
-    let layout = Layout {
-        taken: cells,
-        top: cells,
-        tails,
-    };
-    assert_eq!(rt; trie.layout(), layout);
-}
-
-/// Whether a set has this entry alone.
-fn has_alone(patterns: &PatternSet, signs: &[Sign], dot: u8, value: u8) -> bool {
-    if patterns.len() != 1 {
-        return false;
+/// What a trie says of its cells and records, and a line for each of its patterns.
+fn push_told(
+    text: &mut String,
+    trie: &PatternTrie,
+    patterns: &PatternSet,
+) -> Result<(), AllocError> {
+    let layout = trie.layout();
+    write!(text, "{} {} {}\n", layout.taken, layout.top, layout.tails)?;
+    for i in 0..patterns.len() {
+        let entry = patterns.entry(i);
+        write!(text, "{:?} {} {}\n", entry.signs, entry.dot, entry.value)?;
     }
-    let entry = patterns.entry(0);
-    entry.signs == signs && entry.dot == dot && entry.value == value
-}
-
-/// Compares the one record of a trie with the value 1 at the dot 1, and its one pattern with that
-/// of a and b.
-fn compare_record(rt: &impl Abort, alloc: Global, trie: &PatternTrie) -> Result<(), Fail> {
-    // The value is the one record that is left, so no hopeless entry is.
-    if trie.outputs().len() != 1 || trie.outputs().first(1) != Some((1, 1, 0)) {
-        return Err(Fail::new("one record"));
-    }
-    assert!(rt; has_alone(&trie.copy(alloc)?, &[2, 3], 1, 1));
     Ok(())
 }
 
-/// Compares the trie of a hopeless entry beside a value.
-fn compare_beside(rt: &impl Abort, alloc: Global, trie: &PatternTrie) -> Result<(), Fail> {
-    compare_record(rt, alloc, trie)?;
-    compare_layout(rt, trie, 5, 1);
-    Ok(())
+/// The same as one text.
+fn told(alloc: Global, trie: &PatternTrie) -> Result<String, AllocError> {
+    let mut text = String::new(alloc);
+    let patterns = trie.copy(alloc)?;
+    push_told(&mut text, trie, &patterns)?;
+    Ok(text)
 }
+
+/// Entries, and what is told of the trie without the hopeless ones: the cells, the greatest of them
+/// and the records, and the patterns. In the first row a hopeless entry stands beside a value, and
+/// in the second two lists share their tail.
+const ROWS: &[(&[Given], &str)] = &[
+    (
+        &[([2, 3], 1, 1), ([2, 3], 1, HOPELESS)],
+        "5 5 1\n[2, 3] 1 1\n",
+    ),
+    (
+        &[([2, 3], 0, 1), ([2, 3], 1, 2), ([4, 3], 1, 2)],
+        "6 6 2\n[2, 3] 0 1\n[2, 3] 1 2\n[4, 3] 1 2\n",
+    ),
+];
 
 #[test]
-fn a_hopeless_entry_beside_a_value(rt: HostRuntime) -> Result<(), Fail> {
-    let trie = deleted(rt.alloc(), &[([2, 3], 1, 1), ([2, 3], 1, HOPELESS)])?;
-    compare_beside(&rt, rt.alloc(), &trie)
-}
-
-/// Compares the trie of tails that are shared.
-fn compare_tails(rt: &impl Abort, trie: &PatternTrie)
-    requires { trie.now.signs ≡ 4 }
-{
-    compare_layout(rt, trie, 6, 2);
-    assert_eq!(rt; (trie.step(None, 2), trie.outputs().len()), (Some(2), 2));
-}
-
-/// Entries whose tails are shared.
-const SHARED: &[Given] = &[([2, 3], 0, 1), ([2, 3], 1, 2), ([4, 3], 1, 2)];
-
-#[test]
-fn tails_are_shared(rt: HostRuntime) -> Result<(), Fail> {
-    compare_tails(&rt, &deleted(rt.alloc(), SHARED)?);
+fn tries_without_hopeless_entries(rt: HostRuntime) -> Result<(), Fail> {
+    for (entries, wanted) in ROWS {
+        let trie = deleted(rt.alloc(), entries)?;
+        assert_eq!(rt; told(rt.alloc(), &trie)?.as_str(), *wanted);
+    }
     Ok(())
 }
