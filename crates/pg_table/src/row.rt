@@ -8,7 +8,7 @@ ghost use Rattle.pg_types.specs.Placement.{top};
 ghost use Rattle.pg_patterns.specs.Inside.PatternMaps.{SignsUpTo};
 ghost use Rattle.pg_cells.specs.Inside.AreValuedFamilies.{AreValuedFamilies};
 ghost use Rattle.pg_table.specs.Inside.Packed.{IsEntered};
-ghost use Rattle.pg_table.specs.Inside.Rows.{HasHeads, IsRow, Fills};
+ghost use Rattle.pg_table.specs.Inside.Rows.{HasHeads, IsRow, Fills, FillsSigns};
 ghost use Rattle.pg_table.specs.Texts.{head_in};
 ghost use Rattle.pg_table.specs.Inside.Files.{table_cells};
 
@@ -55,9 +55,38 @@ fn fill(signs: u16, patterns: &PatternSet, packed: &Packed, row: &mut [Cell])
     requires row { IsRow packed.now.cells (head_in patterns.now) row.old }
     ensures { row.new ≡ table_cells signs patterns.now }
 {
-    'roots: for s in 1..signs + 1 {
-        fill_string(&packed.cells, &[s], row);
+    fill_signs(signs, &packed.cells, row);
+    fill_patterns(patterns, packed, row);
+}
+
+/// Fills in the cells of the strings of one sign, up to the greatest.
+fn fill_signs(signs: u16, cells: &Cells<u64>, row: &mut [Cell])
+    requires few { signs ≤ SIGNS_MAX }
+    requires held { AreValuedFamilies cells.now }
+    requires signs { signs ≤ cells.now.signs }
+    requires size { length row.old ≡ top cells.now.families + 1 }
+    requires cells { top cells.now.families + 1 < 2 ^ 32 }
+    requires values { (q : List ℕ) (v : ℕ) → find (slice_cmp nat_cmp) q cells.now.values ≡ Some v
+        → v < 2 ^ 32 }
+    ensures { (heads : List ℕ → ℕ) → HasHeads cells.now heads → IsRow cells.now heads row.old →
+        FillsSigns cells.now heads signs row.new }
+{
+    'signs: for s in 1..signs + 1 {
+        fill_string(cells, &[s], row);
     }
+}
+
+/// Fills in the cells of the strings of patterns, where those of one sign are filled in.
+fn fill_patterns(patterns: &PatternSet, packed: &Packed, row: &mut [Cell])
+    requires known { SignsUpTo packed.now.cells.signs patterns.now }
+    requires entered { IsEntered packed.now.cells.signs patterns.now packed.now.cells
+        packed.now.outputs }
+    requires cells { top packed.now.cells.families + 1 < 2 ^ 32 }
+    requires records { length packed.now.outputs < 2 ^ 32 }
+    requires signs { FillsSigns packed.now.cells (head_in patterns.now) packed.now.cells.signs
+        row.old }
+    ensures { row.new ≡ table_cells packed.now.cells.signs patterns.now }
+{
     'patterns: for i in 0..patterns.len() {
         fill_string(&packed.cells, patterns.entry(i).signs, row);
     }

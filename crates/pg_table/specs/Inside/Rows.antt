@@ -1,5 +1,5 @@
 -- The row of cells of a table, while it is filled string by string.
-use Rattle.std.specs.Prelude.{◌≡◌, ℕ, ◌+◌, ◌<◌, ◌≤◌, ◌⊎◌, List, length, take, get_or, Some}
+use Rattle.std.specs.Prelude.{◌≡◌, ℕ, ◌+◌, ◌<◌, ◌≤◌, ◌⊎◌, List, [], ◌∷◌, length, take, get_or, Some}
 use Rattle.std.specs.Ordering.{nat_cmp}
 use Rattle.std.specs.Cmp.Lexicographic.{slice_cmp}
 use Rattle.std.specs.FinMap.{find}
@@ -31,3 +31,9 @@ pub record Fills (h : ValuedFamilies ℕ) (heads : List ℕ → ℕ)
   pub row : IsRow h heads new
   pub keeps : (r : List ℕ) → HasCell h heads old r → HasCell h heads new r
   pub fronts : (k : ℕ) → k ≤ n → HasCell h heads new (take k q)
+
+-- the cells of the strings of one sign are filled in, up to the sign n
+pub record FillsSigns (h : ValuedFamilies ℕ) (heads : List ℕ → ℕ)
+    (n : ℕ) (new : List Cell) : Type 0 where
+  pub row : IsRow h heads new
+  pub each : (s : ℕ) → 1 ≤ s → s ≤ n → HasCell h heads new (s ∷ [])

@@ -6,26 +6,11 @@ use Rattle.pg_table.specs.Texts.{head_in}
 use Rattle.pg_table.proofs.EnteredStrings.{signs_within}
 use Rattle.pg_table.proofs.Filling.{row_last}
 use Rattle.pg_table.proofs.Groups.{Entry}
-use Rattle.pg_table.proofs.row.fill.Goals as goal
+use Rattle.pg_table.proofs.row.fill_patterns.Goals as goal
 
-pub roots-preserved : goal.roots-preserved
-roots-preserved c =
-    let h = c.args.packed.now.cells in
-    let heads = head_in c.args.patterns.now in
-    let has : HasHeads h heads = record { each = c.requires.entered.heads } in
-    let fills = c.fill_string.ensures heads has c.roots.invariant.row in
-    record {
-      row = fills.row;
-      roots = λ x low high. elim (cases_lt x c.roots.s) [
-        | inl before ↦ fills.keeps (x ∷ []) (c.roots.invariant.roots x low before)
-        | inr here ↦ let same : x ≡ c.roots.s = omega arith in subst (λ y. HasCell h heads c.fill_string.new.row (y ∷ [])) (sym same) (fills.fronts 1 (omega arith))
-      ];
-    }
-
-pub fill_string-requires-in-patterns-clause-signs : goal.fill_string-requires-in-patterns-clause-signs
-fill_string-requires-in-patterns-clause-signs c =
-    subst (λ n. All (λ s. (1 ≤ s) × (s ≤ n)) c.entry.result.signs.now) (sym c.requires.entered.packed.signs)
-    (signs_within c.args.signs c.args.patterns.now c.patterns.i ((c.entry.result.signs.now, c.entry.result.dot), c.entry.result.value) c.requires.known c.entry.ensures.value c.entry.ensures.signs)
+pub fill_string-requires-clause-signs : goal.fill_string-requires-clause-signs
+fill_string-requires-clause-signs c =
+    signs_within c.args.packed.now.cells.signs c.args.patterns.now c.patterns.i ((c.entry.result.signs.now, c.entry.result.dot), c.entry.result.value) c.requires.known c.entry.ensures.value c.entry.ensures.signs
 
 pub patterns-preserved : goal.patterns-preserved
 patterns-preserved c =
@@ -33,24 +18,24 @@ patterns-preserved c =
     let heads = head_in c.args.patterns.now in
     let q = c.entry.result.signs.now in
     let has : HasHeads h heads = record { each = c.requires.entered.heads } in
-    let fills = c.fill_string-in-patterns.ensures heads has c.patterns.invariant.row in
+    let fills = c.fill_string.ensures heads has c.patterns.invariant.row in
     record {
       row = fills.row;
-      roots = λ x low high. fills.keeps (x ∷ []) (c.patterns.invariant.roots x low high);
+      signs = λ x low high. fills.keeps (x ∷ []) (c.patterns.invariant.signs x low high);
       fronts = λ j k e low at. elim (cases_lt j c.patterns.i) [
         | inl before ↦ fills.keeps (take k e.0.0) (c.patterns.invariant.fronts j k e before at)
         | inr here ↦
             let same : j ≡ c.patterns.i = omega arith in
             let found : Some e ≡ Some ((q, c.entry.result.dot), c.entry.result.value) = sym at ∙ ap (slice_get c.args.patterns.now) same ∙ c.entry.ensures.value in
             let is : e ≡ ((q, c.entry.result.dot), c.entry.result.value) = cc in
-            subst (λ (r : List ℕ). HasCell h heads c.fill_string-in-patterns.new.row (take k r)) (sym (ap (λ (f : Entry). f.0.0) is)) (elim (cases_lt (length q) k) [
+            subst (λ (r : List ℕ). HasCell h heads c.fill_string.new.row (take k r)) (sym (ap (λ (f : Entry). f.0.0) is)) (elim (cases_lt (length q) k) [
               | inr short ↦ fills.fronts k short
-              | inl long ↦ subst (HasCell h heads c.fill_string-in-patterns.new.row) (take_all (length q) q (omega arith) ∙ sym (take_all k q (omega arith))) (fills.fronts (length q) (omega arith))
+              | inl long ↦ subst (HasCell h heads c.fill_string.new.row) (take_all (length q) q (omega arith) ∙ sym (take_all k q (omega arith))) (fills.fronts (length q) (omega arith))
             ])
       ];
     }
 
 pub returns : goal.returns
 returns c =
-    row_last c.args.signs c.args.patterns.now c.args.packed.now.cells c.args.packed.now.outputs c.patterns.row c.requires.entered c.patterns.invariant.row c.patterns.invariant.roots
+    row_last c.args.packed.now.cells.signs c.args.patterns.now c.args.packed.now.cells c.args.packed.now.outputs c.patterns.row c.requires.entered c.patterns.invariant.row c.patterns.invariant.signs
     (λ j k e low at. c.patterns.invariant.fronts j k e (omega (arith, c.len-i-end.ensures.value)) at)
