@@ -3,8 +3,8 @@ use Rattle.std.specs.Prelude.{ℕ, ◌+◌, ◌*◌, Bool, not, ◌&&◌, ◌||�
 use Rattle.std.specs.List.{list_all, range_with_len, starts_with}
 use Rattle.pg_types.specs.declared.limits.TheConstants.{LEVEL_MAX, PATTERN_SIGNS_MAX, SIGNS_MAX}
 use Rattle.pg_outputs.specs.declared.records.Record.{Record}
-use Rattle.pg_table.specs.declared.cell.Cell.{Cell}
-use Rattle.pg_table.specs.declared.head.Head.{Head}
+use Rattle.pg_table.specs.declared.parts.cell.Cell.{Cell}
+use Rattle.pg_table.specs.declared.parts.head.Head.{Head}
 use Rattle.pg_table.specs.declared.limits.TheConstants.{CELL_LEN, HEAD_LEN, RECORD_LEN, TABLE_MAX}
 use Rattle.pg_table.specs.Numbers.{u16_at, u32_at}
 

@@ -7,7 +7,7 @@ use Rattle.pg_types.specs.Placement.{Families, entered_families, top, base_of}
 use Rattle.pg_types.specs.Tails.{outputs_of, suffixes, same_pair}
 use Rattle.pg_patterns.specs.Texts.{strings_of}
 use Rattle.pg_outputs.specs.declared.records.Record.{Record}
-use Rattle.pg_table.specs.declared.cell.Cell.{Cell}
+use Rattle.pg_table.specs.declared.parts.cell.Cell.{Cell}
 use Rattle.pg_table.specs.Numbers.{u16_bytes, u32_bytes}
 use Rattle.pg_table.specs.Forms.{file_mark}
 

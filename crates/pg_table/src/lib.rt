@@ -2,22 +2,15 @@
 //! such a file.
 #![tactic(auto)]
 
-mod cell;
-mod entering;
 mod error;
-mod head;
 pub mod laws;
 mod limits;
-mod numbers;
-mod record;
-mod row;
+mod parts;
 mod text;
-mod totals;
 mod view;
-mod walk;
 
 pub use error::TableError;
 pub use limits::TABLE_MAX;
 pub use text::table_text;
-pub use totals::table_totals;
 pub use view::TableView;
+pub use view::totals::table_totals;

@@ -8,17 +8,20 @@ ghost use Rattle.pg_table.specs.declared.error.TableError.TheVariants.{TooLong};
 ghost use Rattle.pg_table.specs.declared.limits.TheConstants.{CELL_LEN, HEAD_LEN, RECORD_LEN, TABLE_MAX};
 ghost use Rattle.pg_table.specs.Forms.{is_well_formed};
 ghost use Rattle.pg_table.specs.Inside.Laws.{HasEntries};
-ghost use Rattle.pg_table.specs.Inside.Packed.{IsEntered};
+ghost use Rattle.pg_table.specs.Inside.text.Packed.{IsEntered};
 ghost use Rattle.pg_table.specs.Texts.{cell_bytes, record_bytes, table_text};
-ghost use Rattle.pg_table.specs.Inside.Files.{file_of};
+ghost use Rattle.pg_table.specs.Inside.text.Files.{file_of};
 
-use crate::cell::Cell;
-use crate::entering::{Packed, enter_all};
+mod entering;
+mod row;
+
 use crate::error::TableError;
-use crate::head::FILE_MARK;
 use crate::limits::{CELL_LEN, HEAD_LEN, RECORD_LEN, TABLE_MAX};
-use crate::numbers::{push_u16, push_u32};
-use crate::row::table_cells;
+use crate::parts::cell::Cell;
+use crate::parts::head::FILE_MARK;
+use crate::parts::numbers::{push_u16, push_u32};
+use crate::text::entering::{Packed, enter_all};
+use crate::text::row::table_cells;
 use pg_outputs::Outputs;
 use pg_patterns::PatternSet;
 use std::alloc::{AllocError, Global};

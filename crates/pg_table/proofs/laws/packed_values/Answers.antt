@@ -1,4 +1,4 @@
-use Rattle.pg_table.proofs.PackedValues.{values_are_packed, totals_are_packed}
+use Rattle.pg_table.proofs.laws.PackedValues.{values_are_packed, totals_are_packed}
 use Rattle.pg_table.proofs.laws.packed_values.Goals as goal
 
 pub returns : goal.returns

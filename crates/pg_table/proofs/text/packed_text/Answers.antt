@@ -1,6 +1,6 @@
 use Rattle.std.proofs.Common.{◌≡◌, ◌+◌, length, ap, ◌∙◌, arith}
 use Rattle.pg_types.specs.Placement.{top}
-use Rattle.pg_table.proofs.TableText.{text_size, fits, length-table_cells, text_of}
+use Rattle.pg_table.proofs.text.TableText.{text_size, fits, length-table_cells, text_of}
 use Rattle.pg_table.proofs.text.packed_text.Goals as goal
 
 pub returns-then-is_too_long-clause-too_long : goal.returns-then-is_too_long-clause-too_long

@@ -1,4 +1,4 @@
-use Rattle.pg_table.proofs.TableText.{sound_text, entries_text, on_any}
+use Rattle.pg_table.proofs.text.TableText.{sound_text, entries_text, on_any}
 use Rattle.pg_table.proofs.text.table_text.Goals as goal
 
 pub returns-clause-text : goal.returns-clause-text

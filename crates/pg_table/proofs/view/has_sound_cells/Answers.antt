@@ -1,7 +1,7 @@
 use Rattle.std.proofs.Common.{◌≡◌, true, sym, ◌∙◌, ap, arith, below_more}
-use Rattle.pg_table.specs.declared.cell.Cell.{Cell}
+use Rattle.pg_table.specs.declared.parts.cell.Cell.{Cell}
 use Rattle.pg_table.specs.Forms.{cell_at, is_sound_cell}
-use Rattle.pg_table.proofs.Ranges.{range_passes, range_fails}
+use Rattle.pg_table.proofs.parts.Ranges.{range_passes, range_fails}
 use Rattle.pg_table.proofs.view.has_sound_cells.Goals as goal
 
 pub returns-then-not-is_sound : goal.returns-then-not-is_sound

@@ -2,7 +2,7 @@ use Rattle.std.proofs.Common.{sym, ◌∙◌, ap, arith}
 use Rattle.pg_outputs.specs.declared.records.Record.{Record}
 use Rattle.pg_table.specs.Forms.{is_sound_record}
 use Rattle.pg_table.specs.Inside.Extents.{read_record, record_start}
-use Rattle.pg_table.proofs.Ranges.{range_passes, range_fails}
+use Rattle.pg_table.proofs.parts.Ranges.{range_passes, range_fails}
 use Rattle.pg_table.proofs.view.has_sound_records.Goals as goal
 
 pub returns-then-not-is_sound_record : goal.returns-then-not-is_sound_record

@@ -1,8 +1,8 @@
 use Rattle.std.proofs.Common.{◌≡◌, ◌+◌, ap, subst, ◌∙◌, arith, rules}
-use Rattle.pg_table.specs.declared.head.Head.{Head}
-use Rattle.pg_table.specs.declared.cell.Cell.{Cell}
+use Rattle.pg_table.specs.declared.parts.head.Head.{Head}
+use Rattle.pg_table.specs.declared.parts.cell.Cell.{Cell}
 use Rattle.pg_table.specs.Forms.{head_of, cell_at}
-use Rattle.pg_table.proofs.FormLaws.{IsWellFormed, form_told}
+use Rattle.pg_table.proofs.parts.FormLaws.{IsWellFormed, form_told}
 use Rattle.pg_table.proofs.view.TableView.find.Goals as goal
 
 pub overflow_add-at : goal.overflow_add-at

@@ -1,11 +1,11 @@
 use Rattle.std.proofs.Common.{◌≡◌, ◌+◌, ◌<◌, ◌≤◌, ◌∷◌, ap, subst, sym, ◌∙◌, arith}
 use Rattle.pg_outputs.specs.declared.records.Record.{Record}
-use Rattle.pg_table.specs.declared.head.Head.{Head}
+use Rattle.pg_table.specs.declared.parts.head.Head.{Head}
 use Rattle.pg_table.specs.Forms.{head_of, record_at}
 use Rattle.pg_table.specs.Inside.Extents.{record_start, read_record}
-use Rattle.pg_table.specs.Inside.ListsOf.{list_in}
-use Rattle.pg_table.proofs.FormLaws.{IsWellFormed, form_told}
-use Rattle.pg_table.proofs.FileRecords.{list_in-zero, list_in-at}
+use Rattle.pg_table.specs.Inside.view.ListsOf.{list_in}
+use Rattle.pg_table.proofs.parts.FormLaws.{IsWellFormed, form_told}
+use Rattle.pg_table.proofs.view.FileRecords.{list_in-zero, list_in-at}
 use Rattle.pg_table.proofs.view.TableView.first.Goals as goal
 
 pub returns-in_err-i-clause-list : goal.returns-in_err-i-clause-list

@@ -1,6 +1,6 @@
 use Rattle.std.proofs.Common.{◌+◌, ◌≤◌, length, ap, arith}
-use Rattle.pg_table.specs.declared.head.Head.{Head}
-use Rattle.pg_table.proofs.FormLaws.{form_told}
+use Rattle.pg_table.specs.declared.parts.head.Head.{Head}
+use Rattle.pg_table.proofs.parts.FormLaws.{form_told}
 use Rattle.pg_table.proofs.view.TableView.output_at.Goals as goal
 
 pub slice_bounds-result-end : goal.slice_bounds-result-end

@@ -1,6 +1,6 @@
 use Rattle.std.proofs.Common.{◌≡◌, true, sym, refl}
 use Rattle.pg_table.specs.Forms.{is_well_formed}
-use Rattle.pg_table.proofs.FormLaws.{form_is, no_head, no_cells, no_records}
+use Rattle.pg_table.proofs.parts.FormLaws.{form_is, no_head, no_cells, no_records}
 use Rattle.pg_table.proofs.view.TableView.read.Goals as goal
 use Rattle.pg_table.proofs.view.TableView.read.Goals.{else-has_sound_cells-via-then-has_sound_cells+else-has_sound_records, else-has_sound_cells-via-else-has_sound_cells}
 

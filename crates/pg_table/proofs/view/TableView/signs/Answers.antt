@@ -1,7 +1,7 @@
 use Rattle.std.proofs.Common.{◌≤◌, ap, arith}
 use Rattle.pg_types.specs.declared.limits.TheConstants.{SIGNS_MAX}
-use Rattle.pg_table.specs.declared.head.Head.{Head}
-use Rattle.pg_table.proofs.FormLaws.{form_told}
+use Rattle.pg_table.specs.declared.parts.head.Head.{Head}
+use Rattle.pg_table.proofs.parts.FormLaws.{form_told}
 use Rattle.pg_table.proofs.view.TableView.signs.Goals as goal
 
 pub overflow_cast-result : goal.overflow_cast-result

@@ -2,8 +2,8 @@ use Rattle.std.proofs.Common.{◌≡◌, ℕ, ◌+◌, Bool, true, false, get_or
 use Rattle.pg_types.specs.declared.limits.TheConstants.{WORD_LETTERS_MAX}
 use Rattle.pg_table.specs.Lookups.{table_value}
 use Rattle.pg_select.specs.Inside.Positions.{values_of, bit}
-use Rattle.pg_table.specs.Inside.Raising.{by_starts}
-use Rattle.pg_table.proofs.Walks.{all_same, table_value_is}
+use Rattle.pg_table.specs.Inside.view.Raising.{by_starts}
+use Rattle.pg_table.proofs.view.CellWalks.{all_same, table_value_is}
 use Rattle.pg_table.proofs.view.TableView.values.Goals as goal
 
 pub walk-requires-clause-uncovered : goal.walk-requires-clause-uncovered

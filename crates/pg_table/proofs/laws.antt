@@ -1,0 +1,2 @@
+pub mod PackedValues
+pub mod Greatest

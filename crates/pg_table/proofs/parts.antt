@@ -1,0 +1,4 @@
+pub mod BigEndian
+pub mod Parts
+pub mod Ranges
+pub mod FormLaws

@@ -1,0 +1,6 @@
+use Rattle.std.proofs.Common.{◌++◌, List, ℕ, ap, ◌∙◌}
+use Rattle.pg_table.proofs.parts.BigEndian.{two_bytes}
+use Rattle.pg_table.proofs.parts.numbers.push_u16.Goals as goal
+
+pub returns : goal.returns
+returns c = c.in_ok-extend_from_slice.ensures.items ∙ ap (λ (l : List ℕ). c.args.text.now.items ++ l) (c.to_be_bytes.ensures ∙ two_bytes c.args.n)

@@ -1,0 +1,10 @@
+pub mod EnteredStrings
+pub mod Filling
+pub mod Groups
+pub mod Recorded
+pub mod RecordedStrings
+pub mod Sharing
+pub mod TableCells
+pub mod TableRecords
+pub mod FileParts
+pub mod TableText

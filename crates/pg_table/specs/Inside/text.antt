@@ -1,0 +1,5 @@
+pub mod Packed
+pub mod Sharing
+pub mod Rows
+pub mod Files
+pub mod Cells

@@ -1,0 +1,4 @@
+pub mod ListsOf
+pub mod Raising
+pub mod Marks
+pub mod Greatest
