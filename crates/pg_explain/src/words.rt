@@ -16,30 +16,43 @@ use pg_visible::Part::{Count, Name, Say};
 use pg_visible::Text;
 use std::alloc::AllocError;
 
-/// What is wrong with the word at a place behind a command, or with that one is missing there.
-fn word_fault<'a>(command: &Command, words: &'a [String], place: usize) -> Option<Fault<'a>> {
+/// What is wrong with the word at a place behind a command.
+fn word_fault<'a>(
+    command: &Command,
+    words: &'a [String],
+    place: usize,
+    word: &'a str,
+) -> Option<Fault<'a>> {
     let has_options = matches!(command.behind, Behind::WrittenFiles | Behind::ReadFiles);
-    let has_sets = matches!(command.behind, Behind::Sets);
-    match (command.slots.get(place), words.get(place)) {
-        (Some(slot), Some(word)) => slot_fault(slot, word.as_str(), has_options),
-        (Some(slot), None) => Some(of_words("$0: $1 is missing", slot.name(), "", "")),
-        (None, Some(_)) => rest_fault(command, words, place),
-        (None, None) if has_sets && place == command.slots.len() => {
-            Some(of_words("$0: PARAMS is missing", "", "", ""))
+    match command.slots.get(place) {
+        Some(slot) => slot_fault(slot, word, has_options),
+        None => rest_fault(command, words, place, word),
+    }
+}
+
+/// How the word is called that is missing behind so many; none where none is missing.
+fn missing_name(command: &Command, words: usize) -> Option<&'static str> {
+    match command.slots.get(words) {
+        Some(slot) => Some(slot.name()),
+        None if words == command.slots.len() && matches!(command.behind, Behind::Sets) => {
+            Some("PARAMS")
         }
-        (None, None) => None,
+        None => None,
     }
 }
 
 /// The first thing that is wrong with the words that follow a command.
 fn fault_of<'a>(command: &Command, words: &'a [String]) -> Option<Fault<'a>> {
-    for place in 0..words.len().saturating_add(1) {
-        let fault = word_fault(command, words, place);
+    for (place, word) in words.iter().enumerate() {
+        let fault = word_fault(command, words, place, word.as_str());
         if fault.is_some() {
             return fault;
         }
     }
-    pair_fault(command, words)
+    match missing_name(command, words.len()) {
+        Some(name) => Some(of_words("$0: $1 is missing", name, "", "")),
+        None => pair_fault(command, words),
+    }
 }
 
 /// Appends the form of a command.

@@ -35,8 +35,8 @@ fn same_fault<'a>(
     words: &'a [String],
     before: usize,
     place: usize,
+    name: &'a str,
 ) -> Option<Fault<'a>> {
-    let name = words.get(place)?.as_str();
     let (one, is_one_written) = name_at(command, words, before)?;
     let (other, is_other_written) = name_at(command, words, place)?;
     if is_one_written {
@@ -49,11 +49,15 @@ fn same_fault<'a>(
 }
 
 /// What is wrong where a word before a place is equal to the one there and has to differ from it.
-fn same_before<'a>(command: &Command, words: &'a [String], place: usize) -> Option<Fault<'a>> {
-    let word = words.get(place)?.as_str();
+fn same_before<'a>(
+    command: &Command,
+    words: &'a [String],
+    place: usize,
+    word: &'a str,
+) -> Option<Fault<'a>> {
     for (before, other) in words.iter().enumerate() {
         if before < place && other.as_str() == word {
-            let fault = same_fault(command, words, before, place);
+            let fault = same_fault(command, words, before, place, word);
             if fault.is_some() {
                 return fault;
             }
@@ -64,8 +68,8 @@ fn same_before<'a>(command: &Command, words: &'a [String], place: usize) -> Opti
 
 /// What is wrong where two words are equal and have to differ; the first such pair counts.
 pub(crate) fn pair_fault<'a>(command: &Command, words: &'a [String]) -> Option<Fault<'a>> {
-    for place in 0..words.len() {
-        let fault = same_before(command, words, place);
+    for (place, word) in words.iter().enumerate() {
+        let fault = same_before(command, words, place, word.as_str());
         if fault.is_some() {
             return fault;
         }

@@ -16,8 +16,12 @@ fn is_among(words: &[String], word: &str) -> bool {
 }
 
 /// What is said of the option at a place, where it is wrong or its name is missing.
-fn option_words(command: &Command, words: &[String], place: usize) -> Option<&'static str> {
-    let option = words.get(place)?.as_str();
+fn option_words(
+    command: &Command,
+    words: &[String],
+    place: usize,
+    option: &str,
+) -> Option<&'static str> {
     let is_read = matches!(command.behind, Behind::ReadFiles);
     if !is_option(option) {
         Some("$0: $1 is one word too many")
@@ -49,13 +53,14 @@ pub(crate) fn rest_fault<'a>(
     command: &Command,
     words: &'a [String],
     place: usize,
+    word: &'a str,
 ) -> Option<Fault<'a>> {
-    let word = words.get(place)?.as_str();
     let slots = command.slots.len();
-    match command.behind {
-        Behind::Nothing => Some(of_words("$0: $1 is one word too many", word, "", "")),
-        Behind::Sets => set_fault(word, words.len().saturating_sub(slots)),
-        _ if place.saturating_sub(slots) % 2 == 1 => name_fault("FILE", word, false),
-        _ => Some(of_words(option_words(command, words, place)?, word, "", "")),
-    }
+    let said = match command.behind {
+        Behind::Nothing => "$0: $1 is one word too many",
+        Behind::Sets => return set_fault(word, words.len().saturating_sub(slots)),
+        _ if place.saturating_sub(slots) % 2 == 1 => return name_fault("FILE", word, false),
+        _ => option_words(command, words, place, word)?,
+    };
+    Some(of_words(said, word, "", ""))
 }
