@@ -3,6 +3,7 @@ use crate::case::words_of;
 use crate::compare::push_difference;
 use crate::pieces::push_text;
 use crate::table::{Line, Row, Table};
+use crate::word::Word;
 use pg_dict::Dictionary;
 use pg_explain::{Before, Deed, FalseLine, Fault, Letters, MEMORY, Refused, Wrong, explain};
 use pg_patterns::PatternSet;
@@ -28,7 +29,9 @@ pub(crate) fn compare_explanation(
 ) -> io::Result<()> {
     let asked = Asked { alloc, table, row };
     let said = asked.said()?;
-    Ok(asked.compare(text, &said)?)
+    let wanted = asked.content(Word::Says).unwrap_or(b"no text");
+    let is_right = said.as_slice() == wanted;
+    push_difference(text, is_right, "said", wanted, &said)
 }
 
 /// What a reader refuses; none where it accepts or finds no memory.
@@ -39,26 +42,33 @@ fn refusal_of<T: Drop>(read: Result<T, ReadingError>) -> Option<Refusal> {
     }
 }
 
+/// The kinds of refusal without a place.
+const KINDS: [Kind; 7] = [
+    Kind::TranslateTooLong,
+    Kind::ParametersTooLong,
+    Kind::PatternsTooLong,
+    Kind::DictionaryTooLong,
+    Kind::TableTooLong,
+    Kind::BadTable,
+    Kind::OtherTable,
+];
+
 /// The kind of refusal without a place that has this number.
-fn kind_of(number: &str) -> Kind {
-    match number {
-        "101" => Kind::TranslateTooLong,
-        "205" => Kind::ParametersTooLong,
-        "303" => Kind::PatternsTooLong,
-        "403" => Kind::DictionaryTooLong,
-        "601" => Kind::TableTooLong,
-        "602" => Kind::BadTable,
-        _ => Kind::OtherTable,
+fn kind_of(number: u16) -> Kind {
+    for kind in KINDS {
+        if kind.number() == number {
+            return kind;
+        }
     }
+    Kind::OtherTable
 }
 
-/// A deed and a name with a blank between them.
-fn deed_and_name(line: &str) -> (Deed, &str) {
-    let (word, name) = line.split_once(' ').unwrap_or((line, ""));
+/// The deed of a word.
+fn deed_of(word: &str) -> Deed {
     match word {
-        "reading" => (Deed::Reading, name),
-        "writing" => (Deed::Writing, name),
-        _ => (Deed::Printing, name),
+        "reading" => Deed::Reading,
+        "writing" => Deed::Writing,
+        _ => Deed::Printing,
     }
 }
 
@@ -80,85 +90,131 @@ fn note_of(note: &str) -> Wrong<'static> {
     }
 }
 
+/// The name of the file of a line.
+fn name_of(word: Word) -> &'static str {
+    match word {
+        Word::Dict => "d.dic",
+        Word::Patterns => "p.pat",
+        Word::Params => "a.par",
+        Word::Translate => "t.tra",
+        _ => "x.tab",
+    }
+}
+
+/// What the file of a line is refused for, by this table of letters.
+fn refusal_in(
+    alloc: Global,
+    table: &LetterTable,
+    line: &Line<'_>,
+    bytes: &[u8],
+) -> Option<Refusal> {
+    match line.word {
+        Word::Dict => refusal_of(Dictionary::read(alloc, table, bytes)),
+        Word::Patterns => refusal_of(PatternSet::read(alloc, table, bytes)),
+        Word::Params => refusal_of(read_params(alloc, bytes)),
+        Word::Translate => refusal_of(LetterTable::read(alloc, bytes)),
+        _ => Some(Refusal {
+            kind: kind_of(line.rest.parse().unwrap_or(0)),
+            line: 0,
+            column: 0,
+        }),
+    }
+}
+
+/// The table by which the file of a word is read, if there is one.
+fn table_for(word: Word, table: &LetterTable) -> Option<&LetterTable> {
+    match word {
+        Word::Params | Word::Translate => None,
+        _ => Some(table),
+    }
+}
+
 impl<'a> Asked<'a> {
+    /// The content below a word.
+    fn content(&self, word: Word) -> Option<&'a [u8]> {
+        Some(self.table.content(self.row.find(word)?))
+    }
+
     /// What stands behind a word; nothing where no line begins with it.
-    fn rest(&self, word: &str) -> &'a str {
+    fn rest(&self, word: Word) -> &'a str {
         match self.row.find(word) {
             Some(line) => line.rest,
             None => "",
         }
     }
 
-    /// The content below a word.
-    fn content(&self, word: &str) -> Option<&'a [u8]> {
-        Some(self.table.content(self.row.find(word)?))
-    }
-
-    /// Compares an explanation with the one that is wanted.
-    fn compare(&self, text: &mut String, said: &[u8]) -> Result<(), AllocError> {
-        let wanted = self.content("says").unwrap_or(b"no text");
-        push_difference(text, said == wanted, "said", wanted, said)
-    }
-
     /// The explanation.
     fn said(&self) -> io::Result<Vec<u8>> {
         for line in self.row.lines.iter() {
-            match line.word {
-                "words" => return Ok(self.said_words(line.rest)?),
-                "fault" => return self.said_fault(line.rest),
-                "line" => return Ok(self.said_false(line.rest)?),
-                "note" => return Ok(explain(self.alloc, &note_of(line.rest))?),
-                "memory" => return Ok(MEMORY.to_vec(self.alloc)?),
-                "dict" | "patterns" | "refused" | "params" | "translate" => {
-                    return Ok(self.said_of_file(line)?);
-                }
-                _ => {}
+            if line.word.asks() {
+                return self.said_of(line);
             }
         }
         Err(io::Error::other("the row has no call, and asks for no explanation"))
     }
 
+    /// The explanation of what a line says.
+    fn said_of(&self, line: &Line<'a>) -> io::Result<Vec<u8>> {
+        match line.word {
+            Word::Words => self.said_words(line.rest),
+            Word::Fault => self.said_fault(line.rest),
+            Word::Line => self.said_false(line.rest),
+            Word::Note => self.explained(&note_of(line.rest)),
+            Word::Memory => Ok(MEMORY.to_vec(self.alloc)?),
+            _ => self.said_of_file(line),
+        }
+    }
+
+    /// The explanation of this.
+    fn explained(&self, wrong: &Wrong<'_>) -> io::Result<Vec<u8>> {
+        Ok(explain(self.alloc, wrong)?)
+    }
+
     /// The explanation of words.
-    fn said_words(&self, line: &str) -> Result<Vec<u8>, AllocError> {
+    fn said_words(&self, line: &str) -> io::Result<Vec<u8>> {
         let words = words_of(self.alloc, line)?;
-        explain(self.alloc, &Wrong::Words(&words))
+        self.explained(&Wrong::Words(&words))
     }
 
     /// The explanation of a fault, in whose line escapes may stand.
     fn said_fault(&self, line: &str) -> io::Result<Vec<u8>> {
         let mut bytes = Vec::new(self.alloc);
         push_text(&mut bytes, line)?;
-        let (deed, name) = deed_and_name(str::from_utf8(&bytes).unwrap_or(""));
-        let fault = Fault {
-            deed,
+        self.said_failed(str::from_utf8(&bytes).unwrap_or(""))
+    }
+
+    /// The same of a line without escapes.
+    fn said_failed(&self, line: &str) -> io::Result<Vec<u8>> {
+        let (word, name) = line.split_once(' ').unwrap_or((line, ""));
+        self.explained(&Wrong::Fault(Fault {
+            deed: deed_of(word),
             name,
-            reason: self.rest("reason"),
+            reason: self.rest(Word::Reason),
             before: self.before(),
-        };
-        Ok(explain(self.alloc, &Wrong::Fault(fault))?)
+        }))
     }
 
     /// What was done before a fault.
     fn before(&self) -> Option<Before<'a>> {
-        let (deed, name) = deed_and_name(self.row.find("before")?.rest);
+        let (word, name) = self.rest(Word::Before).split_once(' ')?;
+        let deed = deed_of(word);
         Some(Before { deed, name })
     }
 
     /// The explanation of a false line.
-    fn said_false(&self, number: &str) -> Result<Vec<u8>, AllocError> {
-        let line = FalseLine {
+    fn said_false(&self, number: &str) -> io::Result<Vec<u8>> {
+        self.explained(&Wrong::False(FalseLine {
             name: "o.pat",
             line: number.parse().unwrap_or(0),
-            found: self.content("found"),
-            wanted: self.content("wanted"),
-        };
-        explain(self.alloc, &Wrong::False(line))
+            found: self.content(Word::Found),
+            wanted: self.content(Word::Wanted),
+        }))
     }
 
     /// The explanation of what is wrong with the content of a line, which is read by the letters of
     /// the row.
-    fn said_of_file(&self, line: &Line<'a>) -> Result<Vec<u8>, AllocError> {
-        let letters = self.content("letters").unwrap_or(b"");
+    fn said_of_file(&self, line: &Line<'a>) -> io::Result<Vec<u8>> {
+        let letters = self.content(Word::Letters).unwrap_or(b"");
         let table = match LetterTable::read(self.alloc, letters) {
             Ok(table) => table,
             Err(_) => LetterTable::default_letters(self.alloc)?,
@@ -167,41 +223,18 @@ impl<'a> Asked<'a> {
     }
 
     /// The same by this table of letters.
-    fn said_by(&self, table: &LetterTable, line: &Line<'a>) -> Result<Vec<u8>, AllocError> {
-        let alloc = self.alloc;
+    fn said_by(&self, table: &LetterTable, line: &Line<'a>) -> io::Result<Vec<u8>> {
         let bytes = self.table.content(line);
-        match line.word {
-            "dict" => {
-                let refusal = refusal_of(Dictionary::read(alloc, table, bytes));
-                self.said_refused("d.dic", bytes, refusal, Some(table))
+        match refusal_in(self.alloc, table, line, bytes) {
+            Some(refusal) => {
+                let table = table_for(line.word, table);
+                self.said_refused(name_of(line.word), bytes, refusal, table)
             }
-            "patterns" => match refusal_of(PatternSet::read(alloc, table, bytes)) {
-                None => explain(
-                    alloc,
-                    &Wrong::Behind {
-                        patterns: "p.pat",
-                        bytes,
-                    },
-                ),
-                refusal => self.said_refused("p.pat", bytes, refusal, Some(table)),
-            },
-            "params" => {
-                let refusal = refusal_of(read_params(alloc, bytes));
-                self.said_refused("a.par", bytes, refusal, None)
-            }
-            "translate" => {
-                let refusal = refusal_of(LetterTable::read(alloc, bytes));
-                self.said_refused("t.tra", bytes, refusal, None)
-            }
-            _ => {
-                let kind = kind_of(line.rest);
-                let refusal = Refusal {
-                    kind,
-                    line: 0,
-                    column: 0,
-                };
-                self.said_refused("x.tab", bytes, Some(refusal), Some(table))
-            }
+            None if line.word.is(Word::Patterns) => self.explained(&Wrong::Behind {
+                patterns: "p.pat",
+                bytes,
+            }),
+            None => Ok(Vec::new(self.alloc)),
         }
     }
 
@@ -210,10 +243,10 @@ impl<'a> Asked<'a> {
         &self,
         name: &str,
         bytes: &[u8],
-        refusal: Option<Refusal>,
+        refusal: Refusal,
         table: Option<&LetterTable>,
-    ) -> Result<Vec<u8>, AllocError> {
-        let given = self.rest("letters");
+    ) -> io::Result<Vec<u8>> {
+        let given = self.rest(Word::Letters);
         let table_name = if given.is_empty() { "t.tra" } else { given };
         let letters = match table {
             Some(table) => Some(Letters {
@@ -222,17 +255,11 @@ impl<'a> Asked<'a> {
             }),
             None => None,
         };
-        match refusal {
-            Some(refusal) => explain(
-                self.alloc,
-                &Wrong::Refused(Refused {
-                    name,
-                    bytes,
-                    refusal,
-                    letters,
-                }),
-            ),
-            None => Ok(Vec::new(self.alloc)),
-        }
+        self.explained(&Wrong::Refused(Refused {
+            name,
+            bytes,
+            refusal,
+            letters,
+        }))
     }
 }

@@ -1,6 +1,8 @@
 //! The calls of a row, from files to files.
-use crate::changes::{Change, changes_of};
+use crate::changes::Change;
+use crate::made::number_of;
 use crate::table::{Call, Line, Row, Table};
+use crate::word::Word;
 use pg_outside::{Files, MemoryFiles, MemorySink, ReadError, Sink};
 use pg_top::{Status, run};
 use std::alloc::{AllocError, Global};
@@ -90,39 +92,25 @@ pub(crate) fn hold_given<'a>(
     change: Option<&'a Change<'a>>,
 ) -> io::Result<()> {
     holds.clear();
-    hold_shared(holds, table, row)?;
-    hold_own(holds, table, row)?;
+    hold_lines(holds, table, &table.shared)?;
+    hold_lines(holds, table, &row.lines)?;
     match change {
         Some(change) => Ok(hold(holds, change.name, Some(&change.bytes))?),
         None => Ok(()),
     }
 }
 
-/// From now on the files have to hold what a table gives all its rows, but for what a row is
-/// without.
-fn hold_shared<'a>(
+/// From now on the files have to hold what these lines give.
+fn hold_lines<'a>(
     holds: &mut Vec<Held<'a>>,
     table: &'a Table<'a>,
-    row: &Row<'a>,
-) -> Result<(), AllocError> {
-    for line in table.shared.iter() {
-        if line.word == "file" && !row.is_without(line.name) {
-            hold(holds, line.name, Some(table.content(line)))?;
-        }
-    }
-    Ok(())
-}
-
-/// From now on the files have to hold what a row gives itself.
-fn hold_own<'a>(
-    holds: &mut Vec<Held<'a>>,
-    table: &'a Table<'a>,
-    row: &'a Row<'a>,
+    lines: &[Line<'a>],
 ) -> io::Result<()> {
-    for line in row.lines.iter() {
+    for line in lines {
         match line.word {
-            "file" => hold(holds, line.name, Some(table.content(line)))?,
-            "missing" | "changes" => {}
+            Word::File => hold(holds, line.name, Some(table.content(line)))?,
+            Word::Missing => hold(holds, line.rest, None)?,
+            Word::Changes => {}
             _ => return Err(io::Error::other("a line belongs to no row of calls")),
         }
     }
@@ -155,20 +143,14 @@ fn add_held(files: &mut MemoryFiles, holds: &[Held<'_>]) -> Result<(), AllocErro
     Ok(())
 }
 
-/// The changes of a file.
-pub(crate) fn changes_in<'a>(
-    alloc: Global,
-    holds: &[Held<'a>],
-    name: &str,
-) -> io::Result<Vec<Change<'a>>> {
+/// What the file of this name has to hold.
+pub(crate) fn held_bytes<'a>(holds: &[Held<'a>], name: &str) -> Option<&'a [u8]> {
     for held in holds {
-        if held.name == name
-            && let Some(bytes) = held.bytes
-        {
-            return Ok(changes_of(alloc, held.name, bytes)?);
+        if held.name == name {
+            return held.bytes;
         }
     }
-    Err(io::Error::other("no file of this name stands above"))
+    None
 }
 
 /// Lists the calls on the files and the puts that are to fail, and the ones behind the last.
@@ -178,24 +160,39 @@ fn list_faults(
     out: &mut MemorySink,
 ) -> io::Result<()> {
     for want in wants {
-        if want.word == "fails" || want.word == "calls" || want.word == "puts" {
-            list_fault(fault_of(want)?, files, out)?;
+        match want.word {
+            Word::FailsCall | Word::FailsPut => list_fault(want, files, out)?,
+            Word::Calls => files.fail_at(number_behind(want.rest)?, None)?,
+            Word::Puts => out.fail_at(number_behind(want.rest)?, None)?,
+            _ => {}
         }
     }
     Ok(())
 }
 
-/// Lists the call on the files or the put that is to fail.
-fn list_fault(
-    fault: Fault,
-    files: &mut MemoryFiles,
-    out: &mut MemorySink,
-) -> Result<(), AllocError> {
-    if fault.is_put {
-        out.fail_at(fault.number, fault.keep)
+/// The number behind this one.
+fn number_behind(text: &str) -> io::Result<u64> {
+    Ok(u64::from(number_of(text)?) + 1)
+}
+
+/// Lists the call on the files or the put that fails by a line.
+fn list_fault(want: &Line<'_>, files: &mut MemoryFiles, out: &mut MemorySink) -> io::Result<()> {
+    let (number, keep) = want.rest.split_once(" keeps ").unwrap_or((want.rest, ""));
+    let number = u64::from(number_of(number)?);
+    let keep = keep_of(keep)?;
+    if want.word.is(Word::FailsPut) {
+        Ok(out.fail_at(number, keep)?)
     } else {
-        files.fail_at(fault.number, fault.keep)
+        Ok(files.fail_at(number, keep)?)
     }
+}
+
+/// How many bytes are kept, if some are.
+fn keep_of(text: &str) -> io::Result<Option<usize>> {
+    if text.is_empty() {
+        return Ok(None);
+    }
+    Ok(Some(number_of(text)? as usize))
 }
 
 /// From now on the files have to hold what is wanted of a call.
@@ -206,9 +203,9 @@ fn hold_wanted<'a>(
 ) -> Result<(), AllocError> {
     for want in wants {
         match want.word {
-            "after" => hold(holds, want.name, Some(table.content(want)))?,
-            "begins" => hold(holds, want.name, None)?,
-            "any" => hold_any(holds, want.rest)?,
+            Word::After => hold(holds, want.name, Some(table.content(want)))?,
+            Word::Begins => hold(holds, want.name, None)?,
+            Word::Any => hold_any(holds, want.rest)?,
             _ => {}
         }
     }
@@ -236,69 +233,17 @@ fn is_call_due(alloc: Global, files: &mut MemoryFiles, holds: &[Held<'_>]) -> bo
 /// The words of a line, which a blank parts. Two quotes are an empty word.
 pub(crate) fn words_of(alloc: Global, line: &str) -> Result<Vec<String>, AllocError> {
     let mut words = Vec::new(alloc);
-    if line.is_empty() {
-        return Ok(words);
-    }
-    for word in line.split(' ') {
-        let word = if word == "''" { "" } else { word };
-        words.push(String::from_str(alloc, word)?)?;
+    if !line.is_empty() {
+        push_words(&mut words, alloc, line)?;
     }
     Ok(words)
 }
 
-/// A call on the files or a put that fails: its number, and how many bytes are kept, if some are.
-#[derive(Clone, Copy)]
-struct Fault {
-    is_put: bool,
-    number: u64,
-    keep: Option<usize>,
-}
-
-/// What fails by a line, or what is to fail behind the number of calls or puts that it wants.
-fn fault_of(want: &Line<'_>) -> io::Result<Fault> {
-    let is_put = is_put(want.word, want.name)?;
-    let (number, keep) = want.rest.split_once(" keeps ").unwrap_or((want.rest, ""));
-    let number = number_of(number)?;
-    let is_last = want.word != "fails";
-    Ok(Fault {
-        is_put,
-        number: number.saturating_add(u64::from(is_last)),
-        keep: if is_last { None } else { keep_of(keep)? },
-    })
-}
-
-/// Whether a line is of puts, and not of calls on the files.
-fn is_put(word: &str, name: &str) -> io::Result<bool> {
-    match word {
-        "fails" => is_put_named(name),
-        "puts" if name.is_empty() => Ok(true),
-        "calls" if name.is_empty() => Ok(false),
-        _ => Err(io::Error::other("a number of calls or puts has no name")),
+/// Appends the words of a line.
+fn push_words(words: &mut Vec<String>, alloc: Global, line: &str) -> Result<(), AllocError> {
+    for word in line.split(' ') {
+        let word = if word == "''" { "" } else { word };
+        words.push(String::from_str(alloc, word)?)?;
     }
-}
-
-/// Whether what fails is named as a put, and not as a call on the files.
-fn is_put_named(name: &str) -> io::Result<bool> {
-    match name {
-        "put" => Ok(true),
-        "call" => Ok(false),
-        _ => Err(io::Error::other("what fails is no call and no put")),
-    }
-}
-
-/// A number of calls or puts.
-fn number_of(text: &str) -> io::Result<u64> {
-    match text.parse() {
-        Ok(number) => Ok(number),
-        Err(_) => Err(io::Error::other("a number is none")),
-    }
-}
-
-/// How many bytes are kept, if some are.
-fn keep_of(text: &str) -> io::Result<Option<usize>> {
-    match text.parse() {
-        Ok(keep) => Ok(Some(keep)),
-        Err(_) if text.is_empty() => Ok(None),
-        Err(_) => Err(io::Error::other("a number is none")),
-    }
+    Ok(())
 }

@@ -9,20 +9,9 @@ pub(crate) struct Change<'a> {
     pub line: usize,
 }
 
-/// The changes of a file: the lowest bit of each byte is changed, each line is left out, and each
-/// line stands twice. Where a line stands twice, the second one is the changed line.
-pub(crate) fn changes_of<'a>(
-    alloc: Global,
-    name: &'a str,
-    file: &[u8],
-) -> Result<Vec<Change<'a>>, AllocError> {
-    let mut changes = Vec::new(alloc);
-    push_changes(&mut changes, alloc, name, file)?;
-    Ok(changes)
-}
-
-/// Appends the changes of a file.
-fn push_changes<'a>(
+/// Appends the changes of a file: the lowest bit of each byte is changed, each line is left out, and
+/// each line stands twice. Where a line stands twice, the second one is the changed line.
+pub(crate) fn push_changes<'a>(
     changes: &mut Vec<Change<'a>>,
     alloc: Global,
     name: &'a str,

@@ -1,6 +1,7 @@
 //! What came of a call beside what was wanted of it.
 use crate::case::Case;
 use crate::table::{Call, Line};
+use crate::word::Word;
 use std::alloc::{AllocError, Global};
 use std::io;
 
@@ -12,8 +13,8 @@ pub(crate) fn compare_call(text: &mut String, case: &Case<'_>, call: &Call<'_>) 
     let mut is_status_wanted = false;
     let mut are_prints_wanted = false;
     for want in call.wants.iter() {
-        is_status_wanted |= want.word == "status";
-        are_prints_wanted |= want.word == "prints";
+        is_status_wanted |= want.word.is(Word::Status);
+        are_prints_wanted |= want.word.is_of_prints();
         compare_want(text, case, want, call.is_behind)?;
     }
     if !is_status_wanted || !are_prints_wanted {
@@ -33,67 +34,53 @@ fn compare_want(
     is_behind: bool,
 ) -> io::Result<()> {
     match want.word {
-        "prints" => compare_printed(text, case, want),
-        "status" | "begins" | "same" => Ok(compare_answer(text, case, want)?),
-        "calls" => Ok(push_number(text, !is_behind && case.is_call_due, want)?),
-        "puts" => Ok(push_number(text, case.is_put_due, want)?),
-        "fails" | "after" | "any" => Ok(()),
-        _ => Err(io::Error::other("a line begins with no word of a table")),
-    }
-}
-
-/// Compares the answer of a call, or a file or two that a line of the call names.
-fn compare_answer(text: &mut String, case: &Case<'_>, want: &Line<'_>) -> Result<(), AllocError> {
-    match want.word {
-        "status" => compare_status(text, case, want.rest),
-        "begins" => compare_beginning(text, case, want),
-        _ => compare_pair(text, case, want.rest),
+        Word::Status => compare_status(text, case, want.rest),
+        Word::Begins => compare_beginning(text, case, want),
+        Word::Same => compare_pair(text, case, want.rest),
+        Word::Calls => push_number(text, !is_behind && case.is_call_due, "calls", want.rest),
+        Word::Puts => push_number(text, case.is_put_due, "puts", want.rest),
+        Word::FailsCall | Word::FailsPut | Word::After | Word::Any => Ok(()),
+        _ if want.word.is_of_prints() => compare_printed(text, case, want),
+        _ => Err(io::Error::other("a line says nothing of a call")),
     }
 }
 
 /// Appends that another number came than a line wants, where it did.
-fn push_number(text: &mut String, is_right: bool, want: &Line<'_>) -> Result<(), AllocError> {
+fn push_number(text: &mut String, is_right: bool, word: &str, number: &str) -> io::Result<()> {
     if is_right {
         return Ok(());
     }
-    let (word, number) = (want.word, want.rest);
-    writeln!(text, "  {word}: wanted {number}, and another number came")
+    Ok(writeln!(text, "  {word}: wanted {number}, and another number came")?)
 }
 
 /// Compares the answer with the name of a status.
-fn compare_status(text: &mut String, case: &Case<'_>, wanted: &str) -> Result<(), AllocError> {
+fn compare_status(text: &mut String, case: &Case<'_>, wanted: &str) -> io::Result<()> {
     let came = format!(in case.alloc; "{:?}", case.status)?;
-    push_difference(
-        text,
-        came.as_str() == wanted,
-        "status",
-        wanted.as_bytes(),
-        came.as_bytes(),
-    )
+    let is_right = came.as_str() == wanted;
+    push_difference(text, is_right, "status", wanted.as_bytes(), came.as_bytes())
 }
 
 /// Compares what was printed with one thing that is wanted of it.
 fn compare_printed(text: &mut String, case: &Case<'_>, want: &Line<'_>) -> io::Result<()> {
-    let wanted = match want.name {
-        "again" => case.above.bytes(),
-        "end of" => case.files.bytes(want.rest).unwrap_or(b""),
+    let wanted = match want.word {
+        Word::PrintsAgain => case.above.bytes(),
+        Word::PrintsEndOf => case.files.bytes(want.rest).unwrap_or(b""),
         _ => case.table.content(want),
     };
-    let is_right = is_printed(case, want.name, wanted)?;
-    Ok(push_difference(text, is_right, "printed", wanted, case.out.bytes())?)
+    let is_right = is_printed(case, want.word, wanted)?;
+    push_difference(text, is_right, "printed", wanted, case.out.bytes())
 }
 
 /// Whether this was printed in the way that a line says.
-fn is_printed(case: &Case<'_>, way: &str, wanted: &[u8]) -> io::Result<bool> {
+fn is_printed(case: &Case<'_>, word: Word, wanted: &[u8]) -> Result<bool, AllocError> {
     let came = case.out.bytes();
-    match way {
-        "" | "again" => Ok(came == wanted),
-        "beginning" => Ok(came.starts_with(wanted)),
-        "ending" => Ok(came.ends_with(wanted)),
-        "at line" => Ok(is_at_line(case.alloc, came, wanted, case.line)?),
-        "end of" => Ok(!came.is_empty() && wanted.ends_with(came)),
-        "anything" => Ok(true),
-        _ => Err(io::Error::other("a line says nothing of what is printed")),
+    match word {
+        Word::PrintsAnything => Ok(true),
+        Word::PrintsBeginning => Ok(came.starts_with(wanted)),
+        Word::PrintsEnding => Ok(came.ends_with(wanted)),
+        Word::PrintsAtLine => is_at_line(case.alloc, came, wanted, case.line),
+        Word::PrintsEndOf => Ok(!came.is_empty() && wanted.ends_with(came)),
+        _ => Ok(came == wanted),
     }
 }
 
@@ -118,18 +105,14 @@ fn compare_files(text: &mut String, case: &Case<'_>) -> io::Result<()> {
 }
 
 /// A file that has to begin with something.
-fn compare_beginning(
-    text: &mut String,
-    case: &Case<'_>,
-    want: &Line<'_>,
-) -> Result<(), AllocError> {
+fn compare_beginning(text: &mut String, case: &Case<'_>, want: &Line<'_>) -> io::Result<()> {
     let wanted = case.table.content(want);
     let came = case.files.bytes(want.name).unwrap_or(b"no file");
     push_difference(text, came.starts_with(wanted), want.name, wanted, came)
 }
 
 /// Two files that have to hold the same.
-fn compare_pair(text: &mut String, case: &Case<'_>, names: &str) -> Result<(), AllocError> {
+fn compare_pair(text: &mut String, case: &Case<'_>, names: &str) -> io::Result<()> {
     let (one, other) = names.split_once(' ').unwrap_or((names, ""));
     let wanted = case.files.bytes(other).unwrap_or(b"no file");
     let came = case.files.bytes(one).unwrap_or(b"none");
@@ -143,19 +126,16 @@ pub(crate) fn push_difference(
     what: &str,
     wanted: &[u8],
     came: &[u8],
-) -> Result<(), AllocError> {
+) -> io::Result<()> {
     if is_right {
         return Ok(());
     }
-    let wanted = shown(wanted).escape_ascii();
-    let came = shown(came).escape_ascii();
-    writeln!(
-        text,
-        "  {what}: wanted '{wanted}'\n  {what}: came   '{came}'"
-    )
+    push_shown(text, what, "wanted", wanted)?;
+    Ok(push_shown(text, what, "came  ", came)?)
 }
 
-/// The front of bytes that is shown.
-fn shown(bytes: &[u8]) -> &[u8] {
-    bytes.get(..SHOWN).unwrap_or(bytes)
+/// Appends the front of bytes that were wanted or came.
+fn push_shown(text: &mut String, what: &str, how: &str, bytes: &[u8]) -> Result<(), AllocError> {
+    let shown = bytes.get(..SHOWN).unwrap_or(bytes).escape_ascii();
+    writeln!(text, "  {what}: {how} '{shown}'")
 }

@@ -39,7 +39,7 @@ fn draw(state: &mut u32, most: u32) -> u32 {
 }
 
 /// A number.
-fn number_of(word: &str) -> io::Result<u32> {
+pub(crate) fn number_of(word: &str) -> io::Result<u32> {
     match word.parse() {
         Ok(number) => Ok(number),
         Err(_) => Err(io::Error::other("a number is none")),

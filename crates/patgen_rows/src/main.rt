@@ -14,6 +14,7 @@ mod made;
 mod pieces;
 mod table;
 mod trial;
+mod word;
 
 use std::process::ExitCode;
 use std::rt::{Env, Files};

@@ -1,6 +1,7 @@
 //! The pieces of a content.
 use crate::made::{push_cells, push_letters, push_sample, push_words};
 use crate::table::Table;
+use crate::word::Word;
 use std::alloc::{AllocError, Global};
 use std::io;
 
@@ -22,30 +23,24 @@ pub(crate) fn push_times(text: &mut Vec<u8>, times: usize, piece: &[u8]) -> Resu
     Ok(())
 }
 
-/// Appends the bytes of a piece that stands once; false where the line is none.
-pub(crate) fn push_simple(table: &Table<'_>, bytes: &mut Vec<u8>, piece: &str) -> io::Result<bool> {
-    let (word, rest) = piece.split_once(' ').unwrap_or((piece, ""));
+/// Appends the bytes of a piece that stands once.
+pub(crate) fn push_piece(
+    table: &Table<'_>,
+    bytes: &mut Vec<u8>,
+    word: Word,
+    rest: &str,
+) -> io::Result<()> {
     match word {
-        ">" => push_line(bytes, rest)?,
-        "+" => push_text(bytes, rest)?,
-        "=" => bytes.extend_from_slice(table.named(rest)?)?,
-        "joined" => push_joined(table, bytes, rest)?,
-        _ => return push_made(table.alloc, bytes, word, rest),
+        Word::TextAndLf => push_line(bytes, rest),
+        Word::Text => push_text(bytes, rest),
+        Word::Named => Ok(bytes.extend_from_slice(table.named(rest)?)?),
+        Word::Joined => push_joined(table, bytes, rest),
+        Word::Bytes => push_numbers(bytes, rest),
+        Word::Sample => push_sample(table.alloc, bytes, rest),
+        Word::Letters => push_letters(bytes, rest),
+        Word::Words => push_words(bytes, rest),
+        _ => push_cells(bytes, rest),
     }
-    Ok(true)
-}
-
-/// The same of a piece that is made from numbers.
-fn push_made(alloc: Global, bytes: &mut Vec<u8>, word: &str, rest: &str) -> io::Result<bool> {
-    match word {
-        "bytes" => push_numbers(bytes, rest)?,
-        "sample" => push_sample(alloc, bytes, rest)?,
-        "letters" => push_letters(bytes, rest)?,
-        "words" => push_words(bytes, rest)?,
-        "cells" => push_cells(bytes, rest)?,
-        _ => return Ok(false),
-    }
-    Ok(true)
 }
 
 /// Appends a text and an LF.
@@ -55,24 +50,24 @@ fn push_line(bytes: &mut Vec<u8>, text: &str) -> io::Result<()> {
     Ok(())
 }
 
-/// The byte of an escape behind its backslash, and what follows.
-fn escaped(rest: &str) -> Option<(u8, &str)> {
-    let (letter, behind) = rest.split_at_checked(1)?;
-    let byte = match letter {
-        "r" => b'\r',
-        "t" => b'\t',
-        "s" => b' ',
-        "\\" => b'\\',
-        "x" => return hexadecimal(behind),
-        _ => return None,
-    };
-    Some((byte, behind))
+/// The byte of an escape, of which this stands behind its backslash, and how many bytes it has there.
+fn escaped(rest: &str) -> Option<(u8, usize)> {
+    match rest.as_bytes().first()? {
+        b'r' => Some((b'\r', 1)),
+        b't' => Some((b'\t', 1)),
+        b's' => Some((b' ', 1)),
+        b'\\' => Some((b'\\', 1)),
+        b'x' => hexadecimal(rest),
+        _ => None,
+    }
 }
 
-/// The byte of two hexadecimal digits, and what follows.
-fn hexadecimal(rest: &str) -> Option<(u8, &str)> {
-    let (digits, behind) = rest.split_at_checked(2)?;
-    Some((u8::from_str_radix(digits, 16).ok()?, behind))
+/// The byte of two hexadecimal digits behind an x, and how many bytes these are.
+fn hexadecimal(rest: &str) -> Option<(u8, usize)> {
+    match u8::from_str_radix(rest.get(1..3).unwrap_or(""), 16) {
+        Ok(byte) => Some((byte, 3)),
+        Err(_) => None,
+    }
 }
 
 /// Appends the bytes of a text, in which a backslash begins an escape.
@@ -82,15 +77,20 @@ pub(crate) fn push_text(bytes: &mut Vec<u8>, text: &str) -> io::Result<()> {
         let Some((plain, escape)) = rest.split_once('\\') else {
             break;
         };
-        let Some((byte, behind)) = escaped(escape) else {
-            return Err(io::Error::other("an escape is none of those that a table has"));
-        };
         bytes.extend_from_slice(plain.as_bytes())?;
-        bytes.push(byte)?;
-        rest = behind;
+        rest = push_escape(bytes, escape)?;
     }
     bytes.extend_from_slice(rest.as_bytes())?;
     Ok(())
+}
+
+/// Appends the byte of an escape, and gives what stands behind it.
+fn push_escape<'t>(bytes: &mut Vec<u8>, escape: &'t str) -> io::Result<&'t str> {
+    let Some((byte, len)) = escaped(escape) else {
+        return Err(io::Error::other("an escape is none of those that a table has"));
+    };
+    bytes.push(byte)?;
+    Ok(escape.get(len..).unwrap_or(""))
 }
 
 /// Appends the bytes that are written as numbers.

@@ -1,5 +1,6 @@
 //! Reading a table. The file FORMAT says what its lines mean.
-use crate::pieces::{cut_times, push_simple, push_times};
+use crate::pieces::{cut_times, push_piece, push_times};
+use crate::word::{Word, word_of};
 use std::alloc::Global;
 use std::io;
 
@@ -9,7 +10,7 @@ pub(crate) struct Line<'a> {
     /// Its number, counted from 1.
     pub number: usize,
     /// The word with which it begins.
-    pub word: &'a str,
+    pub word: Word,
     /// What stands between the word and the colon.
     pub name: &'a str,
     /// What stands behind the colon.
@@ -37,20 +38,29 @@ pub(crate) struct Call<'a> {
 /// The call that a line begins below another one. Of one with the word `also` the same is wanted as
 /// of that.
 fn call_below<'a>(alloc: Global, line: Line<'a>, above: Option<&Call<'a>>) -> io::Result<Call<'a>> {
-    let is_behind = line.word == "then";
+    let mut call = Call {
+        line,
+        is_behind: line.word.is(Word::Then),
+        wants: Vec::new(alloc),
+    };
     match above {
-        Some(above) if line.word == "also" => Ok(Call {
-            line,
-            is_behind: above.is_behind,
-            wants: above.wants.to_vec(alloc)?,
-        }),
-        None if line.word != "call" => Err(io::Error::other("the line stands below no call")),
-        _ => Ok(Call {
-            line,
-            is_behind,
-            wants: Vec::new(alloc),
-        }),
+        Some(above) if line.word.is(Word::Also) => {
+            call.is_behind = above.is_behind;
+            call.wants.extend_from_slice(&above.wants)?;
+            Ok(call)
+        }
+        None if !line.word.is(Word::Call) => Err(io::Error::other("the line stands below no call")),
+        _ => Ok(call),
     }
+}
+
+/// The word of a line and the name behind it, if there is one.
+fn word_and_name(front: &str) -> Option<(Word, &str)> {
+    if let Some(word) = word_of(front) {
+        return Some((word, ""));
+    }
+    let (word, name) = front.split_once(' ')?;
+    Some((word_of(word)?, name))
 }
 
 /// A row: the lines above its calls, and the calls.
@@ -62,32 +72,15 @@ pub(crate) struct Row<'a> {
     pub calls: Vec<Call<'a>>,
 }
 
-impl Line<'_> {
-    /// Whether the first piece of a content may stand behind the colon.
-    fn has_piece(&self) -> bool {
-        WITH_PIECE.contains(&self.word) && self.name != "end of"
-    }
-}
-
 impl<'a> Row<'a> {
     /// The line above the calls that begins with this word.
-    pub fn find(&self, word: &str) -> Option<&Line<'a>> {
+    pub fn find(&self, word: Word) -> Option<&Line<'a>> {
         for line in self.lines.iter() {
-            if line.word == word {
+            if line.word.is(word) {
                 return Some(line);
             }
         }
         None
-    }
-
-    /// Whether it is without a file of the table.
-    pub fn is_without(&self, name: &str) -> bool {
-        for line in self.lines.iter() {
-            if line.word == "missing" && line.rest == name {
-                return true;
-            }
-        }
-        false
     }
 }
 
@@ -102,22 +95,6 @@ pub(crate) struct Table<'a> {
     pub shared: Vec<Line<'a>>,
     pub rows: Vec<Row<'a>>,
 }
-
-/// The words whose lines have a content, of which the first piece may stand behind the colon.
-const WITH_PIECE: [&str; 5] = ["content", "file", "after", "begins", "prints"];
-
-/// The words whose lines have a content, of which all pieces stand below.
-const ABOVE_PIECES: [&str; 9] = [
-    "says",
-    "letters",
-    "dict",
-    "patterns",
-    "params",
-    "translate",
-    "refused",
-    "found",
-    "wanted",
-];
 
 impl<'a> Table<'a> {
     /// Reads a table. Where it fails, `number` is that of the line that is wrong.
@@ -155,7 +132,9 @@ impl<'a> Table<'a> {
             return Err(io::Error::other("the line begins with no word of a table"));
         };
         let rest = rest.strip_prefix(' ').unwrap_or(rest);
-        let (word, name) = front.split_once(' ').unwrap_or((front, ""));
+        let Some((word, name)) = word_and_name(front) else {
+            return Err(io::Error::other("the line begins with no word of a table"));
+        };
         let line = Line {
             number,
             word,
@@ -170,12 +149,21 @@ impl<'a> Table<'a> {
     /// Reads a piece of the last content; false where the line is none.
     fn read_piece(&mut self, line: &str) -> io::Result<bool> {
         let (times, simple) = cut_times(line);
-        let mut piece = Vec::new(self.alloc);
-        let is_piece = push_simple(self, &mut piece, simple)?;
-        if is_piece {
-            self.append(times, &piece)?;
+        let (word, rest) = simple.split_once(' ').unwrap_or((simple, ""));
+        match word_of(word) {
+            Some(word) if word.begins_piece() => {
+                self.append_piece(times, word, rest)?;
+                Ok(true)
+            }
+            _ => Ok(false),
         }
-        Ok(is_piece)
+    }
+
+    /// Appends a piece so many times to the last content.
+    fn append_piece(&mut self, times: usize, word: Word, rest: &str) -> io::Result<()> {
+        let mut piece = Vec::new(self.alloc);
+        push_piece(self, &mut piece, word, rest)?;
+        self.append(times, &piece)
     }
 
     /// Appends bytes so many times to the last content.
@@ -188,18 +176,17 @@ impl<'a> Table<'a> {
 
     /// Begins the content of a line, whose first piece may stand behind the colon.
     fn begin_content(&mut self, line: &Line<'a>) -> io::Result<()> {
-        let name = if line.word == "content" {
+        let name = if line.word.is(Word::Content) {
             line.name
         } else {
             ""
         };
         let bytes = Vec::new(self.alloc);
         self.contents.push(Content { name, bytes })?;
-        if line.has_piece() {
-            self.is_open = true;
+        self.is_open = line.word.has_piece() || line.word.is_above_pieces();
+        if line.word.has_piece() {
             return self.read_first(line.rest);
         }
-        self.is_open = ABOVE_PIECES.contains(&line.word);
         Ok(())
     }
 
@@ -214,9 +201,9 @@ impl<'a> Table<'a> {
     /// Adds a line to the row or call that it belongs to, or begins one.
     fn add(&mut self, line: Line<'a>) -> io::Result<()> {
         match line.word {
-            "row" => self.begin_row(line),
-            "call" | "also" | "then" => self.begin_call(line),
-            "content" => Ok(()),
+            Word::Row => self.begin_row(line),
+            Word::Call | Word::Also | Word::Then => self.begin_call(line),
+            Word::Content => Ok(()),
             _ => self.add_below(line),
         }
     }

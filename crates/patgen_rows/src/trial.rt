@@ -1,9 +1,10 @@
 //! The rows of a table, done in turn.
 use crate::asked::compare_explanation;
-use crate::case::{Case, changes_in, hold_given};
-use crate::changes::Change;
+use crate::case::{Case, held_bytes, hold_given};
+use crate::changes::{Change, push_changes};
 use crate::compare::compare_call;
 use crate::table::{Call, Row, Table};
+use crate::word::Word;
 use std::alloc::{AllocError, Global};
 use std::io;
 
@@ -19,7 +20,9 @@ pub(crate) struct Trial<'n> {
     pub wrong: usize,
     /// The number of the line that was read or done last.
     line: usize,
-    /// What was wrong with them.
+    /// What is wrong with the call that was made last.
+    text: String,
+    /// What was wrong with all of them.
     pub told: String,
 }
 
@@ -33,6 +36,7 @@ impl<'n> Trial<'n> {
             calls: 0,
             wrong: 0,
             line: 0,
+            text: String::new(alloc),
             told: String::new(alloc),
         }
     }
@@ -40,17 +44,12 @@ impl<'n> Trial<'n> {
     /// Reads a table and does its rows. Where a line cannot be read or done, that is wrong, and
     /// nothing behind it is done.
     pub fn try_text(&mut self, text: &str) -> Result<(), AllocError> {
-        match self.read_and_try(text) {
-            Ok(()) => Ok(()),
-            Err(error) => self.tell(&error),
+        if let Err(error) = self.read_and_try(text) {
+            self.wrong = self.wrong.saturating_add(1);
+            let (name, line) = (self.name, self.line);
+            writeln!(self.told, "{name} line {line}: {error}")?;
         }
-    }
-
-    /// Tells why a line cannot be read or done.
-    fn tell(&mut self, error: &io::Error) -> Result<(), AllocError> {
-        self.wrong = self.wrong.saturating_add(1);
-        let (name, line) = (self.name, self.line);
-        writeln!(self.told, "{name} line {line}: {error}")
+        Ok(())
     }
 
     /// Reads a table and does its rows.
@@ -74,7 +73,7 @@ impl<'n> Trial<'n> {
         if row.calls.is_empty() {
             return self.try_explanation(table, row);
         }
-        match row.find("changes") {
+        match row.find(Word::Changes) {
             None => self.try_calls(table, row, None),
             Some(line) => {
                 let changes = changes_of_row(self.alloc, table, row, line.rest)?;
@@ -135,28 +134,28 @@ impl<'n> Trial<'n> {
         row: &Row<'a>,
         call: &Call<'a>,
     ) -> io::Result<()> {
-        let mut text = String::new(self.alloc);
+        self.text.clear();
         case.call(call)?;
-        compare_call(&mut text, case, call)?;
-        Ok(self.count(row, text.as_str())?)
+        compare_call(&mut self.text, case, call)?;
+        Ok(self.count(row)?)
     }
 
     /// Compares the explanation that a row asks for.
     fn try_explanation(&mut self, table: &Table<'_>, row: &Row<'_>) -> io::Result<()> {
         self.line = row.line.number;
-        let mut text = String::new(self.alloc);
-        compare_explanation(self.alloc, &mut text, table, row)?;
-        Ok(self.count(row, text.as_str())?)
+        self.text.clear();
+        compare_explanation(self.alloc, &mut self.text, table, row)?;
+        Ok(self.count(row)?)
     }
 
     /// Counts a call, and tells what is wrong with it.
-    fn count(&mut self, row: &Row<'_>, text: &str) -> Result<(), AllocError> {
+    fn count(&mut self, row: &Row<'_>) -> Result<(), AllocError> {
         self.calls = self.calls.saturating_add(1);
-        if text.is_empty() {
+        if self.text.is_empty() {
             return Ok(());
         }
         self.wrong = self.wrong.saturating_add(1);
-        let (name, line, title) = (self.name, self.line, row.line.rest);
+        let (name, line, title, text) = (self.name, self.line, row.line.rest, &self.text);
         write!(self.told, "{name} line {line}, {title}:\n{text}")
     }
 }
@@ -166,9 +165,14 @@ fn changes_of_row<'a>(
     alloc: Global,
     table: &'a Table<'a>,
     row: &'a Row<'a>,
-    name: &str,
+    name: &'a str,
 ) -> io::Result<Vec<Change<'a>>> {
+    let mut changes = Vec::new(alloc);
     let mut holds = Vec::new(alloc);
     hold_given(&mut holds, table, row, None)?;
-    changes_in(alloc, &holds, name)
+    let Some(bytes) = held_bytes(&holds, name) else {
+        return Err(io::Error::other("no file of this name stands above"));
+    };
+    push_changes(&mut changes, alloc, name, bytes)?;
+    Ok(changes)
 }
