@@ -1,5 +1,5 @@
 -- A step of a level: a pass that is done, one that is skipped, and the next length.
-use Rattle.std.proofs.Common.{◌≡◌, ℕ, ◌+◌, ◌-◌, ◌<◌, ◌==◌, nat_le, zero, Bool, true, false, List, [], ◌∷◌, ◌++◌, map, Option, None, Some, refl, sym, ap, subst, ◌∙◌, append_assoc, append-nil, arith}
+use Rattle.std.proofs.Common.{◌≡◌, ℕ, ◌+◌, ◌-◌, ◌<◌, ◌==◌, nat_le, zero, Bool, true, false, List, [], ◌∷◌, ◌++◌, fold, map, Option, None, Some, refl, sym, ap, subst, ◌∙◌, append_assoc, append-nil, arith}
 use Rattle.std.specs.List.{list_all, flat_map, range_with_len}
 use Rattle.std.specs.Option.{option_map}
 use Rattle.std.proofs.lemmas.Bool.{and_parts, and_from}
@@ -13,7 +13,7 @@ use Rattle.pg_select.specs.CountedPositions.{Candidate}
 use Rattle.pg_driver.specs.declared.records.PassRecord.{PassRecord}
 use Rattle.pg_driver.specs.Inside.AccountLines.{PassLine, left_none}
 use Rattle.pg_driver.specs.Dots.{dot_at}
-use Rattle.pg_driver.specs.Inside.CellsAccounts.{after_passes}
+use Rattle.pg_driver.specs.Layouts.{after_pass}
 use Rattle.pg_driver.specs.Inside.Levels.{CountNothing, SkipFlags, GoesOn, IsAt, LevelStart, Tells, all_made_by, is_set, layouts_in, point, no_flags}
 use Rattle.pg_driver.specs.Inside.Sound.{Recorded, with_pass}
 use Rattle.pg_driver.specs.Inside.States.{DidPass, State, made_by, state_after, state_at_end, state_of}
@@ -50,7 +50,7 @@ short_next len (p ∷ ps) short =
     let parts = and_parts (nat_le p.pass.len len) (list_all (λ p. nat_le p.pass.len len) ps) short in
     and_from (nat_le p.pass.len (len + 1)) (list_all (λ p. nat_le p.pass.len (len + 1)) ps) (longer_too p.pass.len len parts.0) (short_next len ps parts.1)
 
-families_begin : (signs : ℕ) (o : Option Families) → o ≡ option_map (λ fs. after_passes signs fs []) o
+families_begin : (signs : ℕ) (o : Option Families) → o ≡ option_map (λ fs. fold (after_pass signs) fs []) o
 families_begin signs None = refl
 families_begin signs (Some fs) = refl
 

@@ -15,7 +15,7 @@ use Rattle.pg_select.specs.Inside.Choices.{choice}
 use Rattle.pg_select.specs.Windows.{window, fits}
 use Rattle.pg_driver.specs.declared.pass_windows.WordPosition.{WordPosition}
 use Rattle.pg_driver.specs.declared.pass_windows.TheConstants.{NO_NUMBER}
-use Rattle.pg_driver.specs.Inside.OpenSigns.{ClosesBy, closed_after, closed_by, closed_in, open_word_positions, open_signs, position_from, sign_count}
+use Rattle.pg_driver.specs.Inside.OpenSigns.{ClosesBy, closed_at_sign, closed_by, closed_in, open_word_positions, open_signs, position_from, sign_count}
 use Rattle.pg_driver.specs.Inside.PassWindows.{AreFates, HaveNumbers, IsNumbered, counts_at}
 use Rattle.pg_driver.proofs.NumberSteps.{filter_from}
 use Rattle.pg_driver.proofs.OpenSigns.{IsSignOf, place_of, range_get, sign_of}
@@ -68,7 +68,7 @@ module _ (params : LevelParams) (counts : Counts) (ws : Windows) (fates : List C
           ∙ sym (ap (λ (o : Option (ℕ × ℕ)). option_map_or (λ (sums : ℕ × ℕ). closed_by (λ c. old c s) pass.dot (Some (choice params sums.0 sums.1)) d) o (old d s)) is)
 
   pub closes_signs : (ns : List ℕ) → HaveNumbers pass (counts_at pass) words ws (open_word_positions (old pass.dot) words) ns
-      → ClosesBy (closed_after params pass counts words old) pass.dot fates old (open_signs (old pass.dot) 0 (sign_count words)) ns
+      → ClosesBy (closed_at_sign params pass counts words old) pass.dot fates old (open_signs (old pass.dot) 0 (sign_count words)) ns
   closes_signs ns have = record {
     stays = λ s shut d. by_word s d shut (slice_get words (position_from 0 words s).word);
     closes = λ k s n at to d.
@@ -84,7 +84,7 @@ module _ (params : LevelParams) (counts : Counts) (ws : Windows) (fates : List C
           (counted_sums counts (window w.signs (position_from 0 words s).at pass.len pass.dot)) (old d s)) (old d s || nat_eq d pass.dot))) shut
 
       closes_sign : (k s n : ℕ) → slice_get (open_signs (old pass.dot) 0 (sign_count words)) k ≡ Some s → slice_get ns k ≡ Some n → (d : ℕ) → IsSignOf words s → old pass.dot s ≡ false
-          → closed_by (λ c. old c s) pass.dot (slice_get fates n) d ≡ closed_after params pass counts words old d s
+          → closed_by (λ c. old c s) pass.dot (slice_get fates n) d ≡ closed_at_sign params pass counts words old d s
       closes_sign k s n at to d of free =
           let place = place_of words s of in
           let numbered = subst (λ (e : WordPosition). IsNumbered pass (counts_at pass) words ws e n) place

@@ -23,7 +23,7 @@ use Rattle.pg_driver.specs.declared.pass_windows.WordPosition.{WordPosition}
 use Rattle.pg_driver.specs.Traces.{is_chosen, is_hopeless}
 use Rattle.pg_driver.specs.Inside.Fates.{choice_of, chooses, gives_up}
 use Rattle.pg_driver.proofs.FateLaws.{chosen_is, hopeless_is}
-use Rattle.pg_driver.specs.Inside.OpenSigns.{IsThere, IsTold, closed_after, closed_by, closed_in, is_open_first, sign_count, start_of}
+use Rattle.pg_driver.specs.Inside.OpenSigns.{IsThere, IsTold, closed_at_sign, closed_by, closed_in, is_open_first, sign_count, start_of}
 use Rattle.pg_driver.proofs.OpenLevels.{found_is}
 use Rattle.pg_driver.proofs.OpenSigns.{place_at, sign_within}
 
@@ -255,7 +255,7 @@ module _ (level : LevelParams) (m : Minima) (words : List Word) (pass : Pass) (P
             (counts_as pass.level (status_at (patterns_after_pass m words pass P H (λ c. is_chosen level c)) w p)) None) other
 
   -- each position
-  pub there_after : (old new : ℕ → ℕ → Bool) → ((d s : ℕ) → d ≤ LENGTH_MAX → s < sign_count words → new d s ≡ closed_after level pass counts words old d s)
+  pub there_after : (old new : ℕ → ℕ → Bool) → ((d s : ℕ) → d ≤ LENGTH_MAX → s < sign_count words → new d s ≡ closed_at_sign level pass counts words old d s)
       → IsThere pass.level pass.len m words P H old → IsThere pass.level pass.len m words (patterns_after_pass m words pass P H (λ c. is_chosen level c))
       (hopeless_after_pass m words pass P H (λ c. is_hopeless level c)) new
   there_after old new on is = record {
@@ -264,7 +264,7 @@ module _ (level : LevelParams) (m : Minima) (words : List Word) (pass : Pass) (P
     known = λ n p w at lies. each n p w at lies (is.known n p w at lies);
   }
     where
-      here : (n p : ℕ) (w : Word) → slice_get words n ≡ Some w → p < length w.signs → (d : ℕ) → closed_after level pass counts words old d (start_of words n + p)
+      here : (n p : ℕ) (w : Word) → slice_get words n ≡ Some w → p < length w.signs → (d : ℕ) → closed_at_sign level pass counts words old d (start_of words n + p)
           ≡ closed_in level pass counts w p (λ c. old c (start_of words n + p)) d
       here n p w at lies d =
           let number : 0 + n ≡ n = omega arith in

@@ -1,5 +1,5 @@
 -- What the records of a level are after one pass more.
-use Rattle.std.proofs.Common.{◌≡◌, ℕ, ◌+◌, nat_le, nat_lt, Bool, true, false, cond, List, [], ◌∷◌, ◌++◌, length, map, filter, Option, sym, ap, ◌∙◌, append_assoc, append-nil, add_assoc}
+use Rattle.std.proofs.Common.{◌≡◌, ℕ, ◌+◌, nat_le, nat_lt, Bool, true, false, cond, List, [], ◌∷◌, ◌++◌, fold, length, map, filter, Option, sym, ap, ◌∙◌, append_assoc, append-nil, add_assoc}
 use Rattle.std.specs.List.{list_all}
 use Rattle.std.specs.Option.{option_map}
 use Rattle.std.proofs.lemmas.List.{map_push}
@@ -8,7 +8,7 @@ use Rattle.pg_select.specs.CountedPositions.{Candidate}
 use Rattle.pg_driver.specs.declared.records.PassRecord.{PassRecord}
 use Rattle.pg_driver.specs.Accounts.{has_candidate}
 use Rattle.pg_driver.specs.Inside.AccountLines.{PassLine, begun_among, chosen_by, is_skippable, pass_line}
-use Rattle.pg_driver.specs.Inside.CellsAccounts.{after_passes}
+use Rattle.pg_driver.specs.Layouts.{after_pass}
 use Rattle.pg_driver.specs.Inside.Levels.{AreRecorded, layouts_in}
 use Rattle.pg_driver.specs.Inside.Sound.{Recorded, with_pass}
 use Rattle.pg_driver.specs.Inside.RunAccounts.{layout_told, line_of}
@@ -23,7 +23,7 @@ push_if f false xs a os ys y before is = before ∙ ap (λ zs. os ++ zs) (sym (a
 
 -- a pass that was recorded
 pub recorded_pass : (source : Source) (signs : ℕ) (families : Option Families) (ps : List PassTrace) (q : PassTrace) (old mid new : Recorded) (r : PassRecord)
-    → line_of r ≡ pass_line source q → layout_told r ≡ option_map (λ fs. (q.pass, taken_count fs, top fs)) (option_map (λ fs. after_passes signs fs (ps ++ q ∷ [])) families) → new ≡ with_pass mid r
+    → line_of r ≡ pass_line source q → layout_told r ≡ option_map (λ fs. (q.pass, taken_count fs, top fs)) (option_map (λ fs. fold (after_pass signs) fs (ps ++ q ∷ [])) families) → new ≡ with_pass mid r
     → list_all (λ p. nat_le p.pass.len q.pass.len) ps ≡ true → is_skippable ps q.pass ≡ false → AreRecorded source signs families ps old mid → AreRecorded source signs families (ps ++ q ∷ []) old new
 recorded_pass source signs families ps q old mid new r line layout is short begun before =
     let b : Bool = has_candidate q in
@@ -67,7 +67,7 @@ recorded_none source signs families ps q old new none short begun before =
           ∙ ap (λ ls. map line_of old.passes ++ ls) (sym (filter_push (pass_line source) has_candidate ps q));
       layouts =
           none_more (map layout_told new.passes) (map layout_told old.passes) (layouts_in signs families ps) _ before.layouts
-          (ap (λ b. cond b (option_map (λ fs. (q.pass, taken_count fs, top fs)) (option_map (λ fs. after_passes signs fs (ps ++ q ∷ [])) families) ∷ []) []) no)
+          (ap (λ b. cond b (option_map (λ fs. (q.pass, taken_count fs, top fs)) (option_map (λ fs. fold (after_pass signs) fs (ps ++ q ∷ [])) families) ∷ []) []) no)
           ∙ ap (λ ls. map layout_told old.passes ++ ls) (sym (layouts_push signs families ps q));
       chosen =
           before.chosen

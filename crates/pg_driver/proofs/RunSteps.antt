@@ -1,5 +1,5 @@
 -- A step of a run: a level, and what is read off the levels then.
-use Rattle.std.proofs.Common.{◌≡◌, ℕ, ◌+◌, ◌≤◌, true, List, [], ◌∷◌, ◌++◌, length, map, filter, drop, slice_get, Option, None, Some, refl, sym, ap, subst, ◌∙◌, append_assoc, append-nil, add_assoc}
+use Rattle.std.proofs.Common.{◌≡◌, ℕ, ◌+◌, ◌≤◌, true, List, [], ◌∷◌, ◌++◌, fold, length, map, filter, drop, slice_get, Option, None, Some, refl, sym, ap, subst, ◌∙◌, append_assoc, append-nil, add_assoc}
 use Rattle.std.specs.List.{enumerate_from, flat_map}
 use Rattle.std.specs.Option.{option_map, MatchOption}
 use Rattle.std.proofs.lemmas.Grind.{flat_map-append}
@@ -16,9 +16,9 @@ use Rattle.pg_select.specs.Windows.{Hopeless, Patterns}
 use Rattle.pg_driver.specs.declared.records.LevelRecord.{LevelRecord}
 use Rattle.pg_driver.specs.Accounts.{has_candidate, totals_by}
 use Rattle.pg_driver.specs.Inside.AccountLines.{LevelLine, begun_among, chosen_by, level_line, pass_line, pass_lines}
-use Rattle.pg_driver.specs.Layouts.{after_level, strings_in}
-use Rattle.pg_driver.specs.Inside.CellsAccounts.{after_passes, at_level_end, layout_of, level_layout, levels_with_families, pass_layouts}
-use Rattle.pg_driver.specs.Inside.RunAccounts.{final_families, known_of, layout_told, level_layout_told, level_line_of, line_of}
+use Rattle.pg_driver.specs.Layouts.{after_pass, after_level, strings_in}
+use Rattle.pg_driver.specs.Inside.CellsAccounts.{layout_of, level_layout, levels_with_families, pass_layouts}
+use Rattle.pg_driver.specs.Inside.RunAccounts.{known_of, layout_told, level_layout_told, level_line_of, line_of}
 use Rattle.pg_driver.specs.Inside.Levels.{AreRecorded, DidLevel, DidRun, all_made_by, layouts_in, level_layouts, run_layouts}
 use Rattle.pg_driver.specs.Inside.Sound.{Recorded, with_level}
 use Rattle.pg_driver.specs.Inside.States.{State, state_at_end, state_of}
@@ -28,11 +28,11 @@ use Rattle.pg_driver.proofs.Numbers.{plus_zero, zero_plus}
 use Rattle.pg_driver.proofs.WordSteps.{drop_place}
 
 -- the end of a level
-families_end : (signs : ℕ) (l : LevelTrace) (P : Patterns) (o fo : Option Families) → P ≡ patterns_after l → o ≡ option_map (λ fs. after_passes signs fs l.passes) fo
+families_end : (signs : ℕ) (l : LevelTrace) (P : Patterns) (o fo : Option Families) → P ≡ patterns_after l → o ≡ option_map (λ fs. fold (after_pass signs) fs l.passes) fo
     → option_map (kept_families (strings_in P)) o ≡ option_map (λ fs. after_level signs fs l) fo
-families_end signs l P o fo patterns families = ap (λ (Q : Patterns). option_map (kept_families (strings_in Q)) o) patterns ∙ ap (option_map (at_level_end l)) families ∙ composed fo
+families_end signs l P o fo patterns families = ap (λ (Q : Patterns). option_map (kept_families (strings_in Q)) o) patterns ∙ ap (option_map (kept_families (strings_in (patterns_after l)))) families ∙ composed fo
   where
-    composed : (fo : Option Families) → option_map (at_level_end l) (option_map (λ fs. after_passes signs fs l.passes) fo) ≡ option_map (λ fs. after_level signs fs l) fo
+    composed : (fo : Option Families) → option_map (kept_families (strings_in (patterns_after l))) (option_map (λ fs. fold (after_pass signs) fs l.passes) fo) ≡ option_map (λ fs. after_level signs fs l) fo
     composed None = refl
     composed (Some fs) = refl
 
@@ -80,8 +80,8 @@ module _ (source : Source) (number : ℕ) (params : LevelParams) (m0 m n : Meani
   did_level state records chosen ends sums tells is =
       let patterns : m.patterns ≡ patterns_after level = patterns_end state in
       let after : n.patterns ≡ patterns_after level = ap (λ (x : Meaning). x.patterns) ends ∙ patterns in
-      let entered : m.families ≡ option_map (λ fs. after_passes m0.signs fs level.passes) m0.families = ap (λ (x : State). x.families) state
-      ∙ ap (λ (ps : List PassTrace). option_map (λ fs. after_passes m0.signs fs ps) m0.families) same_passes in
+      let entered : m.families ≡ option_map (λ fs. fold (after_pass m0.signs) fs level.passes) m0.families = ap (λ (x : State). x.families) state
+      ∙ ap (λ (ps : List PassTrace). option_map (λ fs. fold (after_pass m0.signs) fs ps) m0.families) same_passes in
       let families : n.families ≡ option_map (λ fs. after_level m0.signs fs level) m0.families = ap (λ (x : Meaning). x.families) ends
       ∙ families_end m0.signs level m.patterns m.families m0.families patterns entered in
       let hopeless : n.hopeless ≡ [] = ap (λ (x : Meaning). x.hopeless) ends in
@@ -115,7 +115,7 @@ levels_step start i levels level at =
 
 -- levels with the families before them, and one more
 with_families_push : (signs : ℕ) (fs : Families) (run : Trace) (l : LevelTrace) → levels_with_families signs fs (run ++ l ∷ []) ≡ levels_with_families signs fs run
-    ++ (l, final_families signs fs run) ∷ []
+    ++ (l, fold (after_level signs) fs run) ∷ []
 with_families_push signs fs [] l = refl
 with_families_push signs fs (k ∷ run) l = ap (λ es. (k, fs) ∷ es) (with_families_push signs (after_level signs fs k) run l)
 
@@ -129,30 +129,30 @@ abbrev level_laid : ℕ → LevelTrace × Families → ℕ × Layout
 level_laid signs e = level_layout signs e.1 e.0
 
 run_layouts_push : (signs : ℕ) (o : Option Families) (run : Trace) (l : LevelTrace) → run_layouts signs o (run ++ l ∷ []) ≡ run_layouts signs o run
-    ++ layouts_in signs (option_map (λ fs. final_families signs fs run) o) l.passes
+    ++ layouts_in signs (option_map (λ fs. fold (after_level signs) fs run) o) l.passes
 run_layouts_push signs None run l =
     let none : PassTrace → Option (Pass × ℕ × ℕ) = λ _. None in
     ap (map none) (one_list (λ (l : LevelTrace). filter has_candidate l.passes) run l)
     ∙ map-append none (flat_map (λ (l : LevelTrace). filter has_candidate l.passes) run) (filter has_candidate l.passes)
 run_layouts_push signs (Some fs) run l =
     let some : Pass × ℕ × ℕ → Option (Pass × ℕ × ℕ) = λ x. Some x in
-    let last : LevelTrace × Families = (l, final_families signs fs run) in
+    let last : LevelTrace × Families = (l, fold (after_level signs) fs run) in
     ap (λ (es : List (LevelTrace × Families)). map some (flat_map (passes_laid signs) es)) (with_families_push signs fs run l)
     ∙ ap (map some) (one_list (passes_laid signs) (levels_with_families signs fs run) last)
     ∙ map-append some (flat_map (passes_laid signs) (levels_with_families signs fs run)) (passes_laid signs last)
 
 level_layouts_push : (signs : ℕ) (o : Option Families) (run : Trace) (l : LevelTrace) → level_layouts signs o (run ++ l ∷ []) ≡ level_layouts signs o run
-    ++ option_map (λ fs. level_layout signs fs l) (option_map (λ fs. final_families signs fs run) o) ∷ []
+    ++ option_map (λ fs. level_layout signs fs l) (option_map (λ fs. fold (after_level signs) fs run) o) ∷ []
 level_layouts_push signs None run l = map_push (λ (_ : LevelTrace). let none : Option (ℕ × Layout) = None in none) run l
 level_layouts_push signs (Some fs) run l =
     let some : ℕ × Layout → Option (ℕ × Layout) = λ x. Some x in
-    let last : LevelTrace × Families = (l, final_families signs fs run) in
+    let last : LevelTrace × Families = (l, fold (after_level signs) fs run) in
     ap (λ (es : List (LevelTrace × Families)). map some (map (level_laid signs) es)) (with_families_push signs fs run l)
     ∙ ap (map some) (map_push (level_laid signs) (levels_with_families signs fs run) last)
     ∙ map_push some (map (level_laid signs) (levels_with_families signs fs run)) (level_laid signs last)
 
-families_push : (signs : ℕ) (o : Option Families) (run : Trace) (l : LevelTrace) → option_map (λ fs. final_families signs fs (run ++ l ∷ [])) o
-    ≡ option_map (λ fs. after_level signs fs l) (option_map (λ fs. final_families signs fs run) o)
+families_push : (signs : ℕ) (o : Option Families) (run : Trace) (l : LevelTrace) → option_map (λ fs. fold (after_level signs) fs (run ++ l ∷ [])) o
+    ≡ option_map (λ fs. after_level signs fs l) (option_map (λ fs. fold (after_level signs) fs run) o)
 families_push signs None run l = refl
 families_push signs (Some fs) run l = ap (λ (gs : Families). Some gs) (fold-append (after_level signs) fs run (l ∷ []))
 
@@ -164,10 +164,10 @@ patterns_push S (k ∷ run) l = patterns_push (patterns_after k) run l
 pub run_push : (source : Source) (run : Trace) (l : LevelTrace) (m0 m n : Meaning) (r s : Recorded) → m.signs ≡ m0.signs → DidRun source run m0 m r
     → DidLevel source l m n r s → DidRun source (run ++ l ∷ []) m0 n s
 run_push source run l m0 m n r s signs before did =
-    let families : m.families ≡ option_map (λ fs. final_families m0.signs fs run) m0.families = ap (λ (x : State). x.families) before.state in
+    let families : m.families ≡ option_map (λ fs. fold (after_level m0.signs) fs run) m0.families = ap (λ (x : State). x.families) before.state in
     let patterns : n.patterns ≡ final_patterns m0.patterns (run ++ l ∷ []) = ap (λ (x : State). x.known.patterns) did.state ∙ sym (patterns_push m0.patterns run l) in
     let hopeless : n.hopeless ≡ [] = ap (λ (x : State). x.known.hopeless) did.state in
-    let new : n.families ≡ option_map (λ fs. final_families m0.signs fs (run ++ l ∷ [])) m0.families =
+    let new : n.families ≡ option_map (λ fs. fold (after_level m0.signs) fs (run ++ l ∷ [])) m0.families =
     ap (λ (x : State). x.families) did.state
     ∙ ap (λ (k : ℕ). option_map (λ fs. after_level k fs l) m.families) signs
     ∙ ap (option_map (λ fs. after_level m0.signs fs l)) families
@@ -202,7 +202,7 @@ run_begins source m r none is = record {
   begun = ap (λ (x : Recorded). x.begun) is;
 }
   where
-    none_yet : (signs : ℕ) (o : Option Families) → o ≡ option_map (λ fs. final_families signs fs []) o
+    none_yet : (signs : ℕ) (o : Option Families) → o ≡ option_map (λ fs. fold (after_level signs) fs []) o
     none_yet signs None = refl
     none_yet signs (Some fs) = refl
 

@@ -1,5 +1,5 @@
 -- One pass more, and what is read off the passes then.
-use Rattle.std.proofs.Common.{◌≡◌, ℕ, ◌+◌, ◌≤◌, ◌==◌, nat_le, Bool, true, false, cond, not, ◌&&◌, ◌||◌, List, [], ◌∷◌, ◌++◌, length, map, filter, Option, None, Some, refl, ap, ◌∙◌, arith}
+use Rattle.std.proofs.Common.{◌≡◌, ℕ, ◌+◌, ◌≤◌, ◌==◌, nat_le, Bool, true, false, cond, not, ◌&&◌, ◌||◌, List, [], ◌∷◌, ◌++◌, fold, length, map, filter, Option, None, Some, refl, ap, ◌∙◌, arith}
 use Rattle.std.specs.List.{list_all}
 use Rattle.std.specs.Option.{option_map}
 use Rattle.std.proofs.lemmas.Bool.{and_parts, leb-true}
@@ -13,7 +13,7 @@ use Rattle.pg_select.specs.declared.pass.Pass.{Pass}
 use Rattle.pg_driver.specs.Accounts.{has_candidate, makes_skippable}
 use Rattle.pg_driver.specs.Inside.AccountLines.{begun_among, chosen_by, is_skippable, left_none}
 use Rattle.pg_driver.specs.Layouts.{after_pass}
-use Rattle.pg_driver.specs.Inside.CellsAccounts.{after_passes, pass_layouts, passes_with_families}
+use Rattle.pg_driver.specs.Inside.CellsAccounts.{pass_layouts, passes_with_families}
 use Rattle.pg_driver.specs.Inside.Levels.{layouts_in}
 use Rattle.pg_driver.specs.Inside.States.{State, state_after, state_at_end}
 use Rattle.pg_driver.specs.Traces.{Known, PassTrace, chosen_in, known_after}
@@ -24,8 +24,8 @@ known_push : (known : Known) (ps : List PassTrace) (q : PassTrace) → known_at_
 known_push known [] q = refl
 known_push known (p ∷ ps) q = known_push (known_after p) ps q
 
-families_push : (signs : ℕ) (o : Option Families) (ps : List PassTrace) (q : PassTrace) → option_map (λ fs. after_passes signs fs (ps ++ q ∷ [])) o
-    ≡ option_map (λ fs. after_pass signs fs q) (option_map (λ fs. after_passes signs fs ps) o)
+families_push : (signs : ℕ) (o : Option Families) (ps : List PassTrace) (q : PassTrace) → option_map (λ fs. fold (after_pass signs) fs (ps ++ q ∷ [])) o
+    ≡ option_map (λ fs. after_pass signs fs q) (option_map (λ fs. fold (after_pass signs) fs ps) o)
 families_push signs None ps q = refl
 families_push signs (Some fs) ps q = ap (λ (gs : Families). Some gs) (fold-append (after_pass signs) fs ps (q ∷ []))
 
@@ -49,7 +49,7 @@ filter_push g f xs y =
 
 -- passes with the families after them
 with_families_push : (signs : ℕ) (fs : Families) (ps : List PassTrace) (q : PassTrace) → passes_with_families signs fs (ps ++ q ∷ [])
-    ≡ passes_with_families signs fs ps ++ (q, after_passes signs fs (ps ++ q ∷ [])) ∷ []
+    ≡ passes_with_families signs fs ps ++ (q, fold (after_pass signs) fs (ps ++ q ∷ [])) ∷ []
 with_families_push signs fs [] q = refl
 with_families_push signs fs (p ∷ ps) q = ap (λ es. (p, after_pass signs fs p) ∷ es) (with_families_push signs (after_pass signs fs p) ps q)
 
@@ -59,10 +59,10 @@ layout_after e = (e.0.pass, taken_count e.1, top e.1)
 -- the layouts of passes
 pub layouts_push : (signs : ℕ) (o : Option Families) (ps : List PassTrace) (q : PassTrace)
     → layouts_in signs o (ps ++ q ∷ []) ≡ layouts_in signs o ps ++ cond (has_candidate q)
-    (option_map (λ fs. (q.pass, taken_count fs, top fs)) (option_map (λ fs. after_passes signs fs (ps ++ q ∷ [])) o) ∷ []) []
+    (option_map (λ fs. (q.pass, taken_count fs, top fs)) (option_map (λ fs. fold (after_pass signs) fs (ps ++ q ∷ [])) o) ∷ []) []
 layouts_push signs None ps q = filter_push (λ (_ : PassTrace). let none : Option (Pass × ℕ × ℕ) = None in none) has_candidate ps q
 layouts_push signs (Some fs) ps q =
-    let last : PassTrace × Families = (q, after_passes signs fs (ps ++ q ∷ [])) in
+    let last : PassTrace × Families = (q, fold (after_pass signs) fs (ps ++ q ∷ [])) in
     let some : Pass × ℕ × ℕ → Option (Pass × ℕ × ℕ) = λ x. Some x in
     ap (λ (es : List (PassTrace × Families)). map some (map layout_after (filter (λ e. has_candidate e.0) es))) (with_families_push signs fs ps q)
     ∙ ap (map some) (filter_push layout_after (λ e. has_candidate e.0) (passes_with_families signs fs ps) last)

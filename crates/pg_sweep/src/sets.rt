@@ -3,7 +3,7 @@ ghost use Rattle.std.specs.Prelude.{◌≡◌, ◌≤◌, ◌+◌, ◌*◌, leng
 ghost use Rattle.pg_translate.specs.Alphabets.{letters_of};
 ghost use Rattle.pg_dict.specs.Inside.SoundWords.{SignsAtMost};
 ghost use Rattle.pg_patterns.specs.Inside.PatternMaps.{SignsUpTo};
-ghost use Rattle.pg_types.specs.declared.limits.TheConstants.{SETS_MAX};
+ghost use Rattle.pg_types.specs.declared.limits.TheConstants.{FOLDS_MAX, PRICE_MAX, SETS_MAX};
 ghost use Rattle.pg_sweep.specs.Sweeps.{row_of, costs_of};
 ghost use Rattle.pg_sweep.specs.Winners.{winner_of};
 ghost use Rattle.pg_sweep.specs.Inside.Given.{IsSmallFor};
@@ -20,8 +20,8 @@ use std::alloc::{AllocError, Global};
 
 /// What totals cost, beside the totals.
 fn priced(totals: Totals, bad: u32, missed: u32) -> SweepRow
-    requires small { IsSmallFor 10 totals }
-    requires prices { (bad ≤ 1000) × (missed ≤ 1000) }
+    requires small { IsSmallFor FOLDS_MAX totals }
+    requires prices { (bad ≤ PRICE_MAX) × (missed ≤ PRICE_MAX) }
     ensures { result
         ≡ record { totals = totals; cost = bad * totals.bad + missed * totals.missed } }
 {
@@ -33,7 +33,7 @@ fn priced(totals: Totals, bad: u32, missed: u32) -> SweepRow
 
 /// Weighs each set of parameters: for each fold it selects patterns from all words but those of the
 /// fold, and adds up the totals of the words that were left out. `bad` and `missed` are what a unit
-/// of each costs, 1 to 1,000.
+/// of each costs, 1 to [`PRICE_MAX`](pg_types::PRICE_MAX).
 ///
 /// One engine is alive at a time. The only error is a lack of memory.
 pub fn sweep<K: Maker>(
@@ -48,9 +48,9 @@ pub fn sweep<K: Maker>(
     missed: u32,
 ) -> Result<Sweep, AllocError>
     requires sets { (1 ≤ length sets.now) × (length sets.now ≤ SETS_MAX) }
-    requires folds { (2 ≤ folds) × (folds ≤ 10) }
-    requires bad { (1 ≤ bad) × (bad ≤ 1000) }
-    requires missed { (1 ≤ missed) × (missed ≤ 1000) }
+    requires folds { (2 ≤ folds) × (folds ≤ FOLDS_MAX) }
+    requires bad { (1 ≤ bad) × (bad ≤ PRICE_MAX) }
+    requires missed { (1 ≤ missed) × (missed ≤ PRICE_MAX) }
     requires signs { SignsAtMost (letters_of table.now + 1) dictionary.now }
     requires known { SignsUpTo (letters_of table.now + 1) start.now }
     ensures rows { IfOk result (λ sweep. sweep.rows ≡ map (row_of

@@ -46,3 +46,9 @@ pub const FAR_BELOW: usize = 255;
 
 /// The most parameter files that `sweep` takes.
 pub const SETS_MAX: usize = 16;
+
+/// How many folds `sweep` makes at most.
+pub const FOLDS_MAX: u32 = 10;
+
+/// What a unit of bad or of missed costs at most in `sweep`.
+pub const PRICE_MAX: u32 = 1_000;

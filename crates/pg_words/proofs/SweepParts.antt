@@ -2,8 +2,8 @@
 use Rattle.std.proofs.Common.{◌≡◌, ℕ, ◌<◌, ◌≤◌, nat_lt, nat_le, true, ◌&&◌, List, [], ◌∷◌, length, None, Some, refl, arith}
 use Rattle.std.proofs.lemmas.Bool.Decides.{nat_tests}
 use Rattle.pg_words.specs.Requests.{ToSweep, where_taken, number_within, sweep_in}
-use Rattle.pg_types.specs.declared.limits.TheConstants.{SETS_MAX}
-use Rattle.pg_words.specs.declared.limits.TheConstants.{FOLDS_MAX, FOLDS_DIGITS, PRICE_MAX, PRICE_DIGITS}
+use Rattle.pg_types.specs.declared.limits.TheConstants.{FOLDS_MAX, PRICE_MAX, SETS_MAX}
+use Rattle.pg_words.specs.declared.limits.TheConstants.{FOLDS_DIGITS, PRICE_DIGITS}
 
 -- too few words
 pub too_few : (words : List (List ℕ)) → length words < 7 → None ≡ sweep_in words

@@ -4,8 +4,8 @@ use Rattle.std.specs.List.{list_all, starts_with}
 use Rattle.std.specs.Option.{option_and_then, option_map, option_map_or, is_none}
 use Rattle.std.specs.Str.{bytes_eq}
 use Rattle.pg_types.specs.Parameters.{number}
-use Rattle.pg_types.specs.declared.limits.TheConstants.{SETS_MAX}
-use Rattle.pg_words.specs.declared.limits.TheConstants.{SEED_MAX, COUNT_MAX, SAMPLE_DIGITS, FOLDS_MAX, FOLDS_DIGITS, PRICE_MAX, PRICE_DIGITS}
+use Rattle.pg_types.specs.declared.limits.TheConstants.{FOLDS_MAX, PRICE_MAX, SETS_MAX}
+use Rattle.pg_words.specs.declared.limits.TheConstants.{SEED_MAX, COUNT_MAX, SAMPLE_DIGITS, FOLDS_DIGITS, PRICE_DIGITS}
 
 -- the names of `generate` and `audit` as bytes; that of an option is there where it is asked for
 pub record FileNames : Type 0 where

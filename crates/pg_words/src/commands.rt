@@ -27,11 +27,11 @@ pub struct SweepWords<'a> {
     /// Where the table of the sweep is written.
     pub output: &'a str,
     pub translate: &'a str,
-    /// 2 to [`FOLDS_MAX`](crate::limits::FOLDS_MAX).
+    /// 2 to [`FOLDS_MAX`](pg_types::FOLDS_MAX).
     pub folds: u8,
-    /// What a unit of bad costs, 1 to [`PRICE_MAX`](crate::limits::PRICE_MAX).
+    /// What a unit of bad costs, 1 to [`PRICE_MAX`](pg_types::PRICE_MAX).
     pub bad: u32,
-    /// What a unit of missed costs, 1 to [`PRICE_MAX`](crate::limits::PRICE_MAX).
+    /// What a unit of missed costs, 1 to [`PRICE_MAX`](pg_types::PRICE_MAX).
     pub missed: u32,
     /// The parameter files, 1 to [`SETS_MAX`](pg_types::SETS_MAX).
     pub params: &'a [String],

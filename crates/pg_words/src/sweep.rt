@@ -6,11 +6,11 @@ ghost use Rattle.pg_words.specs.Inside.Names.{texts, words_of};
 ghost use Rattle.pg_words.specs.Inside.Asked.{asked_by, sweep_of, sweep_inputs, KeepsSweepLimits, KeepsLimits};
 
 use crate::commands::{Command, SweepWords};
-use crate::limits::{FOLDS_DIGITS, FOLDS_MAX, PRICE_DIGITS, PRICE_MAX};
+use crate::limits::{FOLDS_DIGITS, PRICE_DIGITS};
 use crate::names::where_taken;
 use crate::numbers::number_within;
 use arrayvec::ArrayVec;
-use pg_types::SETS_MAX;
+use pg_types::{FOLDS_MAX, PRICE_MAX, SETS_MAX};
 
 /// How many inputs `sweep` has at most: three files, and the parameter files.
 const INPUTS_MAX: usize = 3 + SETS_MAX;

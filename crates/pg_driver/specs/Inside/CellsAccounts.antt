@@ -1,22 +1,14 @@
 -- What the records of a run tell of the cells, as it is read off its trace.
-use Rattle.std.specs.Prelude.{ℕ, List, [], ◌∷◌, map, filter, fold}
+use Rattle.std.specs.Prelude.{ℕ, List, [], ◌∷◌, map, filter}
 use Rattle.std.specs.List.{flat_map}
 use Rattle.pg_types.specs.declared.marks.Layout.{Layout}
-use Rattle.pg_types.specs.Placement.{Families, kept_families, taken_count, top}
+use Rattle.pg_types.specs.Placement.{Families, taken_count, top}
 use Rattle.pg_types.specs.Tails.{tails}
 use Rattle.pg_select.specs.declared.pass.Pass.{Pass}
 use Rattle.pg_select.specs.Windows.{Patterns}
 use Rattle.pg_driver.specs.Traces.{PassTrace, LevelTrace, Trace, patterns_after}
 use Rattle.pg_driver.specs.Accounts.{has_candidate}
-use Rattle.pg_driver.specs.Layouts.{strings_in, after_pass, after_level}
-
--- the families after passes of a level, one after the other
-abbrev pub after_passes : ℕ → Families → List PassTrace → Families
-after_passes signs fs ps = fold (after_pass signs) fs ps
-
--- the families at a level's end: only signs and prefixes of the patterns' strings keep their cells
-abbrev pub at_level_end : LevelTrace → Families → Families
-at_level_end l fs = kept_families (strings_in (patterns_after l)) fs
+use Rattle.pg_driver.specs.Layouts.{after_pass, after_level}
 
 -- each pass with the families after it
 abbrev pub passes_with_families : ℕ → Families → List PassTrace → List (PassTrace × Families)

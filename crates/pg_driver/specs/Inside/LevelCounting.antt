@@ -22,7 +22,7 @@ use Rattle.pg_driver.specs.declared.counting.above_positions.Kept.{Kept}
 use Rattle.pg_driver.specs.Accounts.{totals_by}
 use Rattle.pg_dots.specs.Inside.Dots.{is_closed, position_count}
 use Rattle.pg_driver.specs.Inside.Counting.{HasRoom, IsBounded, meaning_after_counting}
-use Rattle.pg_driver.specs.Inside.OpenSigns.{IsThere, closed_after, open_word_positions, sign_count}
+use Rattle.pg_driver.specs.Inside.OpenSigns.{IsThere, closed_at_sign, open_word_positions, sign_count}
 use Rattle.pg_driver.specs.Inside.OpenPositions.{IsPlaced}
 use Rattle.pg_driver.specs.Inside.PassWindows.{HaveNumbers, counts_at, is_counted_at}
 use Rattle.pg_driver.specs.Inside.Sound.{IsSmall}
@@ -120,7 +120,7 @@ pub record IsAfterPass (params : LevelParams) (pass : Pass)
     (counts : Counts) (words : List Word) (n : Choices) (old new : OpenLevel) : Type 0 where
   pub size : position_count new.dots ≡ position_count old.dots
   pub dots : (d s : ℕ) → d ≤ LENGTH_MAX → s < sign_count words
-      → is_closed new.dots d s ≡ closed_after params pass counts words (is_closed old.dots) d s
+      → is_closed new.dots d s ≡ closed_at_sign params pass counts words (is_closed old.dots) d s
   pub totals : Carries (is_odd pass.level) old.totals new.totals n.good n.bad
 
 -- what the choices of a pass make where words are hyphenated: totals go on, listed positions stay

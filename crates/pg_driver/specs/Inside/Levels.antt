@@ -1,5 +1,5 @@
 -- How far a level has come, and what a whole level leaves in an engine and in the records.
-use Rattle.std.specs.Prelude.{◌≡◌, ℕ, ◌+◌, ◌≤◌, nat_le, Bool, true, false, List, [], ◌∷◌, ◌++◌, length, map, filter, slice_index_or, replicate, Option, None, Some, ◌⊎◌}
+use Rattle.std.specs.Prelude.{◌≡◌, ℕ, ◌+◌, ◌≤◌, nat_le, Bool, true, false, List, [], ◌∷◌, ◌++◌, fold, length, map, filter, slice_index_or, replicate, Option, None, Some, ◌⊎◌}
 use Rattle.std.specs.List.{list_all, flat_map}
 use Rattle.std.specs.Option.{option_map}
 use Rattle.pg_types.specs.declared.limits.TheConstants.{LENGTH_MAX}
@@ -18,7 +18,7 @@ use Rattle.pg_driver.specs.Accounts.{has_candidate, begun_count}
 use Rattle.pg_driver.specs.Inside.AccountLines.{pass_line, pass_lines, chosen_by, level_line, is_skippable, begun_among}
 use Rattle.pg_driver.specs.Layouts.{after_level}
 use Rattle.pg_driver.specs.Inside.CellsAccounts.{pass_layouts, levels_with_families, level_layout}
-use Rattle.pg_driver.specs.Inside.RunAccounts.{final_families, known_of, line_of, level_line_of, layout_told, level_layout_told}
+use Rattle.pg_driver.specs.Inside.RunAccounts.{known_of, line_of, level_line_of, layout_told, level_layout_told}
 use Rattle.pg_driver.specs.Inside.Sound.{Recorded}
 use Rattle.pg_driver.specs.Inside.States.{State, state_of, state_at_end}
 
@@ -150,7 +150,7 @@ abbrev pub state_after_run : ℕ → Patterns → Option Families → Trace → 
 state_after_run signs S families run =
     record {
       known = at_start (final_patterns S run);
-      families = option_map (λ fs. final_families signs fs run) families;
+      families = option_map (λ fs. fold (after_level signs) fs run) families;
     }
 
 -- a run was done: the engine has the state at its end, and the records are its own

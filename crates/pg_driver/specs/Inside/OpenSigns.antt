@@ -86,8 +86,8 @@ closed_in level pass counts w p closed d =
     else closed_by closed pass.dot None d)
 
 -- the closed dots of a sign after a pass, where signs are counted through all words
-abbrev pub closed_after : LevelParams → Pass → Counts → List Word → (ℕ → ℕ → Bool) → ℕ → ℕ → Bool
-closed_after level pass counts words closed d s =
+abbrev pub closed_at_sign : LevelParams → Pass → Counts → List Word → (ℕ → ℕ → Bool) → ℕ → ℕ → Bool
+closed_at_sign level pass counts words closed d s =
     let e = position_from 0 words s in
     option_map_or (λ w. closed_in level pass counts w e.at (λ c. closed c s) d)
     (slice_get words e.word) (closed d s)

@@ -18,10 +18,6 @@ use Rattle.pg_select.specs.Windows.{Patterns}
 use Rattle.pg_driver.specs.Accounts.{begun_count}
 use Rattle.pg_driver.specs.Inside.AccountLines.{Account, PassLine, LevelLine, account}
 
--- the families at the end of a run that begins with these
-abbrev pub final_families : ℕ → Families → Trace → Families
-final_families signs fs run = fold (after_level signs) fs run
-
 -- what an engine knows
 abbrev pub known_of : Meaning → Known
 known_of m = record { patterns = m.patterns; hopeless = m.hopeless }
@@ -46,7 +42,7 @@ begun_from t words parameters m = begun_count (run_from t words parameters m)
 -- the families at the end of the run from an engine's, where they are told
 abbrev pub families_from : Alphabet → List Word → Parameters → Meaning → Option Families
 families_from t words parameters m =
-    option_map (λ fs. final_families m.signs fs (run_from t words parameters m)) m.families
+    option_map (λ fs. fold (after_level m.signs) fs (run_from t words parameters m)) m.families
 
 -- what is told of the cells of the run from an engine's families, where they are told
 abbrev pub cells_from : Alphabet → List Word → Parameters → Meaning → Option CellsAccount

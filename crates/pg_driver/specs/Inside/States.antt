@@ -1,5 +1,5 @@
 -- What a run changes in an engine, from pass to pass.
-use Rattle.std.specs.Prelude.{◌≡◌, ℕ, ◌+◌, ◌≤◌, List, [], Option}
+use Rattle.std.specs.Prelude.{◌≡◌, ℕ, ◌+◌, ◌≤◌, List, [], fold, Option}
 use Rattle.std.specs.Option.{option_map}
 use Rattle.pg_types.specs.declared.limits.TheConstants.{LENGTH_MAX, LEVEL_MAX}
 use Rattle.pg_types.specs.declared.parameters.LevelParams.{LevelParams}
@@ -13,7 +13,6 @@ use Rattle.pg_driver.specs.Traces.{Known, Source, PassTrace, known_after, pass_t
 use Rattle.pg_driver.specs.Inside.Passes.{known_at_end}
 use Rattle.pg_driver.specs.Inside.AccountLines.{pass_line}
 use Rattle.pg_driver.specs.Layouts.{after_pass}
-use Rattle.pg_driver.specs.Inside.CellsAccounts.{after_passes}
 use Rattle.pg_driver.specs.Inside.RunAccounts.{known_of, line_of, layout_told}
 
 -- what an engine knows, and the families of its strings, where they are told
@@ -35,7 +34,7 @@ abbrev pub state_at_end : ℕ → State → List PassTrace → State
 state_at_end signs s ps =
     record {
       known = known_at_end s.known ps;
-      families = option_map (λ fs. after_passes signs fs ps) s.families;
+      families = option_map (λ fs. fold (after_pass signs) fs ps) s.families;
     }
 
 -- the numbers of a pass are in their ranges

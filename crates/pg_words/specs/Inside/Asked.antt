@@ -7,8 +7,8 @@ use Rattle.pg_words.specs.declared.commands.Names.{Names}
 use Rattle.pg_words.specs.declared.commands.SweepWords.{SweepWords}
 use Rattle.pg_words.specs.declared.commands.Command.{Command}
 use Rattle.pg_words.specs.declared.commands.Command.TheVariants.{Generate, Audit, Sample, Pack, Totals, Prune, Sweep}
-use Rattle.pg_types.specs.declared.limits.TheConstants.{SETS_MAX}
-use Rattle.pg_words.specs.declared.limits.TheConstants.{SEED_MAX, COUNT_MAX, FOLDS_MAX, PRICE_MAX}
+use Rattle.pg_types.specs.declared.limits.TheConstants.{FOLDS_MAX, PRICE_MAX, SETS_MAX}
+use Rattle.pg_words.specs.declared.limits.TheConstants.{SEED_MAX, COUNT_MAX}
 use Rattle.pg_words.specs.Inside.Names.{words_of}
 
 -- a name that may be asked for as its bytes

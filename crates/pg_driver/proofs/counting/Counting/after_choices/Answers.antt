@@ -5,7 +5,7 @@ use Rattle.pg_driver.specs.declared.counting.Counting.{Counting}
 use Rattle.pg_driver.specs.declared.counting.Counting.TheVariants.{Open}
 use Rattle.pg_driver.specs.declared.counting.open_positions.OpenLevel.{OpenLevel}
 use Rattle.pg_driver.specs.Inside.LevelCounting.{AreNumberedIn, AreNumberedOpen, GoesOnAfter}
-use Rattle.pg_driver.specs.Inside.OpenSigns.{ClosesBy, closed_after, open_signs, sign_count}
+use Rattle.pg_driver.specs.Inside.OpenSigns.{ClosesBy, closed_at_sign, open_signs, sign_count}
 use Rattle.pg_driver.proofs.OpenCloses.{closes_signs}
 use Rattle.pg_driver.proofs.counting.Counting.after_choices.Goals as goal
 
@@ -17,7 +17,7 @@ returns-in-Open g c =
     let pass = c.args.pass in
     let o = c.in-Open.open in
     let old : ℕ → ℕ → Bool = is_closed o.dots in
-    let after : ℕ → ℕ → Bool = closed_after params pass m.counts words old in
+    let after : ℕ → ℕ → Bool = closed_at_sign params pass m.counts words old in
     let fates : List Choice = c.args.windows.now.fates.items in
     let ns : List ℕ = c.args.windows.now.numbers.items in
     let have : AreNumberedOpen pass words m.windows o ns = subst (λ (s : Counting). AreNumberedIn pass m.counts words m.windows s ns) c.in-Open.is c.requires.numbers in
