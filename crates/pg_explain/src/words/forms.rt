@@ -1,25 +1,21 @@
-//! The commands, and what each of their words has to be. The limits of numbers are those of
-//! pg_words, on which this crate does not stand.
+//! The commands, and what each of their words has to be. Some limits of numbers are those
+//! of pg_words, on which this crate does not stand.
+
+use pg_types::{FOLDS_MAX, PRICE_MAX};
 
 /// The greatest number from which `sample` draws.
-const SEED_MAX: u64 = 2_147_483_647;
+const SEED_MAX: u32 = 2_147_483_647;
 
 /// The most words that `sample` draws.
-const COUNT_MAX: u64 = 100_000;
+const COUNT_MAX: u32 = 100_000;
 
 /// The most digits of both numbers of `sample`.
 const SAMPLE_DIGITS: usize = 10;
 
-/// The most folds of a sweep; the fewest are 2.
-const FOLDS_MAX: u64 = 10;
-
 /// The most digits of the number of folds.
 const FOLDS_DIGITS: usize = 2;
 
-/// The most that a unit of an error, or of a missed hyphen, may cost in a sweep.
-const PRICE_MAX: u64 = 1_000;
-
-/// The most digits of such a price.
+/// The most digits of the price of an error or of a missed hyphen.
 const PRICE_DIGITS: usize = 4;
 
 /// A number of a command.
@@ -27,8 +23,8 @@ const PRICE_DIGITS: usize = 4;
 pub(crate) struct Range {
     /// The most digits that it may have.
     pub digits: usize,
-    pub least: u64,
-    pub most: u64,
+    pub least: u32,
+    pub most: u32,
     /// The bounds, as they are said.
     pub due: &'static str,
 }

@@ -28,7 +28,7 @@ fn is_within(word: &str, range: &Range) -> bool {
         return false;
     }
     match word.parse::<u64>() {
-        Ok(number) => range.least <= number && number <= range.most,
+        Ok(number) => u64::from(range.least) <= number && number <= u64::from(range.most),
         Err(_) => false,
     }
 }
