@@ -3,19 +3,25 @@ ghost use Rattle.std.specs.Prelude.{◌≡◌};
 
 use super::system::CallFailed;
 use std::alloc::AllocError;
+use thiserror::Error;
 
 /// Why a file was not written.
-#[derive(Clone, Copy)]
+#[derive(Clone, Copy, Debug, PartialEq, Eq, Error)]
 pub enum WriteError {
     /// A call of the system failed.
+    #[error("a call of the system failed")]
     Failed,
     /// The name leads to a regular file that was read or written before.
+    #[error("the file was read or written before")]
     Kept,
     /// The name is a link, and could not be followed to the file that it leads to.
+    #[error("the link could not be followed")]
     Unfollowed,
     /// Each name that a new file could have is taken.
+    #[error("there is no name for a new file")]
     Taken,
     /// There was not enough memory.
+    #[error("out of memory")]
     Memory,
 }
 

@@ -6,9 +6,11 @@ ghost use Rattle.pg_outside.specs.Inside.Disk.{Told, Keeps, Steps, Now, Made, Wr
 
 use std::alloc::Global;
 use std::io;
+use thiserror::Error;
 
 /// A call of the system failed.
-#[derive(Clone, Copy)]
+#[derive(Clone, Copy, Debug, PartialEq, Eq, Error)]
+#[error("a call of the system failed")]
 pub struct CallFailed;
 
 impl From<io::Error> for CallFailed {
