@@ -43,15 +43,10 @@ pub(crate) fn words(alloc: Global, line: &str) -> Result<Vec<String>, AllocError
     Ok(words)
 }
 
-/// Compares the bytes that were found, if any, with these.
-fn compare_bytes(rt: &impl Abort, found: Option<&[u8]>, wanted: &[u8]) {
-    assert_eq!(rt; found, Some(wanted));
-}
-
 /// Compares what the call wrote and printed.
 fn compare(rt: &impl Abort, files: &QuietFiles, out: &QuietSink) {
-    compare_bytes(rt, files.bytes("O"), b"ab1\n");
-    compare_bytes(rt, out.bytes(), PRINTED);
+    assert_eq!(rt; files.bytes("O"), Some(b"ab1\n".as_slice()));
+    assert_eq!(rt; out.bytes(), Some(PRINTED));
 }
 
 /// Does what the words ask for, over files and a sink that never fail. The answer is never a fault.

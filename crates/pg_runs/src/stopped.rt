@@ -1,5 +1,5 @@
-//! Calls of the program over a disk that tells: what stands under each name when they are done, and
-//! when a call of the system stops the program or fails.
+//! Calls of the program over a disk with links, each call of which fails or is the last: what stands
+//! under each name then.
 use crate::quiet::{INPUTS, words};
 use pg_outside::{DiskFiles, MemorySink};
 use pg_told_disk::ToldDisk;
@@ -37,31 +37,24 @@ fn add_files(disk: &mut ToldDisk, added: &[(&str, &[u8])]) -> Result<(), AllocEr
     Ok(())
 }
 
-/// A disk of these files alone. It has no link, so what files over it hold is told.
-fn plain_disk(alloc: Global) -> Result<ToldDisk, AllocError> {
-    let mut disk = ToldDisk::new(alloc);
-    add_files(&mut disk, INPUTS)?;
-    add_files(&mut disk, OLD)?;
-    Ok(disk)
-}
-
-/// The same disk with a link to a file in a folder, and another name of the old report.
-fn disk(alloc: Global) -> Result<ToldDisk, AllocError> {
-    let mut disk = plain_disk(alloc)?;
+/// Adds all files, a link to one in a folder, and another name of the old report.
+fn fill(disk: &mut ToldDisk) -> Result<(), AllocError> {
+    add_files(disk, INPUTS)?;
+    add_files(disk, OLD)?;
     disk.add_link("O", "folder/old")?;
-    disk.add_hard_link("twin", "R")?;
-    Ok(disk)
+    disk.add_hard_link("twin", "R")
 }
 
-/// A disk that fails at a call, or at it and each later one.
-fn failing_disk(alloc: Global, call: u64, stops: bool) -> Result<ToldDisk, AllocError> {
-    let mut disk = disk(alloc)?;
+/// A disk that fails at this call, or at it and each later one; at none where it is 0.
+fn disk(alloc: Global, call: u64, stops: bool) -> Result<ToldDisk, AllocError> {
+    let mut disk = ToldDisk::new(alloc);
+    fill(&mut disk)?;
     disk.fail_at(call, stops);
     Ok(disk)
 }
 
-/// The answer of a call over files, which may be those of an earlier call.
-fn answer_of(
+/// Does what the words ask for, over files.
+fn answer(
     alloc: Global,
     words: &[String],
     files: &mut DiskFiles<ToldDisk>,
@@ -70,14 +63,15 @@ fn answer_of(
     Ok(run(alloc, words, files, &mut out))
 }
 
-/// Does what the words ask for, over the disk.
+/// Does what the words ask for, over a disk that fails at this call.
 fn run_over(
     alloc: Global,
     words: &[String],
-    disk: ToldDisk,
+    call: u64,
+    stops: bool,
 ) -> Result<(Status, DiskFiles<ToldDisk>), AllocError> {
-    let mut files = DiskFiles::new(alloc, disk);
-    let status = answer_of(alloc, words, &mut files)?;
+    let mut files = DiskFiles::new(alloc, disk(alloc, call, stops)?);
+    let status = answer(alloc, words, &mut files)?;
     Ok((status, files))
 }
 
@@ -120,7 +114,7 @@ fn survives(
     before: &ToldDisk,
     after: &ToldDisk,
 ) -> Result<bool, AllocError> {
-    let (status, files) = run_over(alloc, words, failing_disk(alloc, call, stops)?)?;
+    let (status, files) = run_over(alloc, words, call, stops)?;
     let disk = files.system();
     let is_right = if stops {
         disk.is_told()
@@ -152,14 +146,14 @@ fn survives_all(
 fn goes_well(
     alloc: Global,
     line: &str,
-    answer: Status,
+    wanted: Status,
     before: &ToldDisk,
 ) -> Result<bool, AllocError> {
     let words = words(alloc, line)?;
-    let (status, files) = run_over(alloc, &words, disk(alloc)?)?;
+    let (status, files) = run_over(alloc, &words, 0, false)?;
     let after = files.system();
     Ok(
-        status == answer
+        status == wanted
             && is_tidy(after)
             && is_old_or_new(after, before, after)
             && survives_all(alloc, &words, before, after)?,
@@ -169,61 +163,9 @@ fn goes_well(
 #[test]
 fn generate_and_audit(rt: HostRuntime) -> Result<(), Fail> {
     let alloc = rt.alloc();
-    let before = disk(alloc)?;
+    let before = disk(alloc, 0, false)?;
     for (line, answer) in CALLS {
         assert!(rt; goes_well(alloc, line, *answer, &before)?, "{line}");
     }
-    Ok(())
-}
-
-/// The answer for the words of a line, over files.
-fn answer_of_line(
-    alloc: Global,
-    line: &str,
-    files: &mut DiskFiles<ToldDisk>,
-) -> Result<Status, AllocError> {
-    let words = words(alloc, line)?;
-    answer_of(alloc, &words, files)
-}
-
-/// Compares the answer of a call over files with this one.
-fn compare_answer(
-    rt: &impl Abort,
-    alloc: Global,
-    line: &str,
-    files: &mut DiskFiles<ToldDisk>,
-    answer: Status,
-) -> Result<(), AllocError> {
-    assert_eq!(rt; answer_of_line(alloc, line, files)?, answer);
-    Ok(())
-}
-
-/// Compares the two files that a call over files wrote.
-fn compare_written(rt: &impl Abort, disk: &ToldDisk) {
-    let (patterns, list) = (Some(b"ab1\n".as_slice()), Some(b"ab*c\nab*a\n".as_slice()));
-    assert!(rt; disk.holds("O", patterns) && disk.holds("M", list));
-}
-
-/// Does a call and one on the files that it leaves, and compares what comes of them.
-fn call_twice(
-    rt: &impl Abort,
-    alloc: Global,
-    files: &mut DiskFiles<ToldDisk>,
-) -> Result<(), AllocError> {
-    compare_answer(rt, alloc, CALLS[0].0, files, Status::Done)?;
-    compare_written(rt, files.system());
-    compare_answer(
-        rt,
-        alloc,
-        "audit D P O T A R --pattmp M",
-        files,
-        Status::Yes,
-    )
-}
-
-#[test]
-fn files_that_are_told(rt: HostRuntime) -> Result<(), Fail> {
-    let alloc = rt.alloc();
-    call_twice(&rt, alloc, &mut DiskFiles::new(alloc, plain_disk(alloc)?))?;
     Ok(())
 }
