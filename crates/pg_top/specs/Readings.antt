@@ -29,7 +29,8 @@ pub record Reading : Type 0 where
   pub ends : HeldFiles → List ℕ → Option Outcome
 
 -- an input, which ends the call where it breaks the rules of its kind
-abbrev pub input_file : {Y : Type 0} → Input → List ℕ → (HeldFiles → List ℕ → Result Y Refusal) → Reading
+abbrev pub input_file : {Y : Type 0} → Input → List ℕ → (HeldFiles → List ℕ → Result Y Refusal)
+    → Reading
 input_file input name parse =
     record { name = name; ends = λ files bytes. unless_accepted input (parse files bytes) }
 

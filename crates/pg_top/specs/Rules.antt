@@ -18,10 +18,11 @@ pub record CommandRule : Type 1 where
   -- what it promises, where it is done, of the files that it reads and of what it comes to
   pub keeps : HeldFiles → Outcome → Type 0
 
--- where a command says nothing of its own: it reads, writes and promises nothing
+-- what a rule has where it says nothing else: nothing is read, written or promised, the answer is
+-- done, refused or a lack of memory, and the outcome is not known, so each command says its own
 abbrev pub usual_rule : CommandRule
-usual_rule = let may = Done ∷ Refused ∷ Memory ∷ [] in
-    record { reads = []; writes = []; answers = may; comes = λ _. Unknown; keeps = λ _ _. Unit {0} }
+usual_rule = let all = Done ∷ Refused ∷ Memory ∷ [] in
+    record { reads = []; writes = []; answers = all; comes = λ _. Unknown; keeps = λ _ _. Unit {0} }
 
 -- the outcome of a command: that of the first file that ends the call, else its own
 abbrev pub outcome_of : HeldFiles → CommandRule → Outcome

@@ -16,9 +16,11 @@ pub record IsRun {F : Type 0} (asked : Option Request) (status : Status)
     (before after : F) (old new : Moment) : Type 0 where
   pub call : IsCall (rule_of asked) status old new
   pub counted : IsCountedCall (rule_of asked) status old new
+  -- the command is done, and what it promises of its files and its outcome holds
   pub promised : status ≡ Done → OfFiles old new (λ before after.
       (rule_of asked).keeps (file_at before) (outcome_of (file_at before) (rule_of asked)))
-  -- without a file that is read, the files stay, and the lines are known where files tell nothing
+  -- where no file is read, as for words that are no command and for `sample`, the files stay as they
+  -- are, and the lines are those of the rule, also where files do not tell what they hold
   pub unread : (rule_of asked).reads ≡ [] → (after ≡ before)
       × IsKnown ((rule_of asked).comes (λ _. None)) (λ wanted writing lines.
       (status ≡ wanted → WasPut old.1.text new.1.text lines)

@@ -39,7 +39,7 @@ fn spelling_at<'a>(spot: &Spot<'a>) -> &'a [u8] {
     }
 }
 
-/// Why bytes are no spelling, which are `$0`, and so many as `$1`.
+/// Why these bytes, `$0`, so many as `$1`, are no spelling.
 fn words_of(spelling: &[u8]) -> &'static str {
     if spelling.len() > SPELLING_MAX {
         return "the spelling \"$0\" has $1 bytes, and $2 is the most";
@@ -123,7 +123,7 @@ fn clash_before<'a>(bytes: &'a [u8], last: usize, spelling: &[u8]) -> Option<(us
     None
 }
 
-/// How a spelling, which is `$0`, and an earlier one clash, which is `$1`.
+/// How a spelling, `$0`, clashes with an earlier one, `$1`, of the line `$2`.
 fn clash_words(spelling: &[u8], other: &[u8]) -> &'static str {
     if other == spelling {
         "\"$0\" is \"$1\", a spelling of line $2: a spelling belongs to one letter"

@@ -87,7 +87,7 @@ prune_keeps p i files back h =
     let with_ws : ReadsBack i.table (pruning_of (minima_of i.table) ws P).patterns = subst (λ (vs : List Word). ReadsBack i.table (pruning_of (minima_of i.table) vs P).patterns) (sym is_ws) with_P in
     record {
       kept = (pruning_of m ws P).patterns;
-      told = prune_report (table_named p.translate (file_at files)) (pruning_of m ws P);
+      report = prune_report (table_named p.translate (file_at files)) (pruning_of m ws P);
       lines = line_of_pruned (pruning_of m ws P);
       comes = ap (λ end. unwrap_or end ((prune_rule p).comes (file_at files))) (accepted_all (file_at files) (prune_rule p).reads (prune_accepted p i files h));
       part = pruned_part m ws P;

@@ -35,7 +35,8 @@ selected_files n i = (n.output, selected_text i)
 abbrev pub selected_lines : Inputs → List ℕ
 selected_lines i = done_line (selected_text i) (selected_totals i)
     ++ codes "work: " ++ decimal (begun_count (selection i)) ++ codes " passes, "
-    ++ layout_text (families_at_end (letters_of i.table + 1) i.start (selection i)) (selected_patterns i)
+    ++ layout_text (families_at_end (letters_of i.table + 1) i.start (selection i))
+    (selected_patterns i)
 
 -- the rule of `generate`
 abbrev pub generate_rule : FileNames → CommandRule

@@ -35,9 +35,9 @@ ReadsBack t P = length (pattern_text t P) ≤ FILE_MAX → start t (pattern_text
 pub record PruneKeeps (n : PruneRequest) (t : Alphabet) (ws : List Word) (P : Patterns)
     (end : Outcome) : Type 0 where
   pub kept : Patterns
-  pub told : List ℕ
+  pub report : List ℕ
   pub lines : List ℕ
-  pub comes : end ≡ Ends Done ((n.output, pattern_text t kept) ∷ (n.report, told) ∷ []) lines
+  pub comes : end ≡ Ends Done ((n.output, pattern_text t kept) ∷ (n.report, report) ∷ []) lines
   pub part : All (Contains P) kept
   pub reads_back : ReadsBack t kept
   pub alike : BreakAlike (minima_of t) ws P kept

@@ -30,7 +30,8 @@ abbrev pub packed_text : Alphabet → Patterns → List ℕ
 packed_text t P = table_text (letters_of t + 1) P
 
 -- the files that are held are accepted as these
-pub record HasSource (files : HeldFiles) (translate pattern_file : List ℕ) (s : Source) : Type 0 where
+pub record HasSource (files : HeldFiles) (translate pattern_file : List ℕ)
+    (s : Source) : Type 0 where
   pub table : read_as table files translate ≡ Some (Ok s.table)
   pub patterns : read_as (start s.table) files pattern_file ≡ Some (Ok s.patterns)
 
