@@ -1,1 +1,2 @@
 mod TableRows
+pub mod Parts

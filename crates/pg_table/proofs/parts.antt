@@ -1,4 +1,3 @@
 pub mod BigEndian
-pub mod Parts
 pub mod Ranges
 pub mod FormLaws

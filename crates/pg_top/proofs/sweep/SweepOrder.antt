@@ -12,7 +12,7 @@ use Rattle.pg_dict.specs.Words.{words}
 use Rattle.pg_patterns.specs.Starts.{start}
 use Rattle.pg_select.specs.Windows.{Patterns}
 use Rattle.pg_sweep.specs.Sweeps.{Terms}
-use Rattle.pg_top.specs.sweep.Inside.Inputs.{outcome_of_sets}
+use Rattle.pg_top.specs.sweep.Inside.Inputs.{outcome_of_sets, rows_of_sets}
 use Rattle.pg_top.specs.Counted.{MakesCalls, read_calls}
 use Rattle.pg_top.specs.Inside.ReadCalls.{read_call}
 use Rattle.pg_top.specs.Readings.{Reading, translate_file, patterns_file, words_file}
@@ -97,7 +97,7 @@ sweep_accepted s terms sets files h =
 -- then it comes to what the sweep writes and prints
 pub sweep_outcome : (s : SweepRequest) (terms : Terms) (sets : List Parameters) (files : FileMap) → HasSweep (file_at files) s terms sets
     → outcome_of (file_at files) (sweep_rule s) ≡ outcome_of_sets s terms sets
-unfolding swept_rows
+unfolding swept_rows rows_of_sets
 sweep_outcome s terms sets files h =
     let t : Alphabet = terms.table in
     let P : Patterns = terms.start in

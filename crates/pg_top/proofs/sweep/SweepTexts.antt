@@ -14,13 +14,14 @@ use Rattle.pg_top.specs.Rules.{outcome_of}
 use Rattle.pg_top.specs.sweep.Swept.{SweepNames, sweep_rule, winner_line, terms_in, swept_rows, outcome_of_sweep}
 use Rattle.pg_top.specs.Readings.{HeldFiles, first_end, parameters_named}
 use Rattle.pg_words.specs.Requests.{SweepRequest}
-use Rattle.pg_top.specs.sweep.Inside.Inputs.{line_of_sweep, outcome_of_sets}
+use Rattle.pg_top.specs.sweep.Inside.Inputs.{line_of_sweep, rows_of_sets, outcome_of_sets}
 use Rattle.pg_top.specs.declared.answers.Status.TheVariants.{Done}
 
 -- it is made of what was found
 pub sweep_made : (s : SweepRequest) (terms : Terms) (sets : List Parameters) (found : Found) (text line : List ℕ) → found.rows ≡ map (row_of terms s.bad s.missed) sets
     → found.winner ≡ winner_of (costs_of found.rows) → text ≡ sweep_file s.folds found.rows found.winner → line ≡ line_of_sweep found
     → outcome_of_sets s terms sets ≡ Ends Done ((s.output, text) ∷ []) line
+unfolding rows_of_sets
 sweep_made s terms sets found text line rows winner is_text is_line =
     ap (outcome_of_sweep s) (sym rows)
     ∙ ap (λ (w : ℕ). Ends Done ((s.output, sweep_file s.folds found.rows w) ∷ []) (winner_line w (slice_index (costs_of found.rows) (w - 1)))) (sym winner)

@@ -6,6 +6,7 @@ use Rattle.pg_dict.specs.Inside.SoundWords.{SignsAtMost}
 use Rattle.pg_patterns.specs.Inside.PatternMaps.{SignsUpTo}
 use Rattle.pg_sweep.specs.Sweeps.{Terms, row_of, costs_of}
 use Rattle.pg_sweep.specs.Inside.Found.{Found}
+use Rattle.pg_sweep.specs.declared.rows.SweepRow.{SweepRow}
 use Rattle.pg_words.specs.Requests.{SweepRequest}
 use Rattle.pg_top.specs.Outcomes.{Outcome}
 use Rattle.pg_top.specs.sweep.Swept.{winner_line, outcome_of_sweep}
@@ -25,6 +26,10 @@ abbrev pub line_of_sweep : Found → List ℕ
 line_of_sweep found = winner_line found.winner
     (slice_index (costs_of found.rows) (found.winner - 1))
 
+-- the rows of these sets of parameters
+unfoldable pub rows_of_sets : SweepRequest → Terms → List Parameters → List SweepRow
+rows_of_sets s terms sets = map (row_of terms s.bad s.missed) sets
+
 -- what a sweep of these sets writes and prints
 abbrev pub outcome_of_sets : SweepRequest → Terms → List Parameters → Outcome
-outcome_of_sets s terms sets = outcome_of_sweep s (map (row_of terms s.bad s.missed) sets)
+outcome_of_sets s terms sets = outcome_of_sweep s (rows_of_sets s terms sets)
