@@ -1,2 +1,2 @@
 mod TableRows
-pub mod Parts
+pub mod ByteParts

@@ -14,7 +14,7 @@ use Rattle.pg_table.specs.Inside.Extents.{cell_start, record_start, read_record,
 use Rattle.pg_table.specs.Texts.{cell_bytes, record_bytes}
 use Rattle.pg_table.specs.Inside.text.Files.{file_of}
 use Rattle.pg_table.proofs.parts.FormLaws.{IsSoundCell, IsSoundRecord, IsWellFormed}
-use Rattle.pg_table.proofs.Parts.{HasPart, part_first, part_rest, part_byte, part_of, u16_part, u32_part, length-parts, length-u16_bytes, length-u32_bytes}
+use Rattle.pg_table.proofs.ByteParts.{HasPart, part_first, part_rest, part_byte, part_of, u16_part, u32_part, length-parts, length-u16_bytes, length-u32_bytes}
 
 pub length-cell_bytes : (c : Cell) → length (cell_bytes c) ≡ 10
 length-cell_bytes c =

@@ -13,7 +13,7 @@ use Rattle.pg_table.specs.Forms.{file_mark, head_of, is_well_formed}
 use Rattle.pg_table.specs.Numbers.{u32_at, u32_bytes}
 use Rattle.pg_table.specs.Texts.{cell_bytes, record_bytes, table_text}
 use Rattle.pg_table.specs.Inside.text.Files.{file_of, table_cells, table_records}
-use Rattle.pg_table.proofs.Parts.{HasPart, part_first, part_rest, u32_part}
+use Rattle.pg_table.proofs.ByteParts.{HasPart, part_first, part_rest, u32_part}
 use Rattle.pg_top.specs.pack.Inside.Inputs.{packed_text, table_refused}
 use Rattle.pg_top.specs.totals.Totalled.{packed_table}
 
