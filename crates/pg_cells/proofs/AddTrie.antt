@@ -7,15 +7,15 @@ use Rattle.std.specs.Option.{option_map}
 use Rattle.std.specs.FinMap.{find, put, is_sorted}
 use Rattle.pg_types.specs.Placement.{Family, Families, family_at, without_family, is_used, least_base, with_one_sign, with_sign, with_placed_family, cell_of, base_of}
 use Rattle.pg_cells.specs.declared.store.fit.Slot.{Slot}
-use Rattle.pg_cells.specs.Inside.Lists.{Row, sign_at, child_at, base_at, IsFree}
-use Rattle.pg_cells.specs.Inside.Store.{Extends}
-use Rattle.pg_cells.specs.Inside.Searches.{search_start}
-use Rattle.pg_cells.specs.Inside.Fit.{signs_of, slot_of}
-use Rattle.pg_cells.specs.Inside.Writes.{Takes}
-use Rattle.pg_cells.specs.Inside.Moves.{Outside, CanPlace, Moved, Collected}
-use Rattle.pg_cells.specs.Inside.ValuedFamilies.{Trie}
-use Rattle.pg_cells.specs.Inside.Layouts.{IsTrie, standing, value_in}
-use Rattle.pg_cells.specs.Inside.Adding.{added}
+use Rattle.pg_cells.specs.Inside.store.Lists.{Row, sign_at, child_at, base_at, IsFree}
+use Rattle.pg_cells.specs.Inside.store.Store.{Extends}
+use Rattle.pg_cells.specs.Inside.families.Searches.{search_start}
+use Rattle.pg_cells.specs.Inside.store.Fit.{signs_of, slot_of}
+use Rattle.pg_cells.specs.Inside.store.Writes.{Takes}
+use Rattle.pg_cells.specs.Inside.families.Moves.{Outside, CanPlace, Moved, Collected}
+use Rattle.pg_cells.specs.Inside.linked.ValuedFamilies.{Trie}
+use Rattle.pg_cells.specs.Inside.families.Layouts.{IsTrie, standing, value_in}
+use Rattle.pg_cells.specs.Inside.families.Adding.{added}
 use Rattle.pg_cells.proofs.LinkedLists.{taken_within}
 use Rattle.pg_cells.proofs.StringMaps.{order, same_maps, find_put_same, find_without_same, find_without_other, sorted_without, equal_or_not}
 use Rattle.pg_cells.proofs.BaseCells.{first_sign}

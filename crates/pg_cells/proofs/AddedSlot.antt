@@ -2,17 +2,17 @@
 use Rattle.std.proofs.Common.{◌≡◌, ◌≢◌, ℕ, ◌+◌, ◌<◌, ◌≤◌, true, false, ◌&&◌, nat_eq, nat_lt, List, [], ◌∷◌, ◌++◌, length, Result, Ok, Err, OnOk, OnErr, Some, sym, ◌∙◌, subst}
 use Rattle.std.proofs.lemmas.Bool.{and_parts, and_from, ltb-true, lt-ltb, eqb-true, eq-eqb, both_ways}
 use Rattle.pg_types.specs.Placement.{cell_of, with_sign}
-use Rattle.pg_cells.specs.Inside.Searches.{search_start}
+use Rattle.pg_cells.specs.Inside.families.Searches.{search_start}
 use Rattle.pg_types.specs.Inside.Placing.{joins_at}
 use Rattle.pg_cells.specs.declared.store.fit.Slot.{Slot}
-use Rattle.pg_cells.specs.Inside.Lists.{Row, sign_at, child_at, IsFree}
-use Rattle.pg_cells.specs.Inside.Store.{Extends}
-use Rattle.pg_cells.specs.Inside.Writes.{Takes}
-use Rattle.pg_cells.specs.Inside.Moves.{CanPlace, Moved, Collected}
-use Rattle.pg_cells.specs.Inside.Members.{ArePassing, has_sign}
-use Rattle.pg_cells.specs.Inside.Adding.{CanAdd, CanTakeSign, added}
-use Rattle.pg_cells.specs.Inside.Layouts.{IsTrie}
-use Rattle.pg_cells.specs.Inside.ValuedFamilies.{Trie, ValuedFamilies}
+use Rattle.pg_cells.specs.Inside.store.Lists.{Row, sign_at, child_at, IsFree}
+use Rattle.pg_cells.specs.Inside.store.Store.{Extends}
+use Rattle.pg_cells.specs.Inside.store.Writes.{Takes}
+use Rattle.pg_cells.specs.Inside.families.Moves.{CanPlace, Moved, Collected}
+use Rattle.pg_cells.specs.Inside.linked.Members.{ArePassing, has_sign}
+use Rattle.pg_cells.specs.Inside.families.Adding.{CanAdd, CanTakeSign, added}
+use Rattle.pg_cells.specs.Inside.families.Layouts.{IsTrie}
+use Rattle.pg_cells.specs.Inside.linked.ValuedFamilies.{Trie, ValuedFamilies}
 use Rattle.pg_cells.proofs.AddTrie.{grown, trie_extended, joins_trie, joins_cell, joins_free, settles_can, settles_trie, settles_cell}
 use Rattle.pg_cells.proofs.GivenMembers.{joins_told, given_none, given_some}
 

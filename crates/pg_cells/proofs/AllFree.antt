@@ -4,10 +4,10 @@ use Rattle.std.proofs.lemmas.Bool.{cases_eq, cases_lt}
 use Rattle.std.proofs.lemmas.List.{get_or-set_same, get_or-set_other, get_or_past, get_or_default, length-map, length-take}
 use Rattle.pg_cells.specs.declared.store.cell.Cell.{Cell}
 use Rattle.pg_cells.specs.declared.store.member.Member.{Member}
-use Rattle.pg_cells.specs.Inside.Lists.{Lists, lists, row_of, sign_at, with_free, with_base, before_seen}
-use Rattle.pg_cells.specs.Inside.FreeList.{Linked, AreLinked, IsFreeTo}
-use Rattle.pg_cells.specs.Inside.Root.{IsRootTo}
-use Rattle.pg_cells.specs.Inside.Store.{IsKept, IsStore}
+use Rattle.pg_cells.specs.Inside.store.Lists.{Lists, lists, row_of, sign_at, with_free, with_base, before_seen}
+use Rattle.pg_cells.specs.Inside.store.FreeList.{Linked, AreLinked, IsFreeTo}
+use Rattle.pg_cells.specs.Inside.families.Root.{IsRootTo}
+use Rattle.pg_cells.specs.Inside.store.Store.{IsKept, IsStore}
 use Rattle.pg_cells.proofs.BlockedLaws.{blocked_none}
 use Rattle.pg_cells.proofs.RootSteps.{how_many_zero, planted_cleared}
 use Rattle.pg_cells.proofs.RowWrites.{is_row}

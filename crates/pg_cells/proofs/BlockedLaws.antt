@@ -5,12 +5,12 @@ use Rattle.std.proofs.lemmas.Bool.{cases_Bool, cases_eq, cases_lt, eq-eqb, eqb-t
 use Rattle.std.proofs.lemmas.List.{get_or_default}
 use Rattle.pg_types.specs.Inside.Placing.{IsLeast}
 use Rattle.pg_cells.specs.declared.store.fit.Slot.{Slot}
-use Rattle.pg_cells.specs.Inside.Lists.{Row, sign_at, base_at, IsFree}
-use Rattle.pg_cells.specs.Inside.Blocked.{AreBlocked}
-use Rattle.pg_cells.specs.Inside.Fit.{fits_row, signs_of, slot_of}
-use Rattle.pg_cells.specs.Inside.Store.{Extends, IsTop}
-use Rattle.pg_cells.specs.Inside.Writes.{Takes, SetsChild, SetsValue, SetsBase}
-use Rattle.pg_cells.specs.Inside.Moves.{CanPlace, GivesUp, Drops, Puts}
+use Rattle.pg_cells.specs.Inside.store.Lists.{Row, sign_at, base_at, IsFree}
+use Rattle.pg_cells.specs.Inside.store.Blocked.{AreBlocked}
+use Rattle.pg_cells.specs.Inside.store.Fit.{fits_row, signs_of, slot_of}
+use Rattle.pg_cells.specs.Inside.store.Store.{Extends, IsTop}
+use Rattle.pg_cells.specs.Inside.store.Writes.{Takes, SetsChild, SetsValue, SetsBase}
+use Rattle.pg_cells.specs.Inside.families.Moves.{CanPlace, GivesUp, Drops, Puts}
 use Rattle.pg_cells.proofs.FitSteps.{taken_misfit}
 use Rattle.pg_cells.proofs.LinkedLists.{free_within}
 use Rattle.pg_cells.proofs.PlacedRoom.{outside_sign, was_taken, new_free, slots_free, dropped_sign, all_has}

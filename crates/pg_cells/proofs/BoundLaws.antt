@@ -4,11 +4,11 @@ use Rattle.std.specs.List.{list_all}
 use Rattle.std.proofs.lemmas.Bool.{cases_Bool, cases_eq, cases_lt, eq-eqb, both_ways, and_left, and_from}
 use Rattle.std.proofs.lemmas.List.{get_or-set_same, get_or-set_other}
 use Rattle.pg_types.specs.Inside.Placing.{IsLeast}
-use Rattle.pg_cells.specs.Inside.Lists.{Row, sign_at, base_at}
-use Rattle.pg_cells.specs.Inside.Bounds.{IsBelow, NoneFree, AreBounds}
-use Rattle.pg_cells.specs.Inside.Fit.{fits_row}
-use Rattle.pg_cells.specs.Inside.Store.{Extends}
-use Rattle.pg_cells.specs.Inside.Writes.{Takes, Frees, SetsChild, SetsValue, SetsBase}
+use Rattle.pg_cells.specs.Inside.store.Lists.{Row, sign_at, base_at}
+use Rattle.pg_cells.specs.Inside.store.Bounds.{IsBelow, NoneFree, AreBounds}
+use Rattle.pg_cells.specs.Inside.store.Fit.{fits_row}
+use Rattle.pg_cells.specs.Inside.store.Store.{Extends}
+use Rattle.pg_cells.specs.Inside.store.Writes.{Takes, Frees, SetsChild, SetsValue, SetsBase}
 use Rattle.pg_cells.proofs.FitSteps.{taken_misfit}
 
 module _ {V : Type 0} (old new : Row V) (lows : List ℕ) (freed dropped : ℕ) (are : AreBounds old lows freed dropped) where

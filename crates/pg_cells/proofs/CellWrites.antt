@@ -9,7 +9,7 @@ use Rattle.std.proofs.lemmas.Bool.{ne_eqb}
 use Rattle.pg_cells.specs.declared.store.cell.Cell.{Cell}
 use Rattle.pg_cells.specs.declared.store.cell.TheConstants.{HALF_COUNT}
 use Rattle.pg_cells.specs.declared.store.member.Member.{Member}
-use Rattle.pg_cells.specs.Inside.Lists.{lists, lone, bared, child_seen, member_seen, before_seen, pair_of, sign_at, child_at, base_at, before_at, after_at, IsFree, with_before, with_after, with_child, with_value, with_base, with_taken, with_free}
+use Rattle.pg_cells.specs.Inside.store.Lists.{lists, lone, bared, child_seen, member_seen, before_seen, pair_of, sign_at, child_at, base_at, before_at, after_at, IsFree, with_before, with_after, with_child, with_value, with_base, with_taken, with_free}
 
 -- a number is that of its halves
 halves : (x : ℕ) → pair_of (x / HALF_COUNT) (x % HALF_COUNT) ≡ x

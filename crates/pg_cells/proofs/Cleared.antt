@@ -7,14 +7,14 @@ use Rattle.std.specs.FinMap.{is_sorted}
 use Rattle.pg_types.specs.Placement.{Family, Families, family_at, without_family, is_used, is_base, fits_at, least_base, with_one_sign, top}
 use Rattle.pg_types.specs.Inside.Placing.{IsLeast}
 use Rattle.pg_cells.specs.declared.store.fit.Slot.{Slot}
-use Rattle.pg_cells.specs.Inside.Lists.{Row, sign_at, child_at, base_at}
-use Rattle.pg_cells.specs.Inside.Store.{IsTop}
-use Rattle.pg_cells.specs.Inside.Fit.{signs_of, slot_of, fits_row}
-use Rattle.pg_cells.specs.Inside.Moves.{GivesUp, Drops, Outside}
-use Rattle.pg_cells.specs.Inside.ValuedFamilies.{Trie}
-use Rattle.pg_cells.specs.Inside.Layouts.{IsTrie}
+use Rattle.pg_cells.specs.Inside.store.Lists.{Row, sign_at, child_at, base_at}
+use Rattle.pg_cells.specs.Inside.store.Store.{IsTop}
+use Rattle.pg_cells.specs.Inside.store.Fit.{signs_of, slot_of, fits_row}
+use Rattle.pg_cells.specs.Inside.families.Moves.{GivesUp, Drops, Outside}
+use Rattle.pg_cells.specs.Inside.linked.ValuedFamilies.{Trie}
+use Rattle.pg_cells.specs.Inside.families.Layouts.{IsTrie}
 use Rattle.pg_cells.proofs.StringMaps.{order, find_without_same, find_without_other, sorted_without, equal_or_not}
-use Rattle.pg_cells.specs.Inside.Searches.{search_start}
+use Rattle.pg_cells.specs.Inside.families.Searches.{search_start}
 use Rattle.pg_cells.proofs.PlacementLaws.{start_positive, used_cell, cell_used, base_had, had_base, top_is, first_is}
 use Rattle.pg_cells.proofs.LayoutLaws.{sign_stands, stands_sign}
 use Rattle.pg_cells.proofs.OneSign.{all_one_more, length_one_more}

@@ -5,9 +5,9 @@ use Rattle.std.proofs.lemmas.Bool.{cases_eq, cases_lt, cases_order, and_right, n
 use Rattle.std.proofs.lemmas.List.{get_or_default}
 use Rattle.std.proofs.lemmas.List.Folds.{list_all_more, list_all_at}
 use Rattle.pg_types.specs.Inside.Placing.{IsLeast}
-use Rattle.pg_cells.specs.Inside.Lists.{Row, sign_at, base_at, IsFree}
-use Rattle.pg_cells.specs.Inside.FreeList.{Linked}
-use Rattle.pg_cells.specs.Inside.Fit.{fits_row}
+use Rattle.pg_cells.specs.Inside.store.Lists.{Row, sign_at, base_at, IsFree}
+use Rattle.pg_cells.specs.Inside.store.FreeList.{Linked}
+use Rattle.pg_cells.specs.Inside.store.Fit.{fits_row}
 
 -- one more element that passes
 pub all_more : (test : ℕ → Bool) (xs : List ℕ) (i x : ℕ) → i < length xs → get_or xs i 0 ≡ x → test x ≡ true → list_all test (take i xs) ≡ true → list_all test (take (i + 1) xs) ≡ true

@@ -1,8 +1,8 @@
 -- The list through the free cells, gone along from the first.
 use Rattle.std.proofs.Common.{◌≡◌, ◌≢◌, ℕ, ◌<◌, ◌≤◌, inl, inr, sym, subst, arith}
 use Rattle.std.proofs.lemmas.Bool.{cases_lt}
-use Rattle.pg_cells.specs.Inside.Lists.{Lists, before_at, after_at, IsFree}
-use Rattle.pg_cells.specs.Inside.FreeList.{AreLinked}
+use Rattle.pg_cells.specs.Inside.store.Lists.{Lists, before_at, after_at, IsFree}
+use Rattle.pg_cells.specs.Inside.store.FreeList.{AreLinked}
 
 module _ {V : Type 0} where
   -- a is a free cell, and none lies before it from the cell on

@@ -5,13 +5,13 @@ use Rattle.std.proofs.lemmas.List.{same_from_push}
 use Rattle.std.specs.Option.{is_some, option_map}
 use Rattle.pg_types.specs.Placement.{Family, family_at, is_used, cell_of, base_of}
 use Rattle.pg_types.specs.Inside.Placing.{joins_at}
-use Rattle.pg_cells.specs.Inside.Lists.{Row, sign_at, child_at}
-use Rattle.pg_cells.specs.Inside.Store.{Extends}
-use Rattle.pg_cells.specs.Inside.Writes.{Frees}
-use Rattle.pg_cells.specs.Inside.ValuedFamilies.{Trie, ValuedFamilies}
-use Rattle.pg_cells.specs.Inside.Layouts.{IsTrie, standing}
-use Rattle.pg_cells.specs.Inside.Removing.{CanRemoveSign}
-use Rattle.pg_cells.specs.Inside.Members.{IsNext, ArePassing, number_before, has_sign, IsAlone, HasOther}
+use Rattle.pg_cells.specs.Inside.store.Lists.{Row, sign_at, child_at}
+use Rattle.pg_cells.specs.Inside.store.Store.{Extends}
+use Rattle.pg_cells.specs.Inside.store.Writes.{Frees}
+use Rattle.pg_cells.specs.Inside.linked.ValuedFamilies.{Trie, ValuedFamilies}
+use Rattle.pg_cells.specs.Inside.families.Layouts.{IsTrie, standing}
+use Rattle.pg_cells.specs.Inside.families.Removing.{CanRemoveSign}
+use Rattle.pg_cells.specs.Inside.linked.Members.{IsNext, ArePassing, number_before, has_sign, IsAlone, HasOther}
 use Rattle.pg_cells.proofs.LayoutLaws.{sign_stands, taken_used}
 use Rattle.pg_cells.proofs.StringCells.{cell_parts, found_is}
 use Rattle.pg_cells.proofs.Walking.{childless}

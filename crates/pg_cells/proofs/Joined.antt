@@ -4,10 +4,10 @@ use Rattle.std.proofs.lemmas.Bool.{cases_Bool, cases_eq, false≢true, eq-eqb, n
 use Rattle.std.specs.List.{list_any}
 use Rattle.std.specs.FinMap.{put}
 use Rattle.pg_types.specs.Placement.{Family, Families, family_at, cell_of, with_one_sign}
-use Rattle.pg_cells.specs.Inside.Lists.{Row, sign_at, child_at, base_at}
-use Rattle.pg_cells.specs.Inside.Writes.{Takes}
-use Rattle.pg_cells.specs.Inside.ValuedFamilies.{Trie}
-use Rattle.pg_cells.specs.Inside.Layouts.{IsTrie, standing, value_in}
+use Rattle.pg_cells.specs.Inside.store.Lists.{Row, sign_at, child_at, base_at}
+use Rattle.pg_cells.specs.Inside.store.Writes.{Takes}
+use Rattle.pg_cells.specs.Inside.linked.ValuedFamilies.{Trie}
+use Rattle.pg_cells.specs.Inside.families.Layouts.{IsTrie, standing, value_in}
 use Rattle.pg_cells.proofs.StringMaps.{order, find_put_same, find_put_other, sorted_put, equal_or_not}
 use Rattle.pg_cells.proofs.PlacementLaws.{taken_put, size_of}
 use Rattle.pg_cells.proofs.OneSign.{filter_more, length_one_more, any_one_more}

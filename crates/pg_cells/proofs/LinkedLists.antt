@@ -4,8 +4,8 @@ use Rattle.std.proofs.lemmas.Bool.{cases_eq, cases_lt}
 use Rattle.std.proofs.lemmas.List.{get_or-set_same, get_or-set_other, get_or_past, get_or_default, length-set, length-map, map_push, length_push, set_at}
 use Rattle.pg_cells.specs.declared.store.cell.Cell.{Cell}
 use Rattle.pg_cells.specs.declared.store.member.Member.{Member}
-use Rattle.pg_cells.specs.Inside.Lists.{Row, Lists, lists, row_of, lone, bared, child_seen, member_seen, before_seen, IsFree, sign_at, before_at, after_at, with_before, with_after, with_taken, with_free, with_more}
-use Rattle.pg_cells.specs.Inside.FreeList.{Linked, AreLinked}
+use Rattle.pg_cells.specs.Inside.store.Lists.{Row, Lists, lists, row_of, lone, bared, child_seen, member_seen, before_seen, IsFree, sign_at, before_at, after_at, with_before, with_after, with_taken, with_free, with_more}
+use Rattle.pg_cells.specs.Inside.store.FreeList.{Linked, AreLinked}
 use Rattle.pg_cells.proofs.LinkedSteps.{Linked-take, Linked-put}
 
 -- the lists of the links are as long as that of the signs

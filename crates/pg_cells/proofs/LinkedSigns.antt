@@ -2,15 +2,15 @@
 use Rattle.std.proofs.Common.{◌≡◌, ℕ, ◌≤◌, ◌⊎◌, true, List, [], ◌∷◌, ◌++◌, Ok, Some, sym, ◌∙◌, ap}
 use Rattle.std.specs.FinMap.{put}
 use Rattle.pg_types.specs.Placement.{cell_of, with_sign}
-use Rattle.pg_cells.specs.Inside.Searches.{search_start}
+use Rattle.pg_cells.specs.Inside.families.Searches.{search_start}
 use Rattle.pg_types.specs.Inside.Placing.{without_sign}
 use Rattle.pg_cells.specs.declared.store.member.Member.{Member}
-use Rattle.pg_cells.specs.Inside.Adding.{CanTakeSign, AddsSign}
-use Rattle.pg_cells.specs.Inside.AreValuedFamilies.{AreValuedFamilies}
-use Rattle.pg_cells.specs.Inside.Links.{AreLinks, with_link, unlinked}
-use Rattle.pg_cells.specs.Inside.Members.{IsNextSign, IsBefore, goes_on}
-use Rattle.pg_cells.specs.Inside.Removing.{CanRemoveSign, RemovesSign}
-use Rattle.pg_cells.specs.Inside.ValuedFamilies.{ValuedFamilies, without_key}
+use Rattle.pg_cells.specs.Inside.families.Adding.{CanTakeSign, AddsSign}
+use Rattle.pg_cells.specs.Inside.linked.AreValuedFamilies.{AreValuedFamilies}
+use Rattle.pg_cells.specs.Inside.linked.Links.{AreLinks, with_link, unlinked}
+use Rattle.pg_cells.specs.Inside.linked.Members.{IsNextSign, IsBefore, goes_on}
+use Rattle.pg_cells.specs.Inside.families.Removing.{CanRemoveSign, RemovesSign}
+use Rattle.pg_cells.specs.Inside.linked.ValuedFamilies.{ValuedFamilies, without_key}
 use Rattle.pg_cells.proofs.PlacedFamily.{not_longer}
 use Rattle.pg_cells.proofs.SteppedLinks.{add_behind, links_added, values_added, remove_behind, links_removed, values_removed}
 use Rattle.pg_cells.proofs.StringMaps.{order}

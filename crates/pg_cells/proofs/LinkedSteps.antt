@@ -1,7 +1,7 @@
 -- The list through the free cells stays whole when a free cell is taken out of it, and when a taken one is put into it.
 use Rattle.std.proofs.Common.{◌≡◌, ◌≢◌, ℕ, ◌<◌, ◌≤◌, inl, inr, sym, ◌∙◌, ap, arith}
 use Rattle.std.proofs.lemmas.Bool.{cases_eq, cases_lt}
-use Rattle.pg_cells.specs.Inside.FreeList.{Linked}
+use Rattle.pg_cells.specs.Inside.store.FreeList.{Linked}
 
 -- the cell i is taken out
 module _ (S B A S' B' A' : ℕ → ℕ) (i : ℕ) (old : Linked S B A) (positive : 0 < i) (free : S i ≡ 0) (taken : S' i ≢ 0)

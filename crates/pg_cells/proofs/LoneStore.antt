@@ -1,9 +1,9 @@
 -- One free cell is a store.
 use Rattle.std.proofs.Common.{◌≡◌, ℕ, ◌≤◌, ◌^◌, List, [], ◌∷◌, length, refl, get_or, zero, suc, arith, false}
 use Rattle.pg_cells.specs.declared.store.cell.Cell.{Cell}
-use Rattle.pg_cells.specs.Inside.Lists.{lists, row_of}
-use Rattle.pg_cells.specs.Inside.FreeList.{AreLinked}
-use Rattle.pg_cells.specs.Inside.Store.{IsStore}
+use Rattle.pg_cells.specs.Inside.store.Lists.{lists, row_of}
+use Rattle.pg_cells.specs.Inside.store.FreeList.{AreLinked}
+use Rattle.pg_cells.specs.Inside.store.Store.{IsStore}
 use Rattle.pg_cells.proofs.BlockedLaws.{blocked_none}
 
 only_free : (i : ℕ) → ◌≡◌ {A = ℕ} (get_or (0 ∷ []) i 1) 0 → i ≡ 0

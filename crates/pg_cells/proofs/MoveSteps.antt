@@ -2,10 +2,10 @@
 use Rattle.std.proofs.Common.{◌≡◌, ◌≢◌, ℕ, ◌+◌, inl, inr, List, [], ◌∷◌, ◌++◌, None, Some, slice_get, refl, sym, ◌∙◌, ap, arith}
 use Rattle.std.proofs.lemmas.List.{length_push}
 use Rattle.pg_cells.specs.declared.store.fit.Slot.{Slot}
-use Rattle.pg_cells.specs.Inside.Lists.{Row, sign_at, child_at}
-use Rattle.pg_cells.specs.Inside.Fit.{slot_of}
-use Rattle.pg_cells.specs.Inside.Writes.{Elsewhere, Takes, Frees}
-use Rattle.pg_cells.specs.Inside.Moves.{Others, GivesUp, Puts}
+use Rattle.pg_cells.specs.Inside.store.Lists.{Row, sign_at, child_at}
+use Rattle.pg_cells.specs.Inside.store.Fit.{slot_of}
+use Rattle.pg_cells.specs.Inside.store.Writes.{Elsewhere, Takes, Frees}
+use Rattle.pg_cells.specs.Inside.families.Moves.{Others, GivesUp, Puts}
 use Rattle.pg_cells.proofs.Slots.{slot_push, outside_push}
 
 module _ {V : Type 0} where

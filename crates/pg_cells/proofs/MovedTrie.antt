@@ -6,14 +6,14 @@ use Rattle.std.specs.List.{list_any, list_all}
 use Rattle.std.specs.FinMap.{put}
 use Rattle.pg_types.specs.Placement.{Family, Families, family_at, without_family, least_base, with_one_sign, cell_of}
 use Rattle.pg_cells.specs.declared.store.fit.Slot.{Slot}
-use Rattle.pg_cells.specs.Inside.Lists.{Row, sign_at, child_at, base_at}
-use Rattle.pg_cells.specs.Inside.Fit.{signs_of, slot_of}
-use Rattle.pg_cells.specs.Inside.Moves.{Outside, CanPlace, Moved}
-use Rattle.pg_cells.specs.Inside.Store.{taken_in}
-use Rattle.pg_cells.specs.Inside.ValuedFamilies.{Trie}
-use Rattle.pg_cells.specs.Inside.Layouts.{IsTrie, standing}
+use Rattle.pg_cells.specs.Inside.store.Lists.{Row, sign_at, child_at, base_at}
+use Rattle.pg_cells.specs.Inside.store.Fit.{signs_of, slot_of}
+use Rattle.pg_cells.specs.Inside.families.Moves.{Outside, CanPlace, Moved}
+use Rattle.pg_cells.specs.Inside.store.Store.{taken_in}
+use Rattle.pg_cells.specs.Inside.linked.ValuedFamilies.{Trie}
+use Rattle.pg_cells.specs.Inside.families.Layouts.{IsTrie, standing}
 use Rattle.pg_cells.proofs.StringMaps.{order, find_put_same, find_put_other, find_without_same, find_without_other, sorted_put, sorted_without, equal_or_not}
-use Rattle.pg_cells.specs.Inside.Searches.{search_start}
+use Rattle.pg_cells.specs.Inside.families.Searches.{search_start}
 use Rattle.pg_cells.proofs.PlacementLaws.{start_positive, size_of, taken_put, taken_without}
 use Rattle.pg_cells.proofs.LayoutLaws.{sign_stands}
 use Rattle.pg_cells.proofs.OneSign.{filter_more, length_one_more, any_one_more}

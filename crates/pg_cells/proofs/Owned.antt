@@ -6,11 +6,11 @@ use Rattle.std.specs.List.{list_any, range_with_len}
 use Rattle.std.specs.FinMap.{find}
 use Rattle.pg_types.specs.Placement.{Family, family_at}
 use Rattle.pg_cells.specs.declared.store.fit.Slot.{Slot}
-use Rattle.pg_cells.specs.Inside.Lists.{Row, sign_at, child_at}
-use Rattle.pg_cells.specs.Inside.Fit.{signs_of, slot_of}
-use Rattle.pg_cells.specs.Inside.Moves.{AreDistinct, Collected}
-use Rattle.pg_cells.specs.Inside.ValuedFamilies.{Trie}
-use Rattle.pg_cells.specs.Inside.Layouts.{IsTrie, value_in}
+use Rattle.pg_cells.specs.Inside.store.Lists.{Row, sign_at, child_at}
+use Rattle.pg_cells.specs.Inside.store.Fit.{signs_of, slot_of}
+use Rattle.pg_cells.specs.Inside.families.Moves.{AreDistinct, Collected}
+use Rattle.pg_cells.specs.Inside.linked.ValuedFamilies.{Trie}
+use Rattle.pg_cells.specs.Inside.families.Layouts.{IsTrie, value_in}
 use Rattle.pg_cells.proofs.StringMaps.{order}
 use Rattle.pg_cells.proofs.PlacementLaws.{size_of, cell_of_last}
 use Rattle.pg_cells.proofs.LayoutLaws.{sign_stands, stands_sign}

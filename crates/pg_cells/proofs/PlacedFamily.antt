@@ -5,8 +5,8 @@ use Rattle.std.proofs.lemmas.Bool.{eq-eqb, eqb-true}
 use Rattle.std.proofs.lemmas.List.{length_push, same_from_push}
 use Rattle.std.specs.List.{range_with_len}
 use Rattle.pg_types.specs.Placement.{Family}
-use Rattle.pg_cells.specs.Inside.Lists.{Row, sign_at, child_at, base_at}
-use Rattle.pg_cells.specs.Inside.Layouts.{IsLayout, IsParent, standing}
+use Rattle.pg_cells.specs.Inside.store.Lists.{Row, sign_at, child_at, base_at}
+use Rattle.pg_cells.specs.Inside.families.Layouts.{IsLayout, IsParent, standing}
 use Rattle.pg_cells.proofs.StringMaps.{equal_or_not}
 
 pub filter_same : (f g : ℕ → Bool) (a n : ℕ) → 0 < a → ((x : ℕ) → 0 < x → f x ≡ g x) → filter f (range_with_len a n) ≡ filter g (range_with_len a n)

@@ -4,11 +4,11 @@ use Rattle.std.proofs.lemmas.Bool.{cases_Bool, cases_eq, eq-eqb, eqb-true, false
 use Rattle.std.proofs.lemmas.List.{get_or_default, length-map}
 use Rattle.std.specs.List.{list_any, list_all}
 use Rattle.pg_cells.specs.declared.store.fit.Slot.{Slot}
-use Rattle.pg_cells.specs.Inside.Lists.{Row, sign_at, base_at, IsFree}
-use Rattle.pg_cells.specs.Inside.Fit.{signs_of, slot_of, fits_row}
-use Rattle.pg_cells.specs.Inside.Store.{IsTop}
-use Rattle.pg_cells.specs.Inside.Writes.{Takes, SetsBase}
-use Rattle.pg_cells.specs.Inside.Moves.{GivesUp, Drops, Puts, Outside, CanPlace}
+use Rattle.pg_cells.specs.Inside.store.Lists.{Row, sign_at, base_at, IsFree}
+use Rattle.pg_cells.specs.Inside.store.Fit.{signs_of, slot_of, fits_row}
+use Rattle.pg_cells.specs.Inside.store.Store.{IsTop}
+use Rattle.pg_cells.specs.Inside.store.Writes.{Takes, SetsBase}
+use Rattle.pg_cells.specs.Inside.families.Moves.{GivesUp, Drops, Puts, Outside, CanPlace}
 use Rattle.pg_cells.proofs.Slots.{has_slot, slot_has, outside_or, outside_here}
 
 pub all_true : (test : ℕ → Bool) (xs : List ℕ) → ((y : ℕ) → list_any (nat_eq y) xs ≡ true → test y ≡ true) → list_all test xs ≡ true

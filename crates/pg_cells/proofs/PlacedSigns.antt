@@ -3,14 +3,14 @@
 use Rattle.std.proofs.Common.{◌≡◌, ℕ, List, [], ◌∷◌, ◌++◌, length, Result, Ok, Err, IfOk, OnOk, Some, refl, sym, ◌∙◌, ap, subst}
 use Rattle.std.specs.FinMap.{put}
 use Rattle.pg_types.specs.Placement.{cell_of, with_sign}
-use Rattle.pg_cells.specs.Inside.Searches.{search_start}
+use Rattle.pg_cells.specs.Inside.families.Searches.{search_start}
 use Rattle.pg_types.specs.Inside.Placing.{without_sign}
-use Rattle.pg_cells.specs.Inside.Adding.{CanTakeSign, AddsSign, added}
-use Rattle.pg_cells.specs.Inside.CellValues.{SetsValue}
-use Rattle.pg_cells.specs.Inside.Layouts.{IsTrie}
-use Rattle.pg_cells.specs.Inside.Lists.{Row}
-use Rattle.pg_cells.specs.Inside.Removing.{CanRemoveSign, RemovesSign}
-use Rattle.pg_cells.specs.Inside.ValuedFamilies.{Trie, ValuedFamilies, without_key}
+use Rattle.pg_cells.specs.Inside.families.Adding.{CanTakeSign, AddsSign, added}
+use Rattle.pg_cells.specs.Inside.linked.CellValues.{SetsValue}
+use Rattle.pg_cells.specs.Inside.families.Layouts.{IsTrie}
+use Rattle.pg_cells.specs.Inside.store.Lists.{Row}
+use Rattle.pg_cells.specs.Inside.families.Removing.{CanRemoveSign, RemovesSign}
+use Rattle.pg_cells.specs.Inside.linked.ValuedFamilies.{Trie, ValuedFamilies, without_key}
 use Rattle.pg_cells.proofs.AddedSlot.{after}
 use Rattle.pg_cells.proofs.CellsStay.{cells_stay, cells_outside}
 use Rattle.pg_cells.proofs.RemoveTrie.{removed}

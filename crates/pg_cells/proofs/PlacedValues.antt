@@ -4,10 +4,10 @@ use Rattle.std.proofs.lemmas.Bool.{cases_Bool}
 use Rattle.std.specs.List.{list_any}
 use Rattle.std.specs.FinMap.{find, put}
 use Rattle.pg_types.specs.Placement.{Family, Families, family_at, cell_of}
-use Rattle.pg_cells.specs.Inside.Lists.{Row, sign_at}
-use Rattle.pg_cells.specs.Inside.ValuedFamilies.{Trie}
-use Rattle.pg_cells.specs.Inside.Layouts.{IsTrie, value_in}
-use Rattle.pg_cells.specs.Inside.OneTrie.{last_of}
+use Rattle.pg_cells.specs.Inside.store.Lists.{Row, sign_at}
+use Rattle.pg_cells.specs.Inside.linked.ValuedFamilies.{Trie}
+use Rattle.pg_cells.specs.Inside.families.Layouts.{IsTrie, value_in}
+use Rattle.pg_cells.specs.Inside.families.OneTrie.{last_of}
 use Rattle.pg_cells.proofs.StringMaps.{order, find_put_same, find_put_other, equal_or_not}
 use Rattle.pg_cells.proofs.PlacementLaws.{cell_of_last}
 use Rattle.pg_cells.proofs.LayoutLaws.{sign_stands}

@@ -5,10 +5,10 @@ use Rattle.std.proofs.lemmas.List.{same_from_push}
 use Rattle.std.specs.Option.{is_some}
 use Rattle.std.specs.FinMap.{find, put}
 use Rattle.pg_cells.specs.declared.store.member.Member.{Member}
-use Rattle.pg_cells.specs.Inside.ValuedFamilies.{ValuedFamilies}
-use Rattle.pg_cells.specs.Inside.AreValuedFamilies.{AreValuedFamilies}
-use Rattle.pg_cells.specs.Inside.Links.{AreLinks, with_link, with_first, with_next}
-use Rattle.pg_cells.specs.Inside.Members.{IsNextSign, goes_on}
+use Rattle.pg_cells.specs.Inside.linked.ValuedFamilies.{ValuedFamilies}
+use Rattle.pg_cells.specs.Inside.linked.AreValuedFamilies.{AreValuedFamilies}
+use Rattle.pg_cells.specs.Inside.linked.Links.{AreLinks, with_link, with_first, with_next}
+use Rattle.pg_cells.specs.Inside.linked.Members.{IsNextSign, goes_on}
 use Rattle.pg_cells.proofs.StringMaps.{order, find_put_same, find_put_other, equal_or_not}
 use Rattle.pg_cells.proofs.PlacedFamily.{not_longer}
 use Rattle.pg_cells.proofs.GivenMembers.{next_alike}

@@ -7,12 +7,12 @@ use Rattle.std.specs.Option.{option_map}
 use Rattle.std.specs.FinMap.{put}
 use Rattle.pg_types.specs.Placement.{Family, Families, family_at, without_family}
 use Rattle.pg_types.specs.Inside.Placing.{without_sign}
-use Rattle.pg_cells.specs.Inside.Lists.{Row, sign_at, child_at}
-use Rattle.pg_cells.specs.Inside.Writes.{Frees, SetsBase}
-use Rattle.pg_cells.specs.Inside.Moves.{Prunes}
-use Rattle.pg_cells.specs.Inside.Removing.{CanRemoveSign}
-use Rattle.pg_cells.specs.Inside.ValuedFamilies.{Trie}
-use Rattle.pg_cells.specs.Inside.Layouts.{IsTrie, standing}
+use Rattle.pg_cells.specs.Inside.store.Lists.{Row, sign_at, child_at}
+use Rattle.pg_cells.specs.Inside.store.Writes.{Frees, SetsBase}
+use Rattle.pg_cells.specs.Inside.families.Moves.{Prunes}
+use Rattle.pg_cells.specs.Inside.families.Removing.{CanRemoveSign}
+use Rattle.pg_cells.specs.Inside.linked.ValuedFamilies.{Trie}
+use Rattle.pg_cells.specs.Inside.families.Layouts.{IsTrie, standing}
 use Rattle.pg_cells.proofs.LinkedLists.{taken_within}
 use Rattle.pg_cells.proofs.StringMaps.{order, without_key}
 use Rattle.pg_cells.proofs.LayoutLaws.{sign_stands, has_range}

@@ -3,10 +3,10 @@ use Rattle.std.proofs.Common.{◌≡◌, ◌≢◌, ℕ, ◌+◌, ◌<◌, inl, 
 use Rattle.std.proofs.lemmas.Bool.{cases_Bool, cases_eq, false≢true}
 use Rattle.std.specs.List.{list_any}
 use Rattle.pg_types.specs.Placement.{Family, Families, family_at, without_family, cell_of}
-use Rattle.pg_cells.specs.Inside.Lists.{Row, sign_at, child_at, base_at}
-use Rattle.pg_cells.specs.Inside.Writes.{Frees, SetsBase, SetsChild}
-use Rattle.pg_cells.specs.Inside.ValuedFamilies.{Trie}
-use Rattle.pg_cells.specs.Inside.Layouts.{IsLayout, IsParent, IsTrie}
+use Rattle.pg_cells.specs.Inside.store.Lists.{Row, sign_at, child_at, base_at}
+use Rattle.pg_cells.specs.Inside.store.Writes.{Frees, SetsBase, SetsChild}
+use Rattle.pg_cells.specs.Inside.linked.ValuedFamilies.{Trie}
+use Rattle.pg_cells.specs.Inside.families.Layouts.{IsLayout, IsParent, IsTrie}
 use Rattle.pg_cells.proofs.StringMaps.{without_key, find_without_same, find_without_other, sorted_without, equal_or_not}
 use Rattle.pg_cells.proofs.PlacementLaws.{size_of, taken_without}
 use Rattle.pg_cells.proofs.LayoutLaws.{sign_stands, stands_sign}

@@ -3,10 +3,10 @@ use Rattle.std.proofs.Common.{◌≡◌, ◌≢◌, ℕ, ◌+◌, ◌<◌, inl, 
 use Rattle.std.specs.List.{list_any}
 use Rattle.std.specs.FinMap.{put}
 use Rattle.pg_types.specs.Placement.{Family, Families, family_at, cell_of}
-use Rattle.pg_cells.specs.Inside.Lists.{Row, sign_at, child_at, base_at}
-use Rattle.pg_cells.specs.Inside.Writes.{Frees}
-use Rattle.pg_cells.specs.Inside.ValuedFamilies.{Trie}
-use Rattle.pg_cells.specs.Inside.Layouts.{IsTrie}
+use Rattle.pg_cells.specs.Inside.store.Lists.{Row, sign_at, child_at, base_at}
+use Rattle.pg_cells.specs.Inside.store.Writes.{Frees}
+use Rattle.pg_cells.specs.Inside.linked.ValuedFamilies.{Trie}
+use Rattle.pg_cells.specs.Inside.families.Layouts.{IsTrie}
 use Rattle.pg_cells.proofs.StringMaps.{order, without_key, find_put_same, find_put_other, sorted_put, sorted_without, equal_or_not}
 use Rattle.pg_cells.proofs.PlacementLaws.{size_of, taken_put}
 use Rattle.pg_cells.proofs.PlacedFamily.{Settles, settles, not_longer}

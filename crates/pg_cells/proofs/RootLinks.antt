@@ -4,11 +4,11 @@ use Rattle.std.proofs.lemmas.List.{same_from_push}
 use Rattle.std.specs.List.{range_with_len}
 use Rattle.std.specs.FinMap.{find}
 use Rattle.pg_cells.specs.declared.store.member.Member.{Member}
-use Rattle.pg_cells.specs.Inside.ValuedFamilies.{ValuedFamilies}
-use Rattle.pg_cells.specs.Inside.AreValuedFamilies.{AreValuedFamilies}
-use Rattle.pg_cells.specs.Inside.Links.{AreLinks, unlinked}
-use Rattle.pg_cells.specs.Inside.Members.{IsNext, goes_on}
-use Rattle.pg_cells.specs.Inside.Root.{root_held}
+use Rattle.pg_cells.specs.Inside.linked.ValuedFamilies.{ValuedFamilies}
+use Rattle.pg_cells.specs.Inside.linked.AreValuedFamilies.{AreValuedFamilies}
+use Rattle.pg_cells.specs.Inside.linked.Links.{AreLinks, unlinked}
+use Rattle.pg_cells.specs.Inside.linked.Members.{IsNext, goes_on}
+use Rattle.pg_cells.specs.Inside.families.Root.{root_held}
 use Rattle.pg_cells.proofs.StringMaps.{order, equal_or_not}
 use Rattle.pg_cells.proofs.PlacedFamily.{not_empty}
 use Rattle.pg_cells.proofs.LinkLaws.{goes_cell}

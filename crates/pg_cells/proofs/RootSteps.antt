@@ -2,10 +2,10 @@
 use Rattle.std.proofs.Common.{◌≡◌, ℕ, ◌+◌, ◌<◌, ◌≤◌, false, List, [], ◌∷◌, length, get_or, slice_get, suc, zero, inl, inr, refl, sym, ◌∙◌, ap, arith}
 use Rattle.std.proofs.lemmas.Bool.{cases_eq, cases_lt}
 use Rattle.std.proofs.lemmas.List.{get_or_past, get_or_default}
-use Rattle.pg_cells.specs.Inside.Lists.{Row, sign_at, child_at, base_at, IsFree}
-use Rattle.pg_cells.specs.Inside.Store.{how_many, Extends, one_free}
-use Rattle.pg_cells.specs.Inside.Writes.{Takes}
-use Rattle.pg_cells.specs.Inside.Root.{IsRootTo}
+use Rattle.pg_cells.specs.Inside.store.Lists.{Row, sign_at, child_at, base_at, IsFree}
+use Rattle.pg_cells.specs.Inside.store.Store.{how_many, Extends, one_free}
+use Rattle.pg_cells.specs.Inside.store.Writes.{Takes}
+use Rattle.pg_cells.specs.Inside.families.Root.{IsRootTo}
 
 -- a list without a number above 0
 pub how_many_zero : (xs : List ℕ) → ((i : ℕ) → get_or xs i 0 ≡ 0) → how_many xs ≡ 0

@@ -10,10 +10,10 @@ use Rattle.std.specs.List.{list_any, range_with_len}
 use Rattle.std.specs.FinMap.{find, is_sorted}
 use Rattle.std.specs.FinMap.Entries.{below_all}
 use Rattle.pg_types.specs.Placement.{Family, family_at, root, cell_after, cell_of, taken_count}
-use Rattle.pg_cells.specs.Inside.Lists.{Row, sign_at, base_at}
-use Rattle.pg_cells.specs.Inside.Writes.{SetsBase}
-use Rattle.pg_cells.specs.Inside.Layouts.{IsLayout, IsParent, IsTrie, standing, value_in}
-use Rattle.pg_cells.specs.Inside.Root.{IsRootTo}
+use Rattle.pg_cells.specs.Inside.store.Lists.{Row, sign_at, base_at}
+use Rattle.pg_cells.specs.Inside.store.Writes.{SetsBase}
+use Rattle.pg_cells.specs.Inside.families.Layouts.{IsLayout, IsParent, IsTrie, standing, value_in}
+use Rattle.pg_cells.specs.Inside.families.Root.{IsRootTo}
 use Rattle.pg_cells.proofs.StringMaps.{order, equal_or_not}
 use Rattle.pg_types.proofs.BoolFacts.{both_halves}
 use Rattle.pg_cells.proofs.LayoutLaws.{range_has, has_range}

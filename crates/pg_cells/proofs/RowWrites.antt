@@ -3,9 +3,9 @@ use Rattle.std.proofs.Common.{◌≡◌, ◌≢◌, ℕ, ◌<◌, ◌^◌, Bool,
 use Rattle.std.proofs.lemmas.List.{length-set, length-map, get_or-set_same, get_or-set_other, get_or_default}
 use Rattle.pg_cells.specs.declared.store.cell.Cell.{Cell}
 use Rattle.pg_cells.specs.declared.store.member.Member.{Member}
-use Rattle.pg_cells.specs.Inside.Lists.{row_of, bared, child_seen, member_seen, sign_at, child_at, IsFree, with_taken, with_free, with_child, with_value, with_base}
-use Rattle.pg_cells.specs.Inside.Store.{IsRow}
-use Rattle.pg_cells.specs.Inside.Writes.{Takes, Frees, SetsChild, SetsValue, SetsBase}
+use Rattle.pg_cells.specs.Inside.store.Lists.{row_of, bared, child_seen, member_seen, sign_at, child_at, IsFree, with_taken, with_free, with_child, with_value, with_base}
+use Rattle.pg_cells.specs.Inside.store.Store.{IsRow}
+use Rattle.pg_cells.specs.Inside.store.Writes.{Takes, Frees, SetsChild, SetsValue, SetsBase}
 use Rattle.pg_cells.proofs.LinkedLists.{free_within, taken_within}
 use Rattle.pg_cells.proofs.StoreSteps.{how_many_set}
 

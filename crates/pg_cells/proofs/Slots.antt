@@ -4,8 +4,8 @@ use Rattle.std.proofs.lemmas.Bool.{cases_Bool, cases_lt, eq-eqb, eqb-true, both_
 use Rattle.std.proofs.lemmas.List.{take-append-drop, drop_more, take_more, get_or-map}
 use Rattle.std.specs.List.{list_any}
 use Rattle.pg_cells.specs.declared.store.fit.Slot.{Slot}
-use Rattle.pg_cells.specs.Inside.Fit.{signs_of, slot_of}
-use Rattle.pg_cells.specs.Inside.Moves.{Outside, AreDistinct}
+use Rattle.pg_cells.specs.Inside.store.Fit.{signs_of, slot_of}
+use Rattle.pg_cells.specs.Inside.families.Moves.{Outside, AreDistinct}
 
 module _ {V : Type 0} where
   pub slot_front : (xs ys : List (Slot V)) (x : ℕ) (s : Slot V) → slot_of xs x ≡ Some s → slot_of (xs ++ ys) x ≡ Some s

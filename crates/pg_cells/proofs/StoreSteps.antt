@@ -4,10 +4,10 @@ use Rattle.std.proofs.lemmas.Bool.{cases_eq}
 use Rattle.std.proofs.lemmas.List.{take_at, length-set, length-map, length_push, get_or-set_same, get_or-set_other, get_or_default}
 use Rattle.pg_cells.specs.declared.store.cell.Cell.{Cell}
 use Rattle.pg_cells.specs.declared.store.member.Member.{Member}
-use Rattle.pg_cells.specs.Inside.Lists.{Row, Lists, lists, row_of, lone, member_seen, sign_at, IsFree, with_taken, with_free, with_child, with_value, with_more}
-use Rattle.pg_cells.specs.Inside.FreeList.{Linked, AreLinked}
+use Rattle.pg_cells.specs.Inside.store.Lists.{Row, Lists, lists, row_of, lone, member_seen, sign_at, IsFree, with_taken, with_free, with_child, with_value, with_more}
+use Rattle.pg_cells.specs.Inside.store.FreeList.{Linked, AreLinked}
 use Rattle.pg_cells.proofs.LinkedLists.{taken_within, not_free}
-use Rattle.pg_cells.specs.Inside.Store.{IsTop, IsKept, Extends, how_many, taken_in}
+use Rattle.pg_cells.specs.Inside.store.Store.{IsTop, IsKept, Extends, how_many, taken_in}
 
 -- what a vector holds after its slice was lent and given back
 pub given_back : {X : Type 0} (xs ys : List X) (n : ℕ) → length xs ≡ n → take n (xs ++ drop (length xs) ys) ≡ xs

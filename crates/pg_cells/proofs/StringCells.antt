@@ -7,11 +7,11 @@ use Rattle.std.specs.Option.{option_map}
 use Rattle.std.specs.FinMap.{find, put}
 use Rattle.pg_types.specs.Placement.{Family, Families, family_at, cell_in, cell_of, base_of, top}
 use Rattle.pg_types.proofs.LeastBase.{used_le_top}
-use Rattle.pg_cells.specs.Inside.Lists.{Row, sign_at, child_at, base_at}
-use Rattle.pg_cells.specs.Inside.Writes.{SetsValue}
-use Rattle.pg_cells.specs.Inside.ValuedFamilies.{Trie}
-use Rattle.pg_cells.specs.Inside.Layouts.{IsTrie, value_in}
-use Rattle.pg_cells.specs.Inside.OneTrie.{last_of}
+use Rattle.pg_cells.specs.Inside.store.Lists.{Row, sign_at, child_at, base_at}
+use Rattle.pg_cells.specs.Inside.store.Writes.{SetsValue}
+use Rattle.pg_cells.specs.Inside.linked.ValuedFamilies.{Trie}
+use Rattle.pg_cells.specs.Inside.families.Layouts.{IsTrie, value_in}
+use Rattle.pg_cells.specs.Inside.families.OneTrie.{last_of}
 use Rattle.pg_cells.proofs.StringMaps.{order, find_put_same, find_put_other, sorted_put, equal_or_not}
 use Rattle.pg_cells.proofs.LinkedLists.{taken_within}
 use Rattle.pg_cells.proofs.RootTrie.{any_range}

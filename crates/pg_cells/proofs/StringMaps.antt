@@ -11,7 +11,7 @@ use Rattle.std.specs.FinMap.{slice_cmp-IsAntisymmetric, nat_cmp-IsAntisymmetric,
 use Rattle.std.specs.FinMap.Entries.{find-put, find-where_key, is_sorted-put, is_sorted-where_key, same_entries, below_all}
 use Rattle.std.specs.List.{list_any}
 use Rattle.pg_types.proofs.BoolFacts.{equal_is, first_half, second_half, less_from}
-pub use Rattle.pg_cells.specs.Inside.ValuedFamilies.{without_key}
+pub use Rattle.pg_cells.specs.Inside.linked.ValuedFamilies.{without_key}
 
 -- the order of strings
 abbrev pub order : List ℕ → List ℕ → Ordering

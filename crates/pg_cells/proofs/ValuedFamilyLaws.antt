@@ -7,11 +7,11 @@ use Rattle.std.specs.List.{list_any, range_with_len}
 use Rattle.std.specs.Option.{option_map, is_some}
 use Rattle.std.specs.FinMap.{find}
 use Rattle.pg_types.specs.Placement.{Family, family_at, cell_of, base_of}
-use Rattle.pg_cells.specs.Inside.Lists.{Row, sign_at}
-use Rattle.pg_cells.specs.Inside.ValuedFamilies.{Trie}
-use Rattle.pg_cells.specs.Inside.AreValuedFamilies.{AreValuedFamilies}
-use Rattle.pg_cells.specs.Inside.Layouts.{IsTrie, value_in}
-use Rattle.pg_cells.specs.Inside.OneTrie.{HasLast, last_of}
+use Rattle.pg_cells.specs.Inside.store.Lists.{Row, sign_at}
+use Rattle.pg_cells.specs.Inside.linked.ValuedFamilies.{Trie}
+use Rattle.pg_cells.specs.Inside.linked.AreValuedFamilies.{AreValuedFamilies}
+use Rattle.pg_cells.specs.Inside.families.Layouts.{IsTrie, value_in}
+use Rattle.pg_cells.specs.Inside.families.OneTrie.{HasLast, last_of}
 use Rattle.pg_cells.proofs.LinkedLists.{taken_within}
 use Rattle.pg_cells.proofs.StringMaps.{order}
 use Rattle.pg_cells.proofs.LayoutLaws.{same_filter, sign_stands, stands_sign}

@@ -6,11 +6,11 @@ use Rattle.std.specs.List.{list_any}
 use Rattle.std.specs.Option.{option_map}
 use Rattle.std.specs.FinMap.{find, put}
 use Rattle.pg_types.specs.Placement.{Family, Families, family_at, cell_in, cell_of, base_of, with_sign, enter_by, enter_after}
-use Rattle.pg_cells.specs.Inside.ValuedFamilies.{ValuedFamilies}
-use Rattle.pg_cells.specs.Inside.AreValuedFamilies.{AreValuedFamilies}
-use Rattle.pg_cells.specs.Inside.Walks.{EndsBefore, IsKnown, StepsBy, Steps, AddsBlanks}
+use Rattle.pg_cells.specs.Inside.linked.ValuedFamilies.{ValuedFamilies}
+use Rattle.pg_cells.specs.Inside.linked.AreValuedFamilies.{AreValuedFamilies}
+use Rattle.pg_cells.specs.Inside.linked.Walks.{EndsBefore, IsKnown, StepsBy, Steps, AddsBlanks}
 use Rattle.pg_cells.proofs.StringMaps.{order, equal_or_not, find_put_same, find_put_other}
-use Rattle.pg_cells.specs.Inside.Searches.{search_start}
+use Rattle.pg_cells.specs.Inside.families.Searches.{search_start}
 use Rattle.pg_cells.proofs.PlacementLaws.{cell_of_last}
 
 -- where there is no family, it has no sign

@@ -5,16 +5,16 @@ ghost use Rattle.std.specs.Cmp.Lexicographic.{slice_cmp};
 ghost use Rattle.std.specs.Ordering.{nat_cmp};
 ghost use Rattle.pg_types.specs.Placement.{taken_count, top, cell_of, base_of};
 ghost use Rattle.pg_types.specs.Inside.Placing.{joins_at};
-ghost use Rattle.pg_cells.specs.Inside.ValuedFamilies.{ValuedFamilies};
-ghost use Rattle.pg_cells.specs.Inside.AreValuedFamilies.{AreValuedFamilies};
-ghost use Rattle.pg_cells.specs.Inside.Adding.{AddsSign, CanTakeSign};
-ghost use Rattle.pg_cells.specs.Inside.CellValues.{HasValue, IsTaken, SetsValue};
-ghost use Rattle.pg_cells.specs.Inside.Removing.{CanRemoveSign, RemovesSign};
-ghost use Rattle.pg_cells.specs.Inside.Store.{member_code};
-ghost use Rattle.pg_cells.specs.Inside.Members.{ArePassing, IsAlone, HasOther, has_sign};
-ghost use Rattle.pg_cells.specs.Inside.OneTrie.{Kept, Kept-prop};
-ghost use Rattle.pg_cells.specs.Inside.Links.{HasBase};
-ghost use Rattle.pg_cells.specs.Inside.Root.{root_held};
+ghost use Rattle.pg_cells.specs.Inside.linked.ValuedFamilies.{ValuedFamilies};
+ghost use Rattle.pg_cells.specs.Inside.linked.AreValuedFamilies.{AreValuedFamilies};
+ghost use Rattle.pg_cells.specs.Inside.families.Adding.{AddsSign, CanTakeSign};
+ghost use Rattle.pg_cells.specs.Inside.linked.CellValues.{HasValue, IsTaken, SetsValue};
+ghost use Rattle.pg_cells.specs.Inside.families.Removing.{CanRemoveSign, RemovesSign};
+ghost use Rattle.pg_cells.specs.Inside.store.Store.{member_code};
+ghost use Rattle.pg_cells.specs.Inside.linked.Members.{ArePassing, IsAlone, HasOther, has_sign};
+ghost use Rattle.pg_cells.specs.Inside.families.OneTrie.{Kept, Kept-prop};
+ghost use Rattle.pg_cells.specs.Inside.linked.Links.{HasBase};
+ghost use Rattle.pg_cells.specs.Inside.families.Root.{root_held};
 
 mod adding;
 mod moves;
@@ -44,9 +44,9 @@ pub struct Placed<V: Copy, const FEW: usize> {
 
 impl<V: Copy, const FEW: usize> Model for Placed<V, FEW> {
     ghost use Rattle.pg_cells.specs.declared.store.member.Member.{Member};
-    ghost use Rattle.pg_cells.specs.Inside.Store.{member_code};
-    ghost use Rattle.pg_cells.specs.Inside.ValuedFamilies.{ValuedFamilies, valued_families_code};
-    ghost use Rattle.pg_cells.specs.Inside.Layouts.{AreKept};
+    ghost use Rattle.pg_cells.specs.Inside.store.Store.{member_code};
+    ghost use Rattle.pg_cells.specs.Inside.linked.ValuedFamilies.{ValuedFamilies, valued_families_code};
+    ghost use Rattle.pg_cells.specs.Inside.families.Layouts.{AreKept};
 
     ghost Value = { ValuedFamilies (Member V) };
 

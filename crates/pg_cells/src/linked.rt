@@ -4,15 +4,15 @@ ghost use Rattle.std.specs.FinMap.{find};
 ghost use Rattle.std.specs.Cmp.Lexicographic.{slice_cmp};
 ghost use Rattle.std.specs.Ordering.{nat_cmp};
 ghost use Rattle.pg_types.specs.Placement.{taken_count, top, cell_of, base_of};
-ghost use Rattle.pg_cells.specs.Inside.ValuedFamilies.{ValuedFamilies};
-ghost use Rattle.pg_cells.specs.Inside.AreValuedFamilies.{AreValuedFamilies};
-ghost use Rattle.pg_cells.specs.Inside.Adding.{AddsSign, CanTakeSign};
-ghost use Rattle.pg_cells.specs.Inside.CellValues.{HasValue, IsTaken, SetsValue};
-ghost use Rattle.pg_cells.specs.Inside.Removing.{CanRemoveSign, RemovesSign};
-ghost use Rattle.pg_cells.specs.Inside.Members.{IsNextSign, IsBefore};
-ghost use Rattle.pg_cells.specs.Inside.Links.{HasBase};
-ghost use Rattle.pg_cells.specs.Inside.Root.{root_held};
-ghost use Rattle.pg_cells.specs.Inside.Walks.{EndsBefore};
+ghost use Rattle.pg_cells.specs.Inside.linked.ValuedFamilies.{ValuedFamilies};
+ghost use Rattle.pg_cells.specs.Inside.linked.AreValuedFamilies.{AreValuedFamilies};
+ghost use Rattle.pg_cells.specs.Inside.families.Adding.{AddsSign, CanTakeSign};
+ghost use Rattle.pg_cells.specs.Inside.linked.CellValues.{HasValue, IsTaken, SetsValue};
+ghost use Rattle.pg_cells.specs.Inside.families.Removing.{CanRemoveSign, RemovesSign};
+ghost use Rattle.pg_cells.specs.Inside.linked.Members.{IsNextSign, IsBefore};
+ghost use Rattle.pg_cells.specs.Inside.linked.Links.{HasBase};
+ghost use Rattle.pg_cells.specs.Inside.families.Root.{root_held};
+ghost use Rattle.pg_cells.specs.Inside.linked.Walks.{EndsBefore};
 
 mod links;
 
@@ -42,8 +42,8 @@ pub type NearCells<V> = LinkedCells<V, NO_SIGNS>;
 const NO_SIGNS: usize = 0;
 
 impl<V: Copy, const FEW: usize> Model for LinkedCells<V, FEW> {
-    ghost use Rattle.pg_cells.specs.Inside.ValuedFamilies.{ValuedFamilies, valued_families_code};
-    ghost use Rattle.pg_cells.specs.Inside.Links.{unlinked, AreLinks};
+    ghost use Rattle.pg_cells.specs.Inside.linked.ValuedFamilies.{ValuedFamilies, valued_families_code};
+    ghost use Rattle.pg_cells.specs.Inside.linked.Links.{unlinked, AreLinks};
 
     ghost Value = { ValuedFamilies V };
 

@@ -1,14 +1,14 @@
 //! The store: one vector of cells, whose free ones are linked in rising order.
 ghost use Rattle.std.specs.Prelude.{◌≡◌, ◌≢◌, ℕ, ◌+◌, ◌-◌, ◌<◌, ◌≤◌, ◌^◌, true, ◌∷◌, length, slice_get, slice_index, Some, IfOk, OnOk, OnErr};
 ghost use Rattle.pg_types.specs.Inside.Placing.{IsLeast};
-ghost use Rattle.pg_cells.specs.Inside.Lists.{lists, row_of, lone, sign_at, child_at, base_at, IsFree};
-ghost use Rattle.pg_cells.specs.Inside.FreeList.{AreLinked};
-ghost use Rattle.pg_cells.specs.Inside.Blocked.{AreBlocked};
-ghost use Rattle.pg_cells.specs.Inside.Bounds.{NoneFree};
-ghost use Rattle.pg_cells.specs.Inside.Fit.{fits_row, signs_of};
-ghost use Rattle.pg_cells.specs.Inside.Store.{one_free, taken_in, IsTop, IsRow, Extends};
-ghost use Rattle.pg_cells.specs.Inside.Root.{IsRootTo};
-ghost use Rattle.pg_cells.specs.Inside.Writes.{Takes, Frees, SetsChild, SetsValue, SetsBase};
+ghost use Rattle.pg_cells.specs.Inside.store.Lists.{lists, row_of, lone, sign_at, child_at, base_at, IsFree};
+ghost use Rattle.pg_cells.specs.Inside.store.FreeList.{AreLinked};
+ghost use Rattle.pg_cells.specs.Inside.store.Blocked.{AreBlocked};
+ghost use Rattle.pg_cells.specs.Inside.store.Bounds.{NoneFree};
+ghost use Rattle.pg_cells.specs.Inside.store.Fit.{fits_row, signs_of};
+ghost use Rattle.pg_cells.specs.Inside.store.Store.{one_free, taken_in, IsTop, IsRow, Extends};
+ghost use Rattle.pg_cells.specs.Inside.families.Root.{IsRootTo};
+ghost use Rattle.pg_cells.specs.Inside.store.Writes.{Takes, Frees, SetsChild, SetsValue, SetsBase};
 ghost use Rattle.pg_cells.specs.declared.store.member.Member.{Member as MemberOf};
 
 mod bounds;
@@ -51,8 +51,8 @@ pub struct Store<V: Copy> {
 
 impl<V: Copy> Model for Store<V> {
     ghost use Rattle.pg_cells.specs.declared.store.member.Member.{Member};
-    ghost use Rattle.pg_cells.specs.Inside.Lists.{Row, row_of};
-    ghost use Rattle.pg_cells.specs.Inside.Store.{member_code, row_code, IsStore};
+    ghost use Rattle.pg_cells.specs.Inside.store.Lists.{Row, row_of};
+    ghost use Rattle.pg_cells.specs.Inside.store.Store.{member_code, row_code, IsStore};
 
     ghost Value = { Row (Member V) };
 

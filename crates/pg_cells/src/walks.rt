@@ -4,10 +4,10 @@ ghost use Rattle.std.specs.FinMap.{find};
 ghost use Rattle.std.specs.Cmp.Lexicographic.{slice_cmp};
 ghost use Rattle.std.specs.Ordering.{nat_cmp};
 ghost use Rattle.pg_types.specs.Placement.{cell_of, enter_by};
-ghost use Rattle.pg_cells.specs.Inside.AreValuedFamilies.{AreValuedFamilies};
-ghost use Rattle.pg_cells.specs.Inside.CellValues.{IsTaken};
-ghost use Rattle.pg_cells.specs.Inside.Searches.{search_start};
-ghost use Rattle.pg_cells.specs.Inside.Walks.{IsAt, EndsBefore, IsKnown, Steps, AddsBlanks};
+ghost use Rattle.pg_cells.specs.Inside.linked.AreValuedFamilies.{AreValuedFamilies};
+ghost use Rattle.pg_cells.specs.Inside.linked.CellValues.{IsTaken};
+ghost use Rattle.pg_cells.specs.Inside.families.Searches.{search_start};
+ghost use Rattle.pg_cells.specs.Inside.linked.Walks.{IsAt, EndsBefore, IsKnown, Steps, AddsBlanks};
 
 use crate::LinkedCells;
 use pg_types::Sign;

@@ -8,7 +8,7 @@ ghost use Rattle.pg_patterns.specs.DottedSigns.{dotted_cmp};
 ghost use Rattle.pg_patterns.specs.Values.{raise};
 ghost use Rattle.pg_outputs.specs.Lists.{list_of};
 ghost use Rattle.pg_outputs.specs.Inside.Heads.{Grows};
-ghost use Rattle.pg_cells.specs.Inside.Walks.{IsAt};
+ghost use Rattle.pg_cells.specs.Inside.linked.Walks.{IsAt};
 ghost use Rattle.pg_trie.specs.declared.hopeless.TheConstants.{HOPELESS};
 ghost use Rattle.pg_trie.specs.Inside.Lists.{outputs_at};
 ghost use Rattle.pg_trie.specs.Inside.Maps.{AreKept};

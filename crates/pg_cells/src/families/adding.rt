@@ -1,13 +1,13 @@
 //! A sign is added to a family, in its place or at another base.
 ghost use Rattle.std.specs.Prelude.{◌≡◌, ℕ, ◌+◌, ◌<◌, ◌≤◌, ◌^◌, ◌∷◌, ◌++◌, [], List, Some, length, slice_index, nat_lt, nat_eq, ◌&&◌, IfOk, OnOk, OnErr};
 ghost use Rattle.pg_types.specs.Placement.{cell_of, with_sign};
-ghost use Rattle.pg_cells.specs.Inside.ValuedFamilies.{Trie};
+ghost use Rattle.pg_cells.specs.Inside.linked.ValuedFamilies.{Trie};
 ghost use Rattle.pg_cells.specs.declared.store.member.Member.{Member as MemberOf};
-ghost use Rattle.pg_cells.specs.Inside.Lists.{sign_at};
-ghost use Rattle.pg_cells.specs.Inside.Store.{Extends, IsRow};
-ghost use Rattle.pg_cells.specs.Inside.Layouts.{IsTrie};
-ghost use Rattle.pg_cells.specs.Inside.Searches.{search_start};
-ghost use Rattle.pg_cells.specs.Inside.Adding.{CanAdd, added};
+ghost use Rattle.pg_cells.specs.Inside.store.Lists.{sign_at};
+ghost use Rattle.pg_cells.specs.Inside.store.Store.{Extends, IsRow};
+ghost use Rattle.pg_cells.specs.Inside.families.Layouts.{IsTrie};
+ghost use Rattle.pg_cells.specs.Inside.families.Searches.{search_start};
+ghost use Rattle.pg_cells.specs.Inside.families.Adding.{CanAdd, added};
 
 use crate::families::moves::collect;
 use crate::families::place::place_family;

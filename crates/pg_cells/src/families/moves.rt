@@ -2,10 +2,10 @@
 ghost use Rattle.std.specs.Prelude.{◌≡◌, ◌≢◌, ℕ, ◌+◌, ◌<◌, ◌≤◌, ◌^◌, length, take, nat_eq, slice_index, Some, [], OnOk};
 ghost use Rattle.pg_cells.specs.declared.store.fit.Slot.{Slot as SlotOf};
 ghost use Rattle.pg_cells.specs.declared.store.member.Member.{Member as MemberOf};
-ghost use Rattle.pg_cells.specs.Inside.Lists.{sign_at, IsFree};
-ghost use Rattle.pg_cells.specs.Inside.Fit.{slot_of};
-ghost use Rattle.pg_cells.specs.Inside.Members.{ArePassing};
-ghost use Rattle.pg_cells.specs.Inside.Moves.{AreDistinct, GivesUp, Puts, Collected, Collects};
+ghost use Rattle.pg_cells.specs.Inside.store.Lists.{sign_at, IsFree};
+ghost use Rattle.pg_cells.specs.Inside.store.Fit.{slot_of};
+ghost use Rattle.pg_cells.specs.Inside.linked.Members.{ArePassing};
+ghost use Rattle.pg_cells.specs.Inside.families.Moves.{AreDistinct, GivesUp, Puts, Collected, Collects};
 
 use crate::store::Store;
 use crate::store::fit::Slot;

@@ -1,10 +1,10 @@
 //! A family is put at the least base that fits.
 ghost use Rattle.std.specs.Prelude.{◌≡◌, ◌≢◌, ℕ, ◌+◌, ◌<◌, ◌≤◌, ◌^◌, max, true, false, ◌∷◌, length, slice_index};
 ghost use Rattle.pg_types.specs.Inside.Placing.{IsLeast};
-ghost use Rattle.pg_cells.specs.Inside.Fit.{fits_row, signs_of};
-ghost use Rattle.pg_cells.specs.Inside.Searches.{far_from_top, search_start};
-ghost use Rattle.pg_cells.specs.Inside.Moves.{Drops, Moved, CanPlace};
-ghost use Rattle.pg_cells.specs.Inside.Store.{IsRow};
+ghost use Rattle.pg_cells.specs.Inside.store.Fit.{fits_row, signs_of};
+ghost use Rattle.pg_cells.specs.Inside.families.Searches.{far_from_top, search_start};
+ghost use Rattle.pg_cells.specs.Inside.families.Moves.{Drops, Moved, CanPlace};
+ghost use Rattle.pg_cells.specs.Inside.store.Store.{IsRow};
 
 use crate::families::moves::{give_up, put};
 use crate::store::Store;

@@ -1,9 +1,9 @@
 //! A family without a sign is gone.
 ghost use Rattle.std.specs.Prelude.{◌≡◌, ◌≢◌, ℕ, ◌<◌, [], length, MatchBool};
-ghost use Rattle.pg_cells.specs.Inside.Lists.{sign_at};
-ghost use Rattle.pg_cells.specs.Inside.Layouts.{standing};
-ghost use Rattle.pg_cells.specs.Inside.Moves.{Prunes};
-ghost use Rattle.pg_cells.specs.Inside.Store.{IsRow};
+ghost use Rattle.pg_cells.specs.Inside.store.Lists.{sign_at};
+ghost use Rattle.pg_cells.specs.Inside.families.Layouts.{standing};
+ghost use Rattle.pg_cells.specs.Inside.families.Moves.{Prunes};
+ghost use Rattle.pg_cells.specs.Inside.store.Store.{IsRow};
 
 use crate::store::Store;
 

@@ -1,6 +1,6 @@
 //! The root family, whose signs stand in their own cells.
 ghost use Rattle.std.specs.Prelude.{◌≡◌, ◌+◌, ◌<◌, ◌≤◌, length};
-ghost use Rattle.pg_cells.specs.Inside.Root.{IsRootTo};
+ghost use Rattle.pg_cells.specs.Inside.families.Root.{IsRootTo};
 
 use crate::store::Store;
 use crate::store::fit::Slot;

@@ -3,10 +3,10 @@
 ghost use Rattle.std.specs.Prelude.{◌≡◌, ◌≢◌, ℕ, ◌<◌, ◌≤◌, ◌⊎◌, ◌&&◌, nat_eq, true, false, length, List, [], ◌∷◌, ◌++◌, Some, None, OnOk, slice_index};
 ghost use Rattle.pg_types.specs.Placement.{cell_of};
 ghost use Rattle.pg_types.specs.Inside.Placing.{joins_at};
-ghost use Rattle.pg_cells.specs.Inside.AreValuedFamilies.{AreValuedFamilies};
-ghost use Rattle.pg_cells.specs.Inside.CellValues.{IsTaken};
-ghost use Rattle.pg_cells.specs.Inside.Members.{IsNextSign, IsBefore, goes_on, has_sign, ArePassing};
-ghost use Rattle.pg_cells.specs.Inside.Links.{AreLinks, HasBase, with_link};
+ghost use Rattle.pg_cells.specs.Inside.linked.AreValuedFamilies.{AreValuedFamilies};
+ghost use Rattle.pg_cells.specs.Inside.linked.CellValues.{IsTaken};
+ghost use Rattle.pg_cells.specs.Inside.linked.Members.{IsNextSign, IsBefore, goes_on, has_sign, ArePassing};
+ghost use Rattle.pg_cells.specs.Inside.linked.Links.{AreLinks, HasBase, with_link};
 
 use crate::families::Placed;
 use crate::store::member::Member;

@@ -1,6 +1,6 @@
 //! Bounds by sign below which no base is free.
 ghost use Rattle.std.specs.Prelude.{◌≡◌, ◌≢◌, ℕ, ◌+◌, ◌<◌, ◌≤◌, ◌^◌, false, length, slice_index, IfOk, if◌then◌else◌};
-ghost use Rattle.pg_cells.specs.Inside.Bounds.{IsBelow};
+ghost use Rattle.pg_cells.specs.Inside.store.Bounds.{IsBelow};
 
 use std::alloc::{AllocError, Global};
 

@@ -1,7 +1,7 @@
 //! The list through the free cells.
 ghost use Rattle.std.specs.Prelude.{◌≡◌, ◌≢◌, ℕ, ◌+◌, ◌-◌, ◌<◌, ◌≤◌, ◌^◌, length, OnOk, OnErr};
-ghost use Rattle.pg_cells.specs.Inside.Lists.{lists, with_taken, with_free, with_more, lone, sign_at, IsFree};
-ghost use Rattle.pg_cells.specs.Inside.FreeList.{AreLinked, IsFreeTo};
+ghost use Rattle.pg_cells.specs.Inside.store.Lists.{lists, with_taken, with_free, with_more, lone, sign_at, IsFree};
+ghost use Rattle.pg_cells.specs.Inside.store.FreeList.{AreLinked, IsFreeTo};
 
 use crate::store::cell::{
     Cell, after_of, before_of, set_after, set_base, set_before, set_free, set_taken, sign_of,

@@ -1,9 +1,9 @@
 //! The search for a base, along the free cells.
 ghost use Rattle.std.specs.Prelude.{◌≡◌, ◌≢◌, ℕ, ◌+◌, ◌<◌, ◌≤◌, ◌^◌, Bool, true, ◌∷◌, length, slice_index, map};
 ghost use Rattle.pg_types.specs.Inside.Placing.{IsLeast};
-ghost use Rattle.pg_cells.specs.Inside.Lists.{lists, sign_at, base_at};
-ghost use Rattle.pg_cells.specs.Inside.FreeList.{AreLinked};
-ghost use Rattle.pg_cells.specs.Inside.Fit.{fits_row, signs_of};
+ghost use Rattle.pg_cells.specs.Inside.store.Lists.{lists, sign_at, base_at};
+ghost use Rattle.pg_cells.specs.Inside.store.FreeList.{AreLinked};
+ghost use Rattle.pg_cells.specs.Inside.store.Fit.{fits_row, signs_of};
 
 use crate::store::cell::{Cell, after_of, is_base_of, sign_of};
 use crate::store::member::Member;

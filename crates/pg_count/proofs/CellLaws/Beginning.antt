@@ -5,9 +5,9 @@ use Rattle.std.specs.FinMap.Entries.{find}
 use Rattle.pg_types.specs.declared.limits.TheConstants.{LENGTH_MAX}
 use Rattle.pg_types.specs.Inside.NumberedWindows.{Windows, HasNumber, no_counts}
 use Rattle.pg_types.proofs.StringEntries.{order}
-use Rattle.pg_cells.specs.Inside.ValuedFamilies.{ValuedFamilies}
-use Rattle.pg_cells.specs.Inside.AreValuedFamilies.{AreValuedFamilies}
-use Rattle.pg_cells.specs.Inside.Root.{root_held}
+use Rattle.pg_cells.specs.Inside.linked.ValuedFamilies.{ValuedFamilies}
+use Rattle.pg_cells.specs.Inside.linked.AreValuedFamilies.{AreValuedFamilies}
+use Rattle.pg_cells.specs.Inside.families.Root.{root_held}
 use Rattle.pg_count.specs.Inside.Counting.{Tally, counting_of, counts_in, sums_seen, number_seen, window_at}
 use Rattle.pg_count.specs.Inside.Leaves.{AreCounting, AreShort}
 use Rattle.pg_count.proofs.CellLaws.Counted.{seen_root, none_seen, seen_there}

@@ -3,7 +3,7 @@ use Rattle.std.proofs.Common.{◌≡◌, ◌≢◌, ℕ, Bool, cond, List, [], �
 use Rattle.std.proofs.lemmas.Option.{slice_get_within}
 use Rattle.std.specs.List.{slice_get}
 use Rattle.std.specs.FinMap.Entries.{find, put}
-use Rattle.pg_cells.specs.Inside.ValuedFamilies.{ValuedFamilies}
+use Rattle.pg_cells.specs.Inside.linked.ValuedFamilies.{ValuedFamilies}
 use Rattle.pg_types.specs.Inside.Counts.{with_weight, with_count}
 use Rattle.pg_types.specs.Inside.NumberedWindows.{Windows, HasNumber, with_counted}
 use Rattle.pg_types.proofs.Numbering.{get_left, get_seam}

@@ -11,7 +11,7 @@ use Rattle.pg_types.specs.Inside.NumberedWindows.{Windows, AreNumbered, HasNumbe
 use Rattle.pg_types.proofs.BoolFacts.{both_halves, first_half, second_half, less_from}
 use Rattle.pg_types.proofs.Numbering.{behind, first_at}
 use Rattle.pg_types.proofs.StringEntries.{order, equal_or_not, same_maps, head_below, tail_sorted, put_from, found_mapped, sorted_mapped, unmapped}
-use Rattle.pg_cells.specs.Inside.ValuedFamilies.{ValuedFamilies}
+use Rattle.pg_cells.specs.Inside.linked.ValuedFamilies.{ValuedFamilies}
 use Rattle.pg_count.specs.Inside.Counting.{IsCounting, Tally, seen_in, sums_seen, number_seen, numbers_in, window_at, wholes, counting_of}
 use Rattle.pg_count.specs.Inside.Leaves.{AreLeaves, HasTally, Keeps, Sets}
 use Rattle.pg_count.proofs.CellLaws.Counted.{sorted_seen, seen_there, seen_strings, tally_there}

@@ -2,7 +2,7 @@
 use Rattle.std.proofs.Common.{◌≡◌, ℕ, List, [], ◌∷◌, ◌++◌, map, Option, None, Some, sym, ◌∙◌, ap, T, refl}
 use Rattle.std.specs.List.{slice_get}
 use Rattle.std.specs.FinMap.Entries.{find, is_sorted}
-use Rattle.pg_cells.specs.Inside.ValuedFamilies.{ValuedFamilies}
+use Rattle.pg_cells.specs.Inside.linked.ValuedFamilies.{ValuedFamilies}
 use Rattle.pg_types.proofs.Numbering.{behind, first_at}
 use Rattle.pg_types.proofs.StringEntries.{order, tail_sorted}
 use Rattle.pg_types.specs.Inside.NumberedWindows.{Windows, AreInOrder}

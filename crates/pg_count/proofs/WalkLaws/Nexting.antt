@@ -4,7 +4,7 @@ use Rattle.std.specs.FinMap.Entries.{find}
 use Rattle.pg_types.specs.Inside.Counts.{windows_above}
 use Rattle.pg_types.specs.Inside.NumberedWindows.{Windows}
 use Rattle.pg_types.proofs.StringEntries.{order}
-use Rattle.pg_cells.specs.Inside.ValuedFamilies.{ValuedFamilies}
+use Rattle.pg_cells.specs.Inside.linked.ValuedFamilies.{ValuedFamilies}
 use Rattle.pg_count.specs.Inside.Counting.{Tally}
 use Rattle.pg_count.specs.Inside.Least.{LeastUnder, NoneUnder}
 use Rattle.pg_count.specs.Inside.Leaves.{AreLeaves}

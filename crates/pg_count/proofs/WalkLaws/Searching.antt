@@ -13,8 +13,8 @@ use Rattle.pg_types.specs.Inside.Counts.{SignsWithin}
 use Rattle.pg_types.specs.Inside.NumberedWindows.{Windows, HasNumber}
 use Rattle.pg_types.specs.Placement.{base_of}
 use Rattle.pg_types.proofs.StringEntries.{order}
-use Rattle.pg_cells.specs.Inside.ValuedFamilies.{ValuedFamilies}
-use Rattle.pg_cells.specs.Inside.Members.{IsNextSign, goes_on}
+use Rattle.pg_cells.specs.Inside.linked.ValuedFamilies.{ValuedFamilies}
+use Rattle.pg_cells.specs.Inside.linked.Members.{IsNextSign, goes_on}
 use Rattle.pg_cells.proofs.Walking.{ends_before}
 use Rattle.pg_count.specs.Inside.Bounds.{first_sign, rest_after}
 use Rattle.pg_count.specs.Inside.Counting.{Tally}

@@ -11,9 +11,9 @@ use Rattle.std.specs.FinMap.{slice_cmp-IsAntisymmetric, nat_cmp-IsAntisymmetric}
 use Rattle.std.specs.FinMap.Entries.{find, is_sorted, below_all, where_key, find-where_key, is_sorted-where_key}
 use Rattle.pg_types.specs.Placement.{base_of, cell_of}
 use Rattle.pg_types.proofs.BoolFacts.{first_half, second_half, less_from, and_first, and_second}
-use Rattle.pg_cells.specs.Inside.ValuedFamilies.{ValuedFamilies}
-use Rattle.pg_cells.specs.Inside.AreValuedFamilies.{AreValuedFamilies}
-use Rattle.pg_cells.specs.Inside.Members.{IsNextSign, goes_on}
+use Rattle.pg_cells.specs.Inside.linked.ValuedFamilies.{ValuedFamilies}
+use Rattle.pg_cells.specs.Inside.linked.AreValuedFamilies.{AreValuedFamilies}
+use Rattle.pg_cells.specs.Inside.linked.Members.{IsNextSign, goes_on}
 use Rattle.pg_cells.proofs.LinkLaws.{cell_goes}
 use Rattle.pg_cells.proofs.Walking.{childless}
 use Rattle.pg_count.proofs.CellLaws.Mapped.{ends_after}

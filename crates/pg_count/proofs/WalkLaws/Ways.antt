@@ -5,9 +5,9 @@ use Rattle.std.specs.FinMap.Entries.{find}
 use Rattle.pg_types.specs.Inside.NumberedWindows.{Windows, HasNumber}
 use Rattle.pg_types.specs.Placement.{cell_of}
 use Rattle.pg_types.proofs.StringEntries.{order}
-use Rattle.pg_cells.specs.Inside.ValuedFamilies.{ValuedFamilies}
-use Rattle.pg_cells.specs.Inside.AreValuedFamilies.{AreValuedFamilies}
-use Rattle.pg_cells.specs.Inside.Walks.{EndsBefore}
+use Rattle.pg_cells.specs.Inside.linked.ValuedFamilies.{ValuedFamilies}
+use Rattle.pg_cells.specs.Inside.linked.AreValuedFamilies.{AreValuedFamilies}
+use Rattle.pg_cells.specs.Inside.linked.Walks.{EndsBefore}
 use Rattle.pg_count.specs.Inside.Counting.{Tally}
 use Rattle.pg_count.specs.Inside.Leaves.{AreLeaves, IsWay}
 use Rattle.pg_count.proofs.LeafLaws.Fronts.{GoesOn, fronts}

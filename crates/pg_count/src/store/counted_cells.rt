@@ -5,13 +5,13 @@ ghost use Rattle.std.specs.Cmp.Lexicographic.{slice_cmp};
 ghost use Rattle.std.specs.Ordering.{nat_cmp};
 ghost use Rattle.pg_types.specs.declared.limits.TheConstants.{SIGNS_MAX};
 ghost use Rattle.pg_types.specs.Placement.{cell_of, base_of};
-ghost use Rattle.pg_cells.specs.Inside.Adding.{CanTakeSign};
-ghost use Rattle.pg_cells.specs.Inside.AreValuedFamilies.{AreValuedFamilies};
-ghost use Rattle.pg_cells.specs.Inside.CellValues.{HasValue, IsTaken};
-ghost use Rattle.pg_cells.specs.Inside.Links.{HasBase};
-ghost use Rattle.pg_cells.specs.Inside.Members.{IsNextSign};
-ghost use Rattle.pg_cells.specs.Inside.Root.{root_held};
-ghost use Rattle.pg_cells.specs.Inside.Walks.{IsAt};
+ghost use Rattle.pg_cells.specs.Inside.families.Adding.{CanTakeSign};
+ghost use Rattle.pg_cells.specs.Inside.linked.AreValuedFamilies.{AreValuedFamilies};
+ghost use Rattle.pg_cells.specs.Inside.linked.CellValues.{HasValue, IsTaken};
+ghost use Rattle.pg_cells.specs.Inside.linked.Links.{HasBase};
+ghost use Rattle.pg_cells.specs.Inside.linked.Members.{IsNextSign};
+ghost use Rattle.pg_cells.specs.Inside.families.Root.{root_held};
+ghost use Rattle.pg_cells.specs.Inside.linked.Walks.{IsAt};
 ghost use Rattle.pg_count.specs.Inside.Counting.{Tally, counts_in, numbers_in};
 ghost use Rattle.pg_count.specs.Inside.Leaves.{Adds, AreShort, PushesDown};
 ghost use Rattle.pg_count.specs.declared.store.tally_list.TheConstants.{NUMBERS_END};
@@ -49,7 +49,7 @@ pub struct CountedCells {
 impl Model for CountedCells {
     ghost use Rattle.std.specs.Prelude.{ℕ, Option};
     ghost use Rattle.std.specs.Coded.{coded_option, coded×, coded_ℕ};
-    ghost use Rattle.pg_cells.specs.Inside.ValuedFamilies.{ValuedFamilies, valued_families_code};
+    ghost use Rattle.pg_cells.specs.Inside.linked.ValuedFamilies.{ValuedFamilies, valued_families_code};
     ghost use Rattle.pg_count.specs.Inside.CellNumbers.{tallied_families, AreCellNumbers};
     ghost use Rattle.pg_count.specs.Inside.Counting.{Tally};
 

@@ -1,8 +1,8 @@
 //! The search for the least counted window above another.
 ghost use Rattle.std.specs.Prelude.{◌≡◌, ◌+◌, ◌-◌, ◌<◌, ◌≤◌, ℕ, List, [], ◌∷◌, ◌++◌, length};
 ghost use Rattle.pg_types.specs.Placement.{base_of, cell_of};
-ghost use Rattle.pg_cells.specs.Inside.AreValuedFamilies.{AreValuedFamilies};
-ghost use Rattle.pg_cells.specs.Inside.Members.{IsNextSign};
+ghost use Rattle.pg_cells.specs.Inside.linked.AreValuedFamilies.{AreValuedFamilies};
+ghost use Rattle.pg_cells.specs.Inside.linked.Members.{IsNextSign};
 ghost use Rattle.pg_count.specs.Inside.Bounds.{first_sign};
 ghost use Rattle.pg_count.specs.Inside.Least.{IsNearest, IsToldBy};
 ghost use Rattle.pg_count.specs.Inside.Leaves.{AreLeaves, AreShort, IsLast};

@@ -1,8 +1,8 @@
 //! The walk over the counted strings, in the order of signs.
 ghost use Rattle.std.specs.Prelude.{◌≡◌, ◌+◌, ◌<◌, ℕ, List, ◌++◌, length, Some, OnOk};
 ghost use Rattle.pg_types.specs.Placement.{base_of, cell_of};
-ghost use Rattle.pg_cells.specs.Inside.AreValuedFamilies.{AreValuedFamilies};
-ghost use Rattle.pg_cells.specs.Inside.Members.{IsNextSign};
+ghost use Rattle.pg_cells.specs.Inside.linked.AreValuedFamilies.{AreValuedFamilies};
+ghost use Rattle.pg_cells.specs.Inside.linked.Members.{IsNextSign};
 ghost use Rattle.pg_count.specs.Inside.Leaves.{AreLast, AreShort, IsLast};
 ghost use Rattle.pg_count.specs.Inside.Under.{numbers_under};
 

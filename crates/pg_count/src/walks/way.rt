@@ -5,7 +5,7 @@ ghost use Rattle.std.specs.Cmp.Lexicographic.{slice_cmp};
 ghost use Rattle.std.specs.Ordering.{nat_cmp};
 ghost use Rattle.pg_types.specs.Inside.Counts.{SignsWithin};
 ghost use Rattle.pg_types.specs.Inside.NumberedWindows.{HasNumber};
-ghost use Rattle.pg_cells.specs.Inside.AreValuedFamilies.{AreValuedFamilies};
+ghost use Rattle.pg_cells.specs.Inside.linked.AreValuedFamilies.{AreValuedFamilies};
 ghost use Rattle.pg_count.specs.Inside.Leaves.{AreLeaves, IsWay};
 
 use crate::store::counted_cells::CountedCells;

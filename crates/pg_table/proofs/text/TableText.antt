@@ -11,7 +11,7 @@ use Rattle.pg_types.specs.Placement.{cell_of, top}
 use Rattle.pg_types.specs.Tails.{outputs_of}
 use Rattle.pg_patterns.specs.Values.{value_of}
 use Rattle.pg_patterns.specs.Inside.PatternMaps.{IsPatternMap}
-use Rattle.pg_cells.specs.Inside.ValuedFamilies.{ValuedFamilies}
+use Rattle.pg_cells.specs.Inside.linked.ValuedFamilies.{ValuedFamilies}
 use Rattle.pg_outputs.specs.declared.records.Record.{Record}
 use Rattle.pg_outputs.specs.Lists.{list_of}
 use Rattle.pg_table.specs.declared.parts.cell.Cell.{Cell}

@@ -4,8 +4,8 @@ ghost use Rattle.pg_types.specs.declared.limits.TheConstants.{SIGNS_MAX};
 ghost use Rattle.pg_patterns.specs.Inside.PatternMaps.{SignsUpTo};
 ghost use Rattle.pg_outputs.specs.Lists.{list_of};
 ghost use Rattle.pg_outputs.specs.Inside.Heads.{Grows, OneHeadEach};
-ghost use Rattle.pg_cells.specs.Inside.Root.{root_held};
-ghost use Rattle.pg_cells.specs.Inside.AreValuedFamilies.{AreValuedFamilies};
+ghost use Rattle.pg_cells.specs.Inside.families.Root.{root_held};
+ghost use Rattle.pg_cells.specs.Inside.linked.AreValuedFamilies.{AreValuedFamilies};
 ghost use Rattle.pg_table.specs.Inside.text.Packed.{IsGroup, IsEntered, pairs};
 ghost use Rattle.pg_table.specs.Inside.text.Sharing.{Lists, Shares, value_and_dot, with_ends};
 

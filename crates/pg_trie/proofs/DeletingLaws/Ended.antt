@@ -3,7 +3,7 @@ use Rattle.std.proofs.Common.{◌≡◌, ℕ, Bool, List, [], length, map, sym, 
 use Rattle.pg_types.specs.Placement.{kept_families}
 use Rattle.pg_types.specs.Tails.{tails}
 use Rattle.pg_outputs.specs.declared.records.Record.{Record}
-use Rattle.pg_cells.specs.Inside.ValuedFamilies.{ValuedFamilies}
+use Rattle.pg_cells.specs.Inside.linked.ValuedFamilies.{ValuedFamilies}
 use Rattle.pg_trie.specs.Inside.IsTrie.{IsTrie}
 use Rattle.pg_trie.specs.Inside.Maps.{Maps, maps_of}
 use Rattle.pg_trie.specs.Inside.Pruned.{IsKeep, Prunes}

@@ -9,8 +9,8 @@ use Rattle.std.specs.List.{list_any}
 use Rattle.pg_types.specs.Placement.{Family, Families, family_at, cell_of, without_family}
 use Rattle.pg_types.specs.Inside.Placing.{without_sign}
 use Rattle.pg_types.proofs.BoolFacts.{first_half, second_half, is_true, holds}
-use Rattle.pg_cells.specs.Inside.ValuedFamilies.{ValuedFamilies}
-use Rattle.pg_cells.specs.Inside.AreValuedFamilies.{AreValuedFamilies}
+use Rattle.pg_cells.specs.Inside.linked.ValuedFamilies.{ValuedFamilies}
+use Rattle.pg_cells.specs.Inside.linked.AreValuedFamilies.{AreValuedFamilies}
 use Rattle.pg_cells.proofs.StringMaps.{order, equal_or_not, same_maps, find_below, head_below, tail_sorted, find_put_same, find_put_other, find_without_same, find_without_other}
 use Rattle.pg_cells.proofs.StringCells.{parts_cell, parts_none}
 use Rattle.pg_trie.specs.Inside.Pruned.{kept_one, kept_by}

@@ -5,7 +5,7 @@ use Rattle.std.specs.List.{flat_map, range_with_len}
 use Rattle.std.specs.FinMap.Entries.{find}
 use Rattle.pg_patterns.specs.DottedSigns.{dotted_cmp}
 use Rattle.pg_trie.specs.declared.hopeless.TheConstants.{HOPELESS}
-pub use Rattle.pg_cells.specs.Inside.Walks.{IsAt}
+pub use Rattle.pg_cells.specs.Inside.linked.Walks.{IsAt}
 pub use Rattle.pg_outputs.specs.Lists.{list_of}
 
 -- a value at a dot, as a list

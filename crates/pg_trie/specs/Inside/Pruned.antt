@@ -6,9 +6,9 @@ use Rattle.std.specs.Cmp.Lexicographic.{slice_cmp}
 use Rattle.std.specs.FinMap.{find}
 use Rattle.pg_types.specs.Placement.{Family, Families, cell_of}
 use Rattle.pg_types.specs.Inside.Placing.{without_sign}
-use Rattle.pg_cells.specs.Inside.ValuedFamilies.{ValuedFamilies, without_key}
-use Rattle.pg_cells.specs.Inside.AreValuedFamilies.{AreValuedFamilies}
-use Rattle.pg_cells.specs.Inside.Walks.{EndsBefore}
+use Rattle.pg_cells.specs.Inside.linked.ValuedFamilies.{ValuedFamilies, without_key}
+use Rattle.pg_cells.specs.Inside.linked.AreValuedFamilies.{AreValuedFamilies}
+use Rattle.pg_cells.specs.Inside.linked.Walks.{EndsBefore}
 
 -- a family with the signs whose strings pass the test, or none where no sign does
 abbrev pub kept_one : (List ℕ → Bool) → List ℕ × Family → Families

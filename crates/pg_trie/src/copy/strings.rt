@@ -5,8 +5,8 @@ ghost use Rattle.std.specs.Cmp.Lexicographic.{slice_cmp};
 ghost use Rattle.std.specs.Ordering.{nat_cmp};
 ghost use Rattle.pg_types.specs.declared.limits.TheConstants.{PATTERN_SIGNS_MAX, SIGNS_MAX};
 ghost use Rattle.pg_types.specs.Placement.{cell_of, base_of};
-ghost use Rattle.pg_cells.specs.Inside.AreValuedFamilies.{AreValuedFamilies};
-ghost use Rattle.pg_cells.specs.Inside.Members.{IsNextSign};
+ghost use Rattle.pg_cells.specs.Inside.linked.AreValuedFamilies.{AreValuedFamilies};
+ghost use Rattle.pg_cells.specs.Inside.linked.Members.{IsNextSign};
 ghost use Rattle.pg_trie.specs.Inside.Strings.{AreShort, IsString, PutsBelow, AreStringsTo, AreStrings};
 
 use crate::lists::head::Head;

@@ -2,8 +2,8 @@
 ghost use Rattle.std.specs.Prelude.{◌≡◌, ℕ, ◌+◌, ◌≤◌, Bool, List, [], ◌∷◌, ◌++◌, length, Some, if◌then◌else◌};
 ghost use Rattle.pg_types.specs.declared.limits.TheConstants.{PATTERN_SIGNS_MAX, SIGNS_MAX};
 ghost use Rattle.pg_types.specs.Placement.{cell_of};
-ghost use Rattle.pg_cells.specs.Inside.AreValuedFamilies.{AreValuedFamilies};
-ghost use Rattle.pg_cells.specs.Inside.Members.{IsBefore, goes_on};
+ghost use Rattle.pg_cells.specs.Inside.linked.AreValuedFamilies.{AreValuedFamilies};
+ghost use Rattle.pg_cells.specs.Inside.linked.Members.{IsBefore, goes_on};
 ghost use Rattle.pg_trie.specs.Inside.Pruned.{Drops, IsKeep, Prunes, PrunesBelow};
 ghost use Rattle.pg_trie.specs.Inside.Strings.{AreShort};
 

@@ -1,7 +1,7 @@
 use Rattle.std.proofs.Common.{◌<◌, ◌^◌, ◌-◌, length}
-use Rattle.pg_cells.specs.Inside.Lists.{lists, row_of}
-use Rattle.pg_cells.specs.Inside.FreeList.{AreLinked}
-use Rattle.pg_cells.specs.Inside.Store.{Extends}
+use Rattle.pg_cells.specs.Inside.store.Lists.{lists, row_of}
+use Rattle.pg_cells.specs.Inside.store.FreeList.{AreLinked}
+use Rattle.pg_cells.specs.Inside.store.Store.{Extends}
 use Rattle.pg_cells.proofs.store.grow_cells.Given as goal
 
 abbrev pub invariant-grow : goal.invariant-grow

@@ -2,9 +2,9 @@ use Rattle.std.proofs.lemmas.List.{take_all}
 use Rattle.std.proofs.Common.{◌+◌, ◌<◌, [], ◌∷◌, ◌++◌, length, take, get_or, ap, ◌∙◌, arith, ◌≡◌, ◌≤◌, Some, sym, subst}
 use Rattle.std.proofs.lemmas.Result.{err_from_is_err_and}
 use Rattle.pg_types.specs.Placement.{cell_of, enter_by}
-use Rattle.pg_cells.specs.Inside.ValuedFamilies.{ValuedFamilies}
-use Rattle.pg_cells.specs.Inside.Searches.{search_start}
-use Rattle.pg_cells.specs.Inside.Walks.{EndsBefore, Steps, AddsBlanks}
+use Rattle.pg_cells.specs.Inside.linked.ValuedFamilies.{ValuedFamilies}
+use Rattle.pg_cells.specs.Inside.families.Searches.{search_start}
+use Rattle.pg_cells.specs.Inside.linked.Walks.{EndsBefore, Steps, AddsBlanks}
 use Rattle.pg_cells.proofs.Walking.{way_more, enter_more, front_more, more_added, step_values, step_signs, still_none, not_reached}
 use Rattle.pg_cells.proofs.walks.enter.Goals as goal
 

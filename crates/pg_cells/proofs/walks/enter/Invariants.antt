@@ -1,8 +1,8 @@
 use Rattle.std.proofs.Common.{◌≡◌, ◌<◌, take, drop, Some}
 use Rattle.pg_types.specs.Placement.{cell_of, enter_by, enter_after}
-use Rattle.pg_cells.specs.Inside.AreValuedFamilies.{AreValuedFamilies}
-use Rattle.pg_cells.specs.Inside.Searches.{search_start}
-use Rattle.pg_cells.specs.Inside.Walks.{AddsBlanks}
+use Rattle.pg_cells.specs.Inside.linked.AreValuedFamilies.{AreValuedFamilies}
+use Rattle.pg_cells.specs.Inside.families.Searches.{search_start}
+use Rattle.pg_cells.specs.Inside.linked.Walks.{AddsBlanks}
 use Rattle.pg_cells.proofs.walks.enter.Given as goal
 
 abbrev pub invariant-loop-k : goal.invariant-loop-k

@@ -1,6 +1,6 @@
 use Rattle.std.proofs.Common.{◌≡◌, ◌<◌, take, Some}
 use Rattle.pg_types.specs.Placement.{cell_of}
-use Rattle.pg_cells.specs.Inside.Walks.{IsKnown}
+use Rattle.pg_cells.specs.Inside.linked.Walks.{IsKnown}
 use Rattle.pg_cells.proofs.walks.known_prefix.Given as goal
 
 abbrev pub invariant-loop-k : goal.invariant-loop-k

@@ -1,5 +1,5 @@
 use Rattle.pg_count.specs.Inside.Counting.{Tally}
-use Rattle.pg_cells.specs.Inside.ValuedFamilies.{ValuedFamilies}
+use Rattle.pg_cells.specs.Inside.linked.ValuedFamilies.{ValuedFamilies}
 use Rattle.std.proofs.lemmas.Result.{err_from_is_err_and}
 use Rattle.std.proofs.Common.{arith, ap, length, sym, subst, refl, Option, ◌∙◌}
 use Rattle.std.proofs.lemmas.List.{length_push}

@@ -1,10 +1,10 @@
 use Rattle.std.proofs.Common.{sym, subst, refl}
-use Rattle.pg_cells.specs.Inside.ValuedFamilies.{ValuedFamilies}
-use Rattle.pg_cells.specs.Inside.Adding.{CanTakeSign, AddsSign}
-use Rattle.pg_cells.specs.Inside.Layouts.{AreKept}
-use Rattle.pg_cells.specs.Inside.OneTrie.{Kept, kept_is_only, held_is_kept}
+use Rattle.pg_cells.specs.Inside.linked.ValuedFamilies.{ValuedFamilies}
+use Rattle.pg_cells.specs.Inside.families.Adding.{CanTakeSign, AddsSign}
+use Rattle.pg_cells.specs.Inside.families.Layouts.{AreKept}
+use Rattle.pg_cells.specs.Inside.families.OneTrie.{Kept, kept_is_only, held_is_kept}
 use Rattle.pg_cells.specs.declared.store.member.Member.{Member}
-use Rattle.pg_cells.specs.Inside.Store.{member_code}
+use Rattle.pg_cells.specs.Inside.store.Store.{member_code}
 use Rattle.pg_cells.proofs.AddedSlot.{after, after_held, can_add}
 use Rattle.pg_cells.proofs.PlacedSigns.{seen, placed_added}
 use Rattle.pg_cells.proofs.families.Placed.add.Goals as goal

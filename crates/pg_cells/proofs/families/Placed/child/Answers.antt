@@ -1,6 +1,6 @@
 use Rattle.std.proofs.Common.{◌≡◌, Some, None, ap, sym, subst, ◌∙◌, cond, nat_eq}
 use Rattle.pg_types.specs.Placement.{cell_of, base_of}
-use Rattle.pg_cells.specs.Inside.ValuedFamilies.{ValuedFamilies}
+use Rattle.pg_cells.specs.Inside.linked.ValuedFamilies.{ValuedFamilies}
 use Rattle.pg_cells.specs.declared.store.member.Member.{Member}
 use Rattle.pg_cells.proofs.StringCells.{cell_taken, child_is}
 use Rattle.pg_cells.proofs.families.Placed.child.Goals as goal

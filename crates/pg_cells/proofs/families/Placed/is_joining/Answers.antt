@@ -1,8 +1,8 @@
 use Rattle.std.proofs.Common.{◌≡◌, Some, ap, sym, subst, ◌∙◌, arith}
 use Rattle.pg_types.specs.Placement.{cell_of}
 use Rattle.pg_types.specs.Inside.Placing.{joins_at}
-use Rattle.pg_cells.specs.Inside.Adding.{CanTakeSign}
-use Rattle.pg_cells.specs.Inside.ValuedFamilies.{ValuedFamilies}
+use Rattle.pg_cells.specs.Inside.families.Adding.{CanTakeSign}
+use Rattle.pg_cells.specs.Inside.linked.ValuedFamilies.{ValuedFamilies}
 use Rattle.pg_cells.specs.declared.store.member.Member.{Member}
 use Rattle.pg_cells.proofs.StringCells.{cells_apart, cell_taken}
 use Rattle.pg_cells.proofs.AddTrie.{child_within}

@@ -1,14 +1,14 @@
 use Rattle.std.proofs.Common.{◌≡◌, [], ◌∷◌, map, ap, sym, subst, refl, arith}
 use Rattle.std.specs.List.{range_with_len}
 use Rattle.pg_types.specs.Placement.{root}
-use Rattle.pg_cells.specs.Inside.ValuedFamilies.{Trie, ValuedFamilies}
-use Rattle.pg_cells.specs.Inside.AreValuedFamilies.{AreValuedFamilies}
-use Rattle.pg_cells.specs.Inside.Layouts.{AreKept}
-use Rattle.pg_cells.specs.Inside.OneTrie.{Kept, kept_is_only, held_is_kept}
-use Rattle.pg_cells.specs.Inside.Lists.{lone}
-use Rattle.pg_cells.specs.Inside.Root.{root_held, IsRootTo}
+use Rattle.pg_cells.specs.Inside.linked.ValuedFamilies.{Trie, ValuedFamilies}
+use Rattle.pg_cells.specs.Inside.linked.AreValuedFamilies.{AreValuedFamilies}
+use Rattle.pg_cells.specs.Inside.families.Layouts.{AreKept}
+use Rattle.pg_cells.specs.Inside.families.OneTrie.{Kept, kept_is_only, held_is_kept}
+use Rattle.pg_cells.specs.Inside.store.Lists.{lone}
+use Rattle.pg_cells.specs.Inside.families.Root.{root_held, IsRootTo}
 use Rattle.pg_cells.specs.declared.store.member.Member.{Member}
-use Rattle.pg_cells.specs.Inside.Store.{member_code}
+use Rattle.pg_cells.specs.Inside.store.Store.{member_code}
 use Rattle.pg_cells.proofs.ValuedFamilyLaws.{is_held}
 use Rattle.pg_cells.proofs.RootSteps.{planted_none, planted_extended}
 use Rattle.pg_cells.proofs.RootTrie.{root_trie}

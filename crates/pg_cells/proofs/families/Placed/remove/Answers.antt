@@ -1,10 +1,10 @@
 use Rattle.std.proofs.Common.{sym, subst, arith}
-use Rattle.pg_cells.specs.Inside.ValuedFamilies.{ValuedFamilies}
-use Rattle.pg_cells.specs.Inside.Removing.{CanRemoveSign, RemovesSign}
-use Rattle.pg_cells.specs.Inside.Layouts.{AreKept}
-use Rattle.pg_cells.specs.Inside.OneTrie.{Kept, kept_is_only, held_is_kept}
+use Rattle.pg_cells.specs.Inside.linked.ValuedFamilies.{ValuedFamilies}
+use Rattle.pg_cells.specs.Inside.families.Removing.{CanRemoveSign, RemovesSign}
+use Rattle.pg_cells.specs.Inside.families.Layouts.{AreKept}
+use Rattle.pg_cells.specs.Inside.families.OneTrie.{Kept, kept_is_only, held_is_kept}
 use Rattle.pg_cells.specs.declared.store.member.Member.{Member}
-use Rattle.pg_cells.specs.Inside.Store.{member_code}
+use Rattle.pg_cells.specs.Inside.store.Store.{member_code}
 use Rattle.pg_cells.proofs.StringCells.{cell_taken}
 use Rattle.pg_cells.proofs.GivenMembers.{removed_alone}
 use Rattle.pg_cells.proofs.PlacedSigns.{seen, placed_removed}

@@ -1,12 +1,12 @@
 use Rattle.std.proofs.Common.{◌≡◌, Some, sym, subst}
 use Rattle.std.specs.FinMap.{put}
 use Rattle.pg_types.specs.Placement.{cell_of}
-use Rattle.pg_cells.specs.Inside.ValuedFamilies.{ValuedFamilies}
-use Rattle.pg_cells.specs.Inside.CellValues.{SetsValue}
-use Rattle.pg_cells.specs.Inside.Layouts.{AreKept}
-use Rattle.pg_cells.specs.Inside.OneTrie.{Kept, kept_is_only, held_is_kept}
+use Rattle.pg_cells.specs.Inside.linked.ValuedFamilies.{ValuedFamilies}
+use Rattle.pg_cells.specs.Inside.linked.CellValues.{SetsValue}
+use Rattle.pg_cells.specs.Inside.families.Layouts.{AreKept}
+use Rattle.pg_cells.specs.Inside.families.OneTrie.{Kept, kept_is_only, held_is_kept}
 use Rattle.pg_cells.specs.declared.store.member.Member.{Member}
-use Rattle.pg_cells.specs.Inside.Store.{member_code}
+use Rattle.pg_cells.specs.Inside.store.Store.{member_code}
 use Rattle.pg_cells.proofs.PlacedSigns.{seen, placed_written}
 use Rattle.pg_cells.proofs.StringMaps.{order}
 use Rattle.pg_cells.proofs.StringCells.{cell_taken, value_written}

@@ -1,8 +1,8 @@
 use Rattle.std.proofs.lemmas.Result.{err_from_is_err_and}
 use Rattle.std.proofs.Common.{◌≡◌, ℕ, ◌+◌, ◌≤◌, nat_eq, [], refl, sym, ◌∙◌, subst, arith}
-use Rattle.pg_cells.specs.Inside.Lists.{sign_at, child_at}
-use Rattle.pg_cells.specs.Inside.Members.{ArePassing}
-use Rattle.pg_cells.specs.Inside.Moves.{Collected}
+use Rattle.pg_cells.specs.Inside.store.Lists.{sign_at, child_at}
+use Rattle.pg_cells.specs.Inside.linked.Members.{ArePassing}
+use Rattle.pg_cells.specs.Inside.families.Moves.{Collected}
 use Rattle.pg_cells.proofs.AddTrie.{parent_taken, child_within, moved_near}
 use Rattle.pg_cells.proofs.AddedSlot.{joining_free, joining_trie, joining_cell, moving_can, moving_trie, moving_cell}
 use Rattle.pg_cells.proofs.families.adding.add_slot.Goals as goal

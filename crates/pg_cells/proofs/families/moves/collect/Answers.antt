@@ -1,6 +1,6 @@
 use Rattle.std.proofs.Common.{◌≡◌, length, get_or, ap, sym, subst, arith}
-use Rattle.pg_cells.specs.Inside.Moves.{Collected}
-use Rattle.pg_cells.specs.Inside.Members.{number_before}
+use Rattle.pg_cells.specs.Inside.families.Moves.{Collected}
+use Rattle.pg_cells.specs.Inside.linked.Members.{number_before}
 use Rattle.pg_cells.proofs.Collecting.{number_next, collected_none, collected_next, collected_end, last_within}
 use Rattle.pg_cells.proofs.families.moves.collect.Goals as goal
 

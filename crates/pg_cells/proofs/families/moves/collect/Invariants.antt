@@ -1,7 +1,7 @@
 use Rattle.std.proofs.Common.{◌≡◌, ◌+◌, nat_eq, []}
-use Rattle.pg_cells.specs.Inside.Lists.{sign_at}
-use Rattle.pg_cells.specs.Inside.Members.{ArePassing, number_before}
-use Rattle.pg_cells.specs.Inside.Moves.{Collected}
+use Rattle.pg_cells.specs.Inside.store.Lists.{sign_at}
+use Rattle.pg_cells.specs.Inside.linked.Members.{ArePassing, number_before}
+use Rattle.pg_cells.specs.Inside.families.Moves.{Collected}
 use Rattle.pg_cells.proofs.families.moves.collect.Given as goal
 
 abbrev pub invariant-loop-sign : goal.invariant-loop-sign

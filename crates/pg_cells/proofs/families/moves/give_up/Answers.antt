@@ -1,6 +1,6 @@
 use Rattle.std.proofs.Common.{◌+◌, take, sym, subst, ◌∙◌, arith}
 use Rattle.std.proofs.lemmas.List.{take_all}
-use Rattle.pg_cells.specs.Inside.Moves.{GivesUp}
+use Rattle.pg_cells.specs.Inside.families.Moves.{GivesUp}
 use Rattle.pg_cells.proofs.Slots.{slot_here, outside_here}
 use Rattle.pg_cells.proofs.MoveSteps.{gives_none, gives_more}
 use Rattle.pg_cells.proofs.families.moves.give_up.Goals as goal

@@ -1,5 +1,5 @@
 use Rattle.std.proofs.Common.{take}
-use Rattle.pg_cells.specs.Inside.Moves.{GivesUp}
+use Rattle.pg_cells.specs.Inside.families.Moves.{GivesUp}
 use Rattle.pg_cells.proofs.families.moves.give_up.Given as goal
 
 abbrev pub invariant-loop-held : goal.invariant-loop-held

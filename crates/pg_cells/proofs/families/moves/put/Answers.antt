@@ -1,6 +1,6 @@
 use Rattle.std.proofs.Common.{◌+◌, take, sym, subst, arith}
 use Rattle.std.proofs.lemmas.List.{take_all}
-use Rattle.pg_cells.specs.Inside.Moves.{Puts}
+use Rattle.pg_cells.specs.Inside.families.Moves.{Puts}
 use Rattle.pg_cells.proofs.LinkedLists.{free_kept}
 use Rattle.pg_cells.proofs.Slots.{slot_here, outside_here}
 use Rattle.pg_cells.proofs.MoveSteps.{puts_none, puts_more}

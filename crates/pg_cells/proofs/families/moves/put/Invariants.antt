@@ -1,5 +1,5 @@
 use Rattle.std.proofs.Common.{take}
-use Rattle.pg_cells.specs.Inside.Moves.{Puts}
+use Rattle.pg_cells.specs.Inside.families.Moves.{Puts}
 use Rattle.pg_cells.proofs.families.moves.put.Given as goal
 
 abbrev pub invariant-loop-slot : goal.invariant-loop-slot

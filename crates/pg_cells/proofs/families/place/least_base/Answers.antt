@@ -1,6 +1,6 @@
 use Rattle.std.proofs.Common.{◌<◌, ◌≤◌, ◌≡◌, max, ◌∷◌, length, subst, arith, refl}
 use Rattle.pg_types.specs.Inside.Placing.{IsLeast}
-use Rattle.pg_cells.specs.Inside.Fit.{fits_row, signs_of}
+use Rattle.pg_cells.specs.Inside.store.Fit.{fits_row, signs_of}
 use Rattle.pg_cells.proofs.BlockedLaws.{tried_within, least_tried}
 use Rattle.pg_cells.proofs.BoundLaws.{bound_within, least_from, none_below, no_elements}
 use Rattle.pg_cells.proofs.families.place.least_base.Goals as goal

@@ -1,10 +1,10 @@
 use Rattle.std.proofs.Common.{◌≤◌, ◌∷◌, length, ap, subst, arith}
 use Rattle.pg_types.specs.Inside.Placing.{IsLeast}
 use Rattle.pg_cells.specs.declared.store.member.Member.{Member}
-use Rattle.pg_cells.specs.Inside.Lists.{Row}
-use Rattle.pg_cells.specs.Inside.Fit.{fits_row, signs_of}
-use Rattle.pg_cells.specs.Inside.Writes.{SetsChild}
-use Rattle.pg_cells.specs.Inside.Moves.{Puts}
+use Rattle.pg_cells.specs.Inside.store.Lists.{Row}
+use Rattle.pg_cells.specs.Inside.store.Fit.{fits_row, signs_of}
+use Rattle.pg_cells.specs.Inside.store.Writes.{SetsChild}
+use Rattle.pg_cells.specs.Inside.families.Moves.{Puts}
 use Rattle.pg_cells.proofs.BlockedLaws.{blocked_fits, blocked_after}
 use Rattle.pg_cells.proofs.PlacedRoom.{dropped_size, room_within, slots_within, room_fits, can_put, can_take, parent_stays}
 use Rattle.pg_cells.proofs.families.place.place_family.Goals as goal

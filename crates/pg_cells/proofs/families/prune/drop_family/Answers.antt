@@ -1,5 +1,5 @@
 use Rattle.std.proofs.Common.{◌≡◌, ◌≢◌, [], inl, inr, refl, subst, MatchBool, arith}
-use Rattle.pg_cells.specs.Inside.Layouts.{standing}
+use Rattle.pg_cells.specs.Inside.families.Layouts.{standing}
 use Rattle.pg_cells.proofs.families.prune.drop_family.Goals as goal
 
 pub returns-then-is_empty-clause-prunes : goal.returns-then-is_empty-clause-prunes

@@ -1,4 +1,4 @@
-use Rattle.pg_cells.specs.Inside.Root.{IsRootTo}
+use Rattle.pg_cells.specs.Inside.families.Root.{IsRootTo}
 use Rattle.std.proofs.Common.{◌∙◌, arith, ◌≡◌, ◌+◌, refl, subst}
 use Rattle.pg_cells.proofs.RootSteps.{planted_more, free_here}
 use Rattle.pg_cells.proofs.families.root.take_root.Goals as goal

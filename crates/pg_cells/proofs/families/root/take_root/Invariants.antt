@@ -1,5 +1,5 @@
 use Rattle.std.proofs.Common.{◌≡◌, length}
-use Rattle.pg_cells.specs.Inside.Root.{IsRootTo}
+use Rattle.pg_cells.specs.Inside.families.Root.{IsRootTo}
 use Rattle.pg_cells.proofs.families.root.take_root.Given as goal
 
 abbrev pub invariant-loop-sign : goal.invariant-loop-sign

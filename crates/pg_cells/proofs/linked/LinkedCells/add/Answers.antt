@@ -1,7 +1,7 @@
 use Rattle.std.proofs.Common.{Ok, sym, subst, rules, arith}
-use Rattle.pg_cells.specs.Inside.Adding.{CanTakeSign, AddsSign}
-use Rattle.pg_cells.specs.Inside.ValuedFamilies.{ValuedFamilies}
-use Rattle.pg_cells.specs.Inside.Links.{unlinked}
+use Rattle.pg_cells.specs.Inside.families.Adding.{CanTakeSign, AddsSign}
+use Rattle.pg_cells.specs.Inside.linked.ValuedFamilies.{ValuedFamilies}
+use Rattle.pg_cells.specs.Inside.linked.Links.{unlinked}
 use Rattle.pg_cells.proofs.LinkedSigns.{prefix_added, before_added, links_of_added, linked_added}
 use Rattle.pg_cells.proofs.linked.LinkedCells.add.Goals as goal
 

@@ -1,7 +1,7 @@
 use Rattle.std.proofs.Common.{◌≡◌, Some, sym, subst}
 use Rattle.pg_types.specs.Placement.{cell_of}
-use Rattle.pg_cells.specs.Inside.ValuedFamilies.{ValuedFamilies}
-use Rattle.pg_cells.specs.Inside.Members.{IsNextSign, goes_on}
+use Rattle.pg_cells.specs.Inside.linked.ValuedFamilies.{ValuedFamilies}
+use Rattle.pg_cells.specs.Inside.linked.Members.{IsNextSign, goes_on}
 use Rattle.pg_cells.proofs.GivenMembers.{next_alike}
 use Rattle.pg_cells.proofs.Unlinked.{plain, goes_plain}
 use Rattle.pg_cells.proofs.linked.LinkedCells.first_sign.Goals as goal

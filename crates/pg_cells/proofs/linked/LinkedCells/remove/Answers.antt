@@ -1,8 +1,8 @@
 use Rattle.std.proofs.Common.{◌≡◌, Some, sym, subst, rules, arith}
 use Rattle.pg_types.specs.Placement.{cell_of}
-use Rattle.pg_cells.specs.Inside.ValuedFamilies.{ValuedFamilies}
-use Rattle.pg_cells.specs.Inside.Members.{IsBefore}
-use Rattle.pg_cells.specs.Inside.Removing.{CanRemoveSign}
+use Rattle.pg_cells.specs.Inside.linked.ValuedFamilies.{ValuedFamilies}
+use Rattle.pg_cells.specs.Inside.linked.Members.{IsBefore}
+use Rattle.pg_cells.specs.Inside.families.Removing.{CanRemoveSign}
 use Rattle.pg_cells.proofs.Unlinked.{before_plain}
 use Rattle.pg_cells.proofs.linked.LinkedCells.remove.Goals as goal
 

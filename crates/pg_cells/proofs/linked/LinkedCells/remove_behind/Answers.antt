@@ -1,9 +1,9 @@
 use Rattle.std.proofs.Common.{◌≡◌, Some, sym, subst, rules, MatchBool, inr, arith}
 use Rattle.pg_types.specs.Placement.{cell_of}
-use Rattle.pg_cells.specs.Inside.ValuedFamilies.{ValuedFamilies}
-use Rattle.pg_cells.specs.Inside.Links.{unlinked}
-use Rattle.pg_cells.specs.Inside.Members.{IsAlone, HasOther}
-use Rattle.pg_cells.specs.Inside.Removing.{CanRemoveSign, RemovesSign}
+use Rattle.pg_cells.specs.Inside.linked.ValuedFamilies.{ValuedFamilies}
+use Rattle.pg_cells.specs.Inside.linked.Links.{unlinked}
+use Rattle.pg_cells.specs.Inside.linked.Members.{IsAlone, HasOther}
+use Rattle.pg_cells.specs.Inside.families.Removing.{CanRemoveSign, RemovesSign}
 use Rattle.pg_cells.proofs.LinkLaws.{cell_goes}
 use Rattle.pg_cells.proofs.LinkedSigns.{prefix_left, before_left, links_of_left, linked_removed}
 use Rattle.pg_cells.proofs.SteppedLinks.{alone_told}

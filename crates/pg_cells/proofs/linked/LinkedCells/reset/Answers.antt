@@ -1,7 +1,7 @@
 use Rattle.std.proofs.Common.{ap, ◌∙◌}
 use Rattle.pg_cells.specs.declared.store.member.Member.{Member}
-use Rattle.pg_cells.specs.Inside.ValuedFamilies.{ValuedFamilies}
-use Rattle.pg_cells.specs.Inside.Root.{root_held}
+use Rattle.pg_cells.specs.Inside.linked.ValuedFamilies.{ValuedFamilies}
+use Rattle.pg_cells.specs.Inside.families.Root.{root_held}
 use Rattle.pg_cells.proofs.RootLinks.{root_links, root_seen}
 use Rattle.pg_cells.proofs.Unlinked.{held_unlinked}
 use Rattle.pg_cells.proofs.linked.LinkedCells.reset.Goals as goal

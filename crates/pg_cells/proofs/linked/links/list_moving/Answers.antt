@@ -1,5 +1,5 @@
 use Rattle.std.proofs.Common.{◌≡◌, true, false, length, ap, sym, ◌∙◌, arith}
-use Rattle.pg_cells.specs.Inside.Members.{goes_on, has_sign}
+use Rattle.pg_cells.specs.Inside.linked.Members.{goes_on, has_sign}
 use Rattle.pg_cells.proofs.GivenMembers.{passing_alike}
 use Rattle.pg_cells.proofs.LinkLaws.{goes_has}
 use Rattle.pg_cells.proofs.linked.links.list_moving.Goals as goal

@@ -1,5 +1,5 @@
 use Rattle.std.proofs.Common.{ℕ, ◌<◌, List, length, get_or, ap, sym, subst, ◌∙◌, arith, inl, inr, refl}
-use Rattle.pg_cells.specs.Inside.Members.{IsNext, goes_on, number_before}
+use Rattle.pg_cells.specs.Inside.linked.Members.{IsNext, goes_on, number_before}
 use Rattle.pg_cells.proofs.LinkLaws.{passing_more, last_of_more}
 use Rattle.pg_cells.proofs.linked.links.list_signs.Goals as goal
 

@@ -1,6 +1,6 @@
 use Rattle.std.proofs.Common.{◌≡◌, ℕ, ◌-◌, ◌<◌, List, length, get_or, Some}
 use Rattle.pg_types.specs.Placement.{cell_of}
-use Rattle.pg_cells.specs.Inside.Members.{IsNext, IsNextSign, goes_on, number_before}
+use Rattle.pg_cells.specs.Inside.linked.Members.{IsNext, IsNextSign, goes_on, number_before}
 use Rattle.pg_cells.proofs.linked.links.list_signs.Given as goal
 
 abbrev pub invariant-loop-next : goal.invariant-loop-next

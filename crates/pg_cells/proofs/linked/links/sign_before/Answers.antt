@@ -1,6 +1,6 @@
 use Rattle.std.proofs.Common.{◌≡◌, cond, nat_eq, None, Some, inl, inr, refl, subst, arith}
 use Rattle.pg_types.specs.Placement.{base_of}
-use Rattle.pg_cells.specs.Inside.Members.{goes_on}
+use Rattle.pg_cells.specs.Inside.linked.Members.{goes_on}
 use Rattle.pg_cells.proofs.LinkLaws.{none_between, none_down, below_most}
 use Rattle.pg_cells.proofs.linked.links.sign_before.Goals as goal
 

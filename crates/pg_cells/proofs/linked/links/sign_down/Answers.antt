@@ -1,6 +1,6 @@
 use Rattle.std.proofs.Common.{inl, inr, ap, sym, ◌∙◌, arith}
 use Rattle.std.proofs.lemmas.Bool.{cases_eq}
-use Rattle.pg_cells.specs.Inside.Members.{goes_on}
+use Rattle.pg_cells.specs.Inside.linked.Members.{goes_on}
 use Rattle.pg_cells.proofs.linked.links.sign_down.Goals as goal
 
 pub down-preserved : goal.down-preserved

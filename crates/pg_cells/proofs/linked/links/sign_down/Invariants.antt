@@ -1,6 +1,6 @@
 use Rattle.std.proofs.Common.{◌≡◌, ℕ, ◌<◌, ◌≤◌, false, cond, nat_eq, List, None, Some}
 use Rattle.pg_types.specs.Placement.{base_of}
-use Rattle.pg_cells.specs.Inside.Members.{goes_on}
+use Rattle.pg_cells.specs.Inside.linked.Members.{goes_on}
 use Rattle.pg_cells.proofs.linked.links.sign_down.Given as goal
 
 abbrev pub invariant-down : goal.invariant-down

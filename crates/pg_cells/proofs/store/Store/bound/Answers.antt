@@ -1,5 +1,5 @@
 use Rattle.std.proofs.Common.{subst}
-use Rattle.pg_cells.specs.Inside.Bounds.{IsBelow, NoneFree}
+use Rattle.pg_cells.specs.Inside.store.Bounds.{IsBelow, NoneFree}
 use Rattle.pg_cells.proofs.store.Store.bound.Goals as goal
 
 pub returns : goal.returns

@@ -1,8 +1,8 @@
 use Rattle.std.proofs.Common.{◌≡◌, ◌≤◌, ◌-◌, ◌∙◌, ap, sym, subst, length, map, arith}
 use Rattle.std.proofs.lemmas.List.{length-map}
 use Rattle.pg_cells.specs.declared.store.member.Member.{Member}
-use Rattle.pg_cells.specs.Inside.Lists.{Row, lists}
-use Rattle.pg_cells.specs.Inside.FreeList.{IsFreeTo}
+use Rattle.pg_cells.specs.Inside.store.Lists.{Row, lists}
+use Rattle.pg_cells.specs.Inside.store.FreeList.{IsFreeTo}
 use Rattle.pg_cells.proofs.AllFree.{cut_long, free_store, free_root}
 use Rattle.pg_cells.proofs.RowWrites.{is_row}
 use Rattle.pg_cells.proofs.StoreSteps.{given_back}

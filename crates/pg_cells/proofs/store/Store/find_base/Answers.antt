@@ -2,9 +2,9 @@ use Rattle.std.proofs.Common.{◌≡◌, ◌+◌, ◌<◌, ◌^◌, ◌∷◌, L
 use Rattle.pg_types.specs.Inside.Placing.{IsLeast}
 use Rattle.pg_cells.specs.declared.store.cell.Cell.{Cell}
 use Rattle.pg_cells.specs.declared.store.member.Member.{Member}
-use Rattle.pg_cells.specs.Inside.Lists.{Row, lists, row_of}
-use Rattle.pg_cells.specs.Inside.FreeList.{AreLinked}
-use Rattle.pg_cells.specs.Inside.Fit.{fits_row, signs_of}
+use Rattle.pg_cells.specs.Inside.store.Lists.{Row, lists, row_of}
+use Rattle.pg_cells.specs.Inside.store.FreeList.{AreLinked}
+use Rattle.pg_cells.specs.Inside.store.Fit.{fits_row, signs_of}
 use Rattle.pg_cells.proofs.ChainSteps.{signs_long}
 use Rattle.pg_cells.proofs.store.Store.find_base.Goals as goal
 

@@ -2,12 +2,12 @@ use Rattle.std.proofs.Common.{◌≡◌, ◌≢◌, ◌<◌, ◌≤◌, ◌^◌,
 use Rattle.std.proofs.lemmas.List.{length-map}
 use Rattle.pg_cells.specs.declared.store.cell.Cell.{Cell}
 use Rattle.pg_cells.specs.declared.store.member.Member.{Member}
-use Rattle.pg_cells.specs.Inside.FreeList.{AreLinked}
-use Rattle.pg_cells.specs.Inside.Lists.{Row, lists, row_of, sign_at, with_free}
+use Rattle.pg_cells.specs.Inside.store.FreeList.{AreLinked}
+use Rattle.pg_cells.specs.Inside.store.Lists.{Row, lists, row_of, sign_at, with_free}
 use Rattle.pg_cells.proofs.LinkedLists.{taken_within}
 use Rattle.pg_cells.proofs.ChainSteps.{signs_long}
-use Rattle.pg_cells.specs.Inside.Store.{IsRow}
-use Rattle.pg_cells.specs.Inside.Writes.{Frees}
+use Rattle.pg_cells.specs.Inside.store.Store.{IsRow}
+use Rattle.pg_cells.specs.Inside.store.Writes.{Frees}
 use Rattle.pg_cells.proofs.RowWrites.{is_row, row_frees}
 use Rattle.pg_cells.proofs.BlockedLaws.{blocked_none}
 use Rattle.pg_cells.proofs.BoundLaws.{bounds_free}

@@ -1,7 +1,7 @@
 use Rattle.std.proofs.Common.{◌≤◌, subst, sym}
 use Rattle.std.proofs.lemmas.Result.{on_ok_weaker}
-use Rattle.pg_cells.specs.Inside.Lists.{row_of}
-use Rattle.pg_cells.specs.Inside.Store.{Extends}
+use Rattle.pg_cells.specs.Inside.store.Lists.{row_of}
+use Rattle.pg_cells.specs.Inside.store.Store.{Extends}
 use Rattle.pg_cells.proofs.ChainSteps.{signs_long}
 use Rattle.pg_cells.proofs.RowWrites.{is_row}
 use Rattle.pg_cells.proofs.BlockedLaws.{blocked_grow}

@@ -1,7 +1,7 @@
 use Rattle.std.proofs.Common.{◌≡◌, ◌≤◌, ◌^◌, [], ◌∷◌, List, length, sym, ap, subst, arith, rules}
 use Rattle.pg_cells.specs.declared.store.cell.Cell.{Cell}
-use Rattle.pg_cells.specs.Inside.Lists.{row_of}
-use Rattle.pg_cells.specs.Inside.Store.{IsStore}
+use Rattle.pg_cells.specs.Inside.store.Lists.{row_of}
+use Rattle.pg_cells.specs.Inside.store.Store.{IsStore}
 use Rattle.pg_cells.proofs.LoneStore.{free_cell, lone_store}
 use Rattle.pg_cells.proofs.store.Store.new.Goals as goal
 

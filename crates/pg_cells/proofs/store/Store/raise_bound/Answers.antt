@@ -1,7 +1,7 @@
 use Rattle.std.proofs.Common.{◌≡◌, ◌<◌, ◌≤◌, ◌^◌, ℕ, List, length, sym, subst, arith}
 use Rattle.std.proofs.lemmas.List.{length-map}
-use Rattle.pg_cells.specs.Inside.Lists.{Row, row_of}
-use Rattle.pg_cells.specs.Inside.Bounds.{IsBelow, NoneFree}
+use Rattle.pg_cells.specs.Inside.store.Lists.{Row, row_of}
+use Rattle.pg_cells.specs.Inside.store.Bounds.{IsBelow, NoneFree}
 use Rattle.pg_cells.specs.declared.store.member.Member.{Member}
 use Rattle.pg_cells.proofs.BoundLaws.{bounds_raise}
 use Rattle.pg_cells.proofs.StoreSteps.{given_back}

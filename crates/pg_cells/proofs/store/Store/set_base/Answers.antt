@@ -1,10 +1,10 @@
 use Rattle.std.proofs.Common.{◌≡◌, refl, ap, sym, subst, ◌∙◌, ◌<◌, length, arith, take, drop, ◌++◌, List}
 use Rattle.pg_cells.specs.declared.store.cell.Cell.{Cell}
-use Rattle.pg_cells.specs.Inside.Lists.{lists, with_base}
-use Rattle.pg_cells.specs.Inside.Lists.{Lists, Row, row_of}
-use Rattle.pg_cells.specs.Inside.Blocked.{AreBlocked}
-use Rattle.pg_cells.specs.Inside.Store.{IsRow}
-use Rattle.pg_cells.specs.Inside.Writes.{SetsBase}
+use Rattle.pg_cells.specs.Inside.store.Lists.{lists, with_base}
+use Rattle.pg_cells.specs.Inside.store.Lists.{Lists, Row, row_of}
+use Rattle.pg_cells.specs.Inside.store.Blocked.{AreBlocked}
+use Rattle.pg_cells.specs.Inside.store.Store.{IsRow}
+use Rattle.pg_cells.specs.Inside.store.Writes.{SetsBase}
 use Rattle.pg_cells.specs.declared.store.member.Member.{Member}
 use Rattle.pg_cells.proofs.ChainSteps.{signs_long}
 use Rattle.pg_cells.proofs.RowWrites.{is_row, row_base}

@@ -1,8 +1,8 @@
 use Rattle.std.proofs.Common.{◌≡◌, sym, ap, subst, ◌∙◌, length, arith, set, take, drop, ◌++◌, List}
 use Rattle.pg_cells.specs.declared.store.cell.Cell.{Cell}
-use Rattle.pg_cells.specs.Inside.Lists.{Lists, lists, row_of, pair_of, sign_at, with_value}
-use Rattle.pg_cells.specs.Inside.Store.{IsRow}
-use Rattle.pg_cells.specs.Inside.Writes.{SetsValue}
+use Rattle.pg_cells.specs.Inside.store.Lists.{Lists, lists, row_of, pair_of, sign_at, with_value}
+use Rattle.pg_cells.specs.Inside.store.Store.{IsRow}
+use Rattle.pg_cells.specs.Inside.store.Writes.{SetsValue}
 use Rattle.pg_cells.specs.declared.store.member.Member.{Member}
 use Rattle.pg_cells.proofs.ChainSteps.{taken_in_row}
 use Rattle.pg_cells.proofs.RowWrites.{is_row, row_value}

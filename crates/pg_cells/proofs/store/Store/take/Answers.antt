@@ -2,12 +2,12 @@ use Rattle.std.proofs.Common.{◌≡◌, ◌<◌, ◌^◌, List, sym, ap, subst,
 use Rattle.std.proofs.lemmas.List.{length-map}
 use Rattle.pg_cells.specs.declared.store.cell.Cell.{Cell}
 use Rattle.pg_cells.specs.declared.store.member.Member.{Member}
-use Rattle.pg_cells.specs.Inside.FreeList.{AreLinked}
-use Rattle.pg_cells.specs.Inside.Lists.{Row, lists, row_of, IsFree, with_taken}
+use Rattle.pg_cells.specs.Inside.store.FreeList.{AreLinked}
+use Rattle.pg_cells.specs.Inside.store.Lists.{Row, lists, row_of, IsFree, with_taken}
 use Rattle.pg_cells.proofs.LinkedLists.{free_within}
 use Rattle.pg_cells.proofs.ChainSteps.{free_in, child_fits}
-use Rattle.pg_cells.specs.Inside.Store.{IsRow}
-use Rattle.pg_cells.specs.Inside.Writes.{Takes}
+use Rattle.pg_cells.specs.Inside.store.Store.{IsRow}
+use Rattle.pg_cells.specs.Inside.store.Writes.{Takes}
 use Rattle.pg_cells.proofs.RowWrites.{is_row, row_takes}
 use Rattle.pg_cells.proofs.BlockedLaws.{blocked_take, free_sign}
 use Rattle.pg_cells.proofs.BoundLaws.{bounds_take}

@@ -1,5 +1,5 @@
 use Rattle.std.proofs.Common.{◌≡◌, ℕ, ◌<◌, ◌≤◌, get_or}
-use Rattle.pg_cells.specs.Inside.Bounds.{IsBelow}
+use Rattle.pg_cells.specs.Inside.store.Bounds.{IsBelow}
 use Rattle.pg_cells.proofs.store.bounds.lower.Given as goal
 
 abbrev pub invariant-loop-sign : goal.invariant-loop-sign

@@ -1,8 +1,8 @@
 use Rattle.std.proofs.Common.{◌≡◌, ◌+◌, ◌<◌, ◌-◌, ◌∙◌, ap, sym, subst, refl, length, false, arith}
 use Rattle.std.proofs.lemmas.List.{length-map}
-use Rattle.pg_cells.specs.Inside.Lists.{Lists, lists, with_base}
+use Rattle.pg_cells.specs.Inside.store.Lists.{Lists, lists, with_base}
 use Rattle.pg_cells.specs.declared.store.member.Member.{Member}
-use Rattle.pg_cells.specs.Inside.FreeList.{IsFreeTo}
+use Rattle.pg_cells.specs.Inside.store.FreeList.{IsFreeTo}
 use Rattle.pg_cells.proofs.AllFree.{lists_cleared, free_to_none, free_to_more, free_linked}
 use Rattle.pg_cells.proofs.store.chain.free_all.Goals as goal
 

@@ -1,6 +1,6 @@
 use Rattle.std.proofs.Common.{◌≡◌, ◌-◌, length}
-use Rattle.pg_cells.specs.Inside.Lists.{lists}
-use Rattle.pg_cells.specs.Inside.FreeList.{IsFreeTo}
+use Rattle.pg_cells.specs.Inside.store.Lists.{lists}
+use Rattle.pg_cells.specs.Inside.store.FreeList.{IsFreeTo}
 use Rattle.pg_cells.proofs.store.chain.free_all.Given as goal
 
 abbrev pub invariant-loop-cell : goal.invariant-loop-cell

@@ -1,7 +1,7 @@
 use Rattle.std.proofs.Common.{◌≡◌, ◌+◌, ◌-◌, ◌<◌, ◌≤◌, ◌∙◌, ◌∷◌, ap, refl, length, true, false, rules, arith}
 use Rattle.std.proofs.lemmas.List.{length-map, get_or_default}
-use Rattle.pg_cells.specs.Inside.Lists.{lists, sign_at}
-use Rattle.pg_cells.specs.Inside.Fit.{signs_of, fits_row}
+use Rattle.pg_cells.specs.Inside.store.Lists.{lists, sign_at}
+use Rattle.pg_cells.specs.Inside.store.Fit.{signs_of, fits_row}
 use Rattle.pg_cells.proofs.LinkedLists.{free_within}
 use Rattle.pg_cells.proofs.FitSteps.{fit_free, sought_first, sought_next, nearer, sought_least, fits_one_more}
 use Rattle.pg_cells.proofs.store.fit.find_base.Goals as goal

@@ -1,6 +1,6 @@
 use Rattle.std.proofs.Common.{◌≡◌, ℕ, ◌+◌, ◌<◌, ◌≤◌, ◌-◌, ◌∷◌, false}
-use Rattle.pg_cells.specs.Inside.Lists.{lists, IsFree}
-use Rattle.pg_cells.specs.Inside.Fit.{signs_of, fits_row}
+use Rattle.pg_cells.specs.Inside.store.Lists.{lists, IsFree}
+use Rattle.pg_cells.specs.Inside.store.Fit.{signs_of, fits_row}
 use Rattle.pg_cells.proofs.store.fit.find_base.Given as goal
 
 abbrev pub invariant-loop-at : goal.invariant-loop-at

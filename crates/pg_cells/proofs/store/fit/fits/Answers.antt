@@ -4,8 +4,8 @@ use Rattle.std.proofs.Common.{◌≡◌, ◌+◌, ◌<◌, nat_eq, length, get_o
 use Rattle.std.proofs.lemmas.List.{get_or-map, length-map, take_all}
 use Rattle.std.proofs.lemmas.Bool.{ne_eqb, eq-eqb}
 use Rattle.pg_cells.specs.declared.store.fit.Slot.{Slot}
-use Rattle.pg_cells.specs.Inside.Lists.{lists, sign_at}
-use Rattle.pg_cells.specs.Inside.Fit.{signs_of}
+use Rattle.pg_cells.specs.Inside.store.Lists.{lists, sign_at}
+use Rattle.pg_cells.specs.Inside.store.Fit.{signs_of}
 use Rattle.pg_cells.specs.declared.store.member.Member.{Member}
 use Rattle.pg_cells.proofs.FitSteps.{all_more, all_fails, misfit}
 use Rattle.pg_cells.proofs.store.fit.fits.Goals as goal

@@ -1,7 +1,7 @@
 use Rattle.std.proofs.Common.{◌≡◌, ◌+◌, true, nat_eq, take}
 use Rattle.std.specs.List.{list_all}
-use Rattle.pg_cells.specs.Inside.Lists.{lists, sign_at}
-use Rattle.pg_cells.specs.Inside.Fit.{signs_of}
+use Rattle.pg_cells.specs.Inside.store.Lists.{lists, sign_at}
+use Rattle.pg_cells.specs.Inside.store.Fit.{signs_of}
 use Rattle.pg_cells.proofs.store.fit.fits.Given as goal
 
 abbrev pub invariant-loop-slot : goal.invariant-loop-slot

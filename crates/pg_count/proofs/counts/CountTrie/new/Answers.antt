@@ -2,7 +2,7 @@ use Rattle.std.proofs.Common.{Option, [], refl, ap, sym, subst, ◌∙◌, arith
 use Rattle.pg_count.specs.Inside.Counting.{Tally, counting_of}
 use Rattle.pg_count.specs.Inside.Leaves.{AreCounting}
 use Rattle.pg_count.specs.Inside.Listed.{Listed}
-use Rattle.pg_cells.specs.Inside.ValuedFamilies.{ValuedFamilies}
+use Rattle.pg_cells.specs.Inside.linked.ValuedFamilies.{ValuedFamilies}
 use Rattle.pg_count.proofs.CellLaws.Beginning.{begun, begun_kept, root_none, root_short}
 use Rattle.pg_count.proofs.counts.CountTrie.new.Goals as goal
 

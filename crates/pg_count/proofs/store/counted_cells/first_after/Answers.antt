@@ -4,7 +4,7 @@ use Rattle.std.specs.List.{range_with_len}
 use Rattle.pg_cells.proofs.StringMaps.{order}
 use Rattle.pg_count.specs.declared.store.tally_list.TheConstants.{NO_TALLY}
 use Rattle.pg_count.proofs.CellLaws.Mapped.{root_strings}
-use Rattle.pg_cells.specs.Inside.ValuedFamilies.{ValuedFamilies}
+use Rattle.pg_cells.specs.Inside.linked.ValuedFamilies.{ValuedFamilies}
 use Rattle.pg_count.proofs.CellLaws.Numbering.{root_past}
 use Rattle.pg_count.proofs.store.counted_cells.first_after.Goals as goal
 

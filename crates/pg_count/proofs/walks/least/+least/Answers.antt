@@ -1,6 +1,6 @@
 use Rattle.std.proofs.Common.{◌≡◌, ℕ, ◌-◌, inl, inr, List, [], ◌∷◌, ◌++◌, Some, None, sym, subst, ◌∙◌, arith}
 use Rattle.pg_types.specs.Placement.{base_of, cell_of}
-use Rattle.pg_cells.specs.Inside.Members.{IsNextSign}
+use Rattle.pg_cells.specs.Inside.linked.Members.{IsNextSign}
 use Rattle.pg_cells.proofs.LinkLaws.{goes_cell}
 use Rattle.pg_count.specs.Inside.Least.{IsToldBy}
 use Rattle.pg_count.proofs.WalkLaws.Searching.{first_some, none_from, none_next, told_more, up_none, up_found}

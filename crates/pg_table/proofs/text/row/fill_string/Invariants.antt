@@ -1,5 +1,5 @@
 use Rattle.std.proofs.Common.{ℕ, List, take}
-use Rattle.pg_cells.specs.Inside.Walks.{IsAt}
+use Rattle.pg_cells.specs.Inside.linked.Walks.{IsAt}
 use Rattle.pg_table.specs.Inside.text.Rows.{HasHeads, IsRow, Fills}
 use Rattle.pg_table.proofs.text.row.fill_string.Given as goal
 

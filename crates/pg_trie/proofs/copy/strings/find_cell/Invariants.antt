@@ -1,5 +1,5 @@
 use Rattle.std.proofs.Common.{take}
-use Rattle.pg_cells.specs.Inside.Walks.{IsAt}
+use Rattle.pg_cells.specs.Inside.linked.Walks.{IsAt}
 use Rattle.pg_trie.proofs.copy.strings.find_cell.Given as goal
 
 abbrev pub invariant-loop-s : goal.invariant-loop-s

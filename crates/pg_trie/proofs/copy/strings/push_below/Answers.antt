@@ -1,5 +1,5 @@
 use Rattle.std.proofs.Common.{◌≡◌, ℕ, ◌+◌, List, [], ◌∷◌, ◌++◌, Some, slice_get, sym, ap, ◌∙◌, subst, lit<}
-use Rattle.pg_cells.specs.Inside.Walks.{EndsBefore}
+use Rattle.pg_cells.specs.Inside.linked.Walks.{EndsBefore}
 use Rattle.pg_trie.specs.Inside.Strings.{PutsBelow}
 use Rattle.pg_trie.proofs.TrieLaws.Listing.{puts_nothing, get_index, on_ok}
 use Rattle.pg_trie.proofs.copy.strings.push_below.Goals as goal

@@ -1,7 +1,7 @@
 use Rattle.std.proofs.Common.{◌≡◌, ℕ, List, [], ◌∷◌, ◌++◌, Some, None, sym, subst, ◌∙◌, arith, rules, lit<}
 use Rattle.std.proofs.lemmas.List.{length_push}
 use Rattle.pg_types.specs.Placement.{cell_of}
-use Rattle.pg_cells.specs.Inside.Members.{IsBefore}
+use Rattle.pg_cells.specs.Inside.linked.Members.{IsBefore}
 use Rattle.pg_cells.proofs.LinkLaws.{goes_cell}
 use Rattle.pg_trie.proofs.DeletingLaws.Pruning.{not_below, above_longer, to_start, to_step, next_goes, before_first, before_stays, next_before, sign_falls}
 use Rattle.pg_trie.proofs.deleting.prune.+prune_below.Goals as goal

@@ -1,5 +1,5 @@
 use Rattle.std.proofs.Common.{ap, ◌∙◌}
-use Rattle.pg_cells.specs.Inside.Root.{root_held}
+use Rattle.pg_cells.specs.Inside.families.Root.{root_held}
 use Rattle.pg_trie.proofs.TrieLaws.Rooted.{root_trie, root_view}
 use Rattle.pg_trie.proofs.trie.PatternTrie.new.Goals as goal
 

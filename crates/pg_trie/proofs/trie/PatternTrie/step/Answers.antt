@@ -1,5 +1,5 @@
 use Rattle.std.proofs.Common.{◌≡◌, [], ◌∷◌, ◌++◌, sym, subst}
-use Rattle.pg_cells.specs.Inside.Walks.{IsAt}
+use Rattle.pg_cells.specs.Inside.linked.Walks.{IsAt}
 use Rattle.pg_trie.specs.Inside.Lists.{outputs_at}
 use Rattle.pg_trie.specs.Inside.Maps.{Maps}
 use Rattle.pg_trie.proofs.TrieLaws.Listed.{none_is}

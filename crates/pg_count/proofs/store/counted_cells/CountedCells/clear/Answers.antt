@@ -4,7 +4,7 @@ use Rattle.pg_count.specs.Inside.Leaves.{AreShort}
 use Rattle.pg_count.specs.Inside.CellNumbers.{tally_by_number}
 use Rattle.pg_count.proofs.CellLaws.Mapped.{found_mapped, unmapped}
 use Rattle.pg_count.specs.Inside.Counting.{Tally}
-use Rattle.pg_cells.specs.Inside.ValuedFamilies.{ValuedFamilies}
+use Rattle.pg_cells.specs.Inside.linked.ValuedFamilies.{ValuedFamilies}
 use Rattle.pg_count.proofs.CellLaws.Numbering.{held_tallied, cleared_kept, none_counted}
 use Rattle.pg_count.proofs.store.counted_cells.CountedCells.clear.Goals as goal
 

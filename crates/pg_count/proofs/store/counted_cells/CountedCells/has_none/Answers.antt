@@ -1,6 +1,6 @@
 use Rattle.std.proofs.Common.{◌≡◌, [], Option, length, ap, sym, ◌∙◌, subst, arith}
 use Rattle.std.proofs.lemmas.List.{nil_from_length}
-use Rattle.pg_cells.specs.Inside.ValuedFamilies.{ValuedFamilies}
+use Rattle.pg_cells.specs.Inside.linked.ValuedFamilies.{ValuedFamilies}
 use Rattle.pg_count.specs.Inside.Counting.{counts_in, Tally, sums_seen, number_seen}
 use Rattle.pg_count.specs.Inside.CellNumbers.{tallied_families}
 use Rattle.pg_count.proofs.CellLaws.Counted.{none_seen}

@@ -1,7 +1,7 @@
 use Rattle.std.proofs.Common.{◌≡◌, ◌<◌, Option, Some, sym, subst, length}
 use Rattle.std.specs.FinMap.{find}
 use Rattle.std.proofs.lemmas.Option.{slice_get_within}
-use Rattle.pg_cells.specs.Inside.ValuedFamilies.{ValuedFamilies}
+use Rattle.pg_cells.specs.Inside.linked.ValuedFamilies.{ValuedFamilies}
 use Rattle.pg_cells.proofs.StringMaps.{order}
 use Rattle.pg_count.specs.Inside.Counting.{Tally}
 use Rattle.pg_count.proofs.CellLaws.Numbering.{in_cell}

@@ -1,13 +1,13 @@
 -- What a family's cells leave when they are collected, given up and put at another base.
 use Rattle.std.specs.Prelude.{◌≡◌, ◌≢◌, ℕ, ◌+◌, ◌<◌, ◌≤◌, ◌⊎◌, max, true, false, List, [], ◌∷◌, ◌++◌, length, take, get_or, slice_get, None, Some}
 use Rattle.pg_cells.specs.declared.store.fit.Slot.{Slot}
-use Rattle.pg_cells.specs.Inside.Lists.{Row, sign_at, child_at, base_at}
+use Rattle.pg_cells.specs.Inside.store.Lists.{Row, sign_at, child_at, base_at}
 use Rattle.pg_types.specs.Inside.Placing.{IsLeast}
-use Rattle.pg_cells.specs.Inside.Store.{taken_in, IsTop}
-use Rattle.pg_cells.specs.Inside.Searches.{search_start}
-use Rattle.pg_cells.specs.Inside.Writes.{Takes, SetsBase, SetsChild}
-use Rattle.pg_cells.specs.Inside.Fit.{signs_of, slot_of, fits_row}
-use Rattle.pg_cells.specs.Inside.Layouts.{standing}
+use Rattle.pg_cells.specs.Inside.store.Store.{taken_in, IsTop}
+use Rattle.pg_cells.specs.Inside.families.Searches.{search_start}
+use Rattle.pg_cells.specs.Inside.store.Writes.{Takes, SetsBase, SetsChild}
+use Rattle.pg_cells.specs.Inside.store.Fit.{signs_of, slot_of, fits_row}
+use Rattle.pg_cells.specs.Inside.families.Layouts.{standing}
 
 module _ {V : Type 0} where
   -- no two slots have one sign

@@ -2,7 +2,7 @@
 use Rattle.std.specs.Prelude.{ℕ, ◌+◌, Bool, not, ◌&&◌, nat_eq, List, map, Option}
 use Rattle.std.specs.List.{list_all, find}
 use Rattle.pg_cells.specs.declared.store.fit.Slot.{Slot}
-use Rattle.pg_cells.specs.Inside.Lists.{Row, sign_at, base_at}
+use Rattle.pg_cells.specs.Inside.store.Lists.{Row, sign_at, base_at}
 
 -- the signs of slots, in their order
 abbrev pub signs_of : {V : Type 0} → List (Slot V) → List ℕ

@@ -1,7 +1,7 @@
 -- What a write of one cell changes of the row.
 use Rattle.std.specs.Prelude.{◌≡◌, ◌≢◌, ℕ, ◌+◌, Bool, length, slice_get, Some}
-use Rattle.pg_cells.specs.Inside.Lists.{Row, sign_at, child_at, base_at}
-use Rattle.pg_cells.specs.Inside.Store.{taken_in}
+use Rattle.pg_cells.specs.Inside.store.Lists.{Row, sign_at, child_at, base_at}
+use Rattle.pg_cells.specs.Inside.store.Store.{taken_in}
 
 module _ {V : Type 0} where
   -- all cells but one, and all flags, are as before

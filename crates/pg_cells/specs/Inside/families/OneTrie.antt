@@ -11,9 +11,9 @@ use Rattle.std.specs.List.{range_with_len}
 use Rattle.std.specs.Coded.{Coded, Coded-set}
 use mathlib.Core.HLevel.{Σ_prop_path}
 use Rattle.pg_types.specs.Placement.{Family, family_at, cell_of}
-use Rattle.pg_cells.specs.Inside.Lists.{Row, child_at}
-use Rattle.pg_cells.specs.Inside.ValuedFamilies.{Trie, trie_code}
-use Rattle.pg_cells.specs.Inside.Layouts.{IsLayout, IsTrie, standing, value_in}
+use Rattle.pg_cells.specs.Inside.store.Lists.{Row, child_at}
+use Rattle.pg_cells.specs.Inside.linked.ValuedFamilies.{Trie, trie_code}
+use Rattle.pg_cells.specs.Inside.families.Layouts.{IsLayout, IsTrie, standing, value_in}
 
 -- a string has a last sign, and a front before it
 pub record HasLast (p : List ℕ) : Type 0 where

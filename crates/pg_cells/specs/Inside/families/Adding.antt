@@ -5,12 +5,12 @@ use Rattle.std.specs.Cmp.Lexicographic.{slice_cmp}
 use Rattle.std.specs.FinMap.{put}
 use Rattle.pg_types.specs.Placement.{Families, cell_of, with_sign}
 use Rattle.pg_types.specs.Inside.Placing.{joins_at}
-use Rattle.pg_cells.specs.Inside.Searches.{search_start}
-use Rattle.pg_cells.specs.Inside.ValuedFamilies.{Trie, ValuedFamilies}
-use Rattle.pg_cells.specs.Inside.AreValuedFamilies.{AreValuedFamilies}
-use Rattle.pg_cells.specs.Inside.Lists.{Row}
-use Rattle.pg_cells.specs.Inside.Layouts.{IsTrie}
-use Rattle.pg_cells.specs.Inside.Members.{ArePassing, has_sign}
+use Rattle.pg_cells.specs.Inside.families.Searches.{search_start}
+use Rattle.pg_cells.specs.Inside.linked.ValuedFamilies.{Trie, ValuedFamilies}
+use Rattle.pg_cells.specs.Inside.linked.AreValuedFamilies.{AreValuedFamilies}
+use Rattle.pg_cells.specs.Inside.store.Lists.{Row}
+use Rattle.pg_cells.specs.Inside.families.Layouts.{IsTrie}
+use Rattle.pg_cells.specs.Inside.linked.Members.{ArePassing, has_sign}
 
 -- a string has the cell `parent`, and s is a sign of the table that can be added below it
 pub record CanTakeSign (signs : ℕ) (fs : Families) (parent s : ℕ) : Type 0 where

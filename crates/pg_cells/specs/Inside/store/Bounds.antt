@@ -1,6 +1,6 @@
 -- Bounds by sign below which no base is free.
 use Rattle.std.specs.Prelude.{◌≡◌, ◌≢◌, ℕ, ◌+◌, ◌<◌, false, List, get_or}
-use Rattle.pg_cells.specs.Inside.Lists.{Row, sign_at, base_at}
+use Rattle.pg_cells.specs.Inside.store.Lists.{Row, sign_at, base_at}
 
 -- the base is below the bound of the sign and what was given up, and so is its cell of the sign
 pub record IsBelow (lows : List ℕ) (freed dropped sign base : ℕ) : Type 0 where

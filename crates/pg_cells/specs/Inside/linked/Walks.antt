@@ -4,8 +4,8 @@ use Rattle.std.specs.Ordering.{nat_cmp}
 use Rattle.std.specs.Cmp.Lexicographic.{slice_cmp}
 use Rattle.std.specs.FinMap.{find, put}
 use Rattle.pg_types.specs.Placement.{Families, cell_of, with_sign, enter_by, enter_after}
-use Rattle.pg_cells.specs.Inside.Searches.{search_start}
-use Rattle.pg_cells.specs.Inside.ValuedFamilies.{ValuedFamilies}
+use Rattle.pg_cells.specs.Inside.families.Searches.{search_start}
+use Rattle.pg_cells.specs.Inside.linked.ValuedFamilies.{ValuedFamilies}
 
 -- where a walk stands: at the empty string, or at the string that has the cell
 abbrev pub IsAt : Families → Option ℕ → List ℕ → Type 0

@@ -3,10 +3,10 @@ use Rattle.std.specs.Prelude.{◌≡◌, ◌≢◌, ℕ, ◌+◌, ◌<◌, ◌�
 use Rattle.std.specs.Coded.{Coded, code_by, coded×, coded_ℕ, coded_bool, coded_list}
 use Rattle.pg_cells.specs.declared.store.cell.Cell.{Cell}
 use Rattle.pg_cells.specs.declared.store.member.Member.{Member}
-use Rattle.pg_cells.specs.Inside.Lists.{Row, lists, row_of, sign_at, child_at, base_at}
-use Rattle.pg_cells.specs.Inside.FreeList.{AreLinked}
-use Rattle.pg_cells.specs.Inside.Blocked.{AreBlocked}
-use Rattle.pg_cells.specs.Inside.Bounds.{AreBounds}
+use Rattle.pg_cells.specs.Inside.store.Lists.{Row, lists, row_of, sign_at, child_at, base_at}
+use Rattle.pg_cells.specs.Inside.store.FreeList.{AreLinked}
+use Rattle.pg_cells.specs.Inside.store.Blocked.{AreBlocked}
+use Rattle.pg_cells.specs.Inside.store.Bounds.{AreBounds}
 
 -- how proofs store a value with its links: the value, the next sign and the first sign
 abbrev pub member_code : {V : Type 0} → Coded V → Coded (Member V)

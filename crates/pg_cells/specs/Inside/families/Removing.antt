@@ -2,8 +2,8 @@
 use Rattle.std.specs.Prelude.{◌≡◌, ◌≢◌, ℕ, List, [], ◌∷◌, ◌++◌, Some, None}
 use Rattle.pg_types.specs.Placement.{Families, cell_of, base_of}
 use Rattle.pg_types.specs.Inside.Placing.{without_sign}
-use Rattle.pg_cells.specs.Inside.ValuedFamilies.{ValuedFamilies, without_key}
-use Rattle.pg_cells.specs.Inside.AreValuedFamilies.{AreValuedFamilies}
+use Rattle.pg_cells.specs.Inside.linked.ValuedFamilies.{ValuedFamilies, without_key}
+use Rattle.pg_cells.specs.Inside.linked.AreValuedFamilies.{AreValuedFamilies}
 
 -- a string has the cell `parent`, and the sign s is below it, with no family below that
 pub record CanRemoveSign (fs : Families) (parent s : ℕ) : Type 0 where

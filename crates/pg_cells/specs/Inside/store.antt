@@ -1,0 +1,8 @@
+-- The row of cells, its free cells and its bounds.
+pub mod Blocked
+pub mod Bounds
+pub mod Fit
+pub mod FreeList
+pub mod Lists
+pub mod Store
+pub mod Writes
