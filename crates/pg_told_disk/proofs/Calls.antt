@@ -7,7 +7,7 @@ use Rattle.pg_outside.specs.Inside.Disk.{Disk, Node, Steps, Now, IsEntry, IsFoll
 use Rattle.pg_outside.specs.Inside.NewNames.{IsJoined}
 use Rattle.pg_outside.specs.declared.disk.system.Entry.TheVariants.{Missing, Link, File}
 use Rattle.pg_outside.specs.declared.disk.system.FileId.{FileId}
-use Rattle.pg_told_disk.specs.Inside.Changes.{number_in, mode_in, kind_in, bytes_in, stored_in, node_with, lets_write, id_of, disk_in}
+use Rattle.pg_told_disk.specs.Inside.Changes.{number_in, mode_in, bytes_in, stored_in, node_with, lets_write, id_of, disk_in}
 use Rattle.pg_told_disk.specs.Inside.Linked.{link_in, real_in, said_or}
 use Rattle.pg_told_disk.specs.Inside.Memory.{told_where}
 use Rattle.pg_told_disk.specs.Inside.Following.{not_link, said_same}
@@ -60,7 +60,7 @@ pub leads_none : (b : Bool) (links : List linked.Link) (log : List Change) (q : 
 leads_none b links log q none = told_now b links log (LeadsToNone q) (none_in links log q none)
 
 abbrev node_at : List Change → ℕ → ℕ → Node
-node_at log n mode = node_with (kind_in log n) (bytes_in log n) (stored_in log n) mode
+node_at log n mode = node_with (bytes_in log n) (stored_in log n) mode
 
 there_in : (links : List linked.Link) (log : List Change) (n mode : ℕ) → mode_in log n ≡ Some mode → (disk_in links log).files (id_of n) ≡ Some (node_at log n mode)
 there_in links log n mode is = ap (λ (o : Option ℕ). option_map (node_at log n) o) is
@@ -85,18 +85,18 @@ taken_by_link b links log q is = told_now b links log (IsTaken q) (inl is)
 pub taken : (b : Bool) (links : List linked.Link) (log : List Change) (q : List ℕ) (n : ℕ) → is_some (link_in links q) ≡ false → number_in log q ≡ Some n → Now (told_where b links log) (IsTaken q)
 taken b links log q n unlinked is = told_now b links log (IsTaken q) (inr (id_of n, leads_in links log q n (stands links log q (Some n) unlinked is)))
 
-pub stat : (b : Bool) (links : List linked.Link) (log : List Change) (n mode : ℕ) (regular : Bool) (id : FileId) → id ≡ id_of n → mode_in log n ≡ Some mode
-    → regular ≡ kind_in log n → Now (told_where b links log) (IsStat (id_of n) (record { id = id; is_regular = regular; mode = mode }))
-stat b links log n mode regular id named modes kind = told_now b links log (IsStat (id_of n) (record { id = id; is_regular = regular; mode = mode }))
-    (record { is = named; node = node_at log n mode; there = there_in links log n mode modes; kind = sym kind; mode = refl })
+pub stat : (b : Bool) (links : List linked.Link) (log : List Change) (n mode : ℕ) (id : FileId) → id ≡ id_of n → mode_in log n ≡ Some mode
+    → Now (told_where b links log) (IsStat (id_of n) (record { id = id; is_regular = true; mode = mode }))
+stat b links log n mode id named modes = told_now b links log (IsStat (id_of n) (record { id = id; is_regular = true; mode = mode }))
+    (record { is = named; node = node_at log n mode; there = there_in links log n mode modes; kind = refl; mode = refl })
 
 pub made_step : (b b2 : Bool) (links links2 : List linked.Link) (log log2 : List Change) (own : String Global) (name : List ℕ) (n : ℕ) → (b2 ≡ true → b ≡ true)
-    → links2 ≡ links → (b2 ≡ true → log2 ≡ Made own true ∷ log) → string_bytes own ≡ name → n ≡ length log → is_some (link_in links name) ≡ false
+    → links2 ≡ links → (b2 ≡ true → log2 ≡ Made own ∷ log) → string_bytes own ≡ name → n ≡ length log → is_some (link_in links name) ≡ false
     → number_in log name ≡ None → Steps (told_where b links log) (told_where b2 links2 log2) (disk.Made name (id_of n))
 made_step b b2 links links2 log log2 own name n told same is named counted unlinked none =
     subst (λ (q : List ℕ). Steps (told_where b links log) (told_where b2 links2 log2) (disk.Made q (id_of n))) named
     (subst (λ (k : ℕ). Steps (told_where b links log) (told_where b2 links2 log2) (disk.Made (string_bytes own) (id_of k))) (sym counted)
-    (steps b b2 links links2 log log2 (Made own true) (disk.Made (string_bytes own) (id_of (length log))) told same is
+    (steps b b2 links links2 log log2 (Made own) (disk.Made (string_bytes own) (id_of (length log))) told same is
     (made links log own (ap (λ (q : List ℕ). is_some (link_in links q)) named ∙ unlinked) (ap (λ (q : List ℕ). number_in log q) named ∙ none))))
 
 pub removed_step : (b b2 : Bool) (links links2 : List linked.Link) (log log2 : List Change) (own : String Global) (name : List ℕ) → (b2 ≡ true → b ≡ true)

@@ -22,9 +22,12 @@ pub(crate) fn folder_of(name: &str) -> &str
     }
 }
 
-/// The name that the text of a link says.
-fn joined(alloc: Global, link: &str, text: &str) -> Result<String, AllocError>
-    ensures { IfOk result (λ joined. IsJoined link.now text.now (string_bytes joined)) }
+/// The name that the text of a link says. It is seen from the root, or from the link's folder.
+///
+/// # Errors
+/// Where there is not enough memory.
+pub fn linked_name(alloc: Global, link: &str, text: &str) -> Result<String, AllocError>
+    ensures { IfOk result (λ name. IsJoined link.now text.now (string_bytes name)) }
 {
     let folder = folder_of(link);
     if text.starts_with('/') {
@@ -67,7 +70,7 @@ pub(crate) fn find<S: System>(
         match system.look(real.as_str())? {
             Entry::Link => {
                 let text = system.read_link(alloc, real.as_str())?;
-                real = joined(alloc, real.as_str(), text.as_str())?;
+                real = linked_name(alloc, real.as_str(), text.as_str())?;
             }
             Entry::Missing => return Ok(make_found(real, None)),
             Entry::File(id) => return Ok(make_found(real, Some(id))),
