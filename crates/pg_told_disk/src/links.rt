@@ -1,6 +1,6 @@
 //! The links of a disk, the name that each says, and what a name stands for.
 ghost use Rattle.std.specs.Prelude.{◌≡◌, None, Some, MatchOption, IfSome, string_bytes};
-ghost use Rattle.pg_outside.specs.Inside.NewNames.{IsJoined};
+ghost use Rattle.pg_outside.specs.Inside.NewNames.{IsLinkedName};
 ghost use Rattle.pg_told_disk.specs.Inside.Linked.{link_in, is_link_in, real_in};
 
 use pg_outside::linked_name;
@@ -57,7 +57,7 @@ pub(crate) fn real_of<'a>(links: &'a [Link], name: &'a str) -> &'a str
 pub(crate) fn text_of(alloc: Global, name: &str, link: &Link) -> Option<String>
     ensures text { IfSome result (λ text. string_bytes text ≡ string_bytes link.now.text) }
     ensures said { IfSome result (λ text.
-        IsJoined name.now (string_bytes text) (string_bytes link.now.said)) }
+        IsLinkedName name.now (string_bytes text) (string_bytes link.now.said)) }
 {
     let said = linked_name(alloc, name, link.text.as_str()).ok()?;
     if said.as_str() != link.said.as_str() {

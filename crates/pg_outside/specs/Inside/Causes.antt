@@ -5,9 +5,9 @@ use Rattle.pg_outside.specs.declared.disk.error.WriteError.{WriteError}
 use Rattle.pg_outside.specs.declared.disk.error.WriteError.TheVariants as error
 
 -- each error's cause: a failed call; or none, and a file kept in mind, deep links, or no free name
-abbrev pub Because : ℕ → ℕ → Type 0 → Type 0 → Type 0 → WriteError → Type 0
-Because before now kept unfollowed taken error.Failed = Rose before now
-Because before now kept unfollowed taken error.Kept = (now ≡ before) × kept
-Because before now kept unfollowed taken error.Unfollowed = (now ≡ before) × unfollowed
-Because before now kept unfollowed taken error.Taken = (now ≡ before) × taken
-Because before now kept unfollowed taken error.Memory = now ≡ before
+abbrev pub IsCauseOf : ℕ → ℕ → Type 0 → Type 0 → Type 0 → WriteError → Type 0
+IsCauseOf before now kept unfollowed taken error.Failed = Rose before now
+IsCauseOf before now kept unfollowed taken error.Kept = (now ≡ before) × kept
+IsCauseOf before now kept unfollowed taken error.Unfollowed = (now ≡ before) × unfollowed
+IsCauseOf before now kept unfollowed taken error.Taken = (now ≡ before) × taken
+IsCauseOf before now kept unfollowed taken error.Memory = now ≡ before

@@ -8,7 +8,7 @@ use Rattle.std.proofs.lemmas.Cmp.{nat_list_cmp_total}
 use Rattle.std.proofs.lemmas.Bool.Decides.{eqb_tells}
 use Rattle.std.proofs.lemmas.Map.Text.{is_eq-slice_cmp}
 use Rattle.pg_outside.specs.Inside.Disk as disk
-use Rattle.pg_outside.specs.Inside.Disk.{Node, Disk, NameMap, FileSet}
+use Rattle.pg_outside.specs.Inside.Disk.{Node, Disk, NameMap, SetsFile}
 use Rattle.pg_outside.specs.declared.disk.system.FileId.{FileId}
 use Rattle.pg_told_disk.specs.Inside.Cases.{eq_yes, eq_no, number_no, cond_yes, cond_no, none_some, some_same, of_cond}
 use Rattle.pg_told_disk.specs.Inside.Changes.{number_in, names_in, mode_in, bytes_in, stored_in, node_in, node_with, file_in, id_of, with_name, disk_in}
@@ -214,7 +214,7 @@ of_node log n node is = by_mode (mode_in log n) refl is
 pub made : (links : List Link) (log : List Change) (own : String Global)
     → is_some (link_in links (string_bytes own)) ≡ false
     → number_in log (string_bytes own) ≡ None
-    → disk.Made (string_bytes own) (id_of (length log)) (disk_in links log)
+    → disk.MakesFile (string_bytes own) (id_of (length log)) (disk_in links log)
     (disk_in links (Made own ∷ log))
 made links log own unlinked none = record {
   node = node_with [] false 420;
@@ -263,7 +263,7 @@ set_file : (log log2 : List Change) (n : ℕ) (node after : Node) (links : List 
     → (disk_in links log2).refused ≡ (disk_in links log).refused
     → node_in log2 n ≡ Some after
     → ((m : ℕ) → m ≢ n → node_in log2 m ≡ node_in log m)
-    → FileSet (id_of n) after (disk_in links log) (disk_in links log2)
+    → SetsFile (id_of n) after (disk_in links log) (disk_in links log2)
 set_file log log2 n node after links same names refused file others = record {
   links = same;
   names = names;
@@ -274,7 +274,7 @@ set_file log log2 n node after links same names refused file others = record {
 
 -- the change GotMode gives the file these permissions
 pub got_mode : (links : List Link) (log : List Change) (n mode : ℕ)
-    → disk.GotMode (id_of n) mode (disk_in links log) (disk_in links (GotMode n mode ∷ log))
+    → disk.SetsMode (id_of n) mode (disk_in links log) (disk_in links (GotMode n mode ∷ log))
 got_mode links log n mode = λ node is.
     let parts = of_node log n node is in (
       node_with (bytes_in log n) (stored_in log n) mode,
@@ -290,7 +290,7 @@ got_mode links log n mode = λ node is.
 
 -- the change Stored lets the device have the file
 pub stored : (links : List Link) (log : List Change) (n : ℕ)
-    → disk.Stored (id_of n) (disk_in links log) (disk_in links (Stored n ∷ log))
+    → disk.SyncsFile (id_of n) (disk_in links log) (disk_in links (Stored n ∷ log))
 stored links log n = λ node is.
     let parts = of_node log n node is in
     set_file log (Stored n ∷ log) n node (record node { is_stored = true }) links refl refl refl
@@ -302,7 +302,8 @@ stored links log n = λ node is.
 
 -- the change Wrote puts these bytes behind those of the file
 pub wrote : (links : List Link) (log : List Change) (n : ℕ) (bytes : Vec ℕ Global)
-    → disk.Wrote (id_of n) bytes.items (disk_in links log) (disk_in links (Wrote n bytes ∷ log))
+    → disk.AppendsBytes (id_of n) bytes.items
+    (disk_in links log) (disk_in links (Wrote n bytes ∷ log))
 wrote links log n bytes = λ node is.
     let parts = of_node log n node is in (
       node_with (bytes_in log n ++ bytes.items) false parts.0,
@@ -319,7 +320,7 @@ wrote links log n bytes = λ node is.
 
 -- the change Stayed alters nothing, and so nothing but this file
 pub stayed : (links : List Link) (log : List Change) (id : FileId)
-    → disk.Disturbed id (disk_in links log) (disk_in links (Stayed ∷ log))
+    → disk.ChangesOnlyFile id (disk_in links log) (disk_in links (Stayed ∷ log))
 stayed links log id = λ node is. (
   node,
   record {
@@ -333,7 +334,7 @@ stayed links log id = λ node is. (
 
 -- the change Stayed writes a first part of these bytes, with none of them
 pub stayed_part : (links : List Link) (log : List Change) (id : FileId) (bytes : List ℕ)
-    → disk.WrotePart id bytes (disk_in links log) (disk_in links (Stayed ∷ log))
+    → disk.AppendsFront id bytes (disk_in links log) (disk_in links (Stayed ∷ log))
 stayed_part links log id bytes = (
   0,
   λ node is. (
@@ -347,7 +348,7 @@ stayed_part links log id bytes = (
 
 -- the change Refused adds the name to those that the system refused to remove
 pub refused : (links : List Link) (log : List Change) (own : String Global)
-    → disk.Refused (string_bytes own) (disk_in links log) (disk_in links (Refused own ∷ log))
+    → disk.RefusesRemoval (string_bytes own) (disk_in links log) (disk_in links (Refused own ∷ log))
 refused links log own = record {
   links = refl;
   names = refl;
@@ -357,7 +358,8 @@ refused links log own = record {
 
 -- the change Removed takes the name away, where it is no link
 pub removed : (links : List Link) (log : List Change) (own : String Global)
-    → disk.RemovedName (string_bytes own) (disk_in links log) (disk_in links (Removed own ∷ log))
+    → disk.RemovesUnlessLink (string_bytes own)
+    (disk_in links log) (disk_in links (Removed own ∷ log))
 removed links log own = λ unlinked.
     let stands = not_link links (string_bytes own) unlinked in record {
       links = refl;
@@ -372,7 +374,7 @@ removed links log own = λ unlinked.
 
 -- the change Renamed gives the file of the one name the other, where no name is a link
 pub renamed : (links : List Link) (log : List Change) (from to : String Global)
-    → disk.Renamed (string_bytes from) (string_bytes to)
+    → disk.RenamesUnlessLink (string_bytes from) (string_bytes to)
     (disk_in links log) (disk_in links (Renamed from to ∷ log))
 renamed links log from to = λ one other.
     let stands_from = not_link links (string_bytes from) one in

@@ -4,7 +4,7 @@ use Rattle.std.specs.Option.{option_map}
 use Rattle.std.specs.Str.{bytes_eq}
 use Rattle.std.specs.FinMap as fin
 use Rattle.std.specs.declared.alloc.Global.{Global}
-use Rattle.pg_outside.specs.Inside.Disk.{Node, NameMap, Disk, Told}
+use Rattle.pg_outside.specs.Inside.Disk.{Node, NameMap, Disk, DiskHistory}
 use Rattle.pg_outside.specs.declared.disk.system.FileId.{FileId}
 use Rattle.pg_told_disk.specs.Inside.Linked.{real_in, links_in}
 use Rattle.pg_told_disk.specs.declared.change.Change.{Change}
@@ -119,7 +119,7 @@ past_in links [] = []
 past_in links (change ∷ older) = disk_in links older ∷ past_in links older
 
 -- the disk after these changes, and the disks before
-abbrev pub told_in : List Link → List Change → Told
+abbrev pub told_in : List Link → List Change → DiskHistory
 told_in links log = record { now = disk_in links log; past = past_in links log }
 
 -- these are the bytes of the file that the name leads to, if there is one

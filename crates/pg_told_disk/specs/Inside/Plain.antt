@@ -4,7 +4,7 @@ use Rattle.std.specs.Prelude.{◌≡◌, List, [], ◌∷◌, Bool, true, false,
 use Rattle.std.proofs.Common.{sym, ap, subst, ◌∙◌}
 use Rattle.std.specs.Option.{option_map}
 use Rattle.std.proofs.lemmas.Bool.{false≢true}
-use Rattle.pg_outside.specs.Inside.Disk.{Now, KnowsPlain, KnowsNewNames}
+use Rattle.pg_outside.specs.Inside.Disk.{HoldsNow, KnowsPlain, KnowsNewNames}
 use Rattle.pg_told_disk.specs.Inside.Changes.{disk_in, file_in, number_in, node_with, bytes_in, stored_in}
 use Rattle.pg_told_disk.specs.Inside.Following.{not_link}
 use Rattle.pg_told_disk.specs.Inside.Memory.{told_where}
@@ -34,13 +34,13 @@ plain_in [] log = λ plain. record {
 
 -- where the disk is told, two names that are no links stand for one only if they are one
 pub new_names_where : (is_told : Bool) (links : List Link) (log : List Change)
-    → Now (told_where is_told links log) KnowsNewNames
+    → HoldsNow (told_where is_told links log) KnowsNewNames
 new_names_where true links log = λ own name is_new direct own_direct one.
     sym (not_link links own own_direct) ∙ one ∙ not_link links name direct
 new_names_where false links log = tt
 
 -- where the disk is told and said to be plain, it has no links, and each of its files is regular
 pub plain_where : (is_told : Bool) (links : List Link) (log : List Change)
-    → Now (told_where is_told links log) KnowsPlain
+    → HoldsNow (told_where is_told links log) KnowsPlain
 plain_where true links log = plain_in links log
 plain_where false links log = tt
