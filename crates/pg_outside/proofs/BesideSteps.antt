@@ -5,9 +5,9 @@ use Rattle.std.specs.FinMap as fin
 use Rattle.std.specs.Str.{bytes_eq}
 use Rattle.std.proofs.lemmas.Bool.{false≢true}
 use Rattle.std.proofs.lemmas.Slice.Eq.{bytes_eq-Decides}
-use Rattle.pg_outside.specs.Inside.Disk.{Node, Disk, Links, NameMap, SetsFile, AddsFile, MakesFile, ChangesOnlyFile, RenamesFile, RemovesName, RefusesRemoval, AreOne, KnowsNewNames, id_at, node_at, node_of}
-use Rattle.pg_outside.specs.Inside.Moments.{FillsFile, IsWhole, IsBeside, IsSameAt, AtMoment, IsWritten, IsSame, HasRest}
-use Rattle.pg_outside.specs.Inside.NewNames.{IsNewName}
+use Rattle.pg_outside.specs.Inside.disk.Disks.{Node, Disk, Links, NameMap, SetsFile, AddsFile, MakesFile, ChangesOnlyFile, RenamesFile, RemovesName, RefusesRemoval, AreOne, KnowsNewNames, id_at, node_at, node_of}
+use Rattle.pg_outside.specs.Inside.disk.Moments.{FillsFile, IsWhole, IsBeside, IsSameAt, AtMoment, IsWritten, IsSame, HasRest}
+use Rattle.pg_outside.specs.Inside.disk.NewNames.{IsNewName}
 use Rattle.pg_outside.specs.declared.disk.system.FileId.{FileId}
 
 same_or_not : (a b : List ℕ) → (a ≡ b) ⊎ (a ≢ b)

@@ -2,7 +2,7 @@
 use Rattle.std.proofs.Common.{◌≡◌, ℕ, ◌≤◌, Result, Ok, Err, OnOk, OnErr, IfErr, ◌∙◌, sym, subst, arith}
 use Rattle.std.specs.Result.{IsErrAnd}
 use Rattle.pg_outside.specs.Faults.{Rose, next_count}
-use Rattle.pg_outside.specs.Inside.Causes.{IsCauseOf}
+use Rattle.pg_outside.specs.Inside.disk.Causes.{IsCauseOf}
 use Rattle.pg_outside.specs.declared.disk.error.WriteError.{WriteError}
 use Rattle.pg_outside.specs.declared.disk.error.WriteError.TheVariants as error
 

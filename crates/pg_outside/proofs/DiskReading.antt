@@ -1,8 +1,8 @@
 -- What a read by name says of a disk, from what the calls say of the file that was opened.
 use Rattle.std.proofs.Common.{◌≡◌, ◌⊎◌, inl, inr, ⊎_elim, ℕ, List, [], ◌∷◌, ◌++◌, true, Option, Some, IfSome, sym, ap, subst, ◌∙◌}
-use Rattle.pg_outside.specs.Inside.Disk.{Node, Disk, DiskHistory, KeepsDisk, HoldsNow, LeadsTo, IsOpened, IsStat, node_at, node_of}
-use Rattle.pg_outside.specs.Inside.DiskReads.{IsAllOf, IsFrontOf}
-use Rattle.pg_outside.specs.Inside.DiskWrites.{IsIn, IsPlain, IsContent, IsContentCut, IsNoted, KeepsOnly, WasKept}
+use Rattle.pg_outside.specs.Inside.disk.Disks.{Node, Disk, DiskHistory, KeepsDisk, HoldsNow, LeadsTo, IsOpened, IsStat, node_at, node_of}
+use Rattle.pg_outside.specs.Inside.disk.Reads.{IsAllOf, IsFrontOf}
+use Rattle.pg_outside.specs.Inside.disk.Writes.{IsIn, IsPlain, IsContent, IsContentCut, IsNoted, KeepsOnly, WasKept}
 use Rattle.pg_outside.specs.declared.disk.system.FileId.{FileId}
 use Rattle.pg_outside.specs.declared.disk.system.Seen.{Seen}
 use Rattle.pg_outside.proofs.Runs.{keeps_now, now_both, now_weaker}

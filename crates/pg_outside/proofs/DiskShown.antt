@@ -12,10 +12,10 @@ use Rattle.std.proofs.lemmas.Map.Text.{is_eq-slice_cmp}
 use Rattle.std.proofs.lemmas.Slice.Eq.{bytes_eq-Decides}
 use Rattle.pg_outside.specs.Content.{FileMap, KeepsHeld, file_at}
 use Rattle.pg_outside.specs.Inside.ToldFiles.{IsFile, IsFileCut, IsCut, WasWritten, WasPartWritten}
-use Rattle.pg_outside.specs.Inside.Disk.{Node, Disk, DiskHistory, Links, KeepsDisk, HoldsNow, HasNoLinks, KnowsPlain, id_at, node_at, node_of}
-use Rattle.pg_outside.specs.Inside.Moments.{RunsCalls, IsWritten, IsSame, HasRest}
-use Rattle.pg_outside.specs.Inside.DiskWrites.{IsPlain, IsContent, IsContentCut, AfterWrite, AfterFailure, mode_at}
-use Rattle.pg_outside.specs.Inside.DiskHeld.{bytes_of, file_map, has_none, is_shown, held_of}
+use Rattle.pg_outside.specs.Inside.disk.Disks.{Node, Disk, DiskHistory, Links, KeepsDisk, HoldsNow, HasNoLinks, KnowsPlain, id_at, node_at, node_of}
+use Rattle.pg_outside.specs.Inside.disk.Moments.{RunsCalls, IsWritten, IsSame, HasRest}
+use Rattle.pg_outside.specs.Inside.disk.Writes.{IsPlain, IsContent, IsContentCut, AfterWrite, AfterFailure, mode_at}
+use Rattle.pg_outside.specs.Inside.disk.Shown.{bytes_of, file_map, has_none, is_shown, held_of}
 use Rattle.pg_outside.specs.declared.disk.system.FileId.{FileId}
 
 find_map : (g : FileId → List ℕ) (es : List (List ℕ × FileId)) (q : List ℕ) → fin.find (slice_cmp nat_cmp) q (map (λ e. (e.0, g e.1)) es) ≡ option_map g (fin.find (slice_cmp nat_cmp) q es)

@@ -4,10 +4,10 @@ use Rattle.std.specs.FinMap as fin
 use Rattle.std.specs.Result.{IsErrAnd}
 use Rattle.std.proofs.lemmas.Grind.{common_steps}
 use Rattle.std.proofs.lemmas.Result.{on_err_weaker, on_ok_weaker}
-use Rattle.pg_outside.specs.Inside.Causes.{IsCauseOf}
-use Rattle.pg_outside.specs.Inside.Disk.{Node, Disk, DiskHistory, AreOne, KeepsDisk, HoldsNow, LeadsTo, LeadsToNone, IsOpened, IsWritable, IsStat, AppendsBytes, AppendsFront, id_at, node_at, node_of}
-use Rattle.pg_outside.specs.Inside.DiskWrites.{IsIn, KeepsAll, IsPlain, IsDevice, IsProtected, MayWrite, AtWrite, AfterWrite, AfterFailure, IsSeen, IsOld, IsPlaceOf, AreAllTaken, IsDeep, IsFull, IsWrite, WasKept, StandsFor, mode_of, mode_at}
-use Rattle.pg_outside.specs.Inside.Moments.{RunsCalls, WhereDirect, AtMoment, IsBeside, IsWritten, IsAsBefore, IsSame, HasRest}
+use Rattle.pg_outside.specs.Inside.disk.Causes.{IsCauseOf}
+use Rattle.pg_outside.specs.Inside.disk.Disks.{Node, Disk, DiskHistory, AreOne, KeepsDisk, HoldsNow, LeadsTo, LeadsToNone, IsOpened, IsWritable, IsStat, AppendsBytes, AppendsFront, id_at, node_at, node_of}
+use Rattle.pg_outside.specs.Inside.disk.Writes.{IsIn, KeepsAll, IsPlain, IsDevice, IsProtected, MayWrite, AtWrite, AfterWrite, AfterFailure, IsSeen, IsOld, IsPlaceOf, AreAllTaken, IsDeep, IsFull, IsWrite, WasKept, StandsFor, mode_of, mode_at}
+use Rattle.pg_outside.specs.Inside.disk.Moments.{RunsCalls, WhereDirect, AtMoment, IsBeside, IsWritten, IsAsBefore, IsSame, HasRest}
 use Rattle.pg_outside.specs.declared.disk.error.WriteError.{WriteError}
 use Rattle.pg_outside.specs.declared.disk.system.FileId.{FileId}
 use Rattle.pg_outside.specs.declared.disk.system.Seen.{Seen}

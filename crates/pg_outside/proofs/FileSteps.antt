@@ -1,7 +1,7 @@
 -- What writes to one file make of a disk.
 use Rattle.std.proofs.Common.{◌≡◌, ℕ, List, [], ◌++◌, take, true, Option, Some, None, refl, sym, ap, ◌∙◌, append_assoc, append-nil}
-use Rattle.pg_outside.specs.Inside.Disk.{Node, Disk, SetsFile, AppendsBytes, AppendsFront, ChangesOnlyFile, SyncsFile, SetsMode}
-use Rattle.pg_outside.specs.Inside.Moments.{HasMode, FillsFile}
+use Rattle.pg_outside.specs.Inside.disk.Disks.{Node, Disk, SetsFile, AppendsBytes, AppendsFront, ChangesOnlyFile, SyncsFile, SetsMode}
+use Rattle.pg_outside.specs.Inside.disk.Moments.{HasMode, FillsFile}
 use Rattle.pg_outside.specs.declared.disk.system.FileId.{FileId}
 
 pub set_again : (n : FileId) (x y : Node) (a b c : Disk) → SetsFile n x a b → SetsFile n y b c → SetsFile n y a c

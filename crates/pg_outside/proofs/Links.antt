@@ -1,8 +1,8 @@
 -- What following one link after the other has come to.
 use Rattle.std.proofs.Common.{◌≡◌, ◌+◌, ◌<◌, ◌≤◌, ⊎_elim, ℕ, List, true, Option, Some, None, refl, sym, ap, subst, ◌∙◌, arith, add-one}
-use Rattle.pg_outside.specs.Inside.Disk.{Disk, DiskHistory, AreOne, KeepsDisk, HoldsNow, IsEntry, IsFollowedBy}
-use Rattle.pg_outside.specs.Inside.DiskWrites.{followed_name, IsDeep, StandsFor}
-use Rattle.pg_outside.specs.Inside.NewNames.{IsLinkedName}
+use Rattle.pg_outside.specs.Inside.disk.Disks.{Disk, DiskHistory, AreOne, KeepsDisk, HoldsNow, IsEntry, IsFollowedBy}
+use Rattle.pg_outside.specs.Inside.disk.Writes.{followed_name, IsDeep, StandsFor}
+use Rattle.pg_outside.specs.Inside.disk.NewNames.{IsLinkedName}
 use Rattle.pg_outside.specs.declared.disk.system.Entry.TheVariants.{Missing, Link, File}
 use Rattle.pg_outside.specs.declared.disk.system.FileId.{FileId}
 use Rattle.pg_outside.proofs.NewNameLoop.{below_or_last}

@@ -3,9 +3,9 @@ use Rattle.std.proofs.Common.{◌≡◌, ◌⊎◌, inl, inr, ⊎_elim, ◌+◌,
 use Rattle.std.specs.Fmt.{decimal}
 use Rattle.std.proofs.lemmas.Bool.{cases_lt}
 use Rattle.std.proofs.lemmas.Grind.{common_steps}
-use Rattle.pg_outside.specs.Inside.Disk.{Disk, DiskHistory, KeepsDisk, HoldsNow, IsTaken}
-use Rattle.pg_outside.specs.Inside.DiskWrites.{AreAllTaken}
-use Rattle.pg_outside.specs.Inside.NewNames.{IsFolderOf, new_name}
+use Rattle.pg_outside.specs.Inside.disk.Disks.{Disk, DiskHistory, KeepsDisk, HoldsNow, IsTaken}
+use Rattle.pg_outside.specs.Inside.disk.Writes.{AreAllTaken}
+use Rattle.pg_outside.specs.Inside.disk.NewNames.{IsFolderOf, new_name}
 use Rattle.pg_outside.proofs.Runs.{keeps_self, keeps_now, now_weaker, now_always}
 
 -- the name as the code puts it together

@@ -3,8 +3,8 @@ use Rattle.std.proofs.Common.{◌≡◌, ℕ, ◌+◌, ◌-◌, ◌<◌, ◌≤�
 use Rattle.std.proofs.Math.Seq.{take-add}
 use Rattle.std.proofs.lemmas.List.{take-append-le}
 use Rattle.std.proofs.lemmas.Grind.{common_steps}
-use Rattle.pg_outside.specs.Inside.Disk.{Disk, Node, DiskHistory, KeepsDisk, HoldsNow, HasPiece}
-use Rattle.pg_outside.specs.Inside.DiskReads.{IsAllOf, IsFrontOf}
+use Rattle.pg_outside.specs.Inside.disk.Disks.{Disk, Node, DiskHistory, KeepsDisk, HoldsNow, HasPiece}
+use Rattle.pg_outside.specs.Inside.disk.Reads.{IsAllOf, IsFrontOf}
 use Rattle.pg_outside.proofs.Runs.{keeps_self, keeps_both, keeps_now, now_both, now_weaker, now_always}
 use Rattle.pg_outside.specs.declared.disk.system.FileId.{FileId}
 

@@ -1,9 +1,9 @@
 -- The calls of a replacement, one after another.
 use Rattle.std.proofs.Common.{◌≡◌, ◌≢◌, inl, inr, ⊎_elim, ℕ, List, false, Option, Result, Ok, Err, OnOk, OnErr, refl, sym, ap, subst, ◌∙◌}
-use Rattle.pg_outside.specs.Inside.Disk.{Disk, Links, DiskHistory, KeepsDisk, ChangesDisk, MakesFile, ChangesOnlyFile, RenamesUnlessLink, RemovesUnlessLink, RefusesRemoval, HoldsNow, IsStat, KnowsNewNames}
-use Rattle.pg_outside.specs.Inside.NewNames.{IsNewName}
+use Rattle.pg_outside.specs.Inside.disk.Disks.{Disk, Links, DiskHistory, KeepsDisk, ChangesDisk, MakesFile, ChangesOnlyFile, RenamesUnlessLink, RemovesUnlessLink, RefusesRemoval, HoldsNow, IsStat, KnowsNewNames}
+use Rattle.pg_outside.specs.Inside.disk.NewNames.{IsNewName}
 use Rattle.pg_outside.specs.declared.disk.system.Seen.{Seen}
-use Rattle.pg_outside.specs.Inside.Moments.{RunsCalls, FillsFile, PlacesFile, PlacesFileAs, AtPlacing, WhereDirect, AtMoment, IsWritten, IsBeside, IsSame, HasRest, IsAsBefore}
+use Rattle.pg_outside.specs.Inside.disk.Moments.{RunsCalls, FillsFile, PlacesFile, PlacesFileAs, AtPlacing, WhereDirect, AtMoment, IsWritten, IsBeside, IsSame, HasRest, IsAsBefore}
 use Rattle.pg_outside.proofs.Runs.{runs_on, one_step, no_step, known_start, known_end, then_keeps}
 use Rattle.pg_outside.proofs.BesideSteps.{HasBeside, is_beside, at_made, at_disturbed, at_placed, is_written, made_then_disturbed, made_then_filled, removed_same, refused_rest, at_same, at_rest}
 use Rattle.pg_outside.specs.declared.disk.system.FileId.{FileId}

@@ -1,7 +1,7 @@
 -- One call after another.
 use Rattle.std.proofs.Common.{◌≡◌, List, [], ◌∷◌, ◌++◌, Option, Some, None, refl, sym, ap, subst, ◌∙◌, append_assoc}
-use Rattle.pg_outside.specs.Inside.Disk.{Disk, DiskHistory, KeepsDisk, ChangesDisk, HoldsNow}
-use Rattle.pg_outside.specs.Inside.Moments.{HoldsOfEach, IsDiskRun, RunsCalls}
+use Rattle.pg_outside.specs.Inside.disk.Disks.{Disk, DiskHistory, KeepsDisk, ChangesDisk, HoldsNow}
+use Rattle.pg_outside.specs.Inside.disk.Moments.{HoldsOfEach, IsDiskRun, RunsCalls}
 
 each_both : (P R : Disk → Type 0) (xs ys : List Disk) → HoldsOfEach P xs → ((disk : Disk) → P disk → R disk) → HoldsOfEach R ys → HoldsOfEach R (xs ++ ys)
 each_both P R [] ys p f r = r

@@ -2,8 +2,8 @@
 use Rattle.std.proofs.Common.{◌≡◌, ℕ, ◌+◌, List, take, drop, Option, sym, subst, ◌∙◌, arith}
 use Rattle.std.proofs.Math.Seq.{take-add}
 use Rattle.std.proofs.lemmas.Grind.{common_steps}
-use Rattle.pg_outside.specs.Inside.Disk.{Disk, DiskHistory, ChangesDisk, AppendsBytes, AppendsFront, ChangesOnlyFile, SyncsFile}
-use Rattle.pg_outside.specs.Inside.Moments.{RunsCalls, HasMode, FillsFile}
+use Rattle.pg_outside.specs.Inside.disk.Disks.{Disk, DiskHistory, ChangesDisk, AppendsBytes, AppendsFront, ChangesOnlyFile, SyncsFile}
+use Rattle.pg_outside.specs.Inside.disk.Moments.{RunsCalls, HasMode, FillsFile}
 use Rattle.pg_outside.proofs.Runs.{runs_on, one_step, runs_weaker}
 use Rattle.pg_outside.proofs.FileSteps.{disturbed_on, wrote_disturbed, part_disturbed, wrote_on, mode_disturbed, stored_disturbed, filled_on}
 use Rattle.pg_outside.specs.declared.disk.system.FileId.{FileId}

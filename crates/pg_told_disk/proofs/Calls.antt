@@ -2,9 +2,9 @@
 use Rattle.std.proofs.Common.{◌≡◌, inl, inr, ℕ, List, ◌∷◌, length, Bool, true, false, Option, Some, None, Vec, String, string_bytes, refl, sym, ap, subst, ◌∙◌}
 use Rattle.std.specs.Option.{option_map, is_some}
 use Rattle.std.specs.declared.alloc.Global.{Global}
-use Rattle.pg_outside.specs.Inside.Disk as disk
-use Rattle.pg_outside.specs.Inside.Disk.{Disk, Node, ChangesDisk, HoldsNow, IsEntry, IsFollowedBy, IsOpened, IsWritable, IsTaken, LeadsToNone, IsStat, ChangesOnlyFile, AppendsFront}
-use Rattle.pg_outside.specs.Inside.NewNames.{IsLinkedName}
+use Rattle.pg_outside.specs.Inside.disk.Disks as disk
+use Rattle.pg_outside.specs.Inside.disk.Disks.{Disk, Node, ChangesDisk, HoldsNow, IsEntry, IsFollowedBy, IsOpened, IsWritable, IsTaken, LeadsToNone, IsStat, ChangesOnlyFile, AppendsFront}
+use Rattle.pg_outside.specs.Inside.disk.NewNames.{IsLinkedName}
 use Rattle.pg_outside.specs.declared.disk.system.Entry.TheVariants.{Missing, Link, File}
 use Rattle.pg_outside.specs.declared.disk.system.FileId.{FileId}
 use Rattle.pg_told_disk.specs.Inside.Changes.{number_in, mode_in, bytes_in, stored_in, node_with, lets_write, id_of, disk_in}

@@ -3,7 +3,7 @@ use Rattle.std.proofs.Common.{◌≡◌, ◌≢◌, ⊎_elim, ℕ, ◌+◌, ◌-
 use Rattle.std.proofs.lemmas.Bool.{cases_lt}
 use Rattle.std.proofs.lemmas.List.{get_or_append_left}
 use Rattle.std.proofs.Math.Seq.{get_or-append_right, get_or-append_seam, take-append_seam}
-use Rattle.pg_outside.specs.Inside.NewNames.{IsFolderOf, IsLinkedName, is_rooted}
+use Rattle.pg_outside.specs.Inside.disk.NewNames.{IsFolderOf, IsLinkedName, is_rooted}
 
 -- the slash at the end of a folder
 slash_at : (name front last : List ℕ) → name ≡ (front ++ 47 ∷ []) ++ last

@@ -1,7 +1,7 @@
 -- What a disk in memory tells after a change, and after a call that makes none.
 use Rattle.std.proofs.Common.{◌≡◌, List, ◌∷◌, Bool, true, false, Some, refl, sym, subst}
 use Rattle.std.proofs.lemmas.Bool.{false≢true}
-use Rattle.pg_outside.specs.Inside.Disk.{Disk, KeepsDisk, ChangesDisk, HoldsNow}
+use Rattle.pg_outside.specs.Inside.disk.Disks.{Disk, KeepsDisk, ChangesDisk, HoldsNow}
 use Rattle.pg_told_disk.specs.Inside.Changes.{disk_in, told_in}
 use Rattle.pg_told_disk.specs.Inside.Memory.{told_where}
 use Rattle.pg_told_disk.specs.declared.change.Change.{Change}

@@ -3,10 +3,10 @@
 ghost use Rattle.std.specs.Prelude.{◌≡◌, ◌≢◌, ℕ, ◌+◌, ◌-◌, ◌^◌, ◌<◌, ◌≤◌, [], ◌∷◌, ◌++◌, length, true, Option, OnOk, OnErr, IfOk, IfErr, IfSome, IsErrOf, ◌⊎◌, vec_len, vec_capacity};
 ghost use Rattle.pg_outside.specs.Faults.{next_count, Rose};
 ghost use Rattle.pg_outside.specs.FilesCalls.{Writes};
-ghost use Rattle.pg_outside.specs.Inside.Causes.{IsCauseOf};
-ghost use Rattle.pg_outside.specs.Inside.Disk.{KeepsDisk, HoldsNow, IsOpened, IsWritable};
-ghost use Rattle.pg_outside.specs.Inside.Moments.{RunsCalls, WhereDirect, AtMoment, IsWritten, IsAsBefore};
-ghost use Rattle.pg_outside.specs.Inside.DiskWrites.{IsIn, KeepsAll, KeepsOnly, IsContent, IsContentCut, IsNoted, IsOld, IsPlaceOf, IsDeep, IsFull, IsWrite, IsDiskWrite, AreAllTaken, WasKept};
+ghost use Rattle.pg_outside.specs.Inside.disk.Causes.{IsCauseOf};
+ghost use Rattle.pg_outside.specs.Inside.disk.Disks.{KeepsDisk, HoldsNow, IsOpened, IsWritable};
+ghost use Rattle.pg_outside.specs.Inside.disk.Moments.{RunsCalls, WhereDirect, AtMoment, IsWritten, IsAsBefore};
+ghost use Rattle.pg_outside.specs.Inside.disk.Writes.{IsIn, KeepsAll, KeepsOnly, IsContent, IsContentCut, IsNoted, IsOld, IsPlaceOf, IsDeep, IsFull, IsWrite, IsDiskWrite, AreAllTaken, WasKept};
 
 use super::error::WriteError;
 use super::links::find;
@@ -230,7 +230,7 @@ fn count_read(failed: &mut u64, outcome: &Result<(), ReadError>)
 }
 
 impl<S: System + Drop> DiskFiles<S> {
-    ghost use Rattle.pg_outside.specs.Inside.DiskHeld.{all_faults, disk_calls};
+    ghost use Rattle.pg_outside.specs.Inside.disk.Shown.{all_faults, disk_calls};
 
     /// The files of this system, with no read, no write and no fault so far.
     pub fn new(alloc: Global, system: S) -> DiskFiles<S>
@@ -288,7 +288,7 @@ impl<S: System + Drop> DiskFiles<S> {
 
 impl<S: System + Drop> Files for DiskFiles<S> {
     ghost use Rattle.pg_outside.specs.Inside.ToldFiles.{IsReadOf, IsWriteOf};
-    ghost use Rattle.pg_outside.specs.Inside.DiskHeld.{all_faults, disk_shown};
+    ghost use Rattle.pg_outside.specs.Inside.disk.Shown.{all_faults, disk_shown};
 
     ghost shown = { disk_shown S.told };
 

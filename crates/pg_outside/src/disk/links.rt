@@ -1,9 +1,9 @@
 //! The folder of a name, and what a name stands for once its links are followed.
 ghost use Rattle.std.specs.Prelude.{◌≡◌, IfOk, IfErr, string_bytes};
-ghost use Rattle.pg_outside.specs.Inside.Causes.{IsCauseOf};
-ghost use Rattle.pg_outside.specs.Inside.Disk.{KeepsDisk, HoldsNow};
-ghost use Rattle.pg_outside.specs.Inside.NewNames.{IsFolderOf, IsLinkedName};
-ghost use Rattle.pg_outside.specs.Inside.DiskWrites.{IsDeep, StandsFor};
+ghost use Rattle.pg_outside.specs.Inside.disk.Causes.{IsCauseOf};
+ghost use Rattle.pg_outside.specs.Inside.disk.Disks.{KeepsDisk, HoldsNow};
+ghost use Rattle.pg_outside.specs.Inside.disk.NewNames.{IsFolderOf, IsLinkedName};
+ghost use Rattle.pg_outside.specs.Inside.disk.Writes.{IsDeep, StandsFor};
 
 use super::error::WriteError;
 use super::system::{Entry, FileId, System};

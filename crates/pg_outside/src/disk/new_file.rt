@@ -1,11 +1,11 @@
 //! A new file takes the place of an old one as a whole, or not at all.
 ghost use Rattle.std.specs.Prelude.{◌≡◌, ◌≢◌, OnOk, OnErr, IfOk, IfErr, string_bytes};
 ghost use Rattle.pg_outside.specs.Faults.{Rose};
-ghost use Rattle.pg_outside.specs.Inside.Causes.{IsCauseOf};
-ghost use Rattle.pg_outside.specs.Inside.Disk.{KeepsDisk, ChangesDisk, HoldsNow, MakesFile, AppendsBytes, AppendsFront, ChangesOnlyFile};
-ghost use Rattle.pg_outside.specs.Inside.Moments.{RunsCalls, HasMode, FillsFile, PlacesFileAs, AtPlacing, WhereDirect, AtMoment, IsWritten, IsAsBefore};
-ghost use Rattle.pg_outside.specs.Inside.NewNames.{IsNewName};
-ghost use Rattle.pg_outside.specs.Inside.DiskWrites.{AreAllTaken};
+ghost use Rattle.pg_outside.specs.Inside.disk.Causes.{IsCauseOf};
+ghost use Rattle.pg_outside.specs.Inside.disk.Disks.{KeepsDisk, ChangesDisk, HoldsNow, MakesFile, AppendsBytes, AppendsFront, ChangesOnlyFile};
+ghost use Rattle.pg_outside.specs.Inside.disk.Moments.{RunsCalls, HasMode, FillsFile, PlacesFileAs, AtPlacing, WhereDirect, AtMoment, IsWritten, IsAsBefore};
+ghost use Rattle.pg_outside.specs.Inside.disk.NewNames.{IsNewName};
+ghost use Rattle.pg_outside.specs.Inside.disk.Writes.{AreAllTaken};
 
 use super::error::WriteError;
 use super::links::folder_of;

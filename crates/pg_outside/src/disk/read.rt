@@ -1,8 +1,8 @@
 //! A file is read to its end, up to a limit.
 ghost use Rattle.std.specs.Prelude.{◌≡◌, ◌≢◌, ◌+◌, ◌-◌, ◌^◌, ◌<◌, ◌≤◌, [], length, OnOk, IfErr, IsErrOf};
 ghost use Rattle.pg_outside.specs.Faults.{Rose};
-ghost use Rattle.pg_outside.specs.Inside.Disk.{KeepsDisk, HoldsNow};
-ghost use Rattle.pg_outside.specs.Inside.DiskReads.{IsAllOf, IsFrontOf};
+ghost use Rattle.pg_outside.specs.Inside.disk.Disks.{KeepsDisk, HoldsNow};
+ghost use Rattle.pg_outside.specs.Inside.disk.Reads.{IsAllOf, IsFrontOf};
 
 use super::system::System;
 use crate::outside::ReadError;

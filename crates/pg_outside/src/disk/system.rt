@@ -2,7 +2,7 @@
 ghost use Rattle.std.specs.Prelude.{◌≡◌, ℕ, ◌+◌, ◌-◌, ◌^◌, ◌<◌, ◌≤◌, List, take, length, Option, Some, None, MatchOption, OnOk, OnErr, IfOk, IfSome, IfNone, string_bytes};
 ghost use Rattle.pg_outside.specs.declared.disk.system.FileId.{FileId};
 ghost use Rattle.pg_outside.specs.Faults.{Rose};
-ghost use Rattle.pg_outside.specs.Inside.Disk.{DiskHistory, KeepsDisk, ChangesDisk, HoldsNow, MakesFile, AppendsBytes, AppendsFront, ChangesOnlyFile, SyncsFile, SetsMode, RenamesUnlessLink, RemovesUnlessLink, RefusesRemoval, IsTaken, IsEntry, IsFollowedBy, IsOpened, IsWritable, LeadsToNone, IsStat, HasPiece, KnowsPlain, KnowsNewNames};
+ghost use Rattle.pg_outside.specs.Inside.disk.Disks.{DiskHistory, KeepsDisk, ChangesDisk, HoldsNow, MakesFile, AppendsBytes, AppendsFront, ChangesOnlyFile, SyncsFile, SetsMode, RenamesUnlessLink, RemovesUnlessLink, RefusesRemoval, IsTaken, IsEntry, IsFollowedBy, IsOpened, IsWritable, LeadsToNone, IsStat, HasPiece, KnowsPlain, KnowsNewNames};
 
 use std::alloc::Global;
 use std::io;

@@ -4,7 +4,7 @@ use Rattle.std.specs.Option.{option_map}
 use Rattle.std.specs.Str.{bytes_eq}
 use Rattle.std.specs.FinMap as fin
 use Rattle.std.specs.declared.alloc.Global.{Global}
-use Rattle.pg_outside.specs.Inside.Disk.{Node, NameMap, Disk, DiskHistory}
+use Rattle.pg_outside.specs.Inside.disk.Disks.{Node, NameMap, Disk, DiskHistory}
 use Rattle.pg_outside.specs.declared.disk.system.FileId.{FileId}
 use Rattle.pg_told_disk.specs.Inside.Linked.{real_in, links_in}
 use Rattle.pg_told_disk.specs.declared.change.Change.{Change}

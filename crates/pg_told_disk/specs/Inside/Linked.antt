@@ -2,7 +2,7 @@
 use Rattle.std.specs.Prelude.{ℕ, List, [], ◌∷◌, Bool, true, false, cond, Option, Some, None, string_bytes}
 use Rattle.std.specs.Option.{is_some}
 use Rattle.std.specs.Str.{bytes_eq}
-use Rattle.pg_outside.specs.Inside.Disk.{Links}
+use Rattle.pg_outside.specs.Inside.disk.Disks.{Links}
 use Rattle.pg_told_disk.specs.declared.links.Link.{Link}
 
 -- the earlier link, or this one where the name is its own

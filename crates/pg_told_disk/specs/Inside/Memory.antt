@@ -1,6 +1,6 @@
 -- What a disk in memory tells.
 use Rattle.std.specs.Prelude.{ℕ, Bool, cond, List, Option, Some, None}
-use Rattle.pg_outside.specs.Inside.Disk.{DiskHistory}
+use Rattle.pg_outside.specs.Inside.disk.Disks.{DiskHistory}
 use Rattle.pg_told_disk.specs.Inside.Changes.{told_in, id_of}
 use Rattle.pg_outside.specs.declared.disk.system.FileId.{FileId}
 use Rattle.pg_told_disk.specs.declared.change.Change.{Change}

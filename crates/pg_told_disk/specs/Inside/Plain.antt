@@ -4,7 +4,7 @@ use Rattle.std.specs.Prelude.{◌≡◌, List, [], ◌∷◌, Bool, true, false,
 use Rattle.std.proofs.Common.{sym, ap, subst, ◌∙◌}
 use Rattle.std.specs.Option.{option_map}
 use Rattle.std.proofs.lemmas.Bool.{false≢true}
-use Rattle.pg_outside.specs.Inside.Disk.{HoldsNow, KnowsPlain, KnowsNewNames}
+use Rattle.pg_outside.specs.Inside.disk.Disks.{HoldsNow, KnowsPlain, KnowsNewNames}
 use Rattle.pg_told_disk.specs.Inside.Changes.{disk_in, file_in, number_in, node_with, bytes_in, stored_in}
 use Rattle.pg_told_disk.specs.Inside.Following.{not_link}
 use Rattle.pg_told_disk.specs.Inside.Memory.{told_where}

@@ -1,5 +1,5 @@
 use Rattle.std.proofs.Common.{◌≡◌, string_bytes}
-use Rattle.pg_outside.specs.Inside.Disk.{KeepsDisk, HoldsNow}
+use Rattle.pg_outside.specs.Inside.disk.Disks.{KeepsDisk, HoldsNow}
 use Rattle.pg_outside.proofs.Links.{IsReached}
 use Rattle.pg_outside.proofs.disk.links.find.Given as goal
 

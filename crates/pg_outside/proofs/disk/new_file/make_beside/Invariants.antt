@@ -1,5 +1,5 @@
 use Rattle.std.proofs.Common.{◌≡◌}
-use Rattle.pg_outside.specs.Inside.Disk.{KeepsDisk}
+use Rattle.pg_outside.specs.Inside.disk.Disks.{KeepsDisk}
 use Rattle.pg_outside.proofs.NewNameLoop.{HasTried}
 use Rattle.pg_outside.proofs.disk.new_file.make_beside.Given as goal
 

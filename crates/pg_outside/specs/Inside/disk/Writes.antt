@@ -4,15 +4,15 @@ use Rattle.std.specs.List.{list_any}
 use Rattle.pg_outside.specs.declared.disk.links.TheConstants.{LINK_NAMES_MAX}
 use Rattle.pg_outside.specs.declared.disk.new_file.TheConstants.{NEW_NAMES_MAX}
 use Rattle.pg_outside.specs.Faults.{next_count}
-use Rattle.pg_outside.specs.Inside.Causes.{IsCauseOf}
-use Rattle.pg_outside.specs.Inside.Disk.{Node, Disk, DiskHistory, AreOne, LeadsTo, LeadsToNone, AppendsBytes, AppendsFront, IsTaken, HoldsNow, id_at, node_at}
-use Rattle.pg_outside.specs.Inside.NewNames.{IsFolderOf, new_name}
-use Rattle.pg_outside.specs.Inside.DiskHeld.{all_faults}
+use Rattle.pg_outside.specs.Inside.disk.Causes.{IsCauseOf}
+use Rattle.pg_outside.specs.Inside.disk.Disks.{Node, Disk, DiskHistory, AreOne, LeadsTo, LeadsToNone, AppendsBytes, AppendsFront, IsTaken, HoldsNow, id_at, node_at}
+use Rattle.pg_outside.specs.Inside.disk.NewNames.{IsFolderOf, new_name}
+use Rattle.pg_outside.specs.Inside.disk.Shown.{all_faults}
 use Rattle.pg_outside.specs.declared.disk.files.DiskFiles.{DiskFiles}
 use Rattle.pg_outside.specs.declared.disk.system.FileId.{FileId}
 use Rattle.pg_outside.specs.declared.disk.system.Seen.{Seen}
 use Rattle.pg_outside.specs.declared.disk.error.WriteError.{WriteError}
-use Rattle.pg_outside.specs.Inside.Moments.{RunsCalls, AtMoment, IsWritten, IsAsBefore}
+use Rattle.pg_outside.specs.Inside.disk.Moments.{RunsCalls, AtMoment, IsWritten, IsAsBefore}
 
 -- whether these are one file
 abbrev pub is_same_file : FileId → FileId → Bool

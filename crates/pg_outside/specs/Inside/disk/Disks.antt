@@ -3,7 +3,7 @@ use Rattle.std.specs.Prelude.{◌≡◌, ◌≢◌, ℕ, ◌+◌, ◌<◌, ◌�
 use Rattle.std.specs.Cmp.Lexicographic.{slice_cmp}
 use Rattle.std.specs.Ordering.{nat_cmp}
 use Rattle.std.specs.FinMap as fin
-use Rattle.pg_outside.specs.Inside.NewNames.{IsNewName, IsLinkedName}
+use Rattle.pg_outside.specs.Inside.disk.NewNames.{IsNewName, IsLinkedName}
 use Rattle.pg_outside.specs.declared.disk.system.Entry.{Entry}
 use Rattle.pg_outside.specs.declared.disk.system.Entry.TheVariants.{Missing, Link, File}
 use Rattle.pg_outside.specs.declared.disk.system.FileId.{FileId}

@@ -2,7 +2,7 @@
 use Rattle.std.specs.Prelude.{ℕ, List, [], ◌∷◌, map, Bool, true, false, cond, ◌&&◌, Option, Some, None}
 use Rattle.std.specs.FinMap as fin
 use Rattle.pg_outside.specs.Content.{FileMap, FilesShown}
-use Rattle.pg_outside.specs.Inside.Disk.{Node, Disk, DiskHistory}
+use Rattle.pg_outside.specs.Inside.disk.Disks.{Node, Disk, DiskHistory}
 use Rattle.pg_outside.specs.FilesCalls.{FilesCall}
 use Rattle.pg_outside.specs.declared.disk.files.DiskFiles.{DiskFiles}
 

@@ -1,8 +1,8 @@
 -- The moments of a call: the disks between any two calls on the system.
 use Rattle.std.specs.Prelude.{◌≡◌, ℕ, List, [], ◌∷◌, ◌++◌, true, false, Option, Some, None, MatchOption, IfSome, ◌⊎◌}
 use Rattle.std.specs.Option.{unwrap_or}
-use Rattle.pg_outside.specs.Inside.Disk.{Node, Disk, DiskHistory, SetsFile, RenamesUnlessLink, AreOne, id_at, node_at, ChangesOnlyFile}
-use Rattle.pg_outside.specs.Inside.NewNames.{IsNewName}
+use Rattle.pg_outside.specs.Inside.disk.Disks.{Node, Disk, DiskHistory, SetsFile, RenamesUnlessLink, AreOne, id_at, node_at, ChangesOnlyFile}
+use Rattle.pg_outside.specs.Inside.disk.NewNames.{IsNewName}
 use Rattle.pg_outside.specs.declared.disk.system.FileId.{FileId}
 
 -- P holds of each of these disks
