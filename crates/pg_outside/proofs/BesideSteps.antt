@@ -5,9 +5,9 @@ use Rattle.std.specs.FinMap as fin
 use Rattle.std.specs.Str.{bytes_eq}
 use Rattle.std.proofs.lemmas.Bool.{false≢true}
 use Rattle.std.proofs.lemmas.Slice.Eq.{bytes_eq-Decides}
-use Rattle.pg_outside.specs.Inside.Disk.{Node, Disk, Links, NameMap, FileSet, Beside, Made, Disturbed, Moved, Gone, Refused, AreOne, KnowsNewNames, id_at, node_at, node_of}
-use Rattle.pg_outside.specs.Inside.Moments.{Filled, IsWhole, IsBeside, SameAt, AtMoment, IsWritten, IsSame, HasRest}
-use Rattle.pg_outside.specs.Inside.NewNames.{IsNewName}
+use Rattle.pg_outside.specs.Inside.disk.Disks.{Node, Disk, Links, NameMap, SetsFile, AddsFile, MakesFile, ChangesOnlyFile, RenamesFile, RemovesName, RefusesRemoval, AreOne, KnowsNewNames, id_at, node_at, node_of}
+use Rattle.pg_outside.specs.Inside.disk.Moments.{FillsFile, IsWhole, IsBeside, IsSameAt, AtMoment, IsWritten, IsSame, HasRest}
+use Rattle.pg_outside.specs.Inside.disk.NewNames.{IsNewName}
 use Rattle.pg_outside.specs.declared.disk.system.FileId.{FileId}
 
 same_or_not : (a b : List ℕ) → (a ≡ b) ⊎ (a ≢ b)
@@ -33,7 +33,7 @@ pub one_still : (a b : Disk) (p q : List ℕ) → b.links ≡ a.links → AreOne
 one_still a b p q links one = ap (λ (l : Links). l.real p) links ∙ one ∙ sym (ap (λ (l : Links). l.real q) links)
 
 -- the new file again
-beside_again : (own : List ℕ) (n : FileId) (x y : Node) (a b c : Disk) → Beside own n x a b → FileSet n y b c → Beside own n y a c
+beside_again : (own : List ℕ) (n : FileId) (x y : Node) (a b c : Disk) → AddsFile own n x a b → SetsFile n y b c → AddsFile own n y a c
 beside_again own n x y a b c ab bc = record {
   links = bc.links ∙ ab.links;
   unnamed = ab.unnamed;
@@ -46,7 +46,7 @@ beside_again own n x y a b c ab bc = record {
 }
 
 -- every other name leads to what it led to
-beside_same : (own : List ℕ) (n : FileId) (x : Node) (a b : Disk) → Beside own n x a b → (name : List ℕ) → ¬ AreOne a name own → SameAt a b name
+beside_same : (own : List ℕ) (n : FileId) (x : Node) (a b : Disk) → AddsFile own n x a b → (name : List ℕ) → ¬ AreOne a name own → IsSameAt a b name
 beside_same own n x a b ab name apart = (ab.names name apart, ap (λ (k : Option FileId). node_of k b.files) (ab.names name apart) ∙ by_id (id_at a name) refl)
   where
     by_id : (k : Option FileId) → id_at a name ≡ k → node_of k b.files ≡ node_of k a.files
@@ -68,7 +68,7 @@ is_beside own name a is_new apart known direct own_direct unnamed = record {
   unnamed = unnamed;
 }
 
-at_beside : (own name bytes : List ℕ) (mode : Option ℕ) (n : FileId) (x : Node) (a b : Disk) → IsBeside own name a → Beside own n x a b → AtMoment name bytes mode a b
+at_beside : (own name bytes : List ℕ) (mode : Option ℕ) (n : FileId) (x : Node) (a b : Disk) → IsBeside own name a → AddsFile own n x a b → AtMoment name bytes mode a b
 at_beside own name bytes mode n x a b beside ab = record {
   links = ab.links;
   own = own;
@@ -80,17 +80,17 @@ at_beside own name bytes mode n x a b beside ab = record {
 pub record HasBeside (own : List ℕ) (n : FileId) (first now : Disk) : Type 0 where
   pub node : Node
   pub direct : first.links.is_link own ≡ false
-  pub beside : Beside own n node first now
+  pub beside : AddsFile own n node first now
 
-pub made_then_disturbed : (own : List ℕ) (n : FileId) (a b c : Disk) → Made own n a b → Disturbed n b c → HasBeside own n a c
+pub made_then_disturbed : (own : List ℕ) (n : FileId) (a b c : Disk) → MakesFile own n a b → ChangesOnlyFile n b c → HasBeside own n a c
 made_then_disturbed own n a b c ab bc =
     let step = bc ab.node ab.beside.file in
     record { node = step.0; direct = ab.direct; beside = beside_again own n ab.node step.0 a b c ab.beside step.1 }
 
-pub at_made : (own name bytes : List ℕ) (mode : Option ℕ) (n : FileId) (a b : Disk) → IsBeside own name a → Made own n a b → AtMoment name bytes mode a b
+pub at_made : (own name bytes : List ℕ) (mode : Option ℕ) (n : FileId) (a b : Disk) → IsBeside own name a → MakesFile own n a b → AtMoment name bytes mode a b
 at_made own name bytes mode n a b beside ab = at_beside own name bytes mode n ab.node a b beside ab.beside
 
-pub at_disturbed : (own name bytes : List ℕ) (mode : Option ℕ) (n : FileId) (a b c : Disk) → IsBeside own name a → Made own n a b → Disturbed n b c → AtMoment name bytes mode a c
+pub at_disturbed : (own name bytes : List ℕ) (mode : Option ℕ) (n : FileId) (a b c : Disk) → IsBeside own name a → MakesFile own n a b → ChangesOnlyFile n b c → AtMoment name bytes mode a c
 at_disturbed own name bytes mode n a b c beside ab bc =
     let now = made_then_disturbed own n a b c ab bc in
     at_beside own name bytes mode n now.node a c beside now.beside
@@ -99,13 +99,13 @@ at_disturbed own name bytes mode n a b c beside ab bc =
 pub record IsReady (own bytes : List ℕ) (mode : Option ℕ) (n : FileId) (a b : Disk) : Type 0 where
   pub node : Node
   pub direct : a.links.is_link own ≡ false
-  pub beside : Beside own n node a b
+  pub beside : AddsFile own n node a b
   pub is_regular : node.is_regular ≡ true
   pub has_bytes : node.bytes ≡ bytes
   pub is_stored : node.is_stored ≡ true
   pub has_mode : node.mode ≡ unwrap_or mode a.links.new_mode
 
-pub made_then_filled : (own bytes : List ℕ) (mode : Option ℕ) (n : FileId) (a b c : Disk) → Made own n a b → Filled n mode bytes b c → IsReady own bytes mode n a c
+pub made_then_filled : (own bytes : List ℕ) (mode : Option ℕ) (n : FileId) (a b c : Disk) → MakesFile own n a b → FillsFile n mode bytes b c → IsReady own bytes mode n a c
 made_then_filled own bytes mode n a b c ab bc =
     let filled = bc ab.node ab.beside.file in
     record {
@@ -118,7 +118,7 @@ made_then_filled own bytes mode n a b c ab bc =
       has_mode = filled.5 ∙ ap (λ (m : ℕ). unwrap_or mode m) ab.mode;
     }
 
-is_whole : (own name bytes : List ℕ) (mode : Option ℕ) (n : FileId) (a b c : Disk) → IsReady own bytes mode n a b → Moved own name b c → IsWhole bytes mode c name
+is_whole : (own name bytes : List ℕ) (mode : Option ℕ) (n : FileId) (a b c : Disk) → IsReady own bytes mode n a b → RenamesFile own name b c → IsWhole bytes mode c name
 is_whole own name bytes mode n a b c ab bc = record {
   node = ab.node;
   there = ap (λ (k : Option FileId). node_of k c.files) (bc.moved ∙ ab.beside.named) ∙ bc.files n ∙ ab.beside.file;
@@ -135,7 +135,7 @@ one_id : (a : Disk) (p q : List ℕ) → AreOne a p q → id_at a p ≡ id_at a 
 one_id a p q one = ap (λ (r : List ℕ). fin.get a.names r) one
 
 -- a name that stands for one that led to no file, and leads to none
-none_same : (a c : Disk) (other own : List ℕ) → c.links ≡ a.links → AreOne a other own → id_at a own ≡ None → id_at c own ≡ None → SameAt a c other
+none_same : (a c : Disk) (other own : List ℕ) → c.links ≡ a.links → AreOne a other own → id_at a own ≡ None → id_at c own ≡ None → IsSameAt a c other
 none_same a c other own links one before after =
     let still = one_still a c other own links one in (
       one_id c other own still ∙ after ∙ sym before ∙ sym (one_id a other own one),
@@ -143,13 +143,13 @@ none_same a c other own links one before after =
     )
 
 -- the same once more
-same_on : (a b c : Disk) (other : List ℕ) → id_at c other ≡ id_at b other → ((m : FileId) → c.files m ≡ b.files m) → SameAt a b other → SameAt a c other
+same_on : (a b c : Disk) (other : List ℕ) → id_at c other ≡ id_at b other → ((m : FileId) → c.files m ≡ b.files m) → IsSameAt a b other → IsSameAt a c other
 same_on a b c other id files ab = (
   id ∙ ab.0,
   ap (λ (k : Option FileId). node_of k c.files) id ∙ node_of_same (id_at b other) c.files b.files files ∙ ab.1,
 )
 
-moved_same : (own name bytes : List ℕ) (mode : Option ℕ) (n : FileId) (a b c : Disk) → IsReady own bytes mode n a b → Moved own name b c → (other : List ℕ) → ¬ AreOne a other name → SameAt a c other
+moved_same : (own name bytes : List ℕ) (mode : Option ℕ) (n : FileId) (a b c : Disk) → IsReady own bytes mode n a b → RenamesFile own name b c → (other : List ℕ) → ¬ AreOne a other name → IsSameAt a c other
 moved_same own name bytes mode n a b c ab bc other apart =
     ⊎_elim
     (λ (one : AreOne a other own). none_same a c other own (bc.links ∙ ab.beside.links) one ab.beside.unnamed (bc.gone (λ same. apart (one ∙ one_back a b own name ab.beside.links same))))
@@ -157,7 +157,7 @@ moved_same own name bytes mode n a b c ab bc other apart =
     (beside_same own n ab.node a b ab.beside other not_own))
     (same_or_not (a.links.real other) (a.links.real own))
 
-pub is_written : (own name bytes : List ℕ) (mode : Option ℕ) (n : FileId) (a b c : Disk) → IsReady own bytes mode n a b → Moved own name b c → IsWritten name bytes mode n a c
+pub is_written : (own name bytes : List ℕ) (mode : Option ℕ) (n : FileId) (a b c : Disk) → IsReady own bytes mode n a b → RenamesFile own name b c → IsWritten name bytes mode n a c
 is_written own name bytes mode n a b c ab bc = record {
   links = bc.links ∙ ab.beside.links;
   refused = bc.refused ∙ ab.beside.refused;
@@ -176,7 +176,7 @@ whole_of_one bytes mode a p q one w = record {
   mode = w.mode;
 }
 
-pub at_placed : (own name bytes : List ℕ) (mode : Option ℕ) (n : FileId) (a b c : Disk) → IsBeside own name a → IsReady own bytes mode n a b → Moved own name b c → AtMoment name bytes mode a c
+pub at_placed : (own name bytes : List ℕ) (mode : Option ℕ) (n : FileId) (a b c : Disk) → IsBeside own name a → IsReady own bytes mode n a b → RenamesFile own name b c → AtMoment name bytes mode a c
 at_placed own name bytes mode n a b c beside ab bc = record {
   links = bc.links ∙ ab.beside.links;
   own = own;
@@ -188,7 +188,7 @@ at_placed own name bytes mode n a b c beside ab bc = record {
 }
 
 -- the new file was removed
-pub removed_same : (own : List ℕ) (n : FileId) (x : Node) (a b c : Disk) → Beside own n x a b → Gone own b c → IsSame a c
+pub removed_same : (own : List ℕ) (n : FileId) (x : Node) (a b c : Disk) → AddsFile own n x a b → RemovesName own b c → IsSame a c
 removed_same own n x a b c ab bc = record {
   links = bc.links ∙ ab.links;
   refused = bc.refused ∙ ab.refused;
@@ -207,7 +207,7 @@ at_same own name bytes mode a c beside same = record {
 }
 
 -- the system refused to remove it
-pub refused_rest : (own name : List ℕ) (n : FileId) (x : Node) (a b c : Disk) → IsBeside own name a → Beside own n x a b → Refused own b c → HasRest name a c
+pub refused_rest : (own name : List ℕ) (n : FileId) (x : Node) (a b c : Disk) → IsBeside own name a → AddsFile own n x a b → RefusesRemoval own b c → HasRest name a c
 refused_rest own name n x a b c beside ab bc = record {
   links = bc.links ∙ ab.links;
   own = own;

@@ -12,10 +12,10 @@ use Rattle.std.proofs.lemmas.Map.Text.{is_eq-slice_cmp}
 use Rattle.std.proofs.lemmas.Slice.Eq.{bytes_eq-Decides}
 use Rattle.pg_outside.specs.Content.{FileMap, KeepsHeld, file_at}
 use Rattle.pg_outside.specs.Inside.ToldFiles.{IsFile, IsFileCut, IsCut, WasWritten, WasPartWritten}
-use Rattle.pg_outside.specs.Inside.Disk.{Node, Disk, Told, Links, Keeps, Now, HasNoLinks, KnowsPlain, id_at, node_at, node_of}
-use Rattle.pg_outside.specs.Inside.Moments.{Runs, IsWritten, IsSame, HasRest}
-use Rattle.pg_outside.specs.Inside.DiskWrites.{IsPlain, IsContent, IsContentCut, AfterWrite, AfterFailure, mode_at}
-use Rattle.pg_outside.specs.Inside.DiskHeld.{bytes_of, file_map, has_none, is_shown, held_of}
+use Rattle.pg_outside.specs.Inside.disk.Disks.{Node, Disk, DiskHistory, Links, KeepsDisk, HoldsNow, HasNoLinks, KnowsPlain, id_at, node_at, node_of}
+use Rattle.pg_outside.specs.Inside.disk.Moments.{RunsCalls, IsWritten, IsSame, HasRest}
+use Rattle.pg_outside.specs.Inside.disk.Writes.{IsPlain, IsContent, IsContentCut, AfterWrite, AfterFailure, mode_at}
+use Rattle.pg_outside.specs.Inside.disk.Shown.{bytes_of, file_map, has_none, is_shown, held_of}
 use Rattle.pg_outside.specs.declared.disk.system.FileId.{FileId}
 
 find_map : (g : FileId → List ℕ) (es : List (List ℕ × FileId)) (q : List ℕ) → fin.find (slice_cmp nat_cmp) q (map (λ e. (e.0, g e.1)) es) ≡ option_map g (fin.find (slice_cmp nat_cmp) q es)
@@ -121,8 +121,8 @@ written_shown name bytes before kept a b ka kb after shown =
     let w = after.plain (plain_name a name no_a) in
     (sym (shown_same a b after.links w.written.refused) ∙ shown, written_map name bytes (mode_at name a) w.id a b no_a (kb plain.0) w.written)
 
-pub written_held : (P : Disk → Disk → Type 0) (name bytes : List ℕ) (before kept : List FileId) (a b : Option Told) → Now a KnowsPlain → Now b KnowsPlain
-    → Runs a b P (AfterWrite name bytes before kept) → WasWritten (held_of a) (held_of b) name bytes
+pub written_held : (P : Disk → Disk → Type 0) (name bytes : List ℕ) (before kept : List FileId) (a b : Option DiskHistory) → HoldsNow a KnowsPlain → HoldsNow b KnowsPlain
+    → RunsCalls a b P (AfterWrite name bytes before kept) → WasWritten (held_of a) (held_of b) name bytes
 written_held P name bytes before kept a None ka kb run = tt
 written_held P name bytes before kept None (Some b) ka kb run = absurd run
 written_held P name bytes before kept (Some a) (Some b) ka kb run = was_written (is_shown a.now) (is_shown b.now) name bytes (file_map a.now) (file_map b.now)
@@ -137,7 +137,7 @@ failed_shown name bytes a b ka kb after shown =
     (λ (rest : HasRest name a b). absurd (false≢true (sym (not_shown b rest.own a.refused rest.refused) ∙ shown)))
     (after.plain (plain_name a name no_a))
 
-pub failed_held : (P : Disk → Disk → Type 0) (name bytes : List ℕ) (a b : Option Told) → Now a KnowsPlain → Now b KnowsPlain → Runs a b P (AfterFailure name bytes)
+pub failed_held : (P : Disk → Disk → Type 0) (name bytes : List ℕ) (a b : Option DiskHistory) → HoldsNow a KnowsPlain → HoldsNow b KnowsPlain → RunsCalls a b P (AfterFailure name bytes)
     → WasPartWritten (held_of a) (held_of b) name bytes
 failed_held P name bytes a None ka kb run = tt
 failed_held P name bytes None (Some b) ka kb run = absurd run
@@ -147,15 +147,15 @@ kept_where : (held : Option FileMap) → KeepsHeld held held
 kept_where None = tt
 kept_where (Some files) = refl
 
-pub keeps_held : (a b : Option Told) → Keeps a b → KeepsHeld (held_of a) (held_of b)
+pub keeps_held : (a b : Option DiskHistory) → KeepsDisk a b → KeepsHeld (held_of a) (held_of b)
 keeps_held a None ab = tt
-keeps_held a (Some b) ab = subst (λ (t : Option Told). KeepsHeld (held_of t) (held_of (Some b))) (sym ab) (kept_where (held_of (Some b)))
+keeps_held a (Some b) ab = subst (λ (t : Option DiskHistory). KeepsHeld (held_of t) (held_of (Some b))) (sym ab) (kept_where (held_of (Some b)))
 
 file_where : (s : Bool) (m : FileMap) (name bytes : List ℕ) → (s ≡ true → file_at m name ≡ Some bytes) → IsFile (cond s (Some m) None) name bytes
 file_where true m name bytes is = is refl
 file_where false m name bytes is = tt
 
-pub read_held : (name bytes : List ℕ) (a : Option Told) → Now a KnowsPlain → Now a (IsContent name bytes) → IsFile (held_of a) name bytes
+pub read_held : (name bytes : List ℕ) (a : Option DiskHistory) → HoldsNow a KnowsPlain → HoldsNow a (IsContent name bytes) → IsFile (held_of a) name bytes
 read_held name bytes None ka content = tt
 read_held name bytes (Some a) ka content = file_where (is_shown a.now) (file_map a.now) name bytes (λ shown.
     held_node a.now name (ka (shown_plain a.now.links.is_plain (has_none a.now.refused) shown)) ∙ ap (λ (o : Option Node). option_map (λ node. node.bytes) o) content.there
@@ -165,7 +165,7 @@ cut_where : (s : Bool) (m : FileMap) (name : List ℕ) (limit : ℕ) (front : Li
 cut_where true m name limit front is = is refl
 cut_where false m name limit front is = tt
 
-pub cut_held : (name : List ℕ) (limit : ℕ) (front : List ℕ) (a : Option Told) → Now a KnowsPlain → Now a (IsContentCut name limit front) → IsFileCut (held_of a) name limit front
+pub cut_held : (name : List ℕ) (limit : ℕ) (front : List ℕ) (a : Option DiskHistory) → HoldsNow a KnowsPlain → HoldsNow a (IsContentCut name limit front) → IsFileCut (held_of a) name limit front
 cut_held name limit front None ka content = tt
 cut_held name limit front (Some a) ka content = cut_where (is_shown a.now) (file_map a.now) name limit front (λ shown.
     subst (λ (o : Option (List ℕ)). IsCut o limit front)

@@ -4,10 +4,10 @@ use Rattle.std.specs.FinMap as fin
 use Rattle.std.specs.Result.{IsErrAnd}
 use Rattle.std.proofs.lemmas.Grind.{common_steps}
 use Rattle.std.proofs.lemmas.Result.{on_err_weaker, on_ok_weaker}
-use Rattle.pg_outside.specs.Inside.Causes.{Because}
-use Rattle.pg_outside.specs.Inside.Disk.{Node, Disk, Told, AreOne, Keeps, Now, LeadsTo, LeadsToNone, IsOpened, IsWritable, IsStat, Wrote, WrotePart, id_at, node_at, node_of}
-use Rattle.pg_outside.specs.Inside.DiskWrites.{IsIn, KeepsAll, IsPlain, IsDevice, IsProtected, MayWrite, AtWrite, AfterWrite, AfterFailure, IsSeen, IsOld, IsPlaceOf, AllTaken, IsDeep, IsFull, IsWrite, WasKept, StandsFor, mode_of, mode_at}
-use Rattle.pg_outside.specs.Inside.Moments.{Runs, WhereDirect, AtMoment, IsBeside, IsWritten, IsAsBefore, IsSame, HasRest}
+use Rattle.pg_outside.specs.Inside.disk.Causes.{IsCauseOf}
+use Rattle.pg_outside.specs.Inside.disk.Disks.{Node, Disk, DiskHistory, AreOne, KeepsDisk, HoldsNow, LeadsTo, LeadsToNone, IsOpened, IsWritable, IsStat, AppendsBytes, AppendsFront, id_at, node_at, node_of}
+use Rattle.pg_outside.specs.Inside.disk.Writes.{IsIn, KeepsAll, IsPlain, IsDevice, IsProtected, MayWrite, AtWrite, AfterWrite, AfterFailure, IsSeen, IsOld, IsPlaceOf, AreAllTaken, IsDeep, IsFull, IsWrite, WasKept, StandsFor, mode_of, mode_at}
+use Rattle.pg_outside.specs.Inside.disk.Moments.{RunsCalls, WhereDirect, AtMoment, IsBeside, IsWritten, IsAsBefore, IsSame, HasRest}
 use Rattle.pg_outside.specs.declared.disk.error.WriteError.{WriteError}
 use Rattle.pg_outside.specs.declared.disk.system.FileId.{FileId}
 use Rattle.pg_outside.specs.declared.disk.system.Seen.{Seen}
@@ -196,9 +196,9 @@ may_old real name kept (Some id) (Some seen) mode d is s place regular free = su
 may_old real name kept None (Some seen) mode d is s place regular free = absurd place
 may_old real name kept (Some id) None mode d is s place regular free = absurd place
 
-pub leads_old : (real name : List ℕ) (kept : List FileId) (found : Option FileId) (old : Option Seen) (mode : Option ℕ) (a b : Option Told)
-    → Now a (IsOld name old) → Keeps a b → Now b (StandsFor real found name) → IsPlaceOf found old mode → IfSome old (λ seen. seen.is_regular ≡ true)
-    → IfSome old (λ seen. IsIn seen.id kept → ⊥) → Now b (Leads real name kept mode)
+pub leads_old : (real name : List ℕ) (kept : List FileId) (found : Option FileId) (old : Option Seen) (mode : Option ℕ) (a b : Option DiskHistory)
+    → HoldsNow a (IsOld name old) → KeepsDisk a b → HoldsNow b (StandsFor real found name) → IsPlaceOf found old mode → IfSome old (λ seen. seen.is_regular ≡ true)
+    → IfSome old (λ seen. IsIn seen.id kept → ⊥) → HoldsNow b (Leads real name kept mode)
 leads_old real name kept found old mode a b is ab stands place regular free =
     now_weaker _ _ b (now_both _ _ b (keeps_now _ a b is ab) stands) (λ d s. record {
       direct = s.1.direct;
@@ -213,19 +213,19 @@ found_old real name (Some id) (Some seen) d is s none = none (Some seen.mode) (s
 found_old real name None (Some seen) d is s none = none_some seen.id (sym s.leads ∙ id_one d real name s.one ∙ is.leads)
 found_old real name (Some id) None d is s none = none_some id (sym is ∙ sym (id_one d real name s.one) ∙ s.leads)
 
-pub no_other : (real name : List ℕ) (found : Option FileId) (old : Option Seen) (F : Disk → Type 0) (a b : Option Told) → Now a (IsOld name old)
-    → Keeps a b → Now b (StandsFor real found name) → ((mode : Option ℕ) → IsPlaceOf found old mode → ⊥) → Now b F
+pub no_other : (real name : List ℕ) (found : Option FileId) (old : Option Seen) (F : Disk → Type 0) (a b : Option DiskHistory) → HoldsNow a (IsOld name old)
+    → KeepsDisk a b → HoldsNow b (StandsFor real found name) → ((mode : Option ℕ) → IsPlaceOf found old mode → ⊥) → HoldsNow b F
 no_other real name found old F a b is ab stands none =
     now_weaker _ _ b (now_both _ _ b (keeps_now _ a b is ab) stands) (λ d s. absurd (found_old real name found old d s.0 s.1 none))
 
 -- each name beside what the name leads to is taken
-pub is_full : (real name : List ℕ) (found : Option FileId) (b c : Option Told) → Now b (StandsFor real found name) → Keeps b c → Now c (AllTaken real) → Now c (IsFull name)
+pub is_full : (real name : List ℕ) (found : Option FileId) (b c : Option DiskHistory) → HoldsNow b (StandsFor real found name) → KeepsDisk b c → HoldsNow c (AreAllTaken real) → HoldsNow c (IsFull name)
 is_full real name found b c stands bc taken =
     now_weaker _ _ c (now_both _ _ c (keeps_now _ b c stands bc) taken) (λ d s. record { real = real; direct = s.0.direct; one = s.0.one; all = s.1 })
 
 -- a new file takes the place of what the name leads to
-replaces_one : (real name bytes : List ℕ) (kept after : List FileId) (mode : Option ℕ) (n : FileId) (a b c : Option Told) → Keeps a b → Now b (Leads real name kept mode) → after ≡ kept ++ n ∷ []
-    → Runs b c (WhereDirect real (AtMoment real bytes mode)) (WhereDirect real (IsWritten real bytes mode n)) → Runs a c (AtWrite name bytes kept) (AfterWrite name bytes kept after)
+replaces_one : (real name bytes : List ℕ) (kept after : List FileId) (mode : Option ℕ) (n : FileId) (a b c : Option DiskHistory) → KeepsDisk a b → HoldsNow b (Leads real name kept mode) → after ≡ kept ++ n ∷ []
+    → RunsCalls b c (WhereDirect real (AtMoment real bytes mode)) (WhereDirect real (IsWritten real bytes mode n)) → RunsCalls a c (AtWrite name bytes kept) (AfterWrite name bytes kept after)
 replaces_one real name bytes kept after mode n a b c ab leads grown bc =
     keeps_then _ _ a b c ab (known_start _ _ _ _ (Leads real name kept mode) b c leads bc
     (λ x y f p. at_one real name bytes kept x y f.one (at_may real bytes kept mode x y f.may (p f.direct)))
@@ -234,10 +234,10 @@ replaces_one real name bytes kept after mode n a b c ab leads grown bc =
 keeps_one_more : (kept : List FileId) (n id : FileId) → IsIn id kept → IsIn id (kept ++ n ∷ [])
 keeps_one_more kept n id is = grind (arith, common_steps)
 
-pub replaces_found : {T E : Type 0} (result : Result T E) (real name bytes : List ℕ) (kept after : List FileId) (mode : Option ℕ) (a b c : Option Told) (before between later : ℕ)
-    → between ≡ before → Keeps a b → Now b (Leads real name kept mode)
-    → OnOk result ((later ≡ between) × (n : FileId) × (after ≡ kept ++ n ∷ []) × Runs b c (WhereDirect real (AtMoment real bytes mode)) (WhereDirect real (IsWritten real bytes mode n)))
-    → OnOk result ((later ≡ before) × KeepsAll kept after × Runs a c (AtWrite name bytes kept) (AfterWrite name bytes kept after))
+pub replaces_found : {T E : Type 0} (result : Result T E) (real name bytes : List ℕ) (kept after : List FileId) (mode : Option ℕ) (a b c : Option DiskHistory) (before between later : ℕ)
+    → between ≡ before → KeepsDisk a b → HoldsNow b (Leads real name kept mode)
+    → OnOk result ((later ≡ between) × (n : FileId) × (after ≡ kept ++ n ∷ []) × RunsCalls b c (WhereDirect real (AtMoment real bytes mode)) (WhereDirect real (IsWritten real bytes mode n)))
+    → OnOk result ((later ≡ before) × KeepsAll kept after × RunsCalls a c (AtWrite name bytes kept) (AfterWrite name bytes kept after))
 replaces_found (Ok value) real name bytes kept after mode a b c before between later same ab leads run = (
   run.0 ∙ same,
   λ id is. subst (λ (l : List FileId). IsIn id l) (sym run.2) (keeps_one_more kept run.1 id is),
@@ -250,15 +250,15 @@ pub kept_either : {T E : Type 0} (result : Result T E) (kept after : List FileId
 kept_either (Ok value) kept after ok err = ok
 kept_either (Err error) kept after ok err = λ id is. subst (λ (l : List FileId). IsIn id l) (sym err) is
 
-pub replace_found_fails : (real name bytes : List ℕ) (kept : List FileId) (mode : Option ℕ) (a b c : Option Told) → Keeps a b → Now b (Leads real name kept mode)
-    → Runs b c (WhereDirect real (AtMoment real bytes mode)) (WhereDirect real (IsAsBefore real)) → Runs a c (AtWrite name bytes kept) (AfterFailure name bytes)
+pub replace_found_fails : (real name bytes : List ℕ) (kept : List FileId) (mode : Option ℕ) (a b c : Option DiskHistory) → KeepsDisk a b → HoldsNow b (Leads real name kept mode)
+    → RunsCalls b c (WhereDirect real (AtMoment real bytes mode)) (WhereDirect real (IsAsBefore real)) → RunsCalls a c (AtWrite name bytes kept) (AfterFailure name bytes)
 replace_found_fails real name bytes kept mode a b c ab leads bc =
     keeps_then _ _ a b c ab (known_start _ _ _ _ (Leads real name kept mode) b c leads bc
     (λ x y f p. at_one real name bytes kept x y f.one (at_may real bytes kept mode x y f.may (p f.direct)))
     (λ x y f p. failure_one real name bytes x y f.one (failed_may real bytes kept mode x y f.may (p f.direct))))
 
 -- what was opened is what the system says of it
-pub opened_seen : (name : List ℕ) (id : FileId) (seen : Seen) (a b : Option Told) → Now a (IsOpened name id) → Now a (IsWritable id) → Keeps a b → Now b (IsStat id seen) → Now b (IsSeen name seen)
+pub opened_seen : (name : List ℕ) (id : FileId) (seen : Seen) (a b : Option DiskHistory) → HoldsNow a (IsOpened name id) → HoldsNow a (IsWritable id) → KeepsDisk a b → HoldsNow b (IsStat id seen) → HoldsNow b (IsSeen name seen)
 opened_seen name id seen a b opened writable ab stat =
     now_weaker _ _ b (now_both _ _ b (keeps_now _ a b (now_both _ _ a opened writable) ab) stat) (λ d s. record {
       leads = s.0.0.leads ∙ ap (λ (k : FileId). Some k) (sym s.1.is);
@@ -276,52 +276,52 @@ same_device R name n m x y leads other p = subst (λ (k : FileId). R k x y) (som
 may_device : (name : List ℕ) (kept : List FileId) (seen : Seen) (x : Disk) → seen.is_regular ≡ false → IsSeen name seen x → MayWrite name kept x
 may_device name kept seen x device s = record { writable = seen_writable name seen x s; free = λ n is. seen_device name seen x s device is.plain }
 
-at_device : (name bytes : List ℕ) (kept : List FileId) (seen : Seen) (x y : Disk) → seen.is_regular ≡ false → WrotePart seen.id bytes x y → IsSeen name seen x → AtWrite name bytes kept x y
+at_device : (name bytes : List ℕ) (kept : List FileId) (seen : Seen) (x y : Disk) → seen.is_regular ≡ false → AppendsFront seen.id bytes x y → IsSeen name seen x → AtWrite name bytes kept x y
 at_device name bytes kept seen x y device p s = record {
   allowed = may_device name kept seen x device s;
   plain = λ plain. absurd (seen_device name seen x s device plain);
-  device = λ n is. same_device (λ k. WrotePart k bytes) name seen.id n x y s.leads is.leads p;
+  device = λ n is. same_device (λ k. AppendsFront k bytes) name seen.id n x y s.leads is.leads p;
 }
 
-failed_device : (name bytes : List ℕ) (seen : Seen) (x y : Disk) → seen.is_regular ≡ false → WrotePart seen.id bytes x y → IsSeen name seen x → AfterFailure name bytes x y
+failed_device : (name bytes : List ℕ) (seen : Seen) (x y : Disk) → seen.is_regular ≡ false → AppendsFront seen.id bytes x y → IsSeen name seen x → AfterFailure name bytes x y
 failed_device name bytes seen x y device p s = record {
   links = let w = p.1 s.node s.there in w.1.links;
   plain = λ plain. absurd (seen_device name seen x s device plain);
-  device = λ n is. same_device (λ k. WrotePart k bytes) name seen.id n x y s.leads is.leads p;
+  device = λ n is. same_device (λ k. AppendsFront k bytes) name seen.id n x y s.leads is.leads p;
 }
 
-after_device : (name bytes : List ℕ) (kept : List FileId) (seen : Seen) (x y : Disk) → seen.is_regular ≡ false → Wrote seen.id bytes x y → IsSeen name seen x → AfterWrite name bytes kept kept x y
+after_device : (name bytes : List ℕ) (kept : List FileId) (seen : Seen) (x y : Disk) → seen.is_regular ≡ false → AppendsBytes seen.id bytes x y → IsSeen name seen x → AfterWrite name bytes kept kept x y
 after_device name bytes kept seen x y device p s = record {
   links = let w = p s.node s.there in w.1.links;
   allowed = may_device name kept seen x device s;
   plain = λ plain. absurd (seen_device name seen x s device plain);
-  device = λ n is. (same_device (λ k. Wrote k bytes) name seen.id n x y s.leads is.leads p, refl);
+  device = λ n is. (same_device (λ k. AppendsBytes k bytes) name seen.id n x y s.leads is.leads p, refl);
 }
 
-pub writes_device : (name bytes : List ℕ) (kept : List FileId) (seen : Seen) (n : FileId) (a b c : Option Told) → Now a (IsOpened name n) → Now a (IsWritable n)
-    → Keeps a b → Now b (IsStat n seen) → seen.is_regular ≡ false
-    → Runs b c (WrotePart n bytes) (Wrote n bytes) → Runs a c (AtWrite name bytes kept) (AfterWrite name bytes kept kept)
+pub writes_device : (name bytes : List ℕ) (kept : List FileId) (seen : Seen) (n : FileId) (a b c : Option DiskHistory) → HoldsNow a (IsOpened name n) → HoldsNow a (IsWritable n)
+    → KeepsDisk a b → HoldsNow b (IsStat n seen) → seen.is_regular ≡ false
+    → RunsCalls b c (AppendsFront n bytes) (AppendsBytes n bytes) → RunsCalls a c (AtWrite name bytes kept) (AfterWrite name bytes kept kept)
 writes_device name bytes kept seen n a b c opened writable ab stat device bc =
     keeps_then _ _ a b c ab (known_start _ _ _ _ (λ d. IsSeen name seen d × IsStat n seen d) b c (now_both _ _ b (opened_seen name n seen a b opened writable ab stat) stat) bc
-    (λ x y f p. at_device name bytes kept seen x y device (subst (λ (k : FileId). WrotePart k bytes x y) (sym f.1.is) p) f.0)
-    (λ x y f p. after_device name bytes kept seen x y device (subst (λ (k : FileId). Wrote k bytes x y) (sym f.1.is) p) f.0))
+    (λ x y f p. at_device name bytes kept seen x y device (subst (λ (k : FileId). AppendsFront k bytes x y) (sym f.1.is) p) f.0)
+    (λ x y f p. after_device name bytes kept seen x y device (subst (λ (k : FileId). AppendsBytes k bytes x y) (sym f.1.is) p) f.0))
 
-pub write_device_fails : (name bytes : List ℕ) (kept : List FileId) (seen : Seen) (n : FileId) (a b c : Option Told) → Now a (IsOpened name n)
-    → Now a (IsWritable n) → Keeps a b → Now b (IsStat n seen) → seen.is_regular ≡ false
-    → Runs b c (WrotePart n bytes) (WrotePart n bytes) → Runs a c (AtWrite name bytes kept) (AfterFailure name bytes)
+pub write_device_fails : (name bytes : List ℕ) (kept : List FileId) (seen : Seen) (n : FileId) (a b c : Option DiskHistory) → HoldsNow a (IsOpened name n)
+    → HoldsNow a (IsWritable n) → KeepsDisk a b → HoldsNow b (IsStat n seen) → seen.is_regular ≡ false
+    → RunsCalls b c (AppendsFront n bytes) (AppendsFront n bytes) → RunsCalls a c (AtWrite name bytes kept) (AfterFailure name bytes)
 write_device_fails name bytes kept seen n a b c opened writable ab stat device bc =
     keeps_then _ _ a b c ab (known_start _ _ _ _ (λ d. IsSeen name seen d × IsStat n seen d) b c (now_both _ _ b (opened_seen name n seen a b opened writable ab stat) stat) bc
-    (λ x y f p. at_device name bytes kept seen x y device (subst (λ (k : FileId). WrotePart k bytes x y) (sym f.1.is) p) f.0)
-    (λ x y f p. failed_device name bytes seen x y device (subst (λ (k : FileId). WrotePart k bytes x y) (sym f.1.is) p) f.0))
+    (λ x y f p. at_device name bytes kept seen x y device (subst (λ (k : FileId). AppendsFront k bytes x y) (sym f.1.is) p) f.0)
+    (λ x y f p. failed_device name bytes seen x y device (subst (λ (k : FileId). AppendsFront k bytes x y) (sym f.1.is) p) f.0))
 
 -- nothing was done
-pub nothing_failed : (name bytes : List ℕ) (kept : List FileId) (a b : Option Told) → Keeps a b → Runs a b (AtWrite name bytes kept) (AfterFailure name bytes)
+pub nothing_failed : (name bytes : List ℕ) (kept : List FileId) (a b : Option DiskHistory) → KeepsDisk a b → RunsCalls a b (AtWrite name bytes kept) (AfterFailure name bytes)
 nothing_failed name bytes kept a b ab =
     no_step _ _ a b ab (λ x. record { links = refl; plain = λ plain. inl (record { links = refl; refused = refl; names = λ other. (refl, refl) }); device = λ n is. (0, wrote_nothing n x) })
 
 -- a write that is passed on, after calls that changed nothing
-pub writes_later : {T : Type 0} (result : Result T WriteError) (first between last : ℕ) (before same kept : List FileId) (a b c : Option Told) (name bytes : List ℕ)
-    → between ≡ first → same ≡ before → Keeps a b
+pub writes_later : {T : Type 0} (result : Result T WriteError) (first between last : ℕ) (before same kept : List FileId) (a b c : Option DiskHistory) (name bytes : List ℕ)
+    → between ≡ first → same ≡ before → KeepsDisk a b
     → IsWrite result between last same kept b c name bytes → IsWrite result first last before kept a c name bytes
 writes_later result first between last before same kept a b c name bytes failures keeps ab write =
     let known : IsWrite result first last before kept b c name bytes = subst (λ (n : ℕ). IsWrite result n last before kept b c name bytes) failures
@@ -333,9 +333,9 @@ writes_later result first between last before same kept a b c name bytes failure
     }
 
 -- a write that fails before anything is changed
-pub writes_nothing : {T : Type 0} (result : Result T WriteError) (e : WriteError) (first last : ℕ) (before kept : List FileId) (a b : Option Told) (name bytes : List ℕ)
-    → IsErr result → IsErrAnd result (λ d. d ≡ e) → kept ≡ before → Keeps a b
-    → Because first last (Now b (WasKept name before)) (Now b (IsDeep name)) (Now b (IsFull name)) e → IsWrite result first last before kept a b name bytes
+pub writes_nothing : {T : Type 0} (result : Result T WriteError) (e : WriteError) (first last : ℕ) (before kept : List FileId) (a b : Option DiskHistory) (name bytes : List ℕ)
+    → IsErr result → IsErrAnd result (λ d. d ≡ e) → kept ≡ before → KeepsDisk a b
+    → IsCauseOf first last (HoldsNow b (WasKept name before)) (HoldsNow b (IsDeep name)) (HoldsNow b (IsFull name)) e → IsWrite result first last before kept a b name bytes
 writes_nothing result e first last before kept a b name bytes is_err is same ab because = record {
   ok = no_value _ result is_err;
   err = on_err result (same, nothing_failed _ _ _ _ _ ab);

@@ -6,7 +6,7 @@ use Rattle.std.specs.Str.Pattern.{HasCharAt}
 use Rattle.std.proofs.Math.Seq.{take-add}
 use Rattle.std.proofs.lemmas.List.{take-append-drop}
 use Rattle.std.proofs.lemmas.Str.Pattern.{drop_at_char, NoCharPasses-char}
-use Rattle.pg_outside.specs.Inside.NewNames.{IsFolderOf}
+use Rattle.pg_outside.specs.Inside.disk.NewNames.{IsFolderOf}
 
 pub folder_none : (folder name : List ℕ) → folder ≡ [] → NoCharPasses (λ d. d == 47) name → IsFolderOf folder name
 folder_none folder name is none = record {

@@ -1,8 +1,8 @@
 -- What following one link after the other has come to.
 use Rattle.std.proofs.Common.{◌≡◌, ◌+◌, ◌<◌, ◌≤◌, ⊎_elim, ℕ, List, true, Option, Some, None, refl, sym, ap, subst, ◌∙◌, arith, add-one}
-use Rattle.pg_outside.specs.Inside.Disk.{Disk, Told, AreOne, Keeps, Now, IsEntry, IsFollowedBy}
-use Rattle.pg_outside.specs.Inside.DiskWrites.{followed_name, IsDeep, StandsFor}
-use Rattle.pg_outside.specs.Inside.NewNames.{IsJoined}
+use Rattle.pg_outside.specs.Inside.disk.Disks.{Disk, DiskHistory, AreOne, KeepsDisk, HoldsNow, IsEntry, IsFollowedBy}
+use Rattle.pg_outside.specs.Inside.disk.Writes.{followed_name, IsDeep, StandsFor}
+use Rattle.pg_outside.specs.Inside.disk.NewNames.{IsLinkedName}
 use Rattle.pg_outside.specs.declared.disk.system.Entry.TheVariants.{Missing, Link, File}
 use Rattle.pg_outside.specs.declared.disk.system.FileId.{FileId}
 use Rattle.pg_outside.proofs.NewNameLoop.{below_or_last}
@@ -14,12 +14,12 @@ pub record IsReached (name real : List ℕ) (count : ℕ) (disk : Disk) : Type 0
   pub at : real ≡ followed_name disk count name
   pub links : (before : ℕ) → before < count → disk.links.is_link (followed_name disk before name) ≡ true
 
-pub not_followed : (told : Option Told) (name real : List ℕ) → real ≡ name → Now told (IsReached name real 0)
-not_followed told name real is = subst (λ (n : List ℕ). Now told (IsReached name n 0)) (sym is)
+pub not_followed : (told : Option DiskHistory) (name real : List ℕ) → real ≡ name → HoldsNow told (IsReached name real 0)
+not_followed told name real is = subst (λ (n : List ℕ). HoldsNow told (IsReached name n 0)) (sym is)
     (now_always (IsReached name name 0) told (λ d. record { one = refl; at = refl; links = λ before below. absurd (omega arith) }))
 
 reached : (name real text joined : List ℕ) (count : ℕ) (d : Disk) → IsReached name real count d → d.links.is_link real ≡ true → IsFollowedBy real text d
-    → IsJoined real text joined → IsReached name joined (count + 1) d
+    → IsLinkedName real text joined → IsReached name joined (count + 1) d
 reached name real text joined count d so_far link text_of is_joined =
     let said = text_of joined is_joined in
     record {
@@ -32,31 +32,31 @@ reached name real text joined count d so_far link text_of is_joined =
     }
 
 -- one more link
-pub reached_on : (name real text joined : List ℕ) (count next : ℕ) (a b c : Option Told) → Now a (IsReached name real count) → Keeps a b
-    → Now b (IsEntry real Link) → Keeps b c → Now c (IsFollowedBy real text) → IsJoined real text joined → next ≡ count + 1 → Now c (IsReached name joined next)
+pub reached_on : (name real text joined : List ℕ) (count next : ℕ) (a b c : Option DiskHistory) → HoldsNow a (IsReached name real count) → KeepsDisk a b
+    → HoldsNow b (IsEntry real Link) → KeepsDisk b c → HoldsNow c (IsFollowedBy real text) → IsLinkedName real text joined → next ≡ count + 1 → HoldsNow c (IsReached name joined next)
 reached_on name real text joined count next a b c so_far ab link bc text_of is_joined is =
-    subst (λ (k : ℕ). Now c (IsReached name joined k)) (sym is)
+    subst (λ (k : ℕ). HoldsNow c (IsReached name joined k)) (sym is)
     (now_weaker _ _ c (now_both _ _ c (keeps_now _ b c (now_both _ _ b (keeps_now _ a b so_far ab) link) bc) text_of)
     (λ d p. reached name real text joined count d p.0.0 p.0.1 p.1 is_joined))
 
 -- the links end at a name of no file
-pub stands_none : (name real found : List ℕ) (file : Option FileId) (count : ℕ) (a b : Option Told) → Now a (IsReached name real count) → Keeps a b
-    → Now b (IsEntry real Missing) → found ≡ real → file ≡ None → Now b (StandsFor found file name)
+pub stands_none : (name real found : List ℕ) (file : Option FileId) (count : ℕ) (a b : Option DiskHistory) → HoldsNow a (IsReached name real count) → KeepsDisk a b
+    → HoldsNow b (IsEntry real Missing) → found ≡ real → file ≡ None → HoldsNow b (StandsFor found file name)
 stands_none name real found file count a b so_far ab entry same none =
-    subst (λ (n : List ℕ). Now b (StandsFor n file name)) (sym same)
-    (subst (λ (f : Option FileId). Now b (StandsFor real f name)) (sym none)
+    subst (λ (n : List ℕ). HoldsNow b (StandsFor n file name)) (sym same)
+    (subst (λ (f : Option FileId). HoldsNow b (StandsFor real f name)) (sym none)
     (now_weaker _ _ b (now_both _ _ b (keeps_now _ a b so_far ab) entry) (λ d p. record { direct = p.1.0; leads = p.1.1; one = p.0.one })))
 
 -- the links end at a name of a file
-pub stands_some : (name real found : List ℕ) (id : FileId) (file : Option FileId) (count : ℕ) (a b : Option Told) → Now a (IsReached name real count)
-    → Keeps a b → Now b (IsEntry real (File id)) → found ≡ real → file ≡ Some id → Now b (StandsFor found file name)
+pub stands_some : (name real found : List ℕ) (id : FileId) (file : Option FileId) (count : ℕ) (a b : Option DiskHistory) → HoldsNow a (IsReached name real count)
+    → KeepsDisk a b → HoldsNow b (IsEntry real (File id)) → found ≡ real → file ≡ Some id → HoldsNow b (StandsFor found file name)
 stands_some name real found id file count a b so_far ab entry same some =
-    subst (λ (n : List ℕ). Now b (StandsFor n file name)) (sym same)
-    (subst (λ (f : Option FileId). Now b (StandsFor real f name)) (sym some)
+    subst (λ (n : List ℕ). HoldsNow b (StandsFor n file name)) (sym same)
+    (subst (λ (f : Option FileId). HoldsNow b (StandsFor real f name)) (sym some)
     (now_weaker _ _ b (now_both _ _ b (keeps_now _ a b so_far ab) entry) (λ d p. record { direct = p.1.0; leads = p.1.1; one = p.0.one })))
 
 below_all : (m n : ℕ) → m < 41 → 41 ≤ n → m < n
 below_all m n below all = omega arith
 
-pub is_deep : (name real : List ℕ) (count : ℕ) (a : Option Told) → 41 ≤ count → Now a (IsReached name real count) → Now a (IsDeep name)
+pub is_deep : (name real : List ℕ) (count : ℕ) (a : Option DiskHistory) → 41 ≤ count → HoldsNow a (IsReached name real count) → HoldsNow a (IsDeep name)
 is_deep name real count a all so_far = now_weaker _ _ a so_far (λ d p before below. p.links before (below_all before count below all))

@@ -2,7 +2,7 @@
 use Rattle.std.proofs.Common.{◌≡◌, ℕ, ◌+◌, ◌≤◌, List, String, ap, arith}
 use Rattle.std.specs.declared.alloc.Global.{Global}
 use Rattle.pg_outside.specs.Faults.{next_count}
-use Rattle.pg_outside.specs.Inside.MissingNames.{times_in}
+use Rattle.pg_outside.specs.Inside.memory.MissingNames.{times_in}
 
 module _ (before now : List (String Global)) (failed faults : ℕ) (same : now ≡ before) where
   pub reads_later : failed ≤ faults → (name : List ℕ) → failed + times_in before name ≤ faults + times_in now name

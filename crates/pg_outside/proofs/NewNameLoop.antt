@@ -3,9 +3,9 @@ use Rattle.std.proofs.Common.{◌≡◌, ◌⊎◌, inl, inr, ⊎_elim, ◌+◌,
 use Rattle.std.specs.Fmt.{decimal}
 use Rattle.std.proofs.lemmas.Bool.{cases_lt}
 use Rattle.std.proofs.lemmas.Grind.{common_steps}
-use Rattle.pg_outside.specs.Inside.Disk.{Disk, Told, Keeps, Now, IsTaken}
-use Rattle.pg_outside.specs.Inside.DiskWrites.{AllTaken}
-use Rattle.pg_outside.specs.Inside.NewNames.{IsFolderOf, new_name}
+use Rattle.pg_outside.specs.Inside.disk.Disks.{Disk, DiskHistory, KeepsDisk, HoldsNow, IsTaken}
+use Rattle.pg_outside.specs.Inside.disk.Writes.{AreAllTaken}
+use Rattle.pg_outside.specs.Inside.disk.NewNames.{IsFolderOf, new_name}
 use Rattle.pg_outside.proofs.Runs.{keeps_self, keeps_now, now_weaker, now_always}
 
 -- the name as the code puts it together
@@ -17,34 +17,34 @@ abbrev pub IsTried : List ℕ → List ℕ → ℕ → Disk → Type 0
 IsTried folder name counted disk = IsTaken (new_name folder counted) disk ⊎ (name ≡ new_name folder counted)
 
 -- each name so far was tried
-pub record HasTried (told : Option Told) (folder name : List ℕ) (tried : ℕ) : Type 0 where
-  pub each : (counted : ℕ) → counted < tried → Now told (IsTried folder name counted)
+pub record HasTried (told : Option DiskHistory) (folder name : List ℕ) (tried : ℕ) : Type 0 where
+  pub each : (counted : ℕ) → counted < tried → HoldsNow told (IsTried folder name counted)
 
-pub none_tried : (told : Option Told) (folder name : List ℕ) → HasTried told folder name 0
+pub none_tried : (told : Option DiskHistory) (folder name : List ℕ) → HasTried told folder name 0
 none_tried told folder name = record { each = λ counted below. absurd (omega arith) }
 
 pub below_or_last : (m n : ℕ) → m < n + 1 → (m < n) ⊎ (m ≡ n)
 below_or_last m n below = ⊎_elim (λ (lt : m < n). inl lt) (λ (le : n ≤ m). inr (omega arith)) (cases_lt m n)
 
-one_more : (a b : Option Told) (folder name : List ℕ) (tried next : ℕ) → Keeps a b → next ≡ tried + 1 → HasTried a folder name tried → Now b (IsTried folder name tried) → HasTried b folder name next
+one_more : (a b : Option DiskHistory) (folder name : List ℕ) (tried next : ℕ) → KeepsDisk a b → next ≡ tried + 1 → HasTried a folder name tried → HoldsNow b (IsTried folder name tried) → HasTried b folder name next
 one_more a b folder name tried next ab is so_far last = record {
   each = λ counted below. ⊎_elim
       (λ (before : counted < tried). keeps_now _ a b (so_far.each counted before) ab)
-      (λ same. subst (λ (k : ℕ). Now b (IsTried folder name k)) (sym same) last)
+      (λ same. subst (λ (k : ℕ). HoldsNow b (IsTried folder name k)) (sym same) last)
       (below_or_last counted tried (subst (λ (k : ℕ). counted < k) is below));
 }
 
-pub skipped : (a : Option Told) (folder name : List ℕ) (tried next : ℕ) → next ≡ tried + 1 → HasTried a folder name tried → new_name folder tried ≡ name → HasTried a folder name next
+pub skipped : (a : Option DiskHistory) (folder name : List ℕ) (tried next : ℕ) → next ≡ tried + 1 → HasTried a folder name tried → new_name folder tried ≡ name → HasTried a folder name next
 skipped a folder name tried next is so_far same = one_more a a folder name tried next (keeps_self a) is so_far (now_always (IsTried folder name tried) a (λ d. inr (sym same)))
 
-pub taken : (a b : Option Told) (own folder name : List ℕ) (tried next : ℕ) → Keeps a b → next ≡ tried + 1 → own ≡ new_name folder tried
-    → HasTried a folder name tried → Now b (IsTaken own) → HasTried b folder name next
+pub taken : (a b : Option DiskHistory) (own folder name : List ℕ) (tried next : ℕ) → KeepsDisk a b → next ≡ tried + 1 → own ≡ new_name folder tried
+    → HasTried a folder name tried → HoldsNow b (IsTaken own) → HasTried b folder name next
 taken a b own folder name tried next ab is named so_far is_taken = one_more a b folder name tried next ab is so_far
-    (now_weaker _ _ b (subst (λ (n : List ℕ). Now b (IsTaken n)) named is_taken) (λ d t. inl t))
+    (now_weaker _ _ b (subst (λ (n : List ℕ). HoldsNow b (IsTaken n)) named is_taken) (λ d t. inl t))
 
 below_all : (m n : ℕ) → m < 1000 → 1000 ≤ n → m < n
 below_all m n below all = omega arith
 
-pub all_taken : (told : Option Told) (folder name : List ℕ) (tried : ℕ) → IsFolderOf folder name → 1000 ≤ tried → HasTried told folder name tried → Now told (AllTaken name)
+pub all_taken : (told : Option DiskHistory) (folder name : List ℕ) (tried : ℕ) → IsFolderOf folder name → 1000 ≤ tried → HasTried told folder name tried → HoldsNow told (AreAllTaken name)
 all_taken None folder name tried is all so_far = tt
 all_taken (Some t) folder name tried is all so_far = record { folder = folder; is_folder = is; taken = λ counted below. so_far.each counted (below_all counted tried below all) }

@@ -3,8 +3,8 @@ use Rattle.std.proofs.Common.{◌≡◌, ℕ, ◌+◌, ◌-◌, ◌<◌, ◌≤�
 use Rattle.std.proofs.Math.Seq.{take-add}
 use Rattle.std.proofs.lemmas.List.{take-append-le}
 use Rattle.std.proofs.lemmas.Grind.{common_steps}
-use Rattle.pg_outside.specs.Inside.Disk.{Disk, Node, Told, Keeps, Now, HasPiece}
-use Rattle.pg_outside.specs.Inside.DiskReads.{IsAllOf, IsFrontOf}
+use Rattle.pg_outside.specs.Inside.disk.Disks.{Disk, Node, DiskHistory, KeepsDisk, HoldsNow, HasPiece}
+use Rattle.pg_outside.specs.Inside.disk.Reads.{IsAllOf, IsFrontOf}
 use Rattle.pg_outside.proofs.Runs.{keeps_self, keeps_both, keeps_now, now_both, now_weaker, now_always}
 use Rattle.pg_outside.specs.declared.disk.system.FileId.{FileId}
 
@@ -14,14 +14,14 @@ pub record IsRead (id : FileId) (at : ℕ) (bytes : List ℕ) (disk : Disk) : Ty
   pub front : (node : Node) → disk.files id ≡ Some node → bytes ≡ take (length bytes) node.bytes
   pub within : (node : Node) → disk.files id ≡ Some node → length bytes ≤ length node.bytes
 
-pub record HasRead (before now : Option Told) (file same : FileId) (at : ℕ) (bytes : List ℕ) (limit : ℕ) : Type 0 where
+pub record HasRead (before now : Option DiskHistory) (file same : FileId) (at : ℕ) (bytes : List ℕ) (limit : ℕ) : Type 0 where
   pub same_file : same ≡ file
-  pub keeps : Keeps before now
+  pub keeps : KeepsDisk before now
   pub within : length bytes ≤ limit + 1
-  pub read : Now now (IsRead file at bytes)
+  pub read : HoldsNow now (IsRead file at bytes)
 
 -- before the first read
-pub reads_none : (now : Option Told) (file : FileId) (at limit : ℕ) (bytes : List ℕ) → at ≡ 0 → bytes ≡ [] → HasRead now now file file at bytes limit
+pub reads_none : (now : Option DiskHistory) (file : FileId) (at limit : ℕ) (bytes : List ℕ) → at ≡ 0 → bytes ≡ [] → HasRead now now file file at bytes limit
 reads_none now file at limit bytes start empty = record {
   same_file = refl;
   keeps = keeps_self now;
@@ -57,15 +57,15 @@ is_read_on n at next count room bytes buffer d bound so_far piece = record {
 }
 
 -- one more read
-pub reads_on : (before now after : Option Told) (file same after_same : FileId) (at next count room limit : ℕ) (bytes buffer more : List ℕ)
-    → HasRead before now file same at bytes limit → Keeps now after → after_same ≡ same → Now after (HasPiece same at next count room buffer)
+pub reads_on : (before now after : Option DiskHistory) (file same after_same : FileId) (at next count room limit : ℕ) (bytes buffer more : List ℕ)
+    → HasRead before now file same at bytes limit → KeepsDisk now after → after_same ≡ same → HoldsNow after (HasPiece same at next count room buffer)
     → count ≤ length buffer → more ≡ bytes ++ take count buffer → length more ≤ limit + 1 → HasRead before after file after_same next more limit
 reads_on before now after file same after_same at next count room limit bytes buffer more so_far keeps is piece bound items within = record {
   same_file = is ∙ so_far.same_file;
   keeps = keeps_both before now after so_far.keeps keeps;
   within = within;
-  read = subst (λ (l : List ℕ). Now after (IsRead file next l)) (sym items)
-      (now_weaker _ _ after (now_both _ _ after (keeps_now _ now after so_far.read keeps) (subst (λ (k : FileId). Now after (HasPiece k at next count room buffer)) so_far.same_file piece))
+  read = subst (λ (l : List ℕ). HoldsNow after (IsRead file next l)) (sym items)
+      (now_weaker _ _ after (now_both _ _ after (keeps_now _ now after so_far.read keeps) (subst (λ (k : FileId). HoldsNow after (HasPiece k at next count room buffer)) so_far.same_file piece))
       (λ d p. is_read_on file at next count room bytes buffer d bound p.0 p.1));
 }
 
@@ -76,18 +76,18 @@ whole_of_front bytes all front end = front ∙ take_all (length bytes) all end
     take_all n l within = grind (arith, common_steps)
 
 -- a read of nothing
-pub reads_end : (before now after : Option Told) (file same : FileId) (at next count room limit : ℕ) (bytes buffer : List ℕ) → HasRead before now file same at bytes limit
-    → Keeps now after → Now after (HasPiece same at next count room buffer) → count ≡ 0 → 0 < room → Now after (IsAllOf file bytes)
+pub reads_end : (before now after : Option DiskHistory) (file same : FileId) (at next count room limit : ℕ) (bytes buffer : List ℕ) → HasRead before now file same at bytes limit
+    → KeepsDisk now after → HoldsNow after (HasPiece same at next count room buffer) → count ≡ 0 → 0 < room → HoldsNow after (IsAllOf file bytes)
 reads_end before now after file same at next count room limit bytes buffer so_far keeps piece none room_left =
-    now_weaker _ _ after (now_both _ _ after (keeps_now _ now after so_far.read keeps) (subst (λ (k : FileId). Now after (HasPiece k at next count room buffer)) so_far.same_file piece))
+    now_weaker _ _ after (now_both _ _ after (keeps_now _ now after so_far.read keeps) (subst (λ (k : FileId). HoldsNow after (HasPiece k at next count room buffer)) so_far.same_file piece))
     (λ d p node is. whole_of_front bytes node.bytes (p.0.front node is) (at_end (length node.bytes) at (length bytes) (p.1.end node is none room_left) p.0.on))
   where
     at_end : (a b c : ℕ) → a ≤ b → b ≡ c → a ≤ c
     at_end a b c le is = omega arith
 
 -- more than the limit
-pub reads_past : (before now : Option Told) (file same : FileId) (at limit : ℕ) (bytes : List ℕ) → HasRead before now file same at bytes limit
-    → limit < length bytes → Now now (IsFrontOf file limit bytes)
+pub reads_past : (before now : Option DiskHistory) (file same : FileId) (at limit : ℕ) (bytes : List ℕ) → HasRead before now file same at bytes limit
+    → limit < length bytes → HoldsNow now (IsFrontOf file limit bytes)
 reads_past before now file same at limit bytes so_far past =
     now_weaker _ _ now so_far.read (λ d p node is. (
       longer limit (length bytes) (length node.bytes) past (p.within node is),

@@ -1,21 +1,8 @@
 -- What only contracts between layers and proofs need.
-pub mod CallCodes
-pub mod CallLogs
-pub mod Calls
-pub mod Causes
-pub mod Disk
-pub mod DiskHeld
-pub mod DiskReads
-pub mod DiskWrites
-pub mod HostSink
-pub mod MemoryFiles
-pub mod MemorySink
-pub mod MissingNames
-pub mod Moments
 pub mod NameFaults
-pub mod NewNames
-pub mod QuietFiles
-pub mod QuietSink
-pub mod StoredFile
-pub mod Streams
 pub mod ToldFiles
+pub mod calls
+pub mod disk
+pub mod memory
+pub mod quiet
+pub mod writers

@@ -3,7 +3,7 @@
 ghost use Rattle.std.specs.Prelude.{◌≡◌, List, [], ◌∷◌, ◌++◌};
 ghost use Rattle.std.specs.Borrow.{ftrue};
 ghost use Rattle.pg_outside.specs.FilesCalls.{FilesCall};
-ghost use Rattle.pg_outside.specs.Inside.CallCodes.{calls_code};
+ghost use Rattle.pg_outside.specs.Inside.calls.CallCodes.{calls_code};
 
 use std::marker::Model;
 
@@ -25,7 +25,7 @@ pub(crate) enum Call<'a> {
 }
 
 impl CallLog {
-    ghost use Rattle.pg_outside.specs.Inside.CallLogs.{call_of};
+    ghost use Rattle.pg_outside.specs.Inside.calls.CallLogs.{call_of};
 
     /// No call so far.
     pub(crate) fn new() -> CallLog

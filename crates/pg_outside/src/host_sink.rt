@@ -3,7 +3,7 @@ ghost use Rattle.std.specs.Prelude.{◌≡◌, ◌≤◌, None, OnOk, OnErr, IsS
 ghost use Rattle.std.specs.Io.KnownBytes.{Appends};
 ghost use Rattle.pg_outside.specs.Content.{WasPut, WasPartPut};
 ghost use Rattle.pg_outside.specs.Faults.{Rose, next_count};
-ghost use Rattle.pg_outside.specs.Inside.Streams.{AppendsPart};
+ghost use Rattle.pg_outside.specs.Inside.writers.Streams.{AppendsPart};
 
 use super::outside::{Failed, Sink};
 use super::streams::write_bytes;
@@ -21,7 +21,7 @@ pub struct HostSink<W: Write + Drop> {
 }
 
 impl<W: Write + Drop> HostSink<W> {
-    ghost use Rattle.pg_outside.specs.Inside.HostSink.{writer_faults, writer_puts, writer_of, writer_reason};
+    ghost use Rattle.pg_outside.specs.Inside.writers.HostSink.{writer_faults, writer_puts, writer_of, writer_reason};
 
     /// A sink over this writer, with no fault so far.
     pub fn new(writer: W) -> HostSink<W>
@@ -47,7 +47,7 @@ impl<W: Write + Drop> HostSink<W> {
 }
 
 impl<W: Write + Drop> Sink for HostSink<W> {
-    ghost use Rattle.pg_outside.specs.Inside.HostSink.{writer_faults, writer_puts, writer_of, writer_reason};
+    ghost use Rattle.pg_outside.specs.Inside.writers.HostSink.{writer_faults, writer_puts, writer_of, writer_reason};
 
     ghost shown = { λ sink. record {
       text = None;

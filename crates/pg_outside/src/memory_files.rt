@@ -3,8 +3,8 @@ ghost use Rattle.std.specs.Prelude.{◌≡◌, ℕ, ◌+◌, ◌-◌, ◌^◌, �
 ghost use Rattle.std.specs.Option.{option_copied, option_map};
 ghost use Rattle.std.specs.FinMap as fin;
 ghost use Rattle.pg_outside.specs.Content.{file_at, HasPart};
-ghost use Rattle.pg_outside.specs.Inside.MissingNames.{times_in};
-ghost use Rattle.pg_outside.specs.Inside.StoredFile.{file_map, room_in};
+ghost use Rattle.pg_outside.specs.Inside.memory.MissingNames.{times_in};
+ghost use Rattle.pg_outside.specs.Inside.memory.StoredFile.{file_map, room_in};
 ghost use Rattle.pg_outside.specs.Inside.ToldFiles.{IsCut, IsReadOf, IsWriteOf};
 ghost use Rattle.pg_outside.specs.Faults.{next_count};
 ghost use Rattle.pg_outside.specs.Inside.NameFaults.{RoseByOneAtMost, NoneFell, SameCounts, SameOthers};
@@ -36,7 +36,7 @@ pub struct MemoryFiles {
 }
 
 impl MemoryFiles {
-    ghost use Rattle.pg_outside.specs.Inside.MemoryFiles.{files_of, reads_failed_of, writes_failed_of, calls_of, made_of, listed_of, next_listed};
+    ghost use Rattle.pg_outside.specs.Inside.memory.MemoryFiles.{files_of, reads_failed_of, writes_failed_of, calls_of, made_of, listed_of, next_listed};
 
     /// No file, no call so far and none that is to fail.
     pub fn new(alloc: Global) -> MemoryFiles
@@ -209,7 +209,7 @@ fn store_front(
 }
 
 impl Files for MemoryFiles {
-    ghost use Rattle.pg_outside.specs.Inside.MemoryFiles.{memory_shown, reads_failed_of, calls_of, listed_of, next_listed, IsListed, IsUnlisted, HasFile, SameFiles, SameReads, SameWrites, ReadsRose, WritesRose, ReadsByOne, WritesByOne, KeepsFront, KeepsFrontWithin};
+    ghost use Rattle.pg_outside.specs.Inside.memory.MemoryFiles.{memory_shown, reads_failed_of, calls_of, listed_of, next_listed, IsListed, IsUnlisted, HasFile, SameFiles, SameReads, SameWrites, ReadsRose, WritesRose, ReadsByOne, WritesByOne, KeepsFront, KeepsFrontWithin};
 
     ghost shown = { memory_shown };
 

@@ -20,7 +20,7 @@ pub struct MemorySink {
 }
 
 impl MemorySink {
-    ghost use Rattle.pg_outside.specs.Inside.MemorySink.{sink_bytes, sink_room, sink_faults, puts_of, listed_puts, next_listed_put};
+    ghost use Rattle.pg_outside.specs.Inside.memory.MemorySink.{sink_bytes, sink_room, sink_faults, puts_of, listed_puts, next_listed_put};
 
     /// An empty sink that holds at most `room` bytes.
     ///
@@ -82,7 +82,7 @@ impl MemorySink {
 }
 
 impl Sink for MemorySink {
-    ghost use Rattle.pg_outside.specs.Inside.MemorySink.{sink_bytes, sink_room, sink_faults, puts_of, listed_puts, next_listed_put, IsWithin, IsPast, SameBytes, PutsFront};
+    ghost use Rattle.pg_outside.specs.Inside.memory.MemorySink.{sink_bytes, sink_room, sink_faults, puts_of, listed_puts, next_listed_put, IsWithin, IsPast, SameBytes, PutsFront};
 
     ghost shown = { λ sink. record {
       text = Some (sink_bytes sink);

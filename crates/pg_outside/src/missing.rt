@@ -1,7 +1,7 @@
 //! The names of the reads that found no file.
 ghost use Rattle.std.specs.Prelude.{◌≡◌, ◌+◌, OnOk, OnErr};
 ghost use Rattle.pg_outside.specs.Inside.NameFaults.{NoneFell, RoseByOneAtMost, SameOthers};
-ghost use Rattle.pg_outside.specs.Inside.MissingNames.{times_in};
+ghost use Rattle.pg_outside.specs.Inside.memory.MissingNames.{times_in};
 
 use std::alloc::{AllocError, Global};
 

@@ -38,7 +38,7 @@ pub(crate) struct Plans {
 }
 
 impl Plans {
-    ghost use Rattle.pg_outside.specs.Inside.Calls.{listed_calls, plan_entry};
+    ghost use Rattle.pg_outside.specs.Inside.calls.ListedCalls.{listed_calls, plan_entry};
 
     pub fn new(alloc: Global) -> Plans
         ensures listed { result.listed.items ≡ [] }

@@ -4,7 +4,7 @@ ghost use Rattle.std.specs.Option.{option_copied};
 ghost use Rattle.std.specs.FinMap as fin;
 ghost use Rattle.pg_outside.specs.Inside.ToldFiles.{IsReadOf, IsWriteOf};
 ghost use Rattle.pg_outside.specs.Inside.NameFaults.{NoneFell, SameCounts};
-ghost use Rattle.pg_outside.specs.Inside.StoredFile.{room_in};
+ghost use Rattle.pg_outside.specs.Inside.memory.StoredFile.{room_in};
 
 use super::call_log::{Call, CallLog};
 use super::outside::{Failed, Files, ReadError};
@@ -24,7 +24,7 @@ pub struct QuietFiles {
 }
 
 impl QuietFiles {
-    ghost use Rattle.pg_outside.specs.Inside.QuietFiles.{quiet_files_of, quiet_calls_of, is_telling, told_file, StaysTelling};
+    ghost use Rattle.pg_outside.specs.Inside.quiet.QuietFiles.{quiet_files_of, quiet_calls_of, is_telling, told_file, StaysTelling};
 
     /// No file; it tells this.
     pub fn new(alloc: Global) -> QuietFiles
@@ -81,7 +81,7 @@ impl QuietFiles {
 }
 
 impl Files for QuietFiles {
-    ghost use Rattle.pg_outside.specs.Inside.QuietFiles.{quiet_files_of, is_telling, quiet_shown, StoresFile, LacksFile, StaysTelling};
+    ghost use Rattle.pg_outside.specs.Inside.quiet.QuietFiles.{quiet_files_of, is_telling, quiet_shown, StoresFile, LacksFile, StaysTelling};
 
     ghost shown = { quiet_shown };
 

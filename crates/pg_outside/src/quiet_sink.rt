@@ -18,7 +18,7 @@ pub struct QuietSink {
 }
 
 impl QuietSink {
-    ghost use Rattle.pg_outside.specs.Inside.QuietSink.{told_text, quiet_sink_room};
+    ghost use Rattle.pg_outside.specs.Inside.quiet.QuietSink.{told_text, quiet_sink_room};
 
     /// An empty sink with room for `room` bytes, which tells its bytes.
     ///
@@ -47,7 +47,7 @@ impl QuietSink {
 }
 
 impl Sink for QuietSink {
-    ghost use Rattle.pg_outside.specs.Inside.QuietSink.{told_text, quiet_sink_room, quiet_puts_of, quiet_sink_shown, PutsWithin, EndsPast};
+    ghost use Rattle.pg_outside.specs.Inside.quiet.QuietSink.{told_text, quiet_sink_room, quiet_puts_of, quiet_sink_shown, PutsWithin, EndsPast};
 
     ghost shown = { quiet_sink_shown };
 

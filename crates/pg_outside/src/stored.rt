@@ -5,7 +5,7 @@ ghost use Rattle.std.specs.FinMap as fin;
 ghost use Rattle.pg_outside.specs.Content.{file_at};
 ghost use Rattle.pg_outside.specs.Inside.ToldFiles.{IsCut};
 ghost use Rattle.pg_outside.specs.Inside.NameFaults.{NoneFell, SameCounts};
-ghost use Rattle.pg_outside.specs.Inside.StoredFile.{has_name, file_map, room_in, IsPlace, IsMissing};
+ghost use Rattle.pg_outside.specs.Inside.memory.StoredFile.{has_name, file_map, room_in, IsPlace, IsMissing};
 
 use super::outside::ReadError;
 use std::alloc::{AllocError, Global};

@@ -2,7 +2,7 @@
 ghost use Rattle.std.specs.Prelude.{◌≡◌, ◌<◌, length, take, OnOk, OnErr, IfOk};
 ghost use Rattle.std.specs.Io.{ReadsAtMost, WritesAtMost};
 ghost use Rattle.std.specs.Io.KnownBytes.{Appends, Consumes, IsAtEnd, Keeps};
-ghost use Rattle.pg_outside.specs.Inside.Streams.{AppendsPart};
+ghost use Rattle.pg_outside.specs.Inside.writers.Streams.{AppendsPart};
 
 use std::io;
 use std::io::{ErrorKind, Read, Write};

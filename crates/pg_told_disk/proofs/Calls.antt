@@ -2,12 +2,12 @@
 use Rattle.std.proofs.Common.{◌≡◌, inl, inr, ℕ, List, ◌∷◌, length, Bool, true, false, Option, Some, None, Vec, String, string_bytes, refl, sym, ap, subst, ◌∙◌}
 use Rattle.std.specs.Option.{option_map, is_some}
 use Rattle.std.specs.declared.alloc.Global.{Global}
-use Rattle.pg_outside.specs.Inside.Disk as disk
-use Rattle.pg_outside.specs.Inside.Disk.{Disk, Node, Steps, Now, IsEntry, IsFollowedBy, IsOpened, IsWritable, IsTaken, LeadsToNone, IsStat, Disturbed, WrotePart}
-use Rattle.pg_outside.specs.Inside.NewNames.{IsJoined}
+use Rattle.pg_outside.specs.Inside.disk.Disks as disk
+use Rattle.pg_outside.specs.Inside.disk.Disks.{Disk, Node, ChangesDisk, HoldsNow, IsEntry, IsFollowedBy, IsOpened, IsWritable, IsTaken, LeadsToNone, IsStat, ChangesOnlyFile, AppendsFront}
+use Rattle.pg_outside.specs.Inside.disk.NewNames.{IsLinkedName}
 use Rattle.pg_outside.specs.declared.disk.system.Entry.TheVariants.{Missing, Link, File}
 use Rattle.pg_outside.specs.declared.disk.system.FileId.{FileId}
-use Rattle.pg_told_disk.specs.Inside.Changes.{number_in, mode_in, kind_in, bytes_in, stored_in, node_with, lets_write, id_of, disk_in}
+use Rattle.pg_told_disk.specs.Inside.Changes.{number_in, mode_in, bytes_in, stored_in, node_with, lets_write, id_of, disk_in}
 use Rattle.pg_told_disk.specs.Inside.Linked.{link_in, real_in, said_or}
 use Rattle.pg_told_disk.specs.Inside.Memory.{told_where}
 use Rattle.pg_told_disk.specs.Inside.Following.{not_link, said_same}
@@ -33,19 +33,19 @@ none_in links log q is = id_in links log q ∙ id_none (number_in log (real_in l
 stands : (links : List linked.Link) (log : List Change) (q : List ℕ) (o : Option ℕ) → is_some (link_in links q) ≡ false → number_in log q ≡ o → number_in log (real_in links q) ≡ o
 stands links log q o unlinked is = ap (λ (r : List ℕ). number_in log r) (not_link links q unlinked) ∙ is
 
-pub is_linked : (b : Bool) (links : List linked.Link) (log : List Change) (q : List ℕ) → is_some (link_in links q) ≡ true → Now (told_where b links log) (IsEntry q Link)
+pub is_linked : (b : Bool) (links : List linked.Link) (log : List Change) (q : List ℕ) → is_some (link_in links q) ≡ true → HoldsNow (told_where b links log) (IsEntry q Link)
 is_linked b links log q is = told_now b links log (IsEntry q Link) is
 
-pub is_missing : (b : Bool) (links : List linked.Link) (log : List Change) (q : List ℕ) → is_some (link_in links q) ≡ false → number_in log q ≡ None → Now (told_where b links log) (IsEntry q Missing)
+pub is_missing : (b : Bool) (links : List linked.Link) (log : List Change) (q : List ℕ) → is_some (link_in links q) ≡ false → number_in log q ≡ None → HoldsNow (told_where b links log) (IsEntry q Missing)
 is_missing b links log q unlinked none = told_now b links log (IsEntry q Missing) (unlinked, none_in links log q (stands links log q None unlinked none))
 
 pub is_file : (b : Bool) (links : List linked.Link) (log : List Change) (q : List ℕ) (n : ℕ) (id : FileId) → is_some (link_in links q) ≡ false → id
-    ≡ id_of n → number_in log q ≡ Some n → Now (told_where b links log) (IsEntry q (File id))
-is_file b links log q n id unlinked named is = subst (λ (k : FileId). Now (told_where b links log) (IsEntry q (File k))) (sym named)
+    ≡ id_of n → number_in log q ≡ Some n → HoldsNow (told_where b links log) (IsEntry q (File id))
+is_file b links log q n id unlinked named is = subst (λ (k : FileId). HoldsNow (told_where b links log) (IsEntry q (File k))) (sym named)
     (told_now b links log (IsEntry q (File (id_of n))) (unlinked, leads_in links log q n (stands links log q (Some n) unlinked is)))
 
 followed_in : (links : List linked.Link) (log : List Change) (q text : List ℕ) (link : linked.Link) → link_in links q ≡ Some link
-    → IsJoined q text (string_bytes link.said) → IsFollowedBy q text (disk_in links log)
+    → IsLinkedName q text (string_bytes link.said) → IsFollowedBy q text (disk_in links log)
 followed_in links log q text link is says = λ joined is_joined.
     let one = one_joined q text joined (string_bytes link.said) is_joined says in (
       one ∙ sym (ap (λ (o : Option linked.Link). said_or o q) is),
@@ -53,19 +53,19 @@ followed_in links log q text link is says = λ joined is_joined.
     )
 
 pub is_followed : (b : Bool) (links : List linked.Link) (log : List Change) (q text : List ℕ) (link : linked.Link) → link_in links q ≡ Some link
-    → IsJoined q text (string_bytes link.said) → Now (told_where b links log) (IsFollowedBy q text)
+    → IsLinkedName q text (string_bytes link.said) → HoldsNow (told_where b links log) (IsFollowedBy q text)
 is_followed b links log q text link is says = told_now b links log (IsFollowedBy q text) (followed_in links log q text link is says)
 
-pub leads_none : (b : Bool) (links : List linked.Link) (log : List Change) (q : List ℕ) → number_in log (real_in links q) ≡ None → Now (told_where b links log) (LeadsToNone q)
+pub leads_none : (b : Bool) (links : List linked.Link) (log : List Change) (q : List ℕ) → number_in log (real_in links q) ≡ None → HoldsNow (told_where b links log) (LeadsToNone q)
 leads_none b links log q none = told_now b links log (LeadsToNone q) (none_in links log q none)
 
 abbrev node_at : List Change → ℕ → ℕ → Node
-node_at log n mode = node_with (kind_in log n) (bytes_in log n) (stored_in log n) mode
+node_at log n mode = node_with (bytes_in log n) (stored_in log n) mode
 
 there_in : (links : List linked.Link) (log : List Change) (n mode : ℕ) → mode_in log n ≡ Some mode → (disk_in links log).files (id_of n) ≡ Some (node_at log n mode)
 there_in links log n mode is = ap (λ (o : Option ℕ). option_map (node_at log n) o) is
 
-pub opened : (b : Bool) (links : List linked.Link) (log : List Change) (q : List ℕ) (n : ℕ) → number_in log (real_in links q) ≡ Some n → Now (told_where b links log) (IsOpened q (id_of n))
+pub opened : (b : Bool) (links : List linked.Link) (log : List Change) (q : List ℕ) (n : ℕ) → number_in log (real_in links q) ≡ Some n → HoldsNow (told_where b links log) (IsOpened q (id_of n))
 opened b links log q n is =
     let has = named_has log (real_in links q) n is in
     told_now b links log (IsOpened q (id_of n)) (record { leads = leads_in links log q n is; node = node_at log n has.mode; there = there_in links log n has.mode has.there })
@@ -76,66 +76,66 @@ writable_in links log n mode is lets = λ node there.
     ap (λ (k : Node). k.is_writable) parts.2
     ∙ ap (λ (m : ℕ). lets_write m) (some_number parts.0 mode (sym parts.1 ∙ is)) ∙ lets
 
-pub writable : (b : Bool) (links : List linked.Link) (log : List Change) (n mode : ℕ) → mode_in log n ≡ Some mode → lets_write mode ≡ true → Now (told_where b links log) (IsWritable (id_of n))
+pub writable : (b : Bool) (links : List linked.Link) (log : List Change) (n mode : ℕ) → mode_in log n ≡ Some mode → lets_write mode ≡ true → HoldsNow (told_where b links log) (IsWritable (id_of n))
 writable b links log n mode is lets = told_now b links log (IsWritable (id_of n)) (writable_in links log n mode is lets)
 
-pub taken_by_link : (b : Bool) (links : List linked.Link) (log : List Change) (q : List ℕ) → is_some (link_in links q) ≡ true → Now (told_where b links log) (IsTaken q)
+pub taken_by_link : (b : Bool) (links : List linked.Link) (log : List Change) (q : List ℕ) → is_some (link_in links q) ≡ true → HoldsNow (told_where b links log) (IsTaken q)
 taken_by_link b links log q is = told_now b links log (IsTaken q) (inl is)
 
-pub taken : (b : Bool) (links : List linked.Link) (log : List Change) (q : List ℕ) (n : ℕ) → is_some (link_in links q) ≡ false → number_in log q ≡ Some n → Now (told_where b links log) (IsTaken q)
+pub taken : (b : Bool) (links : List linked.Link) (log : List Change) (q : List ℕ) (n : ℕ) → is_some (link_in links q) ≡ false → number_in log q ≡ Some n → HoldsNow (told_where b links log) (IsTaken q)
 taken b links log q n unlinked is = told_now b links log (IsTaken q) (inr (id_of n, leads_in links log q n (stands links log q (Some n) unlinked is)))
 
-pub stat : (b : Bool) (links : List linked.Link) (log : List Change) (n mode : ℕ) (regular : Bool) (id : FileId) → id ≡ id_of n → mode_in log n ≡ Some mode
-    → regular ≡ kind_in log n → Now (told_where b links log) (IsStat (id_of n) (record { id = id; is_regular = regular; mode = mode }))
-stat b links log n mode regular id named modes kind = told_now b links log (IsStat (id_of n) (record { id = id; is_regular = regular; mode = mode }))
-    (record { is = named; node = node_at log n mode; there = there_in links log n mode modes; kind = sym kind; mode = refl })
+pub stat : (b : Bool) (links : List linked.Link) (log : List Change) (n mode : ℕ) (id : FileId) → id ≡ id_of n → mode_in log n ≡ Some mode
+    → HoldsNow (told_where b links log) (IsStat (id_of n) (record { id = id; is_regular = true; mode = mode }))
+stat b links log n mode id named modes = told_now b links log (IsStat (id_of n) (record { id = id; is_regular = true; mode = mode }))
+    (record { is = named; node = node_at log n mode; there = there_in links log n mode modes; kind = refl; mode = refl })
 
 pub made_step : (b b2 : Bool) (links links2 : List linked.Link) (log log2 : List Change) (own : String Global) (name : List ℕ) (n : ℕ) → (b2 ≡ true → b ≡ true)
-    → links2 ≡ links → (b2 ≡ true → log2 ≡ Made own true ∷ log) → string_bytes own ≡ name → n ≡ length log → is_some (link_in links name) ≡ false
-    → number_in log name ≡ None → Steps (told_where b links log) (told_where b2 links2 log2) (disk.Made name (id_of n))
+    → links2 ≡ links → (b2 ≡ true → log2 ≡ Made own ∷ log) → string_bytes own ≡ name → n ≡ length log → is_some (link_in links name) ≡ false
+    → number_in log name ≡ None → ChangesDisk (told_where b links log) (told_where b2 links2 log2) (disk.MakesFile name (id_of n))
 made_step b b2 links links2 log log2 own name n told same is named counted unlinked none =
-    subst (λ (q : List ℕ). Steps (told_where b links log) (told_where b2 links2 log2) (disk.Made q (id_of n))) named
-    (subst (λ (k : ℕ). Steps (told_where b links log) (told_where b2 links2 log2) (disk.Made (string_bytes own) (id_of k))) (sym counted)
-    (steps b b2 links links2 log log2 (Made own true) (disk.Made (string_bytes own) (id_of (length log))) told same is
+    subst (λ (q : List ℕ). ChangesDisk (told_where b links log) (told_where b2 links2 log2) (disk.MakesFile q (id_of n))) named
+    (subst (λ (k : ℕ). ChangesDisk (told_where b links log) (told_where b2 links2 log2) (disk.MakesFile (string_bytes own) (id_of k))) (sym counted)
+    (steps b b2 links links2 log log2 (Made own) (disk.MakesFile (string_bytes own) (id_of (length log))) told same is
     (made links log own (ap (λ (q : List ℕ). is_some (link_in links q)) named ∙ unlinked) (ap (λ (q : List ℕ). number_in log q) named ∙ none))))
 
 pub removed_step : (b b2 : Bool) (links links2 : List linked.Link) (log log2 : List Change) (own : String Global) (name : List ℕ) → (b2 ≡ true → b ≡ true)
-    → links2 ≡ links → (b2 ≡ true → log2 ≡ Removed own ∷ log) → string_bytes own ≡ name → Steps (told_where b links log) (told_where b2 links2 log2) (disk.RemovedName name)
+    → links2 ≡ links → (b2 ≡ true → log2 ≡ Removed own ∷ log) → string_bytes own ≡ name → ChangesDisk (told_where b links log) (told_where b2 links2 log2) (disk.RemovesUnlessLink name)
 removed_step b b2 links links2 log log2 own name told same is named =
-    subst (λ (q : List ℕ). Steps (told_where b links log) (told_where b2 links2 log2) (disk.RemovedName q)) named
-    (steps b b2 links links2 log log2 (Removed own) (disk.RemovedName (string_bytes own)) told same is (removed links log own))
+    subst (λ (q : List ℕ). ChangesDisk (told_where b links log) (told_where b2 links2 log2) (disk.RemovesUnlessLink q)) named
+    (steps b b2 links links2 log log2 (Removed own) (disk.RemovesUnlessLink (string_bytes own)) told same is (removed links log own))
 
 pub renamed_step : (b b2 : Bool) (links links2 : List linked.Link) (log log2 : List Change) (from to : String Global) (p q : List ℕ) → (b2 ≡ true → b ≡ true)
-    → links2 ≡ links → (b2 ≡ true → log2 ≡ Renamed from to ∷ log) → string_bytes from ≡ p → string_bytes to ≡ q → Steps (told_where b links log) (told_where b2 links2 log2) (disk.Renamed p q)
+    → links2 ≡ links → (b2 ≡ true → log2 ≡ Renamed from to ∷ log) → string_bytes from ≡ p → string_bytes to ≡ q → ChangesDisk (told_where b links log) (told_where b2 links2 log2) (disk.RenamesUnlessLink p q)
 renamed_step b b2 links links2 log log2 from to p q told same is one other =
-    subst (λ (r : List ℕ). Steps (told_where b links log) (told_where b2 links2 log2) (disk.Renamed p r)) other
-    (subst (λ (r : List ℕ). Steps (told_where b links log) (told_where b2 links2 log2) (disk.Renamed r (string_bytes to))) one
-    (steps b b2 links links2 log log2 (Renamed from to) (disk.Renamed (string_bytes from) (string_bytes to)) told same is (renamed links log from to)))
+    subst (λ (r : List ℕ). ChangesDisk (told_where b links log) (told_where b2 links2 log2) (disk.RenamesUnlessLink p r)) other
+    (subst (λ (r : List ℕ). ChangesDisk (told_where b links log) (told_where b2 links2 log2) (disk.RenamesUnlessLink r (string_bytes to))) one
+    (steps b b2 links links2 log log2 (Renamed from to) (disk.RenamesUnlessLink (string_bytes from) (string_bytes to)) told same is (renamed links log from to)))
 
 pub stayed_step : (b b2 : Bool) (links links2 : List linked.Link) (log log2 : List Change) (n : FileId) → (b2 ≡ true → b ≡ true) → links2 ≡ links
-    → (b2 ≡ true → log2 ≡ Stayed ∷ log) → Steps (told_where b links log) (told_where b2 links2 log2) (Disturbed n)
-stayed_step b b2 links links2 log log2 n told same is = steps b b2 links links2 log log2 Stayed (Disturbed n) told same is (stayed links log n)
+    → (b2 ≡ true → log2 ≡ Stayed ∷ log) → ChangesDisk (told_where b links log) (told_where b2 links2 log2) (ChangesOnlyFile n)
+stayed_step b b2 links links2 log log2 n told same is = steps b b2 links links2 log log2 Stayed (ChangesOnlyFile n) told same is (stayed links log n)
 
 pub wrote_step : (b b2 : Bool) (links links2 : List linked.Link) (log log2 : List Change) (n : ℕ) (held : Vec ℕ Global) (bytes : List ℕ) → (b2 ≡ true → b ≡ true)
-    → links2 ≡ links → (b2 ≡ true → log2 ≡ Wrote n held ∷ log) → held.items ≡ bytes → Steps (told_where b links log) (told_where b2 links2 log2) (disk.Wrote (id_of n) bytes)
+    → links2 ≡ links → (b2 ≡ true → log2 ≡ Wrote n held ∷ log) → held.items ≡ bytes → ChangesDisk (told_where b links log) (told_where b2 links2 log2) (disk.AppendsBytes (id_of n) bytes)
 wrote_step b b2 links links2 log log2 n held bytes told same is whole =
-    subst (λ (l : List ℕ). Steps (told_where b links log) (told_where b2 links2 log2) (disk.Wrote (id_of n) l)) whole
-    (steps b b2 links links2 log log2 (Wrote n held) (disk.Wrote (id_of n) held.items) told same is (wrote links log n held))
+    subst (λ (l : List ℕ). ChangesDisk (told_where b links log) (told_where b2 links2 log2) (disk.AppendsBytes (id_of n) l)) whole
+    (steps b b2 links links2 log log2 (Wrote n held) (disk.AppendsBytes (id_of n) held.items) told same is (wrote links log n held))
 
 pub part_step : (b b2 : Bool) (links links2 : List linked.Link) (log log2 : List Change) (n : FileId) (bytes : List ℕ) → (b2 ≡ true → b ≡ true) → links2
-    ≡ links → (b2 ≡ true → log2 ≡ Stayed ∷ log) → Steps (told_where b links log) (told_where b2 links2 log2) (WrotePart n bytes)
-part_step b b2 links links2 log log2 n bytes told same is = steps b b2 links links2 log log2 Stayed (WrotePart n bytes) told same is (stayed_part links log n bytes)
+    ≡ links → (b2 ≡ true → log2 ≡ Stayed ∷ log) → ChangesDisk (told_where b links log) (told_where b2 links2 log2) (AppendsFront n bytes)
+part_step b b2 links links2 log log2 n bytes told same is = steps b b2 links links2 log log2 Stayed (AppendsFront n bytes) told same is (stayed_part links log n bytes)
 
 pub mode_step : (b b2 : Bool) (links links2 : List linked.Link) (log log2 : List Change) (n mode : ℕ) → (b2 ≡ true → b ≡ true) → links2 ≡ links
-    → (b2 ≡ true → log2 ≡ GotMode n mode ∷ log) → Steps (told_where b links log) (told_where b2 links2 log2) (disk.GotMode (id_of n) mode)
-mode_step b b2 links links2 log log2 n mode told same is = steps b b2 links links2 log log2 (GotMode n mode) (disk.GotMode (id_of n) mode) told same is (got_mode links log n mode)
+    → (b2 ≡ true → log2 ≡ GotMode n mode ∷ log) → ChangesDisk (told_where b links log) (told_where b2 links2 log2) (disk.SetsMode (id_of n) mode)
+mode_step b b2 links links2 log log2 n mode told same is = steps b b2 links links2 log log2 (GotMode n mode) (disk.SetsMode (id_of n) mode) told same is (got_mode links log n mode)
 
 pub stored_step : (b b2 : Bool) (links links2 : List linked.Link) (log log2 : List Change) (n : ℕ) → (b2 ≡ true → b ≡ true) → links2 ≡ links
-    → (b2 ≡ true → log2 ≡ Stored n ∷ log) → Steps (told_where b links log) (told_where b2 links2 log2) (disk.Stored (id_of n))
-stored_step b b2 links links2 log log2 n told same is = steps b b2 links links2 log log2 (Stored n) (disk.Stored (id_of n)) told same is (stored links log n)
+    → (b2 ≡ true → log2 ≡ Stored n ∷ log) → ChangesDisk (told_where b links log) (told_where b2 links2 log2) (disk.SyncsFile (id_of n))
+stored_step b b2 links links2 log log2 n told same is = steps b b2 links links2 log log2 (Stored n) (disk.SyncsFile (id_of n)) told same is (stored links log n)
 
 pub refused_step : (b b2 : Bool) (links links2 : List linked.Link) (log log2 : List Change) (own : String Global) (name : List ℕ) → (b2 ≡ true → b ≡ true)
-    → links2 ≡ links → (b2 ≡ true → log2 ≡ Refused own ∷ log) → string_bytes own ≡ name → Steps (told_where b links log) (told_where b2 links2 log2) (disk.Refused name)
+    → links2 ≡ links → (b2 ≡ true → log2 ≡ Refused own ∷ log) → string_bytes own ≡ name → ChangesDisk (told_where b links log) (told_where b2 links2 log2) (disk.RefusesRemoval name)
 refused_step b b2 links links2 log log2 own name told same is named =
-    subst (λ (q : List ℕ). Steps (told_where b links log) (told_where b2 links2 log2) (disk.Refused q)) named
-    (steps b b2 links links2 log log2 (Refused own) (disk.Refused (string_bytes own)) told same is (refused links log own))
+    subst (λ (q : List ℕ). ChangesDisk (told_where b links log) (told_where b2 links2 log2) (disk.RefusesRemoval q)) named
+    (steps b b2 links links2 log log2 (Refused own) (disk.RefusesRemoval (string_bytes own)) told same is (refused links log own))

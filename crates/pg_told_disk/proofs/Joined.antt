@@ -3,7 +3,7 @@ use Rattle.std.proofs.Common.{◌≡◌, ◌≢◌, ⊎_elim, ℕ, ◌+◌, ◌-
 use Rattle.std.proofs.lemmas.Bool.{cases_lt}
 use Rattle.std.proofs.lemmas.List.{get_or_append_left}
 use Rattle.std.proofs.Math.Seq.{get_or-append_right, get_or-append_seam, take-append_seam}
-use Rattle.pg_outside.specs.Inside.NewNames.{IsFolderOf, IsJoined, is_rooted}
+use Rattle.pg_outside.specs.Inside.disk.NewNames.{IsFolderOf, IsLinkedName, is_rooted}
 
 -- the slash at the end of a folder
 slash_at : (name front last : List ℕ) → name ≡ (front ++ 47 ∷ []) ++ last
@@ -74,8 +74,8 @@ one_folder name f g a b =
         (cases_lt (length g) (length f)))
         (cases_lt (length f) (length g))
 
-pub one_joined : (link text joined other : List ℕ) → IsJoined link text joined
-    → IsJoined link text other → joined ≡ other
+pub one_joined : (link text joined other : List ℕ) → IsLinkedName link text joined
+    → IsLinkedName link text other → joined ≡ other
 one_joined link text joined other a b = by_test (is_rooted text) refl
   where
     by_test : (r : Bool) → is_rooted text ≡ r → joined ≡ other

@@ -3,8 +3,8 @@
 /// A change. A file's number is how many changes were before it was made.
 #[derive(Drop)]
 pub(crate) enum Change {
-    /// A file was made under this name. The flag tells whether it is regular.
-    Made(String, bool),
+    /// A file was made under this name.
+    Made(String),
     /// The first name was given to the file of the second name. The file keeps both names.
     Shared(String, String),
     GotMode(u64, u32),

@@ -1,9 +1,10 @@
 //! The links of a disk, the name that each says, and what a name stands for.
-ghost use Rattle.std.specs.Prelude.{◌≡◌, None, Some, MatchOption, IfOk, IfSome, string_bytes};
-ghost use Rattle.pg_outside.specs.Inside.NewNames.{IsFolderOf, IsJoined};
+ghost use Rattle.std.specs.Prelude.{◌≡◌, None, Some, MatchOption, IfSome, string_bytes};
+ghost use Rattle.pg_outside.specs.Inside.disk.NewNames.{IsLinkedName};
 ghost use Rattle.pg_told_disk.specs.Inside.Linked.{link_in, is_link_in, real_in};
 
-use std::alloc::{AllocError, Global};
+use pg_outside::linked_name;
+use std::alloc::Global;
 
 /// A link: its name, its text, and the name that this says.
 #[derive(Drop)]
@@ -11,27 +12,6 @@ pub(crate) struct Link {
     pub name: String,
     pub text: String,
     pub said: String,
-}
-
-/// The folder of a name with its last slash, and nothing where the name has no slash.
-pub(crate) fn folder_of(name: &str) -> &str
-    ensures { IsFolderOf result.now name.now }
-{
-    match name.rfind('/') {
-        Some(slash) => &name[..slash + 1],
-        None => "",
-    }
-}
-
-/// The name that the text of a link says.
-pub(crate) fn joined(alloc: Global, link: &str, text: &str) -> Result<String, AllocError>
-    ensures { IfOk result (λ joined. IsJoined link.now text.now (string_bytes joined)) }
-{
-    let folder = folder_of(link);
-    if text.starts_with('/') {
-        return String::from_str(alloc, text);
-    }
-    format!(in alloc; "{folder}{text}")
 }
 
 /// The link of this name, if there is one.
@@ -77,9 +57,9 @@ pub(crate) fn real_of<'a>(links: &'a [Link], name: &'a str) -> &'a str
 pub(crate) fn text_of(alloc: Global, name: &str, link: &Link) -> Option<String>
     ensures text { IfSome result (λ text. string_bytes text ≡ string_bytes link.now.text) }
     ensures said { IfSome result (λ text.
-        IsJoined name.now (string_bytes text) (string_bytes link.now.said)) }
+        IsLinkedName name.now (string_bytes text) (string_bytes link.now.said)) }
 {
-    let said = joined(alloc, name, link.text.as_str()).ok()?;
+    let said = linked_name(alloc, name, link.text.as_str()).ok()?;
     if said.as_str() != link.said.as_str() {
         return None;
     }

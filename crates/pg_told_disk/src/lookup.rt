@@ -1,6 +1,6 @@
 //! What a list of changes says of a name and of a file.
 ghost use Rattle.std.specs.Prelude.{◌≡◌, IfOk};
-ghost use Rattle.pg_told_disk.specs.Inside.Changes.{number_in, bytes_in, mode_in, kind_in, lets_write};
+ghost use Rattle.pg_told_disk.specs.Inside.Changes.{number_in, bytes_in, mode_in, lets_write};
 
 use crate::change::Change;
 use std::alloc::{AllocError, Global};
@@ -11,7 +11,7 @@ pub(crate) fn number_of(log: &[Change], name: &str) -> Option<u64>
 {
     match log {
         [] => None,
-        [Change::Made(own, _), older @ ..] => {
+        [Change::Made(own), older @ ..] => {
             if name == own.as_str() {
                 Some(older.len() as u64)
             } else {
@@ -51,7 +51,7 @@ pub(crate) fn mode_of(log: &[Change], number: u64) -> Option<u32>
 {
     match log {
         [] => None,
-        [Change::Made(_, _), older @ ..] => {
+        [Change::Made(_), older @ ..] => {
             if number == older.len() as u64 {
                 Some(0o644)
             } else {
@@ -69,30 +69,13 @@ pub(crate) fn mode_of(log: &[Change], number: u64) -> Option<u32>
     }
 }
 
-/// Whether a file is regular.
-pub(crate) fn is_regular(log: &[Change], number: u64) -> bool
-    ensures { result ≡ kind_in log.now number }
-{
-    match log {
-        [] => true,
-        [Change::Made(_, regular), older @ ..] => {
-            if number == older.len() as u64 {
-                *regular
-            } else {
-                is_regular(older, number)
-            }
-        }
-        [_, older @ ..] => is_regular(older, number),
-    }
-}
-
 /// The bytes of a file.
 pub(crate) fn bytes_of(alloc: Global, log: &[Change], number: u64) -> Result<Vec<u8>, AllocError>
     ensures { IfOk result (λ bytes. bytes.items ≡ bytes_in log.now number) }
 {
     match log {
         [] => Ok(Vec::new(alloc)),
-        [Change::Made(_, _), older @ ..] => {
+        [Change::Made(_), older @ ..] => {
             if number == older.len() as u64 {
                 return Ok(Vec::new(alloc));
             }

@@ -4,9 +4,9 @@ ghost use Rattle.pg_outside.specs.Faults.{Rose};
 ghost use Rattle.pg_told_disk.specs.Inside.Changes.{IsHeldIn};
 
 use crate::change::Change;
-use crate::links::{Link, folder_of, is_link, joined, link_of, real_of, text_of};
-use crate::lookup::{bytes_of, is_regular, lets_write, mode_of, number_of};
-use pg_outside::{CallFailed, Entry, FileId, Seen, System};
+use crate::links::{Link, is_link, link_of, real_of, text_of};
+use crate::lookup::{bytes_of, lets_write, mode_of, number_of};
+use pg_outside::{CallFailed, Entry, FileId, Seen, System, linked_name};
 use std::alloc::{AllocError, Global};
 
 /// How many bytes a write takes at most.
@@ -19,10 +19,11 @@ pub struct ToldFile {
     at: usize,
 }
 
-/// A disk in memory, with links, several names of one file, devices, and folders without
-/// permission. It tells all that it holds and held, until there is no memory for a change.
+/// A disk in memory, with links and several names of one file. It tells all that it holds and held,
+/// until there is no memory for a change.
 ///
-/// Every name is a file, a link or none, and two spellings are two names. All folders are there.
+/// Every name is a regular file, a link or none, and two spellings are two names. All folders are
+/// there.
 #[derive(Drop)]
 pub struct ToldDisk {
     alloc: Global,
@@ -30,8 +31,6 @@ pub struct ToldDisk {
     links: Vec<Link>,
     /// The changes, the latest first.
     log: Vec<Change>,
-    /// The folders in which nothing may be made, removed or renamed.
-    closed: Vec<String>,
     is_told: bool,
     failing: Failing,
 }
@@ -92,7 +91,6 @@ impl ToldDisk {
             alloc,
             links: Vec::new(alloc),
             log: Vec::new(alloc),
-            closed: Vec::new(alloc),
             is_told: true,
             failing: Failing {
                 calls: 0,
@@ -111,19 +109,9 @@ impl ToldDisk {
         let number = self.log.len() as u64;
         let name = String::from_str(self.alloc, name)?;
         let bytes = bytes.to_vec(self.alloc)?;
-        self.change(Change::Made(name, true));
+        self.change(Change::Made(name));
         self.change(Change::Wrote(number, bytes));
         self.change(Change::GotMode(number, mode));
-        Ok(())
-    }
-
-    /// Makes a device.
-    ///
-    /// # Errors
-    /// Where there is not enough memory.
-    pub fn add_device(&mut self, name: &str) -> Result<(), AllocError> {
-        let name = String::from_str(self.alloc, name)?;
-        self.change(Change::Made(name, false));
         Ok(())
     }
 
@@ -143,21 +131,10 @@ impl ToldDisk {
     /// # Errors
     /// Where there is not enough memory.
     pub fn add_link(&mut self, name: &str, text: &str) -> Result<(), AllocError> {
-        let said = joined(self.alloc, name, text)?;
+        let said = linked_name(self.alloc, name, text)?;
         let name = String::from_str(self.alloc, name)?;
         let text = String::from_str(self.alloc, text)?;
         self.links.insert(0, Link { name, text, said })?;
-        Ok(())
-    }
-
-    /// Takes away the permission to make, remove and rename in this folder, whose name ends in a
-    /// slash.
-    ///
-    /// # Errors
-    /// Where there is not enough memory.
-    pub fn close_folder(&mut self, folder: &str) -> Result<(), AllocError> {
-        let folder = String::from_str(self.alloc, folder)?;
-        self.closed.push(folder)?;
         Ok(())
     }
 
@@ -208,25 +185,9 @@ impl ToldDisk {
         }
     }
 
-    /// The permissions of the file that the name leads to, if there is one.
-    pub fn mode(&self, name: &str) -> Option<u32> {
-        mode_of(&self.log, number_of(&self.log, real_of(&self.links, name))?)
-    }
-
     /// Whether the name is a link.
     pub fn is_link(&self, name: &str) -> bool {
         is_link(&self.links, name)
-    }
-
-    /// Whether the folder of this name may be changed.
-    fn is_open(&self, name: &str) -> bool {
-        let folder = folder_of(name);
-        for closed in &self.closed {
-            if closed.as_str() == folder {
-                return false;
-            }
-        }
-        true
     }
 
     /// Makes a change.
@@ -322,7 +283,7 @@ impl System for ToldDisk {
         };
         Ok(Seen {
             id: id_of(file.number),
-            is_regular: is_regular(&self.log, file.number),
+            is_regular: true,
             mode,
         })
     }
@@ -353,15 +314,14 @@ impl System for ToldDisk {
         }
         match number_of(&self.log, name) {
             Some(_) => Ok(None),
-            None if self.is_open(name) => {
+            None => {
                 let Ok(own) = String::from_str(self.alloc, name) else {
                     return Err(self.failing.fail());
                 };
                 let number = self.log.len() as u64;
-                self.change(Change::Made(own, true));
+                self.change(Change::Made(own));
                 Ok(Some(ToldFile { number, at: 0 }))
             }
-            None => Err(self.failing.fail()),
         }
     }
 
@@ -398,7 +358,7 @@ impl System for ToldDisk {
     }
 
     fn rename(&mut self, from: &str, to: &str) -> Result<(), CallFailed> {
-        if self.failing.next_fails() || !self.is_open(to) || number_of(&self.log, from).is_none() {
+        if self.failing.next_fails() || number_of(&self.log, from).is_none() {
             return Err(self.failing.fail());
         }
         let Ok(old) = String::from_str(self.alloc, from) else {
@@ -416,7 +376,7 @@ impl System for ToldDisk {
             self.is_told = false;
             return Err(self.failing.fail());
         };
-        if self.failing.next_fails() || !self.is_open(name) {
+        if self.failing.next_fails() {
             self.change(Change::Refused(own));
             return Err(self.failing.fail());
         }

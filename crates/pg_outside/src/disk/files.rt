@@ -3,10 +3,10 @@
 ghost use Rattle.std.specs.Prelude.{◌≡◌, ◌≢◌, ℕ, ◌+◌, ◌-◌, ◌^◌, ◌<◌, ◌≤◌, [], ◌∷◌, ◌++◌, length, true, Option, OnOk, OnErr, IfOk, IfErr, IfSome, IsErrOf, ◌⊎◌, vec_len, vec_capacity};
 ghost use Rattle.pg_outside.specs.Faults.{next_count, Rose};
 ghost use Rattle.pg_outside.specs.FilesCalls.{Writes};
-ghost use Rattle.pg_outside.specs.Inside.Causes.{Because};
-ghost use Rattle.pg_outside.specs.Inside.Disk.{Keeps, Now, IsOpened, IsWritable};
-ghost use Rattle.pg_outside.specs.Inside.Moments.{Runs, WhereDirect, AtMoment, IsWritten, IsAsBefore};
-ghost use Rattle.pg_outside.specs.Inside.DiskWrites.{IsIn, KeepsAll, KeepsOnly, IsContent, IsContentCut, IsNoted, IsOld, IsPlaceOf, IsDeep, IsFull, IsWrite, IsDiskWrite, AllTaken, WasKept};
+ghost use Rattle.pg_outside.specs.Inside.disk.Causes.{IsCauseOf};
+ghost use Rattle.pg_outside.specs.Inside.disk.Disks.{KeepsDisk, HoldsNow, IsOpened, IsWritable};
+ghost use Rattle.pg_outside.specs.Inside.disk.Moments.{RunsCalls, WhereDirect, AtMoment, IsWritten, IsAsBefore};
+ghost use Rattle.pg_outside.specs.Inside.disk.Writes.{IsIn, KeepsAll, KeepsOnly, IsContent, IsContentCut, IsNoted, IsOld, IsPlaceOf, IsDeep, IsFull, IsWrite, IsDiskWrite, AreAllTaken, WasKept};
 
 use super::error::WriteError;
 use super::links::find;
@@ -76,16 +76,16 @@ fn read_named<S: System>(
 ) -> Result<(), ReadError>
     requires empty { into.old.items ≡ [] }
     requires limit { limit < 2 ^ 64 - 1 }
-    ensures same { Keeps (S.told system.old) (S.told system.new)
+    ensures same { KeepsDisk (S.told system.old) (S.told system.new)
         × KeepsAll kept.old.items kept.new.items
-        × Now (S.told system.new) (KeepsOnly name.now kept.old.items kept.new.items) }
+        × HoldsNow (S.told system.new) (KeepsOnly name.now kept.old.items kept.new.items) }
     ensures all { OnOk result ((S.failures system.new ≡ S.failures system.old)
         × (length into.new.items ≤ limit)
-        × Now (S.told system.new) (IsContent name.now into.new.items)
-        × Now (S.told system.new) (IsNoted name.now kept.new.items)) }
+        × HoldsNow (S.told system.new) (IsContent name.now into.new.items)
+        × HoldsNow (S.told system.new) (IsNoted name.now kept.new.items)) }
     ensures front { IsErrOf result ReadError.TooLong → (length into.new.items ≡ limit + 1)
-        × Now (S.told system.new) (IsContentCut name.now limit into.new.items)
-        × Now (S.told system.new) (IsNoted name.now kept.new.items) }
+        × HoldsNow (S.told system.new) (IsContentCut name.now limit into.new.items)
+        × HoldsNow (S.told system.new) (IsNoted name.now kept.new.items) }
     ensures failed { IsErrOf result ReadError.Failed
         → Rose (S.failures system.old) (S.failures system.new) }
     ensures other_failures { IfErr result
@@ -123,16 +123,16 @@ fn replace_kept<S: System>(
     requires { vec_len kept.old < vec_capacity kept.old }
     ensures ok { OnOk result ((S.failures system.new ≡ S.failures system.old)
         × (id : FileId) × (kept.new.items ≡ kept.old.items ++ id ∷ [])
-        × Runs (S.told system.old) (S.told system.new)
+        × RunsCalls (S.told system.old) (S.told system.new)
         (WhereDirect name.now (AtMoment name.now bytes.now mode))
         (WhereDirect name.now (IsWritten name.now bytes.now mode id))) }
     ensures err { OnErr result ((kept.new.items ≡ kept.old.items)
-        × Runs (S.told system.old) (S.told system.new)
+        × RunsCalls (S.told system.old) (S.told system.new)
         (WhereDirect name.now (AtMoment name.now bytes.now mode))
         (WhereDirect name.now (IsAsBefore name.now))) }
-    ensures cause { IfErr result (Because (S.failures system.old) (S.failures system.new)
-        ⊥ ⊥ (Keeps (S.told system.old) (S.told system.new)
-        × Now (S.told system.new) (AllTaken name.now))) }
+    ensures cause { IfErr result (IsCauseOf (S.failures system.old) (S.failures system.new)
+        ⊥ ⊥ (KeepsDisk (S.told system.old) (S.told system.new)
+        × HoldsNow (S.told system.new) (AreAllTaken name.now))) }
 {
     let id = replace(alloc, system, name, mode, bytes)?;
     keep_new(kept, id);
@@ -150,7 +150,7 @@ fn write_regular<S: System>(
     bytes: &[u8],
 ) -> Result<(), WriteError>
     requires room { vec_len kept.old < vec_capacity kept.old }
-    requires old { Now (S.told system.old) (IsOld name.now old) }
+    requires old { HoldsNow (S.told system.old) (IsOld name.now old) }
     requires regular { IfSome old (λ seen. seen.is_regular ≡ true) }
     requires free { IfSome old (λ seen. IsIn seen.id kept.old.items → ⊥) }
     ensures { IsWrite result (S.failures system.old) (S.failures system.new) kept.old.items
@@ -171,8 +171,8 @@ fn write_opened<S: System>(
     bytes: &[u8],
 ) -> Result<(), WriteError>
     requires room { vec_len kept.old < vec_capacity kept.old }
-    requires opened { Now (S.told system.old) (IsOpened name.now (S.id file.old)) }
-    requires writable { Now (S.told system.old) (IsWritable (S.id file.old)) }
+    requires opened { HoldsNow (S.told system.old) (IsOpened name.now (S.id file.old)) }
+    requires writable { HoldsNow (S.told system.old) (IsWritable (S.id file.old)) }
     ensures { IsWrite result (S.failures system.old) (S.failures system.new) kept.old.items
         kept.new.items (S.told system.old) (S.told system.new) name.now bytes.now }
 {
@@ -230,7 +230,7 @@ fn count_read(failed: &mut u64, outcome: &Result<(), ReadError>)
 }
 
 impl<S: System + Drop> DiskFiles<S> {
-    ghost use Rattle.pg_outside.specs.Inside.DiskHeld.{all_faults, disk_calls};
+    ghost use Rattle.pg_outside.specs.Inside.disk.Shown.{all_faults, disk_calls};
 
     /// The files of this system, with no read, no write and no fault so far.
     pub fn new(alloc: Global, system: S) -> DiskFiles<S>
@@ -270,10 +270,10 @@ impl<S: System + Drop> DiskFiles<S> {
 
         // Each failure has its cause, and `Failed` alone comes where a call of the system failed.
         ensures cause { IfErr result
-            (Because (S.failures self.old.system) (S.failures self.new.system)
-            (Now (S.told self.new.system) (WasKept name.now self.old.kept.items))
-            (Now (S.told self.new.system) (IsDeep name.now))
-            (Now (S.told self.new.system) (IsFull name.now))) }
+            (IsCauseOf (S.failures self.old.system) (S.failures self.new.system)
+            (HoldsNow (S.told self.new.system) (WasKept name.now self.old.kept.items))
+            (HoldsNow (S.told self.new.system) (IsDeep name.now))
+            (HoldsNow (S.told self.new.system) (IsFull name.now))) }
 
         // No count of faults falls, and the call is one more.
         ensures later { all_faults self.old ≤ all_faults self.new }
@@ -288,7 +288,7 @@ impl<S: System + Drop> DiskFiles<S> {
 
 impl<S: System + Drop> Files for DiskFiles<S> {
     ghost use Rattle.pg_outside.specs.Inside.ToldFiles.{IsReadOf, IsWriteOf};
-    ghost use Rattle.pg_outside.specs.Inside.DiskHeld.{all_faults, disk_shown};
+    ghost use Rattle.pg_outside.specs.Inside.disk.Shown.{all_faults, disk_shown};
 
     ghost shown = { disk_shown S.told };
 
@@ -308,20 +308,20 @@ impl<S: System + Drop> Files for DiskFiles<S> {
 
         // The disk is as before, and where it is told, the bytes are those of the file that the
         // name leads to.
-        ensures same { Keeps (S.told self.old.system) (S.told self.new.system) }
+        ensures same { KeepsDisk (S.told self.old.system) (S.told self.new.system) }
         ensures content { OnOk result
-            (Now (S.told self.new.system) (IsContent name.now into.new.items)) }
+            (HoldsNow (S.told self.new.system) (IsContent name.now into.new.items)) }
         ensures content_cut { IsErrOf result ReadError.TooLong
-            → Now (S.told self.new.system) (IsContentCut name.now limit into.new.items) }
+            → HoldsNow (S.told self.new.system) (IsContentCut name.now limit into.new.items) }
 
         // A regular file that the name leads to is kept in mind, with those that were, and no
         // other.
         ensures kept { KeepsAll self.old.kept.items self.new.kept.items }
         ensures noted { OnOk result
-            (Now (S.told self.new.system) (IsNoted name.now self.new.kept.items)) }
+            (HoldsNow (S.told self.new.system) (IsNoted name.now self.new.kept.items)) }
         ensures cut_noted { IsErrOf result ReadError.TooLong
-            → Now (S.told self.new.system) (IsNoted name.now self.new.kept.items) }
-        ensures only { Now (S.told self.new.system)
+            → HoldsNow (S.told self.new.system) (IsNoted name.now self.new.kept.items) }
+        ensures only { HoldsNow (S.told self.new.system)
             (KeepsOnly name.now self.old.kept.items self.new.kept.items) }
 
         // It fails only where a call of the system failed.

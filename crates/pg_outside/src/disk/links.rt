@@ -1,9 +1,9 @@
 //! The folder of a name, and what a name stands for once its links are followed.
 ghost use Rattle.std.specs.Prelude.{◌≡◌, IfOk, IfErr, string_bytes};
-ghost use Rattle.pg_outside.specs.Inside.Causes.{Because};
-ghost use Rattle.pg_outside.specs.Inside.Disk.{Keeps, Now};
-ghost use Rattle.pg_outside.specs.Inside.NewNames.{IsFolderOf, IsJoined};
-ghost use Rattle.pg_outside.specs.Inside.DiskWrites.{IsDeep, StandsFor};
+ghost use Rattle.pg_outside.specs.Inside.disk.Causes.{IsCauseOf};
+ghost use Rattle.pg_outside.specs.Inside.disk.Disks.{KeepsDisk, HoldsNow};
+ghost use Rattle.pg_outside.specs.Inside.disk.NewNames.{IsFolderOf, IsLinkedName};
+ghost use Rattle.pg_outside.specs.Inside.disk.Writes.{IsDeep, StandsFor};
 
 use super::error::WriteError;
 use super::system::{Entry, FileId, System};
@@ -22,9 +22,12 @@ pub(crate) fn folder_of(name: &str) -> &str
     }
 }
 
-/// The name that the text of a link says.
-fn joined(alloc: Global, link: &str, text: &str) -> Result<String, AllocError>
-    ensures { IfOk result (λ joined. IsJoined link.now text.now (string_bytes joined)) }
+/// The name that the text of a link says. It is seen from the root, or from the link's folder.
+///
+/// # Errors
+/// Where there is not enough memory.
+pub fn linked_name(alloc: Global, link: &str, text: &str) -> Result<String, AllocError>
+    ensures { IfOk result (λ name. IsLinkedName link.now text.now (string_bytes name)) }
 {
     let folder = folder_of(link);
     if text.starts_with('/') {
@@ -56,18 +59,18 @@ pub(crate) fn find<S: System>(
     system: &mut S,
     name: &str,
 ) -> Result<Found, WriteError>
-    ensures same { Keeps (S.told system.old) (S.told system.new) }
+    ensures same { KeepsDisk (S.told system.old) (S.told system.new) }
     ensures found { IfOk result (λ found. (S.failures system.new ≡ S.failures system.old)
-        × Now (S.told system.new) (StandsFor (string_bytes found.name) found.file name.now)) }
-    ensures cause { IfErr result (Because (S.failures system.old) (S.failures system.new)
-        ⊥ (Now (S.told system.new) (IsDeep name.now)) ⊥) }
+        × HoldsNow (S.told system.new) (StandsFor (string_bytes found.name) found.file name.now)) }
+    ensures cause { IfErr result (IsCauseOf (S.failures system.old) (S.failures system.new)
+        ⊥ (HoldsNow (S.told system.new) (IsDeep name.now)) ⊥) }
 {
     let mut real = String::from_str(alloc, name)?;
     for _ in 0..LINK_NAMES_MAX {
         match system.look(real.as_str())? {
             Entry::Link => {
                 let text = system.read_link(alloc, real.as_str())?;
-                real = joined(alloc, real.as_str(), text.as_str())?;
+                real = linked_name(alloc, real.as_str(), text.as_str())?;
             }
             Entry::Missing => return Ok(make_found(real, None)),
             Entry::File(id) => return Ok(make_found(real, Some(id))),

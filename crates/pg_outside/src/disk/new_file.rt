@@ -1,11 +1,11 @@
 //! A new file takes the place of an old one as a whole, or not at all.
 ghost use Rattle.std.specs.Prelude.{◌≡◌, ◌≢◌, OnOk, OnErr, IfOk, IfErr, string_bytes};
 ghost use Rattle.pg_outside.specs.Faults.{Rose};
-ghost use Rattle.pg_outside.specs.Inside.Causes.{Because};
-ghost use Rattle.pg_outside.specs.Inside.Disk.{Keeps, Steps, Now, Made, Wrote, WrotePart, Disturbed};
-ghost use Rattle.pg_outside.specs.Inside.Moments.{Runs, HasMode, Filled, PlacedAs, InPlacing, WhereDirect, AtMoment, IsWritten, IsAsBefore};
-ghost use Rattle.pg_outside.specs.Inside.NewNames.{IsNewName};
-ghost use Rattle.pg_outside.specs.Inside.DiskWrites.{AllTaken};
+ghost use Rattle.pg_outside.specs.Inside.disk.Causes.{IsCauseOf};
+ghost use Rattle.pg_outside.specs.Inside.disk.Disks.{KeepsDisk, ChangesDisk, HoldsNow, MakesFile, AppendsBytes, AppendsFront, ChangesOnlyFile};
+ghost use Rattle.pg_outside.specs.Inside.disk.Moments.{RunsCalls, HasMode, FillsFile, PlacesFileAs, AtPlacing, WhereDirect, AtMoment, IsWritten, IsAsBefore};
+ghost use Rattle.pg_outside.specs.Inside.disk.NewNames.{IsNewName};
+ghost use Rattle.pg_outside.specs.Inside.disk.Writes.{AreAllTaken};
 
 use super::error::WriteError;
 use super::links::folder_of;
@@ -31,14 +31,14 @@ fn make_beside<S: System>(
     system: &mut S,
     name: &str,
 ) -> Result<NewFile<S::File>, WriteError>
-    ensures ok { IfOk result (λ made. Steps (S.told system.old) (S.told system.new)
-        (Made (string_bytes made.own) (S.id made.file))) }
-    ensures err { OnErr result (Keeps (S.told system.old) (S.told system.new)) }
+    ensures ok { IfOk result (λ made. ChangesDisk (S.told system.old) (S.told system.new)
+        (MakesFile (string_bytes made.own) (S.id made.file))) }
+    ensures err { OnErr result (KeepsDisk (S.told system.old) (S.told system.new)) }
     ensures own { IfOk result (λ made. IsNewName (string_bytes made.own) name.now) }
     ensures apart { IfOk result (λ made. string_bytes made.own ≢ name.now) }
     ensures ok_failures { OnOk result (S.failures system.new ≡ S.failures system.old) }
-    ensures cause { IfErr result (Because (S.failures system.old) (S.failures system.new)
-        ⊥ ⊥ (Now (S.told system.new) (AllTaken name.now))) }
+    ensures cause { IfErr result (IsCauseOf (S.failures system.old) (S.failures system.new)
+        ⊥ ⊥ (HoldsNow (S.told system.new) (AreAllTaken name.now))) }
 {
     let folder = folder_of(name);
     for number in 0..NEW_NAMES_MAX {
@@ -61,11 +61,11 @@ pub(crate) fn write_all<S: System>(
 ) -> Result<(), CallFailed>
     ensures file { S.id file.new ≡ S.id file.old }
     ensures ok { OnOk result ((S.failures system.new ≡ S.failures system.old)
-        × Runs (S.told system.old) (S.told system.new)
-        (WrotePart (S.id file.old) bytes.now) (Wrote (S.id file.old) bytes.now)) }
+        × RunsCalls (S.told system.old) (S.told system.new)
+        (AppendsFront (S.id file.old) bytes.now) (AppendsBytes (S.id file.old) bytes.now)) }
     ensures err { OnErr result (Rose (S.failures system.old) (S.failures system.new)
-        × Runs (S.told system.old) (S.told system.new)
-        (WrotePart (S.id file.old) bytes.now) (WrotePart (S.id file.old) bytes.now)) }
+        × RunsCalls (S.told system.old) (S.told system.new)
+        (AppendsFront (S.id file.old) bytes.now) (AppendsFront (S.id file.old) bytes.now)) }
 {
     let mut rest = bytes;
     while !rest.is_empty() {
@@ -86,11 +86,11 @@ fn keep_mode<S: System>(
 ) -> Result<(), CallFailed>
     ensures file { S.id file.new ≡ S.id file.old }
     ensures ok { OnOk result ((S.failures system.new ≡ S.failures system.old)
-        × Runs (S.told system.old) (S.told system.new)
-        (Disturbed (S.id file.old)) (HasMode (S.id file.old) mode)) }
+        × RunsCalls (S.told system.old) (S.told system.new)
+        (ChangesOnlyFile (S.id file.old)) (HasMode (S.id file.old) mode)) }
     ensures err { OnErr result (Rose (S.failures system.old) (S.failures system.new)
-        × Runs (S.told system.old) (S.told system.new)
-        (Disturbed (S.id file.old)) (Disturbed (S.id file.old))) }
+        × RunsCalls (S.told system.old) (S.told system.new)
+        (ChangesOnlyFile (S.id file.old)) (ChangesOnlyFile (S.id file.old))) }
 {
     match mode {
         Some(mode) => system.set_mode(file, mode),
@@ -108,11 +108,11 @@ fn fill<S: System>(
 ) -> Result<(), CallFailed>
     ensures file { S.id file.new ≡ S.id file.old }
     ensures ok { OnOk result ((S.failures system.new ≡ S.failures system.old)
-        × Runs (S.told system.old) (S.told system.new)
-        (Disturbed (S.id file.old)) (Filled (S.id file.old) mode bytes.now)) }
+        × RunsCalls (S.told system.old) (S.told system.new)
+        (ChangesOnlyFile (S.id file.old)) (FillsFile (S.id file.old) mode bytes.now)) }
     ensures err { OnErr result (Rose (S.failures system.old) (S.failures system.new)
-        × Runs (S.told system.old) (S.told system.new)
-        (Disturbed (S.id file.old)) (Disturbed (S.id file.old))) }
+        × RunsCalls (S.told system.old) (S.told system.new)
+        (ChangesOnlyFile (S.id file.old)) (ChangesOnlyFile (S.id file.old))) }
 {
     keep_mode(system, file, mode)?;
     write_all(system, file, bytes)?;
@@ -129,12 +129,12 @@ fn place<S: System>(
 ) -> Result<FileId, CallFailed>
     ensures own { string_bytes new.new.own ≡ string_bytes new.old.own }
     ensures ok { IfOk result (λ id. (S.failures system.new ≡ S.failures system.old)
-        × Runs (S.told system.old) (S.told system.new)
-        (InPlacing (string_bytes new.old.own) name.now (S.id new.old.file) mode bytes.now)
-        (PlacedAs (string_bytes new.old.own) name.now (S.id new.old.file) mode bytes.now id)) }
+        × RunsCalls (S.told system.old) (S.told system.new)
+        (AtPlacing (string_bytes new.old.own) name.now (S.id new.old.file) mode bytes.now)
+        (PlacesFileAs (string_bytes new.old.own) name.now (S.id new.old.file) mode bytes.now id)) }
     ensures err { OnErr result (Rose (S.failures system.old) (S.failures system.new)
-        × Runs (S.told system.old) (S.told system.new)
-        (Disturbed (S.id new.old.file)) (Disturbed (S.id new.old.file))) }
+        × RunsCalls (S.told system.old) (S.told system.new)
+        (ChangesOnlyFile (S.id new.old.file)) (ChangesOnlyFile (S.id new.old.file))) }
 {
     fill(system, &mut new.file, mode, bytes)?;
     let seen = system.stat(&new.file)?;
@@ -156,15 +156,15 @@ pub(crate) fn replace<S: System>(
     bytes: &[u8],
 ) -> Result<FileId, WriteError>
     ensures ok { IfOk result (λ id. (S.failures system.new ≡ S.failures system.old)
-        × Runs (S.told system.old) (S.told system.new)
+        × RunsCalls (S.told system.old) (S.told system.new)
         (WhereDirect name.now (AtMoment name.now bytes.now mode))
         (WhereDirect name.now (IsWritten name.now bytes.now mode id))) }
-    ensures err { OnErr result (Runs (S.told system.old) (S.told system.new)
+    ensures err { OnErr result (RunsCalls (S.told system.old) (S.told system.new)
         (WhereDirect name.now (AtMoment name.now bytes.now mode))
         (WhereDirect name.now (IsAsBefore name.now))) }
-    ensures cause { IfErr result (Because (S.failures system.old) (S.failures system.new)
-        ⊥ ⊥ (Keeps (S.told system.old) (S.told system.new)
-        × Now (S.told system.new) (AllTaken name.now))) }
+    ensures cause { IfErr result (IsCauseOf (S.failures system.old) (S.failures system.new)
+        ⊥ ⊥ (KeepsDisk (S.told system.old) (S.told system.new)
+        × HoldsNow (S.told system.new) (AreAllTaken name.now))) }
 {
     let mut new = make_beside(alloc, system, name)?;
     match place(system, &mut new, name, mode, bytes) {

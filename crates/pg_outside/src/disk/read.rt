@@ -1,8 +1,8 @@
 //! A file is read to its end, up to a limit.
 ghost use Rattle.std.specs.Prelude.{◌≡◌, ◌≢◌, ◌+◌, ◌-◌, ◌^◌, ◌<◌, ◌≤◌, [], length, OnOk, IfErr, IsErrOf};
 ghost use Rattle.pg_outside.specs.Faults.{Rose};
-ghost use Rattle.pg_outside.specs.Inside.Disk.{Keeps, Now};
-ghost use Rattle.pg_outside.specs.Inside.DiskReads.{IsAllOf, IsFrontOf};
+ghost use Rattle.pg_outside.specs.Inside.disk.Disks.{KeepsDisk, HoldsNow};
+ghost use Rattle.pg_outside.specs.Inside.disk.Reads.{IsAllOf, IsFrontOf};
 
 use super::system::System;
 use crate::outside::ReadError;
@@ -25,12 +25,12 @@ pub(crate) fn read_within<S: System>(
     requires empty { into.old.items ≡ [] }
     requires limit { limit < 2 ^ 64 - 1 }
     requires start { S.at file.old ≡ 0 }
-    ensures same { Keeps (S.told system.old) (S.told system.new) }
+    ensures same { KeepsDisk (S.told system.old) (S.told system.new) }
     ensures all { OnOk result ((S.failures system.new ≡ S.failures system.old)
         × (length into.new.items ≤ limit)
-        × Now (S.told system.new) (IsAllOf (S.id file.old) into.new.items)) }
+        × HoldsNow (S.told system.new) (IsAllOf (S.id file.old) into.new.items)) }
     ensures front { IsErrOf result ReadError.TooLong → (length into.new.items ≡ limit + 1)
-        × Now (S.told system.new) (IsFrontOf (S.id file.old) limit into.new.items) }
+        × HoldsNow (S.told system.new) (IsFrontOf (S.id file.old) limit into.new.items) }
     ensures failed { IsErrOf result ReadError.Failed
         → Rose (S.failures system.old) (S.failures system.new) }
     ensures other_failures { IfErr result

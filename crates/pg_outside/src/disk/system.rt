@@ -2,7 +2,7 @@
 ghost use Rattle.std.specs.Prelude.{◌≡◌, ℕ, ◌+◌, ◌-◌, ◌^◌, ◌<◌, ◌≤◌, List, take, length, Option, Some, None, MatchOption, OnOk, OnErr, IfOk, IfSome, IfNone, string_bytes};
 ghost use Rattle.pg_outside.specs.declared.disk.system.FileId.{FileId};
 ghost use Rattle.pg_outside.specs.Faults.{Rose};
-ghost use Rattle.pg_outside.specs.Inside.Disk.{Told, Keeps, Steps, Now, Made, Wrote, WrotePart, Disturbed, Stored, GotMode, Renamed, RemovedName, Refused, IsTaken, IsEntry, IsFollowedBy, IsOpened, IsWritable, LeadsToNone, IsStat, HasPiece, KnowsPlain, KnowsNewNames};
+ghost use Rattle.pg_outside.specs.Inside.disk.Disks.{DiskHistory, KeepsDisk, ChangesDisk, HoldsNow, MakesFile, AppendsBytes, AppendsFront, ChangesOnlyFile, SyncsFile, SetsMode, RenamesUnlessLink, RemovesUnlessLink, RefusesRemoval, IsTaken, IsEntry, IsFollowedBy, IsOpened, IsWritable, LeadsToNone, IsStat, HasPiece, KnowsPlain, KnowsNewNames};
 
 use std::alloc::Global;
 use std::io;
@@ -50,7 +50,7 @@ pub struct Seen {
 pub trait System {
     type File: Drop;
 
-    ghost told: { Self → Option Told };
+    ghost told: { Self → Option DiskHistory };
 
     /// How many calls failed. It stands still at the last value of u64.
     ghost failures: { Self → ℕ };
@@ -63,25 +63,26 @@ pub trait System {
 
     /// What the name is. A link at its end is not followed.
     fn look(&mut self, name: &str) -> Result<Entry, CallFailed>
-        ensures same { Keeps (told self.old) (told self.new) }
-        ensures entry { IfOk result (λ entry. Now (told self.new) (IsEntry name.now entry)) }
+        ensures same { KeepsDisk (told self.old) (told self.new) }
+        ensures entry { IfOk result (λ entry. HoldsNow (told self.new) (IsEntry name.now entry)) }
         ensures later { failures self.old ≤ failures self.new }
         ensures ok_failures { OnOk result (failures self.new ≡ failures self.old) }
         ensures failed { OnErr result (Rose (failures self.old) (failures self.new)) };
 
     /// The text of a link. It is a name, seen from the folder of the link.
     fn read_link(&mut self, alloc: Global, name: &str) -> Result<String, CallFailed>
-        ensures same { Keeps (told self.old) (told self.new) }
+        ensures same { KeepsDisk (told self.old) (told self.new) }
         ensures text { IfOk result
-            (λ text. Now (told self.new) (IsFollowedBy name.now (string_bytes text))) }
+            (λ text. HoldsNow (told self.new) (IsFollowedBy name.now (string_bytes text))) }
         ensures later { failures self.old ≤ failures self.new }
         ensures ok_failures { OnOk result (failures self.new ≡ failures self.old) }
         ensures failed { OnErr result (Rose (failures self.old) (failures self.new)) };
 
     /// Opens the file that the name leads to at its start, to be read.
     fn open(&mut self, name: &str) -> Result<Self::File, CallFailed>
-        ensures same { Keeps (told self.old) (told self.new) }
-        ensures opened { IfOk result (λ file. Now (told self.new) (IsOpened name.now (id file))) }
+        ensures same { KeepsDisk (told self.old) (told self.new) }
+        ensures opened { IfOk result
+            (λ file. HoldsNow (told self.new) (IsOpened name.now (id file))) }
         ensures start { IfOk result (λ file. at file ≡ 0) }
         ensures later { failures self.old ≤ failures self.new }
         ensures ok_failures { OnOk result (failures self.new ≡ failures self.old) }
@@ -90,30 +91,30 @@ pub trait System {
     /// Opens the file that the name leads to, to be written behind its bytes. `None` comes where it
     /// leads to none. A file that may not be written is not opened.
     fn open_to_write(&mut self, name: &str) -> Result<Option<Self::File>, CallFailed>
-        ensures same { Keeps (told self.old) (told self.new) }
+        ensures same { KeepsDisk (told self.old) (told self.new) }
         ensures opened { IfOk result
-            (λ opened. MatchOption opened (Now (told self.new) (LeadsToNone name.now))
-            (λ file. Now (told self.new) (IsOpened name.now (id file)))) }
+            (λ opened. MatchOption opened (HoldsNow (told self.new) (LeadsToNone name.now))
+            (λ file. HoldsNow (told self.new) (IsOpened name.now (id file)))) }
         ensures writable { IfOk result (λ opened. IfSome opened (λ file.
-            Now (told self.new) (IsWritable (id file)))) }
+            HoldsNow (told self.new) (IsWritable (id file)))) }
         ensures later { failures self.old ≤ failures self.new }
         ensures ok_failures { OnOk result (failures self.new ≡ failures self.old) }
         ensures failed { OnErr result (Rose (failures self.old) (failures self.new)) };
 
     /// Which file this is, and of what kind.
     fn stat(&mut self, file: &Self::File) -> Result<Seen, CallFailed>
-        ensures same { Keeps (told self.old) (told self.new) }
-        ensures seen { IfOk result (λ seen. Now (told self.new) (IsStat (id file.now) seen)) }
+        ensures same { KeepsDisk (told self.old) (told self.new) }
+        ensures seen { IfOk result (λ seen. HoldsNow (told self.new) (IsStat (id file.now) seen)) }
         ensures later { failures self.old ≤ failures self.new }
         ensures ok_failures { OnOk result (failures self.new ≡ failures self.old) }
         ensures failed { OnErr result (Rose (failures self.old) (failures self.new)) };
 
     /// Reads some of the next bytes, and none only at the end.
     fn read_some(&mut self, file: &mut Self::File, buffer: &mut [u8]) -> Result<usize, CallFailed>
-        ensures same { Keeps (told self.old) (told self.new) }
+        ensures same { KeepsDisk (told self.old) (told self.new) }
         ensures file { id file.new ≡ id file.old }
         ensures bound { IfOk result (λ count. count ≤ length buffer.old) }
-        ensures bytes { IfOk result (λ count. Now (told self.new)
+        ensures bytes { IfOk result (λ count. HoldsNow (told self.new)
             (HasPiece (id file.old) (at file.old)
             (at file.new) count (length buffer.old) buffer.new)) }
         ensures later { failures self.old ≤ failures self.new }
@@ -122,11 +123,13 @@ pub trait System {
 
     /// Makes a regular file under a name that is not taken. `None` comes where the name is taken.
     fn make(&mut self, name: &str) -> Result<Option<Self::File>, CallFailed>
-        ensures ok { IfOk result (λ made. MatchOption made (Keeps (told self.old) (told self.new))
-            (λ file. Steps (told self.old) (told self.new) (Made name.now (id file)))) }
-        ensures err { OnErr result (Keeps (told self.old) (told self.new)) }
+        ensures ok { IfOk result (λ made. MatchOption made
+            (KeepsDisk (told self.old) (told self.new))
+            (λ file. ChangesDisk (told self.old) (told self.new) (MakesFile name.now (id file)))) }
+        ensures err { OnErr result (KeepsDisk (told self.old) (told self.new)) }
         ensures later { failures self.old ≤ failures self.new }
-        ensures taken { IfOk result (λ made. IfNone made (Now (told self.new) (IsTaken name.now))) }
+        ensures taken { IfOk result
+            (λ made. IfNone made (HoldsNow (told self.new) (IsTaken name.now))) }
         ensures ok_failures { OnOk result (failures self.new ≡ failures self.old) }
         ensures failed { OnErr result (Rose (failures self.old) (failures self.new)) };
 
@@ -134,9 +137,9 @@ pub trait System {
     fn set_mode(&mut self, file: &mut Self::File, mode: u32) -> Result<(), CallFailed>
         ensures file { id file.new ≡ id file.old }
         ensures ok { OnOk result
-            (Steps (told self.old) (told self.new) (GotMode (id file.old) mode)) }
+            (ChangesDisk (told self.old) (told self.new) (SetsMode (id file.old) mode)) }
         ensures err { OnErr result
-            (Steps (told self.old) (told self.new) (Disturbed (id file.old))) }
+            (ChangesDisk (told self.old) (told self.new) (ChangesOnlyFile (id file.old))) }
         ensures later { failures self.old ≤ failures self.new }
         ensures ok_failures { OnOk result (failures self.new ≡ failures self.old) }
         ensures failed { OnErr result (Rose (failures self.old) (failures self.new)) };
@@ -146,10 +149,10 @@ pub trait System {
     fn write_some(&mut self, file: &mut Self::File, bytes: &[u8]) -> Result<usize, CallFailed>
         ensures file { id file.new ≡ id file.old }
         ensures bound { IfOk result (λ count. count ≤ length bytes.now) }
-        ensures ok { IfOk result (λ count.
-            Steps (told self.old) (told self.new) (Wrote (id file.old) (take count bytes.now))) }
+        ensures ok { IfOk result (λ count. ChangesDisk (told self.old) (told self.new)
+            (AppendsBytes (id file.old) (take count bytes.now))) }
         ensures err { OnErr result
-            (Steps (told self.old) (told self.new) (WrotePart (id file.old) bytes.now)) }
+            (ChangesDisk (told self.old) (told self.new) (AppendsFront (id file.old) bytes.now)) }
         ensures later { failures self.old ≤ failures self.new }
         ensures none { IfOk result
             (λ count. count ≡ 0 → Rose (failures self.old) (failures self.new)) }
@@ -160,32 +163,36 @@ pub trait System {
     /// Waits until the device has the file.
     fn sync(&mut self, file: &mut Self::File) -> Result<(), CallFailed>
         ensures file { id file.new ≡ id file.old }
-        ensures ok { OnOk result (Steps (told self.old) (told self.new) (Stored (id file.old))) }
+        ensures ok { OnOk result
+            (ChangesDisk (told self.old) (told self.new) (SyncsFile (id file.old))) }
         ensures err { OnErr result
-            (Steps (told self.old) (told self.new) (Disturbed (id file.old))) }
+            (ChangesDisk (told self.old) (told self.new) (ChangesOnlyFile (id file.old))) }
         ensures later { failures self.old ≤ failures self.new }
         ensures ok_failures { OnOk result (failures self.new ≡ failures self.old) }
         ensures failed { OnErr result (Rose (failures self.old) (failures self.new)) };
 
     /// Gives the file with the name `from` the name `to`. A file that had this name loses it.
     fn rename(&mut self, from: &str, to: &str) -> Result<(), CallFailed>
-        ensures ok { OnOk result (Steps (told self.old) (told self.new) (Renamed from.now to.now)) }
-        ensures err { OnErr result (Keeps (told self.old) (told self.new)) }
+        ensures ok { OnOk result
+            (ChangesDisk (told self.old) (told self.new) (RenamesUnlessLink from.now to.now)) }
+        ensures err { OnErr result (KeepsDisk (told self.old) (told self.new)) }
         ensures later { failures self.old ≤ failures self.new }
         ensures ok_failures { OnOk result (failures self.new ≡ failures self.old) }
         ensures failed { OnErr result (Rose (failures self.old) (failures self.new)) };
 
     /// Takes the name away.
     fn remove(&mut self, name: &str) -> Result<(), CallFailed>
-        ensures ok { OnOk result (Steps (told self.old) (told self.new) (RemovedName name.now)) }
-        ensures err { OnErr result (Steps (told self.old) (told self.new) (Refused name.now)) }
+        ensures ok { OnOk result
+            (ChangesDisk (told self.old) (told self.new) (RemovesUnlessLink name.now)) }
+        ensures err { OnErr result
+            (ChangesDisk (told self.old) (told self.new) (RefusesRemoval name.now)) }
         ensures later { failures self.old ≤ failures self.new }
         ensures ok_failures { OnOk result (failures self.new ≡ failures self.old) }
         ensures failed { OnErr result (Rose (failures self.old) (failures self.new)) };
 
     /// A disk that is told to be plain has no links, and each file with a name is regular.
-    ghost plain: { (system : Self) → Now (told system) KnowsPlain };
+    ghost plain: { (system : Self) → HoldsNow (told system) KnowsPlain };
 
     /// In a folder, a new file's own name stands for no other name.
-    ghost new_names: { (system : Self) → Now (told system) KnowsNewNames };
+    ghost new_names: { (system : Self) → HoldsNow (told system) KnowsNewNames };
 }

@@ -7,11 +7,11 @@ use Rattle.std.specs.declared.alloc.Global.{Global}
 use Rattle.std.proofs.lemmas.Cmp.{nat_list_cmp_total}
 use Rattle.std.proofs.lemmas.Bool.Decides.{eqb_tells}
 use Rattle.std.proofs.lemmas.Map.Text.{is_eq-slice_cmp}
-use Rattle.pg_outside.specs.Inside.Disk as disk
-use Rattle.pg_outside.specs.Inside.Disk.{Node, Disk, NameMap, FileSet}
+use Rattle.pg_outside.specs.Inside.disk.Disks as disk
+use Rattle.pg_outside.specs.Inside.disk.Disks.{Node, Disk, NameMap, SetsFile}
 use Rattle.pg_outside.specs.declared.disk.system.FileId.{FileId}
 use Rattle.pg_told_disk.specs.Inside.Cases.{eq_yes, eq_no, number_no, cond_yes, cond_no, none_some, some_same, of_cond}
-use Rattle.pg_told_disk.specs.Inside.Changes.{number_in, names_in, mode_in, kind_in, bytes_in, stored_in, node_in, node_with, file_in, id_of, with_name, disk_in}
+use Rattle.pg_told_disk.specs.Inside.Changes.{number_in, names_in, mode_in, bytes_in, stored_in, node_in, node_with, file_in, id_of, with_name, disk_in}
 use Rattle.pg_told_disk.specs.Inside.Following.{not_link}
 use Rattle.pg_told_disk.specs.Inside.Linked.{link_in, real_in}
 use Rattle.pg_told_disk.specs.declared.change.Change.{Change}
@@ -64,7 +64,7 @@ of_id o n e =
 pub get_names : (log : List Change) (q : List ℕ)
     → fin.get (names_in log) q ≡ option_map id_of (number_in log q)
 get_names [] q = fin.get-empty _ q
-get_names (Made own regular ∷ older) q = get_put (names_in older)
+get_names (Made own ∷ older) q = get_put (names_in older)
     (string_bytes own) q (id_of (length older)) ∙ ap
     (λ (o : Option FileId). cond (bytes_eq q (string_bytes own)) (Some (id_of (length older))) o)
     (get_names older q)
@@ -112,7 +112,7 @@ next_below_suc n k lt = omega arith
 pub number_below : (log : List Change) (q : List ℕ) (n : ℕ)
     → number_in log q ≡ Some n → n < length log
 number_below [] q n is = absurd (none_some n is)
-number_below (Made own regular ∷ older) q n is =
+number_below (Made own ∷ older) q n is =
     next_below_suc _ _ (below_of_some (bytes_eq q (string_bytes own))
     (length older) n (number_in older q) is (λ e. below_next n (length older)
     (number_below older q n e)))
@@ -183,21 +183,18 @@ stands_apart links q own direct apart =
     eq_no (real_in links q) own (λ e. apart (e ∙ sym direct))
 
 -- the file of this number, where its parts are these
-node_parts : (log : List Change) (n mode : ℕ) (regular stored : Bool) (bytes : List ℕ)
-    → kind_in log n ≡ regular → bytes_in log n ≡ bytes → stored_in log n ≡ stored
-    → mode_in log n ≡ Some mode
-    → node_in log n ≡ Some (node_with regular bytes stored mode)
-node_parts log n mode regular stored bytes kind held has modes =
-    ap (λ (k : Bool). option_map (node_with k (bytes_in log n) (stored_in log n)) (mode_in log n))
-    kind
-    ∙ ap (λ (l : List ℕ). option_map (node_with regular l (stored_in log n)) (mode_in log n)) held
-    ∙ ap (λ (s : Bool). option_map (node_with regular bytes s) (mode_in log n)) has
-    ∙ ap (λ (o : Option ℕ). option_map (node_with regular bytes stored) o) modes
+node_parts : (log : List Change) (n mode : ℕ) (stored : Bool) (bytes : List ℕ)
+    → bytes_in log n ≡ bytes → stored_in log n ≡ stored → mode_in log n ≡ Some mode
+    → node_in log n ≡ Some (node_with bytes stored mode)
+node_parts log n mode stored bytes held has modes =
+    ap (λ (l : List ℕ). option_map (node_with l (stored_in log n)) (mode_in log n)) held
+    ∙ ap (λ (s : Bool). option_map (node_with bytes s) (mode_in log n)) has
+    ∙ ap (λ (o : Option ℕ). option_map (node_with bytes stored) o) modes
 
 -- a file that is there has permissions, and is made of its parts
 pub of_node : (log : List Change) (n : ℕ) (node : Node) → node_in log n ≡ Some node
     → (mode : ℕ) × (mode_in log n ≡ Some mode)
-    × (node ≡ node_with (kind_in log n) (bytes_in log n) (stored_in log n) mode)
+    × (node ≡ node_with (bytes_in log n) (stored_in log n) mode)
 of_node log n node is = by_mode (mode_in log n) refl is
   where
     none_node : None ≡ Some node → ⊥
@@ -207,9 +204,9 @@ of_node log n node is = by_mode (mode_in log n) refl is
     some_node other e = cc
 
     by_mode : (o : Option ℕ) → mode_in log n ≡ o
-        → option_map (node_with (kind_in log n) (bytes_in log n) (stored_in log n)) o ≡ Some node
+        → option_map (node_with (bytes_in log n) (stored_in log n)) o ≡ Some node
         → (mode : ℕ) × (mode_in log n ≡ Some mode)
-        × (node ≡ node_with (kind_in log n) (bytes_in log n) (stored_in log n) mode)
+        × (node ≡ node_with (bytes_in log n) (stored_in log n) mode)
     by_mode None has e = absurd (none_node e)
     by_mode (Some mode) has e = (mode, has, some_node _ e)
 
@@ -217,10 +214,10 @@ of_node log n node is = by_mode (mode_in log n) refl is
 pub made : (links : List Link) (log : List Change) (own : String Global)
     → is_some (link_in links (string_bytes own)) ≡ false
     → number_in log (string_bytes own) ≡ None
-    → disk.Made (string_bytes own) (id_of (length log)) (disk_in links log)
-    (disk_in links (Made own true ∷ log))
+    → disk.MakesFile (string_bytes own) (id_of (length log)) (disk_in links log)
+    (disk_in links (Made own ∷ log))
 made links log own unlinked none = record {
-  node = node_with true [] false 420;
+  node = node_with [] false 420;
   is_regular = refl;
   empty = refl;
   mode = refl;
@@ -232,16 +229,16 @@ made links log own unlinked none = record {
     fresh = λ name e. not_below (length log)
         (number_below log (real_in links name) (length log)
         (of_id (number_in log (real_in links name)) (length log) (sym (id_in links log name) ∙ e)));
-    named = id_real links (Made own true ∷ log) (string_bytes own) (string_bytes own) stands
+    named = id_real links (Made own ∷ log) (string_bytes own) (string_bytes own) stands
         ∙ ap (λ (o : Option ℕ). option_map id_of o)
         (cond_yes _ _ _ (eq_yes (string_bytes own) (string_bytes own) refl));
-    names = λ name apart. id_in links (Made own true ∷ log) name
+    names = λ name apart. id_in links (Made own ∷ log) name
         ∙ ap (λ (o : Option ℕ). option_map id_of o)
         (cond_no _ _ _ (stands_apart links name (string_bytes own) stands apart))
         ∙ sym (id_in links log name);
-    file = node_parts (Made own true ∷ log) (length log) 420 true false []
-        (cond_yes _ _ _ here) (cond_yes _ _ _ here) (cond_yes _ _ _ here) (cond_yes _ _ _ here);
-    others = λ other apart. other_file log (Made own true ∷ log) (length log)
+    file = node_parts (Made own ∷ log) (length log) 420 false []
+        (cond_yes _ _ _ here) (cond_yes _ _ _ here) (cond_yes _ _ _ here);
+    others = λ other apart. other_file log (Made own ∷ log) (length log)
         (λ m differs. other_node m differs) other apart;
     refused = refl;
   };
@@ -253,9 +250,9 @@ made links log own unlinked none = record {
     here : nat_eq (length log) (length log) ≡ true
     here = eq-eqb (length log) (length log) refl
 
-    other_node : (m : ℕ) → m ≢ length log → node_in (Made own true ∷ log) m ≡ node_in log m
+    other_node : (m : ℕ) → m ≢ length log → node_in (Made own ∷ log) m ≡ node_in log m
     other_node m differs =
-        ap (λ (b : Bool). option_map (node_with (cond b true (kind_in log m))
+        ap (λ (b : Bool). option_map (node_with
         (cond b [] (bytes_in log m)) (cond b false (stored_in log m)))
         (cond b (Some 420) (mode_in log m))) (number_no m (length log) differs)
 
@@ -266,7 +263,7 @@ set_file : (log log2 : List Change) (n : ℕ) (node after : Node) (links : List 
     → (disk_in links log2).refused ≡ (disk_in links log).refused
     → node_in log2 n ≡ Some after
     → ((m : ℕ) → m ≢ n → node_in log2 m ≡ node_in log m)
-    → FileSet (id_of n) after (disk_in links log) (disk_in links log2)
+    → SetsFile (id_of n) after (disk_in links log) (disk_in links log2)
 set_file log log2 n node after links same names refused file others = record {
   links = same;
   names = names;
@@ -277,14 +274,14 @@ set_file log log2 n node after links same names refused file others = record {
 
 -- the change GotMode gives the file these permissions
 pub got_mode : (links : List Link) (log : List Change) (n mode : ℕ)
-    → disk.GotMode (id_of n) mode (disk_in links log) (disk_in links (GotMode n mode ∷ log))
+    → disk.SetsMode (id_of n) mode (disk_in links log) (disk_in links (GotMode n mode ∷ log))
 got_mode links log n mode = λ node is.
     let parts = of_node log n node is in (
-      node_with (kind_in log n) (bytes_in log n) (stored_in log n) mode,
+      node_with (bytes_in log n) (stored_in log n) mode,
       set_file log (GotMode n mode ∷ log) n node _ links refl refl refl
-          (node_parts (GotMode n mode ∷ log) n mode _ _ _ refl refl refl
+          (node_parts (GotMode n mode ∷ log) n mode _ _ refl refl
           (cond_yes _ _ _ (eq-eqb n n refl)))
-          (λ m differs. ap (λ (b : Bool). option_map (node_with (kind_in log m) (bytes_in log m)
+          (λ m differs. ap (λ (b : Bool). option_map (node_with (bytes_in log m)
           (stored_in log m)) (cond b (Some mode) (mode_in log m))) (number_no m n differs)),
       sym (ap (λ (k : Node). k.is_regular) parts.2),
       sym (ap (λ (k : Node). k.bytes) parts.2),
@@ -293,26 +290,27 @@ got_mode links log n mode = λ node is.
 
 -- the change Stored lets the device have the file
 pub stored : (links : List Link) (log : List Change) (n : ℕ)
-    → disk.Stored (id_of n) (disk_in links log) (disk_in links (Stored n ∷ log))
+    → disk.SyncsFile (id_of n) (disk_in links log) (disk_in links (Stored n ∷ log))
 stored links log n = λ node is.
     let parts = of_node log n node is in
     set_file log (Stored n ∷ log) n node (record node { is_stored = true }) links refl refl refl
-    (node_parts (Stored n ∷ log) n parts.0 _ _ _ refl refl
+    (node_parts (Stored n ∷ log) n parts.0 _ _ refl
     (cond_yes _ _ _ (eq-eqb n n refl)) parts.1
     ∙ sym (ap (λ (k : Node). Some (record k { is_stored = true })) parts.2))
-    (λ m differs. ap (λ (b : Bool). option_map (node_with (kind_in log m) (bytes_in log m)
+    (λ m differs. ap (λ (b : Bool). option_map (node_with (bytes_in log m)
     (cond b true (stored_in log m))) (mode_in log m)) (number_no m n differs))
 
 -- the change Wrote puts these bytes behind those of the file
 pub wrote : (links : List Link) (log : List Change) (n : ℕ) (bytes : Vec ℕ Global)
-    → disk.Wrote (id_of n) bytes.items (disk_in links log) (disk_in links (Wrote n bytes ∷ log))
+    → disk.AppendsBytes (id_of n) bytes.items
+    (disk_in links log) (disk_in links (Wrote n bytes ∷ log))
 wrote links log n bytes = λ node is.
     let parts = of_node log n node is in (
-      node_with (kind_in log n) (bytes_in log n ++ bytes.items) false parts.0,
+      node_with (bytes_in log n ++ bytes.items) false parts.0,
       set_file log (Wrote n bytes ∷ log) n node _ links refl refl refl
-          (node_parts (Wrote n bytes ∷ log) n parts.0 _ _ _ refl
+          (node_parts (Wrote n bytes ∷ log) n parts.0 _ _
           (cond_yes _ _ _ (eq-eqb n n refl)) (cond_yes _ _ _ (eq-eqb n n refl)) parts.1)
-          (λ m differs. ap (λ (b : Bool). option_map (node_with (kind_in log m)
+          (λ m differs. ap (λ (b : Bool). option_map (node_with
           (cond b (bytes_in log m ++ bytes.items) (bytes_in log m))
           (cond b false (stored_in log m))) (mode_in log m)) (number_no m n differs)),
       sym (ap (λ (k : Node). k.is_regular) parts.2),
@@ -322,7 +320,7 @@ wrote links log n bytes = λ node is.
 
 -- the change Stayed alters nothing, and so nothing but this file
 pub stayed : (links : List Link) (log : List Change) (id : FileId)
-    → disk.Disturbed id (disk_in links log) (disk_in links (Stayed ∷ log))
+    → disk.ChangesOnlyFile id (disk_in links log) (disk_in links (Stayed ∷ log))
 stayed links log id = λ node is. (
   node,
   record {
@@ -336,7 +334,7 @@ stayed links log id = λ node is. (
 
 -- the change Stayed writes a first part of these bytes, with none of them
 pub stayed_part : (links : List Link) (log : List Change) (id : FileId) (bytes : List ℕ)
-    → disk.WrotePart id bytes (disk_in links log) (disk_in links (Stayed ∷ log))
+    → disk.AppendsFront id bytes (disk_in links log) (disk_in links (Stayed ∷ log))
 stayed_part links log id bytes = (
   0,
   λ node is. (
@@ -350,7 +348,7 @@ stayed_part links log id bytes = (
 
 -- the change Refused adds the name to those that the system refused to remove
 pub refused : (links : List Link) (log : List Change) (own : String Global)
-    → disk.Refused (string_bytes own) (disk_in links log) (disk_in links (Refused own ∷ log))
+    → disk.RefusesRemoval (string_bytes own) (disk_in links log) (disk_in links (Refused own ∷ log))
 refused links log own = record {
   links = refl;
   names = refl;
@@ -360,7 +358,8 @@ refused links log own = record {
 
 -- the change Removed takes the name away, where it is no link
 pub removed : (links : List Link) (log : List Change) (own : String Global)
-    → disk.RemovedName (string_bytes own) (disk_in links log) (disk_in links (Removed own ∷ log))
+    → disk.RemovesUnlessLink (string_bytes own)
+    (disk_in links log) (disk_in links (Removed own ∷ log))
 removed links log own = λ unlinked.
     let stands = not_link links (string_bytes own) unlinked in record {
       links = refl;
@@ -375,7 +374,7 @@ removed links log own = λ unlinked.
 
 -- the change Renamed gives the file of the one name the other, where no name is a link
 pub renamed : (links : List Link) (log : List Change) (from to : String Global)
-    → disk.Renamed (string_bytes from) (string_bytes to)
+    → disk.RenamesUnlessLink (string_bytes from) (string_bytes to)
     (disk_in links log) (disk_in links (Renamed from to ∷ log))
 renamed links log from to = λ one other.
     let stands_from = not_link links (string_bytes from) one in

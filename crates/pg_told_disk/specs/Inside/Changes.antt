@@ -1,10 +1,10 @@
 -- The disk that a list of changes makes, the latest first.
-use Rattle.std.specs.Prelude.{◌≡◌, ℕ, ◌/◌, ◌%◌, List, Vec, [], ◌∷◌, ◌++◌, length, Bool, true, false, cond, ◌&&◌, nat_eq, Option, Some, None, string_bytes}
+use Rattle.std.specs.Prelude.{◌≡◌, ℕ, ◌/◌, ◌%◌, List, Vec, [], ◌∷◌, ◌++◌, length, Bool, true, false, cond, nat_eq, Option, Some, None, string_bytes}
 use Rattle.std.specs.Option.{option_map}
 use Rattle.std.specs.Str.{bytes_eq}
 use Rattle.std.specs.FinMap as fin
 use Rattle.std.specs.declared.alloc.Global.{Global}
-use Rattle.pg_outside.specs.Inside.Disk.{Node, NameMap, Disk, Told}
+use Rattle.pg_outside.specs.Inside.disk.Disks.{Node, NameMap, Disk, DiskHistory}
 use Rattle.pg_outside.specs.declared.disk.system.FileId.{FileId}
 use Rattle.pg_told_disk.specs.Inside.Linked.{real_in, links_in}
 use Rattle.pg_told_disk.specs.declared.change.Change.{Change}
@@ -14,7 +14,7 @@ use Rattle.pg_told_disk.specs.declared.links.Link.{Link}
 -- the number of the file that the name leads to, which is no link
 abbrev pub number_in : List Change → List ℕ → Option ℕ
 number_in [] name = None
-number_in (Made own regular ∷ older) name = cond (bytes_eq name (string_bytes own))
+number_in (Made own ∷ older) name = cond (bytes_eq name (string_bytes own))
     (Some (length older)) (number_in older name)
 number_in (Shared own old ∷ older) name = cond (bytes_eq name (string_bytes own))
     (number_in older (string_bytes old)) (number_in older name)
@@ -37,7 +37,7 @@ with_name (Some number) names to = fin.insert names to (id_of number)
 -- the names after the changes, each with the file that it leads to
 abbrev pub names_in : List Change → NameMap
 names_in [] = fin.empty
-names_in (Made own regular ∷ older) =
+names_in (Made own ∷ older) =
     fin.insert (names_in older) (string_bytes own) (id_of (length older))
 names_in (Shared own old ∷ older) = with_name (number_in older (string_bytes old))
     (names_in older) (string_bytes own)
@@ -49,23 +49,16 @@ names_in (_ ∷ older) = names_in older
 -- the permissions of the file of this number, if it is there
 abbrev pub mode_in : List Change → ℕ → Option ℕ
 mode_in [] number = None
-mode_in (Made own regular ∷ older) number = cond (nat_eq number (length older))
+mode_in (Made own ∷ older) number = cond (nat_eq number (length older))
     (Some 420) (mode_in older number)
 mode_in (GotMode other mode ∷ older) number = cond (nat_eq number other)
     (Some mode) (mode_in older number)
 mode_in (_ ∷ older) number = mode_in older number
 
--- whether the file of this number is regular
-abbrev pub kind_in : List Change → ℕ → Bool
-kind_in [] number = true
-kind_in (Made own regular ∷ older) number = cond (nat_eq number (length older))
-    regular (kind_in older number)
-kind_in (_ ∷ older) number = kind_in older number
-
 -- the bytes of the file of this number
 abbrev pub bytes_in : List Change → ℕ → List ℕ
 bytes_in [] number = []
-bytes_in (Made own regular ∷ older) number = cond (nat_eq number (length older))
+bytes_in (Made own ∷ older) number = cond (nat_eq number (length older))
     [] (bytes_in older number)
 bytes_in (Wrote other bytes ∷ older) number = cond (nat_eq number other)
     (bytes_in older number ++ bytes.items) (bytes_in older number)
@@ -74,7 +67,7 @@ bytes_in (_ ∷ older) number = bytes_in older number
 -- whether the device has all of the file of this number
 abbrev pub stored_in : List Change → ℕ → Bool
 stored_in [] number = false
-stored_in (Made own regular ∷ older) number = cond (nat_eq number (length older))
+stored_in (Made own ∷ older) number = cond (nat_eq number (length older))
     false (stored_in older number)
 stored_in (Wrote other bytes ∷ older) number = cond (nat_eq number other)
     false (stored_in older number)
@@ -86,10 +79,10 @@ stored_in (_ ∷ older) number = stored_in older number
 abbrev pub lets_write : ℕ → Bool
 lets_write mode = nat_eq (mode / 128 % 2) 1
 
--- a file by its kind, its bytes, and whether the device has them, with these permissions
-abbrev pub node_with : Bool → List ℕ → Bool → ℕ → Node
-node_with regular bytes stored mode = record {
-  is_regular = regular;
+-- a regular file by its bytes, and whether the device has them, with these permissions
+abbrev pub node_with : List ℕ → Bool → ℕ → Node
+node_with bytes stored mode = record {
+  is_regular = true;
   bytes = bytes;
   mode = mode;
   is_writable = lets_write mode;
@@ -99,20 +92,13 @@ node_with regular bytes stored mode = record {
 -- the file of this number
 abbrev pub node_in : List Change → ℕ → Option Node
 node_in log number = option_map
-    (node_with (kind_in log number) (bytes_in log number) (stored_in log number))
-    (mode_in log number)
+    (node_with (bytes_in log number) (stored_in log number)) (mode_in log number)
 
 -- the names that the system refused to remove, the latest first
 abbrev pub refused_in : List Change → List (List ℕ)
 refused_in [] = []
 refused_in (Refused own ∷ older) = string_bytes own ∷ refused_in older
 refused_in (_ ∷ older) = refused_in older
-
--- whether each file that was made is regular
-abbrev pub is_regular_in : List Change → Bool
-is_regular_in [] = true
-is_regular_in (Made own regular ∷ older) = regular && is_regular_in older
-is_regular_in (_ ∷ older) = is_regular_in older
 
 -- what this file is
 abbrev pub file_in : List Change → FileId → Option Node
@@ -121,7 +107,7 @@ file_in log id = cond (nat_eq id.device 1) (node_in log id.inode) None
 -- the disk with these links, after these changes
 abbrev pub disk_in : List Link → List Change → Disk
 disk_in links log = record {
-  links = links_in links (is_regular_in log);
+  links = links_in links;
   names = names_in log;
   files = file_in log;
   refused = refused_in log;
@@ -133,7 +119,7 @@ past_in links [] = []
 past_in links (change ∷ older) = disk_in links older ∷ past_in links older
 
 -- the disk after these changes, and the disks before
-abbrev pub told_in : List Link → List Change → Told
+abbrev pub told_in : List Link → List Change → DiskHistory
 told_in links log = record { now = disk_in links log; past = past_in links log }
 
 -- these are the bytes of the file that the name leads to, if there is one

@@ -1,8 +1,8 @@
 -- What a list of links makes of names, the latest link first.
-use Rattle.std.specs.Prelude.{ℕ, List, [], ◌∷◌, Bool, true, false, cond, ◌&&◌, Option, Some, None, string_bytes}
+use Rattle.std.specs.Prelude.{ℕ, List, [], ◌∷◌, Bool, true, false, cond, Option, Some, None, string_bytes}
 use Rattle.std.specs.Option.{is_some}
 use Rattle.std.specs.Str.{bytes_eq}
-use Rattle.pg_outside.specs.Inside.Disk.{Links}
+use Rattle.pg_outside.specs.Inside.disk.Disks.{Links}
 use Rattle.pg_told_disk.specs.declared.links.Link.{Link}
 
 -- the earlier link, or this one where the name is its own
@@ -39,12 +39,12 @@ abbrev pub has_no_link : List Link → Bool
 has_no_link [] = true
 has_no_link (link ∷ older) = false
 
--- these links as a disk has them; it is plain where there are none and the flag is set
-abbrev pub links_in : List Link → Bool → Links
-links_in links is_plain = record {
+-- these links as a disk has them; it is plain where there are none
+abbrev pub links_in : List Link → Links
+links_in links = record {
   real = real_in links;
   is_link = is_link_in links;
   next = λ name. said_or (link_in links name) name;
   new_mode = 420;
-  is_plain = has_no_link links && is_plain;
+  is_plain = has_no_link links;
 }

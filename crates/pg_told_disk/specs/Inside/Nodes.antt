@@ -1,25 +1,10 @@
 -- The files of a list of changes.
 use Rattle.std.proofs.Common.{◌≡◌, ℕ, List, [], ◌∷◌, length, Bool, true, false, cond, nat_eq, Option, Some, None, string_bytes, refl, sym, ap, ◌∙◌, eq-eqb}
 use Rattle.std.specs.Str.{bytes_eq}
-use Rattle.std.proofs.lemmas.Bool.{and_parts}
 use Rattle.pg_told_disk.specs.Inside.Cases.{none_some, some_same, of_cond}
-use Rattle.pg_told_disk.specs.Inside.Changes.{number_in, mode_in, kind_in, is_regular_in}
+use Rattle.pg_told_disk.specs.Inside.Changes.{number_in, mode_in}
 use Rattle.pg_told_disk.specs.declared.change.Change.{Change}
 use Rattle.pg_told_disk.specs.declared.change.Change.TheVariants.{Made, Shared, GotMode, Renamed, Removed}
-
--- a choice between two flags that are true is true
-either : (b : Bool) (x y : Bool) → x ≡ true → y ≡ true → cond b x y ≡ true
-either true x y one other = one
-either false x y one other = other
-
--- where each file that was made is regular, the file of each number is
-pub regular_in : (log : List Change) (n : ℕ) → is_regular_in log ≡ true → kind_in log n ≡ true
-regular_in [] n all = refl
-regular_in (Made own regular ∷ older) n all =
-    let both = and_parts regular (is_regular_in older) all in
-    either (nat_eq n (length older)) regular (kind_in older n) both.0
-    (regular_in older n both.1)
-regular_in (_ ∷ older) n all = regular_in older n all
 
 -- the file of this number has permissions
 pub record Has (log : List Change) (n : ℕ) : Type 0 where
@@ -44,15 +29,15 @@ eqb_same n m e = eq-eqb n m (sym e)
 -- a file whose number a name leads to is there
 pub named_has : (log : List Change) (q : List ℕ) (n : ℕ) → number_in log q ≡ Some n → Has log n
 named_has [] q n is = absurd (none_some n is)
-named_has (Made own regular ∷ older) q n is =
+named_has (Made own ∷ older) q n is =
     of_cond (bytes_eq q (string_bytes own)) n (Some (length older))
-    (number_in older q) (Has (Made own regular ∷ older) n) is
+    (number_in older q) (Has (Made own ∷ older) n) is
     (λ e. record {
       mode = 420;
       there = ap (λ (b : Bool). cond b (Some 420) (mode_in older n))
           (eqb_same n (length older) (some_same (length older) n e));
     })
-    (λ e. keep_has (Made own regular ∷ older) older n (nat_eq n (length older)) 420 refl
+    (λ e. keep_has (Made own ∷ older) older n (nat_eq n (length older)) 420 refl
     (named_has older q n e))
 named_has (Shared own old ∷ older) q n is =
     of_cond (bytes_eq q (string_bytes own)) n (number_in older (string_bytes old))

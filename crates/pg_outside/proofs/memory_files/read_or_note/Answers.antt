@@ -1,6 +1,6 @@
 use Rattle.std.proofs.Common.{List, String, refl, ap, arith, rules}
 use Rattle.std.specs.declared.alloc.Global.{Global}
-use Rattle.pg_outside.specs.Inside.MissingNames.{times_in}
+use Rattle.pg_outside.specs.Inside.memory.MissingNames.{times_in}
 use Rattle.pg_outside.proofs.Results.{no_value}
 use Rattle.pg_outside.proofs.ReadErrors.{long_or_failed, memory_or_long, memory_or_failed}
 use Rattle.pg_outside.proofs.memory_files.read_or_note.Goals as goal

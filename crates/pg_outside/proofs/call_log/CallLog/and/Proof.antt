@@ -28,7 +28,7 @@ use denote.Triple.Walked.{says, Stays, stay_dropped, walk_of, ends_at, walk_Meet
 use Rattle.pg_outside.proofs.EmptyStructs.{none, none_made}
 use Rattle.pg_outside.specs.contracts.call_log.CallLog as CallLog
 use Rattle.pg_outside.specs.contracts.call_log.Call as Call
-use Rattle.pg_outside.specs.Inside.CallLogs.{call_of}
+use Rattle.pg_outside.specs.Inside.calls.CallLogs.{call_of}
 use Rattle.pg_outside.specs.contracts.call_log.CallLog.and as F
 use Rattle.pg_outside.specs.contracts.call_log.CallLog.and.Key.{name as #self}
 use Rattle.pg_outside.proofs.call_log.CallLog.and.Statement as stated

@@ -1,6 +1,6 @@
 use Rattle.std.proofs.Common.{◌∙◌, inl, refl}
 use Rattle.std.proofs.lemmas.Result.{on_ok_weaker, IfErr-weaker}
-use Rattle.pg_outside.specs.Inside.DiskWrites.{KeepsOnly}
+use Rattle.pg_outside.specs.Inside.disk.Writes.{KeepsOnly}
 use Rattle.pg_outside.proofs.Causes.{rose_since}
 use Rattle.pg_outside.proofs.DiskReading.{reads_content, reads_front, is_noted, keeps_only}
 use Rattle.pg_outside.proofs.Results.{if_err, no_value}

@@ -1,7 +1,7 @@
 use Rattle.std.proofs.Common.{◌∙◌, refl, sym, ap}
 use Rattle.std.specs.List.{list_any}
 use Rattle.std.proofs.lemmas.Bool.{true≢false}
-use Rattle.pg_outside.specs.Inside.DiskWrites.{IsIn, is_same_file}
+use Rattle.pg_outside.specs.Inside.disk.Writes.{IsIn, is_same_file}
 use Rattle.pg_outside.specs.declared.disk.system.FileId.{FileId}
 use Rattle.pg_outside.proofs.Causes.{rose_since, failed_on}
 use Rattle.pg_outside.proofs.DiskReading.{was_kept}

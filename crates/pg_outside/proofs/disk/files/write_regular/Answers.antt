@@ -1,6 +1,6 @@
 use Rattle.std.proofs.Common.{refl}
 use Rattle.std.proofs.lemmas.Result.{on_err_weaker}
-use Rattle.pg_outside.specs.Inside.DiskWrites.{IsDeep}
+use Rattle.pg_outside.specs.Inside.disk.Writes.{IsDeep}
 use Rattle.pg_outside.proofs.Causes.{still_because, because_unfollowed, passed_since}
 use Rattle.pg_outside.proofs.DiskWriting.{leads_old, no_other, is_full, replaces_found, replace_found_fails, nothing_failed, writes_nothing}
 use Rattle.pg_outside.proofs.Results.{on_err, no_value}

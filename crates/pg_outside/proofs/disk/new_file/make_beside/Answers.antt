@@ -1,7 +1,7 @@
 use Rattle.std.proofs.Common.{◌≡◌, ◌∙◌, refl, sym, string_bytes, arith}
 use Rattle.std.proofs.lemmas.Bool.{true≢false}
 use Rattle.std.proofs.lemmas.Slice.Eq.{bytes_eq-Decides}
-use Rattle.pg_outside.specs.Inside.NewNames.{new_name}
+use Rattle.pg_outside.specs.Inside.disk.NewNames.{new_name}
 use Rattle.pg_outside.proofs.Causes.{rose_since, failed_on, memory_on}
 use Rattle.pg_outside.proofs.Results.{on_err, no_value}
 use Rattle.pg_outside.proofs.NewNameLoop.{is_named, none_tried, skipped, taken, all_taken}

@@ -1,5 +1,5 @@
 use Rattle.std.proofs.Common.{refl, ap, arith, rules}
-use Rattle.pg_outside.specs.Inside.Calls.{listed_calls}
+use Rattle.pg_outside.specs.Inside.calls.ListedCalls.{listed_calls}
 use Rattle.pg_outside.proofs.memory_files.MemoryFiles.next_plan.Goals as goal
 
 pub returns-then-is_some : goal.returns-then-is_some

@@ -1,6 +1,6 @@
 use Rattle.std.proofs.Common.{List, Some, IsSome, sym, ap, subst, ◌∙◌, arith, refl}
 use Rattle.pg_outside.specs.Content.{file_at}
-use Rattle.pg_outside.specs.Inside.StoredFile.{file_map, room_in}
+use Rattle.pg_outside.specs.Inside.memory.StoredFile.{file_map, room_in}
 use Rattle.pg_outside.specs.declared.stored.StoredFile.{StoredFile}
 use Rattle.pg_outside.proofs.ListedCalls.{not_listed, not_unlisted}
 use Rattle.pg_outside.proofs.MemoryCounts.{reads_later, reads_by_one, reads_rose, reads_same}

@@ -2,7 +2,7 @@ use Rattle.std.proofs.Common.{◌≡◌, List, inl, ap, sym, ◌∙◌, subst, a
 use Rattle.std.specs.FinMap as fin
 use Rattle.pg_outside.specs.Content.{HasPart}
 use Rattle.pg_outside.specs.Inside.NameFaults.{NoneFell}
-use Rattle.pg_outside.specs.Inside.StoredFile.{file_map, room_in}
+use Rattle.pg_outside.specs.Inside.memory.StoredFile.{file_map, room_in}
 use Rattle.pg_outside.specs.declared.stored.StoredFile.{StoredFile}
 use Rattle.pg_outside.proofs.ListedCalls.{not_listed, not_unlisted, not_kept}
 use Rattle.pg_outside.proofs.MemoryCounts.{reads_later, reads_by_one, reads_same, reads_rose}

@@ -1,5 +1,5 @@
 use Rattle.std.proofs.Common.{refl, ap, arith, rules}
-use Rattle.pg_outside.specs.Inside.Calls.{listed_calls}
+use Rattle.pg_outside.specs.Inside.calls.ListedCalls.{listed_calls}
 use Rattle.pg_outside.proofs.Results.{on_err, no_value}
 use Rattle.pg_outside.proofs.ListedCalls.{not_listed, not_unlisted, not_kept}
 use Rattle.pg_outside.proofs.memory_sink.MemorySinkSink.put.Goals as goal

@@ -5,8 +5,8 @@ use Rattle.pg_told_disk.proofs.told_disk.ToldDiskSystem.stat.Goals as goal
 pub returns : goal.returns
 returns c = record {
   same = search rules;
-  seen = stat _ c.args.self.now.links.items c.args.self.now.log.items c.args.file.now.number c.in-Some.mode _ _ c.id_of.ensures
-      (sym (rw c.deref.ensures.value at c.in-Some.ensures)) (rw c.deref-2.ensures.value at c.is_regular.ensures);
+  seen = stat _ c.args.self.now.links.items c.args.self.now.log.items c.args.file.now.number c.in-Some.mode _ c.id_of.ensures
+      (sym (rw c.deref.ensures.value at c.in-Some.ensures));
   later = search rules;
   ok_failures = search rules;
   failed = search rules;

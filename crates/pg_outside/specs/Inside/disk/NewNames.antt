@@ -25,7 +25,7 @@ abbrev pub is_rooted : List ℕ → Bool
 is_rooted name = slice_index name 0 == 47
 
 -- this is the name that the text of a link says: seen from the root, or from the link's folder
-pub record IsJoined (link text joined : List ℕ) : Type 0 where
+pub record IsLinkedName (link text joined : List ℕ) : Type 0 where
   pub rooted : is_rooted text ≡ true → joined ≡ text
   pub folder : List ℕ
   pub is_folder : IsFolderOf folder link

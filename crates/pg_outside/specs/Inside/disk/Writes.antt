@@ -4,15 +4,15 @@ use Rattle.std.specs.List.{list_any}
 use Rattle.pg_outside.specs.declared.disk.links.TheConstants.{LINK_NAMES_MAX}
 use Rattle.pg_outside.specs.declared.disk.new_file.TheConstants.{NEW_NAMES_MAX}
 use Rattle.pg_outside.specs.Faults.{next_count}
-use Rattle.pg_outside.specs.Inside.Causes.{Because}
-use Rattle.pg_outside.specs.Inside.Disk.{Node, Disk, Told, AreOne, LeadsTo, LeadsToNone, Wrote, WrotePart, IsTaken, Now, id_at, node_at}
-use Rattle.pg_outside.specs.Inside.NewNames.{IsFolderOf, new_name}
-use Rattle.pg_outside.specs.Inside.DiskHeld.{all_faults}
+use Rattle.pg_outside.specs.Inside.disk.Causes.{IsCauseOf}
+use Rattle.pg_outside.specs.Inside.disk.Disks.{Node, Disk, DiskHistory, AreOne, LeadsTo, LeadsToNone, AppendsBytes, AppendsFront, IsTaken, HoldsNow, id_at, node_at}
+use Rattle.pg_outside.specs.Inside.disk.NewNames.{IsFolderOf, new_name}
+use Rattle.pg_outside.specs.Inside.disk.Shown.{all_faults}
 use Rattle.pg_outside.specs.declared.disk.files.DiskFiles.{DiskFiles}
 use Rattle.pg_outside.specs.declared.disk.system.FileId.{FileId}
 use Rattle.pg_outside.specs.declared.disk.system.Seen.{Seen}
 use Rattle.pg_outside.specs.declared.disk.error.WriteError.{WriteError}
-use Rattle.pg_outside.specs.Inside.Moments.{Runs, AtMoment, IsWritten, IsAsBefore}
+use Rattle.pg_outside.specs.Inside.disk.Moments.{RunsCalls, AtMoment, IsWritten, IsAsBefore}
 
 -- whether these are one file
 abbrev pub is_same_file : FileId → FileId → Bool
@@ -79,7 +79,7 @@ pub record MayWrite (name : List ℕ) (kept : List FileId) (disk : Disk) : Type 
 pub record AtWrite (name bytes : List ℕ) (kept : List FileId) (first disk : Disk) : Type 0 where
   pub allowed : MayWrite name kept first
   pub plain : IsPlain name first → AtMoment name bytes (mode_at name first) first disk
-  pub device : (id : FileId) → IsDevice name id first → WrotePart id bytes first disk
+  pub device : (id : FileId) → IsDevice name id first → AppendsFront id bytes first disk
 
 -- the name leads to a new file of these bytes, with the old permissions, which is kept in mind
 pub record IsWrittenAndKept (name bytes : List ℕ)
@@ -94,13 +94,14 @@ pub record AfterWrite (name bytes : List ℕ) (before kept : List FileId)
   pub links : last.links ≡ first.links
   pub allowed : MayWrite name before first
   pub plain : IsPlain name first → IsWrittenAndKept name bytes before kept first last
-  pub device : (id : FileId) → IsDevice name id first → Wrote id bytes first last × (kept ≡ before)
+  pub device : (id : FileId) → IsDevice name id first
+      → AppendsBytes id bytes first last × (kept ≡ before)
 
 -- after a write that failed
 pub record AfterFailure (name bytes : List ℕ) (first last : Disk) : Type 0 where
   pub links : last.links ≡ first.links
   pub plain : IsPlain name first → IsAsBefore name first last
-  pub device : (id : FileId) → IsDevice name id first → WrotePart id bytes first last
+  pub device : (id : FileId) → IsDevice name id first → AppendsFront id bytes first last
 
 -- no file is kept in mind but those before and the one that the name leads to
 abbrev pub KeepsOnly : List ℕ → List FileId → List FileId → Disk → Type 0
@@ -143,7 +144,7 @@ IsDeep name disk = (count : ℕ) → count < LINK_NAMES_MAX
     → disk.links.is_link (followed_name disk count name) ≡ true
 
 -- each of the thousand names of a new file beside this one is taken, or is this one
-pub record AllTaken (name : List ℕ) (disk : Disk) : Type 0 where
+pub record AreAllTaken (name : List ℕ) (disk : Disk) : Type 0 where
   pub folder : List ℕ
   pub is_folder : IsFolderOf folder name
   pub taken : (counted : ℕ) → counted < NEW_NAMES_MAX
@@ -154,7 +155,7 @@ pub record IsFull (name : List ℕ) (disk : Disk) : Type 0 where
   pub real : List ℕ
   pub direct : disk.links.is_link real ≡ false
   pub one : AreOne disk real name
-  pub all : AllTaken real disk
+  pub all : AreAllTaken real disk
 
 -- the name is no link, leads to this, and stands for what the other name stands for
 pub record StandsFor (real : List ℕ) (found : Option FileId)
@@ -165,22 +166,23 @@ pub record StandsFor (real : List ℕ) (found : Option FileId)
 
 -- what a write by name comes to: what was done and kept in mind, each moment, and why it failed
 pub record IsWrite {T : Type 0} (result : Result T WriteError) (failed_before failed : ℕ)
-    (before kept : List FileId) (old new : Option Told) (name bytes : List ℕ) : Type 0 where
+    (before kept : List FileId) (old new : Option DiskHistory) (name bytes : List ℕ) : Type 0 where
   pub ok : OnOk result ((failed ≡ failed_before) × KeepsAll before kept
-      × Runs old new (AtWrite name bytes before) (AfterWrite name bytes before kept))
+      × RunsCalls old new (AtWrite name bytes before) (AfterWrite name bytes before kept))
   pub err : OnErr result ((kept ≡ before)
-      × Runs old new (AtWrite name bytes before) (AfterFailure name bytes))
-  pub cause : IfErr result (Because failed_before failed
-      (Now new (WasKept name before)) (Now new (IsDeep name)) (Now new (IsFull name)))
+      × RunsCalls old new (AtWrite name bytes before) (AfterFailure name bytes))
+  pub cause : IfErr result (IsCauseOf failed_before failed
+      (HoldsNow new (WasKept name before)) (HoldsNow new (IsDeep name))
+      (HoldsNow new (IsFull name)))
 
 -- what a write of a file leaves, on a disk that is told so, with so many failed calls of the system
-pub record IsDiskWrite {S File T E : Type 0} (told : S → Option Told) (failures : S → ℕ)
+pub record IsDiskWrite {S File T E : Type 0} (told : S → Option DiskHistory) (failures : S → ℕ)
     (result : Result T E) (old new : DiskFiles S File) (name bytes : List ℕ) : Type 0 where
   -- at each moment between two calls of the system, and at the end
-  pub ok : OnOk result (Runs (told old.system) (told new.system)
+  pub ok : OnOk result (RunsCalls (told old.system) (told new.system)
       (AtWrite name bytes old.kept.items)
       (AfterWrite name bytes old.kept.items new.kept.items))
-  pub err : OnErr result (Runs (told old.system) (told new.system)
+  pub err : OnErr result (RunsCalls (told old.system) (told new.system)
       (AtWrite name bytes old.kept.items) (AfterFailure name bytes))
   -- a file that was kept in mind still is, and a write that fails adds none
   pub kept : KeepsAll old.kept.items new.kept.items

@@ -2,7 +2,7 @@
 use Rattle.std.specs.Prelude.{◌≡◌, ℕ, List, Bool, cond, Option, Some, None, IsSome}
 use Rattle.pg_outside.specs.Content.{FileMap, FilesShown, file_at}
 use Rattle.pg_outside.specs.FilesCalls.{FilesCall}
-use Rattle.pg_outside.specs.Inside.StoredFile.{file_map}
+use Rattle.pg_outside.specs.Inside.memory.StoredFile.{file_map}
 use Rattle.pg_outside.specs.declared.quiet_files.QuietFiles.{QuietFiles}
 
 -- the files that it stores, whether it tells them or not

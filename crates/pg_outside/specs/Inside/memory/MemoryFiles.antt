@@ -1,13 +1,13 @@
 -- What `MemoryFiles` shows: its files, its counts of faults, and its calls.
 use Rattle.std.specs.Prelude.{◌≡◌, ℕ, ◌+◌, ◌≤◌, List, take, length, min, Option, Some, None, IsSome, ◌⊎◌}
 use Rattle.std.specs.FinMap as fin
-use Rattle.pg_outside.specs.Inside.Calls.{ListedCalls, listed_calls}
+use Rattle.pg_outside.specs.Inside.calls.ListedCalls.{ListedCalls, listed_calls}
 use Rattle.pg_outside.specs.Content.{FileMap, FilesShown, file_at}
 use Rattle.pg_outside.specs.Faults.{next_count}
 use Rattle.pg_outside.specs.Inside.NameFaults.{EachRose, RoseByOneAtMost, SameCounts}
 use Rattle.pg_outside.specs.FilesCalls.{FilesCall}
-use Rattle.pg_outside.specs.Inside.MissingNames.{times_in}
-use Rattle.pg_outside.specs.Inside.StoredFile.{file_map, room_in}
+use Rattle.pg_outside.specs.Inside.memory.MissingNames.{times_in}
+use Rattle.pg_outside.specs.Inside.memory.StoredFile.{file_map, room_in}
 use Rattle.pg_outside.specs.declared.memory_files.MemoryFiles.{MemoryFiles}
 
 -- the files

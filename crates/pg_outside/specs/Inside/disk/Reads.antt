@@ -1,6 +1,6 @@
 -- What a read says of a file.
 use Rattle.std.specs.Prelude.{◌≡◌, ℕ, ◌+◌, ◌<◌, List, take, length, Some}
-use Rattle.pg_outside.specs.Inside.Disk.{Node, Disk}
+use Rattle.pg_outside.specs.Inside.disk.Disks.{Node, Disk}
 use Rattle.pg_outside.specs.declared.disk.system.FileId.{FileId}
 
 -- these are the bytes of the file

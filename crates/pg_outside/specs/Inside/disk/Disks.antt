@@ -3,7 +3,7 @@ use Rattle.std.specs.Prelude.{◌≡◌, ◌≢◌, ℕ, ◌+◌, ◌<◌, ◌�
 use Rattle.std.specs.Cmp.Lexicographic.{slice_cmp}
 use Rattle.std.specs.Ordering.{nat_cmp}
 use Rattle.std.specs.FinMap as fin
-use Rattle.pg_outside.specs.Inside.NewNames.{IsNewName, IsJoined}
+use Rattle.pg_outside.specs.Inside.disk.NewNames.{IsNewName, IsLinkedName}
 use Rattle.pg_outside.specs.declared.disk.system.Entry.{Entry}
 use Rattle.pg_outside.specs.declared.disk.system.Entry.TheVariants.{Missing, Link, File}
 use Rattle.pg_outside.specs.declared.disk.system.FileId.{FileId}
@@ -36,8 +36,8 @@ pub record Disk : Type 0 where
   pub files : FileId → Option Node
   pub refused : List (List ℕ)
 
--- the disk now, and the disks after the calls before, the latest first
-pub record Told : Type 0 where
+-- the disk now, and the disks before each call that may have changed it, the latest first
+pub record DiskHistory : Type 0 where
   pub now : Disk
   pub past : List Disk
 
@@ -55,32 +55,32 @@ abbrev pub node_at : Disk → List ℕ → Option Node
 node_at disk name = node_of (id_at disk name) disk.files
 
 -- a disk that is told after the call was told before it, and is the same
-abbrev pub Keeps : Option Told → Option Told → Type 0
-Keeps old new = IfSome new (λ after. old ≡ Some after)
+abbrev pub KeepsDisk : Option DiskHistory → Option DiskHistory → Type 0
+KeepsDisk old new = IfSome new (λ after. old ≡ Some after)
 
 -- the two names stand for one
 abbrev pub AreOne : Disk → List ℕ → List ℕ → Type 0
 AreOne disk one other = disk.links.real one ≡ disk.links.real other
 
 -- where a disk is told, P holds of it
-abbrev pub Now : Option Told → (Disk → Type 0) → Type 0
-Now told P = IfSome told (λ t. P t.now)
+abbrev pub HoldsNow : Option DiskHistory → (Disk → Type 0) → Type 0
+HoldsNow told P = IfSome told (λ t. P t.now)
 
 -- a call changes the disk as R says, and the disk before it is kept with the past
-abbrev pub Steps : Option Told → Option Told → (Disk → Disk → Type 0) → Type 0
-Steps old new R = IfSome new (λ after. MatchOption old ⊥ (λ before.
+abbrev pub ChangesDisk : Option DiskHistory → Option DiskHistory → (Disk → Disk → Type 0) → Type 0
+ChangesDisk old new R = IfSome new (λ after. MatchOption old ⊥ (λ before.
     (after.past ≡ before.now ∷ before.past) × R before.now after.now))
 
--- the file of this id is this one, and all else is as before
-pub record FileSet (id : FileId) (node : Node) (old new : Disk) : Type 0 where
+-- a call sets the file of this id to this one, and all else is as before
+pub record SetsFile (id : FileId) (node : Node) (old new : Disk) : Type 0 where
   pub links : new.links ≡ old.links
   pub names : new.names ≡ old.names
   pub refused : new.refused ≡ old.refused
   pub file : new.files id ≡ Some node
   pub others : (other : FileId) → other ≢ id → new.files other ≡ old.files other
 
--- a new file of this id stands under its own name, which no file had, and all else is as before
-pub record Beside (own : List ℕ) (id : FileId) (node : Node) (old new : Disk) : Type 0 where
+-- a call puts a new file of this id under a name that no file had, and all else is as before
+pub record AddsFile (own : List ℕ) (id : FileId) (node : Node) (old new : Disk) : Type 0 where
   pub links : new.links ≡ old.links
   pub unnamed : id_at old own ≡ None
   pub fresh : (name : List ℕ) → id_at old name ≢ Some id
@@ -90,43 +90,43 @@ pub record Beside (own : List ℕ) (id : FileId) (node : Node) (old new : Disk) 
   pub others : (other : FileId) → other ≢ id → new.files other ≡ old.files other
   pub refused : new.refused ≡ old.refused
 
--- a new file was made, which is regular and empty
-pub record Made (own : List ℕ) (id : FileId) (old new : Disk) : Type 0 where
+-- a call makes a new file, which is regular and empty
+pub record MakesFile (own : List ℕ) (id : FileId) (old new : Disk) : Type 0 where
   pub node : Node
   pub is_regular : node.is_regular ≡ true
   pub empty : node.bytes ≡ []
   pub mode : node.mode ≡ old.links.new_mode
   pub direct : old.links.is_link own ≡ false
-  pub beside : Beside own id node old new
+  pub beside : AddsFile own id node old new
 
--- the file got these bytes behind those that it had
-abbrev pub Wrote : FileId → List ℕ → Disk → Disk → Type 0
-Wrote id bytes old new = (node : Node) → old.files id ≡ Some node
-    → (after : Node) × FileSet id after old new × (after.is_regular ≡ node.is_regular)
+-- a call appends these bytes to the file
+abbrev pub AppendsBytes : FileId → List ℕ → Disk → Disk → Type 0
+AppendsBytes id bytes old new = (node : Node) → old.files id ≡ Some node
+    → (after : Node) × SetsFile id after old new × (after.is_regular ≡ node.is_regular)
     × (after.mode ≡ node.mode) × (after.bytes ≡ node.bytes ++ bytes)
 
--- the file got a first part of these bytes behind those that it had
-abbrev pub WrotePart : FileId → List ℕ → Disk → Disk → Type 0
-WrotePart id bytes old new = (count : ℕ) × Wrote id (take count bytes) old new
+-- a call appends a first part of these bytes to the file
+abbrev pub AppendsFront : FileId → List ℕ → Disk → Disk → Type 0
+AppendsFront id bytes old new = (count : ℕ) × AppendsBytes id (take count bytes) old new
 
--- nothing but this file may have changed
-abbrev pub Disturbed : FileId → Disk → Disk → Type 0
-Disturbed id old new = (node : Node) → old.files id ≡ Some node
-    → (after : Node) × FileSet id after old new
+-- a call changes nothing but this file, if anything
+abbrev pub ChangesOnlyFile : FileId → Disk → Disk → Type 0
+ChangesOnlyFile id old new = (node : Node) → old.files id ≡ Some node
+    → (after : Node) × SetsFile id after old new
 
--- the device has the file
-abbrev pub Stored : FileId → Disk → Disk → Type 0
-Stored id old new = (node : Node) → old.files id ≡ Some node
-    → FileSet id (record node { is_stored = true }) old new
+-- after a call the device has the file
+abbrev pub SyncsFile : FileId → Disk → Disk → Type 0
+SyncsFile id old new = (node : Node) → old.files id ≡ Some node
+    → SetsFile id (record node { is_stored = true }) old new
 
--- the file has these permissions, by which it may be writable or not
-abbrev pub GotMode : FileId → ℕ → Disk → Disk → Type 0
-GotMode id mode old new = (node : Node) → old.files id ≡ Some node
-    → (after : Node) × FileSet id after old new × (after.is_regular ≡ node.is_regular)
+-- a call gives the file these permissions, by which it may be writable or not
+abbrev pub SetsMode : FileId → ℕ → Disk → Disk → Type 0
+SetsMode id mode old new = (node : Node) → old.files id ≡ Some node
+    → (after : Node) × SetsFile id after old new × (after.is_regular ≡ node.is_regular)
     × (after.bytes ≡ node.bytes) × (after.mode ≡ mode)
 
--- the file of the one name now has the other name
-pub record Moved (from to : List ℕ) (old new : Disk) : Type 0 where
+-- a call gives the file of the one name the other name
+pub record RenamesFile (from to : List ℕ) (old new : Disk) : Type 0 where
   pub links : new.links ≡ old.links
   pub moved : id_at new to ≡ id_at old from
   pub gone : ¬ AreOne old from to → id_at new from ≡ None
@@ -135,25 +135,25 @@ pub record Moved (from to : List ℕ) (old new : Disk) : Type 0 where
   pub files : (other : FileId) → new.files other ≡ old.files other
   pub refused : new.refused ≡ old.refused
 
--- where no name is a link itself, the file of the one now has the other
-abbrev pub Renamed : List ℕ → List ℕ → Disk → Disk → Type 0
-Renamed from to old new = old.links.is_link from ≡ false
-    → old.links.is_link to ≡ false → Moved from to old new
+-- a call does so, unless one of the names is a link itself
+abbrev pub RenamesUnlessLink : List ℕ → List ℕ → Disk → Disk → Type 0
+RenamesUnlessLink from to old new = old.links.is_link from ≡ false
+    → old.links.is_link to ≡ false → RenamesFile from to old new
 
--- the name is gone
-pub record Gone (own : List ℕ) (old new : Disk) : Type 0 where
+-- a call takes the name away
+pub record RemovesName (own : List ℕ) (old new : Disk) : Type 0 where
   pub links : new.links ≡ old.links
   pub gone : id_at new own ≡ None
   pub names : (name : List ℕ) → ¬ AreOne old name own → id_at new name ≡ id_at old name
   pub files : (other : FileId) → new.files other ≡ old.files other
   pub refused : new.refused ≡ old.refused
 
--- where the name is no link itself, it is gone
-abbrev pub RemovedName : List ℕ → Disk → Disk → Type 0
-RemovedName own old new = old.links.is_link own ≡ false → Gone own old new
+-- a call does so, unless the name is a link itself
+abbrev pub RemovesUnlessLink : List ℕ → Disk → Disk → Type 0
+RemovesUnlessLink own old new = old.links.is_link own ≡ false → RemovesName own old new
 
--- the system refused to remove this name
-pub record Refused (own : List ℕ) (old new : Disk) : Type 0 where
+-- the system refuses to remove this name
+pub record RefusesRemoval (own : List ℕ) (old new : Disk) : Type 0 where
   pub links : new.links ≡ old.links
   pub names : new.names ≡ old.names
   pub files : (other : FileId) → new.files other ≡ old.files other
@@ -179,7 +179,7 @@ IsEntry name (File id) disk = (disk.links.is_link name ≡ false) × LeadsTo nam
 
 -- the text, seen from the link's folder, is the name that the link says
 abbrev pub IsFollowedBy : List ℕ → List ℕ → Disk → Type 0
-IsFollowedBy link text disk = (joined : List ℕ) → IsJoined link text joined
+IsFollowedBy link text disk = (joined : List ℕ) → IsLinkedName link text joined
     → (joined ≡ disk.links.next link) × AreOne disk joined link
 
 -- the name leads to this file, which is there

@@ -1,7 +1,7 @@
 -- What `MemorySink` shows: its bytes and its room, its count of faults, and its calls.
 use Rattle.std.specs.Prelude.{◌≡◌, ℕ, ◌+◌, ◌<◌, ◌≤◌, List, ◌++◌, take, length, Option, Some}
 use Rattle.std.specs.FinMap as fin
-use Rattle.pg_outside.specs.Inside.Calls.{ListedCalls, listed_calls}
+use Rattle.pg_outside.specs.Inside.calls.ListedCalls.{ListedCalls, listed_calls}
 use Rattle.pg_outside.specs.Faults.{next_count}
 use Rattle.pg_outside.specs.declared.memory_sink.MemorySink.{MemorySink}
 

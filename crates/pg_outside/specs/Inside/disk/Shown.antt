@@ -2,7 +2,7 @@
 use Rattle.std.specs.Prelude.{ℕ, List, [], ◌∷◌, map, Bool, true, false, cond, ◌&&◌, Option, Some, None}
 use Rattle.std.specs.FinMap as fin
 use Rattle.pg_outside.specs.Content.{FileMap, FilesShown}
-use Rattle.pg_outside.specs.Inside.Disk.{Node, Disk, Told}
+use Rattle.pg_outside.specs.Inside.disk.Disks.{Node, Disk, DiskHistory}
 use Rattle.pg_outside.specs.FilesCalls.{FilesCall}
 use Rattle.pg_outside.specs.declared.disk.files.DiskFiles.{DiskFiles}
 
@@ -26,7 +26,7 @@ abbrev pub is_shown : Disk → Bool
 is_shown disk = disk.links.is_plain && has_none disk.refused
 
 -- the bytes of each name of a disk that is told, where its files are told too
-abbrev pub held_of : Option Told → Option FileMap
+abbrev pub held_of : Option DiskHistory → Option FileMap
 held_of None = None
 held_of (Some told) = cond (is_shown told.now) (Some (file_map told.now)) None
 
@@ -39,7 +39,7 @@ abbrev pub disk_calls : {S File : Type 0} → DiskFiles S File → List FilesCal
 disk_calls files = files.calls.made
 
 -- what it shows of a system that tells its disk: each fault counts for every name
-abbrev pub disk_shown : {S File : Type 0} → (S → Option Told) → DiskFiles S File → FilesShown
+abbrev pub disk_shown : {S File : Type 0} → (S → Option DiskHistory) → DiskFiles S File → FilesShown
 disk_shown told files = record {
   held = held_of (told files.system);
   read_faults = λ _. all_faults files;

@@ -1,0 +1,4 @@
+-- Which calls on files are made, and which are to fail.
+pub mod CallCodes
+pub mod CallLogs
+pub mod ListedCalls

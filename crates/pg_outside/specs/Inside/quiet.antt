@@ -1,0 +1,3 @@
+-- What the files and the sink that never fail show.
+pub mod QuietFiles
+pub mod QuietSink
