@@ -66,7 +66,7 @@ pub(crate) enum Behind {
 pub(crate) struct Command {
     pub word: &'static str,
     /// The whole form, as it is shown.
-    pub words: &'static str,
+    pub form: &'static str,
     /// The words behind the command that each call has.
     pub slots: &'static [Slot],
     pub behind: Behind,
@@ -116,13 +116,13 @@ const PRICE: Range = Range {
 pub(crate) const COMMANDS: &[Command] = &[
     Command {
         word: "generate",
-        words: "generate DICT PATTERNS OUT TRANSLATE PARAMS REPORT [--pattmp FILE] [--cells FILE]",
+        form: "generate DICT PATTERNS OUT TRANSLATE PARAMS REPORT [--pattmp FILE] [--cells FILE]",
         slots: &[DICT, PATTERNS, OUT, TRANSLATE, PARAMS, REPORT],
         behind: Behind::WrittenFiles,
     },
     Command {
         word: "audit",
-        words: "audit DICT PATTERNS OUT TRANSLATE PARAMS REPORT [--pattmp FILE]",
+        form: "audit DICT PATTERNS OUT TRANSLATE PARAMS REPORT [--pattmp FILE]",
         slots: &[
             DICT,
             PATTERNS,
@@ -135,31 +135,31 @@ pub(crate) const COMMANDS: &[Command] = &[
     },
     Command {
         word: "sample",
-        words: "sample N COUNT",
+        form: "sample N COUNT",
         slots: &[Slot::Number("N", SEED), Slot::Number("COUNT", COUNT)],
         behind: Behind::Nothing,
     },
     Command {
         word: "pack",
-        words: "pack PATTERNS TRANSLATE TABLE",
+        form: "pack PATTERNS TRANSLATE TABLE",
         slots: &[PATTERNS, TRANSLATE, Slot::Output("TABLE")],
         behind: Behind::Nothing,
     },
     Command {
         word: "totals",
-        words: "totals DICT TRANSLATE TABLE",
+        form: "totals DICT TRANSLATE TABLE",
         slots: &[DICT, TRANSLATE, Slot::Input("TABLE")],
         behind: Behind::Nothing,
     },
     Command {
         word: "prune",
-        words: "prune DICT PATTERNS OUT TRANSLATE REPORT",
+        form: "prune DICT PATTERNS OUT TRANSLATE REPORT",
         slots: &[DICT, PATTERNS, OUT, TRANSLATE, REPORT],
         behind: Behind::Nothing,
     },
     Command {
         word: "sweep",
-        words: "sweep DICT PATTERNS OUT TRANSLATE K BAD MISSED PARAMS..",
+        form: "sweep DICT PATTERNS OUT TRANSLATE K BAD MISSED PARAMS..",
         slots: &[
             DICT,
             PATTERNS,
