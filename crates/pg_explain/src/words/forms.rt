@@ -1,22 +1,7 @@
-//! The commands, and what each of their words has to be. Some limits of numbers are those
-//! of pg_words, on which this crate does not stand.
+//! The commands, and what each of their words has to be.
 
 use pg_types::{FOLDS_MAX, PRICE_MAX};
-
-/// The greatest number from which `sample` draws.
-const SEED_MAX: u32 = 2_147_483_647;
-
-/// The most words that `sample` draws.
-const COUNT_MAX: u32 = 100_000;
-
-/// The most digits of both numbers of `sample`.
-const SAMPLE_DIGITS: usize = 10;
-
-/// The most digits of the number of folds.
-const FOLDS_DIGITS: usize = 2;
-
-/// The most digits of the price of an error or of a missed hyphen.
-const PRICE_DIGITS: usize = 4;
+use pg_words::limits::{COUNT_MAX, FOLDS_DIGITS, PRICE_DIGITS, SAMPLE_DIGITS, SEED_MAX};
 
 /// A number of a command.
 #[derive(Clone, Copy)]
