@@ -11,9 +11,9 @@ fn without_feed(line: Option<&[u8]>) -> &[u8] {
     line.strip_suffix(b"\n").unwrap_or(line)
 }
 
-/// What is said of a false line, in its first line of words. `is_same` says whether both lines are
-/// the same but for their ends.
-fn words_of(line: &FalseLine<'_>, is_same: bool) -> &'static str {
+/// What is said of a false line first. `is_same` says whether both lines are the same but for their
+/// ends.
+fn sentence_of(line: &FalseLine<'_>, is_same: bool) -> &'static str {
     if line.wanted.is_none() {
         "$0:$1: no line is due here: the file should end before it"
     } else if line.found.is_none() {
@@ -31,8 +31,8 @@ pub(crate) fn push_false_line(text: &mut Text, line: &FalseLine<'_>) -> Result<(
     let found = without_feed(line.found);
     let wanted = without_feed(line.wanted);
     let is_same = line.found.is_some() && found == wanted;
-    let words = words_of(line, is_same);
-    text.line(words, &[Name(line.name), Count(line.line)])?;
+    let sentence = sentence_of(line, is_same);
+    text.line(sentence, &[Name(line.name), Count(line.line)])?;
     if is_same || line.wanted.is_none() {
         return Ok(());
     }

@@ -8,7 +8,7 @@ use std::alloc::AllocError;
 /// The system's reason without its number.
 fn reason_of(reason: &str) -> &str {
     match reason.split_once(" (os error") {
-        Some((words, _)) => words,
+        Some((front, _)) => front,
         None => reason,
     }
 }
@@ -19,24 +19,24 @@ fn push_before<'a>(text: &mut Text, name: &'a str, before: &Before<'a>) -> Resul
         Deed::Reading => "read",
         Deed::Writing | Deed::Printing => "written",
     };
-    let words = if before.name == name {
+    let sentence = if before.name == name {
         "$0 was $1 before in this call, and is not written again"
     } else {
         "$0 is the file that was $1 before in this call as $2, and is not written again"
     };
-    text.line(words, &[Name(name), Say(done), Name(before.name)])
+    text.line(sentence, &[Name(name), Say(done), Name(before.name)])
 }
 
 /// Appends why a read, a write or a line failed.
 pub(crate) fn push_fault(text: &mut Text, fault: &Fault<'_>) -> Result<(), AllocError> {
     let reason = reason_of(fault.reason);
     let between = if reason.is_empty() { "" } else { ": " };
-    let words = match fault.deed {
+    let sentence = match fault.deed {
         Deed::Reading => "$0 could not be read$1$2",
         Deed::Writing => "$0 could not be written$1$2",
         Deed::Printing => "standard output could not be written$1$2",
     };
-    text.line(words, &[Name(fault.name), Say(between), Name(reason)])?;
+    text.line(sentence, &[Name(fault.name), Say(between), Name(reason)])?;
     match &fault.before {
         Some(before) => push_before(text, fault.name, before),
         None => Ok(()),

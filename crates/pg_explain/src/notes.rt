@@ -7,8 +7,8 @@ use std::alloc::AllocError;
 
 /// Appends that a dictionary has no word.
 pub(crate) fn push_no_word(text: &mut Text, dict: &str) -> Result<(), AllocError> {
-    let words = "$0 has no word: a word is a line with a letter before its first blank";
-    text.line(words, &[Name(dict)])
+    let sentence = "$0 has no word: a word is a line with a letter before its first blank";
+    text.line(sentence, &[Name(dict)])
 }
 
 /// Appends that no word of a dictionary takes part.
@@ -52,10 +52,10 @@ pub(crate) fn push_low_start(
 /// follows.
 fn behind_blank(line: &[u8]) -> Option<usize> {
     let mut is_behind = false;
-    for (place, byte) in line.iter().enumerate() {
+    for (index, byte) in line.iter().enumerate() {
         let is_blank = *byte == b' ' || *byte == b'\t';
         if is_behind && !is_blank {
-            return Some(place);
+            return Some(index);
         }
         is_behind |= is_blank;
     }
@@ -85,13 +85,13 @@ pub(crate) fn push_behind(text: &mut Text, patterns: &str, bytes: &[u8]) -> Resu
     let Some((spot, count)) = lines_behind(bytes) else {
         return Ok(());
     };
-    let words = "a line ends at its first blank, and what follows it here is not read";
-    text.place(patterns, &spot, words, &[])?;
+    let sentence = "a line ends at its first blank, and what follows it here is not read";
+    text.place(patterns, &spot, sentence, &[])?;
     text.excerpt(&spot)?;
-    let words = if count == 1 {
+    let sentence = if count == 1 {
         "no other line of $0 has more"
     } else {
         "$1 lines of $0 have more behind their first blank"
     };
-    text.line(words, &[Name(patterns), Count(count)])
+    text.line(sentence, &[Name(patterns), Count(count)])
 }

@@ -1,40 +1,40 @@
 //! Status 2: the words are no command.
 
-mod fault;
 mod forms;
+mod mistake;
 mod one_name;
 mod rest;
 mod slots;
 
-use crate::words::fault::{Fault, of_words};
 use crate::words::forms::{Behind, COMMANDS, Command, command_of};
-use crate::words::one_name::pair_fault;
-use crate::words::rest::rest_fault;
-use crate::words::slots::slot_fault;
+use crate::words::mistake::{Mistake, about_words};
+use crate::words::one_name::pair_mistake;
+use crate::words::rest::rest_mistake;
+use crate::words::slots::slot_mistake;
 use pg_types::SETS_MAX;
 use pg_visible::Part::{Count, Name, Say};
 use pg_visible::Text;
 use std::alloc::AllocError;
 
-/// What is wrong with the word at a place behind a command.
-fn word_fault<'a>(
+/// What is wrong with the word with this index behind a command.
+fn word_mistake<'a>(
     command: &Command,
     words: &'a [String],
-    place: usize,
+    index: usize,
     word: &'a str,
-) -> Option<Fault<'a>> {
+) -> Option<Mistake<'a>> {
     let has_options = matches!(command.behind, Behind::WrittenFiles | Behind::ReadFiles);
-    match command.slots.get(place) {
-        Some(slot) => slot_fault(slot, word, has_options),
-        None => rest_fault(command, words, place, word),
+    match command.slots.get(index) {
+        Some(slot) => slot_mistake(slot, word, has_options),
+        None => rest_mistake(command, words, index, word),
     }
 }
 
 /// How the word is called that is missing behind so many; none where none is missing.
-fn missing_name(command: &Command, words: usize) -> Option<&'static str> {
-    match command.slots.get(words) {
+fn missing_name(command: &Command, count: usize) -> Option<&'static str> {
+    match command.slots.get(count) {
         Some(slot) => Some(slot.name()),
-        None if words == command.slots.len() && matches!(command.behind, Behind::Sets) => {
+        None if count == command.slots.len() && matches!(command.behind, Behind::Sets) => {
             Some("PARAMS")
         }
         None => None,
@@ -42,27 +42,27 @@ fn missing_name(command: &Command, words: usize) -> Option<&'static str> {
 }
 
 /// The first thing that is wrong with the words that follow a command.
-fn fault_of<'a>(command: &Command, words: &'a [String]) -> Option<Fault<'a>> {
-    for (place, word) in words.iter().enumerate() {
-        let fault = word_fault(command, words, place, word.as_str());
-        if fault.is_some() {
-            return fault;
+fn mistake_of<'a>(command: &Command, words: &'a [String]) -> Option<Mistake<'a>> {
+    for (index, word) in words.iter().enumerate() {
+        let mistake = word_mistake(command, words, index, word.as_str());
+        if mistake.is_some() {
+            return mistake;
         }
     }
     match missing_name(command, words.len()) {
-        Some(name) => Some(of_words("$0: $1 is missing", name, "", "")),
-        None => pair_fault(command, words),
+        Some(name) => Some(about_words("$0: $1 is missing", name, "", "")),
+        None => pair_mistake(command, words),
     }
 }
 
 /// Appends the form of a command.
 fn push_form(text: &mut Text, command: &Command) -> Result<(), AllocError> {
-    text.line("    patgen $0", &[Say(command.words)])
+    text.line("    patgen $0", &[Say(command.form)])
 }
 
 /// Appends that a word is no command, and the forms of all commands.
-fn push_no_command(text: &mut Text, words: &'static str, word: &str) -> Result<(), AllocError> {
-    text.line(words, &[Name(word)])?;
+fn push_no_command(text: &mut Text, sentence: &'static str, word: &str) -> Result<(), AllocError> {
+    text.line(sentence, &[Name(word)])?;
     for command in COMMANDS {
         push_form(text, command)?;
     }
@@ -70,15 +70,19 @@ fn push_no_command(text: &mut Text, words: &'static str, word: &str) -> Result<(
 }
 
 /// Appends what is wrong with the words of a command.
-fn push_fault(text: &mut Text, command: &Command, fault: &Fault<'_>) -> Result<(), AllocError> {
+fn push_mistake(
+    text: &mut Text,
+    command: &Command,
+    mistake: &Mistake<'_>,
+) -> Result<(), AllocError> {
     text.line(
-        fault.words,
+        mistake.sentence,
         &[
             Say(command.word),
-            Name(fault.first),
-            Name(fault.second),
-            Name(fault.third),
-            Count(fault.number),
+            Name(mistake.first),
+            Name(mistake.second),
+            Name(mistake.third),
+            Count(mistake.number),
             Count(SETS_MAX),
         ],
     )
@@ -86,8 +90,8 @@ fn push_fault(text: &mut Text, command: &Command, fault: &Fault<'_>) -> Result<(
 
 /// Appends which of the words that follow a command is wrong, and what is due there.
 fn push_command(text: &mut Text, command: &Command, words: &[String]) -> Result<(), AllocError> {
-    if let Some(fault) = fault_of(command, words) {
-        push_fault(text, command, &fault)?;
+    if let Some(mistake) = mistake_of(command, words) {
+        push_mistake(text, command, &mistake)?;
     }
     push_form(text, command)
 }

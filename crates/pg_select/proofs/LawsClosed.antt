@@ -16,26 +16,26 @@ use Rattle.pg_select.specs.Windows.{Hopeless, window, fits, is_covered}
 use Rattle.pg_select.specs.declared.pass.Pass.{Pass}
 use Rattle.pg_select.specs.CountedPositions.{Minima, CountedPosition, Candidate, counts_as, counted_at, counted_positions_at, counted_positions, same_signs, candidates, good_of, bad_of, tally}
 use Rattle.pg_select.specs.Inside.WordCounts.{counted_positions_in}
-use Rattle.pg_select.specs.Inside.Laws.{Later, raised_all, hopeless_all}
+use Rattle.pg_select.specs.Inside.Laws.{IsLater, raised_all, hopeless_all}
 use Rattle.pg_select.proofs.LawsTally.{same_window, counted_as}
 use Rattle.pg_select.proofs.LawsValues.{covered_raised, covered_hopeless}
 use Rattle.pg_select.proofs.LawsCandidates.{all_candidates, applies_itself}
 use Rattle.pg_select.proofs.LawsLater.{later_at_once, later_still, later_raised, later_hopeless, some_parts, counted_back}
 
-later_all_raised : (level dot : ℕ) (P : List ((List ℕ × ℕ) × ℕ)) (H : Hopeless) (cs : List Candidate) → Later level P H (raised_all level dot P cs) H
+later_all_raised : (level dot : ℕ) (P : List ((List ℕ × ℕ) × ℕ)) (H : Hopeless) (cs : List Candidate) → IsLater level P H (raised_all level dot P cs) H
 later_all_raised level dot P H [] = later_at_once level P H
 later_all_raised level dot P H (c ∷ cs) =
     later_still level P (raise P (c.window, dot) level) (raised_all level dot (raise P (c.window, dot) level) cs) H H H (later_raised level P H (c.window, dot))
     (later_all_raised level dot (raise P (c.window, dot) level) H cs)
 
-later_all_hopeless : (level dot : ℕ) (P : List ((List ℕ × ℕ) × ℕ)) (H : Hopeless) (cs : List Candidate) → Later level P H P (hopeless_all dot H cs)
+later_all_hopeless : (level dot : ℕ) (P : List ((List ℕ × ℕ) × ℕ)) (H : Hopeless) (cs : List Candidate) → IsLater level P H P (hopeless_all dot H cs)
 later_all_hopeless level dot P H [] = later_at_once level P H
 later_all_hopeless level dot P H (c ∷ cs) =
     later_still level P P P H (put dotted_cmp (c.window, dot) (tt {0}) H) (hopeless_all dot (put dotted_cmp (c.window, dot) (tt {0}) H) cs)
     (later_hopeless level P H (c.window, dot)) (later_all_hopeless level dot P (put dotted_cmp (c.window, dot) (tt {0}) H) cs)
 
 -- a pass leads to a later point
-pub later_after_pass : (level dot : ℕ) (P : List ((List ℕ × ℕ) × ℕ)) (H : Hopeless) (raised hopeless : List Candidate) → Later level P H (raised_all level dot P raised) (hopeless_all dot H hopeless)
+pub later_after_pass : (level dot : ℕ) (P : List ((List ℕ × ℕ) × ℕ)) (H : Hopeless) (raised hopeless : List Candidate) → IsLater level P H (raised_all level dot P raised) (hopeless_all dot H hopeless)
 later_after_pass level dot P H raised hopeless =
     later_still level P (raised_all level dot P raised) (raised_all level dot P raised) H H (hopeless_all dot H hopeless) (later_all_raised level dot P H raised)
     (later_all_hopeless level dot (raised_all level dot P raised) H hopeless)
@@ -83,7 +83,7 @@ nil_tested {Y = Y} test f g each (x ∷ xs) all =
     ap (λ (ys : List Y). ys ++ flat_map g xs) (each x parts.0) ∙ nil_tested test f g each xs parts.1
 
 -- where all that a pass counted is covered later, it counts nothing then
-pub closed_when_covered : (m : Minima) (words : List Word) (pass : Pass) (P P' : List ((List ℕ × ℕ) × ℕ)) (H H' : Hopeless) → Later pass.level P H P' H'
+pub closed_when_covered : (m : Minima) (words : List Word) (pass : Pass) (P P' : List ((List ℕ × ℕ) × ℕ)) (H H' : Hopeless) → IsLater pass.level P H P' H'
     → list_all (λ u. is_covered pass.level P' H' u pass.dot) (candidates (counted_positions m words pass P H)) ≡ true → counted_positions m words pass P' H' ≡ []
 closed_when_covered m words pass P P' H H' later all =
     nil_tested (λ (s : CountedPosition). is_covered pass.level P' H' s.window pass.dot) (counted_positions_in m pass P H) (counted_positions_in m pass P' H') (λ w.

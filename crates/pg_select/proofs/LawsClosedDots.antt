@@ -8,7 +8,7 @@ use Rattle.pg_types.specs.declared.marks.Mark.TheVariants.{Nothing, Error, Misse
 use Rattle.pg_dict.specs.Word.{Word}
 use Rattle.pg_patterns.specs.Values.{applies, greatest_value, value_at}
 use Rattle.pg_patterns.proofs.Joins.{only}
-use Rattle.pg_select.specs.Inside.Laws.{Later}
+use Rattle.pg_select.specs.Inside.Laws.{IsLater}
 use Rattle.pg_select.specs.Statuses.{is_odd, status, status_at}
 use Rattle.pg_select.specs.Windows.{Hopeless, window, fits, is_covered, Patterns}
 use Rattle.pg_select.specs.declared.pass.Pass.{Pass}
@@ -131,7 +131,7 @@ done_longer level len P H w p done d within =
     (cases_lt d (len + 1)))
 
 module _ (m : Minima) (words : List Word) (pass : Pass) (P : Patterns) (H : Hopeless) (raised hopeless : Candidate → Bool) (w : Word) (p : ℕ) where
-  later : Later pass.level P H (patterns_after_pass m words pass P H raised) (hopeless_after_pass m words pass P H hopeless)
+  later : IsLater pass.level P H (patterns_after_pass m words pass P H raised) (hopeless_after_pass m words pass P H hopeless)
   later = later_after_pass pass.level pass.dot P H (filter raised (tally (counted_positions m words pass P H))) (filter hopeless (tally (counted_positions m words pass P H)))
 
   pub done_after : IsDone pass.level pass.len P H w p → IsDone pass.level pass.len (patterns_after_pass m words pass P H raised) (hopeless_after_pass m words pass P H hopeless) w p

@@ -81,8 +81,8 @@ pub trait Engine {
         ensures { (u : List ℕ) → HasNumber (meaning self.now).windows u number
             → counted_sums (meaning self.now).counts u ≡ Some result };
 
-    /// Appends the numbers of the counted windows in the order of signs, by one walk. Refused: some
-    /// of them may have been appended.
+    /// Appends the numbers of the counted windows in the order of signs, by one walk. After an
+    /// error some of them may have been appended.
     fn order(&self, out: &mut Vec<u32>) -> Result<(), AllocError>
         ensures { OnOk result ((ns : List ℕ) × (out.new.items ≡ out.old.items ++ ns)
             × AreInOrder (meaning self.now).windows (meaning self.now).counts ns) };

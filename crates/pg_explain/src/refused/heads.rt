@@ -9,7 +9,7 @@ use std::alloc::AllocError;
 /// Appends why the bytes that begin at a place are no minimum.
 pub(crate) fn push_minimum(text: &mut Text, name: &str, spot: &Spot<'_>) -> Result<(), AllocError> {
     let pair = up_to(spot.rest(), 2);
-    let words = match (spot.column < 3, is_blank(pair)) {
+    let sentence = match (spot.column < 3, is_blank(pair)) {
         (true, true) => {
             "columns 1 and 2 are blank, and the left minimum is due there, 1 to $1, since the right one is given"
         }
@@ -24,7 +24,7 @@ pub(crate) fn push_minimum(text: &mut Text, name: &str, spot: &Spot<'_>) -> Resu
         }
     };
     let most = Count(usize::from(MINIMUM_MAX));
-    text.place(name, spot, words, &[Show(pair), most])
+    text.place(name, spot, sentence, &[Show(pair), most])
 }
 
 /// What the mark in a column means, and the byte that a blank there means.
@@ -59,7 +59,7 @@ fn same_mark(head: &[u8], column: usize) -> Option<usize> {
 /// Appends why the byte in a column is no mark.
 pub(crate) fn push_mark(text: &mut Text, name: &str, spot: &Spot<'_>) -> Result<(), AllocError> {
     let same = same_mark(spot.text, spot.column);
-    let words = match same {
+    let sentence = match same {
         None => "$0 is no mark of $1: a mark is no digit, TAB, CR or {",
         Some(_) if is_blank(up_to(spot.rest(), 1)) => {
             "$0 is the mark of $1, as a blank means it, and that of column $2 too: the four marks differ"
@@ -68,5 +68,5 @@ pub(crate) fn push_mark(text: &mut Text, name: &str, spot: &Spot<'_>) -> Result<
     };
     let mark = Byte(mark_byte(spot.text, spot.column));
     let of = Say(mark_in(spot.column).0);
-    text.place(name, spot, words, &[mark, of, Count(same.unwrap_or(0))])
+    text.place(name, spot, sentence, &[mark, of, Count(same.unwrap_or(0))])
 }

@@ -9,12 +9,12 @@ use pg_visible::Part::{Byte, Char, Hex, Name, Show};
 use pg_visible::Text;
 use std::alloc::AllocError;
 
-/// Why a character is no letter: words in which `$0` is the character, `$1` its bytes as numbers,
-/// `$2` the translate file, `$3` the refused file, `$4` the character beside it, and `$5` the mark
-/// of a hyphen.
+/// Why a character is no letter: a sentence in which `$0` is the character, `$1` its bytes as
+/// numbers, `$2` the translate file, `$3` the refused file, `$4` the character beside it, and `$5`
+/// the mark of a hyphen.
 #[derive(Clone, Copy)]
 struct Cause {
-    words: &'static str,
+    sentence: &'static str,
     beside: char,
 }
 
@@ -70,24 +70,27 @@ fn small_letter(letters: &Letters<'_>, c: char) -> Option<char> {
 fn char_cause(letters: &Letters<'_>, c: char) -> Option<Cause> {
     if is_latin_letter(letters, c) {
         return Some(Cause {
-            words: UTF8,
+            sentence: UTF8,
             beside: c,
         });
     }
     if let Some(small) = small_letter(letters, c) {
         return Some(Cause {
-            words: CAPITAL,
+            sentence: CAPITAL,
             beside: small,
         });
     }
-    let words = match c {
+    let sentence = match c {
         '\u{AD}' | '\u{2010}'..='\u{2015}' => HYPHEN,
         '\u{300}'..='\u{36F}' => ACCENT,
         _ if !c.is_alphabetic() => return None,
         _ if letters.is_no_file() => NO_FILE,
         _ => NEW_LETTER,
     };
-    Some(Cause { words, beside: c })
+    Some(Cause {
+        sentence,
+        beside: c,
+    })
 }
 
 /// Why a byte that begins no character is no letter.
@@ -96,12 +99,12 @@ fn byte_cause(letters: &Letters<'_>, byte: u8) -> Option<Cause> {
         return None;
     }
     let beside = char::from(byte);
-    let words = if is_letter_char(letters.table, beside) {
+    let sentence = if is_letter_char(letters.table, beside) {
         LATIN1_LETTER
     } else {
         LATIN1
     };
-    Some(Cause { words, beside })
+    Some(Cause { sentence, beside })
 }
 
 /// Why the refused bytes begin no item.
@@ -115,7 +118,7 @@ fn cause_of(letters: &Letters<'_>, kind: Kind, rest: &[u8]) -> Option<Cause> {
         first_char(rest),
     ) {
         (Item::Mark(_, _), _) => Some(Cause {
-            words: MARK,
+            sentence: MARK,
             beside: char::from(byte),
         }),
         (_, Some(c)) => char_cause(letters, c),
@@ -136,7 +139,7 @@ pub(crate) fn push_letter_cause<'a>(
     let bytes = first_bytes(rest);
     let hyphen = letters.table.mark_byte(Mark::Missed);
     text.line(
-        cause.words,
+        cause.sentence,
         &[
             Show(bytes),
             Hex(bytes),

@@ -11,9 +11,9 @@ use std::alloc::AllocError;
 /// A letter line without the blanks at its end.
 fn without_blanks(line: &[u8]) -> &[u8] {
     let mut end = 0;
-    for (place, byte) in line.iter().enumerate() {
+    for (index, byte) in line.iter().enumerate() {
         if *byte != b' ' {
-            end = place.saturating_add(1);
+            end = index.saturating_add(1);
         }
     }
     up_to(line, end)
@@ -21,9 +21,9 @@ fn without_blanks(line: &[u8]) -> &[u8] {
 
 /// The bytes before the first delimiter.
 fn before_delimiter(bytes: &[u8], delimiter: u8) -> &[u8] {
-    for (place, byte) in bytes.iter().enumerate() {
+    for (index, byte) in bytes.iter().enumerate() {
         if *byte == delimiter {
-            return up_to(bytes, place);
+            return up_to(bytes, index);
         }
     }
     bytes
@@ -40,13 +40,13 @@ fn spelling_at<'a>(spot: &Spot<'a>) -> &'a [u8] {
 }
 
 /// Why these bytes, `$0`, so many as `$1`, are no spelling.
-fn words_of(spelling: &[u8]) -> &'static str {
+fn sentence_of(spelling: &[u8]) -> &'static str {
     if spelling.len() > SPELLING_MAX {
         return "the spelling \"$0\" has $1 bytes, and $2 is the most";
     }
-    for (byte, words) in NEVER_HELD {
+    for (byte, sentence) in NEVER_HELD {
         if spelling.contains(byte) {
-            return words;
+            return sentence;
         }
     }
     match spelling.first() {
@@ -84,7 +84,7 @@ pub(crate) fn push_spelling(
     let spelling = spelling_at(spot);
     let len = spelling.len();
     let parts = [Show(spelling), Count(len), Count(SPELLING_MAX)];
-    text.place(name, spot, words_of(spelling), &parts)
+    text.place(name, spot, sentence_of(spelling), &parts)
 }
 
 /// Whether one of two spellings begins with the other. Two equal spellings of one letter do not
@@ -124,7 +124,7 @@ fn clash_before<'a>(bytes: &'a [u8], last: usize, spelling: &[u8]) -> Option<(us
 }
 
 /// How a spelling, `$0`, clashes with an earlier one, `$1`, of the line `$2`.
-fn clash_words(spelling: &[u8], other: &[u8]) -> &'static str {
+fn clash_sentence(spelling: &[u8], other: &[u8]) -> &'static str {
     if other == spelling {
         "\"$0\" is \"$1\", a spelling of line $2: a spelling belongs to one letter"
     } else if other.starts_with(spelling) {
@@ -142,10 +142,10 @@ pub(crate) fn push_clash<'a>(
 ) -> Result<(), AllocError> {
     let spelling = spelling_at(spot);
     let Some((line, other)) = clash_before(refused.bytes, spot.line, spelling) else {
-        let words = "this spelling clashes with an earlier one";
-        return text.place(refused.name, spot, words, &[]);
+        let sentence = "this spelling clashes with an earlier one";
+        return text.place(refused.name, spot, sentence, &[]);
     };
-    let words = clash_words(spelling, other);
+    let sentence = clash_sentence(spelling, other);
     let parts = [Show(spelling), Show(other), Count(line)];
-    text.place(refused.name, spot, words, &parts)
+    text.place(refused.name, spot, sentence, &parts)
 }

@@ -35,13 +35,13 @@ pub(crate) fn push_count(
     more: usize,
     is_all: bool,
 ) -> Result<(), AllocError> {
-    let words = match more {
+    let sentence = match more {
         0 => "$0no other $1 of $2 would be refused",
         1 => "$0$3 more $1 of $2 would be refused",
         _ => "$0$3 more $1s of $2 would be refused",
     };
     let front = if is_all { "" } else { "at least " };
-    text.line(words, &[Say(front), Say(thing), Name(name), Count(more)])
+    text.line(sentence, &[Say(front), Say(thing), Name(name), Count(more)])
 }
 
 /// Whether a line of patterns or of a dictionary is refused when it is read by itself.

@@ -42,8 +42,8 @@ struct Head {
     records: usize,
 }
 
-/// A rule that a file breaks: words in which `$0` is the file, and the number for `$1`.
-type Broken = (&'static str, usize);
+/// How a file breaks a rule: a sentence in which `$0` is the file, and the number for `$1`.
+type Breach = (&'static str, usize);
 
 impl Head {
     /// The numbers of the head of a file.
@@ -66,7 +66,7 @@ impl Head {
     }
 
     /// What is wrong with a cell, if something is.
-    fn cell_fault(&self, bytes: &[u8], cell: usize) -> Option<&'static str> {
+    fn cell_breach(&self, bytes: &[u8], cell: usize) -> Option<&'static str> {
         let at = start_of(HEAD_LEN, CELL_LEN, cell);
         let sign = number(bytes, at, 2);
         let child = number(bytes, at.saturating_add(2), 4);
@@ -89,7 +89,7 @@ impl Head {
     }
 
     /// What is wrong with a record, if something is. Records are counted from 0 here.
-    fn record_fault(&self, bytes: &[u8], record: usize) -> Option<&'static str> {
+    fn record_breach(&self, bytes: &[u8], record: usize) -> Option<&'static str> {
         let at = start_of(self.cells_len(), RECORD_LEN, record);
         let value = number(bytes, at, 1);
         if value == 0 || value > usize::from(LEVEL_MAX) {
@@ -105,27 +105,27 @@ impl Head {
 }
 
 /// The first cell that breaks a rule.
-fn broken_cell(head: &Head, bytes: &[u8]) -> Option<Broken> {
+fn broken_cell(head: &Head, bytes: &[u8]) -> Option<Breach> {
     for cell in 0..head.cells {
-        if let Some(words) = head.cell_fault(bytes, cell) {
-            return Some((words, cell));
+        if let Some(sentence) = head.cell_breach(bytes, cell) {
+            return Some((sentence, cell));
         }
     }
     None
 }
 
 /// The first record that breaks a rule. Records are counted from 1.
-fn broken_record(head: &Head, bytes: &[u8]) -> Option<Broken> {
+fn broken_record(head: &Head, bytes: &[u8]) -> Option<Breach> {
     for record in 0..head.records {
-        if let Some(words) = head.record_fault(bytes, record) {
-            return Some((words, record.saturating_add(1)));
+        if let Some(sentence) = head.record_breach(bytes, record) {
+            return Some((sentence, record.saturating_add(1)));
         }
     }
     None
 }
 
 /// The first cell that breaks a rule, or else the first record.
-fn first_broken(head: &Head, bytes: &[u8]) -> Broken {
+fn first_broken(head: &Head, bytes: &[u8]) -> Breach {
     match broken_cell(head, bytes) {
         Some(broken) => broken,
         None => broken_record(head, bytes).unwrap_or(("$0 is no packed table", 0)),
@@ -133,22 +133,22 @@ fn first_broken(head: &Head, bytes: &[u8]) -> Broken {
 }
 
 /// The rule that a file with a head breaks first.
-fn broken_rule(head: &Head, bytes: &[u8]) -> Broken {
+fn broken_rule(head: &Head, bytes: &[u8]) -> Breach {
     let signs = head.signs;
     if head.file_len() != bytes.len() {
-        let words = "$0 is no packed table: by its head it has $1 bytes, and it has $4";
-        return (words, head.file_len());
+        let sentence = "$0 is no packed table: by its head it has $1 bytes, and it has $4";
+        return (sentence, head.file_len());
     }
     if signs == 0 || signs > usize::from(SIGNS_MAX) || signs >= head.cells {
-        let words =
+        let sentence =
             "$0 is no packed table: its greatest sign is $1, and has to be 1 to $5 and below the number of cells, $6";
-        return (words, signs);
+        return (sentence, signs);
     }
     first_broken(head, bytes)
 }
 
 /// What is wrong with the first bytes of a file; nothing where it has a head.
-fn head_fault(bytes: &[u8]) -> Option<&'static str> {
+fn head_breach(bytes: &[u8]) -> Option<&'static str> {
     if bytes.is_empty() {
         Some("$0 is no packed table: it is empty")
     } else if !bytes.starts_with(FILE_MARK) {
@@ -164,15 +164,15 @@ fn head_fault(bytes: &[u8]) -> Option<&'static str> {
 /// nothing behind the first fault is judged.
 pub(crate) fn push_bad_table(text: &mut Text, refused: &Refused<'_>) -> Result<(), AllocError> {
     let bytes = refused.bytes;
-    if let Some(words) = head_fault(bytes) {
-        return text.line(words, &[Name(refused.name), Count(HEAD_LEN)]);
+    if let Some(sentence) = head_breach(bytes) {
+        return text.line(sentence, &[Name(refused.name), Count(HEAD_LEN)]);
     }
     let head = Head::read(bytes);
-    let (words, number) = broken_rule(&head, bytes);
+    let (sentence, number) = broken_rule(&head, bytes);
     let level_max = Count(usize::from(LEVEL_MAX));
     let signs_max = Count(usize::from(SIGNS_MAX));
     text.line(
-        words,
+        sentence,
         &[
             Name(refused.name),
             Count(number),
@@ -183,8 +183,8 @@ pub(crate) fn push_bad_table(text: &mut Text, refused: &Refused<'_>) -> Result<(
             Count(head.cells),
         ],
     )?;
-    let words = "what stands behind that is not judged: pack makes a table anew";
-    text.line(words, &[])
+    let sentence = "what stands behind that is not judged: pack makes a table anew";
+    text.line(sentence, &[])
 }
 
 /// Appends that a packed table is of another number of letters.
@@ -207,10 +207,10 @@ pub(crate) fn push_other_table(text: &mut Text, refused: &Refused<'_>) -> Result
 
 /// Appends that a packed table has too many bytes.
 pub(crate) fn push_long_table(text: &mut Text, refused: &Refused<'_>) -> Result<(), AllocError> {
-    let words = if refused.bytes.is_empty() {
+    let sentence = if refused.bytes.is_empty() {
         "$0 would have more than 268,435,456 bytes (2^28), the most of a packed table"
     } else {
         "$0 has more than 268,435,456 bytes (2^28), the most of a packed table"
     };
-    text.line(words, &[Name(refused.name)])
+    text.line(sentence, &[Name(refused.name)])
 }

@@ -37,7 +37,7 @@ fn range_of(item: usize, before: usize) -> (usize, usize) {
 }
 
 /// What is said of an item and of what is due there.
-fn due_words(kind: Kind, item: usize) -> &'static str {
+fn due_sentence(kind: Kind, item: usize) -> &'static str {
     match (kind, item < 3) {
         (Kind::Missing, true) => "item $0 is missing: $2 is due, $4 to $5",
         (Kind::Missing, false) => "item $0 is missing: $2 of level $3 is due, $4 to $5",
@@ -60,11 +60,11 @@ fn push_due(text: &mut Text, refused: &Refused<'_>, spot: &Spot<'_>) -> Result<(
     } else {
         Count(most)
     };
-    let words = due_words(refused.refusal.kind, item);
+    let sentence = due_sentence(refused.refusal.kind, item);
     text.place(
         refused.name,
         spot,
-        words,
+        sentence,
         &[
             Count(item),
             Show(first_item(spot.rest())),
@@ -91,7 +91,7 @@ fn numbers_of(levels: usize) -> usize {
 /// Appends that an item may not follow.
 fn push_extra(text: &mut Text, refused: &Refused<'_>, spot: &Spot<'_>) -> Result<(), AllocError> {
     let levels = levels_of(refused.bytes);
-    let words = if levels == 1 {
+    let sentence = if levels == 1 {
         "item $0 is $1, and the file should end: $2 level takes $3 numbers, and one y or n may follow"
     } else {
         "item $0 is $1, and the file should end: $2 levels take $3 numbers, and one y or n may follow"
@@ -99,7 +99,7 @@ fn push_extra(text: &mut Text, refused: &Refused<'_>, spot: &Spot<'_>) -> Result
     text.place(
         refused.name,
         spot,
-        words,
+        sentence,
         &[
             Count(refused.refusal.line as usize),
             Show(first_item(spot.rest())),
@@ -121,18 +121,18 @@ pub(crate) fn push_item(
     push_due(text, refused, spot)
 }
 
-/// Whether an item may stand at a place, where the item before it is the number `before`. The file
-/// should have `numbers` numbers; none where its levels are not known.
-fn is_due(numbers: Option<usize>, place: usize, item: &[u8], before: usize) -> bool {
-    let (least, most) = range_of(place, before);
+/// Whether an item may have the number `index`, from 1, where the one before it is the number
+/// `before`. The file should have `numbers` numbers; none where its levels are not known.
+fn is_due(numbers: Option<usize>, index: usize, item: &[u8], before: usize) -> bool {
+    let (least, most) = range_of(index, before);
     let number = number_of(item);
     let is_number = least <= number && number <= most;
     match numbers {
-        Some(numbers) if numbers < place => {
-            place == numbers.saturating_add(1) && is_answer(item)
+        Some(numbers) if numbers < index => {
+            index == numbers.saturating_add(1) && is_answer(item)
         }
         Some(_) => is_number,
-        None => is_number || (place % 5 == 3 && is_answer(item)),
+        None => is_number || (index % 5 == 3 && is_answer(item)),
     }
 }
 
@@ -141,11 +141,11 @@ fn refused_behind(bytes: &[u8], item: usize, numbers: Option<usize>) -> usize {
     let mut rest = bytes;
     let mut before = 0;
     let mut more = 0_usize;
-    for place in 1..bytes.len().saturating_add(1) {
+    for index in 1..bytes.len().saturating_add(1) {
         let Some((text, after)) = next_item(rest) else {
             break;
         };
-        if item < place && !is_due(numbers, place, text, before) {
+        if item < index && !is_due(numbers, index, text, before) {
             more = more.saturating_add(1);
         }
         before = number_of(text);
@@ -170,14 +170,14 @@ pub(crate) fn push_more_items(text: &mut Text, refused: &Refused<'_>) -> Result<
     if !is_known || numbers <= has {
         return Ok(());
     }
-    let words = if levels == 1 {
+    let sentence = if levels == 1 {
         "$0 level takes $1 numbers, and $2 has $3"
     } else {
         "$0 levels take $1 numbers, and $2 has $3"
     };
     let levels = Count(levels);
     text.line(
-        words,
+        sentence,
         &[levels, Count(numbers), Name(refused.name), Count(has)],
     )
 }

@@ -29,7 +29,7 @@ pub(crate) fn push_character<'a>(
     spot: &Spot<'a>,
 ) -> Result<(), AllocError> {
     let bytes = first_bytes(spot.rest());
-    let words = match first_char(bytes) {
+    let sentence = match first_char(bytes) {
         Some(c) if is_seen_alone(c) => "$0 ($1) begins no letter of $2, and is no $3",
         _ => "$0 begins no letter of $2, and is no $3",
     };
@@ -39,7 +39,7 @@ pub(crate) fn push_character<'a>(
     };
     let letters = Name(letters_of(refused));
     let parts = [Hex(bytes), Show(bytes), letters, Say(due)];
-    text.place(refused.name, spot, words, &parts)
+    text.place(refused.name, spot, sentence, &parts)
 }
 
 /// Appends that a pattern or a word is too long.
@@ -48,21 +48,27 @@ pub(crate) fn push_long(
     refused: &Refused<'_>,
     spot: &Spot<'_>,
 ) -> Result<(), AllocError> {
-    let (most, words) = if refused.refusal.kind == Kind::WordTooLong {
-        let words = "the $0st letter of the line begins here, and a word has at most $1";
-        (WORD_LETTERS_MAX, words)
+    let (most, sentence) = if refused.refusal.kind == Kind::WordTooLong {
+        let sentence = "the $0st letter of the line begins here, and a word has at most $1";
+        (WORD_LETTERS_MAX, sentence)
     } else {
-        let words = "the $0rd letter or dot of the line begins here, and a pattern has at most $1";
-        (PATTERN_SIGNS_MAX, words)
+        let sentence =
+            "the $0rd letter or dot of the line begins here, and a pattern has at most $1";
+        (PATTERN_SIGNS_MAX, sentence)
     };
-    text.place(refused.name, spot, words, &[Count(most + 1), Count(most)])
+    text.place(
+        refused.name,
+        spot,
+        sentence,
+        &[Count(most + 1), Count(most)],
+    )
 }
 
 /// How many bytes the weight has that these bytes begin with; 1 where it does not end.
 fn weight_len(rest: &[u8]) -> usize {
-    for (place, byte) in rest.iter().enumerate() {
+    for (index, byte) in rest.iter().enumerate() {
         if *byte == b'}' {
-            return place.saturating_add(1);
+            return index.saturating_add(1);
         }
     }
     1

@@ -1,22 +1,7 @@
-//! The commands, and what each of their words has to be. Some limits of numbers are those
-//! of pg_words, on which this crate does not stand.
+//! The commands, and what each of their words has to be.
 
 use pg_types::{FOLDS_MAX, PRICE_MAX};
-
-/// The greatest number from which `sample` draws.
-const SEED_MAX: u32 = 2_147_483_647;
-
-/// The most words that `sample` draws.
-const COUNT_MAX: u32 = 100_000;
-
-/// The most digits of both numbers of `sample`.
-const SAMPLE_DIGITS: usize = 10;
-
-/// The most digits of the number of folds.
-const FOLDS_DIGITS: usize = 2;
-
-/// The most digits of the price of an error or of a missed hyphen.
-const PRICE_DIGITS: usize = 4;
+use pg_words::limits::{COUNT_MAX, FOLDS_DIGITS, PRICE_DIGITS, SAMPLE_DIGITS, SEED_MAX};
 
 /// A number of a command.
 #[derive(Clone, Copy)]
@@ -66,7 +51,7 @@ pub(crate) enum Behind {
 pub(crate) struct Command {
     pub word: &'static str,
     /// The whole form, as it is shown.
-    pub words: &'static str,
+    pub form: &'static str,
     /// The words behind the command that each call has.
     pub slots: &'static [Slot],
     pub behind: Behind,
@@ -116,13 +101,13 @@ const PRICE: Range = Range {
 pub(crate) const COMMANDS: &[Command] = &[
     Command {
         word: "generate",
-        words: "generate DICT PATTERNS OUT TRANSLATE PARAMS REPORT [--pattmp FILE] [--cells FILE]",
+        form: "generate DICT PATTERNS OUT TRANSLATE PARAMS REPORT [--pattmp FILE] [--cells FILE]",
         slots: &[DICT, PATTERNS, OUT, TRANSLATE, PARAMS, REPORT],
         behind: Behind::WrittenFiles,
     },
     Command {
         word: "audit",
-        words: "audit DICT PATTERNS OUT TRANSLATE PARAMS REPORT [--pattmp FILE]",
+        form: "audit DICT PATTERNS OUT TRANSLATE PARAMS REPORT [--pattmp FILE]",
         slots: &[
             DICT,
             PATTERNS,
@@ -135,31 +120,31 @@ pub(crate) const COMMANDS: &[Command] = &[
     },
     Command {
         word: "sample",
-        words: "sample N COUNT",
+        form: "sample N COUNT",
         slots: &[Slot::Number("N", SEED), Slot::Number("COUNT", COUNT)],
         behind: Behind::Nothing,
     },
     Command {
         word: "pack",
-        words: "pack PATTERNS TRANSLATE TABLE",
+        form: "pack PATTERNS TRANSLATE TABLE",
         slots: &[PATTERNS, TRANSLATE, Slot::Output("TABLE")],
         behind: Behind::Nothing,
     },
     Command {
         word: "totals",
-        words: "totals DICT TRANSLATE TABLE",
+        form: "totals DICT TRANSLATE TABLE",
         slots: &[DICT, TRANSLATE, Slot::Input("TABLE")],
         behind: Behind::Nothing,
     },
     Command {
         word: "prune",
-        words: "prune DICT PATTERNS OUT TRANSLATE REPORT",
+        form: "prune DICT PATTERNS OUT TRANSLATE REPORT",
         slots: &[DICT, PATTERNS, OUT, TRANSLATE, REPORT],
         behind: Behind::Nothing,
     },
     Command {
         word: "sweep",
-        words: "sweep DICT PATTERNS OUT TRANSLATE K BAD MISSED PARAMS..",
+        form: "sweep DICT PATTERNS OUT TRANSLATE K BAD MISSED PARAMS..",
         slots: &[
             DICT,
             PATTERNS,

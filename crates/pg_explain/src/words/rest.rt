@@ -1,8 +1,8 @@
 //! The words that follow those which each call of a command has: options, or parameter files.
 
-use crate::words::fault::{Fault, of_words};
 use crate::words::forms::{Behind, Command, is_option};
-use crate::words::slots::name_fault;
+use crate::words::mistake::{Mistake, about_words};
+use crate::words::slots::name_mistake;
 use pg_types::SETS_MAX;
 
 /// Whether a word is one of these.
@@ -15,11 +15,11 @@ fn is_among(words: &[String], word: &str) -> bool {
     false
 }
 
-/// What is said of the option at a place, where it is wrong or its name is missing.
-fn option_words(
+/// What is said of the option with this index, where it is wrong or its name is missing.
+fn option_sentence(
     command: &Command,
     words: &[String],
-    place: usize,
+    index: usize,
     option: &str,
 ) -> Option<&'static str> {
     let is_read = matches!(command.behind, Behind::ReadFiles);
@@ -27,9 +27,9 @@ fn option_words(
         Some("$0: $1 is one word too many")
     } else if is_read && option == "--cells" {
         Some("$0: $1 is no option of this command")
-    } else if is_among(words.get(..place).unwrap_or(&[]), option) {
+    } else if is_among(words.get(..index).unwrap_or(&[]), option) {
         Some("$0: $1 stands twice")
-    } else if words.len() <= place.saturating_add(1) {
+    } else if words.len() <= index.saturating_add(1) {
         Some("$0: FILE is missing behind $1")
     } else {
         None
@@ -37,30 +37,30 @@ fn option_words(
 }
 
 /// What is wrong with the name of a parameter file, of so many.
-fn set_fault(word: &str, sets: usize) -> Option<Fault<'_>> {
+fn set_mistake(word: &str, sets: usize) -> Option<Mistake<'_>> {
     if sets <= SETS_MAX {
-        return name_fault("PARAMS", word, false);
+        return name_mistake("PARAMS", word, false);
     }
-    let words = "$0: $4 parameter files are given, and $5 is the most";
-    Some(Fault {
+    let sentence = "$0: $4 parameter files are given, and $5 is the most";
+    Some(Mistake {
         number: sets,
-        ..of_words(words, "", "", "")
+        ..about_words(sentence, "", "", "")
     })
 }
 
-/// What is wrong with the word at a place behind those which each call has.
-pub(crate) fn rest_fault<'a>(
+/// What is wrong with the word with this index, which stands behind those that each call has.
+pub(crate) fn rest_mistake<'a>(
     command: &Command,
     words: &'a [String],
-    place: usize,
+    index: usize,
     word: &'a str,
-) -> Option<Fault<'a>> {
+) -> Option<Mistake<'a>> {
     let slots = command.slots.len();
-    let said = match command.behind {
+    let sentence = match command.behind {
         Behind::Nothing => "$0: $1 is one word too many",
-        Behind::Sets => return set_fault(word, words.len().saturating_sub(slots)),
-        _ if place.saturating_sub(slots) % 2 == 1 => return name_fault("FILE", word, false),
-        _ => option_words(command, words, place, word)?,
+        Behind::Sets => return set_mistake(word, words.len().saturating_sub(slots)),
+        _ if index.saturating_sub(slots) % 2 == 1 => return name_mistake("FILE", word, false),
+        _ => option_sentence(command, words, index, word)?,
     };
-    Some(of_words(said, word, "", ""))
+    Some(about_words(sentence, word, "", ""))
 }

@@ -1,16 +1,16 @@
 //! The words that each call of a command has.
 
-use crate::words::fault::{Fault, of_words};
 use crate::words::forms::{Range, Slot, is_option};
+use crate::words::mistake::{Mistake, about_words};
 
 /// What is wrong with a word as a name. Where the command has options, one that stands there is too
 /// early.
-pub(crate) fn name_fault<'a>(
+pub(crate) fn name_mistake<'a>(
     name: &'static str,
     word: &'a str,
     has_options: bool,
-) -> Option<Fault<'a>> {
-    let words = if word.is_empty() {
+) -> Option<Mistake<'a>> {
+    let sentence = if word.is_empty() {
         "$0: $2 is empty, and has to be a name"
     } else if !word.starts_with("--") {
         return None;
@@ -19,7 +19,7 @@ pub(crate) fn name_fault<'a>(
     } else {
         "$0: $1 stands where $2 is due, and no name begins with two dashes"
     };
-    Some(of_words(words, word, name, ""))
+    Some(about_words(sentence, word, name, ""))
 }
 
 /// Whether a word is a number in a range.
@@ -34,25 +34,29 @@ fn is_within(word: &str, range: &Range) -> bool {
 }
 
 /// What is wrong with a word as a number in a range.
-fn number_fault<'a>(name: &'static str, word: &'a str, range: &Range) -> Option<Fault<'a>> {
+fn number_mistake<'a>(name: &'static str, word: &'a str, range: &Range) -> Option<Mistake<'a>> {
     if is_within(word, range) {
         return None;
     }
-    let words = if word.len() > range.digits {
+    let sentence = if word.len() > range.digits {
         "$0: $1 is $2, and has to be $3, in at most $4 digits"
     } else {
         "$0: $1 is $2, and has to be $3"
     };
-    Some(Fault {
+    Some(Mistake {
         number: range.digits,
-        ..of_words(words, name, word, range.due)
+        ..about_words(sentence, name, word, range.due)
     })
 }
 
 /// What is wrong with the word for a slot.
-pub(crate) fn slot_fault<'a>(slot: &Slot, word: &'a str, has_options: bool) -> Option<Fault<'a>> {
+pub(crate) fn slot_mistake<'a>(
+    slot: &Slot,
+    word: &'a str,
+    has_options: bool,
+) -> Option<Mistake<'a>> {
     match slot {
-        Slot::Input(name) | Slot::Output(name) => name_fault(name, word, has_options),
-        Slot::Number(name, range) => number_fault(name, word, range),
+        Slot::Input(name) | Slot::Output(name) => name_mistake(name, word, has_options),
+        Slot::Number(name, range) => number_mistake(name, word, range),
     }
 }

@@ -134,7 +134,7 @@ GivenUpCovers = (m : Meaning) (u x : List ℕ) (tidy : Bool) (d : ℕ)
     ≡ true
 
 -- a later point of a level: a value is the level or as it was, and what was covered is covered
-pub record Later (level : ℕ) (P : Patterns) (H : Hopeless)
+pub record IsLater (level : ℕ) (P : Patterns) (H : Hopeless)
     (P' : Patterns) (H' : Hopeless) : Type 0 where
   pub values : (w : List ℕ) (p : ℕ) → (value_at P' w p ≡ value_at P w p) ⊎ (value_at P' w p ≡ level)
   pub covers : (u : List ℕ) (d : ℕ) → is_covered level P H u d ≡ true
@@ -142,33 +142,33 @@ pub record Later (level : ℕ) (P : Patterns) (H : Hopeless)
 
 -- every point of a level is as late as itself
 abbrev pub LaterAtOnce : Type 0
-LaterAtOnce = (level : ℕ) (P : Patterns) (H : Hopeless) → Later level P H P H
+LaterAtOnce = (level : ℕ) (P : Patterns) (H : Hopeless) → IsLater level P H P H
 
 -- what is later than a later point is later
 abbrev pub LaterStill : Type 0
-LaterStill = (level : ℕ) (P P' P'' : Patterns) (H H' H'' : Hopeless) → Later level P H P' H'
-    → Later level P' H' P'' H'' → Later level P H P'' H''
+LaterStill = (level : ℕ) (P P' P'' : Patterns) (H H' H'' : Hopeless) → IsLater level P H P' H'
+    → IsLater level P' H' P'' H'' → IsLater level P H P'' H''
 
 -- a raise to the level leads to a later point
 abbrev pub LaterRaised : Type 0
 LaterRaised = (level : ℕ) (P : Patterns) (H : Hopeless) (k : List ℕ × ℕ)
-    → Later level P H (raise P k level) H
+    → IsLater level P H (raise P k level) H
 
 -- a dotted string that is made hopeless leads to a later point
 abbrev pub LaterHopeless : Type 0
 LaterHopeless = (level : ℕ) (P : Patterns) (H : Hopeless) (k : List ℕ × ℕ)
-    → Later level P H P (put dotted_cmp k (tt {0}) H)
+    → IsLater level P H P (put dotted_cmp k (tt {0}) H)
 
 -- a position whose status counts later in a level counted before, and as the same
 abbrev pub StatusBack : Type 0
 StatusBack = (level : ℕ) (P P' : Patterns) (H H' : Hopeless) (w : Word) (p : ℕ) (good : Bool)
-    → Later level P H P' H' → counts_as level (status_at P' w p) ≡ Some good
+    → IsLater level P H P' H' → counts_as level (status_at P' w p) ≡ Some good
     → counts_as level (status_at P w p) ≡ Some good
 
 -- a position that counts with its window later in a level counted before, and as the same
 abbrev pub CountedBack : Type 0
 CountedBack = (pass : Pass) (P P' : Patterns) (H H' : Hopeless) (w : Word) (p : ℕ) (good : Bool)
-    → Later pass.level P H P' H' → counted_at pass P' H' w p ≡ Some good
+    → IsLater pass.level P H P' H' → counted_at pass P' H' w p ≡ Some good
     → counted_at pass P H w p ≡ Some good
 
 -- a pass counts nothing
@@ -179,7 +179,8 @@ CountsNothing m words pass P H = counted_positions m words pass P H ≡ []
 abbrev pub CountsNothingLater : Type 0
 CountsNothingLater =
     (m : Minima) (words : List Word) (pass : Pass) (P P' : Patterns) (H H' : Hopeless)
-    → Later pass.level P H P' H' → CountsNothing m words pass P H → CountsNothing m words pass P' H'
+    → IsLater pass.level P H P' H' → CountsNothing m words pass P H
+    → CountsNothing m words pass P' H'
 
 -- the pass whose windows have one sign more behind them
 abbrev pub longer_behind : Pass → Pass
@@ -213,13 +214,13 @@ hopeless_all dot H cs = fold (λ H c. put dotted_cmp (c.window, dot) (tt {0}) H)
 -- a pass leads to a later point of its level, whatever it chooses and gives up
 abbrev pub LaterAfterPass : Type 0
 LaterAfterPass = (level dot : ℕ) (P : Patterns) (H : Hopeless) (raised hopeless : List Candidate)
-    → Later level P H (raised_all level dot P raised) (hopeless_all dot H hopeless)
+    → IsLater level P H (raised_all level dot P raised) (hopeless_all dot H hopeless)
 
 -- a pass whose candidates are all covered later counts nothing then
 abbrev pub CountsNothingWhenCovered : Type 0
 CountsNothingWhenCovered = (m : Minima) (words : List Word)
     (pass : Pass) (P P' : Patterns) (H H' : Hopeless)
-    → Later pass.level P H P' H'
+    → IsLater pass.level P H P' H'
     → list_all (λ u. is_covered pass.level P' H' u pass.dot)
     (candidates (counted_positions m words pass P H)) ≡ true
     → CountsNothing m words pass P' H'

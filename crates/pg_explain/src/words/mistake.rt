@@ -1,0 +1,28 @@
+//! What is wrong with a word of a command.
+
+/// What is said of a wrong word, or of a missing one: a sentence in which `$0` is the command, `$1`
+/// to `$3` are these, and `$4` is the number.
+#[derive(Clone, Copy)]
+pub(crate) struct Mistake<'a> {
+    pub sentence: &'static str,
+    pub first: &'a str,
+    pub second: &'a str,
+    pub third: &'a str,
+    pub number: usize,
+}
+
+/// A sentence about up to three words.
+pub(crate) fn about_words<'a>(
+    sentence: &'static str,
+    first: &'a str,
+    second: &'a str,
+    third: &'a str,
+) -> Mistake<'a> {
+    Mistake {
+        sentence,
+        first,
+        second,
+        third,
+        number: 0,
+    }
+}
