@@ -1,3 +1,4 @@
 pub mod CellLaws
 pub mod LeafLaws
+pub mod TableLaws
 pub mod WalkLaws

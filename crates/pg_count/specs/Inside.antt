@@ -4,5 +4,6 @@ pub mod Counting
 pub mod Least
 pub mod Leaves
 pub mod Listed
+pub mod Tables
 pub mod CellNumbers
 pub mod Under

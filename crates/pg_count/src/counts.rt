@@ -5,13 +5,10 @@ ghost use Rattle.pg_types.specs.Inside.Counts.{AreSmall, SignsWithin, counted_su
 ghost use Rattle.pg_types.specs.Inside.NumberedWindows.{AreInOrder, AreNumbered, HasNumber, no_counts, with_counted};
 ghost use Rattle.pg_count.specs.Inside.Counting.{IsCounting};
 
-use crate::leaf::count_new;
-use crate::store::counted_cells::CountedCells;
-use crate::store::window_list::WindowList;
-use crate::walks::least::least;
-use crate::walks::walk::walk;
-use crate::walks::way::{find_counted, way_of};
-use pg_types::{Cursor, EDGE, Sign, Weight, add_weight};
+use crate::cell_counts::CellCounts;
+use crate::table::short::is_short;
+use crate::table::table_counts::TableCounts;
+use pg_types::{Cursor, Sign, Weight};
 use std::alloc::{AllocError, Global};
 use std::marker::Model;
 
@@ -19,27 +16,24 @@ mod by_number;
 
 /// The windows that are counted in a pass, each with its sums of good and bad weights.
 ///
-/// A window's signs lead from cell to cell, as far as another window begins alike. The last cell
-/// has the window's number, by which its signs and its two sums are found in lists. So the cells
-/// keep only what branches, and whether the rest of a window is the same is told by its signs. The
-/// memory of the cells and of the lists stays for later passes.
+/// Short windows are counted in a table with an entry for each, long ones in packed cells. Which of
+/// both counts a pass is told when it begins. The memory of both stays for later passes.
 #[derive(Drop)]
 pub struct CountTrie {
-    cells: CountedCells,
-    windows: WindowList,
+    cells: CellCounts,
+    table: TableCounts,
+    is_tabled: bool,
 }
 
 impl Model for CountTrie {
+    ghost use Rattle.std.specs.Prelude.{◌≡◌, if◌then◌else◌};
     ghost use Rattle.pg_count.specs.Inside.Counting.{Counting};
 
     ghost Value = { Counting };
 
-    ghost use Rattle.pg_count.specs.Inside.Counting.{counting_of};
-    ghost use Rattle.pg_count.specs.Inside.Leaves.{AreCounting};
+    ghost view = { λ t. if t.is_tabled then t.table else t.cells };
 
-    ghost view = { λ t. counting_of t.cells t.windows.items t.windows.len };
-
-    ghost invariant = { λ t. AreCounting t.cells t.windows.items t.windows.len };
+    ghost invariant = { λ t. t.table.signs ≡ t.cells.signs };
 }
 
 impl CountTrie {
@@ -49,23 +43,25 @@ impl CountTrie {
         ensures { IfOk result
             (λ counts. counts ≡ record { signs = signs; len = 1; counted = no_counts }) }
     {
-        let cells = CountedCells::new(alloc, signs)?;
+        let cells = CellCounts::new(alloc, signs)?;
         Ok(CountTrie {
             cells,
-            windows: WindowList::new(alloc),
+            table: TableCounts::new(alloc, signs),
+            is_tabled: true,
         })
     }
 
     /// Begins a pass with windows of so many signs: no window is counted. It takes no memory.
-    ///
-    /// Passes of one length count many of the same windows, so their cells may stay from pass to
-    /// pass.
     pub fn begin(&mut self, len: u8)
         requires { (1 ≤ len) × (len ≤ LENGTH_MAX) }
         ensures { self.new ≡ record self.old { len = len; counted = no_counts } }
     {
-        self.cells.clear(len == self.windows.window_len());
-        self.windows.begin(len);
+        self.is_tabled = is_short(self.table.signs(), len);
+        if self.is_tabled {
+            self.table.begin(len);
+        } else {
+            self.cells.begin(len);
+        }
     }
 
     /// How many signs a window has.
@@ -74,7 +70,11 @@ impl CountTrie {
         ensures kept { IsCounting self.now }
         ensures numbered { AreNumbered self.now.counted.windows self.now.counted.counts }
     {
-        self.windows.window_len()
+        if self.is_tabled {
+            self.table.window_len()
+        } else {
+            self.cells.window_len()
+        }
     }
 
     /// Adds `weight` to the good or the bad sum of a window. A window that is counted already takes
@@ -83,7 +83,8 @@ impl CountTrie {
         requires len { length window.now ≡ self.old.len }
         requires signs { SignsWithin self.old.signs window.now }
         requires weight { weight ≤ WEIGHT_MAX }
-        requires small { AreSmall (with_weight (sums_of self.old.counted.counts window.now) good weight) }
+        requires small { AreSmall
+            (with_weight (sums_of self.old.counted.counts window.now) good weight) }
         ensures ok { OnOk result (self.new
             ≡ record self.old { counted = with_counted self.old.counted window.now good weight }) }
         ensures there { is_counted self.old.counted.counts window.now ≡ true → IsOk result }
@@ -105,25 +106,19 @@ impl CountTrie {
         requires len { length window.now ≡ self.old.len }
         requires signs { SignsWithin self.old.signs window.now }
         requires weight { weight ≤ WEIGHT_MAX }
-        requires small { AreSmall (with_weight (sums_of self.old.counted.counts window.now) good weight) }
+        requires small { AreSmall
+            (with_weight (sums_of self.old.counted.counts window.now) good weight) }
         ensures ok { OnOk result (self.new
             ≡ record self.old { counted = with_counted self.old.counted window.now good weight }) }
-        ensures number { IfOk result (λ number. HasNumber self.new.counted.windows window.now number) }
+        ensures number { IfOk result
+            (λ number. HasNumber self.new.counted.windows window.now number) }
         ensures there { is_counted self.old.counted.counts window.now ≡ true → IsOk result }
         ensures err { OnErr result (self.new ≡ self.old) }
     {
-        let way = way_of(&self.cells, window);
-        match find_counted(&self.cells, &self.windows, way, window) {
-            Some((number, sums)) => {
-                self.cells
-                    .set_sums(number, add_weight(sums, good, u64::from(weight)));
-                Ok(number)
-            }
-            None => {
-                let sums = add_weight((0, 0), good, u64::from(weight));
-                let number = count_new(&mut self.cells, &mut self.windows, way, window, sums)?;
-                Ok(number)
-            }
+        if self.is_tabled {
+            self.table.add_numbered(window, good, weight)
+        } else {
+            self.cells.add_numbered(window, good, weight)
         }
     }
 
@@ -134,9 +129,11 @@ impl CountTrie {
         requires signs { SignsWithin self.now.signs window.now }
         ensures { result ≡ counted_sums self.now.counted.counts window.now }
     {
-        let way = way_of(&self.cells, window);
-        let (_, sums) = find_counted(&self.cells, &self.windows, way, window)?;
-        Some(sums)
+        if self.is_tabled {
+            self.table.sums(window)
+        } else {
+            self.cells.sums(window)
+        }
     }
 
     /// The good and the bad sum of the window with the number. It takes no memory.
@@ -145,19 +142,24 @@ impl CountTrie {
         ensures { (u : List ℕ) → HasNumber self.now.counted.windows u number
             → counted_sums self.now.counted.counts u ≡ Some result }
     {
-        self.cells.sums(number)
+        if self.is_tabled {
+            self.table.sums_of(number)
+        } else {
+            self.cells.sums_of(number)
+        }
     }
 
-    /// Appends the numbers of the counted windows in the order of signs, by one walk along the
-    /// signs of the families. Refused: some of them may have been appended.
+    /// Appends the numbers of the counted windows in the order of signs, by one walk. Refused: some
+    /// of them may have been appended.
     pub fn order(&self, out: &mut Vec<u32>) -> Result<(), AllocError>
         ensures { OnOk result ((ns : List ℕ) × (out.new.items ≡ out.old.items ++ ns)
             × AreInOrder self.now.counted.windows self.now.counted.counts ns) }
     {
-        if !self.cells.has_none() {
-            walk(&self.cells, 0, EDGE, self.windows.window_len(), out)?;
+        if self.is_tabled {
+            self.table.order(out)
+        } else {
+            self.cells.order(out)
         }
-        Ok(())
     }
 
     /// Moves the cursor to the least counted window that is greater, and gives its good and bad
@@ -167,12 +169,10 @@ impl CountTrie {
             × (at.new ≡ at.old)) (λ sums. windows_above at.old self.now.counted.counts
             ≡ (at.new, sums) ∷ windows_above at.new self.now.counted.counts) }
     {
-        if self.cells.has_none() {
-            return None;
+        if self.is_tabled {
+            self.table.next(at)
+        } else {
+            self.cells.next(at)
         }
-        let len = self.windows.window_len();
-        let number = least(&self.cells, &self.windows, at, 0, EDGE, at.signs(), len)?;
-        at.set(self.windows.get(number));
-        Some(self.cells.sums(number))
     }
 }

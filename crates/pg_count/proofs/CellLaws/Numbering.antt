@@ -231,7 +231,7 @@ module _ (h mid g : ValuedFamilies ℕ) (first : ℕ) (tallies : Sums) (are : Ar
   }
 
 -- another element stays
-set_other : {A : Type 0} (xs : List A) (i j : ℕ) (y : A) → j ≢ i → slice_get (set xs i y) j ≡ slice_get xs j
+pub set_other : {A : Type 0} (xs : List A) (i j : ℕ) (y : A) → j ≢ i → slice_get (set xs i y) j ≡ slice_get xs j
 set_other [] i j y n = refl
 set_other (x ∷ xs) zero zero y n = absurd (n refl)
 set_other (x ∷ xs) zero (suc j) y n = refl

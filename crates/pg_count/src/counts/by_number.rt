@@ -11,6 +11,10 @@ impl CountTrie {
         requires { number < length self.now.counted.windows }
         ensures { HasNumber self.now.counted.windows result.now number }
     {
-        self.windows.get(number)
+        if self.is_tabled {
+            self.table.window(number)
+        } else {
+            self.cells.window(number)
+        }
     }
 }

@@ -17,7 +17,7 @@ ghost use Rattle.pg_count.specs.Inside.Leaves.{Adds, AreShort, PushesDown};
 ghost use Rattle.pg_count.specs.declared.store.tally_list.TheConstants.{NUMBERS_END};
 
 use crate::store::tally_list::{
-    NO_TALLY, NUMBERS_END, push_sums, set_sums_at, sums_at, tally_by_number,
+    LATEST_FIRST, NO_TALLY, NUMBERS_END, push_sums, set_sums_at, sums_at, tally_by_number,
 };
 use pg_cells::NearCells;
 use pg_types::Sign;
@@ -27,10 +27,6 @@ use std::marker::Model;
 /// The cells of a pass stay for the next one where they are at most so many times its counted
 /// strings.
 const CELLS_PER_TALLY: usize = 4;
-
-/// The cells stay only where the numbers of the next pass begin here or before, so that half of all
-/// numbers are left for it.
-const LATEST_FIRST: u32 = NUMBERS_END / 2;
 
 /// Cells of strings, each with its sums where it is counted. The cell of a string has the number of
 /// its tally, and the tallies stand in a list of their own, since most cells are of strings that

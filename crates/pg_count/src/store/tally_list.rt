@@ -10,6 +10,10 @@ pub const NO_TALLY: u32 = 0;
 /// The number of each tally is below this one.
 pub const NUMBERS_END: u32 = u32::MAX;
 
+/// What an earlier pass numbered stays only where the numbers of the next pass begin here or
+/// before, so that half of all numbers are left for it.
+pub const LATEST_FIRST: u32 = NUMBERS_END / 2;
+
 /// The tally with the number of a cell, where they are numbered from `first` on, or `None` where no
 /// tally has it. Before its sums stands its own number, from 0 on.
 pub fn tally_by_number(

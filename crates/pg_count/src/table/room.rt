@@ -1,0 +1,20 @@
+//! Room for the entries of a table.
+ghost use Rattle.std.specs.Prelude.{◌≡◌, ◌<◌, ◌⊎◌, ℕ, length, slice_get, Some, OnOk};
+
+use std::alloc::AllocError;
+
+/// Makes room for an entry in a table of so many: those that it lacks are 0. Refused: nothing
+/// changes.
+pub fn make_room(numbers: &mut Vec<u32>, index: usize, entries: usize) -> Result<(), AllocError>
+    requires { index < entries }
+    ensures kept { (i k : ℕ) → slice_get numbers.old.items i ≡ Some k
+        → slice_get numbers.new.items i ≡ Some k }
+    ensures back { (i k : ℕ) → slice_get numbers.new.items i ≡ Some k
+        → (k ≡ 0) ⊎ (slice_get numbers.old.items i ≡ Some k) }
+    ensures room { OnOk result (index < length numbers.new.items) }
+{
+    if numbers.len() <= index {
+        numbers.resize(entries, 0)?;
+    }
+    Ok(())
+}

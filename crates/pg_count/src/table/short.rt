@@ -1,0 +1,22 @@
+//! Which windows are short enough for a table.
+ghost use Rattle.std.specs.Prelude.{◌≡◌, ◌+◌, ◌^◌, ◌≤◌, true};
+ghost use Rattle.pg_types.specs.declared.limits.TheConstants.{SIGNS_MAX};
+ghost use Rattle.pg_count.specs.declared.table.short.TheConstants.{ENTRIES_MAX};
+
+/// A table has at most so many entries, which take 16 MB: one for each window of two signs of the
+/// largest table of letters, where a sign may be 0 to 2001.
+pub const ENTRIES_MAX: usize = 2002 * 2002;
+
+/// Windows of three signs are counted in a table where there are at most so many signs. It has
+/// 64,000 entries then, which stay near the processor.
+const SIGNS_OF_THREE: u16 = 39;
+
+/// Whether windows of so many signs are counted in a table: those of one and of two signs are, and
+/// those of three where the table of letters is small.
+pub fn is_short(signs: u16, len: u8) -> bool
+    requires signs { signs ≤ SIGNS_MAX }
+    requires len { 1 ≤ len }
+    ensures { result ≡ true → (signs + 1) ^ len ≤ ENTRIES_MAX }
+{
+    len <= 2 || (len == 3 && signs <= SIGNS_OF_THREE)
+}

@@ -1,0 +1,253 @@
+//! The windows that are counted in a pass, in a table.
+ghost use Rattle.std.specs.Prelude.{◌≡◌, ℕ, ◌+◌, ◌^◌, ◌≤◌, ◌<◌, true, List, [], ◌∷◌, ◌++◌, length, slice_get, Some, None, IfOk, IfSome, OnOk, OnErr, IsOk, MatchOption};
+ghost use Rattle.std.specs.FinMap.{put};
+ghost use Rattle.std.specs.Cmp.Lexicographic.{slice_cmp};
+ghost use Rattle.std.specs.Ordering.{nat_cmp};
+ghost use Rattle.pg_types.specs.declared.limits.TheConstants.{LENGTH_MAX, SIGNS_MAX, WEIGHT_MAX};
+ghost use Rattle.pg_types.specs.Inside.Counts.{AreSmall, SignsWithin, counted_sums, sums_of, with_weight, is_counted, windows_above};
+ghost use Rattle.pg_types.specs.Inside.NumberedWindows.{AreInOrder, AreNumbered, HasNumber, no_counts, with_counted};
+ghost use Rattle.pg_count.specs.Inside.Counting.{IsCounting};
+ghost use Rattle.pg_count.specs.declared.store.tally_list.TheConstants.{NUMBERS_END};
+ghost use Rattle.pg_count.specs.declared.table.short.TheConstants.{ENTRIES_MAX};
+
+use crate::store::tally_list::{
+    LATEST_FIRST, NUMBERS_END, push_sums, set_sums_at, sums_at, tally_by_number,
+};
+use crate::store::window_list::WindowList;
+use crate::table::above::least_above;
+use crate::table::index::index_of;
+use crate::table::room::make_room;
+use crate::table::told::push_numbers;
+use pg_types::{Cursor, Sign, Weight, add_weight};
+use std::alloc::{AllocError, Global};
+use std::marker::Model;
+
+/// The windows that are counted in a pass, each with its sums of good and bad weights, by a table
+/// with an entry for each window.
+///
+/// The entry of a window has `first` plus the window's number, by which its signs and its two sums
+/// are found in lists. An entry below `first` is of an earlier pass, and says that the window is
+/// not counted. So a pass begins without a walk over the table. The table takes memory when the
+/// first window is counted, and keeps it, as the lists do, for later passes.
+#[derive(Drop)]
+pub struct TableCounts {
+    numbers: Vec<u32>,
+    first: u32,
+    windows: WindowList,
+    tallies: Vec<(u64, u64)>,
+    signs: u16,
+}
+
+impl Model for TableCounts {
+    ghost use Rattle.pg_count.specs.Inside.Counting.{Counting};
+
+    ghost Value = { Counting };
+
+    ghost use Rattle.pg_count.specs.Inside.Tables.{IsTable, table_counting};
+
+    ghost view = { λ t. table_counting t.numbers.items t.first t.windows.items t.tallies.items
+        t.signs t.windows.len };
+
+    ghost invariant = { λ t. IsTable t.numbers.items t.first t.windows.items t.tallies.items
+        t.signs t.windows.len };
+}
+
+impl TableCounts {
+    /// No window is counted, and a window has one sign.
+    pub fn new(alloc: Global, signs: u16) -> TableCounts
+        requires { (1 ≤ signs) × (signs ≤ SIGNS_MAX) }
+        ensures { result ≡ record { signs = signs; len = 1; counted = no_counts } }
+    {
+        TableCounts {
+            numbers: Vec::new(alloc),
+            first: 1,
+            windows: WindowList::new(alloc),
+            tallies: Vec::new(alloc),
+            signs,
+        }
+    }
+
+    /// Begins a pass with windows of so many signs, which are short: no window is counted. It takes
+    /// no memory.
+    pub fn begin(&mut self, len: u8)
+        requires len { (1 ≤ len) × (len ≤ LENGTH_MAX) }
+        requires few { (self.old.signs + 1) ^ len ≤ ENTRIES_MAX }
+        ensures { self.new ≡ record self.old { len = len; counted = no_counts } }
+    {
+        let next = self.first + self.tallies.len() as u32;
+        self.first = first_after(&mut self.numbers, next);
+        self.tallies.clear();
+        self.windows.begin(len);
+    }
+
+    /// The number of signs of the table of letters.
+    pub fn signs(&self) -> u16
+        ensures is { result ≡ self.now.signs }
+        ensures within { result ≤ SIGNS_MAX }
+    {
+        self.signs
+    }
+
+    /// How many signs a window has.
+    pub fn window_len(&self) -> u8
+        ensures len { result ≡ self.now.len }
+        ensures kept { IsCounting self.now }
+        ensures numbered { AreNumbered self.now.counted.windows self.now.counted.counts }
+    {
+        self.windows.window_len()
+    }
+
+    /// Adds `weight` to the good or the bad sum of a window, and gives the window's number: its
+    /// index, from 0, among the windows of the pass in the order in which they were first counted.
+    /// A window that is counted already takes no memory.
+    #[inline(always)]
+    pub fn add_numbered(
+        &mut self,
+        window: &[Sign],
+        good: bool,
+        weight: Weight,
+    ) -> Result<u32, AllocError>
+        requires len { length window.now ≡ self.old.len }
+        requires signs { SignsWithin self.old.signs window.now }
+        requires weight { weight ≤ WEIGHT_MAX }
+        requires small { AreSmall
+            (with_weight (sums_of self.old.counted.counts window.now) good weight) }
+        ensures ok { OnOk result (self.new
+            ≡ record self.old { counted = with_counted self.old.counted window.now good weight }) }
+        ensures number { IfOk result
+            (λ number. HasNumber self.new.counted.windows window.now number) }
+        ensures there { is_counted self.old.counted.counts window.now ≡ true → IsOk result }
+        ensures err { OnErr result (self.new ≡ self.old) }
+    {
+        match self.find(window) {
+            Some((number, sums)) => {
+                let sums = add_weight(sums, good, u64::from(weight));
+                set_sums_at(&mut self.tallies, number, sums);
+                Ok(number)
+            }
+            None => {
+                let sums = add_weight((0, 0), good, u64::from(weight));
+                let number = self.count_new(window, sums)?;
+                Ok(number)
+            }
+        }
+    }
+
+    /// The good and the bad sum of a window; none exactly where it is not counted. It takes no
+    /// memory.
+    pub fn sums(&self, window: &[Sign]) -> Option<(u64, u64)>
+        requires len { length window.now ≡ self.now.len }
+        requires signs { SignsWithin self.now.signs window.now }
+        ensures { result ≡ counted_sums self.now.counted.counts window.now }
+    {
+        let (_, sums) = self.find(window)?;
+        Some(sums)
+    }
+
+    /// The good and the bad sum of the window with the number. It takes no memory.
+    pub fn sums_of(&self, number: u32) -> (u64, u64)
+        requires { number < length self.now.counted.windows }
+        ensures { (u : List ℕ) → HasNumber self.now.counted.windows u number
+            → counted_sums self.now.counted.counts u ≡ Some result }
+    {
+        sums_at(self.tallies.as_slice(), number)
+    }
+
+    /// Appends the numbers of the counted windows in the order of signs, by one walk along the
+    /// table. Refused: some of them may have been appended.
+    pub fn order(&self, out: &mut Vec<u32>) -> Result<(), AllocError>
+        ensures { OnOk result ((ns : List ℕ) × (out.new.items ≡ out.old.items ++ ns)
+            × AreInOrder self.now.counted.windows self.now.counted.counts ns) }
+    {
+        push_numbers(self.numbers.as_slice(), self.first, out)
+    }
+
+    /// Moves the cursor to the least counted window that is greater, and gives its good and bad
+    /// sums; none exactly where there is no such window, and the cursor stays. It takes no memory.
+    pub fn next(&self, at: &mut Cursor) -> Option<(u64, u64)>
+        ensures { MatchOption result ((windows_above at.old self.now.counted.counts ≡ [])
+            × (at.new ≡ at.old)) (λ sums. windows_above at.old self.now.counted.counts
+            ≡ (at.new, sums) ∷ windows_above at.new self.now.counted.counts) }
+    {
+        let number = least_above(
+            self.numbers.as_slice(),
+            self.first,
+            &self.windows,
+            self.signs,
+            at,
+        )?;
+        at.set(self.windows.get(number));
+        Some(sums_at(self.tallies.as_slice(), number))
+    }
+
+    /// The signs of the window with the number, lent from the list of windows.
+    pub fn window(&self, number: u32) -> &[Sign]
+        requires { number < length self.now.counted.windows }
+        ensures { HasNumber self.now.counted.windows result.now number }
+    {
+        self.windows.get(number)
+    }
+
+    // The number and the sums of a window, or `None` where it is not counted.
+    #[inline(always)]
+    fn find(&self, window: &[Sign]) -> Option<(u32, (u64, u64))>
+        requires len { length window.now ≡ self.now.len }
+        requires signs { SignsWithin self.now.signs window.now }
+        ensures some { IfSome result (λ t. HasNumber self.now.counted.windows window.now t.0
+            × (counted_sums self.now.counted.counts window.now ≡ Some t.1)) }
+        ensures none { result ≡ None
+            → counted_sums self.now.counted.counts window.now ≡ None }
+    {
+        let in_table = *self.numbers.get(index_of(self.signs, window))?;
+        tally_by_number(self.tallies.as_slice(), self.first, in_table)
+    }
+
+    // Counts a window that is not counted, with the sums, and gives its number, which is the next
+    // one. Refused: it is not counted.
+    #[inline(never)]
+    fn count_new(&mut self, window: &[Sign], sums: (u64, u64)) -> Result<u32, AllocError>
+        requires len { length window.now ≡ self.old.len }
+        requires signs { SignsWithin self.old.signs window.now }
+        requires new { counted_sums self.old.counted.counts window.now ≡ None }
+        ensures ok { OnOk result (self.new ≡ record self.old {
+          counted = record {
+            counts = put (slice_cmp nat_cmp) window.now sums self.old.counted.counts;
+            windows = self.old.counted.windows ++ window.now ∷ [];
+          };
+        }) }
+        ensures number { IfOk result (λ number. number ≡ length self.old.counted.windows) }
+        ensures err { OnErr result (self.new ≡ self.old) }
+    {
+        let index = index_of(self.signs, window);
+        let entries = (usize::from(self.signs) + 1).pow(u32::from(self.windows.window_len()));
+        make_room(&mut self.numbers, index, entries)?;
+        self.windows.push(window)?;
+        match push_sums(&mut self.tallies, self.first, sums) {
+            Ok(in_table) => {
+                self.numbers[index] = in_table;
+                Ok(in_table - self.first)
+            }
+            Err(_) => {
+                self.windows.pop();
+                Err(AllocError)
+            }
+        }
+    }
+}
+
+// The number of the first window of the next pass, past each entry. It is `next`, and the table
+// stays; or the numbers begin again from 1, and the table has no entry yet.
+fn first_after(numbers: &mut Vec<u32>, next: u32) -> u32
+    requires positive { 1 ≤ next }
+    requires few { next ≤ NUMBERS_END }
+    requires past { (i k : ℕ) → slice_get numbers.old.items i ≡ Some k → k < next }
+    ensures positive { 1 ≤ result }
+    ensures few { result ≤ NUMBERS_END }
+    ensures past { (i k : ℕ) → slice_get numbers.new.items i ≡ Some k → k < result }
+{
+    if next <= LATEST_FIRST {
+        return next;
+    }
+    numbers.clear();
+    1
+}
