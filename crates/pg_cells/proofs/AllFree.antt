@@ -4,7 +4,7 @@ use Rattle.std.proofs.lemmas.Bool.{cases_eq, cases_lt}
 use Rattle.std.proofs.lemmas.List.{get_or-set_same, get_or-set_other, get_or_past, get_or_default, length-map, length-take}
 use Rattle.pg_cells.specs.declared.store.cell.Cell.{Cell}
 use Rattle.pg_cells.specs.declared.store.member.Member.{Member}
-use Rattle.pg_cells.specs.Inside.store.Lists.{Lists, lists, row_of, sign_at, with_free, with_base, before_seen}
+use Rattle.pg_cells.specs.Inside.store.Lists.{sign_seen, base_seen, link_seen, Lists, lists, row_of, sign_at, with_free, with_base, before_seen}
 use Rattle.pg_cells.specs.Inside.store.FreeList.{Linked, AreLinked, IsFreeTo}
 use Rattle.pg_cells.specs.Inside.families.Root.{IsRootTo}
 use Rattle.pg_cells.specs.Inside.store.Store.{IsKept, IsStore}
@@ -37,10 +37,10 @@ module _ {V : Type 0} where
       → IsFreeTo last i (lists cells) → IsFreeTo last (i + 1) (lists_cleared (lists cells) i b a)
   free_to_more cells last i b a within most start up more end old =
       let ls = lists cells in
-      let in_signs : i < length ls.row.signs = omega (arith, length-map cells (λ c. c.sign)) in
-      let in_bases : i < length ls.row.bases = omega (arith, length-map cells (λ c. c.is_base)) in
+      let in_signs : i < length ls.row.signs = omega (arith, length-map cells sign_seen) in
+      let in_bases : i < length ls.row.bases = omega (arith, length-map cells base_seen) in
       let in_befores : i < length ls.befores = omega (arith, length-map cells before_seen) in
-      let in_afters : i < length ls.afters = omega (arith, length-map cells (λ c. c.link)) in
+      let in_afters : i < length ls.afters = omega (arith, length-map cells link_seen) in
       let before_here : get_or (set ls.befores i b) i 0 ≡ b = get_or-set_same ls.befores i b 0 in_befores in
       let after_here : get_or (set ls.afters i a) i 0 ≡ a = get_or-set_same ls.afters i a 0 in_afters in
       record {
@@ -98,26 +98,26 @@ module _ {V : Type 0} (cells : List (Cell V)) (last : ℕ) (h : IsFreeTo last (l
   pub free_none : (i : ℕ) → sign_at (row_of cells) i ≡ 0
   free_none i =
       let signs = (row_of cells).signs in
-      let size : length signs ≡ length cells = length-map cells (λ c. c.sign) in
+      let size : length signs ≡ length cells = length-map cells sign_seen in
       elim (cases_lt i (length signs)) [
         | inl lt ↦ get_or_default signs i 0 1 lt ∙ h.signs i (omega arith)
         | inr le ↦ get_or_past signs i 0 le
       ]
 
-  free_kept : 0 < length cells → length cells < 2 ^ 32 → AreLinked (lists cells) → IsKept cells 0 0
+  free_kept : 0 < length cells → length cells < 2 ^ 29 → AreLinked (lists cells) → IsKept cells 0 0
   free_kept up small linked = record {
     linked = linked;
     small = small;
     greatest = record {
       most = λ i some. absurd (some (free_none i));
-      within = omega (arith, length-map cells (λ c. c.sign));
+      within = omega (arith, length-map cells sign_seen);
       used = λ lt. absurd (omega arith);
     };
     count = sym (how_many_zero (row_of cells).signs free_none);
   }
 
   -- a store whose cells are all free
-  pub free_store : (lows : List ℕ) (dropped sought : ℕ) → length lows ≤ 2 ^ 16 → 0 < length cells → length cells < 2 ^ 32 → AreLinked (lists cells)
+  pub free_store : (lows : List ℕ) (dropped sought : ℕ) → length lows ≤ 2 ^ 16 → 0 < length cells → length cells < 2 ^ 29 → AreLinked (lists cells)
       → IsStore cells 0 0 lows 0 dropped 0 sought
   free_store lows dropped sought few up small linked = record {
     kept = free_kept up small linked;
@@ -126,10 +126,10 @@ module _ {V : Type 0} (cells : List (Cell V)) (last : ℕ) (h : IsFreeTo last (l
     blocked = blocked_none (row_of cells) 0 sought (omega arith);
   }
 
-  pub free_root : (blank : Member V) → length cells < 2 ^ 32 → IsRootTo 1 blank (row_of cells)
+  pub free_root : (blank : Member V) → length cells < 2 ^ 29 → IsRootTo 1 blank (row_of cells)
   free_root blank small =
-      let row = is_row cells small in
-      planted_cleared blank (row_of cells) (λ i lt. free_none i) (λ b lt. h.bases b (omega (arith, length-map cells (λ c. c.sign)))) row.bases row.bare
+      let row = is_row cells (omega arith) in
+      planted_cleared blank (row_of cells) (λ i lt. free_none i) (λ b lt. h.bases b (omega (arith, length-map cells sign_seen))) row.bases row.bare
 
 -- of a list that is cut as many stay as `least` asks
 pub cut_long : {X : Type 0} (xs ys : List X) (n least : ℕ) → least ≤ n → least ≤ length xs → ys ≡ take n xs → (least ≤ length ys) × (length ys ≤ length xs)

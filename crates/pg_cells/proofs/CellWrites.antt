@@ -1,31 +1,40 @@
 -- What a read of one cell's parts shows of the lists of all cells, and what a write leaves of them.
-use Rattle.std.proofs.Common.{◌≡◌, ◌≢◌, ℕ, ◌/◌, ◌%◌, ◌^◌, ◌<◌, Bool, true, false, List, [], ◌∷◌, map, set, get_or, length, refl, sym, ◌∙◌, ap, cond, nat_eq, arith, zero, suc}
+use Rattle.std.proofs.Common.{◌≡◌, ◌≢◌, ℕ, ◌+◌, ◌*◌, ◌/◌, ◌%◌, ◌^◌, ◌<◌, Bool, true, false, List, [], ◌∷◌, map, set, get_or, length, refl, sym, ◌∙◌, ap, cond, nat_eq, arith, zero, suc}
 use Rattle.std.proofs.Math.Seq.{map-set_same}
 use Rattle.std.specs.Prelude.{slice_get, Some}
 use Rattle.std.specs.Option.{option_map}
-use Rattle.std.proofs.lemmas.List.{map-set, get_or-map, get_or_default}
+use Rattle.std.proofs.lemmas.List.{map-set, get_or-map}
 use Rattle.std.proofs.lemmas.Option.{slice_get-map, slice_get-get_or}
 use Rattle.std.proofs.lemmas.Bool.{ne_eqb}
 use Rattle.pg_cells.specs.declared.store.cell.Cell.{Cell}
-use Rattle.pg_cells.specs.declared.store.cell.TheConstants.{HALF_COUNT}
 use Rattle.pg_cells.specs.declared.store.member.Member.{Member}
-use Rattle.pg_cells.specs.Inside.store.Lists.{lists, lone, bared, child_seen, member_seen, before_seen, pair_of, sign_at, child_at, base_at, before_at, after_at, IsFree, with_before, with_after, with_child, with_value, with_base, with_taken, with_free}
-
--- a number is that of its halves
-halves : (x : ℕ) → pair_of (x / HALF_COUNT) (x % HALF_COUNT) ≡ x
-halves x = omega arith
-
--- the halves of a number that fits a link fit a sign
-pub high_fits : (x : ℕ) → x < 2 ^ 32 → x / HALF_COUNT < 2 ^ 16
-high_fits x small = omega arith
-
-pub low_fits : (x : ℕ) → x % HALF_COUNT < 2 ^ 16
-low_fits x = omega arith
+use Rattle.pg_cells.proofs.WordLaws.{sign_even, sign_odd, odd_word, value_odd, value_sign, value_next, value_first, value_base, value_link, taken_odd, taken_sign, taken_next, taken_first, taken_base, taken_link, link_same, base_same, low_same}
+use Rattle.pg_cells.specs.Inside.store.Lists.{lists, lone, bared, sign_seen, base_seen, link_seen, child_seen, member_seen, before_seen, sign_in, next_in, first_in, base_in, link_in, FitsCell, sign_at, child_at, base_at, before_at, after_at, IsFree, with_before, with_after, with_child, with_value, with_base, with_taken, with_free}
 
 -- a value without its links loses none
 lone_seen : {V : Type 0} (b : Bool) (v : V) (m : Member V) → m.value ≡ v → lone v ≡ lone (cond b (lone v) m).value
 lone_seen true v m e = refl
 lone_seen false v m e = ap lone (sym e)
+
+-- what is seen of a free cell, and of a taken one
+module _ {V : Type 0} (c : Cell V) where
+  free_child : sign_seen c ≡ 0 → child_seen c ≡ 0
+  free_child e = ap (λ n. cond (nat_eq n 0) 0 (link_seen c)) e
+
+  free_member : sign_seen c ≡ 0 → member_seen c ≡ lone c.value
+  free_member e = ap (λ n. cond (nat_eq n 0) (lone c.value) (record { value = c.value; next = next_in c.signs; first = first_in c.signs c.links })) e
+
+  free_before : sign_seen c ≡ 0 → before_seen c ≡ c.signs / 2
+  free_before e = ap (λ n. cond (nat_eq n 0) (c.signs / 2) 0) e
+
+  taken_child : sign_seen c ≢ 0 → child_seen c ≡ link_seen c
+  taken_child e = ap (λ b. cond b 0 (link_seen c)) (ne_eqb (sign_seen c) 0 e)
+
+  taken_member : sign_seen c ≢ 0 → member_seen c ≡ record { value = c.value; next = next_in c.signs; first = first_in c.signs c.links }
+  taken_member e = ap (λ b. cond b (lone c.value) (record { value = c.value; next = next_in c.signs; first = first_in c.signs c.links })) (ne_eqb (sign_seen c) 0 e)
+
+  taken_before : sign_seen c ≢ 0 → before_seen c ≡ 0
+  taken_before e = ap (λ b. cond b (c.signs / 2) 0) (ne_eqb (sign_seen c) 0 e)
 
 module _ {V : Type 0} (cells : List (Cell V)) (i : ℕ) (d : Cell V) where
   -- the cell that is there
@@ -36,158 +45,180 @@ module _ {V : Type 0} (cells : List (Cell V)) (i : ℕ) (d : Cell V) where
   kept : {A : Type 0} (f : Cell V → A) (new : Cell V) → f new ≡ f old → map f (set cells i new) ≡ map f cells
   kept f new e = map-set_same f cells i new d e
 
-  pub sign_is : i < length cells → old.sign ≡ sign_at (lists cells).row i
-  sign_is h = sym (get_or-map (λ (c : Cell V). c.sign) cells i d 0 h)
+  -- a part of the new cell that has this value
+  now : {A : Type 0} (f : Cell V → A) (new : Cell V) (x : A) → f new ≡ x → map f (set cells i new) ≡ set (map f cells) i x
+  now f new x e = map-set f cells i new ∙ ap (set (map f cells) i) e
 
-  pub base_is : i < length cells → old.is_base ≡ base_at (lists cells).row i
-  base_is h = sym (get_or-map (λ (c : Cell V). c.is_base) cells i d false h)
+  pub sign_is : i < length cells → sign_seen old ≡ sign_at (lists cells).row i
+  sign_is h = sym (get_or-map sign_seen cells i d 0 h)
 
-  pub after_is : i < length cells → old.link ≡ after_at (lists cells) i
-  after_is h = sym (get_or-map (λ (c : Cell V). c.link) cells i d 0 h)
+  pub base_is : i < length cells → base_seen old ≡ base_at (lists cells).row i
+  base_is h = sym (get_or-map base_seen cells i d false h)
 
-  -- of halves that are read one after the other
-  pub before_is : (e : Cell V) (high low : ℕ) → i < length cells → high ≡ old.next → low ≡ (get_or cells i e).first → pair_of high low ≡ before_at (lists cells) i
-  before_is e high low h upper lower =
-      ap (λ n. pair_of n low) upper ∙ ap (pair_of old.next) (lower ∙ ap (λ (c : Cell V). c.first) (get_or_default cells i e d h)) ∙ sym (get_or-map before_seen cells i d 0 h)
+  pub after_is : i < length cells → link_seen old ≡ after_at (lists cells) i
+  after_is h = sym (get_or-map link_seen cells i d 0 h)
 
-  -- the value that is seen of a free cell has no links, whatever stands there
-  free_member : (high low : ℕ) → old.sign ≡ 0 → member_seen (record old { next = high; first = low }) ≡ member_seen old
-  free_member high low e = rw e refl
+  free_sign : i < length cells → IsFree (lists cells).row i → sign_seen old ≡ 0
+  free_sign h free = sym (get_or-map sign_seen cells i d 1 h) ∙ free
 
-  pub write_before : (x : ℕ) → i < length cells → IsFree (lists cells).row i → lists (set cells i (record old { next = x / HALF_COUNT; first = x % HALF_COUNT })) ≡ with_before (lists cells) i x
-  write_before x h free =
-      let new : Cell V = record old { next = x / HALF_COUNT; first = x % HALF_COUNT } in
-      let sign : old.sign ≡ 0 = sym (get_or-map (λ (c : Cell V). c.sign) cells i d 1 h) ∙ free in
-      λ t. record {
-        row = record {
-          signs = kept (λ c. c.sign) new refl t;
-          children = kept child_seen new refl t;
-          values = kept member_seen new (free_member (x / HALF_COUNT) (x % HALF_COUNT) sign) t;
-          bases = kept (λ c. c.is_base) new refl t;
-        };
-        befores = (map-set before_seen cells i new ∙ ap (set (map before_seen cells) i) (halves x)) t;
-        afters = kept (λ c. c.link) new refl t;
-      }
+  taken_old : i < length cells → sign_at (lists cells).row i ≢ 0 → sign_seen old ≢ 0
+  taken_old h taken e = taken (sym (sign_is h) ∙ e)
 
-  -- the child that is seen of a free cell is 0, whatever its link
-  free_child : (x : ℕ) → old.sign ≡ 0 → child_seen (record old { link = x }) ≡ child_seen old
-  free_child x e = rw e refl
+  pub before_is : i < length cells → IsFree (lists cells).row i → old.signs / 2 ≡ before_at (lists cells) i
+  before_is h free = sym (free_before old (free_sign h free)) ∙ sym (get_or-map before_seen cells i d 0 h)
 
-  pub write_after : (x : ℕ) → i < length cells → IsFree (lists cells).row i → lists (set cells i (record old { link = x })) ≡ with_after (lists cells) i x
-  write_after x h free =
-      let new : Cell V = record old { link = x } in
-      let sign : old.sign ≡ 0 = sym (get_or-map (λ (c : Cell V). c.sign) cells i d 1 h) ∙ free in
-      λ t. record {
-        row = record {
-          signs = kept (λ c. c.sign) new refl t;
-          children = kept child_seen new (free_child x sign) t;
-          values = kept member_seen new refl t;
-          bases = kept (λ c. c.is_base) new refl t;
-        };
-        befores = kept before_seen new refl t;
-        afters = map-set (λ (c : Cell V). c.link) cells i new t;
-      }
+  pub child_is : i < length cells → sign_at (lists cells).row i ≢ 0 → link_seen old ≡ child_at (lists cells).row i
+  child_is h taken = sym (taken_child old (taken_old h taken)) ∙ sym (get_or-map child_seen cells i d 0 h)
 
-  -- the child that is seen of a taken cell is its link
-  taken_child : (c : Cell V) → c.sign ≢ 0 → child_seen c ≡ c.link
-  taken_child c e = ap (λ b. cond b 0 c.link) (ne_eqb c.sign 0 e)
-
-  -- and the value has its links
-  pub taken_member : (c : Cell V) → c.sign ≢ 0 → member_seen c ≡ record { value = c.value; next = c.next; first = c.first }
-  taken_member c e = ap (λ b. cond b (lone c.value) (record { value = c.value; next = c.next; first = c.first })) (ne_eqb c.sign 0 e)
-
-  pub child_is : i < length cells → sign_at (lists cells).row i ≢ 0 → old.link ≡ child_at (lists cells).row i
-  child_is h taken = sym (taken_child old (λ e. taken (sym (sign_is h) ∙ e))) ∙ sym (get_or-map child_seen cells i d 0 h)
-
-  pub value_is : (c : Cell V) → c ≡ old → i < length cells → sign_at (lists cells).row i ≢ 0 → slice_get (lists cells).row.values i ≡ Some (record { value = c.value; next = c.next; first = c.first })
+  pub value_is : (c : Cell V) → c ≡ old → i < length cells → sign_at (lists cells).row i ≢ 0
+      → slice_get (lists cells).row.values i ≡ Some (record { value = c.value; next = next_in c.signs; first = first_in c.signs c.links })
   value_is c same h taken =
       slice_get-map member_seen cells i ∙ ap (option_map member_seen) (slice_get-get_or cells i d h)
-      ∙ ap Some (ap member_seen (sym same) ∙ taken_member c (λ e. taken (sym (sign_is h) ∙ ap (λ (x : Cell V). x.sign) (sym same) ∙ e)))
+      ∙ ap Some (ap member_seen (sym same) ∙ taken_member c (λ e. taken_old h taken (ap sign_seen (sym same) ∙ e)))
 
-  pub write_child : (x : ℕ) → i < length cells → sign_at (lists cells).row i ≢ 0 → lists (set cells i (record old { link = x }))
+  pub write_before : (x : ℕ) → i < length cells → IsFree (lists cells).row i → lists (set cells i (record old { signs = x * 2 })) ≡ with_before (lists cells) i x
+  write_before x h free =
+      let new : Cell V = record old { signs = x * 2 } in
+      let sign : sign_seen old ≡ 0 = free_sign h free in
+      let none : sign_seen new ≡ 0 = sign_even x in
+      λ t. record {
+        row = record {
+          signs = kept sign_seen new (none ∙ sym sign) t;
+          children = kept child_seen new (free_child new none ∙ sym (free_child old sign)) t;
+          values = kept member_seen new (free_member new none ∙ sym (free_member old sign)) t;
+          bases = kept base_seen new refl t;
+        };
+        befores = now before_seen new x (free_before new none ∙ omega arith) t;
+        afters = kept link_seen new refl t;
+      }
+
+  pub write_after : (x : ℕ) → i < length cells → IsFree (lists cells).row i → lists (set cells i (record old { links = x * 8 + old.links % 8 })) ≡ with_after (lists cells) i x
+  write_after x h free =
+      let new : Cell V = record old { links = x * 8 + old.links % 8 } in
+      let sign : sign_seen old ≡ 0 = free_sign h free in
+      λ t. record {
+        row = record {
+          signs = kept sign_seen new refl t;
+          children = kept child_seen new (free_child new sign ∙ sym (free_child old sign)) t;
+          values = kept member_seen new (free_member new sign ∙ sym (free_member old sign)) t;
+          bases = kept base_seen new (base_same x old.links) t;
+        };
+        befores = kept before_seen new refl t;
+        afters = now link_seen new x (link_same x old.links) t;
+      }
+
+  pub write_child : (x : ℕ) → i < length cells → sign_at (lists cells).row i ≢ 0 → lists (set cells i (record old { links = x * 8 + old.links % 8 }))
       ≡ record (lists cells) { row = with_child (lists cells).row i x; afters = set (lists cells).afters i x }
   write_child x h taken =
-      let new : Cell V = record old { link = x } in
+      let new : Cell V = record old { links = x * 8 + old.links % 8 } in
+      let some : sign_seen old ≢ 0 = taken_old h taken in
       λ t. record {
         row = record {
-          signs = kept (λ c. c.sign) new refl t;
-          children = (map-set child_seen cells i new ∙ ap (set (map child_seen cells) i) (taken_child new (λ e. taken (sym (sign_is h) ∙ e)))) t;
-          values = kept member_seen new refl t;
-          bases = kept (λ c. c.is_base) new refl t;
+          signs = kept sign_seen new refl t;
+          children = now child_seen new x (taken_child new some ∙ link_same x old.links) t;
+          values = kept member_seen new (taken_member new some
+              ∙ ap (λ n. record { value = old.value; next = next_in old.signs; first = n * 512 + old.signs / 8388608 % 512 }) (low_same x old.links)
+              ∙ sym (taken_member old some)) t;
+          bases = kept base_seen new (base_same x old.links) t;
         };
         befores = kept before_seen new refl t;
-        afters = map-set (λ (c : Cell V). c.link) cells i new t;
+        afters = now link_seen new x (link_same x old.links) t;
       }
 
-  pub write_value : (x : Member V) → i < length cells → sign_at (lists cells).row i ≢ 0
-      → lists (set cells i (record old { value = x.value; next = x.next; first = x.first }))
-      ≡ record (lists cells) { row = with_value (lists cells).row i x; befores = set (lists cells).befores i (pair_of x.next x.first) }
-  write_value x h taken =
-      let new : Cell V = record old { value = x.value; next = x.next; first = x.first } in
+  pub write_value : (x : Member V) (upper : ℕ) → upper ≡ x.next * 4096 + x.first % 512 * 8388608 → FitsCell x → i < length cells → sign_at (lists cells).row i ≢ 0
+      → lists (set cells i (record old { value = x.value; signs = old.signs % 4096 + upper; links = old.links / 4 * 4 + x.first / 512 }))
+      ≡ record (lists cells) { row = with_value (lists cells).row i x; befores = set (lists cells).befores i 0 }
+  write_value x upper is fits h taken =
+      let S = old.signs in
+      let L = old.links in
+      let new : Cell V = record old { value = x.value; signs = S % 4096 + upper; links = L / 4 * 4 + x.first / 512 } in
+      let some : sign_seen old ≢ 0 = taken_old h taken in
+      let odd : S % 2 ≡ 1 = odd_word S some in
+      let same : sign_seen new ≡ sign_seen old = sign_odd (S % 4096 + upper) (value_odd S x.next x.first upper is odd) ∙ value_sign S x.next x.first upper is ∙ sym (sign_odd S odd) in
+      let still : sign_seen new ≢ 0 = λ e. some (sym same ∙ e) in
       λ t. record {
         row = record {
-          signs = kept (λ c. c.sign) new refl t;
-          children = kept child_seen new refl t;
-          values = (map-set member_seen cells i new ∙ ap (set (map member_seen cells) i) (taken_member new (λ e. taken (sym (sign_is h) ∙ e)))) t;
-          bases = kept (λ c. c.is_base) new refl t;
+          signs = kept sign_seen new same t;
+          children = kept child_seen new (taken_child new still ∙ value_link L x.first fits.1 ∙ sym (taken_child old some)) t;
+          values = now member_seen new x (taken_member new still ∙ (λ u. record {
+            value = x.value;
+            next = value_next S x.next x.first upper is fits.0 u;
+            first = value_first S L x.next x.first upper is fits.0 fits.1 u;
+          })) t;
+          bases = kept base_seen new (value_base L x.first fits.1) t;
         };
-        befores = map-set before_seen cells i new t;
-        afters = kept (λ c. c.link) new refl t;
+        befores = now before_seen new 0 (taken_before new still) t;
+        afters = kept link_seen new (value_link L x.first fits.1) t;
       }
 
-  pub write_base : (x : Bool) → lists (set cells i (record old { is_base = x })) ≡ record (lists cells) { row = with_base (lists cells).row i x }
-  write_base x =
-      let new : Cell V = record old { is_base = x } in
+  -- the second word has another flag, and the rest of it is as before
+  pub write_base : (x : Bool) (links : ℕ) → base_in links ≡ x → link_in links ≡ link_in old.links → links % 4 ≡ old.links % 4
+      → lists (set cells i (record old { links = links })) ≡ record (lists cells) { row = with_base (lists cells).row i x }
+  write_base x links base link low =
+      let new : Cell V = record old { links = links } in
+      let S = old.signs in
       λ t. record {
         row = record {
-          signs = kept (λ c. c.sign) new refl t;
-          children = kept child_seen new refl t;
-          values = kept member_seen new refl t;
-          bases = map-set (λ (c : Cell V). c.is_base) cells i new t;
+          signs = kept sign_seen new refl t;
+          children = kept child_seen new (ap (λ n. cond (nat_eq (sign_in S) 0) 0 n) link) t;
+          values = kept member_seen new
+              (ap (λ n. cond (nat_eq (sign_in S) 0) (lone old.value) (record { value = old.value; next = next_in S; first = n * 512 + S / 8388608 % 512 })) low) t;
+          bases = now base_seen new x base t;
         };
         befores = kept before_seen new refl t;
-        afters = kept (λ c. c.link) new refl t;
+        afters = kept link_seen new link t;
       }
 
-  pub write_taken : (sign : ℕ) (value : Member V) (child : ℕ) → sign ≢ 0
-      → lists (set cells i (record old { sign = sign; value = value.value; next = value.next; first = value.first; link = child }))
+  pub write_taken : (sign : ℕ) (x : Member V) (child upper : ℕ) → upper ≡ x.next * 4096 + x.first % 512 * 8388608 → FitsCell x → sign ≢ 0 → sign < 2 ^ 11
+      → lists (set cells i (record old { value = x.value; signs = 1 + sign * 2 + upper; links = child * 8 + old.links / 4 % 2 * 4 + x.first / 512 }))
       ≡ record (lists cells) {
-        row = with_taken (lists cells).row i sign value child;
-        befores = set (lists cells).befores i (pair_of value.next value.first);
+        row = with_taken (lists cells).row i sign x child;
+        befores = set (lists cells).befores i 0;
         afters = set (lists cells).afters i child;
       }
-  write_taken sign value child taken =
-      let new : Cell V = record old { sign = sign; value = value.value; next = value.next; first = value.first; link = child } in
+  write_taken sign x child upper is fits up small =
+      let L = old.links in
+      let new : Cell V = record old { value = x.value; signs = 1 + sign * 2 + upper; links = child * 8 + L / 4 % 2 * 4 + x.first / 512 } in
+      let same : sign_seen new ≡ sign = sign_odd (1 + sign * 2 + upper) (taken_odd sign x.next x.first upper is) ∙ taken_sign sign x.next x.first upper is small in
+      let some : sign_seen new ≢ 0 = λ e. up (sym same ∙ e) in
       λ t. record {
         row = record {
-          signs = map-set (λ (c : Cell V). c.sign) cells i new t;
-          children = (map-set child_seen cells i new ∙ ap (set (map child_seen cells) i) (taken_child new taken)) t;
-          values = (map-set member_seen cells i new ∙ ap (set (map member_seen cells) i) (taken_member new taken)) t;
-          bases = kept (λ c. c.is_base) new refl t;
+          signs = now sign_seen new sign same t;
+          children = now child_seen new child (taken_child new some ∙ taken_link child L x.first fits.1) t;
+          values = now member_seen new x (taken_member new some ∙ (λ u. record {
+            value = x.value;
+            next = taken_next sign x.next x.first upper is small fits.0 u;
+            first = taken_first sign child L x.next x.first upper is small fits.0 fits.1 u;
+          })) t;
+          bases = kept base_seen new (taken_base child L x.first fits.1) t;
         };
-        befores = map-set before_seen cells i new t;
-        afters = map-set (λ (c : Cell V). c.link) cells i new t;
+        befores = now before_seen new 0 (taken_before new some) t;
+        afters = now link_seen new child (taken_link child L x.first fits.1) t;
       }
 
 -- a cell that is given up keeps its value, and that is seen without links
-member_bared : {V : Type 0} (cells : List (Cell V)) (i : ℕ) (d : Cell V) (high low link : ℕ)
-    → map member_seen (set cells i (record (get_or cells i d) { sign = 0; next = high; first = low; link = link })) ≡ bared (map member_seen cells) i
-member_bared [] i d high low link = refl
-member_bared (c ∷ cs) zero d high low link = ap (λ m. m ∷ map member_seen cs) (lone_seen (nat_eq c.sign 0) c.value (record { value = c.value; next = c.next; first = c.first }) refl)
-member_bared (c ∷ cs) (suc i) d high low link = ap (λ ms. member_seen c ∷ ms) (member_bared cs i d high low link)
+member_bared : {V : Type 0} (cells : List (Cell V)) (i : ℕ) (d : Cell V) (before links : ℕ)
+    → map member_seen (set cells i (record (get_or cells i d) { signs = before * 2; links = links })) ≡ bared (map member_seen cells) i
+member_bared [] i d before links = refl
+member_bared (c ∷ cs) zero d before links = ap (λ m. m ∷ map member_seen cs) (
+    free_member (record c { signs = before * 2; links = links }) (sign_even before)
+    ∙ lone_seen (nat_eq (sign_seen c) 0) c.value (record { value = c.value; next = next_in c.signs; first = first_in c.signs c.links }) refl)
+member_bared (c ∷ cs) (suc i) d before links = ap (λ ms. member_seen c ∷ ms) (member_bared cs i d before links)
 
 module _ {V : Type 0} (cells : List (Cell V)) (i : ℕ) (d : Cell V) where
-  pub write_free : (before after : ℕ) → lists (set cells i (record (get_or cells i d) { sign = 0; next = before / HALF_COUNT; first = before % HALF_COUNT; link = after }))
+  pub write_free : (before after : ℕ) → lists (set cells i (record (get_or cells i d) { signs = before * 2; links = after * 8 + (get_or cells i d).links % 8 }))
       ≡ record { row = with_free (lists cells).row i; befores = set (lists cells).befores i before; afters = set (lists cells).afters i after }
   write_free before after =
-      let new : Cell V = record (get_or cells i d) { sign = 0; next = before / HALF_COUNT; first = before % HALF_COUNT; link = after } in
+      let L = (get_or cells i d).links in
+      let new : Cell V = record (get_or cells i d) { signs = before * 2; links = after * 8 + L % 8 } in
+      let none : sign_seen new ≡ 0 = sign_even before in
       λ t. record {
         row = record {
-          signs = map-set (λ (c : Cell V). c.sign) cells i new t;
-          children = map-set child_seen cells i new t;
-          values = member_bared cells i d (before / HALF_COUNT) (before % HALF_COUNT) after t;
-          bases = kept cells i d (λ c. c.is_base) new refl t;
+          signs = now cells i d sign_seen new 0 none t;
+          children = now cells i d child_seen new 0 (free_child new none) t;
+          values = member_bared cells i d before (after * 8 + L % 8) t;
+          bases = kept cells i d base_seen new (base_same after L) t;
         };
-        befores = (map-set before_seen cells i new ∙ ap (set (map before_seen cells) i) (halves before)) t;
-        afters = map-set (λ (c : Cell V). c.link) cells i new t;
+        befores = now cells i d before_seen new before (free_before new none ∙ omega arith) t;
+        afters = now cells i d link_seen new after (link_same after L) t;
       }

@@ -3,7 +3,7 @@ use Rattle.std.proofs.Common.{◌≡◌, ◌≢◌, ℕ, ◌+◌, ◌-◌, ◌<�
 use Rattle.std.proofs.lemmas.Bool.{cases_eq}
 use Rattle.std.proofs.lemmas.List.{length-map, get_or_past, get_or_default, map_push, length_push}
 use Rattle.pg_cells.specs.declared.store.cell.Cell.{Cell}
-use Rattle.pg_cells.specs.Inside.store.Lists.{Row, Lists, lists, row_of, IsFree, sign_at, before_at, after_at}
+use Rattle.pg_cells.specs.Inside.store.Lists.{sign_seen, Row, Lists, lists, row_of, IsFree, sign_at, before_at, after_at}
 use Rattle.pg_cells.specs.Inside.store.FreeList.{AreLinked}
 use Rattle.pg_cells.specs.declared.store.member.Member.{Member}
 use Rattle.pg_cells.proofs.LinkedLists.{free_within, taken_within, not_free}
@@ -20,8 +20,8 @@ module _ {V : Type 0} where
   ])
 
 module _ {V : Type 0} (cells : List (Cell V)) where
-  pub signs_long : length (map (λ (c : Cell V). c.sign) cells) ≡ length cells
-  signs_long = length-map cells (λ c. c.sign)
+  pub signs_long : length (map sign_seen cells) ≡ length cells
+  signs_long = length-map cells sign_seen
 
   -- a free cell is among the cells
   pub free_in : (i : ℕ) → IsFree (row_of cells) i → i < length cells
@@ -53,11 +53,11 @@ module _ {V : Type 0} (cells : List (Cell V)) where
   ]
 
   -- the number of a cell fits a link
-  pub fits_link : (i : ℕ) → i < length cells → length cells < 2 ^ 32 → i < 2 ^ 32
+  pub fits_link : (i : ℕ) → i < length cells → length cells < 2 ^ 29 → i < 2 ^ 29
   fits_link i lt small = omega arith
 
   -- and so does the base of a family below it
-  pub child_fits : (i : ℕ) → i < length (row_of cells).signs → length cells < 2 ^ 32 → i < 2 ^ 32
+  pub child_fits : (i : ℕ) → i < length (row_of cells).signs → length cells < 2 ^ 29 → i < 2 ^ 29
   child_fits i lt small = fits_link i (subst (λ n. i < n) signs_long lt) small
 
 -- there are as many cells where the row is the same
@@ -73,19 +73,19 @@ module _ {V : Type 0} (cells new : List (Cell V)) (c : Cell V) (is : new ≡ cel
   long_push : length new ≡ length cells + 1
   long_push = ap length is ∙ length_push cells c
 
-  pub small_push : length cells + 1 < 2 ^ 32 → length new < 2 ^ 32
-  small_push small = subst (λ n. n < 2 ^ 32) (sym long_push) small
+  pub small_push : length cells + 1 < 2 ^ 29 → length new < 2 ^ 29
+  small_push small = subst (λ n. n < 2 ^ 29) (sym long_push) small
 
   pub some_push : AreLinked (lists cells) → 1 < length new
   some_push linked = let head = free_in cells 0 linked.head in let long = long_push in omega arith
 
-  pub taken_push : c.sign ≡ 1 → sign_at (row_of new) (length new - 1) ≢ 0
+  pub taken_push : sign_seen c ≡ 1 → sign_at (row_of new) (length new - 1) ≢ 0
   taken_push sign z =
-      let last : length new - 1 ≡ length (map (λ (x : Cell V). x.sign) cells) = let long = long_push in let signs = signs_long cells in omega arith in
-      let at : sign_at (row_of new) (length new - 1) ≡ c.sign =
+      let last : length new - 1 ≡ length (map sign_seen cells) = let long = long_push in let signs = signs_long cells in omega arith in
+      let at : sign_at (row_of new) (length new - 1) ≡ sign_seen c =
       ap (sign_at (row_of new)) last
-      ∙ ap (λ (xs : List (Cell V)). get_or (map (λ (x : Cell V). x.sign) xs) (length (map (λ (x : Cell V). x.sign) cells)) 0) is
-      ∙ ap (λ xs. get_or xs (length (map (λ (x : Cell V). x.sign) cells)) 0) (map_push (λ (x : Cell V). x.sign) cells c)
-      ∙ get_or_last (map (λ (x : Cell V). x.sign) cells) c.sign 0 in
-      let zero_is : c.sign ≡ 0 = sym at ∙ z in
+      ∙ ap (λ (xs : List (Cell V)). get_or (map sign_seen xs) (length (map sign_seen cells)) 0) is
+      ∙ ap (λ xs. get_or xs (length (map sign_seen cells)) 0) (map_push sign_seen cells c)
+      ∙ get_or_last (map sign_seen cells) (sign_seen c) 0 in
+      let zero_is : sign_seen c ≡ 0 = sym at ∙ z in
       omega arith

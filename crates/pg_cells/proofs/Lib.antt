@@ -9,6 +9,7 @@ pub mod BlockedLaws
 pub mod BoundLaws
 pub mod ChainSteps
 pub mod CellWrites
+pub mod WordLaws
 pub mod CellsStay
 pub mod Cleared
 pub mod Collecting

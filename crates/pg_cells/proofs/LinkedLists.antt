@@ -4,7 +4,7 @@ use Rattle.std.proofs.lemmas.Bool.{cases_eq, cases_lt}
 use Rattle.std.proofs.lemmas.List.{get_or-set_same, get_or-set_other, get_or_past, get_or_default, length-set, length-map, map_push, length_push, set_at}
 use Rattle.pg_cells.specs.declared.store.cell.Cell.{Cell}
 use Rattle.pg_cells.specs.declared.store.member.Member.{Member}
-use Rattle.pg_cells.specs.Inside.store.Lists.{Row, Lists, lists, row_of, lone, bared, child_seen, member_seen, before_seen, IsFree, sign_at, before_at, after_at, with_before, with_after, with_taken, with_free, with_more}
+use Rattle.pg_cells.specs.Inside.store.Lists.{next_in, first_in, sign_seen, base_seen, link_seen, Row, Lists, lists, row_of, lone, bared, child_seen, member_seen, before_seen, IsFree, sign_at, before_at, after_at, with_before, with_after, with_taken, with_free, with_more}
 use Rattle.pg_cells.specs.Inside.store.FreeList.{Linked, AreLinked}
 use Rattle.pg_cells.proofs.LinkedSteps.{Linked-take, Linked-put}
 
@@ -15,8 +15,8 @@ pub record AreEven {V : Type 0} (ls : Lists V) : Type 0 where
 
 pub lists_even : {V : Type 0} (cells : List (Cell V)) → AreEven (lists cells)
 lists_even cells = record {
-  befores = length-map cells before_seen ∙ sym (length-map cells (λ c. c.sign));
-  afters = length-map cells (λ c. c.link) ∙ sym (length-map cells (λ c. c.sign));
+  befores = length-map cells before_seen ∙ sym (length-map cells sign_seen);
+  afters = length-map cells link_seen ∙ sym (length-map cells sign_seen);
 }
 
 module _ {V : Type 0} where
@@ -140,13 +140,14 @@ get_or_map_push : {A : Type 0} (f : A → ℕ) (xs : List A) (c : A) (d : ℕ) (
 get_or_map_push f xs c d j e = ap (λ l. get_or l j d) (map_push f xs c ∙ ap (λ y. map f xs ++ y ∷ []) e) ∙ get_or_push_default (map f xs) d j
 
 -- a taken cell at the end changes no link
-pub linked_push : {V : Type 0} (cells new : List (Cell V)) (c : Cell V) → new ≡ cells ++ c ∷ [] → c.sign ≡ 1 → before_seen c ≡ 0 → c.link ≡ 0 → AreLinked (lists cells) → AreLinked (lists new)
+pub linked_push : {V : Type 0} (cells new : List (Cell V)) (c : Cell V) → new ≡ cells ++ c ∷ [] → sign_seen c ≡ 1 → before_seen c ≡ 0 → link_seen c ≡ 0
+    → AreLinked (lists cells) → AreLinked (lists new)
 linked_push cells new c e sign before link old =
-    let S = λ (j : ℕ). get_or_map_push (λ x. x.sign) cells c 1 j sign in
+    let S = λ (j : ℕ). get_or_map_push sign_seen cells c 1 j sign in
     let B = λ (j : ℕ). get_or_map_push before_seen cells c 0 j before in
-    let A = λ (j : ℕ). get_or_map_push (λ x. x.link) cells c 0 j link in
-    let whole : ◌≡◌ {A = (ℕ → ℕ) × (ℕ → ℕ) × (ℕ → ℕ)} ((λ j. get_or (map (λ x. x.sign) cells) j 1), (λ j. get_or (map before_seen cells) j 0), (λ j. get_or (map (λ x. x.link) cells) j 0))
-    ((λ j. get_or (map (λ x. x.sign) (cells ++ c ∷ [])) j 1), (λ j. get_or (map before_seen (cells ++ c ∷ [])) j 0), (λ j. get_or (map (λ x. x.link) (cells ++ c ∷ [])) j 0)) =
+    let A = λ (j : ℕ). get_or_map_push link_seen cells c 0 j link in
+    let whole : ◌≡◌ {A = (ℕ → ℕ) × (ℕ → ℕ) × (ℕ → ℕ)} ((λ j. get_or (map sign_seen cells) j 1), (λ j. get_or (map before_seen cells) j 0), (λ j. get_or (map link_seen cells) j 0))
+    ((λ j. get_or (map sign_seen (cells ++ c ∷ [])) j 1), (λ j. get_or (map before_seen (cells ++ c ∷ [])) j 0), (λ j. get_or (map link_seen (cells ++ c ∷ [])) j 0)) =
     λ t. ((λ j. sym (S j) t), (λ j. sym (B j) t), (λ j. sym (A j) t)) in
     subst (λ l. AreLinked (lists l)) (sym e) (subst (λ (f : (ℕ → ℕ) × (ℕ → ℕ) × (ℕ → ℕ)). Linked f.0 f.1 f.2) whole old)
 
@@ -160,23 +161,23 @@ bared_push (x ∷ ms) m zero e = absurd (omega (arith, e))
 bared_push (x ∷ ms) m (suc i) e = ap (λ l. x ∷ l) (bared_push ms m i (omega (arith, e)))
 
 lone_member : {V : Type 0} (c : Cell V) → lone (member_seen c).value ≡ lone c.value
-lone_member c = cases (nat_eq c.sign 0)
+lone_member c = cases (nat_eq (sign_seen c) 0)
   where
-    cases : (b : Bool) → lone (cond b (lone c.value) (record { value = c.value; next = c.next; first = c.first })).value ≡ lone c.value
+    cases : (b : Bool) → lone (cond b (lone c.value) (record { value = c.value; next = next_in c.signs; first = first_in c.signs c.links })).value ≡ lone c.value
     cases true = refl
     cases false = refl
 
 -- a taken cell at the end that is given up is a free cell at the end
-pub row_push : {V : Type 0} (cells new : List (Cell V)) (c : Cell V) (r : Row (Member V)) → new ≡ cells ++ c ∷ [] → c.sign ≡ 1 → c.link ≡ 0 → c.is_base ≡ false
+pub row_push : {V : Type 0} (cells new : List (Cell V)) (c : Cell V) (r : Row (Member V)) → new ≡ cells ++ c ∷ [] → sign_seen c ≡ 1 → link_seen c ≡ 0 → base_seen c ≡ false
     → r ≡ with_free (row_of new) (length new - 1) → r ≡ with_more (row_of cells) (lone c.value)
 row_push {V = V} cells new c r e sign link base freed =
     let n : length (cells ++ c ∷ []) - 1 ≡ length cells = omega (arith, length_push cells c) in
     freed ∙ ap (λ l. with_free (row_of l) (length l - 1)) e ∙ ap (with_free (row_of (cells ++ c ∷ []))) n ∙ (λ t. record {
-      signs = (ap (λ l. set l (length cells) 0) (map_push (λ (x : Cell V). x.sign) cells c) ∙ set_push (map (λ x. x.sign) cells) c.sign 0 (length cells) (length-map cells (λ x. x.sign))) t;
+      signs = (ap (λ l. set l (length cells) 0) (map_push sign_seen cells c) ∙ set_push (map sign_seen cells) (sign_seen c) 0 (length cells) (length-map cells sign_seen)) t;
       children = (ap (λ l. set l (length cells) 0) (map_push child_seen cells c) ∙ set_push (map child_seen cells) (child_seen c) 0 (length cells) (length-map cells child_seen)) t;
       values = (ap (λ l. bared l (length cells)) (map_push member_seen cells c) ∙ bared_push (map member_seen cells) (member_seen c) (length cells) (length-map cells member_seen)
           ∙ ap (λ m. map member_seen cells ++ m ∷ []) (lone_member c)) t;
-      bases = (map_push (λ (x : Cell V). x.is_base) cells c ∙ ap (λ b. map (λ (x : Cell V). x.is_base) cells ++ b ∷ []) base) t;
+      bases = (map_push base_seen cells c ∙ ap (λ b. map base_seen cells ++ b ∷ []) base) t;
     })
 
 -- a free cell stays free where its sign stays

@@ -1,5 +1,5 @@
 -- One free cell is a store.
-use Rattle.std.proofs.Common.{◌≡◌, ℕ, ◌≤◌, ◌^◌, List, [], ◌∷◌, length, refl, get_or, zero, suc, arith, false}
+use Rattle.std.proofs.Common.{◌≡◌, ℕ, ◌≤◌, ◌^◌, List, [], ◌∷◌, length, refl, get_or, zero, suc, arith}
 use Rattle.pg_cells.specs.declared.store.cell.Cell.{Cell}
 use Rattle.pg_cells.specs.Inside.store.Lists.{lists, row_of}
 use Rattle.pg_cells.specs.Inside.store.FreeList.{AreLinked}
@@ -16,7 +16,7 @@ all_zero (suc i) = refl
 
 module _ {V : Type 0} (value : V) where
   abbrev pub free_cell : Cell V
-  free_cell = record { value = value; link = 0; next = 0; first = 0; sign = 0; is_base = false }
+  free_cell = record { value = value; signs = 0; links = 0 }
 
   lone_linked : AreLinked (lists (free_cell ∷ []))
   lone_linked = record {

@@ -3,7 +3,7 @@ use Rattle.std.proofs.Common.{◌≡◌, ◌≢◌, ℕ, ◌<◌, ◌^◌, Bool,
 use Rattle.std.proofs.lemmas.List.{length-set, length-map, get_or-set_same, get_or-set_other, get_or_default}
 use Rattle.pg_cells.specs.declared.store.cell.Cell.{Cell}
 use Rattle.pg_cells.specs.declared.store.member.Member.{Member}
-use Rattle.pg_cells.specs.Inside.store.Lists.{row_of, bared, child_seen, member_seen, sign_at, child_at, IsFree, with_taken, with_free, with_child, with_value, with_base}
+use Rattle.pg_cells.specs.Inside.store.Lists.{sign_seen, base_seen, link_seen, row_of, bared, child_seen, member_seen, sign_at, child_at, IsFree, with_taken, with_free, with_child, with_value, with_base}
 use Rattle.pg_cells.specs.Inside.store.Store.{IsRow}
 use Rattle.pg_cells.specs.Inside.store.Writes.{Takes, Frees, SetsChild, SetsValue, SetsBase}
 use Rattle.pg_cells.proofs.LinkedLists.{free_within, taken_within}
@@ -31,23 +31,23 @@ bared_there (m ∷ ms) (suc i) (suc j) n = bared_there ms i j (λ e. n (ap suc e
 -- a free cell has no child
 row_bare : {V : Type 0} (cells : List (Cell V)) (i : ℕ) → sign_at (row_of cells) i ≡ 0 → child_at (row_of cells) i ≡ 0
 row_bare [] i e = refl
-row_bare (c ∷ cs) zero e = ap (λ s. cond (nat_eq s 0) 0 c.link) e
+row_bare (c ∷ cs) zero e = ap (λ s. cond (nat_eq s 0) 0 (link_seen c)) e
 row_bare (c ∷ cs) (suc i) e = row_bare cs i e
 
 module _ {V : Type 0} (cells : List (Cell V)) where
   children_even : length (row_of cells).children ≡ length (row_of cells).signs
-  children_even = length-map cells child_seen ∙ sym (length-map cells (λ c. c.sign))
+  children_even = length-map cells child_seen ∙ sym (length-map cells sign_seen)
 
   values_even : length (row_of cells).values ≡ length (row_of cells).signs
-  values_even = length-map cells member_seen ∙ sym (length-map cells (λ c. c.sign))
+  values_even = length-map cells member_seen ∙ sym (length-map cells sign_seen)
 
   bases_even : length (row_of cells).bases ≡ length (row_of cells).signs
-  bases_even = length-map cells (λ c. c.is_base) ∙ sym (length-map cells (λ c. c.sign))
+  bases_even = length-map cells base_seen ∙ sym (length-map cells sign_seen)
 
   -- the row of a store's cells
   pub is_row : length cells < 2 ^ 32 → IsRow (row_of cells)
   is_row small = record {
-    small = omega (arith, length-map cells (λ c. c.sign));
+    small = omega (arith, length-map cells sign_seen);
     values = values_even;
     bases = bases_even;
     bare = row_bare cells;

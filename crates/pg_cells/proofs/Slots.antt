@@ -1,11 +1,13 @@
 -- The slot of a sign among slots.
-use Rattle.std.proofs.Common.{◌≡◌, ◌≢◌, ℕ, ◌+◌, ◌<◌, ◌⊎◌, inl, inr, Bool, true, false, cond, nat_eq, List, [], ◌∷◌, ◌++◌, length, take, drop, get_or, Option, None, Some, ◌-◌, refl, sym, ◌∙◌, ap, arith}
+use Rattle.std.proofs.Common.{◌≡◌, ◌≢◌, ℕ, ◌+◌, ◌<◌, ◌⊎◌, inl, inr, Bool, true, false, cond, nat_eq, List, [], ◌∷◌, ◌++◌, length, take, drop, get_or, Option, None, Some, ◌-◌, refl, sym, ◌∙◌, ap, subst, arith}
 use Rattle.std.proofs.lemmas.Bool.{cases_Bool, cases_lt, eq-eqb, eqb-true, both_ways, false≢true, or_cases, or_left, or_right}
 use Rattle.std.proofs.lemmas.List.{take-append-drop, drop_more, take_more, get_or-map}
 use Rattle.std.specs.List.{list_any}
 use Rattle.pg_cells.specs.declared.store.fit.Slot.{Slot}
 use Rattle.pg_cells.specs.Inside.store.Fit.{signs_of, slot_of}
-use Rattle.pg_cells.specs.Inside.families.Moves.{Outside, AreDistinct}
+use Rattle.pg_cells.specs.declared.store.member.Member.{Member}
+use Rattle.pg_cells.specs.Inside.store.Lists.{FitsCell}
+use Rattle.pg_cells.specs.Inside.families.Moves.{AllFit, Outside, AreDistinct}
 
 module _ {V : Type 0} where
   pub slot_front : (xs ys : List (Slot V)) (x : ℕ) (s : Slot V) → slot_of xs x ≡ Some s → slot_of (xs ++ ys) x ≡ Some s
@@ -122,3 +124,13 @@ module _ {V : Type 0} where
 
   pub outside_here : (base : ℕ) (xs : List (Slot V)) (x : ℕ) → slot_of xs x ≡ None → Outside base xs (base + x)
   outside_here base xs x none z e = let same : z ≡ x = omega arith in ap (slot_of xs) same ∙ none
+
+-- a slot whose value has room is added to such slots
+pub fit_push : {V : Type 0} (xs : List (Slot (Member V))) (y : Slot (Member V)) → AllFit xs → FitsCell y.value → AllFit (xs ++ y ∷ [])
+fit_push {V = V} xs y all fits x s e = elim (slot_push xs y x s e) [
+  | inl there ↦ all x s there
+  | inr here ↦ subst (λ (k : Slot (Member V)). FitsCell k.value) (sym here.2) fits
+]
+
+pub fit_none : {V : Type 0} → AllFit {V = V} []
+fit_none x s e = cc

@@ -4,7 +4,7 @@ use Rattle.std.proofs.lemmas.Bool.{cases_eq}
 use Rattle.std.proofs.lemmas.List.{take_at, length-set, length-map, length_push, get_or-set_same, get_or-set_other, get_or_default}
 use Rattle.pg_cells.specs.declared.store.cell.Cell.{Cell}
 use Rattle.pg_cells.specs.declared.store.member.Member.{Member}
-use Rattle.pg_cells.specs.Inside.store.Lists.{Row, Lists, lists, row_of, lone, member_seen, sign_at, IsFree, with_taken, with_free, with_child, with_value, with_more}
+use Rattle.pg_cells.specs.Inside.store.Lists.{sign_seen, Row, Lists, lists, row_of, lone, member_seen, sign_at, IsFree, with_taken, with_free, with_child, with_value, with_more}
 use Rattle.pg_cells.specs.Inside.store.FreeList.{Linked, AreLinked}
 use Rattle.pg_cells.proofs.LinkedLists.{taken_within, not_free}
 use Rattle.pg_cells.specs.Inside.store.Store.{IsTop, IsKept, Extends, how_many, taken_in}
@@ -28,7 +28,7 @@ how_many_le [] = omega arith
 how_many_le (x ∷ xs) = let rest = how_many_le xs in omega arith
 
 pub taken_le : {V : Type 0} (cells : List (Cell V)) → taken_in (row_of cells) ≤ length cells
-taken_le cells = omega (arith, how_many_le (row_of cells).signs, length-map cells (λ c. c.sign))
+taken_le cells = omega (arith, how_many_le (row_of cells).signs, length-map cells sign_seen)
 
 -- nor do the other links of a taken cell
 Linked-beside : (S B A B' : ℕ → ℕ) → Linked S B A → ((j : ℕ) → S j ≡ 0 → B' j ≡ B j) → Linked S B' A
@@ -110,7 +110,7 @@ module _ {V : Type 0} (old new : List (Cell V)) (top taken : ℕ) (kept : IsKept
       signs = ap (λ (x : Row (Member V)). x.signs) e
 
       in_i : i < length (row_of old).signs
-      in_i = omega (arith, length-map old (λ c. c.sign))
+      in_i = omega (arith, length-map old sign_seen)
 
       was : get_or (row_of old).signs i 0 ≡ 0
       was = get_or_default (row_of old).signs i 0 1 in_i ∙ free
@@ -146,7 +146,7 @@ module _ {V : Type 0} (old new : List (Cell V)) (top taken : ℕ) (kept : IsKept
       signs = ap (λ (x : Row (Member V)). x.signs) e
 
       in_i : i < length (row_of old).signs
-      in_i = omega (arith, length-map old (λ c. c.sign))
+      in_i = omega (arith, length-map old sign_seen)
 
       all : (k : ℕ) → sign_at (row_of new) k ≢ 0 → k ≤ r
       all k here = most k (kept.greatest.most k (λ z. here (ap (λ ss. get_or ss k 0) signs ∙ elim (cases_eq k i) [
@@ -194,7 +194,7 @@ module _ {V : Type 0} where
   }
 
 module _ {V : Type 0} where
-  pub kept_extended : (old new : List (Cell V)) (top taken : ℕ) → IsKept old top taken → AreLinked (lists new) → length new < 2 ^ 32 → Extends (row_of old) (row_of new) → IsKept new top taken
+  pub kept_extended : (old new : List (Cell V)) (top taken : ℕ) → IsKept old top taken → AreLinked (lists new) → length new < 2 ^ 29 → Extends (row_of old) (row_of new) → IsKept new top taken
   kept_extended old new top taken kept linked small more = record {
     linked = linked;
     small = small;
@@ -210,8 +210,8 @@ module _ {V : Type 0} where
   pub extended_once : (start : Row (Member V)) (cells new : List (Cell V)) (value : V) → Extends start (row_of cells) → row_of new ≡ with_more (row_of cells) (lone value) → Extends start (row_of new)
   extended_once start cells new value more e = subst (Extends start) (sym e)
       (extends_trans start (row_of cells) (with_more (row_of cells) (lone value)) more
-      (extends_more (row_of cells) (lone value) (length-map cells member_seen ∙ sym (length-map cells (λ c. c.sign)))))
+      (extends_more (row_of cells) (lone value) (length-map cells member_seen ∙ sym (length-map cells sign_seen))))
 
   pub longer_once : (cells new : List (Cell V)) (value : V) → row_of new ≡ with_more (row_of cells) (lone value) → length new ≡ length cells + 1
   longer_once cells new value e =
-      omega (arith, length-map new (λ c. c.sign), length-map cells (λ c. c.sign), length_push (row_of cells).signs 0, ap (λ (r : Row (Member V)). length r.signs) e)
+      omega (arith, length-map new sign_seen, length-map cells sign_seen, length_push (row_of cells).signs 0, ap (λ (r : Row (Member V)). length r.signs) e)

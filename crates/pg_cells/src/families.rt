@@ -10,6 +10,7 @@ ghost use Rattle.pg_cells.specs.Inside.linked.AreValuedFamilies.{AreValuedFamili
 ghost use Rattle.pg_cells.specs.Inside.families.Adding.{AddsSign, CanTakeSign};
 ghost use Rattle.pg_cells.specs.Inside.linked.CellValues.{HasValue, IsTaken, SetsValue};
 ghost use Rattle.pg_cells.specs.Inside.families.Removing.{CanRemoveSign, RemovesSign};
+ghost use Rattle.pg_cells.specs.Inside.store.Lists.{FitsCell};
 ghost use Rattle.pg_cells.specs.Inside.store.Store.{member_code};
 ghost use Rattle.pg_cells.specs.Inside.linked.Members.{ArePassing, IsAlone, HasOther, has_sign};
 ghost use Rattle.pg_cells.specs.Inside.families.OneTrie.{Kept, Kept-prop};
@@ -64,7 +65,8 @@ impl<V: Copy, const FEW: usize> Model for Placed<V, FEW> {
 impl<V: Copy, const FEW: usize> Placed<V, FEW> {
     /// The root family alone, each value `blank`.
     pub fn new(alloc: Global, signs: u16, blank: Member<V>) -> Result<Placed<V, FEW>, AllocError>
-        requires { (1 ≤ signs) × (signs ≤ SIGNS_MAX) }
+        requires signs { (1 ≤ signs) × (signs ≤ SIGNS_MAX) }
+        requires fits { FitsCell blank }
         ensures held { IfOk result (λ c. c ≡ root_held signs blank) }
         ensures kept { IfOk result (λ c. AreValuedFamilies c) }
     {
@@ -114,6 +116,7 @@ impl<V: Copy, const FEW: usize> Placed<V, FEW> {
         requires { IsTaken self.now.families cell }
         ensures base { (q : List ℕ) → cell_of self.now.families q ≡ Some cell →
             HasBase self.now.families q result }
+        ensures few { self.now.signs ≤ SIGNS_MAX }
     {
         self.store.child(cell)
     }
@@ -121,7 +124,8 @@ impl<V: Copy, const FEW: usize> Placed<V, FEW> {
     /// The value of the cell's string.
     pub fn value(&self, cell: usize) -> Member<V>
         requires { IsTaken self.now.families cell }
-        ensures { HasValue self.now cell result }
+        ensures value { HasValue self.now cell result }
+        ensures fits { FitsCell result }
     {
         self.store.value(cell)
     }
@@ -160,6 +164,7 @@ impl<V: Copy, const FEW: usize> Placed<V, FEW> {
         members: &[Sign],
     ) -> Result<usize, AllocError>
         requires can { CanTakeSign self.old.signs self.old.families parent s }
+        requires fits { FitsCell v }
         requires positive { (k : ℕ) → k < length members.now → 0 < slice_index members.now k }
         requires members { (q : List ℕ) → cell_of self.old.families q ≡ Some parent →
             joins_at self.old.families q s ≡ false
@@ -199,7 +204,8 @@ impl<V: Copy, const FEW: usize> Placed<V, FEW> {
 
     /// Gives the cell's string the value.
     pub fn set_value(&mut self, cell: usize, v: Member<V>)
-        requires { IsTaken self.old.families cell }
+        requires taken { IsTaken self.old.families cell }
+        requires fits { FitsCell v }
         ensures { SetsValue self.old self.new cell v }
     {
         self.store.set_value(cell, v);
@@ -207,6 +213,7 @@ impl<V: Copy, const FEW: usize> Placed<V, FEW> {
 
     /// The root family alone, each value `blank`.
     pub fn reset(&mut self, blank: Member<V>)
+        requires { FitsCell blank }
         ensures held { self.new ≡ root_held self.old.signs blank }
         ensures kept { AreValuedFamilies self.new }
     {

@@ -1,7 +1,7 @@
 //! The store: one vector of cells, whose free ones are linked in rising order.
 ghost use Rattle.std.specs.Prelude.{◌≡◌, ◌≢◌, ℕ, ◌+◌, ◌-◌, ◌<◌, ◌≤◌, ◌^◌, true, ◌∷◌, length, slice_get, slice_index, Some, IfOk, OnOk, OnErr};
 ghost use Rattle.pg_types.specs.Inside.Placing.{IsLeast};
-ghost use Rattle.pg_cells.specs.Inside.store.Lists.{lists, row_of, lone, sign_at, child_at, base_at, IsFree};
+ghost use Rattle.pg_cells.specs.Inside.store.Lists.{lists, FitsCell, row_of, lone, sign_at, child_at, base_at, IsFree};
 ghost use Rattle.pg_cells.specs.Inside.store.FreeList.{AreLinked};
 ghost use Rattle.pg_cells.specs.Inside.store.Blocked.{AreBlocked};
 ghost use Rattle.pg_cells.specs.Inside.store.Bounds.{NoneFree};
@@ -72,11 +72,8 @@ impl<V: Copy> Store<V> {
         let mut cells = Vec::with_capacity(alloc, CELLS_AT_FIRST)?;
         cells.push(Cell {
             value,
-            link: 0,
-            next: 0,
-            first: 0,
-            sign: 0,
-            is_base: false,
+            signs: 0,
+            links: 0,
         })?;
         let lows = no_bounds(alloc, signs)?;
         Ok(Store {
@@ -109,7 +106,8 @@ impl<V: Copy> Store<V> {
     /// The value of a taken cell.
     pub fn value(&self, cell: usize) -> Member<V>
         requires { sign_at self.now cell ≢ 0 }
-        ensures { slice_get self.now.values cell ≡ Some result }
+        ensures value { slice_get self.now.values cell ≡ Some result }
+        ensures fits { FitsCell result }
     {
         value_of(self.cells.as_slice(), cell)
     }
@@ -141,7 +139,8 @@ impl<V: Copy> Store<V> {
 
     /// Sets the value of a taken cell.
     pub fn set_value(&mut self, cell: usize, value: Member<V>)
-        requires { sign_at self.old cell ≢ 0 }
+        requires taken { sign_at self.old cell ≢ 0 }
+        requires fits { FitsCell value }
         ensures sets { SetsValue self.old self.new cell value }
         ensures row { IsRow self.new }
     {
@@ -164,6 +163,8 @@ impl<V: Copy> Store<V> {
         requires cell { 0 < cell }
         requires free { IsFree self.old cell }
         requires sign { slot.sign ≢ 0 }
+        requires sign_fits { slot.sign < 2 ^ 11 }
+        requires fits { FitsCell slot.value }
         requires child { slot.child < length self.old.signs }
         ensures takes { Takes self.old self.new cell slot.sign slot.value slot.child }
         ensures row { IsRow self.new }
@@ -307,13 +308,13 @@ fn taken_up_to<V: Copy>(cells: &[Cell<V>], cell: usize) -> usize
 // Adds free cells until there are `count`, as long as an index fits its link.
 fn grow_cells<V: Copy>(cells: &mut Vec<Cell<V>>, count: usize, value: V) -> Result<(), AllocError>
     requires linked { AreLinked (lists cells.old.items) }
-    requires small { length cells.old.items < 2 ^ 32 }
+    requires small { length cells.old.items < 2 ^ 29 }
     ensures linked { AreLinked (lists cells.new.items) }
-    ensures small { length cells.new.items < 2 ^ 32 }
+    ensures small { length cells.new.items < 2 ^ 29 }
     ensures extends { Extends (row_of cells.old.items) (row_of cells.new.items) }
     ensures length { OnOk result (count ≤ length cells.new.items) }
 {
-    if count >= 1 << 32 {
+    if count >= 1 << 29 {
         return Err(AllocError);
     }
     'grow: while cells.len() < count {

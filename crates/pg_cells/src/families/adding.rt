@@ -3,7 +3,7 @@ ghost use Rattle.std.specs.Prelude.{◌≡◌, ℕ, ◌+◌, ◌<◌, ◌≤◌,
 ghost use Rattle.pg_types.specs.Placement.{cell_of, with_sign};
 ghost use Rattle.pg_cells.specs.Inside.linked.ValuedFamilies.{Trie};
 ghost use Rattle.pg_cells.specs.declared.store.member.Member.{Member as MemberOf};
-ghost use Rattle.pg_cells.specs.Inside.store.Lists.{sign_at};
+ghost use Rattle.pg_cells.specs.Inside.store.Lists.{FitsCell, sign_at};
 ghost use Rattle.pg_cells.specs.Inside.store.Store.{Extends, IsRow};
 ghost use Rattle.pg_cells.specs.Inside.families.Layouts.{IsTrie};
 ghost use Rattle.pg_cells.specs.Inside.families.Searches.{search_start};
@@ -42,6 +42,7 @@ pub fn add_slot<V: Copy>(
     requires sign { (1 ≤ slot.sign) × (slot.sign ≤ signs) }
     requires signs { signs ≤ SIGNS_MAX }
     requires child { slot.child ≡ 0 }
+    requires fits { FitsCell slot.value }
     requires positive { (k : ℕ) → k < length members.now → 0 < slice_index members.now k }
     ensures trie { (t : Trie (MemberOf V)) (q : List ℕ) →
         CanAdd signs store.old t q parent slot.sign members.now →

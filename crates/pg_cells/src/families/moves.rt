@@ -5,7 +5,7 @@ ghost use Rattle.pg_cells.specs.declared.store.member.Member.{Member as MemberOf
 ghost use Rattle.pg_cells.specs.Inside.store.Lists.{sign_at, IsFree};
 ghost use Rattle.pg_cells.specs.Inside.store.Fit.{slot_of};
 ghost use Rattle.pg_cells.specs.Inside.linked.Members.{ArePassing};
-ghost use Rattle.pg_cells.specs.Inside.families.Moves.{AreDistinct, GivesUp, Puts, Collected, Collects};
+ghost use Rattle.pg_cells.specs.Inside.families.Moves.{AllFit, AreDistinct, GivesUp, Puts, Collected, Collects};
 
 use crate::store::Store;
 use crate::store::fit::Slot;
@@ -32,6 +32,9 @@ pub fn put<V: Copy>(store: &mut Store<V>, base: usize, slots: &[Slot<Member<V>>]
     requires base { base < 2 ^ 32 }
     requires free { (x : ℕ) (slot : SlotOf (MemberOf V)) → slot_of slots.now x ≡ Some slot →
         (0 < x) × (IsFree store.old (base + x)) × (slot.child < length store.old.signs) }
+    requires sign_fits { (x : ℕ) (slot : SlotOf (MemberOf V)) → slot_of slots.now x ≡ Some slot →
+        x < 2 ^ 11 }
+    requires fits { AllFit slots.now }
     ensures { Puts store.old store.new base slots.now }
 {
     for slot in slots {
@@ -53,6 +56,7 @@ pub fn collect<V: Copy>(
     ensures some { (n : ℕ) → ((i : ℕ) → sign_at store.now i ≤ n) →
         ArePassing (λ x. nat_eq (sign_at store.now (base + x)) x) members.now →
         OnOk result (Collected n store.now base slots.new.items) }
+    ensures fits { OnOk result (AllFit slots.new.items) }
 {
     slots.clear();
     for sign in members {
@@ -70,7 +74,9 @@ fn collect_sign<V: Copy>(
 ) -> Result<(), AllocError>
     requires base { base < 2 ^ 32 }
     requires sign { 0 < sign }
-    ensures { OnOk result (Collects store.now base sign slots.old.items slots.new.items) }
+    ensures collects { OnOk result
+        (Collects store.now base sign slots.old.items slots.new.items) }
+    ensures fits { AllFit slots.old.items → OnOk result (AllFit slots.new.items) }
 {
     let cell = base + sign as usize;
     if store.sign(cell) != sign {

@@ -2,8 +2,9 @@
 ghost use Rattle.std.specs.Prelude.{◌≡◌, ◌≢◌, ℕ, ◌+◌, ◌<◌, ◌≤◌, ◌^◌, max, true, false, ◌∷◌, length, slice_index};
 ghost use Rattle.pg_types.specs.Inside.Placing.{IsLeast};
 ghost use Rattle.pg_cells.specs.Inside.store.Fit.{fits_row, signs_of};
+ghost use Rattle.pg_cells.specs.Inside.store.Lists.{FitsCell};
 ghost use Rattle.pg_cells.specs.Inside.families.Searches.{far_from_top, search_start};
-ghost use Rattle.pg_cells.specs.Inside.families.Moves.{Drops, Moved, CanPlace};
+ghost use Rattle.pg_cells.specs.Inside.families.Moves.{AllFit, Drops, Moved, CanPlace};
 ghost use Rattle.pg_cells.specs.Inside.store.Store.{IsRow};
 
 use crate::families::moves::{give_up, put};
@@ -105,6 +106,8 @@ pub fn place_family<V: Copy>(
     requires row { IsRow store.old }
     requires was { was < length store.old.signs }
     requires signs { signs ≤ SIGNS_MAX }
+    requires fits { FitsCell slot.value }
+    requires all_fit { AllFit slots.now }
     ensures moved { Moved few signs store.old store.new was result slots.now slot parent }
     ensures row { IsRow store.new }
 {

@@ -1,6 +1,6 @@
 //! The links from sign to sign of a family. A family's signs are linked in rising order: the string
 //! that they follow has the first one, and each has the next.
-ghost use Rattle.std.specs.Prelude.{◌≡◌, ◌≢◌, ℕ, ◌<◌, ◌≤◌, ◌⊎◌, ◌&&◌, nat_eq, true, false, length, List, [], ◌∷◌, ◌++◌, Some, None, OnOk, slice_index};
+ghost use Rattle.std.specs.Prelude.{◌≡◌, ◌≢◌, ℕ, ◌<◌, ◌≤◌, ◌^◌, ◌⊎◌, ◌&&◌, nat_eq, true, false, length, List, [], ◌∷◌, ◌++◌, Some, None, OnOk, slice_index};
 ghost use Rattle.pg_types.specs.Placement.{cell_of};
 ghost use Rattle.pg_types.specs.Inside.Placing.{joins_at};
 ghost use Rattle.pg_cells.specs.Inside.linked.AreValuedFamilies.{AreValuedFamilies};
@@ -24,8 +24,9 @@ pub fn sign_after<V: Copy, const FEW: usize>(
     requires links { AreLinks cells.now }
     requires parent { (q : List ℕ) × ((cell_of cells.now.families q ≡ Some parent)
         × (HasBase cells.now.families q base) × ((s ≡ 0) ⊎ (goes_on cells.now.values q s ≡ true))) }
-    ensures { (q : List ℕ) → cell_of cells.now.families q ≡ Some parent
+    ensures next { (q : List ℕ) → cell_of cells.now.families q ≡ Some parent
         → IsNextSign cells.now.values q s result }
+    ensures fits { result < 2 ^ 11 }
 {
     if s == 0 {
         return cells.value(parent).first;
@@ -177,7 +178,8 @@ pub fn is_alone(before: Sign, after: Sign) -> bool
 
 // Makes `to` the first sign of the family below the parent's string.
 fn set_first<V: Copy, const FEW: usize>(cells: &mut Placed<V, FEW>, parent: usize, to: Sign)
-    requires { IsTaken cells.old.families parent }
+    requires taken { IsTaken cells.old.families parent }
+    requires fits { to < 2 ^ 11 }
     ensures linked { (q : List ℕ) → cell_of cells.old.families q ≡ Some parent →
         cells.new ≡ with_link cells.old q 0 to }
     ensures kept { AreValuedFamilies cells.new }
@@ -194,7 +196,8 @@ fn set_first<V: Copy, const FEW: usize>(cells: &mut Placed<V, FEW>, parent: usiz
 
 // Makes `to` the sign behind that of the cell.
 fn set_next<V: Copy, const FEW: usize>(cells: &mut Placed<V, FEW>, cell: usize, to: Sign)
-    requires { IsTaken cells.old.families cell }
+    requires taken { IsTaken cells.old.families cell }
+    requires fits { to < 2 ^ 11 }
     ensures linked { (q : List ℕ) (s : ℕ) → s ≢ 0 →
         cell_of cells.old.families (q ++ s ∷ []) ≡ Some cell →
         cells.new ≡ with_link cells.old q s to }
@@ -209,6 +212,7 @@ pub fn link<V: Copy, const FEW: usize>(cells: &mut Placed<V, FEW>, parent: usize
     requires held { AreValuedFamilies cells.old }
     requires parent { (q : List ℕ) × ((cell_of cells.old.families q ≡ Some parent)
         × ((s ≡ 0) ⊎ (goes_on cells.old.values q s ≡ true))) }
+    requires fits { to < 2 ^ 11 }
     ensures linked { (q : List ℕ) → cell_of cells.old.families q ≡ Some parent →
         cells.new ≡ with_link cells.old q s to }
     ensures kept { AreValuedFamilies cells.new }

@@ -1,60 +1,97 @@
 //! One cell, and the reading and writing of its parts.
-ghost use Rattle.std.specs.Prelude.{◌≡◌, ◌≢◌, ◌<◌, ◌^◌, length, slice_get, set, Some};
-ghost use Rattle.pg_cells.specs.Inside.store.Lists.{lists, pair_of, with_before, with_after, with_child, with_value, with_base, with_taken, with_free, sign_at, IsFree, before_at, after_at, child_at, base_at};
+ghost use Rattle.std.specs.Prelude.{◌≡◌, ◌≢◌, ◌<◌, ◌+◌, ◌*◌, ◌%◌, ◌^◌, length, slice_get, set, Some};
+ghost use Rattle.pg_cells.specs.Inside.store.Lists.{lists, FitsCell, base_in, link_in, with_before, with_after, with_child, with_value, with_base, with_taken, with_free, sign_at, IsFree, before_at, after_at, child_at, base_at};
 
 use crate::store::member::Member;
 use pg_types::Sign;
 
-/// How many numbers half a link has.
-pub const HALF_COUNT: usize = 1 << 16;
+/// How many numbers fit where a cell keeps a sign: each sign, and 0 for none.
+pub const SIGN_COUNT: u32 = 1 << 11;
 
-/// A cell. Sign 0 says that it is free.
+/// Where the sign stands in the first word. Below it is one bit, which says that the cell is taken.
+pub const SIGN_AT: u32 = 1 << 1;
+
+/// Where the next sign stands in the first word.
+pub const NEXT_AT: u32 = 1 << 12;
+
+/// Where the lower part of the first sign stands in the first word.
+pub const FIRST_AT: u32 = 1 << 23;
+
+/// How many numbers fit the lower part of the first sign.
+pub const FIRST_COUNT: u32 = 1 << 9;
+
+/// Where it stands in the second word whether the index is a base. Below it is the upper part of
+/// the first sign.
+pub const BASE_AT: u32 = 1 << 2;
+
+/// Where the link stands in the second word.
+pub const LINK_AT: u32 = 1 << 3;
+
+/// A cell. Its parts beside the value are packed into two words, so that many cells fit a cache.
 ///
-/// A free cell has no next and no first sign. The number of the free cell before it stands there,
-/// in two halves.
+/// A free cell has no next and no first sign. The number of the free cell before it stands there.
 #[derive(Clone, Copy)]
 pub struct Cell<V> {
     /// The value of the string that ends with this cell.
     pub value: V,
-    /// In a taken cell the base of its child family, 0 for none; in a free cell the free cell after
-    /// it, 0 for none.
-    pub link: u32,
-    /// In a taken cell the next sign of its family, 0 for none; in a free cell the upper half of
-    /// the free cell before it.
-    pub next: Sign,
-    /// In a taken cell the first sign of the family below its string, 0 for none; in a free cell
-    /// the lower half of the free cell before it.
-    pub first: Sign,
-    /// The sign of a taken cell, 0 in a free one.
-    pub sign: u16,
-    /// Whether the index of the cell is the base of a family.
-    pub is_base: bool,
+    /// In a taken cell 1, its sign, the next sign of its family, 0 for none, and the lower part of
+    /// the first sign of the family below its string, 0 for none; in a free cell 0 and the free
+    /// cell before it.
+    pub signs: u32,
+    /// The upper part of the first sign, whether the index of the cell is the base of a family, and
+    /// a link. The link of a taken cell is the base of its child family, 0 for none; that of a free
+    /// cell is the free cell after it, 0 for none.
+    pub links: u32,
+}
+
+// The part of the first word above the sign.
+fn upper_signs(next: Sign, first: Sign) -> u32
+    requires { next < 2 ^ 11 }
+    ensures { result ≡ next * NEXT_AT + first % FIRST_COUNT * FIRST_AT }
+{
+    next as u32 * NEXT_AT + first as u32 % FIRST_COUNT * FIRST_AT
+}
+
+// The second word when the index becomes a base, or no base any more.
+fn links_with_base(links: u32, is_base: bool) -> u32
+    ensures base { base_in result ≡ is_base }
+    ensures link { link_in result ≡ link_in links }
+    ensures first { result % BASE_AT ≡ links % BASE_AT }
+{
+    let others = links / LINK_AT * LINK_AT + links % BASE_AT;
+    if is_base { others + BASE_AT } else { others }
 }
 
 pub fn sign_of<V: Copy>(cells: &[Cell<V>], cell: usize) -> u16
     requires { cell < length cells.now }
     ensures { result ≡ sign_at (lists cells.now).row cell }
 {
-    cells[cell].sign
+    let signs = cells[cell].signs;
+    if signs % SIGN_AT == 0 {
+        0
+    } else {
+        (signs / SIGN_AT % SIGN_COUNT) as u16
+    }
 }
 
 pub fn is_base_of<V: Copy>(cells: &[Cell<V>], cell: usize) -> bool
     requires { cell < length cells.now }
     ensures { result ≡ base_at (lists cells.now).row cell }
 {
-    cells[cell].is_base
+    cells[cell].links / BASE_AT % 2 == 1
 }
 
 pub fn value_of<V: Copy>(cells: &[Cell<V>], cell: usize) -> Member<V>
     requires cell { cell < length cells.now }
     requires taken { sign_at (lists cells.now).row cell ≢ 0 }
-    ensures { slice_get (lists cells.now).row.values cell ≡ Some result }
+    ensures value { slice_get (lists cells.now).row.values cell ≡ Some result }
+    ensures fits { FitsCell result }
 {
-    let taken = &cells[cell];
+    let taken = cells[cell];
     Member {
         value: taken.value,
-        next: taken.next,
-        first: taken.first,
+        next: (taken.signs / NEXT_AT % SIGN_COUNT) as Sign,
+        first: (taken.links % BASE_AT * FIRST_COUNT + taken.signs / FIRST_AT % FIRST_COUNT) as Sign,
     }
 }
 
@@ -63,69 +100,69 @@ pub fn child_of<V: Copy>(cells: &[Cell<V>], cell: usize) -> usize
     requires taken { sign_at (lists cells.now).row cell ≢ 0 }
     ensures { result ≡ child_at (lists cells.now).row cell }
 {
-    cells[cell].link as usize
+    (cells[cell].links / LINK_AT) as usize
 }
 
 pub fn before_of<V: Copy>(cells: &[Cell<V>], cell: usize) -> usize
-    requires { cell < length cells.now }
+    requires cell { cell < length cells.now }
+    requires free { IsFree (lists cells.now).row cell }
     ensures { result ≡ before_at (lists cells.now) cell }
 {
-    let upper = cells[cell].next;
-    let lower = cells[cell].first;
-    usize::from(upper) * HALF_COUNT + usize::from(lower)
+    (cells[cell].signs / SIGN_AT) as usize
 }
 
 pub fn after_of<V: Copy>(cells: &[Cell<V>], cell: usize) -> usize
     requires { cell < length cells.now }
     ensures { result ≡ after_at (lists cells.now) cell }
 {
-    cells[cell].link as usize
+    (cells[cell].links / LINK_AT) as usize
 }
 
 pub fn set_before<V: Copy>(cells: &mut [Cell<V>], cell: usize, before: usize)
     requires cell { cell < length cells.old }
     requires free { IsFree (lists cells.old).row cell }
-    requires before { before < 2 ^ 32 }
+    requires before { before < 2 ^ 29 }
     ensures { lists cells.new ≡ with_before (lists cells.old) cell before }
 {
-    let free = &mut cells[cell];
-    free.next = (before / HALF_COUNT) as Sign;
-    free.first = (before % HALF_COUNT) as Sign;
+    cells[cell].signs = before as u32 * SIGN_AT;
 }
 
 pub fn set_after<V: Copy>(cells: &mut [Cell<V>], cell: usize, after: usize)
     requires cell { cell < length cells.old }
     requires free { IsFree (lists cells.old).row cell }
-    requires after { after < 2 ^ 32 }
+    requires after { after < 2 ^ 29 }
     ensures { lists cells.new ≡ with_after (lists cells.old) cell after }
 {
-    cells[cell].link = after as u32;
+    let free = &mut cells[cell];
+    free.links = after as u32 * LINK_AT + free.links % LINK_AT;
 }
 
 pub fn set_child<V: Copy>(cells: &mut [Cell<V>], cell: usize, child: usize)
     requires cell { cell < length cells.old }
     requires taken { sign_at (lists cells.old).row cell ≢ 0 }
-    requires child { child < 2 ^ 32 }
+    requires child { child < 2 ^ 29 }
     ensures { lists cells.new ≡ record (lists cells.old) {
       row = with_child (lists cells.old).row cell child;
       afters = set (lists cells.old).afters cell child;
     } }
 {
-    cells[cell].link = child as u32;
+    let taken = &mut cells[cell];
+    taken.links = child as u32 * LINK_AT + taken.links % LINK_AT;
 }
 
 pub fn set_value<V: Copy>(cells: &mut [Cell<V>], cell: usize, value: Member<V>)
     requires cell { cell < length cells.old }
     requires taken { sign_at (lists cells.old).row cell ≢ 0 }
+    requires fits { FitsCell value }
     ensures { lists cells.new ≡ record (lists cells.old) {
       row = with_value (lists cells.old).row cell value;
-      befores = set (lists cells.old).befores cell (pair_of value.next value.first);
+      befores = set (lists cells.old).befores cell 0;
     } }
 {
     let taken = &mut cells[cell];
     taken.value = value.value;
-    taken.next = value.next;
-    taken.first = value.first;
+    taken.signs = taken.signs % NEXT_AT + upper_signs(value.next, value.first);
+    taken.links = taken.links / BASE_AT * BASE_AT + value.first as u32 / FIRST_COUNT;
 }
 
 pub fn set_base<V: Copy>(cells: &mut [Cell<V>], cell: usize, is_base: bool)
@@ -133,7 +170,8 @@ pub fn set_base<V: Copy>(cells: &mut [Cell<V>], cell: usize, is_base: bool)
     ensures { lists cells.new
         ≡ record (lists cells.old) { row = with_base (lists cells.old).row cell is_base } }
 {
-    cells[cell].is_base = is_base;
+    let held = &mut cells[cell];
+    held.links = links_with_base(held.links, is_base);
 }
 
 pub fn set_taken<V: Copy>(
@@ -145,25 +183,27 @@ pub fn set_taken<V: Copy>(
 )
     requires cell { cell < length cells.old }
     requires sign { sign ≢ 0 }
-    requires child { child < 2 ^ 32 }
+    requires sign_fits { sign < 2 ^ 11 }
+    requires fits { FitsCell value }
+    requires child { child < 2 ^ 29 }
     ensures { lists cells.new ≡ record (lists cells.old) {
       row = with_taken (lists cells.old).row cell sign value child;
-      befores = set (lists cells.old).befores cell (pair_of value.next value.first);
+      befores = set (lists cells.old).befores cell 0;
       afters = set (lists cells.old).afters cell child;
     } }
 {
     let taken = &mut cells[cell];
-    taken.sign = sign;
     taken.value = value.value;
-    taken.next = value.next;
-    taken.first = value.first;
-    taken.link = child as u32;
+    taken.signs = 1 + sign as u32 * SIGN_AT + upper_signs(value.next, value.first);
+    taken.links = child as u32 * LINK_AT
+        + taken.links / BASE_AT % 2 * BASE_AT
+        + value.first as u32 / FIRST_COUNT;
 }
 
 pub fn set_free<V: Copy>(cells: &mut [Cell<V>], cell: usize, before: usize, after: usize)
     requires cell { cell < length cells.old }
-    requires before { before < 2 ^ 32 }
-    requires after { after < 2 ^ 32 }
+    requires before { before < 2 ^ 29 }
+    requires after { after < 2 ^ 29 }
     ensures { lists cells.new ≡ record {
       row = with_free (lists cells.old).row cell;
       befores = set (lists cells.old).befores cell before;
@@ -171,8 +211,6 @@ pub fn set_free<V: Copy>(cells: &mut [Cell<V>], cell: usize, before: usize, afte
     } }
 {
     let free = &mut cells[cell];
-    free.sign = 0;
-    free.next = (before / HALF_COUNT) as Sign;
-    free.first = (before % HALF_COUNT) as Sign;
-    free.link = after as u32;
+    free.signs = before as u32 * SIGN_AT;
+    free.links = after as u32 * LINK_AT + free.links % LINK_AT;
 }

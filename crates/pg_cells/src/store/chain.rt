@@ -1,10 +1,11 @@
 //! The list through the free cells.
 ghost use Rattle.std.specs.Prelude.{◌≡◌, ◌≢◌, ℕ, ◌+◌, ◌-◌, ◌<◌, ◌≤◌, ◌^◌, length, OnOk, OnErr};
-ghost use Rattle.pg_cells.specs.Inside.store.Lists.{lists, with_taken, with_free, with_more, lone, sign_at, IsFree};
+ghost use Rattle.pg_cells.specs.Inside.store.Lists.{lists, FitsCell, with_taken, with_free, with_more, lone, sign_at, IsFree};
 ghost use Rattle.pg_cells.specs.Inside.store.FreeList.{AreLinked, IsFreeTo};
 
 use crate::store::cell::{
-    Cell, after_of, before_of, set_after, set_base, set_before, set_free, set_taken, sign_of,
+    Cell, SIGN_AT, after_of, before_of, set_after, set_base, set_before, set_free, set_taken,
+    sign_of,
 };
 use crate::store::member::Member;
 use std::alloc::AllocError;
@@ -18,11 +19,13 @@ pub fn take_cell<V: Copy>(
     child: usize,
 )
     requires linked { AreLinked (lists cells.old) }
-    requires small { length cells.old < 2 ^ 32 }
+    requires small { length cells.old < 2 ^ 29 }
     requires cell { (0 < cell) × (cell < length cells.old) }
     requires free { IsFree (lists cells.old).row cell }
     requires sign { sign ≢ 0 }
-    requires child { child < 2 ^ 32 }
+    requires sign_fits { sign < 2 ^ 11 }
+    requires fits { FitsCell value }
+    requires child { child < 2 ^ 29 }
     ensures row { (lists cells.new).row ≡ with_taken (lists cells.old).row cell sign value child }
     ensures linked { AreLinked (lists cells.new) }
 {
@@ -36,7 +39,7 @@ pub fn take_cell<V: Copy>(
 /// Puts a taken cell into the list, at its place.
 pub fn free_cell<V: Copy>(cells: &mut [Cell<V>], cell: usize)
     requires linked { AreLinked (lists cells.old) }
-    requires small { length cells.old < 2 ^ 32 }
+    requires small { length cells.old < 2 ^ 29 }
     requires cell { (0 < cell) × (cell < length cells.old) }
     requires taken { sign_at (lists cells.old).row cell ≢ 0 }
     ensures row { (lists cells.new).row ≡ with_free (lists cells.old).row cell }
@@ -82,7 +85,7 @@ fn free_below<V: Copy>(cells: &[Cell<V>], cell: usize) -> usize
 // Puts a cell into the list behind the free cell before it.
 fn put_after<V: Copy>(cells: &mut [Cell<V>], cell: usize, before: usize)
     requires linked { AreLinked (lists cells.old) }
-    requires small { length cells.old < 2 ^ 32 }
+    requires small { length cells.old < 2 ^ 29 }
     requires cell { cell < length cells.old }
     requires taken { sign_at (lists cells.old).row cell ≢ 0 }
     requires before { before < cell }
@@ -120,7 +123,7 @@ fn free_after(cell: usize, last: usize) -> usize
 /// Puts all cells into the list. Their indices are no bases any more.
 pub fn free_all<V: Copy>(cells: &mut [Cell<V>])
     requires some { 0 < length cells.old }
-    requires small { length cells.old < 2 ^ 32 }
+    requires small { length cells.old < 2 ^ 29 }
     ensures size { length cells.new ≡ length cells.old }
     ensures free { IsFreeTo (length cells.old - 1) (length cells.old) (lists cells.new) }
     ensures linked { AreLinked (lists cells.new) }
@@ -135,7 +138,7 @@ pub fn free_all<V: Copy>(cells: &mut [Cell<V>])
 /// Adds a free cell at the end.
 pub fn push_cell<V: Copy>(cells: &mut Vec<Cell<V>>, value: V) -> Result<(), AllocError>
     requires linked { AreLinked (lists cells.old.items) }
-    requires small { length cells.old.items + 1 < 2 ^ 32 }
+    requires small { length cells.old.items + 1 < 2 ^ 29 }
     ensures row { OnOk result
         ((lists cells.new.items).row ≡ with_more (lists cells.old.items).row (lone value)) }
     ensures linked { AreLinked (lists cells.new.items) }
@@ -143,11 +146,8 @@ pub fn push_cell<V: Copy>(cells: &mut Vec<Cell<V>>, value: V) -> Result<(), Allo
 {
     cells.push(Cell {
         value,
-        link: 0,
-        next: 0,
-        first: 0,
-        sign: 1,
-        is_base: false,
+        signs: 1 + SIGN_AT,
+        links: 0,
     })?;
     put_last(cells.as_mut_slice());
     Ok(())
@@ -156,7 +156,7 @@ pub fn push_cell<V: Copy>(cells: &mut Vec<Cell<V>>, value: V) -> Result<(), Allo
 // Puts the last cell into the list.
 fn put_last<V: Copy>(cells: &mut [Cell<V>])
     requires linked { AreLinked (lists cells.old) }
-    requires small { length cells.old < 2 ^ 32 }
+    requires small { length cells.old < 2 ^ 29 }
     requires cell { 1 < length cells.old }
     requires taken { sign_at (lists cells.old).row (length cells.old - 1) ≢ 0 }
     ensures row { (lists cells.new).row ≡ with_free (lists cells.old).row (length cells.old - 1) }

@@ -7,7 +7,7 @@ use Rattle.pg_cells.proofs.store.grow_cells.Given as goal
 abbrev pub invariant-grow : goal.invariant-grow
 invariant-grow g l = record {
   linked : AreLinked (lists l.cells.items);
-  small : length l.cells.items < 2 ^ 32;
+  small : length l.cells.items < 2 ^ 29;
   extends : Extends (row_of l.initial.cells.items) (row_of l.cells.items);
 }
 

@@ -1,7 +1,8 @@
 -- What a family's cells leave when they are collected, given up and put at another base.
 use Rattle.std.specs.Prelude.{◌≡◌, ◌≢◌, ℕ, ◌+◌, ◌<◌, ◌≤◌, ◌⊎◌, max, true, false, List, [], ◌∷◌, ◌++◌, length, take, get_or, slice_get, None, Some}
 use Rattle.pg_cells.specs.declared.store.fit.Slot.{Slot}
-use Rattle.pg_cells.specs.Inside.store.Lists.{Row, sign_at, child_at, base_at}
+use Rattle.pg_cells.specs.declared.store.member.Member.{Member}
+use Rattle.pg_cells.specs.Inside.store.Lists.{Row, FitsCell, sign_at, child_at, base_at}
 use Rattle.pg_types.specs.Inside.Placing.{IsLeast}
 use Rattle.pg_cells.specs.Inside.store.Store.{taken_in, IsTop}
 use Rattle.pg_cells.specs.Inside.families.Searches.{search_start}
@@ -14,6 +15,10 @@ module _ {V : Type 0} where
   abbrev pub AreDistinct : List (Slot V) → Type 0
   AreDistinct slots = (k : ℕ) → k < length slots
       → slot_of (take k slots) (get_or (signs_of slots) k 0) ≡ None
+
+  -- the value of each slot has room in a cell
+  abbrev pub AllFit : List (Slot (Member V)) → Type 0
+  AllFit slots = (x : ℕ) (k : Slot (Member V)) → slot_of slots x ≡ Some k → FitsCell k.value
 
   -- the cell is none of those that the slots have at the base
   abbrev pub Outside : ℕ → List (Slot V) → ℕ → Type 0

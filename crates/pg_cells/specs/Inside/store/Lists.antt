@@ -1,7 +1,7 @@
 -- The parts of the cells, each as a list by the cells' indices.
-use Rattle.std.specs.Prelude.{◌≡◌, ℕ, ◌+◌, ◌*◌, Bool, false, if◌then◌else◌, nat_eq, List, [], ◌∷◌, ◌++◌, map, set, get_or, zero, suc}
+use Rattle.std.specs.Prelude.{◌≡◌, ℕ, ◌+◌, ◌*◌, ◌/◌, ◌%◌, ◌^◌, ◌<◌, Bool, false, if◌then◌else◌, nat_eq, List, [], ◌∷◌, ◌++◌, map, set, get_or, zero, suc}
 use Rattle.pg_cells.specs.declared.store.cell.Cell.{Cell}
-use Rattle.pg_cells.specs.declared.store.cell.TheConstants.{HALF_COUNT}
+use Rattle.pg_cells.specs.declared.store.cell.TheConstants.{SIGN_COUNT, SIGN_AT, NEXT_AT, FIRST_AT, FIRST_COUNT, BASE_AT, LINK_AT}
 use Rattle.pg_cells.specs.declared.store.member.Member.{Member}
 
 -- what families see of the cells: signs, bases of child families, values, and which bases are taken
@@ -17,9 +17,25 @@ pub record Lists (V : Type 0) : Type 0 where
   pub befores : List ℕ
   pub afters : List ℕ
 
--- the number that has these two halves
-abbrev pub pair_of : ℕ → ℕ → ℕ
-pair_of high low = high * HALF_COUNT + low
+-- the sign in the first word of a cell; 0 in that of a free cell
+abbrev pub sign_in : ℕ → ℕ
+sign_in signs = if nat_eq (signs % SIGN_AT) 0 then 0 else signs / SIGN_AT % SIGN_COUNT
+
+-- the next sign in the first word of a taken cell
+abbrev pub next_in : ℕ → ℕ
+next_in signs = signs / NEXT_AT % SIGN_COUNT
+
+-- the first sign in the two words of a taken cell
+abbrev pub first_in : ℕ → ℕ → ℕ
+first_in signs links = links % BASE_AT * FIRST_COUNT + signs / FIRST_AT % FIRST_COUNT
+
+-- whether the second word of a cell says that its index is a base
+abbrev pub base_in : ℕ → Bool
+base_in links = nat_eq (links / BASE_AT % 2) 1
+
+-- the link in the second word of a cell
+abbrev pub link_in : ℕ → ℕ
+link_in links = links / LINK_AT
 
 module _ {V : Type 0} where
   -- the sign in a cell; 0 in a free cell, and past the end
@@ -46,9 +62,25 @@ module _ {V : Type 0} where
   abbrev pub after_at : Lists V → ℕ → ℕ
   after_at ls cell = get_or ls.afters cell 0
 
+  -- the sign of a cell; 0 in a free one
+  abbrev pub sign_seen : Cell V → ℕ
+  sign_seen c = sign_in c.signs
+
+  -- whether the index of the cell is a base
+  abbrev pub base_seen : Cell V → Bool
+  base_seen c = base_in c.links
+
+  -- the link of a cell
+  abbrev pub link_seen : Cell V → ℕ
+  link_seen c = link_in c.links
+
   -- the base of the child family; a free cell has none, since its link is to a free cell
   abbrev pub child_seen : Cell V → ℕ
-  child_seen c = if nat_eq c.sign 0 then 0 else c.link
+  child_seen c = if nat_eq (sign_seen c) 0 then 0 else link_seen c
+
+  -- the next and the first sign have room in a cell
+  abbrev pub FitsCell : Member V → Type 0
+  FitsCell m = (m.next < 2 ^ 11) × (m.first < 2 ^ 11)
 
   -- a value without links
   abbrev pub lone : V → Member V
@@ -62,20 +94,20 @@ module _ {V : Type 0} where
 
   -- a free cell has no links of a family
   abbrev pub member_seen : Cell V → Member V
-  member_seen c = if nat_eq c.sign 0 then lone c.value
-      else record { value = c.value; next = c.next; first = c.first }
+  member_seen c = if nat_eq (sign_seen c) 0 then lone c.value
+      else record { value = c.value; next = next_in c.signs; first = first_in c.signs c.links }
 
-  -- the number of the free cell before, by its two halves
+  -- the free cell before a free one; 0 for a taken one, which has signs there
   abbrev pub before_seen : Cell V → ℕ
-  before_seen c = pair_of c.next c.first
+  before_seen c = if nat_eq (sign_seen c) 0 then c.signs / SIGN_AT else 0
 
   -- the row of these cells: what the families see of them
   abbrev pub row_of : List (Cell V) → Row (Member V)
   row_of cells = record {
-    signs = map (λ c. c.sign) cells;
+    signs = map sign_seen cells;
     children = map child_seen cells;
     values = map member_seen cells;
-    bases = map (λ c. c.is_base) cells;
+    bases = map base_seen cells;
   }
 
   -- the row of these cells, and the links of the free ones
@@ -83,7 +115,7 @@ module _ {V : Type 0} where
   lists cells = record {
     row = row_of cells;
     befores = map before_seen cells;
-    afters = map (λ c. c.link) cells;
+    afters = map link_seen cells;
   }
 
   -- the lists when `before` is set as the free cell before a cell

@@ -45,7 +45,7 @@ module _ {V : Type 0} where
   -- the free cells are linked, `top` is the greatest taken cell, and `taken` cells are taken
   pub record IsKept (cells : List (Cell V)) (top taken : ℕ) : Type 0 where
     pub linked : AreLinked (lists cells)
-    pub small : length cells < 2 ^ 32
+    pub small : length cells < 2 ^ 29
     pub greatest : IsTop (row_of cells).signs top
     pub count : taken ≡ taken_in (row_of cells)
 

@@ -73,3 +73,6 @@ add_slot-requires-clause-child g c = refl
 
 pub add_slot-requires-clause-positive : goal.add_slot-requires-clause-positive
 add_slot-requires-clause-positive g c = c.requires.positive
+
+pub add_slot-requires-clause-fits : goal.add_slot-requires-clause-fits
+add_slot-requires-clause-fits g c = c.requires.fits

@@ -23,21 +23,21 @@ pub invariant_of-result : goal.invariant_of-result
 invariant_of-result g c = (
   (
     record { families = root c.args.signs; values = map (λ x. (x ∷ [], c.args.blank)) (range_with_len 1 c.args.signs) },
-    ∣ root_trie c.args.blank c.args.signs c.take_root.new.store c.set_base.new.self c.requires.0 c.take_root.ensures.root_to c.set_base.ensures.sets ∣₁,
+    ∣ root_trie c.args.blank c.args.signs c.take_root.new.store c.set_base.new.self c.requires.signs.0 c.take_root.ensures.root_to c.set_base.ensures.sets ∣₁,
   ),
   tt,
 )
 
 pub invariant_of-result-2 : goal.invariant_of-result-2
 invariant_of-result-2 g c =
-    let trie = root_trie c.args.blank c.args.signs c.take_root.new.store c.set_base.new.self c.requires.0 c.take_root.ensures.root_to c.set_base.ensures.sets in
+    let trie = root_trie c.args.blank c.args.signs c.take_root.new.store c.set_base.new.self c.requires.signs.0 c.take_root.ensures.root_to c.set_base.ensures.sets in
     let all : (d : Kept c.args.signs c.set_base.new.self) → AreKept c.args.signs c.set_base.new.self d.0 =
-    λ d. record { row = c.set_base.ensures.row; trie = held_is_kept (member_code g.row.V.coded) c.args.signs c.set_base.new.self d _ trie; some = c.requires.0; few = c.requires.1 } in
+    λ d. record { row = c.set_base.ensures.row; trie = held_is_kept (member_code g.row.V.coded) c.args.signs c.set_base.new.self d _ trie; some = c.requires.signs.0; few = c.requires.signs.1 } in
     search all
 
 pub returns-clause-held : goal.returns-clause-held
 returns-clause-held g c =
-    let trie = root_trie c.args.blank c.args.signs c.take_root.new.store c.set_base.new.self c.requires.0 c.take_root.ensures.root_to c.set_base.ensures.sets in
+    let trie = root_trie c.args.blank c.args.signs c.take_root.new.store c.set_base.new.self c.requires.signs.0 c.take_root.ensures.root_to c.set_base.ensures.sets in
     let all : (d : Kept c.args.signs c.set_base.new.self) → ◌≡◌ {A = ValuedFamilies (Member g.row.V.Denot)} (record { signs = c.args.signs; families = d.0.families; values = d.0.values })
     (root_held c.args.signs c.args.blank) =
     λ d. ap (λ (t : Trie (Member g.row.V.Denot)). record { signs = c.args.signs; families = t.families; values = t.values })
@@ -46,13 +46,13 @@ returns-clause-held g c =
 
 pub returns-clause-kept : goal.returns-clause-kept
 returns-clause-kept g c =
-    let trie = root_trie c.args.blank c.args.signs c.take_root.new.store c.set_base.new.self c.requires.0 c.take_root.ensures.root_to c.set_base.ensures.sets in
+    let trie = root_trie c.args.blank c.args.signs c.take_root.new.store c.set_base.new.self c.requires.signs.0 c.take_root.ensures.root_to c.set_base.ensures.sets in
     let all : (d : Kept c.args.signs c.set_base.new.self) → AreValuedFamilies (record { signs = c.args.signs; families = d.0.families; values = d.0.values }) =
     λ d. is_held c.args.signs c.set_base.new.self d.0 (held_is_kept (member_code g.row.V.coded) c.args.signs c.set_base.new.self d _ trie) c.set_base.ensures.row.values in
     search all
 
 pub overflow_add-signs : goal.overflow_add-signs
-overflow_add-signs g c = let few = c.requires.1 in record { fits = omega arith }
+overflow_add-signs g c = let few = c.requires.signs.1 in record { fits = omega arith }
 
 pub same-store : goal.same-store
 same-store g c = refl
@@ -61,7 +61,10 @@ pub take_root-requires-clause-length : goal.take_root-requires-clause-length
 take_root-requires-clause-length g c = let long = c.in_ok-grow.ensures.length in omega arith
 
 pub take_root-requires-clause-signs : goal.take_root-requires-clause-signs
-take_root-requires-clause-signs g c = c.requires.1
+take_root-requires-clause-signs g c = c.requires.signs.1
 
 pub set_base-requires : goal.set_base-requires
 set_base-requires g c = let long = c.in_ok-grow.ensures.length in let size = c.take_root.ensures.size in omega arith
+
+pub take_root-requires-clause-fits : goal.take_root-requires-clause-fits
+take_root-requires-clause-fits g c = c.requires.fits

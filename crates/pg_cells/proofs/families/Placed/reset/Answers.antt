@@ -69,3 +69,6 @@ take_root-requires-clause-signs g c = c.self.invariant.few
 
 pub set_base-requires : goal.set_base-requires
 set_base-requires g c = let cleared = c.clear.ensures.least in let size = c.take_root.ensures.size in omega arith
+
+pub take_root-requires-clause-fits : goal.take_root-requires-clause-fits
+take_root-requires-clause-fits g c = c.requires

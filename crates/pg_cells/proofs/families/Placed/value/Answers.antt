@@ -11,8 +11,11 @@ pub value-requires : goal.value-requires
 value-requires g c = cell_taken c.self.inside.signs c.self.inside.store c.self.inside.layout.0 c.self.invariant.trie c.requires.0 c.args.cell
     (subst (λ (h : ValuedFamilies (Member g.row.V.Denot)). cell_of h.families c.requires.0 ≡ Some c.args.cell) (sym c.self.view_is) c.requires.1)
 
-pub returns : goal.returns
-returns g c q e =
+pub returns-clause-value : goal.returns-clause-value
+returns-clause-value g c q e =
     subst (λ (h : ValuedFamilies (Member g.row.V.Denot)). find order q h.values ≡ Some c.value.result) c.self.view_is
     (value_is c.self.inside.signs c.self.inside.store c.self.inside.layout.0 c.self.invariant.trie q c.args.cell c.value.result
-    (subst (λ (h : ValuedFamilies (Member g.row.V.Denot)). cell_of h.families q ≡ Some c.args.cell) (sym c.self.view_is) e) c.value.ensures)
+    (subst (λ (h : ValuedFamilies (Member g.row.V.Denot)). cell_of h.families q ≡ Some c.args.cell) (sym c.self.view_is) e) c.value.ensures.value)
+
+pub returns-clause-fits : goal.returns-clause-fits
+returns-clause-fits g c = c.value.ensures.fits

@@ -19,5 +19,5 @@ returns-else-sign-eq0-clause-some g c =
       there.0,
       subst (λ (h : ValuedFamilies (Member g.row.V.Denot)). cell_of h.families there.0 ≡ Some c.args.cell) c.self.view_is there.1,
       subst (λ (h : ValuedFamilies (Member g.row.V.Denot)). find order there.0 h.values ≡ Some c.value.result) c.self.view_is
-          (value_is c.self.inside.signs c.self.inside.store c.self.inside.layout.0 c.self.invariant.trie there.0 c.args.cell c.value.result there.1 c.value.ensures),
+          (value_is c.self.inside.signs c.self.inside.store c.self.inside.layout.0 c.self.invariant.trie there.0 c.args.cell c.value.result there.1 c.value.ensures.value),
     )

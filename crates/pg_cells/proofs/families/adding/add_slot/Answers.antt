@@ -2,7 +2,7 @@ use Rattle.std.proofs.lemmas.Result.{err_from_is_err_and}
 use Rattle.std.proofs.Common.{◌≡◌, ℕ, ◌+◌, ◌≤◌, nat_eq, [], refl, sym, ◌∙◌, subst, arith}
 use Rattle.pg_cells.specs.Inside.store.Lists.{sign_at, child_at}
 use Rattle.pg_cells.specs.Inside.linked.Members.{ArePassing}
-use Rattle.pg_cells.specs.Inside.families.Moves.{Collected}
+use Rattle.pg_cells.specs.Inside.families.Moves.{AllFit, Collected}
 use Rattle.pg_cells.proofs.AddTrie.{parent_taken, child_within, moved_near}
 use Rattle.pg_cells.proofs.AddedSlot.{joining_free, joining_trie, joining_cell, moving_can, moving_trie, moving_cell}
 use Rattle.pg_cells.proofs.families.adding.add_slot.Goals as goal
@@ -173,3 +173,15 @@ overflow_cast-result g c = let high = c.requires.sign.1 in let few = c.requires.
 
 pub returns-clause-err : goal.returns-clause-err
 returns-clause-err g c = tt
+
+pub take-requires-clause-sign_fits : goal.take-requires-clause-sign_fits
+take-requires-clause-sign_fits g c = let le = c.requires.sign.1 in let few = c.requires.signs in omega arith
+
+pub take-requires-clause-fits : goal.take-requires-clause-fits
+take-requires-clause-fits g c = c.requires.fits
+
+pub place_family-placed-requires-clause-fits : goal.place_family-placed-requires-clause-fits
+place_family-placed-requires-clause-fits g c = c.requires.fits
+
+pub place_family-placed-requires-clause-all_fit : goal.place_family-placed-requires-clause-all_fit
+place_family-placed-requires-clause-all_fit g c = subst AllFit (sym c.as_slice-slots.ensures.value) c.in_ok-collect.ensures.fits

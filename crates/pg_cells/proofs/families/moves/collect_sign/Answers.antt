@@ -1,11 +1,18 @@
-use Rattle.std.proofs.Common.{inr, refl, sym, ◌∙◌}
+use Rattle.std.proofs.Common.{inr, refl, sym, subst, ◌∙◌}
+use Rattle.pg_cells.specs.Inside.families.Moves.{AllFit}
+use Rattle.pg_cells.proofs.Slots.{fit_push}
 use Rattle.pg_cells.proofs.families.moves.collect_sign.Goals as goal
 
-pub returns : goal.returns
-returns g c =
+pub returns-clause-collects : goal.returns-clause-collects
+returns-clause-collects g c =
     inr (
       record { value = c.value-value.result; child = c.child-child.result; sign = c.args.sign },
-      record { sign = sym c.sign.ensures ∙ c.if-sign.false; child = c.child-child.ensures; value = c.value-value.ensures },
+      record { sign = sym c.sign.ensures ∙ c.if-sign.false; child = c.child-child.ensures; value = c.value-value.ensures.value },
       refl,
       c.in_ok-push.ensures.items,
     )
+
+pub returns-clause-fits : goal.returns-clause-fits
+returns-clause-fits g c all =
+    subst AllFit (sym c.in_ok-push.ensures.items)
+    (fit_push c.args.slots.now.items (record { value = c.value-value.result; child = c.child-child.result; sign = c.args.sign }) all c.value-value.ensures.fits)

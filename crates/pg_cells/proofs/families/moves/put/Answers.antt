@@ -41,3 +41,13 @@ loop-slot-init g c = puts_none c.args.store.now c.args.base
 pub returns : goal.returns
 returns g c =
     subst (Puts c.args.store.now c.loop-slot.store c.args.base) (take_all c.loop-slot.slot-index c.args.slots.now (omega arith)) c.loop-slot.invariant
+
+pub take-requires-clause-sign_fits : goal.take-requires-clause-sign_fits
+take-requires-clause-sign_fits g c =
+    let here = slot_here c.args.slots.now c.loop-slot.slot-index c.slot-item.result c.slot-item.is c.loop-slot-test.true c.requires.distinct in
+    c.requires.sign_fits c.slot-item.result.sign c.slot-item.result here.1
+
+pub take-requires-clause-fits : goal.take-requires-clause-fits
+take-requires-clause-fits g c =
+    let here = slot_here c.args.slots.now c.loop-slot.slot-index c.slot-item.result c.slot-item.is c.loop-slot-test.true c.requires.distinct in
+    c.requires.fits c.slot-item.result.sign c.slot-item.result here.1

@@ -162,3 +162,17 @@ overflow_add-base g c =
     let few = c.requires.signs in
     let small = c.requires.row.small in
     record { fits = omega arith }
+
+pub put-requires-clause-sign_fits : goal.put-requires-clause-sign_fits
+put-requires-clause-sign_fits g c x slot at =
+    let le = (c.requires.can.stand x slot at).1 in
+    let few = c.requires.signs in omega arith
+
+pub put-requires-clause-fits : goal.put-requires-clause-fits
+put-requires-clause-fits g c = c.requires.all_fit
+
+pub take-requires-clause-sign_fits : goal.take-requires-clause-sign_fits
+take-requires-clause-sign_fits g c = let le = c.requires.can.sign.1 in let few = c.requires.signs in omega arith
+
+pub take-requires-clause-fits : goal.take-requires-clause-fits
+take-requires-clause-fits g c = c.requires.fits

@@ -30,3 +30,9 @@ returns-clause-root_to g c = let at : c.loop-sign.sign ≡ c.args.signs + 1 = om
 
 pub returns-clause-size : goal.returns-clause-size
 returns-clause-size g c = c.loop-sign.invariant.size
+
+pub take-requires-clause-sign_fits : goal.take-requires-clause-sign_fits
+take-requires-clause-sign_fits g c = let few = c.requires.signs in omega arith
+
+pub take-requires-clause-fits : goal.take-requires-clause-fits
+take-requires-clause-fits g c = c.requires.fits

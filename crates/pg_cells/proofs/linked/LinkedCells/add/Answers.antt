@@ -35,13 +35,16 @@ link-requires g c =
       (
         c.in_ok-cell.ensures.kept,
         (
-          can.prefix,
           (
-            prefix_added g.row.FEW h c.add.new.self c.add.new.self c.self.invariant c.args.parent c.args.s can c.sign_before-before.result (c.sign_before-before.ensures can.prefix can.at)
-                c.sign_after-after.result (c.sign_after-after.ensures can.prefix can.at) c.args.v c.in_ok-cell.cell c.in_ok-cell.ensures,
-            before_added g.row.FEW h c.add.new.self c.add.new.self c.self.invariant c.args.parent c.args.s can c.sign_before-before.result (c.sign_before-before.ensures can.prefix can.at)
-                c.sign_after-after.result (c.sign_after-after.ensures can.prefix can.at) c.args.v c.in_ok-cell.cell c.in_ok-cell.ensures,
+            can.prefix,
+            (
+              prefix_added g.row.FEW h c.add.new.self c.add.new.self c.self.invariant c.args.parent c.args.s can c.sign_before-before.result (c.sign_before-before.ensures can.prefix can.at)
+                  c.sign_after-after.result (c.sign_after-after.ensures.next can.prefix can.at) c.args.v c.in_ok-cell.cell c.in_ok-cell.ensures,
+              before_added g.row.FEW h c.add.new.self c.add.new.self c.self.invariant c.args.parent c.args.s can c.sign_before-before.result (c.sign_before-before.ensures can.prefix can.at)
+                  c.sign_after-after.result (c.sign_after-after.ensures.next can.prefix can.at) c.args.v c.in_ok-cell.cell c.in_ok-cell.ensures,
+            ),
           ),
+          let high = can.high in let few = c.child-base.ensures.few in omega arith,
         ),
       ),
     )
@@ -52,7 +55,7 @@ invariant_of-self-2 g c =
     let can : CanTakeSign h.signs h.families c.args.parent c.args.s =
     subst (λ (k : ValuedFamilies g.row.V.Denot). CanTakeSign k.signs k.families c.args.parent c.args.s) (sym c.self.view_is) c.requires in
     links_of_added g.row.FEW h c.add.new.self c.link.new.cells c.self.invariant c.args.parent c.args.s can c.sign_before-before.result (c.sign_before-before.ensures can.prefix can.at)
-    c.sign_after-after.result (c.sign_after-after.ensures can.prefix can.at) c.args.v c.in_ok-cell.cell c.in_ok-cell.ensures
+    c.sign_after-after.result (c.sign_after-after.ensures.next can.prefix can.at) c.args.v c.in_ok-cell.cell c.in_ok-cell.ensures
     c.link.ensures.kept c.link.ensures.linked
 
 pub returns : goal.returns
@@ -62,5 +65,5 @@ returns g c =
     subst (λ (k : ValuedFamilies g.row.V.Denot). CanTakeSign k.signs k.families c.args.parent c.args.s) (sym c.self.view_is) c.requires in
     subst (λ (k : ValuedFamilies g.row.V.Denot). AddsSign g.row.FEW k (unlinked c.link.new.cells) c.args.parent c.args.s c.args.v (Ok c.in_ok-cell.cell)) c.self.view_is
     (linked_added g.row.FEW h c.add.new.self c.link.new.cells c.self.invariant c.args.parent c.args.s can c.sign_before-before.result (c.sign_before-before.ensures can.prefix can.at)
-    c.sign_after-after.result (c.sign_after-after.ensures can.prefix can.at) c.args.v c.in_ok-cell.cell c.in_ok-cell.ensures
+    c.sign_after-after.result (c.sign_after-after.ensures.next can.prefix can.at) c.args.v c.in_ok-cell.cell c.in_ok-cell.ensures
     c.link.ensures.kept c.link.ensures.linked)

@@ -11,4 +11,4 @@ returns g c q e =
     let es = c.self.inside.placed.values in
     let at = subst (λ (h : ValuedFamilies g.row.V.Denot). cell_of h.families q ≡ Some c.args.cell) (sym c.self.view_is) e in
     subst (λ (h : ValuedFamilies g.row.V.Denot). IsNextSign h.values q 0 c.value.result.first) c.self.view_is
-    (next_alike (goes_on es q) (goes_on (plain es) q) 0 c.value.result.first (λ z up. goes_plain es q z) (c.self.invariant.first q c.value.result (c.value.ensures q at)))
+    (next_alike (goes_on es q) (goes_on (plain es) q) 0 c.value.result.first (λ z up. goes_plain es q z) (c.self.invariant.first q c.value.result (c.value.ensures.value q at)))

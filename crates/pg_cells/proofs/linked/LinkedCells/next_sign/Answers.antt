@@ -27,4 +27,4 @@ returns-else-cell-from-2 g c p s e =
     let at = subst (λ (k : ValuedFamilies g.row.V.Denot). cell_of k.families (p ++ s ∷ []) ≡ Some c.args.cell) (sym c.self.view_is) e in
     subst (λ (k : ValuedFamilies g.row.V.Denot). IsNextSign k.values p s c.value.result.next) c.self.view_is
     (next_alike (goes_on h.values p) (goes_on (plain h.values) p) s c.value.result.next (λ z up. goes_plain h.values p z)
-    (c.self.invariant.next p s c.value.result (not_root h c.self.invariant.held p s c.args.cell at (omega arith)) (c.value.ensures (p ++ s ∷ []) at)))
+    (c.self.invariant.next p s c.value.result (not_root h c.self.invariant.held p s c.args.cell at (omega arith)) (c.value.ensures.value (p ++ s ∷ []) at)))

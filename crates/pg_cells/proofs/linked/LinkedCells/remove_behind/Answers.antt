@@ -43,7 +43,7 @@ remove-requires g c =
             let before = before_seen h c.args.self.now c.self.view_is q c.args.s c.args.before (c.requires.before q seen) in
             subst (λ b. MatchBool b (IsAlone h.families q c.args.s) (HasOther h.families q c.args.s)) (sym c.is_alone.ensures)
             (alone_told h h h c.self.invariant q c.args.parent e c.args.s up c.args.before before
-            c.sign_after-after.result (c.sign_after-after.ensures q e)),
+            c.sign_after-after.result (c.sign_after-after.ensures.next q e)),
       ),
     )
 
@@ -58,13 +58,16 @@ link-requires g c =
       (
         c.remove.ensures.kept,
         (
-          can.prefix,
           (
-            prefix_left h c.remove.new.self c.remove.new.self c.self.invariant c.args.parent c.args.s can c.args.before before
-                c.sign_after-after.result (c.sign_after-after.ensures can.prefix can.at) c.remove.ensures,
-            before_left h c.remove.new.self c.remove.new.self c.self.invariant c.args.parent c.args.s can c.args.before before
-                c.sign_after-after.result (c.sign_after-after.ensures can.prefix can.at) c.remove.ensures,
+            can.prefix,
+            (
+              prefix_left h c.remove.new.self c.remove.new.self c.self.invariant c.args.parent c.args.s can c.args.before before
+                  c.sign_after-after.result (c.sign_after-after.ensures.next can.prefix can.at) c.remove.ensures,
+              before_left h c.remove.new.self c.remove.new.self c.self.invariant c.args.parent c.args.s can c.args.before before
+                  c.sign_after-after.result (c.sign_after-after.ensures.next can.prefix can.at) c.remove.ensures,
+            ),
           ),
+          c.sign_after-after.ensures.fits,
         ),
       ),
     )
@@ -77,7 +80,7 @@ invariant_of-self g c =
     let before = before_seen h c.args.self.now c.self.view_is can.prefix c.args.s c.args.before (c.requires.before can.prefix
     (subst (λ (k : ValuedFamilies g.row.V.Denot). cell_of k.families can.prefix ≡ Some c.args.parent) c.self.view_is can.at)) in
     links_of_left h c.remove.new.self c.link.new.cells c.self.invariant c.args.parent c.args.s can c.args.before before
-    c.sign_after-after.result (c.sign_after-after.ensures can.prefix can.at) c.remove.ensures c.link.ensures.kept c.link.ensures.linked
+    c.sign_after-after.result (c.sign_after-after.ensures.next can.prefix can.at) c.remove.ensures c.link.ensures.kept c.link.ensures.linked
 
 pub returns : goal.returns
 returns g c =
@@ -88,4 +91,4 @@ returns g c =
     (subst (λ (k : ValuedFamilies g.row.V.Denot). cell_of k.families can.prefix ≡ Some c.args.parent) c.self.view_is can.at)) in
     subst (λ (k : ValuedFamilies g.row.V.Denot). RemovesSign k (unlinked c.link.new.cells) c.args.parent c.args.s) c.self.view_is
     (linked_removed h c.remove.new.self c.link.new.cells c.self.invariant c.args.parent c.args.s can c.args.before before
-    c.sign_after-after.result (c.sign_after-after.ensures can.prefix can.at) c.remove.ensures c.link.ensures.kept c.link.ensures.linked)
+    c.sign_after-after.result (c.sign_after-after.ensures.next can.prefix can.at) c.remove.ensures c.link.ensures.kept c.link.ensures.linked)

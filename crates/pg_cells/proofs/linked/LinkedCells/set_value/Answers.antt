@@ -13,7 +13,7 @@ pub invariant_of-self : goal.invariant_of-self
 invariant_of-self g c =
     let at = subst (λ (h : ValuedFamilies g.row.V.Denot). cell_of h.families c.requires.0 ≡ Some c.args.cell) (sym c.self.view_is) c.requires.1 in
     let m = c.value-member.result in
-    links_valued c.self.inside.placed c.set_value.new.self c.self.invariant c.set_value.ensures.kept c.requires.0 m (record m { value = c.args.v }) (c.value-member.ensures c.requires.0 at)
+    links_valued c.self.inside.placed c.set_value.new.self c.self.invariant c.set_value.ensures.kept c.requires.0 m (record m { value = c.args.v }) (c.value-member.ensures.value c.requires.0 at)
     (ap (λ (h : ValuedFamilies (Member g.row.V.Denot)). h.values) (c.set_value.ensures.held c.requires.0 at)) refl refl
 
 pub returns : goal.returns
@@ -30,4 +30,7 @@ pub value-member-requires : goal.value-member-requires
 value-member-requires g c = (omega arith, (c.requires.0, subst (λ (k : ValuedFamilies g.row.V.Denot). cell_of k.families c.requires.0 ≡ Some c.args.cell) (sym c.self.view_is) c.requires.1))
 
 pub set_value-requires : goal.set_value-requires
-set_value-requires g c = (omega arith, (c.requires.0, subst (λ (k : ValuedFamilies g.row.V.Denot). cell_of k.families c.requires.0 ≡ Some c.args.cell) (sym c.self.view_is) c.requires.1))
+set_value-requires g c = (
+  omega arith,
+  ((c.requires.0, subst (λ (k : ValuedFamilies g.row.V.Denot). cell_of k.families c.requires.0 ≡ Some c.args.cell) (sym c.self.view_is) c.requires.1), c.value-member.ensures.fits),
+)

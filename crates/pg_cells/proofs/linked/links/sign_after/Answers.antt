@@ -5,8 +5,8 @@ use Rattle.pg_cells.specs.Inside.linked.Members.{goes_on, IsNextSign}
 use Rattle.pg_cells.proofs.LinkLaws.{some_string, some_base, none_goes_on, goes_cell}
 use Rattle.pg_cells.proofs.linked.links.sign_after.Goals as goal
 
-pub returns-then-base-eq0 : goal.returns-then-base-eq0
-returns-then-base-eq0 g c q e =
+pub returns-then-base-eq0-clause-next : goal.returns-then-base-eq0-clause-next
+returns-then-base-eq0-clause-next g c q e =
     let h = c.args.cells.now in
     elim c.requires.parent.1.2 [
       | inl z ↦ absurd (c.if-s-eq0.false z)
@@ -14,18 +14,18 @@ returns-then-base-eq0 g c q e =
           (none_goes_on h c.requires.links.held c.requires.parent.0 c.args.base c.requires.parent.1.1 c.if-base-eq0.true c.args.s) there)
     ]
 
-pub returns-in-Some : goal.returns-in-Some
-returns-in-Some g c q e =
+pub returns-in-Some-clause-next : goal.returns-in-Some-clause-next
+returns-in-Some-clause-next g c q e =
     let h = c.args.cells.now in
     let same : c.requires.parent.0 ≡ q = c.requires.links.held.apart c.requires.parent.0 q c.args.parent c.requires.parent.1.0 e in
     let has = some_base h.families c.requires.parent.0 c.args.base c.requires.parent.1.1 c.if-base-eq0.false in
     let at : cell_of h.families (c.requires.parent.0 ++ c.args.s ∷ []) ≡ Some c.in-Some.cell = sym (c.in-Some.ensures.cell c.requires.parent.0 has) in
     subst (λ p. IsNextSign h.values p c.args.s c.value-in-Some.result.next) same
     (c.requires.links.next c.requires.parent.0 c.args.s c.value-in-Some.result (some_string h.families c.requires.parent.0 c.args.parent c.requires.parent.1.0)
-    (c.value-in-Some.ensures (c.requires.parent.0 ++ c.args.s ∷ []) at))
+    (c.value-in-Some.ensures.value (c.requires.parent.0 ++ c.args.s ∷ []) at))
 
-pub returns-in-None : goal.returns-in-None
-returns-in-None g c q e =
+pub returns-in-None-clause-next : goal.returns-in-None-clause-next
+returns-in-None-clause-next g c q e =
     let h = c.args.cells.now in
     let has = some_base h.families c.requires.parent.0 c.args.base c.requires.parent.1.1 c.if-base-eq0.false in
     elim c.requires.parent.1.2 [

@@ -8,7 +8,7 @@ pub loop-next-init : goal.loop-next-init
 loop-next-init g c = let up = c.requires.sign.0 in record {
   less = omega arith;
   under = omega arith;
-  next = λ q e. (c.sign_after-next.ensures q e, inl refl);
+  next = λ q e. (c.sign_after-next.ensures.next q e, inl refl);
   free = λ q e z late lt. absurd (omega arith);
 }
 
@@ -20,7 +20,7 @@ loop-next-preserved g c =
     record {
       less = omega arith;
       under = omega arith;
-      next = λ q e. (c.sign_after-next-in-loop-next.ensures q e, inr ((c.loop-next.invariant.next q e).0.found (omega arith)).1);
+      next = λ q e. (c.sign_after-next-in-loop-next.ensures.next q e, inr ((c.loop-next.invariant.next q e).0.found (omega arith)).1);
       free = λ q e.
           let fs = c.args.cells.now.families in
           let same : c.requires.parent.0 ≡ q = c.requires.links.held.apart c.requires.parent.0 q c.args.parent c.requires.parent.1.0 e in

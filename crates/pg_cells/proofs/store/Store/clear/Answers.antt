@@ -1,7 +1,7 @@
 use Rattle.std.proofs.Common.{◌≡◌, ◌≤◌, ◌-◌, ◌∙◌, ap, sym, subst, length, map, arith}
 use Rattle.std.proofs.lemmas.List.{length-map}
 use Rattle.pg_cells.specs.declared.store.member.Member.{Member}
-use Rattle.pg_cells.specs.Inside.store.Lists.{Row, lists}
+use Rattle.pg_cells.specs.Inside.store.Lists.{sign_seen, Row, lists}
 use Rattle.pg_cells.specs.Inside.store.FreeList.{IsFreeTo}
 use Rattle.pg_cells.proofs.AllFree.{cut_long, free_store, free_root}
 use Rattle.pg_cells.proofs.RowWrites.{is_row}
@@ -10,22 +10,22 @@ use Rattle.pg_cells.proofs.store.Store.clear.Goals as goal
 
 pub free_all-requires : goal.free_all-requires
 free_all-requires g c =
-    let within : c.args.least ≤ length (map (λ x. x.sign) c.self.inside.cells.items) =
+    let within : c.args.least ≤ length (map sign_seen c.self.inside.cells.items) =
     subst (λ (r : Row (Member g.row.V.Denot)). c.args.least ≤ length r.signs) (sym c.self.view_is) c.requires.within in
     let long =
     cut_long c.self.inside.cells.items c.shrink_to.new.self.items c.max-count.result c.args.least (omega arith)
-    (omega (arith, length-map c.self.inside.cells.items (λ x. x.sign))) (c.shrink_to.ensures.items ∙ c.truncate.ensures.items) in
+    (omega (arith, length-map c.self.inside.cells.items sign_seen)) (c.shrink_to.ensures.items ∙ c.truncate.ensures.items) in
     let seen : length c.as_mut_slice.result.now ≡ length c.shrink_to.new.self.items = ap length c.as_mut_slice.ensures.value in
     let small = c.self.invariant.kept.small in
     record { some = omega arith; small = omega arith }
 
 pub invariant_of-self : goal.invariant_of-self
 invariant_of-self g c =
-    let within : c.args.least ≤ length (map (λ x. x.sign) c.self.inside.cells.items) =
+    let within : c.args.least ≤ length (map sign_seen c.self.inside.cells.items) =
     subst (λ (r : Row (Member g.row.V.Denot)). c.args.least ≤ length r.signs) (sym c.self.view_is) c.requires.within in
     let long =
     cut_long c.self.inside.cells.items c.shrink_to.new.self.items c.max-count.result c.args.least (omega arith)
-    (omega (arith, length-map c.self.inside.cells.items (λ x. x.sign))) (c.shrink_to.ensures.items ∙ c.truncate.ensures.items) in
+    (omega (arith, length-map c.self.inside.cells.items sign_seen)) (c.shrink_to.ensures.items ∙ c.truncate.ensures.items) in
     let seen : length c.as_mut_slice.result.now ≡ length c.shrink_to.new.self.items = ap length c.as_mut_slice.ensures.value in
     let size : length c.free_all.new.cells ≡ c.shrink_to.new.self.len = omega arith in
     let back = given_back c.free_all.new.cells c.shrink_to.new.self.items c.shrink_to.new.self.len size in
@@ -37,18 +37,18 @@ invariant_of-self g c =
 
 pub returns : goal.returns
 returns g c =
-    let within : c.args.least ≤ length (map (λ x. x.sign) c.self.inside.cells.items) =
+    let within : c.args.least ≤ length (map sign_seen c.self.inside.cells.items) =
     subst (λ (r : Row (Member g.row.V.Denot)). c.args.least ≤ length r.signs) (sym c.self.view_is) c.requires.within in
     let long =
     cut_long c.self.inside.cells.items c.shrink_to.new.self.items c.max-count.result c.args.least (omega arith)
-    (omega (arith, length-map c.self.inside.cells.items (λ x. x.sign))) (c.shrink_to.ensures.items ∙ c.truncate.ensures.items) in
+    (omega (arith, length-map c.self.inside.cells.items sign_seen)) (c.shrink_to.ensures.items ∙ c.truncate.ensures.items) in
     let seen : length c.as_mut_slice.result.now ≡ length c.shrink_to.new.self.items = ap length c.as_mut_slice.ensures.value in
     let size : length c.free_all.new.cells ≡ c.shrink_to.new.self.len = omega arith in
     let back = given_back c.free_all.new.cells c.shrink_to.new.self.items c.shrink_to.new.self.len size in
     let same = c.free_all.ensures.size in
     let free = subst (λ k. IsFreeTo (length c.as_mut_slice.result.now - 1) k (lists c.free_all.new.cells)) (sym same) c.free_all.ensures.free in
     let small = c.self.invariant.kept.small in
-    let signs = length-map c.free_all.new.cells (λ x. x.sign) in
+    let signs = length-map c.free_all.new.cells sign_seen in
     rw back (record {
       empty = λ blank. free_root c.free_all.new.cells (length c.as_mut_slice.result.now - 1) free blank (omega arith);
       least = omega arith;

@@ -3,7 +3,7 @@ use Rattle.std.proofs.lemmas.List.{length-map}
 use Rattle.pg_cells.specs.declared.store.cell.Cell.{Cell}
 use Rattle.pg_cells.specs.declared.store.member.Member.{Member}
 use Rattle.pg_cells.specs.Inside.store.FreeList.{AreLinked}
-use Rattle.pg_cells.specs.Inside.store.Lists.{Row, lists, row_of, sign_at, with_free}
+use Rattle.pg_cells.specs.Inside.store.Lists.{sign_seen, Row, lists, row_of, sign_at, with_free}
 use Rattle.pg_cells.proofs.LinkedLists.{taken_within}
 use Rattle.pg_cells.proofs.ChainSteps.{signs_long}
 use Rattle.pg_cells.specs.Inside.store.Store.{IsRow}
@@ -18,7 +18,7 @@ pub free_cell-requires-clause-linked : goal.free_cell-requires-clause-linked
 free_cell-requires-clause-linked g c = subst (λ (cells : List (Cell g.row.V.Denot)). AreLinked (lists cells)) (sym c.as_mut_slice.ensures.value) c.self.invariant.kept.linked
 
 pub free_cell-requires-clause-small : goal.free_cell-requires-clause-small
-free_cell-requires-clause-small g c = subst (λ (cells : List (Cell g.row.V.Denot)). length cells < 2 ^ 32) (sym c.as_mut_slice.ensures.value) c.self.invariant.kept.small
+free_cell-requires-clause-small g c = subst (λ (cells : List (Cell g.row.V.Denot)). length cells < 2 ^ 29) (sym c.as_mut_slice.ensures.value) c.self.invariant.kept.small
 
 pub free_cell-requires-clause-taken : goal.free_cell-requires-clause-taken
 free_cell-requires-clause-taken g c =
@@ -41,7 +41,7 @@ invariant_of-self g c =
     let within : c.args.cell < length c.self.inside.cells.items = omega (
       arith,
       taken_within (row_of c.self.inside.cells.items) c.args.cell taken,
-      length-map c.self.inside.cells.items (λ x. x.sign),
+      length-map c.self.inside.cells.items sign_seen,
     ) in
     let r = c.taken_up_to-self-inside.result in
     let top = c.taken_up_to-self-inside.ensures in
@@ -89,4 +89,4 @@ taken_up_to-self-inside-requires g c =
     let same : length c.free_cell.new.cells ≡ length c.self.inside.cells.items = omega arith in
     let seen : c.as_slice.result.now ≡ c.free_cell.new.cells = c.as_slice.ensures.value ∙ given_back c.free_cell.new.cells c.self.inside.cells.items c.self.inside.cells.len size in
     let top = c.self.invariant.kept.greatest.within in
-    omega (arith, ap length seen, length-map c.self.inside.cells.items (λ x. x.sign))
+    omega (arith, ap length seen, length-map c.self.inside.cells.items sign_seen)

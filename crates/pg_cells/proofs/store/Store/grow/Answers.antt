@@ -1,4 +1,4 @@
-use Rattle.std.proofs.Common.{◌≤◌, subst, sym}
+use Rattle.std.proofs.Common.{◌≤◌, subst, sym, arith}
 use Rattle.std.proofs.lemmas.Result.{on_ok_weaker}
 use Rattle.pg_cells.specs.Inside.store.Lists.{row_of}
 use Rattle.pg_cells.specs.Inside.store.Store.{Extends}
@@ -26,5 +26,5 @@ pub returns : goal.returns
 returns g c = record {
   extends = subst (λ r. Extends r (row_of c.grow_cells.new.cells.items)) c.self.view_is c.grow_cells.ensures.extends;
   length = on_ok_weaker c.grow_cells.result (λ long. subst (λ n. c.args.count ≤ n) (sym (signs_long c.grow_cells.new.cells.items)) long) c.grow_cells.ensures.length;
-  row = is_row c.grow_cells.new.cells.items c.grow_cells.ensures.small;
+  row = let small = c.grow_cells.ensures.small in is_row c.grow_cells.new.cells.items (omega arith);
 }

@@ -1,7 +1,7 @@
 use Rattle.std.proofs.lemmas.List.{length-map}
 use Rattle.std.proofs.Common.{◌≡◌, subst, arith, refl}
 use Rattle.std.proofs.lemmas.Result.{on_ok_weaker}
-use Rattle.pg_cells.specs.Inside.store.Lists.{Row, sign_at}
+use Rattle.pg_cells.specs.Inside.store.Lists.{sign_seen, Row, sign_at}
 use Rattle.pg_cells.specs.declared.store.member.Member.{Member}
 use Rattle.pg_cells.proofs.store.Store.make_room.Goals as goal
 
@@ -17,7 +17,7 @@ pub overflow_add-count : goal.overflow_add-count
 overflow_add-count g c =
     let top = c.self.invariant.kept.greatest.within in
     let small = c.self.invariant.kept.small in
-    record { fits = omega (arith, c.requires, length-map c.self.inside.cells.items (λ x. x.sign)) }
+    record { fits = omega (arith, c.requires, length-map c.self.inside.cells.items sign_seen) }
 
 pub same-self : goal.same-self
 same-self g c = refl

@@ -1,6 +1,6 @@
 use Rattle.std.proofs.Common.{◌≡◌, ◌<◌, ◌≤◌, ◌^◌, ℕ, List, length, sym, subst, arith}
 use Rattle.std.proofs.lemmas.List.{length-map}
-use Rattle.pg_cells.specs.Inside.store.Lists.{Row, row_of}
+use Rattle.pg_cells.specs.Inside.store.Lists.{sign_seen, Row, row_of}
 use Rattle.pg_cells.specs.Inside.store.Bounds.{IsBelow, NoneFree}
 use Rattle.pg_cells.specs.declared.store.member.Member.{Member}
 use Rattle.pg_cells.proofs.BoundLaws.{bounds_raise}
@@ -14,7 +14,7 @@ pub raise-requires-clause-low : goal.raise-requires-clause-low
 raise-requires-clause-low g c =
     let small = c.self.invariant.kept.small in
     let within : c.args.base < length (row_of c.self.inside.cells.items).signs = subst (λ (r : Row (Member g.row.V.Denot)). c.args.base < length r.signs) (sym c.self.view_is) c.requires.base in
-    omega (arith, length-map c.self.inside.cells.items (λ x. x.sign))
+    omega (arith, length-map c.self.inside.cells.items sign_seen)
 
 pub invariant_of-self : goal.invariant_of-self
 invariant_of-self g c =

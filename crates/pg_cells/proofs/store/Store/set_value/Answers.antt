@@ -1,6 +1,6 @@
 use Rattle.std.proofs.Common.{◌≡◌, sym, ap, subst, ◌∙◌, length, arith, set, take, drop, ◌++◌, List}
 use Rattle.pg_cells.specs.declared.store.cell.Cell.{Cell}
-use Rattle.pg_cells.specs.Inside.store.Lists.{Lists, lists, row_of, pair_of, sign_at, with_value}
+use Rattle.pg_cells.specs.Inside.store.Lists.{Lists, lists, row_of, sign_at, with_value}
 use Rattle.pg_cells.specs.Inside.store.Store.{IsRow}
 use Rattle.pg_cells.specs.Inside.store.Writes.{SetsValue}
 use Rattle.pg_cells.specs.declared.store.member.Member.{Member}
@@ -13,8 +13,8 @@ use Rattle.pg_cells.proofs.store.Store.set_value.Goals as goal
 
 pub set_value-requires : goal.set_value-requires
 set_value-requires g c =
-    let taken = taken_in_row c.as_mut_slice.result.now c.args.self.now c.args.cell (ap row_of c.as_mut_slice.ensures.value ∙ c.self.view_is) c.requires in
-    record { cell = taken.0; taken = taken.1 }
+    let taken = taken_in_row c.as_mut_slice.result.now c.args.self.now c.args.cell (ap row_of c.as_mut_slice.ensures.value ∙ c.self.view_is) c.requires.taken in
+    record { cell = taken.0; taken = taken.1; fits = c.requires.fits }
 
 pub invariant_of-self : goal.invariant_of-self
 invariant_of-self g c =
@@ -22,23 +22,23 @@ invariant_of-self g c =
     let same : length c.set_value.new.cells ≡ length c.self.inside.cells.items = omega arith in
     rw (given_back c.set_value.new.cells c.self.inside.cells.items c.self.inside.cells.len size)
     (record {
-      kept = kept_value c.self.inside.cells.items c.set_value.new.cells _ _ c.self.invariant.kept same c.args.cell (pair_of c.args.value.next c.args.value.first) c.args.value
-          (λ z. c.requires (subst (λ r. sign_at r c.args.cell ≡ 0) c.self.view_is z))
+      kept = kept_value c.self.inside.cells.items c.set_value.new.cells _ _ c.self.invariant.kept same c.args.cell 0 c.args.value
+          (λ z. c.requires.taken (subst (λ r. sign_at r c.args.cell ≡ 0) c.self.view_is z))
           (c.set_value.ensures ∙ ap (λ cells. record (lists cells) {
             row = with_value (lists cells).row c.args.cell c.args.value;
             befores =
-                set (lists cells).befores c.args.cell (pair_of c.args.value.next c.args.value.first);
+                set (lists cells).befores c.args.cell 0;
           }) c.as_mut_slice.ensures.value);
       few = c.self.invariant.few;
       bounds = bounds_value (row_of c.self.inside.cells.items) (row_of c.set_value.new.cells) c.self.inside.lows.items c.self.inside.freed c.self.inside.dropped
           c.self.invariant.bounds c.args.cell c.args.value
           (subst (λ r. SetsValue (row_of c.self.inside.cells.items) r c.args.cell c.args.value)
           (sym (ap (λ (ls : Lists (Member g.row.V.Denot)). ls.row) c.set_value.ensures ∙ ap (λ cells. with_value (row_of cells) c.args.cell c.args.value) c.as_mut_slice.ensures.value))
-          (row_value c.self.inside.cells.items c.args.cell c.args.value (λ z. c.requires (subst (λ r. sign_at r c.args.cell ≡ 0) c.self.view_is z))));
+          (row_value c.self.inside.cells.items c.args.cell c.args.value (λ z. c.requires.taken (subst (λ r. sign_at r c.args.cell ≡ 0) c.self.view_is z))));
       blocked = blocked_value (row_of c.self.inside.cells.items) (row_of c.set_value.new.cells) c.self.inside.placed c.self.inside.sought c.self.invariant.blocked c.args.cell c.args.value
           (subst (λ r. SetsValue (row_of c.self.inside.cells.items) r c.args.cell c.args.value)
           (sym (ap (λ (ls : Lists (Member g.row.V.Denot)). ls.row) c.set_value.ensures ∙ ap (λ cells. with_value (row_of cells) c.args.cell c.args.value) c.as_mut_slice.ensures.value))
-          (row_value c.self.inside.cells.items c.args.cell c.args.value (λ z. c.requires (subst (λ r. sign_at r c.args.cell ≡ 0) c.self.view_is z))));
+          (row_value c.self.inside.cells.items c.args.cell c.args.value (λ z. c.requires.taken (subst (λ r. sign_at r c.args.cell ≡ 0) c.self.view_is z))));
     })
 
 pub returns-clause-sets : goal.returns-clause-sets
@@ -50,7 +50,7 @@ returns-clause-sets g c =
     ∙ ap (λ cells. with_value (row_of cells) c.args.cell c.args.value) c.as_mut_slice.ensures.value in
     subst (λ r. SetsValue r (row_of (take c.self.inside.cells.len (c.set_value.new.cells ++ drop (length c.set_value.new.cells) c.self.inside.cells.items))) c.args.cell c.args.value) c.self.view_is
     (subst (λ r. SetsValue (row_of c.self.inside.cells.items) r c.args.cell c.args.value) (sym left)
-    (row_value c.self.inside.cells.items c.args.cell c.args.value (λ z. c.requires (subst (λ r. sign_at r c.args.cell ≡ 0) c.self.view_is z))))
+    (row_value c.self.inside.cells.items c.args.cell c.args.value (λ z. c.requires.taken (subst (λ r. sign_at r c.args.cell ≡ 0) c.self.view_is z))))
 
 pub returns-clause-row : goal.returns-clause-row
 returns-clause-row g c =

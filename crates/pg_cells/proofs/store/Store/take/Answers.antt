@@ -3,7 +3,7 @@ use Rattle.std.proofs.lemmas.List.{length-map}
 use Rattle.pg_cells.specs.declared.store.cell.Cell.{Cell}
 use Rattle.pg_cells.specs.declared.store.member.Member.{Member}
 use Rattle.pg_cells.specs.Inside.store.FreeList.{AreLinked}
-use Rattle.pg_cells.specs.Inside.store.Lists.{Row, lists, row_of, IsFree, with_taken}
+use Rattle.pg_cells.specs.Inside.store.Lists.{sign_seen, Row, lists, row_of, IsFree, with_taken}
 use Rattle.pg_cells.proofs.LinkedLists.{free_within}
 use Rattle.pg_cells.proofs.ChainSteps.{free_in, child_fits}
 use Rattle.pg_cells.specs.Inside.store.Store.{IsRow}
@@ -25,7 +25,7 @@ pub take_cell-requires-clause-linked : goal.take_cell-requires-clause-linked
 take_cell-requires-clause-linked g c = subst (λ (cells : List (Cell g.row.V.Denot)). AreLinked (lists cells)) (sym c.as_mut_slice.ensures.value) c.self.invariant.kept.linked
 
 pub take_cell-requires-clause-small : goal.take_cell-requires-clause-small
-take_cell-requires-clause-small g c = subst (λ (cells : List (Cell g.row.V.Denot)). length cells < 2 ^ 32) (sym c.as_mut_slice.ensures.value) c.self.invariant.kept.small
+take_cell-requires-clause-small g c = subst (λ (cells : List (Cell g.row.V.Denot)). length cells < 2 ^ 29) (sym c.as_mut_slice.ensures.value) c.self.invariant.kept.small
 
 pub take_cell-requires-clause-free : goal.take_cell-requires-clause-free
 take_cell-requires-clause-free g c =
@@ -50,7 +50,7 @@ invariant_of-self g c =
     let same : length c.take_cell.new.cells ≡ length c.self.inside.cells.items = omega arith in
     let value = c.as_mut_slice.ensures.value in
     let free : IsFree (row_of c.self.inside.cells.items) c.args.cell = subst (λ r. IsFree r c.args.cell) (sym c.self.view_is) c.requires.free in
-    let within : c.args.cell < length c.self.inside.cells.items = omega (arith, free_within (row_of c.self.inside.cells.items) c.args.cell free, length-map c.self.inside.cells.items (λ x. x.sign)) in
+    let within : c.args.cell < length c.self.inside.cells.items = omega (arith, free_within (row_of c.self.inside.cells.items) c.args.cell free, length-map c.self.inside.cells.items sign_seen) in
     let max = c.max-self-inside.ensures in
     rw (given_back c.take_cell.new.cells c.self.inside.cells.items c.self.inside.cells.len size)
     (record {

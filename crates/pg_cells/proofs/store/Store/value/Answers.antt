@@ -10,5 +10,9 @@ value_of-requires g c =
     let taken = taken_in_row c.as_slice.result.now c.args.self.now c.args.cell (ap row_of c.as_slice.ensures.value ∙ c.self.view_is) c.requires in
     record { cell = taken.0; taken = taken.1 }
 
-pub returns : goal.returns
-returns g c = subst (λ (r : Row (Member g.row.V.Denot)). slice_get r.values c.args.cell ≡ Some c.value_of.result) (ap row_of c.as_slice.ensures.value ∙ c.self.view_is) c.value_of.ensures
+pub returns-clause-value : goal.returns-clause-value
+returns-clause-value g c = subst (λ (r : Row (Member g.row.V.Denot)). slice_get r.values c.args.cell ≡ Some c.value_of.result)
+    (ap row_of c.as_slice.ensures.value ∙ c.self.view_is) c.value_of.ensures.value
+
+pub returns-clause-fits : goal.returns-clause-fits
+returns-clause-fits g c = c.value_of.ensures.fits

@@ -1,4 +1,5 @@
 use borrow.Author.Rules.{scaled_Fits}
+use Rattle.std.proofs.Common.{arith}
 use Rattle.pg_cells.proofs.CellWrites.{write_after}
 use Rattle.pg_cells.proofs.store.cell.set_after.Goals as goal
 
@@ -8,11 +9,14 @@ offset_bounds-cells-cell g c = search scaled_Fits
 pub bounds-cells-cell : goal.bounds-cells-cell
 bounds-cells-cell g c = c.requires.cell
 
-pub bounds-cells-cell-2 : goal.bounds-cells-cell-2
-bounds-cells-cell-2 g c = c.requires.cell
+pub overflow_cast-free : goal.overflow_cast-free
+overflow_cast-free g c = let small = c.requires.after in record { fits = omega arith }
 
-pub overflow_cast-cells : goal.overflow_cast-cells
-overflow_cast-cells g c = record { fits = c.requires.after }
+pub overflow_mul-free : goal.overflow_mul-free
+overflow_mul-free g c = let small = c.requires.after in record { fits = omega arith }
+
+pub overflow_add-free : goal.overflow_add-free
+overflow_add-free g c = let small = c.requires.after in record { fits = omega arith }
 
 pub returns : goal.returns
 returns g c = write_after c.args.cells.now c.args.cell c.index-cells-cell.result c.args.after c.requires.cell c.requires.free

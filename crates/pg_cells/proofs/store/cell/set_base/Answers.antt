@@ -8,8 +8,7 @@ offset_bounds-cells-cell g c = search scaled_Fits
 pub bounds-cells-cell : goal.bounds-cells-cell
 bounds-cells-cell g c = c.requires
 
-pub bounds-cells-cell-2 : goal.bounds-cells-cell-2
-bounds-cells-cell-2 g c = c.requires
-
 pub returns : goal.returns
-returns g c = write_base c.args.cells.now c.args.cell c.index-cells-cell.result c.args.is_base
+returns g c =
+    write_base c.args.cells.now c.args.cell c.index-cells-cell.result c.args.is_base c.links_with_base-held.result
+    c.links_with_base-held.ensures.base c.links_with_base-held.ensures.link c.links_with_base-held.ensures.first

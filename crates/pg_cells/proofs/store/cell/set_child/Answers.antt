@@ -1,4 +1,5 @@
 use borrow.Author.Rules.{scaled_Fits}
+use Rattle.std.proofs.Common.{arith}
 use Rattle.pg_cells.proofs.CellWrites.{write_child}
 use Rattle.pg_cells.proofs.store.cell.set_child.Goals as goal
 
@@ -8,11 +9,14 @@ offset_bounds-cells-cell g c = search scaled_Fits
 pub bounds-cells-cell : goal.bounds-cells-cell
 bounds-cells-cell g c = c.requires.cell
 
-pub bounds-cells-cell-2 : goal.bounds-cells-cell-2
-bounds-cells-cell-2 g c = c.requires.cell
+pub overflow_cast-taken : goal.overflow_cast-taken
+overflow_cast-taken g c = let small = c.requires.child in record { fits = omega arith }
 
-pub overflow_cast-cells : goal.overflow_cast-cells
-overflow_cast-cells g c = record { fits = c.requires.child }
+pub overflow_mul-taken : goal.overflow_mul-taken
+overflow_mul-taken g c = let small = c.requires.child in record { fits = omega arith }
+
+pub overflow_add-taken : goal.overflow_add-taken
+overflow_add-taken g c = let small = c.requires.child in record { fits = omega arith }
 
 pub returns : goal.returns
 returns g c = write_child c.args.cells.now c.args.cell c.index-cells-cell.result c.args.child c.requires.cell c.requires.taken

@@ -8,8 +8,7 @@ offset_bounds-cells-cell g c = search scaled_Fits
 pub bounds-cells-cell : goal.bounds-cells-cell
 bounds-cells-cell g c = c.requires.cell
 
-pub overflow_cast-taken : goal.overflow_cast-taken
-overflow_cast-taken g c = record { fits = c.requires.child }
-
 pub returns : goal.returns
-returns g c = write_taken c.args.cells.now c.args.cell c.index-cells-cell.result c.args.sign c.args.value c.args.child c.requires.sign
+returns g c =
+    write_taken c.args.cells.now c.args.cell c.index-cells-cell.result c.args.sign c.args.value c.args.child c.upper_signs.result
+    c.upper_signs.ensures c.requires.fits c.requires.sign c.requires.sign_fits

@@ -9,4 +9,6 @@ pub bounds-cells-cell : goal.bounds-cells-cell
 bounds-cells-cell g c = c.requires.cell
 
 pub returns : goal.returns
-returns g c = write_value c.args.cells.now c.args.cell c.index-cells-cell.result c.args.value c.requires.cell c.requires.taken
+returns g c =
+    write_value c.args.cells.now c.args.cell c.index-cells-cell.result c.args.value c.upper_signs.result c.upper_signs.ensures c.requires.fits
+    c.requires.cell c.requires.taken

@@ -1,6 +1,6 @@
 use Rattle.std.proofs.Common.{◌≡◌, ◌+◌, ◌<◌, ◌-◌, ◌∙◌, ap, sym, subst, refl, length, false, arith}
 use Rattle.std.proofs.lemmas.List.{length-map}
-use Rattle.pg_cells.specs.Inside.store.Lists.{Lists, lists, with_base}
+use Rattle.pg_cells.specs.Inside.store.Lists.{sign_seen, Lists, lists, with_base}
 use Rattle.pg_cells.specs.declared.store.member.Member.{Member}
 use Rattle.pg_cells.specs.Inside.store.FreeList.{IsFreeTo}
 use Rattle.pg_cells.proofs.AllFree.{lists_cleared, free_to_none, free_to_more, free_linked}
@@ -31,5 +31,5 @@ returns g c =
     record {
       size = c.loop-cell.invariant.size;
       free = all;
-      linked = free_linked (lists c.loop-cell.cells) (length c.args.cells.now) (length-map c.loop-cell.cells (λ x. x.sign) ∙ c.loop-cell.invariant.size) c.requires.some all;
+      linked = free_linked (lists c.loop-cell.cells) (length c.args.cells.now) (length-map c.loop-cell.cells sign_seen ∙ c.loop-cell.invariant.size) c.requires.some all;
     }

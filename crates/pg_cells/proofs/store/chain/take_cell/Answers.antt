@@ -1,6 +1,6 @@
 use Rattle.std.proofs.Common.{ap, sym, subst, ◌∙◌}
 use Rattle.pg_cells.specs.declared.store.member.Member.{Member}
-use Rattle.pg_cells.specs.Inside.store.Lists.{Row, Lists, lists, pair_of, IsFree, with_taken}
+use Rattle.pg_cells.specs.Inside.store.Lists.{Row, Lists, lists, IsFree, with_taken}
 use Rattle.pg_cells.proofs.LinkedLists.{linked_taken, after_taking, lists_even}
 use Rattle.pg_cells.proofs.ChainSteps.{before_free, after_free, free_in, fits_link, kept_in}
 use Rattle.pg_cells.proofs.store.chain.take_cell.Goals as goal
@@ -49,13 +49,13 @@ returns-clause-row g c =
 pub returns-clause-linked : goal.returns-clause-linked
 returns-clause-linked g c =
     after_taking (lists c.args.cells.now) (lists c.set_after.new.cells) (lists c.set_before.new.cells) (lists c.set_taken.new.cells)
-    c.args.cell c.before_of-before.result c.after_of-after.result c.args.sign c.args.value c.args.child (pair_of c.args.value.next c.args.value.first)
+    c.args.cell c.before_of-before.result c.after_of-after.result c.args.sign c.args.value c.args.child 0
     c.before_of-before.ensures c.after_of-after.ensures c.set_after.ensures c.set_before.ensures c.set_taken.ensures
-    (linked_taken (lists c.args.cells.now) c.args.cell c.args.sign c.args.value c.args.child (pair_of c.args.value.next c.args.value.first) c.requires.linked
+    (linked_taken (lists c.args.cells.now) c.args.cell c.args.sign c.args.value c.args.child 0 c.requires.linked
     (lists_even c.args.cells.now) c.requires.cell.0 c.requires.free c.requires.sign)
 
 pub before_of-before-requires : goal.before_of-before-requires
-before_of-before-requires g c = c.requires.cell.1
+before_of-before-requires g c = record { cell = c.requires.cell.1; free = c.requires.free }
 
 pub after_of-after-requires : goal.after_of-after-requires
 after_of-after-requires g c = c.requires.cell.1

@@ -1,6 +1,6 @@
 use Rattle.std.proofs.Common.{◌≡◌, ◌+◌, ◌-◌, ◌<◌, ◌≤◌, ◌∙◌, ◌∷◌, ap, refl, length, true, false, rules, arith}
 use Rattle.std.proofs.lemmas.List.{length-map, get_or_default}
-use Rattle.pg_cells.specs.Inside.store.Lists.{lists, sign_at}
+use Rattle.pg_cells.specs.Inside.store.Lists.{sign_seen, lists, sign_at}
 use Rattle.pg_cells.specs.Inside.store.Fit.{signs_of, fits_row}
 use Rattle.pg_cells.proofs.LinkedLists.{free_within}
 use Rattle.pg_cells.proofs.FitSteps.{fit_free, sought_first, sought_next, nearer, sought_least, fits_one_more}
@@ -14,7 +14,7 @@ free_from-at-requires-clause-free g c =
 pub loop-at-init : goal.loop-at-init
 loop-at-init g c =
     let some : 0 < length (c.args.sign ∷ signs_of c.args.slots.now) = omega arith in
-    let size : length (lists c.args.cells.now).row.signs ≡ length c.args.cells.now = length-map c.args.cells.now (λ x. x.sign) in
+    let size : length (lists c.args.cells.now).row.signs ≡ length c.args.cells.now = length-map c.args.cells.now sign_seen in
     let within : c.args.room + c.args.sign < length (lists c.args.cells.now).row.signs = rw size c.requires.within in
     let s = sought_first (lists c.args.cells.now).row (c.args.sign ∷ signs_of c.args.slots.now) some c.args.sign refl c.args.low c.args.room c.requires.low
     within c.requires.room c.free_from-at.result c.free_from-at.ensures.from c.free_from-at.ensures.bound c.free_from-at.ensures.free c.free_from-at.ensures.first in
@@ -23,7 +23,7 @@ loop-at-init g c =
 pub loop-at-smaller : goal.loop-at-smaller
 loop-at-smaller g c =
     let some : 0 < length (c.args.sign ∷ signs_of c.args.slots.now) = omega arith in
-    let size : length (lists c.args.cells.now).row.signs ≡ length c.args.cells.now = length-map c.args.cells.now (λ x. x.sign) in
+    let size : length (lists c.args.cells.now).row.signs ≡ length c.args.cells.now = length-map c.args.cells.now sign_seen in
     let within : c.args.room + c.args.sign < length (lists c.args.cells.now).row.signs = rw size c.requires.within in
     let inv = c.loop-at.invariant in
     let from : c.args.low + c.args.sign ≤ c.loop-at.at = inv.from in
@@ -41,7 +41,7 @@ loop-at-smaller g c =
 pub loop-at-preserved : goal.loop-at-preserved
 loop-at-preserved g c =
     let some : 0 < length (c.args.sign ∷ signs_of c.args.slots.now) = omega arith in
-    let size : length (lists c.args.cells.now).row.signs ≡ length c.args.cells.now = length-map c.args.cells.now (λ x. x.sign) in
+    let size : length (lists c.args.cells.now).row.signs ≡ length c.args.cells.now = length-map c.args.cells.now sign_seen in
     let within : c.args.room + c.args.sign < length (lists c.args.cells.now).row.signs = rw size c.requires.within in
     let inv = c.loop-at.invariant in
     let from : c.args.low + c.args.sign ≤ c.loop-at.at = inv.from in
@@ -59,7 +59,7 @@ loop-at-preserved g c =
 pub returns-clause-least : goal.returns-clause-least
 returns-clause-least g c =
     let some : 0 < length (c.args.sign ∷ signs_of c.args.slots.now) = omega arith in
-    let size : length (lists c.args.cells.now).row.signs ≡ length c.args.cells.now = length-map c.args.cells.now (λ x. x.sign) in
+    let size : length (lists c.args.cells.now).row.signs ≡ length c.args.cells.now = length-map c.args.cells.now sign_seen in
     let within : c.args.room + c.args.sign < length (lists c.args.cells.now).row.signs = rw size c.requires.within in
     let inv = c.loop-at.invariant in
     let from : c.args.low + c.args.sign ≤ c.loop-at.at = inv.from in

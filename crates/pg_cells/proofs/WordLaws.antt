@@ -1,0 +1,85 @@
+-- The parts of the two words of a cell, when a word is made of others.
+use Rattle.std.proofs.Common.{◌≡◌, ◌≢◌, ℕ, ◌+◌, ◌*◌, ◌/◌, ◌%◌, ◌^◌, ◌<◌, inl, inr, ap, cond, nat_eq, arith}
+use Rattle.std.proofs.lemmas.Bool.{cases_eq}
+use Rattle.pg_cells.specs.Inside.store.Lists.{sign_in, next_in, first_in, base_in, link_in}
+
+-- an even word has no sign, and an odd one has its sign above the lowest bit
+pub sign_even : (x : ℕ) → sign_in (x * 2) ≡ 0
+sign_even x = let even : x * 2 % 2 ≡ 0 = omega arith in ap (λ n. cond (nat_eq n 0) 0 (x * 2 / 2 % 2048)) even
+
+pub sign_odd : (w : ℕ) → w % 2 ≡ 1 → sign_in w ≡ w / 2 % 2048
+sign_odd w e = ap (λ n. cond (nat_eq n 0) 0 (w / 2 % 2048)) e
+
+pub odd_word : (w : ℕ) → sign_in w ≢ 0 → w % 2 ≡ 1
+odd_word w some = elim (cases_eq (w % 2) 0) [
+  | inl e ↦ absurd (some (ap (λ n. cond (nat_eq n 0) 0 (w / 2 % 2048)) e))
+  | inr up ↦ omega arith
+]
+
+-- what fits a sign, or a cell's first sign, is small
+pub sign_small : (w : ℕ) → w / 2 % 2048 < 2 ^ 16
+sign_small w = omega arith
+
+pub next_small : (w : ℕ) → next_in w < 2 ^ 11
+next_small w = omega arith
+
+pub first_small : (w l : ℕ) → first_in w l < 2 ^ 11
+first_small w l = omega arith
+
+-- a word with another link
+pub link_same : (x l : ℕ) → link_in (x * 8 + l % 8) ≡ x
+link_same x l = omega arith
+
+pub low_same : (x l : ℕ) → (x * 8 + l % 8) % 4 ≡ l % 4
+low_same x l = omega arith
+
+pub base_same : (x l : ℕ) → base_in (x * 8 + l % 8) ≡ base_in l
+base_same x l = let same : (x * 8 + l % 8) / 4 % 2 ≡ l / 4 % 2 = omega arith in ap (λ n. nat_eq n 1) same
+
+-- words with another next and first sign
+module _ (w next first upper : ℕ) (is : upper ≡ next * 4096 + first % 512 * 8388608) where
+  pub value_odd : w % 2 ≡ 1 → (w % 4096 + upper) % 2 ≡ 1
+  value_odd odd = omega arith
+
+  pub value_sign : (w % 4096 + upper) / 2 % 2048 ≡ w / 2 % 2048
+  value_sign = omega arith
+
+  pub value_next : next < 2 ^ 11 → next_in (w % 4096 + upper) ≡ next
+  value_next small = omega arith
+
+pub value_first : (w l next first upper : ℕ) → upper ≡ next * 4096 + first % 512 * 8388608 → next < 2 ^ 11 → first < 2 ^ 11
+    → first_in (w % 4096 + upper) (l / 4 * 4 + first / 512) ≡ first
+value_first w l next first upper is small fits =
+    let high : (w % 4096 + upper) / 8388608 % 512 ≡ first % 512 = omega arith in
+    let low : (l / 4 * 4 + first / 512) % 4 ≡ first / 512 = omega arith in
+    omega arith
+
+pub value_base : (l first : ℕ) → first < 2 ^ 11 → base_in (l / 4 * 4 + first / 512) ≡ base_in l
+value_base l first fits = let same : (l / 4 * 4 + first / 512) / 4 % 2 ≡ l / 4 % 2 = omega arith in ap (λ n. nat_eq n 1) same
+
+pub value_link : (l first : ℕ) → first < 2 ^ 11 → link_in (l / 4 * 4 + first / 512) ≡ link_in l
+value_link l first fits = omega arith
+
+-- words of a cell that is taken
+module _ (sign next first upper : ℕ) (is : upper ≡ next * 4096 + first % 512 * 8388608) where
+  pub taken_odd : (1 + sign * 2 + upper) % 2 ≡ 1
+  taken_odd = omega arith
+
+  pub taken_sign : sign < 2 ^ 11 → (1 + sign * 2 + upper) / 2 % 2048 ≡ sign
+  taken_sign small = omega arith
+
+  pub taken_next : sign < 2 ^ 11 → next < 2 ^ 11 → next_in (1 + sign * 2 + upper) ≡ next
+  taken_next small fits = omega arith
+
+pub taken_first : (sign child l next first upper : ℕ) → upper ≡ next * 4096 + first % 512 * 8388608 → sign < 2 ^ 11 → next < 2 ^ 11 → first < 2 ^ 11
+    → first_in (1 + sign * 2 + upper) (child * 8 + l / 4 % 2 * 4 + first / 512) ≡ first
+taken_first sign child l next first upper is small small_next fits =
+    let high : (1 + sign * 2 + upper) / 8388608 % 512 ≡ first % 512 = omega arith in
+    let low : (child * 8 + l / 4 % 2 * 4 + first / 512) % 4 ≡ first / 512 = omega arith in
+    omega arith
+
+pub taken_base : (child l first : ℕ) → first < 2 ^ 11 → base_in (child * 8 + l / 4 % 2 * 4 + first / 512) ≡ base_in l
+taken_base child l first fits = let same : (child * 8 + l / 4 % 2 * 4 + first / 512) / 4 % 2 ≡ l / 4 % 2 = omega arith in ap (λ n. nat_eq n 1) same
+
+pub taken_link : (child l first : ℕ) → first < 2 ^ 11 → link_in (child * 8 + l / 4 % 2 * 4 + first / 512) ≡ child
+taken_link child l first fits = omega arith
