@@ -2,7 +2,7 @@
 ghost use Rattle.std.specs.Prelude.{◌<◌, ◌≤◌, ◌+◌, ◌*◌, length, IfOk, OnOk};
 ghost use Rattle.pg_types.specs.Inside.Answers.{Gives};
 ghost use Rattle.pg_translate.specs.Alphabets.{letters_of};
-ghost use Rattle.pg_translate.specs.Inside.Rules.{KeepsRules};
+ghost use Rattle.pg_translate.specs.Inside.tables.Rules.{KeepsRules};
 ghost use Rattle.pg_dict.specs.Inside.LineWords.{line_reading};
 ghost use Rattle.pg_dict.specs.Inside.Lines.LineStarts.{word_reading_by};
 ghost use Rattle.pg_dict.specs.Inside.Lines.Entries.{with_word, entries_of, GrowsBy};

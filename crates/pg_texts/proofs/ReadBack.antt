@@ -8,7 +8,7 @@ use Rattle.pg_types.specs.declared.limits.TheConstants.{FILE_MAX, WORD_LETTERS_M
 use Rattle.pg_types.specs.declared.marks.Mark.{Mark}
 use Rattle.pg_translate.specs.Alphabets.{Alphabet, letters_of}
 use Rattle.pg_translate.specs.Tokens.{Token}
-use Rattle.pg_translate.specs.Inside.Items.{text_of_items}
+use Rattle.pg_translate.specs.Inside.items.Items.{text_of_items}
 use Rattle.pg_dict.specs.Word.{Word}
 use Rattle.pg_dict.specs.Inside.SoundWords.{IsWord, SignsAtMost}
 use Rattle.pg_dict.specs.Words.{words}

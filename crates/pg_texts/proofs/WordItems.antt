@@ -10,9 +10,9 @@ use Rattle.pg_types.specs.declared.limits.TheConstants.{EDGE, WEIGHT_MAX, WORD_L
 use Rattle.pg_types.specs.declared.marks.Mark.{Mark}
 use Rattle.pg_types.specs.declared.marks.Mark.TheVariants.{Nothing, Error, Missed, Found, DontCare}
 use Rattle.pg_translate.specs.Alphabets.{Alphabet, letters_of, spelling_of}
-use Rattle.pg_translate.specs.Inside.MarkBytes.{mark_byte_of}
+use Rattle.pg_translate.specs.Inside.items.MarkBytes.{mark_byte_of}
 use Rattle.pg_translate.specs.Tokens.{Token, Letter, Digit, Weight, Marked, Edge}
-use Rattle.pg_translate.specs.Inside.Items.{IsItem, text_of_items}
+use Rattle.pg_translate.specs.Inside.items.Items.{IsItem, text_of_items}
 use Rattle.pg_translate.specs.declared.items.Place.TheVariants.{Dictionary}
 use Rattle.pg_dict.specs.Word.{Word}
 use Rattle.pg_dict.specs.Inside.SoundWords.{IsWord}

@@ -8,11 +8,11 @@ use Rattle.std.proofs.lemmas.List.Sums.{fold-append}
 use Rattle.std.proofs.lemmas.Option.{slice_get-get_or}
 use Rattle.pg_translate.specs.declared.index.Index.{Index}
 use Rattle.pg_translate.specs.declared.spellings.Text.{Text}
-use Rattle.pg_translate.specs.Inside.FirstSpellings.{letters_in, first_of}
+use Rattle.pg_translate.specs.Inside.spellings.FirstSpellings.{letters_in, first_of}
 use Rattle.pg_translate.specs.Spellings.{clash}
-use Rattle.pg_translate.specs.Inside.Members.{IsAmong}
-use Rattle.pg_translate.specs.Inside.Texts.{text_of}
-use Rattle.pg_translate.specs.Inside.Fronts.{IsIndex, AreBytes, pairs, firsts_of, front_at, front_of, front_in, front_code}
+use Rattle.pg_translate.specs.Inside.spellings.Members.{IsAmong}
+use Rattle.pg_translate.specs.Inside.spellings.Texts.{text_of}
+use Rattle.pg_translate.specs.Inside.spellings.Fronts.{IsIndex, AreBytes, pairs, firsts_of, front_at, front_of, front_in, front_code}
 use Rattle.pg_translate.proofs.Fronts.{front_in-push, IsAmong-push, list_any_at}
 use Rattle.pg_translate.proofs.Walks.{AreApart}
 

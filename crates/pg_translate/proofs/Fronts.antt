@@ -6,8 +6,8 @@ use Rattle.std.proofs.lemmas.Bool.{and_parts, and_cases, or_parts, or_from, or_l
 use Rattle.pg_translate.specs.declared.index.Front.{Front}
 use Rattle.pg_translate.specs.declared.index.Front.TheVariants.{Inside, Whole}
 use Rattle.pg_translate.specs.Spellings.{clash}
-use Rattle.pg_translate.specs.Inside.Members.{IsAmong}
-use Rattle.pg_translate.specs.Inside.Fronts.{front_of, front_in}
+use Rattle.pg_translate.specs.Inside.spellings.Members.{IsAmong}
+use Rattle.pg_translate.specs.Inside.spellings.Fronts.{front_of, front_in}
 use Rattle.pg_translate.proofs.Prefixes.{begins_both, begins_equal}
 
 -- a choice is one of its two values

@@ -8,17 +8,17 @@ use Rattle.pg_types.specs.declared.limits.TheConstants.{SIGNS_MAX}
 use Rattle.pg_translate.specs.declared.index.Index.{Index}
 use Rattle.pg_translate.specs.declared.items.Place.{Place}
 use Rattle.pg_translate.specs.Alphabets.{Alphabet, letters_of, spelling_of}
-use Rattle.pg_translate.specs.Inside.FirstSpellings.{letters_in, first_spelling, first_of}
+use Rattle.pg_translate.specs.Inside.spellings.FirstSpellings.{letters_in, first_spelling, first_of}
 use Rattle.pg_translate.specs.Spellings.{is_spelling}
-use Rattle.pg_translate.specs.Inside.Members.{IsAmong}
+use Rattle.pg_translate.specs.Inside.spellings.Members.{IsAmong}
 use Rattle.pg_translate.specs.Tokens.{Letter}
-use Rattle.pg_translate.specs.Inside.Items.{IsItem}
-use Rattle.pg_translate.specs.Inside.Rules.{KeepsRules}
+use Rattle.pg_translate.specs.Inside.items.Items.{IsItem}
+use Rattle.pg_translate.specs.Inside.tables.Rules.{KeepsRules}
 use Rattle.pg_translate.specs.declared.head.Head.{Head}
-use Rattle.pg_translate.specs.Inside.Heads.{head_marks}
-use Rattle.pg_translate.specs.Inside.Sound.{IsTable}
-use Rattle.pg_translate.specs.Inside.Fronts.{IsIndex, pairs, firsts_of}
-use Rattle.pg_translate.specs.Inside.Texts.{text_of}
+use Rattle.pg_translate.specs.Inside.tables.Heads.{head_marks}
+use Rattle.pg_translate.specs.Inside.tables.Sound.{IsTable}
+use Rattle.pg_translate.specs.Inside.spellings.Fronts.{IsIndex, pairs, firsts_of}
+use Rattle.pg_translate.specs.Inside.spellings.Texts.{text_of}
 use Rattle.pg_translate.proofs.Firsts.{find_among, found_passes}
 use Rattle.pg_translate.proofs.Walks.{sign_within}
 

@@ -16,7 +16,7 @@ use Rattle.pg_translate.specs.declared.head.TheConstants.{DEFAULT_LEFT, DEFAULT_
 use Rattle.pg_translate.specs.Alphabets.{Alphabet}
 use Rattle.pg_translate.specs.Spellings.{is_space}
 use Rattle.pg_translate.specs.Tables.{check, in_column, minimum_at, is_blank_at, minimum_fails, minimum, mark_in, marks_of, mark_fails, head_checks, line_pieces, ListedSpelling, spellings_at, spellings_of, spelling_with_sign, spelling_check, spelling_checks, alphabet_of}
-use Rattle.pg_translate.specs.Inside.Checks.{pair_at, pair_value, pair_fails, pair_minimum, mark_checks, head_checks_by_pairs, without_blanks, before_empty, delimited_pieces, pieces_in_line, with_line_spellings, spellings_from, spelling_checks_from, alphabet_by_lines}
+use Rattle.pg_translate.specs.Inside.tables.Checks.{pair_at, pair_value, pair_fails, pair_minimum, mark_checks, head_checks_by_pairs, without_blanks, before_empty, delimited_pieces, pieces_in_line, with_line_spellings, spellings_from, spelling_checks_from, alphabet_by_lines}
 use Rattle.pg_translate.proofs.LetterLines.{trim_more, trim_end}
 
 -- no blank

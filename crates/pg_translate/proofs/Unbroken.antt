@@ -12,8 +12,8 @@ use Rattle.pg_translate.specs.Alphabets.{Alphabet}
 use Rattle.pg_translate.specs.Spellings.{is_space}
 use Rattle.std.specs.Char.{is_ascii_digit}
 use Rattle.pg_translate.specs.Tokens.{Token, Letter, Digit, Weight, Marked, Edge, letter_at, digit_at, weight_at, mark_at, item_at, is_ended}
-use Rattle.pg_translate.specs.Inside.Items.{IsItem, IsWeight, IsMark, text_of_items}
-use Rattle.pg_translate.specs.Inside.Rules.{KeepsRules}
+use Rattle.pg_translate.specs.Inside.items.Items.{IsItem, IsWeight, IsMark, text_of_items}
+use Rattle.pg_translate.specs.Inside.tables.Rules.{KeepsRules}
 use Rattle.pg_translate.proofs.ItemLaws.{four_marks}
 use Rattle.pg_translate.proofs.CutLaws.{Reads, item_found}
 

@@ -8,8 +8,8 @@ use Rattle.pg_types.specs.Inside.Parts.{both_parts}
 use Rattle.pg_translate.specs.Alphabets.{Alphabet}
 use Rattle.pg_translate.specs.Tokens.{Token, Letter, Digit, Weight, Marked, Edge}
 use Rattle.pg_translate.specs.Gaps.{signs_of}
-use Rattle.pg_translate.specs.Inside.Items.{IsItem, text_of_items}
-use Rattle.pg_translate.specs.Inside.Rules.{KeepsRules}
+use Rattle.pg_translate.specs.Inside.items.Items.{IsItem, text_of_items}
+use Rattle.pg_translate.specs.Inside.tables.Rules.{KeepsRules}
 use Rattle.pg_translate.specs.declared.items.Place.TheVariants.{Dictionary}
 use Rattle.pg_translate.specs.Spellings.{is_space}
 use Rattle.pg_translate.proofs.Unbroken.{joined_unbroken}

@@ -5,7 +5,7 @@ use Rattle.pg_translate.specs.declared.items.Place.{Place}
 use Rattle.pg_translate.specs.declared.items.Item.{Item}
 use Rattle.pg_translate.specs.declared.items.Item.TheVariants as answer
 use Rattle.pg_translate.specs.Alphabets.{Alphabet, letters_of}
-use Rattle.pg_translate.specs.Inside.Rules.{KeepsRules}
+use Rattle.pg_translate.specs.Inside.tables.Rules.{KeepsRules}
 use Rattle.pg_translate.specs.Tokens.{Token, Letter, Digit, Weight, Marked, Edge, item_at, is_ended}
 
 -- an item begins the text under a table's rules, has a text of its own, and the rest follows it

@@ -6,8 +6,8 @@ use Rattle.pg_translate.specs.declared.head.Head.{Head}
 use Rattle.pg_translate.specs.declared.index.Index.{Index}
 use Rattle.pg_translate.specs.Alphabets.{Alphabet}
 use Rattle.pg_translate.specs.Spellings.{is_spelling}
-use Rattle.pg_translate.specs.Inside.Heads.{IsSoundHead, head_marks}
-use Rattle.pg_translate.specs.Inside.Fronts.{IsIndex, pairs}
+use Rattle.pg_translate.specs.Inside.tables.Heads.{IsSoundHead, head_marks}
+use Rattle.pg_translate.specs.Inside.spellings.Fronts.{IsIndex, pairs}
 
 -- what a table's parts hold
 abbrev pub alphabet_in : Head → Index → Alphabet

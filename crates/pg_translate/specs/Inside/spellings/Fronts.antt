@@ -8,10 +8,10 @@ use Rattle.pg_translate.specs.declared.index.Front.TheVariants.{Inside, Whole}
 use Rattle.pg_translate.specs.declared.index.Index.{Index}
 use Rattle.pg_translate.specs.declared.index.Spelling.{Spelling}
 use Rattle.pg_translate.specs.declared.spellings.TheConstants.{SPELLING_MAX}
-use Rattle.pg_translate.specs.Inside.FirstSpellings.{letters_in, first_of}
+use Rattle.pg_translate.specs.Inside.spellings.FirstSpellings.{letters_in, first_of}
 use Rattle.pg_translate.specs.Spellings.{clash}
-use Rattle.pg_translate.specs.Inside.Members.{IsAmong}
-use Rattle.pg_translate.specs.Inside.Texts.{text_of}
+use Rattle.pg_translate.specs.Inside.spellings.Members.{IsAmong}
+use Rattle.pg_translate.specs.Inside.spellings.Texts.{text_of}
 
 -- a spelling with its sign
 abbrev pub pair_of : Spelling → ℕ × List ℕ

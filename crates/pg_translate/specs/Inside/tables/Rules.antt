@@ -3,10 +3,10 @@ use Rattle.std.specs.Prelude.{◌≡◌, ℕ, ◌+◌, ◌-◌, ◌<◌, ◌≤�
 use Rattle.pg_translate.specs.declared.head.TheConstants.{MINIMUM_MAX}
 use Rattle.pg_types.specs.declared.limits.TheConstants.{SIGNS_MAX}
 use Rattle.pg_translate.specs.Alphabets.{Alphabet, letters_of}
-use Rattle.pg_translate.specs.Inside.FirstSpellings.{first_spelling}
+use Rattle.pg_translate.specs.Inside.spellings.FirstSpellings.{first_spelling}
 use Rattle.pg_translate.specs.Spellings.{is_spelling, clash}
-use Rattle.pg_translate.specs.Inside.Members.{IsAmong}
-use Rattle.pg_translate.specs.Inside.Checks.{mark_checks}
+use Rattle.pg_translate.specs.Inside.spellings.Members.{IsAmong}
+use Rattle.pg_translate.specs.Inside.tables.Checks.{mark_checks}
 
 -- the rules of the translate file on minima, marks, letters and spellings
 pub record KeepsRules (t : Alphabet) : Type 0 where
