@@ -9,7 +9,7 @@ ghost use Rattle.pg_dict.specs.Word.{Word};
 ghost use Rattle.pg_dict.specs.Inside.SoundWords.{IsWord};
 ghost use Rattle.pg_dict.specs.Words.{words};
 ghost use Rattle.pg_dict.specs.Inside.LineWords.{line_reading, line_word};
-ghost use Rattle.pg_dict.specs.Inside.Written.{AreMarksOf, word_tokens, letters_among, IsLine, file_of, LinesGive};
+ghost use Rattle.pg_dict.specs.Inside.WrittenWords.{AreMarksOf, word_tokens, letters_among, IsLine, file_of, LinesGive};
 
 use pg_translate::Table;
 use pg_translate::laws::keeps_rules;

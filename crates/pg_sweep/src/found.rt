@@ -12,10 +12,10 @@ pub struct Sweep {
 
 impl Model for Sweep {
     ghost use Rattle.pg_sweep.specs.Sweeps.{costs_of};
-    ghost use Rattle.pg_sweep.specs.Inside.Found.{Found};
+    ghost use Rattle.pg_sweep.specs.Inside.RowsAndWinner.{RowsAndWinner};
     ghost use Rattle.pg_sweep.specs.Winners.{IsWinner};
 
-    ghost Value = { Found };
+    ghost Value = { RowsAndWinner };
 
     ghost view = { λ s. record { rows = s.rows.items; winner = s.winner } };
 

@@ -14,7 +14,7 @@ use Rattle.pg_translate.specs.Tokens.{Token, Digit, Weight}
 use Rattle.pg_types.specs.Parameters.{with_digit}
 use Rattle.pg_translate.specs.Inside.items.Items.{IsItem, decimal_value}
 use Rattle.pg_translate.specs.declared.items.Place.TheVariants.{Dictionary}
-use Rattle.pg_dict.specs.Inside.Written.{number_token, weight_tokens}
+use Rattle.pg_dict.specs.Inside.WrittenWords.{number_token, weight_tokens}
 use Rattle.pg_texts.specs.PattmpTexts.{number_text}
 
 -- digits that write a number

@@ -18,7 +18,7 @@ use Rattle.pg_translate.proofs.JoinedItems as reads
 use Rattle.pg_dict.specs.Word.{Word}
 use Rattle.pg_dict.specs.Words.{words}
 use Rattle.pg_dict.specs.Inside.LineWords.{LineWord, line_word, line_reading, on_line, words_from}
-use Rattle.pg_dict.specs.Inside.Written.{letters_among, IsLine, file_of, LinesGive}
+use Rattle.pg_dict.specs.Inside.WrittenWords.{letters_among, IsLine, file_of, LinesGive}
 use Rattle.pg_dict.proofs.LineReading.Lines.{words_short}
 
 -- the signs of the items of a dictionary are its letters

@@ -18,7 +18,7 @@ use Rattle.pg_dict.specs.Word.{Word}
 use Rattle.pg_dict.specs.Words.{word_of_items, words}
 use Rattle.pg_dict.specs.Inside.LineWords.{word_weight}
 use Rattle.pg_dict.specs.Inside.LineWords.{line_reading, line_word}
-use Rattle.pg_dict.specs.Inside.Written.{letters_among, IsLine, file_of, LinesGive}
+use Rattle.pg_dict.specs.Inside.WrittenWords.{letters_among, IsLine, file_of, LinesGive}
 use Rattle.pg_dict.proofs.LineReading.LineLaws.{line_is_read, file_is_read, items_line}
 use Rattle.pg_words.specs.declared.limits.TheConstants.{COUNT_MAX}
 use Rattle.pg_top.specs.sample.Sampled.{MadeText, next_state, draw, ending, syllable, further_syllables, word, words_made, sample_text}

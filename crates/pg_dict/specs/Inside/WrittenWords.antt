@@ -13,7 +13,7 @@ use Rattle.pg_dict.specs.Words.{sets_hyphen, keeps_care}
 use Rattle.pg_dict.specs.Inside.LineWords.{line_reading}
 
 -- a letter behind the first, with the mark and the weight of the position before it
-pub record Written : Type 0 where
+pub record MarkedLetter : Type 0 where
   pub mark : Mark
   pub weight : ℕ
   pub sign : ℕ
@@ -35,20 +35,20 @@ abbrev pub weight_tokens : ℕ → ℕ → List Token
 weight_tokens other weight = if weight == other then [] else number_token weight ∷ []
 
 -- the letters behind the first, in a word of this weight
-abbrev pub letters_tokens : ℕ → List Written → List Token
+abbrev pub letters_tokens : ℕ → List MarkedLetter → List Token
 letters_tokens weight letters =
-    flat_map (λ (l : Written). mark_tokens l.mark
+    flat_map (λ (l : MarkedLetter). mark_tokens l.mark
     ++ (weight_tokens weight l.weight ++ Letter l.sign ∷ [])) letters
 
 -- the signs of a word with the positions before them, from its weight and its letters
-abbrev pub written_signs : ℕ → ℕ → List Written → List PositionedSign
+abbrev pub written_signs : ℕ → ℕ → List MarkedLetter → List PositionedSign
 written_signs weight sign letters =
     positioned_sign Nothing weight EDGE ∷ positioned_sign Nothing weight sign ∷
-    (map (λ (l : Written). positioned_sign l.mark l.weight l.sign) letters
+    (map (λ (l : MarkedLetter). positioned_sign l.mark l.weight l.sign) letters
     ++ positioned_sign Nothing weight EDGE ∷ [])
 
 -- marks, weights and signs, one of each for each letter
-abbrev pub written_letters : List Mark → List ℕ → List ℕ → List Written
+abbrev pub written_letters : List Mark → List ℕ → List ℕ → List MarkedLetter
 written_letters [] weights signs = []
 written_letters (mark ∷ marks) [] signs = []
 written_letters (mark ∷ marks) (weight ∷ weights) [] = []
@@ -65,7 +65,7 @@ pub record AreMarksOf (w : Word) (marks : List Mark) : Type 0 where
   pub cares : map keeps_care marks ≡ between_letters w.cares
 
 -- the letters of a word behind its first, with these marks
-abbrev pub letters_with : List Mark → Word → List Written
+abbrev pub letters_with : List Mark → Word → List MarkedLetter
 letters_with marks w = written_letters marks (between_letters w.weights) (between_letters w.signs)
 
 -- a word with these marks: its weight where it differs, its first letter, and the letters behind it
