@@ -6,8 +6,8 @@ use std::os::unix::fs::MetadataExt;
 use std::test::Fail;
 use std::{fs, io};
 
-/// A read and the name of a file that is then written; how the two go; and the name and the bytes of
-/// a file behind them.
+/// A read, and the name of a file that is then written. Behind them stand whether the two go well,
+/// and the name of a file with the bytes that it then holds.
 type Row = (
     Read<'static>,
     &'static str,

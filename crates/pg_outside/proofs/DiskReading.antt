@@ -18,13 +18,15 @@ reads_content name bytes id a b opened ab all =
     now_weaker _ _ b (now_both _ _ b (keeps_now _ a b opened ab) all)
     (λ d s. record { node = s.0.node; there = node_there name id s.0.node d s.0.leads s.0.there; all = s.1 s.0.node s.0.there })
 
-pub reads_front : (name bytes : List ℕ) (limit : ℕ) (id : FileId) (a b : Option DiskHistory) → HoldsNow a (IsOpened name id) → KeepsDisk a b → HoldsNow b (IsFrontOf id limit bytes) → HoldsNow b (IsContentCut name limit bytes)
+pub reads_front : (name bytes : List ℕ) (limit : ℕ) (id : FileId) (a b : Option DiskHistory) → HoldsNow a (IsOpened name id) → KeepsDisk a b
+    → HoldsNow b (IsFrontOf id limit bytes) → HoldsNow b (IsContentCut name limit bytes)
 reads_front name bytes limit id a b opened ab front =
     now_weaker _ _ b (now_both _ _ b (keeps_now _ a b opened ab) front)
     (λ d s. let f = s.1 s.0.node s.0.there in record { node = s.0.node; there = node_there name id s.0.node d s.0.leads s.0.there; longer = f.0; front = f.1 })
 
 -- what was opened, and what the system says of it
-stat_of : (name : List ℕ) (id : FileId) (seen : Seen) (a b : Option DiskHistory) → HoldsNow a (IsOpened name id) → KeepsDisk a b → HoldsNow b (IsStat id seen) → HoldsNow b (λ d. IsOpened name id d × IsStat id seen d)
+stat_of : (name : List ℕ) (id : FileId) (seen : Seen) (a b : Option DiskHistory) → HoldsNow a (IsOpened name id) → KeepsDisk a b → HoldsNow b (IsStat id seen)
+    → HoldsNow b (λ d. IsOpened name id d × IsStat id seen d)
 stat_of name id seen a b opened ab stat = now_both _ _ b (keeps_now _ a b opened ab) stat
 
 -- a regular file that was opened is kept in mind

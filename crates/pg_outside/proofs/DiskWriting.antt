@@ -5,8 +5,10 @@ use Rattle.std.specs.Result.{IsErrAnd}
 use Rattle.std.proofs.lemmas.Grind.{common_steps}
 use Rattle.std.proofs.lemmas.Result.{on_err_weaker, on_ok_weaker}
 use Rattle.pg_outside.specs.Inside.disk.Causes.{IsCauseOf}
-use Rattle.pg_outside.specs.Inside.disk.Disks.{Node, Disk, DiskHistory, AreOne, KeepsDisk, HoldsNow, LeadsTo, LeadsToNone, IsOpened, IsWritable, IsStat, AppendsBytes, AppendsFront, id_at, node_at, node_of}
-use Rattle.pg_outside.specs.Inside.disk.Writes.{IsIn, KeepsAll, IsPlain, IsDevice, IsProtected, MayWrite, AtWrite, AfterWrite, AfterFailure, IsSeen, IsOld, IsPlaceOf, AreAllTaken, IsDeep, IsFull, IsWrite, WasKept, StandsFor, mode_of, mode_at}
+use Rattle.pg_outside.specs.Inside.disk.Disks.{Node, Disk, DiskHistory, AreOne, KeepsDisk, HoldsNow, LeadsTo, LeadsToNone}
+use Rattle.pg_outside.specs.Inside.disk.Disks.{IsOpened, IsWritable, IsStat, AppendsBytes, AppendsFront, id_at, node_at, node_of}
+use Rattle.pg_outside.specs.Inside.disk.Writes.{IsIn, KeepsAll, IsPlain, IsDevice, IsProtected, MayWrite, AtWrite, AfterWrite, AfterFailure, IsSeen}
+use Rattle.pg_outside.specs.Inside.disk.Writes.{IsOld, IsPlaceOf, AreAllTaken, IsDeep, IsFull, IsWrite, WasKept, StandsFor, mode_of, mode_at}
 use Rattle.pg_outside.specs.Inside.disk.Moments.{RunsCalls, WhereDirect, AtMoment, IsBeside, IsWritten, IsAsBefore, IsSame, HasRest}
 use Rattle.pg_outside.specs.declared.disk.error.WriteError.{WriteError}
 use Rattle.pg_outside.specs.declared.disk.system.FileId.{FileId}
@@ -219,12 +221,14 @@ no_other real name found old F a b is ab stands none =
     now_weaker _ _ b (now_both _ _ b (keeps_now _ a b is ab) stands) (λ d s. absurd (found_old real name found old d s.0 s.1 none))
 
 -- each name beside what the name leads to is taken
-pub is_full : (real name : List ℕ) (found : Option FileId) (b c : Option DiskHistory) → HoldsNow b (StandsFor real found name) → KeepsDisk b c → HoldsNow c (AreAllTaken real) → HoldsNow c (IsFull name)
+pub is_full : (real name : List ℕ) (found : Option FileId) (b c : Option DiskHistory) → HoldsNow b (StandsFor real found name) → KeepsDisk b c
+    → HoldsNow c (AreAllTaken real) → HoldsNow c (IsFull name)
 is_full real name found b c stands bc taken =
     now_weaker _ _ c (now_both _ _ c (keeps_now _ b c stands bc) taken) (λ d s. record { real = real; direct = s.0.direct; one = s.0.one; all = s.1 })
 
 -- a new file takes the place of what the name leads to
-replaces_one : (real name bytes : List ℕ) (kept after : List FileId) (mode : Option ℕ) (n : FileId) (a b c : Option DiskHistory) → KeepsDisk a b → HoldsNow b (Leads real name kept mode) → after ≡ kept ++ n ∷ []
+replaces_one : (real name bytes : List ℕ) (kept after : List FileId) (mode : Option ℕ) (n : FileId) (a b c : Option DiskHistory) → KeepsDisk a b
+    → HoldsNow b (Leads real name kept mode) → after ≡ kept ++ n ∷ []
     → RunsCalls b c (WhereDirect real (AtMoment real bytes mode)) (WhereDirect real (IsWritten real bytes mode n)) → RunsCalls a c (AtWrite name bytes kept) (AfterWrite name bytes kept after)
 replaces_one real name bytes kept after mode n a b c ab leads grown bc =
     keeps_then _ _ a b c ab (known_start _ _ _ _ (Leads real name kept mode) b c leads bc
@@ -258,7 +262,8 @@ replace_found_fails real name bytes kept mode a b c ab leads bc =
     (λ x y f p. failure_one real name bytes x y f.one (failed_may real bytes kept mode x y f.may (p f.direct))))
 
 -- what was opened is what the system says of it
-pub opened_seen : (name : List ℕ) (id : FileId) (seen : Seen) (a b : Option DiskHistory) → HoldsNow a (IsOpened name id) → HoldsNow a (IsWritable id) → KeepsDisk a b → HoldsNow b (IsStat id seen) → HoldsNow b (IsSeen name seen)
+pub opened_seen : (name : List ℕ) (id : FileId) (seen : Seen) (a b : Option DiskHistory) → HoldsNow a (IsOpened name id) → HoldsNow a (IsWritable id)
+    → KeepsDisk a b → HoldsNow b (IsStat id seen) → HoldsNow b (IsSeen name seen)
 opened_seen name id seen a b opened writable ab stat =
     now_weaker _ _ b (now_both _ _ b (keeps_now _ a b (now_both _ _ a opened writable) ab) stat) (λ d s. record {
       leads = s.0.0.leads ∙ ap (λ (k : FileId). Some k) (sym s.1.is);
@@ -290,7 +295,8 @@ failed_device name bytes seen x y device p s = record {
   device = λ n is. same_device (λ k. AppendsFront k bytes) name seen.id n x y s.leads is.leads p;
 }
 
-after_device : (name bytes : List ℕ) (kept : List FileId) (seen : Seen) (x y : Disk) → seen.is_regular ≡ false → AppendsBytes seen.id bytes x y → IsSeen name seen x → AfterWrite name bytes kept kept x y
+after_device : (name bytes : List ℕ) (kept : List FileId) (seen : Seen) (x y : Disk) → seen.is_regular ≡ false → AppendsBytes seen.id bytes x y
+    → IsSeen name seen x → AfterWrite name bytes kept kept x y
 after_device name bytes kept seen x y device p s = record {
   links = let w = p s.node s.there in w.1.links;
   allowed = may_device name kept seen x device s;

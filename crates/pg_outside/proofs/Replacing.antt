@@ -1,6 +1,7 @@
 -- The calls of a replacement, one after another.
 use Rattle.std.proofs.Common.{◌≡◌, ◌≢◌, inl, inr, ⊎_elim, ℕ, List, false, Option, Result, Ok, Err, OnOk, OnErr, refl, sym, ap, subst, ◌∙◌}
-use Rattle.pg_outside.specs.Inside.disk.Disks.{Disk, Links, DiskHistory, KeepsDisk, ChangesDisk, MakesFile, ChangesOnlyFile, RenamesUnlessLink, RemovesUnlessLink, RefusesRemoval, HoldsNow, IsStat, KnowsNewNames}
+use Rattle.pg_outside.specs.Inside.disk.Disks.{Disk, Links, DiskHistory, KeepsDisk, ChangesDisk, MakesFile, ChangesOnlyFile}
+use Rattle.pg_outside.specs.Inside.disk.Disks.{RenamesUnlessLink, RemovesUnlessLink, RefusesRemoval, HoldsNow, IsStat, KnowsNewNames}
 use Rattle.pg_outside.specs.Inside.disk.NewNames.{IsNewName}
 use Rattle.pg_outside.specs.declared.disk.system.Seen.{Seen}
 use Rattle.pg_outside.specs.Inside.disk.Moments.{RunsCalls, FillsFile, PlacesFile, PlacesFileAs, AtPlacing, WhereDirect, AtMoment, IsWritten, IsBeside, IsSame, HasRest, IsAsBefore}

@@ -1,5 +1,6 @@
 -- Which items the lines of a dictionary and of patterns do not have.
-use Rattle.std.proofs.Common.{◌≡◌, ℕ, ◌+◌, ◌-◌, ◌==◌, nat_lt, nat_le, ◌&&◌, Bool, true, false, if◌then◌else◌, List, [], ◌∷◌, ◌++◌, length, drop, fold, slice_index, find, Option, Some, None, option_map, refl, ap, suc, zero, nat_eq}
+use Rattle.std.proofs.Common.{◌≡◌, ℕ, ◌+◌, ◌-◌, ◌==◌, nat_lt, nat_le, ◌&&◌, Bool, true, false, if◌then◌else◌, List, [], ◌∷◌}
+use Rattle.std.proofs.Common.{◌++◌, length, drop, fold, slice_index, find, Option, Some, None, option_map, refl, ap, suc, zero, nat_eq}
 use Rattle.std.specs.Prelude.{take_while, codes}
 use Rattle.std.specs.List.{starts_with, list_all}
 use Rattle.pg_types.specs.Parameters.{with_digit}

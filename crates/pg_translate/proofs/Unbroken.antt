@@ -1,5 +1,6 @@
 -- No item holds a blank, a TAB, an LF or a CR, so none stands where a line ends.
-use Rattle.std.proofs.Common.{◌≡◌, ℕ, ◌+◌, ◌<◌, ◌≤◌, ◌==◌, true, false, ◌||◌, List, [], ◌∷◌, length, take, get_or, slice_index, Option, Some, None, MatchOption, IfSome, refl, sym, ap, ◌∙◌, arith, suc, zero}
+use Rattle.std.proofs.Common.{◌≡◌, ℕ, ◌+◌, ◌<◌, ◌≤◌, ◌==◌, true, false, ◌||◌, List, [], ◌∷◌, length, take}
+use Rattle.std.proofs.Common.{get_or, slice_index, Option, Some, None, MatchOption, IfSome, refl, sym, ap, ◌∙◌, arith, suc, zero}
 use Rattle.std.specs.List.{list_any, list_all, AllByRecursion}
 use Rattle.std.specs.Option.{option_or}
 use Rattle.std.proofs.lemmas.Bool.{and_parts, or_parts, not-true, true≢false, false_from_ne_true, eq-eqb, ne_eqb, leb-true}

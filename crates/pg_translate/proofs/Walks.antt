@@ -1,5 +1,6 @@
 -- A walk along the fronts of a text: what each front says of the spelling that begins the text, and of clashes.
-use Rattle.std.proofs.Common.{◌≡◌, ℕ, ◌+◌, ◌-◌, ◌<◌, ◌≤◌, ◌==◌, min, max, fold, Bool, true, false, not, ◌&&◌, ⊎_elim, List, [], ◌∷◌, length, take, find, Some, None, get_or, Fits, w8, ◌*◌, ◌^◌, suc, zero, refl, sym, ap, ◌∙◌, subst, arith, nat_eq}
+use Rattle.std.proofs.Common.{◌≡◌, ℕ, ◌+◌, ◌-◌, ◌<◌, ◌≤◌, ◌==◌, min, max, fold, Bool, true, false, not, ◌&&◌, ⊎_elim, List, [], ◌∷◌}
+use Rattle.std.proofs.Common.{length, take, find, Some, None, get_or, Fits, w8, ◌*◌, ◌^◌, suc, zero, refl, sym, ap, ◌∙◌, subst, arith, nat_eq}
 use Rattle.std.specs.List.{list_any, starts_with}
 use Rattle.std.proofs.lemmas.Bool.{and_from, and_left, or_from, or_left, or_right, not_from_false, eqb-true, eqb-false, ne_eqb, lt-ltb, true≢false, false_from_ne_true, cases_lt, cases_Bool}
 use Rattle.std.proofs.lemmas.List.{length-take-le, take_all}

@@ -1,5 +1,6 @@
 -- What is written of a word is read back as that word.
-use Rattle.std.proofs.Common.{◌≡◌, ℕ, ◌==◌, nat_lt, Bool, true, false, cond, List, [], ◌∷◌, ◌++◌, map, Some, refl, sym, ◌∙◌, ap, ◌-◌, ◌≤◌, length, take, get_or, slice_get, slice_index, Option, unwrap_or, suc, arith, ◌+◌, drop, length-drop}
+use Rattle.std.proofs.Common.{◌≡◌, ℕ, ◌==◌, nat_lt, Bool, true, false, cond, List, [], ◌∷◌, ◌++◌, map, Some, refl, sym}
+use Rattle.std.proofs.Common.{◌∙◌, ap, ◌-◌, ◌≤◌, length, take, get_or, slice_get, slice_index, Option, unwrap_or, suc, arith, ◌+◌, drop, length-drop}
 use Rattle.std.proofs.lemmas.Bool.{eqb-true}
 use Rattle.std.proofs.lemmas.List.{append_assoc, take_all, take_more, map-append, length-map, length-take}
 use Rattle.std.proofs.lemmas.Option.{get_or_from_slice_get, slice_get-get_or}
@@ -14,7 +15,8 @@ use Rattle.pg_dict.specs.Words.{sets_hyphen, keeps_care}
 use Rattle.pg_dict.specs.Inside.LineWords.{line_word}
 use Rattle.pg_dict.specs.Inside.Lines.Running.{signs_behind, running_word}
 use Rattle.pg_dict.proofs.LineReading.Running.{same_word, running_is}
-use Rattle.pg_dict.specs.Inside.WrittenWords.{MarkedLetter, number_token, mark_tokens, weight_tokens, letters_tokens, written_signs, written_letters, between_letters, AreMarksOf, letters_with, word_tokens}
+use Rattle.pg_dict.specs.Inside.WrittenWords.{MarkedLetter, number_token, mark_tokens, weight_tokens, letters_tokens, written_signs}
+use Rattle.pg_dict.specs.Inside.WrittenWords.{written_letters, between_letters, AreMarksOf, letters_with, word_tokens}
 
 -- a number sets the weight
 number_read : (weight : ℕ) (mark : Mark) (before n : ℕ) (more : List Token) → signs_behind weight mark before (number_token n ∷ more) ≡ signs_behind weight mark n more

@@ -1,5 +1,6 @@
 -- What a dictionary tells of its words.
-use Rattle.std.proofs.Common.{◌≡◌, ℕ, ◌+◌, ◌-◌, ◌*◌, ◌<◌, ◌≤◌, Bool, true, false, nat_le, List, [], ◌∷◌, length, slice_index_or, slice_get, slice_range, Some, refl, sym, ◌∙◌, ap, subst, arith, length-append, ◌||◌, not, nat_lt, slice_index, zero, suc, unwrap_or, ◌==◌}
+use Rattle.std.proofs.Common.{◌≡◌, ℕ, ◌+◌, ◌-◌, ◌*◌, ◌<◌, ◌≤◌, Bool, true, false, nat_le, List, [], ◌∷◌, length, slice_index_or, slice_get}
+use Rattle.std.proofs.Common.{slice_range, Some, refl, sym, ◌∙◌, ap, subst, arith, length-append, ◌||◌, not, nat_lt, slice_index, zero, suc, unwrap_or, ◌==◌}
 use Rattle.std.proofs.lemmas.List.Elements.{All-head, All-tail}
 use Rattle.std.specs.List.{list_all, sum_by, All}
 use Rattle.std.specs.Option.{option_map}
@@ -147,7 +148,8 @@ word_in ws i w each at =
     subst IsWord here (each i w (slice_get_within ws i w at))
 
 -- the word with a number, as it lies in the store
-pub word_stored : (s : Store) (now : List Word) (i : ℕ) (w : StoredWord) → stored_words s ≡ now → i < length now → w ≡ slice_index_or s.words.items i w → slice_get now i ≡ Some (word_at (columns_of s) w)
+pub word_stored : (s : Store) (now : List Word) (i : ℕ) (w : StoredWord) → stored_words s ≡ now → i < length now → w ≡ slice_index_or s.words.items i w
+    → slice_get now i ≡ Some (word_at (columns_of s) w)
 word_stored s now i w view inside at =
     let size : length now ≡ length s.words.items = ap (λ (ws : List Word). length ws) (sym view) ∙ length-map s.words.items (word_at (columns_of s)) in
     let stored : slice_get s.words.items i ≡ Some w = slice_get_read s.words.items (length s.words.items) i w refl (omega arith) at in

@@ -27,7 +27,8 @@ module _ (m : Minima) (ws : List Word) (P : Patterns) where
       ∙ ap (λ r. F (picked_entries P kept) (needs (positions_in_reach m ws) (picked_entries P kept)) r) size
       ∙ ap (found_by (positions_in_reach m ws) (length P)) (sym done)
 
-  pub rounds_patterns : (kept : List ℕ) (count : ℕ) → rounds (positions_in_reach m ws) P ≡ record { patterns = picked_entries P kept; count = count } → picked_entries P kept ≡ (pruning_of m ws P).patterns
+  pub rounds_patterns : (kept : List ℕ) (count : ℕ) → rounds (positions_in_reach m ws) P ≡ record { patterns = picked_entries P kept; count = count }
+      → picked_entries P kept ≡ (pruning_of m ws P).patterns
   unfolding pruning_of
   rounds_patterns kept count done = ap (λ (r : RoundsResult). r.patterns) (sym done)
 

@@ -8,7 +8,8 @@ use Rattle.pg_dict.specs.Inside.Lines.PositionedSigns.{Columns}
 use Rattle.pg_dict.specs.Inside.Lines.ReadColumns.{columns_from}
 
 -- after an item the rest leads to the same columns and is shorter, or the word is done or refused
-abbrev pub IsStep : Line → WordReading → Columns → Columns → Result (Option WordReading) ReadingError → Type 0
+abbrev pub IsStep : Line → WordReading → Columns → Columns
+    → Result (Option WordReading) ReadingError → Type 0
 IsStep l at old new (Ok (Some next)) = (columns_from l next new ≡ columns_from l at old)
     × (length next.rest.now < length at.rest.now)
 IsStep l at old new (Ok None) = columns_from l at old ≡ Ok new
