@@ -21,7 +21,6 @@ pub(crate) struct StoredWord {
     pub start: u32,
     /// The index behind its last sign.
     pub end: u32,
-    /// The weight of the word.
     pub weight: Weight,
 }
 

@@ -12,7 +12,7 @@ use Rattle.pg_outside.specs.Inside.disk.Writes.{IsOld, IsPlaceOf, AreAllTaken, I
 use Rattle.pg_outside.specs.Inside.disk.Moments.{RunsCalls, WhereDirect, AtMoment, IsBeside, IsWritten, IsAsBefore, IsSame, HasRest}
 use Rattle.pg_outside.specs.declared.disk.error.WriteError.{WriteError}
 use Rattle.pg_outside.specs.declared.disk.system.FileId.{FileId}
-use Rattle.pg_outside.specs.declared.disk.system.Seen.{Seen}
+use Rattle.pg_outside.specs.declared.disk.system.FileStatus.{FileStatus}
 use Rattle.pg_outside.proofs.Causes.{passed_on}
 use Rattle.pg_outside.proofs.Results.{on_err, no_value}
 use Rattle.pg_outside.proofs.Runs.{known_start, keeps_then, keeps_now, now_both, now_weaker, no_step}
@@ -136,16 +136,16 @@ may_none name kept d none =
       free = λ n leads is. none_some n (sym none ∙ leads);
     }
 
-seen_node : (name : List ℕ) (seen : Seen) (d : Disk) (s : IsSeen name seen d) → node_at d name ≡ Some s.node
+seen_node : (name : List ℕ) (seen : FileStatus) (d : Disk) (s : IsSeen name seen d) → node_at d name ≡ Some s.node
 seen_node name seen d s = ap (λ (k : Option FileId). node_of k d.files) s.leads ∙ s.there
 
-seen_writable : (name : List ℕ) (seen : Seen) (d : Disk) (s : IsSeen name seen d) → IfSome (node_at d name) (λ node. node.is_writable ≡ true)
+seen_writable : (name : List ℕ) (seen : FileStatus) (d : Disk) (s : IsSeen name seen d) → IfSome (node_at d name) (λ node. node.is_writable ≡ true)
 seen_writable name seen d s = subst (λ (o : Option Node). IfSome o (λ node. node.is_writable ≡ true)) (sym (seen_node name seen d s)) s.writable
 
 may_write : (name : List ℕ) (kept : List FileId) (mode : Option ℕ) (d : Disk) → MayReplace name kept mode d → MayWrite name kept d
 may_write name kept mode d may = record { writable = may.writable; free = λ n is. may.free n is.leads is.is_kept }
 
-pub may_seen : (name : List ℕ) (kept : List FileId) (seen : Seen) (d : Disk) → IsSeen name seen d → seen.is_regular ≡ true → (IsIn seen.id kept → ⊥) → MayReplace name kept (Some seen.mode) d
+pub may_seen : (name : List ℕ) (kept : List FileId) (seen : FileStatus) (d : Disk) → IsSeen name seen d → seen.is_regular ≡ true → (IsIn seen.id kept → ⊥) → MayReplace name kept (Some seen.mode) d
 may_seen name kept seen d s regular apart = record {
   mode_is = ap mode_of (seen_node name seen d s) ∙ ap (λ (m : ℕ). Some m) s.mode;
   plain = subst (λ (o : Option Node). IfSome o (λ node. node.is_regular ≡ true)) (sym (seen_node name seen d s)) (s.kind ∙ regular);
@@ -177,7 +177,7 @@ failed_may name bytes kept mode d last may as_before = record {
 }
 
 -- the name leads to no regular file
-seen_device : (name : List ℕ) (seen : Seen) (d : Disk) → IsSeen name seen d → seen.is_regular ≡ false → IsPlain name d → ⊥
+seen_device : (name : List ℕ) (seen : FileStatus) (d : Disk) → IsSeen name seen d → seen.is_regular ≡ false → IsPlain name d → ⊥
 seen_device name seen d s device plain =
     true_false (sym (subst (λ (o : Option Node). IfSome o (λ node. node.is_regular ≡ true)) (seen_node name seen d s) plain) ∙ s.kind ∙ device)
 
@@ -187,10 +187,10 @@ pub record Leads (real name : List ℕ) (kept : List FileId) (mode : Option ℕ)
   pub one : AreOne d real name
   pub may : MayReplace real kept mode d
 
-seen_one : (p q : List ℕ) (seen : Seen) (d : Disk) → AreOne d p q → IsSeen p seen d → IsSeen q seen d
+seen_one : (p q : List ℕ) (seen : FileStatus) (d : Disk) → AreOne d p q → IsSeen p seen d → IsSeen q seen d
 seen_one p q seen d one s = record { leads = leads_one seen.id d p q one s.leads; node = s.node; there = s.there; kind = s.kind; mode = s.mode; writable = s.writable }
 
-may_old : (real name : List ℕ) (kept : List FileId) (found : Option FileId) (old : Option Seen) (mode : Option ℕ) (d : Disk) → IsOld name old d
+may_old : (real name : List ℕ) (kept : List FileId) (found : Option FileId) (old : Option FileStatus) (mode : Option ℕ) (d : Disk) → IsOld name old d
     → StandsFor real found name d → IsPlaceOf found old mode → IfSome old (λ seen. seen.is_regular ≡ true) → IfSome old (λ seen. IsIn seen.id kept → ⊥) → MayReplace real kept mode d
 may_old real name kept None None mode d is s place regular free = subst (λ (m : Option ℕ). MayReplace real kept m d) (sym place) (may_none real kept d s.leads)
 may_old real name kept (Some id) (Some seen) mode d is s place regular free = subst (λ (m : Option ℕ). MayReplace real kept m d) (sym place.1)
@@ -198,7 +198,7 @@ may_old real name kept (Some id) (Some seen) mode d is s place regular free = su
 may_old real name kept None (Some seen) mode d is s place regular free = absurd place
 may_old real name kept (Some id) None mode d is s place regular free = absurd place
 
-pub leads_old : (real name : List ℕ) (kept : List FileId) (found : Option FileId) (old : Option Seen) (mode : Option ℕ) (a b : Option DiskHistory)
+pub leads_old : (real name : List ℕ) (kept : List FileId) (found : Option FileId) (old : Option FileStatus) (mode : Option ℕ) (a b : Option DiskHistory)
     → HoldsNow a (IsOld name old) → KeepsDisk a b → HoldsNow b (StandsFor real found name) → IsPlaceOf found old mode → IfSome old (λ seen. seen.is_regular ≡ true)
     → IfSome old (λ seen. IsIn seen.id kept → ⊥) → HoldsNow b (Leads real name kept mode)
 leads_old real name kept found old mode a b is ab stands place regular free =
@@ -209,13 +209,13 @@ leads_old real name kept found old mode a b is ab stands place regular free =
     })
 
 -- where the disk is told, what was found is what was seen
-found_old : (real name : List ℕ) (found : Option FileId) (old : Option Seen) (d : Disk) → IsOld name old d → StandsFor real found name d → ((mode : Option ℕ) → IsPlaceOf found old mode → ⊥) → ⊥
+found_old : (real name : List ℕ) (found : Option FileId) (old : Option FileStatus) (d : Disk) → IsOld name old d → StandsFor real found name d → ((mode : Option ℕ) → IsPlaceOf found old mode → ⊥) → ⊥
 found_old real name None None d is s none = none None refl
 found_old real name (Some id) (Some seen) d is s none = none (Some seen.mode) (some_same id seen.id (sym s.leads ∙ id_one d real name s.one ∙ is.leads), refl)
 found_old real name None (Some seen) d is s none = none_some seen.id (sym s.leads ∙ id_one d real name s.one ∙ is.leads)
 found_old real name (Some id) None d is s none = none_some id (sym is ∙ sym (id_one d real name s.one) ∙ s.leads)
 
-pub no_other : (real name : List ℕ) (found : Option FileId) (old : Option Seen) (F : Disk → Type 0) (a b : Option DiskHistory) → HoldsNow a (IsOld name old)
+pub no_other : (real name : List ℕ) (found : Option FileId) (old : Option FileStatus) (F : Disk → Type 0) (a b : Option DiskHistory) → HoldsNow a (IsOld name old)
     → KeepsDisk a b → HoldsNow b (StandsFor real found name) → ((mode : Option ℕ) → IsPlaceOf found old mode → ⊥) → HoldsNow b F
 no_other real name found old F a b is ab stands none =
     now_weaker _ _ b (now_both _ _ b (keeps_now _ a b is ab) stands) (λ d s. absurd (found_old real name found old d s.0 s.1 none))
@@ -262,7 +262,7 @@ replace_found_fails real name bytes kept mode a b c ab leads bc =
     (λ x y f p. failure_one real name bytes x y f.one (failed_may real bytes kept mode x y f.may (p f.direct))))
 
 -- what was opened is what the system says of it
-pub opened_seen : (name : List ℕ) (id : FileId) (seen : Seen) (a b : Option DiskHistory) → HoldsNow a (IsOpened name id) → HoldsNow a (IsWritable id)
+pub opened_seen : (name : List ℕ) (id : FileId) (seen : FileStatus) (a b : Option DiskHistory) → HoldsNow a (IsOpened name id) → HoldsNow a (IsWritable id)
     → KeepsDisk a b → HoldsNow b (IsStat id seen) → HoldsNow b (IsSeen name seen)
 opened_seen name id seen a b opened writable ab stat =
     now_weaker _ _ b (now_both _ _ b (keeps_now _ a b (now_both _ _ a opened writable) ab) stat) (λ d s. record {
@@ -278,24 +278,24 @@ opened_seen name id seen a b opened writable ab stat =
 same_device : (R : FileId → Disk → Disk → Type 0) (name : List ℕ) (n m : FileId) (x y : Disk) → LeadsTo name n x → LeadsTo name m x → R n x y → R m x y
 same_device R name n m x y leads other p = subst (λ (k : FileId). R k x y) (some_same n m (sym leads ∙ other)) p
 
-may_device : (name : List ℕ) (kept : List FileId) (seen : Seen) (x : Disk) → seen.is_regular ≡ false → IsSeen name seen x → MayWrite name kept x
+may_device : (name : List ℕ) (kept : List FileId) (seen : FileStatus) (x : Disk) → seen.is_regular ≡ false → IsSeen name seen x → MayWrite name kept x
 may_device name kept seen x device s = record { writable = seen_writable name seen x s; free = λ n is. seen_device name seen x s device is.plain }
 
-at_device : (name bytes : List ℕ) (kept : List FileId) (seen : Seen) (x y : Disk) → seen.is_regular ≡ false → AppendsFront seen.id bytes x y → IsSeen name seen x → AtWrite name bytes kept x y
+at_device : (name bytes : List ℕ) (kept : List FileId) (seen : FileStatus) (x y : Disk) → seen.is_regular ≡ false → AppendsFront seen.id bytes x y → IsSeen name seen x → AtWrite name bytes kept x y
 at_device name bytes kept seen x y device p s = record {
   allowed = may_device name kept seen x device s;
   plain = λ plain. absurd (seen_device name seen x s device plain);
   device = λ n is. same_device (λ k. AppendsFront k bytes) name seen.id n x y s.leads is.leads p;
 }
 
-failed_device : (name bytes : List ℕ) (seen : Seen) (x y : Disk) → seen.is_regular ≡ false → AppendsFront seen.id bytes x y → IsSeen name seen x → AfterFailure name bytes x y
+failed_device : (name bytes : List ℕ) (seen : FileStatus) (x y : Disk) → seen.is_regular ≡ false → AppendsFront seen.id bytes x y → IsSeen name seen x → AfterFailure name bytes x y
 failed_device name bytes seen x y device p s = record {
   links = let w = p.1 s.node s.there in w.1.links;
   plain = λ plain. absurd (seen_device name seen x s device plain);
   device = λ n is. same_device (λ k. AppendsFront k bytes) name seen.id n x y s.leads is.leads p;
 }
 
-after_device : (name bytes : List ℕ) (kept : List FileId) (seen : Seen) (x y : Disk) → seen.is_regular ≡ false → AppendsBytes seen.id bytes x y
+after_device : (name bytes : List ℕ) (kept : List FileId) (seen : FileStatus) (x y : Disk) → seen.is_regular ≡ false → AppendsBytes seen.id bytes x y
     → IsSeen name seen x → AfterWrite name bytes kept kept x y
 after_device name bytes kept seen x y device p s = record {
   links = let w = p s.node s.there in w.1.links;
@@ -304,7 +304,7 @@ after_device name bytes kept seen x y device p s = record {
   device = λ n is. (same_device (λ k. AppendsBytes k bytes) name seen.id n x y s.leads is.leads p, refl);
 }
 
-pub writes_device : (name bytes : List ℕ) (kept : List FileId) (seen : Seen) (n : FileId) (a b c : Option DiskHistory) → HoldsNow a (IsOpened name n) → HoldsNow a (IsWritable n)
+pub writes_device : (name bytes : List ℕ) (kept : List FileId) (seen : FileStatus) (n : FileId) (a b c : Option DiskHistory) → HoldsNow a (IsOpened name n) → HoldsNow a (IsWritable n)
     → KeepsDisk a b → HoldsNow b (IsStat n seen) → seen.is_regular ≡ false
     → RunsCalls b c (AppendsFront n bytes) (AppendsBytes n bytes) → RunsCalls a c (AtWrite name bytes kept) (AfterWrite name bytes kept kept)
 writes_device name bytes kept seen n a b c opened writable ab stat device bc =
@@ -312,7 +312,7 @@ writes_device name bytes kept seen n a b c opened writable ab stat device bc =
     (λ x y f p. at_device name bytes kept seen x y device (subst (λ (k : FileId). AppendsFront k bytes x y) (sym f.1.is) p) f.0)
     (λ x y f p. after_device name bytes kept seen x y device (subst (λ (k : FileId). AppendsBytes k bytes x y) (sym f.1.is) p) f.0))
 
-pub write_device_fails : (name bytes : List ℕ) (kept : List FileId) (seen : Seen) (n : FileId) (a b c : Option DiskHistory) → HoldsNow a (IsOpened name n)
+pub write_device_fails : (name bytes : List ℕ) (kept : List FileId) (seen : FileStatus) (n : FileId) (a b c : Option DiskHistory) → HoldsNow a (IsOpened name n)
     → HoldsNow a (IsWritable n) → KeepsDisk a b → HoldsNow b (IsStat n seen) → seen.is_regular ≡ false
     → RunsCalls b c (AppendsFront n bytes) (AppendsFront n bytes) → RunsCalls a c (AtWrite name bytes kept) (AfterFailure name bytes)
 write_device_fails name bytes kept seen n a b c opened writable ab stat device bc =

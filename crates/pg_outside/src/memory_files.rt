@@ -69,7 +69,7 @@ impl MemoryFiles {
         ensures room { OnOk result (room ≤ room_in self.new.files.items name.now) }
         ensures rooms { NoneFell (room_in self.old.files.items) (room_in self.new.files.items) }
 
-        // Refused, the files and their room are as before.
+        // Where memory is short, the files and their room are as before.
         ensures err { OnErr result (files_of self.new ≡ files_of self.old) }
         ensures err_rooms { OnErr result
             (SameCounts (room_in self.old.files.items) (room_in self.new.files.items)) }

@@ -16,8 +16,8 @@ pub(crate) struct Plan {
 }
 
 impl Plan {
-    /// The first bytes that the call keeps of those that it was handed: none where it names no
-    /// number of them.
+    /// The first bytes of those that the call was handed, which it keeps: none where `keep` is
+    /// `None`.
     pub fn front<'a>(&self, bytes: &'a [u8]) -> &'a [u8]
         ensures kept { result.now ≡ take (unwrap_or self.now.keep 0) bytes.now }
         ensures few { length result.now ≤ length bytes.now }

@@ -13,8 +13,8 @@ use std::alloc::{AllocError, Global};
 
 /// Files in memory whose reads and writes never fail: their counts of faults are always 0.
 ///
-/// It tells its files until a read of a name that is not there, or a write that finds no memory,
-/// and nothing from then on.
+/// It tells its files until a name is read that is not there, or a write finds no memory. From then
+/// on it tells nothing.
 #[derive(Drop)]
 pub struct QuietFiles {
     alloc: Global,
@@ -50,7 +50,7 @@ impl QuietFiles {
         ensures room { OnOk result (room ≤ room_in self.new.files.items name.now) }
         ensures rooms { NoneFell (room_in self.old.files.items) (room_in self.new.files.items) }
 
-        // Refused, the files and their room are as before.
+        // Where memory is short, the files and their room are as before.
         ensures err { OnErr result (quiet_files_of self.new ≡ quiet_files_of self.old) }
         ensures err_rooms { OnErr result
             (SameCounts (room_in self.old.files.items) (room_in self.new.files.items)) }

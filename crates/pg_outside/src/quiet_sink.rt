@@ -9,7 +9,7 @@ use super::outside::{Failed, Sink};
 use std::alloc::{AllocError, Global};
 
 /// A sink of bounded room in memory whose puts always succeed. It tells its bytes until a put for
-/// which the room does not suffice, and nothing from then on.
+/// which the room does not suffice. From then on it tells nothing.
 #[derive(Drop)]
 pub struct QuietSink {
     held: BoundedBytes,

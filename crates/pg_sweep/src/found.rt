@@ -2,8 +2,7 @@
 use crate::rows::{SweepRow, number_of_winner};
 use std::marker::Model;
 
-/// What a sweep found: a row for each set of parameters, in order, and which of them is the
-/// cheapest.
+/// What a sweep found: a row for each set of parameters, in order, and which row is the cheapest.
 #[derive(Drop)]
 pub struct Sweep {
     rows: Vec<SweepRow>,

@@ -24,7 +24,8 @@ pub struct Given<'a, R> {
 }
 
 impl<'a, R> Given<'a, R> {
-    /// A system without words whose files read and write so, and this step of which fails.
+    /// A system without words. Its files read and write as `calls` says, and the step `broken`
+    /// fails.
     pub fn with_calls(system: &'a R, calls: &'a [Call], broken: Broken) -> Given<'a, R> {
         Given {
             system,

@@ -43,7 +43,7 @@ pub fn refused() -> Error {
 }
 
 impl<'a, F: Drop> Scripted<'a, F> {
-    /// Over this reader or writer, with these calls, and no other step that fails.
+    /// One over this reader or writer, with these calls. No other step fails.
     pub fn new(inner: F, calls: &'a [Call]) -> Scripted<'a, F> {
         Scripted {
             inner,

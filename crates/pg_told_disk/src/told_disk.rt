@@ -6,7 +6,7 @@ ghost use Rattle.pg_told_disk.specs.Inside.Changes.{IsHeldIn};
 use crate::change::Change;
 use crate::links::{Link, is_link, link_of, real_of, text_of};
 use crate::lookup::{bytes_of, lets_write, mode_of, number_of};
-use pg_outside::{CallFailed, Entry, FileId, Seen, System, linked_name};
+use pg_outside::{CallFailed, Entry, FileId, FileStatus, System, linked_name};
 use std::alloc::{AllocError, Global};
 
 /// How many bytes a write takes at most.
@@ -274,14 +274,14 @@ impl System for ToldDisk {
         }
     }
 
-    fn stat(&mut self, file: &ToldFile) -> Result<Seen, CallFailed> {
+    fn stat(&mut self, file: &ToldFile) -> Result<FileStatus, CallFailed> {
         if self.failing.next_fails() {
             return Err(CallFailed);
         }
         let Some(mode) = mode_of(&self.log, file.number) else {
             return Err(self.failing.fail());
         };
-        Ok(Seen {
+        Ok(FileStatus {
             id: id_of(file.number),
             is_regular: true,
             mode,

@@ -1,4 +1,4 @@
--- What pruning finds, part by part: the need of an entry, what rounds come to, and the lines of the
+-- The parts of what pruning finds: the need of an entry, what rounds come to, and the lines of the
 -- report.
 use Rattle.std.specs.Prelude.{ℕ, ◌-◌, not, List, [], ◌∷◌, ◌++◌, length, find, Option}
 use Rattle.std.specs.Option.{option_map, option_to_list}

@@ -7,7 +7,7 @@ use Rattle.pg_outside.specs.Inside.disk.NewNames.{IsNewName, IsLinkedName}
 use Rattle.pg_outside.specs.declared.disk.system.Entry.{Entry}
 use Rattle.pg_outside.specs.declared.disk.system.Entry.TheVariants.{Missing, Link, File}
 use Rattle.pg_outside.specs.declared.disk.system.FileId.{FileId}
-use Rattle.pg_outside.specs.declared.disk.system.Seen.{Seen}
+use Rattle.pg_outside.specs.declared.disk.system.FileStatus.{FileStatus}
 
 -- a file: its kind, its bytes, its permissions, whether it may be written, whether it is stored
 pub record Node : Type 0 where
@@ -193,7 +193,7 @@ abbrev pub IsWritable : FileId → Disk → Type 0
 IsWritable id disk = (node : Node) → disk.files id ≡ Some node → node.is_writable ≡ true
 
 -- this is what the file is
-pub record IsStat (id : FileId) (seen : Seen) (disk : Disk) : Type 0 where
+pub record IsStat (id : FileId) (seen : FileStatus) (disk : Disk) : Type 0 where
   pub is : seen.id ≡ id
   pub node : Node
   pub there : disk.files id ≡ Some node
