@@ -7,7 +7,7 @@ pub const NONE: usize = usize::MAX;
 
 /// A cell of a family.
 #[derive(Clone, Copy)]
-pub struct Used {
+pub struct FamilyCell {
     /// The cell, 0 where it was given up.
     pub cell: usize,
     /// Its sign.
@@ -22,7 +22,7 @@ pub struct Used {
 pub struct Families {
     alloc: Global,
     signs: Sign,
-    list: Vec<Used>,
+    list: Vec<FamilyCell>,
 }
 
 /// The cell of a sign at a base.
@@ -35,7 +35,7 @@ impl Families {
     pub fn new(alloc: Global, signs: Sign) -> Result<Families, AllocError> {
         let mut list = Vec::new(alloc);
         for sign in 1..=signs {
-            list.push(Used {
+            list.push(FamilyCell {
                 cell: usize::from(sign),
                 sign,
                 family: 0,
@@ -45,7 +45,7 @@ impl Families {
     }
 
     /// The cells, in the order in which they were added.
-    pub fn list(&self) -> &[Used] {
+    pub fn list(&self) -> &[FamilyCell] {
         self.list.as_slice()
     }
 
@@ -127,7 +127,7 @@ impl Families {
         let base = self.base(family);
         let cell = cell_at(base, sign);
         let joins = base != 0 && self.family_below(cell) == NONE;
-        self.list.push(Used { cell, sign, family })?;
+        self.list.push(FamilyCell { cell, sign, family })?;
         if joins { Ok(()) } else { self.place(family) }
     }
 

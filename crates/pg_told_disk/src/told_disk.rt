@@ -32,12 +32,12 @@ pub struct ToldDisk {
     /// The changes, the latest first.
     log: Vec<Change>,
     is_told: bool,
-    failing: Failing,
+    failing: FailurePlan,
 }
 
 /// Which calls fail, and how many did.
 #[derive(Drop)]
-struct Failing {
+struct FailurePlan {
     calls: u64,
     /// The first and the last call that fails, counted from 1.
     from: u64,
@@ -55,7 +55,7 @@ fn id_of(number: u64) -> FileId
     }
 }
 
-impl Failing {
+impl FailurePlan {
     /// Counts a call that fails.
     fn fail(&mut self) -> CallFailed
         ensures later { self.old.failures ≤ self.new.failures }
@@ -92,7 +92,7 @@ impl ToldDisk {
             links: Vec::new(alloc),
             log: Vec::new(alloc),
             is_told: true,
-            failing: Failing {
+            failing: FailurePlan {
                 calls: 0,
                 from: u64::MAX,
                 to: 0,
