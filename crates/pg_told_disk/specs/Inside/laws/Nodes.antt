@@ -1,7 +1,7 @@
 -- The files of a list of changes.
 use Rattle.std.proofs.Common.{◌≡◌, ℕ, List, [], ◌∷◌, length, Bool, true, false, cond, nat_eq, Option, Some, None, string_bytes, refl, sym, ap, ◌∙◌, eq-eqb}
 use Rattle.std.specs.Str.{bytes_eq}
-use Rattle.pg_told_disk.specs.Inside.Cases.{none_some, some_same, of_cond}
+use Rattle.pg_told_disk.specs.Inside.laws.Cases.{none_some, some_same, of_cond}
 use Rattle.pg_told_disk.specs.Inside.Changes.{number_in, mode_in}
 use Rattle.pg_told_disk.specs.declared.change.Change.{Change}
 use Rattle.pg_told_disk.specs.declared.change.Change.TheVariants.{Made, Shared, GotMode, Renamed, Removed}
