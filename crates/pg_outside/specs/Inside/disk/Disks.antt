@@ -135,7 +135,7 @@ pub record RenamesFile (from to : List ℕ) (old new : Disk) : Type 0 where
   pub files : (other : FileId) → new.files other ≡ old.files other
   pub refused : new.refused ≡ old.refused
 
--- a call does so, unless one of the names is a link itself
+-- a call gives the file of the one name the other, unless one of the names is a link itself
 abbrev pub RenamesUnlessLink : List ℕ → List ℕ → Disk → Disk → Type 0
 RenamesUnlessLink from to old new = old.links.is_link from ≡ false
     → old.links.is_link to ≡ false → RenamesFile from to old new
@@ -148,7 +148,7 @@ pub record RemovesName (own : List ℕ) (old new : Disk) : Type 0 where
   pub files : (other : FileId) → new.files other ≡ old.files other
   pub refused : new.refused ≡ old.refused
 
--- a call does so, unless the name is a link itself
+-- a call takes the name away, unless it is a link itself
 abbrev pub RemovesUnlessLink : List ℕ → Disk → Disk → Type 0
 RemovesUnlessLink own old new = old.links.is_link own ≡ false → RemovesName own old new
 
