@@ -6,8 +6,8 @@ use pg_types::Sign;
 use std::process::Abort;
 use std::test::Fail;
 
-/// A step: the sign that is added below a string, or removed where it is there; the cell of an added
-/// one; and then the number of taken cells and the greatest of them.
+/// A step: the sign that is added below a string, or removed where it is there. The cell of an
+/// added sign follows, and then the number of taken cells and the greatest of them.
 type Step = (&'static [Sign], Sign, Option<usize>, usize, usize);
 
 /// Takes the steps, and compares after each.

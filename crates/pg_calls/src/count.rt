@@ -18,13 +18,16 @@ fn count_window(
     requires signs { counts.old.signs ≡ 4 }
     requires len { counts.old.len ≡ 2 }
     requires room { (u : List ℕ) →
-        ((sums_of counts.old.counted.counts u).0 ≤ 1000) × ((sums_of counts.old.counted.counts u).1 ≤ 1000) }
+        ((sums_of counts.old.counted.counts u).0 ≤ 1000)
+        × ((sums_of counts.old.counted.counts u).1 ≤ 1000) }
     ensures signs { counts.new.signs ≡ 4 }
     ensures len { counts.new.len ≡ 2 }
     ensures room { (n : ℕ) → ((u : List ℕ) →
-        ((sums_of counts.old.counted.counts u).0 ≤ n) × ((sums_of counts.old.counted.counts u).1 ≤ n))
+        ((sums_of counts.old.counted.counts u).0 ≤ n)
+        × ((sums_of counts.old.counted.counts u).1 ≤ n))
         → (u : List ℕ) →
-        ((sums_of counts.new.counted.counts u).0 ≤ n + 9) × ((sums_of counts.new.counted.counts u).1 ≤ n + 9) }
+        ((sums_of counts.new.counted.counts u).0 ≤ n + 9)
+        × ((sums_of counts.new.counted.counts u).1 ≤ n + 9) }
 {
     if first < 1 || 4 < first || second < 1 || 4 < second || 9 < weight {
         return Err(Fail::new("a sign of a, b and c, and a weight of one digit"));

@@ -7,7 +7,7 @@ pub const NONE: usize = usize::MAX;
 
 /// A cell of a family.
 #[derive(Clone, Copy)]
-pub struct Used {
+pub struct FamilyCell {
     /// The cell, 0 where it was given up.
     pub cell: usize,
     /// Its sign.
@@ -22,10 +22,10 @@ pub struct Used {
 pub struct Families {
     alloc: Global,
     signs: Sign,
-    list: Vec<Used>,
+    list: Vec<FamilyCell>,
 }
 
-// The cell of a sign at a base.
+/// The cell of a sign at a base.
 fn cell_at(base: usize, sign: Sign) -> usize {
     base.saturating_add(usize::from(sign))
 }
@@ -35,7 +35,7 @@ impl Families {
     pub fn new(alloc: Global, signs: Sign) -> Result<Families, AllocError> {
         let mut list = Vec::new(alloc);
         for sign in 1..=signs {
-            list.push(Used {
+            list.push(FamilyCell {
                 cell: usize::from(sign),
                 sign,
                 family: 0,
@@ -45,7 +45,7 @@ impl Families {
     }
 
     /// The cells, in the order in which they were added.
-    pub fn list(&self) -> &[Used] {
+    pub fn list(&self) -> &[FamilyCell] {
         self.list.as_slice()
     }
 
@@ -84,7 +84,7 @@ impl Families {
         Ok(())
     }
 
-    // The family below a used cell.
+    /// The family below a used cell.
     fn family_below(&self, cell: usize) -> usize {
         for (i, used) in self.list.iter().enumerate() {
             if used.cell == cell {
@@ -94,7 +94,7 @@ impl Families {
         NONE
     }
 
-    // The number of a family's sign in the list, counted from 1, or 0 where the family lacks it.
+    /// The number of a family's sign in the list, counted from 1, or 0 where the family lacks it.
     fn number_of(&self, family: usize, sign: Sign) -> usize {
         for (i, used) in self.list.iter().enumerate() {
             if used.family == family && used.sign == sign {
@@ -104,7 +104,7 @@ impl Families {
         0
     }
 
-    // The base of a family that is not the root, or 0 where there is none.
+    /// The base of a family that is not the root, or 0 where there is none.
     fn base(&self, family: usize) -> usize {
         for used in &self.list {
             if used.family == family {
@@ -114,7 +114,7 @@ impl Families {
         0
     }
 
-    // Gives up the cell with a number.
+    /// Gives up the cell with a number.
     fn give_up(&mut self, number: usize) {
         if let Some(used) = self.list.get_mut(number.saturating_sub(1)) {
             used.cell = 0;
@@ -122,16 +122,16 @@ impl Families {
         }
     }
 
-    // Adds a sign to a family, in place where its cell is unused.
+    /// Adds a sign to a family, in place where its cell is unused.
     fn add(&mut self, family: usize, sign: Sign) -> Result<(), AllocError> {
         let base = self.base(family);
         let cell = cell_at(base, sign);
         let joins = base != 0 && self.family_below(cell) == NONE;
-        self.list.push(Used { cell, sign, family })?;
+        self.list.push(FamilyCell { cell, sign, family })?;
         if joins { Ok(()) } else { self.place(family) }
     }
 
-    // Puts a family at the least base.
+    /// Puts a family at the least base.
     fn place(&mut self, family: usize) -> Result<(), AllocError> {
         let signs = self.signs_of(family)?;
         let cells = self.cells_without(family)?;
@@ -144,7 +144,7 @@ impl Families {
         Ok(())
     }
 
-    // A family's signs.
+    /// A family's signs.
     fn signs_of(&self, family: usize) -> Result<Vec<Sign>, AllocError> {
         let mut signs = Vec::new(self.alloc);
         for used in &self.list {
@@ -155,7 +155,7 @@ impl Families {
         Ok(signs)
     }
 
-    // The lowest base that is tried for so many signs.
+    /// The lowest base that is tried for so many signs.
     fn lowest_base(&self, count: usize, cells: &[usize]) -> usize {
         let top = cells.last().copied().unwrap_or(0);
         if count <= 4 {
@@ -164,7 +164,7 @@ impl Families {
         top.saturating_sub(usize::from(self.signs).max(255)).max(1)
     }
 
-    // The least base that no other family has and where the signs' cells are none of these.
+    /// The least base that no other family has and where the signs' cells are none of these.
     fn least_base(&self, family: usize, signs: &[Sign], cells: &[usize]) -> usize {
         for base in self.lowest_base(signs.len(), cells)..usize::MAX {
             if are_unused(base, signs, cells) && !self.is_base(base, family) {
@@ -174,7 +174,7 @@ impl Families {
         usize::MAX
     }
 
-    // Whether a family other than this one has the base.
+    /// Whether a family other than this one has the base.
     fn is_base(&self, base: usize, family: usize) -> bool {
         for used in &self.list {
             if used.family != family && used.cell == cell_at(base, used.sign) {
@@ -185,7 +185,7 @@ impl Families {
     }
 }
 
-// Whether the cells of signs at a base are none of these.
+/// Whether the cells of signs at a base are none of these.
 fn are_unused(base: usize, signs: &[Sign], cells: &[usize]) -> bool {
     for sign in signs {
         if cells.binary_search(&cell_at(base, *sign)).is_ok() {

@@ -6,8 +6,8 @@ use std::os::unix::fs::MetadataExt;
 use std::test::Fail;
 use std::{fs, io};
 
-/// A read and the name of a file that is then written; how the two go; and the name and the bytes of
-/// a file behind them.
+/// A read, and the name of a file that is then written. Behind them stand whether the two go well,
+/// and the name of a file with the bytes that it then holds.
 type Row = (
     Read<'static>,
     &'static str,
@@ -31,9 +31,9 @@ const NOT: [bool; 2] = [true, false];
 
 const BOTH: [bool; 2] = [true, true];
 
-/// Names are not written once D was read where they are names of D, and where they name what is no
-/// file or cannot be one. Else D is replaced, then a file is made, then one behind a link, and a
-/// device is written in place.
+/// Once D was read, no name of D is written, nor is a name of what is no file or cannot be one.
+/// Else D is replaced, then a file is made, then one behind a link, and a device is written in
+/// place.
 const ROWS: [Row; 22] = [
     (("D", 4, Ok(()), OLD), ".", NOT, "D", OLD),
     (("soft", 4, Ok(()), OLD), ".", NOT, "D", OLD),

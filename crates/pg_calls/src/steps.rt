@@ -2,7 +2,7 @@
 use crate::folders::{enter_folder, holds, is_new_file_left, leave_folder};
 use crate::outcomes::outcomes;
 use pg_outside::ReadError;
-use pg_told_disk::{Broken, Call, Given};
+use pg_told_disk::{Broken, Call, ScriptedSystem};
 use std::test::Fail;
 use std::{fs, io};
 
@@ -73,7 +73,7 @@ const ROWS: [Row; 10] = [
 /// go well exactly where O then holds the whole line.
 fn goes_so(rt: &HostRuntime, row: &Row) -> bool {
     let (calls, broken, wanted, given, left) = *row;
-    let system = Given::with_calls(rt, calls, broken);
+    let system = ScriptedSystem::with_calls(rt, calls, broken);
     let both = outcomes(rt.alloc(), system, ("D", 5, wanted, given), "O", LINE);
     both == [true, left == LINE] && holds(rt, "O", left) && !is_new_file_left(rt)
 }

@@ -1,7 +1,7 @@
 //! Puts into files and pipes, whose writes end early or fail.
 use crate::folders::{enter_folder, holds, leave_folder};
 use pg_outside::{HostSink, Sink};
-use pg_told_disk::{Call, Scripted};
+use pg_told_disk::{Call, ScriptedFile};
 use std::test::Fail;
 use std::{fs, io};
 
@@ -23,7 +23,7 @@ const PUTS: [(&[Call], &[u8]); 5] = [
 /// Whether a put of a line into S, whose writes go so, leaves these bytes, and goes well exactly
 /// where they are the whole line.
 fn puts_so(rt: &HostRuntime, calls: &[Call], bytes: &[u8]) -> io::Result<bool> {
-    let mut sink = HostSink::new(Scripted::new(fs::create(rt, "S")?, calls));
+    let mut sink = HostSink::new(ScriptedFile::new(fs::create(rt, "S")?, calls));
     let is_ok = sink.put(LINE).is_ok();
     Ok(is_ok == (bytes == LINE) && holds(rt, "S", bytes))
 }

@@ -8,7 +8,7 @@ use std::alloc::{AllocError, Global};
 use std::test::Fail;
 
 /// A string of two signs, a dot of it, and a value or `HOPELESS`.
-type Given = ([Sign; 2], u8, u8);
+type TrieEntry = ([Sign; 2], u8, u8);
 
 /// Enters a value or a hopeless entry at the dot of a string.
 fn enter(trie: &mut PatternTrie, signs: [Sign; 2], dot: u8, value: u8) -> Result<(), Fail>
@@ -27,7 +27,7 @@ fn enter(trie: &mut PatternTrie, signs: [Sign; 2], dot: u8, value: u8) -> Result
 }
 
 /// Enters the strings with their dots and values, and takes the hopeless entries out.
-fn enter_all(trie: &mut PatternTrie, entries: &[Given]) -> Result<(), Fail>
+fn enter_all(trie: &mut PatternTrie, entries: &[TrieEntry]) -> Result<(), Fail>
     requires { trie.old.signs ≡ 4 }
     ensures { OnOk result (trie.new.signs ≡ 4) }
 {
@@ -39,7 +39,7 @@ fn enter_all(trie: &mut PatternTrie, entries: &[Given]) -> Result<(), Fail>
 }
 
 /// The trie of the strings with their dots and values, without the hopeless entries.
-fn deleted(alloc: Global, entries: &[Given]) -> Result<PatternTrie, Fail>
+fn deleted(alloc: Global, entries: &[TrieEntry]) -> Result<PatternTrie, Fail>
     ensures { IfOk result (λ t. t.signs ≡ 4) }
 {
     let mut trie = PatternTrie::new(alloc, 4)?;
@@ -73,7 +73,7 @@ fn told(alloc: Global, trie: &PatternTrie) -> Result<String, AllocError> {
 /// Entries, and what is told of the trie without the hopeless ones: the cells, the greatest of them
 /// and the records, and the patterns. In the first row a hopeless entry stands beside a value, and
 /// in the second two lists share their tail.
-const ROWS: &[(&[Given], &str)] = &[
+const ROWS: &[(&[TrieEntry], &str)] = &[
     (
         &[([2, 3], 1, 1), ([2, 3], 1, HOPELESS)],
         "5 5 1\n[2, 3] 1 1\n",

@@ -3,6 +3,6 @@ pub mod Sites
 pub mod Store
 pub mod LineWords
 pub mod Lent
-pub mod Written
+pub mod WrittenWords
 pub mod SoundWords
 pub mod Lines

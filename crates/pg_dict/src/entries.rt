@@ -2,7 +2,7 @@
 ghost use Rattle.std.specs.Prelude.{◌<◌, ◌≤◌, ◌+◌, ◌*◌, length, IfOk, OnOk};
 ghost use Rattle.pg_types.specs.Inside.Answers.{Gives};
 ghost use Rattle.pg_translate.specs.Alphabets.{letters_of};
-ghost use Rattle.pg_translate.specs.Inside.Rules.{KeepsRules};
+ghost use Rattle.pg_translate.specs.Inside.tables.Rules.{KeepsRules};
 ghost use Rattle.pg_dict.specs.Inside.LineWords.{line_reading};
 ghost use Rattle.pg_dict.specs.Inside.Lines.LineStarts.{word_reading_by};
 ghost use Rattle.pg_dict.specs.Inside.Lines.Entries.{with_word, entries_of, GrowsBy};
@@ -15,7 +15,7 @@ mod line_start;
 use crate::entries::line::Line;
 use crate::entries::line_start::LineStart;
 use crate::store::position::Position;
-use crate::store::{Store, Stored};
+use crate::store::{Store, StoredWord};
 use pg_translate::Table;
 use pg_types::{EDGE, FILE_MAX, ReadingError, Sign, WEIGHT_MAX, Weight};
 
@@ -41,7 +41,7 @@ impl Line<'_> {
         store.push(Position::plain(self.weight), sign)?;
         self.fill(store, rest)?;
         let end = store.signs.len();
-        store.words.push(Stored::new(start, end, self.weight))?;
+        store.words.push(StoredWord::new(start, end, self.weight))?;
         Ok(())
     }
 }

@@ -4,12 +4,12 @@ ghost use Rattle.std.specs.List.{AllByRecursion};
 ghost use Rattle.pg_types.specs.declared.marks.Mark.{Mark};
 ghost use Rattle.pg_translate.specs.declared.items.Place.TheVariants.{Dictionary};
 ghost use Rattle.pg_translate.specs.Tokens.{Token};
-ghost use Rattle.pg_translate.specs.Inside.Items.{AreItems, text_of_items, tokens_in};
+ghost use Rattle.pg_translate.specs.Inside.items.Items.{AreItems, text_of_items, tokens_in};
 ghost use Rattle.pg_dict.specs.Word.{Word};
 ghost use Rattle.pg_dict.specs.Inside.SoundWords.{IsWord};
 ghost use Rattle.pg_dict.specs.Words.{words};
 ghost use Rattle.pg_dict.specs.Inside.LineWords.{line_reading, line_word};
-ghost use Rattle.pg_dict.specs.Inside.Written.{AreMarksOf, word_tokens, letters_among, IsLine, file_of, LinesGive};
+ghost use Rattle.pg_dict.specs.Inside.WrittenWords.{AreMarksOf, word_tokens, letters_among, IsLine, file_of, LinesGive};
 
 use pg_translate::Table;
 use pg_translate::laws::keeps_rules;

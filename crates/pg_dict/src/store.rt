@@ -16,25 +16,24 @@ use std::alloc::{AllocError, Global};
 
 /// Where a word lies in the store, and its weight.
 #[derive(Clone, Copy)]
-pub(crate) struct Stored {
+pub(crate) struct StoredWord {
     /// The index of its first sign.
     pub start: u32,
     /// The index behind its last sign.
     pub end: u32,
-    /// The weight of the word.
     pub weight: Weight,
 }
 
-impl Stored {
+impl StoredWord {
     ghost use Rattle.std.specs.Prelude.{◌≡◌, ◌<◌, ◌^◌};
 
     /// A word of this weight whose signs have the indices from `start` to before `end`.
-    pub(crate) fn new(start: usize, end: usize, weight: Weight) -> Stored
+    pub(crate) fn new(start: usize, end: usize, weight: Weight) -> StoredWord
         requires start { start < 2 ^ 32 }
         requires end { end < 2 ^ 32 }
         ensures { result ≡ record { start = start; end = end; weight = weight } }
     {
-        Stored {
+        StoredWord {
             start: start as u32,
             end: end as u32,
             weight,
@@ -54,7 +53,7 @@ pub(crate) struct Store {
     /// Whether that position counts.
     pub cares: Vec<bool>,
     /// Where each word lies.
-    pub words: Vec<Stored>,
+    pub words: Vec<StoredWord>,
 }
 
 impl Store {
@@ -73,7 +72,7 @@ impl Store {
     }
 
     /// Lends a word that lies in the columns.
-    pub(crate) fn lend(&self, stored: Stored) -> WordRef<'_>
+    pub(crate) fn lend(&self, stored: StoredWord) -> WordRef<'_>
         requires sound { IsSound self.now }
         requires begins { stored.start ≤ stored.end }
         requires ends { stored.end ≤ length self.now.signs.items }
@@ -125,7 +124,7 @@ impl Store {
         self.weights.extend_from_slice(word.weights)?;
         self.cares.extend_from_slice(word.cares)?;
         let end = self.signs.len();
-        self.words.push(Stored::new(start, end, word.weight))?;
+        self.words.push(StoredWord::new(start, end, word.weight))?;
         Ok(())
     }
 }

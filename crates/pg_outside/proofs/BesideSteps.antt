@@ -5,7 +5,8 @@ use Rattle.std.specs.FinMap as fin
 use Rattle.std.specs.Str.{bytes_eq}
 use Rattle.std.proofs.lemmas.Bool.{false≢true}
 use Rattle.std.proofs.lemmas.Slice.Eq.{bytes_eq-Decides}
-use Rattle.pg_outside.specs.Inside.disk.Disks.{Node, Disk, Links, NameMap, SetsFile, AddsFile, MakesFile, ChangesOnlyFile, RenamesFile, RemovesName, RefusesRemoval, AreOne, KnowsNewNames, id_at, node_at, node_of}
+use Rattle.pg_outside.specs.Inside.disk.Disks.{Node, Disk, Links, NameMap, SetsFile, AddsFile, MakesFile, ChangesOnlyFile}
+use Rattle.pg_outside.specs.Inside.disk.Disks.{RenamesFile, RemovesName, RefusesRemoval, AreOne, KnowsNewNames, id_at, node_at, node_of}
 use Rattle.pg_outside.specs.Inside.disk.Moments.{FillsFile, IsWhole, IsBeside, IsSameAt, AtMoment, IsWritten, IsSame, HasRest}
 use Rattle.pg_outside.specs.Inside.disk.NewNames.{IsNewName}
 use Rattle.pg_outside.specs.declared.disk.system.FileId.{FileId}
@@ -149,7 +150,8 @@ same_on a b c other id files ab = (
   ap (λ (k : Option FileId). node_of k c.files) id ∙ node_of_same (id_at b other) c.files b.files files ∙ ab.1,
 )
 
-moved_same : (own name bytes : List ℕ) (mode : Option ℕ) (n : FileId) (a b c : Disk) → IsReady own bytes mode n a b → RenamesFile own name b c → (other : List ℕ) → ¬ AreOne a other name → IsSameAt a c other
+moved_same : (own name bytes : List ℕ) (mode : Option ℕ) (n : FileId) (a b c : Disk) → IsReady own bytes mode n a b → RenamesFile own name b c → (other : List ℕ)
+    → ¬ AreOne a other name → IsSameAt a c other
 moved_same own name bytes mode n a b c ab bc other apart =
     ⊎_elim
     (λ (one : AreOne a other own). none_same a c other own (bc.links ∙ ab.beside.links) one ab.beside.unnamed (bc.gone (λ same. apart (one ∙ one_back a b own name ab.beside.links same))))

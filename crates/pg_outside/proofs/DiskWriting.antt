@@ -5,12 +5,14 @@ use Rattle.std.specs.Result.{IsErrAnd}
 use Rattle.std.proofs.lemmas.Grind.{common_steps}
 use Rattle.std.proofs.lemmas.Result.{on_err_weaker, on_ok_weaker}
 use Rattle.pg_outside.specs.Inside.disk.Causes.{IsCauseOf}
-use Rattle.pg_outside.specs.Inside.disk.Disks.{Node, Disk, DiskHistory, AreOne, KeepsDisk, HoldsNow, LeadsTo, LeadsToNone, IsOpened, IsWritable, IsStat, AppendsBytes, AppendsFront, id_at, node_at, node_of}
-use Rattle.pg_outside.specs.Inside.disk.Writes.{IsIn, KeepsAll, IsPlain, IsDevice, IsProtected, MayWrite, AtWrite, AfterWrite, AfterFailure, IsSeen, IsOld, IsPlaceOf, AreAllTaken, IsDeep, IsFull, IsWrite, WasKept, StandsFor, mode_of, mode_at}
+use Rattle.pg_outside.specs.Inside.disk.Disks.{Node, Disk, DiskHistory, AreOne, KeepsDisk, HoldsNow, LeadsTo, LeadsToNone}
+use Rattle.pg_outside.specs.Inside.disk.Disks.{IsOpened, IsWritable, IsStat, AppendsBytes, AppendsFront, id_at, node_at, node_of}
+use Rattle.pg_outside.specs.Inside.disk.Writes.{IsIn, KeepsAll, IsPlain, IsDevice, IsProtected, MayWrite, AtWrite, AfterWrite, AfterFailure, IsSeen}
+use Rattle.pg_outside.specs.Inside.disk.Writes.{IsOld, IsPlaceOf, AreAllTaken, IsDeep, IsFull, IsWrite, WasKept, StandsFor, mode_of, mode_at}
 use Rattle.pg_outside.specs.Inside.disk.Moments.{RunsCalls, WhereDirect, AtMoment, IsBeside, IsWritten, IsAsBefore, IsSame, HasRest}
 use Rattle.pg_outside.specs.declared.disk.error.WriteError.{WriteError}
 use Rattle.pg_outside.specs.declared.disk.system.FileId.{FileId}
-use Rattle.pg_outside.specs.declared.disk.system.Seen.{Seen}
+use Rattle.pg_outside.specs.declared.disk.system.FileStatus.{FileStatus}
 use Rattle.pg_outside.proofs.Causes.{passed_on}
 use Rattle.pg_outside.proofs.Results.{on_err, no_value}
 use Rattle.pg_outside.proofs.Runs.{known_start, keeps_then, keeps_now, now_both, now_weaker, no_step}
@@ -134,16 +136,16 @@ may_none name kept d none =
       free = λ n leads is. none_some n (sym none ∙ leads);
     }
 
-seen_node : (name : List ℕ) (seen : Seen) (d : Disk) (s : IsSeen name seen d) → node_at d name ≡ Some s.node
+seen_node : (name : List ℕ) (seen : FileStatus) (d : Disk) (s : IsSeen name seen d) → node_at d name ≡ Some s.node
 seen_node name seen d s = ap (λ (k : Option FileId). node_of k d.files) s.leads ∙ s.there
 
-seen_writable : (name : List ℕ) (seen : Seen) (d : Disk) (s : IsSeen name seen d) → IfSome (node_at d name) (λ node. node.is_writable ≡ true)
+seen_writable : (name : List ℕ) (seen : FileStatus) (d : Disk) (s : IsSeen name seen d) → IfSome (node_at d name) (λ node. node.is_writable ≡ true)
 seen_writable name seen d s = subst (λ (o : Option Node). IfSome o (λ node. node.is_writable ≡ true)) (sym (seen_node name seen d s)) s.writable
 
 may_write : (name : List ℕ) (kept : List FileId) (mode : Option ℕ) (d : Disk) → MayReplace name kept mode d → MayWrite name kept d
 may_write name kept mode d may = record { writable = may.writable; free = λ n is. may.free n is.leads is.is_kept }
 
-pub may_seen : (name : List ℕ) (kept : List FileId) (seen : Seen) (d : Disk) → IsSeen name seen d → seen.is_regular ≡ true → (IsIn seen.id kept → ⊥) → MayReplace name kept (Some seen.mode) d
+pub may_seen : (name : List ℕ) (kept : List FileId) (seen : FileStatus) (d : Disk) → IsSeen name seen d → seen.is_regular ≡ true → (IsIn seen.id kept → ⊥) → MayReplace name kept (Some seen.mode) d
 may_seen name kept seen d s regular apart = record {
   mode_is = ap mode_of (seen_node name seen d s) ∙ ap (λ (m : ℕ). Some m) s.mode;
   plain = subst (λ (o : Option Node). IfSome o (λ node. node.is_regular ≡ true)) (sym (seen_node name seen d s)) (s.kind ∙ regular);
@@ -175,7 +177,7 @@ failed_may name bytes kept mode d last may as_before = record {
 }
 
 -- the name leads to no regular file
-seen_device : (name : List ℕ) (seen : Seen) (d : Disk) → IsSeen name seen d → seen.is_regular ≡ false → IsPlain name d → ⊥
+seen_device : (name : List ℕ) (seen : FileStatus) (d : Disk) → IsSeen name seen d → seen.is_regular ≡ false → IsPlain name d → ⊥
 seen_device name seen d s device plain =
     true_false (sym (subst (λ (o : Option Node). IfSome o (λ node. node.is_regular ≡ true)) (seen_node name seen d s) plain) ∙ s.kind ∙ device)
 
@@ -185,10 +187,10 @@ pub record Leads (real name : List ℕ) (kept : List FileId) (mode : Option ℕ)
   pub one : AreOne d real name
   pub may : MayReplace real kept mode d
 
-seen_one : (p q : List ℕ) (seen : Seen) (d : Disk) → AreOne d p q → IsSeen p seen d → IsSeen q seen d
+seen_one : (p q : List ℕ) (seen : FileStatus) (d : Disk) → AreOne d p q → IsSeen p seen d → IsSeen q seen d
 seen_one p q seen d one s = record { leads = leads_one seen.id d p q one s.leads; node = s.node; there = s.there; kind = s.kind; mode = s.mode; writable = s.writable }
 
-may_old : (real name : List ℕ) (kept : List FileId) (found : Option FileId) (old : Option Seen) (mode : Option ℕ) (d : Disk) → IsOld name old d
+may_old : (real name : List ℕ) (kept : List FileId) (found : Option FileId) (old : Option FileStatus) (mode : Option ℕ) (d : Disk) → IsOld name old d
     → StandsFor real found name d → IsPlaceOf found old mode → IfSome old (λ seen. seen.is_regular ≡ true) → IfSome old (λ seen. IsIn seen.id kept → ⊥) → MayReplace real kept mode d
 may_old real name kept None None mode d is s place regular free = subst (λ (m : Option ℕ). MayReplace real kept m d) (sym place) (may_none real kept d s.leads)
 may_old real name kept (Some id) (Some seen) mode d is s place regular free = subst (λ (m : Option ℕ). MayReplace real kept m d) (sym place.1)
@@ -196,7 +198,7 @@ may_old real name kept (Some id) (Some seen) mode d is s place regular free = su
 may_old real name kept None (Some seen) mode d is s place regular free = absurd place
 may_old real name kept (Some id) None mode d is s place regular free = absurd place
 
-pub leads_old : (real name : List ℕ) (kept : List FileId) (found : Option FileId) (old : Option Seen) (mode : Option ℕ) (a b : Option DiskHistory)
+pub leads_old : (real name : List ℕ) (kept : List FileId) (found : Option FileId) (old : Option FileStatus) (mode : Option ℕ) (a b : Option DiskHistory)
     → HoldsNow a (IsOld name old) → KeepsDisk a b → HoldsNow b (StandsFor real found name) → IsPlaceOf found old mode → IfSome old (λ seen. seen.is_regular ≡ true)
     → IfSome old (λ seen. IsIn seen.id kept → ⊥) → HoldsNow b (Leads real name kept mode)
 leads_old real name kept found old mode a b is ab stands place regular free =
@@ -207,24 +209,26 @@ leads_old real name kept found old mode a b is ab stands place regular free =
     })
 
 -- where the disk is told, what was found is what was seen
-found_old : (real name : List ℕ) (found : Option FileId) (old : Option Seen) (d : Disk) → IsOld name old d → StandsFor real found name d → ((mode : Option ℕ) → IsPlaceOf found old mode → ⊥) → ⊥
+found_old : (real name : List ℕ) (found : Option FileId) (old : Option FileStatus) (d : Disk) → IsOld name old d → StandsFor real found name d → ((mode : Option ℕ) → IsPlaceOf found old mode → ⊥) → ⊥
 found_old real name None None d is s none = none None refl
 found_old real name (Some id) (Some seen) d is s none = none (Some seen.mode) (some_same id seen.id (sym s.leads ∙ id_one d real name s.one ∙ is.leads), refl)
 found_old real name None (Some seen) d is s none = none_some seen.id (sym s.leads ∙ id_one d real name s.one ∙ is.leads)
 found_old real name (Some id) None d is s none = none_some id (sym is ∙ sym (id_one d real name s.one) ∙ s.leads)
 
-pub no_other : (real name : List ℕ) (found : Option FileId) (old : Option Seen) (F : Disk → Type 0) (a b : Option DiskHistory) → HoldsNow a (IsOld name old)
+pub no_other : (real name : List ℕ) (found : Option FileId) (old : Option FileStatus) (F : Disk → Type 0) (a b : Option DiskHistory) → HoldsNow a (IsOld name old)
     → KeepsDisk a b → HoldsNow b (StandsFor real found name) → ((mode : Option ℕ) → IsPlaceOf found old mode → ⊥) → HoldsNow b F
 no_other real name found old F a b is ab stands none =
     now_weaker _ _ b (now_both _ _ b (keeps_now _ a b is ab) stands) (λ d s. absurd (found_old real name found old d s.0 s.1 none))
 
 -- each name beside what the name leads to is taken
-pub is_full : (real name : List ℕ) (found : Option FileId) (b c : Option DiskHistory) → HoldsNow b (StandsFor real found name) → KeepsDisk b c → HoldsNow c (AreAllTaken real) → HoldsNow c (IsFull name)
+pub is_full : (real name : List ℕ) (found : Option FileId) (b c : Option DiskHistory) → HoldsNow b (StandsFor real found name) → KeepsDisk b c
+    → HoldsNow c (AreAllTaken real) → HoldsNow c (IsFull name)
 is_full real name found b c stands bc taken =
     now_weaker _ _ c (now_both _ _ c (keeps_now _ b c stands bc) taken) (λ d s. record { real = real; direct = s.0.direct; one = s.0.one; all = s.1 })
 
 -- a new file takes the place of what the name leads to
-replaces_one : (real name bytes : List ℕ) (kept after : List FileId) (mode : Option ℕ) (n : FileId) (a b c : Option DiskHistory) → KeepsDisk a b → HoldsNow b (Leads real name kept mode) → after ≡ kept ++ n ∷ []
+replaces_one : (real name bytes : List ℕ) (kept after : List FileId) (mode : Option ℕ) (n : FileId) (a b c : Option DiskHistory) → KeepsDisk a b
+    → HoldsNow b (Leads real name kept mode) → after ≡ kept ++ n ∷ []
     → RunsCalls b c (WhereDirect real (AtMoment real bytes mode)) (WhereDirect real (IsWritten real bytes mode n)) → RunsCalls a c (AtWrite name bytes kept) (AfterWrite name bytes kept after)
 replaces_one real name bytes kept after mode n a b c ab leads grown bc =
     keeps_then _ _ a b c ab (known_start _ _ _ _ (Leads real name kept mode) b c leads bc
@@ -258,7 +262,8 @@ replace_found_fails real name bytes kept mode a b c ab leads bc =
     (λ x y f p. failure_one real name bytes x y f.one (failed_may real bytes kept mode x y f.may (p f.direct))))
 
 -- what was opened is what the system says of it
-pub opened_seen : (name : List ℕ) (id : FileId) (seen : Seen) (a b : Option DiskHistory) → HoldsNow a (IsOpened name id) → HoldsNow a (IsWritable id) → KeepsDisk a b → HoldsNow b (IsStat id seen) → HoldsNow b (IsSeen name seen)
+pub opened_seen : (name : List ℕ) (id : FileId) (seen : FileStatus) (a b : Option DiskHistory) → HoldsNow a (IsOpened name id) → HoldsNow a (IsWritable id)
+    → KeepsDisk a b → HoldsNow b (IsStat id seen) → HoldsNow b (IsSeen name seen)
 opened_seen name id seen a b opened writable ab stat =
     now_weaker _ _ b (now_both _ _ b (keeps_now _ a b (now_both _ _ a opened writable) ab) stat) (λ d s. record {
       leads = s.0.0.leads ∙ ap (λ (k : FileId). Some k) (sym s.1.is);
@@ -273,24 +278,25 @@ opened_seen name id seen a b opened writable ab stat =
 same_device : (R : FileId → Disk → Disk → Type 0) (name : List ℕ) (n m : FileId) (x y : Disk) → LeadsTo name n x → LeadsTo name m x → R n x y → R m x y
 same_device R name n m x y leads other p = subst (λ (k : FileId). R k x y) (some_same n m (sym leads ∙ other)) p
 
-may_device : (name : List ℕ) (kept : List FileId) (seen : Seen) (x : Disk) → seen.is_regular ≡ false → IsSeen name seen x → MayWrite name kept x
+may_device : (name : List ℕ) (kept : List FileId) (seen : FileStatus) (x : Disk) → seen.is_regular ≡ false → IsSeen name seen x → MayWrite name kept x
 may_device name kept seen x device s = record { writable = seen_writable name seen x s; free = λ n is. seen_device name seen x s device is.plain }
 
-at_device : (name bytes : List ℕ) (kept : List FileId) (seen : Seen) (x y : Disk) → seen.is_regular ≡ false → AppendsFront seen.id bytes x y → IsSeen name seen x → AtWrite name bytes kept x y
+at_device : (name bytes : List ℕ) (kept : List FileId) (seen : FileStatus) (x y : Disk) → seen.is_regular ≡ false → AppendsFront seen.id bytes x y → IsSeen name seen x → AtWrite name bytes kept x y
 at_device name bytes kept seen x y device p s = record {
   allowed = may_device name kept seen x device s;
   plain = λ plain. absurd (seen_device name seen x s device plain);
   device = λ n is. same_device (λ k. AppendsFront k bytes) name seen.id n x y s.leads is.leads p;
 }
 
-failed_device : (name bytes : List ℕ) (seen : Seen) (x y : Disk) → seen.is_regular ≡ false → AppendsFront seen.id bytes x y → IsSeen name seen x → AfterFailure name bytes x y
+failed_device : (name bytes : List ℕ) (seen : FileStatus) (x y : Disk) → seen.is_regular ≡ false → AppendsFront seen.id bytes x y → IsSeen name seen x → AfterFailure name bytes x y
 failed_device name bytes seen x y device p s = record {
   links = let w = p.1 s.node s.there in w.1.links;
   plain = λ plain. absurd (seen_device name seen x s device plain);
   device = λ n is. same_device (λ k. AppendsFront k bytes) name seen.id n x y s.leads is.leads p;
 }
 
-after_device : (name bytes : List ℕ) (kept : List FileId) (seen : Seen) (x y : Disk) → seen.is_regular ≡ false → AppendsBytes seen.id bytes x y → IsSeen name seen x → AfterWrite name bytes kept kept x y
+after_device : (name bytes : List ℕ) (kept : List FileId) (seen : FileStatus) (x y : Disk) → seen.is_regular ≡ false → AppendsBytes seen.id bytes x y
+    → IsSeen name seen x → AfterWrite name bytes kept kept x y
 after_device name bytes kept seen x y device p s = record {
   links = let w = p s.node s.there in w.1.links;
   allowed = may_device name kept seen x device s;
@@ -298,7 +304,7 @@ after_device name bytes kept seen x y device p s = record {
   device = λ n is. (same_device (λ k. AppendsBytes k bytes) name seen.id n x y s.leads is.leads p, refl);
 }
 
-pub writes_device : (name bytes : List ℕ) (kept : List FileId) (seen : Seen) (n : FileId) (a b c : Option DiskHistory) → HoldsNow a (IsOpened name n) → HoldsNow a (IsWritable n)
+pub writes_device : (name bytes : List ℕ) (kept : List FileId) (seen : FileStatus) (n : FileId) (a b c : Option DiskHistory) → HoldsNow a (IsOpened name n) → HoldsNow a (IsWritable n)
     → KeepsDisk a b → HoldsNow b (IsStat n seen) → seen.is_regular ≡ false
     → RunsCalls b c (AppendsFront n bytes) (AppendsBytes n bytes) → RunsCalls a c (AtWrite name bytes kept) (AfterWrite name bytes kept kept)
 writes_device name bytes kept seen n a b c opened writable ab stat device bc =
@@ -306,7 +312,7 @@ writes_device name bytes kept seen n a b c opened writable ab stat device bc =
     (λ x y f p. at_device name bytes kept seen x y device (subst (λ (k : FileId). AppendsFront k bytes x y) (sym f.1.is) p) f.0)
     (λ x y f p. after_device name bytes kept seen x y device (subst (λ (k : FileId). AppendsBytes k bytes x y) (sym f.1.is) p) f.0))
 
-pub write_device_fails : (name bytes : List ℕ) (kept : List FileId) (seen : Seen) (n : FileId) (a b c : Option DiskHistory) → HoldsNow a (IsOpened name n)
+pub write_device_fails : (name bytes : List ℕ) (kept : List FileId) (seen : FileStatus) (n : FileId) (a b c : Option DiskHistory) → HoldsNow a (IsOpened name n)
     → HoldsNow a (IsWritable n) → KeepsDisk a b → HoldsNow b (IsStat n seen) → seen.is_regular ≡ false
     → RunsCalls b c (AppendsFront n bytes) (AppendsFront n bytes) → RunsCalls a c (AtWrite name bytes kept) (AfterFailure name bytes)
 write_device_fails name bytes kept seen n a b c opened writable ab stat device bc =

@@ -7,7 +7,7 @@ use Rattle.std.specs.Cmp.{unsigned_tied, nat_cmp_total}
 use Rattle.std.specs.FinMap as fin
 use Rattle.std.proofs.lemmas.Grind.{common_steps}
 use Rattle.pg_outside.specs.Inside.calls.ListedCalls.{listed_calls, plan_entry}
-use Rattle.pg_outside.specs.declared.plans.Plan.{Plan}
+use Rattle.pg_outside.specs.declared.memory.plans.Plan.{Plan}
 
 kept_found : (plans : List Plan) (number : ℕ) → option_map (λ plan. plan.keep) (find (λ plan. plan.call == number) plans) ≡ fin.find nat_cmp number (map plan_entry plans)
 kept_found [] number = refl

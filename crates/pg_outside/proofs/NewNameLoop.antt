@@ -26,7 +26,8 @@ none_tried told folder name = record { each = λ counted below. absurd (omega ar
 pub below_or_last : (m n : ℕ) → m < n + 1 → (m < n) ⊎ (m ≡ n)
 below_or_last m n below = ⊎_elim (λ (lt : m < n). inl lt) (λ (le : n ≤ m). inr (omega arith)) (cases_lt m n)
 
-one_more : (a b : Option DiskHistory) (folder name : List ℕ) (tried next : ℕ) → KeepsDisk a b → next ≡ tried + 1 → HasTried a folder name tried → HoldsNow b (IsTried folder name tried) → HasTried b folder name next
+one_more : (a b : Option DiskHistory) (folder name : List ℕ) (tried next : ℕ) → KeepsDisk a b → next ≡ tried + 1 → HasTried a folder name tried
+    → HoldsNow b (IsTried folder name tried) → HasTried b folder name next
 one_more a b folder name tried next ab is so_far last = record {
   each = λ counted below. ⊎_elim
       (λ (before : counted < tried). keeps_now _ a b (so_far.each counted before) ab)

@@ -1,8 +1,9 @@
 -- The calls of a replacement, one after another.
 use Rattle.std.proofs.Common.{◌≡◌, ◌≢◌, inl, inr, ⊎_elim, ℕ, List, false, Option, Result, Ok, Err, OnOk, OnErr, refl, sym, ap, subst, ◌∙◌}
-use Rattle.pg_outside.specs.Inside.disk.Disks.{Disk, Links, DiskHistory, KeepsDisk, ChangesDisk, MakesFile, ChangesOnlyFile, RenamesUnlessLink, RemovesUnlessLink, RefusesRemoval, HoldsNow, IsStat, KnowsNewNames}
+use Rattle.pg_outside.specs.Inside.disk.Disks.{Disk, Links, DiskHistory, KeepsDisk, ChangesDisk, MakesFile, ChangesOnlyFile}
+use Rattle.pg_outside.specs.Inside.disk.Disks.{RenamesUnlessLink, RemovesUnlessLink, RefusesRemoval, HoldsNow, IsStat, KnowsNewNames}
 use Rattle.pg_outside.specs.Inside.disk.NewNames.{IsNewName}
-use Rattle.pg_outside.specs.declared.disk.system.Seen.{Seen}
+use Rattle.pg_outside.specs.declared.disk.system.FileStatus.{FileStatus}
 use Rattle.pg_outside.specs.Inside.disk.Moments.{RunsCalls, FillsFile, PlacesFile, PlacesFileAs, AtPlacing, WhereDirect, AtMoment, IsWritten, IsBeside, IsSame, HasRest, IsAsBefore}
 use Rattle.pg_outside.proofs.Runs.{runs_on, one_step, no_step, known_start, known_end, then_keeps}
 use Rattle.pg_outside.proofs.BesideSteps.{HasBeside, is_beside, at_made, at_disturbed, at_placed, is_written, made_then_disturbed, made_then_filled, removed_same, refused_rest, at_same, at_rest}
@@ -13,7 +14,7 @@ still_direct : (a b : Disk) (q : List ℕ) → b.links ≡ a.links → a.links.i
 still_direct a b q links direct = ap (λ (l : Links). l.is_link q) links ∙ direct
 
 -- the file is filled and takes the name
-pub places : (own name bytes : List ℕ) (mode : Option ℕ) (n m : FileId) (seen : Seen) (a b c d : Option DiskHistory) → RunsCalls a b (ChangesOnlyFile n) (FillsFile n mode bytes)
+pub places : (own name bytes : List ℕ) (mode : Option ℕ) (n m : FileId) (seen : FileStatus) (a b c d : Option DiskHistory) → RunsCalls a b (ChangesOnlyFile n) (FillsFile n mode bytes)
     → m ≡ n → KeepsDisk b c → HoldsNow c (IsStat m seen) → ChangesDisk c d (RenamesUnlessLink own name) → RunsCalls a d (AtPlacing own name n mode bytes) (PlacesFileAs own name n mode bytes seen.id)
 places own name bytes mode n m seen a b c d ab same bc stat cd =
     runs_on _ _ _ _ _ _ a c d (known_end _ _ _ a c (then_keeps _ _ a b c ab bc) stat) (one_step (RenamesUnlessLink own name) c d cd)

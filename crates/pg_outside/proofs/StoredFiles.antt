@@ -12,7 +12,7 @@ use Rattle.std.proofs.lemmas.Map.Text.{is_eq-slice_cmp}
 use Rattle.std.proofs.lemmas.Slice.Eq.{bytes_eq-Decides}
 use Rattle.pg_outside.specs.Content.{FileMap, file_at}
 use Rattle.pg_outside.specs.Inside.memory.StoredFile.{has_name, name_and_bytes, file_map, of_name, room_in, IsPlace, IsMissing}
-use Rattle.pg_outside.specs.declared.stored.StoredFile.{StoredFile}
+use Rattle.pg_outside.specs.declared.memory.stored.StoredFile.{StoredFile}
 
 -- the bytes of the first file of this name
 abbrev pub look : List StoredFile → List ℕ → Option (List ℕ)

@@ -16,7 +16,8 @@ pub record HasWritten (before now : Option DiskHistory) (file same : FileId) (by
   pub runs : RunsCalls before now (AppendsFront file bytes) (AppendsBytes file (take done bytes))
 
 -- the next bytes behind those that were written
-wrote_next : (n : FileId) (bytes : List ℕ) (done count : ℕ) (a b c : Disk) → AppendsBytes n (take done bytes) a b → AppendsBytes n (take count (drop done bytes)) b c → AppendsBytes n (take (done + count) bytes) a c
+wrote_next : (n : FileId) (bytes : List ℕ) (done count : ℕ) (a b c : Disk) → AppendsBytes n (take done bytes) a b
+    → AppendsBytes n (take count (drop done bytes)) b c → AppendsBytes n (take (done + count) bytes) a c
 wrote_next n bytes done count a b c ab bc =
     subst (λ (l : List ℕ). AppendsBytes n l a c) (sym (take-add done count bytes)) (wrote_on n (take done bytes) (take count (drop done bytes)) a b c ab bc)
 
@@ -56,7 +57,8 @@ written_then_failed before now after file same bytes rest so_far steps =
     (subst (λ (l : List ℕ). ChangesDisk now after (AppendsFront file l)) so_far.left
     (subst (λ (n : FileId). ChangesDisk now after (AppendsFront n rest)) so_far.same_file steps))
 
-pub written_part : (before now : Option DiskHistory) (file same : FileId) (bytes rest : List ℕ) → HasWritten before now file same bytes rest → RunsCalls before now (AppendsFront file bytes) (AppendsFront file bytes)
+pub written_part : (before now : Option DiskHistory) (file same : FileId) (bytes rest : List ℕ) → HasWritten before now file same bytes rest
+    → RunsCalls before now (AppendsFront file bytes) (AppendsFront file bytes)
 written_part before now file same bytes rest so_far =
     runs_weaker _ _ _ _ before now so_far.runs (λ x y p. p) (λ x y q. (so_far.done, q))
 

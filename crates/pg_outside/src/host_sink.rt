@@ -10,8 +10,8 @@ use super::streams::write_bytes;
 use std::io;
 use std::io::Write;
 
-/// A writer as a sink, with a count of faults, which keeps why the last of these came. It tells no
-/// content. A write that fails or takes none of its bytes is a fault.
+/// A writer as a sink. It counts its faults, and keeps why the last one came. It tells no content.
+/// A write that fails or takes none of its bytes is a fault.
 #[derive(Drop)]
 pub struct HostSink<W: Write + Drop> {
     writer: W,
@@ -38,7 +38,7 @@ impl<W: Write + Drop> HostSink<W> {
         }
     }
 
-    /// Why the put that failed last did, where one failed.
+    /// Why the last put that failed did so, where one failed.
     pub fn reason(&self) -> Option<io::Error>
         ensures { result ≡ writer_reason self.now }
     {

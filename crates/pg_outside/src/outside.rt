@@ -55,10 +55,10 @@ impl From<io::Error> for Failed {
 
 /// Files that are read and written whole, by name.
 ///
-/// An object shows, as `shown`, what it holds, where it tells this, and the counts of the faults of
-/// reading and of writing each name. No count ever falls. A count rose where it is greater than
-/// before, or has reached 2^64 - 1. It also shows the calls that there were, each with its name, in
-/// their order.
+/// An object shows, as `shown`, the counts of the faults of reading and of writing each name. No
+/// count ever falls. A count rose where it is greater than before, or has reached 2^64 - 1. The
+/// object also shows the calls that there were, each with its name, in their order. Where it tells
+/// what it holds, it shows this too.
 pub trait Files {
     ghost shown: { Self → FilesShown };
 
@@ -91,8 +91,8 @@ pub trait Files {
 
 /// Where lines are printed.
 ///
-/// An object shows, as `shown`, what was put, where it tells this, the count of its faults, and how
-/// many puts there were. No count ever falls.
+/// An object shows, as `shown`, how many puts there were, and the count of its faults. No count
+/// ever falls. Where it tells what was put, it shows this too.
 pub trait Sink {
     ghost shown: { Self → SinkShown };
 

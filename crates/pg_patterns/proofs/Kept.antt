@@ -1,5 +1,6 @@
 -- What a sort by dotted string and falling value leaves, when the first entry of each is kept.
-use Rattle.std.proofs.Common.{◌≡◌, ℕ, suc, ◌<◌, ◌≤◌, Bool, true, false, cond, not, T, ◌⊎◌, inl, inr, List, [], ◌∷◌, length, get_or, Option, Some, None, unwrap_or, max, nat_cmp, sym, refl, ap, subst, ◌∙◌, arith}
+use Rattle.std.proofs.Common.{◌≡◌, ℕ, suc, ◌<◌, ◌≤◌, Bool, true, false, cond, not, T, ◌⊎◌, inl, inr, List, []}
+use Rattle.std.proofs.Common.{◌∷◌, length, get_or, Option, Some, None, unwrap_or, max, nat_cmp, sym, refl, ap, subst, ◌∙◌, arith}
 use Rattle.std.proofs.lemmas.Cmp.{ranked, then_total, on_total, back_total}
 use Rattle.std.proofs.lemmas.List.Elements.{All-nil, All-cons, All-head, All-tail}
 use Rattle.std.proofs.lemmas.List.Filters.{All-dedup}

@@ -10,7 +10,7 @@ use Rattle.std.specs.Ordering.{eq_by_cmp}
 use Rattle.pg_types.specs.declared.limits.TheConstants.{EDGE, PATTERN_SIGNS_MAX}
 use Rattle.pg_types.specs.Lines.{lines}
 use Rattle.pg_translate.specs.Alphabets.{Alphabet, letters_of, spelling_of}
-use Rattle.pg_translate.specs.Inside.FirstSpellings.{first_spelling}
+use Rattle.pg_translate.specs.Inside.spellings.FirstSpellings.{first_spelling}
 use Rattle.pg_translate.specs.Tokens.{Token, Letter, Digit, Edge}
 use Rattle.pg_patterns.specs.DottedSigns.{dotted_cmp}
 use Rattle.pg_patterns.specs.Inside.DottedOrder.{dotted_exact}
@@ -23,8 +23,8 @@ use Rattle.pg_patterns.specs.Texts.{value_digit, line_from, pattern_line}
 use Rattle.pg_types.proofs.BoolFacts.{and_first, and_second, equal_is}
 use Rattle.pg_patterns.proofs.Sound.{entry_bounds}
 use Rattle.pg_translate.specs.declared.items.Place.TheVariants.{Patterns}
-use Rattle.pg_translate.specs.Inside.Items.{IsItem, text_of_items, tokens_in}
-use Rattle.pg_translate.specs.Inside.Rules.{KeepsRules}
+use Rattle.pg_translate.specs.Inside.items.Items.{IsItem, text_of_items, tokens_in}
+use Rattle.pg_translate.specs.Inside.tables.Rules.{KeepsRules}
 use Rattle.pg_translate.proofs.JoinedItems.{line_is_read}
 use Rattle.pg_translate.proofs.LineTexts.{lines_of_text}
 use Rattle.pg_translate.proofs.RuleLaws.{spelling_item}

@@ -11,10 +11,10 @@ use Rattle.pg_translate.specs.declared.items.Place.TheVariants.{Patterns}
 use Rattle.pg_translate.specs.Alphabets.{Alphabet}
 use Rattle.pg_translate.specs.Tokens.{Token}
 use Rattle.pg_translate.specs.Cuts.{Cut, with_item, tokens_of}
-use Rattle.pg_translate.specs.Inside.Rests.{cut_rest}
-use Rattle.pg_translate.specs.Inside.Answers.{HasItem}
+use Rattle.pg_translate.specs.Inside.items.Rests.{cut_rest}
+use Rattle.pg_translate.specs.Inside.items.Answers.{HasItem}
 use Rattle.pg_translate.specs.Gaps.{sign_of}
-use Rattle.pg_translate.specs.Inside.Refusing.{refusal_with_room}
+use Rattle.pg_translate.specs.Inside.items.Refusing.{refusal_with_room}
 use Rattle.pg_translate.proofs.LineSteps.{cut_rest-takes, refusal_sign, refusal_full}
 use Rattle.pg_patterns.specs.Inside.EntryLines.{digit_at_dot}
 use Rattle.pg_patterns.specs.Inside.Drafts.{Draft, IsDraft, IsDotDigit, all_digits, draft_with_sign, with_token, refusal_after, draft_left}

@@ -1,5 +1,6 @@
 -- The strings of a map, one after the other.
-use Rattle.std.proofs.Common.{◌≡◌, ℕ, suc, zero, ◌+◌, ◌-◌, ◌<◌, ◌≤◌, true, false, cond, T, List, [], ◌∷◌, ◌++◌, length, drop, get_or, nat_eq, nat_cmp, sym, refl, ap, subst, ◌∙◌, ⊎_elim, flat_map, append_assoc, arith, add-zero}
+use Rattle.std.proofs.Common.{◌≡◌, ℕ, suc, zero, ◌+◌, ◌-◌, ◌<◌, ◌≤◌, true, false, cond, T, List, [], ◌∷◌, ◌++◌}
+use Rattle.std.proofs.Common.{length, drop, get_or, nat_eq, nat_cmp, sym, refl, ap, subst, ◌∙◌, ⊎_elim, flat_map, append_assoc, arith, add-zero}
 use Rattle.std.proofs.lemmas.Bool.{cases_lt}
 use Rattle.std.proofs.lemmas.Cmp.{ranked, upto}
 use Rattle.std.proofs.lemmas.List.{drop-drop, get_or-drop, get_or_default, length-drop}

@@ -8,7 +8,7 @@ use Rattle.pg_types.specs.declared.limits.TheConstants.{FILE_MAX}
 use Rattle.pg_types.specs.declared.refusals.Kind.TheVariants.{PatternsTooLong}
 use Rattle.pg_types.specs.Lines.{lines}
 use Rattle.pg_translate.specs.Alphabets.{Alphabet, letters_of}
-use Rattle.pg_translate.specs.Inside.Rules.{KeepsRules}
+use Rattle.pg_translate.specs.Inside.tables.Rules.{KeepsRules}
 use Rattle.pg_patterns.specs.Inside.PatternMaps.{IsPatternMap, SignsUpTo, is_entry}
 use Rattle.pg_translate.specs.declared.items.Place.TheVariants.{Patterns}
 use Rattle.pg_translate.specs.LineRefusals.{of_lines}

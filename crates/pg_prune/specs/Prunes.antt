@@ -26,19 +26,19 @@ unfoldable pub round : List WordPosition → Patterns → Patterns → Patterns
 round positions P Q = round_from positions P [] Q
 
 -- what rounds leave, and how many they are
-pub record Rounds : Type 0 where
+pub record RoundsResult : Type 0 where
   pub patterns : Patterns
   pub count : ℕ
 
 -- the rounds from Q, of at most so many entries, on; the last takes out nothing and counts too
-abbrev pub rounds_from : List WordPosition → Patterns → ℕ → ℕ → Patterns → Rounds
+abbrev pub rounds_from : List WordPosition → Patterns → ℕ → ℕ → Patterns → RoundsResult
 rounds_from positions P count zero Q = record { patterns = Q; count = count + 1 }
 rounds_from positions P count (suc most) Q = let next = round positions P Q in
     if nat_eq (length next) (length Q) then record { patterns = Q; count = count + 1 }
     else rounds_from positions P (count + 1) most next
 
 -- all rounds, the first of which starts with P
-unfoldable pub rounds : List WordPosition → Patterns → Rounds
+unfoldable pub rounds : List WordPosition → Patterns → RoundsResult
 rounds positions P = rounds_from positions P 0 (length P) P
 
 -- the need at a position: the number of the word, and the position in it

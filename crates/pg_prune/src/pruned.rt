@@ -15,14 +15,14 @@ pub struct Need {
 /// What comes out of pruning: the patterns that stay, the need of each of their entries, the number
 /// of rounds, and how many entries were taken out.
 #[derive(Drop)]
-pub struct Pruned {
+pub struct PrunedPatterns {
     patterns: PatternSet,
     needs: Vec<Need>,
     rounds: u64,
     removed: u64,
 }
 
-impl Model for Pruned {
+impl Model for PrunedPatterns {
     ghost use Rattle.pg_prune.specs.Prunes.{Pruning};
     ghost use Rattle.pg_prune.specs.Inside.Needs.{HasNeeds};
 
@@ -43,12 +43,17 @@ impl Model for Pruned {
     }) };
 }
 
-impl Pruned {
+impl PrunedPatterns {
     ghost use Rattle.std.specs.Prelude.{◌≡◌};
     ghost use Rattle.pg_prune.specs.Inside.Needs.{HasNeeds};
 
     /// The patterns, needs and numbers as one.
-    pub(crate) fn new(patterns: PatternSet, needs: Vec<Need>, rounds: u64, removed: u64) -> Pruned
+    pub(crate) fn new(
+        patterns: PatternSet,
+        needs: Vec<Need>,
+        rounds: u64,
+        removed: u64,
+    ) -> PrunedPatterns
         requires { HasNeeds (record {
           patterns = patterns;
           needs = needs.items;
@@ -62,7 +67,7 @@ impl Pruned {
           removed = removed;
         } }
     {
-        Pruned {
+        PrunedPatterns {
             patterns,
             needs,
             rounds,

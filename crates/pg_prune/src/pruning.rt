@@ -11,10 +11,10 @@ ghost use Rattle.pg_prune.specs.Inside.Prunings.{IsPruning};
 
 use crate::positions::gather::gather;
 use crate::positions::positions_in_reach;
-use crate::pruned::{Need, Pruned};
+use crate::pruned::{Need, PrunedPatterns};
 use crate::rounds::holders::Holders;
 use crate::rounds::kept_patterns::kept_patterns;
-use crate::rounds::{Rounds, Unseen, all_holders, all_rounds, needs};
+use crate::rounds::{NoObserver, RoundObserver, all_holders, all_rounds, needs};
 use pg_dict::Dictionary;
 use pg_patterns::PatternSet;
 use pg_translate::Table;
@@ -33,22 +33,22 @@ pub fn prune(
     dictionary: &Dictionary,
     table: &Table,
     patterns: &PatternSet,
-) -> Result<Pruned, AllocError>
+) -> Result<PrunedPatterns, AllocError>
     requires known { SignsUpTo (letters_of table.now + 1) patterns.now }
     ensures { let n = letters_of table.now + 1 in IfOk result
         (IsPruning (minima_of table.now) n dictionary.now patterns.now) }
 {
-    prune_watched(alloc, dictionary, table, patterns, &Unseen)
+    prune_watched(alloc, dictionary, table, patterns, &NoObserver)
 }
 
 /// Does what `prune` does, and tells the observer of each round.
-pub fn prune_watched<W: Rounds>(
+pub fn prune_watched<W: RoundObserver>(
     alloc: Global,
     dictionary: &Dictionary,
     table: &Table,
     patterns: &PatternSet,
     watch: &W,
-) -> Result<Pruned, AllocError>
+) -> Result<PrunedPatterns, AllocError>
     requires known { SignsUpTo (letters_of table.now + 1) patterns.now }
     ensures { let n = letters_of table.now + 1 in IfOk result
         (IsPruning (minima_of table.now) n dictionary.now patterns.now) }
@@ -57,13 +57,13 @@ pub fn prune_watched<W: Rounds>(
 }
 
 /// What `prune_watched` gives. This contract names the definition alone.
-fn find<W: Rounds>(
+fn find<W: RoundObserver>(
     alloc: Global,
     dictionary: &Dictionary,
     table: &Table,
     patterns: &PatternSet,
     watch: &W,
-) -> Result<Pruned, AllocError>
+) -> Result<PrunedPatterns, AllocError>
     ensures { IfOk result
         (λ found. found ≡ pruning_of (minima_of table.now) dictionary.now patterns.now) }
 {
@@ -83,14 +83,14 @@ fn find<W: Rounds>(
 
 /// Makes the rounds. `positions` are those of the words, and `standing` says at which of them each
 /// entry stands. `holders` says what all entries give to each.
-fn settle<W: Rounds>(
+fn settle<W: RoundObserver>(
     alloc: Global,
     patterns: &PatternSet,
     standing: &[Vec<usize>],
     positions: &[Need],
     holders: &mut [Holders],
     watch: &W,
-) -> Result<Pruned, AllocError>
+) -> Result<PrunedPatterns, AllocError>
     requires { (m : Minima) × ((words : List Word)
         × ((positions.now ≡ map need_at (positions_of m words))
         × HasAllEntries (positions_of m words) patterns.now (map (λ l. l.items) standing.now)
@@ -107,5 +107,5 @@ fn settle<W: Rounds>(
     let needs = needs(alloc, patterns, standing, positions, holders, kept)?;
     let removed = count - kept.len();
     let patterns = kept_patterns(alloc, patterns, kept)?;
-    Ok(Pruned::new(patterns, needs, finished.count, removed as u64))
+    Ok(PrunedPatterns::new(patterns, needs, finished.count, removed as u64))
 }

@@ -1,4 +1,4 @@
-//! The rounds.
+//! The rounds through the entries, each of which takes out what no position needs.
 ghost use Rattle.std.specs.Prelude.{◌≡◌, ◌<◌, ◌≤◌, not, [], ◌∷◌, List, length, map, if◌then◌else◌, replicate, IfOk, None, MatchOption};
 ghost use Rattle.pg_types.specs.declared.limits.TheConstants.{LEVEL_MAX};
 ghost use Rattle.pg_prune.specs.Positions.{WordPosition};
@@ -6,9 +6,9 @@ ghost use Rattle.pg_prune.specs.Prunes.{need_at, needs as needs_of};
 ghost use Rattle.pg_prune.specs.Inside.rounds.Alike.{break_alike};
 ghost use Rattle.pg_prune.specs.Inside.Findings.{first_difference};
 ghost use Rattle.pg_prune.specs.Inside.positions.Standing.{positions_of_entries};
-ghost use Rattle.pg_prune.specs.Inside.rounds.Picks.{picked_entries, IsGround, IsKeptSoFar, IsOneRound, HasAllEntries};
+ghost use Rattle.pg_prune.specs.Inside.rounds.Picks.{picked_entries, ListsPositions, IsKeptSoFar, IsOneRound, HasAllEntries};
 ghost use Rattle.std.specs.List.{range_with_len};
-ghost use Rattle.pg_prune.specs.Inside.rounds.AllRounds.{IsFinished};
+ghost use Rattle.pg_prune.specs.Inside.rounds.AllRounds.{AreAllRounds};
 ghost use Rattle.pg_prune.specs.Inside.rounds.Turns.{Turn, with_entry, without_entry, IsHeld, IsAwaited, IsTallied, IsFound};
 
 pub mod holders;
@@ -20,16 +20,16 @@ use pg_patterns::PatternSet;
 use std::alloc::{AllocError, Global};
 
 /// An observer of the rounds. Nothing is promised of its calls, and nothing is asked of it.
-pub trait Rounds {
+pub trait RoundObserver {
     /// A round begins, counted from 1.
     fn begins(&self, round: u64);
 }
 
 /// An observer that does nothing.
 #[derive(Clone, Copy, Debug, Default)]
-pub struct Unseen;
+pub struct NoObserver;
 
-impl Rounds for Unseen {
+impl RoundObserver for NoObserver {
     fn begins(&self, _round: u64) {}
 }
 
@@ -90,9 +90,9 @@ pub(crate) fn all_holders(
     count: usize,
 ) -> Result<Vec<Holders>, AllocError>
     requires { (positions : List WordPosition)
-        × IsGround positions patterns.now (map (λ l. l.items) standing.now) count }
+        × ListsPositions positions patterns.now (map (λ l. l.items) standing.now) count }
     ensures { (positions : List WordPosition)
-        → IsGround positions patterns.now (map (λ l. l.items) standing.now) count
+        → ListsPositions positions patterns.now (map (λ l. l.items) standing.now) count
         → IfOk result (λ holders. IsTallied positions patterns.now holders.items) }
 {
     let mut holders = no_holders(alloc, count)?;
@@ -148,9 +148,9 @@ pub(crate) fn round(
     Ok(stay)
 }
 
-/// What rounds leave: the numbers of the entries that stay, and how many rounds there were.
+/// The entries that rounds leave, by their numbers, and how many rounds there were.
 #[derive(Drop)]
-pub(crate) struct Finished {
+pub(crate) struct KeptEntries {
     pub kept: Vec<usize>,
     pub count: u64,
 }
@@ -167,18 +167,18 @@ fn numbers(alloc: Global, count: usize) -> Result<Vec<usize>, AllocError>
 }
 
 /// Makes rounds until one takes out nothing. The observer is told of each.
-pub(crate) fn all_rounds<W: Rounds>(
+pub(crate) fn all_rounds<W: RoundObserver>(
     alloc: Global,
     patterns: &PatternSet,
     standing: &[Vec<usize>],
     holders: &mut [Holders],
     watch: &W,
-) -> Result<Finished, AllocError>
+) -> Result<KeptEntries, AllocError>
     requires { (positions : List WordPosition)
         × HasAllEntries positions patterns.now (map (λ l. l.items) standing.now) holders.old }
     ensures { (positions : List WordPosition)
         → HasAllEntries positions patterns.now (map (λ l. l.items) standing.now) holders.old
-        → IfOk result (IsFinished positions patterns.now
+        → IfOk result (AreAllRounds positions patterns.now
         (map (λ l. l.items) standing.now) holders.new) }
 {
     let mut kept = numbers(alloc, patterns.len())?;
@@ -188,7 +188,7 @@ pub(crate) fn all_rounds<W: Rounds>(
         watch.begins(count);
         let stay = round(alloc, patterns, standing, holders, kept.as_slice())?;
         if stay.len() == kept.len() {
-            return Ok(Finished { kept, count });
+            return Ok(KeptEntries { kept, count });
         }
         kept = stay;
     }

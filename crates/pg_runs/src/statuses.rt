@@ -1,6 +1,6 @@
 //! The status of the program over a system whose arguments are given.
 use pg_main::run_words;
-use pg_told_disk::{Broken, Given};
+use pg_told_disk::{Broken, ScriptedSystem};
 use std::process::ExitCode;
 use std::test::Fail;
 use std::{fs, io};
@@ -43,14 +43,14 @@ fn the_status_of_the_program(rt: HostRuntime) -> Result<(), Fail> {
     fs::write(&rt, "A", b"1 1 1 1 1 1 1\n")?;
     fs::write(&rt, "O", b"a1b\n")?;
     for (words, status) in PROGRAMS {
-        let given = Given {
+        let system = ScriptedSystem {
             system: &rt,
             words,
             calls: &[],
             broken: Broken::Nothing,
         };
         let nowhere = fs::create(&rt, "/dev/null")?;
-        assert!(rt; run_words(&given, io::sink(), nowhere) == ExitCode::from(*status));
+        assert!(rt; run_words(&system, io::sink(), nowhere) == ExitCode::from(*status));
     }
     Ok(())
 }

@@ -1,5 +1,5 @@
 -- What only contracts between layers and proofs need.
-pub mod Given
+pub mod Inputs
 pub mod Least
-pub mod Found
+pub mod RowsAndWinner
 pub mod Rows

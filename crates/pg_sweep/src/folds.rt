@@ -5,7 +5,7 @@ ghost use Rattle.pg_dict.specs.Inside.SoundWords.{SignsAtMost};
 ghost use Rattle.pg_patterns.specs.Inside.PatternMaps.{SignsUpTo};
 ghost use Rattle.pg_driver.specs.Inside.Sound.{IsSmall};
 ghost use Rattle.pg_sweep.specs.Sweeps.{fold_totals};
-ghost use Rattle.pg_sweep.specs.Inside.Given.{terms, rest_totals, totals_of_folds, HasSigns, IsSmallFor};
+ghost use Rattle.pg_sweep.specs.Inside.Inputs.{terms, rest_totals, totals_of_folds, HasSigns, IsSmallFor};
 
 use crate::maker::Maker;
 use pg_dict::Dictionary;
@@ -17,7 +17,7 @@ use std::alloc::{AllocError, Global};
 
 /// What all runs of a sweep share.
 #[derive(Clone, Copy)]
-pub(crate) struct Given<'a> {
+pub(crate) struct SweepInputs<'a> {
     pub dictionary: &'a Dictionary,
     /// The table by which the words were read.
     pub table: &'a Table,
@@ -30,20 +30,20 @@ pub(crate) struct Given<'a> {
 fn totals_by_rest<K: Maker>(
     alloc: Global,
     maker: &K,
-    given: &Given<'_>,
+    inputs: &SweepInputs<'_>,
     params: &Params,
     rest: &Dictionary,
     left_out: &Dictionary,
 ) -> Result<Totals, AllocError>
-    requires signs { HasSigns given.now }
-    requires rest { SignsAtMost (letters_of given.now.table.now + 1) rest.now }
-    requires left_out { SignsAtMost (letters_of given.now.table.now + 1) left_out.now }
+    requires signs { HasSigns inputs.now }
+    requires rest { SignsAtMost (letters_of inputs.now.table.now + 1) rest.now }
+    requires left_out { SignsAtMost (letters_of inputs.now.table.now + 1) left_out.now }
     ensures value { IfOk result
-        (λ sums. sums ≡ rest_totals (terms given.now) params.now rest.now left_out.now) }
+        (λ sums. sums ≡ rest_totals (terms inputs.now) params.now rest.now left_out.now) }
     ensures small { IfOk result IsSmall }
 {
-    let table = given.table;
-    let mut engine = maker.make(alloc, table.letters() + 1, given.start)?;
+    let table = inputs.table;
+    let mut engine = maker.make(alloc, table.letters() + 1, inputs.start)?;
     generate(alloc, &mut engine, rest, table, params)?;
     Ok(totals(&engine, left_out, table))
 }
@@ -52,39 +52,39 @@ fn totals_by_rest<K: Maker>(
 fn totals_of_fold<K: Maker>(
     alloc: Global,
     maker: &K,
-    given: &Given<'_>,
+    inputs: &SweepInputs<'_>,
     params: &Params,
     fold: u8,
 ) -> Result<Totals, AllocError>
-    requires fold { fold < given.now.folds }
-    requires signs { HasSigns given.now }
-    ensures value { IfOk result (λ sums. sums ≡ fold_totals (terms given.now) params.now fold) }
+    requires fold { fold < inputs.now.folds }
+    requires signs { HasSigns inputs.now }
+    ensures value { IfOk result (λ sums. sums ≡ fold_totals (terms inputs.now) params.now fold) }
     ensures small { IfOk result IsSmall }
 {
-    let rest = given.dictionary.part(alloc, given.folds, fold, false)?;
-    let left_out = given.dictionary.part(alloc, given.folds, fold, true)?;
-    totals_by_rest(alloc, maker, given, params, &rest, &left_out)
+    let rest = inputs.dictionary.part(alloc, inputs.folds, fold, false)?;
+    let left_out = inputs.dictionary.part(alloc, inputs.folds, fold, true)?;
+    totals_by_rest(alloc, maker, inputs, params, &rest, &left_out)
 }
 
 /// The totals of the words that were left out, over all folds.
 pub(crate) fn totals_of_set<K: Maker>(
     alloc: Global,
     maker: &K,
-    given: &Given<'_>,
+    inputs: &SweepInputs<'_>,
     params: &Params,
 ) -> Result<Totals, AllocError>
-    requires signs { HasSigns given.now }
+    requires signs { HasSigns inputs.now }
     ensures value { IfOk result
-        (λ sums. sums ≡ totals_of_folds (terms given.now) params.now given.now.folds) }
-    ensures small { IfOk result (IsSmallFor given.now.folds) }
+        (λ sums. sums ≡ totals_of_folds (terms inputs.now) params.now inputs.now.folds) }
+    ensures small { IfOk result (IsSmallFor inputs.now.folds) }
 {
     let mut sums = Totals {
         good: 0,
         bad: 0,
         missed: 0,
     };
-    'folds: for fold in 0..given.folds {
-        let more = totals_of_fold(alloc, maker, given, params, fold)?;
+    'folds: for fold in 0..inputs.folds {
+        let more = totals_of_fold(alloc, maker, inputs, params, fold)?;
         sums = Totals {
             good: sums.good + more.good,
             bad: sums.bad + more.bad,

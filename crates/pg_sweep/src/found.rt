@@ -2,8 +2,7 @@
 use crate::rows::{SweepRow, number_of_winner};
 use std::marker::Model;
 
-/// What a sweep found: a row for each set of parameters, in order, and which of them is the
-/// cheapest.
+/// What a sweep found: a row for each set of parameters, in order, and which row is the cheapest.
 #[derive(Drop)]
 pub struct Sweep {
     rows: Vec<SweepRow>,
@@ -12,10 +11,10 @@ pub struct Sweep {
 
 impl Model for Sweep {
     ghost use Rattle.pg_sweep.specs.Sweeps.{costs_of};
-    ghost use Rattle.pg_sweep.specs.Inside.Found.{Found};
+    ghost use Rattle.pg_sweep.specs.Inside.RowsAndWinner.{RowsAndWinner};
     ghost use Rattle.pg_sweep.specs.Winners.{IsWinner};
 
-    ghost Value = { Found };
+    ghost Value = { RowsAndWinner };
 
     ghost view = { λ s. record { rows = s.rows.items; winner = s.winner } };
 

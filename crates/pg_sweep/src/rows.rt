@@ -9,7 +9,6 @@ use pg_types::Totals;
 /// and what these cost.
 #[derive(Clone, Copy, Debug, PartialEq, Eq)]
 pub struct SweepRow {
-    /// The totals of the words that were left out.
     pub totals: Totals,
     /// The bad and the missed sum, each times what a unit of it costs.
     pub cost: u64,

@@ -6,9 +6,9 @@ ghost use Rattle.pg_patterns.specs.Inside.PatternMaps.{SignsUpTo};
 ghost use Rattle.pg_types.specs.declared.limits.TheConstants.{FOLDS_MAX, PRICE_MAX, SETS_MAX};
 ghost use Rattle.pg_sweep.specs.Sweeps.{row_of, costs_of};
 ghost use Rattle.pg_sweep.specs.Winners.{winner_of};
-ghost use Rattle.pg_sweep.specs.Inside.Given.{IsSmallFor};
+ghost use Rattle.pg_sweep.specs.Inside.Inputs.{IsSmallFor};
 
-use crate::folds::{Given, totals_of_set};
+use crate::folds::{SweepInputs, totals_of_set};
 use crate::found::Sweep;
 use crate::maker::Maker;
 use crate::rows::SweepRow;
@@ -58,7 +58,7 @@ pub fn sweep<K: Maker>(
         bad missed) sets.now) }
     ensures winner { IfOk result (λ sweep. sweep.winner ≡ winner_of (costs_of sweep.rows)) }
 {
-    let given = Given {
+    let inputs = SweepInputs {
         dictionary,
         table,
         start,
@@ -66,7 +66,7 @@ pub fn sweep<K: Maker>(
     };
     let mut rows = Vec::new(alloc);
     'sets: for i in 0..sets.len() {
-        let totals = totals_of_set(alloc, maker, &given, &sets[i])?;
+        let totals = totals_of_set(alloc, maker, &inputs, &sets[i])?;
         rows.push(priced(totals, bad, missed))?;
     }
     Ok(Sweep::new(rows))

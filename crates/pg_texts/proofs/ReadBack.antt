@@ -8,12 +8,12 @@ use Rattle.pg_types.specs.declared.limits.TheConstants.{FILE_MAX, WORD_LETTERS_M
 use Rattle.pg_types.specs.declared.marks.Mark.{Mark}
 use Rattle.pg_translate.specs.Alphabets.{Alphabet, letters_of}
 use Rattle.pg_translate.specs.Tokens.{Token}
-use Rattle.pg_translate.specs.Inside.Items.{text_of_items}
+use Rattle.pg_translate.specs.Inside.items.Items.{text_of_items}
 use Rattle.pg_dict.specs.Word.{Word}
 use Rattle.pg_dict.specs.Inside.SoundWords.{IsWord, SignsAtMost}
 use Rattle.pg_dict.specs.Words.{words}
 use Rattle.pg_dict.specs.Inside.LineWords.{line_reading, line_word}
-use Rattle.pg_dict.specs.Inside.Written.{AreMarksOf, word_tokens, letters_among, IsLine, file_of, LinesGive}
+use Rattle.pg_dict.specs.Inside.WrittenWords.{AreMarksOf, word_tokens, letters_among, IsLine, file_of, LinesGive}
 use Rattle.pg_select.specs.Windows.{Patterns}
 use Rattle.pg_texts.specs.PattmpTexts.{is_taking_part, statuses, lines_behind, pattmp_text}
 use Rattle.pg_texts.specs.Inside.ReadBack.{words_taking_part}

@@ -12,9 +12,9 @@ use Rattle.pg_types.specs.declared.limits.TheConstants.{WEIGHT_MAX}
 use Rattle.pg_translate.specs.Alphabets.{Alphabet}
 use Rattle.pg_translate.specs.Tokens.{Token, Digit, Weight}
 use Rattle.pg_types.specs.Parameters.{with_digit}
-use Rattle.pg_translate.specs.Inside.Items.{IsItem, decimal_value}
+use Rattle.pg_translate.specs.Inside.items.Items.{IsItem, decimal_value}
 use Rattle.pg_translate.specs.declared.items.Place.TheVariants.{Dictionary}
-use Rattle.pg_dict.specs.Inside.Written.{number_token, weight_tokens}
+use Rattle.pg_dict.specs.Inside.WrittenWords.{number_token, weight_tokens}
 use Rattle.pg_texts.specs.PattmpTexts.{number_text}
 
 -- digits that write a number

@@ -10,13 +10,13 @@ use Rattle.pg_types.specs.declared.limits.TheConstants.{EDGE, WEIGHT_MAX, WORD_L
 use Rattle.pg_types.specs.declared.marks.Mark.{Mark}
 use Rattle.pg_types.specs.declared.marks.Mark.TheVariants.{Nothing, Error, Missed, Found, DontCare}
 use Rattle.pg_translate.specs.Alphabets.{Alphabet, letters_of, spelling_of}
-use Rattle.pg_translate.specs.Inside.MarkBytes.{mark_byte_of}
+use Rattle.pg_translate.specs.Inside.items.MarkBytes.{mark_byte_of}
 use Rattle.pg_translate.specs.Tokens.{Token, Letter, Digit, Weight, Marked, Edge}
-use Rattle.pg_translate.specs.Inside.Items.{IsItem, text_of_items}
+use Rattle.pg_translate.specs.Inside.items.Items.{IsItem, text_of_items}
 use Rattle.pg_translate.specs.declared.items.Place.TheVariants.{Dictionary}
 use Rattle.pg_dict.specs.Word.{Word}
 use Rattle.pg_dict.specs.Inside.SoundWords.{IsWord}
-use Rattle.pg_dict.specs.Inside.Written.{Written, mark_tokens, weight_tokens, number_token, letters_tokens, written_letters, between_letters, letters_with, word_tokens, letters_among}
+use Rattle.pg_dict.specs.Inside.WrittenWords.{MarkedLetter, mark_tokens, weight_tokens, number_token, letters_tokens, written_letters, between_letters, letters_with, word_tokens, letters_among}
 use Rattle.pg_select.specs.Statuses.{position_weight}
 use Rattle.pg_texts.specs.PattmpTexts.{mark_text, weight_text, letter_text, position_text, word_text}
 use Rattle.pg_texts.proofs.Ranges.{same_over_range, part_of, each_append, each_over_range, map_pieces, shifted}
@@ -58,10 +58,10 @@ mark_items_tokens t Found = refl
 mark_items_tokens t DontCare = refl
 
 -- a letter with the mark and the weight of the position before it
-abbrev written_at : (ℕ → Mark) → Word → ℕ → Written
+abbrev written_at : (ℕ → Mark) → Word → ℕ → MarkedLetter
 written_at marks w p = record { mark = marks p; weight = position_weight w p; sign = slice_index w.signs p }
 
-abbrev written_tokens : ℕ → Written → List Token
+abbrev written_tokens : ℕ → MarkedLetter → List Token
 written_tokens weight l = mark_tokens l.mark ++ (weight_tokens weight l.weight ++ Letter l.sign ∷ [])
 
 position_items_tokens : (t : Alphabet) (marks : ℕ → Mark) (w : Word) (p : ℕ) → map (λ item. item.0) (position_items t marks w p) ≡ written_tokens w.weight (written_at marks w p)
@@ -226,12 +226,12 @@ no_letter_mark Missed = refl
 no_letter_mark Found = refl
 no_letter_mark DontCare = refl
 
-one_letter : (weight : ℕ) (l : Written) → letters_among (written_tokens weight l) ≡ 1
+one_letter : (weight : ℕ) (l : MarkedLetter) → letters_among (written_tokens weight l) ≡ 1
 one_letter weight l =
     letters_append (mark_tokens l.mark) (weight_tokens weight l.weight ++ Letter l.sign ∷ [])
     ∙ rw (no_letter_mark l.mark, letters_append (weight_tokens weight l.weight) (Letter l.sign ∷ []), no_letter_weight weight l.weight) (omega arith)
 
-letters_counted : (weight : ℕ) (ls : List Written) → letters_among (letters_tokens weight ls) ≡ length ls
+letters_counted : (weight : ℕ) (ls : List MarkedLetter) → letters_among (letters_tokens weight ls) ≡ length ls
 letters_counted weight [] = refl
 letters_counted weight (l ∷ ls) =
     let rest = letters_counted weight ls in

@@ -8,7 +8,7 @@ use Rattle.std.proofs.lemmas.Option.{slice_get-get_or, get_or_from_slice_get}
 use Rattle.pg_dict.specs.Words.{sets_hyphen, keeps_care}
 use Rattle.pg_dict.specs.Word.{Word}
 use Rattle.pg_dict.specs.Inside.SoundWords.{IsWord}
-use Rattle.pg_dict.specs.Inside.Written.{AreMarksOf}
+use Rattle.pg_dict.specs.Inside.WrittenWords.{AreMarksOf}
 use Rattle.pg_select.specs.Statuses.{status, is_odd}
 use Rattle.pg_translate.specs.Alphabets.{Alphabet}
 use Rattle.pg_patterns.specs.Values.{value_at}

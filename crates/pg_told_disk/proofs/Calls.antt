@@ -10,12 +10,12 @@ use Rattle.pg_outside.specs.declared.disk.system.FileId.{FileId}
 use Rattle.pg_told_disk.specs.Inside.Changes.{number_in, mode_in, bytes_in, stored_in, node_with, lets_write, id_of, disk_in}
 use Rattle.pg_told_disk.specs.Inside.Linked.{link_in, real_in, said_or}
 use Rattle.pg_told_disk.specs.Inside.Memory.{told_where}
-use Rattle.pg_told_disk.specs.Inside.Following.{not_link, said_same}
+use Rattle.pg_told_disk.specs.Inside.laws.Following.{not_link, said_same}
 use Rattle.pg_told_disk.specs.declared.change.Change.{Change}
 use Rattle.pg_told_disk.specs.declared.change.Change.TheVariants.{Made, GotMode, Wrote, Stored, Renamed, Removed, Refused, Stayed}
 use Rattle.pg_told_disk.specs.declared.links.Link as linked
-use Rattle.pg_told_disk.specs.Inside.Changed.{id_in, id_none, id_same, of_node, made, wrote, stayed, stayed_part, removed, refused, renamed, got_mode, stored}
-use Rattle.pg_told_disk.specs.Inside.Nodes.{named_has}
+use Rattle.pg_told_disk.specs.Inside.laws.Changed.{id_in, id_none, id_same, of_node, made, wrote, stayed, stayed_part, removed, refused, renamed, got_mode, stored}
+use Rattle.pg_told_disk.specs.Inside.laws.Nodes.{named_has}
 use Rattle.pg_told_disk.proofs.Joined.{one_joined}
 use Rattle.pg_told_disk.proofs.ToldBy.{steps, told_now}
 
@@ -36,7 +36,8 @@ stands links log q o unlinked is = ap (λ (r : List ℕ). number_in log r) (not_
 pub is_linked : (b : Bool) (links : List linked.Link) (log : List Change) (q : List ℕ) → is_some (link_in links q) ≡ true → HoldsNow (told_where b links log) (IsEntry q Link)
 is_linked b links log q is = told_now b links log (IsEntry q Link) is
 
-pub is_missing : (b : Bool) (links : List linked.Link) (log : List Change) (q : List ℕ) → is_some (link_in links q) ≡ false → number_in log q ≡ None → HoldsNow (told_where b links log) (IsEntry q Missing)
+pub is_missing : (b : Bool) (links : List linked.Link) (log : List Change) (q : List ℕ) → is_some (link_in links q) ≡ false → number_in log q ≡ None
+    → HoldsNow (told_where b links log) (IsEntry q Missing)
 is_missing b links log q unlinked none = told_now b links log (IsEntry q Missing) (unlinked, none_in links log q (stands links log q None unlinked none))
 
 pub is_file : (b : Bool) (links : List linked.Link) (log : List Change) (q : List ℕ) (n : ℕ) (id : FileId) → is_some (link_in links q) ≡ false → id
@@ -82,7 +83,8 @@ writable b links log n mode is lets = told_now b links log (IsWritable (id_of n)
 pub taken_by_link : (b : Bool) (links : List linked.Link) (log : List Change) (q : List ℕ) → is_some (link_in links q) ≡ true → HoldsNow (told_where b links log) (IsTaken q)
 taken_by_link b links log q is = told_now b links log (IsTaken q) (inl is)
 
-pub taken : (b : Bool) (links : List linked.Link) (log : List Change) (q : List ℕ) (n : ℕ) → is_some (link_in links q) ≡ false → number_in log q ≡ Some n → HoldsNow (told_where b links log) (IsTaken q)
+pub taken : (b : Bool) (links : List linked.Link) (log : List Change) (q : List ℕ) (n : ℕ) → is_some (link_in links q) ≡ false → number_in log q ≡ Some n
+    → HoldsNow (told_where b links log) (IsTaken q)
 taken b links log q n unlinked is = told_now b links log (IsTaken q) (inr (id_of n, leads_in links log q n (stands links log q (Some n) unlinked is)))
 
 pub stat : (b : Bool) (links : List linked.Link) (log : List Change) (n mode : ℕ) (id : FileId) → id ≡ id_of n → mode_in log n ≡ Some mode
@@ -106,7 +108,8 @@ removed_step b b2 links links2 log log2 own name told same is named =
     (steps b b2 links links2 log log2 (Removed own) (disk.RemovesUnlessLink (string_bytes own)) told same is (removed links log own))
 
 pub renamed_step : (b b2 : Bool) (links links2 : List linked.Link) (log log2 : List Change) (from to : String Global) (p q : List ℕ) → (b2 ≡ true → b ≡ true)
-    → links2 ≡ links → (b2 ≡ true → log2 ≡ Renamed from to ∷ log) → string_bytes from ≡ p → string_bytes to ≡ q → ChangesDisk (told_where b links log) (told_where b2 links2 log2) (disk.RenamesUnlessLink p q)
+    → links2 ≡ links → (b2 ≡ true → log2 ≡ Renamed from to ∷ log) → string_bytes from ≡ p → string_bytes to ≡ q
+    → ChangesDisk (told_where b links log) (told_where b2 links2 log2) (disk.RenamesUnlessLink p q)
 renamed_step b b2 links links2 log log2 from to p q told same is one other =
     subst (λ (r : List ℕ). ChangesDisk (told_where b links log) (told_where b2 links2 log2) (disk.RenamesUnlessLink p r)) other
     (subst (λ (r : List ℕ). ChangesDisk (told_where b links log) (told_where b2 links2 log2) (disk.RenamesUnlessLink r (string_bytes to))) one

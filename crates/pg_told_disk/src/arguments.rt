@@ -1,7 +1,7 @@
 //! A system whose arguments are given and whose files may fail.
 ghost use Rattle.std.specs.Prelude.{◌≤◌, length, IfOk};
 
-use crate::scripted::{Broken, Call, Scripted, refused};
+use crate::scripted::{Broken, Call, ScriptedFile, refused};
 use std::alloc::Allocator;
 use std::env::FillError;
 use std::fs::{Metadata, OpenOptions};
@@ -12,7 +12,7 @@ use std::{io, rt};
 /// these words. The opened files read and write as the list of calls says, and the broken step
 /// fails.
 #[derive(Drop)]
-pub struct Given<'a, R> {
+pub struct ScriptedSystem<'a, R> {
     /// The system that does all the rest.
     pub system: &'a R,
     /// The words after the program's name.
@@ -23,10 +23,11 @@ pub struct Given<'a, R> {
     pub broken: Broken,
 }
 
-impl<'a, R> Given<'a, R> {
-    /// A system without words whose files read and write so, and this step of which fails.
-    pub fn with_calls(system: &'a R, calls: &'a [Call], broken: Broken) -> Given<'a, R> {
-        Given {
+impl<'a, R> ScriptedSystem<'a, R> {
+    /// A system without words. Its files read and write as `calls` says, and the step `broken`
+    /// fails.
+    pub fn with_calls(system: &'a R, calls: &'a [Call], broken: Broken) -> ScriptedSystem<'a, R> {
+        ScriptedSystem {
             system,
             words: &[],
             calls,
@@ -46,7 +47,7 @@ fn fill(text: &[u8], buffer: &mut [u8]) -> Result<usize, FillError>
     Ok(text.len())
 }
 
-impl<'a, R> rt::Env for Given<'a, R> {
+impl<'a, R> rt::Env for ScriptedSystem<'a, R> {
     fn arg(&self, i: usize, buf: &mut [u8]) -> Result<usize, FillError> {
         if i == 0 {
             return fill(b"patgen", buf);
@@ -66,7 +67,7 @@ impl<'a, R> rt::Env for Given<'a, R> {
     }
 }
 
-impl<'a, R: rt::Clock> rt::Clock for Given<'a, R> {
+impl<'a, R: rt::Clock> rt::Clock for ScriptedSystem<'a, R> {
     fn monotonic(&self) -> io::Result<Duration> {
         self.system.monotonic()
     }
@@ -76,7 +77,7 @@ impl<'a, R: rt::Clock> rt::Clock for Given<'a, R> {
     }
 }
 
-impl<'a, R: Alloc> Alloc for Given<'a, R> {
+impl<'a, R: Alloc> Alloc for ScriptedSystem<'a, R> {
     type A = R::A;
 
     fn alloc(&self) -> R::A {
@@ -84,13 +85,13 @@ impl<'a, R: Alloc> Alloc for Given<'a, R> {
     }
 }
 
-impl<'a, R: rt::Files> rt::Files for Given<'a, R> {
-    type File = Scripted<'a, R::File>;
+impl<'a, R: rt::Files> rt::Files for ScriptedSystem<'a, R> {
+    type File = ScriptedFile<'a, R::File>;
 
     type Dir = R::Dir;
 
-    fn open_file(&self, how: &OpenOptions, path: &str) -> io::Result<Scripted<'a, R::File>> {
-        Ok(Scripted {
+    fn open_file(&self, how: &OpenOptions, path: &str) -> io::Result<ScriptedFile<'a, R::File>> {
+        Ok(ScriptedFile {
             inner: self.system.open_file(how, path)?,
             calls: self.calls,
             broken: self.broken,

@@ -9,6 +9,6 @@ mod lookup;
 mod scripted;
 mod told_disk;
 
-pub use arguments::Given;
-pub use scripted::{Broken, Call, Scripted};
+pub use arguments::ScriptedSystem;
+pub use scripted::{Broken, Call, ScriptedFile};
 pub use told_disk::{ToldDisk, ToldFile};

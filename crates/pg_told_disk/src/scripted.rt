@@ -28,7 +28,7 @@ pub enum Broken {
 
 /// A reader or writer whose calls go as the list says, and which takes all bytes after its end.
 #[derive(Drop)]
-pub struct Scripted<'a, F: Drop> {
+pub struct ScriptedFile<'a, F: Drop> {
     /// What it reads or writes.
     pub inner: F,
     /// How the next calls go.
@@ -42,10 +42,10 @@ pub fn refused() -> Error {
     Error::from(ErrorKind::Other)
 }
 
-impl<'a, F: Drop> Scripted<'a, F> {
-    /// Over this reader or writer, with these calls, and no other step that fails.
-    pub fn new(inner: F, calls: &'a [Call]) -> Scripted<'a, F> {
-        Scripted {
+impl<'a, F: Drop> ScriptedFile<'a, F> {
+    /// One over this reader or writer, with these calls. No other step fails.
+    pub fn new(inner: F, calls: &'a [Call]) -> ScriptedFile<'a, F> {
+        ScriptedFile {
             inner,
             calls,
             broken: Broken::Nothing,
@@ -73,14 +73,14 @@ impl<'a, F: Drop> Scripted<'a, F> {
     }
 }
 
-impl<F: Read + Drop> Read for Scripted<'_, F> {
+impl<F: Read + Drop> Read for ScriptedFile<'_, F> {
     fn read(&mut self, buffer: &mut [u8]) -> io::Result<usize> {
         let most = self.next()?.min(buffer.len());
         self.inner.read(&mut buffer[..most])
     }
 }
 
-impl<F: Write + Drop> Write for Scripted<'_, F> {
+impl<F: Write + Drop> Write for ScriptedFile<'_, F> {
     fn write(&mut self, buffer: &[u8]) -> io::Result<usize> {
         let most = self.next()?.min(buffer.len());
         self.inner.write(&buffer[..most])
@@ -91,13 +91,13 @@ impl<F: Write + Drop> Write for Scripted<'_, F> {
     }
 }
 
-impl<F: Seek + Drop> Seek for Scripted<'_, F> {
+impl<F: Seek + Drop> Seek for ScriptedFile<'_, F> {
     fn seek(&mut self, to: SeekFrom) -> io::Result<u64> {
         self.inner.seek(to)
     }
 }
 
-impl<F: OpenFile + Drop> OpenFile for Scripted<'_, F> {
+impl<F: OpenFile + Drop> OpenFile for ScriptedFile<'_, F> {
     fn metadata(&self) -> io::Result<Metadata> {
         self.inner.metadata()
     }

@@ -6,7 +6,7 @@ ghost use Rattle.pg_told_disk.specs.Inside.Changes.{IsHeldIn};
 use crate::change::Change;
 use crate::links::{Link, is_link, link_of, real_of, text_of};
 use crate::lookup::{bytes_of, lets_write, mode_of, number_of};
-use pg_outside::{CallFailed, Entry, FileId, Seen, System, linked_name};
+use pg_outside::{CallFailed, Entry, FileId, FileStatus, System, linked_name};
 use std::alloc::{AllocError, Global};
 
 /// How many bytes a write takes at most.
@@ -32,12 +32,12 @@ pub struct ToldDisk {
     /// The changes, the latest first.
     log: Vec<Change>,
     is_told: bool,
-    failing: Failing,
+    failing: FailurePlan,
 }
 
 /// Which calls fail, and how many did.
 #[derive(Drop)]
-struct Failing {
+struct FailurePlan {
     calls: u64,
     /// The first and the last call that fails, counted from 1.
     from: u64,
@@ -55,7 +55,7 @@ fn id_of(number: u64) -> FileId
     }
 }
 
-impl Failing {
+impl FailurePlan {
     /// Counts a call that fails.
     fn fail(&mut self) -> CallFailed
         ensures later { self.old.failures ≤ self.new.failures }
@@ -92,7 +92,7 @@ impl ToldDisk {
             links: Vec::new(alloc),
             log: Vec::new(alloc),
             is_told: true,
-            failing: Failing {
+            failing: FailurePlan {
                 calls: 0,
                 from: u64::MAX,
                 to: 0,
@@ -205,7 +205,7 @@ impl ToldDisk {
 
 impl System for ToldDisk {
     ghost use Rattle.pg_told_disk.specs.Inside.Memory.{told_by, file_id, file_at};
-    ghost use Rattle.pg_told_disk.specs.Inside.Plain.{plain_where, new_names_where};
+    ghost use Rattle.pg_told_disk.specs.Inside.laws.Plain.{plain_where, new_names_where};
 
     type File = ToldFile;
 
@@ -274,14 +274,14 @@ impl System for ToldDisk {
         }
     }
 
-    fn stat(&mut self, file: &ToldFile) -> Result<Seen, CallFailed> {
+    fn stat(&mut self, file: &ToldFile) -> Result<FileStatus, CallFailed> {
         if self.failing.next_fails() {
             return Err(CallFailed);
         }
         let Some(mode) = mode_of(&self.log, file.number) else {
             return Err(self.failing.fail());
         };
-        Ok(Seen {
+        Ok(FileStatus {
             id: id_of(file.number),
             is_regular: true,
             mode,

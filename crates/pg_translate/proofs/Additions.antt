@@ -1,5 +1,6 @@
 -- An index with one spelling more.
-use Rattle.std.proofs.Common.{◌≡◌, ℕ, ◌+◌, ◌-◌, ◌<◌, ◌≤◌, ◌==◌, max, Bool, true, false, if◌then◌else◌, not, ◌&&◌, ◌||◌, ⊎_elim, List, [], ◌∷◌, ◌++◌, length, map, get_or, slice_get, Option, Some, None, refl, sym, ap, ◌∙◌, subst, arith, suc, zero, nat_eq}
+use Rattle.std.proofs.Common.{◌≡◌, ℕ, ◌+◌, ◌-◌, ◌<◌, ◌≤◌, ◌==◌, max, Bool, true, false, if◌then◌else◌, not, ◌&&◌, ◌||◌, ⊎_elim, List, []}
+use Rattle.std.proofs.Common.{◌∷◌, ◌++◌, length, map, get_or, slice_get, Option, Some, None, refl, sym, ap, ◌∙◌, subst, arith, suc, zero, nat_eq}
 use Rattle.std.specs.List.{list_any, starts_with}
 use Rattle.std.specs.Option.{option_or}
 use Rattle.std.proofs.lemmas.Bool.{cases_Bool, cases_lt, cases_eq, eq-eqb, ne_eqb}
@@ -8,11 +9,11 @@ use Rattle.std.proofs.lemmas.List.Sums.{fold-append}
 use Rattle.std.proofs.lemmas.Option.{slice_get-get_or}
 use Rattle.pg_translate.specs.declared.index.Index.{Index}
 use Rattle.pg_translate.specs.declared.spellings.Text.{Text}
-use Rattle.pg_translate.specs.Inside.FirstSpellings.{letters_in, first_of}
+use Rattle.pg_translate.specs.Inside.spellings.FirstSpellings.{letters_in, first_of}
 use Rattle.pg_translate.specs.Spellings.{clash}
-use Rattle.pg_translate.specs.Inside.Members.{IsAmong}
-use Rattle.pg_translate.specs.Inside.Texts.{text_of}
-use Rattle.pg_translate.specs.Inside.Fronts.{IsIndex, AreBytes, pairs, firsts_of, front_at, front_of, front_in, front_code}
+use Rattle.pg_translate.specs.Inside.spellings.Members.{IsAmong}
+use Rattle.pg_translate.specs.Inside.spellings.Texts.{text_of}
+use Rattle.pg_translate.specs.Inside.spellings.Fronts.{IsIndex, AreBytes, pairs, firsts_of, front_at, front_of, front_in, front_code}
 use Rattle.pg_translate.proofs.Fronts.{front_in-push, IsAmong-push, list_any_at}
 use Rattle.pg_translate.proofs.Walks.{AreApart}
 

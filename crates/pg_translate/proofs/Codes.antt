@@ -4,7 +4,7 @@ use Rattle.std.specs.List.{list_all}
 use Rattle.std.proofs.lemmas.Bool.{and_parts, ltb-true, cases_order}
 use Rattle.std.proofs.lemmas.List.{length-drop, take-append-drop, take_more, length-take-le}
 use Rattle.std.proofs.lemmas.List.Sums.{fold-append}
-use Rattle.pg_translate.specs.Inside.Fronts.{front_code, AreBytes}
+use Rattle.pg_translate.specs.Inside.spellings.Fronts.{front_code, AreBytes}
 
 -- the code of a text behind a number
 abbrev pub code_from : ℕ → List ℕ → ℕ

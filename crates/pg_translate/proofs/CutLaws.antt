@@ -1,5 +1,6 @@
 -- The cut of a line is its longest list of items.
-use Rattle.std.proofs.Common.{◌≡◌, ℕ, ◌+◌, ◌-◌, ◌<◌, ◌≤◌, ◌==◌, nat_le, true, false, ◌⊎◌, inl, inr, ⊎_elim, List, [], ◌∷◌, ◌++◌, length, take, drop, find, slice_index, Option, Some, None, option_map, refl, sym, ap, ap₂, ◌∙◌, subst, le_refl, arith, suc, zero, nat_eq}
+use Rattle.std.proofs.Common.{◌≡◌, ℕ, ◌+◌, ◌-◌, ◌<◌, ◌≤◌, ◌==◌, nat_le, true, false, ◌⊎◌, inl, inr, ⊎_elim, List, [], ◌∷◌, ◌++◌, length}
+use Rattle.std.proofs.Common.{take, drop, find, slice_index, Option, Some, None, option_map, refl, sym, ap, ap₂, ◌∙◌, subst, le_refl, arith, suc, zero, nat_eq}
 use Rattle.std.specs.List.{starts_with}
 use Rattle.std.specs.Option.{option_or}
 use Rattle.std.proofs.lemmas.Bool.{and_parts, and_from, cases_Bool, true≢false, eqb-true, eq-eqb, leb-true}
@@ -9,13 +10,13 @@ use Rattle.pg_types.specs.declared.marks.Mark.TheVariants.{Error, Missed, Found,
 use Rattle.pg_translate.specs.declared.items.Place.{Place}
 use Rattle.pg_translate.specs.declared.items.Place.TheVariants.{Dictionary, Patterns}
 use Rattle.pg_translate.specs.Alphabets.{Alphabet}
-use Rattle.pg_translate.specs.Inside.Beginnings.{begins_well}
-use Rattle.pg_translate.specs.Inside.Members.{IsAmong}
+use Rattle.pg_translate.specs.Inside.spellings.Beginnings.{begins_well}
+use Rattle.pg_translate.specs.Inside.spellings.Members.{IsAmong}
 use Rattle.std.specs.Char.{is_ascii_digit}
 use Rattle.pg_translate.specs.Tokens.{Token, Letter, Digit, Weight, Marked, Edge, letter_at, digit_at, weight_at, mark_at, edge_at, item_at}
 use Rattle.pg_translate.specs.Cuts.{PlacedItem, Cut, cut_from, with_item}
-use Rattle.pg_translate.specs.Inside.Items.{IsItem, IsWeight, IsMark, IsCut, IsPrefix, IsLongest, items_at, text_of_items, decimal_value}
-use Rattle.pg_translate.specs.Inside.Rules.{KeepsRules}
+use Rattle.pg_translate.specs.Inside.items.Items.{IsItem, IsWeight, IsMark, IsCut, IsPrefix, IsLongest, items_at, text_of_items, decimal_value}
+use Rattle.pg_translate.specs.Inside.tables.Rules.{KeepsRules}
 use Rattle.pg_translate.proofs.Prefixes.{begins_front, begins_within}
 use Rattle.pg_translate.proofs.Firsts.{find_among, found_passes}
 use Rattle.pg_translate.proofs.Cuts.{cut_item, cut_none}

@@ -3,7 +3,7 @@ use Rattle.std.proofs.Common.{◌≡◌, ℕ, ◌+◌, ◌<◌, ◌==◌, Bool, 
 use Rattle.std.specs.List.{list_any, range_with_len}
 use Rattle.std.proofs.lemmas.Bool.{agree_below_at, and_parts, not-true, eqb-true}
 use Rattle.std.proofs.lemmas.List.{append_assoc}
-use Rattle.pg_translate.specs.Inside.FirstSpellings.{letters_in}
+use Rattle.pg_translate.specs.Inside.spellings.FirstSpellings.{letters_in}
 use Rattle.pg_translate.specs.Spellings.{clash}
 use Rattle.pg_translate.specs.declared.head.TheConstants.{A_TO_Z}
 use Rattle.pg_translate.specs.Tables.{default_letter}

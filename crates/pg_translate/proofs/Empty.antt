@@ -4,8 +4,8 @@ use Rattle.std.proofs.lemmas.Bool.{cases_lt, cases_Bool}
 use Rattle.std.proofs.lemmas.List.{get_or-replicate, get_or_past, length-replicate}
 use Rattle.pg_translate.specs.declared.index.Front.{Front}
 use Rattle.pg_translate.specs.declared.index.Index.{Index}
-use Rattle.pg_translate.specs.Inside.Members.{IsAmong}
-use Rattle.pg_translate.specs.Inside.Fronts.{IsIndex, pairs, pair_of, front_code}
+use Rattle.pg_translate.specs.Inside.spellings.Members.{IsAmong}
+use Rattle.pg_translate.specs.Inside.spellings.Fronts.{IsIndex, pairs, pair_of, front_code}
 
 -- each element of a list of None is None
 none_at : (n i : ℕ) → let nothing : Option Front = None in get_or (replicate n nothing) i nothing ≡ nothing

@@ -7,7 +7,7 @@ use Rattle.std.proofs.lemmas.List.{length-take-le}
 use Rattle.pg_translate.specs.declared.index.Front.{Front}
 use Rattle.pg_translate.specs.declared.index.Front.TheVariants.{Inside, Whole}
 use Rattle.pg_translate.specs.declared.index.Index.{Index}
-use Rattle.pg_translate.specs.Inside.Fronts.{AreBytes, front_code, front_at, front_of}
+use Rattle.pg_translate.specs.Inside.spellings.Fronts.{AreBytes, front_code, front_at, front_of}
 use Rattle.pg_translate.proofs.Prefixes.{begins-take, begins_front, begins_within}
 use Rattle.pg_translate.proofs.Codes.{code_same, code_some, code_more}
 use Rattle.pg_translate.proofs.Walks.{HoldsBytes, bytes_take}

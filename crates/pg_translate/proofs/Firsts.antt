@@ -1,13 +1,14 @@
 -- The first spellings of letters.
-use Rattle.std.proofs.Common.{◌≡◌, ℕ, ◌+◌, ◌<◌, ◌≤◌, ◌==◌, Bool, true, false, inl, inr, ⊎_elim, List, [], ◌∷◌, length, find, get_or, slice_get, Option, Some, None, option_map, refl, sym, ap, ◌∙◌, arith, subst}
+use Rattle.std.proofs.Common.{◌≡◌, ℕ, ◌+◌, ◌<◌, ◌≤◌, ◌==◌, Bool, true, false, inl, inr, ⊎_elim, List, [], ◌∷◌}
+use Rattle.std.proofs.Common.{length, find, get_or, slice_get, Option, Some, None, option_map, refl, sym, ap, ◌∙◌, arith, subst}
 use Rattle.std.proofs.lemmas.Bool.{cases_Bool}
 use Rattle.std.proofs.lemmas.Option.{slice_get-map, slice_get-get_or}
 use Rattle.pg_translate.specs.declared.index.Index.{Index}
 use Rattle.pg_translate.specs.declared.spellings.Text.{Text}
-use Rattle.pg_translate.specs.Inside.Texts.{text_of}
-use Rattle.pg_translate.specs.Inside.Members.{IsAmong}
-use Rattle.pg_translate.specs.Inside.FirstSpellings.{first_of}
-use Rattle.pg_translate.specs.Inside.Fronts.{IsIndex, pairs}
+use Rattle.pg_translate.specs.Inside.spellings.Texts.{text_of}
+use Rattle.pg_translate.specs.Inside.spellings.Members.{IsAmong}
+use Rattle.pg_translate.specs.Inside.spellings.FirstSpellings.{first_of}
+use Rattle.pg_translate.specs.Inside.spellings.Fronts.{IsIndex, pairs}
 
 -- what is found is among the spellings
 pub find_among : (test : ℕ × List ℕ → Bool) (spellings : List (ℕ × List ℕ)) (s : ℕ × List ℕ) → find test spellings ≡ Some s → IsAmong s spellings

@@ -1,13 +1,14 @@
 -- Fronts of spellings, and the first spelling that begins a text.
-use Rattle.std.proofs.Common.{◌≡◌, ℕ, ◌<◌, ◌==◌, Bool, true, false, cond, ◌&&◌, ◌||◌, ◌⊎◌, inl, inr, ⊎_elim, List, [], ◌∷◌, ◌++◌, length, find, Option, Some, None, refl, sym, ap, ap₂, ◌∙◌, arith, subst, nat_eq}
+use Rattle.std.proofs.Common.{◌≡◌, ℕ, ◌<◌, ◌==◌, Bool, true, false, cond, ◌&&◌, ◌||◌, ◌⊎◌, inl, inr, ⊎_elim, List, []}
+use Rattle.std.proofs.Common.{◌∷◌, ◌++◌, length, find, Option, Some, None, refl, sym, ap, ap₂, ◌∙◌, arith, subst, nat_eq}
 use Rattle.std.specs.List.{list_any, starts_with}
 use Rattle.std.specs.Option.{option_or}
 use Rattle.std.proofs.lemmas.Bool.{and_parts, and_cases, or_parts, or_from, or_left, or_right, not-false, eqb-true, true≢false, cases_lt, cases_Bool}
 use Rattle.pg_translate.specs.declared.index.Front.{Front}
 use Rattle.pg_translate.specs.declared.index.Front.TheVariants.{Inside, Whole}
 use Rattle.pg_translate.specs.Spellings.{clash}
-use Rattle.pg_translate.specs.Inside.Members.{IsAmong}
-use Rattle.pg_translate.specs.Inside.Fronts.{front_of, front_in}
+use Rattle.pg_translate.specs.Inside.spellings.Members.{IsAmong}
+use Rattle.pg_translate.specs.Inside.spellings.Fronts.{front_of, front_in}
 use Rattle.pg_translate.proofs.Prefixes.{begins_both, begins_equal}
 
 -- a choice is one of its two values

@@ -1,5 +1,6 @@
 -- Which items the lines of a dictionary and of patterns do not have.
-use Rattle.std.proofs.Common.{◌≡◌, ℕ, ◌+◌, ◌-◌, ◌==◌, nat_lt, nat_le, ◌&&◌, Bool, true, false, if◌then◌else◌, List, [], ◌∷◌, ◌++◌, length, drop, fold, slice_index, find, Option, Some, None, option_map, refl, ap, suc, zero, nat_eq}
+use Rattle.std.proofs.Common.{◌≡◌, ℕ, ◌+◌, ◌-◌, ◌==◌, nat_lt, nat_le, ◌&&◌, Bool, true, false, if◌then◌else◌, List, [], ◌∷◌}
+use Rattle.std.proofs.Common.{◌++◌, length, drop, fold, slice_index, find, Option, Some, None, option_map, refl, ap, suc, zero, nat_eq}
 use Rattle.std.specs.Prelude.{take_while, codes}
 use Rattle.std.specs.List.{starts_with, list_all}
 use Rattle.pg_types.specs.Parameters.{with_digit}
@@ -11,7 +12,7 @@ use Rattle.pg_types.specs.declared.marks.Mark.{Mark}
 use Rattle.pg_types.specs.declared.marks.Mark.TheVariants.{Error, Missed, Found, DontCare}
 use Rattle.pg_translate.specs.declared.items.Place.TheVariants.{Dictionary, Patterns}
 use Rattle.pg_translate.specs.Alphabets.{Alphabet}
-use Rattle.pg_translate.specs.Inside.Answers.{HasItem}
+use Rattle.pg_translate.specs.Inside.items.Answers.{HasItem}
 use Rattle.std.specs.Char.{is_ascii_digit}
 use Rattle.pg_translate.specs.Tokens.{Token, Letter, Digit, Weight, Marked, Edge, item_at, letter_at, digit_at, weight_at, mark_at, edge_at}
 

@@ -11,15 +11,15 @@ use Rattle.pg_types.specs.Reading.{unless, refusal_at}
 use Rattle.pg_translate.specs.declared.items.Place.{Place}
 use Rattle.pg_translate.specs.declared.items.Place.TheVariants.{Dictionary, Patterns}
 use Rattle.pg_translate.specs.Alphabets.{Alphabet}
-use Rattle.pg_translate.specs.Inside.Beginnings.{begins_well}
+use Rattle.pg_translate.specs.Inside.spellings.Beginnings.{begins_well}
 use Rattle.pg_translate.specs.Tokens.{Token, Letter, Digit, Weight, Marked, Edge, item_at}
 use Rattle.pg_translate.specs.Cuts.{PlacedItem, Cut, cut, cut_from, with_item, tokens_of}
 use Rattle.pg_translate.specs.Gaps.{sign_of, signs_of}
-use Rattle.pg_translate.specs.Inside.Items.{IsItem, text_of_items, tokens_in}
+use Rattle.pg_translate.specs.Inside.items.Items.{IsItem, text_of_items, tokens_in}
 use Rattle.pg_translate.specs.LineRefusals.{sign_columns, line_refusal}
-use Rattle.pg_translate.specs.Inside.Refusing.{signs_max, long_kind}
-use Rattle.pg_translate.specs.Inside.Refusing.{of_line, sign_column, stop_refusal}
-use Rattle.pg_translate.specs.Inside.Rules.{KeepsRules}
+use Rattle.pg_translate.specs.Inside.items.Refusing.{signs_max, long_kind}
+use Rattle.pg_translate.specs.Inside.items.Refusing.{of_line, sign_column, stop_refusal}
+use Rattle.pg_translate.specs.Inside.tables.Rules.{KeepsRules}
 use Rattle.pg_translate.proofs.Cuts.{cut_item, cut_none}
 use Rattle.pg_translate.proofs.CutLaws.{no_item}
 use Rattle.pg_translate.proofs.ItemLaws.{item_reads, begins_spelled}

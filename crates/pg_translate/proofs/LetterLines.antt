@@ -1,5 +1,6 @@
 -- The pieces and blanks of letter lines.
-use Rattle.std.proofs.Common.{◌≡◌, ℕ, ◌+◌, ◌-◌, ◌<◌, ◌≤◌, ◌==◌, true, false, ⊎_elim, List, [], ◌∷◌, ◌++◌, length, take, drop, get_or, nat_lt, position, Some, None, refl, ap, ◌∙◌, subst, arith, suc, zero}
+use Rattle.std.proofs.Common.{◌≡◌, ℕ, ◌+◌, ◌-◌, ◌<◌, ◌≤◌, ◌==◌, true, false, ⊎_elim, List, [], ◌∷◌, ◌++◌, length}
+use Rattle.std.proofs.Common.{take, drop, get_or, nat_lt, position, Some, None, refl, ap, ◌∙◌, subst, arith, suc, zero}
 use Rattle.std.specs.List.{position_or_len}
 use Rattle.std.proofs.lemmas.Bool.{cases_Bool, ltb-false}
 use Rattle.std.proofs.lemmas.List.{take_rest, take_more, drop_all}
@@ -7,7 +8,7 @@ use Rattle.std.proofs.lemmas.List.Sums.{fails_before_first}
 use Rattle.std.proofs.lemmas.List.Quantifiers.{position-Some}
 use Rattle.pg_types.specs.Lines.{pieces_at}
 use Rattle.pg_types.proofs.Pieces.{pieces_at_first, pieces_at_last}
-use Rattle.pg_translate.specs.Inside.Checks.{before_empty, pieces_of, unless_blank_end, without_blanks}
+use Rattle.pg_translate.specs.Inside.tables.Checks.{before_empty, pieces_of, unless_blank_end, without_blanks}
 
 -- where the first byte is the delimiter there is no piece
 pub pieces_empty : (delimiter : ℕ) (rest : List ℕ) → position (λ b. b == delimiter) rest ≡ Some 0 → pieces_of delimiter rest ≡ []

@@ -10,10 +10,10 @@ use Rattle.pg_types.specs.Lines.{lines}
 use Rattle.pg_types.specs.Inside.Parts.{first_refusal}
 use Rattle.pg_types.specs.Inside.Answers.{Fails}
 use Rattle.pg_translate.specs.declared.index.Index.{Index}
-use Rattle.pg_translate.specs.Inside.FirstSpellings.{letters_in}
+use Rattle.pg_translate.specs.Inside.spellings.FirstSpellings.{letters_in}
 use Rattle.pg_translate.specs.Tables.{ListedSpelling, spelling_with_sign, spelling_check, spellings_at}
-use Rattle.pg_translate.specs.Inside.Checks.{first_failure, spelling_checks_from, spellings_from, with_line_spellings, pieces_in_line, pieces_of}
-use Rattle.pg_translate.specs.Inside.Fronts.{IsIndex, pairs}
+use Rattle.pg_translate.specs.Inside.tables.Checks.{first_failure, spelling_checks_from, spellings_from, with_line_spellings, pieces_in_line, pieces_of}
+use Rattle.pg_translate.specs.Inside.spellings.Fronts.{IsIndex, pairs}
 
 -- checks that pass leave those behind them
 pub outcome_passed : (before after : List Refusal) → first_failure before ≡ Ok tt → first_failure (before ++ after) ≡ first_failure after

@@ -1,5 +1,6 @@
 -- A table keeps the rules.
-use Rattle.std.proofs.Common.{◌≡◌, ℕ, ◌+◌, ◌-◌, ◌≤◌, ◌==◌, Bool, true, false, ⊎_elim, List, [], ◌∷◌, length, get_or, slice_get, find, Option, Some, None, option_map, unwrap_or, refl, sym, ap, ◌∙◌, subst, arith}
+use Rattle.std.proofs.Common.{◌≡◌, ℕ, ◌+◌, ◌-◌, ◌≤◌, ◌==◌, Bool, true, false, ⊎_elim, List, [], ◌∷◌, length}
+use Rattle.std.proofs.Common.{get_or, slice_get, find, Option, Some, None, option_map, unwrap_or, refl, sym, ap, ◌∙◌, subst, arith}
 use Rattle.std.specs.List.{list_all}
 use Rattle.std.proofs.lemmas.Bool.{and_parts, eqb-true, ne_eqb}
 use Rattle.std.proofs.lemmas.List.{length-map}
@@ -8,17 +9,17 @@ use Rattle.pg_types.specs.declared.limits.TheConstants.{SIGNS_MAX}
 use Rattle.pg_translate.specs.declared.index.Index.{Index}
 use Rattle.pg_translate.specs.declared.items.Place.{Place}
 use Rattle.pg_translate.specs.Alphabets.{Alphabet, letters_of, spelling_of}
-use Rattle.pg_translate.specs.Inside.FirstSpellings.{letters_in, first_spelling, first_of}
+use Rattle.pg_translate.specs.Inside.spellings.FirstSpellings.{letters_in, first_spelling, first_of}
 use Rattle.pg_translate.specs.Spellings.{is_spelling}
-use Rattle.pg_translate.specs.Inside.Members.{IsAmong}
+use Rattle.pg_translate.specs.Inside.spellings.Members.{IsAmong}
 use Rattle.pg_translate.specs.Tokens.{Letter}
-use Rattle.pg_translate.specs.Inside.Items.{IsItem}
-use Rattle.pg_translate.specs.Inside.Rules.{KeepsRules}
+use Rattle.pg_translate.specs.Inside.items.Items.{IsItem}
+use Rattle.pg_translate.specs.Inside.tables.Rules.{KeepsRules}
 use Rattle.pg_translate.specs.declared.head.Head.{Head}
-use Rattle.pg_translate.specs.Inside.Heads.{head_marks}
-use Rattle.pg_translate.specs.Inside.Sound.{IsTable}
-use Rattle.pg_translate.specs.Inside.Fronts.{IsIndex, pairs, firsts_of}
-use Rattle.pg_translate.specs.Inside.Texts.{text_of}
+use Rattle.pg_translate.specs.Inside.tables.Heads.{head_marks}
+use Rattle.pg_translate.specs.Inside.tables.Sound.{IsTable}
+use Rattle.pg_translate.specs.Inside.spellings.Fronts.{IsIndex, pairs, firsts_of}
+use Rattle.pg_translate.specs.Inside.spellings.Texts.{text_of}
 use Rattle.pg_translate.proofs.Firsts.{find_among, found_passes}
 use Rattle.pg_translate.proofs.Walks.{sign_within}
 

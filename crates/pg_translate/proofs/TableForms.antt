@@ -1,5 +1,6 @@
 -- The checks of a translate file, as its reader goes through them, are those of its table.
-use Rattle.std.proofs.Common.{◌≡◌, ℕ, ◌+◌, ◌-◌, ◌*◌, ◌≤◌, ◌==◌, nat_lt, Bool, true, false, not, ◌&&◌, ◌||◌, List, [], ◌∷◌, ◌++◌, length, map, flat_map, filter, take, drop, get_or, Some, None, refl, sym, ap, ap₂, ◌∙◌, arith, suc, zero}
+use Rattle.std.proofs.Common.{◌≡◌, ℕ, ◌+◌, ◌-◌, ◌*◌, ◌≤◌, ◌==◌, nat_lt, Bool, true, false, not, ◌&&◌, ◌||◌, List, [], ◌∷◌, ◌++◌}
+use Rattle.std.proofs.Common.{length, map, flat_map, filter, take, drop, get_or, Some, None, refl, sym, ap, ap₂, ◌∙◌, arith, suc, zero}
 use Rattle.std.specs.Prelude.{if◌then◌else◌, unwrap_or, slice_index}
 use Rattle.std.specs.List.{enumerate_from, suffix_len, take_while}
 use Rattle.std.specs.Char.{is_ascii_digit}
@@ -15,8 +16,10 @@ use Rattle.pg_types.specs.Inside.Parts.{first_refusal}
 use Rattle.pg_translate.specs.declared.head.TheConstants.{DEFAULT_LEFT, DEFAULT_RIGHT, DEFAULT_ERROR, DEFAULT_MISSED, DEFAULT_FOUND, DEFAULT_DONT_CARE}
 use Rattle.pg_translate.specs.Alphabets.{Alphabet}
 use Rattle.pg_translate.specs.Spellings.{is_space}
-use Rattle.pg_translate.specs.Tables.{check, in_column, minimum_at, is_blank_at, minimum_fails, minimum, mark_in, marks_of, mark_fails, head_checks, line_pieces, ListedSpelling, spellings_at, spellings_of, spelling_with_sign, spelling_check, spelling_checks, alphabet_of}
-use Rattle.pg_translate.specs.Inside.Checks.{pair_at, pair_value, pair_fails, pair_minimum, mark_checks, head_checks_by_pairs, without_blanks, before_empty, delimited_pieces, pieces_in_line, with_line_spellings, spellings_from, spelling_checks_from, alphabet_by_lines}
+use Rattle.pg_translate.specs.Tables.{check, in_column, minimum_at, is_blank_at, minimum_fails, minimum, mark_in, marks_of, mark_fails}
+use Rattle.pg_translate.specs.Tables.{head_checks, line_pieces, ListedSpelling, spellings_at, spellings_of, spelling_with_sign, spelling_check, spelling_checks, alphabet_of}
+use Rattle.pg_translate.specs.Inside.tables.Checks.{pair_at, pair_value, pair_fails, pair_minimum, mark_checks, head_checks_by_pairs, without_blanks}
+use Rattle.pg_translate.specs.Inside.tables.Checks.{before_empty, delimited_pieces, pieces_in_line, with_line_spellings, spellings_from, spelling_checks_from, alphabet_by_lines}
 use Rattle.pg_translate.proofs.LetterLines.{trim_more, trim_end}
 
 -- no blank

@@ -7,8 +7,8 @@ use Rattle.pg_translate.specs.declared.items.Place.TheVariants.{Dictionary, Patt
 use Rattle.pg_translate.specs.Alphabets.{Alphabet}
 use Rattle.std.specs.Char.{is_ascii_digit}
 use Rattle.pg_translate.specs.Tokens.{Token, Digit, Marked, letter_at, digit_at, weight_at, mark_at, item_at}
-use Rattle.pg_translate.specs.Inside.Answers.{HasItem}
-use Rattle.pg_translate.specs.Inside.Rules.{KeepsRules}
+use Rattle.pg_translate.specs.Inside.items.Answers.{HasItem}
+use Rattle.pg_translate.specs.Inside.tables.Rules.{KeepsRules}
 
 -- an item of one byte
 pub takes_one : (t : Alphabet) → KeepsRules t → (place : Place) (text : List ℕ) (token : Token) → item_at t place text ≡ Some (token, 1) → (length text == 0) ≡ false

@@ -1,5 +1,6 @@
 -- No item holds a blank, a TAB, an LF or a CR, so none stands where a line ends.
-use Rattle.std.proofs.Common.{◌≡◌, ℕ, ◌+◌, ◌<◌, ◌≤◌, ◌==◌, true, false, ◌||◌, List, [], ◌∷◌, length, take, get_or, slice_index, Option, Some, None, MatchOption, IfSome, refl, sym, ap, ◌∙◌, arith, suc, zero}
+use Rattle.std.proofs.Common.{◌≡◌, ℕ, ◌+◌, ◌<◌, ◌≤◌, ◌==◌, true, false, ◌||◌, List, [], ◌∷◌, length, take}
+use Rattle.std.proofs.Common.{get_or, slice_index, Option, Some, None, MatchOption, IfSome, refl, sym, ap, ◌∙◌, arith, suc, zero}
 use Rattle.std.specs.List.{list_any, list_all, AllByRecursion}
 use Rattle.std.specs.Option.{option_or}
 use Rattle.std.proofs.lemmas.Bool.{and_parts, or_parts, not-true, true≢false, false_from_ne_true, eq-eqb, ne_eqb, leb-true}
@@ -12,8 +13,8 @@ use Rattle.pg_translate.specs.Alphabets.{Alphabet}
 use Rattle.pg_translate.specs.Spellings.{is_space}
 use Rattle.std.specs.Char.{is_ascii_digit}
 use Rattle.pg_translate.specs.Tokens.{Token, Letter, Digit, Weight, Marked, Edge, letter_at, digit_at, weight_at, mark_at, item_at, is_ended}
-use Rattle.pg_translate.specs.Inside.Items.{IsItem, IsWeight, IsMark, text_of_items}
-use Rattle.pg_translate.specs.Inside.Rules.{KeepsRules}
+use Rattle.pg_translate.specs.Inside.items.Items.{IsItem, IsWeight, IsMark, text_of_items}
+use Rattle.pg_translate.specs.Inside.tables.Rules.{KeepsRules}
 use Rattle.pg_translate.proofs.ItemLaws.{four_marks}
 use Rattle.pg_translate.proofs.CutLaws.{Reads, item_found}
 

@@ -1,15 +1,16 @@
 -- A walk along the fronts of a text: what each front says of the spelling that begins the text, and of clashes.
-use Rattle.std.proofs.Common.{◌≡◌, ℕ, ◌+◌, ◌-◌, ◌<◌, ◌≤◌, ◌==◌, min, max, fold, Bool, true, false, not, ◌&&◌, ⊎_elim, List, [], ◌∷◌, length, take, find, Some, None, get_or, Fits, w8, ◌*◌, ◌^◌, suc, zero, refl, sym, ap, ◌∙◌, subst, arith, nat_eq}
+use Rattle.std.proofs.Common.{◌≡◌, ℕ, ◌+◌, ◌-◌, ◌<◌, ◌≤◌, ◌==◌, min, max, fold, Bool, true, false, not, ◌&&◌, ⊎_elim, List, [], ◌∷◌}
+use Rattle.std.proofs.Common.{length, take, find, Some, None, get_or, Fits, w8, ◌*◌, ◌^◌, suc, zero, refl, sym, ap, ◌∙◌, subst, arith, nat_eq}
 use Rattle.std.specs.List.{list_any, starts_with}
 use Rattle.std.proofs.lemmas.Bool.{and_from, and_left, or_from, or_left, or_right, not_from_false, eqb-true, eqb-false, ne_eqb, lt-ltb, true≢false, false_from_ne_true, cases_lt, cases_Bool}
 use Rattle.std.proofs.lemmas.List.{length-take-le, take_all}
 use Rattle.pg_translate.specs.declared.index.Front.TheVariants.{Inside, Whole}
-use Rattle.pg_translate.specs.Inside.FirstSpellings.{letters_in}
+use Rattle.pg_translate.specs.Inside.spellings.FirstSpellings.{letters_in}
 use Rattle.pg_translate.specs.Spellings.{clash}
-use Rattle.pg_translate.specs.Inside.Members.{IsAmong}
+use Rattle.pg_translate.specs.Inside.spellings.Members.{IsAmong}
 use Rattle.pg_translate.specs.Tokens.{Letter, letter_at}
 use Rattle.pg_translate.specs.declared.index.Index.{Index}
-use Rattle.pg_translate.specs.Inside.Fronts.{AreBytes, IsIndex, pairs, front_code, front_at, front_in}
+use Rattle.pg_translate.specs.Inside.spellings.Fronts.{AreBytes, IsIndex, pairs, front_code, front_at, front_in}
 use Rattle.pg_translate.proofs.Codes.{code_more, code_small, code_least}
 use Rattle.pg_translate.proofs.Prefixes.{begins_front, begins_within, begins-take, begins_take, begins_less}
 use Rattle.pg_translate.proofs.Fronts.{IsInside, whole_in, inside_in, nothing_in, find_none, find_begins, list_any_none, list_any_some, apart_equal}

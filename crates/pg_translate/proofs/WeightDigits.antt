@@ -1,5 +1,6 @@
 -- The digits of a weight in braces, read one by one.
-use Rattle.std.proofs.Common.{◌≡◌, ℕ, ◌+◌, ◌-◌, ◌<◌, ◌≤◌, ◌==◌, nat_lt, nat_le, Bool, true, false, ◌&&◌, inl, inr, if◌then◌else◌, List, [], ◌∷◌, ◌++◌, length, drop, fold, Option, Some, None, refl, sym, ap, subst, ◌∙◌, take, arith, suc, zero, nat_eq}
+use Rattle.std.proofs.Common.{◌≡◌, ℕ, ◌+◌, ◌-◌, ◌<◌, ◌≤◌, ◌==◌, nat_lt, nat_le, Bool, true, false, ◌&&◌, inl, inr, if◌then◌else◌, List, []}
+use Rattle.std.proofs.Common.{◌∷◌, ◌++◌, length, drop, fold, Option, Some, None, refl, sym, ap, subst, ◌∙◌, take, arith, suc, zero, nat_eq}
 use Rattle.std.specs.Prelude.{take_while, codes}
 use Rattle.std.specs.List.{list_all, starts_with, prefix_len}
 use Rattle.std.specs.Char.{is_ascii_digit}

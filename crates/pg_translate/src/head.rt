@@ -1,7 +1,7 @@
 //! The head of a translate file: the minima and the mark bytes.
 ghost use Rattle.std.specs.Prelude.{◌≡◌, ◌<◌, ◌≤◌, ◌∷◌, [], true, false, not, List, MatchOption, IfSome, MatchResult, Ok, Err, IfOk, OnOk, ◌+◌};
 ghost use Rattle.pg_translate.specs.Tables as table;
-ghost use Rattle.pg_translate.specs.Inside.Checks as checks;
+ghost use Rattle.pg_translate.specs.Inside.tables.Checks as checks;
 
 use crate::reading::is_space;
 use pg_types::{Kind, Refusal};
@@ -178,8 +178,8 @@ fn check_marks(error: u8, missed: u8, found: u8, dont_care: u8) -> Result<(), Re
 
 impl Head {
     ghost use Rattle.std.specs.Prelude.{◌≡◌, ◌∷◌, [], IfOk, MatchResult, Err};
-    ghost use Rattle.pg_translate.specs.Inside.Heads.{IsHead, IsSoundHead, head_marks};
-    ghost use Rattle.pg_translate.specs.Inside.Checks as checks;
+    ghost use Rattle.pg_translate.specs.Inside.tables.Heads.{IsHead, IsSoundHead, head_marks};
+    ghost use Rattle.pg_translate.specs.Inside.tables.Checks as checks;
 
     /// The default minima and marks.
     pub(crate) fn defaults() -> Head

@@ -6,10 +6,10 @@ ghost use Rattle.pg_translate.specs.declared.head.TheConstants.{A_TO_Z};
 ghost use Rattle.pg_translate.specs.Tables.{default_letter};
 ghost use Rattle.std.specs.Option.{option_or};
 ghost use Rattle.pg_translate.specs.Spellings.{clash};
-ghost use Rattle.pg_translate.specs.Inside.FirstSpellings.{first_spelling, letters_in};
+ghost use Rattle.pg_translate.specs.Inside.spellings.FirstSpellings.{first_spelling, letters_in};
 ghost use Rattle.pg_translate.specs.Tokens.{letter_at};
 ghost use Rattle.pg_translate.specs.Tokens as token;
-ghost use Rattle.pg_translate.specs.Inside.Fronts.{pairs, firsts_of, front_at, front_code, front_of, AreBytes, IsIndex};
+ghost use Rattle.pg_translate.specs.Inside.spellings.Fronts.{pairs, firsts_of, front_at, front_code, front_of, AreBytes, IsIndex};
 
 use crate::head::A_TO_Z;
 use crate::spellings::{SPELLING_MAX, Text};

@@ -4,12 +4,12 @@ ghost use Rattle.std.specs.List.{list_any};
 ghost use Rattle.pg_types.specs.Lines.{lines};
 ghost use Rattle.pg_types.specs.Inside.Parts.{first_refusal};
 ghost use Rattle.pg_types.specs.Inside.Answers.{Gives};
-ghost use Rattle.pg_translate.specs.Inside.FirstSpellings.{letters_in};
-ghost use Rattle.pg_translate.specs.Inside.Fronts.{pairs, IsIndex};
+ghost use Rattle.pg_translate.specs.Inside.spellings.FirstSpellings.{letters_in};
+ghost use Rattle.pg_translate.specs.Inside.spellings.Fronts.{pairs, IsIndex};
 ghost use Rattle.pg_translate.specs.Spellings as spelling;
-ghost use Rattle.pg_translate.specs.Inside.Beginnings as beginnings;
+ghost use Rattle.pg_translate.specs.Inside.spellings.Beginnings as beginnings;
 ghost use Rattle.pg_translate.specs.Tables as table;
-ghost use Rattle.pg_translate.specs.Inside.Checks as checks;
+ghost use Rattle.pg_translate.specs.Inside.tables.Checks as checks;
 ghost use Rattle.pg_types.specs.declared.refusals.ReadingError.TheVariants.{Refused};
 
 use crate::index::Index;

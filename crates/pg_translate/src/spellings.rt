@@ -15,7 +15,7 @@ pub(crate) struct Text {
 
 impl Text {
     ghost use Rattle.std.specs.Prelude.{◌≡◌, ◌≤◌, length};
-    ghost use Rattle.pg_translate.specs.Inside.Texts.{text_of};
+    ghost use Rattle.pg_translate.specs.Inside.spellings.Texts.{text_of};
 
     /// The text of these bytes.
     pub(crate) fn of(bytes: &[u8]) -> Text

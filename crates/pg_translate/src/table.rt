@@ -1,7 +1,7 @@
 //! The table of a translate file.
 ghost use Rattle.std.specs.Prelude.{◌≡◌, ◌==◌, IfOk};
 ghost use Rattle.pg_translate.specs.Alphabets.{Alphabet};
-ghost use Rattle.pg_translate.specs.Inside.Sound.{IsTable, alphabet_in};
+ghost use Rattle.pg_translate.specs.Inside.tables.Sound.{IsTable, alphabet_in};
 
 pub mod laws;
 
@@ -41,13 +41,13 @@ impl Model for Table {
 impl Table {
     ghost use Rattle.std.specs.Prelude.{◌≡◌, ◌+◌, ◌-◌, ◌<◌, ◌≤◌, true, false, length, MatchOption, IfSome, IfOk, Some, None};
     ghost use Rattle.pg_translate.specs.Alphabets.{letters_of, spelling_of};
-    ghost use Rattle.pg_translate.specs.Inside.MarkBytes.{mark_byte_of};
-    ghost use Rattle.pg_translate.specs.Inside.Rules.{KeepsRules};
+    ghost use Rattle.pg_translate.specs.Inside.items.MarkBytes.{mark_byte_of};
+    ghost use Rattle.pg_translate.specs.Inside.tables.Rules.{KeepsRules};
     ghost use Rattle.pg_types.specs.Inside.Answers.{Gives};
     ghost use Rattle.pg_translate.specs.Tables.{default_alphabet, table};
     ghost use Rattle.pg_translate.specs.Tokens.{letter_at, mark_at, is_ended};
     ghost use Rattle.pg_translate.specs.Tokens as token;
-    ghost use Rattle.pg_translate.specs.Inside.Answers.{IsFirstItem, IsInRange};
+    ghost use Rattle.pg_translate.specs.Inside.items.Answers.{IsFirstItem, IsInRange};
     ghost use Rattle.pg_translate.specs.Reach.{reach};
     ghost use Rattle.pg_types.specs.declared.limits.TheConstants.{WORD_LETTERS_MAX};
 

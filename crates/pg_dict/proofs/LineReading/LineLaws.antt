@@ -8,8 +8,8 @@ use Rattle.pg_types.specs.Inside.Parts.{both_parts}
 use Rattle.pg_translate.specs.Alphabets.{Alphabet}
 use Rattle.pg_translate.specs.Tokens.{Token, Letter, Digit, Weight, Marked, Edge}
 use Rattle.pg_translate.specs.Gaps.{signs_of}
-use Rattle.pg_translate.specs.Inside.Items.{IsItem, text_of_items}
-use Rattle.pg_translate.specs.Inside.Rules.{KeepsRules}
+use Rattle.pg_translate.specs.Inside.items.Items.{IsItem, text_of_items}
+use Rattle.pg_translate.specs.Inside.tables.Rules.{KeepsRules}
 use Rattle.pg_translate.specs.declared.items.Place.TheVariants.{Dictionary}
 use Rattle.pg_translate.specs.Spellings.{is_space}
 use Rattle.pg_translate.proofs.Unbroken.{joined_unbroken}
@@ -18,7 +18,7 @@ use Rattle.pg_translate.proofs.JoinedItems as reads
 use Rattle.pg_dict.specs.Word.{Word}
 use Rattle.pg_dict.specs.Words.{words}
 use Rattle.pg_dict.specs.Inside.LineWords.{LineWord, line_word, line_reading, on_line, words_from}
-use Rattle.pg_dict.specs.Inside.Written.{letters_among, IsLine, file_of, LinesGive}
+use Rattle.pg_dict.specs.Inside.WrittenWords.{letters_among, IsLine, file_of, LinesGive}
 use Rattle.pg_dict.proofs.LineReading.Lines.{words_short}
 
 -- the signs of the items of a dictionary are its letters

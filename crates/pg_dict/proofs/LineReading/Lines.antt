@@ -15,7 +15,7 @@ use Rattle.pg_translate.specs.Alphabets.{Alphabet}
 use Rattle.pg_types.specs.declared.limits.TheConstants.{FILE_MAX}
 use Rattle.pg_types.specs.Lines.{lines}
 use Rattle.pg_dict.specs.declared.store.Store.{Store}
-use Rattle.pg_dict.specs.declared.store.Stored.{Stored}
+use Rattle.pg_dict.specs.declared.store.StoredWord.{StoredWord}
 use Rattle.pg_dict.specs.Inside.Lines.PositionedSigns.{Columns, no_columns}
 use Rattle.pg_dict.specs.Inside.Store.{columns_of, word_at, stored_words, all_signs, all_weights, lies_within, is_sign_up_to, IsSound, IsFit}
 use Rattle.pg_dict.specs.Word.{Word}
@@ -79,7 +79,7 @@ words_short t bytes short = rw (le-ltb FILE_MAX (length bytes) short) (sym (line
 
 -- a store without a word
 pub starts : (s : Store) (rest : Result (List Word) Refusal) → s.words.items ≡ [] → both_parts (Ok (stored_words s)) rest ≡ rest
-starts s rest none = ap (λ (words : List Stored). both_parts (Ok (map (word_at (columns_of s)) words)) rest) none ∙ with_nothing rest
+starts s rest none = ap (λ (words : List StoredWord). both_parts (Ok (map (word_at (columns_of s)) words)) rest) none ∙ with_nothing rest
 
 pub starts_sound : (s : Store) → columns_of s ≡ no_columns → s.words.items ≡ [] → IsSound s
 starts_sound s columns none = record {
@@ -87,9 +87,9 @@ starts_sound s columns none = record {
   weights_len = ap (λ (c : Columns). length c.weights) columns ∙ sym (ap (λ (c : Columns). length c.signs) columns);
   cares_len = ap (λ (c : Columns). length c.cares) columns ∙ sym (ap (λ (c : Columns). length c.signs) columns);
   within = ap (list_all (lies_within (length s.signs.items))) none;
-  signs_joined = ap (λ (c : Columns). c.signs) columns ∙ sym (ap (λ (words : List Stored). all_signs (map (word_at (columns_of s)) words)) none);
-  weights_joined = ap (λ (c : Columns). c.weights) columns ∙ sym (ap (λ (words : List Stored). all_weights (map (word_at (columns_of s)) words)) none);
-  words = subst (λ (words : List Stored). All IsWord (map (word_at (columns_of s)) words)) (sym none) (All-nil IsWord);
+  signs_joined = ap (λ (c : Columns). c.signs) columns ∙ sym (ap (λ (words : List StoredWord). all_signs (map (word_at (columns_of s)) words)) none);
+  weights_joined = ap (λ (c : Columns). c.weights) columns ∙ sym (ap (λ (words : List StoredWord). all_weights (map (word_at (columns_of s)) words)) none);
+  words = subst (λ (words : List StoredWord). All IsWord (map (word_at (columns_of s)) words)) (sym none) (All-nil IsWord);
 }
 
 pub starts_fit : (n : ℕ) (s : Store) → columns_of s ≡ no_columns → IsFit n s

@@ -7,8 +7,8 @@ use Rattle.pg_types.specs.declared.limits.TheConstants.{EDGE}
 use Rattle.pg_translate.specs.Alphabets.{Alphabet}
 use Rattle.pg_translate.specs.Tokens.{Token, Letter, Digit, Weight, Marked, Edge, item_at}
 use Rattle.pg_translate.specs.Cuts.{Cut, cut_from, with_item, tokens_of}
-use Rattle.pg_translate.specs.Inside.Items.{IsItem}
-use Rattle.pg_translate.specs.Inside.Rules.{KeepsRules}
+use Rattle.pg_translate.specs.Inside.items.Items.{IsItem}
+use Rattle.pg_translate.specs.Inside.tables.Rules.{KeepsRules}
 use Rattle.pg_translate.specs.declared.items.Place.TheVariants.{Dictionary}
 use Rattle.pg_translate.proofs.CutLaws.{item_found}
 use Rattle.pg_dict.proofs.WordStore.Good.{is_sound_item}

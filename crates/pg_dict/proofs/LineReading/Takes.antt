@@ -7,12 +7,12 @@ use Rattle.pg_types.specs.Reading.{unless}
 use Rattle.pg_translate.specs.Alphabets.{Alphabet}
 use Rattle.pg_translate.specs.Tokens.{Token, Letter}
 use Rattle.pg_translate.specs.Cuts.{Cut, with_item, tokens_of}
-use Rattle.pg_translate.specs.Inside.Answers.{HasItem}
+use Rattle.pg_translate.specs.Inside.items.Answers.{HasItem}
 use Rattle.pg_translate.specs.declared.items.Place.TheVariants.{Dictionary}
 use Rattle.pg_types.specs.declared.refusals.Refusal.{Refusal}
 use Rattle.pg_dict.specs.Inside.Lines.PositionedSigns.{PositionedSign, positioned_sign, Columns, with_signs}
 use Rattle.pg_translate.specs.LineRefusals.{line_refusal}
-use Rattle.pg_translate.specs.Inside.Refusing.{refusal_with_room}
+use Rattle.pg_translate.specs.Inside.items.Refusing.{refusal_with_room}
 use Rattle.pg_translate.proofs.LineSteps.{along}
 use Rattle.pg_dict.specs.Inside.LineWords.{LineWord}
 use Rattle.pg_dict.specs.Inside.Lines.Running.{running_word, signs_behind}

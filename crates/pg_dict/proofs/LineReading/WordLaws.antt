@@ -1,5 +1,6 @@
 -- What is written of a word is read back as that word.
-use Rattle.std.proofs.Common.{◌≡◌, ℕ, ◌==◌, nat_lt, Bool, true, false, cond, List, [], ◌∷◌, ◌++◌, map, Some, refl, sym, ◌∙◌, ap, ◌-◌, ◌≤◌, length, take, get_or, slice_get, slice_index, Option, unwrap_or, suc, arith, ◌+◌, drop, length-drop}
+use Rattle.std.proofs.Common.{◌≡◌, ℕ, ◌==◌, nat_lt, Bool, true, false, cond, List, [], ◌∷◌, ◌++◌, map, Some, refl, sym}
+use Rattle.std.proofs.Common.{◌∙◌, ap, ◌-◌, ◌≤◌, length, take, get_or, slice_get, slice_index, Option, unwrap_or, suc, arith, ◌+◌, drop, length-drop}
 use Rattle.std.proofs.lemmas.Bool.{eqb-true}
 use Rattle.std.proofs.lemmas.List.{append_assoc, take_all, take_more, map-append, length-map, length-take}
 use Rattle.std.proofs.lemmas.Option.{get_or_from_slice_get, slice_get-get_or}
@@ -14,7 +15,8 @@ use Rattle.pg_dict.specs.Words.{sets_hyphen, keeps_care}
 use Rattle.pg_dict.specs.Inside.LineWords.{line_word}
 use Rattle.pg_dict.specs.Inside.Lines.Running.{signs_behind, running_word}
 use Rattle.pg_dict.proofs.LineReading.Running.{same_word, running_is}
-use Rattle.pg_dict.specs.Inside.Written.{Written, number_token, mark_tokens, weight_tokens, letters_tokens, written_signs, written_letters, between_letters, AreMarksOf, letters_with, word_tokens}
+use Rattle.pg_dict.specs.Inside.WrittenWords.{MarkedLetter, number_token, mark_tokens, weight_tokens, letters_tokens, written_signs}
+use Rattle.pg_dict.specs.Inside.WrittenWords.{written_letters, between_letters, AreMarksOf, letters_with, word_tokens}
 
 -- a number sets the weight
 number_read : (weight : ℕ) (mark : Mark) (before n : ℕ) (more : List Token) → signs_behind weight mark before (number_token n ∷ more) ≡ signs_behind weight mark n more
@@ -41,8 +43,8 @@ mark_read weight Found more = refl
 mark_read weight DontCare more = refl
 
 -- the letters behind the first
-letters_read : (weight : ℕ) (letters : List Written) → signs_behind weight Nothing weight (letters_tokens weight letters)
-    ≡ map (λ (l : Written). positioned_sign l.mark l.weight l.sign) letters ++ positioned_sign Nothing weight EDGE ∷ []
+letters_read : (weight : ℕ) (letters : List MarkedLetter) → signs_behind weight Nothing weight (letters_tokens weight letters)
+    ≡ map (λ (l : MarkedLetter). positioned_sign l.mark l.weight l.sign) letters ++ positioned_sign Nothing weight EDGE ∷ []
 letters_read weight [] = refl
 letters_read weight (l ∷ letters) =
     let more : List Token = Letter l.sign ∷ letters_tokens weight letters in
@@ -53,10 +55,10 @@ letters_read weight (l ∷ letters) =
     ∙ ap (λ (positioned : List PositionedSign). positioned_sign l.mark l.weight l.sign ∷ positioned) (letters_read weight letters)
 
 -- a word of this weight, first letter and letters behind it
-abbrev tokens_of : ℕ → ℕ → ℕ → List Written → List Token
+abbrev tokens_of : ℕ → ℕ → ℕ → List MarkedLetter → List Token
 tokens_of before weight sign letters = weight_tokens before weight ++ Letter sign ∷ letters_tokens weight letters
 
-pub tokens_read : (before weight sign : ℕ) (letters : List Written) → running_word before (tokens_of before weight sign letters)
+pub tokens_read : (before weight sign : ℕ) (letters : List MarkedLetter) → running_word before (tokens_of before weight sign letters)
     ≡ record { word = Some (word_with weight (written_signs weight sign letters)); weight = weight }
 tokens_read before weight sign letters = by_test (weight == before) refl
   where
@@ -96,7 +98,7 @@ parted {X} (x ∷ y ∷ ys) a b c long first second last =
 
 -- the parts of written letters
 pub letters_signs : (marks : List Mark) (weights signs : List ℕ) → length weights ≡ length marks → length signs ≡ length marks
-    → map (λ (l : Written). l.sign) (written_letters marks weights signs) ≡ signs
+    → map (λ (l : MarkedLetter). l.sign) (written_letters marks weights signs) ≡ signs
 letters_signs [] weights [] w s = refl
 letters_signs [] weights (x ∷ xs) w s = absurd (omega arith)
 letters_signs (m ∷ ms) [] signs w s = absurd (omega arith)
@@ -104,7 +106,7 @@ letters_signs (m ∷ ms) (n ∷ ns) [] w s = absurd (omega arith)
 letters_signs (m ∷ ms) (n ∷ ns) (x ∷ xs) w s = ap (λ (ys : List ℕ). x ∷ ys) (letters_signs ms ns xs (omega arith) (omega arith))
 
 pub written_weights : (marks : List Mark) (weights signs : List ℕ) → length weights ≡ length marks → length signs ≡ length marks
-    → map (λ (l : Written). l.weight) (written_letters marks weights signs) ≡ weights
+    → map (λ (l : MarkedLetter). l.weight) (written_letters marks weights signs) ≡ weights
 written_weights [] [] signs w s = refl
 written_weights [] (x ∷ xs) signs w s = absurd (omega arith)
 written_weights (m ∷ ms) [] signs w s = absurd (omega arith)
@@ -112,22 +114,22 @@ written_weights (m ∷ ms) (n ∷ ns) [] w s = absurd (omega arith)
 written_weights (m ∷ ms) (n ∷ ns) (x ∷ xs) w s = ap (λ (ys : List ℕ). n ∷ ys) (written_weights ms ns xs (omega arith) (omega arith))
 
 pub written_marks : (h : Mark → Bool) (marks : List Mark) (weights signs : List ℕ) → length weights ≡ length marks → length signs ≡ length marks
-    → map (λ (l : Written). h l.mark) (written_letters marks weights signs) ≡ map h marks
+    → map (λ (l : MarkedLetter). h l.mark) (written_letters marks weights signs) ≡ map h marks
 written_marks h [] weights signs w s = refl
 written_marks h (m ∷ ms) [] signs w s = absurd (omega arith)
 written_marks h (m ∷ ms) (n ∷ ns) [] w s = absurd (omega arith)
 written_marks h (m ∷ ms) (n ∷ ns) (x ∷ xs) w s = ap (λ (ys : List Bool). h m ∷ ys) (written_marks h ms ns xs (omega arith) (omega arith))
 
 -- what written signs show
-pub shown : {X : Type 0} (h : PositionedSign → X) (weight sign : ℕ) (letters : List Written) → map h (written_signs weight sign letters)
-    ≡ h (positioned_sign Nothing weight EDGE) ∷ h (positioned_sign Nothing weight sign) ∷ (map (λ (l : Written). h (positioned_sign l.mark l.weight l.sign)) letters
+pub shown : {X : Type 0} (h : PositionedSign → X) (weight sign : ℕ) (letters : List MarkedLetter) → map h (written_signs weight sign letters)
+    ≡ h (positioned_sign Nothing weight EDGE) ∷ h (positioned_sign Nothing weight sign) ∷ (map (λ (l : MarkedLetter). h (positioned_sign l.mark l.weight l.sign)) letters
     ++ h (positioned_sign Nothing weight EDGE) ∷ [])
 shown {X} h weight sign letters =
     ap (λ (xs : List X). h (positioned_sign Nothing weight EDGE) ∷ h (positioned_sign Nothing weight sign) ∷ xs)
-    (map-append h (map (λ (l : Written). positioned_sign l.mark l.weight l.sign) letters) (positioned_sign Nothing weight EDGE ∷ [])
-    ∙ ap (λ (xs : List X). xs ++ h (positioned_sign Nothing weight EDGE) ∷ []) (map-map h (λ (l : Written). positioned_sign l.mark l.weight l.sign) letters))
+    (map-append h (map (λ (l : MarkedLetter). positioned_sign l.mark l.weight l.sign) letters) (positioned_sign Nothing weight EDGE ∷ [])
+    ∙ ap (λ (xs : List X). xs ++ h (positioned_sign Nothing weight EDGE) ∷ []) (map-map h (λ (l : MarkedLetter). positioned_sign l.mark l.weight l.sign) letters))
   where
-    map-map : {X : Type 0} (h : PositionedSign → X) (f : Written → PositionedSign) (ls : List Written) → map h (map f ls) ≡ map (λ (l : Written). h (f l)) ls
+    map-map : {X : Type 0} (h : PositionedSign → X) (f : MarkedLetter → PositionedSign) (ls : List MarkedLetter) → map h (map f ls) ≡ map (λ (l : MarkedLetter). h (f l)) ls
     map-map h f [] = refl
     map-map {X} h f (l ∷ ls) = ap (λ (xs : List X). h (f l) ∷ xs) (map-map h f ls)
 
@@ -143,7 +145,7 @@ last_of xs n x size last = ap (λ (k : ℕ). slice_get xs (k - 1)) size ∙ last
 pub word_written : (w : Word) (marks : List Mark) → IsWord w → AreMarksOf w marks → word_with w.weight (written_signs w.weight (slice_index w.signs 1) (letters_with marks w)) ≡ w
 word_written w marks is mean =
     let sign : ℕ = slice_index w.signs 1 in
-    let letters : List Written = letters_with marks w in
+    let letters : List MarkedLetter = letters_with marks w in
     let count : length marks ≡ length w.signs - 3 = sym (length-map marks sets_hyphen) ∙ ap (λ (xs : List Bool). length xs) mean.hyphens
     ∙ length-between_letters w.hyphens ∙ ap (λ (n : ℕ). n - 3) is.hyphens_len in
     let weights : length (between_letters w.weights) ≡ length marks = length-between_letters w.weights ∙ ap (λ (n : ℕ). n - 3) is.weights_len ∙ sym count in

@@ -9,7 +9,7 @@ use Rattle.std.proofs.lemmas.List.{append-nil}
 use Rattle.std.proofs.lemmas.Bool.{and_parts, and_from, leb-true, le-leb}
 use Rattle.pg_types.proofs.BoolFacts.{all_weaker}
 use Rattle.pg_dict.specs.declared.store.Store.{Store}
-use Rattle.pg_dict.specs.declared.store.Stored.{Stored}
+use Rattle.pg_dict.specs.declared.store.StoredWord.{StoredWord}
 use Rattle.pg_dict.specs.Inside.Lines.PositionedSigns.{PositionedSign, Columns, with_signs}
 use Rattle.pg_dict.specs.Word.{Word}
 use Rattle.pg_dict.specs.Inside.SoundWords.{word_with, IsWord}
@@ -34,7 +34,7 @@ pub record IsEven (c : Columns) : Type 0 where
   pub cares_len : length c.cares ≡ length c.signs
 
 -- a word stays when the columns grow
-pub word_kept : (c : Columns) (positioned : List PositionedSign) (w : Stored) → IsEven c → lies_within (length c.signs) w ≡ true → word_at (with_signs c positioned) w ≡ word_at c w
+pub word_kept : (c : Columns) (positioned : List PositionedSign) (w : StoredWord) → IsEven c → lies_within (length c.signs) w ≡ true → word_at (with_signs c positioned) w ≡ word_at c w
 word_kept c positioned w even within =
     let p = and_parts (nat_le w.start w.end) (nat_le w.end (length c.signs)) within in
     let order : w.start ≤ w.end = leb-true _ _ p.0 in
@@ -47,7 +47,7 @@ word_kept c positioned w even within =
     ) refl
 
 -- so do all words
-pub words_kept : (c : Columns) (positioned : List PositionedSign) (ws : List Stored) → IsEven c → list_all (lies_within (length c.signs)) ws ≡ true
+pub words_kept : (c : Columns) (positioned : List PositionedSign) (ws : List StoredWord) → IsEven c → list_all (lies_within (length c.signs)) ws ≡ true
     → map (word_at (with_signs c positioned)) ws ≡ map (word_at c) ws
 words_kept c positioned [] even within = refl
 words_kept c positioned (w ∷ ws) even within =
@@ -85,7 +85,7 @@ pub adds_words : (s u : Store) (positioned : List PositionedSign) (start end wei
     → u.words.items ≡ s.words.items ++ record { start = start; end = end; weight = weight } ∷ [] → start ≡ length s.signs.items → end ≡ length u.signs.items
     → stored_words u ≡ stored_words s ++ word_with weight positioned ∷ []
 adds_words s u positioned start end weight sound grown added from to =
-    let w : Stored = record { start = start; end = end; weight = weight } in
+    let w : StoredWord = record { start = start; end = end; weight = weight } in
     let c : Columns = with_signs (columns_of s) positioned in
     ap (λ (c : Columns). map (word_at c) u.words.items) grown
     ∙ ap (map (word_at c)) added
@@ -94,7 +94,7 @@ adds_words s u positioned start end weight sound grown added from to =
     ∙ ap (λ (x : Word). stored_words s ++ x ∷ []) (word_new (columns_of s) positioned start end weight (even_of s sound) from (to ∙ length_signs s u positioned grown))
 
 -- a word lies within longer columns too
-pub lies_within_more : (n m : ℕ) → n ≤ m → (w : Stored) → lies_within n w ≡ true → lies_within m w ≡ true
+pub lies_within_more : (n m : ℕ) → n ≤ m → (w : StoredWord) → lies_within n w ≡ true → lies_within m w ≡ true
 lies_within_more n m more w within =
     let p = and_parts (nat_le w.start w.end) (nat_le w.end n) within in
     let inside : w.end ≤ n = leb-true _ _ p.1 in
@@ -113,7 +113,7 @@ pub adds_sound : (s u : Store) (positioned : List PositionedSign) (start end wei
     → u.words.items ≡ s.words.items ++ record { start = start; end = end; weight = weight } ∷ [] → start ≡ length s.signs.items → end ≡ length u.signs.items
     → IsWord (word_with weight positioned) → IsSound u
 adds_sound s u positioned start end weight sound grown added from to good =
-    let w : Stored = record { start = start; end = end; weight = weight } in
+    let w : StoredWord = record { start = start; end = end; weight = weight } in
     let n : ℕ = length u.signs.items in
     let signs : n ≡ length s.signs.items + length positioned = length_signs s u positioned grown in
     let hyphens : length u.hyphens.items ≡ length (s.hyphens.items ++ map (λ (x : PositionedSign). x.hyphen) positioned) = ap (λ (c : Columns). length c.hyphens) grown in

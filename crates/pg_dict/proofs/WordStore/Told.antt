@@ -1,5 +1,6 @@
 -- What a dictionary tells of its words.
-use Rattle.std.proofs.Common.{◌≡◌, ℕ, ◌+◌, ◌-◌, ◌*◌, ◌<◌, ◌≤◌, Bool, true, false, nat_le, List, [], ◌∷◌, length, slice_index_or, slice_get, slice_range, Some, refl, sym, ◌∙◌, ap, subst, arith, length-append, ◌||◌, not, nat_lt, slice_index, zero, suc, unwrap_or, ◌==◌}
+use Rattle.std.proofs.Common.{◌≡◌, ℕ, ◌+◌, ◌-◌, ◌*◌, ◌<◌, ◌≤◌, Bool, true, false, nat_le, List, [], ◌∷◌, length, slice_index_or, slice_get}
+use Rattle.std.proofs.Common.{slice_range, Some, refl, sym, ◌∙◌, ap, subst, arith, length-append, ◌||◌, not, nat_lt, slice_index, zero, suc, unwrap_or, ◌==◌}
 use Rattle.std.proofs.lemmas.List.Elements.{All-head, All-tail}
 use Rattle.std.specs.List.{list_all, sum_by, All}
 use Rattle.std.specs.Option.{option_map}
@@ -10,7 +11,7 @@ use Rattle.std.proofs.lemmas.Bool.{and_parts, and_from, not-true, true≢false, 
 use Rattle.std.proofs.lemmas.Option.{slice_get-get_or, get_or_from_slice_get, slice_get_within, slice_get_read, slice_get-map}
 use Rattle.pg_types.specs.declared.limits.TheConstants.{EDGE, FILE_MAX, WEIGHT_MAX, WORD_LETTERS_MAX}
 use Rattle.pg_dict.specs.declared.store.Store.{Store}
-use Rattle.pg_dict.specs.declared.store.Stored.{Stored}
+use Rattle.pg_dict.specs.declared.store.StoredWord.{StoredWord}
 use Rattle.pg_dict.specs.declared.sites.Site.{Site}
 use Rattle.pg_dict.specs.Word.{Word}
 use Rattle.pg_dict.specs.Inside.SoundWords.{letter_count, IsPlainAt, IsWord, SignsAtMost}
@@ -147,18 +148,19 @@ word_in ws i w each at =
     subst IsWord here (each i w (slice_get_within ws i w at))
 
 -- the word with a number, as it lies in the store
-pub word_stored : (s : Store) (now : List Word) (i : ℕ) (w : Stored) → stored_words s ≡ now → i < length now → w ≡ slice_index_or s.words.items i w → slice_get now i ≡ Some (word_at (columns_of s) w)
+pub word_stored : (s : Store) (now : List Word) (i : ℕ) (w : StoredWord) → stored_words s ≡ now → i < length now → w ≡ slice_index_or s.words.items i w
+    → slice_get now i ≡ Some (word_at (columns_of s) w)
 word_stored s now i w view inside at =
     let size : length now ≡ length s.words.items = ap (λ (ws : List Word). length ws) (sym view) ∙ length-map s.words.items (word_at (columns_of s)) in
     let stored : slice_get s.words.items i ≡ Some w = slice_get_read s.words.items (length s.words.items) i w refl (omega arith) at in
     subst (λ (ws : List Word). slice_get ws i ≡ Some (word_at (columns_of s) w)) view (slice_get-map (word_at (columns_of s)) s.words.items i ∙ ap (option_map (word_at (columns_of s))) stored)
 
 -- it lies within the columns
-pub word_within : (s : Store) (now : List Word) (i : ℕ) (w : Stored) → IsSound s → stored_words s ≡ now → i < length now → w ≡ slice_index_or s.words.items i w
+pub word_within : (s : Store) (now : List Word) (i : ℕ) (w : StoredWord) → IsSound s → stored_words s ≡ now → i < length now → w ≡ slice_index_or s.words.items i w
     → (w.start ≤ w.end) × (w.end ≤ length s.signs.items)
 word_within s now i w sound view inside at =
     let size : length now ≡ length s.words.items = ap (λ (ws : List Word). length ws) (sym view) ∙ length-map s.words.items (word_at (columns_of s)) in
-    let pass : lies_within (length s.signs.items) w ≡ true = subst (λ (x : Stored). lies_within (length s.signs.items) x ≡ true) (sym at)
+    let pass : lies_within (length s.signs.items) w ≡ true = subst (λ (x : StoredWord). lies_within (length s.signs.items) x ≡ true) (sym at)
     (AllPass-from_list_all (lies_within (length s.signs.items)) s.words.items sound.within i w (omega arith)) in
     let parts = and_parts (nat_le w.start w.end) (nat_le w.end (length s.signs.items)) pass in
     (leb-true w.start w.end parts.0, leb-true w.end (length s.signs.items) parts.1)

@@ -7,7 +7,7 @@ use Rattle.pg_translate.specs.declared.items.Place.TheVariants.{Dictionary}
 use Rattle.pg_translate.specs.Alphabets.{Alphabet}
 use Rattle.pg_translate.specs.Tokens.{Token}
 use Rattle.pg_translate.specs.Gaps.{signs_of, gaps, last_number}
-use Rattle.pg_translate.specs.Inside.Refusing.{of_line}
+use Rattle.pg_translate.specs.Inside.items.Refusing.{of_line}
 use Rattle.pg_dict.specs.Word.{Word}
 use Rattle.pg_dict.specs.Words.{word_of_items}
 

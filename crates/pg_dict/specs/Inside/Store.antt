@@ -8,7 +8,7 @@ use Rattle.pg_dict.specs.Inside.Lines.PositionedSigns.{Columns}
 use Rattle.pg_dict.specs.Inside.Sites.{all_sites}
 use Rattle.pg_dict.specs.declared.sites.Site.{Site}
 use Rattle.pg_dict.specs.declared.store.Store.{Store}
-use Rattle.pg_dict.specs.declared.store.Stored.{Stored}
+use Rattle.pg_dict.specs.declared.store.StoredWord.{StoredWord}
 
 -- the columns of a store
 abbrev pub columns_of : Store → Columns
@@ -20,7 +20,7 @@ columns_of s = record {
 }
 
 -- the word that lies in the columns from the start to the end that are stored for it
-abbrev pub word_at : Columns → Stored → Word
+abbrev pub word_at : Columns → StoredWord → Word
 word_at c w = record {
   signs = slice_range c.signs w.start w.end;
   hyphens = slice_range c.hyphens w.start w.end;
@@ -42,7 +42,7 @@ abbrev pub all_weights : List Word → List ℕ
 all_weights words = flat_map (λ (w : Word). w.weights) words
 
 -- a word lies within columns of this length
-abbrev pub lies_within : ℕ → Stored → Bool
+abbrev pub lies_within : ℕ → StoredWord → Bool
 lies_within n w = nat_le w.start w.end && nat_le w.end n
 
 -- the four columns have one length, and those that are lent whole are the words joined

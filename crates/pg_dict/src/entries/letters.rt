@@ -16,7 +16,7 @@ use pg_types::{EDGE, Kind, ReadingError, WORD_LETTERS_MAX, Weight};
 
 /// Where the reading of a word stands, behind its first letter.
 #[derive(Clone, Copy)]
-pub(crate) struct At<'a> {
+pub(crate) struct WordReading<'a> {
     /// What is known of the next position.
     pub position: Position,
     /// How many letters may still come.
@@ -25,16 +25,16 @@ pub(crate) struct At<'a> {
     pub rest: &'a [u8],
 }
 
-impl<'a> At<'a> {
+impl<'a> WordReading<'a> {
     /// Right behind the first letter of a word of this weight.
-    fn behind_the_first(weight: Weight, rest: &'a [u8]) -> At<'a>
+    fn behind_the_first(weight: Weight, rest: &'a [u8]) -> WordReading<'a>
         requires { weight ≤ WEIGHT_MAX }
         ensures mark { result.position.mark ≡ Nothing }
         ensures weight { result.position.weight ≡ weight }
         ensures room { result.room ≡ WORD_LETTERS_MAX - 1 }
         ensures rest { result.rest.now ≡ rest.now }
     {
-        At {
+        WordReading {
             position: Position::plain(weight),
             room: WORD_LETTERS_MAX - 1,
             rest,
@@ -45,7 +45,11 @@ impl<'a> At<'a> {
 impl Line<'_> {
     /// Reads the next item of a word: where the reading then stands, or none at the word's end.
     /// After an error nothing is said of the columns.
-    fn take<'a>(&self, store: &mut Store, at: At<'a>) -> Result<Option<At<'a>>, ReadingError>
+    fn take<'a>(
+        &self,
+        store: &mut Store,
+        at: WordReading<'a>,
+    ) -> Result<Option<WordReading<'a>>, ReadingError>
         requires within { length at.rest.now ≤ self.now.size }
         requires fit { IsFit (letters_of self.now.table.now + 1) store.old }
         ensures step { IsStep self.now at.entry (columns_of store.old)
@@ -55,7 +59,7 @@ impl Line<'_> {
         ensures counted { AddsSigns at.entry (length store.old.signs.items)
             (length store.new.signs.items) result }
     {
-        let At {
+        let WordReading {
             position,
             room,
             rest,
@@ -66,23 +70,23 @@ impl Line<'_> {
                     return Err(self.refuse(Kind::WordTooLong, rest).into());
                 }
                 store.push(position, sign)?;
-                Ok(Some(At {
+                Ok(Some(WordReading {
                     position: Position::plain(self.weight),
                     room: room - 1,
                     rest: after,
                 }))
             }
-            Item::Digit(number, after) => Ok(Some(At {
+            Item::Digit(number, after) => Ok(Some(WordReading {
                 position: position.with_number(Weight::from(number)),
                 room,
                 rest: after,
             })),
-            Item::Weight(weight, after) => Ok(Some(At {
+            Item::Weight(weight, after) => Ok(Some(WordReading {
                 position: position.with_number(weight),
                 room,
                 rest: after,
             })),
-            Item::Mark(mark, after) => Ok(Some(At {
+            Item::Mark(mark, after) => Ok(Some(WordReading {
                 position: position.with_mark(mark),
                 room,
                 rest: after,
@@ -109,7 +113,7 @@ impl Line<'_> {
             (length store.new.signs.items ≤ n + WORD_LETTERS_MAX)
             × (length store.new.signs.items ≤ n + length rest.now + 1)) }
     {
-        let mut at = At::behind_the_first(self.weight, rest);
+        let mut at = WordReading::behind_the_first(self.weight, rest);
         'items: while let Some(next) = self.take(store, at)? {
             at = next;
         }

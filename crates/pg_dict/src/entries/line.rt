@@ -8,8 +8,7 @@ ghost use Rattle.pg_translate.specs.declared.items.Place.TheVariants.{Dictionary
 use pg_translate::Table;
 use pg_types::{Kind, Refusal, Weight};
 
-/// A line that is being read: the table by which it is read, its number and its size in bytes, and
-/// its word weight.
+/// A line that is being read.
 #[derive(Clone, Copy)]
 pub(crate) struct Line<'t> {
     /// The table by which the line is read.

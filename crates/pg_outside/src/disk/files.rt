@@ -12,7 +12,7 @@ use super::error::WriteError;
 use super::links::find;
 use super::new_file::{replace, write_all};
 use super::read::read_within;
-use super::system::{FileId, Seen, System};
+use super::system::{FileId, FileStatus, System};
 use crate::call_log::{Call, CallLog};
 use crate::outside::{Failed, Files, ReadError};
 use std::alloc::{AllocError, Global};
@@ -37,7 +37,7 @@ pub struct DiskFiles<S: System + Drop> {
 }
 
 /// Keeps in mind which regular file this is.
-fn keep_regular(kept: &mut Vec<FileId>, seen: Seen) -> Result<(), AllocError>
+fn keep_regular(kept: &mut Vec<FileId>, seen: FileStatus) -> Result<(), AllocError>
     ensures all { KeepsAll kept.old.items kept.new.items }
     ensures noted { OnOk result (seen.is_regular ≡ true → IsIn seen.id kept.new.items) }
     ensures only { (kept.new.items ≡ kept.old.items) ⊎
@@ -54,7 +54,7 @@ fn keep_regular(kept: &mut Vec<FileId>, seen: Seen) -> Result<(), AllocError>
 ///
 /// # Errors
 /// `Unfollowed` where they are not the same.
-fn mode_of_found(found: Option<FileId>, old: Option<Seen>) -> Result<Option<u32>, WriteError>
+fn mode_of_found(found: Option<FileId>, old: Option<FileStatus>) -> Result<Option<u32>, WriteError>
     ensures mode { IfOk result (λ mode. IsPlaceOf found old mode) }
     ensures other { OnErr result ((mode : Option ℕ) → IsPlaceOf found old mode → ⊥) }
     ensures error { IfErr result (λ error. error ≡ WriteError.Unfollowed) }
@@ -101,7 +101,7 @@ fn read_named<S: System>(
     read_within(system, &mut file, limit, into)
 }
 
-/// Keeps in mind which new file this is, for which there is room.
+/// Keeps in mind which new file this is. There is room for it.
 fn keep_new(kept: &mut Vec<FileId>, id: FileId)
     requires { vec_len kept.old < vec_capacity kept.old }
     ensures { kept.new.items ≡ kept.old.items ++ id ∷ [] }
@@ -146,7 +146,7 @@ fn write_regular<S: System>(
     system: &mut S,
     kept: &mut Vec<FileId>,
     name: &str,
-    old: Option<Seen>,
+    old: Option<FileStatus>,
     bytes: &[u8],
 ) -> Result<(), WriteError>
     requires room { vec_len kept.old < vec_capacity kept.old }

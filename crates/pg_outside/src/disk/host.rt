@@ -4,7 +4,7 @@ ghost use Rattle.std.specs.Prelude.{◌≡◌, ◌≤◌, None, Ok, IfOk, OnOk, 
 ghost use Rattle.pg_outside.specs.Faults.{Rose, next_count};
 
 use super::files::DiskFiles;
-use super::system::{CallFailed, Entry, FileId, Seen, System};
+use super::system::{CallFailed, Entry, FileId, FileStatus, System};
 use crate::streams::{read_some, write_some};
 use std::alloc::{AllocError, Global};
 use std::fs::{File, Metadata, OpenFile, OpenOptions, Permissions};
@@ -42,7 +42,7 @@ fn entry_of(metadata: io::Result<Metadata>) -> Result<Entry, CallFailed> {
     }
 }
 
-/// A file that was opened or made, or none where the system gave this reason.
+/// A file that was opened or made. There is none where the system gave the reason `none`.
 fn opened<F: Drop>(file: io::Result<F>, none: ErrorKind) -> Result<Option<F>, CallFailed> {
     match file {
         Ok(file) => Ok(Some(file)),
@@ -59,9 +59,9 @@ fn text_of(alloc: Global, path: io::Result<PathBuf>) -> Result<String, CallFaile
     }
 }
 
-fn seen_of(metadata: io::Result<Metadata>) -> io::Result<Seen> {
+fn seen_of(metadata: io::Result<Metadata>) -> io::Result<FileStatus> {
     let metadata = metadata?;
-    Ok(Seen {
+    Ok(FileStatus {
         id: id_of(&metadata),
         is_regular: metadata.is_file(),
         mode: metadata.mode(),
@@ -82,7 +82,7 @@ impl<R: rt::Files + Drop> HostSystem<R> {
         }
     }
 
-    /// Why the call that failed last did, where one failed and the system said why.
+    /// Why the last call that failed did so, where the system said why.
     pub fn reason(&self) -> Option<io::Error>
         ensures { result ≡ self.now.reason }
     {
@@ -90,7 +90,7 @@ impl<R: rt::Files + Drop> HostSystem<R> {
     }
 }
 
-/// Keeps why a call failed, unless it is this reason, which is an answer.
+/// Keeps why a call failed. A reason that is an answer is not kept.
 fn keep<T>(reason: &mut Option<io::Error>, outcome: &io::Result<T>, answer: Option<ErrorKind>) {
     if let Err(error) = outcome {
         if answer != Some(error.kind()) {
@@ -181,7 +181,7 @@ impl<R: rt::Files + Drop> System for HostSystem<R> {
         count(&mut self.failures, outcome)
     }
 
-    fn stat(&mut self, file: &R::File) -> Result<Seen, CallFailed> {
+    fn stat(&mut self, file: &R::File) -> Result<FileStatus, CallFailed> {
         let seen = seen_of(file.metadata());
         counted(&mut self.reason, &mut self.failures, seen)
     }

@@ -38,16 +38,16 @@ pub fn linked_name(alloc: Global, link: &str, text: &str) -> Result<String, Allo
 
 /// A name that is no link, and the file that it leads to, if there is one.
 #[derive(Drop)]
-pub(crate) struct Found {
+pub(crate) struct RealName {
     pub name: String,
     pub file: Option<FileId>,
 }
 
-fn make_found(name: String, file: Option<FileId>) -> Found
+fn make_real_name(name: String, file: Option<FileId>) -> RealName
     ensures name { string_bytes result.name ≡ string_bytes name }
     ensures file { result.file ≡ file }
 {
-    Found { name, file }
+    RealName { name, file }
 }
 
 /// Follows the links of a name, up to a name that is no link.
@@ -58,7 +58,7 @@ pub(crate) fn find<S: System>(
     alloc: Global,
     system: &mut S,
     name: &str,
-) -> Result<Found, WriteError>
+) -> Result<RealName, WriteError>
     ensures same { KeepsDisk (S.told system.old) (S.told system.new) }
     ensures found { IfOk result (λ found. (S.failures system.new ≡ S.failures system.old)
         × HoldsNow (S.told system.new) (StandsFor (string_bytes found.name) found.file name.now)) }
@@ -72,8 +72,8 @@ pub(crate) fn find<S: System>(
                 let text = system.read_link(alloc, real.as_str())?;
                 real = linked_name(alloc, real.as_str(), text.as_str())?;
             }
-            Entry::Missing => return Ok(make_found(real, None)),
-            Entry::File(id) => return Ok(make_found(real, Some(id))),
+            Entry::Missing => return Ok(make_real_name(real, None)),
+            Entry::File(id) => return Ok(make_real_name(real, Some(id))),
         }
     }
     Err(WriteError::Unfollowed)

@@ -98,8 +98,8 @@ fn keep_mode<S: System>(
     }
 }
 
-/// Gives the file these permissions, where they are given, and these bytes, and waits until the
-/// device has it.
+/// Gives the file these bytes, and these permissions where they are given. It then waits until the
+/// device has the file.
 fn fill<S: System>(
     system: &mut S,
     file: &mut S::File,
@@ -119,7 +119,8 @@ fn fill<S: System>(
     system.sync(file)
 }
 
-/// Fills the file, and lets it take the name once the device has it. It gives which file it is.
+/// Fills the file, and lets it take the name once the device has it. The answer is which file it
+/// is.
 fn place<S: System>(
     system: &mut S,
     new: &mut NewFile<S::File>,
@@ -142,8 +143,8 @@ fn place<S: System>(
     Ok(seen.id)
 }
 
-/// Lets a new file with these bytes take this name, which is no link, with these permissions where
-/// they are given. It gives which file it is.
+/// Lets a new file with these bytes take this name, which is no link. The file gets these
+/// permissions, where they are given. The answer is which file it is.
 ///
 /// # Errors
 /// Each name then leads to what it led to before. A new file that was made is removed, unless the

@@ -36,7 +36,7 @@ pub enum Entry {
 
 /// What the system says of an opened file.
 #[derive(Clone, Copy)]
-pub struct Seen {
+pub struct FileStatus {
     pub id: FileId,
     pub is_regular: bool,
     /// Its permissions, as bits.
@@ -102,7 +102,7 @@ pub trait System {
         ensures failed { OnErr result (Rose (failures self.old) (failures self.new)) };
 
     /// Which file this is, and of what kind.
-    fn stat(&mut self, file: &Self::File) -> Result<Seen, CallFailed>
+    fn stat(&mut self, file: &Self::File) -> Result<FileStatus, CallFailed>
         ensures same { KeepsDisk (told self.old) (told self.new) }
         ensures seen { IfOk result (λ seen. HoldsNow (told self.new) (IsStat (id file.now) seen)) }
         ensures later { failures self.old ≤ failures self.new }

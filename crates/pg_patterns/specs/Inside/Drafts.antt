@@ -8,8 +8,8 @@ use Rattle.pg_translate.specs.declared.items.Place.TheVariants.{Patterns}
 use Rattle.pg_translate.specs.Alphabets.{Alphabet}
 use Rattle.pg_translate.specs.Tokens.{Token, Letter, Digit, Weight, Marked, Edge}
 use Rattle.pg_translate.specs.Cuts.{Cut, tokens_of}
-use Rattle.pg_translate.specs.Inside.Rests.{cut_rest}
-use Rattle.pg_translate.specs.Inside.Refusing.{of_line, refusal_with_room}
+use Rattle.pg_translate.specs.Inside.items.Rests.{cut_rest}
+use Rattle.pg_translate.specs.Inside.items.Refusing.{of_line, refusal_with_room}
 use Rattle.pg_patterns.specs.Inside.EntryLines.{digit_at_dot, entries_at}
 
 -- the signs, the dots before them with their digits, and the last digit behind the last sign

@@ -6,8 +6,8 @@ use Rattle.pg_translate.specs.declared.items.Place.TheVariants.{Patterns}
 use Rattle.pg_translate.specs.Alphabets.{Alphabet}
 use Rattle.pg_translate.specs.Tokens.{Token}
 use Rattle.pg_translate.specs.Gaps.{signs_of, gaps}
-use Rattle.pg_translate.specs.Inside.Digits.{last_digit}
-use Rattle.pg_translate.specs.Inside.Refusing.{of_line}
+use Rattle.pg_translate.specs.Inside.items.Digits.{last_digit}
+use Rattle.pg_translate.specs.Inside.items.Refusing.{of_line}
 use Rattle.pg_patterns.specs.Values.{map_of_entries}
 
 -- the digit at a dot; 0 is none

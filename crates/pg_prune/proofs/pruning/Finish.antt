@@ -6,12 +6,12 @@ use Rattle.pg_select.specs.CountedPositions.{Minima}
 use Rattle.pg_select.specs.Windows.{Patterns}
 use Rattle.pg_prune.specs.declared.pruned.Need.{Need}
 use Rattle.pg_prune.specs.Positions.{WordPosition, positions_in_reach}
-use Rattle.pg_prune.specs.Prunes.{rounds, needs, pruning_of, Pruning, Rounds}
+use Rattle.pg_prune.specs.Prunes.{rounds, needs, pruning_of, Pruning, RoundsResult}
 use Rattle.pg_prune.specs.Inside.Findings.{found_by}
 use Rattle.pg_prune.specs.Inside.rounds.Picks.{picked_entries, IsKeptSoFar}
 use Rattle.pg_prune.specs.Inside.rounds.Picks.{entry_of}
 
-abbrev pub to_rounds : Patterns → ℕ → Rounds
+abbrev pub to_rounds : Patterns → ℕ → RoundsResult
 to_rounds Q count = record { patterns = Q; count = count }
 
 module _ (m : Minima) (ws : List Word) (P : Patterns) where
@@ -27,9 +27,10 @@ module _ (m : Minima) (ws : List Word) (P : Patterns) where
       ∙ ap (λ r. F (picked_entries P kept) (needs (positions_in_reach m ws) (picked_entries P kept)) r) size
       ∙ ap (found_by (positions_in_reach m ws) (length P)) (sym done)
 
-  pub rounds_patterns : (kept : List ℕ) (count : ℕ) → rounds (positions_in_reach m ws) P ≡ record { patterns = picked_entries P kept; count = count } → picked_entries P kept ≡ (pruning_of m ws P).patterns
+  pub rounds_patterns : (kept : List ℕ) (count : ℕ) → rounds (positions_in_reach m ws) P ≡ record { patterns = picked_entries P kept; count = count }
+      → picked_entries P kept ≡ (pruning_of m ws P).patterns
   unfolding pruning_of
-  rounds_patterns kept count done = ap (λ (r : Rounds). r.patterns) (sym done)
+  rounds_patterns kept count done = ap (λ (r : RoundsResult). r.patterns) (sym done)
 
 -- the same entries with their numbers in another list
 pub with_kept : (positions : List WordPosition) (P : Patterns) (stands holders : List (List ℕ)) (kept kept' : List ℕ) → kept' ≡ kept → IsKeptSoFar positions P stands holders kept

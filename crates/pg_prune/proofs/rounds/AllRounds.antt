@@ -9,7 +9,7 @@ use Rattle.pg_types.proofs.BoolFacts.{no_test}
 use Rattle.pg_patterns.specs.Inside.PatternMaps.{is_entry}
 use Rattle.pg_select.specs.Windows.{Patterns}
 use Rattle.pg_prune.specs.Positions.{WordPosition}
-use Rattle.pg_prune.specs.Prunes.{round, rounds_from, rounds, Rounds}
+use Rattle.pg_prune.specs.Prunes.{round, rounds_from, rounds, RoundsResult}
 use Rattle.pg_prune.specs.Inside.rounds.Alike.{break_alike}
 use Rattle.pg_prune.specs.Inside.rounds.Turns.{IsTallied}
 use Rattle.pg_prune.specs.Inside.rounds.Picks.{picked_entries, IsKeptSoFar, IsOneRound, HasAllEntries}
@@ -59,7 +59,7 @@ module _ (positions : List WordPosition) (P : Patterns) (stands : List (List ℕ
   one_more count (suc most) Q few less = (
     most,
     omega arith,
-    ap (λ b. cond {A = Rounds} b (record { patterns = Q; count = count + 1 }) (rounds_from positions P (count + 1) most (round positions P Q)))
+    ap (λ b. cond {A = RoundsResult} b (record { patterns = Q; count = count + 1 }) (rounds_from positions P (count + 1) most (round positions P Q)))
         (no_test (nat_eq (length (round positions P Q)) (length Q)) (λ same. let is = eqb-true _ _ same in absurd (omega (arith, is)))),
   )
 
@@ -81,7 +81,7 @@ module _ (positions : List WordPosition) (P : Patterns) (stands : List (List ℕ
   no_more : (count most : ℕ) (Q : Patterns) → length (round positions P Q) ≡ length Q → rounds_from positions P count most Q ≡ record { patterns = Q; count = count + 1 }
   no_more count zero Q same = refl
   no_more count (suc most) Q same =
-      ap (λ b. cond {A = Rounds} b (record { patterns = Q; count = count + 1 })
+      ap (λ b. cond {A = RoundsResult} b (record { patterns = Q; count = count + 1 })
       (rounds_from positions P (count + 1) most (round positions P Q))) (eq-eqb (length (round positions P Q)) (length Q) same)
 
   pub rounds_end_with : (old new : List (List ℕ)) (kept stay : List ℕ) (count : ℕ) → RoundsSoFar positions P stands old kept count → IsOneRound positions P stands new kept stay

@@ -11,7 +11,7 @@ use Rattle.pg_select.specs.Windows.{Patterns}
 use Rattle.pg_prune.specs.Positions.{WordPosition}
 use Rattle.pg_prune.specs.Inside.positions.Standing.{positions_of_entry}
 use Rattle.pg_prune.specs.Inside.rounds.Turns.{Turn, with_entry, IsAwaited, IsTallied}
-use Rattle.pg_prune.specs.Inside.rounds.Picks.{IsGround}
+use Rattle.pg_prune.specs.Inside.rounds.Picks.{ListsPositions}
 use Rattle.pg_prune.proofs.rounds.RoundSteps.{standing_at}
 use Rattle.pg_prune.specs.Inside.rounds.Picks.{entry_of}
 
@@ -40,7 +40,7 @@ pub with_next : (positions : List WordPosition) (P : Patterns) (i : ℕ) → i <
 with_next positions P i inside = take_more P i (([], 0), 0) inside
 
 pub turn_awaited : {V : Type 0} (items : V → List ℕ) (positions : List WordPosition) (P : Patterns) (vs : List V) (count : ℕ) (holders : List (List ℕ)) (i : ℕ)
-    (v : V) (numbers : List ℕ) (x : (List ℕ × ℕ) × ℕ) → IsGround positions P (map items vs) count
+    (v : V) (numbers : List ℕ) (x : (List ℕ × ℕ) × ℕ) → ListsPositions positions P (map items vs) count
     → list_all is_entry P ≡ true → IsTallied positions (take i P) holders → i < length P → i < 2 ^ 64 - 1 → v ≡ get_or vs i v → numbers ≡ items v
     → slice_get P i ≡ Some x → IsAwaited (turn_after positions P i) holders numbers x.1
 turn_awaited items positions P vs count holders i v numbers x g sound tallied inside room is own entry =

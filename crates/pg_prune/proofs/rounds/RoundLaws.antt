@@ -5,7 +5,7 @@ use Rattle.std.proofs.lemmas.List.{append-nil}
 use Rattle.std.proofs.lemmas.Bool.{eq-eqb, eqb-true}
 use Rattle.pg_select.specs.Windows.{Patterns}
 use Rattle.pg_prune.specs.Positions.{WordPosition}
-use Rattle.pg_prune.specs.Prunes.{round_from, round, rounds_from, Rounds}
+use Rattle.pg_prune.specs.Prunes.{round_from, round, rounds_from, RoundsResult}
 use Rattle.pg_prune.specs.Inside.rounds.Alike.{break_alike}
 
 -- a fact of either of two values, as the test says
@@ -31,7 +31,7 @@ module _ (positions : List WordPosition) (P : Patterns) (Good : Patterns → Typ
   unfolding round
   rounds_keep count zero Q good = good
   rounds_keep count (suc most) Q good =
-      by_test (λ (r : Rounds). Good r.patterns) (nat_eq (length (round positions P Q)) (length Q))
+      by_test (λ (r : RoundsResult). Good r.patterns) (nat_eq (length (round positions P Q)) (length Q))
       (record { patterns = Q; count = count + 1 }) (rounds_from positions P (count + 1) most (round positions P Q))
       (λ goes. good)
       (λ stays. rounds_keep (count + 1) most (round positions P Q) (round_keeps [] Q good))
@@ -87,7 +87,7 @@ module _ (positions : List WordPosition) (P : Patterns) where
   unfolding round
   rounds_end count zero Q few = let fewer : length (round_from positions P [] Q) ≤ 0 + length Q = round_length [] Q in omega arith
   rounds_end count (suc most) Q few =
-      by_test (λ (r : Rounds). length (round positions P r.patterns) ≡ length r.patterns) (nat_eq (length (round positions P Q)) (length Q))
+      by_test (λ (r : RoundsResult). length (round positions P r.patterns) ≡ length r.patterns) (nat_eq (length (round positions P Q)) (length Q))
       (record { patterns = Q; count = count + 1 }) (rounds_from positions P (count + 1) most (round positions P Q))
       (λ goes. eqb-true _ _ goes)
       (λ stays.

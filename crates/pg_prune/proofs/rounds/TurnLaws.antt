@@ -1,5 +1,6 @@
 -- The turn of an entry: where it stands its number of holders changes, and nothing else changes.
-use Rattle.std.proofs.Common.{◌≡◌, ℕ, zero, suc, ◌+◌, ◌-◌, ◌%◌, ◌<◌, ◌≤◌, Bool, true, false, cond, not, ◌&&◌, List, [], ◌∷◌, ◌++◌, map, length, get_or, Some, None, refl, sym, subst, ap, ◌∙◌, arith, append_assoc, length-append, get_or-set_same}
+use Rattle.std.proofs.Common.{◌≡◌, ℕ, zero, suc, ◌+◌, ◌-◌, ◌%◌, ◌<◌, ◌≤◌, Bool, true, false, cond, not, ◌&&◌, List, []}
+use Rattle.std.proofs.Common.{◌∷◌, ◌++◌, map, length, get_or, Some, None, refl, sym, subst, ap, ◌∙◌, arith, append_assoc, length-append, get_or-set_same}
 use Rattle.std.proofs.Math.Seq.{get_or-append_seam}
 use Rattle.std.specs.Prelude.{nat_eq}
 use Rattle.std.specs.List.{list_all, find, range_with_len}
@@ -79,7 +80,7 @@ module _ (t : Turn) (numbers : List ℕ) (value : ℕ) (of : IsOf t numbers valu
   away_alike x away = alike_as x (holder_counts (with_entry t) x) (away_same x away) ∙ eq-eqb (greatest_value (holder_counts (with_entry t) x) % 2) _ refl
 
 -- a search is in the middle: in front all break alike
-pub record Looked (positions : List WordPosition) (alike : WordPosition → Bool) (test : WordPosition → Bool) (left : List ℕ) : Type 0 where
+pub record SearchedSoFar (positions : List WordPosition) (alike : WordPosition → Bool) (test : WordPosition → Bool) (left : List ℕ) : Type 0 where
   pub front : List WordPosition
   pub back : List WordPosition
   pub is : positions ≡ front ++ back
@@ -87,12 +88,12 @@ pub record Looked (positions : List WordPosition) (alike : WordPosition → Bool
   pub left_is : left ≡ numbers_of test (length front) back
 
 -- what is at the next number, and the search behind it
-pub record LookStep (positions : List WordPosition) (alike : WordPosition → Bool) (test : WordPosition → Bool) (k : ℕ) (ks : List ℕ) : Type 0 where
+pub record SearchStep (positions : List WordPosition) (alike : WordPosition → Bool) (test : WordPosition → Bool) (k : ℕ) (ks : List ℕ) : Type 0 where
   pub position : WordPosition
   pub there : test position ≡ true
   pub within : k < length positions
   pub at : (d : WordPosition) → get_or positions k d ≡ position
-  pub next : alike position ≡ true → Looked positions alike test ks
+  pub next : alike position ≡ true → SearchedSoFar positions alike test ks
   pub found : alike position ≡ false → find (λ x. not (alike x)) positions ≡ Some position
 
 find_behind : (alike : WordPosition → Bool) (front : List WordPosition) (x : WordPosition) (more : List WordPosition) → list_all alike front ≡ true → alike x ≡ false
@@ -111,11 +112,11 @@ away_fine alike test away [] fails = refl
 away_fine alike test away (y ∷ ys) fails = and_from _ _ (away y (is_false (test y) (and_first _ _ fails))) (away_fine alike test away ys (and_second _ _ fails))
 
 module _ (positions : List WordPosition) (alike : WordPosition → Bool) (test : WordPosition → Bool) where
-  pub look_begins : (left : List ℕ) → left ≡ numbers_of test 0 positions → Looked positions alike test left
+  pub look_begins : (left : List ℕ) → left ≡ numbers_of test 0 positions → SearchedSoFar positions alike test left
   look_begins left is = record { front = []; back = positions; is = refl; fine = refl; left_is = is }
 
   module _ (away : (x : WordPosition) → test x ≡ false → alike x ≡ true) where
-    pub look_steps : (k : ℕ) (ks : List ℕ) → Looked positions alike test (k ∷ ks) → LookStep positions alike test k ks
+    pub look_steps : (k : ℕ) (ks : List ℕ) → SearchedSoFar positions alike test (k ∷ ks) → SearchStep positions alike test k ks
     look_steps k ks w =
         let n = next_of test (length w.front) w.back k ks (sym w.left_is) in
         let front = w.front ++ n.gap in
@@ -137,7 +138,7 @@ module _ (positions : List WordPosition) (alike : WordPosition → Bool) (test :
           found = λ differs. ap (find (λ x. not (alike x))) whole ∙ find_behind alike front n.position n.more fine differs;
         }
 
-    pub look_ends : Looked positions alike test [] → find (λ x. not (alike x)) positions ≡ None
+    pub look_ends : SearchedSoFar positions alike test [] → find (λ x. not (alike x)) positions ≡ None
     look_ends w =
         find_nothing alike positions (ap (list_all alike) w.is ∙ list_all-append alike w.front w.back
         ∙ and_from _ _ w.fine (away_fine alike test away w.back (none_of test (length w.front) w.back (sym w.left_is))))

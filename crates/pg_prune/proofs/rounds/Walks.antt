@@ -68,7 +68,7 @@ same_in_gap test f g same (y ∷ ys) fails =
     ap (λ h. h ∷ map f ys) (same y (is_false (test y) (and_first _ _ fails))) ∙ ap (λ t. g y ∷ t) (same_in_gap test f g same ys (and_second _ _ fails))
 
 -- the walk is in the middle: of the positions in front g was written, and behind f still stands
-pub record Walked {A : Type 0} (positions : List WordPosition) (f g : WordPosition → A) (test : WordPosition → Bool) (held : List A) (left : List ℕ) : Type 0 where
+pub record WalkedSoFar {A : Type 0} (positions : List WordPosition) (f g : WordPosition → A) (test : WordPosition → Bool) (held : List A) (left : List ℕ) : Type 0 where
   pub front : List WordPosition
   pub back : List WordPosition
   pub is : positions ≡ front ++ back
@@ -82,14 +82,14 @@ pub record Step {A : Type 0} (positions : List WordPosition) (f g : WordPosition
   pub within : k < length held
   pub at : (d : A) → get_or held k d ≡ f position
   pub at_position : (d : WordPosition) → get_or positions k d ≡ position
-  pub next : (new : A) → new ≡ g position → Walked positions f g test (set held k new) ks
+  pub next : (new : A) → new ≡ g position → WalkedSoFar positions f g test (set held k new) ks
 
 module _ {A : Type 0} (positions : List WordPosition) (f g : WordPosition → A) (test : WordPosition → Bool) where
-  pub walk_begins : (held : List A) (left : List ℕ) → held ≡ map f positions → left ≡ numbers_of test 0 positions → Walked positions f g test held left
+  pub walk_begins : (held : List A) (left : List ℕ) → held ≡ map f positions → left ≡ numbers_of test 0 positions → WalkedSoFar positions f g test held left
   walk_begins held left is numbers = record { front = []; back = positions; is = refl; held_is = is; left_is = numbers }
 
   module _ (same : (x : WordPosition) → test x ≡ false → f x ≡ g x) where
-    pub walk_steps : (held : List A) (k : ℕ) (ks : List ℕ) → Walked positions f g test held (k ∷ ks) → Step positions f g test held k ks
+    pub walk_steps : (held : List A) (k : ℕ) (ks : List ℕ) → WalkedSoFar positions f g test held (k ∷ ks) → Step positions f g test held k ks
     walk_steps held k ks w =
         let n = next_of test (length w.front) w.back k ks (sym w.left_is) in
         let front = w.front ++ n.gap in
@@ -117,6 +117,6 @@ module _ {A : Type 0} (positions : List WordPosition) (f g : WordPosition → A)
           };
         }
 
-    pub walk_ends : (held : List A) → Walked positions f g test held [] → held ≡ map g positions
+    pub walk_ends : (held : List A) → WalkedSoFar positions f g test held [] → held ≡ map g positions
     walk_ends held w =
         w.held_is ∙ ap (λ t. map g w.front ++ t) (same_in_gap test f g same w.back (none_of test (length w.front) w.back (sym w.left_is))) ∙ sym (map-append g w.front w.back) ∙ ap (map g) (sym w.is)

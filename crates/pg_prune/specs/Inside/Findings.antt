@@ -1,4 +1,4 @@
--- What pruning finds, part by part: the need of an entry, what rounds come to, and the lines of the
+-- The parts of what pruning finds: the need of an entry, what rounds come to, and the lines of the
 -- report.
 use Rattle.std.specs.Prelude.{ℕ, ◌-◌, not, List, [], ◌∷◌, ◌++◌, length, find, Option}
 use Rattle.std.specs.Option.{option_map, option_to_list}
@@ -6,7 +6,7 @@ use Rattle.pg_translate.specs.Alphabets.{Alphabet}
 use Rattle.pg_select.specs.Windows.{Patterns}
 use Rattle.pg_prune.specs.declared.pruned.Need.{Need}
 use Rattle.pg_prune.specs.Positions.{WordPosition}
-use Rattle.pg_prune.specs.Prunes.{break_alike_at, need_at, needs, Pruning, Rounds}
+use Rattle.pg_prune.specs.Prunes.{break_alike_at, need_at, needs, Pruning, RoundsResult}
 use Rattle.pg_prune.specs.Reports.{keep_line}
 
 -- the first position at which two maps do not break alike, where there is one
@@ -18,7 +18,7 @@ abbrev pub need_list : Option WordPosition → List Need
 need_list position = option_to_list (option_map need_at position)
 
 -- what the rounds come to, where so many entries were there at first
-abbrev pub found_by : List WordPosition → ℕ → Rounds → Pruning
+abbrev pub found_by : List WordPosition → ℕ → RoundsResult → Pruning
 found_by positions first r =
     record {
       patterns = r.patterns;

@@ -1,3 +1,4 @@
+-- What is known of the entries and their holders in and between rounds.
 pub mod Alike
 pub mod Holders
 pub mod Picks

@@ -1,3 +1,4 @@
+-- What is known of a packed table while its text is made from patterns.
 pub mod Packed
 pub mod Sharing
 pub mod Rows

@@ -8,17 +8,17 @@ use Rattle.std.proofs.lemmas.Grind.{common_steps}
 use Rattle.std.proofs.lemmas.List.Folds.{list_all-append}
 use Rattle.pg_types.specs.declared.limits.TheConstants.{FILE_MAX, WORD_LETTERS_MAX}
 use Rattle.pg_types.specs.declared.marks.Mark.TheVariants.{Missed}
-use Rattle.pg_translate.specs.Inside.Rules.{KeepsRules}
-use Rattle.pg_translate.specs.Inside.Members.{IsAmong}
+use Rattle.pg_translate.specs.Inside.tables.Rules.{KeepsRules}
+use Rattle.pg_translate.specs.Inside.spellings.Members.{IsAmong}
 use Rattle.pg_translate.specs.Tables.{default_alphabet, default_letter}
 use Rattle.pg_translate.specs.Tokens.{Token, Letter, Marked}
-use Rattle.pg_translate.specs.Inside.Items.{IsItem, text_of_items}
+use Rattle.pg_translate.specs.Inside.items.Items.{IsItem, text_of_items}
 use Rattle.pg_translate.specs.declared.items.Place.TheVariants.{Dictionary}
 use Rattle.pg_dict.specs.Word.{Word}
 use Rattle.pg_dict.specs.Words.{word_of_items, words}
 use Rattle.pg_dict.specs.Inside.LineWords.{word_weight}
 use Rattle.pg_dict.specs.Inside.LineWords.{line_reading, line_word}
-use Rattle.pg_dict.specs.Inside.Written.{letters_among, IsLine, file_of, LinesGive}
+use Rattle.pg_dict.specs.Inside.WrittenWords.{letters_among, IsLine, file_of, LinesGive}
 use Rattle.pg_dict.proofs.LineReading.LineLaws.{line_is_read, file_is_read, items_line}
 use Rattle.pg_words.specs.declared.limits.TheConstants.{COUNT_MAX}
 use Rattle.pg_top.specs.sample.Sampled.{MadeText, next_state, draw, ending, syllable, further_syllables, word, words_made, sample_text}

@@ -5,7 +5,7 @@ use Rattle.std.proofs.lemmas.List.{length-map}
 use Rattle.pg_types.specs.Parameters.{Parameters}
 use Rattle.pg_sweep.specs.Files.{sweep_file}
 use Rattle.pg_sweep.specs.Sweeps.{Terms, row_of, costs_of}
-use Rattle.pg_sweep.specs.Inside.Found.{Found}
+use Rattle.pg_sweep.specs.Inside.RowsAndWinner.{RowsAndWinner}
 use Rattle.pg_sweep.specs.Winners.{winner_of}
 use Rattle.pg_sweep.specs.declared.rows.SweepRow.{SweepRow}
 use Rattle.pg_sweep.proofs.Winners.{winner_wins}
@@ -18,7 +18,7 @@ use Rattle.pg_top.specs.sweep.Inside.Inputs.{line_of_sweep, rows_of_sets, outcom
 use Rattle.pg_top.specs.declared.answers.Status.TheVariants.{Done}
 
 -- it is made of what was found
-pub sweep_made : (s : SweepRequest) (terms : Terms) (sets : List Parameters) (found : Found) (text line : List ℕ) → found.rows ≡ map (row_of terms s.bad s.missed) sets
+pub sweep_made : (s : SweepRequest) (terms : Terms) (sets : List Parameters) (found : RowsAndWinner) (text line : List ℕ) → found.rows ≡ map (row_of terms s.bad s.missed) sets
     → found.winner ≡ winner_of (costs_of found.rows) → text ≡ sweep_file s.folds found.rows found.winner → line ≡ line_of_sweep found
     → outcome_of_sets s terms sets ≡ Ends Done ((s.output, text) ∷ []) line
 unfolding rows_of_sets

@@ -3,8 +3,8 @@ ghost use Rattle.std.specs.Prelude.{◌≡◌, ℕ, ◌+◌, ◌≤◌, ◌⊎�
 ghost use Rattle.std.specs.List.{list_any};
 ghost use Rattle.pg_translate.specs.Alphabets.{letters_of, spelling_of};
 ghost use Rattle.pg_translate.specs.Cuts.{cut};
-ghost use Rattle.pg_translate.specs.Inside.Items.{IsItem, IsCut, IsPrefix, IsLongest};
-ghost use Rattle.pg_translate.specs.Inside.Rules.{KeepsRules};
+ghost use Rattle.pg_translate.specs.Inside.items.Items.{IsItem, IsCut, IsPrefix, IsLongest};
+ghost use Rattle.pg_translate.specs.Inside.tables.Rules.{KeepsRules};
 ghost use Rattle.pg_translate.specs.Spellings.{is_space};
 ghost use Rattle.pg_translate.specs.Tokens.{Token, item_at, is_ended};
 ghost use Rattle.pg_translate.specs.Tokens as token;

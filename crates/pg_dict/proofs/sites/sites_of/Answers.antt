@@ -3,7 +3,7 @@ use Rattle.std.specs.Prelude.{slice_get}
 use Rattle.std.proofs.lemmas.List.{length-map}
 use Rattle.pg_dict.specs.declared.sites.Site.{Site}
 use Rattle.pg_dict.specs.declared.store.Store.{Store}
-use Rattle.pg_dict.specs.declared.store.Stored.{Stored}
+use Rattle.pg_dict.specs.declared.store.StoredWord.{StoredWord}
 use Rattle.pg_dict.specs.Word.{Word}
 use Rattle.pg_dict.specs.Inside.Sites.{all_sites}
 use Rattle.pg_dict.specs.Inside.Store.{columns_of, word_at, stored_words, IsSound}
@@ -14,7 +14,7 @@ use Rattle.pg_dict.proofs.sites.sites_of.Goals as goal
 use Rattle.pg_dict.proofs.sites.sites_of.Goals.{After-lend}
 
 -- a stored word lies within the columns
-inside : (s : Store) (i : ℕ) (w : Stored) → IsSound s → i < length s.words.items → w ≡ slice_index_or s.words.items i w → (w.start ≤ w.end) × (w.end ≤ length s.signs.items)
+inside : (s : Store) (i : ℕ) (w : StoredWord) → IsSound s → i < length s.words.items → w ≡ slice_index_or s.words.items i w → (w.start ≤ w.end) × (w.end ≤ length s.signs.items)
 inside s i w sound within at = word_within s (stored_words s) i w sound refl (omega (arith, length-map s.words.items (word_at (columns_of s)))) at
 
 pub words-init : goal.words-init

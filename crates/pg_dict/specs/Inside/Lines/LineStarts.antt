@@ -6,9 +6,9 @@ use Rattle.pg_types.specs.Reading.{unless}
 use Rattle.pg_translate.specs.Alphabets.{Alphabet, letters_of}
 use Rattle.pg_translate.specs.Tokens.{Letter}
 use Rattle.pg_translate.specs.Cuts.{tokens_of}
-use Rattle.pg_translate.specs.Inside.Rests.{cut_rest}
+use Rattle.pg_translate.specs.Inside.items.Rests.{cut_rest}
 use Rattle.pg_translate.specs.LineRefusals.{line_refusal}
-use Rattle.pg_translate.specs.Inside.Refusing.{refusal_with_room}
+use Rattle.pg_translate.specs.Inside.items.Refusing.{refusal_with_room}
 use Rattle.pg_translate.specs.declared.items.Place.TheVariants.{Dictionary}
 use Rattle.pg_dict.specs.declared.entries.line.Line.{Line}
 use Rattle.pg_dict.specs.declared.entries.line_start.LineStart.{LineStart}

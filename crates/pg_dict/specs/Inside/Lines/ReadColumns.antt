@@ -7,10 +7,10 @@ use Rattle.pg_types.specs.declared.refusals.Refusal.{Refusal}
 use Rattle.pg_types.specs.Reading.{unless}
 use Rattle.pg_translate.specs.Alphabets.{Alphabet}
 use Rattle.pg_translate.specs.Cuts.{tokens_of}
-use Rattle.pg_translate.specs.Inside.Rests.{cut_rest}
-use Rattle.pg_translate.specs.Inside.Refusing.{refusal_with_room}
+use Rattle.pg_translate.specs.Inside.items.Rests.{cut_rest}
+use Rattle.pg_translate.specs.Inside.items.Refusing.{refusal_with_room}
 use Rattle.pg_translate.specs.declared.items.Place.TheVariants.{Dictionary}
-use Rattle.pg_dict.specs.declared.entries.letters.At.{At}
+use Rattle.pg_dict.specs.declared.entries.letters.WordReading.{WordReading}
 use Rattle.pg_dict.specs.declared.entries.line.Line.{Line}
 use Rattle.pg_dict.specs.Inside.Lines.PositionedSigns.{Columns, with_signs}
 use Rattle.pg_dict.specs.Inside.Lines.Running.{signs_behind}
@@ -24,7 +24,7 @@ columns_after t weight line size mark number room done rest =
     (with_signs done (signs_behind weight mark number (tokens_of c)))
 
 -- the columns after a line is read on from where its reading stands in a word
-abbrev pub columns_from : Line → At → Columns → Result Columns Refusal
+abbrev pub columns_from : Line → WordReading → Columns → Result Columns Refusal
 columns_from l at now =
     columns_after l.table.now l.weight l.number l.size at.position.mark at.position.weight at.room
     now at.rest.now

@@ -2,7 +2,7 @@
 use Rattle.std.specs.Prelude.{ℕ, List, Option, map}
 use Rattle.std.specs.Ordering.{nat_cmp}
 use Rattle.std.specs.FinMap as fin
-use Rattle.pg_outside.specs.declared.plans.Plan.{Plan}
+use Rattle.pg_outside.specs.declared.memory.plans.Plan.{Plan}
 
 -- the calls that are to fail, by their numbers, with how many bytes each keeps
 abbrev pub ListedCalls : Type 0

@@ -7,7 +7,7 @@ use Rattle.pg_outside.specs.Inside.disk.NewNames.{IsNewName, IsLinkedName}
 use Rattle.pg_outside.specs.declared.disk.system.Entry.{Entry}
 use Rattle.pg_outside.specs.declared.disk.system.Entry.TheVariants.{Missing, Link, File}
 use Rattle.pg_outside.specs.declared.disk.system.FileId.{FileId}
-use Rattle.pg_outside.specs.declared.disk.system.Seen.{Seen}
+use Rattle.pg_outside.specs.declared.disk.system.FileStatus.{FileStatus}
 
 -- a file: its kind, its bytes, its permissions, whether it may be written, whether it is stored
 pub record Node : Type 0 where
@@ -135,7 +135,7 @@ pub record RenamesFile (from to : List ℕ) (old new : Disk) : Type 0 where
   pub files : (other : FileId) → new.files other ≡ old.files other
   pub refused : new.refused ≡ old.refused
 
--- a call does so, unless one of the names is a link itself
+-- a call gives the file of the one name the other, unless one of the names is a link itself
 abbrev pub RenamesUnlessLink : List ℕ → List ℕ → Disk → Disk → Type 0
 RenamesUnlessLink from to old new = old.links.is_link from ≡ false
     → old.links.is_link to ≡ false → RenamesFile from to old new
@@ -148,7 +148,7 @@ pub record RemovesName (own : List ℕ) (old new : Disk) : Type 0 where
   pub files : (other : FileId) → new.files other ≡ old.files other
   pub refused : new.refused ≡ old.refused
 
--- a call does so, unless the name is a link itself
+-- a call takes the name away, unless it is a link itself
 abbrev pub RemovesUnlessLink : List ℕ → Disk → Disk → Type 0
 RemovesUnlessLink own old new = old.links.is_link own ≡ false → RemovesName own old new
 
@@ -193,7 +193,7 @@ abbrev pub IsWritable : FileId → Disk → Type 0
 IsWritable id disk = (node : Node) → disk.files id ≡ Some node → node.is_writable ≡ true
 
 -- this is what the file is
-pub record IsStat (id : FileId) (seen : Seen) (disk : Disk) : Type 0 where
+pub record IsStat (id : FileId) (seen : FileStatus) (disk : Disk) : Type 0 where
   pub is : seen.id ≡ id
   pub node : Node
   pub there : disk.files id ≡ Some node

@@ -10,7 +10,7 @@ use Rattle.pg_outside.specs.Inside.disk.NewNames.{IsFolderOf, new_name}
 use Rattle.pg_outside.specs.Inside.disk.Shown.{all_faults}
 use Rattle.pg_outside.specs.declared.disk.files.DiskFiles.{DiskFiles}
 use Rattle.pg_outside.specs.declared.disk.system.FileId.{FileId}
-use Rattle.pg_outside.specs.declared.disk.system.Seen.{Seen}
+use Rattle.pg_outside.specs.declared.disk.system.FileStatus.{FileStatus}
 use Rattle.pg_outside.specs.declared.disk.error.WriteError.{WriteError}
 use Rattle.pg_outside.specs.Inside.disk.Moments.{RunsCalls, AtMoment, IsWritten, IsAsBefore}
 
@@ -109,7 +109,7 @@ KeepsOnly name before kept disk = (kept ≡ before)
     ⊎ ((id : FileId) × (kept ≡ before ++ id ∷ []) × LeadsTo name id disk)
 
 -- the name leads to this file, which may be written, and whose kind and permissions these are
-pub record IsSeen (name : List ℕ) (seen : Seen) (disk : Disk) : Type 0 where
+pub record IsSeen (name : List ℕ) (seen : FileStatus) (disk : Disk) : Type 0 where
   pub leads : LeadsTo name seen.id disk
   pub node : Node
   pub there : disk.files seen.id ≡ Some node
@@ -118,12 +118,12 @@ pub record IsSeen (name : List ℕ) (seen : Seen) (disk : Disk) : Type 0 where
   pub writable : node.is_writable ≡ true
 
 -- this is what the name leads to: no file, or the one that was seen
-abbrev pub IsOld : List ℕ → Option Seen → Disk → Type 0
+abbrev pub IsOld : List ℕ → Option FileStatus → Disk → Type 0
 IsOld name None disk = LeadsToNone name disk
 IsOld name (Some seen) disk = IsSeen name seen disk
 
 -- what was found is what was seen, and these are its permissions
-abbrev pub IsPlaceOf : Option FileId → Option Seen → Option ℕ → Type 0
+abbrev pub IsPlaceOf : Option FileId → Option FileStatus → Option ℕ → Type 0
 IsPlaceOf None None mode = mode ≡ None
 IsPlaceOf (Some id) (Some seen) mode = (id ≡ seen.id) × (mode ≡ Some seen.mode)
 IsPlaceOf None (Some seen) mode = ⊥

@@ -8,7 +8,7 @@ use Rattle.pg_outside.specs.Inside.NameFaults.{EachRose, RoseByOneAtMost, SameCo
 use Rattle.pg_outside.specs.FilesCalls.{FilesCall}
 use Rattle.pg_outside.specs.Inside.memory.MissingNames.{times_in}
 use Rattle.pg_outside.specs.Inside.memory.StoredFile.{file_map, room_in}
-use Rattle.pg_outside.specs.declared.memory_files.MemoryFiles.{MemoryFiles}
+use Rattle.pg_outside.specs.declared.memory.files.MemoryFiles.{MemoryFiles}
 
 -- the files
 abbrev pub files_of : MemoryFiles → FileMap

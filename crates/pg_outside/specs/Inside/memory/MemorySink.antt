@@ -3,7 +3,7 @@ use Rattle.std.specs.Prelude.{◌≡◌, ℕ, ◌+◌, ◌<◌, ◌≤◌, List,
 use Rattle.std.specs.FinMap as fin
 use Rattle.pg_outside.specs.Inside.calls.ListedCalls.{ListedCalls, listed_calls}
 use Rattle.pg_outside.specs.Faults.{next_count}
-use Rattle.pg_outside.specs.declared.memory_sink.MemorySink.{MemorySink}
+use Rattle.pg_outside.specs.declared.memory.sink.MemorySink.{MemorySink}
 
 -- the bytes that were put
 abbrev pub sink_bytes : MemorySink → List ℕ

@@ -4,7 +4,7 @@ use Rattle.std.specs.Str.{bytes_eq}
 use Rattle.std.specs.FinMap as fin
 use Rattle.pg_outside.specs.Content.{FileMap, file_at}
 use Rattle.pg_outside.specs.Inside.NameFaults.{NoneFell, SameCounts}
-use Rattle.pg_outside.specs.declared.stored.StoredFile.{StoredFile}
+use Rattle.pg_outside.specs.declared.memory.stored.StoredFile.{StoredFile}
 
 -- whether the file has this name
 abbrev pub has_name : List ℕ → StoredFile → Bool

@@ -3,7 +3,7 @@ use Rattle.std.specs.Prelude.{◌≡◌, ℕ, List, Bool, cond, Option, Some, No
 use Rattle.pg_outside.specs.Content.{FileMap, FilesShown, file_at}
 use Rattle.pg_outside.specs.FilesCalls.{FilesCall}
 use Rattle.pg_outside.specs.Inside.memory.StoredFile.{file_map}
-use Rattle.pg_outside.specs.declared.quiet_files.QuietFiles.{QuietFiles}
+use Rattle.pg_outside.specs.declared.quiet.files.QuietFiles.{QuietFiles}
 
 -- the files that it stores, whether it tells them or not
 abbrev pub quiet_files_of : QuietFiles → FileMap

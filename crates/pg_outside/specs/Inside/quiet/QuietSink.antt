@@ -1,7 +1,7 @@
 -- What `QuietSink` shows: its bytes, where it tells them, and its room.
 use Rattle.std.specs.Prelude.{◌≡◌, ℕ, ◌+◌, ◌<◌, ◌≤◌, List, ◌++◌, length, cond, Option, Some, None, IfSome}
 use Rattle.pg_outside.specs.Content.{SinkShown}
-use Rattle.pg_outside.specs.declared.quiet_sink.QuietSink.{QuietSink}
+use Rattle.pg_outside.specs.declared.quiet.sink.QuietSink.{QuietSink}
 
 -- the bytes that were put, where it tells them
 abbrev pub told_text : QuietSink → Option (List ℕ)

@@ -1,14 +1,14 @@
 -- What is known when all rounds are done.
 use Rattle.std.specs.Prelude.{◌≡◌, ℕ, List}
 use Rattle.pg_select.specs.Windows.{Patterns}
-use Rattle.pg_prune.specs.declared.rounds.Finished.{Finished}
+use Rattle.pg_prune.specs.declared.rounds.KeptEntries.{KeptEntries}
 use Rattle.pg_prune.specs.Positions.{WordPosition}
 use Rattle.pg_prune.specs.Prunes.{rounds}
 use Rattle.pg_prune.specs.Inside.rounds.Picks.{picked_entries, IsKeptSoFar}
 
--- the entries that stay are those of all rounds, and the holders are theirs
-pub record IsFinished (positions : List WordPosition) (P : Patterns)
-    (stands : List (List ℕ)) (holders : List (List ℕ)) (f : Finished) : Type 0 where
+-- these are the entries that all rounds leave, and the holders are theirs
+pub record AreAllRounds (positions : List WordPosition) (P : Patterns)
+    (stands : List (List ℕ)) (holders : List (List ℕ)) (f : KeptEntries) : Type 0 where
   pub ready : IsKeptSoFar positions P stands holders f.kept.items
   pub done : rounds positions P
       ≡ record { patterns = picked_entries P f.kept.items; count = f.count }

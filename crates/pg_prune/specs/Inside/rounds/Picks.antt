@@ -17,8 +17,8 @@ entry_of P i = slice_index_or P i (([], 0), 0)
 abbrev pub picked_entries : Patterns → List ℕ → Patterns
 picked_entries P numbers = map (entry_of P) numbers
 
--- the numbers of the positions at which entries stand, and how many positions there are
-pub record IsGround (positions : List WordPosition) (P : Patterns)
+-- the numbers say at which of the positions each entry stands, and how many positions there are
+pub record ListsPositions (positions : List WordPosition) (P : Patterns)
     (stands : List (List ℕ)) (count : ℕ) : Type 0 where
   pub all : stands ≡ positions_of_entries positions P
   pub many : count ≡ length positions

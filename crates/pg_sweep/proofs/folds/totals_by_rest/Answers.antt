@@ -6,13 +6,13 @@ use Rattle.pg_sweep.proofs.folds.totals_by_rest.Goals as goal
 
 pub generate-requires-clause-signs : goal.generate-requires-clause-signs
 generate-requires-clause-signs g c =
-    let n = letters_of c.args.given.now.table.now + 1 in
+    let n = letters_of c.args.inputs.now.table.now + 1 in
     let greatest : (g.K.Made.Engine.meaning c.in_ok-engine.engine).signs ≡ n = ap (λ (m : Meaning). m.signs) c.in_ok-engine.ensures ∙ ap (λ k. k + 1) c.letters.ensures.value in
     subst (λ k. SignsAtMost k c.args.rest.now) (sym greatest) c.requires.rest
 
 pub totals-requires : goal.totals-requires
 totals-requires g c =
-    let n = letters_of c.args.given.now.table.now + 1 in
+    let n = letters_of c.args.inputs.now.table.now + 1 in
     let greatest : (g.K.Made.Engine.meaning c.generate.new.engine).signs ≡ n = c.in_ok-generate.ensures.signs ∙ ap (λ (m : Meaning). m.signs) c.in_ok-engine.ensures
     ∙ ap (λ k. k + 1) c.letters.ensures.value in
     subst (λ k. SignsAtMost k c.args.left_out.now) (sym greatest) c.requires.left_out

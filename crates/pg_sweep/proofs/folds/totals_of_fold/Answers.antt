@@ -3,23 +3,23 @@ use Rattle.pg_translate.specs.Alphabets.{letters_of}
 use Rattle.pg_dict.specs.Parts.{part_of}
 use Rattle.pg_dict.specs.Word.{Word}
 use Rattle.pg_dict.specs.Inside.SoundWords.{SignsAtMost}
-use Rattle.pg_sweep.specs.Inside.Given.{terms, rest_totals}
+use Rattle.pg_sweep.specs.Inside.Inputs.{terms, rest_totals}
 use Rattle.pg_sweep.proofs.Steps.{part_signs}
 use Rattle.pg_sweep.proofs.folds.totals_of_fold.Goals as goal
 
 pub totals_by_rest-requires-clause-rest : goal.totals_by_rest-requires-clause-rest
 totals_by_rest-requires-clause-rest g c =
-    let n = letters_of c.args.given.now.table.now + 1 in
-    subst (λ (ws : List Word). SignsAtMost n ws) (sym c.in_ok-rest.ensures.words) (part_signs n c.args.given.now.folds c.args.fold false 0 c.args.given.now.dictionary.now c.requires.signs.0)
+    let n = letters_of c.args.inputs.now.table.now + 1 in
+    subst (λ (ws : List Word). SignsAtMost n ws) (sym c.in_ok-rest.ensures.words) (part_signs n c.args.inputs.now.folds c.args.fold false 0 c.args.inputs.now.dictionary.now c.requires.signs.0)
 
 pub totals_by_rest-requires-clause-left_out : goal.totals_by_rest-requires-clause-left_out
 totals_by_rest-requires-clause-left_out g c =
-    let n = letters_of c.args.given.now.table.now + 1 in
-    subst (λ (ws : List Word). SignsAtMost n ws) (sym c.in_ok-left_out.ensures.words) (part_signs n c.args.given.now.folds c.args.fold true 0 c.args.given.now.dictionary.now c.requires.signs.0)
+    let n = letters_of c.args.inputs.now.table.now + 1 in
+    subst (λ (ws : List Word). SignsAtMost n ws) (sym c.in_ok-left_out.ensures.words) (part_signs n c.args.inputs.now.folds c.args.fold true 0 c.args.inputs.now.dictionary.now c.requires.signs.0)
 
 pub returns-clause-value : goal.returns-clause-value
 returns-clause-value g c =
-    let s = terms c.args.given.now in
+    let s = terms c.args.inputs.now in
     let p = c.args.params.now in
     let r = c.totals_by_rest.result in
     let trained = subst (λ (ws : List Word). IfOk r (λ sums. sums ≡ rest_totals s p ws c.in_ok-left_out.left_out)) c.in_ok-rest.ensures.words c.totals_by_rest.ensures.value in

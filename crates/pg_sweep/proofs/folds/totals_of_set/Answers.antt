@@ -1,6 +1,6 @@
 use Rattle.std.proofs.Common.{refl, arith}
 use Rattle.pg_sweep.specs.Sweeps.{fold_totals}
-use Rattle.pg_sweep.specs.Inside.Given.{terms}
+use Rattle.pg_sweep.specs.Inside.Inputs.{terms}
 use Rattle.pg_sweep.proofs.Steps.{totals_step}
 use Rattle.pg_sweep.proofs.folds.totals_of_set.Goals as goal
 
@@ -9,7 +9,7 @@ folds-init g c = record { sums = refl; small = (omega arith, omega arith, omega 
 
 pub folds-preserved : goal.folds-preserved
 folds-preserved g c = record {
-  sums = totals_step (fold_totals (terms c.args.given.now) c.args.params.now) c.folds.fold c.folds.sums c.in_ok-more.more c.folds.invariant.sums c.in_ok-more.ensures.value;
+  sums = totals_step (fold_totals (terms c.args.inputs.now) c.args.params.now) c.folds.fold c.folds.sums c.in_ok-more.more c.folds.invariant.sums c.in_ok-more.ensures.value;
   small = (
     omega (arith, c.folds.invariant.small.0, c.in_ok-more.ensures.small),
     omega (arith, c.folds.invariant.small.1, c.in_ok-more.ensures.small),

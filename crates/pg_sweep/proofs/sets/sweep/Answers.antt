@@ -6,7 +6,7 @@ use Rattle.pg_types.specs.declared.marks.Totals.{Totals}
 use Rattle.pg_sweep.specs.declared.rows.SweepRow.{SweepRow}
 use Rattle.pg_sweep.specs.Sweeps.{Terms, row_of, costs_of}
 use Rattle.pg_sweep.specs.Winners.{winner_of}
-use Rattle.pg_sweep.specs.Inside.Found.{Found}
+use Rattle.pg_sweep.specs.Inside.RowsAndWinner.{RowsAndWinner}
 use Rattle.pg_sweep.proofs.Steps.{map_more}
 use Rattle.pg_sweep.proofs.sets.sweep.Goals as goal
 
@@ -45,8 +45,8 @@ pub returns-clause-rows : goal.returns-clause-rows
 returns-clause-rows g c =
     let terms : Terms = record { table = c.args.table.now; words = c.args.dictionary.now; start = c.args.start.now; folds = c.args.folds } in
     let past : length c.args.sets.now ≤ c.sets.i = omega arith in
-    ap (λ (f : Found). f.rows) c.new.ensures ∙ c.sets.invariant ∙ ap (map (row_of terms c.args.bad c.args.missed)) (take_all c.sets.i c.args.sets.now past)
+    ap (λ (f : RowsAndWinner). f.rows) c.new.ensures ∙ c.sets.invariant ∙ ap (map (row_of terms c.args.bad c.args.missed)) (take_all c.sets.i c.args.sets.now past)
 
 pub returns-clause-winner : goal.returns-clause-winner
 returns-clause-winner g c =
-    ap (λ (f : Found). f.winner) c.new.ensures ∙ ap (λ (rows : List SweepRow). winner_of (costs_of rows)) (sym (ap (λ (f : Found). f.rows) c.new.ensures))
+    ap (λ (f : RowsAndWinner). f.winner) c.new.ensures ∙ ap (λ (rows : List SweepRow). winner_of (costs_of rows)) (sym (ap (λ (f : RowsAndWinner). f.rows) c.new.ensures))

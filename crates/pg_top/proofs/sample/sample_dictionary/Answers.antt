@@ -1,5 +1,5 @@
 use Rattle.std.proofs.Common.{◌∙◌, sym, subst}
-use Rattle.pg_translate.specs.Inside.Rules.{KeepsRules}
+use Rattle.pg_translate.specs.Inside.tables.Rules.{KeepsRules}
 use Rattle.pg_dict.specs.Words.{words}
 use Rattle.pg_top.proofs.sample.SampleReads.{only_memory, dictionary_is}
 use Rattle.pg_top.proofs.sample.SampleWords.{sample_accepted}

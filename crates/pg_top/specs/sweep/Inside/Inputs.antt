@@ -5,7 +5,7 @@ use Rattle.pg_translate.specs.Alphabets.{letters_of}
 use Rattle.pg_dict.specs.Inside.SoundWords.{SignsAtMost}
 use Rattle.pg_patterns.specs.Inside.PatternMaps.{SignsUpTo}
 use Rattle.pg_sweep.specs.Sweeps.{Terms, row_of, costs_of}
-use Rattle.pg_sweep.specs.Inside.Found.{Found}
+use Rattle.pg_sweep.specs.Inside.RowsAndWinner.{RowsAndWinner}
 use Rattle.pg_sweep.specs.declared.rows.SweepRow.{SweepRow}
 use Rattle.pg_words.specs.Requests.{SweepRequest}
 use Rattle.pg_top.specs.Outcomes.{Outcome}
@@ -22,7 +22,7 @@ pub record HasSigns (i : SweepInputs) : Type 0 where
   pub start : SignsUpTo (letters_of i.table + 1) i.start
 
 -- the line of a sweep
-abbrev pub line_of_sweep : Found → List ℕ
+abbrev pub line_of_sweep : RowsAndWinner → List ℕ
 line_of_sweep found = winner_line found.winner
     (slice_index (costs_of found.rows) (found.winner - 1))
 

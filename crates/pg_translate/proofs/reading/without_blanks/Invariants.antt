@@ -1,5 +1,5 @@
 use Rattle.std.proofs.Common.{◌≡◌, ◌≤◌, length, take}
-use Rattle.pg_translate.specs.Inside.Checks.{without_blanks}
+use Rattle.pg_translate.specs.Inside.tables.Checks.{without_blanks}
 use Rattle.pg_translate.proofs.reading.without_blanks.Given as goal
 
 abbrev pub invariant-blanks : goal.invariant-blanks

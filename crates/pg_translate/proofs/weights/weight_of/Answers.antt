@@ -5,7 +5,8 @@ use Rattle.std.specs.Char.{is_ascii_digit}
 use Rattle.pg_translate.specs.Tokens.{weight_at}
 use Rattle.pg_translate.proofs.WeightDigits.{weight_end, weight_from, weight_behind}
 use Rattle.pg_translate.proofs.weights.weight_of.Goals as goal
-use Rattle.pg_translate.proofs.weights.weight_of.Goals.{else-size-text-via-then-size-text+then-text-size-eq125+else-is_weight, else-size-text-via-then-size-text+else-text-size-eq125, else-size-text-via-else-size-text, then-digits-test+then-size-le-WEIGHT_DIGITS_MAX+else-is_ascii_digit, then-digits-test+else-size-le-WEIGHT_DIGITS_MAX, else-digits-test}
+use Rattle.pg_translate.proofs.weights.weight_of.Goals.{else-size-text-via-then-size-text+then-text-size-eq125+else-is_weight, else-size-text-via-then-size-text+else-text-size-eq125, else-size-text-via-else-size-text}
+use Rattle.pg_translate.proofs.weights.weight_of.Goals.{then-digits-test+then-size-le-WEIGHT_DIGITS_MAX+else-is_ascii_digit, then-digits-test+else-size-le-WEIGHT_DIGITS_MAX, else-digits-test}
 
 -- behind the brace
 weight_begins : (text : List ℕ) → 0 < length text → get_or text 0 0 ≡ 123 → weight_from 4 0 1 (drop 1 text) ≡ weight_at text

@@ -1,6 +1,6 @@
 use Rattle.std.proofs.Common.{◌≡◌, ◌++◌, ◌∷◌, [], ℕ, List, length, ap, length-append, ◌∙◌}
 use Rattle.std.proofs.lemmas.List.{length_push}
-use Rattle.pg_dict.specs.declared.store.Stored.{Stored}
+use Rattle.pg_dict.specs.declared.store.StoredWord.{StoredWord}
 use Rattle.pg_dict.specs.declared.store.Store.{Store}
 use Rattle.pg_dict.specs.Inside.Store.{stored_words, IsSound}
 use Rattle.pg_dict.specs.Inside.Lent.{lent_word}
@@ -21,7 +21,7 @@ after c = record {
 -- the words of the store are those before, and this one
 stored : (c : goal.In_ok-push) → c.push.new.self.items
     ≡ c.args.self.now.words.items ++ record { start = c.len-start.result; end = c.len-end.result; weight = c.args.word.now.weight } ∷ []
-stored c = c.in_ok-push.ensures.items ∙ ap (λ (w : Stored). c.args.self.now.words.items ++ w ∷ []) c.new.ensures
+stored c = c.in_ok-push.ensures.items ∙ ap (λ (w : StoredWord). c.args.self.now.words.items ++ w ∷ []) c.new.ensures
 
 -- the word is there, and the store stays sound
 pushed : (c : goal.In_ok-push) → (stored_words (after c) ≡ stored_words c.args.self.now ++ lent_word c.args.word.now ∷ []) × IsSound (after c)
@@ -46,5 +46,5 @@ returns-clause-signs c = ap (λ (xs : List ℕ). length xs) c.in_ok-extend_from_
 
 pub returns-clause-count : goal.returns-clause-count
 returns-clause-count c =
-    ap (λ (ws : List Stored). length ws) (stored c) ∙ length_push c.args.self.now.words.items
+    ap (λ (ws : List StoredWord). length ws) (stored c) ∙ length_push c.args.self.now.words.items
     (record { start = c.len-start.result; end = c.len-end.result; weight = c.args.word.now.weight })

@@ -27,8 +27,10 @@ loop-init g c = record {
 pub returns-in-Missing : goal.returns-in-Missing
 returns-in-Missing g c = record {
   same = keeps_both _ _ _ c.loop.invariant.same c.look.ensures.same;
-  found = let entry = rw (c.as_str.ensures.value, c.in-Missing.is) at c.in_ok-look.ensures.entry in
-      (c.in_ok-look.ensures.ok_failures ∙ c.loop.invariant.failures, stands_none _ _ _ _ _ _ _ c.loop.invariant.reached c.look.ensures.same entry c.make_found.ensures.name c.make_found.ensures.file);
+  found = let entry = rw (c.as_str.ensures.value, c.in-Missing.is) at c.in_ok-look.ensures.entry in (
+    c.in_ok-look.ensures.ok_failures ∙ c.loop.invariant.failures,
+    stands_none _ _ _ _ _ _ _ c.loop.invariant.reached c.look.ensures.same entry c.make_real_name.ensures.name c.make_real_name.ensures.file,
+  );
   cause = tt;
 }
 
@@ -38,7 +40,7 @@ returns-in-File g c = record {
   found = let entry = rw (c.as_str.ensures.value, c.in-File.is) at c.in_ok-look.ensures.entry in (
     c.in_ok-look.ensures.ok_failures ∙ c.loop.invariant.failures,
     stands_some _ _ _ c.in-File.id _ _ _ _ c.loop.invariant.reached c.look.ensures.same
-        entry c.make_found-in-File.ensures.name c.make_found-in-File.ensures.file,
+        entry c.make_real_name-in-File.ensures.name c.make_real_name-in-File.ensures.file,
   );
   cause = tt;
 }

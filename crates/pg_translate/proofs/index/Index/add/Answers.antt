@@ -1,7 +1,7 @@
 use Rattle.std.proofs.Common.{refl, ap, ◌∙◌, ◌++◌, ◌∷◌, [], List, map}
 use Rattle.std.proofs.lemmas.List.{map_push}
 use Rattle.pg_translate.specs.declared.index.Spelling.{Spelling}
-use Rattle.pg_translate.specs.Inside.Fronts.{pair_of}
+use Rattle.pg_translate.specs.Inside.spellings.Fronts.{pair_of}
 use Rattle.pg_translate.proofs.Additions.{add_index}
 use Rattle.pg_translate.proofs.index.Index.add.Goals as goal
 

@@ -1,6 +1,6 @@
 use Rattle.std.proofs.Common.{◌≡◌, ◌+◌, ◌-◌, ◌∷◌, [], max, ap, ◌∙◌, arith}
-use Rattle.pg_translate.specs.Inside.FirstSpellings.{letters_in}
-use Rattle.pg_translate.specs.Inside.Fronts.{pairs}
+use Rattle.pg_translate.specs.Inside.spellings.FirstSpellings.{letters_in}
+use Rattle.pg_translate.specs.Inside.spellings.Fronts.{pairs}
 use Rattle.pg_translate.proofs.Additions.{letters_in-push}
 use Rattle.pg_translate.proofs.Defaults.{default_fits, default_more}
 use Rattle.pg_translate.proofs.index.Index.add_default.Goals as goal

@@ -3,7 +3,7 @@ use Rattle.std.proofs.lemmas.Bool.{lt-ltb}
 use Rattle.std.proofs.lemmas.List.{take_all}
 use Rattle.pg_translate.specs.declared.index.Front.{Front}
 use Rattle.pg_translate.specs.declared.index.Front.TheVariants.{Inside, Whole}
-use Rattle.pg_translate.specs.Inside.Fronts.{pairs, front_in}
+use Rattle.pg_translate.specs.Inside.spellings.Fronts.{pairs, front_in}
 use Rattle.pg_translate.proofs.Walks.{code_room, walk_front, walk_more, clash_miss, clash_front, clash_whole, clash_inside}
 use Rattle.pg_translate.proofs.index.Index.clashes.Goals as goal
 

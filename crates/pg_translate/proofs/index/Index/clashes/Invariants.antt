@@ -1,6 +1,6 @@
 use Rattle.std.proofs.Common.{◌≡◌, ◌<◌, Some, take}
 use Rattle.pg_translate.specs.declared.index.Front.TheVariants.{Inside}
-use Rattle.pg_translate.specs.Inside.Fronts.{front_in, pairs}
+use Rattle.pg_translate.specs.Inside.spellings.Fronts.{front_in, pairs}
 use Rattle.pg_translate.proofs.Walks.{HasWalked}
 use Rattle.pg_translate.proofs.index.Index.clashes.Given as goal
 

@@ -1,5 +1,5 @@
 use Rattle.std.proofs.Common.{◌≡◌}
-use Rattle.pg_translate.specs.Inside.Fronts.{pairs, IsIndex}
+use Rattle.pg_translate.specs.Inside.spellings.Fronts.{pairs, IsIndex}
 use Rattle.pg_translate.proofs.Defaults.{defaults}
 use Rattle.pg_translate.proofs.index.Index.default_letters.Given as goal
 

@@ -1,6 +1,6 @@
 use Rattle.std.proofs.Common.{◌≡◌, ◌<◌, ◌+◌, ◌*◌, ◌==◌, ◌^◌, if◌then◌else◌, get_or, Some, arith, subst}
 use Rattle.pg_translate.specs.declared.index.Front.{Front}
-use Rattle.pg_translate.specs.Inside.Fronts.{front_at}
+use Rattle.pg_translate.specs.Inside.spellings.Fronts.{front_at}
 use Rattle.pg_translate.proofs.Walks.{code_room}
 use Rattle.pg_translate.proofs.Entries.{enter_more, enter_end}
 use Rattle.pg_translate.proofs.index.Index.enter.Goals as goal

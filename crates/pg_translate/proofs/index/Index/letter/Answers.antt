@@ -1,8 +1,8 @@
 use Rattle.std.proofs.Common.{◌≡◌, ℕ, ◌<◌, ◌+◌, ◌^◌, min, length, take, Some, None, arith, sym, ap, subst, ◌∙◌}
 use Rattle.pg_translate.specs.declared.index.Front.{Front}
 use Rattle.pg_translate.specs.declared.index.Front.TheVariants.{Whole}
-use Rattle.pg_translate.specs.Inside.Members.{IsAmong}
-use Rattle.pg_translate.specs.Inside.Fronts.{pairs, front_in}
+use Rattle.pg_translate.specs.Inside.spellings.Members.{IsAmong}
+use Rattle.pg_translate.specs.Inside.spellings.Fronts.{pairs, front_in}
 use Rattle.pg_translate.proofs.Fronts.{whole_in}
 use Rattle.pg_translate.proofs.Walks.{NoneWithin, code_room, walk_front, walk_more, walk_hit, walk_miss, walk_end, sign_within}
 use Rattle.pg_translate.proofs.index.Index.letter.Goals as goal

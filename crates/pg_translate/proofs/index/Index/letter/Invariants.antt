@@ -1,4 +1,4 @@
-use Rattle.pg_translate.specs.Inside.Fronts.{pairs}
+use Rattle.pg_translate.specs.Inside.spellings.Fronts.{pairs}
 use Rattle.pg_translate.proofs.Walks.{HasWalked}
 use Rattle.pg_translate.proofs.index.Index.letter.Given as goal
 

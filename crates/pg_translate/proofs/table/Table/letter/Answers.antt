@@ -1,5 +1,5 @@
 use Rattle.std.proofs.Common.{subst}
-use Rattle.pg_translate.specs.Inside.Rules.{KeepsRules}
+use Rattle.pg_translate.specs.Inside.tables.Rules.{KeepsRules}
 use Rattle.pg_translate.proofs.RuleLaws.{keeps}
 use Rattle.pg_translate.proofs.Unbroken.{some_letter_begun}
 use Rattle.pg_translate.proofs.table.Table.letter.Goals as goal

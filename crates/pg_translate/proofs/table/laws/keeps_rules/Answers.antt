@@ -1,5 +1,5 @@
 use Rattle.std.proofs.Common.{subst}
-use Rattle.pg_translate.specs.Inside.Rules.{KeepsRules}
+use Rattle.pg_translate.specs.Inside.tables.Rules.{KeepsRules}
 use Rattle.pg_translate.proofs.RuleLaws.{keeps}
 use Rattle.pg_translate.proofs.table.laws.keeps_rules.Goals as goal
 

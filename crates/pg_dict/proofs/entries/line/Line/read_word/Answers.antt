@@ -3,7 +3,7 @@ use Rattle.std.proofs.lemmas.List.{length_push}
 use Rattle.pg_types.specs.declared.limits.TheConstants.{EDGE}
 use Rattle.pg_translate.specs.Alphabets.{letters_of}
 use Rattle.pg_dict.specs.declared.store.Store.{Store}
-use Rattle.pg_dict.specs.declared.store.Stored.{Stored}
+use Rattle.pg_dict.specs.declared.store.StoredWord.{StoredWord}
 use Rattle.pg_dict.specs.Inside.Lines.LineStarts.{word_reading}
 use Rattle.pg_dict.specs.Inside.Lines.Entries.{with_word}
 use Rattle.pg_dict.specs.Inside.Store.{stored_words, IsSound}
@@ -18,7 +18,7 @@ after c = record { signs = c.fill.new.store.signs; hyphens = c.fill.new.store.hy
 -- the words of the store are those before, and this one
 stored : (c : goal.In_ok-push-3) → c.push-3.new.self.items
     ≡ c.fill.new.store.words.items ++ record { start = c.len-start.result; end = c.len-end.result; weight = c.args.self.now.weight } ∷ []
-stored c = c.in_ok-push-3.ensures.items ∙ ap (λ (w : Stored). c.fill.new.store.words.items ++ w ∷ []) c.new.ensures
+stored c = c.in_ok-push-3.ensures.items ∙ ap (λ (w : StoredWord). c.fill.new.store.words.items ++ w ∷ []) c.new.ensures
 
 -- the word is entered, and the store stays sound
 entered : (c : goal.In_ok-push-3) → (with_word (stored_words c.args.store.now)
@@ -30,7 +30,7 @@ entered c =
     (rw (c.plain.ensures.mark, c.plain.ensures.weight) at c.in_ok-push.ensures.ok)
     (rw (c.plain-2.ensures.mark, c.plain-2.ensures.weight) at c.in_ok-push-2.ensures.ok)
     c.in_ok-fill.ensures.fills
-    (stored c ∙ ap (λ (words : List Stored). words ++ record { start = c.len-start.result; end = c.len-end.result; weight = c.args.self.now.weight } ∷ [])
+    (stored c ∙ ap (λ (words : List StoredWord). words ++ record { start = c.len-start.result; end = c.len-end.result; weight = c.args.self.now.weight } ∷ [])
     (c.fill.ensures.words ∙ c.push-2.ensures.words ∙ c.push.ensures.words))
     (c.len-start.ensures ∙ c.args.store.now.signs.ok.0)
     (c.len-end.ensures ∙ c.fill.new.store.signs.ok.0)
@@ -59,7 +59,7 @@ pub returns-clause-counted : goal.returns-clause-counted
 returns-clause-counted c =
     let first = pushed_length c.args.store.now c.push.new.self c.plain.result.mark c.plain.result.weight EDGE c.in_ok-push.ensures.ok in
     let second = pushed_length c.push.new.self c.push-2.new.self c.plain-2.result.mark c.plain-2.result.weight c.args.sign c.in_ok-push-2.ensures.ok in
-    let kept = ap (λ (ws : List Stored). length ws) (c.fill.ensures.words ∙ c.push-2.ensures.words ∙ c.push.ensures.words) in
-    let more = ap (λ (ws : List Stored). length ws) (stored c)
+    let kept = ap (λ (ws : List StoredWord). length ws) (c.fill.ensures.words ∙ c.push-2.ensures.words ∙ c.push.ensures.words) in
+    let more = ap (λ (ws : List StoredWord). length ws) (stored c)
     ∙ length_push c.fill.new.store.words.items (record { start = c.len-start.result; end = c.len-end.result; weight = c.args.self.now.weight }) in
     omega (arith, c.in_ok-fill.ensures.counted.1)

@@ -1,5 +1,0 @@
-use Rattle.std.proofs.Common.{rules}
-use Rattle.pg_dict.proofs.entries.letters.At.behind_the_first.Goals as goal
-
-pub returns-clause-room : goal.returns-clause-room
-returns-clause-room c = search rules

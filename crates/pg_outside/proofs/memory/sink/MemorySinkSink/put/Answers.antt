@@ -1,0 +1,43 @@
+use Rattle.std.proofs.Common.{refl, ap, arith, rules}
+use Rattle.pg_outside.specs.Inside.calls.ListedCalls.{listed_calls}
+use Rattle.pg_outside.proofs.Results.{on_err, no_value}
+use Rattle.pg_outside.proofs.ListedCalls.{not_listed, not_unlisted, not_kept}
+use Rattle.pg_outside.proofs.memory.sink.MemorySinkSink.put.Goals as goal
+
+pub returns-in-None : goal.returns-in-None
+returns-in-None c = record {
+  whole = c.append.ensures.bytes;
+  part = tt;
+  later = omega arith;
+  failed = tt;
+  puts = c.next-plan.ensures.calls;
+  listed = ap listed_calls c.next-plan.ensures.listed;
+  room = c.append.ensures.room;
+  listed_fails = λ listed. absurd (not_listed _ _ _ c.next-plan.ensures.plan c.in-None.is listed);
+  past_fails = search rules;
+  past = search rules;
+  keeps_none = λ kept. absurd (not_kept _ _ _ _ c.next-plan.ensures.plan c.in-None.is kept);
+  keeps = λ keep kept. absurd (not_kept _ _ _ _ c.next-plan.ensures.plan c.in-None.is kept);
+  succeeds = search rules;
+  ok_faults = refl;
+  by_one = omega arith;
+}
+
+pub returns-in-Some : goal.returns-in-Some
+returns-in-Some c = record {
+  whole = no_value _ c.fail-in-Some.result c.fail-in-Some.ensures.failed;
+  part = search rules;
+  later = c.fail-in-Some.ensures.later;
+  failed = on_err c.fail-in-Some.result (omega (arith, c.fail-in-Some.ensures.faults));
+  puts = search rules;
+  listed = search rules;
+  room = search rules;
+  listed_fails = λ _. c.fail-in-Some.ensures.failed;
+  past_fails = λ _. c.fail-in-Some.ensures.failed;
+  past = search rules;
+  keeps_none = search rules;
+  keeps = search rules;
+  succeeds = λ unlisted. absurd (not_unlisted _ _ _ _ c.next-plan.ensures.plan c.in-Some.is unlisted);
+  ok_faults = no_value _ c.fail-in-Some.result c.fail-in-Some.ensures.failed;
+  by_one = c.fail-in-Some.ensures.by_one;
+}

@@ -1,0 +1,4 @@
+//! Files and a sink in memory that never fail.
+
+pub mod files;
+pub mod sink;

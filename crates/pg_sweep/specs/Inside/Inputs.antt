@@ -1,0 +1,42 @@
+-- What the runs of a sweep share.
+use Rattle.std.specs.Prelude.{ℕ, ◌+◌, ◌*◌, ◌≤◌, List, map}
+use Rattle.std.specs.List.{range_with_len}
+use Rattle.pg_types.specs.Parameters.{Parameters}
+use Rattle.pg_types.specs.declared.marks.Totals.{Totals}
+use Rattle.pg_translate.specs.Alphabets.{letters_of}
+use Rattle.pg_dict.specs.Word.{Word}
+use Rattle.pg_dict.specs.Inside.SoundWords.{SignsAtMost}
+use Rattle.pg_driver.specs.Accounts.{totals_by}
+use Rattle.pg_driver.specs.Traces.{trace, final_patterns, source_of}
+use Rattle.pg_patterns.specs.Inside.PatternMaps.{SignsUpTo}
+use Rattle.pg_types.specs.Inside.Limits.{sums_limit}
+use Rattle.pg_sweep.specs.Sweeps.{Terms, fold_totals, total_of}
+use Rattle.pg_sweep.specs.declared.folds.SweepInputs.{SweepInputs}
+
+-- the terms of a sweep
+abbrev pub terms : SweepInputs → Terms
+terms g = record {
+  table = g.table.now;
+  words = g.dictionary.now;
+  start = g.start.now;
+  folds = g.folds;
+}
+
+-- the totals of words that were left out, by the patterns that are selected from the rest
+abbrev pub rest_totals : Terms → Parameters → List Word → List Word → Totals
+rest_totals s set rest left_out = totals_by (source_of s.table left_out)
+    (final_patterns s.start (trace (source_of s.table rest) set s.start))
+
+-- the totals of the first folds together
+abbrev pub totals_of_folds : Terms → Parameters → ℕ → Totals
+totals_of_folds s set count = total_of (map (fold_totals s set) (range_with_len 0 count))
+
+-- the signs of the words and of the patterns are signs of the table
+abbrev pub HasSigns : SweepInputs → Type 0
+HasSigns g = SignsAtMost (letters_of g.table.now + 1) g.dictionary.now
+    × SignsUpTo (letters_of g.table.now + 1) g.start.now
+
+-- totals are no greater than those of this many folds can be
+abbrev pub IsSmallFor : ℕ → Totals → Type 0
+IsSmallFor folds t = (t.good ≤ folds * sums_limit)
+    × (t.bad ≤ folds * sums_limit) × (t.missed ≤ folds * sums_limit)

@@ -1,0 +1,6 @@
+-- Laws of changes and links, by which a disk in memory knows that it is plain.
+pub mod Cases
+pub mod Following
+pub mod Nodes
+pub mod Changed
+pub mod Plain
