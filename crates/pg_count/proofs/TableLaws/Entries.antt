@@ -62,7 +62,8 @@ pub told_back : {Y : Type 0} (tell : ℕ → Option (List ℕ × Y)) (row : List
 told_back tell [] u y at = absurd (let no : None ≡ Some y = at in cc)
 told_back {Y} tell (x ∷ row) u y at = by (λ e. (let t = told_back tell row u y e in (suc t.0, t.1, t.2, t.3))) (tell x) refl at
   where
-    by : (find order u (filter_map tell row) ≡ Some y → IsToldIn tell (x ∷ row) u y) → (o : Option (List ℕ × Y)) → tell x ≡ o → find order u (cons_option o (filter_map tell row)) ≡ Some y → IsToldIn tell (x ∷ row) u y
+    by : (find order u (filter_map tell row) ≡ Some y → IsToldIn tell (x ∷ row) u y) → (o : Option (List ℕ × Y)) → tell x ≡ o
+        → find order u (cons_option o (filter_map tell row)) ≡ Some y → IsToldIn tell (x ∷ row) u y
     by later None is at = later at
     by later (Some e) is at = elim (equal_or_not u e.0) [
       | inl same ↦

@@ -23,73 +23,83 @@ make_room-requires c =
 pub invariant_of-self : goal.invariant_of-self
 invariant_of-self c =
     let t = c.self.inside in
-    room_is t.numbers.items t.first t.windows.items t.tallies.items t.signs t.windows.len c.self.invariant c.make_room.new.numbers.items c.make_room.ensures.kept c.make_room.ensures.back
+    let more = c.make_room.new.numbers.items in
+    room_is t.numbers.items t.first t.windows.items t.tallies.items t.signs t.windows.len c.self.invariant more c.make_room.ensures.kept c.make_room.ensures.back
 
 pub returns-in_err-make_room-clause-err : goal.returns-in_err-make_room-clause-err
 returns-in_err-make_room-clause-err c =
     let err = err_from_is_err_and c.from_residual.result c.from_residual.ensures.1 in
     let t = c.self.inside in
+    let more = c.make_room.new.numbers.items in
     rw (err.1)
-    (room_counting t.numbers.items t.first t.windows.items t.tallies.items t.signs t.windows.len c.self.invariant c.make_room.new.numbers.items c.make_room.ensures.kept c.make_room.ensures.back ∙ c.self.view_is)
+    (room_counting t.numbers.items t.first t.windows.items t.tallies.items t.signs t.windows.len c.self.invariant more c.make_room.ensures.kept c.make_room.ensures.back ∙ c.self.view_is)
 
 pub invariant_of-self-in_err-push : goal.invariant_of-self-in_err-push
 invariant_of-self-in_err-push c =
     let t = c.self.inside in
-    subst (λ (l : Listed). IsTable c.make_room.new.numbers.items t.first l.items t.tallies.items t.signs l.len) (sym c.in_err-push.ensures.err)
-    (room_is t.numbers.items t.first t.windows.items t.tallies.items t.signs t.windows.len c.self.invariant c.make_room.new.numbers.items c.make_room.ensures.kept c.make_room.ensures.back)
+    let more = c.make_room.new.numbers.items in
+    subst (λ (l : Listed). IsTable more t.first l.items t.tallies.items t.signs l.len) (sym c.in_err-push.ensures.err)
+    (room_is t.numbers.items t.first t.windows.items t.tallies.items t.signs t.windows.len c.self.invariant more c.make_room.ensures.kept c.make_room.ensures.back)
 
 pub returns-in_err-push-clause-err : goal.returns-in_err-push-clause-err
 returns-in_err-push-clause-err c =
     let err = err_from_is_err_and c.from_residual-in_err-push.result c.from_residual-in_err-push.ensures.1 in
     let t = c.self.inside in
+    let more = c.make_room.new.numbers.items in
     rw (err.1)
-    (ap (λ (l : Listed). table_counting c.make_room.new.numbers.items t.first l.items t.tallies.items t.signs l.len) c.in_err-push.ensures.err
-    ∙ room_counting t.numbers.items t.first t.windows.items t.tallies.items t.signs t.windows.len c.self.invariant c.make_room.new.numbers.items c.make_room.ensures.kept c.make_room.ensures.back ∙ c.self.view_is)
+    (ap (λ (l : Listed). table_counting more t.first l.items t.tallies.items t.signs l.len) c.in_err-push.ensures.err
+    ∙ room_counting t.numbers.items t.first t.windows.items t.tallies.items t.signs t.windows.len c.self.invariant more c.make_room.ensures.kept c.make_room.ensures.back ∙ c.self.view_is)
 
 pub invariant_of-self-in-Ok : goal.invariant_of-self-in-Ok
 invariant_of-self-in-Ok c =
     let t = c.self.inside in
-    subst (λ k. IsTable (set c.make_room.new.numbers.items c.index_of-index.result c.in-Ok.in_table) t.first c.push.new.self.items c.push_sums.new.tallies.items t.signs k)
+    let more = c.make_room.new.numbers.items in
+    subst (λ k. IsTable (set more c.index_of-index.result c.in-Ok.in_table) t.first c.push.new.self.items c.push_sums.new.tallies.items t.signs k)
     (sym (ap (λ (l : Listed). l.len) c.in_ok-push.ensures.ok))
-    (new_is c.make_room.new.numbers.items t.first t.windows.items t.tallies.items t.signs t.windows.len
-    (room_is t.numbers.items t.first t.windows.items t.tallies.items t.signs t.windows.len c.self.invariant c.make_room.new.numbers.items c.make_room.ensures.kept c.make_room.ensures.back)
+    (new_is more t.first t.windows.items t.tallies.items t.signs t.windows.len
+    (room_is t.numbers.items t.first t.windows.items t.tallies.items t.signs t.windows.len c.self.invariant more c.make_room.ensures.kept c.make_room.ensures.back)
     c.args.window.now c.args.sums (c.requires.len ∙ sym (ap (λ (d : Counting). d.len) c.self.view_is))
     (subst (λ (d : Counting). SignsWithin d.signs c.args.window.now) (sym c.self.view_is) c.requires.signs)
-    (ap (find order c.args.window.now) (room_counts t.numbers.items t.first t.windows.items t.tallies.items t.signs t.windows.len c.self.invariant.tabled c.make_room.new.numbers.items c.make_room.ensures.kept c.make_room.ensures.back)
+    (ap (find order c.args.window.now) (room_counts t.numbers.items t.first t.windows.items t.tallies.items t.signs t.windows.len c.self.invariant.tabled more c.make_room.ensures.kept
+    c.make_room.ensures.back)
     ∙ ap (λ (d : Counting). counted_sums d.counted.counts c.args.window.now) c.self.view_is ∙ c.requires.new)
-    (subst (λ i. i < length c.make_room.new.numbers.items) c.index_of-index.ensures.is c.in_ok-make_room.ensures.room)
+    (subst (λ i. i < length more) c.index_of-index.ensures.is c.in_ok-make_room.ensures.room)
     c.index_of-index.result c.in-Ok.in_table c.push.new.self.items c.push_sums.new.tallies.items
     c.index_of-index.ensures.is c.in-Ok.ensures.number (ap (λ (l : Listed). l.items) c.in_ok-push.ensures.ok) c.in-Ok.ensures.items c.in-Ok.ensures.few)
 
 pub invariant_of-self-in-Err : goal.invariant_of-self-in-Err
 invariant_of-self-in-Err c =
     let t = c.self.inside in
+    let more = c.make_room.new.numbers.items in
     let same = put_back t.windows c.push.new.self c.pop.new.self c.args.window.now c.in_ok-push.ensures.ok c.pop.ensures in
-    subst (λ ts. IsTable c.make_room.new.numbers.items t.first c.pop.new.self.items ts t.signs c.pop.new.self.len) (sym c.in-Err.ensures.err)
-    (subst (λ (l : Listed). IsTable c.make_room.new.numbers.items t.first l.items t.tallies.items t.signs l.len) (sym same)
-    (room_is t.numbers.items t.first t.windows.items t.tallies.items t.signs t.windows.len c.self.invariant c.make_room.new.numbers.items c.make_room.ensures.kept c.make_room.ensures.back))
+    subst (λ ts. IsTable more t.first c.pop.new.self.items ts t.signs c.pop.new.self.len) (sym c.in-Err.ensures.err)
+    (subst (λ (l : Listed). IsTable more t.first l.items t.tallies.items t.signs l.len) (sym same)
+    (room_is t.numbers.items t.first t.windows.items t.tallies.items t.signs t.windows.len c.self.invariant more c.make_room.ensures.kept c.make_room.ensures.back))
 
 pub returns-in-Ok-clause-ok : goal.returns-in-Ok-clause-ok
 returns-in-Ok-clause-ok c =
     let t = c.self.inside in
-    ap (table_counting (set c.make_room.new.numbers.items c.index_of-index.result c.in-Ok.in_table) t.first c.push.new.self.items c.push_sums.new.tallies.items t.signs)
+    let more = c.make_room.new.numbers.items in
+    ap (table_counting (set more c.index_of-index.result c.in-Ok.in_table) t.first c.push.new.self.items c.push_sums.new.tallies.items t.signs)
     (ap (λ (l : Listed). l.len) c.in_ok-push.ensures.ok)
-    ∙ new_counting c.make_room.new.numbers.items t.first t.windows.items t.tallies.items t.signs t.windows.len
-    (room_is t.numbers.items t.first t.windows.items t.tallies.items t.signs t.windows.len c.self.invariant c.make_room.new.numbers.items c.make_room.ensures.kept c.make_room.ensures.back)
+    ∙ new_counting more t.first t.windows.items t.tallies.items t.signs t.windows.len
+    (room_is t.numbers.items t.first t.windows.items t.tallies.items t.signs t.windows.len c.self.invariant more c.make_room.ensures.kept c.make_room.ensures.back)
     c.args.window.now c.args.sums (c.requires.len ∙ sym (ap (λ (d : Counting). d.len) c.self.view_is))
     (subst (λ (d : Counting). SignsWithin d.signs c.args.window.now) (sym c.self.view_is) c.requires.signs)
-    (ap (find order c.args.window.now) (room_counts t.numbers.items t.first t.windows.items t.tallies.items t.signs t.windows.len c.self.invariant.tabled c.make_room.new.numbers.items c.make_room.ensures.kept c.make_room.ensures.back)
+    (ap (find order c.args.window.now) (room_counts t.numbers.items t.first t.windows.items t.tallies.items t.signs t.windows.len c.self.invariant.tabled more c.make_room.ensures.kept
+    c.make_room.ensures.back)
     ∙ ap (λ (d : Counting). counted_sums d.counted.counts c.args.window.now) c.self.view_is ∙ c.requires.new)
-    (subst (λ i. i < length c.make_room.new.numbers.items) c.index_of-index.ensures.is c.in_ok-make_room.ensures.room)
+    (subst (λ i. i < length more) c.index_of-index.ensures.is c.in_ok-make_room.ensures.room)
     c.index_of-index.result c.in-Ok.in_table c.push.new.self.items c.push_sums.new.tallies.items
     c.index_of-index.ensures.is c.in-Ok.ensures.number (ap (λ (l : Listed). l.items) c.in_ok-push.ensures.ok) c.in-Ok.ensures.items c.in-Ok.ensures.few
     ∙ ap (λ (d : Counting). record d { counted = record { counts = put order c.args.window.now c.args.sums d.counted.counts; windows = d.counted.windows ++ c.args.window.now ∷ [] } })
-    (room_counting t.numbers.items t.first t.windows.items t.tallies.items t.signs t.windows.len c.self.invariant c.make_room.new.numbers.items c.make_room.ensures.kept c.make_room.ensures.back ∙ c.self.view_is)
+    (room_counting t.numbers.items t.first t.windows.items t.tallies.items t.signs t.windows.len c.self.invariant more c.make_room.ensures.kept c.make_room.ensures.back ∙ c.self.view_is)
 
 pub returns-in-Err-clause-err : goal.returns-in-Err-clause-err
 returns-in-Err-clause-err c =
     let t = c.self.inside in
+    let more = c.make_room.new.numbers.items in
     let same = put_back t.windows c.push.new.self c.pop.new.self c.args.window.now c.in_ok-push.ensures.ok c.pop.ensures in
-    ap (λ ts. table_counting c.make_room.new.numbers.items t.first c.pop.new.self.items ts t.signs c.pop.new.self.len) c.in-Err.ensures.err
-    ∙ ap (λ (l : Listed). table_counting c.make_room.new.numbers.items t.first l.items t.tallies.items t.signs l.len) same
-    ∙ room_counting t.numbers.items t.first t.windows.items t.tallies.items t.signs t.windows.len c.self.invariant c.make_room.new.numbers.items c.make_room.ensures.kept c.make_room.ensures.back ∙ c.self.view_is
+    ap (λ ts. table_counting more t.first c.pop.new.self.items ts t.signs c.pop.new.self.len) c.in-Err.ensures.err
+    ∙ ap (λ (l : Listed). table_counting more t.first l.items t.tallies.items t.signs l.len) same
+    ∙ room_counting t.numbers.items t.first t.windows.items t.tallies.items t.signs t.windows.len c.self.invariant more c.make_room.ensures.kept c.make_room.ensures.back ∙ c.self.view_is

@@ -29,8 +29,10 @@ returns-clause-some c =
     (c.requires.len ∙ sym (ap (λ (d : Counting). d.len) c.self.view_is)) (subst (λ (d : Counting). SignsWithin d.signs c.args.window.now) (sym c.self.view_is) c.requires.signs)
     c.in_ok-in_table.field-0.now (ap (slice_get t.numbers.items) (sym c.index_of.ensures.is) ∙ ap (λ row. slice_get row c.index_of.result) (sym c.deref.ensures.value) ∙ entry) in
     let is = ap (λ ts. tally_by_number t.first ts c.in_ok-in_table.field-0.now) (sym c.as_slice.ensures.value) ∙ sym c.tally_by_number.ensures in
-    subst (λ (d : Counting). IfSome c.tally_by_number.result (λ (e : Tally). HasNumber d.counted.windows c.args.window.now e.0 × (counted_sums d.counted.counts c.args.window.now ≡ Some e.1))) c.self.view_is
-    (subst (λ o. IfSome o (λ (e : Tally). HasNumber t.windows.items c.args.window.now e.0 × (counted_sums (table_counts t.numbers.items t.first t.windows.items t.tallies.items) c.args.window.now ≡ Some e.1))) is seen.0)
+    let u = c.args.window.now in
+    subst (λ (d : Counting). IfSome c.tally_by_number.result (λ (e : Tally). HasNumber d.counted.windows u e.0 × (counted_sums d.counted.counts u ≡ Some e.1))) c.self.view_is
+    (subst (λ o. IfSome o (λ (e : Tally). HasNumber t.windows.items u e.0 × (counted_sums (table_counts t.numbers.items t.first t.windows.items t.tallies.items) u ≡ Some e.1)))
+    is seen.0)
 
 pub returns-clause-none : goal.returns-clause-none
 returns-clause-none c none =
