@@ -1,6 +1,6 @@
 -- The parts of the two words of a cell, when a word is made of others.
-use Rattle.std.proofs.Common.{◌≡◌, ◌≢◌, ℕ, ◌+◌, ◌*◌, ◌/◌, ◌%◌, ◌^◌, ◌<◌, inl, inr, ap, cond, nat_eq, arith}
-use Rattle.std.proofs.lemmas.Bool.{cases_eq}
+use Rattle.std.proofs.Common.{◌≡◌, ◌≢◌, ℕ, ◌+◌, ◌*◌, ◌/◌, ◌%◌, ◌^◌, ◌<◌, inl, inr, sym, ◌∙◌, ap, cond, nat_eq, arith}
+use Rattle.std.proofs.lemmas.Bool.{cases_eq, eq-eqb, ne_eqb}
 use Rattle.pg_cells.specs.Inside.store.Lists.{sign_in, next_in, first_in, base_in, link_in}
 
 -- an even word has no sign, and an odd one has its sign above the lowest bit
@@ -14,6 +14,22 @@ pub odd_word : (w : ℕ) → sign_in w ≢ 0 → w % 2 ≡ 1
 odd_word w some = elim (cases_eq (w % 2) 0) [
   | inl e ↦ absurd (some (ap (λ n. cond (nat_eq n 0) 0 (w / 2 % 2048)) e))
   | inr up ↦ omega arith
+]
+
+-- the lower bits of a word are those of a sign where it has the sign
+pub word_has : (w s : ℕ) → s ≢ 0 → nat_eq (w % 4096) (1 + s * 2) ≡ nat_eq (sign_in w) s
+word_has w s up = elim (cases_eq (sign_in w) s) [
+  | inl e ↦
+      let odd : w % 2 ≡ 1 = odd_word w (λ z. up (sym e ∙ z)) in
+      let at : w / 2 % 2048 ≡ s = sym (sign_odd w odd) ∙ e in
+      let same : w % 4096 ≡ 1 + s * 2 = omega arith in
+      eq-eqb (w % 4096) (1 + s * 2) same ∙ sym (eq-eqb (sign_in w) s e)
+  | inr other ↦
+      let apart : w % 4096 ≢ 1 + s * 2 = λ same.
+      let odd : w % 2 ≡ 1 = omega arith in
+      let at : w / 2 % 2048 ≡ s = omega arith in
+      other (sign_odd w odd ∙ at) in
+      ne_eqb (w % 4096) (1 + s * 2) apart ∙ sym (ne_eqb (sign_in w) s other)
 ]
 
 -- what fits a sign, or a cell's first sign, is small

@@ -104,7 +104,7 @@ impl<V: Copy, const FEW: usize> Placed<V, FEW> {
     {
         let store = &self.store;
         let cell = base + s as usize;
-        if store.sign(cell) == s {
+        if store.has_sign(cell, s) {
             Some(cell)
         } else {
             None

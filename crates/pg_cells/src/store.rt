@@ -1,5 +1,5 @@
 //! The store: one vector of cells, whose free ones are linked in rising order.
-ghost use Rattle.std.specs.Prelude.{◌≡◌, ◌≢◌, ℕ, ◌+◌, ◌-◌, ◌<◌, ◌≤◌, ◌^◌, true, ◌∷◌, length, slice_get, slice_index, Some, IfOk, OnOk, OnErr};
+ghost use Rattle.std.specs.Prelude.{◌≡◌, ◌≢◌, ℕ, ◌+◌, ◌-◌, ◌<◌, ◌≤◌, ◌^◌, true, ◌∷◌, length, nat_eq, slice_get, slice_index, Some, IfOk, OnOk, OnErr};
 ghost use Rattle.pg_types.specs.Inside.Placing.{IsLeast};
 ghost use Rattle.pg_cells.specs.Inside.store.Lists.{lists, FitsCell, row_of, lone, sign_at, child_at, base_at, IsFree};
 ghost use Rattle.pg_cells.specs.Inside.store.FreeList.{AreLinked};
@@ -20,7 +20,7 @@ pub mod member;
 use crate::store::bounds::{bound_of, least_dropped, no_bounds, raise, still_placed};
 use crate::store::cell::{Cell, child_of, set_base, set_child, set_value, sign_of, value_of};
 use crate::store::chain::{free_all, free_cell, push_cell, take_cell};
-use crate::store::fit::{Slot, find_base, sign_or_free};
+use crate::store::fit::{Slot, find_base, has_sign_there, sign_or_free};
 use crate::store::member::Member;
 use std::alloc::{AllocError, Global};
 use std::marker::Model;
@@ -93,6 +93,14 @@ impl<V: Copy> Store<V> {
         ensures { result ≡ sign_at self.now cell }
     {
         sign_or_free(self.cells.as_slice(), cell)
+    }
+
+    /// Whether a cell has a sign.
+    pub fn has_sign(&self, cell: usize, sign: u16) -> bool
+        requires { sign ≢ 0 }
+        ensures { result ≡ nat_eq (sign_at self.now cell) sign }
+    {
+        has_sign_there(self.cells.as_slice(), cell, sign)
     }
 
     /// The base of the child family of a taken cell, 0 for none.

@@ -1,5 +1,5 @@
 //! One cell, and the reading and writing of its parts.
-ghost use Rattle.std.specs.Prelude.{◌≡◌, ◌≢◌, ◌<◌, ◌+◌, ◌*◌, ◌%◌, ◌^◌, length, slice_get, set, Some};
+ghost use Rattle.std.specs.Prelude.{◌≡◌, ◌≢◌, ◌<◌, ◌+◌, ◌*◌, ◌%◌, ◌^◌, length, nat_eq, slice_get, set, Some};
 ghost use Rattle.pg_cells.specs.Inside.store.Lists.{lists, FitsCell, base_in, link_in, with_before, with_after, with_child, with_value, with_base, with_taken, with_free, sign_at, IsFree, before_at, after_at, child_at, base_at};
 
 use crate::store::member::Member;
@@ -72,6 +72,16 @@ pub fn sign_of<V: Copy>(cells: &[Cell<V>], cell: usize) -> u16
     } else {
         (signs / SIGN_AT % SIGN_COUNT) as u16
     }
+}
+
+/// Whether the cell has the sign. A walk asks this at each step, so no part is taken out of the
+/// word: its lower bits are compared as they are.
+pub fn has_sign<V: Copy>(cells: &[Cell<V>], cell: usize, sign: u16) -> bool
+    requires cell { cell < length cells.now }
+    requires sign { sign ≢ 0 }
+    ensures { result ≡ nat_eq (sign_at (lists cells.now).row cell) sign }
+{
+    cells[cell].signs % NEXT_AT == 1 + sign as u32 * SIGN_AT
 }
 
 pub fn is_base_of<V: Copy>(cells: &[Cell<V>], cell: usize) -> bool

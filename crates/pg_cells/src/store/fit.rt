@@ -1,11 +1,11 @@
 //! The search for a base, along the free cells.
-ghost use Rattle.std.specs.Prelude.{◌≡◌, ◌≢◌, ℕ, ◌+◌, ◌<◌, ◌≤◌, ◌^◌, Bool, true, ◌∷◌, length, slice_index, map};
+ghost use Rattle.std.specs.Prelude.{◌≡◌, ◌≢◌, ℕ, ◌+◌, ◌<◌, ◌≤◌, ◌^◌, Bool, true, ◌∷◌, length, nat_eq, slice_index, map};
 ghost use Rattle.pg_types.specs.Inside.Placing.{IsLeast};
 ghost use Rattle.pg_cells.specs.Inside.store.Lists.{lists, sign_at, base_at};
 ghost use Rattle.pg_cells.specs.Inside.store.FreeList.{AreLinked};
 ghost use Rattle.pg_cells.specs.Inside.store.Fit.{fits_row, signs_of};
 
-use crate::store::cell::{Cell, after_of, is_base_of, sign_of};
+use crate::store::cell::{Cell, after_of, has_sign, is_base_of, sign_of};
 use crate::store::member::Member;
 
 /// What a taken cell holds.
@@ -27,6 +27,18 @@ pub fn sign_or_free<V: Copy>(cells: &[Cell<V>], cell: usize) -> u16
         sign_of(cells, cell)
     } else {
         0
+    }
+}
+
+// Whether a cell has a sign. None past the end has it.
+pub fn has_sign_there<V: Copy>(cells: &[Cell<V>], cell: usize, sign: u16) -> bool
+    requires { sign ≢ 0 }
+    ensures { result ≡ nat_eq (sign_at (lists cells.now).row cell) sign }
+{
+    if cell < cells.len() {
+        has_sign(cells, cell, sign)
+    } else {
+        false
     }
 }
 
