@@ -1,8 +1,8 @@
 //! The walk over the counted strings, in the order of signs.
-ghost use Rattle.std.specs.Prelude.{◌≡◌, ◌+◌, ◌<◌, ℕ, List, ◌++◌, length, Some, OnOk};
+ghost use Rattle.std.specs.Prelude.{◌≡◌, ◌+◌, ◌<◌, ℕ, true, List, [], ◌∷◌, ◌++◌, length, Some, OnOk};
 ghost use Rattle.pg_types.specs.Placement.{base_of, cell_of};
 ghost use Rattle.pg_cells.specs.Inside.linked.AreValuedFamilies.{AreValuedFamilies};
-ghost use Rattle.pg_cells.specs.Inside.linked.Members.{IsNextSign};
+ghost use Rattle.pg_cells.specs.Inside.linked.Members.{IsNextSign, goes_on};
 ghost use Rattle.pg_count.specs.Inside.Leaves.{AreLast, AreShort, IsLast};
 ghost use Rattle.pg_count.specs.Inside.Under.{numbers_under};
 
@@ -10,9 +10,25 @@ use crate::store::counted_cells::CountedCells;
 use pg_types::Sign;
 use std::alloc::AllocError;
 
+// The cell of a sign of the family with the base, `None` for 0.
+fn sign_cell(cells: &CountedCells, base: usize, s: Sign) -> Option<usize>
+    requires held { AreValuedFamilies cells.now }
+    requires base { (p : List ℕ) × ((base_of cells.now.families p ≡ Some base)
+        × (0 < s → goes_on cells.now.values p s ≡ true)) }
+    ensures { (p : List ℕ) → base_of cells.now.families p ≡ Some base → 0 < s
+        → result ≡ cell_of cells.now.families (p ++ s ∷ []) }
+{
+    if s == 0 {
+        return None;
+    }
+    cells.find(base, s)
+}
+
 /// Appends the numbers of the counted strings of a family and of those below it, in the order of
 /// signs. The family has the base, and `first` is the first of its signs. No string of these has
-/// more than `more` signs behind the family's prefix. It goes along the signs of the families.
+/// more than `more` signs behind the family's prefix. It goes along the signs of the families. The
+/// cell of the next sign is sought before the strings below a sign, so that it need not be waited
+/// for behind them.
 #[cycle(walk)]
 pub fn walk(
     cells: &CountedCells,
@@ -29,12 +45,14 @@ pub fn walk(
         OnOk result (out.new.items ≡ out.old.items ++ numbers_under p cells.now.values) }
 {
     let mut s = first;
+    let mut at = sign_cell(cells, base, s);
     while s != 0 {
-        let Some(cell) = cells.find(base, s) else {
+        let Some(cell) = at else {
             return Ok(());
         };
-        walk_at(cells, cell, more - 1, out)?;
         s = cells.next_sign(cell);
+        at = sign_cell(cells, base, s);
+        walk_at(cells, cell, more - 1, out)?;
     }
     Ok(())
 }

@@ -1,7 +1,7 @@
 use Rattle.std.proofs.lemmas.Result.{err_from_is_err_and}
 use Rattle.std.proofs.Common.{◌≡◌, ◌≢◌, ℕ, List, [], ◌∷◌, ◌++◌, Some, ap, sym, subst, ◌∙◌, arith, None}
 use Rattle.std.proofs.lemmas.List.{append_assoc, append-nil}
-use Rattle.pg_types.specs.Placement.{base_of}
+use Rattle.pg_types.specs.Placement.{base_of, cell_of}
 use Rattle.pg_cells.specs.Inside.linked.Members.{IsNextSign}
 use Rattle.pg_cells.proofs.LinkLaws.{goes_cell}
 use Rattle.pg_count.specs.Inside.Counting.{numbers_in}
@@ -16,18 +16,19 @@ walk-loop-s-init t c =
     record {
       small = omega arith;
       there = λ p at up. ((next p at).found up).1;
+      at = λ p at up. c.sign_cell-at.ensures p at up;
       passed = λ p at.
           sym (append-nil c.args.out.now.items)
           ∙ ap (λ l. c.args.out.now.items ++ l)
           (sym (passed_first c.args.cells.now c.requires.held p (open_base c.args.cells.now c.requires.held c.requires.last p c.args.base at) c.args.first (next p at)));
     }
 
-pub walk-find-requires : goal.walk-find-requires
-walk-find-requires t c =
+pub walk-sign_cell-at-requires-in-loop-s : goal.walk-sign_cell-at-requires-in-loop-s
+walk-sign_cell-at-requires-in-loop-s t c =
     let p = c.requires.base.0 in
-    let goes = c.loop-s.invariant.there p c.requires.base.1.0 (omega arith) in
-    let cell = goes_cell c.args.cells.now c.requires.held p c.loop-s.s goes in
-    record { base = (p, c.requires.base.1.0); sign = c.requires.held.signs p c.loop-s.s cell.0 cell.1 }
+    let at = c.requires.base.1.0 in
+    let here = sym (c.loop-s.invariant.at p at (omega arith)) ∙ c.in-Some.is in
+    record { held = c.requires.held; base = (p, (at, λ up. ((c.next_sign-s.ensures p c.loop-s.s here).found up).1)) }
 
 pub walk-walk_at-requires : goal.walk-walk_at-requires
 walk-walk_at-requires t c =
@@ -39,7 +40,7 @@ walk-walk_at-requires t c =
         (
           (
             p ++ c.loop-s.s ∷ [],
-            (sym (c.in-Some.ensures p c.requires.base.1.0), short_more c.args.cells.now p c.loop-s.s c.args.more some c.requires.base.1.2),
+            (sym (c.loop-s.invariant.at p c.requires.base.1.0 (omega arith)) ∙ c.in-Some.is, short_more c.args.cells.now p c.loop-s.s c.args.more some c.requires.base.1.2),
           ),
           c.requires.last,
         ),
@@ -47,17 +48,19 @@ walk-walk_at-requires t c =
     )
 
 pub walk-next_sign-s-requires : goal.walk-next_sign-s-requires
-walk-next_sign-s-requires t c = (c.requires.base.0 ++ c.loop-s.s ∷ [], sym (c.in-Some.ensures c.requires.base.0 c.requires.base.1.0))
+walk-next_sign-s-requires t c = (c.requires.base.0 ++ c.loop-s.s ∷ [], sym (c.loop-s.invariant.at c.requires.base.0 c.requires.base.1.0 (omega arith)) ∙ c.in-Some.is)
 
 pub walk-loop-s-preserved : goal.walk-loop-s-preserved
 walk-loop-s-preserved t c =
-    let next = λ (p : List ℕ) (at : base_of c.args.cells.now.families p ≡ Some c.args.base). c.next_sign-s.ensures p c.loop-s.s (sym (c.in-Some.ensures p at)) in
+    let here = λ (p : List ℕ) (at : base_of c.args.cells.now.families p ≡ Some c.args.base). sym (c.loop-s.invariant.at p at (omega arith)) ∙ c.in-Some.is in
+    let next = λ (p : List ℕ) (at : base_of c.args.cells.now.families p ≡ Some c.args.base). c.next_sign-s.ensures p c.loop-s.s (here p at) in
     let other : c.loop-s.s ≢ 0 = omega arith in
     record {
       small = c.next_sign-s.type_inv;
       there = λ p at up. ((next p at).found up).1;
+      at = λ p at up. c.sign_cell-at-in-loop-s.ensures p at up;
       passed = λ p at.
-          c.in_ok-walk_at.ensures (p ++ c.loop-s.s ∷ []) (sym (c.in-Some.ensures p at))
+          c.in_ok-walk_at.ensures (p ++ c.loop-s.s ∷ []) (here p at)
           ∙ ap (λ l. l ++ numbers_under (p ++ c.loop-s.s ∷ []) c.args.cells.now.values) (c.loop-s.invariant.passed p at)
           ∙ append_assoc c.args.out.now.items (numbers_where (is_passed p c.loop-s.s) (numbers_in c.args.cells.now.values)) (numbers_under (p ++ c.loop-s.s ∷ []) c.args.cells.now.values)
           ∙ ap (λ l. c.args.out.now.items ++ l)
@@ -75,13 +78,14 @@ walk_at-returns-then-below-eq0 t c = λ q at. c.last_at.ensures q at (childless_
 
 pub walk-loop-s-smaller : goal.walk-loop-s-smaller
 walk-loop-s-smaller t c =
-    let next = c.next_sign-s.ensures c.requires.base.0 c.loop-s.s (sym (c.in-Some.ensures c.requires.base.0 c.requires.base.1.0)) in
+    let here = sym (c.loop-s.invariant.at c.requires.base.0 c.requires.base.1.0 (omega arith)) ∙ c.in-Some.is in
+    let next = c.next_sign-s.ensures c.requires.base.0 c.loop-s.s here in
     sign_falls c.loop-s.s c.next_sign-s.result (omega arith) c.loop-s.invariant.small (λ up. (next.found up).0)
 
 pub walk-returns-in_default : goal.walk-returns-in_default
 walk-returns-in_default t c p at =
     let cell = goes_cell c.args.cells.now c.requires.held p c.loop-s.s (c.loop-s.invariant.there p at (omega arith)) in
-    absurd (let wrong : None ≡ Some cell.0 = c.in_default.ensures p at ∙ cell.1 in cc)
+    absurd (let is = c.loop-s.invariant.at p at (omega arith) ∙ cell.1 in c.in_default.not-Some cell.0 is)
 
 pub walk-returns-in_err-walk_at : goal.walk-returns-in_err-walk_at
 walk-returns-in_err-walk_at t c p at = let err = err_from_is_err_and c.from_residual.result c.from_residual.ensures.1 in rw err.1 tt

@@ -1,5 +1,5 @@
-use Rattle.std.proofs.Common.{◌≡◌, ℕ, ◌+◌, ◌-◌, ◌*◌, ◌<◌, cond, nat_eq, true, List, ◌++◌, Some}
-use Rattle.pg_types.specs.Placement.{base_of}
+use Rattle.std.proofs.Common.{◌≡◌, ℕ, ◌+◌, ◌-◌, ◌*◌, ◌<◌, cond, nat_eq, true, List, [], ◌∷◌, ◌++◌, Some}
+use Rattle.pg_types.specs.Placement.{base_of, cell_of}
 use Rattle.pg_cells.specs.Inside.linked.Members.{goes_on}
 use Rattle.pg_count.specs.Inside.Counting.{numbers_in}
 use Rattle.pg_count.specs.Inside.Under.{is_passed, numbers_where}
@@ -15,6 +15,7 @@ abbrev pub invariant-walk-loop-s : goal.invariant-walk-loop-s
 invariant-walk-loop-s l = record {
   small : l.s < 65536;
   there : (p : List ℕ) → base_of l.cells.families p ≡ Some l.base → 0 < l.s → goes_on l.cells.values p l.s ≡ true;
+  at : (p : List ℕ) → base_of l.cells.families p ≡ Some l.base → 0 < l.s → l.at ≡ cell_of l.cells.families (p ++ l.s ∷ []);
   passed : (p : List ℕ) → base_of l.cells.families p ≡ Some l.base → l.out.items ≡ l.initial.out.items ++ numbers_where (is_passed p l.s) (numbers_in l.cells.values);
 }
 
