@@ -1,20 +1,33 @@
-//! Counts of windows of two signs, of the edge 1, a 2, b 3 and c 4.
-ghost use Rattle.std.specs.Prelude.{◌≡◌, ℕ, ◌+◌, ◌<◌, ◌≤◌, List, length};
-ghost use Rattle.pg_types.specs.Inside.Counts.{sums_of};
+//! Counts of windows, short and long, of the edge 1, a 2, b 3 and c 4, and of 2,000 letters.
+ghost use Rattle.std.specs.Prelude.{◌≡◌, ℕ, ◌+◌, ◌<◌, ◌≤◌, true, List, length};
+ghost use Rattle.pg_types.specs.Inside.Counts.{SignsWithin, sums_of};
 
 use pg_count::CountTrie;
 use pg_types::{Cursor, Sign, Weight};
 use std::process::Abort;
 use std::test::Fail;
 
+/// Whether each sign is one of a table with so many.
+fn are_signs(signs: u16, window: &[Sign]) -> bool
+    ensures { result ≡ true → SignsWithin signs window.now }
+{
+    for sign in window {
+        if *sign < 1 || signs < *sign {
+            return false;
+        }
+    }
+    true
+}
+
 /// Adds a weight of at most 9 to a window.
 fn count_window(
     counts: &mut CountTrie,
-    first: Sign,
-    second: Sign,
+    signs: u16,
+    window: &[Sign],
     good: bool,
     weight: Weight,
 ) -> Result<(), Fail>
+<<<<<<< HEAD
     requires signs { counts.old.signs ≡ 4 }
     requires len { counts.old.len ≡ 2 }
     requires room { (u : List ℕ) →
@@ -27,51 +40,109 @@ fn count_window(
         × ((sums_of counts.old.counted.counts u).1 ≤ n))
         → (u : List ℕ) →
         ((sums_of counts.new.counted.counts u).0 ≤ n + 9)
+=======
+    requires signs { counts.old.signs ≡ signs }
+    requires len { counts.old.len ≡ length window.now }
+    requires room { (u : List ℕ) → ((sums_of counts.old.counted.counts u).0 ≤ 1000)
+        × ((sums_of counts.old.counted.counts u).1 ≤ 1000) }
+    ensures signs { counts.new.signs ≡ signs }
+    ensures len { counts.new.len ≡ counts.old.len }
+    ensures room { (n : ℕ) → ((u : List ℕ) → ((sums_of counts.old.counted.counts u).0 ≤ n)
+        × ((sums_of counts.old.counted.counts u).1 ≤ n))
+        → (u : List ℕ) → ((sums_of counts.new.counted.counts u).0 ≤ n + 9)
+>>>>>>> f8d5bbace97d9b8870af3828f9ffae4e69d89096
         × ((sums_of counts.new.counted.counts u).1 ≤ n + 9) }
 {
-    if first < 1 || 4 < first || second < 1 || 4 < second || 9 < weight {
-        return Err(Fail::new("a sign of a, b and c, and a weight of one digit"));
+    if 9 < weight || !are_signs(signs, window) {
+        return Err(Fail::new("signs of the table, and a weight of one digit"));
     }
-    counts.add(&[first, second], good, weight)?;
+    counts.add(window, good, weight)?;
     Ok(())
 }
 
-/// Begins a pass and counts the windows, good or bad, with their weights.
-fn count(counts: &mut CountTrie, seen: &[(Sign, Sign, bool, Weight)]) -> Result<(), Fail>
-    requires signs { counts.old.signs ≡ 4 }
+/// Begins a pass and counts windows, good or bad, with their weights. A window is as many of the
+/// first signs of a row as the pass has.
+fn count(
+    counts: &mut CountTrie,
+    signs: u16,
+    len: u8,
+    seen: &[([Sign; 4], bool, Weight)],
+) -> Result<(), Fail>
+    requires signs { counts.old.signs ≡ signs }
+    requires len { (1 ≤ len) × (len ≤ 4) }
     requires few { length seen.now < 100 }
+    ensures { counts.new.signs ≡ signs }
 {
-    counts.begin(2);
-    for window in seen {
-        count_window(counts, window.0, window.1, window.2, window.3)?;
+    counts.begin(len);
+    for row in seen {
+        count_window(counts, signs, &row.0[..usize::from(len)], row.1, row.2)?;
     }
     Ok(())
 }
 
 /// Compares the windows that are counted, in their order, with these: each has sums, and at the end
 /// the cursor stays.
-fn compare(rt: &impl Abort, counts: &CountTrie, windows: &[([Sign; 2], Option<(u64, u64)>)]) {
+fn compare(
+    rt: &impl Abort,
+    counts: &CountTrie,
+    len: u8,
+    windows: &[([Sign; 4], Option<(u64, u64)>)],
+)
+    requires { len ≤ 4 }
+{
     let mut at = Cursor::start();
     for (window, sums) in windows {
         assert_eq!(rt; counts.next(&mut at), *sums);
-        assert_eq!(rt; at.signs(), window.as_slice());
+        assert_eq!(rt; at.signs(), &window[..usize::from(len)]);
     }
 }
 
 /// Windows of a pass.
-const SEEN: &[(Sign, Sign, bool, Weight)] = &[(3, 2, true, 3), (2, 3, false, 2), (3, 2, false, 1)];
+const SEEN: &[([Sign; 4], bool, Weight)] = &[
+    ([3, 2, 4, 2], true, 3),
+    ([2, 3, 4, 4], false, 2),
+    ([3, 2, 4, 2], false, 1),
+];
 
 /// Those that are counted then, in the order of signs, and the end.
-const WINDOWS: &[([Sign; 2], Option<(u64, u64)>)] = &[
-    ([2, 3], Some((0, 2))),
-    ([3, 2], Some((3, 1))),
-    ([3, 2], None),
+const WINDOWS: &[([Sign; 4], Option<(u64, u64)>)] = &[
+    ([2, 3, 4, 4], Some((0, 2))),
+    ([3, 2, 4, 2], Some((3, 1))),
+    ([3, 2, 4, 2], None),
 ];
 
 #[test]
 fn counts_in_order_of_signs(rt: HostRuntime) -> Result<(), Fail> {
     let mut counts = CountTrie::new(rt.alloc(), 4)?;
-    count(&mut counts, SEEN)?;
-    compare(&rt, &counts, WINDOWS);
+    for len in [2, 4, 3, 2] {
+        count(&mut counts, 4, len, SEEN)?;
+        compare(&rt, &counts, len, WINDOWS);
+    }
+    Ok(())
+}
+
+/// Windows of the last letters of a large table.
+const SEEN_LAST: &[([Sign; 4], bool, Weight)] = &[
+    ([2001, 2001, 1, 1], true, 1),
+    ([2001, 2000, 1, 1], false, 2),
+    ([1, 2001, 1, 1], true, 4),
+    ([2001, 2001, 1, 1], true, 2),
+];
+
+/// Those that are counted then, in the order of signs, and the end.
+const WINDOWS_LAST: &[([Sign; 4], Option<(u64, u64)>)] = &[
+    ([1, 2001, 1, 1], Some((4, 0))),
+    ([2001, 2000, 1, 1], Some((0, 2))),
+    ([2001, 2001, 1, 1], Some((3, 0))),
+    ([2001, 2001, 1, 1], None),
+];
+
+#[test]
+fn counts_of_2000_letters(rt: HostRuntime) -> Result<(), Fail> {
+    let mut counts = CountTrie::new(rt.alloc(), 2001)?;
+    for len in [2, 4, 2] {
+        count(&mut counts, 2001, len, SEEN_LAST)?;
+        compare(&rt, &counts, len, WINDOWS_LAST);
+    }
     Ok(())
 }
