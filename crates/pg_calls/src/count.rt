@@ -27,20 +27,6 @@ fn count_window(
     good: bool,
     weight: Weight,
 ) -> Result<(), Fail>
-<<<<<<< HEAD
-    requires signs { counts.old.signs ≡ 4 }
-    requires len { counts.old.len ≡ 2 }
-    requires room { (u : List ℕ) →
-        ((sums_of counts.old.counted.counts u).0 ≤ 1000)
-        × ((sums_of counts.old.counted.counts u).1 ≤ 1000) }
-    ensures signs { counts.new.signs ≡ 4 }
-    ensures len { counts.new.len ≡ 2 }
-    ensures room { (n : ℕ) → ((u : List ℕ) →
-        ((sums_of counts.old.counted.counts u).0 ≤ n)
-        × ((sums_of counts.old.counted.counts u).1 ≤ n))
-        → (u : List ℕ) →
-        ((sums_of counts.new.counted.counts u).0 ≤ n + 9)
-=======
     requires signs { counts.old.signs ≡ signs }
     requires len { counts.old.len ≡ length window.now }
     requires room { (u : List ℕ) → ((sums_of counts.old.counted.counts u).0 ≤ 1000)
@@ -50,7 +36,6 @@ fn count_window(
     ensures room { (n : ℕ) → ((u : List ℕ) → ((sums_of counts.old.counted.counts u).0 ≤ n)
         × ((sums_of counts.old.counted.counts u).1 ≤ n))
         → (u : List ℕ) → ((sums_of counts.new.counted.counts u).0 ≤ n + 9)
->>>>>>> f8d5bbace97d9b8870af3828f9ffae4e69d89096
         × ((sums_of counts.new.counted.counts u).1 ≤ n + 9) }
 {
     if 9 < weight || !are_signs(signs, window) {
