@@ -23,8 +23,9 @@ push_if f false xs a os ys y before is = before ∙ ap (λ zs. os ++ zs) (sym (a
 
 -- a pass that was recorded
 pub recorded_pass : (source : Source) (signs : ℕ) (families : Option Families) (ps : List PassTrace) (q : PassTrace) (old mid new : Recorded) (r : PassRecord)
-    → line_of r ≡ pass_line source q → layout_told r ≡ option_map (λ fs. (q.pass, taken_count fs, top fs)) (option_map (λ fs. fold (after_pass signs) fs (ps ++ q ∷ [])) families) → new ≡ with_pass mid r
-    → list_all (λ p. nat_le p.pass.len q.pass.len) ps ≡ true → is_skippable ps q.pass ≡ false → AreRecorded source signs families ps old mid → AreRecorded source signs families (ps ++ q ∷ []) old new
+    → line_of r ≡ pass_line source q → layout_told r ≡ option_map (λ fs. (q.pass, taken_count fs, top fs)) (option_map (λ fs. fold (after_pass signs) fs (ps ++ q ∷ [])) families)
+    → new ≡ with_pass mid r → list_all (λ p. nat_le p.pass.len q.pass.len) ps ≡ true → is_skippable ps q.pass ≡ false
+    → AreRecorded source signs families ps old mid → AreRecorded source signs families (ps ++ q ∷ []) old new
 recorded_pass source signs families ps q old mid new r line layout is short begun before =
     let b : Bool = has_candidate q in
     let own : new.passes ≡ cond b (mid.passes ++ r ∷ []) mid.passes = ap (λ (x : Recorded). x.passes) is ∙ ap (λ (l : PassLine). cond (nat_lt 0 l.candidates) (mid.passes ++ r ∷ []) mid.passes) line in

@@ -30,9 +30,11 @@ use Rattle.pg_driver.proofs.WordSteps.{drop_place}
 -- the end of a level
 families_end : (signs : ℕ) (l : LevelTrace) (P : Patterns) (o fo : Option Families) → P ≡ patterns_after l → o ≡ option_map (λ fs. fold (after_pass signs) fs l.passes) fo
     → option_map (kept_families (strings_in P)) o ≡ option_map (λ fs. after_level signs fs l) fo
-families_end signs l P o fo patterns families = ap (λ (Q : Patterns). option_map (kept_families (strings_in Q)) o) patterns ∙ ap (option_map (kept_families (strings_in (patterns_after l)))) families ∙ composed fo
+families_end signs l P o fo patterns families = ap (λ (Q : Patterns). option_map (kept_families (strings_in Q)) o) patterns
+    ∙ ap (option_map (kept_families (strings_in (patterns_after l)))) families ∙ composed fo
   where
-    composed : (fo : Option Families) → option_map (kept_families (strings_in (patterns_after l))) (option_map (λ fs. fold (after_pass signs) fs l.passes) fo) ≡ option_map (λ fs. after_level signs fs l) fo
+    composed : (fo : Option Families) → option_map (kept_families (strings_in (patterns_after l))) (option_map (λ fs. fold (after_pass signs) fs l.passes) fo)
+        ≡ option_map (λ fs. after_level signs fs l) fo
     composed None = refl
     composed (Some fs) = refl
 

@@ -82,8 +82,8 @@ impl Counting {
             (known_of (E.meaning engine.old)) self.old }
         ensures did { IfOk result (DidCount (source_of table.now dictionary.now) pass
             (E.meaning engine.old) (E.meaning engine.new)) }
-        ensures ready { OnOk result (IsReady (source_of table.now dictionary.now) pass.level pass.len
-            (known_of (E.meaning engine.old)) self.new) }
+        ensures ready { OnOk result (IsReady (source_of table.now dictionary.now)
+            pass.level pass.len (known_of (E.meaning engine.old)) self.new) }
         ensures counted { OnOk result (IsCounted self.new) }
         ensures numbers { OnOk result
             (AreNumbered (E.meaning engine.new).windows (E.meaning engine.new).counts

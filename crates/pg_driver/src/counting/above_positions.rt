@@ -40,8 +40,8 @@ pub struct Kept {
     pub bad: u64,
 }
 
-/// Whether position `p` of a word counts by its status, as `good` says, and the value that was found
-/// for it is above the level.
+/// Whether position `p` of a word counts by its status, as `good` says, and its value is above the
+/// level.
 pub fn is_above(level: u8, found: &WordState, p: usize, good: Option<bool>) -> bool
     requires { p < WORD_LETTERS_MAX + 2 }
     ensures { result ≡ is_some

@@ -65,7 +65,8 @@ module _ (n : FileNames) (t : Alphabet) where
           (λ i. record { table = is_t i; params = is_p i; start = is_S i; dictionary = is_ws i })
 
 -- where all are read the outcome of `generate` is what it writes and prints
-pub outcome_generated : (n : FileNames) (i : Inputs) (files : FileMap) → HasInputs (file_at files) n i → outcome_of (file_at files) (generate_rule n) ≡ Ends Done (selected_files n i) (selected_lines i)
+pub outcome_generated : (n : FileNames) (i : Inputs) (files : FileMap) → HasInputs (file_at files) n i
+    → outcome_of (file_at files) (generate_rule n) ≡ Ends Done (selected_files n i) (selected_lines i)
 outcome_generated n i files h =
     ap (λ end. unwrap_or end ((generate_rule n).comes (file_at files))) (accepted_all (file_at files) (inputs_of n) (inputs_accepted n i.table i.params i.start i.dictionary files h))
     ∙ ap (λ (i : Inputs). Ends Done (selected_files n i) (selected_lines i)) (given n i.table i.params i.start i.dictionary files h)
