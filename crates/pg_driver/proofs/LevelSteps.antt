@@ -11,15 +11,15 @@ use Rattle.pg_select.specs.Inside.Meanings.{Meaning}
 use Rattle.pg_select.specs.declared.pass.Pass.{Pass}
 use Rattle.pg_select.specs.CountedPositions.{Candidate}
 use Rattle.pg_driver.specs.declared.records.PassRecord.{PassRecord}
-use Rattle.pg_driver.specs.Inside.AccountLines.{PassLine, left_none}
+use Rattle.pg_driver.specs.Inside.records.AccountLines.{PassLine, left_none}
 use Rattle.pg_driver.specs.Dots.{dot_at}
 use Rattle.pg_driver.specs.Layouts.{after_pass}
-use Rattle.pg_driver.specs.Inside.Levels.{CountNothing, SkipFlags, GoesOn, IsAt, LevelStart, Tells, all_made_by, is_set, layouts_in, point, no_flags}
-use Rattle.pg_driver.specs.Inside.Sound.{Recorded, with_pass}
-use Rattle.pg_driver.specs.Inside.States.{DidPass, State, made_by, state_after, state_at_end, state_of}
-use Rattle.pg_driver.specs.Inside.RunAccounts.{known_of}
+use Rattle.pg_driver.specs.Inside.level.Levels.{CountNothing, SkipFlags, GoesOn, IsAt, LevelStart, Tells, all_made_by, is_set, layouts_in, point, no_flags}
+use Rattle.pg_driver.specs.Inside.records.Sound.{Recorded, with_pass}
+use Rattle.pg_driver.specs.Inside.level.States.{DidPass, State, made_by, state_after, state_at_end, state_of}
+use Rattle.pg_driver.specs.Inside.records.RunAccounts.{known_of}
 use Rattle.pg_driver.specs.Traces.{Known, PassTrace, Source, is_entered, known_after, pass_trace, pass_traces}
-use Rattle.pg_driver.specs.Inside.Passes.{known_at_end, passes_of_length}
+use Rattle.pg_driver.specs.Inside.level.Passes.{known_at_end, passes_of_length}
 use Rattle.pg_driver.proofs.ChoiceSteps.{state_none, state_with}
 use Rattle.pg_driver.proofs.Numbers.{plus_zero}
 use Rattle.pg_select.proofs.Reaches.{range_step}

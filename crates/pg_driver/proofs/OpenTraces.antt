@@ -14,8 +14,8 @@ use Rattle.pg_select.proofs.LawsTotals.{totals_after}
 use Rattle.pg_driver.specs.Accounts.{totals_by}
 use Rattle.pg_driver.specs.Dots.{order}
 use Rattle.pg_driver.specs.Traces.{Source, Known, is_chosen, chosen_in, known_after, pass_trace, pass_traces, at_start, level_trace, passes_of, patterns_after}
-use Rattle.pg_driver.specs.Inside.Passes.{known_at_end}
-use Rattle.pg_driver.specs.Inside.LevelCounting.{Carries}
+use Rattle.pg_driver.specs.Inside.level.Passes.{known_at_end}
+use Rattle.pg_driver.specs.Inside.counting.LevelCounting.{Carries}
 
 module _ (source : Source) (params : LevelParams) (known : Known) (pass : Pass) where
   -- the totals after it

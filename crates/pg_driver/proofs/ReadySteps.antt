@@ -19,14 +19,14 @@ use Rattle.pg_driver.specs.declared.counting.Counting.{Counting}
 use Rattle.pg_driver.specs.declared.counting.Counting.TheVariants.{Open, EachWord}
 use Rattle.pg_driver.specs.declared.counting.open_positions.OpenLevel.{OpenLevel}
 use Rattle.pg_driver.specs.Accounts.{totals_by}
-use Rattle.pg_driver.specs.Inside.Choosing.{no_choices, with_candidates}
-use Rattle.pg_driver.specs.Inside.Counting.{HasRoom, IsBounded}
-use Rattle.pg_driver.specs.Inside.LevelCounting.{ArePlaced, CanCarry, CanGoOn, Carries, GoesOnAfter, IsAfterPass, IsCounted, IsOpenAt, IsReady, TellsTotals}
+use Rattle.pg_driver.specs.Inside.choices.Choosing.{no_choices, with_candidates}
+use Rattle.pg_driver.specs.Inside.counting.Counting.{HasRoom, IsBounded}
+use Rattle.pg_driver.specs.Inside.counting.LevelCounting.{ArePlaced, CanCarry, CanGoOn, Carries, GoesOnAfter, IsAfterPass, IsCounted, IsOpenAt, IsReady, TellsTotals}
 use Rattle.pg_dots.specs.Inside.Dots.{is_closed, position_count}
-use Rattle.pg_driver.specs.Inside.OpenSigns.{IsThere, is_open_first, open_word_positions, open_signs, sign_count, start_of}
-use Rattle.pg_driver.specs.Inside.OpenPositions.{counted_of}
-use Rattle.pg_driver.specs.Inside.Sound.{IsSmall}
-use Rattle.pg_driver.specs.Inside.RunAccounts.{known_of}
+use Rattle.pg_driver.specs.Inside.counting.OpenSigns.{IsThere, is_open_first, open_word_positions, open_signs, sign_count, start_of}
+use Rattle.pg_driver.specs.Inside.counting.OpenPositions.{counted_of}
+use Rattle.pg_driver.specs.Inside.records.Sound.{IsSmall}
+use Rattle.pg_driver.specs.Inside.records.RunAccounts.{known_of}
 use Rattle.pg_driver.specs.Traces.{Known, PassTrace, Source, chosen_in, known_after, pass_trace}
 use Rattle.pg_driver.proofs.CarriedTotals.{carried_same, carried_small, carried_within, totals_are_small}
 use Rattle.pg_driver.proofs.Numbers.{zero_plus}

@@ -7,13 +7,13 @@ use Rattle.pg_types.specs.Placement.{Families, taken_count, top}
 use Rattle.pg_select.specs.CountedPositions.{Candidate}
 use Rattle.pg_driver.specs.declared.records.PassRecord.{PassRecord}
 use Rattle.pg_driver.specs.Accounts.{has_candidate}
-use Rattle.pg_driver.specs.Inside.AccountLines.{PassLine, begun_among, chosen_by, is_skippable, pass_line}
+use Rattle.pg_driver.specs.Inside.records.AccountLines.{PassLine, begun_among, chosen_by, is_skippable, pass_line}
 use Rattle.pg_driver.specs.Layouts.{after_pass}
-use Rattle.pg_driver.specs.Inside.Levels.{AreRecorded, layouts_in}
-use Rattle.pg_driver.specs.Inside.Sound.{Recorded, with_pass}
-use Rattle.pg_driver.specs.Inside.RunAccounts.{layout_told, line_of}
+use Rattle.pg_driver.specs.Inside.level.Levels.{AreRecorded, layouts_in}
+use Rattle.pg_driver.specs.Inside.records.Sound.{Recorded, with_pass}
+use Rattle.pg_driver.specs.Inside.records.RunAccounts.{layout_told, line_of}
 use Rattle.pg_driver.specs.Traces.{PassTrace, Source, chosen_in}
-use Rattle.pg_driver.specs.Inside.Fates.{chosen_of}
+use Rattle.pg_driver.specs.Inside.choices.Fates.{chosen_of}
 use Rattle.pg_driver.proofs.Numbers.{plus_zero}
 use Rattle.pg_driver.proofs.TraceSteps.{begun_push, chosen_push, filter_push, layouts_push}
 

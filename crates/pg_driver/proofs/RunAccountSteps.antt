@@ -12,11 +12,11 @@ use Rattle.pg_select.specs.declared.pass.Pass.{Pass}
 use Rattle.pg_driver.specs.declared.records.LevelRecord.{LevelRecord}
 use Rattle.pg_driver.specs.declared.records.PassRecord.{PassRecord}
 use Rattle.pg_driver.specs.Accounts.{has_candidate, totals_by}
-use Rattle.pg_driver.specs.Inside.AccountLines.{account}
-use Rattle.pg_driver.specs.Inside.CellsAccounts.{cells_account, layout_of}
-use Rattle.pg_driver.specs.Inside.Levels.{DidRun, level_layouts, run_layouts}
-use Rattle.pg_driver.specs.Inside.Sound.{Finished, Recorded}
-use Rattle.pg_driver.specs.Inside.RunAccounts.{TellsCells, account_of, layout_told, level_layout_told}
+use Rattle.pg_driver.specs.Inside.records.AccountLines.{account}
+use Rattle.pg_driver.specs.Inside.records.CellsAccounts.{cells_account, layout_of}
+use Rattle.pg_driver.specs.Inside.level.Levels.{DidRun, level_layouts, run_layouts}
+use Rattle.pg_driver.specs.Inside.records.Sound.{Finished, Recorded}
+use Rattle.pg_driver.specs.Inside.records.RunAccounts.{TellsCells, account_of, layout_told, level_layout_told}
 use Rattle.pg_select.specs.Windows.{Patterns}
 use Rattle.pg_driver.specs.Traces.{LevelTrace, Source, Trace, final_patterns}
 

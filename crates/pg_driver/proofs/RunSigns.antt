@@ -23,8 +23,8 @@ use Rattle.pg_select.proofs.LawsBounds.{all_put}
 use Rattle.pg_select.proofs.LawsCandidates.{all_candidates, all_flat}
 use Rattle.pg_select.proofs.LawsRaised.{all_kept}
 use Rattle.pg_select.proofs.LawsTally.{counted_as}
-use Rattle.pg_driver.specs.Inside.Passes.{known_at_end}
-use Rattle.pg_driver.specs.Inside.RunAccounts.{patterns_from}
+use Rattle.pg_driver.specs.Inside.level.Passes.{known_at_end}
+use Rattle.pg_driver.specs.Inside.records.RunAccounts.{patterns_from}
 use Rattle.pg_driver.specs.Traces.{Known, Source, at_start, chosen_in, final_patterns, is_chosen, known_after, level_trace, level_traces, source_of, pass_trace, pass_traces, passes_of, patterns_after}
 
 -- the signs of a string are at most n

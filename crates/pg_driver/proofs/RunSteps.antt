@@ -15,15 +15,15 @@ use Rattle.pg_select.specs.declared.pass.Pass.{Pass}
 use Rattle.pg_select.specs.Windows.{Hopeless, Patterns}
 use Rattle.pg_driver.specs.declared.records.LevelRecord.{LevelRecord}
 use Rattle.pg_driver.specs.Accounts.{has_candidate, totals_by}
-use Rattle.pg_driver.specs.Inside.AccountLines.{LevelLine, begun_among, chosen_by, level_line, pass_line, pass_lines}
+use Rattle.pg_driver.specs.Inside.records.AccountLines.{LevelLine, begun_among, chosen_by, level_line, pass_line, pass_lines}
 use Rattle.pg_driver.specs.Layouts.{after_pass, after_level, strings_in}
-use Rattle.pg_driver.specs.Inside.CellsAccounts.{layout_of, level_layout, levels_with_families, pass_layouts}
-use Rattle.pg_driver.specs.Inside.RunAccounts.{known_of, layout_told, level_layout_told, level_line_of, line_of}
-use Rattle.pg_driver.specs.Inside.Levels.{AreRecorded, DidLevel, DidRun, all_made_by, layouts_in, level_layouts, run_layouts}
-use Rattle.pg_driver.specs.Inside.Sound.{Recorded, with_level}
-use Rattle.pg_driver.specs.Inside.States.{State, state_at_end, state_of}
+use Rattle.pg_driver.specs.Inside.records.CellsAccounts.{layout_of, level_layout, levels_with_families, pass_layouts}
+use Rattle.pg_driver.specs.Inside.records.RunAccounts.{known_of, layout_told, level_layout_told, level_line_of, line_of}
+use Rattle.pg_driver.specs.Inside.level.Levels.{AreRecorded, DidLevel, DidRun, all_made_by, layouts_in, level_layouts, run_layouts}
+use Rattle.pg_driver.specs.Inside.records.Sound.{Recorded, with_level}
+use Rattle.pg_driver.specs.Inside.level.States.{State, state_at_end, state_of}
 use Rattle.pg_driver.specs.Traces.{Known, LevelTrace, PassTrace, Source, Trace, at_start, final_patterns, level_trace, level_traces, pass_traces, passes_of, patterns_after}
-use Rattle.pg_driver.specs.Inside.Passes.{known_at_end}
+use Rattle.pg_driver.specs.Inside.level.Passes.{known_at_end}
 use Rattle.pg_driver.proofs.Numbers.{plus_zero, zero_plus}
 use Rattle.pg_driver.proofs.WordSteps.{drop_place}
 

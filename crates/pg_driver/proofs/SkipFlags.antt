@@ -2,8 +2,8 @@
 use Rattle.std.proofs.Common.{◌≡◌, ℕ, zero, suc, ◌+◌, ◌≤◌, ◌==◌, Bool, true, false, ◌&&◌, ◌||◌, List, [], ◌∷◌, ◌++◌, get_or, replicate, refl, sym, ap, ◌∙◌, arith}
 use Rattle.std.proofs.lemmas.Bool.Decides.{nat_tests}
 use Rattle.pg_types.specs.declared.parameters.LevelParams.{LevelParams}
-use Rattle.pg_driver.specs.Inside.AccountLines.{is_skippable, left_none}
-use Rattle.pg_driver.specs.Inside.Levels.{SkipFlags, Tells, is_set, no_flags}
+use Rattle.pg_driver.specs.Inside.records.AccountLines.{is_skippable, left_none}
+use Rattle.pg_driver.specs.Inside.level.Levels.{SkipFlags, Tells, is_set, no_flags}
 use Rattle.pg_driver.specs.Traces.{Known, PassTrace, Source, pass_trace}
 use Rattle.pg_driver.proofs.TraceSteps.{skippable_push}
 

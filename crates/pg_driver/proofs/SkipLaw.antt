@@ -12,10 +12,10 @@ use Rattle.pg_select.specs.Windows.{Hopeless}
 use Rattle.pg_select.proofs.LawsLater.{closed_later}
 use Rattle.pg_select.proofs.LawsLonger.{closed_behind, closed_before}
 use Rattle.pg_select.proofs.LawsClosed.{closed_at_end, later_after_pass}
-use Rattle.pg_driver.specs.Inside.AccountLines.{is_skippable, left_none}
-use Rattle.pg_driver.specs.Inside.Levels.{CountNothing}
+use Rattle.pg_driver.specs.Inside.records.AccountLines.{is_skippable, left_none}
+use Rattle.pg_driver.specs.Inside.level.Levels.{CountNothing}
 use Rattle.pg_driver.specs.Traces.{Known, PassTrace, Source, is_chosen, is_hopeless, is_entered, known_after, pass_trace}
-use Rattle.pg_driver.specs.Inside.Fates.{chosen_of, hopeless_of}
+use Rattle.pg_driver.specs.Inside.choices.Fates.{chosen_of, hopeless_of}
 use Rattle.pg_driver.proofs.FateLaws.{by_fate}
 use Rattle.pg_driver.proofs.TraceSteps.{skippable_push}
 

@@ -28,15 +28,15 @@ use Rattle.pg_driver.specs.declared.choices.Choices.{Choices}
 use Rattle.pg_driver.specs.declared.pass_windows.WordPosition.{WordPosition}
 use Rattle.pg_driver.specs.declared.counting.word_level.WordLevel.{WordLevel}
 use Rattle.pg_driver.specs.Accounts.{totals_by}
-use Rattle.pg_driver.specs.Inside.Counting.{IsBounded}
-use Rattle.pg_driver.specs.Inside.LevelCounting.{CanMove, Carries, IsAfterWords}
-use Rattle.pg_driver.specs.Inside.OpenLevels.{listed_from, listed_in, open_as}
-use Rattle.pg_driver.specs.Inside.OpenPositions.{IsPlaced, counted_in, counted_of, open_with}
-use Rattle.pg_driver.specs.Inside.Sound.{IsSmall}
+use Rattle.pg_driver.specs.Inside.counting.Counting.{IsBounded}
+use Rattle.pg_driver.specs.Inside.counting.LevelCounting.{CanMove, Carries, IsAfterWords}
+use Rattle.pg_driver.specs.Inside.counting.OpenLevels.{listed_from, listed_in, open_as}
+use Rattle.pg_driver.specs.Inside.counting.OpenPositions.{IsPlaced, counted_in, counted_of, open_with}
+use Rattle.pg_driver.specs.Inside.records.Sound.{IsSmall}
 use Rattle.pg_driver.specs.Traces.{Known, PassTrace, Source, chosen_in, is_chosen, known_after, pass_trace}
-use Rattle.pg_driver.specs.Inside.Fates.{chooses}
+use Rattle.pg_driver.specs.Inside.choices.Fates.{chooses}
 use Rattle.pg_driver.proofs.FateLaws.{chosen_is as chosen_by_fate}
-use Rattle.pg_driver.specs.Inside.WordLevels.{IsWordsAt, kept_by, listing, was_chosen}
+use Rattle.pg_driver.specs.Inside.counting.WordLevels.{IsWordsAt, kept_by, listing, was_chosen}
 use Rattle.pg_driver.proofs.CarriedTotals.{carried_same, carried_small, carried_within, totals_are_small}
 use Rattle.pg_driver.proofs.OpenLevels.{found_is, listed_are, start_at}
 use Rattle.pg_driver.proofs.OpenPlaces.{entries_few, entries_placed}

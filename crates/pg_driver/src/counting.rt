@@ -4,10 +4,10 @@ ghost use Rattle.pg_types.specs.Inside.NumberedWindows.{AreNumbered};
 ghost use Rattle.pg_dict.specs.Inside.SoundWords.{SignsAtMost};
 ghost use Rattle.pg_select.specs.Inside.LawsSteps.{IsBelow};
 ghost use Rattle.pg_driver.specs.declared.pass_windows.TheConstants.{NO_NUMBER};
-ghost use Rattle.pg_driver.specs.Inside.LevelCounting.{AreNumberedIn, ArePlaced, CanGoOn, DidCount, GoesOnAfter, IsCounted, IsOverOpen, IsReady, totals_in};
-ghost use Rattle.pg_driver.specs.Inside.PassWindows.{AreFates};
-ghost use Rattle.pg_driver.specs.Inside.States.{HasBegun, IsPass};
-ghost use Rattle.pg_driver.specs.Inside.RunAccounts.{known_of};
+ghost use Rattle.pg_driver.specs.Inside.counting.LevelCounting.{AreNumberedIn, ArePlaced, CanGoOn, DidCount, GoesOnAfter, IsCounted, IsOverOpen, IsReady, totals_in};
+ghost use Rattle.pg_driver.specs.Inside.level.PassWindows.{AreFates};
+ghost use Rattle.pg_driver.specs.Inside.level.States.{HasBegun, IsPass};
+ghost use Rattle.pg_driver.specs.Inside.records.RunAccounts.{known_of};
 ghost use Rattle.pg_driver.specs.Traces.{Known, Source, source_of};
 
 mod above_positions;

@@ -12,8 +12,8 @@ use Rattle.pg_select.specs.declared.pass.Pass.{Pass}
 use Rattle.pg_select.specs.Windows.{Patterns}
 use Rattle.pg_driver.specs.Accounts.{has_candidate, totals_by}
 use Rattle.pg_driver.specs.Dots.{order}
-use Rattle.pg_driver.specs.Inside.AccountLines.{PassLine, account, chosen_by, level_line, pass_line, pass_lines}
-use Rattle.pg_driver.specs.Inside.CellsAccounts.{cells_account, layout_of, level_layout, levels_with_families, pass_layouts, passes_with_families}
+use Rattle.pg_driver.specs.Inside.records.AccountLines.{PassLine, account, chosen_by, level_line, pass_line, pass_lines}
+use Rattle.pg_driver.specs.Inside.records.CellsAccounts.{cells_account, layout_of, level_layout, levels_with_families, pass_layouts, passes_with_families}
 use Rattle.pg_driver.specs.Layouts.{strings_in, after_level, after_pass}
 use Rattle.pg_driver.specs.Traces.{Known, LevelTrace, PassTrace, Source, Trace, at_start, final_patterns, known_after, level_trace, level_traces, pass_trace, pass_traces, passes_of, patterns_after, trace}
 use Rattle.pg_texts.specs.Fronts.{level_front, pass_front}

@@ -1,8 +1,8 @@
 //! The cells file.
 ghost use Rattle.std.specs.Prelude.{◌≡◌, ◌++◌, map, All, IsSome, OnOk, IfOk, Some};
 ghost use Rattle.std.specs.List.{flat_map};
-ghost use Rattle.pg_driver.specs.Inside.CellsAccounts.{CellsAccount};
-ghost use Rattle.pg_driver.specs.Inside.RunAccounts.{TellsCells};
+ghost use Rattle.pg_driver.specs.Inside.records.CellsAccounts.{CellsAccount};
+ghost use Rattle.pg_driver.specs.Inside.records.RunAccounts.{TellsCells};
 ghost use Rattle.pg_texts.specs.Inside.CellsLines as cells;
 ghost use Rattle.pg_texts.specs.Inside.CellsRecords.{HasLayouts, layout_there, pass_cells, level_cells, run_cells};
 

@@ -5,10 +5,10 @@ use Rattle.pg_outside.specs.Content.{FileMap, FilesShown, SinkShown, WasPut, Was
 use Rattle.pg_top.specs.Answers.{IsCall}
 use Rattle.pg_top.specs.Calls.{rule_of, usage_rule}
 use Rattle.pg_top.specs.Counted.{MakesPuts, IsCountedCall}
-use Rattle.pg_top.specs.Inside.Built.{Keeps, IsMade, Builds, EndsBuilt}
-use Rattle.pg_top.specs.Inside.PutCounts.{LinesCounted}
-use Rattle.pg_top.specs.Inside.Stops.{StopsCommand, PutsAnswer, PutsLines}
-use Rattle.pg_top.specs.Inside.WritesMade.{writing_of}
+use Rattle.pg_top.specs.Inside.ends.Built.{Keeps, IsMade, Builds, EndsBuilt}
+use Rattle.pg_top.specs.Inside.writing.PutCounts.{LinesCounted}
+use Rattle.pg_top.specs.Inside.ends.Stops.{StopsCommand, PutsAnswer, PutsLines}
+use Rattle.pg_top.specs.Inside.writing.WritesMade.{writing_of}
 use Rattle.pg_top.specs.Moments.{OfFiles}
 use Rattle.pg_top.specs.Outcomes.{IsKnown}
 use Rattle.pg_top.specs.PrintedLines.{usage_line}

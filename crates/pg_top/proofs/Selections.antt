@@ -8,10 +8,10 @@ use Rattle.pg_driver.specs.declared.records.LevelRecord.{LevelRecord}
 use Rattle.pg_driver.specs.Accounts.{begun_count}
 use Rattle.pg_driver.specs.Layouts.{families_at_end}
 use Rattle.pg_driver.specs.Traces.{source_of}
-use Rattle.pg_driver.specs.Inside.CellsAccounts.{CellsAccount, layout_of}
-use Rattle.pg_driver.specs.Inside.Sound.{Finished}
-use Rattle.pg_driver.specs.Inside.RunAccounts.{patterns_from, account_from, begun_from, cells_from, TellsCells, level_layout_told}
-use Rattle.pg_driver.specs.Inside.AccountLines.{Account}
+use Rattle.pg_driver.specs.Inside.records.CellsAccounts.{CellsAccount, layout_of}
+use Rattle.pg_driver.specs.Inside.records.Sound.{Finished}
+use Rattle.pg_driver.specs.Inside.records.RunAccounts.{patterns_from, account_from, begun_from, cells_from, TellsCells, level_layout_told}
+use Rattle.pg_driver.specs.Inside.records.AccountLines.{Account}
 use Rattle.pg_select.specs.Windows.{Patterns}
 use Rattle.pg_packed.specs.Inside.Starts.{pattern_families}
 use Rattle.pg_patterns.specs.Texts.{pattern_text}
@@ -21,11 +21,11 @@ use Rattle.pg_texts.specs.Inside.CellsLines.{account_cells_text}
 use Rattle.pg_texts.specs.Inside.ReportLines.{account_text}
 use Rattle.pg_texts.specs.PattmpTexts.{pattmp_text}
 use Rattle.pg_texts.proofs.TraceTexts.{cells_same, last_same, report_same}
-use Rattle.pg_top.specs.Inside.Runs.{last_layout_told}
+use Rattle.pg_top.specs.Inside.selection.Runs.{last_layout_told}
 use Rattle.pg_top.specs.Selection.{selection, selected_patterns, selected_totals, selected_text, selected_list, selected_cells_text, selected_report}
-use Rattle.pg_top.specs.Inside.SelectionSigns.{signs_of}
-use Rattle.pg_top.specs.Inside.SelectionAccounts.{selected_account, passes_begun, selected_cells_from, selected_cells, last_layout, work_line}
-use Rattle.pg_top.specs.Inside.SelectedRuns.{IsNew}
+use Rattle.pg_top.specs.Inside.selection.SelectionSigns.{signs_of}
+use Rattle.pg_top.specs.Inside.selection.SelectionAccounts.{selected_account, passes_begun, selected_cells_from, selected_cells, last_layout, work_line}
+use Rattle.pg_top.specs.Inside.selection.SelectedRuns.{IsNew}
 use Rattle.pg_top.specs.declared.selection.Inputs.{Inputs}
 
 pub patterns_selected : (i : Inputs) (m : Meaning) → IsNew i m → patterns_from i.table i.dictionary i.params m ≡ selected_patterns i

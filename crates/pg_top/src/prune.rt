@@ -2,7 +2,7 @@
 ghost use Rattle.pg_words.specs.Inside.Asked.{to_prune};
 ghost use Rattle.std.specs.Prelude.{Some};
 ghost use Rattle.pg_top.specs.Calls.{rule_of};
-ghost use Rattle.pg_top.specs.Inside.Built.{Builds};
+ghost use Rattle.pg_top.specs.Inside.ends.Built.{Builds};
 
 mod inputs;
 mod outputs;

@@ -12,12 +12,12 @@ ghost use Rattle.pg_select.specs.Statuses.{status_at, position_weight};
 ghost use Rattle.pg_select.specs.Sums.{marks_in, totals as totals_of_words};
 ghost use Rattle.pg_select.specs.Inside.SumSteps.{with_mark, with_marks, HasRoomFor, TookRoomFor};
 ghost use Rattle.pg_select.specs.Windows.{fits as fits_in, window as window_of_word};
-ghost use Rattle.pg_driver.specs.Inside.Counting.{meaning_after_counting, HasRoom, IsBounded, IsRead, TookRoom};
-ghost use Rattle.pg_driver.specs.Inside.OpenLevels.{listed_in, listed_from, open_as};
-ghost use Rattle.pg_driver.specs.Inside.PassWindows.{GetsNumber, HaveNumbers, NotesNumbers, uncovered_at};
-ghost use Rattle.pg_driver.specs.Inside.Sound.{IsSmall};
-ghost use Rattle.pg_driver.specs.Inside.States.{HasBegun, IsPass};
-ghost use Rattle.pg_driver.specs.Inside.WordLevels.{listing};
+ghost use Rattle.pg_driver.specs.Inside.counting.Counting.{meaning_after_counting, HasRoom, IsBounded, IsRead, TookRoom};
+ghost use Rattle.pg_driver.specs.Inside.counting.OpenLevels.{listed_in, listed_from, open_as};
+ghost use Rattle.pg_driver.specs.Inside.level.PassWindows.{GetsNumber, HaveNumbers, NotesNumbers, uncovered_at};
+ghost use Rattle.pg_driver.specs.Inside.records.Sound.{IsSmall};
+ghost use Rattle.pg_driver.specs.Inside.level.States.{HasBegun, IsPass};
+ghost use Rattle.pg_driver.specs.Inside.counting.WordLevels.{listing};
 ghost use Rattle.pg_driver.specs.Traces.{source_of};
 
 use crate::counting::above_positions::{is_above, list_above};

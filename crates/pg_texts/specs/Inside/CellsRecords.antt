@@ -4,8 +4,8 @@ use Rattle.pg_types.specs.declared.marks.Layout.{Layout}
 use Rattle.pg_select.specs.declared.pass.Pass.{Pass}
 use Rattle.pg_driver.specs.declared.records.PassRecord.{PassRecord}
 use Rattle.pg_driver.specs.declared.records.LevelRecord.{LevelRecord}
-use Rattle.pg_driver.specs.Inside.Sound.{Finished}
-use Rattle.pg_driver.specs.Inside.CellsAccounts.{CellsAccount}
+use Rattle.pg_driver.specs.Inside.records.Sound.{Finished}
+use Rattle.pg_driver.specs.Inside.records.CellsAccounts.{CellsAccount}
 
 -- every layout of a run is there
 pub record HasLayouts (r : Finished) : Type 0 where

@@ -7,14 +7,14 @@ use Rattle.pg_patterns.specs.Starts.{start}
 use Rattle.pg_select.specs.Windows.{Patterns}
 use Rattle.pg_top.specs.Counted.{MakesCalls, read_calls, EndsAt}
 use Rattle.pg_top.specs.Outcomes.{Ends, Writing}
-use Rattle.pg_top.specs.Inside.Refusing.{refuses}
-use Rattle.pg_top.specs.Inside.ReadAs.{read_as}
+use Rattle.pg_top.specs.Inside.ends.Refusing.{refuses}
+use Rattle.pg_top.specs.Inside.reading.ReadAs.{read_as}
 use Rattle.pg_top.specs.pack.Packed.{GivesValues, pack_rule, outcome_of_pack}
 use Rattle.pg_top.specs.totals.Totalled.{packed_table}
 use Rattle.pg_top.specs.pack.Inside.Inputs.{HasSource, packed_text}
 use Rattle.pg_words.specs.Requests.{PackRequest}
-use Rattle.pg_top.specs.Inside.Built.{Keeps}
-use Rattle.pg_top.specs.Inside.Stops.{StopsCommandWith, StopsCommand, StopsMaking}
+use Rattle.pg_top.specs.Inside.ends.Built.{Keeps}
+use Rattle.pg_top.specs.Inside.ends.Stops.{StopsCommandWith, StopsCommand, StopsMaking}
 use Rattle.pg_top.specs.declared.answers.Status.TheVariants.{Done}
 use Rattle.pg_top.specs.declared.inputs.Input.TheVariants as input
 use Rattle.pg_top.specs.declared.inputs.Stop.{Stop}

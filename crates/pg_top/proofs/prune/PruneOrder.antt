@@ -13,13 +13,13 @@ use Rattle.pg_top.specs.Counted.{MakesCalls}
 use Rattle.pg_top.specs.Readings.{table_named, translate_file, patterns_file, words_file, patterns_under, words_under}
 use Rattle.pg_top.specs.prune.Inside.Inputs.{HasPrune, line_of_pruned, pruned_by}
 use Rattle.pg_words.specs.Requests.{PruneRequest}
-use Rattle.pg_top.specs.Inside.Built.{Keeps}
+use Rattle.pg_top.specs.Inside.ends.Built.{Keeps}
 use Rattle.pg_prune.specs.Prunes.{pruning_of}
 use Rattle.pg_prune.specs.Reports.{prune_report}
 use Rattle.pg_prune.proofs.pruning.PrunedLaws.{pruned_part, pruned_alike, pruned_least}
 use Rattle.pg_select.specs.CountedPositions.{minima_of}
-use Rattle.pg_top.specs.Inside.Lists.{lists_under, HasLists}
-use Rattle.pg_top.specs.Inside.Stops.{StopsAt, StopsReading}
+use Rattle.pg_top.specs.Inside.reading.Lists.{lists_under, HasLists}
+use Rattle.pg_top.specs.Inside.ends.Stops.{StopsAt, StopsReading}
 use Rattle.pg_top.specs.declared.inputs.Stop.{Stop}
 use Rattle.pg_top.specs.declared.prune.inputs.PruneInputs.{PruneInputs}
 use Rattle.pg_top.proofs.ListOrder.{lists_accepted}

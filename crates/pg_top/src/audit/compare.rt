@@ -7,7 +7,7 @@ ghost use Rattle.pg_outside.specs.FilesCalls.{Reads};
 ghost use Rattle.pg_top.specs.audit.Audited.{denies};
 ghost use Rattle.pg_top.specs.Counted.{MakesCalls};
 ghost use Rattle.pg_top.specs.Readings.{first_end};
-ghost use Rattle.pg_top.specs.Inside.Stops.{OnlyReads, StopsAt, StopsReading};
+ghost use Rattle.pg_top.specs.Inside.ends.Stops.{OnlyReads, StopsAt, StopsReading};
 ghost use Rattle.pg_top.specs.audit.Inside.Verdicts.{wanted_file, wanted_files, end_of, ReadsToFind};
 
 use crate::audit::no_lines::no_line;

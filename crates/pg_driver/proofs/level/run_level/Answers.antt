@@ -1,7 +1,7 @@
 use Rattle.std.proofs.Common.{sym, ap, subst, ◌∙◌, arith}
 use Rattle.pg_select.specs.Inside.Meanings.{Meaning}
 use Rattle.pg_driver.specs.Accounts.{totals_by}
-use Rattle.pg_driver.specs.Inside.Sound.{IsSmall, Recorded}
+use Rattle.pg_driver.specs.Inside.records.Sound.{IsSmall, Recorded}
 use Rattle.pg_driver.specs.Traces.{source_of}
 use Rattle.pg_driver.proofs.RunSteps.{did_level}
 use Rattle.pg_driver.proofs.level.run_level.Goals as goal

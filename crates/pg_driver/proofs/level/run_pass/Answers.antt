@@ -3,11 +3,11 @@ use Rattle.pg_types.specs.Inside.NumberedWindows.{AreInOrder, AreNumbered}
 use Rattle.pg_dict.specs.Inside.SoundWords.{SignsAtMost}
 use Rattle.pg_select.specs.declared.choice.Choice.{Choice}
 use Rattle.pg_select.specs.Inside.Meanings.{Meaning}
-use Rattle.pg_driver.specs.Inside.PassWindows.{AreFates}
+use Rattle.pg_driver.specs.Inside.level.PassWindows.{AreFates}
 use Rattle.pg_driver.specs.Accounts.{totals_by}
-use Rattle.pg_driver.specs.Inside.LevelCounting.{AreNumberedIn, IsReady}
-use Rattle.pg_driver.specs.Inside.States.{State}
-use Rattle.pg_driver.specs.Inside.RunAccounts.{known_of}
+use Rattle.pg_driver.specs.Inside.counting.LevelCounting.{AreNumberedIn, IsReady}
+use Rattle.pg_driver.specs.Inside.level.States.{State}
+use Rattle.pg_driver.specs.Inside.records.RunAccounts.{known_of}
 use Rattle.pg_driver.specs.Traces.{Known, source_of}
 use Rattle.pg_driver.proofs.Numbered.{pass_numbered}
 use Rattle.pg_driver.proofs.PassSteps.{counted_as, counts_kept, did_pass, numbers_are, pass_state}

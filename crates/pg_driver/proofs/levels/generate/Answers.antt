@@ -1,8 +1,8 @@
 use Rattle.std.proofs.Common.{ap, ◌∙◌, sym, subst, arith}
 use Rattle.pg_patterns.specs.Inside.PatternMaps.{SignsUpTo}
-use Rattle.pg_driver.specs.Inside.Sound.{Finished}
-use Rattle.pg_driver.specs.Inside.States.{State}
-use Rattle.pg_driver.specs.Inside.RunAccounts.{TellsCells, account_of, cells_from, run_from}
+use Rattle.pg_driver.specs.Inside.records.Sound.{Finished}
+use Rattle.pg_driver.specs.Inside.level.States.{State}
+use Rattle.pg_driver.specs.Inside.records.RunAccounts.{TellsCells, account_of, cells_from, run_from}
 use Rattle.pg_driver.specs.Traces.{source_of}
 use Rattle.pg_driver.proofs.RunAccountSteps.{told_account, told_cells}
 use Rattle.pg_driver.proofs.RunSigns.{run_signs}

@@ -21,13 +21,13 @@ use Rattle.pg_driver.specs.declared.counting.word_level.WordLevel.{WordLevel}
 use Rattle.pg_driver.specs.declared.counting.above_positions.Kept.{Kept}
 use Rattle.pg_driver.specs.Accounts.{totals_by}
 use Rattle.pg_dots.specs.Inside.Dots.{is_closed, position_count}
-use Rattle.pg_driver.specs.Inside.Counting.{HasRoom, IsBounded, meaning_after_counting}
-use Rattle.pg_driver.specs.Inside.OpenSigns.{IsThere, closed_at_sign, open_word_positions, sign_count}
-use Rattle.pg_driver.specs.Inside.OpenPositions.{IsPlaced}
-use Rattle.pg_driver.specs.Inside.PassWindows.{HaveNumbers, counts_at, is_counted_at}
-use Rattle.pg_driver.specs.Inside.Sound.{IsSmall}
+use Rattle.pg_driver.specs.Inside.counting.Counting.{HasRoom, IsBounded, meaning_after_counting}
+use Rattle.pg_driver.specs.Inside.counting.OpenSigns.{IsThere, closed_at_sign, open_word_positions, sign_count}
+use Rattle.pg_driver.specs.Inside.counting.OpenPositions.{IsPlaced}
+use Rattle.pg_driver.specs.Inside.level.PassWindows.{HaveNumbers, counts_at, is_counted_at}
+use Rattle.pg_driver.specs.Inside.records.Sound.{IsSmall}
 use Rattle.pg_driver.specs.Traces.{Known, Source}
-use Rattle.pg_driver.specs.Inside.WordLevels.{IsWordsAt, kept_by}
+use Rattle.pg_driver.specs.Inside.counting.WordLevels.{IsWordsAt, kept_by}
 use Rattle.pg_types.specs.Inside.Limits.{sums_limit}
 
 -- a pass was counted: the engine has its windows and is not full, and the totals are those before

@@ -3,7 +3,7 @@ use Rattle.std.specs.Prelude.{ℕ, fold, ◌≡◌, List, map, All, Option, None
 use Rattle.pg_types.specs.Placement.{Families}
 use Rattle.pg_driver.specs.Traces.{Trace, Known, trace, final_patterns, source_of}
 use Rattle.pg_driver.specs.Layouts.{after_level}
-use Rattle.pg_driver.specs.Inside.CellsAccounts.{CellsAccount, cells_account}
+use Rattle.pg_driver.specs.Inside.records.CellsAccounts.{CellsAccount, cells_account}
 use Rattle.std.specs.Option.{option_map}
 use Rattle.pg_types.specs.declared.marks.Layout.{Layout}
 use Rattle.pg_types.specs.Parameters.{Parameters}
@@ -13,10 +13,10 @@ use Rattle.pg_select.specs.Inside.Meanings.{Meaning}
 use Rattle.pg_select.specs.declared.pass.Pass.{Pass}
 use Rattle.pg_driver.specs.declared.records.PassRecord.{PassRecord}
 use Rattle.pg_driver.specs.declared.records.LevelRecord.{LevelRecord}
-use Rattle.pg_driver.specs.Inside.Sound.{Finished}
+use Rattle.pg_driver.specs.Inside.records.Sound.{Finished}
 use Rattle.pg_select.specs.Windows.{Patterns}
 use Rattle.pg_driver.specs.Accounts.{begun_count}
-use Rattle.pg_driver.specs.Inside.AccountLines.{Account, PassLine, LevelLine, account}
+use Rattle.pg_driver.specs.Inside.records.AccountLines.{Account, PassLine, LevelLine, account}
 
 -- what an engine knows
 abbrev pub known_of : Meaning → Known

@@ -1,7 +1,7 @@
 -- What a run that is done tells of its end.
 use Rattle.std.specs.Prelude.{List, Option, fold}
 use Rattle.pg_types.specs.declared.marks.Layout.{Layout}
-use Rattle.pg_driver.specs.Inside.Sound.{Finished}
+use Rattle.pg_driver.specs.Inside.records.Sound.{Finished}
 
 -- a part of the last of a list; where the list is empty, what is given
 abbrev pub last_part : {X Y : Type 0} → (X → Y) → Y → List X → Y

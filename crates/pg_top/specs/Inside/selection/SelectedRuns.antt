@@ -2,11 +2,11 @@
 use Rattle.std.specs.Prelude.{◌≡◌}
 use Rattle.pg_patterns.specs.Inside.PatternMaps.{SignsUpTo}
 use Rattle.pg_select.specs.Inside.Meanings.{Meaning, new_engine}
-use Rattle.pg_driver.specs.Inside.RunAccounts.{account_of}
-use Rattle.pg_driver.specs.Inside.Sound.{Finished}
+use Rattle.pg_driver.specs.Inside.records.RunAccounts.{account_of}
+use Rattle.pg_driver.specs.Inside.records.Sound.{Finished}
 use Rattle.pg_top.specs.Selection.{selected_patterns}
-use Rattle.pg_top.specs.Inside.SelectionAccounts.{selected_account, passes_begun}
-use Rattle.pg_top.specs.Inside.SelectionSigns.{signs_of}
+use Rattle.pg_top.specs.Inside.selection.SelectionAccounts.{selected_account, passes_begun}
+use Rattle.pg_top.specs.Inside.selection.SelectionSigns.{signs_of}
 use Rattle.pg_top.specs.declared.selection.Inputs.{Inputs}
 
 -- the engine was just made with the starting patterns of the inputs

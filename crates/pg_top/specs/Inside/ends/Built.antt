@@ -2,9 +2,9 @@
 use Rattle.std.specs.Prelude.{◌≡◌, Result, Ok, Err, IfSome, IfOk, IfErr}
 use Rattle.pg_outside.specs.Content.{FilesShown, file_at}
 use Rattle.pg_top.specs.Counted.{MakesCalls, read_calls}
-use Rattle.pg_top.specs.Inside.PutCounts.{PutsCounted}
-use Rattle.pg_top.specs.Inside.Stops.{OnlyReads, StopsCommand, PutsStop, Finishes}
-use Rattle.pg_top.specs.Inside.WritesMade.{written_names, writing_of}
+use Rattle.pg_top.specs.Inside.writing.PutCounts.{PutsCounted}
+use Rattle.pg_top.specs.Inside.ends.Stops.{OnlyReads, StopsCommand, PutsStop, Finishes}
+use Rattle.pg_top.specs.Inside.writing.WritesMade.{written_names, writing_of}
 use Rattle.pg_top.specs.Moments.{Moment}
 use Rattle.pg_top.specs.Outcomes.{Ends}
 use Rattle.pg_top.specs.Readings.{HeldFiles}

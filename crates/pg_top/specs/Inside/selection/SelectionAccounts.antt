@@ -5,12 +5,12 @@ use Rattle.pg_types.specs.Placement.{Families}
 use Rattle.pg_packed.specs.Inside.Starts.{pattern_families}
 use Rattle.pg_driver.specs.Traces.{source_of}
 use Rattle.pg_driver.specs.Accounts.{begun_count}
-use Rattle.pg_driver.specs.Inside.AccountLines.{Account, account}
-use Rattle.pg_driver.specs.Inside.CellsAccounts.{CellsAccount, cells_account}
+use Rattle.pg_driver.specs.Inside.records.AccountLines.{Account, account}
+use Rattle.pg_driver.specs.Inside.records.CellsAccounts.{CellsAccount, cells_account}
 use Rattle.pg_texts.specs.Inside.CellsLines.{layout_line_text}
 use Rattle.pg_top.specs.Selection.{selection}
-use Rattle.pg_top.specs.Inside.Runs.{last_part}
-use Rattle.pg_top.specs.Inside.SelectionSigns.{signs_of}
+use Rattle.pg_top.specs.Inside.selection.Runs.{last_part}
+use Rattle.pg_top.specs.Inside.selection.SelectionSigns.{signs_of}
 use Rattle.pg_top.specs.declared.selection.Inputs.{Inputs}
 
 -- what is told of that run

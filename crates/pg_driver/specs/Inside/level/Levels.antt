@@ -11,16 +11,16 @@ use Rattle.pg_select.specs.declared.pass.Pass.{Pass}
 use Rattle.pg_select.specs.Inside.Laws.{CountsNothing}
 use Rattle.pg_select.specs.Windows.{Patterns}
 use Rattle.pg_driver.specs.declared.counting.Counting.{Counting}
-use Rattle.pg_driver.specs.Inside.LevelCounting.{IsCounted}
+use Rattle.pg_driver.specs.Inside.counting.LevelCounting.{IsCounted}
 use Rattle.pg_driver.specs.Traces.{Known, Source, PassTrace, LevelTrace, Trace, patterns_after, final_patterns, pass_traces, at_start}
-use Rattle.pg_driver.specs.Inside.Passes.{known_at_end}
+use Rattle.pg_driver.specs.Inside.level.Passes.{known_at_end}
 use Rattle.pg_driver.specs.Accounts.{has_candidate, begun_count}
-use Rattle.pg_driver.specs.Inside.AccountLines.{pass_line, pass_lines, chosen_by, level_line, is_skippable, begun_among}
+use Rattle.pg_driver.specs.Inside.records.AccountLines.{pass_line, pass_lines, chosen_by, level_line, is_skippable, begun_among}
 use Rattle.pg_driver.specs.Layouts.{after_level}
-use Rattle.pg_driver.specs.Inside.CellsAccounts.{pass_layouts, levels_with_families, level_layout}
-use Rattle.pg_driver.specs.Inside.RunAccounts.{known_of, line_of, level_line_of, layout_told, level_layout_told}
-use Rattle.pg_driver.specs.Inside.Sound.{Recorded}
-use Rattle.pg_driver.specs.Inside.States.{State, state_of, state_at_end}
+use Rattle.pg_driver.specs.Inside.records.CellsAccounts.{pass_layouts, levels_with_families, level_layout}
+use Rattle.pg_driver.specs.Inside.records.RunAccounts.{known_of, line_of, level_line_of, layout_told, level_layout_told}
+use Rattle.pg_driver.specs.Inside.records.Sound.{Recorded}
+use Rattle.pg_driver.specs.Inside.level.States.{State, state_of, state_at_end}
 
 -- what each pass that has a candidate tells of the cells: no layout where no families are told
 abbrev pub layouts_in : ℕ → Option Families → List PassTrace → List (Option (Pass × ℕ × ℕ))
