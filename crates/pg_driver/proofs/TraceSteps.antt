@@ -16,11 +16,11 @@ use Rattle.pg_driver.specs.Layouts.{after_pass}
 use Rattle.pg_driver.specs.Inside.records.CellsAccounts.{pass_layouts, passes_with_families}
 use Rattle.pg_driver.specs.Inside.level.Levels.{layouts_in}
 use Rattle.pg_driver.specs.Inside.level.States.{State, state_after, state_at_end}
-use Rattle.pg_driver.specs.Traces.{Known, PassTrace, chosen_in, known_after}
+use Rattle.pg_driver.specs.Traces.{Knowledge, PassTrace, chosen_in, known_after}
 use Rattle.pg_driver.specs.Inside.level.Passes.{known_at_end}
 
 -- what is known at the end of passes and one more
-known_push : (known : Known) (ps : List PassTrace) (q : PassTrace) → known_at_end known (ps ++ q ∷ []) ≡ known_after q
+known_push : (known : Knowledge) (ps : List PassTrace) (q : PassTrace) → known_at_end known (ps ++ q ∷ []) ≡ known_after q
 known_push known [] q = refl
 known_push known (p ∷ ps) q = known_push (known_after p) ps q
 

@@ -8,7 +8,7 @@ ghost use Rattle.pg_driver.specs.Inside.counting.LevelCounting.{AreNumberedIn, A
 ghost use Rattle.pg_driver.specs.Inside.level.PassWindows.{AreFates};
 ghost use Rattle.pg_driver.specs.Inside.level.States.{HasBegun, IsPass};
 ghost use Rattle.pg_driver.specs.Inside.records.RunAccounts.{known_of};
-ghost use Rattle.pg_driver.specs.Traces.{Known, Source, source_of};
+ghost use Rattle.pg_driver.specs.Traces.{Knowledge, Source, source_of};
 
 mod above_positions;
 mod carried_totals;
@@ -159,7 +159,7 @@ impl Counting {
 
     /// Goes on to the next length.
     pub fn next_length(&mut self) -> Result<(), AllocError>
-        ensures ready { OnOk result ((source : Source) (level len : ℕ) (known : Known)
+        ensures ready { OnOk result ((source : Source) (level len : ℕ) (known : Knowledge)
             → IsReady source level len known self.old
             → IsReady source level (len + 1) known self.new) }
         ensures counted { OnOk result (IsCounted self.old → IsCounted self.new) }

@@ -18,9 +18,9 @@ pub struct Run {
 
 impl Model for Run {
     ghost use Rattle.std.specs.Prelude.{All};
-    ghost use Rattle.pg_driver.specs.Inside.records.Sound.{Finished, IsSmall, IsSoundPass, IsSoundLevel};
+    ghost use Rattle.pg_driver.specs.Inside.records.Sound.{CompletedRun, IsSmall, IsSoundPass, IsSoundLevel};
 
-    ghost Value = { Finished };
+    ghost Value = { CompletedRun };
 
     ghost view = { λ r. record {
       patterns = r.patterns;

@@ -15,7 +15,7 @@ use Rattle.pg_driver.specs.Dots.{order}
 use Rattle.pg_driver.specs.Inside.records.AccountLines.{PassLine, account, chosen_by, level_line, pass_line, pass_lines}
 use Rattle.pg_driver.specs.Inside.records.CellsAccounts.{cells_account, layout_of, level_layout, levels_with_families, pass_layouts, passes_with_families}
 use Rattle.pg_driver.specs.Layouts.{strings_in, after_level, after_pass}
-use Rattle.pg_driver.specs.Traces.{Known, LevelTrace, PassTrace, Source, Trace, at_start, final_patterns, known_after, level_trace, level_traces, pass_trace, pass_traces, passes_of, patterns_after, trace}
+use Rattle.pg_driver.specs.Traces.{Knowledge, LevelTrace, PassTrace, Source, Trace, at_start, final_patterns, known_after, level_trace, level_traces, pass_trace, pass_traces, passes_of, patterns_after, trace}
 use Rattle.pg_texts.specs.Fronts.{level_front, pass_front}
 use Rattle.pg_texts.specs.CellsTexts.{cells_text, layout_text, levels_cells_text, passes_cells_text, used_text}
 use Rattle.pg_texts.specs.ReportTexts.{ending_text, level_text, pass_text, report_text, totals_text, warning_text}
@@ -37,7 +37,7 @@ passes_numbered n (len ∷ lens) =
     (All-map (λ (q : Pass). q.level ≡ n) (λ dot. record { level = n; len = len; dot = dot }) (order len) (λ k d less. refl))
     (passes_numbered n lens)
 
-made_numbered : (source : Source) (params : LevelParams) (n : ℕ) (known : Known) (qs : List Pass) → All (λ (q : Pass). q.level ≡ n) qs
+made_numbered : (source : Source) (params : LevelParams) (n : ℕ) (known : Knowledge) (qs : List Pass) → All (λ (q : Pass). q.level ≡ n) qs
     → All (λ (p : PassTrace). p.pass.level ≡ n) (pass_traces source params known qs)
 made_numbered source params n known [] are = All-nil (λ (p : PassTrace). p.pass.level ≡ n)
 made_numbered source params n known (q ∷ qs) are =

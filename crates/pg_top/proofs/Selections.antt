@@ -9,7 +9,7 @@ use Rattle.pg_driver.specs.Accounts.{begun_count}
 use Rattle.pg_driver.specs.Layouts.{families_at_end}
 use Rattle.pg_driver.specs.Traces.{source_of}
 use Rattle.pg_driver.specs.Inside.records.CellsAccounts.{CellsAccount, layout_of}
-use Rattle.pg_driver.specs.Inside.records.Sound.{Finished}
+use Rattle.pg_driver.specs.Inside.records.Sound.{CompletedRun}
 use Rattle.pg_driver.specs.Inside.records.RunAccounts.{patterns_from, account_from, begun_from, cells_from, TellsCells, level_layout_told}
 use Rattle.pg_driver.specs.Inside.records.AccountLines.{Account}
 use Rattle.pg_select.specs.Windows.{Patterns}
@@ -63,11 +63,11 @@ last_of (l ∷ levels) (t ∷ told) first start is same =
         second None other = other
         second (Some x) other = x.1
 
-pub last_is : (a : CellsAccount) (r : Finished) → TellsCells (Some a) r → last_layout_told r ≡ Some (last_layout a)
+pub last_is : (a : CellsAccount) (r : CompletedRun) → TellsCells (Some a) r → last_layout_told r ≡ Some (last_layout a)
 last_is a r tells = last_of r.levels a.levels r.first_layout a.start tells.0 tells.2
 
 -- over the packed engine these are the cells
-pub cells_packed : (i : Inputs) (fs : Option Families) (r : Finished) → fs ≡ Some (pattern_families (signs_of i) i.start) → TellsCells (option_map (selected_cells_from i) fs) r
+pub cells_packed : (i : Inputs) (fs : Option Families) (r : CompletedRun) → fs ≡ Some (pattern_families (signs_of i) i.start) → TellsCells (option_map (selected_cells_from i) fs) r
     → TellsCells (Some (selected_cells i)) r
 unfolding selected_cells
 cells_packed i fs r is tells = subst (λ fs. TellsCells (option_map (selected_cells_from i) fs) r) is tells

@@ -68,7 +68,7 @@ module _ (n : FileNames) (t : Alphabet) where
 pub outcome_generated : (n : FileNames) (i : Inputs) (files : FileMap) → HasInputs (file_at files) n i
     → outcome_of (file_at files) (generate_rule n) ≡ Ends Done (selected_files n i) (selected_lines i)
 outcome_generated n i files h =
-    ap (λ end. unwrap_or end ((generate_rule n).comes (file_at files))) (accepted_all (file_at files) (inputs_of n) (inputs_accepted n i.table i.params i.start i.dictionary files h))
+    ap (λ end. unwrap_or end ((generate_rule n).own_outcome (file_at files))) (accepted_all (file_at files) (inputs_of n) (inputs_accepted n i.table i.params i.start i.dictionary files h))
     ∙ ap (λ (i : Inputs). Ends Done (selected_files n i) (selected_lines i)) (given n i.table i.params i.start i.dictionary files h)
 
 -- one input is read after the other, and the files stay as they are

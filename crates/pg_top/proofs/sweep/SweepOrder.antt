@@ -106,5 +106,5 @@ sweep_outcome s terms sets files h =
     let is_P = means_under s.translate t start [] s.patterns P files h.table h.start in
     let is_ws = means_under s.translate t words [] s.dict ws files h.table h.words in
     let is_sets = sets_mean (file_at files) s.params sets h.sets in
-    ap (λ end. unwrap_or end ((sweep_rule s).comes (file_at files))) (accepted_all (file_at files) (sweep_rule s).reads (sweep_accepted s terms sets files h))
+    ap (λ end. unwrap_or end ((sweep_rule s).own_outcome (file_at files))) (accepted_all (file_at files) (sweep_rule s).reads (sweep_accepted s terms sets files h))
     ∙ (λ k. outcome_of_sets s (record { table = is_t k; words = is_ws k; start = is_P k; folds = sym h.folds k }) (is_sets k))

@@ -52,7 +52,7 @@ totals_outcome p t ws lines files h is =
     let is_t = is_table p.translate t files h.0 in
     let is_ws = means_under p.translate t words [] p.dict ws files h.0 h.1 in
     let is_b = means_under p.translate t packed_table [] p.table b files h.0 is.1 in
-    ap (λ end. unwrap_or end ((totals_rule p).comes (file_at files))) (accepted_all (file_at files) (totals_rule p).reads accepted)
+    ap (λ end. unwrap_or end ((totals_rule p).own_outcome (file_at files))) (accepted_all (file_at files) (totals_rule p).reads accepted)
     ∙ (λ k. Ends Done [] (totals_lines (is_t k) (is_ws k) (is_b k)))
     ∙ ap (Ends Done []) (sym is.2)
 
