@@ -46,7 +46,7 @@ fn push_pass(text: &mut Vec<u8>, pass: &PassRecord) -> Result<(), AllocError>
     ensures { OnOk result
         (text.new.items ≡ text.old.items ++ cells.pass_cells_text (pass_cells pass.now)) }
 {
-    push_pass_front(text, pass.level, pass.len, pass.dot)?;
+    push_pass_front(text, pass)?;
     push_used(text, &layout_of(pass.layout))?;
     text.extend_from_slice(b"\n")
 }

@@ -65,7 +65,7 @@ fn push_pass(text: &mut Vec<u8>, pass: &PassRecord) -> Result<(), AllocError>
     ensures { OnOk result (text.new.items
         ≡ text.old.items ++ lines.pass_line_text (line_of pass.now)) }
 {
-    push_pass_front(text, pass.level, pass.len, pass.dot)?;
+    push_pass_front(text, pass)?;
     push_totals(text, &pass.before)?;
     text.extend_from_slice(b"; ")?;
     push_counts(text, pass)?;
