@@ -1,5 +1,6 @@
 -- The texts of what a run tells are those of its trace.
 use Rattle.std.proofs.Common.{◌≡◌, ℕ, ◌+◌, ◌-◌, Bool, true, false, cond, List, [], ◌∷◌, ◌++◌, map, filter, fold, codes, decimal, refl, ap, ◌∙◌, append_assoc}
+use Rattle.pg_translate.specs.Gaps.{last_else}
 use Rattle.std.specs.List.{All, enumerate_from, flat_map, range_with_len}
 use Rattle.std.proofs.lemmas.List.Elements.{All-append, All-cons, All-filter, All-head, All-map, All-nil, All-tail}
 use Rattle.std.proofs.lemmas.List.Folds.{flat_map-map}
@@ -165,7 +166,7 @@ cells_same source parameters signs S =
 
 -- the layout after the last level
 pub last_same : (signs : ℕ) (fs : Families) (S : Patterns) (run : Trace)
-    → fold (λ _ (l : ℕ × Layout). l.1) (layout_of fs S) (map (λ (e : LevelTrace × Families). level_layout signs e.1 e.0) (levels_with_families signs fs run))
+    → last_else (layout_of fs S) (map (λ (l : ℕ × Layout). l.1) (map (λ (e : LevelTrace × Families). level_layout signs e.1 e.0) (levels_with_families signs fs run)))
     ≡ layout_of (fold (after_level signs) fs run) (final_patterns S run)
 last_same signs fs S [] = refl
 last_same signs fs S (l ∷ ls) = last_same signs (after_level signs fs l) (patterns_after l) ls

@@ -1,5 +1,6 @@
 -- What the driver gives over a new engine is the selection.
-use Rattle.std.proofs.Common.{◌≡◌, ℕ, List, [], ◌∷◌, ◌++◌, Option, None, Some, fold, map, codes, decimal, refl, ap, subst, ◌∙◌, append_assoc}
+use Rattle.std.proofs.Common.{◌≡◌, ℕ, List, [], ◌∷◌, ◌++◌, Option, None, Some, map, codes, decimal, refl, ap, subst, ◌∙◌, append_assoc}
+use Rattle.pg_translate.specs.Gaps.{last_else}
 use Rattle.std.specs.Option.{option_map}
 use Rattle.pg_types.specs.declared.marks.Layout.{Layout}
 use Rattle.pg_types.specs.Placement.{Families}
@@ -46,7 +47,7 @@ cells_selected i m is = ap (cells_from i.table i.dictionary i.params) is
 
 -- the layout that a run tells last is the last of what is told of its cells
 last_of : (levels : List LevelRecord) (told : List (ℕ × Layout)) (first : Option Layout) (start : Layout) → first ≡ Some start → map level_layout_told levels
-    ≡ map Some told → fold (λ _ l. l.layout) first levels ≡ Some (fold (λ _ l. l.1) start told)
+    ≡ map Some told → last_else first (map (λ l. l.layout) levels) ≡ Some (last_else start (map (λ l. l.1) told))
 last_of [] [] first start is same = is
 last_of [] (t ∷ told) first start is same = cc
 last_of (l ∷ levels) [] first start is same = cc
