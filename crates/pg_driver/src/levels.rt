@@ -74,8 +74,8 @@ fn run_levels<E: Engine>(
     }
 }
 
-/// Does the run of a dictionary from the patterns of an engine: level after level, and in a level a
-/// pass for each length and dot, which counts the windows at the positions that count, and then
+/// Does the run of a dictionary from the patterns of an engine, level after level. A level has a
+/// pass for each length and dot. A pass counts the windows at the positions that count, and then
 /// chooses among the candidates (Liang's thesis of 1983, patgen 2.4). The final patterns are left
 /// in the engine too.
 ///

@@ -52,8 +52,9 @@ fn counted(
     }
 }
 
-/// Counts the window at position `p` of a word, which counts by its status as `good` says, where it
-/// counts in the pass, and gives its number; `NO_NUMBER` where it does not count.
+/// Counts the window at position `p` of a word, where it counts in the pass, and gives its number.
+/// By its status the position counts as `good` says. The number is `NO_NUMBER` where the window does
+/// not count.
 fn count_at<E: Engine>(
     engine: &mut E,
     pass: Pass,
@@ -128,8 +129,8 @@ fn count_position<E: Engine>(
     Ok(())
 }
 
-/// Counts the positions of a word, and adds them to the totals. Those that count and have a value
-/// above the level have the numbers of their windows noted, and where `lists` says so they are
+/// Counts the positions of a word, and adds them to the totals. For those that count and have a
+/// value above the level, the numbers of their windows are noted. Where `lists` says so, they are
 /// listed. What `found` holds does not matter.
 fn count_word<E: Engine>(
     engine: &mut E,
