@@ -31,8 +31,8 @@ pub enum Verdict {
     False(Vec<u8>),
 }
 
-/// What comparing a given file, or a long one's first bytes, with its text gives. The observer is
-/// told of a false line.
+/// What the comparison of a given file with its text gives. Of a long file, `bytes` are the first
+/// ones. The observer is told of a false line.
 fn judge<W: Watch>(
     alloc: Global,
     bytes: &[u8],
