@@ -1,3 +1,4 @@
+-- How the text of a packed table is made.
 pub mod Packed
 pub mod Sharing
 pub mod Rows
