@@ -6,7 +6,7 @@ use Rattle.std.proofs.lemmas.Slice.Eq.{bytes_eq-Decides}
 use Rattle.pg_types.specs.Lines.{is_line_feed}
 use Rattle.pg_audit.specs.Inside.Cut.{first_whole, rest_whole}
 use Rattle.pg_audit.specs.Differences.{difference_from, whole_lines, first_false}
-use Rattle.pg_audit.specs.Inside.FirstFalse.{shown}
+use Rattle.pg_audit.specs.Inside.FirstFalse.{shown_difference}
 use Rattle.std.proofs.Math.Seq.{take-nil}
 use Rattle.std.proofs.lemmas.List.{take_all, length-take}
 use Rattle.pg_audit.proofs.Cuts.{whole_length, first_filled, step_other, step_same}
@@ -62,8 +62,8 @@ other_part m b bs wanted room other = elim (cases_Bool (bytes_eq (first_whole (b
 
 -- the law behind some lines, which have the numbers below n
 part_from : (fuel n : ℕ) (given wanted : List ℕ) (more : ℕ) → length given ≤ fuel → length wanted + more < length given
-    → option_map (shown (more + 1)) (difference_from n (whole_lines (take (length wanted + (more + 1)) given)) (whole_lines wanted))
-    ≡ option_map (shown (more + 1)) (difference_from n (whole_lines given) (whole_lines wanted))
+    → option_map (shown_difference (more + 1)) (difference_from n (whole_lines (take (length wanted + (more + 1)) given)) (whole_lines wanted))
+    ≡ option_map (shown_difference (more + 1)) (difference_from n (whole_lines given) (whole_lines wanted))
 part_from fuel n [] wanted more few longer = absurd (omega arith)
 part_from zero n (b ∷ bs) wanted more few longer = absurd (omega arith)
 part_from (suc fuel) n (b ∷ bs) wanted more few longer =
@@ -80,18 +80,19 @@ part_from (suc fuel) n (b ∷ bs) wanted more few longer =
           let rest_is : rest_whole (b ∷ take (length wanted + more) bs) ≡ take (length (rest_whole wanted) + (more + 1)) (rest_whole (b ∷ bs)) =
           part_rest (suc (length wanted + more)) (b ∷ bs) less ∙ ap (λ k. take k (rest_whole (b ∷ bs))) (omega (arith, ap length lines)) in
           let rest = part_from fuel (n + 1) (rest_whole (b ∷ bs)) (rest_whole wanted) more (omega arith) (omega (arith, ap length lines)) in
-          ap (option_map (shown (more + 1))) (step_same n b (take (length wanted + more) bs) wanted there ∙ ap (λ r. difference_from (n + 1) (whole_lines r) (whole_lines (rest_whole wanted))) rest_is)
+          ap (option_map (shown_difference (more + 1))) (step_same n b (take (length wanted + more) bs) wanted there
+          ∙ ap (λ r. difference_from (n + 1) (whole_lines r) (whole_lines (rest_whole wanted))) rest_is)
           ∙ rest
-          ∙ sym (ap (option_map (shown (more + 1))) (step_same n b bs wanted same))
+          ∙ sym (ap (option_map (shown_difference (more + 1))) (step_same n b bs wanted same))
       | inr other ↦
           let found : take (more + 1) (first_whole (b ∷ take (length wanted + more) bs)) ≡ take (more + 1) (first_whole (b ∷ bs)) =
           ap (take (more + 1)) (part_first (suc (length wanted + more)) (b ∷ bs)) ∙ take_within (more + 1) (suc (length wanted + more)) (first_whole (b ∷ bs)) (omega arith) in
-          ap (option_map (shown (more + 1))) (step_other n b (take (length wanted + more) bs) wanted (other_part (length wanted + more) b bs wanted (omega arith) other))
+          ap (option_map (shown_difference (more + 1))) (step_other n b (take (length wanted + more) bs) wanted (other_part (length wanted + more) b bs wanted (omega arith) other))
           ∙ ap (λ r. Some (record { line = n; found = r })) found
-          ∙ sym (ap (option_map (shown (more + 1))) (step_other n b bs wanted other))
+          ∙ sym (ap (option_map (shown_difference (more + 1))) (step_other n b bs wanted other))
     ])
 
 -- of a longer file the first part has the same false line as the whole
-pub first_part : (given wanted : List ℕ) (more : ℕ) → length wanted + more < length given → option_map (shown (more + 1)) (first_false (take (length wanted + (more + 1)) given) wanted)
-    ≡ option_map (shown (more + 1)) (first_false given wanted)
+pub first_part : (given wanted : List ℕ) (more : ℕ) → length wanted + more < length given → option_map (shown_difference (more + 1)) (first_false (take (length wanted + (more + 1)) given) wanted)
+    ≡ option_map (shown_difference (more + 1)) (first_false given wanted)
 first_part given wanted more longer = part_from (length given) 1 given wanted more (omega arith) longer

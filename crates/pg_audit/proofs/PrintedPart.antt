@@ -5,7 +5,7 @@ use Rattle.std.proofs.lemmas.Bool.Decides.{nat_tests}
 use Rattle.std.proofs.lemmas.List.{take_all, length-take}
 use Rattle.pg_audit.specs.Differences.{Difference, first_false}
 use Rattle.pg_audit.specs.declared.lines.TheConstants.{SHOWN_MAX}
-use Rattle.pg_audit.specs.Inside.FirstFalse.{shown}
+use Rattle.pg_audit.specs.Inside.FirstFalse.{shown_difference}
 use Rattle.pg_audit.specs.Inside.FoundForms.{Begins, found_line, printed_of, has_feed, without_feed}
 use Rattle.pg_audit.proofs.FirstPart.{take_within, first_part}
 
@@ -35,12 +35,12 @@ part_prints n line enough = elim (cases_Bool (nat_lt n (length line))) [
 same_printed : (n : ℕ) (f g : List ℕ) → SHOWN_MAX + 2 ≤ n → take n f ≡ take n g → found_line f ≡ found_line g
 same_printed n f g enough same = sym (part_prints n f enough) ∙ ap found_line same ∙ part_prints n g enough
 
-same_differences : (n : ℕ) (a b : Option Difference) → SHOWN_MAX + 2 ≤ n → option_map (shown n) a ≡ option_map (shown n) b → option_map printed_of a ≡ option_map printed_of b
+same_differences : (n : ℕ) (a b : Option Difference) → SHOWN_MAX + 2 ≤ n → option_map (shown_difference n) a ≡ option_map (shown_difference n) b → option_map printed_of a ≡ option_map printed_of b
 same_differences n None None enough same = refl
 same_differences n None (Some b) enough same = cc
 same_differences n (Some a) None enough same = cc
 same_differences n (Some a) (Some b) enough same =
-    let parts : shown n a ≡ shown n b = cc in
+    let parts : shown_difference n a ≡ shown_difference n b = cc in
     let line : a.line ≡ b.line = ap (λ (d : Difference). d.line) parts in
     let bytes : take n a.found ≡ take n b.found = ap (λ (d : Difference). d.found) parts in
     let found : found_line a.found ≡ found_line b.found = same_printed n a.found b.found enough bytes in

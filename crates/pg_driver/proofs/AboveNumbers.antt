@@ -26,12 +26,12 @@ use Rattle.pg_select.proofs.LawsTally.{is_counted_window}
 use Rattle.pg_driver.specs.declared.counting.above_positions.Kept.{Kept}
 use Rattle.pg_driver.specs.declared.pass_windows.WordPosition.{WordPosition}
 use Rattle.pg_driver.specs.declared.pass_windows.TheConstants.{NO_NUMBER}
-use Rattle.pg_driver.specs.Inside.Counting.{IsRead, meaning_after_counting}
-use Rattle.pg_driver.specs.Inside.OpenLevels.{open_as}
-use Rattle.pg_driver.specs.Inside.OpenPositions.{counted_in, counted_of}
-use Rattle.pg_driver.specs.Inside.PassWindows.{AreFates, GetsNumber, HaveNumbers, IsNumbered, is_counted_at, uncovered_at}
-use Rattle.pg_driver.specs.Inside.Fates.{chooses}
-use Rattle.pg_driver.specs.Inside.WordLevels.{bad_kept, good_kept, kept_by, was_chosen, with_kept}
+use Rattle.pg_driver.specs.Inside.counting.Counting.{IsRead, meaning_after_counting}
+use Rattle.pg_driver.specs.Inside.counting.OpenLevels.{open_as}
+use Rattle.pg_driver.specs.Inside.counting.OpenPositions.{counted_in, counted_of}
+use Rattle.pg_driver.specs.Inside.level.PassWindows.{AreFates, GetsNumber, HaveNumbers, IsNumbered, is_counted_at, uncovered_at}
+use Rattle.pg_driver.specs.Inside.choices.Fates.{chooses}
+use Rattle.pg_driver.specs.Inside.counting.WordLevels.{bad_kept, good_kept, kept_by, was_chosen, with_kept}
 use Rattle.pg_driver.proofs.NumberSteps.{fate_there, have_more, still_have}
 use Rattle.pg_driver.proofs.OpenLevels.{found_is}
 

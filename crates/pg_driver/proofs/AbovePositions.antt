@@ -10,8 +10,8 @@ use Rattle.pg_select.specs.declared.pass.Pass.{Pass}
 use Rattle.pg_select.specs.CountedPositions.{CountedPosition}
 use Rattle.pg_driver.specs.declared.counting.above_positions.Kept.{Kept}
 use Rattle.pg_driver.specs.declared.pass_windows.WordPosition.{WordPosition}
-use Rattle.pg_driver.specs.Inside.OpenPositions.{counted_of}
-use Rattle.pg_driver.specs.Inside.WordLevels.{bad_kept, good_kept, kept_by, with_kept}
+use Rattle.pg_driver.specs.Inside.counting.OpenPositions.{counted_of}
+use Rattle.pg_driver.specs.Inside.counting.WordLevels.{bad_kept, good_kept, kept_by, with_kept}
 
 module _ (params : LevelParams) (pass : Pass) (counts : Counts) (words : List Word) where
   sum_more : (weigh : CountedPosition → ℕ) (k n whole : ℕ) (e : WordPosition) (es : List WordPosition) → n ≡ k + sum_by weigh (flat_map (counted_of pass words) (e ∷ []))

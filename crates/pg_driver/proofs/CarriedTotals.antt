@@ -5,9 +5,9 @@ use Rattle.pg_types.specs.declared.marks.Totals.{Totals}
 use Rattle.pg_select.specs.Windows.{Patterns}
 use Rattle.pg_select.proofs.LawsSums.{totals_small_within}
 use Rattle.pg_driver.specs.Accounts.{totals_by}
-use Rattle.pg_driver.specs.Inside.Counting.{IsBounded}
-use Rattle.pg_driver.specs.Inside.LevelCounting.{Carries}
-use Rattle.pg_driver.specs.Inside.Sound.{IsSmall}
+use Rattle.pg_driver.specs.Inside.counting.Counting.{IsBounded}
+use Rattle.pg_driver.specs.Inside.counting.LevelCounting.{Carries}
+use Rattle.pg_driver.specs.Inside.records.Sound.{IsSmall}
 use Rattle.pg_driver.specs.Traces.{Source}
 
 same_totals : (a b : Totals) → a.good ≡ b.good → a.bad ≡ b.bad → a.missed ≡ b.missed → a ≡ b

@@ -18,11 +18,11 @@ use Rattle.pg_select.specs.declared.pass.Pass.{Pass}
 use Rattle.pg_select.specs.CountedPositions.{Candidate}
 use Rattle.pg_select.specs.Windows.{Hopeless}
 use Rattle.pg_driver.specs.declared.choices.Choices.{Choices}
-use Rattle.pg_driver.specs.Inside.Counting.{weight_in}
-use Rattle.pg_driver.specs.Inside.Choosing.{candidate_of, with_candidates, HasChosen}
-use Rattle.pg_driver.specs.Inside.States.{State, state_of, state_after}
+use Rattle.pg_driver.specs.Inside.counting.Counting.{weight_in}
+use Rattle.pg_driver.specs.Inside.choices.Choosing.{candidate_of, with_candidates, HasChosen}
+use Rattle.pg_driver.specs.Inside.level.States.{State, state_of, state_after}
 use Rattle.pg_driver.specs.Traces.{is_chosen, is_hopeless, is_entered}
-use Rattle.pg_driver.specs.Inside.Fates.{choice_of, chosen_of, hopeless_of, entered_of, chooses, gives_up}
+use Rattle.pg_driver.specs.Inside.choices.Fates.{choice_of, chosen_of, hopeless_of, entered_of, chooses, gives_up}
 use Rattle.pg_driver.proofs.FateLaws.{chosen_is, hopeless_is}
 
 abbrev Entry : Type 0

@@ -4,7 +4,7 @@ use Rattle.std.proofs.lemmas.Bool.Decides.{nat_tests}
 use Rattle.pg_types.specs.declared.parameters.LevelParams.{LevelParams}
 use Rattle.pg_select.specs.declared.choice.Choice.TheVariants.{Hopeless, Chosen, Left}
 use Rattle.pg_select.specs.CountedPositions.{Candidate}
-use Rattle.pg_driver.specs.Inside.Fates.{choice_of, chooses, gives_up}
+use Rattle.pg_driver.specs.Inside.choices.Fates.{choice_of, chooses, gives_up}
 use Rattle.pg_driver.specs.Traces.{is_chosen, is_hopeless}
 
 -- what is hopeless is not chosen

@@ -20,10 +20,10 @@ use Rattle.pg_select.specs.Inside.Meanings.{Meaning, after_count}
 use Rattle.pg_select.specs.Statuses.{position_weight}
 use Rattle.pg_select.specs.Windows.{window, fits}
 use Rattle.pg_driver.specs.declared.pass_windows.TheConstants.{NO_NUMBER}
-use Rattle.pg_driver.specs.Inside.Counting.{meaning_after_counting}
-use Rattle.pg_driver.specs.Inside.OpenPositions.{counted_in, counted_of}
-use Rattle.pg_driver.specs.Inside.OpenSigns.{sign_count, start_of}
-use Rattle.pg_driver.specs.Inside.PassWindows.{IsNumbered, counts_at}
+use Rattle.pg_driver.specs.Inside.counting.Counting.{meaning_after_counting}
+use Rattle.pg_driver.specs.Inside.counting.OpenPositions.{counted_in, counted_of}
+use Rattle.pg_driver.specs.Inside.counting.OpenSigns.{sign_count, start_of}
+use Rattle.pg_driver.specs.Inside.level.PassWindows.{IsNumbered, counts_at}
 use Rattle.pg_driver.proofs.NumberSteps.{get_left, get_right}
 use Rattle.pg_driver.proofs.OpenSigns.{IsSignOf, range_get, sign_of, start_before, start_past}
 

@@ -11,15 +11,15 @@ use Rattle.pg_select.specs.Inside.Meanings.{Meaning}
 use Rattle.pg_select.specs.declared.pass.Pass.{Pass}
 use Rattle.pg_select.specs.CountedPositions.{Candidate}
 use Rattle.pg_driver.specs.declared.records.PassRecord.{PassRecord}
-use Rattle.pg_driver.specs.Inside.AccountLines.{PassLine, left_none}
+use Rattle.pg_driver.specs.Inside.records.AccountLines.{PassLine, left_none}
 use Rattle.pg_driver.specs.Dots.{dot_at}
 use Rattle.pg_driver.specs.Layouts.{after_pass}
-use Rattle.pg_driver.specs.Inside.Levels.{CountNothing, SkipFlags, GoesOn, IsAt, LevelStart, Tells, all_made_by, is_set, layouts_in, point, no_flags}
-use Rattle.pg_driver.specs.Inside.Sound.{Recorded, with_pass}
-use Rattle.pg_driver.specs.Inside.States.{DidPass, State, made_by, state_after, state_at_end, state_of}
-use Rattle.pg_driver.specs.Inside.RunAccounts.{known_of}
-use Rattle.pg_driver.specs.Traces.{Known, PassTrace, Source, is_entered, known_after, pass_trace, pass_traces}
-use Rattle.pg_driver.specs.Inside.Passes.{known_at_end, passes_of_length}
+use Rattle.pg_driver.specs.Inside.level.Levels.{CountNothing, SkipFlags, GoesOn, IsAt, LevelStart, Tells, all_made_by, is_set, layouts_in, point, no_flags}
+use Rattle.pg_driver.specs.Inside.records.Sound.{RunRecords, with_pass}
+use Rattle.pg_driver.specs.Inside.level.States.{DidPass, State, made_by, state_after, state_at_end, state_of}
+use Rattle.pg_driver.specs.Inside.records.RunAccounts.{known_of}
+use Rattle.pg_driver.specs.Traces.{Knowledge, PassTrace, Source, is_entered, known_after, pass_trace, pass_traces}
+use Rattle.pg_driver.specs.Inside.level.Passes.{known_at_end, passes_of_length}
 use Rattle.pg_driver.proofs.ChoiceSteps.{state_none, state_with}
 use Rattle.pg_driver.proofs.Numbers.{plus_zero}
 use Rattle.pg_select.proofs.Reaches.{range_step}
@@ -62,7 +62,7 @@ no_layouts signs None xs = sym (append-nil xs)
 no_layouts signs (Some fs) xs = sym (append-nil xs)
 
 -- where a level begins
-pub at_level_start : (source : Source) (number len : ℕ) (m : Meaning) (r : Recorded) (flags : SkipFlags) → r.chosen ≡ 0 → flags.here ≡ no_flags
+pub at_level_start : (source : Source) (number len : ℕ) (m : Meaning) (r : RunRecords) (flags : SkipFlags) → r.chosen ≡ 0 → flags.here ≡ no_flags
     → flags.longer ≡ no_flags → IsAt source number len (record { engine = m; records = r }) [] (point m r flags)
 at_level_start source number len m r flags chosen here longer = record {
   signs = refl;
@@ -79,7 +79,7 @@ at_level_start source number len m r flags chosen here longer = record {
   skippable = λ n dot is. cc;
 }
 
-module _ (source : Source) (params : LevelParams) (number len dot : ℕ) (m : Meaning) (start : LevelStart) (ps : List PassTrace) (r : Recorded)
+module _ (source : Source) (params : LevelParams) (number len dot : ℕ) (m : Meaning) (start : LevelStart) (ps : List PassTrace) (r : RunRecords)
     (old : SkipFlags) (at : IsAt source number len start ps (point m r old)) where
   abbrev q : PassTrace
   q = made_by source params m (pass_with number len dot)
@@ -97,7 +97,7 @@ module _ (source : Source) (params : LevelParams) (number len dot : ℕ) (m : Me
   tells_on b new left here longer = tells_more number len dot source params (known_of m) old new ps at.tells here (subst (λ (b : Bool). Follows dot b old new) left longer)
 
   closed_after : (n : Meaning) → state_of n ≡ state_after m.signs m.families q → CountNothing source number (ps ++ q ∷ []) (known_of n)
-  closed_after n state = subst (λ (known : Known). CountNothing source number (ps ++ q ∷ []) known) (sym (ap (λ (s : State). s.known) state))
+  closed_after n state = subst (λ (known : Knowledge). CountNothing source number (ps ++ q ∷ []) known) (sym (ap (λ (s : State). s.known) state))
       (closed_on source params number len dot (known_of m) ps at.skippable)
 
 -- a pass that is skipped changes nothing
@@ -108,7 +108,7 @@ state_stays source params pass m none = sym (state_none m.signs params pass (sta
 none_left : (params : LevelParams) (q : PassTrace) → q.candidates ≡ [] → true ≡ left_none q
 none_left params q none = ap (λ (cs : List Candidate). list_all (is_entered q.params) cs) (sym none)
 
-module _ (source : Source) (params : LevelParams) (number len dot : ℕ) (m : Meaning) (r : Recorded) (old new : SkipFlags) where
+module _ (source : Source) (params : LevelParams) (number len dot : ℕ) (m : Meaning) (r : RunRecords) (old new : SkipFlags) where
   -- a pass that was skipped
   pub skipped_known : (start : LevelStart) (ps : List PassTrace) → is_set old.here dot ≡ true → IsAt source number len start ps (point m r old)
       → (made_by source params m (pass_with number len dot)).candidates ≡ []
@@ -131,7 +131,7 @@ module _ (source : Source) (params : LevelParams) (number len dot : ℕ) (m : Me
       (on, ap (λ (s : State). s.known) state)
 
   -- a pass that was done
-  pub done_on : (n : Meaning) (s : Recorded) (rec : PassRecord) (b : Bool) → is_set old.here dot ≡ false → new.here ≡ old.here → Follows dot b old new
+  pub done_on : (n : Meaning) (s : RunRecords) (rec : PassRecord) (b : Bool) → is_set old.here dot ≡ false → new.here ≡ old.here → Follows dot b old new
       → b ≡ (rec.chosen + rec.hopeless == rec.candidates) → n.signs ≡ m.signs
       → DidPass source params (pass_with number len dot) m n rec → s ≡ with_pass r rec
       → GoesOn source number len (made_by source params m (pass_with number len dot) ∷ []) (point m r old) (point n s new)
@@ -151,7 +151,7 @@ module _ (source : Source) (params : LevelParams) (number len dot : ℕ) (m : Me
       (on, ap (λ (s : State). s.known) did.state)
 
 -- at the next length
-pub at_next : (source : Source) (number len : ℕ) (start : LevelStart) (ps : List PassTrace) (m : Meaning) (r : Recorded) (old new : SkipFlags) → new.here
+pub at_next : (source : Source) (number len : ℕ) (start : LevelStart) (ps : List PassTrace) (m : Meaning) (r : RunRecords) (old new : SkipFlags) → new.here
     ≡ old.longer → new.longer ≡ no_flags → IsAt source number len start ps (point m r old) → IsAt source number (len + 1) start ps (point m r new)
 at_next source number len start ps m r old new here longer at = record {
   signs = at.signs;
@@ -163,15 +163,15 @@ at_next source number len start ps m r old new here longer at = record {
 }
 
 -- passes that were made, and those that are left and lead to a whole
-pub record Reaches (source : Source) (params : LevelParams) (number len : ℕ) (start : LevelStart) (m : Meaning) (r : Recorded) (flags : SkipFlags)
-    (rest : List Pass) (whole : List PassTrace) (end : Known) : Type 0 where
+pub record Reaches (source : Source) (params : LevelParams) (number len : ℕ) (start : LevelStart) (m : Meaning) (r : RunRecords) (flags : SkipFlags)
+    (rest : List Pass) (whole : List PassTrace) (end : Knowledge) : Type 0 where
   pub done : List PassTrace
   pub at : IsAt source number len start done (point m r flags)
   pub left : done ++ all_made_by source params m rest ≡ whole
   pub known : known_at_end (known_of m) (all_made_by source params m rest) ≡ end
 
 -- passes, and then others
-pub made_append : (source : Source) (params : LevelParams) (known : Known) (xs ys : List Pass) → pass_traces source params known (xs ++ ys)
+pub made_append : (source : Source) (params : LevelParams) (known : Knowledge) (xs ys : List Pass) → pass_traces source params known (xs ++ ys)
     ≡ pass_traces source params known xs ++ pass_traces source params (known_at_end known (pass_traces source params known xs)) ys
 made_append source params known [] ys = refl
 made_append source params known (x ∷ xs) ys = ap (λ ps. pass_trace source params known x ∷ ps) (made_append source params (known_after (pass_trace source params known x)) xs ys)
@@ -182,19 +182,19 @@ pub made_on : (source : Source) (params : LevelParams) (m n : Meaning) (xs rest 
     → (done ++ all_made_by source params m xs) ++ all_made_by source params n rest ≡ whole
 made_on source params m n xs rest done whole known left =
     append_assoc done (all_made_by source params m xs) (all_made_by source params n rest)
-    ∙ ap (λ (k : Known). done ++ (all_made_by source params m xs ++ pass_traces source params k rest)) known
+    ∙ ap (λ (k : Knowledge). done ++ (all_made_by source params m xs ++ pass_traces source params k rest)) known
     ∙ ap (λ ps. done ++ ps) (sym (made_append source params (known_of m) xs rest))
     ∙ left
 
 -- what is known at the end of passes, and then of others
-known_append : (known : Known) (ps qs : List PassTrace) → known_at_end known (ps ++ qs) ≡ known_at_end (known_at_end known ps) qs
+known_append : (known : Knowledge) (ps qs : List PassTrace) → known_at_end known (ps ++ qs) ≡ known_at_end (known_at_end known ps) qs
 known_append known [] qs = refl
 known_append known (p ∷ ps) qs = known_append (known_after p) ps qs
 
-pub known_on : (source : Source) (params : LevelParams) (m n : Meaning) (xs rest : List Pass) (whole : Known) → known_of n ≡ known_at_end (known_of m) (all_made_by source params m xs)
+pub known_on : (source : Source) (params : LevelParams) (m n : Meaning) (xs rest : List Pass) (whole : Knowledge) → known_of n ≡ known_at_end (known_of m) (all_made_by source params m xs)
     → known_at_end (known_of m) (all_made_by source params m (xs ++ rest)) ≡ whole → known_at_end (known_of n) (all_made_by source params n rest) ≡ whole
 known_on source params m n xs rest whole known left =
-    ap (λ (k : Known). known_at_end k (pass_traces source params k rest)) known
+    ap (λ (k : Knowledge). known_at_end k (pass_traces source params k rest)) known
     ∙ sym (known_append (known_of m) (all_made_by source params m xs)
     (pass_traces source params (known_at_end (known_of m) (all_made_by source params m xs)) rest))
     ∙ ap (λ ps. known_at_end (known_of m) ps) (sym (made_append source params (known_of m) xs rest))
@@ -224,8 +224,8 @@ pub no_lengths : (number end : ℕ) → lengths_from number end end ≡ []
 no_lengths number end = let none : end - end ≡ zero = omega arith in ap (λ n. flat_map (passes_of_length number) (range_with_len end n)) none
 
 -- some passes of those that are left
-pub reaches_on : (source : Source) (params : LevelParams) (number len : ℕ) (start : LevelStart) (m n : Meaning) (r s : Recorded) (old new : SkipFlags)
-    (passes xs rest : List Pass) (whole : List PassTrace) (end : Known) → passes ≡ xs ++ rest
+pub reaches_on : (source : Source) (params : LevelParams) (number len : ℕ) (start : LevelStart) (m n : Meaning) (r s : RunRecords) (old new : SkipFlags)
+    (passes xs rest : List Pass) (whole : List PassTrace) (end : Knowledge) → passes ≡ xs ++ rest
     → GoesOn source number len (all_made_by source params m xs) (point m r old) (point n s new) → Reaches source params number len start m r old passes whole end
     → Reaches source params number len start n s new rest whole end
 reaches_on source params number len start m n r s old new passes xs rest whole end are on before =
@@ -238,8 +238,8 @@ reaches_on source params number len start m n r s old new passes xs rest whole e
     }
 
 -- where no pass is left, all are done
-pub at_whole : (source : Source) (params : LevelParams) (number len : ℕ) (start : LevelStart) (m : Meaning) (r : Recorded) (flags : SkipFlags)
-    (rest : List Pass) (whole : List PassTrace) (end : Known) → rest ≡ [] → Reaches source params number len start m r flags rest whole end
+pub at_whole : (source : Source) (params : LevelParams) (number len : ℕ) (start : LevelStart) (m : Meaning) (r : RunRecords) (flags : SkipFlags)
+    (rest : List Pass) (whole : List PassTrace) (end : Knowledge) → rest ≡ [] → Reaches source params number len start m r flags rest whole end
     → IsAt source number len start whole (point m r flags) × (known_of m ≡ end)
 at_whole source params number len start m r flags rest whole end none reaches =
     let at : IsAt source number len start whole (point m r flags) =

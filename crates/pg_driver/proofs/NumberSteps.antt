@@ -22,11 +22,11 @@ use Rattle.pg_select.specs.Statuses.{position_weight}
 use Rattle.pg_select.specs.Inside.LawsClosedDots.{is_good, pass_at}
 use Rattle.pg_select.specs.Windows.{window, fits}
 use Rattle.pg_driver.specs.declared.pass_windows.WordPosition.{WordPosition}
-use Rattle.pg_driver.specs.Inside.PassWindows.{IsNumbered, HaveNumbers, AreFates, IsPart}
+use Rattle.pg_driver.specs.Inside.level.PassWindows.{IsNumbered, HaveNumbers, AreFates, IsPart}
 use Rattle.pg_select.specs.CountedPositions.{CountedPosition}
 use Rattle.pg_select.specs.Inside.Meanings.{Meaning, with_position}
-use Rattle.pg_driver.specs.Inside.Counting.{meaning_after_counting, windows_after}
-use Rattle.pg_driver.specs.Inside.OpenPositions.{counted_in}
+use Rattle.pg_driver.specs.Inside.counting.Counting.{meaning_after_counting, windows_after}
+use Rattle.pg_driver.specs.Inside.counting.OpenPositions.{counted_in}
 use Rattle.pg_driver.proofs.Puts.{cmp}
 
 -- the word of a placed position

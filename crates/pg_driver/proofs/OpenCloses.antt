@@ -15,8 +15,8 @@ use Rattle.pg_select.specs.Inside.Choices.{choice}
 use Rattle.pg_select.specs.Windows.{window, fits}
 use Rattle.pg_driver.specs.declared.pass_windows.WordPosition.{WordPosition}
 use Rattle.pg_driver.specs.declared.pass_windows.TheConstants.{NO_NUMBER}
-use Rattle.pg_driver.specs.Inside.OpenSigns.{ClosesBy, closed_at_sign, closed_by, closed_in, open_word_positions, open_signs, position_from, sign_count}
-use Rattle.pg_driver.specs.Inside.PassWindows.{AreFates, HaveNumbers, IsNumbered, counts_at}
+use Rattle.pg_driver.specs.Inside.counting.OpenSigns.{ClosesBy, closed_at_sign, closed_by, closed_in, open_word_positions, open_signs, position_from, sign_count}
+use Rattle.pg_driver.specs.Inside.level.PassWindows.{AreFates, HaveNumbers, IsNumbered, counts_at}
 use Rattle.pg_driver.proofs.NumberSteps.{filter_from}
 use Rattle.pg_driver.proofs.OpenSigns.{IsSignOf, place_of, range_get, sign_of}
 

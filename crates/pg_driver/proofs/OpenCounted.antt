@@ -19,8 +19,8 @@ use Rattle.pg_select.specs.Statuses.{position_weight}
 use Rattle.pg_select.specs.Windows.{Patterns, Hopeless, window, fits}
 use Rattle.pg_select.proofs.LawsTally.{counted_as}
 use Rattle.pg_driver.specs.declared.pass_windows.WordPosition.{WordPosition}
-use Rattle.pg_driver.specs.Inside.OpenPositions.{counted_in, counted_of}
-use Rattle.pg_driver.specs.Inside.OpenSigns.{IsThere, IsTold, is_in_reach, open_word_positions, open_signs, position_from, sign_count, start_of}
+use Rattle.pg_driver.specs.Inside.counting.OpenPositions.{counted_in, counted_of}
+use Rattle.pg_driver.specs.Inside.counting.OpenSigns.{IsThere, IsTold, is_in_reach, open_word_positions, open_signs, position_from, sign_count, start_of}
 use Rattle.pg_driver.proofs.OpenSigns.{range_append, signs_cons}
 
 -- the same parts give the same whole

@@ -8,7 +8,7 @@ use Rattle.pg_dict.specs.Word.{Word}
 use Rattle.pg_select.specs.CountedPositions.{Minima, counts_as}
 use Rattle.pg_select.specs.Statuses.{status_at}
 use Rattle.pg_select.specs.Windows.{Patterns}
-use Rattle.pg_driver.specs.Inside.OpenSigns.{is_in_reach, is_open_first}
+use Rattle.pg_driver.specs.Inside.counting.OpenSigns.{is_in_reach, is_open_first}
 use Rattle.pg_driver.proofs.OpenCounted.{any_above, any_below, any_inside}
 
 -- the first place of a word is out of reach

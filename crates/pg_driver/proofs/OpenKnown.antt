@@ -21,9 +21,9 @@ use Rattle.pg_select.proofs.LawsClosedDots.{tells_at_start, tells_longer, tells_
 use Rattle.pg_select.proofs.LawsTally.{is_counted_window}
 use Rattle.pg_driver.specs.declared.pass_windows.WordPosition.{WordPosition}
 use Rattle.pg_driver.specs.Traces.{is_chosen, is_hopeless}
-use Rattle.pg_driver.specs.Inside.Fates.{choice_of, chooses, gives_up}
+use Rattle.pg_driver.specs.Inside.choices.Fates.{choice_of, chooses, gives_up}
 use Rattle.pg_driver.proofs.FateLaws.{chosen_is, hopeless_is}
-use Rattle.pg_driver.specs.Inside.OpenSigns.{IsThere, IsTold, closed_at_sign, closed_by, closed_in, is_open_first, sign_count, start_of}
+use Rattle.pg_driver.specs.Inside.counting.OpenSigns.{IsThere, IsTold, closed_at_sign, closed_by, closed_in, is_open_first, sign_count, start_of}
 use Rattle.pg_driver.proofs.OpenLevels.{found_is}
 use Rattle.pg_driver.proofs.OpenSigns.{place_at, sign_within}
 

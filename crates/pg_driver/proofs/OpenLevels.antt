@@ -9,8 +9,8 @@ use Rattle.pg_dict.specs.Word.{Word}
 use Rattle.pg_select.specs.Inside.Meanings.{with_position}
 use Rattle.pg_select.specs.CountedPositions.{Minima, CountedPosition, good_of, bad_of}
 use Rattle.pg_select.proofs.LawsTally.{cmp, is_counted_window, sums_found}
-use Rattle.pg_driver.specs.Inside.OpenPositions.{numbered_positions, open_with}
-use Rattle.pg_driver.specs.Inside.OpenLevels.{listed_from, open_as}
+use Rattle.pg_driver.specs.Inside.counting.OpenPositions.{numbered_positions, open_with}
+use Rattle.pg_driver.specs.Inside.counting.OpenLevels.{listed_from, open_as}
 
 -- the listed positions of words, as entries of their positions
 module _ (m : Minima) (words : List Word) (counts : Word → ℕ → Option Bool) where

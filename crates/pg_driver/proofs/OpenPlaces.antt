@@ -13,8 +13,8 @@ use Rattle.pg_dict.specs.Inside.SoundWords.{letter_count}
 use Rattle.pg_select.specs.Inside.Laws.{positions_in}
 use Rattle.pg_select.specs.CountedPositions.{Minima}
 use Rattle.pg_driver.specs.declared.pass_windows.WordPosition.{WordPosition}
-use Rattle.pg_driver.specs.Inside.OpenPositions.{numbered_positions, open_with}
-use Rattle.pg_driver.specs.Inside.OpenPositions.{IsPlaced}
+use Rattle.pg_driver.specs.Inside.counting.OpenPositions.{numbered_positions, open_with}
+use Rattle.pg_driver.specs.Inside.counting.OpenPositions.{IsPlaced}
 
 all_flat : {X Y : Type 0} (P : Y → Type 0) (Q : X → Type 0) (f : X → List Y) → ((x : X) → Q x → All P (f x)) → (xs : List X) → All Q xs → All P (flat_map f xs)
 all_flat P Q f each [] all = All-nil P

@@ -6,7 +6,7 @@ use Rattle.pg_translate.specs.Reach.{positions}
 use Rattle.pg_dict.specs.Word.{Word}
 use Rattle.pg_select.specs.CountedPositions.{Minima, CountedPosition}
 use Rattle.pg_driver.specs.declared.pass_windows.WordPosition.{WordPosition}
-use Rattle.pg_driver.specs.Inside.OpenPositions.{numbered_positions, open_with}
+use Rattle.pg_driver.specs.Inside.counting.OpenPositions.{numbered_positions, open_with}
 
 -- what is counted at the positions of words, by the entries that stand for them
 module _ (m : Minima) (words : List Word) (listed : ℕ → ℕ → Option Bool) (at_entry : WordPosition → List CountedPosition) (at_position : Word → ℕ → List CountedPosition)

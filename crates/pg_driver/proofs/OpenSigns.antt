@@ -10,7 +10,7 @@ use Rattle.std.proofs.lemmas.List.Sums.{sum_by-cons}
 use Rattle.pg_dict.specs.Word.{Word}
 use Rattle.pg_dict.specs.Inside.SoundWords.{IsWord, letter_count}
 use Rattle.pg_select.proofs.Reaches.{range_step}
-use Rattle.pg_driver.specs.Inside.OpenSigns.{open_signs, position_from, sign_count, start_of}
+use Rattle.pg_driver.specs.Inside.counting.OpenSigns.{open_signs, position_from, sign_count, start_of}
 
 -- a range in two parts
 pub range_append : (a n k : ℕ) → range_with_len a (n + k) ≡ range_with_len a n ++ range_with_len (a + n) k

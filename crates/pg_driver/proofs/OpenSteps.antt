@@ -12,16 +12,16 @@ use Rattle.pg_select.specs.Inside.Meanings.{Meaning, with_position}
 use Rattle.pg_select.specs.CountedPositions.{Minima}
 use Rattle.pg_select.specs.Statuses.{position_weight}
 use Rattle.pg_select.specs.Windows.{window, fits}
-use Rattle.pg_driver.specs.Inside.Counting.{meaning_after_counting, HasRoom, TookRoom}
+use Rattle.pg_driver.specs.Inside.counting.Counting.{meaning_after_counting, HasRoom, TookRoom}
 use Rattle.pg_select.proofs.MarkSteps.{weight_small}
 use Rattle.pg_driver.proofs.Puts.{cmp, weight_found}
 use Rattle.pg_select.proofs.Reaches.{range_step}
 use Rattle.pg_driver.proofs.Rooms.{took_none, took_with, window_filled}
 use Rattle.pg_driver.proofs.WordSteps.{drop_place}
 use Rattle.pg_driver.specs.declared.pass_windows.WordPosition.{WordPosition}
-use Rattle.pg_driver.specs.Inside.OpenLevels.{listed_in, listed_from}
+use Rattle.pg_driver.specs.Inside.counting.OpenLevels.{listed_in, listed_from}
 use Rattle.pg_select.specs.Inside.LawsClosedDots.{is_good, pass_at}
-use Rattle.pg_driver.specs.Inside.OpenPositions.{counted_in}
+use Rattle.pg_driver.specs.Inside.counting.OpenPositions.{counted_in}
 
 -- one part more
 pub added_step : {X Y : Type 0} (f : X → List Y) (items more whole : List Y) (x : X) (xs : List X) → more ≡ items ++ f x → items ++ flat_map f (x ∷ xs) ≡ whole → more ++ flat_map f xs ≡ whole

@@ -13,11 +13,11 @@ use Rattle.pg_select.proofs.LawsBounds.{next_is_below, up_to_largest, up_to_more
 use Rattle.pg_select.proofs.LawsTotals.{totals_after}
 use Rattle.pg_driver.specs.Accounts.{totals_by}
 use Rattle.pg_driver.specs.Dots.{order}
-use Rattle.pg_driver.specs.Traces.{Source, Known, is_chosen, chosen_in, known_after, pass_trace, pass_traces, at_start, level_trace, passes_of, patterns_after}
-use Rattle.pg_driver.specs.Inside.Passes.{known_at_end}
-use Rattle.pg_driver.specs.Inside.LevelCounting.{Carries}
+use Rattle.pg_driver.specs.Traces.{Source, Knowledge, is_chosen, chosen_in, known_after, pass_trace, pass_traces, at_start, level_trace, passes_of, patterns_after}
+use Rattle.pg_driver.specs.Inside.level.Passes.{known_at_end}
+use Rattle.pg_driver.specs.Inside.counting.LevelCounting.{Carries}
 
-module _ (source : Source) (params : LevelParams) (known : Known) (pass : Pass) where
+module _ (source : Source) (params : LevelParams) (known : Knowledge) (pass : Pass) where
   -- the totals after it
   pub totals_on : IsUpTo pass.level known.patterns
       → Carries (is_odd pass.level) (totals_by source known.patterns) (totals_by source (known_after (pass_trace source params known pass)).patterns)
@@ -25,7 +25,7 @@ module _ (source : Source) (params : LevelParams) (known : Known) (pass : Pass) 
   totals_on upto = totals_after source.minima source.words pass known.patterns known.hopeless (λ c. is_chosen params c) upto
 
 -- passes raise no value above what their level and the values were up to
-up_to_made : (source : Source) (params : LevelParams) (n : ℕ) (known : Known) (passes : List Pass) → list_all (λ (p : Pass). nat_le p.level n) passes
+up_to_made : (source : Source) (params : LevelParams) (n : ℕ) (known : Knowledge) (passes : List Pass) → list_all (λ (p : Pass). nat_le p.level n) passes
     ≡ true → IsUpTo n known.patterns → IsUpTo n (known_at_end known (pass_traces source params known passes)).patterns
 up_to_made source params n known [] all upto = upto
 up_to_made source params n known (pass ∷ passes) all upto =

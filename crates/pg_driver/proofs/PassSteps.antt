@@ -15,13 +15,13 @@ use Rattle.pg_select.proofs.LawsTally.{tally_is}
 use Rattle.pg_driver.specs.declared.choices.Choices.{Choices}
 use Rattle.pg_driver.specs.declared.records.PassRecord.{PassRecord}
 use Rattle.pg_driver.specs.Accounts.{totals_by}
-use Rattle.pg_driver.specs.Inside.AccountLines.{pass_line}
-use Rattle.pg_driver.specs.Inside.Choosing.{HasChosen, candidate_of, no_choices, with_candidates}
-use Rattle.pg_driver.specs.Inside.Counting.{meaning_after_counting}
-use Rattle.pg_driver.specs.Inside.States.{DidPass, made_by, state_of, state_after}
-use Rattle.pg_driver.specs.Inside.RunAccounts.{layout_told, line_of}
+use Rattle.pg_driver.specs.Inside.records.AccountLines.{pass_line}
+use Rattle.pg_driver.specs.Inside.choices.Choosing.{HasChosen, candidate_of, no_choices, with_candidates}
+use Rattle.pg_driver.specs.Inside.counting.Counting.{meaning_after_counting}
+use Rattle.pg_driver.specs.Inside.level.States.{DidPass, made_by, state_of, state_after}
+use Rattle.pg_driver.specs.Inside.records.RunAccounts.{layout_told, line_of}
 use Rattle.pg_driver.specs.Traces.{PassTrace, Source, source_of}
-use Rattle.pg_driver.specs.Inside.Fates.{chosen_of, hopeless_of}
+use Rattle.pg_driver.specs.Inside.choices.Fates.{chosen_of, hopeless_of}
 use Rattle.pg_driver.proofs.ChoiceSteps.{state_with}
 use Rattle.pg_driver.proofs.Numbers.{zero_plus}
 

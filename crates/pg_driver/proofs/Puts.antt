@@ -10,7 +10,7 @@ use Rattle.std.proofs.lemmas.Bool.{and_parts, and_from}
 use Rattle.std.proofs.lemmas.List.Sums.{sum_by-cons}
 use Rattle.pg_types.proofs.BoolFacts.{is_true, less_is, first_half, second_half}
 use Rattle.pg_types.specs.Inside.Counts.{Counts, sums_of}
-use Rattle.pg_driver.specs.Inside.Counting.{weight_in}
+use Rattle.pg_driver.specs.Inside.counting.Counting.{weight_in}
 
 -- the order of windows
 abbrev pub cmp : List ℕ → List ℕ → Ordering

@@ -19,15 +19,15 @@ use Rattle.pg_driver.specs.declared.counting.Counting.{Counting}
 use Rattle.pg_driver.specs.declared.counting.Counting.TheVariants.{Open, EachWord}
 use Rattle.pg_driver.specs.declared.counting.open_positions.OpenLevel.{OpenLevel}
 use Rattle.pg_driver.specs.Accounts.{totals_by}
-use Rattle.pg_driver.specs.Inside.Choosing.{no_choices, with_candidates}
-use Rattle.pg_driver.specs.Inside.Counting.{HasRoom, IsBounded}
-use Rattle.pg_driver.specs.Inside.LevelCounting.{ArePlaced, CanCarry, CanGoOn, Carries, GoesOnAfter, IsAfterPass, IsCounted, IsOpenAt, IsReady, TellsTotals}
+use Rattle.pg_driver.specs.Inside.choices.Choosing.{no_choices, with_candidates}
+use Rattle.pg_driver.specs.Inside.counting.Counting.{HasRoom, IsBounded}
+use Rattle.pg_driver.specs.Inside.counting.LevelCounting.{ArePlaced, CanCarry, CanGoOn, Carries, GoesOnAfter, IsAfterPass, IsCounted, IsOpenAt, IsReady, TellsTotals}
 use Rattle.pg_dots.specs.Inside.Dots.{is_closed, position_count}
-use Rattle.pg_driver.specs.Inside.OpenSigns.{IsThere, is_open_first, open_word_positions, open_signs, sign_count, start_of}
-use Rattle.pg_driver.specs.Inside.OpenPositions.{counted_of}
-use Rattle.pg_driver.specs.Inside.Sound.{IsSmall}
-use Rattle.pg_driver.specs.Inside.RunAccounts.{known_of}
-use Rattle.pg_driver.specs.Traces.{Known, PassTrace, Source, chosen_in, known_after, pass_trace}
+use Rattle.pg_driver.specs.Inside.counting.OpenSigns.{IsThere, is_open_first, open_word_positions, open_signs, sign_count, start_of}
+use Rattle.pg_driver.specs.Inside.counting.OpenPositions.{counted_of}
+use Rattle.pg_driver.specs.Inside.records.Sound.{IsSmall}
+use Rattle.pg_driver.specs.Inside.records.RunAccounts.{known_of}
+use Rattle.pg_driver.specs.Traces.{Knowledge, PassTrace, Source, chosen_in, known_after, pass_trace}
 use Rattle.pg_driver.proofs.CarriedTotals.{carried_same, carried_small, carried_within, totals_are_small}
 use Rattle.pg_driver.proofs.Numbers.{zero_plus}
 use Rattle.pg_driver.proofs.OpenCounted.{counted_there, few_there}
@@ -49,7 +49,7 @@ ready_at_start source level len m o none below bounded size are totals = record 
   totals = totals;
 }
 
-module _ (source : Source) (level len : ℕ) (known : Known) (o : OpenLevel) (ready : IsOpenAt source level len known o) where
+module _ (source : Source) (level len : ℕ) (known : Knowledge) (o : OpenLevel) (ready : IsOpenAt source level len known o) where
   pub has_room : (counts : Counts) (dot : ℕ) → counts ≡ [] → len ≤ LENGTH_MAX → dot ≤ len → HasRoom counts (length (open_signs (is_closed o.dots dot) 0 (sign_count source.words)))
   has_room counts dot none short within =
       let some : length (open_signs (is_closed o.dots dot) 0 (sign_count source.words)) ≤ sum_by letter_count source.words =
@@ -89,7 +89,7 @@ module _ (source : Source) (level len : ℕ) (known : Known) (o : OpenLevel) (re
   }
 
 -- totals that a ready way tells
-pub tells_totals : (source : Source) (level len : ℕ) (known : Known) (P : Patterns) (c : Counting) → known.patterns ≡ P → IsCounted c → IsReady source level len known c → TellsTotals source P c
+pub tells_totals : (source : Source) (level len : ℕ) (known : Knowledge) (P : Patterns) (c : Counting) → known.patterns ≡ P → IsCounted c → IsReady source level len known c → TellsTotals source P c
 tells_totals source level len known P (Open o) same counted ready = (ready.totals ∙ ap (totals_by source) same, is_small source level len known o ready)
 tells_totals source level len known P (EachWord e) same counted ready =
     let totals : e.totals ≡ totals_by source P = ready.totals counted ∙ ap (totals_by source) same in
@@ -102,12 +102,12 @@ counted_after params pass counts words n (Open o) (EachWord f) on counted = absu
 counted_after params pass counts words n (EachWord e) (Open p) on counted = absurd on
 counted_after params pass counts words n (EachWord e) (EachWord f) on counted = on.counted ∙ counted
 
-pub placed : (source : Source) (level len : ℕ) (known : Known) (c : Counting) → IsCounted c → IsReady source level len known c → ArePlaced source.words c
+pub placed : (source : Source) (level len : ℕ) (known : Knowledge) (c : Counting) → IsCounted c → IsReady source level len known c → ArePlaced source.words c
 placed source level len known (Open o) counted ready = ready.size
 placed source level len known (EachWord e) counted ready = words_placed source level known e counted ready
 
 -- after a pass
-module _ (source : Source) (params : LevelParams) (known : Known) (pass : Pass) (n : Choices) where
+module _ (source : Source) (params : LevelParams) (known : Knowledge) (pass : Pass) (n : Choices) where
   abbrev made : PassTrace
   made = pass_trace source params known pass
 

@@ -7,13 +7,13 @@ use Rattle.pg_types.specs.Placement.{Families, taken_count, top}
 use Rattle.pg_select.specs.CountedPositions.{Candidate}
 use Rattle.pg_driver.specs.declared.records.PassRecord.{PassRecord}
 use Rattle.pg_driver.specs.Accounts.{has_candidate}
-use Rattle.pg_driver.specs.Inside.AccountLines.{PassLine, begun_among, chosen_by, is_skippable, pass_line}
+use Rattle.pg_driver.specs.Inside.records.AccountLines.{PassLine, begun_among, chosen_by, is_skippable, pass_line}
 use Rattle.pg_driver.specs.Layouts.{after_pass}
-use Rattle.pg_driver.specs.Inside.Levels.{AreRecorded, layouts_in}
-use Rattle.pg_driver.specs.Inside.Sound.{Recorded, with_pass}
-use Rattle.pg_driver.specs.Inside.RunAccounts.{layout_told, line_of}
+use Rattle.pg_driver.specs.Inside.level.Levels.{AreRecorded, layouts_in}
+use Rattle.pg_driver.specs.Inside.records.Sound.{RunRecords, with_pass}
+use Rattle.pg_driver.specs.Inside.records.RunAccounts.{layout_told, line_of}
 use Rattle.pg_driver.specs.Traces.{PassTrace, Source, chosen_in}
-use Rattle.pg_driver.specs.Inside.Fates.{chosen_of}
+use Rattle.pg_driver.specs.Inside.choices.Fates.{chosen_of}
 use Rattle.pg_driver.proofs.Numbers.{plus_zero}
 use Rattle.pg_driver.proofs.TraceSteps.{begun_push, chosen_push, filter_push, layouts_push}
 
@@ -22,12 +22,14 @@ push_if f true xs a os ys y before is = map_push f xs a ∙ ap (λ zs. zs ++ f a
 push_if f false xs a os ys y before is = before ∙ ap (λ zs. os ++ zs) (sym (append-nil ys))
 
 -- a pass that was recorded
-pub recorded_pass : (source : Source) (signs : ℕ) (families : Option Families) (ps : List PassTrace) (q : PassTrace) (old mid new : Recorded) (r : PassRecord)
-    → line_of r ≡ pass_line source q → layout_told r ≡ option_map (λ fs. (q.pass, taken_count fs, top fs)) (option_map (λ fs. fold (after_pass signs) fs (ps ++ q ∷ [])) families) → new ≡ with_pass mid r
-    → list_all (λ p. nat_le p.pass.len q.pass.len) ps ≡ true → is_skippable ps q.pass ≡ false → AreRecorded source signs families ps old mid → AreRecorded source signs families (ps ++ q ∷ []) old new
+pub recorded_pass : (source : Source) (signs : ℕ) (families : Option Families) (ps : List PassTrace) (q : PassTrace) (old mid new : RunRecords) (r : PassRecord)
+    → line_of r ≡ pass_line source q → layout_told r ≡ option_map (λ fs. (q.pass, taken_count fs, top fs)) (option_map (λ fs. fold (after_pass signs) fs (ps ++ q ∷ [])) families)
+    → new ≡ with_pass mid r → list_all (λ p. nat_le p.pass.len q.pass.len) ps ≡ true → is_skippable ps q.pass ≡ false
+    → AreRecorded source signs families ps old mid → AreRecorded source signs families (ps ++ q ∷ []) old new
 recorded_pass source signs families ps q old mid new r line layout is short begun before =
     let b : Bool = has_candidate q in
-    let own : new.passes ≡ cond b (mid.passes ++ r ∷ []) mid.passes = ap (λ (x : Recorded). x.passes) is ∙ ap (λ (l : PassLine). cond (nat_lt 0 l.candidates) (mid.passes ++ r ∷ []) mid.passes) line in
+    let own : new.passes ≡ cond b (mid.passes ++ r ∷ []) mid.passes =
+    ap (λ (x : RunRecords). x.passes) is ∙ ap (λ (l : PassLine). cond (nat_lt 0 l.candidates) (mid.passes ++ r ∷ []) mid.passes) line in
     record {
       lines =
           ap (map line_of) own
@@ -38,25 +40,25 @@ recorded_pass source signs families ps q old mid new r line layout is short begu
           ∙ push_if layout_told b mid.passes r (map layout_told old.passes) (layouts_in signs families ps) _ before.layouts layout
           ∙ ap (λ ls. map layout_told old.passes ++ ls) (sym (layouts_push signs families ps q));
       chosen =
-          ap (λ (x : Recorded). x.chosen) is
+          ap (λ (x : RunRecords). x.chosen) is
           ∙ ap (λ (l : PassLine). mid.chosen + l.chosen) line
           ∙ ap (λ n. n + length (chosen_in q)) before.chosen
           ∙ add_assoc old.chosen (chosen_by ps) (length (chosen_in q))
           ∙ ap (λ n. old.chosen + n) (sym (chosen_push ps q));
       begun =
-          ap (λ (x : Recorded). x.begun) is
+          ap (λ (x : RunRecords). x.begun) is
           ∙ ap (λ n. n + 1) before.begun
           ∙ add_assoc old.begun (length (begun_among ps)) 1
           ∙ ap (λ b. old.begun + (length (begun_among ps) + cond b 0 1)) (sym begun)
           ∙ ap (λ n. old.begun + n) (sym (begun_push ps q short));
-      levels = ap (λ (x : Recorded). x.levels) is ∙ before.levels;
+      levels = ap (λ (x : RunRecords). x.levels) is ∙ before.levels;
     }
 
 none_more : {C : Type 0} (os ys zs more : List C) → os ≡ ys ++ zs → more ≡ [] → os ≡ ys ++ (zs ++ more)
 none_more os ys zs more is none = is ∙ ap (λ xs. ys ++ xs) (sym (append-nil zs)) ∙ ap (λ xs. ys ++ (zs ++ xs)) (sym none)
 
 -- a pass that was skipped
-pub recorded_none : (source : Source) (signs : ℕ) (families : Option Families) (ps : List PassTrace) (q : PassTrace) (old new : Recorded)
+pub recorded_none : (source : Source) (signs : ℕ) (families : Option Families) (ps : List PassTrace) (q : PassTrace) (old new : RunRecords)
     → q.candidates ≡ [] → list_all (λ p. nat_le p.pass.len q.pass.len) ps ≡ true → is_skippable ps q.pass ≡ true → AreRecorded source signs families ps old new
     → AreRecorded source signs families (ps ++ q ∷ []) old new
 recorded_none source signs families ps q old new none short begun before =

@@ -15,7 +15,7 @@ use Rattle.pg_select.specs.declared.pass.Pass.{Pass}
 use Rattle.pg_select.specs.CountedPositions.{CountedPosition, counted_positions_at, counts_as}
 use Rattle.pg_select.specs.Statuses.{status_at, position_weight}
 use Rattle.pg_select.specs.Windows.{Hopeless, window, fits, is_covered}
-use Rattle.pg_driver.specs.Inside.Counting.{HasRoom, TookRoom}
+use Rattle.pg_driver.specs.Inside.counting.Counting.{HasRoom, TookRoom}
 use Rattle.pg_driver.proofs.Puts.{weight_found, weight_put, length_put, all_put}
 use Rattle.pg_select.proofs.MarkSteps.{weight_small}
 

@@ -12,11 +12,11 @@ use Rattle.pg_select.specs.declared.pass.Pass.{Pass}
 use Rattle.pg_driver.specs.declared.records.LevelRecord.{LevelRecord}
 use Rattle.pg_driver.specs.declared.records.PassRecord.{PassRecord}
 use Rattle.pg_driver.specs.Accounts.{has_candidate, totals_by}
-use Rattle.pg_driver.specs.Inside.AccountLines.{account}
-use Rattle.pg_driver.specs.Inside.CellsAccounts.{cells_account, layout_of}
-use Rattle.pg_driver.specs.Inside.Levels.{DidRun, level_layouts, run_layouts}
-use Rattle.pg_driver.specs.Inside.Sound.{Finished, Recorded}
-use Rattle.pg_driver.specs.Inside.RunAccounts.{TellsCells, account_of, layout_told, level_layout_told}
+use Rattle.pg_driver.specs.Inside.records.AccountLines.{account}
+use Rattle.pg_driver.specs.Inside.records.CellsAccounts.{cells_account, layout_of}
+use Rattle.pg_driver.specs.Inside.level.Levels.{DidRun, level_layouts, run_layouts}
+use Rattle.pg_driver.specs.Inside.records.Sound.{CompletedRun, RunRecords}
+use Rattle.pg_driver.specs.Inside.records.RunAccounts.{TellsCells, account_of, layout_told, level_layout_told}
 use Rattle.pg_select.specs.Windows.{Patterns}
 use Rattle.pg_driver.specs.Traces.{LevelTrace, Source, Trace, final_patterns}
 
@@ -45,9 +45,9 @@ first_is : (m : Meaning) (o : Option Layout) → IsLayout m o → m.tidy ≡ tru
 first_is m None is tidy = ap (option_map (λ fs. layout_of fs m.patterns)) (sym is)
 first_is m (Some l) is tidy = first_layout m.patterns m.families l is.0 (is.1 tidy)
 
-module _ (source : Source) (run : Trace) (m n : Meaning) (r : Recorded) (P : Patterns) (totals : Totals) (first : Option Layout) (did : DidRun source run m n r) where
+module _ (source : Source) (run : Trace) (m n : Meaning) (r : RunRecords) (P : Patterns) (totals : Totals) (first : Option Layout) (did : DidRun source run m n r) where
   -- the run as it is told
-  abbrev pub told_run : Finished
+  abbrev pub told_run : CompletedRun
   told_run = record { patterns = P; passes = r.passes; levels = r.levels; totals = totals; first_layout = first; begun = r.begun }
 
   pub told_account : totals ≡ totals_by source n.patterns → account_of told_run ≡ account source m.patterns run

@@ -9,8 +9,8 @@ use Rattle.pg_select.specs.declared.pass.Pass.{Pass}
 use Rattle.pg_select.specs.CountedPositions.{Candidate, tally, counted_positions}
 use Rattle.pg_driver.specs.Dots.{order}
 use Rattle.pg_driver.specs.Accounts.{begun_count}
-use Rattle.pg_driver.specs.Inside.AccountLines.{Account, LevelLine, PassLine, account}
-use Rattle.pg_driver.specs.Inside.CellsAccounts.{CellsAccount, cells_account}
+use Rattle.pg_driver.specs.Inside.records.AccountLines.{Account, LevelLine, PassLine, account}
+use Rattle.pg_driver.specs.Inside.records.CellsAccounts.{CellsAccount, cells_account}
 use Rattle.pg_select.specs.Windows.{Patterns}
 use Rattle.pg_driver.specs.Traces.{Source, final_patterns, trace}
 

@@ -23,9 +23,9 @@ use Rattle.pg_select.proofs.LawsBounds.{all_put}
 use Rattle.pg_select.proofs.LawsCandidates.{all_candidates, all_flat}
 use Rattle.pg_select.proofs.LawsRaised.{all_kept}
 use Rattle.pg_select.proofs.LawsTally.{counted_as}
-use Rattle.pg_driver.specs.Inside.Passes.{known_at_end}
-use Rattle.pg_driver.specs.Inside.RunAccounts.{patterns_from}
-use Rattle.pg_driver.specs.Traces.{Known, Source, at_start, chosen_in, final_patterns, is_chosen, known_after, level_trace, level_traces, source_of, pass_trace, pass_traces, passes_of, patterns_after}
+use Rattle.pg_driver.specs.Inside.level.Passes.{known_at_end}
+use Rattle.pg_driver.specs.Inside.records.RunAccounts.{patterns_from}
+use Rattle.pg_driver.specs.Traces.{Knowledge, Source, at_start, chosen_in, final_patterns, is_chosen, known_after, level_trace, level_traces, source_of, pass_trace, pass_traces, passes_of, patterns_after}
 
 -- the signs of a string are at most n
 abbrev is_low : ℕ → List ℕ → Bool
@@ -82,7 +82,7 @@ abbrev low_candidates : ℕ → List Candidate → Bool
 low_candidates n cs = list_all (λ (c : Candidate). is_low n c.window) cs
 
 module _ (n : ℕ) (source : Source) (params : LevelParams) (words : SignsAtMost n source.words) where
-  low_chosen : (known : Known) (pass : Pass) → low_candidates n (chosen_in (pass_trace source params known pass)) ≡ true
+  low_chosen : (known : Knowledge) (pass : Pass) → low_candidates n (chosen_in (pass_trace source params known pass)) ≡ true
   low_chosen known pass =
       let seen : List CountedPosition = counted_positions source.minima source.words pass known.patterns known.hopeless in
       all_kept (λ (c : Candidate). is_low n c.window) (is_chosen params) (tally seen)
@@ -97,7 +97,7 @@ module _ (n : ℕ) (source : Source) (params : LevelParams) (words : SignsAtMost
       low_raised level dot (raise P (c.window, dot) level) cs parts.1 (all_put (λ (e : (List ℕ × ℕ) × ℕ). is_low n e.0.0) (c.window, dot) (max level (value_of P (c.window, dot))) P parts.0 low)
 
   -- through the passes of a level
-  low_passes : (known : Known) (passes : List Pass) → are_low n known.patterns ≡ true → are_low n (known_at_end known (pass_traces source params known passes)).patterns ≡ true
+  low_passes : (known : Knowledge) (passes : List Pass) → are_low n known.patterns ≡ true → are_low n (known_at_end known (pass_traces source params known passes)).patterns ≡ true
   low_passes known [] low = low
   low_passes known (pass ∷ passes) low =
       let made = pass_trace source params known pass in

@@ -15,24 +15,26 @@ use Rattle.pg_select.specs.declared.pass.Pass.{Pass}
 use Rattle.pg_select.specs.Windows.{Hopeless, Patterns}
 use Rattle.pg_driver.specs.declared.records.LevelRecord.{LevelRecord}
 use Rattle.pg_driver.specs.Accounts.{has_candidate, totals_by}
-use Rattle.pg_driver.specs.Inside.AccountLines.{LevelLine, begun_among, chosen_by, level_line, pass_line, pass_lines}
+use Rattle.pg_driver.specs.Inside.records.AccountLines.{LevelLine, begun_among, chosen_by, level_line, pass_line, pass_lines}
 use Rattle.pg_driver.specs.Layouts.{after_pass, after_level, strings_in}
-use Rattle.pg_driver.specs.Inside.CellsAccounts.{layout_of, level_layout, levels_with_families, pass_layouts}
-use Rattle.pg_driver.specs.Inside.RunAccounts.{known_of, layout_told, level_layout_told, level_line_of, line_of}
-use Rattle.pg_driver.specs.Inside.Levels.{AreRecorded, DidLevel, DidRun, all_made_by, layouts_in, level_layouts, run_layouts}
-use Rattle.pg_driver.specs.Inside.Sound.{Recorded, with_level}
-use Rattle.pg_driver.specs.Inside.States.{State, state_at_end, state_of}
-use Rattle.pg_driver.specs.Traces.{Known, LevelTrace, PassTrace, Source, Trace, at_start, final_patterns, level_trace, level_traces, pass_traces, passes_of, patterns_after}
-use Rattle.pg_driver.specs.Inside.Passes.{known_at_end}
+use Rattle.pg_driver.specs.Inside.records.CellsAccounts.{layout_of, level_layout, levels_with_families, pass_layouts}
+use Rattle.pg_driver.specs.Inside.records.RunAccounts.{known_of, layout_told, level_layout_told, level_line_of, line_of}
+use Rattle.pg_driver.specs.Inside.level.Levels.{AreRecorded, DidLevel, DidRun, all_made_by, layouts_in, level_layouts, run_layouts}
+use Rattle.pg_driver.specs.Inside.records.Sound.{RunRecords, with_level}
+use Rattle.pg_driver.specs.Inside.level.States.{State, state_at_end, state_of}
+use Rattle.pg_driver.specs.Traces.{Knowledge, LevelTrace, PassTrace, Source, Trace, at_start, final_patterns, level_trace, level_traces, pass_traces, passes_of, patterns_after}
+use Rattle.pg_driver.specs.Inside.level.Passes.{known_at_end}
 use Rattle.pg_driver.proofs.Numbers.{plus_zero, zero_plus}
 use Rattle.pg_driver.proofs.WordSteps.{drop_place}
 
 -- the end of a level
 families_end : (signs : ℕ) (l : LevelTrace) (P : Patterns) (o fo : Option Families) → P ≡ patterns_after l → o ≡ option_map (λ fs. fold (after_pass signs) fs l.passes) fo
     → option_map (kept_families (strings_in P)) o ≡ option_map (λ fs. after_level signs fs l) fo
-families_end signs l P o fo patterns families = ap (λ (Q : Patterns). option_map (kept_families (strings_in Q)) o) patterns ∙ ap (option_map (kept_families (strings_in (patterns_after l)))) families ∙ composed fo
+families_end signs l P o fo patterns families = ap (λ (Q : Patterns). option_map (kept_families (strings_in Q)) o) patterns
+    ∙ ap (option_map (kept_families (strings_in (patterns_after l)))) families ∙ composed fo
   where
-    composed : (fo : Option Families) → option_map (kept_families (strings_in (patterns_after l))) (option_map (λ fs. fold (after_pass signs) fs l.passes) fo) ≡ option_map (λ fs. after_level signs fs l) fo
+    composed : (fo : Option Families) → option_map (kept_families (strings_in (patterns_after l))) (option_map (λ fs. fold (after_pass signs) fs l.passes) fo)
+        ≡ option_map (λ fs. after_level signs fs l) fo
     composed None = refl
     composed (Some fs) = refl
 
@@ -55,7 +57,7 @@ both_maps : (signs number : ℕ) (l : LevelTrace) (P : Patterns) (o : Option Fam
 both_maps signs number l P None same patterns = refl
 both_maps signs number l P (Some fs) same patterns = λ i. let p : ℕ × Layout = (sym same i, layout_of (after_level signs fs l) (patterns i)) in Some p
 
-module _ (source : Source) (number : ℕ) (params : LevelParams) (m0 m n : Meaning) (r0 r s : Recorded) (totals : Totals) (layout : Option Layout) (none : m0.hopeless ≡ []) where
+module _ (source : Source) (number : ℕ) (params : LevelParams) (m0 m n : Meaning) (r0 r s : RunRecords) (totals : Totals) (layout : Option Layout) (none : m0.hopeless ≡ []) where
   abbrev level : LevelTrace
   level = level_trace source m0.patterns (number, params)
 
@@ -71,7 +73,7 @@ module _ (source : Source) (number : ℕ) (params : LevelParams) (m0 m n : Meani
       (pass_traces source params (record { patterns = m0.patterns; hopeless = H }) (passes_of number params))) none
 
   patterns_end : state_of m ≡ state_at_end m0.signs (state_of m0) passes → m.patterns ≡ patterns_after level
-  patterns_end state = ap (λ (x : State). x.known.patterns) state ∙ ap (λ (k : Known). k.patterns) same_known
+  patterns_end state = ap (λ (x : State). x.known.patterns) state ∙ ap (λ (k : Knowledge). k.patterns) same_known
 
   -- a level that was done
   pub did_level : state_of m ≡ state_at_end m0.signs (state_of m0) passes → AreRecorded source m0.signs m0.families passes r0 r → r0.chosen ≡ 0 → n
@@ -85,9 +87,9 @@ module _ (source : Source) (number : ℕ) (params : LevelParams) (m0 m n : Meani
       let families : n.families ≡ option_map (λ fs. after_level m0.signs fs level) m0.families = ap (λ (x : Meaning). x.families) ends
       ∙ families_end m0.signs level m.patterns m.families m0.families patterns entered in
       let hopeless : n.hopeless ≡ [] = ap (λ (x : Meaning). x.hopeless) ends in
-      let kept_passes : s.passes ≡ r.passes = ap (λ (x : Recorded). x.passes) is in
+      let kept_passes : s.passes ≡ r.passes = ap (λ (x : RunRecords). x.passes) is in
       let own_record : LevelRecord = record { level = number; chosen = r.chosen; after = totals; layout = layout } in
-      let own : s.levels ≡ r.levels ++ own_record ∷ [] = ap (λ (x : Recorded). x.levels) is in
+      let own : s.levels ≡ r.levels ++ own_record ∷ [] = ap (λ (x : RunRecords). x.levels) is in
       let count : r.chosen ≡ chosen_by level.passes = records.chosen ∙ ap (λ k. k + chosen_by passes) chosen ∙ zero_plus (chosen_by passes) ∙ ap chosen_by same_passes in
       let sum : totals ≡ totals_by source (patterns_after level) = sums ∙ ap (totals_by source) after in
       let line : level_line_of own_record ≡ level_line source level = λ i. record { level = number; chosen = count i; after = sum i } in
@@ -103,7 +105,7 @@ module _ (source : Source) (number : ℕ) (params : LevelParams) (m0 m n : Meani
         level_layouts = ap (map level_layout_told) own ∙ map_push level_layout_told r.levels own_record
             ∙ ap (λ (ls : List LevelRecord). map level_layout_told ls ++ option_map {U = ℕ × Layout} (λ l. (number, l)) layout ∷ []) records.levels
             ∙ ap (λ (x : Option (ℕ × Layout)). map level_layout_told r0.levels ++ x ∷ []) laid;
-        begun = ap (λ (x : Recorded). x.begun) is ∙ records.begun ∙ ap (λ (ps : List PassTrace). r0.begun + length (begun_among ps)) same_passes;
+        begun = ap (λ (x : RunRecords). x.begun) is ∙ records.begun ∙ ap (λ (ps : List PassTrace). r0.begun + length (begun_among ps)) same_passes;
       }
 
 -- the levels from a place on
@@ -161,7 +163,7 @@ patterns_push S [] l = refl
 patterns_push S (k ∷ run) l = patterns_push (patterns_after k) run l
 
 -- a level more
-pub run_push : (source : Source) (run : Trace) (l : LevelTrace) (m0 m n : Meaning) (r s : Recorded) → m.signs ≡ m0.signs → DidRun source run m0 m r
+pub run_push : (source : Source) (run : Trace) (l : LevelTrace) (m0 m n : Meaning) (r s : RunRecords) → m.signs ≡ m0.signs → DidRun source run m0 m r
     → DidLevel source l m n r s → DidRun source (run ++ l ∷ []) m0 n s
 run_push source run l m0 m n r s signs before did =
     let families : m.families ≡ option_map (λ fs. fold (after_level m0.signs) fs run) m0.families = ap (λ (x : State). x.families) before.state in
@@ -192,14 +194,14 @@ run_push source run l m0 m n r s signs before did =
     }
 
 -- no level yet
-pub run_begins : (source : Source) (m : Meaning) (r : Recorded) → m.hopeless ≡ [] → r ≡ record { passes = []; levels = []; chosen = 0; begun = 0 } → DidRun source [] m m r
+pub run_begins : (source : Source) (m : Meaning) (r : RunRecords) → m.hopeless ≡ [] → r ≡ record { passes = []; levels = []; chosen = 0; begun = 0 } → DidRun source [] m m r
 run_begins source m r none is = record {
   state = λ i. record { known = record { patterns = m.patterns; hopeless = none i }; families = none_yet m.signs m.families i };
-  lines = ap (λ (x : Recorded). map line_of x.passes) is;
-  layouts = ap (λ (x : Recorded). map layout_told x.passes) is ∙ no_layouts m.signs m.families;
-  levels = ap (λ (x : Recorded). map level_line_of x.levels) is;
-  level_layouts = ap (λ (x : Recorded). map level_layout_told x.levels) is ∙ no_level_layouts m.signs m.families;
-  begun = ap (λ (x : Recorded). x.begun) is;
+  lines = ap (λ (x : RunRecords). map line_of x.passes) is;
+  layouts = ap (λ (x : RunRecords). map layout_told x.passes) is ∙ no_layouts m.signs m.families;
+  levels = ap (λ (x : RunRecords). map level_line_of x.levels) is;
+  level_layouts = ap (λ (x : RunRecords). map level_layout_told x.levels) is ∙ no_level_layouts m.signs m.families;
+  begun = ap (λ (x : RunRecords). x.begun) is;
 }
   where
     none_yet : (signs : ℕ) (o : Option Families) → o ≡ option_map (λ fs. fold (after_level signs) fs []) o
@@ -215,13 +217,13 @@ run_begins source m r none is = record {
     no_level_layouts signs (Some fs) = refl
 
 -- levels that were done, and those that are left and lead to a whole
-pub record RunReaches (source : Source) (m0 m : Meaning) (r : Recorded) (rest : List (ℕ × LevelParams)) (whole : Trace) : Type 0 where
+pub record RunReaches (source : Source) (m0 m : Meaning) (r : RunRecords) (rest : List (ℕ × LevelParams)) (whole : Trace) : Type 0 where
   pub done : Trace
   pub did : DidRun source done m0 m r
   pub left : done ++ level_traces source m.patterns rest ≡ whole
 
 -- a level of those that are left
-pub level_on : (source : Source) (m0 m n : Meaning) (r s : Recorded) (level : ℕ × LevelParams) (levels rest : List (ℕ × LevelParams)) (whole : Trace)
+pub level_on : (source : Source) (m0 m n : Meaning) (r s : RunRecords) (level : ℕ × LevelParams) (levels rest : List (ℕ × LevelParams)) (whole : Trace)
     → m.signs ≡ m0.signs → levels ≡ level ∷ rest → DidLevel source (level_trace source m.patterns level) m n r s
     → RunReaches source m0 m r levels whole → RunReaches source m0 n s rest whole
 level_on source m0 m n r s level levels rest whole signs first did before =
@@ -236,7 +238,7 @@ level_on source m0 m n r s level levels rest whole signs first did before =
           ∙ before.left;
     }
 
-pub run_whole : (source : Source) (m0 m : Meaning) (r : Recorded) (rest : List (ℕ × LevelParams)) (whole : Trace) → rest ≡ [] → RunReaches source m0 m r rest whole → DidRun source whole m0 m r
+pub run_whole : (source : Source) (m0 m : Meaning) (r : RunRecords) (rest : List (ℕ × LevelParams)) (whole : Trace) → rest ≡ [] → RunReaches source m0 m r rest whole → DidRun source whole m0 m r
 run_whole source m0 m r rest whole none reaches =
     subst (λ (run : Trace). DidRun source run m0 m r)
     (sym (append-nil reaches.done) ∙ ap (λ (ls : List (ℕ × LevelParams)). reaches.done ++ level_traces source m.patterns ls) (sym none) ∙ reaches.left)

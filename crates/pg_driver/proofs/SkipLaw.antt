@@ -12,10 +12,10 @@ use Rattle.pg_select.specs.Windows.{Hopeless}
 use Rattle.pg_select.proofs.LawsLater.{closed_later}
 use Rattle.pg_select.proofs.LawsLonger.{closed_behind, closed_before}
 use Rattle.pg_select.proofs.LawsClosed.{closed_at_end, later_after_pass}
-use Rattle.pg_driver.specs.Inside.AccountLines.{is_skippable, left_none}
-use Rattle.pg_driver.specs.Inside.Levels.{CountNothing}
-use Rattle.pg_driver.specs.Traces.{Known, PassTrace, Source, is_chosen, is_hopeless, is_entered, known_after, pass_trace}
-use Rattle.pg_driver.specs.Inside.Fates.{chosen_of, hopeless_of}
+use Rattle.pg_driver.specs.Inside.records.AccountLines.{is_skippable, left_none}
+use Rattle.pg_driver.specs.Inside.level.Levels.{CountNothing}
+use Rattle.pg_driver.specs.Traces.{Knowledge, PassTrace, Source, is_chosen, is_hopeless, is_entered, known_after, pass_trace}
+use Rattle.pg_driver.specs.Inside.choices.Fates.{chosen_of, hopeless_of}
 use Rattle.pg_driver.proofs.FateLaws.{by_fate}
 use Rattle.pg_driver.proofs.TraceSteps.{skippable_push}
 
@@ -49,13 +49,13 @@ module _ (m : Minima) (words : List Word) (P : List ((List ℕ × ℕ) × ℕ)) 
       (or_cases (d == dot) (d + 1 == dot) parts.1)
 
 -- each pass that can be skipped counts nothing, after a pass too
-pub closed_on : (source : Source) (params : LevelParams) (number l d : ℕ) (known : Known) (ps : List PassTrace) → CountNothing source number ps known
+pub closed_on : (source : Source) (params : LevelParams) (number l d : ℕ) (known : Knowledge) (ps : List PassTrace) → CountNothing source number ps known
     → CountNothing source number (ps ++ pass_trace source params known (record { level = number; len = l; dot = d }) ∷ [])
     (known_after (pass_trace source params known (record { level = number; len = l; dot = d })))
 closed_on source params number l d known ps closed len dot is =
     let pass : Pass = record { level = number; len = l; dot = d } in
     let q : PassTrace = pass_trace source params known pass in
-    let after : Known = known_after q in
+    let after : Knowledge = known_after q in
     let none : Bool = left_none q in
     ⊎_elim
     (λ (here : (none && (l + 1 == len && (d == dot || d + 1 == dot))) ≡ true).
@@ -70,7 +70,7 @@ closed_on source params number l d known ps closed len dot is =
     (sym (skippable_push ps q (record { level = number; len = len; dot = dot })) ∙ is))
 
 -- so it has no candidate
-pub skipped_none : (source : Source) (params : LevelParams) (number len dot : ℕ) (known : Known) (ps : List PassTrace) → CountNothing source number ps known
+pub skipped_none : (source : Source) (params : LevelParams) (number len dot : ℕ) (known : Knowledge) (ps : List PassTrace) → CountNothing source number ps known
     → is_skippable ps (record { level = number; len = len; dot = dot }) ≡ true
     → (pass_trace source params known (record { level = number; len = len; dot = dot })).candidates ≡ []
 skipped_none source params number len dot known ps closed is = ap tally (closed len dot is)

@@ -11,16 +11,16 @@ use Rattle.std.proofs.lemmas.List.Sums.{fold-append, sum_by_push}
 use Rattle.pg_types.specs.Placement.{Families, taken_count, top}
 use Rattle.pg_select.specs.declared.pass.Pass.{Pass}
 use Rattle.pg_driver.specs.Accounts.{has_candidate, makes_skippable}
-use Rattle.pg_driver.specs.Inside.AccountLines.{begun_among, chosen_by, is_skippable, left_none}
+use Rattle.pg_driver.specs.Inside.records.AccountLines.{begun_among, chosen_by, is_skippable, left_none}
 use Rattle.pg_driver.specs.Layouts.{after_pass}
-use Rattle.pg_driver.specs.Inside.CellsAccounts.{pass_layouts, passes_with_families}
-use Rattle.pg_driver.specs.Inside.Levels.{layouts_in}
-use Rattle.pg_driver.specs.Inside.States.{State, state_after, state_at_end}
-use Rattle.pg_driver.specs.Traces.{Known, PassTrace, chosen_in, known_after}
-use Rattle.pg_driver.specs.Inside.Passes.{known_at_end}
+use Rattle.pg_driver.specs.Inside.records.CellsAccounts.{pass_layouts, passes_with_families}
+use Rattle.pg_driver.specs.Inside.level.Levels.{layouts_in}
+use Rattle.pg_driver.specs.Inside.level.States.{State, state_after, state_at_end}
+use Rattle.pg_driver.specs.Traces.{Knowledge, PassTrace, chosen_in, known_after}
+use Rattle.pg_driver.specs.Inside.level.Passes.{known_at_end}
 
 -- what is known at the end of passes and one more
-known_push : (known : Known) (ps : List PassTrace) (q : PassTrace) → known_at_end known (ps ++ q ∷ []) ≡ known_after q
+known_push : (known : Knowledge) (ps : List PassTrace) (q : PassTrace) → known_at_end known (ps ++ q ∷ []) ≡ known_after q
 known_push known [] q = refl
 known_push known (p ∷ ps) q = known_push (known_after p) ps q
 

@@ -11,7 +11,7 @@ use Rattle.pg_select.specs.Inside.Meanings.{Meaning, with_position}
 use Rattle.pg_select.specs.Inside.Positions.{Positions}
 use Rattle.pg_select.specs.CountedPositions.{Minima, CountedPosition, counted_positions_at, counted_positions}
 use Rattle.pg_select.specs.Inside.WordCounts.{counted_positions_in}
-use Rattle.pg_driver.specs.Inside.Counting.{meaning_after_counting, windows_after, IsRead, HasRoom, TookRoom}
+use Rattle.pg_driver.specs.Inside.counting.Counting.{meaning_after_counting, windows_after, IsRead, HasRoom, TookRoom}
 use Rattle.pg_driver.proofs.Rooms.{room_left, took_position, took_more}
 use Rattle.pg_select.proofs.Reaches.{range_step}
 use Rattle.pg_select.proofs.MarkSteps.{marks_done_by, marks_from}

@@ -28,15 +28,15 @@ use Rattle.pg_driver.specs.declared.choices.Choices.{Choices}
 use Rattle.pg_driver.specs.declared.pass_windows.WordPosition.{WordPosition}
 use Rattle.pg_driver.specs.declared.counting.word_level.WordLevel.{WordLevel}
 use Rattle.pg_driver.specs.Accounts.{totals_by}
-use Rattle.pg_driver.specs.Inside.Counting.{IsBounded}
-use Rattle.pg_driver.specs.Inside.LevelCounting.{CanMove, Carries, IsAfterWords}
-use Rattle.pg_driver.specs.Inside.OpenLevels.{listed_from, listed_in, open_as}
-use Rattle.pg_driver.specs.Inside.OpenPositions.{IsPlaced, counted_in, counted_of, open_with}
-use Rattle.pg_driver.specs.Inside.Sound.{IsSmall}
-use Rattle.pg_driver.specs.Traces.{Known, PassTrace, Source, chosen_in, is_chosen, known_after, pass_trace}
-use Rattle.pg_driver.specs.Inside.Fates.{chooses}
+use Rattle.pg_driver.specs.Inside.counting.Counting.{IsBounded}
+use Rattle.pg_driver.specs.Inside.counting.LevelCounting.{CanMove, Carries, IsAfterWords}
+use Rattle.pg_driver.specs.Inside.counting.OpenLevels.{listed_from, listed_in, open_as}
+use Rattle.pg_driver.specs.Inside.counting.OpenPositions.{IsPlaced, counted_in, counted_of, open_with}
+use Rattle.pg_driver.specs.Inside.records.Sound.{IsSmall}
+use Rattle.pg_driver.specs.Traces.{Knowledge, PassTrace, Source, chosen_in, is_chosen, known_after, pass_trace}
+use Rattle.pg_driver.specs.Inside.choices.Fates.{chooses}
 use Rattle.pg_driver.proofs.FateLaws.{chosen_is as chosen_by_fate}
-use Rattle.pg_driver.specs.Inside.WordLevels.{IsWordsAt, kept_by, listing, was_chosen}
+use Rattle.pg_driver.specs.Inside.counting.WordLevels.{IsWordsAt, kept_by, listing, was_chosen}
 use Rattle.pg_driver.proofs.CarriedTotals.{carried_same, carried_small, carried_within, totals_are_small}
 use Rattle.pg_driver.proofs.OpenLevels.{found_is, listed_are, start_at}
 use Rattle.pg_driver.proofs.OpenPlaces.{entries_few, entries_placed}
@@ -55,7 +55,7 @@ none_listed m level P n [] = refl
 none_listed m level P n (w ∷ words) = λ i. none_listed_in m level P n w i ++ none_listed m level P (n + 1) words i
 
 -- where a level begins
-pub words_begin : (source : Source) (level : ℕ) (known : Known) (e : WordLevel) → e.is_counted ≡ false → e.above.items ≡ [] → IsWordsAt source level known e
+pub words_begin : (source : Source) (level : ℕ) (known : Knowledge) (e : WordLevel) → e.is_counted ≡ false → e.above.items ≡ [] → IsWordsAt source level known e
 words_begin source level known e none empty = record {
   bounded = λ is. not_both e.is_counted (IsBounded source) none is;
   above = empty ∙ sym (none_listed source.minima level known.patterns 0 source.words) ∙ ap (λ (b : Bool). listed_from source.minima (listing b level known.patterns) 0 source.words) (sym none);
@@ -66,7 +66,7 @@ words_begin source level known e none empty = record {
     not_both b P is not = absurd (let wrong : false ≡ true = sym is ∙ not in cc)
 
 -- after a pass was counted: the first one lists the positions
-pub words_counted : (source : Source) (level : ℕ) (known : Known) (e f : WordLevel) → IsWordsAt source level known e → f.is_counted ≡ true → f.above.items
+pub words_counted : (source : Source) (level : ℕ) (known : Knowledge) (e f : WordLevel) → IsWordsAt source level known e → f.is_counted ≡ true → f.above.items
     ≡ e.above.items ++ listed_from source.minima (listing (not e.is_counted) level known.patterns) 0 source.words → f.totals ≡ totals_by source known.patterns → IsBounded source
     → IsWordsAt source level known f
 words_counted source level known e f is counted more totals bounded = record {
@@ -85,7 +85,7 @@ words_counted source level known e f is counted more totals bounded = record {
     whole false = ap (λ (es : List WordPosition). es ++ listed_from source.minima (listing true level known.patterns) 0 source.words) (none_listed source.minima level known.patterns 0 source.words)
 
 -- listed positions stand in the words, and are no more than letters
-pub words_placed : (source : Source) (level : ℕ) (known : Known) (e : WordLevel) → e.is_counted ≡ true → IsWordsAt source level known e
+pub words_placed : (source : Source) (level : ℕ) (known : Knowledge) (e : WordLevel) → e.is_counted ≡ true → IsWordsAt source level known e
     → All (IsPlaced source.words) e.above.items × (length e.above.items ≤ FILE_MAX)
 words_placed source level known e begun is =
     let are : e.above.items ≡ flat_map (open_with (start_at source.minima source.words (listing e.is_counted level known.patterns))) _ = is.above
@@ -147,7 +147,7 @@ chosen_is params counts counted u are =
     by_test false = refl
 
 -- after a pass
-module _ (source : Source) (params : LevelParams) (known : Known) (pass : Pass) (n : Choices) where
+module _ (source : Source) (params : LevelParams) (known : Knowledge) (pass : Pass) (n : Choices) where
   abbrev made : PassTrace
   made = pass_trace source params known pass
 

@@ -25,7 +25,7 @@ abbrev pub source_of : Alphabet → List Word → Source
 source_of t words = record { minima = minima_of t; words = words }
 
 -- what is known at a moment: the patterns so far, and the dotted strings that are hopeless now
-pub record Known : Type 0 where
+pub record Knowledge : Type 0 where
   pub patterns : Patterns
   pub hopeless : Hopeless
 
@@ -33,7 +33,7 @@ pub record Known : Type 0 where
 pub record PassTrace : Type 0 where
   pub pass : Pass
   pub params : LevelParams
-  pub before : Known
+  pub before : Knowledge
   pub candidates : List Candidate
 
 -- a level of the run: its number, the patterns before it, and all its passes in order
@@ -67,7 +67,7 @@ abbrev pub hopeless_in : PassTrace → List Candidate
 hopeless_in p = filter (is_hopeless p.params) p.candidates
 
 -- what is known after a pass: chosen windows have the level as value, hopeless ones are hopeless
-abbrev pub known_after : PassTrace → Known
+abbrev pub known_after : PassTrace → Knowledge
 known_after p = record {
   patterns = fold (λ P c. raise P (c.window, p.pass.dot) p.pass.level) p.before.patterns
       (chosen_in p);
@@ -76,13 +76,13 @@ known_after p = record {
 }
 
 -- a pass that is made when this is known
-abbrev pub pass_trace : Source → LevelParams → Known → Pass → PassTrace
+abbrev pub pass_trace : Source → LevelParams → Knowledge → Pass → PassTrace
 pass_trace source params known pass =
     let counted = counted_positions source.minima source.words pass known.patterns known.hopeless in
     record { pass = pass; params = params; before = known; candidates = tally counted }
 
 -- passes that are made one after the other: each begins with what is known after the one before it
-abbrev pub pass_traces : Source → LevelParams → Known → List Pass → List PassTrace
+abbrev pub pass_traces : Source → LevelParams → Knowledge → List Pass → List PassTrace
 pass_traces source params known [] = []
 pass_traces source params known (pass ∷ passes) = let p = pass_trace source params known pass in
     p ∷ pass_traces source params (known_after p) passes
@@ -94,7 +94,7 @@ passes_of n params = flat_map
     (range_with_len params.pat_start (params.pat_finish + 1 - params.pat_start))
 
 -- a level begins with these patterns and with nothing hopeless
-abbrev pub at_start : Patterns → Known
+abbrev pub at_start : Patterns → Knowledge
 at_start P = record { patterns = P; hopeless = [] }
 
 -- a level that is made when these are the patterns

@@ -4,10 +4,10 @@ ghost use Rattle.pg_types.specs.declared.limits.TheConstants.{FILE_MAX};
 ghost use Rattle.pg_types.specs.Inside.Ranges.{IsLevel};
 ghost use Rattle.pg_types.specs.Inside.NumberedWindows.{AreInOrder};
 ghost use Rattle.pg_select.specs.Inside.Choices.{choice};
-ghost use Rattle.pg_driver.specs.Inside.PassWindows.{AreFates, IsCandidate};
-ghost use Rattle.pg_driver.specs.Inside.Counting.{HasRoom};
+ghost use Rattle.pg_driver.specs.Inside.level.PassWindows.{AreFates, IsCandidate};
+ghost use Rattle.pg_driver.specs.Inside.counting.Counting.{HasRoom};
 ghost use Rattle.pg_types.specs.Inside.Limits.{sums_limit};
-ghost use Rattle.pg_driver.specs.Inside.Choosing.{with_candidates, no_choices, candidate_of, HasChosen};
+ghost use Rattle.pg_driver.specs.Inside.choices.Choosing.{with_candidates, no_choices, candidate_of, HasChosen};
 
 use pg_select::{Choice, Engine};
 use pg_types::LevelParams;

@@ -4,11 +4,11 @@ ghost use Rattle.pg_types.specs.Inside.NumberedWindows.{AreNumbered};
 ghost use Rattle.pg_dict.specs.Inside.SoundWords.{SignsAtMost};
 ghost use Rattle.pg_select.specs.Inside.LawsSteps.{IsBelow};
 ghost use Rattle.pg_driver.specs.declared.pass_windows.TheConstants.{NO_NUMBER};
-ghost use Rattle.pg_driver.specs.Inside.LevelCounting.{AreNumberedIn, ArePlaced, CanGoOn, DidCount, GoesOnAfter, IsCounted, IsOverOpen, IsReady, totals_in};
-ghost use Rattle.pg_driver.specs.Inside.PassWindows.{AreFates};
-ghost use Rattle.pg_driver.specs.Inside.States.{HasBegun, IsPass};
-ghost use Rattle.pg_driver.specs.Inside.RunAccounts.{known_of};
-ghost use Rattle.pg_driver.specs.Traces.{Known, Source, source_of};
+ghost use Rattle.pg_driver.specs.Inside.counting.LevelCounting.{AreNumberedIn, ArePlaced, CanGoOn, DidCount, GoesOnAfter, IsCounted, IsOverOpen, IsReady, totals_in};
+ghost use Rattle.pg_driver.specs.Inside.level.PassWindows.{AreFates};
+ghost use Rattle.pg_driver.specs.Inside.level.States.{HasBegun, IsPass};
+ghost use Rattle.pg_driver.specs.Inside.records.RunAccounts.{known_of};
+ghost use Rattle.pg_driver.specs.Traces.{Knowledge, Source, source_of};
 
 mod above_positions;
 mod carried_totals;
@@ -82,8 +82,8 @@ impl Counting {
             (known_of (E.meaning engine.old)) self.old }
         ensures did { IfOk result (DidCount (source_of table.now dictionary.now) pass
             (E.meaning engine.old) (E.meaning engine.new)) }
-        ensures ready { OnOk result (IsReady (source_of table.now dictionary.now) pass.level pass.len
-            (known_of (E.meaning engine.old)) self.new) }
+        ensures ready { OnOk result (IsReady (source_of table.now dictionary.now)
+            pass.level pass.len (known_of (E.meaning engine.old)) self.new) }
         ensures counted { OnOk result (IsCounted self.new) }
         ensures numbers { OnOk result
             (AreNumbered (E.meaning engine.new).windows (E.meaning engine.new).counts
@@ -159,7 +159,7 @@ impl Counting {
 
     /// Goes on to the next length.
     pub fn next_length(&mut self) -> Result<(), AllocError>
-        ensures ready { OnOk result ((source : Source) (level len : ℕ) (known : Known)
+        ensures ready { OnOk result ((source : Source) (level len : ℕ) (known : Knowledge)
             → IsReady source level len known self.old
             → IsReady source level (len + 1) known self.new) }
         ensures counted { OnOk result (IsCounted self.old → IsCounted self.new) }

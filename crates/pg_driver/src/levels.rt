@@ -4,10 +4,10 @@ ghost use Rattle.pg_types.specs.declared.limits.TheConstants.{LEVEL_MAX};
 ghost use Rattle.pg_dict.specs.Inside.SoundWords.{SignsAtMost};
 ghost use Rattle.pg_patterns.specs.Inside.PatternMaps.{SignsUpTo};
 ghost use Rattle.pg_driver.specs.Accounts.{totals_by};
-ghost use Rattle.pg_driver.specs.Inside.Levels.{DidRun};
-ghost use Rattle.pg_driver.specs.Inside.Sound.{IsSmall};
+ghost use Rattle.pg_driver.specs.Inside.level.Levels.{DidRun};
+ghost use Rattle.pg_driver.specs.Inside.records.Sound.{IsSmall};
 ghost use Rattle.pg_types.specs.Inside.Limits.{begun_before_run, level_passes};
-ghost use Rattle.pg_driver.specs.Inside.RunAccounts.{TellsCells, account_from, account_of, begun_from, cells_from, families_from, patterns_from, run_from};
+ghost use Rattle.pg_driver.specs.Inside.records.RunAccounts.{TellsCells, account_from, account_of, begun_from, cells_from, families_from, patterns_from, run_from};
 ghost use Rattle.pg_driver.specs.Traces.{source_of};
 
 use crate::level::run_level;
@@ -74,8 +74,8 @@ fn run_levels<E: Engine>(
     }
 }
 
-/// Does the run of a dictionary from the patterns of an engine: level after level, and in a level a
-/// pass for each length and dot, which counts the windows at the positions that count, and then
+/// Does the run of a dictionary from the patterns of an engine, level after level. A level has a
+/// pass for each length and dot. A pass counts the windows at the positions that count, and then
 /// chooses among the candidates (Liang's thesis of 1983, patgen 2.4). The final patterns are left
 /// in the engine too.
 ///

@@ -5,8 +5,8 @@ ghost use Rattle.pg_types.specs.Inside.NumberedWindows.{HasNumber};
 ghost use Rattle.pg_types.specs.Inside.Ranges.{IsLevel};
 ghost use Rattle.pg_select.specs.Inside.Choices.{choice};
 ghost use Rattle.pg_driver.specs.declared.pass_windows.TheConstants.{NO_NUMBER};
-ghost use Rattle.pg_driver.specs.Inside.Counting.{HasRoom};
-ghost use Rattle.pg_driver.specs.Inside.PassWindows.{AreFates};
+ghost use Rattle.pg_driver.specs.Inside.counting.Counting.{HasRoom};
+ghost use Rattle.pg_driver.specs.Inside.level.PassWindows.{AreFates};
 
 use pg_select::{Choice, Engine, decide};
 use pg_types::LevelParams;
@@ -43,8 +43,8 @@ impl PassWindows {
     ghost use Rattle.pg_types.specs.Inside.NumberedWindows.{AreInOrder, AreNumbered};
     ghost use Rattle.pg_types.specs.Inside.Ranges.{IsLevel};
     ghost use Rattle.pg_driver.specs.declared.pass_windows.TheConstants.{NO_NUMBER};
-    ghost use Rattle.pg_driver.specs.Inside.Counting.{HasRoom};
-    ghost use Rattle.pg_driver.specs.Inside.PassWindows.{AreFates};
+    ghost use Rattle.pg_driver.specs.Inside.counting.Counting.{HasRoom};
+    ghost use Rattle.pg_driver.specs.Inside.level.PassWindows.{AreFates};
 
     /// No window. It takes no memory.
     pub fn new(alloc: Global) -> PassWindows {

@@ -18,9 +18,9 @@ pub struct Run {
 
 impl Model for Run {
     ghost use Rattle.std.specs.Prelude.{All};
-    ghost use Rattle.pg_driver.specs.Inside.Sound.{Finished, IsSmall, IsSoundPass, IsSoundLevel};
+    ghost use Rattle.pg_driver.specs.Inside.records.Sound.{CompletedRun, IsSmall, IsSoundPass, IsSoundLevel};
 
-    ghost Value = { Finished };
+    ghost Value = { CompletedRun };
 
     ghost view = { λ r. record {
       patterns = r.patterns;
@@ -36,7 +36,7 @@ impl Model for Run {
 
 impl Run {
     ghost use Rattle.std.specs.Prelude.{◌≡◌, All};
-    ghost use Rattle.pg_driver.specs.Inside.Sound.{IsSmall, IsSoundPass, IsSoundLevel};
+    ghost use Rattle.pg_driver.specs.Inside.records.Sound.{IsSmall, IsSoundPass, IsSoundLevel};
 
     /// The run with these patterns, records, totals and first layout.
     pub(crate) fn new(

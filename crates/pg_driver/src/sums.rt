@@ -5,7 +5,7 @@ ghost use Rattle.pg_dict.specs.Inside.Lent.{lent_word};
 ghost use Rattle.pg_types.specs.Inside.Counts.{SignsWithin};
 ghost use Rattle.pg_select.specs.Sums.{totals as totals_of_words, marks_in};
 ghost use Rattle.pg_select.specs.Inside.SumSteps.{with_marks, HasRoomFor, TookRoomFor};
-ghost use Rattle.pg_driver.specs.Inside.Sound.{IsSmall};
+ghost use Rattle.pg_driver.specs.Inside.records.Sound.{IsSmall};
 ghost use Rattle.pg_select.specs.CountedPositions.{minima_of};
 
 use pg_dict::{Dictionary, WordRef};

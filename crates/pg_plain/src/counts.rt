@@ -135,8 +135,8 @@ impl CountedWindows {
         self.windows[number as usize].signs()
     }
 
-    /// Appends the numbers of the windows in the order of signs. Refused: some of them may have
-    /// been appended.
+    /// Appends the numbers of the windows in the order of signs. After an error some of them may
+    /// have been appended.
     pub fn order(&self, out: &mut Vec<u32>) -> Result<(), AllocError>
         ensures { OnOk result ((ns : List ℕ) × (out.new.items ≡ out.old.items ++ ns)
             × AreInOrder self.now.windows self.now.counts ns) }
@@ -173,9 +173,8 @@ fn add_to(tallies: &mut Vec<(u64, u64)>, number: u32, good: bool, weight: u64)
     tallies[number as usize] = add_weight(sums, good, weight);
 }
 
-/// Gives a window that is not counted the next number, with its sums, and tells that number.
-///
-/// Refused: the map and the lists are as before.
+/// Gives a window that is not counted the next number, with its sums, and tells that number. After
+/// an error the map and the lists are as before.
 fn number_new(
     numbers: &mut BTreeMap<WindowKey, u32>,
     tallies: &mut Vec<(u64, u64)>,
@@ -213,7 +212,7 @@ fn number_new(
     }
 }
 
-/// Appends the sums and a copy of the window. Refused: the lists are as before.
+/// Appends the sums and a copy of the window. After an error the lists are as before.
 fn push_both(
     tallies: &mut Vec<(u64, u64)>,
     windows: &mut Vec<Cursor>,

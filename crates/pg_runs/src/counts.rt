@@ -4,7 +4,7 @@ ghost use Rattle.pg_types.specs.Inside.Limits.{begun_before_pass};
 ghost use Rattle.pg_translate.specs.Alphabets.{letters_of};
 ghost use Rattle.pg_dict.specs.Inside.SoundWords.{SignsAtMost};
 ghost use Rattle.pg_patterns.specs.Inside.PatternMaps.{SignsUpTo};
-ghost use Rattle.pg_driver.specs.Inside.States.{IsPass};
+ghost use Rattle.pg_driver.specs.Inside.level.States.{IsPass};
 
 use crate::plain::count_words;
 use pg_dict::Dictionary;

@@ -76,8 +76,8 @@ impl<'a> TableView<'a> {
         Some(&self.bytes[start..start + CELL_LEN])
     }
 
-    /// The bytes of the record with this head, or `None` exactly where the head is 0 or greater than
-    /// the number of records.
+    /// The bytes of the record with this head. It is `None` exactly where the head is 0 or greater
+    /// than the number of records.
     pub fn output_at(&self, head: u32) -> Option<&'a [u8]>
         ensures { let start = record_start (head_of self.now).cells (head - 1) in
             MatchOption result ((head ≡ 0) ⊎ ((head_of self.now).records < head))

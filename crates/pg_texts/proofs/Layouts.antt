@@ -7,9 +7,9 @@ use Rattle.pg_types.specs.declared.marks.Layout.{Layout}
 use Rattle.pg_select.specs.declared.pass.Pass.{Pass}
 use Rattle.pg_driver.specs.declared.records.PassRecord.{PassRecord}
 use Rattle.pg_driver.specs.declared.records.LevelRecord.{LevelRecord}
-use Rattle.pg_driver.specs.Inside.Sound.{Finished}
-use Rattle.pg_driver.specs.Inside.CellsAccounts.{CellsAccount}
-use Rattle.pg_driver.specs.Inside.RunAccounts.{TellsCells}
+use Rattle.pg_driver.specs.Inside.records.Sound.{CompletedRun}
+use Rattle.pg_driver.specs.Inside.records.CellsAccounts.{CellsAccount}
+use Rattle.pg_driver.specs.Inside.records.RunAccounts.{TellsCells}
 use Rattle.pg_texts.specs.Inside.CellsRecords.{HasLayouts, layout_there, pass_cells, level_cells, run_cells}
 
 -- a value that is some is what the layout gives
@@ -35,7 +35,7 @@ same_account : {s z : Layout} {p q : List (Pass × ℕ × ℕ)} {l m : List (ℕ
 same_account a b c = cc
 
 -- a run tells the account of its cells
-pub account_told : (a : CellsAccount) (r : Finished) → TellsCells (Some a) r → run_cells r ≡ a
+pub account_told : (a : CellsAccount) (r : CompletedRun) → TellsCells (Some a) r → run_cells r ≡ a
 account_told a r tells =
     let start : layout_there r.first_layout ≡ a.start = rw tells.0 refl in
     let passes : map pass_cells r.passes ≡ a.passes = each_there (λ p. p.layout) (λ p l. (record { level = p.level; len = p.len; dot = p.dot }, l.taken, l.top)) r.passes a.passes tells.1 in
@@ -57,7 +57,7 @@ each_some layout f (r ∷ rs) (a ∷ xs) is =
     let rest : map (λ r. option_map (f r) (layout r)) rs ≡ map Some xs = cc in
     (some_there (f r) (layout r) a first, each_some layout f rs xs rest)
 
-pub layouts_there : (a : CellsAccount) (r : Finished) → TellsCells (Some a) r → HasLayouts r
+pub layouts_there : (a : CellsAccount) (r : CompletedRun) → TellsCells (Some a) r → HasLayouts r
 layouts_there a r tells = record {
   first = rw tells.0 refl;
   passes = All-from_recursion (λ (p : PassRecord). IsSome p.layout) r.passes

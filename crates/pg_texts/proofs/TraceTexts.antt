@@ -1,5 +1,6 @@
 -- The texts of what a run tells are those of its trace.
 use Rattle.std.proofs.Common.{◌≡◌, ℕ, ◌+◌, ◌-◌, Bool, true, false, cond, List, [], ◌∷◌, ◌++◌, map, filter, fold, codes, decimal, refl, ap, ◌∙◌, append_assoc}
+use Rattle.pg_translate.specs.Gaps.{last_else}
 use Rattle.std.specs.List.{All, enumerate_from, flat_map, range_with_len}
 use Rattle.std.proofs.lemmas.List.Elements.{All-append, All-cons, All-filter, All-head, All-map, All-nil, All-tail}
 use Rattle.std.proofs.lemmas.List.Folds.{flat_map-map}
@@ -12,10 +13,10 @@ use Rattle.pg_select.specs.declared.pass.Pass.{Pass}
 use Rattle.pg_select.specs.Windows.{Patterns}
 use Rattle.pg_driver.specs.Accounts.{has_candidate, totals_by}
 use Rattle.pg_driver.specs.Dots.{order}
-use Rattle.pg_driver.specs.Inside.AccountLines.{PassLine, account, chosen_by, level_line, pass_line, pass_lines}
-use Rattle.pg_driver.specs.Inside.CellsAccounts.{cells_account, layout_of, level_layout, levels_with_families, pass_layouts, passes_with_families}
+use Rattle.pg_driver.specs.Inside.records.AccountLines.{PassLine, account, chosen_by, level_line, pass_line, pass_lines}
+use Rattle.pg_driver.specs.Inside.records.CellsAccounts.{cells_account, layout_of, level_layout, levels_with_families, pass_layouts, passes_with_families}
 use Rattle.pg_driver.specs.Layouts.{strings_in, after_level, after_pass}
-use Rattle.pg_driver.specs.Traces.{Known, LevelTrace, PassTrace, Source, Trace, at_start, final_patterns, known_after, level_trace, level_traces, pass_trace, pass_traces, passes_of, patterns_after, trace}
+use Rattle.pg_driver.specs.Traces.{Knowledge, LevelTrace, PassTrace, Source, Trace, at_start, final_patterns, known_after, level_trace, level_traces, pass_trace, pass_traces, passes_of, patterns_after, trace}
 use Rattle.pg_texts.specs.Fronts.{level_front, pass_front}
 use Rattle.pg_texts.specs.CellsTexts.{cells_text, layout_text, levels_cells_text, passes_cells_text, used_text}
 use Rattle.pg_texts.specs.ReportTexts.{ending_text, level_text, pass_text, report_text, totals_text, warning_text}
@@ -37,7 +38,7 @@ passes_numbered n (len ∷ lens) =
     (All-map (λ (q : Pass). q.level ≡ n) (λ dot. record { level = n; len = len; dot = dot }) (order len) (λ k d less. refl))
     (passes_numbered n lens)
 
-made_numbered : (source : Source) (params : LevelParams) (n : ℕ) (known : Known) (qs : List Pass) → All (λ (q : Pass). q.level ≡ n) qs
+made_numbered : (source : Source) (params : LevelParams) (n : ℕ) (known : Knowledge) (qs : List Pass) → All (λ (q : Pass). q.level ≡ n) qs
     → All (λ (p : PassTrace). p.pass.level ≡ n) (pass_traces source params known qs)
 made_numbered source params n known [] are = All-nil (λ (p : PassTrace). p.pass.level ≡ n)
 made_numbered source params n known (q ∷ qs) are =
@@ -165,7 +166,7 @@ cells_same source parameters signs S =
 
 -- the layout after the last level
 pub last_same : (signs : ℕ) (fs : Families) (S : Patterns) (run : Trace)
-    → fold (λ _ (l : ℕ × Layout). l.1) (layout_of fs S) (map (λ (e : LevelTrace × Families). level_layout signs e.1 e.0) (levels_with_families signs fs run))
+    → last_else (layout_of fs S) (map (λ (l : ℕ × Layout). l.1) (map (λ (e : LevelTrace × Families). level_layout signs e.1 e.0) (levels_with_families signs fs run)))
     ≡ layout_of (fold (after_level signs) fs run) (final_patterns S run)
 last_same signs fs S [] = refl
 last_same signs fs S (l ∷ ls) = last_same signs (after_level signs fs l) (patterns_after l) ls

@@ -1,8 +1,8 @@
 //! The cells file.
 ghost use Rattle.std.specs.Prelude.{◌≡◌, ◌++◌, map, All, IsSome, OnOk, IfOk, Some};
 ghost use Rattle.std.specs.List.{flat_map};
-ghost use Rattle.pg_driver.specs.Inside.CellsAccounts.{CellsAccount};
-ghost use Rattle.pg_driver.specs.Inside.RunAccounts.{TellsCells};
+ghost use Rattle.pg_driver.specs.Inside.records.CellsAccounts.{CellsAccount};
+ghost use Rattle.pg_driver.specs.Inside.records.RunAccounts.{TellsCells};
 ghost use Rattle.pg_texts.specs.Inside.CellsLines as cells;
 ghost use Rattle.pg_texts.specs.Inside.CellsRecords.{HasLayouts, layout_there, pass_cells, level_cells, run_cells};
 
@@ -46,7 +46,7 @@ fn push_pass(text: &mut Vec<u8>, pass: &PassRecord) -> Result<(), AllocError>
     ensures { OnOk result
         (text.new.items ≡ text.old.items ++ cells.pass_cells_text (pass_cells pass.now)) }
 {
-    push_pass_front(text, pass.level, pass.len, pass.dot)?;
+    push_pass_front(text, pass)?;
     push_used(text, &layout_of(pass.layout))?;
     text.extend_from_slice(b"\n")
 }

@@ -1,8 +1,8 @@
 //! The report.
 ghost use Rattle.std.specs.Prelude.{◌≡◌, ◌++◌, map, All, OnOk, IfOk};
 ghost use Rattle.std.specs.List.{flat_map};
-ghost use Rattle.pg_driver.specs.Inside.Sound.{IsSoundPass};
-ghost use Rattle.pg_driver.specs.Inside.RunAccounts.{line_of, level_line_of, account_of};
+ghost use Rattle.pg_driver.specs.Inside.records.Sound.{IsSoundPass};
+ghost use Rattle.pg_driver.specs.Inside.records.RunAccounts.{line_of, level_line_of, account_of};
 ghost use Rattle.pg_texts.specs.Inside.ReportLines as lines;
 ghost use Rattle.pg_texts.specs.ReportTexts as report;
 
@@ -65,7 +65,7 @@ fn push_pass(text: &mut Vec<u8>, pass: &PassRecord) -> Result<(), AllocError>
     ensures { OnOk result (text.new.items
         ≡ text.old.items ++ lines.pass_line_text (line_of pass.now)) }
 {
-    push_pass_front(text, pass.level, pass.len, pass.dot)?;
+    push_pass_front(text, pass)?;
     push_totals(text, &pass.before)?;
     text.extend_from_slice(b"; ")?;
     push_counts(text, pass)?;

@@ -3,12 +3,12 @@ use Rattle.std.proofs.Common.{◌≡◌, List, [], ◌∷◌, Contains, Option, 
 use Rattle.std.specs.Prelude.{ℕ, Result, Ok, Err, ◌⊎◌}
 use Rattle.pg_outside.specs.Content.{FileMap, FilesShown, SinkShown, WasPut, WasPartPut, file_at}
 use Rattle.pg_top.specs.Answers.{IsCall}
-use Rattle.pg_top.specs.Calls.{rule_of, usage_rule}
+use Rattle.pg_top.specs.CommandRules.{rule_of, usage_rule}
 use Rattle.pg_top.specs.Counted.{MakesPuts, IsCountedCall}
-use Rattle.pg_top.specs.Inside.Built.{Keeps, IsMade, Builds, EndsBuilt}
-use Rattle.pg_top.specs.Inside.PutCounts.{LinesCounted}
-use Rattle.pg_top.specs.Inside.Stops.{StopsCommand, PutsAnswer, PutsLines}
-use Rattle.pg_top.specs.Inside.WritesMade.{writing_of}
+use Rattle.pg_top.specs.Inside.ends.Built.{KeepsPromise, IsMade, Builds, EndsBuilt}
+use Rattle.pg_top.specs.Inside.writing.PutCounts.{LinesCounted}
+use Rattle.pg_top.specs.Inside.ends.Stops.{StopsCommand, PutsAnswer, PutsLines}
+use Rattle.pg_top.specs.Inside.writing.WritesMade.{writing_of}
 use Rattle.pg_top.specs.Moments.{OfFiles}
 use Rattle.pg_top.specs.Outcomes.{IsKnown}
 use Rattle.pg_top.specs.PrintedLines.{usage_line}
@@ -40,9 +40,9 @@ built_run asked (Ok made) before after s0 s1 s2 o0 o1 answer building builds end
     let is : IsMade rule s0 s1 made = builds.made in
     let may : Contains rule.answers Done = subst (λ (answers : List Status). Contains answers Done) (sym building.answers) (0, omega arith, refl) in
     record {
-      call = finished_call rule (writing_of made.files.items) made.lines.items s0 s1 s2 o0 o1 answer may is.named builds.only.held builds.only.writes is.comes is.counted ends;
+      call = finished_call rule (writing_of made.files.items) made.lines.items s0 s1 s2 o0 o1 answer may is.named builds.only.held builds.only.writes is.outcome is.counted ends;
       counted = counted_finish rule (writing_of made.files.items) made.lines.items s0 s1 s2 o0 o1 answer is.named is.counted ends;
-      promised = promised (writing_of made.files.items) made.lines.items s0 s1 s2 o0 o1 answer (λ files. Keeps rule (file_at files)) builds.only.held is.keeps ends;
+      promised = promised (writing_of made.files.items) made.lines.items s0 s1 s2 o0 o1 answer (λ files. KeepsPromise rule (file_at files)) builds.only.held is.promise ends;
       unread = λ none. absurd (building.reads none);
     }
 built_run asked (Err stop) before after s0 s1 s2 o0 o1 answer building builds ends =
@@ -121,7 +121,7 @@ audit_run n before after s0 s1 o0 o1 answer call counted = record {
 
     kept : (answer ≡ Fault) ⊎ ((answer ≡ Memory) ⊎ OfFiles (s0, o0) (s1, o1) (λ before after. IsKnown (outcome_of (file_at before) (audit_rule n))
         (λ wanted writing lines. (answer ≡ wanted) × (after ≡ after_all before writing) × WasPut o0.text o1.text lines)))
-        → answer ≡ Done → OfFiles (s0, o0) (s1, o1) (λ before after. (audit_rule n).keeps (file_at before) (outcome_of (file_at before) (audit_rule n)))
+        → answer ≡ Done → OfFiles (s0, o0) (s1, o1) (λ before after. (audit_rule n).promise (file_at before) (outcome_of (file_at before) (audit_rule n)))
     kept (inl h) is = absurd (subst IsEnd (sym is ∙ h) tt)
     kept (inr (inl h)) is = absurd (subst IsEnd (sym is ∙ h) tt)
     kept (inr (inr h)) is = by_held s0.held s1.held (λ before after. IsKnown (outcome_of (file_at before) (audit_rule n))

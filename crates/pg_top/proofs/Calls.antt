@@ -7,21 +7,21 @@ use Rattle.pg_types.specs.declared.refusals.Refusal.{Refusal}
 use Rattle.pg_outside.specs.Content.{FileMap, FilesShown, SinkShown, KeepsHeld, file_at}
 use Rattle.pg_outside.specs.Inside.NameFaults.{NoneFell}
 use Rattle.pg_top.specs.Answers.{IsCall}
-use Rattle.pg_top.specs.Calls.{usage_rule}
+use Rattle.pg_top.specs.CommandRules.{usage_rule}
 use Rattle.pg_top.specs.Counted.{MakesCalls, MakesPuts, read_calls, PutsFault, ReadsUpTo, EndsAt, IsEndCounted}
-use Rattle.pg_top.specs.Inside.ReadCalls.{write_calls}
-use Rattle.pg_top.specs.Inside.PutCounts.{PutsCounted, LinesCounted}
+use Rattle.pg_top.specs.Inside.reading.ReadCalls.{write_calls}
+use Rattle.pg_top.specs.Inside.writing.PutCounts.{PutsCounted, LinesCounted}
 use Rattle.pg_top.specs.Moments.{Moment, PutOrRose}
-use Rattle.pg_top.specs.Inside.Puts.{Puts, PutsPart, PutRose}
+use Rattle.pg_top.specs.Inside.writing.Puts.{Puts, PutsPart, PutRose}
 use Rattle.pg_top.specs.Outcomes.{Outcome, Ends, Writing, IsKnown}
-use Rattle.pg_top.specs.Inside.Refusing.{refuses}
+use Rattle.pg_top.specs.Inside.ends.Refusing.{refuses}
 use Rattle.pg_top.specs.PrintedLines.{usage_line, refused_line}
-use Rattle.pg_top.specs.Inside.FaultLines.{reading_line, writing_line}
+use Rattle.pg_top.specs.Inside.writing.FaultLines.{reading_line, writing_line}
 use Rattle.pg_top.specs.Readings.{first_end}
 use Rattle.pg_top.specs.sample.Sampled.{sample_rule, sample_lines}
-use Rattle.pg_top.specs.Inside.Stops.{ReadRose, ReadRoseAt, StopsWith, StopsReading, StopsCommandWith, StopsCommand, PutsAnswer, PutsLines, PutsStop, Finishes}
+use Rattle.pg_top.specs.Inside.ends.Stops.{ReadRose, ReadRoseAt, StopsWith, StopsReading, StopsCommandWith, StopsCommand, PutsAnswer, PutsLines, PutsStop, Finishes}
 use Rattle.pg_top.specs.Writings.{after_all, IsPartWritten}
-use Rattle.pg_top.specs.Inside.WritesMade.{written_names, WroteAll, StoppedAt}
+use Rattle.pg_top.specs.Inside.writing.WritesMade.{written_names, WroteAll, StoppedAt}
 use Rattle.pg_top.specs.declared.answers.Status.{Status}
 use Rattle.pg_top.specs.declared.answers.Status.TheVariants.{Done, Usage, Refused, Fault, Memory}
 use Rattle.pg_top.specs.declared.inputs.Input.{Input}
@@ -196,7 +196,7 @@ stops_reading rule s0 s1 why stops = record { place = stops.place; read = stops.
         mapped s1.held (λ files. first_end (file_at files) (take (place + 1) rule.reads) ≡ Some (refuses input refusal))
         (λ files. (outcome_of (file_at files) rule ≡ refuses input refusal) × EndsAt rule place (file_at files))
         (λ files is.
-        let end : outcome_of (file_at files) rule ≡ refuses input refusal = ap (λ end. unwrap_or end (rule.comes (file_at files)))
+        let end : outcome_of (file_at files) rule ≡ refuses input refusal = ap (λ end. unwrap_or end (rule.own_outcome (file_at files)))
         (end_of_all (file_at files) (place + 1) rule.reads (refuses input refusal) is) in
         (end, inl (is ∙ ap Some (sym end)))) stops
     why_command (stop.Unread name) place stops = stops

@@ -5,7 +5,7 @@ use Rattle.std.proofs.lemmas.Option.{get_or_from_slice_get, slice_get_within}
 use Rattle.pg_outside.specs.Content.{FileMap, WasPut, file_at}
 use Rattle.pg_top.specs.Answers.{IsCall}
 use Rattle.pg_top.specs.Faults.{IsReadFault, IsWriteFault, IsPutFault}
-use Rattle.pg_top.specs.Inside.Completeness.{SomeRose, IsComplete}
+use Rattle.pg_top.specs.Inside.ends.Completeness.{SomeRose, IsComplete}
 use Rattle.pg_top.specs.Moments.{Moment, OfFiles}
 use Rattle.pg_top.specs.Outcomes.{Outcome, Unknown, Ends, IsKnown}
 use Rattle.pg_top.specs.Rules.{CommandRule, outcome_of}

@@ -3,12 +3,12 @@ use Rattle.std.proofs.Common.{◌≡◌, ℕ, List, ◌++◌, inl, inr, sym, sub
 use Rattle.pg_types.specs.declared.refusals.Refusal.{Refusal}
 use Rattle.pg_outside.specs.Content.{FilesShown, SinkShown, file_at}
 use Rattle.pg_top.specs.Counted.{MakesCalls, MakesPuts, read_calls, EndsAt, IsEndedCounted, IsCountedCall}
-use Rattle.pg_top.specs.Inside.ReadCalls.{write_calls}
-use Rattle.pg_top.specs.Inside.PutCounts.{PutsCounted}
+use Rattle.pg_top.specs.Inside.reading.ReadCalls.{write_calls}
+use Rattle.pg_top.specs.Inside.writing.PutCounts.{PutsCounted}
 use Rattle.pg_top.specs.Outcomes.{Writing}
-use Rattle.pg_top.specs.Inside.Refusing.{refuses}
-use Rattle.pg_top.specs.Inside.Stops.{StopsCommand, PutsAnswer, Finishes}
-use Rattle.pg_top.specs.Inside.WritesMade.{written_names}
+use Rattle.pg_top.specs.Inside.ends.Refusing.{refuses}
+use Rattle.pg_top.specs.Inside.ends.Stops.{StopsCommand, PutsAnswer, Finishes}
+use Rattle.pg_top.specs.Inside.writing.WritesMade.{written_names}
 use Rattle.pg_top.specs.declared.answers.Status.{Status}
 use Rattle.pg_top.specs.declared.answers.Status.TheVariants.{Done, Refused, Fault, Memory}
 use Rattle.pg_top.specs.declared.inputs.Input.{Input}

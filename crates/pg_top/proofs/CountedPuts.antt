@@ -3,8 +3,8 @@ use Rattle.std.proofs.Common.{◌≡◌, ℕ, List, inl, inr, sym, subst}
 use Rattle.pg_types.specs.declared.refusals.Refusal.{Refusal}
 use Rattle.pg_outside.specs.Content.{SinkShown}
 use Rattle.pg_outside.specs.Faults.{next_count}
-use Rattle.pg_top.specs.Inside.PutCounts.{PutsCounted, LinesCounted}
-use Rattle.pg_top.specs.Inside.Stops.{PutsAnswer}
+use Rattle.pg_top.specs.Inside.writing.PutCounts.{PutsCounted, LinesCounted}
+use Rattle.pg_top.specs.Inside.ends.Stops.{PutsAnswer}
 use Rattle.pg_top.specs.declared.answers.Status.{Status}
 use Rattle.pg_top.specs.declared.answers.Status.TheVariants as status
 use Rattle.pg_top.specs.declared.inputs.Input.{Input}

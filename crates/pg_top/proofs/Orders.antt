@@ -7,11 +7,11 @@ use Rattle.std.proofs.lemmas.Option.{slice_get_read, get_or_from_slice_get}
 use Rattle.pg_outside.specs.Content.{FileMap, FilesShown, KeepsHeld, file_at}
 use Rattle.pg_outside.specs.Inside.NameFaults.{NoneFell}
 use Rattle.pg_top.specs.Counted.{MakesCalls, read_calls, ReadsUpTo}
-use Rattle.pg_top.specs.Inside.ReadCalls.{read_call}
+use Rattle.pg_top.specs.Inside.reading.ReadCalls.{read_call}
 use Rattle.pg_top.specs.Outcomes.{Outcome, Unknown}
-use Rattle.pg_top.specs.Inside.Refusing.{refuses}
+use Rattle.pg_top.specs.Inside.ends.Refusing.{refuses}
 use Rattle.pg_top.specs.Readings.{HeldFiles, Reading, first_end}
-use Rattle.pg_top.specs.Inside.Stops.{OnlyReads, StopsAt, StopsWith, StopsReading}
+use Rattle.pg_top.specs.Inside.ends.Stops.{OnlyReads, StopsAt, StopsWith, StopsReading}
 use Rattle.pg_top.specs.declared.inputs.Stop.{Stop}
 use Rattle.pg_top.specs.declared.inputs.Stop.TheVariants.{Refused, Unread, Memory}
 use Rattle.pg_top.proofs.CountedCalls.{calls_on, calls_are, up_to_all}

@@ -16,7 +16,7 @@ use Rattle.pg_top.specs.sweep.Swept.{sweep_rule}
 use Rattle.pg_top.specs.totals.Totalled.{totals_rule}
 use Rattle.pg_top.specs.Outcomes.{Ends, Unknown}
 use Rattle.pg_top.specs.PrintedLines.{refused_line}
-use Rattle.pg_top.specs.Inside.FaultLines.{reading_line}
+use Rattle.pg_top.specs.Inside.writing.FaultLines.{reading_line}
 use Rattle.pg_top.specs.Readings.{HeldFiles}
 use Rattle.pg_words.specs.Requests.{FileNames, PackRequest, TotalsRequest, SweepRequest, ToGenerate, ToAudit, ToSample, ToPack, ToTotals, ToSweep, request_of}
 use Rattle.pg_top.specs.sample.Sampled.{ending, syllable, word, sample_text}

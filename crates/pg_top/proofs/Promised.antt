@@ -7,7 +7,7 @@ use Rattle.pg_patterns.specs.Inside.PatternMaps.{IsPatternMap}
 use Rattle.pg_select.specs.Windows.{Patterns}
 use Rattle.pg_top.specs.Moments.{OfFiles}
 use Rattle.pg_top.specs.Outcomes.{Writing}
-use Rattle.pg_top.specs.Inside.Stops.{PutsStop, Finishes}
+use Rattle.pg_top.specs.Inside.ends.Stops.{PutsStop, Finishes}
 use Rattle.pg_top.specs.Writings.{after_all}
 use Rattle.pg_top.specs.declared.answers.Status.{Status}
 use Rattle.pg_top.specs.declared.answers.Status.TheVariants.{Done}

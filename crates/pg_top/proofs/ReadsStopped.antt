@@ -3,9 +3,9 @@ use Rattle.std.proofs.Common.{◌≡◌, List, Result}
 use Rattle.std.specs.Result.{IsErrAnd}
 use Rattle.pg_outside.specs.Content.{FilesShown}
 use Rattle.pg_top.specs.Readings.{HeldFiles, Reading}
-use Rattle.pg_top.specs.Inside.Built.{Builds}
-use Rattle.pg_top.specs.Inside.ReadsMade.{ReadsFiles}
-use Rattle.pg_top.specs.Inside.Stops.{OnlyReads, StopsCommand, StopsReading}
+use Rattle.pg_top.specs.Inside.ends.Built.{Builds}
+use Rattle.pg_top.specs.Inside.reading.ReadsMade.{ReadsFiles}
+use Rattle.pg_top.specs.Inside.ends.Stops.{OnlyReads, StopsCommand, StopsReading}
 use Rattle.pg_top.specs.declared.inputs.Stop.{Stop}
 use Rattle.pg_top.specs.declared.writes.Outputs.{Outputs}
 use Rattle.pg_top.proofs.Results.{no_value, that_error}

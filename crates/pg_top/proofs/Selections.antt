@@ -1,5 +1,6 @@
 -- What the driver gives over a new engine is the selection.
-use Rattle.std.proofs.Common.{◌≡◌, ℕ, List, [], ◌∷◌, ◌++◌, Option, None, Some, fold, map, codes, decimal, refl, ap, subst, ◌∙◌, append_assoc}
+use Rattle.std.proofs.Common.{◌≡◌, ℕ, List, [], ◌∷◌, ◌++◌, Option, None, Some, map, codes, decimal, refl, ap, subst, ◌∙◌, append_assoc}
+use Rattle.pg_translate.specs.Gaps.{last_else}
 use Rattle.std.specs.Option.{option_map}
 use Rattle.pg_types.specs.declared.marks.Layout.{Layout}
 use Rattle.pg_types.specs.Placement.{Families}
@@ -8,10 +9,10 @@ use Rattle.pg_driver.specs.declared.records.LevelRecord.{LevelRecord}
 use Rattle.pg_driver.specs.Accounts.{begun_count}
 use Rattle.pg_driver.specs.Layouts.{families_at_end}
 use Rattle.pg_driver.specs.Traces.{source_of}
-use Rattle.pg_driver.specs.Inside.CellsAccounts.{CellsAccount, layout_of}
-use Rattle.pg_driver.specs.Inside.Sound.{Finished}
-use Rattle.pg_driver.specs.Inside.RunAccounts.{patterns_from, account_from, begun_from, cells_from, TellsCells, level_layout_told}
-use Rattle.pg_driver.specs.Inside.AccountLines.{Account}
+use Rattle.pg_driver.specs.Inside.records.CellsAccounts.{CellsAccount, layout_of}
+use Rattle.pg_driver.specs.Inside.records.Sound.{CompletedRun}
+use Rattle.pg_driver.specs.Inside.records.RunAccounts.{patterns_from, account_from, begun_from, cells_from, TellsCells, level_layout_told}
+use Rattle.pg_driver.specs.Inside.records.AccountLines.{Account}
 use Rattle.pg_select.specs.Windows.{Patterns}
 use Rattle.pg_packed.specs.Inside.Starts.{pattern_families}
 use Rattle.pg_patterns.specs.Texts.{pattern_text}
@@ -21,11 +22,11 @@ use Rattle.pg_texts.specs.Inside.CellsLines.{account_cells_text}
 use Rattle.pg_texts.specs.Inside.ReportLines.{account_text}
 use Rattle.pg_texts.specs.PattmpTexts.{pattmp_text}
 use Rattle.pg_texts.proofs.TraceTexts.{cells_same, last_same, report_same}
-use Rattle.pg_top.specs.Inside.Runs.{last_layout_told}
+use Rattle.pg_top.specs.Inside.selection.Runs.{last_layout_told}
 use Rattle.pg_top.specs.Selection.{selection, selected_patterns, selected_totals, selected_text, selected_list, selected_cells_text, selected_report}
-use Rattle.pg_top.specs.Inside.SelectionSigns.{signs_of}
-use Rattle.pg_top.specs.Inside.SelectionAccounts.{selected_account, passes_begun, selected_cells_from, selected_cells, last_layout, work_line}
-use Rattle.pg_top.specs.Inside.SelectedRuns.{IsNew}
+use Rattle.pg_top.specs.Inside.selection.SelectionSigns.{signs_of}
+use Rattle.pg_top.specs.Inside.selection.SelectionAccounts.{selected_account, passes_begun, selected_cells_from, selected_cells, last_layout, work_line}
+use Rattle.pg_top.specs.Inside.selection.SelectedRuns.{IsNew}
 use Rattle.pg_top.specs.declared.selection.Inputs.{Inputs}
 
 pub patterns_selected : (i : Inputs) (m : Meaning) → IsNew i m → patterns_from i.table i.dictionary i.params m ≡ selected_patterns i
@@ -46,7 +47,7 @@ cells_selected i m is = ap (cells_from i.table i.dictionary i.params) is
 
 -- the layout that a run tells last is the last of what is told of its cells
 last_of : (levels : List LevelRecord) (told : List (ℕ × Layout)) (first : Option Layout) (start : Layout) → first ≡ Some start → map level_layout_told levels
-    ≡ map Some told → fold (λ _ l. l.layout) first levels ≡ Some (fold (λ _ l. l.1) start told)
+    ≡ map Some told → last_else first (map (λ l. l.layout) levels) ≡ Some (last_else start (map (λ l. l.1) told))
 last_of [] [] first start is same = is
 last_of [] (t ∷ told) first start is same = cc
 last_of (l ∷ levels) [] first start is same = cc
@@ -63,11 +64,11 @@ last_of (l ∷ levels) (t ∷ told) first start is same =
         second None other = other
         second (Some x) other = x.1
 
-pub last_is : (a : CellsAccount) (r : Finished) → TellsCells (Some a) r → last_layout_told r ≡ Some (last_layout a)
+pub last_is : (a : CellsAccount) (r : CompletedRun) → TellsCells (Some a) r → last_layout_told r ≡ Some (last_layout a)
 last_is a r tells = last_of r.levels a.levels r.first_layout a.start tells.0 tells.2
 
 -- over the packed engine these are the cells
-pub cells_packed : (i : Inputs) (fs : Option Families) (r : Finished) → fs ≡ Some (pattern_families (signs_of i) i.start) → TellsCells (option_map (selected_cells_from i) fs) r
+pub cells_packed : (i : Inputs) (fs : Option Families) (r : CompletedRun) → fs ≡ Some (pattern_families (signs_of i) i.start) → TellsCells (option_map (selected_cells_from i) fs) r
     → TellsCells (Some (selected_cells i)) r
 unfolding selected_cells
 cells_packed i fs r is tells = subst (λ fs. TellsCells (option_map (selected_cells_from i) fs) r) is tells

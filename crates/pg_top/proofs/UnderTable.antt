@@ -10,11 +10,11 @@ use Rattle.pg_translate.specs.Alphabets.{Alphabet}
 use Rattle.pg_translate.specs.Tables.{table, default_alphabet}
 use Rattle.pg_top.specs.Counted.{MakesCalls}
 use Rattle.pg_top.specs.Outcomes.{unless_accepted}
-use Rattle.pg_top.specs.Inside.Refusing.{refuses}
+use Rattle.pg_top.specs.Inside.ends.Refusing.{refuses}
 use Rattle.pg_top.specs.Readings.{HeldFiles, Reading, meaning, input_file, table_named, translate_file}
-use Rattle.pg_top.specs.Inside.ReadAs.{read_as}
-use Rattle.pg_top.specs.Inside.UnderTable.{file_under, meaning_under}
-use Rattle.pg_top.specs.Inside.Stops.{StopsAt, StopsReading}
+use Rattle.pg_top.specs.Inside.reading.ReadAs.{read_as}
+use Rattle.pg_top.specs.Inside.reading.UnderTable.{file_under, meaning_under}
+use Rattle.pg_top.specs.Inside.ends.Stops.{StopsAt, StopsReading}
 use Rattle.pg_top.specs.declared.inputs.Input.{Input}
 use Rattle.pg_top.specs.declared.inputs.Input.TheVariants as input
 use Rattle.pg_top.specs.declared.inputs.Stop.{Stop}

@@ -9,10 +9,10 @@ use Rattle.pg_outside.specs.Inside.ToldFiles.{WasWritten, WasPartWritten}
 use Rattle.pg_outside.specs.Faults.{Rose}
 use Rattle.pg_outside.specs.Inside.NameFaults.{NoneFell}
 use Rattle.pg_top.specs.Counted.{MakesCalls}
-use Rattle.pg_top.specs.Inside.ReadCalls.{write_calls}
+use Rattle.pg_top.specs.Inside.reading.ReadCalls.{write_calls}
 use Rattle.pg_top.specs.Outcomes.{Writing}
 use Rattle.pg_top.specs.Writings.{after_all, IsPartWritten}
-use Rattle.pg_top.specs.Inside.WritesMade.{named_text, writing_of, written_names, StoppedAt}
+use Rattle.pg_top.specs.Inside.writing.WritesMade.{named_text, writing_of, written_names, StoppedAt}
 use Rattle.pg_top.specs.declared.writes.Output.{Output}
 use Rattle.pg_top.proofs.CountedCalls.{all_writes}
 use Rattle.pg_top.proofs.Faults.{rose_since}

@@ -38,8 +38,7 @@ pub record ReadsUpTo (reads : List Reading) (at : ℕ) (old new : FilesShown) : 
 
 -- the file at this place of the order ends the call; or the place is the end, and no file does
 abbrev pub EndsAt : CommandRule → ℕ → HeldFiles → Type 0
-EndsAt rule at files =
-    (first_end files (take (at + 1) rule.reads) ≡ Some (outcome_of files rule))
+EndsAt rule at files = (first_end files (take (at + 1) rule.reads) ≡ Some (outcome_of files rule))
     ⊎ ((at + 1 ≡ length rule.reads) × (first_end files rule.reads ≡ None))
 
 -- a file ended the call, or the command did once all were read; one line was put at once

@@ -11,7 +11,7 @@ pub mod pack
 pub mod totals
 pub mod prune
 pub mod sweep
-pub mod Calls
+pub mod CommandRules
 pub mod Writings
 pub mod Moments
 pub mod Faults

@@ -14,16 +14,17 @@ pub record CommandRule : Type 1 where
   -- the answers that it may give beside a fault
   pub answers : List Status
   -- what it comes to where no file that it reads ends the call
-  pub comes : HeldFiles → Outcome
+  pub own_outcome : HeldFiles → Outcome
   -- what it promises, where it is done, of the files that it reads and of what it comes to
-  pub keeps : HeldFiles → Outcome → Type 0
+  pub promise : HeldFiles → Outcome → Type 0
 
 -- what a rule has where it says nothing else: nothing is read, written or promised, the answer is
 -- done, refused or a lack of memory, and the outcome is not known, so each command says its own
 abbrev pub usual_rule : CommandRule
 usual_rule = let all = Done ∷ Refused ∷ Memory ∷ [] in
-    record { reads = []; writes = []; answers = all; comes = λ _. Unknown; keeps = λ _ _. Unit {0} }
+    let none : HeldFiles → Outcome = λ _. Unknown in
+    record { reads = []; writes = []; answers = all; own_outcome = none; promise = λ _ _. Unit {0} }
 
 -- the outcome of a command: that of the first file that ends the call, else its own
 abbrev pub outcome_of : HeldFiles → CommandRule → Outcome
-outcome_of files rule = unwrap_or (first_end files rule.reads) (rule.comes files)
+outcome_of files rule = unwrap_or (first_end files rule.reads) (rule.own_outcome files)

@@ -2,7 +2,7 @@
 use Rattle.std.specs.Prelude.{◌≡◌, [], Option, None}
 use Rattle.pg_outside.specs.Content.{WasPut, WasPartPut, file_at}
 use Rattle.pg_top.specs.Answers.{IsCall}
-use Rattle.pg_top.specs.Calls.{rule_of}
+use Rattle.pg_top.specs.CommandRules.{rule_of}
 use Rattle.pg_top.specs.Counted.{IsCountedCall}
 use Rattle.pg_top.specs.Moments.{Moment, OfFiles}
 use Rattle.pg_top.specs.Outcomes.{IsKnown}
@@ -18,10 +18,10 @@ pub record IsRun {F : Type 0} (asked : Option Request) (status : Status)
   pub counted : IsCountedCall (rule_of asked) status old new
   -- the command is done, and what it promises of its files and its outcome holds
   pub promised : status ≡ Done → OfFiles old new (λ before after.
-      (rule_of asked).keeps (file_at before) (outcome_of (file_at before) (rule_of asked)))
-  -- where no file is read, as for words that are no command and for `sample`, the files stay as they
-  -- are, and the lines are those of the rule, also where files do not tell what they hold
+      (rule_of asked).promise (file_at before) (outcome_of (file_at before) (rule_of asked)))
+  -- no file is read, as for words that are no command and for `sample`: the files stay as they are,
+  -- and the lines are those of the rule, also where files do not tell what they hold
   pub unread : (rule_of asked).reads ≡ [] → (after ≡ before)
-      × IsKnown ((rule_of asked).comes (λ _. None)) (λ wanted writing lines.
+      × IsKnown ((rule_of asked).own_outcome (λ _. None)) (λ wanted writing lines.
       (status ≡ wanted → WasPut old.1.text new.1.text lines)
       × (status ≡ Fault → WasPartPut old.1.text new.1.text lines))

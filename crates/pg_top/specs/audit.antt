@@ -1,2 +1,3 @@
+-- What `audit` reads and says.
 pub mod Audited
 pub mod Inside

@@ -1,2 +1,3 @@
+-- What `generate` reads, writes and prints.
 pub mod Generated
 pub mod Inside

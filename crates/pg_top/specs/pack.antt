@@ -1,2 +1,3 @@
+-- What `pack` reads, writes, prints and promises.
 pub mod Packed
 pub mod Inside

@@ -1,2 +1,3 @@
+-- What `prune` reads, writes, prints and promises.
 pub mod Pruned
 pub mod Inside

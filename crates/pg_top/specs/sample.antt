@@ -1,2 +1,3 @@
+-- What `sample` prints.
 pub mod Sampled
 pub mod Inside

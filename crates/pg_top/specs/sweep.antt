@@ -1,2 +1,3 @@
+-- What `sweep` reads, writes, prints and promises.
 pub mod Swept
 pub mod Inside

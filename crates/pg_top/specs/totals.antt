@@ -1,2 +1,3 @@
+-- What `totals` reads and prints.
 pub mod Totalled
 pub mod Inside

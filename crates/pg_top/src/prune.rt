@@ -1,8 +1,8 @@
 //! `prune`: the patterns that a dictionary needs.
 ghost use Rattle.pg_words.specs.Inside.Asked.{to_prune};
 ghost use Rattle.std.specs.Prelude.{Some};
-ghost use Rattle.pg_top.specs.Calls.{rule_of};
-ghost use Rattle.pg_top.specs.Inside.Built.{Builds};
+ghost use Rattle.pg_top.specs.CommandRules.{rule_of};
+ghost use Rattle.pg_top.specs.Inside.ends.Built.{Builds};
 
 mod inputs;
 mod outputs;

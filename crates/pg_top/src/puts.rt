@@ -2,10 +2,10 @@
 ghost use Rattle.std.specs.Prelude.{◌≡◌, ◌≤◌, ◌++◌, ◌∷◌, [], OnOk, OnErr};
 ghost use Rattle.pg_outside.specs.Faults.{Rose, next_count};
 ghost use Rattle.pg_top.specs.Counted.{PutsFault};
-ghost use Rattle.pg_top.specs.Inside.PutCounts.{PutsCounted};
+ghost use Rattle.pg_top.specs.Inside.writing.PutCounts.{PutsCounted};
 ghost use Rattle.pg_top.specs.Moments.{PutOrRose};
-ghost use Rattle.pg_top.specs.Inside.Puts.{Puts, PutsPart};
-ghost use Rattle.pg_top.specs.Inside.Stops.{PutsAnswer, PutsStop};
+ghost use Rattle.pg_top.specs.Inside.writing.Puts.{Puts, PutsPart};
+ghost use Rattle.pg_top.specs.Inside.ends.Stops.{PutsAnswer, PutsStop};
 
 use crate::answers::Status;
 use crate::inputs::Stop;

@@ -11,10 +11,10 @@ ghost use Rattle.pg_dict.specs.Words.{words};
 ghost use Rattle.pg_patterns.specs.Starts.{start};
 ghost use Rattle.pg_patterns.specs.Inside.PatternMaps.{SignsUpTo};
 ghost use Rattle.pg_top.specs.Counted.{MakesCalls};
-ghost use Rattle.pg_top.specs.Inside.ReadAs.{read_as};
-ghost use Rattle.pg_top.specs.Inside.Lists.{lists_under, HasLists};
-ghost use Rattle.pg_top.specs.Inside.ReadsMade.{ReadsInput};
-ghost use Rattle.pg_top.specs.Inside.Stops.{OnlyReads, accepted_as, StopsFront, StopsReading};
+ghost use Rattle.pg_top.specs.Inside.reading.ReadAs.{read_as};
+ghost use Rattle.pg_top.specs.Inside.reading.Lists.{lists_under, HasLists};
+ghost use Rattle.pg_top.specs.Inside.reading.ReadsMade.{ReadsInput};
+ghost use Rattle.pg_top.specs.Inside.ends.Stops.{OnlyReads, accepted_as, StopsFront, StopsReading};
 
 use crate::inputs::{Input, Stop};
 use pg_dict::Dictionary;

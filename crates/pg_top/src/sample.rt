@@ -4,12 +4,12 @@ ghost use Rattle.pg_words.specs.declared.limits.TheConstants.{SEED_MAX, COUNT_MA
 ghost use Rattle.pg_translate.specs.Alphabets.{letters_of};
 ghost use Rattle.pg_translate.specs.Tables.{default_alphabet};
 ghost use Rattle.pg_dict.specs.Inside.SoundWords.{SignsAtMost};
-ghost use Rattle.pg_top.specs.Inside.PutCounts.{LinesCounted};
+ghost use Rattle.pg_top.specs.Inside.writing.PutCounts.{LinesCounted};
 ghost use Rattle.pg_top.specs.sample.Sampled.{is_printed as is_printed_line, sample_inputs, sample_lines as lines_of, sample_parameters};
 ghost use Rattle.pg_top.specs.sample.Inside.Lines.{printed_part, selection_lines};
-ghost use Rattle.pg_top.specs.Inside.SelectionSigns.{HasSigns};
-ghost use Rattle.pg_top.specs.Inside.SelectedRuns.{IsNew, TellsSelection};
-ghost use Rattle.pg_top.specs.Inside.Stops.{PutsLines};
+ghost use Rattle.pg_top.specs.Inside.selection.SelectionSigns.{HasSigns};
+ghost use Rattle.pg_top.specs.Inside.selection.SelectedRuns.{IsNew, TellsSelection};
+ghost use Rattle.pg_top.specs.Inside.ends.Stops.{PutsLines};
 
 mod words;
 

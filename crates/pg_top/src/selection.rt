@@ -2,11 +2,11 @@
 ghost use Rattle.std.specs.Prelude.{◌≡◌, IfOk, OnOk};
 ghost use Rattle.std.specs.Option.{option_map};
 ghost use Rattle.pg_patterns.specs.Starts.{start};
-ghost use Rattle.pg_top.specs.Inside.SelectionAccounts.{selected_cells_from};
-ghost use Rattle.pg_top.specs.Inside.SelectionSigns.{HasSigns};
-ghost use Rattle.pg_top.specs.Inside.SelectedRuns.{IsNew, TellsSelection, HasSelected};
-ghost use Rattle.pg_driver.specs.Inside.RunAccounts.{TellsCells};
-ghost use Rattle.pg_top.specs.Inside.Runs.{last_layout_told};
+ghost use Rattle.pg_top.specs.Inside.selection.SelectionAccounts.{selected_cells_from};
+ghost use Rattle.pg_top.specs.Inside.selection.SelectionSigns.{HasSigns};
+ghost use Rattle.pg_top.specs.Inside.selection.SelectedRuns.{IsNew, TellsSelection, HasSelected};
+ghost use Rattle.pg_driver.specs.Inside.records.RunAccounts.{TellsCells};
+ghost use Rattle.pg_top.specs.Inside.selection.Runs.{last_layout_told};
 ghost use Rattle.pg_top.specs.Selection.{selected_text, selected_list, selected_report};
 
 use pg_dict::Dictionary;

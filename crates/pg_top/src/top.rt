@@ -77,12 +77,13 @@ fn perform<F: Files, O: Sink, W: Watch>(
 /// Does what the words, without the program's name, ask for. It reads and writes `files`, prints to
 /// `out`, and gives the answer.
 ///
-/// `generate` reads the translate file, the parameters, the starting patterns and the dictionary,
-/// each whole and by its rules before the next, selects patterns, and builds all texts. Then it
-/// writes the pattern file, the hyphenated list, the cells file and the report, those asked for,
-/// and prints. From the first write on it takes no memory. `audit` reads the same, builds the texts
-/// with another engine, and reads and compares the given files one after the other, up to the first
-/// false line. `sample` makes a dictionary from a number and prints how a selection on it goes.
+/// `generate` reads the translate file, the parameters, the starting patterns and the dictionary.
+/// Each is read whole and by its rules before the next. It selects patterns and builds all texts.
+/// Then it writes the pattern file, the hyphenated list and the cells file where they are asked
+/// for, and the report, and prints. From the first write on it takes no memory. `audit` reads the
+/// same and builds the texts with another engine. It reads and compares the given files one after
+/// the other, up to the first false line. `sample` makes a dictionary from a number and prints how
+/// a selection on it goes.
 /// `pack` reads the translate file and the patterns, and writes their packed table. `totals` reads
 /// the translate file, the dictionary and the packed table, and prints the totals of the words by
 /// the table, which it reads in place. `prune` reads the translate file, the patterns and the
@@ -100,11 +101,11 @@ fn perform<F: Files, O: Sink, W: Watch>(
 ///   the table of `pack` would be too long. `sample` is never refused.
 /// - `Fault` comes only where the read faults of a name that the command reads, the write faults of
 ///   one that it writes, or the faults of `out` rose.
-/// - `Memory` may always come where the words are a command; nothing was written and nothing put
-///   then.
-/// - `Yes` comes where all given files are what they should be, and `No` where a line is not; that
-///   line was named.
-/// - `Done`: all that was asked for was written whole.
+/// - `Memory` may always come where the words are a command. Nothing was written then, and nothing
+///   was put.
+/// - `Yes` comes where all given files are what they should be. `No` comes where a line is not, and
+///   that line was named.
+/// - `Done` comes where all that was asked for was written whole.
 ///
 /// After all answers but `Done` and `Fault` the files are as they were. Where the words are no
 /// command, and for `sample`, `files` is not called.
@@ -115,9 +116,9 @@ pub fn run<F: Files, O: Sink>(alloc: Global, words: &[String], files: &mut F, ou
     run_watched(alloc, words, files, out, &Quiet)
 }
 
-/// Does what `run` does, and tells the observer of it: which file is read or written, which is
-/// refused and where, where a selection, a pass, a run of `sweep` or a round of `prune` begins, and
-/// which line of a given file is false.
+/// Does what `run` does, and tells the observer of it. The observer is told which file is read or
+/// written, and which is refused and where. It is told where a selection, a pass, a run of `sweep`
+/// or a round of `prune` begins, and which line of a given file is false.
 pub fn run_watched<F: Files, O: Sink, W: Watch>(
     alloc: Global,
     words: &[String],

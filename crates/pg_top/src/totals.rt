@@ -1,7 +1,7 @@
 //! `totals`: the totals of a dictionary by a packed table.
 ghost use Rattle.std.specs.Prelude.{Some};
-ghost use Rattle.pg_top.specs.Calls.{rule_of};
-ghost use Rattle.pg_top.specs.Inside.Built.{Builds};
+ghost use Rattle.pg_top.specs.CommandRules.{rule_of};
+ghost use Rattle.pg_top.specs.Inside.ends.Built.{Builds};
 ghost use Rattle.pg_words.specs.Inside.Asked.{to_totals};
 
 mod table;

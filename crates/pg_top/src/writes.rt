@@ -2,10 +2,10 @@
 ghost use Rattle.std.specs.Prelude.{◌≡◌, ◌+◌, ◌<◌, ◌++◌, ◌∷◌, [], OnOk, IfErr, length, take, slice_get, Some};
 ghost use Rattle.pg_outside.specs.Inside.NameFaults.{NoneFell};
 ghost use Rattle.pg_top.specs.Counted.{MakesCalls};
-ghost use Rattle.pg_top.specs.Inside.ReadCalls.{write_calls};
-ghost use Rattle.pg_top.specs.Inside.WritesMade.{writing_of, written_names, WroteAll, StoppedAt};
-ghost use Rattle.pg_top.specs.Inside.Built.{EndsBuilt};
-ghost use Rattle.pg_top.specs.Inside.Stops.{Finishes};
+ghost use Rattle.pg_top.specs.Inside.reading.ReadCalls.{write_calls};
+ghost use Rattle.pg_top.specs.Inside.writing.WritesMade.{writing_of, written_names, WroteAll, StoppedAt};
+ghost use Rattle.pg_top.specs.Inside.ends.Built.{EndsBuilt};
+ghost use Rattle.pg_top.specs.Inside.ends.Stops.{Finishes};
 
 use crate::answers::Status;
 use crate::inputs::Stop;

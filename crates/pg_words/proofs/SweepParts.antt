@@ -39,7 +39,8 @@ is_count count some few = grind (arith, nat_tests)
 
 -- parts whose numbers are within their bounds
 pub all_within : (dict patterns output translate k bad_word missed_word : List ℕ) (params : List (List ℕ)) (folds bad missed : ℕ) → number_within FOLDS_DIGITS 2 FOLDS_MAX k
-    ≡ Some folds → number_within PRICE_DIGITS 1 PRICE_MAX bad_word ≡ Some bad → number_within PRICE_DIGITS 1 PRICE_MAX missed_word ≡ Some missed → (nat_lt 0 (length params) && nat_le (length params) SETS_MAX) ≡ true
+    ≡ Some folds → number_within PRICE_DIGITS 1 PRICE_MAX bad_word ≡ Some bad → number_within PRICE_DIGITS 1 PRICE_MAX missed_word ≡ Some missed
+    → (nat_lt 0 (length params) && nat_le (length params) SETS_MAX) ≡ true
     → sweep_in (dict ∷ patterns ∷ output ∷ translate ∷ k ∷ bad_word ∷ missed_word ∷ params) ≡ where_taken (dict ∷ patterns ∷ translate ∷ params) (output ∷ []) (ToSweep (record {
       dict = dict;
       patterns = patterns;

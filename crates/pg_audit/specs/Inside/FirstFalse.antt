@@ -13,12 +13,12 @@ pub record IsFirstFalse (given wanted : List ℕ) (d : Difference) : Type 0 wher
   pub found : (k : ℕ) → d.line ≡ k + 1 → d.found ≡ unwrap_or (line_at given k) []
 
 -- a difference with no more than the first n bytes of its line
-abbrev pub shown : ℕ → Difference → Difference
-shown n d = record { line = d.line; found = take n d.found }
+abbrev pub shown_difference : ℕ → Difference → Difference
+shown_difference n d = record { line = d.line; found = take n d.found }
 
 -- the first false line of a given file, with no more than its first n bytes
 abbrev pub first_false_shown : ℕ → List ℕ → List ℕ → Option Difference
-first_false_shown n given wanted = option_map (shown n) (first_false given wanted)
+first_false_shown n given wanted = option_map (shown_difference n) (first_false given wanted)
 
 -- the first part of a given file: n bytes more than the wanted file has
 abbrev pub first_part : ℕ → List ℕ → List ℕ → List ℕ

@@ -15,11 +15,11 @@ ghost use Rattle.pg_select.specs.Inside.Positions.{HasValues};
 ghost use Rattle.pg_select.specs.Statuses.{status};
 ghost use Rattle.pg_select.specs.Windows.{Patterns};
 ghost use Rattle.pg_driver.specs.declared.pass_windows.TheConstants.{NO_NUMBER};
-ghost use Rattle.pg_driver.specs.Inside.OpenLevels.{listed_in, open_as};
-ghost use Rattle.pg_driver.specs.Inside.OpenPositions.{IsPlaced};
-ghost use Rattle.pg_driver.specs.Inside.PassWindows.{AreFates, HaveNumbers, IsNumbered, is_counted_at};
-ghost use Rattle.pg_driver.specs.Inside.Fates.{chooses};
-ghost use Rattle.pg_driver.specs.Inside.WordLevels.{TookKept, kept_by, with_kept};
+ghost use Rattle.pg_driver.specs.Inside.counting.OpenLevels.{listed_in, open_as};
+ghost use Rattle.pg_driver.specs.Inside.counting.OpenPositions.{IsPlaced};
+ghost use Rattle.pg_driver.specs.Inside.level.PassWindows.{AreFates, HaveNumbers, IsNumbered, is_counted_at};
+ghost use Rattle.pg_driver.specs.Inside.choices.Fates.{chooses};
+ghost use Rattle.pg_driver.specs.Inside.counting.WordLevels.{TookKept, kept_by, with_kept};
 
 use crate::counting::marks::counts_as;
 use crate::counting::open_passes::is_good;
@@ -40,8 +40,8 @@ pub struct Kept {
     pub bad: u64,
 }
 
-/// Whether position `p` of a word counts by its status, as `good` says, and the value that was found
-/// for it is above the level.
+/// Whether position `p` of a word counts by its status, as `good` says, and its value is above the
+/// level.
 pub fn is_above(level: u8, found: &WordState, p: usize, good: Option<bool>) -> bool
     requires { p < WORD_LETTERS_MAX + 2 }
     ensures { result ≡ is_some

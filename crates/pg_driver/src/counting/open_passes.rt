@@ -6,11 +6,11 @@ ghost use Rattle.pg_dots.specs.Inside.Dots.{is_closed, position_count};
 ghost use Rattle.pg_types.specs.declared.limits.TheConstants.{FILE_MAX};
 ghost use Rattle.pg_dict.specs.Inside.SoundWords.{IsWord, SignsAtMost, letter_count};
 ghost use Rattle.pg_select.specs.Statuses.{is_odd};
-ghost use Rattle.pg_driver.specs.Inside.Counting.{meaning_after_counting, HasRoom, TookRoom};
-ghost use Rattle.pg_driver.specs.Inside.States.{IsPass};
-ghost use Rattle.pg_driver.specs.Inside.OpenSigns.{ClosesBy, closed_by, open_word_positions, open_signs, position_from, sign_count};
-ghost use Rattle.pg_driver.specs.Inside.OpenPositions.{counted_of};
-ghost use Rattle.pg_driver.specs.Inside.PassWindows.{HaveNumbers, IsNumbered, counts_at};
+ghost use Rattle.pg_driver.specs.Inside.counting.Counting.{meaning_after_counting, HasRoom, TookRoom};
+ghost use Rattle.pg_driver.specs.Inside.level.States.{IsPass};
+ghost use Rattle.pg_driver.specs.Inside.counting.OpenSigns.{ClosesBy, closed_by, open_word_positions, open_signs, position_from, sign_count};
+ghost use Rattle.pg_driver.specs.Inside.counting.OpenPositions.{counted_of};
+ghost use Rattle.pg_driver.specs.Inside.level.PassWindows.{HaveNumbers, IsNumbered, counts_at};
 
 use crate::counting::marks::window_at;
 use crate::pass_windows::NO_NUMBER;

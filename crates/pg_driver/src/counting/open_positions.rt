@@ -10,8 +10,8 @@ ghost use Rattle.pg_dict.specs.Inside.Lent.{lent_word};
 ghost use Rattle.pg_select.specs.CountedPositions.{counts_as as counts_as_of, minima_of};
 ghost use Rattle.pg_select.specs.Sums.{totals as totals_of_words, marks_in};
 ghost use Rattle.pg_select.specs.Inside.SumSteps.{with_marks, HasRoomFor, TookRoomFor};
-ghost use Rattle.pg_driver.specs.Inside.Counting.{IsBounded};
-ghost use Rattle.pg_driver.specs.Inside.OpenSigns.{is_open_first, sign_count, start_of};
+ghost use Rattle.pg_driver.specs.Inside.counting.Counting.{IsBounded};
+ghost use Rattle.pg_driver.specs.Inside.counting.OpenSigns.{is_open_first, sign_count, start_of};
 ghost use Rattle.pg_driver.specs.Traces.{source_of};
 
 use crate::counting::marks::counts_as;

@@ -1,13 +1,13 @@
 //! A level in which each word is hyphenated in each pass. Its totals are carried from pass to pass.
 ghost use Rattle.std.specs.Prelude.{◌≡◌, [], false, true, IfOk, OnOk};
 ghost use Rattle.pg_types.specs.Inside.NumberedWindows.{AreNumbered};
-ghost use Rattle.pg_driver.specs.Inside.PassWindows.{HaveNumbers, is_counted_at};
-ghost use Rattle.pg_driver.specs.Inside.States.{HasBegun};
-ghost use Rattle.pg_driver.specs.Inside.RunAccounts.{known_of};
+ghost use Rattle.pg_driver.specs.Inside.level.PassWindows.{HaveNumbers, is_counted_at};
+ghost use Rattle.pg_driver.specs.Inside.level.States.{HasBegun};
+ghost use Rattle.pg_driver.specs.Inside.records.RunAccounts.{known_of};
 ghost use Rattle.pg_driver.specs.Traces.{source_of};
 ghost use Rattle.pg_select.specs.Statuses.{is_odd};
-ghost use Rattle.pg_driver.specs.Inside.LevelCounting.{CanMove, DidCount, IsAfterWords};
-ghost use Rattle.pg_driver.specs.Inside.WordLevels.{IsWordsAt};
+ghost use Rattle.pg_driver.specs.Inside.counting.LevelCounting.{CanMove, DidCount, IsAfterWords};
+ghost use Rattle.pg_driver.specs.Inside.counting.WordLevels.{IsWordsAt};
 
 use crate::choices::Choices;
 use crate::counting::above_positions::Kept;

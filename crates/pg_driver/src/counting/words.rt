@@ -12,12 +12,12 @@ ghost use Rattle.pg_select.specs.Statuses.{status_at, position_weight};
 ghost use Rattle.pg_select.specs.Sums.{marks_in, totals as totals_of_words};
 ghost use Rattle.pg_select.specs.Inside.SumSteps.{with_mark, with_marks, HasRoomFor, TookRoomFor};
 ghost use Rattle.pg_select.specs.Windows.{fits as fits_in, window as window_of_word};
-ghost use Rattle.pg_driver.specs.Inside.Counting.{meaning_after_counting, HasRoom, IsBounded, IsRead, TookRoom};
-ghost use Rattle.pg_driver.specs.Inside.OpenLevels.{listed_in, listed_from, open_as};
-ghost use Rattle.pg_driver.specs.Inside.PassWindows.{GetsNumber, HaveNumbers, NotesNumbers, uncovered_at};
-ghost use Rattle.pg_driver.specs.Inside.Sound.{IsSmall};
-ghost use Rattle.pg_driver.specs.Inside.States.{HasBegun, IsPass};
-ghost use Rattle.pg_driver.specs.Inside.WordLevels.{listing};
+ghost use Rattle.pg_driver.specs.Inside.counting.Counting.{meaning_after_counting, HasRoom, IsBounded, IsRead, TookRoom};
+ghost use Rattle.pg_driver.specs.Inside.counting.OpenLevels.{listed_in, listed_from, open_as};
+ghost use Rattle.pg_driver.specs.Inside.level.PassWindows.{GetsNumber, HaveNumbers, NotesNumbers, uncovered_at};
+ghost use Rattle.pg_driver.specs.Inside.records.Sound.{IsSmall};
+ghost use Rattle.pg_driver.specs.Inside.level.States.{HasBegun, IsPass};
+ghost use Rattle.pg_driver.specs.Inside.counting.WordLevels.{listing};
 ghost use Rattle.pg_driver.specs.Traces.{source_of};
 
 use crate::counting::above_positions::{is_above, list_above};
@@ -52,8 +52,9 @@ fn counted(
     }
 }
 
-/// Counts the window at position `p` of a word, which counts by its status as `good` says, where it
-/// counts in the pass, and gives its number; `NO_NUMBER` where it does not count.
+/// Counts the window at position `p` of a word, where it counts in the pass, and gives its number.
+/// By its status the position counts as `good` says. The number is `NO_NUMBER` where the window does
+/// not count.
 fn count_at<E: Engine>(
     engine: &mut E,
     pass: Pass,
@@ -128,8 +129,8 @@ fn count_position<E: Engine>(
     Ok(())
 }
 
-/// Counts the positions of a word, and adds them to the totals. Those that count and have a value
-/// above the level have the numbers of their windows noted, and where `lists` says so they are
+/// Counts the positions of a word, and adds them to the totals. For those that count and have a
+/// value above the level, the numbers of their windows are noted. Where `lists` says so, they are
 /// listed. What `found` holds does not matter.
 fn count_word<E: Engine>(
     engine: &mut E,

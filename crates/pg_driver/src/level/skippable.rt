@@ -14,7 +14,7 @@ pub struct Skippable {
 }
 
 impl Model for Skippable {
-    ghost use Rattle.pg_driver.specs.Inside.Levels.{SkipFlags};
+    ghost use Rattle.pg_driver.specs.Inside.level.Levels.{SkipFlags};
 
     ghost Value = { SkipFlags };
 
@@ -24,7 +24,7 @@ impl Model for Skippable {
 impl Skippable {
     ghost use Rattle.std.specs.Prelude.{◌≡◌, ◌≤◌, ◌+◌, ◌==◌, ◌&&◌, ◌||◌, ℕ, false};
     ghost use Rattle.pg_types.specs.declared.limits.TheConstants.{LENGTH_MAX};
-    ghost use Rattle.pg_driver.specs.Inside.Levels.{is_set, no_flags};
+    ghost use Rattle.pg_driver.specs.Inside.level.Levels.{is_set, no_flags};
 
     /// No flag is set, as where a level begins.
     pub fn new() -> Skippable

@@ -3,7 +3,7 @@ use Rattle.std.specs.Prelude.{ℕ, ◌==◌, List, ◌++◌, filter, codes, deci
 use Rattle.std.specs.List.{flat_map}
 use Rattle.pg_types.specs.declared.marks.Layout.{Layout}
 use Rattle.pg_select.specs.declared.pass.Pass.{Pass}
-use Rattle.pg_driver.specs.Inside.CellsAccounts.{CellsAccount}
+use Rattle.pg_driver.specs.Inside.records.CellsAccounts.{CellsAccount}
 use Rattle.pg_texts.specs.Fronts.{pass_front, level_front}
 
 -- `T taken, top U`

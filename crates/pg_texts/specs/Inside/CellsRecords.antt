@@ -4,11 +4,11 @@ use Rattle.pg_types.specs.declared.marks.Layout.{Layout}
 use Rattle.pg_select.specs.declared.pass.Pass.{Pass}
 use Rattle.pg_driver.specs.declared.records.PassRecord.{PassRecord}
 use Rattle.pg_driver.specs.declared.records.LevelRecord.{LevelRecord}
-use Rattle.pg_driver.specs.Inside.Sound.{Finished}
-use Rattle.pg_driver.specs.Inside.CellsAccounts.{CellsAccount}
+use Rattle.pg_driver.specs.Inside.records.Sound.{CompletedRun}
+use Rattle.pg_driver.specs.Inside.records.CellsAccounts.{CellsAccount}
 
 -- every layout of a run is there
-pub record HasLayouts (r : Finished) : Type 0 where
+pub record HasLayouts (r : CompletedRun) : Type 0 where
   pub first : IsSome r.first_layout
   pub passes : All (λ (p : PassRecord). IsSome p.layout) r.passes
   pub levels : All (λ (l : LevelRecord). IsSome l.layout) r.levels
@@ -27,7 +27,7 @@ abbrev pub level_cells : LevelRecord → ℕ × Layout
 level_cells r = (r.level, layout_there r.layout)
 
 -- what a run tells of the cells
-abbrev pub run_cells : Finished → CellsAccount
+abbrev pub run_cells : CompletedRun → CellsAccount
 run_cells r = record {
   start = layout_there r.first_layout;
   passes = map pass_cells r.passes;

@@ -2,7 +2,7 @@
 use Rattle.std.specs.Prelude.{ℕ, ◌-◌, ◌==◌, List, ◌++◌, filter, codes, decimal}
 use Rattle.std.specs.List.{flat_map}
 use Rattle.pg_types.specs.Parameters.{Parameters}
-use Rattle.pg_driver.specs.Inside.AccountLines.{PassLine, LevelLine, Account}
+use Rattle.pg_driver.specs.Inside.records.AccountLines.{PassLine, LevelLine, Account}
 use Rattle.pg_texts.specs.Fronts.{pass_front, level_front}
 use Rattle.pg_texts.specs.ReportTexts.{totals_text, warning_text, ending_text}
 

@@ -10,14 +10,14 @@ use Rattle.pg_dict.specs.Word.{Word}
 use Rattle.pg_dict.specs.Words.{words}
 use Rattle.pg_patterns.specs.Starts.{start}
 use Rattle.pg_top.specs.Readings.{Reading, input_file, table_named, translate_file, patterns_file, words_file}
-use Rattle.pg_top.specs.Inside.ReadAs.{read_as}
+use Rattle.pg_top.specs.Inside.reading.ReadAs.{read_as}
 use Rattle.pg_words.specs.Requests.{FileNames}
 use Rattle.pg_top.specs.Outcomes.{Ends}
 use Rattle.pg_top.specs.declared.answers.Status.TheVariants.{Done}
 use Rattle.pg_top.specs.generate.Generated.{generate_rule, inputs_in, selected_files, selected_lines}
 use Rattle.pg_top.specs.generate.Inside.Accepted.{inputs_of, HasInputs}
-use Rattle.pg_top.specs.Inside.Lists.{lists_under, HasLists}
-use Rattle.pg_top.specs.Inside.Stops.{StopsAt, StopsReading}
+use Rattle.pg_top.specs.Inside.reading.Lists.{lists_under, HasLists}
+use Rattle.pg_top.specs.Inside.ends.Stops.{StopsAt, StopsReading}
 use Rattle.pg_top.specs.declared.inputs.Input.TheVariants as input
 use Rattle.pg_top.specs.declared.selection.Inputs.{Inputs}
 use Rattle.pg_top.specs.declared.inputs.Stop.{Stop}
@@ -65,9 +65,10 @@ module _ (n : FileNames) (t : Alphabet) where
           (λ i. record { table = is_t i; params = is_p i; start = is_S i; dictionary = is_ws i })
 
 -- where all are read the outcome of `generate` is what it writes and prints
-pub outcome_generated : (n : FileNames) (i : Inputs) (files : FileMap) → HasInputs (file_at files) n i → outcome_of (file_at files) (generate_rule n) ≡ Ends Done (selected_files n i) (selected_lines i)
+pub outcome_generated : (n : FileNames) (i : Inputs) (files : FileMap) → HasInputs (file_at files) n i
+    → outcome_of (file_at files) (generate_rule n) ≡ Ends Done (selected_files n i) (selected_lines i)
 outcome_generated n i files h =
-    ap (λ end. unwrap_or end ((generate_rule n).comes (file_at files))) (accepted_all (file_at files) (inputs_of n) (inputs_accepted n i.table i.params i.start i.dictionary files h))
+    ap (λ end. unwrap_or end ((generate_rule n).own_outcome (file_at files))) (accepted_all (file_at files) (inputs_of n) (inputs_accepted n i.table i.params i.start i.dictionary files h))
     ∙ ap (λ (i : Inputs). Ends Done (selected_files n i) (selected_lines i)) (given n i.table i.params i.start i.dictionary files h)
 
 -- one input is read after the other, and the files stay as they are

@@ -7,14 +7,14 @@ use Rattle.pg_patterns.specs.Starts.{start}
 use Rattle.pg_select.specs.Windows.{Patterns}
 use Rattle.pg_top.specs.Counted.{MakesCalls, read_calls, EndsAt}
 use Rattle.pg_top.specs.Outcomes.{Ends, Writing}
-use Rattle.pg_top.specs.Inside.Refusing.{refuses}
-use Rattle.pg_top.specs.Inside.ReadAs.{read_as}
+use Rattle.pg_top.specs.Inside.ends.Refusing.{refuses}
+use Rattle.pg_top.specs.Inside.reading.ReadAs.{read_as}
 use Rattle.pg_top.specs.pack.Packed.{GivesValues, pack_rule, outcome_of_pack}
 use Rattle.pg_top.specs.totals.Totalled.{packed_table}
 use Rattle.pg_top.specs.pack.Inside.Inputs.{HasSource, packed_text}
 use Rattle.pg_words.specs.Requests.{PackRequest}
-use Rattle.pg_top.specs.Inside.Built.{Keeps}
-use Rattle.pg_top.specs.Inside.Stops.{StopsCommandWith, StopsCommand, StopsMaking}
+use Rattle.pg_top.specs.Inside.ends.Built.{KeepsPromise}
+use Rattle.pg_top.specs.Inside.ends.Stops.{StopsCommandWith, StopsCommand, StopsMaking}
 use Rattle.pg_top.specs.declared.answers.Status.TheVariants.{Done}
 use Rattle.pg_top.specs.declared.inputs.Input.TheVariants as input
 use Rattle.pg_top.specs.declared.inputs.Stop.{Stop}
@@ -43,17 +43,17 @@ pub pack_outcome : (p : PackRequest) (s : Source) (files : FileMap) → HasSourc
 pack_outcome p s files h =
     let is_t = is_table p.translate s.table files h.table in
     let is_P = means_under p.translate s.table start [] p.patterns s.patterns files h.table h.patterns in
-    ap (λ end. unwrap_or end ((pack_rule p).comes (file_at files))) (accepted_all (file_at files) (pack_rule p).reads (pack_accepted p s files h))
+    ap (λ end. unwrap_or end ((pack_rule p).own_outcome (file_at files))) (accepted_all (file_at files) (pack_rule p).reads (pack_accepted p s files h))
     ∙ (λ k. outcome_of_pack p.table (is_t k) (is_P k))
 
 -- what it promises
-pub pack_keeps : (p : PackRequest) (s : Source) (writing : Writing) (lines : List ℕ) (files : FileMap) → outcome_of_pack p.table s.table s.patterns
+pub pack_promise : (p : PackRequest) (s : Source) (writing : Writing) (lines : List ℕ) (files : FileMap) → outcome_of_pack p.table s.table s.patterns
     ≡ Ends Done writing lines → writing ≡ (p.table, packed_text s.table s.patterns) ∷ [] → packed_table s.table (packed_text s.table s.patterns)
-    ≡ Ok (packed_text s.table s.patterns) → GivesValues (packed_text s.table s.patterns) s.patterns → HasSource (file_at files) p.translate p.patterns s → Keeps (pack_rule p) (file_at files)
-pack_keeps p s writing lines files made table accepted gives h = record {
+    ≡ Ok (packed_text s.table s.patterns) → GivesValues (packed_text s.table s.patterns) s.patterns → HasSource (file_at files) p.translate p.patterns s → KeepsPromise (pack_rule p) (file_at files)
+pack_promise p s writing lines files made table accepted gives h = record {
   bytes = packed_text s.table s.patterns;
   lines = lines;
-  comes = pack_outcome p s files h ∙ made ∙ ap (λ (w : Writing). Ends Done w lines) table;
+  outcome = pack_outcome p s files h ∙ made ∙ ap (λ (w : Writing). Ends Done w lines) table;
   accepted = subst (λ (t : Alphabet). packed_table t (packed_text s.table s.patterns) ≡ Ok (packed_text s.table s.patterns)) (sym (is_table p.translate s.table files h.table)) accepted;
   gives = subst (λ (P : Patterns). GivesValues (packed_text s.table s.patterns) P) (sym (means_under p.translate s.table start [] p.patterns s.patterns files h.table h.patterns)) gives;
 }

@@ -13,13 +13,13 @@ use Rattle.pg_top.specs.Counted.{MakesCalls}
 use Rattle.pg_top.specs.Readings.{table_named, translate_file, patterns_file, words_file, patterns_under, words_under}
 use Rattle.pg_top.specs.prune.Inside.Inputs.{HasPrune, line_of_pruned, pruned_by}
 use Rattle.pg_words.specs.Requests.{PruneRequest}
-use Rattle.pg_top.specs.Inside.Built.{Keeps}
+use Rattle.pg_top.specs.Inside.ends.Built.{KeepsPromise}
 use Rattle.pg_prune.specs.Prunes.{pruning_of}
 use Rattle.pg_prune.specs.Reports.{prune_report}
 use Rattle.pg_prune.proofs.pruning.PrunedLaws.{pruned_part, pruned_alike, pruned_least}
 use Rattle.pg_select.specs.CountedPositions.{minima_of}
-use Rattle.pg_top.specs.Inside.Lists.{lists_under, HasLists}
-use Rattle.pg_top.specs.Inside.Stops.{StopsAt, StopsReading}
+use Rattle.pg_top.specs.Inside.reading.Lists.{lists_under, HasLists}
+use Rattle.pg_top.specs.Inside.ends.Stops.{StopsAt, StopsReading}
 use Rattle.pg_top.specs.declared.inputs.Stop.{Stop}
 use Rattle.pg_top.specs.declared.prune.inputs.PruneInputs.{PruneInputs}
 use Rattle.pg_top.proofs.ListOrder.{lists_accepted}
@@ -69,13 +69,13 @@ prune_outcome p i files h =
     let is_t = is_table p.translate t files h.table in
     let is_P = means_under p.translate t start [] p.patterns P files h.table h.patterns in
     let is_ws = means_under p.translate t words [] p.dict ws files h.table h.words in
-    ap (λ end. unwrap_or end ((prune_rule p).comes (file_at files))) (accepted_all (file_at files) (prune_rule p).reads (prune_accepted p i files h))
+    ap (λ end. unwrap_or end ((prune_rule p).own_outcome (file_at files))) (accepted_all (file_at files) (prune_rule p).reads (prune_accepted p i files h))
     ∙ (λ k. pruned_by p.output p.report (is_t k) (is_ws k) (is_P k))
 
 -- what it promises
-pub prune_keeps : (p : PruneRequest) (i : PruneInputs) (files : FileMap) → ReadsBack i.table (pruning_of (minima_of i.table) i.dictionary i.patterns).patterns
-    → HasPrune (file_at files) p.translate p.patterns p.dict i → Keeps (prune_rule p) (file_at files)
-prune_keeps p i files back h =
+pub prune_promise : (p : PruneRequest) (i : PruneInputs) (files : FileMap) → ReadsBack i.table (pruning_of (minima_of i.table) i.dictionary i.patterns).patterns
+    → HasPrune (file_at files) p.translate p.patterns p.dict i → KeepsPromise (prune_rule p) (file_at files)
+prune_promise p i files back h =
     let m = minima_of (table_named p.translate (file_at files)) in
     let ws : List Word = words_under (file_at files) p.translate p.dict in
     let P : Patterns = patterns_under (file_at files) p.translate p.patterns in
@@ -89,7 +89,7 @@ prune_keeps p i files back h =
       kept = (pruning_of m ws P).patterns;
       report = prune_report (table_named p.translate (file_at files)) (pruning_of m ws P);
       lines = line_of_pruned (pruning_of m ws P);
-      comes = ap (λ end. unwrap_or end ((prune_rule p).comes (file_at files))) (accepted_all (file_at files) (prune_rule p).reads (prune_accepted p i files h));
+      outcome = ap (λ end. unwrap_or end ((prune_rule p).own_outcome (file_at files))) (accepted_all (file_at files) (prune_rule p).reads (prune_accepted p i files h));
       part = pruned_part m ws P;
       reads_back = subst (λ (t : Alphabet). ReadsBack t (pruning_of (minima_of t) ws P).patterns) (sym is_t) with_ws;
       alike = pruned_alike m ws P;

@@ -140,7 +140,8 @@ ending_plain : (x : ℕ) → IsPlainText (ending x).text 1
 unfolding ending
 ending_plain x = by_draw (draw 4 x == 0)
   where
-    by_draw : (closed : Bool) → let made : MadeText = if closed then (record { text = slice_index closings (draw 3 (next_state x)) ∷ []; state = next_state x }) else (record { text = []; state = x }) in
+    by_draw : (closed : Bool) → let made : MadeText = if closed
+        then (record { text = slice_index closings (draw 3 (next_state x)) ∷ []; state = next_state x }) else (record { text = []; state = x }) in
         IsPlainText made.text 1
     by_draw true = record { plain = rw (plain_letter (slice_index closings (draw 3 (next_state x))) (letter_at closings (draw 3 (next_state x)) refl (omega arith))) refl; short = omega arith }
     by_draw false = record { plain = refl; short = omega arith }

@@ -10,8 +10,8 @@ use Rattle.pg_outside.specs.FilesCalls.{Reads}
 use Rattle.pg_words.specs.Inside.Names.{words_of}
 use Rattle.pg_top.specs.Counted.{MakesCalls, read_calls}
 use Rattle.pg_top.specs.Readings.{HeldFiles, Reading, parameters_named}
-use Rattle.pg_top.specs.Inside.ReadAs.{read_as}
-use Rattle.pg_top.specs.Inside.Stops.{StopsAt, StopsReading}
+use Rattle.pg_top.specs.Inside.reading.ReadAs.{read_as}
+use Rattle.pg_top.specs.Inside.ends.Stops.{StopsAt, StopsReading}
 use Rattle.pg_top.specs.sweep.Swept.{set_files}
 use Rattle.pg_top.specs.sweep.Inside.SetFiles.{set_file}
 use Rattle.pg_top.specs.sweep.Inside.Accepted.{accepted_set, HasSets}

@@ -14,11 +14,11 @@ use Rattle.pg_select.specs.Windows.{Patterns}
 use Rattle.pg_sweep.specs.Sweeps.{Terms}
 use Rattle.pg_top.specs.sweep.Inside.Inputs.{outcome_of_sets, rows_of_sets}
 use Rattle.pg_top.specs.Counted.{MakesCalls, read_calls}
-use Rattle.pg_top.specs.Inside.ReadCalls.{read_call}
+use Rattle.pg_top.specs.Inside.reading.ReadCalls.{read_call}
 use Rattle.pg_top.specs.Readings.{Reading, translate_file, patterns_file, words_file}
 use Rattle.pg_words.specs.Requests.{SweepRequest}
-use Rattle.pg_top.specs.Inside.Lists.{lists_under, HasLists}
-use Rattle.pg_top.specs.Inside.Stops.{StopsAt, StopsReading}
+use Rattle.pg_top.specs.Inside.reading.Lists.{lists_under, HasLists}
+use Rattle.pg_top.specs.Inside.ends.Stops.{StopsAt, StopsReading}
 use Rattle.pg_top.specs.sweep.Swept.{swept_rows, sweep_rule, set_files}
 use Rattle.pg_top.specs.sweep.Inside.Accepted.{HasSets, HasSweep}
 use Rattle.pg_top.specs.declared.inputs.Stop.{Stop}
@@ -106,5 +106,5 @@ sweep_outcome s terms sets files h =
     let is_P = means_under s.translate t start [] s.patterns P files h.table h.start in
     let is_ws = means_under s.translate t words [] s.dict ws files h.table h.words in
     let is_sets = sets_mean (file_at files) s.params sets h.sets in
-    ap (λ end. unwrap_or end ((sweep_rule s).comes (file_at files))) (accepted_all (file_at files) (sweep_rule s).reads (sweep_accepted s terms sets files h))
+    ap (λ end. unwrap_or end ((sweep_rule s).own_outcome (file_at files))) (accepted_all (file_at files) (sweep_rule s).reads (sweep_accepted s terms sets files h))
     ∙ (λ k. outcome_of_sets s (record { table = is_t k; words = is_ws k; start = is_P k; folds = sym h.folds k }) (is_sets k))

@@ -11,7 +11,7 @@ use Rattle.pg_sweep.specs.declared.rows.SweepRow.{SweepRow}
 use Rattle.pg_sweep.proofs.Winners.{winner_wins}
 use Rattle.pg_top.specs.Outcomes.{Ends}
 use Rattle.pg_top.specs.Rules.{outcome_of}
-use Rattle.pg_top.specs.sweep.Swept.{SweepNames, sweep_rule, winner_line, terms_in, swept_rows, outcome_of_sweep}
+use Rattle.pg_top.specs.sweep.Swept.{SweepPromise, sweep_rule, winner_line, terms_in, swept_rows, outcome_of_sweep}
 use Rattle.pg_top.specs.Readings.{HeldFiles, first_end, parameters_named}
 use Rattle.pg_words.specs.Requests.{SweepRequest}
 use Rattle.pg_top.specs.sweep.Inside.Inputs.{line_of_sweep, rows_of_sets, outcome_of_sets}
@@ -28,12 +28,12 @@ sweep_made s terms sets found text line rows winner is_text is_line =
     ∙ (λ k. Ends Done ((s.output, sym is_text k) ∷ []) (sym is_line k))
 
 -- what it promises, where no file ends the call
-pub sweep_names : (s : SweepRequest) (files : HeldFiles) → first_end files (sweep_rule s).reads ≡ None → 1 ≤ length s.params → SweepNames s files (outcome_of files (sweep_rule s))
+pub sweep_promise : (s : SweepRequest) (files : HeldFiles) → first_end files (sweep_rule s).reads ≡ None → 1 ≤ length s.params → SweepPromise s files (outcome_of files (sweep_rule s))
 unfolding swept_rows
-sweep_names s files none some = record {
+sweep_promise s files none some = record {
   winner = winner_of (costs_of (swept_rows files s));
   text = sweep_file s.folds (swept_rows files s) (winner_of (costs_of (swept_rows files s)));
-  comes = ap (λ end. unwrap_or end ((sweep_rule s).comes files)) none;
+  outcome = ap (λ end. unwrap_or end ((sweep_rule s).own_outcome files)) none;
   wins = winner_wins (costs_of (swept_rows files s)) (many (costs_of (swept_rows files s)) (length-map (swept_rows files s) (λ (r : SweepRow). r.cost)
       ∙ length-map (map (parameters_named files) s.params) (row_of (terms_in files s) s.bad s.missed) ∙ length-map s.params (parameters_named files)));
 }

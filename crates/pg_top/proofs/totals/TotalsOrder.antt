@@ -15,13 +15,13 @@ use Rattle.pg_table.specs.Forms.{head_of, is_well_formed}
 use Rattle.pg_top.specs.Counted.{MakesCalls, read_calls}
 use Rattle.pg_top.specs.Outcomes.{Ends}
 use Rattle.pg_top.specs.Readings.{Reading, input_file}
-use Rattle.pg_top.specs.Inside.ReadAs.{read_as}
-use Rattle.pg_top.specs.Inside.UnderTable.{file_under}
+use Rattle.pg_top.specs.Inside.reading.ReadAs.{read_as}
+use Rattle.pg_top.specs.Inside.reading.UnderTable.{file_under}
 use Rattle.pg_top.specs.pack.Inside.Inputs.{table_refused}
 use Rattle.pg_top.specs.totals.Totalled.{totals_rule, packed_table}
 use Rattle.pg_top.specs.totals.Inside.Inputs.{IsTotalled, totals_lines}
 use Rattle.pg_words.specs.Requests.{TotalsRequest}
-use Rattle.pg_top.specs.Inside.Stops.{StopsAt, StopsReading}
+use Rattle.pg_top.specs.Inside.ends.Stops.{StopsAt, StopsReading}
 use Rattle.pg_top.specs.declared.answers.Status.TheVariants.{Done}
 use Rattle.pg_top.specs.declared.inputs.Input.TheVariants as input
 use Rattle.pg_top.specs.declared.inputs.Stop.{Stop}
@@ -52,7 +52,7 @@ totals_outcome p t ws lines files h is =
     let is_t = is_table p.translate t files h.0 in
     let is_ws = means_under p.translate t words [] p.dict ws files h.0 h.1 in
     let is_b = means_under p.translate t packed_table [] p.table b files h.0 is.1 in
-    ap (λ end. unwrap_or end ((totals_rule p).comes (file_at files))) (accepted_all (file_at files) (totals_rule p).reads accepted)
+    ap (λ end. unwrap_or end ((totals_rule p).own_outcome (file_at files))) (accepted_all (file_at files) (totals_rule p).reads accepted)
     ∙ (λ k. Ends Done [] (totals_lines (is_t k) (is_ws k) (is_b k)))
     ∙ ap (Ends Done []) (sym is.2)
 

@@ -43,5 +43,5 @@ abbrev pub audit_rule : FileNames → CommandRule
 audit_rule n = record usual_rule {
   reads = (generate_rule n).reads ++ given_files (λ files. inputs_in files n) n;
   answers = Yes ∷ No ∷ Refused ∷ Memory ∷ [];
-  comes = λ files. Ends Yes [] (codes "yes\n");
+  own_outcome = λ files. Ends Yes [] (codes "yes\n");
 }

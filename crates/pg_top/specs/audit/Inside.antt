@@ -1,3 +1,4 @@
+-- What only contracts between layers and proofs need.
 pub mod NoLines
 pub mod Verdicts
 pub mod FoundThere

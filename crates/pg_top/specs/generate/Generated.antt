@@ -44,5 +44,5 @@ generate_rule n = record usual_rule {
   reads = translate_file n.translate ∷ input_file input.Parameters n.params (λ _. parameters)
       ∷ patterns_file n.translate n.patterns ∷ words_file n.translate n.dict ∷ [];
   writes = output_names n;
-  comes = λ files. let i = inputs_in files n in Ends Done (selected_files n i) (selected_lines i);
+  own_outcome = λ f. let i = inputs_in f n in Ends Done (selected_files n i) (selected_lines i);
 }

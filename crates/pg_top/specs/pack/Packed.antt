@@ -40,10 +40,10 @@ pub record GivesValues (bytes : List ℕ) (P : Patterns) : Type 0 where
   pub totals : (m : Minima) (ws : List Word) → table_totals m ws bytes ≡ totals m ws P
 
 -- `pack` writes bytes that `totals` accepts, and that give the values of the patterns
-pub record PackKeeps (n : PackRequest) (files : HeldFiles) (end : Outcome) : Type 0 where
+pub record PackPromise (n : PackRequest) (files : HeldFiles) (end : Outcome) : Type 0 where
   pub bytes : List ℕ
   pub lines : List ℕ
-  pub comes : end ≡ Ends Done ((n.table, bytes) ∷ []) lines
+  pub outcome : end ≡ Ends Done ((n.table, bytes) ∷ []) lines
   pub accepted : packed_table (table_named n.translate files) bytes ≡ Ok bytes
   pub gives : GivesValues bytes (patterns_under files n.translate n.patterns)
 
@@ -52,7 +52,7 @@ abbrev pub pack_rule : PackRequest → CommandRule
 pack_rule n = record usual_rule {
   reads = translate_file n.translate ∷ patterns_file n.translate n.patterns ∷ [];
   writes = n.table ∷ [];
-  comes = λ files. outcome_of_pack n.table (table_named n.translate files)
+  own_outcome = λ files. outcome_of_pack n.table (table_named n.translate files)
       (patterns_under files n.translate n.patterns);
-  keeps = PackKeeps n;
+  promise = PackPromise n;
 }

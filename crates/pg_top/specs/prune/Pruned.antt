@@ -32,12 +32,12 @@ abbrev pub ReadsBack : Alphabet → Patterns → Type 0
 ReadsBack t P = length (pattern_text t P) ≤ FILE_MAX → start t (pattern_text t P) ≡ Ok P
 
 -- `prune` writes entries of what it read that break alike with it, and none of which can go alone
-pub record PruneKeeps (n : PruneRequest) (t : Alphabet) (ws : List Word) (P : Patterns)
+pub record PrunePromise (n : PruneRequest) (t : Alphabet) (ws : List Word) (P : Patterns)
     (end : Outcome) : Type 0 where
   pub kept : Patterns
   pub report : List ℕ
   pub lines : List ℕ
-  pub comes : end ≡ Ends Done ((n.output, pattern_text t kept) ∷ (n.report, report) ∷ []) lines
+  pub outcome : end ≡ Ends Done ((n.output, pattern_text t kept) ∷ (n.report, report) ∷ []) lines
   pub part : All (Contains P) kept
   pub reads_back : ReadsBack t kept
   pub alike : BreakAlike (minima_of t) ws P kept
@@ -49,9 +49,9 @@ prune_rule n = record usual_rule {
   reads = translate_file n.translate ∷ patterns_file n.translate n.patterns
       ∷ words_file n.translate n.dict ∷ [];
   writes = n.output ∷ n.report ∷ [];
-  comes = λ files. let t = table_named n.translate files in outcome_of_prune n.output n.report t
-      (pruning_of (minima_of t) (words_under files n.translate n.dict)
-      (patterns_under files n.translate n.patterns));
-  keeps = λ files. PruneKeeps n (table_named n.translate files)
+  own_outcome = λ files. let t = table_named n.translate files in
+      outcome_of_prune n.output n.report t (pruning_of (minima_of t)
+      (words_under files n.translate n.dict) (patterns_under files n.translate n.patterns));
+  promise = λ files. PrunePromise n (table_named n.translate files)
       (words_under files n.translate n.dict) (patterns_under files n.translate n.patterns);
 }

@@ -83,4 +83,4 @@ sample_lines seed count = let i = sample_inputs seed count in
 -- the rule of `sample`, which reads no file
 abbrev pub sample_rule : ℕ → ℕ → CommandRule
 sample_rule seed count = let lines = sample_lines seed count in
-    record usual_rule { answers = Done ∷ Memory ∷ []; comes = λ _. Ends Done [] lines }
+    record usual_rule { answers = Done ∷ Memory ∷ []; own_outcome = λ _. Ends Done [] lines }

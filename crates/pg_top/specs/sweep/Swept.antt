@@ -44,10 +44,10 @@ outcome_of_sweep s rows = let winner = winner_of (costs_of rows) in
     (winner_line winner (slice_index (costs_of rows) (winner - 1)))
 
 -- `sweep` names the set that costs least, the first of these
-pub record SweepNames (s : SweepRequest) (files : HeldFiles) (end : Outcome) : Type 0 where
+pub record SweepPromise (s : SweepRequest) (files : HeldFiles) (end : Outcome) : Type 0 where
   pub winner : ℕ
   pub text : List ℕ
-  pub comes : end ≡ Ends Done ((s.output, text) ∷ [])
+  pub outcome : end ≡ Ends Done ((s.output, text) ∷ [])
       (winner_line winner (slice_index (costs_of (swept_rows files s)) (winner - 1)))
   pub wins : IsWinner (costs_of (swept_rows files s)) winner
 
@@ -57,6 +57,6 @@ sweep_rule s = record usual_rule {
   reads = translate_file s.translate ∷ set_files 1 s.params
       ++ patterns_file s.translate s.patterns ∷ words_file s.translate s.dict ∷ [];
   writes = s.output ∷ [];
-  comes = λ files. outcome_of_sweep s (swept_rows files s);
-  keeps = SweepNames s;
+  own_outcome = λ files. outcome_of_sweep s (swept_rows files s);
+  promise = SweepPromise s;
 }

@@ -1,1 +1,2 @@
+-- What only contracts between layers and proofs need.
 pub mod Inputs

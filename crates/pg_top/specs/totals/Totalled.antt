@@ -28,7 +28,7 @@ abbrev pub totals_rule : TotalsRequest → CommandRule
 totals_rule n = record usual_rule {
   reads = translate_file n.translate ∷ words_file n.translate n.dict
       ∷ input_file input.Table n.table (λ files. packed_table (table_named n.translate files)) ∷ [];
-  comes = λ files. let t = table_named n.translate files in Ends Done [] (ending_text
+  own_outcome = λ files. let t = table_named n.translate files in Ends Done [] (ending_text
       (table_totals (minima_of t) (words_under files n.translate n.dict)
       (meaning (packed_table t) [] files n.table)));
 }

@@ -7,7 +7,7 @@ ghost use Rattle.pg_outside.specs.FilesCalls.{Reads};
 ghost use Rattle.pg_top.specs.audit.Audited.{denies};
 ghost use Rattle.pg_top.specs.Counted.{MakesCalls};
 ghost use Rattle.pg_top.specs.Readings.{first_end};
-ghost use Rattle.pg_top.specs.Inside.Stops.{OnlyReads, StopsAt, StopsReading};
+ghost use Rattle.pg_top.specs.Inside.ends.Stops.{OnlyReads, StopsAt, StopsReading};
 ghost use Rattle.pg_top.specs.audit.Inside.Verdicts.{wanted_file, wanted_files, end_of, ReadsToFind};
 
 use crate::audit::no_lines::no_line;
@@ -31,8 +31,8 @@ pub enum Verdict {
     False(Vec<u8>),
 }
 
-/// What comparing a given file, or a long one's first bytes, with its text gives. The observer is
-/// told of a false line.
+/// What the comparison of a given file with its text gives. Of a long file, `bytes` are the first
+/// ones. The observer is told of a false line.
 fn judge<W: Watch>(
     alloc: Global,
     bytes: &[u8],

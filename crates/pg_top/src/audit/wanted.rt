@@ -3,8 +3,8 @@ ghost use Rattle.std.specs.Prelude.{◌≡◌, ◌++◌, ◌+◌, [], ◌∷◌,
 ghost use Rattle.pg_top.specs.audit.Audited.{given_file, given_files};
 ghost use Rattle.pg_words.specs.Inside.Asked.{name_now, texts_of};
 ghost use Rattle.pg_words.specs.Requests.{if_asked};
-ghost use Rattle.pg_top.specs.Inside.SelectionSigns.{HasSigns};
-ghost use Rattle.pg_top.specs.Inside.SelectedRuns.{IsNew, TellsSelection, HasSelected};
+ghost use Rattle.pg_top.specs.Inside.selection.SelectionSigns.{HasSigns};
+ghost use Rattle.pg_top.specs.Inside.selection.SelectedRuns.{IsNew, TellsSelection, HasSelected};
 ghost use Rattle.pg_top.specs.audit.Inside.Verdicts.{reading_of, wanted_files};
 
 use crate::inputs::Given;

@@ -2,8 +2,8 @@
 ghost use Rattle.std.specs.Prelude.{IfOk};
 ghost use Rattle.pg_words.specs.Inside.Asked.{texts_of};
 ghost use Rattle.pg_top.specs.generate.Inside.Accepted.{HasInputs, inputs_of};
-ghost use Rattle.pg_top.specs.Inside.SelectionSigns.{HasSigns};
-ghost use Rattle.pg_top.specs.Inside.ReadsMade.{ReadsFiles};
+ghost use Rattle.pg_top.specs.Inside.selection.SelectionSigns.{HasSigns};
+ghost use Rattle.pg_top.specs.Inside.reading.ReadsMade.{ReadsFiles};
 
 use crate::inputs::{Input, Stop};
 use crate::reading::{read_lists, read_parameters, read_table};

@@ -1,15 +1,15 @@
 //! What `generate` writes and prints.
 ghost use Rattle.std.specs.Prelude.{◌≡◌, ◌++◌, [], ◌∷◌, IfOk, OnOk, Some};
-ghost use Rattle.pg_driver.specs.Inside.RunAccounts.{TellsCells};
+ghost use Rattle.pg_driver.specs.Inside.records.RunAccounts.{TellsCells};
 ghost use Rattle.pg_packed.specs.Inside.Starts.{pattern_families};
 ghost use Rattle.pg_words.specs.Inside.Asked.{name_now, texts_of};
 ghost use Rattle.pg_top.specs.generate.Generated.{selected_files, selected_lines};
-ghost use Rattle.pg_top.specs.Inside.SelectionAccounts.{work_line, selected_cells, passes_begun, last_layout as last_layout_of};
-ghost use Rattle.pg_top.specs.Inside.SelectedRuns.{IsNew, TellsSelection, HasSelected};
+ghost use Rattle.pg_top.specs.Inside.selection.SelectionAccounts.{work_line, selected_cells, passes_begun, last_layout as last_layout_of};
+ghost use Rattle.pg_top.specs.Inside.selection.SelectedRuns.{IsNew, TellsSelection, HasSelected};
 ghost use Rattle.pg_words.specs.Requests.{if_asked};
 ghost use Rattle.pg_top.specs.Selection.{selected_list, selected_cells_text, selected_text};
-ghost use Rattle.pg_top.specs.Inside.SelectionSigns.{HasSigns, signs_of};
-ghost use Rattle.pg_top.specs.Inside.WritesMade.{writing_of};
+ghost use Rattle.pg_top.specs.Inside.selection.SelectionSigns.{HasSigns, signs_of};
+ghost use Rattle.pg_top.specs.Inside.writing.WritesMade.{writing_of};
 ghost use Rattle.pg_types.specs.Lines.{lines};
 
 use crate::printed::done_line;

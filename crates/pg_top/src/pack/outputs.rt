@@ -8,8 +8,8 @@ ghost use Rattle.pg_patterns.specs.Texts.{pattern_text};
 ghost use Rattle.pg_top.specs.pack.Packed.{GivesValues, outcome_of_pack, packed_line as packed_line_of};
 ghost use Rattle.pg_top.specs.totals.Totalled.{packed_table};
 ghost use Rattle.pg_top.specs.pack.Inside.Inputs.{stop_of_table, packed_text};
-ghost use Rattle.pg_top.specs.Inside.Stops.{StopsMaking};
-ghost use Rattle.pg_top.specs.Inside.WritesMade.{written_names, writing_of};
+ghost use Rattle.pg_top.specs.Inside.ends.Stops.{StopsMaking};
+ghost use Rattle.pg_top.specs.Inside.writing.WritesMade.{written_names, writing_of};
 ghost use Rattle.pg_types.specs.Lines.{lines};
 
 use crate::inputs::{Input, Stop};

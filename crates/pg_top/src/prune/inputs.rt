@@ -1,7 +1,7 @@
 //! What `prune` reads.
 ghost use Rattle.std.specs.Prelude.{IfOk};
 ghost use Rattle.pg_top.specs.prune.Inside.Inputs.{prune_reads, HasPrune, HasKnownSigns};
-ghost use Rattle.pg_top.specs.Inside.ReadsMade.{ReadsFiles};
+ghost use Rattle.pg_top.specs.Inside.reading.ReadsMade.{ReadsFiles};
 
 use crate::inputs::Stop;
 use crate::reading::{read_lists, read_table};

@@ -10,7 +10,7 @@ ghost use Rattle.pg_top.specs.prune.Pruned.{ReadsBack};
 ghost use Rattle.pg_top.specs.Outcomes.{Ends};
 ghost use Rattle.pg_top.specs.prune.Inside.Inputs.{HasKnownSigns, pruned_files, line_of_pruned, pruned_by};
 ghost use Rattle.pg_top.specs.prune.Pruned.{pruned_line as pruned_line_of};
-ghost use Rattle.pg_top.specs.Inside.WritesMade.{written_names, writing_of};
+ghost use Rattle.pg_top.specs.Inside.writing.WritesMade.{written_names, writing_of};
 ghost use Rattle.pg_top.specs.declared.answers.Status.TheVariants.{Done};
 ghost use Rattle.pg_types.specs.Lines.{lines};
 

@@ -7,7 +7,7 @@ ghost use Rattle.pg_words.specs.Inside.Asked.{sweep_of, KeepsSweepLimits};
 ghost use Rattle.pg_types.specs.declared.limits.TheConstants.{SETS_MAX};
 ghost use Rattle.pg_top.specs.Outcomes.{Ends};
 ghost use Rattle.pg_top.specs.sweep.Inside.Inputs.{terms_of, HasSigns, line_of_sweep, outcome_of_sets};
-ghost use Rattle.pg_top.specs.Inside.WritesMade.{written_names, writing_of};
+ghost use Rattle.pg_top.specs.Inside.writing.WritesMade.{written_names, writing_of};
 ghost use Rattle.pg_top.specs.declared.answers.Status.TheVariants.{Done};
 
 use crate::sweep::engines::Packed;

@@ -1,7 +1,7 @@
 //! A packed table that is read, and the totals by it.
 ghost use Rattle.std.specs.Prelude.{◌≡◌, ◌+◌, IfOk, IfErr, IfSome, [], ◌∷◌};
 ghost use Rattle.pg_dict.specs.Inside.SoundWords.{SignsAtMost};
-ghost use Rattle.pg_driver.specs.Inside.Sound.{IsSmall};
+ghost use Rattle.pg_driver.specs.Inside.records.Sound.{IsSmall};
 ghost use Rattle.pg_outside.specs.Content.{file_at};
 ghost use Rattle.pg_outside.specs.FilesCalls.{Reads};
 ghost use Rattle.pg_texts.specs.ReportTexts.{ending_text};
@@ -11,7 +11,7 @@ ghost use Rattle.pg_top.specs.totals.Totalled.{packed_table};
 ghost use Rattle.pg_top.specs.pack.Inside.Inputs.{table_refused};
 ghost use Rattle.pg_top.specs.Readings.{input_file};
 ghost use Rattle.pg_top.specs.totals.Inside.Inputs.{IsTotalled};
-ghost use Rattle.pg_top.specs.Inside.Stops.{OnlyReads, StopsAt};
+ghost use Rattle.pg_top.specs.Inside.ends.Stops.{OnlyReads, StopsAt};
 
 use crate::inputs::{Input, Stop};
 use crate::reading::read_front;

@@ -8,9 +8,9 @@ use Rattle.pg_types.specs.Inside.NumberedWindows.{HasNumber}
 use Rattle.pg_select.specs.Inside.Meanings.{Meaning}
 use Rattle.pg_select.specs.CountedPositions.{Candidate}
 use Rattle.pg_driver.specs.declared.choices.Choices.{Choices}
-use Rattle.pg_driver.specs.Inside.Choosing.{HasChosen, with_candidates, candidate_of}
-use Rattle.pg_driver.specs.Inside.PassWindows.{IsCandidate}
-use Rattle.pg_driver.specs.Inside.States.{state_of}
+use Rattle.pg_driver.specs.Inside.choices.Choosing.{HasChosen, with_candidates, candidate_of}
+use Rattle.pg_driver.specs.Inside.level.PassWindows.{IsCandidate}
+use Rattle.pg_driver.specs.Inside.level.States.{state_of}
 use Rattle.pg_driver.proofs.ChoiceSteps.{bad_adds, bad_within, good_adds, good_within, keeps_on, numbers_append, state_step, state_with}
 use Rattle.pg_driver.proofs.NumberSteps.{Ahead, ahead, only_one, part_whole}
 use Rattle.pg_driver.proofs.choices.choose_all.Goals as goal

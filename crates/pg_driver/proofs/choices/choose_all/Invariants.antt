@@ -2,9 +2,9 @@ use Rattle.std.proofs.Common.{◌≡◌, ◌+◌, ◌*◌, ◌≤◌, length, ma
 use Rattle.std.specs.List.{sum_by}
 use Rattle.pg_types.specs.declared.limits.TheConstants.{WEIGHT_MAX, FILE_MAX}
 use Rattle.pg_types.specs.Inside.Counts.{Counts}
-use Rattle.pg_driver.specs.Inside.Choosing.{candidate_of, with_candidates, no_choices}
-use Rattle.pg_driver.specs.Inside.PassWindows.{IsPart}
-use Rattle.pg_driver.specs.Inside.States.{state_of}
+use Rattle.pg_driver.specs.Inside.choices.Choosing.{candidate_of, with_candidates, no_choices}
+use Rattle.pg_driver.specs.Inside.level.PassWindows.{IsPart}
+use Rattle.pg_driver.specs.Inside.level.States.{state_of}
 use Rattle.pg_driver.proofs.ChoiceSteps.{KeepsButState, state_with}
 use Rattle.pg_driver.proofs.choices.choose_all.Given as goal
 

@@ -1,9 +1,9 @@
 use Rattle.std.proofs.Common.{◌≡◌, ◌+◌, ◌*◌, ◌^◌, ◌≤◌, ◌++◌, List}
-use Rattle.pg_driver.specs.Inside.LevelCounting.{IsCounted, IsReady}
-use Rattle.pg_driver.specs.Inside.Levels.{IsAt, LevelStart, WillCount, all_made_by, point}
-use Rattle.pg_driver.specs.Inside.RunAccounts.{known_of}
+use Rattle.pg_driver.specs.Inside.counting.LevelCounting.{IsCounted, IsReady}
+use Rattle.pg_driver.specs.Inside.level.Levels.{IsAt, LevelStart, WillCount, all_made_by, point}
+use Rattle.pg_driver.specs.Inside.records.RunAccounts.{known_of}
 use Rattle.pg_driver.specs.Traces.{PassTrace, source_of}
-use Rattle.pg_driver.specs.Inside.Passes.{known_at_end, passes_of_length}
+use Rattle.pg_driver.specs.Inside.level.Passes.{known_at_end, passes_of_length}
 use Rattle.pg_driver.proofs.LevelSteps.{Reaches, passes_from}
 use Rattle.pg_driver.proofs.level.run_length.Given as goal
 

@@ -1,8 +1,8 @@
 use Rattle.std.proofs.Common.{◌≡◌, ◌+◌, ◌<◌, inl, inr, [], refl, ap, ◌∙◌, arith}
-use Rattle.pg_driver.specs.Inside.Levels.{LevelStart, all_made_by}
-use Rattle.pg_driver.specs.Inside.RunAccounts.{known_of}
+use Rattle.pg_driver.specs.Inside.level.Levels.{LevelStart, all_made_by}
+use Rattle.pg_driver.specs.Inside.records.RunAccounts.{known_of}
 use Rattle.pg_driver.specs.Traces.{passes_of, source_of}
-use Rattle.pg_driver.specs.Inside.Passes.{known_at_end, passes_of_length}
+use Rattle.pg_driver.specs.Inside.level.Passes.{known_at_end, passes_of_length}
 use Rattle.pg_driver.proofs.LevelSteps.{at_level_start, at_next, at_whole, lengths_from, lengths_step, no_lengths, reaches_on}
 use Rattle.pg_driver.proofs.ReadySteps.{tells_totals}
 use Rattle.pg_driver.proofs.level.run_lengths.Goals as goal

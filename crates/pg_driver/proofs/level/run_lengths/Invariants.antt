@@ -1,9 +1,9 @@
 use Rattle.std.proofs.Common.{◌≡◌, ◌+◌, ◌*◌, ◌^◌, ◌≤◌, ◌<◌}
-use Rattle.pg_driver.specs.Inside.LevelCounting.{IsCounted, IsReady}
-use Rattle.pg_driver.specs.Inside.Levels.{WillCount, all_made_by}
-use Rattle.pg_driver.specs.Inside.RunAccounts.{known_of}
+use Rattle.pg_driver.specs.Inside.counting.LevelCounting.{IsCounted, IsReady}
+use Rattle.pg_driver.specs.Inside.level.Levels.{WillCount, all_made_by}
+use Rattle.pg_driver.specs.Inside.records.RunAccounts.{known_of}
 use Rattle.pg_driver.specs.Traces.{passes_of, source_of}
-use Rattle.pg_driver.specs.Inside.Passes.{known_at_end}
+use Rattle.pg_driver.specs.Inside.level.Passes.{known_at_end}
 use Rattle.pg_driver.proofs.LevelSteps.{Reaches, lengths_from}
 use Rattle.pg_driver.proofs.level.run_lengths.Given as goal
 

@@ -1,7 +1,7 @@
 use Rattle.std.proofs.Common.{sym, ap, subst, ◌∙◌, arith}
 use Rattle.pg_select.specs.Inside.Meanings.{Meaning}
 use Rattle.pg_driver.specs.Accounts.{totals_by}
-use Rattle.pg_driver.specs.Inside.Sound.{IsSmall, Recorded}
+use Rattle.pg_driver.specs.Inside.records.Sound.{IsSmall, RunRecords}
 use Rattle.pg_driver.specs.Traces.{source_of}
 use Rattle.pg_driver.proofs.RunSteps.{did_level}
 use Rattle.pg_driver.proofs.level.run_level.Goals as goal
@@ -31,13 +31,13 @@ returns-clause-tidy g c = ap (λ (x : Meaning). x.tidy) c.in_ok-end_level.ensure
 
 pub returns-clause-begun : goal.returns-clause-begun
 returns-clause-begun g c =
-    omega (arith, ap (λ (x : Meaning). x.begun) c.in_ok-end_level.ensures.ok, ap (λ (r : Recorded). r.begun) c.in_ok-end_level-2.ensures, c.in_ok-run_lengths.ensures.begun)
+    omega (arith, ap (λ (x : Meaning). x.begun) c.in_ok-end_level.ensures.ok, ap (λ (r : RunRecords). r.begun) c.in_ok-end_level-2.ensures, c.in_ok-run_lengths.ensures.begun)
 
 pub returns-clause-few : goal.returns-clause-few
-returns-clause-few g c = omega (arith, ap (λ (r : Recorded). r.begun) c.in_ok-end_level-2.ensures, c.in_ok-run_lengths.ensures.few)
+returns-clause-few g c = omega (arith, ap (λ (r : RunRecords). r.begun) c.in_ok-end_level-2.ensures, c.in_ok-run_lengths.ensures.few)
 
 pub returns-clause-chosen : goal.returns-clause-chosen
-returns-clause-chosen g c = ap (λ (r : Recorded). r.chosen) c.in_ok-end_level-2.ensures
+returns-clause-chosen g c = ap (λ (r : RunRecords). r.chosen) c.in_ok-end_level-2.ensures
 
 pub returns-clause-signs : goal.returns-clause-signs
 returns-clause-signs g c = ap (λ (x : Meaning). x.signs) c.in_ok-end_level.ensures.ok ∙ c.run_lengths.ensures.signs

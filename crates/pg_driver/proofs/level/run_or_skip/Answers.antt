@@ -1,7 +1,7 @@
 use Rattle.std.proofs.Common.{◌≡◌, Bool, true, false, ⊎_elim, refl, sym, ap, ◌∙◌, arith}
-use Rattle.pg_driver.specs.Inside.LevelCounting.{IsCounted}
-use Rattle.pg_driver.specs.Inside.Levels.{is_set, no_flags}
-use Rattle.pg_driver.specs.Inside.Sound.{Recorded}
+use Rattle.pg_driver.specs.Inside.counting.LevelCounting.{IsCounted}
+use Rattle.pg_driver.specs.Inside.level.Levels.{is_set, no_flags}
+use Rattle.pg_driver.specs.Inside.records.Sound.{RunRecords}
 use Rattle.pg_driver.proofs.SkipFlags.{none_set}
 use Rattle.pg_driver.specs.Traces.{source_of}
 use Rattle.pg_driver.proofs.LevelSteps.{done_on, skipped_on}
@@ -57,10 +57,10 @@ pub returns-then-is_skippable-clause-signs : goal.returns-then-is_skippable-clau
 returns-then-is_skippable-clause-signs g c = refl
 
 pub returns-clause-few : goal.returns-clause-few
-returns-clause-few g c = omega (arith, ap (λ (r : Recorded). r.begun) c.in_ok-add_pass.ensures)
+returns-clause-few g c = omega (arith, ap (λ (r : RunRecords). r.begun) c.in_ok-add_pass.ensures)
 
 pub returns-clause-chosen : goal.returns-clause-chosen
-returns-clause-chosen g c = omega (arith, ap (λ (r : Recorded). r.chosen) c.in_ok-add_pass.ensures, c.in_ok-record.ensures.few)
+returns-clause-chosen g c = omega (arith, ap (λ (r : RunRecords). r.chosen) c.in_ok-add_pass.ensures, c.in_ok-record.ensures.few)
 
 pub returns-clause-ready : goal.returns-clause-ready
 returns-clause-ready g c = c.in_ok-record.ensures.ready
@@ -75,4 +75,4 @@ pub returns-clause-signs : goal.returns-clause-signs
 returns-clause-signs g c = c.run_pass.ensures.signs
 
 pub returns-clause-begun : goal.returns-clause-begun
-returns-clause-begun g c = omega (arith, c.in_ok-record.ensures.done.begun, ap (λ (r : Recorded). r.begun) c.in_ok-add_pass.ensures)
+returns-clause-begun g c = omega (arith, c.in_ok-record.ensures.done.begun, ap (λ (r : RunRecords). r.begun) c.in_ok-add_pass.ensures)

@@ -3,12 +3,12 @@ use Rattle.pg_types.specs.Inside.NumberedWindows.{AreInOrder, AreNumbered}
 use Rattle.pg_dict.specs.Inside.SoundWords.{SignsAtMost}
 use Rattle.pg_select.specs.declared.choice.Choice.{Choice}
 use Rattle.pg_select.specs.Inside.Meanings.{Meaning}
-use Rattle.pg_driver.specs.Inside.PassWindows.{AreFates}
+use Rattle.pg_driver.specs.Inside.level.PassWindows.{AreFates}
 use Rattle.pg_driver.specs.Accounts.{totals_by}
-use Rattle.pg_driver.specs.Inside.LevelCounting.{AreNumberedIn, IsReady}
-use Rattle.pg_driver.specs.Inside.States.{State}
-use Rattle.pg_driver.specs.Inside.RunAccounts.{known_of}
-use Rattle.pg_driver.specs.Traces.{Known, source_of}
+use Rattle.pg_driver.specs.Inside.counting.LevelCounting.{AreNumberedIn, IsReady}
+use Rattle.pg_driver.specs.Inside.level.States.{State}
+use Rattle.pg_driver.specs.Inside.records.RunAccounts.{known_of}
+use Rattle.pg_driver.specs.Traces.{Knowledge, source_of}
 use Rattle.pg_driver.proofs.Numbered.{pass_numbered}
 use Rattle.pg_driver.proofs.PassSteps.{counted_as, counts_kept, did_pass, numbers_are, pass_state}
 use Rattle.pg_driver.proofs.ReadySteps.{are_of, can_go_on, counted_after, placed, ready_after}
@@ -41,7 +41,7 @@ after_choices-requires-clause-numbers g c =
 pub after_choices-requires-clause-placed : goal.after_choices-requires-clause-placed
 after_choices-requires-clause-placed g c =
     let ready : IsReady (source_of c.args.table.now c.args.dictionary.now) c.args.pass.level c.args.pass.len (known_of (g.E.Engine.meaning c.args.engine.now)) c.count.new.self =
-    subst (λ (k : Known). IsReady (source_of c.args.table.now c.args.dictionary.now) c.args.pass.level c.args.pass.len k c.count.new.self) (ap known_of
+    subst (λ (k : Knowledge). IsReady (source_of c.args.table.now c.args.dictionary.now) c.args.pass.level c.args.pass.len k c.count.new.self) (ap known_of
     c.begin_pass.ensures) c.in_ok-before.ensures.ready in
     placed (source_of c.args.table.now c.args.dictionary.now) c.args.pass.level c.args.pass.len (known_of (g.E.Engine.meaning c.args.engine.now)) c.count.new.self c.in_ok-before.ensures.counted ready
 
@@ -54,7 +54,7 @@ after_choices-requires-clause-totals g c =
     let params = c.args.params.now in
     let pass = c.args.pass in
     let ready : IsReady (source_of c.args.table.now c.args.dictionary.now) c.args.pass.level c.args.pass.len (known_of (g.E.Engine.meaning c.args.engine.now)) c.count.new.self =
-    subst (λ (k : Known). IsReady (source_of c.args.table.now c.args.dictionary.now) c.args.pass.level c.args.pass.len k c.count.new.self) (ap known_of
+    subst (λ (k : Knowledge). IsReady (source_of c.args.table.now c.args.dictionary.now) c.args.pass.level c.args.pass.len k c.count.new.self) (ap known_of
     c.begin_pass.ensures) c.in_ok-before.ensures.ready in
     let counted = counted_as c.args.table.now words pass m _ _ c.begin_pass.ensures c.in_ok-before.ensures.did.counts in
     let numbers = numbers_are c.args.table.now words params pass m m2 c.in_ok-choices.choices counted c.in_ok-choices.ensures.choices in
@@ -85,9 +85,9 @@ returns-clause-ready g c =
     let numbers = numbers_are c.args.table.now words params pass m m2 c.in_ok-choices.choices counted c.in_ok-choices.ensures.choices in
     let state = pass_state c.args.table.now words params pass m m2 n counted c.in_ok-choices.ensures.ok in
     let ready : IsReady (source_of c.args.table.now c.args.dictionary.now) c.args.pass.level c.args.pass.len (known_of (g.E.Engine.meaning c.args.engine.now)) c.count.new.self =
-    subst (λ (k : Known). IsReady (source_of c.args.table.now c.args.dictionary.now) c.args.pass.level c.args.pass.len k c.count.new.self) (ap known_of
+    subst (λ (k : Knowledge). IsReady (source_of c.args.table.now c.args.dictionary.now) c.args.pass.level c.args.pass.len k c.count.new.self) (ap known_of
     c.begin_pass.ensures) c.in_ok-before.ensures.ready in
-    subst (λ (k : Known). IsReady source pass.level pass.len k c.after_choices.new.self) (sym (ap (λ (s : State). s.known) state))
+    subst (λ (k : Knowledge). IsReady source pass.level pass.len k c.after_choices.new.self) (sym (ap (λ (s : State). s.known) state))
     (ready_after source params (known_of m) pass c.in_ok-choices.choices n.counts c.count.new.self c.after_choices.new.self
     (are_of source params (known_of m) pass c.in_ok-choices.choices numbers) c.in_ok-before.ensures.counted (omega (arith, c.requires.ranges.within, c.requires.ranges.len_high))
     (counts_kept c.args.table.now words params pass m m2 n counted c.in_ok-choices.ensures.ok) c.after_choices.ensures ready)

@@ -1,20 +1,20 @@
 use Rattle.std.proofs.Common.{ap, ◌∙◌, sym, subst, arith}
 use Rattle.pg_patterns.specs.Inside.PatternMaps.{SignsUpTo}
-use Rattle.pg_driver.specs.Inside.Sound.{Finished}
-use Rattle.pg_driver.specs.Inside.States.{State}
-use Rattle.pg_driver.specs.Inside.RunAccounts.{TellsCells, account_of, cells_from, run_from}
+use Rattle.pg_driver.specs.Inside.records.Sound.{CompletedRun}
+use Rattle.pg_driver.specs.Inside.level.States.{State}
+use Rattle.pg_driver.specs.Inside.records.RunAccounts.{TellsCells, account_of, cells_from, run_from}
 use Rattle.pg_driver.specs.Traces.{source_of}
 use Rattle.pg_driver.proofs.RunAccountSteps.{told_account, told_cells}
 use Rattle.pg_driver.proofs.RunSigns.{run_signs}
 use Rattle.pg_driver.proofs.levels.generate.Goals as goal
 
 pub returns-clause-patterns : goal.returns-clause-patterns
-returns-clause-patterns g c = ap (λ (r : Finished). r.patterns) c.new.ensures ∙ c.in_ok-patterns.ensures ∙ ap (λ (s : State). s.known.patterns) c.in_ok-totals.ensures.run.state
+returns-clause-patterns g c = ap (λ (r : CompletedRun). r.patterns) c.new.ensures ∙ c.in_ok-patterns.ensures ∙ ap (λ (s : State). s.known.patterns) c.in_ok-totals.ensures.run.state
 
 pub returns-clause-pattern_signs : goal.returns-clause-pattern_signs
 returns-clause-pattern_signs g c = λ start.
     let m0 = g.E.Engine.meaning c.args.engine.now in
-    subst (SignsUpTo m0.signs) (sym (ap (λ (r : Finished). r.patterns) c.new.ensures ∙ c.in_ok-patterns.ensures ∙ ap (λ (s : State). s.known.patterns) c.in_ok-totals.ensures.run.state))
+    subst (SignsUpTo m0.signs) (sym (ap (λ (r : CompletedRun). r.patterns) c.new.ensures ∙ c.in_ok-patterns.ensures ∙ ap (λ (s : State). s.known.patterns) c.in_ok-totals.ensures.run.state))
     (run_signs m0.signs c.args.table.now c.args.dictionary.now c.args.params.now m0 c.requires.signs start)
 
 pub returns-clause-account : goal.returns-clause-account
@@ -35,10 +35,10 @@ returns-clause-cells g c =
     c.layout-first_layout.result c.in_ok-totals.ensures.run c.layout-first_layout.ensures c.requires.tidy)
 
 pub returns-clause-begun : goal.returns-clause-begun
-returns-clause-begun g c = ap (λ (r : Finished). r.begun) c.new.ensures ∙ c.in_ok-totals.ensures.run.begun
+returns-clause-begun g c = ap (λ (r : CompletedRun). r.begun) c.new.ensures ∙ c.in_ok-totals.ensures.run.begun
 
 pub returns-clause-kept : goal.returns-clause-kept
-returns-clause-kept g c = sym (ap (λ (r : Finished). r.patterns) c.new.ensures ∙ c.in_ok-patterns.ensures)
+returns-clause-kept g c = sym (ap (λ (r : CompletedRun). r.patterns) c.new.ensures ∙ c.in_ok-patterns.ensures)
 
 pub returns-clause-families : goal.returns-clause-families
 returns-clause-families g c = ap (λ (s : State). s.families) c.in_ok-totals.ensures.run.state
@@ -47,4 +47,4 @@ pub returns-clause-hopeless : goal.returns-clause-hopeless
 returns-clause-hopeless g c = ap (λ (s : State). s.known.hopeless) c.in_ok-totals.ensures.run.state
 
 pub returns-clause-counted : goal.returns-clause-counted
-returns-clause-counted g c = omega (arith, c.in_ok-totals.ensures.begun, ap (λ (r : Finished). r.begun) c.new.ensures)
+returns-clause-counted g c = omega (arith, c.in_ok-totals.ensures.begun, ap (λ (r : CompletedRun). r.begun) c.new.ensures)

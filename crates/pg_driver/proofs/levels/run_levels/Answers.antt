@@ -6,9 +6,9 @@ use Rattle.pg_types.specs.declared.parameters.LevelParams.{LevelParams}
 use Rattle.pg_patterns.specs.Values.{largest}
 use Rattle.pg_select.specs.Inside.LawsSteps.{IsUpTo}
 use Rattle.pg_driver.specs.Accounts.{totals_by}
-use Rattle.pg_driver.specs.Inside.Sound.{IsSmall, Recorded}
-use Rattle.pg_driver.specs.Inside.States.{State}
-use Rattle.pg_driver.specs.Inside.RunAccounts.{run_from}
+use Rattle.pg_driver.specs.Inside.records.Sound.{IsSmall, RunRecords}
+use Rattle.pg_driver.specs.Inside.level.States.{State}
+use Rattle.pg_driver.specs.Inside.records.RunAccounts.{run_from}
 use Rattle.pg_driver.specs.Traces.{level_traces, source_of}
 use Rattle.pg_driver.proofs.OpenTraces.{below_level, up_to_next, up_to_starting}
 use Rattle.pg_driver.proofs.RunSteps.{all_levels, level_on, levels_step, no_levels, run_begins, run_whole}
@@ -31,9 +31,9 @@ levels-init g c =
       small = tt;
       signs = refl;
       tidy = c.requires.tidy;
-      begun = omega (arith, ap (λ (r : Recorded). r.begun) c.requires.none);
-      passes = omega (arith, ap (λ (r : Recorded). r.begun) c.requires.none);
-      chosen = ap (λ (r : Recorded). r.chosen) c.requires.none;
+      begun = omega (arith, ap (λ (r : RunRecords). r.begun) c.requires.none);
+      passes = omega (arith, ap (λ (r : RunRecords). r.begun) c.requires.none);
+      chosen = ap (λ (r : RunRecords). r.chosen) c.requires.none;
     }
 
 pub run_level-requires-clause-hopeless : goal.run_level-requires-clause-hopeless

@@ -3,9 +3,9 @@ use Rattle.std.specs.List.{enumerate_from}
 use Rattle.std.specs.Option.{IfSome}
 use Rattle.pg_select.specs.Inside.LawsSteps.{IsUpTo}
 use Rattle.pg_driver.specs.Accounts.{totals_by}
-use Rattle.pg_driver.specs.Inside.Sound.{IsSmall}
+use Rattle.pg_driver.specs.Inside.records.Sound.{IsSmall}
 use Rattle.pg_driver.specs.Traces.{source_of}
-use Rattle.pg_driver.specs.Inside.RunAccounts.{run_from}
+use Rattle.pg_driver.specs.Inside.records.RunAccounts.{run_from}
 use Rattle.pg_driver.proofs.RunSteps.{RunReaches}
 use Rattle.pg_driver.proofs.levels.run_levels.Given as goal
 use Rattle.pg_types.specs.Inside.Limits.{level_passes}

@@ -1,7 +1,7 @@
 use Rattle.std.proofs.Common.{◌++◌, ℕ, List, None, map, append_assoc, get_or, ap, ◌∙◌}
 use Rattle.std.proofs.lemmas.Result.{IfOk-from_err}
 use Rattle.pg_driver.specs.declared.records.LevelRecord.{LevelRecord}
-use Rattle.pg_driver.specs.Inside.RunAccounts.{line_of, level_line_of}
+use Rattle.pg_driver.specs.Inside.records.RunAccounts.{line_of, level_line_of}
 use Rattle.pg_texts.specs.Inside.ReportLines.{passes_text, level_line_text, level_lines_text}
 use Rattle.pg_texts.proofs.Joins.{lines_next, lines_end}
 use Rattle.pg_texts.proofs.report.push_levels.Goals as goal

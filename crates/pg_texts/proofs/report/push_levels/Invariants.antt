@@ -1,6 +1,6 @@
 use Rattle.std.proofs.Common.{◌≡◌, ◌++◌, drop, map}
 use Rattle.std.specs.List.{flat_map}
-use Rattle.pg_driver.specs.Inside.RunAccounts.{line_of, level_line_of}
+use Rattle.pg_driver.specs.Inside.records.RunAccounts.{line_of, level_line_of}
 use Rattle.pg_texts.specs.Inside.ReportLines.{level_lines_text}
 use Rattle.pg_texts.proofs.report.push_levels.Given as goal
 

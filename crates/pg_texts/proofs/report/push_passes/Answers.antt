@@ -2,8 +2,8 @@ use Rattle.std.proofs.Common.{◌==◌, ◌+◌, ◌++◌, ℕ, Bool, Vec, Globa
 use Rattle.std.proofs.lemmas.Bool.{eq-eqb, ne_eqb}
 use Rattle.std.proofs.lemmas.Result.{IfOk-from_err}
 use Rattle.pg_driver.specs.declared.records.PassRecord.{PassRecord}
-use Rattle.pg_driver.specs.Inside.AccountLines.{PassLine}
-use Rattle.pg_driver.specs.Inside.RunAccounts.{line_of}
+use Rattle.pg_driver.specs.Inside.records.AccountLines.{PassLine}
+use Rattle.pg_driver.specs.Inside.records.RunAccounts.{line_of}
 use Rattle.pg_texts.specs.Inside.ReportLines.{pass_line_text}
 use Rattle.pg_texts.proofs.Joins.{tested_next, tested_skip, tested_end}
 use Rattle.pg_texts.proofs.report.push_passes.Goals as goal

@@ -1,5 +1,5 @@
 use Rattle.std.proofs.Common.{◌≡◌, ◌++◌, drop, map}
-use Rattle.pg_driver.specs.Inside.RunAccounts.{line_of}
+use Rattle.pg_driver.specs.Inside.records.RunAccounts.{line_of}
 use Rattle.pg_texts.specs.Inside.ReportLines.{passes_text}
 use Rattle.pg_texts.proofs.report.push_passes.Given as goal
 

@@ -12,7 +12,7 @@ use Rattle.pg_top.specs.declared.inputs.Stop.TheVariants.{Memory}
 use Rattle.pg_top.proofs.generate.InputOrder.{inputs_wanted}
 use Rattle.pg_top.proofs.audit.Judgements.{outcome_audited, stopped_given, found_given}
 use Rattle.pg_top.proofs.Orders.{mapped, both, held_later, only_on, stopped_in_front}
-use Rattle.pg_top.specs.Inside.Stops.{StopsReading}
+use Rattle.pg_top.specs.Inside.ends.Stops.{StopsReading}
 use Rattle.pg_top.proofs.Results.{err_by, that_error}
 use Rattle.pg_top.proofs.audit.audit_files.Goals as goal
 use Rattle.pg_top.specs.Rules.{outcome_of}

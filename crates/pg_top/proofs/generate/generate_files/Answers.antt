@@ -2,9 +2,9 @@ use Rattle.std.proofs.Common.{◌≡◌, ◌∙◌, sym, ap}
 use Rattle.pg_outside.specs.Content.{file_at}
 use Rattle.pg_words.specs.Inside.Asked.{texts_of}
 use Rattle.pg_top.specs.Outcomes.{Ends}
-use Rattle.pg_top.specs.Inside.Built.{Keeps}
+use Rattle.pg_top.specs.Inside.ends.Built.{KeepsPromise}
 use Rattle.pg_top.specs.generate.Inside.Accepted.{HasInputs}
-use Rattle.pg_top.specs.Inside.WritesMade.{written_names, writing_of}
+use Rattle.pg_top.specs.Inside.writing.WritesMade.{written_names, writing_of}
 use Rattle.pg_top.specs.declared.answers.Status.TheVariants.{Done}
 use Rattle.pg_top.specs.declared.inputs.Stop.TheVariants.{Memory}
 use Rattle.pg_top.proofs.generate.InputOrder.{outcome_generated, inputs_wanted}
@@ -24,11 +24,11 @@ returns g c =
     record {
       only = c.read_inputs.ensures.read.only;
       made = record {
-        comes = mapped s1.held (λ files. HasInputs (file_at files) n i)
+        outcome = mapped s1.held (λ files. HasInputs (file_at files) n i)
             (λ files. outcome_of (file_at files) (generate_rule n) ≡ Ends Done (writing_of c.in_ok-outputs.field-0.files.items) c.in_ok-outputs.field-0.lines.items)
             (λ files h. outcome_generated n i files h ∙ (λ k. Ends Done (sym c.in_ok-outputs.ensures.files k) (sym c.in_ok-outputs.ensures.lines k))) c.in_ok-inputs.ensures.read.ok;
         named = ap written_names c.in_ok-outputs.ensures.files ∙ names_of_files n i;
-        keeps = mapped s1.held (λ files. HasInputs (file_at files) n i) (λ files. Keeps (generate_rule n) (file_at files)) (λ files h. tt) c.in_ok-inputs.ensures.read.ok;
+        promise = mapped s1.held (λ files. HasInputs (file_at files) n i) (λ files. KeepsPromise (generate_rule n) (file_at files)) (λ files h. tt) c.in_ok-inputs.ensures.read.ok;
         counted = c.in_ok-inputs.ensures.read.counted;
       };
       stopped = tt;

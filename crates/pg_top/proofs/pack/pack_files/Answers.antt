@@ -1,15 +1,15 @@
 use Rattle.std.proofs.Common.{◌≡◌, ◌∙◌}
 use Rattle.pg_outside.specs.Content.{file_at}
 use Rattle.pg_top.specs.Outcomes.{Ends}
-use Rattle.pg_top.specs.Inside.Built.{Keeps}
+use Rattle.pg_top.specs.Inside.ends.Built.{KeepsPromise}
 use Rattle.pg_top.specs.pack.Inside.Inputs.{HasSource}
 use Rattle.pg_words.specs.Requests.{PackRequest}
-use Rattle.pg_top.specs.Inside.WritesMade.{writing_of}
+use Rattle.pg_top.specs.Inside.writing.WritesMade.{writing_of}
 use Rattle.pg_top.specs.declared.answers.Status.TheVariants.{Done}
 use Rattle.pg_top.proofs.Calls.{stops_reading}
 use Rattle.pg_top.proofs.ReadsStopped.{building_stopped}
 use Rattle.pg_top.proofs.Orders.{mapped}
-use Rattle.pg_top.proofs.pack.PackOrder.{pack_outcome, pack_keeps, stopped_making}
+use Rattle.pg_top.proofs.pack.PackOrder.{pack_outcome, pack_promise, stopped_making}
 use Rattle.pg_top.proofs.pack.pack_files.Goals as goal
 use Rattle.pg_top.specs.Rules.{outcome_of}
 use Rattle.pg_top.specs.pack.Packed.{pack_rule}
@@ -23,12 +23,12 @@ returns g c =
     record {
       only = c.read_source.ensures.read.only;
       made = record {
-        comes = mapped s1.held (λ files. HasSource (file_at files) p.translate p.patterns s)
+        outcome = mapped s1.held (λ files. HasSource (file_at files) p.translate p.patterns s)
             (λ files. outcome_of (file_at files) (pack_rule p) ≡ Ends Done (writing_of made.files.items) made.lines.items)
             (λ files h. pack_outcome p s files h ∙ c.in_ok-outputs.ensures.made) c.in_ok-source.ensures.read.ok;
         named = c.in_ok-outputs.ensures.named;
-        keeps = mapped s1.held (λ files. HasSource (file_at files) p.translate p.patterns s) (λ files. Keeps (pack_rule p) (file_at files))
-            (λ files h. pack_keeps p s (writing_of made.files.items) made.lines.items files c.in_ok-outputs.ensures.made c.in_ok-outputs.ensures.table
+        promise = mapped s1.held (λ files. HasSource (file_at files) p.translate p.patterns s) (λ files. KeepsPromise (pack_rule p) (file_at files))
+            (λ files h. pack_promise p s (writing_of made.files.items) made.lines.items files c.in_ok-outputs.ensures.made c.in_ok-outputs.ensures.table
             c.in_ok-outputs.ensures.accepted c.in_ok-outputs.ensures.gives h) c.in_ok-source.ensures.read.ok;
         counted = c.in_ok-source.ensures.read.counted;
       };

@@ -1,16 +1,16 @@
 use Rattle.std.proofs.Common.{◌≡◌, ◌∙◌, arith}
 use Rattle.pg_outside.specs.Content.{file_at}
 use Rattle.pg_top.specs.Outcomes.{Ends}
-use Rattle.pg_top.specs.Inside.Built.{Keeps}
+use Rattle.pg_top.specs.Inside.ends.Built.{KeepsPromise}
 use Rattle.pg_top.specs.prune.Inside.Inputs.{HasPrune}
 use Rattle.pg_words.specs.Requests.{PruneRequest}
-use Rattle.pg_top.specs.Inside.WritesMade.{writing_of}
+use Rattle.pg_top.specs.Inside.writing.WritesMade.{writing_of}
 use Rattle.pg_top.specs.declared.answers.Status.TheVariants.{Done}
 use Rattle.pg_top.specs.declared.inputs.Stop.TheVariants.{Memory}
 use Rattle.pg_top.proofs.Calls.{stops_reading}
 use Rattle.pg_top.proofs.ReadsStopped.{building_stopped}
 use Rattle.pg_top.proofs.Orders.{AreAccepted, mapped, wanted_after}
-use Rattle.pg_top.proofs.prune.PruneOrder.{prune_accepted, prune_outcome, prune_keeps}
+use Rattle.pg_top.proofs.prune.PruneOrder.{prune_accepted, prune_outcome, prune_promise}
 use Rattle.pg_top.proofs.prune.prune_files.Goals as goal
 use Rattle.pg_top.specs.Rules.{outcome_of}
 use Rattle.pg_top.specs.prune.Pruned.{prune_rule}
@@ -24,12 +24,12 @@ returns g c =
     record {
       only = c.read_prune.ensures.read.only;
       made = record {
-        comes = mapped s1.held (λ files. HasPrune (file_at files) p.translate p.patterns p.dict i)
+        outcome = mapped s1.held (λ files. HasPrune (file_at files) p.translate p.patterns p.dict i)
             (λ files. outcome_of (file_at files) (prune_rule p) ≡ Ends Done (writing_of made.files.items) made.lines.items)
             (λ files h. prune_outcome p i files h ∙ c.in_ok-outputs.ensures.made) c.in_ok-inputs.ensures.read.ok;
         named = c.in_ok-outputs.ensures.named;
-        keeps = mapped s1.held (λ files. HasPrune (file_at files) p.translate p.patterns p.dict i) (λ files. Keeps (prune_rule p) (file_at files))
-            (λ files h. prune_keeps p i files c.in_ok-outputs.ensures.reads_back h) c.in_ok-inputs.ensures.read.ok;
+        promise = mapped s1.held (λ files. HasPrune (file_at files) p.translate p.patterns p.dict i) (λ files. KeepsPromise (prune_rule p) (file_at files))
+            (λ files h. prune_promise p i files c.in_ok-outputs.ensures.reads_back h) c.in_ok-inputs.ensures.read.ok;
         counted = c.in_ok-inputs.ensures.read.counted;
       };
       stopped = tt;

@@ -4,8 +4,8 @@ use Rattle.pg_outside.specs.Content.{FilesShown}
 use Rattle.pg_outside.specs.FilesCalls.{Reads}
 use Rattle.pg_top.proofs.CountedCalls.{calls_on}
 use Rattle.pg_top.proofs.ListOrder.{stopped_patterns, stopped_words, both_read}
-use Rattle.pg_top.specs.Inside.Lists.{lists_under}
-use Rattle.pg_top.specs.Inside.Stops.{StopsReading}
+use Rattle.pg_top.specs.Inside.reading.Lists.{lists_under}
+use Rattle.pg_top.specs.Inside.ends.Stops.{StopsReading}
 use Rattle.pg_top.proofs.Orders.{only_on}
 use Rattle.pg_top.proofs.Results.{that_error}
 use Rattle.pg_top.proofs.reading.read_lists.Goals as goal

@@ -1,6 +1,6 @@
 use Rattle.std.proofs.Common.{◌≡◌, ◌∙◌, ◌++◌, List, ℕ, ap}
-use Rattle.pg_driver.specs.Inside.RunAccounts.{account_of}
-use Rattle.pg_driver.specs.Inside.AccountLines.{Account}
+use Rattle.pg_driver.specs.Inside.records.RunAccounts.{account_of}
+use Rattle.pg_driver.specs.Inside.records.AccountLines.{Account}
 use Rattle.pg_top.specs.PrintedLines.{done_line}
 use Rattle.pg_top.specs.sample.Inside.Lines.{printed_part}
 use Rattle.pg_top.specs.Selection.{selected_text, selected_report, selected_totals}

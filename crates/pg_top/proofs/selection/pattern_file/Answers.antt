@@ -1,7 +1,7 @@
 use Rattle.std.proofs.Common.{◌∙◌, subst, sym}
 use Rattle.std.proofs.lemmas.Result.{IfOk-weaker}
 use Rattle.pg_patterns.specs.Inside.PatternMaps.{SignsUpTo}
-use Rattle.pg_top.specs.Inside.SelectionSigns.{signs_of}
+use Rattle.pg_top.specs.Inside.selection.SelectionSigns.{signs_of}
 use Rattle.pg_top.proofs.Selections.{text_selected}
 use Rattle.pg_top.proofs.selection.pattern_file.Goals as goal
 

@@ -1,6 +1,6 @@
 use Rattle.std.proofs.Common.{◌∙◌}
 use Rattle.std.proofs.lemmas.Result.{IfOk-weaker}
-use Rattle.pg_driver.specs.Inside.RunAccounts.{account_of}
+use Rattle.pg_driver.specs.Inside.records.RunAccounts.{account_of}
 use Rattle.pg_top.proofs.Selections.{report_selected}
 use Rattle.pg_top.proofs.selection.report_file.Goals as goal
 

@@ -4,16 +4,16 @@ use Rattle.std.proofs.lemmas.List.{length-map}
 use Rattle.pg_outside.specs.Content.{file_at}
 use Rattle.pg_words.specs.Inside.Asked.{sweep_of}
 use Rattle.pg_top.specs.Outcomes.{Ends}
-use Rattle.pg_top.specs.Inside.Built.{Keeps}
+use Rattle.pg_top.specs.Inside.ends.Built.{KeepsPromise}
 use Rattle.pg_top.specs.sweep.Inside.Inputs.{terms_of}
 use Rattle.pg_top.specs.sweep.Inside.Accepted.{HasSweep}
-use Rattle.pg_top.specs.Inside.WritesMade.{writing_of}
+use Rattle.pg_top.specs.Inside.writing.WritesMade.{writing_of}
 use Rattle.pg_top.specs.declared.answers.Status.TheVariants.{Done}
 use Rattle.pg_top.specs.declared.inputs.Stop.TheVariants.{Memory}
 use Rattle.pg_top.proofs.Calls.{stops_reading}
 use Rattle.pg_top.proofs.ReadsStopped.{building_stopped}
 use Rattle.pg_top.proofs.Orders.{AreAccepted, accepted_all, mapped, wanted_after}
-use Rattle.pg_top.proofs.sweep.SweepTexts.{sweep_names}
+use Rattle.pg_top.proofs.sweep.SweepTexts.{sweep_promise}
 use Rattle.pg_top.proofs.sweep.SweepOrder.{sweep_accepted, sweep_outcome}
 use Rattle.pg_top.proofs.sweep.sweep_files.Goals as goal
 use Rattle.pg_top.specs.Rules.{outcome_of}
@@ -30,12 +30,12 @@ returns g c =
     record {
       only = c.read_sweep.ensures.read.only;
       made = record {
-        comes = mapped s1.held (λ files. HasSweep (file_at files) s terms sets)
+        outcome = mapped s1.held (λ files. HasSweep (file_at files) s terms sets)
             (λ files. outcome_of (file_at files) (sweep_rule s) ≡ Ends Done (writing_of made.files.items) made.lines.items)
             (λ files h. sweep_outcome s terms sets files h ∙ c.in_ok-outputs.ensures.made) c.in_ok-inputs.ensures.read.ok;
         named = c.in_ok-outputs.ensures.named;
-        keeps = mapped s1.held (λ files. HasSweep (file_at files) s terms sets) (λ files. Keeps (sweep_rule s) (file_at files))
-            (λ files h. sweep_names s (file_at files) (accepted_all (file_at files) (sweep_rule s).reads (sweep_accepted s terms sets files h)) some) c.in_ok-inputs.ensures.read.ok;
+        promise = mapped s1.held (λ files. HasSweep (file_at files) s terms sets) (λ files. KeepsPromise (sweep_rule s) (file_at files))
+            (λ files h. sweep_promise s (file_at files) (accepted_all (file_at files) (sweep_rule s).reads (sweep_accepted s terms sets files h)) some) c.in_ok-inputs.ensures.read.ok;
         counted = c.in_ok-inputs.ensures.read.counted;
       };
       stopped = tt;

@@ -5,11 +5,11 @@ use Rattle.pg_outside.specs.FilesCalls.{Reads}
 use Rattle.pg_translate.specs.Tables.{table}
 use Rattle.pg_top.specs.Readings.{input_file}
 use Rattle.pg_top.specs.Outcomes.{Ends}
-use Rattle.pg_top.specs.Inside.Built.{Keeps}
-use Rattle.pg_top.specs.Inside.WritesMade.{written_names, writing_of}
+use Rattle.pg_top.specs.Inside.ends.Built.{KeepsPromise}
+use Rattle.pg_top.specs.Inside.writing.WritesMade.{written_names, writing_of}
 use Rattle.pg_top.specs.declared.writes.Output.{Output}
 use Rattle.pg_top.specs.declared.answers.Status.TheVariants.{Done}
-use Rattle.pg_top.specs.Inside.UnderTable.{file_under}
+use Rattle.pg_top.specs.Inside.reading.UnderTable.{file_under}
 use Rattle.pg_top.specs.totals.Totalled.{totals_rule, packed_table}
 use Rattle.pg_words.specs.Requests.{TotalsRequest}
 use Rattle.pg_top.specs.declared.inputs.Input.TheVariants as input
@@ -43,10 +43,11 @@ returns g c =
     record {
       only = only_on s0 s2 s3 two_only c.total_by-lines.ensures.only;
       made = record {
-        comes = subst (λ (files : List Output). IfSome s3.held (λ held. outcome_of (file_at held) (totals_rule p) ≡ Ends Done (writing_of files) c.in_ok-lines.lines.items))
+        outcome = subst (λ (files : List Output). IfSome s3.held (λ held. outcome_of (file_at held) (totals_rule p) ≡ Ends Done (writing_of files) c.in_ok-lines.lines.items))
             (sym c.new.ensures.items) told;
         named = ap (λ (files : List Output). written_names (writing_of files)) c.new.ensures.items;
-        keeps = mapped s3.held (λ files. outcome_of (file_at files) (totals_rule p) ≡ Ends Done [] c.in_ok-lines.lines.items) (λ files. Keeps (totals_rule p) (file_at files)) (λ files h. tt) told;
+        promise = mapped s3.held (λ files. outcome_of (file_at files) (totals_rule p) ≡ Ends Done [] c.in_ok-lines.lines.items)
+            (λ files. KeepsPromise (totals_rule p) (file_at files)) (λ files h. tt) told;
         counted = all_calls;
       };
       stopped = tt;

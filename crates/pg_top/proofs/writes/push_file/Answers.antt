@@ -1,5 +1,5 @@
 use Rattle.std.proofs.Common.{◌∙◌, ap}
-use Rattle.pg_top.specs.Inside.WritesMade.{writing_of}
+use Rattle.pg_top.specs.Inside.writing.WritesMade.{writing_of}
 use Rattle.pg_top.proofs.Writings.{one_pushed}
 use Rattle.pg_top.proofs.writes.push_file.Goals as goal
 

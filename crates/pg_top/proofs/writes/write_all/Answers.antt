@@ -1,5 +1,5 @@
 use Rattle.std.proofs.Common.{arith}
-use Rattle.pg_top.specs.Inside.WritesMade.{writing_of, written_names}
+use Rattle.pg_top.specs.Inside.writing.WritesMade.{writing_of, written_names}
 use Rattle.pg_top.proofs.CountedCalls.{no_calls, write_more}
 use Rattle.pg_top.proofs.Faults.{none_fell}
 use Rattle.pg_top.proofs.Writings.{at_first, step_on, step_failed, name_there, all_called}

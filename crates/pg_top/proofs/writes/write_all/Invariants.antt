@@ -1,8 +1,8 @@
 use Rattle.std.proofs.Common.{drop, take}
 use Rattle.pg_outside.specs.Inside.NameFaults.{NoneFell}
 use Rattle.pg_top.specs.Counted.{MakesCalls}
-use Rattle.pg_top.specs.Inside.ReadCalls.{write_calls}
-use Rattle.pg_top.specs.Inside.WritesMade.{writing_of, written_names}
+use Rattle.pg_top.specs.Inside.reading.ReadCalls.{write_calls}
+use Rattle.pg_top.specs.Inside.writing.WritesMade.{writing_of, written_names}
 use Rattle.pg_top.proofs.Writings.{Continues, OfHeld}
 use Rattle.pg_top.proofs.writes.write_all.Given as goal
 

@@ -7,7 +7,7 @@ use Rattle.pg_top.specs.audit.Audited.{denies}
 use Rattle.pg_top.specs.Counted.{MakesCalls, read_calls, ReadsUpTo}
 use Rattle.pg_top.specs.Outcomes.{Outcome, Ends}
 use Rattle.pg_top.specs.Readings.{Reading, first_end}
-use Rattle.pg_top.specs.Inside.Stops.{PutsAnswer}
+use Rattle.pg_top.specs.Inside.ends.Stops.{PutsAnswer}
 use Rattle.pg_top.specs.declared.answers.Status.{Status}
 use Rattle.pg_top.specs.declared.answers.Status.TheVariants.{Yes, No}
 use Rattle.pg_top.specs.declared.audit.compare.Verdict.{Verdict}

@@ -14,8 +14,8 @@ use Rattle.pg_prune.specs.Reports.{prune_report}
 use Rattle.pg_top.specs.Outcomes.{Outcome, Writing}
 use Rattle.pg_top.specs.prune.Pruned.{outcome_of_prune, pruned_line}
 use Rattle.pg_top.specs.Readings.{HeldFiles, Reading, translate_file}
-use Rattle.pg_top.specs.Inside.Lists.{lists_under}
-use Rattle.pg_top.specs.Inside.ReadAs.{read_as}
+use Rattle.pg_top.specs.Inside.reading.Lists.{lists_under}
+use Rattle.pg_top.specs.Inside.reading.ReadAs.{read_as}
 use Rattle.pg_top.specs.declared.prune.inputs.PruneInputs.{PruneInputs}
 
 -- the files that `prune` reads, in its order

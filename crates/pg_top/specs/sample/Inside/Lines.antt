@@ -10,7 +10,7 @@ use Rattle.pg_top.specs.declared.selection.Inputs.{Inputs}
 abbrev pub printed_part : List ℕ → List ℕ
 printed_part report = flat_map (λ line. line ++ 10 ∷ []) (filter is_printed (lines report))
 
--- what is printed of a selection: these lines, and the Done line
+-- what is printed of a selection: these lines, and the `done:` line
 abbrev pub selection_lines : Inputs → List ℕ
 selection_lines i = printed_part (selected_report i)
     ++ done_line (selected_text i) (selected_totals i)

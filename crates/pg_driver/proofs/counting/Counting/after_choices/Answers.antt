@@ -4,8 +4,8 @@ use Rattle.pg_select.specs.declared.choice.Choice.{Choice}
 use Rattle.pg_driver.specs.declared.counting.Counting.{Counting}
 use Rattle.pg_driver.specs.declared.counting.Counting.TheVariants.{Open}
 use Rattle.pg_driver.specs.declared.counting.open_positions.OpenLevel.{OpenLevel}
-use Rattle.pg_driver.specs.Inside.LevelCounting.{AreNumberedIn, AreNumberedOpen, GoesOnAfter}
-use Rattle.pg_driver.specs.Inside.OpenSigns.{ClosesBy, closed_at_sign, open_signs, sign_count}
+use Rattle.pg_driver.specs.Inside.counting.LevelCounting.{AreNumberedIn, AreNumberedOpen, GoesOnAfter}
+use Rattle.pg_driver.specs.Inside.counting.OpenSigns.{ClosesBy, closed_at_sign, open_signs, sign_count}
 use Rattle.pg_driver.proofs.OpenCloses.{closes_signs}
 use Rattle.pg_driver.proofs.counting.Counting.after_choices.Goals as goal
 

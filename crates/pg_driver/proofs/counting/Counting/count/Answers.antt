@@ -1,8 +1,8 @@
 use Rattle.std.proofs.Common.{refl, subst, ap, ◌∙◌}
 use Rattle.pg_driver.specs.declared.counting.open_positions.OpenLevel.{OpenLevel}
-use Rattle.pg_driver.specs.Inside.Counting.{meaning_after_counting}
-use Rattle.pg_driver.specs.Inside.LevelCounting.{IsOpenAt, IsReady}
-use Rattle.pg_driver.specs.Inside.RunAccounts.{known_of}
+use Rattle.pg_driver.specs.Inside.counting.Counting.{meaning_after_counting}
+use Rattle.pg_driver.specs.Inside.counting.LevelCounting.{IsOpenAt, IsReady}
+use Rattle.pg_driver.specs.Inside.records.RunAccounts.{known_of}
 use Rattle.pg_driver.specs.Traces.{source_of}
 use Rattle.pg_driver.proofs.ReadySteps.{counts_all, has_room, is_small, ready_same}
 use Rattle.pg_driver.proofs.counting.Counting.count.Goals as goal

@@ -1,5 +1,5 @@
 use Rattle.std.proofs.Common.{refl, subst}
-use Rattle.pg_driver.specs.Inside.LevelCounting.{IsReady}
+use Rattle.pg_driver.specs.Inside.counting.LevelCounting.{IsReady}
 use Rattle.pg_driver.proofs.ReadySteps.{ready_longer}
 use Rattle.pg_driver.proofs.counting.Counting.next_length.Goals as goal
 

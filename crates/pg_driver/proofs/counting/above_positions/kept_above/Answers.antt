@@ -2,7 +2,7 @@ use Rattle.std.proofs.Common.{◌<◌, List, get_or, length, sym, ap, ◌∙◌,
 use Rattle.std.proofs.lemmas.List.{drop_all}
 use Rattle.std.proofs.lemmas.Option.{slice_get-get_or}
 use Rattle.pg_driver.specs.declared.pass_windows.WordPosition.{WordPosition}
-use Rattle.pg_driver.specs.Inside.WordLevels.{kept_by, with_kept}
+use Rattle.pg_driver.specs.Inside.counting.WordLevels.{kept_by, with_kept}
 use Rattle.pg_driver.proofs.AboveNumbers.{kept_none}
 use Rattle.pg_driver.proofs.AbovePositions.{kept_step}
 use Rattle.pg_driver.proofs.counting.above_positions.kept_above.Goals as goal

@@ -2,8 +2,8 @@ use Rattle.std.proofs.Common.{◌≡◌, drop}
 use Rattle.pg_types.specs.declared.parameters.LevelParams.{LevelParams}
 use Rattle.pg_types.specs.Inside.Counts.{Counts}
 use Rattle.pg_types.specs.Inside.NumberedWindows.{AreNumbered, Windows}
-use Rattle.pg_driver.specs.Inside.PassWindows.{AreFates, HaveNumbers, is_counted_at}
-use Rattle.pg_driver.specs.Inside.WordLevels.{TookKept, kept_by, with_kept}
+use Rattle.pg_driver.specs.Inside.level.PassWindows.{AreFates, HaveNumbers, is_counted_at}
+use Rattle.pg_driver.specs.Inside.counting.WordLevels.{TookKept, kept_by, with_kept}
 use Rattle.pg_driver.proofs.counting.above_positions.kept_above.Given as goal
 
 abbrev pub invariant-positions : goal.invariant-positions

@@ -4,7 +4,7 @@ use Rattle.pg_dict.specs.Inside.Lent.{lent_word}
 use Rattle.pg_select.specs.CountedPositions.{counts_as}
 use Rattle.pg_select.specs.Inside.LawsAbove.{counts_above}
 use Rattle.pg_select.specs.Statuses.{status}
-use Rattle.pg_driver.specs.Inside.OpenLevels.{open_as}
+use Rattle.pg_driver.specs.Inside.counting.OpenLevels.{open_as}
 use Rattle.pg_driver.proofs.OpenSteps.{position_added}
 use Rattle.pg_driver.proofs.counting.above_positions.list_above.Goals as goal
 

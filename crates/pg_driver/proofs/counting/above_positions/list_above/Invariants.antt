@@ -5,7 +5,7 @@ use Rattle.pg_select.specs.CountedPositions.{minima_of}
 use Rattle.pg_select.specs.Inside.LawsAbove.{counts_above}
 use Rattle.pg_select.specs.Inside.Positions.{HasValues}
 use Rattle.pg_select.specs.Windows.{Patterns}
-use Rattle.pg_driver.specs.Inside.OpenLevels.{listed_in, open_as}
+use Rattle.pg_driver.specs.Inside.counting.OpenLevels.{listed_in, open_as}
 use Rattle.pg_driver.proofs.counting.above_positions.list_above.Given as goal
 
 abbrev pub invariant-positions : goal.invariant-positions

@@ -4,7 +4,7 @@ use Rattle.std.proofs.lemmas.List.{drop_more, drop_all}
 use Rattle.std.proofs.lemmas.Option.{slice_get-get_or}
 use Rattle.pg_dots.specs.Inside.Dots.{is_closed, position_count}
 use Rattle.pg_dots.proofs.Walks.{ahead_kept}
-use Rattle.pg_driver.specs.Inside.OpenSigns.{closed_by, open_signs}
+use Rattle.pg_driver.specs.Inside.counting.OpenSigns.{closed_by, open_signs}
 use Rattle.pg_driver.proofs.OpenSigns.{all_shut, open_first, open_skip, open_there}
 use Rattle.pg_driver.proofs.counting.open_passes.close_dots.Goals as goal
 use Rattle.pg_driver.proofs.counting.open_passes.close_dots.Goals.{After-next_open-sign}

@@ -1,7 +1,7 @@
 use Rattle.std.proofs.Common.{◌≡◌, ℕ, ◌≤◌, ◌<◌, Bool, drop}
 use Rattle.pg_dots.specs.Inside.Dots.{HasWalk, is_closed, position_count}
 use Rattle.pg_dots.specs.Inside.Walks.{IsAhead}
-use Rattle.pg_driver.specs.Inside.OpenSigns.{ClosesBy, open_signs}
+use Rattle.pg_driver.specs.Inside.counting.OpenSigns.{ClosesBy, open_signs}
 use Rattle.pg_driver.proofs.counting.open_passes.close_dots.Given as goal
 
 abbrev pub invariant-numbers : goal.invariant-numbers

@@ -2,13 +2,13 @@ use Rattle.std.proofs.Common.{◌≡◌, ℕ, ◌+◌, ◌<◌, ◌≤◌, [], �
 use Rattle.std.specs.List.{flat_map}
 use Rattle.std.proofs.lemmas.List.{map-append}
 use Rattle.pg_dots.specs.Inside.Dots.{is_closed}
-use Rattle.pg_driver.specs.Inside.Counting.{meaning_after_counting, HasRoom}
-use Rattle.pg_driver.specs.Inside.PassWindows.{HaveNumbers, counts_at}
+use Rattle.pg_driver.specs.Inside.counting.Counting.{meaning_after_counting, HasRoom}
+use Rattle.pg_driver.specs.Inside.level.PassWindows.{HaveNumbers, counts_at}
 use Rattle.pg_driver.proofs.Rooms.{room_left, room_less}
 use Rattle.pg_driver.proofs.Walks.{counted_step, kept_on}
 use Rattle.pg_driver.specs.declared.pass_windows.WordPosition.{WordPosition}
-use Rattle.pg_driver.specs.Inside.OpenPositions.{counted_of}
-use Rattle.pg_driver.specs.Inside.OpenSigns.{open_signs, position_from, sign_count}
+use Rattle.pg_driver.specs.Inside.counting.OpenPositions.{counted_of}
+use Rattle.pg_driver.specs.Inside.counting.OpenSigns.{open_signs, position_from, sign_count}
 use Rattle.pg_driver.proofs.NumberSteps.{have_more, still_have}
 use Rattle.pg_driver.proofs.OpenSigns.{open_first, open_skip, open_upto, upto_all, upto_open, upto_skip}
 use Rattle.pg_driver.proofs.counting.open_passes.count_open.Goals as goal

@@ -4,10 +4,10 @@ use Rattle.pg_dots.specs.Inside.Dots.{HasWalk, is_closed, position_count}
 use Rattle.pg_dots.specs.Inside.Walks.{IsAhead}
 use Rattle.pg_driver.proofs.OpenSigns.{open_upto}
 use Rattle.pg_driver.proofs.Walks.{KeepsButCounts}
-use Rattle.pg_driver.specs.Inside.Counting.{meaning_after_counting, HasRoom}
-use Rattle.pg_driver.specs.Inside.OpenPositions.{counted_of}
-use Rattle.pg_driver.specs.Inside.OpenSigns.{open_word_positions, open_signs, position_from, sign_count}
-use Rattle.pg_driver.specs.Inside.PassWindows.{HaveNumbers, counts_at}
+use Rattle.pg_driver.specs.Inside.counting.Counting.{meaning_after_counting, HasRoom}
+use Rattle.pg_driver.specs.Inside.counting.OpenPositions.{counted_of}
+use Rattle.pg_driver.specs.Inside.counting.OpenSigns.{open_word_positions, open_signs, position_from, sign_count}
+use Rattle.pg_driver.specs.Inside.level.PassWindows.{HaveNumbers, counts_at}
 use Rattle.pg_driver.proofs.counting.open_passes.count_open.Given as goal
 
 abbrev pub invariant-signs : goal.invariant-signs

@@ -11,10 +11,10 @@ use Rattle.pg_select.specs.Statuses.{is_odd}
 use Rattle.pg_select.specs.Windows.{fits, window}
 use Rattle.pg_driver.specs.declared.pass_windows.WordPosition.{WordPosition}
 use Rattle.pg_driver.specs.declared.pass_windows.TheConstants.{NO_NUMBER}
-use Rattle.pg_driver.specs.Inside.Counting.{meaning_after_counting}
-use Rattle.pg_driver.specs.Inside.OpenPositions.{counted_of}
-use Rattle.pg_driver.specs.Inside.OpenSigns.{position_from, start_of}
-use Rattle.pg_driver.specs.Inside.PassWindows.{IsNumbered, counts_at}
+use Rattle.pg_driver.specs.Inside.counting.Counting.{meaning_after_counting}
+use Rattle.pg_driver.specs.Inside.counting.OpenPositions.{counted_of}
+use Rattle.pg_driver.specs.Inside.counting.OpenSigns.{position_from, start_of}
+use Rattle.pg_driver.specs.Inside.level.PassWindows.{IsNumbered, counts_at}
 use Rattle.pg_driver.proofs.FlatSigns.{counted_fit, counted_none, counted_there, fit_within, flat_inside, flat_window, numbered_fit, numbered_none, sign_is, site_at, sites_count, weight_at, weights_count}
 use Rattle.pg_driver.proofs.OpenSigns.{place_of, signs_few}
 use Rattle.pg_driver.proofs.OpenSteps.{took_entry}

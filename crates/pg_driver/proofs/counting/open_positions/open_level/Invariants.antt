@@ -6,7 +6,7 @@ use Rattle.pg_dict.specs.Word.{Word}
 use Rattle.pg_dict.specs.Inside.SoundWords.{letter_count}
 use Rattle.pg_select.specs.Sums.{marks_in, totals}
 use Rattle.pg_select.specs.Inside.SumSteps.{with_marks, HasRoomFor}
-use Rattle.pg_driver.specs.Inside.OpenSigns.{is_open_first, sign_count, start_of}
+use Rattle.pg_driver.specs.Inside.counting.OpenSigns.{is_open_first, sign_count, start_of}
 use Rattle.pg_driver.proofs.WordSteps.{AreReached}
 use Rattle.pg_driver.proofs.counting.open_positions.open_level.Given as goal
 

@@ -5,7 +5,7 @@ use Rattle.pg_dict.specs.Inside.Lent.{lent_word}
 use Rattle.pg_select.specs.CountedPositions.{minima_of}
 use Rattle.pg_select.specs.Sums.{marks_in}
 use Rattle.pg_select.specs.Inside.SumSteps.{with_marks, TookRoomFor}
-use Rattle.pg_driver.specs.Inside.OpenSigns.{is_open_first}
+use Rattle.pg_driver.specs.Inside.counting.OpenSigns.{is_open_first}
 use Rattle.pg_select.proofs.MarkSteps.{marks_from}
 use Rattle.pg_driver.proofs.counting.open_positions.open_word.Given as goal
 

@@ -5,15 +5,15 @@ use Rattle.pg_select.specs.Inside.Meanings.{Meaning}
 use Rattle.pg_select.specs.declared.pass.Pass.{Pass}
 use Rattle.pg_select.specs.CountedPositions.{counted_positions_at, minima_of}
 use Rattle.pg_driver.specs.declared.pass_windows.WordPosition.{WordPosition}
-use Rattle.pg_driver.specs.Inside.OpenLevels.{listed_in, open_as}
-use Rattle.pg_driver.specs.Inside.PassWindows.{HaveNumbers, uncovered_at}
+use Rattle.pg_driver.specs.Inside.counting.OpenLevels.{listed_in, open_as}
+use Rattle.pg_driver.specs.Inside.level.PassWindows.{HaveNumbers, uncovered_at}
 use Rattle.pg_driver.proofs.OpenSteps.{position_added}
 use Rattle.pg_select.specs.Inside.LawsAbove.{counts_above}
-use Rattle.pg_driver.specs.Inside.WordLevels.{listing}
+use Rattle.pg_driver.specs.Inside.counting.WordLevels.{listing}
 use Rattle.pg_driver.proofs.WordLevels.{none_listed_in}
 use Rattle.pg_select.specs.Statuses.{status_at, position_weight}
 use Rattle.pg_types.specs.declared.limits.TheConstants.{WEIGHT_MAX}
-use Rattle.pg_driver.specs.Inside.Counting.{IsRead}
+use Rattle.pg_driver.specs.Inside.counting.Counting.{IsRead}
 use Rattle.pg_select.specs.Inside.SumSteps.{with_mark, sum_of}
 use Rattle.pg_select.proofs.MarkSteps.{marks_step, mark_took, weight_small}
 use Rattle.pg_driver.proofs.Rooms.{room_left, took_less}

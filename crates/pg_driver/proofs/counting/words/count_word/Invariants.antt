@@ -6,11 +6,11 @@ use Rattle.pg_select.specs.CountedPositions.{counted_positions_at, minima_of}
 use Rattle.pg_select.specs.Inside.WordCounts.{counted_positions_in}
 use Rattle.pg_select.specs.Inside.LawsAbove.{counts_above}
 use Rattle.pg_driver.specs.declared.pass_windows.WordPosition.{WordPosition}
-use Rattle.pg_driver.specs.Inside.OpenLevels.{listed_in, open_as}
-use Rattle.pg_driver.specs.Inside.PassWindows.{NotesNumbers}
+use Rattle.pg_driver.specs.Inside.counting.OpenLevels.{listed_in, open_as}
+use Rattle.pg_driver.specs.Inside.level.PassWindows.{NotesNumbers}
 use Rattle.pg_select.specs.Sums.{marks_in}
 use Rattle.pg_select.specs.Inside.SumSteps.{with_marks, TookRoomFor}
-use Rattle.pg_driver.specs.Inside.Counting.{meaning_after_counting, TookRoom}
+use Rattle.pg_driver.specs.Inside.counting.Counting.{meaning_after_counting, TookRoom}
 use Rattle.pg_select.proofs.MarkSteps.{marks_from}
 use Rattle.pg_driver.proofs.Walks.{KeepsButCounts}
 use Rattle.pg_driver.proofs.counting.words.count_word.Given as goal

@@ -9,13 +9,13 @@ use Rattle.pg_select.specs.CountedPositions.{counted_positions, minima_of}
 use Rattle.pg_select.specs.Inside.WordCounts.{counted_positions_in}
 use Rattle.pg_select.specs.Sums.{marks_in}
 use Rattle.pg_select.specs.Inside.SumSteps.{with_marks}
-use Rattle.pg_driver.specs.Inside.Counting.{HasRoom, meaning_after_counting}
+use Rattle.pg_driver.specs.Inside.counting.Counting.{HasRoom, meaning_after_counting}
 use Rattle.pg_select.proofs.MarkSteps.{marks_word}
-use Rattle.pg_driver.specs.Inside.OpenLevels.{listed_in}
+use Rattle.pg_driver.specs.Inside.counting.OpenLevels.{listed_in}
 use Rattle.pg_select.specs.Inside.LawsAbove.{counts_above}
 use Rattle.pg_driver.specs.declared.pass_windows.WordPosition.{WordPosition}
-use Rattle.pg_driver.specs.Inside.PassWindows.{HaveNumbers, uncovered_at}
-use Rattle.pg_driver.specs.Inside.WordLevels.{listing}
+use Rattle.pg_driver.specs.Inside.level.PassWindows.{HaveNumbers, uncovered_at}
+use Rattle.pg_driver.specs.Inside.counting.WordLevels.{listing}
 use Rattle.pg_driver.proofs.OpenSteps.{few_words, word_added}
 use Rattle.pg_driver.proofs.Rooms.{room_left, room_less, room_none}
 use Rattle.pg_driver.proofs.Walks.{kept_on, word_step}

@@ -4,12 +4,12 @@ use Rattle.pg_dict.specs.Inside.SoundWords.{letter_count}
 use Rattle.pg_select.specs.CountedPositions.{counted_positions, minima_of}
 use Rattle.pg_select.specs.Sums.{marks_in, totals}
 use Rattle.pg_select.specs.Inside.SumSteps.{with_marks, HasRoomFor}
-use Rattle.pg_driver.specs.Inside.Counting.{meaning_after_counting, HasRoom}
-use Rattle.pg_driver.specs.Inside.OpenLevels.{listed_from}
+use Rattle.pg_driver.specs.Inside.counting.Counting.{meaning_after_counting, HasRoom}
+use Rattle.pg_driver.specs.Inside.counting.OpenLevels.{listed_from}
 use Rattle.pg_select.specs.Inside.LawsAbove.{counts_above}
 use Rattle.pg_driver.specs.declared.pass_windows.WordPosition.{WordPosition}
-use Rattle.pg_driver.specs.Inside.PassWindows.{HaveNumbers, uncovered_at}
-use Rattle.pg_driver.specs.Inside.WordLevels.{listing}
+use Rattle.pg_driver.specs.Inside.level.PassWindows.{HaveNumbers, uncovered_at}
+use Rattle.pg_driver.specs.Inside.counting.WordLevels.{listing}
 use Rattle.pg_driver.proofs.Walks.{KeepsButCounts}
 use Rattle.pg_driver.proofs.WordSteps.{AreReached}
 use Rattle.pg_driver.proofs.counting.words.count_words.Given as goal

@@ -1,6 +1,6 @@
 use Rattle.std.proofs.Common.{◌≡◌, ℕ, ◌++◌, List, length, ap, sym, subst, ◌∙◌, arith}
 use Rattle.pg_select.specs.declared.choice.Choice.{Choice}
-use Rattle.pg_driver.specs.Inside.PassWindows.{AreFates}
+use Rattle.pg_driver.specs.Inside.level.PassWindows.{AreFates}
 use Rattle.pg_driver.proofs.NumberSteps.{order_whole}
 use Rattle.pg_driver.proofs.pass_windows.PassWindows.decide.Goals as goal
 

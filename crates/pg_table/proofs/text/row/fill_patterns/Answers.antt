@@ -10,7 +10,8 @@ use Rattle.pg_table.proofs.text.row.fill_patterns.Goals as goal
 
 pub fill_string-requires-clause-signs : goal.fill_string-requires-clause-signs
 fill_string-requires-clause-signs c =
-    signs_within c.args.packed.now.cells.signs c.args.patterns.now c.patterns.i ((c.entry.result.signs.now, c.entry.result.dot), c.entry.result.value) c.requires.known c.entry.ensures.value c.entry.ensures.signs
+    signs_within c.args.packed.now.cells.signs c.args.patterns.now c.patterns.i ((c.entry.result.signs.now, c.entry.result.dot), c.entry.result.value)
+    c.requires.known c.entry.ensures.value c.entry.ensures.signs
 
 pub patterns-preserved : goal.patterns-preserved
 patterns-preserved c =

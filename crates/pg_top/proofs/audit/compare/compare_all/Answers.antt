@@ -10,7 +10,7 @@ use Rattle.pg_top.specs.declared.audit.compare.Verdict.{Verdict}
 use Rattle.pg_top.proofs.CountedCalls.{no_calls}
 use Rattle.pg_top.proofs.audit.Judgements.{accepted_more, called_there, read_there, false_ends, false_found, stopped_there, all_right, all_found}
 use Rattle.pg_top.proofs.Orders.{AreAccepted, none_accepted, held_later, only_on, only_self}
-use Rattle.pg_top.specs.Inside.Stops.{StopsReading}
+use Rattle.pg_top.specs.Inside.ends.Stops.{StopsReading}
 use Rattle.pg_top.proofs.Results.{that_error}
 use Rattle.pg_top.proofs.audit.compare.compare_all.Goals as goal
 

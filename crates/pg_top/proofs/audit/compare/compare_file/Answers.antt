@@ -8,7 +8,7 @@ use Rattle.pg_top.specs.audit.Inside.Verdicts.{wanted_file, end_of, IsFrontOf}
 use Rattle.pg_top.proofs.Fronts.{front_stop}
 use Rattle.pg_top.proofs.audit.GivenFronts.{given_front}
 use Rattle.pg_top.proofs.audit.Judgements.{judged}
-use Rattle.pg_top.specs.Inside.Stops.{StopsAt}
+use Rattle.pg_top.specs.Inside.ends.Stops.{StopsAt}
 use Rattle.pg_top.specs.declared.inputs.Stop.TheVariants.{Memory}
 use Rattle.pg_top.proofs.Orders.{mapped}
 use Rattle.pg_top.proofs.Results.{that_error}

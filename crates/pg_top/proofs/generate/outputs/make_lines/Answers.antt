@@ -1,7 +1,7 @@
 use Rattle.std.proofs.Common.{◌≡◌, ◌∙◌, ◌++◌, ap}
-use Rattle.pg_driver.specs.Inside.AccountLines.{Account}
+use Rattle.pg_driver.specs.Inside.records.AccountLines.{Account}
 use Rattle.pg_top.specs.PrintedLines.{done_line}
-use Rattle.pg_top.specs.Inside.SelectionAccounts.{work_line, selected_cells, passes_begun, last_layout}
+use Rattle.pg_top.specs.Inside.selection.SelectionAccounts.{work_line, selected_cells, passes_begun, last_layout}
 use Rattle.pg_top.specs.Selection.{selected_text, selected_totals}
 use Rattle.pg_top.proofs.Selections.{totals_selected, end_selected}
 use Rattle.pg_top.proofs.generate.outputs.make_lines.Goals as goal

@@ -1,6 +1,6 @@
 use Rattle.std.proofs.Common.{◌≡◌, ◌∙◌, ◌++◌, OnOk, sym, subst}
 use Rattle.pg_types.specs.declared.marks.Layout.{Layout}
-use Rattle.pg_top.specs.Inside.SelectionAccounts.{work_line, selected_cells, last_layout}
+use Rattle.pg_top.specs.Inside.selection.SelectionAccounts.{work_line, selected_cells, last_layout}
 use Rattle.pg_top.proofs.Selections.{last_is}
 use Rattle.pg_top.proofs.generate.outputs.push_end.Goals as goal
 

@@ -5,7 +5,7 @@ use Rattle.pg_outside.specs.Content.{FilesShown}
 use Rattle.pg_outside.specs.FilesCalls.{Reads}
 use Rattle.pg_translate.specs.Tables.{table}
 use Rattle.pg_top.specs.Readings.{input_file}
-use Rattle.pg_top.specs.Inside.UnderTable.{file_under}
+use Rattle.pg_top.specs.Inside.reading.UnderTable.{file_under}
 use Rattle.pg_top.specs.declared.inputs.Input.TheVariants.{Translate, Patterns}
 use Rattle.pg_top.proofs.CountedCalls.{calls_on}
 use Rattle.pg_top.proofs.pack.PackOrder.{source_read}

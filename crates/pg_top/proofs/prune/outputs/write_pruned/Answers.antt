@@ -2,7 +2,7 @@ use Rattle.std.proofs.Common.{List, [], ◌∷◌, ◌++◌, length, ◌∙◌, 
 use Rattle.pg_patterns.specs.Texts.{pattern_text}
 use Rattle.pg_prune.specs.Reports.{prune_report}
 use Rattle.pg_top.specs.Outcomes.{Writing}
-use Rattle.pg_top.specs.Inside.WritesMade.{writing_of}
+use Rattle.pg_top.specs.Inside.writing.WritesMade.{writing_of}
 use Rattle.pg_top.specs.declared.writes.Output.{Output}
 use Rattle.pg_top.specs.prune.Pruned.{pruned_line}
 use Rattle.pg_top.proofs.prune.outputs.write_pruned.Goals as goal

@@ -5,7 +5,7 @@ use Rattle.pg_sweep.specs.Sweeps.{Terms, row_of}
 use Rattle.pg_words.specs.Inside.Asked.{sweep_of}
 use Rattle.pg_top.specs.Outcomes.{Ends}
 use Rattle.pg_top.specs.sweep.Inside.Inputs.{terms_of}
-use Rattle.pg_top.specs.Inside.WritesMade.{written_names}
+use Rattle.pg_top.specs.Inside.writing.WritesMade.{written_names}
 use Rattle.pg_top.specs.declared.answers.Status.TheVariants.{Done}
 use Rattle.pg_top.proofs.Results.{ok_by_two}
 use Rattle.pg_top.proofs.sweep.SweepTexts.{sweep_made}

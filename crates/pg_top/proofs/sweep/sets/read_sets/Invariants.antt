@@ -1,6 +1,6 @@
 use Rattle.std.proofs.Common.{◌≡◌, length, map, take, IfSome}
 use Rattle.pg_outside.specs.Content.{file_at}
-use Rattle.pg_top.specs.Inside.Stops.{OnlyReads}
+use Rattle.pg_top.specs.Inside.ends.Stops.{OnlyReads}
 use Rattle.pg_outside.specs.FilesCalls.{Reads}
 use Rattle.pg_words.specs.Inside.Names.{words_of}
 use Rattle.pg_top.specs.Counted.{MakesCalls}

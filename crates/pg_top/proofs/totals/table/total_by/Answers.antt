@@ -7,11 +7,11 @@ use Rattle.pg_table.specs.declared.limits.TheConstants.{TABLE_MAX}
 use Rattle.pg_texts.specs.ReportTexts.{ending_text}
 use Rattle.pg_top.specs.totals.Totalled.{packed_table}
 use Rattle.pg_top.specs.Readings.{Reading, input_file}
-use Rattle.pg_top.specs.Inside.ReadAs.{read_as}
+use Rattle.pg_top.specs.Inside.reading.ReadAs.{read_as}
 use Rattle.pg_top.specs.totals.Inside.Inputs.{IsTotalled, totals_lines}
 use Rattle.pg_top.specs.declared.inputs.Input.TheVariants as input
 use Rattle.pg_top.proofs.Fronts.{packed_table-front, read_up_to, stopped_up_to, front_stop}
-use Rattle.pg_top.specs.Inside.Stops.{StopsAt}
+use Rattle.pg_top.specs.Inside.ends.Stops.{StopsAt}
 use Rattle.pg_top.proofs.Orders.{mapped}
 use Rattle.pg_top.proofs.Results.{that_error}
 use Rattle.pg_top.proofs.totals.TotalsOrder.{table_signs}

@@ -5,11 +5,11 @@ use Rattle.pg_select.specs.CountedPositions.{counted_positions, minima_of}
 use Rattle.pg_select.specs.Inside.Meanings.{Meaning, with_position}
 use Rattle.pg_driver.specs.declared.pass_windows.WordPosition.{WordPosition}
 use Rattle.pg_driver.specs.declared.counting.word_level.WordLevel.{WordLevel}
-use Rattle.pg_driver.specs.Inside.Counting.{meaning_after_counting}
-use Rattle.pg_driver.specs.Inside.PassWindows.{HaveNumbers, is_counted_at}
-use Rattle.pg_driver.specs.Inside.RunAccounts.{known_of}
+use Rattle.pg_driver.specs.Inside.counting.Counting.{meaning_after_counting}
+use Rattle.pg_driver.specs.Inside.level.PassWindows.{HaveNumbers, is_counted_at}
+use Rattle.pg_driver.specs.Inside.records.RunAccounts.{known_of}
 use Rattle.pg_driver.specs.Traces.{source_of}
-use Rattle.pg_driver.specs.Inside.WordLevels.{IsWordsAt}
+use Rattle.pg_driver.specs.Inside.counting.WordLevels.{IsWordsAt}
 use Rattle.pg_driver.proofs.AboveNumbers.{numbered_as_counted}
 use Rattle.pg_driver.proofs.WordLevels.{words_counted}
 use Rattle.pg_driver.proofs.counting.word_level.WordLevel.count_each_word.Goals as goal

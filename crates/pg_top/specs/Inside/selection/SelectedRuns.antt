@@ -2,11 +2,11 @@
 use Rattle.std.specs.Prelude.{◌≡◌}
 use Rattle.pg_patterns.specs.Inside.PatternMaps.{SignsUpTo}
 use Rattle.pg_select.specs.Inside.Meanings.{Meaning, new_engine}
-use Rattle.pg_driver.specs.Inside.RunAccounts.{account_of}
-use Rattle.pg_driver.specs.Inside.Sound.{Finished}
+use Rattle.pg_driver.specs.Inside.records.RunAccounts.{account_of}
+use Rattle.pg_driver.specs.Inside.records.Sound.{CompletedRun}
 use Rattle.pg_top.specs.Selection.{selected_patterns}
-use Rattle.pg_top.specs.Inside.SelectionAccounts.{selected_account, passes_begun}
-use Rattle.pg_top.specs.Inside.SelectionSigns.{signs_of}
+use Rattle.pg_top.specs.Inside.selection.SelectionAccounts.{selected_account, passes_begun}
+use Rattle.pg_top.specs.Inside.selection.SelectionSigns.{signs_of}
 use Rattle.pg_top.specs.declared.selection.Inputs.{Inputs}
 
 -- the engine was just made with the starting patterns of the inputs
@@ -14,7 +14,7 @@ abbrev pub IsNew : Inputs → Meaning → Type 0
 IsNew i m = m ≡ new_engine (signs_of i) i.start m.families
 
 -- a run tells of the selection: its patterns, what is told of it, and how many passes were begun
-pub record TellsSelection (i : Inputs) (run : Finished) : Type 0 where
+pub record TellsSelection (i : Inputs) (run : CompletedRun) : Type 0 where
   pub patterns : run.patterns ≡ selected_patterns i
   pub signs : SignsUpTo (signs_of i) run.patterns
   pub account : account_of run ≡ selected_account i

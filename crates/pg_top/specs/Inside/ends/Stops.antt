@@ -7,16 +7,16 @@ use Rattle.pg_outside.specs.Content.{FilesShown, SinkShown, KeepsHeld, file_at}
 use Rattle.pg_outside.specs.Faults.{Rose}
 use Rattle.pg_outside.specs.Inside.NameFaults.{NoneFell}
 use Rattle.pg_top.specs.Counted.{MakesCalls, MakesPuts, PutsFault, ReadsUpTo, EndsAt}
-use Rattle.pg_top.specs.Inside.ReadCalls.{write_calls}
+use Rattle.pg_top.specs.Inside.reading.ReadCalls.{write_calls}
 use Rattle.pg_top.specs.Moments.{Moment, PutOrRose}
-use Rattle.pg_top.specs.Inside.Puts.{Puts, PutsPart, PutRose}
+use Rattle.pg_top.specs.Inside.writing.Puts.{Puts, PutsPart, PutRose}
 use Rattle.pg_top.specs.Outcomes.{Outcome, Writing}
-use Rattle.pg_top.specs.Inside.Refusing.{refuses}
+use Rattle.pg_top.specs.Inside.ends.Refusing.{refuses}
 use Rattle.pg_top.specs.PrintedLines.{refused_line}
-use Rattle.pg_top.specs.Inside.FaultLines.{reading_line, writing_line}
+use Rattle.pg_top.specs.Inside.writing.FaultLines.{reading_line, writing_line}
 use Rattle.pg_top.specs.Readings.{Reading, first_end}
 use Rattle.pg_top.specs.Rules.{CommandRule, outcome_of}
-use Rattle.pg_top.specs.Inside.WritesMade.{written_names, WroteAll, StoppedAt}
+use Rattle.pg_top.specs.Inside.writing.WritesMade.{written_names, WroteAll, StoppedAt}
 use Rattle.pg_top.specs.declared.answers.Status.{Status}
 use Rattle.pg_top.specs.declared.answers.Status.TheVariants as status
 use Rattle.pg_top.specs.declared.inputs.Input.{Input}

@@ -4,8 +4,8 @@ use Rattle.pg_types.specs.declared.refusals.Refusal.{Refusal}
 use Rattle.pg_outside.specs.Content.{FilesShown, file_at}
 use Rattle.pg_outside.specs.FilesCalls.{Reads}
 use Rattle.pg_top.specs.Counted.{MakesCalls, read_calls}
-use Rattle.pg_top.specs.Inside.ReadAs.{read_as}
-use Rattle.pg_top.specs.Inside.Stops.{OnlyReads, StopsAt, StopsReading}
+use Rattle.pg_top.specs.Inside.reading.ReadAs.{read_as}
+use Rattle.pg_top.specs.Inside.ends.Stops.{OnlyReads, StopsAt, StopsReading}
 use Rattle.pg_top.specs.Readings.{HeldFiles, Reading, input_file}
 use Rattle.pg_top.specs.declared.inputs.Input.{Input}
 use Rattle.pg_top.specs.declared.inputs.Stop.{Stop}

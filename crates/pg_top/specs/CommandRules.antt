@@ -15,7 +15,7 @@ use Rattle.pg_top.specs.declared.answers.Status.TheVariants.{Usage}
 
 -- where words are no command
 abbrev pub usage_rule : CommandRule
-usage_rule = record usual_rule { answers = Usage ∷ []; comes = λ _. Ends Usage [] usage_line }
+usage_rule = record usual_rule { answers = Usage ∷ []; own_outcome = λ _. Ends Usage [] usage_line }
 
 -- the rule of what is asked for
 abbrev pub rule_of : Option Request → CommandRule

@@ -3,7 +3,7 @@ use Rattle.std.specs.Prelude.{ℕ, List, map}
 use Rattle.pg_translate.specs.Gaps.{last_else}
 use Rattle.pg_select.specs.declared.pass.Pass.{Pass}
 use Rattle.pg_driver.specs.Dots.{order}
-use Rattle.pg_driver.specs.Traces.{Known, PassTrace, known_after}
+use Rattle.pg_driver.specs.Traces.{Knowledge, PassTrace, known_after}
 
 -- the passes of a length: each dot in its order
 abbrev pub passes_of_length : ℕ → ℕ → List Pass
@@ -11,5 +11,5 @@ passes_of_length number len = map (λ dot. record { level = number; len = len; d
     (order len)
 
 -- what is known at the end of passes: after the last of them, or else what was known before
-abbrev pub known_at_end : Known → List PassTrace → Known
+abbrev pub known_at_end : Knowledge → List PassTrace → Knowledge
 known_at_end known passes = last_else known (map known_after passes)

@@ -1,16 +1,16 @@
 -- What is told of the run of a selection.
-use Rattle.std.specs.Prelude.{ℕ, List, ◌++◌, codes, decimal}
+use Rattle.std.specs.Prelude.{ℕ, List, ◌++◌, map, codes, decimal}
 use Rattle.pg_types.specs.declared.marks.Layout.{Layout}
 use Rattle.pg_types.specs.Placement.{Families}
+use Rattle.pg_translate.specs.Gaps.{last_else}
 use Rattle.pg_packed.specs.Inside.Starts.{pattern_families}
 use Rattle.pg_driver.specs.Traces.{source_of}
 use Rattle.pg_driver.specs.Accounts.{begun_count}
-use Rattle.pg_driver.specs.Inside.AccountLines.{Account, account}
-use Rattle.pg_driver.specs.Inside.CellsAccounts.{CellsAccount, cells_account}
+use Rattle.pg_driver.specs.Inside.records.AccountLines.{Account, account}
+use Rattle.pg_driver.specs.Inside.records.CellsAccounts.{CellsAccount, cells_account}
 use Rattle.pg_texts.specs.Inside.CellsLines.{layout_line_text}
 use Rattle.pg_top.specs.Selection.{selection}
-use Rattle.pg_top.specs.Inside.Runs.{last_part}
-use Rattle.pg_top.specs.Inside.SelectionSigns.{signs_of}
+use Rattle.pg_top.specs.Inside.selection.SelectionSigns.{signs_of}
 use Rattle.pg_top.specs.declared.selection.Inputs.{Inputs}
 
 -- what is told of that run
@@ -31,7 +31,7 @@ selected_cells i = selected_cells_from i (pattern_families (signs_of i) i.start)
 
 -- the last layout that is told of the cells of a run
 abbrev pub last_layout : CellsAccount → Layout
-last_layout a = last_part (λ l. l.1) a.start a.levels
+last_layout a = last_else a.start (map (λ l. l.1) a.levels)
 
 -- the line of how many passes were begun, and of a layout
 abbrev pub work_line : ℕ → Layout → List ℕ

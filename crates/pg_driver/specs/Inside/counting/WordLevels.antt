@@ -19,18 +19,19 @@ use Rattle.pg_driver.specs.declared.counting.above_positions.Kept.{Kept}
 use Rattle.pg_driver.specs.declared.pass_windows.WordPosition.{WordPosition}
 use Rattle.pg_driver.specs.declared.counting.word_level.WordLevel.{WordLevel}
 use Rattle.pg_driver.specs.Accounts.{totals_by}
-use Rattle.pg_driver.specs.Inside.Counting.{IsBounded}
-use Rattle.pg_driver.specs.Inside.OpenLevels.{listed_from}
-use Rattle.pg_driver.specs.Inside.OpenPositions.{counted_of}
-use Rattle.pg_driver.specs.Traces.{Known, Source}
-use Rattle.pg_driver.specs.Inside.Fates.{chooses}
+use Rattle.pg_driver.specs.Inside.counting.Counting.{IsBounded}
+use Rattle.pg_driver.specs.Inside.counting.OpenLevels.{listed_from}
+use Rattle.pg_driver.specs.Inside.counting.OpenPositions.{counted_of}
+use Rattle.pg_driver.specs.Traces.{Knowledge, Source}
+use Rattle.pg_driver.specs.Inside.choices.Fates.{chooses}
 
 -- the positions that count and have a value above the level, where they are listed; else none
 abbrev pub listing : Bool → ℕ → Patterns → Word → ℕ → Option Bool
 listing listed level P w p = if listed then counts_above level P w p else None
 
 -- a level in which words are hyphenated in each pass: it lists positions above the level
-pub record IsWordsAt (source : Source) (level : ℕ) (known : Known) (e : WordLevel) : Type 0 where
+pub record IsWordsAt (source : Source) (level : ℕ)
+    (known : Knowledge) (e : WordLevel) : Type 0 where
   pub bounded : e.is_counted ≡ true → IsBounded source
   pub above : e.above.items
       ≡ listed_from source.minima (listing e.is_counted level known.patterns) 0 source.words

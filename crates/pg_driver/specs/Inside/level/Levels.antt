@@ -11,16 +11,16 @@ use Rattle.pg_select.specs.declared.pass.Pass.{Pass}
 use Rattle.pg_select.specs.Inside.Laws.{CountsNothing}
 use Rattle.pg_select.specs.Windows.{Patterns}
 use Rattle.pg_driver.specs.declared.counting.Counting.{Counting}
-use Rattle.pg_driver.specs.Inside.LevelCounting.{IsCounted}
-use Rattle.pg_driver.specs.Traces.{Known, Source, PassTrace, LevelTrace, Trace, patterns_after, final_patterns, pass_traces, at_start}
-use Rattle.pg_driver.specs.Inside.Passes.{known_at_end}
+use Rattle.pg_driver.specs.Inside.counting.LevelCounting.{IsCounted}
+use Rattle.pg_driver.specs.Traces.{Knowledge, Source, PassTrace, LevelTrace, Trace, patterns_after, final_patterns, pass_traces, at_start}
+use Rattle.pg_driver.specs.Inside.level.Passes.{known_at_end}
 use Rattle.pg_driver.specs.Accounts.{has_candidate, begun_count}
-use Rattle.pg_driver.specs.Inside.AccountLines.{pass_line, pass_lines, chosen_by, level_line, is_skippable, begun_among}
+use Rattle.pg_driver.specs.Inside.records.AccountLines.{pass_line, pass_lines, chosen_by, level_line, is_skippable, begun_among}
 use Rattle.pg_driver.specs.Layouts.{after_level}
-use Rattle.pg_driver.specs.Inside.CellsAccounts.{pass_layouts, levels_with_families, level_layout}
-use Rattle.pg_driver.specs.Inside.RunAccounts.{known_of, line_of, level_line_of, layout_told, level_layout_told}
-use Rattle.pg_driver.specs.Inside.Sound.{Recorded}
-use Rattle.pg_driver.specs.Inside.States.{State, state_of, state_at_end}
+use Rattle.pg_driver.specs.Inside.records.CellsAccounts.{pass_layouts, levels_with_families, level_layout}
+use Rattle.pg_driver.specs.Inside.records.RunAccounts.{known_of, line_of, level_line_of, layout_told, level_layout_told}
+use Rattle.pg_driver.specs.Inside.records.Sound.{RunRecords}
+use Rattle.pg_driver.specs.Inside.level.States.{State, state_of, state_at_end}
 
 -- what each pass that has a candidate tells of the cells: no layout where no families are told
 abbrev pub layouts_in : ℕ → Option Families → List PassTrace → List (Option (Pass × ℕ × ℕ))
@@ -29,7 +29,7 @@ layouts_in signs (Some fs) ps = map Some (pass_layouts signs fs ps)
 
 -- these passes of a level turned the old records into the new ones
 pub record AreRecorded (source : Source) (signs : ℕ)
-    (families : Option Families) (ps : List PassTrace) (old new : Recorded) : Type 0 where
+    (families : Option Families) (ps : List PassTrace) (old new : RunRecords) : Type 0 where
   pub lines : map line_of new.passes
       ≡ map line_of old.passes ++ map (pass_line source) (filter has_candidate ps)
   pub layouts : map layout_told new.passes
@@ -39,7 +39,7 @@ pub record AreRecorded (source : Source) (signs : ℕ)
   pub levels : new.levels ≡ old.levels
 
 -- as many passes were begun by the engine as were recorded
-abbrev pub BeganAll : Meaning → Meaning → Recorded → Recorded → Type 0
+abbrev pub BeganAll : Meaning → Meaning → RunRecords → RunRecords → Type 0
 BeganAll old new r s = new.begun + r.begun ≡ old.begun + s.begun
 
 -- the flags of a length and of the next, by dot
@@ -69,7 +69,7 @@ pub record Tells (number len : ℕ) (flags : SkipFlags) (ps : List PassTrace) : 
       → is_skippable ps (record { level = number; len = n; dot = dot }) ≡ false
 
 -- where this is known, each skippable pass of the level counts no window
-abbrev pub CountNothing : Source → ℕ → List PassTrace → Known → Type 0
+abbrev pub CountNothing : Source → ℕ → List PassTrace → Knowledge → Type 0
 CountNothing source number ps known = (len dot : ℕ)
     → is_skippable ps (record { level = number; len = len; dot = dot }) ≡ true
     → CountsNothing source.minima source.words
@@ -78,17 +78,17 @@ CountNothing source number ps known = (len dot : ℕ)
 -- a point of a level: the engine, the records and the flags
 pub record Point : Type 0 where
   pub engine : Meaning
-  pub records : Recorded
+  pub records : RunRecords
   pub flags : SkipFlags
 
 -- the point with this engine, these records and these flags
-abbrev pub point : Meaning → Recorded → SkipFlags → Point
+abbrev pub point : Meaning → RunRecords → SkipFlags → Point
 point m r flags = record { engine = m; records = r; flags = flags }
 
 -- where a level began: the engine and the records
 pub record LevelStart : Type 0 where
   pub engine : Meaning
-  pub records : Recorded
+  pub records : RunRecords
 
 -- these passes lead from the start of a level to this point at a length
 pub record IsAt (source : Source) (number len : ℕ)
@@ -121,7 +121,7 @@ state_after_level signs families l =
 
 -- a level was done: the engine is as after it, and the records are those of its passes and its own
 pub record DidLevel (source : Source) (l : LevelTrace)
-    (old new : Meaning) (r s : Recorded) : Type 0 where
+    (old new : Meaning) (r s : RunRecords) : Type 0 where
   pub state : state_of new ≡ state_after_level old.signs old.families l
   pub lines : map line_of s.passes
       ≡ map line_of r.passes ++ map (pass_line source) (filter has_candidate l.passes)
@@ -154,7 +154,8 @@ state_after_run signs S families run =
     }
 
 -- a run was done: the engine has the state at its end, and the records are its own
-pub record DidRun (source : Source) (run : Trace) (old new : Meaning) (r : Recorded) : Type 0 where
+pub record DidRun (source : Source) (run : Trace)
+    (old new : Meaning) (r : RunRecords) : Type 0 where
   pub state : state_of new ≡ state_after_run old.signs old.patterns old.families run
   pub lines : map line_of r.passes ≡ flat_map (pass_lines source) run
   pub layouts : map layout_told r.passes ≡ run_layouts old.signs old.families run

@@ -21,14 +21,14 @@ pub record IsSoundLevel (r : LevelRecord) : Type 0 where
   pub after : IsSmall r.after
 
 -- the records of a run so far, how many it chose in this level, and how many passes were begun
-pub record Recorded : Type 0 where
+pub record RunRecords : Type 0 where
   pub passes : List PassRecord
   pub levels : List LevelRecord
   pub chosen : ℕ
   pub begun : ℕ
 
 -- the records with a pass more, which has a record of its own where it has a candidate
-abbrev pub with_pass : Recorded → PassRecord → Recorded
+abbrev pub with_pass : RunRecords → PassRecord → RunRecords
 with_pass r pass = record r {
   passes = if nat_lt 0 pass.candidates then r.passes ++ pass ∷ []
       else r.passes;
@@ -37,7 +37,7 @@ with_pass r pass = record r {
 }
 
 -- the records with the end of a level
-abbrev pub with_level : Recorded → ℕ → Totals → Option Layout → Recorded
+abbrev pub with_level : RunRecords → ℕ → Totals → Option Layout → RunRecords
 with_level r level after layout =
     record r {
       levels = r.levels
@@ -46,7 +46,7 @@ with_level r level after layout =
     }
 
 -- a run that is done: patterns, records, totals, the layout at its start, and the passes begun
-pub record Finished : Type 0 where
+pub record CompletedRun : Type 0 where
   pub patterns : List ((List ℕ × ℕ) × ℕ)
   pub passes : List PassRecord
   pub levels : List LevelRecord

@@ -1,9 +1,9 @@
 -- What a run that is done tells, and what it is to tell by the trace from an engine's patterns.
 use Rattle.std.specs.Prelude.{ℕ, fold, ◌≡◌, List, map, All, Option, None, Some}
 use Rattle.pg_types.specs.Placement.{Families}
-use Rattle.pg_driver.specs.Traces.{Trace, Known, trace, final_patterns, source_of}
+use Rattle.pg_driver.specs.Traces.{Trace, Knowledge, trace, final_patterns, source_of}
 use Rattle.pg_driver.specs.Layouts.{after_level}
-use Rattle.pg_driver.specs.Inside.CellsAccounts.{CellsAccount, cells_account}
+use Rattle.pg_driver.specs.Inside.records.CellsAccounts.{CellsAccount, cells_account}
 use Rattle.std.specs.Option.{option_map}
 use Rattle.pg_types.specs.declared.marks.Layout.{Layout}
 use Rattle.pg_types.specs.Parameters.{Parameters}
@@ -13,13 +13,13 @@ use Rattle.pg_select.specs.Inside.Meanings.{Meaning}
 use Rattle.pg_select.specs.declared.pass.Pass.{Pass}
 use Rattle.pg_driver.specs.declared.records.PassRecord.{PassRecord}
 use Rattle.pg_driver.specs.declared.records.LevelRecord.{LevelRecord}
-use Rattle.pg_driver.specs.Inside.Sound.{Finished}
+use Rattle.pg_driver.specs.Inside.records.Sound.{CompletedRun}
 use Rattle.pg_select.specs.Windows.{Patterns}
 use Rattle.pg_driver.specs.Accounts.{begun_count}
-use Rattle.pg_driver.specs.Inside.AccountLines.{Account, PassLine, LevelLine, account}
+use Rattle.pg_driver.specs.Inside.records.AccountLines.{Account, PassLine, LevelLine, account}
 
 -- what an engine knows
-abbrev pub known_of : Meaning → Known
+abbrev pub known_of : Meaning → Knowledge
 known_of m = record { patterns = m.patterns; hopeless = m.hopeless }
 
 -- the run from the patterns of an engine: its trace
@@ -67,7 +67,7 @@ abbrev pub level_line_of : LevelRecord → LevelLine
 level_line_of r = record { level = r.level; chosen = r.chosen; after = r.after }
 
 -- what a run tells in its records
-abbrev pub account_of : Finished → Account
+abbrev pub account_of : CompletedRun → Account
 account_of r = record {
   passes = map line_of r.passes;
   levels = map level_line_of r.levels;
@@ -84,7 +84,7 @@ abbrev pub level_layout_told : LevelRecord → Option (ℕ × Layout)
 level_layout_told r = option_map (λ l. (r.level, l)) r.layout
 
 -- the layouts that a run tells are those of the account, and none where there is no account
-abbrev pub TellsCells : Option CellsAccount → Finished → Type 0
+abbrev pub TellsCells : Option CellsAccount → CompletedRun → Type 0
 TellsCells (Some a) r = (r.first_layout ≡ Some a.start)
     × (map layout_told r.passes ≡ map Some a.passes)
     × (map level_layout_told r.levels ≡ map Some a.levels)

@@ -9,15 +9,15 @@ use Rattle.pg_dict.specs.Inside.SoundWords.{SignsAtMost}
 use Rattle.pg_select.specs.Inside.Meanings.{Meaning}
 use Rattle.pg_driver.specs.declared.records.PassRecord.{PassRecord}
 use Rattle.pg_select.specs.declared.pass.Pass.{Pass}
-use Rattle.pg_driver.specs.Traces.{Known, Source, PassTrace, known_after, pass_trace}
-use Rattle.pg_driver.specs.Inside.Passes.{known_at_end}
-use Rattle.pg_driver.specs.Inside.AccountLines.{pass_line}
+use Rattle.pg_driver.specs.Traces.{Knowledge, Source, PassTrace, known_after, pass_trace}
+use Rattle.pg_driver.specs.Inside.level.Passes.{known_at_end}
+use Rattle.pg_driver.specs.Inside.records.AccountLines.{pass_line}
 use Rattle.pg_driver.specs.Layouts.{after_pass}
-use Rattle.pg_driver.specs.Inside.RunAccounts.{known_of, line_of, layout_told}
+use Rattle.pg_driver.specs.Inside.records.RunAccounts.{known_of, line_of, layout_told}
 
 -- what an engine knows, and the families of its strings, where they are told
 pub record State : Type 0 where
-  pub known : Known
+  pub known : Knowledge
   pub families : Option Families
 
 -- the state of an engine

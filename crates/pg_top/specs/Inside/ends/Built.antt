@@ -2,9 +2,9 @@
 use Rattle.std.specs.Prelude.{◌≡◌, Result, Ok, Err, IfSome, IfOk, IfErr}
 use Rattle.pg_outside.specs.Content.{FilesShown, file_at}
 use Rattle.pg_top.specs.Counted.{MakesCalls, read_calls}
-use Rattle.pg_top.specs.Inside.PutCounts.{PutsCounted}
-use Rattle.pg_top.specs.Inside.Stops.{OnlyReads, StopsCommand, PutsStop, Finishes}
-use Rattle.pg_top.specs.Inside.WritesMade.{written_names, writing_of}
+use Rattle.pg_top.specs.Inside.writing.PutCounts.{PutsCounted}
+use Rattle.pg_top.specs.Inside.ends.Stops.{OnlyReads, StopsCommand, PutsStop, Finishes}
+use Rattle.pg_top.specs.Inside.writing.WritesMade.{written_names, writing_of}
 use Rattle.pg_top.specs.Moments.{Moment}
 use Rattle.pg_top.specs.Outcomes.{Ends}
 use Rattle.pg_top.specs.Readings.{HeldFiles}
@@ -15,15 +15,15 @@ use Rattle.pg_top.specs.declared.inputs.Stop.{Stop}
 use Rattle.pg_top.specs.declared.writes.Outputs.{Outputs}
 
 -- what a command promises of the files that it read
-abbrev pub Keeps : CommandRule → HeldFiles → Type 0
-Keeps rule files = rule.keeps files (outcome_of files rule)
+abbrev pub KeepsPromise : CommandRule → HeldFiles → Type 0
+KeepsPromise rule files = rule.promise files (outcome_of files rule)
 
 -- the files were read once each, and this is what the command is to write and print
 pub record IsMade (rule : CommandRule) (old new : FilesShown) (made : Outputs) : Type 0 where
-  pub comes : IfSome new.held (λ files. outcome_of (file_at files) rule
+  pub outcome : IfSome new.held (λ files. outcome_of (file_at files) rule
       ≡ Ends Done (writing_of made.files.items) made.lines.items)
   pub named : written_names (writing_of made.files.items) ≡ rule.writes
-  pub keeps : IfSome new.held (λ files. Keeps rule (file_at files))
+  pub promise : IfSome new.held (λ files. KeepsPromise rule (file_at files))
   pub counted : MakesCalls old new (read_calls rule.reads)
 
 -- files were only read, and this was built of them; or the command stopped before it wrote

@@ -5,9 +5,9 @@ use Rattle.pg_select.specs.Inside.Meanings.{Meaning}
 use Rattle.pg_select.specs.CountedPositions.{Candidate}
 use Rattle.pg_driver.specs.declared.choices.Choices.{Choices}
 use Rattle.pg_driver.specs.Traces.{PassTrace}
-use Rattle.pg_driver.specs.Inside.Fates.{chosen_of, hopeless_of}
-use Rattle.pg_driver.specs.Inside.States.{state_of, state_after}
-use Rattle.pg_driver.specs.Inside.RunAccounts.{known_of}
+use Rattle.pg_driver.specs.Inside.choices.Fates.{chosen_of, hopeless_of}
+use Rattle.pg_driver.specs.Inside.level.States.{state_of, state_after}
+use Rattle.pg_driver.specs.Inside.records.RunAccounts.{known_of}
 
 -- an entry of the counts as a candidate
 abbrev pub candidate_of : List ℕ × (ℕ × ℕ) → Candidate

@@ -21,13 +21,13 @@ use Rattle.pg_driver.specs.declared.counting.word_level.WordLevel.{WordLevel}
 use Rattle.pg_driver.specs.declared.counting.above_positions.Kept.{Kept}
 use Rattle.pg_driver.specs.Accounts.{totals_by}
 use Rattle.pg_dots.specs.Inside.Dots.{is_closed, position_count}
-use Rattle.pg_driver.specs.Inside.Counting.{HasRoom, IsBounded, meaning_after_counting}
-use Rattle.pg_driver.specs.Inside.OpenSigns.{IsThere, closed_at_sign, open_word_positions, sign_count}
-use Rattle.pg_driver.specs.Inside.OpenPositions.{IsPlaced}
-use Rattle.pg_driver.specs.Inside.PassWindows.{HaveNumbers, counts_at, is_counted_at}
-use Rattle.pg_driver.specs.Inside.Sound.{IsSmall}
-use Rattle.pg_driver.specs.Traces.{Known, Source}
-use Rattle.pg_driver.specs.Inside.WordLevels.{IsWordsAt, kept_by}
+use Rattle.pg_driver.specs.Inside.counting.Counting.{HasRoom, IsBounded, meaning_after_counting}
+use Rattle.pg_driver.specs.Inside.counting.OpenSigns.{IsThere, closed_at_sign, open_word_positions, sign_count}
+use Rattle.pg_driver.specs.Inside.counting.OpenPositions.{IsPlaced}
+use Rattle.pg_driver.specs.Inside.level.PassWindows.{HaveNumbers, counts_at, is_counted_at}
+use Rattle.pg_driver.specs.Inside.records.Sound.{IsSmall}
+use Rattle.pg_driver.specs.Traces.{Knowledge, Source}
+use Rattle.pg_driver.specs.Inside.counting.WordLevels.{IsWordsAt, kept_by}
 use Rattle.pg_types.specs.Inside.Limits.{sums_limit}
 
 -- a pass was counted: the engine has its windows and is not full, and the totals are those before
@@ -40,7 +40,8 @@ pub record DidCount (source : Source) (pass : Pass)
   pub small : IsSmall before
 
 -- the dots are closed as they are at a length of a level, and the totals are those by the patterns
-pub record IsOpenAt (source : Source) (level len : ℕ) (known : Known) (o : OpenLevel) : Type 0 where
+pub record IsOpenAt (source : Source) (level len : ℕ)
+    (known : Knowledge) (o : OpenLevel) : Type 0 where
   pub bounded : IsBounded source
   pub size : sign_count source.words ≤ position_count o.dots
   pub dots : IsThere level len source.minima source.words known.patterns known.hopeless
@@ -48,7 +49,7 @@ pub record IsOpenAt (source : Source) (level len : ℕ) (known : Known) (o : Ope
   pub totals : o.totals ≡ totals_by source known.patterns
 
 -- a way to count is ready for the passes of a length
-abbrev pub IsReady : Source → ℕ → ℕ → Known → Counting → Type 0
+abbrev pub IsReady : Source → ℕ → ℕ → Knowledge → Counting → Type 0
 IsReady source level len known (Open o) = IsOpenAt source level len known o
 IsReady source level len known (EachWord e) = IsWordsAt source level known e
 

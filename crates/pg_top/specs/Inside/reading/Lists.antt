@@ -6,7 +6,7 @@ use Rattle.pg_dict.specs.Words.{words}
 use Rattle.pg_patterns.specs.Starts.{start}
 use Rattle.pg_select.specs.Windows.{Patterns}
 use Rattle.pg_top.specs.Readings.{HeldFiles, Reading, patterns_file, words_file}
-use Rattle.pg_top.specs.Inside.ReadAs.{read_as}
+use Rattle.pg_top.specs.Inside.reading.ReadAs.{read_as}
 
 -- the files of these names in their order, under the table of the translate file
 abbrev pub lists_under : List ℕ → List ℕ → List ℕ → List Reading

@@ -1,0 +1,3 @@
+-- How the candidates of a pass are chosen, and what becomes of them.
+pub mod Choosing
+pub mod Fates

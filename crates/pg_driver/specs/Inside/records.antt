@@ -1,0 +1,5 @@
+-- What a run records, and what its records tell.
+pub mod AccountLines
+pub mod CellsAccounts
+pub mod RunAccounts
+pub mod Sound

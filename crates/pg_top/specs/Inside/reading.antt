@@ -1,0 +1,6 @@
+-- How the files of a command are read.
+pub mod ReadAs
+pub mod ReadCalls
+pub mod ReadsMade
+pub mod UnderTable
+pub mod Lists

@@ -1,0 +1,5 @@
+-- What is told of a selection and its run.
+pub mod SelectionSigns
+pub mod SelectionAccounts
+pub mod SelectedRuns
+pub mod Runs
