@@ -35,7 +35,8 @@ module _ (h g : ValuedFamilies (Option Tally)) (windows : Windows) (len : ℕ) (
   pub counted_again : counting_of g windows len ≡ counting_with (counting_of h windows len) u good weight
   counted_again =
       (λ i. record { signs = signs i; len = len; counted = record { counts = again_counts i; windows = windows } })
-      ∙ ap (λ b. record { signs = h.signs; len = len; counted = record { counts = with_count (counts h windows len are) u good weight; windows = cond b windows (windows ++ u ∷ []) } }) (sym (ap is_some found))
+      ∙ ap (λ b. record { signs = h.signs; len = len; counted = record { counts = with_count (counts h windows len are) u good weight; windows = cond b windows (windows ++ u ∷ []) } })
+      (sym (ap is_some found))
 
 -- a window that is not counted gets the next number
 module _ (h g : ValuedFamilies (Option Tally)) (windows more : Windows) (len : ℕ) (are : AreLeaves h windows len) (new : AreLeaves g more len) (u : List ℕ) (sums : ℕ × ℕ) (good : Bool) (weight : ℕ)
@@ -64,4 +65,5 @@ module _ (h g : ValuedFamilies (Option Tally)) (windows more : Windows) (len : �
   pub counted_new : counting_of g more len ≡ counting_with (counting_of h windows len) u good weight
   counted_new =
       (λ i. record { signs = signs i; len = len; counted = record { counts = new_counts i; windows = pushed i } })
-      ∙ ap (λ b. record { signs = h.signs; len = len; counted = record { counts = with_count (counts h windows len are) u good weight; windows = cond b windows (windows ++ u ∷ []) } }) (sym (ap is_some absent))
+      ∙ ap (λ b. record { signs = h.signs; len = len; counted = record { counts = with_count (counts h windows len are) u good weight; windows = cond b windows (windows ++ u ∷ []) } })
+      (sym (ap is_some absent))

@@ -30,7 +30,8 @@ in_turn windows (e ∷ es) h there =
     by None is rest = rest
     by (Some t) is rest = λ i. there e.0 t (first_at e es ∙ ap Some is) i ∷ rest i
 
-pub ordered_numbers : (h : ValuedFamilies (Option Tally)) (windows : Windows) (len : ℕ) → AreLeaves h windows len → AreInOrder windows (counting_of h windows len).counted.counts (numbers_under [] h.values)
+pub ordered_numbers : (h : ValuedFamilies (Option Tally)) (windows : Windows) (len : ℕ) → AreLeaves h windows len
+    → AreInOrder windows (counting_of h windows len).counted.counts (numbers_under [] h.values)
 ordered_numbers h windows len are =
     ap (map (slice_get windows)) (under_all h are.held)
     ∙ in_turn windows h.values are.held.ordered (λ q t at. (let f = are.front q t at in f.1 ∙ ap Some (sym (window_of windows (q ++ f.0) t.0 f.1))))
