@@ -59,7 +59,7 @@ pub returns-in_err-number-in-None-clause-there : goal.returns-in_err-number-in-N
 returns-in_err-number-in-None-clause-there c = λ counted.
     let u = c.args.window.now in
     let t = counted_back c.self.inside.cells c.self.inside.windows.items c.self.inside.windows.len c.self.invariant.leaves u
-        (ap (λ (d : Counting). is_counted d.counted.counts u) c.self.view_is ∙ counted) in
+    (ap (λ (d : Counting). is_counted d.counted.counts u) c.self.view_is ∙ counted) in
     absurd (c.in-None.ensures.none refl t.0.0 t.1.1)
 
 pub returns-in_err-number-in-None-clause-err : goal.returns-in_err-number-in-None-clause-err
