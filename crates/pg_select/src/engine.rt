@@ -54,7 +54,7 @@ pub trait Engine {
         ensures { CountsWindow result
             (meaning self.old) (meaning self.new) window.now good weight };
 
-    /// Counts as `count` does, and gives the window's number: its place, from 0, among the windows
+    /// Counts as `count` does, and gives the window's number: its index, from 0, among the windows
     /// of the pass in the order in which they were first counted.
     fn count_numbered(
         &mut self,

@@ -27,7 +27,7 @@ cut_from t place (suc more) column text = option_map_or
     (λ item. with_item column item.0 (cut_from t place more (column + item.1) (drop item.1 text)))
     (item_at t place text) (record { items = []; column = column; rest = text })
 
--- the longest cut of a line, which has no more items than bytes
+-- the longest cut of a line, by the law `cut_is_longest`; a cut has no more items than bytes
 abbrev pub cut : Alphabet → Place → List ℕ → Cut
 cut t place line = cut_from t place (length line) 1 line
 

@@ -67,7 +67,7 @@ impl PatternTrie {
         })
     }
 
-    /// Raises the value at the dot of a string, or marks it hopeless for the value
+    /// Raises the value at the dot of a string, or makes it hopeless for the value
     /// [`HOPELESS`](crate::HOPELESS).
     ///
     /// Refused: the maps are as before; some of the string's signs may have cells, and there may be
