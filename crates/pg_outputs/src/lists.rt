@@ -4,7 +4,7 @@ ghost use Rattle.indexmap.specs.IndexSet.{index_set_len, insert_key, insert_inde
 ghost use Rattle.pg_outputs.specs.Lists.{list_of};
 ghost use Rattle.pg_outputs.specs.Inside.Heads.{Grows, OneHeadEach, IsRecordOf, Lacks};
 ghost use Rattle.pg_outputs.specs.Inside.Records.{AreShared};
-ghost use Rattle.pg_outputs.specs.declared.lists.TheConstants.{PLACES};
+ghost use Rattle.pg_outputs.specs.declared.lists.TheConstants.{SLOTS};
 
 use crate::records::Record;
 use indexmap::IndexSet;
@@ -18,7 +18,7 @@ const DOTS: usize = 16;
 const ROWS: usize = 16;
 
 /// The number of latest records that are remembered.
-const PLACES: usize = DOTS * ROWS;
+const SLOTS: usize = DOTS * ROWS;
 
 /// Lists of (value, dot) that share their ends. Head 0 is the empty list, and head `h` is the
 /// record at index `h - 1`.
@@ -30,7 +30,7 @@ const PLACES: usize = DOTS * ROWS;
 #[derive(Drop)]
 pub struct Outputs {
     records: IndexSet<Record>,
-    latest: [usize; PLACES],
+    latest: [usize; SLOTS],
 }
 
 impl Model for Outputs {
@@ -53,7 +53,7 @@ impl Outputs {
     {
         Outputs {
             records: IndexSet::new(alloc),
-            latest: [0; PLACES],
+            latest: [0; SLOTS],
         }
     }
 
@@ -81,13 +81,13 @@ impl Outputs {
         ensures err { OnErr result (self.new ≡ self.old) }
     {
         let record = Record { value, dot, next };
-        let place = place_of(&record);
-        let latest = self.latest[place];
+        let slot = slot_of(&record);
+        let latest = self.latest[slot];
         if has_at(&self.records, latest, &record) {
             return Ok(head_at(&self.records, latest));
         }
         let index = insert(&mut self.records, record)?;
-        self.latest[place] = index;
+        self.latest[slot] = index;
         Ok(head_at(&self.records, index))
     }
 
@@ -134,9 +134,9 @@ fn insert(records: &mut IndexSet<Record>, wanted: Record) -> Result<usize, Alloc
     Ok(index)
 }
 
-// The place at which the index of the latest record like this one is kept.
-fn place_of(record: &Record) -> usize
-    ensures { result < PLACES }
+// The slot that keeps the index of the latest record like this one.
+fn slot_of(record: &Record) -> usize
+    ensures { result < SLOTS }
 {
     let row = (usize::from(record.value) + record.next as usize % ROWS) % ROWS;
     row * DOTS + usize::from(record.dot) % DOTS
