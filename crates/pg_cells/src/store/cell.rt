@@ -8,26 +8,27 @@ use pg_types::Sign;
 /// How many numbers fit where a cell keeps a sign: each sign, and 0 for none.
 pub const SIGN_COUNT: u32 = 1 << 11;
 
-/// Where the sign stands in the first word. Below it is one bit, which says that the cell is taken.
+/// In `signs` the sign stands from this bit on. The bit below says whether the cell is taken.
 pub const SIGN_AT: u32 = 1 << 1;
 
-/// Where the next sign stands in the first word.
+/// In `signs` the next sign of the family stands from this bit on.
 pub const NEXT_AT: u32 = 1 << 12;
 
-/// Where the lower part of the first sign stands in the first word.
+/// In `signs` the lower part of the first sign stands from this bit on.
 pub const FIRST_AT: u32 = 1 << 23;
 
-/// How many numbers fit the lower part of the first sign.
+/// How many numbers fit where the lower part of the first sign stands.
 pub const FIRST_COUNT: u32 = 1 << 9;
 
-/// Where it stands in the second word whether the index is a base. Below it is the upper part of
-/// the first sign.
+/// In `links` this bit says whether the index is a base. The bits below are the upper part of the
+/// first sign.
 pub const BASE_AT: u32 = 1 << 2;
 
-/// Where the link stands in the second word.
+/// In `links` the link stands from this bit on.
 pub const LINK_AT: u32 = 1 << 3;
 
-/// A cell. Its parts beside the value are packed into two words, so that many cells fit a cache.
+/// A cell. Its parts beside the value are packed into two numbers of 32 bits, so that many cells fit
+/// a cache.
 ///
 /// A free cell has no next and no first sign. The number of the free cell before it stands there.
 #[derive(Clone, Copy)]
@@ -44,7 +45,7 @@ pub struct Cell<V> {
     pub links: u32,
 }
 
-// The part of the first word above the sign.
+// The part of `signs` above the sign.
 fn upper_signs(next: Sign, first: Sign) -> u32
     requires { next < 2 ^ 11 }
     ensures { result ≡ next * NEXT_AT + first % FIRST_COUNT * FIRST_AT }
@@ -52,7 +53,7 @@ fn upper_signs(next: Sign, first: Sign) -> u32
     next as u32 * NEXT_AT + first as u32 % FIRST_COUNT * FIRST_AT
 }
 
-// The second word when the index becomes a base, or no base any more.
+// `links` when the index becomes a base, or no base any more.
 fn links_with_base(links: u32, is_base: bool) -> u32
     ensures base { base_in result ≡ is_base }
     ensures link { link_in result ≡ link_in links }
@@ -62,6 +63,7 @@ fn links_with_base(links: u32, is_base: bool) -> u32
     if is_base { others + BASE_AT } else { others }
 }
 
+/// The sign of a cell, 0 in a free one.
 pub fn sign_of<V: Copy>(cells: &[Cell<V>], cell: usize) -> u16
     requires { cell < length cells.now }
     ensures { result ≡ sign_at (lists cells.now).row cell }
@@ -74,8 +76,8 @@ pub fn sign_of<V: Copy>(cells: &[Cell<V>], cell: usize) -> u16
     }
 }
 
-/// Whether the cell has the sign. A walk asks this at each step, so no part is taken out of the
-/// word: its lower bits are compared as they are.
+/// Whether the cell has the sign. A walk asks this at each step, so no part is taken out of
+/// `signs`: its lower bits are compared as they are.
 pub fn has_sign<V: Copy>(cells: &[Cell<V>], cell: usize, sign: u16) -> bool
     requires cell { cell < length cells.now }
     requires sign { sign ≢ 0 }
@@ -84,6 +86,7 @@ pub fn has_sign<V: Copy>(cells: &[Cell<V>], cell: usize, sign: u16) -> bool
     cells[cell].signs % NEXT_AT == 1 + sign as u32 * SIGN_AT
 }
 
+/// Whether the index of a cell is the base of a family.
 pub fn is_base_of<V: Copy>(cells: &[Cell<V>], cell: usize) -> bool
     requires { cell < length cells.now }
     ensures { result ≡ base_at (lists cells.now).row cell }
@@ -91,6 +94,7 @@ pub fn is_base_of<V: Copy>(cells: &[Cell<V>], cell: usize) -> bool
     cells[cell].links / BASE_AT % 2 == 1
 }
 
+/// The value of a taken cell, with the next sign of its family and the first sign below its string.
 pub fn value_of<V: Copy>(cells: &[Cell<V>], cell: usize) -> Member<V>
     requires cell { cell < length cells.now }
     requires taken { sign_at (lists cells.now).row cell ≢ 0 }
@@ -105,6 +109,7 @@ pub fn value_of<V: Copy>(cells: &[Cell<V>], cell: usize) -> Member<V>
     }
 }
 
+/// The base of the child family of a taken cell, 0 for none.
 pub fn child_of<V: Copy>(cells: &[Cell<V>], cell: usize) -> usize
     requires cell { cell < length cells.now }
     requires taken { sign_at (lists cells.now).row cell ≢ 0 }
@@ -113,6 +118,7 @@ pub fn child_of<V: Copy>(cells: &[Cell<V>], cell: usize) -> usize
     (cells[cell].links / LINK_AT) as usize
 }
 
+/// The free cell before a free cell.
 pub fn before_of<V: Copy>(cells: &[Cell<V>], cell: usize) -> usize
     requires cell { cell < length cells.now }
     requires free { IsFree (lists cells.now).row cell }
@@ -121,6 +127,8 @@ pub fn before_of<V: Copy>(cells: &[Cell<V>], cell: usize) -> usize
     (cells[cell].signs / SIGN_AT) as usize
 }
 
+/// The free cell after a free cell, 0 for none. In a taken cell the base of its child family stands
+/// there.
 pub fn after_of<V: Copy>(cells: &[Cell<V>], cell: usize) -> usize
     requires { cell < length cells.now }
     ensures { result ≡ after_at (lists cells.now) cell }
@@ -128,6 +136,7 @@ pub fn after_of<V: Copy>(cells: &[Cell<V>], cell: usize) -> usize
     (cells[cell].links / LINK_AT) as usize
 }
 
+/// Sets the free cell before a free cell.
 pub fn set_before<V: Copy>(cells: &mut [Cell<V>], cell: usize, before: usize)
     requires cell { cell < length cells.old }
     requires free { IsFree (lists cells.old).row cell }
@@ -137,6 +146,7 @@ pub fn set_before<V: Copy>(cells: &mut [Cell<V>], cell: usize, before: usize)
     cells[cell].signs = before as u32 * SIGN_AT;
 }
 
+/// Sets the free cell after a free cell, 0 for none.
 pub fn set_after<V: Copy>(cells: &mut [Cell<V>], cell: usize, after: usize)
     requires cell { cell < length cells.old }
     requires free { IsFree (lists cells.old).row cell }
@@ -147,6 +157,7 @@ pub fn set_after<V: Copy>(cells: &mut [Cell<V>], cell: usize, after: usize)
     free.links = after as u32 * LINK_AT + free.links % LINK_AT;
 }
 
+/// Sets the base of the child family of a taken cell, 0 for none.
 pub fn set_child<V: Copy>(cells: &mut [Cell<V>], cell: usize, child: usize)
     requires cell { cell < length cells.old }
     requires taken { sign_at (lists cells.old).row cell ≢ 0 }
@@ -160,6 +171,7 @@ pub fn set_child<V: Copy>(cells: &mut [Cell<V>], cell: usize, child: usize)
     taken.links = child as u32 * LINK_AT + taken.links % LINK_AT;
 }
 
+/// Sets the value of a taken cell, with the next and the first sign.
 pub fn set_value<V: Copy>(cells: &mut [Cell<V>], cell: usize, value: Member<V>)
     requires cell { cell < length cells.old }
     requires taken { sign_at (lists cells.old).row cell ≢ 0 }
@@ -175,6 +187,7 @@ pub fn set_value<V: Copy>(cells: &mut [Cell<V>], cell: usize, value: Member<V>)
     taken.links = taken.links / BASE_AT * BASE_AT + value.first as u32 / FIRST_COUNT;
 }
 
+/// Sets whether the index of a cell is the base of a family.
 pub fn set_base<V: Copy>(cells: &mut [Cell<V>], cell: usize, is_base: bool)
     requires { cell < length cells.old }
     ensures { lists cells.new
@@ -184,6 +197,8 @@ pub fn set_base<V: Copy>(cells: &mut [Cell<V>], cell: usize, is_base: bool)
     held.links = links_with_base(held.links, is_base);
 }
 
+/// Takes a cell for a sign, with its value and the base of its child family, 0 for none. Whether its
+/// index is a base stays as it is.
 pub fn set_taken<V: Copy>(
     cells: &mut [Cell<V>],
     cell: usize,
@@ -210,6 +225,8 @@ pub fn set_taken<V: Copy>(
         + value.first as u32 / FIRST_COUNT;
 }
 
+/// Gives a cell up, which stands between the free cells `before` and `after` then. Whether its index
+/// is a base stays as it is.
 pub fn set_free<V: Copy>(cells: &mut [Cell<V>], cell: usize, before: usize, after: usize)
     requires cell { cell < length cells.old }
     requires before { before < 2 ^ 29 }

@@ -19,7 +19,7 @@ pub struct Slot<V> {
     pub sign: u16,
 }
 
-// The sign of a cell, 0 in a free one and past the end.
+/// The sign of a cell, 0 in a free one and past the end.
 pub fn sign_or_free<V: Copy>(cells: &[Cell<V>], cell: usize) -> u16
     ensures { result ≡ sign_at (lists cells.now).row cell }
 {
@@ -30,7 +30,7 @@ pub fn sign_or_free<V: Copy>(cells: &[Cell<V>], cell: usize) -> u16
     }
 }
 
-// Whether a cell has a sign. None past the end has it.
+/// Whether a cell has a sign. None past the end has it.
 pub fn has_sign_there<V: Copy>(cells: &[Cell<V>], cell: usize, sign: u16) -> bool
     requires { sign ≢ 0 }
     ensures { result ≡ nat_eq (sign_at (lists cells.now).row cell) sign }

@@ -17,23 +17,23 @@ pub record Lists (V : Type 0) : Type 0 where
   pub befores : List ℕ
   pub afters : List ℕ
 
--- the sign in the first word of a cell; 0 in that of a free cell
+-- the sign in `signs` of a cell; 0 in a free cell
 abbrev pub sign_in : ℕ → ℕ
 sign_in signs = if nat_eq (signs % SIGN_AT) 0 then 0 else signs / SIGN_AT % SIGN_COUNT
 
--- the next sign in the first word of a taken cell
+-- the next sign in `signs` of a taken cell
 abbrev pub next_in : ℕ → ℕ
 next_in signs = signs / NEXT_AT % SIGN_COUNT
 
--- the first sign in the two words of a taken cell
+-- the first sign in `signs` and `links` of a taken cell
 abbrev pub first_in : ℕ → ℕ → ℕ
 first_in signs links = links % BASE_AT * FIRST_COUNT + signs / FIRST_AT % FIRST_COUNT
 
--- whether the second word of a cell says that its index is a base
+-- whether `links` of a cell says that its index is a base
 abbrev pub base_in : ℕ → Bool
 base_in links = nat_eq (links / BASE_AT % 2) 1
 
--- the link in the second word of a cell
+-- the link in `links` of a cell
 abbrev pub link_in : ℕ → ℕ
 link_in links = links / LINK_AT
 
