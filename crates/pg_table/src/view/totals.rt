@@ -1,5 +1,6 @@
 //! The totals of a word list by a packed table.
-ghost use Rattle.std.specs.Prelude.{◌≡◌, ◌<◌, ◌^◌};
+ghost use Rattle.std.specs.Prelude.{◌≡◌, ◌<◌};
+ghost use Rattle.pg_types.specs.Inside.Limits.{sums_limit};
 ghost use Rattle.pg_dict.specs.Inside.SoundWords.{SignsAtMost};
 ghost use Rattle.pg_table.specs.Forms.{head_of};
 ghost use Rattle.pg_table.specs.Lookups.{table_totals};
@@ -18,7 +19,7 @@ use pg_types::Totals;
 pub fn table_totals(view: &TableView<'_>, dictionary: &Dictionary, table: &Table) -> Totals
     requires { SignsAtMost (head_of view.now).signs dictionary.now }
     ensures value { result ≡ table_totals (minima_of table.now) dictionary.now view.now }
-    ensures small { sum_of result < 2 ^ 40 }
+    ensures small { sum_of result < sums_limit }
 {
     let mut found = WordState::new();
     let mut sums = no_totals();
