@@ -50,7 +50,8 @@ fn push_line(bytes: &mut Vec<u8>, text: &str) -> io::Result<()> {
     Ok(())
 }
 
-/// The byte of an escape, of which this stands behind its backslash, and how many bytes it has there.
+/// The byte of an escape, of which this stands behind its backslash, and how many bytes it has
+/// there.
 fn escaped(rest: &str) -> Option<(u8, usize)> {
     match rest.as_bytes().first()? {
         b'r' => Some((b'\r', 1)),

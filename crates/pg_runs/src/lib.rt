@@ -3,8 +3,8 @@
 //! program over files that never fail; calls over a disk that stops or fails at each of its calls
 //! in turn; and the statuses of the program. All other calls are rows of patgen_rows.
 //!
-//! What files and sinks do whose calls fail, and the calls of the crates below the engines, are tried
-//! in pg_calls.
+//! What files and sinks do whose calls fail, and the calls of the crates below the engines, are
+//! tried in pg_calls.
 #![tactic(auto)]
 
 #[cfg(test)]

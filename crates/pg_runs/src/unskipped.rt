@@ -33,8 +33,8 @@ fn with_candidates(alloc: Global, passes: &[PassRecord]) -> Result<Vec<PassRecor
     Ok(found)
 }
 
-/// Compares the levels, the totals and the number of passes begun with those of the run that skips no
-/// pass. Fewer passes are needed than it has.
+/// Compares the levels, the totals and the number of passes begun with those of the run that skips
+/// no pass. Fewer passes are needed than it has.
 fn compare_counts(rt: &impl Abort, run: &Run, plain: &PlainRun) {
     let needed = plain.needed();
     assert_eq!(rt; run.levels(), plain.levels.as_slice());

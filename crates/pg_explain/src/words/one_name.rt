@@ -3,8 +3,8 @@
 use crate::words::forms::{Behind, Command, Slot, is_option};
 use crate::words::mistake::{Mistake, about_words};
 
-/// How the word with this index is called, and whether it names a file that is written; none where it is
-/// no name of a file.
+/// How the word with this index is called, and whether it names a file that is written; none where
+/// it is no name of a file.
 fn name_at<'a>(command: &Command, words: &'a [String], index: usize) -> Option<(&'a str, bool)> {
     match (command.slots.get(index), command.behind) {
         (Some(Slot::Input(name)), _) => Some((name, false)),
@@ -22,7 +22,8 @@ fn name_at<'a>(command: &Command, words: &'a [String], index: usize) -> Option<(
     }
 }
 
-/// What is said of two files that have one name, the first of which is written. They are called so.
+/// What is said where two files have one name and the first is written. `first` and `second` are how
+/// the command calls them, as OUT.
 fn of_one_name<'a>(first: &'a str, second: &'a str, name: &'a str) -> Mistake<'a> {
     let sentence = "$0: $1 and $2 are one name, $3, and what is written has one of its own";
     about_words(sentence, first, second, name)
