@@ -9,8 +9,8 @@ use Rattle.pg_table.specs.declared.limits.TheConstants.{CELL_LEN, HEAD_LEN, RECO
 use Rattle.pg_table.specs.Numbers.{u16_at, u32_at}
 
 -- the bytes that every file begins with, `PGT1`
-abbrev pub file_mark : List ℕ
-file_mark = 80 ∷ 71 ∷ 84 ∷ 49 ∷ []
+abbrev pub signature : List ℕ
+signature = 80 ∷ 71 ∷ 84 ∷ 49 ∷ []
 
 -- the greatest sign, the number of cells and the number of records, as the head has them
 abbrev pub head_of : List ℕ → Head
@@ -32,7 +32,7 @@ records_of b = map (record_at b) (range_with_len 0 (head_of b).records)
 
 -- a file begins as it should, and its head's numbers are in range and agree with its length
 abbrev pub has_head : List ℕ → Bool
-has_head b = let h = head_of b in starts_with nat_eq b file_mark && (nat_eq (length b)
+has_head b = let h = head_of b in starts_with nat_eq b signature && (nat_eq (length b)
     (HEAD_LEN + CELL_LEN * h.cells + RECORD_LEN * h.records) && nat_le (length b) TABLE_MAX
     && nat_le 1 h.signs && nat_le h.signs SIGNS_MAX && nat_lt h.signs h.cells)
 

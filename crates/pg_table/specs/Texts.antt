@@ -9,7 +9,7 @@ use Rattle.pg_patterns.specs.Texts.{strings_of}
 use Rattle.pg_outputs.specs.declared.records.Record.{Record}
 use Rattle.pg_table.specs.declared.parts.cell.Cell.{Cell}
 use Rattle.pg_table.specs.Numbers.{u16_bytes, u32_bytes}
-use Rattle.pg_table.specs.Forms.{file_mark}
+use Rattle.pg_table.specs.Forms.{signature}
 
 -- lists, with one more behind them where it is not among them
 abbrev pub with_list : List (List (ℕ × ℕ)) → List (ℕ × ℕ) → List (List (ℕ × ℕ))
@@ -56,5 +56,5 @@ unfoldable pub table_text : ℕ → List ((List ℕ × ℕ) × ℕ) → List ℕ
 table_text n P = let fs = entered_families n (map (λ e. e.0.0) P) in let lists = recorded_lists P in
     let cells = map (cell_of_table fs (head_in P)) (range_with_len 0 (top fs + 1)) in
     let records = map (record_of lists) lists in
-    file_mark ++ u32_bytes n ++ u32_bytes (length cells) ++ u32_bytes (length records)
+    signature ++ u32_bytes n ++ u32_bytes (length cells) ++ u32_bytes (length records)
     ++ flat_map cell_bytes cells ++ flat_map record_bytes records

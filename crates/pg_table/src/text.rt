@@ -18,7 +18,7 @@ mod row;
 use crate::error::TableError;
 use crate::limits::{CELL_LEN, HEAD_LEN, RECORD_LEN, TABLE_MAX};
 use crate::parts::cell::Cell;
-use crate::parts::head::FILE_MARK;
+use crate::parts::head::SIGNATURE;
 use crate::parts::numbers::{push_u16, push_u32};
 use crate::text::entering::{Packed, enter_all};
 use crate::text::row::table_cells;
@@ -97,7 +97,7 @@ fn file_of(
     let records = outputs.len();
     let size = HEAD_LEN + CELL_LEN * cells.len() + RECORD_LEN * records as usize;
     let mut text = Vec::with_capacity(alloc, size)?;
-    text.extend_from_slice(FILE_MARK)?;
+    text.extend_from_slice(SIGNATURE)?;
     push_u32(&mut text, u32::from(signs))?;
     push_u32(&mut text, cells.len() as u32)?;
     push_u32(&mut text, records as u32)?;

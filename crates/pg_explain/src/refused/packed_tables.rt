@@ -1,5 +1,5 @@
-//! Refused packed tables: which of their rules they break. The lengths and the mark of a file are
-//! those of pg_table, on which this crate does not stand.
+//! Refused packed tables: which of their rules they break. The lengths and the signature of a file
+//! are those of pg_table, on which this crate does not stand.
 
 use crate::chars::{behind, up_to};
 use crate::wrong::Refused;
@@ -9,7 +9,7 @@ use pg_visible::Text;
 use std::alloc::AllocError;
 
 /// The bytes that a packed table begins with.
-const FILE_MARK: &[u8] = b"PGT1";
+const SIGNATURE: &[u8] = b"PGT1";
 
 /// How many bytes the head has.
 const HEAD_LEN: usize = 16;
@@ -151,7 +151,7 @@ fn broken_rule(head: &Head, bytes: &[u8]) -> Breach {
 fn head_breach(bytes: &[u8]) -> Option<&'static str> {
     if bytes.is_empty() {
         Some("$0 is no packed table: it is empty")
-    } else if !bytes.starts_with(FILE_MARK) {
+    } else if !bytes.starts_with(SIGNATURE) {
         Some("$0 is no packed table: it does not begin with PGT1, as a file of pack does")
     } else if bytes.len() < HEAD_LEN {
         Some("$0 is no packed table: it ends inside its head of $1 bytes")

@@ -7,7 +7,7 @@ use Rattle.pg_outputs.specs.declared.records.Record.{Record}
 use Rattle.pg_table.specs.declared.parts.cell.Cell.{Cell}
 use Rattle.pg_table.specs.declared.parts.head.Head.{Head}
 use Rattle.pg_table.specs.declared.limits.TheConstants.{TABLE_MAX}
-use Rattle.pg_table.specs.Forms.{file_mark, head_of, cell_at, record_at, has_head, is_sound_cell, is_sound_record, is_well_formed}
+use Rattle.pg_table.specs.Forms.{signature, head_of, cell_at, record_at, has_head, is_sound_cell, is_sound_record, is_well_formed}
 use Rattle.pg_table.specs.Inside.Extents.{read_record, record_start, file_len, fits_head}
 use Rattle.pg_table.proofs.parts.Ranges.{range_passes, range_tells}
 
@@ -32,7 +32,7 @@ pub record IsSoundRecord (i : ℕ) (r : Record) : Type 0 where
   pub back : r.next ≤ i
 
 pub record IsWellFormed (b : List ℕ) : Type 0 where
-  pub mark : starts_with nat_eq b file_mark ≡ true
+  pub mark : starts_with nat_eq b signature ≡ true
   pub head : FitsHead (head_of b) (length b)
   pub cells : (at : ℕ) → at < (head_of b).cells → IsSoundCell (head_of b) at (cell_at b at)
   pub records : (i : ℕ) → i < (head_of b).records → IsSoundRecord i (record_at b i)
@@ -127,7 +127,7 @@ form_told b is =
     let records = list_all (λ i. is_sound_record i (record_at b i)) (range_with_len 0 (head_of b).records) in
     let a = and_parts (has_head b && cells) records is in
     let d = and_parts (has_head b) cells a.0 in
-    let e = and_parts (starts_with nat_eq b file_mark) (fits_head (head_of b) (length b)) d.0 in
+    let e = and_parts (starts_with nat_eq b signature) (fits_head (head_of b) (length b)) d.0 in
     record {
       mark = e.0;
       head = fits_told (head_of b) (length b) e.1;
@@ -142,7 +142,7 @@ form_from b is =
     let records = list_all (λ i. is_sound_record i (record_at b i)) (range_with_len 0 (head_of b).records) in
     and_from (has_head b && cells) records
     (and_from (has_head b) cells
-    (and_from (starts_with nat_eq b file_mark) (fits_head (head_of b) (length b)) is.mark (fits_from (head_of b) (length b) is.head))
+    (and_from (starts_with nat_eq b signature) (fits_head (head_of b) (length b)) is.mark (fits_from (head_of b) (length b) is.head))
     (range_passes (λ k. is_sound_cell (head_of b) k (cell_at b k)) 0 (head_of b).cells (λ i low inside. cell_from (head_of b) i (cell_at b i) (is.cells i (omega arith)))))
     (range_passes (λ k. is_sound_record k (record_at b k)) 0 (head_of b).records (λ i low inside. record_from i (record_at b i) (is.records i (omega arith))))
 

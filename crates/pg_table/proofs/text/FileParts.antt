@@ -9,7 +9,7 @@ use Rattle.pg_table.specs.declared.parts.cell.Cell.{Cell}
 use Rattle.pg_table.specs.declared.parts.head.Head.{Head}
 use Rattle.pg_table.specs.declared.limits.TheConstants.{TABLE_MAX}
 use Rattle.pg_table.specs.Numbers.{u16_at, u32_at, u16_bytes, u32_bytes}
-use Rattle.pg_table.specs.Forms.{file_mark, head_of, cell_at, record_at, records_of}
+use Rattle.pg_table.specs.Forms.{signature, head_of, cell_at, record_at, records_of}
 use Rattle.pg_table.specs.Inside.Extents.{cell_start, record_start, read_record, file_len}
 use Rattle.pg_table.specs.Texts.{cell_bytes, record_bytes}
 use Rattle.pg_table.specs.Inside.text.Files.{file_of}
@@ -36,15 +36,15 @@ head_with n cells records = record { signs = n; cells = length cells; records = 
 
 -- the bytes before the cells
 abbrev front : ℕ → List Cell → List Record → List ℕ
-front n cells records = file_mark ++ u32_bytes n ++ u32_bytes (length cells) ++ u32_bytes (length records)
+front n cells records = signature ++ u32_bytes n ++ u32_bytes (length cells) ++ u32_bytes (length records)
 
 length-front : (n : ℕ) (cells : List Cell) (records : List Record) → length (front n cells records) ≡ 16
 length-front n cells records =
     omega (
       arith,
-      length-append (file_mark ++ u32_bytes n ++ u32_bytes (length cells)) (u32_bytes (length records)),
-      length-append (file_mark ++ u32_bytes n) (u32_bytes (length cells)),
-      length-append file_mark (u32_bytes n),
+      length-append (signature ++ u32_bytes n ++ u32_bytes (length cells)) (u32_bytes (length records)),
+      length-append (signature ++ u32_bytes n) (u32_bytes (length cells)),
+      length-append signature (u32_bytes n),
       length-u32_bytes n,
       length-u32_bytes (length cells),
       length-u32_bytes (length records),
@@ -61,7 +61,7 @@ length-file_of n cells records =
       length-parts record_bytes 6 length-record_bytes records,
     )
 
-pub has_mark : (n : ℕ) (cells : List Cell) (records : List Record) → starts_with nat_eq (file_of n cells records) file_mark ≡ true
+pub has_mark : (n : ℕ) (cells : List Cell) (records : List Record) → starts_with nat_eq (file_of n cells records) signature ≡ true
 has_mark n cells records = refl
 
 -- the numbers of a file are below 2^32
@@ -83,21 +83,21 @@ module _ (n : ℕ) (cells : List Cell) (records : List Record) (small : AreSmall
   in_front : HasPart b 0 (front n cells records)
   in_front = part_first b 0 (front n cells records) (flat_map cell_bytes cells) (part_first b 0 (front n cells records ++ flat_map cell_bytes cells) (flat_map record_bytes records) whole)
 
-  three : HasPart b 0 (file_mark ++ u32_bytes n ++ u32_bytes (length cells))
-  three = part_first b 0 (file_mark ++ u32_bytes n ++ u32_bytes (length cells)) (u32_bytes (length records)) in_front
+  three : HasPart b 0 (signature ++ u32_bytes n ++ u32_bytes (length cells))
+  three = part_first b 0 (signature ++ u32_bytes n ++ u32_bytes (length cells)) (u32_bytes (length records)) in_front
 
-  two : HasPart b 0 (file_mark ++ u32_bytes n)
-  two = part_first b 0 (file_mark ++ u32_bytes n) (u32_bytes (length cells)) three
+  two : HasPart b 0 (signature ++ u32_bytes n)
+  two = part_first b 0 (signature ++ u32_bytes n) (u32_bytes (length cells)) three
 
   pub head_is : head_of b ≡ head_with n cells records
   head_is =
-      let len_two : length (file_mark ++ u32_bytes n) ≡ 8 = omega (arith, length-append file_mark (u32_bytes n), length-u32_bytes n) in
-      let len_three : length (file_mark ++ u32_bytes n ++ u32_bytes (length cells)) ≡ 12 =
-      omega (arith, length-append (file_mark ++ u32_bytes n) (u32_bytes (length cells)), length-u32_bytes (length cells)) in
-      let signs : u32_at b 4 ≡ n = u32_part b 4 n (part_rest b 0 4 file_mark (u32_bytes n) two refl) (omega (arith, small.few)) in
-      let count : u32_at b 8 ≡ length cells = u32_part b 8 (length cells) (part_rest b 0 8 (file_mark ++ u32_bytes n) (u32_bytes (length cells)) three (omega arith)) (omega (arith, small.short)) in
+      let len_two : length (signature ++ u32_bytes n) ≡ 8 = omega (arith, length-append signature (u32_bytes n), length-u32_bytes n) in
+      let len_three : length (signature ++ u32_bytes n ++ u32_bytes (length cells)) ≡ 12 =
+      omega (arith, length-append (signature ++ u32_bytes n) (u32_bytes (length cells)), length-u32_bytes (length cells)) in
+      let signs : u32_at b 4 ≡ n = u32_part b 4 n (part_rest b 0 4 signature (u32_bytes n) two refl) (omega (arith, small.few)) in
+      let count : u32_at b 8 ≡ length cells = u32_part b 8 (length cells) (part_rest b 0 8 (signature ++ u32_bytes n) (u32_bytes (length cells)) three (omega arith)) (omega (arith, small.short)) in
       let listed : u32_at b 12 ≡ length records =
-      u32_part b 12 (length records) (part_rest b 0 12 (file_mark ++ u32_bytes n ++ u32_bytes (length cells)) (u32_bytes (length records)) in_front (omega arith)) (omega (arith, small.short)) in
+      u32_part b 12 (length records) (part_rest b 0 12 (signature ++ u32_bytes n ++ u32_bytes (length cells)) (u32_bytes (length records)) in_front (omega arith)) (omega (arith, small.short)) in
       λ i. record { signs = signs i; cells = count i; records = listed i }
 
   in_cells : HasPart b 16 (flat_map cell_bytes cells)

@@ -8,7 +8,7 @@ use crate::parts::numbers::u32_at;
 use pg_types::SIGNS_MAX;
 
 /// The bytes that every file begins with.
-pub const FILE_MARK: &[u8] = b"PGT1";
+pub const SIGNATURE: &[u8] = b"PGT1";
 
 /// The numbers in the head of a packed table.
 #[derive(Clone, Copy, Debug)]
@@ -26,7 +26,7 @@ impl Head {
         ensures { MatchOption result (has_head bytes.now ≡ false)
             (λ h. (has_head bytes.now ≡ true) × (h ≡ head_of bytes.now)) }
     {
-        if bytes.len() < HEAD_LEN || !bytes.starts_with(FILE_MARK) {
+        if bytes.len() < HEAD_LEN || !bytes.starts_with(SIGNATURE) {
             return None;
         }
         let head = Head {

@@ -9,7 +9,7 @@ use Rattle.pg_types.specs.declared.refusals.Refusal.{Refusal}
 use Rattle.pg_translate.specs.Alphabets.{Alphabet, letters_of}
 use Rattle.pg_select.specs.Windows.{Patterns}
 use Rattle.pg_table.specs.declared.limits.TheConstants.{TABLE_MAX}
-use Rattle.pg_table.specs.Forms.{file_mark, head_of, is_well_formed}
+use Rattle.pg_table.specs.Forms.{signature, head_of, is_well_formed}
 use Rattle.pg_table.specs.Numbers.{u32_at, u32_bytes}
 use Rattle.pg_table.specs.Texts.{cell_bytes, record_bytes, table_text}
 use Rattle.pg_table.specs.Inside.text.Files.{file_of, table_cells, table_records}
@@ -23,19 +23,19 @@ module _ (n : ℕ) (P : Patterns) where
   b = file_of n (table_cells n P) (table_records P)
 
   abbrev front : List ℕ
-  front = file_mark ++ u32_bytes n ++ u32_bytes (length (table_cells n P)) ++ u32_bytes (length (table_records P))
+  front = signature ++ u32_bytes n ++ u32_bytes (length (table_cells n P)) ++ u32_bytes (length (table_records P))
 
   whole : HasPart b 0 (file_of n (table_cells n P) (table_records P))
   whole = record { before = []; after = []; whole = sym (append-nil (file_of n (table_cells n P) (table_records P))); at = refl }
 
-  begins : HasPart b 0 (file_mark ++ u32_bytes n)
+  begins : HasPart b 0 (signature ++ u32_bytes n)
   begins =
-      part_first b 0 (file_mark ++ u32_bytes n) (u32_bytes (length (table_cells n P)))
-      (part_first b 0 (file_mark ++ u32_bytes n ++ u32_bytes (length (table_cells n P))) (u32_bytes (length (table_records P)))
+      part_first b 0 (signature ++ u32_bytes n) (u32_bytes (length (table_cells n P)))
+      (part_first b 0 (signature ++ u32_bytes n ++ u32_bytes (length (table_cells n P))) (u32_bytes (length (table_records P)))
       (part_first b 0 front (flat_map cell_bytes (table_cells n P)) (part_first b 0 (front ++ flat_map cell_bytes (table_cells n P)) (flat_map record_bytes (table_records P)) whole)))
 
   file_signs : n ≤ SIGNS_MAX → u32_at b 4 ≡ n
-  file_signs few = u32_part b 4 n (part_rest b 0 4 file_mark (u32_bytes n) begins refl) (omega (arith, few))
+  file_signs few = u32_part b 4 n (part_rest b 0 4 signature (u32_bytes n) begins refl) (omega (arith, few))
 
   text_signs : n ≤ SIGNS_MAX → (head_of (table_text n P)).signs ≡ n
   unfolding table_text

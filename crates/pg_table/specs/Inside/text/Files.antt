@@ -5,7 +5,7 @@ use Rattle.pg_types.specs.Placement.{Families, entered_families, top}
 use Rattle.pg_outputs.specs.declared.records.Record.{Record}
 use Rattle.pg_table.specs.declared.parts.cell.Cell.{Cell}
 use Rattle.pg_table.specs.Numbers.{u32_bytes}
-use Rattle.pg_table.specs.Forms.{file_mark}
+use Rattle.pg_table.specs.Forms.{signature}
 use Rattle.pg_table.specs.Texts.{recorded_lists, record_of, cell_of_table, head_in, cell_bytes, record_bytes}
 
 -- the families after the strings of the patterns are entered, from the root of n signs alone
@@ -23,5 +23,5 @@ table_records P = map (record_of (recorded_lists P)) (recorded_lists P)
 
 -- a file with these cells and records
 abbrev pub file_of : ℕ → List Cell → List Record → List ℕ
-file_of n cells records = file_mark ++ u32_bytes n ++ u32_bytes (length cells)
+file_of n cells records = signature ++ u32_bytes n ++ u32_bytes (length cells)
     ++ u32_bytes (length records) ++ flat_map cell_bytes cells ++ flat_map record_bytes records
