@@ -4,7 +4,7 @@ use Rattle.std.specs.Prelude.{ℕ, Result, Ok, Err, ◌⊎◌}
 use Rattle.pg_outside.specs.Content.{FileMap, FilesShown, SinkShown, WasPut, WasPartPut, file_at}
 use Rattle.pg_top.specs.Answers.{IsCall}
 use Rattle.pg_top.specs.CommandRules.{rule_of, usage_rule}
-use Rattle.pg_top.specs.Counted.{MakesPuts, IsCountedCall}
+use Rattle.pg_top.specs.FileCalls.{MakesPuts, IsCountedCall}
 use Rattle.pg_top.specs.Inside.ends.Built.{KeepsPromise, IsMade, Builds, EndsBuilt}
 use Rattle.pg_top.specs.Inside.writing.PutCounts.{LinesCounted}
 use Rattle.pg_top.specs.Inside.ends.Stops.{StopsCommand, PutsAnswer, PutsLines}
@@ -15,8 +15,8 @@ use Rattle.pg_top.specs.PrintedLines.{usage_line}
 use Rattle.pg_top.specs.Rules.{CommandRule, outcome_of}
 use Rattle.pg_top.specs.WholeCalls.{IsRun}
 use Rattle.pg_top.specs.Writings.{after_all}
-use Rattle.pg_top.specs.audit.Audited.{audit_rule}
-use Rattle.pg_top.specs.sample.Sampled.{sample_lines, sample_rule}
+use Rattle.pg_top.specs.audit.AuditRule.{audit_rule}
+use Rattle.pg_top.specs.sample.SampleRule.{sample_lines, sample_rule}
 use Rattle.pg_top.specs.declared.answers.Status.{Status}
 use Rattle.pg_top.specs.declared.answers.Status.TheVariants.{Done, Usage, Refused, Fault, Memory}
 use Rattle.pg_top.specs.declared.inputs.Stop.{Stop}

@@ -8,7 +8,7 @@ use Rattle.pg_outside.specs.Content.{FileMap, FilesShown, SinkShown, KeepsHeld, 
 use Rattle.pg_outside.specs.Inside.NameFaults.{NoneFell}
 use Rattle.pg_top.specs.Answers.{IsCall}
 use Rattle.pg_top.specs.CommandRules.{usage_rule}
-use Rattle.pg_top.specs.Counted.{MakesCalls, MakesPuts, read_calls, PutsFault, ReadsUpTo, EndsAt, IsEndCounted}
+use Rattle.pg_top.specs.FileCalls.{MakesCalls, MakesPuts, read_calls, PutsFault, ReadsUpTo, EndsAt, IsEndCounted}
 use Rattle.pg_top.specs.Inside.reading.ReadCalls.{write_calls}
 use Rattle.pg_top.specs.Inside.writing.PutCounts.{PutsCounted, LinesCounted}
 use Rattle.pg_top.specs.Moments.{Moment, PutOrRose}
@@ -18,7 +18,7 @@ use Rattle.pg_top.specs.Inside.ends.Refusing.{refuses}
 use Rattle.pg_top.specs.PrintedLines.{usage_line, refused_line}
 use Rattle.pg_top.specs.Inside.writing.FaultLines.{reading_line, writing_line}
 use Rattle.pg_top.specs.Readings.{first_end}
-use Rattle.pg_top.specs.sample.Sampled.{sample_rule, sample_lines}
+use Rattle.pg_top.specs.sample.SampleRule.{sample_rule, sample_lines}
 use Rattle.pg_top.specs.Inside.ends.Stops.{ReadRose, ReadRoseAt, StopsWith, StopsReading, StopsCommandWith, StopsCommand, PutsAnswer, PutsLines, PutsStop, Finishes}
 use Rattle.pg_top.specs.Writings.{after_all, IsPartWritten}
 use Rattle.pg_top.specs.Inside.writing.WritesMade.{written_names, WroteAll, StoppedAt}

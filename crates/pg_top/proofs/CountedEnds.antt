@@ -2,7 +2,7 @@
 use Rattle.std.proofs.Common.{◌≡◌, ℕ, List, ◌++◌, inl, inr, sym, subst, ap}
 use Rattle.pg_types.specs.declared.refusals.Refusal.{Refusal}
 use Rattle.pg_outside.specs.Content.{FilesShown, SinkShown, file_at}
-use Rattle.pg_top.specs.Counted.{MakesCalls, MakesPuts, read_calls, EndsAt, IsEndedCounted, IsCountedCall}
+use Rattle.pg_top.specs.FileCalls.{MakesCalls, MakesPuts, read_calls, EndsAt, IsEndedCounted, IsCountedCall}
 use Rattle.pg_top.specs.Inside.reading.ReadCalls.{write_calls}
 use Rattle.pg_top.specs.Inside.writing.PutCounts.{PutsCounted}
 use Rattle.pg_top.specs.Outcomes.{Writing}

@@ -29,11 +29,11 @@ use Rattle.pg_patterns.specs.Starts.{line_entries, start}
 use Rattle.pg_patterns.specs.Values.{map_of_entries}
 use Rattle.pg_top.specs.Outcomes.{unless_accepted}
 use Rattle.pg_top.specs.Inside.ends.Refusing.{refuses}
-use Rattle.pg_top.specs.totals.Totalled.{packed_table}
+use Rattle.pg_top.specs.totals.TotalsRule.{packed_table}
 use Rattle.pg_top.specs.pack.Inside.Inputs.{table_refused}
 use Rattle.pg_top.specs.Readings.{Reading, input_file}
 use Rattle.pg_top.specs.Inside.reading.ReadAs.{read_as}
-use Rattle.pg_top.specs.Counted.{MakesCalls}
+use Rattle.pg_top.specs.FileCalls.{MakesCalls}
 use Rattle.pg_top.specs.Inside.reading.ReadsMade.{ReadsInput}
 use Rattle.pg_top.specs.Inside.ends.Stops.{OnlyReads, StopsAt, StopsFront, stop_of, accepted_as}
 use Rattle.pg_top.specs.declared.inputs.Input.{Input}

@@ -8,7 +8,7 @@ use Rattle.pg_dict.specs.Word.{Word}
 use Rattle.pg_dict.specs.Words.{words}
 use Rattle.pg_patterns.specs.Starts.{start}
 use Rattle.pg_select.specs.Windows.{Patterns}
-use Rattle.pg_top.specs.Counted.{MakesCalls}
+use Rattle.pg_top.specs.FileCalls.{MakesCalls}
 use Rattle.pg_top.specs.Readings.{input_file, patterns_file, words_file}
 use Rattle.pg_top.specs.Inside.reading.ReadAs.{read_as}
 use Rattle.pg_top.specs.Inside.reading.Lists.{lists_under, HasLists}

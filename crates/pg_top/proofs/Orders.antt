@@ -6,7 +6,7 @@ use Rattle.std.proofs.lemmas.List.{map-append, take-append-drop, take-append-le,
 use Rattle.std.proofs.lemmas.Option.{slice_get_read, get_or_from_slice_get}
 use Rattle.pg_outside.specs.Content.{FileMap, FilesShown, KeepsHeld, file_at}
 use Rattle.pg_outside.specs.Inside.NameFaults.{NoneFell}
-use Rattle.pg_top.specs.Counted.{MakesCalls, read_calls, ReadsUpTo}
+use Rattle.pg_top.specs.FileCalls.{MakesCalls, read_calls, ReadsUpTo}
 use Rattle.pg_top.specs.Inside.reading.ReadCalls.{read_call}
 use Rattle.pg_top.specs.Outcomes.{Outcome, Unknown}
 use Rattle.pg_top.specs.Inside.ends.Refusing.{refuses}

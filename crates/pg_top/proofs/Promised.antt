@@ -13,7 +13,7 @@ use Rattle.pg_top.specs.declared.answers.Status.{Status}
 use Rattle.pg_top.specs.declared.answers.Status.TheVariants.{Done}
 use Rattle.pg_top.specs.declared.inputs.Stop.{Stop}
 use Rattle.pg_top.specs.declared.inputs.Stop.TheVariants as stop
-use Rattle.pg_top.specs.pack.Packed.{GivesValues}
+use Rattle.pg_top.specs.pack.PackRule.{GivesValues}
 
 -- a command that stopped is not done
 pub stop_not_done : (why : Stop) (answer : Status) (o0 o1 : SinkShown) → PutsStop why answer o0 o1 → answer ≡ Done → ⊥

@@ -8,7 +8,7 @@ use Rattle.pg_outside.specs.Inside.NameFaults.{NoneFell}
 use Rattle.pg_outside.specs.FilesCalls.{Reads}
 use Rattle.pg_translate.specs.Alphabets.{Alphabet}
 use Rattle.pg_translate.specs.Tables.{table, default_alphabet}
-use Rattle.pg_top.specs.Counted.{MakesCalls}
+use Rattle.pg_top.specs.FileCalls.{MakesCalls}
 use Rattle.pg_top.specs.Outcomes.{unless_accepted}
 use Rattle.pg_top.specs.Inside.ends.Refusing.{refuses}
 use Rattle.pg_top.specs.Readings.{HeldFiles, Reading, meaning, input_file, table_named, translate_file}

@@ -8,7 +8,7 @@ use Rattle.pg_outside.specs.Content.{FileMap, FilesShown}
 use Rattle.pg_outside.specs.Inside.ToldFiles.{WasWritten, WasPartWritten}
 use Rattle.pg_outside.specs.Faults.{Rose}
 use Rattle.pg_outside.specs.Inside.NameFaults.{NoneFell}
-use Rattle.pg_top.specs.Counted.{MakesCalls}
+use Rattle.pg_top.specs.FileCalls.{MakesCalls}
 use Rattle.pg_top.specs.Inside.reading.ReadCalls.{write_calls}
 use Rattle.pg_top.specs.Outcomes.{Writing}
 use Rattle.pg_top.specs.Writings.{after_all, IsPartWritten}

@@ -3,13 +3,13 @@ use Rattle.std.specs.Prelude.{[], ◌∷◌, Option, None, Some}
 use Rattle.pg_top.specs.Outcomes.{Ends}
 use Rattle.pg_top.specs.PrintedLines.{usage_line}
 use Rattle.pg_top.specs.Rules.{CommandRule, usual_rule}
-use Rattle.pg_top.specs.audit.Audited.{audit_rule}
-use Rattle.pg_top.specs.generate.Generated.{generate_rule}
-use Rattle.pg_top.specs.pack.Packed.{pack_rule}
-use Rattle.pg_top.specs.prune.Pruned.{prune_rule}
-use Rattle.pg_top.specs.sample.Sampled.{sample_rule}
-use Rattle.pg_top.specs.sweep.Swept.{sweep_rule}
-use Rattle.pg_top.specs.totals.Totalled.{totals_rule}
+use Rattle.pg_top.specs.audit.AuditRule.{audit_rule}
+use Rattle.pg_top.specs.generate.GenerateRule.{generate_rule}
+use Rattle.pg_top.specs.pack.PackRule.{pack_rule}
+use Rattle.pg_top.specs.prune.PruneRule.{prune_rule}
+use Rattle.pg_top.specs.sample.SampleRule.{sample_rule}
+use Rattle.pg_top.specs.sweep.SweepRule.{sweep_rule}
+use Rattle.pg_top.specs.totals.TotalsRule.{totals_rule}
 use Rattle.pg_words.specs.Requests.{Request, ToGenerate, ToAudit, ToSample, ToPack, ToTotals, ToPrune, ToSweep}
 use Rattle.pg_top.specs.declared.answers.Status.TheVariants.{Usage}
 

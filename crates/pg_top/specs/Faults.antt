@@ -3,7 +3,7 @@ use Rattle.std.specs.Prelude.{◌≡◌, ℕ, ◌+◌, ◌++◌, List, Some, sli
 use Rattle.pg_outside.specs.Content.{KeepsHeld, WasPartPut, file_at}
 use Rattle.pg_outside.specs.Faults.{Rose}
 use Rattle.pg_outside.specs.FilesCalls.{Writes}
-use Rattle.pg_top.specs.Counted.{MakesCalls, read_calls, ReadsUpTo, PutsFault, IsEndCounted}
+use Rattle.pg_top.specs.FileCalls.{MakesCalls, read_calls, ReadsUpTo, PutsFault, IsEndCounted}
 use Rattle.pg_top.specs.Moments.{Moment, OfFiles, PutOrRose}
 use Rattle.pg_top.specs.Outcomes.{IsKnown}
 use Rattle.pg_top.specs.Readings.{Reading}

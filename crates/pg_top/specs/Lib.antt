@@ -16,6 +16,6 @@ pub mod Writings
 pub mod Moments
 pub mod Faults
 pub mod Answers
-pub mod Counted
+pub mod FileCalls
 pub mod WholeCalls
 pub mod Inside

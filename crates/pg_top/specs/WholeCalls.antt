@@ -3,7 +3,7 @@ use Rattle.std.specs.Prelude.{◌≡◌, [], Option, None}
 use Rattle.pg_outside.specs.Content.{WasPut, WasPartPut, file_at}
 use Rattle.pg_top.specs.Answers.{IsCall}
 use Rattle.pg_top.specs.CommandRules.{rule_of}
-use Rattle.pg_top.specs.Counted.{IsCountedCall}
+use Rattle.pg_top.specs.FileCalls.{IsCountedCall}
 use Rattle.pg_top.specs.Moments.{Moment, OfFiles}
 use Rattle.pg_top.specs.Outcomes.{IsKnown}
 use Rattle.pg_top.specs.Rules.{outcome_of}

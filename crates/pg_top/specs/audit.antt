@@ -1,3 +1,3 @@
 -- What `audit` reads and says.
-pub mod Audited
+pub mod AuditRule
 pub mod Inside

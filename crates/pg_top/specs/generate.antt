@@ -1,3 +1,3 @@
 -- What `generate` reads, writes and prints.
-pub mod Generated
+pub mod GenerateRule
 pub mod Inside

@@ -1,3 +1,3 @@
 -- What `pack` reads, writes, prints and promises.
-pub mod Packed
+pub mod PackRule
 pub mod Inside

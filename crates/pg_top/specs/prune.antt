@@ -1,3 +1,3 @@
 -- What `prune` reads, writes, prints and promises.
-pub mod Pruned
+pub mod PruneRule
 pub mod Inside

@@ -1,3 +1,3 @@
 -- What `sample` prints.
-pub mod Sampled
+pub mod SampleRule
 pub mod Inside

@@ -1,3 +1,3 @@
 -- What `sweep` reads, writes, prints and promises.
-pub mod Swept
+pub mod SweepRule
 pub mod Inside

@@ -1,3 +1,3 @@
 -- What `totals` reads and prints.
-pub mod Totalled
+pub mod TotalsRule
 pub mod Inside

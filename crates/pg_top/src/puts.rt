@@ -1,7 +1,7 @@
 //! Lines that are put into a sink.
 ghost use Rattle.std.specs.Prelude.{◌≡◌, ◌≤◌, ◌++◌, ◌∷◌, [], OnOk, OnErr};
 ghost use Rattle.pg_outside.specs.Faults.{Rose, next_count};
-ghost use Rattle.pg_top.specs.Counted.{PutsFault};
+ghost use Rattle.pg_top.specs.FileCalls.{PutsFault};
 ghost use Rattle.pg_top.specs.Inside.writing.PutCounts.{PutsCounted};
 ghost use Rattle.pg_top.specs.Moments.{PutOrRose};
 ghost use Rattle.pg_top.specs.Inside.writing.Puts.{Puts, PutsPart};

@@ -10,7 +10,7 @@ ghost use Rattle.pg_dict.specs.Inside.SoundWords.{SignsAtMost};
 ghost use Rattle.pg_dict.specs.Words.{words};
 ghost use Rattle.pg_patterns.specs.Starts.{start};
 ghost use Rattle.pg_patterns.specs.Inside.PatternMaps.{SignsUpTo};
-ghost use Rattle.pg_top.specs.Counted.{MakesCalls};
+ghost use Rattle.pg_top.specs.FileCalls.{MakesCalls};
 ghost use Rattle.pg_top.specs.Inside.reading.ReadAs.{read_as};
 ghost use Rattle.pg_top.specs.Inside.reading.Lists.{lists_under, HasLists};
 ghost use Rattle.pg_top.specs.Inside.reading.ReadsMade.{ReadsInput};

@@ -5,7 +5,7 @@ ghost use Rattle.pg_translate.specs.Alphabets.{letters_of};
 ghost use Rattle.pg_translate.specs.Tables.{default_alphabet};
 ghost use Rattle.pg_dict.specs.Inside.SoundWords.{SignsAtMost};
 ghost use Rattle.pg_top.specs.Inside.writing.PutCounts.{LinesCounted};
-ghost use Rattle.pg_top.specs.sample.Sampled.{is_printed as is_printed_line, sample_inputs, sample_lines as lines_of, sample_parameters};
+ghost use Rattle.pg_top.specs.sample.SampleRule.{is_printed as is_printed_line, sample_inputs, sample_lines as lines_of, sample_parameters};
 ghost use Rattle.pg_top.specs.sample.Inside.Lines.{printed_part, selection_lines};
 ghost use Rattle.pg_top.specs.Inside.selection.SelectionSigns.{HasSigns};
 ghost use Rattle.pg_top.specs.Inside.selection.SelectedRuns.{IsNew, TellsSelection};

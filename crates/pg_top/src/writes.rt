@@ -1,7 +1,7 @@
 //! What a command writes and prints, and how it ends.
 ghost use Rattle.std.specs.Prelude.{◌≡◌, ◌+◌, ◌<◌, ◌++◌, ◌∷◌, [], OnOk, IfErr, length, take, slice_get, Some};
 ghost use Rattle.pg_outside.specs.Inside.NameFaults.{NoneFell};
-ghost use Rattle.pg_top.specs.Counted.{MakesCalls};
+ghost use Rattle.pg_top.specs.FileCalls.{MakesCalls};
 ghost use Rattle.pg_top.specs.Inside.reading.ReadCalls.{write_calls};
 ghost use Rattle.pg_top.specs.Inside.writing.WritesMade.{writing_of, written_names, WroteAll, StoppedAt};
 ghost use Rattle.pg_top.specs.Inside.ends.Built.{EndsBuilt};

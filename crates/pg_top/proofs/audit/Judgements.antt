@@ -13,10 +13,10 @@ use Rattle.pg_outside.specs.Content.{FileMap, FilesShown, SinkShown, KeepsHeld, 
 use Rattle.pg_outside.specs.Inside.NameFaults.{NoneFell}
 use Rattle.pg_outside.specs.FilesCalls.{Reads}
 use Rattle.pg_top.specs.Answers.{IsCall}
-use Rattle.pg_top.specs.audit.Audited.{audit_rule, denies, given_file, given_files}
+use Rattle.pg_top.specs.audit.AuditRule.{audit_rule, denies, given_file, given_files}
 use Rattle.pg_top.specs.audit.Inside.GivenNames.{given_names}
 use Rattle.pg_top.specs.audit.Inside.Verdicts.{yes_line, reading_of, wanted_file, wanted_files, end_of, outcome_by, ReadsToFind, IsFrontOf, PutsVerdict}
-use Rattle.pg_top.specs.Counted.{MakesCalls, MakesPuts, read_calls, ReadsUpTo, EndsAt, IsEndedCounted, IsWholeCounted, IsCountedCall}
+use Rattle.pg_top.specs.FileCalls.{MakesCalls, MakesPuts, read_calls, ReadsUpTo, EndsAt, IsEndedCounted, IsWholeCounted, IsCountedCall}
 use Rattle.pg_top.specs.Inside.reading.ReadCalls.{read_call}
 use Rattle.pg_top.specs.Outcomes.{Outcome, Unknown, Ends}
 use Rattle.pg_top.specs.Inside.ends.Refusing.{refuses}
@@ -24,7 +24,7 @@ use Rattle.pg_top.specs.PrintedLines.{word_of}
 use Rattle.pg_top.specs.Readings.{HeldFiles, Reading, first_end}
 use Rattle.pg_words.specs.Requests.{FileNames, if_asked}
 use Rattle.pg_top.specs.Selection.{selected_text, selected_report}
-use Rattle.pg_top.specs.generate.Generated.{inputs_in}
+use Rattle.pg_top.specs.generate.GenerateRule.{inputs_in}
 use Rattle.pg_top.specs.generate.Inside.Accepted.{inputs_of, HasInputs}
 use Rattle.pg_top.specs.Inside.ends.Stops.{StopsAt, StopsWith, StopsReading}
 use Rattle.pg_top.specs.declared.answers.Status.{Status}

@@ -5,12 +5,12 @@ use Rattle.pg_outside.specs.Content.{FileMap, FilesShown, KeepsHeld, file_at}
 use Rattle.pg_translate.specs.Alphabets.{Alphabet}
 use Rattle.pg_patterns.specs.Starts.{start}
 use Rattle.pg_select.specs.Windows.{Patterns}
-use Rattle.pg_top.specs.Counted.{MakesCalls, read_calls, EndsAt}
+use Rattle.pg_top.specs.FileCalls.{MakesCalls, read_calls, EndsAt}
 use Rattle.pg_top.specs.Outcomes.{Ends, Writing}
 use Rattle.pg_top.specs.Inside.ends.Refusing.{refuses}
 use Rattle.pg_top.specs.Inside.reading.ReadAs.{read_as}
-use Rattle.pg_top.specs.pack.Packed.{GivesValues, pack_rule, outcome_of_pack}
-use Rattle.pg_top.specs.totals.Totalled.{packed_table}
+use Rattle.pg_top.specs.pack.PackRule.{GivesValues, pack_rule, outcome_of_pack}
+use Rattle.pg_top.specs.totals.TotalsRule.{packed_table}
 use Rattle.pg_top.specs.pack.Inside.Inputs.{HasSource, packed_text}
 use Rattle.pg_words.specs.Requests.{PackRequest}
 use Rattle.pg_top.specs.Inside.ends.Built.{KeepsPromise}

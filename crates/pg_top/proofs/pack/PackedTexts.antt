@@ -10,7 +10,7 @@ use Rattle.pg_table.specs.declared.error.TableError.TheVariants as table_error
 use Rattle.pg_table.specs.declared.limits.TheConstants.{TABLE_MAX}
 use Rattle.pg_top.specs.Outcomes.{Ends}
 use Rattle.pg_top.specs.Inside.ends.Refusing.{refuses}
-use Rattle.pg_top.specs.pack.Packed.{outcome_of_pack, packed_line}
+use Rattle.pg_top.specs.pack.PackRule.{outcome_of_pack, packed_line}
 use Rattle.pg_top.specs.pack.Inside.Inputs.{stop_of_table, packed_text, table_refused}
 use Rattle.pg_top.specs.Inside.ends.Stops.{StopsMaking}
 use Rattle.pg_top.specs.declared.answers.Status.TheVariants.{Done}

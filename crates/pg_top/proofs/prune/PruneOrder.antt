@@ -9,7 +9,7 @@ use Rattle.pg_dict.specs.Word.{Word}
 use Rattle.pg_dict.specs.Words.{words}
 use Rattle.pg_patterns.specs.Starts.{start}
 use Rattle.pg_select.specs.Windows.{Patterns}
-use Rattle.pg_top.specs.Counted.{MakesCalls}
+use Rattle.pg_top.specs.FileCalls.{MakesCalls}
 use Rattle.pg_top.specs.Readings.{table_named, translate_file, patterns_file, words_file, patterns_under, words_under}
 use Rattle.pg_top.specs.prune.Inside.Inputs.{HasPrune, line_of_pruned, pruned_by}
 use Rattle.pg_words.specs.Requests.{PruneRequest}
@@ -26,7 +26,7 @@ use Rattle.pg_top.proofs.ListOrder.{lists_accepted}
 use Rattle.pg_top.proofs.Orders.{AreAccepted, accepted_all, both, held_later, mapped, stopped_after}
 use Rattle.pg_top.proofs.UnderTable.{HasTable, is_table, table_accepted, means_under, stopped_first}
 use Rattle.pg_top.specs.Rules.{outcome_of}
-use Rattle.pg_top.specs.prune.Pruned.{ReadsBack, prune_rule}
+use Rattle.pg_top.specs.prune.PruneRule.{ReadsBack, prune_rule}
 
 module _ (p : PruneRequest) where
   -- a stop at the translate file

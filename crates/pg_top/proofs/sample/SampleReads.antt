@@ -10,7 +10,7 @@ use Rattle.pg_translate.specs.Alphabets.{Alphabet}
 use Rattle.pg_translate.specs.Tables.{default_alphabet}
 use Rattle.pg_dict.specs.Word.{Word}
 use Rattle.pg_dict.specs.Words.{words}
-use Rattle.pg_top.specs.sample.Sampled.{sample_parameters, sample_text, sample_inputs}
+use Rattle.pg_top.specs.sample.SampleRule.{sample_parameters, sample_text, sample_inputs}
 use Rattle.pg_top.specs.declared.selection.Inputs.{Inputs}
 
 -- a reader that accepts fails for want of memory alone

@@ -8,11 +8,11 @@ use Rattle.pg_outside.specs.Content.{FileMap, FilesShown, KeepsHeld, file_at}
 use Rattle.pg_outside.specs.Inside.NameFaults.{NoneFell}
 use Rattle.pg_outside.specs.FilesCalls.{Reads}
 use Rattle.pg_words.specs.Inside.Names.{words_of}
-use Rattle.pg_top.specs.Counted.{MakesCalls, read_calls}
+use Rattle.pg_top.specs.FileCalls.{MakesCalls, read_calls}
 use Rattle.pg_top.specs.Readings.{HeldFiles, Reading, parameters_named}
 use Rattle.pg_top.specs.Inside.reading.ReadAs.{read_as}
 use Rattle.pg_top.specs.Inside.ends.Stops.{StopsAt, StopsReading}
-use Rattle.pg_top.specs.sweep.Swept.{set_files}
+use Rattle.pg_top.specs.sweep.SweepRule.{set_files}
 use Rattle.pg_top.specs.sweep.Inside.SetFiles.{set_file}
 use Rattle.pg_top.specs.sweep.Inside.Accepted.{accepted_set, HasSets}
 use Rattle.pg_top.specs.declared.inputs.Input.TheVariants as input

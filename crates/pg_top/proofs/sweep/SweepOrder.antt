@@ -13,13 +13,13 @@ use Rattle.pg_patterns.specs.Starts.{start}
 use Rattle.pg_select.specs.Windows.{Patterns}
 use Rattle.pg_sweep.specs.Sweeps.{Terms}
 use Rattle.pg_top.specs.sweep.Inside.Inputs.{outcome_of_sets, rows_of_sets}
-use Rattle.pg_top.specs.Counted.{MakesCalls, read_calls}
+use Rattle.pg_top.specs.FileCalls.{MakesCalls, read_calls}
 use Rattle.pg_top.specs.Inside.reading.ReadCalls.{read_call}
 use Rattle.pg_top.specs.Readings.{Reading, translate_file, patterns_file, words_file}
 use Rattle.pg_words.specs.Requests.{SweepRequest}
 use Rattle.pg_top.specs.Inside.reading.Lists.{lists_under, HasLists}
 use Rattle.pg_top.specs.Inside.ends.Stops.{StopsAt, StopsReading}
-use Rattle.pg_top.specs.sweep.Swept.{swept_rows, sweep_rule, set_files}
+use Rattle.pg_top.specs.sweep.SweepRule.{swept_rows, sweep_rule, set_files}
 use Rattle.pg_top.specs.sweep.Inside.Accepted.{HasSets, HasSweep}
 use Rattle.pg_top.specs.declared.inputs.Stop.{Stop}
 use Rattle.pg_top.proofs.ListOrder.{lists_accepted}

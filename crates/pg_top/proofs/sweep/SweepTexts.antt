@@ -11,7 +11,7 @@ use Rattle.pg_sweep.specs.declared.rows.SweepRow.{SweepRow}
 use Rattle.pg_sweep.proofs.Winners.{winner_wins}
 use Rattle.pg_top.specs.Outcomes.{Ends}
 use Rattle.pg_top.specs.Rules.{outcome_of}
-use Rattle.pg_top.specs.sweep.Swept.{SweepPromise, sweep_rule, winner_line, terms_in, swept_rows, outcome_of_sweep}
+use Rattle.pg_top.specs.sweep.SweepRule.{SweepPromise, sweep_rule, winner_line, terms_in, swept_rows, outcome_of_sweep}
 use Rattle.pg_top.specs.Readings.{HeldFiles, first_end, parameters_named}
 use Rattle.pg_words.specs.Requests.{SweepRequest}
 use Rattle.pg_top.specs.sweep.Inside.Inputs.{line_of_sweep, rows_of_sets, outcome_of_sets}

@@ -12,13 +12,13 @@ use Rattle.pg_dict.specs.Word.{Word}
 use Rattle.pg_dict.specs.Words.{words}
 use Rattle.pg_table.specs.declared.limits.TheConstants.{TABLE_MAX}
 use Rattle.pg_table.specs.Forms.{head_of, is_well_formed}
-use Rattle.pg_top.specs.Counted.{MakesCalls, read_calls}
+use Rattle.pg_top.specs.FileCalls.{MakesCalls, read_calls}
 use Rattle.pg_top.specs.Outcomes.{Ends}
 use Rattle.pg_top.specs.Readings.{Reading, input_file}
 use Rattle.pg_top.specs.Inside.reading.ReadAs.{read_as}
 use Rattle.pg_top.specs.Inside.reading.UnderTable.{file_under}
 use Rattle.pg_top.specs.pack.Inside.Inputs.{table_refused}
-use Rattle.pg_top.specs.totals.Totalled.{totals_rule, packed_table}
+use Rattle.pg_top.specs.totals.TotalsRule.{totals_rule, packed_table}
 use Rattle.pg_top.specs.totals.Inside.Inputs.{IsTotalled, totals_lines}
 use Rattle.pg_words.specs.Requests.{TotalsRequest}
 use Rattle.pg_top.specs.Inside.ends.Stops.{StopsAt, StopsReading}

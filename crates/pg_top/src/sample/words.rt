@@ -1,7 +1,7 @@
 //! The dictionary of `sample`: words made from a number.
 ghost use Rattle.std.specs.Prelude.{◌≡◌, ◌≤◌, ◌<◌, ◌^◌, ◌++◌, IfOk, OnOk};
 ghost use Rattle.pg_words.specs.declared.limits.TheConstants.{SEED_MAX, COUNT_MAX};
-ghost use Rattle.pg_top.specs.sample.Sampled.{next_state, ending, syllable as syllable_of, further_syllables, word as word_of_state, sample_text as text_of};
+ghost use Rattle.pg_top.specs.sample.SampleRule.{next_state, ending, syllable as syllable_of, further_syllables, word as word_of_state, sample_text as text_of};
 
 use std::alloc::{AllocError, Global};
 
@@ -23,7 +23,7 @@ struct Draws {
 
 impl Draws {
     ghost use Rattle.std.specs.Prelude.{◌≡◌, ◌<◌};
-    ghost use Rattle.pg_top.specs.sample.Sampled.{next_state, draw};
+    ghost use Rattle.pg_top.specs.sample.SampleRule.{next_state, draw};
 
     /// Draws a number below `most`.
     fn draw(&mut self, most: u32) -> u32

@@ -1,7 +1,7 @@
 //! What `sweep` writes and prints.
 ghost use Rattle.std.specs.Prelude.{◌≡◌, [], length, IfOk, ◌≤◌, ◌∷◌};
 ghost use Rattle.pg_types.specs.Lines.{lines};
-ghost use Rattle.pg_top.specs.sweep.Swept.{winner_line as winner_line_of};
+ghost use Rattle.pg_top.specs.sweep.SweepRule.{winner_line as winner_line_of};
 ghost use Rattle.pg_sweep.specs.Files.{sweep_file};
 ghost use Rattle.pg_words.specs.Inside.Asked.{sweep_of, KeepsSweepLimits};
 ghost use Rattle.pg_types.specs.declared.limits.TheConstants.{SETS_MAX};

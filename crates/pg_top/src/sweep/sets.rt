@@ -3,7 +3,7 @@ ghost use Rattle.std.specs.Prelude.{◌≡◌, ◌≤◌, length, IfOk};
 ghost use Rattle.pg_words.specs.Inside.Names.{words_of};
 ghost use Rattle.pg_types.specs.declared.limits.TheConstants.{SETS_MAX};
 ghost use Rattle.pg_top.specs.Inside.reading.ReadsMade.{ReadsFiles};
-ghost use Rattle.pg_top.specs.sweep.Swept.{set_files};
+ghost use Rattle.pg_top.specs.sweep.SweepRule.{set_files};
 ghost use Rattle.pg_top.specs.sweep.Inside.Accepted.{HasSets};
 
 use crate::inputs::{Input, Stop};

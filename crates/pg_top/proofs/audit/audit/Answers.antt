@@ -4,7 +4,7 @@ use Rattle.pg_top.proofs.Calls.{stopped_call, stops_reading}
 use Rattle.pg_top.proofs.CountedEnds.{counted_stop}
 use Rattle.pg_top.proofs.audit.Judgements.{verdict_call, verdict_counted}
 use Rattle.pg_top.proofs.audit.audit.Goals as goal
-use Rattle.pg_top.specs.audit.Audited.{audit_rule}
+use Rattle.pg_top.specs.audit.AuditRule.{audit_rule}
 
 pub returns-in-Ok-clause-call : goal.returns-in-Ok-clause-call
 returns-in-Ok-clause-call g c =

@@ -14,7 +14,7 @@ use Rattle.pg_top.proofs.Orders.{mapped}
 use Rattle.pg_top.proofs.generate.WrittenNames.{names_of_files}
 use Rattle.pg_top.proofs.generate.generate_files.Goals as goal
 use Rattle.pg_top.specs.Rules.{outcome_of}
-use Rattle.pg_top.specs.generate.Generated.{generate_rule}
+use Rattle.pg_top.specs.generate.GenerateRule.{generate_rule}
 
 pub returns : goal.returns
 returns g c =

@@ -12,7 +12,7 @@ use Rattle.pg_top.proofs.Orders.{mapped}
 use Rattle.pg_top.proofs.pack.PackOrder.{pack_outcome, pack_promise, stopped_making}
 use Rattle.pg_top.proofs.pack.pack_files.Goals as goal
 use Rattle.pg_top.specs.Rules.{outcome_of}
-use Rattle.pg_top.specs.pack.Packed.{pack_rule}
+use Rattle.pg_top.specs.pack.PackRule.{pack_rule}
 
 pub returns : goal.returns
 returns g c =

@@ -13,7 +13,7 @@ use Rattle.pg_top.proofs.Orders.{AreAccepted, mapped, wanted_after}
 use Rattle.pg_top.proofs.prune.PruneOrder.{prune_accepted, prune_outcome, prune_promise}
 use Rattle.pg_top.proofs.prune.prune_files.Goals as goal
 use Rattle.pg_top.specs.Rules.{outcome_of}
-use Rattle.pg_top.specs.prune.Pruned.{prune_rule}
+use Rattle.pg_top.specs.prune.PruneRule.{prune_rule}
 
 pub returns : goal.returns
 returns g c =

@@ -17,7 +17,7 @@ use Rattle.pg_top.proofs.sweep.SweepTexts.{sweep_promise}
 use Rattle.pg_top.proofs.sweep.SweepOrder.{sweep_accepted, sweep_outcome}
 use Rattle.pg_top.proofs.sweep.sweep_files.Goals as goal
 use Rattle.pg_top.specs.Rules.{outcome_of}
-use Rattle.pg_top.specs.sweep.Swept.{sweep_rule}
+use Rattle.pg_top.specs.sweep.SweepRule.{sweep_rule}
 
 pub returns : goal.returns
 returns g c =

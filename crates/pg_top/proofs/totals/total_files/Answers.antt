@@ -10,7 +10,7 @@ use Rattle.pg_top.specs.Inside.writing.WritesMade.{written_names, writing_of}
 use Rattle.pg_top.specs.declared.writes.Output.{Output}
 use Rattle.pg_top.specs.declared.answers.Status.TheVariants.{Done}
 use Rattle.pg_top.specs.Inside.reading.UnderTable.{file_under}
-use Rattle.pg_top.specs.totals.Totalled.{totals_rule, packed_table}
+use Rattle.pg_top.specs.totals.TotalsRule.{totals_rule, packed_table}
 use Rattle.pg_words.specs.Requests.{TotalsRequest}
 use Rattle.pg_top.specs.declared.inputs.Input.TheVariants as input
 use Rattle.pg_top.proofs.Calls.{stops_reading}

@@ -1,7 +1,7 @@
 -- What a command builds from the files that it reads, before it writes and prints.
 use Rattle.std.specs.Prelude.{◌≡◌, Result, Ok, Err, IfSome, IfOk, IfErr}
 use Rattle.pg_outside.specs.Content.{FilesShown, file_at}
-use Rattle.pg_top.specs.Counted.{MakesCalls, read_calls}
+use Rattle.pg_top.specs.FileCalls.{MakesCalls, read_calls}
 use Rattle.pg_top.specs.Inside.writing.PutCounts.{PutsCounted}
 use Rattle.pg_top.specs.Inside.ends.Stops.{OnlyReads, StopsCommand, PutsStop, Finishes}
 use Rattle.pg_top.specs.Inside.writing.WritesMade.{written_names, writing_of}

@@ -6,7 +6,7 @@ use Rattle.pg_types.specs.declared.refusals.ReadingError.TheVariants as reader
 use Rattle.pg_outside.specs.Content.{FilesShown, SinkShown, KeepsHeld, file_at}
 use Rattle.pg_outside.specs.Faults.{Rose}
 use Rattle.pg_outside.specs.Inside.NameFaults.{NoneFell}
-use Rattle.pg_top.specs.Counted.{MakesCalls, MakesPuts, PutsFault, ReadsUpTo, EndsAt}
+use Rattle.pg_top.specs.FileCalls.{MakesCalls, MakesPuts, PutsFault, ReadsUpTo, EndsAt}
 use Rattle.pg_top.specs.Inside.reading.ReadCalls.{write_calls}
 use Rattle.pg_top.specs.Moments.{Moment, PutOrRose}
 use Rattle.pg_top.specs.Inside.writing.Puts.{Puts, PutsPart, PutRose}

@@ -3,7 +3,7 @@ use Rattle.std.specs.Prelude.{◌≡◌, ℕ, List, [], ◌∷◌, Some, Result,
 use Rattle.pg_types.specs.declared.refusals.Refusal.{Refusal}
 use Rattle.pg_outside.specs.Content.{FilesShown, file_at}
 use Rattle.pg_outside.specs.FilesCalls.{Reads}
-use Rattle.pg_top.specs.Counted.{MakesCalls, read_calls}
+use Rattle.pg_top.specs.FileCalls.{MakesCalls, read_calls}
 use Rattle.pg_top.specs.Inside.reading.ReadAs.{read_as}
 use Rattle.pg_top.specs.Inside.ends.Stops.{OnlyReads, StopsAt, StopsReading}
 use Rattle.pg_top.specs.Readings.{HeldFiles, Reading, input_file}

@@ -4,7 +4,7 @@ use Rattle.pg_top.specs.declared.answers.Status.{Status}
 use Rattle.pg_top.specs.declared.answers.Status.TheVariants as status
 use Rattle.pg_top.specs.declared.inputs.Stop.{Stop}
 use Rattle.pg_top.specs.declared.inputs.Stop.TheVariants.{Refused, Unread}
-use Rattle.pg_top.specs.Counted.{MakesPuts, PutsFault}
+use Rattle.pg_top.specs.FileCalls.{MakesPuts, PutsFault}
 
 -- the puts of a command that stopped before it wrote: one of a refusal, three of a fault
 abbrev pub PutsCounted : Stop → Status → SinkShown → SinkShown → Type 0

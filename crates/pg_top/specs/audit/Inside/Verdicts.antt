@@ -3,8 +3,8 @@ use Rattle.std.specs.Prelude.{◌≡◌, ℕ, ◌+◌, ◌<◌, List, [], map, l
 use Rattle.std.specs.Option.{option_map}
 use Rattle.pg_audit.specs.Differences.{first_false}
 use Rattle.pg_outside.specs.Content.{FilesShown, SinkShown, file_at}
-use Rattle.pg_top.specs.audit.Audited.{denies}
-use Rattle.pg_top.specs.Counted.{MakesCalls, read_calls, ReadsUpTo}
+use Rattle.pg_top.specs.audit.AuditRule.{denies}
+use Rattle.pg_top.specs.FileCalls.{MakesCalls, read_calls, ReadsUpTo}
 use Rattle.pg_top.specs.Outcomes.{Outcome, Ends}
 use Rattle.pg_top.specs.Readings.{Reading, first_end}
 use Rattle.pg_top.specs.Inside.ends.Stops.{PutsAnswer}

@@ -3,7 +3,7 @@ use Rattle.std.specs.Prelude.{ℕ, List, [], ◌∷◌, ◌++◌, filter, flat_m
 use Rattle.pg_types.specs.Lines.{lines}
 use Rattle.pg_top.specs.PrintedLines.{done_line}
 use Rattle.pg_top.specs.Selection.{selected_text, selected_report, selected_totals}
-use Rattle.pg_top.specs.sample.Sampled.{is_printed}
+use Rattle.pg_top.specs.sample.SampleRule.{is_printed}
 use Rattle.pg_top.specs.declared.selection.Inputs.{Inputs}
 
 -- these lines of a report, each with its line's end

@@ -9,7 +9,7 @@ use Rattle.pg_sweep.specs.Inside.RowsAndWinner.{RowsAndWinner}
 use Rattle.pg_sweep.specs.declared.rows.SweepRow.{SweepRow}
 use Rattle.pg_words.specs.Requests.{SweepRequest}
 use Rattle.pg_top.specs.Outcomes.{Outcome}
-use Rattle.pg_top.specs.sweep.Swept.{winner_line, outcome_of_sweep}
+use Rattle.pg_top.specs.sweep.SweepRule.{winner_line, outcome_of_sweep}
 use Rattle.pg_top.specs.declared.sweep.inputs.SweepInputs.{SweepInputs}
 
 -- what the runs of a sweep with so many folds share

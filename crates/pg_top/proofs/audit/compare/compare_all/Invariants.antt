@@ -1,7 +1,7 @@
 use Rattle.std.proofs.Common.{IfSome, take}
 use Rattle.pg_outside.specs.Content.{file_at}
 use Rattle.pg_top.specs.Inside.ends.Stops.{OnlyReads}
-use Rattle.pg_top.specs.Counted.{MakesCalls, read_calls}
+use Rattle.pg_top.specs.FileCalls.{MakesCalls, read_calls}
 use Rattle.pg_top.specs.audit.Inside.Verdicts.{wanted_files}
 use Rattle.pg_top.proofs.Orders.{AreAccepted}
 use Rattle.pg_top.proofs.audit.compare.compare_all.Given as goal

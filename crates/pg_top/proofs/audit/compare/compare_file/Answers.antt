@@ -3,7 +3,7 @@ use Rattle.std.proofs.lemmas.Result.{IfOk-from_err}
 use Rattle.std.specs.Option.{option_map}
 use Rattle.pg_audit.specs.Differences.{first_false}
 use Rattle.pg_outside.specs.Content.{FilesShown, file_at}
-use Rattle.pg_top.specs.audit.Audited.{denies}
+use Rattle.pg_top.specs.audit.AuditRule.{denies}
 use Rattle.pg_top.specs.audit.Inside.Verdicts.{wanted_file, end_of, IsFrontOf}
 use Rattle.pg_top.proofs.Fronts.{front_stop}
 use Rattle.pg_top.proofs.audit.GivenFronts.{given_front}

@@ -4,7 +4,7 @@ use Rattle.pg_prune.specs.Reports.{prune_report}
 use Rattle.pg_top.specs.Outcomes.{Writing}
 use Rattle.pg_top.specs.Inside.writing.WritesMade.{writing_of}
 use Rattle.pg_top.specs.declared.writes.Output.{Output}
-use Rattle.pg_top.specs.prune.Pruned.{pruned_line}
+use Rattle.pg_top.specs.prune.PruneRule.{pruned_line}
 use Rattle.pg_top.proofs.prune.outputs.write_pruned.Goals as goal
 
 pub returns : goal.returns

@@ -5,7 +5,7 @@ use Rattle.pg_dict.specs.Inside.SoundWords.{SignsAtMost}
 use Rattle.pg_outside.specs.Content.{FilesShown, file_at}
 use Rattle.pg_table.specs.declared.limits.TheConstants.{TABLE_MAX}
 use Rattle.pg_texts.specs.ReportTexts.{ending_text}
-use Rattle.pg_top.specs.totals.Totalled.{packed_table}
+use Rattle.pg_top.specs.totals.TotalsRule.{packed_table}
 use Rattle.pg_top.specs.Readings.{Reading, input_file}
 use Rattle.pg_top.specs.Inside.reading.ReadAs.{read_as}
 use Rattle.pg_top.specs.totals.Inside.Inputs.{IsTotalled, totals_lines}

@@ -17,7 +17,7 @@ use Rattle.pg_top.specs.Outcomes.{Outcome, Ends}
 use Rattle.pg_top.specs.PrintedLines.{refused_line}
 use Rattle.pg_top.specs.Readings.{HeldFiles, table_named, patterns_under, translate_file, patterns_file}
 use Rattle.pg_top.specs.Rules.{CommandRule, usual_rule}
-use Rattle.pg_top.specs.totals.Totalled.{packed_table}
+use Rattle.pg_top.specs.totals.TotalsRule.{packed_table}
 use Rattle.pg_words.specs.Requests.{PackRequest}
 use Rattle.pg_top.specs.declared.answers.Status.TheVariants.{Done, Refused}
 use Rattle.pg_top.specs.declared.inputs.Input.TheVariants as input

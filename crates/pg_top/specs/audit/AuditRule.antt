@@ -7,7 +7,7 @@ use Rattle.pg_top.specs.Outcomes.{Outcome, Ends}
 use Rattle.pg_top.specs.PrintedLines.{word_of}
 use Rattle.pg_top.specs.Readings.{HeldFiles, Reading}
 use Rattle.pg_top.specs.Rules.{CommandRule, usual_rule}
-use Rattle.pg_top.specs.generate.Generated.{inputs_in, generate_rule}
+use Rattle.pg_top.specs.generate.GenerateRule.{inputs_in, generate_rule}
 use Rattle.pg_words.specs.Requests.{FileNames, if_asked}
 use Rattle.pg_top.specs.Selection.{selected_text, selected_list, selected_report}
 use Rattle.pg_top.specs.declared.answers.Status.TheVariants.{Yes, No, Refused, Memory}
