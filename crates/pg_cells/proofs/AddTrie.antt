@@ -12,7 +12,7 @@ use Rattle.pg_cells.specs.Inside.store.Store.{Extends}
 use Rattle.pg_cells.specs.Inside.families.Searches.{search_start}
 use Rattle.pg_cells.specs.Inside.store.Fit.{signs_of, slot_of}
 use Rattle.pg_cells.specs.Inside.store.Writes.{Takes}
-use Rattle.pg_cells.specs.Inside.families.Moves.{Outside, CanPlace, Moved, Collected}
+use Rattle.pg_cells.specs.Inside.families.Moves.{Outside, CanPlace, MovesFamily, AreSlotsOf}
 use Rattle.pg_cells.specs.Inside.linked.ValuedFamilies.{Trie}
 use Rattle.pg_cells.specs.Inside.families.Layouts.{IsTrie, standing, value_in}
 use Rattle.pg_cells.specs.Inside.families.Adding.{added}
@@ -199,7 +199,7 @@ module _ {V : Type 0} (few n : ℕ) (r : Row V) (t : Trie V) (trie : IsTrie n r 
             )
 
     -- the family, or none, is settled with the sign
-    pub trie_settles : (new : Row V) (base : ℕ) (slot : Slot V) → slot.sign ≡ s → CanPlace n r was slots slot parent → Moved few n r new was base slots slot parent
+    pub trie_settles : (new : Row V) (base : ℕ) (slot : Slot V) → slot.sign ≡ s → CanPlace n r was slots slot parent → MovesFamily few n r new was base slots slot parent
         → with_sign (search_start few n) t.families p s
         ≡ put order p (record { base = least_base (search_start few n) (without_family t.families p) (with_one_sign s (signs_of slots)); signs = with_one_sign s (signs_of slots) })
         (without_family t.families p)
@@ -215,7 +215,8 @@ module _ {V : Type 0} (few n : ℕ) (r : Row V) (t : Trie V) (trie : IsTrie n r 
         subst (IsTrie n new) (λ i. record { families = families i; values = put order (p ++ is i ∷ []) slot.value t.values }) whole
 
 -- the base of a family that was moved is in the row
-pub moved_near : {V : Type 0} (few n : ℕ) (r new : Row V) (was base : ℕ) (slots : List (Slot V)) (slot : Slot V) (parent : ℕ) → Moved few n r new was base slots slot parent → base ≤ length r.signs + 1
+pub moved_near : {V : Type 0} (few n : ℕ) (r new : Row V) (was base : ℕ) (slots : List (Slot V)) (slot : Slot V) (parent : ℕ) → MovesFamily few n r new was base slots slot parent
+    → base ≤ length r.signs + 1
 moved_near {V} few n r new was base slots slot parent moved =
     let size : length moved.dropped.signs ≡ length moved.gave.signs = elim moved.drops [ inl h ↦ ap (λ (k : Row V). length k.signs) h.1 | inr h ↦ h.1.size ] in
     omega (arith, moved.near, moved.is_top.within, moved.gives.others.size)
@@ -282,14 +283,14 @@ module _ {V : Type 0} (few n : ℕ) (old r : Row V) (t : Trie V) (before : IsTri
       first_of [] some = absurd (some refl)
       first_of (y ∷ ys) some = (y, or_left (nat_eq y y) (list_any (nat_eq y) ys) (eq-eqb y y refl))
 
-  module _ (slots : List (Slot V)) (none : base ≡ 0 → slots ≡ []) (some : 0 < base → Collected n r base slots) (no_join : 0 < base → sign_at r (base + s) ≢ 0) where
+  module _ (slots : List (Slot V)) (none : base ≡ 0 → slots ≡ []) (some : 0 < base → AreSlotsOf n r base slots) (no_join : 0 < base → sign_at r (base + s) ≢ 0) where
     pub owned : Owned n r t p base slots
     owned = elim (cases_eq base 0) [
       | inl z ↦ subst (λ b. Owned n r t p b slots) (sym z) (subst (Owned n r t p 0) (sym (none z)) (owned_none n r t grown p (no_family z)))
       | inr up ↦
           let f = some_family (omega arith) in
           subst (λ b. Owned n r t p b slots) f.2
-          (owned_some n r t grown p f.0 f.1 (let e = f.2 in omega arith) slots (subst (λ b. Collected n r b slots) (sym f.2) (some (omega arith))))
+          (owned_some n r t grown p f.0 f.1 (let e = f.2 in omega arith) slots (subst (λ b. AreSlotsOf n r b slots) (sym f.2) (some (omega arith))))
     ]
 
     pub settles_can : (slot : Slot V) → slot.sign ≡ s → slot.child ≡ 0 → length r.bases ≡ length r.signs → ((i : ℕ) → sign_at old i ≢ 0 → i + (n + 2) ≤ length r.signs)
@@ -316,7 +317,7 @@ module _ {V : Type 0} (few n : ℕ) (old r : Row V) (t : Trie V) (before : IsTri
           (without_family t.families p)) signs
     ]
 
-    module _ (new : Row V) (at : ℕ) (slot : Slot V) (is : slot.sign ≡ s) (can : CanPlace n r base slots slot parent) (moved : Moved few n r new base at slots slot parent) where
+    module _ (new : Row V) (at : ℕ) (slot : Slot V) (is : slot.sign ≡ s) (can : CanPlace n r base slots slot parent) (moved : MovesFamily few n r new base at slots slot parent) where
       pub settles_trie : IsTrie n new (added few n t p s slot.value)
       settles_trie = trie_settles few n r t grown p parent parent_is s low high lacks base slots owned new at slot is can moved settles_step
 

@@ -8,7 +8,7 @@ use Rattle.pg_cells.specs.declared.store.fit.Slot.{Slot}
 use Rattle.pg_cells.specs.Inside.store.Lists.{Row, sign_at, child_at, IsFree}
 use Rattle.pg_cells.specs.Inside.store.Store.{Extends}
 use Rattle.pg_cells.specs.Inside.store.Writes.{Takes}
-use Rattle.pg_cells.specs.Inside.families.Moves.{CanPlace, Moved, Collected}
+use Rattle.pg_cells.specs.Inside.families.Moves.{CanPlace, MovesFamily, AreSlotsOf}
 use Rattle.pg_cells.specs.Inside.linked.Members.{ArePassing, has_sign}
 use Rattle.pg_cells.specs.Inside.families.Adding.{CanAdd, CanTakeSign, added}
 use Rattle.pg_cells.specs.Inside.families.Layouts.{IsTrie}
@@ -38,14 +38,14 @@ module _ {V : Type 0} (few n : ℕ) (old r : Row V) (t : Trie V) (p : List ℕ) 
 
   -- it does not join, and the family is put at another base
   module _ (test : (nat_lt 0 base && nat_eq (sign_at r (base + s)) 0) ≡ false) (slots : List (Slot V)) (none : members ≡ [] → slots ≡ [])
-      (some : (m : ℕ) → ((i : ℕ) → sign_at r i ≤ m) → ArePassing (λ x. nat_eq (sign_at r (base + x)) x) members → Collected m r base slots) where
+      (some : (m : ℕ) → ((i : ℕ) → sign_at r i ≤ m) → ArePassing (λ x. nat_eq (sign_at r (base + x)) x) members → AreSlotsOf m r base slots) where
     are : ArePassing (has_sign t.families p) members
     are = can.are (sym (joins_told few n old r t can.trie more p parent can.at s low high can.lacks base base_is) ∙ test)
 
     empty : base ≡ 0 → slots ≡ []
     empty z = none (given_none few n old r t can.trie more p parent can.at s low high can.lacks base base_is members z are)
 
-    full : 0 < base → Collected n r base slots
+    full : 0 < base → AreSlotsOf n r base slots
     full up =
         some n (grown few n old r t can.trie more p parent can.at s low high can.lacks base base_is).layout.small
         (given_some few n old r t can.trie more p parent can.at s low high can.lacks base base_is members up are)
@@ -59,7 +59,7 @@ module _ {V : Type 0} (few n : ℕ) (old r : Row V) (t : Trie V) (p : List ℕ) 
     moving_can slot is no_child even room =
         settles_can few n old r t can.trie more p parent can.at s low high can.lacks base base_is slots empty full stays slot is no_child even room
 
-    module _ (new : Row V) (at : ℕ) (slot : Slot V) (is : slot.sign ≡ s) (place : CanPlace n r base slots slot parent) (moved : Moved few n r new base at slots slot parent) where
+    module _ (new : Row V) (at : ℕ) (slot : Slot V) (is : slot.sign ≡ s) (place : CanPlace n r base slots slot parent) (moved : MovesFamily few n r new base at slots slot parent) where
       pub moving_trie : IsTrie n new (added few n t p s slot.value)
       moving_trie = settles_trie few n old r t can.trie more p parent can.at s low high can.lacks base base_is slots empty full stays new at slot is place moved
 

@@ -7,7 +7,7 @@ use Rattle.pg_cells.specs.declared.store.fit.Slot.{Slot}
 use Rattle.pg_cells.specs.Inside.store.Lists.{Row, sign_at}
 use Rattle.pg_cells.specs.Inside.store.Fit.{signs_of, slot_of}
 use Rattle.pg_cells.specs.Inside.linked.Members.{IsNext, ArePassing, number_before}
-use Rattle.pg_cells.specs.Inside.families.Moves.{AreDistinct, Tells, Collected, Collects}
+use Rattle.pg_cells.specs.Inside.families.Moves.{AreDistinct, Tells, AreSlotsOf, Collects}
 use Rattle.pg_cells.proofs.Slots.{slot_push, slot_back}
 
 -- the last number of a range passes, or it does not
@@ -29,7 +29,7 @@ pub number_next : (xs : List ℕ) (k : ℕ) → number_before xs (k + 1) ≡ get
 number_next xs k = ap (λ j. get_or (0 ∷ xs) j 0) (add-one k)
 
 module _ {V : Type 0} (r : Row V) (base : ℕ) where
-  pub collected_none : Collected 0 r base []
+  pub collected_none : AreSlotsOf 0 r base []
   collected_none = record {
     signs = refl;
     told = λ x s e. cc;
@@ -38,7 +38,7 @@ module _ {V : Type 0} (r : Row V) (base : ℕ) where
   }
 
   -- a sign that does not stand
-  collected_less : (m : ℕ) (slots : List (Slot V)) → Collected m r base slots → sign_at r (base + (m + 1)) ≢ m + 1 → Collected (m + 1) r base slots
+  collected_less : (m : ℕ) (slots : List (Slot V)) → AreSlotsOf m r base slots → sign_at r (base + (m + 1)) ≢ m + 1 → AreSlotsOf (m + 1) r base slots
   collected_less m slots c off = record {
     signs =
         c.signs ∙ sym (append-nil (filter (λ x. nat_eq (sign_at r (base + x)) x) (range_with_len 1 m)))
@@ -59,7 +59,7 @@ module _ {V : Type 0} (r : Row V) (base : ℕ) where
       fails : nat_eq (sign_at r (base + (1 + m))) (1 + m) ≡ false
       fails = ne_eqb (sign_at r (base + (1 + m))) (1 + m) (λ z. off (ap (λ k. sign_at r (base + k)) (sym same) ∙ z ∙ same))
 
-  distinct_push : (m : ℕ) (slots : List (Slot V)) (y : Slot V) → Collected m r base slots → y.sign ≡ m + 1 → AreDistinct (slots ++ y ∷ [])
+  distinct_push : (m : ℕ) (slots : List (Slot V)) (y : Slot V) → AreSlotsOf m r base slots → y.sign ≡ m + 1 → AreDistinct (slots ++ y ∷ [])
   distinct_push m slots y c is k lt = elim (cases_lt k (length slots)) [
     | inl early ↦
         let front : take k (slots ++ y ∷ []) ≡ take k slots = take-append-le k slots (y ∷ []) (omega arith) in
@@ -75,7 +75,7 @@ module _ {V : Type 0} (r : Row V) (base : ℕ) where
   ]
 
   -- a sign that stands
-  collected_more : (m : ℕ) (slots : List (Slot V)) (y : Slot V) → Collected m r base slots → Tells r base (m + 1) y → y.sign ≡ m + 1 → Collected (m + 1) r base (slots ++ y ∷ [])
+  collected_more : (m : ℕ) (slots : List (Slot V)) (y : Slot V) → AreSlotsOf m r base slots → Tells r base (m + 1) y → y.sign ≡ m + 1 → AreSlotsOf (m + 1) r base (slots ++ y ∷ [])
   collected_more m slots y c tells is = record {
     signs =
         map_push (λ (z : Slot V). z.sign) slots y ∙ ap (λ k. signs_of slots ++ k ∷ []) (is ∙ sym same) ∙ ap (λ l. l ++ (1 + m) ∷ []) c.signs
@@ -102,34 +102,34 @@ module _ {V : Type 0} (r : Row V) (base : ℕ) where
       passes = eq-eqb (sign_at r (base + (1 + m))) (1 + m) (ap (λ k. sign_at r (base + k)) same ∙ tells.sign ∙ sym same)
 
   -- signs that do not stand
-  collected_gap : (m gap : ℕ) (slots : List (Slot V)) → ((y : ℕ) → m < y → y ≤ m + gap → sign_at r (base + y) ≢ y) → Collected m r base slots → Collected (m + gap) r base slots
-  collected_gap m zero slots none c = let same : m ≡ m + 0 = omega arith in subst (λ k. Collected k r base slots) same c
+  collected_gap : (m gap : ℕ) (slots : List (Slot V)) → ((y : ℕ) → m < y → y ≤ m + gap → sign_at r (base + y) ≢ y) → AreSlotsOf m r base slots → AreSlotsOf (m + gap) r base slots
+  collected_gap m zero slots none c = let same : m ≡ m + 0 = omega arith in subst (λ k. AreSlotsOf k r base slots) same c
   collected_gap m (suc gap) slots none c =
       let same : m + gap + 1 ≡ m + suc gap = omega arith in
-      subst (λ k. Collected k r base slots) same
+      subst (λ k. AreSlotsOf k r base slots) same
       (collected_less (m + gap) slots (collected_gap m gap slots (λ y low le. none y low (omega arith)) c) (none (m + gap + 1) (omega arith) (omega arith)))
 
-  collected_up : (m k : ℕ) (slots : List (Slot V)) → m ≤ k → ((y : ℕ) → m < y → y ≤ k → sign_at r (base + y) ≢ y) → Collected m r base slots → Collected k r base slots
+  collected_up : (m k : ℕ) (slots : List (Slot V)) → m ≤ k → ((y : ℕ) → m < y → y ≤ k → sign_at r (base + y) ≢ y) → AreSlotsOf m r base slots → AreSlotsOf k r base slots
   collected_up m k slots le none c =
       let same : m + (k - m) ≡ k = omega arith in
-      subst (λ j. Collected j r base slots) same (collected_gap m (k - m) slots (λ y low up. none y low (omega arith)) c)
+      subst (λ j. AreSlotsOf j r base slots) same (collected_gap m (k - m) slots (λ y low up. none y low (omega arith)) c)
 
   -- the next sign that stands
-  pub collected_next : (m x : ℕ) (slots new : List (Slot V)) → IsNext (λ z. nat_eq (sign_at r (base + z)) z) m x → 0 < x → Collected m r base slots
-      → Collects r base x slots new → Collected x r base new
+  pub collected_next : (m x : ℕ) (slots new : List (Slot V)) → IsNext (λ z. nat_eq (sign_at r (base + z)) z) m x → 0 < x → AreSlotsOf m r base slots
+      → Collects r base x slots new → AreSlotsOf x r base new
   collected_next m x slots new next up c step =
       let found = next.found up in
       let same : x - 1 + 1 ≡ x = omega arith in
-      let before : Collected (x - 1) r base slots = collected_up m (x - 1) slots (let less = found.0 in omega arith)
+      let before : AreSlotsOf (x - 1) r base slots = collected_up m (x - 1) slots (let less = found.0 in omega arith)
       (λ y low le e. let least = next.least y low (eq-eqb (sign_at r (base + y)) y e) in let most = least.1 in omega arith) c in
       elim step [
         | inl h ↦ absurd (h.0 (eqb-true (sign_at r (base + x)) x found.1))
-        | inr h ↦ subst (λ j. Collected j r base new) same (subst (Collected (x - 1 + 1) r base) (sym h.3)
+        | inr h ↦ subst (λ j. AreSlotsOf j r base new) same (subst (AreSlotsOf (x - 1 + 1) r base) (sym h.3)
             (collected_more (x - 1) slots h.0 before (subst (λ j. Tells r base j h.0) (sym same) h.1) (h.2 ∙ sym same)))
       ]
 
   -- no further sign stands
-  pub collected_end : (m n : ℕ) (slots : List (Slot V)) → m ≤ n → IsNext (λ z. nat_eq (sign_at r (base + z)) z) m 0 → Collected m r base slots → Collected n r base slots
+  pub collected_end : (m n : ℕ) (slots : List (Slot V)) → m ≤ n → IsNext (λ z. nat_eq (sign_at r (base + z)) z) m 0 → AreSlotsOf m r base slots → AreSlotsOf n r base slots
   collected_end m n slots le next c =
       collected_up m n slots le (λ y low up e. let least = next.least y low (eq-eqb (sign_at r (base + y)) y e) in let no = least.0 in omega arith) c
 

@@ -4,13 +4,13 @@ use Rattle.std.proofs.lemmas.List.{length_push}
 use Rattle.pg_cells.specs.declared.store.fit.Slot.{Slot}
 use Rattle.pg_cells.specs.Inside.store.Lists.{Row, sign_at, child_at}
 use Rattle.pg_cells.specs.Inside.store.Fit.{slot_of}
-use Rattle.pg_cells.specs.Inside.store.Writes.{Elsewhere, Takes, Frees}
+use Rattle.pg_cells.specs.Inside.store.Writes.{KeepsOtherIndices, Takes, Frees}
 use Rattle.pg_cells.specs.Inside.families.Moves.{Others, GivesUp, Puts}
 use Rattle.pg_cells.proofs.Slots.{slot_push, outside_push}
 
 module _ {V : Type 0} where
   others_more : (old mid new : Row V) (base : ℕ) (xs : List (Slot V)) (y : Slot V) → slot_of xs y.sign ≡ None → Others old mid base xs
-      → Elsewhere mid new (base + y.sign) → Others old new base (xs ++ y ∷ [])
+      → KeepsOtherIndices mid new (base + y.sign) → Others old new base (xs ++ y ∷ [])
   others_more old mid new base xs y none o e = record {
     signs = λ i out. let h = outside_push base xs y i none out in e.signs i h.1 ∙ o.signs i h.0;
     children = λ i out. let h = outside_push base xs y i none out in e.children i h.1 ∙ o.children i h.0;

@@ -8,7 +8,7 @@ use Rattle.pg_types.specs.Placement.{Family, Families, family_at, without_family
 use Rattle.pg_cells.specs.declared.store.fit.Slot.{Slot}
 use Rattle.pg_cells.specs.Inside.store.Lists.{Row, sign_at, child_at, base_at}
 use Rattle.pg_cells.specs.Inside.store.Fit.{signs_of, slot_of}
-use Rattle.pg_cells.specs.Inside.families.Moves.{Outside, CanPlace, Moved}
+use Rattle.pg_cells.specs.Inside.families.Moves.{Outside, CanPlace, MovesFamily}
 use Rattle.pg_cells.specs.Inside.store.Store.{taken_in}
 use Rattle.pg_cells.specs.Inside.linked.ValuedFamilies.{Trie}
 use Rattle.pg_cells.specs.Inside.families.Layouts.{IsTrie, standing}
@@ -27,7 +27,7 @@ use Rattle.pg_cells.proofs.Owned.{Owned}
 use Rattle.pg_cells.proofs.Cleared.{others_outside, sign_outside, child_outside, value_outside, taken_owner, other_flag, flag_other, least_same}
 
 module _ {V : Type 0} (few n : ℕ) (r new : Row V) (t : Trie V) (trie : IsTrie n r t) (p : List ℕ) (parent : ℕ) (parent_is : cell_of t.families p ≡ Some parent)
-    (was base : ℕ) (slots : List (Slot V)) (slot : Slot V) (own : Owned n r t p was slots) (can : CanPlace n r was slots slot parent) (moved : Moved few n r new was base slots slot parent) where
+    (was base : ℕ) (slots : List (Slot V)) (slot : Slot V) (own : Owned n r t p was slots) (can : CanPlace n r was slots slot parent) (moved : MovesFamily few n r new was base slots slot parent) where
   -- the family as it is now, and all families
   abbrev pub family : Family
   family = record { base = base; signs = with_one_sign slot.sign (signs_of slots) }

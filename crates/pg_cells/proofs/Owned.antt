@@ -8,7 +8,7 @@ use Rattle.pg_types.specs.Placement.{Family, family_at}
 use Rattle.pg_cells.specs.declared.store.fit.Slot.{Slot}
 use Rattle.pg_cells.specs.Inside.store.Lists.{Row, sign_at, child_at}
 use Rattle.pg_cells.specs.Inside.store.Fit.{signs_of, slot_of}
-use Rattle.pg_cells.specs.Inside.families.Moves.{AreDistinct, Collected}
+use Rattle.pg_cells.specs.Inside.families.Moves.{AreDistinct, AreSlotsOf}
 use Rattle.pg_cells.specs.Inside.linked.ValuedFamilies.{Trie}
 use Rattle.pg_cells.specs.Inside.families.Layouts.{IsTrie, value_in}
 use Rattle.pg_cells.proofs.StringMaps.{order}
@@ -64,7 +64,7 @@ module _ {V : Type 0} (n : ℕ) (r : Row V) (t : Trie V) (trie : IsTrie n r t) (
       filter_none a zero = refl
       filter_none a (suc m) = filter_none (a + 1) m
 
-  module _ (f : Family) (at : family_at t.families p ≡ Some f) (up : 0 < f.base) (slots : List (Slot V)) (c : Collected n r f.base slots) where
+  module _ (f : Family) (at : family_at t.families p ≡ Some f) (up : 0 < f.base) (slots : List (Slot V)) (c : AreSlotsOf n r f.base slots) where
     -- the family is the one at p
     is_f : (g : Family) → family_at t.families p ≡ Some g → g ≡ f
     is_f g gat = let same : Some g ≡ Some f = sym gat ∙ at in cc

@@ -5,7 +5,7 @@ ghost use Rattle.pg_cells.specs.declared.store.member.Member.{Member as MemberOf
 ghost use Rattle.pg_cells.specs.Inside.store.Lists.{sign_at, IsFree};
 ghost use Rattle.pg_cells.specs.Inside.store.Fit.{slot_of};
 ghost use Rattle.pg_cells.specs.Inside.linked.Members.{ArePassing};
-ghost use Rattle.pg_cells.specs.Inside.families.Moves.{AllFit, AreDistinct, GivesUp, Puts, Collected, Collects};
+ghost use Rattle.pg_cells.specs.Inside.families.Moves.{AllFit, AreDistinct, GivesUp, Puts, AreSlotsOf, Collects};
 
 use crate::store::Store;
 use crate::store::fit::Slot;
@@ -55,7 +55,7 @@ pub fn collect<V: Copy>(
     ensures none { members.now ≡ [] → OnOk result (slots.new.items ≡ []) }
     ensures some { (n : ℕ) → ((i : ℕ) → sign_at store.now i ≤ n) →
         ArePassing (λ x. nat_eq (sign_at store.now (base + x)) x) members.now →
-        OnOk result (Collected n store.now base slots.new.items) }
+        OnOk result (AreSlotsOf n store.now base slots.new.items) }
     ensures fits { OnOk result (AllFit slots.new.items) }
 {
     slots.clear();

@@ -4,7 +4,7 @@ ghost use Rattle.pg_types.specs.Inside.Placing.{IsLeast};
 ghost use Rattle.pg_cells.specs.Inside.store.Fit.{fits_row, signs_of};
 ghost use Rattle.pg_cells.specs.Inside.store.Lists.{FitsCell};
 ghost use Rattle.pg_cells.specs.Inside.families.Searches.{far_from_top, search_start};
-ghost use Rattle.pg_cells.specs.Inside.families.Moves.{AllFit, Drops, Moved, CanPlace};
+ghost use Rattle.pg_cells.specs.Inside.families.Moves.{AllFit, Drops, MovesFamily, CanPlace};
 ghost use Rattle.pg_cells.specs.Inside.store.Store.{IsRow};
 
 use crate::families::moves::{give_up, put};
@@ -108,7 +108,7 @@ pub fn place_family<V: Copy>(
     requires signs { signs ≤ SIGNS_MAX }
     requires fits { FitsCell slot.value }
     requires all_fit { AllFit slots.now }
-    ensures moved { Moved few signs store.old store.new was result slots.now slot parent }
+    ensures moved { MovesFamily few signs store.old store.new was result slots.now slot parent }
     ensures row { IsRow store.new }
 {
     let sought = store.sought_from(was);

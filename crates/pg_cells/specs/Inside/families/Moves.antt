@@ -53,7 +53,7 @@ module _ {V : Type 0} where
     pub value : slice_get r.values (base + x) ≡ Some slot.value
 
   -- the slots are those of the family at the base, up to the sign n
-  pub record Collected (n : ℕ) (r : Row V) (base : ℕ) (slots : List (Slot V)) : Type 0 where
+  pub record AreSlotsOf (n : ℕ) (r : Row V) (base : ℕ) (slots : List (Slot V)) : Type 0 where
     pub signs : signs_of slots ≡ standing n r base
     pub told : (x : ℕ) (slot : Slot V) → slot_of slots x ≡ Some slot → Tells r base x slot
     pub distinct : AreDistinct slots
@@ -92,7 +92,7 @@ module _ {V : Type 0} where
     pub based : (i : ℕ) → sign_at r i ≢ 0 → (b : ℕ) × (base_at r b ≡ true) × (i ≡ b + sign_at r i)
 
   -- a family gave up its cells and its base, and was put with one sign more at the least base
-  pub record Moved (few n : ℕ) (old new : Row V) (was base : ℕ)
+  pub record MovesFamily (few n : ℕ) (old new : Row V) (was base : ℕ)
       (slots : List (Slot V)) (slot : Slot V) (parent : ℕ) : Type 0 where
     pub gave : Row V
     pub dropped : Row V

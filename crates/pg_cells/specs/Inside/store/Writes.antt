@@ -5,7 +5,7 @@ use Rattle.pg_cells.specs.Inside.store.Store.{taken_in}
 
 module _ {V : Type 0} where
   -- all cells but one, and all flags, are as before
-  pub record Elsewhere (old new : Row V) (cell : ℕ) : Type 0 where
+  pub record KeepsOtherIndices (old new : Row V) (cell : ℕ) : Type 0 where
     pub signs : (j : ℕ) → j ≢ cell → sign_at new j ≡ sign_at old j
     pub children : (j : ℕ) → j ≢ cell → child_at new j ≡ child_at old j
     pub values : (j : ℕ) → j ≢ cell → slice_get new.values j ≡ slice_get old.values j
@@ -14,7 +14,7 @@ module _ {V : Type 0} where
 
   -- a cell was taken, with this sign, value and child, and nothing else changed
   pub record Takes (old new : Row V) (cell sign : ℕ) (value : V) (child : ℕ) : Type 0 where
-    pub elsewhere : Elsewhere old new cell
+    pub elsewhere : KeepsOtherIndices old new cell
     pub sign_is : sign_at new cell ≡ sign
     pub child_is : child_at new cell ≡ child
     pub value_is : slice_get new.values cell ≡ Some value
@@ -22,14 +22,14 @@ module _ {V : Type 0} where
 
   -- a cell was given up: it has no sign and no child, and the other cells are as before
   pub record Frees (old new : Row V) (cell : ℕ) : Type 0 where
-    pub elsewhere : Elsewhere old new cell
+    pub elsewhere : KeepsOtherIndices old new cell
     pub sign_is : sign_at new cell ≡ 0
     pub child_is : child_at new cell ≡ 0
     pub count : taken_in new + 1 ≡ taken_in old
 
   -- the child of a cell was set, and nothing else changed
   pub record SetsChild (old new : Row V) (cell child : ℕ) : Type 0 where
-    pub elsewhere : Elsewhere old new cell
+    pub elsewhere : KeepsOtherIndices old new cell
     pub sign_is : sign_at new cell ≡ sign_at old cell
     pub child_is : child_at new cell ≡ child
     pub value_is : slice_get new.values cell ≡ slice_get old.values cell
@@ -37,7 +37,7 @@ module _ {V : Type 0} where
 
   -- the value of a cell was set, and nothing else changed
   pub record SetsValue (old new : Row V) (cell : ℕ) (value : V) : Type 0 where
-    pub elsewhere : Elsewhere old new cell
+    pub elsewhere : KeepsOtherIndices old new cell
     pub sign_is : sign_at new cell ≡ sign_at old cell
     pub child_is : child_at new cell ≡ child_at old cell
     pub value_is : slice_get new.values cell ≡ Some value

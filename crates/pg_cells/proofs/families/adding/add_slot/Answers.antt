@@ -2,7 +2,7 @@ use Rattle.std.proofs.lemmas.Result.{err_from_is_err_and}
 use Rattle.std.proofs.Common.{◌≡◌, ℕ, ◌+◌, ◌≤◌, nat_eq, [], refl, sym, ◌∙◌, subst, arith}
 use Rattle.pg_cells.specs.Inside.store.Lists.{sign_at, child_at}
 use Rattle.pg_cells.specs.Inside.linked.Members.{ArePassing}
-use Rattle.pg_cells.specs.Inside.families.Moves.{AllFit, Collected}
+use Rattle.pg_cells.specs.Inside.families.Moves.{AllFit, AreSlotsOf}
 use Rattle.pg_cells.proofs.AddTrie.{parent_taken, child_within, moved_near}
 use Rattle.pg_cells.proofs.AddedSlot.{joining_free, joining_trie, joining_cell, moving_can, moving_trie, moving_cell}
 use Rattle.pg_cells.proofs.families.adding.add_slot.Goals as goal
@@ -50,7 +50,7 @@ place_family-placed-requires-clause-can g c =
     moving_can c.args.few c.args.signs c.args.store.now c.make_room.new.self c.requires.can.0 c.requires.can.1 c.args.parent c.args.slot.sign
     c.args.members.now c.requires.can.2 c.in_ok-make_room.ensures.extends c.requires.sign.0 c.requires.sign.1 c.child-base.result c.child-base.ensures
     (sym c.joins.ensures ∙ c.if-joins.false) c.as_slice-slots.result.now (λ e. c.as_slice-slots.ensures.value ∙ c.in_ok-collect.ensures.none e)
-    (λ m small are. subst (Collected m c.make_room.new.self c.child-base.result) (sym c.as_slice-slots.ensures.value) (c.in_ok-collect.ensures.some m small are))
+    (λ m small are. subst (AreSlotsOf m c.make_room.new.self c.child-base.result) (sym c.as_slice-slots.ensures.value) (c.in_ok-collect.ensures.some m small are))
     c.args.slot refl c.requires.child c.in_ok-make_room.ensures.row.bases c.in_ok-make_room.ensures.room
 
 pub place_family-placed-requires-clause-was : goal.place_family-placed-requires-clause-was
@@ -69,8 +69,8 @@ pub returns-clause-trie : goal.returns-clause-trie
 returns-clause-trie g c t q can =
     let none : c.args.members.now ≡ [] → c.as_slice-slots.result.now ≡ [] = λ e. c.as_slice-slots.ensures.value ∙ c.in_ok-collect.ensures.none e in
     let some : (m : ℕ) → ((i : ℕ) → sign_at c.make_room.new.self i ≤ m) → ArePassing (λ x. nat_eq (sign_at c.make_room.new.self (c.child-base.result + x)) x) c.args.members.now
-    → Collected m c.make_room.new.self c.child-base.result c.as_slice-slots.result.now =
-    λ m small are. subst (Collected m c.make_room.new.self c.child-base.result) (sym c.as_slice-slots.ensures.value) (c.in_ok-collect.ensures.some m small are) in
+    → AreSlotsOf m c.make_room.new.self c.child-base.result c.as_slice-slots.result.now =
+    λ m small are. subst (AreSlotsOf m c.make_room.new.self c.child-base.result) (sym c.as_slice-slots.ensures.value) (c.in_ok-collect.ensures.some m small are) in
     let place = moving_can c.args.few c.args.signs c.args.store.now c.make_room.new.self t q c.args.parent c.args.slot.sign c.args.members.now can
     c.in_ok-make_room.ensures.extends c.requires.sign.0 c.requires.sign.1 c.child-base.result c.child-base.ensures
     (sym c.joins.ensures ∙ c.if-joins.false) c.as_slice-slots.result.now none some
@@ -84,8 +84,8 @@ pub returns-clause-cell : goal.returns-clause-cell
 returns-clause-cell g c t q can =
     let none : c.args.members.now ≡ [] → c.as_slice-slots.result.now ≡ [] = λ e. c.as_slice-slots.ensures.value ∙ c.in_ok-collect.ensures.none e in
     let some : (m : ℕ) → ((i : ℕ) → sign_at c.make_room.new.self i ≤ m) → ArePassing (λ x. nat_eq (sign_at c.make_room.new.self (c.child-base.result + x)) x) c.args.members.now
-    → Collected m c.make_room.new.self c.child-base.result c.as_slice-slots.result.now =
-    λ m small are. subst (Collected m c.make_room.new.self c.child-base.result) (sym c.as_slice-slots.ensures.value) (c.in_ok-collect.ensures.some m small are) in
+    → AreSlotsOf m c.make_room.new.self c.child-base.result c.as_slice-slots.result.now =
+    λ m small are. subst (AreSlotsOf m c.make_room.new.self c.child-base.result) (sym c.as_slice-slots.ensures.value) (c.in_ok-collect.ensures.some m small are) in
     let place = moving_can c.args.few c.args.signs c.args.store.now c.make_room.new.self t q c.args.parent c.args.slot.sign c.args.members.now can
     c.in_ok-make_room.ensures.extends c.requires.sign.0 c.requires.sign.1 c.child-base.result c.child-base.ensures
     (sym c.joins.ensures ∙ c.if-joins.false) c.as_slice-slots.result.now none some
