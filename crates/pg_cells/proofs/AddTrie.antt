@@ -14,7 +14,7 @@ use Rattle.pg_cells.specs.Inside.store.Fit.{signs_of, slot_of}
 use Rattle.pg_cells.specs.Inside.store.Writes.{Takes}
 use Rattle.pg_cells.specs.Inside.families.Moves.{Outside, CanPlace, MovesFamily, AreSlotsOf}
 use Rattle.pg_cells.specs.Inside.linked.ValuedFamilies.{Trie}
-use Rattle.pg_cells.specs.Inside.families.Layouts.{IsTrie, standing, value_in}
+use Rattle.pg_cells.specs.Inside.families.Layouts.{IsTrie, signs_at_base, value_in}
 use Rattle.pg_cells.specs.Inside.families.Adding.{added}
 use Rattle.pg_cells.proofs.LinkedLists.{taken_within}
 use Rattle.pg_cells.proofs.StringMaps.{order, same_maps, find_put_same, find_without_same, find_without_other, sorted_without, equal_or_not}
@@ -311,7 +311,7 @@ module _ {V : Type 0} (few n : ℕ) (old r : Row V) (t : Trie V) (before : IsTri
       | inr up ↦
           let f = some_family (omega arith) in
           let used = taken_used n r t.families grown.sorted grown.layout (f.0.base + s) (λ z. no_join (omega arith) (ap (λ b. sign_at r (b + s)) (sym f.2) ∙ z)) in
-          let signs : f.0.signs ≡ signs_of slots = grown.layout.members p f.0 f.1 ∙ ap (standing n r) f.2 ∙ sym (some (omega arith)).signs in
+          let signs : f.0.signs ≡ signs_of slots = grown.layout.members p f.0 f.1 ∙ ap (signs_at_base n r) f.2 ∙ sym (some (omega arith)).signs in
           sign_moves few n t.families p s f.0 f.1 used
           ∙ ap (λ xs. put order p (record { base = least_base (search_start few n) (without_family t.families p) (with_one_sign s xs); signs = with_one_sign s xs })
           (without_family t.families p)) signs

@@ -5,7 +5,7 @@ use Rattle.std.proofs.lemmas.List.{get_or-set_same, get_or-set_other, get_or_pas
 use Rattle.pg_cells.specs.declared.store.cell.Cell.{Cell}
 use Rattle.pg_cells.specs.declared.store.member.Member.{Member}
 use Rattle.pg_cells.specs.Inside.store.Lists.{sign_seen, base_seen, link_seen, Lists, lists, row_of, sign_at, with_free, with_base, before_seen}
-use Rattle.pg_cells.specs.Inside.store.FreeList.{Linked, AreLinked, IsFreeTo}
+use Rattle.pg_cells.specs.Inside.store.FreeList.{IsFreeList, AreLinked, IsFreeTo}
 use Rattle.pg_cells.specs.Inside.families.Root.{IsRootTo}
 use Rattle.pg_cells.specs.Inside.store.Store.{IsKept, IsStore}
 use Rattle.pg_cells.proofs.BlockedLaws.{blocked_none}
@@ -72,7 +72,7 @@ module _ {V : Type 0} where
 
 -- links of all numbers up to `last`, each with the one before it and the one after it
 pub all_linked : (S B A : ℕ → ℕ) (last : ℕ) → ((j : ℕ) → j ≤ last → S j ≡ 0) → ((j : ℕ) → last < j → S j ≡ 1)
-    → B 0 ≡ last → ((j : ℕ) → 0 < j → j ≤ last → B j + 1 ≡ j) → ((j : ℕ) → j < last → A j ≡ j + 1) → A last ≡ 0 → Linked S B A
+    → B 0 ≡ last → ((j : ℕ) → 0 < j → j ≤ last → B j + 1 ≡ j) → ((j : ℕ) → j < last → A j ≡ j + 1) → A last ≡ 0 → IsFreeList S B A
 all_linked S B A last here past first befores afters end =
     let within : (j : ℕ) → S j ≡ 0 → j ≤ last = λ j e. elim (cases_lt last j) [ inl lt ↦ absurd (let one = past j lt in omega arith) | inr le ↦ le ] in
     let inner : (i : ℕ) → S i ≡ 0 → A i ≢ 0 → i < last = λ i e some. elim (cases_eq i last) [ inl is ↦ absurd (some (ap A is ∙ end)) | inr n ↦ (let le = within i e in omega arith) ] in

@@ -9,20 +9,20 @@ use Rattle.std.proofs.lemmas.Bool.{ne_eqb}
 use Rattle.pg_cells.specs.declared.store.cell.Cell.{Cell}
 use Rattle.pg_cells.specs.declared.store.member.Member.{Member}
 use Rattle.pg_cells.proofs.WordLaws.{sign_even, sign_odd, odd_word, value_odd, value_sign, value_next, value_first, value_base, value_link, taken_odd, taken_sign, taken_next, taken_first, taken_base, taken_link, link_same, base_same, low_same}
-use Rattle.pg_cells.specs.Inside.store.Lists.{lists, lone, bared, sign_seen, base_seen, link_seen, child_seen, member_seen, before_seen, sign_in, next_in, first_in, base_in, link_in, FitsCell, sign_at, child_at, base_at, before_at, after_at, IsFree, with_before, with_after, with_child, with_value, with_base, with_taken, with_free}
+use Rattle.pg_cells.specs.Inside.store.Lists.{lists, without_links, unlink_at, sign_seen, base_seen, link_seen, child_seen, member_seen, before_seen, sign_in, next_in, first_in, base_in, link_in, FitsCell, sign_at, child_at, base_at, before_at, after_at, IsFree, with_before, with_after, with_child, with_value, with_base, with_taken, with_free}
 
 -- a value without its links loses none
-lone_seen : {V : Type 0} (b : Bool) (v : V) (m : Member V) → m.value ≡ v → lone v ≡ lone (cond b (lone v) m).value
+lone_seen : {V : Type 0} (b : Bool) (v : V) (m : Member V) → m.value ≡ v → without_links v ≡ without_links (cond b (without_links v) m).value
 lone_seen true v m e = refl
-lone_seen false v m e = ap lone (sym e)
+lone_seen false v m e = ap without_links (sym e)
 
 -- what is seen of a free cell, and of a taken one
 module _ {V : Type 0} (c : Cell V) where
   free_child : sign_seen c ≡ 0 → child_seen c ≡ 0
   free_child e = ap (λ n. cond (nat_eq n 0) 0 (link_seen c)) e
 
-  free_member : sign_seen c ≡ 0 → member_seen c ≡ lone c.value
-  free_member e = ap (λ n. cond (nat_eq n 0) (lone c.value) (record { value = c.value; next = next_in c.signs; first = first_in c.signs c.links })) e
+  free_member : sign_seen c ≡ 0 → member_seen c ≡ without_links c.value
+  free_member e = ap (λ n. cond (nat_eq n 0) (without_links c.value) (record { value = c.value; next = next_in c.signs; first = first_in c.signs c.links })) e
 
   free_before : sign_seen c ≡ 0 → before_seen c ≡ c.signs / 2
   free_before e = ap (λ n. cond (nat_eq n 0) (c.signs / 2) 0) e
@@ -31,7 +31,7 @@ module _ {V : Type 0} (c : Cell V) where
   taken_child e = ap (λ b. cond b 0 (link_seen c)) (ne_eqb (sign_seen c) 0 e)
 
   taken_member : sign_seen c ≢ 0 → member_seen c ≡ record { value = c.value; next = next_in c.signs; first = first_in c.signs c.links }
-  taken_member e = ap (λ b. cond b (lone c.value) (record { value = c.value; next = next_in c.signs; first = first_in c.signs c.links })) (ne_eqb (sign_seen c) 0 e)
+  taken_member e = ap (λ b. cond b (without_links c.value) (record { value = c.value; next = next_in c.signs; first = first_in c.signs c.links })) (ne_eqb (sign_seen c) 0 e)
 
   taken_before : sign_seen c ≢ 0 → before_seen c ≡ 0
   taken_before e = ap (λ b. cond b (c.signs / 2) 0) (ne_eqb (sign_seen c) 0 e)
@@ -162,7 +162,7 @@ module _ {V : Type 0} (cells : List (Cell V)) (i : ℕ) (d : Cell V) where
           signs = kept sign_seen new refl t;
           children = kept child_seen new (ap (λ n. cond (nat_eq (sign_in S) 0) 0 n) link) t;
           values = kept member_seen new
-              (ap (λ n. cond (nat_eq (sign_in S) 0) (lone old.value) (record { value = old.value; next = next_in S; first = n * 512 + S / 8388608 % 512 })) low) t;
+              (ap (λ n. cond (nat_eq (sign_in S) 0) (without_links old.value) (record { value = old.value; next = next_in S; first = n * 512 + S / 8388608 % 512 })) low) t;
           bases = now base_seen new x base t;
         };
         befores = kept before_seen new refl t;
@@ -198,7 +198,7 @@ module _ {V : Type 0} (cells : List (Cell V)) (i : ℕ) (d : Cell V) where
 
 -- a cell that is given up keeps its value, and that is seen without links
 member_bared : {V : Type 0} (cells : List (Cell V)) (i : ℕ) (d : Cell V) (before links : ℕ)
-    → map member_seen (set cells i (record (get_or cells i d) { signs = before * 2; links = links })) ≡ bared (map member_seen cells) i
+    → map member_seen (set cells i (record (get_or cells i d) { signs = before * 2; links = links })) ≡ unlink_at (map member_seen cells) i
 member_bared [] i d before links = refl
 member_bared (c ∷ cs) zero d before links = ap (λ m. m ∷ map member_seen cs) (
     free_member (record c { signs = before * 2; links = links }) (sign_even before)

@@ -6,7 +6,7 @@ use Rattle.std.proofs.lemmas.List.{get_or_default}
 use Rattle.std.proofs.lemmas.List.Folds.{list_all_more, list_all_at}
 use Rattle.pg_types.specs.Inside.Placing.{IsLeast}
 use Rattle.pg_cells.specs.Inside.store.Lists.{Row, sign_at, base_at, IsFree}
-use Rattle.pg_cells.specs.Inside.store.FreeList.{Linked}
+use Rattle.pg_cells.specs.Inside.store.FreeList.{IsFreeList}
 use Rattle.pg_cells.specs.Inside.store.Fit.{fits_row}
 
 -- one more element that passes
@@ -49,7 +49,7 @@ module _ {V : Type 0} (r : Row V) (signs : List ℕ) where
       }
 
       -- one step along the list, from a base that does not fit
-      module _ (S B A : ℕ → ℕ) (linked : Linked S B A) (is_sign : (i : ℕ) → S i ≡ get_or r.signs i 1) (at : ℕ) (sought : IsSought low room at) (fails : fits_row r signs (at - first) ≡ false) where
+      module _ (S B A : ℕ → ℕ) (linked : IsFreeList S B A) (is_sign : (i : ℕ) → S i ≡ get_or r.signs i 1) (at : ℕ) (sought : IsSought low room at) (fails : fits_row r signs (at - first) ≡ false) where
         here : S at ≡ 0
         here = is_sign at ∙ sought.free
 

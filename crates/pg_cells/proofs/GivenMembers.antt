@@ -9,7 +9,7 @@ use Rattle.pg_cells.specs.Inside.store.Lists.{Row, sign_at, child_at}
 use Rattle.pg_cells.specs.Inside.store.Store.{Extends}
 use Rattle.pg_cells.specs.Inside.store.Writes.{Frees}
 use Rattle.pg_cells.specs.Inside.linked.ValuedFamilies.{Trie, ValuedFamilies}
-use Rattle.pg_cells.specs.Inside.families.Layouts.{IsTrie, standing}
+use Rattle.pg_cells.specs.Inside.families.Layouts.{IsTrie, signs_at_base}
 use Rattle.pg_cells.specs.Inside.families.Removing.{CanRemoveSign}
 use Rattle.pg_cells.specs.Inside.linked.Members.{IsNext, ArePassing, number_before, has_sign, IsAlone, HasOther}
 use Rattle.pg_cells.proofs.LayoutLaws.{sign_stands, taken_used}
@@ -57,7 +57,7 @@ module _ {V : Type 0} (n : ℕ) (r : Row V) (t : Trie V) (trie : IsTrie n r t) (
           absurd (let is = parts.1 in let le = stands.1 in omega arith)
 
   pub alone_told : (s : ℕ) (freed : Row V) → Frees r freed (base + s) → (b : Bool) → MatchBool b (IsAlone t.families p s) (HasOther t.families p s)
-      → MatchBool b (standing n freed base ≡ []) (standing n freed base ≢ [])
+      → MatchBool b (signs_at_base n freed base ≡ []) (signs_at_base n freed base ≢ [])
   alone_told s freed frees true alone = none_stands freed base n (λ x up le is. elim (cases_eq x s) [
     | inl e ↦ let gone : sign_at freed (base + x) ≡ 0 = ap (λ z. sign_at freed (base + z)) e ∙ frees.sign_is in omega arith
     | inr other ↦
@@ -135,7 +135,7 @@ module _ {V : Type 0} (n : ℕ) (r : Row V) (t : Trie V) (trie : IsTrie n r t) (
   -- whether a family is left without a sign, as it was told
   pub removed_alone : (h : ValuedFamilies V) → ◌≡◌ {A = ValuedFamilies V} (record { signs = n; families = t.families; values = t.values }) h → (b : Bool)
       → ((q : List ℕ) → cell_of h.families q ≡ Some parent → MatchBool b (IsAlone h.families q s) (HasOther h.families q s))
-      → (freed : Row V) → Frees r freed (base + s) → MatchBool b (standing n freed base ≡ []) (standing n freed base ≢ [])
+      → (freed : Row V) → Frees r freed (base + s) → MatchBool b (signs_at_base n freed base ≡ []) (signs_at_base n freed base ≢ [])
   removed_alone h view b owed freed frees =
       let told = subst (λ (k : ValuedFamilies V). (q : List ℕ) → cell_of k.families q ≡ Some parent → MatchBool b (IsAlone k.families q s) (HasOther k.families q s)) (sym view) owed in
       let f = its_family n r t trie parent s can base base_is_child in

@@ -7,7 +7,7 @@ use Rattle.pg_types.specs.Placement.{Family, Families, family_at, cell_of, with_
 use Rattle.pg_cells.specs.Inside.store.Lists.{Row, sign_at, child_at, base_at}
 use Rattle.pg_cells.specs.Inside.store.Writes.{Takes}
 use Rattle.pg_cells.specs.Inside.linked.ValuedFamilies.{Trie}
-use Rattle.pg_cells.specs.Inside.families.Layouts.{IsTrie, standing, value_in}
+use Rattle.pg_cells.specs.Inside.families.Layouts.{IsTrie, signs_at_base, value_in}
 use Rattle.pg_cells.proofs.StringMaps.{order, find_put_same, find_put_other, sorted_put, equal_or_not}
 use Rattle.pg_cells.proofs.PlacementLaws.{taken_put, size_of}
 use Rattle.pg_cells.proofs.OneSign.{filter_more, length_one_more, any_one_more}
@@ -47,7 +47,7 @@ module _ {V : Type 0} (n : ℕ) (r new : Row V) (t : Trie V) (trie : IsTrie n r 
         ∙ sym (ne_eqb (sign_at r (g.base + y)) y (λ z. omega arith))
   ]
 
-  stands_more : with_one_sign s f.signs ≡ standing n new f.base
+  stands_more : with_one_sign s f.signs ≡ signs_at_base n new f.base
   stands_more =
       ap (with_one_sign s) (trie.layout.members p f at)
       ∙ sym (filter_more (λ x. nat_eq (sign_at r (f.base + x)) x) (λ x. nat_eq (sign_at new (f.base + x)) x) s 1 n (omega arith)

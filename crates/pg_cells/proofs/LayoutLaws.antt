@@ -6,7 +6,7 @@ use Rattle.std.specs.FinMap.{is_sorted}
 use Rattle.pg_types.specs.Placement.{Family, Families, family_at, is_used, is_base, top}
 use Rattle.pg_cells.specs.Inside.store.Lists.{Row, sign_at, child_at, base_at}
 use Rattle.pg_cells.specs.Inside.store.Store.{IsTop}
-use Rattle.pg_cells.specs.Inside.families.Layouts.{IsLayout, standing}
+use Rattle.pg_cells.specs.Inside.families.Layouts.{IsLayout, signs_at_base}
 use Rattle.pg_cells.proofs.StringMaps.{order}
 use Rattle.pg_cells.proofs.PlacementLaws.{used_cell, cell_used, base_had, had_base, top_is}
 
@@ -128,5 +128,5 @@ laid_alike {V} {n} {r} F layout new signs children bases = record {
   flagged = λ b e. layout.flagged b (sym (bases b) ∙ e);
 }
   where
-    stand : (base : ℕ) → standing n r base ≡ standing n new base
+    stand : (base : ℕ) → signs_at_base n r base ≡ signs_at_base n new base
     stand base = λ t. filter (λ x. nat_eq (sym (signs (base + x)) t) x) (range_with_len 1 n)

@@ -4,9 +4,9 @@ use Rattle.std.proofs.lemmas.Bool.{cases_eq, cases_lt}
 use Rattle.std.proofs.lemmas.List.{get_or-set_same, get_or-set_other, get_or_past, get_or_default, length-set, length-map, map_push, length_push, set_at}
 use Rattle.pg_cells.specs.declared.store.cell.Cell.{Cell}
 use Rattle.pg_cells.specs.declared.store.member.Member.{Member}
-use Rattle.pg_cells.specs.Inside.store.Lists.{next_in, first_in, sign_seen, base_seen, link_seen, Row, Lists, lists, row_of, lone, bared, child_seen, member_seen, before_seen, IsFree, sign_at, before_at, after_at, with_before, with_after, with_taken, with_free, with_more}
-use Rattle.pg_cells.specs.Inside.store.FreeList.{Linked, AreLinked}
-use Rattle.pg_cells.proofs.LinkedSteps.{Linked-take, Linked-put}
+use Rattle.pg_cells.specs.Inside.store.Lists.{next_in, first_in, sign_seen, base_seen, link_seen, Row, Lists, lists, row_of, without_links, unlink_at, child_seen, member_seen, before_seen, IsFree, sign_at, before_at, after_at, with_before, with_after, with_taken, with_free, with_more}
+use Rattle.pg_cells.specs.Inside.store.FreeList.{IsFreeList, AreLinked}
+use Rattle.pg_cells.proofs.LinkedSteps.{IsFreeList-take, IsFreeList-put}
 
 -- the lists of the links are as long as that of the signs
 pub record AreEven {V : Type 0} (ls : Lists V) : Type 0 where
@@ -59,7 +59,7 @@ module _ {V : Type 0} where
         | inl z ↦ omega (arith, even.befores)
         | inr up ↦ let h = free_within ls.row (A i) (old.after_ok i free up).1 in omega (arith, even.befores)
       ] in
-      Linked-take S B A _ _ _ i old positive free (λ z. taken (sym (get_or-set_same ls.row.signs i sign 1 in_i) ∙ z))
+      IsFreeList-take S B A _ _ _ i old positive free (λ z. taken (sym (get_or-set_same ls.row.signs i sign 1 in_i) ∙ z))
       (λ j n. get_or-set_other ls.row.signs i j sign 1 n)
       (get_or-set_other (set ls.afters (B i) (A i)) i (B i) child 0 (λ z. let h : B i < i = before.0 in omega arith) ∙ get_or-set_same ls.afters (B i) (A i) 0 in_b)
       (λ j n m. get_or-set_other (set ls.afters (B i) (A i)) i j child 0 m ∙ get_or-set_other ls.afters (B i) j (A i) 0 n)
@@ -98,7 +98,7 @@ module _ {V : Type 0} where
         | inl y ↦ omega arith
         | inr up ↦ not_free ls.row i taken (subst (λ j. S j ≡ 0) z (old.after_ok b behind up).1)
       ] in
-      Linked-put S B A _ _ _ i b old (not_free ls.row i taken) (get_or-set_same ls.row.signs i 0 1 in_i) below behind nearest
+      IsFreeList-put S B A _ _ _ i b old (not_free ls.row i taken) (get_or-set_same ls.row.signs i 0 1 in_i) below behind nearest
       (λ j n. get_or-set_other ls.row.signs i j 0 1 n)
       (get_or-set_other (set ls.afters b i) i b (A b) 0 (λ z. omega arith) ∙ get_or-set_same ls.afters b i 0 in_b)
       (get_or-set_same (set ls.afters b i) i (A b) 0 (omega (arith, length-set ls.afters b i, even.afters)))
@@ -149,33 +149,33 @@ linked_push cells new c e sign before link old =
     let whole : ◌≡◌ {A = (ℕ → ℕ) × (ℕ → ℕ) × (ℕ → ℕ)} ((λ j. get_or (map sign_seen cells) j 1), (λ j. get_or (map before_seen cells) j 0), (λ j. get_or (map link_seen cells) j 0))
     ((λ j. get_or (map sign_seen (cells ++ c ∷ [])) j 1), (λ j. get_or (map before_seen (cells ++ c ∷ [])) j 0), (λ j. get_or (map link_seen (cells ++ c ∷ [])) j 0)) =
     λ t. ((λ j. sym (S j) t), (λ j. sym (B j) t), (λ j. sym (A j) t)) in
-    subst (λ l. AreLinked (lists l)) (sym e) (subst (λ (f : (ℕ → ℕ) × (ℕ → ℕ) × (ℕ → ℕ)). Linked f.0 f.1 f.2) whole old)
+    subst (λ l. AreLinked (lists l)) (sym e) (subst (λ (f : (ℕ → ℕ) × (ℕ → ℕ) × (ℕ → ℕ)). IsFreeList f.0 f.1 f.2) whole old)
 
 set_push : {A : Type 0} (xs : List A) (x y : A) (i : ℕ) → length xs ≡ i → set (xs ++ x ∷ []) i y ≡ xs ++ y ∷ []
 set_push xs x y i e = set_at xs x [] y i e
 
-bared_push : {V : Type 0} (ms : List (Member V)) (m : Member V) (i : ℕ) → length ms ≡ i → bared (ms ++ m ∷ []) i ≡ ms ++ lone m.value ∷ []
+bared_push : {V : Type 0} (ms : List (Member V)) (m : Member V) (i : ℕ) → length ms ≡ i → unlink_at (ms ++ m ∷ []) i ≡ ms ++ without_links m.value ∷ []
 bared_push [] m zero e = refl
 bared_push [] m (suc i) e = absurd (omega (arith, e))
 bared_push (x ∷ ms) m zero e = absurd (omega (arith, e))
 bared_push (x ∷ ms) m (suc i) e = ap (λ l. x ∷ l) (bared_push ms m i (omega (arith, e)))
 
-lone_member : {V : Type 0} (c : Cell V) → lone (member_seen c).value ≡ lone c.value
+lone_member : {V : Type 0} (c : Cell V) → without_links (member_seen c).value ≡ without_links c.value
 lone_member c = cases (nat_eq (sign_seen c) 0)
   where
-    cases : (b : Bool) → lone (cond b (lone c.value) (record { value = c.value; next = next_in c.signs; first = first_in c.signs c.links })).value ≡ lone c.value
+    cases : (b : Bool) → without_links (cond b (without_links c.value) (record { value = c.value; next = next_in c.signs; first = first_in c.signs c.links })).value ≡ without_links c.value
     cases true = refl
     cases false = refl
 
 -- a taken cell at the end that is given up is a free cell at the end
 pub row_push : {V : Type 0} (cells new : List (Cell V)) (c : Cell V) (r : Row (Member V)) → new ≡ cells ++ c ∷ [] → sign_seen c ≡ 1 → link_seen c ≡ 0 → base_seen c ≡ false
-    → r ≡ with_free (row_of new) (length new - 1) → r ≡ with_more (row_of cells) (lone c.value)
+    → r ≡ with_free (row_of new) (length new - 1) → r ≡ with_more (row_of cells) (without_links c.value)
 row_push {V = V} cells new c r e sign link base freed =
     let n : length (cells ++ c ∷ []) - 1 ≡ length cells = omega (arith, length_push cells c) in
     freed ∙ ap (λ l. with_free (row_of l) (length l - 1)) e ∙ ap (with_free (row_of (cells ++ c ∷ []))) n ∙ (λ t. record {
       signs = (ap (λ l. set l (length cells) 0) (map_push sign_seen cells c) ∙ set_push (map sign_seen cells) (sign_seen c) 0 (length cells) (length-map cells sign_seen)) t;
       children = (ap (λ l. set l (length cells) 0) (map_push child_seen cells c) ∙ set_push (map child_seen cells) (child_seen c) 0 (length cells) (length-map cells child_seen)) t;
-      values = (ap (λ l. bared l (length cells)) (map_push member_seen cells c) ∙ bared_push (map member_seen cells) (member_seen c) (length cells) (length-map cells member_seen)
+      values = (ap (λ l. unlink_at l (length cells)) (map_push member_seen cells c) ∙ bared_push (map member_seen cells) (member_seen c) (length cells) (length-map cells member_seen)
           ∙ ap (λ m. map member_seen cells ++ m ∷ []) (lone_member c)) t;
       bases = (map_push base_seen cells c ∙ ap (λ b. map base_seen cells ++ b ∷ []) base) t;
     })

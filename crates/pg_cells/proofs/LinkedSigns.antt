@@ -7,7 +7,7 @@ use Rattle.pg_types.specs.Inside.Placing.{without_sign}
 use Rattle.pg_cells.specs.declared.store.member.Member.{Member}
 use Rattle.pg_cells.specs.Inside.families.Adding.{CanTakeSign, AddsSign}
 use Rattle.pg_cells.specs.Inside.linked.AreValuedFamilies.{AreValuedFamilies}
-use Rattle.pg_cells.specs.Inside.linked.Links.{AreLinks, with_link, unlinked}
+use Rattle.pg_cells.specs.Inside.linked.Links.{AreLinks, with_link, values_alone}
 use Rattle.pg_cells.specs.Inside.linked.Members.{IsNextSign, IsBefore, goes_on}
 use Rattle.pg_cells.specs.Inside.families.Removing.{CanRemoveSign, RemovesSign}
 use Rattle.pg_cells.specs.Inside.linked.ValuedFamilies.{ValuedFamilies, without_key}
@@ -36,7 +36,7 @@ module _ {V E : Type 0} (few : ℕ) (h mid new : ValuedFamilies (Member V)) (lin
     pub links_of_added : AreLinks new
     links_of_added = links_added h mid new links can.prefix parent can.at s can.low b before can.lacks after next v values_by_add kept is_linked
 
-    seen_added : unlinked new ≡ record (unlinked h) { families = with_sign (search_start few h.signs) h.families can.prefix s; values = put order (can.prefix ++ s ∷ []) v (plain h.values) }
+    seen_added : values_alone new ≡ record (values_alone h) { families = with_sign (search_start few h.signs) h.families can.prefix s; values = put order (can.prefix ++ s ∷ []) v (plain h.values) }
     seen_added =
         let held = adds.held can.prefix can.at in
         let signs : new.signs ≡ h.signs = ap (λ (k : ValuedFamilies (Member V)). k.signs) is_linked ∙ ap (λ (k : ValuedFamilies (Member V)). k.signs) held in
@@ -45,10 +45,10 @@ module _ {V E : Type 0} (few : ℕ) (h mid new : ValuedFamilies (Member V)) (lin
         let values = values_added h mid new links can.prefix parent can.at s can.low b before can.lacks after next v values_by_add adds.kept.ordered is_linked in
         λ i. record { signs = signs i; families = families i; values = values i }
 
-    pub linked_added : AddsSign {E = E} few (unlinked h) (unlinked new) parent s v (Ok cell)
+    pub linked_added : AddsSign {E = E} few (values_alone h) (values_alone new) parent s v (Ok cell)
     linked_added = record {
       held = λ q e. seen_added
-          ∙ ap (λ z. record (unlinked h) { families = with_sign (search_start few h.signs) h.families z s; values = put order (z ++ s ∷ []) v (plain h.values) })
+          ∙ ap (λ z. record (values_alone h) { families = with_sign (search_start few h.signs) h.families z s; values = put order (z ++ s ∷ []) v (plain h.values) })
           (links.held.apart can.prefix q parent can.at e);
       cell = λ q e. ap (λ (k : ValuedFamilies (Member V)). cell_of k.families (q ++ s ∷ [])) is_linked ∙ adds.cell q e;
       cells = λ q e r off. ap (λ (k : ValuedFamilies (Member V)). cell_of k.families r) is_linked ∙ adds.cells q e r off;
@@ -78,7 +78,7 @@ module _ {V : Type 0} (h mid new : ValuedFamilies (Member V)) (links : AreLinks 
     pub links_of_left : AreLinks new
     links_of_left = links_removed h mid new links can.prefix parent can.at s low b before after next values_by_remove kept is_relinked
 
-    seen_left : unlinked new ≡ record (unlinked h) { families = without_sign h.families can.prefix s; values = without_key (can.prefix ++ s ∷ []) (plain h.values) }
+    seen_left : values_alone new ≡ record (values_alone h) { families = without_sign h.families can.prefix s; values = without_key (can.prefix ++ s ∷ []) (plain h.values) }
     seen_left =
         let held = removes.held can.prefix can.at in
         let signs : new.signs ≡ h.signs = ap (λ (k : ValuedFamilies (Member V)). k.signs) is_relinked ∙ ap (λ (k : ValuedFamilies (Member V)). k.signs) held in
@@ -87,10 +87,10 @@ module _ {V : Type 0} (h mid new : ValuedFamilies (Member V)) (links : AreLinks 
         let values = values_removed h mid new links can.prefix parent can.at s low b before after next values_by_remove removes.kept.ordered is_relinked in
         λ i. record { signs = signs i; families = families i; values = values i }
 
-    pub linked_removed : RemovesSign (unlinked h) (unlinked new) parent s
+    pub linked_removed : RemovesSign (values_alone h) (values_alone new) parent s
     linked_removed = record {
       held = λ q e. seen_left
-          ∙ ap (λ z. record (unlinked h) { families = without_sign h.families z s; values = without_key (z ++ s ∷ []) (plain h.values) }) (links.held.apart can.prefix q parent can.at e);
+          ∙ ap (λ z. record (values_alone h) { families = without_sign h.families z s; values = without_key (z ++ s ∷ []) (plain h.values) }) (links.held.apart can.prefix q parent can.at e);
       cells = λ q e r off. ap (λ (k : ValuedFamilies (Member V)). cell_of k.families r) is_relinked ∙ removes.cells q e r off;
       kept = held_unlinked new kept;
     }

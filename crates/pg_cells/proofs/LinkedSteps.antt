@@ -1,10 +1,10 @@
 -- The list through the free cells stays whole when a free cell is taken out of it, and when a taken one is put into it.
 use Rattle.std.proofs.Common.{◌≡◌, ◌≢◌, ℕ, ◌<◌, ◌≤◌, inl, inr, sym, ◌∙◌, ap, arith}
 use Rattle.std.proofs.lemmas.Bool.{cases_eq, cases_lt}
-use Rattle.pg_cells.specs.Inside.store.FreeList.{Linked}
+use Rattle.pg_cells.specs.Inside.store.FreeList.{IsFreeList}
 
 -- the cell i is taken out
-module _ (S B A S' B' A' : ℕ → ℕ) (i : ℕ) (old : Linked S B A) (positive : 0 < i) (free : S i ≡ 0) (taken : S' i ≢ 0)
+module _ (S B A S' B' A' : ℕ → ℕ) (i : ℕ) (old : IsFreeList S B A) (positive : 0 < i) (free : S i ≡ 0) (taken : S' i ≢ 0)
     (same : (j : ℕ) → j ≢ i → S' j ≡ S j)
     (after_here : A' (B i) ≡ A i) (after_same : (j : ℕ) → j ≢ B i → j ≢ i → A' j ≡ A j)
     (before_here : B' (A i) ≡ B i) (before_same : (j : ℕ) → j ≢ A i → j ≢ i → B' j ≡ B j) where
@@ -121,8 +121,8 @@ module _ (S B A S' B' A' : ℕ → ℕ) (i : ℕ) (old : Linked S B A) (positive
         let le = old.last_most k (was k f) in omega arith
   ]
 
-  pub Linked-take : Linked S' B' A'
-  Linked-take = record {
+  pub IsFreeList-take : IsFreeList S' B' A'
+  IsFreeList-take = record {
     head = stays 0 (λ z. omega arith) old.head;
     after_ok = after_ok;
     after_least = after_least;
@@ -133,7 +133,7 @@ module _ (S B A S' B' A' : ℕ → ℕ) (i : ℕ) (old : Linked S B A) (positive
   }
 
 -- the cell i is put in, behind the last free cell b below it
-module _ (S B A S' B' A' : ℕ → ℕ) (i b : ℕ) (old : Linked S B A) (taken : S i ≢ 0) (free : S' i ≡ 0)
+module _ (S B A S' B' A' : ℕ → ℕ) (i b : ℕ) (old : IsFreeList S B A) (taken : S i ≢ 0) (free : S' i ≡ 0)
     (below : b < i) (behind : S b ≡ 0) (nearest : (k : ℕ) → k < i → S k ≡ 0 → k ≤ b)
     (same : (j : ℕ) → j ≢ i → S' j ≡ S j)
     (after_b : A' b ≡ i) (after_i : A' i ≡ A b) (after_same : (j : ℕ) → j ≢ b → j ≢ i → A' j ≡ A j)
@@ -258,8 +258,8 @@ module _ (S B A S' B' A' : ℕ → ℕ) (i b : ℕ) (old : Linked S B A) (taken 
         ]
   ]
 
-  pub Linked-put : Linked S' B' A'
-  Linked-put = record {
+  pub IsFreeList-put : IsFreeList S' B' A'
+  IsFreeList-put = record {
     head = stays_put 0 old.head;
     after_ok = after_ok_put;
     after_least = after_least_put;

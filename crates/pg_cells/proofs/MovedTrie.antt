@@ -11,7 +11,7 @@ use Rattle.pg_cells.specs.Inside.store.Fit.{signs_of, slot_of}
 use Rattle.pg_cells.specs.Inside.families.Moves.{Outside, CanPlace, MovesFamily}
 use Rattle.pg_cells.specs.Inside.store.Store.{taken_in}
 use Rattle.pg_cells.specs.Inside.linked.ValuedFamilies.{Trie}
-use Rattle.pg_cells.specs.Inside.families.Layouts.{IsTrie, standing}
+use Rattle.pg_cells.specs.Inside.families.Layouts.{IsTrie, signs_at_base}
 use Rattle.pg_cells.proofs.StringMaps.{order, find_put_same, find_put_other, find_without_same, find_without_other, sorted_put, sorted_without, equal_or_not}
 use Rattle.pg_cells.specs.Inside.families.Searches.{search_start}
 use Rattle.pg_cells.proofs.PlacementLaws.{start_positive, size_of, taken_put, taken_without}
@@ -167,7 +167,7 @@ module _ {V : Type 0} (few n : ℕ) (r new : Row V) (t : Trie V) (trie : IsTrie 
   there q other = find_put_other q p family (without_family t.families p) other ∙ find_without_other q p t.families other
 
   -- the signs at the new base are the old ones with the new one
-  members_now : with_one_sign slot.sign (signs_of slots) ≡ standing n new base
+  members_now : with_one_sign slot.sign (signs_of slots) ≡ signs_at_base n new base
   members_now =
       ap (with_one_sign slot.sign) own.signs
       ∙ sym (filter_more own.test (λ x. nat_eq (sign_at new (base + x)) x) slot.sign 1 n (omega arith) same

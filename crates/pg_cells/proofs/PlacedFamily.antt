@@ -6,7 +6,7 @@ use Rattle.std.proofs.lemmas.List.{length_push, same_from_push}
 use Rattle.std.specs.List.{range_with_len}
 use Rattle.pg_types.specs.Placement.{Family}
 use Rattle.pg_cells.specs.Inside.store.Lists.{Row, sign_at, child_at, base_at}
-use Rattle.pg_cells.specs.Inside.families.Layouts.{IsLayout, IsParent, standing}
+use Rattle.pg_cells.specs.Inside.families.Layouts.{IsLayout, IsParent, signs_at_base}
 use Rattle.pg_cells.proofs.StringMaps.{equal_or_not}
 
 pub filter_same : (f g : ℕ → Bool) (a n : ℕ) → 0 < a → ((x : ℕ) → 0 < x → f x ≡ g x) → filter f (range_with_len a n) ≡ filter g (range_with_len a n)
@@ -35,7 +35,7 @@ pub record Settles {V : Type 0} (n : ℕ) (r new : Row V) (F G : List ℕ → Op
   pub above_child : child_at new (above.base + last) ≡ f.base
   pub base_up : 0 < f.base
   pub last_up : 0 < last
-  pub members : f.signs ≡ standing n new f.base
+  pub members : f.signs ≡ signs_at_base n new f.base
   pub filled : f.signs ≢ []
   pub own_down : (y : ℕ) (g : Family) → F (p ++ y ∷ []) ≡ Some g → (sign_at new (f.base + y) ≡ y) × (child_at new (f.base + y) ≡ g.base)
   pub own_up : (y : ℕ) → 0 < y → sign_at new (f.base + y) ≡ y → 0 < child_at new (f.base + y) → (g : Family) × (F (p ++ y ∷ []) ≡ Some g) × (g.base ≡ child_at new (f.base + y))
@@ -61,12 +61,12 @@ module _ {V : Type 0} (n : ℕ) (r new : Row V) (F G : List ℕ → Option Famil
   front_not : step.front ≢ p
   front_not e = not_longer step.front step.last (sym step.whole ∙ sym e)
 
-  stands_too : (q : List ℕ) (g : Family) → q ≢ p → F q ≡ Some g → standing n r g.base ≡ standing n new g.base
+  stands_too : (q : List ℕ) (g : Family) → q ≢ p → F q ≡ Some g → signs_at_base n r g.base ≡ signs_at_base n new g.base
   stands_too q g other at = filter_same (λ x. nat_eq (sign_at r (g.base + x)) x) (λ x. nat_eq (sign_at new (g.base + x)) x) 1 n (omega arith) (λ x up. sym (step.test q g x other at up))
 
-  members_now : (q : List ℕ) (g : Family) → G q ≡ Some g → g.signs ≡ standing n new g.base
+  members_now : (q : List ℕ) (g : Family) → G q ≡ Some g → g.signs ≡ signs_at_base n new g.base
   members_now q g at = elim (equal_or_not q p) [
-    | inl e ↦ let same = is_f q g e.0 at in ap (λ (h : Family). h.signs) same ∙ step.members ∙ ap (λ (h : Family). standing n new h.base) (sym same)
+    | inl e ↦ let same = is_f q g e.0 at in ap (λ (h : Family). h.signs) same ∙ step.members ∙ ap (λ (h : Family). signs_at_base n new h.base) (sym same)
     | inr e ↦ layout.members q g (was q g e.0 at) ∙ stands_too q g e.0 (was q g e.0 at)
   ]
 

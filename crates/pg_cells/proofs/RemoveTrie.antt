@@ -12,7 +12,7 @@ use Rattle.pg_cells.specs.Inside.store.Writes.{Frees, SetsBase}
 use Rattle.pg_cells.specs.Inside.families.Moves.{Prunes}
 use Rattle.pg_cells.specs.Inside.families.Removing.{CanRemoveSign}
 use Rattle.pg_cells.specs.Inside.linked.ValuedFamilies.{Trie}
-use Rattle.pg_cells.specs.Inside.families.Layouts.{IsTrie, standing}
+use Rattle.pg_cells.specs.Inside.families.Layouts.{IsTrie, signs_at_base}
 use Rattle.pg_cells.proofs.LinkedLists.{taken_within}
 use Rattle.pg_cells.proofs.StringMaps.{order, without_key}
 use Rattle.pg_cells.proofs.LayoutLaws.{sign_stands, has_range}
@@ -29,10 +29,10 @@ filter_nothing test a (suc n) h =
     ∙ filter_nothing test (a + 1) n (λ x le lt. h x (omega arith) (omega arith))
 
 module _ {V : Type 0} (r : Row V) (base n : ℕ) where
-  pub none_stands : ((x : ℕ) → 0 < x → x ≤ n → sign_at r (base + x) ≢ x) → standing n r base ≡ []
+  pub none_stands : ((x : ℕ) → 0 < x → x ≤ n → sign_at r (base + x) ≢ x) → signs_at_base n r base ≡ []
   none_stands h = filter_nothing (λ x. nat_eq (sign_at r (base + x)) x) 1 n (λ x le lt. ne_eqb (sign_at r (base + x)) x (h x (omega arith) (omega arith)))
 
-  pub some_stands : (x : ℕ) → 0 < x → x ≤ n → sign_at r (base + x) ≡ x → standing n r base ≢ []
+  pub some_stands : (x : ℕ) → 0 < x → x ≤ n → sign_at r (base + x) ≡ x → signs_at_base n r base ≢ []
   some_stands x up le is e =
       false≢true (ap (list_any (nat_eq x)) (sym e) ∙ has_range (λ y. nat_eq (sign_at r (base + y)) y) 1 n x (omega arith) (omega arith) (eq-eqb (sign_at r (base + x)) x is))
 
@@ -120,7 +120,7 @@ module _ {V : Type 0} (n : ℕ) (r : Row V) (t : Trie V) (trie : IsTrie n r t) (
       let f = its_family in
       let here : Frees r freed (f.0.base + s) = subst (λ b. Frees r freed (b + s)) (sym base_same) frees in
       let gone = no_base (family_at t.families (p ++ s ∷ [])) can.childless in
-      let left : signs_left s f.0.signs ≡ standing n freed base = left_stands n r freed t trie p f.0 f.1 s f.2 here.sign_is here.elsewhere.signs ∙ ap (standing n freed) base_same in
+      let left : signs_left s f.0.signs ≡ signs_at_base n freed base = left_stands n r freed t trie p f.0 f.1 s f.2 here.sign_is here.elsewhere.signs ∙ ap (signs_at_base n freed) base_same in
       elim prunes [
         | inl h ↦
             let some : signs_left s f.0.signs ≢ [] = λ e. h.0 (sym left ∙ e) in

@@ -15,9 +15,9 @@ use Rattle.pg_cells.proofs.StringCells.{cell_parts, parts_cell}
 use Rattle.pg_cells.proofs.Removing.{signs_left, one_less, left_has, others_test, others_cell, small_left, owner_left}
 use Rattle.pg_cells.proofs.RemovedValues.{cell_told, values_removed}
 
-module _ {V : Type 0} (n : ℕ) (r freed unlinked new : Row V) (t : Trie V) (trie : IsTrie n r t) (p : List ℕ) (parent : ℕ) (parent_is : cell_of t.families p ≡ Some parent)
+module _ {V : Type 0} (n : ℕ) (r freed values_alone new : Row V) (t : Trie V) (trie : IsTrie n r t) (p : List ℕ) (parent : ℕ) (parent_is : cell_of t.families p ≡ Some parent)
     (f : Family) (at : family_at t.families p ≡ Some f) (s : ℕ) (has : list_any (nat_eq s) f.signs ≡ true) (childless : family_at t.families (p ++ s ∷ []) ≡ None)
-    (frees : Frees r freed (f.base + s)) (links : SetsChild freed unlinked parent 0) (flags : SetsBase unlinked new f.base false) (none_left : signs_left s f.signs ≡ []) where
+    (frees : Frees r freed (f.base + s)) (links : SetsChild freed values_alone parent 0) (flags : SetsBase values_alone new f.base false) (none_left : signs_left s f.signs ≡ []) where
   abbrev fs : Families
   fs = without_family t.families p
 
@@ -36,13 +36,13 @@ module _ {V : Type 0} (n : ℕ) (r freed unlinked new : Row V) (t : Trie V) (tri
 
   sign_now : (i : ℕ) → sign_at new i ≡ sign_at freed i
   sign_now i = flags.signs i ∙ elim (cases_eq i parent) [
-    | inl e ↦ ap (sign_at unlinked) e ∙ links.sign_is ∙ ap (sign_at freed) (sym e)
+    | inl e ↦ ap (sign_at values_alone) e ∙ links.sign_is ∙ ap (sign_at freed) (sym e)
     | inr other ↦ links.elsewhere.signs i other
   ]
 
   value_now : (i : ℕ) → slice_get new.values i ≡ slice_get freed.values i
   value_now i = flags.values i ∙ elim (cases_eq i parent) [
-    | inl e ↦ ap (slice_get unlinked.values) e ∙ links.value_is ∙ ap (slice_get freed.values) (sym e)
+    | inl e ↦ ap (slice_get values_alone.values) e ∙ links.value_is ∙ ap (slice_get freed.values) (sym e)
     | inr other ↦ links.elsewhere.values i other
   ]
 

@@ -5,7 +5,7 @@ use Rattle.std.specs.List.{list_any, range_with_len}
 use Rattle.pg_types.specs.Placement.{Family, family_at, with_one_sign}
 use Rattle.pg_cells.specs.Inside.store.Lists.{Row, sign_at}
 use Rattle.pg_cells.specs.Inside.linked.ValuedFamilies.{Trie}
-use Rattle.pg_cells.specs.Inside.families.Layouts.{IsTrie, standing}
+use Rattle.pg_cells.specs.Inside.families.Layouts.{IsTrie, signs_at_base}
 use Rattle.pg_cells.proofs.LayoutLaws.{sign_stands, range_has}
 use Rattle.pg_cells.proofs.OneSign.{filter_more, length_one_more, any_one_more}
 
@@ -54,7 +54,7 @@ module _ {V : Type 0} (n : ℕ) (r new : Row V) (t : Trie V) (trie : IsTrie n r 
   test_gone : nat_eq (sign_at new (f.base + s)) s ≡ false
   test_gone = ne_eqb (sign_at new (f.base + s)) s (λ z. let h = stood.0 in omega arith)
 
-  pub left_stands : signs_left s f.signs ≡ standing n new f.base
+  pub left_stands : signs_left s f.signs ≡ signs_at_base n new f.base
   left_stands =
       ap (signs_left s) (trie.layout.members p f at)
       ∙ filter_twice (λ x. nat_eq (sign_at r (f.base + x)) x) (λ x. nat_eq (sign_at new (f.base + x)) x) s 1 n (omega arith) test_other test_gone

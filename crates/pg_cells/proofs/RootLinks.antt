@@ -6,7 +6,7 @@ use Rattle.std.specs.FinMap.{find}
 use Rattle.pg_cells.specs.declared.store.member.Member.{Member}
 use Rattle.pg_cells.specs.Inside.linked.ValuedFamilies.{ValuedFamilies}
 use Rattle.pg_cells.specs.Inside.linked.AreValuedFamilies.{AreValuedFamilies}
-use Rattle.pg_cells.specs.Inside.linked.Links.{AreLinks, unlinked}
+use Rattle.pg_cells.specs.Inside.linked.Links.{AreLinks, values_alone}
 use Rattle.pg_cells.specs.Inside.linked.Members.{IsNext, goes_on}
 use Rattle.pg_cells.specs.Inside.families.Root.{root_held}
 use Rattle.pg_cells.proofs.StringMaps.{order, equal_or_not}
@@ -48,5 +48,5 @@ module _ {V : Type 0} where
           let f = found (q ++ z ∷ []) v.0 v.1 in
           not_empty [] s (sym e ∙ (same_from_push q [] z f.0 f.1).0)
 
-  pub root_seen : (n : ℕ) (m : Member V) (v : V) (h : ValuedFamilies (Member V)) → m.value ≡ v → h ≡ root_held n m → unlinked h ≡ root_held n v
-  root_seen n m v h value is = ap unlinked is ∙ root_unlinked n m ∙ ap (root_held n) value
+  pub root_seen : (n : ℕ) (m : Member V) (v : V) (h : ValuedFamilies (Member V)) → m.value ≡ v → h ≡ root_held n m → values_alone h ≡ root_held n v
+  root_seen n m v h value is = ap values_alone is ∙ root_unlinked n m ∙ ap (root_held n) value

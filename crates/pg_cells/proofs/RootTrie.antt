@@ -12,7 +12,7 @@ use Rattle.std.specs.FinMap.Entries.{below_all}
 use Rattle.pg_types.specs.Placement.{Family, family_at, root, cell_after, cell_of, taken_count}
 use Rattle.pg_cells.specs.Inside.store.Lists.{Row, sign_at, base_at}
 use Rattle.pg_cells.specs.Inside.store.Writes.{SetsBase}
-use Rattle.pg_cells.specs.Inside.families.Layouts.{IsLayout, IsParent, IsTrie, standing, value_in}
+use Rattle.pg_cells.specs.Inside.families.Layouts.{IsLayout, IsParent, IsTrie, signs_at_base, value_in}
 use Rattle.pg_cells.specs.Inside.families.Root.{IsRootTo}
 use Rattle.pg_cells.proofs.StringMaps.{order, equal_or_not}
 use Rattle.pg_types.proofs.BoolFacts.{both_halves}
@@ -106,7 +106,7 @@ module _ {V : Type 0} (blank : V) where
           let h = root_only n p f at in
           ap (λ (g : Family). g.signs) h.1
           ∙ sym (filter_all (λ x. nat_eq (sign_at r (0 + x)) x) 1 n (λ x le lt. eq-eqb (sign_at r (0 + x)) x (ap (sign_at r) (zero-add x) ∙ stands x (omega arith) (omega arith))))
-          ∙ ap (λ (g : Family). standing n r g.base) (sym h.1);
+          ∙ ap (λ (g : Family). signs_at_base n r g.base) (sym h.1);
       filled = λ p f at e.
           let h = root_only n p f at in
           let none : length (range_with_len 1 n) ≡ 0 = ap length (sym (ap (λ (g : Family). g.signs) h.1) ∙ e) in

@@ -3,7 +3,7 @@ use Rattle.std.proofs.Common.{◌≡◌, ◌≢◌, ℕ, ◌<◌, ◌^◌, Bool,
 use Rattle.std.proofs.lemmas.List.{length-set, length-map, get_or-set_same, get_or-set_other, get_or_default}
 use Rattle.pg_cells.specs.declared.store.cell.Cell.{Cell}
 use Rattle.pg_cells.specs.declared.store.member.Member.{Member}
-use Rattle.pg_cells.specs.Inside.store.Lists.{sign_seen, base_seen, link_seen, row_of, bared, child_seen, member_seen, sign_at, child_at, IsFree, with_taken, with_free, with_child, with_value, with_base}
+use Rattle.pg_cells.specs.Inside.store.Lists.{sign_seen, base_seen, link_seen, row_of, unlink_at, child_seen, member_seen, sign_at, child_at, IsFree, with_taken, with_free, with_child, with_value, with_base}
 use Rattle.pg_cells.specs.Inside.store.Store.{IsRow}
 use Rattle.pg_cells.specs.Inside.store.Writes.{Takes, Frees, SetsChild, SetsValue, SetsBase}
 use Rattle.pg_cells.proofs.LinkedLists.{free_within, taken_within}
@@ -21,7 +21,7 @@ set_there (x ∷ xs) zero (suc j) y n = refl
 set_there (x ∷ xs) (suc i) zero y n = refl
 set_there (x ∷ xs) (suc i) (suc j) y n = set_there xs i j y (λ e. n (ap suc e))
 
-bared_there : {V : Type 0} (ms : List (Member V)) (i j : ℕ) → j ≢ i → slice_get (bared ms i) j ≡ slice_get ms j
+bared_there : {V : Type 0} (ms : List (Member V)) (i j : ℕ) → j ≢ i → slice_get (unlink_at ms i) j ≡ slice_get ms j
 bared_there [] i j n = refl
 bared_there (m ∷ ms) zero zero n = absurd (n refl)
 bared_there (m ∷ ms) zero (suc j) n = refl

@@ -4,8 +4,8 @@ use Rattle.std.proofs.lemmas.Bool.{cases_eq}
 use Rattle.std.proofs.lemmas.List.{take_at, length-set, length-map, length_push, get_or-set_same, get_or-set_other, get_or_default}
 use Rattle.pg_cells.specs.declared.store.cell.Cell.{Cell}
 use Rattle.pg_cells.specs.declared.store.member.Member.{Member}
-use Rattle.pg_cells.specs.Inside.store.Lists.{sign_seen, Row, Lists, lists, row_of, lone, member_seen, sign_at, IsFree, with_taken, with_free, with_child, with_value, with_more}
-use Rattle.pg_cells.specs.Inside.store.FreeList.{Linked, AreLinked}
+use Rattle.pg_cells.specs.Inside.store.Lists.{sign_seen, Row, Lists, lists, row_of, without_links, member_seen, sign_at, IsFree, with_taken, with_free, with_child, with_value, with_more}
+use Rattle.pg_cells.specs.Inside.store.FreeList.{IsFreeList, AreLinked}
 use Rattle.pg_cells.proofs.LinkedLists.{taken_within, not_free}
 use Rattle.pg_cells.specs.Inside.store.Store.{IsTop, IsKept, Extends, how_many, taken_in}
 
@@ -31,8 +31,8 @@ pub taken_le : {V : Type 0} (cells : List (Cell V)) → taken_in (row_of cells) 
 taken_le cells = omega (arith, how_many_le (row_of cells).signs, length-map cells sign_seen)
 
 -- nor do the other links of a taken cell
-Linked-beside : (S B A B' : ℕ → ℕ) → Linked S B A → ((j : ℕ) → S j ≡ 0 → B' j ≡ B j) → Linked S B' A
-Linked-beside S B A B' old same = record {
+IsFreeList-beside : (S B A B' : ℕ → ℕ) → IsFreeList S B A → ((j : ℕ) → S j ≡ 0 → B' j ≡ B j) → IsFreeList S B' A
+IsFreeList-beside S B A B' old same = record {
   head = old.head;
   after_ok = old.after_ok;
   after_least = old.after_least;
@@ -49,8 +49,8 @@ Linked-beside S B A B' old same = record {
 }
 
 -- a link of a taken cell counts for nothing
-Linked-elsewhere : (S B A A' : ℕ → ℕ) → Linked S B A → ((j : ℕ) → S j ≡ 0 → A' j ≡ A j) → Linked S B A'
-Linked-elsewhere S B A A' old same = record {
+IsFreeList-elsewhere : (S B A A' : ℕ → ℕ) → IsFreeList S B A → ((j : ℕ) → S j ≡ 0 → A' j ≡ A j) → IsFreeList S B A'
+IsFreeList-elsewhere S B A A' old same = record {
   head = old.head;
   after_ok = λ j e up.
       let to : A' j ≡ A j = same j e in
@@ -68,7 +68,7 @@ module _ {V : Type 0} (old new : List (Cell V)) (top taken : ℕ) (kept : IsKept
   -- a flag is written
   pub kept_write : (row : Row (Member V)) → row.signs ≡ (row_of old).signs → lists new ≡ record (lists old) { row = row } → IsKept new top taken
   kept_write row signs e = record {
-    linked = subst (λ ls. AreLinked ls) (sym e) (subst (λ ss. Linked (λ j. get_or ss j 1) (λ j. get_or (lists old).befores j 0) (λ j. get_or (lists old).afters j 0)) (sym signs) kept.linked);
+    linked = subst (λ ls. AreLinked ls) (sym e) (subst (λ ss. IsFreeList (λ j. get_or ss j 1) (λ j. get_or (lists old).befores j 0) (λ j. get_or (lists old).afters j 0)) (sym signs) kept.linked);
     small = let h = kept.small in omega arith;
     greatest = subst (λ ss. IsTop ss top) (sym signs ∙ sym (ap (λ (ls : Lists (Member V)). ls.row.signs) e)) kept.greatest;
     count = kept.count ∙ ap how_many (sym signs ∙ sym (ap (λ (ls : Lists (Member V)). ls.row.signs) e));
@@ -77,7 +77,7 @@ module _ {V : Type 0} (old new : List (Cell V)) (top taken : ℕ) (kept : IsKept
   -- the child of a taken cell is written
   pub kept_child : (i x : ℕ) → sign_at (row_of old) i ≢ 0 → lists new ≡ record (lists old) { row = with_child (lists old).row i x; afters = set (lists old).afters i x } → IsKept new top taken
   kept_child i x taken_i e = record {
-    linked = subst (λ ls. AreLinked ls) (sym e) (Linked-elsewhere _ _ _ _ kept.linked
+    linked = subst (λ ls. AreLinked ls) (sym e) (IsFreeList-elsewhere _ _ _ _ kept.linked
         (λ j free. get_or-set_other (lists old).afters i j x 0 (λ z. not_free (row_of old) i taken_i (subst (λ k. IsFree (row_of old) k) z free))));
     small = let h = kept.small in omega arith;
     greatest = subst (λ ss. IsTop ss top) (sym (ap (λ (ls : Lists (Member V)). ls.row.signs) e)) kept.greatest;
@@ -88,7 +88,7 @@ module _ {V : Type 0} (old new : List (Cell V)) (top taken : ℕ) (kept : IsKept
   pub kept_value : (i x : ℕ) (value : Member V) → sign_at (row_of old) i ≢ 0 → lists new ≡ record (lists old) { row = with_value (lists old).row i value; befores = set (lists old).befores i x }
       → IsKept new top taken
   kept_value i x value taken_i e = record {
-    linked = subst (λ ls. AreLinked ls) (sym e) (Linked-beside _ _ _ _ kept.linked
+    linked = subst (λ ls. AreLinked ls) (sym e) (IsFreeList-beside _ _ _ _ kept.linked
         (λ j free. get_or-set_other (lists old).befores i j x 0 (λ z. not_free (row_of old) i taken_i (subst (λ k. IsFree (row_of old) k) z free))));
     small = let h = kept.small in omega arith;
     greatest = subst (λ ss. IsTop ss top) (sym (ap (λ (ls : Lists (Member V)). ls.row.signs) e)) kept.greatest;
@@ -207,11 +207,12 @@ module _ {V : Type 0} where
   }
 
   -- one cell more
-  pub extended_once : (start : Row (Member V)) (cells new : List (Cell V)) (value : V) → Extends start (row_of cells) → row_of new ≡ with_more (row_of cells) (lone value) → Extends start (row_of new)
+  pub extended_once : (start : Row (Member V)) (cells new : List (Cell V)) (value : V) → Extends start (row_of cells) → row_of new ≡ with_more (row_of cells) (without_links value)
+      → Extends start (row_of new)
   extended_once start cells new value more e = subst (Extends start) (sym e)
-      (extends_trans start (row_of cells) (with_more (row_of cells) (lone value)) more
-      (extends_more (row_of cells) (lone value) (length-map cells member_seen ∙ sym (length-map cells sign_seen))))
+      (extends_trans start (row_of cells) (with_more (row_of cells) (without_links value)) more
+      (extends_more (row_of cells) (without_links value) (length-map cells member_seen ∙ sym (length-map cells sign_seen))))
 
-  pub longer_once : (cells new : List (Cell V)) (value : V) → row_of new ≡ with_more (row_of cells) (lone value) → length new ≡ length cells + 1
+  pub longer_once : (cells new : List (Cell V)) (value : V) → row_of new ≡ with_more (row_of cells) (without_links value) → length new ≡ length cells + 1
   longer_once cells new value e =
       omega (arith, length-map new sign_seen, length-map cells sign_seen, length_push (row_of cells).signs 0, ap (λ (r : Row (Member V)). length r.signs) e)

@@ -9,7 +9,7 @@ use Rattle.pg_types.specs.Placement.{cell_of}
 use Rattle.pg_cells.specs.declared.store.member.Member.{Member}
 use Rattle.pg_cells.specs.Inside.linked.ValuedFamilies.{ValuedFamilies}
 use Rattle.pg_cells.specs.Inside.linked.AreValuedFamilies.{AreValuedFamilies}
-use Rattle.pg_cells.specs.Inside.linked.Links.{unlinked}
+use Rattle.pg_cells.specs.Inside.linked.Links.{values_alone}
 use Rattle.pg_cells.specs.Inside.linked.Members.{IsBefore, goes_on}
 use Rattle.pg_cells.specs.Inside.families.Root.{root_held}
 use Rattle.pg_cells.proofs.StringMaps.{order, same_string, same_maps, without_key, find_put_same, find_put_other, find_without_same, find_without_other, sorted_put, sorted_without, equal_or_not}
@@ -45,7 +45,7 @@ module _ {V : Type 0} where
     most = λ z lt goes. is.most z lt (goes_plain es q z ∙ goes);
   }
 
-  pub before_seen : (h : ValuedFamilies (Member V)) (view : ValuedFamilies V) → unlinked h ≡ view → (q : List ℕ) (s b : ℕ) → IsBefore view.values q s b → IsBefore h.values q s b
+  pub before_seen : (h : ValuedFamilies (Member V)) (view : ValuedFamilies V) → values_alone h ≡ view → (q : List ℕ) (s b : ℕ) → IsBefore view.values q s b → IsBefore h.values q s b
   before_seen h view seen q s b told =
       let is : IsBefore (plain h.values) q s b = subst (λ (k : ValuedFamilies V). IsBefore k.values q s b) (sym seen) told in
       record {
@@ -98,7 +98,7 @@ module _ {V : Type 0} where
   pub relink_plain : (q : List ℕ) (m new : Member V) (es : List (List ℕ × Member V)) → T (is_sorted order es) → find order q es ≡ Some m → new.value ≡ m.value → plain (put order q new es) ≡ plain es
   relink_plain q m new es h at same = put_plain q new es h ∙ put_again q new.value (plain es) (sorted_plain es h) (found_plain q m es at ∙ ap Some (sym same))
 
-  pub root_unlinked : (n : ℕ) (m : Member V) → unlinked (root_held n m) ≡ root_held n m.value
+  pub root_unlinked : (n : ℕ) (m : Member V) → values_alone (root_held n m) ≡ root_held n m.value
   root_unlinked n m = ap (λ es. record (root_held n m.value) { values = es }) (by (range_with_len 1 n))
     where
       by : (xs : List ℕ) → plain (map (λ x. (x ∷ [], m)) xs) ≡ map (λ x. (x ∷ [], m.value)) xs
@@ -106,7 +106,7 @@ module _ {V : Type 0} where
       by (x ∷ xs) = ap (λ l. (x ∷ [], m.value) ∷ l) (by xs)
 
   -- what is always true of the cells stays true
-  pub held_unlinked : (h : ValuedFamilies (Member V)) → AreValuedFamilies h → AreValuedFamilies (unlinked h)
+  pub held_unlinked : (h : ValuedFamilies (Member V)) → AreValuedFamilies h → AreValuedFamilies (values_alone h)
   held_unlinked h is = record {
     sorted = is.sorted;
     ordered = sorted_plain h.values is.ordered;

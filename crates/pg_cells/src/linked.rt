@@ -43,13 +43,13 @@ const NO_SIGNS: usize = 0;
 
 impl<V: Copy, const FEW: usize> Model for LinkedCells<V, FEW> {
     ghost use Rattle.pg_cells.specs.Inside.linked.ValuedFamilies.{ValuedFamilies, valued_families_code};
-    ghost use Rattle.pg_cells.specs.Inside.linked.Links.{unlinked, AreLinks};
+    ghost use Rattle.pg_cells.specs.Inside.linked.Links.{values_alone, AreLinks};
 
     ghost Value = { ValuedFamilies V };
 
     ghost coded = { valued_families_code V.code };
 
-    ghost view = { λ c. unlinked c.placed };
+    ghost view = { λ c. values_alone c.placed };
 
     ghost invariant = { λ c. AreLinks c.placed };
 }

@@ -1,7 +1,7 @@
 //! The store: one vector of cells, whose free ones are linked in rising order.
 ghost use Rattle.std.specs.Prelude.{◌≡◌, ◌≢◌, ℕ, ◌+◌, ◌-◌, ◌<◌, ◌≤◌, ◌^◌, true, ◌∷◌, length, nat_eq, slice_get, slice_index, Some, IfOk, OnOk, OnErr};
 ghost use Rattle.pg_types.specs.Inside.Placing.{IsLeast};
-ghost use Rattle.pg_cells.specs.Inside.store.Lists.{lists, FitsCell, row_of, lone, sign_at, child_at, base_at, IsFree};
+ghost use Rattle.pg_cells.specs.Inside.store.Lists.{lists, FitsCell, row_of, without_links, sign_at, child_at, base_at, IsFree};
 ghost use Rattle.pg_cells.specs.Inside.store.FreeList.{AreLinked};
 ghost use Rattle.pg_cells.specs.Inside.store.Blocked.{AreBlocked};
 ghost use Rattle.pg_cells.specs.Inside.store.Bounds.{NoneFree};
@@ -67,7 +67,7 @@ impl<V: Copy> Model for Store<V> {
 impl<V: Copy> Store<V> {
     /// One free cell, with a bound for each of so many signs.
     pub fn new(alloc: Global, signs: u16, value: V) -> Result<Store<V>, AllocError>
-        ensures { IfOk result (λ s. s ≡ one_free (lone value)) }
+        ensures { IfOk result (λ s. s ≡ one_free (without_links value)) }
     {
         let mut cells = Vec::with_capacity(alloc, CELLS_AT_FIRST)?;
         cells.push(Cell {

@@ -1,7 +1,7 @@
 //! A family without a sign is gone.
 ghost use Rattle.std.specs.Prelude.{◌≡◌, ◌≢◌, ℕ, ◌<◌, [], length, MatchBool};
 ghost use Rattle.pg_cells.specs.Inside.store.Lists.{sign_at};
-ghost use Rattle.pg_cells.specs.Inside.families.Layouts.{standing};
+ghost use Rattle.pg_cells.specs.Inside.families.Layouts.{signs_at_base};
 ghost use Rattle.pg_cells.specs.Inside.families.Moves.{Prunes};
 ghost use Rattle.pg_cells.specs.Inside.store.Store.{IsRow};
 
@@ -12,8 +12,8 @@ pub fn drop_family<V: Copy>(store: &mut Store<V>, base: usize, parent: usize, is
     requires row { IsRow store.old }
     requires base { base < length store.old.signs }
     requires parent { sign_at store.old parent ≢ 0 }
-    ensures prunes { (n : ℕ) → MatchBool is_empty (standing n store.old base ≡ [])
-        (standing n store.old base ≢ []) →
+    ensures prunes { (n : ℕ) → MatchBool is_empty (signs_at_base n store.old base ≡ [])
+        (signs_at_base n store.old base ≢ []) →
         Prunes n store.old store.new base parent }
     ensures row { IsRow store.new }
 {

@@ -1,6 +1,6 @@
 //! The list through the free cells.
 ghost use Rattle.std.specs.Prelude.{◌≡◌, ◌≢◌, ℕ, ◌+◌, ◌-◌, ◌<◌, ◌≤◌, ◌^◌, length, OnOk, OnErr};
-ghost use Rattle.pg_cells.specs.Inside.store.Lists.{lists, FitsCell, with_taken, with_free, with_more, lone, sign_at, IsFree};
+ghost use Rattle.pg_cells.specs.Inside.store.Lists.{lists, FitsCell, with_taken, with_free, with_more, without_links, sign_at, IsFree};
 ghost use Rattle.pg_cells.specs.Inside.store.FreeList.{AreLinked, IsFreeTo};
 
 use crate::store::cell::{
@@ -139,8 +139,8 @@ pub fn free_all<V: Copy>(cells: &mut [Cell<V>])
 pub fn push_cell<V: Copy>(cells: &mut Vec<Cell<V>>, value: V) -> Result<(), AllocError>
     requires linked { AreLinked (lists cells.old.items) }
     requires small { length cells.old.items + 1 < 2 ^ 29 }
-    ensures row { OnOk result
-        ((lists cells.new.items).row ≡ with_more (lists cells.old.items).row (lone value)) }
+    ensures row { OnOk result ((lists cells.new.items).row
+        ≡ with_more (lists cells.old.items).row (without_links value)) }
     ensures linked { AreLinked (lists cells.new.items) }
     ensures err { OnErr result (cells.new.items ≡ cells.old.items) }
 {

@@ -13,8 +13,8 @@ use Rattle.pg_cells.specs.Inside.linked.ValuedFamilies.{Trie}
 
 module _ {V : Type 0} where
   -- the signs that stand at a base, of a table of n signs
-  abbrev pub standing : ℕ → Row V → ℕ → List ℕ
-  standing n r base = filter (λ x. nat_eq (sign_at r (base + x)) x) (range_with_len 1 n)
+  abbrev pub signs_at_base : ℕ → Row V → ℕ → List ℕ
+  signs_at_base n r base = filter (λ x. nat_eq (sign_at r (base + x)) x) (range_with_len 1 n)
 
   -- the parent of the family f is the cell of the sign x in the family at p, and has its base
   pub record IsParent (r : Row V) (F : List ℕ → Option Family)
@@ -29,7 +29,7 @@ module _ {V : Type 0} where
   -- the families F lie in the row: their signs at their bases, no two of one base, and nothing else
   pub record IsLayout (n : ℕ) (r : Row V) (F : List ℕ → Option Family) : Type 0 where
     pub root : F [] ≡ Some (record { base = 0; signs = range_with_len 1 n })
-    pub members : (p : List ℕ) (f : Family) → F p ≡ Some f → f.signs ≡ standing n r f.base
+    pub members : (p : List ℕ) (f : Family) → F p ≡ Some f → f.signs ≡ signs_at_base n r f.base
     pub filled : (p : List ℕ) (f : Family) → F p ≡ Some f → f.signs ≢ []
     pub parent : (p : List ℕ) (x : ℕ) (f : Family) → F (p ++ x ∷ []) ≡ Some f → IsParent r F p x f
     pub child : (p : List ℕ) (x : ℕ) (g : Family)

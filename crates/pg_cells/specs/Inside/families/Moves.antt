@@ -8,7 +8,7 @@ use Rattle.pg_cells.specs.Inside.store.Store.{taken_in, IsTop}
 use Rattle.pg_cells.specs.Inside.families.Searches.{search_start}
 use Rattle.pg_cells.specs.Inside.store.Writes.{Takes, SetsBase, SetsChild}
 use Rattle.pg_cells.specs.Inside.store.Fit.{signs_of, slot_of, fits_row}
-use Rattle.pg_cells.specs.Inside.families.Layouts.{standing}
+use Rattle.pg_cells.specs.Inside.families.Layouts.{signs_at_base}
 
 module _ {V : Type 0} where
   -- no two slots have one sign
@@ -54,7 +54,7 @@ module _ {V : Type 0} where
 
   -- the slots are those of the family at the base, up to the sign n
   pub record AreSlotsOf (n : ℕ) (r : Row V) (base : ℕ) (slots : List (Slot V)) : Type 0 where
-    pub signs : signs_of slots ≡ standing n r base
+    pub signs : signs_of slots ≡ signs_at_base n r base
     pub told : (x : ℕ) (slot : Slot V) → slot_of slots x ≡ Some slot → Tells r base x slot
     pub distinct : AreDistinct slots
     pub late : (y : ℕ) → n < y → slot_of slots y ≡ None
@@ -114,6 +114,6 @@ module _ {V : Type 0} where
   -- the family at the base is taken away from its parent, where no sign stands there
   abbrev pub Prunes : ℕ → Row V → Row V → ℕ → ℕ → Type 0
   Prunes n old new base parent =
-      ((standing n old base ≢ []) × (new ≡ old))
-      ⊎ ((mid : Row V) × (standing n old base ≡ [])
+      ((signs_at_base n old base ≢ []) × (new ≡ old))
+      ⊎ ((mid : Row V) × (signs_at_base n old base ≡ [])
       × (SetsChild old mid parent 0) × (SetsBase mid new base false))

@@ -13,7 +13,7 @@ use mathlib.Core.HLevel.{Σ_prop_path}
 use Rattle.pg_types.specs.Placement.{Family, family_at, cell_of}
 use Rattle.pg_cells.specs.Inside.store.Lists.{Row, child_at}
 use Rattle.pg_cells.specs.Inside.linked.ValuedFamilies.{Trie, trie_code}
-use Rattle.pg_cells.specs.Inside.families.Layouts.{IsLayout, IsTrie, standing, value_in}
+use Rattle.pg_cells.specs.Inside.families.Layouts.{IsLayout, IsTrie, signs_at_base, value_in}
 
 -- a string has a last sign, and a front before it
 pub record HasLast (p : List ℕ) : Type 0 where
@@ -58,7 +58,7 @@ module _ {V : Type 0} (n : ℕ) (r : Row V) where
           let bases : down.0.base ≡ f.base = down.2 ∙ up.child in
           let signs : down.0.signs
           ≡ f.signs = b.members (h.front ++ h.last ∷ []) down.0 down.1
-          ∙ ap (standing n r) bases ∙ sym (a.members p f at) in
+          ∙ ap (signs_at_base n r) bases ∙ sym (a.members p f at) in
           let same : down.0 ≡ f = λ t. record { base = bases t; signs = signs t } in
           ap G h.whole ∙ down.1 ∙ ap Some same
 

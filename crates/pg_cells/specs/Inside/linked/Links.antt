@@ -15,8 +15,8 @@ HasBase fs q base = base_of fs q ≡ (if base == 0 then None else Some base)
 
 module _ {V : Type 0} where
   -- the cells without their links
-  abbrev pub unlinked : ValuedFamilies (Member V) → ValuedFamilies V
-  unlinked h = record {
+  abbrev pub values_alone : ValuedFamilies (Member V) → ValuedFamilies V
+  values_alone h = record {
     signs = h.signs;
     families = h.families;
     values = map (λ e. (e.0, e.1.value)) h.values;

@@ -4,7 +4,7 @@ use Rattle.std.specs.Prelude.{◌≡◌, ◌≢◌, ℕ, ◌+◌, ◌<◌, ◌�
 use Rattle.pg_cells.specs.Inside.store.Lists.{Lists, base_at, before_at, after_at}
 
 -- at a free cell S has 0, B the free cell before it, and A the free cell after it
-pub record Linked (S B A : ℕ → ℕ) : Type 0 where
+pub record IsFreeList (S B A : ℕ → ℕ) : Type 0 where
   pub head : S 0 ≡ 0
   pub after_ok : (i : ℕ) → S i ≡ 0 → A i ≢ 0 → (i < A i) × (S (A i) ≡ 0)
   pub after_least : (i j : ℕ) → S i ≡ 0 → i < j → S j ≡ 0 → (0 < A i) × (A i ≤ j)
@@ -15,7 +15,7 @@ pub record Linked (S B A : ℕ → ℕ) : Type 0 where
 
 -- the free cells of a row are linked, each with the one before it and the one after it
 abbrev pub AreLinked : {V : Type 0} → Lists V → Type 0
-AreLinked ls = Linked (λ j. get_or ls.row.signs j 1)
+AreLinked ls = IsFreeList (λ j. get_or ls.row.signs j 1)
     (λ j. get_or ls.befores j 0) (λ j. get_or ls.afters j 0)
 
 -- the cells below i are free, are no bases, and have the links of a row that is free up to `last`

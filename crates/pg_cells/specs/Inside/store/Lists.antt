@@ -83,18 +83,18 @@ module _ {V : Type 0} where
   FitsCell m = (m.next < 2 ^ 11) × (m.first < 2 ^ 11)
 
   -- a value without links
-  abbrev pub lone : V → Member V
-  lone v = record { value = v; next = 0; first = 0 }
+  abbrev pub without_links : V → Member V
+  without_links v = record { value = v; next = 0; first = 0 }
 
   -- the value at the index loses its links
-  abbrev pub bared : List (Member V) → ℕ → List (Member V)
-  bared [] i = []
-  bared (m ∷ ms) zero = lone m.value ∷ ms
-  bared (m ∷ ms) (suc i) = m ∷ bared ms i
+  abbrev pub unlink_at : List (Member V) → ℕ → List (Member V)
+  unlink_at [] i = []
+  unlink_at (m ∷ ms) zero = without_links m.value ∷ ms
+  unlink_at (m ∷ ms) (suc i) = m ∷ unlink_at ms i
 
   -- a free cell has no links of a family
   abbrev pub member_seen : Cell V → Member V
-  member_seen c = if nat_eq (sign_seen c) 0 then lone c.value
+  member_seen c = if nat_eq (sign_seen c) 0 then without_links c.value
       else record { value = c.value; next = next_in c.signs; first = first_in c.signs c.links }
 
   -- the free cell before a free one; 0 for a taken one, which has signs there
@@ -152,7 +152,7 @@ module _ {V : Type 0} where
   with_free r cell = record r {
     signs = set r.signs cell 0;
     children = set r.children cell 0;
-    values = bared r.values cell;
+    values = unlink_at r.values cell;
   }
 
   -- with a free cell at the end

@@ -5,7 +5,7 @@ use Rattle.pg_cells.specs.Inside.linked.ValuedFamilies.{Trie, ValuedFamilies}
 use Rattle.pg_cells.specs.Inside.linked.AreValuedFamilies.{AreValuedFamilies}
 use Rattle.pg_cells.specs.Inside.families.Layouts.{AreKept}
 use Rattle.pg_cells.specs.Inside.families.OneTrie.{Kept, kept_is_only, held_is_kept}
-use Rattle.pg_cells.specs.Inside.store.Lists.{lone}
+use Rattle.pg_cells.specs.Inside.store.Lists.{without_links}
 use Rattle.pg_cells.specs.Inside.families.Root.{root_held, IsRootTo}
 use Rattle.pg_cells.specs.declared.store.member.Member.{Member}
 use Rattle.pg_cells.specs.Inside.store.Store.{member_code}
@@ -16,7 +16,7 @@ use Rattle.pg_cells.proofs.families.Placed.new.Goals as goal
 
 pub take_root-requires-clause-empty : goal.take_root-requires-clause-empty
 take_root-requires-clause-empty g c =
-    let start : IsRootTo 1 c.args.blank c.in_ok-store.store = subst (IsRootTo 1 c.args.blank) (sym c.in_ok-store.ensures) (planted_none (lone c.args.blank.value) c.args.blank) in
+    let start : IsRootTo 1 c.args.blank c.in_ok-store.store = subst (IsRootTo 1 c.args.blank) (sym c.in_ok-store.ensures) (planted_none (without_links c.args.blank.value) c.args.blank) in
     planted_extended c.args.blank c.in_ok-store.store c.grow.new.self start c.in_ok-grow.ensures.extends
 
 pub invariant_of-result : goal.invariant_of-result

@@ -1,7 +1,7 @@
 use Rattle.std.proofs.Common.{Ok, sym, subst, rules, arith}
 use Rattle.pg_cells.specs.Inside.families.Adding.{CanTakeSign, AddsSign}
 use Rattle.pg_cells.specs.Inside.linked.ValuedFamilies.{ValuedFamilies}
-use Rattle.pg_cells.specs.Inside.linked.Links.{unlinked}
+use Rattle.pg_cells.specs.Inside.linked.Links.{values_alone}
 use Rattle.pg_cells.proofs.LinkedSigns.{prefix_added, before_added, links_of_added, linked_added}
 use Rattle.pg_cells.proofs.linked.LinkedCells.add.Goals as goal
 
@@ -63,7 +63,7 @@ returns g c =
     let h = c.self.inside.placed in
     let can : CanTakeSign h.signs h.families c.args.parent c.args.s =
     subst (λ (k : ValuedFamilies g.row.V.Denot). CanTakeSign k.signs k.families c.args.parent c.args.s) (sym c.self.view_is) c.requires in
-    subst (λ (k : ValuedFamilies g.row.V.Denot). AddsSign g.row.FEW k (unlinked c.link.new.cells) c.args.parent c.args.s c.args.v (Ok c.in_ok-cell.cell)) c.self.view_is
+    subst (λ (k : ValuedFamilies g.row.V.Denot). AddsSign g.row.FEW k (values_alone c.link.new.cells) c.args.parent c.args.s c.args.v (Ok c.in_ok-cell.cell)) c.self.view_is
     (linked_added g.row.FEW h c.add.new.self c.link.new.cells c.self.invariant c.args.parent c.args.s can c.sign_before-before.result (c.sign_before-before.ensures can.prefix can.at)
     c.sign_after-after.result (c.sign_after-after.ensures.next can.prefix can.at) c.args.v c.in_ok-cell.cell c.in_ok-cell.ensures
     c.link.ensures.kept c.link.ensures.linked)

@@ -1,7 +1,7 @@
 use Rattle.std.proofs.Common.{◌≡◌, Some, sym, subst, rules, MatchBool, inr, arith}
 use Rattle.pg_types.specs.Placement.{cell_of}
 use Rattle.pg_cells.specs.Inside.linked.ValuedFamilies.{ValuedFamilies}
-use Rattle.pg_cells.specs.Inside.linked.Links.{unlinked}
+use Rattle.pg_cells.specs.Inside.linked.Links.{values_alone}
 use Rattle.pg_cells.specs.Inside.linked.Members.{IsAlone, HasOther}
 use Rattle.pg_cells.specs.Inside.families.Removing.{CanRemoveSign, RemovesSign}
 use Rattle.pg_cells.proofs.LinkLaws.{cell_goes}
@@ -89,6 +89,6 @@ returns g c =
     subst (λ (k : ValuedFamilies g.row.V.Denot). CanRemoveSign k.families c.args.parent c.args.s) (sym c.self.view_is) c.requires.can in
     let before = before_seen h c.args.self.now c.self.view_is can.prefix c.args.s c.args.before (c.requires.before can.prefix
     (subst (λ (k : ValuedFamilies g.row.V.Denot). cell_of k.families can.prefix ≡ Some c.args.parent) c.self.view_is can.at)) in
-    subst (λ (k : ValuedFamilies g.row.V.Denot). RemovesSign k (unlinked c.link.new.cells) c.args.parent c.args.s) c.self.view_is
+    subst (λ (k : ValuedFamilies g.row.V.Denot). RemovesSign k (values_alone c.link.new.cells) c.args.parent c.args.s) c.self.view_is
     (linked_removed h c.remove.new.self c.link.new.cells c.self.invariant c.args.parent c.args.s can c.args.before before
     c.sign_after-after.result (c.sign_after-after.ensures.next can.prefix can.at) c.remove.ensures c.link.ensures.kept c.link.ensures.linked)

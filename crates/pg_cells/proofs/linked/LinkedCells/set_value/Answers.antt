@@ -3,7 +3,7 @@ use Rattle.std.specs.FinMap.{put}
 use Rattle.pg_types.specs.Placement.{cell_of}
 use Rattle.pg_cells.specs.declared.store.member.Member.{Member}
 use Rattle.pg_cells.specs.Inside.linked.ValuedFamilies.{ValuedFamilies}
-use Rattle.pg_cells.specs.Inside.linked.Links.{unlinked}
+use Rattle.pg_cells.specs.Inside.linked.Links.{values_alone}
 use Rattle.pg_cells.proofs.StringMaps.{order}
 use Rattle.pg_cells.proofs.Relinked.{links_valued}
 use Rattle.pg_cells.proofs.Unlinked.{put_plain, held_unlinked}
@@ -20,8 +20,9 @@ pub returns : goal.returns
 returns g c = record {
   held = λ q e.
       let at = subst (λ (h : ValuedFamilies g.row.V.Denot). cell_of h.families q ≡ Some c.args.cell) (sym c.self.view_is) e in
-      ap unlinked (c.set_value.ensures.held q at)
-      ∙ ap (λ es. record (unlinked c.self.inside.placed) { values = es }) (put_plain q (record c.value-member.result { value = c.args.v }) c.self.inside.placed.values c.self.invariant.held.ordered)
+      ap values_alone (c.set_value.ensures.held q at)
+      ∙ ap (λ es. record (values_alone c.self.inside.placed) { values = es }) (put_plain q (record c.value-member.result { value = c.args.v }) c.self.inside.placed.values
+      c.self.invariant.held.ordered)
       ∙ ap (λ (h : ValuedFamilies g.row.V.Denot). record h { values = put order q c.args.v h.values }) c.self.view_is;
   kept = held_unlinked c.set_value.new.self c.set_value.ensures.kept;
 }
