@@ -12,10 +12,10 @@ use Rattle.pg_cells.specs.Inside.store.Store.{Extends}
 use Rattle.pg_cells.specs.Inside.families.Searches.{search_start}
 use Rattle.pg_cells.specs.Inside.store.Fit.{signs_of, slot_of}
 use Rattle.pg_cells.specs.Inside.store.Writes.{Takes}
-use Rattle.pg_cells.specs.Inside.families.Moves.{Outside, CanPlace, MovesFamily, AreSlotsOf}
+use Rattle.pg_cells.specs.Inside.families.Moves.{IsOutsideFamily, CanPlace, MovesFamily, AreSlotsOf}
 use Rattle.pg_cells.specs.Inside.linked.ValuedFamilies.{Trie}
 use Rattle.pg_cells.specs.Inside.families.Layouts.{IsTrie, signs_at_base, value_in}
-use Rattle.pg_cells.specs.Inside.families.Adding.{added}
+use Rattle.pg_cells.specs.Inside.families.Adding.{with_sign_below}
 use Rattle.pg_cells.proofs.LinkedLists.{taken_within}
 use Rattle.pg_cells.proofs.StringMaps.{order, same_maps, find_put_same, find_without_same, find_without_other, sorted_without, equal_or_not}
 use Rattle.pg_cells.proofs.BaseCells.{first_sign}
@@ -115,7 +115,7 @@ module _ {V : Type 0} (few n : ℕ) (r : Row V) (t : Trie V) (trie : IsTrie n r 
   ]
 
   -- a sign joins in place
-  pub trie_joins : (f : Family) → family_at t.families p ≡ Some f → sign_at r (f.base + s) ≡ 0 → (new : Row V) (v : V) → Takes r new (f.base + s) s v 0 → IsTrie n new (added few n t p s v)
+  pub trie_joins : (f : Family) → family_at t.families p ≡ Some f → sign_at r (f.base + s) ≡ 0 → (new : Row V) (v : V) → Takes r new (f.base + s) s v 0 → IsTrie n new (with_sign_below few n t p s v)
   trie_joins f at free new v takes =
       subst (λ fs. IsTrie n new (record { families = fs; values = put order (p ++ s ∷ []) v t.values }))
       (sym (sign_joins few n t.families p s f at (join_free f at free)))
@@ -179,7 +179,7 @@ module _ {V : Type 0} (few n : ℕ) (r : Row V) (t : Trie V) (trie : IsTrie n r 
               | inr other ↦ absurd (own.other_base o.0 o.1 other.0 o.2 up base)
             ]
 
-        rooted : (b : ℕ) → base_at r b ≡ true → b ≢ was → 0 < b → (y : ℕ) × (0 < y) × (sign_at r (b + y) ≢ 0) × (Outside was slots (b + y))
+        rooted : (b : ℕ) → base_at r b ≡ true → b ≢ was → 0 < b → (y : ℕ) × (0 < y) × (sign_at r (b + y) ≢ 0) × (IsOutsideFamily was slots (b + y))
         rooted b e other up =
             let o = trie.layout.flagged b e in
             let not_p : o.0 ≢ p = λ same. other (sym o.3 ∙ (own.own_base o.1 (ap (family_at t.families) (sym same) ∙ o.2)).0) in
@@ -203,7 +203,7 @@ module _ {V : Type 0} (few n : ℕ) (r : Row V) (t : Trie V) (trie : IsTrie n r 
         → with_sign (search_start few n) t.families p s
         ≡ put order p (record { base = least_base (search_start few n) (without_family t.families p) (with_one_sign s (signs_of slots)); signs = with_one_sign s (signs_of slots) })
         (without_family t.families p)
-        → IsTrie n new (added few n t p s slot.value)
+        → IsTrie n new (with_sign_below few n t p s slot.value)
     trie_settles new base slot is can moved step =
         let whole = trie_moved few n r new t trie p parent parent_is was base slots slot own can moved in
         let least = base_is few n r new t trie p parent parent_is was base slots slot own can moved in
@@ -256,7 +256,7 @@ module _ {V : Type 0} (few n : ℕ) (old r : Row V) (t : Trie V) (before : IsTri
   ]
 
   -- the sign joins
-  pub joins_trie : 0 < base → sign_at r (base + s) ≡ 0 → (new : Row V) (v : V) → Takes r new (base + s) s v 0 → IsTrie n new (added few n t p s v)
+  pub joins_trie : 0 < base → sign_at r (base + s) ≡ 0 → (new : Row V) (v : V) → Takes r new (base + s) s v 0 → IsTrie n new (with_sign_below few n t p s v)
   joins_trie up free new v takes =
       let f = some_family up in
       trie_joins few n r t grown p parent parent_is s low high lacks f.0 f.1 (ap (λ b. sign_at r (b + s)) f.2 ∙ free) new v (subst (λ b. Takes r new (b + s) s v 0) (sym f.2) takes)
@@ -318,7 +318,7 @@ module _ {V : Type 0} (few n : ℕ) (old r : Row V) (t : Trie V) (before : IsTri
     ]
 
     module _ (new : Row V) (at : ℕ) (slot : Slot V) (is : slot.sign ≡ s) (can : CanPlace n r base slots slot parent) (moved : MovesFamily few n r new base at slots slot parent) where
-      pub settles_trie : IsTrie n new (added few n t p s slot.value)
+      pub settles_trie : IsTrie n new (with_sign_below few n t p s slot.value)
       settles_trie = trie_settles few n r t grown p parent parent_is s low high lacks base slots owned new at slot is can moved settles_step
 
       pub settles_cell : cell_of (with_sign (search_start few n) t.families p s) (p ++ s ∷ []) ≡ Some (at + s)

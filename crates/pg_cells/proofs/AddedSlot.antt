@@ -10,7 +10,7 @@ use Rattle.pg_cells.specs.Inside.store.Store.{Extends}
 use Rattle.pg_cells.specs.Inside.store.Writes.{Takes}
 use Rattle.pg_cells.specs.Inside.families.Moves.{CanPlace, MovesFamily, AreSlotsOf}
 use Rattle.pg_cells.specs.Inside.linked.Members.{ArePassing, has_sign}
-use Rattle.pg_cells.specs.Inside.families.Adding.{CanAdd, CanTakeSign, added}
+use Rattle.pg_cells.specs.Inside.families.Adding.{CanAdd, CanTakeSign, with_sign_below}
 use Rattle.pg_cells.specs.Inside.families.Layouts.{IsTrie}
 use Rattle.pg_cells.specs.Inside.linked.ValuedFamilies.{Trie, ValuedFamilies}
 use Rattle.pg_cells.proofs.AddTrie.{grown, trie_extended, joins_trie, joins_cell, joins_free, settles_can, settles_trie, settles_cell}
@@ -29,7 +29,7 @@ module _ {V : Type 0} (few n : ℕ) (old r : Row V) (t : Trie V) (p : List ℕ) 
     pub joining_free : ((i : ℕ) → sign_at old i ≢ 0 → i + (n + 2) ≤ length r.signs) → IsFree r (base + s)
     joining_free room = joins_free few n old r t can.trie more p parent can.at s low high can.lacks base base_is up free room
 
-    pub joining_trie : (new : Row V) (v : V) (child : ℕ) → child ≡ 0 → Takes r new (base + s) s v child → IsTrie n new (added few n t p s v)
+    pub joining_trie : (new : Row V) (v : V) (child : ℕ) → child ≡ 0 → Takes r new (base + s) s v child → IsTrie n new (with_sign_below few n t p s v)
     joining_trie new v child none takes =
         joins_trie few n old r t can.trie more p parent can.at s low high can.lacks base base_is up free new v (subst (Takes r new (base + s) s v) none takes)
 
@@ -60,7 +60,7 @@ module _ {V : Type 0} (few n : ℕ) (old r : Row V) (t : Trie V) (p : List ℕ) 
         settles_can few n old r t can.trie more p parent can.at s low high can.lacks base base_is slots empty full stays slot is no_child even room
 
     module _ (new : Row V) (at : ℕ) (slot : Slot V) (is : slot.sign ≡ s) (place : CanPlace n r base slots slot parent) (moved : MovesFamily few n r new base at slots slot parent) where
-      pub moving_trie : IsTrie n new (added few n t p s slot.value)
+      pub moving_trie : IsTrie n new (with_sign_below few n t p s slot.value)
       moving_trie = settles_trie few n old r t can.trie more p parent can.at s low high can.lacks base base_is slots empty full stays new at slot is place moved
 
       pub moving_cell : cell_of (with_sign (search_start few n) t.families p s) (p ++ s ∷ []) ≡ Some (at + s)
@@ -68,11 +68,11 @@ module _ {V : Type 0} (few n : ℕ) (old r : Row V) (t : Trie V) (p : List ℕ) 
 
 -- the trie that is held after an answer
 abbrev pub after : {V E : Type 0} → ℕ → ℕ → Trie V → List ℕ → ℕ → V → Result ℕ E → Trie V
-after few n t p s v (Ok cell) = added few n t p s v
+after few n t p s v (Ok cell) = with_sign_below few n t p s v
 after few n t p s v (Err e) = t
 
 pub after_held : {V E : Type 0} (few n : ℕ) (old new : Row V) (t : Trie V) (p : List ℕ) (s : ℕ) (v : V) (answer : Result ℕ E) → IsTrie n old t
-    → OnOk answer (IsTrie n new (added few n t p s v)) → OnErr answer (Extends old new) → IsTrie n new (after few n t p s v answer)
+    → OnOk answer (IsTrie n new (with_sign_below few n t p s v)) → OnErr answer (Extends old new) → IsTrie n new (after few n t p s v answer)
 after_held few n old new t p s v (Ok cell) before ok err = ok
 after_held few n old new t p s v (Err e) before ok err = trie_extended n old new t before err
 

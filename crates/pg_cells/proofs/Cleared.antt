@@ -10,7 +10,7 @@ use Rattle.pg_cells.specs.declared.store.fit.Slot.{Slot}
 use Rattle.pg_cells.specs.Inside.store.Lists.{Row, sign_at, child_at, base_at}
 use Rattle.pg_cells.specs.Inside.store.Store.{IsTop}
 use Rattle.pg_cells.specs.Inside.store.Fit.{signs_of, slot_of, fits_row}
-use Rattle.pg_cells.specs.Inside.families.Moves.{GivesUp, Drops, Outside}
+use Rattle.pg_cells.specs.Inside.families.Moves.{GivesUp, Drops, IsOutsideFamily}
 use Rattle.pg_cells.specs.Inside.linked.ValuedFamilies.{Trie}
 use Rattle.pg_cells.specs.Inside.families.Layouts.{IsTrie}
 use Rattle.pg_cells.proofs.StringMaps.{order, find_without_same, find_without_other, sorted_without, equal_or_not}
@@ -41,7 +41,7 @@ module _ {V : Type 0} (n : ℕ) (r gave dropped : Row V) (t : Trie V) (trie : Is
   other_rest q g other at = find_without_other q p t.families other ∙ at
 
   -- a cell of another family is outside of the slots
-  pub others_outside : (q : List ℕ) (g : Family) (y : ℕ) → q ≢ p → family_at t.families q ≡ Some g → sign_at r (g.base + y) ≡ y → Outside was slots (g.base + y)
+  pub others_outside : (q : List ℕ) (g : Family) (y : ℕ) → q ≢ p → family_at t.families q ≡ Some g → sign_at r (g.base + y) ≡ y → IsOutsideFamily was slots (g.base + y)
   others_outside q g y other at is x e = elim (slot_or_none slots x) [
     | inr none ↦ none
     | inl h ↦ absurd (
@@ -59,20 +59,20 @@ module _ {V : Type 0} (n : ℕ) (r gave dropped : Row V) (t : Trie V) (trie : Is
   drop_value : (i : ℕ) → slice_get dropped.values i ≡ slice_get gave.values i
   drop_value i = elim drops [ inl h ↦ ap (λ (k : Row V). slice_get k.values i) h.1 | inr h ↦ h.1.values i ]
 
-  pub sign_outside : (i : ℕ) → Outside was slots i → sign_at dropped i ≡ sign_at r i
+  pub sign_outside : (i : ℕ) → IsOutsideFamily was slots i → sign_at dropped i ≡ sign_at r i
   sign_outside i out = drop_sign i ∙ gives.others.signs i out
 
-  pub child_outside : (i : ℕ) → Outside was slots i → child_at dropped i ≡ child_at r i
+  pub child_outside : (i : ℕ) → IsOutsideFamily was slots i → child_at dropped i ≡ child_at r i
   child_outside i out = drop_child i ∙ gives.others.children i out
 
-  pub value_outside : (i : ℕ) → Outside was slots i → slice_get dropped.values i ≡ slice_get r.values i
+  pub value_outside : (i : ℕ) → IsOutsideFamily was slots i → slice_get dropped.values i ≡ slice_get r.values i
   value_outside i out = drop_value i ∙ gives.others.values i out
 
   pub sign_inside : (x : ℕ) (k : Slot V) → slot_of slots x ≡ Some k → sign_at dropped (was + x) ≡ 0
   sign_inside x k e = drop_sign (was + x) ∙ gives.free x k e
 
   -- a taken cell is outside, and is that of another family
-  pub taken_owner : (i : ℕ) → sign_at dropped i ≢ 0 → (Outside was slots i) × ((q : List ℕ) × (g : Family) × (q ≢ p) × (family_at t.families q ≡ Some g) × (i ≡ g.base + sign_at dropped i))
+  pub taken_owner : (i : ℕ) → sign_at dropped i ≢ 0 → (IsOutsideFamily was slots i) × ((q : List ℕ) × (g : Family) × (q ≢ p) × (family_at t.families q ≡ Some g) × (i ≡ g.base + sign_at dropped i))
   taken_owner i up = elim (outside_or was slots i) [
     | inl h ↦ absurd (up (ap (sign_at dropped) h.2 ∙ sign_inside h.0 h.1 h.3))
     | inr out ↦

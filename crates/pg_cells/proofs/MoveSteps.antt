@@ -5,12 +5,12 @@ use Rattle.pg_cells.specs.declared.store.fit.Slot.{Slot}
 use Rattle.pg_cells.specs.Inside.store.Lists.{Row, sign_at, child_at}
 use Rattle.pg_cells.specs.Inside.store.Fit.{slot_of}
 use Rattle.pg_cells.specs.Inside.store.Writes.{KeepsOtherIndices, Takes, Frees}
-use Rattle.pg_cells.specs.Inside.families.Moves.{Others, GivesUp, Puts}
+use Rattle.pg_cells.specs.Inside.families.Moves.{KeepsOtherCells, GivesUp, Puts}
 use Rattle.pg_cells.proofs.Slots.{slot_push, outside_push}
 
 module _ {V : Type 0} where
-  others_more : (old mid new : Row V) (base : ℕ) (xs : List (Slot V)) (y : Slot V) → slot_of xs y.sign ≡ None → Others old mid base xs
-      → KeepsOtherIndices mid new (base + y.sign) → Others old new base (xs ++ y ∷ [])
+  others_more : (old mid new : Row V) (base : ℕ) (xs : List (Slot V)) (y : Slot V) → slot_of xs y.sign ≡ None → KeepsOtherCells old mid base xs
+      → KeepsOtherIndices mid new (base + y.sign) → KeepsOtherCells old new base (xs ++ y ∷ [])
   others_more old mid new base xs y none o e = record {
     signs = λ i out. let h = outside_push base xs y i none out in e.signs i h.1 ∙ o.signs i h.0;
     children = λ i out. let h = outside_push base xs y i none out in e.children i h.1 ∙ o.children i h.0;
@@ -19,7 +19,7 @@ module _ {V : Type 0} where
     size = e.size ∙ o.size;
   }
 
-  others_none : (r : Row V) (base : ℕ) → Others r r base []
+  others_none : (r : Row V) (base : ℕ) → KeepsOtherCells r r base []
   others_none r base = record { signs = λ i out. refl; children = λ i out. refl; values = λ i out. refl; bases = λ b. refl; size = refl }
 
   pub gives_none : (r : Row V) (base : ℕ) → GivesUp r r base []

@@ -8,7 +8,7 @@ use Rattle.pg_types.specs.Placement.{Family, Families, family_at, without_family
 use Rattle.pg_cells.specs.declared.store.fit.Slot.{Slot}
 use Rattle.pg_cells.specs.Inside.store.Lists.{Row, sign_at, child_at, base_at}
 use Rattle.pg_cells.specs.Inside.store.Fit.{signs_of, slot_of}
-use Rattle.pg_cells.specs.Inside.families.Moves.{Outside, CanPlace, MovesFamily}
+use Rattle.pg_cells.specs.Inside.families.Moves.{IsOutsideFamily, CanPlace, MovesFamily}
 use Rattle.pg_cells.specs.Inside.store.Store.{taken_in}
 use Rattle.pg_cells.specs.Inside.linked.ValuedFamilies.{Trie}
 use Rattle.pg_cells.specs.Inside.families.Layouts.{IsTrie, signs_at_base}
@@ -43,7 +43,7 @@ module _ {V : Type 0} (few n : ℕ) (r new : Row V) (t : Trie V) (trie : IsTrie 
   free_slot = slots_free n r moved.gave moved.dropped was slots slot parent can moved.gives moved.drops moved.top moved.is_top (max moved.top 1) refl base
       (let h = moved.near in omega arith) moved.least.meets
 
-  parent_out : Outside base slots parent
+  parent_out : IsOutsideFamily base slots parent
   parent_out = parent_outside n r moved.gave moved.dropped was slots slot parent can moved.gives moved.drops moved.top moved.is_top (max moved.top 1) refl base
       (let h = moved.near in omega arith) moved.least.meets moved.settled moved.puts
 
@@ -98,20 +98,20 @@ module _ {V : Type 0} (few n : ℕ) (r new : Row V) (t : Trie V) (trie : IsTrie 
   new_value_now : slice_get new.values (base + slot.sign) ≡ Some slot.value
   new_value_now = link_value (base + slot.sign) ∙ moved.takes.value_is
 
-  out_sign : (i : ℕ) → Outside base slots i → i ≢ base + slot.sign → sign_at new i ≡ sign_at moved.dropped i
+  out_sign : (i : ℕ) → IsOutsideFamily base slots i → i ≢ base + slot.sign → sign_at new i ≡ sign_at moved.dropped i
   out_sign i out other = link_sign i ∙ moved.takes.elsewhere.signs i other ∙ moved.puts.others.signs i out
 
-  out_child : (i : ℕ) → Outside base slots i → i ≢ base + slot.sign → i ≢ parent → child_at new i ≡ child_at moved.dropped i
+  out_child : (i : ℕ) → IsOutsideFamily base slots i → i ≢ base + slot.sign → i ≢ parent → child_at new i ≡ child_at moved.dropped i
   out_child i out other not_parent = link_child i not_parent ∙ moved.takes.elsewhere.children i other ∙ moved.puts.others.children i out
 
-  out_value : (i : ℕ) → Outside base slots i → i ≢ base + slot.sign → slice_get new.values i ≡ slice_get moved.dropped.values i
+  out_value : (i : ℕ) → IsOutsideFamily base slots i → i ≢ base + slot.sign → slice_get new.values i ≡ slice_get moved.dropped.values i
   out_value i out other = link_value i ∙ moved.takes.elsewhere.values i other ∙ moved.puts.others.values i out
 
   base_now : (b : ℕ) → b ≢ base → base_at new b ≡ base_at moved.dropped b
   base_now b other = moved.links.elsewhere.bases b ∙ moved.flags.bases b other ∙ moved.takes.elsewhere.bases b ∙ moved.puts.others.bases b
 
   -- a cell that is taken after the giving up is none of the new ones
-  old_outside : (i : ℕ) → sign_at moved.dropped i ≢ 0 → Outside base slots i × (i ≢ base + slot.sign)
+  old_outside : (i : ℕ) → sign_at moved.dropped i ≢ 0 → IsOutsideFamily base slots i × (i ≢ base + slot.sign)
   old_outside i up = (
     elim (outside_or base slots i) [
       | inl h ↦ absurd (up (ap (sign_at moved.dropped) h.2 ∙ free_slot h.0 h.1 h.3))
@@ -126,7 +126,7 @@ module _ {V : Type 0} (few n : ℕ) (r new : Row V) (t : Trie V) (trie : IsTrie 
       false≢true (sym base_free ∙ ap (base_at moved.dropped) (sym e) ∙ other_flag n r moved.gave moved.dropped t trie p was slots own moved.gives moved.drops q g other at)
 
   -- where the old row has the sign y of another family, the given-up row has it
-  kept : (q : List ℕ) (g : Family) (y : ℕ) → q ≢ p → family_at t.families q ≡ Some g → sign_at r (g.base + y) ≡ y → Outside was slots (g.base + y) × (sign_at moved.dropped (g.base + y) ≡ y)
+  kept : (q : List ℕ) (g : Family) (y : ℕ) → q ≢ p → family_at t.families q ≡ Some g → sign_at r (g.base + y) ≡ y → IsOutsideFamily was slots (g.base + y) × (sign_at moved.dropped (g.base + y) ≡ y)
   kept q g y other at is =
       let out = others_outside n r moved.gave moved.dropped t trie p was slots own moved.gives moved.drops q g y other at is in
       (out, sign_outside n r moved.gave moved.dropped t trie p was slots own moved.gives moved.drops (g.base + y) out ∙ is)

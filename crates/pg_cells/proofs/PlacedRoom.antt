@@ -8,7 +8,7 @@ use Rattle.pg_cells.specs.Inside.store.Lists.{Row, sign_at, base_at, IsFree}
 use Rattle.pg_cells.specs.Inside.store.Fit.{signs_of, slot_of, fits_row}
 use Rattle.pg_cells.specs.Inside.store.Store.{IsTop}
 use Rattle.pg_cells.specs.Inside.store.Writes.{Takes, SetsBase}
-use Rattle.pg_cells.specs.Inside.families.Moves.{GivesUp, Drops, Puts, Outside, CanPlace}
+use Rattle.pg_cells.specs.Inside.families.Moves.{GivesUp, Drops, Puts, IsOutsideFamily, CanPlace}
 use Rattle.pg_cells.proofs.Slots.{has_slot, slot_has, outside_or, outside_here}
 
 pub all_true : (test : ℕ → Bool) (xs : List ℕ) → ((y : ℕ) → list_any (nat_eq y) xs ≡ true → test y ≡ true) → list_all test xs ≡ true
@@ -38,7 +38,7 @@ module _ {V : Type 0} (n : ℕ) (old gave dropped : Row V) (was : ℕ) (slots : 
   pub dropped_size : length dropped.signs ≡ length old.signs
   dropped_size = elim drops [ inl h ↦ ap (λ (r : Row V). length r.signs) h.1 | inr h ↦ h.1.size ] ∙ gives.others.size
 
-  pub outside_sign : (i : ℕ) → Outside was slots i → sign_at dropped i ≡ sign_at old i
+  pub outside_sign : (i : ℕ) → IsOutsideFamily was slots i → sign_at dropped i ≡ sign_at old i
   outside_sign i out = dropped_sign i ∙ gives.others.signs i out
 
   -- a cell that is taken now was taken
@@ -124,7 +124,7 @@ module _ {V : Type 0} (n : ℕ) (old gave dropped : Row V) (was : ℕ) (slots : 
             get_or_default settled.signs (base + slot.sign) 1 0 (omega (arith, room_within, puts.others.size)) ∙ same ∙ new_free
 
         -- the parent's cell is none of the new ones
-        pub parent_outside : Outside base slots parent
+        pub parent_outside : IsOutsideFamily base slots parent
         parent_outside = elim (outside_or base slots parent) [
           | inl h ↦ absurd (can.parent_taken (sym (outside_sign parent can.parent_other) ∙ ap (sign_at dropped) h.2 ∙ slots_free h.0 h.1 h.3))
           | inr out ↦ out

@@ -5,7 +5,7 @@ use Rattle.std.specs.FinMap.{put}
 use Rattle.pg_types.specs.Placement.{cell_of, with_sign}
 use Rattle.pg_cells.specs.Inside.families.Searches.{search_start}
 use Rattle.pg_types.specs.Inside.Placing.{without_sign}
-use Rattle.pg_cells.specs.Inside.families.Adding.{CanTakeSign, AddsSign, added}
+use Rattle.pg_cells.specs.Inside.families.Adding.{CanTakeSign, AddsSign, with_sign_below}
 use Rattle.pg_cells.specs.Inside.linked.CellValues.{SetsValue}
 use Rattle.pg_cells.specs.Inside.families.Layouts.{IsTrie}
 use Rattle.pg_cells.specs.Inside.store.Lists.{Row}
@@ -27,20 +27,20 @@ module _ {V : Type 0} (n : ℕ) (old new : Row V) (t : Trie V) (trie : IsTrie n 
     same_add : (q : List ℕ) → cell_of t.families q ≡ Some parent → can.prefix ≡ q
     same_add q e = cells_apart n old t trie can.prefix q parent can.at e
 
-    add_by : {E : Type 0} (answer : Result ℕ E) → OnOk answer (IsTrie n new (added few n t can.prefix s v))
+    add_by : {E : Type 0} (answer : Result ℕ E) → OnOk answer (IsTrie n new (with_sign_below few n t can.prefix s v))
         → IfOk answer (λ cell. cell_of (with_sign (search_start few n) t.families can.prefix s) (can.prefix ++ s ∷ []) ≡ Some cell)
         → AddsSign few (seen n t) (seen n (after few n t can.prefix s v answer)) parent s v answer
     add_by (Ok cell) is at = record {
       held = λ q e. ap (λ z. record (seen n t) { families = with_sign (search_start few n) t.families z s; values = put order (z ++ s ∷ []) v t.values }) (same_add q e);
       cell = λ q e. subst (λ z. cell_of (with_sign (search_start few n) t.families can.prefix s) (z ++ s ∷ []) ≡ Some cell) (same_add q e) at;
       cells = λ q e r off. cells_outside few n t.families can.prefix s r (λ x z. off x (z ∙ ap (λ p. p ++ x ∷ []) (same_add q e)));
-      kept = is_held n new (added few n t can.prefix s v) is even;
+      kept = is_held n new (with_sign_below few n t can.prefix s v) is even;
       err = tt;
     }
     add_by (Err e) is at = record { held = λ q e. tt; cell = λ q e. tt; cells = λ q e. tt; kept = tt; err = refl }
 
     -- the sign is added, or memory is short
-    pub placed_added : {E : Type 0} (answer : Result ℕ E) → OnOk answer (IsTrie n new (added few n t can.prefix s v))
+    pub placed_added : {E : Type 0} (answer : Result ℕ E) → OnOk answer (IsTrie n new (with_sign_below few n t can.prefix s v))
         → IfOk answer (λ cell. cell_of (with_sign (search_start few n) t.families can.prefix s) (can.prefix ++ s ∷ []) ≡ Some cell)
         → (u : Trie V) → u ≡ after few n t can.prefix s v answer → AddsSign few h (seen n u) parent s v answer
     placed_added answer is at u same =

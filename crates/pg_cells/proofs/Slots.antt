@@ -7,7 +7,7 @@ use Rattle.pg_cells.specs.declared.store.fit.Slot.{Slot}
 use Rattle.pg_cells.specs.Inside.store.Fit.{signs_of, slot_of}
 use Rattle.pg_cells.specs.declared.store.member.Member.{Member}
 use Rattle.pg_cells.specs.Inside.store.Lists.{FitsCell}
-use Rattle.pg_cells.specs.Inside.families.Moves.{AllFit, Outside, AreDistinct}
+use Rattle.pg_cells.specs.Inside.families.Moves.{AllFit, IsOutsideFamily, AreDistinct}
 
 module _ {V : Type 0} where
   pub slot_front : (xs ys : List (Slot V)) (x : ℕ) (s : Slot V) → slot_of xs x ≡ Some s → slot_of (xs ++ ys) x ≡ Some s
@@ -80,7 +80,7 @@ module _ {V : Type 0} where
   pub slot_last : (xs : List (Slot V)) (y : Slot V) → slot_of xs y.sign ≡ None → slot_of (xs ++ y ∷ []) y.sign ≡ Some y
   slot_last xs y none = slot_back xs (y ∷ []) y.sign none ∙ ap (λ b. cond b (Some y) None) (eq-eqb y.sign y.sign refl)
 
-  pub outside_push : (base : ℕ) (xs : List (Slot V)) (y : Slot V) (i : ℕ) → slot_of xs y.sign ≡ None → Outside base (xs ++ y ∷ []) i → Outside base xs i × (i ≢ base + y.sign)
+  pub outside_push : (base : ℕ) (xs : List (Slot V)) (y : Slot V) (i : ℕ) → slot_of xs y.sign ≡ None → IsOutsideFamily base (xs ++ y ∷ []) i → IsOutsideFamily base xs i × (i ≢ base + y.sign)
   outside_push base xs y i none out = (
     (λ x e. elim (slot_or_none xs x) [
       | inl h ↦ absurd (let there = slot_front xs (y ∷ []) x h.0 h.1 in let gone = out x e in cc)
@@ -90,7 +90,7 @@ module _ {V : Type 0} where
   )
 
   -- a cell at the base is outside, or it is that of a slot
-  pub outside_or : (base : ℕ) (xs : List (Slot V)) (i : ℕ) → ((x : ℕ) × (s : Slot V) × (i ≡ base + x) × (slot_of xs x ≡ Some s)) ⊎ Outside base xs i
+  pub outside_or : (base : ℕ) (xs : List (Slot V)) (i : ℕ) → ((x : ℕ) × (s : Slot V) × (i ≡ base + x) × (slot_of xs x ≡ Some s)) ⊎ IsOutsideFamily base xs i
   outside_or base xs i = elim (cases_lt i base) [
     | inl lt ↦ inr (λ x e. absurd (omega arith))
     | inr le ↦
@@ -122,7 +122,7 @@ module _ {V : Type 0} where
         take_more xs k y lt ∙ ap (λ z. take k xs ++ z ∷ []) (sym is),
       )
 
-  pub outside_here : (base : ℕ) (xs : List (Slot V)) (x : ℕ) → slot_of xs x ≡ None → Outside base xs (base + x)
+  pub outside_here : (base : ℕ) (xs : List (Slot V)) (x : ℕ) → slot_of xs x ≡ None → IsOutsideFamily base xs (base + x)
   outside_here base xs x none z e = let same : z ≡ x = omega arith in ap (slot_of xs) same ∙ none
 
 -- a slot whose value has room is added to such slots

@@ -1,5 +1,5 @@
 -- The row of cells, its free cells and its bounds.
-pub mod Blocked
+pub mod BlockedBases
 pub mod Bounds
 pub mod Fit
 pub mod FreeList

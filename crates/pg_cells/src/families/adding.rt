@@ -7,7 +7,7 @@ ghost use Rattle.pg_cells.specs.Inside.store.Lists.{FitsCell, sign_at};
 ghost use Rattle.pg_cells.specs.Inside.store.Store.{Extends, IsRow};
 ghost use Rattle.pg_cells.specs.Inside.families.Layouts.{IsTrie};
 ghost use Rattle.pg_cells.specs.Inside.families.Searches.{search_start};
-ghost use Rattle.pg_cells.specs.Inside.families.Adding.{CanAdd, added};
+ghost use Rattle.pg_cells.specs.Inside.families.Adding.{CanAdd, with_sign_below};
 
 use crate::families::moves::collect;
 use crate::families::place::place_family;
@@ -46,7 +46,7 @@ pub fn add_slot<V: Copy>(
     requires positive { (k : ℕ) → k < length members.now → 0 < slice_index members.now k }
     ensures trie { (t : Trie (MemberOf V)) (q : List ℕ) →
         CanAdd signs store.old t q parent slot.sign members.now →
-        OnOk result (IsTrie signs store.new (added few signs t q slot.sign slot.value)) }
+        OnOk result (IsTrie signs store.new (with_sign_below few signs t q slot.sign slot.value)) }
     ensures cell { (t : Trie (MemberOf V)) (q : List ℕ) →
         CanAdd signs store.old t q parent slot.sign members.now →
         IfOk result (λ cell. cell_of (with_sign (search_start few signs) t.families q slot.sign)

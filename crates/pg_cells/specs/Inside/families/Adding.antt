@@ -50,8 +50,8 @@ module _ {V : Type 0} where
     pub are : joins_at t.families p s ≡ false → ArePassing (has_sign t.families p) members
 
   -- the trie with the sign added below the string, and the value of the longer string
-  abbrev pub added : ℕ → ℕ → Trie V → List ℕ → ℕ → V → Trie V
-  added few n t p s v = record {
+  abbrev pub with_sign_below : ℕ → ℕ → Trie V → List ℕ → ℕ → V → Trie V
+  with_sign_below few n t p s v = record {
     families = with_sign (search_start few n) t.families p s;
     values = put (slice_cmp nat_cmp) (p ++ s ∷ []) v t.values;
   }

@@ -21,26 +21,27 @@ module _ {V : Type 0} where
   AllFit slots = (x : ℕ) (k : Slot (Member V)) → slot_of slots x ≡ Some k → FitsCell k.value
 
   -- the cell is none of those that the slots have at the base
-  abbrev pub Outside : ℕ → List (Slot V) → ℕ → Type 0
-  Outside base slots i = (x : ℕ) → i ≡ base + x → slot_of slots x ≡ None
+  abbrev pub IsOutsideFamily : ℕ → List (Slot V) → ℕ → Type 0
+  IsOutsideFamily base slots i = (x : ℕ) → i ≡ base + x → slot_of slots x ≡ None
 
   -- cells outside of the slots', and all flags, are as before
-  pub record Others (old new : Row V) (base : ℕ) (slots : List (Slot V)) : Type 0 where
-    pub signs : (i : ℕ) → Outside base slots i → sign_at new i ≡ sign_at old i
-    pub children : (i : ℕ) → Outside base slots i → child_at new i ≡ child_at old i
-    pub values : (i : ℕ) → Outside base slots i → slice_get new.values i ≡ slice_get old.values i
+  pub record KeepsOtherCells (old new : Row V) (base : ℕ) (slots : List (Slot V)) : Type 0 where
+    pub signs : (i : ℕ) → IsOutsideFamily base slots i → sign_at new i ≡ sign_at old i
+    pub children : (i : ℕ) → IsOutsideFamily base slots i → child_at new i ≡ child_at old i
+    pub values : (i : ℕ) → IsOutsideFamily base slots i
+        → slice_get new.values i ≡ slice_get old.values i
     pub bases : (b : ℕ) → base_at new b ≡ base_at old b
     pub size : length new.signs ≡ length old.signs
 
   -- the cells of the slots are given up
   pub record GivesUp (old new : Row V) (base : ℕ) (slots : List (Slot V)) : Type 0 where
-    pub others : Others old new base slots
+    pub others : KeepsOtherCells old new base slots
     pub free : (x : ℕ) (slot : Slot V) → slot_of slots x ≡ Some slot → sign_at new (base + x) ≡ 0
     pub count : taken_in new + length slots ≡ taken_in old
 
   -- the slots stand in their cells at the base
   pub record Puts (old new : Row V) (base : ℕ) (slots : List (Slot V)) : Type 0 where
-    pub others : Others old new base slots
+    pub others : KeepsOtherCells old new base slots
     pub at : (x : ℕ) (slot : Slot V) → slot_of slots x ≡ Some slot
         → (sign_at new (base + x) ≡ x) × (child_at new (base + x) ≡ slot.child)
         × (slice_get new.values (base + x) ≡ Some slot.value)
@@ -79,10 +80,10 @@ module _ {V : Type 0} where
     pub sign : (0 < slot.sign) × (slot.sign ≤ n)
     pub child : slot.child ≡ 0
     pub parent_taken : sign_at r parent ≢ 0
-    pub parent_other : Outside was slots parent
+    pub parent_other : IsOutsideFamily was slots parent
     pub room : (i : ℕ) → sign_at r i ≢ 0 → i + n + 1 < length r.signs
     pub rooted : (b : ℕ) → base_at r b ≡ true → b ≢ was
-        → 0 < b → (y : ℕ) × (0 < y) × (sign_at r (b + y) ≢ 0) × (Outside was slots (b + y))
+        → 0 < b → (y : ℕ) × (0 < y) × (sign_at r (b + y) ≢ 0) × (IsOutsideFamily was slots (b + y))
     -- at `was`, each slot's sign stands, and no other; the new sign's cell is taken; and each taken
     -- cell belongs to a base
     pub stands : (x : ℕ) (k : Slot V) → slot_of slots x ≡ Some k → sign_at r (was + x) ≡ x

@@ -1,6 +1,6 @@
--- From where on the base of a family is sought, by the greatest number of signs with which a family
--- is placed from base 1 on. With the 4 of patterns this is the rule of patterns. With 0 each family
--- is placed near the greatest used cell.
+-- The lowest base that is tried for a family. A family of at most `few` signs is sought from base 1
+-- on, and a larger one near the greatest used cell. With the 4 of patterns this is the rule of
+-- patterns. With 0 each family is placed near the greatest used cell.
 use Rattle.std.specs.Prelude.{ℕ, ◌-◌, max, if◌then◌else◌, nat_eq, nat_le}
 use Rattle.pg_types.specs.declared.limits.TheConstants.{FAR_BELOW}
 use Rattle.pg_cells.specs.declared.families.place.TheConstants.{NEAR_BELOW}

@@ -2,7 +2,7 @@ use Rattle.std.proofs.Common.{◌≡◌, refl, ap, sym, subst, ◌∙◌, ◌<�
 use Rattle.pg_cells.specs.declared.store.cell.Cell.{Cell}
 use Rattle.pg_cells.specs.Inside.store.Lists.{lists, with_base}
 use Rattle.pg_cells.specs.Inside.store.Lists.{Lists, Row, row_of}
-use Rattle.pg_cells.specs.Inside.store.Blocked.{AreBlocked}
+use Rattle.pg_cells.specs.Inside.store.BlockedBases.{AreBlocked}
 use Rattle.pg_cells.specs.Inside.store.Store.{IsRow}
 use Rattle.pg_cells.specs.Inside.store.Writes.{SetsBase}
 use Rattle.pg_cells.specs.declared.store.member.Member.{Member}

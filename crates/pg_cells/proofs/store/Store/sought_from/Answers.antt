@@ -1,6 +1,6 @@
 use Rattle.std.proofs.Common.{sym, subst, arith}
 use Rattle.pg_cells.specs.Inside.store.Lists.{row_of}
-use Rattle.pg_cells.specs.Inside.store.Blocked.{AreBlocked}
+use Rattle.pg_cells.specs.Inside.store.BlockedBases.{AreBlocked}
 use Rattle.pg_cells.proofs.store.Store.sought_from.Goals as goal
 
 pub returns-then-base-self : goal.returns-then-base-self

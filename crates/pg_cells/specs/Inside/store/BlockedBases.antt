@@ -1,4 +1,4 @@
--- Bases that can't take a family, because of the cells and bases of others.
+-- Bases that cannot take a family, since another family has the base or one of the cells.
 use Rattle.std.specs.Prelude.{◌≡◌, ◌≢◌, ℕ, ◌+◌, ◌<◌, ◌≤◌, ◌⊎◌, true}
 use Rattle.pg_cells.specs.Inside.store.Lists.{Row, sign_at, base_at}
 
