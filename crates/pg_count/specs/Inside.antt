@@ -3,7 +3,7 @@ pub mod Bounds
 pub mod Counting
 pub mod Least
 pub mod Leaves
-pub mod Listed
+pub mod WindowRow
 pub mod Tables
 pub mod CellNumbers
 pub mod Under

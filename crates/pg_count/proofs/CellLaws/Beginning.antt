@@ -8,7 +8,7 @@ use Rattle.pg_types.proofs.StringEntries.{order}
 use Rattle.pg_cells.specs.Inside.linked.ValuedFamilies.{ValuedFamilies}
 use Rattle.pg_cells.specs.Inside.linked.AreValuedFamilies.{AreValuedFamilies}
 use Rattle.pg_cells.specs.Inside.families.Root.{root_held}
-use Rattle.pg_count.specs.Inside.Counting.{Tally, counting_of, counts_in, sums_seen, number_seen, window_at}
+use Rattle.pg_count.specs.Inside.Counting.{Tally, counting_of, counts_in, sums_of_tally, number_of_tally, window_at}
 use Rattle.pg_count.specs.Inside.Leaves.{AreCounting, AreShort}
 use Rattle.pg_count.proofs.CellLaws.Counted.{seen_root, none_seen, seen_there}
 use Rattle.pg_count.proofs.CellLaws.Mapped.{root_strings}
@@ -22,10 +22,10 @@ module _ (cells : ValuedFamilies (Option Tally)) (windows : Windows) (n len : �
         len = len;
         counted = record {
           counts =
-              map (λ (e : List ℕ × Tally). (e.0, sums_seen e.1)) (map (λ (e : List ℕ × Tally). (window_at windows e.1.0, e.1)) es);
+              map (λ (e : List ℕ × Tally). (e.0, sums_of_tally e.1)) (map (λ (e : List ℕ × Tally). (window_at windows e.1.0, e.1)) es);
           windows = windows;
         };
-      }) (none_seen sums_seen (λ t. t) cells.values none)
+      }) (none_seen sums_of_tally (λ t. t) cells.values none)
       ∙ ap (λ ws. record { signs = n; len = len; counted = record { counts = []; windows = ws } }) empty
 
   pub begun_kept : AreValuedFamilies cells → AreShort cells.values len → 1 ≤ len → len ≤ LENGTH_MAX → AreCounting cells windows len
@@ -37,7 +37,7 @@ module _ (cells : ValuedFamilies (Option Tally)) (windows : Windows) (n len : �
       last = λ q t at. absurd (uncounted q t at);
       short = short;
       long = λ u n at. absurd (no_window u n at);
-      size = ap length empty ∙ sym (ap length (none_seen sums_seen number_seen cells.values none));
+      size = ap length empty ∙ sym (ap length (none_seen sums_of_tally number_of_tally cells.values none));
     };
     some = some;
     most = most;
@@ -45,7 +45,7 @@ module _ (cells : ValuedFamilies (Option Tally)) (windows : Windows) (n len : �
     where
       uncounted : (q : List ℕ) (t : Tally) → find order q cells.values ≡ Some (Some t) → ⊥
       uncounted q t at =
-          let wrong : None ≡ Some (sums_seen t) = sym (ap (find order q) none) ∙ seen_there sums_seen cells.values held.ordered q (Some t) at in
+          let wrong : None ≡ Some (sums_of_tally t) = sym (ap (find order q) none) ∙ seen_there sums_of_tally cells.values held.ordered q (Some t) at in
           cc
 
       no_window : (u : List ℕ) (n : ℕ) → HasNumber windows u n → ⊥
@@ -55,7 +55,7 @@ module _ (cells : ValuedFamilies (Option Tally)) (windows : Windows) (n len : �
 
 -- the root alone counts nothing
 pub root_none : (cells : ValuedFamilies (Option Tally)) (n : ℕ) → cells ≡ root_held n None → counts_in cells.values ≡ []
-root_none cells n root = ap (λ (h : ValuedFamilies (Option Tally)). counts_in h.values) root ∙ seen_root sums_seen (range_with_len 1 n)
+root_none cells n root = ap (λ (h : ValuedFamilies (Option Tally)). counts_in h.values) root ∙ seen_root sums_of_tally (range_with_len 1 n)
 
 -- and has strings of one sign
 pub root_short : (cells : ValuedFamilies (Option Tally)) (n len : ℕ) → cells ≡ root_held n None → 1 ≤ len → AreShort cells.values len

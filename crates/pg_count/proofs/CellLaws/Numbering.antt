@@ -14,7 +14,7 @@ use Rattle.pg_count.specs.declared.store.tally_list.TheConstants.{NO_TALLY, NUMB
 use Rattle.std.specs.Option.{option_map, is_some}
 use Rattle.std.specs.FinMap.Entries.{length-put}
 use Rattle.std.specs.Cmp.Lexicographic.{nat_list_cmp_total}
-use Rattle.pg_count.specs.Inside.Counting.{Tally, seen_in, sums_seen, number_seen, counts_in, numbers_in}
+use Rattle.pg_count.specs.Inside.Counting.{Tally, seen_in, sums_of_tally, number_of_tally, counts_in, numbers_in}
 use Rattle.pg_count.proofs.CellLaws.Counted.{seen_there, seen_put, seen_again, seen_blank, seen_moved, sorted_seen}
 use Rattle.pg_count.specs.Inside.Leaves.{Adds, PushesDown}
 use Rattle.pg_count.proofs.LeafLaws.Fronts.{found_put}
@@ -95,7 +95,7 @@ module _ (h : ValuedFamilies ℕ) (first : ℕ) (tallies : Sums) (none : tallies
       by (e ∷ es) = ap (λ o. seen_in see ((e.0, o) ∷ mapped (tally_by_number first []) es)) (none_of e.1) ∙ by es
 
   pub none_counted : counts_in (tallied_families h first tallies).values ≡ []
-  none_counted = none_in sums_seen
+  none_counted = none_in sums_of_tally
 
   pub cleared_kept : AreValuedFamilies h → 1 ≤ first → first ≤ NUMBERS_END → ((q : List ℕ) (k : ℕ) → find order q h.values ≡ Some k → k < first) → AreCellNumbers h first tallies
   cleared_kept held positive few past = record {
@@ -104,7 +104,7 @@ module _ (h : ValuedFamilies ℕ) (first : ℕ) (tallies : Sums) (none : tallies
     few = (let size = ap length none in omega arith);
     numbers = λ q k e. (let lt = past q k e in omega arith);
     apart = λ q p k e d le. absurd (let lt = past q k e in omega arith);
-    size = ap length (none_in number_seen) ∙ sym (ap length none);
+    size = ap length (none_in number_of_tally) ∙ sym (ap length none);
   }
 
 -- the root alone
@@ -140,7 +140,7 @@ module _ (h g : ValuedFamilies ℕ) (first : ℕ) (tallies : Sums) (are : AreCel
   added_size : length (numbers_in (tallied_families g first tallies).values) ≡ length (numbers_in (tallied_families h first tallies).values)
   added_size =
       ap (λ ts. length (numbers_in ts)) added_values
-      ∙ ap length (seen_blank number_seen (tallied_families h first tallies).values (q ++ s ∷ []) (held_tallied h first tallies are.held).ordered
+      ∙ ap length (seen_blank number_of_tally (tallied_families h first tallies).values (q ++ s ∷ []) (held_tallied h first tallies are.held).ordered
       (none_mapped (tally_by_number first tallies) (q ++ s ∷ []) h.values none))
 
   pub added_tallied : Adds (tallied_families h first tallies) (tallied_families g first tallies) q s
@@ -184,7 +184,7 @@ module _ (h mid g : ValuedFamilies ℕ) (first : ℕ) (tallies : Sums) (are : Ar
   pushed_size : length (numbers_in (tallied_families g first tallies).values) ≡ length (numbers_in (tallied_families h first tallies).values)
   pushed_size =
       ap (λ ts. length (numbers_in ts)) pushed_values
-      ∙ seen_moved number_seen (tallied_families h first tallies).values q (q ++ s ∷ []) t (held_tallied h first tallies are.held).ordered there
+      ∙ seen_moved number_of_tally (tallied_families h first tallies).values q (q ++ s ∷ []) t (held_tallied h first tallies are.held).ordered there
       (none_mapped (tally_by_number first tallies) (q ++ s ∷ []) h.values none) (not_longer q s)
 
   pub pushed_tallied : PushesDown (tallied_families h first tallies) (tallied_families g first tallies) q s t
@@ -283,7 +283,7 @@ module _ (h : ValuedFamilies ℕ) (first : ℕ) (tallies : Sums) (are : AreCellN
     apart = are.apart;
     size =
         ap (λ (g : ValuedFamilies (Option Tally)). length (numbers_in g.values)) set_tallied
-        ∙ ap length (seen_again number_seen (tallied_families h first tallies).values q (k - first, get_or tallies (k - first) sums) (k - first, sums)
+        ∙ ap length (seen_again number_of_tally (tallied_families h first tallies).values q (k - first, get_or tallies (k - first) sums) (k - first, sums)
         (held_tallied h first tallies are.held).ordered tally_was refl)
         ∙ are.size ∙ sym size_set;
   }
@@ -377,10 +377,10 @@ module _ (h new : ValuedFamilies ℕ) (first : ℕ) (tallies more : Sums) (are :
     ];
     size =
         ap (λ (g : ValuedFamilies (Option Tally)). length (numbers_in g.values)) count_tallied
-        ∙ ap length (seen_put number_seen (tallied_families h first tallies).values q (length tallies, sums) (held_tallied h first tallies are.held).ordered)
+        ∙ ap length (seen_put number_of_tally (tallied_families h first tallies).values q (length tallies, sums) (held_tallied h first tallies are.held).ordered)
         ∙ length-put order nat_list_cmp_total q (length tallies) (numbers_in (tallied_families h first tallies).values)
-        (sorted_seen number_seen (tallied_families h first tallies).values (held_tallied h first tallies are.held).ordered)
+        (sorted_seen number_of_tally (tallied_families h first tallies).values (held_tallied h first tallies are.held).ordered)
         ∙ ap (λ o. cond (is_some o) (length (numbers_in (tallied_families h first tallies).values)) (length (numbers_in (tallied_families h first tallies).values) + 1))
-        (seen_there number_seen (tallied_families h first tallies).values (held_tallied h first tallies are.held).ordered q None blank)
+        (seen_there number_of_tally (tallied_families h first tallies).values (held_tallied h first tallies are.held).ordered q None blank)
         ∙ ap (λ k. k + 1) are.size ∙ sym size;
   }

@@ -12,7 +12,7 @@ use Rattle.pg_types.proofs.BoolFacts.{both_halves, first_half, second_half, less
 use Rattle.pg_types.proofs.Numbering.{behind, first_at}
 use Rattle.pg_types.proofs.StringEntries.{order, equal_or_not, same_maps, head_below, tail_sorted, put_from, found_mapped, sorted_mapped, unmapped}
 use Rattle.pg_cells.specs.Inside.linked.ValuedFamilies.{ValuedFamilies}
-use Rattle.pg_count.specs.Inside.Counting.{IsCounting, Tally, seen_in, sums_seen, number_seen, numbers_in, window_at, wholes, counting_of}
+use Rattle.pg_count.specs.Inside.Counting.{IsCounting, Tally, seen_in, sums_of_tally, number_of_tally, numbers_in, window_at, wholes, counting_of}
 use Rattle.pg_count.specs.Inside.Leaves.{AreLeaves, HasTally, Keeps, Sets}
 use Rattle.pg_count.proofs.CellLaws.Counted.{sorted_seen, seen_there, seen_strings, tally_there}
 use Rattle.pg_count.proofs.LeafLaws.Fronts.{GoesOn, less_longer}
@@ -120,14 +120,14 @@ module _ (h : ValuedFamilies (Option Tally)) (windows : Windows) (len : ℕ) (ar
   counts = (counting_of h windows len).counted.counts
 
   pub sorted_counts : T (is_sorted order counts)
-  sorted_counts = sorted_mapped sums_seen (wholes windows h.values) sorted_wholes
+  sorted_counts = sorted_mapped sums_of_tally (wholes windows h.values) sorted_wholes
 
   pub counts_there : (u : List ℕ) (t : Tally) → HasTally h.values t → HasNumber windows u t.0 → find order u counts ≡ Some t.1
-  counts_there u t has at = found_mapped sums_seen u t (wholes windows h.values) (whole_there u t has at)
+  counts_there u t has at = found_mapped sums_of_tally u t (wholes windows h.values) (whole_there u t has at)
 
   pub counts_back : (u : List ℕ) (sums : ℕ × ℕ) → find order u counts ≡ Some sums → (t : Tally) × (HasTally h.values t × HasNumber windows u t.0) × (sums ≡ t.1)
   counts_back u sums at =
-      let t = unmapped sums_seen u sums (wholes windows h.values) at in
+      let t = unmapped sums_of_tally u sums (wholes windows h.values) at in
       (t.0, whole_back u t.0 t.1, t.2)
 
   -- a window with a number is counted
@@ -165,11 +165,11 @@ module _ (h : ValuedFamilies (Option Tally)) (windows : Windows) (len : ℕ) (ar
     size = omega (
       arith,
       are.size,
-      ap length (seen_strings number_seen (λ t. t) h.values),
+      ap length (seen_strings number_of_tally (λ t. t) h.values),
       length-map {B = Option (List ℕ)} (numbers_in h.values) (λ e. Some e.0),
       length-map {B = Option (List ℕ)} (seen_in (λ t. t) h.values) (λ e. Some e.0),
       length-map {B = List ℕ × Tally} (seen_in (λ t. t) h.values) (λ e. (window_at windows e.1.0, e.1)),
-      length-map {B = List ℕ × (ℕ × ℕ)} (wholes windows h.values) (λ e. (e.0, sums_seen e.1)),
+      length-map {B = List ℕ × (ℕ × ℕ)} (wholes windows h.values) (λ e. (e.0, sums_of_tally e.1)),
     );
     counted = counted_there;
     numbered = λ u is. (let t = counted_back u is in (t.0.0, t.1.1));

@@ -6,7 +6,7 @@ use Rattle.std.proofs.lemmas.List.Folds.{concat-append}
 use Rattle.std.proofs.lemmas.Nat.{row_fits}
 use Rattle.std.specs.List.{All, concat, slice_get}
 use Rattle.pg_types.specs.Inside.NumberedWindows.{Windows, HasNumber}
-use Rattle.pg_count.specs.Inside.Listed.{Listed, IsRow, first_parts, listed_in, parts}
+use Rattle.pg_count.specs.Inside.WindowRow.{WindowRow, IsRow, first_parts, listed_in, parts}
 
 -- the windows have one length
 abbrev pub AreLong : ℕ → Windows → Type 0
@@ -116,9 +116,9 @@ module _ (len : ℕ) (row : List ℕ) (is : IsRow len row) where
     less_listed = ap (λ ws. record { len = len; items = ws }) (parts_of len less (take (length (parts len row) - 1) (parts len row)) is.some less_long less_joined)
 
 -- a window that was appended and dropped
-pub put_back : (old more less : Listed) (u : List ℕ) → more ≡ record old { items = old.items ++ u ∷ [] } → less ≡ record more { items = take (length more.items - 1) more.items } → less ≡ old
+pub put_back : (old more less : WindowRow) (u : List ℕ) → more ≡ record old { items = old.items ++ u ∷ [] } → less ≡ record more { items = take (length more.items - 1) more.items } → less ≡ old
 put_back old more less u pushed popped =
     let all = length_push old.items u in
     popped
-    ∙ ap (λ (l : Listed). record { len = l.len; items = take (length l.items - 1) l.items }) pushed
+    ∙ ap (λ (l : WindowRow). record { len = l.len; items = take (length l.items - 1) l.items }) pushed
     ∙ ap (λ ws. record { len = old.len; items = ws }) (take_at old.items (u ∷ []) (length (old.items ++ u ∷ []) - 1) (omega arith))

@@ -6,7 +6,7 @@ use Rattle.pg_cells.specs.Inside.linked.ValuedFamilies.{ValuedFamilies}
 use Rattle.pg_types.proofs.Numbering.{behind, first_at}
 use Rattle.pg_types.proofs.StringEntries.{order, tail_sorted}
 use Rattle.pg_types.specs.Inside.NumberedWindows.{Windows, AreInOrder}
-use Rattle.pg_count.specs.Inside.Counting.{Tally, Tallies, counting_of, seen_in, number_seen, sums_seen, window_at, wholes}
+use Rattle.pg_count.specs.Inside.Counting.{Tally, Tallies, counting_of, seen_in, number_of_tally, sums_of_tally, window_at, wholes}
 use Rattle.pg_count.specs.Inside.Leaves.{AreLeaves}
 use Rattle.pg_count.specs.Inside.Under.{numbers_under}
 use Rattle.pg_count.proofs.WalkLaws.Walking.{under_all}
@@ -14,10 +14,10 @@ use Rattle.pg_count.proofs.LeafLaws.Wholes.{window_of}
 
 -- the numbers of the counted strings, and the windows with these numbers
 abbrev numbers_of : Tallies → List ℕ
-numbers_of ts = map (λ (e : List ℕ × ℕ). e.1) (seen_in number_seen ts)
+numbers_of ts = map (λ (e : List ℕ × ℕ). e.1) (seen_in number_of_tally ts)
 
 abbrev windows_of : Windows → Tallies → List (Option (List ℕ))
-windows_of windows ts = map (λ (e : List ℕ × (ℕ × ℕ)). Some e.0) (map (λ (e : List ℕ × Tally). (e.0, sums_seen e.1)) (wholes windows ts))
+windows_of windows ts = map (λ (e : List ℕ × (ℕ × ℕ)). Some e.0) (map (λ (e : List ℕ × Tally). (e.0, sums_of_tally e.1)) (wholes windows ts))
 
 -- in the order of the strings, they are those of the windows
 in_turn : (windows : Windows) (ts : Tallies) → T (is_sorted order ts) → ((q : List ℕ) (t : Tally) → find order q ts ≡ Some (Some t) → slice_get windows t.0 ≡ Some (window_at windows t.0))

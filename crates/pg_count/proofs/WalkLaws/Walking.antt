@@ -19,7 +19,7 @@ use Rattle.pg_cells.proofs.Walking.{childless}
 use Rattle.pg_count.proofs.CellLaws.Mapped.{ends_after}
 use Rattle.pg_cells.proofs.StringMaps.{order, equal_or_not, same_maps, head_below, tail_sorted}
 use Rattle.pg_types.specs.Inside.NumberedStrings.{Numbers}
-use Rattle.pg_count.specs.Inside.Counting.{Tally, number_seen, numbers_in}
+use Rattle.pg_count.specs.Inside.Counting.{Tally, number_of_tally, numbers_in}
 use Rattle.pg_count.specs.Inside.Leaves.{AreLast, AreShort, IsLast}
 use Rattle.pg_count.specs.Inside.Under.{is_under, is_before, is_passed, numbers_where, numbers_under}
 use Rattle.pg_count.proofs.CellLaws.Counted.{sorted_seen, seen_there, tally_there}
@@ -190,7 +190,7 @@ map_append (x ∷ xs) ys = ap (λ l. x.1 ∷ l) (map_append xs ys)
 
 module _ (h : ValuedFamilies (Option Tally)) (held : AreValuedFamilies h) where
   sorted : T (is_sorted order (numbers_in h.values))
-  sorted = sorted_seen number_seen h.values held.ordered
+  sorted = sorted_seen number_of_tally h.values held.ordered
 
   module _ (p : List ℕ) (bare : (n : ℕ) → find order p (numbers_in h.values) ≡ Some n → ⊥) where
     -- a counted string that begins with p, which is not counted, goes on by a sign of the family
@@ -201,7 +201,7 @@ module _ (h : ValuedFamilies (Option Tally)) (held : AreValuedFamilies h) where
         on : (x : ℕ) (q : List ℕ) → r ≡ p ++ x ∷ q → (o : Option ℕ) → cell_of h.families (p ++ x ∷ []) ≡ o → (goes_on h.values p x ≡ true) × (1 ≤ x)
         on x q is (Some cell) e = (cell_goes h held p x cell e, (held.signs p x cell e).0)
         on x q is None e =
-            let t = tally_there number_seen h.values r n held.ordered at in
+            let t = tally_there number_of_tally h.values r n held.ordered at in
             let cell = held.celled r (Some t.0) t.1 in
             let way : r ≡ (p ++ x ∷ []) ++ q = is ∙ sym (append_assoc p (x ∷ []) q) in
             absurd (let wrong : None ≡ Some cell.0 = sym (held.closed p x q e) ∙ ap (cell_of h.families) (sym way) ∙ cell.1 in cc)
@@ -272,7 +272,7 @@ module _ (h : ValuedFamilies (Option Tally)) (held : AreValuedFamilies h) where
   -- a counted string is not one with a family below it
   pub open_base : AreLast h.values → (p : List ℕ) (base : ℕ) → base_of h.families p ≡ Some base → (n : ℕ) → find order p (numbers_in h.values) ≡ Some n → ⊥
   open_base last p base is n at =
-      let t = tally_there number_seen h.values p n held.ordered at in
+      let t = tally_there number_of_tally h.values p n held.ordered at in
       let x = held.filled p base is in
       let v = held.valued (p ++ x.0 ∷ []) x.1 x.2 in
       let wrong : None ≡ Some v.0 = sym (last p t.0 t.1 x.0 []) ∙ ap (λ q. find order q h.values) (append-nil (p ++ x.0 ∷ [])) ∙ v.1 in
@@ -286,20 +286,20 @@ module _ (h : ValuedFamilies (Option Tally)) (held : AreValuedFamilies h) where
         by : (r : List ℕ) → u ≡ q ++ r → u ≡ q
         by [] is = is ∙ append-nil q
         by (x ∷ r) is =
-            let t = tally_there number_seen h.values u m held.ordered at in
+            let t = tally_there number_of_tally h.values u m held.ordered at in
             let way : u ≡ (q ++ x ∷ []) ++ r = is ∙ sym (append_assoc q (x ∷ []) r) in
             absurd (let wrong : None ≡ Some (Some t.0) = sym (last x r) ∙ ap (λ z. find order z h.values) (sym way) ∙ t.1 in cc)
 
     pub under_one : (n : ℕ) (sums : ℕ × ℕ) → find order q h.values ≡ Some (Some (n, sums)) → numbers_under q h.values ≡ n ∷ []
     under_one n sums at =
-        ap (map (λ e. e.1)) (where_one (is_under q) (numbers_in h.values) sorted q n (seen_there number_seen h.values held.ordered q (Some (n, sums)) at)
+        ap (map (λ e. e.1)) (where_one (is_under q) (numbers_in h.values) sorted q n (seen_there number_of_tally h.values held.ordered q (Some (n, sums)) at)
         (ap (is_under q) (sym (append-nil q)) ∙ under_itself q []) alone)
 
     pub under_uncounted : find order q h.values ≡ Some None → numbers_under q h.values ≡ []
     under_uncounted at = ap (map (λ e. e.1)) (where_none (is_under q) (numbers_in h.values) sorted (λ u m there. elim (cases_Bool (is_under q u)) [
       | inr off ↦ off
       | inl under ↦ absurd (
-          let none = seen_there number_seen h.values held.ordered q None at in
+          let none = seen_there number_of_tally h.values held.ordered q None at in
           let wrong : None ≡ Some m = sym none ∙ ap (λ x. find order x (numbers_in h.values)) (sym (alone u m there under)) ∙ there in
           cc)
     ]))

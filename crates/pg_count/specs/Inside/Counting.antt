@@ -44,20 +44,20 @@ abbrev pub seen_in : {Y : Type 0} → (Tally → Y) → Tallies → List (List �
 seen_in see tallies = filter_map (λ e. option_map (λ t. (e.0, see t)) e.1) tallies
 
 -- the sums in a tally
-abbrev pub sums_seen : Tally → ℕ × ℕ
-sums_seen t = t.1
+abbrev pub sums_of_tally : Tally → ℕ × ℕ
+sums_of_tally t = t.1
 
 -- the number in a tally
-abbrev pub number_seen : Tally → ℕ
-number_seen t = t.0
+abbrev pub number_of_tally : Tally → ℕ
+number_of_tally t = t.0
 
 -- the strings that are counted, with their sums
 abbrev pub counts_in : Tallies → Counts
-counts_in tallies = seen_in sums_seen tallies
+counts_in tallies = seen_in sums_of_tally tallies
 
 -- the strings that are counted, with their numbers
 abbrev pub numbers_in : Tallies → Numbers
-numbers_in tallies = seen_in number_seen tallies
+numbers_in tallies = seen_in number_of_tally tallies
 
 -- the window with a number
 abbrev pub window_at : Windows → ℕ → List ℕ
@@ -74,7 +74,7 @@ counting_of cells windows len =
       signs = cells.signs;
       len = len;
       counted = record {
-        counts = map (λ e. (e.0, sums_seen e.1)) (wholes windows cells.values);
+        counts = map (λ e. (e.0, sums_of_tally e.1)) (wholes windows cells.values);
         windows = windows;
       };
     }

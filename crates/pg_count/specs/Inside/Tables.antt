@@ -23,8 +23,8 @@ told_by first windows tallies k = if nat_lt k first then None
     else Some (window_at windows (k - first), get_or tallies (k - first) (0, 0))
 
 -- the numbers that the entries of a row tell, in their order
-abbrev pub numbers_told : ℕ → List ℕ → List ℕ
-numbers_told first row = filter_map (λ k. if nat_lt k first then None else Some (k - first)) row
+abbrev pub numbers_in_row : ℕ → List ℕ → List ℕ
+numbers_in_row first row = filter_map (λ k. if nat_lt k first then None else Some (k - first)) row
 
 -- the windows that are counted in a table, in the order of its entries
 abbrev pub table_counts : List ℕ → ℕ → Windows → List (ℕ × ℕ) → Counts

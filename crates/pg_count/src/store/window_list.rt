@@ -14,11 +14,11 @@ pub struct WindowList {
 }
 
 impl Model for WindowList {
-    ghost use Rattle.pg_count.specs.Inside.Listed.{Listed};
+    ghost use Rattle.pg_count.specs.Inside.WindowRow.{WindowRow};
 
-    ghost Value = { Listed };
+    ghost Value = { WindowRow };
 
-    ghost use Rattle.pg_count.specs.Inside.Listed.{IsRow, listed_in};
+    ghost use Rattle.pg_count.specs.Inside.WindowRow.{IsRow, listed_in};
 
     ghost view = { λ w. listed_in w.len w.signs.items };
 

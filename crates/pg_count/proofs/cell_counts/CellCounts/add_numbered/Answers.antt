@@ -6,7 +6,7 @@ use Rattle.pg_types.specs.Inside.Counts.{AreSmall, counted_sums, is_counted, wit
 use Rattle.pg_cells.specs.Inside.linked.ValuedFamilies.{ValuedFamilies}
 use Rattle.pg_count.specs.Inside.Counting.{Counting, Tally, counting_of}
 use Rattle.pg_count.specs.Inside.Leaves.{AreLeaves}
-use Rattle.pg_count.specs.Inside.Listed.{Listed}
+use Rattle.pg_count.specs.Inside.WindowRow.{WindowRow}
 use Rattle.pg_count.proofs.LeafLaws.Adding.{counting_with, counted_again, counted_new}
 use Rattle.pg_count.proofs.LeafLaws.Leaves.{again_leaves, again_sets}
 use Rattle.pg_count.proofs.LeafLaws.Wholes.{counted_back, counts_there, kept_counting}
@@ -71,8 +71,8 @@ returns-in_err-number-in-None-clause-err c =
     let g = c.count_new.new.cells in
     let ensures = c.in_err-number-in-None.ensures in
     let new = subst (AreLeaves g ws) (c.requires.len ∙ sym (ap (λ (d : Counting). d.len) c.self.view_is))
-    (subst (λ (l : Listed). AreLeaves g l.items (length c.args.window.now)) ensures.err ensures.leaves) in
-    rw (err.1) (ap (λ (l : Listed). counting_of g l.items l.len) ensures.err ∙ kept_counting h g ws len c.self.invariant.leaves new ensures.signs ensures.keeps ∙ c.self.view_is)
+    (subst (λ (l : WindowRow). AreLeaves g l.items (length c.args.window.now)) ensures.err ensures.leaves) in
+    rw (err.1) (ap (λ (l : WindowRow). counting_of g l.items l.len) ensures.err ∙ kept_counting h g ws len c.self.invariant.leaves new ensures.signs ensures.keeps ∙ c.self.view_is)
 
 pub returns-in_ok-number-in-None-clause-ok : goal.returns-in_ok-number-in-None-clause-ok
 returns-in_ok-number-in-None-clause-ok c =
@@ -80,16 +80,16 @@ returns-in_ok-number-in-None-clause-ok c =
     let ws = c.self.inside.windows.items in
     let ensures = c.in_ok-number-in-None.ensures in
     let new = subst (AreLeaves c.count_new.new.cells c.count_new.new.windows.items) (c.requires.len ∙ sym (ap (λ (d : Counting). d.len) c.self.view_is)) ensures.leaves in
-    ap (counting_of c.count_new.new.cells c.count_new.new.windows.items) (ap (λ (l : Listed). l.len) ensures.windows)
+    ap (counting_of c.count_new.new.cells c.count_new.new.windows.items) (ap (λ (l : WindowRow). l.len) ensures.windows)
     ∙ counted_new c.self.inside.cells c.count_new.new.cells ws c.count_new.new.windows.items c.self.inside.windows.len c.self.invariant.leaves new u
-    c.add_weight-sums.result c.args.good c.args.weight ensures.signs (c.in-None.ensures.none refl) (ap (λ (l : Listed). l.items) ensures.windows)
+    c.add_weight-sums.result c.args.good c.args.weight ensures.signs (c.in-None.ensures.none refl) (ap (λ (l : WindowRow). l.items) ensures.windows)
     (c.add_weight-sums.ensures ∙ ap (with_weight (0, 0) c.args.good) c.from-in-None.ensures) ensures.sets
     ∙ ap (λ (d : Counting). counting_with d u c.args.good c.args.weight) c.self.view_is
 
 pub returns-in_ok-number-in-None-clause-number : goal.returns-in_ok-number-in-None-clause-number
 returns-in_ok-number-in-None-clause-number c =
     let ensures = c.in_ok-number-in-None.ensures in
-    ap (λ (l : Listed). slice_get l.items c.in_ok-number-in-None.number) ensures.windows ∙ get_seam c.self.inside.windows.items c.args.window.now c.in_ok-number-in-None.number ensures.number
+    ap (λ (l : WindowRow). slice_get l.items c.in_ok-number-in-None.number) ensures.windows ∙ get_seam c.self.inside.windows.items c.args.window.now c.in_ok-number-in-None.number ensures.number
 
 pub count_new-requires-clause-len : goal.count_new-requires-clause-len
 count_new-requires-clause-len c = c.requires.len ∙ sym (ap (λ (d : Counting). d.len) c.self.view_is)

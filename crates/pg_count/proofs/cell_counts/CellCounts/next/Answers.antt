@@ -3,7 +3,7 @@ use Rattle.std.proofs.lemmas.Option.{slice_get_within}
 use Rattle.pg_types.specs.Inside.Counts.{windows_above}
 use Rattle.pg_types.proofs.StringEntries.{order}
 use Rattle.pg_cells.proofs.LinkLaws.{root_first}
-use Rattle.pg_count.specs.Inside.Counting.{Counting, Tally, sums_seen, window_at}
+use Rattle.pg_count.specs.Inside.Counting.{Counting, Tally, sums_of_tally, window_at}
 use Rattle.pg_count.proofs.CellLaws.Counted.{none_seen}
 use Rattle.pg_count.proofs.WalkLaws.Nexting.{none_above, least_is}
 use Rattle.pg_count.proofs.LeafLaws.Parting.{signs_told}
@@ -23,10 +23,10 @@ least-requires-clause-base c =
 
 pub returns-then-has_none : goal.returns-then-has_none
 returns-then-has_none c =
-    let none = none_seen sums_seen (λ t. t) c.self.inside.cells.values (c.has_none.ensures.0 c.if-has_none.true) in
+    let none = none_seen sums_of_tally (λ t. t) c.self.inside.cells.values (c.has_none.ensures.0 c.if-has_none.true) in
     let counts : c.args.self.now.counted.counts ≡ [] =
     sym (ap (λ (d : Counting). d.counted.counts) c.self.view_is)
-    ∙ ap (λ (es : List (List ℕ × Tally)). map (λ (e : List ℕ × Tally). (e.0, sums_seen e.1)) (map (λ (e : List ℕ × Tally). (window_at c.self.inside.windows.items e.1.0, e.1)) es)) none in
+    ∙ ap (λ (es : List (List ℕ × Tally)). map (λ (e : List ℕ × Tally). (e.0, sums_of_tally e.1)) (map (λ (e : List ℕ × Tally). (window_at c.self.inside.windows.items e.1.0, e.1)) es)) none in
     (ap (windows_above c.args.at.now) counts, refl)
 
 pub returns-in_err-number : goal.returns-in_err-number

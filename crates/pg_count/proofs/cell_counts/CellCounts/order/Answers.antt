@@ -2,7 +2,7 @@ use Rattle.std.proofs.Common.{◌≡◌, ℕ, List, [], Some, map, arith, ap, sy
 use Rattle.std.proofs.lemmas.List.{append-nil}
 use Rattle.pg_types.specs.Inside.NumberedWindows.{AreInOrder}
 use Rattle.pg_cells.proofs.LinkLaws.{root_first}
-use Rattle.pg_count.specs.Inside.Counting.{Counting, Tally, sums_seen, window_at}
+use Rattle.pg_count.specs.Inside.Counting.{Counting, Tally, sums_of_tally, window_at}
 use Rattle.pg_count.specs.Inside.Under.{numbers_under}
 use Rattle.pg_count.proofs.CellLaws.Counted.{none_seen}
 use Rattle.pg_count.proofs.WalkLaws.Looking.{ordered_numbers}
@@ -28,8 +28,8 @@ returns-in_ok-walk c = (
 
 pub returns-else-not-has_none : goal.returns-else-not-has_none
 returns-else-not-has_none c =
-    let none = none_seen sums_seen (λ t. t) c.self.inside.cells.values (c.has_none.ensures.0 c.if-not-has_none.false) in
+    let none = none_seen sums_of_tally (λ t. t) c.self.inside.cells.values (c.has_none.ensures.0 c.if-not-has_none.false) in
     let counts : c.args.self.now.counted.counts ≡ [] =
     sym (ap (λ (d : Counting). d.counted.counts) c.self.view_is)
-    ∙ ap (λ (es : List (List ℕ × Tally)). map (λ (e : List ℕ × Tally). (e.0, sums_seen e.1)) (map (λ (e : List ℕ × Tally). (window_at c.self.inside.windows.items e.1.0, e.1)) es)) none in
+    ∙ ap (λ (es : List (List ℕ × Tally)). map (λ (e : List ℕ × Tally). (e.0, sums_of_tally e.1)) (map (λ (e : List ℕ × Tally). (window_at c.self.inside.windows.items e.1.0, e.1)) es)) none in
     ([], sym (append-nil c.args.out.now.items), sym (ap (map (λ (e : List ℕ × (ℕ × ℕ)). Some e.0)) counts))

@@ -1,7 +1,7 @@
 use Rattle.std.proofs.Common.{◌+◌, ◌^◌, ◌≤◌, [], sym, subst, ap, ◌∙◌}
 use Rattle.pg_types.specs.Inside.NumberedWindows.{no_counts}
 use Rattle.pg_count.specs.Inside.Counting.{Counting}
-use Rattle.pg_count.specs.Inside.Listed.{Listed}
+use Rattle.pg_count.specs.Inside.WindowRow.{WindowRow}
 use Rattle.pg_count.specs.Inside.Tables.{IsTable, table_counting}
 use Rattle.pg_count.specs.declared.table.short.TheConstants.{ENTRIES_MAX}
 use Rattle.pg_count.proofs.TableLaws.Counting.{begun_counts}
@@ -13,7 +13,7 @@ invariant_of-self c =
     let row = c.first_after-self-inside.new.numbers.items in
     let first = c.first_after-self-inside.result in
     let ensures = c.first_after-self-inside.ensures in
-    subst (λ (l : Listed). IsTable row first l.items c.clear.new.self.items c.self.inside.signs l.len) (sym c.begin.ensures)
+    subst (λ (l : WindowRow). IsTable row first l.items c.clear.new.self.items c.self.inside.signs l.len) (sym c.begin.ensures)
     (subst (λ ts. IsTable row first [] ts c.self.inside.signs c.args.len) (sym c.clear.ensures.items)
     (begun_is row first c.self.inside.signs c.args.len ensures.positive ensures.few ensures.past c.requires.len.0 c.requires.len.1 c.self.invariant.within
     (subst (λ (d : Counting). (d.signs + 1) ^ c.args.len ≤ ENTRIES_MAX) (sym c.self.view_is) c.requires.few)))
@@ -23,7 +23,7 @@ returns c =
     let row = c.first_after-self-inside.new.numbers.items in
     let first = c.first_after-self-inside.result in
     let ensures = c.first_after-self-inside.ensures in
-    ap (λ (l : Listed). table_counting row first l.items c.clear.new.self.items c.self.inside.signs l.len) c.begin.ensures
+    ap (λ (l : WindowRow). table_counting row first l.items c.clear.new.self.items c.self.inside.signs l.len) c.begin.ensures
     ∙ ap (λ ts. table_counting row first [] ts c.self.inside.signs c.args.len) c.clear.ensures.items
     ∙ ap (λ cs. record { signs = c.self.inside.signs; len = c.args.len; counted = record { counts = cs; windows = [] } })
     (begun_counts row first c.self.inside.signs c.args.len ensures.positive ensures.few ensures.past)

@@ -4,7 +4,7 @@ use Rattle.std.specs.FinMap.{find, put}
 use Rattle.pg_types.proofs.StringEntries.{order}
 use Rattle.pg_types.specs.Inside.Counts.{SignsWithin, counted_sums}
 use Rattle.pg_count.specs.Inside.Counting.{Counting}
-use Rattle.pg_count.specs.Inside.Listed.{Listed}
+use Rattle.pg_count.specs.Inside.WindowRow.{WindowRow}
 use Rattle.pg_count.specs.Inside.Tables.{IsTable, table_counting}
 use Rattle.pg_count.proofs.WalkLaws.Listing.{put_back}
 use Rattle.pg_count.proofs.TableLaws.Indexes.{entry_within}
@@ -38,7 +38,7 @@ pub invariant_of-self-in_err-push : goal.invariant_of-self-in_err-push
 invariant_of-self-in_err-push c =
     let t = c.self.inside in
     let more = c.make_room.new.numbers.items in
-    subst (λ (l : Listed). IsTable more t.first l.items t.tallies.items t.signs l.len) (sym c.in_err-push.ensures.err)
+    subst (λ (l : WindowRow). IsTable more t.first l.items t.tallies.items t.signs l.len) (sym c.in_err-push.ensures.err)
     (room_is t.numbers.items t.first t.windows.items t.tallies.items t.signs t.windows.len c.self.invariant more c.make_room.ensures.kept c.make_room.ensures.back)
 
 pub returns-in_err-push-clause-err : goal.returns-in_err-push-clause-err
@@ -47,7 +47,7 @@ returns-in_err-push-clause-err c =
     let t = c.self.inside in
     let more = c.make_room.new.numbers.items in
     rw (err.1)
-    (ap (λ (l : Listed). table_counting more t.first l.items t.tallies.items t.signs l.len) c.in_err-push.ensures.err
+    (ap (λ (l : WindowRow). table_counting more t.first l.items t.tallies.items t.signs l.len) c.in_err-push.ensures.err
     ∙ room_counting t.numbers.items t.first t.windows.items t.tallies.items t.signs t.windows.len c.self.invariant more c.make_room.ensures.kept c.make_room.ensures.back ∙ c.self.view_is)
 
 pub invariant_of-self-in-Ok : goal.invariant_of-self-in-Ok
@@ -55,7 +55,7 @@ invariant_of-self-in-Ok c =
     let t = c.self.inside in
     let more = c.make_room.new.numbers.items in
     subst (λ k. IsTable (set more c.index_of-index.result c.in-Ok.in_table) t.first c.push.new.self.items c.push_sums.new.tallies.items t.signs k)
-    (sym (ap (λ (l : Listed). l.len) c.in_ok-push.ensures.ok))
+    (sym (ap (λ (l : WindowRow). l.len) c.in_ok-push.ensures.ok))
     (new_is more t.first t.windows.items t.tallies.items t.signs t.windows.len
     (room_is t.numbers.items t.first t.windows.items t.tallies.items t.signs t.windows.len c.self.invariant more c.make_room.ensures.kept c.make_room.ensures.back)
     c.args.window.now c.args.sums (c.requires.len ∙ sym (ap (λ (d : Counting). d.len) c.self.view_is))
@@ -65,7 +65,7 @@ invariant_of-self-in-Ok c =
     ∙ ap (λ (d : Counting). counted_sums d.counted.counts c.args.window.now) c.self.view_is ∙ c.requires.new)
     (subst (λ i. i < length more) c.index_of-index.ensures.is c.in_ok-make_room.ensures.room)
     c.index_of-index.result c.in-Ok.in_table c.push.new.self.items c.push_sums.new.tallies.items
-    c.index_of-index.ensures.is c.in-Ok.ensures.number (ap (λ (l : Listed). l.items) c.in_ok-push.ensures.ok) c.in-Ok.ensures.items c.in-Ok.ensures.few)
+    c.index_of-index.ensures.is c.in-Ok.ensures.number (ap (λ (l : WindowRow). l.items) c.in_ok-push.ensures.ok) c.in-Ok.ensures.items c.in-Ok.ensures.few)
 
 pub invariant_of-self-in-Err : goal.invariant_of-self-in-Err
 invariant_of-self-in-Err c =
@@ -73,7 +73,7 @@ invariant_of-self-in-Err c =
     let more = c.make_room.new.numbers.items in
     let same = put_back t.windows c.push.new.self c.pop.new.self c.args.window.now c.in_ok-push.ensures.ok c.pop.ensures in
     subst (λ ts. IsTable more t.first c.pop.new.self.items ts t.signs c.pop.new.self.len) (sym c.in-Err.ensures.err)
-    (subst (λ (l : Listed). IsTable more t.first l.items t.tallies.items t.signs l.len) (sym same)
+    (subst (λ (l : WindowRow). IsTable more t.first l.items t.tallies.items t.signs l.len) (sym same)
     (room_is t.numbers.items t.first t.windows.items t.tallies.items t.signs t.windows.len c.self.invariant more c.make_room.ensures.kept c.make_room.ensures.back))
 
 pub returns-in-Ok-clause-ok : goal.returns-in-Ok-clause-ok
@@ -81,7 +81,7 @@ returns-in-Ok-clause-ok c =
     let t = c.self.inside in
     let more = c.make_room.new.numbers.items in
     ap (table_counting (set more c.index_of-index.result c.in-Ok.in_table) t.first c.push.new.self.items c.push_sums.new.tallies.items t.signs)
-    (ap (λ (l : Listed). l.len) c.in_ok-push.ensures.ok)
+    (ap (λ (l : WindowRow). l.len) c.in_ok-push.ensures.ok)
     ∙ new_counting more t.first t.windows.items t.tallies.items t.signs t.windows.len
     (room_is t.numbers.items t.first t.windows.items t.tallies.items t.signs t.windows.len c.self.invariant more c.make_room.ensures.kept c.make_room.ensures.back)
     c.args.window.now c.args.sums (c.requires.len ∙ sym (ap (λ (d : Counting). d.len) c.self.view_is))
@@ -91,7 +91,7 @@ returns-in-Ok-clause-ok c =
     ∙ ap (λ (d : Counting). counted_sums d.counted.counts c.args.window.now) c.self.view_is ∙ c.requires.new)
     (subst (λ i. i < length more) c.index_of-index.ensures.is c.in_ok-make_room.ensures.room)
     c.index_of-index.result c.in-Ok.in_table c.push.new.self.items c.push_sums.new.tallies.items
-    c.index_of-index.ensures.is c.in-Ok.ensures.number (ap (λ (l : Listed). l.items) c.in_ok-push.ensures.ok) c.in-Ok.ensures.items c.in-Ok.ensures.few
+    c.index_of-index.ensures.is c.in-Ok.ensures.number (ap (λ (l : WindowRow). l.items) c.in_ok-push.ensures.ok) c.in-Ok.ensures.items c.in-Ok.ensures.few
     ∙ ap (λ (d : Counting). record d { counted = record { counts = put order c.args.window.now c.args.sums d.counted.counts; windows = d.counted.windows ++ c.args.window.now ∷ [] } })
     (room_counting t.numbers.items t.first t.windows.items t.tallies.items t.signs t.windows.len c.self.invariant more c.make_room.ensures.kept c.make_room.ensures.back ∙ c.self.view_is)
 
@@ -101,5 +101,5 @@ returns-in-Err-clause-err c =
     let more = c.make_room.new.numbers.items in
     let same = put_back t.windows c.push.new.self c.pop.new.self c.args.window.now c.in_ok-push.ensures.ok c.pop.ensures in
     ap (λ ts. table_counting more t.first c.pop.new.self.items ts t.signs c.pop.new.self.len) c.in-Err.ensures.err
-    ∙ ap (λ (l : Listed). table_counting more t.first l.items t.tallies.items t.signs l.len) same
+    ∙ ap (λ (l : WindowRow). table_counting more t.first l.items t.tallies.items t.signs l.len) same
     ∙ room_counting t.numbers.items t.first t.windows.items t.tallies.items t.signs t.windows.len c.self.invariant more c.make_room.ensures.kept c.make_room.ensures.back ∙ c.self.view_is

@@ -4,7 +4,7 @@ use Rattle.std.specs.List.{concat}
 use Rattle.pg_types.specs.Inside.NumberedWindows.{Windows}
 
 -- how many signs a window has, and the windows by number
-pub record Listed : Type 0 where
+pub record WindowRow : Type 0 where
   pub len : ℕ
   pub items : Windows
 
@@ -19,7 +19,7 @@ unfoldable pub parts : ℕ → List ℕ → Windows
 parts len row = first_parts len (length row) row
 
 -- the windows that stand in a row
-abbrev pub listed_in : ℕ → List ℕ → Listed
+abbrev pub listed_in : ℕ → List ℕ → WindowRow
 listed_in len row = record { len = len; items = parts len row }
 
 -- what is always true of the row
