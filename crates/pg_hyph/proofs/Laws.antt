@@ -14,7 +14,7 @@ use Rattle.pg_trie.specs.Inside.Maps.{Maps, AreKept, is_dotted}
 use Rattle.pg_select.specs.declared.pass.Pass.{Pass}
 use Rattle.pg_select.specs.Inside.Positions.{bit, Raises}
 use Rattle.pg_select.proofs.Bits.{same_bits}
-use Rattle.pg_hyph.specs.Inside.ListValues.{value_given, value_by, cover_by}
+use Rattle.pg_hyph.specs.Inside.ListValues.{pattern_value, value_by, cover_by}
 use Rattle.pg_hyph.specs.Inside.Walks.{by_starts}
 use Rattle.pg_hyph.proofs.Members.{In, all_in, in_any, any_in, in_found, found_in, in_best, best_within}
 use Rattle.pg_hyph.proofs.Outputs.{in_outputs, outputs_value, outputs_mark}
@@ -49,7 +49,7 @@ dotted_in n k is =
     let c = and_parts _ _ b.0 in
     record { some = leb-true _ _ c.0; dot = leb-true _ _ a.1 }
 
-given_within : (v n : ℕ) → v ≤ n → value_given v ≤ n
+given_within : (v n : ℕ) → v ≤ n → pattern_value v ≤ n
 given_within v n low = elim (nat_lt v HOPELESS) as (λ b. cond b v 0 ≤ n) [ true ↦ low | false ↦ omega arith ]
 
 same_number : (a b : ℕ) → a ≤ b → b ≤ a → a ≡ b
@@ -84,17 +84,17 @@ module _ (m : Maps) (kept : AreKept m) where
   values_law w p = same_number (by_starts value_by lists 0 w p) (value_at m.patterns w p) (word_within value_by lists w p (value_at m.patterns w p) within)
       (best_within (applies w p) m.patterns (by_starts value_by lists 0 w p) over)
     where
-      within : (q : List ℕ) (x : ℕ × ℕ) → Cut w q x.1 p → In x (lists q) → value_given x.0 ≤ value_at m.patterns w p
+      within : (q : List ℕ) (x : ℕ × ℕ) → Cut w q x.1 p → In x (lists q) → pattern_value x.0 ≤ value_at m.patterns w p
       within q x cut here =
           elim (in_outputs m.patterns m.hopeless q x here) [
             | inl found ↦ given_within x.0 (value_at m.patterns w p) (in_best (applies w p) m.patterns ((q, x.1), x.0) (found_in (q, x.1) x.0 m.patterns found) (cut_applies w q x.1 p cut))
-            | inr mark ↦ let none : value_given x.0 ≡ 0 = ap value_given mark.0 in subst (λ n. n ≤ value_at m.patterns w p) (sym none) (omega arith)
+            | inr mark ↦ let none : pattern_value x.0 ≡ 0 = ap pattern_value mark.0 in subst (λ n. n ≤ value_at m.patterns w p) (sym none) (omega arith)
           ]
 
       over : (e : (List ℕ × ℕ) × ℕ) → In e m.patterns → applies w p e.0 ≡ true → e.1 ≤ by_starts value_by lists 0 w p
       over e here stands =
           let sound = entry_sound e (all_in is_entry m.patterns e kept.patterns.sound here) in
-          let is : value_given e.1 ≡ e.1 = ap (λ b. cond b e.1 0) (lt-ltb e.1 HOPELESS sound.value) in
+          let is : pattern_value e.1 ≡ e.1 = ap (λ b. cond b e.1 0) (lt-ltb e.1 HOPELESS sound.value) in
           subst (λ n. n ≤ by_starts value_by lists 0 w p) is (word_over value_by lists w e.0.0 p (e.1, e.0.1) sound.some (applies_cut w e.0.0 e.0.1 p stands) (entry_listed e here))
 
   module _ (pass : Pass) (high : pass.level ≤ HOPELESS) (w : List ℕ) (p : ℕ) (fit : fits w p pass.len pass.dot ≡ true) where

@@ -4,7 +4,7 @@ ghost use Rattle.pg_types.specs.declared.limits.TheConstants.{WORD_LETTERS_MAX};
 ghost use Rattle.pg_outputs.specs.Lists.{list_of};
 ghost use Rattle.pg_select.specs.Inside.Positions.{RaisesValues, RaisesCovers, RaisesAt, values_of, covers_of};
 ghost use Rattle.pg_select.specs.Inside.Within.{is_within};
-ghost use Rattle.pg_hyph.specs.Inside.ListValues.{value_given, value_by, cover_by};
+ghost use Rattle.pg_hyph.specs.Inside.ListValues.{pattern_value, value_by, cover_by};
 ghost use Rattle.pg_hyph.specs.Inside.Walks.{by_list};
 
 use pg_outputs::Outputs;
@@ -63,7 +63,7 @@ fn is_covering(value: u8, dot: u8, len: usize, pass: &Pass) -> bool
 
 /// The value itself, and 0 for a hopeless entry.
 fn given(value: u8) -> u8
-    ensures { result ≡ value_given value }
+    ensures { result ≡ pattern_value value }
 {
     if value < HOPELESS { value } else { 0 }
 }

@@ -12,12 +12,12 @@ abbrev pub lists_in : Maps → List ℕ → List (ℕ × ℕ)
 lists_in m = outputs_at m.patterns m.hopeless
 
 -- the value itself, and 0 for a hopeless entry
-abbrev pub value_given : ℕ → ℕ
-value_given v = if nat_lt v HOPELESS then v else 0
+abbrev pub pattern_value : ℕ → ℕ
+pattern_value v = if nat_lt v HOPELESS then v else 0
 
 -- the value that a record of a string's list gives to the position of its dot
 abbrev pub value_by : ℕ → ℕ × ℕ → ℕ
-value_by n x = value_given x.0
+value_by n x = pattern_value x.0
 
 -- 1 where a record reaches the level, and its string stands in the window of that position; else 0
 abbrev pub cover_by : Pass → ℕ → ℕ × ℕ → ℕ

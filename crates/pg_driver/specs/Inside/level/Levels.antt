@@ -18,7 +18,7 @@ use Rattle.pg_driver.specs.Accounts.{has_candidate, begun_count}
 use Rattle.pg_driver.specs.Inside.records.AccountLines.{pass_line, pass_lines, chosen_by, level_line, is_skippable, begun_among}
 use Rattle.pg_driver.specs.Layouts.{after_level}
 use Rattle.pg_driver.specs.Inside.records.CellsAccounts.{pass_layouts, levels_with_families, level_layout}
-use Rattle.pg_driver.specs.Inside.records.RunAccounts.{known_of, line_of, level_line_of, layout_told, level_layout_told}
+use Rattle.pg_driver.specs.Inside.records.RunAccounts.{known_of, line_of, level_line_of, layout_of_pass, layout_of_level}
 use Rattle.pg_driver.specs.Inside.records.Sound.{RunRecords}
 use Rattle.pg_driver.specs.Inside.level.States.{State, state_of, state_at_end}
 
@@ -32,8 +32,8 @@ pub record AreRecorded (source : Source) (signs : ℕ)
     (families : Option Families) (ps : List PassTrace) (old new : RunRecords) : Type 0 where
   pub lines : map line_of new.passes
       ≡ map line_of old.passes ++ map (pass_line source) (filter has_candidate ps)
-  pub layouts : map layout_told new.passes
-      ≡ map layout_told old.passes ++ layouts_in signs families ps
+  pub layouts : map layout_of_pass new.passes
+      ≡ map layout_of_pass old.passes ++ layouts_in signs families ps
   pub chosen : new.chosen ≡ old.chosen + chosen_by ps
   pub begun : new.begun ≡ old.begun + length (begun_among ps)
   pub levels : new.levels ≡ old.levels
@@ -125,11 +125,11 @@ pub record DidLevel (source : Source) (l : LevelTrace)
   pub state : state_of new ≡ state_after_level old.signs old.families l
   pub lines : map line_of s.passes
       ≡ map line_of r.passes ++ map (pass_line source) (filter has_candidate l.passes)
-  pub layouts : map layout_told s.passes
-      ≡ map layout_told r.passes ++ layouts_in old.signs old.families l.passes
+  pub layouts : map layout_of_pass s.passes
+      ≡ map layout_of_pass r.passes ++ layouts_in old.signs old.families l.passes
   pub levels : map level_line_of s.levels ≡ map level_line_of r.levels ++ level_line source l ∷ []
-  pub level_layouts : map level_layout_told s.levels
-      ≡ map level_layout_told r.levels ++ option_map
+  pub level_layouts : map layout_of_level s.levels
+      ≡ map layout_of_level r.levels ++ option_map
       (λ fs. level_layout old.signs fs l) old.families ∷ []
   pub begun : s.begun ≡ r.begun + length (begun_among l.passes)
 
@@ -158,7 +158,7 @@ pub record DidRun (source : Source) (run : Trace)
     (old new : Meaning) (r : RunRecords) : Type 0 where
   pub state : state_of new ≡ state_after_run old.signs old.patterns old.families run
   pub lines : map line_of r.passes ≡ flat_map (pass_lines source) run
-  pub layouts : map layout_told r.passes ≡ run_layouts old.signs old.families run
+  pub layouts : map layout_of_pass r.passes ≡ run_layouts old.signs old.families run
   pub levels : map level_line_of r.levels ≡ map (level_line source) run
-  pub level_layouts : map level_layout_told r.levels ≡ level_layouts old.signs old.families run
+  pub level_layouts : map layout_of_level r.levels ≡ level_layouts old.signs old.families run
   pub begun : r.begun ≡ begun_count run
