@@ -30,22 +30,21 @@ use std::marker::Model;
 const CELLS_AT_FIRST: usize = 1 << 18;
 
 /// The cells. Cell 0 is never taken.
-///
-/// `lows` has a bound for each sign: below it no base can be taken, since the base or the cell of
-/// the sign is taken. Since the bounds were lowered last, cells and bases may have been given up.
-/// `freed` is the least such cell, and `dropped` the least such base.
-///
-/// `placed` is the base of the family that was placed last, and `sought` the base at which its
-/// search began. `placed` is 0 where a cell or a base was given up since.
 #[derive(Drop)]
 pub struct Store<V: Copy> {
     cells: Vec<Cell<V>>,
     top: usize,
     taken: usize,
+    /// For each sign a bound. No base below it can be taken, since the base or the cell of the sign
+    /// is taken.
     lows: Vec<u32>,
+    /// The least cell that was given up since the bounds were lowered last.
     freed: usize,
+    /// The least base that was given up since then.
     dropped: usize,
+    /// The base of the family that was placed last, 0 where a cell or a base was given up since.
     placed: usize,
+    /// The base at which the search for it began.
     sought: usize,
 }
 

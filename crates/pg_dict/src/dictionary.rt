@@ -105,8 +105,7 @@ impl Dictionary {
         self.store.signs.as_slice()
     }
 
-    /// The weight of the position before each sign of all words, in the order of `all_signs`: one
-    /// slice of the store.
+    /// For each sign of `all_signs`, the weight of the position before it: one slice of the store.
     pub fn all_weights(&self) -> &[Weight]
         ensures { result.now ≡ all_weights self.now }
     {

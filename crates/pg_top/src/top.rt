@@ -84,6 +84,7 @@ fn perform<F: Files, O: Sink, W: Watch>(
 /// same and builds the texts with another engine. It reads and compares the given files one after
 /// the other, up to the first false line. `sample` makes a dictionary from a number and prints how
 /// a selection on it goes.
+///
 /// `pack` reads the translate file and the patterns, and writes their packed table. `totals` reads
 /// the translate file, the dictionary and the packed table, and prints the totals of the words by
 /// the table, which it reads in place. `prune` reads the translate file, the patterns and the

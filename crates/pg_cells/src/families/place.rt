@@ -50,8 +50,8 @@ fn drop_base<V: Copy>(store: &mut Store<V>, base: usize)
     }
 }
 
-// Below the answer no base from `low` on is free for a family that moves. They were tried when its
-// old base `was` was found, by a search that began at `sought`.
+// No base from `low` on and below the answer is free for a family that moves. The search that found
+// its old base `was` tried them; it began at `sought`.
 fn tried_up_to(was: usize, sought: usize, low: usize) -> usize
     requires { was < 2 ^ 32 }
     ensures { low < result → (0 < was) × (sought ≤ low) × (result ≡ was + 1) }

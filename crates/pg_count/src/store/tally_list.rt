@@ -15,7 +15,7 @@ pub const NUMBERS_END: u32 = u32::MAX;
 pub const LATEST_FIRST: u32 = NUMBERS_END / 2;
 
 /// The tally with the number of a cell, where they are numbered from `first` on, or `None` where no
-/// tally has it. Before its sums stands its own number, from 0 on.
+/// tally has it. It is given as its index in the list and its sums.
 pub fn tally_by_number(
     tallies: &[(u64, u64)],
     first: u32,

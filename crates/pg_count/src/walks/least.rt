@@ -51,9 +51,9 @@ fn sign_from(cells: &CountedCells, base: usize, first: Sign, from: Sign) -> Sign
 }
 
 /// The number of the least window above another, among those that begin with the string of the
-/// family with the base and the first sign; `None` where none of them is above it. The bound is
-/// what of the other window follows the string. The windows have at most so many more signs. It
-/// goes along the signs of the families.
+/// family with the base and the first sign; `None` where none of them is above it. `bound` is the
+/// part of `above` behind the string, and `more` the most signs that a window has behind it. The
+/// search follows the signs of the families.
 #[cycle(least)]
 pub fn least(
     cells: &CountedCells,

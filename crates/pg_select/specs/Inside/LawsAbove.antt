@@ -19,7 +19,7 @@ abbrev pub counts_above : ℕ → Patterns → Word → ℕ → Option Bool
 counts_above level P w p = if nat_lt level (value_at P w.signs p)
     then counts_as level (status_at P w p) else None
 
--- a position that counts so, with its window of a pass; nothing where that does not fit
+-- such a position with its window; nothing where the window does not fit into the word
 abbrev pub above_at : Pass → Patterns → Word → ℕ → List CountedPosition
 above_at pass P w p = option_map_or
     (λ good. record {

@@ -22,7 +22,7 @@ use Rattle.pg_driver.specs.Inside.records.RunAccounts.{known_of, line_of, level_
 use Rattle.pg_driver.specs.Inside.records.Sound.{RunRecords}
 use Rattle.pg_driver.specs.Inside.level.States.{State, state_of, state_at_end}
 
--- what each pass that has a candidate tells of the cells: no layout where no families are told
+-- the layout after each pass that has a candidate; none where the engine tells no families
 abbrev pub layouts_in : ℕ → Option Families → List PassTrace → List (Option (Pass × ℕ × ℕ))
 layouts_in signs None ps = map (λ _. None) (filter has_candidate ps)
 layouts_in signs (Some fs) ps = map Some (pass_layouts signs fs ps)

@@ -1,4 +1,4 @@
--- The greatest of numbers and of the values in a list, one after the other.
+-- The greatest number, and the greatest value of a list, step by step as the code finds them.
 use Rattle.std.specs.Prelude.{ℕ, nat_eq, max, if◌then◌else◌, List, [], ◌∷◌}
 
 -- the greatest value at the dot in a list, 0 where there is none
