@@ -15,7 +15,7 @@ use Rattle.pg_outside.specs.Inside.ToldFiles.{IsFile, IsFileCut, IsCut, WasWritt
 use Rattle.pg_outside.specs.Inside.disk.Disks.{Node, Disk, DiskHistory, Links, KeepsDisk, HoldsNow, HasNoLinks, KnowsPlain, id_at, node_at, node_of}
 use Rattle.pg_outside.specs.Inside.disk.Moments.{RunsCalls, IsWritten, IsSame, HasRest}
 use Rattle.pg_outside.specs.Inside.disk.Writes.{IsPlain, IsContent, IsContentCut, AfterWrite, AfterFailure, mode_at}
-use Rattle.pg_outside.specs.Inside.disk.Shown.{bytes_of, file_map, has_none, is_shown, held_of}
+use Rattle.pg_outside.specs.Inside.disk.WhatDiskShows.{bytes_of, file_map, has_none, is_shown, held_of}
 use Rattle.pg_outside.specs.declared.disk.system.FileId.{FileId}
 
 find_map : (g : FileId → List ℕ) (es : List (List ℕ × FileId)) (q : List ℕ) → fin.find (slice_cmp nat_cmp) q (map (λ e. (e.0, g e.1)) es) ≡ option_map g (fin.find (slice_cmp nat_cmp) q es)

@@ -15,7 +15,7 @@ use Rattle.pg_patterns.specs.Values.{raise}
 use Rattle.pg_patterns.specs.Inside.PatternMaps.{IsPatternMap, SignsUpTo}
 use Rattle.pg_trie.specs.Inside.Maps.{Maps}
 use Rattle.pg_packed.specs.Inside.Starts.{pattern_families}
-use Rattle.pg_packed.specs.Inside.Entered.{AreEntered}
+use Rattle.pg_packed.specs.Inside.EnteredPatterns.{AreEntered}
 use Rattle.pg_types.proofs.EntryLists.{below_get, put_next}
 use Rattle.pg_packed.proofs.Kept.{kept_entered}
 use Rattle.pg_types.proofs.BoolFacts.{and_first, and_second, some_is, first_half, second_half, less_from}

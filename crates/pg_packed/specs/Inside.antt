@@ -1,4 +1,4 @@
 -- What only contracts between layers and proofs need.
 pub mod Engines
-pub mod Entered
+pub mod EnteredPatterns
 pub mod Starts

@@ -3,7 +3,7 @@ ghost use Rattle.std.specs.Prelude.{◌≡◌, ◌≤◌, length, IfOk};
 ghost use Rattle.pg_types.specs.declared.limits.TheConstants.{SIGNS_MAX};
 ghost use Rattle.pg_types.specs.Tails.{tails};
 ghost use Rattle.pg_patterns.specs.Inside.PatternMaps.{SignsUpTo};
-ghost use Rattle.pg_packed.specs.Inside.Entered.{AreEntered};
+ghost use Rattle.pg_packed.specs.Inside.EnteredPatterns.{AreEntered};
 
 use pg_patterns::{Entry, PatternSet};
 use pg_trie::PatternTrie;

@@ -16,7 +16,7 @@ use Rattle.pg_types.specs.Inside.NumberedStrings.{Numbers}
 use Rattle.pg_types.proofs.EntryLists.{all_put, find_good, above_next}
 use Rattle.pg_types.proofs.Numbering.{first_at, behind}
 use Rattle.pg_types.proofs.StringEntries.{mapped, tail_sorted}
-use Rattle.pg_plain.specs.Inside.Counted.{tally_at}
+use Rattle.pg_plain.specs.Inside.PlainCounts.{tally_at}
 
 pub same_window : (a b : List ℕ) → slice_cmp nat_cmp a b ≡ Equal → a ≡ b
 same_window a b same = slice_cmp-IsAntisymmetric nat_cmp-IsAntisymmetric a b same

@@ -11,7 +11,7 @@ use Rattle.pg_types.specs.Inside.NumberedWindows.{Windows, AreNumbered, AreInOrd
 use Rattle.pg_types.specs.Inside.NumberedStrings.{Numbers, AreNumbers, by_number}
 use Rattle.pg_types.proofs.Numbering.{number_of, numbered_found, numbers_none, numbers_put, by_number_none, by_number_put, length_by_number, in_order}
 use Rattle.pg_types.proofs.StringEntries.{order, mapped, found_mapped, none_mapped, sorted_mapped, sorted_put, find_put_same, find_put_other, put_from}
-use Rattle.pg_plain.specs.Inside.Counted.{AreCounted, counted_of, tally_at}
+use Rattle.pg_plain.specs.Inside.PlainCounts.{AreCounted, counted_of, tally_at}
 use Rattle.pg_plain.specs.declared.counts.TheConstants.{NUMBERS_MAX}
 
 -- sums that were read

@@ -1,5 +1,5 @@
 -- What only contracts between layers and proofs need.
-pub mod Counted
+pub mod PlainCounts
 pub mod Strings
 pub mod Greatest
 pub mod Walks

@@ -9,7 +9,7 @@ ghost use Rattle.pg_types.specs.Inside.Counts.{AreSmall, IsNextAbove, counted_su
 ghost use Rattle.pg_types.specs.Inside.NumberedWindows.{AreInOrder, AreNumbered, HasNumber, no_counts, with_counted};
 ghost use Rattle.pg_types.specs.Inside.Signs.{is_sign};
 ghost use Rattle.pg_types.specs.declared.limits.TheConstants.{LENGTH_MAX};
-ghost use Rattle.pg_plain.specs.Inside.Counted.{tally_at};
+ghost use Rattle.pg_plain.specs.Inside.PlainCounts.{tally_at};
 
 use crate::keys::WindowKey;
 use pg_types::{Cursor, Sign, add_weight};
@@ -35,7 +35,7 @@ impl Model for CountedWindows {
 
     ghost Value = { WindowCounts };
 
-    ghost use Rattle.pg_plain.specs.Inside.Counted.{counted_of, AreCounted};
+    ghost use Rattle.pg_plain.specs.Inside.PlainCounts.{counted_of, AreCounted};
 
     ghost view = { λ t. counted_of t.numbers.entries t.tallies.items };
 

@@ -8,7 +8,7 @@ ghost use Rattle.pg_table.specs.declared.error.TableError.TheVariants.{TooLong};
 ghost use Rattle.pg_table.specs.declared.limits.TheConstants.{CELL_LEN, HEAD_LEN, RECORD_LEN, TABLE_MAX};
 ghost use Rattle.pg_table.specs.Forms.{is_well_formed};
 ghost use Rattle.pg_table.specs.Inside.Laws.{HasEntries};
-ghost use Rattle.pg_table.specs.Inside.text.Packed.{IsEntered};
+ghost use Rattle.pg_table.specs.Inside.text.PackedTrie.{IsEntered};
 ghost use Rattle.pg_table.specs.Texts.{cell_bytes, record_bytes, table_text};
 ghost use Rattle.pg_table.specs.Inside.text.Files.{file_of};
 

@@ -8,13 +8,13 @@ use Rattle.pg_outside.specs.Inside.disk.NewNames.{IsLinkedName}
 use Rattle.pg_outside.specs.declared.disk.system.Entry.TheVariants.{Missing, Link, File}
 use Rattle.pg_outside.specs.declared.disk.system.FileId.{FileId}
 use Rattle.pg_told_disk.specs.Inside.Changes.{number_in, mode_in, bytes_in, stored_in, node_with, lets_write, id_of, disk_in}
-use Rattle.pg_told_disk.specs.Inside.Linked.{link_in, real_in, said_or}
+use Rattle.pg_told_disk.specs.Inside.LinkLists.{link_in, real_in, said_or}
 use Rattle.pg_told_disk.specs.Inside.Memory.{told_where}
 use Rattle.pg_told_disk.specs.Inside.laws.Following.{not_link, said_same}
 use Rattle.pg_told_disk.specs.declared.change.Change.{Change}
 use Rattle.pg_told_disk.specs.declared.change.Change.TheVariants.{Made, GotMode, Wrote, Stored, Renamed, Removed, Refused, Stayed}
 use Rattle.pg_told_disk.specs.declared.links.Link as linked
-use Rattle.pg_told_disk.specs.Inside.laws.Changed.{id_in, id_none, id_same, of_node, made, wrote, stayed, stayed_part, removed, refused, renamed, got_mode, stored}
+use Rattle.pg_told_disk.specs.Inside.laws.ChangeLaws.{id_in, id_none, id_same, of_node, made, wrote, stayed, stayed_part, removed, refused, renamed, got_mode, stored}
 use Rattle.pg_told_disk.specs.Inside.laws.Nodes.{named_has}
 use Rattle.pg_told_disk.proofs.Joined.{one_joined}
 use Rattle.pg_told_disk.proofs.ToldBy.{steps, told_now}

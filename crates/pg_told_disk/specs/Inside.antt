@@ -1,5 +1,5 @@
 -- What only contracts between layers and proofs need.
 pub mod Changes
-pub mod Linked
+pub mod LinkLists
 pub mod Memory
 pub mod laws

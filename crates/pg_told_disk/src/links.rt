@@ -1,7 +1,7 @@
 //! The links of a disk, the name that each says, and what a name stands for.
 ghost use Rattle.std.specs.Prelude.{◌≡◌, None, Some, MatchOption, IfSome, string_bytes};
 ghost use Rattle.pg_outside.specs.Inside.disk.NewNames.{IsLinkedName};
-ghost use Rattle.pg_told_disk.specs.Inside.Linked.{link_in, is_link_in, real_in};
+ghost use Rattle.pg_told_disk.specs.Inside.LinkLists.{link_in, is_link_in, real_in};
 
 use pg_outside::linked_name;
 use std::alloc::Global;

@@ -4,7 +4,7 @@ ghost use Rattle.pg_outside.specs.Content.{file_at};
 ghost use Rattle.pg_outside.specs.Faults.{next_count};
 ghost use Rattle.pg_top.specs.Rules.{outcome_of};
 ghost use Rattle.pg_top.specs.audit.AuditRule.{audit_rule};
-ghost use Rattle.pg_words.specs.Inside.Asked.{texts_of};
+ghost use Rattle.pg_words.specs.Inside.CommandRequests.{texts_of};
 ghost use Rattle.pg_top.specs.Inside.ends.Stops.{OnlyReads, StopsReading};
 ghost use Rattle.pg_top.specs.audit.Inside.Verdicts.{outcome_by, ReadsToFind, PutsVerdict};
 ghost use Rattle.pg_top.specs.Answers.{IsCall};

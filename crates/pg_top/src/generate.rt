@@ -1,5 +1,5 @@
 //! `generate`: the patterns that a selection finds, and what is told of them.
-ghost use Rattle.pg_words.specs.Inside.Asked.{texts_of};
+ghost use Rattle.pg_words.specs.Inside.CommandRequests.{texts_of};
 ghost use Rattle.pg_top.specs.generate.GenerateRule.{generate_rule};
 ghost use Rattle.pg_top.specs.Inside.ends.Built.{Builds};
 

@@ -1,5 +1,5 @@
 //! `pack`: patterns as a packed table.
-ghost use Rattle.pg_words.specs.Inside.Asked.{to_pack};
+ghost use Rattle.pg_words.specs.Inside.CommandRequests.{to_pack};
 ghost use Rattle.std.specs.Prelude.{Some};
 ghost use Rattle.pg_top.specs.CommandRules.{rule_of};
 ghost use Rattle.pg_top.specs.Inside.ends.Built.{Builds};

@@ -1,5 +1,5 @@
 //! `prune`: the patterns that a dictionary needs.
-ghost use Rattle.pg_words.specs.Inside.Asked.{to_prune};
+ghost use Rattle.pg_words.specs.Inside.CommandRequests.{to_prune};
 ghost use Rattle.std.specs.Prelude.{Some};
 ghost use Rattle.pg_top.specs.CommandRules.{rule_of};
 ghost use Rattle.pg_top.specs.Inside.ends.Built.{Builds};

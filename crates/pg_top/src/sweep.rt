@@ -1,6 +1,6 @@
 //! `sweep`: the cheapest of several parameter files.
 ghost use Rattle.std.specs.Prelude.{◌≤◌, length};
-ghost use Rattle.pg_words.specs.Inside.Asked.{sweep_of, KeepsSweepLimits};
+ghost use Rattle.pg_words.specs.Inside.CommandRequests.{sweep_of, KeepsSweepLimits};
 ghost use Rattle.pg_top.specs.sweep.SweepRule.{sweep_rule};
 ghost use Rattle.pg_top.specs.Inside.ends.Built.{Builds};
 

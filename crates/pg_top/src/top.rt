@@ -1,7 +1,7 @@
 //! The one call of the program.
 ghost use Rattle.std.specs.Prelude.{Some};
 ghost use Rattle.pg_words.specs.Commands.{request_of_call};
-ghost use Rattle.pg_words.specs.Inside.Asked.{asked_by, KeepsLimits};
+ghost use Rattle.pg_words.specs.Inside.CommandRequests.{asked_by, KeepsLimits};
 ghost use Rattle.pg_top.specs.WholeCalls.{IsRun};
 
 use crate::answers::Status;

@@ -2,7 +2,7 @@
 ghost use Rattle.std.specs.Prelude.{Some};
 ghost use Rattle.pg_top.specs.CommandRules.{rule_of};
 ghost use Rattle.pg_top.specs.Inside.ends.Built.{Builds};
-ghost use Rattle.pg_words.specs.Inside.Asked.{to_totals};
+ghost use Rattle.pg_words.specs.Inside.CommandRequests.{to_totals};
 
 mod table;
 

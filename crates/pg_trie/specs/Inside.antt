@@ -2,7 +2,7 @@
 pub mod IsTrie
 pub mod Lists
 pub mod Maps
-pub mod Pruned
-pub mod Raised
-pub mod Renewed
+pub mod PrunedFamilies
+pub mod RaisedHeads
+pub mod FreshLists
 pub mod Strings

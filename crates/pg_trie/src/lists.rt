@@ -43,7 +43,7 @@ pub struct Lists {
 impl Model for Lists {
     ghost use Rattle.std.specs.Prelude.{List};
     ghost use Rattle.pg_outputs.specs.declared.records.Record.{Record};
-    ghost use Rattle.pg_trie.specs.Inside.Raised.{AreRaised};
+    ghost use Rattle.pg_trie.specs.Inside.RaisedHeads.{AreRaised};
 
     ghost Value = { List Record };
 

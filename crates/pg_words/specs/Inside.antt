@@ -1,4 +1,4 @@
 -- What only contracts between layers and proofs need.
 pub mod Names
 pub mod Numbers
-pub mod Asked
+pub mod CommandRequests

@@ -5,7 +5,7 @@ ghost use Rattle.std.specs.Option.{option_map, option_and_then, is_none};
 ghost use Rattle.arrayvec.specs.ArrayVec.{array_vec_len};
 ghost use Rattle.pg_words.specs.Requests.{if_asked, input_names, output_names, with_option as with_option_of, with_options as with_options_of, is_name, names_in, to_generate, to_audit};
 ghost use Rattle.pg_words.specs.Inside.Names.{texts, words_of};
-ghost use Rattle.pg_words.specs.Inside.Asked.{name_now, texts_of, asked_by, KeepsLimits};
+ghost use Rattle.pg_words.specs.Inside.CommandRequests.{name_now, texts_of, asked_by, KeepsLimits};
 
 use crate::commands::{Command, Names};
 use crate::names::{are_all_names, where_taken};

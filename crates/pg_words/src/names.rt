@@ -4,7 +4,7 @@ ghost use Rattle.std.specs.List.{list_all};
 ghost use Rattle.std.specs.Option.{option_map};
 ghost use Rattle.pg_words.specs.Requests.{is_name as is_name_word, outputs_differ, where_taken as where_taken_of};
 ghost use Rattle.pg_words.specs.Inside.Names.{texts, differs_from};
-ghost use Rattle.pg_words.specs.Inside.Asked.{asked_by, KeepsLimits};
+ghost use Rattle.pg_words.specs.Inside.CommandRequests.{asked_by, KeepsLimits};
 
 use crate::commands::Command;
 

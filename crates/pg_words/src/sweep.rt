@@ -3,7 +3,7 @@ ghost use Rattle.std.specs.Prelude.{◌≡◌, ◌≤◌, [], ◌∷◌, length,
 ghost use Rattle.std.specs.Option.{option_map};
 ghost use Rattle.pg_words.specs.Requests.{ToSweep, where_taken as where_taken_of, sweep_in};
 ghost use Rattle.pg_words.specs.Inside.Names.{texts, words_of};
-ghost use Rattle.pg_words.specs.Inside.Asked.{asked_by, sweep_of, sweep_inputs, KeepsSweepLimits, KeepsLimits};
+ghost use Rattle.pg_words.specs.Inside.CommandRequests.{asked_by, sweep_of, sweep_inputs, KeepsSweepLimits, KeepsLimits};
 
 use crate::commands::{Command, SweepWords};
 use crate::limits::{FOLDS_DIGITS, PRICE_DIGITS};

@@ -3,7 +3,7 @@ ghost use Rattle.std.specs.Prelude.{◌≡◌, ◌∷◌, IfSome};
 ghost use Rattle.std.specs.Option.{option_map};
 ghost use Rattle.pg_words.specs.Requests.{sample_in, pack_in, totals_in, prune_in, request_of};
 ghost use Rattle.pg_words.specs.Inside.Names.{words_of};
-ghost use Rattle.pg_words.specs.Inside.Asked.{asked_by, KeepsLimits};
+ghost use Rattle.pg_words.specs.Inside.CommandRequests.{asked_by, KeepsLimits};
 
 use crate::commands::Command;
 use crate::generate::{audit, generate};

@@ -5,4 +5,4 @@ pub mod Moments
 pub mod Reads
 pub mod Writes
 pub mod Causes
-pub mod Shown
+pub mod WhatDiskShows

@@ -230,7 +230,7 @@ fn count_read(failed: &mut u64, outcome: &Result<(), ReadError>)
 }
 
 impl<S: System + Drop> DiskFiles<S> {
-    ghost use Rattle.pg_outside.specs.Inside.disk.Shown.{all_faults, disk_calls};
+    ghost use Rattle.pg_outside.specs.Inside.disk.WhatDiskShows.{all_faults, disk_calls};
 
     /// The files of this system, with no read, no write and no fault so far.
     pub fn new(alloc: Global, system: S) -> DiskFiles<S>
@@ -288,7 +288,7 @@ impl<S: System + Drop> DiskFiles<S> {
 
 impl<S: System + Drop> Files for DiskFiles<S> {
     ghost use Rattle.pg_outside.specs.Inside.ToldFiles.{IsReadOf, IsWriteOf};
-    ghost use Rattle.pg_outside.specs.Inside.disk.Shown.{all_faults, disk_shown};
+    ghost use Rattle.pg_outside.specs.Inside.disk.WhatDiskShows.{all_faults, disk_shown};
 
     ghost shown = { disk_shown S.told };
 

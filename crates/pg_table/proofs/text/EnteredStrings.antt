@@ -23,7 +23,7 @@ use Rattle.pg_cells.specs.Inside.families.Root.{root_held}
 use Rattle.pg_cells.specs.Inside.linked.Walks.{AddsBlanks}
 use Rattle.pg_cells.proofs.PlacementLaws.{cell_of_last}
 use Rattle.pg_cells.proofs.StringMaps.{order, same_string, same_from, equal_or_not, find_put_same, find_put_other}
-use Rattle.pg_table.specs.Inside.text.Packed.{IsGroup, IsReached, IsEntered, pairs}
+use Rattle.pg_table.specs.Inside.text.PackedTrie.{IsGroup, IsReached, IsEntered, pairs}
 use Rattle.pg_table.specs.Inside.text.Sharing.{Lists, Shares, value_and_dot, with_ends}
 use Rattle.pg_table.specs.Texts.{recorded_lists}
 use Rattle.pg_table.specs.Inside.text.Files.{table_families}

@@ -12,7 +12,7 @@ use Rattle.pg_cells.proofs.StringCells.{cell_parts}
 use Rattle.pg_cells.proofs.StringMaps.{order}
 use Rattle.pg_outputs.specs.declared.records.Record.{Record}
 use Rattle.pg_table.specs.declared.parts.cell.Cell.{Cell}
-use Rattle.pg_table.specs.Inside.text.Packed.{IsEntered}
+use Rattle.pg_table.specs.Inside.text.PackedTrie.{IsEntered}
 use Rattle.pg_table.specs.Inside.text.Rows.{HasHeads, IsRow, HasCell, Fills}
 use Rattle.pg_table.specs.Texts.{cell_of_table, head_in}
 use Rattle.pg_table.specs.Inside.text.Files.{table_cells}

@@ -16,7 +16,7 @@ use Rattle.pg_patterns.specs.Texts.{strings_of, with_string}
 use Rattle.pg_patterns.proofs.Ordered.{sorted_at}
 use Rattle.pg_patterns.proofs.Strings.{string_once, string_ends, equal_signs}
 use Rattle.pg_cells.proofs.StringMaps.{same_string, same_itself, same_no}
-use Rattle.pg_table.specs.Inside.text.Packed.{IsGroup, pairs}
+use Rattle.pg_table.specs.Inside.text.PackedTrie.{IsGroup, pairs}
 
 abbrev pub Entry : Type 0
 Entry = (List ℕ × ℕ) × ℕ

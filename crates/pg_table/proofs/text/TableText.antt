@@ -22,7 +22,7 @@ use Rattle.pg_table.specs.Forms.{is_well_formed}
 use Rattle.pg_table.specs.Lookups.{lookup, table_entry}
 use Rattle.pg_table.specs.Inside.view.Greatest.{value_in_list}
 use Rattle.pg_table.proofs.laws.Greatest.{entry_as}
-use Rattle.pg_table.specs.Inside.text.Packed.{IsPacked, IsEntered}
+use Rattle.pg_table.specs.Inside.text.PackedTrie.{IsPacked, IsEntered}
 use Rattle.pg_table.specs.Inside.text.Sharing.{value_and_dot}
 use Rattle.pg_table.specs.Texts.{recorded_lists, head_in, record_of, cell_of_table, table_text}
 use Rattle.pg_table.specs.Inside.text.Files.{table_cells, table_records, file_of}

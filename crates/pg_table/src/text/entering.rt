@@ -6,7 +6,7 @@ ghost use Rattle.pg_outputs.specs.Lists.{list_of};
 ghost use Rattle.pg_outputs.specs.Inside.Heads.{Grows, OneHeadEach};
 ghost use Rattle.pg_cells.specs.Inside.families.Root.{root_held};
 ghost use Rattle.pg_cells.specs.Inside.linked.AreValuedFamilies.{AreValuedFamilies};
-ghost use Rattle.pg_table.specs.Inside.text.Packed.{IsGroup, IsEntered, pairs};
+ghost use Rattle.pg_table.specs.Inside.text.PackedTrie.{IsGroup, IsEntered, pairs};
 ghost use Rattle.pg_table.specs.Inside.text.Sharing.{Lists, Shares, value_and_dot, with_ends};
 
 use pg_cells::{Cells, enter};

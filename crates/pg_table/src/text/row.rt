@@ -7,7 +7,7 @@ ghost use Rattle.pg_types.specs.declared.limits.TheConstants.{SIGNS_MAX};
 ghost use Rattle.pg_types.specs.Placement.{top};
 ghost use Rattle.pg_patterns.specs.Inside.PatternMaps.{SignsUpTo};
 ghost use Rattle.pg_cells.specs.Inside.linked.AreValuedFamilies.{AreValuedFamilies};
-ghost use Rattle.pg_table.specs.Inside.text.Packed.{IsEntered};
+ghost use Rattle.pg_table.specs.Inside.text.PackedTrie.{IsEntered};
 ghost use Rattle.pg_table.specs.Inside.text.Rows.{HasHeads, IsRow, Fills, FillsSigns};
 ghost use Rattle.pg_table.specs.Texts.{head_in};
 ghost use Rattle.pg_table.specs.Inside.text.Files.{table_cells};

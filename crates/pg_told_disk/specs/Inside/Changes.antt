@@ -6,7 +6,7 @@ use Rattle.std.specs.FinMap as fin
 use Rattle.std.specs.declared.alloc.Global.{Global}
 use Rattle.pg_outside.specs.Inside.disk.Disks.{Node, NameMap, Disk, DiskHistory}
 use Rattle.pg_outside.specs.declared.disk.system.FileId.{FileId}
-use Rattle.pg_told_disk.specs.Inside.Linked.{real_in, links_in}
+use Rattle.pg_told_disk.specs.Inside.LinkLists.{real_in, links_in}
 use Rattle.pg_told_disk.specs.declared.change.Change.{Change}
 use Rattle.pg_told_disk.specs.declared.change.Change.TheVariants.{Made, Shared, GotMode, Wrote, Stored, Renamed, Removed, Refused}
 use Rattle.pg_told_disk.specs.declared.links.Link.{Link}

@@ -2,5 +2,5 @@
 pub mod Cases
 pub mod Following
 pub mod Nodes
-pub mod Changed
+pub mod ChangeLaws
 pub mod Plain

@@ -25,7 +25,7 @@ use Rattle.pg_top.specs.Readings.{HeldFiles, Reading, first_end}
 use Rattle.pg_words.specs.Requests.{FileNames, if_asked}
 use Rattle.pg_top.specs.Selection.{selected_text, selected_report}
 use Rattle.pg_top.specs.generate.GenerateRule.{inputs_in}
-use Rattle.pg_top.specs.generate.Inside.Accepted.{inputs_of, HasInputs}
+use Rattle.pg_top.specs.generate.Inside.AcceptedInputs.{inputs_of, HasInputs}
 use Rattle.pg_top.specs.Inside.ends.Stops.{StopsAt, StopsWith, StopsReading}
 use Rattle.pg_top.specs.declared.answers.Status.{Status}
 use Rattle.pg_top.specs.declared.answers.Status.TheVariants.{Yes, No}

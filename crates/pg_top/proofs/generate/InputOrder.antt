@@ -15,7 +15,7 @@ use Rattle.pg_words.specs.Requests.{FileNames}
 use Rattle.pg_top.specs.Outcomes.{Ends}
 use Rattle.pg_top.specs.declared.answers.Status.TheVariants.{Done}
 use Rattle.pg_top.specs.generate.GenerateRule.{generate_rule, inputs_in, selected_files, selected_lines}
-use Rattle.pg_top.specs.generate.Inside.Accepted.{inputs_of, HasInputs}
+use Rattle.pg_top.specs.generate.Inside.AcceptedInputs.{inputs_of, HasInputs}
 use Rattle.pg_top.specs.Inside.reading.Lists.{lists_under, HasLists}
 use Rattle.pg_top.specs.Inside.ends.Stops.{StopsAt, StopsReading}
 use Rattle.pg_top.specs.declared.inputs.Input.TheVariants as input

@@ -14,7 +14,7 @@ use Rattle.pg_top.specs.Inside.reading.ReadAs.{read_as}
 use Rattle.pg_top.specs.Inside.ends.Stops.{StopsAt, StopsReading}
 use Rattle.pg_top.specs.sweep.SweepRule.{set_files}
 use Rattle.pg_top.specs.sweep.Inside.SetFiles.{set_file}
-use Rattle.pg_top.specs.sweep.Inside.Accepted.{accepted_set, HasSets}
+use Rattle.pg_top.specs.sweep.Inside.AcceptedInputs.{accepted_set, HasSets}
 use Rattle.pg_top.specs.declared.inputs.Input.TheVariants as input
 use Rattle.pg_top.specs.declared.inputs.Stop.{Stop}
 use Rattle.pg_top.proofs.CountedCalls.{calls_on, calls_are}

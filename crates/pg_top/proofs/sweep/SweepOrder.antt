@@ -20,7 +20,7 @@ use Rattle.pg_words.specs.Requests.{SweepRequest}
 use Rattle.pg_top.specs.Inside.reading.Lists.{lists_under, HasLists}
 use Rattle.pg_top.specs.Inside.ends.Stops.{StopsAt, StopsReading}
 use Rattle.pg_top.specs.sweep.SweepRule.{swept_rows, sweep_rule, set_files}
-use Rattle.pg_top.specs.sweep.Inside.Accepted.{HasSets, HasSweep}
+use Rattle.pg_top.specs.sweep.Inside.AcceptedInputs.{HasSets, HasSweep}
 use Rattle.pg_top.specs.declared.inputs.Stop.{Stop}
 use Rattle.pg_top.proofs.ListOrder.{lists_accepted}
 use Rattle.pg_top.proofs.Orders.{AreAccepted, accepted_all, accepted_both, both, held_later, mapped, stopped_after, stopped_in_front}

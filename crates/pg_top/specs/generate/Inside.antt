@@ -1,2 +1,2 @@
 -- What only contracts between layers and proofs need.
-pub mod Accepted
+pub mod AcceptedInputs

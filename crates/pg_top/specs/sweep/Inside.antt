@@ -1,4 +1,4 @@
 -- What only contracts between layers and proofs need.
 pub mod Inputs
-pub mod Accepted
+pub mod AcceptedInputs
 pub mod SetFiles

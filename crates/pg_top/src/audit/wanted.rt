@@ -1,7 +1,7 @@
 //! The texts that given files should be.
 ghost use Rattle.std.specs.Prelude.{◌≡◌, ◌++◌, ◌+◌, [], ◌∷◌, IfOk, OnOk};
 ghost use Rattle.pg_top.specs.audit.AuditRule.{given_file, given_files};
-ghost use Rattle.pg_words.specs.Inside.Asked.{name_now, texts_of};
+ghost use Rattle.pg_words.specs.Inside.CommandRequests.{name_now, texts_of};
 ghost use Rattle.pg_words.specs.Requests.{if_asked};
 ghost use Rattle.pg_top.specs.Inside.selection.SelectionSigns.{HasSigns};
 ghost use Rattle.pg_top.specs.Inside.selection.SelectedRuns.{IsNew, TellsSelection, HasSelected};

@@ -1,7 +1,7 @@
 //! What `generate` reads.
 ghost use Rattle.std.specs.Prelude.{IfOk};
-ghost use Rattle.pg_words.specs.Inside.Asked.{texts_of};
-ghost use Rattle.pg_top.specs.generate.Inside.Accepted.{HasInputs, inputs_of};
+ghost use Rattle.pg_words.specs.Inside.CommandRequests.{texts_of};
+ghost use Rattle.pg_top.specs.generate.Inside.AcceptedInputs.{HasInputs, inputs_of};
 ghost use Rattle.pg_top.specs.Inside.selection.SelectionSigns.{HasSigns};
 ghost use Rattle.pg_top.specs.Inside.reading.ReadsMade.{ReadsFiles};
 

@@ -2,7 +2,7 @@
 ghost use Rattle.std.specs.Prelude.{◌≡◌, ◌++◌, [], ◌∷◌, IfOk, OnOk, Some};
 ghost use Rattle.pg_driver.specs.Inside.records.RunAccounts.{TellsCells};
 ghost use Rattle.pg_packed.specs.Inside.Starts.{pattern_families};
-ghost use Rattle.pg_words.specs.Inside.Asked.{name_now, texts_of};
+ghost use Rattle.pg_words.specs.Inside.CommandRequests.{name_now, texts_of};
 ghost use Rattle.pg_top.specs.generate.GenerateRule.{selected_files, selected_lines};
 ghost use Rattle.pg_top.specs.Inside.selection.SelectionAccounts.{work_line, selected_cells, passes_begun, last_layout as last_layout_of};
 ghost use Rattle.pg_top.specs.Inside.selection.SelectedRuns.{IsNew, TellsSelection, HasSelected};

@@ -1,11 +1,11 @@
 //! What `sweep` reads.
 ghost use Rattle.std.specs.Prelude.{◌≤◌, length, IfOk};
-ghost use Rattle.pg_words.specs.Inside.Asked.{sweep_of, KeepsSweepLimits};
+ghost use Rattle.pg_words.specs.Inside.CommandRequests.{sweep_of, KeepsSweepLimits};
 ghost use Rattle.pg_types.specs.declared.limits.TheConstants.{SETS_MAX};
 ghost use Rattle.pg_top.specs.sweep.SweepRule.{sweep_rule};
 ghost use Rattle.pg_top.specs.Inside.reading.ReadsMade.{ReadsFiles};
 ghost use Rattle.pg_top.specs.sweep.Inside.Inputs.{terms_of, HasSigns};
-ghost use Rattle.pg_top.specs.sweep.Inside.Accepted.{HasSweep};
+ghost use Rattle.pg_top.specs.sweep.Inside.AcceptedInputs.{HasSweep};
 
 use crate::inputs::Stop;
 use crate::reading::{read_lists, read_table};

@@ -3,7 +3,7 @@ ghost use Rattle.std.specs.Prelude.{◌≡◌, [], length, IfOk, ◌≤◌, ◌�
 ghost use Rattle.pg_types.specs.Lines.{lines};
 ghost use Rattle.pg_top.specs.sweep.SweepRule.{winner_line as winner_line_of};
 ghost use Rattle.pg_sweep.specs.Files.{sweep_file};
-ghost use Rattle.pg_words.specs.Inside.Asked.{sweep_of, KeepsSweepLimits};
+ghost use Rattle.pg_words.specs.Inside.CommandRequests.{sweep_of, KeepsSweepLimits};
 ghost use Rattle.pg_types.specs.declared.limits.TheConstants.{SETS_MAX};
 ghost use Rattle.pg_top.specs.Outcomes.{Ends};
 ghost use Rattle.pg_top.specs.sweep.Inside.Inputs.{terms_of, HasSigns, line_of_sweep, outcome_of_sets};

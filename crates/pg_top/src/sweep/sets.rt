@@ -4,7 +4,7 @@ ghost use Rattle.pg_words.specs.Inside.Names.{words_of};
 ghost use Rattle.pg_types.specs.declared.limits.TheConstants.{SETS_MAX};
 ghost use Rattle.pg_top.specs.Inside.reading.ReadsMade.{ReadsFiles};
 ghost use Rattle.pg_top.specs.sweep.SweepRule.{set_files};
-ghost use Rattle.pg_top.specs.sweep.Inside.Accepted.{HasSets};
+ghost use Rattle.pg_top.specs.sweep.Inside.AcceptedInputs.{HasSets};
 
 use crate::inputs::{Input, Stop};
 use crate::reading::read_parameters;

@@ -18,8 +18,8 @@ use Rattle.pg_trie.specs.declared.hopeless.TheConstants.{HOPELESS}
 use Rattle.pg_trie.specs.Inside.IsTrie.{IsTrie}
 use Rattle.pg_trie.specs.Inside.Lists.{rank, Rises, DotsUpTo}
 use Rattle.pg_trie.specs.Inside.Maps.{Maps, maps_of, as_value, as_hopeless}
-use Rattle.pg_trie.specs.Inside.Pruned.{kept_by, IsKeep, Prunes}
-use Rattle.pg_trie.specs.Inside.Renewed.{values_in, AreFresh, Renews}
+use Rattle.pg_trie.specs.Inside.PrunedFamilies.{kept_by, IsKeep, Prunes}
+use Rattle.pg_trie.specs.Inside.FreshLists.{values_in, AreFresh, Renews}
 use Rattle.pg_trie.proofs.ListLaws.Found.{found_first, found_in, found_at, find-entries}
 use Rattle.pg_trie.proofs.ListLaws.Rising.{rises_less, as_value_is, as_mark_is}
 use Rattle.pg_trie.proofs.TrieLaws.Changes.{sorted_values, sorted_marks}

@@ -6,8 +6,8 @@ use Rattle.pg_outputs.specs.declared.records.Record.{Record}
 use Rattle.pg_cells.specs.Inside.linked.ValuedFamilies.{ValuedFamilies}
 use Rattle.pg_trie.specs.Inside.IsTrie.{IsTrie}
 use Rattle.pg_trie.specs.Inside.Maps.{Maps, maps_of}
-use Rattle.pg_trie.specs.Inside.Pruned.{IsKeep, Prunes}
-use Rattle.pg_trie.specs.Inside.Renewed.{AreFresh, Renews}
+use Rattle.pg_trie.specs.Inside.PrunedFamilies.{IsKeep, Prunes}
+use Rattle.pg_trie.specs.Inside.FreshLists.{AreFresh, Renews}
 use Rattle.pg_trie.specs.Inside.Strings.{AreShort}
 use Rattle.pg_trie.proofs.DeletingLaws.Deleted.{HasFresh, IsDeleted, has_fresh, deleted}
 use Rattle.pg_trie.proofs.DeletingLaws.TailsLaw.{tails_is}

@@ -13,7 +13,7 @@ use Rattle.pg_cells.specs.Inside.linked.ValuedFamilies.{ValuedFamilies}
 use Rattle.pg_cells.specs.Inside.linked.AreValuedFamilies.{AreValuedFamilies}
 use Rattle.pg_cells.proofs.StringMaps.{order, equal_or_not, same_maps, find_below, head_below, tail_sorted, find_put_same, find_put_other, find_without_same, find_without_other}
 use Rattle.pg_cells.proofs.StringCells.{parts_cell, parts_none}
-use Rattle.pg_trie.specs.Inside.Pruned.{kept_one, kept_by}
+use Rattle.pg_trie.specs.Inside.PrunedFamilies.{kept_one, kept_by}
 
 -- a family with those signs, or none
 abbrev pub with_signs : ℕ → List ℕ → Option Family

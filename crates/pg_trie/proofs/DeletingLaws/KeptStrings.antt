@@ -12,7 +12,7 @@ use Rattle.std.specs.FinMap.Entries.{find, is_sorted}
 use Rattle.pg_cells.proofs.StringMaps.{order, same_from, equal_or_not, find_below, head_below, tail_sorted}
 use Rattle.pg_trie.specs.declared.hopeless.TheConstants.{HOPELESS}
 use Rattle.pg_trie.specs.Inside.Maps.{entries_of, with_entry, entries, as_value}
-use Rattle.pg_trie.specs.Inside.Renewed.{values_in}
+use Rattle.pg_trie.specs.Inside.FreshLists.{values_in}
 use Rattle.pg_trie.proofs.ListLaws.Rising.{as_value_is}
 use Rattle.pg_trie.proofs.DeletingLaws.Renewing.{value_kept, mark_left}
 

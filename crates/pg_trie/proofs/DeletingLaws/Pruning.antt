@@ -11,7 +11,7 @@ use Rattle.pg_cells.specs.Inside.linked.Members.{IsNextSign, IsBefore, goes_on}
 use Rattle.pg_cells.proofs.LinkLaws.{goes_cell, cell_goes}
 use Rattle.pg_cells.proofs.Walking.{ends_before}
 use Rattle.pg_cells.proofs.StringMaps.{order, equal_or_not, find_without_same, find_without_other}
-use Rattle.pg_trie.specs.Inside.Pruned.{IsDropped, IsNeeded, Drops, IsKeep, PrunesSome, IsBelow, PrunesTo, PrunesBelow, Prunes}
+use Rattle.pg_trie.specs.Inside.PrunedFamilies.{IsDropped, IsNeeded, Drops, IsKeep, PrunesSome, IsBelow, PrunesTo, PrunesBelow, Prunes}
 use Rattle.pg_trie.proofs.DeletingLaws.KeptFamilies.{kept_all, kept_less, kept_same}
 
 -- a string without a cell has no value

@@ -21,7 +21,7 @@ use Rattle.pg_cells.proofs.StringMaps.{order, equal_or_not, find_below, head_bel
 use Rattle.pg_trie.specs.declared.hopeless.TheConstants.{HOPELESS}
 use Rattle.pg_trie.specs.Inside.IsTrie.{IsTrie}
 use Rattle.pg_trie.specs.Inside.Maps.{maps_of, entries_of, with_entry, entries, as_value}
-use Rattle.pg_trie.specs.Inside.Renewed.{values_in, IsEnd}
+use Rattle.pg_trie.specs.Inside.FreshLists.{values_in, IsEnd}
 use Rattle.pg_trie.proofs.ListLaws.Rising.{as_value_is}
 use Rattle.pg_trie.proofs.TrieLaws.Listing.{get_there}
 use Rattle.pg_trie.proofs.DeletingLaws.Renewing.{value_kept, mark_left}

@@ -4,7 +4,7 @@ ghost use Rattle.pg_types.specs.declared.limits.TheConstants.{PATTERN_SIGNS_MAX,
 ghost use Rattle.pg_types.specs.Placement.{cell_of};
 ghost use Rattle.pg_cells.specs.Inside.linked.AreValuedFamilies.{AreValuedFamilies};
 ghost use Rattle.pg_cells.specs.Inside.linked.Members.{IsBefore, goes_on};
-ghost use Rattle.pg_trie.specs.Inside.Pruned.{Drops, IsKeep, Prunes, PrunesBelow};
+ghost use Rattle.pg_trie.specs.Inside.PrunedFamilies.{Drops, IsKeep, Prunes, PrunesBelow};
 ghost use Rattle.pg_trie.specs.Inside.Strings.{AreShort};
 
 use crate::lists::head::Head;

@@ -7,7 +7,7 @@ ghost use Rattle.pg_outputs.specs.Lists.{list_of};
 ghost use Rattle.pg_outputs.specs.Inside.Heads.{Grows, OneHeadEach};
 ghost use Rattle.pg_cells.specs.Inside.linked.AreValuedFamilies.{AreValuedFamilies};
 ghost use Rattle.pg_trie.specs.Inside.IsTrie.{IsTrie};
-ghost use Rattle.pg_trie.specs.Inside.Renewed.{values_in, AreNeeded, AreFreshTo, AreFresh, Renews};
+ghost use Rattle.pg_trie.specs.Inside.FreshLists.{values_in, AreNeeded, AreFreshTo, AreFresh, Renews};
 
 use crate::hopeless::HOPELESS;
 use crate::lists::head::{Head, in_four_bytes};

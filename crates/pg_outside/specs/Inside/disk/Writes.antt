@@ -7,7 +7,7 @@ use Rattle.pg_outside.specs.Faults.{next_count}
 use Rattle.pg_outside.specs.Inside.disk.Causes.{IsCauseOf}
 use Rattle.pg_outside.specs.Inside.disk.Disks.{Node, Disk, DiskHistory, AreOne, LeadsTo, LeadsToNone, AppendsBytes, AppendsFront, IsTaken, HoldsNow, id_at, node_at}
 use Rattle.pg_outside.specs.Inside.disk.NewNames.{IsFolderOf, new_name}
-use Rattle.pg_outside.specs.Inside.disk.Shown.{all_faults}
+use Rattle.pg_outside.specs.Inside.disk.WhatDiskShows.{all_faults}
 use Rattle.pg_outside.specs.declared.disk.files.DiskFiles.{DiskFiles}
 use Rattle.pg_outside.specs.declared.disk.system.FileId.{FileId}
 use Rattle.pg_outside.specs.declared.disk.system.FileStatus.{FileStatus}

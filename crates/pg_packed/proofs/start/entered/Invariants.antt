@@ -1,5 +1,5 @@
 use Rattle.std.proofs.Common.{take}
-use Rattle.pg_packed.specs.Inside.Entered.{AreEntered}
+use Rattle.pg_packed.specs.Inside.EnteredPatterns.{AreEntered}
 use Rattle.pg_packed.proofs.start.entered.Given as goal
 
 abbrev pub invariant-loop-i : goal.invariant-loop-i

@@ -4,7 +4,7 @@ use Rattle.std.specs.Option.{is_some}
 use Rattle.std.specs.Str.{bytes_eq}
 use Rattle.std.proofs.lemmas.Bool.{false≢true}
 use Rattle.pg_told_disk.specs.Inside.laws.Cases.{eq_yes, cond_yes, cond_no, cond_same}
-use Rattle.pg_told_disk.specs.Inside.Linked.{or_this, link_in, followed_by, real_in}
+use Rattle.pg_told_disk.specs.Inside.LinkLists.{or_this, link_in, followed_by, real_in}
 use Rattle.pg_told_disk.specs.declared.links.Link.{Link}
 use Rattle.std.proofs.lemmas.Slice.Eq.{bytes_eq-Decides}
 

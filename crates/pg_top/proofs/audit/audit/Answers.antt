@@ -1,5 +1,5 @@
 use Rattle.std.proofs.Common.{arith, refl}
-use Rattle.pg_words.specs.Inside.Asked.{texts_of}
+use Rattle.pg_words.specs.Inside.CommandRequests.{texts_of}
 use Rattle.pg_top.proofs.Calls.{stopped_call, stops_reading}
 use Rattle.pg_top.proofs.CountedEnds.{counted_stop}
 use Rattle.pg_top.proofs.audit.Judgements.{verdict_call, verdict_counted}

@@ -2,11 +2,11 @@ use Rattle.std.proofs.Common.{◌≡◌}
 use Rattle.std.proofs.lemmas.Result.{IfOk-from_err, IfOk-weaker}
 use Rattle.pg_outside.specs.Content.{FilesShown, file_at}
 use Rattle.pg_top.specs.audit.AuditRule.{audit_rule, given_files}
-use Rattle.pg_words.specs.Inside.Asked.{texts_of}
+use Rattle.pg_words.specs.Inside.CommandRequests.{texts_of}
 use Rattle.pg_top.specs.Readings.{first_end}
 use Rattle.pg_words.specs.Requests.{FileNames}
 use Rattle.pg_top.specs.generate.GenerateRule.{inputs_in}
-use Rattle.pg_top.specs.generate.Inside.Accepted.{inputs_of, HasInputs}
+use Rattle.pg_top.specs.generate.Inside.AcceptedInputs.{inputs_of, HasInputs}
 use Rattle.pg_top.specs.audit.Inside.Verdicts.{wanted_files, end_of, outcome_by}
 use Rattle.pg_top.specs.declared.inputs.Stop.TheVariants.{Memory}
 use Rattle.pg_top.proofs.generate.InputOrder.{inputs_wanted}

@@ -1,9 +1,9 @@
 use Rattle.std.proofs.Common.{◌≡◌, ◌∙◌, sym, ap}
 use Rattle.pg_outside.specs.Content.{file_at}
-use Rattle.pg_words.specs.Inside.Asked.{texts_of}
+use Rattle.pg_words.specs.Inside.CommandRequests.{texts_of}
 use Rattle.pg_top.specs.Outcomes.{Ends}
 use Rattle.pg_top.specs.Inside.ends.Built.{KeepsPromise}
-use Rattle.pg_top.specs.generate.Inside.Accepted.{HasInputs}
+use Rattle.pg_top.specs.generate.Inside.AcceptedInputs.{HasInputs}
 use Rattle.pg_top.specs.Inside.writing.WritesMade.{written_names, writing_of}
 use Rattle.pg_top.specs.declared.answers.Status.TheVariants.{Done}
 use Rattle.pg_top.specs.declared.inputs.Stop.TheVariants.{Memory}

@@ -2,11 +2,11 @@ use Rattle.std.proofs.Common.{◌≡◌, ◌∙◌, ◌≤◌, length, sym, subs
 use Rattle.std.specs.Prelude.{string_bytes}
 use Rattle.std.proofs.lemmas.List.{length-map}
 use Rattle.pg_outside.specs.Content.{file_at}
-use Rattle.pg_words.specs.Inside.Asked.{sweep_of}
+use Rattle.pg_words.specs.Inside.CommandRequests.{sweep_of}
 use Rattle.pg_top.specs.Outcomes.{Ends}
 use Rattle.pg_top.specs.Inside.ends.Built.{KeepsPromise}
 use Rattle.pg_top.specs.sweep.Inside.Inputs.{terms_of}
-use Rattle.pg_top.specs.sweep.Inside.Accepted.{HasSweep}
+use Rattle.pg_top.specs.sweep.Inside.AcceptedInputs.{HasSweep}
 use Rattle.pg_top.specs.Inside.writing.WritesMade.{writing_of}
 use Rattle.pg_top.specs.declared.answers.Status.TheVariants.{Done}
 use Rattle.pg_top.specs.declared.inputs.Stop.TheVariants.{Memory}

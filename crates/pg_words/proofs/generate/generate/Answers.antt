@@ -1,6 +1,6 @@
 use Rattle.std.proofs.Common.{◌∙◌, ap}
 use Rattle.std.specs.Option.{option_and_then}
-use Rattle.pg_words.specs.Inside.Asked.{texts_of}
+use Rattle.pg_words.specs.Inside.CommandRequests.{texts_of}
 use Rattle.pg_words.specs.Inside.Names.{texts}
 use Rattle.pg_words.specs.Requests.{ToGenerate, where_taken, to_generate}
 use Rattle.pg_words.proofs.generate.generate.Goals as goal

@@ -1,6 +1,6 @@
 use Rattle.std.proofs.Common.{Some, None, ap}
 use Rattle.std.specs.Prelude.{if◌then◌else◌}
-use Rattle.pg_words.specs.Inside.Asked.{asked_by}
+use Rattle.pg_words.specs.Inside.CommandRequests.{asked_by}
 use Rattle.pg_words.proofs.names.where_taken.Goals as goal
 
 pub returns-then-are_taken : goal.returns-then-are_taken

@@ -1,7 +1,7 @@
 use Rattle.std.proofs.Common.{◌≡◌, ◌+◌, ◌++◌, drop}
 use Rattle.arrayvec.specs.ArrayVec.{array_vec_len}
 use Rattle.pg_words.specs.Inside.Names.{texts, words_of}
-use Rattle.pg_words.specs.Inside.Asked.{sweep_of, sweep_inputs}
+use Rattle.pg_words.specs.Inside.CommandRequests.{sweep_of, sweep_inputs}
 use Rattle.pg_words.proofs.sweep.inputs_of.Given as goal
 
 abbrev pub invariant-params : goal.invariant-params

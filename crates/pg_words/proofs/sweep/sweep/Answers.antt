@@ -2,7 +2,7 @@ use Rattle.std.proofs.Common.{◌≡◌, ◌≤◌, ◌-◌, ◌∙◌, length, 
 use Rattle.std.specs.Option.{option_map}
 use Rattle.std.specs.Prelude.{string_bytes}
 use Rattle.std.proofs.lemmas.List.{length-map, take_all}
-use Rattle.pg_words.specs.Inside.Asked.{asked_by}
+use Rattle.pg_words.specs.Inside.CommandRequests.{asked_by}
 use Rattle.pg_words.specs.Inside.Names.{words_of}
 use Rattle.pg_words.specs.Requests.{sweep_in}
 use Rattle.pg_types.specs.declared.limits.TheConstants.{SETS_MAX}

@@ -1,5 +1,5 @@
 use Rattle.std.proofs.Common.{[], ◌∷◌, ◌∙◌, ap}
-use Rattle.pg_words.specs.Inside.Asked.{sweep_of}
+use Rattle.pg_words.specs.Inside.CommandRequests.{sweep_of}
 use Rattle.pg_words.specs.Inside.Names.{texts}
 use Rattle.pg_words.specs.Requests.{ToSweep, where_taken}
 use Rattle.pg_words.proofs.sweep.taken.Goals as goal

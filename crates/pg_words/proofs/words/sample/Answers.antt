@@ -1,7 +1,7 @@
 use Rattle.std.proofs.Common.{◌≡◌, ℕ, List, [], ◌∷◌, ◌∙◌, Option, None, Some, sym, ap}
 use Rattle.std.specs.Option.{option_and_then, option_map}
 use Rattle.pg_words.specs.declared.limits.TheConstants.{SEED_MAX, COUNT_MAX, SAMPLE_DIGITS}
-use Rattle.pg_words.specs.Inside.Asked.{asked_by}
+use Rattle.pg_words.specs.Inside.CommandRequests.{asked_by}
 use Rattle.pg_words.specs.Requests.{ToSample, number_within, sample_in}
 use Rattle.pg_words.proofs.WordsAt.{two_words}
 use Rattle.pg_words.proofs.words.sample.Goals as goal

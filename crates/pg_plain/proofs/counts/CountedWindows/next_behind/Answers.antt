@@ -3,7 +3,7 @@ use Rattle.std.specs.Cmp.Lexicographic.{slice_cmp}
 use Rattle.std.specs.FinMap.Entries.{find}
 use Rattle.pg_types.specs.Inside.Counts.{windows_above}
 use Rattle.pg_types.specs.Inside.NumberedWindows.{WindowCounts}
-use Rattle.pg_plain.specs.Inside.Counted.{tally_at}
+use Rattle.pg_plain.specs.Inside.PlainCounts.{tally_at}
 use Rattle.pg_plain.proofs.Counted.{above_no, next_above, next_found}
 use Rattle.pg_plain.proofs.Counting.{within, size_windows, size_listed, tally_read, listed_window}
 use Rattle.pg_plain.proofs.counts.CountedWindows.next_behind.Goals as goal

@@ -2,7 +2,7 @@ use Rattle.std.proofs.Common.{◌≡◌, ℕ, ap, sym, subst, ◌∙◌}
 use Rattle.pg_patterns.specs.Inside.PatternMaps.{SignsUpTo}
 use Rattle.pg_cells.specs.Inside.families.Root.{root_held}
 use Rattle.pg_cells.specs.Inside.linked.ValuedFamilies.{ValuedFamilies}
-use Rattle.pg_table.specs.Inside.text.Packed.{IsEntered}
+use Rattle.pg_table.specs.Inside.text.PackedTrie.{IsEntered}
 use Rattle.pg_table.proofs.text.entering.enter_all.Goals as goal
 
 signs_of : (h : ValuedFamilies ℕ) (n : ℕ) → h ≡ root_held n 0 → h.signs ≡ n

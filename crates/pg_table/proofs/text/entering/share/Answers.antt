@@ -1,6 +1,6 @@
 use Rattle.std.proofs.Common.{◌≡◌, ℕ, ◌+◌, ◌-◌, ◌∷◌, List, map, refl, sym, ap, subst, ◌∙◌, arith}
 use Rattle.pg_outputs.proofs.ListLaws.{list_of-zero}
-use Rattle.pg_table.specs.Inside.text.Packed.{pairs}
+use Rattle.pg_table.specs.Inside.text.PackedTrie.{pairs}
 use Rattle.pg_table.specs.Inside.text.Sharing.{Shares, value_and_dot, with_ends}
 use Rattle.pg_table.proofs.text.Recorded.{ends_more}
 use Rattle.pg_table.proofs.text.Sharing.{shares_more, pairs_none, pairs_more}

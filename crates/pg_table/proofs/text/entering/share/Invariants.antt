@@ -1,7 +1,7 @@
 use Rattle.std.proofs.Common.{◌≡◌, ◌-◌, ◌≤◌, length, map}
 use Rattle.pg_outputs.specs.Lists.{list_of}
 use Rattle.pg_outputs.specs.Inside.Heads.{Grows}
-use Rattle.pg_table.specs.Inside.text.Packed.{pairs}
+use Rattle.pg_table.specs.Inside.text.PackedTrie.{pairs}
 use Rattle.pg_table.specs.Inside.text.Sharing.{Lists, Shares, value_and_dot, with_ends}
 use Rattle.pg_table.proofs.text.entering.share.Given as goal
 

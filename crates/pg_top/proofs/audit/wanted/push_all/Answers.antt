@@ -1,7 +1,7 @@
 use Rattle.std.proofs.Common.{◌∙◌, ◌++◌, ◌∷◌, [], List, ℕ, ap}
 use Rattle.std.proofs.lemmas.Result.{on_ok_weaker}
 use Rattle.pg_top.specs.audit.AuditRule.{given_file}
-use Rattle.pg_words.specs.Inside.Asked.{name_now}
+use Rattle.pg_words.specs.Inside.CommandRequests.{name_now}
 use Rattle.pg_top.specs.Readings.{Reading}
 use Rattle.pg_words.specs.Requests.{if_asked}
 use Rattle.pg_top.specs.Selection.{selected_text}

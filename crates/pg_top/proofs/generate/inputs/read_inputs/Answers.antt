@@ -2,7 +2,7 @@ use Rattle.std.proofs.Common.{[], ◌∷◌}
 use Rattle.std.proofs.lemmas.Result.{IfOk-from_err}
 use Rattle.pg_outside.specs.Content.{FilesShown}
 use Rattle.pg_outside.specs.FilesCalls.{Reads}
-use Rattle.pg_words.specs.Inside.Asked.{texts_of}
+use Rattle.pg_words.specs.Inside.CommandRequests.{texts_of}
 use Rattle.pg_words.specs.Requests.{FileNames}
 use Rattle.pg_top.proofs.Faults.{none_fell}
 use Rattle.pg_top.proofs.CountedCalls.{calls_on}

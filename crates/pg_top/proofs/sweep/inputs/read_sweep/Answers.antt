@@ -1,7 +1,7 @@
 use Rattle.std.proofs.Common.{◌≤◌, sym, subst}
 use Rattle.std.proofs.lemmas.Result.{IfOk-from_err}
 use Rattle.pg_outside.specs.Content.{FilesShown}
-use Rattle.pg_words.specs.Inside.Asked.{sweep_of}
+use Rattle.pg_words.specs.Inside.CommandRequests.{sweep_of}
 use Rattle.pg_words.specs.Requests.{SweepRequest}
 use Rattle.pg_types.specs.declared.limits.TheConstants.{SETS_MAX}
 use Rattle.pg_top.proofs.Faults.{none_fell}

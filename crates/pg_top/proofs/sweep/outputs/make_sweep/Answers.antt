@@ -2,7 +2,7 @@ use Rattle.std.proofs.Common.{◌∙◌, refl, sym, ap}
 use Rattle.std.specs.Prelude.{map}
 use Rattle.std.proofs.lemmas.Result.{IfOk-weaker}
 use Rattle.pg_sweep.specs.Sweeps.{Terms, row_of}
-use Rattle.pg_words.specs.Inside.Asked.{sweep_of}
+use Rattle.pg_words.specs.Inside.CommandRequests.{sweep_of}
 use Rattle.pg_top.specs.Outcomes.{Ends}
 use Rattle.pg_top.specs.sweep.Inside.Inputs.{terms_of}
 use Rattle.pg_top.specs.Inside.writing.WritesMade.{written_names}

@@ -3,7 +3,7 @@ use Rattle.std.proofs.lemmas.Result.{IfOk-from_err}
 use Rattle.pg_types.specs.Parameters.{Parameters}
 use Rattle.pg_outside.specs.Content.{FilesShown, file_at}
 use Rattle.pg_words.specs.Inside.Names.{words_of}
-use Rattle.pg_top.specs.sweep.Inside.Accepted.{HasSets}
+use Rattle.pg_top.specs.sweep.Inside.AcceptedInputs.{HasSets}
 use Rattle.pg_top.specs.declared.inputs.Stop.TheVariants.{Memory}
 use Rattle.pg_top.proofs.CountedCalls.{no_calls}
 use Rattle.pg_top.proofs.Orders.{only_on, only_self}

@@ -4,7 +4,7 @@ use Rattle.pg_top.specs.Inside.ends.Stops.{OnlyReads}
 use Rattle.pg_outside.specs.FilesCalls.{Reads}
 use Rattle.pg_words.specs.Inside.Names.{words_of}
 use Rattle.pg_top.specs.FileCalls.{MakesCalls}
-use Rattle.pg_top.specs.sweep.Inside.Accepted.{HasSets}
+use Rattle.pg_top.specs.sweep.Inside.AcceptedInputs.{HasSets}
 use Rattle.pg_top.proofs.sweep.sets.read_sets.Given as goal
 
 abbrev pub invariant-sets : goal.invariant-sets

@@ -1,5 +1,5 @@
 use Rattle.std.proofs.Common.{[]}
-use Rattle.pg_trie.specs.Inside.Pruned.{PrunesTo}
+use Rattle.pg_trie.specs.Inside.PrunedFamilies.{PrunesTo}
 use Rattle.pg_trie.proofs.deleting.prune.prune.Given as goal
 
 abbrev pub invariant-loop-s : goal.invariant-loop-s

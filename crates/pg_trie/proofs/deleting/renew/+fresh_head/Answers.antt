@@ -4,7 +4,7 @@ use Rattle.std.proofs.lemmas.Bool.{lt-ltb, le-ltb}
 use Rattle.pg_outputs.specs.Lists.{list_of}
 use Rattle.pg_outputs.proofs.ListLaws.{list_of-zero}
 use Rattle.pg_trie.specs.declared.hopeless.TheConstants.{HOPELESS}
-use Rattle.pg_trie.specs.Inside.Renewed.{values_in, AreNeeded}
+use Rattle.pg_trie.specs.Inside.FreshLists.{values_in, AreNeeded}
 use Rattle.pg_trie.proofs.TrieLaws.Listing.{on_value}
 use Rattle.pg_trie.proofs.DeletingLaws.Renewing.{mark_left, needed_value, needed_mark}
 use Rattle.pg_trie.proofs.deleting.renew.+fresh_head.Goals as goal

@@ -1,4 +1,4 @@
-use Rattle.pg_trie.specs.Inside.Renewed.{AreFreshTo}
+use Rattle.pg_trie.specs.Inside.FreshLists.{AreFreshTo}
 use Rattle.pg_trie.proofs.deleting.renew.fresh_heads.Given as goal
 
 abbrev pub invariant-loop-cell : goal.invariant-loop-cell

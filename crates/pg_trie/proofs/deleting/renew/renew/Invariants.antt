@@ -1,4 +1,4 @@
-use Rattle.pg_trie.specs.Inside.Renewed.{RenewsTo}
+use Rattle.pg_trie.specs.Inside.FreshLists.{RenewsTo}
 use Rattle.pg_trie.proofs.deleting.renew.renew.Given as goal
 
 abbrev pub invariant-loop-cell : goal.invariant-loop-cell

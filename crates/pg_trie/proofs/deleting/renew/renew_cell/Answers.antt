@@ -1,7 +1,7 @@
 use Rattle.std.proofs.lemmas.Result.{err_from_is_err_and}
 use Rattle.std.proofs.Common.{ap, set, ◌∙◌, subst, arith}
 use Rattle.pg_outputs.specs.Lists.{list_of}
-use Rattle.pg_trie.specs.Inside.Renewed.{values_in, AreNeeded}
+use Rattle.pg_trie.specs.Inside.FreshLists.{values_in, AreNeeded}
 use Rattle.pg_trie.proofs.DeletingLaws.Renewing.{fresh_step}
 use Rattle.pg_trie.proofs.deleting.renew.renew_cell.Goals as goal
 

@@ -1,7 +1,7 @@
 use Rattle.std.proofs.Common.{◌<◌, arith}
 use Rattle.std.proofs.lemmas.List.Elements.{All-replicate}
 use Rattle.pg_trie.specs.declared.lists.Raised.{Raised}
-use Rattle.pg_trie.specs.Inside.Raised.{IsRaised}
+use Rattle.pg_trie.specs.Inside.RaisedHeads.{IsRaised}
 use Rattle.pg_trie.proofs.lists.Lists.new.Goals as goal
 
 pub invariant_of-result : goal.invariant_of-result
