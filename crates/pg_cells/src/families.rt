@@ -13,7 +13,7 @@ ghost use Rattle.pg_cells.specs.Inside.families.Removing.{CanRemoveSign, Removes
 ghost use Rattle.pg_cells.specs.Inside.store.Lists.{FitsCell};
 ghost use Rattle.pg_cells.specs.Inside.store.Store.{member_code};
 ghost use Rattle.pg_cells.specs.Inside.linked.Members.{ArePassing, IsAlone, HasOther, has_sign};
-ghost use Rattle.pg_cells.specs.Inside.families.OneTrie.{TheTrie, TheTrie-prop};
+ghost use Rattle.pg_cells.specs.Inside.families.OneTrie.{TrieOfRow, TrieOfRow-prop};
 ghost use Rattle.pg_cells.specs.Inside.linked.Links.{HasBase};
 ghost use Rattle.pg_cells.specs.Inside.families.Root.{root_held};
 
@@ -40,7 +40,7 @@ pub struct Placed<V: Copy, const FEW: usize> {
     signs: u16,
     store: Store<V>,
     moving: Vec<Slot<Member<V>>>,
-    ghost layout: { TheTrie signs store } by { TheTrie-prop (member_code V.code) signs store },
+    ghost layout: { TrieOfRow signs store } by { TrieOfRow-prop (member_code V.code) signs store },
 }
 
 impl<V: Copy, const FEW: usize> Model for Placed<V, FEW> {

@@ -86,23 +86,23 @@ module _ {V : Type 0} (n : ℕ) (r : Row V) where
       λ i. record { families = families i; values = values i }
 
 -- the trie that a row holds
-abbrev pub TheTrie : {V : Type 0} → ℕ → Row V → Type 0
-TheTrie {V} n r = (t : Trie V) × ∥ IsTrie n r t ∥₁
+abbrev pub TrieOfRow : {V : Type 0} → ℕ → Row V → Type 0
+TrieOfRow {V} n r = (t : Trie V) × ∥ IsTrie n r t ∥₁
 
 -- a row holds one trie at most, so that a ghost field may keep it
-pub TheTrie-prop : {V : Type 0} → Coded V → (n : ℕ) (r : Row V) → IsProp (TheTrie n r)
-TheTrie-prop {V} code n r a b =
+pub TrieOfRow-prop : {V : Type 0} → Coded V → (n : ℕ) (r : Row V) → IsProp (TrieOfRow n r)
+TrieOfRow-prop {V} code n r a b =
     Σ_prop_path (λ t. ∥∥₁_prop)
     (∥∥₁_elim a.1 (Coded-set (trie_code code) a.0 b.0)
     (λ x. ∥∥₁_elim b.1 (Coded-set (trie_code code) a.0 b.0) (λ y. same_trie n r a.0 b.0 x y)))
 
 -- each trie that a row holds is the kept one
-pub kept_is_only : {V : Type 0} → Coded V → (n : ℕ) (r : Row V) (kept : TheTrie n r) (t : Trie V)
+pub kept_is_only : {V : Type 0} → Coded V → (n : ℕ) (r : Row V) (kept : TrieOfRow n r) (t : Trie V)
     → IsTrie n r t → kept.0 ≡ t
 kept_is_only code n r kept t is = ∥∥₁_elim kept.1 (Coded-set (trie_code code) kept.0 t)
     (λ x. same_trie n r kept.0 t x is)
 
 -- a row that holds a trie holds the kept one
-pub held_is_kept : {V : Type 0} → Coded V → (n : ℕ) (r : Row V) (kept : TheTrie n r) (t : Trie V)
+pub held_is_kept : {V : Type 0} → Coded V → (n : ℕ) (r : Row V) (kept : TrieOfRow n r) (t : Trie V)
     → IsTrie n r t → IsTrie n r kept.0
 held_is_kept code n r kept t is = subst (IsTrie n r) (sym (kept_is_only code n r kept t is)) is

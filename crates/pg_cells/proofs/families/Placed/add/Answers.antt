@@ -2,7 +2,7 @@ use Rattle.std.proofs.Common.{sym, subst, refl}
 use Rattle.pg_cells.specs.Inside.linked.ValuedFamilies.{ValuedFamilies}
 use Rattle.pg_cells.specs.Inside.families.Adding.{CanTakeSign, AddsSign}
 use Rattle.pg_cells.specs.Inside.families.Layouts.{AreKept}
-use Rattle.pg_cells.specs.Inside.families.OneTrie.{TheTrie, kept_is_only, held_is_kept}
+use Rattle.pg_cells.specs.Inside.families.OneTrie.{TrieOfRow, kept_is_only, held_is_kept}
 use Rattle.pg_cells.specs.declared.store.member.Member.{Member}
 use Rattle.pg_cells.specs.Inside.store.Store.{member_code}
 use Rattle.pg_cells.proofs.AddedSlot.{after, after_held, can_add}
@@ -41,7 +41,7 @@ invariant_of-self g c =
     c.args.parent c.args.s can c.args.members.now c.requires.members in
     let trie = after_held g.row.FEW c.self.inside.signs c.self.inside.store c.add_slot.new.store c.self.inside.layout.0 can.prefix c.args.s c.args.v c.add_slot.result c.self.invariant.trie
     (c.add_slot.ensures.trie c.self.inside.layout.0 can.prefix adds) c.add_slot.ensures.err in
-    let all : (d : TheTrie c.self.inside.signs c.add_slot.new.store) → AreKept c.self.inside.signs c.add_slot.new.store d.0 =
+    let all : (d : TrieOfRow c.self.inside.signs c.add_slot.new.store) → AreKept c.self.inside.signs c.add_slot.new.store d.0 =
     λ d. record {
       row = c.add_slot.ensures.row;
       trie = held_is_kept (member_code g.row.V.coded) c.self.inside.signs c.add_slot.new.store d _ trie;
@@ -58,7 +58,7 @@ returns g c =
     c.args.parent c.args.s can c.args.members.now c.requires.members in
     let trie = after_held g.row.FEW c.self.inside.signs c.self.inside.store c.add_slot.new.store c.self.inside.layout.0 can.prefix c.args.s c.args.v c.add_slot.result c.self.invariant.trie
     (c.add_slot.ensures.trie c.self.inside.layout.0 can.prefix adds) c.add_slot.ensures.err in
-    let all : (d : TheTrie c.self.inside.signs c.add_slot.new.store) → AddsSign g.row.FEW c.args.self.now (seen c.self.inside.signs d.0) c.args.parent c.args.s c.args.v c.add_slot.result =
+    let all : (d : TrieOfRow c.self.inside.signs c.add_slot.new.store) → AddsSign g.row.FEW c.args.self.now (seen c.self.inside.signs d.0) c.args.parent c.args.s c.args.v c.add_slot.result =
     λ d. placed_added c.self.inside.signs c.self.inside.store c.add_slot.new.store c.self.inside.layout.0 c.self.invariant.trie c.add_slot.ensures.row.values
     c.args.self.now c.self.view_is c.args.parent c.args.s can g.row.FEW c.args.v c.add_slot.result
     (c.add_slot.ensures.trie c.self.inside.layout.0 can.prefix adds) (c.add_slot.ensures.cell c.self.inside.layout.0 can.prefix adds)

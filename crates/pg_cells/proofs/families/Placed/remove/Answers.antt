@@ -2,7 +2,7 @@ use Rattle.std.proofs.Common.{sym, subst, arith}
 use Rattle.pg_cells.specs.Inside.linked.ValuedFamilies.{ValuedFamilies}
 use Rattle.pg_cells.specs.Inside.families.Removing.{CanRemoveSign, RemovesSign}
 use Rattle.pg_cells.specs.Inside.families.Layouts.{AreKept}
-use Rattle.pg_cells.specs.Inside.families.OneTrie.{TheTrie, kept_is_only, held_is_kept}
+use Rattle.pg_cells.specs.Inside.families.OneTrie.{TrieOfRow, kept_is_only, held_is_kept}
 use Rattle.pg_cells.specs.declared.store.member.Member.{Member}
 use Rattle.pg_cells.specs.Inside.store.Store.{member_code}
 use Rattle.pg_cells.proofs.StringCells.{cell_taken}
@@ -76,7 +76,7 @@ invariant_of-self g c =
     (c.drop_family.ensures.prunes c.self.inside.signs (removed_alone c.self.inside.signs c.self.inside.store c.self.inside.layout.0 c.self.invariant.trie
     c.args.parent c.args.s can c.child-base.result c.child-base.ensures c.args.self.now
     c.self.view_is c.args.is_alone c.requires.alone c.free.new.self c.free.ensures.frees)) in
-    let all : (d : TheTrie c.self.inside.signs c.drop_family.new.store) → AreKept c.self.inside.signs c.drop_family.new.store d.0 =
+    let all : (d : TrieOfRow c.self.inside.signs c.drop_family.new.store) → AreKept c.self.inside.signs c.drop_family.new.store d.0 =
     λ d. record {
       row = c.drop_family.ensures.row;
       trie = held_is_kept (member_code g.row.V.coded) c.self.inside.signs c.drop_family.new.store d _ trie;
@@ -93,7 +93,7 @@ returns g c =
     c.free.new.self c.drop_family.new.store c.free.ensures.frees (c.drop_family.ensures.prunes c.self.inside.signs
     (removed_alone c.self.inside.signs c.self.inside.store c.self.inside.layout.0 c.self.invariant.trie c.args.parent c.args.s can c.child-base.result c.child-base.ensures
     c.args.self.now c.self.view_is c.args.is_alone c.requires.alone c.free.new.self c.free.ensures.frees)) in
-    let all : (d : TheTrie c.self.inside.signs c.drop_family.new.store) → RemovesSign c.args.self.now (seen c.self.inside.signs d.0) c.args.parent c.args.s =
+    let all : (d : TrieOfRow c.self.inside.signs c.drop_family.new.store) → RemovesSign c.args.self.now (seen c.self.inside.signs d.0) c.args.parent c.args.s =
     λ d. placed_removed c.self.inside.signs c.self.inside.store c.drop_family.new.store c.self.inside.layout.0 c.self.invariant.trie c.drop_family.ensures.row.values
     c.args.self.now c.self.view_is c.args.parent c.args.s can trie d.0 (kept_is_only (member_code g.row.V.coded) c.self.inside.signs c.drop_family.new.store d _ trie) in
     search all

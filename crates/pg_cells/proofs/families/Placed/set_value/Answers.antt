@@ -4,7 +4,7 @@ use Rattle.pg_types.specs.Placement.{cell_of}
 use Rattle.pg_cells.specs.Inside.linked.ValuedFamilies.{ValuedFamilies}
 use Rattle.pg_cells.specs.Inside.linked.CellValues.{SetsValue}
 use Rattle.pg_cells.specs.Inside.families.Layouts.{AreKept}
-use Rattle.pg_cells.specs.Inside.families.OneTrie.{TheTrie, kept_is_only, held_is_kept}
+use Rattle.pg_cells.specs.Inside.families.OneTrie.{TrieOfRow, kept_is_only, held_is_kept}
 use Rattle.pg_cells.specs.declared.store.member.Member.{Member}
 use Rattle.pg_cells.specs.Inside.store.Store.{member_code}
 use Rattle.pg_cells.proofs.PlacedSigns.{seen, placed_written}
@@ -32,7 +32,7 @@ invariant_of-self g c =
     let at = subst (λ (h : ValuedFamilies (Member g.row.V.Denot)). cell_of h.families c.requires.taken.0 ≡ Some c.args.cell) (sym c.self.view_is) c.requires.taken.1 in
     let trie = value_written c.self.inside.signs c.self.inside.store c.self.inside.layout.0 c.self.invariant.trie c.requires.taken.0 c.args.cell
     c.args.v c.set_value.new.self at c.set_value.ensures.sets in
-    let all : (d : TheTrie c.self.inside.signs c.set_value.new.self) → AreKept c.self.inside.signs c.set_value.new.self d.0 =
+    let all : (d : TrieOfRow c.self.inside.signs c.set_value.new.self) → AreKept c.self.inside.signs c.set_value.new.self d.0 =
     λ d. record {
       row = c.set_value.ensures.row;
       trie = held_is_kept (member_code g.row.V.coded) c.self.inside.signs c.set_value.new.self d _ trie;
@@ -46,7 +46,7 @@ returns g c =
     let at = subst (λ (h : ValuedFamilies (Member g.row.V.Denot)). cell_of h.families c.requires.taken.0 ≡ Some c.args.cell) (sym c.self.view_is) c.requires.taken.1 in
     let trie = value_written c.self.inside.signs c.self.inside.store c.self.inside.layout.0 c.self.invariant.trie c.requires.taken.0 c.args.cell
     c.args.v c.set_value.new.self at c.set_value.ensures.sets in
-    let all : (d : TheTrie c.self.inside.signs c.set_value.new.self) → SetsValue c.args.self.now (seen c.self.inside.signs d.0) c.args.cell c.args.v =
+    let all : (d : TrieOfRow c.self.inside.signs c.set_value.new.self) → SetsValue c.args.self.now (seen c.self.inside.signs d.0) c.args.cell c.args.v =
     λ d. placed_written c.self.inside.signs c.self.inside.store c.set_value.new.self c.self.inside.layout.0 c.self.invariant.trie c.set_value.ensures.row.values
     c.args.self.now c.self.view_is c.requires.taken.0 c.args.cell c.args.v at trie d.0 (kept_is_only (member_code g.row.V.coded) c.self.inside.signs c.set_value.new.self d _ trie) in
     search all
