@@ -8,7 +8,7 @@ use Rattle.pg_cells.specs.Inside.linked.ValuedFamilies.{ValuedFamilies}
 use Rattle.pg_cells.specs.Inside.linked.AreValuedFamilies.{AreValuedFamilies}
 use Rattle.pg_cells.specs.Inside.linked.Links.{AreLinks, values_alone}
 use Rattle.pg_cells.specs.Inside.linked.Members.{IsNext, goes_on}
-use Rattle.pg_cells.specs.Inside.families.Root.{root_held}
+use Rattle.pg_cells.specs.Inside.families.Root.{root_alone}
 use Rattle.pg_cells.proofs.StringMaps.{order, equal_or_not}
 use Rattle.pg_cells.proofs.PlacedFamily.{not_empty}
 use Rattle.pg_cells.proofs.LinkLaws.{goes_cell}
@@ -26,7 +26,7 @@ module _ {V : Type 0} where
     | inr h ↦ root_found q m x ss (sym (ap (λ b. cond b (Some m) (find order q (map (λ s. (s ∷ [], m)) ss))) h.1) ∙ e)
   ]
 
-  pub root_links : (n : ℕ) (m : Member V) (h : ValuedFamilies (Member V)) → m.first ≡ 0 → h ≡ root_held n m → AreValuedFamilies h → AreLinks h
+  pub root_links : (n : ℕ) (m : Member V) (h : ValuedFamilies (Member V)) → m.first ≡ 0 → h ≡ root_alone n m → AreValuedFamilies h → AreLinks h
   root_links n m h none is held = record {
     held = held;
     first = λ q x e. (
@@ -48,5 +48,5 @@ module _ {V : Type 0} where
           let f = found (q ++ z ∷ []) v.0 v.1 in
           not_empty [] s (sym e ∙ (same_from_push q [] z f.0 f.1).0)
 
-  pub root_seen : (n : ℕ) (m : Member V) (v : V) (h : ValuedFamilies (Member V)) → m.value ≡ v → h ≡ root_held n m → values_alone h ≡ root_held n v
-  root_seen n m v h value is = ap values_alone is ∙ root_unlinked n m ∙ ap (root_held n) value
+  pub root_seen : (n : ℕ) (m : Member V) (v : V) (h : ValuedFamilies (Member V)) → m.value ≡ v → h ≡ root_alone n m → values_alone h ≡ root_alone n v
+  root_seen n m v h value is = ap values_alone is ∙ root_unlinked n m ∙ ap (root_alone n) value

@@ -11,7 +11,7 @@ use Rattle.pg_cells.specs.Inside.linked.ValuedFamilies.{ValuedFamilies}
 use Rattle.pg_cells.specs.Inside.linked.AreValuedFamilies.{AreValuedFamilies}
 use Rattle.pg_cells.specs.Inside.linked.Links.{values_alone}
 use Rattle.pg_cells.specs.Inside.linked.Members.{IsBefore, goes_on}
-use Rattle.pg_cells.specs.Inside.families.Root.{root_held}
+use Rattle.pg_cells.specs.Inside.families.Root.{root_alone}
 use Rattle.pg_cells.proofs.StringMaps.{order, same_string, same_maps, without_key, find_put_same, find_put_other, find_without_same, find_without_other, sorted_put, sorted_without, equal_or_not}
 
 module _ {V : Type 0} where
@@ -98,8 +98,8 @@ module _ {V : Type 0} where
   pub relink_plain : (q : List ℕ) (m new : Member V) (es : List (List ℕ × Member V)) → T (is_sorted order es) → find order q es ≡ Some m → new.value ≡ m.value → plain (put order q new es) ≡ plain es
   relink_plain q m new es h at same = put_plain q new es h ∙ put_again q new.value (plain es) (sorted_plain es h) (found_plain q m es at ∙ ap Some (sym same))
 
-  pub root_unlinked : (n : ℕ) (m : Member V) → values_alone (root_held n m) ≡ root_held n m.value
-  root_unlinked n m = ap (λ es. record (root_held n m.value) { values = es }) (by (range_with_len 1 n))
+  pub root_unlinked : (n : ℕ) (m : Member V) → values_alone (root_alone n m) ≡ root_alone n m.value
+  root_unlinked n m = ap (λ es. record (root_alone n m.value) { values = es }) (by (range_with_len 1 n))
     where
       by : (xs : List ℕ) → plain (map (λ x. (x ∷ [], m)) xs) ≡ map (λ x. (x ∷ [], m.value)) xs
       by [] = refl

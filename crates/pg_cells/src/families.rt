@@ -15,7 +15,7 @@ ghost use Rattle.pg_cells.specs.Inside.store.Store.{member_code};
 ghost use Rattle.pg_cells.specs.Inside.linked.Members.{ArePassing, IsAlone, HasOther, has_sign};
 ghost use Rattle.pg_cells.specs.Inside.families.OneTrie.{TrieOfRow, TrieOfRow-prop};
 ghost use Rattle.pg_cells.specs.Inside.linked.Links.{HasBase};
-ghost use Rattle.pg_cells.specs.Inside.families.Root.{root_held};
+ghost use Rattle.pg_cells.specs.Inside.families.Root.{root_alone};
 
 mod adding;
 mod moves;
@@ -67,7 +67,7 @@ impl<V: Copy, const FEW: usize> Placed<V, FEW> {
     pub fn new(alloc: Global, signs: u16, blank: Member<V>) -> Result<Placed<V, FEW>, AllocError>
         requires signs { (1 ≤ signs) × (signs ≤ SIGNS_MAX) }
         requires fits { FitsCell blank }
-        ensures held { IfOk result (λ c. c ≡ root_held signs blank) }
+        ensures held { IfOk result (λ c. c ≡ root_alone signs blank) }
         ensures kept { IfOk result (λ c. AreValuedFamilies c) }
     {
         let mut store = Store::new(alloc, signs, blank.value)?;
@@ -214,7 +214,7 @@ impl<V: Copy, const FEW: usize> Placed<V, FEW> {
     /// The root family alone, each value `blank`.
     pub fn reset(&mut self, blank: Member<V>)
         requires { FitsCell blank }
-        ensures held { self.new ≡ root_held self.old.signs blank }
+        ensures held { self.new ≡ root_alone self.old.signs blank }
         ensures kept { AreValuedFamilies self.new }
     {
         self.store.clear(self.signs as usize + 1);

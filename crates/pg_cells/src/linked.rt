@@ -11,7 +11,7 @@ ghost use Rattle.pg_cells.specs.Inside.linked.CellValues.{HasValue, IsTaken, Set
 ghost use Rattle.pg_cells.specs.Inside.families.Removing.{CanRemoveSign, RemovesSign};
 ghost use Rattle.pg_cells.specs.Inside.linked.Members.{IsNextSign, IsBefore};
 ghost use Rattle.pg_cells.specs.Inside.linked.Links.{HasBase};
-ghost use Rattle.pg_cells.specs.Inside.families.Root.{root_held};
+ghost use Rattle.pg_cells.specs.Inside.families.Root.{root_alone};
 ghost use Rattle.pg_cells.specs.Inside.linked.Walks.{EndsBefore};
 
 mod links;
@@ -58,7 +58,7 @@ impl<V: Copy, const FEW: usize> LinkedCells<V, FEW> {
     /// The root family alone, each value `blank`.
     pub fn new(alloc: Global, signs: u16, blank: V) -> Result<LinkedCells<V, FEW>, AllocError>
         requires { (1 ≤ signs) × (signs ≤ SIGNS_MAX) }
-        ensures held { IfOk result (λ c. c ≡ root_held signs blank) }
+        ensures held { IfOk result (λ c. c ≡ root_alone signs blank) }
         ensures kept { IfOk result (λ c. AreValuedFamilies c) }
     {
         let placed = Placed::new(alloc, signs, Member::alone(blank))?;
@@ -217,7 +217,7 @@ impl<V: Copy, const FEW: usize> LinkedCells<V, FEW> {
 
     /// The root family alone, each value `blank`.
     pub fn reset(&mut self, blank: V)
-        ensures held { self.new ≡ root_held self.old.signs blank }
+        ensures held { self.new ≡ root_alone self.old.signs blank }
         ensures kept { AreValuedFamilies self.new }
     {
         self.placed.reset(Member::alone(blank));

@@ -23,7 +23,7 @@ use Rattle.pg_select.specs.Windows.{Hopeless, Patterns, is_covered, fits, window
 use Rattle.pg_patterns.specs.Values.{value_at}
 use Rattle.pg_select.proofs.LawsRaised.{counted_uncovered}
 use Rattle.pg_select.proofs.LawsTally.{is_counted_window}
-use Rattle.pg_driver.specs.declared.counting.above_positions.Kept.{Kept}
+use Rattle.pg_driver.specs.declared.counting.above_positions.ChosenWeights.{ChosenWeights}
 use Rattle.pg_driver.specs.declared.pass_windows.WordPosition.{WordPosition}
 use Rattle.pg_driver.specs.declared.pass_windows.TheConstants.{NO_NUMBER}
 use Rattle.pg_driver.specs.Inside.counting.Counting.{IsRead, meaning_after_counting}
@@ -31,7 +31,7 @@ use Rattle.pg_driver.specs.Inside.counting.OpenLevels.{open_as}
 use Rattle.pg_driver.specs.Inside.counting.OpenPositions.{counted_in, counted_of}
 use Rattle.pg_driver.specs.Inside.level.PassWindows.{AreFates, GetsNumber, HaveNumbers, IsNumbered, is_counted_at, uncovered_at}
 use Rattle.pg_driver.specs.Inside.choices.Fates.{chooses}
-use Rattle.pg_driver.specs.Inside.counting.WordLevels.{bad_kept, good_kept, kept_by, was_chosen, with_kept}
+use Rattle.pg_driver.specs.Inside.counting.WordLevels.{bad_weight_chosen, good_weight_chosen, chosen_weights, was_chosen, with_chosen}
 use Rattle.pg_driver.proofs.NumberSteps.{fate_there, have_more, still_have}
 use Rattle.pg_driver.proofs.OpenLevels.{found_is}
 
@@ -201,23 +201,23 @@ module _ (params : LevelParams) (pass : Pass) (counts : Counts) (words : List Wo
     tests true false true n = refl
     tests true false false n = refl
 
-    pub kept_more : (kept result : Kept) (chosen good : Bool) (weight : ℕ) → chosen ≡ (fits w.signs e.at pass.len pass.dot && was_chosen params counts (window w.signs e.at pass.len pass.dot))
+    pub kept_more : (kept result : ChosenWeights) (chosen good : Bool) (weight : ℕ) → chosen ≡ (fits w.signs e.at pass.len pass.dot && was_chosen params counts (window w.signs e.at pass.len pass.dot))
         → good ≡ is_good pass.level w e.at → weight ≡ position_weight w e.at
         → result.good ≡ kept.good + cond (chosen && good) weight 0 → result.bad ≡ kept.bad + cond (chosen && not good) weight 0
-        → result ≡ with_kept kept (kept_by params pass counts words (e ∷ []))
+        → result ≡ with_chosen kept (chosen_weights params pass counts words (e ∷ []))
     kept_more kept result chosen good weight is good_is weight_is good_more bad_more =
         let f : Bool = fits w.signs e.at pass.len pass.dot in
         let c : Bool = was_chosen params counts (window w.signs e.at pass.len pass.dot) in
-        let goods : result.good ≡ kept.good + sum_by (good_kept params counts) (flat_map (counted_of pass words) (e ∷ [])) =
+        let goods : result.good ≡ kept.good + sum_by (good_weight_chosen params counts) (flat_map (counted_of pass words) (e ∷ [])) =
         good_more ∙ ap (λ (n : ℕ). kept.good + n) ((λ i. cond (is i && good_is i) (weight_is i) 0) ∙ sym (tests f c (is_good pass.level w e.at) (position_weight w e.at))
-        ∙ sym (one (good_kept params counts))) in
-        let bads : result.bad ≡ kept.bad + sum_by (bad_kept params counts) (flat_map (counted_of pass words) (e ∷ [])) =
+        ∙ sym (one (good_weight_chosen params counts))) in
+        let bads : result.bad ≡ kept.bad + sum_by (bad_weight_chosen params counts) (flat_map (counted_of pass words) (e ∷ [])) =
         bad_more ∙ ap (λ (n : ℕ). kept.bad + n) ((λ i. cond (is i && not (good_is i)) (weight_is i) 0) ∙ sym (tests f c (not (is_good pass.level w e.at)) (position_weight w e.at))
-        ∙ sym (one (bad_kept params counts))) in
+        ∙ sym (one (bad_weight_chosen params counts))) in
         λ i. record { good = goods i; bad = bads i }
 
   -- with those of none
-  pub kept_none : (kept : Kept) → kept ≡ with_kept kept (kept_by params pass counts words [])
+  pub kept_none : (kept : ChosenWeights) → kept ≡ with_chosen kept (chosen_weights params pass counts words [])
   kept_none kept =
       let good : kept.good ≡ kept.good + 0 = omega arith in
       let bad : kept.bad ≡ kept.bad + 0 = omega arith in

@@ -8,10 +8,10 @@ use Rattle.pg_types.specs.Inside.Counts.{Counts}
 use Rattle.pg_dict.specs.Word.{Word}
 use Rattle.pg_select.specs.declared.pass.Pass.{Pass}
 use Rattle.pg_select.specs.CountedPositions.{CountedPosition}
-use Rattle.pg_driver.specs.declared.counting.above_positions.Kept.{Kept}
+use Rattle.pg_driver.specs.declared.counting.above_positions.ChosenWeights.{ChosenWeights}
 use Rattle.pg_driver.specs.declared.pass_windows.WordPosition.{WordPosition}
 use Rattle.pg_driver.specs.Inside.counting.OpenPositions.{counted_of}
-use Rattle.pg_driver.specs.Inside.counting.WordLevels.{bad_kept, good_kept, kept_by, with_kept}
+use Rattle.pg_driver.specs.Inside.counting.WordLevels.{bad_weight_chosen, good_weight_chosen, chosen_weights, with_chosen}
 
 module _ (params : LevelParams) (pass : Pass) (counts : Counts) (words : List Word) where
   sum_more : (weigh : CountedPosition → ℕ) (k n whole : ℕ) (e : WordPosition) (es : List WordPosition) → n ≡ k + sum_by weigh (flat_map (counted_of pass words) (e ∷ []))
@@ -19,13 +19,16 @@ module _ (params : LevelParams) (pass : Pass) (counts : Counts) (words : List Wo
   sum_more weigh k n whole e es is left = omega (arith, sum_by-append weigh (counted_of pass words e) [], sum_by-append weigh (counted_of pass words e) (flat_map (counted_of pass words) es))
 
   -- a position more, and then the rest
-  pub kept_step : (k l whole : Kept) (entries : List WordPosition) (i : ℕ) (d : WordPosition) → i < length entries → l ≡ with_kept k (kept_by params pass counts words (get_or entries i d ∷ []))
-      → with_kept k (kept_by params pass counts words (drop i entries)) ≡ whole → with_kept l (kept_by params pass counts words (drop (i + 1) entries)) ≡ whole
+  pub kept_step : (k l whole : ChosenWeights) (entries : List WordPosition) (i : ℕ) (d : WordPosition) → i < length entries
+      → l ≡ with_chosen k (chosen_weights params pass counts words (get_or entries i d ∷ []))
+      → with_chosen k (chosen_weights params pass counts words (drop i entries)) ≡ whole → with_chosen l (chosen_weights params pass counts words (drop (i + 1) entries)) ≡ whole
   kept_step k l whole entries i d within is left =
-      let rest : with_kept k (kept_by params pass counts words (get_or entries i d ∷ drop (i + 1) entries))
-      ≡ whole = ap (λ (es : List WordPosition). with_kept k (kept_by params pass counts words es)) (sym (drop_more entries i d within)) ∙ left in
-      let good : l.good + sum_by (good_kept params counts) (flat_map (counted_of pass words) (drop (i + 1) entries))
-      ≡ whole.good = sum_more (good_kept params counts) k.good l.good whole.good (get_or entries i d) (drop (i + 1) entries) (ap (λ (x : Kept). x.good) is) (ap (λ (x : Kept). x.good) rest) in
-      let bad : l.bad + sum_by (bad_kept params counts) (flat_map (counted_of pass words) (drop (i + 1) entries))
-      ≡ whole.bad = sum_more (bad_kept params counts) k.bad l.bad whole.bad (get_or entries i d) (drop (i + 1) entries) (ap (λ (x : Kept). x.bad) is) (ap (λ (x : Kept). x.bad) rest) in
+      let rest : with_chosen k (chosen_weights params pass counts words (get_or entries i d ∷ drop (i + 1) entries))
+      ≡ whole = ap (λ (es : List WordPosition). with_chosen k (chosen_weights params pass counts words es)) (sym (drop_more entries i d within)) ∙ left in
+      let good : l.good + sum_by (good_weight_chosen params counts) (flat_map (counted_of pass words) (drop (i + 1) entries))
+      ≡ whole.good = sum_more (good_weight_chosen params counts) k.good l.good whole.good (get_or entries i d) (drop (i + 1) entries)
+      (ap (λ (x : ChosenWeights). x.good) is) (ap (λ (x : ChosenWeights). x.good) rest) in
+      let bad : l.bad + sum_by (bad_weight_chosen params counts) (flat_map (counted_of pass words) (drop (i + 1) entries))
+      ≡ whole.bad = sum_more (bad_weight_chosen params counts) k.bad l.bad whole.bad (get_or entries i d) (drop (i + 1) entries)
+      (ap (λ (x : ChosenWeights). x.bad) is) (ap (λ (x : ChosenWeights). x.bad) rest) in
       λ j. record { good = good j; bad = bad j }

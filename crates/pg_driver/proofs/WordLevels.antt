@@ -23,7 +23,7 @@ use Rattle.pg_patterns.specs.Values.{value_at}
 use Rattle.pg_select.proofs.LawsClosedDots.{good_is}
 use Rattle.pg_select.proofs.LawsTally.{cmp, counted_as, is_counted_window}
 use Rattle.pg_select.proofs.LawsTotals.{above_stay, totals_after_above}
-use Rattle.pg_driver.specs.declared.counting.above_positions.Kept.{Kept}
+use Rattle.pg_driver.specs.declared.counting.above_positions.ChosenWeights.{ChosenWeights}
 use Rattle.pg_driver.specs.declared.choices.Choices.{Choices}
 use Rattle.pg_driver.specs.declared.pass_windows.WordPosition.{WordPosition}
 use Rattle.pg_driver.specs.declared.counting.word_level.WordLevel.{WordLevel}
@@ -36,7 +36,7 @@ use Rattle.pg_driver.specs.Inside.records.Sound.{IsSmall}
 use Rattle.pg_driver.specs.Traces.{Knowledge, PassTrace, Source, chosen_in, is_chosen, known_after, pass_trace}
 use Rattle.pg_driver.specs.Inside.choices.Fates.{chooses}
 use Rattle.pg_driver.proofs.FateLaws.{chosen_is as chosen_by_fate}
-use Rattle.pg_driver.specs.Inside.counting.WordLevels.{IsWordsAt, kept_by, listing, was_chosen}
+use Rattle.pg_driver.specs.Inside.counting.WordLevels.{IsWordsAt, chosen_weights, listing, was_chosen}
 use Rattle.pg_driver.proofs.CarriedTotals.{carried_same, carried_small, carried_within, totals_are_small}
 use Rattle.pg_driver.proofs.OpenLevels.{found_is, listed_are, start_at}
 use Rattle.pg_driver.proofs.OpenPlaces.{entries_few, entries_placed}
@@ -166,8 +166,8 @@ module _ (source : Source) (params : LevelParams) (known : Knowledge) (pass : Pa
 
   module _ (counts : Counts) (e : WordLevel) (is : IsWordsAt source pass.level known e) (begun : e.is_counted ≡ true) (are : counts ≡ fold with_position [] counted)
       (good : n.good ≡ sum_by (λ c. c.good) (chosen_in made)) (bad : n.bad ≡ sum_by (λ c. c.bad) (chosen_in made)) where
-    abbrev kept : Kept
-    kept = kept_by params pass counts source.words e.above.items
+    abbrev kept : ChosenWeights
+    kept = chosen_weights params pass counts source.words e.above.items
 
     windows : flat_map (counted_of pass source.words) e.above.items ≡ stays
     windows = windows_are source.minima source.words pass known.patterns e.above.items

@@ -7,7 +7,7 @@ use Rattle.pg_types.specs.Inside.NumberedWindows.{Windows, HasNumber, no_counts}
 use Rattle.pg_types.proofs.StringEntries.{order}
 use Rattle.pg_cells.specs.Inside.linked.ValuedFamilies.{ValuedFamilies}
 use Rattle.pg_cells.specs.Inside.linked.AreValuedFamilies.{AreValuedFamilies}
-use Rattle.pg_cells.specs.Inside.families.Root.{root_held}
+use Rattle.pg_cells.specs.Inside.families.Root.{root_alone}
 use Rattle.pg_count.specs.Inside.Counting.{Tally, counting_of, counts_in, sums_of_tally, number_of_tally, window_at}
 use Rattle.pg_count.specs.Inside.Leaves.{AreCounting, AreShort}
 use Rattle.pg_count.proofs.CellLaws.Counted.{seen_root, none_seen, seen_there}
@@ -54,11 +54,11 @@ module _ (cells : ValuedFamilies (Option Tally)) (windows : Windows) (n len : �
           cc
 
 -- the root alone counts nothing
-pub root_none : (cells : ValuedFamilies (Option Tally)) (n : ℕ) → cells ≡ root_held n None → counts_in cells.values ≡ []
+pub root_none : (cells : ValuedFamilies (Option Tally)) (n : ℕ) → cells ≡ root_alone n None → counts_in cells.values ≡ []
 root_none cells n root = ap (λ (h : ValuedFamilies (Option Tally)). counts_in h.values) root ∙ seen_root sums_of_tally (range_with_len 1 n)
 
 -- and has strings of one sign
-pub root_short : (cells : ValuedFamilies (Option Tally)) (n len : ℕ) → cells ≡ root_held n None → 1 ≤ len → AreShort cells.values len
+pub root_short : (cells : ValuedFamilies (Option Tally)) (n len : ℕ) → cells ≡ root_alone n None → 1 ≤ len → AreShort cells.values len
 root_short cells n len root some q o at =
     let one = root_strings q None o (range_with_len 1 n) (ap (λ (h : ValuedFamilies (Option Tally)). find order q h.values) (sym root) ∙ at) in
     omega arith

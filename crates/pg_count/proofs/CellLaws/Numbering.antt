@@ -8,7 +8,7 @@ use Rattle.std.specs.List.{slice_get, range_with_len}
 use Rattle.std.specs.FinMap.{find, put}
 use Rattle.pg_cells.specs.Inside.linked.ValuedFamilies.{ValuedFamilies}
 use Rattle.pg_cells.specs.Inside.linked.AreValuedFamilies.{AreValuedFamilies}
-use Rattle.pg_cells.specs.Inside.families.Root.{root_held}
+use Rattle.pg_cells.specs.Inside.families.Root.{root_alone}
 use Rattle.pg_cells.proofs.StringMaps.{order, equal_or_not, find_put_same, find_put_other}
 use Rattle.pg_count.specs.declared.store.tally_list.TheConstants.{NO_TALLY, NUMBERS_END}
 use Rattle.std.specs.Option.{option_map, is_some}
@@ -108,11 +108,11 @@ module _ (h : ValuedFamilies ℕ) (first : ℕ) (tallies : Sums) (none : tallies
   }
 
 -- the root alone
-module _ (n : ℕ) (h : ValuedFamilies ℕ) (root : h ≡ root_held n NO_TALLY) where
-  pub root_tallied : (tallies : Sums) → tallies ≡ [] → tallied_families h 1 tallies ≡ root_held n None
+module _ (n : ℕ) (h : ValuedFamilies ℕ) (root : h ≡ root_alone n NO_TALLY) where
+  pub root_tallied : (tallies : Sums) → tallies ≡ [] → tallied_families h 1 tallies ≡ root_alone n None
   root_tallied tallies none =
       ap (λ t. tallied_families h 1 t) none ∙ ap (λ k. tallied_families k 1 []) root
-      ∙ ap (λ es. record { signs = n; families = (root_held n NO_TALLY).families; values = es }) (root_mapped (tally_by_number 1 []) NO_TALLY (range_with_len 1 n))
+      ∙ ap (λ es. record { signs = n; families = (root_alone n NO_TALLY).families; values = es }) (root_mapped (tally_by_number 1 []) NO_TALLY (range_with_len 1 n))
 
   pub root_past : (q : List ℕ) (k : ℕ) → find order q h.values ≡ Some k → k < 1
   root_past q k e =

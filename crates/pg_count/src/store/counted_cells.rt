@@ -10,7 +10,7 @@ ghost use Rattle.pg_cells.specs.Inside.linked.AreValuedFamilies.{AreValuedFamili
 ghost use Rattle.pg_cells.specs.Inside.linked.CellValues.{HasValue, IsTaken};
 ghost use Rattle.pg_cells.specs.Inside.linked.Links.{HasBase};
 ghost use Rattle.pg_cells.specs.Inside.linked.Members.{IsNextSign};
-ghost use Rattle.pg_cells.specs.Inside.families.Root.{root_held};
+ghost use Rattle.pg_cells.specs.Inside.families.Root.{root_alone};
 ghost use Rattle.pg_cells.specs.Inside.linked.Walks.{IsAt};
 ghost use Rattle.pg_count.specs.Inside.Counting.{Tally, counts_in, numbers_in};
 ghost use Rattle.pg_count.specs.Inside.Leaves.{Adds, AreShort, PushesDown};
@@ -62,7 +62,7 @@ impl CountedCells {
     /// Each sign alone has a cell, and no string is counted.
     pub fn new(alloc: Global, signs: u16) -> Result<CountedCells, AllocError>
         requires { (1 ≤ signs) × (signs ≤ SIGNS_MAX) }
-        ensures held { IfOk result (λ t. t ≡ root_held signs None) }
+        ensures held { IfOk result (λ t. t ≡ root_alone signs None) }
         ensures kept { IfOk result (λ t. AreValuedFamilies t) }
     {
         let cells = NearCells::new(alloc, signs, NO_TALLY)?;

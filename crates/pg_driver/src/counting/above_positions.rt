@@ -19,7 +19,7 @@ ghost use Rattle.pg_driver.specs.Inside.counting.OpenLevels.{listed_in, open_as}
 ghost use Rattle.pg_driver.specs.Inside.counting.OpenPositions.{IsPlaced};
 ghost use Rattle.pg_driver.specs.Inside.level.PassWindows.{AreFates, HaveNumbers, IsNumbered, is_counted_at};
 ghost use Rattle.pg_driver.specs.Inside.choices.Fates.{chooses};
-ghost use Rattle.pg_driver.specs.Inside.counting.WordLevels.{TookKept, kept_by, with_kept};
+ghost use Rattle.pg_driver.specs.Inside.counting.WordLevels.{TookChosen, chosen_weights, with_chosen};
 
 use crate::counting::marks::counts_as;
 use crate::counting::open_passes::is_good;
@@ -33,7 +33,7 @@ use std::alloc::AllocError;
 /// The weights of positions whose windows were chosen and whose values stay: of the good ones, and
 /// of the bad ones.
 #[derive(Clone, Copy)]
-pub struct Kept {
+pub struct ChosenWeights {
     /// The sum of the good weights.
     pub good: u64,
     /// The sum of the bad weights.
@@ -114,16 +114,17 @@ fn add_kept(
     fates: &[Choice],
     number: u32,
     position: WordPosition,
-    kept: Kept,
-) -> Kept
+    kept: ChosenWeights,
+) -> ChosenWeights
     requires placed { IsPlaced dictionary.now position }
     requires few { length fates.now ≤ NO_NUMBER }
     requires room { kept.good + kept.bad + WEIGHT_MAX < 2 ^ 64 }
     ensures value { (params : LevelParams) (counts : Counts) (ws : Windows) → AreNumbered ws counts
         → AreFates params counts ws fates.now
         → IsNumbered pass (is_counted_at pass counts) dictionary.now ws position number
-        → result ≡ with_kept kept (kept_by params pass counts dictionary.now (position ∷ [])) }
-    ensures took { TookKept kept result 1 }
+        → result ≡ with_chosen kept
+        (chosen_weights params pass counts dictionary.now (position ∷ [])) }
+    ensures took { TookChosen kept result 1 }
 {
     let w = dictionary.word(position.word as usize);
     let p = usize::from(position.at);
@@ -132,12 +133,12 @@ fn add_kept(
     }
     let weight = u64::from(w.weights[p]);
     if is_good(pass.level, w.hyphens[p]) {
-        Kept {
+        ChosenWeights {
             good: kept.good + weight,
             ..kept
         }
     } else {
-        Kept {
+        ChosenWeights {
             bad: kept.bad + weight,
             ..kept
         }
@@ -152,7 +153,7 @@ pub fn kept_above(
     fates: &[Choice],
     numbers: &[u32],
     above: &[WordPosition],
-) -> Kept
+) -> ChosenWeights
     requires placed { All (IsPlaced dictionary.now) above.now }
     requires above { length above.now ≤ FILE_MAX }
     requires fates { length fates.now ≤ NO_NUMBER }
@@ -160,9 +161,9 @@ pub fn kept_above(
     ensures { (params : LevelParams) (counts : Counts) (ws : Windows) → AreNumbered ws counts
         → AreFates params counts ws fates.now
         → HaveNumbers pass (is_counted_at pass counts) dictionary.now ws above.now numbers.now
-        → result ≡ kept_by params pass counts dictionary.now above.now }
+        → result ≡ chosen_weights params pass counts dictionary.now above.now }
 {
-    let mut kept = Kept { good: 0, bad: 0 };
+    let mut kept = ChosenWeights { good: 0, bad: 0 };
     'positions: for k in 0..above.len() {
         kept = add_kept(dictionary, pass, fates, numbers[k], above[k], kept);
     }

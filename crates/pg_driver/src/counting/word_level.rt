@@ -10,7 +10,7 @@ ghost use Rattle.pg_driver.specs.Inside.counting.LevelCounting.{CanMove, DidCoun
 ghost use Rattle.pg_driver.specs.Inside.counting.WordLevels.{IsWordsAt};
 
 use crate::choices::Choices;
-use crate::counting::above_positions::Kept;
+use crate::counting::above_positions::ChosenWeights;
 use crate::counting::carried_totals::totals_after;
 use crate::counting::words::count_words;
 use crate::pass_windows::WordPosition;
@@ -91,7 +91,7 @@ impl WordLevel {
 
     /// Carries the totals on past the choices of a pass. Those of the listed positions, which are
     /// `kept`, change no value, so their weights are left out.
-    pub fn after_choices(&mut self, level: u8, choices: Choices, kept: Kept)
+    pub fn after_choices(&mut self, level: u8, choices: Choices, kept: ChosenWeights)
         requires { CanMove (is_odd level) self.old.totals choices kept }
         ensures { IsAfterWords (is_odd level) choices kept self.old self.new }
     {

@@ -19,7 +19,7 @@ use Rattle.pg_outputs.specs.Inside.Records.{AreShared}
 use Rattle.pg_outputs.proofs.ListLaws.{list_of-zero}
 use Rattle.pg_cells.specs.Inside.linked.ValuedFamilies.{ValuedFamilies}
 use Rattle.pg_cells.specs.Inside.linked.AreValuedFamilies.{AreValuedFamilies}
-use Rattle.pg_cells.specs.Inside.families.Root.{root_held}
+use Rattle.pg_cells.specs.Inside.families.Root.{root_alone}
 use Rattle.pg_cells.specs.Inside.linked.Walks.{AddsBlanks}
 use Rattle.pg_cells.proofs.PlacementLaws.{cell_of_last}
 use Rattle.pg_cells.proofs.StringMaps.{order, same_string, same_from, equal_or_not, find_put_same, find_put_other}
@@ -84,7 +84,7 @@ pub record EnteredTo (n : ℕ) (P : List Entry) (at : ℕ) (h : ValuedFamilies �
   pub apart : AreApart P at
 
 -- none is entered at first
-pub entered_none : (n : ℕ) (P : List Entry) (records : List Record) → records ≡ [] → OneHeadEach records → AreValuedFamilies {V = ℕ} (root_held n 0) → EnteredTo n P 0 (root_held n 0) records
+pub entered_none : (n : ℕ) (P : List Entry) (records : List Record) → records ≡ [] → OneHeadEach records → AreValuedFamilies {V = ℕ} (root_alone n 0) → EnteredTo n P 0 (root_alone n 0) records
 entered_none n P records none one_head held = record {
   within = omega arith;
   held = held;

@@ -4,7 +4,7 @@ ghost use Rattle.pg_types.specs.declared.limits.TheConstants.{SIGNS_MAX};
 ghost use Rattle.pg_patterns.specs.Inside.PatternMaps.{SignsUpTo};
 ghost use Rattle.pg_outputs.specs.Lists.{list_of};
 ghost use Rattle.pg_outputs.specs.Inside.Heads.{Grows, OneHeadEach};
-ghost use Rattle.pg_cells.specs.Inside.families.Root.{root_held};
+ghost use Rattle.pg_cells.specs.Inside.families.Root.{root_alone};
 ghost use Rattle.pg_cells.specs.Inside.linked.AreValuedFamilies.{AreValuedFamilies};
 ghost use Rattle.pg_table.specs.Inside.text.PackedTrie.{IsGroup, IsEntered, pairs};
 ghost use Rattle.pg_table.specs.Inside.text.Sharing.{Lists, Shares, value_and_dot, with_ends};
@@ -42,7 +42,7 @@ fn enter_strings(
     outputs: &mut Outputs,
 ) -> Result<(), AllocError>
     requires known { SignsUpTo cells.old.signs patterns.now }
-    requires cells { cells.old ≡ root_held cells.old.signs 0 }
+    requires cells { cells.old ≡ root_alone cells.old.signs 0 }
     requires held { AreValuedFamilies cells.old }
     requires outputs { outputs.old ≡ [] }
     requires one_head { OneHeadEach outputs.old }

@@ -9,7 +9,7 @@ use Rattle.pg_outputs.specs.Lists.{list_of}
 use Rattle.pg_outputs.proofs.ListLaws.{list_of-zero}
 use Rattle.pg_cells.specs.Inside.linked.ValuedFamilies.{ValuedFamilies}
 use Rattle.pg_cells.specs.Inside.linked.AreValuedFamilies.{AreValuedFamilies}
-use Rattle.pg_cells.specs.Inside.families.Root.{root_held}
+use Rattle.pg_cells.specs.Inside.families.Root.{root_alone}
 use Rattle.pg_cells.proofs.StringMaps.{order, equal_or_not}
 use Rattle.pg_trie.specs.Inside.IsTrie.{IsTrie}
 use Rattle.pg_trie.specs.Inside.Lists.{Rises, DotsUpTo}
@@ -35,7 +35,7 @@ unfolding entries
 root_entries pick f [] none = refl
 root_entries pick f (x ∷ xs) none = ap (λ l. entries_of pick (x ∷ []) l ++ entries pick f (singles xs)) none ∙ root_entries pick f xs none
 
-pub root_trie : (n : ℕ) (cells : ValuedFamilies ℕ) (records : List Record) → n ≤ SIGNS_MAX → cells ≡ root_held n 0 → AreValuedFamilies cells → IsTrie cells records
+pub root_trie : (n : ℕ) (cells : ValuedFamilies ℕ) (records : List Record) → n ≤ SIGNS_MAX → cells ≡ root_alone n 0 → AreValuedFamilies cells → IsTrie cells records
 root_trie n cells records few is held = record {
   signs = omega (arith, ap (λ (h : ValuedFamilies ℕ). h.signs) is);
   held = held;
@@ -50,7 +50,7 @@ root_trie n cells records few is held = record {
       };
 }
 
-pub root_view : (n : ℕ) (cells : ValuedFamilies ℕ) (records : List Record) → cells ≡ root_held n 0 → records ≡ []
+pub root_view : (n : ℕ) (cells : ValuedFamilies ℕ) (records : List Record) → cells ≡ root_alone n 0 → records ≡ []
     → maps_of cells records ≡ record { signs = n; families = root n; patterns = []; hopeless = []; records = [] }
 root_view n cells records is none =
     let patterns_are : (maps_of cells records).patterns ≡ [] = ap (λ (h : ValuedFamilies ℕ). entries as_value (list_of records) h.values) is

@@ -7,8 +7,8 @@ use Rattle.pg_cells.specs.Inside.store.Store.{taken_in}
 use Rattle.pg_cells.specs.Inside.linked.ValuedFamilies.{ValuedFamilies}
 
 -- the root family alone, with the blank as each value
-abbrev pub root_held : {V : Type 0} → ℕ → V → ValuedFamilies V
-root_held n blank = record {
+abbrev pub root_alone : {V : Type 0} → ℕ → V → ValuedFamilies V
+root_alone n blank = record {
   signs = n;
   families = root n;
   values = map (λ x. (x ∷ [], blank)) (range_with_len 1 n);

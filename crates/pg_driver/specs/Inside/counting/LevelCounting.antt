@@ -18,7 +18,7 @@ use Rattle.pg_driver.specs.declared.counting.Counting.{Counting}
 use Rattle.pg_driver.specs.declared.counting.Counting.TheVariants.{Open, EachWord}
 use Rattle.pg_driver.specs.declared.counting.open_positions.OpenLevel.{OpenLevel}
 use Rattle.pg_driver.specs.declared.counting.word_level.WordLevel.{WordLevel}
-use Rattle.pg_driver.specs.declared.counting.above_positions.Kept.{Kept}
+use Rattle.pg_driver.specs.declared.counting.above_positions.ChosenWeights.{ChosenWeights}
 use Rattle.pg_driver.specs.Accounts.{totals_by}
 use Rattle.pg_dots.specs.Inside.Dots.{is_closed, position_count}
 use Rattle.pg_driver.specs.Inside.counting.Counting.{HasRoom, IsBounded, meaning_after_counting}
@@ -27,7 +27,7 @@ use Rattle.pg_driver.specs.Inside.counting.OpenPositions.{IsPlaced}
 use Rattle.pg_driver.specs.Inside.level.PassWindows.{HaveNumbers, counts_at, is_counted_at}
 use Rattle.pg_driver.specs.Inside.records.Sound.{IsSmall}
 use Rattle.pg_driver.specs.Traces.{Knowledge, Source}
-use Rattle.pg_driver.specs.Inside.counting.WordLevels.{IsWordsAt, kept_by}
+use Rattle.pg_driver.specs.Inside.counting.WordLevels.{IsWordsAt, chosen_weights}
 use Rattle.pg_types.specs.Inside.Limits.{sums_limit}
 
 -- a pass was counted: the engine has its windows and is not full, and the totals are those before
@@ -105,7 +105,8 @@ pub record CanCarry (odd : Bool) (totals : Totals) (good bad : ℕ) : Type 0 whe
   pub within : MatchBool odd (good ≤ totals.missed) ((bad ≤ totals.good) × (good ≤ totals.bad))
 
 -- some choices of a pass change no total, and the totals are large enough for the others
-pub record CanMove (odd : Bool) (totals : Totals) (n : Choices) (stays : Kept) : Type 0 where
+pub record CanMove (odd : Bool) (totals : Totals)
+    (n : Choices) (stays : ChosenWeights) : Type 0 where
   pub good : stays.good ≤ n.good
   pub bad : stays.bad ≤ n.bad
   pub rest : CanCarry odd totals (n.good - stays.good) (n.bad - stays.bad)
@@ -114,7 +115,7 @@ pub record CanMove (odd : Bool) (totals : Totals) (n : Choices) (stays : Kept) :
 abbrev pub CanGoOn : LevelParams → Pass → Counts → List Word → Choices → Counting → Type 0
 CanGoOn params pass counts words n (Open o) = CanCarry (is_odd pass.level) o.totals n.good n.bad
 CanGoOn params pass counts words n (EachWord e) =
-    CanMove (is_odd pass.level) e.totals n (kept_by params pass counts words e.above.items)
+    CanMove (is_odd pass.level) e.totals n (chosen_weights params pass counts words e.above.items)
 
 -- what the choices of a pass make of open positions: dots are closed, and the totals go on
 pub record IsAfterPass (params : LevelParams) (pass : Pass)
@@ -126,7 +127,7 @@ pub record IsAfterPass (params : LevelParams) (pass : Pass)
 
 -- what the choices of a pass make where words are hyphenated: totals go on, listed positions stay
 pub record IsAfterWords (odd : Bool) (n : Choices)
-    (stays : Kept) (old new : WordLevel) : Type 0 where
+    (stays : ChosenWeights) (old new : WordLevel) : Type 0 where
   pub above : new.above.items ≡ old.above.items
   pub counted : new.is_counted ≡ old.is_counted
   pub totals : Carries odd old.totals new.totals (n.good - stays.good) (n.bad - stays.bad)
@@ -139,4 +140,4 @@ GoesOnAfter params pass counts words n (Open o) (Open p) =
 GoesOnAfter params pass counts words n (Open o) (EachWord e) = ⊥
 GoesOnAfter params pass counts words n (EachWord e) (Open p) = ⊥
 GoesOnAfter params pass counts words n (EachWord e) (EachWord f) =
-    IsAfterWords (is_odd pass.level) n (kept_by params pass counts words e.above.items) e f
+    IsAfterWords (is_odd pass.level) n (chosen_weights params pass counts words e.above.items) e f

@@ -15,7 +15,7 @@ use Rattle.pg_select.specs.Inside.Choices.{choice}
 use Rattle.pg_select.specs.CountedPositions.{CountedPosition}
 use Rattle.pg_select.specs.Inside.LawsAbove.{counts_above}
 use Rattle.pg_select.specs.Windows.{Patterns}
-use Rattle.pg_driver.specs.declared.counting.above_positions.Kept.{Kept}
+use Rattle.pg_driver.specs.declared.counting.above_positions.ChosenWeights.{ChosenWeights}
 use Rattle.pg_driver.specs.declared.pass_windows.WordPosition.{WordPosition}
 use Rattle.pg_driver.specs.declared.counting.word_level.WordLevel.{WordLevel}
 use Rattle.pg_driver.specs.Accounts.{totals_by}
@@ -44,24 +44,27 @@ was_chosen params counts u =
     (find (slice_cmp nat_cmp) u counts) false
 
 -- the weight of a position that is good and whose window was chosen; 0 for any other
-abbrev pub good_kept : LevelParams → Counts → CountedPosition → ℕ
-good_kept params counts s = if s.good && was_chosen params counts s.window then s.weight else 0
+abbrev pub good_weight_chosen : LevelParams → Counts → CountedPosition → ℕ
+good_weight_chosen params counts s =
+    if s.good && was_chosen params counts s.window then s.weight else 0
 
 -- the weight of a position that is bad and whose window was chosen; 0 for any other
-abbrev pub bad_kept : LevelParams → Counts → CountedPosition → ℕ
-bad_kept params counts s = if not s.good && was_chosen params counts s.window then s.weight else 0
+abbrev pub bad_weight_chosen : LevelParams → Counts → CountedPosition → ℕ
+bad_weight_chosen params counts s =
+    if not s.good && was_chosen params counts s.window then s.weight else 0
 
 -- the weights of listed positions whose windows were chosen: of the good ones, and of the bad ones
-abbrev pub kept_by : LevelParams → Pass → Counts → List Word → List WordPosition → Kept
-kept_by params pass counts words above = record {
-  good = sum_by (good_kept params counts) (flat_map (counted_of pass words) above);
-  bad = sum_by (bad_kept params counts) (flat_map (counted_of pass words) above);
+abbrev pub chosen_weights : LevelParams → Pass → Counts → List Word
+    → List WordPosition → ChosenWeights
+chosen_weights params pass counts words above = record {
+  good = sum_by (good_weight_chosen params counts) (flat_map (counted_of pass words) above);
+  bad = sum_by (bad_weight_chosen params counts) (flat_map (counted_of pass words) above);
 }
 
 -- sums with those of one position more
-abbrev pub with_kept : Kept → Kept → Kept
-with_kept k l = record { good = k.good + l.good; bad = k.bad + l.bad }
+abbrev pub with_chosen : ChosenWeights → ChosenWeights → ChosenWeights
+with_chosen k l = record { good = k.good + l.good; bad = k.bad + l.bad }
 
 -- n positions more turned the old sums into the new ones
-abbrev pub TookKept : Kept → Kept → ℕ → Type 0
-TookKept old new n = new.good + new.bad ≤ old.good + old.bad + WEIGHT_MAX * n
+abbrev pub TookChosen : ChosenWeights → ChosenWeights → ℕ → Type 0
+TookChosen old new n = new.good + new.bad ≤ old.good + old.bad + WEIGHT_MAX * n

@@ -6,7 +6,7 @@ use Rattle.pg_cells.specs.Inside.linked.AreValuedFamilies.{AreValuedFamilies}
 use Rattle.pg_cells.specs.Inside.families.Layouts.{AreKept}
 use Rattle.pg_cells.specs.Inside.families.OneTrie.{TrieOfRow, kept_is_only, held_is_kept}
 use Rattle.pg_cells.specs.Inside.store.Lists.{without_links}
-use Rattle.pg_cells.specs.Inside.families.Root.{root_held, IsRootTo}
+use Rattle.pg_cells.specs.Inside.families.Root.{root_alone, IsRootTo}
 use Rattle.pg_cells.specs.declared.store.member.Member.{Member}
 use Rattle.pg_cells.specs.Inside.store.Store.{member_code}
 use Rattle.pg_cells.proofs.ValuedFamilyLaws.{is_held}
@@ -39,7 +39,7 @@ pub returns-clause-held : goal.returns-clause-held
 returns-clause-held g c =
     let trie = root_trie c.args.blank c.args.signs c.take_root.new.store c.set_base.new.self c.requires.signs.0 c.take_root.ensures.root_to c.set_base.ensures.sets in
     let all : (d : TrieOfRow c.args.signs c.set_base.new.self) → ◌≡◌ {A = ValuedFamilies (Member g.row.V.Denot)} (record { signs = c.args.signs; families = d.0.families; values = d.0.values })
-    (root_held c.args.signs c.args.blank) =
+    (root_alone c.args.signs c.args.blank) =
     λ d. ap (λ (t : Trie (Member g.row.V.Denot)). record { signs = c.args.signs; families = t.families; values = t.values })
     (kept_is_only (member_code g.row.V.coded) c.args.signs c.set_base.new.self d _ trie) in
     search all

@@ -2,7 +2,7 @@ use Rattle.std.proofs.Common.{◌<◌, List, get_or, length, sym, ap, ◌∙◌,
 use Rattle.std.proofs.lemmas.List.{drop_all}
 use Rattle.std.proofs.lemmas.Option.{slice_get-get_or}
 use Rattle.pg_driver.specs.declared.pass_windows.WordPosition.{WordPosition}
-use Rattle.pg_driver.specs.Inside.counting.WordLevels.{kept_by, with_kept}
+use Rattle.pg_driver.specs.Inside.counting.WordLevels.{chosen_weights, with_chosen}
 use Rattle.pg_driver.proofs.AboveNumbers.{kept_none}
 use Rattle.pg_driver.proofs.AbovePositions.{kept_step}
 use Rattle.pg_driver.proofs.counting.above_positions.kept_above.Goals as goal
@@ -31,5 +31,6 @@ pub returns : goal.returns
 returns c = λ params counts ws are decided have.
     let words = c.args.dictionary.now in
     kept_none params c.args.pass counts words c.positions.kept
-    ∙ ap (λ (es : List WordPosition). with_kept c.positions.kept (kept_by params c.args.pass counts words es)) (sym (drop_all c.positions.k c.args.above.now (omega (arith, c.positions-test.false))))
+    ∙ ap (λ (es : List WordPosition). with_chosen c.positions.kept (chosen_weights params c.args.pass counts words es))
+    (sym (drop_all c.positions.k c.args.above.now (omega (arith, c.positions-test.false))))
     ∙ c.positions.invariant.whole params counts ws are decided have

@@ -1,18 +1,18 @@
 use Rattle.std.proofs.Common.{◌≡◌, ℕ, ap, sym, subst, ◌∙◌}
 use Rattle.pg_patterns.specs.Inside.PatternMaps.{SignsUpTo}
-use Rattle.pg_cells.specs.Inside.families.Root.{root_held}
+use Rattle.pg_cells.specs.Inside.families.Root.{root_alone}
 use Rattle.pg_cells.specs.Inside.linked.ValuedFamilies.{ValuedFamilies}
 use Rattle.pg_table.specs.Inside.text.PackedTrie.{IsEntered}
 use Rattle.pg_table.proofs.text.entering.enter_all.Goals as goal
 
-signs_of : (h : ValuedFamilies ℕ) (n : ℕ) → h ≡ root_held n 0 → h.signs ≡ n
+signs_of : (h : ValuedFamilies ℕ) (n : ℕ) → h ≡ root_alone n 0 → h.signs ≡ n
 signs_of h n is = ap (λ (g : ValuedFamilies ℕ). g.signs) is
 
 pub enter_strings-requires-clause-known : goal.enter_strings-requires-clause-known
 enter_strings-requires-clause-known c = subst (λ n. SignsUpTo n c.args.patterns.now) (sym (signs_of c.in_ok-cells.cells c.args.signs c.in_ok-cells.ensures.held)) c.requires.known
 
 pub enter_strings-requires-clause-cells : goal.enter_strings-requires-clause-cells
-enter_strings-requires-clause-cells c = c.in_ok-cells.ensures.held ∙ ap (λ n. root_held n 0) (sym (signs_of c.in_ok-cells.cells c.args.signs c.in_ok-cells.ensures.held))
+enter_strings-requires-clause-cells c = c.in_ok-cells.ensures.held ∙ ap (λ n. root_alone n 0) (sym (signs_of c.in_ok-cells.cells c.args.signs c.in_ok-cells.ensures.held))
 
 pub enter_strings-requires-clause-held : goal.enter_strings-requires-clause-held
 enter_strings-requires-clause-held c = c.in_ok-cells.ensures.kept
