@@ -14,7 +14,7 @@ use Rattle.pg_told_disk.specs.Inside.laws.Following.{not_link, said_same}
 use Rattle.pg_told_disk.specs.declared.change.Change.{Change}
 use Rattle.pg_told_disk.specs.declared.change.Change.TheVariants.{Made, GotMode, Wrote, Stored, Renamed, Removed, Refused, Stayed}
 use Rattle.pg_told_disk.specs.declared.links.Link as linked
-use Rattle.pg_told_disk.specs.Inside.laws.ChangeLaws.{id_in, id_none, id_same, of_node, made, wrote, stayed, stayed_part, removed, refused, renamed, got_mode, stored}
+use Rattle.pg_told_disk.specs.Inside.laws.ChangeLaws.{id_in, id_none, id_same, of_node, after_made, after_wrote, after_stayed, after_part, after_removed, after_refused, after_renamed, after_got_mode, after_stored}
 use Rattle.pg_told_disk.specs.Inside.laws.Nodes.{named_has}
 use Rattle.pg_told_disk.proofs.Joined.{one_joined}
 use Rattle.pg_told_disk.proofs.ToldBy.{steps, told_now}
@@ -99,13 +99,13 @@ made_step b b2 links links2 log log2 own name n told same is named counted unlin
     subst (λ (q : List ℕ). ChangesDisk (told_where b links log) (told_where b2 links2 log2) (disk.MakesFile q (id_of n))) named
     (subst (λ (k : ℕ). ChangesDisk (told_where b links log) (told_where b2 links2 log2) (disk.MakesFile (string_bytes own) (id_of k))) (sym counted)
     (steps b b2 links links2 log log2 (Made own) (disk.MakesFile (string_bytes own) (id_of (length log))) told same is
-    (made links log own (ap (λ (q : List ℕ). is_some (link_in links q)) named ∙ unlinked) (ap (λ (q : List ℕ). number_in log q) named ∙ none))))
+    (after_made links log own (ap (λ (q : List ℕ). is_some (link_in links q)) named ∙ unlinked) (ap (λ (q : List ℕ). number_in log q) named ∙ none))))
 
 pub removed_step : (b b2 : Bool) (links links2 : List linked.Link) (log log2 : List Change) (own : String Global) (name : List ℕ) → (b2 ≡ true → b ≡ true)
     → links2 ≡ links → (b2 ≡ true → log2 ≡ Removed own ∷ log) → string_bytes own ≡ name → ChangesDisk (told_where b links log) (told_where b2 links2 log2) (disk.RemovesUnlessLink name)
 removed_step b b2 links links2 log log2 own name told same is named =
     subst (λ (q : List ℕ). ChangesDisk (told_where b links log) (told_where b2 links2 log2) (disk.RemovesUnlessLink q)) named
-    (steps b b2 links links2 log log2 (Removed own) (disk.RemovesUnlessLink (string_bytes own)) told same is (removed links log own))
+    (steps b b2 links links2 log log2 (Removed own) (disk.RemovesUnlessLink (string_bytes own)) told same is (after_removed links log own))
 
 pub renamed_step : (b b2 : Bool) (links links2 : List linked.Link) (log log2 : List Change) (from to : String Global) (p q : List ℕ) → (b2 ≡ true → b ≡ true)
     → links2 ≡ links → (b2 ≡ true → log2 ≡ Renamed from to ∷ log) → string_bytes from ≡ p → string_bytes to ≡ q
@@ -113,32 +113,32 @@ pub renamed_step : (b b2 : Bool) (links links2 : List linked.Link) (log log2 : L
 renamed_step b b2 links links2 log log2 from to p q told same is one other =
     subst (λ (r : List ℕ). ChangesDisk (told_where b links log) (told_where b2 links2 log2) (disk.RenamesUnlessLink p r)) other
     (subst (λ (r : List ℕ). ChangesDisk (told_where b links log) (told_where b2 links2 log2) (disk.RenamesUnlessLink r (string_bytes to))) one
-    (steps b b2 links links2 log log2 (Renamed from to) (disk.RenamesUnlessLink (string_bytes from) (string_bytes to)) told same is (renamed links log from to)))
+    (steps b b2 links links2 log log2 (Renamed from to) (disk.RenamesUnlessLink (string_bytes from) (string_bytes to)) told same is (after_renamed links log from to)))
 
 pub stayed_step : (b b2 : Bool) (links links2 : List linked.Link) (log log2 : List Change) (n : FileId) → (b2 ≡ true → b ≡ true) → links2 ≡ links
     → (b2 ≡ true → log2 ≡ Stayed ∷ log) → ChangesDisk (told_where b links log) (told_where b2 links2 log2) (ChangesOnlyFile n)
-stayed_step b b2 links links2 log log2 n told same is = steps b b2 links links2 log log2 Stayed (ChangesOnlyFile n) told same is (stayed links log n)
+stayed_step b b2 links links2 log log2 n told same is = steps b b2 links links2 log log2 Stayed (ChangesOnlyFile n) told same is (after_stayed links log n)
 
 pub wrote_step : (b b2 : Bool) (links links2 : List linked.Link) (log log2 : List Change) (n : ℕ) (held : Vec ℕ Global) (bytes : List ℕ) → (b2 ≡ true → b ≡ true)
     → links2 ≡ links → (b2 ≡ true → log2 ≡ Wrote n held ∷ log) → held.items ≡ bytes → ChangesDisk (told_where b links log) (told_where b2 links2 log2) (disk.AppendsBytes (id_of n) bytes)
 wrote_step b b2 links links2 log log2 n held bytes told same is whole =
     subst (λ (l : List ℕ). ChangesDisk (told_where b links log) (told_where b2 links2 log2) (disk.AppendsBytes (id_of n) l)) whole
-    (steps b b2 links links2 log log2 (Wrote n held) (disk.AppendsBytes (id_of n) held.items) told same is (wrote links log n held))
+    (steps b b2 links links2 log log2 (Wrote n held) (disk.AppendsBytes (id_of n) held.items) told same is (after_wrote links log n held))
 
 pub part_step : (b b2 : Bool) (links links2 : List linked.Link) (log log2 : List Change) (n : FileId) (bytes : List ℕ) → (b2 ≡ true → b ≡ true) → links2
     ≡ links → (b2 ≡ true → log2 ≡ Stayed ∷ log) → ChangesDisk (told_where b links log) (told_where b2 links2 log2) (AppendsFront n bytes)
-part_step b b2 links links2 log log2 n bytes told same is = steps b b2 links links2 log log2 Stayed (AppendsFront n bytes) told same is (stayed_part links log n bytes)
+part_step b b2 links links2 log log2 n bytes told same is = steps b b2 links links2 log log2 Stayed (AppendsFront n bytes) told same is (after_part links log n bytes)
 
 pub mode_step : (b b2 : Bool) (links links2 : List linked.Link) (log log2 : List Change) (n mode : ℕ) → (b2 ≡ true → b ≡ true) → links2 ≡ links
     → (b2 ≡ true → log2 ≡ GotMode n mode ∷ log) → ChangesDisk (told_where b links log) (told_where b2 links2 log2) (disk.SetsMode (id_of n) mode)
-mode_step b b2 links links2 log log2 n mode told same is = steps b b2 links links2 log log2 (GotMode n mode) (disk.SetsMode (id_of n) mode) told same is (got_mode links log n mode)
+mode_step b b2 links links2 log log2 n mode told same is = steps b b2 links links2 log log2 (GotMode n mode) (disk.SetsMode (id_of n) mode) told same is (after_got_mode links log n mode)
 
 pub stored_step : (b b2 : Bool) (links links2 : List linked.Link) (log log2 : List Change) (n : ℕ) → (b2 ≡ true → b ≡ true) → links2 ≡ links
     → (b2 ≡ true → log2 ≡ Stored n ∷ log) → ChangesDisk (told_where b links log) (told_where b2 links2 log2) (disk.SyncsFile (id_of n))
-stored_step b b2 links links2 log log2 n told same is = steps b b2 links links2 log log2 (Stored n) (disk.SyncsFile (id_of n)) told same is (stored links log n)
+stored_step b b2 links links2 log log2 n told same is = steps b b2 links links2 log log2 (Stored n) (disk.SyncsFile (id_of n)) told same is (after_stored links log n)
 
 pub refused_step : (b b2 : Bool) (links links2 : List linked.Link) (log log2 : List Change) (own : String Global) (name : List ℕ) → (b2 ≡ true → b ≡ true)
     → links2 ≡ links → (b2 ≡ true → log2 ≡ Refused own ∷ log) → string_bytes own ≡ name → ChangesDisk (told_where b links log) (told_where b2 links2 log2) (disk.RefusesRemoval name)
 refused_step b b2 links links2 log log2 own name told same is named =
     subst (λ (q : List ℕ). ChangesDisk (told_where b links log) (told_where b2 links2 log2) (disk.RefusesRemoval q)) named
-    (steps b b2 links links2 log log2 (Refused own) (disk.RefusesRemoval (string_bytes own)) told same is (refused links log own))
+    (steps b b2 links links2 log log2 (Refused own) (disk.RefusesRemoval (string_bytes own)) told same is (after_refused links log own))

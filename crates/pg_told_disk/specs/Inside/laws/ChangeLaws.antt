@@ -211,12 +211,12 @@ of_node log n node is = by_mode (mode_in log n) refl is
     by_mode (Some mode) has e = (mode, has, some_node _ e)
 
 -- the change Made makes a new file, which is empty, where the name is no link and leads to no file
-pub made : (links : List Link) (log : List Change) (own : String Global)
+pub after_made : (links : List Link) (log : List Change) (own : String Global)
     → is_some (link_in links (string_bytes own)) ≡ false
     → number_in log (string_bytes own) ≡ None
     → disk.MakesFile (string_bytes own) (id_of (length log)) (disk_in links log)
     (disk_in links (Made own ∷ log))
-made links log own unlinked none = record {
+after_made links log own unlinked none = record {
   node = node_with [] false 420;
   is_regular = refl;
   empty = refl;
@@ -273,9 +273,9 @@ set_file log log2 n node after links same names refused file others = record {
 }
 
 -- the change GotMode gives the file these permissions
-pub got_mode : (links : List Link) (log : List Change) (n mode : ℕ)
+pub after_got_mode : (links : List Link) (log : List Change) (n mode : ℕ)
     → disk.SetsMode (id_of n) mode (disk_in links log) (disk_in links (GotMode n mode ∷ log))
-got_mode links log n mode = λ node is.
+after_got_mode links log n mode = λ node is.
     let parts = of_node log n node is in (
       node_with (bytes_in log n) (stored_in log n) mode,
       set_file log (GotMode n mode ∷ log) n node _ links refl refl refl
@@ -289,9 +289,9 @@ got_mode links log n mode = λ node is.
     )
 
 -- the change Stored lets the device have the file
-pub stored : (links : List Link) (log : List Change) (n : ℕ)
+pub after_stored : (links : List Link) (log : List Change) (n : ℕ)
     → disk.SyncsFile (id_of n) (disk_in links log) (disk_in links (Stored n ∷ log))
-stored links log n = λ node is.
+after_stored links log n = λ node is.
     let parts = of_node log n node is in
     set_file log (Stored n ∷ log) n node (record node { is_stored = true }) links refl refl refl
     (node_parts (Stored n ∷ log) n parts.0 _ _ refl
@@ -301,10 +301,10 @@ stored links log n = λ node is.
     (cond b true (stored_in log m))) (mode_in log m)) (number_no m n differs))
 
 -- the change Wrote puts these bytes behind those of the file
-pub wrote : (links : List Link) (log : List Change) (n : ℕ) (bytes : Vec ℕ Global)
+pub after_wrote : (links : List Link) (log : List Change) (n : ℕ) (bytes : Vec ℕ Global)
     → disk.AppendsBytes (id_of n) bytes.items
     (disk_in links log) (disk_in links (Wrote n bytes ∷ log))
-wrote links log n bytes = λ node is.
+after_wrote links log n bytes = λ node is.
     let parts = of_node log n node is in (
       node_with (bytes_in log n ++ bytes.items) false parts.0,
       set_file log (Wrote n bytes ∷ log) n node _ links refl refl refl
@@ -319,9 +319,9 @@ wrote links log n bytes = λ node is.
     )
 
 -- the change Stayed alters nothing, and so nothing but this file
-pub stayed : (links : List Link) (log : List Change) (id : FileId)
+pub after_stayed : (links : List Link) (log : List Change) (id : FileId)
     → disk.ChangesOnlyFile id (disk_in links log) (disk_in links (Stayed ∷ log))
-stayed links log id = λ node is. (
+after_stayed links log id = λ node is. (
   node,
   record {
     links = refl;
@@ -333,9 +333,9 @@ stayed links log id = λ node is. (
 )
 
 -- the change Stayed writes a first part of these bytes, with none of them
-pub stayed_part : (links : List Link) (log : List Change) (id : FileId) (bytes : List ℕ)
+pub after_part : (links : List Link) (log : List Change) (id : FileId) (bytes : List ℕ)
     → disk.AppendsFront id bytes (disk_in links log) (disk_in links (Stayed ∷ log))
-stayed_part links log id bytes = (
+after_part links log id bytes = (
   0,
   λ node is. (
     node,
@@ -347,9 +347,9 @@ stayed_part links log id bytes = (
 )
 
 -- the change Refused adds the name to those that the system refused to remove
-pub refused : (links : List Link) (log : List Change) (own : String Global)
+pub after_refused : (links : List Link) (log : List Change) (own : String Global)
     → disk.RefusesRemoval (string_bytes own) (disk_in links log) (disk_in links (Refused own ∷ log))
-refused links log own = record {
+after_refused links log own = record {
   links = refl;
   names = refl;
   files = λ other. refl;
@@ -357,10 +357,10 @@ refused links log own = record {
 }
 
 -- the change Removed takes the name away, where it is no link
-pub removed : (links : List Link) (log : List Change) (own : String Global)
+pub after_removed : (links : List Link) (log : List Change) (own : String Global)
     → disk.RemovesUnlessLink (string_bytes own)
     (disk_in links log) (disk_in links (Removed own ∷ log))
-removed links log own = λ unlinked.
+after_removed links log own = λ unlinked.
     let stands = not_link links (string_bytes own) unlinked in record {
       links = refl;
       gone = id_real links (Removed own ∷ log) (string_bytes own) (string_bytes own) stands
@@ -373,10 +373,10 @@ removed links log own = λ unlinked.
     }
 
 -- the change Renamed gives the file of the one name the other, where no name is a link
-pub renamed : (links : List Link) (log : List Change) (from to : String Global)
+pub after_renamed : (links : List Link) (log : List Change) (from to : String Global)
     → disk.RenamesUnlessLink (string_bytes from) (string_bytes to)
     (disk_in links log) (disk_in links (Renamed from to ∷ log))
-renamed links log from to = λ one other.
+after_renamed links log from to = λ one other.
     let stands_from = not_link links (string_bytes from) one in
     let stands_to = not_link links (string_bytes to) other in record {
       links = refl;
