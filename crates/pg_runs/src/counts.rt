@@ -20,9 +20,13 @@ use std::test::Fail;
 /// Minima 1 and 1, and the letters a, b and c.
 const LETTERS: &[u8] = b" 1 1\n a\n b\n c\n";
 
-/// The lines of a dictionary, each so many times; patterns; the level of a pass from these, and the
-/// length and the dot of its windows; and the signs of each window that it counts, its sum of good
-/// and its sum of bad weights.
+/// What a row has, in this order:
+///
+/// - the lines of a dictionary, each with how often it stands there;
+/// - patterns;
+/// - the level of a pass from these, and the length and the dot of its windows;
+/// - a line for each window that the pass counts: its signs, its sum of good weights, and its sum of
+///   bad ones.
 type Row = (
     &'static [(u32, &'static [u8])],
     &'static [u8],
