@@ -10,7 +10,7 @@ ghost use Rattle.pg_main.specs.Statuses.{IsCodeOfRun, IsCodeOfNone};
 mod listen;
 mod named;
 
-use crate::named::Named;
+use crate::named::SystemNames;
 pub use listen::Listen;
 use pg_messages::{Messages, Reasons};
 use pg_outside::{Files, HostFiles, HostSink, HostSystem, Sink};
@@ -168,6 +168,6 @@ pub fn run_words<
         files: &of_files,
         puts: &of_puts,
     };
-    messages.put_fault(&reasons, &Named::new(rt));
+    messages.put_fault(&reasons, &SystemNames::new(rt));
     code
 }

@@ -5,18 +5,18 @@ use std::{fs, rt};
 
 /// The names of a system. Two are of one file where device and inode are the same.
 #[derive(Clone, Copy)]
-pub(crate) struct Named<'a, R> {
+pub(crate) struct SystemNames<'a, R> {
     system: &'a R,
 }
 
-impl<'a, R> Named<'a, R> {
+impl<'a, R> SystemNames<'a, R> {
     /// The names of this system.
-    pub(crate) fn new(system: &'a R) -> Named<'a, R> {
-        Named { system }
+    pub(crate) fn new(system: &'a R) -> SystemNames<'a, R> {
+        SystemNames { system }
     }
 }
 
-impl<'a, R: rt::Files> SameFile for Named<'a, R> {
+impl<'a, R: rt::Files> SameFile for SystemNames<'a, R> {
     fn is_same(&self, one: &str, other: &str) -> bool {
         match (
             fs::metadata(self.system, one),

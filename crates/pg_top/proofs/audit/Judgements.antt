@@ -31,7 +31,7 @@ use Rattle.pg_top.specs.declared.answers.Status.{Status}
 use Rattle.pg_top.specs.declared.answers.Status.TheVariants.{Yes, No}
 use Rattle.pg_top.specs.declared.audit.compare.Verdict.{Verdict}
 use Rattle.pg_top.specs.declared.audit.compare.Verdict.TheVariants.{Equal, False}
-use Rattle.pg_top.specs.declared.audit.wanted.Wanted.{Wanted}
+use Rattle.pg_top.specs.declared.audit.wanted.WantedFile.{WantedFile}
 use Rattle.pg_top.specs.declared.inputs.Given.{Given}
 use Rattle.pg_top.specs.declared.inputs.Given.TheVariants as given
 use Rattle.pg_top.specs.declared.inputs.Input.TheVariants as input
@@ -64,7 +64,7 @@ judged g text (Some whole) bytes (inr h) =
     ∙ part_printed whole text 256 (omega arith) h.0 in
     ap Some (denied g (first_false whole text) ∙ ap (option_map (λ p. Ends No [] (said g p))) (sym printed) ∙ sym (denied g (first_false bytes text)))
 
-pub one_wanted : (ws : List Wanted) (w : Wanted) → wanted_files (ws ++ w ∷ []) ≡ wanted_files ws ++ wanted_file w ∷ []
+pub one_wanted : (ws : List WantedFile) (w : WantedFile) → wanted_files (ws ++ w ∷ []) ≡ wanted_files ws ++ wanted_file w ∷ []
 one_wanted ws w = map-append wanted_file ws (w ∷ [])
 
 -- the given files, with the hyphenated list and without it
@@ -108,7 +108,7 @@ module _ (n : FileNames) (i : Inputs) where
       accepted_front (file_at files) (inputs_of n) (given_files (λ files. inputs_in files n) n) (inputs_there files h)
       ∙ same_ends (file_at files) (λ files. inputs_in files n) i (inputs_same files h) (given_names n)
 
-  pub outcome_audited : (ws : List Wanted) (verdict : Verdict) (files : FileMap) → wanted_files ws ≡ given_files (λ _. i) n → HasInputs (file_at files) n i
+  pub outcome_audited : (ws : List WantedFile) (verdict : Verdict) (files : FileMap) → wanted_files ws ≡ given_files (λ _. i) n → HasInputs (file_at files) n i
       → first_end (file_at files) (wanted_files ws) ≡ end_of verdict → outcome_of (file_at files) (audit_rule n) ≡ outcome_by verdict
   outcome_audited ws verdict files wanted h is = ap (λ end. unwrap_or end (Ends Yes [] yes_line)) (ends_with files h ∙ ap (first_end (file_at files)) (sym wanted) ∙ is)
 
@@ -171,7 +171,7 @@ module _ (n : FileNames) (i : Inputs) where
   why_given place s2 s3 Memory h why = tt
 
   -- a stop at a given file is a stop of all
-  pub stopped_given : (ws : List Wanted) (s0 s2 s3 : FilesShown) (stop : Stop) → wanted_files ws ≡ given_files (λ _. i) n → NoneFell s0.read_faults s2.read_faults
+  pub stopped_given : (ws : List WantedFile) (s0 s2 s3 : FilesShown) (stop : Stop) → wanted_files ws ≡ given_files (λ _. i) n → NoneFell s0.read_faults s2.read_faults
       → MakesCalls s0 s2 (read_calls (inputs_of n)) → KeepsHeld s2.held s3.held → IfSome s2.held (λ files. HasInputs (file_at files) n i)
       → StopsReading (wanted_files ws) s2 s3 stop → StopsReading (audit_rule n).reads s0 s3 stop
   stopped_given ws s0 s2 s3 stop wanted fell calls keeps h stops =
@@ -186,7 +186,7 @@ module _ (n : FileNames) (i : Inputs) where
       })
 
   -- how far all files were read where this was found
-  pub found_given : (ws : List Wanted) (verdict : Verdict) (s0 s2 s3 : FilesShown) → wanted_files ws ≡ given_files (λ _. i) n → MakesCalls s0 s2 (read_calls (inputs_of n))
+  pub found_given : (ws : List WantedFile) (verdict : Verdict) (s0 s2 s3 : FilesShown) → wanted_files ws ≡ given_files (λ _. i) n → MakesCalls s0 s2 (read_calls (inputs_of n))
       → KeepsHeld s2.held s3.held → IfSome s2.held (λ files. HasInputs (file_at files) n i) → ReadsToFind (wanted_files ws) verdict s2 s3 → ReadsToFind (audit_rule n).reads verdict s0 s3
   found_given ws Equal s0 s2 s3 wanted calls keeps h read =
       let given : read_calls (wanted_files ws) ≡ read_calls (given_files (λ files. inputs_in files n) n) = ap read_calls wanted ∙ same_calls (λ _. i) (λ files. inputs_in files n) (given_names n) in
@@ -241,7 +241,7 @@ verdict_counted n Equal s0 s1 o0 o1 answer told read puts put = counted_line (au
 verdict_counted n (False line) s0 s1 o0 o1 answer told read puts put = counted_line (audit_rule n) No line.items s0 s1 o0 o1 answer (false_counted n line s0 s1 o0 o1 told read put) puts
 
 -- the loop over given files: one more is right
-module _ (ws : List Wanted) (i : ℕ) (w : Wanted) (at : slice_get ws i ≡ Some w) where
+module _ (ws : List WantedFile) (i : ℕ) (w : WantedFile) (at : slice_get ws i ≡ Some w) where
   reads_at : slice_get (wanted_files ws) i ≡ Some (wanted_file w)
   reads_at = slice_get-map wanted_file ws i ∙ ap (option_map wanted_file) at
 
@@ -316,7 +316,7 @@ module _ (ws : List Wanted) (i : ℕ) (w : Wanted) (at : slice_get ws i ≡ Some
           (λ files. option_map ((wanted_file w).ends (file_at files)) (file_at files w.name.now) ≡ Some (Some (Ends No [] line.items))) front here)
 
 -- where all are right nothing ends the call
-pub all_right : (ws : List Wanted) (i : ℕ) (held : Option FileMap) → length ws ≤ i → IfSome held (λ files. AreAccepted (file_at files) (take i (wanted_files ws)))
+pub all_right : (ws : List WantedFile) (i : ℕ) (held : Option FileMap) → length ws ≤ i → IfSome held (λ files. AreAccepted (file_at files) (take i (wanted_files ws)))
     → IfSome held (λ files. first_end (file_at files) (wanted_files ws) ≡ None)
 all_right ws i held far front =
     mapped held (λ files. AreAccepted (file_at files) (take i (wanted_files ws))) (λ files. first_end (file_at files) (wanted_files ws) ≡ None)
@@ -326,5 +326,5 @@ all_right ws i held far front =
     take_past reads i far = take_all i reads far
 
 -- and all were read
-pub all_found : (ws : List Wanted) (i : ℕ) (s0 s1 : FilesShown) → length ws ≤ i → MakesCalls s0 s1 (read_calls (take i (wanted_files ws))) → MakesCalls s0 s1 (read_calls (wanted_files ws))
+pub all_found : (ws : List WantedFile) (i : ℕ) (s0 s1 : FilesShown) → length ws ≤ i → MakesCalls s0 s1 (read_calls (take i (wanted_files ws))) → MakesCalls s0 s1 (read_calls (wanted_files ws))
 all_found ws i s0 s1 far calls = all_reads (wanted_files ws) i s0 s1 (omega (arith, length-map ws wanted_file)) calls

@@ -11,7 +11,7 @@ ghost use Rattle.pg_top.specs.Inside.ends.Stops.{OnlyReads, StopsAt, StopsReadin
 ghost use Rattle.pg_top.specs.audit.Inside.Verdicts.{wanted_file, wanted_files, end_of, ReadsToFind};
 
 use crate::audit::no_lines::no_line;
-use crate::audit::wanted::Wanted;
+use crate::audit::wanted::WantedFile;
 use crate::inputs::Stop;
 use crate::reading::read_front;
 use pg_audit::compare;
@@ -36,7 +36,7 @@ pub enum Verdict {
 fn judge<W: Watch>(
     alloc: Global,
     bytes: &[u8],
-    wanted: &Wanted<'_>,
+    wanted: &WantedFile<'_>,
     text: &[u8],
     watch: &W,
 ) -> Result<Verdict, AllocError>
@@ -57,7 +57,7 @@ fn judge<W: Watch>(
 /// bytes only the first bytes are read: they have the same first false line.
 fn compare_file<'a, F: Files, W: Watch>(
     alloc: Global,
-    wanted: &Wanted<'a>,
+    wanted: &WantedFile<'a>,
     files: &mut F,
     watch: &W,
 ) -> Result<Verdict, Stop<'a>>
@@ -78,7 +78,7 @@ fn compare_file<'a, F: Files, W: Watch>(
 }
 
 /// The given file with the number `i`, counted from 0.
-fn wanted_at<'a, 'b>(wanted: &'b [Wanted<'a>], i: usize) -> &'b Wanted<'a>
+fn wanted_at<'a, 'b>(wanted: &'b [WantedFile<'a>], i: usize) -> &'b WantedFile<'a>
     requires { i < length wanted.now }
     ensures { slice_get wanted.now i ≡ Some result.now }
 {
@@ -88,7 +88,7 @@ fn wanted_at<'a, 'b>(wanted: &'b [Wanted<'a>], i: usize) -> &'b Wanted<'a>
 /// Compares files one after the other, up to the first that has a false line.
 pub fn compare_all<'a, F: Files, W: Watch>(
     alloc: Global,
-    wanted: &[Wanted<'a>],
+    wanted: &[WantedFile<'a>],
     files: &mut F,
     watch: &W,
 ) -> Result<Verdict, Stop<'a>>

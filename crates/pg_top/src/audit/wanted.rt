@@ -18,7 +18,7 @@ use std::alloc::{AllocError, Global};
 
 /// A given file, and the text that it should be.
 #[derive(Drop)]
-pub struct Wanted<'a> {
+pub struct WantedFile<'a> {
     /// Which file it is.
     pub given: Given,
     /// The name of the file.
@@ -29,7 +29,7 @@ pub struct Wanted<'a> {
 
 /// Adds the text that a given file should be.
 fn push_wanted<'a>(
-    wanted: &mut Vec<Wanted<'a>>,
+    wanted: &mut Vec<WantedFile<'a>>,
     given: Given,
     name: &'a str,
     text: Vec<u8>,
@@ -37,14 +37,14 @@ fn push_wanted<'a>(
     ensures { OnOk result (wanted_files wanted.new.items
         ≡ wanted_files wanted.old.items ++ reading_of given name.now text.items ∷ []) }
 {
-    wanted.push(Wanted { given, name, text })?;
+    wanted.push(WantedFile { given, name, text })?;
     Ok(())
 }
 
 /// Adds the hyphenated list by the patterns of an engine, where it is asked for.
 fn push_pattmp<'a, E: Engine>(
     alloc: Global,
-    wanted: &mut Vec<Wanted<'a>>,
+    wanted: &mut Vec<WantedFile<'a>>,
     name: Option<&'a str>,
     engine: &E,
     inputs: &Inputs,
@@ -67,7 +67,7 @@ fn push_pattmp<'a, E: Engine>(
 /// over an engine.
 fn push_all<'a, E: Engine>(
     alloc: Global,
-    wanted: &mut Vec<Wanted<'a>>,
+    wanted: &mut Vec<WantedFile<'a>>,
     names: &Names<'a>,
     inputs: &Inputs,
     engine: &E,
@@ -94,7 +94,7 @@ pub fn make_wanted<'a, W: Watch>(
     names: &Names<'a>,
     inputs: &Inputs,
     watch: &W,
-) -> Result<Vec<Wanted<'a>>, AllocError>
+) -> Result<Vec<WantedFile<'a>>, AllocError>
     requires { HasSigns inputs.now }
     ensures { IfOk result (λ wanted.
         wanted_files wanted.items ≡ given_files (λ _. inputs.now) (texts_of names.now)) }
@@ -114,7 +114,7 @@ fn run_wanted<'a, E: Engine>(
     names: &Names<'a>,
     inputs: &Inputs,
     engine: &mut E,
-) -> Result<Vec<Wanted<'a>>, AllocError>
+) -> Result<Vec<WantedFile<'a>>, AllocError>
     requires new { IsNew inputs.now (E.meaning engine.old) }
     requires signs { HasSigns inputs.now }
     ensures { IfOk result (λ wanted.

@@ -24,11 +24,11 @@ use std::alloc::{AllocError, Global};
 
 /// Tells an observer of a call where a round begins.
 #[derive(Drop)]
-struct Told<'a, W> {
+struct RoundTeller<'a, W> {
     watch: &'a W,
 }
 
-impl<'a, W: Watch> RoundObserver for Told<'a, W> {
+impl<'a, W: Watch> RoundObserver for RoundTeller<'a, W> {
     fn begins(&self, round: u64) {
         self.watch.round(round);
     }
@@ -140,7 +140,7 @@ pub fn make_prune<'a, W: Watch>(
         &inputs.dictionary,
         &inputs.table,
         &inputs.patterns,
-        &Told { watch },
+        &RoundTeller { watch },
     )?;
     write_pruned(alloc, output, report, &inputs.table, &pruned)
 }

@@ -12,7 +12,7 @@ use std::cell::Cell;
 /// Makes packed engines that are watched. It is asked for one for each set of parameters and fold,
 /// set by set.
 #[derive(Drop)]
-pub struct Packed<'a, W> {
+pub struct WatchedMaker<'a, W> {
     sets: &'a [Params],
     /// The first of the sets.
     first: &'a Params,
@@ -22,12 +22,12 @@ pub struct Packed<'a, W> {
     watch: &'a W,
 }
 
-impl<'a, W: Watch> Packed<'a, W> {
+impl<'a, W: Watch> WatchedMaker<'a, W> {
     /// None was asked for so far. There is a set.
-    pub fn new(sets: &'a [Params], folds: u8, watch: &'a W) -> Packed<'a, W>
+    pub fn new(sets: &'a [Params], folds: u8, watch: &'a W) -> WatchedMaker<'a, W>
         requires { 1 ≤ length sets.now }
     {
-        Packed {
+        WatchedMaker {
             sets,
             first: &sets[0],
             folds,
@@ -58,7 +58,7 @@ impl<'a, W: Watch> Packed<'a, W> {
     }
 }
 
-impl<'a, W: Watch> Maker for Packed<'a, W> {
+impl<'a, W: Watch> Maker for WatchedMaker<'a, W> {
     type Made = Watched<'a, PackedEngine, W>;
 
     fn make(

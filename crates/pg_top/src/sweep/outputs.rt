@@ -10,7 +10,7 @@ ghost use Rattle.pg_top.specs.sweep.Inside.Inputs.{terms_of, HasSigns, line_of_s
 ghost use Rattle.pg_top.specs.Inside.writing.WritesMade.{written_names, writing_of};
 ghost use Rattle.pg_top.specs.declared.answers.Status.TheVariants.{Done};
 
-use crate::sweep::engines::Packed;
+use crate::sweep::engines::WatchedMaker;
 use crate::sweep::inputs::SweepInputs;
 use crate::writes::{Outputs, push_file};
 use pg_sweep::{Sweep, sweep, sweep_text};
@@ -75,7 +75,7 @@ pub fn make_sweep<'a, W: Watch>(
     ensures named { IfOk result (λ made.
         written_names (writing_of made.files.items) ≡ words.now.output.now ∷ []) }
 {
-    let maker = Packed::new(&inputs.sets, words.folds, watch);
+    let maker = WatchedMaker::new(&inputs.sets, words.folds, watch);
     let found = sweep(
         alloc,
         &maker,

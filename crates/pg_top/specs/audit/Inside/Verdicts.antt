@@ -12,7 +12,7 @@ use Rattle.pg_top.specs.declared.answers.Status.{Status}
 use Rattle.pg_top.specs.declared.answers.Status.TheVariants.{Yes, No}
 use Rattle.pg_top.specs.declared.audit.compare.Verdict.{Verdict}
 use Rattle.pg_top.specs.declared.audit.compare.Verdict.TheVariants.{Equal, False}
-use Rattle.pg_top.specs.declared.audit.wanted.Wanted.{Wanted}
+use Rattle.pg_top.specs.declared.audit.wanted.WantedFile.{WantedFile}
 use Rattle.pg_top.specs.declared.inputs.Given.{Given}
 
 -- where `audit` finds all given files right
@@ -25,11 +25,11 @@ reading_of given name text =
     record { name = name; ends = λ files bytes. option_map (denies given) (first_false bytes text) }
 
 -- a given file as it is read and compared with its text
-abbrev pub wanted_file : Wanted → Reading
+abbrev pub wanted_file : WantedFile → Reading
 wanted_file w = reading_of w.given w.name.now w.text.items
 
 -- given files in their order, as they are read and compared
-abbrev pub wanted_files : List Wanted → List Reading
+abbrev pub wanted_files : List WantedFile → List Reading
 wanted_files ws = map wanted_file ws
 
 -- the outcome where a line is false, and none where all lines are right
