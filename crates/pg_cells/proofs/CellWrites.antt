@@ -12,9 +12,9 @@ use Rattle.pg_cells.proofs.WordLaws.{sign_even, sign_odd, odd_word, value_odd, v
 use Rattle.pg_cells.specs.Inside.store.Lists.{lists, without_links, unlink_at, sign_seen, base_seen, link_seen, child_seen, member_seen, before_seen, sign_in, next_in, first_in, base_in, link_in, FitsCell, sign_at, child_at, base_at, before_at, after_at, IsFree, with_before, with_after, with_child, with_value, with_base, with_taken, with_free}
 
 -- a value without its links loses none
-lone_seen : {V : Type 0} (b : Bool) (v : V) (m : Member V) → m.value ≡ v → without_links v ≡ without_links (cond b (without_links v) m).value
-lone_seen true v m e = refl
-lone_seen false v m e = ap without_links (sym e)
+without_links_seen : {V : Type 0} (b : Bool) (v : V) (m : Member V) → m.value ≡ v → without_links v ≡ without_links (cond b (without_links v) m).value
+without_links_seen true v m e = refl
+without_links_seen false v m e = ap without_links (sym e)
 
 -- what is seen of a free cell, and of a taken one
 module _ {V : Type 0} (c : Cell V) where
@@ -202,7 +202,7 @@ member_bared : {V : Type 0} (cells : List (Cell V)) (i : ℕ) (d : Cell V) (befo
 member_bared [] i d before links = refl
 member_bared (c ∷ cs) zero d before links = ap (λ m. m ∷ map member_seen cs) (
     free_member (record c { signs = before * 2; links = links }) (sign_even before)
-    ∙ lone_seen (nat_eq (sign_seen c) 0) c.value (record { value = c.value; next = next_in c.signs; first = first_in c.signs c.links }) refl)
+    ∙ without_links_seen (nat_eq (sign_seen c) 0) c.value (record { value = c.value; next = next_in c.signs; first = first_in c.signs c.links }) refl)
 member_bared (c ∷ cs) (suc i) d before links = ap (λ ms. member_seen c ∷ ms) (member_bared cs i d before links)
 
 module _ {V : Type 0} (cells : List (Cell V)) (i : ℕ) (d : Cell V) where

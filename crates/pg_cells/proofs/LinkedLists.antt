@@ -154,14 +154,14 @@ linked_push cells new c e sign before link old =
 set_push : {A : Type 0} (xs : List A) (x y : A) (i : ℕ) → length xs ≡ i → set (xs ++ x ∷ []) i y ≡ xs ++ y ∷ []
 set_push xs x y i e = set_at xs x [] y i e
 
-bared_push : {V : Type 0} (ms : List (Member V)) (m : Member V) (i : ℕ) → length ms ≡ i → unlink_at (ms ++ m ∷ []) i ≡ ms ++ without_links m.value ∷ []
-bared_push [] m zero e = refl
-bared_push [] m (suc i) e = absurd (omega (arith, e))
-bared_push (x ∷ ms) m zero e = absurd (omega (arith, e))
-bared_push (x ∷ ms) m (suc i) e = ap (λ l. x ∷ l) (bared_push ms m i (omega (arith, e)))
+unlink_push : {V : Type 0} (ms : List (Member V)) (m : Member V) (i : ℕ) → length ms ≡ i → unlink_at (ms ++ m ∷ []) i ≡ ms ++ without_links m.value ∷ []
+unlink_push [] m zero e = refl
+unlink_push [] m (suc i) e = absurd (omega (arith, e))
+unlink_push (x ∷ ms) m zero e = absurd (omega (arith, e))
+unlink_push (x ∷ ms) m (suc i) e = ap (λ l. x ∷ l) (unlink_push ms m i (omega (arith, e)))
 
-lone_member : {V : Type 0} (c : Cell V) → without_links (member_seen c).value ≡ without_links c.value
-lone_member c = cases (nat_eq (sign_seen c) 0)
+member_without_links : {V : Type 0} (c : Cell V) → without_links (member_seen c).value ≡ without_links c.value
+member_without_links c = cases (nat_eq (sign_seen c) 0)
   where
     cases : (b : Bool) → without_links (cond b (without_links c.value) (record { value = c.value; next = next_in c.signs; first = first_in c.signs c.links })).value ≡ without_links c.value
     cases true = refl
@@ -175,8 +175,8 @@ row_push {V = V} cells new c r e sign link base freed =
     freed ∙ ap (λ l. with_free (row_of l) (length l - 1)) e ∙ ap (with_free (row_of (cells ++ c ∷ []))) n ∙ (λ t. record {
       signs = (ap (λ l. set l (length cells) 0) (map_push sign_seen cells c) ∙ set_push (map sign_seen cells) (sign_seen c) 0 (length cells) (length-map cells sign_seen)) t;
       children = (ap (λ l. set l (length cells) 0) (map_push child_seen cells c) ∙ set_push (map child_seen cells) (child_seen c) 0 (length cells) (length-map cells child_seen)) t;
-      values = (ap (λ l. unlink_at l (length cells)) (map_push member_seen cells c) ∙ bared_push (map member_seen cells) (member_seen c) (length cells) (length-map cells member_seen)
-          ∙ ap (λ m. map member_seen cells ++ m ∷ []) (lone_member c)) t;
+      values = (ap (λ l. unlink_at l (length cells)) (map_push member_seen cells c) ∙ unlink_push (map member_seen cells) (member_seen c) (length cells) (length-map cells member_seen)
+          ∙ ap (λ m. map member_seen cells ++ m ∷ []) (member_without_links c)) t;
       bases = (map_push base_seen cells c ∙ ap (λ b. map base_seen cells ++ b ∷ []) base) t;
     })
 
