@@ -38,7 +38,7 @@ impl Draws {
 }
 
 /// Appends the end of a syllable, a consonant or nothing.
-#[tactic(auto, unfolding(crate::specs::sample::Sampled::ending))]
+#[tactic(auto, unfolding(crate::specs::sample::SampleRule::ending))]
 fn push_ending(text: &mut Vec<u8>, draws: &mut Draws) -> Result<(), AllocError>
     ensures text { OnOk result
         (text.new.items ≡ text.old.items ++ (ending (next_state draws.old.state)).text) }
@@ -51,7 +51,7 @@ fn push_ending(text: &mut Vec<u8>, draws: &mut Draws) -> Result<(), AllocError>
 }
 
 /// Appends a syllable.
-#[tactic(auto, unfolding(crate::specs::sample::Sampled::syllable))]
+#[tactic(auto, unfolding(crate::specs::sample::SampleRule::syllable))]
 fn push_syllable(text: &mut Vec<u8>, draws: &mut Draws) -> Result<(), AllocError>
     ensures text { OnOk result
         (text.new.items ≡ text.old.items ++ (syllable_of draws.old.state).text) }
@@ -77,7 +77,7 @@ fn push_further(text: &mut Vec<u8>, draws: &mut Draws, count: u32) -> Result<(),
 }
 
 /// Appends a word.
-#[tactic(auto, unfolding(crate::specs::sample::Sampled::word))]
+#[tactic(auto, unfolding(crate::specs::sample::SampleRule::word))]
 fn push_word(text: &mut Vec<u8>, draws: &mut Draws) -> Result<(), AllocError>
     ensures text { OnOk result
         (text.new.items ≡ text.old.items ++ (word_of_state draws.old.state).text) }
