@@ -2,10 +2,10 @@
 use Rattle.std.specs.Prelude.{◌≡◌, ℕ, List, String}
 use Rattle.std.specs.declared.alloc.Global.{Global}
 use Rattle.pg_words.specs.Commands.{request_of_call}
-use Rattle.pg_top.specs.Moments.{Moment}
-use Rattle.pg_top.specs.Statuses.{code_of}
+use Rattle.pg_steps.specs.Moments.{Moment}
+use Rattle.pg_steps.specs.Statuses.{code_of}
 use Rattle.pg_top.specs.WholeCalls.{IsRun}
-use Rattle.pg_top.specs.declared.answers.Status.{Status}
+use Rattle.pg_steps.specs.declared.answers.Status.{Status}
 use Rattle.pg_main.specs.Given.{code_of_none}
 use Rattle.pg_main.specs.declared.NoWords.{NoWords}
 

@@ -4,26 +4,26 @@ use Rattle.std.specs.Prelude.{ℕ, Result, Ok, Err, ◌⊎◌}
 use Rattle.pg_outside.specs.Content.{FileMap, FilesShown, SinkShown, WasPut, WasPartPut, file_at}
 use Rattle.pg_top.specs.Answers.{IsCall}
 use Rattle.pg_top.specs.CommandRules.{rule_of, usage_rule}
-use Rattle.pg_top.specs.FileCalls.{MakesPuts, IsCountedCall}
-use Rattle.pg_top.specs.Inside.ends.Built.{KeepsPromise, IsMade, Builds, EndsBuilt}
-use Rattle.pg_top.specs.Inside.writing.PutCounts.{LinesCounted}
-use Rattle.pg_top.specs.Inside.ends.Stops.{StopsCommand, PutsAnswer, PutsLines}
-use Rattle.pg_top.specs.Inside.writing.WritesMade.{writing_of}
-use Rattle.pg_top.specs.Moments.{OfFiles}
-use Rattle.pg_top.specs.Outcomes.{IsKnown}
+use Rattle.pg_steps.specs.FileCalls.{MakesPuts, IsCountedCall}
+use Rattle.pg_steps.specs.Inside.ends.Built.{KeepsPromise, IsMade, Builds, EndsBuilt}
+use Rattle.pg_steps.specs.Inside.writing.PutCounts.{LinesCounted}
+use Rattle.pg_steps.specs.Inside.ends.Stops.{StopsCommand, PutsAnswer, PutsLines}
+use Rattle.pg_steps.specs.Inside.writing.WritesMade.{writing_of}
+use Rattle.pg_steps.specs.Moments.{OfFiles}
+use Rattle.pg_steps.specs.Outcomes.{IsKnown}
 use Rattle.pg_top.specs.PrintedLines.{usage_line}
-use Rattle.pg_top.specs.Rules.{CommandRule, outcome_of}
+use Rattle.pg_steps.specs.Rules.{CommandRule, outcome_of}
 use Rattle.pg_top.specs.WholeCalls.{IsRun}
-use Rattle.pg_top.specs.Writings.{after_all}
+use Rattle.pg_steps.specs.Writings.{after_all}
 use Rattle.pg_top.specs.audit.AuditRule.{audit_rule}
 use Rattle.pg_top.specs.sample.SampleRule.{sample_lines, sample_rule}
-use Rattle.pg_top.specs.declared.answers.Status.{Status}
-use Rattle.pg_top.specs.declared.answers.Status.TheVariants.{Done, Usage, Refused, Fault, Memory}
-use Rattle.pg_top.specs.declared.inputs.Stop.{Stop}
-use Rattle.pg_top.specs.declared.writes.Outputs.{Outputs}
+use Rattle.pg_steps.specs.declared.answers.Status.{Status}
+use Rattle.pg_steps.specs.declared.answers.Status.TheVariants.{Done, Usage, Refused, Fault, Memory}
+use Rattle.pg_steps.specs.declared.inputs.Stop.{Stop}
+use Rattle.pg_steps.specs.declared.writes.Outputs.{Outputs}
 use Rattle.pg_words.specs.Requests.{FileNames, Request, ToAudit, ToSample}
 use Rattle.pg_top.proofs.Calls.{IsEnd, finished_call, stopped_command, usage_call, sample_call}
-use Rattle.pg_top.proofs.CountedCalls.{no_calls}
+use Rattle.pg_steps.proofs.CountedCalls.{no_calls}
 use Rattle.pg_top.proofs.CountedEnds.{counted_finish, counted_line, counted_stop}
 use Rattle.pg_top.proofs.Promised.{promised, stop_not_done}
 

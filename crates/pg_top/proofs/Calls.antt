@@ -8,30 +8,31 @@ use Rattle.pg_outside.specs.Content.{FileMap, FilesShown, SinkShown, KeepsHeld, 
 use Rattle.pg_outside.specs.Inside.NameFaults.{NoneFell}
 use Rattle.pg_top.specs.Answers.{IsCall}
 use Rattle.pg_top.specs.CommandRules.{usage_rule}
-use Rattle.pg_top.specs.FileCalls.{MakesCalls, MakesPuts, read_calls, PutsFault, ReadsUpTo, EndsAt, IsEndCounted}
-use Rattle.pg_top.specs.Inside.reading.ReadCalls.{write_calls}
-use Rattle.pg_top.specs.Inside.writing.PutCounts.{PutsCounted, LinesCounted}
-use Rattle.pg_top.specs.Moments.{Moment, PutOrRose}
-use Rattle.pg_top.specs.Inside.writing.Puts.{Puts, PutsPart, PutRose}
-use Rattle.pg_top.specs.Outcomes.{Outcome, Ends, Writing, IsKnown}
-use Rattle.pg_top.specs.Inside.ends.Refusing.{refuses}
-use Rattle.pg_top.specs.PrintedLines.{usage_line, refused_line}
-use Rattle.pg_top.specs.Inside.writing.FaultLines.{reading_line, writing_line}
-use Rattle.pg_top.specs.Readings.{first_end}
+use Rattle.pg_steps.specs.FileCalls.{MakesCalls, MakesPuts, read_calls, PutsFault, ReadsUpTo, EndsAt, IsEndCounted}
+use Rattle.pg_steps.specs.Inside.reading.ReadCalls.{write_calls}
+use Rattle.pg_steps.specs.Inside.writing.PutCounts.{PutsCounted, LinesCounted}
+use Rattle.pg_steps.specs.Moments.{Moment, PutOrRose}
+use Rattle.pg_steps.specs.Inside.writing.Puts.{Puts, PutsPart, PutRose}
+use Rattle.pg_steps.specs.Outcomes.{Outcome, Ends, Writing, IsKnown}
+use Rattle.pg_steps.specs.Inside.ends.Refusing.{refuses}
+use Rattle.pg_top.specs.PrintedLines.{usage_line}
+use Rattle.pg_steps.specs.RefusedLines.{refused_line}
+use Rattle.pg_steps.specs.Inside.writing.FaultLines.{reading_line, writing_line}
+use Rattle.pg_steps.specs.Readings.{first_end}
 use Rattle.pg_top.specs.sample.SampleRule.{sample_rule, sample_lines}
-use Rattle.pg_top.specs.Inside.ends.Stops.{ReadRose, ReadRoseAt, StopsWith, StopsReading, StopsCommandWith, StopsCommand, PutsAnswer, PutsLines, PutsStop, Finishes}
-use Rattle.pg_top.specs.Writings.{after_all, IsPartWritten}
-use Rattle.pg_top.specs.Inside.writing.WritesMade.{written_names, WroteAll, StoppedAt}
-use Rattle.pg_top.specs.declared.answers.Status.{Status}
-use Rattle.pg_top.specs.declared.answers.Status.TheVariants.{Done, Usage, Refused, Fault, Memory}
-use Rattle.pg_top.specs.declared.inputs.Input.{Input}
-use Rattle.pg_top.specs.declared.inputs.Stop.{Stop}
-use Rattle.pg_top.specs.declared.inputs.Stop.TheVariants as stop
-use Rattle.pg_top.proofs.CountedCalls.{no_calls, calls_on, calls_are}
+use Rattle.pg_steps.specs.Inside.ends.Stops.{ReadRose, ReadRoseAt, StopsWith, StopsReading, StopsCommandWith, StopsCommand, PutsAnswer, PutsLines, PutsStop, Finishes}
+use Rattle.pg_steps.specs.Writings.{after_all, IsPartWritten}
+use Rattle.pg_steps.specs.Inside.writing.WritesMade.{written_names, WroteAll, StoppedAt}
+use Rattle.pg_steps.specs.declared.answers.Status.{Status}
+use Rattle.pg_steps.specs.declared.answers.Status.TheVariants.{Done, Usage, Refused, Fault, Memory}
+use Rattle.pg_steps.specs.declared.inputs.Input.{Input}
+use Rattle.pg_steps.specs.declared.inputs.Stop.{Stop}
+use Rattle.pg_steps.specs.declared.inputs.Stop.TheVariants as stop
+use Rattle.pg_steps.proofs.CountedCalls.{no_calls, calls_on, calls_are}
 use Rattle.pg_top.proofs.CountedEnds.{refused_counted, whole_calls}
-use Rattle.pg_top.proofs.Faults.{rose_since}
-use Rattle.pg_top.proofs.Orders.{mapped, end_of_all}
-use Rattle.pg_top.specs.Rules.{CommandRule, outcome_of}
+use Rattle.pg_steps.proofs.Faults.{rose_since}
+use Rattle.pg_steps.proofs.Orders.{mapped, end_of_all}
+use Rattle.pg_steps.specs.Rules.{CommandRule, outcome_of}
 
 -- an outcome was done by an answer: whole, up to its lines, and up to a write
 abbrev DoesAll : Moment → Moment → Status → FileMap → FileMap → Outcome → Type 0

@@ -6,12 +6,12 @@ use Rattle.pg_outside.specs.Content.{FileMap, WasPut, file_at}
 use Rattle.pg_top.specs.Answers.{IsCall}
 use Rattle.pg_top.specs.Faults.{IsReadFault, IsWriteFault, IsPutFault}
 use Rattle.pg_top.specs.Inside.ends.Completeness.{SomeRose, IsComplete}
-use Rattle.pg_top.specs.Moments.{Moment, OfFiles}
-use Rattle.pg_top.specs.Outcomes.{Outcome, Unknown, Ends, IsKnown}
-use Rattle.pg_top.specs.Rules.{CommandRule, outcome_of}
-use Rattle.pg_top.specs.Writings.{after_all}
-use Rattle.pg_top.specs.declared.answers.Status.{Status}
-use Rattle.pg_top.specs.declared.answers.Status.TheVariants.{Fault, Memory}
+use Rattle.pg_steps.specs.Moments.{Moment, OfFiles}
+use Rattle.pg_steps.specs.Outcomes.{Outcome, Unknown, Ends, IsKnown}
+use Rattle.pg_steps.specs.Rules.{CommandRule, outcome_of}
+use Rattle.pg_steps.specs.Writings.{after_all}
+use Rattle.pg_steps.specs.declared.answers.Status.{Status}
+use Rattle.pg_steps.specs.declared.answers.Status.TheVariants.{Fault, Memory}
 
 module _ (rule : CommandRule) where
   -- where a fault stands as it is said to, a count rose

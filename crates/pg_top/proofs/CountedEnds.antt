@@ -2,21 +2,21 @@
 use Rattle.std.proofs.Common.{◌≡◌, ℕ, List, ◌++◌, inl, inr, sym, subst, ap}
 use Rattle.pg_types.specs.declared.refusals.Refusal.{Refusal}
 use Rattle.pg_outside.specs.Content.{FilesShown, SinkShown, file_at}
-use Rattle.pg_top.specs.FileCalls.{MakesCalls, MakesPuts, read_calls, EndsAt, IsEndedCounted, IsCountedCall}
-use Rattle.pg_top.specs.Inside.reading.ReadCalls.{write_calls}
-use Rattle.pg_top.specs.Inside.writing.PutCounts.{PutsCounted}
-use Rattle.pg_top.specs.Outcomes.{Writing}
-use Rattle.pg_top.specs.Inside.ends.Refusing.{refuses}
-use Rattle.pg_top.specs.Inside.ends.Stops.{StopsCommand, PutsAnswer, Finishes}
-use Rattle.pg_top.specs.Inside.writing.WritesMade.{written_names}
-use Rattle.pg_top.specs.declared.answers.Status.{Status}
-use Rattle.pg_top.specs.declared.answers.Status.TheVariants.{Done, Refused, Fault, Memory}
-use Rattle.pg_top.specs.declared.inputs.Input.{Input}
-use Rattle.pg_top.specs.declared.inputs.Stop.{Stop}
-use Rattle.pg_top.specs.declared.inputs.Stop.TheVariants as stop
-use Rattle.pg_top.proofs.CountedCalls.{calls_on, calls_are}
-use Rattle.pg_top.proofs.Orders.{mapped}
-use Rattle.pg_top.specs.Rules.{CommandRule, outcome_of}
+use Rattle.pg_steps.specs.FileCalls.{MakesCalls, MakesPuts, read_calls, EndsAt, IsEndedCounted, IsCountedCall}
+use Rattle.pg_steps.specs.Inside.reading.ReadCalls.{write_calls}
+use Rattle.pg_steps.specs.Inside.writing.PutCounts.{PutsCounted}
+use Rattle.pg_steps.specs.Outcomes.{Writing}
+use Rattle.pg_steps.specs.Inside.ends.Refusing.{refuses}
+use Rattle.pg_steps.specs.Inside.ends.Stops.{StopsCommand, PutsAnswer, Finishes}
+use Rattle.pg_steps.specs.Inside.writing.WritesMade.{written_names}
+use Rattle.pg_steps.specs.declared.answers.Status.{Status}
+use Rattle.pg_steps.specs.declared.answers.Status.TheVariants.{Done, Refused, Fault, Memory}
+use Rattle.pg_steps.specs.declared.inputs.Input.{Input}
+use Rattle.pg_steps.specs.declared.inputs.Stop.{Stop}
+use Rattle.pg_steps.specs.declared.inputs.Stop.TheVariants as stop
+use Rattle.pg_steps.proofs.CountedCalls.{calls_on, calls_are}
+use Rattle.pg_steps.proofs.Orders.{mapped}
+use Rattle.pg_steps.specs.Rules.{CommandRule, outcome_of}
 
 -- a line was put, or could not be
 pub counted_line : (rule : CommandRule) (wanted : Status) (line : List ℕ) (s0 s1 : FilesShown) (o0 o1 : SinkShown) (answer : Status)

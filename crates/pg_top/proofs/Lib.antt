@@ -1,17 +1,7 @@
-pub mod Results
 pub mod ReadsStopped
-pub mod Parts
 pub mod PrintedPieces
-pub mod Fronts
 pub mod Selections
-pub mod Faults
-pub mod Writings
-pub mod Orders
-pub mod CountedCalls
-pub mod CountedPuts
 pub mod CountedEnds
-pub mod UnderTable
-pub mod ListOrder
 pub mod Calls
 pub mod Promised
 pub mod Built

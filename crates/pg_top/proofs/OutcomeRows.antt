@@ -8,21 +8,21 @@ use Rattle.pg_types.specs.declared.refusals.Kind.TheVariants.{OutOfRange, Parame
 use Rattle.pg_table.specs.Forms.{is_well_formed}
 use Rattle.pg_table.specs.Numbers.{u16_at, u32_at, u16_bytes, u32_bytes}
 use Rattle.pg_table.specs.Texts.{table_text}
-use Rattle.pg_top.specs.Rules.{outcome_of}
+use Rattle.pg_steps.specs.Rules.{outcome_of}
 use Rattle.pg_top.specs.audit.AuditRule.{audit_rule}
 use Rattle.pg_top.specs.generate.GenerateRule.{generate_rule}
 use Rattle.pg_top.specs.pack.PackRule.{pack_rule}
 use Rattle.pg_top.specs.sweep.SweepRule.{sweep_rule}
 use Rattle.pg_top.specs.totals.TotalsRule.{totals_rule}
-use Rattle.pg_top.specs.Outcomes.{Ends, Unknown}
-use Rattle.pg_top.specs.PrintedLines.{refused_line}
-use Rattle.pg_top.specs.Inside.writing.FaultLines.{reading_line}
-use Rattle.pg_top.specs.Readings.{HeldFiles}
+use Rattle.pg_steps.specs.Outcomes.{Ends, Unknown}
+use Rattle.pg_steps.specs.RefusedLines.{refused_line}
+use Rattle.pg_steps.specs.Inside.writing.FaultLines.{reading_line}
+use Rattle.pg_steps.specs.Readings.{HeldFiles}
 use Rattle.pg_words.specs.Requests.{FileNames, PackRequest, TotalsRequest, SweepRequest, ToGenerate, ToAudit, ToSample, ToPack, ToTotals, ToSweep, request_of}
 use Rattle.pg_top.specs.sample.SampleRule.{ending, syllable, word, sample_text}
 use Rattle.pg_top.specs.Selection.{selection, selected_patterns, selected_totals, selected_text, selected_list, selected_cells_text, selected_report}
-use Rattle.pg_top.specs.declared.answers.Status.TheVariants.{Done, Yes, No, Refused}
-use Rattle.pg_top.specs.declared.inputs.Input.TheVariants as input
+use Rattle.pg_steps.specs.declared.answers.Status.TheVariants.{Done, Yes, No, Refused}
+use Rattle.pg_steps.specs.declared.inputs.Input.TheVariants as input
 
 names : FileNames
 names = record { dict = codes "D"; patterns = codes "P"; output = codes "O"; translate = codes "T"; params = codes "A"; report = codes "R"; pattmp = None; cells = None }

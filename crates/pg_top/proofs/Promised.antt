@@ -5,14 +5,14 @@ use Rattle.pg_table.specs.Inside.Laws.{HasEntries}
 use Rattle.pg_table.proofs.laws.PackedValues.{values_are_packed, totals_are_packed}
 use Rattle.pg_patterns.specs.Inside.PatternMaps.{IsPatternMap}
 use Rattle.pg_select.specs.Windows.{Patterns}
-use Rattle.pg_top.specs.Moments.{OfFiles}
-use Rattle.pg_top.specs.Outcomes.{Writing}
-use Rattle.pg_top.specs.Inside.ends.Stops.{PutsStop, Finishes}
-use Rattle.pg_top.specs.Writings.{after_all}
-use Rattle.pg_top.specs.declared.answers.Status.{Status}
-use Rattle.pg_top.specs.declared.answers.Status.TheVariants.{Done}
-use Rattle.pg_top.specs.declared.inputs.Stop.{Stop}
-use Rattle.pg_top.specs.declared.inputs.Stop.TheVariants as stop
+use Rattle.pg_steps.specs.Moments.{OfFiles}
+use Rattle.pg_steps.specs.Outcomes.{Writing}
+use Rattle.pg_steps.specs.Inside.ends.Stops.{PutsStop, Finishes}
+use Rattle.pg_steps.specs.Writings.{after_all}
+use Rattle.pg_steps.specs.declared.answers.Status.{Status}
+use Rattle.pg_steps.specs.declared.answers.Status.TheVariants.{Done}
+use Rattle.pg_steps.specs.declared.inputs.Stop.{Stop}
+use Rattle.pg_steps.specs.declared.inputs.Stop.TheVariants as stop
 use Rattle.pg_top.specs.pack.PackRule.{GivesValues}
 
 -- a command that stopped is not done

@@ -2,14 +2,14 @@
 use Rattle.std.proofs.Common.{◌≡◌, List, Result}
 use Rattle.std.specs.Result.{IsErrAnd}
 use Rattle.pg_outside.specs.Content.{FilesShown}
-use Rattle.pg_top.specs.Readings.{HeldFiles, Reading}
-use Rattle.pg_top.specs.Inside.ends.Built.{Builds}
-use Rattle.pg_top.specs.Inside.reading.ReadsMade.{ReadsFiles}
-use Rattle.pg_top.specs.Inside.ends.Stops.{OnlyReads, StopsCommand, StopsReading}
-use Rattle.pg_top.specs.declared.inputs.Stop.{Stop}
-use Rattle.pg_top.specs.declared.writes.Outputs.{Outputs}
-use Rattle.pg_top.proofs.Results.{no_value, that_error}
-use Rattle.pg_top.specs.Rules.{CommandRule}
+use Rattle.pg_steps.specs.Readings.{HeldFiles, Reading}
+use Rattle.pg_steps.specs.Inside.ends.Built.{Builds}
+use Rattle.pg_steps.specs.Inside.reading.ReadsMade.{ReadsFiles}
+use Rattle.pg_steps.specs.Inside.ends.Stops.{OnlyReads, StopsCommand, StopsReading}
+use Rattle.pg_steps.specs.declared.inputs.Stop.{Stop}
+use Rattle.pg_steps.specs.declared.writes.Outputs.{Outputs}
+use Rattle.pg_steps.proofs.Results.{no_value, that_error}
+use Rattle.pg_steps.specs.Rules.{CommandRule}
 
 -- files that were read up to one that stopped it
 pub files_stopped : {Y : Type 0} (reads : List Reading) (old new : FilesShown) (r : Result Y Stop) (Has : HeldFiles → Y → Type 0) (stop : Stop)

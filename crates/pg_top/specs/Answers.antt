@@ -2,12 +2,12 @@
 use Rattle.std.specs.Prelude.{◌≡◌, [], Contains, ◌⊎◌}
 use Rattle.pg_outside.specs.Content.{KeepsHeld, WasPut, file_at}
 use Rattle.pg_top.specs.Faults.{IsReadFault, IsWriteFault, IsPutFault}
-use Rattle.pg_top.specs.Moments.{Moment, OfFiles}
-use Rattle.pg_top.specs.Outcomes.{IsKnown}
-use Rattle.pg_top.specs.Rules.{CommandRule, outcome_of}
-use Rattle.pg_top.specs.Writings.{after_all}
-use Rattle.pg_top.specs.declared.answers.Status.{Status}
-use Rattle.pg_top.specs.declared.answers.Status.TheVariants.{Fault, Memory}
+use Rattle.pg_steps.specs.Moments.{Moment, OfFiles}
+use Rattle.pg_steps.specs.Outcomes.{IsKnown}
+use Rattle.pg_steps.specs.Rules.{CommandRule, outcome_of}
+use Rattle.pg_steps.specs.Writings.{after_all}
+use Rattle.pg_steps.specs.declared.answers.Status.{Status}
+use Rattle.pg_steps.specs.declared.answers.Status.TheVariants.{Fault, Memory}
 
 -- all that is said of the answer of a call by this rule
 pub record IsCall (rule : CommandRule) (status : Status) (old new : Moment) : Type 0 where

@@ -1,8 +1,8 @@
 -- The rule of what a call is asked for.
 use Rattle.std.specs.Prelude.{[], ◌∷◌, Option, None, Some}
-use Rattle.pg_top.specs.Outcomes.{Ends}
+use Rattle.pg_steps.specs.Outcomes.{Ends}
 use Rattle.pg_top.specs.PrintedLines.{usage_line}
-use Rattle.pg_top.specs.Rules.{CommandRule, usual_rule}
+use Rattle.pg_steps.specs.Rules.{CommandRule, usual_rule}
 use Rattle.pg_top.specs.audit.AuditRule.{audit_rule}
 use Rattle.pg_top.specs.generate.GenerateRule.{generate_rule}
 use Rattle.pg_top.specs.pack.PackRule.{pack_rule}
@@ -11,7 +11,7 @@ use Rattle.pg_top.specs.sample.SampleRule.{sample_rule}
 use Rattle.pg_top.specs.sweep.SweepRule.{sweep_rule}
 use Rattle.pg_top.specs.totals.TotalsRule.{totals_rule}
 use Rattle.pg_words.specs.Requests.{Request, ToGenerate, ToAudit, ToSample, ToPack, ToTotals, ToPrune, ToSweep}
-use Rattle.pg_top.specs.declared.answers.Status.TheVariants.{Usage}
+use Rattle.pg_steps.specs.declared.answers.Status.TheVariants.{Usage}
 
 -- where words are no command
 abbrev pub usage_rule : CommandRule

@@ -3,13 +3,13 @@ use Rattle.std.specs.Prelude.{◌≡◌, ℕ, ◌+◌, ◌++◌, List, Some, sli
 use Rattle.pg_outside.specs.Content.{KeepsHeld, WasPartPut, file_at}
 use Rattle.pg_outside.specs.Faults.{Rose}
 use Rattle.pg_outside.specs.FilesCalls.{Writes}
-use Rattle.pg_top.specs.FileCalls.{MakesCalls, read_calls, ReadsUpTo, PutsFault, IsEndCounted}
-use Rattle.pg_top.specs.Moments.{Moment, OfFiles, PutOrRose}
-use Rattle.pg_top.specs.Outcomes.{IsKnown}
-use Rattle.pg_top.specs.Readings.{Reading}
-use Rattle.pg_top.specs.Rules.{CommandRule, outcome_of}
-use Rattle.pg_top.specs.Writings.{after_all, IsPartWritten}
-use Rattle.pg_top.specs.declared.answers.Status.{Status}
+use Rattle.pg_steps.specs.FileCalls.{MakesCalls, read_calls, ReadsUpTo, PutsFault, IsEndCounted}
+use Rattle.pg_steps.specs.Moments.{Moment, OfFiles, PutOrRose}
+use Rattle.pg_steps.specs.Outcomes.{IsKnown}
+use Rattle.pg_steps.specs.Readings.{Reading}
+use Rattle.pg_steps.specs.Rules.{CommandRule, outcome_of}
+use Rattle.pg_steps.specs.Writings.{after_all, IsPartWritten}
+use Rattle.pg_steps.specs.declared.answers.Status.{Status}
 
 -- a file could not be read: none behind it was, none changed, and the line of the fault was put
 pub record IsReadFault (rule : CommandRule) (old new : Moment) : Type 0 where

@@ -1,5 +1,3 @@
 -- What only contracts between layers and proofs need.
-pub mod reading
-pub mod writing
 pub mod ends
 pub mod selection

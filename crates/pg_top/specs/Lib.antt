@@ -1,8 +1,4 @@
-pub mod Statuses
 pub mod PrintedLines
-pub mod Outcomes
-pub mod Readings
-pub mod Rules
 pub mod Selection
 pub mod generate
 pub mod audit
@@ -12,10 +8,7 @@ pub mod totals
 pub mod prune
 pub mod sweep
 pub mod CommandRules
-pub mod Writings
-pub mod Moments
 pub mod Faults
 pub mod Answers
-pub mod FileCalls
 pub mod WholeCalls
 pub mod Inside

@@ -3,13 +3,13 @@ use Rattle.std.specs.Prelude.{◌≡◌, [], Option, None}
 use Rattle.pg_outside.specs.Content.{WasPut, WasPartPut, file_at}
 use Rattle.pg_top.specs.Answers.{IsCall}
 use Rattle.pg_top.specs.CommandRules.{rule_of}
-use Rattle.pg_top.specs.FileCalls.{IsCountedCall}
-use Rattle.pg_top.specs.Moments.{Moment, OfFiles}
-use Rattle.pg_top.specs.Outcomes.{IsKnown}
-use Rattle.pg_top.specs.Rules.{outcome_of}
+use Rattle.pg_steps.specs.FileCalls.{IsCountedCall}
+use Rattle.pg_steps.specs.Moments.{Moment, OfFiles}
+use Rattle.pg_steps.specs.Outcomes.{IsKnown}
+use Rattle.pg_steps.specs.Rules.{outcome_of}
 use Rattle.pg_words.specs.Requests.{Request}
-use Rattle.pg_top.specs.declared.answers.Status.{Status}
-use Rattle.pg_top.specs.declared.answers.Status.TheVariants.{Done, Fault}
+use Rattle.pg_steps.specs.declared.answers.Status.{Status}
+use Rattle.pg_steps.specs.declared.answers.Status.TheVariants.{Done, Fault}
 
 -- files and a sink were handed to a call that was asked for this, and it gave this answer
 pub record IsRun {F : Type 0} (asked : Option Request) (status : Status)

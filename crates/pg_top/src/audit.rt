@@ -2,25 +2,23 @@
 ghost use Rattle.std.specs.Prelude.{◌≡◌, IfOk, IfErr, IfSome};
 ghost use Rattle.pg_outside.specs.Content.{file_at};
 ghost use Rattle.pg_outside.specs.Faults.{next_count};
-ghost use Rattle.pg_top.specs.Rules.{outcome_of};
+ghost use Rattle.pg_steps.specs.Rules.{outcome_of};
 ghost use Rattle.pg_top.specs.audit.AuditRule.{audit_rule};
 ghost use Rattle.pg_words.specs.Inside.CommandRequests.{texts_of};
-ghost use Rattle.pg_top.specs.Inside.ends.Stops.{OnlyReads, StopsReading};
+ghost use Rattle.pg_steps.specs.Inside.ends.Stops.{OnlyReads, StopsReading};
 ghost use Rattle.pg_top.specs.audit.Inside.Verdicts.{outcome_by, ReadsToFind, PutsVerdict};
 ghost use Rattle.pg_top.specs.Answers.{IsCall};
-ghost use Rattle.pg_top.specs.FileCalls.{IsCountedCall};
+ghost use Rattle.pg_steps.specs.FileCalls.{IsCountedCall};
 
 mod compare;
 mod no_lines;
 mod wanted;
 
-use crate::answers::Status;
 use crate::audit::compare::{Verdict, compare_all};
 use crate::audit::wanted::make_wanted;
 use crate::generate::read_inputs;
-use crate::inputs::Stop;
-use crate::puts::{answer, put_stop};
 use pg_outside::{Files, Sink};
+use pg_steps::{Status, Stop, answer, put_stop};
 use pg_watch::Watch;
 use pg_words::Names;
 use std::alloc::Global;

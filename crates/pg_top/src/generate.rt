@@ -1,16 +1,15 @@
 //! `generate`: the patterns that a selection finds, and what is told of them.
 ghost use Rattle.pg_words.specs.Inside.CommandRequests.{texts_of};
 ghost use Rattle.pg_top.specs.generate.GenerateRule.{generate_rule};
-ghost use Rattle.pg_top.specs.Inside.ends.Built.{Builds};
+ghost use Rattle.pg_steps.specs.Inside.ends.Built.{Builds};
 
 mod inputs;
 mod outputs;
 
-use crate::generate::outputs::make_outputs;
-use crate::inputs::Stop;
-use crate::writes::Outputs;
 pub use inputs::read_inputs;
+use crate::generate::outputs::make_outputs;
 use pg_outside::Files;
+use pg_steps::{Outputs, Stop};
 use pg_watch::Watch;
 use pg_words::Names;
 use std::alloc::Global;

@@ -2,16 +2,15 @@
 ghost use Rattle.pg_words.specs.Inside.CommandRequests.{to_prune};
 ghost use Rattle.std.specs.Prelude.{Some};
 ghost use Rattle.pg_top.specs.CommandRules.{rule_of};
-ghost use Rattle.pg_top.specs.Inside.ends.Built.{Builds};
+ghost use Rattle.pg_steps.specs.Inside.ends.Built.{Builds};
 
 mod inputs;
 mod outputs;
 
-use crate::inputs::Stop;
 use crate::prune::inputs::read_prune;
 use crate::prune::outputs::make_prune;
-use crate::writes::Outputs;
 use pg_outside::Files;
+use pg_steps::{Outputs, Stop};
 use pg_watch::Watch;
 use std::alloc::Global;
 

@@ -4,26 +4,24 @@ ghost use Rattle.pg_words.specs.declared.limits.TheConstants.{SEED_MAX, COUNT_MA
 ghost use Rattle.pg_translate.specs.Alphabets.{letters_of};
 ghost use Rattle.pg_translate.specs.Tables.{default_alphabet};
 ghost use Rattle.pg_dict.specs.Inside.SoundWords.{SignsAtMost};
-ghost use Rattle.pg_top.specs.Inside.writing.PutCounts.{LinesCounted};
+ghost use Rattle.pg_steps.specs.Inside.writing.PutCounts.{LinesCounted};
 ghost use Rattle.pg_top.specs.sample.SampleRule.{is_printed as is_printed_line, sample_inputs, sample_lines as lines_of, sample_parameters};
 ghost use Rattle.pg_top.specs.sample.Inside.Lines.{printed_part, selection_lines};
 ghost use Rattle.pg_top.specs.Inside.selection.SelectionSigns.{HasSigns};
 ghost use Rattle.pg_top.specs.Inside.selection.SelectedRuns.{IsNew, TellsSelection};
-ghost use Rattle.pg_top.specs.Inside.ends.Stops.{PutsLines};
+ghost use Rattle.pg_steps.specs.Inside.ends.Stops.{PutsLines};
 
 mod words;
 
-use crate::answers::Status;
 use crate::printed::done_line;
-use crate::puts::answer;
-use crate::selection::{Inputs, select};
+use crate::selection::{Inputs, pattern_file, report_file, select};
 use pg_dict::Dictionary;
 use pg_driver::Run;
 use pg_outside::Sink;
 use pg_packed::PackedEngine;
 use pg_patterns::PatternSet;
 use pg_select::Engine;
-use pg_texts::report_text;
+use pg_steps::{Status, answer};
 use pg_translate::Table;
 use pg_translate::laws::keeps_rules;
 use pg_types::{Params, ReadingError, next_line, read_params};
@@ -117,12 +115,11 @@ fn push_printed(lines: &mut Vec<u8>, report: &[u8]) -> Result<(), AllocError>
 
 /// The printed lines, after the run.
 fn lines_after(alloc: Global, inputs: &Inputs, run: &Run) -> Result<Vec<u8>, AllocError>
-    requires signs { HasSigns inputs.now }
     requires told { TellsSelection inputs.now run.now }
     ensures { IfOk result (λ lines. lines.items ≡ selection_lines inputs.now) }
 {
-    let patterns = run.patterns().text(alloc, &inputs.table)?;
-    let report = report_text(alloc, inputs.start.largest(), &inputs.params, run)?;
+    let patterns = pattern_file(alloc, inputs, run)?;
+    let report = report_file(alloc, inputs, run)?;
     let done = done_line(alloc, &patterns, &run.totals())?;
     let mut lines = Vec::new(alloc);
     push_printed(&mut lines, &report)?;

@@ -2,19 +2,18 @@
 ghost use Rattle.std.specs.Prelude.{◌≤◌, length};
 ghost use Rattle.pg_words.specs.Inside.CommandRequests.{sweep_of, KeepsSweepLimits};
 ghost use Rattle.pg_top.specs.sweep.SweepRule.{sweep_rule};
-ghost use Rattle.pg_top.specs.Inside.ends.Built.{Builds};
+ghost use Rattle.pg_steps.specs.Inside.ends.Built.{Builds};
 
 mod engines;
 mod inputs;
 mod outputs;
 mod sets;
 
-use crate::inputs::Stop;
 use crate::sweep::inputs::read_sweep;
 use crate::sweep::outputs::make_sweep;
-use crate::writes::Outputs;
 use pg_outside::Files;
 use pg_patterns::PatternSet;
+use pg_steps::{Outputs, Stop};
 use pg_types::Params;
 use pg_watch::Watch;
 use pg_words::SweepWords;

@@ -1,16 +1,14 @@
 //! `totals`: the totals of a dictionary by a packed table.
 ghost use Rattle.std.specs.Prelude.{Some};
 ghost use Rattle.pg_top.specs.CommandRules.{rule_of};
-ghost use Rattle.pg_top.specs.Inside.ends.Built.{Builds};
+ghost use Rattle.pg_steps.specs.Inside.ends.Built.{Builds};
 ghost use Rattle.pg_words.specs.Inside.CommandRequests.{to_totals};
 
 mod table;
 
-use crate::inputs::Stop;
-use crate::reading::{read_dictionary, read_table};
 use crate::totals::table::total_by;
-use crate::writes::Outputs;
 use pg_outside::Files;
+use pg_steps::{Outputs, Stop, read_dictionary, read_table};
 use pg_watch::Watch;
 use std::alloc::Global;
 

@@ -16,34 +16,34 @@ use Rattle.pg_top.specs.Answers.{IsCall}
 use Rattle.pg_top.specs.audit.AuditRule.{audit_rule, denies, given_file, given_files}
 use Rattle.pg_top.specs.audit.Inside.GivenNames.{given_names}
 use Rattle.pg_top.specs.audit.Inside.Verdicts.{yes_line, reading_of, wanted_file, wanted_files, end_of, outcome_by, ReadsToFind, IsFrontOf, PutsVerdict}
-use Rattle.pg_top.specs.FileCalls.{MakesCalls, MakesPuts, read_calls, ReadsUpTo, EndsAt, IsEndedCounted, IsWholeCounted, IsCountedCall}
-use Rattle.pg_top.specs.Inside.reading.ReadCalls.{read_call}
-use Rattle.pg_top.specs.Outcomes.{Outcome, Unknown, Ends}
-use Rattle.pg_top.specs.Inside.ends.Refusing.{refuses}
-use Rattle.pg_top.specs.PrintedLines.{word_of}
-use Rattle.pg_top.specs.Readings.{HeldFiles, Reading, first_end}
+use Rattle.pg_steps.specs.FileCalls.{MakesCalls, MakesPuts, read_calls, ReadsUpTo, EndsAt, IsEndedCounted, IsWholeCounted, IsCountedCall}
+use Rattle.pg_steps.specs.Inside.reading.ReadCalls.{read_call}
+use Rattle.pg_steps.specs.Outcomes.{Outcome, Unknown, Ends}
+use Rattle.pg_steps.specs.Inside.ends.Refusing.{refuses}
+use Rattle.pg_steps.specs.RefusedLines.{word_of}
+use Rattle.pg_steps.specs.Readings.{HeldFiles, Reading, first_end}
 use Rattle.pg_words.specs.Requests.{FileNames, if_asked}
 use Rattle.pg_top.specs.Selection.{selected_text, selected_report}
 use Rattle.pg_top.specs.generate.GenerateRule.{inputs_in}
 use Rattle.pg_top.specs.generate.Inside.AcceptedInputs.{inputs_of, HasInputs}
-use Rattle.pg_top.specs.Inside.ends.Stops.{StopsAt, StopsWith, StopsReading}
-use Rattle.pg_top.specs.declared.answers.Status.{Status}
-use Rattle.pg_top.specs.declared.answers.Status.TheVariants.{Yes, No}
+use Rattle.pg_steps.specs.Inside.ends.Stops.{StopsAt, StopsWith, StopsReading}
+use Rattle.pg_steps.specs.declared.answers.Status.{Status}
+use Rattle.pg_steps.specs.declared.answers.Status.TheVariants.{Yes, No}
 use Rattle.pg_top.specs.declared.audit.compare.Verdict.{Verdict}
 use Rattle.pg_top.specs.declared.audit.compare.Verdict.TheVariants.{Equal, False}
 use Rattle.pg_top.specs.declared.audit.wanted.WantedFile.{WantedFile}
-use Rattle.pg_top.specs.declared.inputs.Given.{Given}
-use Rattle.pg_top.specs.declared.inputs.Given.TheVariants as given
-use Rattle.pg_top.specs.declared.inputs.Input.TheVariants as input
-use Rattle.pg_top.specs.declared.inputs.Stop.{Stop}
-use Rattle.pg_top.specs.declared.inputs.Stop.TheVariants.{Refused, Unread, Memory}
+use Rattle.pg_steps.specs.declared.inputs.Given.{Given}
+use Rattle.pg_steps.specs.declared.inputs.Given.TheVariants as given
+use Rattle.pg_steps.specs.declared.inputs.Input.TheVariants as input
+use Rattle.pg_steps.specs.declared.inputs.Stop.{Stop}
+use Rattle.pg_steps.specs.declared.inputs.Stop.TheVariants.{Refused, Unread, Memory}
 use Rattle.pg_top.specs.declared.selection.Inputs.{Inputs}
 use Rattle.pg_top.proofs.Calls.{answered_call}
-use Rattle.pg_top.proofs.CountedCalls.{calls_on, calls_are, taken_more, read_more, all_reads}
+use Rattle.pg_steps.proofs.CountedCalls.{calls_on, calls_are, taken_more, read_more, all_reads}
 use Rattle.pg_top.proofs.CountedEnds.{counted_line}
 use Rattle.pg_top.proofs.generate.InputOrder.{inputs_accepted, given as given_inputs}
-use Rattle.pg_top.proofs.Orders.{IsAccepted, AreAccepted, accepted_and, accepted_front, accepted_all, end_behind, mapped, both, held_later, stopped_behind, stopped_after, read_after, end_after}
-use Rattle.pg_top.specs.Rules.{outcome_of}
+use Rattle.pg_steps.proofs.Orders.{IsAccepted, AreAccepted, accepted_and, accepted_front, accepted_all, end_behind, mapped, both, held_later, stopped_behind, stopped_after, read_after, end_after}
+use Rattle.pg_steps.specs.Rules.{outcome_of}
 
 -- what is said of a difference is said by what is printed of it
 said : Given → ℕ × FoundLine → List ℕ

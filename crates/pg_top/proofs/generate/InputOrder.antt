@@ -9,24 +9,24 @@ use Rattle.pg_translate.specs.Alphabets.{Alphabet}
 use Rattle.pg_dict.specs.Word.{Word}
 use Rattle.pg_dict.specs.Words.{words}
 use Rattle.pg_patterns.specs.Starts.{start}
-use Rattle.pg_top.specs.Readings.{Reading, input_file, table_named, translate_file, patterns_file, words_file}
-use Rattle.pg_top.specs.Inside.reading.ReadAs.{read_as}
+use Rattle.pg_steps.specs.Readings.{Reading, input_file, table_named, translate_file, patterns_file, words_file}
+use Rattle.pg_steps.specs.Inside.reading.ReadAs.{read_as}
 use Rattle.pg_words.specs.Requests.{FileNames}
-use Rattle.pg_top.specs.Outcomes.{Ends}
-use Rattle.pg_top.specs.declared.answers.Status.TheVariants.{Done}
+use Rattle.pg_steps.specs.Outcomes.{Ends}
+use Rattle.pg_steps.specs.declared.answers.Status.TheVariants.{Done}
 use Rattle.pg_top.specs.generate.GenerateRule.{generate_rule, inputs_in, selected_files, selected_lines}
 use Rattle.pg_top.specs.generate.Inside.AcceptedInputs.{inputs_of, HasInputs}
-use Rattle.pg_top.specs.Inside.reading.Lists.{lists_under, HasLists}
-use Rattle.pg_top.specs.Inside.ends.Stops.{StopsAt, StopsReading}
-use Rattle.pg_top.specs.declared.inputs.Input.TheVariants as input
+use Rattle.pg_steps.specs.Inside.reading.Lists.{lists_under, HasLists}
+use Rattle.pg_steps.specs.Inside.ends.Stops.{StopsAt, StopsReading}
+use Rattle.pg_steps.specs.declared.inputs.Input.TheVariants as input
 use Rattle.pg_top.specs.declared.selection.Inputs.{Inputs}
-use Rattle.pg_top.specs.declared.inputs.Stop.{Stop}
-use Rattle.pg_top.specs.declared.inputs.Stop.TheVariants.{Memory}
-use Rattle.pg_top.specs.FileCalls.{MakesCalls, read_calls}
-use Rattle.pg_top.proofs.ListOrder.{lists_accepted}
-use Rattle.pg_top.proofs.Orders.{AreAccepted, accepted_all, mapped, both, held_later, stopped_after, stopped_behind, wanted_after}
-use Rattle.pg_top.proofs.UnderTable.{accepted, means, HasTable as HasTableNamed, is_table, table_accepted, means_under, stopped_first}
-use Rattle.pg_top.specs.Rules.{outcome_of}
+use Rattle.pg_steps.specs.declared.inputs.Stop.{Stop}
+use Rattle.pg_steps.specs.declared.inputs.Stop.TheVariants.{Memory}
+use Rattle.pg_steps.specs.FileCalls.{MakesCalls, read_calls}
+use Rattle.pg_steps.proofs.ListOrder.{lists_accepted}
+use Rattle.pg_steps.proofs.Orders.{AreAccepted, accepted_all, mapped, both, held_later, stopped_after, stopped_behind, wanted_after}
+use Rattle.pg_steps.proofs.UnderTable.{accepted, means, HasTable as HasTableNamed, is_table, table_accepted, means_under, stopped_first}
+use Rattle.pg_steps.specs.Rules.{outcome_of}
 
 -- the parameters
 abbrev parameters_input : FileNames → Reading

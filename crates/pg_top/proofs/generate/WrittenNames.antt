@@ -3,7 +3,7 @@ use Rattle.std.proofs.Common.{◌≡◌, ℕ, List, [], ◌∷◌, ◌++◌, Opt
 use Rattle.pg_words.specs.Requests.{FileNames, if_asked, output_names}
 use Rattle.pg_top.specs.generate.GenerateRule.{selected_files}
 use Rattle.pg_top.specs.Selection.{selected_text, selected_list, selected_cells_text, selected_report}
-use Rattle.pg_top.specs.Inside.writing.WritesMade.{written_names}
+use Rattle.pg_steps.specs.Inside.writing.WritesMade.{written_names}
 use Rattle.pg_top.specs.declared.selection.Inputs.{Inputs}
 
 by_options : (output report : List ℕ) (pattmp cells : Option (List ℕ)) (text list cells_text report_text : List ℕ)

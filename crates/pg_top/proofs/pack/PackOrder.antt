@@ -5,24 +5,24 @@ use Rattle.pg_outside.specs.Content.{FileMap, FilesShown, KeepsHeld, file_at}
 use Rattle.pg_translate.specs.Alphabets.{Alphabet}
 use Rattle.pg_patterns.specs.Starts.{start}
 use Rattle.pg_select.specs.Windows.{Patterns}
-use Rattle.pg_top.specs.FileCalls.{MakesCalls, read_calls, EndsAt}
-use Rattle.pg_top.specs.Outcomes.{Ends, Writing}
-use Rattle.pg_top.specs.Inside.ends.Refusing.{refuses}
-use Rattle.pg_top.specs.Inside.reading.ReadAs.{read_as}
+use Rattle.pg_steps.specs.FileCalls.{MakesCalls, read_calls, EndsAt}
+use Rattle.pg_steps.specs.Outcomes.{Ends, Writing}
+use Rattle.pg_steps.specs.Inside.ends.Refusing.{refuses}
+use Rattle.pg_steps.specs.Inside.reading.ReadAs.{read_as}
 use Rattle.pg_top.specs.pack.PackRule.{GivesValues, pack_rule, outcome_of_pack}
 use Rattle.pg_top.specs.totals.TotalsRule.{packed_table}
 use Rattle.pg_top.specs.pack.Inside.Inputs.{HasSource, packed_text}
 use Rattle.pg_words.specs.Requests.{PackRequest}
-use Rattle.pg_top.specs.Inside.ends.Built.{KeepsPromise}
-use Rattle.pg_top.specs.Inside.ends.Stops.{StopsCommandWith, StopsCommand, StopsMaking}
-use Rattle.pg_top.specs.declared.answers.Status.TheVariants.{Done}
-use Rattle.pg_top.specs.declared.inputs.Input.TheVariants as input
-use Rattle.pg_top.specs.declared.inputs.Stop.{Stop}
-use Rattle.pg_top.specs.declared.inputs.Stop.TheVariants.{Refused, Unread, Memory}
+use Rattle.pg_steps.specs.Inside.ends.Built.{KeepsPromise}
+use Rattle.pg_steps.specs.Inside.ends.Stops.{StopsCommandWith, StopsCommand, StopsMaking}
+use Rattle.pg_steps.specs.declared.answers.Status.TheVariants.{Done}
+use Rattle.pg_steps.specs.declared.inputs.Input.TheVariants as input
+use Rattle.pg_steps.specs.declared.inputs.Stop.{Stop}
+use Rattle.pg_steps.specs.declared.inputs.Stop.TheVariants.{Refused, Unread, Memory}
 use Rattle.pg_top.specs.declared.pack.inputs.Source.{Source}
-use Rattle.pg_top.proofs.Orders.{AreAccepted, accepted_all, mapped, both, held_later, reads_all}
-use Rattle.pg_top.proofs.UnderTable.{HasTable, is_table, table_accepted, accepted_under, means_under}
-use Rattle.pg_top.specs.Rules.{outcome_of}
+use Rattle.pg_steps.proofs.Orders.{AreAccepted, accepted_all, mapped, both, held_later, reads_all}
+use Rattle.pg_steps.proofs.UnderTable.{HasTable, is_table, table_accepted, accepted_under, means_under}
+use Rattle.pg_steps.specs.Rules.{outcome_of}
 
 -- both files of `pack` are read, one after the other
 pub source_read : (p : PackRequest) (t : Alphabet) (P : Patterns) (h1 h2 : Option FileMap) → KeepsHeld h1 h2 → IfSome h1 (HasTable p.translate t)

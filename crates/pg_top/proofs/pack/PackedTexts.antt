@@ -8,13 +8,13 @@ use Rattle.pg_select.specs.Windows.{Patterns}
 use Rattle.pg_table.specs.declared.error.TableError.{TableError}
 use Rattle.pg_table.specs.declared.error.TableError.TheVariants as table_error
 use Rattle.pg_table.specs.declared.limits.TheConstants.{TABLE_MAX}
-use Rattle.pg_top.specs.Outcomes.{Ends}
-use Rattle.pg_top.specs.Inside.ends.Refusing.{refuses}
+use Rattle.pg_steps.specs.Outcomes.{Ends}
+use Rattle.pg_steps.specs.Inside.ends.Refusing.{refuses}
 use Rattle.pg_top.specs.pack.PackRule.{outcome_of_pack, packed_line}
 use Rattle.pg_top.specs.pack.Inside.Inputs.{stop_of_table, packed_text, table_refused}
-use Rattle.pg_top.specs.Inside.ends.Stops.{StopsMaking}
-use Rattle.pg_top.specs.declared.answers.Status.TheVariants.{Done}
-use Rattle.pg_top.specs.declared.inputs.Input.TheVariants as input
+use Rattle.pg_steps.specs.Inside.ends.Stops.{StopsMaking}
+use Rattle.pg_steps.specs.declared.answers.Status.TheVariants.{Done}
+use Rattle.pg_steps.specs.declared.inputs.Input.TheVariants as input
 
 module _ (name : List ℕ) (t : Alphabet) (P : Patterns) where
   -- a table that is not too long is written

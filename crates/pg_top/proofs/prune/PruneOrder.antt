@@ -9,23 +9,23 @@ use Rattle.pg_dict.specs.Word.{Word}
 use Rattle.pg_dict.specs.Words.{words}
 use Rattle.pg_patterns.specs.Starts.{start}
 use Rattle.pg_select.specs.Windows.{Patterns}
-use Rattle.pg_top.specs.FileCalls.{MakesCalls}
-use Rattle.pg_top.specs.Readings.{table_named, translate_file, patterns_file, words_file, patterns_under, words_under}
+use Rattle.pg_steps.specs.FileCalls.{MakesCalls}
+use Rattle.pg_steps.specs.Readings.{table_named, translate_file, patterns_file, words_file, patterns_under, words_under}
 use Rattle.pg_top.specs.prune.Inside.Inputs.{HasPrune, line_of_pruned, pruned_by}
 use Rattle.pg_words.specs.Requests.{PruneRequest}
-use Rattle.pg_top.specs.Inside.ends.Built.{KeepsPromise}
+use Rattle.pg_steps.specs.Inside.ends.Built.{KeepsPromise}
 use Rattle.pg_prune.specs.Prunes.{pruning_of}
 use Rattle.pg_prune.specs.Reports.{prune_report}
 use Rattle.pg_prune.proofs.pruning.PrunedLaws.{pruned_part, pruned_alike, pruned_least}
 use Rattle.pg_select.specs.CountedPositions.{minima_of}
-use Rattle.pg_top.specs.Inside.reading.Lists.{lists_under, HasLists}
-use Rattle.pg_top.specs.Inside.ends.Stops.{StopsAt, StopsReading}
-use Rattle.pg_top.specs.declared.inputs.Stop.{Stop}
+use Rattle.pg_steps.specs.Inside.reading.Lists.{lists_under, HasLists}
+use Rattle.pg_steps.specs.Inside.ends.Stops.{StopsAt, StopsReading}
+use Rattle.pg_steps.specs.declared.inputs.Stop.{Stop}
 use Rattle.pg_top.specs.declared.prune.inputs.PruneInputs.{PruneInputs}
-use Rattle.pg_top.proofs.ListOrder.{lists_accepted}
-use Rattle.pg_top.proofs.Orders.{AreAccepted, accepted_all, both, held_later, mapped, stopped_after}
-use Rattle.pg_top.proofs.UnderTable.{HasTable, is_table, table_accepted, means_under, stopped_first}
-use Rattle.pg_top.specs.Rules.{outcome_of}
+use Rattle.pg_steps.proofs.ListOrder.{lists_accepted}
+use Rattle.pg_steps.proofs.Orders.{AreAccepted, accepted_all, both, held_later, mapped, stopped_after}
+use Rattle.pg_steps.proofs.UnderTable.{HasTable, is_table, table_accepted, means_under, stopped_first}
+use Rattle.pg_steps.specs.Rules.{outcome_of}
 use Rattle.pg_top.specs.prune.PruneRule.{ReadsBack, prune_rule}
 
 module _ (p : PruneRequest) where

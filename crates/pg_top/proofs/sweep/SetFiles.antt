@@ -8,18 +8,18 @@ use Rattle.pg_outside.specs.Content.{FileMap, FilesShown, KeepsHeld, file_at}
 use Rattle.pg_outside.specs.Inside.NameFaults.{NoneFell}
 use Rattle.pg_outside.specs.FilesCalls.{Reads}
 use Rattle.pg_words.specs.Inside.Names.{words_of}
-use Rattle.pg_top.specs.FileCalls.{MakesCalls, read_calls}
-use Rattle.pg_top.specs.Readings.{HeldFiles, Reading, parameters_named}
-use Rattle.pg_top.specs.Inside.reading.ReadAs.{read_as}
-use Rattle.pg_top.specs.Inside.ends.Stops.{StopsAt, StopsReading}
+use Rattle.pg_steps.specs.FileCalls.{MakesCalls, read_calls}
+use Rattle.pg_steps.specs.Readings.{HeldFiles, Reading, parameters_named}
+use Rattle.pg_steps.specs.Inside.reading.ReadAs.{read_as}
+use Rattle.pg_steps.specs.Inside.ends.Stops.{StopsAt, StopsReading}
 use Rattle.pg_top.specs.sweep.SweepRule.{set_files}
 use Rattle.pg_top.specs.sweep.Inside.SetFiles.{set_file}
 use Rattle.pg_top.specs.sweep.Inside.AcceptedInputs.{accepted_set, HasSets}
-use Rattle.pg_top.specs.declared.inputs.Input.TheVariants as input
-use Rattle.pg_top.specs.declared.inputs.Stop.{Stop}
-use Rattle.pg_top.proofs.CountedCalls.{calls_on, calls_are}
-use Rattle.pg_top.proofs.Orders.{AreAccepted, both, held_later, mapped, stopped_behind}
-use Rattle.pg_top.proofs.UnderTable.{accepted, means}
+use Rattle.pg_steps.specs.declared.inputs.Input.TheVariants as input
+use Rattle.pg_steps.specs.declared.inputs.Stop.{Stop}
+use Rattle.pg_steps.proofs.CountedCalls.{calls_on, calls_are}
+use Rattle.pg_steps.proofs.Orders.{AreAccepted, both, held_later, mapped, stopped_behind}
+use Rattle.pg_steps.proofs.UnderTable.{accepted, means}
 
 -- files that are accepted as sets are accepted, under whatever numbers
 pub sets_accepted : (files : HeldFiles) (number : ℕ) (names : List (List ℕ)) (sets : List Parameters) → HasSets files names sets → AreAccepted files (set_files number names)

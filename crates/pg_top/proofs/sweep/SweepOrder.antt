@@ -13,21 +13,21 @@ use Rattle.pg_patterns.specs.Starts.{start}
 use Rattle.pg_select.specs.Windows.{Patterns}
 use Rattle.pg_sweep.specs.Sweeps.{Terms}
 use Rattle.pg_top.specs.sweep.Inside.Inputs.{outcome_of_sets, rows_of_sets}
-use Rattle.pg_top.specs.FileCalls.{MakesCalls, read_calls}
-use Rattle.pg_top.specs.Inside.reading.ReadCalls.{read_call}
-use Rattle.pg_top.specs.Readings.{Reading, translate_file, patterns_file, words_file}
+use Rattle.pg_steps.specs.FileCalls.{MakesCalls, read_calls}
+use Rattle.pg_steps.specs.Inside.reading.ReadCalls.{read_call}
+use Rattle.pg_steps.specs.Readings.{Reading, translate_file, patterns_file, words_file}
 use Rattle.pg_words.specs.Requests.{SweepRequest}
-use Rattle.pg_top.specs.Inside.reading.Lists.{lists_under, HasLists}
-use Rattle.pg_top.specs.Inside.ends.Stops.{StopsAt, StopsReading}
+use Rattle.pg_steps.specs.Inside.reading.Lists.{lists_under, HasLists}
+use Rattle.pg_steps.specs.Inside.ends.Stops.{StopsAt, StopsReading}
 use Rattle.pg_top.specs.sweep.SweepRule.{swept_rows, sweep_rule, set_files}
 use Rattle.pg_top.specs.sweep.Inside.AcceptedInputs.{HasSets, HasSweep}
-use Rattle.pg_top.specs.declared.inputs.Stop.{Stop}
-use Rattle.pg_top.proofs.ListOrder.{lists_accepted}
-use Rattle.pg_top.proofs.Orders.{AreAccepted, accepted_all, accepted_both, both, held_later, mapped, stopped_after, stopped_in_front}
-use Rattle.pg_top.proofs.CountedCalls.{calls_on, calls_are}
+use Rattle.pg_steps.specs.declared.inputs.Stop.{Stop}
+use Rattle.pg_steps.proofs.ListOrder.{lists_accepted}
+use Rattle.pg_steps.proofs.Orders.{AreAccepted, accepted_all, accepted_both, both, held_later, mapped, stopped_after, stopped_in_front}
+use Rattle.pg_steps.proofs.CountedCalls.{calls_on, calls_are}
 use Rattle.pg_top.proofs.sweep.SetFiles.{sets_accepted, sets_mean}
-use Rattle.pg_top.proofs.UnderTable.{HasTable, is_table, table_accepted, means_under, stopped_first}
-use Rattle.pg_top.specs.Rules.{outcome_of}
+use Rattle.pg_steps.proofs.UnderTable.{HasTable, is_table, table_accepted, means_under, stopped_first}
+use Rattle.pg_steps.specs.Rules.{outcome_of}
 
 module _ (s : SweepRequest) where
   -- the files that are read before the patterns

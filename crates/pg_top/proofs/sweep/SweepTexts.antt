@@ -9,13 +9,13 @@ use Rattle.pg_sweep.specs.Inside.RowsAndWinner.{RowsAndWinner}
 use Rattle.pg_sweep.specs.Winners.{winner_of}
 use Rattle.pg_sweep.specs.declared.rows.SweepRow.{SweepRow}
 use Rattle.pg_sweep.proofs.Winners.{winner_wins}
-use Rattle.pg_top.specs.Outcomes.{Ends}
-use Rattle.pg_top.specs.Rules.{outcome_of}
+use Rattle.pg_steps.specs.Outcomes.{Ends}
+use Rattle.pg_steps.specs.Rules.{outcome_of}
 use Rattle.pg_top.specs.sweep.SweepRule.{SweepPromise, sweep_rule, winner_line, terms_in, swept_rows, outcome_of_sweep}
-use Rattle.pg_top.specs.Readings.{HeldFiles, first_end, parameters_named}
+use Rattle.pg_steps.specs.Readings.{HeldFiles, first_end, parameters_named}
 use Rattle.pg_words.specs.Requests.{SweepRequest}
 use Rattle.pg_top.specs.sweep.Inside.Inputs.{line_of_sweep, rows_of_sets, outcome_of_sets}
-use Rattle.pg_top.specs.declared.answers.Status.TheVariants.{Done}
+use Rattle.pg_steps.specs.declared.answers.Status.TheVariants.{Done}
 
 -- it is made of what was found
 pub sweep_made : (s : SweepRequest) (terms : Terms) (sets : List Parameters) (found : RowsAndWinner) (text line : List ℕ) → found.rows ≡ map (row_of terms s.bad s.missed) sets

@@ -12,22 +12,28 @@ use Rattle.pg_dict.specs.Word.{Word}
 use Rattle.pg_dict.specs.Words.{words}
 use Rattle.pg_table.specs.declared.limits.TheConstants.{TABLE_MAX}
 use Rattle.pg_table.specs.Forms.{head_of, is_well_formed}
-use Rattle.pg_top.specs.FileCalls.{MakesCalls, read_calls}
-use Rattle.pg_top.specs.Outcomes.{Ends}
-use Rattle.pg_top.specs.Readings.{Reading, input_file}
-use Rattle.pg_top.specs.Inside.reading.ReadAs.{read_as}
-use Rattle.pg_top.specs.Inside.reading.UnderTable.{file_under}
+use Rattle.pg_steps.specs.FileCalls.{MakesCalls, read_calls}
+use Rattle.pg_steps.specs.Outcomes.{Ends}
+use Rattle.pg_steps.specs.Readings.{Reading, input_file}
+use Rattle.pg_steps.specs.Inside.reading.ReadAs.{read_as}
+use Rattle.pg_steps.specs.Inside.reading.UnderTable.{file_under}
 use Rattle.pg_top.specs.pack.Inside.Inputs.{table_refused}
 use Rattle.pg_top.specs.totals.TotalsRule.{totals_rule, packed_table}
 use Rattle.pg_top.specs.totals.Inside.Inputs.{IsTotalled, totals_lines}
 use Rattle.pg_words.specs.Requests.{TotalsRequest}
-use Rattle.pg_top.specs.Inside.ends.Stops.{StopsAt, StopsReading}
-use Rattle.pg_top.specs.declared.answers.Status.TheVariants.{Done}
-use Rattle.pg_top.specs.declared.inputs.Input.TheVariants as input
-use Rattle.pg_top.specs.declared.inputs.Stop.{Stop}
-use Rattle.pg_top.proofs.Orders.{AreAccepted, accepted_all, mapped, both, held_later, stopped_behind}
-use Rattle.pg_top.proofs.UnderTable.{HasTable, is_table, table_accepted, accepted_under, means_under, stopped_under}
-use Rattle.pg_top.specs.Rules.{outcome_of}
+use Rattle.pg_steps.specs.Inside.ends.Stops.{StopsAt, StopsReading}
+use Rattle.pg_steps.specs.declared.answers.Status.TheVariants.{Done}
+use Rattle.pg_steps.specs.declared.inputs.Input.TheVariants as input
+use Rattle.pg_steps.specs.declared.inputs.Stop.{Stop}
+use Rattle.pg_steps.proofs.Fronts.{IsReadUpTo, limited}
+use Rattle.pg_steps.proofs.Orders.{AreAccepted, accepted_all, mapped, both, held_later, stopped_behind}
+use Rattle.pg_steps.proofs.UnderTable.{HasTable, is_table, table_accepted, accepted_under, means_under, stopped_under}
+use Rattle.pg_steps.specs.Rules.{outcome_of}
+
+-- the first bytes of a table, one more than it may have, are read as the whole table is
+pub packed_table-front : (t : Alphabet) → IsReadUpTo TABLE_MAX (packed_table t)
+packed_table-front t whole = limited (Err (table_refused TableTooLong))
+    (λ b. cond (not (is_well_formed b)) (Err (table_refused BadTable)) (cond (nat_eq (head_of b).signs (letters_of t + 1)) (Ok b) (Err (table_refused OtherTable)))) TABLE_MAX whole
 
 -- what is known once two files of `totals` are read
 abbrev pub HasWords : TotalsRequest → Alphabet → List Word → FileMap → Type 0

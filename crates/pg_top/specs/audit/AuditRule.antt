@@ -3,17 +3,17 @@ use Rattle.std.specs.Prelude.{ℕ, Option, List, [], ◌∷◌, ◌++◌, map, c
 use Rattle.std.specs.Option.{option_map}
 use Rattle.pg_audit.specs.Differences.{Difference, first_false}
 use Rattle.pg_audit.specs.FoundLines.{found_text}
-use Rattle.pg_top.specs.Outcomes.{Outcome, Ends}
-use Rattle.pg_top.specs.PrintedLines.{word_of}
-use Rattle.pg_top.specs.Readings.{HeldFiles, Reading}
-use Rattle.pg_top.specs.Rules.{CommandRule, usual_rule}
+use Rattle.pg_steps.specs.Outcomes.{Outcome, Ends}
+use Rattle.pg_steps.specs.RefusedLines.{word_of}
+use Rattle.pg_steps.specs.Readings.{HeldFiles, Reading}
+use Rattle.pg_steps.specs.Rules.{CommandRule, usual_rule}
 use Rattle.pg_top.specs.generate.GenerateRule.{inputs_in, generate_rule}
 use Rattle.pg_words.specs.Requests.{FileNames, if_asked}
 use Rattle.pg_top.specs.Selection.{selected_text, selected_list, selected_report}
-use Rattle.pg_top.specs.declared.answers.Status.TheVariants.{Yes, No, Refused, Memory}
-use Rattle.pg_top.specs.declared.inputs.Given.{Given}
-use Rattle.pg_top.specs.declared.inputs.Given.TheVariants as given
-use Rattle.pg_top.specs.declared.inputs.Input.TheVariants as input
+use Rattle.pg_steps.specs.declared.answers.Status.TheVariants.{Yes, No, Refused, Memory}
+use Rattle.pg_steps.specs.declared.inputs.Given.{Given}
+use Rattle.pg_steps.specs.declared.inputs.Given.TheVariants as given
+use Rattle.pg_steps.specs.declared.inputs.Input.TheVariants as input
 use Rattle.pg_top.specs.declared.selection.Inputs.{Inputs}
 
 -- the text that a given file is to be

@@ -13,14 +13,14 @@ use Rattle.pg_select.specs.Windows.{Patterns}
 use Rattle.pg_table.specs.declared.limits.TheConstants.{TABLE_MAX}
 use Rattle.pg_table.specs.Lookups.{table_value, table_totals}
 use Rattle.pg_table.specs.Texts.{table_text}
-use Rattle.pg_top.specs.Outcomes.{Outcome, Ends}
-use Rattle.pg_top.specs.PrintedLines.{refused_line}
-use Rattle.pg_top.specs.Readings.{HeldFiles, table_named, patterns_under, translate_file, patterns_file}
-use Rattle.pg_top.specs.Rules.{CommandRule, usual_rule}
+use Rattle.pg_steps.specs.Outcomes.{Outcome, Ends}
+use Rattle.pg_steps.specs.RefusedLines.{refused_line}
+use Rattle.pg_steps.specs.Readings.{HeldFiles, table_named, patterns_under, translate_file, patterns_file}
+use Rattle.pg_steps.specs.Rules.{CommandRule, usual_rule}
 use Rattle.pg_top.specs.totals.TotalsRule.{packed_table}
 use Rattle.pg_words.specs.Requests.{PackRequest}
-use Rattle.pg_top.specs.declared.answers.Status.TheVariants.{Done, Refused}
-use Rattle.pg_top.specs.declared.inputs.Input.TheVariants as input
+use Rattle.pg_steps.specs.declared.answers.Status.TheVariants.{Done, Refused}
+use Rattle.pg_steps.specs.declared.inputs.Input.TheVariants as input
 
 -- where `pack` is done: how many lines the pattern file has, and how many bytes the table
 abbrev pub packed_line : List ℕ → List ℕ → List ℕ

@@ -8,13 +8,13 @@ use Rattle.pg_patterns.specs.Texts.{pattern_text}
 use Rattle.pg_prune.specs.Promises.{BreakAlike, NoneCanGo}
 use Rattle.pg_prune.specs.Prunes.{Pruning, pruning_of}
 use Rattle.pg_prune.specs.Reports.{prune_report}
-use Rattle.pg_top.specs.Outcomes.{Outcome, Ends}
+use Rattle.pg_steps.specs.Outcomes.{Outcome, Ends}
 use Rattle.pg_select.specs.CountedPositions.{minima_of}
 use Rattle.pg_select.specs.Windows.{Patterns}
-use Rattle.pg_top.specs.Readings.{table_named, patterns_under, words_under, translate_file, patterns_file, words_file}
-use Rattle.pg_top.specs.Rules.{CommandRule, usual_rule}
+use Rattle.pg_steps.specs.Readings.{table_named, patterns_under, words_under, translate_file, patterns_file, words_file}
+use Rattle.pg_steps.specs.Rules.{CommandRule, usual_rule}
 use Rattle.pg_words.specs.Requests.{PruneRequest}
-use Rattle.pg_top.specs.declared.answers.Status.TheVariants.{Done}
+use Rattle.pg_steps.specs.declared.answers.Status.TheVariants.{Done}
 
 -- where `prune` is done: how many rounds were made, and how many entries were taken out and stay
 abbrev pub pruned_line : ℕ → ℕ → ℕ → List ℕ

@@ -8,9 +8,9 @@ use Rattle.pg_translate.specs.Tables.{default_alphabet}
 use Rattle.pg_dict.specs.Words.{words}
 use Rattle.pg_top.specs.PrintedLines.{done_line}
 use Rattle.pg_top.specs.Selection.{selected_text, selected_report, selected_totals}
-use Rattle.pg_top.specs.Outcomes.{Ends}
-use Rattle.pg_top.specs.Rules.{CommandRule, usual_rule}
-use Rattle.pg_top.specs.declared.answers.Status.TheVariants.{Done, Memory}
+use Rattle.pg_steps.specs.Outcomes.{Ends}
+use Rattle.pg_steps.specs.Rules.{CommandRule, usual_rule}
+use Rattle.pg_steps.specs.declared.answers.Status.TheVariants.{Done, Memory}
 use Rattle.pg_top.specs.declared.selection.Inputs.{Inputs}
 
 -- the state after a draw

@@ -5,12 +5,12 @@ use Rattle.pg_sweep.specs.Files.{sweep_file}
 use Rattle.pg_sweep.specs.Sweeps.{Terms, row_of, costs_of}
 use Rattle.pg_sweep.specs.Winners.{winner_of, IsWinner}
 use Rattle.pg_sweep.specs.declared.rows.SweepRow.{SweepRow}
-use Rattle.pg_top.specs.Outcomes.{Outcome, Ends}
-use Rattle.pg_top.specs.Readings.{HeldFiles, Reading, input_file, table_named, parameters_named, words_under, patterns_under, translate_file, patterns_file, words_file}
-use Rattle.pg_top.specs.Rules.{CommandRule, usual_rule}
+use Rattle.pg_steps.specs.Outcomes.{Outcome, Ends}
+use Rattle.pg_steps.specs.Readings.{HeldFiles, Reading, input_file, table_named, parameters_named, words_under, patterns_under, translate_file, patterns_file, words_file}
+use Rattle.pg_steps.specs.Rules.{CommandRule, usual_rule}
 use Rattle.pg_words.specs.Requests.{SweepRequest}
-use Rattle.pg_top.specs.declared.answers.Status.TheVariants.{Done}
-use Rattle.pg_top.specs.declared.inputs.Input.TheVariants as input
+use Rattle.pg_steps.specs.declared.answers.Status.TheVariants.{Done}
+use Rattle.pg_steps.specs.declared.inputs.Input.TheVariants as input
 
 -- parameter files one after the other, the first of which has this number
 abbrev pub set_files : ℕ → List (List ℕ) → List Reading

@@ -5,17 +5,16 @@ ghost use Rattle.pg_audit.specs.Differences.{first_false};
 ghost use Rattle.pg_outside.specs.Content.{file_at};
 ghost use Rattle.pg_outside.specs.FilesCalls.{Reads};
 ghost use Rattle.pg_top.specs.audit.AuditRule.{denies};
-ghost use Rattle.pg_top.specs.FileCalls.{MakesCalls};
-ghost use Rattle.pg_top.specs.Readings.{first_end};
-ghost use Rattle.pg_top.specs.Inside.ends.Stops.{OnlyReads, StopsAt, StopsReading};
+ghost use Rattle.pg_steps.specs.FileCalls.{MakesCalls};
+ghost use Rattle.pg_steps.specs.Readings.{first_end};
+ghost use Rattle.pg_steps.specs.Inside.ends.Stops.{OnlyReads, StopsAt, StopsReading};
 ghost use Rattle.pg_top.specs.audit.Inside.Verdicts.{wanted_file, wanted_files, end_of, ReadsToFind};
 
 use crate::audit::no_lines::no_line;
 use crate::audit::wanted::WantedFile;
-use crate::inputs::Stop;
-use crate::reading::read_front;
 use pg_audit::compare;
 use pg_outside::Files;
+use pg_steps::{Stop, read_front};
 use pg_watch::Watch;
 use std::alloc::{AllocError, Global};
 

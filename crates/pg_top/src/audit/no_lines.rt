@@ -5,9 +5,8 @@ ghost use Rattle.pg_audit.specs.Inside.FoundForms.{has_feed as has_feed_of, with
 ghost use Rattle.pg_top.specs.audit.Inside.NoLines.{no_line as no_line_of};
 ghost use Rattle.pg_top.specs.audit.Inside.FoundThere.{text_there};
 
-use crate::inputs::{Given, Input};
-use crate::printed::push_word;
 use pg_audit::{FalseLine, SHOWN_MAX};
+use pg_steps::{Given, Input, push_word};
 use pg_types::push_number;
 use std::alloc::{AllocError, Global};
 

@@ -7,11 +7,11 @@ ghost use Rattle.pg_top.specs.Inside.selection.SelectionSigns.{HasSigns};
 ghost use Rattle.pg_top.specs.Inside.selection.SelectedRuns.{IsNew, TellsSelection, HasSelected};
 ghost use Rattle.pg_top.specs.audit.Inside.Verdicts.{reading_of, wanted_files};
 
-use crate::inputs::Given;
 use crate::selection::{Inputs, list_file, pattern_file, report_file, select};
 use pg_driver::Run;
 use pg_plain::PlainEngine;
 use pg_select::Engine;
+use pg_steps::Given;
 use pg_watch::{Watch, Watched};
 use pg_words::Names;
 use std::alloc::{AllocError, Global};

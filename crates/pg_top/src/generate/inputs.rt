@@ -3,12 +3,11 @@ ghost use Rattle.std.specs.Prelude.{IfOk};
 ghost use Rattle.pg_words.specs.Inside.CommandRequests.{texts_of};
 ghost use Rattle.pg_top.specs.generate.Inside.AcceptedInputs.{HasInputs, inputs_of};
 ghost use Rattle.pg_top.specs.Inside.selection.SelectionSigns.{HasSigns};
-ghost use Rattle.pg_top.specs.Inside.reading.ReadsMade.{ReadsFiles};
+ghost use Rattle.pg_steps.specs.Inside.reading.ReadsMade.{ReadsFiles};
 
-use crate::inputs::{Input, Stop};
-use crate::reading::{read_lists, read_parameters, read_table};
 use crate::selection::Inputs;
 use pg_outside::Files;
+use pg_steps::{Input, Stop, read_lists, read_parameters, read_table};
 use pg_watch::Watch;
 use pg_words::Names;
 use std::alloc::Global;

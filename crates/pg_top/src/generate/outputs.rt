@@ -9,15 +9,15 @@ ghost use Rattle.pg_top.specs.Inside.selection.SelectedRuns.{IsNew, TellsSelecti
 ghost use Rattle.pg_words.specs.Requests.{if_asked};
 ghost use Rattle.pg_top.specs.Selection.{selected_list, selected_cells_text, selected_text};
 ghost use Rattle.pg_top.specs.Inside.selection.SelectionSigns.{HasSigns, signs_of};
-ghost use Rattle.pg_top.specs.Inside.writing.WritesMade.{writing_of};
+ghost use Rattle.pg_steps.specs.Inside.writing.WritesMade.{writing_of};
 ghost use Rattle.pg_types.specs.Lines.{lines};
 
 use crate::printed::done_line;
 use crate::selection::{Inputs, last_layout, list_file, pattern_file, report_file, select};
-use crate::writes::{Output, Outputs, push_file};
 use pg_driver::Run;
 use pg_packed::PackedEngine;
 use pg_select::Engine;
+use pg_steps::{Output, Outputs, push_file};
 use pg_texts::{cells_text, push_layout};
 use pg_types::{Layout, push_number};
 use pg_watch::{Watch, Watched};

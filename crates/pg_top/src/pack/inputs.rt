@@ -3,12 +3,11 @@ ghost use Rattle.std.specs.Prelude.{◌+◌, IfOk};
 ghost use Rattle.pg_patterns.specs.Inside.PatternMaps.{SignsUpTo};
 ghost use Rattle.pg_translate.specs.Alphabets.{letters_of};
 ghost use Rattle.pg_top.specs.pack.Inside.Inputs.{source_files, HasSource};
-ghost use Rattle.pg_top.specs.Inside.reading.ReadsMade.{ReadsFiles};
+ghost use Rattle.pg_steps.specs.Inside.reading.ReadsMade.{ReadsFiles};
 
-use crate::inputs::Stop;
-use crate::reading::{read_start, read_table};
 use pg_outside::Files;
 use pg_patterns::PatternSet;
+use pg_steps::{Stop, read_start, read_table};
 use pg_translate::Table;
 use pg_watch::Watch;
 use std::alloc::Global;

@@ -2,27 +2,26 @@
 ghost use Rattle.std.specs.Prelude.{◌≡◌, ◌+◌, ◌∷◌, [], IfOk, IfErr, Ok};
 ghost use Rattle.pg_patterns.specs.Inside.PatternMaps.{SignsUpTo};
 ghost use Rattle.pg_translate.specs.Alphabets.{letters_of};
-ghost use Rattle.pg_top.specs.Outcomes.{Ends};
-ghost use Rattle.pg_top.specs.declared.answers.Status.TheVariants.{Done};
+ghost use Rattle.pg_steps.specs.Outcomes.{Ends};
+ghost use Rattle.pg_steps.specs.declared.answers.Status.TheVariants.{Done};
 ghost use Rattle.pg_patterns.specs.Texts.{pattern_text};
 ghost use Rattle.pg_top.specs.pack.PackRule.{GivesValues, outcome_of_pack, packed_line as packed_line_of};
 ghost use Rattle.pg_top.specs.totals.TotalsRule.{packed_table};
 ghost use Rattle.pg_top.specs.pack.Inside.Inputs.{stop_of_table, packed_text};
-ghost use Rattle.pg_top.specs.Inside.ends.Stops.{StopsMaking};
-ghost use Rattle.pg_top.specs.Inside.writing.WritesMade.{written_names, writing_of};
+ghost use Rattle.pg_steps.specs.Inside.ends.Stops.{StopsMaking};
+ghost use Rattle.pg_steps.specs.Inside.writing.WritesMade.{written_names, writing_of};
 ghost use Rattle.pg_types.specs.Lines.{lines};
 
-use crate::inputs::{Input, Stop};
 use crate::pack::inputs::Source;
 use crate::printed::count_lines;
-use crate::writes::{Outputs, push_file};
+use pg_steps::{Input, Outputs, Stop, push_file, refuse};
 use pg_table::{TableError, table_text};
 use pg_translate::Table;
 use pg_types::{Kind, Refusal, push_number};
 use pg_watch::{Refused, Watch};
 use std::alloc::{AllocError, Global};
 
-/// Why `pack` stops where no table is made. The observer is told of a refusal.
+/// Why `pack` stops where no table is made.
 fn table_stop<'a, W: Watch>(error: TableError, name: &str, letters: &Table, watch: &W) -> Stop<'a>
     ensures { result ≡ stop_of_table error }
 {
@@ -33,13 +32,13 @@ fn table_stop<'a, W: Watch>(error: TableError, name: &str, letters: &Table, watc
                 line: 0,
                 column: 0,
             };
-            watch.refuses(&Refused {
+            let refused = Refused {
                 name,
                 bytes: &[],
                 refusal,
                 letters: Some(letters),
-            });
-            Stop::Refused(Input::Table, refusal)
+            };
+            refuse(Input::Table, &refused, watch)
         }
         TableError::Memory => Stop::Memory,
     }

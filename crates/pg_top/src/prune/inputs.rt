@@ -1,13 +1,12 @@
 //! What `prune` reads.
 ghost use Rattle.std.specs.Prelude.{IfOk};
 ghost use Rattle.pg_top.specs.prune.Inside.Inputs.{prune_reads, HasPrune, HasKnownSigns};
-ghost use Rattle.pg_top.specs.Inside.reading.ReadsMade.{ReadsFiles};
+ghost use Rattle.pg_steps.specs.Inside.reading.ReadsMade.{ReadsFiles};
 
-use crate::inputs::Stop;
-use crate::reading::{read_lists, read_table};
 use pg_dict::Dictionary;
 use pg_outside::Files;
 use pg_patterns::PatternSet;
+use pg_steps::{Stop, read_lists, read_table};
 use pg_translate::Table;
 use pg_watch::Watch;
 use std::alloc::Global;

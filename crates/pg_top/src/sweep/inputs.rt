@@ -3,16 +3,15 @@ ghost use Rattle.std.specs.Prelude.{◌≤◌, length, IfOk};
 ghost use Rattle.pg_words.specs.Inside.CommandRequests.{sweep_of, KeepsSweepLimits};
 ghost use Rattle.pg_types.specs.declared.limits.TheConstants.{SETS_MAX};
 ghost use Rattle.pg_top.specs.sweep.SweepRule.{sweep_rule};
-ghost use Rattle.pg_top.specs.Inside.reading.ReadsMade.{ReadsFiles};
+ghost use Rattle.pg_steps.specs.Inside.reading.ReadsMade.{ReadsFiles};
 ghost use Rattle.pg_top.specs.sweep.Inside.Inputs.{terms_of, HasSigns};
 ghost use Rattle.pg_top.specs.sweep.Inside.AcceptedInputs.{HasSweep};
 
-use crate::inputs::Stop;
-use crate::reading::{read_lists, read_table};
 use crate::sweep::sets::read_sets;
 use pg_dict::Dictionary;
 use pg_outside::Files;
 use pg_patterns::PatternSet;
+use pg_steps::{Stop, read_lists, read_table};
 use pg_translate::Table;
 use pg_types::Params;
 use pg_watch::Watch;

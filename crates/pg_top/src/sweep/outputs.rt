@@ -5,14 +5,14 @@ ghost use Rattle.pg_top.specs.sweep.SweepRule.{winner_line as winner_line_of};
 ghost use Rattle.pg_sweep.specs.Files.{sweep_file};
 ghost use Rattle.pg_words.specs.Inside.CommandRequests.{sweep_of, KeepsSweepLimits};
 ghost use Rattle.pg_types.specs.declared.limits.TheConstants.{SETS_MAX};
-ghost use Rattle.pg_top.specs.Outcomes.{Ends};
+ghost use Rattle.pg_steps.specs.Outcomes.{Ends};
 ghost use Rattle.pg_top.specs.sweep.Inside.Inputs.{terms_of, HasSigns, line_of_sweep, outcome_of_sets};
-ghost use Rattle.pg_top.specs.Inside.writing.WritesMade.{written_names, writing_of};
-ghost use Rattle.pg_top.specs.declared.answers.Status.TheVariants.{Done};
+ghost use Rattle.pg_steps.specs.Inside.writing.WritesMade.{written_names, writing_of};
+ghost use Rattle.pg_steps.specs.declared.answers.Status.TheVariants.{Done};
 
 use crate::sweep::engines::WatchedMaker;
 use crate::sweep::inputs::SweepInputs;
-use crate::writes::{Outputs, push_file};
+use pg_steps::{Outputs, push_file};
 use pg_sweep::{Sweep, sweep, sweep_text};
 use pg_types::push_number;
 use pg_watch::Watch;

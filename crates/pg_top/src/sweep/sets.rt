@@ -2,13 +2,12 @@
 ghost use Rattle.std.specs.Prelude.{◌≡◌, ◌≤◌, length, IfOk};
 ghost use Rattle.pg_words.specs.Inside.Names.{words_of};
 ghost use Rattle.pg_types.specs.declared.limits.TheConstants.{SETS_MAX};
-ghost use Rattle.pg_top.specs.Inside.reading.ReadsMade.{ReadsFiles};
+ghost use Rattle.pg_steps.specs.Inside.reading.ReadsMade.{ReadsFiles};
 ghost use Rattle.pg_top.specs.sweep.SweepRule.{set_files};
 ghost use Rattle.pg_top.specs.sweep.Inside.AcceptedInputs.{HasSets};
 
-use crate::inputs::{Input, Stop};
-use crate::reading::read_parameters;
 use pg_outside::Files;
+use pg_steps::{Input, Stop, read_parameters};
 use pg_types::Params;
 use pg_watch::Watch;
 use std::alloc::Global;

@@ -6,17 +6,16 @@ ghost use Rattle.pg_outside.specs.Content.{file_at};
 ghost use Rattle.pg_outside.specs.FilesCalls.{Reads};
 ghost use Rattle.pg_texts.specs.ReportTexts.{ending_text};
 ghost use Rattle.pg_translate.specs.Alphabets.{letters_of};
-ghost use Rattle.pg_top.specs.FileCalls.{MakesCalls};
+ghost use Rattle.pg_steps.specs.FileCalls.{MakesCalls};
 ghost use Rattle.pg_top.specs.totals.TotalsRule.{packed_table};
 ghost use Rattle.pg_top.specs.pack.Inside.Inputs.{table_refused};
-ghost use Rattle.pg_top.specs.Readings.{input_file};
+ghost use Rattle.pg_steps.specs.Readings.{input_file};
 ghost use Rattle.pg_top.specs.totals.Inside.Inputs.{IsTotalled};
-ghost use Rattle.pg_top.specs.Inside.ends.Stops.{OnlyReads, StopsAt};
+ghost use Rattle.pg_steps.specs.Inside.ends.Stops.{OnlyReads, StopsAt};
 
-use crate::inputs::{Input, Stop};
-use crate::reading::read_front;
 use pg_dict::Dictionary;
 use pg_outside::Files;
+use pg_steps::{Input, Stop, read_front, refuse};
 use pg_table::{TABLE_MAX, TableView, table_totals};
 use pg_texts::push_ending;
 use pg_translate::Table;
@@ -25,7 +24,7 @@ use pg_watch::{Refused, Watch};
 use std::alloc::{AllocError, Global};
 
 /// The refusal of a packed table, which has no place.
-fn refused(kind: Kind) -> Refusal
+fn refusal_of(kind: Kind) -> Refusal
     ensures { result ≡ table_refused kind }
 {
     Refusal {
@@ -40,15 +39,15 @@ fn open_table<'a>(bytes: &'a [u8], table: &Table) -> Result<TableView<'a>, Refus
     ensures { result ≡ packed_table table.now bytes.now }
 {
     if bytes.len() > TABLE_MAX {
-        return Err(refused(Kind::TableTooLong));
+        return Err(refusal_of(Kind::TableTooLong));
     }
     let Some(view) = TableView::read(bytes) else {
-        return Err(refused(Kind::BadTable));
+        return Err(refusal_of(Kind::BadTable));
     };
     if view.signs() == table.letters() + 1 {
         Ok(view)
     } else {
-        Err(refused(Kind::OtherTable))
+        Err(refusal_of(Kind::OtherTable))
     }
 }
 
@@ -87,13 +86,13 @@ pub fn total_by<'a, F: Files, W: Watch>(
             Ok(lines)
         }
         Err(refusal) => {
-            watch.refuses(&Refused {
+            let refused = Refused {
                 name,
                 bytes: &bytes,
                 refusal,
                 letters: Some(table),
-            });
-            Err(Stop::Refused(Input::Table, refusal))
+            };
+            Err(refuse(Input::Table, &refused, watch))
         }
     }
 }

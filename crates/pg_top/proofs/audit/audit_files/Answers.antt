@@ -3,19 +3,19 @@ use Rattle.std.proofs.lemmas.Result.{IfOk-from_err, IfOk-weaker}
 use Rattle.pg_outside.specs.Content.{FilesShown, file_at}
 use Rattle.pg_top.specs.audit.AuditRule.{audit_rule, given_files}
 use Rattle.pg_words.specs.Inside.CommandRequests.{texts_of}
-use Rattle.pg_top.specs.Readings.{first_end}
+use Rattle.pg_steps.specs.Readings.{first_end}
 use Rattle.pg_words.specs.Requests.{FileNames}
 use Rattle.pg_top.specs.generate.GenerateRule.{inputs_in}
 use Rattle.pg_top.specs.generate.Inside.AcceptedInputs.{inputs_of, HasInputs}
 use Rattle.pg_top.specs.audit.Inside.Verdicts.{wanted_files, end_of, outcome_by}
-use Rattle.pg_top.specs.declared.inputs.Stop.TheVariants.{Memory}
+use Rattle.pg_steps.specs.declared.inputs.Stop.TheVariants.{Memory}
 use Rattle.pg_top.proofs.generate.InputOrder.{inputs_wanted}
 use Rattle.pg_top.proofs.audit.Judgements.{outcome_audited, stopped_given, found_given}
-use Rattle.pg_top.proofs.Orders.{mapped, both, held_later, only_on, stopped_in_front}
-use Rattle.pg_top.specs.Inside.ends.Stops.{StopsReading}
-use Rattle.pg_top.proofs.Results.{err_by, that_error}
+use Rattle.pg_steps.proofs.Orders.{mapped, both, held_later, only_on, stopped_in_front}
+use Rattle.pg_steps.specs.Inside.ends.Stops.{StopsReading}
+use Rattle.pg_steps.proofs.Results.{err_by, that_error}
 use Rattle.pg_top.proofs.audit.audit_files.Goals as goal
-use Rattle.pg_top.specs.Rules.{outcome_of}
+use Rattle.pg_steps.specs.Rules.{outcome_of}
 
 pub returns-in_err-inputs : goal.returns-in_err-inputs
 returns-in_err-inputs g c =

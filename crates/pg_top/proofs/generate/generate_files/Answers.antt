@@ -1,19 +1,19 @@
 use Rattle.std.proofs.Common.{◌≡◌, ◌∙◌, sym, ap}
 use Rattle.pg_outside.specs.Content.{file_at}
 use Rattle.pg_words.specs.Inside.CommandRequests.{texts_of}
-use Rattle.pg_top.specs.Outcomes.{Ends}
-use Rattle.pg_top.specs.Inside.ends.Built.{KeepsPromise}
+use Rattle.pg_steps.specs.Outcomes.{Ends}
+use Rattle.pg_steps.specs.Inside.ends.Built.{KeepsPromise}
 use Rattle.pg_top.specs.generate.Inside.AcceptedInputs.{HasInputs}
-use Rattle.pg_top.specs.Inside.writing.WritesMade.{written_names, writing_of}
-use Rattle.pg_top.specs.declared.answers.Status.TheVariants.{Done}
-use Rattle.pg_top.specs.declared.inputs.Stop.TheVariants.{Memory}
+use Rattle.pg_steps.specs.Inside.writing.WritesMade.{written_names, writing_of}
+use Rattle.pg_steps.specs.declared.answers.Status.TheVariants.{Done}
+use Rattle.pg_steps.specs.declared.inputs.Stop.TheVariants.{Memory}
 use Rattle.pg_top.proofs.generate.InputOrder.{outcome_generated, inputs_wanted}
 use Rattle.pg_top.proofs.Calls.{stops_reading}
 use Rattle.pg_top.proofs.ReadsStopped.{building_stopped}
-use Rattle.pg_top.proofs.Orders.{mapped}
+use Rattle.pg_steps.proofs.Orders.{mapped}
 use Rattle.pg_top.proofs.generate.WrittenNames.{names_of_files}
 use Rattle.pg_top.proofs.generate.generate_files.Goals as goal
-use Rattle.pg_top.specs.Rules.{outcome_of}
+use Rattle.pg_steps.specs.Rules.{outcome_of}
 use Rattle.pg_top.specs.generate.GenerateRule.{generate_rule}
 
 pub returns : goal.returns

@@ -1,17 +1,17 @@
 use Rattle.std.proofs.Common.{◌≡◌, ◌∙◌}
 use Rattle.pg_outside.specs.Content.{file_at}
-use Rattle.pg_top.specs.Outcomes.{Ends}
-use Rattle.pg_top.specs.Inside.ends.Built.{KeepsPromise}
+use Rattle.pg_steps.specs.Outcomes.{Ends}
+use Rattle.pg_steps.specs.Inside.ends.Built.{KeepsPromise}
 use Rattle.pg_top.specs.pack.Inside.Inputs.{HasSource}
 use Rattle.pg_words.specs.Requests.{PackRequest}
-use Rattle.pg_top.specs.Inside.writing.WritesMade.{writing_of}
-use Rattle.pg_top.specs.declared.answers.Status.TheVariants.{Done}
+use Rattle.pg_steps.specs.Inside.writing.WritesMade.{writing_of}
+use Rattle.pg_steps.specs.declared.answers.Status.TheVariants.{Done}
 use Rattle.pg_top.proofs.Calls.{stops_reading}
 use Rattle.pg_top.proofs.ReadsStopped.{building_stopped}
-use Rattle.pg_top.proofs.Orders.{mapped}
+use Rattle.pg_steps.proofs.Orders.{mapped}
 use Rattle.pg_top.proofs.pack.PackOrder.{pack_outcome, pack_promise, stopped_making}
 use Rattle.pg_top.proofs.pack.pack_files.Goals as goal
-use Rattle.pg_top.specs.Rules.{outcome_of}
+use Rattle.pg_steps.specs.Rules.{outcome_of}
 use Rattle.pg_top.specs.pack.PackRule.{pack_rule}
 
 pub returns : goal.returns

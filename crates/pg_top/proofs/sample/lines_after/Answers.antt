@@ -1,18 +1,16 @@
 use Rattle.std.proofs.Common.{◌≡◌, ◌∙◌, ◌++◌, List, ℕ, ap}
-use Rattle.pg_driver.specs.Inside.records.RunAccounts.{account_of}
 use Rattle.pg_driver.specs.Inside.records.AccountLines.{Account}
 use Rattle.pg_top.specs.PrintedLines.{done_line}
 use Rattle.pg_top.specs.sample.Inside.Lines.{printed_part}
 use Rattle.pg_top.specs.Selection.{selected_text, selected_report, selected_totals}
-use Rattle.pg_top.proofs.Selections.{text_selected, report_selected, totals_selected}
+use Rattle.pg_top.proofs.Selections.{totals_selected}
 use Rattle.pg_top.proofs.sample.lines_after.Goals as goal
 
 pub returns : goal.returns
 returns c =
     let i = c.args.inputs.now in
-    let text : c.in_ok-patterns.patterns.items ≡ selected_text i = c.in_ok-patterns.ensures.text ∙ text_selected i c.patterns.result.now (c.patterns.ensures ∙ c.requires.told.patterns) in
-    let report : c.in_ok-report.report.items ≡ selected_report i = c.in_ok-report.ensures
-    ∙ report_selected i c.largest.result (account_of c.args.run.now) c.largest.ensures.value c.requires.told.account in
+    let text : c.in_ok-patterns.patterns.items ≡ selected_text i = c.in_ok-patterns.ensures in
+    let report : c.in_ok-report.report.items ≡ selected_report i = c.in_ok-report.ensures in
     let totals = c.totals.ensures.value ∙ ap (λ (a : Account). a.totals) c.requires.told.account ∙ totals_selected i in
     let done : c.in_ok-done.done.items ≡ done_line (selected_text i) (selected_totals i) = c.in_ok-done.ensures ∙ (λ k. done_line ((c.deref.ensures.value ∙ text) k) (totals k)) in
     let printed : c.push_printed.new.lines.items ≡ printed_part (selected_report i) = c.in_ok-push_printed.ensures

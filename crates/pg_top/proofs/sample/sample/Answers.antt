@@ -1,4 +1,4 @@
-use Rattle.pg_top.proofs.CountedPuts.{sample_put}
+use Rattle.pg_steps.proofs.CountedPuts.{sample_put}
 use Rattle.pg_top.proofs.sample.sample.Goals as goal
 
 pub returns-in-Ok-clause-counted : goal.returns-in-Ok-clause-counted

@@ -3,20 +3,20 @@ use Rattle.std.specs.Prelude.{string_bytes}
 use Rattle.std.proofs.lemmas.List.{length-map}
 use Rattle.pg_outside.specs.Content.{file_at}
 use Rattle.pg_words.specs.Inside.CommandRequests.{sweep_of}
-use Rattle.pg_top.specs.Outcomes.{Ends}
-use Rattle.pg_top.specs.Inside.ends.Built.{KeepsPromise}
+use Rattle.pg_steps.specs.Outcomes.{Ends}
+use Rattle.pg_steps.specs.Inside.ends.Built.{KeepsPromise}
 use Rattle.pg_top.specs.sweep.Inside.Inputs.{terms_of}
 use Rattle.pg_top.specs.sweep.Inside.AcceptedInputs.{HasSweep}
-use Rattle.pg_top.specs.Inside.writing.WritesMade.{writing_of}
-use Rattle.pg_top.specs.declared.answers.Status.TheVariants.{Done}
-use Rattle.pg_top.specs.declared.inputs.Stop.TheVariants.{Memory}
+use Rattle.pg_steps.specs.Inside.writing.WritesMade.{writing_of}
+use Rattle.pg_steps.specs.declared.answers.Status.TheVariants.{Done}
+use Rattle.pg_steps.specs.declared.inputs.Stop.TheVariants.{Memory}
 use Rattle.pg_top.proofs.Calls.{stops_reading}
 use Rattle.pg_top.proofs.ReadsStopped.{building_stopped}
-use Rattle.pg_top.proofs.Orders.{AreAccepted, accepted_all, mapped, wanted_after}
+use Rattle.pg_steps.proofs.Orders.{AreAccepted, accepted_all, mapped, wanted_after}
 use Rattle.pg_top.proofs.sweep.SweepTexts.{sweep_promise}
 use Rattle.pg_top.proofs.sweep.SweepOrder.{sweep_accepted, sweep_outcome}
 use Rattle.pg_top.proofs.sweep.sweep_files.Goals as goal
-use Rattle.pg_top.specs.Rules.{outcome_of}
+use Rattle.pg_steps.specs.Rules.{outcome_of}
 use Rattle.pg_top.specs.sweep.SweepRule.{sweep_rule}
 
 pub returns : goal.returns

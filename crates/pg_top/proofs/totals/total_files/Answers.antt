@@ -3,25 +3,25 @@ use Rattle.pg_dict.specs.Words.{words}
 use Rattle.pg_outside.specs.Content.{FilesShown, file_at}
 use Rattle.pg_outside.specs.FilesCalls.{Reads}
 use Rattle.pg_translate.specs.Tables.{table}
-use Rattle.pg_top.specs.Readings.{input_file}
-use Rattle.pg_top.specs.Outcomes.{Ends}
-use Rattle.pg_top.specs.Inside.ends.Built.{KeepsPromise}
-use Rattle.pg_top.specs.Inside.writing.WritesMade.{written_names, writing_of}
-use Rattle.pg_top.specs.declared.writes.Output.{Output}
-use Rattle.pg_top.specs.declared.answers.Status.TheVariants.{Done}
-use Rattle.pg_top.specs.Inside.reading.UnderTable.{file_under}
+use Rattle.pg_steps.specs.Readings.{input_file}
+use Rattle.pg_steps.specs.Outcomes.{Ends}
+use Rattle.pg_steps.specs.Inside.ends.Built.{KeepsPromise}
+use Rattle.pg_steps.specs.Inside.writing.WritesMade.{written_names, writing_of}
+use Rattle.pg_steps.specs.declared.writes.Output.{Output}
+use Rattle.pg_steps.specs.declared.answers.Status.TheVariants.{Done}
+use Rattle.pg_steps.specs.Inside.reading.UnderTable.{file_under}
 use Rattle.pg_top.specs.totals.TotalsRule.{totals_rule, packed_table}
 use Rattle.pg_words.specs.Requests.{TotalsRequest}
-use Rattle.pg_top.specs.declared.inputs.Input.TheVariants as input
+use Rattle.pg_steps.specs.declared.inputs.Input.TheVariants as input
 use Rattle.pg_top.proofs.Calls.{stops_reading}
 use Rattle.pg_top.proofs.ReadsStopped.{building_stopped}
-use Rattle.pg_top.proofs.CountedCalls.{calls_on}
-use Rattle.pg_top.proofs.Faults.{none_fell}
-use Rattle.pg_top.proofs.Orders.{mapped, only_on}
+use Rattle.pg_steps.proofs.CountedCalls.{calls_on}
+use Rattle.pg_steps.proofs.Faults.{none_fell}
+use Rattle.pg_steps.proofs.Orders.{mapped, only_on}
 use Rattle.pg_top.proofs.totals.TotalsOrder.{HasWords, words_read, totals_told, stopped_table}
-use Rattle.pg_top.proofs.UnderTable.{stopped_first, stopped_second}
+use Rattle.pg_steps.proofs.UnderTable.{stopped_first, stopped_second}
 use Rattle.pg_top.proofs.totals.total_files.Goals as goal
-use Rattle.pg_top.specs.Rules.{outcome_of}
+use Rattle.pg_steps.specs.Rules.{outcome_of}
 
 pub returns : goal.returns
 returns g c =

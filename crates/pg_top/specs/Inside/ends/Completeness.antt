@@ -2,11 +2,11 @@
 use Rattle.std.specs.Prelude.{◌≡◌, Any, ◌⊎◌}
 use Rattle.pg_outside.specs.Content.{file_at}
 use Rattle.pg_outside.specs.Faults.{Rose}
-use Rattle.pg_top.specs.Moments.{Moment, OfFiles}
-use Rattle.pg_top.specs.Outcomes.{IsKnown}
-use Rattle.pg_top.specs.Rules.{CommandRule, outcome_of}
-use Rattle.pg_top.specs.declared.answers.Status.{Status}
-use Rattle.pg_top.specs.declared.answers.Status.TheVariants.{Memory}
+use Rattle.pg_steps.specs.Moments.{Moment, OfFiles}
+use Rattle.pg_steps.specs.Outcomes.{IsKnown}
+use Rattle.pg_steps.specs.Rules.{CommandRule, outcome_of}
+use Rattle.pg_steps.specs.declared.answers.Status.{Status}
+use Rattle.pg_steps.specs.declared.answers.Status.TheVariants.{Memory}
 
 -- some fault rose: of the sink, of reading a file that is read, or of writing one that is written
 abbrev pub SomeRose : CommandRule → Moment → Moment → Type 0

@@ -4,16 +4,16 @@ use Rattle.std.specs.Option.{option_map}
 use Rattle.pg_audit.specs.Differences.{first_false}
 use Rattle.pg_outside.specs.Content.{FilesShown, SinkShown, file_at}
 use Rattle.pg_top.specs.audit.AuditRule.{denies}
-use Rattle.pg_top.specs.FileCalls.{MakesCalls, read_calls, ReadsUpTo}
-use Rattle.pg_top.specs.Outcomes.{Outcome, Ends}
-use Rattle.pg_top.specs.Readings.{Reading, first_end}
-use Rattle.pg_top.specs.Inside.ends.Stops.{PutsAnswer}
-use Rattle.pg_top.specs.declared.answers.Status.{Status}
-use Rattle.pg_top.specs.declared.answers.Status.TheVariants.{Yes, No}
+use Rattle.pg_steps.specs.FileCalls.{MakesCalls, read_calls, ReadsUpTo}
+use Rattle.pg_steps.specs.Outcomes.{Outcome, Ends}
+use Rattle.pg_steps.specs.Readings.{Reading, first_end}
+use Rattle.pg_steps.specs.Inside.ends.Stops.{PutsAnswer}
+use Rattle.pg_steps.specs.declared.answers.Status.{Status}
+use Rattle.pg_steps.specs.declared.answers.Status.TheVariants.{Yes, No}
 use Rattle.pg_top.specs.declared.audit.compare.Verdict.{Verdict}
 use Rattle.pg_top.specs.declared.audit.compare.Verdict.TheVariants.{Equal, False}
 use Rattle.pg_top.specs.declared.audit.wanted.WantedFile.{WantedFile}
-use Rattle.pg_top.specs.declared.inputs.Given.{Given}
+use Rattle.pg_steps.specs.declared.inputs.Given.{Given}
 
 -- where `audit` finds all given files right
 abbrev pub yes_line : List ℕ

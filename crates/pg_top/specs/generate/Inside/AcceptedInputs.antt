@@ -4,9 +4,9 @@ use Rattle.pg_types.specs.Parameters.{parameters}
 use Rattle.pg_translate.specs.Tables.{table}
 use Rattle.pg_dict.specs.Words.{words}
 use Rattle.pg_patterns.specs.Starts.{start}
-use Rattle.pg_top.specs.Readings.{HeldFiles, Reading}
+use Rattle.pg_steps.specs.Readings.{HeldFiles, Reading}
 use Rattle.pg_top.specs.generate.GenerateRule.{generate_rule}
-use Rattle.pg_top.specs.Inside.reading.ReadAs.{read_as}
+use Rattle.pg_steps.specs.Inside.reading.ReadAs.{read_as}
 use Rattle.pg_words.specs.Requests.{FileNames}
 use Rattle.pg_top.specs.declared.selection.Inputs.{Inputs}
 

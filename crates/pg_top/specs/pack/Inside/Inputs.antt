@@ -10,11 +10,11 @@ use Rattle.pg_select.specs.Windows.{Patterns}
 use Rattle.pg_table.specs.Texts.{table_text}
 use Rattle.pg_table.specs.declared.error.TableError.{TableError}
 use Rattle.pg_table.specs.declared.error.TableError.TheVariants as table_error
-use Rattle.pg_top.specs.Readings.{HeldFiles, Reading, translate_file, patterns_file}
-use Rattle.pg_top.specs.Inside.reading.ReadAs.{read_as}
-use Rattle.pg_top.specs.declared.inputs.Input.TheVariants as input
-use Rattle.pg_top.specs.declared.inputs.Stop.{Stop}
-use Rattle.pg_top.specs.declared.inputs.Stop.TheVariants as stop
+use Rattle.pg_steps.specs.Readings.{HeldFiles, Reading, translate_file, patterns_file}
+use Rattle.pg_steps.specs.Inside.reading.ReadAs.{read_as}
+use Rattle.pg_steps.specs.declared.inputs.Input.TheVariants as input
+use Rattle.pg_steps.specs.declared.inputs.Stop.{Stop}
+use Rattle.pg_steps.specs.declared.inputs.Stop.TheVariants as stop
 use Rattle.pg_top.specs.declared.pack.inputs.Source.{Source}
 
 -- a table is refused, without a place

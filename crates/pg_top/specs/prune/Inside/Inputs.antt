@@ -11,11 +11,11 @@ use Rattle.pg_select.specs.CountedPositions.{minima_of}
 use Rattle.pg_select.specs.Windows.{Patterns}
 use Rattle.pg_prune.specs.Prunes.{Pruning, pruning_of}
 use Rattle.pg_prune.specs.Reports.{prune_report}
-use Rattle.pg_top.specs.Outcomes.{Outcome, Writing}
+use Rattle.pg_steps.specs.Outcomes.{Outcome, Writing}
 use Rattle.pg_top.specs.prune.PruneRule.{outcome_of_prune, pruned_line}
-use Rattle.pg_top.specs.Readings.{HeldFiles, Reading, translate_file}
-use Rattle.pg_top.specs.Inside.reading.Lists.{lists_under}
-use Rattle.pg_top.specs.Inside.reading.ReadAs.{read_as}
+use Rattle.pg_steps.specs.Readings.{HeldFiles, Reading, translate_file}
+use Rattle.pg_steps.specs.Inside.reading.Lists.{lists_under}
+use Rattle.pg_steps.specs.Inside.reading.ReadAs.{read_as}
 use Rattle.pg_top.specs.declared.prune.inputs.PruneInputs.{PruneInputs}
 
 -- the files that `prune` reads, in its order

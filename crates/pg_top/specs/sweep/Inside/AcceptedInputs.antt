@@ -6,8 +6,8 @@ use Rattle.pg_translate.specs.Tables.{table}
 use Rattle.pg_dict.specs.Words.{words}
 use Rattle.pg_patterns.specs.Starts.{start}
 use Rattle.pg_sweep.specs.Sweeps.{Terms}
-use Rattle.pg_top.specs.Readings.{HeldFiles}
-use Rattle.pg_top.specs.Inside.reading.ReadAs.{read_as}
+use Rattle.pg_steps.specs.Readings.{HeldFiles}
+use Rattle.pg_steps.specs.Inside.reading.ReadAs.{read_as}
 use Rattle.pg_words.specs.Requests.{SweepRequest}
 
 -- a file that is accepted as this set of parameters, as it is read

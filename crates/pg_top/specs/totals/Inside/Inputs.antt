@@ -5,8 +5,8 @@ use Rattle.pg_dict.specs.Word.{Word}
 use Rattle.pg_select.specs.CountedPositions.{minima_of}
 use Rattle.pg_table.specs.Lookups.{table_totals}
 use Rattle.pg_texts.specs.ReportTexts.{ending_text}
-use Rattle.pg_top.specs.Readings.{HeldFiles}
-use Rattle.pg_top.specs.Inside.reading.ReadAs.{read_as}
+use Rattle.pg_steps.specs.Readings.{HeldFiles}
+use Rattle.pg_steps.specs.Inside.reading.ReadAs.{read_as}
 use Rattle.pg_top.specs.totals.TotalsRule.{packed_table}
 
 -- what `totals` prints: the totals of the words by a packed table, and the rates

@@ -2,16 +2,16 @@ use Rattle.std.proofs.Common.{◌≡◌, Some, IfSome, [], take, ap, subst, arit
 use Rattle.std.proofs.lemmas.Result.{IfOk-from_err}
 use Rattle.std.specs.Option.{option_map}
 use Rattle.pg_outside.specs.Content.{FilesShown, file_at}
-use Rattle.pg_top.specs.Outcomes.{Ends}
-use Rattle.pg_top.specs.Readings.{first_end}
+use Rattle.pg_steps.specs.Outcomes.{Ends}
+use Rattle.pg_steps.specs.Readings.{first_end}
 use Rattle.pg_top.specs.audit.Inside.Verdicts.{wanted_file, wanted_files, end_of}
-use Rattle.pg_top.specs.declared.answers.Status.TheVariants.{No}
+use Rattle.pg_steps.specs.declared.answers.Status.TheVariants.{No}
 use Rattle.pg_top.specs.declared.audit.compare.Verdict.{Verdict}
-use Rattle.pg_top.proofs.CountedCalls.{no_calls}
+use Rattle.pg_steps.proofs.CountedCalls.{no_calls}
 use Rattle.pg_top.proofs.audit.Judgements.{accepted_more, called_there, read_there, false_ends, false_found, stopped_there, all_right, all_found}
-use Rattle.pg_top.proofs.Orders.{AreAccepted, none_accepted, held_later, only_on, only_self}
-use Rattle.pg_top.specs.Inside.ends.Stops.{StopsReading}
-use Rattle.pg_top.proofs.Results.{that_error}
+use Rattle.pg_steps.proofs.Orders.{AreAccepted, none_accepted, held_later, only_on, only_self}
+use Rattle.pg_steps.specs.Inside.ends.Stops.{StopsReading}
+use Rattle.pg_steps.proofs.Results.{that_error}
 use Rattle.pg_top.proofs.audit.compare.compare_all.Goals as goal
 
 pub files-init : goal.files-init

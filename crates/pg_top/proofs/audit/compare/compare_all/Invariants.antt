@@ -1,9 +1,9 @@
 use Rattle.std.proofs.Common.{IfSome, take}
 use Rattle.pg_outside.specs.Content.{file_at}
-use Rattle.pg_top.specs.Inside.ends.Stops.{OnlyReads}
-use Rattle.pg_top.specs.FileCalls.{MakesCalls, read_calls}
+use Rattle.pg_steps.specs.Inside.ends.Stops.{OnlyReads}
+use Rattle.pg_steps.specs.FileCalls.{MakesCalls, read_calls}
 use Rattle.pg_top.specs.audit.Inside.Verdicts.{wanted_files}
-use Rattle.pg_top.proofs.Orders.{AreAccepted}
+use Rattle.pg_steps.proofs.Orders.{AreAccepted}
 use Rattle.pg_top.proofs.audit.compare.compare_all.Given as goal
 
 abbrev pub invariant-files : goal.invariant-files

@@ -5,13 +5,13 @@ use Rattle.pg_audit.specs.Differences.{first_false}
 use Rattle.pg_outside.specs.Content.{FilesShown, file_at}
 use Rattle.pg_top.specs.audit.AuditRule.{denies}
 use Rattle.pg_top.specs.audit.Inside.Verdicts.{wanted_file, end_of, IsFrontOf}
-use Rattle.pg_top.proofs.Fronts.{front_stop}
+use Rattle.pg_steps.proofs.Fronts.{front_stop}
 use Rattle.pg_top.proofs.audit.GivenFronts.{given_front}
 use Rattle.pg_top.proofs.audit.Judgements.{judged}
-use Rattle.pg_top.specs.Inside.ends.Stops.{StopsAt}
-use Rattle.pg_top.specs.declared.inputs.Stop.TheVariants.{Memory}
-use Rattle.pg_top.proofs.Orders.{mapped}
-use Rattle.pg_top.proofs.Results.{that_error}
+use Rattle.pg_steps.specs.Inside.ends.Stops.{StopsAt}
+use Rattle.pg_steps.specs.declared.inputs.Stop.TheVariants.{Memory}
+use Rattle.pg_steps.proofs.Orders.{mapped}
+use Rattle.pg_steps.proofs.Results.{that_error}
 use Rattle.pg_top.proofs.audit.compare.compare_file.Goals as goal
 
 pub returns-in_err-bytes : goal.returns-in_err-bytes

@@ -1,6 +1,6 @@
 use Rattle.std.proofs.Common.{◌++◌, ◌∷◌, [], ◌∙◌, List, ℕ, ap}
 use Rattle.pg_top.specs.audit.Inside.Verdicts.{reading_of, wanted_files}
-use Rattle.pg_top.specs.declared.inputs.Given.TheVariants.{Pattmp}
+use Rattle.pg_steps.specs.declared.inputs.Given.TheVariants.{Pattmp}
 use Rattle.pg_top.proofs.audit.wanted.push_pattmp.Goals as goal
 
 pub returns-in_ok-push_wanted : goal.returns-in_ok-push_wanted

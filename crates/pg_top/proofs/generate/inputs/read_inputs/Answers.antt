@@ -4,12 +4,12 @@ use Rattle.pg_outside.specs.Content.{FilesShown}
 use Rattle.pg_outside.specs.FilesCalls.{Reads}
 use Rattle.pg_words.specs.Inside.CommandRequests.{texts_of}
 use Rattle.pg_words.specs.Requests.{FileNames}
-use Rattle.pg_top.proofs.Faults.{none_fell}
-use Rattle.pg_top.proofs.CountedCalls.{calls_on}
+use Rattle.pg_steps.proofs.Faults.{none_fell}
+use Rattle.pg_steps.proofs.CountedCalls.{calls_on}
 use Rattle.pg_top.proofs.generate.InputOrder.{two_read, all_read, stopped_1, stopped_2, stopped_lists}
-use Rattle.pg_top.proofs.Orders.{held_later, only_on}
+use Rattle.pg_steps.proofs.Orders.{held_later, only_on}
 use Rattle.pg_top.proofs.ReadsStopped.{files_stopped}
-use Rattle.pg_top.proofs.UnderTable.{HasTable}
+use Rattle.pg_steps.proofs.UnderTable.{HasTable}
 use Rattle.pg_top.proofs.generate.inputs.read_inputs.Goals as goal
 
 pub returns-in_err-table : goal.returns-in_err-table

@@ -1,7 +1,7 @@
 use Rattle.std.proofs.Common.{◌++◌, ◌∷◌, [], ◌∙◌, List, ℕ, ap}
 use Rattle.pg_texts.proofs.Layouts.{layouts_there}
 use Rattle.pg_top.specs.Inside.selection.SelectionAccounts.{selected_cells}
-use Rattle.pg_top.specs.Inside.writing.WritesMade.{writing_of}
+use Rattle.pg_steps.specs.Inside.writing.WritesMade.{writing_of}
 use Rattle.pg_top.proofs.Selections.{cells_text_selected}
 use Rattle.pg_top.proofs.generate.outputs.push_cells.Goals as goal
 

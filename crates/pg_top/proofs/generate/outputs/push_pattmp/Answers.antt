@@ -1,5 +1,5 @@
 use Rattle.std.proofs.Common.{◌++◌, ◌∷◌, [], ◌∙◌, List, ℕ, ap}
-use Rattle.pg_top.specs.Inside.writing.WritesMade.{writing_of}
+use Rattle.pg_steps.specs.Inside.writing.WritesMade.{writing_of}
 use Rattle.pg_top.proofs.generate.outputs.push_pattmp.Goals as goal
 
 pub returns-in_ok-push_file : goal.returns-in_ok-push_file

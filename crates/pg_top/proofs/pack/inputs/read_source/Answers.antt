@@ -4,13 +4,13 @@ use Rattle.pg_patterns.specs.Starts.{start}
 use Rattle.pg_outside.specs.Content.{FilesShown}
 use Rattle.pg_outside.specs.FilesCalls.{Reads}
 use Rattle.pg_translate.specs.Tables.{table}
-use Rattle.pg_top.specs.Readings.{input_file}
-use Rattle.pg_top.specs.Inside.reading.UnderTable.{file_under}
-use Rattle.pg_top.specs.declared.inputs.Input.TheVariants.{Translate, Patterns}
-use Rattle.pg_top.proofs.CountedCalls.{calls_on}
+use Rattle.pg_steps.specs.Readings.{input_file}
+use Rattle.pg_steps.specs.Inside.reading.UnderTable.{file_under}
+use Rattle.pg_steps.specs.declared.inputs.Input.TheVariants.{Translate, Patterns}
+use Rattle.pg_steps.proofs.CountedCalls.{calls_on}
 use Rattle.pg_top.proofs.pack.PackOrder.{source_read}
-use Rattle.pg_top.proofs.UnderTable.{stopped_first, stopped_second}
-use Rattle.pg_top.proofs.Orders.{only_on}
+use Rattle.pg_steps.proofs.UnderTable.{stopped_first, stopped_second}
+use Rattle.pg_steps.proofs.Orders.{only_on}
 use Rattle.pg_top.proofs.ReadsStopped.{files_stopped}
 use Rattle.pg_top.proofs.pack.inputs.read_source.Goals as goal
 

@@ -5,10 +5,10 @@ use Rattle.pg_table.specs.Texts.{table_text}
 use Rattle.pg_table.specs.declared.error.TableError.TheVariants as table_error
 use Rattle.pg_table.specs.declared.limits.TheConstants.{TABLE_MAX}
 use Rattle.pg_top.specs.pack.Inside.Inputs.{packed_text}
-use Rattle.pg_top.specs.Outcomes.{Ends}
+use Rattle.pg_steps.specs.Outcomes.{Ends}
 use Rattle.pg_top.specs.pack.PackRule.{packed_line}
-use Rattle.pg_top.specs.Inside.writing.WritesMade.{written_names}
-use Rattle.pg_top.specs.declared.answers.Status.TheVariants.{Done}
+use Rattle.pg_steps.specs.Inside.writing.WritesMade.{written_names}
+use Rattle.pg_steps.specs.declared.answers.Status.TheVariants.{Done}
 use Rattle.pg_table.specs.Inside.Laws.{HasEntries}
 use Rattle.pg_top.proofs.Promised.{gives_values}
 use Rattle.pg_top.proofs.pack.PackedHeads.{packed_accepted}

@@ -3,9 +3,9 @@ use Rattle.std.proofs.lemmas.Result.{IfOk-from_err}
 use Rattle.pg_outside.specs.Content.{FilesShown}
 use Rattle.pg_outside.specs.FilesCalls.{Reads}
 use Rattle.pg_words.specs.Requests.{PruneRequest}
-use Rattle.pg_top.proofs.CountedCalls.{calls_on}
+use Rattle.pg_steps.proofs.CountedCalls.{calls_on}
 use Rattle.pg_top.proofs.prune.PruneOrder.{all_read, stopped_table, stopped_lists}
-use Rattle.pg_top.proofs.Orders.{only_on}
+use Rattle.pg_steps.proofs.Orders.{only_on}
 use Rattle.pg_top.proofs.ReadsStopped.{files_stopped}
 use Rattle.pg_top.proofs.prune.inputs.read_prune.Goals as goal
 

@@ -1,11 +1,11 @@
 use Rattle.std.proofs.Common.{◌∙◌, sym, ap, subst}
 use Rattle.std.proofs.lemmas.Result.{IfOk-weaker}
 use Rattle.pg_prune.specs.Prunes.{Pruning}
-use Rattle.pg_top.specs.Outcomes.{Ends}
+use Rattle.pg_steps.specs.Outcomes.{Ends}
 use Rattle.pg_top.specs.prune.PruneRule.{ReadsBack, outcome_of_prune}
-use Rattle.pg_top.specs.Inside.writing.WritesMade.{written_names}
-use Rattle.pg_top.specs.declared.answers.Status.TheVariants.{Done}
-use Rattle.pg_top.proofs.Results.{ok_by_two}
+use Rattle.pg_steps.specs.Inside.writing.WritesMade.{written_names}
+use Rattle.pg_steps.specs.declared.answers.Status.TheVariants.{Done}
+use Rattle.pg_steps.proofs.Results.{ok_by_two}
 use Rattle.pg_top.proofs.prune.outputs.make_prune.Goals as goal
 
 pub returns-clause-made : goal.returns-clause-made

@@ -1,9 +1,9 @@
 use Rattle.std.proofs.Common.{List, [], ◌∷◌, ◌++◌, length, ◌∙◌, ap}
 use Rattle.pg_patterns.specs.Texts.{pattern_text}
 use Rattle.pg_prune.specs.Reports.{prune_report}
-use Rattle.pg_top.specs.Outcomes.{Writing}
-use Rattle.pg_top.specs.Inside.writing.WritesMade.{writing_of}
-use Rattle.pg_top.specs.declared.writes.Output.{Output}
+use Rattle.pg_steps.specs.Outcomes.{Writing}
+use Rattle.pg_steps.specs.Inside.writing.WritesMade.{writing_of}
+use Rattle.pg_steps.specs.declared.writes.Output.{Output}
 use Rattle.pg_top.specs.prune.PruneRule.{pruned_line}
 use Rattle.pg_top.proofs.prune.outputs.write_pruned.Goals as goal
 

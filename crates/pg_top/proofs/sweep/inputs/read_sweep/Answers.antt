@@ -4,11 +4,11 @@ use Rattle.pg_outside.specs.Content.{FilesShown}
 use Rattle.pg_words.specs.Inside.CommandRequests.{sweep_of}
 use Rattle.pg_words.specs.Requests.{SweepRequest}
 use Rattle.pg_types.specs.declared.limits.TheConstants.{SETS_MAX}
-use Rattle.pg_top.proofs.Faults.{none_fell}
+use Rattle.pg_steps.proofs.Faults.{none_fell}
 use Rattle.pg_top.proofs.sweep.SweepOrder.{front_calls, all_calls, front_read, all_read, stopped_table, stopped_sets, stopped_lists}
-use Rattle.pg_top.proofs.Orders.{held_later, only_on}
+use Rattle.pg_steps.proofs.Orders.{held_later, only_on}
 use Rattle.pg_top.proofs.ReadsStopped.{files_stopped}
-use Rattle.pg_top.proofs.UnderTable.{HasTable}
+use Rattle.pg_steps.proofs.UnderTable.{HasTable}
 use Rattle.pg_top.proofs.sweep.inputs.read_sweep.Goals as goal
 
 pub returns-in_err-table : goal.returns-in_err-table

@@ -3,11 +3,11 @@ use Rattle.std.specs.Prelude.{map}
 use Rattle.std.proofs.lemmas.Result.{IfOk-weaker}
 use Rattle.pg_sweep.specs.Sweeps.{Terms, row_of}
 use Rattle.pg_words.specs.Inside.CommandRequests.{sweep_of}
-use Rattle.pg_top.specs.Outcomes.{Ends}
+use Rattle.pg_steps.specs.Outcomes.{Ends}
 use Rattle.pg_top.specs.sweep.Inside.Inputs.{terms_of}
-use Rattle.pg_top.specs.Inside.writing.WritesMade.{written_names}
-use Rattle.pg_top.specs.declared.answers.Status.TheVariants.{Done}
-use Rattle.pg_top.proofs.Results.{ok_by_two}
+use Rattle.pg_steps.specs.Inside.writing.WritesMade.{written_names}
+use Rattle.pg_steps.specs.declared.answers.Status.TheVariants.{Done}
+use Rattle.pg_steps.proofs.Results.{ok_by_two}
 use Rattle.pg_top.proofs.sweep.SweepTexts.{sweep_made}
 use Rattle.pg_top.proofs.sweep.outputs.make_sweep.Goals as goal
 

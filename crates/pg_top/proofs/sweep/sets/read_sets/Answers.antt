@@ -4,9 +4,9 @@ use Rattle.pg_types.specs.Parameters.{Parameters}
 use Rattle.pg_outside.specs.Content.{FilesShown, file_at}
 use Rattle.pg_words.specs.Inside.Names.{words_of}
 use Rattle.pg_top.specs.sweep.Inside.AcceptedInputs.{HasSets}
-use Rattle.pg_top.specs.declared.inputs.Stop.TheVariants.{Memory}
-use Rattle.pg_top.proofs.CountedCalls.{no_calls}
-use Rattle.pg_top.proofs.Orders.{only_on, only_self}
+use Rattle.pg_steps.specs.declared.inputs.Stop.TheVariants.{Memory}
+use Rattle.pg_steps.proofs.CountedCalls.{no_calls}
+use Rattle.pg_steps.proofs.Orders.{only_on, only_self}
 use Rattle.pg_top.proofs.ReadsStopped.{files_stopped}
 use Rattle.pg_top.proofs.sweep.SetFiles.{no_sets, all_sets_taken, sets_more, set_read, sets_read_on, stopped_set, all_sets_read}
 use Rattle.pg_top.proofs.sweep.sets.read_sets.Goals as goal

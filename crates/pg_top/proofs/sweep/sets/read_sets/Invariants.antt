@@ -1,9 +1,9 @@
 use Rattle.std.proofs.Common.{◌≡◌, length, map, take, IfSome}
 use Rattle.pg_outside.specs.Content.{file_at}
-use Rattle.pg_top.specs.Inside.ends.Stops.{OnlyReads}
+use Rattle.pg_steps.specs.Inside.ends.Stops.{OnlyReads}
 use Rattle.pg_outside.specs.FilesCalls.{Reads}
 use Rattle.pg_words.specs.Inside.Names.{words_of}
-use Rattle.pg_top.specs.FileCalls.{MakesCalls}
+use Rattle.pg_steps.specs.FileCalls.{MakesCalls}
 use Rattle.pg_top.specs.sweep.Inside.AcceptedInputs.{HasSets}
 use Rattle.pg_top.proofs.sweep.sets.read_sets.Given as goal
 

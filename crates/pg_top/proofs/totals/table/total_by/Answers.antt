@@ -6,15 +6,15 @@ use Rattle.pg_outside.specs.Content.{FilesShown, file_at}
 use Rattle.pg_table.specs.declared.limits.TheConstants.{TABLE_MAX}
 use Rattle.pg_texts.specs.ReportTexts.{ending_text}
 use Rattle.pg_top.specs.totals.TotalsRule.{packed_table}
-use Rattle.pg_top.specs.Readings.{Reading, input_file}
-use Rattle.pg_top.specs.Inside.reading.ReadAs.{read_as}
+use Rattle.pg_steps.specs.Readings.{Reading, input_file}
+use Rattle.pg_steps.specs.Inside.reading.ReadAs.{read_as}
 use Rattle.pg_top.specs.totals.Inside.Inputs.{IsTotalled, totals_lines}
-use Rattle.pg_top.specs.declared.inputs.Input.TheVariants as input
-use Rattle.pg_top.proofs.Fronts.{packed_table-front, read_up_to, stopped_up_to, front_stop}
-use Rattle.pg_top.specs.Inside.ends.Stops.{StopsAt}
-use Rattle.pg_top.proofs.Orders.{mapped}
-use Rattle.pg_top.proofs.Results.{that_error}
-use Rattle.pg_top.proofs.totals.TotalsOrder.{table_signs}
+use Rattle.pg_steps.specs.declared.inputs.Input.TheVariants as input
+use Rattle.pg_steps.proofs.Fronts.{read_up_to, stopped_up_to, front_stop}
+use Rattle.pg_steps.specs.Inside.ends.Stops.{StopsAt}
+use Rattle.pg_steps.proofs.Orders.{mapped}
+use Rattle.pg_steps.proofs.Results.{that_error}
+use Rattle.pg_top.proofs.totals.TotalsOrder.{packed_table-front, table_signs}
 use Rattle.pg_top.proofs.totals.table.total_by.Goals as goal
 
 pub table_totals-requires : goal.table_totals-requires

@@ -1,0 +1,9 @@
+pub mod Statuses
+pub mod RefusedLines
+pub mod Outcomes
+pub mod Readings
+pub mod Rules
+pub mod Writings
+pub mod Moments
+pub mod FileCalls
+pub mod Inside

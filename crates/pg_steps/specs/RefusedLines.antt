@@ -1,0 +1,31 @@
+-- The line where an input is refused.
+use Rattle.std.specs.Prelude.{ℕ, ◌==◌, if◌then◌else◌, List, [], ◌++◌, codes, decimal}
+use Rattle.pg_types.specs.Refusals.{number_and_name}
+use Rattle.pg_types.specs.declared.refusals.Refusal.{Refusal}
+use Rattle.pg_steps.specs.declared.inputs.Input.{Input}
+use Rattle.pg_steps.specs.declared.inputs.Input.TheVariants as input
+use Rattle.pg_steps.specs.declared.inputs.Given.TheVariants as given
+
+-- the words for a file in a line of refusal or of `no`
+abbrev pub word_of : Input → List ℕ
+word_of input.Translate = codes "translate"
+word_of input.Parameters = codes "parameters"
+word_of input.Patterns = codes "patterns"
+word_of input.Dictionary = codes "dictionary"
+word_of (input.Set k) = codes "set " ++ decimal k
+word_of input.Table = codes "table"
+word_of (input.Given given.Patterns) = codes "patterns"
+word_of (input.Given given.Pattmp) = codes "pattmp"
+word_of (input.Given given.Report) = codes "report"
+
+-- where in a file the refused place is: an item of parameters, a line and a column of the others
+abbrev pub place_of : Input → Refusal → List ℕ
+place_of input.Parameters r = codes " item " ++ decimal r.line
+place_of (input.Set k) r = codes " item " ++ decimal r.line
+place_of other r = codes " line " ++ decimal r.line ++ codes " column " ++ decimal r.column
+
+-- where a file is refused; a refusal with line 0 has no place
+abbrev pub refused_line : Input → Refusal → List ℕ
+refused_line input r = codes "refused: " ++ word_of input ++ codes " "
+    ++ decimal (number_and_name r.kind).0 ++ codes " " ++ (number_and_name r.kind).1
+    ++ (if r.line == 0 then [] else place_of input r) ++ codes "\n"

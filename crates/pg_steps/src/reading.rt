@@ -1,0 +1,186 @@
+//! The readers of the input files.
+ghost use Rattle.std.specs.Prelude.{◌≡◌, ◌+◌, ◌-◌, ◌<◌, ◌^◌, ℕ, List, [], ◌∷◌, take, IfOk, IfErr, IfSome, Some, Ok};
+ghost use Rattle.std.specs.Option.{option_map};
+ghost use Rattle.pg_types.specs.Parameters.{parameters};
+ghost use Rattle.pg_outside.specs.Content.{file_at};
+ghost use Rattle.pg_outside.specs.FilesCalls.{Reads};
+ghost use Rattle.pg_translate.specs.Alphabets.{letters_of};
+ghost use Rattle.pg_translate.specs.Tables.{table as table_of_file};
+ghost use Rattle.pg_dict.specs.Inside.SoundWords.{SignsAtMost};
+ghost use Rattle.pg_dict.specs.Words.{words};
+ghost use Rattle.pg_patterns.specs.Starts.{start};
+ghost use Rattle.pg_patterns.specs.Inside.PatternMaps.{SignsUpTo};
+ghost use Rattle.pg_steps.specs.FileCalls.{MakesCalls};
+ghost use Rattle.pg_steps.specs.Inside.reading.ReadAs.{read_as};
+ghost use Rattle.pg_steps.specs.Inside.reading.Lists.{lists_under, HasLists};
+ghost use Rattle.pg_steps.specs.Inside.reading.ReadsMade.{ReadsInput};
+ghost use Rattle.pg_steps.specs.Inside.ends.Stops.{OnlyReads, accepted_as, StopsFront, StopsReading};
+
+use crate::inputs::{Input, Stop};
+use pg_dict::Dictionary;
+use pg_outside::{Files, ReadError};
+use pg_patterns::PatternSet;
+use pg_translate::Table;
+use pg_types::{FILE_MAX, Params, ReadingError, read_params};
+use pg_watch::{Refused, Watch};
+use std::alloc::Global;
+
+/// Reads a file as a whole, or its first `limit + 1` bytes where it is longer than `limit` bytes.
+pub fn read_front<'a, F: Files, W: Watch>(
+    alloc: Global,
+    name: &'a str,
+    limit: usize,
+    files: &mut F,
+    watch: &W,
+) -> Result<Vec<u8>, Stop<'a>>
+    requires { limit < 2 ^ 64 - 1 }
+    ensures only { OnlyReads (F.shown files.old) (F.shown files.new) }
+    ensures calls { MakesCalls (F.shown files.old) (F.shown files.new) (Reads name.now ∷ []) }
+    ensures front { IfOk result (λ bytes.
+        IfSome (F.shown files.new).held (λ files.
+        option_map (take (limit + 1)) (file_at files name.now) ≡ Some bytes.items)) }
+    ensures stopped { IfErr result (StopsFront name.now (F.shown files.old) (F.shown files.new)) }
+{
+    watch.reads(name);
+    let mut bytes = Vec::new(alloc);
+    match files.read(alloc, name, limit, &mut bytes) {
+        Ok(()) => Ok(bytes),
+        Err(ReadError::TooLong) => Ok(bytes),
+        Err(ReadError::Failed) => Err(Stop::Unread(name)),
+        Err(ReadError::Memory) => Err(Stop::Memory),
+    }
+}
+
+/// Why a command stops where this input breaks its rules. The observer is told of it.
+pub fn refuse<'a, W: Watch>(input: Input, refused: &Refused<'_>, watch: &W) -> Stop<'a>
+    ensures { result ≡ Stop.Refused input refused.now.refusal }
+{
+    watch.refuses(refused);
+    Stop::Refused(input, refused.refusal)
+}
+
+/// What a reader gave of this input, or why a command stops there.
+fn accept<'a, T, W: Watch>(
+    read: Result<T, ReadingError>,
+    input: Input,
+    name: &str,
+    bytes: &[u8],
+    letters: Option<&Table>,
+    watch: &W,
+) -> Result<T, Stop<'a>>
+    ensures { result ≡ accepted_as input read }
+{
+    match read {
+        Ok(value) => Ok(value),
+        Err(ReadingError::Refused(refusal)) => {
+            let refused = Refused {
+                name,
+                bytes,
+                refusal,
+                letters,
+            };
+            Err(refuse(input, &refused, watch))
+        }
+        Err(ReadingError::Memory) => Err(Stop::Memory),
+    }
+}
+
+/// Reads the translate file.
+pub fn read_table<'a, F: Files, W: Watch>(
+    alloc: Global,
+    name: &'a str,
+    files: &mut F,
+    watch: &W,
+) -> Result<Table, Stop<'a>>
+    ensures { ReadsInput Input.Translate name.now table_of_file
+        (F.shown files.old) (F.shown files.new) result }
+{
+    let bytes = read_front(alloc, name, FILE_MAX, files, watch)?;
+    let read = Table::read(alloc, &bytes);
+    if read.is_ok() {
+        watch.letters(name);
+    }
+    accept(read, Input::Translate, name, &bytes, None, watch)
+}
+
+/// Reads parameters as this input.
+pub fn read_parameters<'a, F: Files, W: Watch>(
+    alloc: Global,
+    input: Input,
+    name: &'a str,
+    files: &mut F,
+    watch: &W,
+) -> Result<Params, Stop<'a>>
+    ensures { ReadsInput input name.now parameters (F.shown files.old) (F.shown files.new) result }
+{
+    let bytes = read_front(alloc, name, FILE_MAX, files, watch)?;
+    let read = read_params(alloc, &bytes);
+    accept(read, input, name, &bytes, None, watch)
+}
+
+/// Reads the starting patterns under a table.
+pub fn read_start<'a, F: Files, W: Watch>(
+    alloc: Global,
+    table: &Table,
+    name: &'a str,
+    files: &mut F,
+    watch: &W,
+) -> Result<PatternSet, Stop<'a>>
+    ensures read { ReadsInput Input.Patterns name.now (start table.now)
+        (F.shown files.old) (F.shown files.new) result }
+    ensures known { IfOk result (SignsUpTo (letters_of table.now + 1)) }
+{
+    let bytes = read_front(alloc, name, FILE_MAX, files, watch)?;
+    let read = PatternSet::read(alloc, table, &bytes);
+    if read.is_ok() {
+        watch.patterns(name, &bytes);
+    }
+    accept(read, Input::Patterns, name, &bytes, Some(table), watch)
+}
+
+/// Reads the dictionary under a table.
+pub fn read_dictionary<'a, F: Files, W: Watch>(
+    alloc: Global,
+    table: &Table,
+    name: &'a str,
+    files: &mut F,
+    watch: &W,
+) -> Result<Dictionary, Stop<'a>>
+    ensures read { ReadsInput Input.Dictionary name.now (words table.now)
+        (F.shown files.old) (F.shown files.new) result }
+    ensures signs { IfOk result (SignsAtMost (letters_of table.now + 1)) }
+{
+    let bytes = read_front(alloc, name, FILE_MAX, files, watch)?;
+    let read = Dictionary::read(alloc, table, &bytes);
+    if let Ok(dictionary) = &read {
+        watch.words(name, dictionary, table);
+    }
+    accept(read, Input::Dictionary, name, &bytes, Some(table), watch)
+}
+
+/// Reads the starting patterns and then the dictionary, both under a table.
+pub fn read_lists<'a, F: Files, W: Watch>(
+    alloc: Global,
+    table: &Table,
+    patterns: &'a str,
+    dict: &'a str,
+    files: &mut F,
+    watch: &W,
+) -> Result<(PatternSet, Dictionary), Stop<'a>>
+    ensures only { OnlyReads (F.shown files.old) (F.shown files.new) }
+    ensures ok { IfOk result (λ lists. IfSome (F.shown files.new).held (λ files.
+        HasLists (file_at files) table.now patterns.now dict.now lists.0 lists.1)) }
+    ensures signs { IfOk result (λ lists. SignsUpTo (letters_of table.now + 1) lists.0
+        × SignsAtMost (letters_of table.now + 1) lists.1) }
+    ensures counted { IfOk result (λ _. MakesCalls (F.shown files.old) (F.shown files.new)
+        (Reads patterns.now ∷ Reads dict.now ∷ [])) }
+    ensures stopped { (translate : List ℕ)
+        → IfSome (F.shown files.old).held
+        (λ files. read_as table_of_file (file_at files) translate ≡ Some (Ok table.now))
+        → IfErr result (StopsReading (lists_under translate patterns.now dict.now)
+        (F.shown files.old) (F.shown files.new)) }
+{
+    let start = read_start(alloc, table, patterns, files, watch)?;
+    let dictionary = read_dictionary(alloc, table, dict, files, watch)?;
+    Ok((start, dictionary))
+}
