@@ -10,14 +10,14 @@ use Rattle.pg_cells.specs.declared.store.member.Member.{Member}
 use Rattle.pg_cells.proofs.FitSteps.{all_more, all_fails, misfit}
 use Rattle.pg_cells.proofs.store.fit.fits.Goals as goal
 
-pub returns-then-sign_of-ne0 : goal.returns-then-sign_of-ne0
-returns-then-sign_of-ne0 g c =
+pub returns-then-is_taken : goal.returns-then-is_taken
+returns-then-is_taken g c =
     let at : get_or (signs_of c.args.slots.now) c.loop-slot.slot-index 0 ≡ c.slot-item.result.sign =
     get_or-map (λ x. x.sign) c.args.slots.now c.loop-slot.slot-index c.slot-item.result 0 c.loop-slot-test.true ∙ ap (λ (x : Slot (Member g.row.V.Denot)). x.sign) (sym c.slot-item.is) in
     let within : c.loop-slot.slot-index < length (signs_of c.args.slots.now) = rw length-map c.loop-slot-test.true in
     sym (misfit (lists c.args.cells.now).row (signs_of c.args.slots.now) c.args.base
     (all_fails (λ s. nat_eq (sign_at (lists c.args.cells.now).row (c.args.base + s)) 0) (signs_of c.args.slots.now) c.loop-slot.slot-index _ within at
-    (ne_eqb _ 0 (λ z. c.if-sign_of-ne0.true (c.sign_of.ensures ∙ z)))))
+    (ne_eqb _ 0 (c.is_taken.ensures.taken c.if-is_taken.true))))
 
 pub loop-slot-preserved : goal.loop-slot-preserved
 loop-slot-preserved g c =
@@ -25,10 +25,10 @@ loop-slot-preserved g c =
     get_or-map (λ x. x.sign) c.args.slots.now c.loop-slot.slot-index c.slot-item.result 0 c.loop-slot-test.true ∙ ap (λ (x : Slot (Member g.row.V.Denot)). x.sign) (sym c.slot-item.is) in
     let within : c.loop-slot.slot-index < length (signs_of c.args.slots.now) = rw length-map c.loop-slot-test.true in
     all_more (λ s. nat_eq (sign_at (lists c.args.cells.now).row (c.args.base + s)) 0) (signs_of c.args.slots.now) c.loop-slot.slot-index _ within at
-    (eq-eqb _ 0 (sym c.sign_of.ensures ∙ c.if-sign_of-ne0.false)) c.loop-slot.invariant
+    (eq-eqb _ 0 (c.is_taken.ensures.free c.if-is_taken.false)) c.loop-slot.invariant
 
-pub sign_of-requires : goal.sign_of-requires
-sign_of-requires g c =
+pub is_taken-requires : goal.is_taken-requires
+is_taken-requires g c =
     let at : get_or (signs_of c.args.slots.now) c.loop-slot.slot-index 0 ≡ c.slot-item.result.sign =
     get_or-map (λ x. x.sign) c.args.slots.now c.loop-slot.slot-index c.slot-item.result 0 c.loop-slot-test.true ∙ ap (λ (x : Slot (Member g.row.V.Denot)). x.sign) (sym c.slot-item.is) in
     subst (λ s. c.args.base + s < length c.args.cells.now) at (c.requires.wide c.loop-slot.slot-index c.loop-slot-test.true)
