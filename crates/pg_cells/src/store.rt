@@ -229,6 +229,9 @@ impl<V: Copy> Store<V> {
         ensures length { OnOk result (count ≤ length self.new.signs) }
         ensures row { IsRow self.new }
     {
+        if count <= self.cells.len() {
+            return Ok(());
+        }
         grow_cells(&mut self.cells, count, value)
     }
 
