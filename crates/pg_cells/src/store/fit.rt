@@ -43,7 +43,8 @@ pub fn has_sign_there<V: Copy>(cells: &[Cell<V>], cell: usize, sign: u16) -> boo
     }
 }
 
-// Whether the signs of the slots may stand at a base.
+// Whether the signs of the slots may stand at a base. Their cells are looked at first, since more
+// often one of them is taken than the base.
 fn fits<V: Copy>(cells: &[Cell<V>], slots: &[Slot<Member<V>>], base: usize) -> bool
     requires base { base < length cells.now }
     requires wide { (k : ℕ) → k < length slots.now →
@@ -51,15 +52,12 @@ fn fits<V: Copy>(cells: &[Cell<V>], slots: &[Slot<Member<V>>], base: usize) -> b
     requires small { length cells.now < 2 ^ 32 }
     ensures { result ≡ fits_row (lists cells.now).row (signs_of slots.now) base }
 {
-    if is_base_of(cells, base) {
-        return false;
-    }
     for slot in slots {
         if is_taken(cells, base + slot.sign as usize) {
             return false;
         }
     }
-    true
+    !is_base_of(cells, base)
 }
 
 // The first free cell from a cell on. It is sought from the cell on and, side by side, along the

@@ -1,5 +1,5 @@
 use Rattle.std.specs.List.{list_all}
-use Rattle.std.specs.Prelude.{not, ◌&&◌}
+use Rattle.std.specs.Prelude.{not}
 use Rattle.std.proofs.Common.{◌≡◌, ◌+◌, ◌<◌, nat_eq, length, get_or, sym, ap, subst, ◌∙◌, refl, arith, ℕ}
 use Rattle.std.proofs.lemmas.List.{get_or-map, length-map, take_all}
 use Rattle.std.proofs.lemmas.Bool.{ne_eqb, eq-eqb}
@@ -7,7 +7,7 @@ use Rattle.pg_cells.specs.declared.store.fit.Slot.{Slot}
 use Rattle.pg_cells.specs.Inside.store.Lists.{lists, sign_at}
 use Rattle.pg_cells.specs.Inside.store.Fit.{signs_of}
 use Rattle.pg_cells.specs.declared.store.member.Member.{Member}
-use Rattle.pg_cells.proofs.FitSteps.{all_more, all_fails, misfit}
+use Rattle.pg_cells.proofs.FitSteps.{all_more, all_fails, fit_by_base, misfit}
 use Rattle.pg_cells.proofs.store.fit.fits.Goals as goal
 
 pub returns-then-is_taken : goal.returns-then-is_taken
@@ -36,10 +36,6 @@ is_taken-requires g c =
 pub is_base_of-requires : goal.is_base_of-requires
 is_base_of-requires g c = let base = c.requires.base in omega arith
 
-pub returns-then-is_base_of : goal.returns-then-is_base_of
-returns-then-is_base_of g c =
-    sym (ap (λ b. not b && list_all (λ s. nat_eq (sign_at (lists c.args.cells.now).row (c.args.base + s)) 0) (signs_of c.args.slots.now)) (sym c.is_base_of.ensures ∙ c.if-is_base_of.true))
-
 pub loop-slot-init : goal.loop-slot-init
 loop-slot-init g c = refl
 
@@ -59,4 +55,5 @@ returns g c =
     let test = λ (s : ℕ). nat_eq (sign_at (lists c.args.cells.now).row (c.args.base + s)) 0 in
     let past = c.loop-slot-test.false in
     let all = take_all c.loop-slot.slot-index (signs_of c.args.slots.now) (omega (arith, length-map c.args.slots.now (λ x. x.sign))) in
-    sym (ap (λ b. not b && list_all test (signs_of c.args.slots.now)) (sym c.is_base_of.ensures ∙ c.if-is_base_of.false) ∙ ap (list_all test) (sym all) ∙ c.loop-slot.invariant)
+    ap not c.is_base_of.ensures
+    ∙ sym (fit_by_base (lists c.args.cells.now).row (signs_of c.args.slots.now) c.args.base (ap (list_all test) (sym all) ∙ c.loop-slot.invariant))
