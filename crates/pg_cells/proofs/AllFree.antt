@@ -2,6 +2,7 @@
 use Rattle.std.proofs.Common.{◌≡◌, ◌≢◌, ℕ, ◌+◌, ◌-◌, ◌<◌, ◌≤◌, ◌^◌, List, inl, inr, false, length, take, get_or, set, sym, ap, ◌∙◌, arith}
 use Rattle.std.proofs.lemmas.Bool.{cases_eq, cases_lt}
 use Rattle.std.proofs.lemmas.List.{get_or-set_same, get_or-set_other, get_or_past, get_or_default, length-map, length-take}
+use Rattle.pg_cells.specs.declared.store.cell.TheConstants.{CELLS_END}
 use Rattle.pg_cells.specs.declared.store.cell.Cell.{Cell}
 use Rattle.pg_cells.specs.declared.store.member.Member.{Member}
 use Rattle.pg_cells.specs.Inside.store.Lists.{sign_seen, base_seen, link_seen, Lists, lists, row_of, sign_at, with_free, with_base, before_seen}
@@ -104,7 +105,7 @@ module _ {V : Type 0} (cells : List (Cell V)) (last : ℕ) (h : IsFreeTo last (l
         | inr le ↦ get_or_past signs i 0 le
       ]
 
-  free_kept : 0 < length cells → length cells < 2 ^ 29 → AreLinked (lists cells) → IsKept cells 0 0
+  free_kept : 0 < length cells → length cells < CELLS_END → AreLinked (lists cells) → IsKept cells 0 0
   free_kept up small linked = record {
     linked = linked;
     small = small;
@@ -117,7 +118,7 @@ module _ {V : Type 0} (cells : List (Cell V)) (last : ℕ) (h : IsFreeTo last (l
   }
 
   -- a store whose cells are all free
-  pub free_store : (lows : List ℕ) (dropped sought : ℕ) → length lows ≤ 2 ^ 16 → 0 < length cells → length cells < 2 ^ 29 → AreLinked (lists cells)
+  pub free_store : (lows : List ℕ) (dropped sought : ℕ) → length lows ≤ 2 ^ 16 → 0 < length cells → length cells < CELLS_END → AreLinked (lists cells)
       → IsStore cells 0 0 lows 0 dropped 0 sought
   free_store lows dropped sought few up small linked = record {
     kept = free_kept up small linked;
@@ -126,7 +127,7 @@ module _ {V : Type 0} (cells : List (Cell V)) (last : ℕ) (h : IsFreeTo last (l
     blocked = blocked_none (row_of cells) 0 sought (omega arith);
   }
 
-  pub free_root : (blank : Member V) → length cells < 2 ^ 29 → IsRootTo 1 blank (row_of cells)
+  pub free_root : (blank : Member V) → length cells < CELLS_END → IsRootTo 1 blank (row_of cells)
   free_root blank small =
       let row = is_row cells (omega arith) in
       planted_cleared blank (row_of cells) (λ i lt. free_none i) (λ b lt. h.bases b (omega (arith, length-map cells sign_seen))) row.bases row.bare

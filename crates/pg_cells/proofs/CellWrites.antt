@@ -1,14 +1,15 @@
 -- What a read of one cell's parts shows of the lists of all cells, and what a write leaves of them.
-use Rattle.std.proofs.Common.{◌≡◌, ◌≢◌, ℕ, ◌+◌, ◌*◌, ◌/◌, ◌%◌, ◌^◌, ◌<◌, Bool, true, false, List, [], ◌∷◌, map, set, get_or, length, refl, sym, ◌∙◌, ap, cond, nat_eq, arith, zero, suc}
+use Rattle.std.proofs.Common.{◌≡◌, ◌≢◌, ℕ, ◌+◌, ◌-◌, ◌*◌, ◌/◌, ◌%◌, ◌<◌, Bool, true, false, List, [], ◌∷◌, map, set, get_or, length, refl, sym, ◌∙◌, ap, cond, nat_eq, arith, zero, suc}
 use Rattle.std.proofs.Math.Seq.{map-set_same}
 use Rattle.std.specs.Prelude.{slice_get, Some}
 use Rattle.std.specs.Option.{option_map}
 use Rattle.std.proofs.lemmas.List.{map-set, get_or-map}
 use Rattle.std.proofs.lemmas.Option.{slice_get-map, slice_get-get_or}
 use Rattle.std.proofs.lemmas.Bool.{ne_eqb}
+use Rattle.pg_cells.specs.declared.store.cell.TheConstants.{SIGN_COUNT}
 use Rattle.pg_cells.specs.declared.store.cell.Cell.{Cell}
 use Rattle.pg_cells.specs.declared.store.member.Member.{Member}
-use Rattle.pg_cells.proofs.WordLaws.{sign_even, sign_odd, odd_word, value_odd, value_sign, value_next, value_first, value_base, value_link, taken_odd, taken_sign, taken_next, taken_first, taken_base, taken_link, link_same, base_same, low_same}
+use Rattle.pg_cells.proofs.WordLaws.{word_taken, word_free, sign_even, sign_odd, odd_word, value_odd, value_sign, value_next, value_first, value_base, value_link, taken_odd, taken_sign, taken_next, taken_first, taken_base, taken_link, link_same, base_same, low_same}
 use Rattle.pg_cells.specs.Inside.store.Lists.{lists, without_links, unlink_at, sign_seen, base_seen, link_seen, child_seen, member_seen, before_seen, sign_in, next_in, first_in, base_in, link_in, FitsCell, sign_at, child_at, base_at, before_at, after_at, IsFree, with_before, with_after, with_child, with_value, with_base, with_taken, with_free}
 
 -- a value without its links loses none
@@ -51,6 +52,12 @@ module _ {V : Type 0} (cells : List (Cell V)) (i : ℕ) (d : Cell V) where
 
   pub sign_is : i < length cells → sign_seen old ≡ sign_at (lists cells).row i
   sign_is h = sym (get_or-map sign_seen cells i d 0 h)
+
+  pub cell_taken : i < length cells → nat_eq (old.signs % 2) 1 ≡ true → sign_at (lists cells).row i ≢ 0
+  cell_taken h e z = word_taken old.signs e (sign_is h ∙ z)
+
+  pub cell_free : i < length cells → nat_eq (old.signs % 2) 1 ≡ false → sign_at (lists cells).row i ≡ 0
+  cell_free h e = sym (sign_is h) ∙ word_free old.signs e
 
   pub base_is : i < length cells → base_seen old ≡ base_at (lists cells).row i
   base_is h = sym (get_or-map base_seen cells i d false h)
@@ -169,8 +176,8 @@ module _ {V : Type 0} (cells : List (Cell V)) (i : ℕ) (d : Cell V) where
         afters = kept link_seen new link t;
       }
 
-  pub write_taken : (sign : ℕ) (x : Member V) (child upper : ℕ) → upper ≡ x.next * 4096 + x.first % 512 * 8388608 → FitsCell x → sign ≢ 0 → sign < 2 ^ 11
-      → lists (set cells i (record old { value = x.value; signs = 1 + sign * 2 + upper; links = child * 8 + old.links / 4 % 2 * 4 + x.first / 512 }))
+  pub write_taken : (sign : ℕ) (x : Member V) (child upper : ℕ) → upper ≡ x.next * 4096 + x.first % 512 * 8388608 → FitsCell x → sign ≢ 0 → sign < SIGN_COUNT
+      → lists (set cells i (record old { value = x.value; signs = 1 + (sign - 1) * 2 + upper; links = child * 8 + old.links / 4 % 2 * 4 + x.first / 512 }))
       ≡ record (lists cells) {
         row = with_taken (lists cells).row i sign x child;
         befores = set (lists cells).befores i 0;
@@ -178,8 +185,8 @@ module _ {V : Type 0} (cells : List (Cell V)) (i : ℕ) (d : Cell V) where
       }
   write_taken sign x child upper is fits up small =
       let L = old.links in
-      let new : Cell V = record old { value = x.value; signs = 1 + sign * 2 + upper; links = child * 8 + L / 4 % 2 * 4 + x.first / 512 } in
-      let same : sign_seen new ≡ sign = sign_odd (1 + sign * 2 + upper) (taken_odd sign x.next x.first upper is) ∙ taken_sign sign x.next x.first upper is small in
+      let new : Cell V = record old { value = x.value; signs = 1 + (sign - 1) * 2 + upper; links = child * 8 + L / 4 % 2 * 4 + x.first / 512 } in
+      let same : sign_seen new ≡ sign = sign_odd (1 + (sign - 1) * 2 + upper) (taken_odd sign x.next x.first upper is) ∙ taken_sign sign x.next x.first upper is up small in
       let some : sign_seen new ≢ 0 = λ e. up (sym same ∙ e) in
       λ t. record {
         row = record {

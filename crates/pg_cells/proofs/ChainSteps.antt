@@ -1,7 +1,8 @@
 -- What the steps of the list through the free cells need: which cells are free, and that their numbers fit a link.
-use Rattle.std.proofs.Common.{◌≡◌, ◌≢◌, ℕ, ◌+◌, ◌-◌, ◌<◌, ◌≤◌, ◌^◌, inl, inr, List, [], ◌∷◌, ◌++◌, length, get_or, map, refl, sym, ◌∙◌, ap, subst, arith}
+use Rattle.std.proofs.Common.{◌≡◌, ◌≢◌, ℕ, ◌+◌, ◌-◌, ◌<◌, ◌≤◌, inl, inr, List, [], ◌∷◌, ◌++◌, length, get_or, map, refl, sym, ◌∙◌, ap, subst, arith}
 use Rattle.std.proofs.lemmas.Bool.{cases_eq}
 use Rattle.std.proofs.lemmas.List.{length-map, get_or_past, get_or_default, map_push, length_push}
+use Rattle.pg_cells.specs.declared.store.cell.TheConstants.{CELLS_END}
 use Rattle.pg_cells.specs.declared.store.cell.Cell.{Cell}
 use Rattle.pg_cells.specs.Inside.store.Lists.{sign_seen, Row, Lists, lists, row_of, IsFree, sign_at, before_at, after_at}
 use Rattle.pg_cells.specs.Inside.store.FreeList.{AreLinked}
@@ -53,11 +54,11 @@ module _ {V : Type 0} (cells : List (Cell V)) where
   ]
 
   -- the number of a cell fits a link
-  pub fits_link : (i : ℕ) → i < length cells → length cells < 2 ^ 29 → i < 2 ^ 29
+  pub fits_link : (i : ℕ) → i < length cells → length cells < CELLS_END → i < CELLS_END
   fits_link i lt small = omega arith
 
   -- and so does the base of a family below it
-  pub child_fits : (i : ℕ) → i < length (row_of cells).signs → length cells < 2 ^ 29 → i < 2 ^ 29
+  pub child_fits : (i : ℕ) → i < length (row_of cells).signs → length cells < CELLS_END → i < CELLS_END
   child_fits i lt small = fits_link i (subst (λ n. i < n) signs_long lt) small
 
 -- there are as many cells where the row is the same
@@ -73,8 +74,8 @@ module _ {V : Type 0} (cells new : List (Cell V)) (c : Cell V) (is : new ≡ cel
   long_push : length new ≡ length cells + 1
   long_push = ap length is ∙ length_push cells c
 
-  pub small_push : length cells + 1 < 2 ^ 29 → length new < 2 ^ 29
-  small_push small = subst (λ n. n < 2 ^ 29) (sym long_push) small
+  pub small_push : length cells + 1 < CELLS_END → length new < CELLS_END
+  small_push small = subst (λ n. n < CELLS_END) (sym long_push) small
 
   pub some_push : AreLinked (lists cells) → 1 < length new
   some_push linked = let head = free_in cells 0 linked.head in let long = long_push in omega arith

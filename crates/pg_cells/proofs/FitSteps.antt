@@ -1,5 +1,5 @@
 -- The search for a base along the free cells: what each step keeps.
-use Rattle.std.proofs.Common.{◌≡◌, ◌≢◌, ℕ, ◌+◌, ◌-◌, ◌<◌, ◌≤◌, Bool, true, false, not, ◌&&◌, nat_eq, inl, inr, sym, ◌∙◌, ap, arith, List, ◌∷◌, take, length, get_or}
+use Rattle.std.proofs.Common.{◌≡◌, ◌≢◌, ℕ, ◌+◌, ◌-◌, ◌<◌, ◌≤◌, Bool, true, false, not, ◌&&◌, nat_eq, inl, inr, refl, sym, ◌∙◌, ap, arith, List, ◌∷◌, take, length, get_or}
 use Rattle.std.specs.List.{list_all}
 use Rattle.std.proofs.lemmas.Bool.{cases_eq, cases_lt, cases_order, and_right, ne_eqb, eq-eqb, both_ways}
 use Rattle.std.proofs.lemmas.List.{get_or_default}
@@ -17,7 +17,16 @@ all_more test xs i x lt at passes before = list_all_more test xs i 0 lt ∙ (λ 
 pub all_fails : (test : ℕ → Bool) (xs : List ℕ) (i x : ℕ) → i < length xs → get_or xs i 0 ≡ x → test x ≡ false → list_all test xs ≡ false
 all_fails test xs i x lt at fails = list_all_at test xs i 0 lt (ap test at ∙ fails)
 
+-- what is true adds nothing
+and_true : (x y : Bool) → y ≡ true → (x && y) ≡ x
+and_true true y e = e
+and_true false y e = refl
+
 module _ {V : Type 0} (r : Row V) (signs : List ℕ) where
+  -- where no cell is taken, the base decides
+  pub fit_by_base : (b : ℕ) → list_all (λ s. nat_eq (sign_at r (b + s)) 0) signs ≡ true → fits_row r signs b ≡ not (base_at r b)
+  fit_by_base b h = and_true (not (base_at r b)) (list_all (λ s. nat_eq (sign_at r (b + s)) 0) signs) h
+
   pub misfit : (b : ℕ) → list_all (λ s. nat_eq (sign_at r (b + s)) 0) signs ≡ false → fits_row r signs b ≡ false
   misfit b h = and_right (not (base_at r b)) (list_all (λ s. nat_eq (sign_at r (b + s)) 0) signs) h
 

@@ -1,7 +1,8 @@
 -- What the store keeps, when a cell is taken, given up, written or added.
-use Rattle.std.proofs.Common.{◌≡◌, ◌≢◌, ℕ, ◌+◌, ◌-◌, ◌<◌, ◌≤◌, ◌^◌, min, max, List, [], ◌∷◌, ◌++◌, inl, inr, refl, sym, ◌∙◌, ap, subst, arith, length, get_or, set, take, drop, zero, suc, slice_get, false}
+use Rattle.std.proofs.Common.{◌≡◌, ◌≢◌, ℕ, ◌+◌, ◌-◌, ◌<◌, ◌≤◌, min, max, List, [], ◌∷◌, ◌++◌, inl, inr, refl, sym, ◌∙◌, ap, subst, arith, length, get_or, set, take, drop, zero, suc, slice_get, false}
 use Rattle.std.proofs.lemmas.Bool.{cases_eq}
 use Rattle.std.proofs.lemmas.List.{take_at, length-set, length-map, length_push, get_or-set_same, get_or-set_other, get_or_default}
+use Rattle.pg_cells.specs.declared.store.cell.TheConstants.{CELLS_END}
 use Rattle.pg_cells.specs.declared.store.cell.Cell.{Cell}
 use Rattle.pg_cells.specs.declared.store.member.Member.{Member}
 use Rattle.pg_cells.specs.Inside.store.Lists.{sign_seen, Row, Lists, lists, row_of, without_links, member_seen, sign_at, IsFree, with_taken, with_free, with_child, with_value, with_more}
@@ -194,7 +195,7 @@ module _ {V : Type 0} where
   }
 
 module _ {V : Type 0} where
-  pub kept_extended : (old new : List (Cell V)) (top taken : ℕ) → IsKept old top taken → AreLinked (lists new) → length new < 2 ^ 29 → Extends (row_of old) (row_of new) → IsKept new top taken
+  pub kept_extended : (old new : List (Cell V)) (top taken : ℕ) → IsKept old top taken → AreLinked (lists new) → length new < CELLS_END → Extends (row_of old) (row_of new) → IsKept new top taken
   kept_extended old new top taken kept linked small more = record {
     linked = linked;
     small = small;

@@ -1,45 +1,56 @@
 -- The parts of the two words of a cell, when a word is made of others.
-use Rattle.std.proofs.Common.{◌≡◌, ◌≢◌, ℕ, ◌+◌, ◌*◌, ◌/◌, ◌%◌, ◌^◌, ◌<◌, inl, inr, sym, ◌∙◌, ap, cond, nat_eq, arith}
-use Rattle.std.proofs.lemmas.Bool.{cases_eq, eq-eqb, ne_eqb}
+use Rattle.std.proofs.Common.{◌≡◌, ◌≢◌, ℕ, ◌+◌, ◌-◌, ◌*◌, ◌/◌, ◌%◌, ◌<◌, true, false, inl, inr, sym, ◌∙◌, ap, cond, nat_eq, arith}
+use Rattle.std.proofs.lemmas.Bool.{cases_eq, eq-eqb, eqb-true, ne_eqb, true≢false}
+use Rattle.pg_cells.specs.declared.store.cell.TheConstants.{SIGN_COUNT}
 use Rattle.pg_cells.specs.Inside.store.Lists.{sign_in, next_in, first_in, base_in, link_in}
 
--- an even word has no sign, and an odd one has its sign above the lowest bit
+-- an even word has no sign, and an odd one has one less than its sign above the lowest bit
 pub sign_even : (x : ℕ) → sign_in (x * 2) ≡ 0
-sign_even x = let even : x * 2 % 2 ≡ 0 = omega arith in ap (λ n. cond (nat_eq n 0) 0 (x * 2 / 2 % 2048)) even
+sign_even x = let even : x * 2 % 2 ≡ 0 = omega arith in ap (λ n. cond (nat_eq n 0) 0 (x * 2 / 2 % 2048 + 1)) even
 
-pub sign_odd : (w : ℕ) → w % 2 ≡ 1 → sign_in w ≡ w / 2 % 2048
-sign_odd w e = ap (λ n. cond (nat_eq n 0) 0 (w / 2 % 2048)) e
+pub sign_odd : (w : ℕ) → w % 2 ≡ 1 → sign_in w ≡ w / 2 % 2048 + 1
+sign_odd w e = ap (λ n. cond (nat_eq n 0) 0 (w / 2 % 2048 + 1)) e
 
 pub odd_word : (w : ℕ) → sign_in w ≢ 0 → w % 2 ≡ 1
 odd_word w some = elim (cases_eq (w % 2) 0) [
-  | inl e ↦ absurd (some (ap (λ n. cond (nat_eq n 0) 0 (w / 2 % 2048)) e))
+  | inl e ↦ absurd (some (ap (λ n. cond (nat_eq n 0) 0 (w / 2 % 2048 + 1)) e))
   | inr up ↦ omega arith
 ]
 
+-- the lowest bit says whether a word has a sign
+pub word_taken : (w : ℕ) → nat_eq (w % 2) 1 ≡ true → sign_in w ≢ 0
+word_taken w e z =
+    let odd : w % 2 ≡ 1 = eqb-true (w % 2) 1 e in
+    let is = sign_odd w odd in
+    omega arith
+
+pub word_free : (w : ℕ) → nat_eq (w % 2) 1 ≡ false → sign_in w ≡ 0
+word_free w e = elim (cases_eq (w % 2) 0) [
+  | inl even ↦ ap (λ n. cond (nat_eq n 0) 0 (w / 2 % 2048 + 1)) even
+  | inr up ↦ absurd (let odd : w % 2 ≡ 1 = omega arith in true≢false (sym (eq-eqb (w % 2) 1 odd) ∙ e))
+]
+
 -- the lower bits of a word are those of a sign where it has the sign
-pub word_has : (w s : ℕ) → s ≢ 0 → nat_eq (w % 4096) (1 + s * 2) ≡ nat_eq (sign_in w) s
+pub word_has : (w s : ℕ) → s ≢ 0 → nat_eq (w % 4096) (1 + (s - 1) * 2) ≡ nat_eq (sign_in w) s
 word_has w s up = elim (cases_eq (sign_in w) s) [
   | inl e ↦
       let odd : w % 2 ≡ 1 = odd_word w (λ z. up (sym e ∙ z)) in
-      let at : w / 2 % 2048 ≡ s = sym (sign_odd w odd) ∙ e in
-      let same : w % 4096 ≡ 1 + s * 2 = omega arith in
-      eq-eqb (w % 4096) (1 + s * 2) same ∙ sym (eq-eqb (sign_in w) s e)
+      let at : w / 2 % 2048 + 1 ≡ s = sym (sign_odd w odd) ∙ e in
+      let same : w % 4096 ≡ 1 + (s - 1) * 2 = omega arith in
+      eq-eqb (w % 4096) (1 + (s - 1) * 2) same ∙ sym (eq-eqb (sign_in w) s e)
   | inr other ↦
-      let apart : w % 4096 ≢ 1 + s * 2 = λ same.
+      let apart : w % 4096 ≢ 1 + (s - 1) * 2 = λ same.
       let odd : w % 2 ≡ 1 = omega arith in
-      let at : w / 2 % 2048 ≡ s = omega arith in
+      let at : w / 2 % 2048 + 1 ≡ s = omega arith in
       other (sign_odd w odd ∙ at) in
-      ne_eqb (w % 4096) (1 + s * 2) apart ∙ sym (ne_eqb (sign_in w) s other)
+      ne_eqb (w % 4096) (1 + (s - 1) * 2) apart ∙ sym (ne_eqb (sign_in w) s other)
 ]
 
--- what fits a sign, or a cell's first sign, is small
-pub sign_small : (w : ℕ) → w / 2 % 2048 < 2 ^ 16
-sign_small w = omega arith
-
-pub next_small : (w : ℕ) → next_in w < 2 ^ 11
+-- what fits a sign is small
+pub next_small : (w : ℕ) → next_in w < SIGN_COUNT
 next_small w = omega arith
 
-pub first_small : (w l : ℕ) → first_in w l < 2 ^ 11
+pub first_small : (w l : ℕ) → first_in w l < SIGN_COUNT
 first_small w l = omega arith
 
 -- a word with another link
@@ -57,45 +68,45 @@ module _ (w next first upper : ℕ) (is : upper ≡ next * 4096 + first % 512 * 
   pub value_odd : w % 2 ≡ 1 → (w % 4096 + upper) % 2 ≡ 1
   value_odd odd = omega arith
 
-  pub value_sign : (w % 4096 + upper) / 2 % 2048 ≡ w / 2 % 2048
+  pub value_sign : (w % 4096 + upper) / 2 % 2048 + 1 ≡ w / 2 % 2048 + 1
   value_sign = omega arith
 
-  pub value_next : next < 2 ^ 11 → next_in (w % 4096 + upper) ≡ next
+  pub value_next : next < SIGN_COUNT → next_in (w % 4096 + upper) ≡ next
   value_next small = omega arith
 
-pub value_first : (w l next first upper : ℕ) → upper ≡ next * 4096 + first % 512 * 8388608 → next < 2 ^ 11 → first < 2 ^ 11
+pub value_first : (w l next first upper : ℕ) → upper ≡ next * 4096 + first % 512 * 8388608 → next < SIGN_COUNT → first < SIGN_COUNT
     → first_in (w % 4096 + upper) (l / 4 * 4 + first / 512) ≡ first
 value_first w l next first upper is small fits =
     let high : (w % 4096 + upper) / 8388608 % 512 ≡ first % 512 = omega arith in
     let low : (l / 4 * 4 + first / 512) % 4 ≡ first / 512 = omega arith in
     omega arith
 
-pub value_base : (l first : ℕ) → first < 2 ^ 11 → base_in (l / 4 * 4 + first / 512) ≡ base_in l
+pub value_base : (l first : ℕ) → first < SIGN_COUNT → base_in (l / 4 * 4 + first / 512) ≡ base_in l
 value_base l first fits = let same : (l / 4 * 4 + first / 512) / 4 % 2 ≡ l / 4 % 2 = omega arith in ap (λ n. nat_eq n 1) same
 
-pub value_link : (l first : ℕ) → first < 2 ^ 11 → link_in (l / 4 * 4 + first / 512) ≡ link_in l
+pub value_link : (l first : ℕ) → first < SIGN_COUNT → link_in (l / 4 * 4 + first / 512) ≡ link_in l
 value_link l first fits = omega arith
 
 -- words of a cell that is taken
 module _ (sign next first upper : ℕ) (is : upper ≡ next * 4096 + first % 512 * 8388608) where
-  pub taken_odd : (1 + sign * 2 + upper) % 2 ≡ 1
+  pub taken_odd : (1 + (sign - 1) * 2 + upper) % 2 ≡ 1
   taken_odd = omega arith
 
-  pub taken_sign : sign < 2 ^ 11 → (1 + sign * 2 + upper) / 2 % 2048 ≡ sign
-  taken_sign small = omega arith
+  pub taken_sign : sign ≢ 0 → sign < SIGN_COUNT → (1 + (sign - 1) * 2 + upper) / 2 % 2048 + 1 ≡ sign
+  taken_sign up small = omega arith
 
-  pub taken_next : sign < 2 ^ 11 → next < 2 ^ 11 → next_in (1 + sign * 2 + upper) ≡ next
+  pub taken_next : sign < SIGN_COUNT → next < SIGN_COUNT → next_in (1 + (sign - 1) * 2 + upper) ≡ next
   taken_next small fits = omega arith
 
-pub taken_first : (sign child l next first upper : ℕ) → upper ≡ next * 4096 + first % 512 * 8388608 → sign < 2 ^ 11 → next < 2 ^ 11 → first < 2 ^ 11
-    → first_in (1 + sign * 2 + upper) (child * 8 + l / 4 % 2 * 4 + first / 512) ≡ first
+pub taken_first : (sign child l next first upper : ℕ) → upper ≡ next * 4096 + first % 512 * 8388608 → sign < SIGN_COUNT → next < SIGN_COUNT → first < SIGN_COUNT
+    → first_in (1 + (sign - 1) * 2 + upper) (child * 8 + l / 4 % 2 * 4 + first / 512) ≡ first
 taken_first sign child l next first upper is small small_next fits =
-    let high : (1 + sign * 2 + upper) / 8388608 % 512 ≡ first % 512 = omega arith in
+    let high : (1 + (sign - 1) * 2 + upper) / 8388608 % 512 ≡ first % 512 = omega arith in
     let low : (child * 8 + l / 4 % 2 * 4 + first / 512) % 4 ≡ first / 512 = omega arith in
     omega arith
 
-pub taken_base : (child l first : ℕ) → first < 2 ^ 11 → base_in (child * 8 + l / 4 % 2 * 4 + first / 512) ≡ base_in l
+pub taken_base : (child l first : ℕ) → first < SIGN_COUNT → base_in (child * 8 + l / 4 % 2 * 4 + first / 512) ≡ base_in l
 taken_base child l first fits = let same : (child * 8 + l / 4 % 2 * 4 + first / 512) / 4 % 2 ≡ l / 4 % 2 = omega arith in ap (λ n. nat_eq n 1) same
 
-pub taken_link : (child l first : ℕ) → first < 2 ^ 11 → link_in (child * 8 + l / 4 % 2 * 4 + first / 512) ≡ child
+pub taken_link : (child l first : ℕ) → first < SIGN_COUNT → link_in (child * 8 + l / 4 % 2 * 4 + first / 512) ≡ child
 taken_link child l first fits = omega arith

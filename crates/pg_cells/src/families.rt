@@ -136,10 +136,10 @@ impl<V: Copy, const FEW: usize> Placed<V, FEW> {
             × (find (slice_cmp nat_cmp) q self.now.values ≡ Some v)) }
         ensures none { result ≡ None → (q : List ℕ) → cell_of self.now.families q ≡ Some cell → ⊥ }
     {
-        if self.store.sign(cell) == 0 {
-            None
-        } else {
+        if self.store.is_taken(cell) {
             Some(self.store.value(cell))
+        } else {
+            None
         }
     }
 

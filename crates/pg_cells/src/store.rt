@@ -1,5 +1,5 @@
 //! The store: one vector of cells, whose free ones are linked in rising order.
-ghost use Rattle.std.specs.Prelude.{◌≡◌, ◌≢◌, ℕ, ◌+◌, ◌-◌, ◌<◌, ◌≤◌, ◌^◌, true, ◌∷◌, length, nat_eq, slice_get, slice_index, Some, IfOk, OnOk, OnErr};
+ghost use Rattle.std.specs.Prelude.{◌≡◌, ◌≢◌, ℕ, ◌+◌, ◌-◌, ◌<◌, ◌≤◌, ◌^◌, true, false, ◌∷◌, length, nat_eq, slice_get, slice_index, Some, IfOk, OnOk, OnErr};
 ghost use Rattle.pg_types.specs.Inside.Placing.{IsLeast};
 ghost use Rattle.pg_cells.specs.Inside.store.Lists.{lists, FitsCell, row_of, without_links, sign_at, child_at, base_at, IsFree};
 ghost use Rattle.pg_cells.specs.Inside.store.FreeList.{AreLinked};
@@ -18,9 +18,11 @@ pub mod fit;
 pub mod member;
 
 use crate::store::bounds::{bound_of, least_dropped, no_bounds, raise, still_placed};
-use crate::store::cell::{Cell, child_of, set_base, set_child, set_value, sign_of, value_of};
+use crate::store::cell::{
+    CELLS_END, Cell, SIGN_COUNT, child_of, is_taken, set_base, set_child, set_value, value_of,
+};
 use crate::store::chain::{free_all, free_cell, push_cell, take_cell};
-use crate::store::fit::{Slot, find_base, has_sign_there, sign_or_free};
+use crate::store::fit::{Slot, find_base, has_sign_there, is_taken_there};
 use crate::store::member::Member;
 use std::alloc::{AllocError, Global};
 use std::marker::Model;
@@ -87,11 +89,12 @@ impl<V: Copy> Store<V> {
         })
     }
 
-    /// The sign of a cell, 0 in a free one and past the end.
-    pub fn sign(&self, cell: usize) -> u16
-        ensures { result ≡ sign_at self.now cell }
+    /// Whether a cell is taken. None past the end is.
+    pub fn is_taken(&self, cell: usize) -> bool
+        ensures taken { result ≡ true → sign_at self.now cell ≢ 0 }
+        ensures free { result ≡ false → sign_at self.now cell ≡ 0 }
     {
-        sign_or_free(self.cells.as_slice(), cell)
+        is_taken_there(self.cells.as_slice(), cell)
     }
 
     /// Whether a cell has a sign.
@@ -170,7 +173,7 @@ impl<V: Copy> Store<V> {
         requires cell { 0 < cell }
         requires free { IsFree self.old cell }
         requires sign { slot.sign ≢ 0 }
-        requires sign_fits { slot.sign < 2 ^ 11 }
+        requires sign_fits { slot.sign < SIGN_COUNT }
         requires fits { FitsCell slot.value }
         requires child { slot.child < length self.old.signs }
         ensures takes { Takes self.old self.new cell slot.sign slot.value slot.child }
@@ -226,6 +229,9 @@ impl<V: Copy> Store<V> {
         ensures length { OnOk result (count ≤ length self.new.signs) }
         ensures row { IsRow self.new }
     {
+        if count <= self.cells.len() {
+            return Ok(());
+        }
         grow_cells(&mut self.cells, count, value)
     }
 
@@ -306,7 +312,7 @@ fn taken_up_to<V: Copy>(cells: &[Cell<V>], cell: usize) -> usize
     ensures most { (k : ℕ) → k ≤ cell → sign_at (lists cells.now).row k ≢ 0 → k ≤ result }
 {
     let mut at = cell;
-    while at > 0 && sign_of(cells, at) == 0 {
+    while at > 0 && !is_taken(cells, at) {
         at -= 1;
     }
     at
@@ -315,13 +321,13 @@ fn taken_up_to<V: Copy>(cells: &[Cell<V>], cell: usize) -> usize
 // Adds free cells until there are `count`, as long as an index fits its link.
 fn grow_cells<V: Copy>(cells: &mut Vec<Cell<V>>, count: usize, value: V) -> Result<(), AllocError>
     requires linked { AreLinked (lists cells.old.items) }
-    requires small { length cells.old.items < 2 ^ 29 }
+    requires small { length cells.old.items < CELLS_END }
     ensures linked { AreLinked (lists cells.new.items) }
-    ensures small { length cells.new.items < 2 ^ 29 }
+    ensures small { length cells.new.items < CELLS_END }
     ensures extends { Extends (row_of cells.old.items) (row_of cells.new.items) }
     ensures length { OnOk result (count ≤ length cells.new.items) }
 {
-    if count >= 1 << 29 {
+    if count >= CELLS_END {
         return Err(AllocError);
     }
     'grow: while cells.len() < count {

@@ -22,7 +22,7 @@ pub fn joins<V: Copy>(store: &Store<V>, base: usize, s: Sign) -> bool
     requires { base < 2 ^ 32 }
     ensures { result ≡ (nat_lt 0 base && nat_eq (sign_at store.now (base + s)) 0) }
 {
-    base != 0 && store.sign(base + s as usize) == 0
+    base != 0 && !store.is_taken(base + s as usize)
 }
 
 /// Adds the slot's sign to the family below the parent's string, and answers its cell. Where the

@@ -2,6 +2,7 @@
 ghost use Rattle.std.specs.Prelude.{◌≡◌, ◌≢◌, ℕ, ◌+◌, ◌<◌, ◌≤◌, ◌^◌, length, take, nat_eq, slice_index, Some, [], OnOk};
 ghost use Rattle.pg_cells.specs.declared.store.fit.Slot.{Slot as SlotOf};
 ghost use Rattle.pg_cells.specs.declared.store.member.Member.{Member as MemberOf};
+ghost use Rattle.pg_cells.specs.declared.store.cell.TheConstants.{SIGN_COUNT};
 ghost use Rattle.pg_cells.specs.Inside.store.Lists.{sign_at, IsFree};
 ghost use Rattle.pg_cells.specs.Inside.store.Fit.{slot_of};
 ghost use Rattle.pg_cells.specs.Inside.linked.Members.{ArePassing};
@@ -33,7 +34,7 @@ pub fn put<V: Copy>(store: &mut Store<V>, base: usize, slots: &[Slot<Member<V>>]
     requires free { (x : ℕ) (slot : SlotOf (MemberOf V)) → slot_of slots.now x ≡ Some slot →
         (0 < x) × (IsFree store.old (base + x)) × (slot.child < length store.old.signs) }
     requires sign_fits { (x : ℕ) (slot : SlotOf (MemberOf V)) → slot_of slots.now x ≡ Some slot →
-        x < 2 ^ 11 }
+        x < SIGN_COUNT }
     requires fits { AllFit slots.now }
     ensures { Puts store.old store.new base slots.now }
 {
@@ -79,7 +80,7 @@ fn collect_sign<V: Copy>(
     ensures fits { AllFit slots.old.items → OnOk result (AllFit slots.new.items) }
 {
     let cell = base + sign as usize;
-    if store.sign(cell) != sign {
+    if !store.has_sign(cell, sign) {
         return Ok(());
     }
     let child = store.child(cell);

@@ -1,8 +1,9 @@
 //! The links from sign to sign of a family. A family's signs are linked in rising order: the string
 //! that they follow has the first one, and each has the next.
-ghost use Rattle.std.specs.Prelude.{◌≡◌, ◌≢◌, ℕ, ◌<◌, ◌≤◌, ◌^◌, ◌⊎◌, ◌&&◌, nat_eq, true, false, length, List, [], ◌∷◌, ◌++◌, Some, None, OnOk, slice_index};
+ghost use Rattle.std.specs.Prelude.{◌≡◌, ◌≢◌, ℕ, ◌<◌, ◌≤◌, ◌⊎◌, ◌&&◌, nat_eq, true, false, length, List, [], ◌∷◌, ◌++◌, Some, None, OnOk, slice_index};
 ghost use Rattle.pg_types.specs.Placement.{cell_of};
 ghost use Rattle.pg_types.specs.Inside.Placing.{joins_at};
+ghost use Rattle.pg_cells.specs.declared.store.cell.TheConstants.{SIGN_COUNT};
 ghost use Rattle.pg_cells.specs.Inside.linked.AreValuedFamilies.{AreValuedFamilies};
 ghost use Rattle.pg_cells.specs.Inside.linked.CellValues.{IsTaken};
 ghost use Rattle.pg_cells.specs.Inside.linked.Members.{IsNextSign, IsBefore, goes_on, has_sign, ArePassing};
@@ -26,7 +27,7 @@ pub fn sign_after<V: Copy, const FEW: usize>(
         × (HasBase cells.now.families q base) × ((s ≡ 0) ⊎ (goes_on cells.now.values q s ≡ true))) }
     ensures next { (q : List ℕ) → cell_of cells.now.families q ≡ Some parent
         → IsNextSign cells.now.values q s result }
-    ensures fits { result < 2 ^ 11 }
+    ensures fits { result < SIGN_COUNT }
 {
     if s == 0 {
         return cells.value(parent).first;
@@ -179,7 +180,7 @@ pub fn is_alone(before: Sign, after: Sign) -> bool
 // Makes `to` the first sign of the family below the parent's string.
 fn set_first<V: Copy, const FEW: usize>(cells: &mut Placed<V, FEW>, parent: usize, to: Sign)
     requires taken { IsTaken cells.old.families parent }
-    requires fits { to < 2 ^ 11 }
+    requires fits { to < SIGN_COUNT }
     ensures linked { (q : List ℕ) → cell_of cells.old.families q ≡ Some parent →
         cells.new ≡ with_link cells.old q 0 to }
     ensures kept { AreValuedFamilies cells.new }
@@ -197,7 +198,7 @@ fn set_first<V: Copy, const FEW: usize>(cells: &mut Placed<V, FEW>, parent: usiz
 // Makes `to` the sign behind that of the cell.
 fn set_next<V: Copy, const FEW: usize>(cells: &mut Placed<V, FEW>, cell: usize, to: Sign)
     requires taken { IsTaken cells.old.families cell }
-    requires fits { to < 2 ^ 11 }
+    requires fits { to < SIGN_COUNT }
     ensures linked { (q : List ℕ) (s : ℕ) → s ≢ 0 →
         cell_of cells.old.families (q ++ s ∷ []) ≡ Some cell →
         cells.new ≡ with_link cells.old q s to }
@@ -212,7 +213,7 @@ pub fn link<V: Copy, const FEW: usize>(cells: &mut Placed<V, FEW>, parent: usize
     requires held { AreValuedFamilies cells.old }
     requires parent { (q : List ℕ) × ((cell_of cells.old.families q ≡ Some parent)
         × ((s ≡ 0) ⊎ (goes_on cells.old.values q s ≡ true))) }
-    requires fits { to < 2 ^ 11 }
+    requires fits { to < SIGN_COUNT }
     ensures linked { (q : List ℕ) → cell_of cells.old.families q ≡ Some parent →
         cells.new ≡ with_link cells.old q s to }
     ensures kept { AreValuedFamilies cells.new }

@@ -1,14 +1,18 @@
 //! One cell, and the reading and writing of its parts.
-ghost use Rattle.std.specs.Prelude.{◌≡◌, ◌≢◌, ◌<◌, ◌+◌, ◌*◌, ◌%◌, ◌^◌, length, nat_eq, slice_get, set, Some};
+ghost use Rattle.std.specs.Prelude.{◌≡◌, ◌≢◌, ◌<◌, ◌+◌, ◌*◌, ◌%◌, length, nat_eq, slice_get, set, Some, true, false};
 ghost use Rattle.pg_cells.specs.Inside.store.Lists.{lists, FitsCell, base_in, link_in, with_before, with_after, with_child, with_value, with_base, with_taken, with_free, sign_at, IsFree, before_at, after_at, child_at, base_at};
 
 use crate::store::member::Member;
 use pg_types::Sign;
 
-/// How many numbers fit where a cell keeps a sign: each sign, and 0 for none.
+/// There are fewer cells than this, so that a cell has room for the index of another.
+pub const CELLS_END: usize = 1 << 29;
+
+/// Each sign is below this. So many numbers fit where a cell keeps a sign.
 pub const SIGN_COUNT: u32 = 1 << 11;
 
-/// In `signs` the sign stands from this bit on. The bit below says whether the cell is taken.
+/// In `signs` one less than the sign stands from this bit on. The bit below says whether the cell
+/// is taken.
 pub const SIGN_AT: u32 = 1 << 1;
 
 /// In `signs` the next sign of the family stands from this bit on.
@@ -35,9 +39,9 @@ pub const LINK_AT: u32 = 1 << 3;
 pub struct Cell<V> {
     /// The value of the string that ends with this cell.
     pub value: V,
-    /// In a taken cell 1, its sign, the next sign of its family, 0 for none, and the lower part of
-    /// the first sign of the family below its string, 0 for none; in a free cell 0 and the free
-    /// cell before it.
+    /// In a taken cell 1, one less than its sign, the next sign of its family, 0 for none, and the
+    /// lower part of the first sign of the family below its string, 0 for none; in a free cell 0
+    /// and the free cell before it.
     pub signs: u32,
     /// The upper part of the first sign, whether the index of the cell is the base of a family, and
     /// a link. The link of a taken cell is the base of its child family, 0 for none; that of a free
@@ -47,7 +51,7 @@ pub struct Cell<V> {
 
 // The part of `signs` above the sign.
 fn upper_signs(next: Sign, first: Sign) -> u32
-    requires { next < 2 ^ 11 }
+    requires { next < SIGN_COUNT }
     ensures { result ≡ next * NEXT_AT + first % FIRST_COUNT * FIRST_AT }
 {
     next as u32 * NEXT_AT + first as u32 % FIRST_COUNT * FIRST_AT
@@ -63,17 +67,13 @@ fn links_with_base(links: u32, is_base: bool) -> u32
     if is_base { others + BASE_AT } else { others }
 }
 
-/// The sign of a cell, 0 in a free one.
-pub fn sign_of<V: Copy>(cells: &[Cell<V>], cell: usize) -> u16
+/// Whether a cell is taken. The search for a base asks this of each cell that it looks at.
+pub fn is_taken<V: Copy>(cells: &[Cell<V>], cell: usize) -> bool
     requires { cell < length cells.now }
-    ensures { result ≡ sign_at (lists cells.now).row cell }
+    ensures taken { result ≡ true → sign_at (lists cells.now).row cell ≢ 0 }
+    ensures free { result ≡ false → sign_at (lists cells.now).row cell ≡ 0 }
 {
-    let signs = cells[cell].signs;
-    if signs % SIGN_AT == 0 {
-        0
-    } else {
-        (signs / SIGN_AT % SIGN_COUNT) as u16
-    }
+    cells[cell].signs % SIGN_AT == 1
 }
 
 /// Whether the cell has the sign. A walk asks this at each step, so no part is taken out of
@@ -83,7 +83,7 @@ pub fn has_sign<V: Copy>(cells: &[Cell<V>], cell: usize, sign: u16) -> bool
     requires sign { sign ≢ 0 }
     ensures { result ≡ nat_eq (sign_at (lists cells.now).row cell) sign }
 {
-    cells[cell].signs % NEXT_AT == 1 + sign as u32 * SIGN_AT
+    cells[cell].signs % NEXT_AT == 1 + (sign as u32 - 1) * SIGN_AT
 }
 
 /// Whether the index of a cell is the base of a family.
@@ -140,7 +140,7 @@ pub fn after_of<V: Copy>(cells: &[Cell<V>], cell: usize) -> usize
 pub fn set_before<V: Copy>(cells: &mut [Cell<V>], cell: usize, before: usize)
     requires cell { cell < length cells.old }
     requires free { IsFree (lists cells.old).row cell }
-    requires before { before < 2 ^ 29 }
+    requires before { before < CELLS_END }
     ensures { lists cells.new ≡ with_before (lists cells.old) cell before }
 {
     cells[cell].signs = before as u32 * SIGN_AT;
@@ -150,7 +150,7 @@ pub fn set_before<V: Copy>(cells: &mut [Cell<V>], cell: usize, before: usize)
 pub fn set_after<V: Copy>(cells: &mut [Cell<V>], cell: usize, after: usize)
     requires cell { cell < length cells.old }
     requires free { IsFree (lists cells.old).row cell }
-    requires after { after < 2 ^ 29 }
+    requires after { after < CELLS_END }
     ensures { lists cells.new ≡ with_after (lists cells.old) cell after }
 {
     let free = &mut cells[cell];
@@ -161,7 +161,7 @@ pub fn set_after<V: Copy>(cells: &mut [Cell<V>], cell: usize, after: usize)
 pub fn set_child<V: Copy>(cells: &mut [Cell<V>], cell: usize, child: usize)
     requires cell { cell < length cells.old }
     requires taken { sign_at (lists cells.old).row cell ≢ 0 }
-    requires child { child < 2 ^ 29 }
+    requires child { child < CELLS_END }
     ensures { lists cells.new ≡ record (lists cells.old) {
       row = with_child (lists cells.old).row cell child;
       afters = set (lists cells.old).afters cell child;
@@ -208,9 +208,9 @@ pub fn set_taken<V: Copy>(
 )
     requires cell { cell < length cells.old }
     requires sign { sign ≢ 0 }
-    requires sign_fits { sign < 2 ^ 11 }
+    requires sign_fits { sign < SIGN_COUNT }
     requires fits { FitsCell value }
-    requires child { child < 2 ^ 29 }
+    requires child { child < CELLS_END }
     ensures { lists cells.new ≡ record (lists cells.old) {
       row = with_taken (lists cells.old).row cell sign value child;
       befores = set (lists cells.old).befores cell 0;
@@ -219,7 +219,7 @@ pub fn set_taken<V: Copy>(
 {
     let taken = &mut cells[cell];
     taken.value = value.value;
-    taken.signs = 1 + sign as u32 * SIGN_AT + upper_signs(value.next, value.first);
+    taken.signs = 1 + (sign as u32 - 1) * SIGN_AT + upper_signs(value.next, value.first);
     taken.links = child as u32 * LINK_AT
         + taken.links / BASE_AT % 2 * BASE_AT
         + value.first as u32 / FIRST_COUNT;
@@ -229,8 +229,8 @@ pub fn set_taken<V: Copy>(
 /// is a base stays as it is.
 pub fn set_free<V: Copy>(cells: &mut [Cell<V>], cell: usize, before: usize, after: usize)
     requires cell { cell < length cells.old }
-    requires before { before < 2 ^ 29 }
-    requires after { after < 2 ^ 29 }
+    requires before { before < CELLS_END }
+    requires after { after < CELLS_END }
     ensures { lists cells.new ≡ record {
       row = with_free (lists cells.old).row cell;
       befores = set (lists cells.old).befores cell before;

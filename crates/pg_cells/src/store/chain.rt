@@ -1,11 +1,11 @@
 //! The list through the free cells.
-ghost use Rattle.std.specs.Prelude.{◌≡◌, ◌≢◌, ℕ, ◌+◌, ◌-◌, ◌<◌, ◌≤◌, ◌^◌, length, OnOk, OnErr};
+ghost use Rattle.std.specs.Prelude.{◌≡◌, ◌≢◌, ℕ, ◌+◌, ◌-◌, ◌<◌, ◌≤◌, length, OnOk, OnErr};
 ghost use Rattle.pg_cells.specs.Inside.store.Lists.{lists, FitsCell, with_taken, with_free, with_more, without_links, sign_at, IsFree};
 ghost use Rattle.pg_cells.specs.Inside.store.FreeList.{AreLinked, IsFreeTo};
 
 use crate::store::cell::{
-    Cell, SIGN_AT, after_of, before_of, set_after, set_base, set_before, set_free, set_taken,
-    sign_of,
+    CELLS_END, Cell, SIGN_COUNT, after_of, before_of, is_taken, set_after, set_base, set_before,
+    set_free, set_taken,
 };
 use crate::store::member::Member;
 use std::alloc::AllocError;
@@ -19,13 +19,13 @@ pub fn take_cell<V: Copy>(
     child: usize,
 )
     requires linked { AreLinked (lists cells.old) }
-    requires small { length cells.old < 2 ^ 29 }
+    requires small { length cells.old < CELLS_END }
     requires cell { (0 < cell) × (cell < length cells.old) }
     requires free { IsFree (lists cells.old).row cell }
     requires sign { sign ≢ 0 }
-    requires sign_fits { sign < 2 ^ 11 }
+    requires sign_fits { sign < SIGN_COUNT }
     requires fits { FitsCell value }
-    requires child { child < 2 ^ 29 }
+    requires child { child < CELLS_END }
     ensures row { (lists cells.new).row ≡ with_taken (lists cells.old).row cell sign value child }
     ensures linked { AreLinked (lists cells.new) }
 {
@@ -39,7 +39,7 @@ pub fn take_cell<V: Copy>(
 /// Puts a taken cell into the list, at its place.
 pub fn free_cell<V: Copy>(cells: &mut [Cell<V>], cell: usize)
     requires linked { AreLinked (lists cells.old) }
-    requires small { length cells.old < 2 ^ 29 }
+    requires small { length cells.old < CELLS_END }
     requires cell { (0 < cell) × (cell < length cells.old) }
     requires taken { sign_at (lists cells.old).row cell ≢ 0 }
     ensures row { (lists cells.new).row ≡ with_free (lists cells.old).row cell }
@@ -64,8 +64,8 @@ fn free_below<V: Copy>(cells: &[Cell<V>], cell: usize) -> usize
     let mut high = end.min(cell + 1);
     let mut free = 0;
     let mut after = after_of(cells, free);
-    'free: while sign_of(cells, high) != 0 {
-        if sign_of(cells, low) == 0 {
+    'free: while is_taken(cells, high) {
+        if !is_taken(cells, low) {
             return low;
         }
         if after == 0 {
@@ -85,7 +85,7 @@ fn free_below<V: Copy>(cells: &[Cell<V>], cell: usize) -> usize
 // Puts a cell into the list behind the free cell before it.
 fn put_after<V: Copy>(cells: &mut [Cell<V>], cell: usize, before: usize)
     requires linked { AreLinked (lists cells.old) }
-    requires small { length cells.old < 2 ^ 29 }
+    requires small { length cells.old < CELLS_END }
     requires cell { cell < length cells.old }
     requires taken { sign_at (lists cells.old).row cell ≢ 0 }
     requires before { before < cell }
@@ -123,7 +123,7 @@ fn free_after(cell: usize, last: usize) -> usize
 /// Puts all cells into the list. Their indices are no bases any more.
 pub fn free_all<V: Copy>(cells: &mut [Cell<V>])
     requires some { 0 < length cells.old }
-    requires small { length cells.old < 2 ^ 29 }
+    requires small { length cells.old < CELLS_END }
     ensures size { length cells.new ≡ length cells.old }
     ensures free { IsFreeTo (length cells.old - 1) (length cells.old) (lists cells.new) }
     ensures linked { AreLinked (lists cells.new) }
@@ -138,7 +138,7 @@ pub fn free_all<V: Copy>(cells: &mut [Cell<V>])
 /// Adds a free cell at the end.
 pub fn push_cell<V: Copy>(cells: &mut Vec<Cell<V>>, value: V) -> Result<(), AllocError>
     requires linked { AreLinked (lists cells.old.items) }
-    requires small { length cells.old.items + 1 < 2 ^ 29 }
+    requires small { length cells.old.items + 1 < CELLS_END }
     ensures row { OnOk result ((lists cells.new.items).row
         ≡ with_more (lists cells.old.items).row (without_links value)) }
     ensures linked { AreLinked (lists cells.new.items) }
@@ -146,7 +146,7 @@ pub fn push_cell<V: Copy>(cells: &mut Vec<Cell<V>>, value: V) -> Result<(), Allo
 {
     cells.push(Cell {
         value,
-        signs: 1 + SIGN_AT,
+        signs: 1,
         links: 0,
     })?;
     put_last(cells.as_mut_slice());
@@ -156,7 +156,7 @@ pub fn push_cell<V: Copy>(cells: &mut Vec<Cell<V>>, value: V) -> Result<(), Allo
 // Puts the last cell into the list.
 fn put_last<V: Copy>(cells: &mut [Cell<V>])
     requires linked { AreLinked (lists cells.old) }
-    requires small { length cells.old < 2 ^ 29 }
+    requires small { length cells.old < CELLS_END }
     requires cell { 1 < length cells.old }
     requires taken { sign_at (lists cells.old).row (length cells.old - 1) ≢ 0 }
     ensures row { (lists cells.new).row ≡ with_free (lists cells.old).row (length cells.old - 1) }

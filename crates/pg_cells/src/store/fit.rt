@@ -1,11 +1,11 @@
 //! The search for a base, along the free cells.
-ghost use Rattle.std.specs.Prelude.{◌≡◌, ◌≢◌, ℕ, ◌+◌, ◌<◌, ◌≤◌, ◌^◌, Bool, true, ◌∷◌, length, nat_eq, slice_index, map};
+ghost use Rattle.std.specs.Prelude.{◌≡◌, ◌≢◌, ℕ, ◌+◌, ◌<◌, ◌≤◌, ◌^◌, Bool, true, false, ◌∷◌, length, nat_eq, slice_index, map};
 ghost use Rattle.pg_types.specs.Inside.Placing.{IsLeast};
 ghost use Rattle.pg_cells.specs.Inside.store.Lists.{lists, sign_at, base_at};
 ghost use Rattle.pg_cells.specs.Inside.store.FreeList.{AreLinked};
 ghost use Rattle.pg_cells.specs.Inside.store.Fit.{fits_row, signs_of};
 
-use crate::store::cell::{Cell, after_of, has_sign, is_base_of, sign_of};
+use crate::store::cell::{Cell, after_of, has_sign, is_base_of, is_taken};
 use crate::store::member::Member;
 
 /// What a taken cell holds.
@@ -19,14 +19,15 @@ pub struct Slot<V> {
     pub sign: u16,
 }
 
-/// The sign of a cell, 0 in a free one and past the end.
-pub fn sign_or_free<V: Copy>(cells: &[Cell<V>], cell: usize) -> u16
-    ensures { result ≡ sign_at (lists cells.now).row cell }
+/// Whether a cell is taken. None past the end is.
+pub fn is_taken_there<V: Copy>(cells: &[Cell<V>], cell: usize) -> bool
+    ensures taken { result ≡ true → sign_at (lists cells.now).row cell ≢ 0 }
+    ensures free { result ≡ false → sign_at (lists cells.now).row cell ≡ 0 }
 {
     if cell < cells.len() {
-        sign_of(cells, cell)
+        is_taken(cells, cell)
     } else {
-        0
+        false
     }
 }
 
@@ -42,7 +43,8 @@ pub fn has_sign_there<V: Copy>(cells: &[Cell<V>], cell: usize, sign: u16) -> boo
     }
 }
 
-// Whether the signs of the slots may stand at a base.
+// Whether the signs of the slots may stand at a base. Their cells are looked at first, since more
+// often one of them is taken than the base.
 fn fits<V: Copy>(cells: &[Cell<V>], slots: &[Slot<Member<V>>], base: usize) -> bool
     requires base { base < length cells.now }
     requires wide { (k : ℕ) → k < length slots.now →
@@ -50,15 +52,12 @@ fn fits<V: Copy>(cells: &[Cell<V>], slots: &[Slot<Member<V>>], base: usize) -> b
     requires small { length cells.now < 2 ^ 32 }
     ensures { result ≡ fits_row (lists cells.now).row (signs_of slots.now) base }
 {
-    if is_base_of(cells, base) {
-        return false;
-    }
     for slot in slots {
-        if sign_of(cells, base + slot.sign as usize) != 0 {
+        if is_taken(cells, base + slot.sign as usize) {
             return false;
         }
     }
-    true
+    !is_base_of(cells, base)
 }
 
 // The first free cell from a cell on. It is sought from the cell on and, side by side, along the
@@ -76,7 +75,7 @@ fn free_from<V: Copy>(cells: &[Cell<V>], cell: usize, bound: usize) -> usize
 {
     let mut at = cell;
     let mut free = after_of(cells, 0);
-    while sign_of(cells, at) != 0 && free < cell {
+    while is_taken(cells, at) && free < cell {
         at += 1;
         free = after_of(cells, free);
     }

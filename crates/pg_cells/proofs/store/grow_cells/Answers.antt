@@ -21,17 +21,17 @@ grow-init g c = record { linked = c.requires.linked; small = c.requires.small; e
 pub grow-smaller : goal.grow-smaller
 grow-smaller g c = let more = longer_once c.grow.cells.items c.push_cell.new.cells.items c.args.value c.in_ok-push_cell.ensures.row in omega arith
 
-pub returns-then-count-clause-linked : goal.returns-then-count-clause-linked
-returns-then-count-clause-linked g c = c.requires.linked
+pub returns-then-count-ge-CELLS_END-clause-linked : goal.returns-then-count-ge-CELLS_END-clause-linked
+returns-then-count-ge-CELLS_END-clause-linked g c = c.requires.linked
 
-pub returns-then-count-clause-small : goal.returns-then-count-clause-small
-returns-then-count-clause-small g c = c.requires.small
+pub returns-then-count-ge-CELLS_END-clause-small : goal.returns-then-count-ge-CELLS_END-clause-small
+returns-then-count-ge-CELLS_END-clause-small g c = c.requires.small
 
-pub returns-then-count-clause-extends : goal.returns-then-count-clause-extends
-returns-then-count-clause-extends g c = extends_itself (row_of c.args.cells.now.items)
+pub returns-then-count-ge-CELLS_END-clause-extends : goal.returns-then-count-ge-CELLS_END-clause-extends
+returns-then-count-ge-CELLS_END-clause-extends g c = extends_itself (row_of c.args.cells.now.items)
 
-pub returns-then-count-clause-length : goal.returns-then-count-clause-length
-returns-then-count-clause-length g c = tt
+pub returns-then-count-ge-CELLS_END-clause-length : goal.returns-then-count-ge-CELLS_END-clause-length
+returns-then-count-ge-CELLS_END-clause-length g c = tt
 
 pub push_cell-requires-clause-linked : goal.push_cell-requires-clause-linked
 push_cell-requires-clause-linked g c = c.grow.invariant.linked

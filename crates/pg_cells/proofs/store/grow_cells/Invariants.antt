@@ -1,4 +1,5 @@
-use Rattle.std.proofs.Common.{◌<◌, ◌^◌, ◌-◌, length}
+use Rattle.std.proofs.Common.{◌<◌, ◌-◌, length}
+use Rattle.pg_cells.specs.declared.store.cell.TheConstants.{CELLS_END}
 use Rattle.pg_cells.specs.Inside.store.Lists.{lists, row_of}
 use Rattle.pg_cells.specs.Inside.store.FreeList.{AreLinked}
 use Rattle.pg_cells.specs.Inside.store.Store.{Extends}
@@ -7,7 +8,7 @@ use Rattle.pg_cells.proofs.store.grow_cells.Given as goal
 abbrev pub invariant-grow : goal.invariant-grow
 invariant-grow g l = record {
   linked : AreLinked (lists l.cells.items);
-  small : length l.cells.items < 2 ^ 29;
+  small : length l.cells.items < CELLS_END;
   extends : Extends (row_of l.initial.cells.items) (row_of l.cells.items);
 }
 

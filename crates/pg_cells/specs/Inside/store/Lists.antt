@@ -1,5 +1,5 @@
 -- The parts of the cells, each as a list by the cells' indices.
-use Rattle.std.specs.Prelude.{◌≡◌, ℕ, ◌+◌, ◌*◌, ◌/◌, ◌%◌, ◌^◌, ◌<◌, Bool, false, if◌then◌else◌, nat_eq, List, [], ◌∷◌, ◌++◌, map, set, get_or, zero, suc}
+use Rattle.std.specs.Prelude.{◌≡◌, ℕ, ◌+◌, ◌*◌, ◌/◌, ◌%◌, ◌<◌, Bool, false, if◌then◌else◌, nat_eq, List, [], ◌∷◌, ◌++◌, map, set, get_or, zero, suc}
 use Rattle.pg_cells.specs.declared.store.cell.Cell.{Cell}
 use Rattle.pg_cells.specs.declared.store.cell.TheConstants.{SIGN_COUNT, SIGN_AT, NEXT_AT, FIRST_AT, FIRST_COUNT, BASE_AT, LINK_AT}
 use Rattle.pg_cells.specs.declared.store.member.Member.{Member}
@@ -19,7 +19,7 @@ pub record Lists (V : Type 0) : Type 0 where
 
 -- the sign in `signs` of a cell; 0 in a free cell
 abbrev pub sign_in : ℕ → ℕ
-sign_in signs = if nat_eq (signs % SIGN_AT) 0 then 0 else signs / SIGN_AT % SIGN_COUNT
+sign_in signs = if nat_eq (signs % SIGN_AT) 0 then 0 else signs / SIGN_AT % SIGN_COUNT + 1
 
 -- the next sign in `signs` of a taken cell
 abbrev pub next_in : ℕ → ℕ
@@ -80,7 +80,7 @@ module _ {V : Type 0} where
 
   -- the next and the first sign have room in a cell
   abbrev pub FitsCell : Member V → Type 0
-  FitsCell m = (m.next < 2 ^ 11) × (m.first < 2 ^ 11)
+  FitsCell m = (m.next < SIGN_COUNT) × (m.first < SIGN_COUNT)
 
   -- a value without links
   abbrev pub without_links : V → Member V

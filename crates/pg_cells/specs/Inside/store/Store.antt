@@ -2,6 +2,7 @@
 use Rattle.std.specs.Prelude.{◌≡◌, ◌≢◌, ℕ, ◌+◌, ◌<◌, ◌≤◌, ◌^◌, min, Bool, List, [], ◌∷◌, length, get_or, slice_get, false, refl}
 use Rattle.std.specs.Coded.{Coded, code_by, coded×, coded_ℕ, coded_bool, coded_list}
 use Rattle.pg_cells.specs.declared.store.cell.Cell.{Cell}
+use Rattle.pg_cells.specs.declared.store.cell.TheConstants.{CELLS_END}
 use Rattle.pg_cells.specs.declared.store.member.Member.{Member}
 use Rattle.pg_cells.specs.Inside.store.Lists.{Row, lists, row_of, sign_at, child_at, base_at}
 use Rattle.pg_cells.specs.Inside.store.FreeList.{AreLinked}
@@ -45,7 +46,7 @@ module _ {V : Type 0} where
   -- the free cells are linked, `top` is the greatest taken cell, and `taken` cells are taken
   pub record IsKept (cells : List (Cell V)) (top taken : ℕ) : Type 0 where
     pub linked : AreLinked (lists cells)
-    pub small : length cells < 2 ^ 29
+    pub small : length cells < CELLS_END
     pub greatest : IsTop (row_of cells).signs top
     pub count : taken ≡ taken_in (row_of cells)
 

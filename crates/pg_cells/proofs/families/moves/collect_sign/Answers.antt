@@ -1,4 +1,5 @@
 use Rattle.std.proofs.Common.{inr, refl, sym, subst, ◌∙◌}
+use Rattle.std.proofs.lemmas.Bool.{eqb-true}
 use Rattle.pg_cells.specs.Inside.families.Moves.{AllFit}
 use Rattle.pg_cells.proofs.Slots.{fit_push}
 use Rattle.pg_cells.proofs.families.moves.collect_sign.Goals as goal
@@ -7,7 +8,7 @@ pub returns-clause-collects : goal.returns-clause-collects
 returns-clause-collects g c =
     inr (
       record { value = c.value-value.result; child = c.child-child.result; sign = c.args.sign },
-      record { sign = sym c.sign.ensures ∙ c.if-sign.false; child = c.child-child.ensures; value = c.value-value.ensures.value },
+      record { sign = eqb-true _ _ (sym c.has_sign.ensures ∙ c.if-not-has_sign.false); child = c.child-child.ensures; value = c.value-value.ensures.value },
       refl,
       c.in_ok-push.ensures.items,
     )

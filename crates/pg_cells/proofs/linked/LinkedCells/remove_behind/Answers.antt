@@ -67,7 +67,7 @@ link-requires g c =
                   c.sign_after-after.result (c.sign_after-after.ensures.next can.prefix can.at) c.remove.ensures,
             ),
           ),
-          c.sign_after-after.ensures.fits,
+          let fits = c.sign_after-after.ensures.fits in let high = (c.self.invariant.held.signs can.prefix c.args.s can.cell can.there).1 in let few = c.child-base.ensures.few in omega arith,
         ),
       ),
     )

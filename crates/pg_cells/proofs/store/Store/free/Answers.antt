@@ -1,5 +1,6 @@
-use Rattle.std.proofs.Common.{◌≡◌, ◌≢◌, ◌<◌, ◌≤◌, ◌^◌, ℕ, List, sym, ap, subst, ◌∙◌, length, arith, take, drop, ◌++◌}
+use Rattle.std.proofs.Common.{◌≡◌, ◌≢◌, ◌<◌, ◌≤◌, ℕ, List, sym, ap, subst, ◌∙◌, length, arith, take, drop, ◌++◌}
 use Rattle.std.proofs.lemmas.List.{length-map}
+use Rattle.pg_cells.specs.declared.store.cell.TheConstants.{CELLS_END}
 use Rattle.pg_cells.specs.declared.store.cell.Cell.{Cell}
 use Rattle.pg_cells.specs.declared.store.member.Member.{Member}
 use Rattle.pg_cells.specs.Inside.store.FreeList.{AreLinked}
@@ -18,7 +19,7 @@ pub free_cell-requires-clause-linked : goal.free_cell-requires-clause-linked
 free_cell-requires-clause-linked g c = subst (λ (cells : List (Cell g.row.V.Denot)). AreLinked (lists cells)) (sym c.as_mut_slice.ensures.value) c.self.invariant.kept.linked
 
 pub free_cell-requires-clause-small : goal.free_cell-requires-clause-small
-free_cell-requires-clause-small g c = subst (λ (cells : List (Cell g.row.V.Denot)). length cells < 2 ^ 29) (sym c.as_mut_slice.ensures.value) c.self.invariant.kept.small
+free_cell-requires-clause-small g c = subst (λ (cells : List (Cell g.row.V.Denot)). length cells < CELLS_END) (sym c.as_mut_slice.ensures.value) c.self.invariant.kept.small
 
 pub free_cell-requires-clause-taken : goal.free_cell-requires-clause-taken
 free_cell-requires-clause-taken g c =

@@ -1,7 +1,7 @@
 use Rattle.std.proofs.Common.{◌≤◌, subst, sym, arith}
 use Rattle.std.proofs.lemmas.Result.{on_ok_weaker}
 use Rattle.pg_cells.specs.Inside.store.Lists.{row_of}
-use Rattle.pg_cells.specs.Inside.store.Store.{Extends}
+use Rattle.pg_cells.specs.Inside.store.Store.{Extends, IsRow}
 use Rattle.pg_cells.proofs.ChainSteps.{signs_long}
 use Rattle.pg_cells.proofs.RowWrites.{is_row}
 use Rattle.pg_cells.proofs.BlockedLaws.{blocked_grow}
@@ -21,6 +21,9 @@ invariant_of-self g c =
 
 pub grow_cells-requires : goal.grow_cells-requires
 grow_cells-requires g c = record { linked = c.self.invariant.kept.linked; small = c.self.invariant.kept.small }
+
+pub returns-then-count-len-clause-row : goal.returns-then-count-len-clause-row
+returns-then-count-len-clause-row g c = let small = c.self.invariant.kept.small in subst IsRow c.self.view_is (is_row c.self.inside.cells.items (omega arith))
 
 pub returns : goal.returns
 returns g c = record {

@@ -1,5 +1,6 @@
-use Rattle.std.proofs.Common.{◌≡◌, ◌<◌, ◌^◌, List, sym, ap, subst, ◌∙◌, length, arith, take, drop, ◌++◌}
+use Rattle.std.proofs.Common.{◌≡◌, ◌<◌, List, sym, ap, subst, ◌∙◌, length, arith, take, drop, ◌++◌}
 use Rattle.std.proofs.lemmas.List.{length-map}
+use Rattle.pg_cells.specs.declared.store.cell.TheConstants.{CELLS_END}
 use Rattle.pg_cells.specs.declared.store.cell.Cell.{Cell}
 use Rattle.pg_cells.specs.declared.store.member.Member.{Member}
 use Rattle.pg_cells.specs.Inside.store.FreeList.{AreLinked}
@@ -25,7 +26,7 @@ pub take_cell-requires-clause-linked : goal.take_cell-requires-clause-linked
 take_cell-requires-clause-linked g c = subst (λ (cells : List (Cell g.row.V.Denot)). AreLinked (lists cells)) (sym c.as_mut_slice.ensures.value) c.self.invariant.kept.linked
 
 pub take_cell-requires-clause-small : goal.take_cell-requires-clause-small
-take_cell-requires-clause-small g c = subst (λ (cells : List (Cell g.row.V.Denot)). length cells < 2 ^ 29) (sym c.as_mut_slice.ensures.value) c.self.invariant.kept.small
+take_cell-requires-clause-small g c = subst (λ (cells : List (Cell g.row.V.Denot)). length cells < CELLS_END) (sym c.as_mut_slice.ensures.value) c.self.invariant.kept.small
 
 pub take_cell-requires-clause-free : goal.take_cell-requires-clause-free
 take_cell-requires-clause-free g c =

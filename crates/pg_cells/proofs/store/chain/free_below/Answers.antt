@@ -1,4 +1,4 @@
-use Rattle.std.proofs.Common.{◌≡◌, ◌≢◌, ◌<◌, ◌≤◌, inl, inr, sym, ◌∙◌, subst, arith}
+use Rattle.std.proofs.Common.{◌≡◌, ◌≢◌, ◌<◌, ◌≤◌, inl, inr, sym, subst, arith}
 use Rattle.std.proofs.lemmas.Bool.{cases_eq}
 use Rattle.pg_cells.specs.Inside.store.Lists.{lists, row_of, sign_at, after_at, IsFree}
 use Rattle.pg_cells.proofs.LinkedLists.{not_free}
@@ -26,9 +26,9 @@ pub free-preserved : goal.free-preserved
 free-preserved g c =
     let inv = c.free.invariant in
     let cell = c.requires.cell in
-    let here : sign_at (row_of c.args.cells.now) c.free.low ≢ 0 = λ z. c.if-sign_of-eq0.false (c.sign_of-in-free.ensures ∙ z) in
+    let here : sign_at (row_of c.args.cells.now) c.free.low ≢ 0 = c.is_taken-in-free.ensures.taken c.if-not-is_taken.false in
     let head = above_head c.args.cells.now c.free.low c.requires.linked here in
-    let there : sign_at (row_of c.args.cells.now) c.free.high ≢ 0 = λ z. c.free-test.true (c.sign_of.ensures ∙ z) in
+    let there : sign_at (row_of c.args.cells.now) c.free.high ≢ 0 = c.is_taken.ensures.taken c.free-test.true in
     let up : after_at (lists c.args.cells.now) c.free.free ≢ 0 = λ z. let some = c.if-after-eq0.false in let is = inv.after in omega arith in
     record {
       below = omega arith;
@@ -50,13 +50,13 @@ free-preserved g c =
     }
 
 pub free-smaller : goal.free-smaller
-free-smaller g c = let up = above_head c.args.cells.now c.free.low c.requires.linked (λ z. c.if-sign_of-eq0.false (c.sign_of-in-free.ensures ∙ z)) in omega arith
+free-smaller g c = let up = above_head c.args.cells.now c.free.low c.requires.linked (c.is_taken-in-free.ensures.taken c.if-not-is_taken.false) in omega arith
 
 pub returns : goal.returns
 returns g c =
     let inv = c.free.invariant in
     let above = inv.above in
-    let there = free_here c.args.cells.now c.free.high inv.within (sym c.sign_of.ensures ∙ c.free-test.false) in
+    let there = free_here c.args.cells.now c.free.high inv.within (c.is_taken.ensures.free c.free-test.false) in
     let other : c.args.cell ≢ c.free.high = λ e. not_free (row_of c.args.cells.now) c.args.cell c.requires.taken (subst (IsFree (row_of c.args.cells.now)) (sym e) there) in
     let is = free_before (lists c.args.cells.now) c.requires.linked c.args.cell c.free.high c.before_of.result (omega arith) inv.between there c.before_of.ensures in
     record { below = is.below; free = is.free; last = is.last }

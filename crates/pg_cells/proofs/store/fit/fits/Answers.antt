@@ -1,5 +1,5 @@
 use Rattle.std.specs.List.{list_all}
-use Rattle.std.specs.Prelude.{not, ◌&&◌}
+use Rattle.std.specs.Prelude.{not}
 use Rattle.std.proofs.Common.{◌≡◌, ◌+◌, ◌<◌, nat_eq, length, get_or, sym, ap, subst, ◌∙◌, refl, arith, ℕ}
 use Rattle.std.proofs.lemmas.List.{get_or-map, length-map, take_all}
 use Rattle.std.proofs.lemmas.Bool.{ne_eqb, eq-eqb}
@@ -7,17 +7,17 @@ use Rattle.pg_cells.specs.declared.store.fit.Slot.{Slot}
 use Rattle.pg_cells.specs.Inside.store.Lists.{lists, sign_at}
 use Rattle.pg_cells.specs.Inside.store.Fit.{signs_of}
 use Rattle.pg_cells.specs.declared.store.member.Member.{Member}
-use Rattle.pg_cells.proofs.FitSteps.{all_more, all_fails, misfit}
+use Rattle.pg_cells.proofs.FitSteps.{all_more, all_fails, fit_by_base, misfit}
 use Rattle.pg_cells.proofs.store.fit.fits.Goals as goal
 
-pub returns-then-sign_of-ne0 : goal.returns-then-sign_of-ne0
-returns-then-sign_of-ne0 g c =
+pub returns-then-is_taken : goal.returns-then-is_taken
+returns-then-is_taken g c =
     let at : get_or (signs_of c.args.slots.now) c.loop-slot.slot-index 0 ≡ c.slot-item.result.sign =
     get_or-map (λ x. x.sign) c.args.slots.now c.loop-slot.slot-index c.slot-item.result 0 c.loop-slot-test.true ∙ ap (λ (x : Slot (Member g.row.V.Denot)). x.sign) (sym c.slot-item.is) in
     let within : c.loop-slot.slot-index < length (signs_of c.args.slots.now) = rw length-map c.loop-slot-test.true in
     sym (misfit (lists c.args.cells.now).row (signs_of c.args.slots.now) c.args.base
     (all_fails (λ s. nat_eq (sign_at (lists c.args.cells.now).row (c.args.base + s)) 0) (signs_of c.args.slots.now) c.loop-slot.slot-index _ within at
-    (ne_eqb _ 0 (λ z. c.if-sign_of-ne0.true (c.sign_of.ensures ∙ z)))))
+    (ne_eqb _ 0 (c.is_taken.ensures.taken c.if-is_taken.true))))
 
 pub loop-slot-preserved : goal.loop-slot-preserved
 loop-slot-preserved g c =
@@ -25,20 +25,16 @@ loop-slot-preserved g c =
     get_or-map (λ x. x.sign) c.args.slots.now c.loop-slot.slot-index c.slot-item.result 0 c.loop-slot-test.true ∙ ap (λ (x : Slot (Member g.row.V.Denot)). x.sign) (sym c.slot-item.is) in
     let within : c.loop-slot.slot-index < length (signs_of c.args.slots.now) = rw length-map c.loop-slot-test.true in
     all_more (λ s. nat_eq (sign_at (lists c.args.cells.now).row (c.args.base + s)) 0) (signs_of c.args.slots.now) c.loop-slot.slot-index _ within at
-    (eq-eqb _ 0 (sym c.sign_of.ensures ∙ c.if-sign_of-ne0.false)) c.loop-slot.invariant
+    (eq-eqb _ 0 (c.is_taken.ensures.free c.if-is_taken.false)) c.loop-slot.invariant
 
-pub sign_of-requires : goal.sign_of-requires
-sign_of-requires g c =
+pub is_taken-requires : goal.is_taken-requires
+is_taken-requires g c =
     let at : get_or (signs_of c.args.slots.now) c.loop-slot.slot-index 0 ≡ c.slot-item.result.sign =
     get_or-map (λ x. x.sign) c.args.slots.now c.loop-slot.slot-index c.slot-item.result 0 c.loop-slot-test.true ∙ ap (λ (x : Slot (Member g.row.V.Denot)). x.sign) (sym c.slot-item.is) in
     subst (λ s. c.args.base + s < length c.args.cells.now) at (c.requires.wide c.loop-slot.slot-index c.loop-slot-test.true)
 
 pub is_base_of-requires : goal.is_base_of-requires
 is_base_of-requires g c = let base = c.requires.base in omega arith
-
-pub returns-then-is_base_of : goal.returns-then-is_base_of
-returns-then-is_base_of g c =
-    sym (ap (λ b. not b && list_all (λ s. nat_eq (sign_at (lists c.args.cells.now).row (c.args.base + s)) 0) (signs_of c.args.slots.now)) (sym c.is_base_of.ensures ∙ c.if-is_base_of.true))
 
 pub loop-slot-init : goal.loop-slot-init
 loop-slot-init g c = refl
@@ -59,4 +55,5 @@ returns g c =
     let test = λ (s : ℕ). nat_eq (sign_at (lists c.args.cells.now).row (c.args.base + s)) 0 in
     let past = c.loop-slot-test.false in
     let all = take_all c.loop-slot.slot-index (signs_of c.args.slots.now) (omega (arith, length-map c.args.slots.now (λ x. x.sign))) in
-    sym (ap (λ b. not b && list_all test (signs_of c.args.slots.now)) (sym c.is_base_of.ensures ∙ c.if-is_base_of.false) ∙ ap (list_all test) (sym all) ∙ c.loop-slot.invariant)
+    ap not c.is_base_of.ensures
+    ∙ sym (fit_by_base (lists c.args.cells.now).row (signs_of c.args.slots.now) c.args.base (ap (list_all test) (sym all) ∙ c.loop-slot.invariant))

@@ -12,21 +12,21 @@ use Rattle.pg_cells.proofs.store.fit.free_from.Goals.{then-loop-at-test+else-fre
 pub after_of-free-requires : goal.after_of-free-requires
 after_of-free-requires g c = let bound = c.requires.bound in omega arith
 
-pub sign_of-requires : goal.sign_of-requires
-sign_of-requires g c = let bound = c.requires.bound in let at = c.loop-at.invariant.bound in omega arith
+pub is_taken-requires : goal.is_taken-requires
+is_taken-requires g c = let bound = c.requires.bound in let at = c.loop-at.invariant.bound in omega arith
 
 pub overflow_add-at : goal.overflow_add-at
 overflow_add-at g c =
     let at = c.loop-at.invariant.bound in
     let within = c.requires.bound in
     let small = c.ranges.bound in
-    let other = taken_other c.args.cells.now c.loop-at.at c.args.bound (λ z. c.loop-at-test.true (c.sign_of.ensures ∙ z)) c.requires.free in
+    let other = taken_other c.args.cells.now c.loop-at.at c.args.bound (c.is_taken.ensures.taken c.loop-at-test.true) c.requires.free in
     omega arith
 
 pub loop-at-smaller : goal.loop-at-smaller
 loop-at-smaller g c =
     let at = c.loop-at.invariant.bound in
-    let other = taken_other c.args.cells.now c.loop-at.at c.args.bound (λ z. c.loop-at-test.true (c.sign_of.ensures ∙ z)) c.requires.free in
+    let other = taken_other c.args.cells.now c.loop-at.at c.args.bound (c.is_taken.ensures.taken c.loop-at-test.true) c.requires.free in
     omega arith
 
 pub after_of-free-requires-in-loop-at : goal.after_of-free-requires-in-loop-at
@@ -41,7 +41,7 @@ returns-then-free-cell-2 g c =
       bound = inv.bound;
       free = elim c.loop-at-test.branch [
         | then-loop-at-test+else-free-cell w ↦ absurd (let far = w.if-free-cell.false in omega arith)
-        | else-loop-at-test w ↦ sym c.sign_of.ensures ∙ w.loop-at-test.false
+        | else-loop-at-test w ↦ c.is_taken.ensures.free w.loop-at-test.false
       ];
       first = inv.first;
     }
@@ -73,7 +73,7 @@ loop-at-preserved g c =
     let within : c.args.bound < length (row_of c.args.cells.now).signs = rw length-map c.requires.bound in
     let last : IsFree (row_of c.args.cells.now) c.args.bound = get_or_default (row_of c.args.cells.now).signs c.args.bound 1 0 within ∙ c.requires.free in
     let next = next_free (lists c.args.cells.now) c.requires.linked c.args.cell c.args.bound c.loop-at.free c.if-free-cell.true c.requires.below inv.next.free last in
-    let here : sign_at (row_of c.args.cells.now) c.loop-at.at ≢ 0 = λ z. c.loop-at-test.true (c.sign_of.ensures ∙ z) in
+    let here : sign_at (row_of c.args.cells.now) c.loop-at.at ≢ 0 = c.is_taken.ensures.taken c.loop-at-test.true in
     let other : c.loop-at.at ≢ c.args.bound = taken_other c.args.cells.now c.loop-at.at c.args.bound here c.requires.free in
     record {
       from = let from = inv.from in omega arith;
