@@ -12,7 +12,6 @@ use Rattle.pg_types.specs.declared.refusals.ReadingError.TheVariants as reader
 use Rattle.pg_types.specs.declared.refusals.Kind.TheVariants.{TranslateTooLong, ParametersTooLong, PatternsTooLong, DictionaryTooLong, TableTooLong, BadTable, OtherTable}
 use Rattle.pg_types.specs.Lines.{lines, pieces_at, is_line_feed, without_cr}
 use Rattle.pg_types.specs.Parameters.{parameters, parameters_of, items, demands, refusal_from}
-use Rattle.pg_types.specs.Inside.Parts.{refusal_of_item}
 use Rattle.pg_types.specs.Reading.{unless, refusal_at as refused_in}
 use Rattle.pg_types.specs.Inside.Answers.{Fails, Gives}
 use Rattle.pg_outside.specs.Content.{FileMap, FilesShown, file_at}
@@ -30,7 +29,6 @@ use Rattle.pg_patterns.specs.Values.{map_of_entries}
 use Rattle.pg_top.specs.Outcomes.{unless_accepted}
 use Rattle.pg_top.specs.Inside.ends.Refusing.{refuses}
 use Rattle.pg_top.specs.totals.TotalsRule.{packed_table}
-use Rattle.pg_top.specs.pack.Inside.Inputs.{table_refused}
 use Rattle.pg_top.specs.Readings.{Reading, input_file}
 use Rattle.pg_top.specs.Inside.reading.ReadAs.{read_as}
 use Rattle.pg_top.specs.FileCalls.{MakesCalls}
@@ -75,17 +73,17 @@ abbrev pub IsReadByFront : {Y : Type 0} → (List ℕ → Result Y Refusal) → 
 IsReadByFront parse = IsReadUpTo FILE_MAX parse
 
 pub packed_table-front : (t : Alphabet) → IsReadUpTo TABLE_MAX (packed_table t)
-packed_table-front t whole = limited (Err (table_refused TableTooLong))
-    (λ b. cond (not (is_well_formed b)) (Err (table_refused BadTable)) (cond (nat_eq (head_of b).signs (letters_of t + 1)) (Ok b) (Err (table_refused OtherTable)))) TABLE_MAX whole
+packed_table-front t whole = limited (Err (refused_in 0 TableTooLong 0))
+    (λ b. cond (not (is_well_formed b)) (Err (refused_in 0 BadTable 0)) (cond (nat_eq (head_of b).signs (letters_of t + 1)) (Ok b) (Err (refused_in 0 OtherTable 0)))) TABLE_MAX whole
 
 pub parameters-front : IsReadByFront parameters
-parameters-front whole = limited (Err (refusal_of_item 0 ParametersTooLong)) (λ bytes. unless (refusal_from 1 (demands (items bytes)) (items bytes)) (parameters_of (items bytes))) FILE_MAX whole
+parameters-front whole = limited (Err (refused_in 0 ParametersTooLong 0)) (λ bytes. unless (refusal_from 1 (demands (items bytes)) (items bytes)) (parameters_of (items bytes))) FILE_MAX whole
 
 pub words-front : (t : Alphabet) → IsReadByFront (words t)
 words-front t whole = limited (Err (refused_in 0 DictionaryTooLong 0)) (λ bytes. of_lines (line_words 1) t Dictionary (lines bytes)) FILE_MAX whole
 
 pub start-front : (t : Alphabet) → IsReadByFront (start t)
-start-front t whole = limited (Err (record { kind = PatternsTooLong; line = 0; column = 0 }))
+start-front t whole = limited (Err (refused_in 0 PatternsTooLong 0))
     (λ bytes. of_lines (λ ls. map_of_entries (flat_map line_entries ls)) t Patterns (lines bytes)) FILE_MAX whole
 
 -- a text that has a byte has a piece

@@ -1,5 +1,6 @@
 //! A packed table that is read, and the totals by it.
 ghost use Rattle.std.specs.Prelude.{◌≡◌, ◌+◌, IfOk, IfErr, IfSome, [], ◌∷◌};
+ghost use Rattle.pg_types.specs.Reading.{refusal_at};
 ghost use Rattle.pg_dict.specs.Inside.SoundWords.{SignsAtMost};
 ghost use Rattle.pg_driver.specs.Inside.records.Sound.{IsSmall};
 ghost use Rattle.pg_outside.specs.Content.{file_at};
@@ -8,7 +9,6 @@ ghost use Rattle.pg_texts.specs.ReportTexts.{ending_text};
 ghost use Rattle.pg_translate.specs.Alphabets.{letters_of};
 ghost use Rattle.pg_top.specs.FileCalls.{MakesCalls};
 ghost use Rattle.pg_top.specs.totals.TotalsRule.{packed_table};
-ghost use Rattle.pg_top.specs.pack.Inside.Inputs.{table_refused};
 ghost use Rattle.pg_top.specs.Readings.{input_file};
 ghost use Rattle.pg_top.specs.totals.Inside.Inputs.{IsTotalled};
 ghost use Rattle.pg_top.specs.Inside.ends.Stops.{OnlyReads, StopsAt};
@@ -26,7 +26,7 @@ use std::alloc::{AllocError, Global};
 
 /// The refusal of a packed table, which has no place.
 fn refused(kind: Kind) -> Refusal
-    ensures { result ≡ table_refused kind }
+    ensures { result ≡ refusal_at 0 kind 0 }
 {
     Refusal {
         kind,

@@ -3,9 +3,7 @@
 use Rattle.std.specs.Prelude.{ℕ, if◌then◌else◌, List, [], ◌∷◌, ◌++◌, fold, Option, None, Some, Result, Ok, Err}
 use Rattle.std.specs.List.{list_all}
 use Rattle.std.specs.Char.{is_ascii_digit}
-use Rattle.pg_types.specs.declared.refusals.Kind.{Kind}
 use Rattle.pg_types.specs.declared.refusals.Refusal.{Refusal}
-use Rattle.pg_types.specs.Reading.{refusal_at}
 use Rattle.pg_types.specs.Parameters.{with_digit}
 
 -- two parts of a list, one behind the other, or the first refusal
@@ -24,7 +22,3 @@ first_refusal (r ∷ rs) y = Err r
 abbrev pub number_from : ℕ → List ℕ → Option ℕ
 number_from n digits = if list_all is_ascii_digit digits then Some (fold with_digit n digits)
     else None
-
--- the refusal of the item with this number
-abbrev pub refusal_of_item : ℕ → Kind → Refusal
-refusal_of_item i kind = refusal_at i kind 0
