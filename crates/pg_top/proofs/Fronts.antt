@@ -17,7 +17,7 @@ use Rattle.pg_types.specs.Inside.Answers.{Fails, Gives}
 use Rattle.pg_outside.specs.Content.{FileMap, FilesShown, file_at}
 use Rattle.pg_outside.specs.FilesCalls.{Reads}
 use Rattle.pg_outside.specs.Inside.ToldFiles.{IsCut}
-use Rattle.pg_table.specs.declared.limits.TheConstants.{TABLE_MAX}
+use Rattle.pg_types.specs.declared.packed_table.TheConstants.{TABLE_MAX}
 use Rattle.pg_table.specs.Forms.{head_of, is_well_formed}
 use Rattle.pg_translate.specs.Alphabets.{Alphabet, letters_of}
 use Rattle.pg_translate.specs.declared.items.Place.TheVariants.{Dictionary, Patterns}

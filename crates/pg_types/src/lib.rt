@@ -1,6 +1,6 @@
 //! What every crate of PatGen speaks of: signs, weights and limits, the status of a position,
-//! totals, a layout's numbers, refusals, lines, numbers in a text, the parameters of a run, and the
-//! cursor over windows.
+//! totals, a layout's numbers, refusals, lines, numbers in a text, the sizes of a packed table, the
+//! parameters of a run, and the cursor over windows.
 #![tactic(auto)]
 
 pub mod cursor;
@@ -9,6 +9,7 @@ pub mod limits;
 pub mod lines;
 pub mod marks;
 pub mod numbers;
+pub mod packed_table;
 pub mod parameters;
 pub mod refusals;
 mod sums;

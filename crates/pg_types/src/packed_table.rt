@@ -1,4 +1,7 @@
-//! The sizes of a packed table file.
+//! The signature and the sizes of a packed table file.
+
+/// The bytes that a packed table file begins with.
+pub const SIGNATURE: &[u8] = b"PGT1";
 
 /// The most bytes that a packed table file may have, 2^28.
 pub const TABLE_MAX: usize = 268_435_456;
