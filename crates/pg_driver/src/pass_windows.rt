@@ -9,11 +9,11 @@ ghost use Rattle.pg_driver.specs.Inside.counting.Counting.{HasRoom};
 ghost use Rattle.pg_driver.specs.Inside.level.PassWindows.{AreFates};
 
 use pg_select::{Choice, Engine, decide};
-use pg_types::LevelParams;
+use pg_types::{LevelParams, NUMBERS_END};
 use std::alloc::{AllocError, Global};
 
 /// This stands for the number of a window at a position that was not counted.
-pub const NO_NUMBER: u32 = u32::MAX;
+pub const NO_NUMBER: u32 = NUMBERS_END;
 
 /// Memory for so many numbers is never given back: a smaller list would only grow anew.
 const NUMBERS_AT_LEAST: usize = 1 << 15;

@@ -10,7 +10,8 @@ use Rattle.pg_cells.specs.Inside.linked.ValuedFamilies.{ValuedFamilies}
 use Rattle.pg_cells.specs.Inside.linked.AreValuedFamilies.{AreValuedFamilies}
 use Rattle.pg_cells.specs.Inside.families.Root.{root_alone}
 use Rattle.pg_cells.proofs.StringMaps.{order, equal_or_not, find_put_same, find_put_other}
-use Rattle.pg_count.specs.declared.store.tally_list.TheConstants.{NO_TALLY, NUMBERS_END}
+use Rattle.pg_types.specs.declared.limits.TheConstants.{NUMBERS_END}
+use Rattle.pg_count.specs.declared.store.tally_list.TheConstants.{NO_TALLY}
 use Rattle.std.specs.Option.{option_map, is_some}
 use Rattle.std.specs.FinMap.Entries.{length-put}
 use Rattle.std.specs.Cmp.Lexicographic.{nat_list_cmp_total}

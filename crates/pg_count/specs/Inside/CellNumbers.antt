@@ -7,7 +7,7 @@ use Rattle.std.specs.FinMap.Entries.{find}
 use Rattle.pg_cells.specs.Inside.linked.ValuedFamilies.{ValuedFamilies}
 use Rattle.pg_cells.specs.Inside.linked.AreValuedFamilies.{AreValuedFamilies}
 use Rattle.pg_count.specs.Inside.Counting.{Tally, numbers_in}
-use Rattle.pg_count.specs.declared.store.tally_list.TheConstants.{NUMBERS_END}
+use Rattle.pg_types.specs.declared.limits.TheConstants.{NUMBERS_END}
 
 -- the tally that a cell has by its number; those of the pass are numbered from `first` on
 abbrev pub tally_by_number : ℕ → List (ℕ × ℕ) → ℕ → Option Tally

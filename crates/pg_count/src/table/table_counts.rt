@@ -3,22 +3,19 @@ ghost use Rattle.std.specs.Prelude.{◌≡◌, ℕ, ◌+◌, ◌^◌, ◌≤◌,
 ghost use Rattle.std.specs.FinMap.{put};
 ghost use Rattle.std.specs.Cmp.Lexicographic.{slice_cmp};
 ghost use Rattle.std.specs.Ordering.{nat_cmp};
-ghost use Rattle.pg_types.specs.declared.limits.TheConstants.{LENGTH_MAX, SIGNS_MAX, WEIGHT_MAX};
+ghost use Rattle.pg_types.specs.declared.limits.TheConstants.{LENGTH_MAX, SIGNS_MAX, WEIGHT_MAX, NUMBERS_END};
 ghost use Rattle.pg_types.specs.Inside.Counts.{AreSmall, SignsWithin, counted_sums, sums_of, with_weight, is_counted, windows_above};
 ghost use Rattle.pg_types.specs.Inside.NumberedWindows.{AreInOrder, AreNumbered, HasNumber, no_counts, with_counted};
 ghost use Rattle.pg_count.specs.Inside.Counting.{IsCounting};
-ghost use Rattle.pg_count.specs.declared.store.tally_list.TheConstants.{NUMBERS_END};
 ghost use Rattle.pg_count.specs.declared.table.short.TheConstants.{ENTRIES_MAX};
 
-use crate::store::tally_list::{
-    LATEST_FIRST, NUMBERS_END, push_sums, set_sums_at, sums_at, tally_by_number,
-};
+use crate::store::tally_list::{LATEST_FIRST, push_sums, set_sums_at, sums_at, tally_by_number};
 use crate::store::window_list::WindowList;
 use crate::table::above::least_above;
 use crate::table::index::index_of;
 use crate::table::room::make_room;
 use crate::table::told::push_numbers;
-use pg_types::{Cursor, Sign, Weight, add_weight};
+use pg_types::{Cursor, NUMBERS_END, Sign, Weight, add_weight};
 use std::alloc::{AllocError, Global};
 use std::marker::Model;
 
