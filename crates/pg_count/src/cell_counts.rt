@@ -1,7 +1,7 @@
 //! The windows that are counted in a pass, in packed cells.
-ghost use Rattle.std.specs.Prelude.{◌≡◌, ℕ, ◌≤◌, ◌<◌, true, List, [], ◌∷◌, ◌++◌, length, Some, IfOk, OnOk, OnErr, IsOk, MatchOption};
+ghost use Rattle.std.specs.Prelude.{◌≡◌, ℕ, ◌≤◌, ◌<◌, true, List, ◌++◌, length, Some, IfOk, OnOk, OnErr, IsOk};
 ghost use Rattle.pg_types.specs.declared.limits.TheConstants.{LENGTH_MAX, SIGNS_MAX, WEIGHT_MAX};
-ghost use Rattle.pg_types.specs.Inside.Counts.{AreSmall, SignsWithin, counted_sums, sums_of, with_weight, is_counted, windows_above};
+ghost use Rattle.pg_types.specs.Inside.Counts.{AreSmall, IsNextAbove, SignsWithin, counted_sums, sums_of, with_weight, is_counted};
 ghost use Rattle.pg_types.specs.Inside.NumberedWindows.{AreInOrder, AreNumbered, HasNumber, no_counts, with_counted};
 ghost use Rattle.pg_count.specs.Inside.Counting.{IsCounting};
 
@@ -148,9 +148,7 @@ impl CellCounts {
     /// Moves the cursor to the least counted window that is greater, and gives its good and bad
     /// sums; none exactly where there is no such window, and the cursor stays. It takes no memory.
     pub fn next(&self, at: &mut Cursor) -> Option<(u64, u64)>
-        ensures { MatchOption result ((windows_above at.old self.now.counted.counts ≡ [])
-            × (at.new ≡ at.old)) (λ sums. windows_above at.old self.now.counted.counts
-            ≡ (at.new, sums) ∷ windows_above at.new self.now.counted.counts) }
+        ensures { IsNextAbove self.now.counted.counts at.old at.new result }
     {
         if self.cells.has_none() {
             return None;

@@ -1,10 +1,10 @@
 //! The windows that are counted in a pass, in a table.
-ghost use Rattle.std.specs.Prelude.{◌≡◌, ℕ, ◌+◌, ◌^◌, ◌≤◌, ◌<◌, true, List, [], ◌∷◌, ◌++◌, length, slice_get, Some, None, IfOk, IfSome, OnOk, OnErr, IsOk, MatchOption};
+ghost use Rattle.std.specs.Prelude.{◌≡◌, ℕ, ◌+◌, ◌^◌, ◌≤◌, ◌<◌, true, List, [], ◌∷◌, ◌++◌, length, slice_get, Some, None, IfOk, IfSome, OnOk, OnErr, IsOk};
 ghost use Rattle.std.specs.FinMap.{put};
 ghost use Rattle.std.specs.Cmp.Lexicographic.{slice_cmp};
 ghost use Rattle.std.specs.Ordering.{nat_cmp};
 ghost use Rattle.pg_types.specs.declared.limits.TheConstants.{LENGTH_MAX, SIGNS_MAX, WEIGHT_MAX, NUMBERS_END};
-ghost use Rattle.pg_types.specs.Inside.Counts.{AreSmall, SignsWithin, counted_sums, sums_of, with_weight, is_counted, windows_above};
+ghost use Rattle.pg_types.specs.Inside.Counts.{AreSmall, IsNextAbove, SignsWithin, counted_sums, sums_of, with_weight, is_counted};
 ghost use Rattle.pg_types.specs.Inside.NumberedWindows.{AreInOrder, AreNumbered, HasNumber, no_counts, with_counted};
 ghost use Rattle.pg_count.specs.Inside.Counting.{IsCounting};
 ghost use Rattle.pg_count.specs.declared.table.short.TheConstants.{ENTRIES_MAX};
@@ -162,9 +162,7 @@ impl TableCounts {
     /// Moves the cursor to the least counted window that is greater, and gives its good and bad
     /// sums; none exactly where there is no such window, and the cursor stays. It takes no memory.
     pub fn next(&self, at: &mut Cursor) -> Option<(u64, u64)>
-        ensures { MatchOption result ((windows_above at.old self.now.counted.counts ≡ [])
-            × (at.new ≡ at.old)) (λ sums. windows_above at.old self.now.counted.counts
-            ≡ (at.new, sums) ∷ windows_above at.new self.now.counted.counts) }
+        ensures { IsNextAbove self.now.counted.counts at.old at.new result }
     {
         let number = least_above(
             self.numbers.as_slice(),
