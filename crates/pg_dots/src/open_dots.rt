@@ -43,7 +43,7 @@ impl OpenDots {
     ghost use Rattle.pg_dots.specs.Inside.Walks.{IsAhead};
 
     /// Each dot is closed at each of `size` positions, and no dot is reached.
-    pub fn closed(alloc: Global, size: usize) -> Result<OpenDots, AllocError>
+    pub fn all_closed(alloc: Global, size: usize) -> Result<OpenDots, AllocError>
         requires { size ≤ positions_limit }
         ensures size { IfOk result (λ o. size ≤ position_count o) }
         ensures few { IfOk result (λ o. position_count o ≤ size + 64) }

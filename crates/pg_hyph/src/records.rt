@@ -48,7 +48,7 @@ fn raise_at(value: u8, dot: u8, start: usize, len: usize, pass: &Pass, out: &mut
         (covers_of out.new) }
 {
     let covered = is_covering(value, dot, len, pass);
-    out.raise(start + usize::from(dot), given(value), covered);
+    out.raise(start + usize::from(dot), pattern_value(value), covered);
 }
 
 /// Whether a value or hopeless entry covers the window at its dot.
@@ -62,7 +62,7 @@ fn is_covering(value: u8, dot: u8, len: usize, pass: &Pass) -> bool
 }
 
 /// The value itself, and 0 for a hopeless entry.
-fn given(value: u8) -> u8
+fn pattern_value(value: u8) -> u8
     ensures { result ≡ pattern_value value }
 {
     if value < HOPELESS { value } else { 0 }

@@ -194,7 +194,7 @@ fn count_at<E: Engine>(
         return Ok(());
     };
     let (dot, len) = (usize::from(pass.dot), usize::from(pass.len));
-    if p < dot || w.signs.len() - (p - dot) < len || found.covered(p) {
+    if p < dot || w.signs.len() - (p - dot) < len || found.is_covered(p) {
         return Ok(());
     }
     let from = p - dot;

@@ -45,7 +45,7 @@ impl WordState {
     }
 
     /// Whether the window at position `p` is covered.
-    pub fn covered(&self, p: usize) -> bool
+    pub fn is_covered(&self, p: usize) -> bool
         requires { p < WORD_LETTERS_MAX + 2 }
         ensures { result ≡ slice_index_or self.now.covers p false }
     {

@@ -18,7 +18,7 @@ mod row;
 use crate::error::TableError;
 use crate::parts::cell::Cell;
 use crate::parts::numbers::{push_u16, push_u32};
-use crate::text::entering::{Packed, enter_all};
+use crate::text::entering::{PackedTrie, enter_all};
 use crate::text::row::table_cells;
 use pg_outputs::Outputs;
 use pg_patterns::PatternSet;
@@ -50,7 +50,7 @@ fn packed_text(
     alloc: Global,
     signs: u16,
     patterns: &PatternSet,
-    packed: &Packed,
+    packed: &PackedTrie,
 ) -> Result<Vec<u8>, TableError>
     requires signs { (1 ≤ signs) × (signs ≤ SIGNS_MAX) }
     requires known { SignsUpTo signs patterns.now }
@@ -69,7 +69,7 @@ fn packed_text(
 }
 
 /// Whether the table has more than [`TABLE_MAX`] bytes.
-fn is_too_long(packed: &Packed) -> bool
+fn is_too_long(packed: &PackedTrie) -> bool
     ensures { IsTrue result
         ↔ (TABLE_MAX < HEAD_LEN + CELL_LEN * (top packed.now.cells.families + 1)
         + RECORD_LEN * length packed.now.outputs) }

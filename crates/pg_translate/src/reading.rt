@@ -18,7 +18,7 @@ use pg_types::{FILE_MAX, Kind, ReadingError, Refusal, SIGNS_MAX, next_line};
 use std::alloc::Global;
 
 /// A refusal with its place.
-pub(crate) fn refused(kind: Kind, line: u32, column: u32) -> ReadingError
+pub(crate) fn refusal(kind: Kind, line: u32, column: u32) -> ReadingError
     ensures { result ≡ Refused (record { kind = kind; line = line; column = column }) }
 {
     ReadingError::Refused(Refusal { kind, line, column })
@@ -81,13 +81,13 @@ fn add_spelling(
     ensures sound { OnOk result (IsIndex index.new) }
 {
     if letter > SIGNS_MAX - 1 {
-        return Err(refused(Kind::TooManyLetters, line, 1));
+        return Err(refusal(Kind::TooManyLetters, line, 1));
     }
     if !is_spelling(marks, text) {
-        return Err(refused(Kind::BadSpelling, line, column));
+        return Err(refusal(Kind::BadSpelling, line, column));
     }
     if index.clashes(letter + 1, text) {
-        return Err(refused(Kind::SpellingClash, line, column));
+        return Err(refusal(Kind::SpellingClash, line, column));
     }
     index.add(letter + 1, text)?;
     Ok(())

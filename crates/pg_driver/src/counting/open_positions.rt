@@ -111,7 +111,7 @@ pub fn open_level<E: Engine>(
 {
     let count = dictionary.len();
     let signs = dictionary.all_signs();
-    let dots = OpenDots::closed(alloc, signs.len())?;
+    let dots = OpenDots::all_closed(alloc, signs.len())?;
     let mut found = WordState::new();
     let mut opened = OpenLevel {
         dots,

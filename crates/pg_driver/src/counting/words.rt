@@ -32,7 +32,7 @@ use std::alloc::AllocError;
 
 /// Whether position `p` of a word counts as good or as bad in a pass: it does so by its status, as
 /// `good` says, and its window fits in the word and is not covered.
-fn counted(
+fn counts_in_pass(
     pass: Pass,
     w: &WordRef<'_>,
     found: &WordState,
@@ -45,7 +45,7 @@ fn counted(
         (slice_index_or found.now.covers p false) then good else None) }
 {
     let good = good?;
-    if fits(pass, w.signs.len(), p) && !found.covered(p) {
+    if fits(pass, w.signs.len(), p) && !found.is_covered(p) {
         Some(good)
     } else {
         None
@@ -80,7 +80,7 @@ fn count_at<E: Engine>(
         (E.meaning engine.new).windows (window_of_word w.now.signs.now p pass.len pass.dot) n) }
     ensures signs { (E.meaning engine.new).signs ≡ (E.meaning engine.old).signs }
 {
-    let Some(good) = counted(pass, w, found, p, good) else {
+    let Some(good) = counts_in_pass(pass, w, found, p, good) else {
         return Ok(NO_NUMBER);
     };
     let window = window_at(pass, w.signs, p);

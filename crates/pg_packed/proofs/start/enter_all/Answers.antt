@@ -1,7 +1,7 @@
 use Rattle.std.proofs.Common.{ℕ, ◌≤◌, sym, subst}
 use Rattle.std.specs.List.{All}
 use Rattle.pg_packed.proofs.Steps.{signs_within, entered_next}
-use Rattle.pg_packed.proofs.start.entered.Goals as goal
+use Rattle.pg_packed.proofs.start.enter_all.Goals as goal
 
 pub enter-requires-clause-signs : goal.enter-requires-clause-signs
 enter-requires-clause-signs c =

@@ -4,7 +4,7 @@ use Rattle.std.specs.Prelude.{IfOk}
 use Rattle.std.proofs.lemmas.Bool.{le-ltb, eq-eqb}
 use Rattle.pg_outputs.specs.Lists.{list_of}
 use Rattle.pg_trie.specs.Inside.Lists.{rank, list_with}
-use Rattle.pg_trie.proofs.lists.raise.+raised.Goals as goal
+use Rattle.pg_trie.proofs.lists.raise.+head_with.Goals as goal
 
 -- of one rank the greater value counts
 beside : (x y : ℕ × ℕ) (ys : List (ℕ × ℕ)) → rank x ≡ rank y → (max x.0 y.0, y.1) ∷ ys ≡ list_with x (y ∷ ys)

@@ -2,7 +2,7 @@ use Rattle.std.proofs.Common.{◌≡◌, ◌+◌, ◌-◌, ◌*◌, ◌/◌, ◌
 use Rattle.pg_dots.specs.Inside.Bits.{has_bit}
 use Rattle.pg_dots.specs.Inside.Dots.{is_closed, row_of}
 use Rattle.pg_dots.proofs.Places.{full_bit, row_beyond}
-use Rattle.pg_dots.proofs.open_dots.OpenDots.closed.Goals as goal
+use Rattle.pg_dots.proofs.open_dots.OpenDots.all_closed.Goals as goal
 
 pub returns-clause-closed : goal.returns-clause-closed
 unfolding is_closed
