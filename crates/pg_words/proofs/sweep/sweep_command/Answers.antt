@@ -2,7 +2,7 @@ use Rattle.std.proofs.Common.{[], ◌∷◌, ◌∙◌, ap}
 use Rattle.pg_words.specs.Inside.CommandRequests.{sweep_of}
 use Rattle.pg_words.specs.Inside.Names.{texts}
 use Rattle.pg_words.specs.Requests.{ToSweep, where_taken}
-use Rattle.pg_words.proofs.sweep.taken.Goals as goal
+use Rattle.pg_words.proofs.sweep.sweep_command.Goals as goal
 
 pub returns : goal.returns
 returns c =
