@@ -2,7 +2,7 @@
 ghost use Rattle.std.specs.Prelude.{◌≡◌, ℕ, ◌+◌, ◌<◌, ◌≤◌, true, List, length};
 ghost use Rattle.pg_types.specs.Inside.Counts.{SignsWithin, sums_of};
 
-use pg_count::CountTrie;
+use pg_count::{CountTrie, WindowCounter};
 use pg_types::{Cursor, Sign, Weight};
 use std::process::Abort;
 use std::test::Fail;

@@ -4,7 +4,7 @@ ghost use Rattle.pg_types.specs.declared.limits.TheConstants.{LENGTH_MAX, LEVEL_
 ghost use Rattle.pg_types.specs.Tails.{tails};
 
 use crate::start::trie_of;
-use pg_count::CountTrie;
+use pg_count::{CountTrie, WindowCounter};
 use pg_dict::WordRef;
 use pg_hyph::hyphenate;
 use pg_patterns::PatternSet;

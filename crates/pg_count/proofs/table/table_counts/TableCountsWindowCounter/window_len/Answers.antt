@@ -2,7 +2,7 @@ use Rattle.std.proofs.Common.{subst}
 use Rattle.pg_types.specs.Inside.NumberedWindows.{AreNumbered}
 use Rattle.pg_count.specs.Inside.Counting.{Counting, IsCounting}
 use Rattle.pg_count.proofs.TableLaws.Stood.{are_numbered, is_counting}
-use Rattle.pg_count.proofs.table.table_counts.TableCounts.window_len.Goals as goal
+use Rattle.pg_count.proofs.table.table_counts.TableCountsWindowCounter.window_len.Goals as goal
 
 pub returns-clause-kept : goal.returns-clause-kept
 returns-clause-kept c =

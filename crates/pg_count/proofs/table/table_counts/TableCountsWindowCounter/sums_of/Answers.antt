@@ -4,7 +4,7 @@ use Rattle.pg_types.specs.Inside.Counts.{counted_sums}
 use Rattle.pg_types.specs.Inside.NumberedWindows.{HasNumber}
 use Rattle.pg_count.specs.Inside.Counting.{Counting}
 use Rattle.pg_count.proofs.TableLaws.Stood.{counts_there}
-use Rattle.pg_count.proofs.table.table_counts.TableCounts.sums_of.Goals as goal
+use Rattle.pg_count.proofs.table.table_counts.TableCountsWindowCounter.sums_of.Goals as goal
 
 pub returns : goal.returns
 returns c u at =

@@ -2,7 +2,7 @@ use Rattle.std.proofs.Common.{take, refl, ap, sym, ◌∙◌}
 use Rattle.pg_types.specs.Inside.Counts.{counted_sums}
 use Rattle.pg_count.specs.Inside.Counting.{Counting}
 use Rattle.pg_count.proofs.LeafLaws.Wholes.{counts_there, none_counted}
-use Rattle.pg_count.proofs.cell_counts.CellCounts.sums.Goals as goal
+use Rattle.pg_count.proofs.cell_counts.CellCountsWindowCounter.sums.Goals as goal
 
 pub returns-in_err-sums : goal.returns-in_err-sums
 returns-in_err-sums c =

@@ -3,7 +3,7 @@ use Rattle.pg_types.specs.Inside.NumberedWindows.{AreInOrder}
 use Rattle.pg_count.specs.Inside.Counting.{Counting}
 use Rattle.pg_count.specs.Inside.Tables.{numbers_in_row}
 use Rattle.pg_count.proofs.TableLaws.Listing.{told_in_order}
-use Rattle.pg_count.proofs.table.table_counts.TableCounts.order.Goals as goal
+use Rattle.pg_count.proofs.table.table_counts.TableCountsWindowCounter.order.Goals as goal
 
 pub returns : goal.returns
 returns c =

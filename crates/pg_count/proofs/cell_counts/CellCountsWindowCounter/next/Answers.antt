@@ -7,7 +7,7 @@ use Rattle.pg_count.specs.Inside.Counting.{Counting, Tally, sums_of_tally, windo
 use Rattle.pg_count.proofs.CellLaws.Counted.{none_seen}
 use Rattle.pg_count.proofs.WalkLaws.Nexting.{none_above, least_is}
 use Rattle.pg_count.proofs.LeafLaws.Parting.{signs_told}
-use Rattle.pg_count.proofs.cell_counts.CellCounts.next.Goals as goal
+use Rattle.pg_count.proofs.cell_counts.CellCountsWindowCounter.next.Goals as goal
 
 pub least-requires-clause-base : goal.least-requires-clause-base
 least-requires-clause-base c =

@@ -6,7 +6,7 @@ use Rattle.pg_count.specs.Inside.Tables.{AreTabled}
 use Rattle.pg_count.proofs.LeafLaws.Parting.{signs_told}
 use Rattle.pg_count.proofs.WalkLaws.Above.{above_least, above_none}
 use Rattle.pg_count.proofs.TableLaws.Stood.{counts, counts_back, counts_there, sorted_counts}
-use Rattle.pg_count.proofs.table.table_counts.TableCounts.next.Goals as goal
+use Rattle.pg_count.proofs.table.table_counts.TableCountsWindowCounter.next.Goals as goal
 
 pub least_above-requires-clause-tabled : goal.least_above-requires-clause-tabled
 least_above-requires-clause-tabled c =

@@ -1,7 +1,7 @@
 use Rattle.std.proofs.Common.{length, ap, sym, arith, ◌∙◌}
 use Rattle.std.specs.List.{slice_get}
 use Rattle.pg_count.specs.Inside.Counting.{Counting}
-use Rattle.pg_count.proofs.cell_counts.CellCounts.window.Goals as goal
+use Rattle.pg_count.proofs.cell_counts.CellCountsWindowCounter.window.Goals as goal
 
 pub get-requires : goal.get-requires
 get-requires c =

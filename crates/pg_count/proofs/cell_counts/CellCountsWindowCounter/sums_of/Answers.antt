@@ -4,7 +4,7 @@ use Rattle.pg_types.specs.Inside.Counts.{counted_sums}
 use Rattle.pg_types.specs.Inside.NumberedWindows.{HasNumber}
 use Rattle.pg_count.specs.Inside.Counting.{Counting}
 use Rattle.pg_count.proofs.LeafLaws.Wholes.{counts_there}
-use Rattle.pg_count.proofs.cell_counts.CellCounts.sums_of.Goals as goal
+use Rattle.pg_count.proofs.cell_counts.CellCountsWindowCounter.sums_of.Goals as goal
 
 pub sums-requires : goal.sums-requires
 sums-requires c =

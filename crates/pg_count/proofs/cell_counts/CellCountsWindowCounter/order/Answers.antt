@@ -6,7 +6,7 @@ use Rattle.pg_count.specs.Inside.Counting.{Counting, Tally, sums_of_tally, windo
 use Rattle.pg_count.specs.Inside.Under.{numbers_under}
 use Rattle.pg_count.proofs.CellLaws.Counted.{none_seen}
 use Rattle.pg_count.proofs.WalkLaws.Looking.{ordered_numbers}
-use Rattle.pg_count.proofs.cell_counts.CellCounts.order.Goals as goal
+use Rattle.pg_count.proofs.cell_counts.CellCountsWindowCounter.order.Goals as goal
 
 pub walk-requires-clause-base : goal.walk-requires-clause-base
 walk-requires-clause-base c = (
