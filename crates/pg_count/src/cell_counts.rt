@@ -1,7 +1,7 @@
 //! The windows that are counted in a pass, in packed cells.
 ghost use Rattle.std.specs.Prelude.{◌≡◌, ◌≤◌, IfOk};
 ghost use Rattle.pg_types.specs.declared.limits.TheConstants.{LENGTH_MAX, SIGNS_MAX};
-ghost use Rattle.pg_types.specs.Inside.NumberedWindows.{no_counts};
+ghost use Rattle.pg_types.specs.Inside.counting.NumberedWindows.{no_counts};
 
 use crate::leaf::count_new;
 use crate::store::counted_cells::CountedCells;
@@ -32,7 +32,7 @@ impl Model for CellCounts {
     ghost Value = { Counting };
 
     ghost use Rattle.pg_count.specs.Inside.Counting.{counting_of};
-    ghost use Rattle.pg_count.specs.Inside.Leaves.{AreCounting};
+    ghost use Rattle.pg_count.specs.Inside.cells.Leaves.{AreCounting};
 
     ghost view = { λ t. counting_of t.cells t.windows.items t.windows.len };
 

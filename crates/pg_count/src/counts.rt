@@ -1,8 +1,8 @@
 //! The windows that are counted in a pass.
 ghost use Rattle.std.specs.Prelude.{◌≡◌, ◌≤◌, true, length, IfOk, OnOk, OnErr, IsOk};
 ghost use Rattle.pg_types.specs.declared.limits.TheConstants.{LENGTH_MAX, SIGNS_MAX, WEIGHT_MAX};
-ghost use Rattle.pg_types.specs.Inside.Counts.{AreSmall, SignsWithin, sums_of, with_weight, is_counted};
-ghost use Rattle.pg_types.specs.Inside.NumberedWindows.{no_counts, with_counted};
+ghost use Rattle.pg_types.specs.Inside.counting.Counts.{AreSmall, SignsWithin, sums_of, with_weight, is_counted};
+ghost use Rattle.pg_types.specs.Inside.counting.NumberedWindows.{no_counts, with_counted};
 
 use crate::cell_counts::CellCounts;
 use crate::table::short::is_short;

@@ -1,7 +1,7 @@
 //! The windows of a pass by their numbers: what becomes of each, and which positions it stands at.
 ghost use Rattle.std.specs.Prelude.{◌≡◌, ◌<◌, ◌≤◌, ◌++◌, ℕ, List, length, Some, OnOk};
-ghost use Rattle.pg_types.specs.Inside.Counts.{counted_sums};
-ghost use Rattle.pg_types.specs.Inside.NumberedWindows.{HasNumber};
+ghost use Rattle.pg_types.specs.Inside.counting.Counts.{counted_sums};
+ghost use Rattle.pg_types.specs.Inside.counting.NumberedWindows.{HasNumber};
 ghost use Rattle.pg_types.specs.Inside.Ranges.{IsLevel};
 ghost use Rattle.pg_select.specs.Inside.Choices.{choice};
 ghost use Rattle.pg_driver.specs.declared.pass_windows.TheConstants.{NO_NUMBER};
@@ -40,7 +40,7 @@ pub struct PassWindows {
 
 impl PassWindows {
     ghost use Rattle.std.specs.Prelude.{◌≡◌, ◌≤◌, [], length, OnOk};
-    ghost use Rattle.pg_types.specs.Inside.NumberedWindows.{AreInOrder, AreNumbered};
+    ghost use Rattle.pg_types.specs.Inside.counting.NumberedWindows.{AreInOrder, AreNumbered};
     ghost use Rattle.pg_types.specs.Inside.Ranges.{IsLevel};
     ghost use Rattle.pg_driver.specs.declared.pass_windows.TheConstants.{NO_NUMBER};
     ghost use Rattle.pg_driver.specs.Inside.counting.Counting.{HasRoom};

@@ -37,7 +37,7 @@ impl PackedEngine {
     ghost use Rattle.std.specs.Prelude.{◌≡◌, ◌≤◌, IfOk};
     ghost use Rattle.pg_types.specs.declared.limits.TheConstants.{SIGNS_MAX};
     ghost use Rattle.pg_patterns.specs.Inside.PatternMaps.{SignsUpTo};
-    ghost use Rattle.pg_select.specs.Inside.Meanings.{new_engine};
+    ghost use Rattle.pg_select.specs.Inside.engine.Meanings.{new_engine};
     ghost use Rattle.pg_packed.specs.Inside.Engines.{meaning_of};
     ghost use Rattle.pg_packed.specs.Inside.Starts.{pattern_families};
 

@@ -6,9 +6,9 @@ use Rattle.std.proofs.lemmas.Option.{slice_get-get_or}
 use Rattle.std.specs.Prelude.{slice_get}
 use Rattle.std.specs.FinMap.Entries.{find, put, is_sorted, length-put}
 use Rattle.std.specs.Cmp.Lexicographic.{nat_list_cmp_total}
-use Rattle.pg_types.specs.Inside.Counts.{counted_sums, with_weight, with_count, is_counted}
-use Rattle.pg_types.specs.Inside.NumberedWindows.{Windows, AreNumbered, AreInOrder, HasNumber, with_counted}
-use Rattle.pg_types.specs.Inside.NumberedStrings.{Numbers, AreNumbers, by_number}
+use Rattle.pg_types.specs.Inside.counting.Counts.{counted_sums, with_weight, with_count, is_counted}
+use Rattle.pg_types.specs.Inside.counting.NumberedWindows.{Windows, AreNumbered, AreInOrder, HasNumber, with_counted}
+use Rattle.pg_types.specs.Inside.counting.NumberedStrings.{Numbers, AreNumbers, by_number}
 use Rattle.pg_types.proofs.Numbering.{number_of, numbered_found, numbers_none, numbers_put, by_number_none, by_number_put, length_by_number, in_order}
 use Rattle.pg_types.proofs.StringEntries.{order, mapped, found_mapped, none_mapped, sorted_mapped, sorted_put, find_put_same, find_put_other, put_from}
 use Rattle.pg_plain.specs.Inside.PlainCounts.{AreCounted, counted_of, tally_at}

@@ -5,8 +5,8 @@ ghost use Rattle.std.specs.Prelude.{◌≡◌, ℕ, Bool, ◌≤◌, ◌<◌, �
 ghost use Rattle.std.specs.Cmp.Lexicographic.{slice_cmp};
 ghost use Rattle.std.specs.FinMap.Entries.{put, is_sorted};
 ghost use Rattle.std.specs.Ordering.{nat_cmp};
-ghost use Rattle.pg_types.specs.Inside.Counts.{AreSmall, IsNextAbove, counted_sums, sums_of, with_weight, is_counted};
-ghost use Rattle.pg_types.specs.Inside.NumberedWindows.{AreInOrder, AreNumbered, HasNumber, no_counts, with_counted};
+ghost use Rattle.pg_types.specs.Inside.counting.Counts.{AreSmall, IsNextAbove, counted_sums, sums_of, with_weight, is_counted};
+ghost use Rattle.pg_types.specs.Inside.counting.NumberedWindows.{AreInOrder, AreNumbered, HasNumber, no_counts, with_counted};
 ghost use Rattle.pg_types.specs.Inside.Signs.{is_sign};
 ghost use Rattle.pg_types.specs.declared.limits.TheConstants.{LENGTH_MAX, NUMBERS_END};
 ghost use Rattle.pg_plain.specs.Inside.PlainCounts.{tally_at};
@@ -28,7 +28,7 @@ pub struct CountedWindows {
 }
 
 impl Model for CountedWindows {
-    ghost use Rattle.pg_types.specs.Inside.NumberedWindows.{WindowCounts};
+    ghost use Rattle.pg_types.specs.Inside.counting.NumberedWindows.{WindowCounts};
 
     ghost Value = { WindowCounts };
 

@@ -13,7 +13,7 @@ use Rattle.pg_types.specs.declared.refusals.Kind.TheVariants.{TranslateTooLong, 
 use Rattle.pg_types.specs.Lines.{lines, pieces_at, is_line_feed, without_cr}
 use Rattle.pg_types.specs.Parameters.{parameters, parameters_of, items, demands, refusal_from}
 use Rattle.pg_types.specs.Reading.{unless, refusal_at as refused_in}
-use Rattle.pg_types.specs.Inside.Answers.{Fails, Gives}
+use Rattle.pg_types.specs.Inside.reading.Answers.{Fails, Gives}
 use Rattle.pg_outside.specs.Content.{FileMap, FilesShown, file_at}
 use Rattle.pg_outside.specs.FilesCalls.{Reads}
 use Rattle.pg_outside.specs.Inside.ToldFiles.{IsCut}

@@ -2,8 +2,8 @@
 ghost use Rattle.std.specs.Prelude.{◌≡◌, ◌==◌, position, IfOk, ℕ, ◌+◌, ◌-◌, ◌*◌, ◌<◌, ◌≤◌, ◌++◌, ◌∷◌, [], List, length, map, MatchOption, IfSome, OnOk, Ok, Err};
 ghost use Rattle.std.specs.List.{list_any};
 ghost use Rattle.pg_types.specs.Lines.{lines};
-ghost use Rattle.pg_types.specs.Inside.Parts.{first_refusal};
-ghost use Rattle.pg_types.specs.Inside.Answers.{Gives};
+ghost use Rattle.pg_types.specs.Inside.reading.Parts.{first_refusal};
+ghost use Rattle.pg_types.specs.Inside.reading.Answers.{Gives};
 ghost use Rattle.pg_translate.specs.Inside.spellings.FirstSpellings.{letters_in};
 ghost use Rattle.pg_translate.specs.Inside.spellings.Fronts.{pairs, IsIndex};
 ghost use Rattle.pg_translate.specs.Spellings as spelling;

@@ -43,7 +43,7 @@ impl Table {
     ghost use Rattle.pg_translate.specs.Alphabets.{letters_of, spelling_of};
     ghost use Rattle.pg_translate.specs.Inside.items.MarkBytes.{mark_byte_of};
     ghost use Rattle.pg_translate.specs.Inside.tables.Rules.{KeepsRules};
-    ghost use Rattle.pg_types.specs.Inside.Answers.{Gives};
+    ghost use Rattle.pg_types.specs.Inside.reading.Answers.{Gives};
     ghost use Rattle.pg_translate.specs.Tables.{default_alphabet, table};
     ghost use Rattle.pg_translate.specs.Tokens.{letter_at, mark_at, is_ended};
     ghost use Rattle.pg_translate.specs.Tokens as token;

@@ -11,7 +11,7 @@ use Rattle.pg_types.specs.declared.refusals.Kind.TheVariants.{ParametersTooLong}
 use Rattle.pg_types.specs.Reading.{refusal_at, unless}
 use Rattle.pg_types.specs.declared.parameters.LevelParams.{LevelParams}
 use Rattle.pg_types.specs.Parameters.{items, level_demands, level_of, level_items, number_at, demands, refusal_from, Parameters, parameters}
-use Rattle.pg_types.specs.Inside.ItemSteps.{Demand, number_between, demands_of_levels, levels_of}
+use Rattle.pg_types.specs.Inside.reading.ItemSteps.{Demand, number_between, demands_of_levels, levels_of}
 
 -- what the level with the number i demands, and what it is
 abbrev pub demands_at : List (List ℕ) → ℕ → List Demand

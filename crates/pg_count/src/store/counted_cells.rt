@@ -13,7 +13,7 @@ ghost use Rattle.pg_cells.specs.Inside.linked.Members.{IsNextSign};
 ghost use Rattle.pg_cells.specs.Inside.families.Root.{root_alone};
 ghost use Rattle.pg_cells.specs.Inside.linked.Walks.{IsAt};
 ghost use Rattle.pg_count.specs.Inside.Counting.{Tally, counts_in, numbers_in};
-ghost use Rattle.pg_count.specs.Inside.Leaves.{Adds, AreShort, PushesDown};
+ghost use Rattle.pg_count.specs.Inside.cells.Leaves.{Adds, AreShort, PushesDown};
 
 use crate::store::tally_list::{
     LATEST_FIRST, NO_TALLY, push_sums, set_sums_at, sums_at, tally_by_number,
@@ -45,7 +45,7 @@ impl Model for CountedCells {
     ghost use Rattle.std.specs.Prelude.{ℕ, Option};
     ghost use Rattle.std.specs.Coded.{coded_option, coded×, coded_ℕ};
     ghost use Rattle.pg_cells.specs.Inside.linked.ValuedFamilies.{ValuedFamilies, valued_families_code};
-    ghost use Rattle.pg_count.specs.Inside.CellNumbers.{tallied_families, AreCellNumbers};
+    ghost use Rattle.pg_count.specs.Inside.cells.CellNumbers.{tallied_families, AreCellNumbers};
     ghost use Rattle.pg_count.specs.Inside.Counting.{Tally};
 
     ghost Value = { ValuedFamilies (Option Tally) };

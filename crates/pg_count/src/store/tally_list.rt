@@ -1,7 +1,7 @@
 //! The sums of good and bad weights of a string, as one tally of a list.
 ghost use Rattle.std.specs.Prelude.{◌≡◌, ◌+◌, ◌<◌, ◌≤◌, ◌++◌, [], ◌∷◌, length, set, slice_get, Some, IfOk, OnOk, OnErr};
 ghost use Rattle.pg_types.specs.declared.limits.TheConstants.{NUMBERS_END};
-ghost use Rattle.pg_count.specs.Inside.CellNumbers.{tally_by_number};
+ghost use Rattle.pg_count.specs.Inside.cells.CellNumbers.{tally_by_number};
 
 use pg_types::NUMBERS_END;
 use std::alloc::AllocError;

@@ -4,8 +4,8 @@ ghost use Rattle.std.specs.FinMap.{put};
 ghost use Rattle.std.specs.Cmp.Lexicographic.{slice_cmp};
 ghost use Rattle.std.specs.Ordering.{nat_cmp};
 ghost use Rattle.pg_types.specs.declared.limits.TheConstants.{LENGTH_MAX, SIGNS_MAX, NUMBERS_END};
-ghost use Rattle.pg_types.specs.Inside.Counts.{SignsWithin, counted_sums};
-ghost use Rattle.pg_types.specs.Inside.NumberedWindows.{HasNumber, no_counts};
+ghost use Rattle.pg_types.specs.Inside.counting.Counts.{SignsWithin, counted_sums};
+ghost use Rattle.pg_types.specs.Inside.counting.NumberedWindows.{HasNumber, no_counts};
 ghost use Rattle.pg_count.specs.declared.table.short.TheConstants.{ENTRIES_MAX};
 
 use crate::store::tally_list::{LATEST_FIRST, push_sums, set_sums_at, sums_at, tally_by_number};

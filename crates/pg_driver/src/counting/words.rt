@@ -1,13 +1,13 @@
 //! The walk over the words in a pass that hyphenates each of them.
 ghost use Rattle.std.specs.Prelude.{◌≡◌, ◌≤◌, ◌<◌, ◌+◌, ◌++◌, ◌&&◌, [], not, false, if◌then◌else◌, None, length, slice_index_or, IfOk, OnOk};
-ghost use Rattle.pg_types.specs.Inside.Counts.{SignsWithin};
+ghost use Rattle.pg_types.specs.Inside.counting.Counts.{SignsWithin};
 ghost use Rattle.pg_types.specs.declared.limits.TheConstants.{WORD_LETTERS_MAX};
 ghost use Rattle.pg_translate.specs.Reach.{positions as positions_of};
 ghost use Rattle.pg_dict.specs.Inside.SoundWords.{IsWord, letter_count};
 ghost use Rattle.pg_dict.specs.Inside.Lent.{lent_word};
 ghost use Rattle.pg_select.specs.CountedPositions.{counted_at, counted_positions_at, counted_positions, counts_as as counts_as_of, minima_of};
-ghost use Rattle.pg_select.specs.Inside.WordCounts.{counted_positions_in};
-ghost use Rattle.pg_select.specs.Inside.LawsAbove.{counts_above};
+ghost use Rattle.pg_select.specs.Inside.words.WordCounts.{counted_positions_in};
+ghost use Rattle.pg_select.specs.Inside.laws.Above.{counts_above};
 ghost use Rattle.pg_select.specs.Statuses.{status_at, position_weight};
 ghost use Rattle.pg_select.specs.Sums.{marks_in, totals as totals_of_words};
 ghost use Rattle.pg_select.specs.Inside.SumSteps.{with_mark, with_marks, HasRoomFor, TookRoomFor};

@@ -4,8 +4,8 @@ use Rattle.std.specs.Prelude.{◌≡◌, ℕ, ◌≤◌, T, List, map, length, s
 use Rattle.std.specs.Ordering.{nat_cmp}
 use Rattle.std.specs.Cmp.Lexicographic.{slice_cmp}
 use Rattle.std.specs.FinMap.Entries.{is_sorted}
-use Rattle.pg_types.specs.Inside.NumberedWindows.{Windows, WindowCounts}
-use Rattle.pg_types.specs.Inside.NumberedStrings.{Numbers, AreNumbers, by_number}
+use Rattle.pg_types.specs.Inside.counting.NumberedWindows.{Windows, WindowCounts}
+use Rattle.pg_types.specs.Inside.counting.NumberedStrings.{Numbers, AreNumbers, by_number}
 use Rattle.pg_types.specs.declared.limits.TheConstants.{NUMBERS_END}
 
 -- the sums by a number

@@ -1,6 +1,6 @@
 use Rattle.std.proofs.Common.{◌≡◌, ℕ, List, [], ◌∷◌, map, Some, refl, ap, sym, ◌∙◌, arith}
 use Rattle.std.proofs.lemmas.Option.{slice_get_within}
-use Rattle.pg_types.specs.Inside.Counts.{windows_above}
+use Rattle.pg_types.specs.Inside.counting.Counts.{windows_above}
 use Rattle.pg_types.proofs.StringEntries.{order}
 use Rattle.pg_cells.proofs.LinkLaws.{root_first}
 use Rattle.pg_count.specs.Inside.Counting.{Counting, Tally, sums_of_tally, window_at}

@@ -1,5 +1,5 @@
 use Rattle.std.proofs.Common.{take, refl, ap, sym, ◌∙◌}
-use Rattle.pg_types.specs.Inside.Counts.{counted_sums}
+use Rattle.pg_types.specs.Inside.counting.Counts.{counted_sums}
 use Rattle.pg_count.specs.Inside.Counting.{Counting}
 use Rattle.pg_count.proofs.LeafLaws.Wholes.{counts_there, none_counted}
 use Rattle.pg_count.proofs.cell_counts.CellCountsWindowCounter.sums.Goals as goal

@@ -1,7 +1,7 @@
 use Rattle.std.proofs.Common.{◌<◌, [], length, get_or, arith, ap, sym, subst, ◌∙◌, Some}
 use Rattle.std.proofs.lemmas.Option.{slice_get-get_or}
-use Rattle.pg_types.specs.Inside.Counts.{counted_sums}
-use Rattle.pg_types.specs.Inside.NumberedWindows.{HasNumber}
+use Rattle.pg_types.specs.Inside.counting.Counts.{counted_sums}
+use Rattle.pg_types.specs.Inside.counting.NumberedWindows.{HasNumber}
 use Rattle.pg_count.specs.Inside.Counting.{Counting}
 use Rattle.pg_count.proofs.LeafLaws.Wholes.{counts_there}
 use Rattle.pg_count.proofs.cell_counts.CellCountsWindowCounter.sums_of.Goals as goal

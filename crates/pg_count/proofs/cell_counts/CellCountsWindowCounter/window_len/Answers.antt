@@ -1,5 +1,5 @@
 use Rattle.std.proofs.Common.{subst}
-use Rattle.pg_types.specs.Inside.NumberedWindows.{AreNumbered}
+use Rattle.pg_types.specs.Inside.counting.NumberedWindows.{AreNumbered}
 use Rattle.pg_count.specs.Inside.Counting.{Counting, IsCounting}
 use Rattle.pg_count.proofs.LeafLaws.Wholes.{are_numbered, is_counting}
 use Rattle.pg_count.proofs.cell_counts.CellCountsWindowCounter.window_len.Goals as goal

@@ -1,8 +1,8 @@
 use Rattle.std.proofs.Common.{ap, sym, subst, ◌∙◌}
 use Rattle.std.specs.List.{slice_get}
 use Rattle.pg_types.proofs.Numbering.{get_seam}
-use Rattle.pg_types.specs.Inside.Counts.{counted_sums, with_weight}
-use Rattle.pg_types.specs.Inside.NumberedWindows.{HasNumber}
+use Rattle.pg_types.specs.Inside.counting.Counts.{counted_sums, with_weight}
+use Rattle.pg_types.specs.Inside.counting.NumberedWindows.{HasNumber}
 use Rattle.pg_count.specs.Inside.Counting.{Counting}
 use Rattle.pg_count.specs.Inside.Tables.{IsTable, table_counting}
 use Rattle.pg_count.proofs.LeafLaws.Adding.{counting_with}

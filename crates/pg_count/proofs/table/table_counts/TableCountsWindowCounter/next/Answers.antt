@@ -1,6 +1,6 @@
 use Rattle.std.proofs.Common.{◌≡◌, ◌∷◌, length, Some, get_or, refl, ap, sym, subst, ◌∙◌, arith}
 use Rattle.std.proofs.lemmas.Option.{get_or_from_slice_get, slice_get_within}
-use Rattle.pg_types.specs.Inside.Counts.{windows_above}
+use Rattle.pg_types.specs.Inside.counting.Counts.{windows_above}
 use Rattle.pg_count.specs.Inside.Counting.{Counting}
 use Rattle.pg_count.specs.Inside.Tables.{AreTabled}
 use Rattle.pg_count.proofs.LeafLaws.Parting.{signs_told}

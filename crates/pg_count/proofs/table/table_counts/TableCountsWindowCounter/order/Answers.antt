@@ -1,5 +1,5 @@
 use Rattle.std.proofs.Common.{◌≡◌, ◌++◌, List, ℕ, Ok, Err, OnOk, ap, subst, ◌∙◌}
-use Rattle.pg_types.specs.Inside.NumberedWindows.{AreInOrder}
+use Rattle.pg_types.specs.Inside.counting.NumberedWindows.{AreInOrder}
 use Rattle.pg_count.specs.Inside.Counting.{Counting}
 use Rattle.pg_count.specs.Inside.Tables.{numbers_in_row}
 use Rattle.pg_count.proofs.TableLaws.Listing.{told_in_order}

@@ -1,7 +1,7 @@
 use Rattle.std.proofs.Common.{Some, get_or, sym, subst, ap, ◌∙◌}
 use Rattle.std.proofs.lemmas.Option.{get_or_from_slice_get}
-use Rattle.pg_types.specs.Inside.Counts.{counted_sums}
-use Rattle.pg_types.specs.Inside.NumberedWindows.{HasNumber}
+use Rattle.pg_types.specs.Inside.counting.Counts.{counted_sums}
+use Rattle.pg_types.specs.Inside.counting.NumberedWindows.{HasNumber}
 use Rattle.pg_count.specs.Inside.Counting.{Counting}
 use Rattle.pg_count.proofs.TableLaws.Stood.{counts_there}
 use Rattle.pg_count.proofs.table.table_counts.TableCountsWindowCounter.sums_of.Goals as goal

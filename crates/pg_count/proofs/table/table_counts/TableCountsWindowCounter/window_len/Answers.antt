@@ -1,5 +1,5 @@
 use Rattle.std.proofs.Common.{subst}
-use Rattle.pg_types.specs.Inside.NumberedWindows.{AreNumbered}
+use Rattle.pg_types.specs.Inside.counting.NumberedWindows.{AreNumbered}
 use Rattle.pg_count.specs.Inside.Counting.{Counting, IsCounting}
 use Rattle.pg_count.proofs.TableLaws.Stood.{are_numbered, is_counting}
 use Rattle.pg_count.proofs.table.table_counts.TableCountsWindowCounter.window_len.Goals as goal

@@ -3,7 +3,7 @@ use Rattle.std.specs.Prelude.{ℕ, Bool, true, false, nat_eq, nat_lt, ◌&&◌, 
 use Rattle.std.specs.Ordering.{nat_cmp}
 use Rattle.std.specs.Cmp.Lexicographic.{slice_cmp}
 use Rattle.std.specs.FinMap.Entries.{where_key}
-use Rattle.pg_types.specs.Inside.NumberedStrings.{Numbers}
+use Rattle.pg_types.specs.Inside.counting.NumberedStrings.{Numbers}
 use Rattle.pg_count.specs.Inside.Counting.{Tallies, numbers_in}
 
 -- the string r begins with p

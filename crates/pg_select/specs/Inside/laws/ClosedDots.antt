@@ -7,7 +7,7 @@ use Rattle.pg_select.specs.declared.pass.Pass.{Pass}
 use Rattle.pg_select.specs.CountedPositions.{Minima, Candidate, counts_as, counted_at, counted_positions}
 use Rattle.pg_select.specs.Statuses.{is_odd, status_at}
 use Rattle.pg_select.specs.Windows.{Hopeless, window, fits, is_covered, Patterns}
-use Rattle.pg_select.specs.Inside.LawsSteps.{CoversUpTo, IsBelow, IsUpTo, is_candidate_at, patterns_after_pass, hopeless_after_pass}
+use Rattle.pg_select.specs.Inside.laws.Steps.{CoversUpTo, IsBelow, IsUpTo, is_candidate_at, patterns_after_pass, hopeless_after_pass}
 
 -- whether a position counts as good: one with a hyphen at a level that finds, without at the others
 abbrev pub is_good : ℕ → Word → ℕ → Bool

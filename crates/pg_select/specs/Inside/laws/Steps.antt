@@ -5,7 +5,7 @@ use Rattle.std.specs.List.{list_all, list_any}
 use Rattle.pg_types.specs.declared.marks.Totals.{Totals}
 use Rattle.pg_dict.specs.Word.{Word}
 use Rattle.pg_patterns.specs.Values.{value_at, largest}
-use Rattle.pg_select.specs.Inside.Laws.{raised_all, hopeless_all}
+use Rattle.pg_select.specs.Inside.laws.Laws.{raised_all, hopeless_all}
 use Rattle.pg_select.specs.declared.pass.Pass.{Pass}
 use Rattle.pg_select.specs.CountedPositions.{Minima, CountedPosition, Candidate, same_signs, good_of, bad_of, counted_positions, tally}
 use Rattle.pg_select.specs.Statuses.{is_odd}

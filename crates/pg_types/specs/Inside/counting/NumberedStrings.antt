@@ -4,7 +4,7 @@ use Rattle.std.specs.Prelude.{◌≡◌, ℕ, ◌<◌, nat_eq, if◌then◌else�
 use Rattle.std.specs.Ordering.{nat_cmp}
 use Rattle.std.specs.Cmp.Lexicographic.{slice_cmp}
 use Rattle.std.specs.FinMap.Entries.{find}
-use Rattle.pg_types.specs.Inside.NumberedWindows.{Windows}
+use Rattle.pg_types.specs.Inside.counting.NumberedWindows.{Windows}
 
 -- strings with their numbers, in the order of the strings
 abbrev pub Numbers : Type 0

@@ -9,7 +9,7 @@ use Rattle.pg_dict.specs.Word.{Word}
 use Rattle.pg_patterns.specs.Values.{value_at}
 use Rattle.pg_select.specs.declared.pass.Pass.{Pass}
 use Rattle.pg_select.specs.CountedPositions.{Minima, CountedPosition, Candidate, counts_as, counted_positions}
-use Rattle.pg_select.specs.Inside.LawsSteps.{is_candidate, patterns_after_pass, good_raised, bad_raised, FindsMore, PreventsMore}
+use Rattle.pg_select.specs.Inside.laws.Steps.{is_candidate, patterns_after_pass, good_raised, bad_raised, FindsMore, PreventsMore}
 use Rattle.pg_select.specs.Statuses.{is_odd, status_at, position_weight}
 use Rattle.pg_select.specs.Sums.{totals}
 use Rattle.pg_select.specs.Windows.{Hopeless, window, fits, Patterns}

@@ -1,7 +1,7 @@
 -- The windows that are counted in a pass, in the order in which they were first counted. A window's
 -- number is its index among them, from 0.
 use Rattle.std.specs.Prelude.{◌≡◌, ℕ, Bool, true, if◌then◌else◌, List, [], ◌∷◌, ◌++◌, length, map, slice_get, Some}
-use Rattle.pg_types.specs.Inside.Counts.{Counts, is_counted, with_count}
+use Rattle.pg_types.specs.Inside.counting.Counts.{Counts, is_counted, with_count}
 
 -- the windows that a pass counts, in the order in which they were first counted
 abbrev pub Windows : Type 0
