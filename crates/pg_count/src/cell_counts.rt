@@ -74,7 +74,7 @@ impl WindowCounter for CellCounts {
     }
 
     #[inline(always)]
-    fn add_numbered(
+    fn add(
         &mut self,
         window: &[Sign],
         good: bool,

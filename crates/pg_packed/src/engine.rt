@@ -86,7 +86,8 @@ impl Engine for PackedEngine {
     }
 
     fn count(&mut self, window: &[Sign], good: bool, weight: Weight) -> Result<(), AllocError> {
-        self.counts.add(window, good, weight)
+        self.counts.add(window, good, weight)?;
+        Ok(())
     }
 
     #[inline(always)]
@@ -96,7 +97,7 @@ impl Engine for PackedEngine {
         good: bool,
         weight: Weight,
     ) -> Result<u32, AllocError> {
-        self.counts.add_numbered(window, good, weight)
+        self.counts.add(window, good, weight)
     }
 
     fn sums(&self, window: &[Sign]) -> Option<(u64, u64)> {

@@ -140,7 +140,7 @@ impl WindowCounter for TableCounts {
     }
 
     #[inline(always)]
-    fn add_numbered(
+    fn add(
         &mut self,
         window: &[Sign],
         good: bool,
