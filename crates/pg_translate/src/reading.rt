@@ -2,6 +2,7 @@
 ghost use Rattle.std.specs.Prelude.{◌≡◌, ◌==◌, position, IfOk, ℕ, ◌+◌, ◌-◌, ◌*◌, ◌<◌, ◌≤◌, ◌++◌, ◌∷◌, [], List, length, map, MatchOption, IfSome, OnOk, Ok, Err};
 ghost use Rattle.std.specs.List.{list_any};
 ghost use Rattle.pg_types.specs.Lines.{lines};
+ghost use Rattle.pg_types.specs.Reading.{refusal_at};
 ghost use Rattle.pg_types.specs.Inside.reading.Parts.{first_refusal};
 ghost use Rattle.pg_types.specs.Inside.reading.Answers.{Gives};
 ghost use Rattle.pg_translate.specs.Inside.spellings.FirstSpellings.{letters_in};
@@ -19,7 +20,7 @@ use std::alloc::Global;
 
 /// A refusal with its place.
 pub(crate) fn refusal(kind: Kind, line: u32, column: u32) -> ReadingError
-    ensures { result ≡ Refused (record { kind = kind; line = line; column = column }) }
+    ensures { result ≡ Refused (refusal_at line kind column) }
 {
     ReadingError::Refused(Refusal { kind, line, column })
 }
