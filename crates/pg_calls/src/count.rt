@@ -1,8 +1,8 @@
 //! Counts of windows, short and long, of the edge 1, a 2, b 3 and c 4, and of 2,000 letters.
 ghost use Rattle.std.specs.Prelude.{◌≡◌, ℕ, ◌+◌, ◌<◌, ◌≤◌, true, List, length};
-ghost use Rattle.pg_types.specs.Inside.Counts.{SignsWithin, sums_of};
+ghost use Rattle.pg_types.specs.Inside.counting.Counts.{SignsWithin, sums_of};
 
-use pg_count::CountTrie;
+use pg_count::{CountTrie, WindowCounter};
 use pg_types::{Cursor, Sign, Weight};
 use std::process::Abort;
 use std::test::Fail;

@@ -1,9 +1,6 @@
 -- What only contracts between layers and proofs need.
-pub mod Bounds
+pub mod walks
+pub mod cells
 pub mod Counting
-pub mod Least
-pub mod Leaves
 pub mod WindowRow
 pub mod Tables
-pub mod CellNumbers
-pub mod Under

@@ -1,9 +1,7 @@
 //! The windows that are counted in a pass, in packed cells.
-ghost use Rattle.std.specs.Prelude.{◌≡◌, ℕ, ◌≤◌, ◌<◌, true, List, [], ◌∷◌, ◌++◌, length, Some, IfOk, OnOk, OnErr, IsOk, MatchOption};
-ghost use Rattle.pg_types.specs.declared.limits.TheConstants.{LENGTH_MAX, SIGNS_MAX, WEIGHT_MAX};
-ghost use Rattle.pg_types.specs.Inside.Counts.{AreSmall, SignsWithin, counted_sums, sums_of, with_weight, is_counted, windows_above};
-ghost use Rattle.pg_types.specs.Inside.NumberedWindows.{AreInOrder, AreNumbered, HasNumber, no_counts, with_counted};
-ghost use Rattle.pg_count.specs.Inside.Counting.{IsCounting};
+ghost use Rattle.std.specs.Prelude.{◌≡◌, ◌≤◌, IfOk};
+ghost use Rattle.pg_types.specs.declared.limits.TheConstants.{LENGTH_MAX, SIGNS_MAX};
+ghost use Rattle.pg_types.specs.Inside.counting.NumberedWindows.{no_counts};
 
 use crate::leaf::count_new;
 use crate::store::counted_cells::CountedCells;
@@ -11,6 +9,7 @@ use crate::store::window_list::WindowList;
 use crate::walks::least::least;
 use crate::walks::walk::walk;
 use crate::walks::way::{find_counted, way_of};
+use crate::window_counter::WindowCounter;
 use pg_types::{Cursor, EDGE, Sign, Weight, add_weight};
 use std::alloc::{AllocError, Global};
 use std::marker::Model;
@@ -33,7 +32,7 @@ impl Model for CellCounts {
     ghost Value = { Counting };
 
     ghost use Rattle.pg_count.specs.Inside.Counting.{counting_of};
-    ghost use Rattle.pg_count.specs.Inside.Leaves.{AreCounting};
+    ghost use Rattle.pg_count.specs.Inside.cells.Leaves.{AreCounting};
 
     ghost view = { λ t. counting_of t.cells t.windows.items t.windows.len };
 
@@ -65,38 +64,22 @@ impl CellCounts {
         self.cells.clear(len == self.windows.window_len());
         self.windows.begin(len);
     }
+}
 
-    /// How many signs a window has.
-    pub fn window_len(&self) -> u8
-        ensures len { result ≡ self.now.len }
-        ensures kept { IsCounting self.now }
-        ensures numbered { AreNumbered self.now.counted.windows self.now.counted.counts }
-    {
+impl WindowCounter for CellCounts {
+    ghost counting = { λ c. c };
+
+    fn window_len(&self) -> u8 {
         self.windows.window_len()
     }
 
-    /// Adds `weight` to the good or the bad sum of a window, and gives the window's number: its
-    /// index, from 0, among the windows of the pass in the order in which they were first counted.
-    /// A window that is counted already takes no memory.
     #[inline(always)]
-    pub fn add_numbered(
+    fn add(
         &mut self,
         window: &[Sign],
         good: bool,
         weight: Weight,
-    ) -> Result<u32, AllocError>
-        requires len { length window.now ≡ self.old.len }
-        requires signs { SignsWithin self.old.signs window.now }
-        requires weight { weight ≤ WEIGHT_MAX }
-        requires small { AreSmall
-            (with_weight (sums_of self.old.counted.counts window.now) good weight) }
-        ensures ok { OnOk result (self.new
-            ≡ record self.old { counted = with_counted self.old.counted window.now good weight }) }
-        ensures number { IfOk result
-            (λ number. HasNumber self.new.counted.windows window.now number) }
-        ensures there { is_counted self.old.counted.counts window.now ≡ true → IsOk result }
-        ensures err { OnErr result (self.new ≡ self.old) }
-    {
+    ) -> Result<u32, AllocError> {
         let way = way_of(&self.cells, window);
         match find_counted(&self.cells, &self.windows, way, window) {
             Some((number, sums)) => {
@@ -112,46 +95,24 @@ impl CellCounts {
         }
     }
 
-    /// The good and the bad sum of a window; none exactly where it is not counted. It takes no
-    /// memory.
-    pub fn sums(&self, window: &[Sign]) -> Option<(u64, u64)>
-        requires len { length window.now ≡ self.now.len }
-        requires signs { SignsWithin self.now.signs window.now }
-        ensures { result ≡ counted_sums self.now.counted.counts window.now }
-    {
+    fn sums(&self, window: &[Sign]) -> Option<(u64, u64)> {
         let way = way_of(&self.cells, window);
         let (_, sums) = find_counted(&self.cells, &self.windows, way, window)?;
         Some(sums)
     }
 
-    /// The good and the bad sum of the window with the number. It takes no memory.
-    pub fn sums_of(&self, number: u32) -> (u64, u64)
-        requires { number < length self.now.counted.windows }
-        ensures { (u : List ℕ) → HasNumber self.now.counted.windows u number
-            → counted_sums self.now.counted.counts u ≡ Some result }
-    {
+    fn sums_of(&self, number: u32) -> (u64, u64) {
         self.cells.sums(number)
     }
 
-    /// Appends the numbers of the counted windows in the order of signs, by one walk along the
-    /// signs of the families. Refused: some of them may have been appended.
-    pub fn order(&self, out: &mut Vec<u32>) -> Result<(), AllocError>
-        ensures { OnOk result ((ns : List ℕ) × (out.new.items ≡ out.old.items ++ ns)
-            × AreInOrder self.now.counted.windows self.now.counted.counts ns) }
-    {
+    fn order(&self, out: &mut Vec<u32>) -> Result<(), AllocError> {
         if !self.cells.has_none() {
             walk(&self.cells, 0, EDGE, self.windows.window_len(), out)?;
         }
         Ok(())
     }
 
-    /// Moves the cursor to the least counted window that is greater, and gives its good and bad
-    /// sums; none exactly where there is no such window, and the cursor stays. It takes no memory.
-    pub fn next(&self, at: &mut Cursor) -> Option<(u64, u64)>
-        ensures { MatchOption result ((windows_above at.old self.now.counted.counts ≡ [])
-            × (at.new ≡ at.old)) (λ sums. windows_above at.old self.now.counted.counts
-            ≡ (at.new, sums) ∷ windows_above at.new self.now.counted.counts) }
-    {
+    fn next(&self, at: &mut Cursor) -> Option<(u64, u64)> {
         if self.cells.has_none() {
             return None;
         }
@@ -161,11 +122,7 @@ impl CellCounts {
         Some(self.cells.sums(number))
     }
 
-    /// The signs of the window with the number, lent from the list of windows.
-    pub fn window(&self, number: u32) -> &[Sign]
-        requires { number < length self.now.counted.windows }
-        ensures { HasNumber self.now.counted.windows result.now number }
-    {
+    fn window(&self, number: u32) -> &[Sign] {
         self.windows.get(number)
     }
 }

@@ -1,18 +1,15 @@
 //! The windows that are counted in a pass.
-ghost use Rattle.std.specs.Prelude.{◌≡◌, ℕ, ◌≤◌, ◌<◌, true, List, [], ◌∷◌, ◌++◌, length, Some, IfOk, OnOk, OnErr, IsOk, MatchOption};
-ghost use Rattle.pg_types.specs.declared.limits.TheConstants.{LENGTH_MAX, SIGNS_MAX, WEIGHT_MAX};
-ghost use Rattle.pg_types.specs.Inside.Counts.{AreSmall, SignsWithin, counted_sums, sums_of, with_weight, is_counted, windows_above};
-ghost use Rattle.pg_types.specs.Inside.NumberedWindows.{AreInOrder, AreNumbered, HasNumber, no_counts, with_counted};
-ghost use Rattle.pg_count.specs.Inside.Counting.{IsCounting};
+ghost use Rattle.std.specs.Prelude.{◌≡◌, ◌≤◌, IfOk};
+ghost use Rattle.pg_types.specs.declared.limits.TheConstants.{LENGTH_MAX, SIGNS_MAX};
+ghost use Rattle.pg_types.specs.Inside.counting.NumberedWindows.{no_counts};
 
 use crate::cell_counts::CellCounts;
 use crate::table::short::is_short;
 use crate::table::table_counts::TableCounts;
+use crate::window_counter::WindowCounter;
 use pg_types::{Cursor, Sign, Weight};
 use std::alloc::{AllocError, Global};
 use std::marker::Model;
-
-mod by_number;
 
 /// The windows that are counted in a pass, each with its sums of good and bad weights.
 ///
@@ -63,13 +60,12 @@ impl CountTrie {
             self.cells.begin(len);
         }
     }
+}
 
-    /// How many signs a window has.
-    pub fn window_len(&self) -> u8
-        ensures len { result ≡ self.now.len }
-        ensures kept { IsCounting self.now }
-        ensures numbered { AreNumbered self.now.counted.windows self.now.counted.counts }
-    {
+impl WindowCounter for CountTrie {
+    ghost counting = { λ c. c };
+
+    fn window_len(&self) -> u8 {
         if self.is_tabled {
             self.table.window_len()
         } else {
@@ -77,58 +73,21 @@ impl CountTrie {
         }
     }
 
-    /// Adds `weight` to the good or the bad sum of a window. A window that is counted already takes
-    /// no memory.
-    pub fn add(&mut self, window: &[Sign], good: bool, weight: Weight) -> Result<(), AllocError>
-        requires len { length window.now ≡ self.old.len }
-        requires signs { SignsWithin self.old.signs window.now }
-        requires weight { weight ≤ WEIGHT_MAX }
-        requires small { AreSmall
-            (with_weight (sums_of self.old.counted.counts window.now) good weight) }
-        ensures ok { OnOk result (self.new
-            ≡ record self.old { counted = with_counted self.old.counted window.now good weight }) }
-        ensures there { is_counted self.old.counted.counts window.now ≡ true → IsOk result }
-        ensures err { OnErr result (self.new ≡ self.old) }
-    {
-        self.add_numbered(window, good, weight)?;
-        Ok(())
-    }
-
-    /// Adds as `add` does, and gives the window's number: its index, from 0, among the windows of
-    /// the pass in the order in which they were first counted.
     #[inline(always)]
-    pub fn add_numbered(
+    fn add(
         &mut self,
         window: &[Sign],
         good: bool,
         weight: Weight,
-    ) -> Result<u32, AllocError>
-        requires len { length window.now ≡ self.old.len }
-        requires signs { SignsWithin self.old.signs window.now }
-        requires weight { weight ≤ WEIGHT_MAX }
-        requires small { AreSmall
-            (with_weight (sums_of self.old.counted.counts window.now) good weight) }
-        ensures ok { OnOk result (self.new
-            ≡ record self.old { counted = with_counted self.old.counted window.now good weight }) }
-        ensures number { IfOk result
-            (λ number. HasNumber self.new.counted.windows window.now number) }
-        ensures there { is_counted self.old.counted.counts window.now ≡ true → IsOk result }
-        ensures err { OnErr result (self.new ≡ self.old) }
-    {
+    ) -> Result<u32, AllocError> {
         if self.is_tabled {
-            self.table.add_numbered(window, good, weight)
+            self.table.add(window, good, weight)
         } else {
-            self.cells.add_numbered(window, good, weight)
+            self.cells.add(window, good, weight)
         }
     }
 
-    /// The good and the bad sum of a window; none exactly where it is not counted. It takes no
-    /// memory.
-    pub fn sums(&self, window: &[Sign]) -> Option<(u64, u64)>
-        requires len { length window.now ≡ self.now.len }
-        requires signs { SignsWithin self.now.signs window.now }
-        ensures { result ≡ counted_sums self.now.counted.counts window.now }
-    {
+    fn sums(&self, window: &[Sign]) -> Option<(u64, u64)> {
         if self.is_tabled {
             self.table.sums(window)
         } else {
@@ -136,12 +95,7 @@ impl CountTrie {
         }
     }
 
-    /// The good and the bad sum of the window with the number. It takes no memory.
-    pub fn sums_of(&self, number: u32) -> (u64, u64)
-        requires { number < length self.now.counted.windows }
-        ensures { (u : List ℕ) → HasNumber self.now.counted.windows u number
-            → counted_sums self.now.counted.counts u ≡ Some result }
-    {
+    fn sums_of(&self, number: u32) -> (u64, u64) {
         if self.is_tabled {
             self.table.sums_of(number)
         } else {
@@ -149,12 +103,7 @@ impl CountTrie {
         }
     }
 
-    /// Appends the numbers of the counted windows in the order of signs, by one walk. Refused: some
-    /// of them may have been appended.
-    pub fn order(&self, out: &mut Vec<u32>) -> Result<(), AllocError>
-        ensures { OnOk result ((ns : List ℕ) × (out.new.items ≡ out.old.items ++ ns)
-            × AreInOrder self.now.counted.windows self.now.counted.counts ns) }
-    {
+    fn order(&self, out: &mut Vec<u32>) -> Result<(), AllocError> {
         if self.is_tabled {
             self.table.order(out)
         } else {
@@ -162,17 +111,19 @@ impl CountTrie {
         }
     }
 
-    /// Moves the cursor to the least counted window that is greater, and gives its good and bad
-    /// sums; none exactly where there is no such window, and the cursor stays. It takes no memory.
-    pub fn next(&self, at: &mut Cursor) -> Option<(u64, u64)>
-        ensures { MatchOption result ((windows_above at.old self.now.counted.counts ≡ [])
-            × (at.new ≡ at.old)) (λ sums. windows_above at.old self.now.counted.counts
-            ≡ (at.new, sums) ∷ windows_above at.new self.now.counted.counts) }
-    {
+    fn next(&self, at: &mut Cursor) -> Option<(u64, u64)> {
         if self.is_tabled {
             self.table.next(at)
         } else {
             self.cells.next(at)
+        }
+    }
+
+    fn window(&self, number: u32) -> &[Sign] {
+        if self.is_tabled {
+            self.table.window(number)
+        } else {
+            self.cells.window(number)
         }
     }
 }

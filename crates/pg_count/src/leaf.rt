@@ -3,9 +3,9 @@ ghost use Rattle.std.specs.Prelude.{◌≡◌, ℕ, ◌+◌, ◌<◌, ◌≤◌,
 ghost use Rattle.std.specs.FinMap.{find};
 ghost use Rattle.std.specs.Cmp.Lexicographic.{slice_cmp};
 ghost use Rattle.std.specs.Ordering.{nat_cmp};
-ghost use Rattle.pg_types.specs.Inside.Counts.{SignsWithin};
-ghost use Rattle.pg_types.specs.Inside.NumberedWindows.{HasNumber, Windows};
-ghost use Rattle.pg_count.specs.Inside.Leaves.{AreLeaves, IsFree, IsWay, Keeps, Sets};
+ghost use Rattle.pg_types.specs.Inside.counting.Counts.{SignsWithin};
+ghost use Rattle.pg_types.specs.Inside.counting.NumberedWindows.{HasNumber, Windows};
+ghost use Rattle.pg_count.specs.Inside.cells.Leaves.{AreLeaves, IsFree, IsWay, Keeps, Sets};
 
 use crate::store::counted_cells::CountedCells;
 use crate::store::window_list::WindowList;

@@ -8,5 +8,7 @@ mod leaf;
 mod store;
 mod table;
 mod walks;
+mod window_counter;
 
 pub use counts::CountTrie;
+pub use window_counter::WindowCounter;

@@ -1,6 +1,6 @@
 //! The dictionary.
 ghost use Rattle.std.specs.Prelude.{◌≡◌, ℕ, ◌<◌, ◌≤◌, ◌+◌, ◌-◌, ◌*◌, ◌&&◌, nat_le, length, take, Some, slice_get, IfOk, sum_by, All};
-ghost use Rattle.pg_types.specs.Inside.Answers.{Gives};
+ghost use Rattle.pg_types.specs.Inside.reading.Answers.{Gives};
 ghost use Rattle.pg_translate.specs.Alphabets as alphabet;
 ghost use Rattle.pg_dict.specs.Inside.SoundWords.{letter_count, IsWord, SignsAtMost};
 ghost use Rattle.pg_dict.specs.Word.{Word};

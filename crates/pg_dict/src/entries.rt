@@ -1,6 +1,6 @@
 //! The reading of a whole line into the store.
 ghost use Rattle.std.specs.Prelude.{◌<◌, ◌≤◌, ◌+◌, ◌*◌, length, IfOk, OnOk};
-ghost use Rattle.pg_types.specs.Inside.Answers.{Gives};
+ghost use Rattle.pg_types.specs.Inside.reading.Answers.{Gives};
 ghost use Rattle.pg_translate.specs.Alphabets.{letters_of};
 ghost use Rattle.pg_translate.specs.Inside.tables.Rules.{KeepsRules};
 ghost use Rattle.pg_dict.specs.Inside.LineWords.{line_reading};

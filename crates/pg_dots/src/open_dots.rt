@@ -2,6 +2,7 @@
 ghost use Rattle.std.specs.Prelude.{◌≡◌, ◌≤◌, ◌<◌, ◌*◌, ◌+◌, ◌-◌, ◌^◌, ◌||◌, ◌&&◌, ◌==◌, ℕ, not, nat_le, length, false, true, take, ◌++◌, IfOk, OnOk, OnErr};
 ghost use Rattle.pg_dots.specs.Inside.Bits.{has_bit};
 ghost use Rattle.pg_types.specs.declared.limits.TheConstants.{LENGTH_MAX};
+ghost use Rattle.pg_types.specs.Inside.Limits.{positions_limit};
 
 use crate::bits::{NUMBER_BITS, clear, set, take_in_before};
 use crate::walk::Walk;
@@ -31,7 +32,7 @@ pub struct OpenDots {
     /// the dots.
     bits: Vec<u64>,
     ghost some: { 0 < width },
-    ghost narrow: { width ≤ 2 ^ 32 },
+    ghost narrow: { width ≤ positions_limit },
     ghost few: { reached ≤ LENGTH_MAX + 1 },
     ghost rows: { length bits.items ≡ (reached + 1) * width },
 }
@@ -42,8 +43,8 @@ impl OpenDots {
     ghost use Rattle.pg_dots.specs.Inside.Walks.{IsAhead};
 
     /// Each dot is closed at each of `size` positions, and no dot is reached.
-    pub fn closed(alloc: Global, size: usize) -> Result<OpenDots, AllocError>
-        requires { size ≤ 2 ^ 32 }
+    pub fn all_closed(alloc: Global, size: usize) -> Result<OpenDots, AllocError>
+        requires { size ≤ positions_limit }
         ensures size { IfOk result (λ o. size ≤ position_count o) }
         ensures few { IfOk result (λ o. position_count o ≤ size + 64) }
         ensures none { IfOk result (λ o. o.reached ≡ 0) }

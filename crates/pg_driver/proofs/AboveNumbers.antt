@@ -6,17 +6,17 @@ use Rattle.std.specs.Option.{option_map, option_map_or}
 use Rattle.std.proofs.lemmas.Bool.{and_from, and_parts}
 use Rattle.std.proofs.lemmas.Option.{slice_get_past}
 use Rattle.pg_types.specs.declared.parameters.LevelParams.{LevelParams}
-use Rattle.pg_types.specs.Inside.Counts.{Counts, counted_sums, is_counted}
-use Rattle.pg_types.specs.Inside.NumberedWindows.{Windows, HasNumber, AreNumbered}
+use Rattle.pg_types.specs.Inside.counting.Counts.{Counts, counted_sums, is_counted}
+use Rattle.pg_types.specs.Inside.counting.NumberedWindows.{Windows, HasNumber, AreNumbered}
 use Rattle.pg_dict.specs.Word.{Word}
 use Rattle.pg_select.specs.declared.choice.Choice.{Choice}
 use Rattle.pg_select.specs.declared.pass.Pass.{Pass}
 use Rattle.pg_select.specs.Inside.Choices.{choice}
 use Rattle.pg_select.specs.CountedPositions.{Minima, CountedPosition, good_of, bad_of, counted_at, counted_positions, counts_as}
-use Rattle.pg_select.specs.Inside.LawsAbove.{counts_above}
-use Rattle.pg_select.specs.Inside.LawsClosedDots.{is_good}
-use Rattle.pg_select.specs.Inside.Meanings.{Meaning, with_position}
-use Rattle.pg_select.specs.Inside.Positions.{Positions}
+use Rattle.pg_select.specs.Inside.laws.Above.{counts_above}
+use Rattle.pg_select.specs.Inside.laws.ClosedDots.{is_good}
+use Rattle.pg_select.specs.Inside.engine.Meanings.{Meaning, with_position}
+use Rattle.pg_select.specs.Inside.words.Positions.{Positions}
 use Rattle.pg_types.specs.declared.marks.Mark.{Mark}
 use Rattle.pg_select.specs.Statuses.{position_weight, status, status_at}
 use Rattle.pg_select.specs.Windows.{Hopeless, Patterns, is_covered, fits, window}

@@ -10,8 +10,8 @@ use Rattle.pg_types.specs.declared.parameters.LevelParams.{LevelParams}
 use Rattle.pg_types.specs.Placement.{Families, enter}
 use Rattle.pg_patterns.specs.DottedSigns.{dotted_cmp}
 use Rattle.pg_patterns.specs.Values.{raise}
-use Rattle.pg_types.specs.Inside.Counts.{Counts}
-use Rattle.pg_select.specs.Inside.Meanings.{Meaning, after_choose, after_give_up}
+use Rattle.pg_types.specs.Inside.counting.Counts.{Counts}
+use Rattle.pg_select.specs.Inside.engine.Meanings.{Meaning, after_choose, after_give_up}
 use Rattle.pg_select.specs.declared.choice.Choice.{Choice}
 use Rattle.pg_select.specs.declared.choice.Choice.TheVariants.{Hopeless as GivenUp, Chosen, Left}
 use Rattle.pg_select.specs.declared.pass.Pass.{Pass}

@@ -7,7 +7,7 @@ use Rattle.std.proofs.lemmas.List.{drop-append-le, drop-drop, drop_at, length-ma
 use Rattle.std.proofs.lemmas.List.Elements.{All-head, All-tail}
 use Rattle.std.proofs.lemmas.List.FromFn.{length-range_with_len}
 use Rattle.std.proofs.lemmas.Option.{get_or_from_slice_get, slice_get_within, slice_get-get_or, slice_get-map}
-use Rattle.pg_types.specs.Inside.NumberedWindows.{HasNumber, Windows}
+use Rattle.pg_types.specs.Inside.counting.NumberedWindows.{HasNumber, Windows}
 use Rattle.pg_dict.specs.declared.sites.Site.{Site}
 use Rattle.pg_dict.specs.Inside.Sites.{all_sites, site_of, sites_in}
 use Rattle.pg_dict.proofs.WordStore.Told.{word_in}
@@ -15,8 +15,8 @@ use Rattle.pg_dict.specs.Inside.SoundWords.{IsWord}
 use Rattle.pg_dict.specs.Inside.Store.{all_signs, all_weights}
 use Rattle.pg_dict.specs.Word.{Word}
 use Rattle.pg_select.specs.declared.pass.Pass.{Pass}
-use Rattle.pg_select.specs.Inside.LawsClosedDots.{is_good, pass_at}
-use Rattle.pg_select.specs.Inside.Meanings.{Meaning, after_count}
+use Rattle.pg_select.specs.Inside.laws.ClosedDots.{is_good, pass_at}
+use Rattle.pg_select.specs.Inside.engine.Meanings.{Meaning, after_count}
 use Rattle.pg_select.specs.Statuses.{position_weight}
 use Rattle.pg_select.specs.Windows.{window, fits}
 use Rattle.pg_driver.specs.declared.pass_windows.TheConstants.{NO_NUMBER}

@@ -12,19 +12,19 @@ use Rattle.std.proofs.lemmas.Option.{slice_get_cases, slice_get_within}
 use Rattle.pg_types.proofs.BoolFacts.{first_half, second_half}
 use Rattle.pg_types.proofs.EntryLists.{below_get}
 use Rattle.pg_types.specs.declared.parameters.LevelParams.{LevelParams}
-use Rattle.pg_types.specs.Inside.Counts.{Counts, counted_sums, is_counted}
-use Rattle.pg_types.specs.Inside.NumberedWindows.{Windows, HasNumber, AreInOrder, AreNumbered, with_window}
+use Rattle.pg_types.specs.Inside.counting.Counts.{Counts, counted_sums, is_counted}
+use Rattle.pg_types.specs.Inside.counting.NumberedWindows.{Windows, HasNumber, AreInOrder, AreNumbered, with_window}
 use Rattle.pg_dict.specs.Word.{Word}
 use Rattle.pg_select.specs.declared.choice.Choice.{Choice}
 use Rattle.pg_select.specs.declared.pass.Pass.{Pass}
 use Rattle.pg_select.specs.Inside.Choices.{choice}
 use Rattle.pg_select.specs.Statuses.{position_weight}
-use Rattle.pg_select.specs.Inside.LawsClosedDots.{is_good, pass_at}
+use Rattle.pg_select.specs.Inside.laws.ClosedDots.{is_good, pass_at}
 use Rattle.pg_select.specs.Windows.{window, fits}
 use Rattle.pg_driver.specs.declared.pass_windows.WordPosition.{WordPosition}
 use Rattle.pg_driver.specs.Inside.level.PassWindows.{IsNumbered, HaveNumbers, AreFates, IsPart}
 use Rattle.pg_select.specs.CountedPositions.{CountedPosition}
-use Rattle.pg_select.specs.Inside.Meanings.{Meaning, with_position}
+use Rattle.pg_select.specs.Inside.engine.Meanings.{Meaning, with_position}
 use Rattle.pg_driver.specs.Inside.counting.Counting.{meaning_after_counting, windows_after}
 use Rattle.pg_driver.specs.Inside.counting.OpenPositions.{counted_in}
 use Rattle.pg_driver.proofs.Puts.{cmp}

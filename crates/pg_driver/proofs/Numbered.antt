@@ -5,13 +5,13 @@ use Rattle.std.specs.Cmp.{tied_itself}
 use Rattle.std.specs.Cmp.Lexicographic.{nat_list_cmp_total}
 use Rattle.std.specs.FinMap.Entries.{put, find, find-put, is_sorted, is_sorted-put, length-put}
 use Rattle.std.proofs.lemmas.Bool.{cases_lt}
-use Rattle.pg_types.specs.Inside.Counts.{Counts, is_counted, sums_of, with_weight}
-use Rattle.pg_types.specs.Inside.NumberedWindows.{AreNumbered, HasNumber, Windows, with_window}
+use Rattle.pg_types.specs.Inside.counting.Counts.{Counts, is_counted, sums_of, with_weight}
+use Rattle.pg_types.specs.Inside.counting.NumberedWindows.{AreNumbered, HasNumber, Windows, with_window}
 use Rattle.pg_translate.specs.Alphabets.{Alphabet}
 use Rattle.pg_dict.specs.Word.{Word}
 use Rattle.pg_select.specs.declared.pass.Pass.{Pass}
 use Rattle.pg_select.specs.CountedPositions.{CountedPosition, same_signs}
-use Rattle.pg_select.specs.Inside.Meanings.{Meaning, with_position}
+use Rattle.pg_select.specs.Inside.engine.Meanings.{Meaning, with_position}
 use Rattle.pg_select.proofs.LawsTally.{same_window}
 use Rattle.pg_driver.specs.Inside.counting.Counting.{windows_after}
 use Rattle.pg_driver.proofs.NumberSteps.{get_back, get_last, get_left, get_seam}

@@ -6,8 +6,8 @@ use Rattle.std.proofs.lemmas.Bool.{cases_Bool, not-true}
 use Rattle.std.proofs.lemmas.Option.{slice_get_past, slice_get_within}
 use Rattle.std.proofs.lemmas.List.FromFn.{length-range_with_len}
 use Rattle.pg_types.specs.declared.parameters.LevelParams.{LevelParams}
-use Rattle.pg_types.specs.Inside.Counts.{Counts, counted_sums}
-use Rattle.pg_types.specs.Inside.NumberedWindows.{Windows, HasNumber, AreNumbered}
+use Rattle.pg_types.specs.Inside.counting.Counts.{Counts, counted_sums}
+use Rattle.pg_types.specs.Inside.counting.NumberedWindows.{Windows, HasNumber, AreNumbered}
 use Rattle.pg_dict.specs.Word.{Word}
 use Rattle.pg_select.specs.declared.choice.Choice.{Choice}
 use Rattle.pg_select.specs.declared.pass.Pass.{Pass}

@@ -4,15 +4,15 @@ use Rattle.std.specs.Option.{option_map_or}
 use Rattle.std.proofs.lemmas.Bool.{cases_Bool, cases_eq, eq-eqb, ne_eqb}
 use Rattle.pg_types.specs.declared.limits.TheConstants.{LENGTH_MAX}
 use Rattle.pg_types.specs.declared.parameters.LevelParams.{LevelParams}
-use Rattle.pg_types.specs.Inside.Counts.{Counts, counted_sums}
+use Rattle.pg_types.specs.Inside.counting.Counts.{Counts, counted_sums}
 use Rattle.pg_dict.specs.Word.{Word}
 use Rattle.pg_select.specs.declared.choice.Choice.{Choice}
 use Rattle.pg_select.specs.declared.choice.Choice.TheVariants.{Hopeless as MadeHopeless, Chosen, Left}
 use Rattle.pg_select.specs.declared.pass.Pass.{Pass}
 use Rattle.pg_select.specs.Inside.Choices.{choice}
-use Rattle.pg_select.specs.Inside.LawsSteps.{IsBelow, IsUpTo, candidate_at, is_candidate, patterns_after_pass, hopeless_after_pass}
-use Rattle.pg_select.specs.Inside.LawsClosedDots.{counted_with, is_good, closed_at_next_length, pass_at, Tells, closed_after as dots_after_pass}
-use Rattle.pg_select.specs.Inside.Meanings.{with_position}
+use Rattle.pg_select.specs.Inside.laws.Steps.{IsBelow, IsUpTo, candidate_at, is_candidate, patterns_after_pass, hopeless_after_pass}
+use Rattle.pg_select.specs.Inside.laws.ClosedDots.{counted_with, is_good, closed_at_next_length, pass_at, Tells, closed_after as dots_after_pass}
+use Rattle.pg_select.specs.Inside.engine.Meanings.{with_position}
 use Rattle.pg_select.specs.CountedPositions.{Minima, Candidate, counted_at, counts_as, good_of, bad_of, counted_positions}
 use Rattle.pg_select.specs.Statuses.{status_at}
 use Rattle.pg_select.specs.Windows.{Patterns, Hopeless, window, fits, is_covered}

@@ -7,8 +7,8 @@ use Rattle.std.specs.Option.{option_map_or}
 use Rattle.std.specs.FinMap.Entries.{find}
 use Rattle.pg_dict.specs.Word.{Word}
 use Rattle.pg_dict.specs.Inside.SoundWords.{IsWord, letter_count}
-use Rattle.pg_types.specs.Inside.Counts.{Counts}
-use Rattle.pg_select.specs.Inside.Meanings.{Meaning, with_position}
+use Rattle.pg_types.specs.Inside.counting.Counts.{Counts}
+use Rattle.pg_select.specs.Inside.engine.Meanings.{Meaning, with_position}
 use Rattle.pg_select.specs.CountedPositions.{Minima}
 use Rattle.pg_select.specs.Statuses.{position_weight}
 use Rattle.pg_select.specs.Windows.{window, fits}
@@ -20,7 +20,7 @@ use Rattle.pg_driver.proofs.Rooms.{took_none, took_with, window_filled}
 use Rattle.pg_driver.proofs.WordSteps.{drop_place}
 use Rattle.pg_driver.specs.declared.pass_windows.WordPosition.{WordPosition}
 use Rattle.pg_driver.specs.Inside.counting.OpenLevels.{listed_in, listed_from}
-use Rattle.pg_select.specs.Inside.LawsClosedDots.{is_good, pass_at}
+use Rattle.pg_select.specs.Inside.laws.ClosedDots.{is_good, pass_at}
 use Rattle.pg_driver.specs.Inside.counting.OpenPositions.{counted_in}
 
 -- one part more

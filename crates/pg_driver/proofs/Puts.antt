@@ -9,7 +9,7 @@ use Rattle.std.specs.List.{list_all}
 use Rattle.std.proofs.lemmas.Bool.{and_parts, and_from}
 use Rattle.std.proofs.lemmas.List.Sums.{sum_by-cons}
 use Rattle.pg_types.proofs.BoolFacts.{is_true, less_is, first_half, second_half}
-use Rattle.pg_types.specs.Inside.Counts.{Counts, sums_of}
+use Rattle.pg_types.specs.Inside.counting.Counts.{Counts, sums_of}
 use Rattle.pg_driver.specs.Inside.counting.Counting.{weight_in}
 
 -- the order of windows

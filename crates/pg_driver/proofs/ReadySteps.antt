@@ -4,13 +4,13 @@ use Rattle.std.specs.List.{flat_map}
 use Rattle.pg_types.specs.declared.limits.TheConstants.{LENGTH_MAX, FILE_MAX}
 use Rattle.pg_types.specs.declared.marks.Totals.{Totals}
 use Rattle.pg_types.specs.declared.parameters.LevelParams.{LevelParams}
-use Rattle.pg_types.specs.Inside.Counts.{Counts}
+use Rattle.pg_types.specs.Inside.counting.Counts.{Counts}
 use Rattle.pg_dict.specs.Word.{Word}
 use Rattle.pg_dict.specs.Inside.SoundWords.{letter_count}
-use Rattle.pg_select.specs.Inside.LawsClosedDots.{pass_at}
+use Rattle.pg_select.specs.Inside.laws.ClosedDots.{pass_at}
 use Rattle.pg_select.specs.declared.pass.Pass.{Pass}
-use Rattle.pg_select.specs.Inside.LawsSteps.{IsBelow}
-use Rattle.pg_select.specs.Inside.Meanings.{Meaning, with_position}
+use Rattle.pg_select.specs.Inside.laws.Steps.{IsBelow}
+use Rattle.pg_select.specs.Inside.engine.Meanings.{Meaning, with_position}
 use Rattle.pg_select.specs.CountedPositions.{Candidate, counted_positions}
 use Rattle.pg_select.specs.Statuses.{is_odd}
 use Rattle.pg_select.specs.Windows.{Hopeless, Patterns}

@@ -9,8 +9,8 @@ use Rattle.std.proofs.lemmas.List.{length-take, length-drop}
 use Rattle.pg_types.specs.declared.limits.TheConstants.{WEIGHT_MAX, FILE_MAX}
 use Rattle.pg_dict.specs.Word.{Word}
 use Rattle.pg_dict.specs.Inside.SoundWords.{IsWord}
-use Rattle.pg_types.specs.Inside.Counts.{Counts, AreSmall, sums_of, with_weight}
-use Rattle.pg_select.specs.Inside.Meanings.{with_position}
+use Rattle.pg_types.specs.Inside.counting.Counts.{Counts, AreSmall, sums_of, with_weight}
+use Rattle.pg_select.specs.Inside.engine.Meanings.{with_position}
 use Rattle.pg_select.specs.declared.pass.Pass.{Pass}
 use Rattle.pg_select.specs.CountedPositions.{CountedPosition, counted_positions_at, counts_as}
 use Rattle.pg_select.specs.Statuses.{status_at, position_weight}

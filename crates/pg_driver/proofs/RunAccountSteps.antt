@@ -7,7 +7,7 @@ use Rattle.pg_types.specs.declared.marks.Layout.{Layout}
 use Rattle.pg_types.specs.declared.marks.Totals.{Totals}
 use Rattle.pg_types.specs.Placement.{Families, taken_count, top}
 use Rattle.pg_types.specs.Tails.{tails}
-use Rattle.pg_select.specs.Inside.Meanings.{IsLayout, Meaning}
+use Rattle.pg_select.specs.Inside.engine.Meanings.{IsLayout, Meaning}
 use Rattle.pg_select.specs.declared.pass.Pass.{Pass}
 use Rattle.pg_driver.specs.declared.records.LevelRecord.{LevelRecord}
 use Rattle.pg_driver.specs.declared.records.PassRecord.{PassRecord}

@@ -14,9 +14,9 @@ use Rattle.pg_patterns.specs.Values.{raise, value_of}
 use Rattle.pg_patterns.specs.Inside.PatternMaps.{SignsUpTo}
 use Rattle.pg_select.specs.declared.pass.Pass.{Pass}
 use Rattle.pg_select.specs.CountedPositions.{Minima, CountedPosition, Candidate, candidates, counted_at, counted_positions, counted_positions_at, good_of, bad_of, tally}
-use Rattle.pg_select.specs.Inside.Laws.{raised_all}
-use Rattle.pg_select.specs.Inside.Meanings.{Meaning}
-use Rattle.pg_select.specs.Inside.WordCounts.{counted_positions_in}
+use Rattle.pg_select.specs.Inside.laws.Laws.{raised_all}
+use Rattle.pg_select.specs.Inside.engine.Meanings.{Meaning}
+use Rattle.pg_select.specs.Inside.words.WordCounts.{counted_positions_in}
 use Rattle.pg_select.specs.Statuses.{position_weight}
 use Rattle.pg_select.specs.Windows.{Hopeless, Patterns, window}
 use Rattle.pg_select.proofs.LawsBounds.{all_put}

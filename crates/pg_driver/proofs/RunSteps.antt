@@ -10,7 +10,7 @@ use Rattle.pg_types.specs.declared.marks.Totals.{Totals}
 use Rattle.pg_types.specs.declared.parameters.LevelParams.{LevelParams}
 use Rattle.pg_types.specs.Placement.{Families, kept_families, taken_count, top}
 use Rattle.pg_types.specs.Tails.{tails}
-use Rattle.pg_select.specs.Inside.Meanings.{IsLayout, Meaning, after_end_level}
+use Rattle.pg_select.specs.Inside.engine.Meanings.{IsLayout, Meaning, after_end_level}
 use Rattle.pg_select.specs.declared.pass.Pass.{Pass}
 use Rattle.pg_select.specs.Windows.{Hopeless, Patterns}
 use Rattle.pg_driver.specs.declared.records.LevelRecord.{LevelRecord}

@@ -5,7 +5,7 @@ use Rattle.std.proofs.lemmas.Bool.{and_parts, or_cases}
 use Rattle.std.proofs.lemmas.Bool.Decides.{Decides-eqb, nat_tests}
 use Rattle.pg_types.specs.declared.parameters.LevelParams.{LevelParams}
 use Rattle.pg_dict.specs.Word.{Word}
-use Rattle.pg_select.specs.Inside.Laws.{CountsNothing}
+use Rattle.pg_select.specs.Inside.laws.Laws.{CountsNothing}
 use Rattle.pg_select.specs.declared.pass.Pass.{Pass}
 use Rattle.pg_select.specs.CountedPositions.{Minima, Candidate, tally}
 use Rattle.pg_select.specs.Windows.{Hopeless}

@@ -4,13 +4,13 @@ use Rattle.std.specs.List.{flat_map, range_with_len}
 use Rattle.std.proofs.lemmas.List.Sums.{fold-append}
 use Rattle.pg_dict.specs.Word.{Word}
 use Rattle.pg_dict.specs.Inside.SoundWords.{IsWord}
-use Rattle.pg_types.specs.Inside.Counts.{Counts}
-use Rattle.pg_types.specs.Inside.NumberedWindows.{Windows, with_window}
+use Rattle.pg_types.specs.Inside.counting.Counts.{Counts}
+use Rattle.pg_types.specs.Inside.counting.NumberedWindows.{Windows, with_window}
 use Rattle.pg_patterns.specs.Values.{value_at}
-use Rattle.pg_select.specs.Inside.Meanings.{Meaning, with_position}
-use Rattle.pg_select.specs.Inside.Positions.{Positions}
+use Rattle.pg_select.specs.Inside.engine.Meanings.{Meaning, with_position}
+use Rattle.pg_select.specs.Inside.words.Positions.{Positions}
 use Rattle.pg_select.specs.CountedPositions.{Minima, CountedPosition, counted_positions_at, counted_positions}
-use Rattle.pg_select.specs.Inside.WordCounts.{counted_positions_in}
+use Rattle.pg_select.specs.Inside.words.WordCounts.{counted_positions_in}
 use Rattle.pg_driver.specs.Inside.counting.Counting.{meaning_after_counting, windows_after, IsRead, HasRoom, TookRoom}
 use Rattle.pg_driver.proofs.Rooms.{room_left, took_position, took_more}
 use Rattle.pg_select.proofs.Reaches.{range_step}

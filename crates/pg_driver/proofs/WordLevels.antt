@@ -6,17 +6,17 @@ use Rattle.std.specs.FinMap.Entries.{find}
 use Rattle.pg_types.specs.declared.limits.TheConstants.{FILE_MAX}
 use Rattle.pg_types.specs.declared.marks.Totals.{Totals}
 use Rattle.pg_types.specs.declared.parameters.LevelParams.{LevelParams}
-use Rattle.pg_types.specs.Inside.Counts.{Counts}
+use Rattle.pg_types.specs.Inside.counting.Counts.{Counts}
 use Rattle.pg_translate.specs.Reach.{positions}
 use Rattle.pg_dict.specs.Word.{Word}
 use Rattle.pg_dict.specs.Inside.SoundWords.{letter_count}
 use Rattle.pg_select.specs.declared.pass.Pass.{Pass}
 use Rattle.pg_select.specs.Inside.Choices.{choice}
 use Rattle.pg_select.specs.CountedPositions.{Minima, CountedPosition, Candidate, counted_positions, counts_as, good_of, bad_of}
-use Rattle.pg_select.specs.Inside.LawsAbove.{above_at, above_positions, bad_above, counts_above, good_above, MovesAllBut}
-use Rattle.pg_select.specs.Inside.LawsClosedDots.{is_good}
-use Rattle.pg_select.specs.Inside.LawsSteps.{candidate_at, bad_raised, good_raised, is_candidate}
-use Rattle.pg_select.specs.Inside.Meanings.{with_position}
+use Rattle.pg_select.specs.Inside.laws.Above.{above_at, above_positions, bad_above, counts_above, good_above, MovesAllBut}
+use Rattle.pg_select.specs.Inside.laws.ClosedDots.{is_good}
+use Rattle.pg_select.specs.Inside.laws.Steps.{candidate_at, bad_raised, good_raised, is_candidate}
+use Rattle.pg_select.specs.Inside.engine.Meanings.{with_position}
 use Rattle.pg_select.specs.Statuses.{is_odd, position_weight, status_at}
 use Rattle.pg_select.specs.Windows.{Patterns, fits, window}
 use Rattle.pg_patterns.specs.Values.{value_at}

@@ -8,9 +8,9 @@ use Rattle.std.proofs.lemmas.Option.{slice_get_within, get_or_from_slice_get}
 use Rattle.pg_translate.specs.Reach.{positions}
 use Rattle.pg_dict.specs.Word.{Word}
 use Rattle.pg_dict.specs.Inside.SoundWords.{IsWord, SignsAtMost, letter_count}
-use Rattle.pg_types.specs.Inside.Counts.{SignsWithin}
+use Rattle.pg_types.specs.Inside.counting.Counts.{SignsWithin}
 use Rattle.pg_select.specs.CountedPositions.{Minima}
-use Rattle.pg_select.specs.Inside.Laws.{positions_in}
+use Rattle.pg_select.specs.Inside.laws.Laws.{positions_in}
 
 -- the place of an element, and what stands behind it
 pub drop_place : {X : Type 0} (xs : List X) (i : ℕ) (x : X) → slice_get xs i ≡ Some x → drop i xs ≡ x ∷ drop (i + 1) xs

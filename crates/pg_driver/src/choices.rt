@@ -2,7 +2,7 @@
 ghost use Rattle.std.specs.Prelude.{◌≡◌, ◌≤◌, ◌<◌, ◌+◌, ◌∷◌, [], ℕ, List, true, length, map, IfOk, OnOk};
 ghost use Rattle.pg_types.specs.declared.limits.TheConstants.{FILE_MAX};
 ghost use Rattle.pg_types.specs.Inside.Ranges.{IsLevel};
-ghost use Rattle.pg_types.specs.Inside.NumberedWindows.{AreInOrder};
+ghost use Rattle.pg_types.specs.Inside.counting.NumberedWindows.{AreInOrder};
 ghost use Rattle.pg_select.specs.Inside.Choices.{choice};
 ghost use Rattle.pg_driver.specs.Inside.level.PassWindows.{AreFates, IsCandidate};
 ghost use Rattle.pg_driver.specs.Inside.counting.Counting.{HasRoom};

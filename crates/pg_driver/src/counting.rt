@@ -1,8 +1,8 @@
 //! The ways to count the windows of a level.
 ghost use Rattle.std.specs.Prelude.{◌≡◌, ◌≤◌, ◌<◌, ◌+◌, [], ℕ, length, IfOk, OnOk};
-ghost use Rattle.pg_types.specs.Inside.NumberedWindows.{AreNumbered};
+ghost use Rattle.pg_types.specs.Inside.counting.NumberedWindows.{AreNumbered};
 ghost use Rattle.pg_dict.specs.Inside.SoundWords.{SignsAtMost};
-ghost use Rattle.pg_select.specs.Inside.LawsSteps.{IsBelow};
+ghost use Rattle.pg_select.specs.Inside.laws.Steps.{IsBelow};
 ghost use Rattle.pg_driver.specs.declared.pass_windows.TheConstants.{NO_NUMBER};
 ghost use Rattle.pg_driver.specs.Inside.counting.LevelCounting.{AreNumberedIn, ArePlaced, CanGoOn, DidCount, GoesOnAfter, IsCounted, IsOverOpen, IsReady, totals_in};
 ghost use Rattle.pg_driver.specs.Inside.level.PassWindows.{AreFates};

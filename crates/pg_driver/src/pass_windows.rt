@@ -1,7 +1,7 @@
 //! The windows of a pass by their numbers: what becomes of each, and which positions it stands at.
 ghost use Rattle.std.specs.Prelude.{◌≡◌, ◌<◌, ◌≤◌, ◌++◌, ℕ, List, length, Some, OnOk};
-ghost use Rattle.pg_types.specs.Inside.Counts.{counted_sums};
-ghost use Rattle.pg_types.specs.Inside.NumberedWindows.{HasNumber};
+ghost use Rattle.pg_types.specs.Inside.counting.Counts.{counted_sums};
+ghost use Rattle.pg_types.specs.Inside.counting.NumberedWindows.{HasNumber};
 ghost use Rattle.pg_types.specs.Inside.Ranges.{IsLevel};
 ghost use Rattle.pg_select.specs.Inside.Choices.{choice};
 ghost use Rattle.pg_driver.specs.declared.pass_windows.TheConstants.{NO_NUMBER};
@@ -9,11 +9,11 @@ ghost use Rattle.pg_driver.specs.Inside.counting.Counting.{HasRoom};
 ghost use Rattle.pg_driver.specs.Inside.level.PassWindows.{AreFates};
 
 use pg_select::{Choice, Engine, decide};
-use pg_types::LevelParams;
+use pg_types::{LevelParams, NUMBERS_END};
 use std::alloc::{AllocError, Global};
 
 /// This stands for the number of a window at a position that was not counted.
-pub const NO_NUMBER: u32 = u32::MAX;
+pub const NO_NUMBER: u32 = NUMBERS_END;
 
 /// Memory for so many numbers is never given back: a smaller list would only grow anew.
 const NUMBERS_AT_LEAST: usize = 1 << 15;
@@ -40,7 +40,7 @@ pub struct PassWindows {
 
 impl PassWindows {
     ghost use Rattle.std.specs.Prelude.{◌≡◌, ◌≤◌, [], length, OnOk};
-    ghost use Rattle.pg_types.specs.Inside.NumberedWindows.{AreInOrder, AreNumbered};
+    ghost use Rattle.pg_types.specs.Inside.counting.NumberedWindows.{AreInOrder, AreNumbered};
     ghost use Rattle.pg_types.specs.Inside.Ranges.{IsLevel};
     ghost use Rattle.pg_driver.specs.declared.pass_windows.TheConstants.{NO_NUMBER};
     ghost use Rattle.pg_driver.specs.Inside.counting.Counting.{HasRoom};

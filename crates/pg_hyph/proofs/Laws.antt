@@ -7,12 +7,12 @@ use Rattle.pg_types.specs.declared.limits.TheConstants.{LEVEL_MAX, WORD_LETTERS_
 use Rattle.pg_patterns.specs.Values.{applies, value_at}
 use Rattle.pg_patterns.specs.Inside.PatternMaps.{is_entry}
 use Rattle.pg_select.specs.Windows.{window, fits, is_covered}
-use Rattle.pg_select.specs.Inside.Within.{is_within}
+use Rattle.pg_select.specs.Inside.words.Within.{is_within}
 use Rattle.pg_trie.specs.declared.hopeless.TheConstants.{HOPELESS}
 use Rattle.pg_trie.specs.Inside.Lists.{outputs_at}
 use Rattle.pg_trie.specs.Inside.Maps.{Maps, AreKept, is_dotted}
 use Rattle.pg_select.specs.declared.pass.Pass.{Pass}
-use Rattle.pg_select.specs.Inside.Positions.{bit, Raises}
+use Rattle.pg_select.specs.Inside.words.Positions.{bit, Raises}
 use Rattle.pg_select.proofs.Bits.{same_bits}
 use Rattle.pg_hyph.specs.Inside.ListValues.{pattern_value, value_by, cover_by}
 use Rattle.pg_hyph.specs.Inside.Walks.{by_starts}

@@ -2,8 +2,8 @@
 ghost use Rattle.std.specs.Prelude.{◌≡◌, ◌+◌, ◌≤◌, ◌&&◌, nat_le, length};
 ghost use Rattle.pg_types.specs.declared.limits.TheConstants.{WORD_LETTERS_MAX};
 ghost use Rattle.pg_outputs.specs.Lists.{list_of};
-ghost use Rattle.pg_select.specs.Inside.Positions.{RaisesValues, RaisesCovers, RaisesAt, values_of, covers_of};
-ghost use Rattle.pg_select.specs.Inside.Within.{is_within};
+ghost use Rattle.pg_select.specs.Inside.words.Positions.{RaisesValues, RaisesCovers, RaisesAt, values_of, covers_of};
+ghost use Rattle.pg_select.specs.Inside.words.Within.{is_within};
 ghost use Rattle.pg_hyph.specs.Inside.ListValues.{pattern_value, value_by, cover_by};
 ghost use Rattle.pg_hyph.specs.Inside.Walks.{by_list};
 
@@ -48,7 +48,7 @@ fn raise_at(value: u8, dot: u8, start: usize, len: usize, pass: &Pass, out: &mut
         (covers_of out.new) }
 {
     let covered = is_covering(value, dot, len, pass);
-    out.raise(start + usize::from(dot), given(value), covered);
+    out.raise(start + usize::from(dot), pattern_value(value), covered);
 }
 
 /// Whether a value or hopeless entry covers the window at its dot.
@@ -62,7 +62,7 @@ fn is_covering(value: u8, dot: u8, len: usize, pass: &Pass) -> bool
 }
 
 /// The value itself, and 0 for a hopeless entry.
-fn given(value: u8) -> u8
+fn pattern_value(value: u8) -> u8
     ensures { result ≡ pattern_value value }
 {
     if value < HOPELESS { value } else { 0 }

@@ -4,7 +4,7 @@ ghost use Rattle.pg_types.specs.declared.limits.TheConstants.{LENGTH_MAX, LEVEL_
 ghost use Rattle.pg_types.specs.Tails.{tails};
 
 use crate::start::trie_of;
-use pg_count::CountTrie;
+use pg_count::{CountTrie, WindowCounter};
 use pg_dict::WordRef;
 use pg_hyph::hyphenate;
 use pg_patterns::PatternSet;
@@ -37,7 +37,7 @@ impl PackedEngine {
     ghost use Rattle.std.specs.Prelude.{◌≡◌, ◌≤◌, IfOk};
     ghost use Rattle.pg_types.specs.declared.limits.TheConstants.{SIGNS_MAX};
     ghost use Rattle.pg_patterns.specs.Inside.PatternMaps.{SignsUpTo};
-    ghost use Rattle.pg_select.specs.Inside.Meanings.{new_engine};
+    ghost use Rattle.pg_select.specs.Inside.engine.Meanings.{new_engine};
     ghost use Rattle.pg_packed.specs.Inside.Engines.{meaning_of};
     ghost use Rattle.pg_packed.specs.Inside.Starts.{pattern_families};
 
@@ -86,7 +86,8 @@ impl Engine for PackedEngine {
     }
 
     fn count(&mut self, window: &[Sign], good: bool, weight: Weight) -> Result<(), AllocError> {
-        self.counts.add(window, good, weight)
+        self.counts.add(window, good, weight)?;
+        Ok(())
     }
 
     #[inline(always)]
@@ -96,7 +97,7 @@ impl Engine for PackedEngine {
         good: bool,
         weight: Weight,
     ) -> Result<u32, AllocError> {
-        self.counts.add_numbered(window, good, weight)
+        self.counts.add(window, good, weight)
     }
 
     fn sums(&self, window: &[Sign]) -> Option<(u64, u64)> {

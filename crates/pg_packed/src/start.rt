@@ -9,8 +9,8 @@ use pg_patterns::{Entry, PatternSet};
 use pg_trie::PatternTrie;
 use std::alloc::{AllocError, Global};
 
-// The trie in which the patterns were entered in their order.
-fn entered(alloc: Global, signs: u16, start: &PatternSet) -> Result<PatternTrie, AllocError>
+// Enters the patterns, in their order, into a trie that has none.
+fn enter_all(alloc: Global, signs: u16, start: &PatternSet) -> Result<PatternTrie, AllocError>
     requires signs { (1 ≤ signs) × (signs ≤ SIGNS_MAX) }
     requires known { SignsUpTo signs start.now }
     ensures { IfOk result (λ trie. AreEntered signs start.now trie) }
@@ -31,7 +31,7 @@ pub fn trie_of(alloc: Global, signs: u16, start: &PatternSet) -> Result<PatternT
     ensures value { IfOk result (λ trie. AreEntered signs start.now trie) }
     ensures tails { IfOk result (λ trie. length trie.records ≡ tails start.now) }
 {
-    let mut trie = entered(alloc, signs, start)?;
+    let mut trie = enter_all(alloc, signs, start)?;
     trie.delete_hopeless()?;
     Ok(trie)
 }

@@ -8,7 +8,7 @@ use Rattle.pg_types.specs.declared.limits.TheConstants.{EDGE, PATTERN_SIGNS_MAX}
 use Rattle.pg_types.specs.declared.refusals.Refusal.{Refusal}
 use Rattle.pg_types.specs.Lines.{lines}
 use Rattle.pg_types.specs.Reading.{unless}
-use Rattle.pg_types.specs.Inside.Parts.{both_parts}
+use Rattle.pg_types.specs.Inside.reading.Parts.{both_parts}
 use Rattle.pg_types.specs.Inside.Signs.{is_sign}
 use Rattle.pg_translate.specs.declared.items.Place.TheVariants.{Patterns}
 use Rattle.pg_translate.specs.Alphabets.{Alphabet}

@@ -4,6 +4,7 @@ use Rattle.std.specs.List.{concat}
 use Rattle.pg_types.specs.declared.refusals.Kind.{Kind}
 use Rattle.pg_types.specs.declared.refusals.Kind.TheVariants.{PatternCharacter, PatternTooLong}
 use Rattle.pg_types.specs.declared.refusals.Refusal.{Refusal}
+use Rattle.pg_types.specs.Reading.{refusal_at}
 use Rattle.pg_translate.specs.Alphabets.{Alphabet}
 use Rattle.pg_patterns.specs.Values.{value_at}
 use Rattle.pg_patterns.specs.Starts.{start}
@@ -27,7 +28,7 @@ abbrev written : List (List ℕ) → Result (List ℕ) Refusal
 written texts = given (pattern_text abc) (start abc (file texts))
 
 abbrev refused : {X : Type 0} → Kind → ℕ → ℕ → Result X Refusal
-refused kind line column = Err (record { kind = kind; line = line; column = column })
+refused kind line column = Err (refusal_at line kind column)
 
 abbrev starting : List ((List ℕ × ℕ) × ℕ)
 starting = ((1 ∷ 2 ∷ [], 2), 1) ∷ ((2 ∷ 3 ∷ [], 1), 2) ∷ ((3 ∷ 4 ∷ [], 1), 1) ∷ []

@@ -7,6 +7,7 @@ use Rattle.std.specs.List.{All, AllByRecursion, list_all}
 use Rattle.pg_types.specs.declared.limits.TheConstants.{FILE_MAX}
 use Rattle.pg_types.specs.declared.refusals.Kind.TheVariants.{PatternsTooLong}
 use Rattle.pg_types.specs.Lines.{lines}
+use Rattle.pg_types.specs.Reading.{refusal_at}
 use Rattle.pg_translate.specs.Alphabets.{Alphabet, letters_of}
 use Rattle.pg_translate.specs.Inside.tables.Rules.{KeepsRules}
 use Rattle.pg_patterns.specs.Inside.PatternMaps.{IsPatternMap, SignsUpTo, is_entry}
@@ -45,7 +46,7 @@ not_longer a b upto = le-ltb a b upto
 pub text_reads_back : (t : Alphabet) (P : List ((List ℕ × ℕ) × ℕ)) → KeepsRules t → IsPatternMap P → SignsUpTo (letters_of t + 1) P
     → length (pattern_text t P) ≤ FILE_MAX → start t (pattern_text t P) ≡ Ok P
 text_reads_back t P rules map known few =
-    ap (λ b. cond b (Err (record { kind = PatternsTooLong; line = 0; column = 0 })) (of_lines (λ ls. map_of_entries (flat_map line_entries ls)) t Patterns (lines (pattern_text t P))))
+    ap (λ b. cond b (Err (refusal_at 0 PatternsTooLong 0)) (of_lines (λ ls. map_of_entries (flat_map line_entries ls)) t Patterns (lines (pattern_text t P))))
     (not_longer FILE_MAX (length (pattern_text t P)) few)
     ∙ sym (joined_as t (lines (pattern_text t P)))
     ∙ ap joined_entries (strings_read t P 1 (strings_of P) rules map.sound (strings_known (letters_of t + 1) P map.sound known))

@@ -2,7 +2,7 @@
 ghost use Rattle.std.specs.Prelude.{◌≡◌, ◌+◌, ◌-◌, ◌<◌, ◌≤◌, ◌^◌, true, length, Err, IfOk, MatchOption, MatchResult};
 ghost use Rattle.std.specs.List.{list_all};
 ghost use Rattle.pg_types.specs.Lines.{lines};
-ghost use Rattle.pg_types.specs.Inside.Answers.{Gives};
+ghost use Rattle.pg_types.specs.Inside.reading.Answers.{Gives};
 ghost use Rattle.pg_translate.specs.Alphabets.{letters_of};
 ghost use Rattle.pg_types.specs.Reading.{refusal_at};
 ghost use Rattle.pg_patterns.specs.Inside.PatternMaps.{SignsUpTo, is_entry};

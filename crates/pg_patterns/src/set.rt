@@ -48,7 +48,7 @@ impl PatternSet {
     ghost use Rattle.std.specs.FinMap.Entries.{is_sorted};
     ghost use Rattle.std.specs.List.{list_all};
     ghost use Rattle.pg_types.specs.declared.limits.TheConstants.{FILE_MAX, LEVEL_MAX, PATTERN_SIGNS_MAX};
-    ghost use Rattle.pg_types.specs.Inside.Answers.{Gives};
+    ghost use Rattle.pg_types.specs.Inside.reading.Answers.{Gives};
     ghost use Rattle.pg_types.specs.Inside.Signs.{is_sign};
     ghost use Rattle.pg_patterns.specs.DottedSigns.{dotted_cmp};
     ghost use Rattle.pg_patterns.specs.Values.{raise, map_of_entries, largest};

@@ -11,8 +11,8 @@ use Rattle.std.specs.FinMap.Entries.{put, find, is_sorted}
 use Rattle.std.specs.List.{filter, list_all}
 use Rattle.std.specs.Ordering.{is_lt}
 use Rattle.pg_types.specs.Inside.Signs.{is_sign}
-use Rattle.pg_types.specs.Inside.Counts.{Counts, SignsWithin, is_counted, windows_above}
-use Rattle.pg_types.specs.Inside.NumberedStrings.{Numbers}
+use Rattle.pg_types.specs.Inside.counting.Counts.{Counts, SignsWithin, is_counted, windows_above}
+use Rattle.pg_types.specs.Inside.counting.NumberedStrings.{Numbers}
 use Rattle.pg_types.proofs.EntryLists.{all_put, find_good, above_next}
 use Rattle.pg_types.proofs.Numbering.{first_at, behind}
 use Rattle.pg_types.proofs.StringEntries.{mapped, tail_sorted}

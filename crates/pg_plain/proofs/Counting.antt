@@ -6,13 +6,13 @@ use Rattle.std.proofs.lemmas.Option.{slice_get-get_or}
 use Rattle.std.specs.Prelude.{slice_get}
 use Rattle.std.specs.FinMap.Entries.{find, put, is_sorted, length-put}
 use Rattle.std.specs.Cmp.Lexicographic.{nat_list_cmp_total}
-use Rattle.pg_types.specs.Inside.Counts.{counted_sums, with_weight, with_count, is_counted}
-use Rattle.pg_types.specs.Inside.NumberedWindows.{Windows, AreNumbered, AreInOrder, HasNumber, with_counted}
-use Rattle.pg_types.specs.Inside.NumberedStrings.{Numbers, AreNumbers, by_number}
+use Rattle.pg_types.specs.Inside.counting.Counts.{counted_sums, with_weight, with_count, is_counted}
+use Rattle.pg_types.specs.Inside.counting.NumberedWindows.{Windows, AreNumbered, AreInOrder, HasNumber, with_counted}
+use Rattle.pg_types.specs.Inside.counting.NumberedStrings.{Numbers, AreNumbers, by_number}
 use Rattle.pg_types.proofs.Numbering.{number_of, numbered_found, numbers_none, numbers_put, by_number_none, by_number_put, length_by_number, in_order}
 use Rattle.pg_types.proofs.StringEntries.{order, mapped, found_mapped, none_mapped, sorted_mapped, sorted_put, find_put_same, find_put_other, put_from}
 use Rattle.pg_plain.specs.Inside.PlainCounts.{AreCounted, counted_of, tally_at}
-use Rattle.pg_plain.specs.declared.counts.TheConstants.{NUMBERS_MAX}
+use Rattle.pg_types.specs.declared.limits.TheConstants.{NUMBERS_END}
 
 -- sums that were read
 pub tally_read : (tallies : List (ℕ × ℕ)) (n : ℕ) (sums : ℕ × ℕ) → n < length tallies → sums ≡ get_or tallies n sums → sums ≡ tally_at tallies n
@@ -188,7 +188,7 @@ module _ (numbers : Numbers) (tallies : List (ℕ × ℕ)) (windows : Windows) (
     size_more : length more ≡ length tallies + 1
     size_more = ap length is ∙ length-append tallies (first_sums ∷ [])
 
-    pub new_are : (list : Windows) → list ≡ windows ++ u ∷ [] → length more ≤ NUMBERS_MAX → AreCounted after more list
+    pub new_are : (list : Windows) → list ≡ windows ++ u ∷ [] → length more ≤ NUMBERS_END → AreCounted after more list
     new_are list list_is few = record {
       sorted = after_sorted;
       numbered = subst AreNumbers (sym after_is) (numbers_put numbers are.sorted are.numbered u none);
@@ -199,7 +199,7 @@ module _ (numbers : Numbers) (tallies : List (ℕ × ℕ)) (windows : Windows) (
       few = few;
     }
 
-    pub new_number : length more ≤ NUMBERS_MAX → HasNumber (by_number after) u (length tallies)
+    pub new_number : length more ≤ NUMBERS_END → HasNumber (by_number after) u (length tallies)
     new_number few = let new = new_are (windows ++ u ∷ []) refl few in number_of after new.sorted new.numbered u (length tallies) found_new
 
 -- a window that is counted has a number

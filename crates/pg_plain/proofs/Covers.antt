@@ -9,8 +9,8 @@ use Rattle.pg_patterns.specs.Values.{stands_at, applies, greatest_value, value_a
 use Rattle.pg_patterns.specs.Inside.PatternMaps.{is_entry}
 use Rattle.pg_select.specs.Windows.{Hopeless, window, fits, is_covered}
 use Rattle.pg_plain.specs.Inside.Strings.{is_string}
-use Rattle.pg_select.specs.Inside.Positions.{bit}
-use Rattle.pg_select.specs.Inside.Within.{is_within}
+use Rattle.pg_select.specs.Inside.words.Positions.{bit}
+use Rattle.pg_select.specs.Inside.words.Within.{is_within}
 use Rattle.pg_select.proofs.Bits.{same_bits}
 use Rattle.pg_plain.specs.Inside.Greatest.{greatest}
 use Rattle.pg_types.proofs.BoolFacts.{and_first, and_second, all_weaker}

@@ -3,7 +3,7 @@ use Rattle.std.proofs.Common.{◌≡◌, ℕ, ◌+◌, ◌<◌, Bool, true, fals
 use Rattle.std.specs.List.{filter, list_all}
 use Rattle.std.specs.Cmp.Lexicographic.{pointwise}
 use Rattle.pg_types.specs.declared.limits.TheConstants.{WORD_LETTERS_MAX}
-use Rattle.pg_select.specs.Inside.Positions.{RaisesAt}
+use Rattle.pg_select.specs.Inside.words.Positions.{RaisesAt}
 use Rattle.pg_plain.specs.Inside.Greatest.{greatest, RaisesBy}
 use Rattle.pg_plain.specs.Inside.Walks.{has_signs_at}
 use Rattle.pg_types.proofs.BoolFacts.{and_first, and_second, no_test}

@@ -7,7 +7,7 @@ use Rattle.std.specs.Ordering.{is_le, is_gt}
 use Rattle.std.specs.FinMap.Entries.{is_sorted, is_sorted-where_key}
 use Rattle.std.specs.List.{starts_with, list_all, list_any}
 use Rattle.pg_patterns.specs.DottedSigns.{dotted_cmp}
-use Rattle.pg_select.specs.Inside.Positions.{Positions, RaisesAt, values_of, covers_of}
+use Rattle.pg_select.specs.Inside.words.Positions.{Positions, RaisesAt, values_of, covers_of}
 use Rattle.pg_plain.specs.Inside.Greatest.{RaisesBy}
 use Rattle.pg_plain.specs.Inside.Walks.{has_signs_at, is_extension}
 use Rattle.pg_plain.proofs.Bools.{any_none, any_filter, all_filter}

@@ -2,7 +2,7 @@
 use Rattle.std.proofs.Common.{◌≡◌, ℕ, ◌+◌, ◌-◌, ◌<◌, ◌≤◌, Bool, true, false, not, List, length, take, drop, ap, subst, ◌∙◌, arith}
 use Rattle.std.specs.List.{list_all, list_any}
 use Rattle.pg_patterns.specs.Values.{applies}
-use Rattle.pg_select.specs.Inside.Positions.{Positions, values_of, covers_of}
+use Rattle.pg_select.specs.Inside.words.Positions.{Positions, values_of, covers_of}
 use Rattle.pg_plain.specs.Inside.Greatest.{RaisesBy}
 use Rattle.pg_plain.specs.Inside.Strings.{is_string}
 use Rattle.pg_plain.specs.Inside.Walks.{has_signs_at, is_extension, applies_from, applies_from_at_least, applies_not_before}

@@ -5,21 +5,18 @@ ghost use Rattle.std.specs.Prelude.{◌≡◌, ℕ, Bool, ◌≤◌, ◌<◌, �
 ghost use Rattle.std.specs.Cmp.Lexicographic.{slice_cmp};
 ghost use Rattle.std.specs.FinMap.Entries.{put, is_sorted};
 ghost use Rattle.std.specs.Ordering.{nat_cmp};
-ghost use Rattle.pg_types.specs.Inside.Counts.{AreSmall, IsNextAbove, counted_sums, sums_of, with_weight, is_counted};
-ghost use Rattle.pg_types.specs.Inside.NumberedWindows.{AreInOrder, AreNumbered, HasNumber, no_counts, with_counted};
+ghost use Rattle.pg_types.specs.Inside.counting.Counts.{AreSmall, IsNextAbove, counted_sums, sums_of, with_weight, is_counted};
+ghost use Rattle.pg_types.specs.Inside.counting.NumberedWindows.{AreInOrder, AreNumbered, HasNumber, no_counts, with_counted};
 ghost use Rattle.pg_types.specs.Inside.Signs.{is_sign};
-ghost use Rattle.pg_types.specs.declared.limits.TheConstants.{LENGTH_MAX};
+ghost use Rattle.pg_types.specs.declared.limits.TheConstants.{LENGTH_MAX, NUMBERS_END};
 ghost use Rattle.pg_plain.specs.Inside.PlainCounts.{tally_at};
 
 use crate::keys::WindowKey;
-use pg_types::{Cursor, Sign, add_weight};
+use pg_types::{Cursor, NUMBERS_END, Sign, add_weight};
 use std::alloc::{AllocError, Global};
 use std::collections::BTreeMap;
 use std::marker::Model;
 use std::ops::Bound;
-
-/// At most so many windows have numbers.
-pub const NUMBERS_MAX: u32 = u32::MAX;
 
 /// The windows that are counted in a pass. A map leads from a window to its number, and the sums
 /// and the windows stand by number.
@@ -31,7 +28,7 @@ pub struct CountedWindows {
 }
 
 impl Model for CountedWindows {
-    ghost use Rattle.pg_types.specs.Inside.NumberedWindows.{WindowCounts};
+    ghost use Rattle.pg_types.specs.Inside.counting.NumberedWindows.{WindowCounts};
 
     ghost Value = { WindowCounts };
 
@@ -183,7 +180,7 @@ fn number_new(
     window: &[Sign],
     sums: (u64, u64),
 ) -> Result<u32, AllocError>
-    requires few { length tallies.old.items ≤ NUMBERS_MAX }
+    requires few { length tallies.old.items ≤ NUMBERS_END }
     requires len { length window.now ≤ LENGTH_MAX }
     requires signs { list_all is_sign window.now ≡ true }
     requires key { key ≡ window.now }
@@ -192,13 +189,13 @@ fn number_new(
         ≡ put (slice_cmp nat_cmp) window.now (length tallies.old.items) numbers.old.entries) }
     ensures tallies { OnOk result (tallies.new.items ≡ tallies.old.items ++ sums ∷ []) }
     ensures windows { OnOk result (windows.new.items ≡ windows.old.items ++ window.now ∷ []) }
-    ensures few { length tallies.new.items ≤ NUMBERS_MAX }
+    ensures few { length tallies.new.items ≤ NUMBERS_END }
     ensures err_numbers { OnErr result (numbers.new.entries ≡ numbers.old.entries) }
     ensures err_tallies { OnErr result (tallies.new.items ≡ tallies.old.items) }
     ensures err_windows { OnErr result (windows.new.items ≡ windows.old.items) }
 {
     let number = tallies.len() as u32;
-    if number == NUMBERS_MAX {
+    if number == NUMBERS_END {
         return Err(AllocError);
     }
     push_both(tallies, windows, sums, window)?;

@@ -47,7 +47,7 @@ impl PlainEngine {
     ghost use Rattle.std.specs.Prelude.{◌≡◌, IfOk};
     ghost use Rattle.pg_patterns.specs.DottedSigns.{dotted_cmp};
     ghost use Rattle.pg_patterns.specs.Inside.PatternMaps.{SignsUpTo};
-    ghost use Rattle.pg_select.specs.Inside.Meanings.{new_engine};
+    ghost use Rattle.pg_select.specs.Inside.engine.Meanings.{new_engine};
     ghost use Rattle.pg_plain.specs.Inside.Engines.{meaning_of};
 
     /// An engine with the greatest sign `signs` whose patterns are those of `start`. Nothing is

@@ -3,7 +3,7 @@ ghost use Rattle.std.specs.Prelude.{◌≡◌, ◌+◌, ◌<◌, ◌≤◌, true
 ghost use Rattle.std.specs.List.{list_all, list_any};
 ghost use Rattle.pg_types.specs.declared.limits.TheConstants.{PATTERN_SIGNS_MAX, WORD_LETTERS_MAX};
 ghost use Rattle.pg_patterns.specs.Values.{applies};
-ghost use Rattle.pg_select.specs.Inside.Positions.{RaisesValues, RaisesCovers, RaisesAt, values_of, covers_of};
+ghost use Rattle.pg_select.specs.Inside.words.Positions.{RaisesValues, RaisesCovers, RaisesAt, values_of, covers_of};
 ghost use Rattle.pg_plain.specs.Inside.Greatest.{greatest_at, entry_value, entry_cover};
 ghost use Rattle.pg_plain.specs.Inside.Strings.{is_string};
 ghost use Rattle.pg_plain.specs.Inside.Walks.{has_signs_at, is_extension, applies_from};

@@ -4,8 +4,8 @@ use Rattle.std.specs.Cmp.Lexicographic.{slice_cmp, nat_list_cmp_total}
 use Rattle.std.specs.FinMap.Entries.{find, find-put}
 use Rattle.std.specs.Ordering.{eq_by_cmp}
 use Rattle.pg_types.specs.Inside.Limits.{counts_limit}
-use Rattle.pg_types.specs.Inside.Counts.{AreSmall, Counts, sums_of, with_weight}
-use Rattle.pg_select.specs.Inside.Meanings.{with_position}
+use Rattle.pg_types.specs.Inside.counting.Counts.{AreSmall, Counts, sums_of, with_weight}
+use Rattle.pg_select.specs.Inside.engine.Meanings.{with_position}
 use Rattle.pg_runs.specs.Inside.Keeping.{AreAtMost}
 
 -- both sums are at most n

@@ -4,7 +4,7 @@ use Rattle.std.specs.Ordering.{is_lt, is_eq, eq_by_cmp}
 use Rattle.std.specs.Cmp.Lexicographic.{nat_list_cmp_total}
 use Rattle.std.specs.Cmp.{tied_itself}
 use Rattle.std.specs.FinMap.Entries.{find}
-use Rattle.pg_types.specs.Inside.Counts.{Counts, windows_above, is_counted}
+use Rattle.pg_types.specs.Inside.counting.Counts.{Counts, windows_above, is_counted}
 use Rattle.pg_driver.proofs.Puts.{cmp}
 
 abbrev Entry : Type 0

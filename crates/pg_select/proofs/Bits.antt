@@ -1,6 +1,6 @@
 -- Covers as numbers.
 use Rattle.std.proofs.Common.{◌≡◌, Bool, true, false, refl, arith}
-use Rattle.pg_select.specs.Inside.Positions.{bit}
+use Rattle.pg_select.specs.Inside.words.Positions.{bit}
 
 -- covers are equal where their numbers are
 pub same_bits : (a b : Bool) → bit a ≡ bit b → a ≡ b

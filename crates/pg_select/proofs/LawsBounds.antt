@@ -11,8 +11,8 @@ use Rattle.pg_patterns.specs.DottedSigns.{dotted_cmp}
 use Rattle.pg_patterns.specs.Inside.DottedOrder.{dotted_exact}
 use Rattle.pg_patterns.specs.Values.{value_of, raise, largest}
 use Rattle.pg_select.specs.declared.pass.Pass.{Pass}
-use Rattle.pg_select.specs.Inside.Laws.{raised_all, hopeless_all}
-use Rattle.pg_select.specs.Inside.LawsSteps.{CoversUpTo, IsBelow, IsUpTo, patterns_after_pass, hopeless_after_pass}
+use Rattle.pg_select.specs.Inside.laws.Laws.{raised_all, hopeless_all}
+use Rattle.pg_select.specs.Inside.laws.Steps.{CoversUpTo, IsBelow, IsUpTo, patterns_after_pass, hopeless_after_pass}
 use Rattle.pg_select.specs.CountedPositions.{Minima, Candidate, counted_positions, tally}
 use Rattle.pg_select.specs.Windows.{Patterns, Hopeless}
 use Rattle.pg_select.proofs.LawsClosed.{all_weaker}

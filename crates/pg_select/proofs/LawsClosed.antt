@@ -15,8 +15,8 @@ use Rattle.pg_select.specs.Statuses.{status_at, position_weight}
 use Rattle.pg_select.specs.Windows.{Hopeless, window, fits, is_covered}
 use Rattle.pg_select.specs.declared.pass.Pass.{Pass}
 use Rattle.pg_select.specs.CountedPositions.{Minima, CountedPosition, Candidate, counts_as, counted_at, counted_positions_at, counted_positions, same_signs, candidates, good_of, bad_of, tally}
-use Rattle.pg_select.specs.Inside.WordCounts.{counted_positions_in}
-use Rattle.pg_select.specs.Inside.Laws.{IsLater, raised_all, hopeless_all}
+use Rattle.pg_select.specs.Inside.words.WordCounts.{counted_positions_in}
+use Rattle.pg_select.specs.Inside.laws.Laws.{IsLater, raised_all, hopeless_all}
 use Rattle.pg_select.proofs.LawsTally.{same_window, counted_as}
 use Rattle.pg_select.proofs.LawsValues.{covered_raised, covered_hopeless}
 use Rattle.pg_select.proofs.LawsCandidates.{all_candidates, applies_itself}

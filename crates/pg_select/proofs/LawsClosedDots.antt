@@ -8,7 +8,7 @@ use Rattle.pg_types.specs.declared.marks.Mark.TheVariants.{Nothing, Error, Misse
 use Rattle.pg_dict.specs.Word.{Word}
 use Rattle.pg_patterns.specs.Values.{applies, greatest_value, value_at}
 use Rattle.pg_patterns.proofs.Joins.{only}
-use Rattle.pg_select.specs.Inside.Laws.{IsLater}
+use Rattle.pg_select.specs.Inside.laws.Laws.{IsLater}
 use Rattle.pg_select.specs.Statuses.{is_odd, status, status_at}
 use Rattle.pg_select.specs.Windows.{Hopeless, window, fits, is_covered, Patterns}
 use Rattle.pg_select.specs.declared.pass.Pass.{Pass}
@@ -17,9 +17,9 @@ use Rattle.pg_select.proofs.LawsLater.{none_at_level, counted_back}
 use Rattle.pg_select.proofs.LawsLonger.{counted_behind, counted_before}
 use Rattle.pg_select.proofs.LawsClosed.{later_after_pass}
 use Rattle.pg_select.proofs.LawsTally.{is_counted_window}
-use Rattle.pg_select.specs.Inside.LawsSteps.{CoversUpTo, IsBelow, IsUpTo, candidate_at, is_candidate, patterns_after_pass, hopeless_after_pass}
-use Rattle.pg_select.specs.Inside.LawsClosedDots.{closed_at_next_length}
-use Rattle.pg_select.specs.Inside.LawsClosedDots.{is_good, pass_at, Tells, IsDone, closed_after, Stays}
+use Rattle.pg_select.specs.Inside.laws.Steps.{CoversUpTo, IsBelow, IsUpTo, candidate_at, is_candidate, patterns_after_pass, hopeless_after_pass}
+use Rattle.pg_select.specs.Inside.laws.ClosedDots.{closed_at_next_length}
+use Rattle.pg_select.specs.Inside.laws.ClosedDots.{is_good, pass_at, Tells, IsDone, closed_after, Stays}
 use Rattle.pg_select.proofs.LawsLengths.{length_step, nothing_covered, fits_parts, fits_from}
 use Rattle.pg_select.proofs.LawsRaised.{counted_uncovered, values_after, covers_after}
 

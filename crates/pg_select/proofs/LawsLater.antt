@@ -12,8 +12,8 @@ use Rattle.pg_select.specs.Statuses.{is_odd, status, status_at, position_weight}
 use Rattle.pg_select.specs.Windows.{Hopeless, window, fits, is_covered}
 use Rattle.pg_select.specs.declared.pass.Pass.{Pass}
 use Rattle.pg_select.specs.CountedPositions.{Minima, counts_as, counted_at, counted_positions_at, counted_positions}
-use Rattle.pg_select.specs.Inside.WordCounts.{counted_positions_in}
-use Rattle.pg_select.specs.Inside.Laws.{IsLater}
+use Rattle.pg_select.specs.Inside.words.WordCounts.{counted_positions_in}
+use Rattle.pg_select.specs.Inside.laws.Laws.{IsLater}
 use Rattle.pg_select.proofs.LawsTally.{counted_as}
 use Rattle.pg_select.proofs.LawsValues.{raised_to, covered_raised, covered_hopeless}
 

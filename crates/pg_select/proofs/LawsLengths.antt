@@ -5,7 +5,7 @@ use Rattle.std.proofs.lemmas.Bool.{and_parts, and_from, le-leb, leb-true, or_lef
 use Rattle.pg_patterns.specs.Values.{stands_at, applies}
 use Rattle.pg_select.specs.Windows.{Hopeless, window, fits, is_covered, Patterns}
 use Rattle.pg_select.proofs.LawsLonger.{stands_wider}
-use Rattle.pg_select.specs.Inside.LawsSteps.{CoversUpTo, IsBelow}
+use Rattle.pg_select.specs.Inside.laws.Steps.{CoversUpTo, IsBelow}
 use Rattle.std.specs.Cmp.{both_ways}
 
 -- what a window that fits has: its place, and its length

@@ -10,7 +10,7 @@ use Rattle.pg_select.specs.Statuses.{status_at}
 use Rattle.pg_select.specs.Windows.{Hopeless, window, fits, is_covered}
 use Rattle.pg_select.specs.declared.pass.Pass.{Pass}
 use Rattle.pg_select.specs.CountedPositions.{Minima, counts_as, counted_at, counted_positions}
-use Rattle.pg_select.specs.Inside.Laws.{longer_behind, longer_before}
+use Rattle.pg_select.specs.Inside.laws.Laws.{longer_behind, longer_before}
 use Rattle.pg_select.proofs.LawsLater.{some_parts, some_from, uncovered_back, closed_more}
 
 -- what a part of a word has at a place, where it has so much

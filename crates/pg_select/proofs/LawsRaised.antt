@@ -13,18 +13,18 @@ use Rattle.pg_translate.specs.Reach.{positions}
 use Rattle.pg_patterns.specs.DottedSigns.{dotted_cmp}
 use Rattle.pg_patterns.specs.Values.{raise, applies, stands_at, value_at}
 use Rattle.pg_patterns.proofs.Joins.{only}
-use Rattle.pg_select.specs.Inside.Laws.{raised_all, hopeless_all}
+use Rattle.pg_select.specs.Inside.laws.Laws.{raised_all, hopeless_all}
 use Rattle.pg_select.specs.Statuses.{status_at, position_weight}
 use Rattle.pg_select.specs.Windows.{Hopeless, window, fits, is_covered, Patterns}
 use Rattle.pg_select.specs.declared.pass.Pass.{Pass}
 use Rattle.pg_select.specs.CountedPositions.{Minima, CountedPosition, Candidate, counts_as, counted_positions_at, counted_positions, same_signs, candidates, tally}
-use Rattle.pg_select.specs.Inside.WordCounts.{counted_positions_in}
+use Rattle.pg_select.specs.Inside.words.WordCounts.{counted_positions_in}
 use Rattle.pg_select.proofs.LawsTally.{same_window, counted_as, is_counted_window, candidates_are_counted}
 use Rattle.pg_select.proofs.LawsValues.{raised_value, covered_raised, covered_hopeless}
 use Rattle.pg_select.proofs.LawsClosed.{is_among}
 use Rattle.pg_select.proofs.LawsLonger.{part_length}
 use Rattle.pg_select.proofs.LawsCandidates.{all_candidates, all_flat, applies_itself}
-use Rattle.pg_select.specs.Inside.LawsSteps.{candidate_at, is_candidate, patterns_after_pass, hopeless_after_pass}
+use Rattle.pg_select.specs.Inside.laws.Steps.{candidate_at, is_candidate, patterns_after_pass, hopeless_after_pass}
 use Rattle.pg_select.proofs.LawsLengths.{fits_parts}
 
 pub same_itself : (u : List ℕ) → same_signs u u ≡ true

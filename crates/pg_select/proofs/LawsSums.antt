@@ -20,10 +20,10 @@ use Rattle.pg_select.specs.Statuses.{status_at, position_weight}
 use Rattle.pg_select.specs.Windows.{Hopeless, window}
 use Rattle.pg_select.specs.declared.pass.Pass.{Pass}
 use Rattle.pg_select.specs.CountedPositions.{Minima, CountedPosition, counted_at, counted_positions_at, counted_positions, same_signs, with_window, candidates, good_of, bad_of}
-use Rattle.pg_select.specs.Inside.WordCounts.{counted_positions_in}
+use Rattle.pg_select.specs.Inside.words.WordCounts.{counted_positions_in}
 use Rattle.pg_select.specs.Sums.{weight_of, marks_in, totals}
 use Rattle.pg_select.specs.Inside.SumSteps.{is_found, is_error, is_missed}
-use Rattle.pg_select.specs.Inside.Laws.{AreFew, positions_in}
+use Rattle.pg_select.specs.Inside.laws.Laws.{AreFew, positions_in}
 use Rattle.pg_select.proofs.LawsTally.{cmp, counted_as, keys_length}
 
 -- a weight is within its limit

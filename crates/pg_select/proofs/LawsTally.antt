@@ -12,9 +12,9 @@ use Rattle.std.proofs.lemmas.List.Sums.{sum_by-cons}
 use Rattle.pg_types.proofs.BoolFacts.{equal_is}
 use Rattle.pg_patterns.proofs.Ordered.{sorted_at}
 use Rattle.pg_select.specs.CountedPositions.{CountedPosition, Candidate, same_signs, with_window, candidates, good_of, bad_of, tally}
-use Rattle.pg_types.specs.Inside.Counts.{Counts, sums_of, with_weight}
-use Rattle.pg_select.specs.Inside.Meanings.{with_position}
-use Rattle.pg_select.specs.Inside.Laws.{entry_of}
+use Rattle.pg_types.specs.Inside.counting.Counts.{Counts, sums_of, with_weight}
+use Rattle.pg_select.specs.Inside.engine.Meanings.{with_position}
+use Rattle.pg_select.specs.Inside.laws.Laws.{entry_of}
 
 abbrev pub cmp : List ℕ → List ℕ → Ordering
 cmp = slice_cmp nat_cmp

@@ -13,7 +13,7 @@ pub struct WordState {
 }
 
 impl Model for WordState {
-    ghost use Rattle.pg_select.specs.Inside.Positions.{Positions};
+    ghost use Rattle.pg_select.specs.Inside.words.Positions.{Positions};
 
     ghost Value = { Positions };
 
@@ -23,7 +23,7 @@ impl Model for WordState {
 impl WordState {
     ghost use Rattle.std.specs.Prelude.{◌≡◌, ◌+◌, ◌<◌, false, slice_set, slice_index, slice_index_or, replicate};
     ghost use Rattle.pg_types.specs.declared.limits.TheConstants.{WORD_LETTERS_MAX};
-    ghost use Rattle.pg_select.specs.Inside.Positions.{bit, values_of, covers_of, RaisesAt};
+    ghost use Rattle.pg_select.specs.Inside.words.Positions.{bit, values_of, covers_of, RaisesAt};
 
     /// Every value is 0, and nothing is covered.
     pub fn new() -> WordState

@@ -12,9 +12,8 @@ use Rattle.pg_types.specs.declared.refusals.ReadingError.TheVariants as reader
 use Rattle.pg_types.specs.declared.refusals.Kind.TheVariants.{TranslateTooLong, ParametersTooLong, PatternsTooLong, DictionaryTooLong}
 use Rattle.pg_types.specs.Lines.{lines, pieces_at, is_line_feed, without_cr}
 use Rattle.pg_types.specs.Parameters.{parameters, parameters_of, items, demands, refusal_from}
-use Rattle.pg_types.specs.Inside.Parts.{refusal_of_item}
 use Rattle.pg_types.specs.Reading.{unless, refusal_at as refused_in}
-use Rattle.pg_types.specs.Inside.Answers.{Fails, Gives}
+use Rattle.pg_types.specs.Inside.reading.Answers.{Fails, Gives}
 use Rattle.pg_outside.specs.Content.{FileMap, FilesShown, file_at}
 use Rattle.pg_outside.specs.FilesCalls.{Reads}
 use Rattle.pg_outside.specs.Inside.ToldFiles.{IsCut}
@@ -71,13 +70,13 @@ abbrev pub IsReadByFront : {Y : Type 0} → (List ℕ → Result Y Refusal) → 
 IsReadByFront parse = IsReadUpTo FILE_MAX parse
 
 pub parameters-front : IsReadByFront parameters
-parameters-front whole = limited (Err (refusal_of_item 0 ParametersTooLong)) (λ bytes. unless (refusal_from 1 (demands (items bytes)) (items bytes)) (parameters_of (items bytes))) FILE_MAX whole
+parameters-front whole = limited (Err (refused_in 0 ParametersTooLong 0)) (λ bytes. unless (refusal_from 1 (demands (items bytes)) (items bytes)) (parameters_of (items bytes))) FILE_MAX whole
 
 pub words-front : (t : Alphabet) → IsReadByFront (words t)
 words-front t whole = limited (Err (refused_in 0 DictionaryTooLong 0)) (λ bytes. of_lines (line_words 1) t Dictionary (lines bytes)) FILE_MAX whole
 
 pub start-front : (t : Alphabet) → IsReadByFront (start t)
-start-front t whole = limited (Err (record { kind = PatternsTooLong; line = 0; column = 0 }))
+start-front t whole = limited (Err (refused_in 0 PatternsTooLong 0))
     (λ bytes. of_lines (λ ls. map_of_entries (flat_map line_entries ls)) t Patterns (lines bytes)) FILE_MAX whole
 
 -- a text that has a byte has a piece

@@ -8,7 +8,7 @@ pub trait Maker {
     ghost use Rattle.std.specs.Prelude.{◌≡◌, ◌≤◌, IfOk};
     ghost use Rattle.pg_types.specs.declared.limits.TheConstants.{SIGNS_MAX};
     ghost use Rattle.pg_patterns.specs.Inside.PatternMaps.{SignsUpTo};
-    ghost use Rattle.pg_select.specs.Inside.Meanings.{new_engine};
+    ghost use Rattle.pg_select.specs.Inside.engine.Meanings.{new_engine};
 
     /// The engines that it makes.
     type Made: Engine + Drop;

@@ -18,8 +18,8 @@ use pg_translate::Table;
 use pg_types::{Params, Totals};
 use std::alloc::{AllocError, Global};
 
-/// What totals cost, beside the totals.
-fn priced(totals: Totals, bad: u32, missed: u32) -> SweepRow
+/// The totals with what they cost.
+fn with_cost(totals: Totals, bad: u32, missed: u32) -> SweepRow
     requires small { IsSmallFor FOLDS_MAX totals }
     requires prices { (bad ≤ PRICE_MAX) × (missed ≤ PRICE_MAX) }
     ensures { result
@@ -67,7 +67,7 @@ pub fn sweep<K: Maker>(
     let mut rows = Vec::new(alloc);
     'sets: for i in 0..sets.len() {
         let totals = totals_of_set(alloc, maker, &inputs, &sets[i])?;
-        rows.push(priced(totals, bad, missed))?;
+        rows.push(with_cost(totals, bad, missed))?;
     }
     Ok(Sweep::new(rows))
 }

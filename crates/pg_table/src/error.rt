@@ -8,7 +8,7 @@ use thiserror::Error;
 /// Why no table is made.
 #[derive(Debug, Drop, Error)]
 pub enum TableError {
-    /// The file would have more than [`TABLE_MAX`](crate::TABLE_MAX) bytes.
+    /// The file would have more than [`TABLE_MAX`](pg_types::packed_table::TABLE_MAX) bytes.
     #[error("the table is too long")]
     TooLong,
     /// There was not enough memory.

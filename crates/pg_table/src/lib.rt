@@ -4,13 +4,11 @@
 
 mod error;
 pub mod laws;
-mod limits;
 mod parts;
 mod text;
 mod view;
 
 pub use error::TableError;
-pub use limits::TABLE_MAX;
 pub use text::table_text;
 pub use view::TableView;
 pub use view::totals::table_totals;

@@ -5,7 +5,7 @@ ghost use Rattle.pg_types.specs.declared.limits.TheConstants.{SIGNS_MAX};
 ghost use Rattle.pg_types.specs.Placement.{top};
 ghost use Rattle.pg_patterns.specs.Inside.PatternMaps.{IsPatternMap, SignsUpTo};
 ghost use Rattle.pg_table.specs.declared.error.TableError.TheVariants.{TooLong};
-ghost use Rattle.pg_table.specs.declared.limits.TheConstants.{CELL_LEN, HEAD_LEN, RECORD_LEN, TABLE_MAX};
+ghost use Rattle.pg_types.specs.declared.packed_table.TheConstants.{CELL_LEN, HEAD_LEN, RECORD_LEN, TABLE_MAX};
 ghost use Rattle.pg_table.specs.Forms.{is_well_formed};
 ghost use Rattle.pg_table.specs.Inside.Laws.{HasEntries};
 ghost use Rattle.pg_table.specs.Inside.text.PackedTrie.{IsEntered};
@@ -16,14 +16,13 @@ mod entering;
 mod row;
 
 use crate::error::TableError;
-use crate::limits::{CELL_LEN, HEAD_LEN, RECORD_LEN, TABLE_MAX};
 use crate::parts::cell::Cell;
-use crate::parts::head::SIGNATURE;
 use crate::parts::numbers::{push_u16, push_u32};
-use crate::text::entering::{Packed, enter_all};
+use crate::text::entering::{PackedTrie, enter_all};
 use crate::text::row::table_cells;
 use pg_outputs::Outputs;
 use pg_patterns::PatternSet;
+use pg_types::packed_table::{CELL_LEN, HEAD_LEN, RECORD_LEN, SIGNATURE, TABLE_MAX};
 use std::alloc::{AllocError, Global};
 
 /// The packed table of patterns, where `signs` is the greatest sign.
@@ -51,7 +50,7 @@ fn packed_text(
     alloc: Global,
     signs: u16,
     patterns: &PatternSet,
-    packed: &Packed,
+    packed: &PackedTrie,
 ) -> Result<Vec<u8>, TableError>
     requires signs { (1 ≤ signs) × (signs ≤ SIGNS_MAX) }
     requires known { SignsUpTo signs patterns.now }
@@ -70,7 +69,7 @@ fn packed_text(
 }
 
 /// Whether the table has more than [`TABLE_MAX`] bytes.
-fn is_too_long(packed: &Packed) -> bool
+fn is_too_long(packed: &PackedTrie) -> bool
     ensures { IsTrue result
         ↔ (TABLE_MAX < HEAD_LEN + CELL_LEN * (top packed.now.cells.families + 1)
         + RECORD_LEN * length packed.now.outputs) }

@@ -2,7 +2,7 @@
 ghost use Rattle.std.specs.Prelude.{◌≡◌, ◌+◌, ◌-◌, ◌<◌, ◌≤◌, ◌&&◌, true, false, ◌⊎◌, ℕ, [], ◌∷◌, length, slice_index, slice_index_or, slice_range, All, IfSome, MatchOption};
 ghost use Rattle.std.specs.List.{list_all, range_with_len};
 ghost use Rattle.pg_types.specs.declared.limits.TheConstants.{SIGNS_MAX, WORD_LETTERS_MAX};
-ghost use Rattle.pg_table.specs.declared.limits.TheConstants.{CELL_LEN, RECORD_LEN};
+ghost use Rattle.pg_types.specs.declared.packed_table.TheConstants.{CELL_LEN, RECORD_LEN};
 ghost use Rattle.pg_table.specs.Lookups.{cell_has_sign, table_value};
 ghost use Rattle.pg_table.specs.Inside.view.ListsOf.{list_in};
 ghost use Rattle.pg_table.specs.Forms.{head_of, has_head, cell_at, is_sound_cell, is_sound_record, is_well_formed};
@@ -11,7 +11,6 @@ ghost use Rattle.pg_table.specs.Inside.Extents.{cell_start, record_start, read_r
 pub mod totals;
 mod walks;
 
-use crate::limits::{CELL_LEN, RECORD_LEN};
 use crate::parts::cell::{Cell, cell_start};
 use crate::parts::head::Head;
 use crate::parts::record::{is_sound_record, read_record, record_start};
@@ -19,6 +18,7 @@ use crate::view::walks::walk;
 use pg_dict::WordRef;
 use pg_select::WordState;
 use pg_types::Sign;
+use pg_types::packed_table::{CELL_LEN, RECORD_LEN};
 use std::marker::Model;
 
 /// A packed table in borrowed bytes.

@@ -9,7 +9,7 @@ use Rattle.pg_translate.specs.Alphabets.{Alphabet}
 use Rattle.pg_translate.specs.Reach.{reach, positions}
 use Rattle.pg_dict.specs.Word.{Word}
 use Rattle.pg_dict.specs.Inside.SoundWords.{IsWord, SignsAtMost}
-use Rattle.pg_types.specs.Inside.Counts.{SignsWithin}
+use Rattle.pg_types.specs.Inside.counting.Counts.{SignsWithin}
 use Rattle.pg_patterns.specs.Values.{value_at}
 use Rattle.pg_select.specs.Statuses.{status}
 use Rattle.pg_select.specs.Windows.{Patterns}

@@ -1,7 +1,7 @@
 //! A system whose arguments are given and whose files may fail.
 ghost use Rattle.std.specs.Prelude.{◌≤◌, length, IfOk};
 
-use crate::scripted::{Broken, Call, ScriptedFile, refused};
+use crate::scripted::{Broken, Call, ScriptedFile, failure};
 use std::alloc::Allocator;
 use std::env::FillError;
 use std::fs::{Metadata, OpenOptions};
@@ -116,7 +116,7 @@ impl<'a, R: rt::Files> rt::Files for ScriptedSystem<'a, R> {
 
     fn rename(&self, from: &str, to: &str) -> io::Result<()> {
         if self.broken == Broken::Rename {
-            return Err(refused());
+            return Err(failure());
         }
         self.system.rename(from, to)
     }

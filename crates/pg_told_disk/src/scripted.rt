@@ -38,7 +38,7 @@ pub struct ScriptedFile<'a, F: Drop> {
 }
 
 /// The reason of a call that fails.
-pub fn refused() -> Error {
+pub fn failure() -> Error {
     Error::from(ErrorKind::Other)
 }
 
@@ -61,13 +61,13 @@ impl<'a, F: Drop> ScriptedFile<'a, F> {
         match call {
             Call::Takes(most) => Ok(*most),
             Call::Interrupted => Err(Error::from(ErrorKind::Interrupted)),
-            Call::Fails => Err(refused()),
+            Call::Fails => Err(failure()),
         }
     }
 
     fn check(&self, step: Broken) -> io::Result<()> {
         if self.broken == step {
-            return Err(refused());
+            return Err(failure());
         }
         Ok(())
     }

@@ -4,7 +4,7 @@ use Rattle.pg_translate.specs.Gaps.{last_else}
 use Rattle.std.specs.Option.{option_map}
 use Rattle.pg_types.specs.declared.marks.Layout.{Layout}
 use Rattle.pg_types.specs.Placement.{Families}
-use Rattle.pg_select.specs.Inside.Meanings.{Meaning}
+use Rattle.pg_select.specs.Inside.engine.Meanings.{Meaning}
 use Rattle.pg_driver.specs.declared.records.LevelRecord.{LevelRecord}
 use Rattle.pg_driver.specs.Accounts.{begun_count}
 use Rattle.pg_driver.specs.Layouts.{families_at_end}

@@ -7,8 +7,8 @@ use Rattle.pg_types.specs.declared.refusals.Refusal.{Refusal}
 use Rattle.pg_types.specs.declared.refusals.ReadingError.{ReadingError}
 use Rattle.pg_types.specs.declared.refusals.ReadingError.TheVariants.{Refused, Memory}
 use Rattle.pg_types.specs.Lines.{lines}
-use Rattle.pg_types.specs.Inside.Parts.{first_refusal}
-use Rattle.pg_types.specs.Inside.Answers.{Fails}
+use Rattle.pg_types.specs.Inside.reading.Parts.{first_refusal}
+use Rattle.pg_types.specs.Inside.reading.Answers.{Fails}
 use Rattle.pg_translate.specs.declared.index.Index.{Index}
 use Rattle.pg_translate.specs.Inside.spellings.FirstSpellings.{letters_in}
 use Rattle.pg_translate.specs.Tables.{ListedSpelling, spelling_with_sign, spelling_check, spellings_at}

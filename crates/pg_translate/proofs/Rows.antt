@@ -5,6 +5,7 @@ use Rattle.pg_types.specs.declared.marks.Mark.TheVariants.{Error, Missed, Found,
 use Rattle.pg_types.specs.declared.refusals.Kind.{Kind}
 use Rattle.pg_types.specs.declared.refusals.Kind.TheVariants.{BadMinima, BadMark, BadSpelling, SpellingClash}
 use Rattle.pg_types.specs.declared.refusals.Refusal.{Refusal}
+use Rattle.pg_types.specs.Reading.{refusal_at}
 use Rattle.pg_translate.specs.declared.items.Place.TheVariants.{Dictionary, Patterns}
 use Rattle.pg_translate.specs.Alphabets.{Alphabet, letters_of, spelling_of}
 use Rattle.pg_translate.specs.Tables.{table, default_alphabet}
@@ -22,7 +23,7 @@ of_lines texts = table (concat (map ended texts))
 
 -- the refusal of a translate file
 abbrev refused : Kind → ℕ → ℕ → Result Alphabet Refusal
-refused kind line column = Err (record { kind = kind; line = line; column = column })
+refused kind line column = Err (refusal_at line kind column)
 
 -- a table with both minima 1 and the default marks
 abbrev of_letters : List (ℕ × List ℕ) → Result Alphabet Refusal

@@ -12,7 +12,7 @@ use Rattle.pg_types.specs.declared.refusals.Kind.TheVariants.{BadMinima, BadMark
 use Rattle.pg_types.specs.declared.refusals.Refusal.{Refusal}
 use Rattle.pg_types.specs.Lines.{pieces_at}
 use Rattle.pg_types.specs.Parameters.{number, has_byte}
-use Rattle.pg_types.specs.Inside.Parts.{first_refusal}
+use Rattle.pg_types.specs.Inside.reading.Parts.{first_refusal}
 use Rattle.pg_translate.specs.declared.head.TheConstants.{DEFAULT_LEFT, DEFAULT_RIGHT, DEFAULT_ERROR, DEFAULT_MISSED, DEFAULT_FOUND, DEFAULT_DONT_CARE}
 use Rattle.pg_translate.specs.Alphabets.{Alphabet}
 use Rattle.pg_translate.specs.Spellings.{is_space}

@@ -11,8 +11,8 @@ use Rattle.pg_types.specs.declared.refusals.ReadingError.TheVariants.{Refused, M
 use Rattle.pg_types.specs.Lines.{lines}
 use Rattle.std.specs.Prelude.{slice_get}
 use Rattle.pg_types.specs.Reading.{unless}
-use Rattle.pg_types.specs.Inside.Parts.{first_refusal}
-use Rattle.pg_types.specs.Inside.Answers.{Fails}
+use Rattle.pg_types.specs.Inside.reading.Parts.{first_refusal}
+use Rattle.pg_types.specs.Inside.reading.Answers.{Fails}
 use Rattle.pg_translate.specs.declared.head.Head.{Head}
 use Rattle.pg_translate.specs.declared.index.Index.{Index}
 use Rattle.pg_translate.specs.Spellings.{is_spelling, clash}

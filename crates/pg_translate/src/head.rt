@@ -1,5 +1,6 @@
 //! The head of a translate file: the minima and the mark bytes.
 ghost use Rattle.std.specs.Prelude.{◌≡◌, ◌<◌, ◌≤◌, ◌∷◌, [], true, false, not, List, MatchOption, IfSome, MatchResult, Ok, Err, IfOk, OnOk, ◌+◌};
+ghost use Rattle.pg_types.specs.Reading.{refusal_at};
 ghost use Rattle.pg_translate.specs.Tables as table;
 ghost use Rattle.pg_translate.specs.Inside.tables.Checks as checks;
 
@@ -144,7 +145,7 @@ fn minima(line: &[u8]) -> Result<(u8, u8), Refusal>
 
 /// The refusal of the mark in a column of the head.
 fn bad_mark(column: u32) -> Refusal
-    ensures { result ≡ record { kind = Kind.BadMark; line = 1; column = column } }
+    ensures { result ≡ refusal_at 1 Kind.BadMark column }
 {
     Refusal {
         kind: Kind::BadMark,

@@ -2,8 +2,9 @@
 ghost use Rattle.std.specs.Prelude.{◌≡◌, ◌==◌, position, IfOk, ℕ, ◌+◌, ◌-◌, ◌*◌, ◌<◌, ◌≤◌, ◌++◌, ◌∷◌, [], List, length, map, MatchOption, IfSome, OnOk, Ok, Err};
 ghost use Rattle.std.specs.List.{list_any};
 ghost use Rattle.pg_types.specs.Lines.{lines};
-ghost use Rattle.pg_types.specs.Inside.Parts.{first_refusal};
-ghost use Rattle.pg_types.specs.Inside.Answers.{Gives};
+ghost use Rattle.pg_types.specs.Reading.{refusal_at};
+ghost use Rattle.pg_types.specs.Inside.reading.Parts.{first_refusal};
+ghost use Rattle.pg_types.specs.Inside.reading.Answers.{Gives};
 ghost use Rattle.pg_translate.specs.Inside.spellings.FirstSpellings.{letters_in};
 ghost use Rattle.pg_translate.specs.Inside.spellings.Fronts.{pairs, IsIndex};
 ghost use Rattle.pg_translate.specs.Spellings as spelling;
@@ -18,8 +19,8 @@ use pg_types::{FILE_MAX, Kind, ReadingError, Refusal, SIGNS_MAX, next_line};
 use std::alloc::Global;
 
 /// A refusal with its place.
-pub(crate) fn refused(kind: Kind, line: u32, column: u32) -> ReadingError
-    ensures { result ≡ Refused (record { kind = kind; line = line; column = column }) }
+pub(crate) fn refusal(kind: Kind, line: u32, column: u32) -> ReadingError
+    ensures { result ≡ Refused (refusal_at line kind column) }
 {
     ReadingError::Refused(Refusal { kind, line, column })
 }
@@ -81,13 +82,13 @@ fn add_spelling(
     ensures sound { OnOk result (IsIndex index.new) }
 {
     if letter > SIGNS_MAX - 1 {
-        return Err(refused(Kind::TooManyLetters, line, 1));
+        return Err(refusal(Kind::TooManyLetters, line, 1));
     }
     if !is_spelling(marks, text) {
-        return Err(refused(Kind::BadSpelling, line, column));
+        return Err(refusal(Kind::BadSpelling, line, column));
     }
     if index.clashes(letter + 1, text) {
-        return Err(refused(Kind::SpellingClash, line, column));
+        return Err(refusal(Kind::SpellingClash, line, column));
     }
     index.add(letter + 1, text)?;
     Ok(())

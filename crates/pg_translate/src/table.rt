@@ -8,7 +8,7 @@ pub mod laws;
 use crate::head::{Head, MINIMUM_MAX};
 use crate::index::Index;
 use crate::items::{Item, Place};
-use crate::reading::{read_letters, refused};
+use crate::reading::{read_letters, refusal};
 use crate::spellings::SPELLING_MAX;
 use crate::weights::weight_of;
 use pg_types::{EDGE, FILE_MAX, Kind, Mark, ReadingError, SIGNS_MAX, Sign, next_line};
@@ -43,7 +43,7 @@ impl Table {
     ghost use Rattle.pg_translate.specs.Alphabets.{letters_of, spelling_of};
     ghost use Rattle.pg_translate.specs.Inside.items.MarkBytes.{mark_byte_of};
     ghost use Rattle.pg_translate.specs.Inside.tables.Rules.{KeepsRules};
-    ghost use Rattle.pg_types.specs.Inside.Answers.{Gives};
+    ghost use Rattle.pg_types.specs.Inside.reading.Answers.{Gives};
     ghost use Rattle.pg_translate.specs.Tables.{default_alphabet, table};
     ghost use Rattle.pg_translate.specs.Tokens.{letter_at, mark_at, is_ended};
     ghost use Rattle.pg_translate.specs.Tokens as token;
@@ -70,7 +70,7 @@ impl Table {
             return Ok(Table::default_letters(alloc)?);
         };
         if bytes.len() > FILE_MAX {
-            return Err(refused(Kind::TranslateTooLong, 0, 0));
+            return Err(refusal(Kind::TranslateTooLong, 0, 0));
         }
         let head = Head::read(first)?;
         let index = read_letters(alloc, &head.marks(), rest)?;

@@ -8,7 +8,7 @@ pub mod head;
 mod raise;
 
 use crate::lists::head::{Head, in_four_bytes};
-use crate::lists::raise::raised;
+use crate::lists::raise::head_with;
 use pg_outputs::Outputs;
 use std::alloc::AllocError;
 use std::marker::Model;
@@ -18,7 +18,7 @@ const SLOTS: usize = 64;
 
 /// A head, and that of its list with a value at a dot. The value 0 says that there is none.
 #[derive(Clone, Copy)]
-pub struct Raised {
+pub struct RaisedHead {
     pub value: u8,
     /// How many signs stand before the value.
     pub dot: u8,
@@ -37,7 +37,7 @@ pub struct Raised {
 #[derive(Drop)]
 pub struct Lists {
     outputs: Outputs,
-    raised: [Raised; SLOTS],
+    raised: [RaisedHead; SLOTS],
 }
 
 impl Model for Lists {
@@ -57,7 +57,7 @@ impl Lists {
     pub fn new(outputs: Outputs) -> Lists
         ensures { result ≡ outputs }
     {
-        let none = Raised {
+        let none = RaisedHead {
             value: 0,
             dot: 0,
             before: 0,
@@ -91,8 +91,8 @@ impl Lists {
         if last.value == value && last.dot == dot && last.before == head {
             return Ok(last.after);
         }
-        let after = raised(&mut self.outputs, head, value, dot)?;
-        self.raised[slot] = Raised {
+        let after = head_with(&mut self.outputs, head, value, dot)?;
+        self.raised[slot] = RaisedHead {
             value,
             dot,
             before: head,

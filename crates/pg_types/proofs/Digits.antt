@@ -5,7 +5,7 @@ use Rattle.std.specs.Char.{is_ascii_digit}
 use Rattle.std.proofs.lemmas.List.{drop_more}
 use Rattle.std.proofs.lemmas.Bool.{cases_Bool}
 use Rattle.pg_types.specs.Parameters.{with_digit}
-use Rattle.pg_types.specs.Inside.Parts.{number_from}
+use Rattle.pg_types.specs.Inside.reading.Parts.{number_from}
 
 min_fold : (t : ℕ) (digits : List ℕ) (n : ℕ) → min (fold with_digit (min n t) digits) t ≡ min (fold with_digit n digits) t
 min_fold t [] n = omega arith

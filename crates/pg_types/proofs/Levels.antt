@@ -8,11 +8,10 @@ use Rattle.std.proofs.lemmas.List.FromFn.{map-range_with_len_more}
 use Rattle.pg_types.specs.declared.limits.TheConstants.{FILE_MAX, LEVEL_MAX}
 use Rattle.pg_types.specs.declared.refusals.Refusal.{Refusal}
 use Rattle.pg_types.specs.declared.refusals.Kind.TheVariants.{ParametersTooLong}
-use Rattle.pg_types.specs.Reading.{unless}
+use Rattle.pg_types.specs.Reading.{refusal_at, unless}
 use Rattle.pg_types.specs.declared.parameters.LevelParams.{LevelParams}
 use Rattle.pg_types.specs.Parameters.{items, level_demands, level_of, level_items, number_at, demands, refusal_from, Parameters, parameters}
-use Rattle.pg_types.specs.Inside.Parts.{refusal_of_item}
-use Rattle.pg_types.specs.Inside.ItemSteps.{Demand, number_between, demands_of_levels, levels_of}
+use Rattle.pg_types.specs.Inside.reading.ItemSteps.{Demand, number_between, demands_of_levels, levels_of}
 
 -- what the level with the number i demands, and what it is
 abbrev pub demands_at : List (List ℕ) → ℕ → List Demand
@@ -94,14 +93,14 @@ read_behind xs = levels_behind xs (range_with_len 0 (level_count xs))
 abbrev pub read_levels_behind : List ℕ → Result Parameters Refusal
 read_levels_behind bytes =
     let xs = items bytes in
-    if nat_lt FILE_MAX (length bytes) then Err (refusal_of_item 0 ParametersTooLong)
+    if nat_lt FILE_MAX (length bytes) then Err (refusal_at 0 ParametersTooLong 0)
     else unless (refusal_from 1 (number_between 1 LEVEL_MAX ∷ number_between 1 LEVEL_MAX ∷ demands_of_levels (level_count xs) (drop 2 xs)) xs)
     (record { start = number_at xs 0; finish = number_at xs 1; levels = levels_of (level_count xs) (drop 2 xs) })
 
 pub read_as : (bytes : List ℕ) → read_levels_behind bytes ≡ parameters bytes
 read_as bytes =
     let xs = items bytes in
-    sym (λ k. if nat_lt FILE_MAX (length bytes) then Err (refusal_of_item 0 ParametersTooLong)
+    sym (λ k. if nat_lt FILE_MAX (length bytes) then Err (refusal_at 0 ParametersTooLong 0)
     else unless (refusal_from 1 (number_between 1 LEVEL_MAX ∷ number_between 1 LEVEL_MAX ∷ demanded_behind xs k) xs)
     (record { start = number_at xs 0; finish = number_at xs 1; levels = read_behind xs k }))
 

@@ -6,8 +6,8 @@ use Rattle.std.specs.Cmp.Lexicographic.{nat_list_cmp_total}
 use Rattle.std.specs.List.{slice_get}
 use Rattle.std.specs.FinMap.Entries.{find, put, is_sorted, length-put}
 use Rattle.pg_types.proofs.StringEntries.{order, same_itself, equal_or_not, find_put_same, find_put_other, find_below, head_below, tail_sorted}
-use Rattle.pg_types.specs.Inside.NumberedWindows.{Windows, HasNumber}
-use Rattle.pg_types.specs.Inside.NumberedStrings.{Numbers, AreNumbers, string_with, strings_to, by_number}
+use Rattle.pg_types.specs.Inside.counting.NumberedWindows.{Windows, HasNumber}
+use Rattle.pg_types.specs.Inside.counting.NumberedStrings.{Numbers, AreNumbers, string_with, strings_to, by_number}
 
 -- an element before the seam, and the one at it
 pub get_left : {A : Type 0} (xs ys : List A) (k : ℕ) (x : A) → slice_get xs k ≡ Some x → slice_get (xs ++ ys) k ≡ Some x

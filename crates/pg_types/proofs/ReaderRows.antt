@@ -4,7 +4,7 @@ use Rattle.pg_types.specs.declared.refusals.Kind.{Kind}
 use Rattle.pg_types.specs.declared.refusals.Kind.TheVariants.{BadNumber, OutOfRange, Missing, Extra}
 use Rattle.pg_types.specs.Lines.{lines}
 use Rattle.pg_types.specs.Parameters.{parameters}
-use Rattle.pg_types.specs.Inside.Parts.{refusal_of_item}
+use Rattle.pg_types.specs.Reading.{refusal_at}
 
 -- an LF ends a line, one CR before it goes, and a last piece is a line too
 lf_and_cr : lines (codes "a" ++ 10 ∷ 13 ∷ 10 ∷ codes "b" ++ 13 ∷ 13 ∷ 10 ∷ codes "c") ≡ codes "a" ∷ [] ∷ (codes "b" ++ 13 ∷ []) ∷ codes "c" ∷ []
@@ -36,7 +36,7 @@ separators : parameters (codes "002" ++ 9 ∷ 13 ∷ 10 ∷ 10 ∷ codes "1") �
 separators = refl
 
 abbrev fails_with : List ℕ → Kind → ℕ → Type 0
-fails_with bytes kind i = parameters bytes ≡ Err (refusal_of_item i kind)
+fails_with bytes kind i = parameters bytes ≡ Err (refusal_at i kind 0)
 
 weight_of_0 : fails_with (codes "1 1 2 2 1 0 5") OutOfRange 6
 weight_of_0 = refl

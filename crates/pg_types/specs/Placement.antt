@@ -139,13 +139,13 @@ entered_families n strings = fold (enter n) (root n) strings
 abbrev pub keeps_cell : List (List ℕ) → List ℕ → Bool
 keeps_cell strings q = nat_le (length q) 1 || list_any (λ t. starts_with nat_eq t q) strings
 
--- a family at a level's end, or none where no sign is left
-abbrev pub kept_family : List (List ℕ) → List ℕ × Family → Families
-kept_family strings e = elim (filter (λ s. keeps_cell strings (e.0 ++ s ∷ [])) e.1.signs) [
+-- a family with the signs whose strings pass the test, or none where no sign does
+abbrev pub kept_family : (List ℕ → Bool) → List ℕ × Family → Families
+kept_family keep e = elim (filter (λ s. keep (e.0 ++ s ∷ [])) e.1.signs) [
   | [] ↦ []
   | x ∷ xs ↦ (e.0, record { base = e.1.base; signs = x ∷ xs }) ∷ []
 ]
 
 -- the families at a level's end, where these are the strings of the patterns
 abbrev pub kept_families : List (List ℕ) → Families → Families
-kept_families strings fs = flat_map (kept_family strings) fs
+kept_families strings fs = flat_map (kept_family (keeps_cell strings)) fs

@@ -1,9 +1,9 @@
 //! The items of a parameters file, taken one after the other.
 ghost use Rattle.std.specs.Prelude.{◌≡◌, ◌<◌, ◌≤◌, ◌+◌, ◌++◌, ◌∷◌, [], List, length, drop, min, option_map, IfOk, OnOk, None, Some, IfErr, IfSome, MatchOption, not, position, ◌-◌, nat_lt, slice_index};
 ghost use Rattle.std.specs.List.{position_or_len};
-ghost use Rattle.pg_types.specs.Inside.ItemSteps.{Demand, number_between, Meets, Misses};
+ghost use Rattle.pg_types.specs.Reading.{refusal_at};
+ghost use Rattle.pg_types.specs.Inside.reading.ItemSteps.{Demand, number_between, Meets, Misses};
 ghost use Rattle.pg_types.specs.Parameters.{items, is_separator as is_separator_byte, number, number_at, level_demands, level_of, refusal_from, surplus, is_answer as is_answer_item};
-ghost use Rattle.pg_types.specs.Inside.Parts.{refusal_of_item};
 ghost use Rattle.pg_types.specs.Inside.Ranges.{IsLevel};
 
 use crate::limits::{COST_MAX, ITEMS_MAX, LENGTH_MAX};
@@ -179,7 +179,7 @@ impl<'a> Items<'a> {
 
     /// The refusal of the next item.
     fn refusal(&self, kind: Kind) -> Refusal
-        ensures { result ≡ refusal_of_item self.now.item_number kind }
+        ensures { result ≡ refusal_at self.now.item_number kind 0 }
     {
         Refusal {
             kind,

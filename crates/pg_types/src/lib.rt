@@ -1,6 +1,6 @@
 //! What every crate of PatGen speaks of: signs, weights and limits, the status of a position,
-//! totals, a layout's numbers, refusals, lines, numbers in a text, the parameters of a run, and the
-//! cursor over windows.
+//! totals, a layout's numbers, refusals, lines, numbers in a text, the sizes of a packed table, the
+//! parameters of a run, and the cursor over windows.
 #![tactic(auto)]
 
 pub mod cursor;
@@ -9,6 +9,7 @@ pub mod limits;
 pub mod lines;
 pub mod marks;
 pub mod numbers;
+pub mod packed_table;
 pub mod parameters;
 pub mod refusals;
 mod sums;
@@ -17,7 +18,8 @@ pub use cursor::Cursor;
 pub use items::{is_answer, is_separator, next_item};
 pub use limits::{
     COST_MAX, EDGE, FAR_BELOW, FEW_SIGNS, FILE_MAX, FOLDS_MAX, ITEMS_MAX, LENGTH_MAX, LEVEL_MAX,
-    PATTERN_SIGNS_MAX, PRICE_MAX, SETS_MAX, SIGNS_MAX, Sign, WEIGHT_MAX, WORD_LETTERS_MAX, Weight,
+    NUMBERS_END, PATTERN_SIGNS_MAX, PRICE_MAX, SETS_MAX, SIGNS_MAX, Sign, WEIGHT_MAX,
+    WORD_LETTERS_MAX, Weight,
 };
 pub use lines::next_line;
 pub use marks::{Layout, Mark, Totals};

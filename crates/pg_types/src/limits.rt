@@ -36,6 +36,9 @@ pub const WORD_LETTERS_MAX: usize = 100;
 /// The most signs that a pattern may have.
 pub const PATTERN_SIGNS_MAX: usize = 32;
 
+/// The number that a count gives to a window is below this one.
+pub const NUMBERS_END: u32 = u32::MAX;
+
 /// In the pattern trie a family of up to so many signs is placed from base 1 on, and a greater one
 /// near the greatest used cell.
 pub const FEW_SIGNS: usize = 4;

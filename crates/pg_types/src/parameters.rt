@@ -1,8 +1,8 @@
 //! The parameters of a run, and the reader of the file that holds them.
 ghost use Rattle.std.specs.Prelude.{◌≡◌, ◌<◌, ◌≤◌, ◌+◌, ◌-◌, ◌*◌, nat_lt, length, map, drop, slice_get, IfOk, IfErr, OnOk, All};
-ghost use Rattle.pg_types.specs.Inside.ItemSteps.{levels_of, levels_refusal};
+ghost use Rattle.pg_types.specs.Inside.reading.ItemSteps.{levels_of, levels_refusal};
 ghost use Rattle.pg_types.specs.Inside.Limits.{items_end};
-ghost use Rattle.pg_types.specs.Inside.Answers.{Gives, FailsBy};
+ghost use Rattle.pg_types.specs.Inside.reading.Answers.{Gives, FailsBy};
 ghost use Rattle.pg_types.specs.Parameters.{items as items_of, surplus, parameters};
 ghost use Rattle.pg_types.specs.Inside.Ranges.{IsLevel};
 

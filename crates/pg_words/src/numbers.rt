@@ -1,6 +1,6 @@
 //! Numbers in the words of a command.
 ghost use Rattle.std.specs.Prelude.{◌≡◌, ◌≤◌, IfSome};
-ghost use Rattle.pg_types.specs.Inside.Parts.{number_from};
+ghost use Rattle.pg_types.specs.Inside.reading.Parts.{number_from};
 ghost use Rattle.pg_words.specs.Requests.{number_within as number_within_of};
 ghost use Rattle.pg_words.specs.Inside.Numbers.{at_most};
 

@@ -31,7 +31,7 @@ fn inputs_of<'a>(words: &SweepWords<'a>) -> ArrayVec<&'a str, INPUTS_MAX>
 }
 
 /// The command of a sweep, where it takes these names.
-fn taken(words: SweepWords<'_>) -> Option<Command<'_>>
+fn sweep_command(words: SweepWords<'_>) -> Option<Command<'_>>
     requires { KeepsSweepLimits words }
     ensures value { option_map asked_by result
         ≡ where_taken_of (sweep_inputs (sweep_of words.entry))
@@ -69,7 +69,7 @@ pub fn sweep(words: &[String]) -> Option<Command<'_>>
     }
     let (dict, patterns) = (dict.as_str(), patterns.as_str());
     let (output, translate) = (output.as_str(), translate.as_str());
-    taken(SweepWords {
+    sweep_command(SweepWords {
         dict,
         patterns,
         output,

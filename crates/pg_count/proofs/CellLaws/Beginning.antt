@@ -3,13 +3,13 @@ use Rattle.std.proofs.Common.{◌≡◌, ℕ, ◌≤◌, List, [], map, length, 
 use Rattle.std.specs.List.{range_with_len, slice_get}
 use Rattle.std.specs.FinMap.Entries.{find}
 use Rattle.pg_types.specs.declared.limits.TheConstants.{LENGTH_MAX}
-use Rattle.pg_types.specs.Inside.NumberedWindows.{Windows, HasNumber, no_counts}
+use Rattle.pg_types.specs.Inside.counting.NumberedWindows.{Windows, HasNumber, no_counts}
 use Rattle.pg_types.proofs.StringEntries.{order}
 use Rattle.pg_cells.specs.Inside.linked.ValuedFamilies.{ValuedFamilies}
 use Rattle.pg_cells.specs.Inside.linked.AreValuedFamilies.{AreValuedFamilies}
 use Rattle.pg_cells.specs.Inside.families.Root.{root_alone}
 use Rattle.pg_count.specs.Inside.Counting.{Tally, counting_of, counts_in, sums_of_tally, number_of_tally, window_at}
-use Rattle.pg_count.specs.Inside.Leaves.{AreCounting, AreShort}
+use Rattle.pg_count.specs.Inside.cells.Leaves.{AreCounting, AreShort}
 use Rattle.pg_count.proofs.CellLaws.Counted.{seen_root, none_seen, seen_there}
 use Rattle.pg_count.proofs.CellLaws.Mapped.{root_strings}
 

@@ -10,17 +10,18 @@ use Rattle.pg_cells.specs.Inside.linked.ValuedFamilies.{ValuedFamilies}
 use Rattle.pg_cells.specs.Inside.linked.AreValuedFamilies.{AreValuedFamilies}
 use Rattle.pg_cells.specs.Inside.families.Root.{root_alone}
 use Rattle.pg_cells.proofs.StringMaps.{order, equal_or_not, find_put_same, find_put_other}
-use Rattle.pg_count.specs.declared.store.tally_list.TheConstants.{NO_TALLY, NUMBERS_END}
+use Rattle.pg_types.specs.declared.limits.TheConstants.{NUMBERS_END}
+use Rattle.pg_count.specs.declared.store.tally_list.TheConstants.{NO_TALLY}
 use Rattle.std.specs.Option.{option_map, is_some}
 use Rattle.std.specs.FinMap.Entries.{length-put}
 use Rattle.std.specs.Cmp.Lexicographic.{nat_list_cmp_total}
 use Rattle.pg_count.specs.Inside.Counting.{Tally, seen_in, sums_of_tally, number_of_tally, counts_in, numbers_in}
 use Rattle.pg_count.proofs.CellLaws.Counted.{seen_there, seen_put, seen_again, seen_blank, seen_moved, sorted_seen}
-use Rattle.pg_count.specs.Inside.Leaves.{Adds, PushesDown}
+use Rattle.pg_count.specs.Inside.cells.Leaves.{Adds, PushesDown}
 use Rattle.pg_count.proofs.LeafLaws.Fronts.{found_put}
 use Rattle.pg_types.proofs.StringEntries.{find_mapped}
 use Rattle.pg_cells.proofs.PlacedFamily.{not_longer}
-use Rattle.pg_count.specs.Inside.CellNumbers.{tally_by_number, tallied_families, AreCellNumbers}
+use Rattle.pg_count.specs.Inside.cells.CellNumbers.{tally_by_number, tallied_families, AreCellNumbers}
 use Rattle.pg_count.proofs.CellLaws.Mapped.{mapped, found_mapped, none_mapped, unmapped, sorted_mapped, root_mapped, valued_families_mapped, put_from, root_blank}
 
 abbrev Sums : Type 0

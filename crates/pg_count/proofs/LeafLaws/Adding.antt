@@ -4,12 +4,12 @@ use Rattle.std.proofs.lemmas.Option.{slice_get_within}
 use Rattle.std.specs.List.{slice_get}
 use Rattle.std.specs.FinMap.Entries.{find, put}
 use Rattle.pg_cells.specs.Inside.linked.ValuedFamilies.{ValuedFamilies}
-use Rattle.pg_types.specs.Inside.Counts.{with_weight, with_count}
-use Rattle.pg_types.specs.Inside.NumberedWindows.{Windows, HasNumber, with_counted}
+use Rattle.pg_types.specs.Inside.counting.Counts.{with_weight, with_count}
+use Rattle.pg_types.specs.Inside.counting.NumberedWindows.{Windows, HasNumber, with_counted}
 use Rattle.pg_types.proofs.Numbering.{get_left, get_seam}
 use Rattle.pg_types.proofs.StringEntries.{order}
 use Rattle.pg_count.specs.Inside.Counting.{Counting, Tally, counting_of}
-use Rattle.pg_count.specs.Inside.Leaves.{AreLeaves, HasTally, Sets}
+use Rattle.pg_count.specs.Inside.cells.Leaves.{AreLeaves, HasTally, Sets}
 use Rattle.pg_count.proofs.LeafLaws.Fronts.{which_number}
 use Rattle.pg_count.proofs.LeafLaws.Wholes.{counts, counts_there, none_counted, set_counts}
 

@@ -2,15 +2,15 @@
 use Rattle.std.proofs.Common.{◌≡◌, ◌≢◌, ℕ, ◌+◌, ◌<◌, ◌≤◌, ◌⊎◌, inl, inr, List, [], ◌∷◌, ◌++◌, length, Option, None, Some, refl, sym, ◌∙◌, ap, subst, arith, length-append}
 use Rattle.std.proofs.lemmas.List.{append_assoc, append-nil}
 use Rattle.std.specs.FinMap.Entries.{find, put}
-use Rattle.pg_types.specs.Inside.Counts.{SignsWithin}
-use Rattle.pg_types.specs.Inside.NumberedWindows.{Windows, HasNumber}
+use Rattle.pg_types.specs.Inside.counting.Counts.{SignsWithin}
+use Rattle.pg_types.specs.Inside.counting.NumberedWindows.{Windows, HasNumber}
 use Rattle.pg_types.proofs.Numbering.{get_left, get_seam}
 use Rattle.pg_types.proofs.StringEntries.{order, equal_or_not, find_put_same, find_put_other}
 use Rattle.pg_cells.specs.Inside.linked.ValuedFamilies.{ValuedFamilies}
 use Rattle.pg_cells.specs.Inside.linked.AreValuedFamilies.{AreValuedFamilies}
 use Rattle.pg_cells.specs.Inside.linked.Walks.{EndsBefore}
 use Rattle.pg_count.specs.Inside.Counting.{Tally, Tallies, numbers_in}
-use Rattle.pg_count.specs.Inside.Leaves.{Adds, AreLeaves, AreLast, AreShort, IsLast, Keeps, PushesDown, Sets}
+use Rattle.pg_count.specs.Inside.cells.Leaves.{Adds, AreLeaves, AreLast, AreShort, IsLast, Keeps, PushesDown, Sets}
 use Rattle.pg_count.proofs.LeafLaws.Fronts.{fronts, found_put, which_number}
 use Rattle.pg_count.proofs.LeafLaws.Wholes.{not_on}
 

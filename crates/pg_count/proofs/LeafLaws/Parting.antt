@@ -6,15 +6,15 @@ use Rattle.std.proofs.lemmas.List.{append_cancel_left, take-append-drop, take_al
 use Rattle.std.specs.FinMap.Entries.{find, put}
 use Rattle.std.specs.List.{list_all}
 use Rattle.pg_types.specs.Inside.Signs.{is_sign}
-use Rattle.pg_types.specs.Inside.Counts.{SignsWithin}
-use Rattle.pg_types.specs.Inside.NumberedWindows.{Windows, HasNumber}
+use Rattle.pg_types.specs.Inside.counting.Counts.{SignsWithin}
+use Rattle.pg_types.specs.Inside.counting.NumberedWindows.{Windows, HasNumber}
 use Rattle.pg_types.specs.Placement.{base_of, cell_of}
 use Rattle.pg_types.proofs.StringEntries.{order, find_put_same, find_put_other}
 use Rattle.pg_cells.specs.Inside.linked.ValuedFamilies.{ValuedFamilies}
 use Rattle.pg_cells.specs.Inside.linked.AreValuedFamilies.{AreValuedFamilies}
 use Rattle.pg_cells.specs.Inside.linked.Walks.{EndsBefore}
 use Rattle.pg_count.specs.Inside.Counting.{Tally, numbers_in}
-use Rattle.pg_count.specs.Inside.Leaves.{Adds, AreLeaves, IsFree, IsLast, IsWay, Keeps, PushesDown, Sets}
+use Rattle.pg_count.specs.Inside.cells.Leaves.{Adds, AreLeaves, IsFree, IsLast, IsWay, Keeps, PushesDown, Sets}
 use Rattle.pg_count.proofs.LeafLaws.Leaves.{longer, more_leaves, more_sets, one_more, pushed_leaves, pushed_keeps, pushed_blank, pushed_there, pushed_other}
 use Rattle.pg_count.proofs.WalkLaws.Ways.{ends_none}
 

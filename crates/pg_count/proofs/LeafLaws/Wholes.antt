@@ -6,14 +6,14 @@ use Rattle.std.specs.declared.cmp.Ordering.TheVariants.{Less}
 use Rattle.std.specs.Ordering.{is_lt}
 use Rattle.std.specs.FinMap.Entries.{find, put, is_sorted, below_all}
 use Rattle.pg_types.specs.declared.limits.TheConstants.{LENGTH_MAX}
-use Rattle.pg_types.specs.Inside.Counts.{Counts, is_counted}
-use Rattle.pg_types.specs.Inside.NumberedWindows.{Windows, AreNumbered, HasNumber}
+use Rattle.pg_types.specs.Inside.counting.Counts.{Counts, is_counted}
+use Rattle.pg_types.specs.Inside.counting.NumberedWindows.{Windows, AreNumbered, HasNumber}
 use Rattle.pg_types.proofs.BoolFacts.{both_halves, first_half, second_half, less_from}
 use Rattle.pg_types.proofs.Numbering.{behind, first_at}
 use Rattle.pg_types.proofs.StringEntries.{order, equal_or_not, same_maps, head_below, tail_sorted, put_from, found_mapped, sorted_mapped, unmapped}
 use Rattle.pg_cells.specs.Inside.linked.ValuedFamilies.{ValuedFamilies}
 use Rattle.pg_count.specs.Inside.Counting.{IsCounting, Tally, seen_in, sums_of_tally, number_of_tally, numbers_in, window_at, wholes, counting_of}
-use Rattle.pg_count.specs.Inside.Leaves.{AreLeaves, HasTally, Keeps, Sets}
+use Rattle.pg_count.specs.Inside.cells.Leaves.{AreLeaves, HasTally, Keeps, Sets}
 use Rattle.pg_count.proofs.CellLaws.Counted.{sorted_seen, seen_there, seen_strings, tally_there}
 use Rattle.pg_count.proofs.LeafLaws.Fronts.{GoesOn, less_longer}
 

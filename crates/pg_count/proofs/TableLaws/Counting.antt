@@ -6,12 +6,12 @@ use Rattle.std.proofs.Math.Seq.{get_or-append_seam}
 use Rattle.std.proofs.lemmas.Option.{slice_get-get_or, slice_get_within}
 use Rattle.std.specs.Cmp.Lexicographic.{nat_list_cmp_total}
 use Rattle.std.specs.FinMap.Entries.{find, put, length-put}
-use Rattle.pg_types.specs.Inside.Counts.{SignsWithin}
-use Rattle.pg_types.specs.Inside.NumberedWindows.{Windows, HasNumber}
+use Rattle.pg_types.specs.Inside.counting.Counts.{SignsWithin}
+use Rattle.pg_types.specs.Inside.counting.NumberedWindows.{Windows, HasNumber}
 use Rattle.pg_types.proofs.Numbering.{get_left, get_seam}
 use Rattle.pg_types.proofs.StringEntries.{order, put_from, same_maps}
 use Rattle.pg_count.specs.Inside.Tables.{AreTabled, index_of, table_counts}
-use Rattle.pg_count.specs.declared.store.tally_list.TheConstants.{NUMBERS_END}
+use Rattle.pg_types.specs.declared.limits.TheConstants.{NUMBERS_END}
 use Rattle.pg_count.proofs.CellLaws.Numbering.{set_other}
 use Rattle.pg_count.proofs.LeafLaws.Fronts.{which_number}
 use Rattle.pg_count.proofs.TableLaws.Indexes.{one_entry}

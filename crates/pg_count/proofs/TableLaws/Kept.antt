@@ -4,12 +4,11 @@ use Rattle.std.proofs.lemmas.List.{length_push}
 use Rattle.std.proofs.lemmas.Bool.{cases_lt}
 use Rattle.std.proofs.lemmas.Option.{slice_get_within}
 use Rattle.std.specs.FinMap.Entries.{find, put}
-use Rattle.pg_types.specs.declared.limits.TheConstants.{LENGTH_MAX, SIGNS_MAX}
-use Rattle.pg_types.specs.Inside.Counts.{SignsWithin, with_count, with_weight}
-use Rattle.pg_types.specs.Inside.NumberedWindows.{Windows, HasNumber}
+use Rattle.pg_types.specs.declared.limits.TheConstants.{LENGTH_MAX, SIGNS_MAX, NUMBERS_END}
+use Rattle.pg_types.specs.Inside.counting.Counts.{SignsWithin, with_count, with_weight}
+use Rattle.pg_types.specs.Inside.counting.NumberedWindows.{Windows, HasNumber}
 use Rattle.pg_types.proofs.StringEntries.{order}
 use Rattle.pg_count.specs.Inside.Tables.{IsTable, index_of, table_counting, table_counts}
-use Rattle.pg_count.specs.declared.store.tally_list.TheConstants.{NUMBERS_END}
 use Rattle.pg_count.specs.declared.table.short.TheConstants.{ENTRIES_MAX}
 use Rattle.pg_count.proofs.LeafLaws.Adding.{counting_with}
 use Rattle.pg_count.proofs.TableLaws.Counting.{again_counts, again_tabled, begun_counts, begun_tabled, new_counts, new_tabled, put_size, room_counts, room_tabled}

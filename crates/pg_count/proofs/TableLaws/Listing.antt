@@ -3,7 +3,7 @@ use Rattle.std.proofs.Common.{◌≡◌, ℕ, ◌-◌, ◌≤◌, Bool, true, fa
 use Rattle.std.proofs.lemmas.Bool.{ltb-false}
 use Rattle.std.specs.List.{cons_option}
 use Rattle.std.proofs.lemmas.Option.{get_or_from_slice_get}
-use Rattle.pg_types.specs.Inside.NumberedWindows.{Windows, AreInOrder}
+use Rattle.pg_types.specs.Inside.counting.NumberedWindows.{Windows, AreInOrder}
 use Rattle.pg_count.specs.Inside.Counting.{window_at}
 use Rattle.pg_count.specs.Inside.Tables.{AreTabled, numbers_in_row, table_counts}
 use Rattle.pg_count.proofs.TableLaws.Stood.{Sums, entry_of}

@@ -3,9 +3,9 @@ use Rattle.std.proofs.Common.{◌≡◌, ℕ, ◌+◌, ◌-◌, ◌≤◌, inl, 
 use Rattle.std.proofs.lemmas.Bool.{cases_eq}
 use Rattle.std.proofs.lemmas.Option.{slice_get_within}
 use Rattle.std.specs.declared.cmp.Ordering.TheVariants.{Less}
-use Rattle.pg_types.specs.Inside.NumberedWindows.{Windows, HasNumber}
+use Rattle.pg_types.specs.Inside.counting.NumberedWindows.{Windows, HasNumber}
 use Rattle.pg_types.proofs.StringEntries.{order}
-use Rattle.pg_count.specs.Inside.Least.{LeastUnder, NoneUnder}
+use Rattle.pg_count.specs.Inside.walks.Least.{LeastUnder, NoneUnder}
 use Rattle.pg_count.specs.Inside.Tables.{AreTabled, index_of}
 use Rattle.pg_count.proofs.TableLaws.Indexes.{rises}
 use Rattle.pg_count.proofs.TableLaws.Stood.{Sums}

@@ -7,7 +7,7 @@ use Rattle.std.specs.Ordering.{is_lt, is_eq, ordering_reverse}
 use Rattle.std.specs.FinMap.{slice_cmp-IsAntisymmetric, nat_cmp-IsAntisymmetric}
 use Rattle.std.specs.FinMap.Entries.{find, is_sorted, below_all, find-where_key, is_sorted-where_key}
 use Rattle.pg_cells.proofs.StringMaps.{order, same_maps}
-use Rattle.pg_types.specs.Inside.Counts.{Counts, windows_above}
+use Rattle.pg_types.specs.Inside.counting.Counts.{Counts, windows_above}
 use Rattle.pg_types.proofs.BoolFacts.{both_halves}
 
 same_from : (q r : List ℕ) → order q r ≡ Equal → q ≡ r

@@ -5,7 +5,7 @@ use Rattle.std.proofs.lemmas.Bool.Decides.{nat_tests}
 use Rattle.std.specs.declared.cmp.Ordering.TheVariants.{Less, Equal, Greater}
 use Rattle.std.specs.Ordering.{nat_cmp, ordering_then}
 use Rattle.pg_cells.proofs.StringMaps.{order}
-use Rattle.pg_count.specs.Inside.Bounds.{first_sign, rest_after}
+use Rattle.pg_count.specs.Inside.walks.Bounds.{first_sign, rest_after}
 
 pub nat_less : (a b : ℕ) → a < b → nat_cmp a b ≡ Less
 nat_less a b lt = grind (arith, nat_tests)

@@ -5,7 +5,7 @@ use Rattle.std.proofs.lemmas.List.Elements.{All-get_or, All-head, All-nil, All-p
 use Rattle.std.proofs.lemmas.List.Folds.{concat-append}
 use Rattle.std.proofs.lemmas.Nat.{row_fits}
 use Rattle.std.specs.List.{All, concat, slice_get}
-use Rattle.pg_types.specs.Inside.NumberedWindows.{Windows, HasNumber}
+use Rattle.pg_types.specs.Inside.counting.NumberedWindows.{Windows, HasNumber}
 use Rattle.pg_count.specs.Inside.WindowRow.{WindowRow, IsRow, first_parts, listed_in, parts}
 
 -- the windows have one length

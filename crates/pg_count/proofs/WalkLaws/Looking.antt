@@ -5,10 +5,10 @@ use Rattle.std.specs.FinMap.Entries.{find, is_sorted}
 use Rattle.pg_cells.specs.Inside.linked.ValuedFamilies.{ValuedFamilies}
 use Rattle.pg_types.proofs.Numbering.{behind, first_at}
 use Rattle.pg_types.proofs.StringEntries.{order, tail_sorted}
-use Rattle.pg_types.specs.Inside.NumberedWindows.{Windows, AreInOrder}
+use Rattle.pg_types.specs.Inside.counting.NumberedWindows.{Windows, AreInOrder}
 use Rattle.pg_count.specs.Inside.Counting.{Tally, Tallies, counting_of, seen_in, number_of_tally, sums_of_tally, window_at, wholes}
-use Rattle.pg_count.specs.Inside.Leaves.{AreLeaves}
-use Rattle.pg_count.specs.Inside.Under.{numbers_under}
+use Rattle.pg_count.specs.Inside.cells.Leaves.{AreLeaves}
+use Rattle.pg_count.specs.Inside.walks.Under.{numbers_under}
 use Rattle.pg_count.proofs.WalkLaws.Walking.{under_all}
 use Rattle.pg_count.proofs.LeafLaws.Wholes.{window_of}
 

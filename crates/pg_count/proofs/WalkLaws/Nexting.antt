@@ -1,13 +1,13 @@
 -- The counts above a window, by the search.
 use Rattle.std.proofs.Common.{◌≡◌, ℕ, List, [], ◌∷◌, Option, Some, sym, ◌∙◌, ap}
 use Rattle.std.specs.FinMap.Entries.{find}
-use Rattle.pg_types.specs.Inside.Counts.{windows_above}
-use Rattle.pg_types.specs.Inside.NumberedWindows.{Windows}
+use Rattle.pg_types.specs.Inside.counting.Counts.{windows_above}
+use Rattle.pg_types.specs.Inside.counting.NumberedWindows.{Windows}
 use Rattle.pg_types.proofs.StringEntries.{order}
 use Rattle.pg_cells.specs.Inside.linked.ValuedFamilies.{ValuedFamilies}
 use Rattle.pg_count.specs.Inside.Counting.{Tally}
-use Rattle.pg_count.specs.Inside.Least.{LeastUnder, NoneUnder}
-use Rattle.pg_count.specs.Inside.Leaves.{AreLeaves}
+use Rattle.pg_count.specs.Inside.walks.Least.{LeastUnder, NoneUnder}
+use Rattle.pg_count.specs.Inside.cells.Leaves.{AreLeaves}
 use Rattle.pg_count.proofs.WalkLaws.Above.{above_none, above_least}
 use Rattle.pg_count.proofs.LeafLaws.Wholes.{counts, counts_back, counts_there, sorted_counts}
 

@@ -9,17 +9,17 @@ use Rattle.std.specs.Cmp.Lexicographic.{nat_list_cmp_total}
 use Rattle.std.specs.Ordering.{ordering_then}
 use Rattle.std.specs.List.{slice_get}
 use Rattle.std.specs.FinMap.Entries.{find}
-use Rattle.pg_types.specs.Inside.Counts.{SignsWithin}
-use Rattle.pg_types.specs.Inside.NumberedWindows.{Windows, HasNumber}
+use Rattle.pg_types.specs.Inside.counting.Counts.{SignsWithin}
+use Rattle.pg_types.specs.Inside.counting.NumberedWindows.{Windows, HasNumber}
 use Rattle.pg_types.specs.Placement.{base_of}
 use Rattle.pg_types.proofs.StringEntries.{order}
 use Rattle.pg_cells.specs.Inside.linked.ValuedFamilies.{ValuedFamilies}
 use Rattle.pg_cells.specs.Inside.linked.Members.{IsNextSign, goes_on}
 use Rattle.pg_cells.proofs.Walking.{ends_before}
-use Rattle.pg_count.specs.Inside.Bounds.{first_sign, rest_after}
+use Rattle.pg_count.specs.Inside.walks.Bounds.{first_sign, rest_after}
 use Rattle.pg_count.specs.Inside.Counting.{Tally}
-use Rattle.pg_count.specs.Inside.Least.{IsToldBy, LeastUnder, NoneUnder}
-use Rattle.pg_count.specs.Inside.Leaves.{AreLeaves, IsLast}
+use Rattle.pg_count.specs.Inside.walks.Least.{IsToldBy, LeastUnder, NoneUnder}
+use Rattle.pg_count.specs.Inside.cells.Leaves.{AreLeaves, IsLast}
 use Rattle.pg_count.proofs.WalkLaws.Bounding.{below_first, nat_equal, nat_greater, rest_decides}
 use Rattle.pg_count.proofs.LeafLaws.Fronts.{fronts}
 use Rattle.pg_count.proofs.LeafLaws.Leaves.{one_more}

@@ -2,14 +2,14 @@
 use Rattle.std.proofs.Common.{◌≡◌, ℕ, ◌+◌, ◌<◌, inl, inr, List, [], ◌∷◌, ◌++◌, length, take, drop, get_or, Option, None, Some, refl, sym, ◌∙◌, ap, arith, length-append, subst}
 use Rattle.std.proofs.lemmas.List.{append_assoc, append_cancel_left, append-nil, take-append-drop, take_all, drop_more, length-take-le, nil_from_length}
 use Rattle.std.specs.FinMap.Entries.{find}
-use Rattle.pg_types.specs.Inside.NumberedWindows.{Windows, HasNumber}
+use Rattle.pg_types.specs.Inside.counting.NumberedWindows.{Windows, HasNumber}
 use Rattle.pg_types.specs.Placement.{cell_of}
 use Rattle.pg_types.proofs.StringEntries.{order}
 use Rattle.pg_cells.specs.Inside.linked.ValuedFamilies.{ValuedFamilies}
 use Rattle.pg_cells.specs.Inside.linked.AreValuedFamilies.{AreValuedFamilies}
 use Rattle.pg_cells.specs.Inside.linked.Walks.{EndsBefore}
 use Rattle.pg_count.specs.Inside.Counting.{Tally}
-use Rattle.pg_count.specs.Inside.Leaves.{AreLeaves, IsWay}
+use Rattle.pg_count.specs.Inside.cells.Leaves.{AreLeaves, IsWay}
 use Rattle.pg_count.proofs.LeafLaws.Fronts.{GoesOn, fronts}
 use Rattle.pg_count.proofs.LeafLaws.Wholes.{not_on}
 

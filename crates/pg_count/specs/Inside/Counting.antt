@@ -7,9 +7,9 @@ use Rattle.std.specs.Cmp.Lexicographic.{slice_cmp}
 use Rattle.std.specs.FinMap.Entries.{find, is_sorted}
 use Rattle.pg_types.specs.declared.limits.TheConstants.{LENGTH_MAX}
 use Rattle.pg_cells.specs.Inside.linked.ValuedFamilies.{ValuedFamilies}
-use Rattle.pg_types.specs.Inside.Counts.{Counts, SignsWithin, is_counted}
-use Rattle.pg_types.specs.Inside.NumberedWindows.{Windows, WindowCounts}
-use Rattle.pg_types.specs.Inside.NumberedStrings.{Numbers}
+use Rattle.pg_types.specs.Inside.counting.Counts.{Counts, SignsWithin, is_counted}
+use Rattle.pg_types.specs.Inside.counting.NumberedWindows.{Windows, WindowCounts}
+use Rattle.pg_types.specs.Inside.counting.NumberedStrings.{Numbers}
 
 -- a count trie: the greatest sign, how many signs a window has, and what the pass has counted
 pub record Counting : Type 0 where

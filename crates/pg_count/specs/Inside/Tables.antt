@@ -1,11 +1,10 @@
 -- A count trie as a table with an entry for each window.
 use Rattle.std.specs.Prelude.{◌≡◌, ℕ, ◌+◌, ◌*◌, ◌-◌, ◌^◌, ◌≤◌, nat_lt, if◌then◌else◌, List, [], ◌∷◌, length, get_or, slice_get, Option, None, Some}
 use Rattle.std.specs.List.{filter_map}
-use Rattle.pg_types.specs.declared.limits.TheConstants.{LENGTH_MAX, SIGNS_MAX}
-use Rattle.pg_types.specs.Inside.Counts.{Counts, SignsWithin}
-use Rattle.pg_types.specs.Inside.NumberedWindows.{Windows, HasNumber}
+use Rattle.pg_types.specs.declared.limits.TheConstants.{LENGTH_MAX, SIGNS_MAX, NUMBERS_END}
+use Rattle.pg_types.specs.Inside.counting.Counts.{Counts, SignsWithin}
+use Rattle.pg_types.specs.Inside.counting.NumberedWindows.{Windows, HasNumber}
 use Rattle.pg_count.specs.Inside.Counting.{Counting, window_at}
-use Rattle.pg_count.specs.declared.store.tally_list.TheConstants.{NUMBERS_END}
 use Rattle.pg_count.specs.declared.table.short.TheConstants.{ENTRIES_MAX}
 
 -- the signs of a string as a number to the base, behind the number that is told already

@@ -1,7 +1,7 @@
 -- The windows of a pass by number, in one row of signs.
 use Rattle.std.specs.Prelude.{◌≡◌, ℕ, zero, suc, ◌≤◌, List, [], ◌∷◌, length, take, drop, All}
 use Rattle.std.specs.List.{concat}
-use Rattle.pg_types.specs.Inside.NumberedWindows.{Windows}
+use Rattle.pg_types.specs.Inside.counting.NumberedWindows.{Windows}
 
 -- how many signs a window has, and the windows by number
 pub record WindowRow : Type 0 where

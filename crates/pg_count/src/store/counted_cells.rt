@@ -3,7 +3,7 @@ ghost use Rattle.std.specs.Prelude.{◌≡◌, ◌+◌, ◌<◌, ◌≤◌, ◌�
 ghost use Rattle.std.specs.FinMap.{find, put};
 ghost use Rattle.std.specs.Cmp.Lexicographic.{slice_cmp};
 ghost use Rattle.std.specs.Ordering.{nat_cmp};
-ghost use Rattle.pg_types.specs.declared.limits.TheConstants.{SIGNS_MAX};
+ghost use Rattle.pg_types.specs.declared.limits.TheConstants.{SIGNS_MAX, NUMBERS_END};
 ghost use Rattle.pg_types.specs.Placement.{cell_of, base_of};
 ghost use Rattle.pg_cells.specs.Inside.families.Adding.{CanTakeSign};
 ghost use Rattle.pg_cells.specs.Inside.linked.AreValuedFamilies.{AreValuedFamilies};
@@ -13,14 +13,13 @@ ghost use Rattle.pg_cells.specs.Inside.linked.Members.{IsNextSign};
 ghost use Rattle.pg_cells.specs.Inside.families.Root.{root_alone};
 ghost use Rattle.pg_cells.specs.Inside.linked.Walks.{IsAt};
 ghost use Rattle.pg_count.specs.Inside.Counting.{Tally, counts_in, numbers_in};
-ghost use Rattle.pg_count.specs.Inside.Leaves.{Adds, AreShort, PushesDown};
-ghost use Rattle.pg_count.specs.declared.store.tally_list.TheConstants.{NUMBERS_END};
+ghost use Rattle.pg_count.specs.Inside.cells.Leaves.{Adds, AreShort, PushesDown};
 
 use crate::store::tally_list::{
-    LATEST_FIRST, NO_TALLY, NUMBERS_END, push_sums, set_sums_at, sums_at, tally_by_number,
+    LATEST_FIRST, NO_TALLY, push_sums, set_sums_at, sums_at, tally_by_number,
 };
 use pg_cells::NearCells;
-use pg_types::Sign;
+use pg_types::{NUMBERS_END, Sign};
 use std::alloc::{AllocError, Global};
 use std::marker::Model;
 
@@ -46,7 +45,7 @@ impl Model for CountedCells {
     ghost use Rattle.std.specs.Prelude.{ℕ, Option};
     ghost use Rattle.std.specs.Coded.{coded_option, coded×, coded_ℕ};
     ghost use Rattle.pg_cells.specs.Inside.linked.ValuedFamilies.{ValuedFamilies, valued_families_code};
-    ghost use Rattle.pg_count.specs.Inside.CellNumbers.{tallied_families, AreCellNumbers};
+    ghost use Rattle.pg_count.specs.Inside.cells.CellNumbers.{tallied_families, AreCellNumbers};
     ghost use Rattle.pg_count.specs.Inside.Counting.{Tally};
 
     ghost Value = { ValuedFamilies (Option Tally) };

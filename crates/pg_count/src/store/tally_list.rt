@@ -1,14 +1,13 @@
 //! The sums of good and bad weights of a string, as one tally of a list.
 ghost use Rattle.std.specs.Prelude.{◌≡◌, ◌+◌, ◌<◌, ◌≤◌, ◌++◌, [], ◌∷◌, length, set, slice_get, Some, IfOk, OnOk, OnErr};
-ghost use Rattle.pg_count.specs.Inside.CellNumbers.{tally_by_number};
+ghost use Rattle.pg_types.specs.declared.limits.TheConstants.{NUMBERS_END};
+ghost use Rattle.pg_count.specs.Inside.cells.CellNumbers.{tally_by_number};
 
+use pg_types::NUMBERS_END;
 use std::alloc::AllocError;
 
 /// This number in a cell says that the string was never counted: tallies are numbered from 1 on.
 pub const NO_TALLY: u32 = 0;
-
-/// The number of each tally is below this one.
-pub const NUMBERS_END: u32 = u32::MAX;
 
 /// What an earlier pass numbered stays only where the numbers of the next pass begin here or
 /// before, so that half of all numbers are left for it.

@@ -1,6 +1,6 @@
 //! The windows of a pass by number.
 ghost use Rattle.std.specs.Prelude.{◌≡◌, ◌-◌, ◌<◌, ◌≤◌, [], ◌∷◌, ◌++◌, length, take, OnOk, OnErr};
-ghost use Rattle.pg_types.specs.Inside.NumberedWindows.{HasNumber};
+ghost use Rattle.pg_types.specs.Inside.counting.NumberedWindows.{HasNumber};
 
 use pg_types::Sign;
 use std::alloc::{AllocError, Global};

@@ -1,6 +1,6 @@
 //! The search for the least window of a table above another.
 ghost use Rattle.std.specs.Prelude.{◌≡◌, ◌+◌, ◌^◌, ◌≤◌, ℕ, List, []};
-ghost use Rattle.pg_count.specs.Inside.Least.{IsNearest};
+ghost use Rattle.pg_count.specs.Inside.walks.Least.{IsNearest};
 ghost use Rattle.pg_count.specs.Inside.Tables.{AreTabled};
 ghost use Rattle.pg_count.specs.declared.table.short.TheConstants.{ENTRIES_MAX};
 

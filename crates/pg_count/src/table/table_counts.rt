@@ -1,24 +1,21 @@
 //! The windows that are counted in a pass, in a table.
-ghost use Rattle.std.specs.Prelude.{◌≡◌, ℕ, ◌+◌, ◌^◌, ◌≤◌, ◌<◌, true, List, [], ◌∷◌, ◌++◌, length, slice_get, Some, None, IfOk, IfSome, OnOk, OnErr, IsOk, MatchOption};
+ghost use Rattle.std.specs.Prelude.{◌≡◌, ℕ, ◌+◌, ◌^◌, ◌≤◌, ◌<◌, [], ◌∷◌, ◌++◌, length, slice_get, Some, None, IfOk, IfSome, OnOk, OnErr};
 ghost use Rattle.std.specs.FinMap.{put};
 ghost use Rattle.std.specs.Cmp.Lexicographic.{slice_cmp};
 ghost use Rattle.std.specs.Ordering.{nat_cmp};
-ghost use Rattle.pg_types.specs.declared.limits.TheConstants.{LENGTH_MAX, SIGNS_MAX, WEIGHT_MAX};
-ghost use Rattle.pg_types.specs.Inside.Counts.{AreSmall, SignsWithin, counted_sums, sums_of, with_weight, is_counted, windows_above};
-ghost use Rattle.pg_types.specs.Inside.NumberedWindows.{AreInOrder, AreNumbered, HasNumber, no_counts, with_counted};
-ghost use Rattle.pg_count.specs.Inside.Counting.{IsCounting};
-ghost use Rattle.pg_count.specs.declared.store.tally_list.TheConstants.{NUMBERS_END};
+ghost use Rattle.pg_types.specs.declared.limits.TheConstants.{LENGTH_MAX, SIGNS_MAX, NUMBERS_END};
+ghost use Rattle.pg_types.specs.Inside.counting.Counts.{SignsWithin, counted_sums};
+ghost use Rattle.pg_types.specs.Inside.counting.NumberedWindows.{HasNumber, no_counts};
 ghost use Rattle.pg_count.specs.declared.table.short.TheConstants.{ENTRIES_MAX};
 
-use crate::store::tally_list::{
-    LATEST_FIRST, NUMBERS_END, push_sums, set_sums_at, sums_at, tally_by_number,
-};
+use crate::store::tally_list::{LATEST_FIRST, push_sums, set_sums_at, sums_at, tally_by_number};
 use crate::store::window_list::WindowList;
 use crate::table::above::least_above;
 use crate::table::index::index_of;
 use crate::table::room::make_room;
 use crate::table::told::push_numbers;
-use pg_types::{Cursor, Sign, Weight, add_weight};
+use crate::window_counter::WindowCounter;
+use pg_types::{Cursor, NUMBERS_END, Sign, Weight, add_weight};
 use std::alloc::{AllocError, Global};
 use std::marker::Model;
 
@@ -88,106 +85,6 @@ impl TableCounts {
         self.signs
     }
 
-    /// How many signs a window has.
-    pub fn window_len(&self) -> u8
-        ensures len { result ≡ self.now.len }
-        ensures kept { IsCounting self.now }
-        ensures numbered { AreNumbered self.now.counted.windows self.now.counted.counts }
-    {
-        self.windows.window_len()
-    }
-
-    /// Adds `weight` to the good or the bad sum of a window, and gives the window's number: its
-    /// index, from 0, among the windows of the pass in the order in which they were first counted.
-    /// A window that is counted already takes no memory.
-    #[inline(always)]
-    pub fn add_numbered(
-        &mut self,
-        window: &[Sign],
-        good: bool,
-        weight: Weight,
-    ) -> Result<u32, AllocError>
-        requires len { length window.now ≡ self.old.len }
-        requires signs { SignsWithin self.old.signs window.now }
-        requires weight { weight ≤ WEIGHT_MAX }
-        requires small { AreSmall
-            (with_weight (sums_of self.old.counted.counts window.now) good weight) }
-        ensures ok { OnOk result (self.new
-            ≡ record self.old { counted = with_counted self.old.counted window.now good weight }) }
-        ensures number { IfOk result
-            (λ number. HasNumber self.new.counted.windows window.now number) }
-        ensures there { is_counted self.old.counted.counts window.now ≡ true → IsOk result }
-        ensures err { OnErr result (self.new ≡ self.old) }
-    {
-        match self.find(window) {
-            Some((number, sums)) => {
-                let sums = add_weight(sums, good, u64::from(weight));
-                set_sums_at(&mut self.tallies, number, sums);
-                Ok(number)
-            }
-            None => {
-                let sums = add_weight((0, 0), good, u64::from(weight));
-                let number = self.count_new(window, sums)?;
-                Ok(number)
-            }
-        }
-    }
-
-    /// The good and the bad sum of a window; none exactly where it is not counted. It takes no
-    /// memory.
-    pub fn sums(&self, window: &[Sign]) -> Option<(u64, u64)>
-        requires len { length window.now ≡ self.now.len }
-        requires signs { SignsWithin self.now.signs window.now }
-        ensures { result ≡ counted_sums self.now.counted.counts window.now }
-    {
-        let (_, sums) = self.find(window)?;
-        Some(sums)
-    }
-
-    /// The good and the bad sum of the window with the number. It takes no memory.
-    pub fn sums_of(&self, number: u32) -> (u64, u64)
-        requires { number < length self.now.counted.windows }
-        ensures { (u : List ℕ) → HasNumber self.now.counted.windows u number
-            → counted_sums self.now.counted.counts u ≡ Some result }
-    {
-        sums_at(self.tallies.as_slice(), number)
-    }
-
-    /// Appends the numbers of the counted windows in the order of signs, by one walk along the
-    /// table. Refused: some of them may have been appended.
-    pub fn order(&self, out: &mut Vec<u32>) -> Result<(), AllocError>
-        ensures { OnOk result ((ns : List ℕ) × (out.new.items ≡ out.old.items ++ ns)
-            × AreInOrder self.now.counted.windows self.now.counted.counts ns) }
-    {
-        push_numbers(self.numbers.as_slice(), self.first, out)
-    }
-
-    /// Moves the cursor to the least counted window that is greater, and gives its good and bad
-    /// sums; none exactly where there is no such window, and the cursor stays. It takes no memory.
-    pub fn next(&self, at: &mut Cursor) -> Option<(u64, u64)>
-        ensures { MatchOption result ((windows_above at.old self.now.counted.counts ≡ [])
-            × (at.new ≡ at.old)) (λ sums. windows_above at.old self.now.counted.counts
-            ≡ (at.new, sums) ∷ windows_above at.new self.now.counted.counts) }
-    {
-        let number = least_above(
-            self.numbers.as_slice(),
-            self.first,
-            &self.windows,
-            self.signs,
-            at,
-        )?;
-        at.set(self.windows.get(number));
-        Some(sums_at(self.tallies.as_slice(), number))
-    }
-
-    /// The signs of the window with the number, lent from the list of windows.
-    pub fn window(&self, number: u32) -> &[Sign]
-        requires { number < length self.now.counted.windows }
-        ensures { HasNumber self.now.counted.windows result.now number }
-    {
-        self.windows.get(number)
-    }
-
     // The number and the sums of a window, or `None` where it is not counted.
     #[inline(always)]
     fn find(&self, window: &[Sign]) -> Option<(u32, (u64, u64))>
@@ -232,6 +129,64 @@ impl TableCounts {
                 Err(AllocError)
             }
         }
+    }
+}
+
+impl WindowCounter for TableCounts {
+    ghost counting = { λ c. c };
+
+    fn window_len(&self) -> u8 {
+        self.windows.window_len()
+    }
+
+    #[inline(always)]
+    fn add(
+        &mut self,
+        window: &[Sign],
+        good: bool,
+        weight: Weight,
+    ) -> Result<u32, AllocError> {
+        match self.find(window) {
+            Some((number, sums)) => {
+                let sums = add_weight(sums, good, u64::from(weight));
+                set_sums_at(&mut self.tallies, number, sums);
+                Ok(number)
+            }
+            None => {
+                let sums = add_weight((0, 0), good, u64::from(weight));
+                let number = self.count_new(window, sums)?;
+                Ok(number)
+            }
+        }
+    }
+
+    fn sums(&self, window: &[Sign]) -> Option<(u64, u64)> {
+        let (_, sums) = self.find(window)?;
+        Some(sums)
+    }
+
+    fn sums_of(&self, number: u32) -> (u64, u64) {
+        sums_at(self.tallies.as_slice(), number)
+    }
+
+    fn order(&self, out: &mut Vec<u32>) -> Result<(), AllocError> {
+        push_numbers(self.numbers.as_slice(), self.first, out)
+    }
+
+    fn next(&self, at: &mut Cursor) -> Option<(u64, u64)> {
+        let number = least_above(
+            self.numbers.as_slice(),
+            self.first,
+            &self.windows,
+            self.signs,
+            at,
+        )?;
+        at.set(self.windows.get(number));
+        Some(sums_at(self.tallies.as_slice(), number))
+    }
+
+    fn window(&self, number: u32) -> &[Sign] {
+        self.windows.get(number)
     }
 }
 

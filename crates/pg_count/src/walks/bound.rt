@@ -1,6 +1,6 @@
 //! A bound of strings, sign by sign.
 ghost use Rattle.std.specs.Prelude.{◌≡◌};
-ghost use Rattle.pg_count.specs.Inside.Bounds.{first_sign, rest_after};
+ghost use Rattle.pg_count.specs.Inside.walks.Bounds.{first_sign, rest_after};
 
 use pg_types::{EDGE, Sign};
 

@@ -3,9 +3,9 @@ ghost use Rattle.std.specs.Prelude.{◌≡◌, ◌+◌, ◌-◌, ◌<◌, ◌≤
 ghost use Rattle.pg_types.specs.Placement.{base_of, cell_of};
 ghost use Rattle.pg_cells.specs.Inside.linked.AreValuedFamilies.{AreValuedFamilies};
 ghost use Rattle.pg_cells.specs.Inside.linked.Members.{IsNextSign};
-ghost use Rattle.pg_count.specs.Inside.Bounds.{first_sign};
-ghost use Rattle.pg_count.specs.Inside.Least.{IsNearest, IsToldBy};
-ghost use Rattle.pg_count.specs.Inside.Leaves.{AreLeaves, AreShort, IsLast};
+ghost use Rattle.pg_count.specs.Inside.walks.Bounds.{first_sign};
+ghost use Rattle.pg_count.specs.Inside.walks.Least.{IsNearest, IsToldBy};
+ghost use Rattle.pg_count.specs.Inside.cells.Leaves.{AreLeaves, AreShort, IsLast};
 
 use crate::store::counted_cells::CountedCells;
 use crate::store::window_list::WindowList;

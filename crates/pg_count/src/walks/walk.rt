@@ -3,8 +3,8 @@ ghost use Rattle.std.specs.Prelude.{◌≡◌, ◌+◌, ◌<◌, ℕ, true, List
 ghost use Rattle.pg_types.specs.Placement.{base_of, cell_of};
 ghost use Rattle.pg_cells.specs.Inside.linked.AreValuedFamilies.{AreValuedFamilies};
 ghost use Rattle.pg_cells.specs.Inside.linked.Members.{IsNextSign, goes_on};
-ghost use Rattle.pg_count.specs.Inside.Leaves.{AreLast, AreShort, IsLast};
-ghost use Rattle.pg_count.specs.Inside.Under.{numbers_under};
+ghost use Rattle.pg_count.specs.Inside.cells.Leaves.{AreLast, AreShort, IsLast};
+ghost use Rattle.pg_count.specs.Inside.walks.Under.{numbers_under};
 
 use crate::store::counted_cells::CountedCells;
 use pg_types::Sign;

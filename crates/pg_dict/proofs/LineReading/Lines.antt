@@ -9,8 +9,8 @@ use Rattle.std.proofs.lemmas.List.{append-nil}
 use Rattle.pg_types.specs.declared.refusals.Refusal.{Refusal}
 use Rattle.pg_types.specs.declared.refusals.ReadingError.{ReadingError}
 use Rattle.pg_types.specs.declared.refusals.ReadingError.TheVariants.{Refused, Memory}
-use Rattle.pg_types.specs.Inside.Parts.{both_parts}
-use Rattle.pg_types.specs.Inside.Answers.{Fails}
+use Rattle.pg_types.specs.Inside.reading.Parts.{both_parts}
+use Rattle.pg_types.specs.Inside.reading.Answers.{Fails}
 use Rattle.pg_translate.specs.Alphabets.{Alphabet}
 use Rattle.pg_types.specs.declared.limits.TheConstants.{FILE_MAX}
 use Rattle.pg_types.specs.Lines.{lines}

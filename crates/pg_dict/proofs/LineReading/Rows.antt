@@ -4,6 +4,7 @@ use Rattle.std.specs.List.{concat}
 use Rattle.pg_types.specs.declared.refusals.Kind.{Kind}
 use Rattle.pg_types.specs.declared.refusals.Kind.TheVariants.{DictionaryCharacter, WordTooLong, BadWeight}
 use Rattle.pg_types.specs.declared.refusals.Refusal.{Refusal}
+use Rattle.pg_types.specs.Reading.{refusal_at}
 use Rattle.pg_translate.specs.Alphabets.{Alphabet}
 use Rattle.pg_dict.specs.Word.{Word}
 use Rattle.pg_dict.specs.Words.{words}
@@ -22,7 +23,7 @@ of_lines lines = words abc (concat (map ended lines))
 
 -- the refusal of a dictionary
 abbrev refusal : Kind → ℕ → ℕ → Result (List Word) Refusal
-refusal kind line column = Err (record { kind = kind; line = line; column = column })
+refusal kind line column = Err (refusal_at line kind column)
 
 -- a position without mark and number in a word of this weight, and one with a hyphen
 abbrev plain : ℕ → Bool × ℕ × Bool

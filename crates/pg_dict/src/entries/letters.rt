@@ -2,7 +2,7 @@
 ghost use Rattle.std.specs.Prelude.{◌≡◌, ◌<◌, ◌≤◌, ◌+◌, ◌-◌, length, OnOk};
 ghost use Rattle.pg_dict.specs.Inside.Lines.ReadColumns.{columns_behind};
 ghost use Rattle.pg_dict.specs.Inside.Store.{columns_of, IsFit};
-ghost use Rattle.pg_types.specs.Inside.Answers.{Gives};
+ghost use Rattle.pg_types.specs.Inside.reading.Answers.{Gives};
 ghost use Rattle.pg_types.specs.declared.limits.TheConstants.{WEIGHT_MAX};
 ghost use Rattle.pg_types.specs.declared.marks.Mark.TheVariants.{Nothing};
 ghost use Rattle.pg_translate.specs.Alphabets.{letters_of};

@@ -5,13 +5,13 @@ ghost use Rattle.std.specs.Prelude.{◌≡◌, ◌≤◌, ◌<◌, ◌+◌, ◌^
 ghost use Rattle.std.specs.Option.{option_map_or};
 ghost use Rattle.pg_types.specs.declared.limits.TheConstants.{FILE_MAX, WORD_LETTERS_MAX, WEIGHT_MAX};
 ghost use Rattle.pg_types.specs.declared.parameters.LevelParams.{LevelParams};
-ghost use Rattle.pg_types.specs.Inside.Counts.{Counts};
-ghost use Rattle.pg_types.specs.Inside.NumberedWindows.{AreNumbered, Windows};
+ghost use Rattle.pg_types.specs.Inside.counting.Counts.{Counts};
+ghost use Rattle.pg_types.specs.Inside.counting.NumberedWindows.{AreNumbered, Windows};
 ghost use Rattle.pg_dict.specs.Inside.SoundWords.{IsWord};
 ghost use Rattle.pg_dict.specs.Inside.Lent.{lent_word};
 ghost use Rattle.pg_select.specs.CountedPositions.{counts_as as counts_as_of, minima_of};
-ghost use Rattle.pg_select.specs.Inside.LawsAbove.{counts_above};
-ghost use Rattle.pg_select.specs.Inside.Positions.{HasValues};
+ghost use Rattle.pg_select.specs.Inside.laws.Above.{counts_above};
+ghost use Rattle.pg_select.specs.Inside.words.Positions.{HasValues};
 ghost use Rattle.pg_select.specs.Statuses.{status};
 ghost use Rattle.pg_select.specs.Windows.{Patterns};
 ghost use Rattle.pg_driver.specs.declared.pass_windows.TheConstants.{NO_NUMBER};

@@ -1,7 +1,8 @@
 //! The open positions of a level: those that count by their status, with their closed dots. The
 //! totals stand beside them.
-ghost use Rattle.std.specs.Prelude.{◌≡◌, ◌≤◌, ◌<◌, ◌+◌, ◌-◌, ◌^◌, ◌==◌, ◌&&◌, ℕ, not, length, slice_get, Some, IfOk, OnOk, is_some};
-ghost use Rattle.pg_types.specs.Inside.Counts.{SignsWithin};
+ghost use Rattle.std.specs.Prelude.{◌≡◌, ◌≤◌, ◌<◌, ◌+◌, ◌-◌, ◌==◌, ◌&&◌, ℕ, not, length, slice_get, Some, IfOk, OnOk, is_some};
+ghost use Rattle.pg_types.specs.Inside.counting.Counts.{SignsWithin};
+ghost use Rattle.pg_types.specs.Inside.Limits.{positions_limit};
 ghost use Rattle.pg_dots.specs.Inside.Dots.{is_closed, position_count};
 ghost use Rattle.pg_translate.specs.Reach.{positions as positions_of};
 ghost use Rattle.pg_dict.specs.Word.{Word};
@@ -61,7 +62,7 @@ fn open_word<E: Engine>(
     requires signs { SignsWithin (E.meaning engine.now).signs w.now.signs.now }
     requires room { HasRoomFor opened.old.totals (letter_count (lent_word w.now)) }
     requires within { start + length w.now.signs.now ≤ position_count opened.old.dots }
-    requires few { position_count opened.old.dots < 2 ^ 40 }
+    requires few { position_count opened.old.dots < positions_limit }
     requires none { opened.old.dots.reached ≡ 0 }
     ensures size { position_count opened.new.dots ≡ position_count opened.old.dots }
     ensures none { opened.new.dots.reached ≡ 0 }
@@ -110,7 +111,7 @@ pub fn open_level<E: Engine>(
 {
     let count = dictionary.len();
     let signs = dictionary.all_signs();
-    let dots = OpenDots::closed(alloc, signs.len())?;
+    let dots = OpenDots::all_closed(alloc, signs.len())?;
     let mut found = WordState::new();
     let mut opened = OpenLevel {
         dots,

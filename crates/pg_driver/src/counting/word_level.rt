@@ -1,6 +1,6 @@
 //! A level in which each word is hyphenated in each pass. Its totals are carried from pass to pass.
 ghost use Rattle.std.specs.Prelude.{◌≡◌, [], false, true, IfOk, OnOk};
-ghost use Rattle.pg_types.specs.Inside.NumberedWindows.{AreNumbered};
+ghost use Rattle.pg_types.specs.Inside.counting.NumberedWindows.{AreNumbered};
 ghost use Rattle.pg_driver.specs.Inside.level.PassWindows.{HaveNumbers, is_counted_at};
 ghost use Rattle.pg_driver.specs.Inside.level.States.{HasBegun};
 ghost use Rattle.pg_driver.specs.Inside.records.RunAccounts.{known_of};

@@ -1,13 +1,13 @@
 //! The walk over the words in a pass that hyphenates each of them.
 ghost use Rattle.std.specs.Prelude.{◌≡◌, ◌≤◌, ◌<◌, ◌+◌, ◌++◌, ◌&&◌, [], not, false, if◌then◌else◌, None, length, slice_index_or, IfOk, OnOk};
-ghost use Rattle.pg_types.specs.Inside.Counts.{SignsWithin};
+ghost use Rattle.pg_types.specs.Inside.counting.Counts.{SignsWithin};
 ghost use Rattle.pg_types.specs.declared.limits.TheConstants.{WORD_LETTERS_MAX};
 ghost use Rattle.pg_translate.specs.Reach.{positions as positions_of};
 ghost use Rattle.pg_dict.specs.Inside.SoundWords.{IsWord, letter_count};
 ghost use Rattle.pg_dict.specs.Inside.Lent.{lent_word};
 ghost use Rattle.pg_select.specs.CountedPositions.{counted_at, counted_positions_at, counted_positions, counts_as as counts_as_of, minima_of};
-ghost use Rattle.pg_select.specs.Inside.WordCounts.{counted_positions_in};
-ghost use Rattle.pg_select.specs.Inside.LawsAbove.{counts_above};
+ghost use Rattle.pg_select.specs.Inside.words.WordCounts.{counted_positions_in};
+ghost use Rattle.pg_select.specs.Inside.laws.Above.{counts_above};
 ghost use Rattle.pg_select.specs.Statuses.{status_at, position_weight};
 ghost use Rattle.pg_select.specs.Sums.{marks_in, totals as totals_of_words};
 ghost use Rattle.pg_select.specs.Inside.SumSteps.{with_mark, with_marks, HasRoomFor, TookRoomFor};
@@ -32,7 +32,7 @@ use std::alloc::AllocError;
 
 /// Whether position `p` of a word counts as good or as bad in a pass: it does so by its status, as
 /// `good` says, and its window fits in the word and is not covered.
-fn counted(
+fn counts_in_pass(
     pass: Pass,
     w: &WordRef<'_>,
     found: &WordState,
@@ -80,7 +80,7 @@ fn count_at<E: Engine>(
         (E.meaning engine.new).windows (window_of_word w.now.signs.now p pass.len pass.dot) n) }
     ensures signs { (E.meaning engine.new).signs ≡ (E.meaning engine.old).signs }
 {
-    let Some(good) = counted(pass, w, found, p, good) else {
+    let Some(good) = counts_in_pass(pass, w, found, p, good) else {
         return Ok(NO_NUMBER);
     };
     let window = window_at(pass, w.signs, p);

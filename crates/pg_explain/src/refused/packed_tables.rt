@@ -1,24 +1,12 @@
-//! Refused packed tables: which of their rules they break. The lengths and the signature of a file
-//! are those of pg_table, on which this crate does not stand.
+//! Refused packed tables: which of their rules they break.
 
 use crate::chars::{behind, up_to};
 use crate::wrong::Refused;
+use pg_types::packed_table::{CELL_LEN, HEAD_LEN, RECORD_LEN, SIGNATURE};
 use pg_types::{LEVEL_MAX, PATTERN_SIGNS_MAX, SIGNS_MAX};
 use pg_visible::Part::{Count, Name};
 use pg_visible::Text;
 use std::alloc::AllocError;
-
-/// The bytes that a packed table begins with.
-const SIGNATURE: &[u8] = b"PGT1";
-
-/// How many bytes the head has.
-const HEAD_LEN: usize = 16;
-
-/// How many bytes a cell has.
-const CELL_LEN: usize = 10;
-
-/// How many bytes a record has.
-const RECORD_LEN: usize = 6;
 
 /// The number that `len` bytes from `at` on are, with the most significant byte first.
 fn number(bytes: &[u8], at: usize, len: usize) -> usize {

@@ -1,8 +1,8 @@
 -- What the values and hopeless entries of a string's list give at the position of their dot.
 use Rattle.std.specs.Prelude.{ℕ, ◌&&◌, nat_lt, nat_le, if◌then◌else◌, List}
 use Rattle.pg_select.specs.declared.pass.Pass.{Pass}
-use Rattle.pg_select.specs.Inside.Positions.{bit}
-use Rattle.pg_select.specs.Inside.Within.{is_within}
+use Rattle.pg_select.specs.Inside.words.Positions.{bit}
+use Rattle.pg_select.specs.Inside.words.Within.{is_within}
 use Rattle.pg_trie.specs.Inside.Lists.{outputs_at}
 use Rattle.pg_trie.specs.Inside.Maps.{Maps}
 use Rattle.pg_trie.specs.declared.hopeless.TheConstants.{HOPELESS}

@@ -43,7 +43,7 @@ fn entry_of(metadata: io::Result<Metadata>) -> Result<Entry, CallFailed> {
 }
 
 /// A file that was opened or made. There is none where the system gave the reason `none`.
-fn opened<F: Drop>(file: io::Result<F>, none: ErrorKind) -> Result<Option<F>, CallFailed> {
+fn file_of<F: Drop>(file: io::Result<F>, none: ErrorKind) -> Result<Option<F>, CallFailed> {
     match file {
         Ok(file) => Ok(Some(file)),
         Err(error) if error.kind() == none => Ok(None),
@@ -59,7 +59,7 @@ fn text_of(alloc: Global, path: io::Result<PathBuf>) -> Result<String, CallFaile
     }
 }
 
-fn seen_of(metadata: io::Result<Metadata>) -> io::Result<FileStatus> {
+fn status_of(metadata: io::Result<Metadata>) -> io::Result<FileStatus> {
     let metadata = metadata?;
     Ok(FileStatus {
         id: id_of(&metadata),
@@ -113,7 +113,7 @@ fn count<T>(failures: &mut u64, outcome: Result<T, CallFailed>) -> Result<T, Cal
 }
 
 /// Counts a call where it failed, and keeps why it did.
-fn counted<T>(
+fn count_and_keep<T>(
     reason: &mut Option<io::Error>,
     failures: &mut u64,
     outcome: io::Result<T>,
@@ -171,36 +171,36 @@ impl<R: rt::Files + Drop> System for HostSystem<R> {
 
     fn open(&mut self, name: &str) -> Result<R::File, CallFailed> {
         let file = fs::open(&self.system, name);
-        counted(&mut self.reason, &mut self.failures, file)
+        count_and_keep(&mut self.reason, &mut self.failures, file)
     }
 
     fn open_to_write(&mut self, name: &str) -> Result<Option<R::File>, CallFailed> {
         let file = OpenOptions::new().write(true).open(&self.system, name);
         keep(&mut self.reason, &file, Some(ErrorKind::NotFound));
-        let outcome = opened(file, ErrorKind::NotFound);
+        let outcome = file_of(file, ErrorKind::NotFound);
         count(&mut self.failures, outcome)
     }
 
     fn stat(&mut self, file: &R::File) -> Result<FileStatus, CallFailed> {
-        let seen = seen_of(file.metadata());
-        counted(&mut self.reason, &mut self.failures, seen)
+        let seen = status_of(file.metadata());
+        count_and_keep(&mut self.reason, &mut self.failures, seen)
     }
 
     fn read_some(&mut self, file: &mut R::File, buffer: &mut [u8]) -> Result<usize, CallFailed> {
         let count = read_some(file, buffer);
-        counted(&mut self.reason, &mut self.failures, count)
+        count_and_keep(&mut self.reason, &mut self.failures, count)
     }
 
     fn make(&mut self, name: &str) -> Result<Option<R::File>, CallFailed> {
         let file = File::create_new(&self.system, name);
         keep(&mut self.reason, &file, Some(ErrorKind::AlreadyExists));
-        let outcome = opened(file, ErrorKind::AlreadyExists);
+        let outcome = file_of(file, ErrorKind::AlreadyExists);
         count(&mut self.failures, outcome)
     }
 
     fn set_mode(&mut self, file: &mut R::File, mode: u32) -> Result<(), CallFailed> {
         let outcome = file.set_permissions(Permissions::from_mode(mode));
-        counted(&mut self.reason, &mut self.failures, outcome)
+        count_and_keep(&mut self.reason, &mut self.failures, outcome)
     }
 
     fn write_some(&mut self, file: &mut R::File, bytes: &[u8]) -> Result<usize, CallFailed> {
@@ -219,16 +219,16 @@ impl<R: rt::Files + Drop> System for HostSystem<R> {
 
     fn sync(&mut self, file: &mut R::File) -> Result<(), CallFailed> {
         let outcome = file.sync_all();
-        counted(&mut self.reason, &mut self.failures, outcome)
+        count_and_keep(&mut self.reason, &mut self.failures, outcome)
     }
 
     fn rename(&mut self, from: &str, to: &str) -> Result<(), CallFailed> {
         let outcome = fs::rename(&self.system, from, to);
-        counted(&mut self.reason, &mut self.failures, outcome)
+        count_and_keep(&mut self.reason, &mut self.failures, outcome)
     }
 
     fn remove(&mut self, name: &str) -> Result<(), CallFailed> {
         let outcome = fs::remove_file(&self.system, name);
-        counted(&mut self.reason, &mut self.failures, outcome)
+        count_and_keep(&mut self.reason, &mut self.failures, outcome)
     }
 }

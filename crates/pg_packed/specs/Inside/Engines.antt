@@ -1,6 +1,6 @@
 -- What a packed engine means.
 use Rattle.std.specs.Prelude.{Some}
-use Rattle.pg_select.specs.Inside.Meanings.{Meaning}
+use Rattle.pg_select.specs.Inside.engine.Meanings.{Meaning}
 use Rattle.pg_packed.specs.declared.engine.PackedEngine.{PackedEngine}
 
 -- what the engine means: the maps of its tries. The families of the patterns' trie are told

@@ -1,8 +1,8 @@
 -- What the entries of a map of dotted strings give at the positions of a word.
 use Rattle.std.specs.Prelude.{ℕ, Bool, ◌&&◌, if◌then◌else◌, List, [], ◌∷◌, length, max}
 use Rattle.pg_select.specs.declared.pass.Pass.{Pass}
-use Rattle.pg_select.specs.Inside.Positions.{bit, Raises}
-use Rattle.pg_select.specs.Inside.Within.{is_within}
+use Rattle.pg_select.specs.Inside.words.Positions.{bit, Raises}
+use Rattle.pg_select.specs.Inside.words.Within.{is_within}
 
 -- the greatest number of the entries whose dotted strings pass the test, 0 where there is none
 abbrev pub greatest : {X : Type 0} → ((List ℕ × ℕ) × X → ℕ)

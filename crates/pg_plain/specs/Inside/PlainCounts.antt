@@ -4,9 +4,9 @@ use Rattle.std.specs.Prelude.{◌≡◌, ℕ, ◌≤◌, T, List, map, length, s
 use Rattle.std.specs.Ordering.{nat_cmp}
 use Rattle.std.specs.Cmp.Lexicographic.{slice_cmp}
 use Rattle.std.specs.FinMap.Entries.{is_sorted}
-use Rattle.pg_types.specs.Inside.NumberedWindows.{Windows, WindowCounts}
-use Rattle.pg_types.specs.Inside.NumberedStrings.{Numbers, AreNumbers, by_number}
-use Rattle.pg_plain.specs.declared.counts.TheConstants.{NUMBERS_MAX}
+use Rattle.pg_types.specs.Inside.counting.NumberedWindows.{Windows, WindowCounts}
+use Rattle.pg_types.specs.Inside.counting.NumberedStrings.{Numbers, AreNumbers, by_number}
+use Rattle.pg_types.specs.declared.limits.TheConstants.{NUMBERS_END}
 
 -- the sums by a number
 abbrev pub tally_at : List (ℕ × ℕ) → ℕ → ℕ × ℕ
@@ -27,4 +27,4 @@ pub record AreCounted (numbers : Numbers) (tallies : List (ℕ × ℕ)) (windows
   -- and its window
   pub listed : windows ≡ by_number numbers
   -- and each number fits
-  pub few : length tallies ≤ NUMBERS_MAX
+  pub few : length tallies ≤ NUMBERS_END

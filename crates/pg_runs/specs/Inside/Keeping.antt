@@ -1,7 +1,7 @@
 -- What a pass keeps while windows are counted and chosen.
 use Rattle.std.specs.Prelude.{◌≡◌, ℕ, ◌≤◌, List}
-use Rattle.pg_types.specs.Inside.Counts.{Counts, sums_of}
-use Rattle.pg_select.specs.Inside.Meanings.{Meaning}
+use Rattle.pg_types.specs.Inside.counting.Counts.{Counts, sums_of}
+use Rattle.pg_select.specs.Inside.engine.Meanings.{Meaning}
 
 -- both sums of every window are at most n
 pub record AreAtMost (counts : Counts) (n : ℕ) : Type 0 where

@@ -6,7 +6,7 @@ use Rattle.pg_types.specs.declared.limits.TheConstants.{LEVEL_MAX, PATTERN_SIGNS
 use Rattle.pg_outputs.specs.declared.records.Record.{Record}
 use Rattle.pg_table.specs.declared.parts.cell.Cell.{Cell}
 use Rattle.pg_table.specs.declared.parts.head.Head.{Head}
-use Rattle.pg_table.specs.declared.limits.TheConstants.{TABLE_MAX}
+use Rattle.pg_types.specs.declared.packed_table.TheConstants.{TABLE_MAX}
 use Rattle.pg_table.specs.Forms.{signature, head_of, cell_at, record_at, has_head, is_sound_cell, is_sound_record, is_well_formed}
 use Rattle.pg_table.specs.Inside.Extents.{read_record, record_start, file_len, fits_head}
 use Rattle.pg_table.proofs.parts.Ranges.{range_passes, range_tells}

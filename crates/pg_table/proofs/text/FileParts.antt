@@ -7,7 +7,7 @@ use Rattle.pg_types.specs.declared.limits.TheConstants.{SIGNS_MAX}
 use Rattle.pg_outputs.specs.declared.records.Record.{Record}
 use Rattle.pg_table.specs.declared.parts.cell.Cell.{Cell}
 use Rattle.pg_table.specs.declared.parts.head.Head.{Head}
-use Rattle.pg_table.specs.declared.limits.TheConstants.{TABLE_MAX}
+use Rattle.pg_types.specs.declared.packed_table.TheConstants.{TABLE_MAX}
 use Rattle.pg_table.specs.Numbers.{u16_at, u32_at, u16_bytes, u32_bytes}
 use Rattle.pg_table.specs.Forms.{signature, head_of, cell_at, record_at, records_of}
 use Rattle.pg_table.specs.Inside.Extents.{cell_start, record_start, read_record, file_len}

@@ -1,7 +1,7 @@
 -- How far a walk has come: what the values are now, raised by what is left, is what they were, raised by the whole.
 use Rattle.std.proofs.Common.{◌≡◌, ℕ, ◌+◌, ◌<◌, max, arith}
 use Rattle.pg_types.specs.declared.limits.TheConstants.{WORD_LETTERS_MAX}
-use Rattle.pg_select.specs.Inside.Positions.{Raises}
+use Rattle.pg_select.specs.Inside.words.Positions.{Raises}
 
 abbrev pub Level : (ℕ → ℕ) → (ℕ → ℕ) → (ℕ → ℕ) → (ℕ → ℕ) → Type 0
 Level left whole before now = (p : ℕ) → p < WORD_LETTERS_MAX + 2 → max (now p) (left p) ≡ max (before p) (whole p)

@@ -4,7 +4,7 @@ use Rattle.std.specs.Prelude.{ℕ, ◌+◌, ◌*◌, Bool, ◌&&◌, nat_eq, nat
 use Rattle.pg_types.specs.declared.limits.TheConstants.{SIGNS_MAX}
 use Rattle.pg_outputs.specs.declared.records.Record.{Record}
 use Rattle.pg_table.specs.declared.parts.head.Head.{Head}
-use Rattle.pg_table.specs.declared.limits.TheConstants.{CELL_LEN, HEAD_LEN, RECORD_LEN, TABLE_MAX}
+use Rattle.pg_types.specs.declared.packed_table.TheConstants.{CELL_LEN, HEAD_LEN, RECORD_LEN, TABLE_MAX}
 use Rattle.pg_table.specs.Numbers.{u32_at}
 
 -- where a cell begins

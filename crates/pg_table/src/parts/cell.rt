@@ -1,13 +1,13 @@
 //! A cell of a packed table.
 ghost use Rattle.std.specs.Prelude.{◌≡◌, ◌+◌, ◌≤◌, length};
-ghost use Rattle.pg_table.specs.declared.limits.TheConstants.{CELL_LEN};
+ghost use Rattle.pg_types.specs.declared.packed_table.TheConstants.{CELL_LEN};
 ghost use Rattle.pg_table.specs.Forms.{cell_at, is_sound_cell};
 ghost use Rattle.pg_table.specs.Inside.Extents.{cell_start, file_len};
 
-use crate::limits::{CELL_LEN, HEAD_LEN};
 use crate::parts::head::Head;
 use crate::parts::numbers::{u16_at, u32_at};
 use pg_types::Sign;
+use pg_types::packed_table::{CELL_LEN, HEAD_LEN};
 
 /// A cell: its sign, the base of the family below its string, and the head of its string's list.
 /// Each is 0 where there is none.

@@ -3,12 +3,9 @@ ghost use Rattle.std.specs.Prelude.{◌≡◌, true, false, MatchOption};
 ghost use Rattle.pg_table.specs.Forms.{head_of, has_head};
 ghost use Rattle.pg_table.specs.Inside.Extents.{fits_head};
 
-use crate::limits::{CELL_LEN, HEAD_LEN, RECORD_LEN, TABLE_MAX};
 use crate::parts::numbers::u32_at;
 use pg_types::SIGNS_MAX;
-
-/// The bytes that every file begins with.
-pub const SIGNATURE: &[u8] = b"PGT1";
+use pg_types::packed_table::{CELL_LEN, HEAD_LEN, RECORD_LEN, SIGNATURE, TABLE_MAX};
 
 /// The numbers in the head of a packed table.
 #[derive(Clone, Copy, Debug)]

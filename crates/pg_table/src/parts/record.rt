@@ -1,13 +1,13 @@
 //! A record of a packed table.
 ghost use Rattle.std.specs.Prelude.{◌≡◌, ◌+◌, ◌≤◌, length};
-ghost use Rattle.pg_table.specs.declared.limits.TheConstants.{RECORD_LEN};
+ghost use Rattle.pg_types.specs.declared.packed_table.TheConstants.{RECORD_LEN};
 ghost use Rattle.pg_table.specs.Forms.{is_sound_record};
 ghost use Rattle.pg_table.specs.Inside.Extents.{record_start, read_record};
 
-use crate::limits::RECORD_LEN;
 use crate::parts::cell::cell_start;
 use crate::parts::numbers::u32_at;
 use pg_outputs::Record;
+use pg_types::packed_table::RECORD_LEN;
 use pg_types::{LEVEL_MAX, PATTERN_SIGNS_MAX};
 
 /// Where the record with the number `i`, counted from 0, begins behind `cells` cells.

@@ -16,7 +16,7 @@ use std::alloc::{AllocError, Global};
 
 /// The cells of the strings of patterns, each with the head of its string's list.
 #[derive(Drop)]
-pub struct Packed {
+pub struct PackedTrie {
     /// A cell for each string, with the head of its list.
     pub cells: Cells<u64>,
     /// The lists, each value with its dot.
@@ -24,7 +24,7 @@ pub struct Packed {
 }
 
 /// Enters all patterns in their order.
-pub fn enter_all(alloc: Global, signs: u16, patterns: &PatternSet) -> Result<Packed, AllocError>
+pub fn enter_all(alloc: Global, signs: u16, patterns: &PatternSet) -> Result<PackedTrie, AllocError>
     requires signs { (1 ≤ signs) × (signs ≤ SIGNS_MAX) }
     requires known { SignsUpTo signs patterns.now }
     ensures { IfOk result (λ packed. IsEntered signs patterns.now packed.cells packed.outputs) }
@@ -32,7 +32,7 @@ pub fn enter_all(alloc: Global, signs: u16, patterns: &PatternSet) -> Result<Pac
     let mut cells = Cells::new(alloc, signs, 0)?;
     let mut outputs = Outputs::new(alloc);
     enter_strings(patterns, &mut cells, &mut outputs)?;
-    Ok(Packed { cells, outputs })
+    Ok(PackedTrie { cells, outputs })
 }
 
 /// Enters all patterns into cells and records that have none yet.

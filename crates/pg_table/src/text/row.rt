@@ -13,7 +13,7 @@ ghost use Rattle.pg_table.specs.Texts.{head_in};
 ghost use Rattle.pg_table.specs.Inside.text.Files.{table_cells};
 
 use crate::parts::cell::Cell;
-use crate::text::entering::Packed;
+use crate::text::entering::PackedTrie;
 use pg_cells::{Cells, step};
 use pg_patterns::PatternSet;
 use pg_types::Sign;
@@ -31,7 +31,7 @@ pub fn table_cells(
     alloc: Global,
     signs: u16,
     patterns: &PatternSet,
-    packed: &Packed,
+    packed: &PackedTrie,
 ) -> Result<Vec<Cell>, AllocError>
     requires known { SignsUpTo signs patterns.now }
     requires few { signs ≤ SIGNS_MAX }
@@ -46,7 +46,7 @@ pub fn table_cells(
 }
 
 /// Fills in the cells of all strings.
-fn fill(signs: u16, patterns: &PatternSet, packed: &Packed, row: &mut [Cell])
+fn fill(signs: u16, patterns: &PatternSet, packed: &PackedTrie, row: &mut [Cell])
     requires known { SignsUpTo signs patterns.now }
     requires few { signs ≤ SIGNS_MAX }
     requires entered { IsEntered signs patterns.now packed.now.cells packed.now.outputs }
@@ -77,7 +77,7 @@ fn fill_signs(signs: u16, cells: &Cells<u64>, row: &mut [Cell])
 }
 
 /// Fills in the cells of the strings of patterns, where those of one sign are filled in.
-fn fill_patterns(patterns: &PatternSet, packed: &Packed, row: &mut [Cell])
+fn fill_patterns(patterns: &PatternSet, packed: &PackedTrie, row: &mut [Cell])
     requires known { SignsUpTo packed.now.cells.signs patterns.now }
     requires entered { IsEntered packed.now.cells.signs patterns.now packed.now.cells
         packed.now.outputs }

@@ -3,7 +3,7 @@ ghost use Rattle.std.specs.Prelude.{◌≡◌, ◌+◌, ◌<◌, ◌≤◌, leng
 ghost use Rattle.pg_types.specs.declared.limits.TheConstants.{WORD_LETTERS_MAX};
 ghost use Rattle.pg_table.specs.Forms.{head_of};
 ghost use Rattle.pg_table.specs.Inside.view.ListsOf.{list_in};
-ghost use Rattle.pg_select.specs.Inside.Positions.{values_of, Raises};
+ghost use Rattle.pg_select.specs.Inside.words.Positions.{values_of, Raises};
 ghost use Rattle.pg_table.specs.Inside.view.Raising.{IsUncovered, by_value, by_record_list, by_strings, by_starts};
 
 use crate::view::TableView;

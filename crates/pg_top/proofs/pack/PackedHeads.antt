@@ -6,15 +6,16 @@ use Rattle.std.proofs.lemmas.List.{append-nil}
 use Rattle.pg_types.specs.declared.limits.TheConstants.{SIGNS_MAX}
 use Rattle.pg_types.specs.declared.refusals.Kind.TheVariants.{TableTooLong, BadTable, OtherTable}
 use Rattle.pg_types.specs.declared.refusals.Refusal.{Refusal}
+use Rattle.pg_types.specs.Reading.{refusal_at}
 use Rattle.pg_translate.specs.Alphabets.{Alphabet, letters_of}
 use Rattle.pg_select.specs.Windows.{Patterns}
-use Rattle.pg_table.specs.declared.limits.TheConstants.{TABLE_MAX}
+use Rattle.pg_types.specs.declared.packed_table.TheConstants.{TABLE_MAX}
 use Rattle.pg_table.specs.Forms.{signature, head_of, is_well_formed}
 use Rattle.pg_table.specs.Numbers.{u32_at, u32_bytes}
 use Rattle.pg_table.specs.Texts.{cell_bytes, record_bytes, table_text}
 use Rattle.pg_table.specs.Inside.text.Files.{file_of, table_cells, table_records}
 use Rattle.pg_table.proofs.ByteParts.{HasPart, part_first, part_rest, u32_part}
-use Rattle.pg_top.specs.pack.Inside.Inputs.{packed_text, table_refused}
+use Rattle.pg_top.specs.pack.Inside.Inputs.{packed_text}
 use Rattle.pg_top.specs.totals.TotalsRule.{packed_table}
 
 -- the table begins with its mark and the greatest sign
@@ -48,4 +49,4 @@ packed_accepted t P few short well =
     let b : List ℕ = packed_text t P in
     let is_short = le-ltb TABLE_MAX (length b) short in
     let same = eq-eqb (head_of b).signs (letters_of t + 1) (text_signs (letters_of t + 1) P few) in
-    λ k. cond {A = Result (List ℕ) Refusal} (is_short k) (Err (table_refused TableTooLong)) (cond (not (well k)) (Err (table_refused BadTable)) (cond (same k) (Ok b) (Err (table_refused OtherTable))))
+    λ k. cond {A = Result (List ℕ) Refusal} (is_short k) (Err (refusal_at 0 TableTooLong 0)) (cond (not (well k)) (Err (refusal_at 0 BadTable 0)) (cond (same k) (Ok b) (Err (refusal_at 0 OtherTable 0))))

@@ -2,16 +2,17 @@
 use Rattle.std.proofs.Common.{◌≡◌, ℕ, ◌<◌, ◌≤◌, List, [], ◌∷◌, length, cond, refl, ap}
 use Rattle.std.proofs.lemmas.Bool.{le-ltb, lt-ltb}
 use Rattle.pg_types.specs.declared.refusals.Kind.TheVariants.{TableTooLong}
+use Rattle.pg_types.specs.Reading.{refusal_at}
 use Rattle.pg_translate.specs.Alphabets.{Alphabet}
 use Rattle.pg_patterns.specs.Texts.{pattern_text}
 use Rattle.pg_select.specs.Windows.{Patterns}
 use Rattle.pg_table.specs.declared.error.TableError.{TableError}
 use Rattle.pg_table.specs.declared.error.TableError.TheVariants as table_error
-use Rattle.pg_table.specs.declared.limits.TheConstants.{TABLE_MAX}
+use Rattle.pg_types.specs.declared.packed_table.TheConstants.{TABLE_MAX}
 use Rattle.pg_steps.specs.Outcomes.{Ends}
 use Rattle.pg_steps.specs.Inside.ends.Refusing.{refuses}
 use Rattle.pg_top.specs.pack.PackRule.{outcome_of_pack, packed_line}
-use Rattle.pg_top.specs.pack.Inside.Inputs.{stop_of_table, packed_text, table_refused}
+use Rattle.pg_top.specs.pack.Inside.Inputs.{stop_of_table, packed_text}
 use Rattle.pg_steps.specs.Inside.ends.Stops.{StopsMaking}
 use Rattle.pg_steps.specs.declared.answers.Status.TheVariants.{Done}
 use Rattle.pg_steps.specs.declared.inputs.Input.TheVariants as input
@@ -19,12 +20,12 @@ use Rattle.pg_steps.specs.declared.inputs.Input.TheVariants as input
 module _ (name : List ℕ) (t : Alphabet) (P : Patterns) where
   -- a table that is not too long is written
   pub packed_short : length (packed_text t P) ≤ TABLE_MAX → outcome_of_pack name t P ≡ Ends Done ((name, packed_text t P) ∷ []) (packed_line (pattern_text t P) (packed_text t P))
-  packed_short short = ap (λ long. cond long (refuses input.Table (table_refused TableTooLong)) (Ends Done ((name, packed_text t P) ∷ []) (packed_line (pattern_text t P) (packed_text t P))))
+  packed_short short = ap (λ long. cond long (refuses input.Table (refusal_at 0 TableTooLong 0)) (Ends Done ((name, packed_text t P) ∷ []) (packed_line (pattern_text t P) (packed_text t P))))
       (le-ltb TABLE_MAX (length (packed_text t P)) short)
 
   -- and one that is too long is refused
-  packed_long : TABLE_MAX < length (packed_text t P) → outcome_of_pack name t P ≡ refuses input.Table (table_refused TableTooLong)
-  packed_long long = ap (λ long. cond long (refuses input.Table (table_refused TableTooLong)) (Ends Done ((name, packed_text t P) ∷ []) (packed_line (pattern_text t P) (packed_text t P))))
+  packed_long : TABLE_MAX < length (packed_text t P) → outcome_of_pack name t P ≡ refuses input.Table (refusal_at 0 TableTooLong 0)
+  packed_long long = ap (λ long. cond long (refuses input.Table (refusal_at 0 TableTooLong 0)) (Ends Done ((name, packed_text t P) ∷ []) (packed_line (pattern_text t P) (packed_text t P))))
       (lt-ltb TABLE_MAX (length (packed_text t P)) long)
 
   -- why no table is made

@@ -2,7 +2,7 @@
 use Rattle.std.proofs.Common.{◌≡◌, Result, Ok, List, [], ℕ, refl, ap, sym}
 use Rattle.std.specs.Result.{result_unwrap_or}
 use Rattle.pg_types.specs.Parameters.{Parameters}
-use Rattle.pg_types.specs.Inside.Answers.{Fails}
+use Rattle.pg_types.specs.Inside.reading.Answers.{Fails}
 use Rattle.pg_types.specs.declared.refusals.Refusal.{Refusal}
 use Rattle.pg_types.specs.declared.refusals.ReadingError.{ReadingError}
 use Rattle.pg_types.specs.declared.refusals.ReadingError.TheVariants as reader

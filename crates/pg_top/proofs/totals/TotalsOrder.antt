@@ -4,20 +4,20 @@ use Rattle.std.specs.Prelude.{unwrap_or}
 use Rattle.std.proofs.lemmas.Bool.{eqb-true}
 use Rattle.pg_types.specs.declared.refusals.Kind.TheVariants.{TableTooLong, BadTable, OtherTable}
 use Rattle.pg_types.specs.declared.refusals.Refusal.{Refusal}
+use Rattle.pg_types.specs.Reading.{refusal_at}
 use Rattle.pg_outside.specs.Content.{FileMap, FilesShown, KeepsHeld, file_at}
 use Rattle.pg_outside.specs.Inside.NameFaults.{NoneFell}
 use Rattle.pg_translate.specs.Alphabets.{Alphabet, letters_of}
 use Rattle.pg_translate.specs.Tables.{table}
 use Rattle.pg_dict.specs.Word.{Word}
 use Rattle.pg_dict.specs.Words.{words}
-use Rattle.pg_table.specs.declared.limits.TheConstants.{TABLE_MAX}
+use Rattle.pg_types.specs.declared.packed_table.TheConstants.{TABLE_MAX}
 use Rattle.pg_table.specs.Forms.{head_of, is_well_formed}
 use Rattle.pg_steps.specs.FileCalls.{MakesCalls, read_calls}
 use Rattle.pg_steps.specs.Outcomes.{Ends}
 use Rattle.pg_steps.specs.Readings.{Reading, input_file}
 use Rattle.pg_steps.specs.Inside.reading.ReadAs.{read_as}
 use Rattle.pg_steps.specs.Inside.reading.UnderTable.{file_under}
-use Rattle.pg_top.specs.pack.Inside.Inputs.{table_refused}
 use Rattle.pg_top.specs.totals.TotalsRule.{totals_rule, packed_table}
 use Rattle.pg_top.specs.totals.Inside.Inputs.{IsTotalled, totals_lines}
 use Rattle.pg_words.specs.Requests.{TotalsRequest}
@@ -32,8 +32,8 @@ use Rattle.pg_steps.specs.Rules.{outcome_of}
 
 -- the first bytes of a table, one more than it may have, are read as the whole table is
 pub packed_table-front : (t : Alphabet) → IsReadUpTo TABLE_MAX (packed_table t)
-packed_table-front t whole = limited (Err (table_refused TableTooLong))
-    (λ b. cond (not (is_well_formed b)) (Err (table_refused BadTable)) (cond (nat_eq (head_of b).signs (letters_of t + 1)) (Ok b) (Err (table_refused OtherTable)))) TABLE_MAX whole
+packed_table-front t whole = limited (Err (refusal_at 0 TableTooLong 0))
+    (λ b. cond (not (is_well_formed b)) (Err (refusal_at 0 BadTable 0)) (cond (nat_eq (head_of b).signs (letters_of t + 1)) (Ok b) (Err (refusal_at 0 OtherTable 0)))) TABLE_MAX whole
 
 -- what is known once two files of `totals` are read
 abbrev pub HasWords : TotalsRequest → Alphabet → List Word → FileMap → Type 0
@@ -82,8 +82,8 @@ stopped_table p t ws s0 s2 s3 why fell calls keeps two stops =
     (stopped_under p.translate t packed_table input.Table p.table s2 s3 why (mapped s3.held (HasWords p t ws) (HasTable p.translate t) (λ files h. h.0) later) stops)
 
 -- a table that is accepted has the greatest sign of the letters
-accepted_signs : (long sound same : Bool) (bytes b : List ℕ) → cond {A = Result (List ℕ) Refusal} long (Err (table_refused TableTooLong))
-    (cond (not sound) (Err (table_refused BadTable)) (cond same (Ok bytes) (Err (table_refused OtherTable)))) ≡ Ok b → (same ≡ true) × (bytes ≡ b)
+accepted_signs : (long sound same : Bool) (bytes b : List ℕ) → cond {A = Result (List ℕ) Refusal} long (Err (refusal_at 0 TableTooLong 0))
+    (cond (not sound) (Err (refusal_at 0 BadTable 0)) (cond same (Ok bytes) (Err (refusal_at 0 OtherTable 0)))) ≡ Ok b → (same ≡ true) × (bytes ≡ b)
 accepted_signs true sound same bytes b is = absurd (cc)
 accepted_signs false false same bytes b is = absurd (cc)
 accepted_signs false true false bytes b is = absurd (cc)

@@ -10,7 +10,7 @@ use Rattle.pg_patterns.specs.Values.{value_at}
 use Rattle.pg_select.specs.CountedPositions.{Minima}
 use Rattle.pg_select.specs.Sums.{totals}
 use Rattle.pg_select.specs.Windows.{Patterns}
-use Rattle.pg_table.specs.declared.limits.TheConstants.{TABLE_MAX}
+use Rattle.pg_types.specs.declared.packed_table.TheConstants.{TABLE_MAX}
 use Rattle.pg_table.specs.Lookups.{table_value, table_totals}
 use Rattle.pg_table.specs.Texts.{table_text}
 use Rattle.pg_steps.specs.Outcomes.{Outcome, Ends}

@@ -1,5 +1,6 @@
 //! A packed table that is read, and the totals by it.
 ghost use Rattle.std.specs.Prelude.{◌≡◌, ◌+◌, IfOk, IfErr, IfSome, [], ◌∷◌};
+ghost use Rattle.pg_types.specs.Reading.{refusal_at};
 ghost use Rattle.pg_dict.specs.Inside.SoundWords.{SignsAtMost};
 ghost use Rattle.pg_driver.specs.Inside.records.Sound.{IsSmall};
 ghost use Rattle.pg_outside.specs.Content.{file_at};
@@ -8,7 +9,6 @@ ghost use Rattle.pg_texts.specs.ReportTexts.{ending_text};
 ghost use Rattle.pg_translate.specs.Alphabets.{letters_of};
 ghost use Rattle.pg_steps.specs.FileCalls.{MakesCalls};
 ghost use Rattle.pg_top.specs.totals.TotalsRule.{packed_table};
-ghost use Rattle.pg_top.specs.pack.Inside.Inputs.{table_refused};
 ghost use Rattle.pg_steps.specs.Readings.{input_file};
 ghost use Rattle.pg_top.specs.totals.Inside.Inputs.{IsTotalled};
 ghost use Rattle.pg_steps.specs.Inside.ends.Stops.{OnlyReads, StopsAt};
@@ -16,16 +16,17 @@ ghost use Rattle.pg_steps.specs.Inside.ends.Stops.{OnlyReads, StopsAt};
 use pg_dict::Dictionary;
 use pg_outside::Files;
 use pg_steps::{Input, Stop, read_front, refuse};
-use pg_table::{TABLE_MAX, TableView, table_totals};
+use pg_table::{TableView, table_totals};
 use pg_texts::push_ending;
 use pg_translate::Table;
+use pg_types::packed_table::TABLE_MAX;
 use pg_types::{Kind, Refusal, Totals};
 use pg_watch::{Refused, Watch};
 use std::alloc::{AllocError, Global};
 
 /// The refusal of a packed table, which has no place.
 fn refusal_of(kind: Kind) -> Refusal
-    ensures { result ≡ table_refused kind }
+    ensures { result ≡ refusal_at 0 kind 0 }
 {
     Refusal {
         kind,

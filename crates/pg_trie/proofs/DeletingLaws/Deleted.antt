@@ -2,9 +2,9 @@
 use Rattle.std.proofs.Common.{◌≡◌, ◌≢◌, ℕ, ◌+◌, ◌<◌, ◌≤◌, Bool, true, false, nat_eq, nat_lt, nat_le, List, [], ◌∷◌, ◌++◌, length, map, drop, Option, None, Some, inl, inr, refl, sym, ◌∙◌, ap, subst, arith, append_assoc, get_or}
 use Rattle.std.proofs.lemmas.Bool.{cases_Bool, or_cases, or_left, or_right, le-leb, leb-true}
 use Rattle.std.proofs.lemmas.List.{append-nil, length_push}
-use Rattle.std.specs.List.{list_any, starts_with}
+use Rattle.std.specs.List.{flat_map, list_any, starts_with}
 use Rattle.std.specs.FinMap.Entries.{find, same_entries}
-use Rattle.pg_types.specs.Placement.{cell_of, keeps_cell, kept_families}
+use Rattle.pg_types.specs.Placement.{cell_of, keeps_cell, kept_family, kept_families}
 use Rattle.pg_patterns.specs.DottedSigns.{dotted_cmp}
 use Rattle.pg_patterns.specs.Inside.DottedOrder.{dotted_total, dotted_exact}
 use Rattle.pg_outputs.specs.declared.records.Record.{Record}
@@ -18,7 +18,7 @@ use Rattle.pg_trie.specs.declared.hopeless.TheConstants.{HOPELESS}
 use Rattle.pg_trie.specs.Inside.IsTrie.{IsTrie}
 use Rattle.pg_trie.specs.Inside.Lists.{rank, Rises, DotsUpTo}
 use Rattle.pg_trie.specs.Inside.Maps.{Maps, maps_of, as_value, as_hopeless}
-use Rattle.pg_trie.specs.Inside.PrunedFamilies.{kept_by, IsKeep, Prunes}
+use Rattle.pg_trie.specs.Inside.PrunedFamilies.{IsKeep, Prunes}
 use Rattle.pg_trie.specs.Inside.FreshLists.{values_in, AreFresh, Renews}
 use Rattle.pg_trie.proofs.ListLaws.Found.{found_first, found_in, found_at, find-entries}
 use Rattle.pg_trie.proofs.ListLaws.Rising.{rises_less, as_value_is, as_mark_is}
@@ -238,7 +238,7 @@ module _ (cells : ValuedFamilies ℕ) (records : List Record) (is : IsTrie cells
             ap (found_at as_hopeless (list_of fresh) d) at ∙ ap (λ h. found_in as_hopeless d (list_of fresh h)) (sym same) ∙ ap (found_in as_hopeless d) l.3 ∙ no_marks d (list_of records b.0)
 
     pub left_families : left.families ≡ kept_families strings_of cells.families
-    left_families = p.families ∙ ap (kept_by keeps) new.families
+    left_families = p.families ∙ ap (flat_map (kept_family keeps)) new.families
 
     -- what is seen of the trie that is left
     pub left_view : (m : Maps) → maps_of cells records ≡ m → maps_of left fresh ≡ record m { hopeless = []; families = kept_families (map (λ e. e.0.0) m.patterns) m.families; records = fresh }

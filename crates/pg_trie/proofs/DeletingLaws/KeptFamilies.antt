@@ -5,15 +5,14 @@ use Rattle.std.proofs.lemmas.Cmp.{nat_list_cmp_total}
 use Rattle.std.specs.Ordering.{is_eq, is_lt}
 use Rattle.std.specs.Cmp.{tied_itself}
 use Rattle.std.specs.FinMap.Entries.{find, put, is_sorted, below_all}
-use Rattle.std.specs.List.{list_any}
-use Rattle.pg_types.specs.Placement.{Family, Families, family_at, cell_of, without_family}
+use Rattle.std.specs.List.{flat_map, list_any}
+use Rattle.pg_types.specs.Placement.{Family, Families, family_at, cell_of, without_family, kept_family}
 use Rattle.pg_types.specs.Inside.Placing.{without_sign}
 use Rattle.pg_types.proofs.BoolFacts.{first_half, second_half, is_true, holds}
 use Rattle.pg_cells.specs.Inside.linked.ValuedFamilies.{ValuedFamilies}
 use Rattle.pg_cells.specs.Inside.linked.AreValuedFamilies.{AreValuedFamilies}
 use Rattle.pg_cells.proofs.StringMaps.{order, equal_or_not, same_maps, find_below, head_below, tail_sorted, find_put_same, find_put_other, find_without_same, find_without_other}
 use Rattle.pg_cells.proofs.StringCells.{parts_cell, parts_none}
-use Rattle.pg_trie.specs.Inside.PrunedFamilies.{kept_one, kept_by}
 
 -- a family with those signs, or none
 abbrev pub with_signs : ℕ → List ℕ → Option Family
@@ -29,7 +28,7 @@ abbrev with_one : List ℕ → ℕ → List ℕ → Families → Families
 with_one p base [] rest = rest
 with_one p base (x ∷ xs) rest = (p, record { base = base; signs = x ∷ xs }) ∷ rest
 
-one_first : (keep : List ℕ → Bool) (e : List ℕ × Family) (rest : Families) → kept_one keep e ++ rest ≡ with_one e.0 e.1.base (filter (λ s. keep (e.0 ++ s ∷ [])) e.1.signs) rest
+one_first : (keep : List ℕ → Bool) (e : List ℕ × Family) (rest : Families) → kept_family keep e ++ rest ≡ with_one e.0 e.1.base (filter (λ s. keep (e.0 ++ s ∷ [])) e.1.signs) rest
 one_first keep e rest = by (filter (λ s. keep (e.0 ++ s ∷ [])) e.1.signs)
   where
     by : (l : List ℕ) → (elim l as (λ _. Families) [ [] ↦ [] | x ∷ xs ↦ (e.0, record { base = e.1.base; signs = x ∷ xs }) ∷ [] ]) ++ rest ≡ with_one e.0 e.1.base l rest
@@ -49,38 +48,38 @@ below_one q p base [] rest lt below = below
 below_one q p base (x ∷ xs) rest lt below = holds (is_lt (order q p) && below_all order q rest)
     (and_from (is_lt (order q p)) (below_all order q rest) (is_true (is_lt (order q p)) lt) (is_true (below_all order q rest) below))
 
-below_kept : (keep : List ℕ → Bool) (q : List ℕ) (fs : Families) → T (below_all order q fs) → T (below_all order q (kept_by keep fs))
+below_kept : (keep : List ℕ → Bool) (q : List ℕ) (fs : Families) → T (below_all order q fs) → T (below_all order q (flat_map (kept_family keep) fs))
 below_kept keep q [] below = tt
 below_kept keep q (e ∷ es) below =
     let rest = below_kept keep q es (second_half (is_lt (order q e.0)) (below_all order q es) below) in
-    subst (λ l. T (below_all order q l)) (sym (one_first keep e (kept_by keep es)))
-    (below_one q e.0 e.1.base (filter (λ s. keep (e.0 ++ s ∷ [])) e.1.signs) (kept_by keep es) (first_half (is_lt (order q e.0)) (below_all order q es) below) rest)
+    subst (λ l. T (below_all order q l)) (sym (one_first keep e (flat_map (kept_family keep) es)))
+    (below_one q e.0 e.1.base (filter (λ s. keep (e.0 ++ s ∷ [])) e.1.signs) (flat_map (kept_family keep) es) (first_half (is_lt (order q e.0)) (below_all order q es) below) rest)
 
 sorted_one : (p : List ℕ) (base : ℕ) (l : List ℕ) (rest : Families) → T (below_all order p rest) → T (is_sorted order rest) → T (is_sorted order (with_one p base l rest))
 sorted_one p base [] rest below sorted = sorted
 sorted_one p base (x ∷ xs) rest below sorted = holds (below_all order p rest && is_sorted order rest)
     (and_from (below_all order p rest) (is_sorted order rest) (is_true (below_all order p rest) below) (is_true (is_sorted order rest) sorted))
 
-pub sorted_kept : (keep : List ℕ → Bool) (fs : Families) → T (is_sorted order fs) → T (is_sorted order (kept_by keep fs))
+pub sorted_kept : (keep : List ℕ → Bool) (fs : Families) → T (is_sorted order fs) → T (is_sorted order (flat_map (kept_family keep) fs))
 sorted_kept keep [] sorted = tt
 sorted_kept keep (e ∷ es) sorted =
-    subst (λ l. T (is_sorted order l)) (sym (one_first keep e (kept_by keep es)))
-    (sorted_one e.0 e.1.base (filter (λ s. keep (e.0 ++ s ∷ [])) e.1.signs) (kept_by keep es) (below_kept keep e.0 es (head_below e es sorted)) (sorted_kept keep es (tail_sorted e es sorted)))
+    subst (λ l. T (is_sorted order l)) (sym (one_first keep e (flat_map (kept_family keep) es)))
+    (sorted_one e.0 e.1.base (filter (λ s. keep (e.0 ++ s ∷ [])) e.1.signs) (flat_map (kept_family keep) es) (below_kept keep e.0 es (head_below e es sorted)) (sorted_kept keep es (tail_sorted e es sorted)))
 
 -- the family with a prefix, of those that are kept
-pub kept_at : (keep : List ℕ → Bool) (fs : Families) (p : List ℕ) → T (is_sorted order fs) → family_at (kept_by keep fs) p ≡ kept_option keep p (family_at fs p)
+pub kept_at : (keep : List ℕ → Bool) (fs : Families) (p : List ℕ) → T (is_sorted order fs) → family_at (flat_map (kept_family keep) fs) p ≡ kept_option keep p (family_at fs p)
 kept_at keep [] p sorted = refl
 kept_at keep (e ∷ es) p sorted =
     let more = kept_at keep es p (tail_sorted e es sorted) in
-    ap (find order p) (one_first keep e (kept_by keep es))
+    ap (find order p) (one_first keep e (flat_map (kept_family keep) es))
     ∙ elim (equal_or_not p e.0) [
       | inl h ↦
-          let none : find order p (kept_by keep es) ≡ None = ap (λ q. find order q (kept_by keep es)) h.0 ∙ find_below e.0 (kept_by keep es) (below_kept keep e.0 es (head_below e es sorted)) in
-          ap (λ q. find order p (with_one q e.1.base (filter (λ s. keep (q ++ s ∷ [])) e.1.signs) (kept_by keep es))) (sym h.0)
-          ∙ find_one_same p e.1.base (filter (λ s. keep (p ++ s ∷ [])) e.1.signs) (kept_by keep es) none
+          let none : find order p (flat_map (kept_family keep) es) ≡ None = ap (λ q. find order q (flat_map (kept_family keep) es)) h.0 ∙ find_below e.0 (flat_map (kept_family keep) es) (below_kept keep e.0 es (head_below e es sorted)) in
+          ap (λ q. find order p (with_one q e.1.base (filter (λ s. keep (q ++ s ∷ [])) e.1.signs) (flat_map (kept_family keep) es))) (sym h.0)
+          ∙ find_one_same p e.1.base (filter (λ s. keep (p ++ s ∷ [])) e.1.signs) (flat_map (kept_family keep) es) none
           ∙ sym (ap (λ b. kept_option keep p (cond b (Some e.1) (find order p es))) h.1)
       | inr h ↦
-          find_one_other p e.0 e.1.base (filter (λ s. keep (e.0 ++ s ∷ [])) e.1.signs) (kept_by keep es) h.0
+          find_one_other p e.0 e.1.base (filter (λ s. keep (e.0 ++ s ∷ [])) e.1.signs) (flat_map (kept_family keep) es) h.0
           ∙ more
           ∙ sym (ap (λ b. kept_option keep p (cond b (Some e.1) (find order p es))) h.1)
     ]
@@ -96,9 +95,9 @@ same_filter t u (x ∷ xs) same =
     later s has = elim (cases_Bool (nat_eq s x)) [ inl e ↦ ap (λ b. b || list_any (nat_eq s) xs) e | inr e ↦ ap (λ b. b || list_any (nat_eq s) xs) e ∙ has ]
 
 -- tests that agree on the strings with a cell keep the same families
-pub kept_same : (t u : List ℕ → Bool) (fs : Families) → T (is_sorted order fs) → ((q : List ℕ) (cell : ℕ) → cell_of fs q ≡ Some cell → t q ≡ u q) → kept_by t fs ≡ kept_by u fs
+pub kept_same : (t u : List ℕ → Bool) (fs : Families) → T (is_sorted order fs) → ((q : List ℕ) (cell : ℕ) → cell_of fs q ≡ Some cell → t q ≡ u q) → flat_map (kept_family t) fs ≡ flat_map (kept_family u) fs
 kept_same t u fs sorted same =
-    same_maps (kept_by t fs) (kept_by u fs) (sorted_kept t fs sorted) (sorted_kept u fs sorted) (λ p. kept_at t fs p sorted ∙ by p (family_at fs p) refl ∙ sym (kept_at u fs p sorted))
+    same_maps (flat_map (kept_family t) fs) (flat_map (kept_family u) fs) (sorted_kept t fs sorted) (sorted_kept u fs sorted) (λ p. kept_at t fs p sorted ∙ by p (family_at fs p) refl ∙ sym (kept_at u fs p sorted))
   where
     by : (p : List ℕ) (o : Option Family) → family_at fs p ≡ o → kept_option t p o ≡ kept_option u p o
     by p None at = refl
@@ -112,9 +111,9 @@ all_kept t xs all = same_filter t (λ _. true) xs all ∙ whole xs
     whole (x ∷ xs) = ap (λ l. x ∷ l) (whole xs)
 
 -- where each string with a cell passes, the families stay
-pub kept_all : (t : List ℕ → Bool) (h : ValuedFamilies ℕ) → AreValuedFamilies h → ((q : List ℕ) (cell : ℕ) → cell_of h.families q ≡ Some cell → t q ≡ true) → kept_by t h.families ≡ h.families
+pub kept_all : (t : List ℕ → Bool) (h : ValuedFamilies ℕ) → AreValuedFamilies h → ((q : List ℕ) (cell : ℕ) → cell_of h.families q ≡ Some cell → t q ≡ true) → flat_map (kept_family t) h.families ≡ h.families
 kept_all t h held all =
-    same_maps (kept_by t h.families) h.families (sorted_kept t h.families held.sorted) held.sorted (λ p. kept_at t h.families p held.sorted ∙ by p (family_at h.families p) refl)
+    same_maps (flat_map (kept_family t) h.families) h.families (sorted_kept t h.families held.sorted) held.sorted (λ p. kept_at t h.families p held.sorted ∙ by p (family_at h.families p) refl)
   where
     some_signs : (p : List ℕ) (f : Family) → family_at h.families p ≡ Some f → (l : List ℕ) → f.signs ≡ l → with_signs f.base l ≡ Some f
     some_signs p f at (x ∷ xs) is = λ i. Some (record { base = f.base; signs = sym is i })
@@ -216,10 +215,10 @@ left_other fs p q s n = by (family_at fs p)
         signs f (x ∷ xs) = find_put_other q p (record { base = f.base; signs = x ∷ xs }) fs n
 
 -- a string taken away from what is kept
-pub kept_less : (t u : List ℕ → Bool) (fs : Families) (p : List ℕ) (s : ℕ) → T (is_sorted order fs) → T (is_sorted order (without_sign (kept_by t fs) p s))
-    → ((q : List ℕ) → q ≢ p ++ s ∷ [] → u q ≡ t q) → u (p ++ s ∷ []) ≡ false → without_sign (kept_by t fs) p s ≡ kept_by u fs
+pub kept_less : (t u : List ℕ → Bool) (fs : Families) (p : List ℕ) (s : ℕ) → T (is_sorted order fs) → T (is_sorted order (without_sign (flat_map (kept_family t) fs) p s))
+    → ((q : List ℕ) → q ≢ p ++ s ∷ [] → u q ≡ t q) → u (p ++ s ∷ []) ≡ false → without_sign (flat_map (kept_family t) fs) p s ≡ flat_map (kept_family u) fs
 kept_less t u fs p s sorted in_order same none =
-    same_maps (without_sign (kept_by t fs) p s) (kept_by u fs) in_order (sorted_kept u fs sorted) (λ q. at q ∙ sym (kept_at u fs q sorted))
+    same_maps (without_sign (flat_map (kept_family t) fs) p s) (flat_map (kept_family u) fs) in_order (sorted_kept u fs sorted) (λ q. at q ∙ sym (kept_at u fs q sorted))
   where
     here : (o : Option Family) → left_of s (kept_option t p o) ≡ kept_option u p o
     here None = refl
@@ -235,13 +234,13 @@ kept_less t u fs p s sorted in_order same none =
     other q n None = refl
     other q n (Some f) = ap (with_signs f.base) (same_filter (λ x. t (q ++ x ∷ [])) (λ x. u (q ++ x ∷ [])) f.signs (λ x has. sym (same (q ++ x ∷ []) (λ e. n (last_same q p x s e).0))))
 
-    at : (q : List ℕ) → family_at (without_sign (kept_by t fs) p s) q ≡ kept_option u q (family_at fs q)
+    at : (q : List ℕ) → family_at (without_sign (flat_map (kept_family t) fs) p s) q ≡ kept_option u q (family_at fs q)
     at q = elim (equal_or_not q p) [
       | inl h ↦
-          ap (family_at (without_sign (kept_by t fs) p s)) h.0
-          ∙ left_at (kept_by t fs) p s
+          ap (family_at (without_sign (flat_map (kept_family t) fs) p s)) h.0
+          ∙ left_at (flat_map (kept_family t) fs) p s
           ∙ ap (left_of s) (kept_at t fs p sorted)
           ∙ here (family_at fs p)
           ∙ ap (λ x. kept_option u x (family_at fs x)) (sym h.0)
-      | inr h ↦ left_other (kept_by t fs) p q s h.0 ∙ kept_at t fs q sorted ∙ other q h.0 (family_at fs q)
+      | inr h ↦ left_other (flat_map (kept_family t) fs) p q s h.0 ∙ kept_at t fs q sorted ∙ other q h.0 (family_at fs q)
     ]

@@ -1,25 +1,14 @@
 -- Which strings lose their cells, and what that makes of the families.
-use Rattle.std.specs.Prelude.{◌≡◌, ◌≢◌, ℕ, ◌<◌, ◌≤◌, ◌⊎◌, Bool, true, false, List, [], ◌∷◌, ◌++◌, filter, length, None, Some, is_some}
+use Rattle.std.specs.Prelude.{◌≡◌, ◌≢◌, ℕ, ◌<◌, ◌≤◌, ◌⊎◌, Bool, true, false, List, [], ◌∷◌, ◌++◌, length, None, Some, is_some}
 use Rattle.std.specs.List.{flat_map}
 use Rattle.std.specs.Ordering.{nat_cmp}
 use Rattle.std.specs.Cmp.Lexicographic.{slice_cmp}
 use Rattle.std.specs.FinMap.{find}
-use Rattle.pg_types.specs.Placement.{Family, Families, cell_of}
+use Rattle.pg_types.specs.Placement.{cell_of, kept_family}
 use Rattle.pg_types.specs.Inside.Placing.{without_sign}
 use Rattle.pg_cells.specs.Inside.linked.ValuedFamilies.{ValuedFamilies, without_key}
 use Rattle.pg_cells.specs.Inside.linked.AreValuedFamilies.{AreValuedFamilies}
 use Rattle.pg_cells.specs.Inside.linked.Walks.{EndsBefore}
-
--- a family with the signs whose strings pass the test, or none where no sign does
-abbrev pub kept_one : (List ℕ → Bool) → List ℕ × Family → Families
-kept_one keep e = elim (filter (λ s. keep (e.0 ++ s ∷ [])) e.1.signs) [
-  | [] ↦ []
-  | x ∷ xs ↦ (e.0, record { base = e.1.base; signs = x ∷ xs }) ∷ []
-]
-
--- the families with the strings that pass the test
-abbrev pub kept_by : (List ℕ → Bool) → Families → Families
-kept_by keep fs = flat_map (kept_one keep) fs
 
 -- the string lost its cell: it has several signs, no list, and no string goes on from it
 pub record IsDropped (old new : ValuedFamilies ℕ) (q : List ℕ) : Type 0 where
@@ -63,7 +52,8 @@ pub record PrunesSome (keep : List ℕ → Bool) (old new : ValuedFamilies ℕ) 
       → (find (slice_cmp nat_cmp) q new.values ≡ find (slice_cmp nat_cmp) q old.values) ⊎
       ((find (slice_cmp nat_cmp) q new.values ≡ None) × (keep q ≡ false))
   pub families : new.families
-      ≡ kept_by (λ q. is_some (find (slice_cmp nat_cmp) q new.values)) old.families
+      ≡ flat_map (kept_family (λ q. is_some (find (slice_cmp nat_cmp) q new.values)))
+      old.families
 
 -- the string r goes on from q
 abbrev pub IsBelow : List ℕ → List ℕ → Type 0
@@ -97,4 +87,4 @@ pub record Prunes (keep : List ℕ → Bool) (old new : ValuedFamilies ℕ) : Ty
   pub stays : (q : List ℕ) → keep q ≡ true
       → find (slice_cmp nat_cmp) q new.values ≡ find (slice_cmp nat_cmp) q old.values
   pub gone : (q : List ℕ) → keep q ≡ false → find (slice_cmp nat_cmp) q new.values ≡ None
-  pub families : new.families ≡ kept_by keep old.families
+  pub families : new.families ≡ flat_map (kept_family keep) old.families

@@ -24,7 +24,7 @@ fn stands_beside(value: u8, dot: u8, other: u8, other_dot: u8) -> bool
 }
 
 /// The head of the list with `value` at `dot`. Where it has a value there, the greater one counts.
-pub fn raised(outputs: &mut Outputs, head: u64, value: u8, dot: u8) -> Result<u64, AllocError>
+pub fn head_with(outputs: &mut Outputs, head: u64, value: u8, dot: u8) -> Result<u64, AllocError>
     requires { head ≤ length outputs.old }
     ensures list { IfOk result
         (λ h. list_of outputs.new h ≡ list_with (value, dot) (list_of outputs.old head)) }
@@ -40,6 +40,6 @@ pub fn raised(outputs: &mut Outputs, head: u64, value: u8, dot: u8) -> Result<u6
     if stands_beside(value, dot, first, at) {
         return outputs.cons(value.max(first), at, next);
     }
-    let rest = raised(outputs, next, value, dot)?;
+    let rest = head_with(outputs, next, value, dot)?;
     outputs.cons(first, at, rest)
 }

@@ -18,6 +18,10 @@ level_passes = LENGTH_MAX * length_passes
 abbrev pub sums_limit : ℕ
 sums_limit = 2 ^ 40
 
+-- a dictionary has fewer positions than this: one for each of FILE_MAX letters and for each edge
+abbrev pub positions_limit : ℕ
+positions_limit = 2 ^ 32
+
 -- both sums of a window that an engine counts stay below this
 abbrev pub counts_limit : ℕ
 counts_limit = 2 ^ 60

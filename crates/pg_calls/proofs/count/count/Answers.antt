@@ -1,5 +1,5 @@
 use Rattle.std.proofs.Common.{◌≡◌, ℕ, ◌+◌, ◌*◌, ◌≤◌, List, subst, ◌∙◌, arith}
-use Rattle.pg_types.specs.Inside.Counts.{sums_of}
+use Rattle.pg_types.specs.Inside.counting.Counts.{sums_of}
 use Rattle.pg_calls.proofs.count.count.Goals as goal
 
 nine_more : (i : ℕ) → 9 * i + 9 ≡ 9 * (i + 1)

@@ -1,5 +1,5 @@
 use Rattle.std.proofs.Common.{◌≡◌, ℕ, ◌*◌, ◌≤◌, List}
-use Rattle.pg_types.specs.Inside.Counts.{sums_of}
+use Rattle.pg_types.specs.Inside.counting.Counts.{sums_of}
 use Rattle.pg_calls.proofs.count.count.Given as goal
 
 abbrev pub invariant-loop-row : goal.invariant-loop-row

@@ -2,7 +2,7 @@ use Rattle.std.proofs.Common.{◌≡◌, ℕ, ◌+◌, ◌≤◌, Bool, true, fa
 use Rattle.std.specs.Cmp.Lexicographic.{nat_list_cmp_total}
 use Rattle.std.specs.FinMap.Entries.{find, find-put}
 use Rattle.pg_cells.proofs.StringMaps.{order, same_string}
-use Rattle.pg_types.specs.Inside.Counts.{Counts, sums_of, with_weight, with_count}
+use Rattle.pg_types.specs.Inside.counting.Counts.{Counts, sums_of, with_weight, with_count}
 use Rattle.pg_count.specs.Inside.Counting.{Counting}
 use Rattle.pg_calls.proofs.count.count_window.Goals as goal
 

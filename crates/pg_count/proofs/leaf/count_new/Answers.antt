@@ -3,8 +3,8 @@ use Rattle.pg_cells.specs.Inside.linked.ValuedFamilies.{ValuedFamilies}
 use Rattle.std.proofs.lemmas.Result.{err_from_is_err_and}
 use Rattle.std.proofs.Common.{arith, ap, length, sym, subst, refl, Option, ◌∙◌}
 use Rattle.std.proofs.lemmas.List.{length_push}
-use Rattle.pg_types.specs.Inside.Counts.{SignsWithin}
-use Rattle.pg_count.specs.Inside.Leaves.{AreLeaves, Keeps}
+use Rattle.pg_types.specs.Inside.counting.Counts.{SignsWithin}
+use Rattle.pg_count.specs.Inside.cells.Leaves.{AreLeaves, Keeps}
 use Rattle.pg_count.specs.Inside.WindowRow.{WindowRow}
 use Rattle.pg_count.proofs.WalkLaws.Listing.{put_back}
 use Rattle.pg_count.proofs.LeafLaws.Parting.{keeps_sets, new_leaves, new_sets}

@@ -1,7 +1,7 @@
 -- The steps of the reading of a word.
 use Rattle.std.specs.Prelude.{◌≡◌, ◌+◌, ◌<◌, ◌≤◌, ℕ, length, Option, None, Some, Result, Ok, Err}
 use Rattle.pg_types.specs.declared.refusals.ReadingError.{ReadingError}
-use Rattle.pg_types.specs.Inside.Answers.{Fails}
+use Rattle.pg_types.specs.Inside.reading.Answers.{Fails}
 use Rattle.pg_dict.specs.declared.entries.line.Line.{Line}
 use Rattle.pg_dict.specs.declared.entries.letters.WordReading.{WordReading}
 use Rattle.pg_dict.specs.Inside.Lines.PositionedSigns.{Columns}

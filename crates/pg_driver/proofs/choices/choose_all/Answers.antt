@@ -3,9 +3,9 @@ use Rattle.std.specs.List.{sum_by}
 use Rattle.std.proofs.lemmas.List.{length-map, drop_more}
 use Rattle.std.proofs.lemmas.List.Sums.{sum_by-cons}
 use Rattle.std.proofs.lemmas.Option.{slice_get_within, get_or_from_slice_get}
-use Rattle.pg_types.specs.Inside.Counts.{Counts, counted_sums}
-use Rattle.pg_types.specs.Inside.NumberedWindows.{HasNumber}
-use Rattle.pg_select.specs.Inside.Meanings.{Meaning}
+use Rattle.pg_types.specs.Inside.counting.Counts.{Counts, counted_sums}
+use Rattle.pg_types.specs.Inside.counting.NumberedWindows.{HasNumber}
+use Rattle.pg_select.specs.Inside.engine.Meanings.{Meaning}
 use Rattle.pg_select.specs.CountedPositions.{Candidate}
 use Rattle.pg_driver.specs.declared.choices.Choices.{Choices}
 use Rattle.pg_driver.specs.Inside.choices.Choosing.{HasChosen, with_candidates, candidate_of}

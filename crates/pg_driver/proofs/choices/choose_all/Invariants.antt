@@ -1,7 +1,7 @@
 use Rattle.std.proofs.Common.{◌≡◌, ◌+◌, ◌*◌, ◌≤◌, length, map, drop, slice_get, Some}
 use Rattle.std.specs.List.{sum_by}
 use Rattle.pg_types.specs.declared.limits.TheConstants.{WEIGHT_MAX, FILE_MAX}
-use Rattle.pg_types.specs.Inside.Counts.{Counts}
+use Rattle.pg_types.specs.Inside.counting.Counts.{Counts}
 use Rattle.pg_driver.specs.Inside.choices.Choosing.{candidate_of, with_candidates, no_choices}
 use Rattle.pg_driver.specs.Inside.level.PassWindows.{IsPart}
 use Rattle.pg_driver.specs.Inside.level.States.{state_of}

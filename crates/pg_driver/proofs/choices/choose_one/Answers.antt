@@ -1,7 +1,7 @@
 use Rattle.std.proofs.Common.{◌≡◌, ℕ, ◌+◌, List, [], get_or, Some, sym, ap, ◌∙◌, arith}
 use Rattle.std.proofs.lemmas.Option.{slice_get-get_or}
-use Rattle.pg_types.specs.Inside.NumberedWindows.{HasNumber}
-use Rattle.pg_select.specs.Inside.Meanings.{Meaning, KeepsButFamilies, after_choose, after_give_up}
+use Rattle.pg_types.specs.Inside.counting.NumberedWindows.{HasNumber}
+use Rattle.pg_select.specs.Inside.engine.Meanings.{Meaning, KeepsButFamilies, after_choose, after_give_up}
 use Rattle.pg_driver.specs.Inside.level.PassWindows.{IsCandidate}
 use Rattle.pg_driver.proofs.ChoiceSteps.{left_one, left_numbers, chosen_one, chosen_numbers, hopeless_one, hopeless_numbers}
 use Rattle.pg_driver.proofs.choices.choose_one.Goals as goal

@@ -1,8 +1,8 @@
 use Rattle.std.proofs.Common.{ℕ, List, sym, ap, subst, ◌∙◌, arith}
-use Rattle.pg_types.specs.Inside.NumberedWindows.{AreInOrder, AreNumbered}
+use Rattle.pg_types.specs.Inside.counting.NumberedWindows.{AreInOrder, AreNumbered}
 use Rattle.pg_dict.specs.Inside.SoundWords.{SignsAtMost}
 use Rattle.pg_select.specs.declared.choice.Choice.{Choice}
-use Rattle.pg_select.specs.Inside.Meanings.{Meaning}
+use Rattle.pg_select.specs.Inside.engine.Meanings.{Meaning}
 use Rattle.pg_driver.specs.Inside.level.PassWindows.{AreFates}
 use Rattle.pg_driver.specs.Accounts.{totals_by}
 use Rattle.pg_driver.specs.Inside.counting.LevelCounting.{AreNumberedIn, IsReady}

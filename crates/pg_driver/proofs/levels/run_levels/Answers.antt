@@ -4,7 +4,7 @@ use Rattle.std.specs.Option.{IfSome}
 use Rattle.pg_types.specs.declared.marks.Totals.{Totals}
 use Rattle.pg_types.specs.declared.parameters.LevelParams.{LevelParams}
 use Rattle.pg_patterns.specs.Values.{largest}
-use Rattle.pg_select.specs.Inside.LawsSteps.{IsUpTo}
+use Rattle.pg_select.specs.Inside.laws.Steps.{IsUpTo}
 use Rattle.pg_driver.specs.Accounts.{totals_by}
 use Rattle.pg_driver.specs.Inside.records.Sound.{IsSmall, RunRecords}
 use Rattle.pg_driver.specs.Inside.level.States.{State}

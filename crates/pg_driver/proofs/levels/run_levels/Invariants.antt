@@ -1,7 +1,7 @@
 use Rattle.std.proofs.Common.{◌≡◌, ◌+◌, ◌-◌, ◌*◌, ◌≤◌, max, true, drop}
 use Rattle.std.specs.List.{enumerate_from}
 use Rattle.std.specs.Option.{IfSome}
-use Rattle.pg_select.specs.Inside.LawsSteps.{IsUpTo}
+use Rattle.pg_select.specs.Inside.laws.Steps.{IsUpTo}
 use Rattle.pg_driver.specs.Accounts.{totals_by}
 use Rattle.pg_driver.specs.Inside.records.Sound.{IsSmall}
 use Rattle.pg_driver.specs.Traces.{source_of}

@@ -1,6 +1,6 @@
 use Rattle.std.proofs.Common.{◌≡◌, ℕ, ◌<◌, ◌++◌, List, length, slice_get, Some}
-use Rattle.pg_types.specs.Inside.Counts.{counted_sums}
-use Rattle.pg_types.specs.Inside.NumberedWindows.{HasNumber}
+use Rattle.pg_types.specs.Inside.counting.Counts.{counted_sums}
+use Rattle.pg_types.specs.Inside.counting.NumberedWindows.{HasNumber}
 use Rattle.pg_select.specs.Inside.Choices.{choice}
 use Rattle.pg_select.specs.declared.choice.Choice.{Choice}
 use Rattle.pg_driver.proofs.pass_windows.decide_all.Given as goal

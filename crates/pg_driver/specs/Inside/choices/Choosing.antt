@@ -1,7 +1,7 @@
 -- What the choice among the candidates of a pass makes of an engine, and what it counts.
 use Rattle.std.specs.Prelude.{◌≡◌, ℕ, ◌+◌, List, length, sum_by}
 use Rattle.pg_types.specs.declared.parameters.LevelParams.{LevelParams}
-use Rattle.pg_select.specs.Inside.Meanings.{Meaning}
+use Rattle.pg_select.specs.Inside.engine.Meanings.{Meaning}
 use Rattle.pg_select.specs.CountedPositions.{Candidate}
 use Rattle.pg_driver.specs.declared.choices.Choices.{Choices}
 use Rattle.pg_driver.specs.Traces.{PassTrace}

@@ -7,11 +7,11 @@ use Rattle.std.specs.FinMap.Entries.{is_sorted}
 use Rattle.pg_types.specs.declared.limits.TheConstants.{WEIGHT_MAX, FILE_MAX}
 use Rattle.pg_dict.specs.Word.{Word}
 use Rattle.pg_dict.specs.Inside.SoundWords.{IsWord, letter_count}
-use Rattle.pg_types.specs.Inside.Counts.{Counts, SignsWithin}
-use Rattle.pg_types.specs.Inside.NumberedWindows.{Windows, with_window}
-use Rattle.pg_select.specs.Inside.Laws.{AreFew, positions_in}
-use Rattle.pg_select.specs.Inside.Meanings.{Meaning, with_position}
-use Rattle.pg_select.specs.Inside.Positions.{Positions, HasValues, HasCovers}
+use Rattle.pg_types.specs.Inside.counting.Counts.{Counts, SignsWithin}
+use Rattle.pg_types.specs.Inside.counting.NumberedWindows.{Windows, with_window}
+use Rattle.pg_select.specs.Inside.laws.Laws.{AreFew, positions_in}
+use Rattle.pg_select.specs.Inside.engine.Meanings.{Meaning, with_position}
+use Rattle.pg_select.specs.Inside.words.Positions.{Positions, HasValues, HasCovers}
 use Rattle.pg_select.specs.CountedPositions.{CountedPosition}
 use Rattle.pg_driver.specs.Traces.{Source}
 

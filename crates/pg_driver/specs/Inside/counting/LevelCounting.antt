@@ -4,13 +4,13 @@ use Rattle.std.specs.Prelude.{◌≡◌, ℕ, ◌-◌, ◌≤◌, ◌<◌, Bool,
 use Rattle.pg_types.specs.declared.limits.TheConstants.{FILE_MAX, LENGTH_MAX}
 use Rattle.pg_types.specs.declared.marks.Totals.{Totals}
 use Rattle.pg_types.specs.declared.parameters.LevelParams.{LevelParams}
-use Rattle.pg_types.specs.Inside.Counts.{Counts}
-use Rattle.pg_types.specs.Inside.NumberedWindows.{Windows}
+use Rattle.pg_types.specs.Inside.counting.Counts.{Counts}
+use Rattle.pg_types.specs.Inside.counting.NumberedWindows.{Windows}
 use Rattle.pg_dict.specs.Word.{Word}
 use Rattle.pg_select.specs.declared.pass.Pass.{Pass}
 use Rattle.pg_select.specs.CountedPositions.{counted_positions}
-use Rattle.pg_select.specs.Inside.LawsSteps.{FindsMore, PreventsMore}
-use Rattle.pg_select.specs.Inside.Meanings.{Meaning}
+use Rattle.pg_select.specs.Inside.laws.Steps.{FindsMore, PreventsMore}
+use Rattle.pg_select.specs.Inside.engine.Meanings.{Meaning}
 use Rattle.pg_select.specs.Statuses.{is_odd}
 use Rattle.pg_select.specs.Windows.{Patterns}
 use Rattle.pg_driver.specs.declared.choices.Choices.{Choices}

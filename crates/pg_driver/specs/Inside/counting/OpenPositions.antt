@@ -8,7 +8,7 @@ use Rattle.pg_select.specs.CountedPositions.{Minima, CountedPosition}
 use Rattle.pg_select.specs.Statuses.{position_weight}
 use Rattle.pg_select.specs.Windows.{window}
 use Rattle.pg_driver.specs.declared.pass_windows.WordPosition.{WordPosition}
-use Rattle.pg_select.specs.Inside.LawsClosedDots.{counted_with}
+use Rattle.pg_select.specs.Inside.laws.ClosedDots.{counted_with}
 
 -- the positions in reach of words, each with the number of its word, from a number on
 abbrev pub numbered_positions : Minima → ℕ → List Word → List (ℕ × ℕ)

@@ -5,7 +5,7 @@ use Rattle.std.specs.List.{list_any, range_with_len}
 use Rattle.std.specs.Option.{option_map_or}
 use Rattle.pg_types.specs.declared.limits.TheConstants.{LENGTH_MAX}
 use Rattle.pg_types.specs.declared.parameters.LevelParams.{LevelParams}
-use Rattle.pg_types.specs.Inside.Counts.{Counts, counted_sums}
+use Rattle.pg_types.specs.Inside.counting.Counts.{Counts, counted_sums}
 use Rattle.pg_translate.specs.Reach.{positions}
 use Rattle.pg_dict.specs.Inside.Store.{all_signs}
 use Rattle.pg_dict.specs.Word.{Word}
@@ -14,8 +14,8 @@ use Rattle.pg_select.specs.declared.choice.Choice.TheVariants.{Hopeless as Given
 use Rattle.pg_select.specs.declared.pass.Pass.{Pass}
 use Rattle.pg_select.specs.Inside.Choices.{choice}
 use Rattle.pg_select.specs.CountedPositions.{Minima, counts_as}
-use Rattle.pg_select.specs.Inside.LawsClosedDots.{Tells}
-use Rattle.pg_select.specs.Inside.LawsSteps.{CoversUpTo, IsUpTo}
+use Rattle.pg_select.specs.Inside.laws.ClosedDots.{Tells}
+use Rattle.pg_select.specs.Inside.laws.Steps.{CoversUpTo, IsUpTo}
 use Rattle.pg_select.specs.Statuses.{status_at}
 use Rattle.pg_select.specs.Windows.{Patterns, Hopeless, window, fits}
 use Rattle.pg_driver.specs.declared.pass_windows.WordPosition.{WordPosition}

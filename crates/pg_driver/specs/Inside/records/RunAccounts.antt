@@ -9,7 +9,7 @@ use Rattle.pg_types.specs.declared.marks.Layout.{Layout}
 use Rattle.pg_types.specs.Parameters.{Parameters}
 use Rattle.pg_translate.specs.Alphabets.{Alphabet}
 use Rattle.pg_dict.specs.Word.{Word}
-use Rattle.pg_select.specs.Inside.Meanings.{Meaning}
+use Rattle.pg_select.specs.Inside.engine.Meanings.{Meaning}
 use Rattle.pg_select.specs.declared.pass.Pass.{Pass}
 use Rattle.pg_driver.specs.declared.records.PassRecord.{PassRecord}
 use Rattle.pg_driver.specs.declared.records.LevelRecord.{LevelRecord}

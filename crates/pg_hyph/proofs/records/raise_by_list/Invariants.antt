@@ -1,6 +1,6 @@
 use Rattle.std.proofs.Common.{◌≤◌, length}
 use Rattle.pg_outputs.specs.Lists.{list_of}
-use Rattle.pg_select.specs.Inside.Positions.{values_of, covers_of}
+use Rattle.pg_select.specs.Inside.words.Positions.{values_of, covers_of}
 use Rattle.pg_hyph.specs.Inside.ListValues.{value_by, cover_by}
 use Rattle.pg_hyph.specs.Inside.Walks.{by_list}
 use Rattle.pg_hyph.proofs.Loops.{Level}

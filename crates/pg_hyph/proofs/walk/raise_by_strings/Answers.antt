@@ -2,7 +2,7 @@ use Rattle.std.proofs.Common.{◌≡◌, ℕ, ◌+◌, ◌-◌, ◌≤◌, List,
 use Rattle.pg_types.specs.Placement.{cell_of}
 use Rattle.pg_outputs.specs.Lists.{list_of}
 use Rattle.pg_trie.specs.Inside.Lists.{outputs_at}
-use Rattle.pg_select.specs.Inside.Positions.{values_of, covers_of}
+use Rattle.pg_select.specs.Inside.words.Positions.{values_of, covers_of}
 use Rattle.pg_hyph.specs.Inside.ListValues.{value_by, cover_by}
 use Rattle.pg_hyph.proofs.Loops.{longer, stop_first, stop_next, stop_here, stop_last}
 use Rattle.pg_hyph.proofs.walk.raise_by_strings.Goals as goal

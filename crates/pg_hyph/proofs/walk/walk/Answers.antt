@@ -1,6 +1,6 @@
 use Rattle.std.proofs.Common.{refl, arith}
 use Rattle.pg_trie.specs.Inside.Lists.{outputs_at}
-use Rattle.pg_select.specs.Inside.Positions.{values_of, covers_of}
+use Rattle.pg_select.specs.Inside.words.Positions.{values_of, covers_of}
 use Rattle.pg_hyph.specs.Inside.ListValues.{value_by, cover_by}
 use Rattle.pg_hyph.proofs.Loops.{start_next, start_last}
 use Rattle.pg_hyph.proofs.walk.walk.Goals as goal

@@ -4,7 +4,7 @@ use Rattle.pg_types.specs.Lines.{lines}
 use Rattle.pg_types.specs.declared.limits.TheConstants.{FILE_MAX}
 use Rattle.pg_translate.specs.Alphabets.{letters_of}
 use Rattle.pg_patterns.specs.Inside.PatternMaps.{SignsUpTo, is_entry}
-use Rattle.pg_types.specs.Inside.Parts.{both_parts}
+use Rattle.pg_types.specs.Inside.reading.Parts.{both_parts}
 use Rattle.pg_patterns.specs.Inside.EntryLines.{entries_from}
 use Rattle.pg_patterns.proofs.reader.read_entries.Given as goal
 

@@ -3,7 +3,7 @@ use Rattle.std.specs.Cmp.Lexicographic.{slice_cmp}
 use Rattle.std.specs.FinMap.Entries.{put}
 use Rattle.pg_types.proofs.EntryLists.{insert-put}
 use Rattle.std.proofs.lemmas.List.{length_push}
-use Rattle.pg_plain.specs.declared.counts.TheConstants.{NUMBERS_MAX}
+use Rattle.pg_types.specs.declared.limits.TheConstants.{NUMBERS_END}
 use Rattle.pg_plain.proofs.counts.number_new.Goals as goal
 
 pub returns-in-Ok-clause-numbers : goal.returns-in-Ok-clause-numbers
@@ -16,10 +16,10 @@ returns-in-Ok-clause-numbers c =
 pub returns-in-Ok-clause-few : goal.returns-in-Ok-clause-few
 returns-in-Ok-clause-few c =
     let same : c.len-number.result ≡ length c.args.tallies.now.items = search rules in
-    let other : length c.args.tallies.now.items ≢ NUMBERS_MAX = λ z. c.if-number.false (same ∙ z) in
+    let other : length c.args.tallies.now.items ≢ NUMBERS_END = λ z. c.if-number.false (same ∙ z) in
     let all = ap length c.in_ok-push_both.ensures.tallies ∙ length_push c.args.tallies.now.items c.args.sums in
     let few = c.requires.few in
     omega arith
 
 pub returns-in_err-push_both-clause-few : goal.returns-in_err-push_both-clause-few
-returns-in_err-push_both-clause-few c = subst (λ (xs : List (ℕ × ℕ)). length xs ≤ NUMBERS_MAX) (sym c.in_err-push_both.ensures.err_tallies) c.requires.few
+returns-in_err-push_both-clause-few c = subst (λ (xs : List (ℕ × ℕ)). length xs ≤ NUMBERS_END) (sym c.in_err-push_both.ensures.err_tallies) c.requires.few

@@ -1,6 +1,6 @@
 use Rattle.std.proofs.Common.{◌*◌, ap, arith}
 use Rattle.pg_types.specs.declared.limits.TheConstants.{WEIGHT_MAX}
-use Rattle.pg_select.specs.Inside.Meanings.{Meaning}
+use Rattle.pg_select.specs.Inside.engine.Meanings.{Meaning}
 use Rattle.pg_runs.proofs.Bounds.{bound_more, small_more}
 use Rattle.pg_runs.proofs.plain.count_window.Goals as goal
 

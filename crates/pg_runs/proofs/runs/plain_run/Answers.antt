@@ -1,6 +1,6 @@
 use Rattle.std.proofs.Common.{ℕ, ap, sym, ◌∙◌, ◌+◌, subst}
 use Rattle.pg_dict.specs.Inside.SoundWords.{SignsAtMost}
-use Rattle.pg_select.specs.Inside.Meanings.{Meaning}
+use Rattle.pg_select.specs.Inside.engine.Meanings.{Meaning}
 use Rattle.pg_runs.proofs.runs.plain_run.Goals as goal
 
 pub generate-requires-clause-signs : goal.generate-requires-clause-signs

@@ -1,5 +1,5 @@
 use Rattle.std.proofs.Common.{subst}
-use Rattle.pg_types.specs.Inside.Answers.{Gives}
+use Rattle.pg_types.specs.Inside.reading.Answers.{Gives}
 use Rattle.pg_types.specs.Parameters.{parameters}
 use Rattle.pg_steps.proofs.Fronts.{parameters-front, input_read, input_stopped}
 use Rattle.pg_steps.proofs.reading.read_parameters.Goals as goal

@@ -1,6 +1,6 @@
 use Rattle.std.proofs.Common.{◌+◌, subst}
 use Rattle.std.proofs.lemmas.Result.{IfOk-from_err}
-use Rattle.pg_types.specs.Inside.Answers.{Gives}
+use Rattle.pg_types.specs.Inside.reading.Answers.{Gives}
 use Rattle.pg_patterns.specs.Starts.{start}
 use Rattle.pg_patterns.specs.Inside.PatternMaps.{SignsUpTo}
 use Rattle.pg_translate.specs.Alphabets.{letters_of}

@@ -1,5 +1,5 @@
 use Rattle.std.proofs.Common.{subst}
-use Rattle.pg_types.specs.Inside.Answers.{Gives}
+use Rattle.pg_types.specs.Inside.reading.Answers.{Gives}
 use Rattle.pg_translate.specs.Tables.{table}
 use Rattle.pg_steps.specs.declared.inputs.Input.TheVariants.{Translate}
 use Rattle.pg_steps.proofs.Fronts.{table-front, input_read, input_stopped}

@@ -13,11 +13,11 @@ use Rattle.pg_sweep.proofs.sets.sweep.Goals as goal
 pub sets-preserved : goal.sets-preserved
 sets-preserved g c =
     let terms : Terms = record { table = c.args.table.now; words = c.args.dictionary.now; start = c.args.start.now; folds = c.args.folds } in
-    let priced : Totals → SweepRow = λ (t : Totals). record { totals = t; cost = c.args.bad * t.bad + c.args.missed * t.missed } in
-    let row : c.priced.result ≡ priced c.in_ok-totals.totals = c.priced.ensures in
+    let row_with : Totals → SweepRow = λ (t : Totals). record { totals = t; cost = c.args.bad * t.bad + c.args.missed * t.missed } in
+    let row : c.with_cost.result ≡ row_with c.in_ok-totals.totals = c.with_cost.ensures in
     let at : c.index-sets-i.result ≡ slice_index_or c.args.sets.now c.sets.i c.index-sets-i.result = c.index-sets-i.is in
     c.in_ok-push.ensures.items
-    ∙ ap (λ (r : SweepRow). c.sets.rows.items ++ r ∷ []) (row ∙ ap priced c.in_ok-totals.ensures.value)
+    ∙ ap (λ (r : SweepRow). c.sets.rows.items ++ r ∷ []) (row ∙ ap row_with c.in_ok-totals.ensures.value)
     ∙ ap (λ (set : Parameters). c.sets.rows.items ++ row_of terms c.args.bad c.args.missed set ∷ []) at
     ∙ map_more (row_of terms c.args.bad c.args.missed) c.args.sets.now c.sets.rows.items c.sets.i c.index-sets-i.result c.sets-test.true c.sets.invariant
 
@@ -27,11 +27,11 @@ sets-init g c = c.new-rows.ensures.items
 pub totals_of_set-requires : goal.totals_of_set-requires
 totals_of_set-requires g c = record { signs = (c.requires.signs, c.requires.known) }
 
-pub priced-requires-clause-small : goal.priced-requires-clause-small
-priced-requires-clause-small g c = (omega (arith, c.in_ok-totals.ensures.small.0), omega (arith, c.in_ok-totals.ensures.small.1), omega (arith, c.in_ok-totals.ensures.small.2))
+pub with_cost-requires-clause-small : goal.with_cost-requires-clause-small
+with_cost-requires-clause-small g c = (omega (arith, c.in_ok-totals.ensures.small.0), omega (arith, c.in_ok-totals.ensures.small.1), omega (arith, c.in_ok-totals.ensures.small.2))
 
-pub priced-requires-clause-prices : goal.priced-requires-clause-prices
-priced-requires-clause-prices g c = (c.requires.bad.1, c.requires.missed.1)
+pub with_cost-requires-clause-prices : goal.with_cost-requires-clause-prices
+with_cost-requires-clause-prices g c = (c.requires.bad.1, c.requires.missed.1)
 
 pub new-requires : goal.new-requires
 new-requires g c =

@@ -2,7 +2,7 @@
 use Rattle.std.specs.Prelude.{◌≡◌, ℕ, ◌+◌, ◌-◌, ◌<◌, ◌&&◌, nat_le, nat_eq, if◌then◌else◌, List, length}
 use Rattle.std.specs.List.{range_with_len}
 use Rattle.pg_types.specs.declared.limits.TheConstants.{PATTERN_SIGNS_MAX, WORD_LETTERS_MAX}
-use Rattle.pg_select.specs.Inside.Positions.{Positions, covers_of}
+use Rattle.pg_select.specs.Inside.words.Positions.{Positions, covers_of}
 use Rattle.pg_table.specs.Lookups.{value_from}
 use Rattle.pg_table.specs.Inside.view.Greatest.{greatest, value_in_list}
 

@@ -1,7 +1,7 @@
 -- The run of a selection: what it tells, and what its engine has before it and after it.
 use Rattle.std.specs.Prelude.{◌≡◌}
 use Rattle.pg_patterns.specs.Inside.PatternMaps.{SignsUpTo}
-use Rattle.pg_select.specs.Inside.Meanings.{Meaning, new_engine}
+use Rattle.pg_select.specs.Inside.engine.Meanings.{Meaning, new_engine}
 use Rattle.pg_driver.specs.Inside.records.RunAccounts.{account_of}
 use Rattle.pg_driver.specs.Inside.records.Sound.{CompletedRun}
 use Rattle.pg_top.specs.Selection.{selected_patterns}

@@ -1,8 +1,7 @@
 -- What `pack` has read, its table, and why it makes none.
 use Rattle.std.specs.Prelude.{◌≡◌, ℕ, ◌+◌, List, [], ◌∷◌, Some, Ok}
-use Rattle.pg_types.specs.declared.refusals.Kind.{Kind}
 use Rattle.pg_types.specs.declared.refusals.Kind.TheVariants.{TableTooLong}
-use Rattle.pg_types.specs.declared.refusals.Refusal.{Refusal}
+use Rattle.pg_types.specs.Reading.{refusal_at}
 use Rattle.pg_translate.specs.Alphabets.{Alphabet, letters_of}
 use Rattle.pg_translate.specs.Tables.{table}
 use Rattle.pg_patterns.specs.Starts.{start}
@@ -16,10 +15,6 @@ use Rattle.pg_steps.specs.declared.inputs.Input.TheVariants as input
 use Rattle.pg_steps.specs.declared.inputs.Stop.{Stop}
 use Rattle.pg_steps.specs.declared.inputs.Stop.TheVariants as stop
 use Rattle.pg_top.specs.declared.pack.inputs.Source.{Source}
-
--- a table is refused, without a place
-abbrev pub table_refused : Kind → Refusal
-table_refused kind = record { kind = kind; line = 0; column = 0 }
 
 -- the files that `pack` reads, in its order
 abbrev pub source_files : List ℕ → List ℕ → List Reading
@@ -37,5 +32,5 @@ pub record HasSource (files : HeldFiles) (translate pattern_file : List ℕ)
 
 -- why `pack` stops where no table is made
 abbrev pub stop_of_table : TableError → Stop
-stop_of_table table_error.TooLong = stop.Refused input.Table (table_refused TableTooLong)
+stop_of_table table_error.TooLong = stop.Refused input.Table (refusal_at 0 TableTooLong 0)
 stop_of_table table_error.Memory = stop.Memory

@@ -5,7 +5,7 @@ use Rattle.std.specs.Char.{is_ascii_digit}
 use Rattle.pg_types.specs.declared.refusals.Kind.TheVariants.{BadMinima, BadMark}
 use Rattle.pg_types.specs.declared.refusals.Refusal.{Refusal}
 use Rattle.pg_types.specs.Lines.{pieces_at}
-use Rattle.pg_types.specs.Inside.Parts.{first_refusal}
+use Rattle.pg_types.specs.Inside.reading.Parts.{first_refusal}
 use Rattle.pg_translate.specs.declared.head.TheConstants.{DEFAULT_LEFT, DEFAULT_RIGHT}
 use Rattle.pg_translate.specs.Alphabets.{Alphabet}
 use Rattle.pg_translate.specs.Tables.{check, in_column, marks_of, mark_fails, ListedSpelling, spellings_at, spelling_with_sign, spelling_check}

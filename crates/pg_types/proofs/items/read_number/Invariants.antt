@@ -1,6 +1,6 @@
 use Rattle.std.proofs.Common.{◌≡◌, ℕ, ◌≤◌, drop, min, option_map}
 use Rattle.pg_types.specs.declared.items.TheConstants.{TOO_GREAT}
-use Rattle.pg_types.specs.Inside.Parts.{number_from}
+use Rattle.pg_types.specs.Inside.reading.Parts.{number_from}
 use Rattle.pg_types.proofs.items.read_number.Given as goal
 
 abbrev pub invariant-loop-digit : goal.invariant-loop-digit

@@ -4,8 +4,8 @@ use Rattle.std.proofs.lemmas.List.FromFn.{length-map-range_with_len}
 use Rattle.std.proofs.lemmas.Result.{err_from_is_err_and}
 use Rattle.pg_types.specs.declared.limits.TheConstants.{FILE_MAX, LEVEL_MAX}
 use Rattle.pg_types.specs.Parameters.{items}
-use Rattle.pg_types.specs.Inside.Answers.{Gives}
-use Rattle.pg_types.specs.Inside.ItemSteps.{number_between}
+use Rattle.pg_types.specs.Inside.reading.Answers.{Gives}
+use Rattle.pg_types.specs.Inside.reading.ItemSteps.{number_between}
 use Rattle.pg_types.proofs.Levels.{levels_demanded, whole_refused, read_as, by_reading}
 use Rattle.pg_types.proofs.parameters.read_params.Goals as goal
 

@@ -3,7 +3,7 @@ use Rattle.std.specs.Char.{is_ascii_digit}
 use Rattle.std.proofs.lemmas.Grind.{common_steps}
 use Rattle.std.proofs.lemmas.List.{drop_more}
 use Rattle.pg_types.specs.Parameters.{with_digit}
-use Rattle.pg_types.specs.Inside.Parts.{number_from}
+use Rattle.pg_types.specs.Inside.reading.Parts.{number_from}
 use Rattle.pg_words.specs.Inside.Numbers.{at_most}
 use Rattle.pg_words.proofs.DigitValues.{digit_more, too_great}
 use Rattle.pg_words.proofs.numbers.digits_value.Goals as goal

@@ -1,5 +1,5 @@
 use Rattle.std.proofs.Common.{◌≡◌, ◌≤◌, drop}
-use Rattle.pg_types.specs.Inside.Parts.{number_from}
+use Rattle.pg_types.specs.Inside.reading.Parts.{number_from}
 use Rattle.pg_words.specs.Inside.Numbers.{at_most}
 use Rattle.pg_words.proofs.numbers.digits_value.Given as goal
 

@@ -68,8 +68,8 @@ returns-in_err-missed c =
       within = rw c.from_residual-in_err-missed.ensures tt;
     }
 
-pub taken-requires : goal.taken-requires
-taken-requires c = record {
+pub sweep_command-requires : goal.sweep_command-requires
+sweep_command-requires c = record {
   folds = c.in_ok-folds.ensures.within;
   bad = c.in_ok-bad.ensures.within;
   missed = c.in_ok-missed.ensures.within;
@@ -93,6 +93,6 @@ returns c =
     c.as_str-2.result.now c.as_str-3.result.now texts c.in_ok-folds.folds c.in_ok-bad.bad c.in_ok-missed.missed (sym c.in_ok-folds.ensures.value)
     (sym c.in_ok-bad.ensures.value) (sym c.in_ok-missed.ensures.value) count in
     record {
-      value = c.taken.ensures.value ∙ sym asked ∙ ap sweep_in (sym parts);
-      within = c.taken.ensures.within;
+      value = c.sweep_command.ensures.value ∙ sym asked ∙ ap sweep_in (sym parts);
+      within = c.sweep_command.ensures.within;
     }

@@ -1,7 +1,7 @@
 use Rattle.std.proofs.Common.{[], refl, ap, sym, subst, ◌∙◌}
 use Rattle.std.proofs.lemmas.Bool.{eqb-true}
-use Rattle.pg_types.specs.Inside.NumberedWindows.{no_counts}
-use Rattle.pg_count.specs.Inside.Leaves.{AreCounting, AreShort}
+use Rattle.pg_types.specs.Inside.counting.NumberedWindows.{no_counts}
+use Rattle.pg_count.specs.Inside.cells.Leaves.{AreCounting, AreShort}
 use Rattle.pg_count.specs.Inside.WindowRow.{WindowRow}
 use Rattle.pg_count.specs.Inside.Counting.{Counting, counting_of}
 use Rattle.pg_count.proofs.CellLaws.Beginning.{begun, begun_kept}

@@ -1,6 +1,6 @@
 use Rattle.std.proofs.Common.{Option, [], refl, ap, sym, subst, ◌∙◌, arith}
 use Rattle.pg_count.specs.Inside.Counting.{Tally, counting_of}
-use Rattle.pg_count.specs.Inside.Leaves.{AreCounting}
+use Rattle.pg_count.specs.Inside.cells.Leaves.{AreCounting}
 use Rattle.pg_count.specs.Inside.WindowRow.{WindowRow}
 use Rattle.pg_cells.specs.Inside.linked.ValuedFamilies.{ValuedFamilies}
 use Rattle.pg_count.proofs.CellLaws.Beginning.{begun, begun_kept, root_none, root_short}

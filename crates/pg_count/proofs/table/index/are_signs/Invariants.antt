@@ -1,5 +1,5 @@
 use Rattle.std.proofs.Common.{drop}
-use Rattle.pg_types.specs.Inside.Counts.{SignsWithin}
+use Rattle.pg_types.specs.Inside.counting.Counts.{SignsWithin}
 use Rattle.pg_count.proofs.table.index.are_signs.Given as goal
 
 -- if those that are left are signs of the table, all are

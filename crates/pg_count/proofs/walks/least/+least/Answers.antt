@@ -2,7 +2,7 @@ use Rattle.std.proofs.Common.{◌≡◌, ℕ, ◌-◌, inl, inr, List, [], ◌�
 use Rattle.pg_types.specs.Placement.{base_of, cell_of}
 use Rattle.pg_cells.specs.Inside.linked.Members.{IsNextSign}
 use Rattle.pg_cells.proofs.LinkLaws.{goes_cell}
-use Rattle.pg_count.specs.Inside.Least.{IsToldBy}
+use Rattle.pg_count.specs.Inside.walks.Least.{IsToldBy}
 use Rattle.pg_count.proofs.WalkLaws.Searching.{first_some, none_from, none_next, told_more, up_none, up_found}
 use Rattle.pg_count.proofs.WalkLaws.Walking.{childless_last, family_below, sign_falls, some_more, short_more}
 use Rattle.pg_count.proofs.walks.least.+least.Goals as goal

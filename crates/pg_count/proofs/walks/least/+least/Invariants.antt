@@ -1,8 +1,8 @@
 use Rattle.std.proofs.Common.{◌≡◌, ℕ, ◌+◌, ◌-◌, ◌*◌, ◌<◌, ◌≤◌, ◌⊎◌, cond, nat_eq, true, List, [], ◌∷◌, ◌++◌, Some}
 use Rattle.pg_types.specs.Placement.{base_of}
 use Rattle.pg_cells.specs.Inside.linked.Members.{goes_on}
-use Rattle.pg_count.specs.Inside.Bounds.{first_sign}
-use Rattle.pg_count.specs.Inside.Least.{NoneUnder}
+use Rattle.pg_count.specs.Inside.walks.Bounds.{first_sign}
+use Rattle.pg_count.specs.Inside.walks.Least.{NoneUnder}
 use Rattle.pg_count.proofs.walks.least.+least.Given as goal
 
 abbrev pub decreases-least : goal.decreases-least

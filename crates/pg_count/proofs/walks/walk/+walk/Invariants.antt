@@ -2,7 +2,7 @@ use Rattle.std.proofs.Common.{◌≡◌, ℕ, ◌+◌, ◌-◌, ◌*◌, ◌<◌
 use Rattle.pg_types.specs.Placement.{base_of, cell_of}
 use Rattle.pg_cells.specs.Inside.linked.Members.{goes_on}
 use Rattle.pg_count.specs.Inside.Counting.{numbers_in}
-use Rattle.pg_count.specs.Inside.Under.{is_passed, numbers_where}
+use Rattle.pg_count.specs.Inside.walks.Under.{is_passed, numbers_where}
 use Rattle.pg_count.proofs.walks.walk.+walk.Given as goal
 
 abbrev pub decreases-walk : goal.decreases-walk

@@ -2,7 +2,7 @@ use Rattle.std.proofs.Common.{◌≡◌, ◌+◌, List, Result, Ok, length, arit
 use Rattle.std.specs.List.{list_all}
 use Rattle.std.proofs.lemmas.Result.{err_from_is_err_and}
 use Rattle.pg_types.specs.declared.refusals.Refusal.{Refusal}
-use Rattle.pg_types.specs.Inside.Answers.{Fails}
+use Rattle.pg_types.specs.Inside.reading.Answers.{Fails}
 use Rattle.pg_types.specs.Lines.{lines}
 use Rattle.pg_translate.specs.Alphabets.{letters_of}
 use Rattle.pg_dict.specs.Inside.Lines.PositionedSigns.{Columns}

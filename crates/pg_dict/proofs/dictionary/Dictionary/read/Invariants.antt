@@ -2,7 +2,7 @@ use Rattle.std.proofs.Common.{◌≡◌, ◌≤◌, ◌+◌, ◌*◌, length, Ok
 use Rattle.pg_types.specs.declared.limits.TheConstants.{WEIGHT_MAX}
 use Rattle.pg_types.specs.Lines.{lines}
 use Rattle.pg_translate.specs.Alphabets.{letters_of}
-use Rattle.pg_types.specs.Inside.Parts.{both_parts}
+use Rattle.pg_types.specs.Inside.reading.Parts.{both_parts}
 use Rattle.pg_dict.specs.Inside.LineWords.{words_from}
 use Rattle.pg_dict.specs.Inside.Store.{stored_words, IsSound, IsFit}
 use Rattle.pg_dict.proofs.LineReading.Sizes.{size_of}

@@ -1,7 +1,7 @@
 use Rattle.std.proofs.Common.{◌≡◌, drop}
 use Rattle.pg_types.specs.declared.parameters.LevelParams.{LevelParams}
-use Rattle.pg_types.specs.Inside.Counts.{Counts}
-use Rattle.pg_types.specs.Inside.NumberedWindows.{AreNumbered, Windows}
+use Rattle.pg_types.specs.Inside.counting.Counts.{Counts}
+use Rattle.pg_types.specs.Inside.counting.NumberedWindows.{AreNumbered, Windows}
 use Rattle.pg_driver.specs.Inside.level.PassWindows.{AreFates, HaveNumbers, is_counted_at}
 use Rattle.pg_driver.specs.Inside.counting.WordLevels.{TookChosen, chosen_weights, with_chosen}
 use Rattle.pg_driver.proofs.counting.above_positions.kept_above.Given as goal

@@ -71,8 +71,8 @@ words-preserved g c =
       room_for = omega (arith, letters_left words c.words.i w lent, inv.room_for, c.open_word.ensures.took);
     }
 
-pub closed-requires : goal.closed-requires
-closed-requires g c =
+pub all_closed-requires : goal.all_closed-requires
+all_closed-requires g c =
     let all = ap (λ (xs : List ℕ). length xs) c.all_signs-signs.ensures in
     omega (arith, signs_few c.args.dictionary.now c.len-count.ensures.words, c.len-count.ensures.letters)
 

@@ -1,4 +1,5 @@
-use Rattle.std.proofs.Common.{◌≡◌, ℕ, ◌≤◌, ◌<◌, ◌+◌, ◌^◌, true, not, drop, length, slice_get, Some}
+use Rattle.std.proofs.Common.{◌≡◌, ℕ, ◌≤◌, ◌<◌, ◌+◌, true, not, drop, length, slice_get, Some}
+use Rattle.pg_types.specs.Inside.Limits.{positions_limit}
 use Rattle.pg_dots.specs.Inside.Dots.{is_closed, position_count}
 use Rattle.pg_select.specs.CountedPositions.{minima_of}
 use Rattle.std.specs.List.{flat_map, sum_by}
@@ -16,7 +17,7 @@ invariant-words g l =
     let minima = minima_of l.table in
     record {
       size : sign_count l.dictionary ≤ position_count l.opened.dots;
-      few : position_count l.opened.dots < 2 ^ 40;
+      few : position_count l.opened.dots < positions_limit;
       none : l.opened.dots.reached ≡ 0;
       starts : l.start ≡ start_of l.dictionary l.i;
       before : (d n p : ℕ) (w : Word) → n < l.i → slice_get l.dictionary n ≡ Some w → p < length w.signs → is_closed l.opened.dots d (start_of l.dictionary n + p)

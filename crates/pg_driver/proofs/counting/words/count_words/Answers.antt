@@ -3,16 +3,16 @@ use Rattle.std.specs.List.{flat_map, sum_by}
 use Rattle.pg_dict.specs.Inside.Lent.{lent_word}
 use Rattle.pg_dict.specs.Word.{Word}
 use Rattle.pg_dict.specs.Inside.SoundWords.{letter_count}
-use Rattle.pg_types.specs.Inside.Counts.{Counts, SignsWithin}
-use Rattle.pg_select.specs.Inside.Meanings.{Meaning}
+use Rattle.pg_types.specs.Inside.counting.Counts.{Counts, SignsWithin}
+use Rattle.pg_select.specs.Inside.engine.Meanings.{Meaning}
 use Rattle.pg_select.specs.CountedPositions.{counted_positions, minima_of}
-use Rattle.pg_select.specs.Inside.WordCounts.{counted_positions_in}
+use Rattle.pg_select.specs.Inside.words.WordCounts.{counted_positions_in}
 use Rattle.pg_select.specs.Sums.{marks_in}
 use Rattle.pg_select.specs.Inside.SumSteps.{with_marks}
 use Rattle.pg_driver.specs.Inside.counting.Counting.{HasRoom, meaning_after_counting}
 use Rattle.pg_select.proofs.MarkSteps.{marks_word}
 use Rattle.pg_driver.specs.Inside.counting.OpenLevels.{listed_in}
-use Rattle.pg_select.specs.Inside.LawsAbove.{counts_above}
+use Rattle.pg_select.specs.Inside.laws.Above.{counts_above}
 use Rattle.pg_driver.specs.declared.pass_windows.WordPosition.{WordPosition}
 use Rattle.pg_driver.specs.Inside.level.PassWindows.{HaveNumbers, uncovered_at}
 use Rattle.pg_driver.specs.Inside.counting.WordLevels.{listing}

@@ -2,9 +2,9 @@ use Rattle.std.proofs.Common.{◌≡◌, ℕ, true, List, [], ◌∷◌, ◌++�
 use Rattle.std.specs.Cmp.Lexicographic.{slice_cmp}
 use Rattle.std.specs.FinMap.Entries.{find}
 use Rattle.std.specs.List.{list_all}
-use Rattle.pg_types.specs.Inside.Counts.{AreSmall, sums_of, with_weight, is_counted}
-use Rattle.pg_types.specs.Inside.NumberedWindows.{HasNumber, WindowCounts, with_counted}
-use Rattle.pg_types.specs.Inside.NumberedStrings.{Numbers, by_number}
+use Rattle.pg_types.specs.Inside.counting.Counts.{AreSmall, sums_of, with_weight, is_counted}
+use Rattle.pg_types.specs.Inside.counting.NumberedWindows.{HasNumber, WindowCounts, with_counted}
+use Rattle.pg_types.specs.Inside.counting.NumberedStrings.{Numbers, by_number}
 use Rattle.pg_plain.specs.Inside.PlainCounts.{AreCounted}
 use Rattle.pg_plain.proofs.Counted.{windows_put}
 use Rattle.pg_plain.proofs.Counting.{within, sums_there, has_number, set_seen, set_are, new_seen, new_are, new_number, absent_none}

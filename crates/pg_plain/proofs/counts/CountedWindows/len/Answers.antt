@@ -1,8 +1,8 @@
 use Rattle.std.proofs.Common.{◌≡◌, T, length, nat_cmp, ap, subst, arith}
 use Rattle.std.specs.Cmp.Lexicographic.{slice_cmp}
 use Rattle.std.specs.FinMap.Entries.{is_sorted}
-use Rattle.pg_types.specs.Inside.NumberedWindows.{AreNumbered, WindowCounts}
-use Rattle.pg_types.specs.Inside.NumberedStrings.{by_number}
+use Rattle.pg_types.specs.Inside.counting.NumberedWindows.{AreNumbered, WindowCounts}
+use Rattle.pg_types.specs.Inside.counting.NumberedStrings.{by_number}
 use Rattle.pg_plain.proofs.Counting.{size_windows, ordered, are_numbered}
 use Rattle.pg_plain.proofs.counts.CountedWindows.len.Goals as goal
 

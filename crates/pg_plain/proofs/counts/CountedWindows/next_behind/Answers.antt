@@ -1,8 +1,8 @@
 use Rattle.std.proofs.Common.{◌≡◌, ℕ, ◌<◌, List, [], ◌∷◌, Some, length, map, nat_cmp, ap, refl, sym, ◌∙◌, arith}
 use Rattle.std.specs.Cmp.Lexicographic.{slice_cmp}
 use Rattle.std.specs.FinMap.Entries.{find}
-use Rattle.pg_types.specs.Inside.Counts.{windows_above}
-use Rattle.pg_types.specs.Inside.NumberedWindows.{WindowCounts}
+use Rattle.pg_types.specs.Inside.counting.Counts.{windows_above}
+use Rattle.pg_types.specs.Inside.counting.NumberedWindows.{WindowCounts}
 use Rattle.pg_plain.specs.Inside.PlainCounts.{tally_at}
 use Rattle.pg_plain.proofs.Counted.{above_no, next_above, next_found}
 use Rattle.pg_plain.proofs.Counting.{within, size_windows, size_listed, tally_read, listed_window}

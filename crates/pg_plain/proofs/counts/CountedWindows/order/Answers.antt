@@ -1,5 +1,5 @@
 use Rattle.std.proofs.Common.{map, subst}
-use Rattle.pg_types.specs.Inside.NumberedWindows.{AreInOrder, WindowCounts}
+use Rattle.pg_types.specs.Inside.counting.NumberedWindows.{AreInOrder, WindowCounts}
 use Rattle.pg_plain.proofs.Counting.{are_in_order}
 use Rattle.pg_plain.proofs.counts.CountedWindows.order.Goals as goal
 

@@ -1,8 +1,8 @@
 use Rattle.std.proofs.Common.{◌≡◌, ℕ, List, None, Some, nat_cmp, ap, sym, ◌∙◌, arith}
 use Rattle.std.specs.Cmp.Lexicographic.{slice_cmp}
 use Rattle.std.specs.FinMap.Entries.{find}
-use Rattle.pg_types.specs.Inside.Counts.{counted_sums}
-use Rattle.pg_types.specs.Inside.NumberedWindows.{WindowCounts}
+use Rattle.pg_types.specs.Inside.counting.Counts.{counted_sums}
+use Rattle.pg_types.specs.Inside.counting.NumberedWindows.{WindowCounts}
 use Rattle.pg_plain.proofs.Counting.{sums_none, sums_there, within, tally_read}
 use Rattle.pg_plain.proofs.counts.CountedWindows.sums.Goals as goal
 

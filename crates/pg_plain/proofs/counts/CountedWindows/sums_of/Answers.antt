@@ -1,7 +1,7 @@
 use Rattle.std.proofs.Common.{◌≡◌, Some, length, ap, sym, subst, ◌∙◌, arith}
-use Rattle.pg_types.specs.Inside.Counts.{counted_sums}
-use Rattle.pg_types.specs.Inside.NumberedWindows.{HasNumber, WindowCounts}
-use Rattle.pg_types.specs.Inside.NumberedStrings.{by_number}
+use Rattle.pg_types.specs.Inside.counting.Counts.{counted_sums}
+use Rattle.pg_types.specs.Inside.counting.NumberedWindows.{HasNumber, WindowCounts}
+use Rattle.pg_types.specs.Inside.counting.NumberedStrings.{by_number}
 use Rattle.pg_plain.proofs.Counting.{size_windows, sums_by_number, tally_read}
 use Rattle.pg_plain.proofs.counts.CountedWindows.sums_of.Goals as goal
 

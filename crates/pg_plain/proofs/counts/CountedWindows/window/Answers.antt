@@ -1,7 +1,7 @@
 use Rattle.std.proofs.Common.{◌≡◌, true, length, ap, subst, arith}
-use Rattle.pg_types.specs.Inside.Counts.{is_counted}
-use Rattle.pg_types.specs.Inside.NumberedStrings.{by_number}
-use Rattle.pg_types.specs.Inside.NumberedWindows.{HasNumber, WindowCounts}
+use Rattle.pg_types.specs.Inside.counting.Counts.{is_counted}
+use Rattle.pg_types.specs.Inside.counting.NumberedStrings.{by_number}
+use Rattle.pg_types.specs.Inside.counting.NumberedWindows.{HasNumber, WindowCounts}
 use Rattle.pg_plain.proofs.Counting.{size_listed, window_read, are_numbered}
 use Rattle.pg_plain.proofs.counts.CountedWindows.window.Goals as goal
 

@@ -1,7 +1,7 @@
 use Rattle.std.proofs.Common.{◌≡◌, ℕ, ◌+◌, Bool, true, false, get_or, ap, ◌∙◌, arith, refl}
 use Rattle.pg_types.specs.declared.limits.TheConstants.{WORD_LETTERS_MAX}
 use Rattle.pg_table.specs.Lookups.{table_value}
-use Rattle.pg_select.specs.Inside.Positions.{values_of, bit}
+use Rattle.pg_select.specs.Inside.words.Positions.{values_of, bit}
 use Rattle.pg_table.specs.Inside.view.Raising.{by_starts}
 use Rattle.pg_table.proofs.view.CellWalks.{all_same, table_value_is}
 use Rattle.pg_table.proofs.view.TableView.values.Goals as goal

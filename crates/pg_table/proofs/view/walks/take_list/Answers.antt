@@ -1,6 +1,6 @@
 use Rattle.std.proofs.Common.{ℕ, List, refl, ap, ◌∙◌, arith}
 use Rattle.pg_table.specs.Inside.view.ListsOf.{list_in}
-use Rattle.pg_select.specs.Inside.Positions.{values_of}
+use Rattle.pg_select.specs.Inside.words.Positions.{values_of}
 use Rattle.pg_table.specs.Inside.view.Raising.{by_record_list, by_value}
 use Rattle.pg_table.proofs.view.Levels.{level_step, level_end}
 use Rattle.pg_table.proofs.view.CellWalks.{list_more, empty_list}

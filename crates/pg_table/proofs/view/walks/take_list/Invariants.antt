@@ -1,7 +1,7 @@
 use Rattle.std.proofs.Common.{◌≤◌}
 use Rattle.pg_table.specs.Forms.{head_of}
 use Rattle.pg_table.specs.Inside.view.ListsOf.{list_in}
-use Rattle.pg_select.specs.Inside.Positions.{values_of}
+use Rattle.pg_select.specs.Inside.words.Positions.{values_of}
 use Rattle.pg_table.specs.Inside.view.Raising.{IsUncovered, by_record_list}
 use Rattle.pg_table.proofs.view.Levels.{Level}
 use Rattle.pg_table.proofs.view.walks.take_list.Given as goal

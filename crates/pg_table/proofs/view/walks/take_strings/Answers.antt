@@ -4,7 +4,7 @@ use Rattle.pg_table.specs.declared.parts.cell.Cell.{Cell}
 use Rattle.pg_table.specs.Forms.{cell_at}
 use Rattle.pg_table.specs.Lookups.{cell_has_sign, lookup, lookup_from}
 use Rattle.pg_table.specs.Inside.view.ListsOf.{list_in}
-use Rattle.pg_select.specs.Inside.Positions.{values_of, Raises}
+use Rattle.pg_select.specs.Inside.words.Positions.{values_of, Raises}
 use Rattle.pg_table.specs.Inside.view.Raising.{by_record_list, by_strings}
 use Rattle.pg_table.proofs.view.Levels.{Level, level_step, level_end}
 use Rattle.pg_table.proofs.view.CellWalks.{goes_on, no_sign, no_child, list_here, list_below, strings_none, strings_more}

@@ -1,7 +1,7 @@
 use Rattle.std.proofs.Common.{◌≡◌, ℕ, ◌+◌, ◌-◌, ◌≤◌, List, ◌∷◌, ◌++◌, take, drop}
 use Rattle.pg_table.specs.Forms.{head_of}
 use Rattle.pg_table.specs.Lookups.{lookup, lookup_from}
-use Rattle.pg_select.specs.Inside.Positions.{values_of}
+use Rattle.pg_select.specs.Inside.words.Positions.{values_of}
 use Rattle.pg_table.specs.Inside.view.Raising.{IsUncovered, by_strings}
 use Rattle.pg_table.proofs.view.Levels.{Level}
 use Rattle.pg_table.proofs.view.walks.take_strings.Given as goal

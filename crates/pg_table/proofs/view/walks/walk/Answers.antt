@@ -1,5 +1,5 @@
 use Rattle.std.proofs.Common.{◌+◌, arith}
-use Rattle.pg_select.specs.Inside.Positions.{values_of}
+use Rattle.pg_select.specs.Inside.words.Positions.{values_of}
 use Rattle.pg_table.specs.Inside.view.Raising.{by_strings, by_starts}
 use Rattle.pg_table.proofs.view.Levels.{level_step, level_end}
 use Rattle.pg_table.proofs.view.CellWalks.{starts_more, starts_none}

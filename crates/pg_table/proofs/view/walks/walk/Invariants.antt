@@ -1,4 +1,4 @@
-use Rattle.pg_select.specs.Inside.Positions.{values_of}
+use Rattle.pg_select.specs.Inside.words.Positions.{values_of}
 use Rattle.pg_table.specs.Inside.view.Raising.{IsUncovered, by_starts}
 use Rattle.pg_table.proofs.view.Levels.{Level}
 use Rattle.pg_table.proofs.view.walks.walk.Given as goal

@@ -1,6 +1,6 @@
 use Rattle.std.proofs.Common.{◌+◌, ◌∙◌, Some, ap}
 use Rattle.pg_packed.specs.Inside.Starts.{pattern_families}
-use Rattle.pg_select.specs.Inside.Meanings.{Meaning}
+use Rattle.pg_select.specs.Inside.engine.Meanings.{Meaning}
 use Rattle.pg_packed.specs.Inside.Engines.{meaning_of}
 use Rattle.pg_top.proofs.generate.outputs.make_outputs.Goals as goal
 

@@ -3,7 +3,7 @@ use Rattle.pg_patterns.specs.Texts.{pattern_text}
 use Rattle.pg_table.specs.Forms.{is_well_formed}
 use Rattle.pg_table.specs.Texts.{table_text}
 use Rattle.pg_table.specs.declared.error.TableError.TheVariants as table_error
-use Rattle.pg_table.specs.declared.limits.TheConstants.{TABLE_MAX}
+use Rattle.pg_types.specs.declared.packed_table.TheConstants.{TABLE_MAX}
 use Rattle.pg_top.specs.pack.Inside.Inputs.{packed_text}
 use Rattle.pg_steps.specs.Outcomes.{Ends}
 use Rattle.pg_top.specs.pack.PackRule.{packed_line}

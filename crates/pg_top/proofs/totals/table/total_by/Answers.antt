@@ -3,7 +3,7 @@ use Rattle.std.proofs.lemmas.Result.{IfOk-from_err}
 use Rattle.pg_types.specs.declared.refusals.ReadingError.TheVariants as reader
 use Rattle.pg_dict.specs.Inside.SoundWords.{SignsAtMost}
 use Rattle.pg_outside.specs.Content.{FilesShown, file_at}
-use Rattle.pg_table.specs.declared.limits.TheConstants.{TABLE_MAX}
+use Rattle.pg_types.specs.declared.packed_table.TheConstants.{TABLE_MAX}
 use Rattle.pg_texts.specs.ReportTexts.{ending_text}
 use Rattle.pg_top.specs.totals.TotalsRule.{packed_table}
 use Rattle.pg_steps.specs.Readings.{Reading, input_file}

@@ -1,8 +1,8 @@
 use Rattle.std.proofs.Common.{◌≡◌, List, [], ℕ, map, Ok, subst}
 use Rattle.std.proofs.lemmas.Result.{err_from_is_err_and}
 use Rattle.pg_types.specs.Lines.{lines}
-use Rattle.pg_types.specs.Inside.Parts.{first_refusal}
-use Rattle.pg_types.specs.Inside.Answers.{Fails}
+use Rattle.pg_types.specs.Inside.reading.Parts.{first_refusal}
+use Rattle.pg_types.specs.Inside.reading.Answers.{Fails}
 use Rattle.pg_translate.specs.Inside.spellings.Fronts.{pairs}
 use Rattle.pg_translate.specs.Tables.{spelling_with_sign}
 use Rattle.pg_translate.specs.Inside.tables.Checks.{spelling_checks_from, spellings_from}

@@ -3,7 +3,7 @@ use Rattle.std.proofs.lemmas.Result.{err_from_is_err_and, IfOk-from_err}
 use Rattle.pg_types.specs.declared.refusals.Refusal.{Refusal}
 use Rattle.pg_types.specs.declared.limits.TheConstants.{LENGTH_MAX, COST_MAX}
 use Rattle.pg_types.specs.Parameters.{items, number_at, refusal_from}
-use Rattle.pg_types.specs.Inside.ItemSteps.{Demand, number_between}
+use Rattle.pg_types.specs.Inside.reading.ItemSteps.{Demand, number_between}
 use Rattle.pg_types.proofs.items.Items.level.Goals as goal
 
 -- what is demanded behind each of the five numbers

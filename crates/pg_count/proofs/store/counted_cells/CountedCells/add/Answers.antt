@@ -4,8 +4,8 @@ use Rattle.pg_types.specs.Placement.{cell_of}
 use Rattle.pg_cells.specs.Inside.families.Adding.{CanTakeSign}
 use Rattle.pg_cells.specs.Inside.linked.ValuedFamilies.{ValuedFamilies}
 use Rattle.pg_count.specs.Inside.Counting.{Tally}
-use Rattle.pg_count.specs.Inside.Leaves.{Adds}
-use Rattle.pg_count.specs.Inside.CellNumbers.{tallied_families, AreCellNumbers}
+use Rattle.pg_count.specs.Inside.cells.Leaves.{Adds}
+use Rattle.pg_count.specs.Inside.cells.CellNumbers.{tallied_families, AreCellNumbers}
 use Rattle.pg_count.proofs.CellLaws.Mapped.{no_value}
 use Rattle.pg_count.proofs.CellLaws.Numbering.{added_tallied, added_are}
 use Rattle.pg_count.proofs.store.counted_cells.CountedCells.add.Goals as goal

@@ -1,7 +1,7 @@
 use Rattle.std.proofs.Common.{◌≡◌, ◌&&◌, inl, inr, true, Option, ap, sym, subst, arith, ◌∙◌}
 use Rattle.pg_types.proofs.BoolFacts.{and_first}
-use Rattle.pg_count.specs.Inside.Leaves.{AreShort}
-use Rattle.pg_count.specs.Inside.CellNumbers.{tally_by_number}
+use Rattle.pg_count.specs.Inside.cells.Leaves.{AreShort}
+use Rattle.pg_count.specs.Inside.cells.CellNumbers.{tally_by_number}
 use Rattle.pg_count.proofs.CellLaws.Mapped.{found_mapped, unmapped}
 use Rattle.pg_count.specs.Inside.Counting.{Tally}
 use Rattle.pg_cells.specs.Inside.linked.ValuedFamilies.{ValuedFamilies}

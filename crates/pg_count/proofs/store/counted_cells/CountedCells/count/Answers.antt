@@ -6,7 +6,7 @@ use Rattle.pg_types.specs.Placement.{cell_of}
 use Rattle.pg_cells.specs.Inside.linked.ValuedFamilies.{ValuedFamilies}
 use Rattle.pg_cells.proofs.StringMaps.{order}
 use Rattle.pg_count.specs.Inside.Counting.{Tally, numbers_in}
-use Rattle.pg_count.specs.Inside.CellNumbers.{tallied_families, AreCellNumbers}
+use Rattle.pg_count.specs.Inside.cells.CellNumbers.{tallied_families, AreCellNumbers}
 use Rattle.pg_count.proofs.CellLaws.Numbering.{held_tallied, count_tallied, count_are}
 use Rattle.pg_count.proofs.store.counted_cells.CountedCells.count.Goals as goal
 

@@ -2,7 +2,7 @@ use Rattle.std.proofs.Common.{◌≡◌, [], Option, length, ap, sym, ◌∙◌,
 use Rattle.std.proofs.lemmas.List.{nil_from_length}
 use Rattle.pg_cells.specs.Inside.linked.ValuedFamilies.{ValuedFamilies}
 use Rattle.pg_count.specs.Inside.Counting.{counts_in, Tally, sums_of_tally, number_of_tally}
-use Rattle.pg_count.specs.Inside.CellNumbers.{tallied_families}
+use Rattle.pg_count.specs.Inside.cells.CellNumbers.{tallied_families}
 use Rattle.pg_count.proofs.CellLaws.Counted.{none_seen}
 use Rattle.pg_count.proofs.CellLaws.Numbering.{none_counted}
 use Rattle.pg_count.proofs.store.counted_cells.CountedCells.has_none.Goals as goal

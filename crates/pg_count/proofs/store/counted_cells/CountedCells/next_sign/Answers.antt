@@ -4,7 +4,7 @@ use Rattle.pg_count.specs.Inside.Counting.{Tally}
 use Rattle.pg_cells.specs.Inside.linked.ValuedFamilies.{ValuedFamilies}
 use Rattle.pg_cells.specs.Inside.linked.Members.{IsNextSign, goes_on}
 use Rattle.pg_cells.proofs.GivenMembers.{next_alike}
-use Rattle.pg_count.specs.Inside.CellNumbers.{tally_by_number}
+use Rattle.pg_count.specs.Inside.cells.CellNumbers.{tally_by_number}
 use Rattle.pg_count.proofs.CellLaws.Mapped.{mapped, goes_mapped}
 use Rattle.pg_count.proofs.store.counted_cells.CountedCells.next_sign.Goals as goal
 

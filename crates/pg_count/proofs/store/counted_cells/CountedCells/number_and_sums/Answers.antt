@@ -4,7 +4,7 @@ use Rattle.pg_types.specs.Placement.{cell_of}
 use Rattle.pg_cells.specs.Inside.linked.ValuedFamilies.{ValuedFamilies}
 use Rattle.pg_cells.proofs.StringMaps.{order}
 use Rattle.pg_count.specs.Inside.Counting.{Tally}
-use Rattle.pg_count.specs.Inside.CellNumbers.{tally_by_number}
+use Rattle.pg_count.specs.Inside.cells.CellNumbers.{tally_by_number}
 use Rattle.pg_count.proofs.CellLaws.Mapped.{found_mapped}
 use Rattle.pg_count.proofs.store.counted_cells.CountedCells.number_and_sums.Goals as goal
 

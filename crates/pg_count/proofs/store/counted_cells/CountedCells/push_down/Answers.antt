@@ -5,8 +5,8 @@ use Rattle.pg_types.specs.Placement.{cell_of}
 use Rattle.pg_cells.specs.Inside.linked.ValuedFamilies.{ValuedFamilies}
 use Rattle.pg_cells.proofs.StringMaps.{order}
 use Rattle.pg_count.specs.Inside.Counting.{Tally}
-use Rattle.pg_count.specs.Inside.Leaves.{PushesDown}
-use Rattle.pg_count.specs.Inside.CellNumbers.{tallied_families, AreCellNumbers}
+use Rattle.pg_count.specs.Inside.cells.Leaves.{PushesDown}
+use Rattle.pg_count.specs.Inside.cells.CellNumbers.{tallied_families, AreCellNumbers}
 use Rattle.pg_count.proofs.CellLaws.Mapped.{no_value}
 use Rattle.pg_cells.proofs.PlacedFamily.{not_longer}
 use Rattle.pg_count.proofs.CellLaws.Numbering.{pushed_tallied, pushed_are}

@@ -5,7 +5,7 @@ use Rattle.std.proofs.lemmas.Option.{slice_get_within}
 use Rattle.pg_cells.specs.Inside.linked.ValuedFamilies.{ValuedFamilies}
 use Rattle.pg_cells.proofs.StringMaps.{order}
 use Rattle.pg_count.specs.Inside.Counting.{Tally, numbers_in}
-use Rattle.pg_count.specs.Inside.CellNumbers.{tallied_families, AreCellNumbers}
+use Rattle.pg_count.specs.Inside.cells.CellNumbers.{tallied_families, AreCellNumbers}
 use Rattle.pg_count.proofs.CellLaws.Numbering.{held_tallied, in_cell, numbered_are, numbered_tallied}
 use Rattle.pg_count.proofs.store.counted_cells.CountedCells.set_sums.Goals as goal
 

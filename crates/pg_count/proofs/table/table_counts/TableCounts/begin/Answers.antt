@@ -1,5 +1,5 @@
 use Rattle.std.proofs.Common.{◌+◌, ◌^◌, ◌≤◌, [], sym, subst, ap, ◌∙◌}
-use Rattle.pg_types.specs.Inside.NumberedWindows.{no_counts}
+use Rattle.pg_types.specs.Inside.counting.NumberedWindows.{no_counts}
 use Rattle.pg_count.specs.Inside.Counting.{Counting}
 use Rattle.pg_count.specs.Inside.WindowRow.{WindowRow}
 use Rattle.pg_count.specs.Inside.Tables.{IsTable, table_counting}

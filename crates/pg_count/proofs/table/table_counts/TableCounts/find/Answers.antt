@@ -1,9 +1,9 @@
 use Rattle.std.proofs.Common.{◌≡◌, length, slice_get, Some, IfSome, refl, ap, sym, subst, ◌∙◌}
 use Rattle.std.proofs.lemmas.Bool.{ltb-false, ltb-true}
 use Rattle.std.proofs.lemmas.Option.{slice_get_past, slice_get_read}
-use Rattle.pg_types.specs.Inside.Counts.{SignsWithin, counted_sums}
-use Rattle.pg_types.specs.Inside.NumberedWindows.{HasNumber}
-use Rattle.pg_count.specs.Inside.CellNumbers.{tally_by_number}
+use Rattle.pg_types.specs.Inside.counting.Counts.{SignsWithin, counted_sums}
+use Rattle.pg_types.specs.Inside.counting.NumberedWindows.{HasNumber}
+use Rattle.pg_count.specs.Inside.cells.CellNumbers.{tally_by_number}
 use Rattle.pg_count.specs.Inside.Counting.{Counting, Tally}
 use Rattle.pg_count.specs.Inside.Tables.{table_counts}
 use Rattle.pg_count.proofs.TableLaws.Looking.{lacked, looked}

@@ -1,8 +1,8 @@
 use Rattle.std.proofs.Common.{◌≡◌, true, List, fold, refl, sym, ap, subst, ◌∙◌, []}
-use Rattle.pg_types.specs.Inside.Counts.{Counts}
+use Rattle.pg_types.specs.Inside.counting.Counts.{Counts}
 use Rattle.pg_select.specs.declared.pass.Pass.{Pass}
 use Rattle.pg_select.specs.CountedPositions.{counted_positions, minima_of}
-use Rattle.pg_select.specs.Inside.Meanings.{Meaning, with_position}
+use Rattle.pg_select.specs.Inside.engine.Meanings.{Meaning, with_position}
 use Rattle.pg_driver.specs.declared.pass_windows.WordPosition.{WordPosition}
 use Rattle.pg_driver.specs.declared.counting.word_level.WordLevel.{WordLevel}
 use Rattle.pg_driver.specs.Inside.counting.Counting.{meaning_after_counting}

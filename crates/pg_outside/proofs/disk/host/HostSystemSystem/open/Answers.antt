@@ -5,9 +5,9 @@ use Rattle.pg_outside.proofs.disk.host.HostSystemSystem.open.Goals as goal
 pub returns : goal.returns
 returns g c = record {
   same = tt;
-  opened = if_ok _ c.counted.result (λ _. tt);
-  start = if_ok _ c.counted.result (λ _. refl);
-  later = c.counted.ensures.later;
-  ok_failures = c.counted.ensures.ok_failures;
-  failed = c.counted.ensures.failed;
+  opened = if_ok _ c.count_and_keep.result (λ _. tt);
+  start = if_ok _ c.count_and_keep.result (λ _. refl);
+  later = c.count_and_keep.ensures.later;
+  ok_failures = c.count_and_keep.ensures.ok_failures;
+  failed = c.count_and_keep.ensures.failed;
 }

@@ -7,8 +7,8 @@ returns g c = record {
   same = tt;
   file = refl;
   bound = search rules;
-  bytes = if_ok _ c.counted.result (λ _. tt);
-  later = c.counted.ensures.later;
-  ok_failures = c.counted.ensures.ok_failures;
-  failed = c.counted.ensures.failed;
+  bytes = if_ok _ c.count_and_keep.result (λ _. tt);
+  later = c.count_and_keep.ensures.later;
+  ok_failures = c.count_and_keep.ensures.ok_failures;
+  failed = c.count_and_keep.ensures.failed;
 }

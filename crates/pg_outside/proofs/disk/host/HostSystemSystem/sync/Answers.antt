@@ -5,9 +5,9 @@ use Rattle.pg_outside.proofs.disk.host.HostSystemSystem.sync.Goals as goal
 pub returns : goal.returns
 returns g c = record {
   file = refl;
-  ok = if_ok _ c.counted.result (λ _. tt);
-  err = on_err c.counted.result tt;
-  later = c.counted.ensures.later;
-  ok_failures = c.counted.ensures.ok_failures;
-  failed = c.counted.ensures.failed;
+  ok = if_ok _ c.count_and_keep.result (λ _. tt);
+  err = on_err c.count_and_keep.result tt;
+  later = c.count_and_keep.ensures.later;
+  ok_failures = c.count_and_keep.ensures.ok_failures;
+  failed = c.count_and_keep.ensures.failed;
 }

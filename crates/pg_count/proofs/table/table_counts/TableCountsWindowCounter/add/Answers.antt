@@ -1,0 +1,35 @@
+use Rattle.std.proofs.Common.{ap, sym, subst, ◌∙◌}
+use Rattle.std.specs.List.{slice_get}
+use Rattle.pg_types.proofs.Numbering.{get_seam}
+use Rattle.pg_types.specs.Inside.counting.Counts.{counted_sums, with_weight}
+use Rattle.pg_types.specs.Inside.counting.NumberedWindows.{HasNumber}
+use Rattle.pg_count.specs.Inside.Counting.{Counting}
+use Rattle.pg_count.specs.Inside.Tables.{IsTable, table_counting}
+use Rattle.pg_count.proofs.LeafLaws.Adding.{counting_with}
+use Rattle.pg_count.proofs.TableLaws.Kept.{again_counting, again_is}
+use Rattle.pg_count.proofs.table.table_counts.TableCountsWindowCounter.add.Goals as goal
+
+pub invariant_of-self : goal.invariant_of-self
+invariant_of-self c =
+    let t = c.self.inside in
+    let u = c.args.window.now in
+    subst (λ ts. IsTable t.numbers.items t.first t.windows.items ts t.signs t.windows.len) (sym c.set_sums_at.ensures)
+    (again_is t.numbers.items t.first t.windows.items t.tallies.items t.signs t.windows.len c.self.invariant u c.in-Some.number c.in-Some.sums c.add_weight-sums.result
+    (subst (λ (d : Counting). HasNumber d.counted.windows u c.in-Some.number) (sym c.self.view_is) c.in-Some.ensures.some.0)
+    (ap (λ (d : Counting). counted_sums d.counted.counts u) c.self.view_is ∙ c.in-Some.ensures.some.1))
+
+pub returns-in-Some-clause-ok : goal.returns-in-Some-clause-ok
+returns-in-Some-clause-ok c =
+    let t = c.self.inside in
+    let u = c.args.window.now in
+    ap (λ ts. table_counting t.numbers.items t.first t.windows.items ts t.signs t.windows.len) c.set_sums_at.ensures
+    ∙ again_counting t.numbers.items t.first t.windows.items t.tallies.items t.signs t.windows.len c.self.invariant u c.in-Some.number c.in-Some.sums c.add_weight-sums.result
+    (subst (λ (d : Counting). HasNumber d.counted.windows u c.in-Some.number) (sym c.self.view_is) c.in-Some.ensures.some.0)
+    (ap (λ (d : Counting). counted_sums d.counted.counts u) c.self.view_is ∙ c.in-Some.ensures.some.1)
+    c.args.good c.args.weight (c.add_weight-sums.ensures ∙ ap (with_weight c.in-Some.sums c.args.good) c.from.ensures)
+    ∙ ap (λ (d : Counting). counting_with d u c.args.good c.args.weight) c.self.view_is
+
+pub returns-in_ok-number-in-None-clause-number : goal.returns-in_ok-number-in-None-clause-number
+returns-in_ok-number-in-None-clause-number c =
+    ap (λ (d : Counting). slice_get d.counted.windows c.in_ok-number-in-None.number) c.in_ok-number-in-None.ensures.ok
+    ∙ get_seam c.args.self.now.counted.windows c.args.window.now c.in_ok-number-in-None.number c.in_ok-number-in-None.ensures.number

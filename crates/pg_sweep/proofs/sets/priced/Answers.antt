@@ -1,5 +1,0 @@
-use Rattle.std.proofs.Common.{rules}
-use Rattle.pg_sweep.proofs.sets.priced.Goals as goal
-
-pub returns : goal.returns
-returns c = search rules

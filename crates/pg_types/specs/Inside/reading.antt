@@ -1,0 +1,4 @@
+-- The parts of a reading, and what its result says.
+pub mod Answers
+pub mod ItemSteps
+pub mod Parts
