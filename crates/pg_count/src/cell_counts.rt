@@ -74,7 +74,7 @@ impl WindowCounter for CellCounts {
     }
 
     #[inline(always)]
-    fn add(
+    fn add_numbered(
         &mut self,
         window: &[Sign],
         good: bool,

@@ -1,7 +1,8 @@
 //! The windows that are counted in a pass.
-ghost use Rattle.std.specs.Prelude.{◌≡◌, ◌≤◌, IfOk};
-ghost use Rattle.pg_types.specs.declared.limits.TheConstants.{LENGTH_MAX, SIGNS_MAX};
-ghost use Rattle.pg_types.specs.Inside.counting.NumberedWindows.{no_counts};
+ghost use Rattle.std.specs.Prelude.{◌≡◌, ◌≤◌, true, length, IfOk, OnOk, OnErr, IsOk};
+ghost use Rattle.pg_types.specs.declared.limits.TheConstants.{LENGTH_MAX, SIGNS_MAX, WEIGHT_MAX};
+ghost use Rattle.pg_types.specs.Inside.counting.Counts.{AreSmall, SignsWithin, sums_of, with_weight, is_counted};
+ghost use Rattle.pg_types.specs.Inside.counting.NumberedWindows.{no_counts, with_counted};
 
 use crate::cell_counts::CellCounts;
 use crate::table::short::is_short;
@@ -60,6 +61,23 @@ impl CountTrie {
             self.cells.begin(len);
         }
     }
+
+    /// Adds `weight` to the good or the bad sum of a window. A window that is counted already takes
+    /// no memory.
+    pub fn add(&mut self, window: &[Sign], good: bool, weight: Weight) -> Result<(), AllocError>
+        requires len { length window.now ≡ self.old.len }
+        requires signs { SignsWithin self.old.signs window.now }
+        requires weight { weight ≤ WEIGHT_MAX }
+        requires small { AreSmall
+            (with_weight (sums_of self.old.counted.counts window.now) good weight) }
+        ensures ok { OnOk result (self.new
+            ≡ record self.old { counted = with_counted self.old.counted window.now good weight }) }
+        ensures there { is_counted self.old.counted.counts window.now ≡ true → IsOk result }
+        ensures err { OnErr result (self.new ≡ self.old) }
+    {
+        self.add_numbered(window, good, weight)?;
+        Ok(())
+    }
 }
 
 impl WindowCounter for CountTrie {
@@ -74,16 +92,16 @@ impl WindowCounter for CountTrie {
     }
 
     #[inline(always)]
-    fn add(
+    fn add_numbered(
         &mut self,
         window: &[Sign],
         good: bool,
         weight: Weight,
     ) -> Result<u32, AllocError> {
         if self.is_tabled {
-            self.table.add(window, good, weight)
+            self.table.add_numbered(window, good, weight)
         } else {
-            self.cells.add(window, good, weight)
+            self.cells.add_numbered(window, good, weight)
         }
     }
 

@@ -86,8 +86,7 @@ impl Engine for PackedEngine {
     }
 
     fn count(&mut self, window: &[Sign], good: bool, weight: Weight) -> Result<(), AllocError> {
-        self.counts.add(window, good, weight)?;
-        Ok(())
+        self.counts.add(window, good, weight)
     }
 
     #[inline(always)]
@@ -97,7 +96,7 @@ impl Engine for PackedEngine {
         good: bool,
         weight: Weight,
     ) -> Result<u32, AllocError> {
-        self.counts.add(window, good, weight)
+        self.counts.add_numbered(window, good, weight)
     }
 
     fn sums(&self, window: &[Sign]) -> Option<(u64, u64)> {

@@ -140,7 +140,7 @@ impl WindowCounter for TableCounts {
     }
 
     #[inline(always)]
-    fn add(
+    fn add_numbered(
         &mut self,
         window: &[Sign],
         good: bool,

@@ -7,7 +7,7 @@ use Rattle.pg_count.specs.Inside.Counting.{Counting}
 use Rattle.pg_count.specs.Inside.Tables.{IsTable, table_counting}
 use Rattle.pg_count.proofs.LeafLaws.Adding.{counting_with}
 use Rattle.pg_count.proofs.TableLaws.Kept.{again_counting, again_is}
-use Rattle.pg_count.proofs.table.table_counts.TableCountsWindowCounter.add.Goals as goal
+use Rattle.pg_count.proofs.table.table_counts.TableCountsWindowCounter.add_numbered.Goals as goal
 
 pub invariant_of-self : goal.invariant_of-self
 invariant_of-self c =

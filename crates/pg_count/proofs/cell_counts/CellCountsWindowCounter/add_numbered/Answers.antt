@@ -10,7 +10,7 @@ use Rattle.pg_count.specs.Inside.WindowRow.{WindowRow}
 use Rattle.pg_count.proofs.LeafLaws.Adding.{counting_with, counted_again, counted_new}
 use Rattle.pg_count.proofs.LeafLaws.Leaves.{again_leaves, again_sets}
 use Rattle.pg_count.proofs.LeafLaws.Wholes.{counted_back, counts_there, kept_counting}
-use Rattle.pg_count.proofs.cell_counts.CellCountsWindowCounter.add.Goals as goal
+use Rattle.pg_count.proofs.cell_counts.CellCountsWindowCounter.add_numbered.Goals as goal
 
 pub add_weight-requires : goal.add_weight-requires
 add_weight-requires c =
