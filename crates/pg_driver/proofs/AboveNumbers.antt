@@ -19,8 +19,8 @@ use Rattle.pg_select.specs.Inside.engine.Meanings.{Meaning, with_position}
 use Rattle.pg_select.specs.Inside.words.Positions.{Positions}
 use Rattle.pg_types.specs.declared.marks.Mark.{Mark}
 use Rattle.pg_select.specs.Statuses.{position_weight, status, status_at}
-use Rattle.pg_select.specs.Windows.{Hopeless, Patterns, is_covered, fits, window}
-use Rattle.pg_patterns.specs.Values.{value_at}
+use Rattle.pg_select.specs.Windows.{Hopeless, is_covered, fits, window}
+use Rattle.pg_patterns.specs.Values.{Patterns, value_at}
 use Rattle.pg_select.proofs.LawsRaised.{counted_uncovered}
 use Rattle.pg_select.proofs.LawsTally.{is_counted_window}
 use Rattle.pg_driver.specs.declared.counting.above_positions.ChosenWeights.{ChosenWeights}

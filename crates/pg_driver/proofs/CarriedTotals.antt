@@ -2,7 +2,7 @@
 use Rattle.std.proofs.Common.{◌≡◌, ℕ, ◌^◌, ◌≤◌, ◌<◌, Bool, true, false, arith}
 use Rattle.std.specs.Bool.{MatchBool}
 use Rattle.pg_types.specs.declared.marks.Totals.{Totals}
-use Rattle.pg_select.specs.Windows.{Patterns}
+use Rattle.pg_patterns.specs.Values.{Patterns}
 use Rattle.pg_select.proofs.LawsSums.{totals_small_within}
 use Rattle.pg_driver.specs.Accounts.{totals_by}
 use Rattle.pg_driver.specs.Inside.counting.Counting.{IsBounded}

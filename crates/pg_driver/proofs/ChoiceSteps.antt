@@ -9,7 +9,7 @@ use Rattle.std.proofs.lemmas.List.Sums.{fold-append, sum_by-append, sum_by-cons}
 use Rattle.pg_types.specs.declared.parameters.LevelParams.{LevelParams}
 use Rattle.pg_types.specs.Placement.{Families, enter}
 use Rattle.pg_patterns.specs.DottedSigns.{dotted_cmp}
-use Rattle.pg_patterns.specs.Values.{raise}
+use Rattle.pg_patterns.specs.Values.{Patterns, raise}
 use Rattle.pg_types.specs.Inside.counting.Counts.{Counts}
 use Rattle.pg_select.specs.Inside.engine.Meanings.{Meaning, after_choose, after_give_up}
 use Rattle.pg_select.specs.declared.choice.Choice.{Choice}
@@ -37,10 +37,10 @@ pub bad_within : (counts : Counts) → sum_by (λ (c : Candidate). c.bad) (map c
 bad_within [] = omega arith
 bad_within (e ∷ es) = omega (arith, bad_within es, sum_by-cons (λ (c : Candidate). c.bad) (candidate_of e) (map candidate_of es), sum_by-cons (λ (e : Entry). e.1.0 + e.1.1) e es)
 
-abbrev state : List ((List ℕ × ℕ) × ℕ) → Hopeless → Option Families → State
+abbrev state : Patterns → Hopeless → Option Families → State
 state P H fs = record { known = record { patterns = P; hopeless = H }; families = fs }
 
-same_states : (P Q : List ((List ℕ × ℕ) × ℕ)) (H I : Hopeless) (fs gs : Option Families) → P ≡ Q → H ≡ I → fs ≡ gs → state P H fs ≡ state Q I gs
+same_states : (P Q : Patterns) (H I : Hopeless) (fs gs : Option Families) → P ≡ Q → H ≡ I → fs ≡ gs → state P H fs ≡ state Q I gs
 same_states P Q H I fs gs p q r = λ i. record { known = record { patterns = p i; hopeless = q i }; families = r i }
 
 -- the state after a pass that has these candidates

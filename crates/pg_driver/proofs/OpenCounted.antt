@@ -11,12 +11,13 @@ use Rattle.pg_types.specs.declared.limits.TheConstants.{LENGTH_MAX}
 use Rattle.pg_translate.specs.Reach.{positions}
 use Rattle.pg_dict.specs.Word.{Word}
 use Rattle.pg_dict.specs.Inside.SoundWords.{letter_count}
+use Rattle.pg_patterns.specs.Values.{Patterns}
 use Rattle.pg_select.specs.Inside.laws.Laws.{positions_in}
 use Rattle.pg_select.specs.Inside.laws.ClosedDots.{counted_with, is_good, pass_at}
 use Rattle.pg_select.specs.CountedPositions.{Minima, CountedPosition, counted_positions_at, counted_positions}
 use Rattle.pg_select.specs.Inside.words.WordCounts.{counted_positions_in}
 use Rattle.pg_select.specs.Statuses.{position_weight}
-use Rattle.pg_select.specs.Windows.{Patterns, Hopeless, window, fits}
+use Rattle.pg_select.specs.Windows.{Hopeless, window, fits}
 use Rattle.pg_select.proofs.LawsTally.{counted_as}
 use Rattle.pg_driver.specs.declared.pass_windows.WordPosition.{WordPosition}
 use Rattle.pg_driver.specs.Inside.counting.OpenPositions.{counted_in, counted_of}

@@ -5,9 +5,9 @@ use Rattle.std.specs.Option.{option_map_or}
 use Rattle.std.proofs.lemmas.Bool.{cases_eq, cases_lt, eq-eqb, ne_eqb, lt-ltb, le-ltb, leb-true}
 use Rattle.pg_translate.specs.Reach.{positions}
 use Rattle.pg_dict.specs.Word.{Word}
+use Rattle.pg_patterns.specs.Values.{Patterns}
 use Rattle.pg_select.specs.CountedPositions.{Minima, counts_as}
 use Rattle.pg_select.specs.Statuses.{status_at}
-use Rattle.pg_select.specs.Windows.{Patterns}
 use Rattle.pg_driver.specs.Inside.counting.OpenSigns.{is_in_reach, is_open_first}
 use Rattle.pg_driver.proofs.OpenCounted.{any_above, any_below, any_inside}
 

@@ -6,6 +6,7 @@ use Rattle.pg_types.specs.declared.limits.TheConstants.{LENGTH_MAX}
 use Rattle.pg_types.specs.declared.parameters.LevelParams.{LevelParams}
 use Rattle.pg_types.specs.Inside.counting.Counts.{Counts, counted_sums}
 use Rattle.pg_dict.specs.Word.{Word}
+use Rattle.pg_patterns.specs.Values.{Patterns}
 use Rattle.pg_select.specs.declared.choice.Choice.{Choice}
 use Rattle.pg_select.specs.declared.choice.Choice.TheVariants.{Hopeless as MadeHopeless, Chosen, Left}
 use Rattle.pg_select.specs.declared.pass.Pass.{Pass}
@@ -15,7 +16,7 @@ use Rattle.pg_select.specs.Inside.laws.ClosedDots.{counted_with, is_good, closed
 use Rattle.pg_select.specs.Inside.engine.Meanings.{with_position}
 use Rattle.pg_select.specs.CountedPositions.{Minima, Candidate, counted_at, counts_as, good_of, bad_of, counted_positions}
 use Rattle.pg_select.specs.Statuses.{status_at}
-use Rattle.pg_select.specs.Windows.{Patterns, Hopeless, window, fits, is_covered}
+use Rattle.pg_select.specs.Windows.{Hopeless, window, fits, is_covered}
 use Rattle.pg_select.proofs.LawsBounds.{up_to_at_start, up_to_after, covers_up_to_at_start, covers_up_to_longer, covers_up_to_after}
 use Rattle.pg_select.proofs.LawsClosedDots.{tells_at_start, tells_longer, tells_after}
 use Rattle.pg_select.proofs.LawsTally.{is_counted_window}

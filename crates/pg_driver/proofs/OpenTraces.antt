@@ -4,11 +4,10 @@ use Rattle.std.specs.List.{flat_map, list_all, range_with_len, sum_by}
 use Rattle.std.proofs.lemmas.Bool.{and_parts, and_from, leb-true, le-leb}
 use Rattle.std.proofs.lemmas.List.Folds.{list_all-append}
 use Rattle.pg_types.specs.declared.parameters.LevelParams.{LevelParams}
-use Rattle.pg_patterns.specs.Values.{largest}
+use Rattle.pg_patterns.specs.Values.{Patterns, largest}
 use Rattle.pg_select.specs.declared.pass.Pass.{Pass}
 use Rattle.pg_select.specs.Inside.laws.Steps.{IsBelow, IsUpTo}
 use Rattle.pg_select.specs.Statuses.{is_odd}
-use Rattle.pg_select.specs.Windows.{Patterns}
 use Rattle.pg_select.proofs.LawsBounds.{next_is_below, up_to_largest, up_to_more, up_to_raised}
 use Rattle.pg_select.proofs.LawsTotals.{totals_after}
 use Rattle.pg_driver.specs.Accounts.{totals_by}

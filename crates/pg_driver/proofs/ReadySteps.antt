@@ -7,13 +7,14 @@ use Rattle.pg_types.specs.declared.parameters.LevelParams.{LevelParams}
 use Rattle.pg_types.specs.Inside.counting.Counts.{Counts}
 use Rattle.pg_dict.specs.Word.{Word}
 use Rattle.pg_dict.specs.Inside.SoundWords.{letter_count}
+use Rattle.pg_patterns.specs.Values.{Patterns}
 use Rattle.pg_select.specs.Inside.laws.ClosedDots.{pass_at}
 use Rattle.pg_select.specs.declared.pass.Pass.{Pass}
 use Rattle.pg_select.specs.Inside.laws.Steps.{IsBelow}
 use Rattle.pg_select.specs.Inside.engine.Meanings.{Meaning, with_position}
 use Rattle.pg_select.specs.CountedPositions.{Candidate, counted_positions}
 use Rattle.pg_select.specs.Statuses.{is_odd}
-use Rattle.pg_select.specs.Windows.{Hopeless, Patterns}
+use Rattle.pg_select.specs.Windows.{Hopeless}
 use Rattle.pg_driver.specs.declared.choices.Choices.{Choices}
 use Rattle.pg_driver.specs.declared.counting.Counting.{Counting}
 use Rattle.pg_driver.specs.declared.counting.Counting.TheVariants.{Open, EachWord}

@@ -10,6 +10,7 @@ use Rattle.pg_types.specs.declared.limits.TheConstants.{WEIGHT_MAX, FILE_MAX}
 use Rattle.pg_dict.specs.Word.{Word}
 use Rattle.pg_dict.specs.Inside.SoundWords.{IsWord}
 use Rattle.pg_types.specs.Inside.counting.Counts.{Counts, AreSmall, sums_of, with_weight}
+use Rattle.pg_patterns.specs.Values.{Patterns}
 use Rattle.pg_select.specs.Inside.engine.Meanings.{with_position}
 use Rattle.pg_select.specs.declared.pass.Pass.{Pass}
 use Rattle.pg_select.specs.CountedPositions.{CountedPosition, counted_positions_at, counts_as}
@@ -74,7 +75,7 @@ window_filled w p len d long fit =
     filled (window w p len d) (omega (arith, length-take len (drop (p - d) w), length-drop (p - d) w))
 
 -- what a pass counts at a position takes the room of one
-pub took_position : (counts : Counts) (pass : Pass) (P : List ((List ℕ × ℕ) × ℕ)) (H : Hopeless) (w : Word) (p n : ℕ) → 1 ≤ pass.len → IsWord w
+pub took_position : (counts : Counts) (pass : Pass) (P : Patterns) (H : Hopeless) (w : Word) (p n : ℕ) → 1 ≤ pass.len → IsWord w
     → p < length w.signs → HasRoom counts n → TookRoom counts (fold with_position counts (counted_positions_at pass P H w p)) 1
 took_position counts pass P H w p n long word within room =
     by_test (fits w.signs p pass.len pass.dot) (not (is_covered pass.level P H (window w.signs p pass.len pass.dot) pass.dot)) (counts_as pass.level (status_at P w p)) refl

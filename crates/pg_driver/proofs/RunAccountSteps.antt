@@ -7,6 +7,7 @@ use Rattle.pg_types.specs.declared.marks.Layout.{Layout}
 use Rattle.pg_types.specs.declared.marks.Totals.{Totals}
 use Rattle.pg_types.specs.Placement.{Families, taken_count, top}
 use Rattle.pg_types.specs.Tails.{tails}
+use Rattle.pg_patterns.specs.Values.{Patterns}
 use Rattle.pg_select.specs.Inside.engine.Meanings.{IsLayout, Meaning}
 use Rattle.pg_select.specs.declared.pass.Pass.{Pass}
 use Rattle.pg_driver.specs.declared.records.LevelRecord.{LevelRecord}
@@ -17,7 +18,6 @@ use Rattle.pg_driver.specs.Inside.records.CellsAccounts.{cells_account, layout_o
 use Rattle.pg_driver.specs.Inside.level.Levels.{DidRun, level_layouts, run_layouts}
 use Rattle.pg_driver.specs.Inside.records.Sound.{CompletedRun, RunRecords}
 use Rattle.pg_driver.specs.Inside.records.RunAccounts.{TellsCells, account_of, layout_of_pass, layout_of_level}
-use Rattle.pg_select.specs.Windows.{Patterns}
 use Rattle.pg_driver.specs.Traces.{LevelTrace, Source, Trace, final_patterns}
 
 none_mapped : {A B : Type 0} (f : A → B) (o : Option A) → option_map f o ≡ None → o ≡ None

@@ -5,13 +5,13 @@ use Rattle.pg_types.specs.declared.parameters.LevelParams.{LevelParams}
 use Rattle.pg_types.specs.Parameters.{Parameters}
 use Rattle.pg_types.specs.Placement.{root, with_sign}
 use Rattle.pg_dict.specs.Word.{Word}
+use Rattle.pg_patterns.specs.Values.{Patterns}
 use Rattle.pg_select.specs.declared.pass.Pass.{Pass}
 use Rattle.pg_select.specs.CountedPositions.{Candidate, tally, counted_positions}
 use Rattle.pg_driver.specs.Dots.{order}
 use Rattle.pg_driver.specs.Accounts.{begun_count}
 use Rattle.pg_driver.specs.Inside.records.AccountLines.{Account, LevelLine, PassLine, account}
 use Rattle.pg_driver.specs.Inside.records.CellsAccounts.{CellsAccount, cells_account}
-use Rattle.pg_select.specs.Windows.{Patterns}
 use Rattle.pg_driver.specs.Traces.{Source, final_patterns, trace}
 
 -- a word of these signs, with these hyphens, and with weight 1 everywhere

@@ -10,7 +10,7 @@ use Rattle.pg_translate.specs.Alphabets.{Alphabet}
 use Rattle.pg_translate.specs.Reach.{positions}
 use Rattle.pg_dict.specs.Word.{Word}
 use Rattle.pg_dict.specs.Inside.SoundWords.{SignsAtMost}
-use Rattle.pg_patterns.specs.Values.{raise, value_of}
+use Rattle.pg_patterns.specs.Values.{Patterns, raise, value_of}
 use Rattle.pg_patterns.specs.Inside.PatternMaps.{SignsUpTo}
 use Rattle.pg_select.specs.declared.pass.Pass.{Pass}
 use Rattle.pg_select.specs.CountedPositions.{Minima, CountedPosition, Candidate, candidates, counted_at, counted_positions, counted_positions_at, good_of, bad_of, tally}
@@ -18,7 +18,7 @@ use Rattle.pg_select.specs.Inside.laws.Laws.{raised_all}
 use Rattle.pg_select.specs.Inside.engine.Meanings.{Meaning}
 use Rattle.pg_select.specs.Inside.words.WordCounts.{counted_positions_in}
 use Rattle.pg_select.specs.Statuses.{position_weight}
-use Rattle.pg_select.specs.Windows.{Hopeless, Patterns, window}
+use Rattle.pg_select.specs.Windows.{Hopeless, window}
 use Rattle.pg_select.proofs.LawsBounds.{all_put}
 use Rattle.pg_select.proofs.LawsCandidates.{all_candidates, all_flat}
 use Rattle.pg_select.proofs.LawsRaised.{all_kept}

@@ -10,9 +10,10 @@ use Rattle.pg_types.specs.declared.marks.Totals.{Totals}
 use Rattle.pg_types.specs.declared.parameters.LevelParams.{LevelParams}
 use Rattle.pg_types.specs.Placement.{Families, kept_families, taken_count, top}
 use Rattle.pg_types.specs.Tails.{tails}
+use Rattle.pg_patterns.specs.Values.{Patterns}
 use Rattle.pg_select.specs.Inside.engine.Meanings.{IsLayout, Meaning, after_end_level}
 use Rattle.pg_select.specs.declared.pass.Pass.{Pass}
-use Rattle.pg_select.specs.Windows.{Hopeless, Patterns}
+use Rattle.pg_select.specs.Windows.{Hopeless}
 use Rattle.pg_driver.specs.declared.records.LevelRecord.{LevelRecord}
 use Rattle.pg_driver.specs.Accounts.{has_candidate, totals_by}
 use Rattle.pg_driver.specs.Inside.records.AccountLines.{LevelLine, begun_among, chosen_by, level_line, pass_line, pass_lines}

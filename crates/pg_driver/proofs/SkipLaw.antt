@@ -5,6 +5,7 @@ use Rattle.std.proofs.lemmas.Bool.{and_parts, or_cases}
 use Rattle.std.proofs.lemmas.Bool.Decides.{Decides-eqb, nat_tests}
 use Rattle.pg_types.specs.declared.parameters.LevelParams.{LevelParams}
 use Rattle.pg_dict.specs.Word.{Word}
+use Rattle.pg_patterns.specs.Values.{Patterns}
 use Rattle.pg_select.specs.Inside.laws.Laws.{CountsNothing}
 use Rattle.pg_select.specs.declared.pass.Pass.{Pass}
 use Rattle.pg_select.specs.CountedPositions.{Minima, Candidate, tally}
@@ -29,7 +30,7 @@ all_chosen_or_hopeless : (params : LevelParams) (cs : List Candidate) → list_a
 all_chosen_or_hopeless params [] = refl
 all_chosen_or_hopeless params (c ∷ cs) = λ i. chosen_or_hopeless (is_hopeless params c) (is_chosen params c) i && all_chosen_or_hopeless params cs i
 
-module _ (m : Minima) (words : List Word) (P : List ((List ℕ × ℕ) × ℕ)) (H : Hopeless) where
+module _ (m : Minima) (words : List Word) (P : Patterns) (H : Hopeless) where
   -- a pass with the same numbers
   same_pass : (number a b x y : ℕ) → a ≡ b → x ≡ y → CountsNothing m words (record { level = number; len = a; dot = x }) P H → CountsNothing m words (record { level = number; len = b; dot = y }) P H
   same_pass number a b x y len dot closed =

@@ -6,7 +6,7 @@ use Rattle.pg_dict.specs.Word.{Word}
 use Rattle.pg_dict.specs.Inside.SoundWords.{IsWord}
 use Rattle.pg_types.specs.Inside.counting.Counts.{Counts}
 use Rattle.pg_types.specs.Inside.counting.NumberedWindows.{Windows, with_window}
-use Rattle.pg_patterns.specs.Values.{value_at}
+use Rattle.pg_patterns.specs.Values.{Patterns, value_at}
 use Rattle.pg_select.specs.Inside.engine.Meanings.{Meaning, with_position}
 use Rattle.pg_select.specs.Inside.words.Positions.{Positions}
 use Rattle.pg_select.specs.CountedPositions.{Minima, CountedPosition, counted_positions_at, counted_positions}
@@ -86,7 +86,7 @@ counted_done m whole f p end past left =
     let none : end - p ≡ 0 = omega arith in
     subst (λ n. meaning_after_counting m (flat_map f (range_with_len p n)) ≡ whole) none left
 
-pub marks_done : (t whole : Totals) (P : List ((List ℕ × ℕ) × ℕ)) (w : Word) (p end : ℕ) → end ≤ p → with_marks t (marks_from P w p end) ≡ whole → t ≡ whole
+pub marks_done : (t whole : Totals) (P : Patterns) (w : Word) (p end : ℕ) → end ≤ p → with_marks t (marks_from P w p end) ≡ whole → t ≡ whole
 marks_done t whole P w p end past left = marks_done_by t whole (value_at P w.signs) w p end past left
 
 pub listed_done : {X : Type 0} (f : ℕ → List X) (xs whole : List X) (p end : ℕ) → end ≤ p → xs ++ flat_map f (range_with_len p (end - p)) ≡ whole → xs ≡ whole

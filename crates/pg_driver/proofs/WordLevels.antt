@@ -18,8 +18,8 @@ use Rattle.pg_select.specs.Inside.laws.ClosedDots.{is_good}
 use Rattle.pg_select.specs.Inside.laws.Steps.{candidate_at, bad_raised, good_raised, is_candidate}
 use Rattle.pg_select.specs.Inside.engine.Meanings.{with_position}
 use Rattle.pg_select.specs.Statuses.{is_odd, position_weight, status_at}
-use Rattle.pg_select.specs.Windows.{Patterns, fits, window}
-use Rattle.pg_patterns.specs.Values.{value_at}
+use Rattle.pg_select.specs.Windows.{fits, window}
+use Rattle.pg_patterns.specs.Values.{Patterns, value_at}
 use Rattle.pg_select.proofs.LawsClosedDots.{good_is}
 use Rattle.pg_select.proofs.LawsTally.{cmp, counted_as, is_counted_window}
 use Rattle.pg_select.proofs.LawsTotals.{above_stay, totals_after_above}

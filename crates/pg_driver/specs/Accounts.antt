@@ -2,9 +2,9 @@
 use Rattle.std.specs.Prelude.{ℕ, ◌+◌, ◌==◌, nat_lt, Bool, not, ◌&&◌, ◌||◌, length, filter, sum_by}
 use Rattle.std.specs.List.{list_all, list_any}
 use Rattle.pg_types.specs.declared.marks.Totals.{Totals}
+use Rattle.pg_patterns.specs.Values.{Patterns}
 use Rattle.pg_select.specs.declared.pass.Pass.{Pass}
 use Rattle.pg_select.specs.Sums.{totals}
-use Rattle.pg_select.specs.Windows.{Patterns}
 use Rattle.pg_driver.specs.Traces.{Source, PassTrace, Trace, is_entered}
 
 -- the totals by these patterns

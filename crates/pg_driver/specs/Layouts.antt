@@ -1,7 +1,7 @@
 -- Where the strings of a run lie in the cells of a trie, along its trace.
 use Rattle.std.specs.Prelude.{ℕ, List, map, filter, fold}
 use Rattle.pg_types.specs.Placement.{Families, enter, entered_families, kept_families}
-use Rattle.pg_select.specs.Windows.{Patterns}
+use Rattle.pg_patterns.specs.Values.{Patterns}
 use Rattle.pg_driver.specs.Traces.{PassTrace, LevelTrace, Trace, is_entered, patterns_after}
 
 -- the strings of patterns, in the order of signs

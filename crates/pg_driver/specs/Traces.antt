@@ -7,8 +7,8 @@ use Rattle.pg_types.specs.declared.parameters.LevelParams.{LevelParams}
 use Rattle.pg_types.specs.Parameters.{Parameters}
 use Rattle.pg_dict.specs.Word.{Word}
 use Rattle.pg_patterns.specs.DottedSigns.{dotted_cmp}
-use Rattle.pg_patterns.specs.Values.{raise}
-use Rattle.pg_select.specs.Windows.{Patterns, Hopeless}
+use Rattle.pg_patterns.specs.Values.{Patterns, raise}
+use Rattle.pg_select.specs.Windows.{Hopeless}
 use Rattle.pg_select.specs.declared.pass.Pass.{Pass}
 use Rattle.pg_select.specs.CountedPositions.{Minima, Candidate, counted_positions, tally, minima_of}
 use Rattle.pg_driver.specs.Dots.{order}

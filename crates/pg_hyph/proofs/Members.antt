@@ -8,7 +8,7 @@ use Rattle.std.specs.List.{flat_map, range_with_len, list_all, list_any}
 use Rattle.std.proofs.lemmas.Bool.{cases_lt, and_parts, or_cases, or_left, or_right}
 use Rattle.pg_patterns.specs.DottedSigns.{dotted_cmp}
 use Rattle.pg_patterns.specs.Inside.DottedOrder.{dotted_total, dotted_exact}
-use Rattle.pg_patterns.specs.Values.{greatest_value}
+use Rattle.pg_patterns.specs.Values.{Patterns, greatest_value}
 use Rattle.pg_types.proofs.BoolFacts.{is_true, first_half, second_half, less_is, equal_is}
 use Rattle.pg_patterns.proofs.Ordered.{find_there}
 
@@ -128,7 +128,7 @@ most a b n p q = omega arith
 
 module _ (test : List ℕ × ℕ → Bool) where
   -- the greatest value is over each that passes
-  pub in_best : (P : List ((List ℕ × ℕ) × ℕ)) (e : (List ℕ × ℕ) × ℕ) → In e P → test e.0 ≡ true → e.1 ≤ greatest_value test P
+  pub in_best : (P : Patterns) (e : (List ℕ × ℕ) × ℕ) → In e P → test e.0 ≡ true → e.1 ≤ greatest_value test P
   in_best [] e here pass = absurd here
   in_best (y ∷ P) e here pass =
       elim here [
@@ -140,7 +140,7 @@ module _ (test : List ℕ × ℕ → Bool) where
       ]
 
   -- and within a bound on them
-  pub best_within : (P : List ((List ℕ × ℕ) × ℕ)) (n : ℕ) → ((e : (List ℕ × ℕ) × ℕ) → In e P → test e.0 ≡ true → e.1 ≤ n) → greatest_value test P ≤ n
+  pub best_within : (P : Patterns) (n : ℕ) → ((e : (List ℕ × ℕ) × ℕ) → In e P → test e.0 ≡ true → e.1 ≤ n) → greatest_value test P ≤ n
   best_within [] n each = omega arith
   best_within (y ∷ P) n each =
       let rest : greatest_value test P ≤ n = best_within P n (λ e later pass. each e (inr later) pass) in

@@ -2,6 +2,7 @@
 use Rattle.std.proofs.Common.{◌≡◌, ℕ, ◌+◌, ◌≤◌, ◌⊎◌, inl, inr, List, length, Option, Some, None, refl, sym, ap, subst, arith}
 use Rattle.std.specs.List.{range_with_len}
 use Rattle.std.specs.FinMap.Entries.{find}
+use Rattle.pg_patterns.specs.Values.{Patterns}
 use Rattle.pg_patterns.specs.DottedSigns.{dotted_cmp}
 use Rattle.pg_trie.specs.declared.hopeless.TheConstants.{HOPELESS}
 use Rattle.pg_trie.specs.Inside.Lists.{value_part, hopeless_part, outputs_at_dot, outputs_at}
@@ -31,7 +32,7 @@ in_mark x d (Some u) here =
       | inr none ↦ absurd none
     ]
 
-module _ (P : List ((List ℕ × ℕ) × ℕ)) (H : List ((List ℕ × ℕ) × Unit {0})) (q : List ℕ) where
+module _ (P : Patterns) (H : List ((List ℕ × ℕ) × Unit {0})) (q : List ℕ) where
   -- what is in the list is a value or a mark of its dot
   pub in_outputs : (x : ℕ × ℕ) → In x (outputs_at P H q) → (find dotted_cmp (q, x.1) P ≡ Some x.0) ⊎ ((x.0 ≡ HOPELESS) × (find dotted_cmp (q, x.1) H ≡ Some (tt {0})))
   unfolding outputs_at

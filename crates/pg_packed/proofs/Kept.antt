@@ -12,6 +12,7 @@ use Rattle.pg_types.specs.Placement.{Family, Families, keeps_cell, kept_families
 use Rattle.pg_packed.specs.Inside.Starts.{pattern_families}
 use Rattle.pg_types.proofs.EntryLists.{find_good, all_put}
 use Rattle.pg_types.proofs.BoolFacts.{and_first, and_second, all_weaker, some_is}
+use Rattle.pg_patterns.specs.Values.{Patterns}
 
 either_mono : (a b c d : Bool) → (a ≡ true → c ≡ true) → (b ≡ true → d ≡ true) → (a || b) ≡ true → (c || d) ≡ true
 either_mono true b c d p q e = or_left c d (p refl)
@@ -170,7 +171,7 @@ all_there (e ∷ es) =
     (λ x there. or_right (starts_with nat_eq e.0.0 x.0.0) _ there) (all_there es))
 
 -- the families after the patterns are entered have no cell that no pattern needs
-pub kept_entered : (n : ℕ) (P : List ((List ℕ × ℕ) × ℕ)) → 1 ≤ n → kept_families (map (λ e. e.0.0) P) (pattern_families n P) ≡ pattern_families n P
+pub kept_entered : (n : ℕ) (P : Patterns) → 1 ≤ n → kept_families (map (λ e. e.0.0) P) (pattern_families n P) ≡ pattern_families n P
 kept_entered n P some =
     let strings : List (List ℕ) = map (λ e. e.0.0) P in
     kept_same strings (pattern_families n P) (all_enter strings n (root n) P (all_there P) (root_stays strings n some))

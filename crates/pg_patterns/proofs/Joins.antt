@@ -8,7 +8,7 @@ use Rattle.std.specs.List.{list_all, All}
 use Rattle.std.specs.List.Sorted.{IsPermutation}
 use Rattle.pg_patterns.specs.DottedSigns.{dotted_cmp}
 use Rattle.pg_patterns.specs.Inside.DottedOrder.{dotted_total, same_dotted, dotted_ties, dotted_exact}
-use Rattle.pg_patterns.specs.Values.{raise, value_of, greatest_value, map_of_entries}
+use Rattle.pg_patterns.specs.Values.{Patterns, raise, value_of, greatest_value, map_of_entries}
 use Rattle.pg_patterns.specs.Inside.PatternMaps.{is_entry, IsPatternMap}
 use Rattle.pg_types.proofs.BoolFacts.{and_first, and_second, equal_is}
 use Rattle.pg_patterns.proofs.Sound.{raise_keeps, entry_bounds}
@@ -22,7 +22,7 @@ value_of_put true v r s tied = ap (λ x. max v (unwrap_or x 0)) (tied refl)
 value_of_put false v r s tied = omega arith
 
 -- a raise changes the value of its dotted string alone
-pub value_of_raise : (P : List ((List ℕ × ℕ) × ℕ)) (j k : List ℕ × ℕ) (v : ℕ) → value_of (raise P j v) k ≡ max (only (same_dotted k j) v) (value_of P k)
+pub value_of_raise : (P : Patterns) (j k : List ℕ × ℕ) (v : ℕ) → value_of (raise P j v) k ≡ max (only (same_dotted k j) v) (value_of P k)
 value_of_raise P j k v =
     ap (λ r. unwrap_or r 0) (find-put dotted_cmp dotted_total k j (max v (value_of P j)) P)
     ∙ value_of_put (eq_by_cmp dotted_cmp k j) v (find dotted_cmp j P) (find dotted_cmp k P) (λ t. find_tied dotted_cmp dotted_total k j (equal_is _ t) P)
@@ -62,7 +62,7 @@ found_some : (n : ℕ) → 1 ≤ n → Some n ≡ found n
 found_some zero low = absurd (omega arith)
 found_some (suc n) low = refl
 
-find_found : (P : List ((List ℕ × ℕ) × ℕ)) (k : List ℕ × ℕ) → list_all is_entry P ≡ true → find dotted_cmp k P ≡ found (value_of P k)
+find_found : (P : Patterns) (k : List ℕ × ℕ) → list_all is_entry P ≡ true → find dotted_cmp k P ≡ found (value_of P k)
 find_found [] k sound = refl
 find_found (e ∷ es) k sound =
     elim (eq_by_cmp dotted_cmp k e.0) as (λ t. cond t (Some e.1) (find dotted_cmp k es) ≡ found (unwrap_or (cond t (Some e.1) (find dotted_cmp k es)) 0)) [
@@ -71,7 +71,7 @@ find_found (e ∷ es) k sound =
     ]
 
 -- maps with the same values are the same
-pub same_maps : (P Q : List ((List ℕ × ℕ) × ℕ)) → IsPatternMap P → IsPatternMap Q → ((k : List ℕ × ℕ) → value_of P k ≡ value_of Q k) → P ≡ Q
+pub same_maps : (P Q : Patterns) → IsPatternMap P → IsPatternMap Q → ((k : List ℕ × ℕ) → value_of P k ≡ value_of Q k) → P ≡ Q
 same_maps P Q left right values =
     same_entries dotted_cmp dotted_total dotted_exact P Q left.sorted right.sorted (λ k. find_found P k left.sound ∙ ap found (values k) ∙ sym (find_found Q k right.sound))
 

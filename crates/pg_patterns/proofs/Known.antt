@@ -5,14 +5,14 @@ use Rattle.std.specs.declared.cmp.Ordering.TheVariants.{Less, Equal, Greater}
 use Rattle.std.specs.FinMap.Entries.{put, by_order}
 use Rattle.std.specs.List.{All}
 use Rattle.pg_patterns.specs.DottedSigns.{dotted_cmp}
-use Rattle.pg_patterns.specs.Values.{raise, value_of, map_of_entries}
+use Rattle.pg_patterns.specs.Values.{Patterns, raise, value_of, map_of_entries}
 use Rattle.pg_patterns.specs.Inside.PatternMaps.{SignsUpTo}
 
 -- the signs of an entry are at most n
 abbrev Known : ℕ → (List ℕ × ℕ) × ℕ → Type 0
 Known n e = All (λ s. s ≤ n) e.0.0
 
-known_put : (n : ℕ) (k : List ℕ × ℕ) (v : ℕ) (P : List ((List ℕ × ℕ) × ℕ)) → All (λ s. s ≤ n) k.0 → SignsUpTo n P → SignsUpTo n (put dotted_cmp k v P)
+known_put : (n : ℕ) (k : List ℕ × ℕ) (v : ℕ) (P : Patterns) → All (λ s. s ≤ n) k.0 → SignsUpTo n P → SignsUpTo n (put dotted_cmp k v P)
 known_put n k v [] new all = All-cons (Known n) (k, v) [] new (All-nil (Known n))
 known_put n k v (e ∷ es) new all =
     let here = All-head (Known n) e es all in

@@ -16,6 +16,7 @@ use Rattle.pg_patterns.specs.Inside.DottedOrder.{dotted_total, same_dotted, dott
 use Rattle.pg_patterns.specs.Inside.Search.{is_after, begins_with, HasRank, first_value}
 use Rattle.pg_patterns.specs.Texts.{value_digit}
 use Rattle.pg_types.proofs.BoolFacts.{greater_is, less_left, equal_is}
+use Rattle.pg_patterns.specs.Values.{Patterns}
 use Rattle.pg_patterns.proofs.Ordered.{sorted_at, find_over, find_there, find_gap, all_before, first_before, first_at, first_not_before, sorted_drop, after_below}
 
 -- a number that is less is not more than one less
@@ -83,18 +84,18 @@ begins_not k [] first = refl
 begins_not k (e ∷ es) first =
     elim (same_dotted k e.0) as (λ t. None ≡ cond t (Some e.1) None → t ≡ false) [ true ↦ λ is. cc | false ↦ λ is. refl ] first
 
-before_all : (P : List ((List ℕ × ℕ) × ℕ)) (k : List ℕ × ℕ) (i : ℕ) → HasRank P k i → list_all (is_after k) (take i P) ≡ true
+before_all : (P : Patterns) (k : List ℕ × ℕ) (i : ℕ) → HasRank P k i → list_all (is_after k) (take i P) ≡ true
 before_all P k i point = all_before dotted_cmp k P i point.within (λ j d low high. point.before j d high)
 
 -- a dotted string is found where it stands
-found_at : (P : List ((List ℕ × ℕ) × ℕ)) (k : List ℕ × ℕ) (i : ℕ) → HasRank P k i → find dotted_cmp k P ≡ find dotted_cmp k (drop i P)
+found_at : (P : Patterns) (k : List ℕ × ℕ) (i : ℕ) → HasRank P k i → find dotted_cmp k P ≡ find dotted_cmp k (drop i P)
 found_at P k i point =
     ap (find dotted_cmp k) (sym (take-append-drop i P)) ∙ find_over dotted_cmp k (take i P) (drop i P) (before_all P k i point)
 
 tied : (k : List ℕ × ℕ) (e : (List ℕ × ℕ) × ℕ) → same_dotted k e.0 ≡ true → is_eq (dotted_cmp k e.0) ≡ true
 tied k e same = sym (dotted_ties k e.0) ∙ same
 
-pub digit_there : (P : List ((List ℕ × ℕ) × ℕ)) (k : List ℕ × ℕ) (i v : ℕ) → HasRank P k i → Some v ≡ first_value k (drop i P) → value_digit P k ≡ (48 + v) ∷ []
+pub digit_there : (P : Patterns) (k : List ℕ × ℕ) (i v : ℕ) → HasRank P k i → Some v ≡ first_value k (drop i P) → value_digit P k ≡ (48 + v) ∷ []
 digit_there P k i v point first =
     let start = begins_there k (drop i P) v first in
     let found : find dotted_cmp k P ≡ Some v = found_at P k i point ∙ ap (find dotted_cmp k) start.is ∙ find_there dotted_cmp k start.entry start.rest (tied k start.entry start.same)
@@ -105,29 +106,29 @@ not_at : (k : List ℕ × ℕ) (es : List ((List ℕ × ℕ) × ℕ)) → begins
 not_at k [] none = refl
 not_at k (e ∷ es) none = sym (dotted_ties k e.0) ∙ none
 
-not_before : (P : List ((List ℕ × ℕ) × ℕ)) (k : List ℕ × ℕ) (i : ℕ) → HasRank P k i → first_before dotted_cmp k (drop i P) ≡ false
+not_before : (P : Patterns) (k : List ℕ × ℕ) (i : ℕ) → HasRank P k i → first_before dotted_cmp k (drop i P) ≡ false
 not_before P k i point = first_not_before dotted_cmp k P i (λ d inside. point.behind i d (omega arith) inside)
 
-pub digit_gap : (P : List ((List ℕ × ℕ) × ℕ)) (k : List ℕ × ℕ) (i : ℕ) → T (is_sorted dotted_cmp P) → HasRank P k i → None ≡ first_value k (drop i P) → value_digit P k ≡ []
+pub digit_gap : (P : Patterns) (k : List ℕ × ℕ) (i : ℕ) → T (is_sorted dotted_cmp P) → HasRank P k i → None ≡ first_value k (drop i P) → value_digit P k ≡ []
 digit_gap P k i sorted point first =
     let found : find dotted_cmp k P ≡ None = found_at P k i point ∙ find_gap dotted_cmp dotted_total k (drop i P) (sorted_drop dotted_cmp P i sorted)
     (not_before P k i point) (not_at k (drop i P) (begins_not k (drop i P) first)) in
     ap (λ r. option_map_or (λ v. (48 + v) ∷ []) r []) found
 
-inside_drop : (P : List ((List ℕ × ℕ) × ℕ)) (i : ℕ) (e : (List ℕ × ℕ) × ℕ) (rest : List ((List ℕ × ℕ) × ℕ)) → drop i P ≡ e ∷ rest → i < length P
+inside_drop : (P : Patterns) (i : ℕ) (e : (List ℕ × ℕ) × ℕ) (rest : List ((List ℕ × ℕ) × ℕ)) → drop i P ≡ e ∷ rest → i < length P
 inside_drop [] zero e rest is = cc
 inside_drop [] (suc i) e rest is = cc
 inside_drop (f ∷ P) zero e rest is = omega arith
 inside_drop (f ∷ P) (suc i) e rest is = let inside : i < length P = inside_drop P i e rest is in omega arith
 
-read_drop : (P : List ((List ℕ × ℕ) × ℕ)) (i : ℕ) (e d : (List ℕ × ℕ) × ℕ) (rest : List ((List ℕ × ℕ) × ℕ)) → drop i P ≡ e ∷ rest → get_or P i d ≡ e
+read_drop : (P : Patterns) (i : ℕ) (e d : (List ℕ × ℕ) × ℕ) (rest : List ((List ℕ × ℕ) × ℕ)) → drop i P ≡ e ∷ rest → get_or P i d ≡ e
 read_drop [] zero e d rest is = cc
 read_drop [] (suc i) e d rest is = cc
 read_drop (f ∷ P) zero e d rest is = cc
 read_drop (f ∷ P) (suc i) e d rest is = read_drop P i e d rest is
 
 -- behind the entry of a dotted string stands that of the next dot
-pub next_there : (P : List ((List ℕ × ℕ) × ℕ)) (q : List ℕ) (dot i v : ℕ) → T (is_sorted dotted_cmp P) → HasRank P (q, dot) i → Some v
+pub next_there : (P : Patterns) (q : List ℕ) (dot i v : ℕ) → T (is_sorted dotted_cmp P) → HasRank P (q, dot) i → Some v
     ≡ first_value (q, dot) (drop i P) → HasRank P (q, dot + 1) (i + 1)
 next_there P q dot i v sorted point first =
     let start = begins_there (q, dot) (drop i P) v first in
@@ -143,7 +144,7 @@ next_there P q dot i v sorted point first =
     }
 
 -- where a dotted string has no entry, those behind it are later
-later_than : (P : List ((List ℕ × ℕ) × ℕ)) (q : List ℕ) (dot i j : ℕ) (d : (List ℕ × ℕ) × ℕ) → T (is_sorted dotted_cmp P) → HasRank P (q, dot) i
+later_than : (P : Patterns) (q : List ℕ) (dot i j : ℕ) (d : (List ℕ × ℕ) × ℕ) → T (is_sorted dotted_cmp P) → HasRank P (q, dot) i
     → begins_with (q, dot) (drop i P) ≡ false → i ≤ j → j < length P → dotted_cmp (q, dot) (get_or P j d).0 ≡ Less
 later_than P q dot i j d sorted point none low high =
     let inside : i < length P = omega arith in
@@ -154,7 +155,7 @@ later_than P q dot i j d sorted point none low high =
     (cases_lt i j)
 
 -- where a dotted string has no entry, that of the next dot stands there too
-pub next_gap : (P : List ((List ℕ × ℕ) × ℕ)) (q : List ℕ) (dot i : ℕ) → T (is_sorted dotted_cmp P) → HasRank P (q, dot) i → None ≡ first_value (q, dot) (drop i P) → HasRank P (q, dot + 1) i
+pub next_gap : (P : Patterns) (q : List ℕ) (dot i : ℕ) → T (is_sorted dotted_cmp P) → HasRank P (q, dot) i → None ≡ first_value (q, dot) (drop i P) → HasRank P (q, dot + 1) i
 next_gap P q dot i sorted point first =
     record {
       within = point.within;

@@ -9,7 +9,7 @@ use Rattle.std.specs.Option.{option_map_or}
 use Rattle.std.specs.Ordering.{eq_by_cmp}
 use Rattle.pg_patterns.specs.DottedSigns.{dotted_cmp}
 use Rattle.pg_patterns.specs.Inside.DottedOrder.{same_dotted, dotted_equiv, dotted_ties, dotted_exact}
-use Rattle.pg_patterns.specs.Values.{value_of, greatest_value, map_of_entries}
+use Rattle.pg_patterns.specs.Values.{Patterns, value_of, greatest_value, map_of_entries}
 use Rattle.pg_patterns.specs.Inside.PatternMaps.{IsPatternMap, is_entry}
 use Rattle.pg_patterns.specs.Inside.EntryLines.{entry_at, entries_at}
 use Rattle.pg_patterns.specs.Texts.{with_string, strings_of}
@@ -27,34 +27,34 @@ within_of a b c p q = omega arith
 abbrev IsOf : List ((List ℕ × ℕ) × ℕ) → (List ℕ × ℕ) × ℕ → Type 0
 IsOf P e = find dotted_cmp e.0 P ≡ Some e.1
 
-value_there : (P : List ((List ℕ × ℕ) × ℕ)) (q : List ℕ) (dot : ℕ) → All (λ (x : ℕ × ℕ). find dotted_cmp (q, x.0) P ≡ Some x.1) (option_map_or (λ v. (dot, v) ∷ []) (find dotted_cmp (q, dot) P) [])
+value_there : (P : Patterns) (q : List ℕ) (dot : ℕ) → All (λ (x : ℕ × ℕ). find dotted_cmp (q, x.0) P ≡ Some x.1) (option_map_or (λ v. (dot, v) ∷ []) (find dotted_cmp (q, dot) P) [])
 value_there P q dot =
     elim (find dotted_cmp (q, dot) P) as (λ o. find dotted_cmp (q, dot) P ≡ o → All (λ (x : ℕ × ℕ). find dotted_cmp (q, x.0) P ≡ Some x.1) (option_map_or (λ v. (dot, v) ∷ []) o [])) [
       | None ↦ λ is. All-nil (λ (x : ℕ × ℕ). find dotted_cmp (q, x.0) P ≡ Some x.1)
       | Some v ↦ λ is. All-cons (λ (x : ℕ × ℕ). find dotted_cmp (q, x.0) P ≡ Some x.1) (dot, v) [] is (All-nil (λ (x : ℕ × ℕ). find dotted_cmp (q, x.0) P ≡ Some x.1))
     ] refl
 
-values_of : (P : List ((List ℕ × ℕ) × ℕ)) (q : List ℕ) (dot : ℕ) (ss : List ℕ) → All (λ (x : ℕ × ℕ). find dotted_cmp (q, x.0) P ≡ Some x.1) (values_from P q dot ss)
+values_of : (P : Patterns) (q : List ℕ) (dot : ℕ) (ss : List ℕ) → All (λ (x : ℕ × ℕ). find dotted_cmp (q, x.0) P ≡ Some x.1) (values_from P q dot ss)
 values_of P q dot [] = value_there P q dot
 values_of P q dot (s ∷ ss) = All-append (λ (x : ℕ × ℕ). find dotted_cmp (q, x.0) P ≡ Some x.1) (option_map_or (λ v. (dot, v) ∷ []) (find dotted_cmp (q, dot) P) [])
     (values_from P q (dot + 1) ss) (value_there P q dot) (values_of P q (dot + 1) ss)
 
-entries_are_of : (P : List ((List ℕ × ℕ) × ℕ)) (q : List ℕ) (xs : List (ℕ × ℕ)) → All (λ (x : ℕ × ℕ). find dotted_cmp (q, x.0) P ≡ Some x.1) xs → All (IsOf P) (map (entry_at q) xs)
+entries_are_of : (P : Patterns) (q : List ℕ) (xs : List (ℕ × ℕ)) → All (λ (x : ℕ × ℕ). find dotted_cmp (q, x.0) P ≡ Some x.1) xs → All (IsOf P) (map (entry_at q) xs)
 entries_are_of P q [] all = All-nil (IsOf P)
 entries_are_of P q (x ∷ xs) all =
     All-cons (IsOf P) ((q, x.0), x.1) (map (entry_at q) xs) (All-head (λ (x : ℕ × ℕ). find dotted_cmp (q, x.0) P ≡ Some x.1) x xs all)
     (entries_are_of P q xs (All-tail (λ (x : ℕ × ℕ). find dotted_cmp (q, x.0) P ≡ Some x.1) x xs all))
 
-string_is_of : (P : List ((List ℕ × ℕ) × ℕ)) (q : List ℕ) (xs : List (ℕ × ℕ)) → All (λ (x : ℕ × ℕ). find dotted_cmp (q, x.0) P ≡ Some x.1) xs → All (IsOf P) (entries_at q xs)
+string_is_of : (P : Patterns) (q : List ℕ) (xs : List (ℕ × ℕ)) → All (λ (x : ℕ × ℕ). find dotted_cmp (q, x.0) P ≡ Some x.1) xs → All (IsOf P) (entries_at q xs)
 string_is_of P [] xs all = All-nil (IsOf P)
 string_is_of P (s ∷ q) xs all = entries_are_of P (s ∷ q) xs all
 
-strings_are_of : (P : List ((List ℕ × ℕ) × ℕ)) (qs : List (List ℕ)) → All (IsOf P) (flat_map (entries_of P) qs)
+strings_are_of : (P : Patterns) (qs : List (List ℕ)) → All (IsOf P) (flat_map (entries_of P) qs)
 strings_are_of P [] = All-nil (IsOf P)
 strings_are_of P (q ∷ qs) = All-append (IsOf P) (entries_of P q) (flat_map (entries_of P) qs) (string_is_of P q (values_from P q 0 q) (values_of P q 0 q)) (strings_are_of P qs)
 
 -- no value is greater than that of the map
-value_upto : (P : List ((List ℕ × ℕ) × ℕ)) (k : List ℕ × ℕ) (e : (List ℕ × ℕ) × ℕ) → IsOf P e → only (same_dotted k e.0) e.1 ≤ value_of P k
+value_upto : (P : Patterns) (k : List ℕ × ℕ) (e : (List ℕ × ℕ) × ℕ) → IsOf P e → only (same_dotted k e.0) e.1 ≤ value_of P k
 value_upto P k e of =
     elim (same_dotted k e.0) as (λ b. same_dotted k e.0 ≡ b → only b e.1 ≤ value_of P k) [
       | true ↦ λ same.
@@ -88,13 +88,13 @@ map_append : (q : List ℕ) (xs ys : List (ℕ × ℕ)) → map (entry_at q) (xs
 map_append q [] ys = refl
 map_append q (x ∷ xs) ys = ap (λ z. ((q, x.0), x.1) ∷ z) (map_append q xs ys)
 
-value_here : (P : List ((List ℕ × ℕ) × ℕ)) (q : List ℕ) (dot v : ℕ) → find dotted_cmp (q, dot) P ≡ Some v
+value_here : (P : Patterns) (q : List ℕ) (dot v : ℕ) → find dotted_cmp (q, dot) P ≡ Some v
     → v ≤ greatest_value (same_dotted (q, dot)) (map (entry_at q) (option_map_or (λ v. (dot, v) ∷ []) (find dotted_cmp (q, dot) P) []))
 value_here P q dot v is =
     subst (λ o. v ≤ greatest_value (same_dotted (q, dot)) (map (entry_at q) (option_map_or (λ v. (dot, v) ∷ []) o []))) (sym is)
     (let same : same_dotted (q, dot) (q, dot) ≡ true = dotted_equiv.refl (q, dot) in subst (λ b. v ≤ max (only b v) 0) (sym same) (omega arith))
 
-value_among : (P : List ((List ℕ × ℕ) × ℕ)) (q : List ℕ) (first dot v : ℕ) (ss : List ℕ) → first ≤ dot → dot ≤ first + length ss → find dotted_cmp (q, dot) P
+value_among : (P : Patterns) (q : List ℕ) (first dot v : ℕ) (ss : List ℕ) → first ≤ dot → dot ≤ first + length ss → find dotted_cmp (q, dot) P
     ≡ Some v → v ≤ greatest_value (same_dotted (q, dot)) (map (entry_at q) (values_from P q first ss))
 value_among P q first dot v [] low high is =
     let one : first ≡ dot = omega arith in
@@ -128,7 +128,7 @@ string_added test q (r ∷ rs) =
     twice true false c same = cc
     twice false b c same = refl
 
-string_among : (P : List ((List ℕ × ℕ) × ℕ)) (k : List ℕ × ℕ) (v : ℕ) → find dotted_cmp k P ≡ Some v → list_any (pointwise nat_eq k.0) (strings_of P) ≡ true
+string_among : (P : Patterns) (k : List ℕ × ℕ) (v : ℕ) → find dotted_cmp k P ≡ Some v → list_any (pointwise nat_eq k.0) (strings_of P) ≡ true
 string_among [] k v is = cc
 string_among (e ∷ es) k v is =
     string_added (pointwise nat_eq k.0) e.0.0 (strings_of es)
@@ -142,12 +142,12 @@ string_among (e ∷ es) k v is =
     or_true true b is = refl
     or_true false b is = is
 
-value_of_string : (P : List ((List ℕ × ℕ) × ℕ)) (q : List ℕ) (dot v : ℕ) → 1 ≤ length q → dot ≤ length q → find dotted_cmp (q, dot) P ≡ Some v
+value_of_string : (P : Patterns) (q : List ℕ) (dot v : ℕ) → 1 ≤ length q → dot ≤ length q → find dotted_cmp (q, dot) P ≡ Some v
     → v ≤ greatest_value (same_dotted (q, dot)) (entries_of P q)
 value_of_string P [] dot v some bound is = absurd (omega arith)
 value_of_string P (s ∷ q) dot v some bound is = value_among P (s ∷ q) 0 dot v (s ∷ q) (omega arith) (omega arith) is
 
-value_in_strings : (P : List ((List ℕ × ℕ) × ℕ)) (k : List ℕ × ℕ) (v : ℕ) (qs : List (List ℕ)) → 1 ≤ length k.0 → k.1 ≤ length k.0 → find dotted_cmp k P
+value_in_strings : (P : Patterns) (k : List ℕ × ℕ) (v : ℕ) (qs : List (List ℕ)) → 1 ≤ length k.0 → k.1 ≤ length k.0 → find dotted_cmp k P
     ≡ Some v → list_any (pointwise nat_eq k.0) qs ≡ true → v ≤ greatest_value (same_dotted k) (flat_map (entries_of P) qs)
 value_in_strings P k v [] some bound is among = cc
 value_in_strings P k v (q ∷ qs) some bound is among =
@@ -160,7 +160,7 @@ value_in_strings P k v (q ∷ qs) some bound is among =
       | false ↦ λ other further. within_of _ _ _ (value_in_strings P k v qs some bound is further) (best_right (same_dotted k) (entries_of P q) (flat_map (entries_of P) qs))
     ] refl among
 
-value_low : (P : List ((List ℕ × ℕ) × ℕ)) (k : List ℕ × ℕ) → list_all is_entry P ≡ true → value_of P k ≤ greatest_value (same_dotted k) (flat_map (entries_of P) (strings_of P))
+value_low : (P : Patterns) (k : List ℕ × ℕ) → list_all is_entry P ≡ true → value_of P k ≤ greatest_value (same_dotted k) (flat_map (entries_of P) (strings_of P))
 value_low P k sound =
     elim (find dotted_cmp k P) as (λ o. find dotted_cmp k P ≡ o → unwrap_or o 0 ≤ greatest_value (same_dotted k) (flat_map (entries_of P) (strings_of P))) [
       | None ↦ λ is. omega arith
@@ -173,7 +173,7 @@ same_number : (a b : ℕ) → a ≤ b → b ≤ a → a ≡ b
 same_number a b p q = omega arith
 
 -- the entries of the strings of a map, joined, are the map
-pub joined_strings : (P : List ((List ℕ × ℕ) × ℕ)) → IsPatternMap P → map_of_entries (flat_map (entries_of P) (strings_of P)) ≡ P
+pub joined_strings : (P : Patterns) → IsPatternMap P → map_of_entries (flat_map (entries_of P) (strings_of P)) ≡ P
 joined_strings P map =
     let es = flat_map (entries_of P) (strings_of P) in
     let of : All (IsOf P) es = strings_are_of P (strings_of P) in

@@ -10,7 +10,7 @@ use Rattle.pg_types.specs.declared.limits.TheConstants.{LEVEL_MAX, PATTERN_SIGNS
 use Rattle.pg_types.specs.Inside.Signs.{is_sign}
 use Rattle.pg_patterns.specs.DottedSigns.{dotted_cmp}
 use Rattle.pg_patterns.specs.Inside.DottedOrder.{dotted_total}
-use Rattle.pg_patterns.specs.Values.{raise, value_of, largest}
+use Rattle.pg_patterns.specs.Values.{Patterns, raise, value_of, largest}
 use Rattle.pg_patterns.specs.Inside.PatternMaps.{is_entry, IsPatternMap}
 use Rattle.pg_types.proofs.BoolFacts.{and_first, and_second}
 
@@ -48,13 +48,13 @@ entry_told e b =
     and_from _ _ (and_from _ _ (and_from _ _ (and_from _ _ (and_from _ _ (le-leb 1 (length e.0.0) b.some) (le-leb (length e.0.0) PATTERN_SIGNS_MAX b.few)) b.signs)
     (le-leb e.0.1 (length e.0.0) b.dot)) (le-leb 1 e.1 b.low)) (le-leb e.1 LEVEL_MAX b.high)
 
-pub entry_at : (P : List ((List ℕ × ℕ) × ℕ)) (i : ℕ) (d : (List ℕ × ℕ) × ℕ) → list_all is_entry P ≡ true → i < length P → is_entry (get_or P i d) ≡ true
+pub entry_at : (P : Patterns) (i : ℕ) (d : (List ℕ × ℕ) × ℕ) → list_all is_entry P ≡ true → i < length P → is_entry (get_or P i d) ≡ true
 entry_at [] i d sound inside = absurd (omega arith)
 entry_at (e ∷ es) zero d sound inside = and_first _ _ sound
 entry_at (e ∷ es) (suc i) d sound inside = entry_at es i d (and_second _ _ sound) (omega arith)
 
 -- the bounds of an entry that is lent in its parts
-pub bounds_lent : (P Q : List ((List ℕ × ℕ) × ℕ)) (i : ℕ) (e : (List ℕ × ℕ) × ℕ) (q : List ℕ) (dot : ℕ) → IsPatternMap P → P ≡ Q → i < length Q → e
+pub bounds_lent : (P Q : Patterns) (i : ℕ) (e : (List ℕ × ℕ) × ℕ) (q : List ℕ) (dot : ℕ) → IsPatternMap P → P ≡ Q → i < length Q → e
     ≡ get_or P i e → q ≡ e.0.0 → dot ≡ e.0.1 → EntryBounds ((q, dot), e.1)
 bounds_lent P Q i e q dot map same inside is signs at =
     let within : i < length P = subst (λ x. i < length x) (sym same) inside in
@@ -62,7 +62,7 @@ bounds_lent P Q i e q dot map same inside is signs at =
     subst (λ x. EntryBounds ((x, dot), e.1)) (sym signs) (subst (λ x. EntryBounds ((e.0.0, x), e.1)) (sym at) (entry_bounds e there))
 
 -- no value is greater than the greatest level
-pub value_of_bound : (P : List ((List ℕ × ℕ) × ℕ)) (k : List ℕ × ℕ) → list_all is_entry P ≡ true → value_of P k ≤ LEVEL_MAX
+pub value_of_bound : (P : Patterns) (k : List ℕ × ℕ) → list_all is_entry P ≡ true → value_of P k ≤ LEVEL_MAX
 value_of_bound [] k sound = omega arith
 value_of_bound (e ∷ es) k sound =
     elim (eq_by_cmp dotted_cmp k e.0) as (λ t. unwrap_or (cond t (Some e.1) (find dotted_cmp k es)) 0 ≤ LEVEL_MAX) [
@@ -73,7 +73,7 @@ value_of_bound (e ∷ es) k sound =
 max_bound : (a b : ℕ) → a ≤ LEVEL_MAX → b ≤ LEVEL_MAX → max a b ≤ LEVEL_MAX
 max_bound a b p q = omega arith
 
-pub largest_bound : (P : List ((List ℕ × ℕ) × ℕ)) → list_all is_entry P ≡ true → largest P ≤ LEVEL_MAX
+pub largest_bound : (P : Patterns) → list_all is_entry P ≡ true → largest P ≤ LEVEL_MAX
 largest_bound [] sound = omega arith
 largest_bound (e ∷ es) sound =
     max_bound e.1 (largest es) (entry_bounds e (and_first _ _ sound)).high (largest_bound es (and_second _ _ sound))
@@ -86,7 +86,7 @@ pub greatest_bound : (P es : List ((List ℕ × ℕ) × ℕ)) (n m : ℕ) → Is
 greatest_bound P es n m map same is =
     below_greatest n m (largest es) is (largest_bound es (subst (λ x. list_all is_entry x ≡ true) (sym same) map.sound))
 
-sound_put : (k : List ℕ × ℕ) (v : ℕ) (P : List ((List ℕ × ℕ) × ℕ)) → is_entry (k, v) ≡ true → list_all is_entry P ≡ true → list_all is_entry (put dotted_cmp k v P) ≡ true
+sound_put : (k : List ℕ × ℕ) (v : ℕ) (P : Patterns) → is_entry (k, v) ≡ true → list_all is_entry P ≡ true → list_all is_entry (put dotted_cmp k v P) ≡ true
 sound_put k v [] new sound = and_from _ _ new refl
 sound_put k v (e ∷ es) new sound =
     let here = entry_bounds e (and_first _ _ sound) in
@@ -99,7 +99,7 @@ sound_put k v (e ∷ es) new sound =
     ]
 
 -- a map stays one when a value is raised
-pub raise_keeps : (P : List ((List ℕ × ℕ) × ℕ)) (k : List ℕ × ℕ) (v : ℕ) → IsPatternMap P → EntryBounds (k, v) → IsPatternMap (raise P k v)
+pub raise_keeps : (P : Patterns) (k : List ℕ × ℕ) (v : ℕ) → IsPatternMap P → EntryBounds (k, v) → IsPatternMap (raise P k v)
 raise_keeps P k v map new =
     let old : value_of P k ≤ LEVEL_MAX = value_of_bound P k map.sound in
     let low : 1 ≤ v = new.low in

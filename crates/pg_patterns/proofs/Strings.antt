@@ -17,6 +17,7 @@ use Rattle.pg_patterns.specs.Inside.PatternMaps.{IsPatternMap, is_entry}
 use Rattle.pg_patterns.specs.Inside.Search.{is_after, HasRank}
 use Rattle.pg_patterns.specs.Texts.{with_string, strings_of, pattern_line}
 use Rattle.pg_types.proofs.BoolFacts.{equal_is, greater_is}
+use Rattle.pg_patterns.specs.Values.{Patterns}
 use Rattle.pg_patterns.proofs.Ordered.{sorted_at, after_below}
 use Rattle.pg_patterns.proofs.Sound.{entry_bounds, entry_at}
 use Rattle.pg_patterns.proofs.Points.{same_signs, turned_after}
@@ -61,7 +62,7 @@ first_dot e =
     zero_upto Greater rank = absurd (omega arith)
 
 -- where the entries of a string begin, its first dot stands
-pub string_start : (P : List ((List ℕ × ℕ) × ℕ)) (i : ℕ) (e : (List ℕ × ℕ) × ℕ) → T (is_sorted dotted_cmp P) → i < length P → e ≡ get_or P i e
+pub string_start : (P : Patterns) (i : ℕ) (e : (List ℕ × ℕ) × ℕ) → T (is_sorted dotted_cmp P) → i < length P → e ≡ get_or P i e
     → ((j : ℕ) (d : (List ℕ × ℕ) × ℕ) → j < i → is_after (e.0.0, 0) (get_or P j d) ≡ true) → HasRank P (e.0.0, 0) i
 string_start P i e sorted inside is before =
     record {
@@ -76,7 +77,7 @@ string_start P i e sorted inside is before =
     }
 
 -- the entries before the end of a string are before the next string
-pub next_string : (P : List ((List ℕ × ℕ) × ℕ)) (q : List ℕ) (i : ℕ) (e : (List ℕ × ℕ) × ℕ) → IsPatternMap P → HasRank P (q, length q + 1) i → i < length P
+pub next_string : (P : Patterns) (q : List ℕ) (i : ℕ) (e : (List ℕ × ℕ) × ℕ) → IsPatternMap P → HasRank P (q, length q + 1) i → i < length P
     → e ≡ get_or P i e → slice_cmp nat_cmp q e.0.0 ≡ Less × ((j : ℕ) (d : (List ℕ × ℕ) × ℕ) → j < i → is_after (e.0.0, 0) (get_or P j d) ≡ true)
 next_string P q i e map point inside is =
     let bounds = entry_bounds e (subst (λ x. is_entry x ≡ true) (sym is) (entry_at P i e map.sound inside)) in
@@ -118,7 +119,7 @@ string_once q (e ∷ es) (suc n) same within ends =
     ∙ same_again q (strings_of (drop (suc n) es))
 
 -- the end of a string lies behind its entries
-pub string_progress : (P : List ((List ℕ × ℕ) × ℕ)) (at n : ℕ) (e : (List ℕ × ℕ) × ℕ) → IsPatternMap P → at < length P → e ≡ get_or P at e → HasRank P (e.0.0, length e.0.0 + 1) n → at < n
+pub string_progress : (P : Patterns) (at n : ℕ) (e : (List ℕ × ℕ) × ℕ) → IsPatternMap P → at < length P → e ≡ get_or P at e → HasRank P (e.0.0, length e.0.0 + 1) n → at < n
 string_progress P at n e map inside is point =
     ⊎_elim (λ less. less)
     (λ back.
@@ -127,7 +128,7 @@ string_progress P at n e map inside is point =
     cc (later, same_signs e.0.0))
     (cases_lt at n)
 
-string_cut : (P : List ((List ℕ × ℕ) × ℕ)) (at m : ℕ) (e : (List ℕ × ℕ) × ℕ) → IsPatternMap P → HasRank P (e.0.0, 0) at → HasRank P (e.0.0, length e.0.0 + 1) (at + suc m)
+string_cut : (P : Patterns) (at m : ℕ) (e : (List ℕ × ℕ) × ℕ) → IsPatternMap P → HasRank P (e.0.0, 0) at → HasRank P (e.0.0, length e.0.0 + 1) (at + suc m)
     → strings_of (drop at P) ≡ e.0.0 ∷ strings_of (drop (at + suc m) P)
 string_cut P at m e map begin end =
     let q = e.0.0 in
@@ -144,7 +145,7 @@ string_cut P at m e map begin end =
     ∙ ap (λ x. q ∷ strings_of x) moved
 
 -- from where the entries of a string begin to where those of the next do
-pub string_step : (P : List ((List ℕ × ℕ) × ℕ)) (at n : ℕ) (e : (List ℕ × ℕ) × ℕ) → IsPatternMap P → at < length P → e ≡ get_or P at e → HasRank P (e.0.0, 0) at
+pub string_step : (P : Patterns) (at n : ℕ) (e : (List ℕ × ℕ) × ℕ) → IsPatternMap P → at < length P → e ≡ get_or P at e → HasRank P (e.0.0, 0) at
     → HasRank P (e.0.0, length e.0.0 + 1) n → at < n × (strings_of (drop at P) ≡ e.0.0 ∷ strings_of (drop n P))
 string_step P at n e map inside is begin end =
     let less : at < n = string_progress P at n e map inside is end in
@@ -152,7 +153,7 @@ string_step P at n e map inside is begin end =
     (less, string_cut P at (n - at - 1) e map begin (subst (λ x. HasRank P (e.0.0, length e.0.0 + 1) x) size end) ∙ ap (λ x. e.0.0 ∷ strings_of (drop x P)) (sym size))
 
 -- a line written is one line less to write
-pub line_step : (t : Alphabet) (P : List ((List ℕ × ℕ) × ℕ)) (at n : ℕ) (e : (List ℕ × ℕ) × ℕ) (q old new whole : List ℕ) → IsPatternMap P → at < length P
+pub line_step : (t : Alphabet) (P : Patterns) (at n : ℕ) (e : (List ℕ × ℕ) × ℕ) (q old new whole : List ℕ) → IsPatternMap P → at < length P
     → e ≡ get_or P at e → q ≡ e.0.0 → HasRank P (e.0.0, 0) at → HasRank P (q, length q + 1) n → new ≡ old ++ pattern_line t P q → old
     ++ flat_map (pattern_line t P) (strings_of (drop at P)) ≡ whole → new ++ flat_map (pattern_line t P) (strings_of (drop n P)) ≡ whole
 line_step t P at n e q old new whole map inside is signs begin end pushed left =

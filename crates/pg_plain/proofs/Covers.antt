@@ -5,7 +5,7 @@ use Rattle.std.proofs.lemmas.List.{length-take-le, length-drop, take-take, drop-
 use Rattle.std.specs.Cmp.Lexicographic.{bytes_decides}
 use Rattle.std.specs.List.{starts_with, list_all, list_any}
 use Rattle.pg_types.specs.declared.limits.TheConstants.{WORD_LETTERS_MAX}
-use Rattle.pg_patterns.specs.Values.{stands_at, applies, greatest_value, value_at}
+use Rattle.pg_patterns.specs.Values.{Patterns, stands_at, applies, greatest_value, value_at}
 use Rattle.pg_patterns.specs.Inside.PatternMaps.{is_entry}
 use Rattle.pg_select.specs.Windows.{Hopeless, window, fits, is_covered}
 use Rattle.pg_plain.specs.Inside.Strings.{is_string}
@@ -20,7 +20,7 @@ entry_string : (e : (List ℕ × ℕ) × ℕ) → is_entry e ≡ true → is_str
 entry_string e h = and_first _ _ (and_first _ _ (and_first _ _ (and_first _ _ h)))
 
 -- the entries of a map of patterns have 1 to 32 signs
-pub entries_are_strings : (P : List ((List ℕ × ℕ) × ℕ)) → list_all is_entry P ≡ true → list_all (λ e. is_string e.0) P ≡ true
+pub entries_are_strings : (P : Patterns) → list_all is_entry P ≡ true → list_all (λ e. is_string e.0) P ≡ true
 entries_are_strings P all = all_weaker is_entry (λ (e : (List ℕ × ℕ) × ℕ). is_string e.0) P entry_string all
 
 -- the signs from where k stands in the window are those from where it stands in the word
@@ -111,7 +111,7 @@ joined_bits true false x y z p q r = omega arith
 joined_bits false true x y z p q r = omega arith
 joined_bits false false x y z p q r = omega arith
 
-best_greatest : (t : List ℕ × ℕ → Bool) (P : List ((List ℕ × ℕ) × ℕ)) → greatest (λ e. e.1) t P ≡ greatest_value t P
+best_greatest : (t : List ℕ × ℕ → Bool) (P : Patterns) → greatest (λ e. e.1) t P ≡ greatest_value t P
 best_greatest t [] = refl
 best_greatest t (e ∷ es) = ap (λ n. max (cond (t e.0) e.1 0) n) (best_greatest t es)
 
@@ -133,7 +133,7 @@ start_cover : (covers : List Bool) (p : ℕ) → covers ≡ replicate (WORD_LETT
 start_cover covers p is inside = ap (λ x. bit (get_or x p false)) is ∙ ap bit (get_or-replicate (WORD_LETTERS_MAX + 2) p false false inside)
 
 -- the values of a word: those of the patterns, and hopeless dotted strings give none
-pub values_end : (P : List ((List ℕ × ℕ) × ℕ)) (H : Hopeless) (w x y z : List ℕ) → length w ≤ WORD_LETTERS_MAX + 2 → x ≡ replicate (WORD_LETTERS_MAX + 2) 0
+pub values_end : (P : Patterns) (H : Hopeless) (w x y z : List ℕ) → length w ≤ WORD_LETTERS_MAX + 2 → x ≡ replicate (WORD_LETTERS_MAX + 2) 0
     → ((p : ℕ) → p < WORD_LETTERS_MAX + 2 → get_or y p 0 ≡ max (get_or x p 0) (greatest (λ e. e.1) (applies w p) P))
     → ((p : ℕ) → p < WORD_LETTERS_MAX + 2 → get_or z p 0 ≡ max (get_or y p 0) (greatest (λ e. 0) (applies w p) H))
     → (p : ℕ) → p < length w → get_or z p 0 ≡ value_at P w p
@@ -143,7 +143,7 @@ values_end P H w x y z long start first second p inside =
     (start_value x p start room) (best_greatest (applies w p) P) (none_given (applies w p) H) (first p room) (second p room)
 
 -- the covers of the windows that fit
-pub covers_end : (P : List ((List ℕ × ℕ) × ℕ)) (H : Hopeless) (level len dot : ℕ) (w : List ℕ) (x y z : List Bool) → length w ≤ WORD_LETTERS_MAX + 2 → x ≡ replicate (WORD_LETTERS_MAX + 2) false
+pub covers_end : (P : Patterns) (H : Hopeless) (level len dot : ℕ) (w : List ℕ) (x y z : List Bool) → length w ≤ WORD_LETTERS_MAX + 2 → x ≡ replicate (WORD_LETTERS_MAX + 2) false
     → ((p : ℕ) → p < WORD_LETTERS_MAX + 2 → bit (get_or y p false) ≡ max (bit (get_or x p false)) (greatest (λ e. bit (nat_le level e.1 && is_within len dot (length e.0.0) e.0.1)) (applies w p) P))
     → ((p : ℕ) → p < WORD_LETTERS_MAX + 2 → bit (get_or z p false) ≡ max (bit (get_or y p false)) (greatest (λ e. bit (is_within len dot (length e.0.0) e.0.1)) (applies w p) H))
     → (p : ℕ) → p < length w → fits w p len dot ≡ true → get_or z p false ≡ is_covered level P H (window w p len dot) dot

@@ -8,14 +8,14 @@ use Rattle.std.specs.List.{list_all}
 use Rattle.pg_types.specs.Inside.Signs.{is_sign}
 use Rattle.pg_patterns.specs.DottedSigns.{dotted_cmp}
 use Rattle.pg_patterns.specs.Inside.DottedOrder.{dotted_total, dotted_exact}
-use Rattle.pg_patterns.specs.Values.{raise, value_of}
+use Rattle.pg_patterns.specs.Values.{Patterns, raise, value_of}
 use Rattle.pg_patterns.specs.Inside.PatternMaps.{is_entry, IsPatternMap}
 use Rattle.pg_plain.specs.Inside.Strings.{is_string}
 use Rattle.pg_types.proofs.EntryLists.{insert-put, find_good, all_put, put_next}
 use Rattle.pg_types.proofs.BoolFacts.{and_first, and_second}
 
 -- a value that is raised in a map
-pub raised_in : (P Q : List ((List ℕ × ℕ) × ℕ)) (k : List ℕ × ℕ) (v held n : ℕ) → held ≡ value_of P k → n ≡ max v held → Q ≡ insert_entry dotted_cmp P k n → Q ≡ raise P k v
+pub raised_in : (P Q : Patterns) (k : List ℕ × ℕ) (v held n : ℕ) → held ≡ value_of P k → n ≡ max v held → Q ≡ insert_entry dotted_cmp P k n → Q ≡ raise P k v
 raised_in P Q k v held n is greater entered =
     entered ∙ insert-put dotted_cmp k n P ∙ ap (λ x. put dotted_cmp k x P) (greater ∙ ap (λ x. max v x) is)
 
@@ -41,7 +41,7 @@ greater_entry k v n new low =
     let value = greater_bounds v n some most low in
     and_from _ _ (and_from _ _ dotted (le-leb 1 (max v n) value.0)) (le-leb (max v n) 9 value.1)
 
-value_bound : (P : List ((List ℕ × ℕ) × ℕ)) (k : List ℕ × ℕ) → list_all is_entry P ≡ true → value_of P k ≤ 9
+value_bound : (P : Patterns) (k : List ℕ × ℕ) → list_all is_entry P ≡ true → value_of P k ≤ 9
 value_bound P k all = by_find (find dotted_cmp k P) refl
   where
     by_find : (o : Option ℕ) → find dotted_cmp k P ≡ o → unwrap_or o 0 ≤ 9
@@ -49,7 +49,7 @@ value_bound P k all = by_find (find dotted_cmp k P) refl
     by_find (Some v) is = leb-true v 9 (and_second _ _ (find_good dotted_cmp is_entry dotted_exact k v P is all))
 
 -- the entries of a map of patterns stay so
-pub entries_raise : (P : List ((List ℕ × ℕ) × ℕ)) (k : List ℕ × ℕ) (v : ℕ) → list_all is_entry P ≡ true → is_entry (k, v) ≡ true → list_all is_entry (raise P k v) ≡ true
+pub entries_raise : (P : Patterns) (k : List ℕ × ℕ) (v : ℕ) → list_all is_entry P ≡ true → is_entry (k, v) ≡ true → list_all is_entry (raise P k v) ≡ true
 entries_raise P k v all new =
     all_put dotted_cmp is_entry dotted_exact k (max v (value_of P k)) P (greater_entry k v (value_of P k) new (value_bound P k all)) all
 

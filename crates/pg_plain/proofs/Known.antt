@@ -9,6 +9,7 @@ use Rattle.pg_patterns.specs.Inside.PatternMaps.{SignsUpTo, is_entry}
 use Rattle.pg_plain.specs.Inside.Strings.{has_signs_up_to}
 use Rattle.pg_plain.proofs.Counted.{counted_good}
 use Rattle.pg_types.proofs.BoolFacts.{and_first, and_second}
+use Rattle.pg_patterns.specs.Values.{Patterns}
 
 -- the test and the fact
 pub up_to_told : (n : ℕ) (q : List ℕ) → SignsWithin n q → has_signs_up_to n q ≡ true
@@ -39,14 +40,14 @@ entry_signs : (e : (List ℕ × ℕ) × ℕ) → is_entry e ≡ true → list_al
 entry_signs e h = and_second _ _ (and_first _ _ (and_first _ _ (and_first _ _ h)))
 
 -- the signs of patterns
-pub patterns_told : (n : ℕ) (P : List ((List ℕ × ℕ) × ℕ)) → list_all is_entry P ≡ true → SignsUpTo n P → list_all (λ e. has_signs_up_to n e.0.0) P ≡ true
+pub patterns_told : (n : ℕ) (P : Patterns) → list_all is_entry P ≡ true → SignsUpTo n P → list_all (λ e. has_signs_up_to n e.0.0) P ≡ true
 patterns_told n [] sound upto = refl
 patterns_told n (e ∷ es) sound upto =
     and_from (has_signs_up_to n e.0.0) (list_all (λ (x : (List ℕ × ℕ) × ℕ). has_signs_up_to n x.0.0) es)
     (both_told n e.0.0 (entry_signs e (and_first (is_entry e) (list_all is_entry es) sound)) (All-head (λ (e : (List ℕ × ℕ) × ℕ). All (λ s. s ≤ n) e.0.0) e es upto))
     (patterns_told n es (and_second (is_entry e) (list_all is_entry es) sound) (All-tail (λ (e : (List ℕ × ℕ) × ℕ). All (λ s. s ≤ n) e.0.0) e es upto))
 
-pub patterns_up_to : (n : ℕ) (P : List ((List ℕ × ℕ) × ℕ)) → list_all (λ e. has_signs_up_to n e.0.0) P ≡ true → SignsUpTo n P
+pub patterns_up_to : (n : ℕ) (P : Patterns) → list_all (λ e. has_signs_up_to n e.0.0) P ≡ true → SignsUpTo n P
 patterns_up_to n [] h = All-nil (λ (e : (List ℕ × ℕ) × ℕ). All (λ s. s ≤ n) e.0.0)
 patterns_up_to n (e ∷ es) h =
     All-cons (λ (e : (List ℕ × ℕ) × ℕ). All (λ s. s ≤ n) e.0.0) e es (least_told n e.0.0 (and_first (has_signs_up_to n e.0.0) (list_all (λ (x : (List ℕ × ℕ) × ℕ). has_signs_up_to n x.0.0) es) h))

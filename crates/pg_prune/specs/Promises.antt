@@ -2,9 +2,8 @@
 use Rattle.std.specs.Prelude.{◌≡◌, ℕ, ◌%◌, List, ◌∷◌, ◌++◌, length, All}
 use Rattle.pg_translate.specs.Reach.{positions}
 use Rattle.pg_dict.specs.Word.{Word}
-use Rattle.pg_patterns.specs.Values.{value_at}
+use Rattle.pg_patterns.specs.Values.{Patterns, value_at}
 use Rattle.pg_select.specs.CountedPositions.{Minima}
-use Rattle.pg_select.specs.Windows.{Patterns}
 
 -- two maps give each position in reach of each word values that are both odd or both even
 abbrev pub BreakAlike : Minima → List Word → Patterns → Patterns → Type 0

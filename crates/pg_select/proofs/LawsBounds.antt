@@ -9,12 +9,12 @@ use Rattle.std.proofs.lemmas.Bool.{and_parts, and_from, or_right, le-leb, lt-leb
 use Rattle.pg_dict.specs.Word.{Word}
 use Rattle.pg_patterns.specs.DottedSigns.{dotted_cmp}
 use Rattle.pg_patterns.specs.Inside.DottedOrder.{dotted_exact}
-use Rattle.pg_patterns.specs.Values.{value_of, raise, largest}
+use Rattle.pg_patterns.specs.Values.{Patterns, value_of, raise, largest}
 use Rattle.pg_select.specs.declared.pass.Pass.{Pass}
 use Rattle.pg_select.specs.Inside.laws.Laws.{raised_all, hopeless_all}
 use Rattle.pg_select.specs.Inside.laws.Steps.{CoversUpTo, IsBelow, IsUpTo, patterns_after_pass, hopeless_after_pass}
 use Rattle.pg_select.specs.CountedPositions.{Minima, Candidate, counted_positions, tally}
-use Rattle.pg_select.specs.Windows.{Patterns, Hopeless}
+use Rattle.pg_select.specs.Windows.{Hopeless}
 use Rattle.pg_select.proofs.LawsClosed.{all_weaker}
 use Rattle.pg_select.proofs.LawsRaised.{AreLong, passing_long}
 

@@ -14,7 +14,7 @@ use Rattle.pg_dict.specs.Word.{Word}
 use Rattle.pg_translate.specs.Reach.{positions}
 use Rattle.pg_patterns.specs.DottedSigns.{dotted_cmp}
 use Rattle.pg_patterns.specs.Inside.DottedOrder.{same_dotted, dotted_exact}
-use Rattle.pg_patterns.specs.Values.{value_of, raise, applies, stands_at}
+use Rattle.pg_patterns.specs.Values.{Patterns, value_of, raise, applies, stands_at}
 use Rattle.pg_types.proofs.BoolFacts.{equal_is}
 use Rattle.pg_patterns.proofs.Joins.{only, value_of_raise}
 use Rattle.pg_select.specs.Statuses.{status_at, position_weight}
@@ -83,7 +83,7 @@ applies_itself u d =
     (ap (pointwise nat_eq u) (take_all (length u) u (omega arith)) ∙ itself u) in
     and_from (nat_le d d) (stands_at u u (d - d)) (le-leb d d (omega arith)) (ap (stands_at u u) none ∙ start)
 
-below : (level : ℕ) (P : List ((List ℕ × ℕ) × ℕ)) (u : List ℕ) (d : ℕ) → 1 ≤ level → list_any (λ (e : (List ℕ × ℕ) × ℕ). nat_le level e.1 && applies u d e.0) P ≡ false → value_of P (u, d) < level
+below : (level : ℕ) (P : Patterns) (u : List ℕ) (d : ℕ) → 1 ≤ level → list_any (λ (e : (List ℕ × ℕ) × ℕ). nat_le level e.1 && applies u d e.0) P ≡ false → value_of P (u, d) < level
 below level [] u d low none = omega arith
 below level (e ∷ es) u d low none =
     let parts = or_parts (nat_le level e.1 && applies u d e.0) (list_any (λ (x : (List ℕ × ℕ) × ℕ). nat_le level x.1 && applies u d x.0) es) none in
@@ -99,7 +99,7 @@ below level (e ∷ es) u d low none =
     first false b is none = refl
 
 -- a window that is not covered has a value below the level
-pub low_uncovered : (level : ℕ) (P : List ((List ℕ × ℕ) × ℕ)) (H : Hopeless) (u : List ℕ) (d : ℕ) → 1 ≤ level → is_covered level P H u d ≡ false → value_of P (u, d) < level
+pub low_uncovered : (level : ℕ) (P : Patterns) (H : Hopeless) (u : List ℕ) (d : ℕ) → 1 ≤ level → is_covered level P H u d ≡ false → value_of P (u, d) < level
 low_uncovered level P H u d low none = below level P u d low (or_parts (list_any (λ (e : (List ℕ × ℕ) × ℕ). nat_le level e.1 && applies u d e.0) P)
     (list_any (λ (e : (List ℕ × ℕ) × Unit {0}). applies u d e.0) H) none).0
 
@@ -109,7 +109,7 @@ all_flat test f [] each = refl
 all_flat test f (x ∷ xs) each = list_all-append test (f x) (flat_map f xs) ∙ and_from (list_all test (f x)) (list_all test (flat_map f xs)) (each x) (all_flat test f xs each)
 
 -- what holds of the windows that are not covered holds of those that are counted
-pub all_seen : (test : List ℕ → Bool) (m : Minima) (words : List Word) (pass : Pass) (P : List ((List ℕ × ℕ) × ℕ)) (H : Hopeless)
+pub all_seen : (test : List ℕ → Bool) (m : Minima) (words : List Word) (pass : Pass) (P : Patterns) (H : Hopeless)
     → ((u : List ℕ) → is_covered pass.level P H u pass.dot ≡ false → test u ≡ true) → list_all (λ (s : CountedPosition). test s.window) (counted_positions m words pass P H) ≡ true
 all_seen test m words pass P H each =
     all_flat (λ (s : CountedPosition). test s.window) (counted_positions_in m pass P H) words (λ w.
@@ -127,7 +127,7 @@ all_seen test m words pass P H each =
         (counts_as pass.level (status_at P w p)) (each (window w.signs p pass.len pass.dot))
 
 -- so each candidate has at the dot a value below the level
-pub candidates_are_low : (m : Minima) (words : List Word) (pass : Pass) (P : List ((List ℕ × ℕ) × ℕ)) (H : Hopeless) → 1 ≤ pass.level
+pub candidates_are_low : (m : Minima) (words : List Word) (pass : Pass) (P : Patterns) (H : Hopeless) → 1 ≤ pass.level
     → All (λ u. value_of P (u, pass.dot) < pass.level) (candidates (counted_positions m words pass P H))
 candidates_are_low m words pass P H low i d inside =
     let all : list_all (λ (u : List ℕ). nat_lt (value_of P (u, pass.dot)) pass.level) (candidates (counted_positions m words pass P H)) ≡ true =
@@ -141,7 +141,7 @@ same_itself : (k : List ℕ × ℕ) → same_dotted k k ≡ true
 same_itself k = and_from (pointwise nat_eq k.0 k.0) (nat_eq k.1 k.1) (itself k.0) (eq-eqb k.1 k.1 refl)
 
 -- and gets exactly the level when it is chosen
-pub chosen_get_level : (m : Minima) (words : List Word) (pass : Pass) (P : List ((List ℕ × ℕ) × ℕ)) (H : Hopeless) → 1 ≤ pass.level
+pub chosen_get_level : (m : Minima) (words : List Word) (pass : Pass) (P : Patterns) (H : Hopeless) → 1 ≤ pass.level
     → All (λ u. value_of (raise P (u, pass.dot) pass.level) (u, pass.dot) ≡ pass.level) (candidates (counted_positions m words pass P H))
 chosen_get_level m words pass P H low i d inside = gets _ (candidates_are_low m words pass P H low i d inside)
   where
@@ -155,11 +155,11 @@ chosen_get_level m words pass P H low i d inside = gets _ (candidates_are_low m 
         ∙ greater (value_of P (u, pass.dot)) pass.level less
 
 -- the value of a raised place is the greater, and those of others stay
-pub others_stay : (P : List ((List ℕ × ℕ) × ℕ)) (j k : List ℕ × ℕ) (v : ℕ) → same_dotted k j ≡ false → value_of (raise P j v) k ≡ value_of P k
+pub others_stay : (P : Patterns) (j k : List ℕ × ℕ) (v : ℕ) → same_dotted k j ≡ false → value_of (raise P j v) k ≡ value_of P k
 others_stay P j k v other = value_of_raise P j k v ∙ ap (λ b. max (only b v) (value_of P k)) other ∙ none (value_of P k)
   where
     none : (n : ℕ) → max 0 n ≡ n
     none n = omega arith
 
-pub none_falls : (P : List ((List ℕ × ℕ) × ℕ)) (j k : List ℕ × ℕ) (v : ℕ) → value_of P k ≤ value_of (raise P j v) k
+pub none_falls : (P : Patterns) (j k : List ℕ × ℕ) (v : ℕ) → value_of P k ≤ value_of (raise P j v) k
 none_falls P j k v = let is : value_of (raise P j v) k ≡ max (only (same_dotted k j) v) (value_of P k) = value_of_raise P j k v in omega arith

@@ -10,7 +10,7 @@ use Rattle.std.proofs.lemmas.List.Folds.{list_all-append}
 use Rattle.pg_dict.specs.Word.{Word}
 use Rattle.pg_translate.specs.Reach.{positions}
 use Rattle.pg_patterns.specs.DottedSigns.{dotted_cmp}
-use Rattle.pg_patterns.specs.Values.{raise, applies}
+use Rattle.pg_patterns.specs.Values.{Patterns, raise, applies}
 use Rattle.pg_select.specs.Statuses.{status_at, position_weight}
 use Rattle.pg_select.specs.Windows.{Hopeless, window, fits, is_covered}
 use Rattle.pg_select.specs.declared.pass.Pass.{Pass}
@@ -22,20 +22,20 @@ use Rattle.pg_select.proofs.LawsValues.{covered_raised, covered_hopeless}
 use Rattle.pg_select.proofs.LawsCandidates.{all_candidates, applies_itself}
 use Rattle.pg_select.proofs.LawsLater.{later_at_once, later_still, later_raised, later_hopeless, some_parts, counted_back}
 
-later_all_raised : (level dot : ℕ) (P : List ((List ℕ × ℕ) × ℕ)) (H : Hopeless) (cs : List Candidate) → IsLater level P H (raised_all level dot P cs) H
+later_all_raised : (level dot : ℕ) (P : Patterns) (H : Hopeless) (cs : List Candidate) → IsLater level P H (raised_all level dot P cs) H
 later_all_raised level dot P H [] = later_at_once level P H
 later_all_raised level dot P H (c ∷ cs) =
     later_still level P (raise P (c.window, dot) level) (raised_all level dot (raise P (c.window, dot) level) cs) H H H (later_raised level P H (c.window, dot))
     (later_all_raised level dot (raise P (c.window, dot) level) H cs)
 
-later_all_hopeless : (level dot : ℕ) (P : List ((List ℕ × ℕ) × ℕ)) (H : Hopeless) (cs : List Candidate) → IsLater level P H P (hopeless_all dot H cs)
+later_all_hopeless : (level dot : ℕ) (P : Patterns) (H : Hopeless) (cs : List Candidate) → IsLater level P H P (hopeless_all dot H cs)
 later_all_hopeless level dot P H [] = later_at_once level P H
 later_all_hopeless level dot P H (c ∷ cs) =
     later_still level P P P H (put dotted_cmp (c.window, dot) (tt {0}) H) (hopeless_all dot (put dotted_cmp (c.window, dot) (tt {0}) H) cs)
     (later_hopeless level P H (c.window, dot)) (later_all_hopeless level dot P (put dotted_cmp (c.window, dot) (tt {0}) H) cs)
 
 -- a pass leads to a later point
-pub later_after_pass : (level dot : ℕ) (P : List ((List ℕ × ℕ) × ℕ)) (H : Hopeless) (raised hopeless : List Candidate) → IsLater level P H (raised_all level dot P raised) (hopeless_all dot H hopeless)
+pub later_after_pass : (level dot : ℕ) (P : Patterns) (H : Hopeless) (raised hopeless : List Candidate) → IsLater level P H (raised_all level dot P raised) (hopeless_all dot H hopeless)
 later_after_pass level dot P H raised hopeless =
     later_still level P (raised_all level dot P raised) (raised_all level dot P raised) H H (hopeless_all dot H hopeless) (later_all_raised level dot P H raised)
     (later_all_hopeless level dot (raised_all level dot P raised) H hopeless)
@@ -49,7 +49,7 @@ stands_same : (u v : List ℕ) (dot : ℕ) → same_signs u v ≡ true → appli
 stands_same u v dot same = ap (λ (x : List ℕ). applies u dot (x, dot)) (sym (same_window u v same)) ∙ applies_itself u dot
 
 -- each window that was raised is covered
-covered_all_raised : (level dot : ℕ) (P : List ((List ℕ × ℕ) × ℕ)) (H : Hopeless) (u : List ℕ) (cs : List Candidate) → is_among u cs ≡ true
+covered_all_raised : (level dot : ℕ) (P : Patterns) (H : Hopeless) (u : List ℕ) (cs : List Candidate) → is_among u cs ≡ true
     → is_covered level (raised_all level dot P cs) H u dot ≡ true
 covered_all_raised level dot P H u [] among = cc
 covered_all_raised level dot P H u (c ∷ cs) among =
@@ -60,7 +60,7 @@ covered_all_raised level dot P H u (c ∷ cs) among =
     (or_cases (same_signs u c.window) (is_among u cs) among)
 
 -- and so is each that was made hopeless
-covered_all_hopeless : (level dot : ℕ) (P : List ((List ℕ × ℕ) × ℕ)) (H : Hopeless) (u : List ℕ) (cs : List Candidate) → is_among u cs ≡ true → is_covered level P (hopeless_all dot H cs) u dot ≡ true
+covered_all_hopeless : (level dot : ℕ) (P : Patterns) (H : Hopeless) (u : List ℕ) (cs : List Candidate) → is_among u cs ≡ true → is_covered level P (hopeless_all dot H cs) u dot ≡ true
 covered_all_hopeless level dot P H u [] among = cc
 covered_all_hopeless level dot P H u (c ∷ cs) among =
     ⊎_elim
@@ -83,7 +83,7 @@ nil_tested {Y = Y} test f g each (x ∷ xs) all =
     ap (λ (ys : List Y). ys ++ flat_map g xs) (each x parts.0) ∙ nil_tested test f g each xs parts.1
 
 -- where all that a pass counted is covered later, it counts nothing then
-pub closed_when_covered : (m : Minima) (words : List Word) (pass : Pass) (P P' : List ((List ℕ × ℕ) × ℕ)) (H H' : Hopeless) → IsLater pass.level P H P' H'
+pub closed_when_covered : (m : Minima) (words : List Word) (pass : Pass) (P P' : Patterns) (H H' : Hopeless) → IsLater pass.level P H P' H'
     → list_all (λ u. is_covered pass.level P' H' u pass.dot) (candidates (counted_positions m words pass P H)) ≡ true → counted_positions m words pass P' H' ≡ []
 closed_when_covered m words pass P P' H H' later all =
     nil_tested (λ (s : CountedPosition). is_covered pass.level P' H' s.window pass.dot) (counted_positions_in m pass P H) (counted_positions_in m pass P' H') (λ w.
@@ -142,7 +142,7 @@ all_decided raised hopeless (c ∷ cs) all =
         (or_cases (is_among x.window (filter raised cs)) (is_among x.window (filter hopeless cs)) decided)
 
 -- candidates that were each raised or made hopeless are covered
-decided_covered : (level dot : ℕ) (P : List ((List ℕ × ℕ) × ℕ)) (H : Hopeless) (raised hopeless : Candidate → Bool) (cs : List Candidate) → list_all (λ c. raised c || hopeless c) cs ≡ true
+decided_covered : (level dot : ℕ) (P : Patterns) (H : Hopeless) (raised hopeless : Candidate → Bool) (cs : List Candidate) → list_all (λ c. raised c || hopeless c) cs ≡ true
     → list_all (λ c. is_covered level (raised_all level dot P (filter raised cs)) (hopeless_all dot H (filter hopeless cs)) c.window dot) cs ≡ true
 decided_covered level dot P H raised hopeless cs all =
     all_weaker (is_decided raised hopeless cs) (λ (c : Candidate). is_covered level (raised_all level dot P (filter raised cs)) (hopeless_all dot H (filter hopeless cs)) c.window dot)
@@ -162,7 +162,7 @@ windows_of test counted [] = refl
 windows_of test counted (u ∷ us) = ap (λ b. test u && b) (windows_of test counted us)
 
 -- a pass of which each candidate was raised or made hopeless counts nothing afterwards
-pub closed_at_end : (m : Minima) (words : List Word) (pass : Pass) (P : List ((List ℕ × ℕ) × ℕ)) (H : Hopeless) (raised hopeless : Candidate → Bool)
+pub closed_at_end : (m : Minima) (words : List Word) (pass : Pass) (P : Patterns) (H : Hopeless) (raised hopeless : Candidate → Bool)
     → list_all (λ c. raised c || hopeless c) (tally (counted_positions m words pass P H)) ≡ true
     → counted_positions m words pass (raised_all pass.level pass.dot P (filter raised (tally (counted_positions m words pass P H))))
     (hopeless_all pass.dot H (filter hopeless (tally (counted_positions m words pass P H)))) ≡ []

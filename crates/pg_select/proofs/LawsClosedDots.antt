@@ -6,11 +6,11 @@ use Rattle.pg_types.specs.declared.limits.TheConstants.{LENGTH_MAX}
 use Rattle.pg_types.specs.declared.marks.Mark.{Mark}
 use Rattle.pg_types.specs.declared.marks.Mark.TheVariants.{Nothing, Error, Missed, Found, DontCare}
 use Rattle.pg_dict.specs.Word.{Word}
-use Rattle.pg_patterns.specs.Values.{applies, greatest_value, value_at}
+use Rattle.pg_patterns.specs.Values.{Patterns, applies, greatest_value, value_at}
 use Rattle.pg_patterns.proofs.Joins.{only}
 use Rattle.pg_select.specs.Inside.laws.Laws.{IsLater}
 use Rattle.pg_select.specs.Statuses.{is_odd, status, status_at}
-use Rattle.pg_select.specs.Windows.{Hopeless, window, fits, is_covered, Patterns}
+use Rattle.pg_select.specs.Windows.{Hopeless, window, fits, is_covered}
 use Rattle.pg_select.specs.declared.pass.Pass.{Pass}
 use Rattle.pg_select.specs.CountedPositions.{Minima, Candidate, counts_as, counted_at, counted_positions, tally}
 use Rattle.pg_select.proofs.LawsLater.{none_at_level, counted_back}

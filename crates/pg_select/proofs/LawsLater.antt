@@ -7,7 +7,7 @@ use Rattle.pg_types.specs.declared.marks.Mark.TheVariants.{Nothing, Error, Misse
 use Rattle.pg_dict.specs.Word.{Word}
 use Rattle.pg_translate.specs.Reach.{positions}
 use Rattle.pg_patterns.specs.DottedSigns.{dotted_cmp}
-use Rattle.pg_patterns.specs.Values.{raise, applies, value_at}
+use Rattle.pg_patterns.specs.Values.{Patterns, raise, applies, value_at}
 use Rattle.pg_select.specs.Statuses.{is_odd, status, status_at, position_weight}
 use Rattle.pg_select.specs.Windows.{Hopeless, window, fits, is_covered}
 use Rattle.pg_select.specs.declared.pass.Pass.{Pass}
@@ -31,7 +31,7 @@ none_at_level false true level =
       | false ↦ λ e. ap (λ b. cond b (Some false) None) e
     ] refl
 
-pub later_at_once : (level : ℕ) (P : List ((List ℕ × ℕ) × ℕ)) (H : Hopeless) → IsLater level P H P H
+pub later_at_once : (level : ℕ) (P : Patterns) (H : Hopeless) → IsLater level P H P H
 later_at_once level P H = record { values = λ w p. inl refl; covers = λ u d is. is }
 
 pub later_still : (level : ℕ) (P P' P'' : List ((List ℕ × ℕ) × ℕ)) (H H' H'' : Hopeless) → IsLater level P H P' H' → IsLater level P' H' P'' H'' → IsLater level P H P'' H''
@@ -41,13 +41,13 @@ later_still level P P' P'' H H' H'' first second = record {
   covers = λ u d is. second.covers u d (first.covers u d is);
 }
 
-pub later_raised : (level : ℕ) (P : List ((List ℕ × ℕ) × ℕ)) (H : Hopeless) (k : List ℕ × ℕ) → IsLater level P H (raise P k level) H
+pub later_raised : (level : ℕ) (P : Patterns) (H : Hopeless) (k : List ℕ × ℕ) → IsLater level P H (raise P k level) H
 later_raised level P H k = record {
   values = λ w p. raised_to P k level w p;
   covers = λ u d is. covered_raised level P H k u d ∙ or_right (applies u d k) (is_covered level P H u d) is;
 }
 
-pub later_hopeless : (level : ℕ) (P : List ((List ℕ × ℕ) × ℕ)) (H : Hopeless) (k : List ℕ × ℕ) → IsLater level P H P (put dotted_cmp k (tt {0}) H)
+pub later_hopeless : (level : ℕ) (P : Patterns) (H : Hopeless) (k : List ℕ × ℕ) → IsLater level P H P (put dotted_cmp k (tt {0}) H)
 later_hopeless level P H k = record {
   values = λ w p. inl refl;
   covers = λ u d is. covered_hopeless level P H k u d ∙ or_right (applies u d k) (is_covered level P H u d) is;
@@ -68,7 +68,7 @@ uncovered_back true b more is = cc (more refl)
 uncovered_back false b more is = refl
 
 -- the first law: of the status of a position, and of the position with its window
-pub status_back : (level : ℕ) (P P' : List ((List ℕ × ℕ) × ℕ)) (H H' : Hopeless) (w : Word) (p : ℕ) (good : Bool) → IsLater level P H P' H'
+pub status_back : (level : ℕ) (P P' : Patterns) (H H' : Hopeless) (w : Word) (p : ℕ) (good : Bool) → IsLater level P H P' H'
     → counts_as level (status_at P' w p) ≡ Some good → counts_as level (status_at P w p) ≡ Some good
 status_back level P P' H H' w p good later is =
     ⊎_elim
@@ -85,7 +85,7 @@ status_back level P P' H H' w p good later is =
     none_some : (g : Bool) → None ≡ Some g → ⊥
     none_some g is = cc
 
-pub counted_back : (pass : Pass) (P P' : List ((List ℕ × ℕ) × ℕ)) (H H' : Hopeless) (w : Word) (p : ℕ) (good : Bool) → IsLater pass.level P H P' H'
+pub counted_back : (pass : Pass) (P P' : Patterns) (H H' : Hopeless) (w : Word) (p : ℕ) (good : Bool) → IsLater pass.level P H P' H'
     → counted_at pass P' H' w p ≡ Some good → counted_at pass P H w p ≡ Some good
 counted_back pass P P' H H' w p good later is =
     let parts = some_parts (fits w.signs p pass.len pass.dot && not (is_covered pass.level P' H' (window w.signs p pass.len pass.dot) pass.dot)) (counts_as pass.level (status_at P' w p)) good is in
@@ -114,7 +114,7 @@ unseen_more u v x None (Some g) back is = cc (back g refl)
 unseen_more u v x (Some h) (Some g) back is = cc
 
 -- where nothing is counted, nothing is counted in a pass in which no other position is counted
-pub closed_more : (m : Minima) (words : List Word) (pass other : Pass) (P P' : List ((List ℕ × ℕ) × ℕ)) (H H' : Hopeless)
+pub closed_more : (m : Minima) (words : List Word) (pass other : Pass) (P P' : Patterns) (H H' : Hopeless)
     → ((w : Word) (p : ℕ) (g : Bool) → counted_at other P' H' w p ≡ Some g → counted_at pass P H w p ≡ Some g) → counted_positions m words pass P H ≡ [] → counted_positions m words other P' H' ≡ []
 closed_more m words pass other P P' H H' back is =
     nil_more (counted_positions_in m pass P H) (counted_positions_in m other P' H') (λ w.
@@ -122,6 +122,6 @@ closed_more m words pass other P P' H H' back is =
     (λ p. unseen_more (window w.signs p pass.len pass.dot) (window w.signs p other.len other.dot) (position_weight w p) (counted_at pass P H w p) (counted_at other P' H' w p) (back w p))
     (positions m.left m.right (length w.signs))) words is
 
-pub closed_later : (m : Minima) (words : List Word) (pass : Pass) (P P' : List ((List ℕ × ℕ) × ℕ)) (H H' : Hopeless) → IsLater pass.level P H P' H'
+pub closed_later : (m : Minima) (words : List Word) (pass : Pass) (P P' : Patterns) (H H' : Hopeless) → IsLater pass.level P H P' H'
     → counted_positions m words pass P H ≡ [] → counted_positions m words pass P' H' ≡ []
 closed_later m words pass P P' H H' later is = closed_more m words pass pass P P' H H' (λ w p g counted. counted_back pass P P' H H' w p g later counted) is

@@ -2,8 +2,8 @@
 use Rattle.std.proofs.Common.{◌≡◌, ℕ, ◌+◌, ◌-◌, ◌<◌, ◌≤◌, nat_le, Bool, true, false, not, ◌&&◌, ◌||◌, ⊎_elim, List, [], ◌∷◌, length, refl, ◌∙◌, arith}
 use Rattle.std.specs.List.{list_any, list_all}
 use Rattle.std.proofs.lemmas.Bool.{and_parts, and_from, le-leb, leb-true, or_left, or_right, or_cases, cases_lt}
-use Rattle.pg_patterns.specs.Values.{stands_at, applies}
-use Rattle.pg_select.specs.Windows.{Hopeless, window, fits, is_covered, Patterns}
+use Rattle.pg_patterns.specs.Values.{Patterns, stands_at, applies}
+use Rattle.pg_select.specs.Windows.{Hopeless, window, fits, is_covered}
 use Rattle.pg_select.proofs.LawsLonger.{stands_wider}
 use Rattle.pg_select.specs.Inside.laws.Steps.{CoversUpTo, IsBelow}
 use Rattle.std.specs.Cmp.{both_ways}

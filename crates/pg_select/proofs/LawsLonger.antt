@@ -5,7 +5,7 @@ use Rattle.std.specs.Cmp.Lexicographic.{pointwise}
 use Rattle.std.proofs.lemmas.Bool.{and_parts, and_from, le-leb, leb-true, or_left, or_right}
 use Rattle.std.proofs.lemmas.List.{take-take, drop-take, drop-drop}
 use Rattle.pg_dict.specs.Word.{Word}
-use Rattle.pg_patterns.specs.Values.{stands_at, applies}
+use Rattle.pg_patterns.specs.Values.{Patterns, stands_at, applies}
 use Rattle.pg_select.specs.Statuses.{status_at}
 use Rattle.pg_select.specs.Windows.{Hopeless, window, fits, is_covered}
 use Rattle.pg_select.specs.declared.pass.Pass.{Pass}
@@ -49,7 +49,7 @@ any_weaker t s more (x ∷ xs) is = by_test (t x) (s x) (list_any t xs) (list_an
     by_test false b c d here rest is = or_right b d (rest is)
 
 -- what covers a window covers another in which all stands that stands in it
-covered_wider : (level : ℕ) (P : List ((List ℕ × ℕ) × ℕ)) (H : Hopeless) (u v : List ℕ) (d e : ℕ) → ((k : List ℕ × ℕ) → applies u d k ≡ true → applies v e k ≡ true)
+covered_wider : (level : ℕ) (P : Patterns) (H : Hopeless) (u v : List ℕ) (d e : ℕ) → ((k : List ℕ × ℕ) → applies u d k ≡ true → applies v e k ≡ true)
     → is_covered level P H u d ≡ true → is_covered level P H v e ≡ true
 covered_wider level P H u v d e more is =
     by_test (list_any (λ (x : (List ℕ × ℕ) × ℕ). nat_le level x.1 && applies u d x.0) P) (list_any (λ (x : (List ℕ × ℕ) × ℕ). nat_le level x.1 && applies v e x.0) P)
@@ -64,7 +64,7 @@ covered_wider level P H u v d e more is =
     by_test false b c d here rest is = or_right b d (rest is)
 
 -- a position that is counted in a pass is counted in another of the level whose window fits, and is covered only where the first is
-counted_in : (pass other : Pass) (P : List ((List ℕ × ℕ) × ℕ)) (H : Hopeless) (w : Word) (p : ℕ) (good : Bool) → other.level ≡ pass.level
+counted_in : (pass other : Pass) (P : Patterns) (H : Hopeless) (w : Word) (p : ℕ) (good : Bool) → other.level ≡ pass.level
     → (fits w.signs p other.len other.dot ≡ true → (fits w.signs p pass.len pass.dot ≡ true)
     × ((k : List ℕ × ℕ) → applies (window w.signs p pass.len pass.dot) pass.dot k ≡ true → applies (window w.signs p other.len other.dot) other.dot k ≡ true))
     → counted_at other P H w p ≡ Some good → counted_at pass P H w p ≡ Some good
@@ -114,19 +114,19 @@ before_inner w p len d fit =
     )
 
 -- the second law
-pub counted_behind : (pass : Pass) (P : List ((List ℕ × ℕ) × ℕ)) (H : Hopeless) (w : Word) (p : ℕ) (good : Bool) → counted_at (longer_behind pass) P H w p
+pub counted_behind : (pass : Pass) (P : Patterns) (H : Hopeless) (w : Word) (p : ℕ) (good : Bool) → counted_at (longer_behind pass) P H w p
     ≡ Some good → counted_at pass P H w p ≡ Some good
 counted_behind pass P H w p good is = counted_in pass (longer_behind pass) P H w p good refl (behind_inner w.signs p pass.len pass.dot) is
 
-pub counted_before : (pass : Pass) (P : List ((List ℕ × ℕ) × ℕ)) (H : Hopeless) (w : Word) (p : ℕ) (good : Bool) → counted_at (longer_before pass) P H w p
+pub counted_before : (pass : Pass) (P : Patterns) (H : Hopeless) (w : Word) (p : ℕ) (good : Bool) → counted_at (longer_before pass) P H w p
     ≡ Some good → counted_at pass P H w p ≡ Some good
 counted_before pass P H w p good is = counted_in pass (longer_before pass) P H w p good refl (before_inner w.signs p pass.len pass.dot) is
 
 -- so where a pass counts nothing, the longer ones count nothing
-pub closed_behind : (m : Minima) (words : List Word) (pass : Pass) (P : List ((List ℕ × ℕ) × ℕ)) (H : Hopeless) → counted_positions m words pass P H
+pub closed_behind : (m : Minima) (words : List Word) (pass : Pass) (P : Patterns) (H : Hopeless) → counted_positions m words pass P H
     ≡ [] → counted_positions m words (longer_behind pass) P H ≡ []
 closed_behind m words pass P H is = closed_more m words pass (longer_behind pass) P P H H (λ w p g counted. counted_behind pass P H w p g counted) is
 
-pub closed_before : (m : Minima) (words : List Word) (pass : Pass) (P : List ((List ℕ × ℕ) × ℕ)) (H : Hopeless) → counted_positions m words pass P H
+pub closed_before : (m : Minima) (words : List Word) (pass : Pass) (P : Patterns) (H : Hopeless) → counted_positions m words pass P H
     ≡ [] → counted_positions m words (longer_before pass) P H ≡ []
 closed_before m words pass P H is = closed_more m words pass (longer_before pass) P P H H (λ w p g counted. counted_before pass P H w p g counted) is

@@ -11,11 +11,11 @@ use Rattle.std.proofs.lemmas.List.Folds.{list_all-map}
 use Rattle.pg_dict.specs.Word.{Word}
 use Rattle.pg_translate.specs.Reach.{positions}
 use Rattle.pg_patterns.specs.DottedSigns.{dotted_cmp}
-use Rattle.pg_patterns.specs.Values.{raise, applies, stands_at, value_at}
+use Rattle.pg_patterns.specs.Values.{Patterns, raise, applies, stands_at, value_at}
 use Rattle.pg_patterns.proofs.Joins.{only}
 use Rattle.pg_select.specs.Inside.laws.Laws.{raised_all, hopeless_all}
 use Rattle.pg_select.specs.Statuses.{status_at, position_weight}
-use Rattle.pg_select.specs.Windows.{Hopeless, window, fits, is_covered, Patterns}
+use Rattle.pg_select.specs.Windows.{Hopeless, window, fits, is_covered}
 use Rattle.pg_select.specs.declared.pass.Pass.{Pass}
 use Rattle.pg_select.specs.CountedPositions.{Minima, CountedPosition, Candidate, counts_as, counted_positions_at, counted_positions, same_signs, candidates, tally}
 use Rattle.pg_select.specs.Inside.words.WordCounts.{counted_positions_in}

@@ -16,6 +16,7 @@ use Rattle.pg_types.specs.declared.marks.Mark.TheVariants.{Nothing, Error, Misse
 use Rattle.pg_translate.specs.Reach.{positions}
 use Rattle.pg_dict.specs.Word.{Word}
 use Rattle.pg_dict.specs.Inside.SoundWords.{IsWord, letter_count}
+use Rattle.pg_patterns.specs.Values.{Patterns}
 use Rattle.pg_select.specs.Statuses.{status_at, position_weight}
 use Rattle.pg_select.specs.Windows.{Hopeless, window}
 use Rattle.pg_select.specs.declared.pass.Pass.{Pass}
@@ -66,7 +67,7 @@ parts_within f g n size Holds each (x ∷ xs) all =
     omega arith
 
 -- the marks of a word weigh no more than its positions may
-marks_within : (P : List ((List ℕ × ℕ) × ℕ)) (w : Word) → IsWord w → (ps : List ℕ)
+marks_within : (P : Patterns) (w : Word) → IsWord w → (ps : List ℕ)
     → sum_by (λ (e : Mark × ℕ). e.1) (map (λ (p : ℕ). (status_at P w p, position_weight w p)) ps) ≤ WEIGHT_MAX * length ps
 marks_within P w word [] = omega arith
 marks_within P w word (p ∷ ps) =
@@ -101,7 +102,7 @@ three_within (e ∷ es) =
     )
 
 -- the totals are within the weights of the positions in reach
-pub totals_within : (m : Minima) (words : List Word) (P : List ((List ℕ × ℕ) × ℕ)) → All IsWord words
+pub totals_within : (m : Minima) (words : List Word) (P : Patterns) → All IsWord words
     → (totals m words P).good + (totals m words P).bad + (totals m words P).missed ≤ WEIGHT_MAX * positions_in m words
 totals_within m words P each =
     let whole : sum_by (λ (e : Mark × ℕ). e.1) (flat_map (marks_in m P) words) ≤ WEIGHT_MAX * positions_in m words
@@ -113,7 +114,7 @@ seen_within : (o : Option Bool) (u : List ℕ) (x : ℕ) → sum_by (λ (s : Cou
 seen_within None u x = omega arith
 seen_within (Some good) u x = omega arith
 
-seen_in : (pass : Pass) (P : List ((List ℕ × ℕ) × ℕ)) (H : Hopeless) (w : Word) → IsWord w → (ps : List ℕ)
+seen_in : (pass : Pass) (P : Patterns) (H : Hopeless) (w : Word) → IsWord w → (ps : List ℕ)
     → sum_by (λ (s : CountedPosition). s.weight) (flat_map (counted_positions_at pass P H w) ps) ≤ WEIGHT_MAX * length ps
 seen_in pass P H w word [] = omega arith
 seen_in pass P H w word (p ∷ ps) =
@@ -128,7 +129,7 @@ seen_in pass P H w word (p ∷ ps) =
     )
 
 -- what a pass counts is within the weights of the positions in reach
-pub weights_within : (m : Minima) (words : List Word) (pass : Pass) (P : List ((List ℕ × ℕ) × ℕ)) (H : Hopeless) → All IsWord words
+pub weights_within : (m : Minima) (words : List Word) (pass : Pass) (P : Patterns) (H : Hopeless) → All IsWord words
     → sum_by (λ (s : CountedPosition). s.weight) (counted_positions m words pass P H) ≤ WEIGHT_MAX * positions_in m words
 weights_within m words pass P H each =
     parts_within (counted_positions_in m pass P H) (λ (s : CountedPosition). s.weight) WEIGHT_MAX (reached m) IsWord
@@ -153,7 +154,7 @@ seen_once : (o : Option Bool) (u : List ℕ) (x : ℕ) → length (counted_as u 
 seen_once None u x = omega arith
 seen_once (Some good) u x = omega arith
 
-counted_few_in : (pass : Pass) (P : List ((List ℕ × ℕ) × ℕ)) (H : Hopeless) (w : Word) (ps : List ℕ) → length (flat_map (counted_positions_at pass P H w) ps) ≤ length ps
+counted_few_in : (pass : Pass) (P : Patterns) (H : Hopeless) (w : Word) (ps : List ℕ) → length (flat_map (counted_positions_at pass P H w) ps) ≤ length ps
 counted_few_in pass P H w [] = omega arith
 counted_few_in pass P H w (p ∷ ps) =
     omega (
@@ -164,7 +165,7 @@ counted_few_in pass P H w (p ∷ ps) =
     )
 
 -- a pass counts no more than positions in reach
-pub counted_few : (m : Minima) (words : List Word) (pass : Pass) (P : List ((List ℕ × ℕ) × ℕ)) (H : Hopeless) → length (counted_positions m words pass P H) ≤ positions_in m words
+pub counted_few : (m : Minima) (words : List Word) (pass : Pass) (P : Patterns) (H : Hopeless) → length (counted_positions m words pass P H) ≤ positions_in m words
 counted_few m [] pass P H = omega arith
 counted_few m (w ∷ ws) pass P H =
     omega (
@@ -176,7 +177,7 @@ counted_few m (w ∷ ws) pass P H =
     )
 
 -- and has no more candidates
-pub candidates_few : (m : Minima) (words : List Word) (pass : Pass) (P : List ((List ℕ × ℕ) × ℕ)) (H : Hopeless) → length (candidates (counted_positions m words pass P H)) ≤ positions_in m words
+pub candidates_few : (m : Minima) (words : List Word) (pass : Pass) (P : Patterns) (H : Hopeless) → length (candidates (counted_positions m words pass P H)) ≤ positions_in m words
 candidates_few m words pass P H = omega (
   arith,
   counted_few m words pass P H,
@@ -188,15 +189,15 @@ small : (n k : ℕ) → n ≤ WEIGHT_MAX * k → k ≤ FILE_MAX → n < 2 ^ 40
 small n k light few = omega arith
 
 -- the totals are small where no more positions are in reach than letters
-pub totals_small_within : (m : Minima) (words : List Word) (P : List ((List ℕ × ℕ) × ℕ)) → positions_in m words ≤ sum_by letter_count words → AreFew words
+pub totals_small_within : (m : Minima) (words : List Word) (P : Patterns) → positions_in m words ≤ sum_by letter_count words → AreFew words
     → (totals m words P).good + (totals m words P).bad + (totals m words P).missed < 2 ^ 40
 totals_small_within m words P upto few = small ((totals m words P).good + (totals m words P).bad + (totals m words P).missed) (positions_in m words)
     (totals_within m words P few.each) (omega (arith, few.letters))
 
-pub totals_small : (m : Minima) (words : List Word) (P : List ((List ℕ × ℕ) × ℕ)) → 1 ≤ m.left → AreFew words → (totals m words P).good + (totals m words P).bad + (totals m words P).missed < 2 ^ 40
+pub totals_small : (m : Minima) (words : List Word) (P : Patterns) → 1 ≤ m.left → AreFew words → (totals m words P).good + (totals m words P).bad + (totals m words P).missed < 2 ^ 40
 totals_small m words P low few = totals_small_within m words P (positions_within m words low) few
 
-pub counted_light : (m : Minima) (words : List Word) (pass : Pass) (P : List ((List ℕ × ℕ) × ℕ)) (H : Hopeless) → 1 ≤ m.left → AreFew words
+pub counted_light : (m : Minima) (words : List Word) (pass : Pass) (P : Patterns) (H : Hopeless) → 1 ≤ m.left → AreFew words
     → sum_by (λ (s : CountedPosition). s.weight) (counted_positions m words pass P H) < 2 ^ 40
 counted_light m words pass P H low few =
     let upto : positions_in m words ≤ sum_by letter_count words = positions_within m words low in

@@ -8,7 +8,7 @@ use Rattle.std.specs.FinMap.Entries.{put, find, by_order}
 use Rattle.std.proofs.lemmas.Bool.{le-leb, cases_lt, and_parts}
 use Rattle.pg_patterns.specs.DottedSigns.{dotted_cmp}
 use Rattle.pg_patterns.specs.Inside.DottedOrder.{dotted_exact}
-use Rattle.pg_patterns.specs.Values.{value_of, raise, greatest_value, applies, value_at}
+use Rattle.pg_patterns.specs.Values.{Patterns, value_of, raise, greatest_value, applies, value_at}
 use Rattle.pg_types.proofs.BoolFacts.{equal_is}
 use Rattle.pg_patterns.proofs.Joins.{only}
 use Rattle.pg_select.specs.Windows.{Hopeless, is_covered}
@@ -51,7 +51,7 @@ value_within t k (e ∷ es) pass =
     ] refl
 
 -- a raise raises the values of the positions where its place applies, and no others
-pub raised_value : (P : List ((List ℕ × ℕ) × ℕ)) (k : List ℕ × ℕ) (v : ℕ) (w : List ℕ) (p : ℕ) → value_at (raise P k v) w p ≡ max (only (applies w p k) v) (value_at P w p)
+pub raised_value : (P : Patterns) (k : List ℕ × ℕ) (v : ℕ) (w : List ℕ) (p : ℕ) → value_at (raise P k v) w p ≡ max (only (applies w p k) v) (value_at P w p)
 raised_value P k v w p =
     best_put (applies w p) k (max v (value_of P k)) P (omega arith)
     ∙ with_old (applies w p k) (value_of P k) v (value_at P w p) (value_within (applies w p) k P)
@@ -61,7 +61,7 @@ raised_value P k v w p =
     with_old false u v n low = refl
 
 -- a value that is raised to the level is the level or what it was
-pub raised_to : (P : List ((List ℕ × ℕ) × ℕ)) (k : List ℕ × ℕ) (level : ℕ) (w : List ℕ) (p : ℕ) → (value_at (raise P k level) w p ≡ value_at P w p) ⊎ (value_at (raise P k level) w p ≡ level)
+pub raised_to : (P : Patterns) (k : List ℕ × ℕ) (level : ℕ) (w : List ℕ) (p : ℕ) → (value_at (raise P k level) w p ≡ value_at P w p) ⊎ (value_at (raise P k level) w p ≡ level)
 raised_to P k level w p = by_test (applies w p k) (raised_value P k level w p)
   where
     by_test : (b : Bool) → value_at (raise P k level) w p ≡ max (only b level) (value_at P w p) → (value_at (raise P k level) w p ≡ value_at P w p) ⊎ (value_at (raise P k level) w p ≡ level)
@@ -101,7 +101,7 @@ both_tests true b c = refl
 both_tests false b c = refl
 
 -- a place that is raised to the level covers where it applies
-pub covered_raised : (level : ℕ) (P : List ((List ℕ × ℕ) × ℕ)) (H : Hopeless) (k : List ℕ × ℕ) (u : List ℕ) (d : ℕ) → is_covered level (raise P k level) H u d
+pub covered_raised : (level : ℕ) (P : Patterns) (H : Hopeless) (k : List ℕ × ℕ) (u : List ℕ) (d : ℕ) → is_covered level (raise P k level) H u d
     ≡ (applies u d k || is_covered level P H u d)
 covered_raised level P H k u d =
     let high : nat_le level (max level (value_of P k)) ≡ true = le-leb level (max level (value_of P k)) (omega arith) in
@@ -112,7 +112,7 @@ covered_raised level P H k u d =
     ∙ both_tests (applies u d k) (list_any (λ (e : (List ℕ × ℕ) × ℕ). nat_le level e.1 && applies u d e.0) P) (list_any (λ (e : (List ℕ × ℕ) × Unit {0}). applies u d e.0) H)
 
 -- and so does a hopeless place
-pub covered_hopeless : (level : ℕ) (P : List ((List ℕ × ℕ) × ℕ)) (H : Hopeless) (k : List ℕ × ℕ) (u : List ℕ) (d : ℕ) → is_covered level P (put dotted_cmp k (tt {0}) H) u d
+pub covered_hopeless : (level : ℕ) (P : Patterns) (H : Hopeless) (k : List ℕ × ℕ) (u : List ℕ) (d : ℕ) → is_covered level P (put dotted_cmp k (tt {0}) H) u d
     ≡ (applies u d k || is_covered level P H u d)
 covered_hopeless level P H k u d =
     ap (λ b. list_any (λ (e : (List ℕ × ℕ) × ℕ). nat_le level e.1 && applies u d e.0) P || b) (any_put (λ (e : (List ℕ × ℕ) × Unit {0}). applies u d e.0) k (tt {0}) H (λ x pass. pass))

@@ -9,7 +9,7 @@ use Rattle.pg_types.specs.declared.marks.Mark.TheVariants.{Nothing, Error, Misse
 use Rattle.pg_types.specs.declared.marks.Totals.{Totals}
 use Rattle.pg_dict.specs.Word.{Word}
 use Rattle.pg_dict.specs.Inside.SoundWords.{IsWord}
-use Rattle.pg_patterns.specs.Values.{value_at}
+use Rattle.pg_patterns.specs.Values.{Patterns, value_at}
 use Rattle.pg_select.specs.Statuses.{status, status_at, position_weight}
 use Rattle.pg_select.specs.Sums.{weight_of, totals_of, marks_in}
 use Rattle.pg_select.specs.Inside.SumSteps.{is_found, is_error, is_missed, with_mark, with_marks, sum_of}
@@ -81,7 +81,7 @@ marks_step_by t n whole value w p end before is left =
     let rest : List (Mark × ℕ) = marks_from_by value w (p + 1) end in
     ap (λ (x : Totals). with_marks x rest) is ∙ sym (mark_step t (mark_by value w p) (position_weight w p) rest) ∙ ap (λ ps. with_marks t (map mark ps)) (sym (range_step p end before)) ∙ left
 
-pub marks_step : (t n whole : Totals) (P : List ((List ℕ × ℕ) × ℕ)) (w : Word) (p end : ℕ) → p < end → n ≡ with_mark t (status_at P w p) (position_weight w p)
+pub marks_step : (t n whole : Totals) (P : Patterns) (w : Word) (p end : ℕ) → p < end → n ≡ with_mark t (status_at P w p) (position_weight w p)
     → with_marks t (marks_from P w p end) ≡ whole → with_marks n (marks_from P w (p + 1) end) ≡ whole
 marks_step t n whole P w p end before is left = marks_step_by t n whole (value_at P w.signs) w p end before is left
 
@@ -93,6 +93,6 @@ marks_done_by t whole value w p end past left =
     sym (marks_none t) ∙ subst (λ n. with_marks t (map mark (range_with_len p n)) ≡ whole) none left
 
 -- a word that was added, and then the rest
-pub marks_word : (t n whole : Totals) (m : Minima) (P : List ((List ℕ × ℕ) × ℕ)) (w : Word) (ws : List Word) → n ≡ with_marks t (marks_in m P w)
+pub marks_word : (t n whole : Totals) (m : Minima) (P : Patterns) (w : Word) (ws : List Word) → n ≡ with_marks t (marks_in m P w)
     → with_marks t (flat_map (marks_in m P) (w ∷ ws)) ≡ whole → with_marks n (flat_map (marks_in m P) ws) ≡ whole
 marks_word t n whole m P w ws is left = ap (λ (x : Totals). with_marks x (flat_map (marks_in m P) ws)) is ∙ sym (marks_append t (marks_in m P w) (flat_map (marks_in m P) ws)) ∙ left

@@ -11,8 +11,9 @@ use Rattle.pg_dict.specs.Word.{Word}
 use Rattle.pg_select.specs.declared.pass.Pass.{Pass}
 use Rattle.pg_translate.specs.Alphabets.{Alphabet}
 use Rattle.pg_translate.specs.Reach.{positions}
+use Rattle.pg_patterns.specs.Values.{Patterns}
 use Rattle.pg_select.specs.Statuses.{is_odd, status_at, position_weight}
-use Rattle.pg_select.specs.Windows.{Patterns, Hopeless, window, fits, is_covered}
+use Rattle.pg_select.specs.Windows.{Hopeless, window, fits, is_covered}
 
 -- the minima that say which positions are in reach
 pub record Minima : Type 0 where

@@ -3,8 +3,7 @@ use Rattle.std.specs.Prelude.{ℕ, ◌%◌, ◌==◌, Bool, false, true, if◌th
 use Rattle.pg_types.specs.declared.marks.Mark.{Mark}
 use Rattle.pg_types.specs.declared.marks.Mark.TheVariants.{Nothing, Error, Missed, Found, DontCare}
 use Rattle.pg_dict.specs.Word.{Word}
-use Rattle.pg_patterns.specs.Values.{value_at}
-use Rattle.pg_select.specs.Windows.{Patterns}
+use Rattle.pg_patterns.specs.Values.{Patterns, value_at}
 
 -- whether a number is odd: odd values break the word, and odd levels find breaks
 abbrev pub is_odd : ℕ → Bool

@@ -1,11 +1,7 @@
 -- The windows of a word, and which of them are covered.
 use Rattle.std.specs.Prelude.{ℕ, ◌+◌, ◌-◌, nat_le, Bool, ◌&&◌, ◌||◌, List, length, take, drop}
 use Rattle.std.specs.List.{list_any}
-use Rattle.pg_patterns.specs.Values.{applies}
-
--- patterns, as a map from dotted strings to values, in their order
-abbrev pub Patterns : Type 0
-Patterns = List ((List ℕ × ℕ) × ℕ)
+use Rattle.pg_patterns.specs.Values.{Patterns, applies}
 
 -- a set of hopeless dotted strings, as a map in their order
 abbrev pub Hopeless : Type 0

@@ -8,8 +8,8 @@ use Rattle.pg_translate.specs.Alphabets.{Alphabet}
 use Rattle.pg_translate.specs.Tables.{table, default_alphabet}
 use Rattle.pg_dict.specs.Word.{Word}
 use Rattle.pg_dict.specs.Words.{words}
+use Rattle.pg_patterns.specs.Values.{Patterns}
 use Rattle.pg_patterns.specs.Starts.{start}
-use Rattle.pg_select.specs.Windows.{Patterns}
 use Rattle.pg_steps.specs.Outcomes.{Outcome, Unknown, unless_accepted}
 use Rattle.pg_steps.specs.declared.inputs.Input.{Input}
 use Rattle.pg_steps.specs.declared.inputs.Input.TheVariants as input

@@ -6,7 +6,7 @@ use Rattle.pg_types.specs.Parameters.{Parameters}
 use Rattle.pg_translate.specs.Alphabets.{Alphabet}
 use Rattle.pg_dict.specs.Word.{Word}
 use Rattle.pg_dict.specs.Parts.{part_of}
-use Rattle.pg_select.specs.Windows.{Patterns}
+use Rattle.pg_patterns.specs.Values.{Patterns}
 use Rattle.pg_driver.specs.Accounts.{totals_by}
 use Rattle.pg_driver.specs.Traces.{trace, final_patterns, source_of}
 use Rattle.pg_sweep.specs.declared.rows.SweepRow.{SweepRow}

@@ -6,8 +6,8 @@ use Rattle.pg_types.specs.Parameters.{Parameters}
 use Rattle.pg_types.specs.Placement.{with_sign}
 use Rattle.pg_translate.specs.Alphabets.{Alphabet}
 use Rattle.pg_dict.specs.Word.{Word}
+use Rattle.pg_patterns.specs.Values.{Patterns}
 use Rattle.pg_patterns.specs.Texts.{pattern_text}
-use Rattle.pg_select.specs.Windows.{Patterns}
 use Rattle.pg_driver.specs.Traces.{Source, trace, final_patterns}
 use Rattle.pg_texts.specs.ReportTexts.{report_text}
 use Rattle.pg_texts.specs.PattmpTexts.{pattmp_text}

@@ -11,8 +11,7 @@ use Rattle.pg_dict.specs.Inside.SoundWords.{IsWord}
 use Rattle.pg_dict.specs.Inside.WrittenWords.{AreMarksOf}
 use Rattle.pg_select.specs.Statuses.{status, is_odd}
 use Rattle.pg_translate.specs.Alphabets.{Alphabet}
-use Rattle.pg_patterns.specs.Values.{value_at}
-use Rattle.pg_select.specs.Windows.{Patterns}
+use Rattle.pg_patterns.specs.Values.{Patterns, value_at}
 use Rattle.pg_translate.specs.Reach.{positions}
 use Rattle.pg_texts.specs.PattmpTexts.{statuses}
 use Rattle.pg_texts.proofs.Ranges.{same_map_over_range}

@@ -2,7 +2,7 @@
 use Rattle.std.specs.Prelude.{ℕ, List, [], ◌∷◌, ◌++◌, if◌then◌else◌, codes, decimal}
 use Rattle.pg_types.specs.Placement.{Families, entered_families, taken_count, top}
 use Rattle.pg_types.specs.Tails.{tails}
-use Rattle.pg_select.specs.Windows.{Patterns}
+use Rattle.pg_patterns.specs.Values.{Patterns}
 use Rattle.pg_driver.specs.Accounts.{has_candidate}
 use Rattle.pg_driver.specs.Layouts.{strings_in, after_pass, after_level}
 use Rattle.pg_driver.specs.Traces.{PassTrace, Trace, patterns_after}

@@ -6,8 +6,8 @@ use Rattle.pg_types.specs.declared.marks.Mark.TheVariants.{Nothing, Error, Misse
 use Rattle.pg_translate.specs.Alphabets.{Alphabet, spelling_of}
 use Rattle.pg_translate.specs.Reach.{reach, positions}
 use Rattle.pg_dict.specs.Word.{Word}
+use Rattle.pg_patterns.specs.Values.{Patterns}
 use Rattle.pg_select.specs.Statuses.{status_at, status_with, position_weight}
-use Rattle.pg_select.specs.Windows.{Patterns}
 
 -- whether a word takes part: it has positions in reach
 abbrev pub is_taking_part : Alphabet → Word → Bool

@@ -3,8 +3,7 @@ use Rattle.std.specs.Prelude.{ℕ, ◌+◌, ◌-◌, ◌*◌, ◌/◌, ◌%◌, 
 use Rattle.std.specs.List.{flat_map}
 use Rattle.pg_types.specs.declared.marks.Totals.{Totals}
 use Rattle.pg_types.specs.Parameters.{Parameters}
-use Rattle.pg_patterns.specs.Values.{largest}
-use Rattle.pg_select.specs.Windows.{Patterns}
+use Rattle.pg_patterns.specs.Values.{Patterns, largest}
 use Rattle.pg_driver.specs.Accounts.{totals_by, has_candidate}
 use Rattle.pg_driver.specs.Traces.{Source, PassTrace, LevelTrace, Trace, chosen_in, hopeless_in, patterns_after, final_patterns}
 use Rattle.pg_texts.specs.Fronts.{pass_front, level_front}

@@ -3,7 +3,7 @@ ghost use Rattle.std.specs.Prelude.{◌+◌, List, All};
 ghost use Rattle.pg_translate.specs.Alphabets.{letters_of};
 ghost use Rattle.pg_dict.specs.Word.{Word};
 ghost use Rattle.pg_dict.specs.Inside.SoundWords.{IsWord, SignsAtMost};
-ghost use Rattle.pg_select.specs.Windows.{Patterns};
+ghost use Rattle.pg_patterns.specs.Values.{Patterns};
 ghost use Rattle.pg_texts.specs.PattmpTexts.{pattmp_text};
 ghost use Rattle.pg_texts.specs.Inside.ReadBack.{ReadsBack};
 

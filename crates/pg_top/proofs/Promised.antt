@@ -1,10 +1,10 @@
 -- What is promised of a command that is done, at its ends.
 use Rattle.std.proofs.Common.{◌≡◌, ℕ, List, Option, None, Some, IfSome, MatchOption, inl, inr, sym, subst}
 use Rattle.pg_outside.specs.Content.{FileMap, FilesShown, SinkShown, KeepsHeld}
+use Rattle.pg_patterns.specs.Values.{Patterns}
 use Rattle.pg_table.specs.Inside.Laws.{HasEntries}
 use Rattle.pg_table.proofs.laws.PackedValues.{values_are_packed, totals_are_packed}
 use Rattle.pg_patterns.specs.Inside.PatternMaps.{IsPatternMap}
-use Rattle.pg_select.specs.Windows.{Patterns}
 use Rattle.pg_steps.specs.Moments.{OfFiles}
 use Rattle.pg_steps.specs.Outcomes.{Writing}
 use Rattle.pg_steps.specs.Inside.ends.Stops.{PutsStop, Finishes}

@@ -13,10 +13,9 @@ use Rattle.pg_driver.specs.Inside.records.CellsAccounts.{CellsAccount, layout_of
 use Rattle.pg_driver.specs.Inside.records.Sound.{CompletedRun}
 use Rattle.pg_driver.specs.Inside.records.RunAccounts.{patterns_from, account_from, begun_from, cells_from, TellsCells, layout_of_level}
 use Rattle.pg_driver.specs.Inside.records.AccountLines.{Account}
-use Rattle.pg_select.specs.Windows.{Patterns}
 use Rattle.pg_packed.specs.Inside.Starts.{pattern_families}
 use Rattle.pg_patterns.specs.Texts.{pattern_text}
-use Rattle.pg_patterns.specs.Values.{largest}
+use Rattle.pg_patterns.specs.Values.{Patterns, largest}
 use Rattle.pg_texts.specs.CellsTexts.{layout_text}
 use Rattle.pg_texts.specs.Inside.CellsLines.{account_cells_text}
 use Rattle.pg_texts.specs.Inside.ReportLines.{account_text}

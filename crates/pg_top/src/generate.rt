@@ -6,8 +6,8 @@ ghost use Rattle.pg_steps.specs.Inside.ends.Built.{Builds};
 mod inputs;
 mod outputs;
 
-pub use inputs::read_inputs;
 use crate::generate::outputs::make_outputs;
+pub use inputs::read_inputs;
 use pg_outside::Files;
 use pg_steps::{Outputs, Stop};
 use pg_watch::Watch;

@@ -6,10 +6,10 @@ use Rattle.std.proofs.lemmas.List.Elements.{All-cons, All-head, All-tail, All-co
 use Rattle.std.proofs.lemmas.Bool.{and_from}
 use Rattle.pg_types.proofs.BoolFacts.{and_first, and_second, first_half, second_half, both_halves}
 use Rattle.pg_dict.specs.Word.{Word}
+use Rattle.pg_patterns.specs.Values.{Patterns}
 use Rattle.pg_patterns.specs.DottedSigns.{dotted_cmp}
 use Rattle.pg_patterns.specs.Inside.PatternMaps.{IsPatternMap, is_entry}
 use Rattle.pg_select.specs.CountedPositions.{Minima}
-use Rattle.pg_select.specs.Windows.{Patterns}
 use Rattle.pg_prune.specs.Positions.{positions_in_reach}
 use Rattle.pg_prune.proofs.positions.PositionForms.{positions_as}
 use Rattle.pg_prune.specs.Prunes.{round, rounds, needs, pruning_of}

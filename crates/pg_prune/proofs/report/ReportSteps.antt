@@ -11,7 +11,7 @@ use Rattle.pg_patterns.specs.DottedSigns.{dotted_cmp}
 use Rattle.pg_patterns.specs.Inside.PatternMaps.{SignsUpTo, is_entry}
 use Rattle.std.proofs.lemmas.List.{append-nil, nil_from_length, length-drop}
 use Rattle.pg_translate.specs.Alphabets.{Alphabet}
-use Rattle.pg_select.specs.Windows.{Patterns}
+use Rattle.pg_patterns.specs.Values.{Patterns}
 use Rattle.pg_prune.specs.declared.pruned.Need.{Need}
 use Rattle.pg_prune.specs.Reports.{keep_line}
 use Rattle.pg_prune.specs.Inside.Findings.{keep_lines}

@@ -6,8 +6,8 @@ use Rattle.std.proofs.lemmas.List.{append-nil, take_more, length-map, get_or-map
 use Rattle.std.proofs.lemmas.Option.{get_or_from_slice_get}
 use Rattle.std.proofs.lemmas.Bool.{and_from}
 use Rattle.pg_types.proofs.BoolFacts.{and_first, and_second}
+use Rattle.pg_patterns.specs.Values.{Patterns}
 use Rattle.pg_patterns.specs.Inside.PatternMaps.{is_entry}
-use Rattle.pg_select.specs.Windows.{Patterns}
 use Rattle.pg_prune.specs.Positions.{WordPosition}
 use Rattle.pg_prune.specs.Inside.positions.Standing.{positions_of_entry}
 use Rattle.pg_prune.specs.Inside.rounds.Turns.{Turn, with_entry, IsAwaited, IsTallied}

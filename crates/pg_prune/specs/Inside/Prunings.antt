@@ -1,9 +1,9 @@
 -- What is known of what comes out of pruning.
 use Rattle.std.specs.Prelude.{◌≡◌, ℕ, List, All, Contains}
 use Rattle.pg_dict.specs.Word.{Word}
+use Rattle.pg_patterns.specs.Values.{Patterns}
 use Rattle.pg_patterns.specs.Inside.PatternMaps.{SignsUpTo}
 use Rattle.pg_select.specs.CountedPositions.{Minima}
-use Rattle.pg_select.specs.Windows.{Patterns}
 use Rattle.pg_prune.specs.Prunes.{Pruning, pruning_of}
 use Rattle.pg_prune.specs.Promises.{BreakAlike, NoneCanGo}
 use Rattle.pg_prune.specs.Inside.Needs.{HasNeeds}

@@ -9,6 +9,7 @@ use Rattle.pg_types.specs.Tails.{outputs_of, suffixes}
 use Rattle.pg_patterns.specs.Inside.PatternMaps.{is_entry}
 use Rattle.pg_patterns.specs.Texts.{strings_of, with_string}
 use Rattle.pg_types.proofs.BoolFacts.{and_first, and_second}
+use Rattle.pg_patterns.specs.Values.{Patterns}
 use Rattle.pg_patterns.proofs.Sound.{entry_bounds}
 use Rattle.pg_cells.proofs.StringMaps.{same_from}
 use Rattle.pg_table.specs.Inside.text.Sharing.{Lists, with_ends}
@@ -25,11 +26,11 @@ fold_flat f g b (x ∷ xs) = fold-append f b (g x) (flat_map g xs) ∙ fold_flat
 abbrev pub with_strings : List ((List ℕ × ℕ) × ℕ) → Lists → List (List ℕ) → Lists
 with_strings P lists qs = fold (λ ls q. with_ends ls (outputs_of P q)) lists qs
 
-pub recorded_is : (P : List ((List ℕ × ℕ) × ℕ)) → recorded_lists P ≡ with_strings P [] (strings_of P)
+pub recorded_is : (P : Patterns) → recorded_lists P ≡ with_strings P [] (strings_of P)
 recorded_is P = fold_flat with_list (λ q. reverse (suffixes (outputs_of P q))) [] (strings_of P)
 
 -- the values of a string are good
-pub outputs_good : (P : List ((List ℕ × ℕ) × ℕ)) (q : List ℕ) → list_all is_entry P ≡ true → All IsGood (outputs_of P q)
+pub outputs_good : (P : Patterns) (q : List ℕ) → list_all is_entry P ≡ true → All IsGood (outputs_of P q)
 outputs_good [] q sound = All-nil _
 outputs_good (e ∷ es) q sound =
     let bounds = entry_bounds e (and_first _ _ sound) in
@@ -61,7 +62,7 @@ first_with r (s ∷ rs) = elim (cases_Bool (pointwise nat_eq r s)) [
 ]
 
 -- a string without a place in the strings has no values
-pub no_outputs : (P : List ((List ℕ × ℕ) × ℕ)) (q : List ℕ) → (outputs_of P q ≡ []) ⊎ IsIn q (strings_of P)
+pub no_outputs : (P : Patterns) (q : List ℕ) → (outputs_of P q ≡ []) ⊎ IsIn q (strings_of P)
 no_outputs [] q = inl refl
 no_outputs (e ∷ es) q = elim (cases_Bool (pointwise nat_eq q e.0.0)) [
   | inl same ↦ inr (subst (λ r. IsIn r (with_string e.0.0 (strings_of es))) (sym (same_from q e.0.0 (sym (texts_ties q e.0.0) ∙ same))) (first_with e.0.0 (strings_of es)))
@@ -72,12 +73,12 @@ no_outputs (e ∷ es) q = elim (cases_Bool (pointwise nat_eq q e.0.0)) [
 ]
 
 -- what strings leave, one after the other
-pub record TakesStrings (P : List ((List ℕ × ℕ) × ℕ)) (old new : Lists) (qs : List (List ℕ)) : Type 0 where
+pub record TakesStrings (P : Patterns) (old new : Lists) (qs : List (List ℕ)) : Type 0 where
   pub grows : Grows old new
   pub ordered : AreOrdered IsGood new
   pub there : (q : List ℕ) → IsIn q qs → (outputs_of P q ≡ []) ⊎ Among new (outputs_of P q)
 
-pub strings_taken : (P : List ((List ℕ × ℕ) × ℕ)) → list_all is_entry P ≡ true → (lists : Lists) (qs : List (List ℕ)) → AreOrdered IsGood lists → TakesStrings P lists (with_strings P lists qs) qs
+pub strings_taken : (P : Patterns) → list_all is_entry P ≡ true → (lists : Lists) (qs : List (List ℕ)) → AreOrdered IsGood lists → TakesStrings P lists (with_strings P lists qs) qs
 strings_taken P sound lists [] ordered = record { grows = record { keeps = λ i l at. at }; ordered = ordered; there = λ q is. absurd is }
 strings_taken P sound lists (r ∷ qs) ordered =
     let one = ends_taken IsGood lists (outputs_of P r) (outputs_good P r sound) ordered in
@@ -96,7 +97,7 @@ strings_taken P sound lists (r ∷ qs) ordered =
 pub none_ordered : AreOrdered IsGood []
 none_ordered = record { each = λ i l at. cc }
 
-module _ (P : List ((List ℕ × ℕ) × ℕ)) (sound : list_all is_entry P ≡ true) where
+module _ (P : Patterns) (sound : list_all is_entry P ≡ true) where
   pub recorded_ordered : AreOrdered IsGood (recorded_lists P)
   recorded_ordered = subst (AreOrdered IsGood) (sym (recorded_is P)) (strings_taken P sound [] (strings_of P) none_ordered).ordered
 

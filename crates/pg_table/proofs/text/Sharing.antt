@@ -3,6 +3,7 @@ use Rattle.std.proofs.Common.{◌≡◌, ℕ, ◌+◌, ◌-◌, ◌<◌, ◌≤�
 use Rattle.std.proofs.lemmas.Bool.{false≢true}
 use Rattle.std.proofs.lemmas.List.{length_push, drop_more}
 use Rattle.std.proofs.lemmas.Option.{slice_get_within, slice_get-get_or, get_or_from_slice_get}
+use Rattle.pg_patterns.specs.Values.{Patterns}
 use Rattle.pg_outputs.specs.declared.records.Record.{Record}
 use Rattle.pg_outputs.specs.Lists.{list_of}
 use Rattle.pg_outputs.specs.Inside.Heads.{OneHeadEach, Lacks}
@@ -84,10 +85,10 @@ module _ (rs new : List Record) (lists : Lists) (x : ℕ × ℕ) (rest : List (�
       ]
 
 -- the pairs from a place on
-pub pairs_none : (P : List ((List ℕ × ℕ) × ℕ)) (end : ℕ) → pairs P end end ≡ []
+pub pairs_none : (P : Patterns) (end : ℕ) → pairs P end end ≡ []
 pairs_none P end = let none : end - end ≡ 0 = omega arith in ap (λ n. map (λ e. (e.0.1, e.1)) (take n (drop end P))) none
 
-pub pairs_more : (P : List ((List ℕ × ℕ) × ℕ)) (i end : ℕ) (e : (List ℕ × ℕ) × ℕ) → slice_get P i ≡ Some e → i < end → pairs P i end ≡ (e.0.1, e.1) ∷ pairs P (i + 1) end
+pub pairs_more : (P : Patterns) (i end : ℕ) (e : (List ℕ × ℕ) × ℕ) → slice_get P i ≡ Some e → i < end → pairs P i end ≡ (e.0.1, e.1) ∷ pairs P (i + 1) end
 pairs_more P i end e at before =
     let size : end - i ≡ suc (end - (i + 1)) = omega arith in
     let rest : drop i P ≡ e ∷ drop (i + 1) P = drop_more P i e (slice_get_within P i e at) ∙ ap (λ f. f ∷ drop (i + 1) P) (get_or_from_slice_get P i e e at) in

@@ -8,7 +8,7 @@ use Rattle.std.proofs.lemmas.Option.{slice_get-map, get_or_from_slice_get, slice
 use Rattle.pg_types.specs.declared.limits.TheConstants.{LEVEL_MAX, PATTERN_SIGNS_MAX}
 use Rattle.pg_types.specs.Tails.{outputs_of}
 use Rattle.pg_patterns.specs.Inside.DottedOrder.{same_dotted}
-use Rattle.pg_patterns.specs.Values.{greatest_value, value_of}
+use Rattle.pg_patterns.specs.Values.{Patterns, greatest_value, value_of}
 use Rattle.pg_patterns.specs.Inside.PatternMaps.{IsPatternMap}
 use Rattle.pg_patterns.proofs.Kept.{value_of_sorted}
 use Rattle.pg_outputs.specs.declared.records.Record.{Record}
@@ -127,7 +127,7 @@ module _ (records : List Record) (lists : Lists) (ordered : AreOrdered IsGood li
           ∙ sym (get_or_from_slice_get (map (record_of lists) lists) i (record_of lists l) d (slice_get-map (record_of lists) lists i ∙ ap (option_map (record_of lists)) l_at))
 
 -- the greatest value at a dot in the list of a string is the value of the string's place
-pub entry_is : (P : List ((List ℕ × ℕ) × ℕ)) (q : List ℕ) (d : ℕ) → IsPatternMap P → value_in_list d (map value_and_dot (outputs_of P q)) ≡ value_of P (q, d)
+pub entry_is : (P : Patterns) (q : List ℕ) (d : ℕ) → IsPatternMap P → value_in_list d (map value_and_dot (outputs_of P q)) ≡ value_of P (q, d)
 entry_is P q d sound = all P ∙ sym (value_of_sorted P (q, d) sound.sorted)
   where
     turned_test : (x : ℕ) → nat_eq x d ≡ nat_eq d x

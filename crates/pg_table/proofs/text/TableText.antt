@@ -9,7 +9,7 @@ use Rattle.std.proofs.lemmas.Option.{slice_get-map, slice_get-get_or, get_or_fro
 use Rattle.pg_types.specs.declared.limits.TheConstants.{SIGNS_MAX}
 use Rattle.pg_types.specs.Placement.{cell_of, top}
 use Rattle.pg_types.specs.Tails.{outputs_of}
-use Rattle.pg_patterns.specs.Values.{value_of}
+use Rattle.pg_patterns.specs.Values.{Patterns, value_of}
 use Rattle.pg_patterns.specs.Inside.PatternMaps.{IsPatternMap}
 use Rattle.pg_cells.specs.Inside.linked.ValuedFamilies.{ValuedFamilies}
 use Rattle.pg_outputs.specs.declared.records.Record.{Record}
@@ -34,7 +34,7 @@ use Rattle.pg_table.proofs.text.TableCells.{cell_within, cells_sound}
 use Rattle.pg_table.proofs.view.TableLookups.{HasCells, lookup_with, lookup_without}
 use Rattle.pg_table.proofs.text.TableRecords.{sound_record, listed, entry_is}
 
-module _ (n : ℕ) (P : List ((List ℕ × ℕ) × ℕ)) (h : ValuedFamilies ℕ) (sound : IsPatternMap P) (packed : IsPacked n P h) where
+module _ (n : ℕ) (P : Patterns) (h : ValuedFamilies ℕ) (sound : IsPatternMap P) (packed : IsPacked n P h) where
   abbrev cells : List Cell
   cells = map (cell_of_table h.families (head_in P)) (range_with_len 0 (top h.families + 1))
 
@@ -119,22 +119,22 @@ module _ (n : ℕ) (P : List ((List ℕ × ℕ) × ℕ)) (h : ValuedFamilies ℕ
     text_entries q d = entry_as (table_text n P) q d ∙ ap (value_in_list d) (text_lists q) ∙ entry_is P q d sound
 
 -- the length of the file
-pub text_size : (n : ℕ) (P : List ((List ℕ × ℕ) × ℕ)) (h : ValuedFamilies ℕ) (rs : List Record) → IsPatternMap P → IsEntered n P h rs → length (table_text n P)
+pub text_size : (n : ℕ) (P : Patterns) (h : ValuedFamilies ℕ) (rs : List Record) → IsPatternMap P → IsEntered n P h rs → length (table_text n P)
     ≡ HEAD_LEN + CELL_LEN * (top h.families + 1) + RECORD_LEN * length rs
 text_size n P h rs sound entered =
     let size : length rs ≡ length (recorded_lists P) = ap length entered.records_are ∙ length-map (recorded_lists P) (record_of (recorded_lists P)) in
     length-text n P h sound entered.packed ∙ ap (λ k. HEAD_LEN + CELL_LEN * (top h.families + 1) + RECORD_LEN * k) (sym size)
 
-pub length-table_cells : (n : ℕ) (P : List ((List ℕ × ℕ) × ℕ)) (h : ValuedFamilies ℕ) → IsPatternMap P → IsPacked n P h → length (table_cells n P) ≡ top h.families + 1
+pub length-table_cells : (n : ℕ) (P : Patterns) (h : ValuedFamilies ℕ) → IsPatternMap P → IsPacked n P h → length (table_cells n P) ≡ top h.families + 1
 length-table_cells n P h sound packed = ap length (cells_are n P h sound packed) ∙ length-cells n P h sound packed
 
 -- the text by its parts
-pub text_of : (n : ℕ) (P : List ((List ℕ × ℕ) × ℕ)) (cs : List Cell) (rs : List Record) (text : List ℕ) → text ≡ file_of n cs rs → cs ≡ table_cells n P → rs ≡ table_records P → text ≡ table_text n P
+pub text_of : (n : ℕ) (P : Patterns) (cs : List Cell) (rs : List Record) (text : List ℕ) → text ≡ file_of n cs rs → cs ≡ table_cells n P → rs ≡ table_records P → text ≡ table_text n P
 unfolding table_text
 text_of n P cs rs text is cells_is records_is = is ∙ ap (λ c. file_of n c rs) cells_is ∙ ap (file_of n (table_cells n P)) records_is
 
 -- a result that is the text, where there is one, is a table that gives the values of the patterns
-module _ (n : ℕ) (P : List ((List ℕ × ℕ) × ℕ)) (h : ValuedFamilies ℕ) (records : List Record) (entered : IsEntered n P h records) (some : 1 ≤ n) (few : n ≤ SIGNS_MAX) where
+module _ (n : ℕ) (P : Patterns) (h : ValuedFamilies ℕ) (records : List Record) (entered : IsEntered n P h records) (some : 1 ≤ n) (few : n ≤ SIGNS_MAX) where
   pub sound_text : (r : Result (Vec ℕ Global) TableError) → OnOk r (length (table_text n P) ≤ TABLE_MAX) → IfOk r (λ text. text.items ≡ table_text n P)
       → IfOk r (λ text. is_well_formed text.items ≡ true)
   sound_text (Ok text) short is = ap is_well_formed is ∙ text_sound n P h entered.sound entered.packed some few short
@@ -150,7 +150,7 @@ on_any (Ok value) holds = holds
 on_any (Err error) holds = tt
 
 -- a file that a test does not find too long is short enough
-pub fits : (n : ℕ) (P : List ((List ℕ × ℕ) × ℕ)) (h : ValuedFamilies ℕ) (rs : List Record) → IsPatternMap P → IsEntered n P h rs → (b : Bool)
+pub fits : (n : ℕ) (P : Patterns) (h : ValuedFamilies ℕ) (rs : List Record) → IsPatternMap P → IsEntered n P h rs → (b : Bool)
     → (TABLE_MAX < HEAD_LEN + CELL_LEN * (top h.families + 1) + RECORD_LEN * length rs → b ≡ true) → b ≡ false → length (table_text n P) ≤ TABLE_MAX
 fits n P h rs sound entered b long fails = elim (cases_lt TABLE_MAX (HEAD_LEN + CELL_LEN * (top h.families + 1) + RECORD_LEN * length rs)) [
   | inl past ↦ absurd (false≢true (sym fails ∙ long past))

@@ -1,7 +1,7 @@
 -- What a table that was packed from patterns means.
 use Rattle.std.specs.Prelude.{◌≡◌, ℕ, List}
 use Rattle.pg_dict.specs.Word.{Word}
-use Rattle.pg_patterns.specs.Values.{value_of, value_at}
+use Rattle.pg_patterns.specs.Values.{Patterns, value_of, value_at}
 use Rattle.pg_patterns.specs.Inside.PatternMaps.{IsPatternMap}
 use Rattle.pg_select.specs.CountedPositions.{Minima}
 use Rattle.pg_select.specs.Sums.{totals}
@@ -13,11 +13,11 @@ HasEntries b P = (q : List ℕ) (d : ℕ) → table_entry b q d ≡ value_of P (
 
 -- bytes that do so give each position of each word the value of the patterns
 abbrev pub ValuesArePacked : Type 0
-ValuesArePacked = (P : List ((List ℕ × ℕ) × ℕ)) (b : List ℕ)
+ValuesArePacked = (P : Patterns) (b : List ℕ)
     → IsPatternMap P → HasEntries b P → (w : List ℕ) (p : ℕ) → table_value b w p ≡ value_at P w p
 
 -- bytes that do so give each word list the totals of the patterns
 abbrev pub TotalsArePacked : Type 0
-TotalsArePacked = (P : List ((List ℕ × ℕ) × ℕ)) (b : List ℕ)
+TotalsArePacked = (P : Patterns) (b : List ℕ)
     → IsPatternMap P → HasEntries b P → (m : Minima) (words : List Word)
     → table_totals m words b ≡ totals m words P

@@ -8,6 +8,7 @@ use Rattle.pg_outside.specs.FilesCalls.{Reads}
 use Rattle.pg_translate.specs.Alphabets.{Alphabet}
 use Rattle.pg_dict.specs.Word.{Word}
 use Rattle.pg_dict.specs.Words.{words}
+use Rattle.pg_patterns.specs.Values.{Patterns}
 use Rattle.pg_patterns.specs.Starts.{start}
 use Rattle.pg_steps.specs.Readings.{Reading, input_file, table_named, translate_file, patterns_file, words_file}
 use Rattle.pg_steps.specs.Inside.reading.ReadAs.{read_as}
@@ -45,7 +46,7 @@ module _ (n : FileNames) (t : Alphabet) where
     two_accepted : (files : FileMap) → HasTwo files → AreAccepted (file_at files) (translate_file n.translate ∷ parameters_input n ∷ [])
     two_accepted files h = (table_accepted n.translate t files h.0, (accepted input.Parameters parameters (file_at files n.params) p h.1, tt))
 
-    module _ (S : List ((List ℕ × ℕ) × ℕ)) (ws : List Word) where
+    module _ (S : Patterns) (ws : List Word) where
       abbrev all : Inputs
       all = record { table = t; params = p; start = S; dictionary = ws }
 
@@ -76,7 +77,7 @@ pub two_read : (n : FileNames) (t : Alphabet) (p : Parameters) (h1 h2 : Option F
     → IfSome h2 (λ files. read_as parameters (file_at files) n.params ≡ Some (Ok p)) → IfSome h2 (HasTwo n t p)
 two_read n t p h1 h2 keeps one more = both h2 (HasTable n t) (λ files. read_as parameters (file_at files) n.params ≡ Some (Ok p)) (held_later h1 h2 (HasTable n t) keeps one) more
 
-pub all_read : (n : FileNames) (t : Alphabet) (p : Parameters) (S : List ((List ℕ × ℕ) × ℕ)) (ws : List Word) (h2 h3 : Option FileMap) → KeepsHeld h2 h3
+pub all_read : (n : FileNames) (t : Alphabet) (p : Parameters) (S : Patterns) (ws : List Word) (h2 h3 : Option FileMap) → KeepsHeld h2 h3
     → IfSome h2 (HasTwo n t p) → IfSome h3 (λ files. HasLists (file_at files) t n.patterns n.dict S ws)
     → IfSome h3 (λ files. HasInputs (file_at files) n (record { table = t; params = p; start = S; dictionary = ws }))
 all_read n t p S ws h2 h3 keeps two more =

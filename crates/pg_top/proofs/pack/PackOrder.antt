@@ -3,8 +3,8 @@ use Rattle.std.proofs.Common.{◌≡◌, ℕ, inr, List, [], ◌∷◌, Option, 
 use Rattle.std.specs.Prelude.{unwrap_or}
 use Rattle.pg_outside.specs.Content.{FileMap, FilesShown, KeepsHeld, file_at}
 use Rattle.pg_translate.specs.Alphabets.{Alphabet}
+use Rattle.pg_patterns.specs.Values.{Patterns}
 use Rattle.pg_patterns.specs.Starts.{start}
-use Rattle.pg_select.specs.Windows.{Patterns}
 use Rattle.pg_steps.specs.FileCalls.{MakesCalls, read_calls, EndsAt}
 use Rattle.pg_steps.specs.Outcomes.{Ends, Writing}
 use Rattle.pg_steps.specs.Inside.ends.Refusing.{refuses}

@@ -8,8 +8,8 @@ use Rattle.pg_types.specs.declared.refusals.Kind.TheVariants.{TableTooLong, BadT
 use Rattle.pg_types.specs.declared.refusals.Refusal.{Refusal}
 use Rattle.pg_types.specs.Reading.{refusal_at}
 use Rattle.pg_translate.specs.Alphabets.{Alphabet, letters_of}
-use Rattle.pg_select.specs.Windows.{Patterns}
 use Rattle.pg_types.specs.declared.packed_table.TheConstants.{TABLE_MAX}
+use Rattle.pg_patterns.specs.Values.{Patterns}
 use Rattle.pg_table.specs.Forms.{signature, head_of, is_well_formed}
 use Rattle.pg_table.specs.Numbers.{u32_at, u32_bytes}
 use Rattle.pg_table.specs.Texts.{cell_bytes, record_bytes, table_text}

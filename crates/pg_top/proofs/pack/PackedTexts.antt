@@ -5,10 +5,10 @@ use Rattle.pg_types.specs.declared.refusals.Kind.TheVariants.{TableTooLong}
 use Rattle.pg_types.specs.Reading.{refusal_at}
 use Rattle.pg_translate.specs.Alphabets.{Alphabet}
 use Rattle.pg_patterns.specs.Texts.{pattern_text}
-use Rattle.pg_select.specs.Windows.{Patterns}
 use Rattle.pg_table.specs.declared.error.TableError.{TableError}
 use Rattle.pg_table.specs.declared.error.TableError.TheVariants as table_error
 use Rattle.pg_types.specs.declared.packed_table.TheConstants.{TABLE_MAX}
+use Rattle.pg_patterns.specs.Values.{Patterns}
 use Rattle.pg_steps.specs.Outcomes.{Ends}
 use Rattle.pg_steps.specs.Inside.ends.Refusing.{refuses}
 use Rattle.pg_top.specs.pack.PackRule.{outcome_of_pack, packed_line}

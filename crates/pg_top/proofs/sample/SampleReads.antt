@@ -10,6 +10,7 @@ use Rattle.pg_translate.specs.Alphabets.{Alphabet}
 use Rattle.pg_translate.specs.Tables.{default_alphabet}
 use Rattle.pg_dict.specs.Word.{Word}
 use Rattle.pg_dict.specs.Words.{words}
+use Rattle.pg_patterns.specs.Values.{Patterns}
 use Rattle.pg_top.specs.sample.SampleRule.{sample_parameters, sample_text, sample_inputs}
 use Rattle.pg_top.specs.declared.selection.Inputs.{Inputs}
 
@@ -23,7 +24,7 @@ pub dictionary_is : (seed count : ℕ) (found : List Word) → words default_alp
 unfolding sample_inputs
 dictionary_is seed count found is = sym (ap (λ (r : Result (List Word) Refusal). result_unwrap_or r []) is)
 
-pub inputs_are : (seed count : ℕ) (t : Alphabet) (p : Parameters) (S : List ((List ℕ × ℕ) × ℕ)) (found : List Word) → t ≡ default_alphabet → p
+pub inputs_are : (seed count : ℕ) (t : Alphabet) (p : Parameters) (S : Patterns) (found : List Word) → t ≡ default_alphabet → p
     ≡ sample_parameters → S ≡ [] → found ≡ (sample_inputs seed count).dictionary → let I : Type 0 = Inputs in
     ◌≡◌ {A = I} (record { table = t; params = p; start = S; dictionary = found }) (sample_inputs seed count)
 unfolding sample_inputs

@@ -3,6 +3,7 @@ use Rattle.std.specs.Prelude.{◌≡◌, ℕ, ◌≤◌, List, [], ◌∷◌, �
 use Rattle.pg_types.specs.declared.limits.TheConstants.{FILE_MAX}
 use Rattle.pg_translate.specs.Alphabets.{Alphabet}
 use Rattle.pg_dict.specs.Word.{Word}
+use Rattle.pg_patterns.specs.Values.{Patterns}
 use Rattle.pg_patterns.specs.Starts.{start}
 use Rattle.pg_patterns.specs.Texts.{pattern_text}
 use Rattle.pg_prune.specs.Promises.{BreakAlike, NoneCanGo}
@@ -10,7 +11,6 @@ use Rattle.pg_prune.specs.Prunes.{Pruning, pruning_of}
 use Rattle.pg_prune.specs.Reports.{prune_report}
 use Rattle.pg_steps.specs.Outcomes.{Outcome, Ends}
 use Rattle.pg_select.specs.CountedPositions.{minima_of}
-use Rattle.pg_select.specs.Windows.{Patterns}
 use Rattle.pg_steps.specs.Readings.{table_named, patterns_under, words_under, translate_file, patterns_file, words_file}
 use Rattle.pg_steps.specs.Rules.{CommandRule, usual_rule}
 use Rattle.pg_words.specs.Requests.{PruneRequest}

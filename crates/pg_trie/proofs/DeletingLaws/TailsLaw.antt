@@ -12,6 +12,7 @@ use Rattle.std.specs.List.{list_any, flat_map, range_with_len, IsDistinct, AllBy
 use Rattle.std.specs.FinMap.Entries.{find, is_sorted}
 use Rattle.std.specs.Set.{is_member}
 use Rattle.pg_types.specs.Tails.{outputs_of, suffixes, same_pair, tails}
+use Rattle.pg_patterns.specs.Values.{Patterns}
 use Rattle.pg_outputs.specs.declared.records.Record.{Record}
 use Rattle.pg_outputs.specs.Lists.{list_of, lists}
 use Rattle.pg_outputs.specs.Inside.Heads.{OneHeadEach}
@@ -112,7 +113,7 @@ end_suffix [] x xs = or_left (same_list (x ∷ xs) (x ∷ xs)) (is_member same_l
 end_suffix (y ∷ front) x xs = or_right (same_list (x ∷ xs) (y ∷ (front ++ x ∷ xs))) (is_member same_list (suffixes (front ++ x ∷ xs)) (x ∷ xs)) (end_suffix front x xs)
 
 -- a member of lists that the strings of entries give
-any_flat : (G : List ℕ → List (List (ℕ × ℕ))) (s : List (ℕ × ℕ)) (P : List ((List ℕ × ℕ) × ℕ)) → is_member same_list (flat_map (λ e. G e.0.0) P) s
+any_flat : (G : List ℕ → List (List (ℕ × ℕ))) (s : List (ℕ × ℕ)) (P : Patterns) → is_member same_list (flat_map (λ e. G e.0.0) P) s
     ≡ list_any (λ q. is_member same_list (G q) s) (map (λ e. e.0.0) P)
 any_flat G s [] = refl
 any_flat G s (e ∷ es) = list_any-append (same_list s) (G e.0.0) (flat_map (λ e. G e.0.0) es) ∙ ap (λ b. is_member same_list (G e.0.0) s || b) (any_flat G s es)

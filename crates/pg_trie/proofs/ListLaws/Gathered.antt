@@ -7,7 +7,7 @@ use Rattle.std.specs.Cmp.Lexicographic.{pointwise, texts_ties}
 use Rattle.std.specs.List.{list_all}
 use Rattle.std.specs.FinMap.Entries.{find}
 use Rattle.pg_patterns.specs.Inside.DottedOrder.{same_dotted}
-use Rattle.pg_patterns.specs.Values.{greatest_value, value_of, map_of_entries}
+use Rattle.pg_patterns.specs.Values.{Patterns, greatest_value, value_of, map_of_entries}
 use Rattle.pg_patterns.specs.Inside.PatternMaps.{is_entry}
 use Rattle.pg_patterns.proofs.Joins.{value_of_joined, joined_keeps, same_maps}
 use Rattle.pg_outputs.specs.declared.records.Record.{Record}
@@ -74,12 +74,12 @@ value_is : (cells : ValuedFamilies ℕ) (records : List Record) → IsTrie cells
 value_is cells records is q d = ap (λ o. unwrap_or o 0) (find-entries as_value (list_of records) cells.values q d is.held.ordered)
 
 -- the entries of the strings below the number i are gathered
-pub record Gathers (P : List ((List ℕ × ℕ) × ℕ)) (strings : List (List ℕ × ℕ)) (i : ℕ) (es : List ((List ℕ × ℕ) × ℕ)) : Type 0 where
+pub record Gathers (P : Patterns) (strings : List (List ℕ × ℕ)) (i : ℕ) (es : List ((List ℕ × ℕ) × ℕ)) : Type 0 where
   pub sound : list_all is_entry es ≡ true
   pub under : (k : List ℕ × ℕ) → greatest_value (same_dotted k) es ≤ value_of P k
   pub reached : (j : ℕ) (k : List ℕ × ℕ) → j < i → slice_get strings j ≡ Some k → (d : ℕ) → value_of P (k.0, d) ≤ greatest_value (same_dotted (k.0, d)) es
 
-pub gathers_none : (P : List ((List ℕ × ℕ) × ℕ)) (strings : List (List ℕ × ℕ)) → Gathers P strings 0 []
+pub gathers_none : (P : Patterns) (strings : List (List ℕ × ℕ)) → Gathers P strings 0 []
 gathers_none P strings = record { sound = refl; under = λ k. omega arith; reached = λ j k lt at d. absurd (omega arith) }
 
 pub gathers_more : (cells : ValuedFamilies ℕ) (records : List Record) → IsTrie cells records → (strings : List (List ℕ × ℕ)) (i : ℕ) (es new : List ((List ℕ × ℕ) × ℕ)) (k : List ℕ × ℕ) (head : ℕ)

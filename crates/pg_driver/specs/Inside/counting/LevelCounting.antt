@@ -12,7 +12,6 @@ use Rattle.pg_select.specs.CountedPositions.{counted_positions}
 use Rattle.pg_select.specs.Inside.laws.Steps.{FindsMore, PreventsMore}
 use Rattle.pg_select.specs.Inside.engine.Meanings.{Meaning}
 use Rattle.pg_select.specs.Statuses.{is_odd}
-use Rattle.pg_select.specs.Windows.{Patterns}
 use Rattle.pg_driver.specs.declared.choices.Choices.{Choices}
 use Rattle.pg_driver.specs.declared.counting.Counting.{Counting}
 use Rattle.pg_driver.specs.declared.counting.Counting.TheVariants.{Open, EachWord}
@@ -29,6 +28,7 @@ use Rattle.pg_driver.specs.Inside.records.Sound.{IsSmall}
 use Rattle.pg_driver.specs.Traces.{Knowledge, Source}
 use Rattle.pg_driver.specs.Inside.counting.WordLevels.{IsWordsAt, chosen_weights}
 use Rattle.pg_types.specs.Inside.Limits.{sums_limit}
+use Rattle.pg_patterns.specs.Values.{Patterns}
 
 -- a pass was counted: the engine has its windows and is not full, and the totals are those before
 pub record DidCount (source : Source) (pass : Pass)

@@ -9,6 +9,7 @@ use Rattle.pg_types.specs.Inside.counting.Counts.{Counts, counted_sums}
 use Rattle.pg_translate.specs.Reach.{positions}
 use Rattle.pg_dict.specs.Inside.Store.{all_signs}
 use Rattle.pg_dict.specs.Word.{Word}
+use Rattle.pg_patterns.specs.Values.{Patterns}
 use Rattle.pg_select.specs.declared.choice.Choice.{Choice}
 use Rattle.pg_select.specs.declared.choice.Choice.TheVariants.{Hopeless as GivenUp, Chosen, Left}
 use Rattle.pg_select.specs.declared.pass.Pass.{Pass}
@@ -17,7 +18,7 @@ use Rattle.pg_select.specs.CountedPositions.{Minima, counts_as}
 use Rattle.pg_select.specs.Inside.laws.ClosedDots.{Tells}
 use Rattle.pg_select.specs.Inside.laws.Steps.{CoversUpTo, IsUpTo}
 use Rattle.pg_select.specs.Statuses.{status_at}
-use Rattle.pg_select.specs.Windows.{Patterns, Hopeless, window, fits}
+use Rattle.pg_select.specs.Windows.{Hopeless, window, fits}
 use Rattle.pg_driver.specs.declared.pass_windows.WordPosition.{WordPosition}
 
 -- how many signs words have together

@@ -6,10 +6,10 @@ use Rattle.pg_types.specs.declared.limits.TheConstants.{LENGTH_MAX}
 use Rattle.pg_types.specs.declared.marks.Layout.{Layout}
 use Rattle.pg_types.specs.declared.parameters.LevelParams.{LevelParams}
 use Rattle.pg_types.specs.Placement.{Families}
+use Rattle.pg_patterns.specs.Values.{Patterns}
 use Rattle.pg_select.specs.Inside.engine.Meanings.{Meaning}
 use Rattle.pg_select.specs.declared.pass.Pass.{Pass}
 use Rattle.pg_select.specs.Inside.laws.Laws.{CountsNothing}
-use Rattle.pg_select.specs.Windows.{Patterns}
 use Rattle.pg_driver.specs.declared.counting.Counting.{Counting}
 use Rattle.pg_driver.specs.Inside.counting.LevelCounting.{IsCounted}
 use Rattle.pg_driver.specs.Traces.{Knowledge, Source, PassTrace, LevelTrace, Trace, patterns_after, final_patterns, pass_traces, at_start}

@@ -3,8 +3,8 @@
 use Rattle.std.specs.Prelude.{ℕ, Bool, not, List, length, map, filter, sum_by}
 use Rattle.std.specs.List.{flat_map, list_all, list_any}
 use Rattle.pg_types.specs.declared.marks.Totals.{Totals}
+use Rattle.pg_patterns.specs.Values.{Patterns}
 use Rattle.pg_select.specs.declared.pass.Pass.{Pass}
-use Rattle.pg_select.specs.Windows.{Patterns}
 use Rattle.pg_driver.specs.Accounts.{totals_by, has_candidate, makes_skippable}
 use Rattle.pg_driver.specs.Traces.{Source, PassTrace, LevelTrace, Trace, is_entered, chosen_in, hopeless_in, patterns_after, final_patterns}
 

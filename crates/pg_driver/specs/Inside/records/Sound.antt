@@ -3,6 +3,7 @@ use Rattle.std.specs.Prelude.{ℕ, ◌+◌, ◌<◌, ◌≤◌, nat_lt, if◌the
 use Rattle.pg_types.specs.Inside.Limits.{sums_limit}
 use Rattle.pg_types.specs.declared.marks.Layout.{Layout}
 use Rattle.pg_types.specs.declared.marks.Totals.{Totals}
+use Rattle.pg_patterns.specs.Values.{Patterns}
 use Rattle.pg_driver.specs.declared.records.PassRecord.{PassRecord}
 use Rattle.pg_driver.specs.declared.records.LevelRecord.{LevelRecord}
 use Rattle.pg_select.specs.Inside.SumSteps.{sum_of}
@@ -47,7 +48,7 @@ with_level r level after layout =
 
 -- a run that is done: patterns, records, totals, the layout at its start, and the passes begun
 pub record CompletedRun : Type 0 where
-  pub patterns : List ((List ℕ × ℕ) × ℕ)
+  pub patterns : Patterns
   pub passes : List PassRecord
   pub levels : List LevelRecord
   pub totals : Totals

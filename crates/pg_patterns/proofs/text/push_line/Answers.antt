@@ -2,11 +2,12 @@ use Rattle.std.proofs.Common.{◌≡◌, ℕ, ◌≤◌, [], ◌∷◌, ◌++◌
 use Rattle.std.proofs.lemmas.Grind.{common_steps}
 use Rattle.std.proofs.lemmas.List.{drop_all}
 use Rattle.pg_translate.specs.Alphabets.{Alphabet}
+use Rattle.pg_patterns.specs.Values.{Patterns}
 use Rattle.pg_patterns.specs.Texts.{value_digit, line_from}
 use Rattle.pg_patterns.proofs.text.push_line.Goals as goal
 
 -- the digit of the last dot and the line feed
-line_ends : (t : Alphabet) (P : List ((List ℕ × ℕ) × ℕ)) (q : List ℕ) (dot : ℕ) (old mid new all : List ℕ) → length q ≤ dot → dot ≤ length q → mid ≡ old
+line_ends : (t : Alphabet) (P : Patterns) (q : List ℕ) (dot : ℕ) (old mid new all : List ℕ) → length q ≤ dot → dot ≤ length q → mid ≡ old
     ++ value_digit P (q, length q) → new ≡ mid ++ 10 ∷ [] → old ++ line_from t P q dot (drop dot q) ≡ all → new ≡ all
 line_ends t P q dot old mid new all past within a c so =
     let same : length q ≡ dot = omega arith in

@@ -1,6 +1,6 @@
 use Rattle.std.proofs.Common.{◌≡◌, ◌≤◌, ◌-◌, ◌∙◌, map, length, ap, sym, subst, arith}
+use Rattle.pg_patterns.specs.Values.{Patterns}
 use Rattle.pg_patterns.specs.Inside.PatternMaps.{IsPatternMap}
-use Rattle.pg_select.specs.Windows.{Patterns}
 use Rattle.pg_prune.specs.Positions.{positions_in_reach}
 use Rattle.pg_prune.specs.Prunes.{pruning_of, needs, rounds, Pruning}
 use Rattle.pg_prune.specs.Inside.Needs.{HasNeeds}

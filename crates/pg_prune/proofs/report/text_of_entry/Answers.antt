@@ -3,8 +3,8 @@ use Rattle.std.proofs.Common.{◌≡◌, ℕ, ◌+◌, ◌-◌, true, length, ta
 use Rattle.std.specs.List.{list_all}
 use Rattle.pg_translate.specs.Alphabets.{letters_of}
 use Rattle.pg_patterns.specs.Inside.PatternMaps.{SignsUpTo, is_entry}
-use Rattle.pg_select.specs.Windows.{Patterns}
 use Rattle.std.proofs.lemmas.Option.{get_or_from_slice_get}
+use Rattle.pg_patterns.specs.Values.{Patterns}
 use Rattle.pg_patterns.specs.Texts.{pattern_text}
 use Rattle.pg_prune.specs.Inside.rounds.Picks.{entry_of}
 use Rattle.pg_prune.proofs.report.ReportSteps.{alone_sound, alone_known, map_alone}

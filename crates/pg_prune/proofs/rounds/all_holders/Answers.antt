@@ -4,7 +4,7 @@ use Rattle.std.proofs.lemmas.List.{length-map, take_all}
 use Rattle.std.proofs.Common.{◌≡◌, ◌<◌, ◌-◌, ◌^◌, ◌∙◌, ◌∷◌, ◌++◌, [], map, take, drop, length, ap, sym, subst, arith, ◌≤◌}
 use Rattle.std.proofs.Math.Seq.{take-append_seam}
 use Rattle.std.specs.Prelude.{replicate}
-use Rattle.pg_select.specs.Windows.{Patterns}
+use Rattle.pg_patterns.specs.Values.{Patterns}
 use Rattle.pg_prune.specs.Inside.rounds.Holders.{holder_counts}
 use Rattle.pg_prune.specs.Inside.rounds.Turns.{IsTallied}
 use Rattle.pg_prune.proofs.rounds.HolderSteps.{none_tallied, turn_after, turn_awaited, with_next}

@@ -1,7 +1,6 @@
 -- Where the entries of a map stand: the numbers of the positions at which they apply.
 use Rattle.std.specs.Prelude.{ℕ, ◌+◌, Bool, if◌then◌else◌, List, [], ◌∷◌, map}
-use Rattle.pg_patterns.specs.Values.{applies}
-use Rattle.pg_select.specs.Windows.{Patterns}
+use Rattle.pg_patterns.specs.Values.{Patterns, applies}
 use Rattle.pg_prune.specs.Positions.{WordPosition}
 
 -- the numbers of the elements that pass a test, where the first has this number

@@ -1,7 +1,7 @@
 -- Maps that break alike at all positions.
 use Rattle.std.specs.Prelude.{Bool, List}
 use Rattle.std.specs.List.{list_all}
-use Rattle.pg_select.specs.Windows.{Patterns}
+use Rattle.pg_patterns.specs.Values.{Patterns}
 use Rattle.pg_prune.specs.Positions.{WordPosition}
 use Rattle.pg_prune.specs.Prunes.{break_alike_at}
 

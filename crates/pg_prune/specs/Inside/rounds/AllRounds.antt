@@ -1,6 +1,6 @@
 -- What is known when all rounds are done.
 use Rattle.std.specs.Prelude.{◌≡◌, ℕ, List}
-use Rattle.pg_select.specs.Windows.{Patterns}
+use Rattle.pg_patterns.specs.Values.{Patterns}
 use Rattle.pg_prune.specs.declared.rounds.KeptEntries.{KeptEntries}
 use Rattle.pg_prune.specs.Positions.{WordPosition}
 use Rattle.pg_prune.specs.Prunes.{rounds}

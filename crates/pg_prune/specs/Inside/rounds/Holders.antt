@@ -2,7 +2,7 @@
 use Rattle.std.specs.Prelude.{ℕ, ◌+◌, ◌-◌, ◌%◌, Bool, ◌&&◌, nat_eq, nat_lt, if◌then◌else◌, List, [], ◌∷◌, map, count_by, slice_index, slice_set}
 use Rattle.std.specs.List.{range_with_len}
 use Rattle.pg_types.specs.declared.limits.TheConstants.{LEVEL_MAX}
-use Rattle.pg_select.specs.Windows.{Patterns}
+use Rattle.pg_patterns.specs.Values.{Patterns}
 use Rattle.pg_prune.specs.Positions.{WordPosition}
 use Rattle.pg_prune.specs.Inside.positions.Standing.{stands}
 

@@ -1,8 +1,8 @@
 -- Entries of a map by their numbers, and the rounds through them.
 use Rattle.std.specs.Prelude.{◌≡◌, ℕ, ◌<◌, true, List, [], map, length, slice_index_or}
 use Rattle.std.specs.List.{All, list_all}
+use Rattle.pg_patterns.specs.Values.{Patterns}
 use Rattle.pg_patterns.specs.Inside.PatternMaps.{is_entry}
-use Rattle.pg_select.specs.Windows.{Patterns}
 use Rattle.pg_prune.specs.Positions.{WordPosition}
 use Rattle.pg_prune.specs.Prunes.{round}
 use Rattle.pg_prune.specs.Inside.rounds.Alike.{break_alike}

@@ -1,8 +1,8 @@
 -- The turn of an entry in a round.
 use Rattle.std.specs.Prelude.{◌≡◌, ℕ, ◌<◌, true, List, ◌∷◌, ◌++◌, ◌-◌, ◌^◌, length, map, slice_index_or, Option, Some}
 use Rattle.std.specs.List.{list_all}
+use Rattle.pg_patterns.specs.Values.{Patterns}
 use Rattle.pg_patterns.specs.Inside.PatternMaps.{is_entry}
-use Rattle.pg_select.specs.Windows.{Patterns}
 use Rattle.pg_prune.specs.Positions.{WordPosition}
 use Rattle.pg_prune.specs.Inside.positions.Standing.{positions_of_entry}
 use Rattle.pg_prune.specs.Inside.rounds.Holders.{holder_counts}

@@ -11,9 +11,9 @@ use Rattle.pg_types.specs.Inside.counting.NumberedWindows.{Windows, AreNumbered,
 use Rattle.pg_types.specs.Placement.{Families, taken_count, top, enter, kept_families}
 use Rattle.pg_types.specs.Tails.{tails}
 use Rattle.pg_patterns.specs.DottedSigns.{dotted_cmp}
-use Rattle.pg_patterns.specs.Values.{raise}
+use Rattle.pg_patterns.specs.Values.{Patterns, raise}
 use Rattle.pg_patterns.specs.Inside.PatternMaps.{IsPatternMap, SignsUpTo}
-use Rattle.pg_select.specs.Windows.{Patterns, Hopeless}
+use Rattle.pg_select.specs.Windows.{Hopeless}
 use Rattle.pg_select.specs.declared.pass.Pass.{Pass}
 use Rattle.pg_select.specs.CountedPositions.{CountedPosition}
 

@@ -6,13 +6,13 @@ use Rattle.std.specs.Option.{option_map_or}
 use Rattle.pg_types.specs.declared.marks.Totals.{Totals}
 use Rattle.pg_translate.specs.Reach.{positions}
 use Rattle.pg_dict.specs.Word.{Word}
-use Rattle.pg_patterns.specs.Values.{value_at}
+use Rattle.pg_patterns.specs.Values.{Patterns, value_at}
 use Rattle.pg_select.specs.declared.pass.Pass.{Pass}
 use Rattle.pg_select.specs.CountedPositions.{Minima, CountedPosition, Candidate, counts_as, counted_positions}
 use Rattle.pg_select.specs.Inside.laws.Steps.{is_candidate, patterns_after_pass, good_raised, bad_raised, FindsMore, PreventsMore}
 use Rattle.pg_select.specs.Statuses.{is_odd, status_at, position_weight}
 use Rattle.pg_select.specs.Sums.{totals}
-use Rattle.pg_select.specs.Windows.{Hopeless, window, fits, Patterns}
+use Rattle.pg_select.specs.Windows.{Hopeless, window, fits}
 
 -- what a position counts as at a level, where its value is above the level
 abbrev pub counts_above : ℕ → Patterns → Word → ℕ → Option Bool

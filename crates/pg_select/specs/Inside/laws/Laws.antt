@@ -13,13 +13,13 @@ use Rattle.pg_dict.specs.Word.{Word}
 use Rattle.pg_dict.specs.Inside.SoundWords.{IsWord, letter_count}
 use Rattle.pg_patterns.specs.DottedSigns.{dotted_cmp}
 use Rattle.pg_patterns.specs.Inside.DottedOrder.{same_dotted}
-use Rattle.pg_patterns.specs.Values.{value_of, raise, applies, value_at}
+use Rattle.pg_patterns.specs.Values.{Patterns, value_of, raise, applies, value_at}
 use Rattle.pg_select.specs.Inside.engine.Meanings.{Meaning, with_position, after_give_up}
 use Rattle.pg_select.specs.declared.pass.Pass.{Pass}
 use Rattle.pg_select.specs.CountedPositions.{Minima, CountedPosition, Candidate, counted_positions, same_signs, candidates, good_of, bad_of, tally, counted_at, counts_as}
 use Rattle.pg_select.specs.Statuses.{status_at}
 use Rattle.pg_select.specs.Sums.{totals}
-use Rattle.pg_select.specs.Windows.{Patterns, Hopeless, is_covered}
+use Rattle.pg_select.specs.Windows.{Hopeless, is_covered}
 
 -- each candidate comes in the order of signs before those behind it, so each stands once
 abbrev pub CandidatesInOrder : Type 0

@@ -4,13 +4,13 @@ use Rattle.std.specs.Prelude.{◌≡◌, ℕ, ◌+◌, ◌-◌, ◌<◌, ◌≤�
 use Rattle.std.specs.List.{list_all, list_any}
 use Rattle.pg_types.specs.declared.marks.Totals.{Totals}
 use Rattle.pg_dict.specs.Word.{Word}
-use Rattle.pg_patterns.specs.Values.{value_at, largest}
+use Rattle.pg_patterns.specs.Values.{Patterns, value_at, largest}
 use Rattle.pg_select.specs.Inside.laws.Laws.{raised_all, hopeless_all}
 use Rattle.pg_select.specs.declared.pass.Pass.{Pass}
 use Rattle.pg_select.specs.CountedPositions.{Minima, CountedPosition, Candidate, same_signs, good_of, bad_of, counted_positions, tally}
 use Rattle.pg_select.specs.Statuses.{is_odd}
 use Rattle.pg_select.specs.Sums.{totals}
-use Rattle.pg_select.specs.Windows.{Hopeless, window, fits, is_covered, Patterns}
+use Rattle.pg_select.specs.Windows.{Hopeless, window, fits, is_covered}
 
 -- no value is as great as the level
 abbrev pub IsBelow : ℕ → Patterns → Type 0

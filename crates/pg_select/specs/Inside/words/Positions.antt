@@ -1,9 +1,9 @@
 -- What a word's positions are found to be, and how their values and covers rise.
 use Rattle.std.specs.Prelude.{◌≡◌, ℕ, ◌+◌, ◌<◌, Bool, true, false, if◌then◌else◌, nat_eq, max, List, length, get_or}
 use Rattle.pg_types.specs.declared.limits.TheConstants.{WORD_LETTERS_MAX}
-use Rattle.pg_patterns.specs.Values.{value_at}
+use Rattle.pg_patterns.specs.Values.{Patterns, value_at}
 use Rattle.pg_select.specs.declared.pass.Pass.{Pass}
-use Rattle.pg_select.specs.Windows.{Patterns, Hopeless, window, fits, is_covered}
+use Rattle.pg_select.specs.Windows.{Hopeless, window, fits, is_covered}
 
 -- the value of each position, and whether its window is covered
 pub record Positions : Type 0 where

@@ -4,7 +4,8 @@ use Rattle.std.specs.List.{flat_map}
 use Rattle.pg_dict.specs.Word.{Word}
 use Rattle.pg_select.specs.declared.pass.Pass.{Pass}
 use Rattle.pg_translate.specs.Reach.{positions}
-use Rattle.pg_select.specs.Windows.{Patterns, Hopeless}
+use Rattle.pg_patterns.specs.Values.{Patterns}
+use Rattle.pg_select.specs.Windows.{Hopeless}
 use Rattle.pg_select.specs.CountedPositions.{Minima, CountedPosition, counted_positions_at}
 
 -- what a pass counts in a word: at each position in reach

@@ -5,6 +5,7 @@ use Rattle.std.specs.Cmp.Lexicographic.{slice_cmp}
 use Rattle.std.specs.FinMap.{find}
 use Rattle.pg_types.specs.Placement.{cell_of}
 use Rattle.pg_types.specs.Tails.{outputs_of}
+use Rattle.pg_patterns.specs.Values.{Patterns}
 use Rattle.pg_patterns.specs.Inside.PatternMaps.{IsPatternMap}
 use Rattle.pg_outputs.specs.declared.records.Record.{Record}
 use Rattle.pg_cells.specs.Inside.linked.ValuedFamilies.{ValuedFamilies}
@@ -13,7 +14,7 @@ use Rattle.pg_table.specs.Texts.{head_in}
 use Rattle.pg_table.specs.Inside.text.Files.{table_families, table_records}
 
 -- the entries from `at` to `end` are those of the string q
-pub record IsGroup (P : List ((List ℕ × ℕ) × ℕ)) (q : List ℕ) (at end : ℕ) : Type 0 where
+pub record IsGroup (P : Patterns) (q : List ℕ) (at end : ℕ) : Type 0 where
   pub some : at < end
   pub within : end ≤ length P
   pub each : (j : ℕ) (e : (List ℕ × ℕ) × ℕ) → at ≤ j → j < end → slice_get P j ≡ Some e → e.0.0 ≡ q
@@ -24,7 +25,7 @@ abbrev pub pairs : List ((List ℕ × ℕ) × ℕ) → ℕ → ℕ → List (ℕ
 pairs P at end = map (λ e. (e.0.1, e.1)) (take (end - at) (drop at P))
 
 -- the strings of the patterns have their cells
-pub record IsPacked (n : ℕ) (P : List ((List ℕ × ℕ) × ℕ)) (h : ValuedFamilies ℕ) : Type 0 where
+pub record IsPacked (n : ℕ) (P : Patterns) (h : ValuedFamilies ℕ) : Type 0 where
   pub held : AreValuedFamilies h
   pub signs : h.signs ≡ n
   pub families : h.families ≡ table_families n P
@@ -37,7 +38,7 @@ IsReached P n q = (length q ≤ 1) ⊎
     × (slice_get P j ≡ Some e) × (q ≡ take k e.0.0))
 
 -- all patterns are entered: the strings with cells are theirs, with the heads of their lists
-pub record IsEntered (n : ℕ) (P : List ((List ℕ × ℕ) × ℕ))
+pub record IsEntered (n : ℕ) (P : Patterns)
     (h : ValuedFamilies ℕ) (records : List Record) : Type 0 where
   pub sound : IsPatternMap P
   pub packed : IsPacked n P h

@@ -4,8 +4,8 @@ use Rattle.pg_types.specs.declared.refusals.Kind.TheVariants.{TableTooLong}
 use Rattle.pg_types.specs.Reading.{refusal_at}
 use Rattle.pg_translate.specs.Alphabets.{Alphabet, letters_of}
 use Rattle.pg_translate.specs.Tables.{table}
+use Rattle.pg_patterns.specs.Values.{Patterns}
 use Rattle.pg_patterns.specs.Starts.{start}
-use Rattle.pg_select.specs.Windows.{Patterns}
 use Rattle.pg_table.specs.Texts.{table_text}
 use Rattle.pg_table.specs.declared.error.TableError.{TableError}
 use Rattle.pg_table.specs.declared.error.TableError.TheVariants as table_error

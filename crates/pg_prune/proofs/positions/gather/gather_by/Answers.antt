@@ -3,8 +3,8 @@ use Rattle.std.specs.List.{filter_map}
 use Rattle.std.proofs.lemmas.List.{map-append, map_more, take_all}
 use Rattle.std.proofs.lemmas.Option.{get_or_from_slice_get}
 use Rattle.std.proofs.lemmas.Result.{IfOk-from_err}
+use Rattle.pg_patterns.specs.Values.{Patterns}
 use Rattle.pg_select.specs.CountedPositions.{minima_of}
-use Rattle.pg_select.specs.Windows.{Patterns}
 use Rattle.pg_prune.specs.Positions.{positions_in_reach as positions_of}
 use Rattle.pg_prune.specs.Inside.positions.Standing.{positions_of_entry as standing_of}
 use Rattle.pg_prune.specs.Inside.positions.Standing.{positions_of_entries}
