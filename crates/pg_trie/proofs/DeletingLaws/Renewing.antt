@@ -13,7 +13,8 @@ use Rattle.pg_cells.specs.Inside.linked.ValuedFamilies.{ValuedFamilies}
 use Rattle.pg_cells.specs.Inside.linked.AreValuedFamilies.{AreValuedFamilies}
 use Rattle.pg_cells.proofs.StringMaps.{order, same_string, equal_or_not, find_put_same, find_put_other}
 use Rattle.pg_trie.specs.declared.hopeless.TheConstants.{HOPELESS}
-use Rattle.pg_trie.specs.Inside.FreshLists.{values_in, AreNeeded, IsFreshHead, AreFreshTo, RenewsTo, Renews}
+use Rattle.pg_trie.specs.declared.deleting.renew.TheConstants.{UNKNOWN}
+use Rattle.pg_trie.specs.Inside.FreshLists.{values_in, AreNeeded, AreUnknown, IsFreshHead, AreFreshTo, RenewsTo, Renews}
 
 pub value_kept : (v d : ℕ) (rest : List (ℕ × ℕ)) → nat_lt v HOPELESS ≡ true → values_in ((v, d) ∷ rest) ≡ (v, d) ∷ values_in rest
 value_kept v d rest e = ap (λ b. cond b ((v, d) ∷ values_in rest) (values_in rest)) e
@@ -61,12 +62,39 @@ needed_mark old new v d rest list is mark needed = subst (AreNeeded old new) (sy
 
 -- no head is told yet
 pub fresh_start : (cells : ValuedFamilies ℕ) (records : List Record) (fresh : List Record) (heads : List ℕ) → length fresh ≡ 0 → length heads
-    ≡ length records + 1 → AreFreshTo cells records 0 fresh heads
-fresh_start cells records fresh heads none size = record {
+    ≡ length records + 1 → AreUnknown heads → AreFreshTo cells records 0 fresh heads
+fresh_start cells records fresh heads none size unknown = record {
   size = size;
   one_head = λ h k low lower same. omega arith;
   lists = λ q cell u at lt there. absurd (omega arith);
+  known = λ u lt known. absurd (known (unknown u lt));
   needed = λ h low high. absurd (omega arith);
+}
+
+-- a string whose cell comes next has the cell, or its cell came before
+next_or_before : (cells : ValuedFamilies ℕ) → AreValuedFamilies cells → (cell : ℕ) (q r : List ℕ) (u c v : ℕ) → cell_of cells.families q ≡ Some cell → find order q cells.values ≡ Some u
+    → cell_of cells.families r ≡ Some c → c < cell + 1 → find order r cells.values ≡ Some v → v ≢ u → c < cell
+next_or_before cells held cell q r u c v at has there lt value n = elim (cases_eq c cell) [
+  | inl e ↦
+      let same : r ≡ q = held.apart r q cell (there ∙ ap Some e) at in
+      let both : Some v ≡ Some u = sym value ∙ ap (λ p. find order p cells.values) same ∙ has in
+      absurd (let is : v ≡ u = cc in n is)
+  | inr other ↦ omega arith
+]
+
+-- the head of the string that has the cell is known
+pub fresh_known : (cells : ValuedFamilies ℕ) (records : List Record) → AreValuedFamilies cells → (cell : ℕ) (fresh : List Record) (heads : List ℕ) (q : List ℕ) (u : ℕ)
+    → AreFreshTo cells records cell fresh heads → cell_of cells.families q ≡ Some cell → find order q cells.values ≡ Some u → u < length heads → get_or heads u 0 ≢ UNKNOWN
+    → AreFreshTo cells records (cell + 1) fresh heads
+fresh_known cells records held cell fresh heads q u f at has within known = record {
+  size = f.size;
+  one_head = f.one_head;
+  lists = λ r c v there lt value. elim (cases_eq v u) [
+    | inl e ↦ subst (λ k. IsFreshHead records k fresh (get_or heads k 0)) (sym e) (f.known u within known)
+    | inr n ↦ f.lists r c v there (next_or_before cells held cell q r u c v at has there lt value n) value
+  ];
+  known = f.known;
+  needed = f.needed;
 }
 
 -- the new head of the string that has the cell
@@ -77,33 +105,34 @@ pub fresh_step : (cells : ValuedFamilies ℕ) (records : List Record) → AreVal
 fresh_step cells records held cell old new heads after q u head f at has within grows one_head inside list needed is = subst (AreFreshTo cells records (cell + 1) new) (sym is) (record {
   size = length-set heads u head ∙ f.size;
   one_head = one_head;
-  lists = λ r c v there lt value. by r c v there lt value (cases_eq v u);
+  lists = λ r c v there lt value. elim (cases_eq v u) [
+    | inl e ↦ here v e
+    | inr n ↦ elsewhere v n (f.lists r c v there (next_or_before cells held cell q r u c v at has there lt value n) value)
+  ];
+  known = λ v lt known. elim (cases_eq v u) [
+    | inl e ↦ here v e
+    | inr n ↦
+        let same : get_or (set heads u head) v 0 ≡ get_or heads v 0 = get_or-set_other heads u v head 0 n in
+        elsewhere v n (f.known v (omega (arith, lt, length-set heads u head)) (λ e. known (same ∙ e)))
+  ];
   needed = λ h low high. elim (cases_lt (length old) h) [
     | inl lt ↦ (q, u, has, needed h lt high)
     | inr ge ↦ let n = f.needed h low ge in (n.0, n.1, n.2, (n.3.0, n.3.1 ∙ ap (λ l. n.3.0 ++ l) (sym (grows.same h ge))))
   ];
 })
   where
-    by : (r : List ℕ) (c v : ℕ) → cell_of cells.families r ≡ Some c → c < cell + 1 → find order r cells.values ≡ Some v → (v ≡ u) ⊎ (v ≢ u) → IsFreshHead records v new (get_or (set heads u head) v 0)
-    by r c v there lt value (inl e) =
-        let here : get_or (set heads u head) v 0 ≡ head = ap (λ k. get_or (set heads u head) k 0) e ∙ get_or-set_same heads u head 0 (omega (arith, f.size)) in
-        record { inside = omega (arith, here, inside); list = ap (list_of new) here ∙ list ∙ ap (λ k. values_in (list_of records k)) (sym e) }
-    by r c v there lt value (inr n) =
-        let here : get_or (set heads u head) v 0 ≡ get_or heads v 0 = get_or-set_other heads u v head 0 n in
-        let before = f.lists r c v there (early r c v there lt value n) value in
+    here : (v : ℕ) → v ≡ u → IsFreshHead records v new (get_or (set heads u head) v 0)
+    here v e =
+        let is_head : get_or (set heads u head) v 0 ≡ head = ap (λ k. get_or (set heads u head) k 0) e ∙ get_or-set_same heads u head 0 (omega (arith, f.size)) in
+        record { inside = omega (arith, is_head, inside); list = ap (list_of new) is_head ∙ list ∙ ap (λ k. values_in (list_of records k)) (sym e) }
+
+    elsewhere : (v : ℕ) → v ≢ u → IsFreshHead records v old (get_or heads v 0) → IsFreshHead records v new (get_or (set heads u head) v 0)
+    elsewhere v n before =
+        let same : get_or (set heads u head) v 0 ≡ get_or heads v 0 = get_or-set_other heads u v head 0 n in
         record {
-          inside = omega (arith, here, before.inside, grows.longer);
-          list = ap (list_of new) here ∙ grows.same (get_or heads v 0) before.inside ∙ before.list;
+          inside = omega (arith, same, before.inside, grows.longer);
+          list = ap (list_of new) same ∙ grows.same (get_or heads v 0) before.inside ∙ before.list;
         }
-      where
-        early : (r : List ℕ) (c v : ℕ) → cell_of cells.families r ≡ Some c → c < cell + 1 → find order r cells.values ≡ Some v → v ≢ u → c < cell
-        early r c v there lt value n = elim (cases_eq c cell) [
-          | inl e ↦
-              let same : r ≡ q = held.apart r q cell (there ∙ ap Some e) at in
-              let both : Some v ≡ Some u = sym value ∙ ap (λ p. find order p cells.values) same ∙ has in
-              absurd (let is : v ≡ u = cc in n is)
-          | inr other ↦ omega arith
-        ]
 
 -- strings get their heads, cell by cell
 pub renew_start : (old : ValuedFamilies ℕ) (heads : List ℕ) → AreValuedFamilies old → RenewsTo old 0 heads old

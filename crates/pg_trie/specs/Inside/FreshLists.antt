@@ -1,5 +1,5 @@
 -- New records of the lists without their hopeless entries, and what the cells make of them.
-use Rattle.std.specs.Prelude.{◌≡◌, ℕ, ◌+◌, ◌<◌, ◌≤◌, nat_lt, if◌then◌else◌, List, ◌++◌, filter, length, get_or, Some}
+use Rattle.std.specs.Prelude.{◌≡◌, ◌≢◌, ℕ, ◌+◌, ◌<◌, ◌≤◌, nat_lt, if◌then◌else◌, List, ◌++◌, filter, length, get_or, Some}
 use Rattle.std.specs.Ordering.{nat_cmp}
 use Rattle.std.specs.Cmp.Lexicographic.{slice_cmp}
 use Rattle.std.specs.FinMap.{find}
@@ -9,6 +9,7 @@ use Rattle.pg_outputs.specs.Lists.{list_of}
 use Rattle.pg_outputs.specs.Inside.Heads.{OneHeadEach}
 use Rattle.pg_cells.specs.Inside.linked.ValuedFamilies.{ValuedFamilies}
 use Rattle.pg_cells.specs.Inside.linked.AreValuedFamilies.{AreValuedFamilies}
+use Rattle.pg_trie.specs.declared.deleting.renew.TheConstants.{UNKNOWN}
 use Rattle.pg_trie.specs.declared.hopeless.TheConstants.{HOPELESS}
 
 -- the list without its hopeless entries
@@ -29,6 +30,10 @@ pub record IsFreshHead (records : List Record) (old : ℕ)
 abbrev pub AreNeeded : List Record → List Record → List (ℕ × ℕ) → Type 0
 AreNeeded old new list = (h : ℕ) → length old < h → h ≤ length new → IsEnd (list_of new h) list
 
+-- no new head is known
+abbrev pub AreUnknown : List ℕ → Type 0
+AreUnknown heads = (u : ℕ) → u < length heads → get_or heads u 0 ≡ UNKNOWN
+
 -- beside each head of a string with a cell below n stands that of its values in the new records
 pub record AreFreshTo (cells : ValuedFamilies ℕ) (records : List Record)
     (n : ℕ) (fresh : List Record) (heads : List ℕ) : Type 0 where
@@ -36,6 +41,8 @@ pub record AreFreshTo (cells : ValuedFamilies ℕ) (records : List Record)
   pub one_head : OneHeadEach fresh
   pub lists : (q : List ℕ) (cell u : ℕ) → cell_of cells.families q ≡ Some cell
       → cell < n → find (slice_cmp nat_cmp) q cells.values ≡ Some u
+      → IsFreshHead records u fresh (get_or heads u 0)
+  pub known : (u : ℕ) → u < length heads → get_or heads u 0 ≢ UNKNOWN
       → IsFreshHead records u fresh (get_or heads u 0)
   pub needed : (h : ℕ) → 0 < h → h ≤ length fresh
       → (q : List ℕ) × (old : ℕ) × (find (slice_cmp nat_cmp) q cells.values ≡ Some old)

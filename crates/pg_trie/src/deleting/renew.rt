@@ -7,13 +7,16 @@ ghost use Rattle.pg_outputs.specs.Lists.{list_of};
 ghost use Rattle.pg_outputs.specs.Inside.Heads.{Grows, OneHeadEach};
 ghost use Rattle.pg_cells.specs.Inside.linked.AreValuedFamilies.{AreValuedFamilies};
 ghost use Rattle.pg_trie.specs.Inside.IsTrie.{IsTrie};
-ghost use Rattle.pg_trie.specs.Inside.FreshLists.{values_in, AreNeeded, AreFreshTo, AreFresh, Renews};
+ghost use Rattle.pg_trie.specs.Inside.FreshLists.{values_in, AreNeeded, AreUnknown, AreFreshTo, AreFresh, Renews};
 
 use crate::hopeless::HOPELESS;
 use crate::lists::head::{Head, in_four_bytes};
 use pg_cells::Cells;
 use pg_outputs::Outputs;
 use std::alloc::{AllocError, Global};
+
+/// Stands beside an old head whose new one is not known yet.
+pub const UNKNOWN: u32 = u32::MAX;
 
 // The head of a list's values without its hopeless entry, among the new records.
 fn fresh_head(outputs: &Outputs, head: u64, fresh: &mut Outputs) -> Result<u64, AllocError>
@@ -36,18 +39,20 @@ fn fresh_head(outputs: &Outputs, head: u64, fresh: &mut Outputs) -> Result<u64, 
     }
 }
 
-// The head of the empty list, `count + 1` times.
+// `UNKNOWN`, `count + 1` times.
 fn no_heads(alloc: Global, count: u64) -> Result<Vec<u32>, AllocError>
-    ensures { IfOk result (λ heads. length heads.items ≡ count + 1) }
+    ensures length { IfOk result (λ heads. length heads.items ≡ count + 1) }
+    ensures unknown { IfOk result (λ heads. AreUnknown heads.items) }
 {
     let mut heads = Vec::new(alloc);
     'fill: while (heads.len() as u64) <= count {
-        heads.push(0)?;
+        heads.push(UNKNOWN)?;
     }
     Ok(heads)
 }
 
-// The new head of the string with the cell, beside its old one.
+// The new head of the string with the cell, beside its old one. Strings with equal lists have one
+// head, so it is mostly known.
 fn renew_cell(
     cells: &Cells<Head>,
     cell: usize,
@@ -63,6 +68,9 @@ fn renew_cell(
         return Ok(());
     };
     let old_head = head.number();
+    if heads[old_head as usize] != UNKNOWN {
+        return Ok(());
+    }
     let number = fresh_head(outputs, old_head, fresh)?;
     let new_head = in_four_bytes(number)?;
     heads[old_head as usize] = new_head;

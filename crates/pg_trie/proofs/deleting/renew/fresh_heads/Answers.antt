@@ -6,7 +6,7 @@ use Rattle.pg_trie.proofs.deleting.renew.fresh_heads.Goals as goal
 
 pub loop-cell-init : goal.loop-cell-init
 loop-cell-init c = fresh_start c.args.cells.now c.args.outputs.now c.args.fresh.now c.in_ok-heads.heads.items c.requires.empty
-    (let size = c.in_ok-heads.ensures in let len = c.len.ensures.len in omega arith)
+    (let size = c.in_ok-heads.ensures.length in let len = c.len.ensures.len in omega arith) c.in_ok-heads.ensures.unknown
 
 pub returns : goal.returns
 returns c = (

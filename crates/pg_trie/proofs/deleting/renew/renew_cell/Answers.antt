@@ -1,8 +1,8 @@
 use Rattle.std.proofs.lemmas.Result.{err_from_is_err_and}
-use Rattle.std.proofs.Common.{ap, set, ◌∙◌, subst, arith}
+use Rattle.std.proofs.Common.{ap, get_or, set, ◌∙◌, subst, arith}
 use Rattle.pg_outputs.specs.Lists.{list_of}
 use Rattle.pg_trie.specs.Inside.FreshLists.{values_in, AreNeeded}
-use Rattle.pg_trie.proofs.DeletingLaws.Renewing.{fresh_step}
+use Rattle.pg_trie.proofs.DeletingLaws.Renewing.{fresh_known, fresh_step}
 use Rattle.pg_trie.proofs.deleting.renew.renew_cell.Goals as goal
 
 pub fresh_head-requires : goal.fresh_head-requires
@@ -22,6 +22,14 @@ offset_bounds-heads-old_head c =
     let s = c.in-Some.ensures.some in
     let head = (c.requires.trie.heads s.0 c.in-Some.head s.2).inside in
     omega (arith, c.requires.heads.size, c.number-old_head.ensures, head)
+
+pub returns-then-heads-old_head : goal.returns-then-heads-old_head
+returns-then-heads-old_head c =
+    let s = c.in-Some.ensures.some in
+    let head = (c.requires.trie.heads s.0 c.in-Some.head s.2).inside in
+    fresh_known c.args.cells.now c.args.outputs.now c.requires.trie.held c.args.cell c.args.fresh.now c.args.heads.now s.0 c.in-Some.head
+    c.requires.heads s.1 s.2 (omega (arith, c.requires.heads.size, head))
+    (λ z. c.if-heads-old_head.true (ap (λ h. get_or c.args.heads.now h 0) c.number-old_head.ensures ∙ z))
 
 pub returns : goal.returns
 returns c =
