@@ -50,8 +50,8 @@ returns g c =
       only = c.read_front.ensures.only;
       calls = c.read_front.ensures.calls;
       ok = tt;
-      stopped = stopped_up_to TABLE_MAX (packed_table t) (packed_table-front t) input.Table c.args.name.now c.in_ok-bytes.bytes.items
-          (g.F.Files.shown c.args.files.now) (g.F.Files.shown c.read_front.new.files) (reader.Refused c.in-Err.refusal) c.in_ok-bytes.ensures.front is;
+      stopped = rw c.refuse.ensures (stopped_up_to TABLE_MAX (packed_table t) (packed_table-front t) input.Table c.args.name.now c.in_ok-bytes.bytes.items
+          (g.F.Files.shown c.args.files.now) (g.F.Files.shown c.read_front.new.files) (reader.Refused c.in-Err.refusal) c.in_ok-bytes.ensures.front is);
     }
 
 pub returns-in_err-bytes : goal.returns-in_err-bytes
