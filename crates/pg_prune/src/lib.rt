@@ -7,7 +7,7 @@ pub mod pruning;
 pub mod report;
 mod rounds;
 
-pub use pruned::{Need, PrunedPatterns};
+pub use pruned::{Need, Pruned};
 pub use pruning::{prune, prune_watched};
 pub use report::prune_text;
 pub use rounds::{NoObserver, RoundObserver};

@@ -15,14 +15,14 @@ pub struct Need {
 /// What comes out of pruning: the patterns that stay, the need of each of their entries, the number
 /// of rounds, and how many entries were taken out.
 #[derive(Drop)]
-pub struct PrunedPatterns {
+pub struct Pruned {
     patterns: PatternSet,
     needs: Vec<Need>,
     rounds: u64,
     removed: u64,
 }
 
-impl Model for PrunedPatterns {
+impl Model for Pruned {
     ghost use Rattle.pg_prune.specs.Prunes.{Pruning};
     ghost use Rattle.pg_prune.specs.Inside.Needs.{HasNeeds};
 
@@ -43,7 +43,7 @@ impl Model for PrunedPatterns {
     }) };
 }
 
-impl PrunedPatterns {
+impl Pruned {
     ghost use Rattle.std.specs.Prelude.{◌≡◌};
     ghost use Rattle.pg_prune.specs.Inside.Needs.{HasNeeds};
 
@@ -53,7 +53,7 @@ impl PrunedPatterns {
         needs: Vec<Need>,
         rounds: u64,
         removed: u64,
-    ) -> PrunedPatterns
+    ) -> Pruned
         requires { HasNeeds (record {
           patterns = patterns;
           needs = needs.items;
@@ -67,7 +67,7 @@ impl PrunedPatterns {
           removed = removed;
         } }
     {
-        PrunedPatterns {
+        Pruned {
             patterns,
             needs,
             rounds,

@@ -11,7 +11,7 @@ ghost use Rattle.pg_prune.specs.Inside.Prunings.{IsPruning};
 
 use crate::positions::gather::gather;
 use crate::positions::positions_in_reach;
-use crate::pruned::{Need, PrunedPatterns};
+use crate::pruned::{Need, Pruned};
 use crate::rounds::holders::Holders;
 use crate::rounds::kept_patterns::kept_patterns;
 use crate::rounds::{NoObserver, RoundObserver, all_holders, all_rounds, needs};
@@ -33,7 +33,7 @@ pub fn prune(
     dictionary: &Dictionary,
     table: &Table,
     patterns: &PatternSet,
-) -> Result<PrunedPatterns, AllocError>
+) -> Result<Pruned, AllocError>
     requires known { SignsUpTo (letters_of table.now + 1) patterns.now }
     ensures { let n = letters_of table.now + 1 in IfOk result
         (IsPruning (minima_of table.now) n dictionary.now patterns.now) }
@@ -48,7 +48,7 @@ pub fn prune_watched<W: RoundObserver>(
     table: &Table,
     patterns: &PatternSet,
     watch: &W,
-) -> Result<PrunedPatterns, AllocError>
+) -> Result<Pruned, AllocError>
     requires known { SignsUpTo (letters_of table.now + 1) patterns.now }
     ensures { let n = letters_of table.now + 1 in IfOk result
         (IsPruning (minima_of table.now) n dictionary.now patterns.now) }
@@ -63,7 +63,7 @@ fn find<W: RoundObserver>(
     table: &Table,
     patterns: &PatternSet,
     watch: &W,
-) -> Result<PrunedPatterns, AllocError>
+) -> Result<Pruned, AllocError>
     ensures { IfOk result
         (λ found. found ≡ pruning_of (minima_of table.now) dictionary.now patterns.now) }
 {
@@ -90,7 +90,7 @@ fn settle<W: RoundObserver>(
     positions: &[Need],
     holders: &mut [Holders],
     watch: &W,
-) -> Result<PrunedPatterns, AllocError>
+) -> Result<Pruned, AllocError>
     requires { (m : Minima) × ((words : List Word)
         × ((positions.now ≡ map need_at (positions_of m words))
         × HasAllEntries (positions_of m words) patterns.now (map (λ l. l.items) standing.now)
@@ -107,5 +107,5 @@ fn settle<W: RoundObserver>(
     let needs = needs(alloc, patterns, standing, positions, holders, kept)?;
     let removed = count - kept.len();
     let patterns = kept_patterns(alloc, patterns, kept)?;
-    Ok(PrunedPatterns::new(patterns, needs, finished.count, removed as u64))
+    Ok(Pruned::new(patterns, needs, finished.count, removed as u64))
 }

@@ -6,7 +6,7 @@ ghost use Rattle.pg_prune.specs.Inside.rounds.Picks.{entry_of};
 ghost use Rattle.pg_prune.specs.Reports.{keep_line, last_line, prune_report};
 ghost use Rattle.pg_prune.specs.Inside.EntryTexts.{entry_text};
 
-use crate::pruned::{Need, PrunedPatterns};
+use crate::pruned::{Need, Pruned};
 use pg_patterns::{DottedSigns, PatternSet};
 use pg_translate::Table;
 use pg_types::push_number;
@@ -56,7 +56,7 @@ fn push_line(
 }
 
 /// Appends the last line: how many rounds there were, and how many entries went and stay.
-fn push_last_line(text: &mut Vec<u8>, pruned: &PrunedPatterns) -> Result<(), AllocError>
+fn push_last_line(text: &mut Vec<u8>, pruned: &Pruned) -> Result<(), AllocError>
     ensures { OnOk result (text.new.items ≡ text.old.items ++ last_line pruned.now) }
 {
     push_number(text, b"rounds: ", pruned.rounds())?;
@@ -71,7 +71,7 @@ fn push_last_line(text: &mut Vec<u8>, pruned: &PrunedPatterns) -> Result<(), All
 pub fn prune_text(
     alloc: Global,
     table: &Table,
-    pruned: &PrunedPatterns,
+    pruned: &Pruned,
 ) -> Result<Vec<u8>, AllocError>
     requires { SignsUpTo (letters_of table.now + 1) pruned.now.patterns }
     ensures { IfOk result (λ text. text.items ≡ prune_report table.now pruned.now) }

@@ -62,7 +62,7 @@ impl QuietFiles {
     }
 
     /// Whether it tells its files.
-    pub fn is_telling(&self) -> bool
+    pub fn told(&self) -> bool
         ensures { result ≡ is_telling self.now }
     {
         self.is_told

@@ -15,7 +15,7 @@ ghost use Rattle.pg_steps.specs.declared.answers.Status.TheVariants.{Done};
 ghost use Rattle.pg_types.specs.Lines.{lines};
 
 use crate::prune::inputs::PruneInputs;
-use pg_prune::{PrunedPatterns, RoundObserver, prune_text, prune_watched};
+use pg_prune::{Pruned, RoundObserver, prune_text, prune_watched};
 use pg_steps::{Output, Outputs, push_file};
 use pg_translate::Table;
 use pg_types::push_number;
@@ -66,7 +66,7 @@ fn push_kept<'a>(
     files: &mut Vec<Output<'a>>,
     name: &'a str,
     table: &Table,
-    pruned: &PrunedPatterns,
+    pruned: &Pruned,
 ) -> Result<(), AllocError>
     requires { SignsUpTo (letters_of table.now + 1) pruned.now.patterns }
     ensures file { OnOk result (writing_of files.new.items ≡ writing_of files.old.items
@@ -83,7 +83,7 @@ fn push_needs<'a>(
     files: &mut Vec<Output<'a>>,
     name: &'a str,
     table: &Table,
-    pruned: &PrunedPatterns,
+    pruned: &Pruned,
 ) -> Result<(), AllocError>
     requires { SignsUpTo (letters_of table.now + 1) pruned.now.patterns }
     ensures { OnOk result (writing_of files.new.items
@@ -99,7 +99,7 @@ fn write_pruned<'a>(
     output: &'a str,
     report: &'a str,
     table: &Table,
-    pruned: &PrunedPatterns,
+    pruned: &Pruned,
 ) -> Result<Outputs<'a>, AllocError>
     requires { SignsUpTo (letters_of table.now + 1) pruned.now.patterns }
     ensures files { IfOk result (λ made.
