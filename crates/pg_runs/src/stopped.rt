@@ -83,14 +83,18 @@ fn is_same(one: &ToldDisk, other: &ToldDisk, name: &str) -> bool {
     }
 }
 
-/// Whether each name that is written leads to what it led to before or does after, whole, and each
-/// other name to what it led to before.
+/// Whether each name that is written leads to what it led to before or does after, whole.
 fn is_old_or_new(disk: &ToldDisk, before: &ToldDisk, after: &ToldDisk) -> bool {
     for name in WRITTEN {
         if !is_same(disk, before, name) && !is_same(disk, after, name) {
             return false;
         }
     }
+    true
+}
+
+/// Whether each name that is not written leads to what it led to before, and the link is there.
+fn keeps_others(disk: &ToldDisk, before: &ToldDisk) -> bool {
     for name in OTHERS {
         if !is_same(disk, before, name) {
             return false;
@@ -121,7 +125,21 @@ fn survives(
     } else {
         status == Status::Fault && is_tidy(disk)
     };
-    Ok(is_right && is_old_or_new(disk, before, after))
+    Ok(is_right && is_old_or_new(disk, before, after) && keeps_others(disk, before))
+}
+
+/// Whether this goes well both where this call stops and where it fails.
+fn survives_both(
+    alloc: Global,
+    words: &[String],
+    call: u64,
+    before: &ToldDisk,
+    after: &ToldDisk,
+) -> Result<bool, AllocError> {
+    Ok(
+        survives(alloc, words, call, true, before, after)?
+            && survives(alloc, words, call, false, before, after)?,
+    )
 }
 
 /// Whether this goes well whichever call stops or fails.
@@ -132,10 +150,8 @@ fn survives_all(
     after: &ToldDisk,
 ) -> Result<bool, AllocError> {
     for call in 1..after.calls().saturating_add(1) {
-        for stops in [true, false] {
-            if !survives(alloc, words, call, stops, before, after)? {
-                return Ok(false);
-            }
+        if !survives_both(alloc, words, call, before, after)? {
+            return Ok(false);
         }
     }
     Ok(true)

@@ -21,7 +21,8 @@ use Rattle.pg_steps.specs.declared.answers.Status.{Status}
 use Rattle.pg_steps.specs.declared.answers.Status.TheVariants.{Done, Usage, Refused, Fault, Memory}
 use Rattle.pg_steps.specs.declared.inputs.Stop.{Stop}
 use Rattle.pg_steps.specs.declared.writes.Outputs.{Outputs}
-use Rattle.pg_words.specs.Requests.{FileNames, Request, ToAudit, ToSample}
+use Rattle.pg_words.specs.Requests.{Request, ToAudit, ToSample}
+use Rattle.pg_words.specs.forms.Generate.{FileNames}
 use Rattle.pg_top.proofs.Calls.{IsEnd, finished_call, stopped_command, usage_call, sample_call}
 use Rattle.pg_steps.proofs.CountedCalls.{no_calls}
 use Rattle.pg_top.proofs.CountedEnds.{counted_finish, counted_line, counted_stop}

@@ -18,7 +18,11 @@ use Rattle.pg_steps.specs.Outcomes.{Ends, Unknown}
 use Rattle.pg_steps.specs.RefusedLines.{refused_line}
 use Rattle.pg_steps.specs.Inside.writing.FaultLines.{reading_line}
 use Rattle.pg_steps.specs.Readings.{HeldFiles}
-use Rattle.pg_words.specs.Requests.{FileNames, PackRequest, TotalsRequest, SweepRequest, ToGenerate, ToAudit, ToSample, ToPack, ToTotals, ToSweep, request_of}
+use Rattle.pg_words.specs.Requests.{ToGenerate, ToAudit, ToSample, ToPack, ToTotals, ToSweep, request_of}
+use Rattle.pg_words.specs.forms.Generate.{FileNames}
+use Rattle.pg_words.specs.forms.Pack.{PackRequest}
+use Rattle.pg_words.specs.forms.Sweep.{SweepRequest}
+use Rattle.pg_words.specs.forms.Totals.{TotalsRequest}
 use Rattle.pg_top.specs.sample.SampleRule.{ending, syllable, word, sample_text}
 use Rattle.pg_top.specs.Selection.{selection, selected_patterns, selected_totals, selected_text, selected_list, selected_cells_text, selected_report}
 use Rattle.pg_steps.specs.declared.answers.Status.TheVariants.{Done, Yes, No, Refused}

@@ -1,4 +1,5 @@
 pub mod DigitValues
 pub mod OtherWords
 pub mod SweepParts
+pub mod TakenRequests
 pub mod WordsAt

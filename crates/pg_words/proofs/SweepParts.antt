@@ -1,7 +1,12 @@
 -- What the words behind `sweep` ask for, word by word.
-use Rattle.std.proofs.Common.{◌≡◌, ℕ, ◌<◌, ◌≤◌, nat_lt, nat_le, true, ◌&&◌, List, [], ◌∷◌, length, None, Some, refl, arith}
+use Rattle.std.proofs.Common.{◌≡◌, ℕ, ◌<◌, ◌≤◌, nat_lt, nat_le, true, ◌&&◌, List, [], ◌∷◌, length, None, Some, refl, sym, arith}
 use Rattle.std.proofs.lemmas.Bool.Decides.{nat_tests}
-use Rattle.pg_words.specs.Requests.{ToSweep, where_taken, number_within, sweep_in}
+use Rattle.std.specs.Option.{option_map}
+use Rattle.pg_words.specs.Requests.{ToSweep}
+use Rattle.pg_words.proofs.TakenRequests.{taken_as}
+use Rattle.pg_words.specs.NumbersWithin.{number_within}
+use Rattle.pg_words.specs.TakenNames.{where_taken}
+use Rattle.pg_words.specs.forms.Sweep.{sweep_in}
 use Rattle.pg_types.specs.declared.limits.TheConstants.{FOLDS_MAX, PRICE_MAX, SETS_MAX}
 use Rattle.pg_words.specs.declared.limits.TheConstants.{FOLDS_DIGITS, PRICE_DIGITS}
 
@@ -41,7 +46,8 @@ is_count count some few = grind (arith, nat_tests)
 pub all_within : (dict patterns output translate k bad_word missed_word : List ℕ) (params : List (List ℕ)) (folds bad missed : ℕ) → number_within FOLDS_DIGITS 2 FOLDS_MAX k
     ≡ Some folds → number_within PRICE_DIGITS 1 PRICE_MAX bad_word ≡ Some bad → number_within PRICE_DIGITS 1 PRICE_MAX missed_word ≡ Some missed
     → (nat_lt 0 (length params) && nat_le (length params) SETS_MAX) ≡ true
-    → sweep_in (dict ∷ patterns ∷ output ∷ translate ∷ k ∷ bad_word ∷ missed_word ∷ params) ≡ where_taken (dict ∷ patterns ∷ translate ∷ params) (output ∷ []) (ToSweep (record {
+    → option_map ToSweep (sweep_in (dict ∷ patterns ∷ output ∷ translate ∷ k ∷ bad_word ∷ missed_word ∷ params))
+    ≡ where_taken (dict ∷ patterns ∷ translate ∷ params) (output ∷ []) (ToSweep (record {
       dict = dict;
       patterns = patterns;
       output = output;
@@ -51,4 +57,14 @@ pub all_within : (dict patterns output translate k bad_word missed_word : List �
       missed = missed;
       params = params;
     }))
-all_within dict patterns output translate k bad_word missed_word params folds bad missed one two three count = rw (one, two, three, count) refl
+all_within dict patterns output translate k bad_word missed_word params folds bad missed one two three count =
+    rw (one, two, three, count) (sym (taken_as ToSweep (dict ∷ patterns ∷ translate ∷ params) (output ∷ []) (record {
+      dict = dict;
+      patterns = patterns;
+      output = output;
+      translate = translate;
+      folds = folds;
+      bad = bad;
+      missed = missed;
+      params = params;
+    })))

@@ -1,3 +1,6 @@
+pub mod TakenNames
+pub mod NumbersWithin
+pub mod forms
 pub mod Requests
 pub mod Commands
 pub mod Inside

@@ -1,9 +1,11 @@
 //! The words of `generate` and `audit`.
 ghost use Rattle.std.specs.Prelude.{◌≡◌, ◌≤◌, ◌<◌, ◌+◌, ◌&&◌, ◌++◌, length, drop, IfSome};
 ghost use Rattle.std.specs.List.{list_all};
-ghost use Rattle.std.specs.Option.{option_map, option_and_then, is_none};
+ghost use Rattle.std.specs.Option.{option_map, is_none};
 ghost use Rattle.arrayvec.specs.ArrayVec.{array_vec_len};
-ghost use Rattle.pg_words.specs.Requests.{if_asked, input_names, output_names, with_option as with_option_of, with_options as with_options_of, is_name, names_in, to_generate, to_audit};
+ghost use Rattle.pg_words.specs.Requests.{ToGenerate, ToAudit};
+ghost use Rattle.pg_words.specs.TakenNames.{is_name};
+ghost use Rattle.pg_words.specs.forms.Generate.{if_asked, input_names, output_names, with_option as with_option_of, with_options as with_options_of, names_in, generate_in, audit_in};
 ghost use Rattle.pg_words.specs.Inside.Names.{texts, words_of};
 ghost use Rattle.pg_words.specs.Inside.CommandRequests.{name_now, texts_of, asked_by, KeepsLimits};
 
@@ -136,7 +138,7 @@ fn are_audited(names: &Names<'_>) -> bool
 pub fn generate(words: &[String]) -> Option<Command<'_>>
     ensures within { IfSome result KeepsLimits }
     ensures value { option_map asked_by result
-        ≡ option_and_then to_generate (names_in (words_of words.now)) }
+        ≡ option_map ToGenerate (generate_in (words_of words.now)) }
 {
     let names = names(words)?;
     let outputs = outputs_of(&names);
@@ -151,7 +153,7 @@ pub fn generate(words: &[String]) -> Option<Command<'_>>
 pub fn audit(words: &[String]) -> Option<Command<'_>>
     ensures within { IfSome result KeepsLimits }
     ensures value { option_map asked_by result
-        ≡ option_and_then to_audit (names_in (words_of words.now)) }
+        ≡ option_map ToAudit (audit_in (words_of words.now)) }
 {
     let names = names(words)?;
     if are_audited(&names) {

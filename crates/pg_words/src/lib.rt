@@ -6,7 +6,11 @@ mod generate;
 pub mod limits;
 mod names;
 mod numbers;
+mod pack;
+mod prune;
+mod sample;
 mod sweep;
+mod totals;
 pub mod words;
 
 pub use commands::{Command, Names, SweepWords};

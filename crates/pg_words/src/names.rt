@@ -2,7 +2,7 @@
 ghost use Rattle.std.specs.Prelude.{◌≡◌, ◌&&◌, ◌++◌, IfSome};
 ghost use Rattle.std.specs.List.{list_all};
 ghost use Rattle.std.specs.Option.{option_map};
-ghost use Rattle.pg_words.specs.Requests.{is_name as is_name_word, outputs_differ, where_taken as where_taken_of};
+ghost use Rattle.pg_words.specs.TakenNames.{is_name as is_name_word, outputs_differ, where_taken as where_taken_of};
 ghost use Rattle.pg_words.specs.Inside.Names.{texts, differs_from};
 ghost use Rattle.pg_words.specs.Inside.CommandRequests.{asked_by, KeepsLimits};
 

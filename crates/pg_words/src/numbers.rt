@@ -1,7 +1,7 @@
 //! Numbers in the words of a command.
 ghost use Rattle.std.specs.Prelude.{◌≡◌, ◌≤◌, IfSome};
 ghost use Rattle.pg_types.specs.Inside.reading.Parts.{number_from};
-ghost use Rattle.pg_words.specs.Requests.{number_within as number_within_of};
+ghost use Rattle.pg_words.specs.NumbersWithin.{number_within as number_within_of};
 ghost use Rattle.pg_words.specs.Inside.Numbers.{at_most};
 
 /// The value of decimal digits; none where there is another byte, or the value is greater than

@@ -1,7 +1,9 @@
 //! The words of `sweep`.
 ghost use Rattle.std.specs.Prelude.{◌≡◌, ◌≤◌, [], ◌∷◌, length, IfSome};
 ghost use Rattle.std.specs.Option.{option_map};
-ghost use Rattle.pg_words.specs.Requests.{ToSweep, where_taken as where_taken_of, sweep_in};
+ghost use Rattle.pg_words.specs.Requests.{ToSweep};
+ghost use Rattle.pg_words.specs.TakenNames.{where_taken as where_taken_of};
+ghost use Rattle.pg_words.specs.forms.Sweep.{sweep_in};
 ghost use Rattle.pg_words.specs.Inside.Names.{texts, words_of};
 ghost use Rattle.pg_words.specs.Inside.CommandRequests.{asked_by, sweep_of, sweep_inputs, KeepsSweepLimits, KeepsLimits};
 
@@ -45,7 +47,8 @@ fn sweep_command(words: SweepWords<'_>) -> Option<Command<'_>>
 
 /// What the words behind `sweep` ask for.
 pub fn sweep(words: &[String]) -> Option<Command<'_>>
-    ensures value { option_map asked_by result ≡ sweep_in (words_of words.now) }
+    ensures value { option_map asked_by result
+        ≡ option_map ToSweep (sweep_in (words_of words.now)) }
     ensures within { IfSome result KeepsLimits }
 {
     let [

@@ -1,92 +1,17 @@
 //! The words of a command.
 ghost use Rattle.std.specs.Prelude.{◌≡◌, ◌∷◌, IfSome};
 ghost use Rattle.std.specs.Option.{option_map};
-ghost use Rattle.pg_words.specs.Requests.{sample_in, pack_in, totals_in, prune_in, request_of};
+ghost use Rattle.pg_words.specs.Requests.{request_of};
 ghost use Rattle.pg_words.specs.Inside.Names.{words_of};
 ghost use Rattle.pg_words.specs.Inside.CommandRequests.{asked_by, KeepsLimits};
 
 use crate::commands::Command;
 use crate::generate::{audit, generate};
-use crate::limits::{COUNT_MAX, SAMPLE_DIGITS, SEED_MAX};
-use crate::names::where_taken;
-use crate::numbers::number_within;
+use crate::pack::pack;
+use crate::prune::prune;
+use crate::sample::sample;
 use crate::sweep::sweep;
-
-/// What the words behind `sample` ask for.
-fn sample(words: &[String]) -> Option<Command<'_>>
-    ensures value { option_map asked_by result ≡ sample_in (words_of words.now) }
-    ensures within { IfSome result KeepsLimits }
-{
-    let [seed, count] = words else {
-        return None;
-    };
-    let seed = number_within(seed.as_str(), SAMPLE_DIGITS, 0, SEED_MAX)?;
-    let count = number_within(count.as_str(), SAMPLE_DIGITS, 0, COUNT_MAX)?;
-    Some(Command::Sample(seed, count))
-}
-
-/// What the words behind `pack` ask for.
-fn pack(words: &[String]) -> Option<Command<'_>>
-    ensures value { option_map asked_by result ≡ pack_in (words_of words.now) }
-    ensures within { IfSome result KeepsLimits }
-{
-    let [patterns, translate, table] = words else {
-        return None;
-    };
-    let (patterns, translate, table) = (patterns.as_str(), translate.as_str(), table.as_str());
-    where_taken(
-        &[patterns, translate],
-        &[table],
-        Command::Pack {
-            patterns,
-            translate,
-            table,
-        },
-    )
-}
-
-/// What the words behind `totals` ask for.
-fn totals(words: &[String]) -> Option<Command<'_>>
-    ensures value { option_map asked_by result ≡ totals_in (words_of words.now) }
-    ensures within { IfSome result KeepsLimits }
-{
-    let [dict, translate, table] = words else {
-        return None;
-    };
-    let (dict, translate, table) = (dict.as_str(), translate.as_str(), table.as_str());
-    where_taken(
-        &[dict, translate, table],
-        &[],
-        Command::Totals {
-            dict,
-            translate,
-            table,
-        },
-    )
-}
-
-/// What the words behind `prune` ask for.
-fn prune(words: &[String]) -> Option<Command<'_>>
-    ensures value { option_map asked_by result ≡ prune_in (words_of words.now) }
-    ensures within { IfSome result KeepsLimits }
-{
-    let [dict, patterns, output, translate, report] = words else {
-        return None;
-    };
-    let (dict, patterns, translate) = (dict.as_str(), patterns.as_str(), translate.as_str());
-    let (output, report) = (output.as_str(), report.as_str());
-    where_taken(
-        &[dict, patterns, translate],
-        &[output, report],
-        Command::Prune {
-            dict,
-            patterns,
-            output,
-            translate,
-            report,
-        },
-    )
-}
+use crate::totals::totals;
 
 /// What the words behind the word of a command ask for.
 fn command_of<'a>(word: &str, behind: &'a [String]) -> Option<Command<'a>>

@@ -22,7 +22,7 @@ use Rattle.pg_steps.specs.Outcomes.{Outcome, Unknown, Ends}
 use Rattle.pg_steps.specs.Inside.ends.Refusing.{refuses}
 use Rattle.pg_steps.specs.RefusedLines.{word_of}
 use Rattle.pg_steps.specs.Readings.{HeldFiles, Reading, first_end}
-use Rattle.pg_words.specs.Requests.{FileNames, if_asked}
+use Rattle.pg_words.specs.forms.Generate.{FileNames, if_asked}
 use Rattle.pg_top.specs.Selection.{selected_text, selected_report}
 use Rattle.pg_top.specs.generate.GenerateRule.{inputs_in}
 use Rattle.pg_top.specs.generate.Inside.AcceptedInputs.{inputs_of, HasInputs}

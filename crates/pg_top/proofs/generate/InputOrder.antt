@@ -12,7 +12,7 @@ use Rattle.pg_patterns.specs.Values.{Patterns}
 use Rattle.pg_patterns.specs.Starts.{start}
 use Rattle.pg_steps.specs.Readings.{Reading, input_file, table_named, translate_file, patterns_file, words_file}
 use Rattle.pg_steps.specs.Inside.reading.ReadAs.{read_as}
-use Rattle.pg_words.specs.Requests.{FileNames}
+use Rattle.pg_words.specs.forms.Generate.{FileNames}
 use Rattle.pg_steps.specs.Outcomes.{Ends}
 use Rattle.pg_steps.specs.declared.answers.Status.TheVariants.{Done}
 use Rattle.pg_top.specs.generate.GenerateRule.{generate_rule, inputs_in, selected_files, selected_lines}

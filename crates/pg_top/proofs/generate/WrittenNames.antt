@@ -1,6 +1,6 @@
 -- The names that `generate` writes.
 use Rattle.std.proofs.Common.{◌≡◌, ℕ, List, [], ◌∷◌, ◌++◌, Option, None, Some, refl}
-use Rattle.pg_words.specs.Requests.{FileNames, if_asked, output_names}
+use Rattle.pg_words.specs.forms.Generate.{FileNames, if_asked, output_names}
 use Rattle.pg_top.specs.generate.GenerateRule.{selected_files}
 use Rattle.pg_top.specs.Selection.{selected_text, selected_list, selected_cells_text, selected_report}
 use Rattle.pg_steps.specs.Inside.writing.WritesMade.{written_names}

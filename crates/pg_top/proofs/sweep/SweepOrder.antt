@@ -16,7 +16,7 @@ use Rattle.pg_top.specs.sweep.Inside.Inputs.{outcome_of_sets, rows_of_sets}
 use Rattle.pg_steps.specs.FileCalls.{MakesCalls, read_calls}
 use Rattle.pg_steps.specs.Inside.reading.ReadCalls.{read_call}
 use Rattle.pg_steps.specs.Readings.{Reading, translate_file, patterns_file, words_file}
-use Rattle.pg_words.specs.Requests.{SweepRequest}
+use Rattle.pg_words.specs.forms.Sweep.{SweepRequest}
 use Rattle.pg_steps.specs.Inside.reading.Lists.{lists_under, HasLists}
 use Rattle.pg_steps.specs.Inside.ends.Stops.{StopsAt, StopsReading}
 use Rattle.pg_top.specs.sweep.SweepRule.{swept_rows, sweep_rule, set_files}

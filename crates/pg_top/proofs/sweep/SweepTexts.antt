@@ -13,7 +13,7 @@ use Rattle.pg_steps.specs.Outcomes.{Ends}
 use Rattle.pg_steps.specs.Rules.{outcome_of}
 use Rattle.pg_top.specs.sweep.SweepRule.{SweepPromise, sweep_rule, winner_line, terms_in, swept_rows, outcome_of_sweep}
 use Rattle.pg_steps.specs.Readings.{HeldFiles, first_end, parameters_named}
-use Rattle.pg_words.specs.Requests.{SweepRequest}
+use Rattle.pg_words.specs.forms.Sweep.{SweepRequest}
 use Rattle.pg_top.specs.sweep.Inside.Inputs.{line_of_sweep, rows_of_sets, outcome_of_sets}
 use Rattle.pg_steps.specs.declared.answers.Status.TheVariants.{Done}
 

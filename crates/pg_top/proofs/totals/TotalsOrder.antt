@@ -20,7 +20,7 @@ use Rattle.pg_steps.specs.Inside.reading.ReadAs.{read_as}
 use Rattle.pg_steps.specs.Inside.reading.UnderTable.{file_under}
 use Rattle.pg_top.specs.totals.TotalsRule.{totals_rule, packed_table}
 use Rattle.pg_top.specs.totals.Inside.Inputs.{IsTotalled, totals_lines}
-use Rattle.pg_words.specs.Requests.{TotalsRequest}
+use Rattle.pg_words.specs.forms.Totals.{TotalsRequest}
 use Rattle.pg_steps.specs.Inside.ends.Stops.{StopsAt, StopsReading}
 use Rattle.pg_steps.specs.declared.answers.Status.TheVariants.{Done}
 use Rattle.pg_steps.specs.declared.inputs.Input.TheVariants as input

@@ -8,7 +8,7 @@ use Rattle.pg_steps.specs.RefusedLines.{word_of}
 use Rattle.pg_steps.specs.Readings.{HeldFiles, Reading}
 use Rattle.pg_steps.specs.Rules.{CommandRule, usual_rule}
 use Rattle.pg_top.specs.generate.GenerateRule.{inputs_in, generate_rule}
-use Rattle.pg_words.specs.Requests.{FileNames, if_asked}
+use Rattle.pg_words.specs.forms.Generate.{FileNames, if_asked}
 use Rattle.pg_top.specs.Selection.{selected_text, selected_list, selected_report}
 use Rattle.pg_steps.specs.declared.answers.Status.TheVariants.{Yes, No, Refused, Memory}
 use Rattle.pg_steps.specs.declared.inputs.Given.{Given}

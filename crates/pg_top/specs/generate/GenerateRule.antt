@@ -9,7 +9,7 @@ use Rattle.pg_steps.specs.Outcomes.{Ends, Writing}
 use Rattle.pg_steps.specs.Rules.{CommandRule, usual_rule}
 use Rattle.pg_top.specs.PrintedLines.{done_line}
 use Rattle.pg_steps.specs.Readings.{HeldFiles, input_file, table_named, parameters_named, patterns_under, words_under, translate_file, patterns_file, words_file}
-use Rattle.pg_words.specs.Requests.{FileNames, if_asked, output_names}
+use Rattle.pg_words.specs.forms.Generate.{FileNames, if_asked, output_names}
 use Rattle.pg_top.specs.Selection.{selection, selected_patterns, selected_totals, selected_text, selected_list, selected_cells_text, selected_report}
 use Rattle.pg_steps.specs.declared.answers.Status.TheVariants.{Done}
 use Rattle.pg_steps.specs.declared.inputs.Input.TheVariants as input

@@ -17,7 +17,7 @@ use Rattle.pg_steps.specs.RefusedLines.{refused_line}
 use Rattle.pg_steps.specs.Readings.{HeldFiles, table_named, patterns_under, translate_file, patterns_file}
 use Rattle.pg_steps.specs.Rules.{CommandRule, usual_rule}
 use Rattle.pg_top.specs.totals.TotalsRule.{packed_table}
-use Rattle.pg_words.specs.Requests.{PackRequest}
+use Rattle.pg_words.specs.forms.Pack.{PackRequest}
 use Rattle.pg_steps.specs.declared.answers.Status.TheVariants.{Done, Refused}
 use Rattle.pg_steps.specs.declared.inputs.Input.TheVariants as input
 

@@ -13,7 +13,7 @@ use Rattle.pg_steps.specs.Outcomes.{Outcome, Ends}
 use Rattle.pg_select.specs.CountedPositions.{minima_of}
 use Rattle.pg_steps.specs.Readings.{table_named, patterns_under, words_under, translate_file, patterns_file, words_file}
 use Rattle.pg_steps.specs.Rules.{CommandRule, usual_rule}
-use Rattle.pg_words.specs.Requests.{PruneRequest}
+use Rattle.pg_words.specs.forms.Prune.{PruneRequest}
 use Rattle.pg_steps.specs.declared.answers.Status.TheVariants.{Done}
 
 -- where `prune` is done: how many rounds were made, and how many entries were taken out and stay

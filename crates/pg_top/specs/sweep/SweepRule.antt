@@ -8,7 +8,7 @@ use Rattle.pg_sweep.specs.declared.rows.SweepRow.{SweepRow}
 use Rattle.pg_steps.specs.Outcomes.{Outcome, Ends}
 use Rattle.pg_steps.specs.Readings.{HeldFiles, Reading, input_file, table_named, parameters_named, words_under, patterns_under, translate_file, patterns_file, words_file}
 use Rattle.pg_steps.specs.Rules.{CommandRule, usual_rule}
-use Rattle.pg_words.specs.Requests.{SweepRequest}
+use Rattle.pg_words.specs.forms.Sweep.{SweepRequest}
 use Rattle.pg_steps.specs.declared.answers.Status.TheVariants.{Done}
 use Rattle.pg_steps.specs.declared.inputs.Input.TheVariants as input
 

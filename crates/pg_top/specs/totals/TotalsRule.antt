@@ -11,7 +11,7 @@ use Rattle.pg_texts.specs.ReportTexts.{ending_text}
 use Rattle.pg_steps.specs.Outcomes.{Ends}
 use Rattle.pg_steps.specs.Readings.{translate_file, words_file, input_file, table_named, words_under, meaning}
 use Rattle.pg_steps.specs.Rules.{CommandRule, usual_rule}
-use Rattle.pg_words.specs.Requests.{TotalsRequest}
+use Rattle.pg_words.specs.forms.Totals.{TotalsRequest}
 use Rattle.pg_steps.specs.declared.answers.Status.TheVariants.{Done}
 use Rattle.pg_steps.specs.declared.inputs.Input.TheVariants as input
 use Rattle.pg_table.specs.Forms.{head_of, is_well_formed}

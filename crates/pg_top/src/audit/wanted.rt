@@ -2,7 +2,7 @@
 ghost use Rattle.std.specs.Prelude.{◌≡◌, ◌++◌, ◌+◌, [], ◌∷◌, IfOk, OnOk};
 ghost use Rattle.pg_top.specs.audit.AuditRule.{given_file, given_files};
 ghost use Rattle.pg_words.specs.Inside.CommandRequests.{name_now, texts_of};
-ghost use Rattle.pg_words.specs.Requests.{if_asked};
+ghost use Rattle.pg_words.specs.forms.Generate.{if_asked};
 ghost use Rattle.pg_top.specs.Inside.selection.SelectionSigns.{HasSigns};
 ghost use Rattle.pg_top.specs.Inside.selection.SelectedRuns.{IsNew, TellsSelection, HasSelected};
 ghost use Rattle.pg_top.specs.audit.Inside.Verdicts.{reading_of, wanted_files};

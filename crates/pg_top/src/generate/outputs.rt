@@ -6,7 +6,7 @@ ghost use Rattle.pg_words.specs.Inside.CommandRequests.{name_now, texts_of};
 ghost use Rattle.pg_top.specs.generate.GenerateRule.{selected_files, selected_lines};
 ghost use Rattle.pg_top.specs.Inside.selection.SelectionAccounts.{work_line, selected_cells, passes_begun, last_layout as last_layout_of};
 ghost use Rattle.pg_top.specs.Inside.selection.SelectedRuns.{IsNew, TellsSelection, HasSelected};
-ghost use Rattle.pg_words.specs.Requests.{if_asked};
+ghost use Rattle.pg_words.specs.forms.Generate.{if_asked};
 ghost use Rattle.pg_top.specs.Selection.{selected_list, selected_cells_text, selected_text};
 ghost use Rattle.pg_top.specs.Inside.selection.SelectionSigns.{HasSigns, signs_of};
 ghost use Rattle.pg_steps.specs.Inside.writing.WritesMade.{writing_of};

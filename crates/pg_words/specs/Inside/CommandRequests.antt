@@ -2,7 +2,9 @@
 use Rattle.std.specs.Prelude.{ℕ, ◌≤◌, List, ◌∷◌, length, Option}
 use Rattle.std.specs.Option.{option_map}
 use denote.Ref.{Bor}
-use Rattle.pg_words.specs.Requests.{FileNames, SweepRequest, Request, ToGenerate, ToAudit, ToSample, ToPack, ToTotals, ToPrune, ToSweep}
+use Rattle.pg_words.specs.forms.Generate.{FileNames}
+use Rattle.pg_words.specs.forms.Sweep.{SweepRequest}
+use Rattle.pg_words.specs.Requests.{Request, ToGenerate, ToAudit, ToSample, ToPack, ToTotals, ToPrune, ToSweep}
 use Rattle.pg_words.specs.declared.commands.Names.{Names}
 use Rattle.pg_words.specs.declared.commands.SweepWords.{SweepWords}
 use Rattle.pg_words.specs.declared.commands.Command.{Command}

@@ -4,7 +4,7 @@ use Rattle.pg_outside.specs.Content.{FilesShown, file_at}
 use Rattle.pg_top.specs.audit.AuditRule.{audit_rule, given_files}
 use Rattle.pg_words.specs.Inside.CommandRequests.{texts_of}
 use Rattle.pg_steps.specs.Readings.{first_end}
-use Rattle.pg_words.specs.Requests.{FileNames}
+use Rattle.pg_words.specs.forms.Generate.{FileNames}
 use Rattle.pg_top.specs.generate.GenerateRule.{inputs_in}
 use Rattle.pg_top.specs.generate.Inside.AcceptedInputs.{inputs_of, HasInputs}
 use Rattle.pg_top.specs.audit.Inside.Verdicts.{wanted_files, end_of, outcome_by}

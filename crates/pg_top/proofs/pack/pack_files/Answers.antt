@@ -3,7 +3,7 @@ use Rattle.pg_outside.specs.Content.{file_at}
 use Rattle.pg_steps.specs.Outcomes.{Ends}
 use Rattle.pg_steps.specs.Inside.ends.Built.{KeepsPromise}
 use Rattle.pg_top.specs.pack.Inside.Inputs.{HasSource}
-use Rattle.pg_words.specs.Requests.{PackRequest}
+use Rattle.pg_words.specs.forms.Pack.{PackRequest}
 use Rattle.pg_steps.specs.Inside.writing.WritesMade.{writing_of}
 use Rattle.pg_steps.specs.declared.answers.Status.TheVariants.{Done}
 use Rattle.pg_top.proofs.Calls.{stops_reading}

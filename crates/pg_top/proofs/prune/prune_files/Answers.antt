@@ -3,7 +3,7 @@ use Rattle.pg_outside.specs.Content.{file_at}
 use Rattle.pg_steps.specs.Outcomes.{Ends}
 use Rattle.pg_steps.specs.Inside.ends.Built.{KeepsPromise}
 use Rattle.pg_top.specs.prune.Inside.Inputs.{HasPrune}
-use Rattle.pg_words.specs.Requests.{PruneRequest}
+use Rattle.pg_words.specs.forms.Prune.{PruneRequest}
 use Rattle.pg_steps.specs.Inside.writing.WritesMade.{writing_of}
 use Rattle.pg_steps.specs.declared.answers.Status.TheVariants.{Done}
 use Rattle.pg_steps.specs.declared.inputs.Stop.TheVariants.{Memory}

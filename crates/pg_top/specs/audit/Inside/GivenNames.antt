@@ -1,6 +1,6 @@
 -- The given files with their names.
 use Rattle.std.specs.Prelude.{ℕ, List, [], ◌∷◌, ◌++◌}
-use Rattle.pg_words.specs.Requests.{FileNames, if_asked}
+use Rattle.pg_words.specs.forms.Generate.{FileNames, if_asked}
 use Rattle.pg_steps.specs.declared.inputs.Given.{Given}
 use Rattle.pg_steps.specs.declared.inputs.Given.TheVariants as given
 

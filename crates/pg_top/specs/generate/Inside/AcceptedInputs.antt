@@ -7,7 +7,7 @@ use Rattle.pg_patterns.specs.Starts.{start}
 use Rattle.pg_steps.specs.Readings.{HeldFiles, Reading}
 use Rattle.pg_top.specs.generate.GenerateRule.{generate_rule}
 use Rattle.pg_steps.specs.Inside.reading.ReadAs.{read_as}
-use Rattle.pg_words.specs.Requests.{FileNames}
+use Rattle.pg_words.specs.forms.Generate.{FileNames}
 use Rattle.pg_top.specs.declared.selection.Inputs.{Inputs}
 
 -- the files that are held are accepted as these inputs

@@ -8,7 +8,7 @@ use Rattle.pg_patterns.specs.Starts.{start}
 use Rattle.pg_sweep.specs.Sweeps.{Terms}
 use Rattle.pg_steps.specs.Readings.{HeldFiles}
 use Rattle.pg_steps.specs.Inside.reading.ReadAs.{read_as}
-use Rattle.pg_words.specs.Requests.{SweepRequest}
+use Rattle.pg_words.specs.forms.Sweep.{SweepRequest}
 
 -- a file that is accepted as this set of parameters, as it is read
 abbrev pub accepted_set : Parameters → Option (Result Parameters Refusal)

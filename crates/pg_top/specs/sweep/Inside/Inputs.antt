@@ -7,7 +7,7 @@ use Rattle.pg_patterns.specs.Inside.PatternMaps.{SignsUpTo}
 use Rattle.pg_sweep.specs.Sweeps.{Terms, row_of, costs_of}
 use Rattle.pg_sweep.specs.Inside.RowsAndWinner.{RowsAndWinner}
 use Rattle.pg_sweep.specs.declared.rows.SweepRow.{SweepRow}
-use Rattle.pg_words.specs.Requests.{SweepRequest}
+use Rattle.pg_words.specs.forms.Sweep.{SweepRequest}
 use Rattle.pg_steps.specs.Outcomes.{Outcome}
 use Rattle.pg_top.specs.sweep.SweepRule.{winner_line, outcome_of_sweep}
 use Rattle.pg_top.specs.declared.sweep.inputs.SweepInputs.{SweepInputs}

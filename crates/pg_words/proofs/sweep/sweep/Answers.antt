@@ -4,7 +4,8 @@ use Rattle.std.specs.Prelude.{string_bytes}
 use Rattle.std.proofs.lemmas.List.{length-map, take_all}
 use Rattle.pg_words.specs.Inside.CommandRequests.{asked_by}
 use Rattle.pg_words.specs.Inside.Names.{words_of}
-use Rattle.pg_words.specs.Requests.{sweep_in}
+use Rattle.pg_words.specs.Requests.{ToSweep}
+use Rattle.pg_words.specs.forms.Sweep.{sweep_in}
 use Rattle.pg_types.specs.declared.limits.TheConstants.{SETS_MAX}
 use Rattle.pg_words.proofs.SweepParts.{too_few, no_folds, no_bad, no_missed, is_count, all_within}
 use Rattle.pg_words.proofs.WordsAt.{seven_words}
@@ -14,7 +15,7 @@ pub returns-in_default : goal.returns-in_default
 returns-in_default c =
     let words = c.args.words.now in
     record {
-      value = too_few (words_of words) (omega (arith, length-map words string_bytes, c.in_default.len_below));
+      value = ap (option_map ToSweep) (too_few (words_of words) (omega (arith, length-map words string_bytes, c.in_default.len_below)));
       within = tt;
     }
 
@@ -30,7 +31,7 @@ returns-in_err-folds c =
     let none = no_folds (string_bytes c.dict-item.result) (string_bytes c.patterns-item.result) (string_bytes c.output-item.result)
     (string_bytes c.translate-item.result) c.as_str.result.now (string_bytes c.bad-item.result) (string_bytes c.missed-item.result) (words_of params) (sym c.in_err-folds.ensures.value) in
     record {
-      value = ap (option_map asked_by) c.from_residual.ensures ∙ sym none ∙ ap sweep_in (sym parts);
+      value = ap (option_map asked_by) c.from_residual.ensures ∙ ap (option_map ToSweep) (sym none ∙ ap sweep_in (sym parts));
       within = rw c.from_residual.ensures tt;
     }
 
@@ -47,7 +48,7 @@ returns-in_err-bad c =
     (string_bytes c.translate-item.result) c.as_str.result.now c.as_str-2.result.now (string_bytes c.missed-item.result) (words_of params) c.in_ok-folds.folds
     (sym c.in_ok-folds.ensures.value) (sym c.in_err-bad.ensures.value) in
     record {
-      value = ap (option_map asked_by) c.from_residual-in_err-bad.ensures ∙ sym none ∙ ap sweep_in (sym parts);
+      value = ap (option_map asked_by) c.from_residual-in_err-bad.ensures ∙ ap (option_map ToSweep) (sym none ∙ ap sweep_in (sym parts));
       within = rw c.from_residual-in_err-bad.ensures tt;
     }
 
@@ -64,7 +65,7 @@ returns-in_err-missed c =
     (string_bytes c.translate-item.result) c.as_str.result.now c.as_str-2.result.now c.as_str-3.result.now (words_of params) c.in_ok-folds.folds c.in_ok-bad.bad
     (sym c.in_ok-folds.ensures.value) (sym c.in_ok-bad.ensures.value) (sym c.in_err-missed.ensures.value) in
     record {
-      value = ap (option_map asked_by) c.from_residual-in_err-missed.ensures ∙ sym none ∙ ap sweep_in (sym parts);
+      value = ap (option_map asked_by) c.from_residual-in_err-missed.ensures ∙ ap (option_map ToSweep) (sym none ∙ ap sweep_in (sym parts));
       within = rw c.from_residual-in_err-missed.ensures tt;
     }
 
@@ -93,6 +94,6 @@ returns c =
     c.as_str-2.result.now c.as_str-3.result.now texts c.in_ok-folds.folds c.in_ok-bad.bad c.in_ok-missed.missed (sym c.in_ok-folds.ensures.value)
     (sym c.in_ok-bad.ensures.value) (sym c.in_ok-missed.ensures.value) count in
     record {
-      value = c.sweep_command.ensures.value ∙ sym asked ∙ ap sweep_in (sym parts);
+      value = c.sweep_command.ensures.value ∙ sym asked ∙ ap (λ w. option_map ToSweep (sweep_in w)) (sym parts);
       within = c.sweep_command.ensures.within;
     }

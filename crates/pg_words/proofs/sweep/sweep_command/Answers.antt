@@ -1,7 +1,8 @@
 use Rattle.std.proofs.Common.{[], ◌∷◌, ◌∙◌, ap}
 use Rattle.pg_words.specs.Inside.CommandRequests.{sweep_of}
 use Rattle.pg_words.specs.Inside.Names.{texts}
-use Rattle.pg_words.specs.Requests.{ToSweep, where_taken}
+use Rattle.pg_words.specs.Requests.{ToSweep}
+use Rattle.pg_words.specs.TakenNames.{where_taken}
 use Rattle.pg_words.proofs.sweep.sweep_command.Goals as goal
 
 pub returns : goal.returns

@@ -3,7 +3,7 @@ use Rattle.std.proofs.lemmas.Result.{on_ok_weaker}
 use Rattle.pg_top.specs.audit.AuditRule.{given_file}
 use Rattle.pg_words.specs.Inside.CommandRequests.{name_now}
 use Rattle.pg_steps.specs.Readings.{Reading}
-use Rattle.pg_words.specs.Requests.{if_asked}
+use Rattle.pg_words.specs.forms.Generate.{if_asked}
 use Rattle.pg_top.specs.Selection.{selected_text}
 use Rattle.pg_top.specs.audit.Inside.Verdicts.{reading_of, wanted_files}
 use Rattle.pg_top.specs.declared.audit.wanted.WantedFile.{WantedFile}

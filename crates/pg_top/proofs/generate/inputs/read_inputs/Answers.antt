@@ -3,7 +3,7 @@ use Rattle.std.proofs.lemmas.Result.{IfOk-from_err}
 use Rattle.pg_outside.specs.Content.{FilesShown}
 use Rattle.pg_outside.specs.FilesCalls.{Reads}
 use Rattle.pg_words.specs.Inside.CommandRequests.{texts_of}
-use Rattle.pg_words.specs.Requests.{FileNames}
+use Rattle.pg_words.specs.forms.Generate.{FileNames}
 use Rattle.pg_steps.proofs.Faults.{none_fell}
 use Rattle.pg_steps.proofs.CountedCalls.{calls_on}
 use Rattle.pg_top.proofs.generate.InputOrder.{two_read, all_read, stopped_1, stopped_2, stopped_lists}

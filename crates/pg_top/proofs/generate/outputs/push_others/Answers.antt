@@ -2,7 +2,7 @@ use Rattle.std.proofs.Common.{◌∙◌, ◌++◌, ◌∷◌, [], List, ℕ, ap}
 use Rattle.std.proofs.lemmas.Result.{on_ok_weaker}
 use Rattle.pg_words.specs.Inside.CommandRequests.{name_now}
 use Rattle.pg_steps.specs.Outcomes.{Writing}
-use Rattle.pg_words.specs.Requests.{if_asked}
+use Rattle.pg_words.specs.forms.Generate.{if_asked}
 use Rattle.pg_top.specs.Selection.{selected_list, selected_cells_text, selected_text}
 use Rattle.pg_top.proofs.generate.outputs.push_others.Goals as goal
 

@@ -2,7 +2,7 @@ use Rattle.std.proofs.Common.{[], ◌∷◌}
 use Rattle.std.proofs.lemmas.Result.{IfOk-from_err}
 use Rattle.pg_outside.specs.Content.{FilesShown}
 use Rattle.pg_outside.specs.FilesCalls.{Reads}
-use Rattle.pg_words.specs.Requests.{PruneRequest}
+use Rattle.pg_words.specs.forms.Prune.{PruneRequest}
 use Rattle.pg_steps.proofs.CountedCalls.{calls_on}
 use Rattle.pg_top.proofs.prune.PruneOrder.{all_read, stopped_table, stopped_lists}
 use Rattle.pg_steps.proofs.Orders.{only_on}

@@ -1,17 +1,20 @@
-use Rattle.std.proofs.Common.{◌≡◌, ◌∙◌, length, sym, ap, rules}
+use Rattle.std.proofs.Common.{[], ◌∷◌, ◌≡◌, ◌∙◌, length, sym, ap, rules}
 use Rattle.std.proofs.lemmas.List.{length-map}
 use Rattle.std.specs.Prelude.{string_bytes}
 use Rattle.pg_words.specs.Inside.Names.{words_of}
-use Rattle.pg_words.specs.Requests.{pack_in}
+use Rattle.std.specs.Option.{option_map}
+use Rattle.pg_words.specs.Requests.{ToPack}
+use Rattle.pg_words.specs.forms.Pack.{pack_in}
+use Rattle.pg_words.proofs.TakenRequests.{taken_as}
 use Rattle.pg_words.proofs.OtherWords.{not_for_pack}
 use Rattle.pg_words.proofs.WordsAt.{three_words}
-use Rattle.pg_words.proofs.words.pack.Goals as goal
+use Rattle.pg_words.proofs.pack.pack.Goals as goal
 
 pub returns-in_default : goal.returns-in_default
 returns-in_default c =
     let count = length-map c.args.words.now string_bytes in
     record {
-      value = not_for_pack (words_of c.args.words.now) (λ (is : length (words_of c.args.words.now) ≡ 3). search rules);
+      value = ap (option_map ToPack) (not_for_pack (words_of c.args.words.now) (λ (is : length (words_of c.args.words.now) ≡ 3). search rules));
       within = tt;
     }
 
@@ -23,6 +26,6 @@ returns c =
     let parts = three_words c.args.words.now p t e c.in-len3.len_at_least c.in-len3.len_below (c.patterns-item.result, c.patterns-item.is, c.as_str-patterns.ensures.value)
     (c.translate-item.result, c.translate-item.is, c.as_str-translate.ensures.value) (c.table-item.result, c.table-item.is, c.as_str-table.ensures.value) in
     record {
-      value = c.where_taken.ensures.value ∙ ap pack_in (sym parts);
+      value = c.where_taken.ensures.value ∙ taken_as ToPack (p ∷ t ∷ []) (e ∷ []) (record { patterns = p; translate = t; table = e }) ∙ ap (λ words. option_map ToPack (pack_in words)) (sym parts);
       within = c.where_taken.ensures.within;
     }

@@ -1,17 +1,20 @@
-use Rattle.std.proofs.Common.{◌≡◌, ◌∙◌, length, sym, ap, rules}
+use Rattle.std.proofs.Common.{[], ◌∷◌, ◌≡◌, ◌∙◌, length, sym, ap, rules}
 use Rattle.std.proofs.lemmas.List.{length-map}
 use Rattle.std.specs.Prelude.{string_bytes}
 use Rattle.pg_words.specs.Inside.Names.{words_of}
-use Rattle.pg_words.specs.Requests.{totals_in}
+use Rattle.std.specs.Option.{option_map}
+use Rattle.pg_words.specs.Requests.{ToTotals}
+use Rattle.pg_words.specs.forms.Totals.{totals_in}
+use Rattle.pg_words.proofs.TakenRequests.{taken_as}
 use Rattle.pg_words.proofs.OtherWords.{not_for_totals}
 use Rattle.pg_words.proofs.WordsAt.{three_words}
-use Rattle.pg_words.proofs.words.totals.Goals as goal
+use Rattle.pg_words.proofs.totals.totals.Goals as goal
 
 pub returns-in_default : goal.returns-in_default
 returns-in_default c =
     let count = length-map c.args.words.now string_bytes in
     record {
-      value = not_for_totals (words_of c.args.words.now) (λ (is : length (words_of c.args.words.now) ≡ 3). search rules);
+      value = ap (option_map ToTotals) (not_for_totals (words_of c.args.words.now) (λ (is : length (words_of c.args.words.now) ≡ 3). search rules));
       within = tt;
     }
 
@@ -23,6 +26,6 @@ returns c =
     let parts = three_words c.args.words.now d t e c.in-len3.len_at_least c.in-len3.len_below (c.dict-item.result, c.dict-item.is, c.as_str-dict.ensures.value)
     (c.translate-item.result, c.translate-item.is, c.as_str-translate.ensures.value) (c.table-item.result, c.table-item.is, c.as_str-table.ensures.value) in
     record {
-      value = c.where_taken.ensures.value ∙ ap totals_in (sym parts);
+      value = c.where_taken.ensures.value ∙ taken_as ToTotals (d ∷ t ∷ e ∷ []) [] (record { dict = d; translate = t; table = e }) ∙ ap (λ words. option_map ToTotals (totals_in words)) (sym parts);
       within = c.where_taken.ensures.within;
     }

@@ -1,0 +1,31 @@
+//! The words of `pack`.
+ghost use Rattle.std.specs.Prelude.{◌≡◌, IfSome};
+ghost use Rattle.std.specs.Option.{option_map};
+ghost use Rattle.pg_words.specs.Requests.{ToPack};
+ghost use Rattle.pg_words.specs.forms.Pack.{pack_in};
+ghost use Rattle.pg_words.specs.Inside.Names.{words_of};
+ghost use Rattle.pg_words.specs.Inside.CommandRequests.{asked_by, KeepsLimits};
+
+use crate::commands::Command;
+use crate::names::where_taken;
+
+/// What the words behind `pack` ask for.
+pub fn pack(words: &[String]) -> Option<Command<'_>>
+    ensures value { option_map asked_by result
+        ≡ option_map ToPack (pack_in (words_of words.now)) }
+    ensures within { IfSome result KeepsLimits }
+{
+    let [patterns, translate, table] = words else {
+        return None;
+    };
+    let (patterns, translate, table) = (patterns.as_str(), translate.as_str(), table.as_str());
+    where_taken(
+        &[patterns, translate],
+        &[table],
+        Command::Pack {
+            patterns,
+            translate,
+            table,
+        },
+    )
+}
