@@ -32,8 +32,8 @@ const CELLS_PER_TALLY: usize = 4;
 /// that are not counted. Each family lies near the top, since no report tells the layout.
 ///
 /// The entry of the tally with the number i is `first` + i. An entry below `first` is of an earlier
-/// pass, and says that the string is not counted. So a pass that keeps the cells begins without a walk
-/// over them.
+/// pass, and says that the string is not counted. So a pass that keeps the cells begins without a
+/// walk over them.
 #[derive(Drop)]
 pub struct CountedCells {
     cells: NearCells<u32>,

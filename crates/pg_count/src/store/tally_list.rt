@@ -6,7 +6,8 @@ ghost use Rattle.pg_count.specs.Inside.cells.CellNumbers.{tally_by_number};
 use pg_types::NUMBERS_END;
 use std::alloc::AllocError;
 
-/// This entry of a cell says that the string was never counted: the entries of tallies are 1 or more.
+/// This entry of a cell says that the string was never counted: the entries of tallies are 1 or
+/// more.
 pub const NO_TALLY: u32 = 0;
 
 /// The entries of an earlier pass stay only where those of the next pass begin here or before, so
