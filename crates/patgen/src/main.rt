@@ -4,7 +4,7 @@
 use pg_main::run_words;
 use std::process::ExitCode;
 
-/// Runs the command that its words name. `run_words` says what the status means.
+/// Runs the command that its arguments name. `run_words` says what the status means.
 fn main(rt: HostRuntime) -> ExitCode {
     run_words(&rt, rt.stdout(), rt.stderr())
 }

@@ -1,11 +1,11 @@
-//! The program `patgen` once more, for a run with eleven words. The last word names a file that is
-//! refused. The line and the status of the run are looked at.
+//! The program `patgen` once more, for a run with eleven arguments. The last one names a file that
+//! is refused. The line and the status of the run are looked at.
 #![tactic(auto)]
 
 use pg_main::run_words;
 use std::process::ExitCode;
 
-/// Runs the command that its words name, as `patgen` does.
+/// Runs the command that its arguments name, as `patgen` does.
 fn main(rt: HostRuntime) -> ExitCode {
     run_words(&rt, rt.stdout(), rt.stderr())
 }

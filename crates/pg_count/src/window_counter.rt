@@ -22,8 +22,8 @@ pub trait WindowCounter {
         ensures numbered { AreNumbered (counting self.now).counted.windows
             (counting self.now).counted.counts };
 
-    /// Adds `weight` to the good or the bad sum of a window, and gives the window's number. A window
-    /// that is counted already takes no memory.
+    /// Adds `weight` to the good or the bad sum of a window, and gives the window's number. A
+    /// window that is counted already takes no memory.
     fn add_numbered(
         &mut self,
         window: &[Sign],

@@ -48,12 +48,12 @@ fn run_levels<E: Engine>(
     ensures signs { (E.meaning engine.new).signs ≡ (E.meaning engine.old).signs }
 {
     let greatest = engine.copy_patterns(alloc)?.largest();
-    let start = params.start();
+    let first = params.start();
     let count = params.count();
     let mut windows = PassWindows::new(alloc);
     let mut last = None;
     'levels: for i in 0..count {
-        let number = start + i as u8;
+        let number = first + i as u8;
         let after = run_level(
             alloc,
             engine,

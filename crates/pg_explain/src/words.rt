@@ -1,4 +1,4 @@
-//! Status 2: the words are no command.
+//! Status 2: the arguments are no command.
 
 mod forms;
 mod mistake;
@@ -16,7 +16,7 @@ use pg_visible::Part::{Count, Name, Say};
 use pg_visible::Text;
 use std::alloc::AllocError;
 
-/// What is wrong with the word with this index behind a command.
+/// What is wrong with the argument with this index behind a command.
 fn word_mistake<'a>(
     command: &Command,
     words: &'a [String],
@@ -30,7 +30,7 @@ fn word_mistake<'a>(
     }
 }
 
-/// How the word is called that is missing behind so many; none where none is missing.
+/// How the argument is called that is missing behind so many; none where none is missing.
 fn missing_name(command: &Command, count: usize) -> Option<&'static str> {
     match command.slots.get(count) {
         Some(slot) => Some(slot.name()),
@@ -41,7 +41,7 @@ fn missing_name(command: &Command, count: usize) -> Option<&'static str> {
     }
 }
 
-/// The first thing that is wrong with the words that follow a command.
+/// The first thing that is wrong with the arguments that follow a command.
 fn mistake_of<'a>(command: &Command, words: &'a [String]) -> Option<Mistake<'a>> {
     for (index, word) in words.iter().enumerate() {
         let mistake = word_mistake(command, words, index, word.as_str());
@@ -60,7 +60,7 @@ fn push_form(text: &mut Text, command: &Command) -> Result<(), AllocError> {
     text.line("    patgen $0", &[Say(command.form)])
 }
 
-/// Appends that a word is no command, and the forms of all commands.
+/// Appends that an argument is no command, and the forms of all commands.
 fn push_no_command(text: &mut Text, sentence: &'static str, word: &str) -> Result<(), AllocError> {
     text.line(sentence, &[Name(word)])?;
     for command in COMMANDS {
@@ -69,7 +69,7 @@ fn push_no_command(text: &mut Text, sentence: &'static str, word: &str) -> Resul
     Ok(())
 }
 
-/// Appends what is wrong with the words of a command.
+/// Appends what is wrong with the arguments of a command.
 fn push_mistake(
     text: &mut Text,
     command: &Command,
@@ -88,7 +88,7 @@ fn push_mistake(
     )
 }
 
-/// Appends which of the words that follow a command is wrong, and what is due there.
+/// Appends which of the arguments that follow a command is wrong, and what is due there.
 fn push_command(text: &mut Text, command: &Command, words: &[String]) -> Result<(), AllocError> {
     if let Some(mistake) = mistake_of(command, words) {
         push_mistake(text, command, &mistake)?;
@@ -96,7 +96,7 @@ fn push_command(text: &mut Text, command: &Command, words: &[String]) -> Result<
     push_form(text, command)
 }
 
-/// Appends which word is wrong, and what is due there.
+/// Appends which argument is wrong, and what is due there.
 pub(crate) fn push_words(text: &mut Text, words: &[String]) -> Result<(), AllocError> {
     let Some((first, rest)) = words.split_first() else {
         return push_no_command(text, "a command is missing; the commands are", "");

@@ -6,7 +6,7 @@ use pg_types::Refusal;
 /// What went wrong, or what is said of a call that went well.
 #[derive(Clone, Copy)]
 pub enum Wrong<'a> {
-    /// The words behind the program's name are no command.
+    /// The arguments behind the program's name are no command.
     Words(&'a [String]),
     /// A file is refused.
     Refused(Refused<'a>),

@@ -1,4 +1,4 @@
--- The words that a program is given.
+-- The arguments that a program is given.
 use Rattle.std.specs.Prelude.{◌≡◌, ℕ, List, drop, String}
 use Rattle.std.specs.IoError.{error_kind}
 use Rattle.std.specs.Vec.Iter.{into_iter_items}
@@ -9,7 +9,7 @@ use Rattle.std.specs.declared.vec.IntoIter.{IntoIter}
 use Rattle.pg_main.specs.declared.NoWords.{NoWords}
 use Rattle.pg_main.specs.declared.NoWords.TheVariants.{Memory, Unreadable}
 
--- the status where there are no words: 5 where memory was short, 6 where the system gave none
+-- the status where there are no arguments: 5 where memory was short, 6 where the system gave none
 abbrev pub code_of_none : NoWords → ℕ
 code_of_none Memory = 5
 code_of_none Unreadable = 6
@@ -18,7 +18,7 @@ code_of_none Unreadable = 6
 abbrev pub words_in : IntoIter (String Global) Global → List (String Global)
 words_in arguments = drop 1 (into_iter_items arguments)
 
--- why there are no words where the system gave this error
+-- why there are no arguments where the system gave this error
 pub record IsReasonOf (error : Error) (reason : NoWords) : Type 0 where
   pub memory : error_kind error ≡ OutOfMemory → reason ≡ Memory
   pub other : (error_kind error ≡ OutOfMemory → ⊥) → reason ≡ Unreadable

@@ -9,14 +9,14 @@ use Rattle.pg_steps.specs.declared.answers.Status.{Status}
 use Rattle.pg_main.specs.Given.{code_of_none}
 use Rattle.pg_main.specs.declared.NoWords.{NoWords}
 
--- the status is that of an answer of a call on exactly these words
+-- the status is that of an answer of a call on exactly these arguments
 pub record IsCodeOfRun {F : Type 0} (words : List (String Global)) (code : ℕ)
     (before after : F) (old new : Moment) : Type 0 where
   pub answer : Status
   pub code_of_it : code ≡ code_of answer
   pub run : IsRun (request_of_call words) answer before after old new
 
--- there were no words: the status tells why, and neither the files nor the sink were touched
+-- there were no arguments: the status tells why, and neither the files nor the sink were touched
 pub record IsCodeOfNone {F O : Type 0} (reason : NoWords) (code : ℕ)
     (before after : F) (out_before out_after : O) : Type 0 where
   pub code_of_it : code ≡ code_of_none reason

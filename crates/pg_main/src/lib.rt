@@ -1,5 +1,5 @@
-//! What a program of one command does: it takes the words, works on the files of the system, and
-//! gives the status.
+//! What a program of one command does: it takes the arguments, works on the files of the system,
+//! and gives the status.
 #![tactic(auto)]
 
 ghost use Rattle.std.specs.Prelude.{◌≡◌, ◌≤◌, ◌⊎◌, IfOk, IfErr, MatchResult};
@@ -22,7 +22,7 @@ use std::io::{ErrorKind, IsTerminal, Write};
 use std::process::ExitCode;
 use std::{env, io, rt};
 
-/// Why there are no words.
+/// Why there are no arguments.
 #[derive(Clone, Copy, Debug, PartialEq, Eq)]
 pub enum NoWords {
     /// There was not enough memory for them.
@@ -31,7 +31,7 @@ pub enum NoWords {
     Unreadable,
 }
 
-/// The words after the program's name, all of them and in their order.
+/// The arguments behind the program's name, all of them and in their order.
 ///
 /// # Errors
 /// Where there is not enough memory.
@@ -45,13 +45,13 @@ pub fn words_after_name(alloc: Global, arguments: Args) -> Result<Vec<String>, N
     }
 }
 
-/// The exit code of a program that was handed these words, or that got none for this reason.
+/// The exit code of a program that was handed these arguments, or that got none for this reason.
 ///
-/// It is that of the answer of a call of `run` on these words: 0 where all went well, 1 for a file
-/// that is not the wanted one, 2 where the words are no command, 3 for a refused file, 4 for a file
-/// that could not be read or written, and 5 where memory was short. Where there are no words, it is
-/// 5 if there was no memory for them and 6 if the system gave none. Neither `files` nor `out` is
-/// called then. The observer is told of the call and of its answer.
+/// It is that of the answer of a call of `run` on these arguments: 0 where all went well, 1 for a
+/// file that is not the wanted one, 2 where the arguments are no command, 3 for a refused file, 4
+/// for a file that could not be read or written, and 5 where memory was short. Where there are no
+/// arguments, it is 5 if there was no memory for them and 6 if the system gave none. Neither
+/// `files` nor `out` is called then. The observer is told of the call and of its answer.
 pub fn status_of<F: Files, O: Sink, L: Listen>(
     alloc: Global,
     words: Result<Vec<String>, NoWords>,
@@ -82,7 +82,7 @@ pub fn status_of<F: Files, O: Sink, L: Listen>(
     }
 }
 
-/// The words of a program, from what the system gives as its arguments.
+/// The arguments behind the program's name, from what the system gives.
 ///
 /// # Errors
 /// Where there is not enough memory, here or in the system, and where the system does not give the
@@ -108,9 +108,9 @@ fn code_from(status: u8) -> ExitCode
 
 /// Does what the arguments ask for, and gives the exit code.
 ///
-/// It is that of the answer of a call of `run` on all words after the program's name. It is 5 where
-/// there is no memory for these words, here or in the system, and 6 where the system does not give
-/// them. The observer is told of the call and of its answer.
+/// It is that of the answer of a call of `run` on all arguments after the program's name. It is 5
+/// where there is no memory for these arguments, here or in the system, and 6 where the system does
+/// not give them. The observer is told of the call and of its answer.
 pub fn exit_of<F: Files, O: Sink, L: Listen>(
     alloc: Global,
     arguments: io::Result<Args>,

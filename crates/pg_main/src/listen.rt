@@ -6,20 +6,20 @@ use pg_watch::Watch;
 use std::io::Write;
 use std::time::Clock;
 
-/// An observer that is told of the words and of the answer too. Nothing is promised of its calls,
-/// and nothing is asked of it.
+/// An observer that is told of the arguments and of the answer too. Nothing is promised of its
+/// calls, and nothing is asked of it.
 pub trait Listen: Watch {
-    /// The call on these words begins.
+    /// The call on these arguments begins.
     fn begins(&self, words: &[String]);
 
-    /// The call on these words gave this answer.
+    /// The call on these arguments gave this answer.
     fn ends(&self, words: &[String], status: &Status);
 
-    /// There are no words.
+    /// There are no arguments.
     fn has_no_words(&self, reason: &NoWords);
 }
 
-/// What stands on standard error where the system did not give the words.
+/// What stands on standard error where the system did not give the arguments.
 const UNREADABLE: &[u8] =
     b"patgen: the system did not give the words, or one of them is no UTF-8\n";
 

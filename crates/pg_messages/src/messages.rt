@@ -31,7 +31,7 @@ struct Call {
 pub struct Messages<'a, C, E: Drop> {
     alloc: Global,
     screen: Screen<'a, C, E>,
-    /// The first word.
+    /// The first argument.
     command: RefCell<String>,
     /// Which run of a sweep goes on.
     turn: Cell<Option<Turn>>,
@@ -141,7 +141,7 @@ impl<'a, C: Clock, E: Write + Drop> Messages<'a, C, E> {
         }
     }
 
-    /// Takes the words of the call.
+    /// Takes the arguments of the call.
     pub fn take_words(&self, words: &[String]) {
         if let Some(first) = words.first() {
             if let Ok(command) = String::from_str(self.alloc, first) {
@@ -163,7 +163,7 @@ impl<'a, C: Clock, E: Write + Drop> Messages<'a, C, E> {
         }
     }
 
-    /// Puts on standard error what is wrong with these words.
+    /// Puts on standard error what is wrong with these arguments.
     pub fn put_words(&self, words: &[String]) {
         self.put_wrong(&Wrong::Words(words));
     }

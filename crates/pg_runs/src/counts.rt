@@ -25,8 +25,8 @@ const LETTERS: &[u8] = b" 1 1\n a\n b\n c\n";
 /// - the lines of a dictionary, each with how often it stands there;
 /// - patterns;
 /// - the level of a pass from these, and the length and the dot of its windows;
-/// - a line for each window that the pass counts: its signs, its sum of good weights, and its sum of
-///   bad ones.
+/// - a line for each window that the pass counts: its signs, its sum of good weights, and its sum
+///   of bad ones.
 type Row = (
     &'static [(u32, &'static [u8])],
     &'static [u8],

@@ -62,8 +62,8 @@ fn compare_engines(rt: &impl Abort, alloc: Global, inputs: &Inputs) -> Result<()
     compare_with(rt, alloc, inputs, &plain)
 }
 
-/// The run of 2,000 words over both engines: the same patterns, records of passes, totals and number
-/// of passes begun.
+/// The run of 2,000 words over both engines: the same patterns, records of passes, totals and
+/// number of passes begun.
 #[test]
 fn the_same_run_from_both_engines(rt: HostRuntime) -> Result<(), Fail> {
     let inputs = read_inputs(rt.alloc(), 2_000, b"1 2 1 3 1 2 20 2 4 2 1 8")?;

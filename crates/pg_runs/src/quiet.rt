@@ -34,7 +34,7 @@ fn quiet_files(alloc: Global) -> Result<QuietFiles, AllocError> {
     Ok(files)
 }
 
-/// The words of a line, with a blank between two.
+/// The arguments of a line, with a blank between two.
 pub(crate) fn words(alloc: Global, line: &str) -> Result<Vec<String>, AllocError> {
     let mut words = Vec::new(alloc);
     for word in line.split(' ') {
@@ -49,7 +49,8 @@ fn compare(rt: &impl Abort, files: &QuietFiles, out: &QuietSink) {
     assert_eq!(rt; out.bytes(), Some(PRINTED));
 }
 
-/// Does what the words ask for, over files and a sink that never fail. The answer is never a fault.
+/// Does what the arguments ask for, over files and a sink that never fail. The answer is never a
+/// fault.
 fn run_quietly(
     alloc: Global,
     words: &[String],

@@ -1,5 +1,5 @@
-//! Calls of the program over a disk with links, each call of which fails or is the last: what stands
-//! under each name then.
+//! Calls of the program over a disk with links, each call of which fails or is the last: what
+//! stands under each name then.
 use crate::quiet::{INPUTS, words};
 use pg_outside::{DiskFiles, MemorySink};
 use pg_told_disk::ToldDisk;
@@ -53,7 +53,7 @@ fn disk(alloc: Global, call: u64, stops: bool) -> Result<ToldDisk, AllocError> {
     Ok(disk)
 }
 
-/// Does what the words ask for, over files.
+/// Does what the arguments ask for, over files.
 fn answer(
     alloc: Global,
     words: &[String],
@@ -63,7 +63,7 @@ fn answer(
     Ok(run(alloc, words, files, &mut out))
 }
 
-/// Does what the words ask for, over a disk that fails at this call.
+/// Does what the arguments ask for, over a disk that fails at this call.
 fn run_over(
     alloc: Global,
     words: &[String],

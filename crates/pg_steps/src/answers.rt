@@ -11,7 +11,7 @@ pub enum Status {
     Yes,
     /// A given file has a false line, which was named.
     No,
-    /// The words are no command.
+    /// The arguments are no command.
     Usage,
     /// An input breaks its rules.
     Refused,

@@ -1,10 +1,10 @@
--- The lines that the commands print where they are done, and where words are no command.
+-- The lines that the commands print where they are done, and where arguments are no command.
 use Rattle.std.specs.Prelude.{ℕ, List, ◌++◌, length, codes, decimal}
 use Rattle.pg_types.specs.Lines.{lines}
 use Rattle.pg_types.specs.declared.marks.Totals.{Totals}
 use Rattle.pg_texts.specs.ReportTexts.{totals_text}
 
--- where words are no command
+-- where arguments are no command
 abbrev pub usage_line : List ℕ
 usage_line = codes "usage: patgen COMMAND NAMES [OPTIONS]\n"
 

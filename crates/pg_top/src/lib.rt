@@ -1,5 +1,5 @@
-//! The one call of the program: it reads the words of a command, reads its files, does it, writes
-//! and prints.
+//! The one call of the program: it reads the arguments of a command, reads its files, does it,
+//! writes and prints.
 #![tactic(auto)]
 
 mod audit;

@@ -1,4 +1,4 @@
-//! The lines that the commands print where they are done, and where words are no command.
+//! The lines that the commands print where they are done, and where arguments are no command.
 ghost use Rattle.std.specs.Prelude.{◌≡◌, [], length, OnOk, IfOk};
 ghost use Rattle.pg_types.specs.Lines.{lines};
 ghost use Rattle.pg_top.specs.PrintedLines.{done_line as done_line_of};
@@ -7,7 +7,7 @@ use pg_texts::push_totals;
 use pg_types::{Totals, next_line, push_number};
 use std::alloc::{AllocError, Global};
 
-/// What is printed where words are no command.
+/// What is printed where arguments are no command.
 pub const USAGE: &[u8] = b"usage: patgen COMMAND NAMES [OPTIONS]\n";
 
 /// How many lines a text has.

@@ -72,8 +72,8 @@ fn perform<F: Files, O: Sink, W: Watch>(
     }
 }
 
-/// Does what the words, without the program's name, ask for. It reads and writes `files`, prints to
-/// `out`, and gives the answer.
+/// Does what the arguments, without the program's name, ask for. It reads and writes `files`,
+/// prints to `out`, and gives the answer.
 ///
 /// `generate` reads the translate file, the parameters, the starting patterns and the dictionary.
 /// Each is read whole and by its rules before the next. It selects patterns and builds all texts.
@@ -95,18 +95,18 @@ fn perform<F: Files, O: Sink, W: Watch>(
 /// once, as the last step. Only the line of a fault is put in three parts: the front, the name and
 /// the end.
 ///
-/// - `Usage` comes exactly where the words are no command, unless the line cannot be put.
+/// - `Usage` comes exactly where the arguments are no command, unless the line cannot be put.
 /// - `Refused` comes only where an input is refused, the first in the order of reading, or where
 ///   the table of `pack` would be too long. `sample` is never refused.
 /// - `Fault` comes only where the read faults of a name that the command reads, the write faults of
 ///   one that it writes, or the faults of `out` rose.
-/// - `Memory` may always come where the words are a command. Nothing was written then, and nothing
-///   was put.
+/// - `Memory` may always come where the arguments are a command. Nothing was written then, and
+///   nothing was put.
 /// - `Yes` comes where all given files are what they should be. `No` comes where a line is not, and
 ///   that line was named.
 /// - `Done` comes where all that was asked for was written whole.
 ///
-/// After all answers but `Done` and `Fault` the files are as they were. Where the words are no
+/// After all answers but `Done` and `Fault` the files are as they were. Where the arguments are no
 /// command, and for `sample`, `files` is not called.
 pub fn run<F: Files, O: Sink>(alloc: Global, words: &[String], files: &mut F, out: &mut O) -> Status
     ensures { IsRun (request_of_call words.now) result files.old files.new

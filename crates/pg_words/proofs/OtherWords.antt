@@ -1,4 +1,4 @@
--- What words ask for that are not as many as their command takes.
+-- What arguments ask for that are not as many as their command takes.
 use Rattle.std.proofs.Common.{◌≡◌, ℕ, List, [], ◌∷◌, length, None, refl}
 use Rattle.pg_words.specs.forms.Pack.{pack_in}
 use Rattle.pg_words.specs.forms.Totals.{totals_in}

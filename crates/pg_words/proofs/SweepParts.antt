@@ -1,4 +1,4 @@
--- What the words behind `sweep` ask for, word by word.
+-- What the arguments behind `sweep` ask for, one by one.
 use Rattle.std.proofs.Common.{◌≡◌, ℕ, ◌<◌, ◌≤◌, nat_lt, nat_le, true, ◌&&◌, List, [], ◌∷◌, length, None, Some, refl, sym, arith}
 use Rattle.std.proofs.lemmas.Bool.Decides.{nat_tests}
 use Rattle.std.specs.Option.{option_map}
@@ -10,7 +10,7 @@ use Rattle.pg_words.specs.forms.Sweep.{sweep_in}
 use Rattle.pg_types.specs.declared.limits.TheConstants.{FOLDS_MAX, PRICE_MAX, SETS_MAX}
 use Rattle.pg_words.specs.declared.limits.TheConstants.{FOLDS_DIGITS, PRICE_DIGITS}
 
--- too few words
+-- too few arguments
 pub too_few : (words : List (List ℕ)) → length words < 7 → None ≡ sweep_in words
 too_few [] few = refl
 too_few (a ∷ []) few = refl

@@ -1,9 +1,9 @@
--- The number that a word of a call is.
+-- The number that an argument of a call is.
 use Rattle.std.specs.Prelude.{ℕ, nat_lt, nat_le, ◌&&◌, if◌then◌else◌, List, length, Option, None, Some}
 use Rattle.std.specs.Option.{option_and_then}
 use Rattle.pg_types.specs.Parameters.{number}
 
--- the number that a word of at most so many decimal digits is, where it is within these bounds
+-- the number that an argument of at most so many decimal digits is, where it is within these bounds
 abbrev pub number_within : ℕ → ℕ → ℕ → List ℕ → Option ℕ
 number_within digits least most word = if nat_lt 0 (length word) && nat_le (length word) digits
     then option_and_then (λ n. if nat_le least n && nat_le n most then Some n else None)

@@ -1,4 +1,4 @@
--- What the words of a call ask for.
+-- What the arguments of a call ask for.
 use Rattle.std.specs.Prelude.{ℕ, if◌then◌else◌, List, [], ◌∷◌, Option, None, codes}
 use Rattle.std.specs.Option.{option_map}
 use Rattle.std.specs.Str.{bytes_eq}
@@ -9,7 +9,7 @@ use Rattle.pg_words.specs.forms.Totals.{TotalsRequest, totals_in}
 use Rattle.pg_words.specs.forms.Prune.{PruneRequest, prune_in}
 use Rattle.pg_words.specs.forms.Sweep.{SweepRequest, sweep_in}
 
--- what words ask for: the names of files, and for `sample` its seed and how many words it makes
+-- what arguments ask for: names of files, and for `sample` its seed and how many words it makes
 pub data Request : Type 0 where
   ToGenerate : FileNames → Request
   ToAudit : FileNames → Request
@@ -19,7 +19,7 @@ pub data Request : Type 0 where
   ToPrune : PruneRequest → Request
   ToSweep : SweepRequest → Request
 
--- what words ask for
+-- what arguments ask for
 abbrev pub request_of : List (List ℕ) → Option Request
 request_of [] = None
 request_of (word ∷ rest) =

@@ -1,4 +1,4 @@
--- The form of each command: the words that it takes, and what they ask for.
+-- The form of each command: the arguments that it takes, and what they ask for.
 pub mod Generate
 pub mod Sample
 pub mod Pack

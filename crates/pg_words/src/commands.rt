@@ -37,7 +37,7 @@ pub struct SweepWords<'a> {
     pub params: &'a [String],
 }
 
-/// What words ask for.
+/// What arguments ask for.
 #[derive(Clone, Copy)]
 pub enum Command<'a> {
     /// To select patterns and write them.

@@ -1,4 +1,4 @@
-//! The words of `generate` and `audit`.
+//! The arguments of `generate` and `audit`.
 ghost use Rattle.std.specs.Prelude.{◌≡◌, ◌≤◌, ◌<◌, ◌+◌, ◌&&◌, ◌++◌, length, drop, IfSome};
 ghost use Rattle.std.specs.List.{list_all};
 ghost use Rattle.std.specs.Option.{option_map, is_none};
@@ -83,7 +83,7 @@ fn first_names(words: &[String]) -> Names<'_>
     }
 }
 
-/// The names in words: six, and then the options.
+/// The names in arguments: six, and then the options.
 fn names(words: &[String]) -> Option<Names<'_>>
     ensures { option_map texts_of result ≡ names_in (words_of words.now) }
 {
@@ -134,7 +134,7 @@ fn are_audited(names: &Names<'_>) -> bool
     are_all_names(&inputs_of(names), outputs.as_slice()) && names.cells.is_none()
 }
 
-/// What the words behind `generate` ask for.
+/// What the arguments behind `generate` ask for.
 pub fn generate(words: &[String]) -> Option<Command<'_>>
     ensures within { IfSome result KeepsLimits }
     ensures value { option_map asked_by result
@@ -149,7 +149,7 @@ pub fn generate(words: &[String]) -> Option<Command<'_>>
     )
 }
 
-/// What the words behind `audit` ask for.
+/// What the arguments behind `audit` ask for.
 pub fn audit(words: &[String]) -> Option<Command<'_>>
     ensures within { IfSome result KeepsLimits }
     ensures value { option_map asked_by result

@@ -1,4 +1,4 @@
-//! The words of a call, and the command that they are.
+//! The arguments of a call, and the command that they are.
 #![tactic(auto)]
 
 pub mod commands;

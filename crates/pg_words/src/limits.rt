@@ -1,4 +1,4 @@
-//! The greatest numbers that the words of a command may have.
+//! The greatest numbers that the arguments of a command may have.
 
 /// The greatest seed of `sample`.
 pub const SEED_MAX: u32 = 2_147_483_647;

@@ -8,14 +8,14 @@ ghost use Rattle.pg_words.specs.Inside.CommandRequests.{asked_by, KeepsLimits};
 
 use crate::commands::Command;
 
-/// Whether a word can be a name: it is not empty and does not begin with two dashes.
+/// Whether an argument can be a name: it is not empty and does not begin with two dashes.
 fn is_name(word: &str) -> bool
     ensures { result ≡ is_name_word word.now }
 {
     !word.is_empty() && !word.as_bytes().starts_with(b"--")
 }
 
-/// Whether each of these words can be a name.
+/// Whether each of these arguments can be a name.
 fn are_names(words: &[&str]) -> bool
     ensures { result ≡ list_all is_name_word (texts words.now) }
 {

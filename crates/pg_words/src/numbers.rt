@@ -1,4 +1,4 @@
-//! Numbers in the words of a command.
+//! Numbers in the arguments of a command.
 ghost use Rattle.std.specs.Prelude.{◌≡◌, ◌≤◌, IfSome};
 ghost use Rattle.pg_types.specs.Inside.reading.Parts.{number_from};
 ghost use Rattle.pg_words.specs.NumbersWithin.{number_within as number_within_of};
@@ -24,8 +24,8 @@ fn digits_value(digits: &[u8], most: u32) -> Option<u32>
     Some(value)
 }
 
-/// The number that a word of 1 to so many decimal digits is, where it is at least `least` and at
-/// most `most`.
+/// The number that an argument of 1 to so many decimal digits is, where it is at least `least` and
+/// at most `most`.
 pub fn number_within(word: &str, digits: usize, least: u32, most: u32) -> Option<u32>
     ensures value { result ≡ number_within_of digits least most word.now }
     ensures within { IfSome result (λ n. (least ≤ n) × (n ≤ most)) }

@@ -1,4 +1,4 @@
-//! The words of `prune`.
+//! The arguments of `prune`.
 ghost use Rattle.std.specs.Prelude.{◌≡◌, IfSome};
 ghost use Rattle.std.specs.Option.{option_map};
 ghost use Rattle.pg_words.specs.Requests.{ToPrune};
@@ -9,7 +9,7 @@ ghost use Rattle.pg_words.specs.Inside.CommandRequests.{asked_by, KeepsLimits};
 use crate::commands::Command;
 use crate::names::where_taken;
 
-/// What the words behind `prune` ask for.
+/// What the arguments behind `prune` ask for.
 pub fn prune(words: &[String]) -> Option<Command<'_>>
     ensures value { option_map asked_by result
         ≡ option_map ToPrune (prune_in (words_of words.now)) }

@@ -1,4 +1,4 @@
-//! The words of `sample`.
+//! The arguments of `sample`.
 ghost use Rattle.std.specs.Prelude.{◌≡◌, IfSome};
 ghost use Rattle.std.specs.Option.{option_map};
 ghost use Rattle.pg_words.specs.Requests.{ToSample};
@@ -10,7 +10,7 @@ use crate::commands::Command;
 use crate::limits::{COUNT_MAX, SAMPLE_DIGITS, SEED_MAX};
 use crate::numbers::number_within;
 
-/// What the words behind `sample` ask for.
+/// What the arguments behind `sample` ask for.
 pub fn sample(words: &[String]) -> Option<Command<'_>>
     ensures value { option_map asked_by result
         ≡ option_map (λ n. ToSample n.0 n.1) (sample_in (words_of words.now)) }

@@ -1,4 +1,4 @@
-//! The words of `sweep`.
+//! The arguments of `sweep`.
 ghost use Rattle.std.specs.Prelude.{◌≡◌, ◌≤◌, [], ◌∷◌, length, IfSome};
 ghost use Rattle.std.specs.Option.{option_map};
 ghost use Rattle.pg_words.specs.Requests.{ToSweep};
@@ -45,7 +45,7 @@ fn sweep_command(words: SweepWords<'_>) -> Option<Command<'_>>
     where_taken(inputs.as_slice(), &outputs, Command::Sweep(words))
 }
 
-/// What the words behind `sweep` ask for.
+/// What the arguments behind `sweep` ask for.
 pub fn sweep(words: &[String]) -> Option<Command<'_>>
     ensures value { option_map asked_by result
         ≡ option_map ToSweep (sweep_in (words_of words.now)) }

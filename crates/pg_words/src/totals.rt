@@ -1,4 +1,4 @@
-//! The words of `totals`.
+//! The arguments of `totals`.
 ghost use Rattle.std.specs.Prelude.{◌≡◌, IfSome};
 ghost use Rattle.std.specs.Option.{option_map};
 ghost use Rattle.pg_words.specs.Requests.{ToTotals};
@@ -9,7 +9,7 @@ ghost use Rattle.pg_words.specs.Inside.CommandRequests.{asked_by, KeepsLimits};
 use crate::commands::Command;
 use crate::names::where_taken;
 
-/// What the words behind `totals` ask for.
+/// What the arguments behind `totals` ask for.
 pub fn totals(words: &[String]) -> Option<Command<'_>>
     ensures value { option_map asked_by result
         ≡ option_map ToTotals (totals_in (words_of words.now)) }

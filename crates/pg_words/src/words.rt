@@ -1,4 +1,4 @@
-//! The words of a command.
+//! The arguments of a command.
 ghost use Rattle.std.specs.Prelude.{◌≡◌, ◌∷◌, IfSome};
 ghost use Rattle.std.specs.Option.{option_map};
 ghost use Rattle.pg_words.specs.Requests.{request_of};
@@ -13,7 +13,7 @@ use crate::sample::sample;
 use crate::sweep::sweep;
 use crate::totals::totals;
 
-/// What the words behind the word of a command ask for.
+/// What the arguments behind the name of a command ask for.
 fn command_of<'a>(word: &str, behind: &'a [String]) -> Option<Command<'a>>
     ensures value { option_map asked_by result ≡ request_of (word.now ∷ words_of behind.now) }
     ensures within { IfSome result KeepsLimits }
@@ -37,7 +37,7 @@ fn command_of<'a>(word: &str, behind: &'a [String]) -> Option<Command<'a>>
     }
 }
 
-/// What the words, without the program's name, ask for; none exactly where they are no command.
+/// What the arguments, without the program's name, ask for; none exactly where they are no command.
 /// Commands are `generate DICT PATTERNS OUT TRANSLATE PARAMS REPORT`, then `--pattmp FILE` and
 /// `--cells FILE`, each at most once and in either order, `audit` with the same six names and at
 /// most one `--pattmp FILE`, `sample N COUNT`, `pack PATTERNS TRANSLATE TABLE`, `totals DICT

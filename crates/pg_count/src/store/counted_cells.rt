@@ -27,13 +27,13 @@ use std::marker::Model;
 /// strings.
 const CELLS_PER_TALLY: usize = 4;
 
-/// Cells of strings, each with its sums where it is counted. The cell of a string has the number of
-/// its tally, and the tallies stand in a list of their own, since most cells are of strings that
-/// are not counted. Each family lies near the top, since no report tells the layout.
+/// Cells of strings, each with its sums where it is counted. The cell of a string has an entry that
+/// tells its tally, and the tallies stand in a list of their own, since most cells are of strings
+/// that are not counted. Each family lies near the top, since no report tells the layout.
 ///
-/// The tally at index i has the number `first` + i. A number below `first` is of an earlier pass,
-/// and says that the string is not counted. So a pass that keeps the cells begins without a walk
-/// over them.
+/// The entry of the tally with the number i is `first` + i. An entry below `first` is of an earlier
+/// pass, and says that the string is not counted. So a pass that keeps the cells begins without a
+/// walk over them.
 #[derive(Drop)]
 pub struct CountedCells {
     cells: NearCells<u32>,
@@ -75,7 +75,7 @@ impl CountedCells {
 
     /// No string is counted. `alike` says that the next strings are as long as the last ones, so
     /// that many may be the same. Then the cells stay, if at least a quarter of them are of counted
-    /// strings and enough numbers are left. They stay too where none is counted: such a pass tells
+    /// strings and enough entries are left. They stay too where none is counted: such a pass tells
     /// nothing of the next one. Else each sign alone has a cell. It takes no memory.
     pub fn clear(&mut self, alike: bool)
         ensures signs { self.new.signs ≡ self.old.signs }
@@ -203,8 +203,8 @@ impl CountedCells {
             OnOk result (cell_of self.new.families q ≡ Some cell) }
         ensures err { OnErr result (self.new ≡ self.old) }
     {
-        let number = self.cells.value(cell);
-        let below = self.cells.add(cell, s, number)?;
+        let entry = self.cells.value(cell);
+        let below = self.cells.add(cell, s, entry)?;
         self.cells.set_value(cell, NO_TALLY);
         Ok(below)
     }
@@ -243,14 +243,14 @@ impl CountedCells {
         ensures err { OnErr result (self.new ≡ self.old) }
     {
         let number = self.tallies.len() as u32;
-        let in_cell = push_sums(&mut self.tallies, self.first, sums)?;
-        self.cells.set_value(cell, in_cell);
+        let entry = push_sums(&mut self.tallies, self.first, sums)?;
+        self.cells.set_value(cell, entry);
         Ok(number)
     }
 }
 
-// The number of the first tally of the next pass, past each number in the cells. It is `next`, and
-// each string keeps its cell; or the numbers begin again from 1, and each sign alone has a cell.
+// The entry of the first tally of the next pass, past each entry of the cells. It is `next`, and
+// each string keeps its cell; or the entries begin again from 1, and each sign alone has a cell.
 fn first_after(cells: &mut NearCells<u32>, next: u32, keeps: bool) -> u32
     requires held { AreValuedFamilies cells.old }
     requires positive { 1 ≤ next }

@@ -6,26 +6,23 @@ ghost use Rattle.pg_count.specs.Inside.cells.CellNumbers.{tally_by_number};
 use pg_types::NUMBERS_END;
 use std::alloc::AllocError;
 
-/// This number in a cell says that the string was never counted: tallies are numbered from 1 on.
+/// This entry of a cell says that the string was never counted: the entries of tallies are 1 or
+/// more.
 pub const NO_TALLY: u32 = 0;
 
-/// What an earlier pass numbered stays only where the numbers of the next pass begin here or
-/// before, so that half of all numbers are left for it.
+/// The entries of an earlier pass stay only where those of the next pass begin here or before, so
+/// that half of all entries are left for it.
 pub const LATEST_FIRST: u32 = NUMBERS_END / 2;
 
-/// The tally with the number of a cell, where they are numbered from `first` on, or `None` where no
-/// tally has it. It is given as its index in the list and its sums.
-pub fn tally_by_number(
-    tallies: &[(u64, u64)],
-    first: u32,
-    in_cell: u32,
-) -> Option<(u32, (u64, u64))>
-    ensures { result ≡ tally_by_number first tallies.now in_cell }
+/// The tally that an entry tells, where the entries of the tallies are `first` plus their numbers,
+/// or `None` where it tells none. It is given as its number and its sums.
+pub fn tally_by_number(tallies: &[(u64, u64)], first: u32, entry: u32) -> Option<(u32, (u64, u64))>
+    ensures { result ≡ tally_by_number first tallies.now entry }
 {
-    if in_cell < first {
+    if entry < first {
         return None;
     }
-    let number = in_cell - first;
+    let number = entry - first;
     match tallies.get(number as usize) {
         Some(sums) => Some((number, *sums)),
         None => None,
@@ -48,8 +45,7 @@ pub fn set_sums_at(tallies: &mut Vec<(u64, u64)>, number: u32, sums: (u64, u64))
     tallies[number as usize] = sums;
 }
 
-/// Adds a tally and gives its number, where they are numbered from `first` on, as long as a number
-/// is left.
+/// Adds a tally and gives its entry, which is `first` plus its number, as long as an entry is left.
 ///
 /// Refused: the tallies are as before.
 pub fn push_sums(
@@ -58,15 +54,15 @@ pub fn push_sums(
     sums: (u64, u64),
 ) -> Result<u32, AllocError>
     requires { first + length tallies.old.items ≤ NUMBERS_END }
-    ensures number { IfOk result (λ number. number ≡ first + length tallies.old.items) }
+    ensures entry { IfOk result (λ entry. entry ≡ first + length tallies.old.items) }
     ensures items { OnOk result (tallies.new.items ≡ tallies.old.items ++ sums ∷ []) }
     ensures few { first + length tallies.new.items ≤ NUMBERS_END }
     ensures err { OnErr result (tallies.new.items ≡ tallies.old.items) }
 {
-    let number = first + tallies.len() as u32;
-    if number == NUMBERS_END {
+    let entry = first + tallies.len() as u32;
+    if entry == NUMBERS_END {
         return Err(AllocError);
     }
     tallies.push(sums)?;
-    Ok(number)
+    Ok(entry)
 }

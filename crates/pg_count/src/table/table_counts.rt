@@ -95,8 +95,8 @@ impl TableCounts {
         ensures none { result ≡ None
             → counted_sums self.now.counted.counts window.now ≡ None }
     {
-        let in_table = *self.numbers.get(index_of(self.signs, window))?;
-        tally_by_number(self.tallies.as_slice(), self.first, in_table)
+        let entry = *self.numbers.get(index_of(self.signs, window))?;
+        tally_by_number(self.tallies.as_slice(), self.first, entry)
     }
 
     // Counts a window that is not counted, with the sums, and gives its number, which is the next
@@ -120,9 +120,9 @@ impl TableCounts {
         make_room(&mut self.numbers, index, entries)?;
         self.windows.push(window)?;
         match push_sums(&mut self.tallies, self.first, sums) {
-            Ok(in_table) => {
-                self.numbers[index] = in_table;
-                Ok(in_table - self.first)
+            Ok(entry) => {
+                self.numbers[index] = entry;
+                Ok(entry - self.first)
             }
             Err(_) => {
                 self.windows.pop();
@@ -190,8 +190,8 @@ impl WindowCounter for TableCounts {
     }
 }
 
-// The number of the first window of the next pass, past each entry. It is `next`, and the table
-// stays; or the numbers begin again from 1, and the table has no entry yet.
+// The entry of the first window of the next pass, past each other one. It is `next`, and the table
+// stays; or the entries begin again from 1, and the table has no entry yet.
 fn first_after(numbers: &mut Vec<u32>, next: u32) -> u32
     requires positive { 1 ≤ next }
     requires few { next ≤ NUMBERS_END }

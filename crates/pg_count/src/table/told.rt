@@ -9,9 +9,9 @@ use std::alloc::AllocError;
 pub fn push_numbers(numbers: &[u32], first: u32, out: &mut Vec<u32>) -> Result<(), AllocError>
     ensures { OnOk result (out.new.items ≡ out.old.items ++ numbers_in_row first numbers.now) }
 {
-    for in_table in numbers {
-        if first <= *in_table {
-            out.push(*in_table - first)?;
+    for entry in numbers {
+        if first <= *entry {
+            out.push(*entry - first)?;
         }
     }
     Ok(())

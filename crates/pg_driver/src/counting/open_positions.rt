@@ -48,12 +48,13 @@ fn open_by_status(level: u8, sign: usize, mark: Mark, dots: &mut OpenDots)
 }
 
 /// Opens the positions of a word that count at a level, and adds all positions in reach to the
-/// totals. The signs of the word begin at `start`. What `found` holds does not matter.
+/// totals. So many signs of the dictionary stand before those of the word. What `found` holds does
+/// not matter.
 fn open_word<E: Engine>(
     engine: &E,
     table: &Table,
     level: u8,
-    start: usize,
+    before: usize,
     w: &WordRef<'_>,
     found: &mut WordState,
     opened: &mut OpenLevel,
@@ -61,7 +62,7 @@ fn open_word<E: Engine>(
     requires word { IsWord (lent_word w.now) }
     requires signs { SignsWithin (E.meaning engine.now).signs w.now.signs.now }
     requires room { HasRoomFor opened.old.totals (letter_count (lent_word w.now)) }
-    requires within { start + length w.now.signs.now ≤ position_count opened.old.dots }
+    requires within { before + length w.now.signs.now ≤ position_count opened.old.dots }
     requires few { position_count opened.old.dots < positions_limit }
     requires none { opened.old.dots.reached ≡ 0 }
     ensures size { position_count opened.new.dots ≡ position_count opened.old.dots }
@@ -69,7 +70,7 @@ fn open_word<E: Engine>(
     ensures closed { (d s : ℕ) → s < position_count opened.old.dots → is_closed opened.new.dots d s
         ≡ (not (is_open_first (minima_of table.now) level
         (E.meaning engine.now).patterns (lent_word w.now)
-        (s - start)) && is_closed opened.old.dots d s) }
+        (s - before)) && is_closed opened.old.dots d s) }
     ensures totals { opened.new.totals
         ≡ with_marks opened.old.totals
         (marks_in (minima_of table.now) (E.meaning engine.now).patterns
@@ -86,7 +87,7 @@ fn open_word<E: Engine>(
     'positions: for p in first..end {
         let mark = mark_at(w, found, p);
         opened.totals = add_mark(opened.totals, mark, w.weights[p]);
-        open_by_status(level, start + p, mark, &mut opened.dots);
+        open_by_status(level, before + p, mark, &mut opened.dots);
     }
 }
 
@@ -117,11 +118,11 @@ pub fn open_level<E: Engine>(
         dots,
         totals: no_totals(),
     };
-    let mut start = 0;
+    let mut before = 0;
     'words: for i in 0..count {
         let w = dictionary.word(i);
-        open_word(engine, table, level, start, &w, &mut found, &mut opened);
-        start += w.signs.len();
+        open_word(engine, table, level, before, &w, &mut found, &mut opened);
+        before += w.signs.len();
     }
     Ok(opened)
 }

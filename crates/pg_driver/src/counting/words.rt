@@ -53,8 +53,8 @@ fn counts_in_pass(
 }
 
 /// Counts the window at position `p` of a word, where it counts in the pass, and gives its number.
-/// `good` says what the position counts as by its status. The number is `NO_NUMBER` where the window
-/// does not count.
+/// `good` says what the position counts as by its status. The number is `NO_NUMBER` where the
+/// window does not count.
 fn count_at<E: Engine>(
     engine: &mut E,
     pass: Pass,

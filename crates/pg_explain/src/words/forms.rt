@@ -1,4 +1,4 @@
-//! The commands, and what each of their words has to be.
+//! The commands, and what each of their arguments has to be.
 
 use pg_types::{FOLDS_MAX, PRICE_MAX};
 use pg_words::limits::{COUNT_MAX, FOLDS_DIGITS, PRICE_DIGITS, SAMPLE_DIGITS, SEED_MAX};
@@ -14,7 +14,7 @@ pub(crate) struct Range {
     pub due: &'static str,
 }
 
-/// What a word of a command has to be, and how it is called.
+/// What an argument of a command has to be, and how it is called.
 #[derive(Clone, Copy)]
 pub(crate) enum Slot {
     /// The name of a file that is read.
@@ -26,7 +26,7 @@ pub(crate) enum Slot {
 }
 
 impl Slot {
-    /// How the word is called.
+    /// How the argument is called.
     pub fn name(&self) -> &'static str {
         match self {
             Slot::Input(name) | Slot::Output(name) | Slot::Number(name, _) => name,
@@ -34,7 +34,7 @@ impl Slot {
     }
 }
 
-/// What may follow the words that each call of a command has.
+/// What may follow the arguments that each call of a command has.
 #[derive(Clone, Copy)]
 pub(crate) enum Behind {
     Nothing,
@@ -46,13 +46,13 @@ pub(crate) enum Behind {
     Sets,
 }
 
-/// A command, and what its words have to be.
+/// A command, and what its arguments have to be.
 #[derive(Clone, Copy)]
 pub(crate) struct Command {
     pub word: &'static str,
     /// The whole form, as it is shown.
     pub form: &'static str,
-    /// The words behind the command that each call has.
+    /// The arguments behind the command that each call has.
     pub slots: &'static [Slot],
     pub behind: Behind,
 }
@@ -158,7 +158,7 @@ pub(crate) const COMMANDS: &[Command] = &[
     },
 ];
 
-/// The command that this word names.
+/// The command of this name.
 pub(crate) fn command_of(word: &str) -> Option<&'static Command> {
     for command in COMMANDS {
         if command.word == word {
@@ -168,7 +168,7 @@ pub(crate) fn command_of(word: &str) -> Option<&'static Command> {
     None
 }
 
-/// Whether a word is an option of some command.
+/// Whether an argument is an option of some command.
 pub(crate) fn is_option(word: &str) -> bool {
     word == "--pattmp" || word == "--cells"
 }

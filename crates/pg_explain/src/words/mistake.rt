@@ -1,7 +1,7 @@
-//! What is wrong with a word of a command.
+//! What is wrong with an argument of a command.
 
-/// What is said of a wrong word, or of a missing one: a sentence in which `$0` is the command, `$1`
-/// to `$3` are these, and `$4` is the number.
+/// What is said of a wrong argument, or of a missing one: a sentence in which `$0` is the command,
+/// `$1` to `$3` are these, and `$4` is the number.
 #[derive(Clone, Copy)]
 pub(crate) struct Mistake<'a> {
     pub sentence: &'static str,
@@ -11,7 +11,7 @@ pub(crate) struct Mistake<'a> {
     pub number: usize,
 }
 
-/// A sentence about up to three words.
+/// A sentence about up to three arguments.
 pub(crate) fn about_words<'a>(
     sentence: &'static str,
     first: &'a str,

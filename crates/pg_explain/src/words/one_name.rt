@@ -3,8 +3,8 @@
 use crate::words::forms::{Behind, Command, Slot, is_option};
 use crate::words::mistake::{Mistake, about_words};
 
-/// How the word with this index is called, and whether it names a file that is written; none where
-/// it is no name of a file.
+/// How the argument with this index is called, and whether it names a file that is written; none
+/// where it is no name of a file.
 fn name_at<'a>(command: &Command, words: &'a [String], index: usize) -> Option<(&'a str, bool)> {
     match (command.slots.get(index), command.behind) {
         (Some(Slot::Input(name)), _) => Some((name, false)),
@@ -22,8 +22,8 @@ fn name_at<'a>(command: &Command, words: &'a [String], index: usize) -> Option<(
     }
 }
 
-/// What is said where two files have one name and the first is written. `first` and `second` are how
-/// the command calls them, as OUT.
+/// What is said where two files have one name and the first is written. `first` and `second` are
+/// how the command calls them, as OUT.
 fn of_one_name<'a>(first: &'a str, second: &'a str, name: &'a str) -> Mistake<'a> {
     let sentence = "$0: $1 and $2 are one name, $3, and what is written has one of its own";
     about_words(sentence, first, second, name)
@@ -49,7 +49,7 @@ fn same_mistake<'a>(
     }
 }
 
-/// What is wrong where a word is equal to one before it and has to differ from it.
+/// What is wrong where an argument is equal to one before it and has to differ from it.
 fn same_before<'a>(
     command: &Command,
     words: &'a [String],
@@ -67,7 +67,7 @@ fn same_before<'a>(
     None
 }
 
-/// What is wrong where two words are equal and have to differ; the first such pair counts.
+/// What is wrong where two arguments are equal and have to differ; the first such pair counts.
 pub(crate) fn pair_mistake<'a>(command: &Command, words: &'a [String]) -> Option<Mistake<'a>> {
     for (index, word) in words.iter().enumerate() {
         let mistake = same_before(command, words, index, word.as_str());

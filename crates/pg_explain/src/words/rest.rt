@@ -1,11 +1,11 @@
-//! The words that follow those which each call of a command has: options, or parameter files.
+//! The arguments that follow those which each call of a command has: options, or parameter files.
 
 use crate::words::forms::{Behind, Command, is_option};
 use crate::words::mistake::{Mistake, about_words};
 use crate::words::slots::name_mistake;
 use pg_types::SETS_MAX;
 
-/// Whether a word is one of these.
+/// Whether an argument is one of these.
 fn is_among(words: &[String], word: &str) -> bool {
     for other in words {
         if other.as_str() == word {
@@ -48,7 +48,7 @@ fn set_mistake(word: &str, sets: usize) -> Option<Mistake<'_>> {
     })
 }
 
-/// What is wrong with the word with this index, which stands behind those that each call has.
+/// What is wrong with the argument with this index, which stands behind those that each call has.
 pub(crate) fn rest_mistake<'a>(
     command: &Command,
     words: &'a [String],

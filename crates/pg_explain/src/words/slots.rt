@@ -1,10 +1,10 @@
-//! The words that each call of a command has.
+//! The arguments that each call of a command has.
 
 use crate::words::forms::{Range, Slot, is_option};
 use crate::words::mistake::{Mistake, about_words};
 
-/// What is wrong with a word as a name. Where the command has options, one that stands there is too
-/// early.
+/// What is wrong with an argument as a name. Where the command has options, one that stands there
+/// is too early.
 pub(crate) fn name_mistake<'a>(
     name: &'static str,
     word: &'a str,
@@ -22,7 +22,7 @@ pub(crate) fn name_mistake<'a>(
     Some(about_words(sentence, word, name, ""))
 }
 
-/// Whether a word is a number in a range.
+/// Whether an argument is a number in a range.
 fn is_within(word: &str, range: &Range) -> bool {
     if word.is_empty() || word.starts_with('+') || word.len() > range.digits {
         return false;
@@ -33,7 +33,7 @@ fn is_within(word: &str, range: &Range) -> bool {
     }
 }
 
-/// What is wrong with a word as a number in a range.
+/// What is wrong with an argument as a number in a range.
 fn number_mistake<'a>(name: &'static str, word: &'a str, range: &Range) -> Option<Mistake<'a>> {
     if is_within(word, range) {
         return None;
@@ -49,7 +49,7 @@ fn number_mistake<'a>(name: &'static str, word: &'a str, range: &Range) -> Optio
     })
 }
 
-/// What is wrong with the word for a slot.
+/// What is wrong with the argument for a slot.
 pub(crate) fn slot_mistake<'a>(
     slot: &Slot,
     word: &'a str,

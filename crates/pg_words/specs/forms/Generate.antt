@@ -1,4 +1,4 @@
--- The words of `generate` and `audit`.
+-- The arguments of `generate` and `audit`.
 use Rattle.std.specs.Prelude.{ℕ, ◌&&◌, if◌then◌else◌, List, [], ◌∷◌, ◌++◌, Option, None, Some, codes}
 use Rattle.std.specs.List.{list_all}
 use Rattle.std.specs.Option.{option_and_then, option_map_or, is_none}
@@ -43,7 +43,7 @@ with_options n (first ∷ one ∷ second ∷ two ∷ []) = if bytes_eq first sec
     else option_and_then (λ with_first. with_option with_first second two) (with_option n first one)
 with_options n words = None
 
--- the names in words: six, and then the options
+-- the names in arguments: six, and then the options
 abbrev pub names_in : List (List ℕ) → Option FileNames
 names_in (dict ∷ patterns ∷ output ∷ translate ∷ params ∷ report ∷ options) = with_options (record {
   dict = dict;

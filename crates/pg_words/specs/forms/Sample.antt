@@ -1,4 +1,4 @@
--- The words of `sample`.
+-- The arguments of `sample`.
 use Rattle.std.specs.Prelude.{ℕ, List, [], ◌∷◌, Option, None}
 use Rattle.std.specs.Option.{option_and_then, option_map}
 use Rattle.pg_words.specs.NumbersWithin.{number_within}

@@ -1,4 +1,4 @@
--- The words of `sweep`.
+-- The arguments of `sweep`.
 use Rattle.std.specs.Prelude.{ℕ, nat_lt, nat_le, ◌&&◌, if◌then◌else◌, List, [], ◌∷◌, length, Option, None}
 use Rattle.std.specs.Option.{option_and_then}
 use Rattle.pg_types.specs.declared.limits.TheConstants.{FOLDS_MAX, PRICE_MAX, SETS_MAX}

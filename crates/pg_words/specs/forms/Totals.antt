@@ -1,4 +1,4 @@
--- The words of `totals`.
+-- The arguments of `totals`.
 use Rattle.std.specs.Prelude.{ℕ, List, [], ◌∷◌, Option, None}
 use Rattle.pg_words.specs.TakenNames.{where_taken}
 

@@ -1,4 +1,4 @@
--- Cells of strings with the tallies of those that are counted, by the numbers in the cells.
+-- Cells of strings with the tallies of those that are counted, by the entries of the cells.
 use Rattle.std.specs.Prelude.{◌≡◌, ℕ, ◌+◌, ◌-◌, ◌<◌, ◌≤◌, nat_lt, if◌then◌else◌, List, map, length, slice_get, Option, None, Some}
 use Rattle.std.specs.Option.{option_map}
 use Rattle.std.specs.Ordering.{nat_cmp}
@@ -9,12 +9,12 @@ use Rattle.pg_cells.specs.Inside.linked.AreValuedFamilies.{AreValuedFamilies}
 use Rattle.pg_count.specs.Inside.Counting.{Tally, numbers_in}
 use Rattle.pg_types.specs.declared.limits.TheConstants.{NUMBERS_END}
 
--- the tally that a cell has by its number; those of the pass are numbered from `first` on
+-- the tally that an entry tells; those of the pass have the entries from `first` on
 abbrev pub tally_by_number : ℕ → List (ℕ × ℕ) → ℕ → Option Tally
 tally_by_number first tallies k = if nat_lt k first then None
     else option_map (λ sums. (k - first, sums)) (slice_get tallies (k - first))
 
--- each string has the tally with the number that its cell has, or none where no tally has it
+-- each string has the tally that the entry of its cell tells, or none where it tells none
 abbrev pub tallied_families : ValuedFamilies ℕ → ℕ → List (ℕ × ℕ) → ValuedFamilies (Option Tally)
 tallied_families cells first tallies =
     record {
@@ -23,15 +23,15 @@ tallied_families cells first tallies =
       values = map (λ e. (e.0, tally_by_number first tallies e.1)) cells.values;
     }
 
--- what is always true of the numbers
+-- what is always true of the entries
 pub record AreCellNumbers (cells : ValuedFamilies ℕ) (first : ℕ)
     (tallies : List (ℕ × ℕ)) : Type 0 where
   pub held : AreValuedFamilies cells
-  -- no tally has the number of what was never counted
+  -- no tally has the entry of what was never counted
   pub positive : 1 ≤ first
-  -- each number fits its cell
+  -- each entry fits its cell
   pub few : first + length tallies ≤ NUMBERS_END
-  -- no string has a number that is yet to come
+  -- no string has an entry that is yet to come
   pub numbers : (q : List ℕ) (k : ℕ) → find (slice_cmp nat_cmp) q cells.values ≡ Some k
       → k < first + length tallies
   -- no two strings have one tally

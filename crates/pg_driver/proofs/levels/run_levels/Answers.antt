@@ -23,10 +23,10 @@ levels-init g c =
         done = [];
         did = run_begins source m0 c.args.records.now c.requires.hopeless c.requires.none;
         left =
-            ap (λ (ls : List (ℕ × LevelParams)). level_traces source m0.patterns ls) (all_levels c.start-start.result c.args.params.now.levels
-            ∙ ap (λ (n : ℕ). enumerate_from n c.args.params.now.levels) c.start-start.ensures.value);
+            ap (λ (ls : List (ℕ × LevelParams)). level_traces source m0.patterns ls) (all_levels c.start-first.result c.args.params.now.levels
+            ∙ ap (λ (n : ℕ). enumerate_from n c.args.params.now.levels) c.start-first.ensures.value);
       };
-      upto = up_to_starting c.largest-greatest.result (c.start-start.result + 0 - 1) m0.patterns (c.largest-greatest.ensures.value ∙ ap largest c.in_ok-copy_patterns.ensures);
+      upto = up_to_starting c.largest-greatest.result (c.start-first.result + 0 - 1) m0.patterns (c.largest-greatest.ensures.value ∙ ap largest c.in_ok-copy_patterns.ensures);
       totals = tt;
       small = tt;
       signs = refl;
@@ -45,7 +45,7 @@ levels-preserved g c =
     let m = g.E.Engine.meaning c.levels.engine in
     let n = g.E.Engine.meaning c.run_level.new.engine in
     let source = source_of c.args.table.now c.args.dictionary.now in
-    let start = c.start-start.result in
+    let start = c.start-first.result in
     let i = c.levels.i in
     let levels = c.args.params.now.levels in
     let greatest = c.largest-greatest.result in
@@ -71,13 +71,13 @@ pub returns-in-Some-clause-run : goal.returns-in-Some-clause-run
 returns-in-Some-clause-run g c =
     let m0 = g.E.Engine.meaning c.args.engine.now in
     let m = g.E.Engine.meaning c.levels.engine in
-    let rest = enumerate_from (c.start-start.result + c.levels.i) (drop c.levels.i c.args.params.now.levels) in
+    let rest = enumerate_from (c.start-first.result + c.levels.i) (drop c.levels.i c.args.params.now.levels) in
     run_whole (source_of c.args.table.now c.args.dictionary.now) m0 m c.levels.records rest (run_from c.args.table.now c.args.dictionary.now c.args.params.now m0)
-    (no_levels c.start-start.result c.levels.i c.args.params.now.levels (omega (arith, c.count-count.ensures.value))) c.levels.invariant.reaches
+    (no_levels c.start-first.result c.levels.i c.args.params.now.levels (omega (arith, c.count-count.ensures.value))) c.levels.invariant.reaches
 
 pub run_level-requires-clause-below : goal.run_level-requires-clause-below
-run_level-requires-clause-below g c = λ low. below_level c.largest-greatest.result (c.start-start.result + c.levels.i)
-    (g.E.Engine.meaning c.levels.engine).patterns c.levels.invariant.upto (omega (arith, c.start-start.ensures.low)) low
+run_level-requires-clause-below g c = λ low. below_level c.largest-greatest.result (c.start-first.result + c.levels.i)
+    (g.E.Engine.meaning c.levels.engine).patterns c.levels.invariant.upto (omega (arith, c.start-first.ensures.low)) low
 
 pub returns-in-Some-clause-totals : goal.returns-in-Some-clause-totals
 returns-in-Some-clause-totals g c =
@@ -97,4 +97,4 @@ pub returns-in-Some-clause-signs : goal.returns-in-Some-clause-signs
 returns-in-Some-clause-signs g c = c.levels.invariant.signs
 
 pub returns-in-Some-clause-few : goal.returns-in-Some-clause-few
-returns-in-Some-clause-few g c = omega (arith, c.levels.invariant.passes, c.count-count.ensures.few, c.start-start.ensures.low)
+returns-in-Some-clause-few g c = omega (arith, c.levels.invariant.passes, c.count-count.ensures.few, c.start-first.ensures.low)

@@ -15,8 +15,8 @@ invariant-levels g l =
     let m0 = g.E.Engine.meaning l.fn.engine in
     let m = g.E.Engine.meaning l.engine in
     record {
-      reaches : RunReaches (source_of l.table l.dictionary) m0 m l.records (enumerate_from (l.start + l.i) (drop l.i l.params.levels)) (run_from l.table l.dictionary l.params m0);
-      upto : IsUpTo (max l.greatest (l.start + l.i - 1)) m.patterns;
+      reaches : RunReaches (source_of l.table l.dictionary) m0 m l.records (enumerate_from (l.first + l.i) (drop l.i l.params.levels)) (run_from l.table l.dictionary l.params m0);
+      upto : IsUpTo (max l.greatest (l.first + l.i - 1)) m.patterns;
       totals : IfSome l.last (λ after. after ≡ totals_by (source_of l.table l.dictionary) m.patterns);
       small : IfSome l.last IsSmall;
       signs : m.signs ≡ m0.signs;

@@ -12,7 +12,7 @@ use Rattle.pg_words.proofs.sample.sample.Goals as goal
 abbrev asked : Option (ℕ × ℕ) → Option Request
 asked numbers = option_map (λ (n : ℕ × ℕ). ToSample n.0 n.1) numbers
 
--- what two words ask for, by their numbers
+-- what two arguments ask for, by their numbers
 by_numbers : (a b : List ℕ) (seed count : Option ℕ) → seed ≡ number_within SAMPLE_DIGITS 0 SEED_MAX a → count ≡ number_within SAMPLE_DIGITS 0 COUNT_MAX b
     → asked (option_and_then (λ s. option_map (λ c. (s, c)) count) seed) ≡ asked (sample_in (a ∷ b ∷ []))
 by_numbers a b seed count one two = λ i. asked (option_and_then (λ s. option_map (λ c. (s, c)) (two i)) (one i))

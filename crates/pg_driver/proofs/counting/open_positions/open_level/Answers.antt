@@ -34,7 +34,7 @@ words-preserved g c =
     let lent = c.word-w.ensures.lent in
     let before = c.words.opened in
     let inv = c.words.invariant in
-    let start = c.words.start in
+    let start = c.words.before in
     let wide : position_count c.open_word.new.opened.dots ≡ position_count before.dots = c.open_word.ensures.size in
     let dots : (d s : ℕ) → s < position_count before.dots → is_closed c.open_word.new.opened.dots d s
     ≡ (not (is_open_first minima c.args.level P w (s - start)) && is_closed before.dots d s) = c.open_word.ensures.closed in
@@ -99,8 +99,8 @@ open_word-requires-clause-within g c =
     let whole = start_past c.args.dictionary.now (length c.args.dictionary.now) (omega arith) in
     omega (arith, behind, whole, c.words.invariant.starts, c.words.invariant.size)
 
-pub overflow_add-start : goal.overflow_add-start
-overflow_add-start g c =
+pub overflow_add-before : goal.overflow_add-before
+overflow_add-before g c =
     let w = lent_word c.word-w.result in
     let behind = start_before c.args.dictionary.now c.words.i (length c.args.dictionary.now) w c.word-w.ensures.lent (omega (arith, c.words-test.true, c.len-count.ensures.len)) in
     let whole = start_past c.args.dictionary.now (length c.args.dictionary.now) (omega arith) in

@@ -19,10 +19,10 @@ invariant-words g l =
       size : sign_count l.dictionary ≤ position_count l.opened.dots;
       few : position_count l.opened.dots < positions_limit;
       none : l.opened.dots.reached ≡ 0;
-      starts : l.start ≡ start_of l.dictionary l.i;
+      starts : l.before ≡ start_of l.dictionary l.i;
       before : (d n p : ℕ) (w : Word) → n < l.i → slice_get l.dictionary n ≡ Some w → p < length w.signs → is_closed l.opened.dots d (start_of l.dictionary n + p)
           ≡ not (is_open_first minima l.level P w p);
-      later : (d s : ℕ) → l.start ≤ s → s < position_count l.opened.dots → is_closed l.opened.dots d s ≡ true;
+      later : (d s : ℕ) → l.before ≤ s → s < position_count l.opened.dots → is_closed l.opened.dots d s ≡ true;
       sums : with_marks l.opened.totals (flat_map (marks_in minima P) (drop l.i l.dictionary)) ≡ totals minima l.dictionary P;
       reached : AreReached minima l.dictionary l.i;
       room_for : HasRoomFor l.opened.totals (sum_by letter_count (drop l.i l.dictionary));

@@ -34,7 +34,7 @@ positions-preserved g c =
       size = c.open_by_status.ensures.size ∙ c.positions.invariant.size;
       none = c.open_by_status.ensures.none;
       dots = λ d s low.
-          let s0 = c.args.start in
+          let s0 = c.args.before in
           c.open_by_status.ensures.closed d s (omega (arith, c.positions.invariant.size))
           ∙ ap (λ b. not (nat_eq s (s0 + p) && is_some (counts_as c.args.level c.mark_at-mark.result)) && b) (c.positions.invariant.dots d s low)
           ∙ opens_next m c.args.level P w c.in-Some.first c.in-Some.end c.in-Some.ensures.some s0 p s (is_some (counts_as c.args.level c.mark_at-mark.result))
@@ -53,7 +53,7 @@ positions-init g c =
     record {
       size = refl;
       none = c.requires.none;
-      dots = λ d s low. opens_first m c.args.level P w c.in-Some.first c.in-Some.end c.in-Some.ensures.some c.args.start s (is_closed c.args.opened.now.dots d s);
+      dots = λ d s low. opens_first m c.args.level P w c.in-Some.first c.in-Some.end c.in-Some.ensures.some c.args.before s (is_closed c.args.opened.now.dots d s);
       sums = ap (λ (ps : List ℕ). with_marks c.args.opened.now.totals (map
           (λ (q : ℕ). (status (slice_index_or w.hyphens q false) (slice_index_or w.cares q true) (value_at P w.signs q), position_weight w q)) ps)) (sym c.in-Some.ensures.some);
       few = omega arith;
@@ -69,5 +69,5 @@ returns-clause-closed g c = λ d s low.
     let w = lent_word c.args.w.now in
     let m = minima_of c.args.table.now in
     c.positions.invariant.dots d s low
-    ∙ opens_last m c.args.level P w c.in-Some.first c.in-Some.end c.in-Some.ensures.some c.args.start c.positions.p s (is_closed c.args.opened.now.dots d s)
+    ∙ opens_last m c.args.level P w c.in-Some.first c.in-Some.end c.in-Some.ensures.some c.args.before c.positions.p s (is_closed c.args.opened.now.dots d s)
     (omega (arith, c.positions.auto)) (omega (arith, c.positions-test.false))

@@ -17,7 +17,7 @@ invariant-positions g l =
       size : position_count l.opened.dots ≡ position_count l.fn.opened.dots;
       none : l.opened.dots.reached ≡ 0;
       dots : (d s : ℕ) → s < position_count l.fn.opened.dots → is_closed l.opened.dots d s
-          ≡ (not (nat_lt s (l.start + l.p) && is_open_first (minima_of l.table) l.level m.patterns w (s - l.start)) && is_closed l.fn.opened.dots d s);
+          ≡ (not (nat_lt s (l.before + l.p) && is_open_first (minima_of l.table) l.level m.patterns w (s - l.before)) && is_closed l.fn.opened.dots d s);
       sums : with_marks l.opened.totals (marks_from m.patterns w l.p l.end) ≡ with_marks l.fn.opened.totals (marks_in (minima_of l.table) m.patterns w);
       few : l.p - l.first ≤ letter_count w;
       took_for : TookRoomFor l.fn.opened.totals l.opened.totals (l.p - l.first);

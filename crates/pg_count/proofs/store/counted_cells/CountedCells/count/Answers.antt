@@ -10,8 +10,8 @@ use Rattle.pg_count.specs.Inside.cells.CellNumbers.{tallied_families, AreCellNum
 use Rattle.pg_count.proofs.CellLaws.Numbering.{held_tallied, count_tallied, count_are}
 use Rattle.pg_count.proofs.store.counted_cells.CountedCells.count.Goals as goal
 
-pub returns-in_err-in_cell-clause-kept : goal.returns-in_err-in_cell-clause-kept
-returns-in_err-in_cell-clause-kept c = held_tallied c.self.inside.cells c.self.inside.first c.push_sums.new.tallies.items c.self.invariant.held
+pub returns-in_err-entry-clause-kept : goal.returns-in_err-entry-clause-kept
+returns-in_err-entry-clause-kept c = held_tallied c.self.inside.cells c.self.inside.first c.push_sums.new.tallies.items c.self.invariant.held
 
 pub invariant_of-self-2 : goal.invariant_of-self-2
 invariant_of-self-2 c =
@@ -19,8 +19,8 @@ invariant_of-self-2 c =
     let at = subst (λ (h : ValuedFamilies (Option Tally)). cell_of h.families q ≡ Some c.args.cell) (sym c.self.view_is) c.requires.1.0 in
     let blank = subst (λ (h : ValuedFamilies (Option Tally)). find order q h.values ≡ Some None) (sym c.self.view_is) c.requires.1.1 in
     count_are c.self.inside.cells c.set_value.new.self c.self.inside.first c.self.inside.tallies.items c.push_sums.new.tallies.items c.self.invariant
-    q c.args.sums c.in_ok-in_cell.ensures.items c.in_ok-in_cell.ensures.few
-    (c.set_value.ensures.held q at ∙ ap (λ n. record c.self.inside.cells { values = put order q n c.self.inside.cells.values }) c.in_ok-in_cell.ensures.number) c.set_value.ensures.kept blank
+    q c.args.sums c.in_ok-entry.ensures.items c.in_ok-entry.ensures.few
+    (c.set_value.ensures.held q at ∙ ap (λ n. record c.self.inside.cells { values = put order q n c.self.inside.cells.values }) c.in_ok-entry.ensures.entry) c.set_value.ensures.kept blank
 
 pub returns-clause-held : goal.returns-clause-held
 returns-clause-held c q e =
@@ -29,8 +29,8 @@ returns-clause-held c q e =
     let same = c.self.invariant.held.apart c.requires.0 q c.args.cell was at in
     let blank = subst (λ (h : ValuedFamilies (Option Tally)). find order q h.values ≡ Some None) (sym c.self.view_is) (ap (λ x. find order x c.args.self.now.values) (sym same) ∙ c.requires.1.1) in
     count_tallied c.self.inside.cells c.set_value.new.self c.self.inside.first c.self.inside.tallies.items c.push_sums.new.tallies.items c.self.invariant
-    q c.args.sums c.in_ok-in_cell.ensures.items c.in_ok-in_cell.ensures.few
-    (c.set_value.ensures.held q at ∙ ap (λ n. record c.self.inside.cells { values = put order q n c.self.inside.cells.values }) c.in_ok-in_cell.ensures.number) c.set_value.ensures.kept blank
+    q c.args.sums c.in_ok-entry.ensures.items c.in_ok-entry.ensures.few
+    (c.set_value.ensures.held q at ∙ ap (λ n. record c.self.inside.cells { values = put order q n c.self.inside.cells.values }) c.in_ok-entry.ensures.entry) c.set_value.ensures.kept blank
     ∙ ap (λ n. record (tallied_families c.self.inside.cells c.self.inside.first c.self.inside.tallies.items) {
       values =
           put order q (Some (n, c.args.sums)) (tallied_families c.self.inside.cells c.self.inside.first c.self.inside.tallies.items).values;
@@ -47,9 +47,9 @@ returns-clause-size c =
     let blank = subst (λ (h : ValuedFamilies (Option Tally)). find order q h.values ≡ Some None) (sym c.self.view_is) c.requires.1.1 in
     let are =
     count_are c.self.inside.cells c.set_value.new.self c.self.inside.first c.self.inside.tallies.items c.push_sums.new.tallies.items c.self.invariant
-    q c.args.sums c.in_ok-in_cell.ensures.items c.in_ok-in_cell.ensures.few
-    (c.set_value.ensures.held q at ∙ ap (λ n. record c.self.inside.cells { values = put order q n c.self.inside.cells.values }) c.in_ok-in_cell.ensures.number) c.set_value.ensures.kept blank in
-    are.size ∙ ap length c.in_ok-in_cell.ensures.items ∙ length_push c.self.inside.tallies.items c.args.sums ∙ ap (λ k. k + 1) (sym c.self.invariant.size)
+    q c.args.sums c.in_ok-entry.ensures.items c.in_ok-entry.ensures.few
+    (c.set_value.ensures.held q at ∙ ap (λ n. record c.self.inside.cells { values = put order q n c.self.inside.cells.values }) c.in_ok-entry.ensures.entry) c.set_value.ensures.kept blank in
+    are.size ∙ ap length c.in_ok-entry.ensures.items ∙ length_push c.self.inside.tallies.items c.args.sums ∙ ap (λ k. k + 1) (sym c.self.invariant.size)
     ∙ ap (λ (h : ValuedFamilies (Option Tally)). length (numbers_in h.values) + 1) c.self.view_is
 
 pub push_sums-requires : goal.push_sums-requires
@@ -61,21 +61,21 @@ set_value-requires c =
     (lit< tt, (q, subst (λ (h : ValuedFamilies (Option Tally)). cell_of h.families q ≡ Some c.args.cell) (sym c.self.view_is) c.requires.1.0))
 
 pub invariant_of-self : goal.invariant_of-self
-invariant_of-self c = subst (λ items. AreCellNumbers c.self.inside.cells c.self.inside.first items) (sym c.in_err-in_cell.ensures.err) c.self.invariant
+invariant_of-self c = subst (λ items. AreCellNumbers c.self.inside.cells c.self.inside.first items) (sym c.in_err-entry.ensures.err) c.self.invariant
 
-pub returns-in_err-in_cell-clause-number : goal.returns-in_err-in_cell-clause-number
-returns-in_err-in_cell-clause-number c = let err = err_from_is_err_and c.from_residual.result c.from_residual.ensures.1 in rw err.1 tt
+pub returns-in_err-entry-clause-number : goal.returns-in_err-entry-clause-number
+returns-in_err-entry-clause-number c = let err = err_from_is_err_and c.from_residual.result c.from_residual.ensures.1 in rw err.1 tt
 
-pub returns-in_err-in_cell-clause-held : goal.returns-in_err-in_cell-clause-held
-returns-in_err-in_cell-clause-held c q e = let err = err_from_is_err_and c.from_residual.result c.from_residual.ensures.1 in rw err.1 tt
+pub returns-in_err-entry-clause-held : goal.returns-in_err-entry-clause-held
+returns-in_err-entry-clause-held c q e = let err = err_from_is_err_and c.from_residual.result c.from_residual.ensures.1 in rw err.1 tt
 
-pub returns-in_err-in_cell-clause-size : goal.returns-in_err-in_cell-clause-size
-returns-in_err-in_cell-clause-size c = let err = err_from_is_err_and c.from_residual.result c.from_residual.ensures.1 in rw err.1 tt
+pub returns-in_err-entry-clause-size : goal.returns-in_err-entry-clause-size
+returns-in_err-entry-clause-size c = let err = err_from_is_err_and c.from_residual.result c.from_residual.ensures.1 in rw err.1 tt
 
-pub returns-in_err-in_cell-clause-err : goal.returns-in_err-in_cell-clause-err
-returns-in_err-in_cell-clause-err c =
+pub returns-in_err-entry-clause-err : goal.returns-in_err-entry-clause-err
+returns-in_err-entry-clause-err c =
     let err = err_from_is_err_and c.from_residual.result c.from_residual.ensures.1 in
-    rw err.1 (ap (tallied_families c.self.inside.cells c.self.inside.first) c.in_err-in_cell.ensures.err ∙ c.self.view_is)
+    rw err.1 (ap (tallied_families c.self.inside.cells c.self.inside.first) c.in_err-entry.ensures.err ∙ c.self.view_is)
 
 pub returns-clause-err : goal.returns-clause-err
 returns-clause-err c = tt

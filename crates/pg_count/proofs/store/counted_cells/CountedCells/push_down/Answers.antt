@@ -21,10 +21,10 @@ invariant_of-self-2 c =
     let none = subst (λ (h : ValuedFamilies (Option Tally)). cell_of h.families (q ++ c.args.s ∷ []) ≡ None) (sym c.self.view_is) c.requires.cell.2.2 in
     let is = c.in_ok-below.ensures.held q at in
     let set = c.set_value.ensures.held q (c.in_ok-below.ensures.cells q at q (λ x e. not_longer q x (sym e)) ∙ at) in
-    pushed_are c.self.inside.cells c.add.new.self c.set_value.new.self c.self.inside.first c.self.inside.tallies.items c.self.invariant q c.args.s c.value-number.result t
+    pushed_are c.self.inside.cells c.add.new.self c.set_value.new.self c.self.inside.first c.self.inside.tallies.items c.self.invariant q c.args.s c.value-entry.result t
     (ap (λ (h : ValuedFamilies ℕ). h.signs) set ∙ ap (λ (h : ValuedFamilies ℕ). h.signs) is) (ap (λ (h : ValuedFamilies ℕ). h.values) is) c.in_ok-below.ensures.kept
     (ap (λ (h : ValuedFamilies ℕ). h.values) set) c.set_value.ensures.kept
-    (c.value-number.ensures q at) (no_value c.self.inside.cells c.self.invariant.held (q ++ c.args.s ∷ []) none) there
+    (c.value-entry.ensures q at) (no_value c.self.inside.cells c.self.invariant.held (q ++ c.args.s ∷ []) none) there
 
 pub returns-clause-held : goal.returns-clause-held
 returns-clause-held c q t e f =
@@ -36,10 +36,10 @@ returns-clause-held c q t e f =
     let is = c.in_ok-below.ensures.held q at in
     let set = c.set_value.ensures.held q (c.in_ok-below.ensures.cells q at q (λ x e. not_longer q x (sym e)) ∙ at) in
     subst (λ (h : ValuedFamilies (Option Tally)). PushesDown h (tallied_families c.set_value.new.self c.self.inside.first c.self.inside.tallies.items) q c.args.s t) c.self.view_is
-    (pushed_tallied c.self.inside.cells c.add.new.self c.set_value.new.self c.self.inside.first c.self.inside.tallies.items c.self.invariant q c.args.s c.value-number.result t
+    (pushed_tallied c.self.inside.cells c.add.new.self c.set_value.new.self c.self.inside.first c.self.inside.tallies.items c.self.invariant q c.args.s c.value-entry.result t
     (ap (λ (h : ValuedFamilies ℕ). h.signs) set ∙ ap (λ (h : ValuedFamilies ℕ). h.signs) is) (ap (λ (h : ValuedFamilies ℕ). h.values) is) c.in_ok-below.ensures.kept
     (ap (λ (h : ValuedFamilies ℕ). h.values) set) c.set_value.ensures.kept
-    (c.value-number.ensures q at) (no_value c.self.inside.cells c.self.invariant.held (q ++ c.args.s ∷ []) (subst (λ p. cell_of c.self.inside.cells.families (p ++ c.args.s ∷ []) ≡ None) same none))
+    (c.value-entry.ensures q at) (no_value c.self.inside.cells c.self.invariant.held (q ++ c.args.s ∷ []) (subst (λ p. cell_of c.self.inside.cells.families (p ++ c.args.s ∷ []) ≡ None) same none))
     there)
 
 pub returns-clause-cell : goal.returns-clause-cell
@@ -54,8 +54,8 @@ returns-clause-there c q e =
     let stays = c.in_ok-below.ensures.cells q at q (λ x e. not_longer q x (sym e)) ∙ at in
     ap (λ (h : ValuedFamilies ℕ). cell_of h.families q) (c.set_value.ensures.held q stays) ∙ stays
 
-pub value-number-requires : goal.value-number-requires
-value-number-requires c =
+pub value-entry-requires : goal.value-entry-requires
+value-entry-requires c =
     let q = c.requires.cell.0 in
     (lit< tt, (q, subst (λ (h : ValuedFamilies (Option Tally)). cell_of h.families q ≡ Some c.args.cell) (sym c.self.view_is) c.requires.cell.2.0))
 

@@ -54,7 +54,7 @@ pub invariant_of-self-in-Ok : goal.invariant_of-self-in-Ok
 invariant_of-self-in-Ok c =
     let t = c.self.inside in
     let more = c.make_room.new.numbers.items in
-    subst (λ k. IsTable (set more c.index_of-index.result c.in-Ok.in_table) t.first c.push.new.self.items c.push_sums.new.tallies.items t.signs k)
+    subst (λ k. IsTable (set more c.index_of-index.result c.in-Ok.entry) t.first c.push.new.self.items c.push_sums.new.tallies.items t.signs k)
     (sym (ap (λ (l : WindowRow). l.len) c.in_ok-push.ensures.ok))
     (new_is more t.first t.windows.items t.tallies.items t.signs t.windows.len
     (room_is t.numbers.items t.first t.windows.items t.tallies.items t.signs t.windows.len c.self.invariant more c.make_room.ensures.kept c.make_room.ensures.back)
@@ -64,8 +64,8 @@ invariant_of-self-in-Ok c =
     c.make_room.ensures.back)
     ∙ ap (λ (d : Counting). counted_sums d.counted.counts c.args.window.now) c.self.view_is ∙ c.requires.new)
     (subst (λ i. i < length more) c.index_of-index.ensures.is c.in_ok-make_room.ensures.room)
-    c.index_of-index.result c.in-Ok.in_table c.push.new.self.items c.push_sums.new.tallies.items
-    c.index_of-index.ensures.is c.in-Ok.ensures.number (ap (λ (l : WindowRow). l.items) c.in_ok-push.ensures.ok) c.in-Ok.ensures.items c.in-Ok.ensures.few)
+    c.index_of-index.result c.in-Ok.entry c.push.new.self.items c.push_sums.new.tallies.items
+    c.index_of-index.ensures.is c.in-Ok.ensures.entry (ap (λ (l : WindowRow). l.items) c.in_ok-push.ensures.ok) c.in-Ok.ensures.items c.in-Ok.ensures.few)
 
 pub invariant_of-self-in-Err : goal.invariant_of-self-in-Err
 invariant_of-self-in-Err c =
@@ -80,7 +80,7 @@ pub returns-in-Ok-clause-ok : goal.returns-in-Ok-clause-ok
 returns-in-Ok-clause-ok c =
     let t = c.self.inside in
     let more = c.make_room.new.numbers.items in
-    ap (table_counting (set more c.index_of-index.result c.in-Ok.in_table) t.first c.push.new.self.items c.push_sums.new.tallies.items t.signs)
+    ap (table_counting (set more c.index_of-index.result c.in-Ok.entry) t.first c.push.new.self.items c.push_sums.new.tallies.items t.signs)
     (ap (λ (l : WindowRow). l.len) c.in_ok-push.ensures.ok)
     ∙ new_counting more t.first t.windows.items t.tallies.items t.signs t.windows.len
     (room_is t.numbers.items t.first t.windows.items t.tallies.items t.signs t.windows.len c.self.invariant more c.make_room.ensures.kept c.make_room.ensures.back)
@@ -90,8 +90,8 @@ returns-in-Ok-clause-ok c =
     c.make_room.ensures.back)
     ∙ ap (λ (d : Counting). counted_sums d.counted.counts c.args.window.now) c.self.view_is ∙ c.requires.new)
     (subst (λ i. i < length more) c.index_of-index.ensures.is c.in_ok-make_room.ensures.room)
-    c.index_of-index.result c.in-Ok.in_table c.push.new.self.items c.push_sums.new.tallies.items
-    c.index_of-index.ensures.is c.in-Ok.ensures.number (ap (λ (l : WindowRow). l.items) c.in_ok-push.ensures.ok) c.in-Ok.ensures.items c.in-Ok.ensures.few
+    c.index_of-index.result c.in-Ok.entry c.push.new.self.items c.push_sums.new.tallies.items
+    c.index_of-index.ensures.is c.in-Ok.ensures.entry (ap (λ (l : WindowRow). l.items) c.in_ok-push.ensures.ok) c.in-Ok.ensures.items c.in-Ok.ensures.few
     ∙ ap (λ (d : Counting). record d { counted = record { counts = put order c.args.window.now c.args.sums d.counted.counts; windows = d.counted.windows ++ c.args.window.now ∷ [] } })
     (room_counting t.numbers.items t.first t.windows.items t.tallies.items t.signs t.windows.len c.self.invariant more c.make_room.ensures.kept c.make_room.ensures.back ∙ c.self.view_is)
 
