@@ -48,12 +48,7 @@ impl Pruned {
     ghost use Rattle.pg_prune.specs.Inside.Needs.{HasNeeds};
 
     /// The patterns, needs and numbers as one.
-    pub(crate) fn new(
-        patterns: PatternSet,
-        needs: Vec<Need>,
-        rounds: u64,
-        removed: u64,
-    ) -> Pruned
+    pub(crate) fn new(patterns: PatternSet, needs: Vec<Need>, rounds: u64, removed: u64) -> Pruned
         requires { HasNeeds (record {
           patterns = patterns;
           needs = needs.items;

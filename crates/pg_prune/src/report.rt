@@ -68,11 +68,7 @@ fn push_last_line(text: &mut Vec<u8>, pruned: &Pruned) -> Result<(), AllocError>
 
 /// The report: a line for each entry that stays, with its need. The last line has the numbers of
 /// rounds, of entries that were taken out, and of those that stay.
-pub fn prune_text(
-    alloc: Global,
-    table: &Table,
-    pruned: &Pruned,
-) -> Result<Vec<u8>, AllocError>
+pub fn prune_text(alloc: Global, table: &Table, pruned: &Pruned) -> Result<Vec<u8>, AllocError>
     requires { SignsUpTo (letters_of table.now + 1) pruned.now.patterns }
     ensures { IfOk result (λ text. text.items ≡ prune_report table.now pruned.now) }
 {

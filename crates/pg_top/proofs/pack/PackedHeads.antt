@@ -50,4 +50,4 @@ packed_accepted t P few short well =
     let is_short = le-ltb TABLE_MAX (length b) short in
     let same = eq-eqb (head_of b).signs (letters_of t + 1) (text_signs (letters_of t + 1) P few) in
     λ k. cond {A = Result (List ℕ) Refusal} (is_short k) (Err (refusal_at 0 TableTooLong 0))
-      (cond (not (well k)) (Err (refusal_at 0 BadTable 0)) (cond (same k) (Ok b) (Err (refusal_at 0 OtherTable 0))))
+    (cond (not (well k)) (Err (refusal_at 0 BadTable 0)) (cond (same k) (Ok b) (Err (refusal_at 0 OtherTable 0))))

@@ -65,7 +65,7 @@ sorted_kept keep [] sorted = tt
 sorted_kept keep (e ∷ es) sorted =
     subst (λ l. T (is_sorted order l)) (sym (one_first keep e (flat_map (kept_family keep) es)))
     (sorted_one e.0 e.1.base (filter (λ s. keep (e.0 ++ s ∷ [])) e.1.signs) (flat_map (kept_family keep) es)
-      (below_kept keep e.0 es (head_below e es sorted)) (sorted_kept keep es (tail_sorted e es sorted)))
+    (below_kept keep e.0 es (head_below e es sorted)) (sorted_kept keep es (tail_sorted e es sorted)))
 
 -- the family with a prefix, of those that are kept
 pub kept_at : (keep : List ℕ → Bool) (fs : Families) (p : List ℕ) → T (is_sorted order fs) → family_at (flat_map (kept_family keep) fs) p ≡ kept_option keep p (family_at fs p)
@@ -76,7 +76,7 @@ kept_at keep (e ∷ es) p sorted =
     ∙ elim (equal_or_not p e.0) [
       | inl h ↦
           let none : find order p (flat_map (kept_family keep) es) ≡ None =
-              ap (λ q. find order q (flat_map (kept_family keep) es)) h.0 ∙ find_below e.0 (flat_map (kept_family keep) es) (below_kept keep e.0 es (head_below e es sorted)) in
+          ap (λ q. find order q (flat_map (kept_family keep) es)) h.0 ∙ find_below e.0 (flat_map (kept_family keep) es) (below_kept keep e.0 es (head_below e es sorted)) in
           ap (λ q. find order p (with_one q e.1.base (filter (λ s. keep (q ++ s ∷ [])) e.1.signs) (flat_map (kept_family keep) es))) (sym h.0)
           ∙ find_one_same p e.1.base (filter (λ s. keep (p ++ s ∷ [])) e.1.signs) (flat_map (kept_family keep) es) none
           ∙ sym (ap (λ b. kept_option keep p (cond b (Some e.1) (find order p es))) h.1)
@@ -101,7 +101,7 @@ pub kept_same : (t u : List ℕ → Bool) (fs : Families) → T (is_sorted order
     → flat_map (kept_family t) fs ≡ flat_map (kept_family u) fs
 kept_same t u fs sorted same =
     same_maps (flat_map (kept_family t) fs) (flat_map (kept_family u) fs) (sorted_kept t fs sorted) (sorted_kept u fs sorted)
-      (λ p. kept_at t fs p sorted ∙ by p (family_at fs p) refl ∙ sym (kept_at u fs p sorted))
+    (λ p. kept_at t fs p sorted ∙ by p (family_at fs p) refl ∙ sym (kept_at u fs p sorted))
   where
     by : (p : List ℕ) (o : Option Family) → family_at fs p ≡ o → kept_option t p o ≡ kept_option u p o
     by p None at = refl
