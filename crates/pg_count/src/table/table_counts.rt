@@ -171,6 +171,9 @@ impl WindowCounter for TableCounts {
     }
 
     fn order(&self, out: &mut Vec<u32>) -> Result<(), AllocError> {
+        if self.tallies.is_empty() {
+            return Ok(());
+        }
         push_numbers(self.numbers.as_slice(), self.first, out)
     }
 
