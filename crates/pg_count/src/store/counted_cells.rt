@@ -14,6 +14,7 @@ ghost use Rattle.pg_cells.specs.Inside.families.Root.{root_alone};
 ghost use Rattle.pg_cells.specs.Inside.linked.Walks.{IsAt};
 ghost use Rattle.pg_count.specs.Inside.Counting.{Tally, counts_in, numbers_in};
 ghost use Rattle.pg_count.specs.Inside.cells.Leaves.{Adds, AreShort, PushesDown};
+ghost use Rattle.pg_count.specs.declared.store.tally_list.TheConstants.{LATEST_FIRST};
 
 use crate::store::tally_list::{
     LATEST_FIRST, NO_TALLY, push_sums, set_sums_at, sums_at, tally_by_number,
@@ -86,8 +87,7 @@ impl CountedCells {
     {
         let next = self.first + self.tallies.len() as u32;
         let many = self.has_none() || self.cells.taken() <= CELLS_PER_TALLY * self.tallies.len();
-        let keeps = alike & many & (next <= LATEST_FIRST);
-        self.first = first_after(&mut self.cells, next, keeps);
+        self.first = first_after(&mut self.cells, next, alike & many);
         self.tallies.clear();
     }
 
@@ -249,8 +249,9 @@ impl CountedCells {
     }
 }
 
-// The entry of the first tally of the next pass, past each entry of the cells. It is `next`, and
-// each string keeps its cell; or the entries begin again from 1, and each sign alone has a cell.
+// The entry of the first tally of the next pass, past each entry of the cells. Where the cells are to
+// stay and enough entries are left, it is `next`, and each string keeps its cell. Else the entries
+// begin again from 1, and each sign alone has a cell.
 fn first_after(cells: &mut NearCells<u32>, next: u32, keeps: bool) -> u32
     requires held { AreValuedFamilies cells.old }
     requires positive { 1 ≤ next }
@@ -260,14 +261,14 @@ fn first_after(cells: &mut NearCells<u32>, next: u32, keeps: bool) -> u32
     ensures held { AreValuedFamilies cells.new }
     ensures signs { cells.new.signs ≡ cells.old.signs }
     ensures positive { 1 ≤ result }
-    ensures few { result ≤ NUMBERS_END }
+    ensures few { result ≤ LATEST_FIRST }
     ensures past { (q : List ℕ) (k : ℕ) → find (slice_cmp nat_cmp) q cells.new.values ≡ Some k
         → k < result }
     ensures strings { (q : List ℕ) (k : ℕ) → find (slice_cmp nat_cmp) q cells.new.values ≡ Some k
         → (length q ≡ 1) ⊎ ((keeps ≡ true)
         × (find (slice_cmp nat_cmp) q cells.old.values ≡ Some k)) }
 {
-    if keeps {
+    if keeps && next <= LATEST_FIRST {
         return next;
     }
     cells.reset(NO_TALLY);

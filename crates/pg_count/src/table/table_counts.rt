@@ -6,6 +6,7 @@ ghost use Rattle.std.specs.Ordering.{nat_cmp};
 ghost use Rattle.pg_types.specs.declared.limits.TheConstants.{LENGTH_MAX, SIGNS_MAX, NUMBERS_END};
 ghost use Rattle.pg_types.specs.Inside.counting.Counts.{SignsWithin, counted_sums};
 ghost use Rattle.pg_types.specs.Inside.counting.NumberedWindows.{HasNumber, no_counts};
+ghost use Rattle.pg_count.specs.declared.store.tally_list.TheConstants.{LATEST_FIRST};
 ghost use Rattle.pg_count.specs.declared.table.short.TheConstants.{ENTRIES_MAX};
 
 use crate::store::tally_list::{LATEST_FIRST, push_sums, set_sums_at, sums_at, tally_by_number};
@@ -170,6 +171,9 @@ impl WindowCounter for TableCounts {
     }
 
     fn order(&self, out: &mut Vec<u32>) -> Result<(), AllocError> {
+        if self.tallies.is_empty() {
+            return Ok(());
+        }
         push_numbers(self.numbers.as_slice(), self.first, out)
     }
 
@@ -197,7 +201,7 @@ fn first_after(numbers: &mut Vec<u32>, next: u32) -> u32
     requires few { next ≤ NUMBERS_END }
     requires past { (i k : ℕ) → slice_get numbers.old.items i ≡ Some k → k < next }
     ensures positive { 1 ≤ result }
-    ensures few { result ≤ NUMBERS_END }
+    ensures few { result ≤ LATEST_FIRST }
     ensures past { (i k : ℕ) → slice_get numbers.new.items i ≡ Some k → k < result }
 {
     if next <= LATEST_FIRST {

@@ -8,8 +8,8 @@ use Rattle.pg_cells.specs.Inside.linked.ValuedFamilies.{ValuedFamilies}
 use Rattle.pg_count.proofs.CellLaws.Numbering.{root_past}
 use Rattle.pg_count.proofs.store.counted_cells.first_after.Goals as goal
 
-pub returns-then-keeps-clause-past : goal.returns-then-keeps-clause-past
-returns-then-keeps-clause-past c = c.requires.past
+pub returns-then-next-le-LATEST_FIRST-clause-past : goal.returns-then-next-le-LATEST_FIRST-clause-past
+returns-then-next-le-LATEST_FIRST-clause-past c = c.requires.past
 
 pub returns-clause-past : goal.returns-clause-past
 returns-clause-past c = root_past c.args.cells.now.signs c.reset.new.self c.reset.ensures.held

@@ -1,4 +1,4 @@
-use Rattle.std.proofs.Common.{◌+◌, ◌^◌, ◌≤◌, [], sym, subst, ap, ◌∙◌}
+use Rattle.std.proofs.Common.{◌+◌, ◌^◌, ◌≤◌, [], sym, subst, ap, ◌∙◌, arith}
 use Rattle.pg_types.specs.Inside.counting.NumberedWindows.{no_counts}
 use Rattle.pg_count.specs.Inside.Counting.{Counting}
 use Rattle.pg_count.specs.Inside.WindowRow.{WindowRow}
@@ -15,7 +15,7 @@ invariant_of-self c =
     let ensures = c.first_after-self-inside.ensures in
     subst (λ (l : WindowRow). IsTable row first l.items c.clear.new.self.items c.self.inside.signs l.len) (sym c.begin.ensures)
     (subst (λ ts. IsTable row first [] ts c.self.inside.signs c.args.len) (sym c.clear.ensures.items)
-    (begun_is row first c.self.inside.signs c.args.len ensures.positive ensures.few ensures.past c.requires.len.0 c.requires.len.1 c.self.invariant.within
+    (begun_is row first c.self.inside.signs c.args.len ensures.positive (omega (arith, ensures.few)) ensures.past c.requires.len.0 c.requires.len.1 c.self.invariant.within
     (subst (λ (d : Counting). (d.signs + 1) ^ c.args.len ≤ ENTRIES_MAX) (sym c.self.view_is) c.requires.few)))
 
 pub returns : goal.returns
@@ -26,5 +26,5 @@ returns c =
     ap (λ (l : WindowRow). table_counting row first l.items c.clear.new.self.items c.self.inside.signs l.len) c.begin.ensures
     ∙ ap (λ ts. table_counting row first [] ts c.self.inside.signs c.args.len) c.clear.ensures.items
     ∙ ap (λ cs. record { signs = c.self.inside.signs; len = c.args.len; counted = record { counts = cs; windows = [] } })
-    (begun_counts row first c.self.inside.signs c.args.len ensures.positive ensures.few ensures.past)
+    (begun_counts row first c.self.inside.signs c.args.len ensures.positive (omega (arith, ensures.few)) ensures.past)
     ∙ ap (λ (d : Counting). record { signs = d.signs; len = c.args.len; counted = no_counts }) c.self.view_is
