@@ -24,8 +24,8 @@ use std::alloc::{AllocError, Global};
 use std::marker::Model;
 
 /// Families of cells, each cell with a value. The base of a family of up to `FEW` signs is sought
-/// from 1 on. For a greater one the search begins some way below the greatest taken cell. With
-/// `FEW` 0 it begins a little below that cell for each family, and is short.
+/// from 1 on. For a greater one the search begins at least `FAR_BELOW` below the greatest taken
+/// cell. With `FEW` 0 it begins `NEAR_BELOW` below that cell for each family, and is short.
 #[derive(Drop)]
 pub struct LinkedCells<V: Copy, const FEW: usize> {
     placed: Placed<V, FEW>,

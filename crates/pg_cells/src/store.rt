@@ -42,7 +42,7 @@ pub struct Store<V: Copy> {
     lows: Vec<u32>,
     /// The least cell that was given up since the bounds were lowered last.
     freed: usize,
-    /// The least base that was given up since then.
+    /// The least base that was given up since the bounds were lowered last.
     dropped: usize,
     /// The base of the family that was placed last, 0 where a cell or a base was given up since.
     placed: usize,

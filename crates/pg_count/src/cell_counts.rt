@@ -18,8 +18,8 @@ use std::marker::Model;
 ///
 /// A window's signs lead from cell to cell, as far as another window begins alike. The last cell
 /// has the window's number, by which its signs and its two sums are found in lists. So the cells
-/// keep only what branches, and whether the rest of a window is the same is told by its signs. The
-/// memory of the cells and of the lists stays for later passes.
+/// keep only what branches. The signs of a window tell whether its rest is the same. The memory of
+/// the cells and of the lists stays for later passes.
 #[derive(Drop)]
 pub struct CellCounts {
     cells: CountedCells,

@@ -75,8 +75,7 @@ fn choose_one<E: Engine>(
     }
 }
 
-/// Chooses each candidate of a pass, makes it hopeless or leaves it, in the order of signs, as was
-/// decided by number.
+/// Does with each candidate of a pass, in the order of signs, what was decided of its number.
 pub fn choose_all<E: Engine>(
     engine: &mut E,
     params: &LevelParams,

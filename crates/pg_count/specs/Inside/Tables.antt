@@ -53,7 +53,7 @@ pub record AreTabled (numbers : List ℕ) (first : ℕ) (windows : Windows) (tal
   pub long : (u : List ℕ) (n : ℕ) → HasNumber windows u n
       → (length u ≡ len) × SignsWithin signs u
   pub tallied : length tallies ≡ length windows
-  -- what was never counted has no number of the pass
+  -- the entry 0 is that of no window
   pub positive : 1 ≤ first
   pub few : first + length tallies ≤ NUMBERS_END
 

@@ -27,8 +27,8 @@ fn sign_cell(cells: &CountedCells, base: usize, s: Sign) -> Option<usize>
 /// Appends the numbers of the counted strings of a family and of those below it, in the order of
 /// signs. The family has the base, and `first` is the first of its signs. No string of these has
 /// more than `more` signs behind the family's prefix. It goes along the signs of the families. The
-/// cell of the next sign is sought before the strings below a sign, so that it need not be waited
-/// for behind them.
+/// cell of the next sign is looked up before the walk goes below a sign, so that it has come from
+/// memory when the walk is back.
 #[cycle(walk)]
 pub fn walk(
     cells: &CountedCells,

@@ -17,7 +17,7 @@ use pg_types::Sign;
 pub struct Way {
     /// The cell to which they lead.
     pub cell: usize,
-    /// So many of them lead there.
+    /// How many of them lead there.
     pub at: usize,
 }
 

@@ -48,7 +48,7 @@ fn open_by_status(level: u8, sign: usize, mark: Mark, dots: &mut OpenDots)
 }
 
 /// Opens the positions of a word that count at a level, and adds all positions in reach to the
-/// totals. So many signs of the dictionary stand before those of the word. What `found` holds does
+/// totals. `before` signs of the dictionary stand before those of the word. What `found` holds does
 /// not matter.
 fn open_word<E: Engine>(
     engine: &E,

@@ -26,7 +26,7 @@ pub record MadeText : Type 0 where
   pub text : List ℕ
   pub state : ℕ
 
--- the end of a syllable: one of these consonants where the draw before it is 0, else nothing
+-- the end of a syllable: in one of four cases a consonant, else nothing
 unfoldable pub ending : ℕ → MadeText
 ending x = let y = next_state x in if draw 4 x == 0
     then record { text = slice_index (codes "nrs") (draw 3 y) ∷ []; state = y }

@@ -88,8 +88,8 @@ fn push_word(text: &mut Vec<u8>, draws: &mut Draws) -> Result<(), AllocError>
     push_further(text, draws, more)
 }
 
-/// The dictionary of `sample`: so many words from a seed, both at most those that its words may
-/// name.
+/// The dictionary of `sample`: so many words from a seed. Both are at most what the arguments of
+/// `sample` may be.
 ///
 /// Each word has two to four syllables with a hyphen between two. A syllable is a consonant, a
 /// vowel, and in one of four cases a final consonant. All are drawn by a linear congruential

@@ -21,7 +21,7 @@ pub record IsDropped (old new : ValuedFamilies ℕ) (q : List ℕ) : Type 0 wher
   pub families : new.families ≡ without_sign old.families front last
   pub values : new.values ≡ without_key q old.values
 
--- why a string keeps its cell: it has none, or one sign, or a list, or some string goes on from it
+-- why no cell is taken from a string: it has none, or one sign, or a list, or others go on from it
 abbrev pub IsNeeded : ValuedFamilies ℕ → List ℕ → Type 0
 IsNeeded old q = (cell_of old.families q ≡ None) ⊎
     ((length q ≤ 1) ⊎ (((v : ℕ) × (find (slice_cmp nat_cmp) q old.values ≡ Some v) × (v ≢ 0)) ⊎

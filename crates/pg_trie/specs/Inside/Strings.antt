@@ -32,7 +32,7 @@ pub record PutsBelow (h : ValuedFamilies ℕ) (p : List ℕ)
   pub below : (s cell : ℕ) → s < m → cell_of h.families (p ++ s ∷ []) ≡ Some cell
       → StandsFrom new (length old) (p ++ s ∷ [])
 
--- the list has the strings, and each before those with one sign more, as far as the number i
+-- up to the number i, each string of the list stands before those that go on from it by a sign
 pub record AreStringsTo (h : ValuedFamilies ℕ) (items : List (List ℕ × ℕ)) (i : ℕ) : Type 0 where
   pub sound : (j : ℕ) (k : List ℕ × ℕ) → slice_get items j ≡ Some k → IsString h k.0
   pub below : (j : ℕ) (k : List ℕ × ℕ) → j < i → slice_get items j ≡ Some k
@@ -40,6 +40,6 @@ pub record AreStringsTo (h : ValuedFamilies ℕ) (items : List (List ℕ × ℕ)
       → StandsFrom items (j + 1) (k.0 ++ s ∷ [])
   pub roots : (s cell : ℕ) → cell_of h.families (s ∷ []) ≡ Some cell → StandsFrom items 0 (s ∷ [])
 
--- the list has the strings, and each before those with one sign more
+-- the list has each string, before those that go on from it by a sign
 abbrev pub AreStrings : ValuedFamilies ℕ → List (List ℕ × ℕ) → Type 0
 AreStrings h items = AreStringsTo h items (length items)

@@ -27,7 +27,7 @@ tallied_families cells first tallies =
 pub record AreCellNumbers (cells : ValuedFamilies ℕ) (first : ℕ)
     (tallies : List (ℕ × ℕ)) : Type 0 where
   pub held : AreValuedFamilies cells
-  -- no tally has the entry of what was never counted
+  -- the entry 0 is that of no tally
   pub positive : 1 ≤ first
   -- each entry fits its cell
   pub few : first + length tallies ≤ NUMBERS_END

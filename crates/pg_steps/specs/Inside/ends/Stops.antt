@@ -29,7 +29,7 @@ pub record OnlyReads (old new : FilesShown) : Type 0 where
   pub reads : NoneFell old.read_faults new.read_faults
   pub writes : NoneFell old.write_faults new.write_faults
 
--- why a command stops: such a refusal, a file of such a name that cannot be read, or want of memory
+-- why a command stops: a refusal or an unread file of which the tests hold, or want of memory
 abbrev pub StopsBy : (Outcome → Type 0) → (List ℕ → Type 0) → Stop → Type 0
 StopsBy Refuses CannotRead (Refused input refusal) = Refuses (refuses input refusal)
 StopsBy Refuses CannotRead (Unread name) = CannotRead name.now
@@ -77,7 +77,7 @@ pub record StopsCommand (rule : CommandRule) (old new : FilesShown) (stop : Stop
 abbrev pub StopsMaking : Outcome → Stop → Type 0
 StopsMaking outcome = StopsBy (λ refused. outcome ≡ refused) (λ name. ⊥)
 
--- why reading the first bytes of the file of a name stopped, which refuses none
+-- why reading the first bytes of the file of a name stopped; no refusal is among the reasons
 abbrev pub StopsFront : List ℕ → FilesShown → FilesShown → Stop → Type 0
 StopsFront file old new = StopsBy (λ refused. ⊥) (λ name. (name ≡ file) × ReadRose old new name)
 
