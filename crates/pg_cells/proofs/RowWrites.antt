@@ -1,7 +1,8 @@
 -- What a write of one cell changes, of a row whose parts are of one length.
-use Rattle.std.proofs.Common.{◌≡◌, ◌≢◌, ℕ, ◌<◌, ◌^◌, Bool, false, List, [], ◌∷◌, length, get_or, set, slice_get, Some, suc, zero, refl, sym, ◌∙◌, ap, arith, cond, nat_eq}
+use Rattle.std.proofs.Common.{◌≡◌, ◌≢◌, ℕ, ◌<◌, Bool, false, List, [], ◌∷◌, length, get_or, set, slice_get, Some, suc, zero, refl, sym, ◌∙◌, ap, arith, cond, nat_eq}
 use Rattle.std.proofs.lemmas.List.{length-set, length-map, get_or-set_same, get_or-set_other, get_or_default}
 use Rattle.pg_cells.specs.declared.store.cell.Cell.{Cell}
+use Rattle.pg_cells.specs.declared.store.cell.TheConstants.{CELLS_END}
 use Rattle.pg_cells.specs.declared.store.member.Member.{Member}
 use Rattle.pg_cells.specs.Inside.store.Lists.{sign_seen, base_seen, link_seen, row_of, unlink_at, child_seen, member_seen, sign_at, child_at, IsFree, with_taken, with_free, with_child, with_value, with_base}
 use Rattle.pg_cells.specs.Inside.store.Store.{IsRow}
@@ -45,7 +46,7 @@ module _ {V : Type 0} (cells : List (Cell V)) where
   bases_even = length-map cells base_seen ∙ sym (length-map cells sign_seen)
 
   -- the row of a store's cells
-  pub is_row : length cells < 2 ^ 32 → IsRow (row_of cells)
+  pub is_row : length cells < CELLS_END → IsRow (row_of cells)
   is_row small = record {
     small = omega (arith, length-map cells sign_seen);
     values = values_even;

@@ -78,7 +78,7 @@ pub fn is_taken<V: Copy>(cells: &[Cell<V>], cell: usize) -> bool
 
 /// Whether the cell has the sign. A walk asks this at each step, so no part is taken out of
 /// `signs`: its lower bits are compared as they are.
-pub fn has_sign<V: Copy>(cells: &[Cell<V>], cell: usize, sign: u16) -> bool
+pub fn has_sign<V: Copy>(cells: &[Cell<V>], cell: usize, sign: Sign) -> bool
     requires cell { cell < length cells.now }
     requires sign { sign ≢ 0 }
     ensures { result ≡ nat_eq (sign_at (lists cells.now).row cell) sign }
@@ -202,7 +202,7 @@ pub fn set_base<V: Copy>(cells: &mut [Cell<V>], cell: usize, is_base: bool)
 pub fn set_taken<V: Copy>(
     cells: &mut [Cell<V>],
     cell: usize,
-    sign: u16,
+    sign: Sign,
     value: Member<V>,
     child: usize,
 )
