@@ -1,8 +1,5 @@
 //! The families of a trie, each with its cells at its base.
-ghost use Rattle.std.specs.Prelude.{◌≡◌, ℕ, ◌+◌, ◌<◌, ◌≤◌, List, [], ◌∷◌, ◌++◌, Some, None, IfOk, IfSome, ◌^◌, false, true, length, slice_index, MatchBool};
-ghost use Rattle.std.specs.FinMap.{find};
-ghost use Rattle.std.specs.Cmp.Lexicographic.{slice_cmp};
-ghost use Rattle.std.specs.Ordering.{nat_cmp};
+ghost use Rattle.std.specs.Prelude.{◌≡◌, ℕ, ◌+◌, ◌<◌, ◌≤◌, List, [], ◌∷◌, ◌++◌, Some, None, IfOk, ◌^◌, false, true, length, slice_index, MatchBool};
 ghost use Rattle.pg_types.specs.Placement.{taken_count, top, cell_of, base_of};
 ghost use Rattle.pg_types.specs.Inside.Placing.{joins_at};
 ghost use Rattle.pg_cells.specs.Inside.linked.ValuedFamilies.{ValuedFamilies};
@@ -88,13 +85,6 @@ impl<V: Copy, const FEW: usize> Placed<V, FEW> {
         self.signs
     }
 
-    /// The cell of the sign in the root. The root has every sign.
-    pub fn root_cell(&self, s: Sign) -> usize
-        ensures { result ≡ s }
-    {
-        usize::from(s)
-    }
-
     /// The cell of the sign in the family with the base, or `None` where the family lacks the sign.
     pub fn find(&self, base: usize, s: Sign) -> Option<usize>
         requires base { (p : List ℕ) × (base_of self.now.families p ≡ Some base) }
@@ -130,17 +120,12 @@ impl<V: Copy, const FEW: usize> Placed<V, FEW> {
         self.store.value(cell)
     }
 
-    /// The value of the string that has the cell, or `None` where no string has it.
-    pub fn value_if_taken(&self, cell: usize) -> Option<Member<V>>
-        ensures some { IfSome result (λ v. (q : List ℕ) × (cell_of self.now.families q ≡ Some cell)
-            × (find (slice_cmp nat_cmp) q self.now.values ≡ Some v)) }
-        ensures none { result ≡ None → (q : List ℕ) → cell_of self.now.families q ≡ Some cell → ⊥ }
+    /// Whether some string has the cell.
+    pub fn is_taken(&self, cell: usize) -> bool
+        ensures taken { result ≡ true → IsTaken self.now.families cell }
+        ensures free { result ≡ false → IsTaken self.now.families cell → ⊥ }
     {
-        if self.store.is_taken(cell) {
-            Some(self.store.value(cell))
-        } else {
-            None
-        }
+        self.store.is_taken(cell)
     }
 
     /// Whether the sign joins the family below the parent's string in place.

@@ -8,4 +8,4 @@ pub returns-clause-held : goal.returns-clause-held
 returns-clause-held g c = subst (λ (h : ValuedFamilies g.row.V.Denot). AreValuedFamilies h) c.self.view_is (held_unlinked c.self.inside.placed c.self.invariant.held)
 
 pub returns-clause-cell : goal.returns-clause-cell
-returns-clause-cell g c = (returns-clause-held g c).alone c.args.s c.requires.0 c.requires.1 ∙ ap Some (sym c.root_cell.ensures)
+returns-clause-cell g c = (returns-clause-held g c).alone c.args.s c.requires.0 c.requires.1 ∙ ap Some (sym c.from.ensures)
