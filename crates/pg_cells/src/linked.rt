@@ -82,7 +82,7 @@ impl<V: Copy, const FEW: usize> LinkedCells<V, FEW> {
         ensures cell { cell_of self.now.families (s ∷ []) ≡ Some result }
         ensures held { AreValuedFamilies self.now }
     {
-        let _placed = &self.placed;
+        let _signs = self.signs();
         usize::from(s)
     }
 

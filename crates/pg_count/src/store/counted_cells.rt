@@ -95,7 +95,7 @@ impl CountedCells {
         self.tallies.is_empty()
     }
 
-    /// The cells, each with the entry of its string. They lie as these do.
+    /// The cells, each with its entry. Each string has the same cell in them.
     pub fn families(&self) -> &NearCells<u32>
         ensures signs { result.now.signs ≡ self.now.signs }
         ensures families { result.now.families ≡ self.now.families }
