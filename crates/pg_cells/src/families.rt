@@ -1,8 +1,8 @@
 //! The families of a trie, each with its cells at its base.
-ghost use Rattle.std.specs.Prelude.{◌≡◌, ℕ, ◌+◌, ◌<◌, ◌≤◌, List, [], ◌∷◌, ◌++◌, Some, None, IfOk, ◌^◌, false, true, length, slice_index, MatchBool};
-ghost use Rattle.pg_types.specs.Placement.{taken_count, top, cell_of, base_of};
+ghost use Rattle.std.specs.Prelude.{◌≡◌, ℕ, ◌+◌, ◌<◌, ◌≤◌, List, [], ◌∷◌, ◌++◌, Some, None, IfOk, false, true, length, slice_index, MatchBool};
+ghost use Rattle.pg_types.specs.Placement.{cell_of, base_of};
 ghost use Rattle.pg_types.specs.Inside.Placing.{joins_at};
-ghost use Rattle.pg_cells.specs.Inside.linked.ValuedFamilies.{ValuedFamilies};
+ghost use Rattle.pg_cells.specs.Inside.linked.ValuedFamilies.{ValuedFamilies, trie_in};
 ghost use Rattle.pg_cells.specs.Inside.linked.AreValuedFamilies.{AreValuedFamilies};
 ghost use Rattle.pg_cells.specs.Inside.families.Adding.{AddsSign, CanTakeSign};
 ghost use Rattle.pg_cells.specs.Inside.linked.CellValues.{HasValue, IsTaken, SetsValue};
@@ -10,6 +10,7 @@ ghost use Rattle.pg_cells.specs.Inside.families.Removing.{CanRemoveSign, Removes
 ghost use Rattle.pg_cells.specs.Inside.store.Lists.{FitsCell};
 ghost use Rattle.pg_cells.specs.Inside.store.Store.{member_code};
 ghost use Rattle.pg_cells.specs.Inside.linked.Members.{ArePassing, IsAlone, HasOther, has_sign};
+ghost use Rattle.pg_cells.specs.Inside.families.Layouts.{AreKept};
 ghost use Rattle.pg_cells.specs.Inside.families.OneTrie.{TrieOfRow, TrieOfRow-prop};
 ghost use Rattle.pg_cells.specs.Inside.linked.Links.{HasBase};
 ghost use Rattle.pg_cells.specs.Inside.families.Root.{root_alone};
@@ -120,12 +121,11 @@ impl<V: Copy, const FEW: usize> Placed<V, FEW> {
         self.store.value(cell)
     }
 
-    /// Whether some string has the cell.
-    pub fn is_taken(&self, cell: usize) -> bool
-        ensures taken { result ≡ true → IsTaken self.now.families cell }
-        ensures free { result ≡ false → IsTaken self.now.families cell → ⊥ }
+    /// The row of cells, which holds the families and their values.
+    pub fn store(&self) -> &Store<V>
+        ensures { AreKept self.now.signs result.now (trie_in self.now) }
     {
-        self.store.is_taken(cell)
+        &self.store
     }
 
     /// Whether the sign joins the family below the parent's string in place.
@@ -205,20 +205,5 @@ impl<V: Copy, const FEW: usize> Placed<V, FEW> {
         self.store.clear(self.signs as usize + 1);
         take_root(&mut self.store, self.signs, blank);
         self.store.set_base(0, true);
-    }
-
-    /// The greatest taken cell.
-    pub fn top(&self) -> usize
-        ensures top { result ≡ top self.now.families }
-        ensures small { result < 2 ^ 32 }
-    {
-        self.store.top()
-    }
-
-    /// The number of taken cells.
-    pub fn taken(&self) -> usize
-        ensures { result ≡ taken_count self.now.families }
-    {
-        self.store.taken()
     }
 }

@@ -153,7 +153,7 @@ impl<V: Copy, const FEW: usize> LinkedCells<V, FEW> {
             × (find (slice_cmp nat_cmp) q self.now.values ≡ Some v)) }
         ensures none { result ≡ None → (q : List ℕ) → cell_of self.now.families q ≡ Some cell → ⊥ }
     {
-        if self.placed.is_taken(cell) {
+        if self.placed.store().is_taken(cell) {
             Some(self.placed.value(cell).value)
         } else {
             None
@@ -232,13 +232,13 @@ impl<V: Copy, const FEW: usize> LinkedCells<V, FEW> {
         ensures top { result ≡ top self.now.families }
         ensures small { result < 2 ^ 32 }
     {
-        self.placed.top()
+        self.placed.store().top()
     }
 
     /// The number of taken cells.
     pub fn taken(&self) -> usize
         ensures { result ≡ taken_count self.now.families }
     {
-        self.placed.taken()
+        self.placed.store().taken()
     }
 }
