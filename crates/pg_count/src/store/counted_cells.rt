@@ -95,7 +95,7 @@ impl CountedCells {
         self.tallies.is_empty()
     }
 
-    /// The cells, each with its entry. Each string has the same cell in them.
+    /// The families of the cells, each cell with its entry. Each string has the same cell there.
     pub fn families(&self) -> &NearCells<u32>
         ensures signs { result.now.signs ≡ self.now.signs }
         ensures families { result.now.families ≡ self.now.families }
