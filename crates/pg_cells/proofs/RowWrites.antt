@@ -15,7 +15,8 @@ set_here [] i y lt = absurd (omega arith)
 set_here (x ∷ xs) zero y lt = refl
 set_here (x ∷ xs) (suc i) y lt = set_here xs i y (omega arith)
 
-set_there : {A : Type 0} (xs : List A) (i j : ℕ) (y : A) → j ≢ i → slice_get (set xs i y) j ≡ slice_get xs j
+-- another element stays
+pub set_there : {A : Type 0} (xs : List A) (i j : ℕ) (y : A) → j ≢ i → slice_get (set xs i y) j ≡ slice_get xs j
 set_there [] i j y n = refl
 set_there (x ∷ xs) zero zero y n = absurd (n refl)
 set_there (x ∷ xs) zero (suc j) y n = refl
