@@ -5,7 +5,8 @@ use Rattle.pg_cells.proofs.LinkLaws.{goes_cell}
 use Rattle.pg_count.proofs.CellLaws.Mapped.{next_too}
 use Rattle.pg_count.specs.Inside.walks.Least.{IsToldBy}
 use Rattle.pg_count.proofs.WalkLaws.Searching.{first_some, none_from, none_next, told_more, up_none, up_found}
-use Rattle.pg_count.proofs.WalkLaws.Walking.{childless_last, family_below, sign_falls, some_more, short_more}
+use Rattle.pg_cells.proofs.Walking.{sign_falls}
+use Rattle.pg_count.proofs.WalkLaws.Walking.{childless_last, family_below, some_more, short_more}
 use Rattle.pg_count.proofs.walks.least.+least.Goals as goal
 
 pub least-loop-s-init : goal.least-loop-s-init
