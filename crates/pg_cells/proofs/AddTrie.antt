@@ -274,14 +274,10 @@ module _ {V : Type 0} (few n : ℕ) (old r : Row V) (t : Trie V) (before : IsTri
   pub joins_free : 0 < base → sign_at r (base + s) ≡ 0 → ((i : ℕ) → sign_at old i ≢ 0 → i + (n + 2) ≤ length r.signs) → IsFree r (base + s)
   joins_free up free room =
       let f = some_family up in
-      let y = first_of f.0.signs (grown.layout.filled p f.0 f.1) in
+      let y = first_sign f.0 f.0.signs refl (grown.layout.filled p f.0 f.1) in
       let stands = sign_stands n r (family_at t.families) grown.layout p f.0 y.0 f.1 y.1 in
       let long = room (f.0.base + y.0) (λ z. let here = sym (more.signs (f.0.base + y.0)) ∙ stands.2 in let positive = stands.0 in let e = sym here ∙ z in omega arith) in
       get_or_default r.signs (base + s) 1 0 (let e = f.2 in omega arith) ∙ free
-    where
-      first_of : (signs : List ℕ) → signs ≢ [] → (y : ℕ) × (list_any (nat_eq y) signs ≡ true)
-      first_of [] some = absurd (some refl)
-      first_of (y ∷ ys) some = (y, or_left (nat_eq y y) (list_any (nat_eq y) ys) (eq-eqb y y refl))
 
   module _ (slots : List (Slot V)) (none : base ≡ 0 → slots ≡ []) (some : 0 < base → AreSlotsOf n r base slots) (no_join : 0 < base → sign_at r (base + s) ≢ 0) where
     pub owned : Owned n r t p base slots

@@ -1,8 +1,8 @@
 -- The cells are made free one by one, and are linked when all are.
-use Rattle.std.proofs.Common.{◌≡◌, ◌≢◌, ℕ, ◌+◌, ◌-◌, ◌<◌, ◌≤◌, ◌^◌, List, inl, inr, false, length, take, get_or, set, sym, ap, ◌∙◌, arith}
+use Rattle.std.proofs.Common.{◌≡◌, ◌≢◌, ℕ, ◌+◌, ◌-◌, ◌<◌, ◌≤◌, List, inl, inr, false, length, take, get_or, set, sym, ap, ◌∙◌, arith}
 use Rattle.std.proofs.lemmas.Bool.{cases_eq, cases_lt}
 use Rattle.std.proofs.lemmas.List.{get_or-set_same, get_or-set_other, get_or_past, get_or_default, length-map, length-take}
-use Rattle.pg_cells.specs.declared.store.cell.TheConstants.{CELLS_END}
+use Rattle.pg_cells.specs.declared.store.cell.TheConstants.{CELLS_END, SIGN_COUNT}
 use Rattle.pg_cells.specs.declared.store.cell.Cell.{Cell}
 use Rattle.pg_cells.specs.declared.store.member.Member.{Member}
 use Rattle.pg_cells.specs.Inside.store.Lists.{sign_seen, base_seen, link_seen, Lists, lists, row_of, sign_at, with_free, with_base, before_seen}
@@ -118,7 +118,7 @@ module _ {V : Type 0} (cells : List (Cell V)) (last : ℕ) (h : IsFreeTo last (l
   }
 
   -- a store whose cells are all free
-  pub free_store : (lows : List ℕ) (dropped sought : ℕ) → length lows ≤ 2 ^ 16 → 0 < length cells → length cells < CELLS_END → AreLinked (lists cells)
+  pub free_store : (lows : List ℕ) (dropped sought : ℕ) → length lows ≤ SIGN_COUNT → 0 < length cells → length cells < CELLS_END → AreLinked (lists cells)
       → IsStore cells 0 0 lows 0 dropped 0 sought
   free_store lows dropped sought few up small linked = record {
     kept = free_kept up small linked;

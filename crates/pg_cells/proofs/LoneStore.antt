@@ -1,6 +1,7 @@
 -- One free cell is a store.
-use Rattle.std.proofs.Common.{◌≡◌, ℕ, ◌≤◌, ◌^◌, List, [], ◌∷◌, length, refl, get_or, zero, suc, arith}
+use Rattle.std.proofs.Common.{◌≡◌, ℕ, ◌≤◌, List, [], ◌∷◌, length, refl, get_or, zero, suc, arith}
 use Rattle.pg_cells.specs.declared.store.cell.Cell.{Cell}
+use Rattle.pg_cells.specs.declared.store.cell.TheConstants.{SIGN_COUNT}
 use Rattle.pg_cells.specs.Inside.store.Lists.{lists, row_of}
 use Rattle.pg_cells.specs.Inside.store.FreeList.{AreLinked}
 use Rattle.pg_cells.specs.Inside.store.Store.{IsStore}
@@ -29,7 +30,7 @@ module _ {V : Type 0} (value : V) where
     last_most = λ j e. let at = only_free j e in omega arith;
   }
 
-  pub lone_store : (lows : List ℕ) → length lows ≤ 2 ^ 16 → IsStore (free_cell ∷ []) 0 0 lows 0 0 0 0
+  pub lone_store : (lows : List ℕ) → length lows ≤ SIGN_COUNT → IsStore (free_cell ∷ []) 0 0 lows 0 0 0 0
   lone_store lows few = record {
     kept = record {
       linked = lone_linked;

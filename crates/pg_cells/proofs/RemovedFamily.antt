@@ -68,9 +68,6 @@ module _ {V : Type 0} (n : ℕ) (r freed values_alone new : Row V) (t : Trie V) 
     | inr other ↦ absurd (false≢true (ap (list_any (nat_eq y)) (sym none_left) ∙ left_has n r new t trie p f at s has gone same y other ∙ e))
   ]
 
-  test : (q : List ℕ) (g : Family) (y : ℕ) → q ≢ p → family_at t.families q ≡ Some g → 0 < y → nat_eq (sign_at new (g.base + y)) y ≡ nat_eq (sign_at r (g.base + y)) y
-  test = others_test n r new t trie p f at s has gone same
-
   -- the cell of another string than p is not the parent's
   not_parent : (q : List ℕ) (g : Family) (y : ℕ) → family_at t.families q ≡ Some g → sign_at r (g.base + y) ≡ y → q ++ y ∷ [] ≢ p → g.base + y ≢ parent
   not_parent q g y gat is other e =
@@ -98,7 +95,7 @@ module _ {V : Type 0} (n : ℕ) (r freed values_alone new : Row V) (t : Trie V) 
       record {
         above = up.above;
         at = there q other ∙ up.at;
-        sign = is_same_test (sign_at new (up.above.base + x)) (sign_at r (up.above.base + x)) x (test q up.above x other up.at up.positive) up.sign;
+        sign = is_same_test (sign_at new (up.above.base + x)) (sign_at r (up.above.base + x)) x (others_test n r new t trie p f at s has gone same q up.above x other up.at up.positive) up.sign;
         child =
             child_now (up.above.base + x) (not_parent q up.above x up.at up.sign o.0)
             ∙ frees.elsewhere.children (up.above.base + x) (others_cell n r new t trie p f at s has gone same q up.above x other up.at up.sign) ∙ up.child;
@@ -110,7 +107,7 @@ module _ {V : Type 0} (n : ℕ) (r freed values_alone new : Row V) (t : Trie V) 
       → (h : Family) × (family_at fs (q ++ x ∷ []) ≡ Some h) × (h.base ≡ child_at new (g.base + x))
   child_left q x g gat up is down =
       let o = rest q g gat in
-      let sign = is_same_test (sign_at r (g.base + x)) (sign_at new (g.base + x)) x (sym (test q g x o.0 o.1 up)) is in
+      let sign = is_same_test (sign_at r (g.base + x)) (sign_at new (g.base + x)) x (sym (others_test n r new t trie p f at s has gone same q g x o.0 o.1 up)) is in
       let off : g.base + x ≢ parent = λ e. let z = ap (child_at new) e ∙ parent_child in omega arith in
       let child = child_now (g.base + x) off ∙ frees.elsewhere.children (g.base + x) (others_cell n r new t trie p f at s has gone same q g x o.0 o.1 sign) in
       let below = trie.layout.child q x g o.1 up sign (omega arith) in
@@ -124,7 +121,9 @@ module _ {V : Type 0} (n : ℕ) (r freed values_alone new : Row V) (t : Trie V) 
         root = there [] (λ e. not_empty cell.front cell.last (sym cell.whole ∙ sym e)) ∙ trie.layout.root;
         members = λ q g gat.
             let o = rest q g gat in
-            trie.layout.members q g o.1 ∙ filter_same (λ x. nat_eq (sign_at r (g.base + x)) x) (λ x. nat_eq (sign_at new (g.base + x)) x) 1 n (omega arith) (λ x up. sym (test q g x o.0 o.1 up));
+            trie.layout.members q g o.1
+            ∙ filter_same (λ x. nat_eq (sign_at r (g.base + x)) x) (λ x. nat_eq (sign_at new (g.base + x)) x) 1 n (omega arith)
+            (λ x up. sym (others_test n r new t trie p f at s has gone same q g x o.0 o.1 up));
         filled = λ q g gat. trie.layout.filled q g (rest q g gat).1;
         parent = parent_left;
         child = child_left;

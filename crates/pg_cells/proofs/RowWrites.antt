@@ -1,7 +1,8 @@
 -- What a write of one cell changes, of a row whose parts are of one length.
-use Rattle.std.proofs.Common.{◌≡◌, ◌≢◌, ℕ, ◌<◌, ◌^◌, Bool, false, List, [], ◌∷◌, length, get_or, set, slice_get, Some, suc, zero, refl, sym, ◌∙◌, ap, arith, cond, nat_eq}
+use Rattle.std.proofs.Common.{◌≡◌, ◌≢◌, ℕ, ◌<◌, Bool, false, List, [], ◌∷◌, length, get_or, set, slice_get, Some, suc, zero, refl, sym, ◌∙◌, ap, arith, cond, nat_eq}
 use Rattle.std.proofs.lemmas.List.{length-set, length-map, get_or-set_same, get_or-set_other, get_or_default}
 use Rattle.pg_cells.specs.declared.store.cell.Cell.{Cell}
+use Rattle.pg_cells.specs.declared.store.cell.TheConstants.{CELLS_END}
 use Rattle.pg_cells.specs.declared.store.member.Member.{Member}
 use Rattle.pg_cells.specs.Inside.store.Lists.{sign_seen, base_seen, link_seen, row_of, unlink_at, child_seen, member_seen, sign_at, child_at, IsFree, with_taken, with_free, with_child, with_value, with_base}
 use Rattle.pg_cells.specs.Inside.store.Store.{IsRow}
@@ -14,7 +15,8 @@ set_here [] i y lt = absurd (omega arith)
 set_here (x ∷ xs) zero y lt = refl
 set_here (x ∷ xs) (suc i) y lt = set_here xs i y (omega arith)
 
-set_there : {A : Type 0} (xs : List A) (i j : ℕ) (y : A) → j ≢ i → slice_get (set xs i y) j ≡ slice_get xs j
+-- another element stays
+pub set_there : {A : Type 0} (xs : List A) (i j : ℕ) (y : A) → j ≢ i → slice_get (set xs i y) j ≡ slice_get xs j
 set_there [] i j y n = refl
 set_there (x ∷ xs) zero zero y n = absurd (n refl)
 set_there (x ∷ xs) zero (suc j) y n = refl
@@ -45,7 +47,7 @@ module _ {V : Type 0} (cells : List (Cell V)) where
   bases_even = length-map cells base_seen ∙ sym (length-map cells sign_seen)
 
   -- the row of a store's cells
-  pub is_row : length cells < 2 ^ 32 → IsRow (row_of cells)
+  pub is_row : length cells < CELLS_END → IsRow (row_of cells)
   is_row small = record {
     small = omega (arith, length-map cells sign_seen);
     values = values_even;

@@ -1,37 +1,18 @@
 -- Maps from strings, as lists of entries in the order of the strings: what is found after an entry is put or taken away.
-use Rattle.std.proofs.Common.{◌≡◌, ◌≢◌, ℕ, ◌⊎◌, inl, inr, Bool, true, false, not, cond, ◌&&◌, T, List, [], ◌∷◌, None, Some, refl, sym, ◌∙◌, ap, subst}
+use Rattle.std.proofs.Common.{◌≡◌, ◌≢◌, ℕ, inl, inr, Bool, true, false, not, cond, ◌&&◌, T, List, [], ◌∷◌, None, Some, sym, ◌∙◌, ap, subst}
 use Rattle.std.proofs.lemmas.Bool.{cases_Bool, false≢true, or_cases, or_left, or_right}
 use Rattle.std.proofs.lemmas.Cmp.{nat_list_cmp_total}
-use Rattle.std.specs.declared.cmp.Ordering.{Ordering}
-use Rattle.std.specs.declared.cmp.Ordering.TheVariants.{Less, Equal, Greater}
-use Rattle.std.specs.Ordering.{nat_cmp, eq_by_cmp, is_eq, is_lt}
-use Rattle.std.specs.Cmp.{tied_itself}
-use Rattle.std.specs.Cmp.Lexicographic.{slice_cmp}
-use Rattle.std.specs.FinMap.{slice_cmp-IsAntisymmetric, nat_cmp-IsAntisymmetric, find, put, is_sorted}
-use Rattle.std.specs.FinMap.Entries.{find-put, find-where_key, is_sorted-put, is_sorted-where_key, same_entries, below_all}
+use Rattle.std.specs.declared.cmp.Ordering.TheVariants.{Less}
+use Rattle.std.specs.Ordering.{is_lt}
+use Rattle.std.specs.FinMap.{slice_cmp-IsAntisymmetric, nat_cmp-IsAntisymmetric, find, is_sorted}
+use Rattle.std.specs.FinMap.Entries.{find-where_key, is_sorted-where_key, below_all}
 use Rattle.std.specs.List.{list_any}
 use Rattle.pg_types.proofs.BoolFacts.{equal_is, first_half, second_half, less_from}
 pub use Rattle.pg_cells.specs.Inside.linked.ValuedFamilies.{without_key}
-
--- the order of strings
-abbrev pub order : List ℕ → List ℕ → Ordering
-order = slice_cmp nat_cmp
-
-abbrev pub same_string : List ℕ → List ℕ → Bool
-same_string q p = eq_by_cmp order q p
+pub use Rattle.pg_types.proofs.StringEntries.{order, same_string, same_itself, equal_or_not, find_put_same, find_put_other, sorted_put, same_maps, find_below, head_below, tail_sorted}
 
 pub same_from : (q p : List ℕ) → same_string q p ≡ true → q ≡ p
 same_from q p e = slice_cmp-IsAntisymmetric nat_cmp-IsAntisymmetric q p (equal_is (order q p) e)
-
-pub same_itself : (p : List ℕ) → same_string p p ≡ true
-same_itself p = ap is_eq (tied_itself nat_list_cmp_total p)
-
--- two strings are equal, or they are not
-pub equal_or_not : (q p : List ℕ) → ((q ≡ p) × (same_string q p ≡ true)) ⊎ ((q ≢ p) × (same_string q p ≡ false))
-equal_or_not q p = elim (cases_Bool (same_string q p)) [
-  | inl e ↦ inl (same_from q p e, e)
-  | inr e ↦ inr ((λ z. false≢true (sym e ∙ ap (λ x. same_string x p) z ∙ same_itself p)), e)
-]
 
 pub same_no : (q p : List ℕ) → q ≢ p → same_string q p ≡ false
 same_no q p n = elim (equal_or_not q p) [ inl h ↦ absurd (n h.0) | inr h ↦ h.1 ]
@@ -42,18 +23,7 @@ not_swapped q p = elim (equal_or_not q p) [
   | inr h ↦ ap not (same_no p q (λ z. h.0 (sym z)) ∙ sym h.1)
 ]
 
-less_is : (o : Ordering) → o ≡ Less → is_eq o ≡ false
-less_is Less e = refl
-less_is Equal e = cc
-less_is Greater e = cc
-
 module _ {X : Type 0} where
-  pub find_put_same : (p : List ℕ) (v : X) (es : List (List ℕ × X)) → find order p (put order p v es) ≡ Some v
-  find_put_same p v es = find-put order nat_list_cmp_total p p v es ∙ ap (λ b. cond b (Some v) (find order p es)) (same_itself p)
-
-  pub find_put_other : (q p : List ℕ) (v : X) (es : List (List ℕ × X)) → q ≢ p → find order q (put order p v es) ≡ find order q es
-  find_put_other q p v es n = find-put order nat_list_cmp_total q p v es ∙ ap (λ b. cond b (Some v) (find order q es)) (same_no q p n)
-
   find_without : (q p : List ℕ) (es : List (List ℕ × X)) → find order q (without_key p es) ≡ cond (not (same_string q p)) (find order q es) None
   find_without q p es =
       find-where_key order (λ k. not (same_string p k)) q (λ x e. ap (λ k. not (same_string p k)) (sym (slice_cmp-IsAntisymmetric nat_cmp-IsAntisymmetric q x e))) es
@@ -65,22 +35,8 @@ module _ {X : Type 0} where
   pub find_without_other : (q p : List ℕ) (es : List (List ℕ × X)) → q ≢ p → find order q (without_key p es) ≡ find order q es
   find_without_other q p es n = find_without q p es ∙ ap (λ b. cond (not b) (find order q es) None) (same_no q p n)
 
-  pub sorted_put : (p : List ℕ) (v : X) (es : List (List ℕ × X)) → T (is_sorted order es) → T (is_sorted order (put order p v es))
-  sorted_put p v es h = is_sorted-put order nat_list_cmp_total p v es h
-
   pub sorted_without : (p : List ℕ) (es : List (List ℕ × X)) → T (is_sorted order es) → T (is_sorted order (without_key p es))
   sorted_without p es h = is_sorted-where_key order (λ k. not (same_string p k)) es h
-
-  -- two maps that find alike are one
-  pub same_maps : (es fs : List (List ℕ × X)) → T (is_sorted order es) → T (is_sorted order fs) → ((q : List ℕ) → find order q es ≡ find order q fs) → es ≡ fs
-  same_maps es fs g h is = same_entries order nat_list_cmp_total (slice_cmp-IsAntisymmetric nat_cmp-IsAntisymmetric) es fs g h is
-
-  -- a string below the first of a list in order is not found in the list
-  pub find_below : (p : List ℕ) (es : List (List ℕ × X)) → T (below_all order p es) → find order p es ≡ None
-  find_below p [] h = refl
-  find_below p (e ∷ es) h =
-      ap (λ b. cond b (Some e.1) (find order p es)) (less_is (order p e.0) (less_from (order p e.0) (first_half (is_lt (order p e.0)) (below_all order p es) h)))
-      ∙ find_below p es (second_half (is_lt (order p e.0)) (below_all order p es) h)
 
   pub below_less : (p q : List ℕ) (es : List (List ℕ × X)) → order p q ≡ Less → T (below_all order q es) → T (below_all order p es)
   below_less p q [] e h = tt
@@ -88,12 +44,6 @@ module _ {X : Type 0} where
       let here = nat_list_cmp_total.trans p q x.0 e (less_from (order q x.0) (first_half (is_lt (order q x.0)) (below_all order q xs) h)) in
       let rest = below_less p q xs e (second_half (is_lt (order q x.0)) (below_all order q xs) h) in
       subst (λ o. T (is_lt o && below_all order p xs)) (sym here) rest
-
-  pub head_below : (e : List ℕ × X) (es : List (List ℕ × X)) → T (is_sorted order (e ∷ es)) → T (below_all order e.0 es)
-  head_below e es h = first_half (below_all order e.0 es) (is_sorted order es) h
-
-  pub tail_sorted : (e : List ℕ × X) (es : List (List ℕ × X)) → T (is_sorted order (e ∷ es)) → T (is_sorted order es)
-  tail_sorted e es h = second_half (below_all order e.0 es) (is_sorted order es) h
 
   -- an entry whose value passes is found at its string
   pub any_found : (es : List (List ℕ × X)) → T (is_sorted order es) → (test : X → Bool) → list_any (λ e. test e.1) es ≡ true → (p : List ℕ) × (v : X) × (find order p es ≡ Some v) × (test v ≡ true)

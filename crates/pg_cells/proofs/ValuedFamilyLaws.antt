@@ -1,9 +1,8 @@
 -- What is always true of what the cells are seen as.
-use Rattle.std.proofs.Common.{◌≡◌, ◌≢◌, ℕ, ◌+◌, ◌<◌, ◌≤◌, ◌⊎◌, inl, inr, Bool, true, false, cond, nat_eq, List, [], ◌∷◌, ◌++◌, filter, length, Option, None, Some, slice_get, suc, zero, refl, sym, ◌∙◌, ap, arith, zero-add}
-use Rattle.std.proofs.lemmas.Bool.{eq-eqb, or_left}
+use Rattle.std.proofs.Common.{◌≡◌, ℕ, ◌+◌, ◌<◌, ◌≤◌, ◌⊎◌, inl, inr, Bool, true, false, cond, nat_eq, List, [], ◌∷◌, ◌++◌, filter, length, Option, None, Some, slice_get, suc, zero, refl, sym, ◌∙◌, ap, arith, zero-add}
 use Rattle.std.proofs.lemmas.List.{length_push, append_assoc, append-nil, same_from_push}
 use Rattle.std.proofs.lemmas.Option.{slice_get_cases}
-use Rattle.std.specs.List.{list_any, range_with_len}
+use Rattle.std.specs.List.{range_with_len}
 use Rattle.std.specs.Option.{option_map, is_some}
 use Rattle.std.specs.FinMap.{find}
 use Rattle.pg_types.specs.Placement.{Family, family_at, cell_of, base_of}
@@ -14,6 +13,7 @@ use Rattle.pg_cells.specs.Inside.families.Layouts.{IsTrie, value_in}
 use Rattle.pg_cells.specs.Inside.families.OneTrie.{HasLast, last_of}
 use Rattle.pg_cells.proofs.LinkedLists.{taken_within}
 use Rattle.pg_cells.proofs.StringMaps.{order}
+use Rattle.pg_cells.proofs.BaseCells.{first_sign}
 use Rattle.pg_cells.proofs.LayoutLaws.{same_filter, sign_stands, stands_sign}
 use Rattle.pg_cells.proofs.RootTrie.{any_range}
 use Rattle.pg_cells.proofs.StringCells.{cell_parts, parts_cell, cell_taken, cells_apart, base_parts, found_is}
@@ -68,10 +68,6 @@ module _ {V : Type 0} (n : ℕ) (r : Row V) (t : Trie V) (trie : IsTrie n r t) (
           swap (inl a) = inr a
           swap (inr b) = inl b
 
-  first_of : (signs : List ℕ) → signs ≢ [] → (y : ℕ) × (list_any (nat_eq y) signs ≡ true)
-  first_of [] some = absurd (some refl)
-  first_of (y ∷ ys) some = (y, or_left (nat_eq y y) (list_any (nat_eq y) ys) (eq-eqb y y refl))
-
   bases : (p q : List ℕ) (base : ℕ) → base_of t.families p ≡ Some base → base_of t.families q ≡ Some base → p ≡ q
   bases p q base d e =
       let f = base_parts t.families p base d in
@@ -108,7 +104,7 @@ module _ {V : Type 0} (n : ℕ) (r : Row V) (t : Trie V) (trie : IsTrie n r t) (
     based = λ p x base e. let f = base_parts t.families (p ++ x ∷ []) base e in family_cell p x f.0 f.1;
     filled = λ p base e.
         let f = base_parts t.families p base e in
-        let y = first_of f.0.signs (trie.layout.filled p f.0 f.1) in
+        let y = first_sign f.0 f.0.signs refl (trie.layout.filled p f.0 f.1) in
         (y.0, f.0.base + y.0, parts_cell t.families p y.0 f.0 f.1 y.1);
     closed = closed;
     bases = bases;

@@ -1,6 +1,6 @@
 -- Laws of walks: where a string has no cell, and what entering a sign leaves of the values.
-use Rattle.std.proofs.Common.{◌≡◌, ◌≢◌, ℕ, ◌+◌, ◌<◌, inl, inr, cond, nat_eq, List, [], ◌∷◌, ◌++◌, length, take, drop, get_or, Option, None, Some, refl, sym, ◌∙◌, ap, subst, arith}
-use Rattle.std.proofs.lemmas.Bool.{eq-eqb, ne_eqb}
+use Rattle.std.proofs.Common.{◌≡◌, ◌≢◌, ℕ, ◌+◌, ◌-◌, ◌<◌, inl, inr, cond, nat_eq, List, [], ◌∷◌, ◌++◌, length, take, drop, get_or, Option, None, Some, refl, sym, ◌∙◌, ap, subst, arith}
+use Rattle.std.proofs.lemmas.Bool.{cases_eq, eq-eqb, ne_eqb}
 use Rattle.std.proofs.lemmas.List.{append_assoc, take_more, drop_more, take-append-drop, append-nil, length-take}
 use Rattle.std.specs.List.{list_any}
 use Rattle.std.specs.Option.{option_map}
@@ -204,3 +204,13 @@ module _ {V : Type 0} where
   not_reached values w k lt ends =
       ap (λ q. find order q values) (sym (take-append-drop (k + 1) w) ∙ ap (λ l. l ++ drop (k + 1) w) (way_more w k lt))
       ∙ ends (drop (k + 1) w)
+
+-- the measure of a walk along signs falls
+pub sign_falls : (s y : ℕ) → s ≢ 0 → s < 65536 → (0 < y → s < y) → cond (nat_eq y 0) 0 (65536 - y) < cond (nat_eq s 0) 0 (65536 - s)
+sign_falls s y some small later = elim (cases_eq y 0) [
+  | inl z ↦ less (ap (λ b. cond b 0 (65536 - y)) (eq-eqb y 0 z)) (omega arith)
+  | inr n ↦ less (ap (λ b. cond b 0 (65536 - y)) (ne_eqb y 0 n)) (let up = later (omega arith) in omega arith)
+]
+  where
+    less : {a b : ℕ} → a ≡ b → b < 65536 - s → a < cond (nat_eq s 0) 0 (65536 - s)
+    less e lt = let same = ap (λ b. cond b 0 (65536 - s)) (ne_eqb s 0 some) in omega (arith, e, same, lt)

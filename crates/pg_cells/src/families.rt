@@ -1,11 +1,8 @@
 //! The families of a trie, each with its cells at its base.
-ghost use Rattle.std.specs.Prelude.{◌≡◌, ℕ, ◌+◌, ◌<◌, ◌≤◌, List, [], ◌∷◌, ◌++◌, Some, None, IfOk, IfSome, ◌^◌, false, true, length, slice_index, MatchBool};
-ghost use Rattle.std.specs.FinMap.{find};
-ghost use Rattle.std.specs.Cmp.Lexicographic.{slice_cmp};
-ghost use Rattle.std.specs.Ordering.{nat_cmp};
-ghost use Rattle.pg_types.specs.Placement.{taken_count, top, cell_of, base_of};
+ghost use Rattle.std.specs.Prelude.{◌≡◌, ℕ, ◌+◌, ◌<◌, ◌≤◌, List, [], ◌∷◌, ◌++◌, Some, None, IfOk, false, true, length, slice_index, MatchBool};
+ghost use Rattle.pg_types.specs.Placement.{cell_of, base_of};
 ghost use Rattle.pg_types.specs.Inside.Placing.{joins_at};
-ghost use Rattle.pg_cells.specs.Inside.linked.ValuedFamilies.{ValuedFamilies};
+ghost use Rattle.pg_cells.specs.Inside.linked.ValuedFamilies.{ValuedFamilies, trie_in};
 ghost use Rattle.pg_cells.specs.Inside.linked.AreValuedFamilies.{AreValuedFamilies};
 ghost use Rattle.pg_cells.specs.Inside.families.Adding.{AddsSign, CanTakeSign};
 ghost use Rattle.pg_cells.specs.Inside.linked.CellValues.{HasValue, IsTaken, SetsValue};
@@ -13,6 +10,7 @@ ghost use Rattle.pg_cells.specs.Inside.families.Removing.{CanRemoveSign, Removes
 ghost use Rattle.pg_cells.specs.Inside.store.Lists.{FitsCell};
 ghost use Rattle.pg_cells.specs.Inside.store.Store.{member_code};
 ghost use Rattle.pg_cells.specs.Inside.linked.Members.{ArePassing, IsAlone, HasOther, has_sign};
+ghost use Rattle.pg_cells.specs.Inside.families.Layouts.{AreKept};
 ghost use Rattle.pg_cells.specs.Inside.families.OneTrie.{TrieOfRow, TrieOfRow-prop};
 ghost use Rattle.pg_cells.specs.Inside.linked.Links.{HasBase};
 ghost use Rattle.pg_cells.specs.Inside.families.Root.{root_alone};
@@ -88,13 +86,6 @@ impl<V: Copy, const FEW: usize> Placed<V, FEW> {
         self.signs
     }
 
-    /// The cell of the sign in the root. The root has every sign.
-    pub fn root_cell(&self, s: Sign) -> usize
-        ensures { result ≡ s }
-    {
-        usize::from(s)
-    }
-
     /// The cell of the sign in the family with the base, or `None` where the family lacks the sign.
     pub fn find(&self, base: usize, s: Sign) -> Option<usize>
         requires base { (p : List ℕ) × (base_of self.now.families p ≡ Some base) }
@@ -130,17 +121,11 @@ impl<V: Copy, const FEW: usize> Placed<V, FEW> {
         self.store.value(cell)
     }
 
-    /// The value of the string that has the cell, or `None` where no string has it.
-    pub fn value_if_taken(&self, cell: usize) -> Option<Member<V>>
-        ensures some { IfSome result (λ v. (q : List ℕ) × (cell_of self.now.families q ≡ Some cell)
-            × (find (slice_cmp nat_cmp) q self.now.values ≡ Some v)) }
-        ensures none { result ≡ None → (q : List ℕ) → cell_of self.now.families q ≡ Some cell → ⊥ }
+    /// The row of cells, which holds the families and their values.
+    pub fn store(&self) -> &Store<V>
+        ensures { AreKept self.now.signs result.now (trie_in self.now) }
     {
-        if self.store.is_taken(cell) {
-            Some(self.store.value(cell))
-        } else {
-            None
-        }
+        &self.store
     }
 
     /// Whether the sign joins the family below the parent's string in place.
@@ -220,20 +205,5 @@ impl<V: Copy, const FEW: usize> Placed<V, FEW> {
         self.store.clear(self.signs as usize + 1);
         take_root(&mut self.store, self.signs, blank);
         self.store.set_base(0, true);
-    }
-
-    /// The greatest taken cell.
-    pub fn top(&self) -> usize
-        ensures top { result ≡ top self.now.families }
-        ensures small { result < 2 ^ 32 }
-    {
-        self.store.top()
-    }
-
-    /// The number of taken cells.
-    pub fn taken(&self) -> usize
-        ensures { result ≡ taken_count self.now.families }
-    {
-        self.store.taken()
     }
 }

@@ -82,7 +82,8 @@ impl<V: Copy, const FEW: usize> LinkedCells<V, FEW> {
         ensures cell { cell_of self.now.families (s ∷ []) ≡ Some result }
         ensures held { AreValuedFamilies self.now }
     {
-        self.placed.root_cell(s)
+        let _signs = self.signs();
+        usize::from(s)
     }
 
     /// The cell of the sign in the family with the base, or `None` where the family lacks the sign.
@@ -152,8 +153,11 @@ impl<V: Copy, const FEW: usize> LinkedCells<V, FEW> {
             × (find (slice_cmp nat_cmp) q self.now.values ≡ Some v)) }
         ensures none { result ≡ None → (q : List ℕ) → cell_of self.now.families q ≡ Some cell → ⊥ }
     {
-        let member = self.placed.value_if_taken(cell)?;
-        Some(member.value)
+        if self.placed.store().is_taken(cell) {
+            Some(self.placed.value(cell).value)
+        } else {
+            None
+        }
     }
 
     /// Adds the sign to the family below the parent's string, with the value, and gives its cell.
@@ -228,13 +232,13 @@ impl<V: Copy, const FEW: usize> LinkedCells<V, FEW> {
         ensures top { result ≡ top self.now.families }
         ensures small { result < 2 ^ 32 }
     {
-        self.placed.top()
+        self.placed.store().top()
     }
 
     /// The number of taken cells.
     pub fn taken(&self) -> usize
         ensures { result ≡ taken_count self.now.families }
     {
-        self.placed.taken()
+        self.placed.store().taken()
     }
 }

@@ -1,5 +1,5 @@
 //! The store: one vector of cells, whose free ones are linked in rising order.
-ghost use Rattle.std.specs.Prelude.{◌≡◌, ◌≢◌, ℕ, ◌+◌, ◌-◌, ◌<◌, ◌≤◌, ◌^◌, true, false, ◌∷◌, length, nat_eq, slice_get, slice_index, Some, IfOk, OnOk, OnErr};
+ghost use Rattle.std.specs.Prelude.{◌≡◌, ◌≢◌, ℕ, ◌+◌, ◌-◌, ◌<◌, ◌≤◌, true, false, ◌∷◌, length, nat_eq, slice_get, slice_index, Some, IfOk, OnOk, OnErr};
 ghost use Rattle.pg_types.specs.Inside.Placing.{IsLeast};
 ghost use Rattle.pg_cells.specs.Inside.store.Lists.{lists, FitsCell, row_of, without_links, sign_at, child_at, base_at, IsFree};
 ghost use Rattle.pg_cells.specs.Inside.store.FreeList.{AreLinked};
@@ -24,6 +24,7 @@ use crate::store::cell::{
 use crate::store::chain::{free_all, free_cell, push_cell, take_cell};
 use crate::store::fit::{Slot, find_base, has_sign_there, is_taken_there};
 use crate::store::member::Member;
+use pg_types::Sign;
 use std::alloc::{AllocError, Global};
 use std::marker::Model;
 
@@ -68,6 +69,7 @@ impl<V: Copy> Model for Store<V> {
 impl<V: Copy> Store<V> {
     /// One free cell, with a bound for each of so many signs.
     pub fn new(alloc: Global, signs: u16, value: V) -> Result<Store<V>, AllocError>
+        requires { signs < SIGN_COUNT }
         ensures { IfOk result (λ s. s ≡ one_free (without_links value)) }
     {
         let mut cells = Vec::with_capacity(alloc, CELLS_AT_FIRST)?;
@@ -98,7 +100,7 @@ impl<V: Copy> Store<V> {
     }
 
     /// Whether a cell has a sign.
-    pub fn has_sign(&self, cell: usize, sign: u16) -> bool
+    pub fn has_sign(&self, cell: usize, sign: Sign) -> bool
         requires { sign ≢ 0 }
         ensures { result ≡ nat_eq (sign_at self.now cell) sign }
     {
@@ -131,8 +133,7 @@ impl<V: Copy> Store<V> {
 
     /// The number of taken cells.
     pub fn taken(&self) -> usize
-        ensures taken { result ≡ taken_in self.now }
-        ensures small { result < 2 ^ 32 }
+        ensures { result ≡ taken_in self.now }
     {
         self.taken
     }
@@ -238,7 +239,7 @@ impl<V: Copy> Store<V> {
     /// Makes room past the greatest taken cell: `more` cells. Refused: the cells that were there
     /// are as before.
     pub fn make_room(&mut self, more: usize, value: V) -> Result<(), AllocError>
-        requires { more < 2 ^ 32 }
+        requires { more < CELLS_END }
         ensures extends { Extends self.old self.new }
         ensures room { OnOk result
             ((i : ℕ) → sign_at self.old i ≢ 0 → i + more ≤ length self.new.signs) }
@@ -249,14 +250,14 @@ impl<V: Copy> Store<V> {
     }
 
     /// The bound of a sign: no base below it is free with the sign's cell.
-    pub fn bound(&self, sign: u16) -> usize
+    pub fn bound(&self, sign: Sign) -> usize
         ensures { (b : ℕ) → 0 < b → b < result → NoneFree self.now sign b }
     {
         bound_of(self.lows.as_slice(), self.freed, self.dropped, sign)
     }
 
     /// Raises the bound of a sign to a base, where none below it is free with the sign's cell.
-    pub fn raise_bound(&mut self, sign: u16, base: usize)
+    pub fn raise_bound(&mut self, sign: Sign, base: usize)
         requires base { base < length self.old.signs }
         requires none { (b : ℕ) → 0 < b → b < base → NoneFree self.old sign b }
         ensures { self.new ≡ self.old }
@@ -290,7 +291,7 @@ impl<V: Copy> Store<V> {
 
     /// The least base from `low` on at which the sign and those of the slots may stand. At `room`
     /// they may stand.
-    pub fn find_base(&self, slots: &[Slot<Member<V>>], sign: u16, low: usize, room: usize) -> usize
+    pub fn find_base(&self, slots: &[Slot<Member<V>>], sign: Sign, low: usize, room: usize) -> usize
         requires positive { 0 < sign }
         requires low { low ≤ room }
         requires within { room + sign < length self.now.signs }

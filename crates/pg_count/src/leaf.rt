@@ -86,7 +86,7 @@ fn leaf(
         let end = part(cells, windows, number, way, window)?;
         return add_next(cells, end, window);
     }
-    if cells.child(way.cell) == 0 {
+    if cells.families().child(way.cell) == 0 {
         return Ok(way.cell);
     }
     add_next(cells, way, window)

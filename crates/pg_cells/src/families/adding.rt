@@ -1,8 +1,9 @@
 //! A sign is added to a family, in its place or at another base.
-ghost use Rattle.std.specs.Prelude.{◌≡◌, ℕ, ◌+◌, ◌<◌, ◌≤◌, ◌^◌, ◌∷◌, ◌++◌, [], List, Some, length, slice_index, nat_lt, nat_eq, ◌&&◌, IfOk, OnOk, OnErr};
+ghost use Rattle.std.specs.Prelude.{◌≡◌, ℕ, ◌+◌, ◌<◌, ◌≤◌, ◌∷◌, ◌++◌, [], List, Some, length, slice_index, nat_lt, nat_eq, ◌&&◌, IfOk, OnOk, OnErr};
 ghost use Rattle.pg_types.specs.Placement.{cell_of, with_sign};
 ghost use Rattle.pg_cells.specs.Inside.linked.ValuedFamilies.{Trie};
 ghost use Rattle.pg_cells.specs.declared.store.member.Member.{Member as MemberOf};
+ghost use Rattle.pg_cells.specs.declared.store.cell.TheConstants.{CELLS_END};
 ghost use Rattle.pg_cells.specs.Inside.store.Lists.{FitsCell, sign_at};
 ghost use Rattle.pg_cells.specs.Inside.store.Store.{Extends, IsRow};
 ghost use Rattle.pg_cells.specs.Inside.families.Layouts.{IsTrie};
@@ -19,7 +20,7 @@ use std::alloc::AllocError;
 
 /// Whether a sign may join the family at the base in place.
 pub fn joins<V: Copy>(store: &Store<V>, base: usize, s: Sign) -> bool
-    requires { base < 2 ^ 32 }
+    requires { base < CELLS_END }
     ensures { result ≡ (nat_lt 0 base && nat_eq (sign_at store.now (base + s)) 0) }
 {
     base != 0 && !store.is_taken(base + s as usize)

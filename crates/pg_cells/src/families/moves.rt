@@ -1,8 +1,8 @@
 //! A family gives up its cells and is put at another base.
-ghost use Rattle.std.specs.Prelude.{◌≡◌, ◌≢◌, ℕ, ◌+◌, ◌<◌, ◌≤◌, ◌^◌, length, take, nat_eq, slice_index, Some, [], OnOk};
+ghost use Rattle.std.specs.Prelude.{◌≡◌, ◌≢◌, ℕ, ◌+◌, ◌<◌, ◌≤◌, length, take, nat_eq, slice_index, Some, [], OnOk};
 ghost use Rattle.pg_cells.specs.declared.store.fit.Slot.{Slot as SlotOf};
 ghost use Rattle.pg_cells.specs.declared.store.member.Member.{Member as MemberOf};
-ghost use Rattle.pg_cells.specs.declared.store.cell.TheConstants.{SIGN_COUNT};
+ghost use Rattle.pg_cells.specs.declared.store.cell.TheConstants.{CELLS_END, SIGN_COUNT};
 ghost use Rattle.pg_cells.specs.Inside.store.Lists.{sign_at, IsFree};
 ghost use Rattle.pg_cells.specs.Inside.store.Fit.{slot_of};
 ghost use Rattle.pg_cells.specs.Inside.linked.Members.{ArePassing};
@@ -17,7 +17,7 @@ use std::alloc::AllocError;
 /// Gives up the cells that the slots have at a base.
 pub fn give_up<V: Copy>(store: &mut Store<V>, base: usize, slots: &[Slot<Member<V>>])
     requires distinct { AreDistinct slots.now }
-    requires base { base < 2 ^ 32 }
+    requires base { base < CELLS_END }
     requires taken { (x : ℕ) (slot : SlotOf (MemberOf V)) → slot_of slots.now x ≡ Some slot →
         (0 < x) × (sign_at store.old (base + x) ≢ 0) }
     ensures { GivesUp store.old store.new base slots.now }
@@ -30,7 +30,7 @@ pub fn give_up<V: Copy>(store: &mut Store<V>, base: usize, slots: &[Slot<Member<
 /// Puts the slots into their cells at a base.
 pub fn put<V: Copy>(store: &mut Store<V>, base: usize, slots: &[Slot<Member<V>>])
     requires distinct { AreDistinct slots.now }
-    requires base { base < 2 ^ 32 }
+    requires base { base < CELLS_END }
     requires free { (x : ℕ) (slot : SlotOf (MemberOf V)) → slot_of slots.now x ≡ Some slot →
         (0 < x) × (IsFree store.old (base + x)) × (slot.child < length store.old.signs) }
     requires sign_fits { (x : ℕ) (slot : SlotOf (MemberOf V)) → slot_of slots.now x ≡ Some slot →
@@ -51,7 +51,7 @@ pub fn collect<V: Copy>(
     members: &[Sign],
     slots: &mut Vec<Slot<Member<V>>>,
 ) -> Result<(), AllocError>
-    requires base { base < 2 ^ 32 }
+    requires base { base < CELLS_END }
     requires members { (k : ℕ) → k < length members.now → 0 < slice_index members.now k }
     ensures none { members.now ≡ [] → OnOk result (slots.new.items ≡ []) }
     ensures some { (n : ℕ) → ((i : ℕ) → sign_at store.now i ≤ n) →
@@ -70,10 +70,10 @@ pub fn collect<V: Copy>(
 fn collect_sign<V: Copy>(
     store: &Store<V>,
     base: usize,
-    sign: u16,
+    sign: Sign,
     slots: &mut Vec<Slot<Member<V>>>,
 ) -> Result<(), AllocError>
-    requires base { base < 2 ^ 32 }
+    requires base { base < CELLS_END }
     requires sign { 0 < sign }
     ensures collects { OnOk result
         (Collects store.now base sign slots.old.items slots.new.items) }

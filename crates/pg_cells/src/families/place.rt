@@ -1,6 +1,7 @@
 //! A family is put at the least base that fits.
-ghost use Rattle.std.specs.Prelude.{◌≡◌, ◌≢◌, ℕ, ◌+◌, ◌<◌, ◌≤◌, ◌^◌, max, true, false, ◌∷◌, length, slice_index};
+ghost use Rattle.std.specs.Prelude.{◌≡◌, ◌≢◌, ℕ, ◌+◌, ◌<◌, ◌≤◌, max, true, false, ◌∷◌, length, slice_index};
 ghost use Rattle.pg_types.specs.Inside.Placing.{IsLeast};
+ghost use Rattle.pg_cells.specs.declared.store.cell.TheConstants.{CELLS_END};
 ghost use Rattle.pg_cells.specs.Inside.store.Fit.{fits_row, signs_of};
 ghost use Rattle.pg_cells.specs.Inside.store.Lists.{FitsCell};
 ghost use Rattle.pg_cells.specs.Inside.families.Searches.{far_from_top, search_start};
@@ -11,7 +12,7 @@ use crate::families::moves::{give_up, put};
 use crate::store::Store;
 use crate::store::fit::Slot;
 use crate::store::member::Member;
-use pg_types::{FAR_BELOW, SIGNS_MAX};
+use pg_types::{FAR_BELOW, SIGNS_MAX, Sign};
 
 /// Where no family is placed from base 1 on, each search begins this far below the greatest used
 /// cell. The search is short then, and most free cells are used all the same.
@@ -53,7 +54,7 @@ fn drop_base<V: Copy>(store: &mut Store<V>, base: usize)
 // No base from `low` on and below the answer is free for a family that moves. The search that found
 // its old base `was` tried them; it began at `sought`.
 fn tried_up_to(was: usize, sought: usize, low: usize) -> usize
-    requires { was < 2 ^ 32 }
+    requires { was < CELLS_END }
     ensures { low < result → (0 < was) × (sought ≤ low) × (result ≡ was + 1) }
 {
     if 0 < was && sought <= low { was + 1 } else { 0 }
@@ -65,7 +66,7 @@ fn tried_up_to(was: usize, sought: usize, low: usize) -> usize
 fn least_base<V: Copy>(
     store: &mut Store<V>,
     slots: &[Slot<Member<V>>],
-    sign: u16,
+    sign: Sign,
     low: usize,
     room: usize,
     tried: usize,

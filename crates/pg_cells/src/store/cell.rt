@@ -31,8 +31,8 @@ pub const BASE_AT: u32 = 1 << 2;
 /// In `links` the link stands from this bit on.
 pub const LINK_AT: u32 = 1 << 3;
 
-/// A cell. Its parts beside the value are packed into two numbers of 32 bits, so that many cells fit
-/// a cache.
+/// A cell. Its parts beside the value are packed into two numbers of 32 bits, so that many cells
+/// fit a cache.
 ///
 /// A free cell has no next and no first sign. The number of the free cell before it stands there.
 #[derive(Clone, Copy)]
@@ -78,7 +78,7 @@ pub fn is_taken<V: Copy>(cells: &[Cell<V>], cell: usize) -> bool
 
 /// Whether the cell has the sign. A walk asks this at each step, so no part is taken out of
 /// `signs`: its lower bits are compared as they are.
-pub fn has_sign<V: Copy>(cells: &[Cell<V>], cell: usize, sign: u16) -> bool
+pub fn has_sign<V: Copy>(cells: &[Cell<V>], cell: usize, sign: Sign) -> bool
     requires cell { cell < length cells.now }
     requires sign { sign ≢ 0 }
     ensures { result ≡ nat_eq (sign_at (lists cells.now).row cell) sign }
@@ -197,12 +197,12 @@ pub fn set_base<V: Copy>(cells: &mut [Cell<V>], cell: usize, is_base: bool)
     held.links = links_with_base(held.links, is_base);
 }
 
-/// Takes a cell for a sign, with its value and the base of its child family, 0 for none. Whether its
-/// index is a base stays as it is.
+/// Takes a cell for a sign, with its value and the base of its child family, 0 for none. Whether
+/// its index is a base stays as it is.
 pub fn set_taken<V: Copy>(
     cells: &mut [Cell<V>],
     cell: usize,
-    sign: u16,
+    sign: Sign,
     value: Member<V>,
     child: usize,
 )
@@ -225,8 +225,8 @@ pub fn set_taken<V: Copy>(
         + value.first as u32 / FIRST_COUNT;
 }
 
-/// Gives a cell up, which stands between the free cells `before` and `after` then. Whether its index
-/// is a base stays as it is.
+/// Gives a cell up, which stands between the free cells `before` and `after` then. Whether its
+/// index is a base stays as it is.
 pub fn set_free<V: Copy>(cells: &mut [Cell<V>], cell: usize, before: usize, after: usize)
     requires cell { cell < length cells.old }
     requires before { before < CELLS_END }

@@ -8,13 +8,14 @@ use crate::store::cell::{
     set_free, set_taken,
 };
 use crate::store::member::Member;
+use pg_types::Sign;
 use std::alloc::AllocError;
 
 /// Takes a free cell out of the list.
 pub fn take_cell<V: Copy>(
     cells: &mut [Cell<V>],
     cell: usize,
-    sign: u16,
+    sign: Sign,
     value: Member<V>,
     child: usize,
 )

@@ -1,12 +1,14 @@
 //! The search for a base, along the free cells.
-ghost use Rattle.std.specs.Prelude.{◌≡◌, ◌≢◌, ℕ, ◌+◌, ◌<◌, ◌≤◌, ◌^◌, Bool, true, false, ◌∷◌, length, nat_eq, slice_index, map};
+ghost use Rattle.std.specs.Prelude.{◌≡◌, ◌≢◌, ℕ, ◌+◌, ◌<◌, ◌≤◌, Bool, true, false, ◌∷◌, length, nat_eq, slice_index, map};
 ghost use Rattle.pg_types.specs.Inside.Placing.{IsLeast};
+ghost use Rattle.pg_cells.specs.declared.store.cell.TheConstants.{CELLS_END};
 ghost use Rattle.pg_cells.specs.Inside.store.Lists.{lists, sign_at, base_at};
 ghost use Rattle.pg_cells.specs.Inside.store.FreeList.{AreLinked};
 ghost use Rattle.pg_cells.specs.Inside.store.Fit.{fits_row, signs_of};
 
 use crate::store::cell::{Cell, after_of, has_sign, is_base_of, is_taken};
 use crate::store::member::Member;
+use pg_types::Sign;
 
 /// What a taken cell holds.
 #[derive(Clone, Copy)]
@@ -15,8 +17,8 @@ pub struct Slot<V> {
     pub value: V,
     /// The base of the child family, 0 for none.
     pub child: usize,
-    /// The sign of the cell.
-    pub sign: u16,
+    /// The last sign of that string.
+    pub sign: Sign,
 }
 
 /// Whether a cell is taken. None past the end is.
@@ -32,7 +34,7 @@ pub fn is_taken_there<V: Copy>(cells: &[Cell<V>], cell: usize) -> bool
 }
 
 /// Whether a cell has a sign. None past the end has it.
-pub fn has_sign_there<V: Copy>(cells: &[Cell<V>], cell: usize, sign: u16) -> bool
+pub fn has_sign_there<V: Copy>(cells: &[Cell<V>], cell: usize, sign: Sign) -> bool
     requires { sign ≢ 0 }
     ensures { result ≡ nat_eq (sign_at (lists cells.now).row cell) sign }
 {
@@ -49,7 +51,7 @@ fn fits<V: Copy>(cells: &[Cell<V>], slots: &[Slot<Member<V>>], base: usize) -> b
     requires base { base < length cells.now }
     requires wide { (k : ℕ) → k < length slots.now →
         base + slice_index (signs_of slots.now) k < length cells.now }
-    requires small { length cells.now < 2 ^ 32 }
+    requires small { length cells.now < CELLS_END }
     ensures { result ≡ fits_row (lists cells.now).row (signs_of slots.now) base }
 {
     for slot in slots {
@@ -87,7 +89,7 @@ fn free_from<V: Copy>(cells: &[Cell<V>], cell: usize, bound: usize) -> usize
 pub fn find_base<V: Copy>(
     cells: &[Cell<V>],
     slots: &[Slot<Member<V>>],
-    sign: u16,
+    sign: Sign,
     low: usize,
     room: usize,
 ) -> usize
@@ -97,7 +99,7 @@ pub fn find_base<V: Copy>(
     requires within { room + sign < length cells.now }
     requires wide { (k : ℕ) → k < length slots.now →
         room + slice_index (signs_of slots.now) k < length cells.now }
-    requires small { length cells.now < 2 ^ 32 }
+    requires small { length cells.now < CELLS_END }
     requires room { fits_row (lists cells.now).row (sign ∷ signs_of slots.now) room ≡ true }
     ensures least { IsLeast
         (fits_row (lists cells.now).row (sign ∷ signs_of slots.now)) low result }

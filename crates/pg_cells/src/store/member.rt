@@ -7,7 +7,6 @@ use pg_types::Sign;
 /// The value of a string, and the links of its family and of the family below it.
 #[derive(Clone, Copy)]
 pub struct Member<V> {
-    /// The value of the string.
     pub value: V,
     /// The next sign of the family that the cell is in, 0 for none. The root's signs have no link,
     /// since the root has every sign.

@@ -1,24 +1,17 @@
 -- Cells whose values are seen through a function: the strings, their order and their families are the same.
 use Rattle.std.proofs.Common.{◌≡◌, ℕ, inl, inr, cond, List, [], ◌∷◌, ◌++◌, map, length, Option, None, Some, refl, sym, ◌∙◌, ap}
-use Rattle.std.specs.Option.{option_map, is_some}
 use Rattle.std.specs.FinMap.{find}
 use Rattle.pg_types.specs.Placement.{cell_of}
 use Rattle.pg_cells.specs.Inside.linked.ValuedFamilies.{ValuedFamilies}
 use Rattle.pg_cells.specs.Inside.linked.AreValuedFamilies.{AreValuedFamilies}
-use Rattle.pg_cells.specs.Inside.linked.Members.{goes_on}
+use Rattle.pg_cells.specs.Inside.linked.Members.{IsNextSign, goes_on, has_sign}
 use Rattle.pg_cells.specs.Inside.linked.Walks.{EndsBefore}
-use Rattle.pg_types.proofs.StringEntries.{find_mapped}
+use Rattle.pg_cells.proofs.GivenMembers.{next_alike}
+use Rattle.pg_cells.proofs.LinkLaws.{goes_has}
 pub use Rattle.pg_types.proofs.StringEntries.{mapped, found_mapped, none_mapped, sorted_mapped, unmapped, put_from}
 use Rattle.pg_cells.proofs.StringMaps.{order, equal_or_not}
 
 module _ {X Y : Type 0} (f : X → Y) where
-  pub goes_mapped : (es : List (List ℕ × X)) (q : List ℕ) (s : ℕ) → goes_on es q s ≡ goes_on (mapped f es) q s
-  goes_mapped es q s = by (find order (q ++ s ∷ []) es) ∙ ap is_some (sym (find_mapped f (q ++ s ∷ []) es))
-    where
-      by : (o : Option X) → is_some o ≡ is_some (option_map f o)
-      by None = refl
-      by (Some x) = refl
-
   pub root_mapped : (x : X) (xs : List ℕ) → mapped f (map (λ s. (s ∷ [], x)) xs) ≡ map (λ s. (s ∷ [], f x)) xs
   root_mapped x [] = refl
   root_mapped x (s ∷ ss) = ap (λ l. (s ∷ [], f x) ∷ l) (root_mapped x ss)
@@ -40,6 +33,12 @@ module _ {X Y : Type 0} (f : X → Y) where
     bases = is.bases;
     members = is.members;
   }
+
+-- where the families are the same, the same signs follow a string
+pub next_too : {X Y : Type 0} (g : ValuedFamilies X) (h : ValuedFamilies Y) → AreValuedFamilies g → AreValuedFamilies h → g.families ≡ h.families → (p : List ℕ) (s y : ℕ)
+    → IsNextSign g.values p s y → IsNextSign h.values p s y
+next_too g h a b same p s y =
+    next_alike (goes_on g.values p) (goes_on h.values p) s y (λ z up. goes_has g a p z ∙ ap (λ fs. has_sign fs p z) same ∙ sym (goes_has h b p z))
 
 -- a string with no cell has no value
 pub no_value : {X : Type 0} (h : ValuedFamilies X) → AreValuedFamilies h → (q : List ℕ) → cell_of h.families q ≡ None → find order q h.values ≡ None

@@ -1,5 +1,5 @@
 -- What the numbers of tallies tell after each step.
-use Rattle.std.proofs.Common.{◌≡◌, ◌≢◌, ℕ, ◌+◌, ◌-◌, ◌<◌, ◌≤◌, ◌⊎◌, inl, inr, Bool, true, false, cond, nat_lt, List, [], ◌∷◌, ◌++◌, length, get_or, set, Option, None, Some, suc, zero, refl, sym, ◌∙◌, ap, subst, arith, length-append}
+use Rattle.std.proofs.Common.{◌≡◌, ◌≢◌, ℕ, ◌+◌, ◌-◌, ◌<◌, ◌≤◌, ◌⊎◌, inl, inr, Bool, true, false, cond, nat_lt, List, [], ◌∷◌, ◌++◌, length, get_or, set, Option, None, Some, refl, sym, ◌∙◌, ap, subst, arith, length-append}
 use Rattle.std.proofs.Math.Seq.{get_or-append_seam}
 use Rattle.std.proofs.lemmas.Bool.Decides.{nat_tests}
 use Rattle.std.proofs.lemmas.List.{get_or-set_same, get_or_append_left, length-set}
@@ -9,6 +9,7 @@ use Rattle.std.specs.FinMap.{find, put}
 use Rattle.pg_cells.specs.Inside.linked.ValuedFamilies.{ValuedFamilies}
 use Rattle.pg_cells.specs.Inside.linked.AreValuedFamilies.{AreValuedFamilies}
 use Rattle.pg_cells.specs.Inside.families.Root.{root_alone}
+use Rattle.pg_cells.proofs.RowWrites.{set_there}
 use Rattle.pg_cells.proofs.StringMaps.{order, equal_or_not, find_put_same, find_put_other}
 use Rattle.pg_types.specs.declared.limits.TheConstants.{NUMBERS_END}
 use Rattle.pg_count.specs.declared.store.tally_list.TheConstants.{NO_TALLY}
@@ -231,14 +232,6 @@ module _ (h mid g : ValuedFamilies ℕ) (first : ℕ) (tallies : Sums) (are : Ar
     size = pushed_size ∙ are.size;
   }
 
--- another element stays
-pub set_other : {A : Type 0} (xs : List A) (i j : ℕ) (y : A) → j ≢ i → slice_get (set xs i y) j ≡ slice_get xs j
-set_other [] i j y n = refl
-set_other (x ∷ xs) zero zero y n = absurd (n refl)
-set_other (x ∷ xs) zero (suc j) y n = refl
-set_other (x ∷ xs) (suc i) zero y n = refl
-set_other (x ∷ xs) (suc i) (suc j) y n = set_other xs i j y (λ e. n (ap suc e))
-
 -- the tally k of the string q is set
 module _ (h : ValuedFamilies ℕ) (first : ℕ) (tallies : Sums) (are : AreCellNumbers h first tallies) (q : List ℕ) (k : ℕ) (at : find order q h.values ≡ Some k) (le : first ≤ k) (sums : ℕ × ℕ) where
   abbrev after : Sums
@@ -272,7 +265,7 @@ module _ (h : ValuedFamilies ℕ) (first : ℕ) (tallies : Sums) (are : AreCellN
       by p n (Some m) e =
           let other : m ≢ k = λ z. n (are.apart p q k (e ∙ ap Some z) at le) in
           found_mapped (tally_by_number first after) p m h.values e
-          ∙ ap Some (same_tally first after tallies m (λ from. set_other tallies (k - first) (m - first) sums (λ z. other (omega arith))))
+          ∙ ap Some (same_tally first after tallies m (λ from. set_there tallies (k - first) (m - first) sums (λ z. other (omega arith))))
           ∙ sym (found_mapped (tally_by_number first tallies) p m h.values e)
 
   pub set_are : AreCellNumbers h first after

@@ -10,9 +10,9 @@ use Rattle.pg_types.specs.Inside.counting.Counts.{SignsWithin}
 use Rattle.pg_types.specs.Inside.counting.NumberedWindows.{Windows, HasNumber}
 use Rattle.pg_types.proofs.Numbering.{get_left, get_seam}
 use Rattle.pg_types.proofs.StringEntries.{order, put_from, same_maps}
+use Rattle.pg_cells.proofs.RowWrites.{set_there}
 use Rattle.pg_count.specs.Inside.Tables.{AreTabled, index_of, table_counts}
 use Rattle.pg_types.specs.declared.limits.TheConstants.{NUMBERS_END}
-use Rattle.pg_count.proofs.CellLaws.Numbering.{set_other}
 use Rattle.pg_count.proofs.LeafLaws.Fronts.{which_number}
 use Rattle.pg_count.proofs.TableLaws.Indexes.{one_entry}
 use Rattle.pg_count.proofs.TableLaws.Stood.{Sums, agree, counts, counts_there, none_counted, sorted_counts}
@@ -109,7 +109,7 @@ module _ (numbers : List ℕ) (first : ℕ) (windows : Windows) (tallies : Sums)
     new_tabled = record {
       there = λ p n at. elim (which_number windows u p n at) [
         | inl new ↦ ap (λ v. slice_get after (index_of signs v)) new.1 ∙ after_here ∙ ap Some (let size = are.tallied in let is = new.0 in omega arith)
-        | inr old ↦ set_other numbers (index_of signs u) (index_of signs p) (first + length tallies) (apart p n old.1) ∙ are.there p n old.1
+        | inr old ↦ set_there numbers (index_of signs u) (index_of signs p) (first + length tallies) (apart p n old.1) ∙ are.there p n old.1
       ];
       back = λ i k at le. elim (cases_eq i (index_of signs u)) [
         | inl same ↦
@@ -117,7 +117,7 @@ module _ (numbers : List ℕ) (first : ℕ) (windows : Windows) (tallies : Sums)
             let is : k ≡ first + length tallies = cc in
             (u, get_seam windows u (k - first) (let size = are.tallied in omega arith), sym same)
         | inr other ↦
-            let b = are.back i k (sym (set_other numbers (index_of signs u) i (first + length tallies) other) ∙ at) le in
+            let b = are.back i k (sym (set_there numbers (index_of signs u) i (first + length tallies) other) ∙ at) le in
             (b.0, get_left windows (u ∷ []) (k - first) b.0 b.1, b.2)
       ];
       long = λ p n at. elim (which_number windows u p n at) [

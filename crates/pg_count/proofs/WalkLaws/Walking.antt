@@ -307,13 +307,3 @@ module _ (h : ValuedFamilies (Option Tally)) (held : AreValuedFamilies h) where
   -- all begin with the empty string
   pub under_all : numbers_under [] h.values ≡ map (λ e. e.1) (numbers_in h.values)
   under_all = ap (map (λ e. e.1)) (where_all (is_under []) (numbers_in h.values) sorted (λ u n at. refl))
-
--- the measure of a walk along signs falls
-pub sign_falls : (s y : ℕ) → s ≢ 0 → s < 65536 → (0 < y → s < y) → cond (nat_eq y 0) 0 (65536 - y) < cond (nat_eq s 0) 0 (65536 - s)
-sign_falls s y some small later = elim (cases_eq y 0) [
-  | inl z ↦ less (ap (λ b. cond b 0 (65536 - y)) (eq-eqb y 0 z)) (omega arith)
-  | inr n ↦ less (ap (λ b. cond b 0 (65536 - y)) (ne_eqb y 0 n)) (let up = later (omega arith) in omega arith)
-]
-  where
-    less : {a b : ℕ} → a ≡ b → b < 65536 - s → a < cond (nat_eq s 0) 0 (65536 - s)
-    less e lt = let same = ap (λ b. cond b 0 (65536 - s)) (ne_eqb s 0 some) in omega (arith, e, same, lt)

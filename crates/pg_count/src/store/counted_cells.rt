@@ -4,14 +4,11 @@ ghost use Rattle.std.specs.FinMap.{find, put};
 ghost use Rattle.std.specs.Cmp.Lexicographic.{slice_cmp};
 ghost use Rattle.std.specs.Ordering.{nat_cmp};
 ghost use Rattle.pg_types.specs.declared.limits.TheConstants.{SIGNS_MAX, NUMBERS_END};
-ghost use Rattle.pg_types.specs.Placement.{cell_of, base_of};
+ghost use Rattle.pg_types.specs.Placement.{cell_of};
 ghost use Rattle.pg_cells.specs.Inside.families.Adding.{CanTakeSign};
 ghost use Rattle.pg_cells.specs.Inside.linked.AreValuedFamilies.{AreValuedFamilies};
 ghost use Rattle.pg_cells.specs.Inside.linked.CellValues.{HasValue, IsTaken};
-ghost use Rattle.pg_cells.specs.Inside.linked.Links.{HasBase};
-ghost use Rattle.pg_cells.specs.Inside.linked.Members.{IsNextSign};
 ghost use Rattle.pg_cells.specs.Inside.families.Root.{root_alone};
-ghost use Rattle.pg_cells.specs.Inside.linked.Walks.{IsAt};
 ghost use Rattle.pg_count.specs.Inside.Counting.{Tally, counts_in, numbers_in};
 ghost use Rattle.pg_count.specs.Inside.cells.Leaves.{Adds, AreShort, PushesDown};
 ghost use Rattle.pg_count.specs.declared.store.tally_list.TheConstants.{LATEST_FIRST};
@@ -98,59 +95,13 @@ impl CountedCells {
         self.tallies.is_empty()
     }
 
-    /// The number of signs of the table.
-    pub fn signs(&self) -> u16
-        ensures { result ≡ self.now.signs }
+    /// The families of the cells, each cell with its entry. Each string has the same cell there.
+    pub fn families(&self) -> &NearCells<u32>
+        ensures signs { result.now.signs ≡ self.now.signs }
+        ensures families { result.now.families ≡ self.now.families }
+        ensures held { AreValuedFamilies result.now }
     {
-        self.cells.signs()
-    }
-
-    /// The cell of the sign in the family with the base, or `None` where the family lacks the sign.
-    pub fn find(&self, base: usize, s: Sign) -> Option<usize>
-        requires base { (p : List ℕ) × (base_of self.now.families p ≡ Some base) }
-        requires sign { (1 ≤ s) × (s ≤ self.now.signs) }
-        ensures { (p : List ℕ) → base_of self.now.families p ≡ Some base →
-            result ≡ cell_of self.now.families (p ++ s ∷ []) }
-    {
-        self.cells.find(base, s)
-    }
-
-    /// The base of the family below the cell's string, 0 for none.
-    pub fn child(&self, cell: usize) -> usize
-        requires { IsTaken self.now.families cell }
-        ensures { (q : List ℕ) → cell_of self.now.families q ≡ Some cell →
-            HasBase self.now.families q result }
-    {
-        self.cells.child(cell)
-    }
-
-    /// The first sign of the family below the cell's string, 0 for none.
-    pub fn first_sign(&self, cell: usize) -> Sign
-        requires { IsTaken self.now.families cell }
-        ensures { (q : List ℕ) → cell_of self.now.families q ≡ Some cell
-            → IsNextSign self.now.values q 0 result }
-    {
-        self.cells.first_sign(cell)
-    }
-
-    /// The next sign of the family that the cell is in, 0 for none.
-    pub fn next_sign(&self, cell: usize) -> Sign
-        requires { IsTaken self.now.families cell }
-        ensures { (p : List ℕ) (s : ℕ) → cell_of self.now.families (p ++ s ∷ []) ≡ Some cell →
-            IsNextSign self.now.values p s result }
-    {
-        self.cells.next_sign(cell)
-    }
-
-    /// Goes from a cell, or from the start for `None`, to the cell of the string with the sign
-    /// added. `None` tells that no string that begins with this one has a cell.
-    pub fn step(&self, at: Option<usize>, s: Sign) -> Option<usize>
-        requires at { (q : List ℕ) × (IsAt self.now.families at q) }
-        requires sign { (1 ≤ s) × (s ≤ self.now.signs) }
-        ensures { (q : List ℕ) → IsAt self.now.families at q
-            → result ≡ cell_of self.now.families (q ++ s ∷ []) }
-    {
-        pg_cells::step(&self.cells, at, s)
+        &self.cells
     }
 
     /// The number and the sums of the cell's string, or `None` where it is not counted.
@@ -249,8 +200,8 @@ impl CountedCells {
     }
 }
 
-// The entry of the first tally of the next pass, past each entry of the cells. Where the cells are to
-// stay and enough entries are left, it is `next`, and each string keeps its cell. Else the entries
+// The entry of the first tally of the next pass, past each entry of the cells. Where the cells are
+// to stay and enough entries are left, it is `next`, and each string keeps its cell. Else the entries
 // begin again from 1, and each sign alone has a cell.
 fn first_after(cells: &mut NearCells<u32>, next: u32, keeps: bool) -> u32
     requires held { AreValuedFamilies cells.old }

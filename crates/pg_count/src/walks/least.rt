@@ -10,10 +10,11 @@ ghost use Rattle.pg_count.specs.Inside.cells.Leaves.{AreLeaves, AreShort, IsLast
 use crate::store::counted_cells::CountedCells;
 use crate::store::window_list::WindowList;
 use crate::walks::bound::{first_of, rest_of};
+use pg_cells::NearCells;
 use pg_types::{Cursor, Sign};
 
 // The sign after one of the signs of the family with the base, 0 for none.
-fn sign_after(cells: &CountedCells, base: usize, s: Sign) -> Sign
+fn sign_after(cells: &NearCells<u32>, base: usize, s: Sign) -> Sign
     requires held { AreValuedFamilies cells.now }
     requires base { (p : List ℕ) × (cell : ℕ)
         × ((base_of cells.now.families p ≡ Some base)
@@ -29,7 +30,7 @@ fn sign_after(cells: &CountedCells, base: usize, s: Sign) -> Sign
 
 // The least sign of the family with the base that is not below another, 0 for none. It is that sign
 // itself, where the family has it; else it is sought from the family's first sign on.
-fn sign_from(cells: &CountedCells, base: usize, first: Sign, from: Sign) -> Sign
+fn sign_from(cells: &NearCells<u32>, base: usize, first: Sign, from: Sign) -> Sign
     requires held { AreValuedFamilies cells.now }
     requires base { (p : List ℕ) × ((base_of cells.now.families p ≡ Some base)
         × IsNextSign cells.now.values p 0 first) }
@@ -71,14 +72,15 @@ pub fn least(
     ensures { (p : List ℕ) → base_of cells.now.families p ≡ Some base
         → IsNearest windows.now.items p above.now result }
 {
-    let mut s = sign_from(cells, base, first, first_of(bound));
+    let families = cells.families();
+    let mut s = sign_from(families, base, first, first_of(bound));
     while s != 0 {
-        let cell = cells.find(base, s)?;
+        let cell = families.find(base, s)?;
         let found = least_at(cells, windows, above, cell, rest_of(bound, s), more - 1);
         if let Some(number) = found {
             return Some(number);
         }
-        s = cells.next_sign(cell);
+        s = families.next_sign(cell);
     }
     None
 }
@@ -100,11 +102,12 @@ fn least_at(
     ensures { (q : List ℕ) → cell_of cells.now.families q ≡ Some cell
         → IsNearest windows.now.items q above.now result }
 {
-    let below = cells.child(cell);
+    let families = cells.families();
+    let below = families.child(cell);
     if below == 0 {
         return leaf_above(cells, windows, above, cell);
     }
-    let first = cells.first_sign(cell);
+    let first = families.first_sign(cell);
     least(cells, windows, above, below, first, bound, more)
 }
 

@@ -7,11 +7,12 @@ ghost use Rattle.pg_count.specs.Inside.cells.Leaves.{AreLast, AreShort, IsLast};
 ghost use Rattle.pg_count.specs.Inside.walks.Under.{numbers_under};
 
 use crate::store::counted_cells::CountedCells;
+use pg_cells::NearCells;
 use pg_types::Sign;
 use std::alloc::AllocError;
 
 // The cell of a sign of the family with the base, `None` for 0.
-fn sign_cell(cells: &CountedCells, base: usize, s: Sign) -> Option<usize>
+fn sign_cell(cells: &NearCells<u32>, base: usize, s: Sign) -> Option<usize>
     requires held { AreValuedFamilies cells.now }
     requires base { (p : List ℕ) × ((base_of cells.now.families p ≡ Some base)
         × (0 < s → goes_on cells.now.values p s ≡ true)) }
@@ -44,14 +45,15 @@ pub fn walk(
     ensures { (p : List ℕ) → base_of cells.now.families p ≡ Some base →
         OnOk result (out.new.items ≡ out.old.items ++ numbers_under p cells.now.values) }
 {
+    let families = cells.families();
     let mut s = first;
-    let mut at = sign_cell(cells, base, s);
+    let mut at = sign_cell(families, base, s);
     while s != 0 {
         let Some(cell) = at else {
             return Ok(());
         };
-        s = cells.next_sign(cell);
-        at = sign_cell(cells, base, s);
+        s = families.next_sign(cell);
+        at = sign_cell(families, base, s);
         walk_at(cells, cell, more - 1, out)?;
     }
     Ok(())
@@ -72,11 +74,12 @@ fn walk_at(
     ensures { (q : List ℕ) → cell_of cells.now.families q ≡ Some cell →
         OnOk result (out.new.items ≡ out.old.items ++ numbers_under q cells.now.values) }
 {
-    let below = cells.child(cell);
+    let families = cells.families();
+    let below = families.child(cell);
     if below == 0 {
         return last_at(cells, cell, out);
     }
-    walk(cells, below, cells.first_sign(cell), more, out)
+    walk(cells, below, families.first_sign(cell), more, out)
 }
 
 // Appends the number of the string that has the cell, which no sign follows.

@@ -10,6 +10,7 @@ ghost use Rattle.pg_count.specs.Inside.cells.Leaves.{AreLeaves, IsWay};
 
 use crate::store::counted_cells::CountedCells;
 use crate::store::window_list::WindowList;
+use pg_cells::step;
 use pg_types::Sign;
 
 /// How far the signs of a string lead.
@@ -28,10 +29,11 @@ pub fn way_of(cells: &CountedCells, signs: &[Sign]) -> Way
     requires signs { SignsWithin cells.now.signs signs.now }
     ensures { IsWay cells.now signs.now result.at result.cell }
 {
+    let families = cells.families();
     let mut cell = signs[0] as usize;
     let mut at = 1;
     'signs: while at < signs.len() {
-        let Some(next) = cells.step(Some(cell), signs[at]) else {
+        let Some(next) = step(families, Some(cell), signs[at]) else {
             return Way { cell, at };
         };
         cell = next;

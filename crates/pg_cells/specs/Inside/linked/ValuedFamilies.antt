@@ -40,6 +40,10 @@ pub record Trie (V : Type 0) : Type 0 where
   pub families : Families
   pub values : List (List ℕ × V)
 
+-- the families and the values of the cells
+abbrev pub trie_in : {V : Type 0} → ValuedFamilies V → Trie V
+trie_in h = record { families = h.families; values = h.values }
+
 -- how proofs store a trie: the families, and the values
 abbrev pub trie_code : {V : Type 0} → Coded V → Coded (Trie V)
 trie_code {V} code =

@@ -1,8 +1,8 @@
 -- What the store of cells keeps, and how its row is stored and grows.
-use Rattle.std.specs.Prelude.{◌≡◌, ◌≢◌, ℕ, ◌+◌, ◌<◌, ◌≤◌, ◌^◌, min, Bool, List, [], ◌∷◌, length, get_or, slice_get, false, refl}
+use Rattle.std.specs.Prelude.{◌≡◌, ◌≢◌, ℕ, ◌+◌, ◌<◌, ◌≤◌, min, Bool, List, [], ◌∷◌, length, get_or, slice_get, false, refl}
 use Rattle.std.specs.Coded.{Coded, code_by, coded×, coded_ℕ, coded_bool, coded_list}
 use Rattle.pg_cells.specs.declared.store.cell.Cell.{Cell}
-use Rattle.pg_cells.specs.declared.store.cell.TheConstants.{CELLS_END}
+use Rattle.pg_cells.specs.declared.store.cell.TheConstants.{CELLS_END, SIGN_COUNT}
 use Rattle.pg_cells.specs.declared.store.member.Member.{Member}
 use Rattle.pg_cells.specs.Inside.store.Lists.{Row, lists, row_of, sign_at, child_at, base_at}
 use Rattle.pg_cells.specs.Inside.store.FreeList.{AreLinked}
@@ -54,14 +54,14 @@ module _ {V : Type 0} where
   pub record IsStore (cells : List (Cell V)) (top taken : ℕ)
       (lows : List ℕ) (freed dropped placed sought : ℕ) : Type 0 where
     pub kept : IsKept cells top taken
-    pub few : length lows ≤ 2 ^ 16
+    pub few : length lows ≤ SIGN_COUNT
     pub bounds : AreBounds (row_of cells) lows freed dropped
     pub blocked : AreBlocked (row_of cells) placed sought
 
 module _ {V : Type 0} where
   -- the row of a store: its parts are of one length, and a free cell has no child family
   pub record IsRow (r : Row V) : Type 0 where
-    pub small : length r.signs < 2 ^ 32
+    pub small : length r.signs < CELLS_END
     pub values : length r.values ≡ length r.signs
     pub bases : length r.bases ≡ length r.signs
     pub bare : (i : ℕ) → sign_at r i ≡ 0 → child_at r i ≡ 0

@@ -1,4 +1,4 @@
-use Rattle.std.proofs.Common.{take, refl, sym, ◌∙◌, subst}
+use Rattle.std.proofs.Common.{take, refl, sym, ◌∙◌, subst, lit<}
 use Rattle.std.proofs.lemmas.Result.{err_from_is_err_and}
 use Rattle.pg_types.specs.Inside.counting.Counts.{SignsWithin}
 use Rattle.pg_count.proofs.LeafLaws.Parting.{keeps_none, keeps_on, way_free, way_goes_on}
@@ -37,12 +37,13 @@ returns-in-Some c =
     record { leaves = next.leaves c.args.windows.now.items end.leaves; keeps = keeps_on end.keeps next.keeps; signs = next.signs ∙ end.signs; free = next.free }
 
 pub child-requires : goal.child-requires
-child-requires c = (take c.args.way.at c.args.window.now, c.requires.way.there)
+child-requires c = (lit< tt, (take c.args.way.at c.args.window.now, rw c.families.ensures.families c.requires.way.there))
 
 pub returns-then-child-eq0 : goal.returns-then-child-eq0
 returns-then-child-eq0 c =
     let q = take c.args.way.at c.args.window.now in
-    let last = childless_last c.args.cells.now c.requires.leaves.held q c.child.result (c.child.ensures q c.requires.way.there) c.if-child-eq0.true in
+    let told = rw c.families.ensures.families at c.child.ensures.base in
+    let last = childless_last c.args.cells.now c.requires.leaves.held q c.child.result (told q c.requires.way.there) c.if-child-eq0.true in
     record {
       leaves = c.requires.leaves;
       keeps = keeps_none c.args.cells.now.values;
@@ -53,7 +54,8 @@ returns-then-child-eq0 c =
 pub add_next-requires-2 : goal.add_next-requires-2
 add_next-requires-2 c =
     let q = take c.args.way.at c.args.window.now in
-    let below = family_below c.args.cells.now q c.child.result (c.child.ensures q c.requires.way.there) c.if-child-eq0.false in
+    let told = rw c.families.ensures.families at c.child.ensures.base in
+    let below = family_below c.args.cells.now q c.child.result (told q c.requires.way.there) c.if-child-eq0.false in
     record {
       leaves = (c.args.windows.now.items, c.requires.leaves);
       way = c.requires.way;

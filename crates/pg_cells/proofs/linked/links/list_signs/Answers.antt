@@ -8,7 +8,7 @@ loop-next-init g c = record {
   each = λ q e k lt. absurd (let size = ap length c.clear.ensures.items in omega arith);
   next = λ q e. subst (λ (xs : List ℕ). IsNext (goes_on c.args.cells.now.values q) (number_before xs (length xs)) c.sign_after-next.result)
       (sym c.clear.ensures.items) (c.sign_after-next.ensures.next q e);
-  small = c.sign_after-next.type_inv;
+  small = c.sign_after-next.ensures.fits;
 }
 
 pub loop-next-preserved : goal.loop-next-preserved
@@ -22,7 +22,7 @@ loop-next-preserved g c =
           subst (λ b. IsNext (goes_on c.args.cells.now.values q) b c.sign_after-next-in-loop-next.result)
           (sym (last_of_more c.loop-next.signs.items c.loop-next.next) ∙ ap (λ (xs : List ℕ). number_before xs (length xs)) (sym items))
           (c.sign_after-next-in-loop-next.ensures.next q e);
-      small = c.sign_after-next-in-loop-next.type_inv;
+      small = c.sign_after-next-in-loop-next.ensures.fits;
     }
 
 pub loop-next-smaller : goal.loop-next-smaller

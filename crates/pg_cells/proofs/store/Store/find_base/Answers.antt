@@ -1,6 +1,7 @@
-use Rattle.std.proofs.Common.{◌≡◌, ◌+◌, ◌<◌, ◌^◌, ◌∷◌, List, length, get_or, sym, ap, subst, ◌∙◌, true, arith}
+use Rattle.std.proofs.Common.{◌≡◌, ◌+◌, ◌<◌, ◌∷◌, List, length, get_or, sym, ap, subst, ◌∙◌, true}
 use Rattle.pg_types.specs.Inside.Placing.{IsLeast}
 use Rattle.pg_cells.specs.declared.store.cell.Cell.{Cell}
+use Rattle.pg_cells.specs.declared.store.cell.TheConstants.{CELLS_END}
 use Rattle.pg_cells.specs.declared.store.member.Member.{Member}
 use Rattle.pg_cells.specs.Inside.store.Lists.{Row, lists, row_of}
 use Rattle.pg_cells.specs.Inside.store.FreeList.{AreLinked}
@@ -18,7 +19,7 @@ find_base-requires g c =
       within = subst (λ n. c.args.room + c.args.sign < n) (ap (λ (r : Row (Member g.row.V.Denot)). length r.signs) (sym seen) ∙ signs_long c.as_slice.result.now) c.requires.within;
       wide = λ k lt. subst (λ n. c.args.room + get_or (signs_of c.args.slots.now) k 0 < n) (ap (λ (r : Row (Member g.row.V.Denot)). length r.signs) (sym seen) ∙ signs_long c.as_slice.result.now)
           (c.requires.wide k lt);
-      small = let few = c.self.invariant.kept.small in subst (λ (cells : List (Cell g.row.V.Denot)). length cells < 2 ^ 32) (sym c.as_slice.ensures.value) (omega arith);
+      small = subst (λ (cells : List (Cell g.row.V.Denot)). length cells < CELLS_END) (sym c.as_slice.ensures.value) c.self.invariant.kept.small;
       room = subst (λ r. fits_row r (c.args.sign ∷ signs_of c.args.slots.now) c.args.room ≡ true) (sym seen) c.requires.room;
     }
 

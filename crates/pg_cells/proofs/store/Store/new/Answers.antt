@@ -1,5 +1,6 @@
-use Rattle.std.proofs.Common.{◌≡◌, ◌≤◌, ◌^◌, [], ◌∷◌, List, length, sym, ap, subst, arith, rules}
+use Rattle.std.proofs.Common.{◌≡◌, ◌≤◌, [], ◌∷◌, List, length, sym, ap, subst, arith, rules}
 use Rattle.pg_cells.specs.declared.store.cell.Cell.{Cell}
+use Rattle.pg_cells.specs.declared.store.cell.TheConstants.{SIGN_COUNT}
 use Rattle.pg_cells.specs.Inside.store.Lists.{row_of}
 use Rattle.pg_cells.specs.Inside.store.Store.{IsStore}
 use Rattle.pg_cells.proofs.LoneStore.{free_cell, lone_store}
@@ -8,7 +9,7 @@ use Rattle.pg_cells.proofs.store.Store.new.Goals as goal
 pub invariant_of-result : goal.invariant_of-result
 invariant_of-result g c =
     let items : c.push.new.self.items ≡ free_cell c.args.value ∷ [] = search rules in
-    let few : length c.in_ok-lows.lows.items ≤ 2 ^ 16 = omega (arith, c.ranges.signs, c.in_ok-lows.ensures) in
+    let few : length c.in_ok-lows.lows.items ≤ SIGN_COUNT = omega (arith, c.requires, c.in_ok-lows.ensures) in
     subst (λ (cells : List (Cell g.row.V.Denot)). IsStore cells 0 0 c.in_ok-lows.lows.items 0 0 0 0) (sym items) (lone_store c.args.value c.in_ok-lows.lows.items few)
 
 pub returns : goal.returns

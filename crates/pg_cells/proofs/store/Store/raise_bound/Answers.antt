@@ -1,14 +1,15 @@
-use Rattle.std.proofs.Common.{◌≡◌, ◌<◌, ◌≤◌, ◌^◌, ℕ, List, length, sym, subst, arith}
+use Rattle.std.proofs.Common.{◌≡◌, ◌<◌, ◌≤◌, ℕ, List, length, sym, subst, arith}
 use Rattle.std.proofs.lemmas.List.{length-map}
 use Rattle.pg_cells.specs.Inside.store.Lists.{sign_seen, Row, row_of}
 use Rattle.pg_cells.specs.Inside.store.Bounds.{IsBelow, NoneFree}
+use Rattle.pg_cells.specs.declared.store.cell.TheConstants.{SIGN_COUNT}
 use Rattle.pg_cells.specs.declared.store.member.Member.{Member}
 use Rattle.pg_cells.proofs.BoundLaws.{bounds_raise}
 use Rattle.pg_cells.proofs.StoreSteps.{given_back}
 use Rattle.pg_cells.proofs.store.Store.raise_bound.Goals as goal
 
 pub raise-requires-clause-few : goal.raise-requires-clause-few
-raise-requires-clause-few g c = subst (λ (lows : List ℕ). length lows ≤ 2 ^ 16) (sym c.as_mut_slice-lows.ensures.value) c.self.invariant.few
+raise-requires-clause-few g c = subst (λ (lows : List ℕ). length lows ≤ SIGN_COUNT) (sym c.as_mut_slice-lows.ensures.value) c.self.invariant.few
 
 pub raise-requires-clause-low : goal.raise-requires-clause-low
 raise-requires-clause-low g c =

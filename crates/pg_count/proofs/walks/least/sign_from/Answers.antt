@@ -1,12 +1,12 @@
-use Rattle.std.proofs.Common.{◌≡◌, List, ℕ, Some, subst, arith}
+use Rattle.std.proofs.Common.{◌≡◌, List, ℕ, Some, subst, arith, lit<}
 use Rattle.pg_types.specs.Placement.{base_of}
 use Rattle.pg_cells.specs.Inside.linked.Members.{IsNextSign}
 use Rattle.pg_cells.proofs.LinkLaws.{goes_cell}
-use Rattle.pg_count.proofs.WalkLaws.Walking.{sign_falls}
+use Rattle.pg_cells.proofs.Walking.{sign_falls}
 use Rattle.pg_count.proofs.walks.least.sign_from.Goals as goal
 
 pub find-requires : goal.find-requires
-find-requires c = record { base = (c.requires.base.0, c.requires.base.1.0); sign = (c.requires.from, omega arith) }
+find-requires c = (lit< tt, ((c.requires.base.0, c.requires.base.1.0), (c.requires.from, omega arith)))
 
 pub loop-s-init : goal.loop-s-init
 loop-s-init c =

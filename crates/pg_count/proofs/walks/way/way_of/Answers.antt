@@ -10,7 +10,8 @@ returns-in_default c =
       some = way.some;
       within = way.within;
       there = way.there;
-      ends = λ less. ends_after c.args.cells.now c.requires.held q (get_or c.args.signs.now c.signs.at 0) (sym (c.in_default.ensures q way.there));
+      ends = λ less. ends_after c.args.cells.now c.requires.held q (get_or c.args.signs.now c.signs.at 0)
+          (sym (rw c.families-families.ensures.families at (c.in_default.ensures.cell q (rw c.families-families.ensures.families way.there))));
     }
 
 pub returns : goal.returns
