@@ -6,8 +6,7 @@ use Rattle.std.specs.declared.alloc.Global.{Global}
 use Rattle.std.proofs.lemmas.List.{append-nil, drop_more, take_all, take-map, map-append, take-append-drop, length-map}
 use Rattle.std.proofs.lemmas.Option.{slice_get_within, get_or_from_slice_get, slice_get-map}
 use Rattle.pg_audit.specs.Differences.{Difference, first_false}
-use Rattle.pg_audit.specs.Inside.FoundForms.{FoundLine, printed_of}
-use Rattle.pg_audit.proofs.FoundTexts.{text_of, text_by_form}
+use Rattle.pg_audit.specs.Inside.FirstFalse.{printed_of}
 use Rattle.pg_audit.proofs.PrintedPart.{part_printed}
 use Rattle.pg_outside.specs.Content.{FileMap, FilesShown, SinkShown, KeepsHeld, file_at}
 use Rattle.pg_outside.specs.Inside.NameFaults.{NoneFell}
@@ -46,13 +45,13 @@ use Rattle.pg_steps.proofs.Orders.{IsAccepted, AreAccepted, accepted_and, accept
 use Rattle.pg_steps.specs.Rules.{outcome_of}
 
 -- what is said of a difference is said by what is printed of it
-said : Given → ℕ × FoundLine → List ℕ
-said g l = codes "no: " ++ word_of (input.Given g) ++ codes " line " ++ decimal l.0 ++ text_of l.1 ++ codes "\n"
+said : Given → ℕ × List ℕ → List ℕ
+said g p = codes "no: " ++ word_of (input.Given g) ++ codes " line " ++ decimal p.0 ++ p.1 ++ codes "\n"
 
 denied : (g : Given) (d : Option Difference) → option_map (denies g) d ≡ option_map (λ p. Ends No [] (said g p)) (option_map printed_of d)
 unfolding said
 denied g None = refl
-denied g (Some d) = ap (λ t. Some (Ends No [] (codes "no: " ++ word_of (input.Given g) ++ codes " line " ++ decimal d.line ++ t ++ codes "\n"))) (text_by_form d.found)
+denied g (Some d) = refl
 
 -- a file is judged by its front
 pub judged : (g : Given) (text : List ℕ) (file : Option (List ℕ)) (bytes : List ℕ) → IsFrontOf file (length text) 256 bytes
