@@ -1,3 +1,2 @@
 -- What only contracts between layers and proofs need.
 pub mod Verdicts
-pub mod GivenNames

@@ -1,5 +1,5 @@
 -- What a command asks for, and the limits of its numbers.
-use Rattle.std.specs.Prelude.{ℕ, ◌≤◌, List, ◌∷◌, length, Option}
+use Rattle.std.specs.Prelude.{◌≡◌, ℕ, ◌≤◌, List, ◌∷◌, length, Option, None}
 use Rattle.std.specs.Option.{option_map}
 use denote.Ref.{Bor}
 use Rattle.pg_words.specs.forms.Generate.{FileNames}
@@ -80,8 +80,9 @@ pub record KeepsSweepLimits (w : SweepWords) : Type 0 where
   pub missed : (1 ≤ w.missed) × (w.missed ≤ PRICE_MAX)
   pub params : (1 ≤ length w.params.now) × (length w.params.now ≤ SETS_MAX)
 
--- the numbers of `sample` and `sweep` are within their limits
+-- the numbers of `sample` and `sweep` are within their limits, and `audit` has no cells file
 abbrev pub KeepsLimits : Command → Type 0
+KeepsLimits (Audit names) = names.cells ≡ None
 KeepsLimits (Sample seed count) = (seed ≤ SEED_MAX) × (count ≤ COUNT_MAX)
 KeepsLimits (Sweep words) = KeepsSweepLimits words
 KeepsLimits command = Unit {0}
