@@ -3,4 +3,3 @@ pub mod FirstPart
 pub mod Least
 pub mod PrintedPart
 mod DifferenceRows
-pub mod FoundTexts

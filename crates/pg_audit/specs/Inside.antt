@@ -1,4 +1,3 @@
 -- What only contracts between layers and proofs need.
 pub mod Cut
-pub mod FoundForms
 pub mod FirstFalse

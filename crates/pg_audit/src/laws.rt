@@ -1,8 +1,7 @@
 //! Laws on the comparison of files. A call does nothing; its contract is the law.
 ghost use Rattle.std.specs.Prelude.{◌≡◌, ℕ, ◌+◌, ◌<◌, ◌≤◌, List, length};
 ghost use Rattle.pg_audit.specs.declared.lines.TheConstants.{SHOWN_MAX};
-ghost use Rattle.pg_audit.specs.Inside.FirstFalse.{first_false_shown, first_part};
-ghost use Rattle.pg_audit.specs.Inside.FoundForms.{first_false_printed};
+ghost use Rattle.pg_audit.specs.Inside.FirstFalse.{first_false_shown, first_false_printed, first_part};
 
 /// The first part of a given file has the same false line as the whole, where the file is longer
 /// than the wanted one by more than `more` bytes. This part is longer than the wanted file by

@@ -16,6 +16,7 @@ word_of (input.Set k) = codes "set " ++ decimal k
 word_of input.Table = codes "table"
 word_of (input.Given given.Patterns) = codes "patterns"
 word_of (input.Given given.Pattmp) = codes "pattmp"
+word_of (input.Given given.Cells) = codes "cells"
 word_of (input.Given given.Report) = codes "report"
 
 -- where in a file the refused place is: an item of parameters, a line and a column of the others

@@ -5,13 +5,15 @@ ghost use Rattle.pg_steps.specs.declared.inputs.Stop.TheVariants.{Memory};
 use pg_types::Refusal;
 use std::alloc::AllocError;
 
-/// A file that `audit` compares with the one that `generate` would write.
+/// A file that `generate` writes. `audit` compares all of them but the cells file.
 #[derive(Clone, Copy)]
 pub enum Given {
     /// The pattern file.
     Patterns,
     /// The hyphenated list.
     Pattmp,
+    /// The cells file.
+    Cells,
     /// The report.
     Report,
 }

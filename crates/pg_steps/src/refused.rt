@@ -18,6 +18,7 @@ pub fn push_word(line: &mut Vec<u8>, input: Input) -> Result<(), AllocError>
         Input::Set(number) => push_number(line, b"set ", u64::from(number)),
         Input::Table => line.extend_from_slice(b"table"),
         Input::Given(Given::Pattmp) => line.extend_from_slice(b"pattmp"),
+        Input::Given(Given::Cells) => line.extend_from_slice(b"cells"),
         Input::Given(Given::Report) => line.extend_from_slice(b"report"),
     }
 }

@@ -1,6 +1,7 @@
 pub mod ReadsStopped
 pub mod PrintedPieces
 pub mod Selections
+pub mod SelectedLists
 pub mod CountedEnds
 pub mod Calls
 pub mod Promised

@@ -1,3 +1,2 @@
-pub mod FoundTexts
 pub mod GivenFronts
 pub mod Judgements

@@ -1,5 +1,5 @@
 //! `audit`: given files, which are compared with those that `generate` would write.
-ghost use Rattle.std.specs.Prelude.{◌≡◌, IfOk, IfErr, IfSome};
+ghost use Rattle.std.specs.Prelude.{◌≡◌, IfOk, IfErr, IfSome, None};
 ghost use Rattle.pg_outside.specs.Content.{file_at};
 ghost use Rattle.pg_outside.specs.Faults.{next_count};
 ghost use Rattle.pg_steps.specs.Rules.{outcome_of};
@@ -33,6 +33,7 @@ pub fn audit_files<'a, F: Files, W: Watch>(
     files: &mut F,
     watch: &W,
 ) -> Result<Verdict, Stop<'a>>
+    requires { names.now.cells ≡ None }
     ensures only { OnlyReads (F.shown files.old) (F.shown files.new) }
     ensures ok { IfOk result (λ verdict. IfSome (F.shown files.new).held (λ files.
         outcome_of (file_at files) (audit_rule (texts_of names.now)) ≡ outcome_by verdict)) }
@@ -69,6 +70,7 @@ pub fn audit<F: Files, O: Sink, W: Watch>(
     out: &mut O,
     watch: &W,
 ) -> Status
+    requires { names.now.cells ≡ None }
     ensures call { IsCall (audit_rule (texts_of names.now)) result
         (F.shown files.old, O.shown out.old) (F.shown files.new, O.shown out.new) }
     ensures counted { IsCountedCall (audit_rule (texts_of names.now)) result

@@ -8,6 +8,7 @@ mod pack;
 mod printed;
 mod prune;
 mod sample;
+mod selected_files;
 mod selection;
 mod sweep;
 mod top;

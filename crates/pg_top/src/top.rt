@@ -15,7 +15,7 @@ use crate::totals::total_files;
 use pg_outside::{Files, Sink};
 use pg_steps::{Status, answer, end};
 use pg_watch::{Quiet, Watch};
-use pg_words::{Command, command};
+use pg_words::{Command, PackNames, PruneNames, TotalsNames, command};
 use std::alloc::Global;
 
 /// Does what a command asks for.
@@ -30,28 +30,25 @@ fn perform<F: Files, O: Sink, W: Watch>(
     ensures { IsRun (Some (asked_by command.now)) result files.old files.new
         (F.shown files.old, O.shown out.old) (F.shown files.new, O.shown out.new) }
 {
-    match command {
-        Command::Generate(names) => {
-            let built = generate_files(alloc, names, files, watch);
-            end(alloc, built, files, out, watch)
-        }
-        Command::Audit(names) => audit(alloc, names, files, out, watch),
-        Command::Sample(seed, count) => sample(alloc, *seed, *count, out, watch),
+    let built = match *command {
+        Command::Generate(names) => generate_files(alloc, &names, files, watch),
+        Command::Audit(names) => return audit(alloc, &names, files, out, watch),
+        Command::Sample(seed, count) => return sample(alloc, seed, count, out, watch),
         Command::Pack {
             patterns,
             translate,
             table,
         } => {
-            let built = pack_files(alloc, patterns, translate, table, files, watch);
-            end(alloc, built, files, out, watch)
+            let names = PackNames::new(patterns, translate, table);
+            pack_files(alloc, &names, files, watch)
         }
         Command::Totals {
             dict,
             translate,
             table,
         } => {
-            let built = total_files(alloc, dict, translate, table, files, watch);
-            end(alloc, built, files, out, watch)
+            let names = TotalsNames::new(dict, translate, table);
+            total_files(alloc, &names, files, watch)
         }
         Command::Prune {
             dict,
@@ -60,16 +57,12 @@ fn perform<F: Files, O: Sink, W: Watch>(
             translate,
             report,
         } => {
-            let built = prune_files(
-                alloc, dict, patterns, output, translate, report, files, watch,
-            );
-            end(alloc, built, files, out, watch)
+            let names = PruneNames::new(dict, patterns, output, translate, report);
+            prune_files(alloc, &names, files, watch)
         }
-        Command::Sweep(words) => {
-            let built = sweep_files(alloc, words, files, watch);
-            end(alloc, built, files, out, watch)
-        }
-    }
+        Command::Sweep(words) => sweep_files(alloc, &words, files, watch),
+    };
+    end(alloc, built, files, out, watch)
 }
 
 /// Does what the arguments, without the program's name, ask for. It reads and writes `files`,

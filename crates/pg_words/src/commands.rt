@@ -1,4 +1,7 @@
 //! The commands.
+ghost use Rattle.std.specs.Prelude.{◌≡◌};
+ghost use Rattle.pg_words.specs.Requests.{ToPack, ToTotals, ToPrune};
+ghost use Rattle.pg_words.specs.Inside.CommandRequests.{asked_by, pack_of, totals_of, prune_of};
 
 /// The names that `generate` and `audit` are given. `audit` reads the files that `generate` writes.
 #[derive(Clone, Copy)]
@@ -16,6 +19,86 @@ pub struct Names<'a> {
     pub pattmp: Option<&'a str>,
     /// Where the cells file is written, if it is asked for.
     pub cells: Option<&'a str>,
+}
+
+/// The names that `pack` is given.
+#[derive(Clone, Copy)]
+pub struct PackNames<'a> {
+    pub patterns: &'a str,
+    pub translate: &'a str,
+    /// Where the table is written.
+    pub table: &'a str,
+}
+
+impl<'a> PackNames<'a> {
+    /// The names in the fields of `Command::Pack`.
+    pub fn new(patterns: &'a str, translate: &'a str, table: &'a str) -> PackNames<'a>
+        ensures { ToPack (pack_of result)
+            ≡ asked_by (Command.Pack patterns.entry translate.entry table.entry) }
+    {
+        PackNames {
+            patterns,
+            translate,
+            table,
+        }
+    }
+}
+
+/// The names that `totals` is given.
+#[derive(Clone, Copy)]
+pub struct TotalsNames<'a> {
+    pub dict: &'a str,
+    pub translate: &'a str,
+    /// The packed table.
+    pub table: &'a str,
+}
+
+impl<'a> TotalsNames<'a> {
+    /// The names in the fields of `Command::Totals`.
+    pub fn new(dict: &'a str, translate: &'a str, table: &'a str) -> TotalsNames<'a>
+        ensures { ToTotals (totals_of result)
+            ≡ asked_by (Command.Totals dict.entry translate.entry table.entry) }
+    {
+        TotalsNames {
+            dict,
+            translate,
+            table,
+        }
+    }
+}
+
+/// The names that `prune` is given.
+#[derive(Clone, Copy)]
+pub struct PruneNames<'a> {
+    pub dict: &'a str,
+    pub patterns: &'a str,
+    /// Where the patterns that stay are written.
+    pub output: &'a str,
+    pub translate: &'a str,
+    /// Where the report is written.
+    pub report: &'a str,
+}
+
+impl<'a> PruneNames<'a> {
+    /// The names in the fields of `Command::Prune`.
+    pub fn new(
+        dict: &'a str,
+        patterns: &'a str,
+        output: &'a str,
+        translate: &'a str,
+        report: &'a str,
+    ) -> PruneNames<'a>
+        ensures { ToPrune (prune_of result) ≡ asked_by
+            (Command.Prune dict.entry patterns.entry output.entry translate.entry report.entry) }
+    {
+        PruneNames {
+            dict,
+            patterns,
+            output,
+            translate,
+            report,
+        }
+    }
 }
 
 /// What `sweep` is given.
@@ -51,7 +134,6 @@ pub enum Command<'a> {
     Pack {
         patterns: &'a str,
         translate: &'a str,
-        /// Where the table is written.
         table: &'a str,
     },
     /// To print the totals of a dictionary by a packed table.
@@ -65,10 +147,8 @@ pub enum Command<'a> {
     Prune {
         dict: &'a str,
         patterns: &'a str,
-        /// Where the patterns that stay are written.
         output: &'a str,
         translate: &'a str,
-        /// Where the report is written.
         report: &'a str,
     },
     /// To find the cheapest of several parameter files, and to write what each comes to.

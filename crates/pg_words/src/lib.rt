@@ -13,5 +13,5 @@ mod sweep;
 mod totals;
 pub mod words;
 
-pub use commands::{Command, Names, SweepWords};
+pub use commands::{Command, Names, PackNames, PruneNames, SweepWords, TotalsNames};
 pub use words::command;

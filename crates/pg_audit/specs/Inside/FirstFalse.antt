@@ -1,6 +1,7 @@
--- The first false line, found by the numbers of lines, and what is shown of it.
+-- The first false line, found by the numbers of lines, and what is shown and printed of it.
 use Rattle.std.specs.Prelude.{◌≡◌, ◌≢◌, ℕ, ◌+◌, ◌<◌, List, [], length, take, Option, slice_get, unwrap_or, option_map}
 use Rattle.pg_audit.specs.Differences.{whole_lines, Difference, first_false}
+use Rattle.pg_audit.specs.FoundLines.{found_text}
 
 -- the line with this number, counted from 0, where a file has it
 abbrev pub line_at : List ℕ → ℕ → Option (List ℕ)
@@ -19,6 +20,14 @@ shown_difference n d = record { line = d.line; found = take n d.found }
 -- the first false line of a given file, with no more than its first n bytes
 abbrev pub first_false_shown : ℕ → List ℕ → List ℕ → Option Difference
 first_false_shown n given wanted = option_map (shown_difference n) (first_false given wanted)
+
+-- what is printed of a difference: the number of its line, and what was found
+abbrev pub printed_of : Difference → ℕ × List ℕ
+printed_of d = (d.line, found_text d.found)
+
+-- what is printed of the first false line of a given file
+abbrev pub first_false_printed : List ℕ → List ℕ → Option (ℕ × List ℕ)
+first_false_printed given wanted = option_map printed_of (first_false given wanted)
 
 -- the first part of a given file: n bytes more than the wanted file has
 abbrev pub first_part : ℕ → List ℕ → List ℕ → List ℕ

@@ -6,24 +6,22 @@ use Rattle.std.specs.declared.alloc.Global.{Global}
 use Rattle.std.proofs.lemmas.List.{append-nil, drop_more, take_all, take-map, map-append, take-append-drop, length-map}
 use Rattle.std.proofs.lemmas.Option.{slice_get_within, get_or_from_slice_get, slice_get-map}
 use Rattle.pg_audit.specs.Differences.{Difference, first_false}
-use Rattle.pg_audit.specs.Inside.FoundForms.{FoundLine, printed_of}
-use Rattle.pg_audit.proofs.FoundTexts.{text_of, text_by_form}
+use Rattle.pg_audit.specs.Inside.FirstFalse.{printed_of}
 use Rattle.pg_audit.proofs.PrintedPart.{part_printed}
 use Rattle.pg_outside.specs.Content.{FileMap, FilesShown, SinkShown, KeepsHeld, file_at}
 use Rattle.pg_outside.specs.Inside.NameFaults.{NoneFell}
 use Rattle.pg_outside.specs.FilesCalls.{Reads}
 use Rattle.pg_top.specs.Answers.{IsCall}
-use Rattle.pg_top.specs.audit.AuditRule.{audit_rule, denies, given_file, given_files}
-use Rattle.pg_top.specs.audit.Inside.GivenNames.{given_names}
-use Rattle.pg_top.specs.audit.Inside.Verdicts.{yes_line, reading_of, wanted_file, wanted_files, end_of, outcome_by, ReadsToFind, IsFrontOf, PutsVerdict}
+use Rattle.pg_top.specs.audit.AuditRule.{audit_rule, denies, given_file}
+use Rattle.pg_top.specs.audit.Inside.Verdicts.{yes_line, wanted_file, wanted_files, given_files, end_of, outcome_by, ReadsToFind, IsFrontOf, PutsVerdict}
 use Rattle.pg_steps.specs.FileCalls.{MakesCalls, MakesPuts, read_calls, ReadsUpTo, EndsAt, IsEndedCounted, IsWholeCounted, IsCountedCall}
 use Rattle.pg_steps.specs.Inside.reading.ReadCalls.{read_call}
 use Rattle.pg_steps.specs.Outcomes.{Outcome, Unknown, Ends}
 use Rattle.pg_steps.specs.Inside.ends.Refusing.{refuses}
 use Rattle.pg_steps.specs.RefusedLines.{word_of}
 use Rattle.pg_steps.specs.Readings.{HeldFiles, Reading, first_end}
-use Rattle.pg_words.specs.forms.Generate.{FileNames, if_asked}
-use Rattle.pg_top.specs.Selection.{selected_text, selected_report}
+use Rattle.pg_words.specs.forms.Generate.{FileNames}
+use Rattle.pg_top.specs.Selection.{selected_names}
 use Rattle.pg_top.specs.generate.GenerateRule.{inputs_in}
 use Rattle.pg_top.specs.generate.Inside.AcceptedInputs.{inputs_of, HasInputs}
 use Rattle.pg_steps.specs.Inside.ends.Stops.{StopsAt, StopsWith, StopsReading}
@@ -31,9 +29,8 @@ use Rattle.pg_steps.specs.declared.answers.Status.{Status}
 use Rattle.pg_steps.specs.declared.answers.Status.TheVariants.{Yes, No}
 use Rattle.pg_top.specs.declared.audit.compare.Verdict.{Verdict}
 use Rattle.pg_top.specs.declared.audit.compare.Verdict.TheVariants.{Equal, False}
-use Rattle.pg_top.specs.declared.audit.wanted.WantedFile.{WantedFile}
+use Rattle.pg_top.specs.declared.selected_files.SelectedFile.{SelectedFile}
 use Rattle.pg_steps.specs.declared.inputs.Given.{Given}
-use Rattle.pg_steps.specs.declared.inputs.Given.TheVariants as given
 use Rattle.pg_steps.specs.declared.inputs.Input.TheVariants as input
 use Rattle.pg_steps.specs.declared.inputs.Stop.{Stop}
 use Rattle.pg_steps.specs.declared.inputs.Stop.TheVariants.{Refused, Unread, Memory}
@@ -46,13 +43,13 @@ use Rattle.pg_steps.proofs.Orders.{IsAccepted, AreAccepted, accepted_and, accept
 use Rattle.pg_steps.specs.Rules.{outcome_of}
 
 -- what is said of a difference is said by what is printed of it
-said : Given → ℕ × FoundLine → List ℕ
-said g l = codes "no: " ++ word_of (input.Given g) ++ codes " line " ++ decimal l.0 ++ text_of l.1 ++ codes "\n"
+said : Given → ℕ × List ℕ → List ℕ
+said g p = codes "no: " ++ word_of (input.Given g) ++ codes " line " ++ decimal p.0 ++ p.1 ++ codes "\n"
 
 denied : (g : Given) (d : Option Difference) → option_map (denies g) d ≡ option_map (λ p. Ends No [] (said g p)) (option_map printed_of d)
 unfolding said
 denied g None = refl
-denied g (Some d) = ap (λ t. Some (Ends No [] (codes "no: " ++ word_of (input.Given g) ++ codes " line " ++ decimal d.line ++ t ++ codes "\n"))) (text_by_form d.found)
+denied g (Some d) = refl
 
 -- a file is judged by its front
 pub judged : (g : Given) (text : List ℕ) (file : Option (List ℕ)) (bytes : List ℕ) → IsFrontOf file (length text) 256 bytes
@@ -63,16 +60,6 @@ judged g text (Some whole) bytes (inr h) =
     let printed : option_map printed_of (first_false bytes text) ≡ option_map printed_of (first_false whole text) = ap (λ b. option_map printed_of (first_false b text)) h.1
     ∙ part_printed whole text 256 (omega arith) h.0 in
     ap Some (denied g (first_false whole text) ∙ ap (option_map (λ p. Ends No [] (said g p))) (sym printed) ∙ sym (denied g (first_false bytes text)))
-
-pub one_wanted : (ws : List WantedFile) (w : WantedFile) → wanted_files (ws ++ w ∷ []) ≡ wanted_files ws ++ wanted_file w ∷ []
-one_wanted ws w = map-append wanted_file ws (w ∷ [])
-
--- the given files, with the hyphenated list and without it
-pub listed_readings : (i : Inputs) (output report : List ℕ) (pattmp : Option (List ℕ))
-    → reading_of given.Patterns output (selected_text i) ∷ (if_asked pattmp (λ name. given_file (λ _. i) (given.Pattmp, name)) ++ reading_of given.Report report (selected_report i) ∷ [])
-    ≡ map (given_file (λ _. i)) ((given.Patterns, output) ∷ if_asked pattmp (λ name. (given.Pattmp, name)) ++ (given.Report, report) ∷ [])
-listed_readings i output report None = refl
-listed_readings i output report (Some name) = refl
 
 -- the same files are judged alike where the inputs are the same
 same_ends : (files : HeldFiles) (inputs : HeldFiles → Inputs) (i : Inputs) → inputs files ≡ i → (gs : List (Given × List ℕ)) → first_end files (map (given_file inputs) gs)
@@ -106,9 +93,9 @@ module _ (n : FileNames) (i : Inputs) where
   ends_with : (files : FileMap) → HasInputs (file_at files) n i → first_end (file_at files) (audit_rule n).reads ≡ first_end (file_at files) (given_files (λ _. i) n)
   ends_with files h =
       accepted_front (file_at files) (inputs_of n) (given_files (λ files. inputs_in files n) n) (inputs_there files h)
-      ∙ same_ends (file_at files) (λ files. inputs_in files n) i (inputs_same files h) (given_names n)
+      ∙ same_ends (file_at files) (λ files. inputs_in files n) i (inputs_same files h) (selected_names n)
 
-  pub outcome_audited : (ws : List WantedFile) (verdict : Verdict) (files : FileMap) → wanted_files ws ≡ given_files (λ _. i) n → HasInputs (file_at files) n i
+  pub outcome_audited : (ws : List SelectedFile) (verdict : Verdict) (files : FileMap) → wanted_files ws ≡ given_files (λ _. i) n → HasInputs (file_at files) n i
       → first_end (file_at files) (wanted_files ws) ≡ end_of verdict → outcome_of (file_at files) (audit_rule n) ≡ outcome_by verdict
   outcome_audited ws verdict files wanted h is = ap (λ end. unwrap_or end (Ends Yes [] yes_line)) (ends_with files h ∙ ap (first_end (file_at files)) (sym wanted) ∙ is)
 
@@ -116,18 +103,18 @@ module _ (n : FileNames) (i : Inputs) where
   same_front : (files : FileMap) → HasInputs (file_at files) n i → (k : ℕ) → first_end (file_at files) (take k (given_files (λ files. inputs_in files n) n))
       ≡ first_end (file_at files) (take k (given_files (λ _. i) n))
   same_front files h k =
-      ap (first_end (file_at files)) (take-map (given_file (λ files. inputs_in files n)) k (given_names n))
-      ∙ same_ends (file_at files) (λ files. inputs_in files n) i (inputs_same files h) (take k (given_names n))
-      ∙ ap (first_end (file_at files)) (sym (take-map (given_file (λ _. i)) k (given_names n)))
+      ap (first_end (file_at files)) (take-map (given_file (λ files. inputs_in files n)) k (selected_names n))
+      ∙ same_ends (file_at files) (λ files. inputs_in files n) i (inputs_same files h) (take k (selected_names n))
+      ∙ ap (first_end (file_at files)) (sym (take-map (given_file (λ _. i)) k (selected_names n)))
 
   -- given files that were read up to a place of the reading order
   read_given : (place : ℕ) (s2 s3 : FilesShown) → IfSome s3.held (λ files. HasInputs (file_at files) n i) → ReadsUpTo (given_files (λ _. i) n) place s2 s3
       → ReadsUpTo (given_files (λ files. inputs_in files n) n) place s2 s3
   read_given place s2 s3 h read = record {
     within = let within : place < length (given_files (λ _. i) n) = read.within in
-        omega (arith, length-map (given_names n) (given_file (λ _. i)), length-map (given_names n) (given_file (λ files. inputs_in files n)));
+        omega (arith, length-map (selected_names n) (given_file (λ _. i)), length-map (selected_names n) (given_file (λ files. inputs_in files n)));
     calls = calls_are (read_calls (take (place + 1) (given_files (λ _. i) n))) (read_calls (take (place + 1) (given_files (λ files. inputs_in files n) n))) s2 s3
-        (front_calls (λ _. i) (λ files. inputs_in files n) (place + 1) (given_names n)) read.calls;
+        (front_calls (λ _. i) (λ files. inputs_in files n) (place + 1) (selected_names n)) read.calls;
     before_it = mapped s3.held (λ files. HasInputs (file_at files) n i × (first_end (file_at files) (take place (given_files (λ _. i) n)) ≡ None))
         (λ files. first_end (file_at files) (take place (given_files (λ files. inputs_in files n) n)) ≡ None)
         (λ files k. same_front files k.0 place ∙ k.1)
@@ -148,12 +135,12 @@ module _ (n : FileNames) (i : Inputs) where
       → StopsWith (given_files (λ files. inputs_in files n) n) place s2 s3 stop
   why_given place s2 s3 (Refused input refusal) h why = end_given place s3.held (refuses input refusal) h why
   why_given place s2 s3 (Unread name) h why =
-      let there = sym (slice_get-map (given_file (λ _. i)) (given_names n) place) ∙ why.1 in
-      let g : Given × List ℕ = get_given (slice_get (given_names n) place) why.0 there in
-      let at : slice_get (given_names n) place ≡ Some g = given_at (slice_get (given_names n) place) why.0 there in (
+      let there = sym (slice_get-map (given_file (λ _. i)) (selected_names n) place) ∙ why.1 in
+      let g : Given × List ℕ = get_given (slice_get (selected_names n) place) why.0 there in
+      let at : slice_get (selected_names n) place ≡ Some g = given_at (slice_get (selected_names n) place) why.0 there in (
         given_file (λ files. inputs_in files n) g,
-        slice_get-map (given_file (λ files. inputs_in files n)) (given_names n) place ∙ ap (option_map (given_file (λ files. inputs_in files n))) at,
-        given_name (slice_get (given_names n) place) why.0 there ∙ why.2,
+        slice_get-map (given_file (λ files. inputs_in files n)) (selected_names n) place ∙ ap (option_map (given_file (λ files. inputs_in files n))) at,
+        given_name (slice_get (selected_names n) place) why.0 there ∙ why.2,
         why.3,
       )
     where
@@ -171,7 +158,7 @@ module _ (n : FileNames) (i : Inputs) where
   why_given place s2 s3 Memory h why = tt
 
   -- a stop at a given file is a stop of all
-  pub stopped_given : (ws : List WantedFile) (s0 s2 s3 : FilesShown) (stop : Stop) → wanted_files ws ≡ given_files (λ _. i) n → NoneFell s0.read_faults s2.read_faults
+  pub stopped_given : (ws : List SelectedFile) (s0 s2 s3 : FilesShown) (stop : Stop) → wanted_files ws ≡ given_files (λ _. i) n → NoneFell s0.read_faults s2.read_faults
       → MakesCalls s0 s2 (read_calls (inputs_of n)) → KeepsHeld s2.held s3.held → IfSome s2.held (λ files. HasInputs (file_at files) n i)
       → StopsReading (wanted_files ws) s2 s3 stop → StopsReading (audit_rule n).reads s0 s3 stop
   stopped_given ws s0 s2 s3 stop wanted fell calls keeps h stops =
@@ -186,10 +173,10 @@ module _ (n : FileNames) (i : Inputs) where
       })
 
   -- how far all files were read where this was found
-  pub found_given : (ws : List WantedFile) (verdict : Verdict) (s0 s2 s3 : FilesShown) → wanted_files ws ≡ given_files (λ _. i) n → MakesCalls s0 s2 (read_calls (inputs_of n))
+  pub found_given : (ws : List SelectedFile) (verdict : Verdict) (s0 s2 s3 : FilesShown) → wanted_files ws ≡ given_files (λ _. i) n → MakesCalls s0 s2 (read_calls (inputs_of n))
       → KeepsHeld s2.held s3.held → IfSome s2.held (λ files. HasInputs (file_at files) n i) → ReadsToFind (wanted_files ws) verdict s2 s3 → ReadsToFind (audit_rule n).reads verdict s0 s3
   found_given ws Equal s0 s2 s3 wanted calls keeps h read =
-      let given : read_calls (wanted_files ws) ≡ read_calls (given_files (λ files. inputs_in files n) n) = ap read_calls wanted ∙ same_calls (λ _. i) (λ files. inputs_in files n) (given_names n) in
+      let given : read_calls (wanted_files ws) ≡ read_calls (given_files (λ files. inputs_in files n) n) = ap read_calls wanted ∙ same_calls (λ _. i) (λ files. inputs_in files n) (selected_names n) in
       let same : read_calls (inputs_of n) ++ read_calls (wanted_files ws) ≡ read_calls (audit_rule n).reads = ap (λ more. read_calls (inputs_of n) ++ more) given
       ∙ sym (map-append read_call (inputs_of n) (given_files (λ files. inputs_in files n) n)) in
       calls_are (read_calls (inputs_of n) ++ read_calls (wanted_files ws)) (read_calls (audit_rule n).reads) s0 s3 same
@@ -241,7 +228,7 @@ verdict_counted n Equal s0 s1 o0 o1 answer told read puts put = counted_line (au
 verdict_counted n (False line) s0 s1 o0 o1 answer told read puts put = counted_line (audit_rule n) No line.items s0 s1 o0 o1 answer (false_counted n line s0 s1 o0 o1 told read put) puts
 
 -- the loop over given files: one more is right
-module _ (ws : List WantedFile) (i : ℕ) (w : WantedFile) (at : slice_get ws i ≡ Some w) where
+module _ (ws : List SelectedFile) (i : ℕ) (w : SelectedFile) (at : slice_get ws i ≡ Some w) where
   reads_at : slice_get (wanted_files ws) i ≡ Some (wanted_file w)
   reads_at = slice_get-map wanted_file ws i ∙ ap (option_map wanted_file) at
 
@@ -316,7 +303,7 @@ module _ (ws : List WantedFile) (i : ℕ) (w : WantedFile) (at : slice_get ws i 
           (λ files. option_map ((wanted_file w).ends (file_at files)) (file_at files w.name.now) ≡ Some (Some (Ends No [] line.items))) front here)
 
 -- where all are right nothing ends the call
-pub all_right : (ws : List WantedFile) (i : ℕ) (held : Option FileMap) → length ws ≤ i → IfSome held (λ files. AreAccepted (file_at files) (take i (wanted_files ws)))
+pub all_right : (ws : List SelectedFile) (i : ℕ) (held : Option FileMap) → length ws ≤ i → IfSome held (λ files. AreAccepted (file_at files) (take i (wanted_files ws)))
     → IfSome held (λ files. first_end (file_at files) (wanted_files ws) ≡ None)
 all_right ws i held far front =
     mapped held (λ files. AreAccepted (file_at files) (take i (wanted_files ws))) (λ files. first_end (file_at files) (wanted_files ws) ≡ None)
@@ -326,5 +313,5 @@ all_right ws i held far front =
     take_past reads i far = take_all i reads far
 
 -- and all were read
-pub all_found : (ws : List WantedFile) (i : ℕ) (s0 s1 : FilesShown) → length ws ≤ i → MakesCalls s0 s1 (read_calls (take i (wanted_files ws))) → MakesCalls s0 s1 (read_calls (wanted_files ws))
+pub all_found : (ws : List SelectedFile) (i : ℕ) (s0 s1 : FilesShown) → length ws ≤ i → MakesCalls s0 s1 (read_calls (take i (wanted_files ws))) → MakesCalls s0 s1 (read_calls (wanted_files ws))
 all_found ws i s0 s1 far calls = all_reads (wanted_files ws) i s0 s1 (omega (arith, length-map ws wanted_file)) calls

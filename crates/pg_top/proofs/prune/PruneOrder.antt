@@ -45,23 +45,23 @@ module _ (p : PruneRequest) where
     -- once all are read
     pub all_read : (P : Patterns) (ws : List Word) (h1 h2 : Option FileMap) → KeepsHeld h1 h2 → IfSome h1 (HasTable p.translate t)
         → IfSome h2 (λ files. HasLists (file_at files) t p.patterns p.dict P ws)
-        → IfSome h2 (λ files. HasPrune (file_at files) p.translate p.patterns p.dict (record { table = t; patterns = P; dictionary = ws }))
+        → IfSome h2 (λ files. HasPrune (file_at files) p (record { table = t; patterns = P; dictionary = ws }))
     all_read P ws h1 h2 keeps one more =
         mapped h2 (λ files. HasTable p.translate t files × HasLists (file_at files) t p.patterns p.dict P ws)
-        (λ files. HasPrune (file_at files) p.translate p.patterns p.dict (record { table = t; patterns = P; dictionary = ws }))
+        (λ files. HasPrune (file_at files) p (record { table = t; patterns = P; dictionary = ws }))
         (λ files h. record { table = h.0; patterns = h.1.start; words = h.1.words })
         (both h2 (HasTable p.translate t) (λ files. HasLists (file_at files) t p.patterns p.dict P ws) (held_later h1 h2 (HasTable p.translate t) keeps one) more)
 
 -- they are accepted
-pub prune_accepted : (p : PruneRequest) (i : PruneInputs) (files : FileMap) → HasPrune (file_at files) p.translate p.patterns p.dict i → AreAccepted (file_at files) (prune_rule p).reads
+pub prune_accepted : (p : PruneRequest) (i : PruneInputs) (files : FileMap) → HasPrune (file_at files) p i → AreAccepted (file_at files) (prune_rule p).reads
 prune_accepted p i files h = (
   table_accepted p.translate i.table files h.table,
   lists_accepted p.translate p.patterns p.dict i.table i.patterns i.dictionary files h.table (record { start = h.patterns; words = h.words }),
 )
 
 -- then it comes to what pruning writes and prints
-pub prune_outcome : (p : PruneRequest) (i : PruneInputs) (files : FileMap) → HasPrune (file_at files) p.translate p.patterns p.dict i
-    → outcome_of (file_at files) (prune_rule p) ≡ pruned_by p.output p.report i.table i.dictionary i.patterns
+pub prune_outcome : (p : PruneRequest) (i : PruneInputs) (files : FileMap) → HasPrune (file_at files) p i
+    → outcome_of (file_at files) (prune_rule p) ≡ pruned_by p i.table i.dictionary i.patterns
 prune_outcome p i files h =
     let t : Alphabet = i.table in
     let P : Patterns = i.patterns in
@@ -70,11 +70,11 @@ prune_outcome p i files h =
     let is_P = means_under p.translate t start [] p.patterns P files h.table h.patterns in
     let is_ws = means_under p.translate t words [] p.dict ws files h.table h.words in
     ap (λ end. unwrap_or end ((prune_rule p).own_outcome (file_at files))) (accepted_all (file_at files) (prune_rule p).reads (prune_accepted p i files h))
-    ∙ (λ k. pruned_by p.output p.report (is_t k) (is_ws k) (is_P k))
+    ∙ (λ k. pruned_by p (is_t k) (is_ws k) (is_P k))
 
 -- what it promises
 pub prune_promise : (p : PruneRequest) (i : PruneInputs) (files : FileMap) → ReadsBack i.table (pruning_of (minima_of i.table) i.dictionary i.patterns).patterns
-    → HasPrune (file_at files) p.translate p.patterns p.dict i → KeepsPromise (prune_rule p) (file_at files)
+    → HasPrune (file_at files) p i → KeepsPromise (prune_rule p) (file_at files)
 prune_promise p i files back h =
     let m = minima_of (table_named p.translate (file_at files)) in
     let ws : List Word = words_under (file_at files) p.translate p.dict in

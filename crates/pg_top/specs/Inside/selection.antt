@@ -3,3 +3,4 @@ pub mod SelectionSigns
 pub mod SelectionAccounts
 pub mod SelectedRuns
 pub mod Runs
+pub mod SelectedFiles

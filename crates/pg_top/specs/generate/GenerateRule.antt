@@ -1,5 +1,5 @@
 -- What `generate` reads, writes and prints.
-use Rattle.std.specs.Prelude.{ℕ, ◌+◌, List, [], ◌∷◌, ◌++◌, codes, decimal}
+use Rattle.std.specs.Prelude.{ℕ, ◌+◌, List, [], ◌∷◌, ◌++◌, map, codes, decimal}
 use Rattle.pg_types.specs.Parameters.{parameters}
 use Rattle.pg_translate.specs.Alphabets.{letters_of}
 use Rattle.pg_driver.specs.Accounts.{begun_count}
@@ -9,8 +9,8 @@ use Rattle.pg_steps.specs.Outcomes.{Ends, Writing}
 use Rattle.pg_steps.specs.Rules.{CommandRule, usual_rule}
 use Rattle.pg_top.specs.PrintedLines.{done_line}
 use Rattle.pg_steps.specs.Readings.{HeldFiles, input_file, table_named, parameters_named, patterns_under, words_under, translate_file, patterns_file, words_file}
-use Rattle.pg_words.specs.forms.Generate.{FileNames, if_asked, output_names}
-use Rattle.pg_top.specs.Selection.{selection, selected_patterns, selected_totals, selected_text, selected_list, selected_cells_text, selected_report}
+use Rattle.pg_words.specs.forms.Generate.{FileNames, output_names}
+use Rattle.pg_top.specs.Selection.{selection, selected_patterns, selected_totals, selected_text, selected_file, selected_names}
 use Rattle.pg_steps.specs.declared.answers.Status.TheVariants.{Done}
 use Rattle.pg_steps.specs.declared.inputs.Input.TheVariants as input
 use Rattle.pg_top.specs.declared.selection.Inputs.{Inputs}
@@ -24,12 +24,9 @@ inputs_in files n = record {
   dictionary = words_under files n.translate n.dict;
 }
 
--- the files that are written: patterns, hyphenated list and cells if asked for, and the report
+-- the files that are written
 abbrev pub selected_files : FileNames → Inputs → Writing
-selected_files n i = (n.output, selected_text i)
-    ∷ if_asked n.pattmp (λ name. (name, selected_list i))
-    ++ if_asked n.cells (λ name. (name, selected_cells_text i))
-    ++ (n.report, selected_report i) ∷ []
+selected_files n i = map (λ g. (g.1, selected_file i g.0)) (selected_names n)
 
 -- the lines that are put: the `done:` line, and one with the passes begun and the last layout
 abbrev pub selected_lines : Inputs → List ℕ

@@ -11,7 +11,7 @@ ghost use Rattle.pg_steps.specs.Inside.ends.Stops.{OnlyReads, StopsAt, StopsRead
 ghost use Rattle.pg_top.specs.audit.Inside.Verdicts.{wanted_file, wanted_files, end_of, ReadsToFind};
 
 use crate::audit::no_lines::no_line;
-use crate::audit::wanted::WantedFile;
+use crate::selected_files::SelectedFile;
 use pg_audit::compare;
 use pg_outside::Files;
 use pg_steps::{Stop, read_front};
@@ -35,7 +35,7 @@ pub enum Verdict {
 fn judge<W: Watch>(
     alloc: Global,
     bytes: &[u8],
-    wanted: &WantedFile<'_>,
+    wanted: &SelectedFile<'_>,
     text: &[u8],
     watch: &W,
 ) -> Result<Verdict, AllocError>
@@ -56,7 +56,7 @@ fn judge<W: Watch>(
 /// bytes only the first bytes are read: they have the same first false line.
 fn compare_file<'a, F: Files, W: Watch>(
     alloc: Global,
-    wanted: &WantedFile<'a>,
+    wanted: &SelectedFile<'a>,
     files: &mut F,
     watch: &W,
 ) -> Result<Verdict, Stop<'a>>
@@ -77,7 +77,7 @@ fn compare_file<'a, F: Files, W: Watch>(
 }
 
 /// The given file with the number `i`, counted from 0.
-fn wanted_at<'a, 'b>(wanted: &'b [WantedFile<'a>], i: usize) -> &'b WantedFile<'a>
+fn wanted_at<'a, 'b>(wanted: &'b [SelectedFile<'a>], i: usize) -> &'b SelectedFile<'a>
     requires { i < length wanted.now }
     ensures { slice_get wanted.now i ≡ Some result.now }
 {
@@ -87,7 +87,7 @@ fn wanted_at<'a, 'b>(wanted: &'b [WantedFile<'a>], i: usize) -> &'b WantedFile<'
 /// Compares files one after the other, up to the first that has a false line.
 pub fn compare_all<'a, F: Files, W: Watch>(
     alloc: Global,
-    wanted: &[WantedFile<'a>],
+    wanted: &[SelectedFile<'a>],
     files: &mut F,
     watch: &W,
 ) -> Result<Verdict, Stop<'a>>

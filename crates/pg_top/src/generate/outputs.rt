@@ -1,69 +1,29 @@
 //! What `generate` writes and prints.
-ghost use Rattle.std.specs.Prelude.{◌≡◌, ◌++◌, [], ◌∷◌, IfOk, OnOk, Some};
+ghost use Rattle.std.specs.Prelude.{◌≡◌, ◌++◌, [], IfOk, OnOk, Some, map};
 ghost use Rattle.pg_driver.specs.Inside.records.RunAccounts.{TellsCells};
 ghost use Rattle.pg_packed.specs.Inside.Starts.{pattern_families};
-ghost use Rattle.pg_words.specs.Inside.CommandRequests.{name_now, texts_of};
+ghost use Rattle.pg_words.specs.Inside.CommandRequests.{texts_of};
 ghost use Rattle.pg_top.specs.generate.GenerateRule.{selected_files, selected_lines};
 ghost use Rattle.pg_top.specs.Inside.selection.SelectionAccounts.{work_line, selected_cells, passes_begun, last_layout as last_layout_of};
+ghost use Rattle.pg_top.specs.Inside.selection.SelectedFiles.{written_file};
 ghost use Rattle.pg_top.specs.Inside.selection.SelectedRuns.{IsNew, TellsSelection, HasSelected};
-ghost use Rattle.pg_words.specs.forms.Generate.{if_asked};
-ghost use Rattle.pg_top.specs.Selection.{selected_list, selected_cells_text, selected_text};
+ghost use Rattle.pg_top.specs.Selection.{selected_text};
 ghost use Rattle.pg_top.specs.Inside.selection.SelectionSigns.{HasSigns, signs_of};
 ghost use Rattle.pg_steps.specs.Inside.writing.WritesMade.{writing_of};
 ghost use Rattle.pg_types.specs.Lines.{lines};
 
 use crate::printed::done_line;
-use crate::selection::{Inputs, last_layout, list_file, pattern_file, report_file, select};
+use crate::selected_files::{SelectedFile, make_selected};
+use crate::selection::{Inputs, last_layout, select};
 use pg_driver::Run;
 use pg_packed::PackedEngine;
 use pg_select::Engine;
 use pg_steps::{Output, Outputs, push_file};
-use pg_texts::{cells_text, push_layout};
+use pg_texts::push_layout;
 use pg_types::{Layout, push_number};
 use pg_watch::{Watch, Watched};
 use pg_words::Names;
 use std::alloc::{AllocError, Global};
-
-/// Adds the hyphenated list by the patterns of an engine, where it is asked for.
-fn push_pattmp<'a, E: Engine>(
-    alloc: Global,
-    files: &mut Vec<Output<'a>>,
-    name: Option<&'a str>,
-    engine: &E,
-    inputs: &Inputs,
-) -> Result<(), AllocError>
-    requires signs { HasSigns inputs.now }
-    requires engine { HasSelected inputs.now (E.meaning engine.now) }
-    ensures { OnOk result (writing_of files.new.items ≡
-        writing_of files.old.items ++ if_asked (name_now name.entry)
-        (λ name. (name, selected_list inputs.now))) }
-{
-    if let Some(name) = name {
-        let text = list_file(alloc, inputs, engine)?;
-        push_file(files, name, text)?;
-    }
-    Ok(())
-}
-
-/// Adds the cells file, where it is asked for.
-fn push_cells<'a>(
-    alloc: Global,
-    files: &mut Vec<Output<'a>>,
-    name: Option<&'a str>,
-    run: &Run,
-    inputs: &Inputs,
-) -> Result<(), AllocError>
-    requires { TellsCells (Some (selected_cells inputs.now)) run.now }
-    ensures { OnOk result (writing_of files.new.items ≡
-        writing_of files.old.items
-        ++ if_asked (name_now name.entry) (λ name. (name, selected_cells_text inputs.now))) }
-{
-    if let Some(name) = name {
-        let text = cells_text(alloc, run)?;
-        push_file(files, name, text)?;
-    }
-    Ok(())
-}
 
 /// Appends the line of how many passes were begun and of a layout.
 pub fn push_work(lines: &mut Vec<u8>, passes: u64, layout: &Layout) -> Result<(), AllocError>
@@ -106,50 +66,19 @@ fn make_lines(
     Ok(lines)
 }
 
-/// Adds the pattern file to an empty list, and gives the printed lines.
-fn push_patterns<'a>(
+/// The files of a selection, as they are written.
+fn written<'a>(
     alloc: Global,
-    files: &mut Vec<Output<'a>>,
-    name: &'a str,
-    run: &Run,
-    inputs: &Inputs,
-) -> Result<Vec<u8>, AllocError>
-    requires empty { files.old.items ≡ [] }
-    requires told { TellsSelection inputs.now run.now }
-    requires cells { TellsCells (Some (selected_cells inputs.now)) run.now }
-    ensures file { OnOk result
-        (writing_of files.new.items ≡ (name.now, selected_text inputs.now) ∷ []) }
-    ensures lines { IfOk result (λ lines. lines.items ≡ selected_lines inputs.now) }
+    selected: Vec<SelectedFile<'a>>,
+) -> Result<Vec<Output<'a>>, AllocError>
+    ensures { IfOk result
+        (λ files. writing_of files.items ≡ map written_file selected.entry.items) }
 {
-    let text = pattern_file(alloc, inputs, run)?;
-    let lines = make_lines(alloc, &text, run, inputs)?;
-    push_file(files, name, text)?;
-    Ok(lines)
-}
-
-/// Adds the files behind the pattern file: the hyphenated list and the cells file, where they are
-/// asked for, and the report.
-fn push_others<'a, E: Engine>(
-    alloc: Global,
-    files: &mut Vec<Output<'a>>,
-    names: &Names<'a>,
-    inputs: &Inputs,
-    engine: &E,
-    run: &Run,
-) -> Result<(), AllocError>
-    requires files { writing_of files.old.items
-        ≡ (names.now.output.now, selected_text inputs.now) ∷ [] }
-    requires signs { HasSigns inputs.now }
-    requires engine { HasSelected inputs.now (E.meaning engine.now) }
-    requires told { TellsSelection inputs.now run.now }
-    requires cells { TellsCells (Some (selected_cells inputs.now)) run.now }
-    ensures { OnOk result
-        (writing_of files.new.items ≡ selected_files (texts_of names.now) inputs.now) }
-{
-    push_pattmp(alloc, files, names.pattmp, engine, inputs)?;
-    push_cells(alloc, files, names.cells, run, inputs)?;
-    let report = report_file(alloc, inputs, run)?;
-    push_file(files, names.report, report)
+    let mut files = Vec::new(alloc);
+    'selected: for file in selected {
+        push_file(&mut files, file.name, file.text)?;
+    }
+    Ok(files)
 }
 
 /// Builds all that is written and printed, after the run over an engine.
@@ -168,9 +97,9 @@ fn make_files<'a, E: Engine>(
         writing_of made.files.items ≡ selected_files (texts_of names.now) inputs.now) }
     ensures lines { IfOk result (λ made. made.lines.items ≡ selected_lines inputs.now) }
 {
-    let mut files = Vec::new(alloc);
-    let lines = push_patterns(alloc, &mut files, names.output, run, inputs)?;
-    push_others(alloc, &mut files, names, inputs, engine, run)?;
+    let selected = make_selected(alloc, names, inputs, engine, run)?;
+    let lines = make_lines(alloc, &selected[0].text, run, inputs)?;
+    let files = written(alloc, selected)?;
     Ok(Outputs { files, lines })
 }
 

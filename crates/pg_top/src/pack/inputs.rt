@@ -2,7 +2,9 @@
 ghost use Rattle.std.specs.Prelude.{◌+◌, IfOk};
 ghost use Rattle.pg_patterns.specs.Inside.PatternMaps.{SignsUpTo};
 ghost use Rattle.pg_translate.specs.Alphabets.{letters_of};
-ghost use Rattle.pg_top.specs.pack.Inside.Inputs.{source_files, HasSource};
+ghost use Rattle.pg_words.specs.Inside.CommandRequests.{pack_of};
+ghost use Rattle.pg_top.specs.pack.PackRule.{pack_rule};
+ghost use Rattle.pg_top.specs.pack.Inside.Inputs.{HasSource};
 ghost use Rattle.pg_steps.specs.Inside.reading.ReadsMade.{ReadsFiles};
 
 use pg_outside::Files;
@@ -10,6 +12,7 @@ use pg_patterns::PatternSet;
 use pg_steps::{Stop, read_start, read_table};
 use pg_translate::Table;
 use pg_watch::Watch;
+use pg_words::PackNames;
 use std::alloc::Global;
 
 /// What `pack` reads.
@@ -24,18 +27,17 @@ pub struct Source {
 /// Reads what `pack` reads, in its order, up to the first refusal or fault.
 pub fn read_source<'a, F: Files, W: Watch>(
     alloc: Global,
-    translate: &'a str,
-    patterns: &'a str,
+    names: &PackNames<'a>,
     files: &mut F,
     watch: &W,
 ) -> Result<Source, Stop<'a>>
-    ensures read { ReadsFiles (source_files translate.now patterns.now)
+    ensures read { ReadsFiles (pack_rule (pack_of names.now)).reads
         (F.shown files.old) (F.shown files.new) result
-        (λ files. HasSource files translate.now patterns.now) }
+        (λ files. HasSource files (pack_of names.now)) }
     ensures known { IfOk result
         (λ source. SignsUpTo (letters_of source.table + 1) source.patterns) }
 {
-    let table = read_table(alloc, translate, files, watch)?;
-    let patterns = read_start(alloc, &table, patterns, files, watch)?;
+    let table = read_table(alloc, names.translate, files, watch)?;
+    let patterns = read_start(alloc, &table, names.patterns, files, watch)?;
     Ok(Source { table, patterns })
 }

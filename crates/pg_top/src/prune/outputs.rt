@@ -6,7 +6,8 @@ ghost use Rattle.pg_prune.specs.Reports.{prune_report};
 ghost use Rattle.pg_translate.specs.Alphabets.{letters_of};
 ghost use Rattle.pg_prune.specs.Prunes.{pruning_of};
 ghost use Rattle.pg_select.specs.CountedPositions.{minima_of};
-ghost use Rattle.pg_top.specs.prune.PruneRule.{ReadsBack};
+ghost use Rattle.pg_words.specs.Inside.CommandRequests.{prune_of};
+ghost use Rattle.pg_top.specs.prune.PruneRule.{ReadsBack, prune_rule};
 ghost use Rattle.pg_steps.specs.Outcomes.{Ends};
 ghost use Rattle.pg_top.specs.prune.Inside.Inputs.{HasKnownSigns, pruned_files, line_of_pruned, pruned_by};
 ghost use Rattle.pg_top.specs.prune.PruneRule.{pruned_line as pruned_line_of};
@@ -20,6 +21,7 @@ use pg_steps::{Output, Outputs, push_file};
 use pg_translate::Table;
 use pg_types::push_number;
 use pg_watch::Watch;
+use pg_words::PruneNames;
 use std::alloc::{AllocError, Global};
 
 /// Tells an observer of a call where a round begins.
@@ -96,20 +98,19 @@ fn push_needs<'a>(
 /// What `prune` writes and prints, where pruning comes to this.
 fn write_pruned<'a>(
     alloc: Global,
-    output: &'a str,
-    report: &'a str,
+    names: &PruneNames<'a>,
     table: &Table,
     pruned: &Pruned,
 ) -> Result<Outputs<'a>, AllocError>
     requires { SignsUpTo (letters_of table.now + 1) pruned.now.patterns }
     ensures files { IfOk result (λ made.
-        writing_of made.files.items ≡ pruned_files output.now report.now table.now pruned.now) }
+        writing_of made.files.items ≡ pruned_files (prune_of names.now) table.now pruned.now) }
     ensures lines { IfOk result (λ made. made.lines.items ≡ line_of_pruned pruned.now) }
     ensures reads_back { IfOk result (λ _. ReadsBack table.now pruned.now.patterns) }
 {
     let mut files = Vec::new(alloc);
-    push_kept(alloc, &mut files, output, table, pruned)?;
-    push_needs(alloc, &mut files, report, table, pruned)?;
+    push_kept(alloc, &mut files, names.output, table, pruned)?;
+    push_needs(alloc, &mut files, names.report, table, pruned)?;
     let kept = pruned.patterns();
     let lines = pruned_line(alloc, pruned.rounds(), pruned.removed(), kept.len() as u64)?;
     Ok(Outputs { files, lines })
@@ -118,19 +119,18 @@ fn write_pruned<'a>(
 /// Prunes, and builds all that `prune` writes and prints.
 pub fn make_prune<'a, W: Watch>(
     alloc: Global,
-    output: &'a str,
-    report: &'a str,
+    names: &PruneNames<'a>,
     inputs: &PruneInputs,
     watch: &W,
 ) -> Result<Outputs<'a>, AllocError>
     requires { HasKnownSigns inputs.now }
     ensures made { IfOk result (λ made.
-        pruned_by output.now report.now
+        pruned_by (prune_of names.now)
         inputs.now.table inputs.now.dictionary inputs.now.patterns
         ≡ Ends Done (writing_of made.files.items) made.lines.items) }
     ensures named { IfOk result (λ made.
         written_names (writing_of made.files.items)
-        ≡ output.now ∷ report.now ∷ []) }
+        ≡ (prune_rule (prune_of names.now)).writes) }
     ensures reads_back { IfOk result (λ _. ReadsBack inputs.now.table
         (pruning_of (minima_of inputs.now.table)
         inputs.now.dictionary inputs.now.patterns).patterns) }
@@ -142,5 +142,5 @@ pub fn make_prune<'a, W: Watch>(
         &inputs.patterns,
         &RoundTeller { watch },
     )?;
-    write_pruned(alloc, output, report, &inputs.table, &pruned)
+    write_pruned(alloc, names, &inputs.table, &pruned)
 }

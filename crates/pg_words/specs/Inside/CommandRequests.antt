@@ -1,11 +1,17 @@
 -- What a command asks for, and the limits of its numbers.
-use Rattle.std.specs.Prelude.{ℕ, ◌≤◌, List, ◌∷◌, length, Option}
+use Rattle.std.specs.Prelude.{◌≡◌, ℕ, ◌≤◌, List, ◌∷◌, length, Option, None}
 use Rattle.std.specs.Option.{option_map}
 use denote.Ref.{Bor}
 use Rattle.pg_words.specs.forms.Generate.{FileNames}
+use Rattle.pg_words.specs.forms.Pack.{PackRequest}
+use Rattle.pg_words.specs.forms.Totals.{TotalsRequest}
+use Rattle.pg_words.specs.forms.Prune.{PruneRequest}
 use Rattle.pg_words.specs.forms.Sweep.{SweepRequest}
 use Rattle.pg_words.specs.Requests.{Request, ToGenerate, ToAudit, ToSample, ToPack, ToTotals, ToPrune, ToSweep}
 use Rattle.pg_words.specs.declared.commands.Names.{Names}
+use Rattle.pg_words.specs.declared.commands.PackNames.{PackNames}
+use Rattle.pg_words.specs.declared.commands.TotalsNames.{TotalsNames}
+use Rattle.pg_words.specs.declared.commands.PruneNames.{PruneNames}
 use Rattle.pg_words.specs.declared.commands.SweepWords.{SweepWords}
 use Rattle.pg_words.specs.declared.commands.Command.{Command}
 use Rattle.pg_words.specs.declared.commands.Command.TheVariants.{Generate, Audit, Sample, Pack, Totals, Prune, Sweep}
@@ -47,30 +53,36 @@ sweep_of w = record {
 abbrev pub sweep_inputs : SweepRequest → List (List ℕ)
 sweep_inputs s = s.dict ∷ s.patterns ∷ s.translate ∷ s.params
 
--- `pack` with these names
-abbrev pub to_pack : List ℕ → List ℕ → List ℕ → Request
-to_pack patterns translate table =
-    ToPack (record { patterns = patterns; translate = translate; table = table })
+-- the names of `pack` as their bytes
+abbrev pub pack_of : PackNames → PackRequest
+pack_of n =
+    record { patterns = n.patterns.now; translate = n.translate.now; table = n.table.now }
 
--- `totals` with these names
-abbrev pub to_totals : List ℕ → List ℕ → List ℕ → Request
-to_totals dict translate table =
-    ToTotals (record { dict = dict; translate = translate; table = table })
+-- the names of `totals` as their bytes
+abbrev pub totals_of : TotalsNames → TotalsRequest
+totals_of n = record { dict = n.dict.now; translate = n.translate.now; table = n.table.now }
 
--- `prune` with these names
-abbrev pub to_prune : List ℕ → List ℕ → List ℕ → List ℕ → List ℕ → Request
-to_prune d p o t r =
-    ToPrune (record { dict = d; patterns = p; output = o; translate = t; report = r })
+-- the names of `prune` as their bytes
+abbrev pub prune_of : PruneNames → PruneRequest
+prune_of n = record {
+  dict = n.dict.now;
+  patterns = n.patterns.now;
+  output = n.output.now;
+  translate = n.translate.now;
+  report = n.report.now;
+}
 
 -- the command as what it asks for
 abbrev pub asked_by : Command → Request
 asked_by (Generate names) = ToGenerate (texts_of names)
 asked_by (Audit names) = ToAudit (texts_of names)
 asked_by (Sample seed count) = ToSample seed count
-asked_by (Pack patterns translate table) = to_pack patterns.now translate.now table.now
-asked_by (Totals dict translate table) = to_totals dict.now translate.now table.now
-asked_by (Prune dict patterns output translate report) =
-    to_prune dict.now patterns.now output.now translate.now report.now
+asked_by (Pack p t table) =
+    ToPack (pack_of (record { patterns = p; translate = t; table = table }))
+asked_by (Totals d t table) =
+    ToTotals (totals_of (record { dict = d; translate = t; table = table }))
+asked_by (Prune d p o t r) = ToPrune (prune_of
+    (record { dict = d; patterns = p; output = o; translate = t; report = r }))
 asked_by (Sweep words) = ToSweep (sweep_of words)
 
 -- the numbers of `sweep` are within their limits
@@ -80,8 +92,9 @@ pub record KeepsSweepLimits (w : SweepWords) : Type 0 where
   pub missed : (1 ≤ w.missed) × (w.missed ≤ PRICE_MAX)
   pub params : (1 ≤ length w.params.now) × (length w.params.now ≤ SETS_MAX)
 
--- the numbers of `sample` and `sweep` are within their limits
+-- the numbers of `sample` and `sweep` are within their limits, and `audit` has no cells file
 abbrev pub KeepsLimits : Command → Type 0
+KeepsLimits (Audit names) = names.cells ≡ None
 KeepsLimits (Sample seed count) = (seed ≤ SEED_MAX) × (count ≤ COUNT_MAX)
 KeepsLimits (Sweep words) = KeepsSweepLimits words
 KeepsLimits command = Unit {0}

@@ -1,13 +1,13 @@
 use Rattle.std.proofs.Common.{◌≡◌}
 use Rattle.std.proofs.lemmas.Result.{IfOk-from_err, IfOk-weaker}
 use Rattle.pg_outside.specs.Content.{FilesShown, file_at}
-use Rattle.pg_top.specs.audit.AuditRule.{audit_rule, given_files}
+use Rattle.pg_top.specs.audit.AuditRule.{audit_rule}
 use Rattle.pg_words.specs.Inside.CommandRequests.{texts_of}
 use Rattle.pg_steps.specs.Readings.{first_end}
 use Rattle.pg_words.specs.forms.Generate.{FileNames}
 use Rattle.pg_top.specs.generate.GenerateRule.{inputs_in}
 use Rattle.pg_top.specs.generate.Inside.AcceptedInputs.{inputs_of, HasInputs}
-use Rattle.pg_top.specs.audit.Inside.Verdicts.{wanted_files, end_of, outcome_by}
+use Rattle.pg_top.specs.audit.Inside.Verdicts.{wanted_files, given_files, end_of, outcome_by}
 use Rattle.pg_steps.specs.declared.inputs.Stop.TheVariants.{Memory}
 use Rattle.pg_top.proofs.generate.InputOrder.{inputs_wanted}
 use Rattle.pg_top.proofs.audit.Judgements.{outcome_audited, stopped_given, found_given}

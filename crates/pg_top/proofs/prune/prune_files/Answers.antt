@@ -3,6 +3,7 @@ use Rattle.pg_outside.specs.Content.{file_at}
 use Rattle.pg_steps.specs.Outcomes.{Ends}
 use Rattle.pg_steps.specs.Inside.ends.Built.{KeepsPromise}
 use Rattle.pg_top.specs.prune.Inside.Inputs.{HasPrune}
+use Rattle.pg_words.specs.Inside.CommandRequests.{prune_of}
 use Rattle.pg_words.specs.forms.Prune.{PruneRequest}
 use Rattle.pg_steps.specs.Inside.writing.WritesMade.{writing_of}
 use Rattle.pg_steps.specs.declared.answers.Status.TheVariants.{Done}
@@ -17,18 +18,18 @@ use Rattle.pg_top.specs.prune.PruneRule.{prune_rule}
 
 pub returns : goal.returns
 returns g c =
-    let p : PruneRequest = record { dict = c.args.dict.now; patterns = c.args.patterns.now; output = c.args.output.now; translate = c.args.translate.now; report = c.args.report.now } in
+    let p : PruneRequest = prune_of c.args.names.now in
     let i = c.in_ok-inputs.inputs in
     let made = c.in_ok-outputs.field-0 in
     let s1 = g.F.Files.shown c.read_prune.new.files in
     record {
       only = c.read_prune.ensures.read.only;
       made = record {
-        outcome = mapped s1.held (λ files. HasPrune (file_at files) p.translate p.patterns p.dict i)
+        outcome = mapped s1.held (λ files. HasPrune (file_at files) p i)
             (λ files. outcome_of (file_at files) (prune_rule p) ≡ Ends Done (writing_of made.files.items) made.lines.items)
             (λ files h. prune_outcome p i files h ∙ c.in_ok-outputs.ensures.made) c.in_ok-inputs.ensures.read.ok;
         named = c.in_ok-outputs.ensures.named;
-        promise = mapped s1.held (λ files. HasPrune (file_at files) p.translate p.patterns p.dict i) (λ files. KeepsPromise (prune_rule p) (file_at files))
+        promise = mapped s1.held (λ files. HasPrune (file_at files) p i) (λ files. KeepsPromise (prune_rule p) (file_at files))
             (λ files h. prune_promise p i files c.in_ok-outputs.ensures.reads_back h) c.in_ok-inputs.ensures.read.ok;
         counted = c.in_ok-inputs.ensures.read.counted;
       };
@@ -39,17 +40,17 @@ pub returns-in_err-inputs : goal.returns-in_err-inputs
 returns-in_err-inputs g c =
     let s0 = g.F.Files.shown c.args.files.now in
     let s1 = g.F.Files.shown c.read_prune.new.files in
-    let p : PruneRequest = record { dict = c.args.dict.now; patterns = c.args.patterns.now; output = c.args.output.now; translate = c.args.translate.now; report = c.args.report.now } in
+    let p : PruneRequest = prune_of c.args.names.now in
     building_stopped (prune_rule p) s0 s1 c.from_residual.result c.in_err-inputs.field-0.0 c.from_residual.ensures.1 c.read_prune.ensures.read.only
     (stops_reading (prune_rule p) s0 s1 c.in_err-inputs.field-0.0 c.in_err-inputs.ensures.read.stopped)
 
 pub returns-in_err-outputs : goal.returns-in_err-outputs
 returns-in_err-outputs g c =
-    let p : PruneRequest = record { dict = c.args.dict.now; patterns = c.args.patterns.now; output = c.args.output.now; translate = c.args.translate.now; report = c.args.report.now } in
+    let p : PruneRequest = prune_of c.args.names.now in
     let i = c.in_ok-inputs.inputs in
     let s0 = g.F.Files.shown c.args.files.now in
     let s1 = g.F.Files.shown c.read_prune.new.files in
-    let accepted = mapped s1.held (λ files. HasPrune (file_at files) p.translate p.patterns p.dict i) (λ files. AreAccepted (file_at files) (prune_rule p).reads)
+    let accepted = mapped s1.held (λ files. HasPrune (file_at files) p i) (λ files. AreAccepted (file_at files) (prune_rule p).reads)
     (prune_accepted p i) c.in_ok-inputs.ensures.read.ok in
     building_stopped (prune_rule p) s0 s1 c.from_residual-in_err-outputs.result Memory c.from_residual-in_err-outputs.ensures.1 c.read_prune.ensures.read.only
     (stops_reading (prune_rule p) s0 s1 Memory (wanted_after (prune_rule p).reads s0 s1 (omega arith) c.in_ok-inputs.ensures.read.counted accepted))

@@ -1,36 +1,26 @@
-use Rattle.std.proofs.Common.{refl}
-use Rattle.pg_top.proofs.Built.{built_run, audit_run, sample_run}
+use Rattle.std.proofs.Common.{Some, refl, sym, ap, ◌∙◌}
+use Rattle.pg_steps.specs.Inside.ends.Built.{Builds}
+use Rattle.pg_words.specs.Inside.CommandRequests.{asked_by}
+use Rattle.pg_top.specs.CommandRules.{rule_of}
+use Rattle.pg_top.proofs.Built.{IsBuilding, built_run, audit_run, sample_run}
 use Rattle.pg_top.proofs.top.perform.Goals as goal
+use Rattle.pg_top.proofs.top.perform.Goals.{in-Generate, in-Pack, in-Totals, in-Prune, in-Sweep}
 
-pub returns-in-Generate : goal.returns-in-Generate
-returns-in-Generate g c =
-    rw c.in-Generate.is (built_run _ c.generate_files-built.result c.args.files.now c.end.new.files (g.F.Files.shown c.args.files.now)
-    (g.F.Files.shown c.generate_files-built.new.files) (g.F.Files.shown c.end.new.files) (g.O.Sink.shown c.args.out.now) (g.O.Sink.shown c.end.new.out) c.end.result
-    (record { answers = refl; reads = λ none. cc }) c.generate_files-built.ensures c.end.ensures)
-
-pub returns-in-Pack : goal.returns-in-Pack
-returns-in-Pack g c =
-    rw c.in-Pack.is (built_run _ c.pack_files-built.result c.args.files.now c.end-in-Pack.new.files (g.F.Files.shown c.args.files.now)
-    (g.F.Files.shown c.pack_files-built.new.files) (g.F.Files.shown c.end-in-Pack.new.files) (g.O.Sink.shown c.args.out.now) (g.O.Sink.shown c.end-in-Pack.new.out) c.end-in-Pack.result
-    (record { answers = refl; reads = λ none. cc }) c.pack_files-built.ensures c.end-in-Pack.ensures)
-
-pub returns-in-Totals : goal.returns-in-Totals
-returns-in-Totals g c =
-    rw c.in-Totals.is (built_run _ c.total_files-built.result c.args.files.now c.end-in-Totals.new.files (g.F.Files.shown c.args.files.now)
-    (g.F.Files.shown c.total_files-built.new.files) (g.F.Files.shown c.end-in-Totals.new.files) (g.O.Sink.shown c.args.out.now) (g.O.Sink.shown c.end-in-Totals.new.out) c.end-in-Totals.result
-    (record { answers = refl; reads = λ none. cc }) c.total_files-built.ensures c.end-in-Totals.ensures)
-
-pub returns-in-Prune : goal.returns-in-Prune
-returns-in-Prune g c =
-    rw c.in-Prune.is (built_run _ c.prune_files-built.result c.args.files.now c.end-in-Prune.new.files (g.F.Files.shown c.args.files.now)
-    (g.F.Files.shown c.prune_files-built.new.files) (g.F.Files.shown c.end-in-Prune.new.files) (g.O.Sink.shown c.args.out.now) (g.O.Sink.shown c.end-in-Prune.new.out) c.end-in-Prune.result
-    (record { answers = refl; reads = λ none. cc }) c.prune_files-built.ensures c.end-in-Prune.ensures)
-
-pub returns-in-Sweep : goal.returns-in-Sweep
-returns-in-Sweep g c =
-    rw c.in-Sweep.is (built_run _ c.sweep_files-built.result c.args.files.now c.end-in-Sweep.new.files (g.F.Files.shown c.args.files.now)
-    (g.F.Files.shown c.sweep_files-built.new.files) (g.F.Files.shown c.end-in-Sweep.new.files) (g.O.Sink.shown c.args.out.now) (g.O.Sink.shown c.end-in-Sweep.new.out) c.end-in-Sweep.result
-    (record { answers = refl; reads = λ none. cc }) c.sweep_files-built.ensures c.end-in-Sweep.ensures)
+pub returns : goal.returns
+returns g c =
+    let asked = Some (asked_by c.args.command.now) in
+    let s0 = g.F.Files.shown c.args.files.now in
+    let s1 = g.F.Files.shown c.match-command.files in
+    let builds : IsBuilding (rule_of (Some (asked_by c.args.command.now))) × Builds (rule_of (Some (asked_by c.args.command.now))) s0 (g.F.Files.shown c.match-command.files) c.match-command.built =
+    elim c.match-command.branch [
+      | in-Generate w ↦ rw (w.in-Generate.is, w.files-is, w.built-is) (record { answers = refl; reads = λ none. cc }, w.generate_files-built.ensures)
+      | in-Pack w ↦ rw (ap asked_by w.in-Pack.is ∙ sym w.new-names.ensures, w.files-is, w.built-is) (record { answers = refl; reads = λ none. cc }, w.pack_files-built.ensures)
+      | in-Totals w ↦ rw (ap asked_by w.in-Totals.is ∙ sym w.new-names-in-Totals.ensures, w.files-is, w.built-is) (record { answers = refl; reads = λ none. cc }, w.total_files-built.ensures)
+      | in-Prune w ↦ rw (ap asked_by w.in-Prune.is ∙ sym w.new-names-in-Prune.ensures, w.files-is, w.built-is) (record { answers = refl; reads = λ none. cc }, w.prune_files-built.ensures)
+      | in-Sweep w ↦ rw (w.in-Sweep.is, w.files-is, w.built-is) (record { answers = refl; reads = λ none. cc }, w.sweep_files-built.ensures)
+    ] in
+    built_run asked c.match-command.built c.args.files.now c.end.new.files s0 s1 (g.F.Files.shown c.end.new.files) (g.O.Sink.shown c.args.out.now) (g.O.Sink.shown c.end.new.out) c.end.result
+    builds.0 builds.1 c.end.ensures
 
 pub returns-in-Audit : goal.returns-in-Audit
 returns-in-Audit g c =

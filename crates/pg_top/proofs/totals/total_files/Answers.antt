@@ -11,6 +11,7 @@ use Rattle.pg_steps.specs.declared.writes.Output.{Output}
 use Rattle.pg_steps.specs.declared.answers.Status.TheVariants.{Done}
 use Rattle.pg_steps.specs.Inside.reading.UnderTable.{file_under}
 use Rattle.pg_top.specs.totals.TotalsRule.{totals_rule, packed_table}
+use Rattle.pg_words.specs.Inside.CommandRequests.{totals_of}
 use Rattle.pg_words.specs.forms.Totals.{TotalsRequest}
 use Rattle.pg_steps.specs.declared.inputs.Input.TheVariants as input
 use Rattle.pg_top.proofs.Calls.{stops_reading}
@@ -25,7 +26,7 @@ use Rattle.pg_steps.specs.Rules.{outcome_of}
 
 pub returns : goal.returns
 returns g c =
-    let p : TotalsRequest = record { dict = c.args.dict.now; translate = c.args.translate.now; table = c.args.table.now } in
+    let p : TotalsRequest = totals_of c.args.names.now in
     let d = p.dict in
     let t = p.translate in
     let n = p.table in
@@ -55,7 +56,7 @@ returns g c =
 
 pub returns-in_err-letters : goal.returns-in_err-letters
 returns-in_err-letters g c =
-    let p : TotalsRequest = record { dict = c.args.dict.now; translate = c.args.translate.now; table = c.args.table.now } in
+    let p : TotalsRequest = totals_of c.args.names.now in
     let d = p.dict in
     let t = p.translate in
     let n = p.table in
@@ -68,7 +69,7 @@ returns-in_err-letters g c =
 
 pub returns-in_err-dictionary : goal.returns-in_err-dictionary
 returns-in_err-dictionary g c =
-    let p : TotalsRequest = record { dict = c.args.dict.now; translate = c.args.translate.now; table = c.args.table.now } in
+    let p : TotalsRequest = totals_of c.args.names.now in
     let d = p.dict in
     let t = p.translate in
     let n = p.table in
@@ -85,7 +86,7 @@ returns-in_err-dictionary g c =
 
 pub returns-in_err-lines : goal.returns-in_err-lines
 returns-in_err-lines g c =
-    let p : TotalsRequest = record { dict = c.args.dict.now; translate = c.args.translate.now; table = c.args.table.now } in
+    let p : TotalsRequest = totals_of c.args.names.now in
     let d = p.dict in
     let t = p.translate in
     let n = p.table in

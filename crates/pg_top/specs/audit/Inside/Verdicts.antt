@@ -3,34 +3,38 @@ use Rattle.std.specs.Prelude.{◌≡◌, ℕ, ◌+◌, ◌<◌, List, [], map, l
 use Rattle.std.specs.Option.{option_map}
 use Rattle.pg_audit.specs.Differences.{first_false}
 use Rattle.pg_outside.specs.Content.{FilesShown, SinkShown, file_at}
-use Rattle.pg_top.specs.audit.AuditRule.{denies}
+use Rattle.pg_top.specs.audit.AuditRule.{denies, given_file}
 use Rattle.pg_steps.specs.FileCalls.{MakesCalls, read_calls, ReadsUpTo}
 use Rattle.pg_steps.specs.Outcomes.{Outcome, Ends}
-use Rattle.pg_steps.specs.Readings.{Reading, first_end}
+use Rattle.pg_steps.specs.Readings.{HeldFiles, Reading, first_end}
 use Rattle.pg_steps.specs.Inside.ends.Stops.{PutsAnswer}
 use Rattle.pg_steps.specs.declared.answers.Status.{Status}
 use Rattle.pg_steps.specs.declared.answers.Status.TheVariants.{Yes, No}
 use Rattle.pg_top.specs.declared.audit.compare.Verdict.{Verdict}
 use Rattle.pg_top.specs.declared.audit.compare.Verdict.TheVariants.{Equal, False}
-use Rattle.pg_top.specs.declared.audit.wanted.WantedFile.{WantedFile}
-use Rattle.pg_steps.specs.declared.inputs.Given.{Given}
+use Rattle.pg_words.specs.forms.Generate.{FileNames}
+use Rattle.pg_top.specs.Selection.{selected_names}
+use Rattle.pg_top.specs.declared.selection.Inputs.{Inputs}
+use Rattle.pg_top.specs.declared.selected_files.SelectedFile.{SelectedFile}
 
 -- where `audit` finds all given files right
 abbrev pub yes_line : List ℕ
 yes_line = codes "yes\n"
 
--- a given file of this name, which is read and compared with this text
-abbrev pub reading_of : Given → List ℕ → List ℕ → Reading
-reading_of given name text =
-    record { name = name; ends = λ files bytes. option_map (denies given) (first_false bytes text) }
-
 -- a given file as it is read and compared with its text
-abbrev pub wanted_file : WantedFile → Reading
-wanted_file w = reading_of w.given w.name.now w.text.items
+abbrev pub wanted_file : SelectedFile → Reading
+wanted_file w = record {
+  name = w.name.now;
+  ends = λ files bytes. option_map (denies w.given) (first_false bytes w.text.items);
+}
 
 -- given files in their order, as they are read and compared
-abbrev pub wanted_files : List WantedFile → List Reading
+abbrev pub wanted_files : List SelectedFile → List Reading
 wanted_files ws = map wanted_file ws
+
+-- the given files of these names, as they are read and compared by these inputs
+abbrev pub given_files : (HeldFiles → Inputs) → FileNames → List Reading
+given_files inputs n = map (given_file inputs) (selected_names n)
 
 -- the outcome where a line is false, and none where all lines are right
 abbrev pub end_of : Verdict → Option Outcome

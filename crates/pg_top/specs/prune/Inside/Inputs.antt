@@ -13,36 +13,30 @@ use Rattle.pg_prune.specs.Prunes.{Pruning, pruning_of}
 use Rattle.pg_prune.specs.Reports.{prune_report}
 use Rattle.pg_steps.specs.Outcomes.{Outcome, Writing}
 use Rattle.pg_top.specs.prune.PruneRule.{outcome_of_prune, pruned_line}
-use Rattle.pg_steps.specs.Readings.{HeldFiles, Reading, translate_file}
-use Rattle.pg_steps.specs.Inside.reading.Lists.{lists_under}
+use Rattle.pg_steps.specs.Readings.{HeldFiles}
 use Rattle.pg_steps.specs.Inside.reading.ReadAs.{read_as}
+use Rattle.pg_words.specs.forms.Prune.{PruneRequest}
 use Rattle.pg_top.specs.declared.prune.inputs.PruneInputs.{PruneInputs}
 
--- the files that `prune` reads, in its order
-abbrev pub prune_reads : List ℕ → List ℕ → List ℕ → List Reading
-prune_reads translate patterns dict =
-    translate_file translate ∷ lists_under translate patterns dict
-
 -- the files that are held are accepted as these
-pub record HasPrune (files : HeldFiles) (translate pattern_file dict : List ℕ)
-    (i : PruneInputs) : Type 0 where
-  pub table : read_as table files translate ≡ Some (Ok i.table)
-  pub patterns : read_as (start i.table) files pattern_file ≡ Some (Ok i.patterns)
-  pub words : read_as (words i.table) files dict ≡ Some (Ok i.dictionary)
+pub record HasPrune (files : HeldFiles) (n : PruneRequest) (i : PruneInputs) : Type 0 where
+  pub table : read_as table files n.translate ≡ Some (Ok i.table)
+  pub patterns : read_as (start i.table) files n.patterns ≡ Some (Ok i.patterns)
+  pub words : read_as (words i.table) files n.dict ≡ Some (Ok i.dictionary)
 
 -- the patterns have no greater sign than the table
 abbrev pub HasKnownSigns : PruneInputs → Type 0
 HasKnownSigns i = SignsUpTo (letters_of i.table + 1) i.patterns
 
 -- the files that are written: the text of the patterns that stay, and then the report
-abbrev pub pruned_files : List ℕ → List ℕ → Alphabet → Pruning → Writing
-pruned_files output report t found =
-    (output, pattern_text t found.patterns) ∷ (report, prune_report t found) ∷ []
+abbrev pub pruned_files : PruneRequest → Alphabet → Pruning → Writing
+pruned_files n t found =
+    (n.output, pattern_text t found.patterns) ∷ (n.report, prune_report t found) ∷ []
 
 -- the line that `prune` prints where pruning finds this
 abbrev pub line_of_pruned : Pruning → List ℕ
 line_of_pruned found = pruned_line found.rounds found.removed (length found.patterns)
 
 -- what pruning these patterns by these words comes to
-abbrev pub pruned_by : List ℕ → List ℕ → Alphabet → List Word → Patterns → Outcome
-pruned_by output report t ws P = outcome_of_prune output report t (pruning_of (minima_of t) ws P)
+abbrev pub pruned_by : PruneRequest → Alphabet → List Word → Patterns → Outcome
+pruned_by n t ws P = outcome_of_prune n.output n.report t (pruning_of (minima_of t) ws P)

@@ -1,10 +1,10 @@
+use Rattle.std.proofs.Common.{◌∙◌}
+use Rattle.pg_words.specs.Inside.CommandRequests.{texts_of}
+use Rattle.pg_top.proofs.SelectedLists.{written_made}
 use Rattle.pg_top.proofs.generate.outputs.make_files.Goals as goal
 
-pub push_patterns-requires-clause-empty : goal.push_patterns-requires-clause-empty
-push_patterns-requires-clause-empty g c = c.new-files.ensures.items
-
-pub push_others-requires-clause-files : goal.push_others-requires-clause-files
-push_others-requires-clause-files g c = c.in_ok-lines.ensures.file
-
 pub returns : goal.returns
-returns g c = record { files = c.in_ok-push_others.ensures; lines = c.in_ok-lines.ensures.lines }
+returns g c = record {
+  files = c.in_ok-files.ensures ∙ written_made c.in_ok-selected.selected.items (texts_of c.args.names.now) c.args.inputs.now c.in_ok-selected.ensures;
+  lines = c.in_ok-lines.ensures;
+}

@@ -4,6 +4,7 @@ use Rattle.pg_patterns.specs.Starts.{start}
 use Rattle.pg_outside.specs.Content.{FilesShown}
 use Rattle.pg_outside.specs.FilesCalls.{Reads}
 use Rattle.pg_translate.specs.Tables.{table}
+use Rattle.pg_words.specs.Inside.CommandRequests.{pack_of}
 use Rattle.pg_steps.specs.Readings.{input_file}
 use Rattle.pg_steps.specs.Inside.reading.UnderTable.{file_under}
 use Rattle.pg_steps.specs.declared.inputs.Input.TheVariants.{Translate, Patterns}
@@ -18,8 +19,8 @@ pub returns-in_err-table : goal.returns-in_err-table
 returns-in_err-table g c =
     let s0 : FilesShown = g.F.Files.shown c.args.files.now in
     let s1 : FilesShown = g.F.Files.shown c.read_table.new.files in
-    let t = c.args.translate.now in
-    let P = c.args.patterns.now in
+    let t = c.args.names.now.translate.now in
+    let P = c.args.names.now.patterns.now in
     let first = c.read_table.ensures in
     let r = c.from_residual.result in
     let is = c.from_residual.ensures.1 in
@@ -34,8 +35,8 @@ returns-in_err-patterns g c =
     let s0 : FilesShown = g.F.Files.shown c.args.files.now in
     let s1 : FilesShown = g.F.Files.shown c.read_table.new.files in
     let s2 : FilesShown = g.F.Files.shown c.read_start.new.files in
-    let t = c.args.translate.now in
-    let P = c.args.patterns.now in
+    let t = c.args.names.now.translate.now in
+    let P = c.args.names.now.patterns.now in
     let first = c.read_table.ensures in
     let then = c.read_start.ensures.read in
     let calls = calls_on (Reads t ∷ []) (Reads P ∷ []) s0 s1 s2 first.calls then.calls in
@@ -53,14 +54,14 @@ returns g c =
     let s0 : FilesShown = g.F.Files.shown c.args.files.now in
     let s1 : FilesShown = g.F.Files.shown c.read_table.new.files in
     let s2 : FilesShown = g.F.Files.shown c.read_start.new.files in
-    let t = c.args.translate.now in
-    let P = c.args.patterns.now in
+    let t = c.args.names.now.translate.now in
+    let P = c.args.names.now.patterns.now in
     let first = c.read_table.ensures in
     let then = c.read_start.ensures.read in
     record {
       read = record {
         only = only_on s0 s1 s2 first.only then.only;
-        ok = source_read (record { patterns = P; translate = t; table = [] }) c.in_ok-table.table c.in_ok-patterns.patterns s1.held s2.held then.only.held
+        ok = source_read (pack_of c.args.names.now) c.in_ok-table.table c.in_ok-patterns.patterns s1.held s2.held then.only.held
             c.in_ok-table.ensures.ok c.in_ok-patterns.ensures.read.ok;
         counted = calls_on (Reads t ∷ []) (Reads P ∷ []) s0 s1 s2 first.calls then.calls;
         stopped = tt;

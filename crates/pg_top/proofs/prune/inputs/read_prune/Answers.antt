@@ -2,6 +2,7 @@ use Rattle.std.proofs.Common.{[], ◌∷◌}
 use Rattle.std.proofs.lemmas.Result.{IfOk-from_err}
 use Rattle.pg_outside.specs.Content.{FilesShown}
 use Rattle.pg_outside.specs.FilesCalls.{Reads}
+use Rattle.pg_words.specs.Inside.CommandRequests.{prune_of}
 use Rattle.pg_words.specs.forms.Prune.{PruneRequest}
 use Rattle.pg_steps.proofs.CountedCalls.{calls_on}
 use Rattle.pg_top.proofs.prune.PruneOrder.{all_read, stopped_table, stopped_lists}
@@ -13,7 +14,7 @@ pub returns-in_err-table : goal.returns-in_err-table
 returns-in_err-table g c =
     let s0 : FilesShown = g.F.Files.shown c.args.files.now in
     let s1 : FilesShown = g.F.Files.shown c.read_table.new.files in
-    let p : PruneRequest = record { dict = c.args.dict.now; patterns = c.args.patterns.now; output = []; translate = c.args.translate.now; report = [] } in
+    let p : PruneRequest = prune_of c.args.names.now in
     let first = c.read_table.ensures in
     let r = c.from_residual.result in
     let is = c.from_residual.ensures.1 in
@@ -25,7 +26,7 @@ returns-in_err-table g c =
 
 pub returns-in_err-patterns : goal.returns-in_err-patterns
 returns-in_err-patterns g c =
-    let p : PruneRequest = record { dict = c.args.dict.now; patterns = c.args.patterns.now; output = []; translate = c.args.translate.now; report = [] } in
+    let p : PruneRequest = prune_of c.args.names.now in
     let s0 : FilesShown = g.F.Files.shown c.args.files.now in
     let s1 : FilesShown = g.F.Files.shown c.read_table.new.files in
     let s2 : FilesShown = g.F.Files.shown c.read_lists.new.files in
@@ -42,7 +43,7 @@ returns-in_err-patterns g c =
 
 pub returns : goal.returns
 returns g c =
-    let p : PruneRequest = record { dict = c.args.dict.now; patterns = c.args.patterns.now; output = []; translate = c.args.translate.now; report = [] } in
+    let p : PruneRequest = prune_of c.args.names.now in
     let s0 : FilesShown = g.F.Files.shown c.args.files.now in
     let s1 : FilesShown = g.F.Files.shown c.read_table.new.files in
     let s2 : FilesShown = g.F.Files.shown c.read_lists.new.files in

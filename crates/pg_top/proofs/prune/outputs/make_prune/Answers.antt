@@ -11,7 +11,8 @@ use Rattle.pg_top.proofs.prune.outputs.make_prune.Goals as goal
 pub returns-clause-made : goal.returns-clause-made
 returns-clause-made g c =
     ok_by_two c.write_pruned.result _ _ _
-    (λ made files lines. ap (outcome_of_prune c.args.output.now c.args.report.now c.args.inputs.now.table) (sym c.in_ok-pruned.ensures.pruned) ∙ (λ k. Ends Done (sym files k) (sym lines k)))
+    (λ made files lines. ap (outcome_of_prune c.args.names.now.output.now c.args.names.now.report.now c.args.inputs.now.table) (sym c.in_ok-pruned.ensures.pruned)
+    ∙ (λ k. Ends Done (sym files k) (sym lines k)))
     c.write_pruned.ensures.files c.write_pruned.ensures.lines
 
 pub returns-clause-named : goal.returns-clause-named

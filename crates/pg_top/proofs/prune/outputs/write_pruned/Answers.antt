@@ -11,10 +11,10 @@ pub returns : goal.returns
 returns c =
     let t = c.args.table.now in
     let found = c.args.pruned.now in
-    let first = c.in_ok-push_kept.ensures.file ∙ ap (λ (xs : List Output). writing_of xs ++ (c.args.output.now, pattern_text t found.patterns) ∷ []) c.new-files.ensures.items in
+    let first = c.in_ok-push_kept.ensures.file ∙ ap (λ (xs : List Output). writing_of xs ++ (c.args.names.now.output.now, pattern_text t found.patterns) ∷ []) c.new-files.ensures.items in
     let kept = c.len.ensures.value ∙ ap length c.patterns-kept.ensures in
     record {
-      files = c.in_ok-push_needs.ensures ∙ ap (λ (ws : Writing). ws ++ (c.args.report.now, prune_report t found) ∷ []) first;
+      files = c.in_ok-push_needs.ensures ∙ ap (λ (ws : Writing). ws ++ (c.args.names.now.report.now, prune_report t found) ∷ []) first;
       reads_back = c.in_ok-push_kept.ensures.reads_back;
       lines = c.in_ok-lines.ensures ∙ (λ k. pruned_line (c.rounds.ensures k) (c.removed.ensures k) (kept k));
     }
