@@ -4,6 +4,7 @@ ghost use Rattle.std.specs.Prelude.{◌<◌};
 
 use pg_draws::Draws;
 use pg_top::sample_text;
+use pg_words::limits::{COUNT_MAX, SEED_MAX};
 use std::alloc::{AllocError, Global};
 use std::io;
 
@@ -59,7 +60,7 @@ fn numbers_of(line: &str, count: usize) -> io::Result<[u32; 5]> {
 /// `sample SEED COUNT`: the dictionary of `sample`.
 pub(crate) fn push_sample(alloc: Global, bytes: &mut Vec<u8>, line: &str) -> io::Result<()> {
     let [seed, count, ..] = numbers_of(line, 2)?;
-    if seed >= 2_147_483_648 || count > 100_000 {
+    if seed > SEED_MAX || count > COUNT_MAX {
         return Err(io::Error::other("sample takes no such numbers"));
     }
     bytes.extend_from_slice(&sample_text(alloc, seed, count)?)?;
