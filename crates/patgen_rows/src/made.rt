@@ -1,6 +1,10 @@
 //! Pieces that are made from numbers: the dictionary of `sample`, letters, words over them, and the
 //! cells of a root.
+ghost use Rattle.std.specs.Prelude.{◌<◌};
+
+use pg_draws::Draws;
 use pg_top::sample_text;
+use pg_words::limits::{COUNT_MAX, SEED_MAX};
 use std::alloc::{AllocError, Global};
 use std::io;
 
@@ -27,15 +31,6 @@ impl Spellings {
         }
         Ok(())
     }
-}
-
-/// The next number below `most`, by the draw of the rule of `sample`. The rows want results that
-/// were found from the words drawn so. The rule stands here once more, since these words must not
-/// come from the program that is tried.
-fn draw(state: &mut u32, most: u32) -> u32 {
-    let next = (1_103_515_245 * u64::from(*state) + 12_345) % 2_147_483_648;
-    *state = next as u32;
-    (*state / 65_536).checked_rem(most).unwrap_or(0)
 }
 
 /// A number.
@@ -65,7 +60,7 @@ fn numbers_of(line: &str, count: usize) -> io::Result<[u32; 5]> {
 /// `sample SEED COUNT`: the dictionary of `sample`.
 pub(crate) fn push_sample(alloc: Global, bytes: &mut Vec<u8>, line: &str) -> io::Result<()> {
     let [seed, count, ..] = numbers_of(line, 2)?;
-    if seed >= 2_147_483_648 || count > 100_000 {
+    if seed > SEED_MAX || count > COUNT_MAX {
         return Err(io::Error::other("sample takes no such numbers"));
     }
     bytes.extend_from_slice(&sample_text(alloc, seed, count)?)?;
@@ -87,10 +82,13 @@ pub(crate) fn push_letters(bytes: &mut Vec<u8>, line: &str) -> io::Result<()> {
 /// `words SEED COUNT LETTERS LEN ALPHABET`: words over so many letters.
 pub(crate) fn push_words(bytes: &mut Vec<u8>, line: &str) -> io::Result<()> {
     let [seed, count, letters, len, alphabet] = numbers_of(line, 5)?;
+    if letters == 0 {
+        return Err(io::Error::other("words need a letter"));
+    }
     let spellings = Spellings { len, alphabet };
-    let mut state = seed;
+    let mut draws = Draws::new(seed);
     for _ in 0..count {
-        push_word(bytes, &mut state, letters, spellings)?;
+        push_word(bytes, &mut draws, letters, spellings)?;
     }
     Ok(())
 }
@@ -99,15 +97,17 @@ pub(crate) fn push_words(bytes: &mut Vec<u8>, line: &str) -> io::Result<()> {
 /// multiple of three.
 fn push_word(
     bytes: &mut Vec<u8>,
-    state: &mut u32,
+    draws: &mut Draws,
     letters: u32,
     spellings: Spellings,
-) -> Result<(), AllocError> {
-    let more = draw(state, 7).saturating_add(1);
-    let mut before = draw(state, letters);
+) -> Result<(), AllocError>
+    requires { 0 < letters }
+{
+    let more = draws.next_below(7) + 1;
+    let mut before = draws.next_below(letters as usize) as u32;
     spellings.push(bytes, before)?;
     for _ in 0..more {
-        let number = draw(state, letters);
+        let number = draws.next_below(letters as usize) as u32;
         if before.saturating_add(number) % 3 == 0 {
             bytes.push(b'-')?;
         }

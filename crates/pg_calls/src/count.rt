@@ -1,23 +1,11 @@
 //! Counts of windows, short and long, of the edge 1, a 2, b 3 and c 4, and of 2,000 letters.
-ghost use Rattle.std.specs.Prelude.{◌≡◌, ℕ, ◌+◌, ◌<◌, ◌≤◌, true, List, length};
-ghost use Rattle.pg_types.specs.Inside.counting.Counts.{SignsWithin, sums_of};
+ghost use Rattle.std.specs.Prelude.{◌≡◌, ℕ, ◌+◌, ◌<◌, ◌≤◌, List, length};
+ghost use Rattle.pg_types.specs.Inside.counting.Counts.{sums_of};
 
 use pg_count::{CountTrie, WindowCounter};
 use pg_types::{Cursor, Sign, Weight};
 use std::process::Abort;
 use std::test::Fail;
-
-/// Whether each sign is one of a table with so many.
-fn are_signs(signs: u16, window: &[Sign]) -> bool
-    ensures { result ≡ true → SignsWithin signs window.now }
-{
-    for sign in window {
-        if *sign < 1 || signs < *sign {
-            return false;
-        }
-    }
-    true
-}
 
 /// Adds a weight of at most 9 to a window.
 fn count_window(
@@ -38,7 +26,7 @@ fn count_window(
         → (u : List ℕ) → ((sums_of counts.new.counted.counts u).0 ≤ n + 9)
         × ((sums_of counts.new.counted.counts u).1 ≤ n + 9) }
 {
-    if 9 < weight || !are_signs(signs, window) {
+    if 9 < weight || !window.iter().all(|&sign| 1 <= sign && sign <= signs) {
         return Err(Fail::new("signs of the table, and a weight of one digit"));
     }
     counts.add(window, good, weight)?;

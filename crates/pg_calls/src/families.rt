@@ -1,5 +1,5 @@
 //! A slow list of the cells of families.
-use pg_types::Sign;
+use pg_types::{FAR_BELOW, FEW_SIGNS, Sign};
 use std::alloc::{AllocError, Global};
 
 /// No family.
@@ -17,7 +17,8 @@ pub struct FamilyCell {
     pub family: usize,
 }
 
-/// The cells of a table with so many signs. Up to four signs of a family are placed from base 1 on.
+/// The cells of a table with so many signs. Up to [`FEW_SIGNS`] signs of a family are placed from
+/// base 1 on.
 #[derive(Drop)]
 pub struct Families {
     alloc: Global,
@@ -158,10 +159,11 @@ impl Families {
     /// The lowest base that is tried for so many signs.
     fn lowest_base(&self, count: usize, cells: &[usize]) -> usize {
         let top = cells.last().copied().unwrap_or(0);
-        if count <= 4 {
+        if count <= FEW_SIGNS {
             return 1;
         }
-        top.saturating_sub(usize::from(self.signs).max(255)).max(1)
+        top.saturating_sub(usize::from(self.signs).max(FAR_BELOW))
+            .max(1)
     }
 
     /// The least base that no other family has and where the signs' cells are none of these.

@@ -1,30 +1,15 @@
 //! Cells against a slow list of families.
-ghost use Rattle.std.specs.Prelude.{◌<◌, ◌≤◌, max};
+ghost use Rattle.std.specs.Prelude.{◌≤◌};
 ghost use Rattle.pg_types.specs.declared.limits.TheConstants.{SIGNS_MAX};
 
 use crate::families::{Families, NONE};
 use crate::strings::{cell_below, change_below};
 use pg_cells::Cells;
+use pg_draws::Draws;
 use pg_types::{SIGNS_MAX, Sign};
 use std::alloc::Global;
 use std::process::Abort;
 use std::test::Fail;
-
-/// A row of numbers that a seed gives. The worked row takes its steps from the draw of the rule of
-/// `sample`, and these crates have no call that draws. So the rule stands here once more.
-#[derive(Drop)]
-struct Draws(u64);
-
-impl Draws {
-    /// The next number, below `count`.
-    fn draw(&mut self, count: usize) -> usize
-        ensures { result < max count 1 }
-    {
-        let product = self.0.wrapping_mul(1_103_515_245).wrapping_add(12_345);
-        self.0 = product % (1 << 31);
-        (self.0 as usize / 65_536) % count.max(1)
-    }
-}
 
 /// One step, on both, below one of the taken cells.
 fn take_step(
@@ -33,8 +18,9 @@ fn take_step(
     taken: &[usize],
     draws: &mut Draws,
 ) -> Result<(), Fail> {
-    let parent = taken.get(draws.draw(taken.len())).copied().unwrap_or(0);
-    let s = 1 + draws.draw(usize::from(cells.signs())) as Sign;
+    let drawn = draws.next_below(taken.len().max(1));
+    let parent = taken.get(drawn).copied().unwrap_or(0);
+    let s = 1 + draws.next_below(usize::from(cells.signs()).max(1)) as Sign;
     change_below(cells, parent, s, 1)?;
     families.change(parent, s)?;
     Ok(())
@@ -75,7 +61,7 @@ fn take_steps(
     families: &mut Families,
     steps: u32,
 ) -> Result<(), Fail> {
-    let mut draws = Draws(5);
+    let mut draws = Draws::new(5);
     let mut taken = families.cells_without(NONE)?;
     for _ in 0..steps {
         take_step(cells, families, taken.as_slice(), &mut draws)?;

@@ -11,6 +11,7 @@ use pg_plain::PlainEngine;
 use pg_top::sample_text;
 use pg_translate::Table;
 use pg_types::{Params, read_params};
+use pg_words::limits::COUNT_MAX;
 use std::alloc::{AllocError, Global};
 use std::test::Fail;
 
@@ -26,8 +27,8 @@ pub(crate) struct Inputs {
 fn drawn_words(alloc: Global, table: &Table, count: u32) -> Result<Dictionary, Fail>
     ensures { IfOk result (SignsAtMost (letters_of table.now + 1)) }
 {
-    if count > 100_000 {
-        return Err(Fail::new("at most 100,000 words"));
+    if count > COUNT_MAX {
+        return Err(Fail::new("at most as many words as sample makes"));
     }
     let words = sample_text(alloc, 7, count)?;
     Ok(Dictionary::read(alloc, table, words.as_slice())?)

@@ -5,6 +5,7 @@ use Rattle.std.specs.Option.{option_map_or}
 use Rattle.std.specs.Cmp.Lexicographic.{pointwise}
 use Rattle.pg_types.specs.Placement.{Families, entered_families, top, base_of}
 use Rattle.pg_types.specs.Tails.{outputs_of, suffixes, same_pair}
+use Rattle.pg_patterns.specs.Values.{Patterns}
 use Rattle.pg_patterns.specs.Texts.{strings_of}
 use Rattle.pg_outputs.specs.declared.records.Record.{Record}
 use Rattle.pg_table.specs.declared.parts.cell.Cell.{Cell}
@@ -16,7 +17,7 @@ abbrev pub with_list : List (List (ℕ × ℕ)) → List (ℕ × ℕ) → List (
 with_list lists l = if list_any (pointwise same_pair l) lists then lists else lists ++ l ∷ []
 
 -- the lists that get a record, each once: string by string, the ends of its list, shortest first
-abbrev pub recorded_lists : List ((List ℕ × ℕ) × ℕ) → List (List (ℕ × ℕ))
+abbrev pub recorded_lists : Patterns → List (List (ℕ × ℕ))
 recorded_lists P =
     fold with_list [] (flat_map (λ q. reverse (suffixes (outputs_of P q))) (strings_of P))
 
@@ -48,11 +49,11 @@ abbrev pub record_bytes : Record → List ℕ
 record_bytes r = r.value ∷ r.dot ∷ u32_bytes r.next
 
 -- the head of every string's list
-abbrev pub head_in : List ((List ℕ × ℕ) × ℕ) → List ℕ → ℕ
+abbrev pub head_in : Patterns → List ℕ → ℕ
 head_in P q = head_among (recorded_lists P) (outputs_of P q)
 
 -- the packed table file of P with the greatest sign n: the head, the cells, and the records
-unfoldable pub table_text : ℕ → List ((List ℕ × ℕ) × ℕ) → List ℕ
+unfoldable pub table_text : ℕ → Patterns → List ℕ
 table_text n P = let fs = entered_families n (map (λ e. e.0.0) P) in let lists = recorded_lists P in
     let cells = map (cell_of_table fs (head_in P)) (range_with_len 0 (top fs + 1)) in
     let records = map (record_of lists) lists in

@@ -1,5 +1,5 @@
 //! The text of a packed table.
-ghost use Rattle.std.specs.Prelude.{◌≡◌, ◌+◌, ◌*◌, ◌<◌, ◌≤◌, ◌↔◌, ◌^◌, ◌++◌, true, length, IsTrue, IfOk, IfErr, OnOk};
+ghost use Rattle.std.specs.Prelude.{◌≡◌, ◌+◌, ◌*◌, ◌<◌, ◌≤◌, ◌↔◌, ◌++◌, true, length, IsTrue, IfOk, IfErr, OnOk};
 ghost use Rattle.std.specs.List.{flat_map};
 ghost use Rattle.pg_types.specs.declared.limits.TheConstants.{SIGNS_MAX};
 ghost use Rattle.pg_types.specs.Placement.{top};
@@ -89,8 +89,8 @@ fn file_of(
     cells: &[Cell],
     outputs: &Outputs,
 ) -> Result<Vec<u8>, AllocError>
-    requires cells { length cells.now < 2 ^ 32 }
-    requires records { length outputs.now < 2 ^ 32 }
+    requires cells { length cells.now ≤ u32.MAX }
+    requires records { length outputs.now ≤ u32.MAX }
     ensures { IfOk result (λ text. text.items ≡ file_of signs cells.now outputs.now) }
 {
     let records = outputs.len();
@@ -119,7 +119,7 @@ fn push_cells(text: &mut Vec<u8>, cells: &[Cell]) -> Result<(), AllocError>
 
 /// Appends the records.
 fn push_records(text: &mut Vec<u8>, outputs: &Outputs) -> Result<(), AllocError>
-    requires { length outputs.now < 2 ^ 32 }
+    requires { length outputs.now ≤ u32.MAX }
     ensures { OnOk result (text.new.items ≡ text.old.items ++ flat_map record_bytes outputs.now) }
 {
     for head in 1..outputs.len() + 1 {

@@ -1,6 +1,6 @@
 //! `sample`: the selection on a dictionary that is made from a number.
 ghost use Rattle.std.specs.Prelude.{◌≡◌, ◌+◌, ◌≤◌, ◌++◌, IfOk, OnOk};
-ghost use Rattle.pg_words.specs.declared.limits.TheConstants.{SEED_MAX, COUNT_MAX};
+ghost use Rattle.pg_words.specs.declared.limits.TheConstants.{COUNT_MAX};
 ghost use Rattle.pg_translate.specs.Alphabets.{letters_of};
 ghost use Rattle.pg_translate.specs.Tables.{default_alphabet};
 ghost use Rattle.pg_dict.specs.Inside.SoundWords.{SignsAtMost};
@@ -60,7 +60,6 @@ fn sample_dictionary(
     count: u32,
 ) -> Result<Dictionary, AllocError>
     requires table { table.now ≡ default_alphabet }
-    requires seed { seed ≤ SEED_MAX }
     requires count { count ≤ COUNT_MAX }
     ensures words { IfOk result (λ dictionary. dictionary ≡ (sample_inputs seed count).dictionary) }
     ensures signs { IfOk result (SignsAtMost (letters_of table.now + 1)) }
@@ -75,8 +74,7 @@ fn sample_dictionary(
 
 /// What the selection is made of.
 fn make_inputs(alloc: Global, seed: u32, count: u32) -> Result<Inputs, AllocError>
-    requires seed { seed ≤ SEED_MAX }
-    requires count { count ≤ COUNT_MAX }
+    requires { count ≤ COUNT_MAX }
     ensures inputs { IfOk result (λ inputs. inputs ≡ sample_inputs seed count) }
     ensures signs { IfOk result HasSigns }
 {
@@ -161,8 +159,7 @@ fn sample_lines<W: Watch>(
     count: u32,
     watch: &W,
 ) -> Result<Vec<u8>, AllocError>
-    requires seed { seed ≤ SEED_MAX }
-    requires count { count ≤ COUNT_MAX }
+    requires { count ≤ COUNT_MAX }
     ensures { IfOk result (λ lines. lines.items ≡ lines_of seed count) }
 {
     let inputs = make_inputs(alloc, seed, count)?;
@@ -177,8 +174,7 @@ pub fn sample<O: Sink, W: Watch>(
     out: &mut O,
     watch: &W,
 ) -> Status
-    requires seed { seed ≤ SEED_MAX }
-    requires count { count ≤ COUNT_MAX }
+    requires { count ≤ COUNT_MAX }
     ensures put { PutsLines (lines_of seed count) result (O.shown out.old) (O.shown out.new) }
     ensures counted { LinesCounted result (O.shown out.old) (O.shown out.new) }
 {

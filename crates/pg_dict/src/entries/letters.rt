@@ -21,7 +21,6 @@ pub(crate) struct WordReading<'a> {
     pub position: Position,
     /// How many letters may still come.
     pub room: usize,
-    /// The rest of the line.
     pub rest: &'a [u8],
 }
 

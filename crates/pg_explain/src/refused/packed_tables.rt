@@ -1,6 +1,6 @@
 //! Refused packed tables: which of their rules they break.
 
-use crate::chars::{behind, up_to};
+use crate::chars::behind;
 use crate::wrong::Refused;
 use pg_types::packed_table::{CELL_LEN, HEAD_LEN, RECORD_LEN, SIGNATURE};
 use pg_types::{LEVEL_MAX, PATTERN_SIGNS_MAX, SIGNS_MAX};
@@ -8,13 +8,26 @@ use pg_visible::Part::{Count, Name};
 use pg_visible::Text;
 use std::alloc::AllocError;
 
-/// The number that `len` bytes from `at` on are, with the most significant byte first.
-fn number(bytes: &[u8], at: usize, len: usize) -> usize {
-    let mut value = 0_usize;
-    for byte in up_to(behind(bytes, at), len) {
-        value = value.saturating_mul(256).saturating_add(usize::from(*byte));
+/// The byte at `at`; 0 where there is none.
+fn byte_at(bytes: &[u8], at: usize) -> u8 {
+    bytes.get(at).copied().unwrap_or(0)
+}
+
+/// The number that the two bytes from `at` on are, with the most significant first; 0 where there
+/// are fewer.
+fn u16_at(bytes: &[u8], at: usize) -> usize {
+    match behind(bytes, at).first_chunk::<2>() {
+        Some(number) => usize::from(u16::from_be_bytes(*number)),
+        None => 0,
     }
-    value
+}
+
+/// The same of four bytes.
+fn u32_at(bytes: &[u8], at: usize) -> usize {
+    match behind(bytes, at).first_chunk::<4>() {
+        Some(number) => u32::from_be_bytes(*number) as usize,
+        None => 0,
+    }
 }
 
 /// Where the part with this number begins, from 0, of parts of this length behind `front` bytes.
@@ -37,9 +50,9 @@ impl Head {
     /// The numbers of the head of a file.
     fn read(bytes: &[u8]) -> Head {
         Head {
-            signs: number(bytes, 4, 4),
-            cells: number(bytes, 8, 4),
-            records: number(bytes, 12, 4),
+            signs: u32_at(bytes, 4),
+            cells: u32_at(bytes, 8),
+            records: u32_at(bytes, 12),
         }
     }
 
@@ -56,9 +69,9 @@ impl Head {
     /// What is wrong with a cell, if something is.
     fn cell_breach(&self, bytes: &[u8], cell: usize) -> Option<&'static str> {
         let at = start_of(HEAD_LEN, CELL_LEN, cell);
-        let sign = number(bytes, at, 2);
-        let child = number(bytes, at.saturating_add(2), 4);
-        let head = number(bytes, at.saturating_add(6), 4);
+        let sign = u16_at(bytes, at);
+        let child = u32_at(bytes, at.saturating_add(2));
+        let head = u32_at(bytes, at.saturating_add(6));
         if cell <= self.signs && sign != cell {
             Some(
                 "$0 is no packed table: its cell $1 stands at the root, and its sign is not its own number",
@@ -79,12 +92,12 @@ impl Head {
     /// What is wrong with a record, if something is. Records are counted from 0 here.
     fn record_breach(&self, bytes: &[u8], record: usize) -> Option<&'static str> {
         let at = start_of(self.cells_len(), RECORD_LEN, record);
-        let value = number(bytes, at, 1);
-        if value == 0 || value > usize::from(LEVEL_MAX) {
+        let (value, dot) = (byte_at(bytes, at), byte_at(bytes, at.saturating_add(1)));
+        if value == 0 || value > LEVEL_MAX {
             Some("$0 is no packed table: its record $1 has a value that is not 1 to $2")
-        } else if number(bytes, at.saturating_add(1), 1) > PATTERN_SIGNS_MAX {
+        } else if usize::from(dot) > PATTERN_SIGNS_MAX {
             Some("$0 is no packed table: its record $1 has a dot above $3")
-        } else if number(bytes, at.saturating_add(2), 4) > record {
+        } else if u32_at(bytes, at.saturating_add(2)) > record {
             Some("$0 is no packed table: its record $1 leads to itself or a later one")
         } else {
             None

@@ -8,7 +8,7 @@ use Rattle.pg_select.specs.Sums.{totals}
 use Rattle.pg_table.specs.Lookups.{table_entry, table_value, table_totals}
 
 -- the bytes give each string at each dot the value of the patterns
-abbrev pub HasEntries : List ℕ → List ((List ℕ × ℕ) × ℕ) → Type 0
+abbrev pub HasEntries : List ℕ → Patterns → Type 0
 HasEntries b P = (q : List ℕ) (d : ℕ) → table_entry b q d ≡ value_of P (q, d)
 
 -- bytes that do so give each position of each word the value of the patterns

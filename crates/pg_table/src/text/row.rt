@@ -1,5 +1,5 @@
 //! The row of cells of a table.
-ghost use Rattle.std.specs.Prelude.{◌≡◌, ℕ, ◌+◌, ◌<◌, ◌≤◌, ◌^◌, List, length, All, IfOk, Some};
+ghost use Rattle.std.specs.Prelude.{◌≡◌, ℕ, ◌+◌, ◌≤◌, List, length, All, IfOk, Some};
 ghost use Rattle.std.specs.FinMap.{find};
 ghost use Rattle.std.specs.Cmp.Lexicographic.{slice_cmp};
 ghost use Rattle.std.specs.Ordering.{nat_cmp};
@@ -36,8 +36,8 @@ pub fn table_cells(
     requires known { SignsUpTo signs patterns.now }
     requires few { signs ≤ SIGNS_MAX }
     requires entered { IsEntered signs patterns.now packed.now.cells packed.now.outputs }
-    requires cells { top packed.now.cells.families + 1 < 2 ^ 32 }
-    requires records { length packed.now.outputs < 2 ^ 32 }
+    requires cells { top packed.now.cells.families + 1 ≤ u32.MAX }
+    requires records { length packed.now.outputs ≤ u32.MAX }
     ensures { IfOk result (λ row. row.items ≡ table_cells signs patterns.now) }
 {
     let mut row = vec![in alloc; UNUSED; packed.cells.top() + 1]?;
@@ -50,8 +50,8 @@ fn fill(signs: u16, patterns: &PatternSet, packed: &PackedTrie, row: &mut [Cell]
     requires known { SignsUpTo signs patterns.now }
     requires few { signs ≤ SIGNS_MAX }
     requires entered { IsEntered signs patterns.now packed.now.cells packed.now.outputs }
-    requires cells { top packed.now.cells.families + 1 < 2 ^ 32 }
-    requires records { length packed.now.outputs < 2 ^ 32 }
+    requires cells { top packed.now.cells.families + 1 ≤ u32.MAX }
+    requires records { length packed.now.outputs ≤ u32.MAX }
     requires row { IsRow packed.now.cells (head_in patterns.now) row.old }
     ensures { row.new ≡ table_cells signs patterns.now }
 {
@@ -65,9 +65,9 @@ fn fill_signs(signs: u16, cells: &Cells<u64>, row: &mut [Cell])
     requires held { AreValuedFamilies cells.now }
     requires signs { signs ≤ cells.now.signs }
     requires size { length row.old ≡ top cells.now.families + 1 }
-    requires cells { top cells.now.families + 1 < 2 ^ 32 }
+    requires cells { top cells.now.families + 1 ≤ u32.MAX }
     requires values { (q : List ℕ) (v : ℕ) → find (slice_cmp nat_cmp) q cells.now.values ≡ Some v
-        → v < 2 ^ 32 }
+        → v ≤ u32.MAX }
     ensures { (heads : List ℕ → ℕ) → HasHeads cells.now heads → IsRow cells.now heads row.old →
         FillsSigns cells.now heads signs row.new }
 {
@@ -81,8 +81,8 @@ fn fill_patterns(patterns: &PatternSet, packed: &PackedTrie, row: &mut [Cell])
     requires known { SignsUpTo packed.now.cells.signs patterns.now }
     requires entered { IsEntered packed.now.cells.signs patterns.now packed.now.cells
         packed.now.outputs }
-    requires cells { top packed.now.cells.families + 1 < 2 ^ 32 }
-    requires records { length packed.now.outputs < 2 ^ 32 }
+    requires cells { top packed.now.cells.families + 1 ≤ u32.MAX }
+    requires records { length packed.now.outputs ≤ u32.MAX }
     requires signs { FillsSigns packed.now.cells (head_in patterns.now) packed.now.cells.signs
         row.old }
     ensures { row.new ≡ table_cells packed.now.cells.signs patterns.now }
@@ -97,9 +97,9 @@ fn fill_string(cells: &Cells<u64>, signs: &[Sign], row: &mut [Cell])
     requires held { AreValuedFamilies cells.now }
     requires signs { All (λ s. (1 ≤ s) × (s ≤ cells.now.signs)) signs.now }
     requires size { length row.old ≡ top cells.now.families + 1 }
-    requires cells { top cells.now.families + 1 < 2 ^ 32 }
+    requires cells { top cells.now.families + 1 ≤ u32.MAX }
     requires values { (q : List ℕ) (v : ℕ) → find (slice_cmp nat_cmp) q cells.now.values ≡ Some v
-        → v < 2 ^ 32 }
+        → v ≤ u32.MAX }
     ensures { (heads : List ℕ → ℕ) → HasHeads cells.now heads → IsRow cells.now heads row.old →
         Fills cells.now heads signs.now (length signs.now) row.old row.new }
 {

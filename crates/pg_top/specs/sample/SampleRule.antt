@@ -1,7 +1,8 @@
 -- The dictionary of `sample`, as a text made from a number, and what the command prints.
-use Rattle.std.specs.Prelude.{ℕ, zero, suc, ◌+◌, ◌*◌, ◌/◌, ◌%◌, ◌^◌, ◌==◌, Bool, ◌||◌, nat_eq, if◌then◌else◌, List, [], ◌∷◌, ◌++◌, filter, flat_map, slice_index, codes}
+use Rattle.std.specs.Prelude.{ℕ, zero, suc, ◌+◌, ◌==◌, Bool, ◌||◌, nat_eq, if◌then◌else◌, List, [], ◌∷◌, ◌++◌, filter, flat_map, slice_index, codes}
 use Rattle.std.specs.List.{starts_with}
 use Rattle.std.specs.Result.{result_unwrap_or}
+use Rattle.pg_draws.specs.DrawnNumbers.{next_state, draw}
 use Rattle.pg_types.specs.Lines.{lines}
 use Rattle.pg_types.specs.Parameters.{Parameters, items, parameters_of}
 use Rattle.pg_translate.specs.Tables.{default_alphabet}
@@ -12,14 +13,6 @@ use Rattle.pg_steps.specs.Outcomes.{Ends}
 use Rattle.pg_steps.specs.Rules.{CommandRule, usual_rule}
 use Rattle.pg_steps.specs.declared.answers.Status.TheVariants.{Done, Memory}
 use Rattle.pg_top.specs.declared.selection.Inputs.{Inputs}
-
--- the state after a draw
-abbrev pub next_state : ℕ → ℕ
-next_state x = (1103515245 * x + 12345) % 2 ^ 31
-
--- the number below m that is drawn with this state
-abbrev pub draw : ℕ → ℕ → ℕ
-draw m x = x / 65536 % m
 
 -- a text that was made, and the state behind it
 pub record MadeText : Type 0 where

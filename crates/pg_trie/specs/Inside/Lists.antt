@@ -3,6 +3,7 @@
 use Rattle.std.specs.Prelude.{ℕ, ◌+◌, ◌*◌, ◌≤◌, max, nat_lt, nat_eq, if◌then◌else◌, List, [], ◌∷◌, ◌++◌, length, Option, None, Some}
 use Rattle.std.specs.List.{flat_map, range_with_len}
 use Rattle.std.specs.FinMap.Entries.{find}
+use Rattle.pg_patterns.specs.Values.{Patterns}
 use Rattle.pg_patterns.specs.DottedSigns.{dotted_cmp}
 use Rattle.pg_trie.specs.declared.hopeless.TheConstants.{HOPELESS}
 pub use Rattle.pg_cells.specs.Inside.linked.Walks.{IsAt}
@@ -19,14 +20,12 @@ hopeless_part None d = []
 hopeless_part (Some _) d = (HOPELESS, d) ∷ []
 
 -- what the maps say of the string q at the dot d
-abbrev pub outputs_at_dot : List ((List ℕ × ℕ) × ℕ)
-    → List ((List ℕ × ℕ) × Unit {0}) → List ℕ → ℕ → List (ℕ × ℕ)
+abbrev pub outputs_at_dot : Patterns → List ((List ℕ × ℕ) × Unit {0}) → List ℕ → ℕ → List (ℕ × ℕ)
 outputs_at_dot P H q d = value_part (find dotted_cmp (q, d) P) d
     ++ hopeless_part (find dotted_cmp (q, d) H) d
 
 -- the list of the string q by the maps P of values and H of hopeless entries
-unfoldable pub outputs_at : List ((List ℕ × ℕ) × ℕ)
-    → List ((List ℕ × ℕ) × Unit {0}) → List ℕ → List (ℕ × ℕ)
+unfoldable pub outputs_at : Patterns → List ((List ℕ × ℕ) × Unit {0}) → List ℕ → List (ℕ × ℕ)
 outputs_at P H q = flat_map (outputs_at_dot P H q) (range_with_len 0 (length q + 1))
 
 -- where a value and its dot stand in a list: by the dot, a value before the hopeless entry

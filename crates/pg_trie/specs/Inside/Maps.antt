@@ -5,6 +5,7 @@ use Rattle.std.specs.List.{flat_map, list_all}
 use Rattle.std.specs.FinMap.Entries.{is_sorted}
 use Rattle.pg_types.specs.declared.limits.TheConstants.{PATTERN_SIGNS_MAX, SIGNS_MAX}
 use Rattle.pg_types.specs.Placement.{Families}
+use Rattle.pg_patterns.specs.Values.{Patterns}
 use Rattle.pg_patterns.specs.DottedSigns.{dotted_cmp}
 use Rattle.pg_patterns.specs.Inside.PatternMaps.{IsPatternMap, SignsUpTo}
 use Rattle.pg_outputs.specs.declared.records.Record.{Record}
@@ -16,7 +17,7 @@ use Rattle.pg_trie.specs.declared.hopeless.TheConstants.{HOPELESS}
 pub record Maps : Type 0 where
   pub signs : ℕ
   pub families : Families
-  pub patterns : List ((List ℕ × ℕ) × ℕ)
+  pub patterns : Patterns
   pub hopeless : List ((List ℕ × ℕ) × Unit {0})
   pub records : List Record
 

@@ -21,7 +21,7 @@ pub record IsGroup (P : Patterns) (q : List ℕ) (at end : ℕ) : Type 0 where
   pub ends : (e : (List ℕ × ℕ) × ℕ) → slice_get P end ≡ Some e → e.0.0 ≢ q
 
 -- the dots with their values from `at` to `end`
-abbrev pub pairs : List ((List ℕ × ℕ) × ℕ) → ℕ → ℕ → List (ℕ × ℕ)
+abbrev pub pairs : Patterns → ℕ → ℕ → List (ℕ × ℕ)
 pairs P at end = map (λ e. (e.0.1, e.1)) (take (end - at) (drop at P))
 
 -- the strings of the patterns have their cells
@@ -32,7 +32,7 @@ pub record IsPacked (n : ℕ) (P : Patterns) (h : ValuedFamilies ℕ) : Type 0 w
   pub entered : (q : List ℕ) → outputs_of P q ≢ [] → (c : ℕ) × (cell_of h.families q ≡ Some c)
 
 -- a string has one sign, or begins the string of one of the first patterns
-abbrev pub IsReached : List ((List ℕ × ℕ) × ℕ) → ℕ → List ℕ → Type 0
+abbrev pub IsReached : Patterns → ℕ → List ℕ → Type 0
 IsReached P n q = (length q ≤ 1) ⊎
     ((j : ℕ) × (k : ℕ) × (e : (List ℕ × ℕ) × ℕ) × (j < n)
     × (slice_get P j ≡ Some e) × (q ≡ take k e.0.0))

@@ -4,6 +4,6 @@ use Rattle.pg_top.proofs.sample.words.push_further.Given as goal
 
 abbrev pub invariant-syllables : goal.invariant-syllables
 invariant-syllables l = record {
-  text : l.text.items ++ (further_syllables (l.count - l.i) l.draws.state).text ≡ l.fn.text.items ++ (further_syllables l.count l.fn.draws.state).text;
-  state : (further_syllables (l.count - l.i) l.draws.state).state ≡ (further_syllables l.count l.fn.draws.state).state;
+  text : l.text.items ++ (further_syllables (l.count - l.i) l.draws).text ≡ l.fn.text.items ++ (further_syllables l.count l.fn.draws).text;
+  state : (further_syllables (l.count - l.i) l.draws).state ≡ (further_syllables l.count l.fn.draws).state;
 }

@@ -7,5 +7,5 @@ words-preserved c =
     let l = c.words in
     record {
       text = rw (c.in_ok-push.ensures.items, c.in_ok-push_word.ensures.text, c.in_ok-push_word.ensures.state)
-          (word_more c.args.count l.i l.draws.state l.text.items (sample_text c.args.seed c.args.count) c.words-test.true l.invariant.text);
+          (word_more c.args.count l.i l.draws l.text.items (sample_text c.args.seed c.args.count) c.words-test.true l.invariant.text);
     }

@@ -1,0 +1,6 @@
+//! Numbers that are drawn from a seed.
+#![tactic(auto)]
+
+mod draws;
+
+pub use draws::Draws;
