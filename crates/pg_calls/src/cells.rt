@@ -14,7 +14,7 @@ type Step = (&'static [Sign], Sign, Option<usize>, usize, usize);
 fn take_steps(rt: &impl Abort, cells: &mut Cells<u32>, steps: &[Step]) -> Result<(), Fail> {
     for (string, sign, cell, taken, top) in steps {
         let found = change_at(cells, string, *sign, 1)?;
-        assert_eq!(rt; (found, cells.taken(), cells.top()), (*cell, *taken, *top));
+        assert!(rt; found == *cell && cells.taken() == *taken && cells.top() == *top);
     }
     Ok(())
 }
@@ -48,9 +48,9 @@ const STEPS_BACK: &[Step] = &[
 
 /// Takes the steps and goes back. Once a family has moved, the cell of its first sign is another.
 fn step_and_back(rt: &impl Abort, cells: &mut Cells<u32>) -> Result<(), Fail> {
-    assert_eq!(rt; (cells.taken(), cells.top()), (4, 4));
+    assert!(rt; cells.taken() == 4 && cells.top() == 4);
     take_steps(rt, cells, STEPS)?;
-    assert_eq!(rt; cell_of(cells, &[2, 3]), Some(9));
+    assert!(rt; cell_of(cells, &[2, 3]) == Some(9));
     take_steps(rt, cells, STEPS_BACK)
 }
 

@@ -65,9 +65,31 @@ fn compare(
 {
     let mut at = Cursor::start();
     for (window, sums) in windows {
-        assert_eq!(rt; counts.next(&mut at), *sums);
-        assert_eq!(rt; at.signs(), &window[..usize::from(len)]);
+        let is_next = counts.next(&mut at) == *sums;
+        assert!(rt; is_next && at.signs() == &window[..usize::from(len)]);
     }
+}
+
+/// Counts windows in passes of these lengths in turn, and compares after each what is counted.
+fn count_passes(
+    rt: &impl Abort,
+    counts: &mut CountTrie,
+    signs: u16,
+    lens: &[u8],
+    seen: &[([Sign; 4], bool, Weight)],
+    windows: &[([Sign; 4], Option<(u64, u64)>)],
+) -> Result<(), Fail>
+    requires signs { counts.old.signs ≡ signs }
+    requires few { length seen.now < 100 }
+{
+    for len in lens {
+        if *len < 1 || 4 < *len {
+            return Err(Fail::new("a length of 1 to 4"));
+        }
+        count(counts, signs, *len, seen)?;
+        compare(rt, counts, *len, windows);
+    }
+    Ok(())
 }
 
 /// Windows of a pass.
@@ -87,11 +109,7 @@ const WINDOWS: &[([Sign; 4], Option<(u64, u64)>)] = &[
 #[test]
 fn counts_in_order_of_signs(rt: HostRuntime) -> Result<(), Fail> {
     let mut counts = CountTrie::new(rt.alloc(), 4)?;
-    for len in [2, 4, 3, 2] {
-        count(&mut counts, 4, len, SEEN)?;
-        compare(&rt, &counts, len, WINDOWS);
-    }
-    Ok(())
+    count_passes(&rt, &mut counts, 4, &[2, 4, 3, 2], SEEN, WINDOWS)
 }
 
 /// Windows of the last letters of a large table.
@@ -113,9 +131,5 @@ const WINDOWS_LAST: &[([Sign; 4], Option<(u64, u64)>)] = &[
 #[test]
 fn counts_of_2000_letters(rt: HostRuntime) -> Result<(), Fail> {
     let mut counts = CountTrie::new(rt.alloc(), 2001)?;
-    for len in [2, 4, 2] {
-        count(&mut counts, 2001, len, SEEN_LAST)?;
-        compare(&rt, &counts, len, WINDOWS_LAST);
-    }
-    Ok(())
+    count_passes(&rt, &mut counts, 2001, &[2, 4, 2], SEEN_LAST, WINDOWS_LAST)
 }

@@ -2,6 +2,7 @@
 use pg_dict::Dictionary;
 use pg_translate::Table;
 use std::alloc::{AllocError, Global};
+use std::process::Abort;
 use std::test::Fail;
 
 /// A line for each word: its weight, its hyphens and the weights of its positions. Then the signs
@@ -36,7 +37,7 @@ fn words_of(alloc: Global, file: &[u8]) -> Result<String, Fail> {
 }
 
 /// Files, and what they give.
-const FILES: [(&[u8], &str); 3] = [
+const FILES: &[(&[u8], &str)] = &[
     (
         b"3ab-c\nab-a\n1abc\n",
         "3 [false, false, false, true, false] [3, 3, 3, 3, 3]\n\
@@ -56,10 +57,17 @@ const FILES: [(&[u8], &str); 3] = [
     ),
 ];
 
+/// Compares what a file gives with these lines.
+fn compare(rt: &impl Abort, alloc: Global, file: &[u8], words: &str) -> Result<(), Fail> {
+    let found = words_of(alloc, file)?;
+    assert_eq!(rt; found.as_str(), words);
+    Ok(())
+}
+
 #[test]
 fn words_as_they_were_read(rt: HostRuntime) -> Result<(), Fail> {
     for (file, words) in FILES {
-        assert_eq!(rt; words_of(rt.alloc(), file)?.as_str(), words);
+        compare(&rt, rt.alloc(), file, words)?;
     }
     Ok(())
 }

@@ -5,6 +5,7 @@ use pg_patterns::PatternSet;
 use pg_trie::{HOPELESS, PatternTrie};
 use pg_types::Sign;
 use std::alloc::{AllocError, Global};
+use std::process::Abort;
 use std::test::Fail;
 
 /// A string of two signs, a dot of it, and a value or `HOPELESS`.
@@ -63,11 +64,29 @@ fn push_told(
 }
 
 /// The same as one text.
-fn told(alloc: Global, trie: &PatternTrie) -> Result<String, AllocError> {
+fn told(alloc: Global, trie: &PatternTrie) -> Result<String, Fail> {
     let mut text = String::new(alloc);
     let patterns = trie.copy(alloc)?;
     push_told(&mut text, trie, &patterns)?;
     Ok(text)
+}
+
+/// What is told of the trie of these entries.
+fn told_of(alloc: Global, entries: &[TrieEntry]) -> Result<String, Fail> {
+    let trie = deleted(alloc, entries)?;
+    told(alloc, &trie)
+}
+
+/// Compares what is told of the trie of these entries with a text.
+fn compare(
+    rt: &impl Abort,
+    alloc: Global,
+    entries: &[TrieEntry],
+    wanted: &str,
+) -> Result<(), Fail> {
+    let found = told_of(alloc, entries)?;
+    assert_eq!(rt; found.as_str(), wanted);
+    Ok(())
 }
 
 /// Entries, and what is told of the trie without the hopeless ones: the cells, the greatest of them
@@ -87,8 +106,7 @@ const ROWS: &[(&[TrieEntry], &str)] = &[
 #[test]
 fn tries_without_hopeless_entries(rt: HostRuntime) -> Result<(), Fail> {
     for (entries, wanted) in ROWS {
-        let trie = deleted(rt.alloc(), entries)?;
-        assert_eq!(rt; told(rt.alloc(), &trie)?.as_str(), *wanted);
+        compare(&rt, rt.alloc(), entries, wanted)?;
     }
     Ok(())
 }

@@ -38,19 +38,24 @@ const PROGRAMS: &[(&[&[u8]], u8)] = &[
     (&[b"sample", b"1", b"\xFF"], 6),
 ];
 
+/// Whether the program ends with this status where these are its arguments.
+fn ends_so(rt: &HostRuntime, words: &[&[u8]], status: u8) -> io::Result<bool> {
+    let system = ScriptedSystem {
+        system: rt,
+        words,
+        calls: &[],
+        broken: Broken::Nothing,
+    };
+    let nowhere = fs::create(rt, "/dev/null")?;
+    Ok(run_words(&system, io::sink(), nowhere) == ExitCode::from(status))
+}
+
 #[test]
 fn the_status_of_the_program(rt: HostRuntime) -> Result<(), Fail> {
     fs::write(&rt, "A", b"1 1 1 1 1 1 1\n")?;
     fs::write(&rt, "O", b"a1b\n")?;
     for (words, status) in PROGRAMS {
-        let system = ScriptedSystem {
-            system: &rt,
-            words,
-            calls: &[],
-            broken: Broken::Nothing,
-        };
-        let nowhere = fs::create(&rt, "/dev/null")?;
-        assert!(rt; run_words(&system, io::sink(), nowhere) == ExitCode::from(*status));
+        assert!(rt; ends_so(&rt, words, *status)?);
     }
     Ok(())
 }

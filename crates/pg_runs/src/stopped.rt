@@ -161,27 +161,42 @@ fn survives_all(
 /// whichever stops or fails.
 fn goes_well(
     alloc: Global,
-    line: &str,
+    words: &[String],
     wanted: Status,
     before: &ToldDisk,
 ) -> Result<bool, AllocError> {
-    let words = words(alloc, line)?;
-    let (status, files) = run_over(alloc, &words, 0, false)?;
+    let (status, files) = run_over(alloc, words, 0, false)?;
     let after = files.system();
-    Ok(
-        status == wanted
-            && is_tidy(after)
-            && is_old_or_new(after, before, after)
-            && survives_all(alloc, &words, before, after)?,
-    )
+    if status != wanted || !is_tidy(after) || !is_old_or_new(after, before, after) {
+        return Ok(false);
+    }
+    survives_all(alloc, words, before, after)
+}
+
+/// Does a call, and asserts that it goes well.
+fn try_call(
+    rt: &impl Abort,
+    alloc: Global,
+    line: &str,
+    wanted: Status,
+    before: &ToldDisk,
+) -> Result<(), AllocError> {
+    let words = words(alloc, line)?;
+    assert!(rt; goes_well(alloc, &words, wanted, before)?, "{line}");
+    Ok(())
+}
+
+/// Does all calls.
+fn try_calls(rt: &impl Abort, alloc: Global, before: &ToldDisk) -> Result<(), AllocError> {
+    for (line, answer) in CALLS {
+        try_call(rt, alloc, line, *answer, before)?;
+    }
+    Ok(())
 }
 
 #[test]
 fn generate_and_audit(rt: HostRuntime) -> Result<(), Fail> {
-    let alloc = rt.alloc();
-    let before = disk(alloc, 0, false)?;
-    for (line, answer) in CALLS {
-        assert!(rt; goes_well(alloc, line, *answer, &before)?, "{line}");
-    }
+    let before = disk(rt.alloc(), 0, false)?;
+    try_calls(&rt, rt.alloc(), &before)?;
     Ok(())
 }
