@@ -16,7 +16,7 @@ use pg_types::{FAR_BELOW, SIGNS_MAX, Sign};
 
 /// Where no family is placed from base 1 on, each search begins this far below the greatest used
 /// cell. The search is short then, and most free cells are used all the same.
-pub const NEAR_BELOW: usize = 32;
+pub const NEAR_BELOW: usize = 16;
 
 // How far below the top the search for a base begins.
 fn far_from_top(few: usize, signs: u16) -> usize

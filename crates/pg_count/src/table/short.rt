@@ -9,9 +9,9 @@ use pg_types::SIGNS_MAX;
 /// largest table of letters, where a sign may be 0 to [`SIGNS_MAX`].
 pub const ENTRIES_MAX: usize = (SIGNS_MAX as usize + 1) * (SIGNS_MAX as usize + 1);
 
-/// Windows of three signs are counted in a table where there are at most so many signs. It has
-/// 64,000 entries then, which stay near the processor.
-const SIGNS_OF_THREE: u16 = 39;
+/// Windows of three signs are counted in a table where there are at most so many signs. It has at
+/// most 262,144 entries then, 1 MB, which stay near the processor.
+const SIGNS_OF_THREE: u16 = 63;
 
 /// Whether windows of so many signs are counted in a table: those of one and of two signs are, and
 /// those of three where the table of letters is small.

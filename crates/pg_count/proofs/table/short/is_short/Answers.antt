@@ -10,6 +10,6 @@ returns-then-len-le2 c _ =
 
 pub returns-then-len-eq3 : goal.returns-then-len-eq3
 returns-then-len-eq3 c small =
-    let le = leb-true c.args.signs 39 small in
-    let few = fewer_strings (c.args.signs + 1) 40 c.args.len 3 (omega (arith, le)) (omega arith) (omega (arith, c.if-len-eq3.true)) in
+    let le = leb-true c.args.signs 63 small in
+    let few = fewer_strings (c.args.signs + 1) 64 c.args.len 3 (omega (arith, le)) (omega arith) (omega (arith, c.if-len-eq3.true)) in
     omega (arith, few)
