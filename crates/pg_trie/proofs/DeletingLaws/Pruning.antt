@@ -1,6 +1,6 @@
 -- Strings that lose their cells, one by one.
-use Rattle.std.proofs.Common.{◌≡◌, ◌≢◌, ℕ, T, ◌+◌, ◌<◌, ◌≤◌, ◌⊎◌, Bool, true, false, cond, nat_eq, ◌-◌, List, [], ◌∷◌, ◌++◌, length, Option, None, Some, is_some, inl, inr, refl, sym, ◌∙◌, ap, subst, arith, append_assoc, length-append}
-use Rattle.std.proofs.lemmas.Bool.{cases_lt, cases_eq, cases_Bool, eq-eqb, ne_eqb}
+use Rattle.std.proofs.Common.{◌≡◌, ◌≢◌, ℕ, T, ◌+◌, ◌<◌, ◌≤◌, ◌⊎◌, Bool, true, false, cond, List, [], ◌∷◌, ◌++◌, length, Option, None, Some, is_some, inl, inr, refl, sym, ◌∙◌, ap, subst, arith, append_assoc, length-append}
+use Rattle.std.proofs.lemmas.Bool.{cases_lt, cases_eq, cases_Bool}
 use Rattle.std.proofs.lemmas.List.{append-nil, length_push, same_from_push}
 use Rattle.std.specs.FinMap.Entries.{find, is_sorted}
 use Rattle.pg_types.specs.Placement.{cell_of}
@@ -371,13 +371,3 @@ pruned keep old new s held is_keep to late = record {
     by : (q : List ℕ) (cell : ℕ) → cell_of old.families q ≡ Some cell → (b : Bool) → keep q ≡ b → is_some (find order q new.values) ≡ keep q
     by q cell at true is_kept = let v = held.valued q cell at in ap is_some (stays q is_kept ∙ v.1) ∙ sym is_kept
     by q cell at false not_kept = ap is_some (gone q not_kept) ∙ sym not_kept
-
--- the measure of a walk along signs falls
-pub sign_falls : (s y : ℕ) → s ≢ 0 → s < 65536 → (0 < y → s < y) → cond (nat_eq y 0) 0 (65536 - y) < cond (nat_eq s 0) 0 (65536 - s)
-sign_falls s y some small later = elim (cases_eq y 0) [
-  | inl z ↦ less (ap (λ b. cond b 0 (65536 - y)) (eq-eqb y 0 z)) (omega arith)
-  | inr n ↦ less (ap (λ b. cond b 0 (65536 - y)) (ne_eqb y 0 n)) (let up = later (omega arith) in omega arith)
-]
-  where
-    less : {a b : ℕ} → a ≡ b → b < 65536 - s → a < cond (nat_eq s 0) 0 (65536 - s)
-    less e lt = let same = ap (λ b. cond b 0 (65536 - s)) (ne_eqb s 0 some) in omega (arith, e, same, lt)

@@ -3,7 +3,7 @@ use Rattle.pg_types.specs.Placement.{cell_of}
 use Rattle.pg_cells.proofs.LinkLaws.{goes_cell}
 use Rattle.pg_trie.specs.Inside.Strings.{PutsBelow}
 use Rattle.pg_trie.proofs.TrieLaws.Listing.{bound_is, puts_first, puts_next, puts_one, is_string}
-use Rattle.pg_trie.proofs.DeletingLaws.Pruning.{sign_falls}
+use Rattle.pg_cells.proofs.Walking.{sign_falls}
 use Rattle.pg_trie.proofs.copy.strings.push_family.Goals as goal
 
 pub loop-s-init : goal.loop-s-init

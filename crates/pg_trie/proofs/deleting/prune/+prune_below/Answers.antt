@@ -3,7 +3,8 @@ use Rattle.std.proofs.lemmas.List.{length_push}
 use Rattle.pg_types.specs.Placement.{cell_of}
 use Rattle.pg_cells.specs.Inside.linked.Members.{IsBefore}
 use Rattle.pg_cells.proofs.LinkLaws.{goes_cell}
-use Rattle.pg_trie.proofs.DeletingLaws.Pruning.{not_below, above_longer, to_start, to_step, next_goes, before_first, before_stays, next_before, sign_falls}
+use Rattle.pg_cells.proofs.Walking.{sign_falls}
+use Rattle.pg_trie.proofs.DeletingLaws.Pruning.{not_below, above_longer, to_start, to_step, next_goes, before_first, before_stays, next_before}
 use Rattle.pg_trie.proofs.deleting.prune.+prune_below.Goals as goal
 
 pub loop-s-init : goal.loop-s-init
