@@ -5,7 +5,7 @@ use crate::pieces::push_text;
 use crate::table::{Line, Row, Table};
 use crate::word::Word;
 use pg_dict::Dictionary;
-use pg_explain::{Before, Deed, FalseLine, Fault, Letters, MEMORY, Refused, Wrong, explain};
+use pg_explain::{Before, ComparedLine, Deed, Fault, Letters, MEMORY, RefusalCase, Wrong, explain};
 use pg_patterns::PatternSet;
 use pg_translate::Table as LetterTable;
 use pg_types::{Kind, ReadingError, Refusal, read_params};
@@ -203,7 +203,7 @@ impl<'a> Asked<'a> {
 
     /// The explanation of a false line.
     fn said_false(&self, number: &str) -> io::Result<Vec<u8>> {
-        self.explained(&Wrong::False(FalseLine {
+        self.explained(&Wrong::False(ComparedLine {
             name: "o.pat",
             line: number.parse().unwrap_or(0),
             found: self.content(Word::Found),
@@ -255,7 +255,7 @@ impl<'a> Asked<'a> {
             }),
             None => None,
         };
-        self.explained(&Wrong::Refused(Refused {
+        self.explained(&Wrong::Refused(RefusalCase {
             name,
             bytes,
             refusal,

@@ -61,7 +61,7 @@ module _ {V : Type 0} (h mid new : ValuedFamilies (Member V)) (links : AreLinks 
     none_further : (z : ℕ) → goes_on mid.values (p ++ s ∷ []) z ≡ false
     none_further z =
         goes_by mid.values h.values (p ++ s ∷ []) z (put_there ((p ++ s ∷ []) ++ z ∷ []) (longer_differs p s z))
-        ∙ goes_has h links.held (p ++ s ∷ []) z ∙ ap is_some (links.held.closed p s (z ∷ []) lacks)
+        ∙ goes_has h links.held (p ++ s ∷ []) z ∙ ap is_some (links.held.none_longer p s (z ∷ []) lacks)
 
     add_own : (m : Member V) → find order (p ++ s ∷ []) mid.values ≡ Some m → (IsNextSign mid.values p s m.next) × IsNextSign mid.values (p ++ s ∷ []) 0 m.first
     add_own m e =

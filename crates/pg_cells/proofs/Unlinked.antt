@@ -118,7 +118,7 @@ module _ {V : Type 0} where
     alone = is.alone;
     based = is.based;
     filled = is.filled;
-    closed = is.closed;
+    none_longer = is.none_longer;
     bases = is.bases;
     members = is.members;
   }

@@ -49,8 +49,8 @@ module _ {V : Type 0} (n : ℕ) (r : Row V) (t : Trie V) (trie : IsTrie n r t) (
       swap (inl a) = inr a
       swap (inr b) = inl b
 
-  closed : (p : List ℕ) (x : ℕ) (more : List ℕ) → cell_of t.families (p ++ x ∷ []) ≡ None → cell_of t.families ((p ++ x ∷ []) ++ more) ≡ None
-  closed p x more none = elim (last_of more) [
+  none_longer : (p : List ℕ) (x : ℕ) (more : List ℕ) → cell_of t.families (p ++ x ∷ []) ≡ None → cell_of t.families ((p ++ x ∷ []) ++ more) ≡ None
+  none_longer p x more none = elim (last_of more) [
     | inl e ↦ ap (cell_of t.families) (ap (λ l. (p ++ x ∷ []) ++ l) e ∙ append-nil (p ++ x ∷ [])) ∙ none
     | inr h ↦ by h (cell_of t.families ((p ++ x ∷ []) ++ more)) refl
   ]
@@ -106,7 +106,7 @@ module _ {V : Type 0} (n : ℕ) (r : Row V) (t : Trie V) (trie : IsTrie n r t) (
         let f = base_parts t.families p base e in
         let y = first_sign f.0 f.0.signs refl (trie.layout.filled p f.0 f.1) in
         (y.0, f.0.base + y.0, parts_cell t.families p y.0 f.0 f.1 y.1);
-    closed = closed;
+    none_longer = none_longer;
     bases = bases;
     members = members;
   }

@@ -79,7 +79,7 @@ module _ {V : Type 0} where
       by None is = is
       by (Some v) is =
           let cell = held.celled ((p ++ x ∷ []) ++ more) v is in
-          let none : None ≡ Some cell.0 = sym (held.closed p x more none) ∙ cell.1 in
+          let none : None ≡ Some cell.0 = sym (held.none_longer p x more none) ∙ cell.1 in
           absurd (let no : ⊥ = cc in no)
 
   -- where there is no base, no string goes on

@@ -32,11 +32,11 @@ impl Model for CellCounts {
     ghost Value = { Counting };
 
     ghost use Rattle.pg_count.specs.Inside.Counting.{counting_of};
-    ghost use Rattle.pg_count.specs.Inside.cells.Leaves.{AreCounting};
+    ghost use Rattle.pg_count.specs.Inside.cells.Leaves.{AreCellCounts};
 
     ghost view = { λ t. counting_of t.cells t.windows.items t.windows.len };
 
-    ghost invariant = { λ t. AreCounting t.cells t.windows.items t.windows.len };
+    ghost invariant = { λ t. AreCellCounts t.cells t.windows.items t.windows.len };
 }
 
 impl CellCounts {

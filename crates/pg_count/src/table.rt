@@ -2,7 +2,7 @@
 //! what is counted.
 pub mod above;
 pub mod index;
+pub mod numbers;
 pub mod room;
 pub mod short;
 pub mod table_counts;
-pub mod told;

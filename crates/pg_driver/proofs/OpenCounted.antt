@@ -21,7 +21,7 @@ use Rattle.pg_select.specs.Windows.{Hopeless, window, fits}
 use Rattle.pg_select.proofs.LawsTally.{counted_as}
 use Rattle.pg_driver.specs.declared.pass_windows.WordPosition.{WordPosition}
 use Rattle.pg_driver.specs.Inside.counting.OpenPositions.{counted_in, counted_of}
-use Rattle.pg_driver.specs.Inside.counting.OpenSigns.{IsThere, IsTold, is_in_reach, open_word_positions, open_signs, position_from, sign_count, start_of}
+use Rattle.pg_driver.specs.Inside.counting.OpenSigns.{IsLevelAt, DotsTell, is_in_reach, open_word_positions, open_signs, position_from, sign_count, start_of}
 use Rattle.pg_driver.proofs.OpenSigns.{range_append, signs_cons}
 
 -- the same parts give the same whole
@@ -90,7 +90,7 @@ split f g false p xs = refl
 module _ (level len dot : ℕ) (m : Minima) (words : List Word) (P : Patterns) (H : Hopeless) (closed : ℕ → Bool) (dots : ℕ → ℕ → Bool)
     (is : (s : ℕ) → dots dot s ≡ closed s) (short : len ≤ LENGTH_MAX) (within : dot ≤ len) where
   -- a position
-  counted_one : (n p : ℕ) (w : Word) (c : ℕ → Bool) → slice_get words n ≡ Some w → IsTold level len m P H w p c
+  counted_one : (n p : ℕ) (w : Word) (c : ℕ → Bool) → slice_get words n ≡ Some w → DotsTell level len m P H w p c
       → cond (is_in_reach m w p) (counted_positions_at (pass_at level len dot) P H w p) []
       ≡ flat_map (counted_of (pass_at level len dot) words) (map (λ (q : ℕ). record { word = n; at = q }) (cond (not (c dot)) (p ∷ []) []))
   counted_one n p w c at told = elim (cases_Bool (is_in_reach m w p)) [
@@ -115,7 +115,7 @@ module _ (level len dot : ℕ) (m : Minima) (words : List Word) (P : Patterns) (
           ∙ sym (append-nil (counted_of (pass_at level len dot) words (record { word = n; at = p })))
 
   -- the positions of a word
-  counted_word : (n start : ℕ) (w : Word) (ws : List Word) → slice_get words n ≡ Some w → ((p : ℕ) → p < length w.signs → IsTold level len m P H w p (λ d. dots d (start + p)))
+  counted_word : (n start : ℕ) (w : Word) (ws : List Word) → slice_get words n ≡ Some w → ((p : ℕ) → p < length w.signs → DotsTell level len m P H w p (λ d. dots d (start + p)))
       → (a k : ℕ) → a + k ≤ length w.signs
       → flat_map (λ (p : ℕ). cond (is_in_reach m w p) (counted_positions_at (pass_at level len dot) P H w p) []) (range_with_len a k)
       ≡ flat_map (counted_of (pass_at level len dot) words) (map (position_from n (w ∷ ws)) (filter (λ s. not (closed (start + s))) (range_with_len a k)))
@@ -165,7 +165,7 @@ module _ (level len dot : ℕ) (m : Minima) (words : List Word) (P : Patterns) (
 
   -- the words from one on
   counted_words : (n start : ℕ) (ws : List Word) → ((k : ℕ) (w : Word) → slice_get ws k ≡ Some w → slice_get words (n + k) ≡ Some w)
-      → ((k p : ℕ) (w : Word) → slice_get ws k ≡ Some w → p < length w.signs → IsTold level len m P H w p (λ d. dots d (start + (start_of ws k + p))))
+      → ((k p : ℕ) (w : Word) → slice_get ws k ≡ Some w → p < length w.signs → DotsTell level len m P H w p (λ d. dots d (start + (start_of ws k + p))))
       → flat_map (counted_positions_in m (pass_at level len dot) P H) ws
       ≡ flat_map (counted_of (pass_at level len dot) words) (map (position_from n ws) (filter (λ s. not (closed (start + s))) (range_with_len 0 (sign_count ws))))
   counted_words n start [] place told = refl
@@ -177,10 +177,10 @@ module _ (level len dot : ℕ) (m : Minima) (words : List Word) (P : Patterns) (
       let here : slice_get words n ≡ Some w = ap (slice_get words) (let z : n ≡ n + 0 = omega arith in z) ∙ place 0 w refl in
       let behind : 0 + size ≡ size + 0 = omega arith in
       let rest = counted_words (n + 1) (start + size) ws (λ k v at. ap (slice_get words) (let z : n + 1 + k ≡ n + suc k = omega arith in z) ∙ place (suc k) v at)
-      (λ k p v at low. subst (λ (s : ℕ). IsTold level len m P H v p (λ d. dots d s)) (let z : start + (size + start_of ws k + p) ≡ start + size + (start_of ws k + p) = omega arith in z)
+      (λ k p v at low. subst (λ (s : ℕ). DotsTell level len m P H v p (λ d. dots d s)) (let z : start + (size + start_of ws k + p) ≡ start + size + (start_of ws k + p) = omega arith in z)
       (told (suc k) p v at low)) in
       (λ i. (reach_flat (counted_positions_at (pass_at level len dot) P H w) m.left m.right size
-      ∙ counted_word n start w ws here (λ p low. subst (λ (s : ℕ). IsTold level len m P H w p (λ d. dots d s)) (let z : start + (0 + p) ≡ start + p = omega arith in z) (told 0 p w refl low)) 0 size
+      ∙ counted_word n start w ws here (λ p low. subst (λ (s : ℕ). DotsTell level len m P H w p (λ d. dots d s)) (let z : start + (0 + p) ≡ start + p = omega arith in z) (told 0 p w refl low)) 0 size
       (omega arith)) i
       ++ (rest ∙ ap (flat_map f) (sym (shift n start w ws 0 (sign_count ws)) ∙ ap (λ b. map g (filter test (range_with_len b (sign_count ws)))) (sym behind))) i)
       ∙ sym (flat_map-append f (map g (filter test (range_with_len 0 size))) (map g (filter test (range_with_len (0 + size) (sign_count ws)))))
@@ -189,11 +189,11 @@ module _ (level len dot : ℕ) (m : Minima) (words : List Word) (P : Patterns) (
       ∙ ap (λ (xs : List ℕ). flat_map f (map g (filter test xs))) (sym (range_append 0 size (sign_count ws)) ∙ ap (range_with_len 0) (sym (signs_cons w ws)))
 
 -- what a pass counts
-pub counted_there : (level len dot : ℕ) (m : Minima) (words : List Word) (P : Patterns) (H : Hopeless) (dots : ℕ → ℕ → Bool) → len ≤ LENGTH_MAX → dot ≤ len → IsThere level len m words P H dots
+pub counted_there : (level len dot : ℕ) (m : Minima) (words : List Word) (P : Patterns) (H : Hopeless) (dots : ℕ → ℕ → Bool) → len ≤ LENGTH_MAX → dot ≤ len → IsLevelAt level len m words P H dots
     → counted_positions m words (pass_at level len dot) P H ≡ flat_map (counted_of (pass_at level len dot) words) (open_word_positions (dots dot) words)
 counted_there level len dot m words P H dots short within is =
     counted_words level len dot m words P H (dots dot) dots (λ s. refl) short within 0 0 words (λ k w at. ap (slice_get words) (zero_plus k) ∙ at)
-    (λ k p w at low. subst (λ (s : ℕ). IsTold level len m P H w p (λ d. dots d s)) (sym (zero_plus (start_of words k + p))) (is.known k p w at low))
+    (λ k p w at low. subst (λ (s : ℕ). DotsTell level len m P H w p (λ d. dots d s)) (sym (zero_plus (start_of words k + p))) (is.known k p w at low))
     ∙ (λ i. flat_map (counted_of (pass_at level len dot) words) (map (position_from 0 words) (filter (λ s. not (dots dot (zero_plus s i))) (range_with_len 0 (less_none (sign_count words) i)))))
   where
     zero_plus : (k : ℕ) → 0 + k ≡ k
@@ -256,7 +256,7 @@ few_words m closed start (w ∷ ws) out =
         both false rest = rest
 
 pub few_there : (level len dot : ℕ) (m : Minima) (words : List Word) (P : Patterns) (H : Hopeless) (dots : ℕ → ℕ → Bool) → len ≤ LENGTH_MAX → dot ≤ len
-    → positions_in m words ≤ sum_by letter_count words → IsThere level len m words P H dots
+    → positions_in m words ≤ sum_by letter_count words → IsLevelAt level len m words P H dots
     → length (open_signs (dots dot) 0 (sign_count words)) ≤ sum_by letter_count words
 few_there level len dot m words P H dots short within reached is =
     let few = few_words m (dots dot) 0 words (λ k p w at lies other. ap (dots dot) (zero_plus (start_of words k + p)) ∙ (is.known k p w at lies).outside other dot (omega arith)) in

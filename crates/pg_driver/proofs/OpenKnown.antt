@@ -24,7 +24,7 @@ use Rattle.pg_driver.specs.declared.pass_windows.WordPosition.{WordPosition}
 use Rattle.pg_driver.specs.Traces.{is_chosen, is_hopeless}
 use Rattle.pg_driver.specs.Inside.choices.Fates.{choice_of, chooses, gives_up}
 use Rattle.pg_driver.proofs.FateLaws.{chosen_is, hopeless_is}
-use Rattle.pg_driver.specs.Inside.counting.OpenSigns.{IsThere, IsTold, closed_at_sign, closed_by, closed_in, is_open_first, sign_count, start_of}
+use Rattle.pg_driver.specs.Inside.counting.OpenSigns.{IsLevelAt, DotsTell, closed_at_sign, closed_by, closed_in, is_open_first, sign_count, start_of}
 use Rattle.pg_driver.proofs.OpenLevels.{found_is}
 use Rattle.pg_driver.proofs.OpenSigns.{place_at, sign_within}
 
@@ -33,14 +33,14 @@ pub tells_same : (level len : ℕ) (P : Patterns) (H : Hopeless) (w : Word) (p :
 tells_same level len P H w p a b same tells d within = tells d within ∙ ap (λ c. counted_with level w p len d c) (same d within)
 
 told_same : (level len : ℕ) (m : Minima) (P : Patterns) (H : Hopeless) (w : Word) (p : ℕ) (a b : ℕ → Bool) → ((d : ℕ) → d ≤ LENGTH_MAX → a d ≡ b d)
-    → IsTold level len m P H w p a → IsTold level len m P H w p b
+    → DotsTell level len m P H w p a → DotsTell level len m P H w p b
 told_same level len m P H w p a b same is = record {
   inside = λ reach. tells_same level len P H w p a b same (is.inside reach);
   outside = λ reach d within. sym (same d within) ∙ is.outside reach d within;
 }
 
 pub there_same : (level len : ℕ) (m : Minima) (words : List Word) (P : Patterns) (H : Hopeless) (old new : ℕ → ℕ → Bool)
-    → ((d s : ℕ) → d ≤ LENGTH_MAX → s < sign_count words → new d s ≡ old d s) → IsThere level len m words P H old → IsThere level len m words P H new
+    → ((d s : ℕ) → d ≤ LENGTH_MAX → s < sign_count words → new d s ≡ old d s) → IsLevelAt level len m words P H old → IsLevelAt level len m words P H new
 there_same level len m words P H old new same is = record {
   short = is.short;
   upto = is.upto;
@@ -51,7 +51,7 @@ there_same level len m words P H old new same is = record {
 
 -- a level begins
 pub there_first : (level len : ℕ) (m : Minima) (words : List Word) (P : Patterns) (closed : ℕ → ℕ → Bool) → IsBelow level P
-    → ((d n p : ℕ) (w : Word) → slice_get words n ≡ Some w → p < length w.signs → closed d (start_of words n + p) ≡ not (is_open_first m level P w p)) → IsThere level len m words P [] closed
+    → ((d n p : ℕ) (w : Word) → slice_get words n ≡ Some w → p < length w.signs → closed d (start_of words n + p) ≡ not (is_open_first m level P w p)) → IsLevelAt level len m words P [] closed
 there_first level len m words P closed below is = record {
   short = covers_up_to_at_start level len P below;
   upto = up_to_at_start level P below;
@@ -72,7 +72,7 @@ there_first level len m words P closed below is = record {
         shut false o = refl
     by_status w p (Some good) is = tells_at_start level len P w p good below is
 
-    first : (w : Word) (p : ℕ) → IsTold level len m P [] w p (λ d. not (is_open_first m level P w p))
+    first : (w : Word) (p : ℕ) → DotsTell level len m P [] w p (λ d. not (is_open_first m level P w p))
     first w p = record {
       inside = λ reach. subst (λ (b : Bool). Tells level len P [] w p (λ d. not (b && is_some (counts_as level (status_at P w p))))) (sym reach)
           (by_status w p (counts_as level (status_at P w p)) refl);
@@ -82,7 +82,7 @@ there_first level len m words P closed below is = record {
 -- a level goes on to the next length
 pub there_longer : (level len : ℕ) (m : Minima) (words : List Word) (P : Patterns) (H : Hopeless) (old new : ℕ → ℕ → Bool)
     → ((d s : ℕ) → d ≤ LENGTH_MAX → s < sign_count words → new d s ≡ (old d s || (nat_le 1 d && old (d - 1) s)))
-    → IsThere level len m words P H old → IsThere level (len + 1) m words P H new
+    → IsLevelAt level len m words P H old → IsLevelAt level (len + 1) m words P H new
 there_longer level len m words P H old new on is = record {
   short = covers_up_to_longer level len P H is.short;
   upto = is.upto;
@@ -257,7 +257,7 @@ module _ (level : LevelParams) (m : Minima) (words : List Word) (pass : Pass) (P
 
   -- each position
   pub there_after : (old new : ℕ → ℕ → Bool) → ((d s : ℕ) → d ≤ LENGTH_MAX → s < sign_count words → new d s ≡ closed_at_sign level pass counts words old d s)
-      → IsThere pass.level pass.len m words P H old → IsThere pass.level pass.len m words (patterns_after_pass m words pass P H (λ c. is_chosen level c))
+      → IsLevelAt pass.level pass.len m words P H old → IsLevelAt pass.level pass.len m words (patterns_after_pass m words pass P H (λ c. is_chosen level c))
       (hopeless_after_pass m words pass P H (λ c. is_hopeless level c)) new
   there_after old new on is = record {
     short = covers_up_to_after m words pass P H chosen made_hopeless is.short;
@@ -274,8 +274,8 @@ module _ (level : LevelParams) (m : Minima) (words : List Word) (pass : Pass) (P
           ∙ ap (λ (o : Option Word). option_map_or (λ (u : Word). closed_in level pass counts u p (λ c. old c (start_of words n + p)) d) o (old d (start_of words n + p)))
           (ap (slice_get words) number ∙ at)
 
-      each : (n p : ℕ) (w : Word) → slice_get words n ≡ Some w → p < length w.signs → IsTold pass.level pass.len m P H w p (λ d. old d (start_of words n + p))
-          → IsTold pass.level pass.len m (patterns_after_pass m words pass P H (λ c. is_chosen level c)) (hopeless_after_pass m words pass P H (λ c. is_hopeless level c)) w p
+      each : (n p : ℕ) (w : Word) → slice_get words n ≡ Some w → p < length w.signs → DotsTell pass.level pass.len m P H w p (λ d. old d (start_of words n + p))
+          → DotsTell pass.level pass.len m (patterns_after_pass m words pass P H (λ c. is_chosen level c)) (hopeless_after_pass m words pass P H (λ c. is_hopeless level c)) w p
           (λ d. new d (start_of words n + p))
       each n p w at lies before =
           told_same pass.level pass.len m (patterns_after_pass m words pass P H (λ c. is_chosen level c)) (hopeless_after_pass m words pass P H (λ c. is_hopeless level c)) w p

@@ -16,15 +16,15 @@ use Rattle.pg_select.specs.CountedPositions.{Candidate, counted_positions}
 use Rattle.pg_select.specs.Statuses.{is_odd}
 use Rattle.pg_select.specs.Windows.{Hopeless}
 use Rattle.pg_driver.specs.declared.choices.Choices.{Choices}
-use Rattle.pg_driver.specs.declared.counting.Counting.{Counting}
-use Rattle.pg_driver.specs.declared.counting.Counting.TheVariants.{Open, EachWord}
+use Rattle.pg_driver.specs.declared.counting.WayToCount.{WayToCount}
+use Rattle.pg_driver.specs.declared.counting.WayToCount.TheVariants.{Open, EachWord}
 use Rattle.pg_driver.specs.declared.counting.open_positions.OpenLevel.{OpenLevel}
 use Rattle.pg_driver.specs.Accounts.{totals_by}
 use Rattle.pg_driver.specs.Inside.choices.Choosing.{no_choices, with_candidates}
 use Rattle.pg_driver.specs.Inside.counting.Counting.{HasRoom, IsBounded}
 use Rattle.pg_driver.specs.Inside.counting.LevelCounting.{ArePlaced, CanCarry, CanGoOn, Carries, GoesOnAfter, IsAfterPass, IsCounted, IsOpenAt, IsReady, TellsTotals}
 use Rattle.pg_dots.specs.Inside.Dots.{is_closed, position_count}
-use Rattle.pg_driver.specs.Inside.counting.OpenSigns.{IsThere, is_open_first, open_word_positions, open_signs, sign_count, start_of}
+use Rattle.pg_driver.specs.Inside.counting.OpenSigns.{IsLevelAt, is_open_first, open_word_positions, open_signs, sign_count, start_of}
 use Rattle.pg_driver.specs.Inside.counting.OpenPositions.{counted_of}
 use Rattle.pg_driver.specs.Inside.records.Sound.{IsSmall}
 use Rattle.pg_driver.specs.Inside.records.RunAccounts.{known_of}
@@ -45,7 +45,7 @@ pub ready_at_start : (source : Source) (level len : ℕ) (m : Meaning) (o : Open
 ready_at_start source level len m o none below bounded size are totals = record {
   bounded = bounded;
   size = size;
-  dots = subst (λ (H : Hopeless). IsThere level len source.minima source.words m.patterns H (is_closed o.dots)) (sym none)
+  dots = subst (λ (H : Hopeless). IsLevelAt level len source.minima source.words m.patterns H (is_closed o.dots)) (sym none)
       (there_first level len source.minima source.words m.patterns (is_closed o.dots) below are);
   totals = totals;
 }
@@ -90,20 +90,20 @@ module _ (source : Source) (level len : ℕ) (known : Knowledge) (o : OpenLevel)
   }
 
 -- totals that a ready way tells
-pub tells_totals : (source : Source) (level len : ℕ) (known : Knowledge) (P : Patterns) (c : Counting) → known.patterns ≡ P → IsCounted c → IsReady source level len known c → TellsTotals source P c
+pub tells_totals : (source : Source) (level len : ℕ) (known : Knowledge) (P : Patterns) (c : WayToCount) → known.patterns ≡ P → IsCounted c → IsReady source level len known c → TellsTotals source P c
 tells_totals source level len known P (Open o) same counted ready = (ready.totals ∙ ap (totals_by source) same, is_small source level len known o ready)
 tells_totals source level len known P (EachWord e) same counted ready =
     let totals : e.totals ≡ totals_by source P = ready.totals counted ∙ ap (totals_by source) same in
     (totals, subst IsSmall (sym totals) (totals_are_small source P (ready.bounded counted)))
 
 -- a pass was counted still after the choices of a pass
-pub counted_after : (params : LevelParams) (pass : Pass) (counts : Counts) (words : List Word) (n : Choices) (c d : Counting) → GoesOnAfter params pass counts words n c d → IsCounted c → IsCounted d
+pub counted_after : (params : LevelParams) (pass : Pass) (counts : Counts) (words : List Word) (n : Choices) (c d : WayToCount) → GoesOnAfter params pass counts words n c d → IsCounted c → IsCounted d
 counted_after params pass counts words n (Open o) (Open p) on counted = tt
 counted_after params pass counts words n (Open o) (EachWord f) on counted = absurd on
 counted_after params pass counts words n (EachWord e) (Open p) on counted = absurd on
 counted_after params pass counts words n (EachWord e) (EachWord f) on counted = on.counted ∙ counted
 
-pub placed : (source : Source) (level len : ℕ) (known : Knowledge) (c : Counting) → IsCounted c → IsReady source level len known c → ArePlaced source.words c
+pub placed : (source : Source) (level len : ℕ) (known : Knowledge) (c : WayToCount) → IsCounted c → IsReady source level len known c → ArePlaced source.words c
 placed source level len known (Open o) counted ready = ready.size
 placed source level len known (EachWord e) counted ready = words_placed source level known e counted ready
 
@@ -152,12 +152,12 @@ module _ (source : Source) (params : LevelParams) (known : Knowledge) (pass : Pa
       totals = carried_same (is_odd pass.level) o.totals p.totals (totals_by source (known_after made).patterns) n.good n.bad is.totals carries;
     }
 
-  pub can_go_on : (counts : Counts) (c : Counting) → AreOf → IsCounted c → counts ≡ fold with_position [] (counted_positions source.minima source.words pass known.patterns known.hopeless)
+  pub can_go_on : (counts : Counts) (c : WayToCount) → AreOf → IsCounted c → counts ≡ fold with_position [] (counted_positions source.minima source.words pass known.patterns known.hopeless)
       → IsReady source pass.level pass.len known c → CanGoOn params pass counts source.words n c
   can_go_on counts (Open o) of begun counted ready = can_carry o of ready
   can_go_on counts (EachWord e) of begun counted ready = words_can_move source params known pass n counts e ready begun counted of.good of.bad
 
-  pub ready_after : (counts : Counts) (c d : Counting) → AreOf → IsCounted c → pass.dot ≤ LENGTH_MAX → counts
+  pub ready_after : (counts : Counts) (c d : WayToCount) → AreOf → IsCounted c → pass.dot ≤ LENGTH_MAX → counts
       ≡ fold with_position [] (counted_positions source.minima source.words pass known.patterns known.hopeless) → GoesOnAfter params pass counts source.words n c d
       → IsReady source pass.level pass.len known c → IsReady source pass.level pass.len (known_after made) d
   ready_after counts (Open o) (Open p) of begun low counted on ready = open_after o of ready counts p low counted on

@@ -33,7 +33,7 @@ use std::alloc::{AllocError, Global};
 
 /// How the windows of a level are counted.
 #[derive(Drop)]
-pub enum Counting {
+pub enum WayToCount {
     /// At the open positions: no word is hyphenated after the level's start. It is exact where no
     /// pattern has a value of the level or more then.
     Open(OpenLevel),
@@ -41,7 +41,7 @@ pub enum Counting {
     EachWord(WordLevel),
 }
 
-impl Counting {
+impl WayToCount {
     /// The way to count of a level that begins: over open positions, unless a starting pattern has
     /// a value of the level or more. `greatest` is the greatest value of the starting patterns.
     pub fn start<E: Engine>(
@@ -51,7 +51,7 @@ impl Counting {
         table: &Table,
         level: u8,
         greatest: u8,
-    ) -> Result<Counting, AllocError>
+    ) -> Result<WayToCount, AllocError>
         requires signs { SignsAtMost (E.meaning engine.now).signs dictionary.now }
         requires hopeless { (E.meaning engine.now).hopeless ≡ [] }
         requires below { greatest < level → IsBelow level (E.meaning engine.now).patterns }
@@ -61,10 +61,10 @@ impl Counting {
         ensures form { IfOk result (λ counting. greatest < level → IsOverOpen counting) }
     {
         if level <= greatest {
-            return Ok(Counting::EachWord(WordLevel::new(alloc)));
+            return Ok(WayToCount::EachWord(WordLevel::new(alloc)));
         }
         let opened = open_level(engine, dictionary, table, level, alloc)?;
-        Ok(Counting::Open(opened))
+        Ok(WayToCount::Open(opened))
     }
 
     /// Counts the windows of a pass that has begun, and gives the totals before it. Each position
@@ -93,13 +93,13 @@ impl Counting {
     {
         windows.forget_numbers();
         match self {
-            Counting::Open(open) => {
+            WayToCount::Open(open) => {
                 open.dots.reach(pass.dot)?;
                 let numbers = &mut windows.numbers;
                 count_open(engine, dictionary, pass, &open.dots, numbers)?;
                 Ok(open.totals)
             }
-            Counting::EachWord(level) => {
+            WayToCount::EachWord(level) => {
                 level.count_each_word(engine, dictionary, table, pass, &mut windows.numbers)
             }
         }
@@ -133,7 +133,7 @@ impl Counting {
             (E.meaning engine.now).counts dictionary.now choices self.old self.new }
     {
         match self {
-            Counting::Open(open) => {
+            WayToCount::Open(open) => {
                 let signs = dictionary.all_signs();
                 close_dots(
                     pass.dot,
@@ -144,7 +144,7 @@ impl Counting {
                 );
                 open.totals = totals_after(open.totals, pass.level, choices.good, choices.bad);
             }
-            Counting::EachWord(words) => {
+            WayToCount::EachWord(words) => {
                 let kept = kept_above(
                     dictionary,
                     pass,
@@ -164,7 +164,7 @@ impl Counting {
             → IsReady source level (len + 1) known self.new) }
         ensures counted { OnOk result (IsCounted self.old → IsCounted self.new) }
     {
-        if let Counting::Open(open) = self {
+        if let WayToCount::Open(open) = self {
             open.dots.next_length()?;
         }
         Ok(())
@@ -175,8 +175,8 @@ impl Counting {
         ensures { result ≡ totals_in self.now }
     {
         match self {
-            Counting::Open(open) => open.totals,
-            Counting::EachWord(words) => words.totals,
+            WayToCount::Open(open) => open.totals,
+            WayToCount::EachWord(words) => words.totals,
         }
     }
 }

@@ -18,7 +18,7 @@ mod dots;
 mod skippable;
 
 use crate::choices::choose_all;
-use crate::counting::Counting;
+use crate::counting::WayToCount;
 use crate::level::dots::dot_at;
 use crate::level::skippable::Skippable;
 use crate::pass_windows::PassWindows;
@@ -37,7 +37,7 @@ fn run_pass<E: Engine>(
     table: &Table,
     params: &LevelParams,
     pass: Pass,
-    counting: &mut Counting,
+    counting: &mut WayToCount,
     windows: &mut PassWindows,
 ) -> Result<PassRecord, AllocError>
     requires ranges { IsPass pass }
@@ -84,7 +84,7 @@ fn run_or_skip<E: Engine>(
     params: &LevelParams,
     pass: Pass,
     skippable: &mut Skippable,
-    counting: &mut Counting,
+    counting: &mut WayToCount,
     windows: &mut PassWindows,
     records: &mut Records,
 ) -> Result<(), AllocError>
@@ -131,7 +131,7 @@ fn run_length<E: Engine>(
     number: u8,
     len: u8,
     skippable: &mut Skippable,
-    counting: &mut Counting,
+    counting: &mut WayToCount,
     windows: &mut PassWindows,
     records: &mut Records,
 ) -> Result<(), AllocError>
@@ -181,7 +181,7 @@ fn run_lengths<E: Engine>(
     table: &Table,
     params: &LevelParams,
     number: u8,
-    counting: &mut Counting,
+    counting: &mut WayToCount,
     windows: &mut PassWindows,
     records: &mut Records,
 ) -> Result<(), AllocError>
@@ -266,7 +266,7 @@ pub fn run_level<E: Engine>(
     ensures chosen { OnOk result (records.new.chosen ≡ 0) }
     ensures signs { (E.meaning engine.new).signs ≡ (E.meaning engine.old).signs }
 {
-    let mut counting = Counting::start(alloc, engine, dictionary, table, number, greatest)?;
+    let mut counting = WayToCount::start(alloc, engine, dictionary, table, number, greatest)?;
     run_lengths(
         engine,
         dictionary,

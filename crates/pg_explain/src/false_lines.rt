@@ -1,6 +1,6 @@
 //! Status 1: a line of an audited file is not the one that the inputs give.
 
-use crate::wrong::FalseLine;
+use crate::wrong::ComparedLine;
 use pg_visible::Part::{Count, Name, Show};
 use pg_visible::Text;
 use std::alloc::AllocError;
@@ -13,7 +13,7 @@ fn without_feed(line: Option<&[u8]>) -> &[u8] {
 
 /// What is said of a false line first. `is_same` says whether both lines are the same but for their
 /// ends.
-fn sentence_of(line: &FalseLine<'_>, is_same: bool) -> &'static str {
+fn sentence_of(line: &ComparedLine<'_>, is_same: bool) -> &'static str {
     if line.wanted.is_none() {
         "$0:$1: no line is due here: the file should end before it"
     } else if line.found.is_none() {
@@ -27,7 +27,7 @@ fn sentence_of(line: &FalseLine<'_>, is_same: bool) -> &'static str {
 
 /// Appends that a line is false, and the lines that were found and that should be there, where
 /// these show it.
-pub(crate) fn push_false_line(text: &mut Text, line: &FalseLine<'_>) -> Result<(), AllocError> {
+pub(crate) fn push_false_line(text: &mut Text, line: &ComparedLine<'_>) -> Result<(), AllocError> {
     let found = without_feed(line.found);
     let wanted = without_feed(line.wanted);
     let is_same = line.found.is_some() && found == wanted;

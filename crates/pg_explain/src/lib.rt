@@ -16,4 +16,4 @@ mod words;
 mod wrong;
 
 pub use explanation::{MEMORY, explain};
-pub use wrong::{Before, Deed, FalseLine, Fault, Letters, Refused, Wrong};
+pub use wrong::{Before, ComparedLine, Deed, Fault, Letters, RefusalCase, Wrong};

@@ -16,7 +16,7 @@ use crate::refused::more::push_more;
 use crate::refused::packed_tables::{push_bad_table, push_long_table, push_other_table};
 use crate::refused::parameters::{item_spot, push_item};
 use crate::refused::word_lines::{push_character, push_long, push_weight};
-use crate::wrong::Refused;
+use crate::wrong::RefusalCase;
 use pg_types::Kind;
 use pg_visible::Part::Name;
 use pg_visible::{Spot, Text};
@@ -29,7 +29,7 @@ const LONG_FILE: &str = "$0 has more than 67,108,864 bytes (2^26), the most that
 const MANY_LETTERS: &str = "2,000 letters stand above this line, the most that a table has";
 
 /// The place of a refusal.
-fn spot_of<'a>(refused: &Refused<'a>) -> Spot<'a> {
+fn spot_of<'a>(refused: &RefusalCase<'a>) -> Spot<'a> {
     let refusal = &refused.refusal;
     match refusal.kind {
         Kind::BadNumber | Kind::OutOfRange | Kind::Missing | Kind::Extra => {
@@ -46,7 +46,7 @@ fn spot_of<'a>(refused: &Refused<'a>) -> Spot<'a> {
 /// Appends where and why a file is refused.
 fn push_reason<'a>(
     text: &mut Text,
-    refused: &Refused<'a>,
+    refused: &RefusalCase<'a>,
     spot: &Spot<'a>,
 ) -> Result<(), AllocError> {
     match refused.refusal.kind {
@@ -73,7 +73,11 @@ fn push_reason<'a>(
 
 /// Appends the line of a refusal with a caret. Its cause follows where the bytes show one, and then
 /// how many more lines would be refused.
-fn push_place(text: &mut Text, refused: &Refused<'_>, spot: &Spot<'_>) -> Result<(), AllocError> {
+fn push_place(
+    text: &mut Text,
+    refused: &RefusalCase<'_>,
+    spot: &Spot<'_>,
+) -> Result<(), AllocError> {
     text.excerpt(spot)?;
     if refused.refusal.kind == Kind::BadSpelling {
         push_delimiter(text, spot.text)?;
@@ -84,7 +88,7 @@ fn push_place(text: &mut Text, refused: &Refused<'_>, spot: &Spot<'_>) -> Result
 
 /// Appends where and why a file is refused, and what is due there. A refusal that has a place also
 /// gets its line with a caret, its cause, and how many more lines would be refused.
-pub(crate) fn push_refused(text: &mut Text, refused: &Refused<'_>) -> Result<(), AllocError> {
+pub(crate) fn push_refused(text: &mut Text, refused: &RefusalCase<'_>) -> Result<(), AllocError> {
     let spot = spot_of(refused);
     push_reason(text, refused, &spot)?;
     if refused.refusal.line == 0 {

@@ -9,11 +9,11 @@ pub enum Wrong<'a> {
     /// The arguments behind the program's name are no command.
     Words(&'a [String]),
     /// A file is refused.
-    Refused(Refused<'a>),
+    Refused(RefusalCase<'a>),
     /// A file could not be read or written, or a line could not be printed.
     Fault(Fault<'a>),
     /// A line of an audited file is false.
-    False(FalseLine<'a>),
+    False(ComparedLine<'a>),
     /// The dictionary has no word.
     NoWord {
         /// Its name.
@@ -51,7 +51,7 @@ pub enum Wrong<'a> {
 
 /// A refused file.
 #[derive(Clone, Copy)]
-pub struct Refused<'a> {
+pub struct RefusalCase<'a> {
     /// Its name as it was given.
     pub name: &'a str,
     /// What was read of it. It is empty where `pack` refuses the table that it would write.
@@ -113,7 +113,7 @@ pub struct Before<'a> {
 
 /// A line of an audited file beside the line that the inputs give.
 #[derive(Clone, Copy)]
-pub struct FalseLine<'a> {
+pub struct ComparedLine<'a> {
     /// The name of the file as it was given.
     pub name: &'a str,
     /// The number of the line, from 1.

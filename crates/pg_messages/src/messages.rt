@@ -1,15 +1,12 @@
 //! What the observer keeps and shows.
 use pg_audit::FalseLine;
 use pg_dict::Dictionary;
-use pg_explain::{
-    Before, Deed, FalseLine as Wanted, Fault, Letters, MEMORY, Refused as RefusedFile, Wrong,
-    explain,
-};
+use pg_explain::{Before, ComparedLine, Deed, Fault, Letters, MEMORY, RefusalCase, Wrong, explain};
 use pg_patterns::PatternSet;
 use pg_translate::Table;
 use pg_types::{Params, next_line};
 use pg_visible::visible;
-use pg_watch::{Pass, Refused, Screen, Step, Turn, Watch, line_text};
+use pg_watch::{PassProgress, RefusedFile, Screen, Step, SweepRun, Watch, line_text};
 use std::alloc::Global;
 use std::cell::{Cell, RefCell};
 use std::io::Write;
@@ -34,7 +31,7 @@ pub struct Messages<'a, C, E: Drop> {
     /// The first argument.
     command: RefCell<String>,
     /// Which run of a sweep goes on.
-    turn: Cell<Option<Turn>>,
+    sweep_run: Cell<Option<SweepRun>>,
     /// The files that were read and written, in this order.
     calls: RefCell<Vec<Call>>,
     /// Whether the last of them failed.
@@ -88,7 +85,7 @@ impl<'a, C: Clock, E: Write + Drop> Messages<'a, C, E> {
             alloc,
             screen: Screen::new(clock, err, is_shown),
             command: RefCell::new(String::new(alloc)),
-            turn: Cell::new(None),
+            sweep_run: Cell::new(None),
             calls: RefCell::new(Vec::new(alloc)),
             failed: Cell::new(false),
             fault: Cell::new(false),
@@ -106,9 +103,16 @@ impl<'a, C: Clock, E: Write + Drop> Messages<'a, C, E> {
         let Ok(command) = self.command.try_borrow() else {
             return;
         };
-        let turn = self.turn.get();
+        let sweep_run = self.sweep_run.get();
         let name = shown_name(self.alloc, name);
-        if let Ok(line) = line_text(self.alloc, &command, seconds, turn.as_ref(), step, &name) {
+        if let Ok(line) = line_text(
+            self.alloc,
+            &command,
+            seconds,
+            sweep_run.as_ref(),
+            step,
+            &name,
+        ) {
             self.screen.show(&line);
         }
     }
@@ -293,12 +297,12 @@ impl<'a, C: Clock, E: Write + Drop> Watch for Messages<'a, C, E> {
         }
     }
 
-    fn refuses(&self, refused: &Refused<'_>) {
+    fn refuses(&self, refused: &RefusedFile<'_>) {
         let Ok(name) = self.letters.try_borrow() else {
             return;
         };
         let letters = refused.letters.map(|table| Letters { name: &name, table });
-        self.explains(&Wrong::Refused(RefusedFile {
+        self.explains(&Wrong::Refused(RefusalCase {
             name: refused.name,
             bytes: refused.bytes,
             refusal: refused.refusal,
@@ -316,15 +320,15 @@ impl<'a, C: Clock, E: Write + Drop> Watch for Messages<'a, C, E> {
         }
     }
 
-    fn turn(&self, turn: Turn) {
-        self.turn.set(Some(turn));
+    fn sweep_run(&self, sweep_run: SweepRun) {
+        self.sweep_run.set(Some(sweep_run));
     }
 
     fn round(&self, round: u64) {
         self.step(&Step::Round(round), "");
     }
 
-    fn pass(&self, pass: Pass) {
+    fn pass(&self, pass: PassProgress) {
         self.step(&Step::Pass(pass), "");
     }
 
@@ -334,7 +338,7 @@ impl<'a, C: Clock, E: Write + Drop> Watch for Messages<'a, C, E> {
         } else {
             Some(line.found)
         };
-        self.explains(&Wrong::False(Wanted {
+        self.explains(&Wrong::False(ComparedLine {
             name,
             line: line.line as usize,
             found,

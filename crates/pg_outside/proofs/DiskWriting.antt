@@ -8,7 +8,7 @@ use Rattle.pg_outside.specs.Inside.disk.Causes.{IsCauseOf}
 use Rattle.pg_outside.specs.Inside.disk.Disks.{Node, Disk, DiskHistory, AreOne, KeepsDisk, HoldsNow, LeadsTo, LeadsToNone}
 use Rattle.pg_outside.specs.Inside.disk.Disks.{IsOpened, IsWritable, IsStat, AppendsBytes, AppendsFront, id_at, node_at, node_of}
 use Rattle.pg_outside.specs.Inside.disk.Writes.{IsIn, KeepsAll, IsPlain, IsDevice, IsProtected, MayWrite, AtWrite, AfterWrite, AfterFailure, IsSeen}
-use Rattle.pg_outside.specs.Inside.disk.Writes.{IsOld, IsPlaceOf, AreAllTaken, IsDeep, IsFull, IsWrite, WasKept, StandsFor, mode_of, mode_at}
+use Rattle.pg_outside.specs.Inside.disk.Writes.{IsOld, IsSeenMode, AreAllTaken, IsDeep, IsFull, IsWrite, WasKept, StandsFor, mode_of, mode_at}
 use Rattle.pg_outside.specs.Inside.disk.Moments.{RunsCalls, WhereDirect, AtMoment, IsBeside, IsWritten, IsAsBefore, IsSame, HasRest}
 use Rattle.pg_outside.specs.declared.disk.error.WriteError.{WriteError}
 use Rattle.pg_outside.specs.declared.disk.system.FileId.{FileId}
@@ -191,7 +191,7 @@ seen_one : (p q : List ℕ) (seen : FileStatus) (d : Disk) → AreOne d p q → 
 seen_one p q seen d one s = record { leads = leads_one seen.id d p q one s.leads; node = s.node; there = s.there; kind = s.kind; mode = s.mode; writable = s.writable }
 
 may_old : (real name : List ℕ) (kept : List FileId) (found : Option FileId) (old : Option FileStatus) (mode : Option ℕ) (d : Disk) → IsOld name old d
-    → StandsFor real found name d → IsPlaceOf found old mode → IfSome old (λ seen. seen.is_regular ≡ true) → IfSome old (λ seen. IsIn seen.id kept → ⊥) → MayReplace real kept mode d
+    → StandsFor real found name d → IsSeenMode found old mode → IfSome old (λ seen. seen.is_regular ≡ true) → IfSome old (λ seen. IsIn seen.id kept → ⊥) → MayReplace real kept mode d
 may_old real name kept None None mode d is s place regular free = subst (λ (m : Option ℕ). MayReplace real kept m d) (sym place) (may_none real kept d s.leads)
 may_old real name kept (Some id) (Some seen) mode d is s place regular free = subst (λ (m : Option ℕ). MayReplace real kept m d) (sym place.1)
     (may_seen real kept seen d (seen_one name real seen d (sym s.one) is) regular free)
@@ -199,7 +199,7 @@ may_old real name kept None (Some seen) mode d is s place regular free = absurd 
 may_old real name kept (Some id) None mode d is s place regular free = absurd place
 
 pub leads_old : (real name : List ℕ) (kept : List FileId) (found : Option FileId) (old : Option FileStatus) (mode : Option ℕ) (a b : Option DiskHistory)
-    → HoldsNow a (IsOld name old) → KeepsDisk a b → HoldsNow b (StandsFor real found name) → IsPlaceOf found old mode → IfSome old (λ seen. seen.is_regular ≡ true)
+    → HoldsNow a (IsOld name old) → KeepsDisk a b → HoldsNow b (StandsFor real found name) → IsSeenMode found old mode → IfSome old (λ seen. seen.is_regular ≡ true)
     → IfSome old (λ seen. IsIn seen.id kept → ⊥) → HoldsNow b (Leads real name kept mode)
 leads_old real name kept found old mode a b is ab stands place regular free =
     now_weaker _ _ b (now_both _ _ b (keeps_now _ a b is ab) stands) (λ d s. record {
@@ -209,14 +209,14 @@ leads_old real name kept found old mode a b is ab stands place regular free =
     })
 
 -- where the disk is told, what was found is what was seen
-found_old : (real name : List ℕ) (found : Option FileId) (old : Option FileStatus) (d : Disk) → IsOld name old d → StandsFor real found name d → ((mode : Option ℕ) → IsPlaceOf found old mode → ⊥) → ⊥
+found_old : (real name : List ℕ) (found : Option FileId) (old : Option FileStatus) (d : Disk) → IsOld name old d → StandsFor real found name d → ((mode : Option ℕ) → IsSeenMode found old mode → ⊥) → ⊥
 found_old real name None None d is s none = none None refl
 found_old real name (Some id) (Some seen) d is s none = none (Some seen.mode) (some_same id seen.id (sym s.leads ∙ id_one d real name s.one ∙ is.leads), refl)
 found_old real name None (Some seen) d is s none = none_some seen.id (sym s.leads ∙ id_one d real name s.one ∙ is.leads)
 found_old real name (Some id) None d is s none = none_some id (sym is ∙ sym (id_one d real name s.one) ∙ s.leads)
 
 pub no_other : (real name : List ℕ) (found : Option FileId) (old : Option FileStatus) (F : Disk → Type 0) (a b : Option DiskHistory) → HoldsNow a (IsOld name old)
-    → KeepsDisk a b → HoldsNow b (StandsFor real found name) → ((mode : Option ℕ) → IsPlaceOf found old mode → ⊥) → HoldsNow b F
+    → KeepsDisk a b → HoldsNow b (StandsFor real found name) → ((mode : Option ℕ) → IsSeenMode found old mode → ⊥) → HoldsNow b F
 no_other real name found old F a b is ab stands none =
     now_weaker _ _ b (now_both _ _ b (keeps_now _ a b is ab) stands) (λ d s. absurd (found_old real name found old d s.0 s.1 none))
 

@@ -12,7 +12,7 @@ pub folder_none : (folder name : List ℕ) → folder ≡ [] → NoCharPasses (�
 folder_none folder name is none = record {
   last = name;
   is = ap (λ (l : List ℕ). l ++ name) (sym is);
-  no_slash = λ place within. NoCharPasses-char 47 name place none (lit< tt) within;
+  no_slash = λ index within. NoCharPasses-char 47 name index none (lit< tt) within;
   ends = inl is;
 }
 
@@ -27,6 +27,6 @@ pub folder_at : (folder name : List ℕ) (i j : ℕ) → HasCharAt 47 name i j �
 folder_at folder name i j at none is = record {
   last = drop j name;
   is = sym (take-append-drop (i + 1) name) ∙ ap (λ (l : List ℕ). l ++ drop (i + 1) name) (sym is) ∙ ap (λ (k : ℕ). folder ++ drop k name) (sym at.ends);
-  no_slash = λ place within. NoCharPasses-char 47 (drop j name) place none (lit< tt) within;
+  no_slash = λ index within. NoCharPasses-char 47 (drop j name) index none (lit< tt) within;
   ends = inr (take i name, is ∙ one_more name i j at);
 }

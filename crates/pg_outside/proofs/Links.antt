@@ -1,9 +1,9 @@
 -- What following one link after the other has come to.
 use Rattle.std.proofs.Common.{◌≡◌, ◌+◌, ◌<◌, ◌≤◌, ⊎_elim, ℕ, List, true, Option, Some, None, refl, sym, ap, subst, ◌∙◌, arith, add-one}
-use Rattle.pg_outside.specs.Inside.disk.Disks.{Disk, DiskHistory, AreOne, KeepsDisk, HoldsNow, IsEntry, IsFollowedBy}
+use Rattle.pg_outside.specs.Inside.disk.Disks.{Disk, DiskHistory, AreOne, KeepsDisk, HoldsNow, IsKindOf, IsFollowedBy}
 use Rattle.pg_outside.specs.Inside.disk.Writes.{followed_name, IsDeep, StandsFor}
 use Rattle.pg_outside.specs.Inside.disk.NewNames.{IsLinkedName}
-use Rattle.pg_outside.specs.declared.disk.system.Entry.TheVariants.{Missing, Link, File}
+use Rattle.pg_outside.specs.declared.disk.system.NameKind.TheVariants.{Missing, Link, File}
 use Rattle.pg_outside.specs.declared.disk.system.FileId.{FileId}
 use Rattle.pg_outside.proofs.NewNameLoop.{below_or_last}
 use Rattle.pg_outside.proofs.Runs.{keeps_now, now_both, now_weaker, now_always}
@@ -33,7 +33,7 @@ reached name real text joined count d so_far link text_of is_joined =
 
 -- one more link
 pub reached_on : (name real text joined : List ℕ) (count next : ℕ) (a b c : Option DiskHistory) → HoldsNow a (IsReached name real count) → KeepsDisk a b
-    → HoldsNow b (IsEntry real Link) → KeepsDisk b c → HoldsNow c (IsFollowedBy real text) → IsLinkedName real text joined → next ≡ count + 1 → HoldsNow c (IsReached name joined next)
+    → HoldsNow b (IsKindOf real Link) → KeepsDisk b c → HoldsNow c (IsFollowedBy real text) → IsLinkedName real text joined → next ≡ count + 1 → HoldsNow c (IsReached name joined next)
 reached_on name real text joined count next a b c so_far ab link bc text_of is_joined is =
     subst (λ (k : ℕ). HoldsNow c (IsReached name joined k)) (sym is)
     (now_weaker _ _ c (now_both _ _ c (keeps_now _ b c (now_both _ _ b (keeps_now _ a b so_far ab) link) bc) text_of)
@@ -41,19 +41,19 @@ reached_on name real text joined count next a b c so_far ab link bc text_of is_j
 
 -- the links end at a name of no file
 pub stands_none : (name real found : List ℕ) (file : Option FileId) (count : ℕ) (a b : Option DiskHistory) → HoldsNow a (IsReached name real count) → KeepsDisk a b
-    → HoldsNow b (IsEntry real Missing) → found ≡ real → file ≡ None → HoldsNow b (StandsFor found file name)
-stands_none name real found file count a b so_far ab entry same none =
+    → HoldsNow b (IsKindOf real Missing) → found ≡ real → file ≡ None → HoldsNow b (StandsFor found file name)
+stands_none name real found file count a b so_far ab kind same none =
     subst (λ (n : List ℕ). HoldsNow b (StandsFor n file name)) (sym same)
     (subst (λ (f : Option FileId). HoldsNow b (StandsFor real f name)) (sym none)
-    (now_weaker _ _ b (now_both _ _ b (keeps_now _ a b so_far ab) entry) (λ d p. record { direct = p.1.0; leads = p.1.1; one = p.0.one })))
+    (now_weaker _ _ b (now_both _ _ b (keeps_now _ a b so_far ab) kind) (λ d p. record { direct = p.1.0; leads = p.1.1; one = p.0.one })))
 
 -- the links end at a name of a file
 pub stands_some : (name real found : List ℕ) (id : FileId) (file : Option FileId) (count : ℕ) (a b : Option DiskHistory) → HoldsNow a (IsReached name real count)
-    → KeepsDisk a b → HoldsNow b (IsEntry real (File id)) → found ≡ real → file ≡ Some id → HoldsNow b (StandsFor found file name)
-stands_some name real found id file count a b so_far ab entry same some =
+    → KeepsDisk a b → HoldsNow b (IsKindOf real (File id)) → found ≡ real → file ≡ Some id → HoldsNow b (StandsFor found file name)
+stands_some name real found id file count a b so_far ab kind same some =
     subst (λ (n : List ℕ). HoldsNow b (StandsFor n file name)) (sym same)
     (subst (λ (f : Option FileId). HoldsNow b (StandsFor real f name)) (sym some)
-    (now_weaker _ _ b (now_both _ _ b (keeps_now _ a b so_far ab) entry) (λ d p. record { direct = p.1.0; leads = p.1.1; one = p.0.one })))
+    (now_weaker _ _ b (now_both _ _ b (keeps_now _ a b so_far ab) kind) (λ d p. record { direct = p.1.0; leads = p.1.1; one = p.0.one })))
 
 below_all : (m n : ℕ) → m < 41 → 41 ≤ n → m < n
 below_all m n below all = omega arith

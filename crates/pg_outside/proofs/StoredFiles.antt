@@ -11,7 +11,7 @@ use Rattle.std.proofs.lemmas.List.Quantifiers.{position-Some}
 use Rattle.std.proofs.lemmas.Map.Text.{is_eq-slice_cmp}
 use Rattle.std.proofs.lemmas.Slice.Eq.{bytes_eq-Decides}
 use Rattle.pg_outside.specs.Content.{FileMap, file_at}
-use Rattle.pg_outside.specs.Inside.memory.StoredFile.{has_name, name_and_bytes, file_map, of_name, room_in, IsPlace, IsMissing}
+use Rattle.pg_outside.specs.Inside.memory.StoredFile.{has_name, name_and_bytes, file_map, of_name, room_in, IsIndexOf, IsMissing}
 use Rattle.pg_outside.specs.declared.memory.stored.StoredFile.{StoredFile}
 
 -- the bytes of the first file of this name
@@ -27,21 +27,21 @@ file_at-file_map files name = fin.get-from_entries nat_list_cmp_total (map name_
 
 module _ {A : Type 0} (view : StoredFile → A) (none : A) where
   -- the first file of a name
-  pub of_name-at : (files : List StoredFile) (place : ℕ) (d : StoredFile) (name : List ℕ) → place < length files → has_name name (get_or files place d)
-      ≡ true → ((k : ℕ) → k < place → has_name name (get_or files k d) ≡ false) → of_name view none files name ≡ view (get_or files place d)
-  of_name-at [] place d name within found before = absurd (omega arith)
+  pub of_name-at : (files : List StoredFile) (index : ℕ) (d : StoredFile) (name : List ℕ) → index < length files → has_name name (get_or files index d)
+      ≡ true → ((k : ℕ) → k < index → has_name name (get_or files k d) ≡ false) → of_name view none files name ≡ view (get_or files index d)
+  of_name-at [] index d name within found before = absurd (omega arith)
   of_name-at (file ∷ files) zero d name within found before = grind (arith, common_steps)
-  of_name-at (file ∷ files) (suc place) d name within found before = grind
-      (arith, common_steps, before 0 (omega arith), of_name-at files place d name (omega arith) found (λ k below. before (suc k) (omega arith)))
+  of_name-at (file ∷ files) (suc index) d name within found before = grind
+      (arith, common_steps, before 0 (omega arith), of_name-at files index d name (omega arith) found (λ k below. before (suc k) (omega arith)))
 
   -- the first file of a name is set anew
-  pub of_name-set : (files : List StoredFile) (place : ℕ) (d file : StoredFile) (name q : List ℕ) → place < length files → has_name name (get_or files place d)
-      ≡ true → ((k : ℕ) → k < place → has_name name (get_or files k d) ≡ false) → has_name name file ≡ true → of_name view none (set files place file) q
+  pub of_name-set : (files : List StoredFile) (index : ℕ) (d file : StoredFile) (name q : List ℕ) → index < length files → has_name name (get_or files index d)
+      ≡ true → ((k : ℕ) → k < index → has_name name (get_or files k d) ≡ false) → has_name name file ≡ true → of_name view none (set files index file) q
       ≡ cond (bytes_eq q name) (view file) (of_name view none files q)
-  of_name-set [] place d file name q within found before same = absurd (omega arith)
+  of_name-set [] index d file name q within found before same = absurd (omega arith)
   of_name-set (first ∷ files) zero d file name q within found before same = grind (arith, common_steps, bytes_eq-Decides)
-  of_name-set (first ∷ files) (suc place) d file name q within found before same =
-      grind (arith, common_steps, bytes_eq-Decides, before 0 (omega arith), of_name-set files place d file name q (omega arith) found (λ k below. before (suc k) (omega arith)) same)
+  of_name-set (first ∷ files) (suc index) d file name q within found before same =
+      grind (arith, common_steps, bytes_eq-Decides, before 0 (omega arith), of_name-set files index d file name q (omega arith) found (λ k below. before (suc k) (omega arith)) same)
 
   -- no file of a name is there
   pub of_name-none : (files : List StoredFile) (name : List ℕ) → position (has_name name) files ≡ None → of_name view none files name ≡ none
@@ -69,30 +69,30 @@ not_below : (b : Bool) (x y : ℕ) → (b ≡ true → y ≡ 0) → y ≤ cond b
 not_below true x y none = let zero_there : y ≡ 0 = none refl in omega arith
 not_below false x y none = omega arith
 
-place_within : (files : List StoredFile) (name : List ℕ) (place : ℕ) → position (has_name name) files ≡ Some place → place < length files
-place_within files name place at = grind (arith, common_steps)
+index_within : (files : List StoredFile) (name : List ℕ) (index : ℕ) → position (has_name name) files ≡ Some index → index < length files
+index_within files name index at = grind (arith, common_steps)
 
-is_place : (files : List StoredFile) (name : List ℕ) (place : ℕ) → position (has_name name) files ≡ Some place → IsPlace name files place
-is_place files name place at =
-    let first : (d : StoredFile) → (place < length files) × (has_name name (get_or files place d) ≡ true) × ((k : ℕ) → k < place → has_name name (get_or files k d) ≡ false) =
-    λ d. position-Some (has_name name) files place d at in
-    let renamed : (file : StoredFile) → string_bytes file.name ≡ string_bytes (get_or files place file).name → has_name name file ≡ true = λ file same. grind (arith, (first file).1) in
+is_index : (files : List StoredFile) (name : List ℕ) (index : ℕ) → position (has_name name) files ≡ Some index → IsIndexOf name files index
+is_index files name index at =
+    let first : (d : StoredFile) → (index < length files) × (has_name name (get_or files index d) ≡ true) × ((k : ℕ) → k < index → has_name name (get_or files k d) ≡ false) =
+    λ d. position-Some (has_name name) files index d at in
+    let renamed : (file : StoredFile) → string_bytes file.name ≡ string_bytes (get_or files index file).name → has_name name file ≡ true = λ file same. grind (arith, (first file).1) in
     record {
-      within = place_within files name place at;
-      there = λ file is. file_at-file_map files name ∙ of_name-at (λ f. Some f.bytes.items) None files place file name (first file).0 (first file).1 (first file).2
+      within = index_within files name index at;
+      there = λ file is. file_at-file_map files name ∙ of_name-at (λ f. Some f.bytes.items) None files index file name (first file).0 (first file).1 (first file).2
           ∙ ap (λ (f : StoredFile). Some f.bytes.items) (sym is);
-      room = λ file is. of_name-at (λ f. vec_capacity f.bytes) 0 files place file name (first file).0 (first file).1 (first file).2 ∙ ap (λ (f : StoredFile). vec_capacity f.bytes) (sym is);
-      set_map = λ file same. same_files _ _ (λ q. of_name-set (λ f. Some f.bytes.items) None files place file file name q (first file).0 (first file).1 (first file).2 (renamed file same)
+      room = λ file is. of_name-at (λ f. vec_capacity f.bytes) 0 files index file name (first file).0 (first file).1 (first file).2 ∙ ap (λ (f : StoredFile). vec_capacity f.bytes) (sym is);
+      set_map = λ file same. same_files _ _ (λ q. of_name-set (λ f. Some f.bytes.items) None files index file file name q (first file).0 (first file).1 (first file).2 (renamed file same)
           ∙ sym (file_at-insert files name file.bytes.items q));
-      set_room = λ file same other. of_name-set (λ f. vec_capacity f.bytes) 0 files place file file name other (first file).0 (first file).1 (first file).2 (renamed file same);
-      same_rooms = λ file same room other. of_name-set (λ f. vec_capacity f.bytes) 0 files place file file name other (first file).0 (first file).1 (first file).2 (renamed file same)
-          ∙ cond-same (bytes_eq other name) _ _ (λ is. room ∙ sym (of_name-at (λ f. vec_capacity f.bytes) 0 files place file name (first file).0 (first file).1 (first file).2)
+      set_room = λ file same other. of_name-set (λ f. vec_capacity f.bytes) 0 files index file file name other (first file).0 (first file).1 (first file).2 (renamed file same);
+      same_rooms = λ file same room other. of_name-set (λ f. vec_capacity f.bytes) 0 files index file file name other (first file).0 (first file).1 (first file).2 (renamed file same)
+          ∙ cond-same (bytes_eq other name) _ _ (λ is. room ∙ sym (of_name-at (λ f. vec_capacity f.bytes) 0 files index file name (first file).0 (first file).1 (first file).2)
           ∙ ap (room_in files) (sym ((bytes_eq-Decides other name).0 is)));
     }
 
-pub found_place : (files : List StoredFile) (name : List ℕ) (result : Option ℕ) → result ≡ position (has_name name) files → IfSome result (IsPlace name files)
-found_place files name None is = tt
-found_place files name (Some place) is = is_place files name place (sym is)
+pub found_index : (files : List StoredFile) (name : List ℕ) (result : Option ℕ) → result ≡ position (has_name name) files → IfSome result (IsIndexOf name files)
+found_index files name None is = tt
+found_index files name (Some index) is = is_index files name index (sym is)
 
 is_missing : (files : List StoredFile) (name : List ℕ) → position (has_name name) files ≡ None → IsMissing name files
 is_missing files name at = record {
@@ -103,6 +103,6 @@ is_missing files name at = record {
       (not_below (bytes_eq other name) _ _ (λ is. ap (room_in files) ((bytes_eq-Decides other name).0 is) ∙ of_name-none (λ f. vec_capacity f.bytes) 0 files name at));
 }
 
-pub missing_place : (files : List StoredFile) (name : List ℕ) (result : Option ℕ) → result ≡ position (has_name name) files → IfNone result (IsMissing name files)
-missing_place files name None is = is_missing files name (sym is)
-missing_place files name (Some place) is = tt
+pub missing_index : (files : List StoredFile) (name : List ℕ) (result : Option ℕ) → result ≡ position (has_name name) files → IfNone result (IsMissing name files)
+missing_index files name None is = is_missing files name (sym is)
+missing_index files name (Some index) is = tt

@@ -13,4 +13,4 @@ pub use error::WriteError;
 pub use files::DiskFiles;
 pub use host::{HostFiles, HostSystem};
 pub use links::linked_name;
-pub use system::{CallFailed, Entry, FileId, FileStatus, System};
+pub use system::{CallFailed, FileId, FileStatus, NameKind, System};

@@ -1,4 +1,4 @@
--- Places that are entered into a map.
+-- Dotted strings that are entered into a map.
 use Rattle.std.proofs.Common.{◌≡◌, ℕ, Bool, ◌+◌, ◌≤◌, true, List, [], ◌++◌, length, take, max, Option, Some, None, unwrap_or, slice_get, sym, refl, ap, subst, ◌∙◌, arith, add-one}
 use Rattle.std.proofs.lemmas.Bool.{leb-true, le-leb, and_from}
 use Rattle.std.proofs.lemmas.List.{append-nil}

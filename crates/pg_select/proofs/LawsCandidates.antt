@@ -154,7 +154,7 @@ chosen_get_level m words pass P H low i d inside = gets _ (candidates_are_low m 
         ∙ ap (λ b. max (only b pass.level) (value_of P (u, pass.dot))) (same_itself (u, pass.dot))
         ∙ greater (value_of P (u, pass.dot)) pass.level less
 
--- the value of a raised place is the greater, and those of others stay
+-- the value of a raised dotted string is the greater, and those of others stay
 pub others_stay : (P : Patterns) (j k : List ℕ × ℕ) (v : ℕ) → same_dotted k j ≡ false → value_of (raise P j v) k ≡ value_of P k
 others_stay P j k v other = value_of_raise P j k v ∙ ap (λ b. max (only b v) (value_of P k)) other ∙ none (value_of P k)
   where

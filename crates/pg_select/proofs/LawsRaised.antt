@@ -201,7 +201,7 @@ any_covers w p len d dot (c ∷ cs) fit long =
     grouped true b c = refl
     grouped false b c = refl
 
--- values and covers after raises, and covers after places that are made hopeless
+-- values and covers after raises, and covers after dotted strings that are made hopeless
 value_all : (level dot : ℕ) (P : Patterns) (w : List ℕ) (p : ℕ) (cs : List Candidate) → value_at (raised_all level dot P cs) w p
     ≡ max (only (list_any (λ (c : Candidate). applies w p (c.window, dot)) cs) level) (value_at P w p)
 value_all level dot P w p [] = none (value_at P w p)

@@ -1,4 +1,4 @@
--- What a raise makes of values, and what a raise and a hopeless place make of covers.
+-- What a raise makes of values, and what a raise and a hopeless dotted string make of covers.
 use Rattle.std.proofs.Common.{◌≡◌, ℕ, ◌<◌, ◌≤◌, nat_le, Bool, true, false, cond, ◌&&◌, ◌||◌, ◌⊎◌, inl, inr, ⊎_elim, List, [], ◌∷◌, unwrap_or, Some, max, refl, sym, ap, ◌∙◌, arith}
 use Rattle.std.specs.declared.cmp.Ordering.{Ordering}
 use Rattle.std.specs.declared.cmp.Ordering.TheVariants.{Less, Equal, Greater}
@@ -13,7 +13,7 @@ use Rattle.pg_types.proofs.BoolFacts.{equal_is}
 use Rattle.pg_patterns.proofs.Joins.{only}
 use Rattle.pg_select.specs.Windows.{Hopeless, is_covered}
 
--- a greater value at a place is the greatest wherever the place passes
+-- a greater value of a dotted string is the greatest wherever it passes
 best_put : (t : List ℕ × ℕ → Bool) (k : List ℕ × ℕ) (v : ℕ) (es : List ((List ℕ × ℕ) × ℕ)) → value_of es k ≤ v → greatest_value t (put dotted_cmp k v es) ≡ max (only (t k) v) (greatest_value t es)
 best_put t k v [] low = refl
 best_put t k v (e ∷ es) low =
@@ -39,7 +39,7 @@ best_put t k v (e ∷ es) low =
     turned : (a b c : ℕ) → max a (max b c) ≡ max b (max a c)
     turned a b c = omega arith
 
--- the value of a place is within the greatest where the place passes
+-- the value of a dotted string is within the greatest where it passes
 value_within : (t : List ℕ × ℕ → Bool) (k : List ℕ × ℕ) (es : List ((List ℕ × ℕ) × ℕ)) → t k ≡ true → value_of es k ≤ greatest_value t es
 value_within t k [] pass = omega arith
 value_within t k (e ∷ es) pass =
@@ -50,7 +50,7 @@ value_within t k (e ∷ es) pass =
       | false ↦ λ b. let rest : value_of es k ≤ greatest_value t es = value_within t k es pass in omega arith
     ] refl
 
--- a raise raises the values of the positions where its place applies, and no others
+-- a raise raises the values of the positions where its dotted string applies, and no others
 pub raised_value : (P : Patterns) (k : List ℕ × ℕ) (v : ℕ) (w : List ℕ) (p : ℕ) → value_at (raise P k v) w p ≡ max (only (applies w p k) v) (value_at P w p)
 raised_value P k v w p =
     best_put (applies w p) k (max v (value_of P k)) P (omega arith)
@@ -72,7 +72,7 @@ raised_to P k level w p = by_test (applies w p k) (raised_value P k level w p)
         (λ (high : level ≤ value_at P w p). inl (omega arith))
         (cases_lt (value_at P w p) level)
 
--- an entry more that passes where the one of its place did
+-- an entry more that passes where the one of its dotted string did
 any_put : {X : Type 0} (t : (List ℕ × ℕ) × X → Bool) (k : List ℕ × ℕ) (v : X) (es : List ((List ℕ × ℕ) × X)) → ((x : X) → t (k, x) ≡ true → t (k, v) ≡ true)
     → list_any t (put dotted_cmp k v es) ≡ (t (k, v) || list_any t es)
 any_put t k v [] more = refl
@@ -100,7 +100,7 @@ both_tests : (a b c : Bool) → ((a || b) || c) ≡ (a || (b || c))
 both_tests true b c = refl
 both_tests false b c = refl
 
--- a place that is raised to the level covers where it applies
+-- a dotted string that is raised to the level covers where it applies
 pub covered_raised : (level : ℕ) (P : Patterns) (H : Hopeless) (k : List ℕ × ℕ) (u : List ℕ) (d : ℕ) → is_covered level (raise P k level) H u d
     ≡ (applies u d k || is_covered level P H u d)
 covered_raised level P H k u d =
@@ -111,7 +111,7 @@ covered_raised level P H k u d =
     ∙ ap (λ b. (b || list_any (λ (e : (List ℕ × ℕ) × ℕ). nat_le level e.1 && applies u d e.0) P) || list_any (λ (e : (List ℕ × ℕ) × Unit {0}). applies u d e.0) H) here
     ∙ both_tests (applies u d k) (list_any (λ (e : (List ℕ × ℕ) × ℕ). nat_le level e.1 && applies u d e.0) P) (list_any (λ (e : (List ℕ × ℕ) × Unit {0}). applies u d e.0) H)
 
--- and so does a hopeless place
+-- and so does a hopeless dotted string
 pub covered_hopeless : (level : ℕ) (P : Patterns) (H : Hopeless) (k : List ℕ × ℕ) (u : List ℕ) (d : ℕ) → is_covered level P (put dotted_cmp k (tt {0}) H) u d
     ≡ (applies u d k || is_covered level P H u d)
 covered_hopeless level P H k u d =

@@ -21,7 +21,7 @@ calls_on calls more s0 s1 s2 first then = then ∙ ap (λ (made : List FilesCall
 pub calls_are : (calls same : List FilesCall) (s0 s1 : FilesShown) → calls ≡ same → MakesCalls s0 s1 calls → MakesCalls s0 s1 same
 calls_are calls same s0 s1 is made = subst (λ (cs : List FilesCall). MakesCalls s0 s1 cs) is made
 
--- one place further
+-- one index further
 pub taken_more : {A : Type 0} (xs : List A) (i : ℕ) (x : A) → slice_get xs i ≡ Some x → take (i + 1) xs ≡ take i xs ++ x ∷ []
 taken_more xs i x at = take_more xs i x (slice_get_within xs i x at) ∙ ap (λ y. take i xs ++ y ∷ []) (get_or_from_slice_get xs i x x at)
 

@@ -96,7 +96,7 @@ why_behind front r rest s0 s1 s2 Memory fell accepted stops = tt
 pub stopped_behind : (front : List Reading) (r : Reading) (rest : List Reading) (s0 s1 s2 : FilesShown) (stop : Stop) → NoneFell s0.read_faults s1.read_faults
     → MakesCalls s0 s2 (read_calls front ++ read_call r ∷ []) → IfSome s2.held (λ files. AreAccepted (file_at files) front) → StopsAt r s1 s2 stop → StopsReading (front ++ r ∷ rest) s0 s2 stop
 stopped_behind front r rest s0 s1 s2 stop fell calls accepted stops = record {
-  place = length front;
+  index = length front;
   read = read_behind front r rest s0 s2 calls accepted;
   why = why_behind front r rest s0 s1 s2 stop fell accepted stops;
 }
@@ -111,54 +111,54 @@ accepted_both files [] rest accepted more = more
 accepted_both files (r ∷ front) rest accepted more = (accepted.0, accepted_both files front rest accepted.1 more)
 
 -- files that were read after those of a front, which are accepted
-pub read_after : (front rest : List Reading) (place : ℕ) (s0 s1 s2 : FilesShown) → MakesCalls s0 s1 (read_calls front) → IfSome s2.held (λ files. AreAccepted (file_at files) front)
-    → ReadsUpTo rest place s1 s2 → ReadsUpTo (front ++ rest) (length front + place) s0 s2
-read_after front rest place s0 s1 s2 calls accepted read =
-    let within : place < length rest = read.within in
-    let same : length front + place + 1 ≡ length front + (place + 1) = omega arith in
-    let are : read_calls front ++ read_calls (take (place + 1) rest) ≡ read_calls (take (length front + place + 1) (front ++ rest)) =
-    sym (ap (λ n. read_calls (take n (front ++ rest))) same ∙ ap read_calls (take-append-add front rest (place + 1)) ∙ map-append read_call front (take (place + 1) rest)) in
+pub read_after : (front rest : List Reading) (index : ℕ) (s0 s1 s2 : FilesShown) → MakesCalls s0 s1 (read_calls front) → IfSome s2.held (λ files. AreAccepted (file_at files) front)
+    → ReadsUpTo rest index s1 s2 → ReadsUpTo (front ++ rest) (length front + index) s0 s2
+read_after front rest index s0 s1 s2 calls accepted read =
+    let within : index < length rest = read.within in
+    let same : length front + index + 1 ≡ length front + (index + 1) = omega arith in
+    let are : read_calls front ++ read_calls (take (index + 1) rest) ≡ read_calls (take (length front + index + 1) (front ++ rest)) =
+    sym (ap (λ n. read_calls (take n (front ++ rest))) same ∙ ap read_calls (take-append-add front rest (index + 1)) ∙ map-append read_call front (take (index + 1) rest)) in
     record {
       within = omega (arith, length-append front rest);
-      calls = calls_are (read_calls front ++ read_calls (take (place + 1) rest)) (read_calls (take (length front + place + 1) (front ++ rest))) s0 s2 are
-          (calls_on (read_calls front) (read_calls (take (place + 1) rest)) s0 s1 s2 calls read.calls);
-      before_it = mapped s2.held (λ files. AreAccepted (file_at files) front × (first_end (file_at files) (take place rest) ≡ None))
-          (λ files. first_end (file_at files) (take (length front + place) (front ++ rest)) ≡ None)
-          (λ files h. ap (first_end (file_at files)) (take-append-add front rest place) ∙ accepted_front (file_at files) front (take place rest) h.0 ∙ h.1)
-          (both s2.held (λ files. AreAccepted (file_at files) front) (λ files. first_end (file_at files) (take place rest) ≡ None) accepted read.before_it);
+      calls = calls_are (read_calls front ++ read_calls (take (index + 1) rest)) (read_calls (take (length front + index + 1) (front ++ rest))) s0 s2 are
+          (calls_on (read_calls front) (read_calls (take (index + 1) rest)) s0 s1 s2 calls read.calls);
+      before_it = mapped s2.held (λ files. AreAccepted (file_at files) front × (first_end (file_at files) (take index rest) ≡ None))
+          (λ files. first_end (file_at files) (take (length front + index) (front ++ rest)) ≡ None)
+          (λ files h. ap (first_end (file_at files)) (take-append-add front rest index) ∙ accepted_front (file_at files) front (take index rest) h.0 ∙ h.1)
+          (both s2.held (λ files. AreAccepted (file_at files) front) (λ files. first_end (file_at files) (take index rest) ≡ None) accepted read.before_it);
     }
 
 -- one of them that ends the call ends it there
-pub end_after : (front rest : List Reading) (place : ℕ) (held : Option FileMap) (end : Outcome) → IfSome held (λ files. AreAccepted (file_at files) front)
-    → IfSome held (λ files. first_end (file_at files) (take (place + 1) rest) ≡ Some end)
-    → IfSome held (λ files. first_end (file_at files) (take (length front + place + 1) (front ++ rest)) ≡ Some end)
-end_after front rest place held end accepted is =
-    let same : length front + place + 1 ≡ length front + (place + 1) = omega arith in
-    mapped held (λ files. AreAccepted (file_at files) front × (first_end (file_at files) (take (place + 1) rest) ≡ Some end))
-    (λ files. first_end (file_at files) (take (length front + place + 1) (front ++ rest)) ≡ Some end)
-    (λ files h. ap (λ n. first_end (file_at files) (take n (front ++ rest))) same ∙ ap (first_end (file_at files)) (take-append-add front rest (place + 1))
-    ∙ accepted_front (file_at files) front (take (place + 1) rest) h.0 ∙ h.1)
-    (both held (λ files. AreAccepted (file_at files) front) (λ files. first_end (file_at files) (take (place + 1) rest) ≡ Some end) accepted is)
+pub end_after : (front rest : List Reading) (index : ℕ) (held : Option FileMap) (end : Outcome) → IfSome held (λ files. AreAccepted (file_at files) front)
+    → IfSome held (λ files. first_end (file_at files) (take (index + 1) rest) ≡ Some end)
+    → IfSome held (λ files. first_end (file_at files) (take (length front + index + 1) (front ++ rest)) ≡ Some end)
+end_after front rest index held end accepted is =
+    let same : length front + index + 1 ≡ length front + (index + 1) = omega arith in
+    mapped held (λ files. AreAccepted (file_at files) front × (first_end (file_at files) (take (index + 1) rest) ≡ Some end))
+    (λ files. first_end (file_at files) (take (length front + index + 1) (front ++ rest)) ≡ Some end)
+    (λ files h. ap (λ n. first_end (file_at files) (take n (front ++ rest))) same ∙ ap (first_end (file_at files)) (take-append-add front rest (index + 1))
+    ∙ accepted_front (file_at files) front (take (index + 1) rest) h.0 ∙ h.1)
+    (both held (λ files. AreAccepted (file_at files) front) (λ files. first_end (file_at files) (take (index + 1) rest) ≡ Some end) accepted is)
 
 -- a stop while more files are read is a stop of all
 pub stopped_after : (front rest : List Reading) (s0 s1 s2 : FilesShown) (stop : Stop) → NoneFell s0.read_faults s1.read_faults → MakesCalls s0 s1 (read_calls front)
     → IfSome s2.held (λ files. AreAccepted (file_at files) front) → StopsReading rest s1 s2 stop → StopsReading (front ++ rest) s0 s2 stop
 stopped_after front rest s0 s1 s2 stop fell calls accepted stops = record {
-  place = length front + stops.place;
-  read = read_after front rest stops.place s0 s1 s2 calls accepted stops.read;
-  why = why_after stop stops.place stops.read.within stops.why;
+  index = length front + stops.index;
+  read = read_after front rest stops.index s0 s1 s2 calls accepted stops.read;
+  why = why_after stop stops.index stops.read.within stops.why;
 }
   where
-    why_after : (stop : Stop) (place : ℕ) → place < length rest → StopsWith rest place s1 s2 stop → StopsWith (front ++ rest) (length front + place) s0 s2 stop
-    why_after (Refused input refusal) place within why = end_after front rest place s2.held (refuses input refusal) accepted why
-    why_after (Unread name) place within why = (
+    why_after : (stop : Stop) (index : ℕ) → index < length rest → StopsWith rest index s1 s2 stop → StopsWith (front ++ rest) (length front + index) s0 s2 stop
+    why_after (Refused input refusal) index within why = end_after front rest index s2.held (refuses input refusal) accepted why
+    why_after (Unread name) index within why = (
       why.0,
-      slice_get_read (front ++ rest) (length (front ++ rest)) (length front + place) why.0 refl (omega (arith, length-append front rest))
-          (sym (get_or-append-add front rest place why.0 ∙ get_or_from_slice_get rest place why.0 why.0 why.1)),
+      slice_get_read (front ++ rest) (length (front ++ rest)) (length front + index) why.0 refl (omega (arith, length-append front rest))
+          (sym (get_or-append-add front rest index why.0 ∙ get_or_from_slice_get rest index why.0 why.0 why.1)),
       why.2,
       rose_since (s0.read_faults name.now) (s1.read_faults name.now) (s2.read_faults name.now) (fell name.now) why.3,
     )
-    why_after Memory place within why = tt
+    why_after Memory index within why = tt
 
 -- a stop at a file of the front is a stop of all
 ended_front : (ends : List ℕ → Option Outcome) (file : Option (List ℕ)) (a b : Option Outcome) (end : Outcome) → (a ≡ Some end → b ≡ Some end)
@@ -179,30 +179,30 @@ end_of_all files n reads end is = ap (first_end files) (sym (take-append-drop n 
 
 pub stopped_in_front : (front rest : List Reading) (s0 s1 : FilesShown) (stop : Stop) → StopsReading front s0 s1 stop → StopsReading (front ++ rest) s0 s1 stop
 stopped_in_front front rest s0 s1 stop stops = record {
-  place = stops.place;
+  index = stops.index;
   read = record {
-    within = let within : stops.place < length front = stops.read.within in omega (arith, length-append front rest);
-    calls = calls_are (read_calls (take (stops.place + 1) front)) (read_calls (take (stops.place + 1) (front ++ rest))) s0 s1
-        (sym (ap read_calls (take-append-le (stops.place + 1) front rest (let within : stops.place < length front = stops.read.within in omega arith)))) stops.read.calls;
-    before_it = mapped s1.held (λ files. first_end (file_at files) (take stops.place front) ≡ None) (λ files. first_end (file_at files) (take stops.place (front ++ rest)) ≡ None)
-        (λ files is. ap (first_end (file_at files)) (take-append-le stops.place front rest (let within : stops.place < length front = stops.read.within in omega arith)) ∙ is) stops.read.before_it;
+    within = let within : stops.index < length front = stops.read.within in omega (arith, length-append front rest);
+    calls = calls_are (read_calls (take (stops.index + 1) front)) (read_calls (take (stops.index + 1) (front ++ rest))) s0 s1
+        (sym (ap read_calls (take-append-le (stops.index + 1) front rest (let within : stops.index < length front = stops.read.within in omega arith)))) stops.read.calls;
+    before_it = mapped s1.held (λ files. first_end (file_at files) (take stops.index front) ≡ None) (λ files. first_end (file_at files) (take stops.index (front ++ rest)) ≡ None)
+        (λ files is. ap (first_end (file_at files)) (take-append-le stops.index front rest (let within : stops.index < length front = stops.read.within in omega arith)) ∙ is) stops.read.before_it;
   };
-  why = why_in_front stop stops.place stops.read.within stops.why;
+  why = why_in_front stop stops.index stops.read.within stops.why;
 }
   where
-    why_in_front : (stop : Stop) (place : ℕ) → place < length front → StopsWith front place s0 s1 stop → StopsWith (front ++ rest) place s0 s1 stop
-    why_in_front (Refused input refusal) place within why =
-        mapped s1.held (λ files. first_end (file_at files) (take (place + 1) front) ≡ Some (refuses input refusal))
-        (λ files. first_end (file_at files) (take (place + 1) (front ++ rest)) ≡ Some (refuses input refusal))
-        (λ files is. ap (first_end (file_at files)) (take-append-le (place + 1) front rest (omega arith)) ∙ is) why
-    why_in_front (Unread name) place within why = (
+    why_in_front : (stop : Stop) (index : ℕ) → index < length front → StopsWith front index s0 s1 stop → StopsWith (front ++ rest) index s0 s1 stop
+    why_in_front (Refused input refusal) index within why =
+        mapped s1.held (λ files. first_end (file_at files) (take (index + 1) front) ≡ Some (refuses input refusal))
+        (λ files. first_end (file_at files) (take (index + 1) (front ++ rest)) ≡ Some (refuses input refusal))
+        (λ files is. ap (first_end (file_at files)) (take-append-le (index + 1) front rest (omega arith)) ∙ is) why
+    why_in_front (Unread name) index within why = (
       why.0,
-      slice_get_read (front ++ rest) (length (front ++ rest)) place why.0 refl (omega (arith, length-append front rest))
-          (sym (get_or_append_left front rest why.0 place within ∙ get_or_from_slice_get front place why.0 why.0 why.1)),
+      slice_get_read (front ++ rest) (length (front ++ rest)) index why.0 refl (omega (arith, length-append front rest))
+          (sym (get_or_append_left front rest why.0 index within ∙ get_or_from_slice_get front index why.0 why.0 why.1)),
       why.2,
       why.3,
     )
-    why_in_front Memory place within why = tt
+    why_in_front Memory index within why = tt
 
 -- where no file ends the call, none of the front does
 goes_before : (ends : List ℕ → Option Outcome) (file : Option (List ℕ)) (a b : Option Outcome) → (a ≡ None → b ≡ None)
@@ -232,7 +232,7 @@ reads_all reads s0 s1 some calls accepted = record {
 -- and then memory was wanted
 pub wanted_after : (reads : List Reading) (s0 s1 : FilesShown) → 0 < length reads → MakesCalls s0 s1 (read_calls reads)
     → IfSome s1.held (λ files. AreAccepted (file_at files) reads) → StopsReading reads s0 s1 Memory
-wanted_after reads s0 s1 some calls accepted = record { place = length reads - 1; read = reads_all reads s0 s1 some calls accepted; why = tt }
+wanted_after reads s0 s1 some calls accepted = record { index = length reads - 1; read = reads_all reads s0 s1 some calls accepted; why = tt }
 
 -- files that are told are kept in two steps
 pub kept_self : (a : Option FileMap) → KeepsHeld a a

@@ -30,38 +30,38 @@ MakesPuts old new puts = new.puts ≡ after_calls old.puts puts
 abbrev pub PutsFault : SinkShown → SinkShown → Type 0
 PutsFault old new = (puts : ℕ) × (1 ≤ puts) × (puts ≤ 3) × MakesPuts old new puts
 
--- the files before a place of the order were read, each once, and none of them ends the call
+-- the files before an index of the order were read, each once, and none of them ends the call
 pub record ReadsUpTo (reads : List Reading) (at : ℕ) (old new : FilesShown) : Type 0 where
   pub within : at < length reads
   pub calls : MakesCalls old new (read_calls (take (at + 1) reads))
   pub before_it : IfSome new.held (λ files. first_end (file_at files) (take at reads) ≡ None)
 
--- the file at this place of the order ends the call; or the place is the end, and no file does
+-- the file at this index of the order ends the call; or the index is the end, and no file does
 abbrev pub EndsAt : CommandRule → ℕ → HeldFiles → Type 0
 EndsAt rule at files = (first_end files (take (at + 1) rule.reads) ≡ Some (outcome_of files rule))
     ⊎ ((at + 1 ≡ length rule.reads) × (first_end files rule.reads ≡ None))
 
 -- a file ended the call, or the command did once all were read; one line was put at once
-abbrev pub IsEndedCounted : CommandRule → Moment → Moment → Type 0
-IsEndedCounted rule old new = (at : ℕ) × ReadsUpTo rule.reads at old.0 new.0
+abbrev pub MakesReadCalls : CommandRule → Moment → Moment → Type 0
+MakesReadCalls rule old new = (at : ℕ) × ReadsUpTo rule.reads at old.0 new.0
     × IfSome new.0.held (λ files. EndsAt rule at (file_at files)) × MakesPuts old.1 new.1 1
 
 -- each file was read once, then each written once, and the lines were put at once
-abbrev pub IsWholeCounted : CommandRule → Moment → Moment → Type 0
-IsWholeCounted rule old new = MakesCalls old.0 new.0
+abbrev pub MakesAllCalls : CommandRule → Moment → Moment → Type 0
+MakesAllCalls rule old new = MakesCalls old.0 new.0
     (read_calls rule.reads ++ map Writes rule.writes) × MakesPuts old.1 new.1 1
 
 -- the calls of an answer that comes from the outcome
-abbrev pub IsEndCounted : CommandRule → Status → Moment → Moment → Type 0
-IsEndCounted rule status.No old new = IsEndedCounted rule old new
-IsEndCounted rule status.Refused old new = IsEndedCounted rule old new
-IsEndCounted rule status.Fault old new = ⊥
-IsEndCounted rule status.Memory old new = ⊥
-IsEndCounted rule answer old new = IsWholeCounted rule old new
+abbrev pub MakesOutcomeCalls : CommandRule → Status → Moment → Moment → Type 0
+MakesOutcomeCalls rule status.No old new = MakesReadCalls rule old new
+MakesOutcomeCalls rule status.Refused old new = MakesReadCalls rule old new
+MakesOutcomeCalls rule status.Fault old new = ⊥
+MakesOutcomeCalls rule status.Memory old new = ⊥
+MakesOutcomeCalls rule answer old new = MakesAllCalls rule old new
 
 -- the calls of each answer but a fault, whose own clauses tell its calls
-abbrev pub IsCountedCall : CommandRule → Status → Moment → Moment → Type 0
-IsCountedCall rule status.Memory old new = ((new.0.calls ≡ old.0.calls)
+abbrev pub MakesAnswerCalls : CommandRule → Status → Moment → Moment → Type 0
+MakesAnswerCalls rule status.Memory old new = ((new.0.calls ≡ old.0.calls)
     ⊎ ((at : ℕ) × ReadsUpTo rule.reads at old.0 new.0)) × MakesPuts old.1 new.1 0
-IsCountedCall rule status.Fault old new = Unit {0}
-IsCountedCall rule answer old new = IsEndCounted rule answer old new
+MakesAnswerCalls rule status.Fault old new = Unit {0}
+MakesAnswerCalls rule answer old new = MakesOutcomeCalls rule answer old new

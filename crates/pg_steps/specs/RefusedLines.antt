@@ -6,18 +6,18 @@ use Rattle.pg_steps.specs.declared.inputs.Input.{Input}
 use Rattle.pg_steps.specs.declared.inputs.Input.TheVariants as input
 use Rattle.pg_steps.specs.declared.inputs.Given.TheVariants as given
 
--- the words for a file in a line of refusal or of `no`
-abbrev pub word_of : Input → List ℕ
-word_of input.Translate = codes "translate"
-word_of input.Parameters = codes "parameters"
-word_of input.Patterns = codes "patterns"
-word_of input.Dictionary = codes "dictionary"
-word_of (input.Set k) = codes "set " ++ decimal k
-word_of input.Table = codes "table"
-word_of (input.Given given.Patterns) = codes "patterns"
-word_of (input.Given given.Pattmp) = codes "pattmp"
-word_of (input.Given given.Cells) = codes "cells"
-word_of (input.Given given.Report) = codes "report"
+-- what a line of refusal or of `no` calls a file
+abbrev pub label_of : Input → List ℕ
+label_of input.Translate = codes "translate"
+label_of input.Parameters = codes "parameters"
+label_of input.Patterns = codes "patterns"
+label_of input.Dictionary = codes "dictionary"
+label_of (input.Set k) = codes "set " ++ decimal k
+label_of input.Table = codes "table"
+label_of (input.Given given.Patterns) = codes "patterns"
+label_of (input.Given given.Pattmp) = codes "pattmp"
+label_of (input.Given given.Cells) = codes "cells"
+label_of (input.Given given.Report) = codes "report"
 
 -- where in a file the refused place is: an item of parameters, a line and a column of the others
 abbrev pub place_of : Input → Refusal → List ℕ
@@ -27,6 +27,6 @@ place_of other r = codes " line " ++ decimal r.line ++ codes " column " ++ decim
 
 -- where a file is refused; a refusal with line 0 has no place
 abbrev pub refused_line : Input → Refusal → List ℕ
-refused_line input r = codes "refused: " ++ word_of input ++ codes " "
+refused_line input r = codes "refused: " ++ label_of input ++ codes " "
     ++ decimal (number_and_name r.kind).0 ++ codes " " ++ (number_and_name r.kind).1
     ++ (if r.line == 0 then [] else place_of input r) ++ codes "\n"

@@ -15,5 +15,5 @@ pub use puts::{answer, put_stop};
 pub use reading::{
     read_dictionary, read_front, read_lists, read_parameters, read_start, read_table, refuse,
 };
-pub use refused::push_word;
-pub use writes::{Output, Outputs, end, push_file};
+pub use refused::push_label;
+pub use writes::{BuiltTexts, OutputFile, end, push_file};

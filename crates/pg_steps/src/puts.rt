@@ -2,7 +2,7 @@
 ghost use Rattle.std.specs.Prelude.{◌≡◌, ◌≤◌, ◌++◌, ◌∷◌, [], OnOk, OnErr};
 ghost use Rattle.pg_outside.specs.Faults.{Rose, next_count};
 ghost use Rattle.pg_steps.specs.FileCalls.{PutsFault};
-ghost use Rattle.pg_steps.specs.Inside.writing.PutCounts.{PutsCounted};
+ghost use Rattle.pg_steps.specs.Inside.writing.PutCounts.{MakesStopPuts};
 ghost use Rattle.pg_steps.specs.Moments.{PutOrRose};
 ghost use Rattle.pg_steps.specs.Inside.writing.Puts.{Puts, PutsPart};
 ghost use Rattle.pg_steps.specs.Inside.ends.Stops.{PutsAnswer, PutsStop};
@@ -65,7 +65,7 @@ pub fn put_fault<O: Sink, W: Watch>(out: &mut O, front: &[u8], name: &str, watch
 /// Puts the line that says why a command stopped, if there is one, and gives its answer.
 pub fn put_stop<O: Sink, W: Watch>(alloc: Global, out: &mut O, stop: &Stop<'_>, watch: &W) -> Status
     ensures put { PutsStop stop.now result (O.shown out.old) (O.shown out.new) }
-    ensures counted { PutsCounted stop.now result (O.shown out.old) (O.shown out.new) }
+    ensures counted { MakesStopPuts stop.now result (O.shown out.old) (O.shown out.new) }
 {
     match stop {
         Stop::Refused(input, refusal) => match refused_line(alloc, *input, refusal) {

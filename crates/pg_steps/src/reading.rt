@@ -22,7 +22,7 @@ use pg_outside::{Files, ReadError};
 use pg_patterns::PatternSet;
 use pg_translate::Table;
 use pg_types::{FILE_MAX, Params, ReadingError, read_params};
-use pg_watch::{Refused, Watch};
+use pg_watch::{RefusedFile, Watch};
 use std::alloc::Global;
 
 /// Reads a file as a whole, or its first `limit + 1` bytes where it is longer than `limit` bytes.
@@ -52,7 +52,7 @@ pub fn read_front<'a, F: Files, W: Watch>(
 }
 
 /// Why a command stops where this input breaks its rules. The observer is told of it.
-pub fn refuse<'a, W: Watch>(input: Input, refused: &Refused<'_>, watch: &W) -> Stop<'a>
+pub fn refuse<'a, W: Watch>(input: Input, refused: &RefusedFile<'_>, watch: &W) -> Stop<'a>
     ensures { result ≡ Stop.Refused input refused.now.refusal }
 {
     watch.refuses(refused);
@@ -73,7 +73,7 @@ fn accept<'a, T, W: Watch>(
     match read {
         Ok(value) => Ok(value),
         Err(ReadingError::Refused(refusal)) => {
-            let refused = Refused {
+            let refused = RefusedFile {
                 name,
                 bytes,
                 refusal,

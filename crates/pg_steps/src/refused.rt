@@ -1,14 +1,14 @@
 //! The line where an input is refused.
 ghost use Rattle.std.specs.Prelude.{◌≡◌, ◌++◌, [], OnOk, IfOk};
-ghost use Rattle.pg_steps.specs.RefusedLines.{refused_line as refused_line_of, word_of, place_of};
+ghost use Rattle.pg_steps.specs.RefusedLines.{refused_line as refused_line_of, label_of, place_of};
 
 use crate::inputs::{Given, Input};
 use pg_types::{Refusal, push_number};
 use std::alloc::{AllocError, Global};
 
-/// Appends the words for a file in a line of refusal or of `no`.
-pub fn push_word(line: &mut Vec<u8>, input: Input) -> Result<(), AllocError>
-    ensures { OnOk result (line.new.items ≡ line.old.items ++ word_of input) }
+/// Appends what a line of refusal or of `no` calls a file.
+pub fn push_label(line: &mut Vec<u8>, input: Input) -> Result<(), AllocError>
+    ensures { OnOk result (line.new.items ≡ line.old.items ++ label_of input) }
 {
     match input {
         Input::Translate => line.extend_from_slice(b"translate"),
@@ -53,7 +53,7 @@ fn begin_refused(line: &mut Vec<u8>, input: Input, refusal: &Refusal) -> Result<
     ensures { OnOk result (line.new.items ≡ refused_line_of input refusal.now) }
 {
     line.extend_from_slice(b"refused: ")?;
-    push_word(line, input)?;
+    push_label(line, input)?;
     push_number(line, b" ", u64::from(refusal.kind.number()))?;
     line.extend_from_slice(b" ")?;
     line.extend_from_slice(refusal.kind.name().as_bytes())?;

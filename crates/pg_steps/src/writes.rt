@@ -3,7 +3,7 @@ ghost use Rattle.std.specs.Prelude.{◌≡◌, ◌+◌, ◌<◌, ◌++◌, ◌�
 ghost use Rattle.pg_outside.specs.Inside.NameFaults.{NoneFell};
 ghost use Rattle.pg_steps.specs.FileCalls.{MakesCalls};
 ghost use Rattle.pg_steps.specs.Inside.reading.ReadCalls.{write_calls};
-ghost use Rattle.pg_steps.specs.Inside.writing.WritesMade.{writing_of, written_names, WroteAll, StoppedAt};
+ghost use Rattle.pg_steps.specs.Inside.writing.WritesMade.{writing_of, written_names, WroteAll, WriteFailedAt};
 ghost use Rattle.pg_steps.specs.Inside.ends.Built.{EndsBuilt};
 ghost use Rattle.pg_steps.specs.Inside.ends.Stops.{Finishes};
 
@@ -16,7 +16,7 @@ use std::alloc::{AllocError, Global};
 
 /// A file that is to be written.
 #[derive(Drop)]
-pub struct Output<'a> {
+pub struct OutputFile<'a> {
     /// The name that it gets.
     pub name: &'a str,
     /// All of its bytes.
@@ -25,28 +25,28 @@ pub struct Output<'a> {
 
 /// What a command writes and prints.
 #[derive(Drop)]
-pub struct Outputs<'a> {
+pub struct BuiltTexts<'a> {
     /// The files, in the order in which they are written.
-    pub files: Vec<Output<'a>>,
+    pub files: Vec<OutputFile<'a>>,
     /// The printed lines.
     pub lines: Vec<u8>,
 }
 
 /// Adds a file with this name and text.
 pub fn push_file<'a>(
-    files: &mut Vec<Output<'a>>,
+    files: &mut Vec<OutputFile<'a>>,
     name: &'a str,
     text: Vec<u8>,
 ) -> Result<(), AllocError>
     ensures { OnOk result (writing_of files.new.items
         ≡ writing_of files.old.items ++ (name.now, text.items) ∷ []) }
 {
-    files.push(Output { name, text })?;
+    files.push(OutputFile { name, text })?;
     Ok(())
 }
 
 /// The file with the number `i`, counted from 0.
-pub fn output_at<'a, 'b>(outputs: &'b [Output<'a>], i: usize) -> &'b Output<'a>
+pub fn output_at<'a, 'b>(outputs: &'b [OutputFile<'a>], i: usize) -> &'b OutputFile<'a>
     requires { i < length outputs.now }
     ensures { slice_get outputs.now i ≡ Some result.now }
 {
@@ -57,20 +57,20 @@ pub fn output_at<'a, 'b>(outputs: &'b [Output<'a>], i: usize) -> &'b Output<'a>
 /// file, counted from 0.
 pub fn write_all<F: Files, W: Watch>(
     files: &mut F,
-    outputs: &[Output<'_>],
+    outputs: &[OutputFile<'_>],
     watch: &W,
 ) -> Result<(), usize>
     ensures whole { OnOk result
         (WroteAll (F.shown files.old) (F.shown files.new) (writing_of outputs.now)) }
     ensures stopped { IfErr result
-        (StoppedAt (F.shown files.old) (F.shown files.new) (writing_of outputs.now)) }
+        (WriteFailedAt (F.shown files.old) (F.shown files.new) (writing_of outputs.now)) }
     ensures reads { NoneFell (F.shown files.old).read_faults (F.shown files.new).read_faults }
     ensures writes { NoneFell (F.shown files.old).write_faults (F.shown files.new).write_faults }
     ensures counted { OnOk result (MakesCalls (F.shown files.old) (F.shown files.new)
         (write_calls (written_names (writing_of outputs.now)))) }
     ensures stopped_counted { IfErr result
-        (λ place. MakesCalls (F.shown files.old) (F.shown files.new)
-        (write_calls (take (place + 1) (written_names (writing_of outputs.now))))) }
+        (λ index. MakesCalls (F.shown files.old) (F.shown files.new)
+        (write_calls (take (index + 1) (written_names (writing_of outputs.now))))) }
 {
     let count = outputs.len();
     'writes: for i in 0..count {
@@ -88,7 +88,7 @@ pub fn write_all<F: Files, W: Watch>(
 fn finish<F: Files, O: Sink, W: Watch>(
     files: &mut F,
     out: &mut O,
-    outputs: &Outputs<'_>,
+    outputs: &BuiltTexts<'_>,
     watch: &W,
 ) -> Status
     ensures { Finishes (writing_of outputs.now.files.items) outputs.now.lines.items result
@@ -96,14 +96,14 @@ fn finish<F: Files, O: Sink, W: Watch>(
 {
     match write_all(files, &outputs.files, watch) {
         Ok(()) => answer(out, &outputs.lines, Status::Done, watch),
-        Err(place) => put_fault(out, WRITING, output_at(&outputs.files, place).name, watch),
+        Err(index) => put_fault(out, WRITING, output_at(&outputs.files, index).name, watch),
     }
 }
 
 /// Writes and prints what a command built, or prints why it stopped.
 pub fn end<F: Files, O: Sink, W: Watch>(
     alloc: Global,
-    built: Result<Outputs<'_>, Stop<'_>>,
+    built: Result<BuiltTexts<'_>, Stop<'_>>,
     files: &mut F,
     out: &mut O,
     watch: &W,

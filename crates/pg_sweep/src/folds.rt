@@ -17,7 +17,7 @@ use std::alloc::{AllocError, Global};
 
 /// What all runs of a sweep share.
 #[derive(Clone, Copy)]
-pub(crate) struct SweepInputs<'a> {
+pub(crate) struct SharedInputs<'a> {
     pub dictionary: &'a Dictionary,
     /// The table by which the words were read.
     pub table: &'a Table,
@@ -30,7 +30,7 @@ pub(crate) struct SweepInputs<'a> {
 fn totals_by_rest<K: Maker>(
     alloc: Global,
     maker: &K,
-    inputs: &SweepInputs<'_>,
+    inputs: &SharedInputs<'_>,
     params: &Params,
     rest: &Dictionary,
     left_out: &Dictionary,
@@ -52,7 +52,7 @@ fn totals_by_rest<K: Maker>(
 fn totals_of_fold<K: Maker>(
     alloc: Global,
     maker: &K,
-    inputs: &SweepInputs<'_>,
+    inputs: &SharedInputs<'_>,
     params: &Params,
     fold: u8,
 ) -> Result<Totals, AllocError>
@@ -70,7 +70,7 @@ fn totals_of_fold<K: Maker>(
 pub(crate) fn totals_of_set<K: Maker>(
     alloc: Global,
     maker: &K,
-    inputs: &SweepInputs<'_>,
+    inputs: &SharedInputs<'_>,
     params: &Params,
 ) -> Result<Totals, AllocError>
     requires signs { HasSigns inputs.now }

@@ -8,7 +8,7 @@ ghost use Rattle.pg_sweep.specs.Sweeps.{row_of, costs_of};
 ghost use Rattle.pg_sweep.specs.Winners.{winner_of};
 ghost use Rattle.pg_sweep.specs.Inside.Inputs.{IsSmallFor};
 
-use crate::folds::{SweepInputs, totals_of_set};
+use crate::folds::{SharedInputs, totals_of_set};
 use crate::found::Sweep;
 use crate::maker::Maker;
 use crate::rows::SweepRow;
@@ -58,7 +58,7 @@ pub fn sweep<K: Maker>(
         bad missed) sets.now) }
     ensures winner { IfOk result (λ sweep. sweep.winner ≡ winner_of (costs_of sweep.rows)) }
 {
-    let inputs = SweepInputs {
+    let inputs = SharedInputs {
         dictionary,
         table,
         start,

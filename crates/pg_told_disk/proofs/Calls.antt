@@ -3,9 +3,9 @@ use Rattle.std.proofs.Common.{◌≡◌, inl, inr, ℕ, List, ◌∷◌, length,
 use Rattle.std.specs.Option.{option_map, is_some}
 use Rattle.std.specs.declared.alloc.Global.{Global}
 use Rattle.pg_outside.specs.Inside.disk.Disks as disk
-use Rattle.pg_outside.specs.Inside.disk.Disks.{Disk, Node, ChangesDisk, HoldsNow, IsEntry, IsFollowedBy, IsOpened, IsWritable, IsTaken, LeadsToNone, IsStat, ChangesOnlyFile, AppendsFront}
+use Rattle.pg_outside.specs.Inside.disk.Disks.{Disk, Node, ChangesDisk, HoldsNow, IsKindOf, IsFollowedBy, IsOpened, IsWritable, IsTaken, LeadsToNone, IsStat, ChangesOnlyFile, AppendsFront}
 use Rattle.pg_outside.specs.Inside.disk.NewNames.{IsLinkedName}
-use Rattle.pg_outside.specs.declared.disk.system.Entry.TheVariants.{Missing, Link, File}
+use Rattle.pg_outside.specs.declared.disk.system.NameKind.TheVariants.{Missing, Link, File}
 use Rattle.pg_outside.specs.declared.disk.system.FileId.{FileId}
 use Rattle.pg_told_disk.specs.Inside.Changes.{number_in, mode_in, bytes_in, stored_in, node_with, lets_write, id_of, disk_in}
 use Rattle.pg_told_disk.specs.Inside.LinkLists.{link_in, real_in, said_or}
@@ -33,17 +33,17 @@ none_in links log q is = id_in links log q ∙ id_none (number_in log (real_in l
 stands : (links : List linked.Link) (log : List Change) (q : List ℕ) (o : Option ℕ) → is_some (link_in links q) ≡ false → number_in log q ≡ o → number_in log (real_in links q) ≡ o
 stands links log q o unlinked is = ap (λ (r : List ℕ). number_in log r) (not_link links q unlinked) ∙ is
 
-pub is_linked : (b : Bool) (links : List linked.Link) (log : List Change) (q : List ℕ) → is_some (link_in links q) ≡ true → HoldsNow (told_where b links log) (IsEntry q Link)
-is_linked b links log q is = told_now b links log (IsEntry q Link) is
+pub is_linked : (b : Bool) (links : List linked.Link) (log : List Change) (q : List ℕ) → is_some (link_in links q) ≡ true → HoldsNow (told_where b links log) (IsKindOf q Link)
+is_linked b links log q is = told_now b links log (IsKindOf q Link) is
 
 pub is_missing : (b : Bool) (links : List linked.Link) (log : List Change) (q : List ℕ) → is_some (link_in links q) ≡ false → number_in log q ≡ None
-    → HoldsNow (told_where b links log) (IsEntry q Missing)
-is_missing b links log q unlinked none = told_now b links log (IsEntry q Missing) (unlinked, none_in links log q (stands links log q None unlinked none))
+    → HoldsNow (told_where b links log) (IsKindOf q Missing)
+is_missing b links log q unlinked none = told_now b links log (IsKindOf q Missing) (unlinked, none_in links log q (stands links log q None unlinked none))
 
 pub is_file : (b : Bool) (links : List linked.Link) (log : List Change) (q : List ℕ) (n : ℕ) (id : FileId) → is_some (link_in links q) ≡ false → id
-    ≡ id_of n → number_in log q ≡ Some n → HoldsNow (told_where b links log) (IsEntry q (File id))
-is_file b links log q n id unlinked named is = subst (λ (k : FileId). HoldsNow (told_where b links log) (IsEntry q (File k))) (sym named)
-    (told_now b links log (IsEntry q (File (id_of n))) (unlinked, leads_in links log q n (stands links log q (Some n) unlinked is)))
+    ≡ id_of n → number_in log q ≡ Some n → HoldsNow (told_where b links log) (IsKindOf q (File id))
+is_file b links log q n id unlinked named is = subst (λ (k : FileId). HoldsNow (told_where b links log) (IsKindOf q (File k))) (sym named)
+    (told_now b links log (IsKindOf q (File (id_of n))) (unlinked, leads_in links log q n (stands links log q (Some n) unlinked is)))
 
 followed_in : (links : List linked.Link) (log : List Change) (q text : List ℕ) (link : linked.Link) → link_in links q ≡ Some link
     → IsLinkedName q text (string_bytes link.said) → IsFollowedBy q text (disk_in links log)

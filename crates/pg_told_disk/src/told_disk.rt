@@ -6,7 +6,7 @@ ghost use Rattle.pg_told_disk.specs.Inside.Changes.{IsHeldIn};
 use crate::change::Change;
 use crate::links::{Link, is_link, link_of, real_of, text_of};
 use crate::lookup::{bytes_of, lets_write, mode_of, number_of};
-use pg_outside::{CallFailed, Entry, FileId, FileStatus, System, linked_name};
+use pg_outside::{CallFailed, FileId, FileStatus, NameKind, System, linked_name};
 use std::alloc::{AllocError, Global};
 
 /// How many bytes a write takes at most.
@@ -221,16 +221,16 @@ impl System for ToldDisk {
 
     ghost new_names = { λ disk. new_names_where disk.is_told disk.links.items disk.log.items };
 
-    fn look(&mut self, name: &str) -> Result<Entry, CallFailed> {
+    fn look(&mut self, name: &str) -> Result<NameKind, CallFailed> {
         if self.failing.next_fails() {
             return Err(CallFailed);
         }
         if is_link(&self.links, name) {
-            return Ok(Entry::Link);
+            return Ok(NameKind::Link);
         }
         match number_of(&self.log, name) {
-            None => Ok(Entry::Missing),
-            Some(number) => Ok(Entry::File(id_of(number))),
+            None => Ok(NameKind::Missing),
+            Some(number) => Ok(NameKind::File(id_of(number))),
         }
     }
 

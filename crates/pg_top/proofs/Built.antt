@@ -4,9 +4,9 @@ use Rattle.std.specs.Prelude.{ℕ, Result, Ok, Err, ◌⊎◌}
 use Rattle.pg_outside.specs.Content.{FileMap, FilesShown, SinkShown, WasPut, WasPartPut, file_at}
 use Rattle.pg_top.specs.Answers.{IsCall}
 use Rattle.pg_top.specs.CommandRules.{rule_of, usage_rule}
-use Rattle.pg_steps.specs.FileCalls.{MakesPuts, IsCountedCall}
+use Rattle.pg_steps.specs.FileCalls.{MakesPuts, MakesAnswerCalls}
 use Rattle.pg_steps.specs.Inside.ends.Built.{KeepsPromise, IsMade, Builds, EndsBuilt}
-use Rattle.pg_steps.specs.Inside.writing.PutCounts.{LinesCounted}
+use Rattle.pg_steps.specs.Inside.writing.PutCounts.{MakesLinePuts}
 use Rattle.pg_steps.specs.Inside.ends.Stops.{StopsCommand, PutsAnswer, PutsLines}
 use Rattle.pg_steps.specs.Inside.writing.WritesMade.{writing_of}
 use Rattle.pg_steps.specs.Moments.{OfFiles}
@@ -20,7 +20,7 @@ use Rattle.pg_top.specs.sample.SampleRule.{sample_lines, sample_rule}
 use Rattle.pg_steps.specs.declared.answers.Status.{Status}
 use Rattle.pg_steps.specs.declared.answers.Status.TheVariants.{Done, Usage, Refused, Fault, Memory}
 use Rattle.pg_steps.specs.declared.inputs.Stop.{Stop}
-use Rattle.pg_steps.specs.declared.writes.Outputs.{Outputs}
+use Rattle.pg_steps.specs.declared.writes.BuiltTexts.{BuiltTexts}
 use Rattle.pg_words.specs.Requests.{Request, ToAudit, ToSample}
 use Rattle.pg_words.specs.forms.Generate.{FileNames}
 use Rattle.pg_top.proofs.Calls.{IsEnd, finished_call, stopped_command, usage_call, sample_call}
@@ -34,7 +34,7 @@ pub record IsBuilding (rule : CommandRule) : Type 0 where
   pub reads : rule.reads ≡ [] → ⊥
 
 -- such a command at its end
-pub built_run : {F : Type 0} (asked : Option Request) (built : Result Outputs Stop) (before after : F) (s0 s1 s2 : FilesShown) (o0 o1 : SinkShown) (answer : Status)
+pub built_run : {F : Type 0} (asked : Option Request) (built : Result BuiltTexts Stop) (before after : F) (s0 s1 s2 : FilesShown) (o0 o1 : SinkShown) (answer : Status)
     → IsBuilding (rule_of asked) → Builds (rule_of asked) s0 s1 built → EndsBuilt built answer (s1, o0) (s2, o1) → IsRun asked answer before after (s0, o0) (s2, o1)
 built_run asked (Ok made) before after s0 s1 s2 o0 o1 answer building builds ends =
     let rule = rule_of asked in
@@ -53,7 +53,7 @@ built_run asked (Err stop) before after s0 s1 s2 o0 o1 answer building builds en
     let wants : Contains rule.answers Memory = subst (λ (answers : List Status). Contains answers Memory) (sym building.answers) (2, omega arith, refl) in
     record {
       call = subst (λ (s : FilesShown). IsCall rule answer (s0, o0) (s, o1)) (sym ends.0) (stopped_command rule s0 s1 o0 o1 stop answer may wants builds.only.held stops ends.1 ends.2);
-      counted = subst (λ (s : FilesShown). IsCountedCall rule answer (s0, o0) (s, o1)) (sym ends.0) (counted_stop rule s0 s1 o0 o1 stop answer stops ends.2);
+      counted = subst (λ (s : FilesShown). MakesAnswerCalls rule answer (s0, o0) (s, o1)) (sym ends.0) (counted_stop rule s0 s1 o0 o1 stop answer stops ends.2);
       promised = λ is. absurd (stop_not_done stop answer o0 o1 ends.1 is);
       unread = λ none. absurd (building.reads none);
     }
@@ -84,7 +84,7 @@ usage_run files s o0 o1 answer line puts = record {
 
 -- `sample`, which has no files
 pub sample_run : {F : Type 0} (seed count : ℕ) (files : F) (s : FilesShown) (o0 o1 : SinkShown) (answer : Status) → PutsLines (sample_lines seed count) answer o0 o1
-    → LinesCounted answer o0 o1 → IsRun (Some (ToSample seed count)) answer files files (s, o0) (s, o1)
+    → MakesLinePuts answer o0 o1 → IsRun (Some (ToSample seed count)) answer files files (s, o0) (s, o1)
 sample_run seed count files s o0 o1 answer lines puts = record {
   call = sample_call seed count s o0 o1 answer lines puts;
   counted = counts lines;
@@ -97,16 +97,16 @@ sample_run seed count files s o0 o1 answer lines puts = record {
     put (inl h) = (λ is. absurd (let wanted = h.0 in cc), λ is. absurd (let wanted = h.0 in cc))
     put (inr h) = lines_put Done answer (sample_lines seed count) o0 o1 tt h
 
-    counts : PutsLines (sample_lines seed count) answer o0 o1 → IsCountedCall (sample_rule seed count) answer (s, o0) (s, o1)
-    counts (inl h) = subst (λ (answer : Status). IsCountedCall (sample_rule seed count) answer (s, o0) (s, o1)) (sym h.0)
-        (inl refl, subst (λ (answer : Status). LinesCounted answer o0 o1) h.0 puts)
-    counts (inr (inl h)) = subst (λ (answer : Status). IsCountedCall (sample_rule seed count) answer (s, o0) (s, o1)) (sym h.0)
-        (no_calls s, subst (λ (answer : Status). LinesCounted answer o0 o1) h.0 puts)
-    counts (inr (inr h)) = subst (λ (answer : Status). IsCountedCall (sample_rule seed count) answer (s, o0) (s, o1)) (sym h.0) tt
+    counts : PutsLines (sample_lines seed count) answer o0 o1 → MakesAnswerCalls (sample_rule seed count) answer (s, o0) (s, o1)
+    counts (inl h) = subst (λ (answer : Status). MakesAnswerCalls (sample_rule seed count) answer (s, o0) (s, o1)) (sym h.0)
+        (inl refl, subst (λ (answer : Status). MakesLinePuts answer o0 o1) h.0 puts)
+    counts (inr (inl h)) = subst (λ (answer : Status). MakesAnswerCalls (sample_rule seed count) answer (s, o0) (s, o1)) (sym h.0)
+        (no_calls s, subst (λ (answer : Status). MakesLinePuts answer o0 o1) h.0 puts)
+    counts (inr (inr h)) = subst (λ (answer : Status). MakesAnswerCalls (sample_rule seed count) answer (s, o0) (s, o1)) (sym h.0) tt
 
 -- `audit`
 pub audit_run : {F : Type 0} (n : FileNames) (before after : F) (s0 s1 : FilesShown) (o0 o1 : SinkShown) (answer : Status) → IsCall (audit_rule n) answer (s0, o0) (s1, o1)
-    → IsCountedCall (audit_rule n) answer (s0, o0) (s1, o1) → IsRun (Some (ToAudit n)) answer before after (s0, o0) (s1, o1)
+    → MakesAnswerCalls (audit_rule n) answer (s0, o0) (s1, o1) → IsRun (Some (ToAudit n)) answer before after (s0, o0) (s1, o1)
 audit_run n before after s0 s1 o0 o1 answer call counted = record {
   call = call;
   counted = counted;

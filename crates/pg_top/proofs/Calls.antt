@@ -8,9 +8,9 @@ use Rattle.pg_outside.specs.Content.{FileMap, FilesShown, SinkShown, KeepsHeld, 
 use Rattle.pg_outside.specs.Inside.NameFaults.{NoneFell}
 use Rattle.pg_top.specs.Answers.{IsCall}
 use Rattle.pg_top.specs.CommandRules.{usage_rule}
-use Rattle.pg_steps.specs.FileCalls.{MakesCalls, MakesPuts, read_calls, PutsFault, ReadsUpTo, EndsAt, IsEndCounted}
+use Rattle.pg_steps.specs.FileCalls.{MakesCalls, MakesPuts, read_calls, PutsFault, ReadsUpTo, EndsAt, MakesOutcomeCalls}
 use Rattle.pg_steps.specs.Inside.reading.ReadCalls.{write_calls}
-use Rattle.pg_steps.specs.Inside.writing.PutCounts.{PutsCounted, LinesCounted}
+use Rattle.pg_steps.specs.Inside.writing.PutCounts.{MakesStopPuts, MakesLinePuts}
 use Rattle.pg_steps.specs.Moments.{Moment, PutOrRose}
 use Rattle.pg_steps.specs.Inside.writing.Puts.{Puts, PutsPart, PutRose}
 use Rattle.pg_steps.specs.Outcomes.{Outcome, Ends, Writing, IsKnown}
@@ -22,7 +22,7 @@ use Rattle.pg_steps.specs.Readings.{first_end}
 use Rattle.pg_top.specs.sample.SampleRule.{sample_rule, sample_lines}
 use Rattle.pg_steps.specs.Inside.ends.Stops.{ReadRose, ReadRoseAt, StopsWith, StopsReading, StopsCommandWith, StopsCommand, PutsAnswer, PutsLines, PutsStop, Finishes}
 use Rattle.pg_steps.specs.Writings.{after_all, IsPartWritten}
-use Rattle.pg_steps.specs.Inside.writing.WritesMade.{written_names, WroteAll, StoppedAt}
+use Rattle.pg_steps.specs.Inside.writing.WritesMade.{written_names, WroteAll, WriteFailedAt}
 use Rattle.pg_steps.specs.declared.answers.Status.{Status}
 use Rattle.pg_steps.specs.declared.answers.Status.TheVariants.{Done, Usage, Refused, Fault, Memory}
 use Rattle.pg_steps.specs.declared.inputs.Input.{Input}
@@ -93,7 +93,7 @@ module _ (rule : CommandRule) (wanted : Status) (writing : Writing) (lines : Lis
   }
 
   -- its lines could not be put
-  put_failed : (s0 s1 s2 : FilesShown) (o0 o1 : SinkShown) → IsEndCounted rule wanted (s0, o0) (s2, o1) → KeepsHeld s0.held s1.held → IfSome s1.held Comes
+  put_failed : (s0 s1 s2 : FilesShown) (o0 o1 : SinkShown) → MakesOutcomeCalls rule wanted (s0, o0) (s2, o1) → KeepsHeld s0.held s1.held → IfSome s1.held Comes
       → WroteAll s1 s2 writing → PutRose o0 o1 → PutsPart o0 o1 lines → IsCall rule Fault (s0, o0) (s2, o1)
   put_failed s0 s1 s2 o0 o1 counted keeps told wrote rose part = record {
     answers = inl refl;
@@ -110,7 +110,7 @@ module _ (rule : CommandRule) (wanted : Status) (writing : Writing) (lines : Lis
 
   -- all was written
   pub ended_call : (s0 s1 s2 : FilesShown) (o0 o1 : SinkShown) (answer : Status) → IsEnd wanted → Contains rule.answers wanted
-      → IsEndCounted rule wanted (s0, o0) (s2, o1) → KeepsHeld s0.held s1.held → IfSome s1.held Comes → WroteAll s1 s2 writing → PutsAnswer lines wanted answer o0 o1
+      → MakesOutcomeCalls rule wanted (s0, o0) (s2, o1) → KeepsHeld s0.held s1.held → IfSome s1.held Comes → WroteAll s1 s2 writing → PutsAnswer lines wanted answer o0 o1
       → IsCall rule answer (s0, o0) (s2, o1)
   ended_call s0 s1 s2 o0 o1 answer end may counted keeps told wrote (inl h) = subst (λ (status : Status). IsCall rule status (s0, o0) (s2, o1))
       (sym h.0) (done_call s0 s1 s2 o0 o1 end may keeps told wrote h.1)
@@ -118,9 +118,9 @@ module _ (rule : CommandRule) (wanted : Status) (writing : Writing) (lines : Lis
       (sym h.0) (put_failed s0 s1 s2 o0 o1 counted keeps told wrote h.1 h.2)
 
   -- where writing stopped, it stands there
-  stopped_writing : (s0 s1 s2 : FilesShown) (place : ℕ) (stopped : StoppedAt s1 s2 writing place) → KeepsHeld s0.held s1.held → IfSome s1.held Comes
+  stopped_writing : (s0 s1 s2 : FilesShown) (index : ℕ) (stopped : WriteFailedAt s1 s2 writing index) → KeepsHeld s0.held s1.held → IfSome s1.held Comes
       → IfSome s2.held (λ after. MatchOption s0.held ⊥ (λ before. StopsWriting stopped.write.0 before after (outcome_of (file_at before) rule)))
-  stopped_writing s0 s1 s2 place stopped keeps told = by_cases s0.held s1.held s2.held keeps told stopped.part
+  stopped_writing s0 s1 s2 index stopped keeps told = by_cases s0.held s1.held s2.held keeps told stopped.part
     where
       name : List ℕ
       name = stopped.write.0
@@ -135,7 +135,7 @@ module _ (rule : CommandRule) (wanted : Status) (writing : Writing) (lines : Lis
 
 -- an answer with no write
 pub answered_call : (rule : CommandRule) (wanted : Status) (lines : List ℕ) (s0 s1 : FilesShown) (o0 o1 : SinkShown) (answer : Status) → IsEnd wanted
-    → Contains rule.answers wanted → IsEndCounted rule wanted (s0, o0) (s1, o1) → KeepsHeld s0.held s1.held
+    → Contains rule.answers wanted → MakesOutcomeCalls rule wanted (s0, o0) (s1, o1) → KeepsHeld s0.held s1.held
     → IfSome s1.held (λ files. outcome_of (file_at files) rule ≡ Ends wanted [] lines) → PutsAnswer lines wanted answer o0 o1 → IsCall rule answer (s0, o0) (s1, o1)
 answered_call rule wanted lines s0 s1 o0 o1 answer end may counted keeps told puts = ended_call rule wanted [] lines s0 s1 s1 o0 o1 answer end may counted keeps told (nothing_written s1) puts
 
@@ -150,14 +150,14 @@ memory_call rule s0 s1 o0 o1 answer may keeps is puts = subst (λ (status : Stat
 })
 
 -- a file could not be read
-unread_call : (rule : CommandRule) (place : ℕ) (name : List ℕ) (s0 s1 : FilesShown) (o0 o1 : SinkShown) → KeepsHeld s0.held s1.held → ReadsUpTo rule.reads place s0 s1
-    → ReadRoseAt rule.reads place s0 s1 name → PutOrRose o0 o1 (reading_line name) → PutsFault o0 o1 → IsCall rule Fault (s0, o0) (s1, o1)
-unread_call rule place name s0 s1 o0 o1 keeps read why line puts = record {
+unread_call : (rule : CommandRule) (index : ℕ) (name : List ℕ) (s0 s1 : FilesShown) (o0 o1 : SinkShown) → KeepsHeld s0.held s1.held → ReadsUpTo rule.reads index s0 s1
+    → ReadRoseAt rule.reads index s0 s1 name → PutOrRose o0 o1 (reading_line name) → PutsFault o0 o1 → IsCall rule Fault (s0, o0) (s1, o1)
+unread_call rule index name s0 s1 o0 o1 keeps read why line puts = record {
   answers = inl refl;
   answered = inl refl;
   memory = λ is. cc;
   faulted = λ _. inl (record {
-    place = place;
+    index = index;
     read = read;
     reading = why.0;
     there = why.1;
@@ -170,67 +170,67 @@ unread_call rule place name s0 s1 o0 o1 keeps read why line puts = record {
 
 -- the line of a refusal was put, or could not be, at once
 refused_puts : (input : Input) (refusal : Refusal) (line : List ℕ) (answer : Status) (o0 o1 : SinkShown) → PutsAnswer line Refused answer o0 o1
-    → PutsCounted (stop.Refused input refusal) answer o0 o1 → MakesPuts o0 o1 1
-refused_puts input refusal line answer o0 o1 (inl is) puts = subst (λ (answer : Status). PutsCounted (stop.Refused input refusal) answer o0 o1) is.0 puts
-refused_puts input refusal line answer o0 o1 (inr is) puts = subst (λ (answer : Status). PutsCounted (stop.Refused input refusal) answer o0 o1) is.0 puts
+    → MakesStopPuts (stop.Refused input refusal) answer o0 o1 → MakesPuts o0 o1 1
+refused_puts input refusal line answer o0 o1 (inl is) puts = subst (λ (answer : Status). MakesStopPuts (stop.Refused input refusal) answer o0 o1) is.0 puts
+refused_puts input refusal line answer o0 o1 (inr is) puts = subst (λ (answer : Status). MakesStopPuts (stop.Refused input refusal) answer o0 o1) is.0 puts
 
 -- a command stopped before it wrote
 pub stopped_command : (rule : CommandRule) (s0 s1 : FilesShown) (o0 o1 : SinkShown) (why : Stop) (answer : Status) → Contains rule.answers Refused
-    → Contains rule.answers Memory → KeepsHeld s0.held s1.held → StopsCommand rule s0 s1 why → PutsStop why answer o0 o1 → PutsCounted why answer o0 o1 → IsCall rule answer (s0, o0) (s1, o1)
+    → Contains rule.answers Memory → KeepsHeld s0.held s1.held → StopsCommand rule s0 s1 why → PutsStop why answer o0 o1 → MakesStopPuts why answer o0 o1 → IsCall rule answer (s0, o0) (s1, o1)
 stopped_command rule s0 s1 o0 o1 (stop.Refused input refusal) answer may wants keeps stops (inl h) puts = memory_call rule s0 s1 o0 o1 answer wants keeps h.0 h.1
 stopped_command rule s0 s1 o0 o1 (stop.Refused input refusal) answer may wants keeps stops (inr h) puts =
     answered_call rule Refused (refused_line input refusal) s0 s1 o0 o1 answer tt may
     (refused_counted rule s0 s1 o0 o1 input refusal stops (refused_puts input refusal (refused_line input refusal) answer o0 o1 h puts)) keeps
-    (mapped s1.held (λ files. (outcome_of (file_at files) rule ≡ refuses input refusal) × EndsAt rule stops.place (file_at files))
+    (mapped s1.held (λ files. (outcome_of (file_at files) rule ≡ refuses input refusal) × EndsAt rule stops.index (file_at files))
     (λ files. outcome_of (file_at files) rule ≡ refuses input refusal) (λ files k. k.0) stops.why) h
 stopped_command rule s0 s1 o0 o1 (stop.Unread name) answer may wants keeps stops line puts =
     subst (λ (status : Status). IsCall rule status (s0, o0) (s1, o1)) (sym line.0)
-    (unread_call rule stops.place name.now s0 s1 o0 o1 keeps stops.read stops.why line.1 (subst (λ (answer : Status). PutsCounted (stop.Unread name) answer o0 o1) line.0 puts))
+    (unread_call rule stops.index name.now s0 s1 o0 o1 keeps stops.read stops.why line.1 (subst (λ (answer : Status). MakesStopPuts (stop.Unread name) answer o0 o1) line.0 puts))
 stopped_command rule s0 s1 o0 o1 stop.Memory answer may wants keeps stops line puts = memory_call rule s0 s1 o0 o1 answer wants keeps line.0 line.1
 
 -- it stopped while it read
 pub stops_reading : (rule : CommandRule) (s0 s1 : FilesShown) (why : Stop) → StopsReading rule.reads s0 s1 why → StopsCommand rule s0 s1 why
-stops_reading rule s0 s1 why stops = record { place = stops.place; read = stops.read; why = why_command why stops.place stops.why }
+stops_reading rule s0 s1 why stops = record { index = stops.index; read = stops.read; why = why_command why stops.index stops.why }
   where
-    why_command : (why : Stop) (place : ℕ) → StopsWith rule.reads place s0 s1 why → StopsCommandWith rule place s0 s1 why
-    why_command (stop.Refused input refusal) place stops =
-        mapped s1.held (λ files. first_end (file_at files) (take (place + 1) rule.reads) ≡ Some (refuses input refusal))
-        (λ files. (outcome_of (file_at files) rule ≡ refuses input refusal) × EndsAt rule place (file_at files))
+    why_command : (why : Stop) (index : ℕ) → StopsWith rule.reads index s0 s1 why → StopsCommandWith rule index s0 s1 why
+    why_command (stop.Refused input refusal) index stops =
+        mapped s1.held (λ files. first_end (file_at files) (take (index + 1) rule.reads) ≡ Some (refuses input refusal))
+        (λ files. (outcome_of (file_at files) rule ≡ refuses input refusal) × EndsAt rule index (file_at files))
         (λ files is.
         let end : outcome_of (file_at files) rule ≡ refuses input refusal = ap (λ end. unwrap_or end (rule.own_outcome (file_at files)))
-        (end_of_all (file_at files) (place + 1) rule.reads (refuses input refusal) is) in
+        (end_of_all (file_at files) (index + 1) rule.reads (refuses input refusal) is) in
         (end, inl (is ∙ ap Some (sym end)))) stops
-    why_command (stop.Unread name) place stops = stops
-    why_command stop.Memory place stops = tt
+    why_command (stop.Unread name) index stops = stops
+    why_command stop.Memory index stops = tt
 
 pub stopped_call : (rule : CommandRule) (s0 s1 : FilesShown) (o0 o1 : SinkShown) (why : Stop) (answer : Status) → Contains rule.answers Refused
-    → Contains rule.answers Memory → KeepsHeld s0.held s1.held → StopsReading rule.reads s0 s1 why → PutsStop why answer o0 o1 → PutsCounted why answer o0 o1 → IsCall rule answer (s0, o0) (s1, o1)
+    → Contains rule.answers Memory → KeepsHeld s0.held s1.held → StopsReading rule.reads s0 s1 why → PutsStop why answer o0 o1 → MakesStopPuts why answer o0 o1 → IsCall rule answer (s0, o0) (s1, o1)
 stopped_call rule s0 s1 o0 o1 why answer may wants keeps stops line puts = stopped_command rule s0 s1 o0 o1 why answer may wants keeps (stops_reading rule s0 s1 why stops) line puts
 
 -- a file could not be written
-write_failed : (rule : CommandRule) (writing : Writing) (lines : List ℕ) (s0 s1 s2 : FilesShown) (o0 o1 : SinkShown) (place : ℕ) (stopped : StoppedAt s1 s2 writing place)
+write_failed : (rule : CommandRule) (writing : Writing) (lines : List ℕ) (s0 s1 s2 : FilesShown) (o0 o1 : SinkShown) (index : ℕ) (stopped : WriteFailedAt s1 s2 writing index)
     → written_names writing ≡ rule.writes → KeepsHeld s0.held s1.held → NoneFell s0.write_faults s1.write_faults
     → IfSome s1.held (λ files. outcome_of (file_at files) rule ≡ Ends Done writing lines)
-    → MakesCalls s0 s1 (read_calls rule.reads) → MakesCalls s1 s2 (write_calls (take (place + 1) (written_names writing)))
+    → MakesCalls s0 s1 (read_calls rule.reads) → MakesCalls s1 s2 (write_calls (take (index + 1) (written_names writing)))
     → PutOrRose o0 o1 (writing_line stopped.write.0) → PutsFault o0 o1 → IsCall rule Fault (s0, o0) (s2, o1)
-write_failed rule writing lines s0 s1 s2 o0 o1 place stopped named keeps fell told read wrote line puts =
+write_failed rule writing lines s0 s1 s2 o0 o1 index stopped named keeps fell told read wrote line puts =
     let name : List ℕ = stopped.write.0 in
     let rose = rose_since (s0.write_faults name) (s1.write_faults name) (s2.write_faults name) (fell name) stopped.rose in
-    let there : slice_get rule.writes place ≡ Some name = ap (λ names. slice_get names place) (sym named) ∙ slice_get-map (λ (w : List ℕ × List ℕ). w.0) writing place
+    let there : slice_get rule.writes index ≡ Some name = ap (λ names. slice_get names index) (sym named) ∙ slice_get-map (λ (w : List ℕ × List ℕ). w.0) writing index
     ∙ ap (option_map (λ (w : List ℕ × List ℕ). w.0)) stopped.there in
     record {
       answers = inl refl;
       answered = inl refl;
       memory = λ is. cc;
       faulted = λ _. inr (inl (record {
-        place = place;
+        index = index;
         name = name;
         there = there;
         rose = rose;
-        calls = calls_on (read_calls rule.reads) (write_calls (take (place + 1) rule.writes)) s0 s1 s2 read
-            (calls_are (write_calls (take (place + 1) (written_names writing))) (write_calls (take (place + 1) rule.writes)) s1 s2
-            (ap (λ (names : List (List ℕ)). write_calls (take (place + 1) names)) named) wrote);
-        part = stopped_writing rule Done writing lines s0 s1 s2 place stopped keeps told;
+        calls = calls_on (read_calls rule.reads) (write_calls (take (index + 1) rule.writes)) s0 s1 s2 read
+            (calls_are (write_calls (take (index + 1) (written_names writing))) (write_calls (take (index + 1) rule.writes)) s1 s2
+            (ap (λ (names : List (List ℕ)). write_calls (take (index + 1) names)) named) wrote);
+        part = stopped_writing rule Done writing lines s0 s1 s2 index stopped keeps told;
         line = line;
         puts = puts;
       }));
@@ -263,12 +263,12 @@ usage_call s o0 o1 answer h puts = answered_call usage_rule Usage usage_line s s
 
 -- `sample` reads and writes nothing
 pub sample_call : (seed count : ℕ) (s : FilesShown) (o0 o1 : SinkShown) (answer : Status) → PutsLines (sample_lines seed count) answer o0 o1
-    → LinesCounted answer o0 o1 → IsCall (sample_rule seed count) answer (s, o0) (s, o1)
+    → MakesLinePuts answer o0 o1 → IsCall (sample_rule seed count) answer (s, o0) (s, o1)
 sample_call seed count s o0 o1 answer (inl h) puts = memory_call (sample_rule seed count) s s o0 o1 answer (1, omega arith, refl) (held_still s.held) h.0 h.1
 sample_call seed count s o0 o1 answer (inr h) puts = answered_call (sample_rule seed count) Done (sample_lines seed count) s s o0 o1 answer tt
     (0, omega arith, refl) (no_calls s, at_once h) (held_still s.held)
     (of_held s.held (λ files. outcome_of (file_at files) (sample_rule seed count) ≡ Ends Done [] (sample_lines seed count)) (λ files. refl)) h
   where
     at_once : PutsAnswer (sample_lines seed count) Done answer o0 o1 → MakesPuts o0 o1 1
-    at_once (inl is) = subst (λ (answer : Status). LinesCounted answer o0 o1) is.0 puts
-    at_once (inr is) = subst (λ (answer : Status). LinesCounted answer o0 o1) is.0 puts
+    at_once (inl is) = subst (λ (answer : Status). MakesLinePuts answer o0 o1) is.0 puts
+    at_once (inr is) = subst (λ (answer : Status). MakesLinePuts answer o0 o1) is.0 puts

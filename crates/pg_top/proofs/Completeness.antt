@@ -17,17 +17,17 @@ module _ (rule : CommandRule) where
   -- where a fault stands as it is said to, a count rose
   pub rose_by_fault : (old new : Moment) → IsReadFault rule old new ⊎ (IsWriteFault rule old new ⊎ IsPutFault rule old new) → SomeRose rule old new
   rose_by_fault old new (inl h) = inr (inl (
-    h.place,
+    h.index,
     h.reading,
-    slice_get_within rule.reads h.place h.reading h.there,
-    get_or_from_slice_get rule.reads h.place h.reading h.reading h.there,
+    slice_get_within rule.reads h.index h.reading h.there,
+    get_or_from_slice_get rule.reads h.index h.reading h.reading h.there,
     h.rose,
   ))
   rose_by_fault old new (inr (inl h)) = inr (inr (
-    h.place,
+    h.index,
     h.name,
-    slice_get_within rule.writes h.place h.name h.there,
-    get_or_from_slice_get rule.writes h.place h.name h.name h.there,
+    slice_get_within rule.writes h.index h.name h.there,
+    get_or_from_slice_get rule.writes h.index h.name h.name h.there,
     h.rose,
   ))
   rose_by_fault old new (inr (inr h)) = inl h.rose

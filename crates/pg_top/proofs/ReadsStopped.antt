@@ -7,7 +7,7 @@ use Rattle.pg_steps.specs.Inside.ends.Built.{Builds}
 use Rattle.pg_steps.specs.Inside.reading.ReadsMade.{ReadsFiles}
 use Rattle.pg_steps.specs.Inside.ends.Stops.{OnlyReads, StopsCommand, StopsReading}
 use Rattle.pg_steps.specs.declared.inputs.Stop.{Stop}
-use Rattle.pg_steps.specs.declared.writes.Outputs.{Outputs}
+use Rattle.pg_steps.specs.declared.writes.BuiltTexts.{BuiltTexts}
 use Rattle.pg_steps.proofs.Results.{no_value, that_error}
 use Rattle.pg_steps.specs.Rules.{CommandRule}
 
@@ -22,7 +22,7 @@ files_stopped reads old new r Has stop is only stops = record {
 }
 
 -- a command that stopped before it wrote
-pub building_stopped : (rule : CommandRule) (old new : FilesShown) (r : Result Outputs Stop) (stop : Stop) → IsErrAnd r (λ y. y ≡ stop) → OnlyReads old new
+pub building_stopped : (rule : CommandRule) (old new : FilesShown) (r : Result BuiltTexts Stop) (stop : Stop) → IsErrAnd r (λ y. y ≡ stop) → OnlyReads old new
     → StopsCommand rule old new stop → Builds rule old new r
 building_stopped rule old new r stop is only stops = record {
   only = only;

@@ -23,7 +23,7 @@ use Rattle.pg_texts.specs.PattmpTexts.{pattmp_text}
 use Rattle.pg_texts.proofs.TraceTexts.{cells_same, last_same, report_same}
 use Rattle.pg_top.specs.Inside.selection.Runs.{last_layout_told}
 use Rattle.pg_top.specs.Selection.{selection, selected_patterns, selected_totals, selected_text, selected_list, selected_cells_text, selected_report}
-use Rattle.pg_top.specs.Inside.selection.SelectionSigns.{signs_of}
+use Rattle.pg_top.specs.Inside.selection.SelectionSigns.{greatest_sign_of}
 use Rattle.pg_top.specs.Inside.selection.SelectionAccounts.{selected_account, passes_begun, selected_cells_from, selected_cells, last_layout, work_line}
 use Rattle.pg_top.specs.Inside.selection.SelectedRuns.{IsNew}
 use Rattle.pg_top.specs.declared.selection.Inputs.{Inputs}
@@ -67,7 +67,7 @@ pub last_is : (a : CellsAccount) (r : CompletedRun) → TellsCells (Some a) r �
 last_is a r tells = last_of r.levels a.levels r.first_layout a.start tells.0 tells.2
 
 -- over the packed engine these are the cells
-pub cells_packed : (i : Inputs) (fs : Option Families) (r : CompletedRun) → fs ≡ Some (pattern_families (signs_of i) i.start) → TellsCells (option_map (selected_cells_from i) fs) r
+pub cells_packed : (i : Inputs) (fs : Option Families) (r : CompletedRun) → fs ≡ Some (pattern_families (greatest_sign_of i) i.start) → TellsCells (option_map (selected_cells_from i) fs) r
     → TellsCells (Some (selected_cells i)) r
 unfolding selected_cells
 cells_packed i fs r is tells = subst (λ fs. TellsCells (option_map (selected_cells_from i) fs) r) is tells
@@ -83,7 +83,7 @@ list_selected i P is = ap (λ P. pattmp_text i.table P i.dictionary) is
 
 pub cells_text_selected : (i : Inputs) → account_cells_text (selected_cells i) ≡ selected_cells_text i
 unfolding selection selected_cells selected_cells_from selected_cells_text
-cells_text_selected i = cells_same (source_of i.table i.dictionary) i.params (signs_of i) i.start
+cells_text_selected i = cells_same (source_of i.table i.dictionary) i.params (greatest_sign_of i) i.start
 
 pub report_selected : (i : Inputs) (value : ℕ) (a : Account) → value ≡ largest i.start → a ≡ selected_account i → account_text value i.params a ≡ selected_report i
 unfolding selection selected_account selected_report
@@ -98,10 +98,10 @@ behind : (x a b c d : List ℕ) → x ++ (a ++ b ++ c ++ d) ≡ x ++ a ++ b ++ c
 behind x a b c d = simp append_assoc
 
 pub end_selected : (i : Inputs) (x : List ℕ) → x ++ work_line (passes_begun i) (last_layout (selected_cells i))
-    ≡ x ++ codes "work: " ++ decimal (begun_count (selection i)) ++ codes " passes, " ++ layout_text (families_at_end (signs_of i) i.start (selection i)) (selected_patterns i)
+    ≡ x ++ codes "work: " ++ decimal (begun_count (selection i)) ++ codes " passes, " ++ layout_text (families_at_end (greatest_sign_of i) i.start (selection i)) (selected_patterns i)
 unfolding selected_patterns passes_begun selected_cells selected_cells_from
 end_selected i x =
-    let last : last_layout (selected_cells i) ≡ layout_of (families_at_end (signs_of i) i.start (selection i)) (selected_patterns i) =
-    last_same (signs_of i) (pattern_families (signs_of i) i.start) i.start (selection i) in
+    let last : last_layout (selected_cells i) ≡ layout_of (families_at_end (greatest_sign_of i) i.start (selection i)) (selected_patterns i) =
+    last_same (greatest_sign_of i) (pattern_families (greatest_sign_of i) i.start) i.start (selection i) in
     ap (λ (l : Layout). x ++ work_line (begun_count (selection i)) l) last
-    ∙ behind x (codes "work: ") (decimal (begun_count (selection i))) (codes " passes, ") (layout_text (families_at_end (signs_of i) i.start (selection i)) (selected_patterns i))
+    ∙ behind x (codes "work: ") (decimal (begun_count (selection i))) (codes " passes, ") (layout_text (families_at_end (greatest_sign_of i) i.start (selection i)) (selected_patterns i))

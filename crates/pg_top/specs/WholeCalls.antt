@@ -3,7 +3,7 @@ use Rattle.std.specs.Prelude.{◌≡◌, [], Option, None}
 use Rattle.pg_outside.specs.Content.{WasPut, WasPartPut, file_at}
 use Rattle.pg_top.specs.Answers.{IsCall}
 use Rattle.pg_top.specs.CommandRules.{rule_of}
-use Rattle.pg_steps.specs.FileCalls.{IsCountedCall}
+use Rattle.pg_steps.specs.FileCalls.{MakesAnswerCalls}
 use Rattle.pg_steps.specs.Moments.{Moment, OfFiles}
 use Rattle.pg_steps.specs.Outcomes.{IsKnown}
 use Rattle.pg_steps.specs.Rules.{outcome_of}
@@ -15,7 +15,7 @@ use Rattle.pg_steps.specs.declared.answers.Status.TheVariants.{Done, Fault}
 pub record IsRun {F : Type 0} (asked : Option Request) (status : Status)
     (before after : F) (old new : Moment) : Type 0 where
   pub call : IsCall (rule_of asked) status old new
-  pub counted : IsCountedCall (rule_of asked) status old new
+  pub counted : MakesAnswerCalls (rule_of asked) status old new
   -- the command is done, and what it promises of its files and its outcome holds
   pub promised : status ≡ Done → OfFiles old new (λ before after.
       (rule_of asked).promise (file_at before) (outcome_of (file_at before) (rule_of asked)))

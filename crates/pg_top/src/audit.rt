@@ -8,7 +8,7 @@ ghost use Rattle.pg_words.specs.Inside.CommandRequests.{texts_of};
 ghost use Rattle.pg_steps.specs.Inside.ends.Stops.{OnlyReads, StopsReading};
 ghost use Rattle.pg_top.specs.audit.Inside.Verdicts.{outcome_by, ReadsToFind, PutsVerdict};
 ghost use Rattle.pg_top.specs.Answers.{IsCall};
-ghost use Rattle.pg_steps.specs.FileCalls.{IsCountedCall};
+ghost use Rattle.pg_steps.specs.FileCalls.{MakesAnswerCalls};
 
 mod compare;
 mod no_lines;
@@ -73,7 +73,7 @@ pub fn audit<F: Files, O: Sink, W: Watch>(
     requires { names.now.cells ≡ None }
     ensures call { IsCall (audit_rule (texts_of names.now)) result
         (F.shown files.old, O.shown out.old) (F.shown files.new, O.shown out.new) }
-    ensures counted { IsCountedCall (audit_rule (texts_of names.now)) result
+    ensures counted { MakesAnswerCalls (audit_rule (texts_of names.now)) result
         (F.shown files.old, O.shown out.old) (F.shown files.new, O.shown out.new) }
 {
     match audit_files(alloc, names, files, watch) {

@@ -9,7 +9,7 @@ mod outputs;
 use crate::generate::outputs::make_outputs;
 pub use inputs::read_inputs;
 use pg_outside::Files;
-use pg_steps::{Outputs, Stop};
+use pg_steps::{BuiltTexts, Stop};
 use pg_watch::Watch;
 use pg_words::Names;
 use std::alloc::Global;
@@ -20,7 +20,7 @@ pub fn generate_files<'a, F: Files, W: Watch>(
     names: &Names<'a>,
     files: &mut F,
     watch: &W,
-) -> Result<Outputs<'a>, Stop<'a>>
+) -> Result<BuiltTexts<'a>, Stop<'a>>
     ensures { Builds (generate_rule (texts_of names.now))
         (F.shown files.old) (F.shown files.new) result }
 {

@@ -6,10 +6,10 @@ ghost use Rattle.pg_steps.specs.Inside.ends.Built.{Builds};
 mod inputs;
 mod outputs;
 
-use crate::pack::inputs::read_source;
+use crate::pack::inputs::read_pack;
 use crate::pack::outputs::make_table;
 use pg_outside::Files;
-use pg_steps::{Outputs, Stop};
+use pg_steps::{BuiltTexts, Stop};
 use pg_watch::Watch;
 use pg_words::PackNames;
 use std::alloc::Global;
@@ -20,11 +20,11 @@ pub fn pack_files<'a, F: Files, W: Watch>(
     names: &PackNames<'a>,
     files: &mut F,
     watch: &W,
-) -> Result<Outputs<'a>, Stop<'a>>
+) -> Result<BuiltTexts<'a>, Stop<'a>>
     ensures { Builds (pack_rule (pack_of names.now))
         (F.shown files.old) (F.shown files.new) result }
 {
-    let source = read_source(alloc, names, files, watch)?;
+    let source = read_pack(alloc, names, files, watch)?;
     let outputs = make_table(alloc, names.table, &source, watch);
     drop(source);
     Ok(outputs?)

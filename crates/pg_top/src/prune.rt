@@ -9,7 +9,7 @@ mod outputs;
 use crate::prune::inputs::read_prune;
 use crate::prune::outputs::make_prune;
 use pg_outside::Files;
-use pg_steps::{Outputs, Stop};
+use pg_steps::{BuiltTexts, Stop};
 use pg_watch::Watch;
 use pg_words::PruneNames;
 use std::alloc::Global;
@@ -20,7 +20,7 @@ pub fn prune_files<'a, F: Files, W: Watch>(
     names: &PruneNames<'a>,
     files: &mut F,
     watch: &W,
-) -> Result<Outputs<'a>, Stop<'a>>
+) -> Result<BuiltTexts<'a>, Stop<'a>>
     ensures { Builds (prune_rule (prune_of names.now))
         (F.shown files.old) (F.shown files.new) result }
 {

@@ -4,7 +4,7 @@ ghost use Rattle.pg_words.specs.declared.limits.TheConstants.{COUNT_MAX};
 ghost use Rattle.pg_translate.specs.Alphabets.{letters_of};
 ghost use Rattle.pg_translate.specs.Tables.{default_alphabet};
 ghost use Rattle.pg_dict.specs.Inside.SoundWords.{SignsAtMost};
-ghost use Rattle.pg_steps.specs.Inside.writing.PutCounts.{LinesCounted};
+ghost use Rattle.pg_steps.specs.Inside.writing.PutCounts.{MakesLinePuts};
 ghost use Rattle.pg_top.specs.sample.SampleRule.{is_printed as is_printed_line, sample_inputs, sample_lines as lines_of, sample_parameters};
 ghost use Rattle.pg_top.specs.sample.Inside.Lines.{printed_part, selection_lines};
 ghost use Rattle.pg_top.specs.Inside.selection.SelectionSigns.{HasSigns};
@@ -176,7 +176,7 @@ pub fn sample<O: Sink, W: Watch>(
 ) -> Status
     requires { count ≤ COUNT_MAX }
     ensures put { PutsLines (lines_of seed count) result (O.shown out.old) (O.shown out.new) }
-    ensures counted { LinesCounted result (O.shown out.old) (O.shown out.new) }
+    ensures counted { MakesLinePuts result (O.shown out.old) (O.shown out.new) }
 {
     match sample_lines(alloc, seed, count, watch) {
         Ok(lines) => answer(out, &lines, Status::Done, watch),

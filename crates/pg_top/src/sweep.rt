@@ -13,7 +13,7 @@ use crate::sweep::inputs::read_sweep;
 use crate::sweep::outputs::make_sweep;
 use pg_outside::Files;
 use pg_patterns::PatternSet;
-use pg_steps::{Outputs, Stop};
+use pg_steps::{BuiltTexts, Stop};
 use pg_types::Params;
 use pg_watch::Watch;
 use pg_words::SweepWords;
@@ -39,7 +39,7 @@ pub fn sweep_files<'a, F: Files, W: Watch>(
     words: &SweepWords<'a>,
     files: &mut F,
     watch: &W,
-) -> Result<Outputs<'a>, Stop<'a>>
+) -> Result<BuiltTexts<'a>, Stop<'a>>
     requires { KeepsSweepLimits words.now }
     ensures { Builds (sweep_rule (sweep_of words.now))
         (F.shown files.old) (F.shown files.new) result }

@@ -7,7 +7,7 @@ mod table;
 
 use crate::totals::table::total_by;
 use pg_outside::Files;
-use pg_steps::{Outputs, Stop, read_dictionary, read_table};
+use pg_steps::{BuiltTexts, Stop, read_dictionary, read_table};
 use pg_watch::Watch;
 use pg_words::TotalsNames;
 use std::alloc::Global;
@@ -18,7 +18,7 @@ pub fn total_files<'a, F: Files, W: Watch>(
     names: &TotalsNames<'a>,
     files: &mut F,
     watch: &W,
-) -> Result<Outputs<'a>, Stop<'a>>
+) -> Result<BuiltTexts<'a>, Stop<'a>>
     ensures { Builds (totals_rule (totals_of names.now))
         (F.shown files.old) (F.shown files.new) result }
 {
@@ -28,7 +28,7 @@ pub fn total_files<'a, F: Files, W: Watch>(
     drop(dictionary);
     drop(letters);
     let lines = lines?;
-    Ok(Outputs {
+    Ok(BuiltTexts {
         files: Vec::new(alloc),
         lines,
     })

@@ -8,7 +8,7 @@ use std::alloc::{AllocError, Global};
 use std::marker::Model;
 
 /// The most bytes of a name or of a piece of a file that a line shows.
-const SHOWN_MAX: usize = 200;
+const FRONT_MAX: usize = 200;
 
 /// A piece of a line.
 #[derive(Clone, Copy)]
@@ -192,8 +192,8 @@ impl Line {
 
     /// Appends bytes as [`show`](Line::show) does, of many only the first.
     fn show_front(&mut self, bytes: &[u8]) -> Result<(), AllocError> {
-        match bytes.get(..SHOWN_MAX) {
-            Some(front) if SHOWN_MAX < bytes.len() => {
+        match bytes.get(..FRONT_MAX) {
+            Some(front) if FRONT_MAX < bytes.len() => {
                 self.show(front)?;
                 self.push_all(b"...")
             }

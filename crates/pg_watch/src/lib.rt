@@ -9,5 +9,5 @@ mod watched;
 
 pub use line::{Step, line_text};
 pub use screen::{Screen, is_due, is_shown};
-pub use watch::{Pass, Quiet, Refused, Turn, Watch};
+pub use watch::{PassProgress, Quiet, RefusedFile, SweepRun, Watch};
 pub use watched::Watched;

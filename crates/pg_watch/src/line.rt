@@ -1,9 +1,9 @@
 //! The line that says where a call is.
 ghost use Rattle.std.specs.Prelude.{◌≡◌, ◌++◌, IfOk, OnOk};
 ghost use Rattle.std.specs.Option.{option_map};
-ghost use Rattle.pg_watch.specs.Inside.Lines.{pass_text, turn_text, turn_if_told, step_text, line_text as line_text_of};
+ghost use Rattle.pg_watch.specs.Inside.Lines.{pass_text, sweep_run_text, sweep_run_if_told, step_text, line_text as line_text_of};
 
-use crate::watch::{Pass, Turn};
+use crate::watch::{PassProgress, SweepRun};
 use pg_types::push_number;
 use std::alloc::{AllocError, Global};
 
@@ -18,13 +18,13 @@ pub enum Step {
     /// It writes a file.
     Writing,
     /// It makes a pass of a selection.
-    Pass(Pass),
+    Pass(PassProgress),
     /// It makes a round of pruning, counted from 1.
     Round(u64),
 }
 
 /// Appends where a selection is.
-fn push_pass(line: &mut Vec<u8>, pass: &Pass) -> Result<(), AllocError>
+fn push_pass(line: &mut Vec<u8>, pass: &PassProgress) -> Result<(), AllocError>
     ensures { OnOk result (line.new.items ≡ line.old.items ++ pass_text pass.now) }
 {
     push_number(line, b"level ", u64::from(pass.level))?;
@@ -36,24 +36,27 @@ fn push_pass(line: &mut Vec<u8>, pass: &Pass) -> Result<(), AllocError>
 }
 
 /// Appends which run of a sweep this is.
-fn push_turn(line: &mut Vec<u8>, turn: &Turn) -> Result<(), AllocError>
-    ensures { OnOk result (line.new.items ≡ line.old.items ++ turn_text turn.now) }
+fn push_sweep_run(line: &mut Vec<u8>, sweep_run: &SweepRun) -> Result<(), AllocError>
+    ensures { OnOk result (line.new.items ≡ line.old.items ++ sweep_run_text sweep_run.now) }
 {
-    push_number(line, b"set ", turn.set as u64)?;
-    push_number(line, b" of ", turn.sets as u64)?;
-    push_number(line, b", fold ", u64::from(turn.fold))?;
-    push_number(line, b" of ", u64::from(turn.folds))?;
+    push_number(line, b"set ", sweep_run.set as u64)?;
+    push_number(line, b" of ", sweep_run.sets as u64)?;
+    push_number(line, b", fold ", u64::from(sweep_run.fold))?;
+    push_number(line, b" of ", u64::from(sweep_run.folds))?;
     line.extend_from_slice(b", ")
 }
 
 /// Appends which run of a sweep this is, where it is one.
-fn push_turn_if_told(line: &mut Vec<u8>, turn: Option<&Turn>) -> Result<(), AllocError>
+fn push_sweep_run_if_told(
+    line: &mut Vec<u8>,
+    sweep_run: Option<&SweepRun>,
+) -> Result<(), AllocError>
     ensures { OnOk result
-        (line.new.items ≡ line.old.items ++ turn_if_told
-        (option_map (λ turn. turn.now) turn.entry)) }
+        (line.new.items ≡ line.old.items ++ sweep_run_if_told
+        (option_map (λ sweep_run. sweep_run.now) sweep_run.entry)) }
 {
-    match turn {
-        Some(turn) => push_turn(line, turn),
+    match sweep_run {
+        Some(sweep_run) => push_sweep_run(line, sweep_run),
         None => Ok(()),
     }
 }
@@ -86,18 +89,18 @@ pub fn line_text(
     alloc: Global,
     command: &str,
     seconds: u64,
-    turn: Option<&Turn>,
+    sweep_run: Option<&SweepRun>,
     step: &Step,
     name: &[u8],
 ) -> Result<Vec<u8>, AllocError>
-    ensures { IfOk result (λ line. line.items ≡ line_text_of
-        command.now seconds (option_map (λ turn. turn.now) turn.entry) step.now name.now) }
+    ensures { IfOk result (λ line. line.items ≡ line_text_of command.now seconds
+        (option_map (λ sweep_run. sweep_run.now) sweep_run.entry) step.now name.now) }
 {
     let mut line = Vec::new(alloc);
     line.extend_from_slice(command.as_bytes())?;
     push_number(&mut line, b" ", seconds)?;
     line.extend_from_slice(b" s: ")?;
-    push_turn_if_told(&mut line, turn)?;
+    push_sweep_run_if_told(&mut line, sweep_run)?;
     push_step(&mut line, step, name)?;
     line.truncate(ROW);
     Ok(line)

@@ -7,7 +7,7 @@ use pg_types::{Params, Refusal};
 
 /// The pass of a selection that begins.
 #[derive(Clone, Copy, Debug, PartialEq, Eq)]
-pub struct Pass {
+pub struct PassProgress {
     /// Its level, 1 to [`LEVEL_MAX`](pg_types::LEVEL_MAX).
     pub level: u8,
     /// The last level of the run.
@@ -24,7 +24,7 @@ pub struct Pass {
 
 /// The run of a sweep that begins. All of it is counted from 1.
 #[derive(Clone, Copy, Debug, PartialEq, Eq)]
-pub struct Turn {
+pub struct SweepRun {
     /// The set of parameters.
     pub set: usize,
     /// How many sets there are.
@@ -38,7 +38,7 @@ pub struct Turn {
 /// A refused file. Patterns, dictionaries and packed tables are read under the letters of a table,
 /// translate files and parameters without them.
 #[derive(Clone, Copy)]
-pub struct Refused<'a> {
+pub struct RefusedFile<'a> {
     /// The name of the file.
     pub name: &'a str,
     /// What was read of it, or nothing where it was to be written.
@@ -69,19 +69,19 @@ pub trait Watch {
     fn words(&self, name: &str, dictionary: &Dictionary, letters: &Table);
 
     /// A file is refused.
-    fn refuses(&self, refused: &Refused<'_>);
+    fn refuses(&self, refused: &RefusedFile<'_>);
 
     /// A selection begins, with the patterns of the file of this name.
     fn selects(&self, name: &str, params: &Params, start: &PatternSet);
 
     /// A run of a sweep begins.
-    fn turn(&self, turn: Turn);
+    fn sweep_run(&self, sweep_run: SweepRun);
 
     /// A round of pruning begins, counted from 1.
     fn round(&self, round: u64);
 
     /// A pass begins.
-    fn pass(&self, pass: Pass);
+    fn pass(&self, pass: PassProgress);
 
     /// The given file of this name has a false line, and should have this text.
     fn false_line(&self, name: &str, line: &FalseLine<'_>, text: &[u8]);
@@ -108,15 +108,15 @@ impl Watch for Quiet {
 
     fn words(&self, _name: &str, _dictionary: &Dictionary, _letters: &Table) {}
 
-    fn refuses(&self, _refused: &Refused<'_>) {}
+    fn refuses(&self, _refused: &RefusedFile<'_>) {}
 
     fn selects(&self, _name: &str, _params: &Params, _start: &PatternSet) {}
 
-    fn turn(&self, _turn: Turn) {}
+    fn sweep_run(&self, _sweep_run: SweepRun) {}
 
     fn round(&self, _round: u64) {}
 
-    fn pass(&self, _pass: Pass) {}
+    fn pass(&self, _pass: PassProgress) {}
 
     fn false_line(&self, _name: &str, _line: &FalseLine<'_>, _text: &[u8]) {}
 

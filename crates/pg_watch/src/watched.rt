@@ -1,7 +1,7 @@
 //! An engine that is watched.
 ghost use Rattle.std.specs.Prelude.{◌≡◌};
 
-use crate::watch::{Pass, Watch};
+use crate::watch::{PassProgress, Watch};
 use pg_dict::WordRef;
 use pg_patterns::PatternSet;
 use pg_select::{Engine, WordState};
@@ -10,15 +10,15 @@ use std::alloc::{AllocError, Global};
 
 /// The pass of these parameters with this level, this length and this dot. Where they have no such
 /// level, it is said to have this length alone.
-fn pass_of(params: &Params, level: u8, len: u8, dot: u8) -> Pass {
-    let place = usize::from(level.saturating_sub(params.start()));
-    let (shortest, longest) = if place < params.count() {
-        let level = params.level(place);
+fn pass_of(params: &Params, level: u8, len: u8, dot: u8) -> PassProgress {
+    let index = usize::from(level.saturating_sub(params.start()));
+    let (shortest, longest) = if index < params.count() {
+        let level = params.level(index);
         (level.pat_start, level.pat_finish)
     } else {
         (len, len)
     };
-    Pass {
+    PassProgress {
         level,
         last: params.finish(),
         len,

@@ -9,7 +9,7 @@ use Rattle.pg_cells.specs.Inside.linked.ValuedFamilies.{ValuedFamilies}
 use Rattle.pg_cells.specs.Inside.linked.AreValuedFamilies.{AreValuedFamilies}
 use Rattle.pg_cells.specs.Inside.families.Root.{root_alone}
 use Rattle.pg_count.specs.Inside.Counting.{Tally, counting_of, counts_in, sums_of_tally, number_of_tally, window_at}
-use Rattle.pg_count.specs.Inside.cells.Leaves.{AreCounting, AreShort}
+use Rattle.pg_count.specs.Inside.cells.Leaves.{AreCellCounts, AreShort}
 use Rattle.pg_count.proofs.CellLaws.Counted.{seen_root, none_seen, seen_there}
 use Rattle.pg_count.proofs.CellLaws.Mapped.{root_strings}
 
@@ -28,7 +28,7 @@ module _ (cells : ValuedFamilies (Option Tally)) (windows : Windows) (n len : �
       }) (none_seen sums_of_tally (λ t. t) cells.values none)
       ∙ ap (λ ws. record { signs = n; len = len; counted = record { counts = []; windows = ws } }) empty
 
-  pub begun_kept : AreValuedFamilies cells → AreShort cells.values len → 1 ≤ len → len ≤ LENGTH_MAX → AreCounting cells windows len
+  pub begun_kept : AreValuedFamilies cells → AreShort cells.values len → 1 ≤ len → len ≤ LENGTH_MAX → AreCellCounts cells windows len
   begun_kept held short some most = record {
     leaves = record {
       held = held;

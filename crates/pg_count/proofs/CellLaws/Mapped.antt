@@ -29,7 +29,7 @@ module _ {X Y : Type 0} (f : X → Y) where
     alone = is.alone;
     based = is.based;
     filled = is.filled;
-    closed = is.closed;
+    none_longer = is.none_longer;
     bases = is.bases;
     members = is.members;
   }
@@ -50,7 +50,7 @@ no_value {X} h is q none = by (find order q h.values) refl
 
 -- then no string that begins with it has one
 pub ends_after : {X : Type 0} (h : ValuedFamilies X) → AreValuedFamilies h → (q : List ℕ) (s : ℕ) → cell_of h.families (q ++ s ∷ []) ≡ None → EndsBefore h.values (q ++ s ∷ [])
-ends_after h is q s none more = no_value h is ((q ++ s ∷ []) ++ more) (is.closed q s more none)
+ends_after h is q s none more = no_value h is ((q ++ s ∷ []) ++ more) (is.none_longer q s more none)
 
 -- what is found in a root has the root's value
 pub root_blank : {X : Type 0} (q : List ℕ) (m x : X) (xs : List ℕ) → find order q (map (λ s. (s ∷ [], m)) xs) ≡ Some x → x ≡ m

@@ -204,7 +204,7 @@ module _ (h : ValuedFamilies (Option Tally)) (held : AreValuedFamilies h) where
             let t = tally_there number_of_tally h.values r n held.ordered at in
             let cell = held.celled r (Some t.0) t.1 in
             let way : r ≡ (p ++ x ∷ []) ++ q = is ∙ sym (append_assoc p (x ∷ []) q) in
-            absurd (let wrong : None ≡ Some cell.0 = sym (held.closed p x q e) ∙ ap (cell_of h.families) (sym way) ∙ cell.1 in cc)
+            absurd (let wrong : None ≡ Some cell.0 = sym (held.none_longer p x q e) ∙ ap (cell_of h.families) (sym way) ∙ cell.1 in cc)
 
         by : (q : List ℕ) → r ≡ p ++ q → (x : ℕ) × (q : List ℕ) × (r ≡ p ++ x ∷ q) × (goes_on h.values p x ≡ true) × (1 ≤ x)
         by [] is = absurd (bare n (ap (λ q. find order q (numbers_in h.values)) (sym (is ∙ append-nil p)) ∙ at))

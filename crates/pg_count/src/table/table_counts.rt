@@ -13,8 +13,8 @@ use crate::store::tally_list::{LATEST_FIRST, push_sums, set_sums_at, sums_at, ta
 use crate::store::window_list::WindowList;
 use crate::table::above::least_above;
 use crate::table::index::index_of;
+use crate::table::numbers::push_numbers;
 use crate::table::room::make_room;
-use crate::table::told::push_numbers;
 use crate::window_counter::WindowCounter;
 use pg_types::{Cursor, NUMBERS_END, Sign, Weight, add_weight};
 use std::alloc::{AllocError, Global};

@@ -2,7 +2,7 @@
 
 use crate::chars::{has_minima, up_to};
 use crate::refused::letter_causes::push_letter_cause;
-use crate::wrong::Refused;
+use crate::wrong::RefusalCase;
 use pg_types::Kind;
 use pg_visible::Part::Name;
 use pg_visible::{Spot, Text};
@@ -57,7 +57,7 @@ fn place_cause(kind: Kind, spot: &Spot<'_>) -> Option<&'static str> {
 }
 
 /// What is said of a refused file as a whole, where its bytes show a cause.
-fn cause_of(refused: &Refused<'_>, spot: &Spot<'_>) -> Option<&'static str> {
+fn cause_of(refused: &RefusalCase<'_>, spot: &Spot<'_>) -> Option<&'static str> {
     if spot.line == 1 {
         let cause = file_cause(refused.bytes);
         if cause.is_some() {
@@ -70,7 +70,7 @@ fn cause_of(refused: &Refused<'_>, spot: &Spot<'_>) -> Option<&'static str> {
 /// Appends the cause of a refusal, where the bytes show one.
 pub(crate) fn push_cause<'a>(
     text: &mut Text,
-    refused: &Refused<'a>,
+    refused: &RefusalCase<'a>,
     spot: &Spot<'a>,
 ) -> Result<(), AllocError> {
     if let Some(cause) = cause_of(refused, spot) {

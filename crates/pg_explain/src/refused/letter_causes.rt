@@ -2,7 +2,7 @@
 //! table.
 
 use crate::chars::{first_bytes, first_char, is_letter, is_letter_char, small_of};
-use crate::wrong::{Letters, Refused};
+use crate::wrong::{Letters, RefusalCase};
 use pg_translate::{Item, Place};
 use pg_types::{Kind, Mark};
 use pg_visible::Part::{Byte, Char, Hex, Name, Show};
@@ -129,7 +129,7 @@ fn cause_of(letters: &Letters<'_>, kind: Kind, rest: &[u8]) -> Option<Cause> {
 /// Appends why bytes begin no item, where they show it.
 pub(crate) fn push_letter_cause<'a>(
     text: &mut Text,
-    refused: &Refused<'a>,
+    refused: &RefusalCase<'a>,
     letters: &Letters<'a>,
     rest: &'a [u8],
 ) -> Result<(), AllocError> {

@@ -1,7 +1,7 @@
 //! The letter lines of a refused translate file.
 
 use crate::chars::{behind, up_to};
-use crate::wrong::Refused;
+use crate::wrong::RefusalCase;
 use pg_translate::SPELLING_MAX;
 use pg_types::next_line;
 use pg_visible::Part::{Count, Show};
@@ -137,7 +137,7 @@ fn clash_sentence(spelling: &[u8], other: &[u8]) -> &'static str {
 /// Appends which spellings clash.
 pub(crate) fn push_clash<'a>(
     text: &mut Text,
-    refused: &Refused<'a>,
+    refused: &RefusalCase<'a>,
     spot: &Spot<'a>,
 ) -> Result<(), AllocError> {
     let spelling = spelling_at(spot);

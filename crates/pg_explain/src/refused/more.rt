@@ -2,7 +2,7 @@
 
 use crate::chars::{has_minima, up_to};
 use crate::refused::parameters::push_more_items;
-use crate::wrong::Refused;
+use crate::wrong::RefusalCase;
 use pg_dict::Dictionary;
 use pg_patterns::PatternSet;
 use pg_translate::Table;
@@ -62,7 +62,7 @@ fn is_refused(
 /// How many lines behind the refused one are refused when each is read by itself, up to a hundred.
 fn refused_behind(
     alloc: Global,
-    refused: &Refused<'_>,
+    refused: &RefusalCase<'_>,
     table: &Table,
     is_pattern: bool,
 ) -> Result<usize, AllocError> {
@@ -134,7 +134,7 @@ fn refused_besides(
 
 /// Appends how many more lines of a translate file would be refused. Where the head is refused, the
 /// lines behind it are read as if its minima were blank, or all of it where it has none.
-fn push_more_letters(text: &mut Text, refused: &Refused<'_>) -> Result<(), AllocError> {
+fn push_more_letters(text: &mut Text, refused: &RefusalCase<'_>) -> Result<(), AllocError> {
     let most = (AGAIN_MAX / refused.bytes.len().max(1))
         .min(MORE_MAX)
         .max(1);
@@ -146,7 +146,7 @@ fn push_more_letters(text: &mut Text, refused: &Refused<'_>) -> Result<(), Alloc
 /// Appends how many more lines of a dictionary or a file of patterns would be refused.
 fn push_more_words(
     text: &mut Text,
-    refused: &Refused<'_>,
+    refused: &RefusalCase<'_>,
     is_pattern: bool,
 ) -> Result<(), AllocError> {
     match &refused.letters {
@@ -159,7 +159,7 @@ fn push_more_words(
 }
 
 /// Appends how many more lines of a file would be refused.
-pub(crate) fn push_more(text: &mut Text, refused: &Refused<'_>) -> Result<(), AllocError> {
+pub(crate) fn push_more(text: &mut Text, refused: &RefusalCase<'_>) -> Result<(), AllocError> {
     match refused.refusal.kind {
         Kind::PatternCharacter | Kind::PatternTooLong => push_more_words(text, refused, true),
         Kind::DictionaryCharacter | Kind::WordTooLong | Kind::BadWeight => {

@@ -1,7 +1,7 @@
 //! Refused packed tables: which of their rules they break.
 
 use crate::chars::behind;
-use crate::wrong::Refused;
+use crate::wrong::RefusalCase;
 use pg_types::packed_table::{CELL_LEN, HEAD_LEN, RECORD_LEN, SIGNATURE};
 use pg_types::{LEVEL_MAX, PATTERN_SIGNS_MAX, SIGNS_MAX};
 use pg_visible::Part::{Count, Name};
@@ -163,7 +163,7 @@ fn head_breach(bytes: &[u8]) -> Option<&'static str> {
 
 /// Appends which rule of packed tables a file breaks first. Its cells lead to one another, so
 /// nothing behind the first fault is judged.
-pub(crate) fn push_bad_table(text: &mut Text, refused: &Refused<'_>) -> Result<(), AllocError> {
+pub(crate) fn push_bad_table(text: &mut Text, refused: &RefusalCase<'_>) -> Result<(), AllocError> {
     let bytes = refused.bytes;
     if let Some(sentence) = head_breach(bytes) {
         return text.line(sentence, &[Name(refused.name), Count(HEAD_LEN)]);
@@ -189,7 +189,10 @@ pub(crate) fn push_bad_table(text: &mut Text, refused: &Refused<'_>) -> Result<(
 }
 
 /// Appends that a packed table is of another number of letters.
-pub(crate) fn push_other_table(text: &mut Text, refused: &Refused<'_>) -> Result<(), AllocError> {
+pub(crate) fn push_other_table(
+    text: &mut Text,
+    refused: &RefusalCase<'_>,
+) -> Result<(), AllocError> {
     let own = Count(Head::read(refused.bytes).signs.saturating_sub(1));
     let name = Name(refused.name);
     match &refused.letters {
@@ -207,7 +210,10 @@ pub(crate) fn push_other_table(text: &mut Text, refused: &Refused<'_>) -> Result
 }
 
 /// Appends that a packed table has too many bytes.
-pub(crate) fn push_long_table(text: &mut Text, refused: &Refused<'_>) -> Result<(), AllocError> {
+pub(crate) fn push_long_table(
+    text: &mut Text,
+    refused: &RefusalCase<'_>,
+) -> Result<(), AllocError> {
     let sentence = if refused.bytes.is_empty() {
         "$0 would have more than 268,435,456 bytes (2^28), the most of a packed table"
     } else {

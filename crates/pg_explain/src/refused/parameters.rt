@@ -4,7 +4,7 @@ mod items;
 
 use crate::refused::more::{MORE_MAX, push_count};
 use crate::refused::parameters::items::{first_item, items_in, number_at, number_of};
-use crate::wrong::Refused;
+use crate::wrong::RefusalCase;
 pub(crate) use items::item_spot;
 use pg_types::{COST_MAX, Kind, LENGTH_MAX, LEVEL_MAX, is_answer, next_item};
 use pg_visible::Part::{Count, Name, Say, Show};
@@ -51,7 +51,7 @@ fn due_sentence(kind: Kind, item: usize) -> &'static str {
 }
 
 /// Appends why an item is refused, and what is due there.
-fn push_due(text: &mut Text, refused: &Refused<'_>, spot: &Spot<'_>) -> Result<(), AllocError> {
+fn push_due(text: &mut Text, refused: &RefusalCase<'_>, spot: &Spot<'_>) -> Result<(), AllocError> {
     let item = refused.refusal.line as usize;
     let (least, most) = range_of(item, number_at(refused.bytes, item.saturating_sub(1)));
     let level = number_at(refused.bytes, 1).saturating_add(item.saturating_sub(3) / 5);
@@ -89,7 +89,11 @@ fn numbers_of(levels: usize) -> usize {
 }
 
 /// Appends that an item may not follow.
-fn push_extra(text: &mut Text, refused: &Refused<'_>, spot: &Spot<'_>) -> Result<(), AllocError> {
+fn push_extra(
+    text: &mut Text,
+    refused: &RefusalCase<'_>,
+    spot: &Spot<'_>,
+) -> Result<(), AllocError> {
     let levels = levels_of(refused.bytes);
     let sentence = if levels == 1 {
         "item $0 is $1, and the file should end: $2 level takes $3 numbers, and one y or n may follow"
@@ -112,7 +116,7 @@ fn push_extra(text: &mut Text, refused: &Refused<'_>, spot: &Spot<'_>) -> Result
 /// Appends why an item is refused, and what is due there.
 pub(crate) fn push_item(
     text: &mut Text,
-    refused: &Refused<'_>,
+    refused: &RefusalCase<'_>,
     spot: &Spot<'_>,
 ) -> Result<(), AllocError> {
     if refused.refusal.kind == Kind::Extra {
@@ -156,7 +160,10 @@ fn refused_behind(bytes: &[u8], item: usize, numbers: Option<usize>) -> usize {
 
 /// Appends how many more items of a file would be refused. Where it has fewer numbers than it
 /// should, it appends how many it should have.
-pub(crate) fn push_more_items(text: &mut Text, refused: &Refused<'_>) -> Result<(), AllocError> {
+pub(crate) fn push_more_items(
+    text: &mut Text,
+    refused: &RefusalCase<'_>,
+) -> Result<(), AllocError> {
     let item = refused.refusal.line as usize;
     let levels = levels_of(refused.bytes);
     let numbers = numbers_of(levels);

@@ -1,14 +1,14 @@
 //! The refused lines of dictionaries and pattern files.
 
 use crate::chars::{first_bytes, first_char, up_to};
-use crate::wrong::Refused;
+use crate::wrong::RefusalCase;
 use pg_types::{Kind, PATTERN_SIGNS_MAX, WORD_LETTERS_MAX};
 use pg_visible::Part::{Count, Hex, Name, Say, Show};
 use pg_visible::{Spot, Text, is_invisible};
 use std::alloc::AllocError;
 
 /// Whose letters are meant where a byte begins none: a to z, or those of a translate file.
-fn letters_of<'a>(refused: &Refused<'a>) -> &'a str {
+fn letters_of<'a>(refused: &RefusalCase<'a>) -> &'a str {
     match &refused.letters {
         Some(letters) if letters.is_no_file() => "a to z",
         Some(letters) => letters.name,
@@ -25,7 +25,7 @@ fn is_seen_alone(c: char) -> bool {
 /// Appends which bytes begin no item.
 pub(crate) fn push_character<'a>(
     text: &mut Text,
-    refused: &Refused<'a>,
+    refused: &RefusalCase<'a>,
     spot: &Spot<'a>,
 ) -> Result<(), AllocError> {
     let bytes = first_bytes(spot.rest());
@@ -45,7 +45,7 @@ pub(crate) fn push_character<'a>(
 /// Appends that a pattern or a word is too long.
 pub(crate) fn push_long(
     text: &mut Text,
-    refused: &Refused<'_>,
+    refused: &RefusalCase<'_>,
     spot: &Spot<'_>,
 ) -> Result<(), AllocError> {
     let (most, sentence) = if refused.refusal.kind == Kind::WordTooLong {

@@ -6,7 +6,7 @@ ghost use Rattle.pg_outside.specs.FilesCalls.{Writes};
 ghost use Rattle.pg_outside.specs.Inside.disk.Causes.{IsCauseOf};
 ghost use Rattle.pg_outside.specs.Inside.disk.Disks.{KeepsDisk, HoldsNow, IsOpened, IsWritable};
 ghost use Rattle.pg_outside.specs.Inside.disk.Moments.{RunsCalls, WhereDirect, AtMoment, IsWritten, IsAsBefore};
-ghost use Rattle.pg_outside.specs.Inside.disk.Writes.{IsIn, KeepsAll, KeepsOnly, IsContent, IsContentCut, IsNoted, IsOld, IsPlaceOf, IsDeep, IsFull, IsWrite, IsDiskWrite, AreAllTaken, WasKept};
+ghost use Rattle.pg_outside.specs.Inside.disk.Writes.{IsIn, KeepsAll, KeepsOnly, IsContent, IsContentCut, IsNoted, IsOld, IsSeenMode, IsDeep, IsFull, IsWrite, IsDiskWrite, AreAllTaken, WasKept};
 
 use super::error::WriteError;
 use super::links::find;
@@ -55,8 +55,8 @@ fn keep_regular(kept: &mut Vec<FileId>, seen: FileStatus) -> Result<(), AllocErr
 /// # Errors
 /// `Unfollowed` where they are not the same.
 fn mode_of_found(found: Option<FileId>, old: Option<FileStatus>) -> Result<Option<u32>, WriteError>
-    ensures mode { IfOk result (λ mode. IsPlaceOf found old mode) }
-    ensures other { OnErr result ((mode : Option ℕ) → IsPlaceOf found old mode → ⊥) }
+    ensures mode { IfOk result (λ mode. IsSeenMode found old mode) }
+    ensures other { OnErr result ((mode : Option ℕ) → IsSeenMode found old mode → ⊥) }
     ensures error { IfErr result (λ error. error ≡ WriteError.Unfollowed) }
 {
     match (found, old) {

@@ -4,7 +4,7 @@ ghost use Rattle.std.specs.Prelude.{◌≡◌, ◌≤◌, None, Ok, IfOk, OnOk, 
 ghost use Rattle.pg_outside.specs.Faults.{Rose, next_count};
 
 use super::files::DiskFiles;
-use super::system::{CallFailed, Entry, FileId, FileStatus, System};
+use super::system::{CallFailed, FileId, FileStatus, NameKind, System};
 use crate::streams::{read_some, write_some};
 use std::alloc::{AllocError, Global};
 use std::fs::{File, Metadata, OpenFile, OpenOptions, Permissions};
@@ -33,11 +33,11 @@ fn id_of(metadata: &Metadata) -> FileId {
 }
 
 /// What a name is, by what the system says of it.
-fn entry_of(metadata: io::Result<Metadata>) -> Result<Entry, CallFailed> {
+fn kind_of(metadata: io::Result<Metadata>) -> Result<NameKind, CallFailed> {
     match metadata {
-        Ok(metadata) if metadata.is_symlink() => Ok(Entry::Link),
-        Ok(metadata) => Ok(Entry::File(id_of(&metadata))),
-        Err(error) if error.kind() == ErrorKind::NotFound => Ok(Entry::Missing),
+        Ok(metadata) if metadata.is_symlink() => Ok(NameKind::Link),
+        Ok(metadata) => Ok(NameKind::File(id_of(&metadata))),
+        Err(error) if error.kind() == ErrorKind::NotFound => Ok(NameKind::Missing),
         Err(_) => Err(CallFailed),
     }
 }
@@ -155,11 +155,11 @@ impl<R: rt::Files + Drop> System for HostSystem<R> {
 
     ghost new_names = { λ _. tt };
 
-    fn look(&mut self, name: &str) -> Result<Entry, CallFailed> {
+    fn look(&mut self, name: &str) -> Result<NameKind, CallFailed> {
         let metadata = fs::symlink_metadata(&self.system, name);
         keep(&mut self.reason, &metadata, Some(ErrorKind::NotFound));
-        let entry = entry_of(metadata);
-        count(&mut self.failures, entry)
+        let kind = kind_of(metadata);
+        count(&mut self.failures, kind)
     }
 
     fn read_link(&mut self, alloc: Global, name: &str) -> Result<String, CallFailed> {

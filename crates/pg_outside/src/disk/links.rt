@@ -6,7 +6,7 @@ ghost use Rattle.pg_outside.specs.Inside.disk.NewNames.{IsFolderOf, IsLinkedName
 ghost use Rattle.pg_outside.specs.Inside.disk.Writes.{IsDeep, StandsFor};
 
 use super::error::WriteError;
-use super::system::{Entry, FileId, System};
+use super::system::{FileId, NameKind, System};
 use std::alloc::{AllocError, Global};
 
 /// How many names are looked at: a name, and those that up to 40 links say, one after the other.
@@ -68,12 +68,12 @@ pub(crate) fn find<S: System>(
     let mut real = String::from_str(alloc, name)?;
     for _ in 0..LINK_NAMES_MAX {
         match system.look(real.as_str())? {
-            Entry::Link => {
+            NameKind::Link => {
                 let text = system.read_link(alloc, real.as_str())?;
                 real = linked_name(alloc, real.as_str(), text.as_str())?;
             }
-            Entry::Missing => return Ok(make_real_name(real, None)),
-            Entry::File(id) => return Ok(make_real_name(real, Some(id))),
+            NameKind::Missing => return Ok(make_real_name(real, None)),
+            NameKind::File(id) => return Ok(make_real_name(real, Some(id))),
         }
     }
     Err(WriteError::Unfollowed)

@@ -2,7 +2,7 @@
 ghost use Rattle.std.specs.Prelude.{◌≡◌, ℕ, ◌+◌, ◌-◌, ◌^◌, ◌<◌, ◌≤◌, List, take, length, Option, Some, None, MatchOption, OnOk, OnErr, IfOk, IfSome, IfNone, string_bytes};
 ghost use Rattle.pg_outside.specs.declared.disk.system.FileId.{FileId};
 ghost use Rattle.pg_outside.specs.Faults.{Rose};
-ghost use Rattle.pg_outside.specs.Inside.disk.Disks.{DiskHistory, KeepsDisk, ChangesDisk, HoldsNow, MakesFile, AppendsBytes, AppendsFront, ChangesOnlyFile, SyncsFile, SetsMode, RenamesUnlessLink, RemovesUnlessLink, RefusesRemoval, IsTaken, IsEntry, IsFollowedBy, IsOpened, IsWritable, LeadsToNone, IsStat, HasPiece, KnowsPlain, KnowsNewNames};
+ghost use Rattle.pg_outside.specs.Inside.disk.Disks.{DiskHistory, KeepsDisk, ChangesDisk, HoldsNow, MakesFile, AppendsBytes, AppendsFront, ChangesOnlyFile, SyncsFile, SetsMode, RenamesUnlessLink, RemovesUnlessLink, RefusesRemoval, IsTaken, IsKindOf, IsFollowedBy, IsOpened, IsWritable, LeadsToNone, IsStat, HasPiece, KnowsPlain, KnowsNewNames};
 
 use std::alloc::Global;
 use std::io;
@@ -28,7 +28,7 @@ pub struct FileId {
 
 /// What a name is, before a link is followed.
 #[derive(Clone, Copy)]
-pub enum Entry {
+pub enum NameKind {
     Missing,
     Link,
     File(FileId),
@@ -62,9 +62,9 @@ pub trait System {
     ghost at: { Self.File → ℕ };
 
     /// What the name is. A link at its end is not followed.
-    fn look(&mut self, name: &str) -> Result<Entry, CallFailed>
+    fn look(&mut self, name: &str) -> Result<NameKind, CallFailed>
         ensures same { KeepsDisk (told self.old) (told self.new) }
-        ensures entry { IfOk result (λ entry. HoldsNow (told self.new) (IsEntry name.now entry)) }
+        ensures kind { IfOk result (λ kind. HoldsNow (told self.new) (IsKindOf name.now kind)) }
         ensures later { failures self.old ≤ failures self.new }
         ensures ok_failures { OnOk result (failures self.new ≡ failures self.old) }
         ensures failed { OnErr result (Rose (failures self.old) (failures self.new)) };

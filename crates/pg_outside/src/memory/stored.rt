@@ -5,7 +5,7 @@ ghost use Rattle.std.specs.FinMap as fin;
 ghost use Rattle.pg_outside.specs.Content.{file_at};
 ghost use Rattle.pg_outside.specs.Inside.ToldFiles.{IsCut};
 ghost use Rattle.pg_outside.specs.Inside.NameFaults.{NoneFell, SameCounts};
-ghost use Rattle.pg_outside.specs.Inside.memory.StoredFile.{has_name, file_map, room_in, IsPlace, IsMissing};
+ghost use Rattle.pg_outside.specs.Inside.memory.StoredFile.{has_name, file_map, room_in, IsIndexOf, IsMissing};
 
 use crate::outside::ReadError;
 use std::alloc::{AllocError, Global};
@@ -25,8 +25,8 @@ fn first_named(files: &[StoredFile], name: &str) -> Option<usize>
 }
 
 /// Where the first file of this name stands.
-fn place_of(files: &[StoredFile], name: &str) -> Option<usize>
-    ensures found { IfSome result (IsPlace name.now files.now) }
+fn index_of(files: &[StoredFile], name: &str) -> Option<usize>
+    ensures found { IfSome result (IsIndexOf name.now files.now) }
     ensures missing { IfNone result (IsMissing name.now files.now) }
 {
     first_named(files, name)
@@ -36,8 +36,8 @@ fn place_of(files: &[StoredFile], name: &str) -> Option<usize>
 pub(crate) fn bytes_of<'a>(files: &'a [StoredFile], name: &str) -> Option<&'a [u8]>
     ensures { option_copied result ≡ file_at (file_map files.now) name.now }
 {
-    let place = place_of(files, name)?;
-    Some(files[place].bytes.as_slice())
+    let index = index_of(files, name)?;
+    Some(files[index].bytes.as_slice())
 }
 
 /// Sets the bytes of a vector and gives it room for at least `room` bytes.
@@ -87,9 +87,9 @@ pub(crate) fn store(
     ensures succeeds { IsSome (file_at (file_map files.old.items) name.now)
         → max room (length bytes.now) ≤ room_in files.old.items name.now → IsOk result }
 {
-    match place_of(files, name) {
-        Some(place) => {
-            let file = &mut files[place];
+    match index_of(files, name) {
+        Some(index) => {
+            let file = &mut files[index];
             replace(&mut file.bytes, bytes, room)?;
             Ok(())
         }

@@ -11,10 +11,10 @@ use Rattle.pg_driver.specs.Traces.{trace, final_patterns, source_of}
 use Rattle.pg_patterns.specs.Inside.PatternMaps.{SignsUpTo}
 use Rattle.pg_types.specs.Inside.Limits.{sums_limit}
 use Rattle.pg_sweep.specs.Sweeps.{Terms, fold_totals, total_of}
-use Rattle.pg_sweep.specs.declared.folds.SweepInputs.{SweepInputs}
+use Rattle.pg_sweep.specs.declared.folds.SharedInputs.{SharedInputs}
 
 -- the terms of a sweep
-abbrev pub terms : SweepInputs → Terms
+abbrev pub terms : SharedInputs → Terms
 terms g = record {
   table = g.table.now;
   words = g.dictionary.now;
@@ -32,7 +32,7 @@ abbrev pub totals_of_folds : Terms → Parameters → ℕ → Totals
 totals_of_folds s set count = total_of (map (fold_totals s set) (range_with_len 0 count))
 
 -- the signs of the words and of the patterns are signs of the table
-abbrev pub HasSigns : SweepInputs → Type 0
+abbrev pub HasSigns : SharedInputs → Type 0
 HasSigns g = SignsAtMost (letters_of g.table.now + 1) g.dictionary.now
     × SignsUpTo (letters_of g.table.now + 1) g.start.now
 

@@ -42,7 +42,7 @@ enter_there n h held (s ∷ q) c is = after (s ∷ []) q is
       where
         by : (o : Option ℕ) → cell_in h.families p t ≡ o → enter_after (lowest_base n) h.families (p ++ t ∷ []) q ≡ h.families → enter_after (lowest_base n) h.families p (t ∷ q) ≡ h.families
         by None e rest =
-            absurd (let z : None ≡ Some c = sym (held.closed p t q (cell_of_last h.families p t ∙ e)) ∙ ap (cell_of h.families) (append_assoc p (t ∷ []) q) ∙ is in cc)
+            absurd (let z : None ≡ Some c = sym (held.none_longer p t q (cell_of_last h.families p t ∙ e)) ∙ ap (cell_of h.families) (append_assoc p (t ∷ []) q) ∙ is in cc)
         by (Some d) e rest =
             ap (λ o. enter_after (lowest_base n) (elim o as (λ _. Families) [ Some cell ↦ h.families | None ↦ with_sign (lowest_base n) h.families p t ]) (p ++ t ∷ []) q) e ∙ rest
 

@@ -99,7 +99,7 @@ module _ (h : ValuedFamilies ℕ) (held : AreValuedFamilies h) (heads : List ℕ
         | inl later ↦ λ d is.
             let more : take k q ≡ (p ++ s ∷ []) ++ drop (i + 1) (take k q) = sym (take-append-drop (i + 1) (take k q))
             ∙ ap (λ l. l ++ drop (i + 1) (take k q)) (take-take (i + 1) k q (omega arith) ∙ front) in
-            let z : None ≡ Some d = sym (held.closed p s (drop (i + 1) (take k q)) none) ∙ ap (cell_of h.families) (sym more) ∙ is in
+            let z : None ≡ Some d = sym (held.none_longer p s (drop (i + 1) (take k q)) none) ∙ ap (cell_of h.families) (sym more) ∙ is in
             cc
       ]
 

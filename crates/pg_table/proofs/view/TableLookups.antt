@@ -75,10 +75,10 @@ module _ (b : List ℕ) (h : ValuedFamilies ℕ) (held : AreValuedFamilies h) (h
 
       by : (o m : Option ℕ) → cell_of h.families (p ++ x ∷ []) ≡ o → base_of h.families (p ++ x ∷ []) ≡ m → (d : ℕ) × (base : ℕ)
           × (cell_of h.families (p ++ x ∷ []) ≡ Some d) × (base_of h.families (p ++ x ∷ []) ≡ Some base)
-      by None m e f = absurd (let n : None ≡ Some c = sym (held.closed p x (t ∷ more) e) ∙ whole in cc)
+      by None m e f = absurd (let n : None ≡ Some c = sym (held.none_longer p x (t ∷ more) e) ∙ whole in cc)
       by (Some d) (Some base) e f = (d, base, e, f)
       by (Some d) None e f =
-          let none = held.closed (p ++ x ∷ []) t more (childless h.families (p ++ x ∷ []) t f) in
+          let none = held.none_longer (p ++ x ∷ []) t more (childless h.families (p ++ x ∷ []) t f) in
           absurd (let n : None ≡ Some c = sym none ∙ ap (cell_of h.families) (append_assoc (p ++ x ∷ []) (t ∷ []) more) ∙ whole in cc)
 
   -- the list of a string with a cell

@@ -14,16 +14,16 @@ use Rattle.pg_outside.specs.FilesCalls.{Reads}
 use Rattle.pg_top.specs.Answers.{IsCall}
 use Rattle.pg_top.specs.audit.AuditRule.{audit_rule, denies, given_file}
 use Rattle.pg_top.specs.audit.Inside.Verdicts.{yes_line, wanted_file, wanted_files, given_files, end_of, outcome_by, ReadsToFind, IsFrontOf, PutsVerdict}
-use Rattle.pg_steps.specs.FileCalls.{MakesCalls, MakesPuts, read_calls, ReadsUpTo, EndsAt, IsEndedCounted, IsWholeCounted, IsCountedCall}
+use Rattle.pg_steps.specs.FileCalls.{MakesCalls, MakesPuts, read_calls, ReadsUpTo, EndsAt, MakesReadCalls, MakesAllCalls, MakesAnswerCalls}
 use Rattle.pg_steps.specs.Inside.reading.ReadCalls.{read_call}
 use Rattle.pg_steps.specs.Outcomes.{Outcome, Unknown, Ends}
 use Rattle.pg_steps.specs.Inside.ends.Refusing.{refuses}
-use Rattle.pg_steps.specs.RefusedLines.{word_of}
+use Rattle.pg_steps.specs.RefusedLines.{label_of}
 use Rattle.pg_steps.specs.Readings.{HeldFiles, Reading, first_end}
 use Rattle.pg_words.specs.forms.Generate.{FileNames}
 use Rattle.pg_top.specs.Selection.{selected_names}
 use Rattle.pg_top.specs.generate.GenerateRule.{inputs_in}
-use Rattle.pg_top.specs.generate.Inside.AcceptedInputs.{inputs_of, HasInputs}
+use Rattle.pg_top.specs.generate.Inside.AcceptedInputs.{input_reads, HasInputs}
 use Rattle.pg_steps.specs.Inside.ends.Stops.{StopsAt, StopsWith, StopsReading}
 use Rattle.pg_steps.specs.declared.answers.Status.{Status}
 use Rattle.pg_steps.specs.declared.answers.Status.TheVariants.{Yes, No}
@@ -44,7 +44,7 @@ use Rattle.pg_steps.specs.Rules.{outcome_of}
 
 -- what is said of a difference is said by what is printed of it
 said : Given → ℕ × List ℕ → List ℕ
-said g p = codes "no: " ++ word_of (input.Given g) ++ codes " line " ++ decimal p.0 ++ p.1 ++ codes "\n"
+said g p = codes "no: " ++ label_of (input.Given g) ++ codes " line " ++ decimal p.0 ++ p.1 ++ codes "\n"
 
 denied : (g : Given) (d : Option Difference) → option_map (denies g) d ≡ option_map (λ p. Ends No [] (said g p)) (option_map printed_of d)
 unfolding said
@@ -83,7 +83,7 @@ front_calls inputs others k gs =
 
 module _ (n : FileNames) (i : Inputs) where
   -- what is known of the files once the inputs are read
-  inputs_there : (files : FileMap) → HasInputs (file_at files) n i → AreAccepted (file_at files) (inputs_of n)
+  inputs_there : (files : FileMap) → HasInputs (file_at files) n i → AreAccepted (file_at files) (input_reads n)
   inputs_there files h = inputs_accepted n i.table i.params i.start i.dictionary files h
 
   inputs_same : (files : FileMap) → HasInputs (file_at files) n i → inputs_in (file_at files) n ≡ i
@@ -92,7 +92,7 @@ module _ (n : FileNames) (i : Inputs) where
   -- what reading all comes to is what the given files come to
   ends_with : (files : FileMap) → HasInputs (file_at files) n i → first_end (file_at files) (audit_rule n).reads ≡ first_end (file_at files) (given_files (λ _. i) n)
   ends_with files h =
-      accepted_front (file_at files) (inputs_of n) (given_files (λ files. inputs_in files n) n) (inputs_there files h)
+      accepted_front (file_at files) (input_reads n) (given_files (λ files. inputs_in files n) n) (inputs_there files h)
       ∙ same_ends (file_at files) (λ files. inputs_in files n) i (inputs_same files h) (selected_names n)
 
   pub outcome_audited : (ws : List SelectedFile) (verdict : Verdict) (files : FileMap) → wanted_files ws ≡ given_files (λ _. i) n → HasInputs (file_at files) n i
@@ -107,40 +107,40 @@ module _ (n : FileNames) (i : Inputs) where
       ∙ same_ends (file_at files) (λ files. inputs_in files n) i (inputs_same files h) (take k (selected_names n))
       ∙ ap (first_end (file_at files)) (sym (take-map (given_file (λ _. i)) k (selected_names n)))
 
-  -- given files that were read up to a place of the reading order
-  read_given : (place : ℕ) (s2 s3 : FilesShown) → IfSome s3.held (λ files. HasInputs (file_at files) n i) → ReadsUpTo (given_files (λ _. i) n) place s2 s3
-      → ReadsUpTo (given_files (λ files. inputs_in files n) n) place s2 s3
-  read_given place s2 s3 h read = record {
-    within = let within : place < length (given_files (λ _. i) n) = read.within in
+  -- given files that were read up to an index of the reading order
+  read_given : (index : ℕ) (s2 s3 : FilesShown) → IfSome s3.held (λ files. HasInputs (file_at files) n i) → ReadsUpTo (given_files (λ _. i) n) index s2 s3
+      → ReadsUpTo (given_files (λ files. inputs_in files n) n) index s2 s3
+  read_given index s2 s3 h read = record {
+    within = let within : index < length (given_files (λ _. i) n) = read.within in
         omega (arith, length-map (selected_names n) (given_file (λ _. i)), length-map (selected_names n) (given_file (λ files. inputs_in files n)));
-    calls = calls_are (read_calls (take (place + 1) (given_files (λ _. i) n))) (read_calls (take (place + 1) (given_files (λ files. inputs_in files n) n))) s2 s3
-        (front_calls (λ _. i) (λ files. inputs_in files n) (place + 1) (selected_names n)) read.calls;
-    before_it = mapped s3.held (λ files. HasInputs (file_at files) n i × (first_end (file_at files) (take place (given_files (λ _. i) n)) ≡ None))
-        (λ files. first_end (file_at files) (take place (given_files (λ files. inputs_in files n) n)) ≡ None)
-        (λ files k. same_front files k.0 place ∙ k.1)
-        (both s3.held (λ files. HasInputs (file_at files) n i) (λ files. first_end (file_at files) (take place (given_files (λ _. i) n)) ≡ None) h read.before_it);
+    calls = calls_are (read_calls (take (index + 1) (given_files (λ _. i) n))) (read_calls (take (index + 1) (given_files (λ files. inputs_in files n) n))) s2 s3
+        (front_calls (λ _. i) (λ files. inputs_in files n) (index + 1) (selected_names n)) read.calls;
+    before_it = mapped s3.held (λ files. HasInputs (file_at files) n i × (first_end (file_at files) (take index (given_files (λ _. i) n)) ≡ None))
+        (λ files. first_end (file_at files) (take index (given_files (λ files. inputs_in files n) n)) ≡ None)
+        (λ files k. same_front files k.0 index ∙ k.1)
+        (both s3.held (λ files. HasInputs (file_at files) n i) (λ files. first_end (file_at files) (take index (given_files (λ _. i) n)) ≡ None) h read.before_it);
   }
 
-  end_given : (place : ℕ) (held : Option FileMap) (end : Outcome) → IfSome held (λ files. HasInputs (file_at files) n i)
-      → IfSome held (λ files. first_end (file_at files) (take (place + 1) (given_files (λ _. i) n)) ≡ Some end)
-      → IfSome held (λ files. first_end (file_at files) (take (place + 1) (given_files (λ files. inputs_in files n) n)) ≡ Some end)
-  end_given place held end h is =
-      mapped held (λ files. HasInputs (file_at files) n i × (first_end (file_at files) (take (place + 1) (given_files (λ _. i) n)) ≡ Some end))
-      (λ files. first_end (file_at files) (take (place + 1) (given_files (λ files. inputs_in files n) n)) ≡ Some end)
-      (λ files k. same_front files k.0 (place + 1) ∙ k.1)
-      (both held (λ files. HasInputs (file_at files) n i) (λ files. first_end (file_at files) (take (place + 1) (given_files (λ _. i) n)) ≡ Some end) h is)
+  end_given : (index : ℕ) (held : Option FileMap) (end : Outcome) → IfSome held (λ files. HasInputs (file_at files) n i)
+      → IfSome held (λ files. first_end (file_at files) (take (index + 1) (given_files (λ _. i) n)) ≡ Some end)
+      → IfSome held (λ files. first_end (file_at files) (take (index + 1) (given_files (λ files. inputs_in files n) n)) ≡ Some end)
+  end_given index held end h is =
+      mapped held (λ files. HasInputs (file_at files) n i × (first_end (file_at files) (take (index + 1) (given_files (λ _. i) n)) ≡ Some end))
+      (λ files. first_end (file_at files) (take (index + 1) (given_files (λ files. inputs_in files n) n)) ≡ Some end)
+      (λ files k. same_front files k.0 (index + 1) ∙ k.1)
+      (both held (λ files. HasInputs (file_at files) n i) (λ files. first_end (file_at files) (take (index + 1) (given_files (λ _. i) n)) ≡ Some end) h is)
 
   -- a stop at a given file, by what the inputs are read as
-  why_given : (place : ℕ) (s2 s3 : FilesShown) (stop : Stop) → IfSome s3.held (λ files. HasInputs (file_at files) n i) → StopsWith (given_files (λ _. i) n) place s2 s3 stop
-      → StopsWith (given_files (λ files. inputs_in files n) n) place s2 s3 stop
-  why_given place s2 s3 (Refused input refusal) h why = end_given place s3.held (refuses input refusal) h why
-  why_given place s2 s3 (Unread name) h why =
-      let there = sym (slice_get-map (given_file (λ _. i)) (selected_names n) place) ∙ why.1 in
-      let g : Given × List ℕ = get_given (slice_get (selected_names n) place) why.0 there in
-      let at : slice_get (selected_names n) place ≡ Some g = given_at (slice_get (selected_names n) place) why.0 there in (
+  why_given : (index : ℕ) (s2 s3 : FilesShown) (stop : Stop) → IfSome s3.held (λ files. HasInputs (file_at files) n i) → StopsWith (given_files (λ _. i) n) index s2 s3 stop
+      → StopsWith (given_files (λ files. inputs_in files n) n) index s2 s3 stop
+  why_given index s2 s3 (Refused input refusal) h why = end_given index s3.held (refuses input refusal) h why
+  why_given index s2 s3 (Unread name) h why =
+      let there = sym (slice_get-map (given_file (λ _. i)) (selected_names n) index) ∙ why.1 in
+      let g : Given × List ℕ = get_given (slice_get (selected_names n) index) why.0 there in
+      let at : slice_get (selected_names n) index ≡ Some g = given_at (slice_get (selected_names n) index) why.0 there in (
         given_file (λ files. inputs_in files n) g,
-        slice_get-map (given_file (λ files. inputs_in files n)) (selected_names n) place ∙ ap (option_map (given_file (λ files. inputs_in files n))) at,
-        given_name (slice_get (selected_names n) place) why.0 there ∙ why.2,
+        slice_get-map (given_file (λ files. inputs_in files n)) (selected_names n) index ∙ ap (option_map (given_file (λ files. inputs_in files n))) at,
+        given_name (slice_get (selected_names n) index) why.0 there ∙ why.2,
         why.3,
       )
     where
@@ -155,52 +155,52 @@ module _ (n : FileNames) (i : Inputs) where
       given_name : (o : Option (Given × List ℕ)) (r : Reading) (is : option_map (given_file (λ _. i)) o ≡ Some r) → (get_given o r is).1 ≡ r.name
       given_name None r is = absurd (cc)
       given_name (Some g) r is = ap (λ (x : Option Reading). option_map_or (λ r. r.name) x []) is
-  why_given place s2 s3 Memory h why = tt
+  why_given index s2 s3 Memory h why = tt
 
   -- a stop at a given file is a stop of all
   pub stopped_given : (ws : List SelectedFile) (s0 s2 s3 : FilesShown) (stop : Stop) → wanted_files ws ≡ given_files (λ _. i) n → NoneFell s0.read_faults s2.read_faults
-      → MakesCalls s0 s2 (read_calls (inputs_of n)) → KeepsHeld s2.held s3.held → IfSome s2.held (λ files. HasInputs (file_at files) n i)
+      → MakesCalls s0 s2 (read_calls (input_reads n)) → KeepsHeld s2.held s3.held → IfSome s2.held (λ files. HasInputs (file_at files) n i)
       → StopsReading (wanted_files ws) s2 s3 stop → StopsReading (audit_rule n).reads s0 s3 stop
   stopped_given ws s0 s2 s3 stop wanted fell calls keeps h stops =
       let later : IfSome s3.held (λ files. HasInputs (file_at files) n i) = held_later s2.held s3.held (λ files. HasInputs (file_at files) n i) keeps h in
       let given_stops : StopsReading (given_files (λ _. i) n) s2 s3 stop = subst (λ (reads : List Reading). StopsReading reads s2 s3 stop) wanted stops in
-      stopped_after (inputs_of n) (given_files (λ files. inputs_in files n) n) s0 s2 s3 stop fell calls
-      (mapped s3.held (λ files. HasInputs (file_at files) n i) (λ files. AreAccepted (file_at files) (inputs_of n)) inputs_there later)
+      stopped_after (input_reads n) (given_files (λ files. inputs_in files n) n) s0 s2 s3 stop fell calls
+      (mapped s3.held (λ files. HasInputs (file_at files) n i) (λ files. AreAccepted (file_at files) (input_reads n)) inputs_there later)
       (record {
-        place = given_stops.place;
-        read = read_given given_stops.place s2 s3 later given_stops.read;
-        why = why_given given_stops.place s2 s3 stop later given_stops.why;
+        index = given_stops.index;
+        read = read_given given_stops.index s2 s3 later given_stops.read;
+        why = why_given given_stops.index s2 s3 stop later given_stops.why;
       })
 
   -- how far all files were read where this was found
-  pub found_given : (ws : List SelectedFile) (verdict : Verdict) (s0 s2 s3 : FilesShown) → wanted_files ws ≡ given_files (λ _. i) n → MakesCalls s0 s2 (read_calls (inputs_of n))
+  pub found_given : (ws : List SelectedFile) (verdict : Verdict) (s0 s2 s3 : FilesShown) → wanted_files ws ≡ given_files (λ _. i) n → MakesCalls s0 s2 (read_calls (input_reads n))
       → KeepsHeld s2.held s3.held → IfSome s2.held (λ files. HasInputs (file_at files) n i) → ReadsToFind (wanted_files ws) verdict s2 s3 → ReadsToFind (audit_rule n).reads verdict s0 s3
   found_given ws Equal s0 s2 s3 wanted calls keeps h read =
       let given : read_calls (wanted_files ws) ≡ read_calls (given_files (λ files. inputs_in files n) n) = ap read_calls wanted ∙ same_calls (λ _. i) (λ files. inputs_in files n) (selected_names n) in
-      let same : read_calls (inputs_of n) ++ read_calls (wanted_files ws) ≡ read_calls (audit_rule n).reads = ap (λ more. read_calls (inputs_of n) ++ more) given
-      ∙ sym (map-append read_call (inputs_of n) (given_files (λ files. inputs_in files n) n)) in
-      calls_are (read_calls (inputs_of n) ++ read_calls (wanted_files ws)) (read_calls (audit_rule n).reads) s0 s3 same
-      (calls_on (read_calls (inputs_of n)) (read_calls (wanted_files ws)) s0 s2 s3 calls read)
+      let same : read_calls (input_reads n) ++ read_calls (wanted_files ws) ≡ read_calls (audit_rule n).reads = ap (λ more. read_calls (input_reads n) ++ more) given
+      ∙ sym (map-append read_call (input_reads n) (given_files (λ files. inputs_in files n) n)) in
+      calls_are (read_calls (input_reads n) ++ read_calls (wanted_files ws)) (read_calls (audit_rule n).reads) s0 s3 same
+      (calls_on (read_calls (input_reads n)) (read_calls (wanted_files ws)) s0 s2 s3 calls read)
   found_given ws (False line) s0 s2 s3 wanted calls keeps h found =
       let later : IfSome s3.held (λ files. HasInputs (file_at files) n i) = held_later s2.held s3.held (λ files. HasInputs (file_at files) n i) keeps h in
-      let front : IfSome s3.held (λ files. AreAccepted (file_at files) (inputs_of n)) =
-      mapped s3.held (λ files. HasInputs (file_at files) n i) (λ files. AreAccepted (file_at files) (inputs_of n)) inputs_there later in
-      let place : ℕ = found.0 in
-      let read : ReadsUpTo (given_files (λ _. i) n) place s2 s3 = subst (λ (reads : List Reading). ReadsUpTo reads place s2 s3) wanted found.1 in
-      let end : IfSome s3.held (λ files. first_end (file_at files) (take (place + 1) (given_files (λ _. i) n)) ≡ Some (Ends No [] line.items)) =
-      subst (λ (reads : List Reading). IfSome s3.held (λ files. first_end (file_at files) (take (place + 1) reads) ≡ Some (Ends No [] line.items))) wanted found.2 in (
-        4 + place,
-        read_after (inputs_of n) (given_files (λ files. inputs_in files n) n) place s0 s2 s3 calls front (read_given place s2 s3 later read),
-        end_after (inputs_of n) (given_files (λ files. inputs_in files n) n) place s3.held (Ends No [] line.items) front (end_given place s3.held (Ends No [] line.items) later end),
+      let front : IfSome s3.held (λ files. AreAccepted (file_at files) (input_reads n)) =
+      mapped s3.held (λ files. HasInputs (file_at files) n i) (λ files. AreAccepted (file_at files) (input_reads n)) inputs_there later in
+      let index : ℕ = found.0 in
+      let read : ReadsUpTo (given_files (λ _. i) n) index s2 s3 = subst (λ (reads : List Reading). ReadsUpTo reads index s2 s3) wanted found.1 in
+      let end : IfSome s3.held (λ files. first_end (file_at files) (take (index + 1) (given_files (λ _. i) n)) ≡ Some (Ends No [] line.items)) =
+      subst (λ (reads : List Reading). IfSome s3.held (λ files. first_end (file_at files) (take (index + 1) reads) ≡ Some (Ends No [] line.items))) wanted found.2 in (
+        4 + index,
+        read_after (input_reads n) (given_files (λ files. inputs_in files n) n) index s0 s2 s3 calls front (read_given index s2 s3 later read),
+        end_after (input_reads n) (given_files (λ files. inputs_in files n) n) index s3.held (Ends No [] line.items) front (end_given index s3.held (Ends No [] line.items) later end),
       )
 
 -- all were right, or one had a false line: the calls
-equal_counted : (n : FileNames) (s0 s1 : FilesShown) (o0 o1 : SinkShown) → ReadsToFind (audit_rule n).reads Equal s0 s1 → MakesPuts o0 o1 1 → IsWholeCounted (audit_rule n) (s0, o0) (s1, o1)
+equal_counted : (n : FileNames) (s0 s1 : FilesShown) (o0 o1 : SinkShown) → ReadsToFind (audit_rule n).reads Equal s0 s1 → MakesPuts o0 o1 1 → MakesAllCalls (audit_rule n) (s0, o0) (s1, o1)
 equal_counted n s0 s1 o0 o1 read put =
     (calls_are (read_calls (audit_rule n).reads) (read_calls (audit_rule n).reads ++ []) s0 s1 (sym (append-nil (read_calls (audit_rule n).reads))) read, put)
 
 false_counted : (n : FileNames) (line : Vec ℕ Global) (s0 s1 : FilesShown) (o0 o1 : SinkShown) → IfSome s1.held (λ files. outcome_of (file_at files) (audit_rule n) ≡ Ends No [] line.items)
-    → ReadsToFind (audit_rule n).reads (False line) s0 s1 → MakesPuts o0 o1 1 → IsEndedCounted (audit_rule n) (s0, o0) (s1, o1)
+    → ReadsToFind (audit_rule n).reads (False line) s0 s1 → MakesPuts o0 o1 1 → MakesReadCalls (audit_rule n) (s0, o0) (s1, o1)
 false_counted n line s0 s1 o0 o1 told found put = (found.0, found.1, ends, put)
   where
     ends : IfSome s1.held (λ files. EndsAt (audit_rule n) found.0 (file_at files))
@@ -223,7 +223,7 @@ verdict_call n (False line) s0 s1 o0 o1 answer keeps told read puts put = answer
 -- and its calls
 pub verdict_counted : (n : FileNames) (verdict : Verdict) (s0 s1 : FilesShown) (o0 o1 : SinkShown) (answer : Status)
     → IfSome s1.held (λ files. outcome_of (file_at files) (audit_rule n) ≡ outcome_by verdict) → ReadsToFind (audit_rule n).reads verdict s0 s1
-    → PutsVerdict verdict answer o0 o1 → MakesPuts o0 o1 1 → IsCountedCall (audit_rule n) answer (s0, o0) (s1, o1)
+    → PutsVerdict verdict answer o0 o1 → MakesPuts o0 o1 1 → MakesAnswerCalls (audit_rule n) answer (s0, o0) (s1, o1)
 verdict_counted n Equal s0 s1 o0 o1 answer told read puts put = counted_line (audit_rule n) Yes yes_line s0 s1 o0 o1 answer (equal_counted n s0 s1 o0 o1 read put) puts
 verdict_counted n (False line) s0 s1 o0 o1 answer told read puts put = counted_line (audit_rule n) No line.items s0 s1 o0 o1 answer (false_counted n line s0 s1 o0 o1 told read put) puts
 

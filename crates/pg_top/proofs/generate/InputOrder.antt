@@ -16,7 +16,7 @@ use Rattle.pg_words.specs.forms.Generate.{FileNames}
 use Rattle.pg_steps.specs.Outcomes.{Ends}
 use Rattle.pg_steps.specs.declared.answers.Status.TheVariants.{Done}
 use Rattle.pg_top.specs.generate.GenerateRule.{generate_rule, inputs_in, selected_files, selected_lines}
-use Rattle.pg_top.specs.generate.Inside.AcceptedInputs.{inputs_of, HasInputs}
+use Rattle.pg_top.specs.generate.Inside.AcceptedInputs.{input_reads, HasInputs}
 use Rattle.pg_steps.specs.Inside.reading.Lists.{lists_under, HasLists}
 use Rattle.pg_steps.specs.Inside.ends.Stops.{StopsAt, StopsReading}
 use Rattle.pg_steps.specs.declared.inputs.Input.TheVariants as input
@@ -51,7 +51,7 @@ module _ (n : FileNames) (t : Alphabet) where
       all = record { table = t; params = p; start = S; dictionary = ws }
 
       -- once all are read they are accepted
-      pub inputs_accepted : (files : FileMap) → HasInputs (file_at files) n all → AreAccepted (file_at files) (inputs_of n)
+      pub inputs_accepted : (files : FileMap) → HasInputs (file_at files) n all → AreAccepted (file_at files) (input_reads n)
       inputs_accepted files h =
           let two : AreAccepted (file_at files) (translate_file n.translate ∷ parameters_input n ∷ []) = two_accepted files (h.table, h.params) in
           (two.0, (two.1.0, lists_accepted n.translate n.patterns n.dict t S ws files h.table (record { start = h.start; words = h.words })))
@@ -69,7 +69,7 @@ module _ (n : FileNames) (t : Alphabet) where
 pub outcome_generated : (n : FileNames) (i : Inputs) (files : FileMap) → HasInputs (file_at files) n i
     → outcome_of (file_at files) (generate_rule n) ≡ Ends Done (selected_files n i) (selected_lines i)
 outcome_generated n i files h =
-    ap (λ end. unwrap_or end ((generate_rule n).own_outcome (file_at files))) (accepted_all (file_at files) (inputs_of n) (inputs_accepted n i.table i.params i.start i.dictionary files h))
+    ap (λ end. unwrap_or end ((generate_rule n).own_outcome (file_at files))) (accepted_all (file_at files) (input_reads n) (inputs_accepted n i.table i.params i.start i.dictionary files h))
     ∙ ap (λ (i : Inputs). Ends Done (selected_files n i) (selected_lines i)) (given n i.table i.params i.start i.dictionary files h)
 
 -- one input is read after the other, and the files stay as they are
@@ -86,12 +86,13 @@ all_read n t p S ws h2 h3 keeps two more =
     (both h3 (HasTwo n t p) (λ files. HasLists (file_at files) t n.patterns n.dict S ws) (held_later h2 h3 (HasTwo n t p) keeps two) more)
 
 -- a stop at the first input, at the second, and at one of the last two
-pub stopped_1 : (n : FileNames) (s0 s1 : FilesShown) (stop : Stop) → MakesCalls s0 s1 (Reads n.translate ∷ []) → StopsAt (translate_file n.translate) s0 s1 stop → StopsReading (inputs_of n) s0 s1 stop
+pub stopped_1 : (n : FileNames) (s0 s1 : FilesShown) (stop : Stop) → MakesCalls s0 s1 (Reads n.translate ∷ []) → StopsAt (translate_file n.translate) s0 s1 stop
+    → StopsReading (input_reads n) s0 s1 stop
 stopped_1 n s0 s1 stop calls stops = stopped_first (translate_file n.translate) (parameters_input n ∷ patterns_file n.translate n.patterns ∷ words_file n.translate n.dict ∷ []) s0 s1 stop calls stops
 
 pub stopped_2 : (n : FileNames) (t : Alphabet) (s0 s1 s2 : FilesShown) (stop : Stop) → NoneFell s0.read_faults s1.read_faults
     → MakesCalls s0 s2 (Reads n.translate ∷ Reads n.params ∷ []) → KeepsHeld s1.held s2.held → IfSome s1.held (HasTable n t) → StopsAt (parameters_input n) s1 s2 stop
-    → StopsReading (inputs_of n) s0 s2 stop
+    → StopsReading (input_reads n) s0 s2 stop
 stopped_2 n t s0 s1 s2 stop fell calls keeps one stops =
     stopped_behind (translate_file n.translate ∷ []) (parameters_input n) (patterns_file n.translate n.patterns ∷ words_file n.translate n.dict ∷ []) s0 s1 s2 stop fell calls
     (mapped s2.held (HasTable n t) (λ files. AreAccepted (file_at files) (translate_file n.translate ∷ [])) (λ files h. (table_accepted n.translate t files h, tt))
@@ -99,15 +100,15 @@ stopped_2 n t s0 s1 s2 stop fell calls keeps one stops =
 
 pub stopped_lists : (n : FileNames) (t : Alphabet) (p : Parameters) (s0 s2 s3 : FilesShown) (stop : Stop) → NoneFell s0.read_faults s2.read_faults
     → MakesCalls s0 s2 (Reads n.translate ∷ Reads n.params ∷ []) → KeepsHeld s2.held s3.held → IfSome s2.held (HasTwo n t p)
-    → StopsReading (lists_under n.translate n.patterns n.dict) s2 s3 stop → StopsReading (inputs_of n) s0 s3 stop
+    → StopsReading (lists_under n.translate n.patterns n.dict) s2 s3 stop → StopsReading (input_reads n) s0 s3 stop
 stopped_lists n t p s0 s2 s3 stop fell calls keeps two stops =
     stopped_after (translate_file n.translate ∷ parameters_input n ∷ []) (lists_under n.translate n.patterns n.dict) s0 s2 s3 stop fell calls
     (mapped s3.held (HasTwo n t p) (λ files. AreAccepted (file_at files) (translate_file n.translate ∷ parameters_input n ∷ [])) (two_accepted n t p)
     (held_later s2.held s3.held (HasTwo n t p) keeps two)) stops
 
 -- all were read, and then memory was wanted
-pub inputs_wanted : (n : FileNames) (i : Inputs) (s0 s1 : FilesShown) → MakesCalls s0 s1 (read_calls (inputs_of n)) → IfSome s1.held (λ files. HasInputs (file_at files) n i)
-    → StopsReading (inputs_of n) s0 s1 Memory
+pub inputs_wanted : (n : FileNames) (i : Inputs) (s0 s1 : FilesShown) → MakesCalls s0 s1 (read_calls (input_reads n)) → IfSome s1.held (λ files. HasInputs (file_at files) n i)
+    → StopsReading (input_reads n) s0 s1 Memory
 inputs_wanted n i s0 s1 calls read =
-    wanted_after (inputs_of n) s0 s1 (omega arith) calls
-    (mapped s1.held (λ files. HasInputs (file_at files) n i) (λ files. AreAccepted (file_at files) (inputs_of n)) (λ files h. inputs_accepted n i.table i.params i.start i.dictionary files h) read)
+    wanted_after (input_reads n) s0 s1 (omega arith) calls
+    (mapped s1.held (λ files. HasInputs (file_at files) n i) (λ files. AreAccepted (file_at files) (input_reads n)) (λ files h. inputs_accepted n i.table i.params i.start i.dictionary files h) read)

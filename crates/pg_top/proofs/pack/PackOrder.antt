@@ -11,7 +11,7 @@ use Rattle.pg_steps.specs.Inside.ends.Refusing.{refuses}
 use Rattle.pg_steps.specs.Inside.reading.ReadAs.{read_as}
 use Rattle.pg_top.specs.pack.PackRule.{GivesValues, pack_rule, outcome_of_pack}
 use Rattle.pg_top.specs.totals.TotalsRule.{packed_table}
-use Rattle.pg_top.specs.pack.Inside.Inputs.{HasSource, packed_text}
+use Rattle.pg_top.specs.pack.Inside.Inputs.{HasPack, packed_text}
 use Rattle.pg_words.specs.forms.Pack.{PackRequest}
 use Rattle.pg_steps.specs.Inside.ends.Built.{KeepsPromise}
 use Rattle.pg_steps.specs.Inside.ends.Stops.{StopsCommandWith, StopsCommand, StopsMaking}
@@ -19,7 +19,7 @@ use Rattle.pg_steps.specs.declared.answers.Status.TheVariants.{Done}
 use Rattle.pg_steps.specs.declared.inputs.Input.TheVariants as input
 use Rattle.pg_steps.specs.declared.inputs.Stop.{Stop}
 use Rattle.pg_steps.specs.declared.inputs.Stop.TheVariants.{Refused, Unread, Memory}
-use Rattle.pg_top.specs.declared.pack.inputs.Source.{Source}
+use Rattle.pg_top.specs.declared.pack.inputs.PackInputs.{PackInputs}
 use Rattle.pg_steps.proofs.Orders.{AreAccepted, accepted_all, mapped, both, held_later, reads_all}
 use Rattle.pg_steps.proofs.UnderTable.{HasTable, is_table, table_accepted, accepted_under, means_under}
 use Rattle.pg_steps.specs.Rules.{outcome_of}
@@ -27,18 +27,18 @@ use Rattle.pg_steps.specs.Rules.{outcome_of}
 -- both files of `pack` are read, one after the other
 pub source_read : (p : PackRequest) (t : Alphabet) (P : Patterns) (h1 h2 : Option FileMap) → KeepsHeld h1 h2 → IfSome h1 (HasTable p.translate t)
     → IfSome h2 (λ files. read_as (start t) (file_at files) p.patterns ≡ Some (Ok P))
-    → IfSome h2 (λ files. HasSource (file_at files) p (record { table = t; patterns = P }))
+    → IfSome h2 (λ files. HasPack (file_at files) p (record { table = t; patterns = P }))
 source_read p t P h1 h2 keeps one more =
     mapped h2 (λ files. HasTable p.translate t files × (read_as (start t) (file_at files) p.patterns ≡ Some (Ok P)))
-    (λ files. HasSource (file_at files) p (record { table = t; patterns = P })) (λ files h. record { table = h.0; patterns = h.1 })
+    (λ files. HasPack (file_at files) p (record { table = t; patterns = P })) (λ files h. record { table = h.0; patterns = h.1 })
     (both h2 (HasTable p.translate t) (λ files. read_as (start t) (file_at files) p.patterns ≡ Some (Ok P)) (held_later h1 h2 (HasTable p.translate t) keeps one) more)
 
 -- and are accepted
-pack_accepted : (p : PackRequest) (s : Source) (files : FileMap) → HasSource (file_at files) p s → AreAccepted (file_at files) (pack_rule p).reads
+pack_accepted : (p : PackRequest) (s : PackInputs) (files : FileMap) → HasPack (file_at files) p s → AreAccepted (file_at files) (pack_rule p).reads
 pack_accepted p s files h = (table_accepted p.translate s.table files h.table, (accepted_under p.translate s.table start input.Patterns p.patterns s.patterns files h.table h.patterns, tt))
 
 -- then it comes to the table of the patterns
-pub pack_outcome : (p : PackRequest) (s : Source) (files : FileMap) → HasSource (file_at files) p s → outcome_of (file_at files) (pack_rule p)
+pub pack_outcome : (p : PackRequest) (s : PackInputs) (files : FileMap) → HasPack (file_at files) p s → outcome_of (file_at files) (pack_rule p)
     ≡ outcome_of_pack p.table s.table s.patterns
 pack_outcome p s files h =
     let is_t = is_table p.translate s.table files h.table in
@@ -47,9 +47,9 @@ pack_outcome p s files h =
     ∙ (λ k. outcome_of_pack p.table (is_t k) (is_P k))
 
 -- what it promises
-pub pack_promise : (p : PackRequest) (s : Source) (writing : Writing) (lines : List ℕ) (files : FileMap) → outcome_of_pack p.table s.table s.patterns
+pub pack_promise : (p : PackRequest) (s : PackInputs) (writing : Writing) (lines : List ℕ) (files : FileMap) → outcome_of_pack p.table s.table s.patterns
     ≡ Ends Done writing lines → writing ≡ (p.table, packed_text s.table s.patterns) ∷ [] → packed_table s.table (packed_text s.table s.patterns)
-    ≡ Ok (packed_text s.table s.patterns) → GivesValues (packed_text s.table s.patterns) s.patterns → HasSource (file_at files) p s → KeepsPromise (pack_rule p) (file_at files)
+    ≡ Ok (packed_text s.table s.patterns) → GivesValues (packed_text s.table s.patterns) s.patterns → HasPack (file_at files) p s → KeepsPromise (pack_rule p) (file_at files)
 pack_promise p s writing lines files made table accepted gives h = record {
   bytes = packed_text s.table s.patterns;
   lines = lines;
@@ -59,18 +59,18 @@ pack_promise p s writing lines files made table accepted gives h = record {
 }
 
 -- a stop at making the table
-pub stopped_making : (p : PackRequest) (s : Source) (s0 s1 : FilesShown) (why : Stop) → MakesCalls s0 s1 (read_calls (pack_rule p).reads)
-    → IfSome s1.held (λ files. HasSource (file_at files) p s) → StopsMaking (outcome_of_pack p.table s.table s.patterns) why → StopsCommand (pack_rule p) s0 s1 why
+pub stopped_making : (p : PackRequest) (s : PackInputs) (s0 s1 : FilesShown) (why : Stop) → MakesCalls s0 s1 (read_calls (pack_rule p).reads)
+    → IfSome s1.held (λ files. HasPack (file_at files) p s) → StopsMaking (outcome_of_pack p.table s.table s.patterns) why → StopsCommand (pack_rule p) s0 s1 why
 stopped_making p s s0 s1 why calls h making = record {
-  place = 1;
-  read = reads_all (pack_rule p).reads s0 s1 (omega arith) calls (mapped s1.held (λ files. HasSource (file_at files) p s)
+  index = 1;
+  read = reads_all (pack_rule p).reads s0 s1 (omega arith) calls (mapped s1.held (λ files. HasPack (file_at files) p s)
       (λ files. AreAccepted (file_at files) (pack_rule p).reads) (pack_accepted p s) h);
   why = why_made why making;
 }
   where
     why_made : (why : Stop) → StopsMaking (outcome_of_pack p.table s.table s.patterns) why → StopsCommandWith (pack_rule p) 1 s0 s1 why
     why_made (Refused at refusal) is =
-        mapped s1.held (λ files. HasSource (file_at files) p s) (λ files. (outcome_of (file_at files) (pack_rule p) ≡ refuses at refusal) × EndsAt (pack_rule p) 1 (file_at files))
+        mapped s1.held (λ files. HasPack (file_at files) p s) (λ files. (outcome_of (file_at files) (pack_rule p) ≡ refuses at refusal) × EndsAt (pack_rule p) 1 (file_at files))
         (λ files k. (pack_outcome p s files k ∙ is, inr (refl, accepted_all (file_at files) (pack_rule p).reads (pack_accepted p s files k)))) h
     why_made (Unread at) is = absurd is
     why_made Memory is = tt

@@ -4,7 +4,7 @@ use Rattle.std.specs.Option.{option_map}
 use Rattle.pg_audit.specs.Differences.{Difference, first_false}
 use Rattle.pg_audit.specs.FoundLines.{found_text}
 use Rattle.pg_steps.specs.Outcomes.{Outcome, Ends}
-use Rattle.pg_steps.specs.RefusedLines.{word_of}
+use Rattle.pg_steps.specs.RefusedLines.{label_of}
 use Rattle.pg_steps.specs.Readings.{HeldFiles, Reading}
 use Rattle.pg_steps.specs.Rules.{CommandRule, usual_rule}
 use Rattle.pg_top.specs.generate.GenerateRule.{inputs_in, generate_rule}
@@ -17,7 +17,7 @@ use Rattle.pg_top.specs.declared.selection.Inputs.{Inputs}
 
 -- the outcome where a line of a given file is false: its number, and what stands there
 abbrev pub denies : Given → Difference → Outcome
-denies given d = Ends No [] (codes "no: " ++ word_of (input.Given given) ++ codes " line "
+denies given d = Ends No [] (codes "no: " ++ label_of (input.Given given) ++ codes " line "
     ++ decimal d.line ++ found_text d.found ++ codes "\n")
 
 -- a given file, which ends the call where a line of it is false

@@ -6,7 +6,7 @@ ghost use Rattle.pg_steps.specs.declared.answers.Status.TheVariants.{No};
 ghost use Rattle.pg_top.specs.audit.AuditRule.{denies};
 
 use pg_audit::{FalseLine, SHOWN_MAX};
-use pg_steps::{Given, Input, push_word};
+use pg_steps::{Given, Input, push_label};
 use pg_types::push_number;
 use std::alloc::{AllocError, Global};
 
@@ -42,7 +42,7 @@ pub fn no_line(alloc: Global, given: Given, line: &FalseLine<'_>) -> Result<Vec<
         ≡ denies given (record { line = line.now.line; found = line.now.found.now })) }
 {
     let mut text = Vec::from_slice(alloc, b"no: ")?;
-    push_word(&mut text, Input::Given(given))?;
+    push_label(&mut text, Input::Given(given))?;
     push_number(&mut text, b" line ", line.line)?;
     push_found(&mut text, line.found)?;
     text.extend_from_slice(b"\n")?;

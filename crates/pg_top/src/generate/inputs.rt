@@ -1,7 +1,7 @@
 //! What `generate` reads.
 ghost use Rattle.std.specs.Prelude.{IfOk};
 ghost use Rattle.pg_words.specs.Inside.CommandRequests.{texts_of};
-ghost use Rattle.pg_top.specs.generate.Inside.AcceptedInputs.{HasInputs, inputs_of};
+ghost use Rattle.pg_top.specs.generate.Inside.AcceptedInputs.{HasInputs, input_reads};
 ghost use Rattle.pg_top.specs.Inside.selection.SelectionSigns.{HasSigns};
 ghost use Rattle.pg_steps.specs.Inside.reading.ReadsMade.{ReadsFiles};
 
@@ -19,7 +19,7 @@ pub fn read_inputs<'a, F: Files, W: Watch>(
     files: &mut F,
     watch: &W,
 ) -> Result<Inputs, Stop<'a>>
-    ensures read { ReadsFiles (inputs_of (texts_of names.now))
+    ensures read { ReadsFiles (input_reads (texts_of names.now))
         (F.shown files.old) (F.shown files.new) result
         (λ files. HasInputs files (texts_of names.now)) }
     ensures signs { IfOk result HasSigns }

@@ -8,7 +8,7 @@ ghost use Rattle.pg_top.specs.Inside.selection.SelectionAccounts.{work_line, sel
 ghost use Rattle.pg_top.specs.Inside.selection.SelectedFiles.{written_file};
 ghost use Rattle.pg_top.specs.Inside.selection.SelectedRuns.{IsNew, TellsSelection, HasSelected};
 ghost use Rattle.pg_top.specs.Selection.{selected_text};
-ghost use Rattle.pg_top.specs.Inside.selection.SelectionSigns.{HasSigns, signs_of};
+ghost use Rattle.pg_top.specs.Inside.selection.SelectionSigns.{HasSigns, greatest_sign_of};
 ghost use Rattle.pg_steps.specs.Inside.writing.WritesMade.{writing_of};
 ghost use Rattle.pg_types.specs.Lines.{lines};
 
@@ -18,7 +18,7 @@ use crate::selection::{Inputs, last_layout, select};
 use pg_driver::Run;
 use pg_packed::PackedEngine;
 use pg_select::Engine;
-use pg_steps::{Output, Outputs, push_file};
+use pg_steps::{BuiltTexts, OutputFile, push_file};
 use pg_texts::push_layout;
 use pg_types::{Layout, push_number};
 use pg_watch::{Watch, Watched};
@@ -70,7 +70,7 @@ fn make_lines(
 fn written<'a>(
     alloc: Global,
     selected: Vec<SelectedFile<'a>>,
-) -> Result<Vec<Output<'a>>, AllocError>
+) -> Result<Vec<OutputFile<'a>>, AllocError>
     ensures { IfOk result
         (λ files. writing_of files.items ≡ map written_file selected.entry.items) }
 {
@@ -88,7 +88,7 @@ fn make_files<'a, E: Engine>(
     inputs: &Inputs,
     engine: &E,
     run: &Run,
-) -> Result<Outputs<'a>, AllocError>
+) -> Result<BuiltTexts<'a>, AllocError>
     requires signs { HasSigns inputs.now }
     requires engine { HasSelected inputs.now (E.meaning engine.now) }
     requires told { TellsSelection inputs.now run.now }
@@ -100,7 +100,7 @@ fn make_files<'a, E: Engine>(
     let selected = make_selected(alloc, names, inputs, engine, run)?;
     let lines = make_lines(alloc, &selected[0].text, run, inputs)?;
     let files = written(alloc, selected)?;
-    Ok(Outputs { files, lines })
+    Ok(BuiltTexts { files, lines })
 }
 
 /// Does the run of the inputs over the packed engine, and builds all that `generate` writes and
@@ -110,7 +110,7 @@ pub fn make_outputs<'a, W: Watch>(
     names: &Names<'a>,
     inputs: &Inputs,
     watch: &W,
-) -> Result<Outputs<'a>, AllocError>
+) -> Result<BuiltTexts<'a>, AllocError>
     requires { HasSigns inputs.now }
     ensures files { IfOk result (λ made.
         writing_of made.files.items ≡ selected_files (texts_of names.now) inputs.now) }
@@ -131,10 +131,10 @@ fn run_files<'a, E: Engine>(
     names: &Names<'a>,
     inputs: &Inputs,
     engine: &mut E,
-) -> Result<Outputs<'a>, AllocError>
+) -> Result<BuiltTexts<'a>, AllocError>
     requires new { IsNew inputs.now (E.meaning engine.old) }
     requires families { (E.meaning engine.old).families
-        ≡ Some (pattern_families (signs_of inputs.now) inputs.now.start) }
+        ≡ Some (pattern_families (greatest_sign_of inputs.now) inputs.now.start) }
     requires signs { HasSigns inputs.now }
     ensures files { IfOk result (λ made.
         writing_of made.files.items ≡ selected_files (texts_of names.now) inputs.now) }

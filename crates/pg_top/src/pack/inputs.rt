@@ -4,7 +4,7 @@ ghost use Rattle.pg_patterns.specs.Inside.PatternMaps.{SignsUpTo};
 ghost use Rattle.pg_translate.specs.Alphabets.{letters_of};
 ghost use Rattle.pg_words.specs.Inside.CommandRequests.{pack_of};
 ghost use Rattle.pg_top.specs.pack.PackRule.{pack_rule};
-ghost use Rattle.pg_top.specs.pack.Inside.Inputs.{HasSource};
+ghost use Rattle.pg_top.specs.pack.Inside.Inputs.{HasPack};
 ghost use Rattle.pg_steps.specs.Inside.reading.ReadsMade.{ReadsFiles};
 
 use pg_outside::Files;
@@ -17,7 +17,7 @@ use std::alloc::Global;
 
 /// What `pack` reads.
 #[derive(Drop)]
-pub struct Source {
+pub struct PackInputs {
     /// The table of the translate file.
     pub table: Table,
     /// What the pattern file holds.
@@ -25,19 +25,19 @@ pub struct Source {
 }
 
 /// Reads what `pack` reads, in its order, up to the first refusal or fault.
-pub fn read_source<'a, F: Files, W: Watch>(
+pub fn read_pack<'a, F: Files, W: Watch>(
     alloc: Global,
     names: &PackNames<'a>,
     files: &mut F,
     watch: &W,
-) -> Result<Source, Stop<'a>>
+) -> Result<PackInputs, Stop<'a>>
     ensures read { ReadsFiles (pack_rule (pack_of names.now)).reads
         (F.shown files.old) (F.shown files.new) result
-        (λ files. HasSource files (pack_of names.now)) }
+        (λ files. HasPack files (pack_of names.now)) }
     ensures known { IfOk result
         (λ source. SignsUpTo (letters_of source.table + 1) source.patterns) }
 {
     let table = read_table(alloc, names.translate, files, watch)?;
     let patterns = read_start(alloc, &table, names.patterns, files, watch)?;
-    Ok(Source { table, patterns })
+    Ok(PackInputs { table, patterns })
 }

@@ -12,13 +12,13 @@ ghost use Rattle.pg_steps.specs.Inside.ends.Stops.{StopsMaking};
 ghost use Rattle.pg_steps.specs.Inside.writing.WritesMade.{written_names, writing_of};
 ghost use Rattle.pg_types.specs.Lines.{lines};
 
-use crate::pack::inputs::Source;
+use crate::pack::inputs::PackInputs;
 use crate::printed::count_lines;
-use pg_steps::{Input, Outputs, Stop, push_file, refuse};
+use pg_steps::{BuiltTexts, Input, Stop, push_file, refuse};
 use pg_table::{TableError, table_text};
 use pg_translate::Table;
 use pg_types::{Kind, Refusal, push_number};
-use pg_watch::{Refused, Watch};
+use pg_watch::{RefusedFile, Watch};
 use std::alloc::{AllocError, Global};
 
 /// Why `pack` stops where no table is made.
@@ -32,7 +32,7 @@ fn table_stop<'a, W: Watch>(error: TableError, name: &str, letters: &Table, watc
                 line: 0,
                 column: 0,
             };
-            let refused = Refused {
+            let refused = RefusedFile {
                 name,
                 bytes: &[],
                 refusal,
@@ -61,8 +61,8 @@ fn write_table<'a>(
     alloc: Global,
     name: &'a str,
     text: Vec<u8>,
-    source: &Source,
-) -> Result<Outputs<'a>, AllocError>
+    source: &PackInputs,
+) -> Result<BuiltTexts<'a>, AllocError>
     requires { SignsUpTo (letters_of source.now.table + 1) source.now.patterns }
     ensures files { IfOk result
         (λ made. writing_of made.files.items ≡ (name.now, text.items) ∷ []) }
@@ -74,16 +74,16 @@ fn write_table<'a>(
     let lines = packed_line(alloc, &patterns, &text)?;
     let mut files = Vec::new(alloc);
     push_file(&mut files, name, text)?;
-    Ok(Outputs { files, lines })
+    Ok(BuiltTexts { files, lines })
 }
 
 /// Builds the table, and all that `pack` writes and prints.
 pub fn make_table<'a, W: Watch>(
     alloc: Global,
     name: &'a str,
-    source: &Source,
+    source: &PackInputs,
     watch: &W,
-) -> Result<Outputs<'a>, Stop<'a>>
+) -> Result<BuiltTexts<'a>, Stop<'a>>
     requires { SignsUpTo (letters_of source.now.table + 1) source.now.patterns }
     ensures made { IfOk result
         (λ made. outcome_of_pack name.now source.now.table source.now.patterns

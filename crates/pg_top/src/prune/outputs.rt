@@ -17,7 +17,7 @@ ghost use Rattle.pg_types.specs.Lines.{lines};
 
 use crate::prune::inputs::PruneInputs;
 use pg_prune::{Pruned, RoundObserver, prune_text, prune_watched};
-use pg_steps::{Output, Outputs, push_file};
+use pg_steps::{BuiltTexts, OutputFile, push_file};
 use pg_translate::Table;
 use pg_types::push_number;
 use pg_watch::Watch;
@@ -65,7 +65,7 @@ fn begin_pruned(line: &mut Vec<u8>, rounds: u64, removed: u64, kept: u64) -> Res
 /// Adds the file of the patterns that stay.
 fn push_kept<'a>(
     alloc: Global,
-    files: &mut Vec<Output<'a>>,
+    files: &mut Vec<OutputFile<'a>>,
     name: &'a str,
     table: &Table,
     pruned: &Pruned,
@@ -82,7 +82,7 @@ fn push_kept<'a>(
 /// Adds the report.
 fn push_needs<'a>(
     alloc: Global,
-    files: &mut Vec<Output<'a>>,
+    files: &mut Vec<OutputFile<'a>>,
     name: &'a str,
     table: &Table,
     pruned: &Pruned,
@@ -101,7 +101,7 @@ fn write_pruned<'a>(
     names: &PruneNames<'a>,
     table: &Table,
     pruned: &Pruned,
-) -> Result<Outputs<'a>, AllocError>
+) -> Result<BuiltTexts<'a>, AllocError>
     requires { SignsUpTo (letters_of table.now + 1) pruned.now.patterns }
     ensures files { IfOk result (λ made.
         writing_of made.files.items ≡ pruned_files (prune_of names.now) table.now pruned.now) }
@@ -113,7 +113,7 @@ fn write_pruned<'a>(
     push_needs(alloc, &mut files, names.report, table, pruned)?;
     let kept = pruned.patterns();
     let lines = pruned_line(alloc, pruned.rounds(), pruned.removed(), kept.len() as u64)?;
-    Ok(Outputs { files, lines })
+    Ok(BuiltTexts { files, lines })
 }
 
 /// Prunes, and builds all that `prune` writes and prints.
@@ -122,7 +122,7 @@ pub fn make_prune<'a, W: Watch>(
     names: &PruneNames<'a>,
     inputs: &PruneInputs,
     watch: &W,
-) -> Result<Outputs<'a>, AllocError>
+) -> Result<BuiltTexts<'a>, AllocError>
     requires { HasKnownSigns inputs.now }
     ensures made { IfOk result (λ made.
         pruned_by (prune_of names.now)

@@ -5,7 +5,7 @@ use pg_packed::PackedEngine;
 use pg_patterns::PatternSet;
 use pg_sweep::Maker;
 use pg_types::Params;
-use pg_watch::{Turn, Watch, Watched};
+use pg_watch::{SweepRun, Watch, Watched};
 use std::alloc::{AllocError, Global};
 use std::cell::Cell;
 
@@ -37,10 +37,10 @@ impl<'a, W: Watch> WatchedMaker<'a, W> {
     }
 
     /// Tells the observer which run begins, and gives the parameters of that run.
-    fn turn(&self) -> &'a Params {
+    fn next_run(&self) -> &'a Params {
         let (set, fold) = self.next.get();
         let fold = fold.saturating_add(1);
-        self.watch.turn(Turn {
+        self.watch.sweep_run(SweepRun {
             set: set.saturating_add(1),
             sets: self.sets.len(),
             fold,
@@ -67,7 +67,7 @@ impl<'a, W: Watch> Maker for WatchedMaker<'a, W> {
         signs: u16,
         start: &PatternSet,
     ) -> Result<Watched<'a, PackedEngine, W>, AllocError> {
-        let params = self.turn();
+        let params = self.next_run();
         let engine = PackedEngine::new(alloc, signs, start)?;
         Ok(Watched::new(engine, params, self.watch))
     }

@@ -4,7 +4,7 @@ ghost use Rattle.pg_words.specs.Inside.CommandRequests.{sweep_of, KeepsSweepLimi
 ghost use Rattle.pg_types.specs.declared.limits.TheConstants.{SETS_MAX};
 ghost use Rattle.pg_top.specs.sweep.SweepRule.{sweep_rule};
 ghost use Rattle.pg_steps.specs.Inside.reading.ReadsMade.{ReadsFiles};
-ghost use Rattle.pg_top.specs.sweep.Inside.Inputs.{terms_of, HasSigns};
+ghost use Rattle.pg_top.specs.sweep.Inside.Inputs.{terms_of, HasSweepSigns};
 ghost use Rattle.pg_top.specs.sweep.Inside.AcceptedInputs.{HasSweep};
 
 use crate::sweep::sets::read_sets;
@@ -42,7 +42,7 @@ pub fn read_sweep<'a, F: Files, W: Watch>(
         (F.shown files.old) (F.shown files.new) result
         (λ files inputs. HasSweep files (sweep_of words.now)
         (terms_of words.now.folds inputs) inputs.sets.items) }
-    ensures signs { IfOk result HasSigns }
+    ensures signs { IfOk result HasSweepSigns }
     ensures count { IfOk result
         (λ inputs. (1 ≤ length inputs.sets.items) × (length inputs.sets.items ≤ SETS_MAX)) }
 {

@@ -6,13 +6,13 @@ ghost use Rattle.pg_sweep.specs.Files.{sweep_file};
 ghost use Rattle.pg_words.specs.Inside.CommandRequests.{sweep_of, KeepsSweepLimits};
 ghost use Rattle.pg_types.specs.declared.limits.TheConstants.{SETS_MAX};
 ghost use Rattle.pg_steps.specs.Outcomes.{Ends};
-ghost use Rattle.pg_top.specs.sweep.Inside.Inputs.{terms_of, HasSigns, line_of_sweep, outcome_of_sets};
+ghost use Rattle.pg_top.specs.sweep.Inside.Inputs.{terms_of, HasSweepSigns, line_of_sweep, outcome_of_sets};
 ghost use Rattle.pg_steps.specs.Inside.writing.WritesMade.{written_names, writing_of};
 ghost use Rattle.pg_steps.specs.declared.answers.Status.TheVariants.{Done};
 
 use crate::sweep::engines::WatchedMaker;
 use crate::sweep::inputs::SweepInputs;
-use pg_steps::{Outputs, push_file};
+use pg_steps::{BuiltTexts, push_file};
 use pg_sweep::{Sweep, sweep, sweep_text};
 use pg_types::push_number;
 use pg_watch::Watch;
@@ -43,7 +43,7 @@ fn write_sweep<'a>(
     alloc: Global,
     words: &SweepWords<'a>,
     found: &Sweep,
-) -> Result<Outputs<'a>, AllocError>
+) -> Result<BuiltTexts<'a>, AllocError>
     ensures files { IfOk result (λ made.
         writing_of made.files.items
         ≡ (words.now.output.now, sweep_file words.now.folds found.now.rows found.now.winner)
@@ -54,7 +54,7 @@ fn write_sweep<'a>(
     let lines = sweep_line(alloc, found)?;
     let mut files = Vec::new(alloc);
     push_file(&mut files, words.output, text)?;
-    Ok(Outputs { files, lines })
+    Ok(BuiltTexts { files, lines })
 }
 
 /// Does the sweep, and builds all that `sweep` writes and prints.
@@ -63,9 +63,9 @@ pub fn make_sweep<'a, W: Watch>(
     words: &SweepWords<'a>,
     inputs: &SweepInputs,
     watch: &W,
-) -> Result<Outputs<'a>, AllocError>
+) -> Result<BuiltTexts<'a>, AllocError>
     requires within { KeepsSweepLimits words.now }
-    requires signs { HasSigns inputs.now }
+    requires signs { HasSweepSigns inputs.now }
     requires count { (1 ≤ length inputs.now.sets.items)
         × (length inputs.now.sets.items ≤ SETS_MAX) }
     ensures made { IfOk result (λ made.

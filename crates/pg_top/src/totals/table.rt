@@ -21,7 +21,7 @@ use pg_texts::push_ending;
 use pg_translate::Table;
 use pg_types::packed_table::TABLE_MAX;
 use pg_types::{Kind, Refusal, Totals};
-use pg_watch::{Refused, Watch};
+use pg_watch::{RefusedFile, Watch};
 use std::alloc::{AllocError, Global};
 
 /// The refusal of a packed table, which has no place.
@@ -87,7 +87,7 @@ pub fn total_by<'a, F: Files, W: Watch>(
             Ok(lines)
         }
         Err(refusal) => {
-            let refused = Refused {
+            let refused = RefusedFile {
                 name,
                 bytes: &bytes,
                 refusal,

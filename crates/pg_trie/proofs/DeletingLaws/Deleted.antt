@@ -154,7 +154,7 @@ module _ (cells : ValuedFamilies ℕ) (records : List Record) (is : IsTrie cells
           (kept_front (q ++ x ∷ []) more u (ap (λ p. find order p cells.values) (sym whole) ∙ there) value)
         where
           fronted : (o : Option ℕ) → cell_of cells.families (q ++ x ∷ []) ≡ o → cell_of cells.families ((q ++ x ∷ []) ++ more) ≡ Some (is.held.celled t u there).0 → keeps (q ++ x ∷ []) ≡ true → ⊥
-          fronted None nothing long_cell kept_is = none_some (cell_of cells.families ((q ++ x ∷ []) ++ more)) (is.held.celled t u there).0 (is.held.closed q x more nothing) long_cell
+          fronted None nothing long_cell kept_is = none_some (cell_of cells.families ((q ++ x ∷ []) ++ more)) (is.held.celled t u there).0 (is.held.none_longer q x more nothing) long_cell
           fronted (Some c) some long_cell kept_is =
               let v = new.held.valued (q ++ x ∷ []) c (ap (λ fs. cell_of fs (q ++ x ∷ [])) new.families ∙ some) in
               not_both (keeps (q ++ x ∷ [])) kept_is (none x v.0 v.1)

@@ -17,8 +17,8 @@ pub same_by_dots : (q : List ℕ) (d e : ℕ) → eq_by_cmp dotted_cmp (q, d) (q
 same_by_dots q d e = ap (λ r. is_eq (ordering_then r (nat_cmp d e))) (tied_itself nat_list_cmp_total q) ∙ unsigned_tied d e
 
 -- and those of two strings are not the same
-pub other_place : (q p : List ℕ) (d e : ℕ) → q ≢ p → eq_by_cmp dotted_cmp (q, d) (p, e) ≡ false
-other_place q p d e n = false_from_ne_true (eq_by_cmp dotted_cmp (q, d) (p, e)) (λ t. n (ap (λ (k : List ℕ × ℕ). k.0) (dotted_exact (q, d) (p, e) (equal_is (dotted_cmp (q, d) (p, e)) t))))
+pub other_dotted : (q p : List ℕ) (d e : ℕ) → q ≢ p → eq_by_cmp dotted_cmp (q, d) (p, e) ≡ false
+other_dotted q p d e n = false_from_ne_true (eq_by_cmp dotted_cmp (q, d) (p, e)) (λ t. n (ap (λ (k : List ℕ × ℕ). k.0) (dotted_exact (q, d) (p, e) (equal_is (dotted_cmp (q, d) (p, e)) t))))
 
 module _ {X : Type 0} where
   abbrev pub found_first : ℕ → ℕ → Option X → Option X → Option X
@@ -63,7 +63,7 @@ module _ {X : Type 0} (pick : ℕ → Option X) where
       let more = find_past_string q p d xs rest n in
       elim (pick x.0) as (λ o. find dotted_cmp (q, d) (with_entry pick (p, x.1) o (entries_of pick p xs) ++ rest) ≡ find dotted_cmp (q, d) rest) [
         | None ↦ more
-        | Some v ↦ ap (λ b. cond b (Some v) (find dotted_cmp (q, d) (entries_of pick p xs ++ rest))) (other_place q p d x.1 n) ∙ more
+        | Some v ↦ ap (λ b. cond b (Some v) (find dotted_cmp (q, d) (entries_of pick p xs ++ rest))) (other_dotted q p d x.1 n) ∙ more
       ]
 
   -- what the entries have at a dotted string is what its string's list has

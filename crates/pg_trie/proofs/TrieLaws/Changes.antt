@@ -20,7 +20,7 @@ use Rattle.pg_trie.specs.declared.hopeless.TheConstants.{HOPELESS}
 use Rattle.pg_trie.specs.Inside.IsTrie.{IsTrie, IsListHead}
 use Rattle.pg_trie.specs.Inside.Lists.{list_with, Rises, DotsUpTo}
 use Rattle.pg_trie.specs.Inside.Maps.{Maps, maps_of, as_value, as_hopeless, entries}
-use Rattle.pg_trie.proofs.ListLaws.Found.{found_in, found_at, find-entries, sorted-entries, same_by_dots, other_place}
+use Rattle.pg_trie.proofs.ListLaws.Found.{found_in, found_at, find-entries, sorted-entries, same_by_dots, other_dotted}
 use Rattle.pg_trie.proofs.ListLaws.Rising.{values_rise, marks_rise}
 use Rattle.pg_trie.proofs.ListLaws.Entered.{rises-entered, dots-entered, value-entered, marks_stay, mark-entered, values_stay}
 
@@ -61,7 +61,7 @@ module _ {X : Type 0} (pick : ℕ → Option X) where
         | inr h ↦
             ap (found_at pick f d) (find_put_other p q new es h.0)
             ∙ sym (find-entries pick f es p d a)
-            ∙ ap (λ b. cond b (Some v) (find dotted_cmp (p, d) (entries pick f es))) (sym (other_place p q d e h.0))
+            ∙ ap (λ b. cond b (Some v) (find dotted_cmp (p, d) (entries pick f es))) (sym (other_dotted p q d e h.0))
       ]
 
   -- a string's new head whose list has the same

@@ -59,7 +59,7 @@ signs_behind h held p (x ∷ more) cell at =
   where
     by : (o : Option ℕ) → cell_of h.families (p ++ x ∷ []) ≡ o → cell_of h.families ((p ++ x ∷ []) ++ more) ≡ Some cell → list_all (is_known h.signs) more
         ≡ true → list_all (is_known h.signs) (x ∷ more) ≡ true
-    by None none there rest = absurd (let no : None ≡ Some cell = sym (held.closed p x more none) ∙ there in cc)
+    by None none there rest = absurd (let no : None ≡ Some cell = sym (held.none_longer p x more none) ∙ there in cc)
     by (Some c) some there rest =
         let known = held.signs p x c some in
         and_from (is_known h.signs x) (list_all (is_known h.signs) more) (and_from (nat_le 1 x) (nat_le x h.signs) (le-leb 1 x known.0) (le-leb x h.signs known.1)) rest

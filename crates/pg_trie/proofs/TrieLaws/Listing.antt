@@ -21,7 +21,7 @@ use Rattle.pg_trie.proofs.TrieLaws.Kept.{is_known, string_signs}
 pub no_cell : (h : ValuedFamilies ℕ) → AreValuedFamilies h → (w : List ℕ) (i : ℕ) → i < length w → cell_of h.families (take i w ++ get_or w i 0 ∷ []) ≡ None → cell_of h.families w ≡ None
 no_cell h held w i lt none =
     ap (cell_of h.families) (sym (take-append-drop (i + 1) w) ∙ ap (λ l. l ++ drop (i + 1) w) (take_more w i 0 lt))
-    ∙ held.closed (take i w) (get_or w i 0) (drop (i + 1) w) none
+    ∙ held.none_longer (take i w) (get_or w i 0) (drop (i + 1) w) none
 
 known_all : (n : ℕ) (q : List ℕ) → list_all (is_known n) q ≡ true → All (λ s. (1 ≤ s) × (s ≤ n)) q
 known_all n [] h = All-nil (λ s. (1 ≤ s) × (s ≤ n))
@@ -187,10 +187,10 @@ every_string h held items strings (x ∷ q) cell at = from_root (cell_of h.famil
         fronted : (p : List ℕ) (s : ℕ) (more : List ℕ) (cell : ℕ) → cell_of h.families ((p ++ s ∷ []) ++ more) ≡ Some cell → (o : Option ℕ)
             → cell_of h.families (p ++ s ∷ []) ≡ o → (c : ℕ) × (cell_of h.families (p ++ s ∷ []) ≡ Some c)
         fronted p s more cell at (Some c) is = (c, is)
-        fronted p s more cell at None none = absurd (let no : None ≡ Some cell = sym (held.closed p s more none) ∙ at in cc)
+        fronted p s more cell at None none = absurd (let no : None ≡ Some cell = sym (held.none_longer p s more none) ∙ at in cc)
 
     from_root : (o : Option ℕ) → cell_of h.families (x ∷ []) ≡ o → StandsFrom items 0 (x ∷ q)
-    from_root None none = absurd (let no : None ≡ Some cell = sym (held.closed [] x q none) ∙ at in cc)
+    from_root None none = absurd (let no : None ≡ Some cell = sym (held.none_longer [] x q none) ∙ at in cc)
     from_root (Some c) some = behind (x ∷ []) q cell (strings.roots x c some) at
 
 -- an option that is told to be there, or not

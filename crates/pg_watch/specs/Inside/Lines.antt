@@ -1,13 +1,13 @@
 -- The line that says where a call is.
 use Rattle.std.specs.Prelude.{ℕ, List, [], ◌++◌, take, codes, decimal, Option, Some, None}
-use Rattle.pg_watch.specs.declared.watch.Pass.{Pass}
-use Rattle.pg_watch.specs.declared.watch.Turn.{Turn}
+use Rattle.pg_watch.specs.declared.watch.PassProgress.{PassProgress}
+use Rattle.pg_watch.specs.declared.watch.SweepRun.{SweepRun}
 use Rattle.pg_watch.specs.declared.line.TheConstants.{ROW}
 use Rattle.pg_watch.specs.declared.line.Step.{Step}
 use Rattle.pg_watch.specs.declared.line.Step.TheVariants as step
 
 -- where a selection is
-abbrev pub pass_text : Pass → List ℕ
+abbrev pub pass_text : PassProgress → List ℕ
 pass_text p =
     codes "level " ++ decimal p.level ++ codes " of "
     ++ decimal p.last ++ codes ", length " ++ decimal p.len
@@ -15,16 +15,16 @@ pass_text p =
     ++ decimal p.longest ++ codes ", dot " ++ decimal p.dot
 
 -- which run of a sweep this is
-abbrev pub turn_text : Turn → List ℕ
-turn_text t =
+abbrev pub sweep_run_text : SweepRun → List ℕ
+sweep_run_text t =
     codes "set " ++ decimal t.set ++ codes " of "
     ++ decimal t.sets ++ codes ", fold " ++ decimal t.fold
     ++ codes " of " ++ decimal t.folds ++ codes ", "
 
 -- the same, where it is one
-abbrev pub turn_if_told : Option Turn → List ℕ
-turn_if_told (Some t) = turn_text t
-turn_if_told None = []
+abbrev pub sweep_run_if_told : Option SweepRun → List ℕ
+sweep_run_if_told (Some t) = sweep_run_text t
+sweep_run_if_told None = []
 
 -- what a call does, with the name of the file that it reads or writes
 abbrev pub step_text : Step → List ℕ → List ℕ
@@ -34,7 +34,7 @@ step_text (step.Pass p) name = pass_text p
 step_text (step.Round r) name = codes "round " ++ decimal r
 
 -- the whole line, of which the bytes of one row are shown
-abbrev pub line_text : List ℕ → ℕ → Option Turn → Step → List ℕ → List ℕ
-line_text command seconds turn step name =
+abbrev pub line_text : List ℕ → ℕ → Option SweepRun → Step → List ℕ → List ℕ
+line_text command seconds sweep_run step name =
     take ROW (command ++ codes " " ++ decimal seconds
-    ++ codes " s: " ++ turn_if_told turn ++ step_text step name)
+    ++ codes " s: " ++ sweep_run_if_told sweep_run ++ step_text step name)

@@ -34,7 +34,7 @@ pub record AreValuedFamilies {V : Type 0} (h : ValuedFamilies V) : Type 0 where
   pub filled : (p : List ℕ) (base : ℕ) → base_of h.families p ≡ Some base
       → (x : ℕ) × (cell : ℕ) × (cell_of h.families (p ++ x ∷ []) ≡ Some cell)
   -- where a string has no cell, no longer one has
-  pub closed : (p : List ℕ) (x : ℕ) (more : List ℕ)
+  pub none_longer : (p : List ℕ) (x : ℕ) (more : List ℕ)
       → cell_of h.families (p ++ x ∷ []) ≡ None → cell_of h.families ((p ++ x ∷ []) ++ more) ≡ None
   -- no two families have one base
   pub bases : (p q : List ℕ) (base : ℕ) → base_of h.families p ≡ Some base

@@ -44,7 +44,7 @@ pub record AreLeaves (h : ValuedFamilies (Option Tally)) (windows : Windows)
   pub size : length windows ≡ length (numbers_in h.values)
 
 -- what is always true of the cells and the windows
-pub record AreCounting (h : ValuedFamilies (Option Tally)) (windows : Windows)
+pub record AreCellCounts (h : ValuedFamilies (Option Tally)) (windows : Windows)
     (len : ℕ) : Type 0 where
   pub leaves : AreLeaves h windows len
   pub some : 1 ≤ len

@@ -13,15 +13,15 @@ use Rattle.pg_select.specs.Inside.laws.Steps.{FindsMore, PreventsMore}
 use Rattle.pg_select.specs.Inside.engine.Meanings.{Meaning}
 use Rattle.pg_select.specs.Statuses.{is_odd}
 use Rattle.pg_driver.specs.declared.choices.Choices.{Choices}
-use Rattle.pg_driver.specs.declared.counting.Counting.{Counting}
-use Rattle.pg_driver.specs.declared.counting.Counting.TheVariants.{Open, EachWord}
+use Rattle.pg_driver.specs.declared.counting.WayToCount.{WayToCount}
+use Rattle.pg_driver.specs.declared.counting.WayToCount.TheVariants.{Open, EachWord}
 use Rattle.pg_driver.specs.declared.counting.open_positions.OpenLevel.{OpenLevel}
 use Rattle.pg_driver.specs.declared.counting.word_level.WordLevel.{WordLevel}
 use Rattle.pg_driver.specs.declared.counting.above_positions.ChosenWeights.{ChosenWeights}
 use Rattle.pg_driver.specs.Accounts.{totals_by}
 use Rattle.pg_dots.specs.Inside.Dots.{is_closed, position_count}
 use Rattle.pg_driver.specs.Inside.counting.Counting.{HasRoom, IsBounded, meaning_after_counting}
-use Rattle.pg_driver.specs.Inside.counting.OpenSigns.{IsThere, closed_at_sign, open_word_positions, sign_count}
+use Rattle.pg_driver.specs.Inside.counting.OpenSigns.{IsLevelAt, closed_at_sign, open_word_positions, sign_count}
 use Rattle.pg_driver.specs.Inside.counting.OpenPositions.{IsPlaced}
 use Rattle.pg_driver.specs.Inside.level.PassWindows.{HaveNumbers, counts_at, is_counted_at}
 use Rattle.pg_driver.specs.Inside.records.Sound.{IsSmall}
@@ -44,37 +44,37 @@ pub record IsOpenAt (source : Source) (level len : ℕ)
     (known : Knowledge) (o : OpenLevel) : Type 0 where
   pub bounded : IsBounded source
   pub size : sign_count source.words ≤ position_count o.dots
-  pub dots : IsThere level len source.minima source.words known.patterns known.hopeless
+  pub dots : IsLevelAt level len source.minima source.words known.patterns known.hopeless
       (is_closed o.dots)
   pub totals : o.totals ≡ totals_by source known.patterns
 
 -- a way to count is ready for the passes of a length
-abbrev pub IsReady : Source → ℕ → ℕ → Knowledge → Counting → Type 0
+abbrev pub IsReady : Source → ℕ → ℕ → Knowledge → WayToCount → Type 0
 IsReady source level len known (Open o) = IsOpenAt source level len known o
 IsReady source level len known (EachWord e) = IsWordsAt source level known e
 
 -- windows are counted at open positions, so no word is hyphenated after the level's start
-abbrev pub IsOverOpen : Counting → Type 0
+abbrev pub IsOverOpen : WayToCount → Type 0
 IsOverOpen (Open o) = Unit {0}
 IsOverOpen (EachWord e) = ⊥
 
 -- where each word is hyphenated in each pass, a pass was counted
-abbrev pub IsCounted : Counting → Type 0
+abbrev pub IsCounted : WayToCount → Type 0
 IsCounted (Open o) = Unit {0}
 IsCounted (EachWord e) = e.is_counted ≡ true
 
 -- the totals that a way to count carries
-abbrev pub totals_in : Counting → Totals
+abbrev pub totals_in : WayToCount → Totals
 totals_in (Open o) = o.totals
 totals_in (EachWord e) = e.totals
 
 -- the totals that it carries are those by the patterns, and small
-abbrev pub TellsTotals : Source → Patterns → Counting → Type 0
+abbrev pub TellsTotals : Source → Patterns → WayToCount → Type 0
 TellsTotals source P c = (totals_in c ≡ totals_by source P) × IsSmall (totals_in c)
 
 -- the open dots have a bit for each sign of the words; or, if each word is hyphenated, the listed
 -- positions lie in the words, and are at most FILE_MAX
-abbrev pub ArePlaced : List Word → Counting → Type 0
+abbrev pub ArePlaced : List Word → WayToCount → Type 0
 ArePlaced words (Open o) = sign_count words ≤ position_count o.dots
 ArePlaced words (EachWord e) = All (IsPlaced words) e.above.items
     × (length e.above.items ≤ FILE_MAX)
@@ -88,7 +88,7 @@ pub record AreNumberedOpen (pass : Pass) (words : List Word)
       (open_word_positions (is_closed o.dots pass.dot) words) ns
 
 -- each position that is kept has its window's number, where the pass counts it
-abbrev pub AreNumberedIn : Pass → Counts → List Word → Windows → Counting → List ℕ → Type 0
+abbrev pub AreNumberedIn : Pass → Counts → List Word → Windows → WayToCount → List ℕ → Type 0
 AreNumberedIn pass counts words ws (Open o) ns = AreNumberedOpen pass words ws o ns
 AreNumberedIn pass counts words ws (EachWord e) ns =
     HaveNumbers pass (is_counted_at pass counts) words ws e.above.items ns
@@ -112,7 +112,7 @@ pub record CanMove (odd : Bool) (totals : Totals)
   pub rest : CanCarry odd totals (n.good - stays.good) (n.bad - stays.bad)
 
 -- the totals that are carried are large enough for what the choices of a pass take away
-abbrev pub CanGoOn : LevelParams → Pass → Counts → List Word → Choices → Counting → Type 0
+abbrev pub CanGoOn : LevelParams → Pass → Counts → List Word → Choices → WayToCount → Type 0
 CanGoOn params pass counts words n (Open o) = CanCarry (is_odd pass.level) o.totals n.good n.bad
 CanGoOn params pass counts words n (EachWord e) =
     CanMove (is_odd pass.level) e.totals n (chosen_weights params pass counts words e.above.items)
@@ -134,7 +134,7 @@ pub record IsAfterWords (odd : Bool) (n : Choices)
 
 -- what the choices of a pass make of a way to count, which stays of its kind
 abbrev pub GoesOnAfter : LevelParams → Pass → Counts
-    → List Word → Choices → Counting → Counting → Type 0
+    → List Word → Choices → WayToCount → WayToCount → Type 0
 GoesOnAfter params pass counts words n (Open o) (Open p) =
     IsAfterPass params pass counts words n o p
 GoesOnAfter params pass counts words n (Open o) (EachWord e) = ⊥

@@ -56,18 +56,18 @@ abbrev pub is_open_first : Minima → ℕ → Patterns → Word → ℕ → Bool
 is_open_first m level P w p = is_in_reach m w p && is_some (counts_as level (status_at P w p))
 
 -- at a length the closed dots of a position tell what counts there; out of reach all are closed
-pub record IsTold (level len : ℕ) (m : Minima) (P : Patterns) (H : Hopeless) (w : Word) (p : ℕ)
+pub record DotsTell (level len : ℕ) (m : Minima) (P : Patterns) (H : Hopeless) (w : Word) (p : ℕ)
     (closed : ℕ → Bool) : Type 0 where
   pub inside : is_in_reach m w p ≡ true → Tells level len P H w p closed
   pub outside : is_in_reach m w p ≡ false → (d : ℕ) → d ≤ LENGTH_MAX → closed d ≡ true
 
 -- how far a level is: no string that covers is longer than the length, and no value above the level
-pub record IsThere (level len : ℕ) (m : Minima) (words : List Word) (P : Patterns) (H : Hopeless)
+pub record IsLevelAt (level len : ℕ) (m : Minima) (words : List Word) (P : Patterns) (H : Hopeless)
     (closed : ℕ → ℕ → Bool) : Type 0 where
   pub short : CoversUpTo level len P H
   pub upto : IsUpTo level P
   pub known : (n p : ℕ) (w : Word) → slice_get words n ≡ Some w → p < length w.signs
-      → IsTold level len m P H w p (λ d. closed d (start_of words n + p))
+      → DotsTell level len m P H w p (λ d. closed d (start_of words n + p))
 
 -- the closed dots of an open position, by what became of its window. A dot whose window does not
 -- fit is closed too

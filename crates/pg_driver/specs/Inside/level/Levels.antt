@@ -10,7 +10,7 @@ use Rattle.pg_patterns.specs.Values.{Patterns}
 use Rattle.pg_select.specs.Inside.engine.Meanings.{Meaning}
 use Rattle.pg_select.specs.declared.pass.Pass.{Pass}
 use Rattle.pg_select.specs.Inside.laws.Laws.{CountsNothing}
-use Rattle.pg_driver.specs.declared.counting.Counting.{Counting}
+use Rattle.pg_driver.specs.declared.counting.WayToCount.{WayToCount}
 use Rattle.pg_driver.specs.Inside.counting.LevelCounting.{IsCounted}
 use Rattle.pg_driver.specs.Traces.{Knowledge, Source, PassTrace, LevelTrace, Trace, patterns_after, final_patterns, pass_traces, at_start}
 use Rattle.pg_driver.specs.Inside.level.Passes.{known_at_end}
@@ -52,7 +52,7 @@ abbrev pub no_flags : List Bool
 no_flags = replicate (LENGTH_MAX + 2) false
 
 -- no pass of a length is skipped, or a pass was counted already
-abbrev pub WillCount : SkipFlags → Counting → Type 0
+abbrev pub WillCount : SkipFlags → WayToCount → Type 0
 WillCount flags counting = (flags.here ≡ no_flags) ⊎ IsCounted counting
 
 -- the flag of a dot

@@ -38,9 +38,9 @@ fn from_item_at(bytes: &[u8], item: usize) -> &[u8] {
 /// How many bytes there are up to the end of the last item.
 fn items_end(bytes: &[u8]) -> usize {
     let mut end = 0;
-    for (place, byte) in bytes.iter().enumerate() {
+    for (index, byte) in bytes.iter().enumerate() {
         if !is_separator(*byte) {
-            end = place.saturating_add(1);
+            end = index.saturating_add(1);
         }
     }
     end

@@ -4,8 +4,8 @@ use Rattle.std.specs.Cmp.Lexicographic.{slice_cmp}
 use Rattle.std.specs.Ordering.{nat_cmp}
 use Rattle.std.specs.FinMap as fin
 use Rattle.pg_outside.specs.Inside.disk.NewNames.{IsNewName, IsLinkedName}
-use Rattle.pg_outside.specs.declared.disk.system.Entry.{Entry}
-use Rattle.pg_outside.specs.declared.disk.system.Entry.TheVariants.{Missing, Link, File}
+use Rattle.pg_outside.specs.declared.disk.system.NameKind.{NameKind}
+use Rattle.pg_outside.specs.declared.disk.system.NameKind.TheVariants.{Missing, Link, File}
 use Rattle.pg_outside.specs.declared.disk.system.FileId.{FileId}
 use Rattle.pg_outside.specs.declared.disk.system.FileStatus.{FileStatus}
 
@@ -172,10 +172,10 @@ abbrev pub IsTaken : List ℕ → Disk → Type 0
 IsTaken name disk = (disk.links.is_link name ≡ true) ⊎ ((id : FileId) × LeadsTo name id disk)
 
 -- this is what the name is, before a link is followed
-abbrev pub IsEntry : List ℕ → Entry → Disk → Type 0
-IsEntry name Missing disk = (disk.links.is_link name ≡ false) × LeadsToNone name disk
-IsEntry name Link disk = disk.links.is_link name ≡ true
-IsEntry name (File id) disk = (disk.links.is_link name ≡ false) × LeadsTo name id disk
+abbrev pub IsKindOf : List ℕ → NameKind → Disk → Type 0
+IsKindOf name Missing disk = (disk.links.is_link name ≡ false) × LeadsToNone name disk
+IsKindOf name Link disk = disk.links.is_link name ≡ true
+IsKindOf name (File id) disk = (disk.links.is_link name ≡ false) × LeadsTo name id disk
 
 -- the text, seen from the link's folder, is the name that the link says
 abbrev pub IsFollowedBy : List ℕ → List ℕ → Disk → Type 0

@@ -6,7 +6,7 @@ use Rattle.std.specs.Fmt.{decimal}
 pub record IsFolderOf (folder name : List ℕ) : Type 0 where
   pub last : List ℕ
   pub is : name ≡ folder ++ last
-  pub no_slash : (place : ℕ) → place < length last → slice_index last place ≢ 47
+  pub no_slash : (index : ℕ) → index < length last → slice_index last index ≢ 47
   pub ends : (folder ≡ []) ⊎ ((front : List ℕ) × (folder ≡ front ++ 47 ∷ []))
 
 -- a new file's name in this folder: `patgen-new-` and a number

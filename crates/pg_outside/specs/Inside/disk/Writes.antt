@@ -123,11 +123,11 @@ IsOld name None disk = LeadsToNone name disk
 IsOld name (Some seen) disk = IsSeen name seen disk
 
 -- what was found is what was seen, and these are its permissions
-abbrev pub IsPlaceOf : Option FileId → Option FileStatus → Option ℕ → Type 0
-IsPlaceOf None None mode = mode ≡ None
-IsPlaceOf (Some id) (Some seen) mode = (id ≡ seen.id) × (mode ≡ Some seen.mode)
-IsPlaceOf None (Some seen) mode = ⊥
-IsPlaceOf (Some id) None mode = ⊥
+abbrev pub IsSeenMode : Option FileId → Option FileStatus → Option ℕ → Type 0
+IsSeenMode None None mode = mode ≡ None
+IsSeenMode (Some id) (Some seen) mode = (id ≡ seen.id) × (mode ≡ Some seen.mode)
+IsSeenMode None (Some seen) mode = ⊥
+IsSeenMode (Some id) None mode = ⊥
 
 -- a regular file that the name leads to was read or written before
 abbrev pub WasKept : List ℕ → List FileId → Disk → Type 0

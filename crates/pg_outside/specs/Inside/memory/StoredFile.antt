@@ -28,24 +28,24 @@ of_name view none (file ∷ files) name =
 abbrev pub room_in : List StoredFile → List ℕ → ℕ
 room_in files name = of_name (λ file. vec_capacity file.bytes) 0 files name
 
--- the first file of this name stands at this place, and this is what setting it anew does
-pub record IsPlace (name : List ℕ) (files : List StoredFile) (place : ℕ) : Type 0 where
-  pub within : place < length files
-  pub there : (file : StoredFile) → file ≡ slice_index_or files place file
+-- the first file of this name has this index, and this is what setting it anew does
+pub record IsIndexOf (name : List ℕ) (files : List StoredFile) (index : ℕ) : Type 0 where
+  pub within : index < length files
+  pub there : (file : StoredFile) → file ≡ slice_index_or files index file
       → file_at (file_map files) name ≡ Some file.bytes.items
-  pub room : (file : StoredFile) → file ≡ slice_index_or files place file
+  pub room : (file : StoredFile) → file ≡ slice_index_or files index file
       → room_in files name ≡ vec_capacity file.bytes
   pub set_map : (file : StoredFile) → string_bytes file.name
-      ≡ string_bytes (slice_index_or files place file).name
-      → file_map (slice_set files place file) ≡ fin.insert (file_map files) name file.bytes.items
+      ≡ string_bytes (slice_index_or files index file).name
+      → file_map (slice_set files index file) ≡ fin.insert (file_map files) name file.bytes.items
   pub set_room : (file : StoredFile) → string_bytes file.name
-      ≡ string_bytes (slice_index_or files place file).name
-      → (other : List ℕ) → room_in (slice_set files place file) other
+      ≡ string_bytes (slice_index_or files index file).name
+      → (other : List ℕ) → room_in (slice_set files index file) other
       ≡ cond (bytes_eq other name) (vec_capacity file.bytes) (room_in files other)
   pub same_rooms : (file : StoredFile) → string_bytes file.name
-      ≡ string_bytes (slice_index_or files place file).name
-      → vec_capacity file.bytes ≡ vec_capacity (slice_index_or files place file).bytes
-      → SameCounts (room_in files) (room_in (slice_set files place file))
+      ≡ string_bytes (slice_index_or files index file).name
+      → vec_capacity file.bytes ≡ vec_capacity (slice_index_or files index file).bytes
+      → SameCounts (room_in files) (room_in (slice_set files index file))
 
 -- no file has this name, and this is what one more file of this name does
 pub record IsMissing (name : List ℕ) (files : List StoredFile) : Type 0 where

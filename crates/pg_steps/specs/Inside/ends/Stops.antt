@@ -16,7 +16,7 @@ use Rattle.pg_steps.specs.RefusedLines.{refused_line}
 use Rattle.pg_steps.specs.Inside.writing.FaultLines.{reading_line, writing_line}
 use Rattle.pg_steps.specs.Readings.{Reading, first_end}
 use Rattle.pg_steps.specs.Rules.{CommandRule, outcome_of}
-use Rattle.pg_steps.specs.Inside.writing.WritesMade.{written_names, WroteAll, StoppedAt}
+use Rattle.pg_steps.specs.Inside.writing.WritesMade.{written_names, WroteAll, WriteFailedAt}
 use Rattle.pg_steps.specs.declared.answers.Status.{Status}
 use Rattle.pg_steps.specs.declared.answers.Status.TheVariants as status
 use Rattle.pg_steps.specs.declared.inputs.Input.{Input}
@@ -39,7 +39,7 @@ StopsBy Refuses CannotRead Memory = Unit {0}
 abbrev pub ReadRose : FilesShown → FilesShown → List ℕ → Type 0
 ReadRose old new name = Rose (old.read_faults name) (new.read_faults name)
 
--- the file at a place of the order has this name, and could not be read
+-- the file at an index of the order has this name, and could not be read
 abbrev pub ReadRoseAt : List Reading → ℕ → FilesShown → FilesShown → List ℕ → Type 0
 ReadRoseAt reads at old new name = (reading : Reading) × (slice_get reads at ≡ Some reading)
     × (reading.name ≡ name) × ReadRose old new name
@@ -50,28 +50,28 @@ StopsAt r old new = StopsBy (λ refused. IfSome new.held (λ files.
     option_map (r.ends (file_at files)) (file_at files r.name) ≡ Some (Some refused)))
     (λ name. (name ≡ r.name) × ReadRose old new name)
 
--- why reading stopped at a place of the order
+-- why reading stopped at an index of the order
 abbrev pub StopsWith : List Reading → ℕ → FilesShown → FilesShown → Stop → Type 0
 StopsWith reads at old new = StopsBy (λ refused. IfSome new.held (λ files.
     first_end (file_at files) (take (at + 1) reads) ≡ Some refused)) (ReadRoseAt reads at old new)
 
--- reading files stopped: those up to a place were read once each, and this is why it stopped there
+-- reading files stopped: those up to an index were read once each, and this is why it stopped there
 pub record StopsReading (reads : List Reading) (old new : FilesShown) (stop : Stop) : Type 0 where
-  pub place : ℕ
-  pub read : ReadsUpTo reads place old new
-  pub why : StopsWith reads place old new stop
+  pub index : ℕ
+  pub read : ReadsUpTo reads index old new
+  pub why : StopsWith reads index old new stop
 
--- why a command stopped, with the files up to a place read
+-- why a command stopped, with the files up to an index read
 abbrev pub StopsCommandWith : CommandRule → ℕ → FilesShown → FilesShown → Stop → Type 0
 StopsCommandWith rule at old new = StopsBy (λ refused. IfSome new.held (λ files.
     (outcome_of (file_at files) rule ≡ refused) × EndsAt rule at (file_at files)))
     (ReadRoseAt rule.reads at old new)
 
--- a command stopped before it wrote: the files up to a place were read once, and this is why
+-- a command stopped before it wrote: the files up to an index were read once, and this is why
 pub record StopsCommand (rule : CommandRule) (old new : FilesShown) (stop : Stop) : Type 0 where
-  pub place : ℕ
-  pub read : ReadsUpTo rule.reads place old new
-  pub why : StopsCommandWith rule place old new stop
+  pub index : ℕ
+  pub read : ReadsUpTo rule.reads index old new
+  pub why : StopsCommandWith rule index old new stop
 
 -- why a command stopped while it built its texts, and read no more
 abbrev pub StopsMaking : Outcome → Stop → Type 0
@@ -116,7 +116,7 @@ abbrev pub Finishes : Writing → List ℕ → Status → Moment → Moment → 
 Finishes writing lines answer old new =
     (WroteAll old.0 new.0 writing × PutsAnswer lines status.Done answer old.1 new.1
     × MakesCalls old.0 new.0 (write_calls (written_names writing)) × MakesPuts old.1 new.1 1)
-    ⊎ ((answer ≡ status.Fault) × (at : ℕ) × (stopped : StoppedAt old.0 new.0 writing at)
+    ⊎ ((answer ≡ status.Fault) × (at : ℕ) × (stopped : WriteFailedAt old.0 new.0 writing at)
     × PutOrRose old.1 new.1 (writing_line stopped.write.0)
     × MakesCalls old.0 new.0 (write_calls (take (at + 1) (written_names writing)))
     × PutsFault old.1 new.1)

@@ -7,14 +7,14 @@ use Rattle.pg_steps.specs.declared.inputs.Stop.TheVariants.{Refused, Unread}
 use Rattle.pg_steps.specs.FileCalls.{MakesPuts, PutsFault}
 
 -- the puts of a command that stopped before it wrote: one of a refusal, three of a fault
-abbrev pub PutsCounted : Stop → Status → SinkShown → SinkShown → Type 0
-PutsCounted stop status.Memory old new = MakesPuts old new 0
-PutsCounted (Refused input refusal) status.Refused old new = MakesPuts old new 1
-PutsCounted (Refused input refusal) status.Fault old new = MakesPuts old new 1
-PutsCounted (Unread name) status.Fault old new = PutsFault old new
-PutsCounted stop answer old new = ⊥
+abbrev pub MakesStopPuts : Stop → Status → SinkShown → SinkShown → Type 0
+MakesStopPuts stop status.Memory old new = MakesPuts old new 0
+MakesStopPuts (Refused input refusal) status.Refused old new = MakesPuts old new 1
+MakesStopPuts (Refused input refusal) status.Fault old new = MakesPuts old new 1
+MakesStopPuts (Unread name) status.Fault old new = PutsFault old new
+MakesStopPuts stop answer old new = ⊥
 
 -- the puts of a command without files: its lines at once, or none where memory was short
-abbrev pub LinesCounted : Status → SinkShown → SinkShown → Type 0
-LinesCounted status.Memory old new = MakesPuts old new 0
-LinesCounted answer old new = MakesPuts old new 1
+abbrev pub MakesLinePuts : Status → SinkShown → SinkShown → Type 0
+MakesLinePuts status.Memory old new = MakesPuts old new 0
+MakesLinePuts answer old new = MakesPuts old new 1

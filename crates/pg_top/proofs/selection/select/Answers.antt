@@ -3,7 +3,7 @@ use Rattle.pg_dict.specs.Inside.SoundWords.{SignsAtMost}
 use Rattle.pg_driver.specs.Inside.records.RunAccounts.{TellsCells}
 use Rattle.pg_patterns.specs.Inside.PatternMaps.{SignsUpTo}
 use Rattle.pg_select.specs.Inside.engine.Meanings.{Meaning}
-use Rattle.pg_top.specs.Inside.selection.SelectionSigns.{signs_of}
+use Rattle.pg_top.specs.Inside.selection.SelectionSigns.{greatest_sign_of}
 use Rattle.pg_top.proofs.Selections.{patterns_selected, account_selected, begun_selected, cells_selected}
 use Rattle.pg_top.proofs.selection.select.Goals as goal
 
@@ -11,7 +11,7 @@ pub generate-requires : goal.generate-requires
 generate-requires g c =
     let m : Meaning = g.E.Engine.meaning c.args.engine.now in
     let none : m.begun ≡ 0 = ap (λ (m : Meaning). m.begun) c.requires.new in
-    let greatest : m.signs ≡ signs_of c.args.inputs.now = ap (λ (m : Meaning). m.signs) c.requires.new in
+    let greatest : m.signs ≡ greatest_sign_of c.args.inputs.now = ap (λ (m : Meaning). m.signs) c.requires.new in
     record {
       hopeless = ap (λ (m : Meaning). m.hopeless) c.requires.new;
       tidy = ap (λ (m : Meaning). m.tidy) c.requires.new;

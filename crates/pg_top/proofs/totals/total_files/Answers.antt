@@ -7,7 +7,7 @@ use Rattle.pg_steps.specs.Readings.{input_file}
 use Rattle.pg_steps.specs.Outcomes.{Ends}
 use Rattle.pg_steps.specs.Inside.ends.Built.{KeepsPromise}
 use Rattle.pg_steps.specs.Inside.writing.WritesMade.{written_names, writing_of}
-use Rattle.pg_steps.specs.declared.writes.Output.{Output}
+use Rattle.pg_steps.specs.declared.writes.OutputFile.{OutputFile}
 use Rattle.pg_steps.specs.declared.answers.Status.TheVariants.{Done}
 use Rattle.pg_steps.specs.Inside.reading.UnderTable.{file_under}
 use Rattle.pg_top.specs.totals.TotalsRule.{totals_rule, packed_table}
@@ -44,9 +44,9 @@ returns g c =
     record {
       only = only_on s0 s2 s3 two_only c.total_by-lines.ensures.only;
       made = record {
-        outcome = subst (λ (files : List Output). IfSome s3.held (λ held. outcome_of (file_at held) (totals_rule p) ≡ Ends Done (writing_of files) c.in_ok-lines.lines.items))
+        outcome = subst (λ (files : List OutputFile). IfSome s3.held (λ held. outcome_of (file_at held) (totals_rule p) ≡ Ends Done (writing_of files) c.in_ok-lines.lines.items))
             (sym c.new.ensures.items) told;
-        named = ap (λ (files : List Output). written_names (writing_of files)) c.new.ensures.items;
+        named = ap (λ (files : List OutputFile). written_names (writing_of files)) c.new.ensures.items;
         promise = mapped s3.held (λ files. outcome_of (file_at files) (totals_rule p) ≡ Ends Done [] c.in_ok-lines.lines.items)
             (λ files. KeepsPromise (totals_rule p) (file_at files)) (λ files h. tt) told;
         counted = all_calls;

@@ -6,21 +6,21 @@ use Rattle.pg_driver.specs.Inside.records.RunAccounts.{account_of}
 use Rattle.pg_driver.specs.Inside.records.Sound.{CompletedRun}
 use Rattle.pg_top.specs.Selection.{selected_patterns}
 use Rattle.pg_top.specs.Inside.selection.SelectionAccounts.{selected_account, passes_begun}
-use Rattle.pg_top.specs.Inside.selection.SelectionSigns.{signs_of}
+use Rattle.pg_top.specs.Inside.selection.SelectionSigns.{greatest_sign_of}
 use Rattle.pg_top.specs.declared.selection.Inputs.{Inputs}
 
 -- the engine was just made with the starting patterns of the inputs
 abbrev pub IsNew : Inputs → Meaning → Type 0
-IsNew i m = m ≡ new_engine (signs_of i) i.start m.families
+IsNew i m = m ≡ new_engine (greatest_sign_of i) i.start m.families
 
 -- a run tells of the selection: its patterns, what is told of it, and how many passes were begun
 pub record TellsSelection (i : Inputs) (run : CompletedRun) : Type 0 where
   pub patterns : run.patterns ≡ selected_patterns i
-  pub signs : SignsUpTo (signs_of i) run.patterns
+  pub signs : SignsUpTo (greatest_sign_of i) run.patterns
   pub account : account_of run ≡ selected_account i
   pub begun : run.begun ≡ passes_begun i
 
 -- an engine has the selected patterns, and the signs of the inputs
 pub record HasSelected (i : Inputs) (m : Meaning) : Type 0 where
-  pub signs : m.signs ≡ signs_of i
+  pub signs : m.signs ≡ greatest_sign_of i
   pub patterns : m.patterns ≡ selected_patterns i

@@ -10,7 +10,7 @@ use Rattle.pg_driver.specs.Inside.records.AccountLines.{Account, account}
 use Rattle.pg_driver.specs.Inside.records.CellsAccounts.{CellsAccount, cells_account}
 use Rattle.pg_texts.specs.Inside.CellsLines.{layout_line_text}
 use Rattle.pg_top.specs.Selection.{selection}
-use Rattle.pg_top.specs.Inside.selection.SelectionSigns.{signs_of}
+use Rattle.pg_top.specs.Inside.selection.SelectionSigns.{greatest_sign_of}
 use Rattle.pg_top.specs.declared.selection.Inputs.{Inputs}
 
 -- what is told of that run
@@ -23,11 +23,11 @@ passes_begun i = begun_count (selection i)
 
 -- what is told of the cells of that run, where it begins with these families
 unfoldable pub selected_cells_from : Inputs → Families → CellsAccount
-selected_cells_from i fs = cells_account (signs_of i) fs i.start (selection i)
+selected_cells_from i fs = cells_account (greatest_sign_of i) fs i.start (selection i)
 
 -- what is told of the cells, where the run begins with the families of the starting patterns
 unfoldable pub selected_cells : Inputs → CellsAccount
-selected_cells i = selected_cells_from i (pattern_families (signs_of i) i.start)
+selected_cells i = selected_cells_from i (pattern_families (greatest_sign_of i) i.start)
 
 -- the last layout that is told of the cells of a run
 abbrev pub last_layout : CellsAccount → Layout

@@ -6,10 +6,10 @@ use Rattle.pg_patterns.specs.Inside.PatternMaps.{SignsUpTo}
 use Rattle.pg_top.specs.declared.selection.Inputs.{Inputs}
 
 -- the greatest sign
-abbrev pub signs_of : Inputs → ℕ
-signs_of i = letters_of i.table + 1
+abbrev pub greatest_sign_of : Inputs → ℕ
+greatest_sign_of i = letters_of i.table + 1
 
 -- the words and the starting patterns have no sign above the greatest one of the table
 pub record HasSigns (i : Inputs) : Type 0 where
-  pub words : SignsAtMost (signs_of i) i.dictionary
-  pub start : SignsUpTo (signs_of i) i.start
+  pub words : SignsAtMost (greatest_sign_of i) i.dictionary
+  pub start : SignsUpTo (greatest_sign_of i) i.start

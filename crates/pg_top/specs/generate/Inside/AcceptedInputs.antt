@@ -18,5 +18,5 @@ pub record HasInputs (files : HeldFiles) (n : FileNames) (i : Inputs) : Type 0 w
   pub words : read_as (words i.table) files n.dict ≡ Some (Ok i.dictionary)
 
 -- what `generate` reads, in its order
-abbrev pub inputs_of : FileNames → List Reading
-inputs_of n = (generate_rule n).reads
+abbrev pub input_reads : FileNames → List Reading
+input_reads n = (generate_rule n).reads

@@ -15,14 +15,14 @@ use Rattle.pg_words.specs.forms.Pack.{PackRequest}
 use Rattle.pg_steps.specs.declared.inputs.Input.TheVariants as input
 use Rattle.pg_steps.specs.declared.inputs.Stop.{Stop}
 use Rattle.pg_steps.specs.declared.inputs.Stop.TheVariants as stop
-use Rattle.pg_top.specs.declared.pack.inputs.Source.{Source}
+use Rattle.pg_top.specs.declared.pack.inputs.PackInputs.{PackInputs}
 
 -- the packed table of patterns for the letters of a table
 abbrev pub packed_text : Alphabet → Patterns → List ℕ
 packed_text t P = table_text (letters_of t + 1) P
 
 -- the files that are held are accepted as these
-pub record HasSource (files : HeldFiles) (n : PackRequest) (s : Source) : Type 0 where
+pub record HasPack (files : HeldFiles) (n : PackRequest) (s : PackInputs) : Type 0 where
   pub table : read_as table files n.translate ≡ Some (Ok s.table)
   pub patterns : read_as (start s.table) files n.patterns ≡ Some (Ok s.patterns)
 

@@ -17,7 +17,7 @@ abbrev pub terms_of : ℕ → SweepInputs → Terms
 terms_of folds i = record { table = i.table; words = i.dictionary; start = i.start; folds = folds }
 
 -- the words and the starting patterns have no greater sign than the table
-pub record HasSigns (i : SweepInputs) : Type 0 where
+pub record HasSweepSigns (i : SweepInputs) : Type 0 where
   pub words : SignsAtMost (letters_of i.table + 1) i.dictionary
   pub start : SignsUpTo (letters_of i.table + 1) i.start
 

@@ -7,13 +7,13 @@ use Rattle.pg_outside.proofs.disk.links.find.Goals as goal
 
 pub loop-preserved : goal.loop-preserved
 loop-preserved g c =
-    let entry = rw (c.as_str.ensures.value, c.in-Link.is) at c.in_ok-look.ensures.entry in
+    let kind = rw (c.as_str.ensures.value, c.in-Link.is) at c.in_ok-look.ensures.kind in
     let text = rw c.as_str-in-Link.ensures.value at c.in_ok-text-in-Link.ensures.text in
     let joined = rw (c.as_str-in-Link-2.ensures.value, c.as_str-in-Link-3.ensures.value) at c.in_ok-real-in-Link.ensures in
     record {
       same = keeps_both _ _ _ (keeps_both _ _ _ c.loop.invariant.same c.look.ensures.same) c.read_link.ensures.same;
       reached = reached_on _ (string_bytes c.loop.real) (string_bytes c.in_ok-text-in-Link.text) _ c.loop.counter _ _ _ _ c.loop.invariant.reached
-          c.look.ensures.same entry c.read_link.ensures.same text joined refl;
+          c.look.ensures.same kind c.read_link.ensures.same text joined refl;
       failures = c.in_ok-text-in-Link.ensures.ok_failures ∙ c.in_ok-look.ensures.ok_failures ∙ c.loop.invariant.failures;
     }
 
@@ -27,9 +27,9 @@ loop-init g c = record {
 pub returns-in-Missing : goal.returns-in-Missing
 returns-in-Missing g c = record {
   same = keeps_both _ _ _ c.loop.invariant.same c.look.ensures.same;
-  found = let entry = rw (c.as_str.ensures.value, c.in-Missing.is) at c.in_ok-look.ensures.entry in (
+  found = let kind = rw (c.as_str.ensures.value, c.in-Missing.is) at c.in_ok-look.ensures.kind in (
     c.in_ok-look.ensures.ok_failures ∙ c.loop.invariant.failures,
-    stands_none _ _ _ _ _ _ _ c.loop.invariant.reached c.look.ensures.same entry c.make_real_name.ensures.name c.make_real_name.ensures.file,
+    stands_none _ _ _ _ _ _ _ c.loop.invariant.reached c.look.ensures.same kind c.make_real_name.ensures.name c.make_real_name.ensures.file,
   );
   cause = tt;
 }
@@ -37,10 +37,10 @@ returns-in-Missing g c = record {
 pub returns-in-File : goal.returns-in-File
 returns-in-File g c = record {
   same = keeps_both _ _ _ c.loop.invariant.same c.look.ensures.same;
-  found = let entry = rw (c.as_str.ensures.value, c.in-File.is) at c.in_ok-look.ensures.entry in (
+  found = let kind = rw (c.as_str.ensures.value, c.in-File.is) at c.in_ok-look.ensures.kind in (
     c.in_ok-look.ensures.ok_failures ∙ c.loop.invariant.failures,
     stands_some _ _ _ c.in-File.id _ _ _ _ c.loop.invariant.reached c.look.ensures.same
-        entry c.make_real_name-in-File.ensures.name c.make_real_name-in-File.ensures.file,
+        kind c.make_real_name-in-File.ensures.name c.make_real_name-in-File.ensures.file,
   );
   cause = tt;
 }

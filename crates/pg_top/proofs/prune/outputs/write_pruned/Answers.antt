@@ -3,7 +3,7 @@ use Rattle.pg_patterns.specs.Texts.{pattern_text}
 use Rattle.pg_prune.specs.Reports.{prune_report}
 use Rattle.pg_steps.specs.Outcomes.{Writing}
 use Rattle.pg_steps.specs.Inside.writing.WritesMade.{writing_of}
-use Rattle.pg_steps.specs.declared.writes.Output.{Output}
+use Rattle.pg_steps.specs.declared.writes.OutputFile.{OutputFile}
 use Rattle.pg_top.specs.prune.PruneRule.{pruned_line}
 use Rattle.pg_top.proofs.prune.outputs.write_pruned.Goals as goal
 
@@ -11,7 +11,7 @@ pub returns : goal.returns
 returns c =
     let t = c.args.table.now in
     let found = c.args.pruned.now in
-    let first = c.in_ok-push_kept.ensures.file ∙ ap (λ (xs : List Output). writing_of xs ++ (c.args.names.now.output.now, pattern_text t found.patterns) ∷ []) c.new-files.ensures.items in
+    let first = c.in_ok-push_kept.ensures.file ∙ ap (λ (xs : List OutputFile). writing_of xs ++ (c.args.names.now.output.now, pattern_text t found.patterns) ∷ []) c.new-files.ensures.items in
     let kept = c.len.ensures.value ∙ ap length c.patterns-kept.ensures in
     record {
       files = c.in_ok-push_needs.ensures ∙ ap (λ (ws : Writing). ws ++ (c.args.names.now.report.now, prune_report t found) ∷ []) first;

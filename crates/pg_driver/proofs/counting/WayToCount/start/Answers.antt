@@ -3,7 +3,7 @@ use Rattle.pg_driver.specs.Inside.records.RunAccounts.{known_of}
 use Rattle.pg_driver.specs.Traces.{source_of}
 use Rattle.pg_driver.proofs.WordLevels.{words_begin}
 use Rattle.pg_driver.proofs.ReadySteps.{ready_at_start}
-use Rattle.pg_driver.proofs.counting.Counting.start.Goals as goal
+use Rattle.pg_driver.proofs.counting.WayToCount.start.Goals as goal
 
 pub returns-clause-ready : goal.returns-clause-ready
 returns-clause-ready g c = λ len.

@@ -1,6 +1,6 @@
 use Rattle.std.proofs.Common.{◌≡◌, ◌≤◌, ◌++◌, drop, take}
 use Rattle.pg_count.specs.Inside.Tables.{numbers_in_row}
-use Rattle.pg_count.proofs.table.told.put_numbers.Given as goal
+use Rattle.pg_count.proofs.table.numbers.put_numbers.Given as goal
 
 -- what is found already, and the numbers of the entries that are left, are all numbers of the block
 abbrev pub invariant-loop-entry : goal.invariant-loop-entry

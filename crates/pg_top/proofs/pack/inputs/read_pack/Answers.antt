@@ -13,7 +13,7 @@ use Rattle.pg_top.proofs.pack.PackOrder.{source_read}
 use Rattle.pg_steps.proofs.UnderTable.{stopped_first, stopped_second}
 use Rattle.pg_steps.proofs.Orders.{only_on}
 use Rattle.pg_top.proofs.ReadsStopped.{files_stopped}
-use Rattle.pg_top.proofs.pack.inputs.read_source.Goals as goal
+use Rattle.pg_top.proofs.pack.inputs.read_pack.Goals as goal
 
 pub returns-in_err-table : goal.returns-in_err-table
 returns-in_err-table g c =

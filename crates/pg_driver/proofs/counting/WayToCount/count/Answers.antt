@@ -5,7 +5,7 @@ use Rattle.pg_driver.specs.Inside.counting.LevelCounting.{IsOpenAt, IsReady}
 use Rattle.pg_driver.specs.Inside.records.RunAccounts.{known_of}
 use Rattle.pg_driver.specs.Traces.{source_of}
 use Rattle.pg_driver.proofs.ReadySteps.{counts_all, has_room, is_small, ready_same}
-use Rattle.pg_driver.proofs.counting.Counting.count.Goals as goal
+use Rattle.pg_driver.proofs.counting.WayToCount.count.Goals as goal
 
 pub count_open-requires-clause-ranges : goal.count_open-requires-clause-ranges
 count_open-requires-clause-ranges g c = c.requires.begun.ranges

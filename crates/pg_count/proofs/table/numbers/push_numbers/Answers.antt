@@ -2,7 +2,7 @@ use Rattle.std.proofs.Common.{◌≡◌, ◌++◌, ap, sym, ◌∙◌, append_as
 use Rattle.std.specs.Slice.Iter.{chunks_rest}
 use Rattle.std.proofs.lemmas.List.Elements.{filter_map-append}
 use Rattle.pg_count.specs.Inside.Tables.{numbers_in_row}
-use Rattle.pg_count.proofs.table.told.push_numbers.Goals as goal
+use Rattle.pg_count.proofs.table.numbers.push_numbers.Goals as goal
 
 pub loop-block-preserved : goal.loop-block-preserved
 loop-block-preserved c =

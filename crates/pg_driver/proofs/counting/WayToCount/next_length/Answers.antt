@@ -1,7 +1,7 @@
 use Rattle.std.proofs.Common.{refl, subst}
 use Rattle.pg_driver.specs.Inside.counting.LevelCounting.{IsReady}
 use Rattle.pg_driver.proofs.ReadySteps.{ready_longer}
-use Rattle.pg_driver.proofs.counting.Counting.next_length.Goals as goal
+use Rattle.pg_driver.proofs.counting.WayToCount.next_length.Goals as goal
 
 pub returns-in_ok-next_length-clause-ready : goal.returns-in_ok-next_length-clause-ready
 returns-in_ok-next_length-clause-ready c = λ source level len known ready.

@@ -1,8 +1,8 @@
 use Rattle.std.proofs.Common.{◌≡◌, ◌++◌}
 use Rattle.std.specs.Slice.Iter.{chunks_rest, chunks_size}
 use Rattle.pg_count.specs.Inside.Tables.{numbers_in_row}
-use Rattle.pg_count.specs.declared.table.told.TheConstants.{BLOCK}
-use Rattle.pg_count.proofs.table.told.push_numbers.Given as goal
+use Rattle.pg_count.specs.declared.table.numbers.TheConstants.{BLOCK}
+use Rattle.pg_count.proofs.table.numbers.push_numbers.Given as goal
 
 -- with the numbers of the entries that are left, the list is what it is to be
 abbrev pub invariant-loop-block : goal.invariant-loop-block
