@@ -72,7 +72,7 @@ fn deed_of(word: &str) -> Deed {
     }
 }
 
-/// What is worth a word at status 0.
+/// The note of this name, which is said at status 0.
 fn note_of(note: &str) -> Wrong<'static> {
     match note {
         "no word" => Wrong::NoWord { dict: "d.dic" },

@@ -15,7 +15,7 @@ pub(crate) struct Line<'a> {
     pub name: &'a str,
     /// What stands behind the colon.
     pub rest: &'a str,
-    /// The place of its content among all of the table.
+    /// The index of its content among all of the table.
     content: usize,
 }
 

@@ -3,7 +3,8 @@ use Rattle.std.specs.Prelude.{ℕ, ◌-◌, nat_lt, if◌then◌else◌, List, [
 use Rattle.pg_types.specs.Lines.{is_line_feed}
 use Rattle.pg_audit.specs.declared.lines.TheConstants.{SHOWN_MAX}
 
--- what is printed of a found line: it is missing, its first 200 bytes, or all but its line feed
+-- what is printed of a found line: that it is missing, or its first 200 bytes, or all of it but its
+-- line feed
 abbrev pub found_text : List ℕ → List ℕ
 found_text [] = codes " is missing"
 found_text line = let has_feed = is_line_feed (slice_index line (length line - 1)) in

@@ -10,7 +10,6 @@ pub const NONE: usize = usize::MAX;
 pub struct FamilyCell {
     /// The cell, 0 where it was given up.
     pub cell: usize,
-    /// Its sign.
     pub sign: Sign,
     /// Its family: the number in the list, counted from 1, of the cell that the family is below, or
     /// 0 for the root.

@@ -15,7 +15,7 @@ use std::marker::Model;
 /// The windows that are counted in a pass, each with its sums of good and bad weights.
 ///
 /// Short windows are counted in a table with an entry for each, long ones in packed cells. Which of
-/// both counts a pass is told when it begins. The memory of both stays for later passes.
+/// the two counts a pass is decided when it begins. The memory of both stays for later passes.
 #[derive(Drop)]
 pub struct CountTrie {
     cells: CellCounts,

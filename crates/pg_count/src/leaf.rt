@@ -13,9 +13,9 @@ use crate::walks::way::Way;
 use pg_types::Sign;
 use std::alloc::AllocError;
 
-// Moves the tally with the number down from the end of a new window's way, sign by sign, to where
-// the new window and the one with the number part. Gives the new window's way then. Refused: the
-// tally may have been moved down in part.
+// Moves the tally with the number down from the end of a new window's way, sign by sign, as far as
+// the new window and the window with the number begin alike. Gives the new window's way after that.
+// Refused: the tally may have been moved down in part.
 fn part(
     cells: &mut CountedCells,
     windows: &WindowList,

@@ -1,4 +1,5 @@
--- Numbers that are drawn, each from the one before: a linear congruential generator modulo 2^31, of which the higher bits are used.
+-- Numbers that are drawn, each from the one before: a linear congruential generator modulo 2^31, of
+-- which the higher bits are used.
 use Rattle.std.specs.Prelude.{ℕ, ◌+◌, ◌*◌, ◌/◌, ◌%◌, ◌^◌}
 
 -- the state after a draw

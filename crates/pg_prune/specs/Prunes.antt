@@ -28,7 +28,8 @@ pub record RoundsResult : Type 0 where
   pub patterns : Patterns
   pub count : ℕ
 
--- the rounds from Q, of at most so many entries, on; the last takes out nothing and counts too
+-- the rounds that begin with Q, which has at most so many entries, behind `count` others. The last
+-- round takes out nothing, and is counted too
 abbrev pub rounds_from : List WordPosition → Patterns → ℕ → ℕ → Patterns → RoundsResult
 rounds_from positions P count zero Q = record { patterns = Q; count = count + 1 }
 rounds_from positions P count (suc most) Q = let next = round positions P Q in

@@ -18,7 +18,8 @@ use Rattle.pg_steps.specs.declared.inputs.Input.TheVariants as input
 abbrev pub HeldFiles : Type 0
 HeldFiles = List ℕ → Option (List ℕ)
 
--- what the file of a name means; where none is accepted the call ends there, and this stands in
+-- what the file of a name means. Where it is not held or not accepted the call ends there, and
+-- `other` stands in
 abbrev pub meaning : {Y : Type 0} → (List ℕ → Result Y Refusal) → Y → HeldFiles → List ℕ → Y
 meaning parse other files name =
     option_map_or (λ bytes. result_unwrap_or (parse bytes) other) (files name) other

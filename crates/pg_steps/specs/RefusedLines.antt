@@ -25,7 +25,7 @@ place_of input.Parameters r = codes " item " ++ decimal r.line
 place_of (input.Set k) r = codes " item " ++ decimal r.line
 place_of other r = codes " line " ++ decimal r.line ++ codes " column " ++ decimal r.column
 
--- where a file is refused; a refusal with line 0 has no place
+-- the line where a file is refused; a refusal with line 0 has no place
 abbrev pub refused_line : Input → Refusal → List ℕ
 refused_line input r = codes "refused: " ++ label_of input ++ codes " "
     ++ decimal (number_and_name r.kind).0 ++ codes " " ++ (number_and_name r.kind).1

@@ -12,9 +12,7 @@ pub enum Given {
     Patterns,
     /// The hyphenated list.
     Pattmp,
-    /// The cells file.
     Cells,
-    /// The report.
     Report,
 }
 
@@ -23,11 +21,9 @@ pub enum Given {
 pub enum Input {
     /// The translate file.
     Translate,
-    /// The parameters.
     Parameters,
     /// The starting patterns.
     Patterns,
-    /// The dictionary.
     Dictionary,
     /// One of several parameter files, by its number from 1.
     Set(u8),

@@ -47,7 +47,7 @@ pub fn refused_line(alloc: Global, input: Input, refusal: &Refusal) -> Result<Ve
     Ok(line)
 }
 
-/// Puts that line into an empty text.
+/// Appends the line of a refusal to an empty text.
 fn begin_refused(line: &mut Vec<u8>, input: Input, refusal: &Refusal) -> Result<(), AllocError>
     requires { line.old.items ≡ [] }
     ensures { OnOk result (line.new.items ≡ refused_line_of input refusal.now) }

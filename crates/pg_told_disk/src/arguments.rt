@@ -8,14 +8,14 @@ use std::fs::{Metadata, OpenOptions};
 use std::time::Duration;
 use std::{io, rt};
 
-/// A system, but for its arguments and its files. The arguments are the program's name, and then
-/// these words. The opened files read and write as the list of calls says, and the broken step
-/// fails.
+/// A system, but for its arguments and its files. The first argument is the program's name, and
+/// `words` are those behind it. The opened files read and write as the list of calls says, and the
+/// broken step fails.
 #[derive(Drop)]
 pub struct ScriptedSystem<'a, R> {
     /// The system that does all the rest.
     pub system: &'a R,
-    /// The words after the program's name.
+    /// The arguments behind the program's name.
     pub words: &'a [&'a [u8]],
     /// How the reads and writes of each opened file go.
     pub calls: &'a [Call],
@@ -24,7 +24,7 @@ pub struct ScriptedSystem<'a, R> {
 }
 
 impl<'a, R> ScriptedSystem<'a, R> {
-    /// A system without words. Its files read and write as `calls` says, and the step `broken`
+    /// A system without arguments. Its files read and write as `calls` says, and the step `broken`
     /// fails.
     pub fn with_calls(system: &'a R, calls: &'a [Call], broken: Broken) -> ScriptedSystem<'a, R> {
         ScriptedSystem {

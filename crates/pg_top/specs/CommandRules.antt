@@ -13,7 +13,7 @@ use Rattle.pg_top.specs.totals.TotalsRule.{totals_rule}
 use Rattle.pg_words.specs.Requests.{Request, ToGenerate, ToAudit, ToSample, ToPack, ToTotals, ToPrune, ToSweep}
 use Rattle.pg_steps.specs.declared.answers.Status.TheVariants.{Usage}
 
--- where arguments are no command
+-- the rule where arguments are no command
 abbrev pub usage_rule : CommandRule
 usage_rule = record usual_rule { answers = Usage ∷ []; own_outcome = λ _. Ends Usage [] usage_line }
 

@@ -33,7 +33,7 @@ pub fn done_line(alloc: Global, patterns: &[u8], totals: &Totals) -> Result<Vec<
     Ok(line)
 }
 
-/// Puts that line into an empty text.
+/// Appends the `done:` line of `generate` to an empty text.
 fn begin_done(line: &mut Vec<u8>, patterns: &[u8], totals: &Totals) -> Result<(), AllocError>
     requires { line.old.items ≡ [] }
     ensures { OnOk result (line.new.items ≡ done_line_of patterns.now totals.now) }

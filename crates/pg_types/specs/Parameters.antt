@@ -21,7 +21,7 @@ pub record Parameters : Type 0 where
 abbrev pub is_separator : ℕ → Bool
 is_separator b = b == 32 || b == 9 || b == 13 || b == 10
 
--- a piece that has a byte
+-- whether a piece has a byte
 abbrev pub has_byte : List ℕ → Bool
 has_byte [] = false
 has_byte (b ∷ bs) = true

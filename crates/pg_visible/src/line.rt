@@ -15,7 +15,7 @@ const FRONT_MAX: usize = 200;
 pub enum Part<'a> {
     /// Words of the program.
     Say(&'a str),
-    /// A name or a word of a call, made visible, and cut where it is long.
+    /// A name or an argument of a call, made visible, and cut where it is long.
     Name(&'a str),
     /// Bytes of a file, made visible, and cut where they are many.
     Show(&'a [u8]),

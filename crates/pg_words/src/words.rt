@@ -38,11 +38,16 @@ fn command_of<'a>(word: &str, behind: &'a [String]) -> Option<Command<'a>>
 }
 
 /// What the arguments, without the program's name, ask for; none exactly where they are no command.
-/// Commands are `generate DICT PATTERNS OUT TRANSLATE PARAMS REPORT`, then `--pattmp FILE` and
-/// `--cells FILE`, each at most once and in either order, `audit` with the same six names and at
-/// most one `--pattmp FILE`, `sample N COUNT`, `pack PATTERNS TRANSLATE TABLE`, `totals DICT
-/// TRANSLATE TABLE`, `prune DICT PATTERNS OUT TRANSLATE REPORT`, and `sweep DICT PATTERNS OUT
-/// TRANSLATE K BAD MISSED` with the names of 1 to 16 parameter files. It takes no memory.
+/// It takes no memory. The commands are:
+///
+/// - `generate DICT PATTERNS OUT TRANSLATE PARAMS REPORT`, then `--pattmp FILE` and `--cells FILE`,
+///   each at most once and in either order.
+/// - `audit` with the same six names, and at most one `--pattmp FILE`.
+/// - `sample N COUNT`.
+/// - `pack PATTERNS TRANSLATE TABLE`.
+/// - `totals DICT TRANSLATE TABLE`.
+/// - `prune DICT PATTERNS OUT TRANSLATE REPORT`.
+/// - `sweep DICT PATTERNS OUT TRANSLATE K BAD MISSED`, with the names of 1 to 16 parameter files.
 pub fn command(words: &[String]) -> Option<Command<'_>>
     ensures value { option_map asked_by result ≡ request_of (words_of words.now) }
     ensures within { IfSome result KeepsLimits }

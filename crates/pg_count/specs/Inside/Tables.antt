@@ -7,7 +7,7 @@ use Rattle.pg_types.specs.Inside.counting.NumberedWindows.{Windows, HasNumber}
 use Rattle.pg_count.specs.Inside.Counting.{Counting, window_at}
 use Rattle.pg_count.specs.declared.table.short.TheConstants.{ENTRIES_MAX}
 
--- the signs of a string as a number to the base, behind the number that is told already
+-- the number that the signs of a string write in the base, behind the number i of those before them
 abbrev pub index_from : ℕ → ℕ → List ℕ → ℕ
 index_from base i [] = i
 index_from base i (s ∷ u) = index_from base (i * base + s) u

@@ -201,8 +201,8 @@ impl CountedCells {
 }
 
 // The entry of the first tally of the next pass, past each entry of the cells. Where the cells are
-// to stay and enough entries are left, it is `next`, and each string keeps its cell. Else the entries
-// begin again from 1, and each sign alone has a cell.
+// to stay and enough entries are left, it is `next`, and each string keeps its cell. Else the
+// entries begin again from 1, and each sign alone has a cell.
 fn first_after(cells: &mut NearCells<u32>, next: u32, keeps: bool) -> u32
     requires held { AreValuedFamilies cells.old }
     requires positive { 1 ≤ next }

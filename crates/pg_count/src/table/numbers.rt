@@ -21,8 +21,8 @@ pub fn push_numbers(numbers: &[u32], first: u32, out: &mut Vec<u32>) -> Result<(
 }
 
 // Writes the numbers of the pass in a block of entries to the front of `found`, in the order of the
-// entries, and gives how many they are. It writes one for each entry, and over that of an entry of
-// an earlier pass it writes the next. So no branch depends on the entries.
+// entries, and gives how many they are. It writes a number for each entry. Where the entry is of an
+// earlier pass, the next number is written over it. So no branch depends on the entries.
 fn put_numbers(block: &[u32], first: u32, found: &mut [u32]) -> usize
     requires room { length block.now ≤ length found.old }
     ensures few { result ≤ length block.now }

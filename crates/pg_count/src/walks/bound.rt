@@ -1,4 +1,4 @@
-//! A bound of strings, sign by sign.
+//! A string above which others are sought, read sign by sign.
 ghost use Rattle.std.specs.Prelude.{◌≡◌};
 ghost use Rattle.pg_count.specs.Inside.walks.Bounds.{first_sign, rest_after};
 

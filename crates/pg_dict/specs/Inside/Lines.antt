@@ -1,4 +1,4 @@
--- What the reading of lines goes through.
+-- The steps by which lines are read.
 pub mod Entries
 pub mod LineStarts
 pub mod PositionedSigns

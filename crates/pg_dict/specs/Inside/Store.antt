@@ -55,7 +55,7 @@ pub record IsSound (s : Store) : Type 0 where
   pub weights_joined : s.weights.items ≡ all_weights (stored_words s)
   pub words : All IsWord (stored_words s)
 
--- a letter takes a byte of the file, a word has two edges, and the row has what stands at signs
+-- the store is sound, each letter took a byte of a file, and the row has what stands at each sign
 pub record IsDictionary (s : Store) (row : List Site) : Type 0 where
   pub sound : IsSound s
   pub few : length s.signs.items ≤ FILE_MAX + 2 * length s.words.items

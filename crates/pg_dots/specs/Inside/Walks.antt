@@ -3,7 +3,7 @@ use Rattle.std.specs.Prelude.{◌≡◌, ℕ, ◌+◌, ◌-◌, ◌*◌, ◌<◌
 use Rattle.std.specs.Int.{bit_at}
 use Rattle.pg_dots.specs.declared.walk.Walk.{Walk}
 
--- a walk has ahead the bits from a place on at which a test fails: in its number and behind it
+-- a walk has ahead the bits from an index on at which a test fails: in its number and behind it
 pub record IsAhead (test : ℕ → Bool) (w : Walk) (from : ℕ) : Type 0 where
   pub upto : from ≤ 64 * w.at + 64
   pub passed : (i : ℕ) → from ≤ i → i < 64 * w.at → test i ≡ true

@@ -21,7 +21,7 @@ use Rattle.pg_words.specs.forms.Pack.{PackRequest}
 use Rattle.pg_steps.specs.declared.answers.Status.TheVariants.{Done, Refused}
 use Rattle.pg_steps.specs.declared.inputs.Input.TheVariants as input
 
--- where `pack` is done: how many lines the pattern file has, and how many bytes the table
+-- the line where `pack` is done: how many lines the pattern file has, and how many bytes the table
 abbrev pub packed_line : List ℕ → List ℕ → List ℕ
 packed_line patterns table = codes "packed: " ++ decimal (length (lines patterns))
     ++ codes " patterns, " ++ decimal (length table) ++ codes " bytes\n"

@@ -16,7 +16,8 @@ use Rattle.pg_steps.specs.Rules.{CommandRule, usual_rule}
 use Rattle.pg_words.specs.forms.Prune.{PruneRequest}
 use Rattle.pg_steps.specs.declared.answers.Status.TheVariants.{Done}
 
--- where `prune` is done: how many rounds were made, and how many entries were taken out and stay
+-- the line where `prune` is done: how many rounds were made, and how many entries were taken out
+-- and stay
 abbrev pub pruned_line : ℕ → ℕ → ℕ → List ℕ
 pruned_line rounds removed kept = codes "done: " ++ decimal rounds ++ codes " rounds, "
     ++ decimal removed ++ codes " removed, " ++ decimal kept ++ codes " kept\n"

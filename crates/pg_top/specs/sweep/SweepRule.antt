@@ -32,7 +32,7 @@ unfoldable pub swept_rows : HeldFiles → SweepRequest → List SweepRow
 swept_rows files s =
     map (row_of (terms_in files s) s.bad s.missed) (map (parameters_named files) s.params)
 
--- where `sweep` is done: the number of the cheapest set of parameters, and what it costs
+-- the line where `sweep` is done: the number of the cheapest set of parameters, and what it costs
 abbrev pub winner_line : ℕ → ℕ → List ℕ
 winner_line winner cost = codes "winner: set " ++ decimal winner
     ++ codes ", cost " ++ decimal cost ++ codes "\n"

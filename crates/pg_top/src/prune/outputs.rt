@@ -51,7 +51,7 @@ pub fn pruned_line(
     Ok(line)
 }
 
-/// Puts that line into an empty text.
+/// Appends the `done:` line of `prune` to an empty text.
 fn begin_pruned(line: &mut Vec<u8>, rounds: u64, removed: u64, kept: u64) -> Result<(), AllocError>
     requires { line.old.items ≡ [] }
     ensures { OnOk result (line.new.items ≡ pruned_line_of rounds removed kept) }

@@ -23,7 +23,7 @@ pub struct WatchedMaker<'a, W> {
 }
 
 impl<'a, W: Watch> WatchedMaker<'a, W> {
-    /// None was asked for so far. There is a set.
+    /// A maker that was asked for no engine so far. There is at least one set.
     pub fn new(sets: &'a [Params], folds: u8, watch: &'a W) -> WatchedMaker<'a, W>
         requires { 1 ≤ length sets.now }
     {

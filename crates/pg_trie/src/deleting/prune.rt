@@ -12,8 +12,8 @@ use pg_cells::{Cells, step};
 use pg_types::{PATTERN_SIGNS_MAX, Sign};
 
 // Takes away the cell of a string of several signs, where it has no list and no string goes on from
-// it. `before` is the sign before `s` in its family, 0 for none. The answer is the sign that then
-// stands before those behind `s`.
+// it. `before` is the sign before `s` in its family, 0 for none. The answer is the sign before the
+// next one of the family: `s` where it stays, else `before`.
 fn remove_blank(cells: &mut Cells<Head>, parent: usize, cell: usize, before: Sign, s: Sign) -> Sign
     requires held { AreValuedFamilies cells.old }
     requires cell { (q : List ℕ) × ((cell_of cells.old.families q ≡ Some parent)

@@ -18,7 +18,7 @@ use std::alloc::{AllocError, Global};
 /// Stands beside an old head whose new one is not known yet.
 pub const UNKNOWN: u32 = u32::MAX;
 
-// The head of a list's values without its hopeless entry, among the new records.
+// The head, among the new records, of the list without its hopeless entries.
 fn fresh_head(outputs: &Outputs, head: u64, fresh: &mut Outputs) -> Result<u64, AllocError>
     requires { head ≤ length outputs.now }
     ensures list { IfOk result (λ h. list_of fresh.new h ≡ values_in (list_of outputs.now head)) }
@@ -77,8 +77,8 @@ fn renew_cell(
     Ok(())
 }
 
-/// The new heads of the strings' values by their old heads, among new records. The new records are
-/// only those of the ends of these lists.
+/// For the old head of each string the head of its list without the hopeless entries, among new
+/// records. These are only the records that such lists need.
 pub fn fresh_heads(
     alloc: Global,
     cells: &Cells<Head>,

@@ -41,7 +41,8 @@ module _ {V E : Type 0} where
     pub err : OnErr result (new ≡ old)
 
 module _ {V : Type 0} where
-  -- s can join the family below p: the family lacks s, its prefix has a cell, its signs are known
+  -- s can join the family below p: the family lacks s, p has the cell `parent`, and where the
+  -- family has to move, its signs are `members`
   pub record CanAdd (n : ℕ) (r : Row V) (t : Trie V) (p : List ℕ)
       (parent s : ℕ) (members : List ℕ) : Type 0 where
     pub trie : IsTrie n r t

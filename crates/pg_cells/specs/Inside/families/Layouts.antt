@@ -26,7 +26,7 @@ module _ {V : Type 0} where
     pub base : 0 < f.base
     pub positive : 0 < x
 
-  -- the families F lie in the row: their signs at their bases, no two of one base, and nothing else
+  -- the families F lie in the row: their signs at their bases, no two at one base, and nothing else
   pub record IsLayout (n : ℕ) (r : Row V) (F : List ℕ → Option Family) : Type 0 where
     pub root : F [] ≡ Some (record { base = 0; signs = range_with_len 1 n })
     pub members : (p : List ℕ) (f : Family) → F p ≡ Some f → f.signs ≡ signs_at_base n r f.base

@@ -1,4 +1,5 @@
--- The sign after and before another one of a family: told by a test, and by the strings of a map.
+-- The sign of a family that comes after another one, and the one before it: by a test of signs, and
+-- by a map of strings.
 use Rattle.std.specs.Prelude.{◌≡◌, ◌≢◌, ℕ, ◌<◌, ◌≤◌, ◌⊎◌, Bool, true, false, List, [], ◌∷◌, ◌++◌, length, get_or}
 use Rattle.std.specs.Option.{is_some}
 use Rattle.std.specs.Ordering.{nat_cmp}

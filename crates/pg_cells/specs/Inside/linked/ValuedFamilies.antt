@@ -26,7 +26,7 @@ families_code = coded_list (coded× (coded_list coded_ℕ) family_code)
 abbrev pub values_code : {V : Type 0} → Coded V → Coded (List (List ℕ × V))
 values_code code = coded_list (coded× (coded_list coded_ℕ) code)
 
--- how proofs store them: the number of signs, the families, and the values
+-- how proofs store families with values: the number of signs, the families, and the values
 abbrev pub valued_families_code : {V : Type 0} → Coded V → Coded (ValuedFamilies V)
 valued_families_code {V} code =
     code_by (ℕ × (Families × List (List ℕ × V)))

@@ -126,19 +126,19 @@ module _ {V : Type 0} where
   abbrev pub with_after : Lists V → ℕ → ℕ → Lists V
   with_after ls cell after = record ls { afters = set ls.afters cell after }
 
-  -- with the base of the child family of a taken cell
+  -- the row when a taken cell has this base of a child family
   abbrev pub with_child : Row V → ℕ → ℕ → Row V
   with_child r cell child = record r { children = set r.children cell child }
 
-  -- with the value of a cell
+  -- the row when a cell has this value
   abbrev pub with_value : Row V → ℕ → V → Row V
   with_value r cell value = record r { values = set r.values cell value }
 
-  -- with the flag of an index, which says whether it is the base of a family
+  -- the row when this flag says whether an index is the base of a family
   abbrev pub with_base : Row V → ℕ → Bool → Row V
   with_base r cell flag = record r { bases = set r.bases cell flag }
 
-  -- with a cell taken: it has the sign, the value and the base of the child family
+  -- the row when a cell is taken: it has the sign, the value and the base of the child family
   abbrev pub with_taken : Row V → ℕ → ℕ → V → ℕ → Row V
   with_taken r cell sign value child =
       record r {
@@ -147,7 +147,7 @@ module _ {V : Type 0} where
         children = set r.children cell child;
       }
 
-  -- with a cell given up: it has no sign, no child family and no links
+  -- the row when a cell is given up: it has no sign, no child family and no links
   abbrev pub with_free : Row (Member V) → ℕ → Row (Member V)
   with_free r cell = record r {
     signs = set r.signs cell 0;
@@ -155,7 +155,7 @@ module _ {V : Type 0} where
     values = unlink_at r.values cell;
   }
 
-  -- with a free cell at the end
+  -- the row with one free cell more, at its end
   abbrev pub with_more : Row V → V → Row V
   with_more r value = record {
     signs = r.signs ++ 0 ∷ [];

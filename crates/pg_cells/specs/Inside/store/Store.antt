@@ -50,7 +50,8 @@ module _ {V : Type 0} where
     pub greatest : IsTop (row_of cells).signs top
     pub count : taken ≡ taken_in (row_of cells)
 
-  -- what a store keeps: its counts, its bounds, and the bases that can't take the last family
+  -- what a store keeps: its counts, its bounds, and which bases cannot take the family that was
+  -- placed last
   pub record IsStore (cells : List (Cell V)) (top taken : ℕ)
       (lows : List ℕ) (freed dropped placed sought : ℕ) : Type 0 where
     pub kept : IsKept cells top taken

@@ -1,4 +1,4 @@
--- A bound of strings, sign by sign.
+-- A string above which others are sought, read sign by sign.
 use Rattle.std.specs.Prelude.{ℕ, max, nat_eq, if◌then◌else◌, List, [], ◌∷◌}
 use Rattle.pg_types.specs.declared.limits.TheConstants.{EDGE}
 

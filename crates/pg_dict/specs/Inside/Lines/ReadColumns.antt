@@ -15,7 +15,7 @@ use Rattle.pg_dict.specs.declared.entries.line.Line.{Line}
 use Rattle.pg_dict.specs.Inside.Lines.PositionedSigns.{Columns, with_signs}
 use Rattle.pg_dict.specs.Inside.Lines.Running.{signs_behind}
 
--- the columns after the rest of a word is read, as far as its reading has come
+-- the columns after the rest of a word is read on from where its reading stands
 abbrev pub columns_after : Alphabet → ℕ → ℕ → ℕ → Mark
     → ℕ → ℕ → Columns → List ℕ → Result Columns Refusal
 columns_after t weight line size mark number room done rest =

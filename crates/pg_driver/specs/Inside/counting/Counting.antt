@@ -1,4 +1,4 @@
--- What the walk over the words makes of an engine.
+-- What an engine means while a pass is counted in it, and the room that its counts have.
 use Rattle.std.specs.Prelude.{◌≡◌, ℕ, ◌+◌, ◌*◌, ◌≤◌, Bool, true, T, List, [], ◌∷◌, length, fold, sum_by}
 use Rattle.std.specs.List.{list_all}
 use Rattle.std.specs.Ordering.{nat_cmp, is_lt}

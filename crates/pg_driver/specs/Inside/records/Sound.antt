@@ -37,7 +37,7 @@ with_pass r pass = record r {
   begun = r.begun + 1;
 }
 
--- the records with the end of a level
+-- the records at the end of a level: they have one of it, and nothing is chosen in the next
 abbrev pub with_level : RunRecords → ℕ → Totals → Option Layout → RunRecords
 with_level r level after layout =
     record r {

@@ -29,7 +29,7 @@ start_at word before at = record { word = word; before = before; at = at }
 abbrev pub starts_in : ℕ → ℕ → ℕ → List Start
 starts_in word before len = map (start_at word before) (range_with_len 0 len)
 
--- each sign of words as a start, where the first word has this number and so many positions before
+-- each sign of words as a start; the first word has this number, with so many positions before it
 abbrev pub starts_from : Minima → ℕ → ℕ → List Word → List Start
 starts_from m word before [] = []
 starts_from m word before (w ∷ ws) = starts_in word before (length w.signs)

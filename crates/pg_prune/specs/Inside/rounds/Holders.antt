@@ -14,7 +14,8 @@ count_at Q x v = count_by (λ e. stands e x && nat_eq e.1 v) Q
 abbrev pub holder_counts : Patterns → WordPosition → List ℕ
 holder_counts Q x = map (count_at Q x) (range_with_len 1 LEVEL_MAX)
 
--- the greatest value above v that some entry gives, by how many give v + 1 and so on; else `best`
+-- the greatest value that some entry gives: `best` is that up to v, and the numbers say how many
+-- entries give v + 1, v + 2 and so on
 abbrev pub greatest_value_from : ℕ → ℕ → List ℕ → ℕ
 greatest_value_from best v [] = best
 greatest_value_from best v (n ∷ ns) =

@@ -90,7 +90,7 @@ abbrev pub hopeless_after_pass : Minima → List Word
 hopeless_after_pass m words pass P H hopeless = hopeless_all pass.dot H
     (filter hopeless (tally (counted_positions m words pass P H)))
 
--- a pass leads to no value above its level, nor above what the values were up to
+-- where no value is above n and the level of a pass is not, the pass leads to no value above n
 abbrev pub UpToAfter : Type 0
 UpToAfter = (m : Minima) (words : List Word) (pass : Pass) (P : Patterns) (H : Hopeless)
     (raised : Candidate → Bool) (n : ℕ) → pass.level ≤ n → IsUpTo n P
@@ -138,7 +138,7 @@ good_raised raised counted = sum_by (λ c. c.good) (filter raised (tally counted
 abbrev pub bad_raised : (Candidate → Bool) → List CountedPosition → ℕ
 bad_raised raised counted = sum_by (λ c. c.bad) (filter raised (tally counted))
 
--- at a level that finds, the good that is raised is no more missed, and the bad becomes errors
+-- at a level that finds, the good that is raised is missed no more, and the bad becomes errors
 pub record FindsMore (old new : Totals) (good bad : ℕ) : Type 0 where
   pub found : new.good ≡ old.good + good
   pub errors : new.bad ≡ old.bad + bad

@@ -11,7 +11,7 @@ abbrev pub file_under : {Y : Type 0} → List ℕ → Input
 file_under translate input name parse =
     input_file input name (λ files. parse (table_named translate files))
 
--- what such a file means
+-- what a file means that is read under the table of a translate file
 abbrev pub meaning_under : {Y : Type 0} → List ℕ → (Alphabet → List ℕ → Result Y Refusal)
     → Y → HeldFiles → List ℕ → Y
 meaning_under translate parse other files name =

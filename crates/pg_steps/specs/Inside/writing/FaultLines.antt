@@ -1,10 +1,10 @@
 -- The lines of faults.
 use Rattle.std.specs.Prelude.{ℕ, List, ◌++◌, codes}
 
--- where the file of a name could not be read
+-- the line where the file of a name could not be read
 abbrev pub reading_line : List ℕ → List ℕ
 reading_line name = codes "fault: reading " ++ name ++ codes "\n"
 
--- where the file of a name could not be written
+-- the line where the file of a name could not be written
 abbrev pub writing_line : List ℕ → List ℕ
 writing_line name = codes "fault: writing " ++ name ++ codes "\n"

@@ -25,7 +25,7 @@ abbrev pub HasCell : ValuedFamilies ℕ → (List ℕ → ℕ) → List Cell →
 HasCell h heads row q = (c : ℕ) → cell_of h.families q ≡ Some c
     → get_or row c unused_cell ≡ cell_of_table h.families heads c
 
--- the cells of the first n fronts of q are filled in, and those that were still are
+-- the cells of the first n fronts of q are filled in, and all that were before still are
 pub record Fills (h : ValuedFamilies ℕ) (heads : List ℕ → ℕ)
     (q : List ℕ) (n : ℕ) (old new : List Cell) : Type 0 where
   pub row : IsRow h heads new

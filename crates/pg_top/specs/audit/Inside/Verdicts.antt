@@ -17,7 +17,7 @@ use Rattle.pg_top.specs.Selection.{selected_names}
 use Rattle.pg_top.specs.declared.selection.Inputs.{Inputs}
 use Rattle.pg_top.specs.declared.selected_files.SelectedFile.{SelectedFile}
 
--- where `audit` finds all given files right
+-- the line where `audit` finds all given files right
 abbrev pub yes_line : List ℕ
 yes_line = codes "yes\n"
 

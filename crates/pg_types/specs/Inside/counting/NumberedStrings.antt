@@ -24,7 +24,7 @@ abbrev pub string_with : ℕ → Numbers → List ℕ
 string_with n [] = []
 string_with n (e ∷ es) = if nat_eq e.1 n then e.0 else string_with n es
 
--- the strings whose numbers are below one number
+-- the strings with the numbers below n, in the order of these numbers
 abbrev pub strings_to : ℕ → Numbers → Windows
 strings_to zero numbers = []
 strings_to (suc n) numbers = strings_to n numbers ++ string_with n numbers ∷ []

@@ -1,4 +1,4 @@
--- What taking items from a parameters file leaves of its refusal.
+-- Items that are taken from a parameters file: what is refused of them, and what of those behind.
 use Rattle.std.specs.Prelude.{◌≡◌, ℕ, ◌*◌, List, ◌++◌, map, drop, Option, Some}
 use Rattle.std.specs.List.{flat_map, range_with_len}
 use Rattle.pg_types.specs.declared.parameters.LevelParams.{LevelParams}
@@ -18,7 +18,7 @@ number_between least greatest = (least, greatest)
 abbrev pub items_left : Items → List (List ℕ)
 items_left i = items i.rest.now
 
--- items that met these demands were taken: the refusal is that of the others
+-- items that met these demands were taken: what further demands refuse is found behind them
 abbrev pub Meets : List Demand → Items → Items → Type 0
 Meets ds old new = (more : List Demand) → refusal_from old.item_number (ds ++ more) (items_left old)
     ≡ refusal_from new.item_number more (items_left new)
