@@ -20,6 +20,7 @@ use std::alloc::Global;
 use std::env::Args;
 use std::io::{ErrorKind, IsTerminal, Write};
 use std::process::ExitCode;
+use std::time::Clock;
 use std::{env, io, rt};
 
 /// Why there are no arguments.
@@ -141,6 +142,31 @@ fn reason_text(alloc: Global, reason: Option<io::Error>) -> String {
     }
 }
 
+/// Whether the line that says where a call is is shown on `err`, as the variable `PATGEN_PROGRESS`
+/// has it.
+fn shows_progress<R: rt::Env + AllocGlobal, E: IsTerminal>(rt: &R, err: &E) -> bool {
+    let choice = env::var(rt, "PATGEN_PROGRESS").ok();
+    is_shown(choice.as_deref(), err.is_terminal())
+}
+
+/// Puts what explains a call that ended at a file or at lines that could not be put, with the
+/// reasons that the system gave.
+fn put_fault<R: rt::Files + AllocGlobal, C: Clock, E: Write + Drop>(
+    rt: &R,
+    of_files: Option<io::Error>,
+    of_puts: Option<io::Error>,
+    messages: &Messages<'_, C, E>,
+) {
+    let alloc = rt.alloc();
+    let of_files = reason_text(alloc, of_files);
+    let of_puts = reason_text(alloc, of_puts);
+    let reasons = Reasons {
+        files: &of_files,
+        puts: &of_puts,
+    };
+    messages.put_fault(&reasons, &SystemNames::new(rt));
+}
+
 /// Does what the arguments of the program ask for, over the files of the system and a writer, which
 /// is to be standard output.
 ///
@@ -156,18 +182,11 @@ pub fn run_words<
     ensures { exit_status result ≤ 6 }
 {
     let alloc = rt.alloc();
-    let choice = env::var(rt, "PATGEN_PROGRESS").ok();
-    let is_shown = is_shown(choice.as_deref(), err.is_terminal());
+    let is_shown = shows_progress(rt, &err);
     let mut files = HostFiles::new(alloc, HostSystem::new(rt));
     let mut sink = HostSink::new(out);
     let messages = Messages::new(alloc, rt, err, is_shown);
     let code = exit_of(alloc, env::args(rt), &mut files, &mut sink, &messages);
-    let of_files = reason_text(alloc, files.system().reason());
-    let of_puts = reason_text(alloc, sink.reason());
-    let reasons = Reasons {
-        files: &of_files,
-        puts: &of_puts,
-    };
-    messages.put_fault(&reasons, &SystemNames::new(rt));
+    put_fault(rt, files.system().reason(), sink.reason(), &messages);
     code
 }
