@@ -37,3 +37,9 @@ returns-in_err-left_out-clause-value g c = IfOk-from_err c.from_residual-in_err-
 
 pub returns-in_err-left_out-clause-small : goal.returns-in_err-left_out-clause-small
 returns-in_err-left_out-clause-small g c = IfOk-from_err c.from_residual-in_err-left_out.result _ c.from_residual-in_err-left_out.ensures.0
+
+pub totals_by_rest-requires-clause-signs : goal.totals_by_rest-requires-clause-signs
+totals_by_rest-requires-clause-signs g c = c.requires.signs
+
+pub returns-clause-small : goal.returns-clause-small
+returns-clause-small g c = c.totals_by_rest.ensures.small

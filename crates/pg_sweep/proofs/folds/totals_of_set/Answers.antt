@@ -23,3 +23,9 @@ returns-in_err-more-clause-value g c = IfOk-from_err c.from_residual.result _ c.
 
 pub returns-in_err-more-clause-small : goal.returns-in_err-more-clause-small
 returns-in_err-more-clause-small g c = IfOk-from_err c.from_residual.result _ c.from_residual.ensures.0
+
+pub totals_of_fold-requires-clause-fold : goal.totals_of_fold-requires-clause-fold
+totals_of_fold-requires-clause-fold g c = c.folds-test.true
+
+pub totals_of_fold-requires-clause-signs : goal.totals_of_fold-requires-clause-signs
+totals_of_fold-requires-clause-signs g c = c.requires.signs
