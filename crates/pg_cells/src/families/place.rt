@@ -33,6 +33,7 @@ fn far_from_top(few: usize, signs: u16) -> usize
 fn lowest_base(few: usize, signs: u16, count: usize, top: usize) -> usize
     ensures is { result ≡ search_start few signs count top }
     ensures positive { 0 < result }
+    ensures within { result ≤ max 1 top }
 {
     if count <= few {
         1

@@ -1,4 +1,5 @@
 use Rattle.std.proofs.Common.{◌≡◌, ◌+◌, sym, ◌∙◌, ap, subst, rules}
+use Rattle.std.proofs.lemmas.Result.{IfOk-from_err}
 use Rattle.pg_translate.specs.Alphabets.{letters_of}
 use Rattle.pg_dict.specs.Inside.SoundWords.{SignsAtMost}
 use Rattle.pg_select.specs.Inside.engine.Meanings.{Meaning}
@@ -19,3 +20,15 @@ totals-requires g c =
 
 pub returns-clause-value : goal.returns-clause-value
 returns-clause-value g c = search rules
+
+pub returns-in_err-engine-clause-value : goal.returns-in_err-engine-clause-value
+returns-in_err-engine-clause-value g c = IfOk-from_err c.from_residual.result _ c.from_residual.ensures.0
+
+pub returns-in_err-engine-clause-small : goal.returns-in_err-engine-clause-small
+returns-in_err-engine-clause-small g c = IfOk-from_err c.from_residual.result _ c.from_residual.ensures.0
+
+pub returns-in_err-generate-clause-value : goal.returns-in_err-generate-clause-value
+returns-in_err-generate-clause-value g c = IfOk-from_err c.from_residual-in_err-generate.result _ c.from_residual-in_err-generate.ensures.0
+
+pub returns-in_err-generate-clause-small : goal.returns-in_err-generate-clause-small
+returns-in_err-generate-clause-small g c = IfOk-from_err c.from_residual-in_err-generate.result _ c.from_residual-in_err-generate.ensures.0

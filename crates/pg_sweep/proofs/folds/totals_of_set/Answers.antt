@@ -1,4 +1,5 @@
 use Rattle.std.proofs.Common.{refl, arith}
+use Rattle.std.proofs.lemmas.Result.{IfOk-from_err}
 use Rattle.pg_sweep.specs.Sweeps.{fold_totals}
 use Rattle.pg_sweep.specs.Inside.Inputs.{terms}
 use Rattle.pg_sweep.proofs.Steps.{totals_step}
@@ -16,3 +17,15 @@ folds-preserved g c = record {
     omega (arith, c.folds.invariant.small.2, c.in_ok-more.ensures.small),
   );
 }
+
+pub returns-in_err-more-clause-value : goal.returns-in_err-more-clause-value
+returns-in_err-more-clause-value g c = IfOk-from_err c.from_residual.result _ c.from_residual.ensures.0
+
+pub returns-in_err-more-clause-small : goal.returns-in_err-more-clause-small
+returns-in_err-more-clause-small g c = IfOk-from_err c.from_residual.result _ c.from_residual.ensures.0
+
+pub totals_of_fold-requires-clause-fold : goal.totals_of_fold-requires-clause-fold
+totals_of_fold-requires-clause-fold g c = c.folds-test.true
+
+pub totals_of_fold-requires-clause-signs : goal.totals_of_fold-requires-clause-signs
+totals_of_fold-requires-clause-signs g c = c.requires.signs

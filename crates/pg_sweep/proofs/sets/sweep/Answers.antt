@@ -1,6 +1,7 @@
 use Rattle.std.proofs.Common.{◌≡◌, ◌≤◌, ◌+◌, ◌*◌, ◌++◌, ◌∷◌, [], List, length, map, ◌∙◌, ap, sym, arith}
 use Rattle.std.proofs.lemmas.List.{length-map, take_all}
 use Rattle.std.specs.Prelude.{slice_index_or}
+use Rattle.std.proofs.lemmas.Result.{IfOk-from_err}
 use Rattle.pg_types.specs.Parameters.{Parameters}
 use Rattle.pg_types.specs.declared.marks.Totals.{Totals}
 use Rattle.pg_sweep.specs.declared.rows.SweepRow.{SweepRow}
@@ -50,3 +51,15 @@ returns-clause-rows g c =
 pub returns-clause-winner : goal.returns-clause-winner
 returns-clause-winner g c =
     ap (λ (f : RowsAndWinner). f.winner) c.new.ensures ∙ ap (λ (rows : List SweepRow). winner_of (costs_of rows)) (sym (ap (λ (f : RowsAndWinner). f.rows) c.new.ensures))
+
+pub returns-in_err-totals-clause-rows : goal.returns-in_err-totals-clause-rows
+returns-in_err-totals-clause-rows g c = IfOk-from_err c.from_residual.result _ c.from_residual.ensures.0
+
+pub returns-in_err-totals-clause-winner : goal.returns-in_err-totals-clause-winner
+returns-in_err-totals-clause-winner g c = IfOk-from_err c.from_residual.result _ c.from_residual.ensures.0
+
+pub returns-in_err-push-clause-rows : goal.returns-in_err-push-clause-rows
+returns-in_err-push-clause-rows g c = IfOk-from_err c.from_residual-in_err-push.result _ c.from_residual-in_err-push.ensures.0
+
+pub returns-in_err-push-clause-winner : goal.returns-in_err-push-clause-winner
+returns-in_err-push-clause-winner g c = IfOk-from_err c.from_residual-in_err-push.result _ c.from_residual-in_err-push.ensures.0

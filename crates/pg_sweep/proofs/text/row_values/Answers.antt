@@ -1,6 +1,7 @@
 use Rattle.std.proofs.Common.{◌≡◌, ◌+◌, ◌++◌, ◌∷◌, [], List, take, length, map, sym, ◌∙◌, ap, arith}
 use Rattle.std.specs.Prelude.{slice_index_or}
 use Rattle.std.proofs.lemmas.List.{map-append, take_more, length-take-le}
+use Rattle.std.proofs.lemmas.Result.{IfOk-from_err}
 use Rattle.serde_json.specs.Data.{Data}
 use Rattle.serde_json.specs.View.{view}
 use Rattle.pg_sweep.specs.declared.rows.SweepRow.{SweepRow}
@@ -25,3 +26,9 @@ rows-preserved c =
     ∙ sym (data_more 1 (take c.rows.i rows) row)
     ∙ ap (rows_data 1) (sym (take_more rows c.rows.i (record { totals = record { good = 0; bad = 0; missed = 0 }; cost = 0 }) c.rows-test.true)) in
     e
+
+pub returns-in_err-row_value : goal.returns-in_err-row_value
+returns-in_err-row_value c = IfOk-from_err c.from_residual.result _ c.from_residual.ensures.0
+
+pub returns-in_err-push : goal.returns-in_err-push
+returns-in_err-push c = IfOk-from_err c.from_residual-in_err-push.result _ c.from_residual-in_err-push.ensures.0

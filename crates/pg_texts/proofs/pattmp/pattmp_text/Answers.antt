@@ -1,5 +1,6 @@
 use Rattle.std.proofs.Common.{◌≤◌, ◌+◌, ◌++◌, List, length, arith, ap, sym, ◌∙◌}
 use Rattle.std.proofs.lemmas.List.{append-nil, drop_all}
+use Rattle.std.proofs.lemmas.Result.{IfOk-from_err}
 use Rattle.pg_dict.specs.Word.{Word}
 use Rattle.pg_texts.specs.PattmpTexts.{lines_behind}
 use Rattle.pg_texts.specs.Inside.ReadBack.{words_taking_part}
@@ -43,3 +44,15 @@ returns-clause-text g c =
     let past : length c.args.dictionary.now ≤ c.words.i = omega (arith, c.len-i-end.ensures.len) in
     sym (append-nil c.words.text.items) ∙ ap (λ (ws : List Word). c.words.text.items ++ lines_behind t P c.words.weight (words_taking_part t ws)) (sym (drop_all c.words.i c.args.dictionary.now past))
     ∙ c.words.invariant
+
+pub returns-in_err-push_weight-clause-text : goal.returns-in_err-push_weight-clause-text
+returns-in_err-push_weight-clause-text g c = IfOk-from_err c.from_residual.result _ c.from_residual.ensures.0
+
+pub returns-in_err-push_weight-clause-read_back : goal.returns-in_err-push_weight-clause-read_back
+returns-in_err-push_weight-clause-read_back g c = IfOk-from_err c.from_residual.result _ c.from_residual.ensures.0
+
+pub returns-in_err-push_word-clause-text : goal.returns-in_err-push_word-clause-text
+returns-in_err-push_word-clause-text g c = IfOk-from_err c.from_residual-in_err-push_word.result _ c.from_residual-in_err-push_word.ensures.0
+
+pub returns-in_err-push_word-clause-read_back : goal.returns-in_err-push_word-clause-read_back
+returns-in_err-push_word-clause-read_back g c = IfOk-from_err c.from_residual-in_err-push_word.result _ c.from_residual-in_err-push_word.ensures.0

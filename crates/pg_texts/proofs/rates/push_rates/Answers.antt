@@ -1,7 +1,7 @@
 use Rattle.std.proofs.Common.{◌≡◌, ◌≢◌, ◌+◌, ◌++◌, ℕ, [], List, cond, codes, ap, sym, ◌∙◌}
 use Rattle.std.proofs.lemmas.Bool.{eq-eqb, ne_eqb}
 use Rattle.std.proofs.lemmas.List.{append-nil}
-use Rattle.std.proofs.lemmas.Result.{on_ok_weaker}
+use Rattle.std.proofs.lemmas.Result.{IfOk-from_err, on_ok_weaker}
 use Rattle.pg_types.specs.declared.marks.Totals.{Totals}
 use Rattle.pg_texts.specs.ReportTexts.{rate, rate_text, hundredths}
 use Rattle.pg_texts.proofs.Joins.{three_texts, appended}
@@ -35,3 +35,12 @@ returns c =
     (c.in_ok-push_hundredths-2.ensures ∙ ap (λ n. one ++ codes " % good, " ++ hundredths n) c.rate-2.ensures)
     (c.in_ok-push_hundredths-3.ensures ∙ ap (λ n. two ++ codes " % bad, " ++ hundredths n) c.rate-3.ensures) is))
     (appended c.extend_from_slice.result all (three ++ codes " % missed\n") three c.extend_from_slice.ensures.items)
+
+pub returns-in_err-push_hundredths : goal.returns-in_err-push_hundredths
+returns-in_err-push_hundredths c = IfOk-from_err c.from_residual.result _ c.from_residual.ensures.0
+
+pub returns-in_err-push_hundredths-2 : goal.returns-in_err-push_hundredths-2
+returns-in_err-push_hundredths-2 c = IfOk-from_err c.from_residual-in_err-push_hundredths-2.result _ c.from_residual-in_err-push_hundredths-2.ensures.0
+
+pub returns-in_err-push_hundredths-3 : goal.returns-in_err-push_hundredths-3
+returns-in_err-push_hundredths-3 c = IfOk-from_err c.from_residual-in_err-push_hundredths-3.result _ c.from_residual-in_err-push_hundredths-3.ensures.0

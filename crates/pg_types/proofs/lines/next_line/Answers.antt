@@ -32,3 +32,15 @@ returns-in-None-clause-rest c =
       drop_all (length c.args.rest.now) c.args.rest.now (omega arith),
       drop_all (length c.args.rest.now + 1) c.args.rest.now (omega arith),
     ) refl
+
+pub returns-then-is_empty-clause-line : goal.returns-then-is_empty-clause-line
+returns-then-is_empty-clause-line c = tt
+
+pub returns-then-is_empty-clause-rest : goal.returns-then-is_empty-clause-rest
+returns-then-is_empty-clause-rest c = tt
+
+pub returns-then-is_empty-clause-shorter : goal.returns-then-is_empty-clause-shorter
+returns-then-is_empty-clause-shorter c = tt
+
+pub returns-then-is_empty-clause-within : goal.returns-then-is_empty-clause-within
+returns-then-is_empty-clause-within c = tt

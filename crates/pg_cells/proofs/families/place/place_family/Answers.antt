@@ -176,3 +176,6 @@ take-requires-clause-sign_fits g c = let le = c.requires.can.sign.1 in let few =
 
 pub take-requires-clause-fits : goal.take-requires-clause-fits
 take-requires-clause-fits g c = c.requires.fits
+
+pub least_base-base-requires-clause-low : goal.least_base-base-requires-clause-low
+least_base-base-requires-clause-low g c = (c.lowest_base-low.ensures.positive, (let low = c.lowest_base-low.ensures.within in let is = c.max.ensures in omega arith))

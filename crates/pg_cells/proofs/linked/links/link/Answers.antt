@@ -1,4 +1,4 @@
-use Rattle.std.proofs.Common.{◌≡◌, [], ◌∷◌, ◌++◌, Some, None, inl, inr, sym, subst, ◌∙◌}
+use Rattle.std.proofs.Common.{◌≡◌, [], ◌∷◌, ◌++◌, Some, None, inl, inr, sym, subst, ◌∙◌, arith}
 use Rattle.std.proofs.lemmas.Bool.{both_ways}
 use Rattle.pg_types.specs.Placement.{cell_of}
 use Rattle.pg_cells.specs.Inside.linked.Members.{goes_on}
@@ -36,3 +36,21 @@ returns-in_default-clause-linked g c q e =
           let no : None ≡ Some cell.0 = sym none ∙ cell.1 in
           cc
     ]
+
+pub set_first-requires : goal.set_first-requires
+set_first-requires g c = (omega arith, ((c.requires.parent.0, c.requires.parent.1.0), c.requires.fits))
+
+pub child-base-requires : goal.child-base-requires
+child-base-requires g c = (omega arith, (c.requires.parent.0, c.requires.parent.1.0))
+
+pub returns-then-s-eq0-clause-kept : goal.returns-then-s-eq0-clause-kept
+returns-then-s-eq0-clause-kept g c = c.set_first.ensures.kept
+
+pub returns-then-base-eq0-clause-kept : goal.returns-then-base-eq0-clause-kept
+returns-then-base-eq0-clause-kept g c = c.requires.held
+
+pub returns-in-Some-clause-kept : goal.returns-in-Some-clause-kept
+returns-in-Some-clause-kept g c = c.set_next.ensures.kept
+
+pub returns-in_default-clause-kept : goal.returns-in_default-clause-kept
+returns-in_default-clause-kept g c = c.requires.held

@@ -54,3 +54,9 @@ returns g c =
       least = omega arith;
       row = is_row c.free_all.new.cells (omega arith);
     })
+
+pub overflow_add-self-inside : goal.overflow_add-self-inside
+overflow_add-self-inside g c =
+    let within = c.self.invariant.kept.greatest.within in
+    let small = c.self.invariant.kept.small in
+    record { fits = omega (arith, length-map c.self.inside.cells.items sign_seen) }

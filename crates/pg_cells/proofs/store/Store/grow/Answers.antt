@@ -7,6 +7,7 @@ use Rattle.pg_cells.proofs.RowWrites.{is_row}
 use Rattle.pg_cells.proofs.BlockedLaws.{blocked_grow}
 use Rattle.pg_cells.proofs.BoundLaws.{bounds_grow}
 use Rattle.pg_cells.proofs.StoreSteps.{kept_extended}
+use Rattle.pg_cells.proofs.GivenMembers.{extends_itself}
 use Rattle.pg_cells.proofs.store.Store.grow.Goals as goal
 
 pub invariant_of-self : goal.invariant_of-self
@@ -31,3 +32,6 @@ returns g c = record {
   length = on_ok_weaker c.grow_cells.result (λ long. subst (λ n. c.args.count ≤ n) (sym (signs_long c.grow_cells.new.cells.items)) long) c.grow_cells.ensures.length;
   row = let small = c.grow_cells.ensures.small in is_row c.grow_cells.new.cells.items (omega arith);
 }
+
+pub returns-then-count-len-clause-extends : goal.returns-then-count-len-clause-extends
+returns-then-count-len-clause-extends g c = extends_itself c.args.self.now

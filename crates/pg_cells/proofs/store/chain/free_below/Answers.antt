@@ -74,3 +74,54 @@ returns-then-cell-after-clause-last g c k lt free =
     let is = inv.after in
     let far : 0 < after_at (lists c.args.cells.now) c.free.free → c.args.cell ≤ after_at (lists c.args.cells.now) c.free.free = λ some. let le = c.if-cell-after.true in omega arith in
     last_free (lists c.args.cells.now) c.requires.linked c.args.cell c.free.free k inv.free far lt free
+
+pub is_taken-requires : goal.is_taken-requires
+is_taken-requires g c = c.free.invariant.within
+
+pub is_taken-requires-in-free : goal.is_taken-requires-in-free
+is_taken-requires-in-free g c = let below = c.free.invariant.below in let cell = c.requires.cell in omega (arith, cell.1)
+
+pub after_of-after-requires : goal.after_of-after-requires
+after_of-after-requires g c = let cell = c.requires.cell in omega (arith, cell.1)
+
+pub after_of-after-requires-in-free : goal.after_of-after-requires-in-free
+after_of-after-requires-in-free g c = let below = c.if-cell-after.false in let cell = c.requires.cell in omega (arith, cell.1)
+
+pub before_of-requires-clause-cell : goal.before_of-requires-clause-cell
+before_of-requires-clause-cell g c = c.free.invariant.within
+
+pub before_of-requires-clause-free : goal.before_of-requires-clause-free
+before_of-requires-clause-free g c = free_here c.args.cells.now c.free.high c.free.invariant.within (c.is_taken.ensures.free c.free-test.false)
+
+pub overflow_sub-end : goal.overflow_sub-end
+overflow_sub-end g c = let cell = c.requires.cell in omega (arith, cell.1)
+
+pub overflow_sub-low : goal.overflow_sub-low
+overflow_sub-low g c = c.requires.cell.0
+
+pub overflow_sub-low-in-free : goal.overflow_sub-low-in-free
+overflow_sub-low-in-free g c = above_head c.args.cells.now c.free.low c.requires.linked (c.is_taken-in-free.ensures.taken c.if-not-is_taken.false)
+
+pub returns-then-not-is_taken-clause-below : goal.returns-then-not-is_taken-clause-below
+returns-then-not-is_taken-clause-below g c = c.free.invariant.below
+
+pub returns-then-not-is_taken-clause-free : goal.returns-then-not-is_taken-clause-free
+returns-then-not-is_taken-clause-free g c =
+    let below = c.free.invariant.below in
+    let cell = c.requires.cell in
+    free_here c.args.cells.now c.free.low (omega (arith, cell.1)) (c.is_taken-in-free.ensures.free c.if-not-is_taken.true)
+
+pub returns-then-not-is_taken-clause-last : goal.returns-then-not-is_taken-clause-last
+returns-then-not-is_taken-clause-last g c = c.free.invariant.last
+
+pub returns-then-after-eq0-clause-below : goal.returns-then-after-eq0-clause-below
+returns-then-after-eq0-clause-below g c = c.free.invariant.before
+
+pub returns-then-after-eq0-clause-free : goal.returns-then-after-eq0-clause-free
+returns-then-after-eq0-clause-free g c = c.free.invariant.free
+
+pub returns-then-cell-after-clause-below : goal.returns-then-cell-after-clause-below
+returns-then-cell-after-clause-below g c = c.free.invariant.before
+
+pub returns-then-cell-after-clause-free : goal.returns-then-cell-after-clause-free
+returns-then-cell-after-clause-free g c = c.free.invariant.free

@@ -136,3 +136,12 @@ returns-in_ok-number-in-None-clause-there c = λ _. refl
 
 pub returns-in_ok-number-in-None-clause-err : goal.returns-in_ok-number-in-None-clause-err
 returns-in_ok-number-in-None-clause-err c = tt
+
+pub returns-in-Some-clause-number : goal.returns-in-Some-clause-number
+returns-in-Some-clause-number c = c.in-Some.ensures.some.1
+
+pub returns-in-Some-clause-there : goal.returns-in-Some-clause-there
+returns-in-Some-clause-there c = λ _. refl
+
+pub returns-in-Some-clause-err : goal.returns-in-Some-clause-err
+returns-in-Some-clause-err c = tt

@@ -1,7 +1,6 @@
-use Rattle.std.proofs.Common.{drop}
-use Rattle.pg_types.specs.Inside.counting.Counts.{SignsWithin}
+use Rattle.std.proofs.Common.{ℕ, ◌<◌, ◌≤◌, get_or}
 use Rattle.pg_count.proofs.table.index.are_signs.Given as goal
 
--- if those that are left are signs of the table, all are
+-- those that were looked at are signs of the table
 abbrev pub invariant-loop-sign : goal.invariant-loop-sign
-invariant-loop-sign l = SignsWithin l.signs (drop l.sign-index l.window) → SignsWithin l.signs l.window
+invariant-loop-sign l = (k : ℕ) → k < l.sign-index → (1 ≤ get_or l.window k 0) × (get_or l.window k 0 ≤ l.signs)

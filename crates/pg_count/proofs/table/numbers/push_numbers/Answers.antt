@@ -1,5 +1,6 @@
 use Rattle.std.proofs.Common.{◌≡◌, ◌++◌, ap, sym, ◌∙◌, append_assoc, rules}
 use Rattle.std.specs.Slice.Iter.{chunks_rest}
+use Rattle.std.proofs.lemmas.Result.{err_from_is_err_and}
 use Rattle.std.proofs.lemmas.List.Elements.{filter_map-append}
 use Rattle.pg_count.specs.Inside.Tables.{numbers_in_row}
 use Rattle.pg_count.proofs.table.numbers.push_numbers.Goals as goal
@@ -19,3 +20,6 @@ loop-block-preserved c =
       ap (λ ns. ns ++ numbers_in_row first rest) (c.in_ok-extend_from_slice.ensures.items ∙ ap (λ ns. out ++ ns) c.put_numbers-count.ensures.found)
           ∙ append_assoc out (numbers_in_row first block) (numbers_in_row first rest) ∙ ap (λ ns. out ++ ns) left ∙ c.loop-block.invariant.3,
     )
+
+pub returns-in_err-extend_from_slice : goal.returns-in_err-extend_from_slice
+returns-in_err-extend_from_slice c = let err = err_from_is_err_and c.from_residual.result c.from_residual.ensures.1 in rw err.1 tt

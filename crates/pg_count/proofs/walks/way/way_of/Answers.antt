@@ -1,4 +1,6 @@
-use Rattle.std.proofs.Common.{take, get_or, sym, arith}
+use Rattle.std.proofs.Common.{◌≡◌, [], ◌∷◌, ◌++◌, take, get_or, Some, ap, sym, ◌∙◌, arith}
+use Rattle.std.proofs.lemmas.List.{take_more}
+use Rattle.pg_types.specs.Placement.{cell_of}
 use Rattle.pg_count.proofs.CellLaws.Mapped.{ends_after}
 use Rattle.pg_count.proofs.walks.way.way_of.Goals as goal
 
@@ -18,3 +20,14 @@ pub returns : goal.returns
 returns c =
     let way = c.signs.invariant in
     record { some = way.some; within = way.within; there = way.there; ends = λ less. absurd (omega arith) }
+
+pub signs-preserved : goal.signs-preserved
+signs-preserved c =
+    let way = c.signs.invariant in
+    let w = c.args.signs.now in
+    let k = c.signs.at in
+    let lt = c.signs-test.true in
+    let there : cell_of c.args.cells.now.families (take k w ++ get_or w k 0 ∷ []) ≡ Some c.in-Some.next =
+    sym (rw c.families-families.ensures.families at (c.in-Some.ensures.cell (take k w) (rw c.families-families.ensures.families way.there))) in
+    let some = way.some in
+    record { some = omega arith; within = omega arith; there = ap (cell_of c.args.cells.now.families) (take_more w k 0 lt) ∙ there }

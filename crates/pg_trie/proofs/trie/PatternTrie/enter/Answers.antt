@@ -4,6 +4,7 @@ use Rattle.std.proofs.lemmas.Result.{err_from_is_err_and}
 use Rattle.pg_types.specs.Placement.{enter}
 use Rattle.pg_cells.specs.Inside.linked.ValuedFamilies.{ValuedFamilies}
 use Rattle.pg_cells.specs.Inside.linked.Walks.{AddsBlanks}
+use Rattle.pg_outputs.specs.Inside.Heads.{Grows}
 use Rattle.pg_trie.specs.declared.hopeless.TheConstants.{HOPELESS}
 use Rattle.pg_trie.specs.Inside.Lists.{list_with}
 use Rattle.pg_trie.specs.Inside.Maps.{Maps}
@@ -109,3 +110,29 @@ pub returns-in_err-head-clause-part : goal.returns-in_err-head-clause-part
 returns-in_err-head-clause-part c =
     let err = err_from_is_err_and c.from_residual-in_err-head.result c.from_residual-in_err-head.ensures.1 in
     rw (err.1) (whole_seen c.self.inside.cells c.enter.new.cells c.self.inside.lists c.args.self.now c.args.signs.now c.self.view_is c.in_ok-cell.ensures.families)
+
+-- a clause on one kind of answer asks nothing where the answer is of the other kind
+pub returns-in_err-cell-clause-raised : goal.returns-in_err-cell-clause-raised
+returns-in_err-cell-clause-raised c = let err = err_from_is_err_and c.from_residual.result c.from_residual.ensures.1 in rw err.1 tt
+
+pub returns-in_err-cell-clause-hopeless : goal.returns-in_err-cell-clause-hopeless
+returns-in_err-cell-clause-hopeless c = let err = err_from_is_err_and c.from_residual.result c.from_residual.ensures.1 in rw err.1 tt
+
+pub returns-in_err-head-clause-raised : goal.returns-in_err-head-clause-raised
+returns-in_err-head-clause-raised c = let err = err_from_is_err_and c.from_residual-in_err-head.result c.from_residual-in_err-head.ensures.1 in rw err.1 tt
+
+pub returns-in_err-head-clause-hopeless : goal.returns-in_err-head-clause-hopeless
+returns-in_err-head-clause-hopeless c = let err = err_from_is_err_and c.from_residual-in_err-head.result c.from_residual-in_err-head.ensures.1 in rw err.1 tt
+
+pub returns-clause-err : goal.returns-clause-err
+returns-clause-err c = tt
+
+pub returns-clause-part : goal.returns-clause-part
+returns-clause-part c = tt
+
+-- the records grow
+pub returns-in_err-head-clause-grows : goal.returns-in_err-head-clause-grows
+returns-in_err-head-clause-grows c = subst (λ (m : Maps). Grows m.records c.raised_head.new.lists) c.self.view_is c.raised_head.ensures.grows
+
+pub returns-clause-grows : goal.returns-clause-grows
+returns-clause-grows c = subst (λ (m : Maps). Grows m.records c.raised_head.new.lists) c.self.view_is c.raised_head.ensures.grows

@@ -1,4 +1,4 @@
-use Rattle.std.proofs.Common.{◌≡◌, ℕ, List, ◌∷◌, Option, ◌∙◌, subst}
+use Rattle.std.proofs.Common.{◌≡◌, ℕ, List, ◌∷◌, Option, ◌∙◌, subst, arith}
 use Rattle.std.proofs.lemmas.Result.{err_from_is_err_and, IfOk-from_err}
 use Rattle.pg_types.specs.declared.refusals.Refusal.{Refusal}
 use Rattle.pg_types.specs.declared.limits.TheConstants.{LENGTH_MAX, COST_MAX}
@@ -85,3 +85,23 @@ returns-in_err-thresh c = record {
       (c.in_ok-pat_start.ensures.passed (behind_start c.in_ok-pat_start.pat_start more) ∙ c.in_ok-pat_finish.ensures.passed (behind_finish more)
       ∙ c.in_ok-good_wt.ensures.passed (behind_good more) ∙ c.in_ok-bad_wt.ensures.passed (behind_bad more) ∙ c.in_err-thresh.ensures.refused more));
 }
+
+pub returns-clause-passed : goal.returns-clause-passed
+returns-clause-passed c more =
+    at_least_start c.args.self.now.item_number (items c.args.self.now.rest.now) c.in_ok-pat_start.pat_start more _ c.in_ok-pat_start.ensures.value
+    (c.in_ok-pat_start.ensures.passed (behind_start c.in_ok-pat_start.pat_start more) ∙ c.in_ok-pat_finish.ensures.passed (behind_finish more)
+    ∙ c.in_ok-good_wt.ensures.passed (behind_good more) ∙ c.in_ok-bad_wt.ensures.passed (behind_bad more) ∙ c.in_ok-thresh.ensures.passed more)
+
+pub returns-clause-refused : goal.returns-clause-refused
+returns-clause-refused c = tt
+
+pub returns-clause-item_number : goal.returns-clause-item_number
+returns-clause-item_number c =
+    omega (
+      arith,
+      c.in_ok-pat_start.ensures.item_number,
+      c.in_ok-pat_finish.ensures.item_number,
+      c.in_ok-good_wt.ensures.item_number,
+      c.in_ok-bad_wt.ensures.item_number,
+      c.in_ok-thresh.ensures.item_number,
+    )

@@ -1,4 +1,4 @@
-use Rattle.std.proofs.Common.{◌≡◌, ◌+◌, ◌^◌, ◌<◌, set, ◌++◌, [], ◌∷◌, length, ap, sym, subst, ◌∙◌, arith}
+use Rattle.std.proofs.Common.{◌≡◌, ◌+◌, ◌^◌, ◌<◌, ◌≤◌, set, ◌++◌, [], ◌∷◌, length, ap, sym, subst, ◌∙◌, arith}
 use Rattle.std.proofs.lemmas.Result.{err_from_is_err_and}
 use Rattle.std.specs.FinMap.{find, put}
 use Rattle.pg_types.proofs.StringEntries.{order}
@@ -6,6 +6,7 @@ use Rattle.pg_types.specs.Inside.counting.Counts.{SignsWithin, counted_sums}
 use Rattle.pg_count.specs.Inside.Counting.{Counting}
 use Rattle.pg_count.specs.Inside.WindowRow.{WindowRow}
 use Rattle.pg_count.specs.Inside.Tables.{IsTable, table_counting}
+use Rattle.pg_count.specs.declared.table.short.TheConstants.{ENTRIES_MAX}
 use Rattle.pg_count.proofs.WalkLaws.Listing.{put_back}
 use Rattle.pg_count.proofs.TableLaws.Indexes.{entry_within}
 use Rattle.pg_count.proofs.TableLaws.Kept.{new_counting, new_is, room_counting, room_is}
@@ -103,3 +104,44 @@ returns-in-Err-clause-err c =
     ap (λ ts. table_counting more t.first c.pop.new.self.items ts t.signs c.pop.new.self.len) c.in-Err.ensures.err
     ∙ ap (λ (l : WindowRow). table_counting more t.first l.items t.tallies.items t.signs l.len) same
     ∙ room_counting t.numbers.items t.first t.windows.items t.tallies.items t.signs t.windows.len c.self.invariant more c.make_room.ensures.kept c.make_room.ensures.back ∙ c.self.view_is
+
+pub index_of-index-requires : goal.index_of-index-requires
+index_of-index-requires c =
+    let len : length c.args.window.now ≡ c.self.inside.windows.len = c.requires.len ∙ sym (ap (λ (d : Counting). d.len) c.self.view_is) in
+    record {
+      signs = subst (λ (d : Counting). SignsWithin d.signs c.args.window.now) (sym c.self.view_is) c.requires.signs;
+      few = subst (λ k. (c.self.inside.signs + 1) ^ k ≤ ENTRIES_MAX) (sym len) c.self.invariant.entries;
+    }
+
+pub push-requires : goal.push-requires
+push-requires c = c.requires.len ∙ sym (ap (λ (d : Counting). d.len) c.self.view_is)
+
+pub push_sums-requires : goal.push_sums-requires
+push_sums-requires c = c.self.invariant.tabled.few
+
+pub returns-in_err-make_room-clause-ok : goal.returns-in_err-make_room-clause-ok
+returns-in_err-make_room-clause-ok c = let err = err_from_is_err_and c.from_residual.result c.from_residual.ensures.1 in rw err.1 tt
+
+pub returns-in_err-make_room-clause-number : goal.returns-in_err-make_room-clause-number
+returns-in_err-make_room-clause-number c = let err = err_from_is_err_and c.from_residual.result c.from_residual.ensures.1 in rw err.1 tt
+
+pub returns-in_err-push-clause-ok : goal.returns-in_err-push-clause-ok
+returns-in_err-push-clause-ok c = let err = err_from_is_err_and c.from_residual-in_err-push.result c.from_residual-in_err-push.ensures.1 in rw err.1 tt
+
+pub returns-in_err-push-clause-number : goal.returns-in_err-push-clause-number
+returns-in_err-push-clause-number c = let err = err_from_is_err_and c.from_residual-in_err-push.result c.from_residual-in_err-push.ensures.1 in rw err.1 tt
+
+pub returns-in-Ok-clause-number : goal.returns-in-Ok-clause-number
+returns-in-Ok-clause-number c =
+    let tallied = c.self.invariant.tabled.tallied in
+    let entry = c.in-Ok.ensures.entry in
+    omega (arith, ap (λ (d : Counting). length d.counted.windows) c.self.view_is)
+
+pub returns-in-Ok-clause-err : goal.returns-in-Ok-clause-err
+returns-in-Ok-clause-err c = tt
+
+pub returns-in-Err-clause-ok : goal.returns-in-Err-clause-ok
+returns-in-Err-clause-ok c = tt
+
+pub returns-in-Err-clause-number : goal.returns-in-Err-clause-number
+returns-in-Err-clause-number c = tt

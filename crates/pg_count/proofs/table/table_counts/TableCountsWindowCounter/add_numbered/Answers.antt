@@ -1,4 +1,5 @@
-use Rattle.std.proofs.Common.{ap, sym, subst, ◌∙◌}
+use Rattle.std.proofs.Common.{refl, ap, sym, subst, ◌∙◌}
+use Rattle.std.proofs.lemmas.Result.{err_from_is_err_and}
 use Rattle.std.specs.List.{slice_get}
 use Rattle.pg_types.proofs.Numbering.{get_seam}
 use Rattle.pg_types.specs.Inside.counting.Counts.{counted_sums, with_weight}
@@ -33,3 +34,24 @@ pub returns-in_ok-number-in-None-clause-number : goal.returns-in_ok-number-in-No
 returns-in_ok-number-in-None-clause-number c =
     ap (λ (d : Counting). slice_get d.counted.windows c.in_ok-number-in-None.number) c.in_ok-number-in-None.ensures.ok
     ∙ get_seam c.args.self.now.counted.windows c.args.window.now c.in_ok-number-in-None.number c.in_ok-number-in-None.ensures.number
+
+pub returns-in_err-number-in-None-clause-ok : goal.returns-in_err-number-in-None-clause-ok
+returns-in_err-number-in-None-clause-ok c = let err = err_from_is_err_and c.from_residual.result c.from_residual.ensures.1 in rw err.1 tt
+
+pub returns-in_err-number-in-None-clause-number : goal.returns-in_err-number-in-None-clause-number
+returns-in_err-number-in-None-clause-number c = let err = err_from_is_err_and c.from_residual.result c.from_residual.ensures.1 in rw err.1 tt
+
+pub returns-in_err-number-in-None-clause-err : goal.returns-in_err-number-in-None-clause-err
+returns-in_err-number-in-None-clause-err c = let err = err_from_is_err_and c.from_residual.result c.from_residual.ensures.1 in rw err.1 c.in_err-number-in-None.ensures.err
+
+pub returns-in_ok-number-in-None-clause-there : goal.returns-in_ok-number-in-None-clause-there
+returns-in_ok-number-in-None-clause-there c = λ _. refl
+
+pub returns-in_ok-number-in-None-clause-err : goal.returns-in_ok-number-in-None-clause-err
+returns-in_ok-number-in-None-clause-err c = tt
+
+pub returns-in-Some-clause-there : goal.returns-in-Some-clause-there
+returns-in-Some-clause-there c = λ _. refl
+
+pub returns-in-Some-clause-err : goal.returns-in-Some-clause-err
+returns-in-Some-clause-err c = tt

@@ -1,0 +1,10 @@
+use Rattle.pg_sweep.proofs.text.sweep_value.Goals as goal
+
+pub returns-in-Err-json : goal.returns-in-Err-json
+returns-in-Err-json c = tt
+
+pub returns-in-Err-json-2 : goal.returns-in-Err-json-2
+returns-in-Err-json-2 c = tt
+
+pub returns-in-Err-json-3 : goal.returns-in-Err-json-3
+returns-in-Err-json-3 c = tt
