@@ -254,12 +254,18 @@ pub kept_either : {T E : Type 0} (result : Result T E) (kept after : List FileId
 kept_either (Ok value) kept after ok err = ok
 kept_either (Err error) kept after ok err = λ id is. subst (λ (l : List FileId). IsIn id l) (sym err) is
 
-pub replace_found_fails : (real name bytes : List ℕ) (kept : List FileId) (mode : Option ℕ) (a b c : Option DiskHistory) → KeepsDisk a b → HoldsNow b (Leads real name kept mode)
+replace_found_fails : (real name bytes : List ℕ) (kept : List FileId) (mode : Option ℕ) (a b c : Option DiskHistory) → KeepsDisk a b → HoldsNow b (Leads real name kept mode)
     → RunsCalls b c (WhereDirect real (AtMoment real bytes mode)) (WhereDirect real (IsAsBefore real)) → RunsCalls a c (AtWrite name bytes kept) (AfterFailure name bytes)
 replace_found_fails real name bytes kept mode a b c ab leads bc =
     keeps_then _ _ a b c ab (known_start _ _ _ _ (Leads real name kept mode) b c leads bc
     (λ x y f p. at_one real name bytes kept x y f.one (at_may real bytes kept mode x y f.may (p f.direct)))
     (λ x y f p. failure_one real name bytes x y f.one (failed_may real bytes kept mode x y f.may (p f.direct))))
+
+pub replaces_fails : {T E : Type 0} (result : Result T E) (real name bytes : List ℕ) (kept after : List FileId) (mode : Option ℕ) (a b c : Option DiskHistory) → KeepsDisk a b → HoldsNow b (Leads real name kept mode)
+    → OnErr result ((after ≡ kept) × RunsCalls b c (WhereDirect real (AtMoment real bytes mode)) (WhereDirect real (IsAsBefore real)))
+    → OnErr result ((after ≡ kept) × RunsCalls a c (AtWrite name bytes kept) (AfterFailure name bytes))
+replaces_fails (Ok value) real name bytes kept after mode a b c ab leads run = tt
+replaces_fails (Err error) real name bytes kept after mode a b c ab leads run = (run.0, replace_found_fails real name bytes kept mode a b c ab leads run.1)
 
 -- what was opened is what the system says of it
 pub opened_seen : (name : List ℕ) (id : FileId) (seen : FileStatus) (a b : Option DiskHistory) → HoldsNow a (IsOpened name id) → HoldsNow a (IsWritable id)

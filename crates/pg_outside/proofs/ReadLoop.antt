@@ -1,7 +1,6 @@
 -- What a loop of reads has read so far.
 use Rattle.std.proofs.Common.{◌≡◌, ℕ, ◌+◌, ◌-◌, ◌<◌, ◌≤◌, List, [], ◌++◌, length, take, drop, Option, Some, refl, sym, ap, subst, ◌∙◌, arith}
 use Rattle.std.proofs.Math.Seq.{take-add}
-use Rattle.std.proofs.lemmas.List.{take-append-le}
 use Rattle.std.proofs.lemmas.Grind.{common_steps}
 use Rattle.pg_outside.specs.Inside.disk.Disks.{Disk, Node, DiskHistory, KeepsDisk, HoldsNow, HasPiece}
 use Rattle.pg_outside.specs.Inside.disk.Reads.{IsAllOf, IsFrontOf}
@@ -29,9 +28,9 @@ reads_none now file at limit bytes start empty = record {
   read = now_always _ now (λ d. record { on = rw (start, empty) refl; front = λ node is. rw empty refl; within = λ node is. rw empty (omega arith) });
 }
 
--- the bytes with those that one more read gave
-pub more_bytes : (bytes more buffer rest : List ℕ) (count : ℕ) → count ≤ length buffer → more ≡ bytes ++ take count (buffer ++ rest) → more ≡ bytes ++ take count buffer
-more_bytes bytes more buffer rest count within items = items ∙ ap (λ (l : List ℕ). bytes ++ l) (take-append-le count buffer rest within)
+-- a read of nothing leaves the bytes as they are
+pub no_more : (bytes more buffer : List ℕ) (count : ℕ) → count ≡ 0 → more ≡ bytes ++ take count buffer → more ≡ bytes
+no_more bytes more buffer count none items = grind (arith, common_steps)
 
 -- a read of as much as the limit leaves, and one byte
 pub within_limit : (bytes more buffer piece : List ℕ) (count most limit : ℕ) → more ≡ bytes ++ take count buffer → count ≤ length (take most piece)
@@ -76,11 +75,11 @@ whole_of_front bytes all front end = front ∙ take_all (length bytes) all end
     take_all n l within = grind (arith, common_steps)
 
 -- a read of nothing
-pub reads_end : (before now after : Option DiskHistory) (file same : FileId) (at next count room limit : ℕ) (bytes buffer : List ℕ) → HasRead before now file same at bytes limit
-    → KeepsDisk now after → HoldsNow after (HasPiece same at next count room buffer) → count ≡ 0 → 0 < room → HoldsNow after (IsAllOf file bytes)
-reads_end before now after file same at next count room limit bytes buffer so_far keeps piece none room_left =
-    now_weaker _ _ after (now_both _ _ after (keeps_now _ now after so_far.read keeps) (subst (λ (k : FileId). HoldsNow after (HasPiece k at next count room buffer)) so_far.same_file piece))
-    (λ d p node is. whole_of_front bytes node.bytes (p.0.front node is) (at_end (length node.bytes) at (length bytes) (p.1.end node is none room_left) p.0.on))
+pub reads_end : (before now after : Option DiskHistory) (file same : FileId) (at next count room limit : ℕ) (bytes buffer more : List ℕ) → HasRead before now file same at bytes limit
+    → KeepsDisk now after → HoldsNow after (HasPiece same at next count room buffer) → count ≡ 0 → 0 < room → more ≡ bytes → HoldsNow after (IsAllOf file more)
+reads_end before now after file same at next count room limit bytes buffer more so_far keeps piece none room_left unchanged =
+    subst (λ (l : List ℕ). HoldsNow after (IsAllOf file l)) (sym unchanged) (now_weaker _ _ after (now_both _ _ after (keeps_now _ now after so_far.read keeps) (subst (λ (k : FileId). HoldsNow after (HasPiece k at next count room buffer)) so_far.same_file piece))
+    (λ d p node is. whole_of_front bytes node.bytes (p.0.front node is) (at_end (length node.bytes) at (length bytes) (p.1.end node is none room_left) p.0.on)))
   where
     at_end : (a b c : ℕ) → a ≤ b → b ≡ c → a ≤ c
     at_end a b c le is = omega arith

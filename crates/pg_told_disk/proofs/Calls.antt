@@ -1,7 +1,8 @@
 -- What each call of a disk in memory says.
-use Rattle.std.proofs.Common.{◌≡◌, inl, inr, ℕ, List, ◌∷◌, length, Bool, true, false, Option, Some, None, Vec, String, string_bytes, refl, sym, ap, subst, ◌∙◌}
+use Rattle.std.proofs.Common.{◌≡◌, ◌≤◌, arith, inl, inr, ℕ, List, ◌∷◌, length, Bool, true, false, Option, Some, None, Vec, String, string_bytes, refl, sym, ap, subst, ◌∙◌}
 use Rattle.std.specs.Option.{option_map, is_some}
 use Rattle.std.specs.declared.alloc.Global.{Global}
+use Rattle.pg_outside.specs.Faults.{Rose}
 use Rattle.pg_outside.specs.Inside.disk.Disks as disk
 use Rattle.pg_outside.specs.Inside.disk.Disks.{Disk, Node, ChangesDisk, HoldsNow, IsKindOf, IsFollowedBy, IsOpened, IsWritable, IsTaken, LeadsToNone, IsStat, ChangesOnlyFile, AppendsFront}
 use Rattle.pg_outside.specs.Inside.disk.NewNames.{IsLinkedName}
@@ -18,6 +19,13 @@ use Rattle.pg_told_disk.specs.Inside.laws.ChangeLaws.{id_in, id_none, id_same, o
 use Rattle.pg_told_disk.specs.Inside.laws.Nodes.{named_has}
 use Rattle.pg_told_disk.proofs.Joined.{one_joined}
 use Rattle.pg_told_disk.proofs.ToldBy.{steps, told_now}
+
+-- a count that rose since it was the same, and one that did not fall since
+pub rose_since : (a b c : ℕ) → b ≡ a → Rose b c → Rose a c
+rose_since a b c same rose = subst (λ (n : ℕ). Rose n c) same rose
+
+pub later_both : (a b c : ℕ) → a ≤ b → b ≤ c → a ≤ c
+later_both a b c ab bc = omega arith
 
 some_number : (m n : ℕ) → Some m ≡ Some n → m ≡ n
 some_number m n e = cc

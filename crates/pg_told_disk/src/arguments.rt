@@ -4,7 +4,11 @@ ghost use Rattle.std.specs.Prelude.{◌≤◌, length, IfOk};
 use crate::scripted::{Broken, Call, ScriptedFile, failure};
 use std::alloc::Allocator;
 use std::env::FillError;
-use std::fs::{Metadata, OpenOptions};
+use std::fs::{Metadata, OpenOptions, Permissions};
+use std::io::{Error, ErrorKind, PipeReader, PipeWriter};
+use std::os::fd::BorrowedFd;
+use std::os::unix::net::SocketAddr;
+use std::path::PathBuf;
 use std::time::Duration;
 use std::{io, rt};
 
@@ -34,6 +38,11 @@ impl<'a, R> ScriptedSystem<'a, R> {
             broken,
         }
     }
+}
+
+/// The reason of a call that the system does not support.
+fn unsupported() -> Error {
+    Error::from(ErrorKind::Unsupported)
 }
 
 /// Copies a text to the start of the buffer.
@@ -135,5 +144,48 @@ impl<'a, R: rt::Files> rt::Files for ScriptedSystem<'a, R> {
 
     fn remove_dir_all<B: Allocator>(&self, alloc: B, path: &str) -> io::Result<()> {
         self.system.remove_dir_all(alloc, path)
+    }
+
+    // The rest is not supported, as where a system leaves these out. Each is written out because
+    // the proof of a method that an impl leaves out takes three times as long.
+
+    fn canonicalize<B: Allocator>(&self, _alloc: B, _path: &str) -> io::Result<PathBuf<B>> {
+        Err(unsupported())
+    }
+
+    fn read_link<B: Allocator>(&self, _alloc: B, _path: &str) -> io::Result<PathBuf<B>> {
+        Err(unsupported())
+    }
+
+    fn hard_link(&self, _original: &str, _link: &str) -> io::Result<()> {
+        Err(unsupported())
+    }
+
+    fn set_permissions(&self, _path: &str, _perm: Permissions) -> io::Result<()> {
+        Err(unsupported())
+    }
+
+    fn symlink(&self, _original: &str, _link: &str) -> io::Result<()> {
+        Err(unsupported())
+    }
+
+    fn pipe(&self) -> io::Result<(PipeReader, PipeWriter)> {
+        Err(unsupported())
+    }
+
+    fn chown(&self, _path: &str, _uid: Option<u32>, _gid: Option<u32>) -> io::Result<()> {
+        Err(unsupported())
+    }
+
+    fn lchown(&self, _path: &str, _uid: Option<u32>, _gid: Option<u32>) -> io::Result<()> {
+        Err(unsupported())
+    }
+
+    fn create_dir_with_mode(&self, _path: &str, _mode: u32) -> io::Result<()> {
+        Err(unsupported())
+    }
+
+    fn bind_unix(&self, _socket: BorrowedFd<'_>, _addr: &SocketAddr) -> io::Result<()> {
+        Err(unsupported())
     }
 }

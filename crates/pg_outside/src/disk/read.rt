@@ -1,7 +1,7 @@
 //! A file is read to its end, up to a limit.
-ghost use Rattle.std.specs.Prelude.{◌≡◌, ◌≢◌, ◌+◌, ◌-◌, ◌^◌, ◌<◌, ◌≤◌, [], length, OnOk, IfErr, IsErrOf};
+ghost use Rattle.std.specs.Prelude.{◌≡◌, ◌≢◌, ◌+◌, ◌-◌, ◌^◌, ◌<◌, ◌≤◌, [], ◌++◌, take, length, OnOk, IfOk, IfErr, IsErrOf};
 ghost use Rattle.pg_outside.specs.Faults.{Rose};
-ghost use Rattle.pg_outside.specs.Inside.disk.Disks.{KeepsDisk, HoldsNow};
+ghost use Rattle.pg_outside.specs.Inside.disk.Disks.{KeepsDisk, HoldsNow, HasPiece};
 ghost use Rattle.pg_outside.specs.Inside.disk.Reads.{IsAllOf, IsFrontOf};
 
 use super::system::System;
@@ -9,6 +9,37 @@ use crate::outside::ReadError;
 
 /// How many bytes one read asks for at most.
 const PIECE: usize = 65536;
+
+/// Reads some of the next bytes into `piece`, and appends them. The answer is how many they are,
+/// and 0 only at the end.
+fn read_piece<S: System>(
+    system: &mut S,
+    file: &mut S::File,
+    piece: &mut [u8],
+    into: &mut Vec<u8>,
+) -> Result<usize, ReadError>
+    ensures same { KeepsDisk (S.told system.old) (S.told system.new) }
+    ensures file { S.id file.new ≡ S.id file.old }
+    ensures bound { IfOk result (λ count. count ≤ length piece.old) }
+    ensures bytes { IfOk result (λ count. HoldsNow (S.told system.new)
+        (HasPiece (S.id file.old) (S.at file.old)
+        (S.at file.new) count (length piece.old) piece.new)) }
+    ensures items { IfOk result
+        (λ count. into.new.items ≡ into.old.items ++ take count piece.new) }
+    ensures ok_failures { OnOk result (S.failures system.new ≡ S.failures system.old) }
+    ensures long { IsErrOf result ReadError.TooLong → ⊥ }
+    ensures failed { IsErrOf result ReadError.Failed
+        → Rose (S.failures system.old) (S.failures system.new) }
+    ensures other_failures { IfErr result
+        (λ error. error ≢ ReadError.Failed → S.failures system.new ≡ S.failures system.old) }
+{
+    let count = match system.read_some(file, piece) {
+        Ok(count) => count,
+        Err(_) => return Err(ReadError::Failed),
+    };
+    into.extend_from_slice(&piece[..count])?;
+    Ok(count)
+}
 
 /// Reads the file to its end, in pieces, and takes at most `limit + 1` bytes.
 ///
@@ -40,10 +71,9 @@ pub(crate) fn read_within<S: System>(
     let mut piece = [0u8; PIECE];
     while into.len() <= limit {
         let most = (limit - into.len()).saturating_add(1).min(PIECE);
-        match system.read_some(file, &mut piece[..most]) {
-            Ok(0) => return Ok(()),
-            Ok(count) => into.extend_from_slice(&piece[..count])?,
-            Err(_) => return Err(ReadError::Failed),
+        let count = read_piece(system, file, &mut piece[..most], into)?;
+        if count == 0 {
+            return Ok(());
         }
     }
     Err(ReadError::TooLong)

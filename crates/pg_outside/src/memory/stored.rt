@@ -88,14 +88,9 @@ pub(crate) fn store(
         → max room (length bytes.now) ≤ room_in files.old.items name.now → IsOk result }
 {
     match index_of(files, name) {
-        Some(index) => {
-            let file = &mut files[index];
-            replace(&mut file.bytes, bytes, room)?;
-            Ok(())
-        }
+        Some(index) => replace(&mut files[index].bytes, bytes, room),
         None => {
-            let file = new_file(alloc, name, bytes, room)?;
-            files.push(file)?;
+            files.push(new_file(alloc, name, bytes, room)?)?;
             Ok(())
         }
     }

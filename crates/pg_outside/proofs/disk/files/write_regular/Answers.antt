@@ -1,21 +1,22 @@
-use Rattle.std.proofs.Common.{refl}
-use Rattle.std.proofs.lemmas.Result.{on_err_weaker}
-use Rattle.pg_outside.specs.Inside.disk.Writes.{IsDeep}
+use Rattle.std.proofs.Common.{ℕ, List, refl, sym, subst}
+use Rattle.pg_outside.specs.Inside.disk.Disks.{HoldsNow}
+use Rattle.pg_outside.specs.Inside.disk.Writes.{IsDeep, StandsFor}
 use Rattle.pg_outside.proofs.Causes.{still_because, because_unfollowed, passed_since}
-use Rattle.pg_outside.proofs.DiskWriting.{leads_old, no_other, is_full, replaces_found, replace_found_fails, nothing_failed, writes_nothing}
+use Rattle.pg_outside.proofs.DiskWriting.{Leads, leads_old, no_other, is_full, replaces_found, replaces_fails, nothing_failed, writes_nothing}
 use Rattle.pg_outside.proofs.Results.{on_err, no_value}
 use Rattle.pg_outside.proofs.disk.files.write_regular.Goals as goal
 
 pub returns : goal.returns
 returns g c =
-    let leads = leads_old _ c.args.name.now c.args.kept.now.items _ c.args.old c.in_ok-mode.mode _ _ c.requires.old c.find.ensures.same
-    c.in_ok-found.ensures.found.1 c.in_ok-mode.ensures.mode c.requires.regular c.requires.free in
-    let cause = rw c.as_str.ensures.value at c.replace_kept.ensures.cause in
+    let stands : HoldsNow (g.S.System.told c.find.new.system) (StandsFor c.as_str.result.now c.in_ok-found.found.file c.args.name.now) =
+    subst (λ (l : List ℕ). HoldsNow (g.S.System.told c.find.new.system) (StandsFor l c.in_ok-found.found.file c.args.name.now)) (sym c.as_str.ensures.value) c.in_ok-found.ensures.found.1 in
+    let leads : HoldsNow (g.S.System.told c.find.new.system) (Leads c.as_str.result.now c.args.name.now c.args.kept.now.items c.in_ok-mode.mode) =
+    leads_old _ c.args.name.now c.args.kept.now.items _ c.args.old c.in_ok-mode.mode _ _ c.requires.old c.find.ensures.same stands c.in_ok-mode.ensures.mode c.requires.regular c.requires.free in
     record {
-      ok = replaces_found c.replace_kept.result _ _ _ _ _ _ _ _ _ _ _ _ c.in_ok-found.ensures.found.0 c.find.ensures.same leads (rw c.as_str.ensures.value at c.replace_kept.ensures.ok);
-      err = on_err_weaker c.replace_kept.result (λ run. (run.0, replace_found_fails _ _ _ _ _ _ _ _ c.find.ensures.same leads (rw c.as_str.ensures.value at run.1))) c.replace_kept.ensures.err;
-      cause = still_because c.replace_kept.result _ _ _ _ _ _ _ _ _ cause c.in_ok-found.ensures.found.0 (λ b. absurd b) (λ b. absurd b)
-          (λ all. is_full _ c.args.name.now _ _ _ c.in_ok-found.ensures.found.1 all.0 all.1);
+      ok = replaces_found c.replace_kept.result _ _ _ _ _ _ _ _ _ _ _ _ c.in_ok-found.ensures.found.0 c.find.ensures.same leads c.replace_kept.ensures.ok;
+      err = replaces_fails c.replace_kept.result _ _ _ _ _ _ _ _ _ c.find.ensures.same leads c.replace_kept.ensures.err;
+      cause = still_because c.replace_kept.result _ _ _ _ _ _ _ _ _ c.replace_kept.ensures.cause c.in_ok-found.ensures.found.0 (λ b. absurd b) (λ b. absurd b)
+          (λ all. is_full _ c.args.name.now _ _ _ stands all.0 all.1);
     }
 
 pub returns-in_err-found : goal.returns-in_err-found

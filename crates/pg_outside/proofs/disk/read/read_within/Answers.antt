@@ -1,20 +1,21 @@
 use Rattle.pg_outside.proofs.Causes.{rose_since}
-use Rattle.pg_outside.proofs.Results.{if_err, no_value, not_err}
+use Rattle.pg_outside.proofs.Results.{no_value, not_err}
 use Rattle.pg_outside.proofs.Runs.{keeps_both}
-use Rattle.std.proofs.Common.{refl, ◌∙◌, ◌≡◌, ◌<◌, ◌≤◌, ◌+◌, ◌++◌, length, take, drop, arith}
+use Rattle.std.proofs.Common.{refl, ◌∙◌, ◌≡◌, ◌<◌, ◌≤◌, ◌+◌, length, take, ap, arith}
 use Rattle.std.proofs.lemmas.Grind.{common_steps}
-use Rattle.pg_outside.proofs.ReadLoop.{more_bytes, within_limit, reads_none, reads_on, reads_end, reads_past}
-use Rattle.pg_outside.proofs.ReadErrors.{long_or_failed, memory_or_long, memory_or_failed}
+use Rattle.pg_outside.proofs.ReadLoop.{within_limit, no_more, reads_none, reads_on, reads_end, reads_past}
+use Rattle.pg_outside.proofs.ReadErrors.{long_or_failed, passed_error, passed_other}
 use Rattle.pg_outside.proofs.disk.read.read_within.Goals as goal
 
-pub returns-in-Ok-eq0 : goal.returns-in-Ok-eq0
-returns-in-Ok-eq0 g c = record {
-  same = keeps_both _ _ _ c.loop-piece.invariant.read.keeps c.read_some.ensures.same;
-  all = let room : 0 < length (take c.min-most.result c.loop-piece.piece) = grind (arith, common_steps) in (
-    c.in-Ok-eq0.ensures.ok_failures ∙ c.loop-piece.invariant.failures,
-    omega arith,
-    reads_end _ _ _ _ _ _ _ _ _ _ _ _ c.loop-piece.invariant.read c.read_some.ensures.same c.in-Ok-eq0.ensures.bytes c.in-Ok-eq0.field-0-test room,
-  );
+pub returns-then-count-eq0 : goal.returns-then-count-eq0
+returns-then-count-eq0 g c = record {
+  same = keeps_both _ _ _ c.loop-piece.invariant.read.keeps c.read_piece.ensures.same;
+  all = let room : 0 < length (take c.min-most.result c.loop-piece.piece) = grind (arith, common_steps) in
+      let same : c.read_piece.new.into.items ≡ c.loop-piece.into.items = no_more _ _ _ _ c.if-count-eq0.true c.in_ok-count.ensures.items in (
+        c.in_ok-count.ensures.ok_failures ∙ c.loop-piece.invariant.failures,
+        omega (arith, ap length same),
+        reads_end _ _ _ _ _ _ _ _ _ _ _ _ _ c.loop-piece.invariant.read c.read_piece.ensures.same c.in_ok-count.ensures.bytes c.if-count-eq0.true room same,
+      );
   front = λ is. absurd (not_err _ _ is);
   failed = λ is. absurd (not_err _ _ is);
   other_failures = tt;
@@ -22,15 +23,13 @@ returns-in-Ok-eq0 g c = record {
 
 pub loop-piece-preserved : goal.loop-piece-preserved
 loop-piece-preserved g c =
-    let bound : c.in-Ok.count ≤ length c.read_some.new.buffer = omega (arith, c.in-Ok.ensures.bound, c.read_some.auto.buffer) in
-    let items : c.extend_from_slice.new.self.items ≡ c.loop-piece.into.items ++ take c.in-Ok.count c.read_some.new.buffer =
-    more_bytes c.loop-piece.into.items c.extend_from_slice.new.self.items c.read_some.new.buffer
-    (drop c.min-most.result c.loop-piece.piece) c.in-Ok.count bound c.in_ok-extend_from_slice-in-Ok.ensures.items in
-    let within : length c.extend_from_slice.new.self.items ≤ c.args.limit + 1 =
-    within_limit c.loop-piece.into.items _ c.read_some.new.buffer c.loop-piece.piece c.in-Ok.count c.min-most.result c.args.limit items c.in-Ok.ensures.bound (omega arith) (omega arith) in
+    let bound : c.in_ok-count.count ≤ length c.read_piece.new.piece = omega (arith, c.in_ok-count.ensures.bound, c.read_piece.auto.piece) in
+    let within : length c.read_piece.new.into.items ≤ c.args.limit + 1 =
+    within_limit c.loop-piece.into.items _ c.read_piece.new.piece c.loop-piece.piece c.in_ok-count.count c.min-most.result c.args.limit c.in_ok-count.ensures.items c.in_ok-count.ensures.bound
+    (omega arith) (omega arith) in
     record {
-      read = reads_on _ _ _ _ _ _ _ _ _ _ _ _ _ _ c.loop-piece.invariant.read c.read_some.ensures.same c.read_some.ensures.file c.in-Ok.ensures.bytes bound items within;
-      failures = c.in-Ok.ensures.ok_failures ∙ c.loop-piece.invariant.failures;
+      read = reads_on _ _ _ _ _ _ _ _ _ _ _ _ _ _ c.loop-piece.invariant.read c.read_piece.ensures.same c.read_piece.ensures.file c.in_ok-count.ensures.bytes bound c.in_ok-count.ensures.items within;
+      failures = c.in_ok-count.ensures.ok_failures ∙ c.loop-piece.invariant.failures;
     }
 
 pub returns : goal.returns
@@ -44,22 +43,13 @@ returns g c = record {
   other_failures = λ _. c.loop-piece.invariant.failures;
 }
 
-pub returns-in_err-extend_from_slice-in-Ok : goal.returns-in_err-extend_from_slice-in-Ok
-returns-in_err-extend_from_slice-in-Ok g c = record {
-  same = keeps_both _ _ _ c.loop-piece.invariant.read.keeps c.read_some.ensures.same;
+pub returns-in_err-count : goal.returns-in_err-count
+returns-in_err-count g c = record {
+  same = keeps_both _ _ _ c.loop-piece.invariant.read.keeps c.read_piece.ensures.same;
   all = no_value _ c.from_residual.result c.from_residual.ensures.0;
-  front = λ is. absurd (memory_or_long _ c.from_residual.ensures.1 is);
-  failed = λ is. absurd (memory_or_failed _ c.from_residual.ensures.1 is);
-  other_failures = if_err _ c.from_residual.result (λ _ _. c.in-Ok.ensures.ok_failures ∙ c.loop-piece.invariant.failures);
-}
-
-pub returns-in-Err : goal.returns-in-Err
-returns-in-Err g c = record {
-  same = keeps_both _ _ _ c.loop-piece.invariant.read.keeps c.read_some.ensures.same;
-  all = tt;
-  front = λ is. absurd (long_or_failed _ is refl);
-  failed = λ _. rose_since _ _ _ c.loop-piece.invariant.failures c.in-Err.ensures.failed;
-  other_failures = λ apart. absurd (apart refl);
+  front = λ is. absurd (c.in_err-count.ensures.long (passed_error c.from_residual.result _ _ c.from_residual.ensures.1 is));
+  failed = λ is. rose_since _ _ _ c.loop-piece.invariant.failures (c.in_err-count.ensures.failed (passed_error c.from_residual.result _ _ c.from_residual.ensures.1 is));
+  other_failures = passed_other c.from_residual.result _ c.from_residual.ensures.1 (λ apart. c.in_err-count.ensures.other_failures apart ∙ c.loop-piece.invariant.failures);
 }
 
 pub loop-piece-init : goal.loop-piece-init

@@ -5,8 +5,8 @@ use Rattle.pg_told_disk.proofs.told_disk.ToldDiskSystem.rename.Goals as goal
 pub returns : goal.returns
 returns c = record {
   ok = renamed_step _ _ _ _ _ _ _ _ _ _ c.change.ensures.told c.change.ensures.links c.change.ensures.log c.in-Ok.ensures.ok c.in-Ok-from_str.ensures.ok;
-  err = search rules;
+  err = tt;
   later = search rules;
   ok_failures = search rules;
-  failed = search rules;
+  failed = tt;
 }
