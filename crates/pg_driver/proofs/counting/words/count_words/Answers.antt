@@ -103,3 +103,15 @@ words-preserved g c =
           (c.words.invariant.listed ++ listed_in minima (counts_above pass.level x.patterns) c.words.i w) c.count_word.new.numbers.items) kept
           (c.in_ok-count_word.ensures.numbers c.args.dictionary.now c.words.invariant.listed c.word-w.ensures.lent now);
     }
+
+pub word-w-requires : goal.word-w-requires
+word-w-requires g c = omega (arith, c.words-test.true)
+
+pub count_word-requires-clause-word : goal.count_word-requires-clause-word
+count_word-requires-clause-word g c = c.word-w.ensures.word
+
+pub returns-in_err-count_word-clause-signs : goal.returns-in_err-count_word-clause-signs
+returns-in_err-count_word-clause-signs g c = c.count_word.ensures.signs ∙ ap (λ (m : Meaning). m.signs) c.words.invariant.kept
+
+pub returns-clause-signs : goal.returns-clause-signs
+returns-clause-signs g c = ap (λ (m : Meaning). m.signs) c.words.invariant.kept
