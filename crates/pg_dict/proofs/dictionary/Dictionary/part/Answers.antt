@@ -31,3 +31,21 @@ words-preserved c = elim c.if-belongs.branch [
     few = rw (w.store-is) (omega (arith, letters_from c.args.self.now c.words.i (lent_word c.word-word.result) c.word-word.ensures.lent, c.words.invariant.few));
   }
 ]
+
+pub word-word-requires : goal.word-word-requires
+word-word-requires c = omega (arith, c.len-i-end.ensures.len)
+
+pub push_word-requires-clause-word : goal.push_word-requires-clause-word
+push_word-requires-clause-word c = c.word-word.ensures.word
+
+pub push_word-requires-clause-sound : goal.push_word-requires-clause-sound
+push_word-requires-clause-sound c = c.words.invariant.sound
+
+pub belongs-requires : goal.belongs-requires
+belongs-requires c = c.requires
+
+pub with_sites-requires-clause-sound : goal.with_sites-requires-clause-sound
+with_sites-requires-clause-sound c = c.words.invariant.sound
+
+pub with_sites-requires-clause-few : goal.with_sites-requires-clause-few
+with_sites-requires-clause-few c = omega (arith, c.words.invariant.few, c.len-i-end.ensures.letters)
