@@ -175,3 +175,6 @@ returns-in_default-clause-signs g c = refl
 
 pub returns-in_default-clause-took_for : goal.returns-in_default-clause-took_for
 returns-in_default-clause-took_for g c = omega arith
+
+pub count_position-requires-clause-within : goal.count_position-requires-clause-within
+count_position-requires-clause-within g c = omega (arith, c.positions-test.true, c.in-Some.ensures.within)
