@@ -25,7 +25,8 @@ module _ (marks : List ℕ) (earlier : List (ℕ × List ℕ)) (s : ListedSpelli
   clashing few good clashes = rw (few, good, clashes) refl
 
   -- all checks pass
-  pub passing : nat_lt (SIGNS_MAX - 1) s.letter ≡ false → is_spelling marks s.text ≡ true → list_any (clash (spelling_with_sign s)) earlier ≡ false → first_failure (spelling_check marks earlier s) ≡ Ok tt
+  pub passing : nat_lt (SIGNS_MAX - 1) s.letter ≡ false → is_spelling marks s.text ≡ true → list_any (clash (spelling_with_sign s)) earlier ≡ false
+      → first_failure (spelling_check marks earlier s) ≡ Ok tt
   passing few good apart = rw (few, good, apart) refl
 
 -- a spelling has a byte

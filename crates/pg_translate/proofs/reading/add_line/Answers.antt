@@ -32,7 +32,8 @@ returns-clause-answer c =
     let text = c.without_blanks-text.result.now in
     let same = spellings_of_rest c.args.line c.letters.result (letters_in (pairs c.args.index.now)) c.args.text.now text c.without_blanks-text.ensures.value
     (sym c.is_empty.ensures ∙ c.if-is_empty.false) (c.letters.ensures ∙ c.requires.sound.letters) in
-    subst (λ (ss : List ListedSpelling). Gives {X = Unit {0}} {Y = Unit {0}} (λ _. tt) c.add_pieces.result (spellings_outcome c.args.marks.now (pairs c.args.index.now) ss)) same c.add_pieces.ensures.answer
+    subst (λ (ss : List ListedSpelling). Gives {X = Unit {0}} {Y = Unit {0}} (λ _. tt) c.add_pieces.result (spellings_outcome c.args.marks.now (pairs c.args.index.now) ss))
+    same c.add_pieces.ensures.answer
 
 pub returns-clause-spellings : goal.returns-clause-spellings
 returns-clause-spellings c =
