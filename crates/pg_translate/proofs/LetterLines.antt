@@ -2,13 +2,13 @@
 use Rattle.std.proofs.Common.{◌≡◌, ℕ, ◌+◌, ◌-◌, ◌<◌, ◌≤◌, ◌==◌, true, false, ⊎_elim, List, [], ◌∷◌, ◌++◌, length}
 use Rattle.std.proofs.Common.{take, drop, get_or, nat_lt, position, Some, None, refl, ap, ◌∙◌, subst, arith, suc, zero}
 use Rattle.std.specs.List.{position_or_len}
-use Rattle.std.proofs.lemmas.Bool.{cases_Bool, ltb-false}
-use Rattle.std.proofs.lemmas.List.{take_rest, take_more, drop_all}
+use Rattle.std.proofs.lemmas.Bool.{cases_Bool, eqb-true, ltb-false}
+use Rattle.std.proofs.lemmas.List.{take_rest, take_more, drop_all, length-drop, length-take-le}
 use Rattle.std.proofs.lemmas.List.Sums.{fails_before_first}
 use Rattle.std.proofs.lemmas.List.Quantifiers.{position-Some}
 use Rattle.pg_types.specs.Lines.{pieces_at}
 use Rattle.pg_types.proofs.Pieces.{pieces_at_first, pieces_at_last}
-use Rattle.pg_translate.specs.Inside.tables.Checks.{before_empty, pieces_of, unless_blank_end, without_blanks}
+use Rattle.pg_translate.specs.Inside.tables.Checks.{before_empty, pieces_of, spellings_behind, spellings_of_line, unless_blank_end, without_blanks}
 
 -- where the first byte is the delimiter there is no piece
 pub pieces_empty : (delimiter : ℕ) (rest : List ℕ) → position (λ b. b == delimiter) rest ≡ Some 0 → pieces_of delimiter rest ≡ []
@@ -46,6 +46,39 @@ pieces_last delimiter (b ∷ bs) found some =
     none : (j : ℕ) → j < length (b ∷ bs) → (get_or (b ∷ bs) j 0 == delimiter) ≡ false
     none j below = fails_before_first (λ b. b == delimiter) (b ∷ bs) j 0 (omega (arith, past))
 
+-- an empty text has no piece
+pub no_piece : (delimiter : ℕ) (rest : List ℕ) → (length rest == 0) ≡ true → pieces_of delimiter rest ≡ []
+no_piece delimiter [] none = refl
+no_piece delimiter (b ∷ bs) none = absurd (let no : length (b ∷ bs) ≡ 0 = eqb-true _ _ none in omega arith)
+
+-- a piece is not empty, and no longer with what follows it than what it is cut from
+pub record IsPiece (rest piece after : List ℕ) : Type 0 where
+  pub some : 0 < length piece
+  pub shorter : length piece + length after ≤ length rest
+
+-- the piece before a delimiter
+pub piece_found : (delimiter : ℕ) (rest : List ℕ) (end : ℕ) → position (λ b. b == delimiter) rest ≡ Some end → 0 < end
+    → IsPiece rest (take end rest) (take (length rest - (end + 1)) (drop (end + 1) rest))
+piece_found delimiter rest end found some =
+    let within : end < length rest = (position-Some (λ b. b == delimiter) rest end 0 found).0 in
+    record {
+      some = omega (arith, length-take-le end rest (omega arith));
+      shorter = omega (
+        arith,
+        length-take-le end rest (omega arith),
+        ap (λ (xs : List ℕ). length xs) (take_rest rest (end + 1)),
+        length-drop (end + 1) rest,
+      );
+    }
+
+-- the last piece
+pub piece_last : (rest : List ℕ) → (length rest == 0) ≡ false → IsPiece rest rest (take (length rest - length rest) (drop (length rest) rest))
+piece_last [] some = absurd (let wrong : true ≡ false = some in cc)
+piece_last (b ∷ bs) some = record {
+  some = omega arith;
+  shorter = rw (take_rest (b ∷ bs) (length (b ∷ bs)), drop_all (length (b ∷ bs)) (b ∷ bs) (omega arith)) (omega arith);
+}
+
 -- a blank at the end is dropped
 trim_blank : (line : List ℕ) → without_blanks (line ++ 32 ∷ []) ≡ without_blanks line
 trim_blank [] = refl
@@ -79,3 +112,14 @@ trim_end line end some within other =
 -- nothing is left of a line of blanks
 pub trim_none : (line : List ℕ) (end : ℕ) → end ≡ 0 → without_blanks (take end line) ≡ take end line
 trim_none line end none = rw none refl
+
+-- a line of blanks has no spelling
+pub no_spelling : (line letter : ℕ) (text trimmed : List ℕ) → trimmed ≡ without_blanks text → (length trimmed == 0) ≡ true → spellings_of_line line letter text ≡ []
+no_spelling line letter text [] is none = rw (← is) refl
+no_spelling line letter text (b ∷ bs) is none = absurd (let no : length (b ∷ bs) ≡ 0 = eqb-true _ _ none in omega arith)
+
+-- the spellings of a line, behind the delimiter that it begins with
+pub spellings_of_rest : (line letter n : ℕ) (text trimmed : List ℕ) → trimmed ≡ without_blanks text → (length trimmed == 0) ≡ false → letter ≡ n
+    → spellings_behind line (letter + 1) (get_or trimmed 0 0) (take (length trimmed - 1) (drop 1 trimmed)) ≡ spellings_of_line line (n + 1) text
+spellings_of_rest line letter n text [] is some same = absurd (let wrong : true ≡ false = some in cc)
+spellings_of_rest line letter n text (b ∷ bs) is some same = rw (← is, take_rest (b ∷ bs) 1, same) refl

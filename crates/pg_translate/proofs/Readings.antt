@@ -76,6 +76,18 @@ pieces_more old mid new marks line letter column delimiter text rest piece after
     later : List ListedSpelling
     later = spellings_at line (column + (length piece + 1)) letter (pieces_of delimiter after)
 
+-- all pieces are read
+pub pieces_done : (old new : Index) (marks : List ℕ) (line letter column delimiter : ℕ) (text rest : List ℕ) → HasPieces old new marks line letter column delimiter text rest
+    → pieces_of delimiter rest ≡ []
+    → (first_failure (spelling_checks_from marks (pairs old) (spellings_at line 2 letter (pieces_of delimiter text))) ≡ Ok tt)
+    × (pairs new ≡ pairs old ++ map spelling_with_sign (spellings_at line 2 letter (pieces_of delimiter text)))
+pieces_done old new marks line letter column delimiter text rest all none = (
+  sym all.answer ∙ ap (λ (ps : List (List ℕ)). first_failure (spelling_checks_from marks (pairs new) (spellings_at line column letter ps))) none,
+  sym (append-nil (pairs new))
+      ∙ ap (λ (ps : List (List ℕ)). pairs new ++ map spelling_with_sign (spellings_at line column letter ps)) (sym none)
+      ∙ all.spellings,
+)
+
 -- a piece that fails fails the line
 pub pieces_fail : (old mid : Index) (marks : List ℕ) (line letter column delimiter : ℕ) (text rest piece after : List ℕ) (e : ReadingError)
     → HasPieces old mid marks line letter column delimiter text rest → pieces_of delimiter rest ≡ piece ∷ pieces_of delimiter after

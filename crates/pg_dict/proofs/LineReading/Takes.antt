@@ -1,5 +1,6 @@
 -- One item more of a line: before its first letter, and behind it.
 use Rattle.std.proofs.Common.{◌≡◌, ℕ, ◌-◌, ◌<◌, ◌≤◌, suc, zero, List, [], ◌∷◌, length, Result, refl, ◌∙◌, ap, arith, append_assoc}
+use Rattle.std.proofs.lemmas.List.{length-drop}
 use Rattle.pg_types.specs.declared.limits.TheConstants.{WORD_LETTERS_MAX}
 use Rattle.pg_types.specs.declared.marks.Mark.{Mark}
 use Rattle.pg_types.specs.declared.marks.Mark.TheVariants.{Nothing}
@@ -43,6 +44,10 @@ takes_letter t weight line size mark number (suc room) done now sign rest after 
     rw (is, less) (takes_item t weight line size mark Nothing number weight (suc room) room done (with_signs done (positioned_sign mark number sign ∷ []))
     (Letter sign) rest after takes within (λ column c. ap (unless (refusal_with_room Dictionary line room c))
     (add_spots-add done (positioned_sign mark number sign) (signs_behind weight Nothing weight (tokens_of c)))))
+
+-- what follows an item is shorter
+pub shorter_behind : (t : Alphabet) (rest : List ℕ) (item : Token) (after : List ℕ) → HasItem t Dictionary rest item after → length after < length rest
+shorter_behind t rest item after takes = omega (arith, ap (λ (xs : List ℕ). length xs) takes.behind, length-drop takes.size rest, takes.some, takes.within)
 
 -- an item before the first letter: the line still gives the whole
 pub seeks_item : (t : Alphabet) (line size weight next : ℕ) (item : Token) (rest after : List ℕ) (whole : Result LineWord Refusal) → rest_reading t line size weight rest

@@ -22,7 +22,7 @@ ghost use Rattle.pg_driver.specs.Inside.choices.Fates.{chooses};
 ghost use Rattle.pg_driver.specs.Inside.counting.WordLevels.{TookChosen, chosen_weights, with_chosen};
 
 use crate::counting::marks::counts_as;
-use crate::counting::open_passes::is_good;
+use crate::counting::open_passes::{fate_of, is_good};
 use crate::pass_windows::WordPosition;
 use pg_dict::{Dictionary, WordRef};
 use pg_select::marks::{mark_at, positions};
@@ -104,7 +104,7 @@ pub fn list_above(
 fn is_chosen_by(fates: &[Choice], number: u32) -> bool
     ensures { result ≡ option_map_or chooses (slice_get fates.now number) false }
 {
-    matches!(fates.get(number as usize), Some(Choice::Chosen))
+    matches!(fate_of(fates, number), Some(Choice::Chosen))
 }
 
 /// The sums with the weight of a listed position more, where its window of a pass was chosen.

@@ -106,7 +106,7 @@ pub fn count_open<E: Engine>(
 }
 
 /// What became of the window with this number; `None` for `NO_NUMBER`.
-fn fate_of(fates: &[Choice], number: u32) -> Option<Choice>
+pub fn fate_of(fates: &[Choice], number: u32) -> Option<Choice>
     ensures { result ≡ slice_get fates.now number }
 {
     fates.get(number as usize).copied()

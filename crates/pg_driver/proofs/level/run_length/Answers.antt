@@ -1,4 +1,5 @@
-use Rattle.std.proofs.Common.{◌≡◌, ℕ, ◌+◌, ◌≤◌, inr, List, [], ◌∷◌, ◌++◌, refl, ap, subst, ◌∙◌, arith}
+use Rattle.std.proofs.Common.{◌≡◌, ℕ, ◌+◌, ◌≤◌, inr, List, [], ◌∷◌, ◌++◌, refl, ap, subst, ◌∙◌, arith, sym}
+use Rattle.pg_dict.specs.Inside.SoundWords.{SignsAtMost}
 use Rattle.pg_select.specs.declared.pass.Pass.{Pass}
 use Rattle.pg_driver.specs.Inside.level.Levels.{GoesOn, all_made_by, point}
 use Rattle.pg_driver.specs.Inside.records.RunAccounts.{known_of}
@@ -77,3 +78,39 @@ pub returns-clause-counted : goal.returns-clause-counted
 returns-clause-counted g c =
     let some : 1 ≤ c.dots.k = omega arith in
     c.dots.invariant.counted some
+
+pub run_or_skip-requires-clause-level : goal.run_or_skip-requires-clause-level
+run_or_skip-requires-clause-level g c = c.requires.level
+
+pub run_or_skip-requires-clause-begun : goal.run_or_skip-requires-clause-begun
+run_or_skip-requires-clause-begun g c = omega (arith, c.dots.invariant.begun, c.dots.invariant.passes, c.dots.invariant.few, c.requires.begun, c.requires.len)
+
+pub run_or_skip-requires-clause-few : goal.run_or_skip-requires-clause-few
+run_or_skip-requires-clause-few g c = omega (arith, c.dots.invariant.passes, c.dots.invariant.few, c.requires.few, c.requires.len)
+
+pub run_or_skip-requires-clause-chosen : goal.run_or_skip-requires-clause-chosen
+run_or_skip-requires-clause-chosen g c = omega (arith, c.dots.invariant.chosen, c.dots.invariant.few, c.requires.chosen, c.requires.len)
+
+pub run_or_skip-requires-clause-signs : goal.run_or_skip-requires-clause-signs
+run_or_skip-requires-clause-signs g c = subst (λ (n : ℕ). SignsAtMost n c.args.dictionary.now) (sym c.dots.invariant.signs) c.requires.signs
+
+pub run_or_skip-requires-clause-ready : goal.run_or_skip-requires-clause-ready
+run_or_skip-requires-clause-ready g c = c.dots.invariant.ready
+
+pub returns-in_err-run_or_skip-clause-signs : goal.returns-in_err-run_or_skip-clause-signs
+returns-in_err-run_or_skip-clause-signs g c = c.run_or_skip.ensures.signs ∙ c.dots.invariant.signs
+
+pub returns-clause-begun : goal.returns-clause-begun
+returns-clause-begun g c = c.dots.invariant.begun
+
+pub returns-clause-few : goal.returns-clause-few
+returns-clause-few g c = omega (arith, c.dots.invariant.passes, c.dots.invariant.few, c.requires.len)
+
+pub returns-clause-chosen : goal.returns-clause-chosen
+returns-clause-chosen g c = omega (arith, c.dots.invariant.chosen, c.dots.invariant.few, c.requires.len)
+
+pub returns-clause-ready : goal.returns-clause-ready
+returns-clause-ready g c = c.dots.invariant.ready
+
+pub returns-clause-signs : goal.returns-clause-signs
+returns-clause-signs g c = c.dots.invariant.signs

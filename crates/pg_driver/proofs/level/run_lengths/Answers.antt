@@ -1,4 +1,5 @@
-use Rattle.std.proofs.Common.{◌≡◌, ◌+◌, ◌<◌, inl, inr, [], refl, ap, ◌∙◌, arith}
+use Rattle.std.proofs.Common.{◌≡◌, ◌+◌, ◌<◌, inl, inr, [], refl, ap, ◌∙◌, arith, subst, sym, ℕ}
+use Rattle.pg_dict.specs.Inside.SoundWords.{SignsAtMost}
 use Rattle.pg_driver.specs.Inside.level.Levels.{LevelStart, all_made_by}
 use Rattle.pg_driver.specs.Inside.records.RunAccounts.{known_of}
 use Rattle.pg_driver.specs.Traces.{passes_of, source_of}
@@ -95,3 +96,45 @@ returns-clause-ready g c =
     let some : c.args.params.now.pat_start < c.lengths.len = omega (arith, c.requires.level.start_high) in
     tells_totals (source_of c.args.table.now c.args.dictionary.now) c.args.number c.lengths.len (known_of m) m.patterns c.lengths.counting refl
     (c.lengths.invariant.counted some) c.lengths.invariant.ready
+
+pub run_length-requires-clause-level : goal.run_length-requires-clause-level
+run_length-requires-clause-level g c = c.requires.level
+
+pub run_length-requires-clause-len : goal.run_length-requires-clause-len
+run_length-requires-clause-len g c = (omega (arith, c.requires.level.start_low), omega (arith, c.requires.level.finish_high))
+
+pub run_length-requires-clause-number : goal.run_length-requires-clause-number
+run_length-requires-clause-number g c = c.requires.number
+
+pub run_length-requires-clause-begun : goal.run_length-requires-clause-begun
+run_length-requires-clause-begun g c = omega (arith, c.lengths.invariant.begun, c.lengths.invariant.passes, c.lengths.invariant.few, c.requires.begun)
+
+pub run_length-requires-clause-few : goal.run_length-requires-clause-few
+run_length-requires-clause-few g c = omega (arith, c.lengths.invariant.passes, c.lengths.invariant.few, c.requires.few)
+
+pub run_length-requires-clause-signs : goal.run_length-requires-clause-signs
+run_length-requires-clause-signs g c = subst (λ (n : ℕ). SignsAtMost n c.args.dictionary.now) (sym c.lengths.invariant.signs) c.requires.signs
+
+pub run_length-requires-clause-ready : goal.run_length-requires-clause-ready
+run_length-requires-clause-ready g c = c.lengths.invariant.ready
+
+pub run_length-requires-clause-counts : goal.run_length-requires-clause-counts
+run_length-requires-clause-counts g c = c.lengths.invariant.will
+
+pub returns-in_err-run_length-clause-signs : goal.returns-in_err-run_length-clause-signs
+returns-in_err-run_length-clause-signs g c = c.run_length.ensures.signs ∙ c.lengths.invariant.signs
+
+pub returns-in_err-next_length-clause-signs : goal.returns-in_err-next_length-clause-signs
+returns-in_err-next_length-clause-signs g c = c.run_length.ensures.signs ∙ c.lengths.invariant.signs
+
+pub returns-clause-begun : goal.returns-clause-begun
+returns-clause-begun g c = c.lengths.invariant.begun
+
+pub returns-clause-few : goal.returns-clause-few
+returns-clause-few g c = omega (arith, c.lengths.invariant.passes, c.lengths.invariant.few)
+
+pub returns-clause-signs : goal.returns-clause-signs
+returns-clause-signs g c = c.lengths.invariant.signs
+
+pub overflow_add-end : goal.overflow_add-end
+overflow_add-end g c = omega (arith, c.requires.level.finish_high)

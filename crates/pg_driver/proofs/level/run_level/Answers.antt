@@ -1,4 +1,4 @@
-use Rattle.std.proofs.Common.{sym, ap, subst, ◌∙◌, arith}
+use Rattle.std.proofs.Common.{sym, ap, subst, ◌∙◌, arith, refl}
 use Rattle.pg_select.specs.Inside.engine.Meanings.{Meaning}
 use Rattle.pg_driver.specs.Accounts.{totals_by}
 use Rattle.pg_driver.specs.Inside.records.Sound.{IsSmall, RunRecords}
@@ -41,3 +41,30 @@ returns-clause-chosen g c = ap (λ (r : RunRecords). r.chosen) c.in_ok-end_level
 
 pub returns-clause-signs : goal.returns-clause-signs
 returns-clause-signs g c = ap (λ (x : Meaning). x.signs) c.in_ok-end_level.ensures.ok ∙ c.run_lengths.ensures.signs
+
+pub run_lengths-requires-clause-level : goal.run_lengths-requires-clause-level
+run_lengths-requires-clause-level g c = c.requires.level
+
+pub run_lengths-requires-clause-number : goal.run_lengths-requires-clause-number
+run_lengths-requires-clause-number g c = c.requires.number
+
+pub run_lengths-requires-clause-begun : goal.run_lengths-requires-clause-begun
+run_lengths-requires-clause-begun g c = c.requires.begun
+
+pub run_lengths-requires-clause-few : goal.run_lengths-requires-clause-few
+run_lengths-requires-clause-few g c = c.requires.few
+
+pub run_lengths-requires-clause-chosen : goal.run_lengths-requires-clause-chosen
+run_lengths-requires-clause-chosen g c = c.requires.chosen
+
+pub run_lengths-requires-clause-signs : goal.run_lengths-requires-clause-signs
+run_lengths-requires-clause-signs g c = c.requires.signs
+
+pub run_lengths-requires-clause-ready : goal.run_lengths-requires-clause-ready
+run_lengths-requires-clause-ready g c = c.in_ok-counting.ensures.ready
+
+pub returns-in_err-counting-clause-signs : goal.returns-in_err-counting-clause-signs
+returns-in_err-counting-clause-signs g c = refl
+
+pub returns-in_err-run_lengths-clause-signs : goal.returns-in_err-run_lengths-clause-signs
+returns-in_err-run_lengths-clause-signs g c = c.run_lengths.ensures.signs

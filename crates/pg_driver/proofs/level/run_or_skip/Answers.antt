@@ -76,3 +76,51 @@ returns-clause-signs g c = c.run_pass.ensures.signs
 
 pub returns-clause-begun : goal.returns-clause-begun
 returns-clause-begun g c = omega (arith, c.in_ok-record.ensures.done.begun, ap (λ (r : RunRecords). r.begun) c.in_ok-add_pass.ensures)
+
+pub run_pass-requires-clause-ranges : goal.run_pass-requires-clause-ranges
+run_pass-requires-clause-ranges g c = c.requires.ranges
+
+pub run_pass-requires-clause-level : goal.run_pass-requires-clause-level
+run_pass-requires-clause-level g c = c.requires.level
+
+pub run_pass-requires-clause-begun : goal.run_pass-requires-clause-begun
+run_pass-requires-clause-begun g c = c.requires.begun
+
+pub run_pass-requires-clause-signs : goal.run_pass-requires-clause-signs
+run_pass-requires-clause-signs g c = c.requires.signs
+
+pub run_pass-requires-clause-ready : goal.run_pass-requires-clause-ready
+run_pass-requires-clause-ready g c = c.requires.ready
+
+pub add_pass-requires-clause-sound : goal.add_pass-requires-clause-sound
+add_pass-requires-clause-sound g c = c.in_ok-record.ensures.sound
+
+pub add_pass-requires-clause-room : goal.add_pass-requires-clause-room
+add_pass-requires-clause-room g c = omega (arith, c.in_ok-record.ensures.few, c.requires.chosen)
+
+pub add_pass-requires-clause-few : goal.add_pass-requires-clause-few
+add_pass-requires-clause-few g c = omega (arith, c.requires.few)
+
+pub left_none-requires : goal.left_none-requires
+left_none-requires g c = c.in_ok-record.ensures.sound
+
+pub set-requires : goal.set-requires
+set-requires g c = omega (arith, c.requires.ranges.within, c.requires.ranges.len_high)
+
+pub set-requires-2 : goal.set-requires-2
+set-requires-2 g c = omega (arith, c.requires.ranges.within, c.requires.ranges.len_high)
+
+pub is_skippable-requires : goal.is_skippable-requires
+is_skippable-requires g c = omega (arith, c.requires.ranges.within, c.requires.ranges.len_high)
+
+pub returns-in_err-record-clause-signs : goal.returns-in_err-record-clause-signs
+returns-in_err-record-clause-signs g c = c.run_pass.ensures.signs
+
+pub returns-in_err-record-clause-here : goal.returns-in_err-record-clause-here
+returns-in_err-record-clause-here g c = refl
+
+pub returns-in_err-add_pass-clause-here : goal.returns-in_err-add_pass-clause-here
+returns-in_err-add_pass-clause-here g c = c.set-2.ensures.here
+
+pub returns-in_err-add_pass-clause-signs : goal.returns-in_err-add_pass-clause-signs
+returns-in_err-add_pass-clause-signs g c = c.run_pass.ensures.signs

@@ -122,3 +122,26 @@ choose_all-requires g c =
       fates = subst (λ (fates : List Choice). AreFates c.args.params.now m2.counts m2.windows fates) (sym c.deref.ensures.value) c.in_ok-decide.ensures.fates;
       order = subst (λ (order : List ℕ). AreInOrder m2.windows m2.counts order) (sym c.deref-2.ensures.value) c.in_ok-decide.ensures.order;
     }
+
+pub after_choices-requires-clause-ranges : goal.after_choices-requires-clause-ranges
+after_choices-requires-clause-ranges g c = c.requires.ranges
+
+pub after_choices-requires-clause-few : goal.after_choices-requires-clause-few
+after_choices-requires-clause-few g c = c.in_ok-decide.ensures.few
+
+pub begin_pass-requires : goal.begin_pass-requires
+begin_pass-requires g c = record {
+  level = (c.requires.ranges.level_low, c.requires.ranges.level_high);
+  len = (c.requires.ranges.len_low, c.requires.ranges.len_high);
+  dot = c.requires.ranges.within;
+  begun = c.requires.begun;
+}
+
+pub returns-in_err-before-clause-signs : goal.returns-in_err-before-clause-signs
+returns-in_err-before-clause-signs g c = c.count.ensures.signs ∙ ap (λ (x : Meaning). x.signs) c.begin_pass.ensures
+
+pub returns-in_err-decide-clause-signs : goal.returns-in_err-decide-clause-signs
+returns-in_err-decide-clause-signs g c = c.count.ensures.signs ∙ ap (λ (x : Meaning). x.signs) c.begin_pass.ensures
+
+pub returns-in_err-choices-clause-signs : goal.returns-in_err-choices-clause-signs
+returns-in_err-choices-clause-signs g c = c.choose_all.ensures.signs ∙ c.count.ensures.signs ∙ ap (λ (x : Meaning). x.signs) c.begin_pass.ensures

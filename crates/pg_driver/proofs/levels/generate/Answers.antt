@@ -48,3 +48,33 @@ returns-clause-hopeless g c = ap (λ (s : State). s.known.hopeless) c.in_ok-tota
 
 pub returns-clause-counted : goal.returns-clause-counted
 returns-clause-counted g c = omega (arith, c.in_ok-totals.ensures.begun, ap (λ (r : CompletedRun). r.begun) c.new.ensures)
+
+pub new-requires : goal.new-requires
+new-requires g c = c.in_ok-totals.ensures.small
+
+pub returns-in_err-totals-clause-signs : goal.returns-in_err-totals-clause-signs
+returns-in_err-totals-clause-signs g c = c.run_levels.ensures.signs
+
+pub returns-in_err-patterns-clause-signs : goal.returns-in_err-patterns-clause-signs
+returns-in_err-patterns-clause-signs g c = c.run_levels.ensures.signs
+
+pub returns-clause-tidy : goal.returns-clause-tidy
+returns-clause-tidy g c = c.in_ok-totals.ensures.tidy
+
+pub returns-clause-few : goal.returns-clause-few
+returns-clause-few g c = omega (arith, c.in_ok-totals.ensures.begun, c.in_ok-totals.ensures.few)
+
+pub returns-clause-signs : goal.returns-clause-signs
+returns-clause-signs g c = c.run_levels.ensures.signs
+
+pub run_levels-requires-clause-hopeless : goal.run_levels-requires-clause-hopeless
+run_levels-requires-clause-hopeless g c = c.requires.hopeless
+
+pub run_levels-requires-clause-tidy : goal.run_levels-requires-clause-tidy
+run_levels-requires-clause-tidy g c = c.requires.tidy
+
+pub run_levels-requires-clause-begun : goal.run_levels-requires-clause-begun
+run_levels-requires-clause-begun g c = c.requires.begun
+
+pub run_levels-requires-clause-signs : goal.run_levels-requires-clause-signs
+run_levels-requires-clause-signs g c = c.requires.signs

@@ -1,4 +1,5 @@
-use Rattle.std.proofs.Common.{◌≡◌, ℕ, ◌+◌, ◌-◌, max, List, [], Option, drop, refl, ap, subst, ◌∙◌, arith}
+use Rattle.std.proofs.Common.{◌≡◌, ℕ, ◌+◌, ◌-◌, max, List, [], Option, drop, refl, ap, subst, ◌∙◌, arith, sym}
+use Rattle.pg_dict.specs.Inside.SoundWords.{SignsAtMost}
 use Rattle.std.specs.List.{enumerate_from}
 use Rattle.std.specs.Option.{IfSome}
 use Rattle.pg_types.specs.declared.marks.Totals.{Totals}
@@ -98,3 +99,39 @@ returns-in-Some-clause-signs g c = c.levels.invariant.signs
 
 pub returns-in-Some-clause-few : goal.returns-in-Some-clause-few
 returns-in-Some-clause-few g c = omega (arith, c.levels.invariant.passes, c.count-count.ensures.few, c.start-first.ensures.low)
+
+pub run_level-requires-clause-level : goal.run_level-requires-clause-level
+run_level-requires-clause-level g c = c.level.ensures.ranges
+
+pub run_level-requires-clause-number : goal.run_level-requires-clause-number
+run_level-requires-clause-number g c = (omega (arith, c.start-first.ensures.low), omega (arith, c.count-count.ensures.few, c.start-first.ensures.value))
+
+pub run_level-requires-clause-begun : goal.run_level-requires-clause-begun
+run_level-requires-clause-begun g c = omega (arith, c.levels.invariant.begun, c.levels.invariant.passes, c.requires.begun, c.count-count.ensures.few)
+
+pub run_level-requires-clause-few : goal.run_level-requires-clause-few
+run_level-requires-clause-few g c = omega (arith, c.levels.invariant.passes, c.count-count.ensures.few)
+
+pub run_level-requires-clause-chosen : goal.run_level-requires-clause-chosen
+run_level-requires-clause-chosen g c = c.levels.invariant.chosen
+
+pub run_level-requires-clause-signs : goal.run_level-requires-clause-signs
+run_level-requires-clause-signs g c = subst (λ (n : ℕ). SignsAtMost n c.args.dictionary.now) (sym c.levels.invariant.signs) c.requires.signs
+
+pub totals-requires : goal.totals-requires
+totals-requires g c = subst (λ (n : ℕ). SignsAtMost n c.args.dictionary.now) (sym c.levels.invariant.signs) c.requires.signs
+
+pub level-requires : goal.level-requires
+level-requires g c = omega (arith, c.count-count.ensures.value)
+
+pub overflow_add-number : goal.overflow_add-number
+overflow_add-number g c = omega (arith, c.count-count.ensures.few, c.start-first.ensures.value)
+
+pub overflow_cast-number : goal.overflow_cast-number
+overflow_cast-number g c = omega (arith, c.count-count.ensures.few)
+
+pub returns-in_err-copy_patterns-clause-signs : goal.returns-in_err-copy_patterns-clause-signs
+returns-in_err-copy_patterns-clause-signs g c = refl
+
+pub returns-in_err-after-clause-signs : goal.returns-in_err-after-clause-signs
+returns-in_err-after-clause-signs g c = c.run_level.ensures.signs ∙ c.levels.invariant.signs

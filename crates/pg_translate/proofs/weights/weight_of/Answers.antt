@@ -1,5 +1,5 @@
 use Rattle.std.proofs.Common.{◌≡◌, ℕ, zero, suc, ◌+◌, ◌-◌, ◌*◌, ◌<◌, ◌≤◌, ◌==◌, nat_lt, true, false, ◌⊎◌, inl, inr, None, List, [], ◌∷◌, length, get_or, drop, refl, sym, ap, ◌∙◌, arith, rules, tests}
-use Rattle.std.proofs.lemmas.Bool.{ne_eqb, and_parts, leb-true}
+use Rattle.std.proofs.lemmas.Bool.{ne_eqb, and_parts, leb-true, ltb-true}
 use Rattle.std.proofs.lemmas.List.{drop_more, drop_all}
 use Rattle.std.specs.Char.{is_ascii_digit}
 use Rattle.pg_translate.specs.Tokens.{weight_at}
@@ -93,3 +93,15 @@ digits-init c =
       λ few. omega arith,
       omega arith,
     )
+
+pub returns-then-is_weight-clause-range : goal.returns-then-is_weight-clause-range
+returns-then-is_weight-clause-range c = (ltb-true 0 c.digits.value (sym c.is_weight.ensures ∙ c.if-is_weight.true), omega arith)
+
+pub returns-then-is_weight-clause-within : goal.returns-then-is_weight-clause-within
+returns-then-is_weight-clause-within c = (omega arith, omega arith)
+
+pub returns-else-size-text-clause-range : goal.returns-else-size-text-clause-range
+returns-else-size-text-clause-range c = tt
+
+pub returns-else-size-text-clause-within : goal.returns-else-size-text-clause-within
+returns-else-size-text-clause-within c = tt

@@ -46,3 +46,6 @@ returns-else-is_good-clause-value c = λ params counts ws are decided is.
     (sym c.if-not-is_chosen_by.false ∙ c.is_chosen_by.ensures ∙ chosen_by_number params counts ws c.args.fates.now are decided c.requires.few pass
     c.args.dictionary.now e c.args.number w c.word-w.ensures.lent is)
     (sym c.if-is_good.false ∙ c.is_good.ensures ∙ ap (is_good pass.level w) at) (c.from-weight.ensures ∙ ap (position_weight w) at) (omega arith) refl
+
+pub returns-then-not-is_chosen_by-clause-took : goal.returns-then-not-is_chosen_by-clause-took
+returns-then-not-is_chosen_by-clause-took c = omega arith

@@ -1,3 +1,5 @@
+use Rattle.pg_select.specs.Inside.engine.Meanings.{Meaning}
+use Rattle.pg_dict.specs.Inside.SoundWords.{SignsAtMost}
 use Rattle.std.proofs.Common.{◌≡◌, ℕ, ◌+◌, ◌<◌, ◌≤◌, [], ◌∷◌, ◌++◌, List, Bool, false, None, Some, length, map, refl, sym, ap, subst, ◌∙◌, arith}
 use Rattle.std.specs.List.{flat_map}
 use Rattle.std.proofs.lemmas.List.{map-append}
@@ -112,3 +114,27 @@ returns-clause-numbers g c =
     let past : total ≤ c.signs.next = omega (arith, c.signs-test.false) in
     subst (λ (xs : List ℕ). HaveNumbers pass (counts_at pass) words m.windows (map (position_from 0 words) xs) c.signs.numbers.items)
     (sym (upto_skip closed total c.signs.next past c.signs.invariant.beyond) ∙ upto_all closed total) c.signs.invariant.numbered
+
+pub count_sign-requires-clause-ranges : goal.count_sign-requires-clause-ranges
+count_sign-requires-clause-ranges g c = c.requires.ranges
+
+pub count_sign-requires-clause-pass : goal.count_sign-requires-clause-pass
+count_sign-requires-clause-pass g c = ap (λ (m : Meaning). m.pass) c.signs.invariant.kept ∙ c.requires.pass
+
+pub count_sign-requires-clause-signs : goal.count_sign-requires-clause-signs
+count_sign-requires-clause-signs g c = subst (λ (n : ℕ). SignsAtMost n c.args.dictionary.now) (sym (ap (λ (m : Meaning). m.signs) c.signs.invariant.kept)) c.requires.signs
+
+pub count_sign-requires-clause-words : goal.count_sign-requires-clause-words
+count_sign-requires-clause-words g c = c.requires.words
+
+pub count_sign-requires-clause-letters : goal.count_sign-requires-clause-letters
+count_sign-requires-clause-letters g c = c.requires.letters
+
+pub returns-in_err-number-clause-signs : goal.returns-in_err-number-clause-signs
+returns-in_err-number-clause-signs g c = c.count_sign.ensures.signs ∙ ap (λ (m : Meaning). m.signs) c.signs.invariant.kept
+
+pub returns-in_err-push-clause-signs : goal.returns-in_err-push-clause-signs
+returns-in_err-push-clause-signs g c = c.count_sign.ensures.signs ∙ ap (λ (m : Meaning). m.signs) c.signs.invariant.kept
+
+pub returns-clause-signs : goal.returns-clause-signs
+returns-clause-signs g c = ap (λ (m : Meaning). m.signs) c.signs.invariant.kept

@@ -31,3 +31,36 @@ returns-else-is_above-clause-numbers g c = λ words entries at have.
     number_noted pass m.patterns m.hopeless words m n (counted_positions_at m.pass m.patterns m.hopeless w c.args.p) entries ns ns w c.args.word c.args.p
     c.in_ok-number.number c.in_ok-number.ensures.ok at c.in_ok-number.ensures.number
     (ap (λ (b : Bool). cond b (ns ++ c.in_ok-number.number ∷ []) ns) (sym above)) have
+
+pub count_at-requires-clause-ranges : goal.count_at-requires-clause-ranges
+count_at-requires-clause-ranges g c = c.requires.ranges
+
+pub count_at-requires-clause-pass : goal.count_at-requires-clause-pass
+count_at-requires-clause-pass g c = c.requires.pass
+
+pub count_at-requires-clause-read : goal.count_at-requires-clause-read
+count_at-requires-clause-read g c = c.requires.read
+
+pub count_at-requires-clause-within : goal.count_at-requires-clause-within
+count_at-requires-clause-within g c = c.requires.within
+
+pub count_at-requires-clause-room : goal.count_at-requires-clause-room
+count_at-requires-clause-room g c = c.requires.room
+
+pub returns-in_err-number-clause-signs : goal.returns-in_err-number-clause-signs
+returns-in_err-number-clause-signs g c = c.count_at.ensures.signs
+
+pub returns-in_err-push-clause-signs : goal.returns-in_err-push-clause-signs
+returns-in_err-push-clause-signs g c = c.count_at.ensures.signs
+
+pub returns-in_ok-push-clause-ok : goal.returns-in_ok-push-clause-ok
+returns-in_ok-push-clause-ok g c = c.in_ok-number.ensures.ok
+
+pub returns-in_ok-push-clause-signs : goal.returns-in_ok-push-clause-signs
+returns-in_ok-push-clause-signs g c = c.count_at.ensures.signs
+
+pub returns-else-is_above-clause-ok : goal.returns-else-is_above-clause-ok
+returns-else-is_above-clause-ok g c = c.in_ok-number.ensures.ok
+
+pub returns-else-is_above-clause-signs : goal.returns-else-is_above-clause-signs
+returns-else-is_above-clause-signs g c = c.count_at.ensures.signs

@@ -157,3 +157,24 @@ returns-else-lists-clause-took g c =
 
 pub returns-else-lists-clause-signs : goal.returns-else-lists-clause-signs
 returns-else-lists-clause-signs g c = ap (λ (m : Meaning). m.signs) c.positions.invariant.kept
+
+pub count_position-requires-clause-ranges : goal.count_position-requires-clause-ranges
+count_position-requires-clause-ranges g c = c.requires.ranges
+
+pub list_above-requires : goal.list_above-requires
+list_above-requires g c = c.requires.word
+
+pub returns-in_err-count_position-clause-signs : goal.returns-in_err-count_position-clause-signs
+returns-in_err-count_position-clause-signs g c = c.count_position.ensures.signs ∙ ap (λ (m : Meaning). m.signs) c.positions.invariant.kept
+
+pub returns-in_err-list_above-clause-signs : goal.returns-in_err-list_above-clause-signs
+returns-in_err-list_above-clause-signs g c = ap (λ (m : Meaning). m.signs) c.positions.invariant.kept
+
+pub returns-in_default-clause-signs : goal.returns-in_default-clause-signs
+returns-in_default-clause-signs g c = refl
+
+pub returns-in_default-clause-took_for : goal.returns-in_default-clause-took_for
+returns-in_default-clause-took_for g c = omega arith
+
+pub count_position-requires-clause-within : goal.count_position-requires-clause-within
+count_position-requires-clause-within g c = omega (arith, c.positions-test.true, c.in-Some.ensures.within)

@@ -1,5 +1,6 @@
 use Rattle.std.proofs.Common.{◌≡◌, ◌+◌, ◌++◌, ℕ, None, Some, List, [], drop, length, refl, ap, subst, sym, ◌∙◌, arith, rules}
 use Rattle.std.specs.List.{flat_map, sum_by}
+use Rattle.std.proofs.lemmas.List.{append-nil, drop_all}
 use Rattle.pg_dict.specs.Inside.Lent.{lent_word}
 use Rattle.pg_dict.specs.Word.{Word}
 use Rattle.pg_dict.specs.Inside.SoundWords.{letter_count}
@@ -11,7 +12,7 @@ use Rattle.pg_select.specs.Sums.{marks_in}
 use Rattle.pg_select.specs.Inside.SumSteps.{with_marks}
 use Rattle.pg_driver.specs.Inside.counting.Counting.{HasRoom, meaning_after_counting}
 use Rattle.pg_select.proofs.MarkSteps.{marks_word}
-use Rattle.pg_driver.specs.Inside.counting.OpenLevels.{listed_in}
+use Rattle.pg_driver.specs.Inside.counting.OpenLevels.{listed_from, listed_in}
 use Rattle.pg_select.specs.Inside.laws.Above.{counts_above}
 use Rattle.pg_driver.specs.declared.pass_windows.WordPosition.{WordPosition}
 use Rattle.pg_driver.specs.Inside.level.PassWindows.{HaveNumbers, uncovered_at}
@@ -103,3 +104,49 @@ words-preserved g c =
           (c.words.invariant.listed ++ listed_in minima (counts_above pass.level x.patterns) c.words.i w) c.count_word.new.numbers.items) kept
           (c.in_ok-count_word.ensures.numbers c.args.dictionary.now c.words.invariant.listed c.word-w.ensures.lent now);
     }
+
+pub word-w-requires : goal.word-w-requires
+word-w-requires g c = omega (arith, c.words-test.true)
+
+pub count_word-requires-clause-word : goal.count_word-requires-clause-word
+count_word-requires-clause-word g c = c.word-w.ensures.word
+
+pub returns-in_err-count_word-clause-signs : goal.returns-in_err-count_word-clause-signs
+returns-in_err-count_word-clause-signs g c = c.count_word.ensures.signs ∙ ap (λ (m : Meaning). m.signs) c.words.invariant.kept
+
+pub returns-clause-signs : goal.returns-clause-signs
+returns-clause-signs g c = ap (λ (m : Meaning). m.signs) c.words.invariant.kept
+
+pub returns-clause-ok : goal.returns-clause-ok
+returns-clause-ok g c =
+    let m0 = g.E.Engine.meaning c.args.engine.now in
+    let m = g.E.Engine.meaning c.words.engine in
+    let none : drop c.words.i c.args.dictionary.now ≡ [] = drop_all c.words.i c.args.dictionary.now (omega (arith, c.words-test.false, c.len-i-end.ensures.len)) in
+    ap (λ (ws : List Word). meaning_after_counting m (counted_positions (minima_of c.args.table.now) ws m0.pass m0.patterns m0.hopeless)) (sym none) ∙ c.words.invariant.whole
+
+pub returns-clause-above : goal.returns-clause-above
+returns-clause-above g c =
+    let P = (g.E.Engine.meaning c.args.engine.now).patterns in
+    let none : drop c.words.i c.args.dictionary.now ≡ [] = drop_all c.words.i c.args.dictionary.now (omega (arith, c.words-test.false, c.len-i-end.ensures.len)) in
+    sym (append-nil c.words.above.items)
+    ∙ ap (λ (ws : List Word). c.words.above.items ++ listed_from (minima_of c.args.table.now) (listing c.args.lists c.args.pass.level P) c.words.i ws) (sym none)
+    ∙ c.words.invariant.above
+
+pub returns-clause-numbers : goal.returns-clause-numbers
+returns-clause-numbers g c =
+    let m0 = g.E.Engine.meaning c.args.engine.now in
+    let m = g.E.Engine.meaning c.words.engine in
+    let words = c.args.dictionary.now in
+    let listed : List WordPosition = c.words.invariant.listed in
+    let none : drop c.words.i words ≡ [] = drop_all c.words.i words (omega (arith, c.words-test.false, c.len-i-end.ensures.len)) in
+    let all : listed ≡ listed_from (minima_of c.args.table.now) (counts_above c.args.pass.level m0.patterns) 0 words =
+    sym (append-nil listed)
+    ∙ ap (λ (ws : List Word). listed ++ listed_from (minima_of c.args.table.now) (counts_above c.args.pass.level m0.patterns) c.words.i ws) (sym none)
+    ∙ c.words.invariant.upto in
+    subst (λ (es : List WordPosition). HaveNumbers c.args.pass (uncovered_at c.args.pass m0.patterns m0.hopeless) words m.windows es c.words.numbers.items) all c.words.invariant.numbers
+
+pub returns-clause-room : goal.returns-clause-room
+returns-clause-room g c =
+    let m = g.E.Engine.meaning c.words.engine in
+    let none : drop c.words.i c.args.dictionary.now ≡ [] = drop_all c.words.i c.args.dictionary.now (omega (arith, c.words-test.false, c.len-i-end.ensures.len)) in
+    subst (λ (ws : List Word). HasRoom m.counts (sum_by letter_count ws)) none c.words.invariant.room

@@ -63,3 +63,9 @@ returns-clause-counted c =
     let more = ap (λ (ws : List StoredWord). length ws) (stored c)
     ∙ length_push c.fill.new.store.words.items (record { start = c.len-start.result; end = c.len-end.result; weight = c.args.self.now.weight }) in
     omega (arith, c.in_ok-fill.ensures.counted.1)
+
+pub plain-requires : goal.plain-requires
+plain-requires c = c.args.self.now.small
+
+pub fill-requires-clause-within : goal.fill-requires-clause-within
+fill-requires-clause-within c = c.requires.within

@@ -1,7 +1,7 @@
 use Rattle.std.proofs.Common.{refl, arith}
 use Rattle.pg_translate.proofs.ItemKinds.{no_edge}
 use Rattle.pg_dict.proofs.LineReading.Running.{line_runs}
-use Rattle.pg_dict.proofs.LineReading.Takes.{seeks_item, seeks_letter}
+use Rattle.pg_dict.proofs.LineReading.Takes.{seeks_item, seeks_letter, shorter_behind}
 use Rattle.pg_dict.proofs.entries.line.Line.seek.Goals as goal
 
 pub returns-in-Letter : goal.returns-in-Letter
@@ -29,3 +29,15 @@ items-init c = record {
 
 pub unreachable-requires : goal.unreachable-requires
 unreachable-requires c = no_edge _ _ _ c.in-Edge.ensures.item
+
+pub items-smaller-in-Digit : goal.items-smaller-in-Digit
+items-smaller-in-Digit c = shorter_behind _ _ _ _ c.in-Digit.ensures.item
+
+pub items-smaller-in-Weight : goal.items-smaller-in-Weight
+items-smaller-in-Weight c = shorter_behind _ _ _ _ c.in-Weight.ensures.item
+
+pub items-smaller : goal.items-smaller
+items-smaller c = shorter_behind _ _ _ _ c.in-Mark.ensures.item
+
+pub refuse-requires : goal.refuse-requires
+refuse-requires c = c.items.invariant.within
