@@ -149,7 +149,9 @@ fn lines_by<E: Engine>(
     ensures { IfOk result (λ lines. lines.items ≡ selection_lines inputs.now) }
 {
     let run = select(alloc, engine, inputs)?;
-    lines_after(alloc, inputs, &run)
+    let lines = lines_after(alloc, inputs, &run);
+    drop(run);
+    lines
 }
 
 /// The printed lines.
@@ -163,7 +165,9 @@ fn sample_lines<W: Watch>(
     ensures { IfOk result (λ lines. lines.items ≡ lines_of seed count) }
 {
     let inputs = make_inputs(alloc, seed, count)?;
-    run_lines(alloc, &inputs, watch)
+    let lines = run_lines(alloc, &inputs, watch);
+    drop(inputs);
+    lines
 }
 
 /// Does the selection and prints what it tells. It reads and writes no file, and refuses nothing.

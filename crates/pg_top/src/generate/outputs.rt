@@ -141,5 +141,7 @@ fn run_files<'a, E: Engine>(
     ensures lines { IfOk result (λ made. made.lines.items ≡ selected_lines inputs.now) }
 {
     let run = select(alloc, engine, inputs)?;
-    make_files(alloc, names, inputs, engine, &run)
+    let outputs = make_files(alloc, names, inputs, engine, &run);
+    drop(run);
+    outputs
 }

@@ -142,5 +142,7 @@ pub fn make_prune<'a, W: Watch>(
         &inputs.patterns,
         &RoundTeller { watch },
     )?;
-    write_pruned(alloc, names, &inputs.table, &pruned)
+    let outputs = write_pruned(alloc, names, &inputs.table, &pruned);
+    drop(pruned);
+    outputs
 }
