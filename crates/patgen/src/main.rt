@@ -1,10 +1,10 @@
 //! `patgen`: makes TeX hyphenation patterns from a word list whose hyphens are marked.
 #![tactic(auto)]
 
-use pg_main::run_words;
+use pg_main::run_arguments;
 use std::process::ExitCode;
 
-/// Runs the command that its arguments name. `run_words` says what the status means.
+/// Runs the command that its arguments name. `run_arguments` says what the status means.
 fn main(rt: HostRuntime) -> ExitCode {
-    run_words(&rt, rt.stdout(), rt.stderr())
+    run_arguments(&rt, rt.stdout(), rt.stderr())
 }

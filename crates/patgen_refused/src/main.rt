@@ -2,10 +2,10 @@
 //! is refused. The line and the status of the run are looked at.
 #![tactic(auto)]
 
-use pg_main::run_words;
+use pg_main::run_arguments;
 use std::process::ExitCode;
 
 /// Runs the command that its arguments name, as `patgen` does.
 fn main(rt: HostRuntime) -> ExitCode {
-    run_words(&rt, rt.stdout(), rt.stderr())
+    run_arguments(&rt, rt.stdout(), rt.stderr())
 }

@@ -1,6 +1,6 @@
 //! The cells by their strings.
 ghost use Rattle.std.specs.Prelude.{◌≡◌, ◌≤◌, ℕ, List, Some};
-ghost use Rattle.pg_types.specs.Placement.{cell_of};
+ghost use Rattle.pg_types.specs.Inside.Placing.{cell_of};
 
 use pg_cells::{Cells, step};
 use pg_types::Sign;

@@ -9,7 +9,7 @@ use Rattle.pg_cells.specs.Inside.store.Lists.{Row, sign_at, base_at, IsFree}
 use Rattle.pg_cells.specs.Inside.store.BlockedBases.{AreBlocked}
 use Rattle.pg_cells.specs.Inside.store.Fit.{fits_row, signs_of, slot_of}
 use Rattle.pg_cells.specs.Inside.store.Store.{Extends, IsTop}
-use Rattle.pg_cells.specs.Inside.store.Writes.{Takes, SetsChild, SetsValue, SetsBase}
+use Rattle.pg_cells.specs.Inside.store.Writes.{Takes, SetsChild, SetsRowValue, SetsBase}
 use Rattle.pg_cells.specs.Inside.families.Moves.{CanPlace, GivesUp, Drops, Puts}
 use Rattle.pg_cells.proofs.FitSteps.{taken_misfit}
 use Rattle.pg_cells.proofs.LinkedLists.{free_within}
@@ -45,7 +45,7 @@ module _ {V : Type 0} (old new : Row V) (placed from : ℕ) (are : AreBlocked ol
     | inr n ↦ sets.elsewhere.signs i n
   ]) (λ b e. sets.elsewhere.bases b ∙ e)
 
-  pub blocked_value : (cell : ℕ) (v : V) → SetsValue old new cell v → AreBlocked new placed from
+  pub blocked_value : (cell : ℕ) (v : V) → SetsRowValue old new cell v → AreBlocked new placed from
   blocked_value cell v sets = blocked_kept (λ i up. elim (cases_eq i cell) [
     | inl e ↦ ap (sign_at new) e ∙ sets.sign_is ∙ ap (sign_at old) (sym e)
     | inr n ↦ sets.elsewhere.signs i n

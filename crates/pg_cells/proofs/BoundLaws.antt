@@ -8,7 +8,7 @@ use Rattle.pg_cells.specs.Inside.store.Lists.{Row, sign_at, base_at}
 use Rattle.pg_cells.specs.Inside.store.Bounds.{IsBelow, NoneFree, AreBounds}
 use Rattle.pg_cells.specs.Inside.store.Fit.{fits_row}
 use Rattle.pg_cells.specs.Inside.store.Store.{Extends}
-use Rattle.pg_cells.specs.Inside.store.Writes.{Takes, Frees, SetsChild, SetsValue, SetsBase}
+use Rattle.pg_cells.specs.Inside.store.Writes.{Takes, Frees, SetsChild, SetsRowValue, SetsBase}
 use Rattle.pg_cells.proofs.FitSteps.{taken_misfit}
 
 module _ {V : Type 0} (old new : Row V) (lows : List ℕ) (freed dropped : ℕ) (are : AreBounds old lows freed dropped) where
@@ -28,7 +28,7 @@ module _ {V : Type 0} (old new : Row V) (lows : List ℕ) (freed dropped : ℕ) 
     | inr n ↦ up (sym (sets.elsewhere.signs i n) ∙ z)
   ]) (λ b e. sym (sets.elsewhere.bases b) ∙ e)
 
-  pub bounds_value : (cell : ℕ) (v : V) → SetsValue old new cell v → AreBounds new lows freed dropped
+  pub bounds_value : (cell : ℕ) (v : V) → SetsRowValue old new cell v → AreBounds new lows freed dropped
   bounds_value cell v sets = bounds_kept (λ i up z. elim (cases_eq i cell) [
     | inl e ↦ up (ap (sign_at old) e ∙ sym sets.sign_is ∙ ap (sign_at new) (sym e) ∙ z)
     | inr n ↦ up (sym (sets.elsewhere.signs i n) ∙ z)

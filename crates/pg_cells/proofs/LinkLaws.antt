@@ -4,7 +4,8 @@ use Rattle.std.proofs.lemmas.Bool.{cases_eq, cases_lt, ne_eqb, both_ways, falseâ
 use Rattle.std.proofs.lemmas.List.{append-nil, same_from_push, length_push, get_or_append_left, get_or_push}
 use Rattle.std.specs.Option.{is_some}
 use Rattle.std.specs.FinMap.{find}
-use Rattle.pg_types.specs.Placement.{Families, cell_of, base_of}
+use Rattle.pg_types.specs.Placement.{Families, base_of}
+use Rattle.pg_types.specs.Inside.Placing.{cell_of}
 use Rattle.pg_cells.specs.Inside.linked.ValuedFamilies.{ValuedFamilies}
 use Rattle.pg_cells.specs.Inside.linked.AreValuedFamilies.{AreValuedFamilies}
 use Rattle.pg_cells.specs.Inside.linked.Members.{IsNext, goes_on, has_sign, number_before}

@@ -1,9 +1,9 @@
 -- What adding a sign and removing one give, where the signs are linked.
 use Rattle.std.proofs.Common.{◌≡◌, ℕ, ◌≤◌, ◌⊎◌, true, List, [], ◌∷◌, ◌++◌, Ok, Some, sym, ◌∙◌, ap}
 use Rattle.std.specs.FinMap.{put}
-use Rattle.pg_types.specs.Placement.{cell_of, with_sign}
+use Rattle.pg_types.specs.Placement.{with_sign}
+use Rattle.pg_types.specs.Inside.Placing.{cell_of, without_sign}
 use Rattle.pg_cells.specs.Inside.families.Searches.{search_start}
-use Rattle.pg_types.specs.Inside.Placing.{without_sign}
 use Rattle.pg_cells.specs.declared.store.member.Member.{Member}
 use Rattle.pg_cells.specs.Inside.families.Adding.{CanTakeSign, AddsSign}
 use Rattle.pg_cells.specs.Inside.linked.AreValuedFamilies.{AreValuedFamilies}

@@ -2,9 +2,9 @@
 -- holds.
 use Rattle.std.proofs.Common.{◌≡◌, ℕ, List, [], ◌∷◌, ◌++◌, length, Result, Ok, Err, IfOk, OnOk, Some, refl, sym, ◌∙◌, ap, subst}
 use Rattle.std.specs.FinMap.{put}
-use Rattle.pg_types.specs.Placement.{cell_of, with_sign}
+use Rattle.pg_types.specs.Placement.{with_sign}
+use Rattle.pg_types.specs.Inside.Placing.{cell_of, without_sign}
 use Rattle.pg_cells.specs.Inside.families.Searches.{search_start}
-use Rattle.pg_types.specs.Inside.Placing.{without_sign}
 use Rattle.pg_cells.specs.Inside.families.Adding.{CanTakeSign, AddsSign, with_sign_below}
 use Rattle.pg_cells.specs.Inside.linked.CellValues.{SetsValue}
 use Rattle.pg_cells.specs.Inside.families.Layouts.{IsTrie}

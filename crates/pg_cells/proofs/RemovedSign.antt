@@ -2,7 +2,8 @@
 use Rattle.std.proofs.Common.{◌≡◌, ◌≢◌, ℕ, ◌+◌, ◌<◌, inl, inr, true, cond, nat_eq, List, [], ◌∷◌, ◌++◌, None, Some, slice_get, sym, ◌∙◌, ap, arith}
 use Rattle.std.specs.List.{list_any}
 use Rattle.std.specs.FinMap.{put}
-use Rattle.pg_types.specs.Placement.{Family, Families, family_at, cell_of}
+use Rattle.pg_types.specs.Placement.{Family, Families, family_at}
+use Rattle.pg_types.specs.Inside.Placing.{cell_of}
 use Rattle.pg_cells.specs.Inside.store.Lists.{Row, sign_at, child_at, base_at}
 use Rattle.pg_cells.specs.Inside.store.Writes.{Frees}
 use Rattle.pg_cells.specs.Inside.linked.ValuedFamilies.{Trie}

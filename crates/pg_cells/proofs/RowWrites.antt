@@ -6,7 +6,7 @@ use Rattle.pg_cells.specs.declared.store.cell.TheConstants.{CELLS_END}
 use Rattle.pg_cells.specs.declared.store.member.Member.{Member}
 use Rattle.pg_cells.specs.Inside.store.Lists.{sign_seen, base_seen, link_seen, row_of, unlink_at, child_seen, member_seen, sign_at, child_at, IsFree, with_taken, with_free, with_child, with_value, with_base}
 use Rattle.pg_cells.specs.Inside.store.Store.{IsRow}
-use Rattle.pg_cells.specs.Inside.store.Writes.{Takes, Frees, SetsChild, SetsValue, SetsBase}
+use Rattle.pg_cells.specs.Inside.store.Writes.{Takes, Frees, SetsChild, SetsRowValue, SetsBase}
 use Rattle.pg_cells.proofs.LinkedLists.{free_within, taken_within}
 use Rattle.pg_cells.proofs.StoreSteps.{how_many_set}
 
@@ -107,7 +107,7 @@ module _ {V : Type 0} (cells : List (Cell V)) (i : ℕ) where
         count = refl;
       }
 
-  pub row_value : (value : Member V) → sign_at (row_of cells) i ≢ 0 → SetsValue (row_of cells) (with_value (row_of cells) i value) i value
+  pub row_value : (value : Member V) → sign_at (row_of cells) i ≢ 0 → SetsRowValue (row_of cells) (with_value (row_of cells) i value) i value
   row_value value up =
       let lt : i < length (row_of cells).signs = taken_within (row_of cells) i up in
       record {

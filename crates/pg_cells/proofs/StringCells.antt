@@ -5,10 +5,11 @@ use Rattle.std.proofs.lemmas.List.{get_or_past}
 use Rattle.std.specs.List.{list_any, range_with_len}
 use Rattle.std.specs.Option.{option_map}
 use Rattle.std.specs.FinMap.{find, put}
-use Rattle.pg_types.specs.Placement.{Family, Families, family_at, cell_in, cell_of, base_of, top}
+use Rattle.pg_types.specs.Placement.{Family, Families, family_at, cell_in, base_of, top}
+use Rattle.pg_types.specs.Inside.Placing.{cell_of}
 use Rattle.pg_types.proofs.LeastBase.{used_le_top}
 use Rattle.pg_cells.specs.Inside.store.Lists.{Row, sign_at, child_at, base_at}
-use Rattle.pg_cells.specs.Inside.store.Writes.{SetsValue}
+use Rattle.pg_cells.specs.Inside.store.Writes.{SetsRowValue}
 use Rattle.pg_cells.specs.Inside.linked.ValuedFamilies.{Trie}
 use Rattle.pg_cells.specs.Inside.families.Layouts.{IsTrie, value_in}
 use Rattle.pg_cells.specs.Inside.families.OneTrie.{last_of}
@@ -156,7 +157,7 @@ module _ {V : Type 0} (n : ℕ) (r : Row V) (t : Trie V) (trie : IsTrie n r t) w
       a.whole ∙ (λ i. fronts i ++ last i ∷ []) ∙ sym b.whole
 
   -- a value is written
-  pub value_written : (q : List ℕ) (cell : ℕ) (v : V) (r' : Row V) → cell_of t.families q ≡ Some cell → SetsValue r r' cell v
+  pub value_written : (q : List ℕ) (cell : ℕ) (v : V) (r' : Row V) → cell_of t.families q ≡ Some cell → SetsRowValue r r' cell v
       → IsTrie n r' (record { families = t.families; values = put order q v t.values })
   value_written q cell v r' e w = record {
     sorted = trie.sorted;

@@ -1,7 +1,7 @@
 //! The families of a trie, each with its cells at its base.
 ghost use Rattle.std.specs.Prelude.{◌≡◌, ℕ, ◌+◌, ◌<◌, ◌≤◌, List, [], ◌∷◌, ◌++◌, Some, None, IfOk, false, true, length, slice_index, MatchBool};
-ghost use Rattle.pg_types.specs.Placement.{cell_of, base_of};
-ghost use Rattle.pg_types.specs.Inside.Placing.{joins_at};
+ghost use Rattle.pg_types.specs.Placement.{base_of};
+ghost use Rattle.pg_types.specs.Inside.Placing.{cell_of, joins_at};
 ghost use Rattle.pg_cells.specs.Inside.linked.ValuedFamilies.{ValuedFamilies, trie_in};
 ghost use Rattle.pg_cells.specs.Inside.linked.AreValuedFamilies.{AreValuedFamilies};
 ghost use Rattle.pg_cells.specs.Inside.families.Adding.{AddsSign, CanTakeSign};

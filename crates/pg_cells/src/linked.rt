@@ -3,7 +3,8 @@ ghost use Rattle.std.specs.Prelude.{◌≡◌, ℕ, ◌+◌, ◌<◌, ◌≤◌,
 ghost use Rattle.std.specs.FinMap.{find};
 ghost use Rattle.std.specs.Cmp.Lexicographic.{slice_cmp};
 ghost use Rattle.std.specs.Ordering.{nat_cmp};
-ghost use Rattle.pg_types.specs.Placement.{taken_count, top, cell_of, base_of};
+ghost use Rattle.pg_types.specs.Placement.{taken_count, top, base_of};
+ghost use Rattle.pg_types.specs.Inside.Placing.{cell_of};
 ghost use Rattle.pg_cells.specs.Inside.linked.ValuedFamilies.{ValuedFamilies};
 ghost use Rattle.pg_cells.specs.Inside.linked.AreValuedFamilies.{AreValuedFamilies};
 ghost use Rattle.pg_cells.specs.Inside.families.Adding.{AddsSign, CanTakeSign};

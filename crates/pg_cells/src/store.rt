@@ -8,7 +8,7 @@ ghost use Rattle.pg_cells.specs.Inside.store.Bounds.{NoneFree};
 ghost use Rattle.pg_cells.specs.Inside.store.Fit.{fits_row, signs_of};
 ghost use Rattle.pg_cells.specs.Inside.store.Store.{one_free, taken_in, IsTop, IsRow, Extends};
 ghost use Rattle.pg_cells.specs.Inside.families.Root.{IsRootTo};
-ghost use Rattle.pg_cells.specs.Inside.store.Writes.{Takes, Frees, SetsChild, SetsValue, SetsBase};
+ghost use Rattle.pg_cells.specs.Inside.store.Writes.{Takes, Frees, SetsChild, SetsRowValue, SetsBase};
 ghost use Rattle.pg_cells.specs.declared.store.member.Member.{Member as MemberOf};
 
 mod bounds;
@@ -152,7 +152,7 @@ impl<V: Copy> Store<V> {
     pub fn set_value(&mut self, cell: usize, value: Member<V>)
         requires taken { sign_at self.old cell ≢ 0 }
         requires fits { FitsCell value }
-        ensures sets { SetsValue self.old self.new cell value }
+        ensures sets { SetsRowValue self.old self.new cell value }
         ensures row { IsRow self.new }
     {
         set_value(self.cells.as_mut_slice(), cell, value);

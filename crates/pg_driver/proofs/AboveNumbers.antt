@@ -22,7 +22,7 @@ use Rattle.pg_select.specs.Statuses.{position_weight, status, status_at}
 use Rattle.pg_select.specs.Windows.{Hopeless, is_covered, fits, window}
 use Rattle.pg_patterns.specs.Values.{Patterns, value_at}
 use Rattle.pg_select.proofs.LawsRaised.{counted_uncovered}
-use Rattle.pg_select.proofs.LawsTally.{is_counted_window}
+use Rattle.pg_select.proofs.LawsCounts.{is_counted_window}
 use Rattle.pg_driver.specs.declared.counting.above_positions.ChosenWeights.{ChosenWeights}
 use Rattle.pg_driver.specs.declared.pass_windows.WordPosition.{WordPosition}
 use Rattle.pg_driver.specs.declared.pass_windows.TheConstants.{NO_NUMBER}

@@ -12,7 +12,7 @@ use Rattle.pg_dict.specs.Word.{Word}
 use Rattle.pg_select.specs.declared.pass.Pass.{Pass}
 use Rattle.pg_select.specs.CountedPositions.{CountedPosition, same_signs}
 use Rattle.pg_select.specs.Inside.engine.Meanings.{Meaning, with_position}
-use Rattle.pg_select.proofs.LawsTally.{same_window}
+use Rattle.pg_select.proofs.LawsCounts.{same_window}
 use Rattle.pg_driver.specs.Inside.counting.Counting.{windows_after}
 use Rattle.pg_driver.proofs.NumberSteps.{get_back, get_last, get_left, get_seam}
 use Rattle.pg_driver.proofs.PassSteps.{counted_pass, seen_in}

@@ -18,7 +18,7 @@ use Rattle.pg_select.specs.CountedPositions.{Minima, CountedPosition, counted_po
 use Rattle.pg_select.specs.Inside.words.WordCounts.{counted_positions_in}
 use Rattle.pg_select.specs.Statuses.{position_weight}
 use Rattle.pg_select.specs.Windows.{Hopeless, window, fits}
-use Rattle.pg_select.proofs.LawsTally.{counted_as}
+use Rattle.pg_select.proofs.LawsCounts.{counted_as}
 use Rattle.pg_driver.specs.declared.pass_windows.WordPosition.{WordPosition}
 use Rattle.pg_driver.specs.Inside.counting.OpenPositions.{counted_in, counted_of}
 use Rattle.pg_driver.specs.Inside.counting.OpenSigns.{IsLevelAt, DotsTell, is_in_reach, open_word_positions, open_signs, position_from, sign_count, start_of}

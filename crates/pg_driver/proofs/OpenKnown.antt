@@ -19,7 +19,7 @@ use Rattle.pg_select.specs.Statuses.{status_at}
 use Rattle.pg_select.specs.Windows.{Hopeless, window, fits, is_covered}
 use Rattle.pg_select.proofs.LawsBounds.{up_to_at_start, up_to_after, covers_up_to_at_start, covers_up_to_longer, covers_up_to_after}
 use Rattle.pg_select.proofs.LawsClosedDots.{tells_at_start, tells_longer, tells_after}
-use Rattle.pg_select.proofs.LawsTally.{is_counted_window}
+use Rattle.pg_select.proofs.LawsCounts.{is_counted_window}
 use Rattle.pg_driver.specs.declared.pass_windows.WordPosition.{WordPosition}
 use Rattle.pg_driver.specs.Traces.{is_chosen, is_hopeless}
 use Rattle.pg_driver.specs.Inside.choices.Fates.{choice_of, chooses, gives_up}

@@ -8,7 +8,7 @@ use Rattle.pg_translate.specs.Reach.{positions}
 use Rattle.pg_dict.specs.Word.{Word}
 use Rattle.pg_select.specs.Inside.engine.Meanings.{with_position}
 use Rattle.pg_select.specs.CountedPositions.{Minima, CountedPosition, good_of, bad_of}
-use Rattle.pg_select.proofs.LawsTally.{cmp, is_counted_window, sums_found}
+use Rattle.pg_select.proofs.LawsCounts.{cmp, is_counted_window, sums_found}
 use Rattle.pg_driver.specs.Inside.counting.OpenPositions.{numbered_positions, open_with}
 use Rattle.pg_driver.specs.Inside.counting.OpenLevels.{listed_from, open_as}
 

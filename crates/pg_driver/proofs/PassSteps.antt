@@ -11,7 +11,7 @@ use Rattle.pg_dict.specs.Word.{Word}
 use Rattle.pg_select.specs.Inside.engine.Meanings.{Meaning, IsLayout, after_begin_pass, with_position}
 use Rattle.pg_select.specs.declared.pass.Pass.{Pass}
 use Rattle.pg_select.specs.CountedPositions.{CountedPosition, Candidate, counted_positions, minima_of}
-use Rattle.pg_select.proofs.LawsTally.{tally_is}
+use Rattle.pg_select.proofs.LawsCounts.{with_sums_is}
 use Rattle.pg_driver.specs.declared.choices.Choices.{Choices}
 use Rattle.pg_driver.specs.declared.records.PassRecord.{PassRecord}
 use Rattle.pg_driver.specs.Accounts.{totals_by}
@@ -39,7 +39,7 @@ pass_in t words params pass m = made_by (source_of t words) params m pass
 
 pub counts_are : (t : Alphabet) (words : List Word) (params : LevelParams) (pass : Pass) (m m2 : Meaning) → m2 ≡ counted_pass t words pass m
     → map candidate_of m2.counts ≡ (pass_in t words params pass m).candidates
-counts_are t words params pass m m2 is = ap (λ (x : Meaning). map candidate_of x.counts) is ∙ sym (tally_is (seen_in t words pass m))
+counts_are t words params pass m m2 is = ap (λ (x : Meaning). map candidate_of x.counts) is ∙ sym (with_sums_is (seen_in t words pass m))
 
 -- the state after the pass
 pub pass_state : (t : Alphabet) (words : List Word) (params : LevelParams) (pass : Pass) (m m2 n : Meaning) → m2 ≡ counted_pass t words pass m

@@ -7,7 +7,7 @@ use Rattle.pg_types.specs.Placement.{root, with_sign}
 use Rattle.pg_dict.specs.Word.{Word}
 use Rattle.pg_patterns.specs.Values.{Patterns}
 use Rattle.pg_select.specs.declared.pass.Pass.{Pass}
-use Rattle.pg_select.specs.CountedPositions.{Candidate, tally, counted_positions}
+use Rattle.pg_select.specs.CountedPositions.{Candidate, with_sums, counted_positions}
 use Rattle.pg_driver.specs.Dots.{order}
 use Rattle.pg_driver.specs.Accounts.{begun_count}
 use Rattle.pg_driver.specs.Inside.records.AccountLines.{Account, LevelLine, PassLine, account}
@@ -68,7 +68,7 @@ abbrev counts : Candidate → List ℕ × ℕ × ℕ
 counts c = (c.window, c.good, c.bad)
 
 abbrev counts_of : ℕ → List (List ℕ × ℕ × ℕ)
-counts_of dot = map counts (tally (counted_positions (source two_words).minima two_words (record { level = 1; len = 2; dot = dot }) [] []))
+counts_of dot = map counts (with_sums (counted_positions (source two_words).minima two_words (record { level = 1; len = 2; dot = dot }) [] []))
 
 counts_at_dot_1 : counts_of 1 ≡ (2 ∷ 3 ∷ [], 0, 2) ∷ (3 ∷ 2 ∷ [], 1, 0) ∷ (3 ∷ 4 ∷ [], 1, 0) ∷ []
 counts_at_dot_1 = refl

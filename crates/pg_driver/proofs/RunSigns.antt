@@ -13,7 +13,7 @@ use Rattle.pg_dict.specs.Inside.SoundWords.{SignsAtMost}
 use Rattle.pg_patterns.specs.Values.{Patterns, raise, value_of}
 use Rattle.pg_patterns.specs.Inside.PatternMaps.{SignsUpTo}
 use Rattle.pg_select.specs.declared.pass.Pass.{Pass}
-use Rattle.pg_select.specs.CountedPositions.{Minima, CountedPosition, Candidate, candidates, counted_at, counted_positions, counted_positions_at, good_of, bad_of, tally}
+use Rattle.pg_select.specs.CountedPositions.{Minima, CountedPosition, Candidate, candidates, counted_at, counted_positions, counted_positions_at, good_of, bad_of, with_sums}
 use Rattle.pg_select.specs.Inside.laws.Laws.{raised_all}
 use Rattle.pg_select.specs.Inside.engine.Meanings.{Meaning}
 use Rattle.pg_select.specs.Inside.words.WordCounts.{counted_positions_in}
@@ -22,7 +22,7 @@ use Rattle.pg_select.specs.Windows.{Hopeless, window}
 use Rattle.pg_select.proofs.LawsBounds.{all_put}
 use Rattle.pg_select.proofs.LawsCandidates.{all_candidates, all_flat}
 use Rattle.pg_select.proofs.LawsRaised.{all_kept}
-use Rattle.pg_select.proofs.LawsTally.{counted_as}
+use Rattle.pg_select.proofs.LawsCounts.{counted_as}
 use Rattle.pg_driver.specs.Inside.level.Passes.{known_at_end}
 use Rattle.pg_driver.specs.Inside.records.RunAccounts.{patterns_from}
 use Rattle.pg_driver.specs.Traces.{Knowledge, Source, at_start, chosen_in, final_patterns, is_chosen, known_after, level_trace, level_traces, source_of, pass_trace, pass_traces, passes_of, patterns_after}
@@ -85,7 +85,7 @@ module _ (n : ℕ) (source : Source) (params : LevelParams) (words : SignsAtMost
   low_chosen : (known : Knowledge) (pass : Pass) → low_candidates n (chosen_in (pass_trace source params known pass)) ≡ true
   low_chosen known pass =
       let seen : List CountedPosition = counted_positions source.minima source.words pass known.patterns known.hopeless in
-      all_kept (λ (c : Candidate). is_low n c.window) (is_chosen params) (tally seen)
+      all_kept (λ (c : Candidate). is_low n c.window) (is_chosen params) (with_sums seen)
       (list_all-map (λ (c : Candidate). is_low n c.window) (λ (u : List ℕ). record { window = u; good = good_of seen u; bad = bad_of seen u }) (candidates seen)
       ∙ all_candidates (is_low n) seen
       ∙ low_counted n source.minima source.words pass known.patterns known.hopeless words)

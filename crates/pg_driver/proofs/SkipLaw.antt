@@ -8,11 +8,11 @@ use Rattle.pg_dict.specs.Word.{Word}
 use Rattle.pg_patterns.specs.Values.{Patterns}
 use Rattle.pg_select.specs.Inside.laws.Laws.{CountsNothing}
 use Rattle.pg_select.specs.declared.pass.Pass.{Pass}
-use Rattle.pg_select.specs.CountedPositions.{Minima, Candidate, tally}
+use Rattle.pg_select.specs.CountedPositions.{Minima, Candidate, with_sums}
 use Rattle.pg_select.specs.Windows.{Hopeless}
-use Rattle.pg_select.proofs.LawsLater.{closed_later}
-use Rattle.pg_select.proofs.LawsLonger.{closed_behind, closed_before}
-use Rattle.pg_select.proofs.LawsClosed.{closed_at_end, later_after_pass}
+use Rattle.pg_select.proofs.LawsLater.{nothing_later}
+use Rattle.pg_select.proofs.LawsLonger.{nothing_behind, nothing_before}
+use Rattle.pg_select.proofs.LawsNothing.{nothing_counts_after, later_after_pass}
 use Rattle.pg_driver.specs.Inside.records.AccountLines.{is_skippable, left_none}
 use Rattle.pg_driver.specs.Inside.level.Levels.{CountNothing}
 use Rattle.pg_driver.specs.Traces.{Knowledge, PassTrace, Source, is_chosen, is_hopeless, is_entered, known_after, pass_trace}
@@ -44,9 +44,9 @@ module _ (m : Minima) (words : List Word) (P : Patterns) (H : Hopeless) where
       let parts = and_parts (l + 1 == len) (d == dot || d + 1 == dot) is in
       let longer : l + 1 ≡ len = (Decides-eqb (l + 1) len).0 parts.0 in
       ⊎_elim
-      (λ (behind : (d == dot) ≡ true). same_pass number (l + 1) len d dot longer ((Decides-eqb d dot).0 behind) (closed_behind m words (record { level = number; len = l; dot = d }) P H closed))
+      (λ (behind : (d == dot) ≡ true). same_pass number (l + 1) len d dot longer ((Decides-eqb d dot).0 behind) (nothing_behind m words (record { level = number; len = l; dot = d }) P H closed))
       (λ (before : (d + 1 == dot) ≡ true). same_pass number (l + 1) len (d + 1) dot longer ((Decides-eqb (d + 1) dot).0 before)
-      (closed_before m words (record { level = number; len = l; dot = d }) P H closed))
+      (nothing_before m words (record { level = number; len = l; dot = d }) P H closed))
       (or_cases (d == dot) (d + 1 == dot) parts.1)
 
 -- each pass that can be skipped counts nothing, after a pass too
@@ -62,10 +62,11 @@ closed_on source params number l d known ps closed len dot is =
     (λ (here : (none && (l + 1 == len && (d == dot || d + 1 == dot))) ≡ true).
     let parts = and_parts none (l + 1 == len && (d == dot || d + 1 == dot)) here in
     longer_closed source.minima source.words after.patterns after.hopeless number l d len dot
-    (closed_at_end source.minima source.words pass known.patterns known.hopeless (λ c. is_chosen params c) (λ c. is_hopeless params c) (sym (all_chosen_or_hopeless params q.candidates) ∙ parts.0))
+    (nothing_counts_after source.minima source.words pass known.patterns known.hopeless (λ c. is_chosen params c)
+    (λ c. is_hopeless params c) (sym (all_chosen_or_hopeless params q.candidates) ∙ parts.0))
     parts.1)
     (λ (before : is_skippable ps (record { level = number; len = len; dot = dot }) ≡ true).
-    closed_later source.minima source.words (record { level = number; len = len; dot = dot }) known.patterns after.patterns known.hopeless after.hopeless
+    nothing_later source.minima source.words (record { level = number; len = len; dot = dot }) known.patterns after.patterns known.hopeless after.hopeless
     (later_after_pass number d known.patterns known.hopeless (chosen_of params q.candidates) (hopeless_of params q.candidates)) (closed len dot before))
     (or_cases (none && (l + 1 == len && (d == dot || d + 1 == dot))) (is_skippable ps (record { level = number; len = len; dot = dot }))
     (sym (skippable_push ps q (record { level = number; len = len; dot = dot })) ∙ is))
@@ -74,7 +75,7 @@ closed_on source params number l d known ps closed len dot is =
 pub skipped_none : (source : Source) (params : LevelParams) (number len dot : ℕ) (known : Knowledge) (ps : List PassTrace) → CountNothing source number ps known
     → is_skippable ps (record { level = number; len = len; dot = dot }) ≡ true
     → (pass_trace source params known (record { level = number; len = len; dot = dot })).candidates ≡ []
-skipped_none source params number len dot known ps closed is = ap tally (closed len dot is)
+skipped_none source params number len dot known ps closed is = ap with_sums (closed len dot is)
 
 -- what became of candidates tells whether one was left
 chosen_within : (params : LevelParams) (cs : List Candidate) → length (chosen_of params cs) + length (hopeless_of params cs) ≤ length cs

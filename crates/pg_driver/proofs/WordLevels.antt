@@ -21,7 +21,7 @@ use Rattle.pg_select.specs.Statuses.{is_odd, position_weight, status_at}
 use Rattle.pg_select.specs.Windows.{fits, window}
 use Rattle.pg_patterns.specs.Values.{Patterns, value_at}
 use Rattle.pg_select.proofs.LawsClosedDots.{good_is}
-use Rattle.pg_select.proofs.LawsTally.{cmp, counted_as, is_counted_window}
+use Rattle.pg_select.proofs.LawsCounts.{cmp, counted_as, is_counted_window}
 use Rattle.pg_select.proofs.LawsTotals.{above_stay, totals_after_above}
 use Rattle.pg_driver.specs.declared.counting.above_positions.ChosenWeights.{ChosenWeights}
 use Rattle.pg_driver.specs.declared.choices.Choices.{Choices}

@@ -10,7 +10,7 @@ use Rattle.pg_patterns.specs.DottedSigns.{dotted_cmp}
 use Rattle.pg_patterns.specs.Values.{Patterns, raise}
 use Rattle.pg_select.specs.Windows.{Hopeless}
 use Rattle.pg_select.specs.declared.pass.Pass.{Pass}
-use Rattle.pg_select.specs.CountedPositions.{Minima, Candidate, counted_positions, tally, minima_of}
+use Rattle.pg_select.specs.CountedPositions.{Minima, Candidate, counted_positions, with_sums, minima_of}
 use Rattle.pg_driver.specs.Dots.{order}
 use Rattle.pg_translate.specs.Alphabets.{Alphabet}
 use Rattle.pg_translate.specs.Gaps.{last_else}
@@ -79,7 +79,7 @@ known_after p = record {
 abbrev pub pass_trace : Source → LevelParams → Knowledge → Pass → PassTrace
 pass_trace source params known pass =
     let counted = counted_positions source.minima source.words pass known.patterns known.hopeless in
-    record { pass = pass; params = params; before = known; candidates = tally counted }
+    record { pass = pass; params = params; before = known; candidates = with_sums counted }
 
 -- passes that are made one after the other: each begins with what is known after the one before it
 abbrev pub pass_traces : Source → LevelParams → Knowledge → List Pass → List PassTrace

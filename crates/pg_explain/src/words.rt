@@ -7,7 +7,7 @@ mod rest;
 mod slots;
 
 use crate::words::forms::{Behind, COMMANDS, Command, command_of};
-use crate::words::mistake::{Mistake, about_words};
+use crate::words::mistake::{Mistake, about_arguments};
 use crate::words::one_name::pair_mistake;
 use crate::words::rest::rest_mistake;
 use crate::words::slots::slot_mistake;
@@ -17,7 +17,7 @@ use pg_visible::Text;
 use std::alloc::AllocError;
 
 /// What is wrong with the argument with this index behind a command.
-fn word_mistake<'a>(
+fn argument_mistake<'a>(
     command: &Command,
     words: &'a [String],
     index: usize,
@@ -44,13 +44,13 @@ fn missing_name(command: &Command, count: usize) -> Option<&'static str> {
 /// The first thing that is wrong with the arguments that follow a command.
 fn mistake_of<'a>(command: &Command, words: &'a [String]) -> Option<Mistake<'a>> {
     for (index, word) in words.iter().enumerate() {
-        let mistake = word_mistake(command, words, index, word.as_str());
+        let mistake = argument_mistake(command, words, index, word.as_str());
         if mistake.is_some() {
             return mistake;
         }
     }
     match missing_name(command, words.len()) {
-        Some(name) => Some(about_words("$0: $1 is missing", name, "", "")),
+        Some(name) => Some(about_arguments("$0: $1 is missing", name, "", "")),
         None => pair_mistake(command, words),
     }
 }

@@ -6,19 +6,19 @@ use Rattle.std.specs.declared.alloc.Global.{Global}
 use Rattle.std.specs.declared.io.Error.{Error}
 use Rattle.std.specs.declared.io.ErrorKind.TheVariants.{OutOfMemory}
 use Rattle.std.specs.declared.vec.IntoIter.{IntoIter}
-use Rattle.pg_main.specs.declared.NoWords.{NoWords}
-use Rattle.pg_main.specs.declared.NoWords.TheVariants.{Memory, Unreadable}
+use Rattle.pg_main.specs.declared.NoArguments.{NoArguments}
+use Rattle.pg_main.specs.declared.NoArguments.TheVariants.{Memory, Unreadable}
 
 -- the status where there are no arguments: 5 where memory was short, 6 where the system gave none
-abbrev pub code_of_none : NoWords → ℕ
+abbrev pub code_of_none : NoArguments → ℕ
 code_of_none Memory = 5
 code_of_none Unreadable = 6
 
 -- all arguments after the first, which is the program's name, in their order
-abbrev pub words_in : IntoIter (String Global) Global → List (String Global)
-words_in arguments = drop 1 (into_iter_items arguments)
+abbrev pub arguments_in : IntoIter (String Global) Global → List (String Global)
+arguments_in arguments = drop 1 (into_iter_items arguments)
 
 -- why there are no arguments where the system gave this error
-pub record IsReasonOf (error : Error) (reason : NoWords) : Type 0 where
+pub record IsReasonOf (error : Error) (reason : NoArguments) : Type 0 where
   pub memory : error_kind error ≡ OutOfMemory → reason ≡ Memory
   pub other : (error_kind error ≡ OutOfMemory → ⊥) → reason ≡ Unreadable

@@ -7,7 +7,7 @@ use Rattle.pg_steps.specs.Statuses.{code_of}
 use Rattle.pg_top.specs.WholeCalls.{IsRun}
 use Rattle.pg_steps.specs.declared.answers.Status.{Status}
 use Rattle.pg_main.specs.Given.{code_of_none}
-use Rattle.pg_main.specs.declared.NoWords.{NoWords}
+use Rattle.pg_main.specs.declared.NoArguments.{NoArguments}
 
 -- the status is that of an answer of a call on exactly these arguments
 pub record IsCodeOfRun {F : Type 0} (words : List (String Global)) (code : ℕ)
@@ -17,7 +17,7 @@ pub record IsCodeOfRun {F : Type 0} (words : List (String Global)) (code : ℕ)
   pub run : IsRun (request_of_call words) answer before after old new
 
 -- there were no arguments: the status tells why, and neither the files nor the sink were touched
-pub record IsCodeOfNone {F O : Type 0} (reason : NoWords) (code : ℕ)
+pub record IsCodeOfNone {F O : Type 0} (reason : NoArguments) (code : ℕ)
     (before after : F) (out_before out_after : O) : Type 0 where
   pub code_of_it : code ≡ code_of_none reason
   pub files : after ≡ before

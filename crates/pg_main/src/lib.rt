@@ -4,7 +4,7 @@
 
 ghost use Rattle.std.specs.Prelude.{◌≡◌, ◌≤◌, ◌⊎◌, IfOk, IfErr, MatchResult};
 ghost use Rattle.std.specs.Process.{exit_status};
-ghost use Rattle.pg_main.specs.Given.{words_in, IsReasonOf};
+ghost use Rattle.pg_main.specs.Given.{arguments_in, IsReasonOf};
 ghost use Rattle.pg_main.specs.Statuses.{IsCodeOfRun, IsCodeOfNone};
 
 mod listen;
@@ -25,7 +25,7 @@ use std::{env, io, rt};
 
 /// Why there are no arguments.
 #[derive(Clone, Copy, Debug, PartialEq, Eq)]
-pub enum NoWords {
+pub enum NoArguments {
     /// There was not enough memory for them.
     Memory,
     /// The system did not give them.
@@ -36,13 +36,13 @@ pub enum NoWords {
 ///
 /// # Errors
 /// Where there is not enough memory.
-pub fn words_after_name(alloc: Global, arguments: Args) -> Result<Vec<String>, NoWords>
-    ensures all { IfOk result (λ words. words.items ≡ words_in arguments) }
-    ensures memory { IfErr result (λ reason. reason ≡ NoWords.Memory) }
+pub fn arguments_after_name(alloc: Global, arguments: Args) -> Result<Vec<String>, NoArguments>
+    ensures all { IfOk result (λ words. words.items ≡ arguments_in arguments) }
+    ensures memory { IfErr result (λ reason. reason ≡ NoArguments.Memory) }
 {
     match arguments.skip(1).collect(alloc) {
         Ok(words) => Ok(words),
-        Err(_) => Err(NoWords::Memory),
+        Err(_) => Err(NoArguments::Memory),
     }
 }
 
@@ -55,7 +55,7 @@ pub fn words_after_name(alloc: Global, arguments: Args) -> Result<Vec<String>, N
 /// `files` nor `out` is called then. The observer is told of the call and of its answer.
 pub fn status_of<F: Files, O: Sink, L: Listen>(
     alloc: Global,
-    words: Result<Vec<String>, NoWords>,
+    words: Result<Vec<String>, NoArguments>,
     files: &mut F,
     out: &mut O,
     listen: &L,
@@ -74,10 +74,10 @@ pub fn status_of<F: Files, O: Sink, L: Listen>(
             exit_code(&status)
         }
         Err(reason) => {
-            listen.has_no_words(&reason);
+            listen.has_no_arguments(&reason);
             match reason {
-                NoWords::Memory => 5,
-                NoWords::Unreadable => 6,
+                NoArguments::Memory => 5,
+                NoArguments::Unreadable => 6,
             }
         }
     }
@@ -88,15 +88,15 @@ pub fn status_of<F: Files, O: Sink, L: Listen>(
 /// # Errors
 /// Where there is not enough memory, here or in the system, and where the system does not give the
 /// arguments.
-pub fn words_of(alloc: Global, arguments: io::Result<Args>) -> Result<Vec<String>, NoWords>
+pub fn arguments_of(alloc: Global, arguments: io::Result<Args>) -> Result<Vec<String>, NoArguments>
     ensures given { IfOk arguments (λ arguments. MatchResult result
-        (λ words. words.items ≡ words_in arguments) (λ reason. reason ≡ NoWords.Memory)) }
+        (λ words. words.items ≡ arguments_in arguments) (λ reason. reason ≡ NoArguments.Memory)) }
     ensures none { IfErr arguments (λ error. MatchResult result (λ _. ⊥) (IsReasonOf error)) }
 {
     match arguments {
-        Ok(arguments) => words_after_name(alloc, arguments),
-        Err(error) if error.kind() == ErrorKind::OutOfMemory => Err(NoWords::Memory),
-        Err(_) => Err(NoWords::Unreadable),
+        Ok(arguments) => arguments_after_name(alloc, arguments),
+        Err(error) if error.kind() == ErrorKind::OutOfMemory => Err(NoArguments::Memory),
+        Err(_) => Err(NoArguments::Unreadable),
     }
 }
 
@@ -120,14 +120,15 @@ pub fn exit_of<F: Files, O: Sink, L: Listen>(
     listen: &L,
 ) -> ExitCode
     ensures given { IfOk arguments (λ arguments.
-        IsCodeOfRun (words_in arguments) (exit_status result) files.old files.new
+        IsCodeOfRun (arguments_in arguments) (exit_status result) files.old files.new
         (F.shown files.old, O.shown out.old) (F.shown files.new, O.shown out.new)
-        ⊎ IsCodeOfNone NoWords.Memory (exit_status result) files.old files.new out.old out.new) }
-    ensures none { IfErr arguments (λ error. (reason : NoWords) × IsReasonOf error reason
+        ⊎ IsCodeOfNone NoArguments.Memory (exit_status result)
+        files.old files.new out.old out.new) }
+    ensures none { IfErr arguments (λ error. (reason : NoArguments) × IsReasonOf error reason
         × IsCodeOfNone reason (exit_status result) files.old files.new out.old out.new) }
     ensures most { exit_status result ≤ 6 }
 {
-    let words = words_of(alloc, arguments);
+    let words = arguments_of(alloc, arguments);
     code_from(status_of(alloc, words, files, out, listen))
 }
 
@@ -174,7 +175,7 @@ fn put_fault<R: rt::Files + AllocGlobal, C: Clock, E: Write + Drop>(
 /// end `err` gets what explains the answer. The variable `PATGEN_PROGRESS` says whether the line is
 /// shown: `always` or `never`. With any other value it is shown only where standard error is a
 /// terminal.
-pub fn run_words<
+pub fn run_arguments<
     R: rt::Files + rt::Env + rt::Clock + AllocGlobal,
     W: Write + Drop,
     E: Write + IsTerminal + Drop,

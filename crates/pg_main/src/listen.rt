@@ -1,5 +1,5 @@
 //! What the observer of a program is told beside the steps of a call.
-use crate::NoWords;
+use crate::NoArguments;
 use pg_messages::Messages;
 use pg_top::Status;
 use pg_watch::Watch;
@@ -16,7 +16,7 @@ pub trait Listen: Watch {
     fn ends(&self, words: &[String], status: &Status);
 
     /// There are no arguments.
-    fn has_no_words(&self, reason: &NoWords);
+    fn has_no_arguments(&self, reason: &NoArguments);
 }
 
 /// What stands on standard error where the system did not give the arguments.
@@ -25,23 +25,23 @@ const UNREADABLE: &[u8] =
 
 impl<'a, C: Clock, E: Write + Drop> Listen for Messages<'a, C, E> {
     fn begins(&self, words: &[String]) {
-        self.take_words(words);
+        self.take_arguments(words);
     }
 
     fn ends(&self, words: &[String], status: &Status) {
         match status {
             Status::Done | Status::Yes => self.put_notes(),
             Status::No | Status::Refused => self.put_reason(),
-            Status::Usage => self.put_words(words),
+            Status::Usage => self.put_arguments(words),
             Status::Memory => self.put_memory(),
             Status::Fault => self.keep_fault(),
         }
     }
 
-    fn has_no_words(&self, reason: &NoWords) {
+    fn has_no_arguments(&self, reason: &NoArguments) {
         match reason {
-            NoWords::Memory => self.put_memory(),
-            NoWords::Unreadable => self.put(UNREADABLE),
+            NoArguments::Memory => self.put_memory(),
+            NoArguments::Unreadable => self.put(UNREADABLE),
         }
     }
 }

@@ -146,7 +146,7 @@ impl<'a, C: Clock, E: Write + Drop> Messages<'a, C, E> {
     }
 
     /// Takes the arguments of the call.
-    pub fn take_words(&self, words: &[String]) {
+    pub fn take_arguments(&self, words: &[String]) {
         if let Some(first) = words.first() {
             if let Ok(command) = String::from_str(self.alloc, first) {
                 let _ = self.command.try_replace(command);
@@ -168,7 +168,7 @@ impl<'a, C: Clock, E: Write + Drop> Messages<'a, C, E> {
     }
 
     /// Puts on standard error what is wrong with these arguments.
-    pub fn put_words(&self, words: &[String]) {
+    pub fn put_arguments(&self, words: &[String]) {
         self.put_wrong(&Wrong::Words(words));
     }
 

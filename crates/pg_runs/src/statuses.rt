@@ -1,5 +1,5 @@
 //! The status of the program over a system whose arguments are given.
-use pg_main::run_words;
+use pg_main::run_arguments;
 use pg_told_disk::{Broken, ScriptedSystem};
 use std::process::ExitCode;
 use std::test::Fail;
@@ -47,7 +47,7 @@ fn ends_so(rt: &HostRuntime, words: &[&[u8]], status: u8) -> io::Result<bool> {
         broken: Broken::Nothing,
     };
     let nowhere = fs::create(rt, "/dev/null")?;
-    Ok(run_words(&system, io::sink(), nowhere) == ExitCode::from(status))
+    Ok(run_arguments(&system, io::sink(), nowhere) == ExitCode::from(status))
 }
 
 #[test]

@@ -13,9 +13,9 @@ use Rattle.pg_patterns.specs.Values.{Patterns, value_of, raise, largest}
 use Rattle.pg_select.specs.declared.pass.Pass.{Pass}
 use Rattle.pg_select.specs.Inside.laws.Laws.{raised_all, hopeless_all}
 use Rattle.pg_select.specs.Inside.laws.Steps.{CoversUpTo, IsBelow, IsUpTo, patterns_after_pass, hopeless_after_pass}
-use Rattle.pg_select.specs.CountedPositions.{Minima, Candidate, counted_positions, tally}
+use Rattle.pg_select.specs.CountedPositions.{Minima, Candidate, counted_positions, with_sums}
 use Rattle.pg_select.specs.Windows.{Hopeless}
-use Rattle.pg_select.proofs.LawsClosed.{all_weaker}
+use Rattle.pg_select.proofs.LawsNothing.{all_weaker}
 use Rattle.pg_select.proofs.LawsRaised.{AreLong, passing_long}
 
 -- a test of all entries, with one more
@@ -49,7 +49,7 @@ up_to_raised level dot n P (c ∷ cs) within upto =
 
 pub up_to_after : (m : Minima) (words : List Word) (pass : Pass) (P : Patterns) (H : Hopeless) (raised : Candidate → Bool) (n : ℕ) → pass.level ≤ n
     → IsUpTo n P → IsUpTo n (patterns_after_pass m words pass P H raised)
-up_to_after m words pass P H raised n within upto = up_to_raised pass.level pass.dot n P (filter raised (tally (counted_positions m words pass P H))) within upto
+up_to_after m words pass P H raised n within upto = up_to_raised pass.level pass.dot n P (filter raised (with_sums (counted_positions m words pass P H))) within upto
 
 -- no string that covers is longer than the length, through a pass of the length
 short_raised : (level dot len : ℕ) (P : Patterns) (cs : List Candidate) → AreLong len cs → list_all (λ (e : (List ℕ × ℕ) × ℕ). not (nat_le level e.1) || nat_le (length e.0.0) len) P ≡ true
@@ -89,8 +89,8 @@ covers_up_to_longer level len P H short = record {
 pub covers_up_to_after : (m : Minima) (words : List Word) (pass : Pass) (P : Patterns) (H : Hopeless) (raised hopeless : Candidate → Bool) → CoversUpTo pass.level pass.len P H
     → CoversUpTo pass.level pass.len (patterns_after_pass m words pass P H raised) (hopeless_after_pass m words pass P H hopeless)
 covers_up_to_after m words pass P H raised hopeless short = record {
-  patterns = short_raised pass.level pass.dot pass.len P (filter raised (tally (counted_positions m words pass P H))) (passing_long raised m words pass P H) short.patterns;
-  hopeless = short_hopeless pass.dot pass.len H (filter hopeless (tally (counted_positions m words pass P H))) (passing_long hopeless m words pass P H) short.hopeless;
+  patterns = short_raised pass.level pass.dot pass.len P (filter raised (with_sums (counted_positions m words pass P H))) (passing_long raised m words pass P H) short.patterns;
+  hopeless = short_hopeless pass.dot pass.len H (filter hopeless (with_sums (counted_positions m words pass P H))) (passing_long hopeless m words pass P H) short.hopeless;
 }
 
 -- at a level's start nothing covers

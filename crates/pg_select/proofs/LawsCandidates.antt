@@ -22,7 +22,7 @@ use Rattle.pg_select.specs.Windows.{Hopeless, window, fits, is_covered}
 use Rattle.pg_select.specs.declared.pass.Pass.{Pass}
 use Rattle.pg_select.specs.CountedPositions.{Minima, CountedPosition, counts_as, counted_positions_at, counted_positions, with_window, candidates}
 use Rattle.pg_select.specs.Inside.words.WordCounts.{counted_positions_in}
-use Rattle.pg_select.proofs.LawsTally.{cmp, window_exact, counted_as}
+use Rattle.pg_select.proofs.LawsCounts.{cmp, window_exact, counted_as}
 
 -- a test of all windows with one more
 all_put : (test : List ℕ → Bool) (u : List ℕ) (windows : List (List ℕ × Unit {0})) → list_all (λ (e : List ℕ × Unit {0}). test e.0) (put cmp u (tt {0}) windows)

@@ -12,11 +12,11 @@ use Rattle.pg_select.specs.Inside.laws.Laws.{IsLater}
 use Rattle.pg_select.specs.Statuses.{is_odd, status, status_at}
 use Rattle.pg_select.specs.Windows.{Hopeless, window, fits, is_covered}
 use Rattle.pg_select.specs.declared.pass.Pass.{Pass}
-use Rattle.pg_select.specs.CountedPositions.{Minima, Candidate, counts_as, counted_at, counted_positions, tally}
+use Rattle.pg_select.specs.CountedPositions.{Minima, Candidate, counts_as, counted_at, counted_positions, with_sums}
 use Rattle.pg_select.proofs.LawsLater.{none_at_level, counted_back}
 use Rattle.pg_select.proofs.LawsLonger.{counted_behind, counted_before}
-use Rattle.pg_select.proofs.LawsClosed.{later_after_pass}
-use Rattle.pg_select.proofs.LawsTally.{is_counted_window}
+use Rattle.pg_select.proofs.LawsNothing.{later_after_pass}
+use Rattle.pg_select.proofs.LawsCounts.{is_counted_window}
 use Rattle.pg_select.specs.Inside.laws.Steps.{CoversUpTo, IsBelow, IsUpTo, candidate_at, is_candidate, patterns_after_pass, hopeless_after_pass}
 use Rattle.pg_select.specs.Inside.laws.ClosedDots.{closed_at_next_length}
 use Rattle.pg_select.specs.Inside.laws.ClosedDots.{is_good, pass_at, Tells, IsDone, closed_after, Stays}
@@ -132,7 +132,7 @@ done_longer level len P H w p done d within =
 
 module _ (m : Minima) (words : List Word) (pass : Pass) (P : Patterns) (H : Hopeless) (raised hopeless : Candidate → Bool) (w : Word) (p : ℕ) where
   later : IsLater pass.level P H (patterns_after_pass m words pass P H raised) (hopeless_after_pass m words pass P H hopeless)
-  later = later_after_pass pass.level pass.dot P H (filter raised (tally (counted_positions m words pass P H))) (filter hopeless (tally (counted_positions m words pass P H)))
+  later = later_after_pass pass.level pass.dot P H (filter raised (with_sums (counted_positions m words pass P H))) (filter hopeless (with_sums (counted_positions m words pass P H)))
 
   pub done_after : IsDone pass.level pass.len P H w p → IsDone pass.level pass.len (patterns_after_pass m words pass P H raised) (hopeless_after_pass m words pass P H hopeless) w p
   done_after done d within =

@@ -14,7 +14,7 @@ use Rattle.pg_select.specs.declared.pass.Pass.{Pass}
 use Rattle.pg_select.specs.CountedPositions.{Minima, counts_as, counted_at, counted_positions_at, counted_positions}
 use Rattle.pg_select.specs.Inside.words.WordCounts.{counted_positions_in}
 use Rattle.pg_select.specs.Inside.laws.Laws.{IsLater}
-use Rattle.pg_select.proofs.LawsTally.{counted_as}
+use Rattle.pg_select.proofs.LawsCounts.{counted_as}
 use Rattle.pg_select.proofs.LawsValues.{raised_to, covered_raised, covered_hopeless}
 
 -- a value of the level is not counted at the level
@@ -122,6 +122,6 @@ closed_more m words pass other P P' H H' back is =
     (λ p. unseen_more (window w.signs p pass.len pass.dot) (window w.signs p other.len other.dot) (position_weight w p) (counted_at pass P H w p) (counted_at other P' H' w p) (back w p))
     (positions m.left m.right (length w.signs))) words is
 
-pub closed_later : (m : Minima) (words : List Word) (pass : Pass) (P P' : Patterns) (H H' : Hopeless) → IsLater pass.level P H P' H'
+pub nothing_later : (m : Minima) (words : List Word) (pass : Pass) (P P' : Patterns) (H H' : Hopeless) → IsLater pass.level P H P' H'
     → counted_positions m words pass P H ≡ [] → counted_positions m words pass P' H' ≡ []
-closed_later m words pass P P' H H' later is = closed_more m words pass pass P P' H H' (λ w p g counted. counted_back pass P P' H H' w p g later counted) is
+nothing_later m words pass P P' H H' later is = closed_more m words pass pass P P' H H' (λ w p g counted. counted_back pass P P' H H' w p g later counted) is

@@ -123,10 +123,10 @@ pub counted_before : (pass : Pass) (P : Patterns) (H : Hopeless) (w : Word) (p :
 counted_before pass P H w p good is = counted_in pass (longer_before pass) P H w p good refl (before_inner w.signs p pass.len pass.dot) is
 
 -- so where a pass counts nothing, the longer ones count nothing
-pub closed_behind : (m : Minima) (words : List Word) (pass : Pass) (P : Patterns) (H : Hopeless) → counted_positions m words pass P H
+pub nothing_behind : (m : Minima) (words : List Word) (pass : Pass) (P : Patterns) (H : Hopeless) → counted_positions m words pass P H
     ≡ [] → counted_positions m words (longer_behind pass) P H ≡ []
-closed_behind m words pass P H is = closed_more m words pass (longer_behind pass) P P H H (λ w p g counted. counted_behind pass P H w p g counted) is
+nothing_behind m words pass P H is = closed_more m words pass (longer_behind pass) P P H H (λ w p g counted. counted_behind pass P H w p g counted) is
 
-pub closed_before : (m : Minima) (words : List Word) (pass : Pass) (P : Patterns) (H : Hopeless) → counted_positions m words pass P H
+pub nothing_before : (m : Minima) (words : List Word) (pass : Pass) (P : Patterns) (H : Hopeless) → counted_positions m words pass P H
     ≡ [] → counted_positions m words (longer_before pass) P H ≡ []
-closed_before m words pass P H is = closed_more m words pass (longer_before pass) P P H H (λ w p g counted. counted_before pass P H w p g counted) is
+nothing_before m words pass P H is = closed_more m words pass (longer_before pass) P P H H (λ w p g counted. counted_before pass P H w p g counted) is

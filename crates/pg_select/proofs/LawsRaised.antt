@@ -17,11 +17,11 @@ use Rattle.pg_select.specs.Inside.laws.Laws.{raised_all, hopeless_all}
 use Rattle.pg_select.specs.Statuses.{status_at, position_weight}
 use Rattle.pg_select.specs.Windows.{Hopeless, window, fits, is_covered}
 use Rattle.pg_select.specs.declared.pass.Pass.{Pass}
-use Rattle.pg_select.specs.CountedPositions.{Minima, CountedPosition, Candidate, counts_as, counted_positions_at, counted_positions, same_signs, candidates, tally}
+use Rattle.pg_select.specs.CountedPositions.{Minima, CountedPosition, Candidate, counts_as, counted_positions_at, counted_positions, same_signs, candidates, with_sums}
 use Rattle.pg_select.specs.Inside.words.WordCounts.{counted_positions_in}
-use Rattle.pg_select.proofs.LawsTally.{same_window, counted_as, is_counted_window, candidates_are_counted}
+use Rattle.pg_select.proofs.LawsCounts.{same_window, counted_as, is_counted_window, candidates_are_counted}
 use Rattle.pg_select.proofs.LawsValues.{raised_value, covered_raised, covered_hopeless}
-use Rattle.pg_select.proofs.LawsClosed.{is_among}
+use Rattle.pg_select.proofs.LawsNothing.{is_among}
 use Rattle.pg_select.proofs.LawsLonger.{part_length}
 use Rattle.pg_select.proofs.LawsCandidates.{all_candidates, all_flat, applies_itself}
 use Rattle.pg_select.specs.Inside.laws.Steps.{candidate_at, is_candidate, patterns_after_pass, hopeless_after_pass}
@@ -105,7 +105,7 @@ among_windows test counted u (v ∷ us) =
         none false = refl
     by_same false b t a tied rest = rest
 
-pub among_candidates : (test : Candidate → Bool) (counted : List CountedPosition) (u : List ℕ) → is_among u (filter test (tally counted)) ≡ is_candidate test counted u
+pub among_candidates : (test : Candidate → Bool) (counted : List CountedPosition) (u : List ℕ) → is_among u (filter test (with_sums counted)) ≡ is_candidate test counted u
 among_candidates test counted u = among_windows test counted u (candidates counted) ∙ ap (λ b. b && test (candidate_at counted u)) (candidates_are_counted counted u)
 
 -- what holds of all holds of those that pass
@@ -122,10 +122,11 @@ all_kept t q (x ∷ xs) all =
 abbrev pub AreLong : ℕ → List Candidate → Type 0
 AreLong len cs = list_all (λ (c : Candidate). nat_eq (length c.window) len) cs ≡ true
 
-pub passing_long : (test : Candidate → Bool) (m : Minima) (words : List Word) (pass : Pass) (P : Patterns) (H : Hopeless) → AreLong pass.len (filter test (tally (counted_positions m words pass P H)))
+pub passing_long : (test : Candidate → Bool) (m : Minima) (words : List Word) (pass : Pass) (P : Patterns) (H : Hopeless)
+    → AreLong pass.len (filter test (with_sums (counted_positions m words pass P H)))
 passing_long test m words pass P H =
     let counted : List CountedPosition = counted_positions m words pass P H in
-    all_kept (λ (c : Candidate). nat_eq (length c.window) pass.len) test (tally (counted_positions m words pass P H))
+    all_kept (λ (c : Candidate). nat_eq (length c.window) pass.len) test (with_sums (counted_positions m words pass P H))
     (list_all-map (λ (c : Candidate). nat_eq (length c.window) pass.len) (candidate_at (counted_positions m words pass P H)) (candidates (counted_positions m words pass P H))
     ∙ all_candidates (λ (u : List ℕ). nat_eq (length u) pass.len) (counted_positions m words pass P H)
     ∙ all_seen (λ (u : List ℕ). nat_eq (length u) pass.len) m words pass P H
@@ -243,9 +244,9 @@ pub values_after : (m : Minima) (words : List Word) (pass : Pass) (P : Patterns)
     → value_at (patterns_after_pass m words pass P H raised) w p ≡ max
     (cond (fits w p pass.len pass.dot && is_candidate raised (counted_positions m words pass P H) (window w p pass.len pass.dot)) pass.level 0) (value_at P w p)
 values_after m words pass P H raised w p =
-    value_all pass.level pass.dot P w p (filter raised (tally (counted_positions m words pass P H)))
+    value_all pass.level pass.dot P w p (filter raised (with_sums (counted_positions m words pass P H)))
     ∙ ap (λ b. max (only b pass.level) (value_at P w p))
-    (any_applies w p pass.len pass.dot (filter raised (tally (counted_positions m words pass P H))) (passing_long raised m words pass P H)
+    (any_applies w p pass.len pass.dot (filter raised (with_sums (counted_positions m words pass P H))) (passing_long raised m words pass P H)
     ∙ ap (λ b. fits w p pass.len pass.dot && b) (among_candidates raised (counted_positions m words pass P H) (window w p pass.len pass.dot)))
 
 pub covers_after : (m : Minima) (words : List Word) (pass : Pass) (P : Patterns) (H : Hopeless) (raised hopeless : Candidate → Bool) (w : List ℕ) (p d : ℕ) → fits w p pass.len d ≡ true
@@ -253,17 +254,17 @@ pub covers_after : (m : Minima) (words : List Word) (pass : Pass) (P : Patterns)
     ≡ ((nat_eq d pass.dot && (is_candidate raised (counted_positions m words pass P H) (window w p pass.len pass.dot)
     || is_candidate hopeless (counted_positions m words pass P H) (window w p pass.len pass.dot))) || is_covered pass.level P H (window w p pass.len d) d)
 covers_after m words pass P H raised hopeless w p d fit =
-    cover_hopeless pass.level pass.dot (patterns_after_pass m words pass P H raised) H (window w p pass.len d) d (filter hopeless (tally (counted_positions m words pass P H)))
-    ∙ ap (λ b. list_any (λ (x : Candidate). applies (window w p pass.len d) d (x.window, pass.dot)) (filter hopeless (tally (counted_positions m words pass P H))) || b)
-    (cover_raised pass.level pass.dot P H (window w p pass.len d) d (filter raised (tally (counted_positions m words pass P H))))
+    cover_hopeless pass.level pass.dot (patterns_after_pass m words pass P H raised) H (window w p pass.len d) d (filter hopeless (with_sums (counted_positions m words pass P H)))
+    ∙ ap (λ b. list_any (λ (x : Candidate). applies (window w p pass.len d) d (x.window, pass.dot)) (filter hopeless (with_sums (counted_positions m words pass P H))) || b)
+    (cover_raised pass.level pass.dot P H (window w p pass.len d) d (filter raised (with_sums (counted_positions m words pass P H))))
     ∙ (λ i. those hopeless i || (those raised i || is_covered pass.level P H (window w p pass.len d) d))
     ∙ grouped (nat_eq d pass.dot) (is_candidate raised (counted_positions m words pass P H) (window w p pass.len pass.dot))
     (is_candidate hopeless (counted_positions m words pass P H) (window w p pass.len pass.dot)) (is_covered pass.level P H (window w p pass.len d) d)
   where
-    those : (test : Candidate → Bool) → list_any (λ (x : Candidate). applies (window w p pass.len d) d (x.window, pass.dot)) (filter test (tally (counted_positions m words pass P H)))
+    those : (test : Candidate → Bool) → list_any (λ (x : Candidate). applies (window w p pass.len d) d (x.window, pass.dot)) (filter test (with_sums (counted_positions m words pass P H)))
         ≡ (nat_eq d pass.dot && is_candidate test (counted_positions m words pass P H) (window w p pass.len pass.dot))
     those test =
-        any_covers w p pass.len d pass.dot (filter test (tally (counted_positions m words pass P H))) fit (passing_long test m words pass P H)
+        any_covers w p pass.len d pass.dot (filter test (with_sums (counted_positions m words pass P H))) fit (passing_long test m words pass P H)
         ∙ ap (λ b. nat_eq d pass.dot && b) (among_candidates test (counted_positions m words pass P H) (window w p pass.len pass.dot))
 
     grouped : (a r h c : Bool) → ((a && h) || ((a && r) || c)) ≡ ((a && (r || h)) || c)

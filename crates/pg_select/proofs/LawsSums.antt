@@ -25,7 +25,7 @@ use Rattle.pg_select.specs.Inside.words.WordCounts.{counted_positions_in}
 use Rattle.pg_select.specs.Sums.{weight_of, marks_in, totals}
 use Rattle.pg_select.specs.Inside.SumSteps.{is_found, is_error, is_missed}
 use Rattle.pg_select.specs.Inside.laws.Laws.{AreFew, positions_in}
-use Rattle.pg_select.proofs.LawsTally.{cmp, counted_as, keys_length}
+use Rattle.pg_select.proofs.LawsCounts.{cmp, counted_as, keys_length}
 
 -- a weight is within its limit
 pub weight_within : (w : Word) (p : ℕ) → IsWord w → position_weight w p ≤ WEIGHT_MAX

@@ -20,9 +20,9 @@ use Rattle.pg_select.specs.Sums.{weight_of, marks_in, totals}
 use Rattle.pg_select.specs.Inside.SumSteps.{is_found, is_error, is_missed}
 use Rattle.pg_select.specs.Windows.{Hopeless, window, fits, is_covered}
 use Rattle.pg_select.specs.declared.pass.Pass.{Pass}
-use Rattle.pg_select.specs.CountedPositions.{Minima, CountedPosition, Candidate, counts_as, counted_at, counted_positions_at, counted_positions, same_signs, with_window, candidates, tally}
+use Rattle.pg_select.specs.CountedPositions.{Minima, CountedPosition, Candidate, counts_as, counted_at, counted_positions_at, counted_positions, same_signs, with_window, candidates, with_sums}
 use Rattle.pg_select.specs.Inside.words.WordCounts.{counted_positions_in}
-use Rattle.pg_select.proofs.LawsTally.{cmp, same_window, counted_as, is_counted_window, candidates_are_counted, windows_sorted}
+use Rattle.pg_select.proofs.LawsCounts.{cmp, same_window, counted_as, is_counted_window, candidates_are_counted, windows_sorted}
 use Rattle.pg_select.specs.Inside.laws.Steps.{IsUpTo, candidate_at, is_candidate, patterns_after_pass, good_raised, bad_raised, FindsMore, PreventsMore}
 use Rattle.pg_select.specs.Inside.laws.Above.{counts_above, above_at, above_in, above_positions, good_above, bad_above, MovesAllBut}
 use Rattle.pg_types.proofs.BoolFacts.{is_true}
@@ -156,7 +156,7 @@ raised_weight raised counted kind s = cond (kind s && is_candidate raised counte
 
 sum_raised : (kind : CountedPosition → Bool) (raised : Candidate → Bool) (g : Candidate → ℕ) (counted : List CountedPosition)
     → ((u : List ℕ) → g (candidate_at counted u) ≡ sum_by (own kind (λ (u : List ℕ). raised (candidate_at counted u)) u) counted)
-    → sum_by g (filter raised (tally counted)) ≡ sum_by (raised_weight raised counted kind) counted
+    → sum_by g (filter raised (with_sums counted)) ≡ sum_by (raised_weight raised counted kind) counted
 sum_raised kind raised g counted part =
     passing_sum raised g counted (candidates counted)
     ∙ sum_same (λ (u : List ℕ). cond (raised (candidate_at counted u)) (g (candidate_at counted u)) 0)

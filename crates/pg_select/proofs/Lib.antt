@@ -1,10 +1,10 @@
-pub mod LawsTally
+pub mod LawsCounts
 pub mod LawsSums
 pub mod LawsValues
 pub mod LawsCandidates
 pub mod LawsLater
 pub mod LawsLonger
-pub mod LawsClosed
+pub mod LawsNothing
 pub mod LawsLengths
 pub mod LawsRaised
 pub mod LawsBounds

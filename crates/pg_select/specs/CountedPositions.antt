@@ -83,6 +83,7 @@ pub record Candidate : Type 0 where
   pub bad : ℕ
 
 -- the candidates of what is counted, with their sums
-abbrev pub tally : List CountedPosition → List Candidate
-tally counted = map (λ u. record { window = u; good = good_of counted u; bad = bad_of counted u })
+abbrev pub with_sums : List CountedPosition → List Candidate
+with_sums counted =
+    map (λ u. record { window = u; good = good_of counted u; bad = bad_of counted u })
     (candidates counted)

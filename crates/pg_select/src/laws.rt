@@ -13,7 +13,7 @@ pub fn candidates_in_order()
 
 /// Counting what a pass counts, one position after the other, gives its candidates with their sums
 /// of good and bad weights.
-pub fn counts_are_tally()
+pub fn counts_give_sums()
     ensures { CountsAreTally }
 {}
 
@@ -63,23 +63,23 @@ pub fn levels_go_on()
 
 /// Within a level a position that is no longer counted is not counted later, so a pass that counts
 /// nothing counts nothing later.
-pub fn closed_stays_closed()
+pub fn nothing_counts_later()
     ensures statuses { StatusBack }
     ensures counted { CountedBack }
-    ensures closed { CountsNothingLater }
+    ensures later { CountsNothingLater }
 {}
 
 /// A position that is not counted with a window is not counted with a longer one, so where a pass
 /// counts nothing, the passes that are longer by a sign, with the same dot or the next, count
 /// nothing.
-pub fn closed_when_longer()
+pub fn nothing_counts_longer()
     ensures counted { CountedShorter }
-    ensures closed { CountsNothingLonger }
+    ensures longer { CountsNothingLonger }
 {}
 
 /// A pass that left no candidate, as it chose or gave up each of them, counts nothing from its end
 /// to the end of the level.
-pub fn closed_at_end()
+pub fn nothing_counts_after()
     ensures covered { CountsNothingWhenCovered }
     ensures decided { CountsNothingAtEnd }
 {}

@@ -101,16 +101,6 @@ cell_in fs p s = elim (family_at fs p) [
   | Some f ↦ if list_any (nat_eq s) f.signs then Some (f.base + s) else None
 ]
 
--- the cell of the string that has q after the prefix p
-abbrev pub cell_after : Families → List ℕ → List ℕ → Option ℕ
-cell_after fs p [] = None
-cell_after fs p (s ∷ []) = cell_in fs p s
-cell_after fs p (s ∷ t ∷ q) = cell_after fs (p ++ s ∷ []) (t ∷ q)
-
--- the cell of a string
-abbrev pub cell_of : Families → List ℕ → Option ℕ
-cell_of fs q = cell_after fs [] q
-
 -- the base of the family with the prefix
 abbrev pub base_of : Families → List ℕ → Option ℕ
 base_of fs p = option_map (λ f. f.base) (family_at fs p)

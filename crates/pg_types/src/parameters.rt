@@ -38,13 +38,13 @@ pub struct Params {
 
 impl Model for Params {
     ghost use Rattle.pg_types.specs.Parameters.{Parameters};
-    ghost use Rattle.pg_types.specs.Inside.Ranges.{IsRun};
+    ghost use Rattle.pg_types.specs.Inside.Ranges.{AreParameters};
 
     ghost Value = { Parameters };
 
     ghost view = { λ p. record { start = p.start; finish = p.finish; levels = p.levels.items } };
 
-    ghost invariant = { λ p. IsRun
+    ghost invariant = { λ p. AreParameters
         (record { start = p.start; finish = p.finish; levels = p.levels.items }) };
 }
 

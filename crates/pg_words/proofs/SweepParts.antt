@@ -22,31 +22,31 @@ too_few (a ∷ b ∷ c ∷ d ∷ e ∷ f ∷ []) few = refl
 too_few (a ∷ b ∷ c ∷ d ∷ e ∷ f ∷ g ∷ words) few = absurd (omega arith)
 
 -- parts whose first number is none
-pub no_folds : (dict patterns output translate k bad_word missed_word : List ℕ) (params : List (List ℕ)) → number_within FOLDS_DIGITS 2 FOLDS_MAX k ≡ None
-    → sweep_in (dict ∷ patterns ∷ output ∷ translate ∷ k ∷ bad_word ∷ missed_word ∷ params) ≡ None
-no_folds dict patterns output translate k bad_word missed_word params one = rw one refl
+pub no_folds : (dict patterns output translate k bad_argument missed_argument : List ℕ) (params : List (List ℕ)) → number_within FOLDS_DIGITS 2 FOLDS_MAX k ≡ None
+    → sweep_in (dict ∷ patterns ∷ output ∷ translate ∷ k ∷ bad_argument ∷ missed_argument ∷ params) ≡ None
+no_folds dict patterns output translate k bad_argument missed_argument params one = rw one refl
 
 -- parts whose second number is none
-pub no_bad : (dict patterns output translate k bad_word missed_word : List ℕ) (params : List (List ℕ)) (folds : ℕ) → number_within FOLDS_DIGITS 2 FOLDS_MAX k
-    ≡ Some folds → number_within PRICE_DIGITS 1 PRICE_MAX bad_word ≡ None
-    → sweep_in (dict ∷ patterns ∷ output ∷ translate ∷ k ∷ bad_word ∷ missed_word ∷ params) ≡ None
-no_bad dict patterns output translate k bad_word missed_word params folds one two = rw (one, two) refl
+pub no_bad : (dict patterns output translate k bad_argument missed_argument : List ℕ) (params : List (List ℕ)) (folds : ℕ) → number_within FOLDS_DIGITS 2 FOLDS_MAX k
+    ≡ Some folds → number_within PRICE_DIGITS 1 PRICE_MAX bad_argument ≡ None
+    → sweep_in (dict ∷ patterns ∷ output ∷ translate ∷ k ∷ bad_argument ∷ missed_argument ∷ params) ≡ None
+no_bad dict patterns output translate k bad_argument missed_argument params folds one two = rw (one, two) refl
 
 -- parts whose third number is none
-pub no_missed : (dict patterns output translate k bad_word missed_word : List ℕ) (params : List (List ℕ)) (folds bad : ℕ) → number_within FOLDS_DIGITS 2 FOLDS_MAX k
-    ≡ Some folds → number_within PRICE_DIGITS 1 PRICE_MAX bad_word ≡ Some bad
-    → number_within PRICE_DIGITS 1 PRICE_MAX missed_word ≡ None → sweep_in (dict ∷ patterns ∷ output ∷ translate ∷ k ∷ bad_word ∷ missed_word ∷ params) ≡ None
-no_missed dict patterns output translate k bad_word missed_word params folds bad one two three = rw (one, two, three) refl
+pub no_missed : (dict patterns output translate k bad_argument missed_argument : List ℕ) (params : List (List ℕ)) (folds bad : ℕ) → number_within FOLDS_DIGITS 2 FOLDS_MAX k
+    ≡ Some folds → number_within PRICE_DIGITS 1 PRICE_MAX bad_argument ≡ Some bad
+    → number_within PRICE_DIGITS 1 PRICE_MAX missed_argument ≡ None → sweep_in (dict ∷ patterns ∷ output ∷ translate ∷ k ∷ bad_argument ∷ missed_argument ∷ params) ≡ None
+no_missed dict patterns output translate k bad_argument missed_argument params folds bad one two three = rw (one, two, three) refl
 
 -- a number of parameter files that is within its bounds
 pub is_count : (count : ℕ) → 1 ≤ count → count ≤ SETS_MAX → (nat_lt 0 count && nat_le count SETS_MAX) ≡ true
 is_count count some few = grind (arith, nat_tests)
 
 -- parts whose numbers are within their bounds
-pub all_within : (dict patterns output translate k bad_word missed_word : List ℕ) (params : List (List ℕ)) (folds bad missed : ℕ) → number_within FOLDS_DIGITS 2 FOLDS_MAX k
-    ≡ Some folds → number_within PRICE_DIGITS 1 PRICE_MAX bad_word ≡ Some bad → number_within PRICE_DIGITS 1 PRICE_MAX missed_word ≡ Some missed
+pub all_within : (dict patterns output translate k bad_argument missed_argument : List ℕ) (params : List (List ℕ)) (folds bad missed : ℕ) → number_within FOLDS_DIGITS 2 FOLDS_MAX k
+    ≡ Some folds → number_within PRICE_DIGITS 1 PRICE_MAX bad_argument ≡ Some bad → number_within PRICE_DIGITS 1 PRICE_MAX missed_argument ≡ Some missed
     → (nat_lt 0 (length params) && nat_le (length params) SETS_MAX) ≡ true
-    → option_map ToSweep (sweep_in (dict ∷ patterns ∷ output ∷ translate ∷ k ∷ bad_word ∷ missed_word ∷ params))
+    → option_map ToSweep (sweep_in (dict ∷ patterns ∷ output ∷ translate ∷ k ∷ bad_argument ∷ missed_argument ∷ params))
     ≡ where_taken (dict ∷ patterns ∷ translate ∷ params) (output ∷ []) (ToSweep (record {
       dict = dict;
       patterns = patterns;
@@ -57,7 +57,7 @@ pub all_within : (dict patterns output translate k bad_word missed_word : List �
       missed = missed;
       params = params;
     }))
-all_within dict patterns output translate k bad_word missed_word params folds bad missed one two three count =
+all_within dict patterns output translate k bad_argument missed_argument params folds bad missed one two three count =
     rw (one, two, three, count) (sym (taken_as ToSweep (dict ∷ patterns ∷ translate ∷ params) (output ∷ []) (record {
       dict = dict;
       patterns = patterns;

@@ -2,7 +2,7 @@
 use Rattle.std.proofs.Common.{◌≡◌, ℕ, ◌<◌, ◌≤◌, List, [], ◌∷◌, ◌∙◌, length, drop, get_or, String, sym, ap, arith}
 use Rattle.std.specs.Prelude.{string_bytes}
 use Rattle.std.specs.declared.alloc.Global.{Global}
-use Rattle.pg_words.specs.Inside.Names.{words_of}
+use Rattle.pg_words.specs.Inside.Names.{arguments_of}
 
 -- a text is that of the argument at a place
 abbrev pub IsWordAt : List (String Global) → ℕ → List ℕ → Type 0
@@ -13,12 +13,13 @@ text_at : (words : List (String Global)) (place : ℕ) (text : List ℕ) (at : I
 text_at words place text at = sym (at.2 ∙ ap string_bytes at.1)
 
 -- arguments that have a first one, by their texts
-pub one_word : (words : List (String Global)) (a : List ℕ) (behind : List (String Global)) → 1 ≤ length words → IsWordAt words 0 a → behind ≡ drop 1 words → words_of words ≡ a ∷ words_of behind
+pub one_word : (words : List (String Global)) (a : List ℕ) (behind : List (String Global)) → 1 ≤ length words → IsWordAt words 0 a → behind ≡ drop 1 words
+    → arguments_of words ≡ a ∷ arguments_of behind
 one_word [] a behind some is0 rest = absurd (omega arith)
-one_word (w ∷ words) a behind some is0 rest = λ i. text_at (w ∷ words) 0 a is0 i ∷ words_of (sym rest i)
+one_word (w ∷ words) a behind some is0 rest = λ i. text_at (w ∷ words) 0 a is0 i ∷ arguments_of (sym rest i)
 
 -- two arguments, by their texts
-pub two_words : (words : List (String Global)) (a b : List ℕ) → 2 ≤ length words → length words < 3 → IsWordAt words 0 a → IsWordAt words 1 b → words_of words ≡ a ∷ b ∷ []
+pub two_words : (words : List (String Global)) (a b : List ℕ) → 2 ≤ length words → length words < 3 → IsWordAt words 0 a → IsWordAt words 1 b → arguments_of words ≡ a ∷ b ∷ []
 two_words [] a b some few is0 is1 = absurd (omega arith)
 two_words (_ ∷ []) a b some few is0 is1 = absurd (omega arith)
 two_words (x ∷ y ∷ []) a b some few is0 is1 =
@@ -27,7 +28,8 @@ two_words (x ∷ y ∷ []) a b some few is0 is1 =
 two_words (_ ∷ _ ∷ _ ∷ words) a b some few is0 is1 = absurd (omega arith)
 
 -- three arguments, by their texts
-pub three_words : (words : List (String Global)) (a b c : List ℕ) → 3 ≤ length words → length words < 4 → IsWordAt words 0 a → IsWordAt words 1 b → IsWordAt words 2 c → words_of words ≡ a ∷ b ∷ c ∷ []
+pub three_words : (words : List (String Global)) (a b c : List ℕ) → 3 ≤ length words → length words < 4 → IsWordAt words 0 a → IsWordAt words 1 b → IsWordAt words 2 c
+    → arguments_of words ≡ a ∷ b ∷ c ∷ []
 three_words [] a b c some few is0 is1 is2 = absurd (omega arith)
 three_words (_ ∷ []) a b c some few is0 is1 is2 = absurd (omega arith)
 three_words (_ ∷ _ ∷ []) a b c some few is0 is1 is2 = absurd (omega arith)
@@ -38,7 +40,7 @@ three_words (_ ∷ _ ∷ _ ∷ _ ∷ words) a b c some few is0 is1 is2 = absurd 
 
 -- five arguments, by their texts
 pub five_words : (words : List (String Global)) (a b c d e : List ℕ) → 5 ≤ length words → length words < 6 → IsWordAt words 0 a → IsWordAt words 1 b
-    → IsWordAt words 2 c → IsWordAt words 3 d → IsWordAt words 4 e → words_of words ≡ a ∷ b ∷ c ∷ d ∷ e ∷ []
+    → IsWordAt words 2 c → IsWordAt words 3 d → IsWordAt words 4 e → arguments_of words ≡ a ∷ b ∷ c ∷ d ∷ e ∷ []
 five_words [] a b c d e some few is0 is1 is2 is3 is4 = absurd (omega arith)
 five_words (_ ∷ []) a b c d e some few is0 is1 is2 is3 is4 = absurd (omega arith)
 five_words (_ ∷ _ ∷ []) a b c d e some few is0 is1 is2 is3 is4 = absurd (omega arith)
@@ -52,7 +54,7 @@ five_words (_ ∷ _ ∷ _ ∷ _ ∷ _ ∷ _ ∷ words) a b c d e some few is0 is
 -- arguments that are seven at least, by their texts
 pub seven_words : (words : List (String Global)) (a b c d e f g : List ℕ) (behind : List (String Global)) → 7 ≤ length words
     → IsWordAt words 0 a → IsWordAt words 1 b → IsWordAt words 2 c → IsWordAt words 3 d → IsWordAt words 4 e → IsWordAt words 5 f → IsWordAt words 6 g
-    → behind ≡ drop 7 words → words_of words ≡ a ∷ b ∷ c ∷ d ∷ e ∷ f ∷ g ∷ words_of behind
+    → behind ≡ drop 7 words → arguments_of words ≡ a ∷ b ∷ c ∷ d ∷ e ∷ f ∷ g ∷ arguments_of behind
 seven_words [] a b c d e f g behind some is0 is1 is2 is3 is4 is5 is6 rest = absurd (omega arith)
 seven_words (_ ∷ []) a b c d e f g behind some is0 is1 is2 is3 is4 is5 is6 rest = absurd (omega arith)
 seven_words (_ ∷ _ ∷ []) a b c d e f g behind some is0 is1 is2 is3 is4 is5 is6 rest = absurd (omega arith)
@@ -63,4 +65,4 @@ seven_words (_ ∷ _ ∷ _ ∷ _ ∷ _ ∷ _ ∷ []) a b c d e f g behind some i
 seven_words (t ∷ u ∷ v ∷ w ∷ x ∷ y ∷ z ∷ ws) a b c d e f g behind some is0 is1 is2 is3 is4 is5 is6 rest =
     let words : List (String Global) = t ∷ u ∷ v ∷ w ∷ x ∷ y ∷ z ∷ ws in
     λ i. text_at words 0 a is0 i ∷ text_at words 1 b is1 i ∷ text_at words 2 c is2 i ∷ text_at words 3 d is3 i ∷ text_at words 4 e is4 i ∷ text_at words 5 f is5 i
-    ∷ text_at words 6 g is6 i ∷ words_of (sym rest i)
+    ∷ text_at words 6 g is6 i ∷ arguments_of (sym rest i)

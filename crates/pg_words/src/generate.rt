@@ -6,7 +6,7 @@ ghost use Rattle.arrayvec.specs.ArrayVec.{array_vec_len};
 ghost use Rattle.pg_words.specs.Requests.{ToGenerate, ToAudit};
 ghost use Rattle.pg_words.specs.TakenNames.{is_name};
 ghost use Rattle.pg_words.specs.forms.Generate.{if_asked, input_names, output_names, with_option as with_option_of, with_options as with_options_of, names_in, generate_in, audit_in};
-ghost use Rattle.pg_words.specs.Inside.Names.{texts, words_of};
+ghost use Rattle.pg_words.specs.Inside.Names.{texts, arguments_of};
 ghost use Rattle.pg_words.specs.Inside.CommandRequests.{name_now, texts_of, asked_by, KeepsLimits};
 
 use crate::commands::{Command, Names};
@@ -40,7 +40,7 @@ fn with_option<'a>(names: Names<'a>, option: &str, name: &'a str) -> Option<Name
 fn with_both<'a>(names: Names<'a>, words: &'a [String]) -> Option<Names<'a>>
     requires { length words.now ≡ 4 }
     ensures { option_map texts_of result
-        ≡ with_options_of (texts_of names.entry) (words_of words.now) }
+        ≡ with_options_of (texts_of names.entry) (arguments_of words.now) }
 {
     let (first, second) = (words[0].as_str(), words[2].as_str());
     if first == second {
@@ -55,7 +55,7 @@ fn with_both<'a>(names: Names<'a>, words: &'a [String]) -> Option<Names<'a>>
 /// The names with those of the options. Each option may stand once.
 fn with_options<'a>(names: Names<'a>, words: &'a [String]) -> Option<Names<'a>>
     ensures { option_map texts_of result
-        ≡ with_options_of (texts_of names.entry) (words_of words.now) }
+        ≡ with_options_of (texts_of names.entry) (arguments_of words.now) }
 {
     match words.len() {
         0 => Some(names),
@@ -68,8 +68,8 @@ fn with_options<'a>(names: Names<'a>, words: &'a [String]) -> Option<Names<'a>>
 /// Six names in the order in which they are given.
 fn first_names(words: &[String]) -> Names<'_>
     requires { 6 ≤ length words.now }
-    ensures { names_in (words_of words.now)
-        ≡ with_options_of (texts_of result) (words_of (drop 6 words.now)) }
+    ensures { names_in (arguments_of words.now)
+        ≡ with_options_of (texts_of result) (arguments_of (drop 6 words.now)) }
 {
     Names {
         dict: words[0].as_str(),
@@ -85,7 +85,7 @@ fn first_names(words: &[String]) -> Names<'_>
 
 /// The names in arguments: six, and then the options.
 fn names(words: &[String]) -> Option<Names<'_>>
-    ensures { option_map texts_of result ≡ names_in (words_of words.now) }
+    ensures { option_map texts_of result ≡ names_in (arguments_of words.now) }
 {
     if words.len() < 6 {
         return None;
@@ -138,7 +138,7 @@ fn are_audited(names: &Names<'_>) -> bool
 pub fn generate(words: &[String]) -> Option<Command<'_>>
     ensures within { IfSome result KeepsLimits }
     ensures value { option_map asked_by result
-        ≡ option_map ToGenerate (generate_in (words_of words.now)) }
+        ≡ option_map ToGenerate (generate_in (arguments_of words.now)) }
 {
     let names = names(words)?;
     let outputs = outputs_of(&names);
@@ -153,7 +153,7 @@ pub fn generate(words: &[String]) -> Option<Command<'_>>
 pub fn audit(words: &[String]) -> Option<Command<'_>>
     ensures within { IfSome result KeepsLimits }
     ensures value { option_map asked_by result
-        ≡ option_map ToAudit (audit_in (words_of words.now)) }
+        ≡ option_map ToAudit (audit_in (arguments_of words.now)) }
 {
     let names = names(words)?;
     if are_audited(&names) {

@@ -3,7 +3,7 @@ ghost use Rattle.std.specs.Prelude.{◌≡◌, IfSome};
 ghost use Rattle.std.specs.Option.{option_map};
 ghost use Rattle.pg_words.specs.Requests.{ToPack};
 ghost use Rattle.pg_words.specs.forms.Pack.{pack_in};
-ghost use Rattle.pg_words.specs.Inside.Names.{words_of};
+ghost use Rattle.pg_words.specs.Inside.Names.{arguments_of};
 ghost use Rattle.pg_words.specs.Inside.CommandRequests.{asked_by, KeepsLimits};
 
 use crate::commands::Command;
@@ -12,7 +12,7 @@ use crate::names::where_taken;
 /// What the arguments behind `pack` ask for.
 pub fn pack(words: &[String]) -> Option<Command<'_>>
     ensures value { option_map asked_by result
-        ≡ option_map ToPack (pack_in (words_of words.now)) }
+        ≡ option_map ToPack (pack_in (arguments_of words.now)) }
     ensures within { IfSome result KeepsLimits }
 {
     let [patterns, translate, table] = words else {

@@ -3,7 +3,7 @@ ghost use Rattle.std.specs.Prelude.{◌≡◌, IfSome};
 ghost use Rattle.std.specs.Option.{option_map};
 ghost use Rattle.pg_words.specs.Requests.{ToPrune};
 ghost use Rattle.pg_words.specs.forms.Prune.{prune_in};
-ghost use Rattle.pg_words.specs.Inside.Names.{words_of};
+ghost use Rattle.pg_words.specs.Inside.Names.{arguments_of};
 ghost use Rattle.pg_words.specs.Inside.CommandRequests.{asked_by, KeepsLimits};
 
 use crate::commands::Command;
@@ -12,7 +12,7 @@ use crate::names::where_taken;
 /// What the arguments behind `prune` ask for.
 pub fn prune(words: &[String]) -> Option<Command<'_>>
     ensures value { option_map asked_by result
-        ≡ option_map ToPrune (prune_in (words_of words.now)) }
+        ≡ option_map ToPrune (prune_in (arguments_of words.now)) }
     ensures within { IfSome result KeepsLimits }
 {
     let [dict, patterns, output, translate, report] = words else {

@@ -3,7 +3,7 @@ ghost use Rattle.std.specs.Prelude.{◌≡◌, IfSome};
 ghost use Rattle.std.specs.Option.{option_map};
 ghost use Rattle.pg_words.specs.Requests.{ToSample};
 ghost use Rattle.pg_words.specs.forms.Sample.{sample_in};
-ghost use Rattle.pg_words.specs.Inside.Names.{words_of};
+ghost use Rattle.pg_words.specs.Inside.Names.{arguments_of};
 ghost use Rattle.pg_words.specs.Inside.CommandRequests.{asked_by, KeepsLimits};
 
 use crate::commands::Command;
@@ -13,7 +13,7 @@ use crate::numbers::number_within;
 /// What the arguments behind `sample` ask for.
 pub fn sample(words: &[String]) -> Option<Command<'_>>
     ensures value { option_map asked_by result
-        ≡ option_map (λ n. ToSample n.0 n.1) (sample_in (words_of words.now)) }
+        ≡ option_map (λ n. ToSample n.0 n.1) (sample_in (arguments_of words.now)) }
     ensures within { IfSome result KeepsLimits }
 {
     let [seed, count] = words else {

@@ -4,7 +4,7 @@ ghost use Rattle.std.specs.Option.{option_map};
 ghost use Rattle.pg_words.specs.Requests.{ToSweep};
 ghost use Rattle.pg_words.specs.TakenNames.{where_taken as where_taken_of};
 ghost use Rattle.pg_words.specs.forms.Sweep.{sweep_in};
-ghost use Rattle.pg_words.specs.Inside.Names.{texts, words_of};
+ghost use Rattle.pg_words.specs.Inside.Names.{texts, arguments_of};
 ghost use Rattle.pg_words.specs.Inside.CommandRequests.{asked_by, sweep_of, sweep_inputs, KeepsSweepLimits, KeepsLimits};
 
 use crate::commands::{Command, SweepWords};
@@ -48,7 +48,7 @@ fn sweep_command(words: SweepWords<'_>) -> Option<Command<'_>>
 /// What the arguments behind `sweep` ask for.
 pub fn sweep(words: &[String]) -> Option<Command<'_>>
     ensures value { option_map asked_by result
-        ≡ option_map ToSweep (sweep_in (words_of words.now)) }
+        ≡ option_map ToSweep (sweep_in (arguments_of words.now)) }
     ensures within { IfSome result KeepsLimits }
 {
     let [

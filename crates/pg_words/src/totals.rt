@@ -3,7 +3,7 @@ ghost use Rattle.std.specs.Prelude.{◌≡◌, IfSome};
 ghost use Rattle.std.specs.Option.{option_map};
 ghost use Rattle.pg_words.specs.Requests.{ToTotals};
 ghost use Rattle.pg_words.specs.forms.Totals.{totals_in};
-ghost use Rattle.pg_words.specs.Inside.Names.{words_of};
+ghost use Rattle.pg_words.specs.Inside.Names.{arguments_of};
 ghost use Rattle.pg_words.specs.Inside.CommandRequests.{asked_by, KeepsLimits};
 
 use crate::commands::Command;
@@ -12,7 +12,7 @@ use crate::names::where_taken;
 /// What the arguments behind `totals` ask for.
 pub fn totals(words: &[String]) -> Option<Command<'_>>
     ensures value { option_map asked_by result
-        ≡ option_map ToTotals (totals_in (words_of words.now)) }
+        ≡ option_map ToTotals (totals_in (arguments_of words.now)) }
     ensures within { IfSome result KeepsLimits }
 {
     let [dict, translate, table] = words else {

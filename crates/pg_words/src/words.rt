@@ -2,7 +2,7 @@
 ghost use Rattle.std.specs.Prelude.{◌≡◌, ◌∷◌, IfSome};
 ghost use Rattle.std.specs.Option.{option_map};
 ghost use Rattle.pg_words.specs.Requests.{request_of};
-ghost use Rattle.pg_words.specs.Inside.Names.{words_of};
+ghost use Rattle.pg_words.specs.Inside.Names.{arguments_of};
 ghost use Rattle.pg_words.specs.Inside.CommandRequests.{asked_by, later_request_of, KeepsLimits};
 
 use crate::commands::Command;
@@ -15,7 +15,7 @@ use crate::totals::totals;
 
 /// What the arguments behind the name of a command ask for.
 fn command_of<'a>(word: &str, behind: &'a [String]) -> Option<Command<'a>>
-    ensures value { option_map asked_by result ≡ request_of (word.now ∷ words_of behind.now) }
+    ensures value { option_map asked_by result ≡ request_of (word.now ∷ arguments_of behind.now) }
     ensures within { IfSome result KeepsLimits }
 {
     if word == "generate" {
@@ -32,7 +32,7 @@ fn command_of<'a>(word: &str, behind: &'a [String]) -> Option<Command<'a>>
 /// What the arguments behind the name of a command ask for, where it is none of the first three.
 fn later_command<'a>(word: &str, behind: &'a [String]) -> Option<Command<'a>>
     ensures value { option_map asked_by result
-        ≡ later_request_of word.now (words_of behind.now) }
+        ≡ later_request_of word.now (arguments_of behind.now) }
     ensures within { IfSome result KeepsLimits }
 {
     if word == "pack" {
@@ -60,7 +60,7 @@ fn later_command<'a>(word: &str, behind: &'a [String]) -> Option<Command<'a>>
 /// - `prune DICT PATTERNS OUT TRANSLATE REPORT`.
 /// - `sweep DICT PATTERNS OUT TRANSLATE K BAD MISSED`, with the names of 1 to 16 parameter files.
 pub fn command(words: &[String]) -> Option<Command<'_>>
-    ensures value { option_map asked_by result ≡ request_of (words_of words.now) }
+    ensures value { option_map asked_by result ≡ request_of (arguments_of words.now) }
     ensures within { IfSome result KeepsLimits }
 {
     match words {

@@ -8,7 +8,8 @@ use Rattle.std.specs.List.{list_all}
 use Rattle.pg_types.specs.Inside.Signs.{is_sign}
 use Rattle.pg_types.specs.Inside.counting.Counts.{SignsWithin}
 use Rattle.pg_types.specs.Inside.counting.NumberedWindows.{Windows, HasNumber}
-use Rattle.pg_types.specs.Placement.{base_of, cell_of}
+use Rattle.pg_types.specs.Placement.{base_of}
+use Rattle.pg_types.specs.Inside.Placing.{cell_of}
 use Rattle.pg_types.proofs.StringEntries.{order, find_put_same, find_put_other}
 use Rattle.pg_cells.specs.Inside.linked.ValuedFamilies.{ValuedFamilies}
 use Rattle.pg_cells.specs.Inside.linked.AreValuedFamilies.{AreValuedFamilies}

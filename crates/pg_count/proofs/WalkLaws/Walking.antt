@@ -9,7 +9,8 @@ use Rattle.std.specs.declared.cmp.Ordering.TheVariants.{Less, Equal}
 use Rattle.std.specs.Ordering.{nat_cmp, ordering_then, is_lt}
 use Rattle.std.specs.FinMap.{slice_cmp-IsAntisymmetric, nat_cmp-IsAntisymmetric}
 use Rattle.std.specs.FinMap.Entries.{find, is_sorted, below_all, where_key, find-where_key, is_sorted-where_key}
-use Rattle.pg_types.specs.Placement.{base_of, cell_of}
+use Rattle.pg_types.specs.Placement.{base_of}
+use Rattle.pg_types.specs.Inside.Placing.{cell_of}
 use Rattle.pg_types.proofs.BoolFacts.{first_half, second_half, less_from, and_first, and_second}
 use Rattle.pg_cells.specs.Inside.linked.ValuedFamilies.{ValuedFamilies}
 use Rattle.pg_cells.specs.Inside.linked.AreValuedFamilies.{AreValuedFamilies}

@@ -1,6 +1,7 @@
 //! The search for the least counted window above another.
 ghost use Rattle.std.specs.Prelude.{◌≡◌, ◌+◌, ◌-◌, ◌<◌, ◌≤◌, ℕ, List, [], ◌∷◌, ◌++◌, length};
-ghost use Rattle.pg_types.specs.Placement.{base_of, cell_of};
+ghost use Rattle.pg_types.specs.Placement.{base_of};
+ghost use Rattle.pg_types.specs.Inside.Placing.{cell_of};
 ghost use Rattle.pg_cells.specs.Inside.linked.AreValuedFamilies.{AreValuedFamilies};
 ghost use Rattle.pg_cells.specs.Inside.linked.Members.{IsNextSign};
 ghost use Rattle.pg_count.specs.Inside.walks.Bounds.{first_sign};

@@ -1,6 +1,7 @@
 //! The walk over the counted strings, in the order of signs.
 ghost use Rattle.std.specs.Prelude.{◌≡◌, ◌+◌, ◌<◌, ℕ, true, List, [], ◌∷◌, ◌++◌, length, Some, OnOk};
-ghost use Rattle.pg_types.specs.Placement.{base_of, cell_of};
+ghost use Rattle.pg_types.specs.Placement.{base_of};
+ghost use Rattle.pg_types.specs.Inside.Placing.{cell_of};
 ghost use Rattle.pg_cells.specs.Inside.linked.AreValuedFamilies.{AreValuedFamilies};
 ghost use Rattle.pg_cells.specs.Inside.linked.Members.{IsNextSign, goes_on};
 ghost use Rattle.pg_count.specs.Inside.cells.Leaves.{AreLast, AreShort, IsLast};

@@ -12,7 +12,7 @@ pub(crate) struct Mistake<'a> {
 }
 
 /// A sentence about up to three arguments.
-pub(crate) fn about_words<'a>(
+pub(crate) fn about_arguments<'a>(
     sentence: &'static str,
     first: &'a str,
     second: &'a str,

@@ -1,7 +1,7 @@
 //! Files of a command that have one name and have to have two.
 
 use crate::words::forms::{Behind, Command, Slot, is_option};
-use crate::words::mistake::{Mistake, about_words};
+use crate::words::mistake::{Mistake, about_arguments};
 
 /// How the argument with this index is called, and whether it names a file that is written; none
 /// where it is no name of a file.
@@ -26,7 +26,7 @@ fn name_at<'a>(command: &Command, words: &'a [String], index: usize) -> Option<(
 /// how the command calls them, as OUT.
 fn of_one_name<'a>(first: &'a str, second: &'a str, name: &'a str) -> Mistake<'a> {
     let sentence = "$0: $1 and $2 are one name, $3, and what is written has one of its own";
-    about_words(sentence, first, second, name)
+    about_arguments(sentence, first, second, name)
 }
 
 /// What is wrong where one name stands twice. Nothing is wrong where neither is the name of

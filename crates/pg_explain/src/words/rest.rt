@@ -1,7 +1,7 @@
 //! The arguments that follow those which each call of a command has: options, or parameter files.
 
 use crate::words::forms::{Behind, Command, is_option};
-use crate::words::mistake::{Mistake, about_words};
+use crate::words::mistake::{Mistake, about_arguments};
 use crate::words::slots::name_mistake;
 use pg_types::SETS_MAX;
 
@@ -44,7 +44,7 @@ fn set_mistake(word: &str, sets: usize) -> Option<Mistake<'_>> {
     let sentence = "$0: $4 parameter files are given, and $5 is the most";
     Some(Mistake {
         number: sets,
-        ..about_words(sentence, "", "", "")
+        ..about_arguments(sentence, "", "", "")
     })
 }
 
@@ -62,5 +62,5 @@ pub(crate) fn rest_mistake<'a>(
         _ if index.saturating_sub(slots) % 2 == 1 => return name_mistake("FILE", word, false),
         _ => option_sentence(command, words, index, word)?,
     };
-    Some(about_words(sentence, word, "", ""))
+    Some(about_arguments(sentence, word, "", ""))
 }

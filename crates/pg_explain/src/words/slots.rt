@@ -1,7 +1,7 @@
 //! The arguments that each call of a command has.
 
 use crate::words::forms::{Range, Slot, is_option};
-use crate::words::mistake::{Mistake, about_words};
+use crate::words::mistake::{Mistake, about_arguments};
 
 /// What is wrong with an argument as a name. Where the command has options, one that stands there
 /// is too early.
@@ -19,7 +19,7 @@ pub(crate) fn name_mistake<'a>(
     } else {
         "$0: $1 stands where $2 is due, and no name begins with two dashes"
     };
-    Some(about_words(sentence, word, name, ""))
+    Some(about_arguments(sentence, word, name, ""))
 }
 
 /// Whether an argument is a number in a range.
@@ -45,7 +45,7 @@ fn number_mistake<'a>(name: &'static str, word: &'a str, range: &Range) -> Optio
     };
     Some(Mistake {
         number: range.digits,
-        ..about_words(sentence, name, word, range.due)
+        ..about_arguments(sentence, name, word, range.due)
     })
 }
 

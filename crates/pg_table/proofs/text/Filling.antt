@@ -5,7 +5,8 @@ use Rattle.std.specs.FinMap.{find}
 use Rattle.std.proofs.lemmas.Bool.{cases_eq, cases_lt, eqb-true}
 use Rattle.std.proofs.lemmas.List.{get_or-set_same, get_or-set_other, length-set, get_or-replicate, length-replicate, take-take, take-append-drop, length_push, nil_from_length}
 use Rattle.std.proofs.lemmas.List.FromFn.{fill_by_all}
-use Rattle.pg_types.specs.Placement.{cell_of, base_of, top}
+use Rattle.pg_types.specs.Placement.{base_of, top}
+use Rattle.pg_types.specs.Inside.Placing.{cell_of}
 use Rattle.pg_cells.specs.Inside.linked.ValuedFamilies.{ValuedFamilies}
 use Rattle.pg_cells.specs.Inside.linked.AreValuedFamilies.{AreValuedFamilies}
 use Rattle.pg_cells.proofs.StringCells.{cell_parts}

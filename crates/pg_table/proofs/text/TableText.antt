@@ -7,7 +7,8 @@ use Rattle.std.proofs.lemmas.List.{length-map}
 use Rattle.std.proofs.lemmas.List.FromFn.{length-map-range_with_len, get_or-map-range_with_len}
 use Rattle.std.proofs.lemmas.Option.{slice_get-map, slice_get-get_or, get_or_from_slice_get}
 use Rattle.pg_types.specs.declared.limits.TheConstants.{SIGNS_MAX}
-use Rattle.pg_types.specs.Placement.{cell_of, top}
+use Rattle.pg_types.specs.Placement.{top}
+use Rattle.pg_types.specs.Inside.Placing.{cell_of}
 use Rattle.pg_types.specs.Tails.{outputs_of}
 use Rattle.pg_patterns.specs.Values.{Patterns, value_of}
 use Rattle.pg_patterns.specs.Inside.PatternMaps.{IsPatternMap}

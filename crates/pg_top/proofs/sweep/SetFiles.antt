@@ -7,7 +7,7 @@ use Rattle.pg_types.specs.Parameters.{Parameters, parameters}
 use Rattle.pg_outside.specs.Content.{FileMap, FilesShown, KeepsHeld, file_at}
 use Rattle.pg_outside.specs.Inside.NameFaults.{NoneFell}
 use Rattle.pg_outside.specs.FilesCalls.{Reads}
-use Rattle.pg_words.specs.Inside.Names.{words_of}
+use Rattle.pg_words.specs.Inside.Names.{arguments_of}
 use Rattle.pg_steps.specs.FileCalls.{MakesCalls, read_calls}
 use Rattle.pg_steps.specs.Readings.{HeldFiles, Reading, parameters_named}
 use Rattle.pg_steps.specs.Inside.reading.ReadAs.{read_as}
@@ -57,53 +57,53 @@ sets_read number (name ∷ names) = ap (λ calls. Reads name ∷ calls) (sets_re
 
 -- the names in front of a name, and behind it
 module _ (names : List (String Global)) (i : ℕ) (name : String Global) (is : name ≡ get_or names i name) (within : i < length names) where
-  names_more : words_of (take (i + 1) names) ≡ words_of (take i names) ++ string_bytes name ∷ []
-  names_more = ap words_of (take_more names i name within) ∙ map-append string_bytes (take i names) (get_or names i name ∷ [])
-      ∙ ap (λ (n : String Global). words_of (take i names) ++ string_bytes n ∷ []) (sym is)
+  names_more : arguments_of (take (i + 1) names) ≡ arguments_of (take i names) ++ string_bytes name ∷ []
+  names_more = ap arguments_of (take_more names i name within) ∙ map-append string_bytes (take i names) (get_or names i name ∷ [])
+      ∙ ap (λ (n : String Global). arguments_of (take i names) ++ string_bytes n ∷ []) (sym is)
 
-  names_split : words_of names ≡ words_of (take i names) ++ string_bytes name ∷ words_of (drop (i + 1) names)
+  names_split : arguments_of names ≡ arguments_of (take i names) ++ string_bytes name ∷ arguments_of (drop (i + 1) names)
   names_split =
-      ap words_of (sym (take-append-drop (i + 1) names))
+      ap arguments_of (sym (take-append-drop (i + 1) names))
       ∙ map-append string_bytes (take (i + 1) names) (drop (i + 1) names)
-      ∙ ap (λ (front : List (List ℕ)). front ++ words_of (drop (i + 1) names)) names_more
-      ∙ append_assoc (words_of (take i names)) (string_bytes name ∷ []) (words_of (drop (i + 1) names))
+      ∙ ap (λ (front : List (List ℕ)). front ++ arguments_of (drop (i + 1) names)) names_more
+      ∙ append_assoc (arguments_of (take i names)) (string_bytes name ∷ []) (arguments_of (drop (i + 1) names))
 
   -- one more file is read
-  pub sets_more : (h1 h2 : Option FileMap) (sets : List Parameters) (set : Parameters) → KeepsHeld h1 h2 → IfSome h1 (λ files. HasSets (file_at files) (words_of (take i names)) sets)
+  pub sets_more : (h1 h2 : Option FileMap) (sets : List Parameters) (set : Parameters) → KeepsHeld h1 h2 → IfSome h1 (λ files. HasSets (file_at files) (arguments_of (take i names)) sets)
       → IfSome h2 (λ files. read_as parameters (file_at files) (string_bytes name) ≡ Some (Ok set))
-      → IfSome h2 (λ files. HasSets (file_at files) (words_of (take (i + 1) names)) (sets ++ set ∷ []))
+      → IfSome h2 (λ files. HasSets (file_at files) (arguments_of (take (i + 1) names)) (sets ++ set ∷ []))
   sets_more h1 h2 sets set keeps before more =
-      mapped h2 (λ files. HasSets (file_at files) (words_of (take i names)) sets × (read_as parameters (file_at files) (string_bytes name) ≡ Some (Ok set)))
-      (λ files. HasSets (file_at files) (words_of (take (i + 1) names)) (sets ++ set ∷ []))
+      mapped h2 (λ files. HasSets (file_at files) (arguments_of (take i names)) sets × (read_as parameters (file_at files) (string_bytes name) ≡ Some (Ok set)))
+      (λ files. HasSets (file_at files) (arguments_of (take (i + 1) names)) (sets ++ set ∷ []))
       (λ files h. subst (λ (ns : List (List ℕ)). HasSets (file_at files) ns (sets ++ set ∷ [])) (sym names_more)
-      (sets_and (file_at files) (words_of (take i names)) sets (string_bytes name) set h.0 h.1))
-      (both h2 (λ files. HasSets (file_at files) (words_of (take i names)) sets) (λ files. read_as parameters (file_at files) (string_bytes name) ≡ Some (Ok set))
-      (held_later h1 h2 (λ files. HasSets (file_at files) (words_of (take i names)) sets) keeps before) more)
+      (sets_and (file_at files) (arguments_of (take i names)) sets (string_bytes name) set h.0 h.1))
+      (both h2 (λ files. HasSets (file_at files) (arguments_of (take i names)) sets) (λ files. read_as parameters (file_at files) (string_bytes name) ≡ Some (Ok set))
+      (held_later h1 h2 (λ files. HasSets (file_at files) (arguments_of (take i names)) sets) keeps before) more)
 
-  pub set_read : (s0 s1 s2 : FilesShown) → MakesCalls s0 s1 (map Reads (words_of (take i names))) → MakesCalls s1 s2 (Reads (string_bytes name) ∷ [])
-      → MakesCalls s0 s2 (map Reads (words_of (take i names)) ++ Reads (string_bytes name) ∷ [])
-  set_read s0 s1 s2 before here = calls_on (map Reads (words_of (take i names))) (Reads (string_bytes name) ∷ []) s0 s1 s2 before here
+  pub set_read : (s0 s1 s2 : FilesShown) → MakesCalls s0 s1 (map Reads (arguments_of (take i names))) → MakesCalls s1 s2 (Reads (string_bytes name) ∷ [])
+      → MakesCalls s0 s2 (map Reads (arguments_of (take i names)) ++ Reads (string_bytes name) ∷ [])
+  set_read s0 s1 s2 before here = calls_on (map Reads (arguments_of (take i names))) (Reads (string_bytes name) ∷ []) s0 s1 s2 before here
 
-  pub sets_read_on : (s0 s1 s2 : FilesShown) → MakesCalls s0 s1 (map Reads (words_of (take i names))) → MakesCalls s1 s2 (Reads (string_bytes name) ∷ [])
-      → MakesCalls s0 s2 (map Reads (words_of (take (i + 1) names)))
+  pub sets_read_on : (s0 s1 s2 : FilesShown) → MakesCalls s0 s1 (map Reads (arguments_of (take i names))) → MakesCalls s1 s2 (Reads (string_bytes name) ∷ [])
+      → MakesCalls s0 s2 (map Reads (arguments_of (take (i + 1) names)))
   sets_read_on s0 s1 s2 before here =
-      let same : map Reads (words_of (take i names)) ++ Reads (string_bytes name) ∷ [] ≡ map Reads (words_of (take (i + 1) names)) =
-      sym (ap (map Reads) names_more ∙ map-append Reads (words_of (take i names)) (string_bytes name ∷ [])) in
-      calls_are (map Reads (words_of (take i names)) ++ Reads (string_bytes name) ∷ []) (map Reads (words_of (take (i + 1) names))) s0 s2 same (set_read s0 s1 s2 before here)
+      let same : map Reads (arguments_of (take i names)) ++ Reads (string_bytes name) ∷ [] ≡ map Reads (arguments_of (take (i + 1) names)) =
+      sym (ap (map Reads) names_more ∙ map-append Reads (arguments_of (take i names)) (string_bytes name ∷ [])) in
+      calls_are (map Reads (arguments_of (take i names)) ++ Reads (string_bytes name) ∷ []) (map Reads (arguments_of (take (i + 1) names))) s0 s2 same (set_read s0 s1 s2 before here)
 
   -- a stop at a file is a stop of all
   pub stopped_set : (s0 s1 s2 : FilesShown) (sets : List Parameters) (stop : Stop) → NoneFell s0.read_faults s1.read_faults
-      → MakesCalls s0 s2 (map Reads (words_of (take i names)) ++ Reads (string_bytes name) ∷ []) → KeepsHeld s1.held s2.held
-      → IfSome s1.held (λ files. HasSets (file_at files) (words_of (take i names)) sets) → StopsAt (set_file (i + 1) (string_bytes name)) s1 s2 stop
-      → StopsReading (set_files 1 (words_of names)) s0 s2 stop
+      → MakesCalls s0 s2 (map Reads (arguments_of (take i names)) ++ Reads (string_bytes name) ∷ []) → KeepsHeld s1.held s2.held
+      → IfSome s1.held (λ files. HasSets (file_at files) (arguments_of (take i names)) sets) → StopsAt (set_file (i + 1) (string_bytes name)) s1 s2 stop
+      → StopsReading (set_files 1 (arguments_of names)) s0 s2 stop
   stopped_set s0 s1 s2 sets stop fell calls keeps before stops =
-      let front : List (List ℕ) = words_of (take i names) in
+      let front : List (List ℕ) = arguments_of (take i names) in
       let counted : length front ≡ i = length-map (take i names) string_bytes ∙ length-take-le i names (omega arith) in
       let so_far : map Reads front ++ Reads (string_bytes name) ∷ [] ≡ read_calls (set_files 1 front) ++ Reads (string_bytes name) ∷ [] =
       ap (λ calls. calls ++ Reads (string_bytes name) ∷ []) (sym (sets_read 1 front)) in
-      let split = ap (set_files 1) names_split ∙ files_split 1 front (string_bytes name) (words_of (drop (i + 1) names)) (i + 1) (omega arith) in
+      let split = ap (set_files 1) names_split ∙ files_split 1 front (string_bytes name) (arguments_of (drop (i + 1) names)) (i + 1) (omega arith) in
       subst (λ (reads : List Reading). StopsReading reads s0 s2 stop) (sym split)
-      (stopped_behind (set_files 1 front) (set_file (i + 1) (string_bytes name)) (set_files ((i + 1) + 1) (words_of (drop (i + 1) names))) s0 s1 s2 stop fell
+      (stopped_behind (set_files 1 front) (set_file (i + 1) (string_bytes name)) (set_files ((i + 1) + 1) (arguments_of (drop (i + 1) names))) s0 s1 s2 stop fell
       (calls_are (map Reads front ++ Reads (string_bytes name) ∷ []) (read_calls (set_files 1 front) ++ Reads (string_bytes name) ∷ []) s0 s2 so_far calls)
       (mapped s2.held (λ files. HasSets (file_at files) front sets) (λ files. AreAccepted (file_at files) (set_files 1 front))
       (λ files h. sets_accepted (file_at files) 1 front sets h) (held_later s1.held s2.held (λ files. HasSets (file_at files) front sets) keeps before))
@@ -115,11 +115,11 @@ module _ (names : List (String Global)) (i : ℕ) (name : String Global) (is : n
       files_split number (first ∷ front) name rest k is = ap (λ (reads : List Reading). set_file number first ∷ reads) (files_split (number + 1) front name rest k (omega arith))
 
 -- all are read
-pub all_sets_read : (names : List (String Global)) (i : ℕ) (s0 s1 : FilesShown) → length names ≤ i → MakesCalls s0 s1 (map Reads (words_of (take i names)))
-    → MakesCalls s0 s1 (read_calls (set_files 1 (words_of names)))
+pub all_sets_read : (names : List (String Global)) (i : ℕ) (s0 s1 : FilesShown) → length names ≤ i → MakesCalls s0 s1 (map Reads (arguments_of (take i names)))
+    → MakesCalls s0 s1 (read_calls (set_files 1 (arguments_of names)))
 all_sets_read names i s0 s1 far calls =
-    calls_are (map Reads (words_of (take i names))) (read_calls (set_files 1 (words_of names))) s0 s1
-    (ap (λ (ns : List (String Global)). map Reads (words_of ns)) (take_all i names far) ∙ sym (sets_read 1 (words_of names))) calls
+    calls_are (map Reads (arguments_of (take i names))) (read_calls (set_files 1 (arguments_of names))) s0 s1
+    (ap (λ (ns : List (String Global)). map Reads (arguments_of ns)) (take_all i names far) ∙ sym (sets_read 1 (arguments_of names))) calls
 
 -- none is read so far
 pub no_sets : (held : Option FileMap) → IfSome held (λ files. HasSets (file_at files) [] [])
@@ -128,5 +128,5 @@ no_sets (Some files) = refl
 
 -- all are accepted
 pub all_sets_taken : (names : List (String Global)) (i : ℕ) (held : Option FileMap) (sets : List Parameters) → length names ≤ i
-    → IfSome held (λ files. HasSets (file_at files) (words_of (take i names)) sets) → IfSome held (λ files. HasSets (file_at files) (words_of names) sets)
-all_sets_taken names i held sets far taken = subst (λ (ns : List (String Global)). IfSome held (λ files. HasSets (file_at files) (words_of ns) sets)) (take_all i names far) taken
+    → IfSome held (λ files. HasSets (file_at files) (arguments_of (take i names)) sets) → IfSome held (λ files. HasSets (file_at files) (arguments_of names) sets)
+all_sets_taken names i held sets far taken = subst (λ (ns : List (String Global)). IfSome held (λ files. HasSets (file_at files) (arguments_of ns) sets)) (take_all i names far) taken

@@ -1,6 +1,6 @@
 //! The parameter files of `sweep`, read one after the other.
 ghost use Rattle.std.specs.Prelude.{◌≡◌, ◌≤◌, length, IfOk};
-ghost use Rattle.pg_words.specs.Inside.Names.{words_of};
+ghost use Rattle.pg_words.specs.Inside.Names.{arguments_of};
 ghost use Rattle.pg_types.specs.declared.limits.TheConstants.{SETS_MAX};
 ghost use Rattle.pg_steps.specs.Inside.reading.ReadsMade.{ReadsFiles};
 ghost use Rattle.pg_top.specs.sweep.SweepRule.{set_files};
@@ -20,9 +20,9 @@ pub fn read_sets<'a, F: Files, W: Watch>(
     watch: &W,
 ) -> Result<Vec<Params>, Stop<'a>>
     requires { length names.now ≤ SETS_MAX }
-    ensures read { ReadsFiles (set_files 1 (words_of names.now))
+    ensures read { ReadsFiles (set_files 1 (arguments_of names.now))
         (F.shown files.old) (F.shown files.new) result
-        (λ files sets. HasSets files (words_of names.now) sets.items) }
+        (λ files sets. HasSets files (arguments_of names.now) sets.items) }
     ensures count { IfOk result (λ sets. length sets.items ≡ length names.now) }
 {
     let mut sets = Vec::new(alloc);

@@ -3,8 +3,7 @@ use Rattle.std.proofs.Common.{◌≡◌, ◌≢◌, ℕ, T, ◌+◌, ◌<◌, �
 use Rattle.std.proofs.lemmas.Bool.{cases_lt, cases_eq, cases_Bool}
 use Rattle.std.proofs.lemmas.List.{append-nil, length_push, same_from_push}
 use Rattle.std.specs.FinMap.Entries.{find, is_sorted}
-use Rattle.pg_types.specs.Placement.{cell_of}
-use Rattle.pg_types.specs.Inside.Placing.{without_sign}
+use Rattle.pg_types.specs.Inside.Placing.{cell_of, without_sign}
 use Rattle.pg_cells.specs.Inside.linked.ValuedFamilies.{ValuedFamilies, without_key}
 use Rattle.pg_cells.specs.Inside.linked.AreValuedFamilies.{AreValuedFamilies}
 use Rattle.pg_cells.specs.Inside.linked.Members.{IsNextSign, IsBefore, goes_on}

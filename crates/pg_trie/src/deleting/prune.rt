@@ -1,7 +1,7 @@
 //! The strings that lose their cells when nothing is hopeless any more.
 ghost use Rattle.std.specs.Prelude.{◌≡◌, ℕ, ◌+◌, ◌≤◌, Bool, List, [], ◌∷◌, ◌++◌, length, Some, if◌then◌else◌};
 ghost use Rattle.pg_types.specs.declared.limits.TheConstants.{PATTERN_SIGNS_MAX, SIGNS_MAX};
-ghost use Rattle.pg_types.specs.Placement.{cell_of};
+ghost use Rattle.pg_types.specs.Inside.Placing.{cell_of};
 ghost use Rattle.pg_cells.specs.Inside.linked.AreValuedFamilies.{AreValuedFamilies};
 ghost use Rattle.pg_cells.specs.Inside.linked.Members.{IsBefore, goes_on};
 ghost use Rattle.pg_trie.specs.Inside.PrunedFamilies.{Drops, IsKeep, Prunes, PrunesBelow};

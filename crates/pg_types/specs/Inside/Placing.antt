@@ -1,10 +1,10 @@
 -- What is said of a placement while it changes: the least base, whether a sign joins its family in
--- place, a sign that is taken out, and the cells of a family.
-use Rattle.std.specs.Prelude.{◌≡◌, ℕ, ◌+◌, ◌<◌, ◌≤◌, Bool, true, false, not, nat_eq, List, [], ◌∷◌, filter, Some, None, map}
+-- place, a sign that is taken out, and the cells of families and of strings.
+use Rattle.std.specs.Prelude.{◌≡◌, ℕ, ◌+◌, ◌<◌, ◌≤◌, Bool, true, false, not, nat_eq, List, [], ◌∷◌, ◌++◌, filter, Option, Some, None, map}
 use Rattle.std.specs.Ordering.{nat_cmp}
 use Rattle.std.specs.Cmp.Lexicographic.{slice_cmp}
 use Rattle.std.specs.FinMap.{put}
-use Rattle.pg_types.specs.Placement.{Families, family_at, without_family, is_used, Family}
+use Rattle.pg_types.specs.Placement.{Families, family_at, without_family, is_used, Family, cell_in}
 
 -- b is the least number from low on that meets the test
 pub record IsLeast (test : ℕ → Bool) (low b : ℕ) : Type 0 where
@@ -29,3 +29,13 @@ without_sign fs p s = elim (family_at fs p) [
 -- the cells of a family
 abbrev pub cells_of : Family → List ℕ
 cells_of f = map (λ s. f.base + s) f.signs
+
+-- the cell of the string that has q after the prefix p
+abbrev pub cell_after : Families → List ℕ → List ℕ → Option ℕ
+cell_after fs p [] = None
+cell_after fs p (s ∷ []) = cell_in fs p s
+cell_after fs p (s ∷ t ∷ q) = cell_after fs (p ++ s ∷ []) (t ∷ q)
+
+-- the cell of a string
+abbrev pub cell_of : Families → List ℕ → Option ℕ
+cell_of fs q = cell_after fs [] q

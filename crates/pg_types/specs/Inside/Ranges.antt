@@ -17,7 +17,7 @@ pub record IsLevel (level : LevelParams) : Type 0 where
   pub thresh_high : level.thresh ≤ COST_MAX
 
 -- the ranges that all parameters keep
-pub record IsRun (run : Parameters) : Type 0 where
+pub record AreParameters (run : Parameters) : Type 0 where
   pub start_low : 1 ≤ run.start
   pub start_high : run.start ≤ LEVEL_MAX
   pub finish_low : 1 ≤ run.finish

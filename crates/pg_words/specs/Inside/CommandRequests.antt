@@ -18,7 +18,7 @@ use Rattle.pg_words.specs.declared.commands.Command.{Command}
 use Rattle.pg_words.specs.declared.commands.Command.TheVariants.{Generate, Audit, Sample, Pack, Totals, Prune, Sweep}
 use Rattle.pg_types.specs.declared.limits.TheConstants.{FOLDS_MAX, PRICE_MAX, SETS_MAX}
 use Rattle.pg_words.specs.declared.limits.TheConstants.{SEED_MAX, COUNT_MAX}
-use Rattle.pg_words.specs.Inside.Names.{words_of}
+use Rattle.pg_words.specs.Inside.Names.{arguments_of}
 
 -- a name that may be asked for as its bytes
 abbrev pub name_now : Option (Bor (List ℕ)) → Option (List ℕ)
@@ -47,7 +47,7 @@ sweep_of w = record {
   folds = w.folds;
   bad = w.bad;
   missed = w.missed;
-  params = words_of w.params.now;
+  params = arguments_of w.params.now;
 }
 
 -- the names of the inputs of `sweep`

@@ -6,8 +6,8 @@ use Rattle.std.specs.declared.alloc.Global.{Global}
 use denote.Ref.{Bor}
 
 -- arguments as their bytes
-abbrev pub words_of : List (String Global) → List (List ℕ)
-words_of words = map string_bytes words
+abbrev pub arguments_of : List (String Global) → List (List ℕ)
+arguments_of words = map string_bytes words
 
 -- names as their bytes
 abbrev pub texts : List (Bor (List ℕ)) → List (List ℕ)

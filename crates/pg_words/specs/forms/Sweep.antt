@@ -19,7 +19,7 @@ pub record SweepRequest : Type 0 where
 
 -- `sweep DICT PATTERNS OUT TRANSLATE K BAD MISSED`, then the names of 1 to 16 parameter files
 abbrev pub sweep_in : List (List ℕ) → Option SweepRequest
-sweep_in (dict ∷ patterns ∷ output ∷ translate ∷ k ∷ bad_word ∷ missed_word ∷ params) =
+sweep_in (dict ∷ patterns ∷ output ∷ translate ∷ k ∷ bad_argument ∷ missed_argument ∷ params) =
     option_and_then (λ folds. option_and_then (λ bad. option_and_then (λ missed.
     if nat_lt 0 (length params) && nat_le (length params) SETS_MAX
     then where_taken (dict ∷ patterns ∷ translate ∷ params) (output ∷ []) (record {
@@ -31,6 +31,7 @@ sweep_in (dict ∷ patterns ∷ output ∷ translate ∷ k ∷ bad_word ∷ miss
       bad = bad;
       missed = missed;
       params = params;
-    }) else None) (number_within PRICE_DIGITS 1 PRICE_MAX missed_word))
-    (number_within PRICE_DIGITS 1 PRICE_MAX bad_word)) (number_within FOLDS_DIGITS 2 FOLDS_MAX k)
+    }) else None) (number_within PRICE_DIGITS 1 PRICE_MAX missed_argument))
+    (number_within PRICE_DIGITS 1 PRICE_MAX bad_argument))
+    (number_within FOLDS_DIGITS 2 FOLDS_MAX k)
 sweep_in words = None

@@ -1,6 +1,6 @@
 use Rattle.pg_cells.specs.Inside.linked.Walks.{IsKnown}
 use Rattle.std.proofs.Common.{◌≡◌, ◌<◌, [], ◌∷◌, ◌++◌, length, take, get_or, Some, ap, sym, ◌∙◌, arith, subst}
-use Rattle.pg_types.specs.Placement.{cell_of}
+use Rattle.pg_types.specs.Inside.Placing.{cell_of}
 use Rattle.pg_cells.proofs.Walking.{way_more, more_known}
 use Rattle.pg_cells.proofs.walks.known_prefix.Goals as goal
 

@@ -1,6 +1,7 @@
 use Rattle.std.proofs.Common.{◌≡◌, ◌∷◌, [], ◌++◌, Some, None, ap, sym, subst, ◌∙◌, cond, arith}
 use Rattle.std.proofs.lemmas.Bool.{eq-eqb}
-use Rattle.pg_types.specs.Placement.{cell_of, base_of}
+use Rattle.pg_types.specs.Placement.{base_of}
+use Rattle.pg_types.specs.Inside.Placing.{cell_of}
 use Rattle.pg_cells.specs.Inside.linked.Walks.{IsAt}
 use Rattle.pg_cells.proofs.LinkLaws.{some_base}
 use Rattle.pg_cells.proofs.Walking.{childless}

@@ -3,8 +3,8 @@ use Rattle.std.specs.Prelude.{◌≡◌, ◌≢◌, ℕ, ◌≤◌, false, List,
 use Rattle.std.specs.Ordering.{nat_cmp}
 use Rattle.std.specs.Cmp.Lexicographic.{slice_cmp}
 use Rattle.std.specs.FinMap.{put}
-use Rattle.pg_types.specs.Placement.{Families, cell_of, with_sign}
-use Rattle.pg_types.specs.Inside.Placing.{joins_at}
+use Rattle.pg_types.specs.Placement.{Families, with_sign}
+use Rattle.pg_types.specs.Inside.Placing.{cell_of, joins_at}
 use Rattle.pg_cells.specs.Inside.families.Searches.{search_start}
 use Rattle.pg_cells.specs.Inside.linked.ValuedFamilies.{Trie, ValuedFamilies}
 use Rattle.pg_cells.specs.Inside.linked.AreValuedFamilies.{AreValuedFamilies}

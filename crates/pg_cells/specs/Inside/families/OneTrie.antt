@@ -10,7 +10,8 @@ use Rattle.std.specs.FinMap.Entries.{same_entries}
 use Rattle.std.specs.List.{range_with_len}
 use Rattle.std.specs.Coded.{Coded, Coded-set}
 use mathlib.Core.HLevel.{Σ_prop_path}
-use Rattle.pg_types.specs.Placement.{Family, family_at, cell_of}
+use Rattle.pg_types.specs.Placement.{Family, family_at}
+use Rattle.pg_types.specs.Inside.Placing.{cell_of}
 use Rattle.pg_cells.specs.Inside.store.Lists.{Row, child_at}
 use Rattle.pg_cells.specs.Inside.linked.ValuedFamilies.{Trie, trie_code}
 use Rattle.pg_cells.specs.Inside.families.Layouts.{IsLayout, IsTrie, signs_at_base, value_in}

@@ -1,7 +1,7 @@
 -- What removing a sign from a family needs, and what it leaves.
 use Rattle.std.specs.Prelude.{◌≡◌, ◌≢◌, ℕ, List, [], ◌∷◌, ◌++◌, Some, None}
-use Rattle.pg_types.specs.Placement.{Families, cell_of, base_of}
-use Rattle.pg_types.specs.Inside.Placing.{without_sign}
+use Rattle.pg_types.specs.Placement.{Families, base_of}
+use Rattle.pg_types.specs.Inside.Placing.{cell_of, without_sign}
 use Rattle.pg_cells.specs.Inside.linked.ValuedFamilies.{ValuedFamilies, without_key}
 use Rattle.pg_cells.specs.Inside.linked.AreValuedFamilies.{AreValuedFamilies}
 

@@ -6,7 +6,8 @@ use Rattle.std.specs.Ordering.{nat_cmp}
 use Rattle.std.specs.Cmp.Lexicographic.{slice_cmp}
 use Rattle.std.specs.FinMap.{find}
 use Rattle.std.specs.FinMap.Entries.{is_sorted}
-use Rattle.pg_types.specs.Placement.{Family, family_at, cell_of, base_of}
+use Rattle.pg_types.specs.Placement.{Family, family_at, base_of}
+use Rattle.pg_types.specs.Inside.Placing.{cell_of}
 use Rattle.pg_cells.specs.Inside.linked.ValuedFamilies.{ValuedFamilies}
 
 -- what is always true of the families and the values of the cells

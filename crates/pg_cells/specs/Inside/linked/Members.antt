@@ -5,7 +5,8 @@ use Rattle.std.specs.Option.{is_some}
 use Rattle.std.specs.Ordering.{nat_cmp}
 use Rattle.std.specs.Cmp.Lexicographic.{slice_cmp}
 use Rattle.std.specs.FinMap.{find}
-use Rattle.pg_types.specs.Placement.{Families, cell_of}
+use Rattle.pg_types.specs.Placement.{Families}
+use Rattle.pg_types.specs.Inside.Placing.{cell_of}
 
 -- y is the least number greater than x that passes the test, or 0 where there is none
 pub record IsNext (test : ℕ → Bool) (x y : ℕ) : Type 0 where

@@ -36,7 +36,7 @@ module _ {V : Type 0} where
     pub count : taken_in new ≡ taken_in old
 
   -- the value of a cell was set, and nothing else changed
-  pub record SetsValue (old new : Row V) (cell : ℕ) (value : V) : Type 0 where
+  pub record SetsRowValue (old new : Row V) (cell : ℕ) (value : V) : Type 0 where
     pub elsewhere : KeepsOtherIndices old new cell
     pub sign_is : sign_at new cell ≡ sign_at old cell
     pub child_is : child_at new cell ≡ child_at old cell

@@ -6,7 +6,7 @@ use Rattle.std.proofs.lemmas.Result.{err_from_is_err_and}
 use Rattle.std.proofs.Common.{◌≡◌, take, get_or, refl, ap, sym, subst, ◌∙◌, arith, length, ◌++◌, Option}
 use Rattle.std.proofs.lemmas.List.{take_more_same}
 use Rattle.pg_types.specs.Inside.counting.NumberedWindows.{HasNumber}
-use Rattle.pg_types.specs.Placement.{cell_of}
+use Rattle.pg_types.specs.Inside.Placing.{cell_of}
 use Rattle.pg_count.proofs.LeafLaws.Parting.{differ, differ_more, keeps_on, keeps_none, within_other, free_below, parted_leaves, parted_keeps, parted_blank, parted_way, parted_there, parted_ends, row_begins, sign_within}
 use Rattle.pg_count.proofs.leaf.part.Goals as goal
 

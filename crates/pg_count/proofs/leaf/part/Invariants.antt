@@ -1,7 +1,7 @@
 use Rattle.std.proofs.Common.{◌≡◌, ℕ, ◌-◌, ◌<◌, ◌≤◌, length, take, Some}
 use Rattle.std.specs.FinMap.{find}
 use Rattle.pg_types.specs.Inside.counting.NumberedWindows.{HasNumber}
-use Rattle.pg_types.specs.Placement.{cell_of}
+use Rattle.pg_types.specs.Inside.Placing.{cell_of}
 use Rattle.pg_types.proofs.StringEntries.{order}
 use Rattle.pg_count.specs.Inside.cells.Leaves.{AreLeaves, Keeps}
 use Rattle.pg_count.proofs.leaf.part.Given as goal

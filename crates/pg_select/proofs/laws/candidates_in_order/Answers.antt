@@ -1,4 +1,4 @@
-use Rattle.pg_select.proofs.LawsTally.{candidates_in_order, candidates_are_counted}
+use Rattle.pg_select.proofs.LawsCounts.{candidates_in_order, candidates_are_counted}
 use Rattle.pg_select.proofs.laws.candidates_in_order.Goals as goal
 
 pub returns : goal.returns

@@ -16,7 +16,7 @@ use Rattle.pg_patterns.specs.Inside.DottedOrder.{same_dotted}
 use Rattle.pg_patterns.specs.Values.{Patterns, value_of, raise, applies, value_at}
 use Rattle.pg_select.specs.Inside.engine.Meanings.{Meaning, with_position, after_give_up}
 use Rattle.pg_select.specs.declared.pass.Pass.{Pass}
-use Rattle.pg_select.specs.CountedPositions.{Minima, CountedPosition, Candidate, counted_positions, same_signs, candidates, good_of, bad_of, tally, counted_at, counts_as}
+use Rattle.pg_select.specs.CountedPositions.{Minima, CountedPosition, Candidate, counted_positions, same_signs, candidates, good_of, bad_of, with_sums, counted_at, counts_as}
 use Rattle.pg_select.specs.Statuses.{status_at}
 use Rattle.pg_select.specs.Sums.{totals}
 use Rattle.pg_select.specs.Windows.{Hopeless, is_covered}
@@ -40,7 +40,7 @@ entry_of c = (c.window, (c.good, c.bad))
 -- counting what is counted, position after position, gives the candidates in order with their sums
 abbrev pub CountsAreTally : Type 0
 CountsAreTally = (counted : List CountedPosition)
-    → fold with_position [] counted ≡ map entry_of (tally counted)
+    → fold with_position [] counted ≡ map entry_of (with_sums counted)
 
 -- words have together at most as many letters as the longest dictionary has bytes
 pub record AreFew (words : List Word) : Type 0 where
@@ -229,7 +229,8 @@ CountsNothingWhenCovered = (m : Minima) (words : List Word)
 abbrev pub CountsNothingAtEnd : Type 0
 CountsNothingAtEnd = (m : Minima) (words : List Word) (pass : Pass) (P : Patterns) (H : Hopeless)
     (raised hopeless : Candidate → Bool)
-    → list_all (λ c. raised c || hopeless c) (tally (counted_positions m words pass P H)) ≡ true
+    → list_all (λ c. raised c || hopeless c) (with_sums (counted_positions m words pass P H)) ≡ true
     → CountsNothing m words pass
-    (raised_all pass.level pass.dot P (filter raised (tally (counted_positions m words pass P H))))
-    (hopeless_all pass.dot H (filter hopeless (tally (counted_positions m words pass P H))))
+    (raised_all pass.level pass.dot P
+    (filter raised (with_sums (counted_positions m words pass P H))))
+    (hopeless_all pass.dot H (filter hopeless (with_sums (counted_positions m words pass P H))))

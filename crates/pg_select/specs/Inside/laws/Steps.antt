@@ -7,7 +7,7 @@ use Rattle.pg_dict.specs.Word.{Word}
 use Rattle.pg_patterns.specs.Values.{Patterns, value_at, largest}
 use Rattle.pg_select.specs.Inside.laws.Laws.{raised_all, hopeless_all}
 use Rattle.pg_select.specs.declared.pass.Pass.{Pass}
-use Rattle.pg_select.specs.CountedPositions.{Minima, CountedPosition, Candidate, same_signs, good_of, bad_of, counted_positions, tally}
+use Rattle.pg_select.specs.CountedPositions.{Minima, CountedPosition, Candidate, same_signs, good_of, bad_of, counted_positions, with_sums}
 use Rattle.pg_select.specs.Statuses.{is_odd}
 use Rattle.pg_select.specs.Sums.{totals}
 use Rattle.pg_select.specs.Windows.{Hopeless, window, fits, is_covered}
@@ -82,13 +82,13 @@ is_candidate_at m words pass P H test w p = is_candidate test (counted_positions
 abbrev pub patterns_after_pass : Minima → List Word
     → Pass → Patterns → Hopeless → (Candidate → Bool) → Patterns
 patterns_after_pass m words pass P H raised = raised_all pass.level pass.dot P
-    (filter raised (tally (counted_positions m words pass P H)))
+    (filter raised (with_sums (counted_positions m words pass P H)))
 
 -- the hopeless dotted strings after a pass that made those candidates hopeless which meet a test
 abbrev pub hopeless_after_pass : Minima → List Word
     → Pass → Patterns → Hopeless → (Candidate → Bool) → Hopeless
 hopeless_after_pass m words pass P H hopeless = hopeless_all pass.dot H
-    (filter hopeless (tally (counted_positions m words pass P H)))
+    (filter hopeless (with_sums (counted_positions m words pass P H)))
 
 -- where no value is above n and the level of a pass is not, the pass leads to no value above n
 abbrev pub UpToAfter : Type 0
@@ -132,11 +132,11 @@ CountedAreUncovered = (m : Minima) (words : List Word)
 
 -- the sum of the good weights of the candidates that a pass raised
 abbrev pub good_raised : (Candidate → Bool) → List CountedPosition → ℕ
-good_raised raised counted = sum_by (λ c. c.good) (filter raised (tally counted))
+good_raised raised counted = sum_by (λ c. c.good) (filter raised (with_sums counted))
 
 -- the sum of the bad weights of the candidates that a pass raised
 abbrev pub bad_raised : (Candidate → Bool) → List CountedPosition → ℕ
-bad_raised raised counted = sum_by (λ c. c.bad) (filter raised (tally counted))
+bad_raised raised counted = sum_by (λ c. c.bad) (filter raised (with_sums counted))
 
 -- at a level that finds, the good that is raised is missed no more, and the bad becomes errors
 pub record FindsMore (old new : Totals) (good bad : ℕ) : Type 0 where

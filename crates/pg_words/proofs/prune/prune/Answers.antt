@@ -1,7 +1,7 @@
 use Rattle.std.proofs.Common.{[], ◌∷◌, ◌≡◌, ◌∙◌, length, sym, ap, rules}
 use Rattle.std.proofs.lemmas.List.{length-map}
 use Rattle.std.specs.Prelude.{string_bytes}
-use Rattle.pg_words.specs.Inside.Names.{words_of}
+use Rattle.pg_words.specs.Inside.Names.{arguments_of}
 use Rattle.std.specs.Option.{option_map}
 use Rattle.pg_words.specs.Requests.{ToPrune}
 use Rattle.pg_words.specs.forms.Prune.{prune_in}
@@ -14,7 +14,7 @@ pub returns-in_default : goal.returns-in_default
 returns-in_default c =
     let count = length-map c.args.words.now string_bytes in
     record {
-      value = ap (option_map ToPrune) (not_for_prune (words_of c.args.words.now) (λ (is : length (words_of c.args.words.now) ≡ 5). search rules));
+      value = ap (option_map ToPrune) (not_for_prune (arguments_of c.args.words.now) (λ (is : length (arguments_of c.args.words.now) ≡ 5). search rules));
       within = tt;
     }
 
@@ -29,6 +29,8 @@ returns c =
     (c.patterns-item.result, c.patterns-item.is, c.as_str-patterns.ensures.value) (c.output-item.result, c.output-item.is, c.as_str-output.ensures.value)
     (c.translate-item.result, c.translate-item.is, c.as_str-translate.ensures.value) (c.report-item.result, c.report-item.is, c.as_str-report.ensures.value) in
     record {
-      value = c.where_taken.ensures.value ∙ taken_as ToPrune (d ∷ p ∷ t ∷ []) (o ∷ r ∷ []) (record { dict = d; patterns = p; output = o; translate = t; report = r }) ∙ ap (λ words. option_map ToPrune (prune_in words)) (sym parts);
+      value = c.where_taken.ensures.value
+          ∙ taken_as ToPrune (d ∷ p ∷ t ∷ []) (o ∷ r ∷ []) (record { dict = d; patterns = p; output = o; translate = t; report = r })
+          ∙ ap (λ words. option_map ToPrune (prune_in words)) (sym parts);
       within = c.where_taken.ensures.within;
     }

@@ -3,7 +3,7 @@ use Rattle.std.specs.Option.{option_map}
 use Rattle.std.specs.Prelude.{string_bytes}
 use Rattle.std.proofs.lemmas.List.{length-map, take_all}
 use Rattle.pg_words.specs.Inside.CommandRequests.{asked_by}
-use Rattle.pg_words.specs.Inside.Names.{words_of}
+use Rattle.pg_words.specs.Inside.Names.{arguments_of}
 use Rattle.pg_words.specs.Requests.{ToSweep}
 use Rattle.pg_words.specs.forms.Sweep.{sweep_in}
 use Rattle.pg_types.specs.declared.limits.TheConstants.{SETS_MAX}
@@ -15,7 +15,7 @@ pub returns-in_default : goal.returns-in_default
 returns-in_default c =
     let words = c.args.words.now in
     record {
-      value = ap (option_map ToSweep) (too_few (words_of words) (omega (arith, length-map words string_bytes, c.in_default.len_below)));
+      value = ap (option_map ToSweep) (too_few (arguments_of words) (omega (arith, length-map words string_bytes, c.in_default.len_below)));
       within = tt;
     }
 
@@ -29,7 +29,7 @@ returns-in_err-folds c =
     (c.translate-item.result, c.translate-item.is, refl) (c.folds-item.result, c.folds-item.is, c.as_str.ensures.value) (c.bad-item.result, c.bad-item.is, refl)
     (c.missed-item.result, c.missed-item.is, refl) refl in
     let none = no_folds (string_bytes c.dict-item.result) (string_bytes c.patterns-item.result) (string_bytes c.output-item.result)
-    (string_bytes c.translate-item.result) c.as_str.result.now (string_bytes c.bad-item.result) (string_bytes c.missed-item.result) (words_of params) (sym c.in_err-folds.ensures.value) in
+    (string_bytes c.translate-item.result) c.as_str.result.now (string_bytes c.bad-item.result) (string_bytes c.missed-item.result) (arguments_of params) (sym c.in_err-folds.ensures.value) in
     record {
       value = ap (option_map asked_by) c.from_residual.ensures ∙ ap (option_map ToSweep) (sym none ∙ ap sweep_in (sym parts));
       within = rw c.from_residual.ensures tt;
@@ -45,7 +45,7 @@ returns-in_err-bad c =
     (c.translate-item.result, c.translate-item.is, refl) (c.folds-item.result, c.folds-item.is, c.as_str.ensures.value)
     (c.bad-item.result, c.bad-item.is, c.as_str-2.ensures.value) (c.missed-item.result, c.missed-item.is, refl) refl in
     let none = no_bad (string_bytes c.dict-item.result) (string_bytes c.patterns-item.result) (string_bytes c.output-item.result)
-    (string_bytes c.translate-item.result) c.as_str.result.now c.as_str-2.result.now (string_bytes c.missed-item.result) (words_of params) c.in_ok-folds.folds
+    (string_bytes c.translate-item.result) c.as_str.result.now c.as_str-2.result.now (string_bytes c.missed-item.result) (arguments_of params) c.in_ok-folds.folds
     (sym c.in_ok-folds.ensures.value) (sym c.in_err-bad.ensures.value) in
     record {
       value = ap (option_map asked_by) c.from_residual-in_err-bad.ensures ∙ ap (option_map ToSweep) (sym none ∙ ap sweep_in (sym parts));
@@ -62,7 +62,7 @@ returns-in_err-missed c =
     (c.translate-item.result, c.translate-item.is, refl) (c.folds-item.result, c.folds-item.is, c.as_str.ensures.value)
     (c.bad-item.result, c.bad-item.is, c.as_str-2.ensures.value) (c.missed-item.result, c.missed-item.is, c.as_str-3.ensures.value) refl in
     let none = no_missed (string_bytes c.dict-item.result) (string_bytes c.patterns-item.result) (string_bytes c.output-item.result)
-    (string_bytes c.translate-item.result) c.as_str.result.now c.as_str-2.result.now c.as_str-3.result.now (words_of params) c.in_ok-folds.folds c.in_ok-bad.bad
+    (string_bytes c.translate-item.result) c.as_str.result.now c.as_str-2.result.now c.as_str-3.result.now (arguments_of params) c.in_ok-folds.folds c.in_ok-bad.bad
     (sym c.in_ok-folds.ensures.value) (sym c.in_ok-bad.ensures.value) (sym c.in_err-missed.ensures.value) in
     record {
       value = ap (option_map asked_by) c.from_residual-in_err-missed.ensures ∙ ap (option_map ToSweep) (sym none ∙ ap sweep_in (sym parts));
@@ -81,7 +81,7 @@ pub returns : goal.returns
 returns c =
     let words = c.args.words.now in
     let params = take (length words - 7) (drop 7 words) in
-    let texts = words_of params in
+    let texts = arguments_of params in
     let parts = seven_words words c.as_str-dict.result.now c.as_str-patterns.result.now c.as_str-output.result.now c.as_str-translate.result.now
     c.as_str.result.now c.as_str-2.result.now c.as_str-3.result.now params c.in-len7-up.len_at_least (c.dict-item.result, c.dict-item.is, c.as_str-dict.ensures.value)
     (c.patterns-item.result, c.patterns-item.is, c.as_str-patterns.ensures.value) (c.output-item.result, c.output-item.is, c.as_str-output.ensures.value)

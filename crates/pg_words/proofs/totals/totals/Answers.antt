@@ -1,7 +1,7 @@
 use Rattle.std.proofs.Common.{[], ◌∷◌, ◌≡◌, ◌∙◌, length, sym, ap, rules}
 use Rattle.std.proofs.lemmas.List.{length-map}
 use Rattle.std.specs.Prelude.{string_bytes}
-use Rattle.pg_words.specs.Inside.Names.{words_of}
+use Rattle.pg_words.specs.Inside.Names.{arguments_of}
 use Rattle.std.specs.Option.{option_map}
 use Rattle.pg_words.specs.Requests.{ToTotals}
 use Rattle.pg_words.specs.forms.Totals.{totals_in}
@@ -14,7 +14,7 @@ pub returns-in_default : goal.returns-in_default
 returns-in_default c =
     let count = length-map c.args.words.now string_bytes in
     record {
-      value = ap (option_map ToTotals) (not_for_totals (words_of c.args.words.now) (λ (is : length (words_of c.args.words.now) ≡ 3). search rules));
+      value = ap (option_map ToTotals) (not_for_totals (arguments_of c.args.words.now) (λ (is : length (arguments_of c.args.words.now) ≡ 3). search rules));
       within = tt;
     }
 

@@ -1,6 +1,5 @@
 use Rattle.std.proofs.Common.{◌≡◌, Some, ap, sym, subst, ◌∙◌, arith}
-use Rattle.pg_types.specs.Placement.{cell_of}
-use Rattle.pg_types.specs.Inside.Placing.{joins_at}
+use Rattle.pg_types.specs.Inside.Placing.{cell_of, joins_at}
 use Rattle.pg_cells.specs.Inside.families.Adding.{CanTakeSign}
 use Rattle.pg_cells.specs.Inside.linked.ValuedFamilies.{ValuedFamilies}
 use Rattle.pg_cells.specs.declared.store.member.Member.{Member}

@@ -1,6 +1,6 @@
 use Rattle.std.proofs.Common.{◌≡◌, [], ◌∷◌, ◌++◌, Some, None, inl, inr, sym, subst, ◌∙◌, arith}
 use Rattle.std.proofs.lemmas.Bool.{both_ways}
-use Rattle.pg_types.specs.Placement.{cell_of}
+use Rattle.pg_types.specs.Inside.Placing.{cell_of}
 use Rattle.pg_cells.specs.Inside.linked.Members.{goes_on}
 use Rattle.pg_cells.specs.Inside.linked.Links.{with_link}
 use Rattle.pg_cells.proofs.LinkLaws.{some_base, none_goes_on, goes_cell}

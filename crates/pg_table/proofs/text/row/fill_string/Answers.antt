@@ -1,7 +1,8 @@
 use Rattle.std.proofs.Common.{◌≡◌, ◌<◌, ◌≤◌, ◌+◌, ℕ, List, [], ◌∷◌, ◌++◌, nat_eq, Bool, true, false, cond, length, take, get_or, None, Some, sym, refl, ap, ◌∙◌, arith}
 use Rattle.std.proofs.lemmas.Bool.{eqb-true}
 use Rattle.std.proofs.lemmas.List.{take_more}
-use Rattle.pg_types.specs.Placement.{cell_of, top}
+use Rattle.pg_types.specs.Placement.{top}
+use Rattle.pg_types.specs.Inside.Placing.{cell_of}
 use Rattle.pg_table.specs.declared.parts.cell.Cell.{Cell}
 use Rattle.pg_table.proofs.text.TableCells.{cell_within, base_within}
 use Rattle.pg_table.proofs.text.Filling.{cell_told, fills_more, fills_rest}

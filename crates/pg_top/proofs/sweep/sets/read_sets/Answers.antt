@@ -2,7 +2,7 @@ use Rattle.std.proofs.Common.{◌+◌, ◌∷◌, [], List, take, length, IfSome
 use Rattle.std.proofs.lemmas.Result.{IfOk-from_err}
 use Rattle.pg_types.specs.Parameters.{Parameters}
 use Rattle.pg_outside.specs.Content.{FilesShown, file_at}
-use Rattle.pg_words.specs.Inside.Names.{words_of}
+use Rattle.pg_words.specs.Inside.Names.{arguments_of}
 use Rattle.pg_top.specs.sweep.Inside.AcceptedInputs.{HasSets}
 use Rattle.pg_steps.specs.declared.inputs.Stop.TheVariants.{Memory}
 use Rattle.pg_steps.proofs.CountedCalls.{no_calls}
@@ -23,7 +23,7 @@ sets-preserved g c =
     let here = rw c.as_str-name.ensures.value at c.read_parameters.ensures.calls in
     record {
       only = only_on s0 s1 s2 c.sets.invariant.only c.read_parameters.ensures.only;
-      taken = subst (λ (sets : List Parameters). IfSome s2.held (λ files. HasSets (file_at files) (words_of (take (c.sets.i + 1) names)) sets)) (sym items)
+      taken = subst (λ (sets : List Parameters). IfSome s2.held (λ files. HasSets (file_at files) (arguments_of (take (c.sets.i + 1) names)) sets)) (sym items)
           (sets_more names c.sets.i c.index-names-i.result c.index-names-i.is c.sets-test.true s1.held s2.held c.sets.sets.items set c.read_parameters.ensures.only.held c.sets.invariant.taken more);
       calls = sets_read_on names c.sets.i c.index-names-i.result c.index-names-i.is c.sets-test.true s0 s1 s2 c.sets.invariant.calls here;
       count = ap length items ∙ length-append c.sets.sets.items (set ∷ []) ∙ ap (λ n. n + 1) c.sets.invariant.count;

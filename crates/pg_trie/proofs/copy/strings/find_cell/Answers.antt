@@ -1,4 +1,4 @@
-use Rattle.pg_types.specs.Placement.{cell_of}
+use Rattle.pg_types.specs.Inside.Placing.{cell_of}
 use Rattle.std.proofs.lemmas.List.{take_more}
 use Rattle.std.proofs.Common.{take, sym, lit<, refl, ap, ◌∙◌}
 use Rattle.pg_trie.proofs.TrieLaws.Listing.{no_cell}

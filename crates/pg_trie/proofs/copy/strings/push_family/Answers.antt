@@ -1,5 +1,5 @@
 use Rattle.std.proofs.Common.{◌≡◌, ◌+◌, cond, nat_eq, None, Some, ◌∷◌, ◌++◌, [], sym, subst, ap, ◌∙◌, arith, rules}
-use Rattle.pg_types.specs.Placement.{cell_of}
+use Rattle.pg_types.specs.Inside.Placing.{cell_of}
 use Rattle.pg_cells.proofs.LinkLaws.{goes_cell}
 use Rattle.pg_trie.specs.Inside.Strings.{PutsBelow}
 use Rattle.pg_trie.proofs.TrieLaws.Listing.{bound_is, puts_first, puts_next, puts_one, is_string}

@@ -1,6 +1,6 @@
 use Rattle.std.proofs.Common.{◌≡◌, ℕ, List, [], ◌∷◌, ◌++◌, Some, None, sym, subst, ◌∙◌, arith, rules, lit<}
 use Rattle.std.proofs.lemmas.List.{length_push}
-use Rattle.pg_types.specs.Placement.{cell_of}
+use Rattle.pg_types.specs.Inside.Placing.{cell_of}
 use Rattle.pg_cells.specs.Inside.linked.Members.{IsBefore}
 use Rattle.pg_cells.proofs.LinkLaws.{goes_cell}
 use Rattle.pg_cells.proofs.Walking.{sign_falls}

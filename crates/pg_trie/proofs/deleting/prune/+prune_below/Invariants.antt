@@ -1,5 +1,5 @@
 use Rattle.std.proofs.Common.{◌≡◌, ℕ, ◌-◌, ◌<◌, cond, nat_eq, true, List, Some}
-use Rattle.pg_types.specs.Placement.{cell_of}
+use Rattle.pg_types.specs.Inside.Placing.{cell_of}
 use Rattle.pg_cells.specs.Inside.linked.Members.{IsBefore, goes_on}
 use Rattle.pg_trie.specs.Inside.PrunedFamilies.{PrunesTo}
 use Rattle.pg_trie.proofs.deleting.prune.+prune_below.Given as goal

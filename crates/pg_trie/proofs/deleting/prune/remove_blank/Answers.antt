@@ -1,6 +1,6 @@
 use Rattle.std.proofs.Common.{◌≡◌, ℕ, cond, is_some, [], ◌∷◌, ◌++◌, Some, inl, inr, refl, ap, sym, subst, ◌∙◌, arith}
 use Rattle.std.specs.FinMap.{find}
-use Rattle.pg_types.specs.Placement.{cell_of}
+use Rattle.pg_types.specs.Inside.Placing.{cell_of}
 use Rattle.pg_cells.specs.Inside.linked.ValuedFamilies.{ValuedFamilies}
 use Rattle.pg_cells.proofs.LinkLaws.{some_string, cell_goes}
 use Rattle.pg_cells.proofs.StringMaps.{order, find_without_same}

@@ -1,5 +1,5 @@
 use Rattle.std.proofs.Common.{◌≡◌, ◌≤◌, length, Some, sym, subst}
-use Rattle.pg_types.specs.Placement.{cell_of}
+use Rattle.pg_types.specs.Inside.Placing.{cell_of}
 use Rattle.pg_outputs.specs.Lists.{list_of}
 use Rattle.pg_trie.specs.Inside.Lists.{outputs_at}
 use Rattle.pg_trie.specs.Inside.Maps.{Maps}

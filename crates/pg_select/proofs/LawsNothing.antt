@@ -14,10 +14,10 @@ use Rattle.pg_patterns.specs.Values.{Patterns, raise, applies}
 use Rattle.pg_select.specs.Statuses.{status_at, position_weight}
 use Rattle.pg_select.specs.Windows.{Hopeless, window, fits, is_covered}
 use Rattle.pg_select.specs.declared.pass.Pass.{Pass}
-use Rattle.pg_select.specs.CountedPositions.{Minima, CountedPosition, Candidate, counts_as, counted_at, counted_positions_at, counted_positions, same_signs, candidates, good_of, bad_of, tally}
+use Rattle.pg_select.specs.CountedPositions.{Minima, CountedPosition, Candidate, counts_as, counted_at, counted_positions_at, counted_positions, same_signs, candidates, good_of, bad_of, with_sums}
 use Rattle.pg_select.specs.Inside.words.WordCounts.{counted_positions_in}
 use Rattle.pg_select.specs.Inside.laws.Laws.{IsLater, raised_all, hopeless_all}
-use Rattle.pg_select.proofs.LawsTally.{same_window, counted_as}
+use Rattle.pg_select.proofs.LawsCounts.{same_window, counted_as}
 use Rattle.pg_select.proofs.LawsValues.{covered_raised, covered_hopeless}
 use Rattle.pg_select.proofs.LawsCandidates.{all_candidates, applies_itself}
 use Rattle.pg_select.proofs.LawsLater.{later_at_once, later_still, later_raised, later_hopeless, some_parts, counted_back}
@@ -83,9 +83,9 @@ nil_tested {Y = Y} test f g each (x ∷ xs) all =
     ap (λ (ys : List Y). ys ++ flat_map g xs) (each x parts.0) ∙ nil_tested test f g each xs parts.1
 
 -- where all that a pass counted is covered later, it counts nothing then
-pub closed_when_covered : (m : Minima) (words : List Word) (pass : Pass) (P P' : Patterns) (H H' : Hopeless) → IsLater pass.level P H P' H'
+pub nothing_counts_when_covered : (m : Minima) (words : List Word) (pass : Pass) (P P' : Patterns) (H H' : Hopeless) → IsLater pass.level P H P' H'
     → list_all (λ u. is_covered pass.level P' H' u pass.dot) (candidates (counted_positions m words pass P H)) ≡ true → counted_positions m words pass P' H' ≡ []
-closed_when_covered m words pass P P' H H' later all =
+nothing_counts_when_covered m words pass P P' H H' later all =
     nil_tested (λ (s : CountedPosition). is_covered pass.level P' H' s.window pass.dot) (counted_positions_in m pass P H) (counted_positions_in m pass P' H') (λ w.
     nil_tested (λ (s : CountedPosition). is_covered pass.level P' H' s.window pass.dot) (counted_positions_at pass P H w) (counted_positions_at pass P' H' w) (λ p.
     seen_tested (λ (u : List ℕ). is_covered pass.level P' H' u pass.dot) (window w.signs p pass.len pass.dot) (position_weight w p) (counted_at pass P H w p) (counted_at pass P' H' w p)
@@ -162,16 +162,16 @@ windows_of test counted [] = refl
 windows_of test counted (u ∷ us) = ap (λ b. test u && b) (windows_of test counted us)
 
 -- a pass of which each candidate was raised or made hopeless counts nothing afterwards
-pub closed_at_end : (m : Minima) (words : List Word) (pass : Pass) (P : Patterns) (H : Hopeless) (raised hopeless : Candidate → Bool)
-    → list_all (λ c. raised c || hopeless c) (tally (counted_positions m words pass P H)) ≡ true
-    → counted_positions m words pass (raised_all pass.level pass.dot P (filter raised (tally (counted_positions m words pass P H))))
-    (hopeless_all pass.dot H (filter hopeless (tally (counted_positions m words pass P H)))) ≡ []
-closed_at_end m words pass P H raised hopeless all = from (tally (counted_positions m words pass P H)) refl all
+pub nothing_counts_after : (m : Minima) (words : List Word) (pass : Pass) (P : Patterns) (H : Hopeless) (raised hopeless : Candidate → Bool)
+    → list_all (λ c. raised c || hopeless c) (with_sums (counted_positions m words pass P H)) ≡ true
+    → counted_positions m words pass (raised_all pass.level pass.dot P (filter raised (with_sums (counted_positions m words pass P H))))
+    (hopeless_all pass.dot H (filter hopeless (with_sums (counted_positions m words pass P H)))) ≡ []
+nothing_counts_after m words pass P H raised hopeless all = from (with_sums (counted_positions m words pass P H)) refl all
   where
-    from : (cs : List Candidate) → tally (counted_positions m words pass P H) ≡ cs → list_all (λ c. raised c || hopeless c) cs ≡ true
+    from : (cs : List Candidate) → with_sums (counted_positions m words pass P H) ≡ cs → list_all (λ c. raised c || hopeless c) cs ≡ true
         → counted_positions m words pass (raised_all pass.level pass.dot P (filter raised cs)) (hopeless_all pass.dot H (filter hopeless cs)) ≡ []
     from cs is all =
-        closed_when_covered m words pass P (raised_all pass.level pass.dot P (filter raised cs)) H (hopeless_all pass.dot H (filter hopeless cs))
+        nothing_counts_when_covered m words pass P (raised_all pass.level pass.dot P (filter raised cs)) H (hopeless_all pass.dot H (filter hopeless cs))
         (later_after_pass pass.level pass.dot P H (filter raised cs) (filter hopeless cs))
         (sym (windows_of (λ (u : List ℕ). is_covered pass.level (raised_all pass.level pass.dot P (filter raised cs)) (hopeless_all pass.dot H (filter hopeless cs)) u pass.dot)
         (counted_positions m words pass P H) (candidates (counted_positions m words pass P H)))

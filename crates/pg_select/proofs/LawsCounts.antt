@@ -11,7 +11,7 @@ use Rattle.std.specs.List.{list_any}
 use Rattle.std.proofs.lemmas.List.Sums.{sum_by-cons}
 use Rattle.pg_types.proofs.BoolFacts.{equal_is}
 use Rattle.pg_patterns.proofs.Ordered.{sorted_at}
-use Rattle.pg_select.specs.CountedPositions.{CountedPosition, Candidate, same_signs, with_window, candidates, good_of, bad_of, tally}
+use Rattle.pg_select.specs.CountedPositions.{CountedPosition, Candidate, same_signs, with_window, candidates, good_of, bad_of, with_sums}
 use Rattle.pg_types.specs.Inside.counting.Counts.{Counts, sums_of, with_weight}
 use Rattle.pg_select.specs.Inside.engine.Meanings.{with_position}
 use Rattle.pg_select.specs.Inside.laws.Laws.{entry_of}
@@ -132,9 +132,9 @@ none_before : (b : Bool) (g h : ℕ) → added None b g h ≡ cond b (Some (g, h
 none_before true g h = pairs _ _ _ _ (omega arith) (omega arith)
 none_before false g h = refl
 
--- the tally law: counting position by position gives the candidates with their sums
-pub counts_are_tally : (counted : List CountedPosition) → fold with_position [] counted ≡ map entry_of (tally counted)
-counts_are_tally counted =
+-- the law of sums: counting position by position gives the candidates with their sums
+pub counts_give_sums : (counted : List CountedPosition) → fold with_position [] counted ≡ map entry_of (with_sums counted)
+counts_give_sums counted =
     let windows : List (List ℕ × Unit {0}) = fold with_window [] counted in
     same_entries cmp nat_list_cmp_total window_exact (fold with_position [] counted) (entries_of counted (fold with_window [] counted))
     (counts_sorted [] counted tt)
@@ -152,8 +152,8 @@ candidates_back [] = refl
 candidates_back (c ∷ cs) = ap (λ (x : List Candidate). c ∷ x) (candidates_back cs)
 
 -- the same, with a candidate for each entry
-pub tally_is : (counted : List CountedPosition) → tally counted ≡ map candidate_of (fold with_position [] counted)
-tally_is counted = candidates_back (tally counted) ∙ ap (λ (counts : Counts). map candidate_of counts) (sym (counts_are_tally counted))
+pub with_sums_is : (counted : List CountedPosition) → with_sums counted ≡ map candidate_of (fold with_position [] counted)
+with_sums_is counted = candidates_back (with_sums counted) ∙ ap (λ (counts : Counts). map candidate_of counts) (sym (counts_give_sums counted))
 
 keys_at : (windows : List (List ℕ × Unit {0})) (i : ℕ) (d : List ℕ × Unit {0}) → get_or (map (λ (e : List ℕ × Unit {0}). e.0) windows) i d.0 ≡ (get_or windows i d).0
 keys_at [] i d = refl
