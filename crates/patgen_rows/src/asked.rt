@@ -1,7 +1,6 @@
 //! The explanation that a row asks for, beside the text that it wants.
 use crate::case::words_of;
 use crate::compare::push_difference;
-use crate::failure::Failure;
 use crate::pieces::push_text;
 use crate::table::{Line, Row, Table};
 use crate::word::Word;
@@ -11,6 +10,7 @@ use pg_patterns::PatternSet;
 use pg_translate::Table as LetterTable;
 use pg_types::{Kind, ReadingError, Refusal, read_params};
 use std::alloc::{AllocError, Global};
+use std::io;
 
 /// What a row asks.
 #[derive(Clone, Copy)]
@@ -26,16 +26,12 @@ pub(crate) fn compare_explanation(
     text: &mut String,
     table: &Table<'_>,
     row: &Row<'_>,
-) -> Result<(), Failure> {
+) -> io::Result<()> {
     let asked = Asked { alloc, table, row };
     let said = asked.said()?;
-    compare_said(text, &said, asked.content(Word::Says))
-}
-
-/// Compares an explanation with the one that is wanted.
-fn compare_said(text: &mut String, said: &[u8], wanted: Option<&[u8]>) -> Result<(), Failure> {
-    let wanted = wanted.unwrap_or(b"no text");
-    push_difference(text, said == wanted, "said", wanted, said)
+    let wanted = asked.content(Word::Says).unwrap_or(b"no text");
+    let is_right = said.as_slice() == wanted;
+    push_difference(text, is_right, "said", wanted, &said)
 }
 
 /// What a reader refuses; none where it accepts or finds no memory.
@@ -148,57 +144,47 @@ impl<'a> Asked<'a> {
     }
 
     /// The explanation.
-    fn said(&self) -> Result<Vec<u8>, Failure> {
+    fn said(&self) -> io::Result<Vec<u8>> {
         for line in self.row.lines.iter() {
             if line.word.asks() {
                 return self.said_of(line);
             }
         }
-        Err(Failure("the row has no call, and asks for no explanation"))
+        Err(io::Error::other("the row has no call, and asks for no explanation"))
     }
 
     /// The explanation of what a line says.
-    fn said_of(&self, line: &Line<'a>) -> Result<Vec<u8>, Failure> {
+    fn said_of(&self, line: &Line<'a>) -> io::Result<Vec<u8>> {
         match line.word {
             Word::Words => self.said_words(line.rest),
             Word::Fault => self.said_fault(line.rest),
             Word::Line => self.said_false(line.rest),
-            Word::Note => self.said_note(line.rest),
-            Word::Memory => self.said_memory(),
+            Word::Note => self.explained(&note_of(line.rest)),
+            Word::Memory => Ok(MEMORY.to_vec(self.alloc)?),
             _ => self.said_of_file(line),
         }
     }
 
-    /// The explanation of a note.
-    fn said_note(&self, note: &str) -> Result<Vec<u8>, Failure> {
-        self.explained(&note_of(note))
-    }
-
-    /// The explanation where there was not enough memory.
-    fn said_memory(&self) -> Result<Vec<u8>, Failure> {
-        Ok(MEMORY.to_vec(self.alloc)?)
-    }
-
     /// The explanation of this.
-    fn explained(&self, wrong: &Wrong<'_>) -> Result<Vec<u8>, Failure> {
+    fn explained(&self, wrong: &Wrong<'_>) -> io::Result<Vec<u8>> {
         Ok(explain(self.alloc, wrong)?)
     }
 
     /// The explanation of words.
-    fn said_words(&self, line: &str) -> Result<Vec<u8>, Failure> {
+    fn said_words(&self, line: &str) -> io::Result<Vec<u8>> {
         let words = words_of(self.alloc, line)?;
         self.explained(&Wrong::Words(&words))
     }
 
     /// The explanation of a fault, in whose line escapes may stand.
-    fn said_fault(&self, line: &str) -> Result<Vec<u8>, Failure> {
+    fn said_fault(&self, line: &str) -> io::Result<Vec<u8>> {
         let mut bytes = Vec::new(self.alloc);
         push_text(&mut bytes, line)?;
         self.said_failed(str::from_utf8(&bytes).unwrap_or(""))
     }
 
     /// The same of a line without escapes.
-    fn said_failed(&self, line: &str) -> Result<Vec<u8>, Failure> {
+    fn said_failed(&self, line: &str) -> io::Result<Vec<u8>> {
         let (word, name) = line.split_once(' ').unwrap_or((line, ""));
         self.explained(&Wrong::Fault(Fault {
             deed: deed_of(word),
@@ -210,17 +196,13 @@ impl<'a> Asked<'a> {
 
     /// What was done before a fault.
     fn before(&self) -> Option<Before<'a>> {
-        match self.rest(Word::Before).split_once(' ') {
-            Some((word, name)) => Some(Before {
-                deed: deed_of(word),
-                name,
-            }),
-            None => None,
-        }
+        let (word, name) = self.rest(Word::Before).split_once(' ')?;
+        let deed = deed_of(word);
+        Some(Before { deed, name })
     }
 
     /// The explanation of a false line.
-    fn said_false(&self, number: &str) -> Result<Vec<u8>, Failure> {
+    fn said_false(&self, number: &str) -> io::Result<Vec<u8>> {
         self.explained(&Wrong::False(ComparedLine {
             name: "o.pat",
             line: number.parse().unwrap_or(0),
@@ -231,7 +213,7 @@ impl<'a> Asked<'a> {
 
     /// The explanation of what is wrong with the content of a line, which is read by the letters of
     /// the row.
-    fn said_of_file(&self, line: &Line<'a>) -> Result<Vec<u8>, Failure> {
+    fn said_of_file(&self, line: &Line<'a>) -> io::Result<Vec<u8>> {
         let letters = self.content(Word::Letters).unwrap_or(b"");
         let table = match LetterTable::read(self.alloc, letters) {
             Ok(table) => table,
@@ -241,7 +223,7 @@ impl<'a> Asked<'a> {
     }
 
     /// The same by this table of letters.
-    fn said_by(&self, table: &LetterTable, line: &Line<'a>) -> Result<Vec<u8>, Failure> {
+    fn said_by(&self, table: &LetterTable, line: &Line<'a>) -> io::Result<Vec<u8>> {
         let bytes = self.table.content(line);
         match refusal_in(self.alloc, table, line, bytes) {
             Some(refusal) => {
@@ -263,7 +245,7 @@ impl<'a> Asked<'a> {
         bytes: &[u8],
         refusal: Refusal,
         table: Option<&LetterTable>,
-    ) -> Result<Vec<u8>, Failure> {
+    ) -> io::Result<Vec<u8>> {
         let given = self.rest(Word::Letters);
         let table_name = if given.is_empty() { "t.tra" } else { given };
         let letters = match table {

@@ -1,13 +1,12 @@
 //! The calls of a row, from files to files.
 use crate::changes::Change;
-use crate::failure::Failure;
 use crate::made::number_of;
 use crate::table::{Call, Line, Row, Table};
 use crate::word::Word;
 use pg_outside::{Files, MemoryFiles, MemorySink, ReadError, Sink};
 use pg_top::{Status, run};
 use std::alloc::{AllocError, Global};
-use std::mem;
+use std::{io, mem};
 
 /// How many bytes the sink of a call and each of its files have room for.
 const ROOM: usize = 4096;
@@ -41,8 +40,6 @@ pub(crate) struct Case<'a> {
 impl<'a> Case<'a> {
     /// No file and no call.
     pub fn new(alloc: Global, table: &'a Table<'a>, line: usize) -> Result<Case<'a>, AllocError> {
-        let out = MemorySink::new(alloc, 0)?;
-        let above = MemorySink::new(alloc, 0)?;
         Ok(Case {
             alloc,
             table,
@@ -50,44 +47,28 @@ impl<'a> Case<'a> {
             files: MemoryFiles::new(alloc),
             holds: Vec::new(alloc),
             status: Status::Done,
-            out,
-            above,
+            out: MemorySink::new(alloc, 0)?,
+            above: MemorySink::new(alloc, 0)?,
             is_call_due: false,
             is_put_due: false,
         })
     }
 
     /// Begins with the files that a row gives, one of them with a change, if there is one.
-    pub fn begin(
-        &mut self,
-        row: &'a Row<'a>,
-        change: Option<&'a Change<'a>>,
-    ) -> Result<(), Failure> {
+    pub fn begin(&mut self, row: &'a Row<'a>, change: Option<&'a Change<'a>>) -> io::Result<()> {
         hold_given(&mut self.holds, self.table, row, change)?;
         self.files = MemoryFiles::new(self.alloc);
         Ok(add_held(&mut self.files, &self.holds)?)
     }
 
     /// Does a call. The files then have to hold what it wants.
-    pub fn call(&mut self, call: &Call<'a>) -> Result<(), Failure> {
-        self.begin_sink()?;
+    pub fn call(&mut self, call: &Call<'a>) -> io::Result<()> {
+        self.above = mem::replace(&mut self.out, MemorySink::new(self.alloc, ROOM)?);
         self.status = answer(self.alloc, call, &mut self.files, &mut self.out)?;
         hold_wanted(&mut self.holds, self.table, &call.wants)?;
-        self.look_ahead();
-        Ok(())
-    }
-
-    /// Begins an empty sink. What the last call printed is now that of the call above.
-    fn begin_sink(&mut self) -> Result<(), AllocError> {
-        let out = MemorySink::new(self.alloc, ROOM)?;
-        self.above = mem::replace(&mut self.out, out);
-        Ok(())
-    }
-
-    /// Looks whether the next call on the files and the next put fail.
-    fn look_ahead(&mut self) {
         self.is_call_due = is_call_due(self.alloc, &mut self.files, &self.holds);
         self.is_put_due = self.out.put(b"").is_err();
+        Ok(())
     }
 }
 
@@ -97,7 +78,7 @@ fn answer(
     call: &Call<'_>,
     files: &mut MemoryFiles,
     out: &mut MemorySink,
-) -> Result<Status, Failure> {
+) -> io::Result<Status> {
     list_faults(&call.wants, files, out)?;
     let words = words_of(alloc, call.line.rest)?;
     Ok(run(alloc, &words, files, out))
@@ -109,7 +90,7 @@ pub(crate) fn hold_given<'a>(
     table: &'a Table<'a>,
     row: &'a Row<'a>,
     change: Option<&'a Change<'a>>,
-) -> Result<(), Failure> {
+) -> io::Result<()> {
     holds.clear();
     hold_lines(holds, table, &table.shared)?;
     hold_lines(holds, table, &row.lines)?;
@@ -124,25 +105,16 @@ fn hold_lines<'a>(
     holds: &mut Vec<Held<'a>>,
     table: &'a Table<'a>,
     lines: &[Line<'a>],
-) -> Result<(), Failure> {
+) -> io::Result<()> {
     for line in lines {
-        hold_line(holds, table, line)?;
+        match line.word {
+            Word::File => hold(holds, line.name, Some(table.content(line)))?,
+            Word::Missing => hold(holds, line.rest, None)?,
+            Word::Changes => {}
+            _ => return Err(io::Error::other("a line belongs to no row of calls")),
+        }
     }
     Ok(())
-}
-
-/// From now on the files have to hold what this line gives.
-fn hold_line<'a>(
-    holds: &mut Vec<Held<'a>>,
-    table: &'a Table<'a>,
-    line: &Line<'a>,
-) -> Result<(), Failure> {
-    match line.word {
-        Word::File => Ok(hold(holds, line.name, Some(table.content(line)))?),
-        Word::Missing => Ok(hold(holds, line.rest, None)?),
-        Word::Changes => Ok(()),
-        _ => Err(Failure("a line belongs to no row of calls")),
-    }
 }
 
 /// From now on a file has to hold this.
@@ -151,21 +123,14 @@ fn hold<'a>(
     name: &'a str,
     bytes: Option<&'a [u8]>,
 ) -> Result<(), AllocError> {
-    if !hold_again(holds, name, bytes) {
-        holds.push(Held { name, bytes })?;
-    }
-    Ok(())
-}
-
-/// The same of a file that had to hold something before; false where it had not.
-fn hold_again<'a>(holds: &mut [Held<'a>], name: &str, bytes: Option<&'a [u8]>) -> bool {
     for held in holds.iter_mut() {
         if held.name == name {
             held.bytes = bytes;
-            return true;
+            return Ok(());
         }
     }
-    false
+    holds.push(Held { name, bytes })?;
+    Ok(())
 }
 
 /// Adds files with what they have to hold.
@@ -193,57 +158,37 @@ fn list_faults(
     wants: &[Line<'_>],
     files: &mut MemoryFiles,
     out: &mut MemorySink,
-) -> Result<(), Failure> {
+) -> io::Result<()> {
     for want in wants {
-        list_fault(want, files, out)?;
+        match want.word {
+            Word::FailsCall | Word::FailsPut => list_fault(want, files, out)?,
+            Word::Calls => files.fail_at(number_behind(want.rest)?, None)?,
+            Word::Puts => out.fail_at(number_behind(want.rest)?, None)?,
+            _ => {}
+        }
     }
     Ok(())
 }
 
-/// Lists the call on the files or the put that fails by a line, if one does.
-fn list_fault(
-    want: &Line<'_>,
-    files: &mut MemoryFiles,
-    out: &mut MemorySink,
-) -> Result<(), Failure> {
-    match want.word {
-        Word::FailsCall | Word::Calls => list_call(want, files),
-        Word::FailsPut | Word::Puts => list_put(want, out),
-        _ => Ok(()),
-    }
+/// The number behind this one.
+fn number_behind(text: &str) -> io::Result<u64> {
+    Ok(u64::from(number_of(text)?) + 1)
 }
 
-/// Lists the call on the files that fails by a line.
-fn list_call(want: &Line<'_>, files: &mut MemoryFiles) -> Result<(), Failure> {
-    let (number, keep) = failing(want)?;
-    Ok(files.fail_at(number, keep)?)
-}
-
-/// Lists the put that fails by a line.
-fn list_put(want: &Line<'_>, out: &mut MemorySink) -> Result<(), Failure> {
-    let (number, keep) = failing(want)?;
-    Ok(out.fail_at(number, keep)?)
-}
-
-/// The number of the call or put that fails by a line, and how many bytes it keeps, if it keeps
-/// some.
-fn failing(want: &Line<'_>) -> Result<(u64, Option<usize>), Failure> {
-    if want.word.is(Word::Calls) || want.word.is(Word::Puts) {
-        return failing_behind(want.rest);
-    }
+/// Lists the call on the files or the put that fails by a line.
+fn list_fault(want: &Line<'_>, files: &mut MemoryFiles, out: &mut MemorySink) -> io::Result<()> {
     let (number, keep) = want.rest.split_once(" keeps ").unwrap_or((want.rest, ""));
-    let number = number_of(number)?;
-    Ok((u64::from(number), keep_of(keep)?))
-}
-
-/// The same of the one behind the last, of which this is the number.
-fn failing_behind(number: &str) -> Result<(u64, Option<usize>), Failure> {
-    let number = number_of(number)?;
-    Ok((u64::from(number) + 1, None))
+    let number = u64::from(number_of(number)?);
+    let keep = keep_of(keep)?;
+    if want.word.is(Word::FailsPut) {
+        Ok(out.fail_at(number, keep)?)
+    } else {
+        Ok(files.fail_at(number, keep)?)
+    }
 }
 
 /// How many bytes are kept, if some are.
-fn keep_of(text: &str) -> Result<Option<usize>, Failure> {
+fn keep_of(text: &str) -> io::Result<Option<usize>> {
     if text.is_empty() {
         return Ok(None);
     }
@@ -257,23 +202,14 @@ fn hold_wanted<'a>(
     wants: &[Line<'a>],
 ) -> Result<(), AllocError> {
     for want in wants {
-        hold_want(holds, table, want)?;
+        match want.word {
+            Word::After => hold(holds, want.name, Some(table.content(want)))?,
+            Word::Begins => hold(holds, want.name, None)?,
+            Word::Any => hold_any(holds, want.rest)?,
+            _ => {}
+        }
     }
     Ok(())
-}
-
-/// From now on the files have to hold what this line wants.
-fn hold_want<'a>(
-    holds: &mut Vec<Held<'a>>,
-    table: &'a Table<'a>,
-    want: &Line<'a>,
-) -> Result<(), AllocError> {
-    match want.word {
-        Word::After => hold(holds, want.name, Some(table.content(want))),
-        Word::Begins => hold(holds, want.name, None),
-        Word::Any => hold_any(holds, want.rest),
-        _ => Ok(()),
-    }
 }
 
 /// From now on these files may hold anything.
@@ -306,14 +242,8 @@ pub(crate) fn words_of(alloc: Global, line: &str) -> Result<Vec<String>, AllocEr
 /// Appends the words of a line.
 fn push_words(words: &mut Vec<String>, alloc: Global, line: &str) -> Result<(), AllocError> {
     for word in line.split(' ') {
-        push_word(words, alloc, word)?;
+        let word = if word == "''" { "" } else { word };
+        words.push(String::from_str(alloc, word)?)?;
     }
-    Ok(())
-}
-
-/// Appends a word, which two quotes stand for where it is empty.
-fn push_word(words: &mut Vec<String>, alloc: Global, word: &str) -> Result<(), AllocError> {
-    let word = String::from_str(alloc, if word == "''" { "" } else { word })?;
-    words.push(word)?;
     Ok(())
 }

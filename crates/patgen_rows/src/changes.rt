@@ -9,77 +9,58 @@ pub(crate) struct Change<'a> {
     pub line: usize,
 }
 
-/// The changes of a file that were made so far.
-#[derive(Drop)]
-struct Changes<'a> {
-    alloc: Global,
-    name: &'a str,
-    made: Vec<Change<'a>>,
-}
-
-impl Changes<'_> {
-    /// Makes a change of a line, whose bytes are these parts.
-    fn push(&mut self, line: usize, parts: [&[u8]; 3]) -> Result<(), AllocError> {
-        let bytes = parts.concat(self.alloc)?;
-        let name = self.name;
-        self.made.push(Change { name, bytes, line })?;
-        Ok(())
-    }
-
-    /// All changes.
-    fn push_all(&mut self, file: &[u8]) -> Result<(), AllocError> {
-        self.push_bits(file)?;
-        self.push_lines(file)
-    }
-
-    /// The changes of the lowest bit of each byte.
-    fn push_bits(&mut self, file: &[u8]) -> Result<(), AllocError> {
-        let mut line = 1_usize;
-        for (at, byte) in file.iter().enumerate() {
-            let (front, back) = parted(file, at);
-            self.push(line, [front, &[*byte ^ 1], back.get(1..).unwrap_or(b"")])?;
-            line = line.saturating_add(usize::from(*byte == b'\n'));
-        }
-        Ok(())
-    }
-
-    /// The changes that leave out a line, and those where it stands twice.
-    fn push_lines(&mut self, file: &[u8]) -> Result<(), AllocError> {
-        let mut line = 1_usize;
-        let mut start = 0_usize;
-        for text in file.split_inclusive(|byte| *byte == b'\n') {
-            let (front, back) = parted(file, start);
-            self.push_line(line, [front, text, back])?;
-            start = start.saturating_add(text.len());
-            line = line.saturating_add(1);
-        }
-        Ok(())
-    }
-
-    /// The same of one line, with what stands before it and from it on. Where it stands twice, the
-    /// second one is the changed line.
-    fn push_line(&mut self, line: usize, parts: [&[u8]; 3]) -> Result<(), AllocError> {
-        let [front, text, back] = parts;
-        self.push(line, [front, b"", back.get(text.len()..).unwrap_or(b"")])?;
-        self.push(line.saturating_add(1), [front, text, back])
-    }
-}
-
-/// The bytes before a place and those from it on.
-fn parted(file: &[u8], at: usize) -> (&[u8], &[u8]) {
-    file.split_at_checked(at).unwrap_or((file, b""))
-}
-
-/// The changes of a file: the lowest bit of each byte is changed, each line is left out, and each
-/// line stands twice.
-pub(crate) fn changes_of<'a>(
+/// Appends the changes of the bytes of a line, which stands from `start` up to `end`: the lowest
+/// bit of each is changed.
+fn push_byte_changes<'a>(
+    changes: &mut Vec<Change<'a>>,
     alloc: Global,
     name: &'a str,
     file: &[u8],
-) -> Result<Vec<Change<'a>>, AllocError> {
-    let made = Vec::new(alloc);
-    let mut changes = Changes { alloc, name, made };
-    changes.push_all(file)?;
-    let Changes { made, .. } = changes;
-    Ok(made)
+    place: [usize; 3],
+) -> Result<(), AllocError> {
+    let [start, end, line] = place;
+    let text = file.get(start..end).unwrap_or(&[]);
+    for (index, byte) in text.iter().enumerate() {
+        let at = start.saturating_add(index);
+        let change = [at, at.saturating_add(1), line];
+        changes.push(changed(alloc, name, file, change, &[*byte ^ 1])?)?;
+    }
+    Ok(())
+}
+
+/// Appends the changes of a file: the lowest bit of each byte is changed, each line is left out,
+/// and each line stands twice. Where a line stands twice, the second one is the changed line.
+pub(crate) fn push_changes<'a>(
+    changes: &mut Vec<Change<'a>>,
+    alloc: Global,
+    name: &'a str,
+    file: &[u8],
+) -> Result<(), AllocError> {
+    let mut start = 0_usize;
+    let mut line = 0_usize;
+    for text in file.split_inclusive(|byte| *byte == b'\n') {
+        line = line.saturating_add(1);
+        let end = start.saturating_add(text.len());
+        push_byte_changes(changes, alloc, name, file, [start, end, line])?;
+        changes.push(changed(alloc, name, file, [start, end, line], b"")?)?;
+        let change = [start, start, line.saturating_add(1)];
+        changes.push(changed(alloc, name, file, change, text)?)?;
+        start = end;
+    }
+    Ok(())
+}
+
+/// A file with other bytes in place of those from `start` up to `end`, which is a change of a line.
+fn changed<'a>(
+    alloc: Global,
+    name: &'a str,
+    file: &[u8],
+    change: [usize; 3],
+    by: &[u8],
+) -> Result<Change<'a>, AllocError> {
+    let [start, end, line] = change;
+    let mut bytes = file.get(..start).unwrap_or(file).to_vec(alloc)?;
+    bytes.extend_from_slice(by)?;
+    bytes.extend_from_slice(file.get(end..).unwrap_or(&[]))?;
+    Ok(Change { name, bytes, line })
 }

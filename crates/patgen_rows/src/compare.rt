@@ -1,37 +1,29 @@
 //! What came of a call beside what was wanted of it.
 use crate::case::Case;
-use crate::failure::Failure;
 use crate::table::{Call, Line};
 use crate::word::Word;
 use std::alloc::{AllocError, Global};
+use std::io;
 
 /// How many bytes of a content are shown.
 const SHOWN: usize = 300;
 
 /// Appends what is wrong with the last call, a line for each difference.
-pub(crate) fn compare_call(
-    text: &mut String,
-    case: &Case<'_>,
-    call: &Call<'_>,
-) -> Result<(), Failure> {
-    for want in call.wants.iter() {
-        compare_want(text, case, want, call.is_behind)?;
-    }
-    if !are_both_wanted(&call.wants) {
-        text.push_str("  nothing is wanted of the status or of what is printed\n")?;
-    }
-    compare_files(text, case)
-}
-
-/// Whether something is wanted of the status, and something of what is printed.
-fn are_both_wanted(wants: &[Line<'_>]) -> bool {
+pub(crate) fn compare_call(text: &mut String, case: &Case<'_>, call: &Call<'_>) -> io::Result<()> {
     let mut is_status_wanted = false;
     let mut are_prints_wanted = false;
-    for want in wants {
+    for want in call.wants.iter() {
         is_status_wanted |= want.word.is(Word::Status);
         are_prints_wanted |= want.word.is_of_prints();
+        compare_want(text, case, want, call.is_behind)?;
     }
-    is_status_wanted && are_prints_wanted
+    if !is_status_wanted || !are_prints_wanted {
+        writeln!(
+            text,
+            "  nothing is wanted of the status or of what is printed"
+        )?;
+    }
+    compare_files(text, case)
 }
 
 /// Compares one thing that is wanted of a call.
@@ -40,7 +32,7 @@ fn compare_want(
     case: &Case<'_>,
     want: &Line<'_>,
     is_behind: bool,
-) -> Result<(), Failure> {
+) -> io::Result<()> {
     match want.word {
         Word::Status => compare_status(text, case, want.rest),
         Word::Begins => compare_beginning(text, case, want),
@@ -49,12 +41,12 @@ fn compare_want(
         Word::Puts => push_number(text, case.is_put_due, "puts", want.rest),
         Word::FailsCall | Word::FailsPut | Word::After | Word::Any => Ok(()),
         _ if want.word.is_of_prints() => compare_printed(text, case, want),
-        _ => Err(Failure("a line says nothing of a call")),
+        _ => Err(io::Error::other("a line says nothing of a call")),
     }
 }
 
 /// Appends that another number came than a line wants, where it did.
-fn push_number(text: &mut String, is_right: bool, word: &str, number: &str) -> Result<(), Failure> {
+fn push_number(text: &mut String, is_right: bool, word: &str, number: &str) -> io::Result<()> {
     if is_right {
         return Ok(());
     }
@@ -62,14 +54,14 @@ fn push_number(text: &mut String, is_right: bool, word: &str, number: &str) -> R
 }
 
 /// Compares the answer with the name of a status.
-fn compare_status(text: &mut String, case: &Case<'_>, wanted: &str) -> Result<(), Failure> {
+fn compare_status(text: &mut String, case: &Case<'_>, wanted: &str) -> io::Result<()> {
     let came = format!(in case.alloc; "{:?}", case.status)?;
     let is_right = came.as_str() == wanted;
     push_difference(text, is_right, "status", wanted.as_bytes(), came.as_bytes())
 }
 
 /// Compares what was printed with one thing that is wanted of it.
-fn compare_printed(text: &mut String, case: &Case<'_>, want: &Line<'_>) -> Result<(), Failure> {
+fn compare_printed(text: &mut String, case: &Case<'_>, want: &Line<'_>) -> io::Result<()> {
     let wanted = match want.word {
         Word::PrintsAgain => case.above.bytes(),
         Word::PrintsEndOf => case.files.bytes(want.rest).unwrap_or(b""),
@@ -102,35 +94,25 @@ fn is_at_line(alloc: Global, bytes: &[u8], front: &[u8], line: usize) -> Result<
 }
 
 /// Each file that has to hold something.
-fn compare_files(text: &mut String, case: &Case<'_>) -> Result<(), Failure> {
+fn compare_files(text: &mut String, case: &Case<'_>) -> io::Result<()> {
     for held in case.holds.iter() {
         if let Some(wanted) = held.bytes {
-            compare_file(text, case, held.name, wanted)?;
+            let came = case.files.bytes(held.name).unwrap_or(b"no file");
+            push_difference(text, came == wanted, held.name, wanted, came)?;
         }
     }
     Ok(())
 }
 
-/// A file that has to hold these bytes.
-fn compare_file(
-    text: &mut String,
-    case: &Case<'_>,
-    name: &str,
-    wanted: &[u8],
-) -> Result<(), Failure> {
-    let came = case.files.bytes(name).unwrap_or(b"no file");
-    push_difference(text, came == wanted, name, wanted, came)
-}
-
 /// A file that has to begin with something.
-fn compare_beginning(text: &mut String, case: &Case<'_>, want: &Line<'_>) -> Result<(), Failure> {
+fn compare_beginning(text: &mut String, case: &Case<'_>, want: &Line<'_>) -> io::Result<()> {
     let wanted = case.table.content(want);
     let came = case.files.bytes(want.name).unwrap_or(b"no file");
     push_difference(text, came.starts_with(wanted), want.name, wanted, came)
 }
 
 /// Two files that have to hold the same.
-fn compare_pair(text: &mut String, case: &Case<'_>, names: &str) -> Result<(), Failure> {
+fn compare_pair(text: &mut String, case: &Case<'_>, names: &str) -> io::Result<()> {
     let (one, other) = names.split_once(' ').unwrap_or((names, ""));
     let wanted = case.files.bytes(other).unwrap_or(b"no file");
     let came = case.files.bytes(one).unwrap_or(b"none");
@@ -144,7 +126,7 @@ pub(crate) fn push_difference(
     what: &str,
     wanted: &[u8],
     came: &[u8],
-) -> Result<(), Failure> {
+) -> io::Result<()> {
     if is_right {
         return Ok(());
     }

@@ -2,11 +2,11 @@
 //! cells of a root.
 ghost use Rattle.std.specs.Prelude.{◌<◌};
 
-use crate::failure::Failure;
 use pg_draws::Draws;
 use pg_top::sample_text;
 use pg_words::limits::{COUNT_MAX, SEED_MAX};
 use std::alloc::{AllocError, Global};
+use std::io;
 
 /// The letters of ASCII that spell a letter of a made translate file.
 const ALPHABET: [u8; 52] = *b"abcdefghijklmnopqrstuvwxyzABCDEFGHIJKLMNOPQRSTUVWXYZ";
@@ -20,14 +20,6 @@ struct Spellings {
 }
 
 impl Spellings {
-    /// Appends the line of a translate file for the letter with this number.
-    fn push_line(self, bytes: &mut Vec<u8>, number: u32) -> Result<(), AllocError> {
-        bytes.push(b' ')?;
-        self.push(bytes, number)?;
-        bytes.push(b'\n')?;
-        Ok(())
-    }
-
     /// Appends the spelling of the letter with this number.
     fn push(self, bytes: &mut Vec<u8>, number: u32) -> Result<(), AllocError> {
         let mut unit = self.alphabet.saturating_pow(self.len.saturating_sub(1));
@@ -42,15 +34,15 @@ impl Spellings {
 }
 
 /// A number.
-pub(crate) fn number_of(word: &str) -> Result<u32, Failure> {
+pub(crate) fn number_of(word: &str) -> io::Result<u32> {
     match word.parse() {
         Ok(number) => Ok(number),
-        Err(_) => Err(Failure("a number is none")),
+        Err(_) => Err(io::Error::other("a number is none")),
     }
 }
 
 /// The numbers of a line, which a blank parts: there are `count`, and 0 stands behind them.
-fn numbers_of(line: &str, count: usize) -> Result<[u32; 5], Failure> {
+fn numbers_of(line: &str, count: usize) -> io::Result<[u32; 5]> {
     let mut numbers = [0; 5];
     let mut found = 0_usize;
     for word in line.split(' ') {
@@ -60,36 +52,38 @@ fn numbers_of(line: &str, count: usize) -> Result<[u32; 5], Failure> {
         found = found.saturating_add(1);
     }
     if found != count {
-        return Err(Failure("other numbers are due"));
+        return Err(io::Error::other("other numbers are due"));
     }
     Ok(numbers)
 }
 
 /// `sample SEED COUNT`: the dictionary of `sample`.
-pub(crate) fn push_sample(alloc: Global, bytes: &mut Vec<u8>, line: &str) -> Result<(), Failure> {
+pub(crate) fn push_sample(alloc: Global, bytes: &mut Vec<u8>, line: &str) -> io::Result<()> {
     let [seed, count, ..] = numbers_of(line, 2)?;
     if seed > SEED_MAX || count > COUNT_MAX {
-        return Err(Failure("sample takes no such numbers"));
+        return Err(io::Error::other("sample takes no such numbers"));
     }
-    let text = sample_text(alloc, seed, count)?;
-    Ok(bytes.extend_from_slice(&text)?)
+    bytes.extend_from_slice(&sample_text(alloc, seed, count)?)?;
+    Ok(())
 }
 
 /// `letters COUNT LEN ALPHABET`: lines of a translate file.
-pub(crate) fn push_letters(bytes: &mut Vec<u8>, line: &str) -> Result<(), Failure> {
+pub(crate) fn push_letters(bytes: &mut Vec<u8>, line: &str) -> io::Result<()> {
     let [count, len, alphabet, ..] = numbers_of(line, 3)?;
     let spellings = Spellings { len, alphabet };
     for number in 0..count {
-        spellings.push_line(bytes, number)?;
+        bytes.push(b' ')?;
+        spellings.push(bytes, number)?;
+        bytes.push(b'\n')?;
     }
     Ok(())
 }
 
 /// `words SEED COUNT LETTERS LEN ALPHABET`: words over so many letters.
-pub(crate) fn push_words(bytes: &mut Vec<u8>, line: &str) -> Result<(), Failure> {
+pub(crate) fn push_words(bytes: &mut Vec<u8>, line: &str) -> io::Result<()> {
     let [seed, count, letters, len, alphabet] = numbers_of(line, 5)?;
     if letters == 0 {
-        return Err(Failure("words need a letter"));
+        return Err(io::Error::other("words need a letter"));
     }
     let spellings = Spellings { len, alphabet };
     let mut draws = Draws::new(seed);
@@ -126,7 +120,7 @@ fn push_word(
 
 /// `cells SIGNS`: the unused cell 0 of a packed table and those of its root, which has so many
 /// signs and no child.
-pub(crate) fn push_cells(bytes: &mut Vec<u8>, line: &str) -> Result<(), Failure> {
+pub(crate) fn push_cells(bytes: &mut Vec<u8>, line: &str) -> io::Result<()> {
     let [signs, ..] = numbers_of(line, 1)?;
     for sign in 0..=signs {
         let [_, _, high, low] = sign.to_be_bytes();

@@ -10,7 +10,6 @@ mod asked;
 mod case;
 mod changes;
 mod compare;
-mod failure;
 mod made;
 mod pieces;
 mod table;
@@ -22,25 +21,14 @@ use std::rt::{Env, Files};
 use std::{env, fs, io};
 use trial::Trial;
 
-/// Prints what was wrong with a table, and a line with its counts.
-fn print_trial<R: Print>(rt: &R, trial: &Trial<'_>) -> io::Result<()> {
-    let (name, told) = (trial.name, &trial.told);
-    let (rows, calls, wrong) = (trial.rows, trial.calls, trial.wrong);
-    println!(rt; "{told}{name}: {rows} rows, {calls} calls, {wrong} wrong")
-}
-
-/// Does the rows of a table with this text: whether all goes as wanted.
-fn try_text<R: AllocGlobal + Print>(rt: &R, name: &str, text: &str) -> io::Result<bool> {
-    let mut trial = Trial::new(rt.alloc(), name);
-    trial.try_text(text)?;
-    print_trial(rt, &trial)?;
-    Ok(trial.wrong == 0)
-}
-
 /// Reads a table and does its rows: whether all goes as wanted.
 fn try_table<R: Files + AllocGlobal + Print>(rt: &R, name: &str) -> io::Result<bool> {
     let text = fs::read_to_string(rt, name)?;
-    try_text(rt, name, text.as_str())
+    let mut trial = Trial::new(rt.alloc(), name);
+    trial.try_text(text.as_str())?;
+    let (told, rows, calls, wrong) = (&trial.told, trial.rows, trial.calls, trial.wrong);
+    println!(rt; "{told}{name}: {rows} rows, {calls} calls, {wrong} wrong")?;
+    Ok(wrong == 0)
 }
 
 /// Tries each table that the words name: whether all go as wanted.

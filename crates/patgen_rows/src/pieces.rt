@@ -1,9 +1,9 @@
 //! The pieces of a content.
-use crate::failure::Failure;
 use crate::made::{push_cells, push_letters, push_sample, push_words};
 use crate::table::Table;
 use crate::word::Word;
 use std::alloc::{AllocError, Global};
+use std::io;
 
 /// How often a piece stands, and the piece: `3 times > a` is the line a three times.
 pub(crate) fn cut_times(line: &str) -> (usize, &str) {
@@ -29,7 +29,7 @@ pub(crate) fn push_piece(
     bytes: &mut Vec<u8>,
     word: Word,
     rest: &str,
-) -> Result<(), Failure> {
+) -> io::Result<()> {
     match word {
         Word::TextAndLf => push_line(bytes, rest),
         Word::Text => push_text(bytes, rest),
@@ -44,7 +44,7 @@ pub(crate) fn push_piece(
 }
 
 /// Appends a text and an LF.
-fn push_line(bytes: &mut Vec<u8>, text: &str) -> Result<(), Failure> {
+fn push_line(bytes: &mut Vec<u8>, text: &str) -> io::Result<()> {
     push_text(bytes, text)?;
     bytes.push(b'\n')?;
     Ok(())
@@ -72,38 +72,33 @@ fn hexadecimal(rest: &str) -> Option<(u8, usize)> {
 }
 
 /// Appends the bytes of a text, in which a backslash begins an escape.
-pub(crate) fn push_text(bytes: &mut Vec<u8>, text: &str) -> Result<(), Failure> {
+pub(crate) fn push_text(bytes: &mut Vec<u8>, text: &str) -> io::Result<()> {
     let mut rest = text;
-    for _ in 0..=text.len() {
-        rest = push_front(bytes, rest)?;
+    for _ in 0..text.len() {
+        let Some((plain, escape)) = rest.split_once('\\') else {
+            break;
+        };
+        bytes.extend_from_slice(plain.as_bytes())?;
+        rest = push_escape(bytes, escape)?;
     }
+    bytes.extend_from_slice(rest.as_bytes())?;
     Ok(())
 }
 
-/// Appends the bytes of a text up to the first escape and with it, and gives what stands behind.
-fn push_front<'t>(bytes: &mut Vec<u8>, text: &'t str) -> Result<&'t str, Failure> {
-    let Some((plain, escape)) = text.split_once('\\') else {
-        bytes.extend_from_slice(text.as_bytes())?;
-        return Ok("");
-    };
-    bytes.extend_from_slice(plain.as_bytes())?;
-    push_escape(bytes, escape)
-}
-
 /// Appends the byte of an escape, and gives what stands behind it.
-fn push_escape<'t>(bytes: &mut Vec<u8>, escape: &'t str) -> Result<&'t str, Failure> {
+fn push_escape<'t>(bytes: &mut Vec<u8>, escape: &'t str) -> io::Result<&'t str> {
     let Some((byte, len)) = escaped(escape) else {
-        return Err(Failure("an escape is none of those that a table has"));
+        return Err(io::Error::other("an escape is none of those that a table has"));
     };
     bytes.push(byte)?;
     Ok(escape.get(len..).unwrap_or(""))
 }
 
 /// Appends the bytes that are written as numbers.
-fn push_numbers(bytes: &mut Vec<u8>, numbers: &str) -> Result<(), Failure> {
+fn push_numbers(bytes: &mut Vec<u8>, numbers: &str) -> io::Result<()> {
     for number in numbers.split(' ') {
         let Ok(byte) = number.parse() else {
-            return Err(Failure("a byte is none"));
+            return Err(io::Error::other("a byte is none"));
         };
         bytes.push(byte)?;
     }
@@ -111,32 +106,24 @@ fn push_numbers(bytes: &mut Vec<u8>, numbers: &str) -> Result<(), Failure> {
 }
 
 /// Appends a line for each word of one content with each word of another.
-fn push_joined(table: &Table<'_>, bytes: &mut Vec<u8>, names: &str) -> Result<(), Failure> {
+fn push_joined(table: &Table<'_>, bytes: &mut Vec<u8>, names: &str) -> io::Result<()> {
     let (one, other) = names.split_once(' ').unwrap_or((names, ""));
     let one = table.named(one)?;
-    push_all_pairs(bytes, one, table.named(other)?)
-}
-
-/// Appends a line for each word of one text with each word of another, which blanks part.
-fn push_all_pairs(bytes: &mut Vec<u8>, one: &[u8], other: &[u8]) -> Result<(), Failure> {
+    let other = table.named(other)?;
     for front in one.split(|byte| *byte == b' ') {
         push_pairs(bytes, front, other)?;
     }
     Ok(())
 }
 
-/// Appends a line for each word of a text, which a blank parts: these bytes with the word.
+/// Appends a line for each word of a text, which a blank parts: these bytes, a hyphen and the word.
+/// It ends with CR and LF.
 fn push_pairs(bytes: &mut Vec<u8>, front: &[u8], text: &[u8]) -> Result<(), AllocError> {
     for word in text.split(|byte| *byte == b' ') {
-        push_pair(bytes, front, word)?;
+        bytes.extend_from_slice(front)?;
+        bytes.push(b'-')?;
+        bytes.extend_from_slice(word)?;
+        bytes.extend_from_slice(b"\r\n")?;
     }
     Ok(())
-}
-
-/// Appends a line of two words, a hyphen between them. It ends with CR and LF.
-fn push_pair(bytes: &mut Vec<u8>, front: &[u8], word: &[u8]) -> Result<(), AllocError> {
-    bytes.extend_from_slice(front)?;
-    bytes.push(b'-')?;
-    bytes.extend_from_slice(word)?;
-    bytes.extend_from_slice(b"\r\n")
 }

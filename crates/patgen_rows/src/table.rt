@@ -1,8 +1,8 @@
 //! Reading a table. The file FORMAT says what its lines mean.
-use crate::failure::Failure;
 use crate::pieces::{cut_times, push_piece, push_times};
 use crate::word::{Word, word_of};
 use std::alloc::Global;
+use std::io;
 
 /// A line of a table.
 #[derive(Clone, Copy)]
@@ -37,30 +37,21 @@ pub(crate) struct Call<'a> {
 
 /// The call that a line begins below another one. Of one with the word `also` the same is wanted as
 /// of that.
-fn call_below<'a>(
-    alloc: Global,
-    line: Line<'a>,
-    above: Option<&Call<'a>>,
-) -> Result<Call<'a>, Failure> {
-    match above {
-        Some(above) if line.word.is(Word::Also) => call_as(alloc, line, above),
-        None if !line.word.is(Word::Call) => Err(Failure("the line stands below no call")),
-        _ => Ok(Call {
-            line,
-            is_behind: line.word.is(Word::Then),
-            wants: Vec::new(alloc),
-        }),
-    }
-}
-
-/// The call of a line of which the same is wanted as of another one.
-fn call_as<'a>(alloc: Global, line: Line<'a>, above: &Call<'a>) -> Result<Call<'a>, Failure> {
-    let wants = above.wants.to_vec(alloc)?;
-    Ok(Call {
+fn call_below<'a>(alloc: Global, line: Line<'a>, above: Option<&Call<'a>>) -> io::Result<Call<'a>> {
+    let mut call = Call {
         line,
-        is_behind: above.is_behind,
-        wants,
-    })
+        is_behind: line.word.is(Word::Then),
+        wants: Vec::new(alloc),
+    };
+    match above {
+        Some(above) if line.word.is(Word::Also) => {
+            call.is_behind = above.is_behind;
+            call.wants.extend_from_slice(&above.wants)?;
+            Ok(call)
+        }
+        None if !line.word.is(Word::Call) => Err(io::Error::other("the line stands below no call")),
+        _ => Ok(call),
+    }
 }
 
 /// The word of a line and the name behind it, if there is one.
@@ -72,13 +63,6 @@ fn word_and_name(front: &str) -> Option<(Word, &str)> {
     Some((word_of(word)?, name))
 }
 
-/// The word of a line, the name behind it, and what stands behind the colon.
-fn parts_of(line: &str) -> Option<(Word, &str, &str)> {
-    let (front, rest) = line.split_once(':')?;
-    let (word, name) = word_and_name(front)?;
-    Some((word, name, rest.strip_prefix(' ').unwrap_or(rest)))
-}
-
 /// A row: the lines above its calls, and the calls.
 #[derive(Drop)]
 pub(crate) struct Row<'a> {
@@ -88,28 +72,7 @@ pub(crate) struct Row<'a> {
     pub calls: Vec<Call<'a>>,
 }
 
-/// Appends a line.
-fn push_line<'a>(lines: &mut Vec<Line<'a>>, line: Line<'a>) -> Result<(), Failure> {
-    lines.push(line)?;
-    Ok(())
-}
-
 impl<'a> Row<'a> {
-    /// Begins a call.
-    fn begin_call(&mut self, alloc: Global, line: Line<'a>) -> Result<(), Failure> {
-        let call = call_below(alloc, line, self.calls.last())?;
-        self.calls.push(call)?;
-        Ok(())
-    }
-
-    /// Adds a line to the last call, or above the calls where there is none yet.
-    fn add_below(&mut self, line: Line<'a>) -> Result<(), Failure> {
-        match self.calls.last_mut() {
-            None => push_line(&mut self.lines, line),
-            Some(call) => push_line(&mut call.wants, line),
-        }
-    }
-
     /// The line above the calls that begins with this word.
     pub fn find(&self, word: Word) -> Option<&Line<'a>> {
         for line in self.lines.iter() {
@@ -135,7 +98,7 @@ pub(crate) struct Table<'a> {
 
 impl<'a> Table<'a> {
     /// Reads a table. Where it fails, `number` is that of the line that is wrong.
-    pub fn read(alloc: Global, text: &'a str, number: &mut usize) -> Result<Table<'a>, Failure> {
+    pub fn read(alloc: Global, text: &'a str, number: &mut usize) -> io::Result<Table<'a>> {
         let mut table = Table {
             alloc,
             contents: Vec::new(alloc),
@@ -150,7 +113,7 @@ impl<'a> Table<'a> {
     }
 
     /// Reads all lines.
-    fn read_lines(&mut self, text: &'a str, number: &mut usize) -> Result<(), Failure> {
+    fn read_lines(&mut self, text: &'a str, number: &mut usize) -> io::Result<()> {
         for line in text.lines() {
             *number = number.saturating_add(1);
             if !line.is_empty() && !line.starts_with('#') {
@@ -161,12 +124,16 @@ impl<'a> Table<'a> {
     }
 
     /// Reads a line that is not empty.
-    fn read_line(&mut self, line: &'a str, number: usize) -> Result<(), Failure> {
+    fn read_line(&mut self, line: &'a str, number: usize) -> io::Result<()> {
         if self.read_piece(line)? {
             return Ok(());
         }
-        let Some((word, name, rest)) = parts_of(line) else {
-            return Err(Failure("the line begins with no word of a table"));
+        let Some((front, rest)) = line.split_once(':') else {
+            return Err(io::Error::other("the line begins with no word of a table"));
+        };
+        let rest = rest.strip_prefix(' ').unwrap_or(rest);
+        let Some((word, name)) = word_and_name(front) else {
+            return Err(io::Error::other("the line begins with no word of a table"));
         };
         let line = Line {
             number,
@@ -180,7 +147,7 @@ impl<'a> Table<'a> {
     }
 
     /// Reads a piece of the last content; false where the line is none.
-    fn read_piece(&mut self, line: &str) -> Result<bool, Failure> {
+    fn read_piece(&mut self, line: &str) -> io::Result<bool> {
         let (times, simple) = cut_times(line);
         let (word, rest) = simple.split_once(' ').unwrap_or((simple, ""));
         match word_of(word) {
@@ -193,22 +160,22 @@ impl<'a> Table<'a> {
     }
 
     /// Appends a piece so many times to the last content.
-    fn append_piece(&mut self, times: usize, word: Word, rest: &str) -> Result<(), Failure> {
+    fn append_piece(&mut self, times: usize, word: Word, rest: &str) -> io::Result<()> {
         let mut piece = Vec::new(self.alloc);
         push_piece(self, &mut piece, word, rest)?;
         self.append(times, &piece)
     }
 
     /// Appends bytes so many times to the last content.
-    fn append(&mut self, times: usize, piece: &[u8]) -> Result<(), Failure> {
+    fn append(&mut self, times: usize, piece: &[u8]) -> io::Result<()> {
         match self.contents.last_mut() {
             Some(content) if self.is_open => Ok(push_times(&mut content.bytes, times, piece)?),
-            _ => Err(Failure("the piece stands below no content")),
+            _ => Err(io::Error::other("the piece stands below no content")),
         }
     }
 
     /// Begins the content of a line, whose first piece may stand behind the colon.
-    fn begin_content(&mut self, line: &Line<'a>) -> Result<(), Failure> {
+    fn begin_content(&mut self, line: &Line<'a>) -> io::Result<()> {
         let name = if line.word.is(Word::Content) {
             line.name
         } else {
@@ -224,15 +191,15 @@ impl<'a> Table<'a> {
     }
 
     /// Reads the first piece of a content, if there is one.
-    fn read_first(&mut self, piece: &str) -> Result<(), Failure> {
+    fn read_first(&mut self, piece: &str) -> io::Result<()> {
         if piece.is_empty() || self.read_piece(piece)? {
             return Ok(());
         }
-        Err(Failure("the line has no piece of a content"))
+        Err(io::Error::other("the line has no piece of a content"))
     }
 
     /// Adds a line to the row or call that it belongs to, or begins one.
-    fn add(&mut self, line: Line<'a>) -> Result<(), Failure> {
+    fn add(&mut self, line: Line<'a>) -> io::Result<()> {
         match line.word {
             Word::Row => self.begin_row(line),
             Word::Call | Word::Also | Word::Then => self.begin_call(line),
@@ -242,7 +209,7 @@ impl<'a> Table<'a> {
     }
 
     /// Begins a row.
-    fn begin_row(&mut self, line: Line<'a>) -> Result<(), Failure> {
+    fn begin_row(&mut self, line: Line<'a>) -> io::Result<()> {
         let alloc = self.alloc;
         self.rows.push(Row {
             line,
@@ -253,19 +220,25 @@ impl<'a> Table<'a> {
     }
 
     /// Begins a call.
-    fn begin_call(&mut self, line: Line<'a>) -> Result<(), Failure> {
-        match self.rows.last_mut() {
-            Some(row) => row.begin_call(self.alloc, line),
-            None => Err(Failure("the line stands in no row")),
-        }
+    fn begin_call(&mut self, line: Line<'a>) -> io::Result<()> {
+        let Some(row) = self.rows.last_mut() else {
+            return Err(io::Error::other("the line stands in no row"));
+        };
+        let call = call_below(self.alloc, line, row.calls.last())?;
+        row.calls.push(call)?;
+        Ok(())
     }
 
     /// Adds a line to the last call, to the row that has none yet, or to those above the first row.
-    fn add_below(&mut self, line: Line<'a>) -> Result<(), Failure> {
+    fn add_below(&mut self, line: Line<'a>) -> io::Result<()> {
         match self.rows.last_mut() {
-            None => push_line(&mut self.shared, line),
-            Some(row) => row.add_below(line),
+            None => self.shared.push(line)?,
+            Some(row) => match row.calls.last_mut() {
+                None => row.lines.push(line)?,
+                Some(call) => call.wants.push(line)?,
+            },
         }
+        Ok(())
     }
 
     /// The content of a line.
@@ -277,12 +250,12 @@ impl<'a> Table<'a> {
     }
 
     /// The content of this name.
-    pub fn named(&self, name: &str) -> Result<&[u8], Failure> {
+    pub fn named(&self, name: &str) -> io::Result<&[u8]> {
         for content in self.contents.iter() {
             if content.name == name {
                 return Ok(content.bytes.as_slice());
             }
         }
-        Err(Failure("no content of this name stands above"))
+        Err(io::Error::other("no content of this name stands above"))
     }
 }

@@ -1,18 +1,18 @@
 //! The rows of a table, done in turn.
 use crate::asked::compare_explanation;
 use crate::case::{Case, held_bytes, hold_given};
-use crate::changes::{Change, changes_of};
+use crate::changes::{Change, push_changes};
 use crate::compare::compare_call;
-use crate::failure::Failure;
 use crate::table::{Call, Row, Table};
 use crate::word::Word;
 use std::alloc::{AllocError, Global};
+use std::io;
 
 /// What was done of a table.
 #[derive(Drop)]
 pub(crate) struct Trial<'n> {
     alloc: Global,
-    pub name: &'n str,
+    name: &'n str,
     /// How many rows there are, how many calls were made, and how many of them went otherwise than
     /// wanted.
     pub rows: usize,
@@ -44,27 +44,22 @@ impl<'n> Trial<'n> {
     /// Reads a table and does its rows. Where a line cannot be read or done, that is wrong, and
     /// nothing behind it is done.
     pub fn try_text(&mut self, text: &str) -> Result<(), AllocError> {
-        match self.read_and_try(text) {
-            Ok(()) => Ok(()),
-            Err(failure) => self.tell(failure),
+        if let Err(error) = self.read_and_try(text) {
+            self.wrong = self.wrong.saturating_add(1);
+            let (name, line) = (self.name, self.line);
+            writeln!(self.told, "{name} line {line}: {error}")?;
         }
-    }
-
-    /// Counts and tells that the last line cannot be read or done.
-    fn tell(&mut self, failure: Failure) -> Result<(), AllocError> {
-        self.wrong = self.wrong.saturating_add(1);
-        let (name, line, text) = (self.name, self.line, failure.0);
-        writeln!(self.told, "{name} line {line}: {text}")
+        Ok(())
     }
 
     /// Reads a table and does its rows.
-    fn read_and_try(&mut self, text: &str) -> Result<(), Failure> {
+    fn read_and_try(&mut self, text: &str) -> io::Result<()> {
         let table = Table::read(self.alloc, text, &mut self.line)?;
         self.try_rows(&table)
     }
 
     /// Does all rows.
-    fn try_rows(&mut self, table: &Table<'_>) -> Result<(), Failure> {
+    fn try_rows(&mut self, table: &Table<'_>) -> io::Result<()> {
         self.rows = table.rows.len();
         for row in table.rows.iter() {
             self.try_row(&*table, &*row)?;
@@ -74,7 +69,7 @@ impl<'n> Trial<'n> {
 
     /// Does the calls of a row once, or once for each change of a file. A row without a call asks
     /// for an explanation.
-    fn try_row<'a>(&mut self, table: &'a Table<'a>, row: &'a Row<'a>) -> Result<(), Failure> {
+    fn try_row<'a>(&mut self, table: &'a Table<'a>, row: &'a Row<'a>) -> io::Result<()> {
         if row.calls.is_empty() {
             return self.try_explanation(table, row);
         }
@@ -93,7 +88,7 @@ impl<'n> Trial<'n> {
         table: &'a Table<'a>,
         row: &'a Row<'a>,
         changes: &'a [Change<'a>],
-    ) -> Result<(), Failure> {
+    ) -> io::Result<()> {
         for change in changes {
             self.try_calls(table, row, Some(change))?;
         }
@@ -106,7 +101,7 @@ impl<'n> Trial<'n> {
         table: &'a Table<'a>,
         row: &'a Row<'a>,
         change: Option<&'a Change<'a>>,
-    ) -> Result<(), Failure> {
+    ) -> io::Result<()> {
         let line = match change {
             Some(change) => change.line,
             None => 0,
@@ -121,7 +116,7 @@ impl<'n> Trial<'n> {
         case: &mut Case<'a>,
         row: &'a Row<'a>,
         change: Option<&'a Change<'a>>,
-    ) -> Result<(), Failure> {
+    ) -> io::Result<()> {
         for call in row.calls.iter() {
             self.line = call.line.number;
             if !call.is_behind {
@@ -138,7 +133,7 @@ impl<'n> Trial<'n> {
         case: &mut Case<'a>,
         row: &Row<'a>,
         call: &Call<'a>,
-    ) -> Result<(), Failure> {
+    ) -> io::Result<()> {
         self.text.clear();
         case.call(call)?;
         compare_call(&mut self.text, case, call)?;
@@ -146,7 +141,7 @@ impl<'n> Trial<'n> {
     }
 
     /// Compares the explanation that a row asks for.
-    fn try_explanation(&mut self, table: &Table<'_>, row: &Row<'_>) -> Result<(), Failure> {
+    fn try_explanation(&mut self, table: &Table<'_>, row: &Row<'_>) -> io::Result<()> {
         self.line = row.line.number;
         self.text.clear();
         compare_explanation(self.alloc, &mut self.text, table, row)?;
@@ -171,11 +166,13 @@ fn changes_of_row<'a>(
     table: &'a Table<'a>,
     row: &'a Row<'a>,
     name: &'a str,
-) -> Result<Vec<Change<'a>>, Failure> {
+) -> io::Result<Vec<Change<'a>>> {
+    let mut changes = Vec::new(alloc);
     let mut holds = Vec::new(alloc);
     hold_given(&mut holds, table, row, None)?;
-    match held_bytes(&holds, name) {
-        Some(bytes) => Ok(changes_of(alloc, name, bytes)?),
-        None => Err(Failure("no file of this name stands above")),
-    }
+    let Some(bytes) = held_bytes(&holds, name) else {
+        return Err(io::Error::other("no file of this name stands above"));
+    };
+    push_changes(&mut changes, alloc, name, bytes)?;
+    Ok(changes)
 }
