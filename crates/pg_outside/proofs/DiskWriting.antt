@@ -261,7 +261,8 @@ replace_found_fails real name bytes kept mode a b c ab leads bc =
     (λ x y f p. at_one real name bytes kept x y f.one (at_may real bytes kept mode x y f.may (p f.direct)))
     (λ x y f p. failure_one real name bytes x y f.one (failed_may real bytes kept mode x y f.may (p f.direct))))
 
-pub replaces_fails : {T E : Type 0} (result : Result T E) (real name bytes : List ℕ) (kept after : List FileId) (mode : Option ℕ) (a b c : Option DiskHistory) → KeepsDisk a b → HoldsNow b (Leads real name kept mode)
+pub replaces_fails : {T E : Type 0} (result : Result T E) (real name bytes : List ℕ) (kept after : List FileId) (mode : Option ℕ) (a b c : Option DiskHistory)
+    → KeepsDisk a b → HoldsNow b (Leads real name kept mode)
     → OnErr result ((after ≡ kept) × RunsCalls b c (WhereDirect real (AtMoment real bytes mode)) (WhereDirect real (IsAsBefore real)))
     → OnErr result ((after ≡ kept) × RunsCalls a c (AtWrite name bytes kept) (AfterFailure name bytes))
 replaces_fails (Ok value) real name bytes kept after mode a b c ab leads run = tt

@@ -3,7 +3,7 @@ ghost use Rattle.std.specs.Prelude.{◌≡◌, ◌∷◌, IfSome};
 ghost use Rattle.std.specs.Option.{option_map};
 ghost use Rattle.pg_words.specs.Requests.{request_of};
 ghost use Rattle.pg_words.specs.Inside.Names.{arguments_of};
-ghost use Rattle.pg_words.specs.Inside.CommandRequests.{asked_by, later_request_of, KeepsLimits};
+ghost use Rattle.pg_words.specs.Inside.CommandRequests.{asked_by, KeepsLimits};
 
 use crate::commands::Command;
 use crate::generate::{audit, generate};
@@ -24,18 +24,7 @@ fn command_of<'a>(word: &str, behind: &'a [String]) -> Option<Command<'a>>
         audit(behind)
     } else if word == "sample" {
         sample(behind)
-    } else {
-        later_command(word, behind)
-    }
-}
-
-/// What the arguments behind the name of a command ask for, where it is none of the first three.
-fn later_command<'a>(word: &str, behind: &'a [String]) -> Option<Command<'a>>
-    ensures value { option_map asked_by result
-        ≡ later_request_of word.now (arguments_of behind.now) }
-    ensures within { IfSome result KeepsLimits }
-{
-    if word == "pack" {
+    } else if word == "pack" {
         pack(behind)
     } else if word == "totals" {
         totals(behind)

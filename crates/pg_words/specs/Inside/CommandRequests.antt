@@ -1,13 +1,12 @@
 -- What a command asks for, and the limits of its numbers.
-use Rattle.std.specs.Prelude.{◌≡◌, ℕ, ◌≤◌, if◌then◌else◌, List, ◌∷◌, length, Option, None, codes}
+use Rattle.std.specs.Prelude.{◌≡◌, ℕ, ◌≤◌, List, ◌∷◌, length, Option, None}
 use Rattle.std.specs.Option.{option_map}
-use Rattle.std.specs.Str.{bytes_eq}
 use denote.Ref.{Bor}
 use Rattle.pg_words.specs.forms.Generate.{FileNames}
-use Rattle.pg_words.specs.forms.Pack.{PackRequest, pack_in}
-use Rattle.pg_words.specs.forms.Totals.{TotalsRequest, totals_in}
-use Rattle.pg_words.specs.forms.Prune.{PruneRequest, prune_in}
-use Rattle.pg_words.specs.forms.Sweep.{SweepRequest, sweep_in}
+use Rattle.pg_words.specs.forms.Pack.{PackRequest}
+use Rattle.pg_words.specs.forms.Totals.{TotalsRequest}
+use Rattle.pg_words.specs.forms.Prune.{PruneRequest}
+use Rattle.pg_words.specs.forms.Sweep.{SweepRequest}
 use Rattle.pg_words.specs.Requests.{Request, ToGenerate, ToAudit, ToSample, ToPack, ToTotals, ToPrune, ToSweep}
 use Rattle.pg_words.specs.declared.commands.Names.{Names}
 use Rattle.pg_words.specs.declared.commands.PackNames.{PackNames}
@@ -85,14 +84,6 @@ asked_by (Totals d t table) =
 asked_by (Prune d p o t r) = ToPrune (prune_of
     (record { dict = d; patterns = p; output = o; translate = t; report = r }))
 asked_by (Sweep words) = ToSweep (sweep_of words)
-
--- what arguments ask for behind a name that is none of the first three commands
-abbrev pub later_request_of : List ℕ → List (List ℕ) → Option Request
-later_request_of word rest =
-    if bytes_eq word (codes "pack") then option_map ToPack (pack_in rest)
-    else (if bytes_eq word (codes "totals") then option_map ToTotals (totals_in rest)
-    else (if bytes_eq word (codes "prune") then option_map ToPrune (prune_in rest)
-    else (if bytes_eq word (codes "sweep") then option_map ToSweep (sweep_in rest) else None)))
 
 -- the numbers of `sweep` are within their limits
 pub record KeepsSweepLimits (w : SweepWords) : Type 0 where
