@@ -9,6 +9,7 @@ use Rattle.pg_steps.proofs.Fronts.{front_stop}
 use Rattle.pg_top.proofs.audit.GivenFronts.{given_front}
 use Rattle.pg_top.proofs.audit.Judgements.{judged}
 use Rattle.pg_steps.specs.Inside.ends.Stops.{StopsAt}
+use Rattle.pg_steps.specs.declared.inputs.Stop.TheVariants.{Memory}
 use Rattle.pg_steps.proofs.Orders.{mapped}
 use Rattle.pg_steps.proofs.Results.{err_by, that_error}
 use Rattle.pg_top.proofs.audit.compare.compare_file.Goals as goal
