@@ -149,9 +149,7 @@ fn lines_by<E: Engine>(
     ensures { IfOk result (λ lines. lines.items ≡ selection_lines inputs.now) }
 {
     let run = select(alloc, engine, inputs)?;
-    let lines = lines_after(alloc, inputs, &run);
-    drop(run);
-    lines
+    lines_after(alloc, inputs, &run)
 }
 
 /// The printed lines.
@@ -165,9 +163,7 @@ fn sample_lines<W: Watch>(
     ensures { IfOk result (λ lines. lines.items ≡ lines_of seed count) }
 {
     let inputs = make_inputs(alloc, seed, count)?;
-    let lines = run_lines(alloc, &inputs, watch);
-    drop(inputs);
-    lines
+    run_lines(alloc, &inputs, watch)
 }
 
 /// Does the selection and prints what it tells. It reads and writes no file, and refuses nothing.

@@ -57,37 +57,17 @@ pub fn make_selected<'a, E: Engine>(
         (λ files. made_files files.items ≡ due_files (texts_of names.now) inputs.now) }
 {
     let mut files = Vec::new(alloc);
-    fill_selected(alloc, &mut files, names, inputs, engine, run)?;
-    Ok(files)
-}
-
-/// Adds these files to an empty list.
-fn fill_selected<'a, E: Engine>(
-    alloc: Global,
-    files: &mut Vec<SelectedFile<'a>>,
-    names: &Names<'a>,
-    inputs: &Inputs,
-    engine: &E,
-    run: &Run,
-) -> Result<(), AllocError>
-    requires empty { files.old.items ≡ [] }
-    requires signs { HasSigns inputs.now }
-    requires engine { HasSelected inputs.now (E.meaning engine.now) }
-    requires told { TellsSelection inputs.now run.now }
-    requires cells { IfSome names.now.cells
-        (λ _. TellsCells (Some (selected_cells inputs.now)) run.now) }
-    ensures { OnOk result (made_files files.new.items ≡ due_files (texts_of names.now) inputs.now) }
-{
     let text = pattern_file(alloc, inputs, run)?;
-    push_selected(files, Given::Patterns, names.output, text)?;
+    push_selected(&mut files, Given::Patterns, names.output, text)?;
     if let Some(name) = names.pattmp {
         let list = list_file(alloc, inputs, engine)?;
-        push_selected(files, Given::Pattmp, name, list)?;
+        push_selected(&mut files, Given::Pattmp, name, list)?;
     }
     if let Some(name) = names.cells {
         let cells = cells_text(alloc, run)?;
-        push_selected(files, Given::Cells, name, cells)?;
+        push_selected(&mut files, Given::Cells, name, cells)?;
     }
     let report = report_file(alloc, inputs, run)?;
-    push_selected(files, Given::Report, names.report, report)
+    push_selected(&mut files, Given::Report, names.report, report)?;
+    Ok(files)
 }

@@ -16,7 +16,7 @@ use pg_audit::compare;
 use pg_outside::Files;
 use pg_steps::{Stop, read_front};
 use pg_watch::Watch;
-use std::alloc::Global;
+use std::alloc::{AllocError, Global};
 
 /// How many bytes longer than the right one a given file may be, and still be read as a whole.
 const MORE: usize = 256;
@@ -32,17 +32,16 @@ pub enum Verdict {
 
 /// What the comparison of a given file with its text gives. Of a long file, `bytes` are the first
 /// ones. The observer is told of a false line.
-fn judge<'a, W: Watch>(
+fn judge<W: Watch>(
     alloc: Global,
     bytes: &[u8],
-    wanted: &SelectedFile<'a>,
+    wanted: &SelectedFile<'_>,
     text: &[u8],
     watch: &W,
-) -> Result<Verdict, Stop<'a>>
-    ensures ok { IfOk result
+) -> Result<Verdict, AllocError>
+    ensures { IfOk result
         (λ verdict. end_of verdict
         ≡ option_map (denies wanted.now.given) (first_false bytes.now text.now)) }
-    ensures memory { IfErr result (λ stop. stop ≡ Stop.Memory) }
 {
     match compare(bytes, text) {
         None => Ok(Verdict::Equal),
@@ -73,7 +72,8 @@ fn compare_file<'a, F: Files, W: Watch>(
 {
     let text = wanted.text.as_slice();
     let bytes = read_front(alloc, wanted.name, text.len() + MORE, files, watch)?;
-    judge(alloc, &bytes, wanted, text, watch)
+    let verdict = judge(alloc, &bytes, wanted, text, watch)?;
+    Ok(verdict)
 }
 
 /// The given file with the number `i`, counted from 0.

@@ -49,7 +49,6 @@ fn run_wanted<'a, E: Engine>(
         wanted_files wanted.items ≡ given_files (λ _. inputs.now) (texts_of names.now)) }
 {
     let run = select(alloc, engine, inputs)?;
-    let wanted = make_selected(alloc, names, inputs, engine, &run);
-    drop(run);
-    wanted
+    let wanted = make_selected(alloc, names, inputs, engine, &run)?;
+    Ok(wanted)
 }

@@ -141,7 +141,5 @@ fn run_files<'a, E: Engine>(
     ensures lines { IfOk result (λ made. made.lines.items ≡ selected_lines inputs.now) }
 {
     let run = select(alloc, engine, inputs)?;
-    let outputs = make_files(alloc, names, inputs, engine, &run);
-    drop(run);
-    outputs
+    make_files(alloc, names, inputs, engine, &run)
 }

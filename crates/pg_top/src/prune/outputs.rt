@@ -142,7 +142,5 @@ pub fn make_prune<'a, W: Watch>(
         &inputs.patterns,
         &RoundTeller { watch },
     )?;
-    let outputs = write_pruned(alloc, names, &inputs.table, &pruned);
-    drop(pruned);
-    outputs
+    write_pruned(alloc, names, &inputs.table, &pruned)
 }

@@ -10,15 +10,15 @@ use Rattle.pg_top.proofs.prune.outputs.make_prune.Goals as goal
 
 pub returns-clause-made : goal.returns-clause-made
 returns-clause-made g c =
-    ok_by_two c.write_pruned-outputs.result _ _ _
+    ok_by_two c.write_pruned.result _ _ _
     (λ made files lines. ap (outcome_of_prune c.args.names.now.output.now c.args.names.now.report.now c.args.inputs.now.table) (sym c.in_ok-pruned.ensures.pruned)
     ∙ (λ k. Ends Done (sym files k) (sym lines k)))
-    c.write_pruned-outputs.ensures.files c.write_pruned-outputs.ensures.lines
+    c.write_pruned.ensures.files c.write_pruned.ensures.lines
 
 pub returns-clause-named : goal.returns-clause-named
-returns-clause-named g c = IfOk-weaker c.write_pruned-outputs.result _ _ (λ made files. ap written_names files) c.write_pruned-outputs.ensures.files
+returns-clause-named g c = IfOk-weaker c.write_pruned.result _ _ (λ made files. ap written_names files) c.write_pruned.ensures.files
 
 pub returns-clause-reads_back : goal.returns-clause-reads_back
 returns-clause-reads_back g c =
-    IfOk-weaker c.write_pruned-outputs.result _ _ (λ made back. subst (λ (found : Pruning). ReadsBack c.args.inputs.now.table found.patterns) c.in_ok-pruned.ensures.pruned back)
-    c.write_pruned-outputs.ensures.reads_back
+    IfOk-weaker c.write_pruned.result _ _ (λ made back. subst (λ (found : Pruning). ReadsBack c.args.inputs.now.table found.patterns) c.in_ok-pruned.ensures.pruned back)
+    c.write_pruned.ensures.reads_back

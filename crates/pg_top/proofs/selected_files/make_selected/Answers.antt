@@ -1,7 +1,6 @@
 use Rattle.std.proofs.Common.{◌≡◌, ◌∙◌, ◌++◌, ◌∷◌, [], List, ℕ, Vec, Some, sym, ap}
 use Rattle.std.specs.declared.alloc.Global.{Global}
 use Rattle.std.proofs.lemmas.List.{append-nil}
-use Rattle.std.proofs.lemmas.Result.{on_ok_weaker}
 use Rattle.pg_driver.specs.Inside.records.RunAccounts.{TellsCells}
 use Rattle.pg_texts.proofs.Layouts.{layouts_there}
 use Rattle.pg_steps.specs.declared.inputs.Given.{Given}
@@ -14,8 +13,8 @@ use Rattle.pg_top.specs.Inside.selection.SelectionAccounts.{selected_cells}
 use Rattle.pg_top.specs.declared.selected_files.SelectedFile.{SelectedFile}
 use Rattle.pg_top.proofs.SelectedLists.{in_order}
 use Rattle.pg_top.proofs.Selections.{cells_text_selected}
-use Rattle.pg_top.proofs.selected_files.fill_selected.Goals as goal
-use Rattle.pg_top.proofs.selected_files.fill_selected.Goals.{in-Some+in_ok-list+in_ok-push_selected-2, in_default, in-Some-cells+in_ok-cells+in_ok-push_selected-3, in_default-cells}
+use Rattle.pg_top.proofs.selected_files.make_selected.Goals as goal
+use Rattle.pg_top.proofs.selected_files.make_selected.Goals.{in-Some+in_ok-list+in_ok-push_selected-2, in_default, in-Some-cells+in_ok-cells+in_ok-push_selected-3, in_default-cells}
 
 -- files, each by which it is, its name and its text
 abbrev Files : Type 0
@@ -35,7 +34,7 @@ returns g c =
     let n = c.args.names.now in
     let list : Files = if_asked (name_now n.pattmp) (λ name. (given.Pattmp, name, selected_list i)) in
     let cells : Files = if_asked (name_now n.cells) (λ name. (given.Cells, name, selected_cells_text i)) in
-    let first = c.in_ok-push_selected.ensures ∙ ap (λ (fs : List SelectedFile). made_files fs ++ (given.Patterns, n.output.now, c.in_ok-text.text.items) ∷ []) c.requires.empty
+    let first = c.in_ok-push_selected.ensures ∙ ap (λ (fs : List SelectedFile). made_files fs ++ (given.Patterns, n.output.now, c.in_ok-text.text.items) ∷ []) c.new-files.ensures.items
     ∙ ap (λ (t : List ℕ). (given.Patterns, n.output.now, t) ∷ []) c.in_ok-text.ensures in
     let second : made_of c.match-names.files ≡ made_of c.push_selected.new.files ++ if_asked (name_now n.pattmp) (λ name. (given.Pattmp, name, selected_list i)) = elim c.match-names.branch [
       | in-Some+in_ok-list+in_ok-push_selected-2 w ↦ ap made_of w.files-is ∙ rw w.in-Some.is (w.in_ok-push_selected-2.ensures
@@ -50,7 +49,6 @@ returns g c =
       | in_default-cells w ↦ ap made_of w.files-is ∙ rw w.in_default-cells.is (sym (append-nil (made_of c.match-names.files)))
     ] in
     let all = third ∙ ap (λ (fs : Files). fs ++ cells) (second ∙ ap (λ (fs : Files). fs ++ list) first) in
-    let report = ap (λ (fs : Files). fs ++ (given.Report, n.report.now, c.in_ok-report.report.items) ∷ []) all
+    c.in_ok-push_selected-4.ensures ∙ ap (λ (fs : Files). fs ++ (given.Report, n.report.now, c.in_ok-report.report.items) ∷ []) all
     ∙ ap (λ (t : List ℕ). (((given.Patterns, n.output.now, selected_text i) ∷ [] ++ list) ++ cells) ++ (given.Report, n.report.now, t) ∷ []) c.in_ok-report.ensures
-    ∙ in_order (texts_of n) i in
-    on_ok_weaker c.push_selected-2.result (λ is. is ∙ report) c.push_selected-2.ensures
+    ∙ in_order (texts_of n) i
