@@ -79,7 +79,7 @@ pub reads_end : (before now after : Option DiskHistory) (file same : FileId) (at
     → KeepsDisk now after → HoldsNow after (HasPiece same at next count room buffer) → count ≡ 0 → 0 < room → more ≡ bytes → HoldsNow after (IsAllOf file more)
 reads_end before now after file same at next count room limit bytes buffer more so_far keeps piece none room_left unchanged =
     subst (λ (l : List ℕ). HoldsNow after (IsAllOf file l)) (sym unchanged)
-      (now_weaker _ _ after (now_both _ _ after (keeps_now _ now after so_far.read keeps) (subst (λ (k : FileId). HoldsNow after (HasPiece k at next count room buffer)) so_far.same_file piece))
+    (now_weaker _ _ after (now_both _ _ after (keeps_now _ now after so_far.read keeps) (subst (λ (k : FileId). HoldsNow after (HasPiece k at next count room buffer)) so_far.same_file piece))
     (λ d p node is. whole_of_front bytes node.bytes (p.0.front node is) (at_end (length node.bytes) at (length bytes) (p.1.end node is none room_left) p.0.on)))
   where
     at_end : (a b c : ℕ) → a ≤ b → b ≡ c → a ≤ c
