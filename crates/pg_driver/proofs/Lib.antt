@@ -31,5 +31,6 @@ pub mod WordLevels
 pub mod AboveNumbers
 pub mod ReadySteps
 pub mod NumberSteps
+pub mod SeenCandidates
 pub mod Numbered
 pub mod RunSigns

@@ -91,6 +91,21 @@ order_whole ws counts ns numbered order =
     let sizes : length (map (slice_get ws) ns) ≡ length (map (λ (e : List ℕ × (ℕ × ℕ)). Some e.0) counts) = ap (λ (os : List (Option (List ℕ))). length os) order in
     omega (arith, sizes, length-map ns (slice_get ws), length-map counts (λ (e : List ℕ × (ℕ × ℕ)). Some e.0), numbered.size)
 
+-- each of the numbers in the order of signs is that of a window
+pub order_there : (ws : Windows) (counts : Counts) (ns : List ℕ) → AreInOrder ws counts ns → (k n : ℕ) → slice_get ns k ≡ Some n → n < length ws
+order_there ws counts [] is k n at = absurd (let none : None ≡ Some n = at in cc)
+order_there ws [] (m ∷ ns) is k n at = absurd (let no : slice_get ws m ∷ map (slice_get ws) ns ≡ [] = is in cc)
+order_there ws (e ∷ counts) (m ∷ ns) is zero n at =
+    let all : slice_get ws m ∷ map (slice_get ws) ns ≡ Some e.0 ∷ map (λ e. Some e.0) counts = is in
+    let here : slice_get ws m ≡ Some e.0 = cc in
+    let both : Some m ≡ Some n = at in
+    let same : m ≡ n = cc in
+    slice_get_within ws n e.0 (ap (slice_get ws) (sym same) ∙ here)
+order_there ws (e ∷ counts) (m ∷ ns) is (suc k) n at =
+    let all : slice_get ws m ∷ map (slice_get ws) ns ≡ Some e.0 ∷ map (λ e. Some e.0) counts = is in
+    let rest : map (slice_get ws) ns ≡ map (λ e. Some e.0) counts = cc in
+    order_there ws counts ns rest k n at
+
 -- the window of a number and its sums are the only ones
 pub only_one : (ws : Windows) (counts : Counts) (n : ℕ) (u : List ℕ) (s : ℕ × ℕ) (v : List ℕ) (t : ℕ × ℕ) → HasNumber ws u n → counted_sums counts u
     ≡ Some s → HasNumber ws v n → counted_sums counts v ≡ Some t → t ≡ s
@@ -98,6 +113,12 @@ only_one ws counts n u s v t first sums second others =
     let both : Some v ≡ Some u = sym second ∙ first in
     let same : v ≡ u = cc in
     let told : Some t ≡ Some s = sym others ∙ ap (counted_sums counts) same ∙ sums in
+    cc
+
+-- a number is that of one window
+pub one_window : (ws : Windows) (n : ℕ) (u v : List ℕ) → HasNumber ws u n → HasNumber ws v n → u ≡ v
+one_window ws n u v first second =
+    let both : Some u ≡ Some v = sym first ∙ second in
     cc
 
 -- elements before and behind the seam of two lists, and the one at the seam of a list with one more

@@ -2,13 +2,18 @@
 ghost use Rattle.std.specs.Prelude.{◌≡◌, ◌≤◌, ◌<◌, ◌+◌, ◌∷◌, [], ℕ, List, true, length, map, IfOk, OnOk};
 ghost use Rattle.pg_types.specs.declared.limits.TheConstants.{FILE_MAX};
 ghost use Rattle.pg_types.specs.Inside.Ranges.{IsLevel};
-ghost use Rattle.pg_types.specs.Inside.counting.NumberedWindows.{AreInOrder};
+ghost use Rattle.pg_types.specs.Inside.counting.Counts.{is_counted};
+ghost use Rattle.pg_types.specs.Inside.counting.NumberedWindows.{AreInOrder, AreNumbered, HasNumber};
 ghost use Rattle.pg_select.specs.Inside.Choices.{choice};
 ghost use Rattle.pg_driver.specs.Inside.level.PassWindows.{AreFates, IsCandidate};
 ghost use Rattle.pg_driver.specs.Inside.counting.Counting.{HasRoom};
 ghost use Rattle.pg_types.specs.Inside.Limits.{sums_limit};
 ghost use Rattle.pg_driver.specs.Inside.choices.Choosing.{with_candidates, no_choices, candidate_of, HasChosen};
 
+mod look_ahead;
+
+use crate::choices::look_ahead::look_ahead;
+pub use look_ahead::SeenCandidate;
 use pg_select::{Choice, Engine};
 use pg_types::LevelParams;
 use std::alloc::AllocError;
@@ -28,19 +33,20 @@ pub struct Choices {
     pub bad: u64,
 }
 
-/// Chooses the candidate with the number, makes it hopeless or leaves it. Its signs are not copied,
-/// and its sums are read only where it is chosen.
+/// Chooses the candidate with the number, makes it hopeless or leaves it. Its sums are read only
+/// where it is chosen.
 fn choose_one<E: Engine>(
     engine: &mut E,
     params: &LevelParams,
     number: u32,
-    fate: Choice,
+    seen: &SeenCandidate,
     choices: &mut Choices,
 ) -> Result<(), AllocError>
     requires level { IsLevel params.now }
-    requires there { number < length (E.meaning engine.old).windows }
+    requires window { HasNumber (E.meaning engine.old).windows seen.now.window number }
+    requires counted { is_counted (E.meaning engine.old).counts seen.now.window ≡ true }
     requires fate { (u : List ℕ) (sums : ℕ × ℕ) → IsCandidate (E.meaning engine.old) number u sums
-        → fate ≡ choice params.now sums.0 sums.1 }
+        → seen.now.fate ≡ choice params.now sums.0 sums.1 }
     requires sums { (u : List ℕ) (sums : ℕ × ℕ) → IsCandidate (E.meaning engine.old) number u sums
         → (choices.old.good + sums.0 < sums_limit) × (choices.old.bad + sums.1 < sums_limit) }
     requires few { choices.old.candidates < FILE_MAX }
@@ -57,17 +63,17 @@ fn choose_one<E: Engine>(
     ensures signs { (E.meaning engine.new).signs ≡ (E.meaning engine.old).signs }
 {
     choices.candidates += 1;
-    match fate {
+    match seen.fate {
         Choice::Chosen => {
             let (good, bad) = engine.sums_of(number);
-            engine.choose_numbered(number)?;
+            engine.choose(&seen.window)?;
             choices.chosen += 1;
             choices.good += good;
             choices.bad += bad;
             Ok(())
         }
         Choice::Hopeless => {
-            engine.give_up_numbered(number)?;
+            engine.give_up(&seen.window)?;
             choices.hopeless += 1;
             Ok(())
         }
@@ -75,15 +81,18 @@ fn choose_one<E: Engine>(
     }
 }
 
-/// Does with each candidate of a pass, in the order of signs, what was decided of its number.
+/// Does with each candidate of a pass, in the order of signs, what was decided of its number. Some
+/// candidates at a time are looked at in `seen`, whose memory stays for later passes.
 pub fn choose_all<E: Engine>(
     engine: &mut E,
     params: &LevelParams,
     fates: &[Choice],
     order: &[u32],
+    seen: &mut Vec<SeenCandidate>,
 ) -> Result<Choices, AllocError>
     requires level { IsLevel params.now }
     requires room { HasRoom (E.meaning engine.old).counts 0 }
+    requires numbered { AreNumbered (E.meaning engine.old).windows (E.meaning engine.old).counts }
     requires fates { AreFates params.now (E.meaning engine.old).counts
         (E.meaning engine.old).windows fates.now }
     requires order { AreInOrder (E.meaning engine.old).windows
@@ -104,10 +113,11 @@ pub fn choose_all<E: Engine>(
         good: 0,
         bad: 0,
     };
-    'candidates: for number in order {
-        let n = *number;
-        let fate = fates[n as usize];
-        choose_one(engine, params, n, fate, &mut choices)?;
+    seen.clear();
+    let mut from = 0;
+    'candidates: for k in 0..order.len() {
+        from = look_ahead(engine, fates, order, k, from, seen)?;
+        choose_one(engine, params, order[k], &seen[k - from], &mut choices)?;
     }
     Ok(choices)
 }

@@ -60,7 +60,8 @@ fn run_pass<E: Engine>(
     engine.begin_pass(pass.level, pass.len, pass.dot);
     let before = counting.count(engine, dictionary, table, pass, windows)?;
     windows.decide(engine, params)?;
-    let choices = choose_all(engine, params, &windows.fates, &windows.order)?;
+    let seen = &mut windows.seen;
+    let choices = choose_all(engine, params, &windows.fates, &windows.order, seen)?;
     counting.after_choices(engine, dictionary, params, pass, choices, windows);
     Ok(PassRecord {
         level: pass.level,

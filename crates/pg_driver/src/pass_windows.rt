@@ -8,6 +8,7 @@ ghost use Rattle.pg_driver.specs.declared.pass_windows.TheConstants.{NO_NUMBER};
 ghost use Rattle.pg_driver.specs.Inside.counting.Counting.{HasRoom};
 ghost use Rattle.pg_driver.specs.Inside.level.PassWindows.{AreFates};
 
+use crate::choices::SeenCandidate;
 use pg_select::{Choice, Engine, decide};
 use pg_types::{LevelParams, NUMBERS_END};
 use std::alloc::{AllocError, Global};
@@ -36,6 +37,8 @@ pub struct PassWindows {
     pub order: Vec<u32>,
     /// What becomes of each window, by its number.
     pub fates: Vec<Choice>,
+    /// The candidates that come next, while the choice goes on.
+    pub seen: Vec<SeenCandidate>,
 }
 
 impl PassWindows {
@@ -52,6 +55,7 @@ impl PassWindows {
             numbers: Vec::new(alloc),
             order: Vec::new(alloc),
             fates: Vec::new(alloc),
+            seen: Vec::new(alloc),
         }
     }
 

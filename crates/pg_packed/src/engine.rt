@@ -111,6 +111,11 @@ impl Engine for PackedEngine {
         self.counts.order(out)
     }
 
+    fn seek(&self, number: u32, at: &mut Cursor) {
+        let _len = self.counts.window_len();
+        at.set(self.counts.window(number));
+    }
+
     fn next_candidate(&self, at: &mut Cursor) -> Option<(u64, u64)> {
         self.counts.next(at)
     }
@@ -125,20 +130,6 @@ impl Engine for PackedEngine {
         let _len = self.counts.window_len();
         self.tidy = false;
         self.trie.enter(at.signs(), self.pass.dot, HOPELESS)
-    }
-
-    fn choose_numbered(&mut self, number: u32) -> Result<(), AllocError> {
-        let _len = self.counts.window_len();
-        self.tidy = false;
-        self.trie
-            .enter(self.counts.window(number), self.pass.dot, self.pass.level)
-    }
-
-    fn give_up_numbered(&mut self, number: u32) -> Result<(), AllocError> {
-        let _len = self.counts.window_len();
-        self.tidy = false;
-        self.trie
-            .enter(self.counts.window(number), self.pass.dot, HOPELESS)
     }
 
     fn end_level(&mut self) -> Result<(), AllocError> {

@@ -122,14 +122,12 @@ impl CountedWindows {
         self.tallies[number as usize]
     }
 
-    /// The signs of the window with the number, lent from the list of windows.
-    pub fn window(&self, number: u32) -> &[Sign]
+    /// Moves the cursor to the window with the number.
+    pub fn seek(&self, number: u32, at: &mut Cursor)
         requires { number < length self.now.windows }
-        ensures number { HasNumber self.now.windows result.now number }
-        ensures counted { is_counted self.now.counts result.now ≡ true }
-        ensures signs { list_all is_sign result.now ≡ true }
+        ensures { HasNumber self.now.windows at.new number }
     {
-        self.windows[number as usize].signs()
+        at.set(self.windows[number as usize].signs());
     }
 
     /// Appends the numbers of the windows in the order of signs. After an error some of them may

@@ -121,6 +121,10 @@ impl Engine for PlainEngine {
         self.counts.order(out)
     }
 
+    fn seek(&self, number: u32, at: &mut Cursor) {
+        self.counts.seek(number, at);
+    }
+
     fn next_candidate(&self, at: &mut Cursor) -> Option<(u64, u64)> {
         self.counts.next_behind(at)
     }
@@ -134,20 +138,6 @@ impl Engine for PlainEngine {
 
     fn give_up(&mut self, at: &Cursor) -> Result<(), AllocError> {
         let signs = at.signs();
-        let dotted = DottedKey::new(signs, self.pass.dot);
-        put_in(&mut self.hopeless, dotted)?;
-        Ok(())
-    }
-
-    fn choose_numbered(&mut self, number: u32) -> Result<(), AllocError> {
-        let signs = self.counts.window(number);
-        let dotted = DottedKey::new(signs, self.pass.dot);
-        raise_in(&mut self.patterns, dotted, self.pass.level)?;
-        Ok(())
-    }
-
-    fn give_up_numbered(&mut self, number: u32) -> Result<(), AllocError> {
-        let signs = self.counts.window(number);
         let dotted = DottedKey::new(signs, self.pass.dot);
         put_in(&mut self.hopeless, dotted)?;
         Ok(())

@@ -4,7 +4,7 @@ ghost use Rattle.pg_types.specs.declared.limits.TheConstants.{LEVEL_MAX, LENGTH_
 ghost use Rattle.pg_types.specs.Inside.Limits.{begun_before_pass};
 ghost use Rattle.pg_types.specs.Inside.counting.Counts.{IsNextAbove, SignsWithin, counted_sums, is_counted};
 ghost use Rattle.pg_types.specs.Inside.counting.NumberedWindows.{AreInOrder, HasNumber};
-ghost use Rattle.pg_select.specs.Inside.engine.EngineCalls.{CanCount, CountsWindow, Enters, EntersNumbered};
+ghost use Rattle.pg_select.specs.Inside.engine.EngineCalls.{CanCount, CountsWindow, Enters};
 ghost use Rattle.pg_select.specs.Inside.engine.Meanings.{Meaning, IsKept, IsLayout, after_begin_pass, after_choose, after_give_up, after_end_level};
 ghost use Rattle.pg_select.specs.Inside.words.Positions.{HasValues, HasCovers};
 
@@ -87,6 +87,11 @@ pub trait Engine {
         ensures { OnOk result ((ns : List ℕ) × (out.new.items ≡ out.old.items ++ ns)
             × AreInOrder (meaning self.now).windows (meaning self.now).counts ns) };
 
+    /// Moves the cursor to the window with the number. It takes no memory.
+    fn seek(&self, number: u32, at: &mut Cursor)
+        requires { number < length (meaning self.now).windows }
+        ensures { HasNumber (meaning self.now).windows at.new number };
+
     /// Moves the cursor to the least counted window that is greater, and gives its good and bad
     /// sums; none exactly where there is no such window, and the cursor stays. It takes no memory.
     fn next_candidate(&self, at: &mut Cursor) -> Option<(u64, u64)>
@@ -104,18 +109,6 @@ pub trait Engine {
     fn give_up(&mut self, at: &Cursor) -> Result<(), AllocError>
         requires { is_counted (meaning self.old).counts at.now ≡ true }
         ensures { Enters result after_give_up (meaning self.old) (meaning self.new) at.now };
-
-    /// Chooses the window with the number, as `choose` does the window at a cursor.
-    fn choose_numbered(&mut self, number: u32) -> Result<(), AllocError>
-        requires { number < length (meaning self.old).windows }
-        ensures { EntersNumbered result after_choose
-            (meaning self.old) (meaning self.new) number };
-
-    /// Makes the window with the number hopeless, as `give_up` does the window at a cursor.
-    fn give_up_numbered(&mut self, number: u32) -> Result<(), AllocError>
-        requires { number < length (meaning self.old).windows }
-        ensures { EntersNumbered result after_give_up
-            (meaning self.old) (meaning self.new) number };
 
     /// Ends the level: nothing is hopeless any more, and families that are told lose the cells that
     /// no pattern needs. Afterwards the engine is tidy.

@@ -103,6 +103,10 @@ impl<'a, E: Engine, W: Watch> Engine for Watched<'a, E, W> {
         self.inner.order(out)
     }
 
+    fn seek(&self, number: u32, at: &mut Cursor) {
+        self.inner.seek(number, at);
+    }
+
     fn next_candidate(&self, at: &mut Cursor) -> Option<(u64, u64)> {
         self.inner.next_candidate(at)
     }
@@ -113,14 +117,6 @@ impl<'a, E: Engine, W: Watch> Engine for Watched<'a, E, W> {
 
     fn give_up(&mut self, at: &Cursor) -> Result<(), AllocError> {
         self.inner.give_up(at)
-    }
-
-    fn choose_numbered(&mut self, number: u32) -> Result<(), AllocError> {
-        self.inner.choose_numbered(number)
-    }
-
-    fn give_up_numbered(&mut self, number: u32) -> Result<(), AllocError> {
-        self.inner.give_up_numbered(number)
     }
 
     fn end_level(&mut self) -> Result<(), AllocError> {

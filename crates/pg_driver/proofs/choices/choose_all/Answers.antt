@@ -1,18 +1,21 @@
-use Rattle.std.proofs.Common.{◌≡◌, ℕ, ◌+◌, ◌<◌, List, [], ◌∷◌, length, map, drop, get_or, slice_get, refl, sym, ap, subst, ◌∙◌, arith}
+use Rattle.std.proofs.Common.{◌≡◌, ℕ, ◌+◌, ◌<◌, List, [], ◌∷◌, length, map, drop, get_or, slice_get, Some, refl, sym, ap, subst, ◌∙◌, arith}
 use Rattle.std.specs.List.{sum_by}
 use Rattle.std.proofs.lemmas.List.{length-map, drop_more}
 use Rattle.std.proofs.lemmas.List.Sums.{sum_by-cons}
-use Rattle.std.proofs.lemmas.Option.{slice_get_within, get_or_from_slice_get}
-use Rattle.pg_types.specs.Inside.counting.Counts.{Counts, counted_sums}
+use Rattle.std.proofs.lemmas.Option.{slice_get_within}
+use Rattle.pg_types.specs.Inside.counting.Counts.{Counts, counted_sums, is_counted}
+use Rattle.pg_select.specs.Inside.Choices.{choice}
 use Rattle.pg_types.specs.Inside.counting.NumberedWindows.{HasNumber}
 use Rattle.pg_select.specs.Inside.engine.Meanings.{Meaning}
 use Rattle.pg_select.specs.CountedPositions.{Candidate}
 use Rattle.pg_driver.specs.declared.choices.Choices.{Choices}
 use Rattle.pg_driver.specs.Inside.choices.Choosing.{HasChosen, with_candidates, candidate_of}
+use Rattle.pg_driver.specs.Inside.choices.LookAhead.{AreSeen, AreThere}
 use Rattle.pg_driver.specs.Inside.level.PassWindows.{IsCandidate}
 use Rattle.pg_driver.specs.Inside.level.States.{state_of}
 use Rattle.pg_driver.proofs.ChoiceSteps.{bad_adds, bad_within, good_adds, good_within, keeps_on, numbers_append, state_step, state_with}
-use Rattle.pg_driver.proofs.NumberSteps.{Ahead, ahead, only_one, part_whole}
+use Rattle.pg_driver.proofs.NumberSteps.{Ahead, ahead, only_one, order_there, part_whole}
+use Rattle.pg_driver.proofs.SeenCandidates.{none_seen, seen_at}
 use Rattle.pg_driver.proofs.choices.choose_all.Goals as goal
 
 pub candidates-init : goal.candidates-init
@@ -23,6 +26,8 @@ candidates-init g c =
       rest = m.counts;
       ahead = c.requires.order;
       part = part_whole m.counts c.requires.room.sorted;
+      from = omega arith;
+      seen = none_seen c.args.fates.now m.windows c.args.order.now c.clear.new.self.items c.clear.ensures.items;
       state = refl;
       choices = refl;
       few = omega (arith, length-map m.counts candidate_of, c.requires.room.few);
@@ -31,41 +36,34 @@ candidates-init g c =
       bad = omega (arith, bad_within m.counts, c.requires.room.light);
     }
 
-pub bounds-fates-n : goal.bounds-fates-n
-bounds-fates-n g c =
-    let m0 = g.E.Engine.meaning c.args.engine.now in
-    let m = g.E.Engine.meaning c.candidates.engine in
-    let k = c.candidates.number-index in
-    let n = get_or c.args.order.now k 0 in
-    let more : List ℕ = drop (k + 1) c.args.order.now in
-    let inv = c.candidates.invariant in
-    let windows : m.windows ≡ m0.windows = ap (λ (x : Meaning). x.windows) inv.kept in
-    let counts : m.counts ≡ m0.counts = ap (λ (x : Meaning). x.counts) inv.kept in
-    let a : Ahead m0.windows m0.counts n more inv.rest = ahead m0.windows m0.counts n more inv.rest
-    (sym (ap (map (slice_get m0.windows)) (drop_more c.args.order.now k 0 c.candidates-test.true)) ∙ inv.ahead) inv.part in
-    let there : n < length m0.windows = slice_get_within m0.windows n a.entry.0 a.number in
-    omega (arith, c.requires.fates.size, there)
+pub look_ahead-requires-clause-there : goal.look_ahead-requires-clause-there
+look_ahead-requires-clause-there g c =
+    let windows = ap (λ (x : Meaning). x.windows) c.candidates.invariant.kept in
+    subst (λ (ws : List (List ℕ)). AreThere ws c.args.order.now) (sym windows)
+    (order_there (g.E.Engine.meaning c.args.engine.now).windows (g.E.Engine.meaning c.args.engine.now).counts c.args.order.now c.requires.order)
 
-pub choose_one-requires-clause-there : goal.choose_one-requires-clause-there
-choose_one-requires-clause-there g c =
+pub choose_one-requires-clause-window : goal.choose_one-requires-clause-window
+choose_one-requires-clause-window g c =
+    (seen_at c.args.fates.now (g.E.Engine.meaning c.candidates.engine).windows c.args.order.now c.in_ok-from.from c.look_ahead.new.seen.items c.in_ok-from.ensures.seen
+    c.candidates.k c.index.result.now c.in_ok-from.ensures.from c.in_ok-from.ensures.within c.candidates-test.true c.index.ensures).window
+
+pub choose_one-requires-clause-counted : goal.choose_one-requires-clause-counted
+choose_one-requires-clause-counted g c =
     let m0 = g.E.Engine.meaning c.args.engine.now in
     let m = g.E.Engine.meaning c.candidates.engine in
-    let k = c.candidates.number-index in
-    let n = get_or c.args.order.now k 0 in
-    let more : List ℕ = drop (k + 1) c.args.order.now in
-    let inv = c.candidates.invariant in
-    let windows : m.windows ≡ m0.windows = ap (λ (x : Meaning). x.windows) inv.kept in
-    let counts : m.counts ≡ m0.counts = ap (λ (x : Meaning). x.counts) inv.kept in
-    let a : Ahead m0.windows m0.counts n more inv.rest = ahead m0.windows m0.counts n more inv.rest
-    (sym (ap (map (slice_get m0.windows)) (drop_more c.args.order.now k 0 c.candidates-test.true)) ∙ inv.ahead) inv.part in
-    let there : n < length m0.windows = slice_get_within m0.windows n a.entry.0 a.number in
-    subst (λ (ws : List (List ℕ)). n < length ws) (sym windows) there
+    let windows : m.windows ≡ m0.windows = ap (λ (x : Meaning). x.windows) c.candidates.invariant.kept in
+    let counts : m.counts ≡ m0.counts = ap (λ (x : Meaning). x.counts) c.candidates.invariant.kept in
+    let seen = seen_at c.args.fates.now m.windows c.args.order.now c.in_ok-from.from c.look_ahead.new.seen.items c.in_ok-from.ensures.seen
+    c.candidates.k c.index.result.now c.in_ok-from.ensures.from c.in_ok-from.ensures.within c.candidates-test.true c.index.ensures in
+    ap (λ (es : Counts). is_counted es c.index.result.now.window) counts
+    ∙ c.requires.numbered.counted c.index.result.now.window (get_or c.args.order.now c.candidates.k 0)
+    (subst (λ (ws : List (List ℕ)). HasNumber ws c.index.result.now.window (get_or c.args.order.now c.candidates.k 0)) windows seen.window)
 
 pub choose_one-requires-clause-fate : goal.choose_one-requires-clause-fate
 choose_one-requires-clause-fate g c = λ u sums it.
     let m0 = g.E.Engine.meaning c.args.engine.now in
     let m = g.E.Engine.meaning c.candidates.engine in
-    let k = c.candidates.number-index in
+    let k = c.candidates.k in
     let n = get_or c.args.order.now k 0 in
     let more : List ℕ = drop (k + 1) c.args.order.now in
     let inv = c.candidates.invariant in
@@ -74,14 +72,17 @@ choose_one-requires-clause-fate g c = λ u sums it.
     let a : Ahead m0.windows m0.counts n more inv.rest = ahead m0.windows m0.counts n more inv.rest
     (sym (ap (map (slice_get m0.windows)) (drop_more c.args.order.now k 0 c.candidates-test.true)) ∙ inv.ahead) inv.part in
     let there : n < length m0.windows = slice_get_within m0.windows n a.entry.0 a.number in
-    get_or_from_slice_get c.args.fates.now n _ _ (c.requires.fates.each u n sums (subst (λ (ws : List (List ℕ)). HasNumber ws u n) windows it.number)
-    (ap (λ (es : Counts). counted_sums es u) (sym counts) ∙ it.sums))
+    let seen = seen_at c.args.fates.now m.windows c.args.order.now c.in_ok-from.from c.look_ahead.new.seen.items c.in_ok-from.ensures.seen k c.index.result.now
+    c.in_ok-from.ensures.from c.in_ok-from.ensures.within c.candidates-test.true c.index.ensures in
+    let both : Some c.index.result.now.fate ≡ Some (choice c.args.params.now sums.0 sums.1) =
+    sym seen.fate ∙ c.requires.fates.each u n sums (subst (λ (ws : List (List ℕ)). HasNumber ws u n) windows it.number) (ap (λ (es : Counts). counted_sums es u) (sym counts) ∙ it.sums) in
+    cc
 
 pub choose_one-requires-clause-sums : goal.choose_one-requires-clause-sums
 choose_one-requires-clause-sums g c = λ u sums it.
     let m0 = g.E.Engine.meaning c.args.engine.now in
     let m = g.E.Engine.meaning c.candidates.engine in
-    let k = c.candidates.number-index in
+    let k = c.candidates.k in
     let n = get_or c.args.order.now k 0 in
     let more : List ℕ = drop (k + 1) c.args.order.now in
     let inv = c.candidates.invariant in
@@ -113,7 +114,7 @@ pub choose_one-requires-clause-few : goal.choose_one-requires-clause-few
 choose_one-requires-clause-few g c =
     let m0 = g.E.Engine.meaning c.args.engine.now in
     let m = g.E.Engine.meaning c.candidates.engine in
-    let k = c.candidates.number-index in
+    let k = c.candidates.k in
     let n = get_or c.args.order.now k 0 in
     let more : List ℕ = drop (k + 1) c.args.order.now in
     let inv = c.candidates.invariant in
@@ -129,7 +130,7 @@ pub candidates-preserved : goal.candidates-preserved
 candidates-preserved g c =
     let m0 = g.E.Engine.meaning c.args.engine.now in
     let m = g.E.Engine.meaning c.candidates.engine in
-    let k = c.candidates.number-index in
+    let k = c.candidates.k in
     let n = get_or c.args.order.now k 0 in
     let more : List ℕ = drop (k + 1) c.args.order.now in
     let inv = c.candidates.invariant in
@@ -154,6 +155,8 @@ candidates-preserved g c =
       rest = a.left;
       ahead = a.next;
       part = a.part;
+      from = (let low = c.in_ok-from.ensures.from in omega arith);
+      seen = subst (λ (ws : List (List ℕ)). AreSeen c.args.fates.now ws c.args.order.now c.in_ok-from.from c.look_ahead.new.seen.items) windows c.in_ok-from.ensures.seen;
       state =
           state_step m0 m after params first rest _ inv.kept ok
           (ap (λ (cs : List Candidate). state_with m0.signs params m0.pass (state_of m) cs) (sym is) ∙ inv.state);

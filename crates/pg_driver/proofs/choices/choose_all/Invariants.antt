@@ -3,6 +3,7 @@ use Rattle.std.specs.List.{sum_by}
 use Rattle.pg_types.specs.declared.limits.TheConstants.{WEIGHT_MAX, FILE_MAX}
 use Rattle.pg_types.specs.Inside.counting.Counts.{Counts}
 use Rattle.pg_driver.specs.Inside.choices.Choosing.{candidate_of, with_candidates, no_choices}
+use Rattle.pg_driver.specs.Inside.choices.LookAhead.{AreSeen}
 use Rattle.pg_driver.specs.Inside.level.PassWindows.{IsPart}
 use Rattle.pg_driver.specs.Inside.level.States.{state_of}
 use Rattle.pg_driver.proofs.ChoiceSteps.{KeepsButState, state_with}
@@ -15,8 +16,10 @@ invariant-candidates g l =
     record {
       kept : KeepsButState m0 m;
       rest : Counts;
-      ahead : map (slice_get m0.windows) (drop l.number-index l.order) ≡ map (λ e. Some e.0) rest;
+      ahead : map (slice_get m0.windows) (drop l.k l.order) ≡ map (λ e. Some e.0) rest;
       part : IsPart rest m0.counts;
+      from : l.from ≤ l.k;
+      seen : AreSeen l.fates m0.windows l.order l.from l.seen.items;
       state : state_with m0.signs l.params m0.pass (state_of m) (map candidate_of rest) ≡ state_with m0.signs l.params m0.pass (state_of m0) (map candidate_of m0.counts);
       choices : with_candidates l.params l.choices (map candidate_of rest) ≡ with_candidates l.params no_choices (map candidate_of m0.counts);
       few : l.choices.candidates + length (map candidate_of rest) ≤ FILE_MAX;

@@ -1,50 +1,52 @@
-use Rattle.std.proofs.Common.{◌≡◌, ℕ, ◌+◌, List, [], get_or, Some, sym, ap, ◌∙◌, arith}
-use Rattle.std.proofs.lemmas.Option.{slice_get-get_or}
+use Rattle.std.proofs.Common.{◌≡◌, ℕ, ◌+◌, List, Some, sym, ap, subst, ◌∙◌, arith}
 use Rattle.pg_types.specs.Inside.counting.NumberedWindows.{HasNumber}
 use Rattle.pg_select.specs.Inside.engine.Meanings.{Meaning, KeepsButFamilies, after_choose, after_give_up}
 use Rattle.pg_driver.specs.Inside.level.PassWindows.{IsCandidate}
+use Rattle.pg_driver.proofs.NumberSteps.{one_window}
 use Rattle.pg_driver.proofs.ChoiceSteps.{left_one, left_numbers, chosen_one, chosen_numbers, hopeless_one, hopeless_numbers}
 use Rattle.pg_driver.proofs.choices.choose_one.Goals as goal
 
 pub overflow_add-choices-in-Chosen-2 : goal.overflow_add-choices-in-Chosen-2
 overflow_add-choices-in-Chosen-2 g c =
     let m : Meaning = g.E.Engine.meaning c.args.engine.now in
-    let u : List ℕ = get_or m.windows c.args.number [] in
-    let at : HasNumber m.windows u c.args.number = slice_get-get_or m.windows c.args.number [] c.requires.there in
+    let u : List ℕ = c.args.seen.now.window in
+    let at : HasNumber m.windows u c.args.number = c.requires.window in
     let it : IsCandidate m c.args.number u c.sums_of-good.result = record { number = at; sums = c.sums_of-good.ensures u at } in
     omega (arith, (c.requires.sums u c.sums_of-good.result it).0)
 
 pub overflow_add-choices-in-Chosen-3 : goal.overflow_add-choices-in-Chosen-3
 overflow_add-choices-in-Chosen-3 g c =
     let m : Meaning = g.E.Engine.meaning c.args.engine.now in
-    let u : List ℕ = get_or m.windows c.args.number [] in
-    let at : HasNumber m.windows u c.args.number = slice_get-get_or m.windows c.args.number [] c.requires.there in
+    let u : List ℕ = c.args.seen.now.window in
+    let at : HasNumber m.windows u c.args.number = c.requires.window in
     let it : IsCandidate m c.args.number u c.sums_of-good.result = record { number = at; sums = c.sums_of-good.ensures u at } in
     omega (arith, (c.requires.sums u c.sums_of-good.result it).1)
 
-pub returns-in_err-choose_numbered-in-Chosen-clause-signs : goal.returns-in_err-choose_numbered-in-Chosen-clause-signs
-returns-in_err-choose_numbered-in-Chosen-clause-signs g c =
+pub returns-in_err-choose-in-Chosen-clause-signs : goal.returns-in_err-choose-in-Chosen-clause-signs
+returns-in_err-choose-in-Chosen-clause-signs g c =
     let m : Meaning = g.E.Engine.meaning c.args.engine.now in
-    let u : List ℕ = get_or m.windows c.args.number [] in
-    let kept : KeepsButFamilies u m (g.E.Engine.meaning c.choose_numbered.new.self) =
-    (c.in_err-choose_numbered-in-Chosen.ensures u (slice_get-get_or m.windows c.args.number [] c.requires.there)).err in
+    let kept : KeepsButFamilies c.args.seen.now.window m (g.E.Engine.meaning c.choose.new.self) =
+    c.in_err-choose-in-Chosen.ensures.err in
     ap (λ (x : Meaning). x.signs) kept.kept
 
-pub returns-in_err-give_up_numbered-in-Hopeless-clause-signs : goal.returns-in_err-give_up_numbered-in-Hopeless-clause-signs
-returns-in_err-give_up_numbered-in-Hopeless-clause-signs g c =
+pub returns-in_err-give_up-in-Hopeless-clause-signs : goal.returns-in_err-give_up-in-Hopeless-clause-signs
+returns-in_err-give_up-in-Hopeless-clause-signs g c =
     let m : Meaning = g.E.Engine.meaning c.args.engine.now in
-    let u : List ℕ = get_or m.windows c.args.number [] in
-    let kept : KeepsButFamilies u m (g.E.Engine.meaning c.give_up_numbered.new.self) =
-    (c.in_err-give_up_numbered-in-Hopeless.ensures u (slice_get-get_or m.windows c.args.number [] c.requires.there)).err in
+    let kept : KeepsButFamilies c.args.seen.now.window m (g.E.Engine.meaning c.give_up.new.self) =
+    c.in_err-give_up-in-Hopeless.ensures.err in
     ap (λ (x : Meaning). x.signs) kept.kept
 
-pub returns-in_ok-choose_numbered-in-Chosen-clause-ok : goal.returns-in_ok-choose_numbered-in-Chosen-clause-ok
-returns-in_ok-choose_numbered-in-Chosen-clause-ok g c = λ u sums it.
-    chosen_one c.args.params.now (g.E.Engine.meaning c.args.engine.now) (g.E.Engine.meaning c.choose_numbered.new.self) (record { window = u; good = sums.0; bad = sums.1 })
-    (sym (c.requires.fate u sums it) ∙ c.in-Chosen.is) (c.in_ok-choose_numbered-in-Chosen.ensures u it.number).ok
+pub returns-in_ok-choose-in-Chosen-clause-ok : goal.returns-in_ok-choose-in-Chosen-clause-ok
+returns-in_ok-choose-in-Chosen-clause-ok g c = λ u sums it.
+    let m : Meaning = g.E.Engine.meaning c.args.engine.now in
+    let n : Meaning = g.E.Engine.meaning c.choose.new.self in
+    let same : c.args.seen.now.window ≡ u = one_window m.windows c.args.number c.args.seen.now.window u c.requires.window it.number in
+    let entered : n ≡ after_choose m u n.tidy = subst (λ (v : List ℕ). n ≡ after_choose m v n.tidy) same c.in_ok-choose-in-Chosen.ensures.ok in
+    chosen_one c.args.params.now m n (record { window = u; good = sums.0; bad = sums.1 })
+    (sym (c.requires.fate u sums it) ∙ c.in-Chosen.is) entered
 
-pub returns-in_ok-choose_numbered-in-Chosen-clause-choices : goal.returns-in_ok-choose_numbered-in-Chosen-clause-choices
-returns-in_ok-choose_numbered-in-Chosen-clause-choices g c = λ u sums it.
+pub returns-in_ok-choose-in-Chosen-clause-choices : goal.returns-in_ok-choose-in-Chosen-clause-choices
+returns-in_ok-choose-in-Chosen-clause-choices g c = λ u sums it.
     let read : Some c.sums_of-good.result ≡ Some sums = sym (c.sums_of-good.ensures u it.number) ∙ it.sums in
     let same : c.sums_of-good.result ≡ sums = cc in
     ap (λ (s : ℕ × ℕ). record {
@@ -56,29 +58,31 @@ returns-in_ok-choose_numbered-in-Chosen-clause-choices g c = λ u sums it.
     }) same
     ∙ chosen_numbers c.args.params.now c.args.choices.now (record { window = u; good = sums.0; bad = sums.1 }) (sym (c.requires.fate u sums it) ∙ c.in-Chosen.is)
 
-pub returns-in_ok-choose_numbered-in-Chosen-clause-signs : goal.returns-in_ok-choose_numbered-in-Chosen-clause-signs
-returns-in_ok-choose_numbered-in-Chosen-clause-signs g c =
+pub returns-in_ok-choose-in-Chosen-clause-signs : goal.returns-in_ok-choose-in-Chosen-clause-signs
+returns-in_ok-choose-in-Chosen-clause-signs g c =
     let m : Meaning = g.E.Engine.meaning c.args.engine.now in
-    let n : Meaning = g.E.Engine.meaning c.choose_numbered.new.self in
-    let u : List ℕ = get_or m.windows c.args.number [] in
-    let chosen : n ≡ after_choose m u n.tidy = (c.in_ok-choose_numbered-in-Chosen.ensures u (slice_get-get_or m.windows c.args.number [] c.requires.there)).ok in
+    let n : Meaning = g.E.Engine.meaning c.choose.new.self in
+    let chosen : n ≡ after_choose m c.args.seen.now.window n.tidy = c.in_ok-choose-in-Chosen.ensures.ok in
     ap (λ (x : Meaning). x.signs) chosen
 
-pub returns-in_ok-give_up_numbered-in-Hopeless-clause-ok : goal.returns-in_ok-give_up_numbered-in-Hopeless-clause-ok
-returns-in_ok-give_up_numbered-in-Hopeless-clause-ok g c = λ u sums it.
-    hopeless_one c.args.params.now (g.E.Engine.meaning c.args.engine.now) (g.E.Engine.meaning c.give_up_numbered.new.self) (record { window = u; good = sums.0; bad = sums.1 })
-    (sym (c.requires.fate u sums it) ∙ c.in-Hopeless.is) (c.in_ok-give_up_numbered-in-Hopeless.ensures u it.number).ok
+pub returns-in_ok-give_up-in-Hopeless-clause-ok : goal.returns-in_ok-give_up-in-Hopeless-clause-ok
+returns-in_ok-give_up-in-Hopeless-clause-ok g c = λ u sums it.
+    let m : Meaning = g.E.Engine.meaning c.args.engine.now in
+    let n : Meaning = g.E.Engine.meaning c.give_up.new.self in
+    let same : c.args.seen.now.window ≡ u = one_window m.windows c.args.number c.args.seen.now.window u c.requires.window it.number in
+    let entered : n ≡ after_give_up m u n.tidy = subst (λ (v : List ℕ). n ≡ after_give_up m v n.tidy) same c.in_ok-give_up-in-Hopeless.ensures.ok in
+    hopeless_one c.args.params.now m n (record { window = u; good = sums.0; bad = sums.1 })
+    (sym (c.requires.fate u sums it) ∙ c.in-Hopeless.is) entered
 
-pub returns-in_ok-give_up_numbered-in-Hopeless-clause-choices : goal.returns-in_ok-give_up_numbered-in-Hopeless-clause-choices
-returns-in_ok-give_up_numbered-in-Hopeless-clause-choices g c = λ u sums it.
+pub returns-in_ok-give_up-in-Hopeless-clause-choices : goal.returns-in_ok-give_up-in-Hopeless-clause-choices
+returns-in_ok-give_up-in-Hopeless-clause-choices g c = λ u sums it.
     hopeless_numbers c.args.params.now c.args.choices.now (record { window = u; good = sums.0; bad = sums.1 }) (sym (c.requires.fate u sums it) ∙ c.in-Hopeless.is)
 
-pub returns-in_ok-give_up_numbered-in-Hopeless-clause-signs : goal.returns-in_ok-give_up_numbered-in-Hopeless-clause-signs
-returns-in_ok-give_up_numbered-in-Hopeless-clause-signs g c =
+pub returns-in_ok-give_up-in-Hopeless-clause-signs : goal.returns-in_ok-give_up-in-Hopeless-clause-signs
+returns-in_ok-give_up-in-Hopeless-clause-signs g c =
     let m : Meaning = g.E.Engine.meaning c.args.engine.now in
-    let n : Meaning = g.E.Engine.meaning c.give_up_numbered.new.self in
-    let u : List ℕ = get_or m.windows c.args.number [] in
-    let given : n ≡ after_give_up m u n.tidy = (c.in_ok-give_up_numbered-in-Hopeless.ensures u (slice_get-get_or m.windows c.args.number [] c.requires.there)).ok in
+    let n : Meaning = g.E.Engine.meaning c.give_up.new.self in
+    let given : n ≡ after_give_up m c.args.seen.now.window n.tidy = c.in_ok-give_up-in-Hopeless.ensures.ok in
     ap (λ (x : Meaning). x.signs) given
 
 pub returns-in-Left-clause-ok : goal.returns-in-Left-clause-ok

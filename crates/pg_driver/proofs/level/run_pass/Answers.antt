@@ -115,10 +115,13 @@ decide-requires g c =
 
 pub choose_all-requires : goal.choose_all-requires
 choose_all-requires g c =
+    let m = g.E.Engine.meaning c.args.engine.now in
     let m2 = g.E.Engine.meaning c.count.new.engine in
+    let counted = counted_as c.args.table.now c.args.dictionary.now c.args.pass m _ _ c.begin_pass.ensures c.in_ok-before.ensures.did.counts in
     record {
       level = c.requires.level;
       room = c.in_ok-before.ensures.did.room;
+      numbered = pass_numbered c.args.table.now c.args.dictionary.now c.args.pass m m2 counted;
       fates = subst (λ (fates : List Choice). AreFates c.args.params.now m2.counts m2.windows fates) (sym c.deref.ensures.value) c.in_ok-decide.ensures.fates;
       order = subst (λ (order : List ℕ). AreInOrder m2.windows m2.counts order) (sym c.deref-2.ensures.value) c.in_ok-decide.ensures.order;
     }

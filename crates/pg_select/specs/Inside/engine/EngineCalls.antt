@@ -3,7 +3,6 @@
 use Rattle.std.specs.Prelude.{◌≡◌, ℕ, ◌≤◌, Bool, true, List, length, Result, OnOk, OnErr, IsOk}
 use Rattle.pg_types.specs.declared.limits.TheConstants.{WEIGHT_MAX}
 use Rattle.pg_types.specs.Inside.counting.Counts.{AreSmall, SignsWithin, sums_of, with_weight, is_counted}
-use Rattle.pg_types.specs.Inside.counting.NumberedWindows.{HasNumber}
 use Rattle.pg_select.specs.Inside.engine.Meanings.{Meaning, KeepsButFamilies, after_count}
 
 -- a window can be counted with this weight: it is one of the pass, and its sums stay small
@@ -25,9 +24,3 @@ pub record Enters {A E : Type 0} (result : Result A E)
     (after : Meaning → List ℕ → Bool → Meaning) (old new : Meaning) (u : List ℕ) : Type 0 where
   pub ok : OnOk result (new ≡ after old u new.tidy)
   pub err : OnErr result (KeepsButFamilies u old new)
-
--- the window with the number was entered
-abbrev pub EntersNumbered : {A E : Type 0} → Result A E
-    → (Meaning → List ℕ → Bool → Meaning) → Meaning → Meaning → ℕ → Type 0
-EntersNumbered result after old new number = (u : List ℕ) → HasNumber old.windows u number
-    → Enters result after old new u
