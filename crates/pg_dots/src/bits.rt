@@ -47,3 +47,14 @@ pub fn take_in_before(row: &mut [u64], width: usize)
         row[x] |= row[x - width];
     }
 }
+
+/// Turns the bits of a row, but for those that are set in a second row of its size: they are set.
+pub fn turn_others(row: &mut [u64], kept: &[u64])
+    requires size { length row.old ≡ length kept.now }
+    ensures { (j : ℕ) → j < 64 * length row.old → has_bit row.new j
+        ≡ (not (has_bit row.old j) || has_bit kept.now j) }
+{
+    'numbers: for x in 0..row.len() {
+        row[x] = !row[x] | kept[x];
+    }
+}

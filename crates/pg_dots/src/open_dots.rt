@@ -4,7 +4,8 @@ ghost use Rattle.pg_dots.specs.Inside.Bits.{has_bit};
 ghost use Rattle.pg_types.specs.declared.limits.TheConstants.{LENGTH_MAX};
 ghost use Rattle.pg_types.specs.Inside.Limits.{positions_limit};
 
-use crate::bits::{NUMBER_BITS, clear, set, take_in_before};
+use crate::bits::{NUMBER_BITS, clear, set, take_in_before, turn_others};
+use crate::position_set::PositionSet;
 use crate::walk::Walk;
 use pg_types::LENGTH_MAX;
 use std::alloc::{AllocError, Global};
@@ -40,6 +41,7 @@ pub struct OpenDots {
 impl OpenDots {
     ghost use Rattle.pg_dots.specs.Inside.Bits.{IsNext};
     ghost use Rattle.pg_dots.specs.Inside.Dots.{is_closed, position_count, HasWalk};
+    ghost use Rattle.pg_dots.specs.Inside.Positions.{is_among, room_of};
     ghost use Rattle.pg_dots.specs.Inside.Walks.{IsAhead};
 
     /// Each dot is closed at each of `size` positions, and no dot is reached.
@@ -167,6 +169,8 @@ impl OpenDots {
         ensures closed { OnOk result ((d j : ℕ) → d ≤ LENGTH_MAX → j < position_count self.old
             → is_closed self.new d j
             ≡ (is_closed self.old d j || (nat_le 1 d && is_closed self.old (d - 1) j))) }
+        ensures beyond { OnOk result ((d j : ℕ) → LENGTH_MAX < d → j < position_count self.old
+            → is_closed self.new d j ≡ is_closed self.old d j) }
         ensures err { OnErr result ((d j : ℕ) → j < position_count self.old
             → is_closed self.new d j ≡ is_closed self.old d j) }
     {
@@ -178,6 +182,29 @@ impl OpenDots {
         }
         take_in_before(&mut self.bits, self.width);
         Ok(())
+    }
+
+    /// The set of all positions.
+    pub fn all_positions(&self, alloc: Global) -> Result<PositionSet, AllocError>
+        ensures room { IfOk result (λ all. room_of all ≡ position_count self.now) }
+        ensures among { IfOk result (λ all. (i : ℕ) → i < position_count self.now
+            → is_among all i ≡ true) }
+    {
+        PositionSet::full(alloc, self.width)
+    }
+
+    /// Goes on to the next level. Each dot is open at those positions alone that were closed
+    /// altogether and are not kept closed. No dot is reached, and all rows keep their room.
+    pub fn next_level(&mut self, kept: &PositionSet)
+        requires room { room_of kept.now ≡ position_count self.old }
+        ensures positions { position_count self.new ≡ position_count self.old }
+        ensures none { self.new.reached ≡ 0 }
+        ensures closed { (d j : ℕ) → j < position_count self.old → is_closed self.new d j
+            ≡ (not (is_closed self.old (LENGTH_MAX + 1) j) || is_among kept.now j) }
+    {
+        self.bits.truncate(self.width);
+        turn_others(&mut self.bits, &kept.bits);
+        self.reached = 0;
     }
 }
 
