@@ -6,6 +6,10 @@ ghost use Rattle.pg_dots.specs.Inside.Bits.{has_bit};
 /// How many bits a number has.
 pub const NUMBER_BITS: usize = 64;
 
+/// There is room for at least so many numbers, 32 MB. A smaller block that is freed would make the
+/// allocator of the C library keep later vectors in its heap, where they leave holes as they grow.
+pub const ROOM_AT_LEAST: usize = 1 << 22;
+
 /// Sets bit `i` of a row.
 pub fn set(row: &mut [u64], i: usize)
     requires { i < 64 * length row.old }

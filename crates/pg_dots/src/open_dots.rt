@@ -4,7 +4,7 @@ ghost use Rattle.pg_dots.specs.Inside.Bits.{has_bit};
 ghost use Rattle.pg_types.specs.declared.limits.TheConstants.{LENGTH_MAX};
 ghost use Rattle.pg_types.specs.Inside.Limits.{positions_limit};
 
-use crate::bits::{NUMBER_BITS, clear, set, take_in_before, turn_others};
+use crate::bits::{NUMBER_BITS, ROOM_AT_LEAST, clear, set, take_in_before, turn_others};
 use crate::position_set::PositionSet;
 use crate::walk::Walk;
 use pg_types::LENGTH_MAX;
@@ -12,10 +12,6 @@ use std::alloc::{AllocError, Global};
 
 /// How many dots there are: those of the greatest length.
 const DOTS: usize = LENGTH_MAX as usize + 1;
-
-/// There is room for at least so many numbers, 32 MB. A smaller block that is freed would make the
-/// allocator of the C library keep later vectors in its heap, where they leave holes as they grow.
-const ROOM_AT_LEAST: usize = 1 << 22;
 
 /// Which dots are closed at which positions of the words of a dictionary. The positions are
 /// numbered through all words, from 0, and for each dot there is a row with one bit for each of
@@ -55,9 +51,7 @@ impl OpenDots {
     {
         let width = size / NUMBER_BITS + 1;
         let mut bits = vec![in alloc; u64::MAX; width]?;
-        // Room for the rows of all dots, so that the rows are never copied. What no row needs
-        // stays untouched. Where there is no such room, each row asks for its own.
-        let _ = bits.reserve_exact(ROOM_AT_LEAST.max(width * DOTS));
+        ask_for_rows(&mut bits, width);
         Ok(OpenDots {
             width,
             reached: 0,
@@ -194,7 +188,8 @@ impl OpenDots {
     }
 
     /// Goes on to the next level. Each dot is open at those positions alone that were closed
-    /// altogether and are not kept closed. No dot is reached, and all rows keep their room.
+    /// altogether and are not kept closed. No dot is reached, and the memory of all rows but one is
+    /// given back.
     pub fn next_level(&mut self, kept: &PositionSet)
         requires room { room_of kept.now ≡ position_count self.old }
         ensures positions { position_count self.new ≡ position_count self.old }
@@ -203,9 +198,20 @@ impl OpenDots {
             ≡ (not (is_closed self.old (LENGTH_MAX + 1) j) || is_among kept.now j) }
     {
         self.bits.truncate(self.width);
+        self.bits.shrink_to_fit();
+        ask_for_rows(&mut self.bits, self.width);
         turn_others(&mut self.bits, &kept.bits);
         self.reached = 0;
     }
+}
+
+/// Asks for room for the rows of all dots, so that no row is copied when the next one is added. What
+/// no row needs stays untouched. Where there is no such room, each row asks for its own.
+fn ask_for_rows(bits: &mut Vec<u64>, width: usize)
+    requires { width ≤ positions_limit }
+    ensures { bits.new.items ≡ bits.old.items }
+{
+    let _ = bits.reserve_exact(ROOM_AT_LEAST.max(width * DOTS));
 }
 
 /// Appends a copy of the first `width` numbers. It takes no more memory than they need.

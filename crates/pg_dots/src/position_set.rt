@@ -1,7 +1,7 @@
 //! A set of positions of the words of a dictionary.
 ghost use Rattle.std.specs.Prelude.{◌≡◌, ◌<◌, ◌*◌, ◌-◌, ◌^◌, ◌&&◌, ◌==◌, ℕ, not, length, true, IfOk};
 
-use crate::bits::clear;
+use crate::bits::{ROOM_AT_LEAST, clear};
 use std::alloc::{AllocError, Global};
 
 /// A set of positions of the words of a dictionary, which are numbered through all words, from 0.
@@ -20,7 +20,8 @@ impl PositionSet {
         ensures room { IfOk result (λ all. room_of all ≡ 64 * width) }
         ensures among { IfOk result (λ all. (i : ℕ) → i < 64 * width → is_among all i ≡ true) }
     {
-        let bits = vec![in alloc; u64::MAX; width]?;
+        let mut bits = vec![in alloc; u64::MAX; width]?;
+        let _ = bits.reserve_exact(ROOM_AT_LEAST);
         Ok(PositionSet { bits })
     }
 

@@ -35,8 +35,8 @@ use std::alloc::{AllocError, Global};
 /// How the windows of a level are counted.
 #[derive(Drop)]
 pub enum WayToCount {
-    /// At the open positions: words are hyphenated at the start of the first such level alone. It is
-    /// exact where no pattern has a value of the level or more then.
+    /// At the open positions: words are hyphenated at the start of the first such level alone. This
+    /// is exact where no pattern has a value of the level or more then.
     Open(OpenLevel),
     /// At the positions of each word, which is hyphenated in each pass, and at no other moment.
     EachWord(WordLevel),

@@ -64,8 +64,8 @@ fn note_care(sign: usize, mark: Mark, never: &mut PositionSet)
 }
 
 /// Opens the positions of a word that count at a level, and adds all positions in reach to the
-/// totals. Those with care are taken out of the positions that count at no level. `before` signs of the dictionary stand before those of the word. What `found` holds does
-/// not matter.
+/// totals. Those with care are taken out of the positions that count at no level. `before` signs of
+/// the dictionary stand before those of the word. What `found` holds does not matter.
 fn open_word<E: Engine>(
     engine: &E,
     table: &Table,
@@ -114,7 +114,7 @@ fn open_word<E: Engine>(
 }
 
 /// The positions that count at a level's start are open, and each dot of the others is closed. The
-/// totals stand beside them. Each word is hyphenated once.
+/// totals stand beside them, and the positions that count at no level. Each word is hyphenated once.
 pub fn open_level<E: Engine>(
     engine: &E,
     dictionary: &Dictionary,

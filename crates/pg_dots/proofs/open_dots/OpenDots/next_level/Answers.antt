@@ -12,8 +12,8 @@ unfolding is_closed is_among
 returns-clause-closed c = λ d j within.
     let o = c.args.self.now in
     let now : List ℕ = c.turn_others.new.row in
-    let new = with_items_is c.truncate.new.self now (search (rules, places)) in
-    let first : c.deref_mut.result.now ≡ take o.width o.bits.items = c.deref_mut.ensures.value ∙ c.truncate.ensures.items in
+    let new = with_items_is c.ask_for_rows.new.bits now (search (rules, places)) in
+    let first : c.deref_mut.result.now ≡ take o.width o.bits.items = c.deref_mut.ensures.value ∙ c.ask_for_rows.ensures ∙ c.shrink_to_fit.ensures.items ∙ c.truncate.ensures.items in
     let size = length-take-le o.width o.bits.items (omega (arith, o.rows)) in
     let wide : j < 64 * length c.deref_mut.result.now = (let same = ap (λ (xs : List ℕ). length xs) first in omega arith) in
     ap (λ bits. has_bit bits (row_of 0 d * (64 * o.width) + j)) new

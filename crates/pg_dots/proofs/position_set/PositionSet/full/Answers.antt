@@ -8,5 +8,5 @@ pub returns-clause-among : goal.returns-clause-among
 unfolding is_among
 returns-clause-among c = λ i within.
     let width = c.args.width in
-    let items : c.in_ok-bits.bits.items ≡ replicate width (2 ^ 64 - 1) = search rules in
+    let items : c.reserve_exact.new.self.items ≡ replicate width (2 ^ 64 - 1) = c.reserve_exact.ensures.items ∙ search rules in
     ap (λ bits. has_bit bits i) items ∙ full_bit width i within
