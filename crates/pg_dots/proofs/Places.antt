@@ -7,7 +7,7 @@ use Rattle.std.proofs.lemmas.List.{get_or-replicate, get_or_append_left, get_or-
 use Rattle.std.proofs.lemmas.Nat.Bits.{bit_at_ones}
 use Rattle.pg_dots.specs.Inside.Bits.{has_bit}
 use Rattle.pg_dots.specs.Inside.Dots.{row_of}
-use Rattle.pg_dots.proofs.Rows.{part_bit}
+use Rattle.pg_dots.proofs.Rows.{first_bit, part_bit}
 
 -- a place of rows of one width is another where its row and its place in it are
 pub same_place : (a b s i j : ℕ) → i < s → j < s → nat_eq (a * s + j) (b * s + i) ≡ (nat_eq a b && nat_eq j i)
@@ -182,6 +182,32 @@ longer_grown mid new width reached k d j closed grown size within are beyond tak
     twice true b = refl
     twice false true = refl
     twice false false = refl
+
+-- the next length, for a dot that is not reached
+pub longer_beyond : (old new : List ℕ) (width reached d j : ℕ) → reached ≤ d → length old ≡ (reached + 1) * width → j < 64 * width
+    → ((p : ℕ) → p < 64 * length old → has_bit new p ≡ (has_bit old p || (nat_le (128 * width) p && has_bit old (p - 64 * width))))
+    → has_bit new (row_of reached d * (64 * width) + j) ≡ has_bit old (row_of reached d * (64 * width) + j)
+longer_beyond old new width reached d j high size within taken =
+    let first : row_of reached d * (64 * width) + j ≡ j = ap (λ r. r * (64 * width) + j) (row_beyond reached d high) ∙ (let z : 0 * (64 * width) + j ≡ j = omega arith in z) in
+    ap (has_bit new) first
+    ∙ taken j (let some : width * 1 ≤ width * (reached + 1) = mul-le-mul_left width (omega arith) in omega arith)
+    ∙ ap (λ b. has_bit old j || (b && has_bit old (j - 64 * width))) (lt-leb (128 * width) j (omega arith))
+    ∙ plain (has_bit old j)
+    ∙ ap (has_bit old) (sym first)
+  where
+    plain : (a : Bool) → (a || false) ≡ a
+    plain true = refl
+    plain false = refl
+
+-- the next level: the row of the dots that are not reached is turned, and no other is left
+pub next_level_row : (bits new : List ℕ) (width reached d e j : ℕ) (kept : Bool) → reached ≤ e → j < 64 * width → has_bit new j ≡ (not (has_bit (take width bits) j) || kept)
+    → has_bit new (row_of 0 d * (64 * width) + j) ≡ (not (has_bit bits (row_of reached e * (64 * width) + j)) || kept)
+next_level_row bits new width reached d e j kept high within is =
+    let none : 0 * (64 * width) + j ≡ j = omega arith in
+    ap (λ r. has_bit new (r * (64 * width) + j)) (row_beyond 0 d (omega arith))
+    ∙ ap (has_bit new) none
+    ∙ is
+    ∙ ap (λ b. not b || kept) (first_bit bits width j within ∙ ap (has_bit bits) (sym none) ∙ ap (λ r. has_bit bits (r * (64 * width) + j)) (sym (row_beyond reached e high)))
 
 -- a place of the first row
 pub first_row : (old new : List ℕ) (width d i j : ℕ) → ((p : ℕ) → has_bit new p ≡ (not (nat_eq p i) && has_bit old p))

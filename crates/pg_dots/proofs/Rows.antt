@@ -3,7 +3,7 @@ use Rattle.std.proofs.Common.{◌≡◌, ◌≢◌, ℕ, zero, suc, ◌+◌, ◌
 use Rattle.std.specs.Int.{bit_at, bit_not}
 use Rattle.std.proofs.lemmas.Bool.{eq-eqb, ne_eqb, cases_eq, cases_lt, le-leb, lt-leb}
 use Rattle.std.proofs.lemmas.List.{get_or-set_same, get_or-set_other, get_or-take, get_or-drop}
-use Rattle.std.proofs.lemmas.Nat.Bits.{bit_at_or, bit_at-lt, bit_at_set_same, bit_at_set_other, bit_at_clear_same, bit_at_clear_other}
+use Rattle.std.proofs.lemmas.Nat.Bits.{bit_at_or, bit_at-lt, bit_at_not, bit_at_set_same, bit_at_set_other, bit_at_clear_same, bit_at_clear_other}
 use Rattle.pg_dots.specs.Inside.Bits.{has_bit}
 
 -- whether one of two bits is set
@@ -175,3 +175,27 @@ bit_set row k i low high is = number_bit row k i low high ∙ ap (λ b. nat_eq b
 
 pub bit_clear : (row : List ℕ) (k i : ℕ) → 64 * k ≤ i → i < 64 * k + 64 → bit_at (get_or row k 0) (i - 64 * k) ≡ 0 → has_bit row i ≡ false
 bit_clear row k i low high is = number_bit row k i low high ∙ ap (λ b. nat_eq b 1) is
+
+-- the first part of a row
+pub first_bit : (row : List ℕ) (width i : ℕ) → i < 64 * width → has_bit (take width row) i ≡ has_bit row i
+unfolding has_bit
+first_bit row width i within =
+    let low : i / 64 < width = omega arith in
+    ap (λ v. nat_eq (bit_at v (i % 64)) 1) (get_or-take width row (i / 64) 0 low)
+
+-- the bits of a row that was turned, but for some that are kept
+pub turned : (old kept new : List ℕ) (j : ℕ) → get_or old (j / 64) 0 < 2 ^ 64 → get_or new (j / 64) 0 ≡ bit_or (bit_not w64 (get_or old (j / 64) 0)) (get_or kept (j / 64) 0)
+    → has_bit new j ≡ (not (has_bit old j) || has_bit kept j)
+unfolding has_bit
+turned old kept new j small is =
+    ap (λ v. nat_eq (bit_at v (j % 64)) 1) is
+    ∙ ap (λ b. nat_eq b 1) (bit_at_or (bit_not w64 (get_or old (j / 64) 0)) (get_or kept (j / 64) 0) (j % 64))
+    ∙ either (bit_at (bit_not w64 (get_or old (j / 64) 0)) (j % 64)) (bit_at (get_or kept (j / 64) 0) (j % 64)) (bit_at-lt (bit_not w64 (get_or old (j / 64) 0)) (j % 64))
+    (bit_at-lt (get_or kept (j / 64) 0) (j % 64))
+    ∙ ap (λ b. b || nat_eq (bit_at (get_or kept (j / 64) 0) (j % 64)) 1)
+    (ap (λ b. nat_eq b 1) (bit_at_not w64 (get_or old (j / 64) 0) (j % 64) small (omega arith)) ∙ flipped (bit_at (get_or old (j / 64) 0) (j % 64)) (bit_at-lt (get_or old (j / 64) 0) (j % 64)))
+  where
+    flipped : (a : ℕ) → a < 2 → nat_eq (1 - a) 1 ≡ not (nat_eq a 1)
+    flipped zero low = refl
+    flipped (suc zero) low = refl
+    flipped (suc (suc a)) low = absurd (omega arith)

@@ -2,3 +2,4 @@
 pub mod Bits
 pub mod Walks
 pub mod Dots
+pub mod Positions

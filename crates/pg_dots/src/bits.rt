@@ -6,6 +6,10 @@ ghost use Rattle.pg_dots.specs.Inside.Bits.{has_bit};
 /// How many bits a number has.
 pub const NUMBER_BITS: usize = 64;
 
+/// There is room for at least so many numbers, 32 MB. A smaller block that is freed would make the
+/// allocator of the C library keep later vectors in its heap, where they leave holes as they grow.
+pub const ROOM_AT_LEAST: usize = 1 << 22;
+
 /// Sets bit `i` of a row.
 pub fn set(row: &mut [u64], i: usize)
     requires { i < 64 * length row.old }
@@ -45,5 +49,16 @@ pub fn take_in_before(row: &mut [u64], width: usize)
     'numbers: for k in 0..count {
         let x = end - 1 - k;
         row[x] |= row[x - width];
+    }
+}
+
+/// Turns the bits of a row, but for those that are set in a second row of its size: they are set.
+pub fn turn_others(row: &mut [u64], kept: &[u64])
+    requires size { length row.old ≡ length kept.now }
+    ensures { (j : ℕ) → j < 64 * length row.old → has_bit row.new j
+        ≡ (not (has_bit row.old j) || has_bit kept.now j) }
+{
+    'numbers: for x in 0..row.len() {
+        row[x] = !row[x] | kept[x];
     }
 }

@@ -3,7 +3,9 @@
 
 mod bits;
 mod open_dots;
+mod position_set;
 mod walk;
 
 pub use open_dots::OpenDots;
+pub use position_set::PositionSet;
 pub use walk::Walk;

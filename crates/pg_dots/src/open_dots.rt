@@ -4,17 +4,14 @@ ghost use Rattle.pg_dots.specs.Inside.Bits.{has_bit};
 ghost use Rattle.pg_types.specs.declared.limits.TheConstants.{LENGTH_MAX};
 ghost use Rattle.pg_types.specs.Inside.Limits.{positions_limit};
 
-use crate::bits::{NUMBER_BITS, clear, set, take_in_before};
+use crate::bits::{NUMBER_BITS, ROOM_AT_LEAST, clear, set, take_in_before, turn_others};
+use crate::position_set::PositionSet;
 use crate::walk::Walk;
 use pg_types::LENGTH_MAX;
 use std::alloc::{AllocError, Global};
 
 /// How many dots there are: those of the greatest length.
 const DOTS: usize = LENGTH_MAX as usize + 1;
-
-/// There is room for at least so many numbers, 32 MB. A smaller block that is freed would make the
-/// allocator of the C library keep later vectors in its heap, where they leave holes as they grow.
-const ROOM_AT_LEAST: usize = 1 << 22;
 
 /// Which dots are closed at which positions of the words of a dictionary. The positions are
 /// numbered through all words, from 0, and for each dot there is a row with one bit for each of
@@ -40,6 +37,7 @@ pub struct OpenDots {
 impl OpenDots {
     ghost use Rattle.pg_dots.specs.Inside.Bits.{IsNext};
     ghost use Rattle.pg_dots.specs.Inside.Dots.{is_closed, position_count, HasWalk};
+    ghost use Rattle.pg_dots.specs.Inside.Positions.{is_among, room_of};
     ghost use Rattle.pg_dots.specs.Inside.Walks.{IsAhead};
 
     /// Each dot is closed at each of `size` positions, and no dot is reached.
@@ -53,9 +51,7 @@ impl OpenDots {
     {
         let width = size / NUMBER_BITS + 1;
         let mut bits = vec![in alloc; u64::MAX; width]?;
-        // Room for the rows of all dots, so that the rows are never copied. What no row needs
-        // stays untouched. Where there is no such room, each row asks for its own.
-        let _ = bits.reserve_exact(ROOM_AT_LEAST.max(width * DOTS));
+        ask_for_rows(&mut bits, width);
         Ok(OpenDots {
             width,
             reached: 0,
@@ -167,6 +163,8 @@ impl OpenDots {
         ensures closed { OnOk result ((d j : ℕ) → d ≤ LENGTH_MAX → j < position_count self.old
             → is_closed self.new d j
             ≡ (is_closed self.old d j || (nat_le 1 d && is_closed self.old (d - 1) j))) }
+        ensures beyond { OnOk result ((d j : ℕ) → LENGTH_MAX < d → j < position_count self.old
+            → is_closed self.new d j ≡ is_closed self.old d j) }
         ensures err { OnErr result ((d j : ℕ) → j < position_count self.old
             → is_closed self.new d j ≡ is_closed self.old d j) }
     {
@@ -179,6 +177,41 @@ impl OpenDots {
         take_in_before(&mut self.bits, self.width);
         Ok(())
     }
+
+    /// The set of all positions.
+    pub fn all_positions(&self, alloc: Global) -> Result<PositionSet, AllocError>
+        ensures room { IfOk result (λ all. room_of all ≡ position_count self.now) }
+        ensures among { IfOk result (λ all. (i : ℕ) → i < position_count self.now
+            → is_among all i ≡ true) }
+    {
+        PositionSet::full(alloc, self.width)
+    }
+
+    /// Goes on to the next level. Each dot is open at those positions alone that were closed
+    /// altogether and are not kept closed. No dot is reached, and the memory of all rows but one is
+    /// given back.
+    pub fn next_level(&mut self, kept: &PositionSet)
+        requires room { room_of kept.now ≡ position_count self.old }
+        ensures positions { position_count self.new ≡ position_count self.old }
+        ensures none { self.new.reached ≡ 0 }
+        ensures closed { (d j : ℕ) → j < position_count self.old → is_closed self.new d j
+            ≡ (not (is_closed self.old (LENGTH_MAX + 1) j) || is_among kept.now j) }
+    {
+        self.bits.truncate(self.width);
+        self.bits.shrink_to_fit();
+        ask_for_rows(&mut self.bits, self.width);
+        turn_others(&mut self.bits, &kept.bits);
+        self.reached = 0;
+    }
+}
+
+/// Asks for room for the rows of all dots, so that no row is copied when the next one is added. What
+/// no row needs stays untouched. Where there is no such room, each row asks for its own.
+fn ask_for_rows(bits: &mut Vec<u64>, width: usize)
+    requires { width ≤ positions_limit }
+    ensures { bits.new.items ≡ bits.old.items }
+{
+    let _ = bits.reserve_exact(ROOM_AT_LEAST.max(width * DOTS));
 }
 
 /// Appends a copy of the first `width` numbers. It takes no more memory than they need.

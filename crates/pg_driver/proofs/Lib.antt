@@ -23,6 +23,7 @@ pub mod OpenCounted
 pub mod OpenCloses
 pub mod OpenFirst
 pub mod OpenKnown
+pub mod OpenNext
 pub mod OpenLevels
 pub mod CarriedTotals
 pub mod OpenTraces

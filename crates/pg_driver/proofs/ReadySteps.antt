@@ -22,9 +22,11 @@ use Rattle.pg_driver.specs.declared.counting.open_positions.OpenLevel.{OpenLevel
 use Rattle.pg_driver.specs.Accounts.{totals_by}
 use Rattle.pg_driver.specs.Inside.choices.Choosing.{no_choices, with_candidates}
 use Rattle.pg_driver.specs.Inside.counting.Counting.{HasRoom, IsBounded}
-use Rattle.pg_driver.specs.Inside.counting.LevelCounting.{ArePlaced, CanCarry, CanGoOn, Carries, GoesOnAfter, IsAfterPass, IsCounted, IsOpenAt, IsReady, TellsTotals}
+use Rattle.pg_driver.specs.Inside.counting.LevelCounting.{ArePlaced, CanCarry, CanGoOn, Carries, GoesOnAfter, HasEnded, HasEndedOpen, IsAfterPass, IsCounted, IsOpenAt, IsReady, TellsTotals}
 use Rattle.pg_dots.specs.Inside.Dots.{is_closed, position_count}
-use Rattle.pg_driver.specs.Inside.counting.OpenSigns.{IsLevelAt, is_open_first, open_word_positions, open_signs, sign_count, start_of}
+use Rattle.pg_dots.specs.Inside.Positions.{is_among, room_of}
+use Rattle.pg_dots.specs.declared.position_set.PositionSet.{PositionSet}
+use Rattle.pg_driver.specs.Inside.counting.OpenSigns.{AreNever, IsLevelAt, dot_of_no_pass, is_open_first, open_word_positions, open_signs, sign_count, start_of}
 use Rattle.pg_driver.specs.Inside.counting.OpenPositions.{counted_of}
 use Rattle.pg_driver.specs.Inside.records.Sound.{IsSmall}
 use Rattle.pg_driver.specs.Inside.records.RunAccounts.{known_of}
@@ -33,6 +35,8 @@ use Rattle.pg_driver.proofs.CarriedTotals.{carried_same, carried_small, carried_
 use Rattle.pg_driver.proofs.Numbers.{zero_plus}
 use Rattle.pg_driver.proofs.OpenCounted.{counted_there, few_there}
 use Rattle.pg_driver.proofs.OpenKnown.{there_after, there_first, there_longer, there_same}
+use Rattle.pg_driver.proofs.OpenNext.{next_open}
+use Rattle.pg_driver.proofs.OpenSigns.{sign_within}
 use Rattle.pg_driver.proofs.OpenTraces.{totals_on}
 use Rattle.pg_driver.proofs.Rooms.{room_none}
 use Rattle.pg_driver.proofs.WordLevels.{words_after, words_can_move, words_placed}
@@ -41,10 +45,13 @@ use Rattle.pg_driver.proofs.WordLevels.{words_after, words_can_move, words_place
 pub ready_at_start : (source : Source) (level len : ℕ) (m : Meaning) (o : OpenLevel) → m.hopeless ≡ [] → IsBelow level m.patterns → IsBounded source
     → sign_count source.words ≤ position_count o.dots → ((d n p : ℕ) (w : Word) → slice_get source.words n ≡ Some w → p < length w.signs
     → is_closed o.dots d (start_of source.words n + p) ≡ not (is_open_first source.minima level m.patterns w p))
+    → room_of o.never ≡ position_count o.dots → AreNever source.minima source.words (is_among o.never)
     → o.totals ≡ totals_by source m.patterns → IsOpenAt source level len (known_of m) o
-ready_at_start source level len m o none below bounded size are totals = record {
+ready_at_start source level len m o none below bounded size are room never totals = record {
   bounded = bounded;
   size = size;
+  room = room;
+  never = never;
   dots = subst (λ (H : Hopeless). IsLevelAt level len source.minima source.words m.patterns H (is_closed o.dots)) (sym none)
       (there_first level len source.minima source.words m.patterns (is_closed o.dots) below are);
   totals = totals;
@@ -69,25 +76,58 @@ module _ (source : Source) (level len : ℕ) (known : Knowledge) (o : OpenLevel)
   -- at the next length
   pub ready_longer : (p : OpenLevel) → position_count p.dots ≡ position_count o.dots
       → ((d j : ℕ) → d ≤ LENGTH_MAX → j < position_count o.dots → is_closed p.dots d j ≡ (is_closed o.dots d j || (nat_le 1 d && is_closed o.dots (d - 1) j)))
-      → p.totals ≡ o.totals → IsOpenAt source level (len + 1) known p
-  ready_longer p wide are totals = record {
+      → ((j : ℕ) → j < position_count o.dots → is_closed p.dots dot_of_no_pass j ≡ is_closed o.dots dot_of_no_pass j)
+      → p.never ≡ o.never → p.totals ≡ o.totals → IsOpenAt source level (len + 1) known p
+  ready_longer p wide are stay same totals = record {
     bounded = ready.bounded;
     size = (let size = ready.size in omega arith);
     dots = there_longer level len source.minima source.words known.patterns known.hopeless (is_closed o.dots) (is_closed p.dots)
-        (λ d s within low. are d s within (let size = ready.size in omega arith)) ready.dots;
+        (λ d s within low. are d s within (let size = ready.size in omega arith)) (λ s low. stay s (let size = ready.size in omega arith)) ready.dots;
+    room = ap room_of same ∙ ready.room ∙ sym wide;
+    never = subst (λ (s : PositionSet). AreNever source.minima source.words (is_among s)) (sym same) ready.never;
     totals = totals ∙ ready.totals;
   }
 
   -- where the same dots are closed
   pub ready_same : (p : OpenLevel) → position_count p.dots ≡ position_count o.dots → ((d j : ℕ) → j < position_count o.dots → is_closed p.dots d j ≡ is_closed o.dots d j)
-      → p.totals ≡ o.totals → IsOpenAt source level len known p
-  ready_same p wide are totals = record {
+      → p.never ≡ o.never → p.totals ≡ o.totals → IsOpenAt source level len known p
+  ready_same p wide are same totals = record {
     bounded = ready.bounded;
     size = (let size = ready.size in omega arith);
     dots = there_same level len source.minima source.words known.patterns known.hopeless (is_closed o.dots) (is_closed p.dots)
-        (λ d s within low. are d s (let size = ready.size in omega arith)) ready.dots;
+        (λ d s low. are d s (let size = ready.size in omega arith)) ready.dots;
+    room = ap room_of same ∙ ready.room ∙ sym wide;
+    never = subst (λ (s : PositionSet). AreNever source.minima source.words (is_among s)) (sym same) ready.never;
     totals = totals ∙ ready.totals;
   }
+
+-- at the end of a level
+pub has_ended : (source : Source) (level len : ℕ) (known : Knowledge) (c : WayToCount) → IsReady source level len known c → HasEnded source level known.patterns c
+has_ended source level len known (Open o) ready = record {
+  bounded = ready.bounded;
+  size = ready.size;
+  status = ready.dots.status;
+  room = ready.room;
+  never = ready.never;
+  totals = ready.totals;
+}
+has_ended source level len known (EachWord e) ready = tt
+
+-- where the next level begins
+pub ready_next : (source : Source) (level len : ℕ) (m : Meaning) (o p : OpenLevel) → 1 ≤ level → m.hopeless ≡ [] → IsBelow level m.patterns → HasEndedOpen source (level - 1) m.patterns o
+    → position_count p.dots ≡ position_count o.dots
+    → ((d j : ℕ) → j < position_count o.dots → is_closed p.dots d j ≡ (not (is_closed o.dots dot_of_no_pass j) || is_among o.never j))
+    → p.never ≡ o.never → p.totals ≡ o.totals → IsOpenAt source level len (known_of m) p
+ready_next source level len m o p some none below ended wide turned same totals =
+    ready_at_start source level len m p none below ended.bounded (let size = ended.size in omega arith)
+    (λ d n q w at low.
+    let s = start_of source.words n + q in
+    turned d s (let size = ended.size in let inside = sign_within source.words n q w at low in omega arith)
+    ∙ (λ i. not (ended.status n q w at low i) || ended.never n q w at low i)
+    ∙ next_open source.minima level m.patterns w q some)
+    (ap room_of same ∙ ended.room ∙ sym wide)
+    (subst (λ (s : PositionSet). AreNever source.minima source.words (is_among s)) (sym same) ended.never)
+    (totals ∙ ended.totals)
 
 -- totals that a ready way tells
 pub tells_totals : (source : Source) (level len : ℕ) (known : Knowledge) (P : Patterns) (c : WayToCount) → known.patterns ≡ P → IsCounted c → IsReady source level len known c → TellsTotals source P c
@@ -149,6 +189,8 @@ module _ (source : Source) (params : LevelParams) (known : Knowledge) (pass : Pa
       bounded = ready.bounded;
       size = (let size = ready.size in let wide = is.size in omega arith);
       dots = there_after params source.minima source.words pass known.patterns known.hopeless counts low counted (is_closed o.dots) (is_closed p.dots) is.dots ready.dots;
+      room = ap room_of is.never ∙ ready.room ∙ sym is.size;
+      never = subst (λ (s : PositionSet). AreNever source.minima source.words (is_among s)) (sym is.never) ready.never;
       totals = carried_same (is_odd pass.level) o.totals p.totals (totals_by source (known_after made).patterns) n.good n.bad is.totals carries;
     }
 

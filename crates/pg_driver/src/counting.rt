@@ -1,14 +1,15 @@
 //! The ways to count the windows of a level.
-ghost use Rattle.std.specs.Prelude.{◌≡◌, ◌≤◌, ◌<◌, ◌+◌, [], ℕ, length, IfOk, OnOk};
+ghost use Rattle.std.specs.Prelude.{◌≡◌, ◌≤◌, ◌<◌, ◌+◌, ◌-◌, [], ℕ, length, IfOk, OnOk};
 ghost use Rattle.pg_types.specs.Inside.counting.NumberedWindows.{AreNumbered};
 ghost use Rattle.pg_dict.specs.Inside.SoundWords.{SignsAtMost};
 ghost use Rattle.pg_select.specs.Inside.laws.Steps.{IsBelow};
 ghost use Rattle.pg_driver.specs.declared.pass_windows.TheConstants.{NO_NUMBER};
-ghost use Rattle.pg_driver.specs.Inside.counting.LevelCounting.{AreNumberedIn, ArePlaced, CanGoOn, DidCount, GoesOnAfter, IsCounted, IsOverOpen, IsReady, totals_in};
+ghost use Rattle.pg_driver.specs.Inside.counting.LevelCounting.{AreNumberedIn, ArePlaced, CanGoOn, DidCount, GoesOnAfter, HasEnded, IsCounted, IsOverOpen, IsReady, totals_in};
 ghost use Rattle.pg_driver.specs.Inside.level.PassWindows.{AreFates};
 ghost use Rattle.pg_driver.specs.Inside.level.States.{HasBegun, IsPass};
 ghost use Rattle.pg_driver.specs.Inside.records.RunAccounts.{known_of};
 ghost use Rattle.pg_driver.specs.Traces.{Knowledge, Source, source_of};
+ghost use Rattle.pg_patterns.specs.Values.{Patterns};
 
 mod above_positions;
 mod carried_totals;
@@ -34,37 +35,58 @@ use std::alloc::{AllocError, Global};
 /// How the windows of a level are counted.
 #[derive(Drop)]
 pub enum WayToCount {
-    /// At the open positions: no word is hyphenated after the level's start. It is exact where no
-    /// pattern has a value of the level or more then.
+    /// At the open positions: words are hyphenated at the start of the first such level alone. This
+    /// is exact where no pattern has a value of the level or more then.
     Open(OpenLevel),
     /// At the positions of each word, which is hyphenated in each pass, and at no other moment.
     EachWord(WordLevel),
 }
 
 impl WayToCount {
-    /// The way to count of a level that begins: over open positions, unless a starting pattern has
-    /// a value of the level or more. `greatest` is the greatest value of the starting patterns.
-    pub fn start<E: Engine>(
+    /// Before the first level: no position is open.
+    pub fn new(alloc: Global) -> WayToCount
+        ensures { (source : Source) (level : ℕ) (P : Patterns) → HasEnded source level P result }
+    {
+        WayToCount::EachWord(WordLevel::new(alloc))
+    }
+
+    /// Goes on to a level that begins: over open positions, unless a starting pattern has a value
+    /// of the level or more. `greatest` is the greatest value of the starting patterns.
+    ///
+    /// Where the level before was over open positions, those of the level follow from what is left
+    /// of them: a position with care counts at just one of two levels that follow one another. No
+    /// word is hyphenated then.
+    pub fn begin_level<E: Engine>(
+        &mut self,
         alloc: Global,
         engine: &E,
         dictionary: &Dictionary,
         table: &Table,
         level: u8,
         greatest: u8,
-    ) -> Result<WayToCount, AllocError>
+    ) -> Result<(), AllocError>
+        requires first { 1 ≤ level }
         requires signs { SignsAtMost (E.meaning engine.now).signs dictionary.now }
         requires hopeless { (E.meaning engine.now).hopeless ≡ [] }
         requires below { greatest < level → IsBelow level (E.meaning engine.now).patterns }
-        ensures ready { IfOk result (λ counting. (len : ℕ)
+        requires ended { HasEnded (source_of table.now dictionary.now) (level - 1)
+            (E.meaning engine.now).patterns self.old }
+        ensures ready { OnOk result ((len : ℕ)
             → IsReady (source_of table.now dictionary.now) level len
-            (known_of (E.meaning engine.now)) counting) }
-        ensures form { IfOk result (λ counting. greatest < level → IsOverOpen counting) }
+            (known_of (E.meaning engine.now)) self.new) }
+        ensures form { OnOk result (greatest < level → IsOverOpen self.new) }
     {
         if level <= greatest {
-            return Ok(WayToCount::EachWord(WordLevel::new(alloc)));
+            *self = WayToCount::EachWord(WordLevel::new(alloc));
+            return Ok(());
+        }
+        if let WayToCount::Open(open) = self {
+            open.dots.next_level(&open.never);
+            return Ok(());
         }
         let opened = open_level(engine, dictionary, table, level, alloc)?;
-        Ok(WayToCount::Open(opened))
+        *self = WayToCount::Open(opened);
+        Ok(())
     }
 
     /// Counts the windows of a pass that has begun, and gives the totals before it. Each position

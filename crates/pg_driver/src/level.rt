@@ -5,7 +5,7 @@ ghost use Rattle.pg_types.specs.Inside.Ranges.{IsLevel};
 ghost use Rattle.pg_dict.specs.Inside.SoundWords.{SignsAtMost};
 ghost use Rattle.pg_select.specs.Inside.laws.Steps.{IsBelow};
 ghost use Rattle.pg_driver.specs.Accounts.{totals_by};
-ghost use Rattle.pg_driver.specs.Inside.counting.LevelCounting.{IsCounted, IsReady, TellsTotals};
+ghost use Rattle.pg_driver.specs.Inside.counting.LevelCounting.{HasEnded, IsCounted, IsReady, TellsTotals};
 ghost use Rattle.pg_driver.specs.Inside.level.Levels.{AreRecorded, BeganAll, DidLevel, GoesOn, WillCount, all_made_by, point};
 ghost use Rattle.pg_driver.specs.Inside.records.Sound.{IsSmall, IsSoundPass};
 ghost use Rattle.pg_types.specs.Inside.Limits.{begun_before_pass, length_passes, level_passes};
@@ -209,6 +209,8 @@ fn run_lengths<E: Engine>(
     ensures ready { OnOk result
         (TellsTotals (source_of table.now dictionary.now) (E.meaning engine.new).patterns
         counting.new) }
+    ensures ended { OnOk result (HasEnded (source_of table.now dictionary.now) number
+        (E.meaning engine.new).patterns counting.new) }
     ensures signs { (E.meaning engine.new).signs ≡ (E.meaning engine.old).signs }
 {
     let mut skippable = Skippable::new();
@@ -233,7 +235,8 @@ fn run_lengths<E: Engine>(
 }
 
 /// Does a level: its passes, and then its end. Gives the totals at its end. `greatest` is the
-/// greatest value of the starting patterns. What `windows` holds does not matter.
+/// greatest value of the starting patterns, and `counting` is the way to count at the end of the
+/// level before. What `windows` holds does not matter.
 pub fn run_level<E: Engine>(
     alloc: Global,
     engine: &mut E,
@@ -242,6 +245,7 @@ pub fn run_level<E: Engine>(
     params: &LevelParams,
     number: u8,
     greatest: u8,
+    counting: &mut WayToCount,
     windows: &mut PassWindows,
     records: &mut Records,
 ) -> Result<Totals, AllocError>
@@ -253,6 +257,8 @@ pub fn run_level<E: Engine>(
     requires chosen { records.old.chosen ≡ 0 }
     requires signs { SignsAtMost (E.meaning engine.old).signs dictionary.now }
     requires below { greatest < number → IsBelow number (E.meaning engine.old).patterns }
+    requires ended { HasEnded (source_of table.now dictionary.now) (number - 1)
+        (E.meaning engine.old).patterns counting.old }
     ensures done { OnOk result (DidLevel (source_of table.now dictionary.now)
         (level_trace (source_of table.now dictionary.now)
         (E.meaning engine.old).patterns (number, params.now))
@@ -265,18 +271,13 @@ pub fn run_level<E: Engine>(
         (BeganAll (E.meaning engine.old) (E.meaning engine.new) records.old records.new) }
     ensures few { OnOk result (records.new.begun ≤ records.old.begun + level_passes) }
     ensures chosen { OnOk result (records.new.chosen ≡ 0) }
+    ensures ended { OnOk result (HasEnded (source_of table.now dictionary.now) number
+        (E.meaning engine.new).patterns counting.new) }
     ensures signs { (E.meaning engine.new).signs ≡ (E.meaning engine.old).signs }
 {
-    let mut counting = WayToCount::start(alloc, engine, dictionary, table, number, greatest)?;
+    counting.begin_level(alloc, engine, dictionary, table, number, greatest)?;
     run_lengths(
-        engine,
-        dictionary,
-        table,
-        params,
-        number,
-        &mut counting,
-        windows,
-        records,
+        engine, dictionary, table, params, number, counting, windows, records,
     )?;
     engine.end_level()?;
     let after = counting.totals();

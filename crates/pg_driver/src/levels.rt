@@ -10,6 +10,7 @@ ghost use Rattle.pg_types.specs.Inside.Limits.{begun_before_run, level_passes};
 ghost use Rattle.pg_driver.specs.Inside.records.RunAccounts.{TellsCells, account_from, account_of, begun_from, cells_from, families_from, patterns_from, run_from};
 ghost use Rattle.pg_driver.specs.Traces.{source_of};
 
+use crate::counting::WayToCount;
 use crate::level::run_level;
 use crate::pass_windows::PassWindows;
 use crate::records::Records;
@@ -50,6 +51,7 @@ fn run_levels<E: Engine>(
     let greatest = engine.copy_patterns(alloc)?.largest();
     let first = params.start();
     let count = params.count();
+    let mut counting = WayToCount::new(alloc);
     let mut windows = PassWindows::new(alloc);
     let mut last = None;
     'levels: for i in 0..count {
@@ -62,6 +64,7 @@ fn run_levels<E: Engine>(
             params.level(i),
             number,
             greatest,
+            &mut counting,
             &mut windows,
             records,
         )?;

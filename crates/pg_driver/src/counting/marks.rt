@@ -2,6 +2,7 @@
 ghost use Rattle.std.specs.Prelude.{ℕ, List, ◌≡◌, ◌≤◌, ◌+◌, ◌-◌, length};
 ghost use Rattle.pg_select.specs.CountedPositions.{counts_as as counts_as_of};
 ghost use Rattle.pg_select.specs.Windows.{fits as fits_in, window};
+ghost use Rattle.pg_driver.specs.Inside.counting.OpenSigns.{has_care as has_care_of};
 
 use pg_select::Pass;
 use pg_types::{Mark, Sign};
@@ -19,6 +20,13 @@ pub fn counts_as(level: u8, mark: Mark) -> Option<bool>
         Mark::Found if !finds => Some(false),
         _ => None,
     }
+}
+
+/// Whether a position of this status has care. It then counts at every other level.
+pub fn has_care(mark: Mark) -> bool
+    ensures { result ≡ has_care_of mark }
+{
+    !matches!(mark, Mark::DontCare)
 }
 
 /// Whether the window of a pass with its dot at position `p` of a word of `size` signs lies in the

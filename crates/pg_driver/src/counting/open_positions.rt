@@ -1,9 +1,10 @@
 //! The open positions of a level: those that count by their status, with their closed dots. The
-//! totals stand beside them.
+//! totals stand beside them, and the positions that count at no level.
 ghost use Rattle.std.specs.Prelude.{◌≡◌, ◌≤◌, ◌<◌, ◌+◌, ◌-◌, ◌==◌, ◌&&◌, ℕ, not, length, slice_get, Some, IfOk, OnOk, is_some};
 ghost use Rattle.pg_types.specs.Inside.counting.Counts.{SignsWithin};
 ghost use Rattle.pg_types.specs.Inside.Limits.{positions_limit};
 ghost use Rattle.pg_dots.specs.Inside.Dots.{is_closed, position_count};
+ghost use Rattle.pg_dots.specs.Inside.Positions.{is_among, room_of};
 ghost use Rattle.pg_translate.specs.Reach.{positions as positions_of};
 ghost use Rattle.pg_dict.specs.Word.{Word};
 ghost use Rattle.pg_dict.specs.Inside.SoundWords.{IsWord, SignsAtMost, letter_count};
@@ -12,23 +13,26 @@ ghost use Rattle.pg_select.specs.CountedPositions.{counts_as as counts_as_of, mi
 ghost use Rattle.pg_select.specs.Sums.{totals as totals_of_words, marks_in};
 ghost use Rattle.pg_select.specs.Inside.SumSteps.{with_marks, HasRoomFor, TookRoomFor};
 ghost use Rattle.pg_driver.specs.Inside.counting.Counting.{IsBounded};
-ghost use Rattle.pg_driver.specs.Inside.counting.OpenSigns.{is_open_first, sign_count, start_of};
+ghost use Rattle.pg_driver.specs.Inside.counting.OpenSigns.{has_care as has_care_of, is_open_first, sign_count, start_of, takes_part};
 ghost use Rattle.pg_driver.specs.Traces.{source_of};
 
-use crate::counting::marks::counts_as;
+use crate::counting::marks::{counts_as, has_care};
 use pg_dict::{Dictionary, WordRef};
-use pg_dots::OpenDots;
+use pg_dots::{OpenDots, PositionSet};
 use pg_select::marks::{add_mark, mark_at, no_totals, positions};
 use pg_select::{Engine, WordState};
 use pg_translate::Table;
 use pg_types::{Mark, Totals};
 use std::alloc::{AllocError, Global};
 
-/// The open positions of a level, and the totals, which are carried from pass to pass.
+/// The open positions of a level, and the totals. Both are carried from pass to pass, and from
+/// level to level.
 #[derive(Drop)]
 pub struct OpenLevel {
     /// Which dots are closed at each sign of the words, which are numbered through.
     pub dots: OpenDots,
+    /// The signs that count at no level: each that is out of reach or has no care.
+    pub never: PositionSet,
     /// The totals by the patterns as they are now.
     pub totals: Totals,
 }
@@ -47,9 +51,21 @@ fn open_by_status(level: u8, sign: usize, mark: Mark, dots: &mut OpenDots)
     }
 }
 
+/// Takes a position of this status out of those that count at no level, where it has care.
+fn note_care(sign: usize, mark: Mark, never: &mut PositionSet)
+    requires within { sign < room_of never.old }
+    ensures room { room_of never.new ≡ room_of never.old }
+    ensures among { (s : ℕ) → is_among never.new s
+        ≡ (not (s == sign && has_care_of mark) && is_among never.old s) }
+{
+    if has_care(mark) {
+        never.remove(sign);
+    }
+}
+
 /// Opens the positions of a word that count at a level, and adds all positions in reach to the
-/// totals. `before` signs of the dictionary stand before those of the word. What `found` holds does
-/// not matter.
+/// totals. Those with care are taken out of the positions that count at no level. `before` signs of
+/// the dictionary stand before those of the word. What `found` holds does not matter.
 fn open_word<E: Engine>(
     engine: &E,
     table: &Table,
@@ -65,12 +81,17 @@ fn open_word<E: Engine>(
     requires within { before + length w.now.signs.now ≤ position_count opened.old.dots }
     requires few { position_count opened.old.dots < positions_limit }
     requires none { opened.old.dots.reached ≡ 0 }
+    requires set_size { room_of opened.old.never ≡ position_count opened.old.dots }
     ensures size { position_count opened.new.dots ≡ position_count opened.old.dots }
     ensures none { opened.new.dots.reached ≡ 0 }
     ensures closed { (d s : ℕ) → s < position_count opened.old.dots → is_closed opened.new.dots d s
         ≡ (not (is_open_first (minima_of table.now) level
         (E.meaning engine.now).patterns (lent_word w.now)
         (s - before)) && is_closed opened.old.dots d s) }
+    ensures set_size { room_of opened.new.never ≡ position_count opened.old.dots }
+    ensures never { (s : ℕ) → s < position_count opened.old.dots → is_among opened.new.never s
+        ≡ (not (takes_part (minima_of table.now) (lent_word w.now) (s - before))
+        && is_among opened.old.never s) }
     ensures totals { opened.new.totals
         ≡ with_marks opened.old.totals
         (marks_in (minima_of table.now) (E.meaning engine.now).patterns
@@ -88,11 +109,12 @@ fn open_word<E: Engine>(
         let mark = mark_at(w, found, p);
         opened.totals = add_mark(opened.totals, mark, w.weights[p]);
         open_by_status(level, before + p, mark, &mut opened.dots);
+        note_care(before + p, mark, &mut opened.never);
     }
 }
 
 /// The positions that count at a level's start are open, and each dot of the others is closed. The
-/// totals stand beside them. Each word is hyphenated once.
+/// totals stand beside them, and the positions that count at no level. Each word is hyphenated once.
 pub fn open_level<E: Engine>(
     engine: &E,
     dictionary: &Dictionary,
@@ -106,6 +128,10 @@ pub fn open_level<E: Engine>(
         (λ opened. (d n p : ℕ) (w : Word) → slice_get dictionary.now n ≡ Some w
         → p < length w.signs → is_closed opened.dots d (start_of dictionary.now n + p)
         ≡ not (is_open_first (minima_of table.now) level (E.meaning engine.now).patterns w p)) }
+    ensures set_size { IfOk result (λ opened. room_of opened.never ≡ position_count opened.dots) }
+    ensures never { IfOk result (λ opened. (n p : ℕ) (w : Word) → slice_get dictionary.now n ≡ Some w
+        → p < length w.signs → is_among opened.never (start_of dictionary.now n + p)
+        ≡ not (takes_part (minima_of table.now) w p)) }
     ensures totals { IfOk result (λ opened. opened.totals
         ≡ totals_of_words (minima_of table.now) dictionary.now (E.meaning engine.now).patterns) }
     ensures bounded { OnOk result (IsBounded (source_of table.now dictionary.now)) }
@@ -113,9 +139,11 @@ pub fn open_level<E: Engine>(
     let count = dictionary.len();
     let signs = dictionary.all_signs();
     let dots = OpenDots::all_closed(alloc, signs.len())?;
+    let never = dots.all_positions(alloc)?;
     let mut found = WordState::new();
     let mut opened = OpenLevel {
         dots,
+        never,
         totals: no_totals(),
     };
     let mut before = 0;

@@ -5,7 +5,7 @@ use Rattle.pg_driver.specs.Inside.records.RunAccounts.{known_of}
 use Rattle.pg_driver.specs.Traces.{passes_of, source_of}
 use Rattle.pg_driver.specs.Inside.level.Passes.{known_at_end, passes_of_length}
 use Rattle.pg_driver.proofs.LevelSteps.{at_level_start, at_next, at_whole, lengths_from, lengths_step, no_lengths, reaches_on}
-use Rattle.pg_driver.proofs.ReadySteps.{tells_totals}
+use Rattle.pg_driver.proofs.ReadySteps.{has_ended, tells_totals}
 use Rattle.pg_driver.proofs.level.run_lengths.Goals as goal
 
 pub lengths-init : goal.lengths-init
@@ -96,6 +96,10 @@ returns-clause-ready g c =
     let some : c.args.params.now.pat_start < c.lengths.len = omega (arith, c.requires.level.start_high) in
     tells_totals (source_of c.args.table.now c.args.dictionary.now) c.args.number c.lengths.len (known_of m) m.patterns c.lengths.counting refl
     (c.lengths.invariant.counted some) c.lengths.invariant.ready
+
+pub returns-clause-ended : goal.returns-clause-ended
+returns-clause-ended g c =
+    has_ended (source_of c.args.table.now c.args.dictionary.now) c.args.number c.lengths.len (known_of (g.E.Engine.meaning c.lengths.engine)) c.lengths.counting c.lengths.invariant.ready
 
 pub run_length-requires-clause-level : goal.run_length-requires-clause-level
 run_length-requires-clause-level g c = c.requires.level

@@ -1,6 +1,8 @@
 use Rattle.std.proofs.Common.{sym, ap, subst, ◌∙◌, arith, refl}
 use Rattle.pg_select.specs.Inside.engine.Meanings.{Meaning}
+use Rattle.pg_patterns.specs.Values.{Patterns}
 use Rattle.pg_driver.specs.Accounts.{totals_by}
+use Rattle.pg_driver.specs.Inside.counting.LevelCounting.{HasEnded}
 use Rattle.pg_driver.specs.Inside.records.Sound.{IsSmall, RunRecords}
 use Rattle.pg_driver.specs.Traces.{source_of}
 use Rattle.pg_driver.proofs.RunSteps.{did_level}
@@ -61,10 +63,21 @@ pub run_lengths-requires-clause-signs : goal.run_lengths-requires-clause-signs
 run_lengths-requires-clause-signs g c = c.requires.signs
 
 pub run_lengths-requires-clause-ready : goal.run_lengths-requires-clause-ready
-run_lengths-requires-clause-ready g c = c.in_ok-counting.ensures.ready
+run_lengths-requires-clause-ready g c = c.in_ok-begin_level.ensures.ready
 
-pub returns-in_err-counting-clause-signs : goal.returns-in_err-counting-clause-signs
-returns-in_err-counting-clause-signs g c = refl
+pub begin_level-requires-clause-first : goal.begin_level-requires-clause-first
+begin_level-requires-clause-first g c = c.requires.number.0
+
+pub begin_level-requires-clause-ended : goal.begin_level-requires-clause-ended
+begin_level-requires-clause-ended g c = c.requires.ended
+
+pub returns-clause-ended : goal.returns-clause-ended
+returns-clause-ended g c =
+    subst (λ (P : Patterns). HasEnded (source_of c.args.table.now c.args.dictionary.now) c.args.number P c.run_lengths.new.counting)
+    (sym (ap (λ (x : Meaning). x.patterns) c.in_ok-end_level.ensures.ok)) c.in_ok-run_lengths.ensures.ended
+
+pub returns-in_err-begin_level-clause-signs : goal.returns-in_err-begin_level-clause-signs
+returns-in_err-begin_level-clause-signs g c = refl
 
 pub returns-in_err-run_lengths-clause-signs : goal.returns-in_err-run_lengths-clause-signs
 returns-in_err-run_lengths-clause-signs g c = c.run_lengths.ensures.signs

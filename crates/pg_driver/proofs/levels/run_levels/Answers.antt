@@ -7,6 +7,7 @@ use Rattle.pg_types.specs.declared.parameters.LevelParams.{LevelParams}
 use Rattle.pg_patterns.specs.Values.{largest}
 use Rattle.pg_select.specs.Inside.laws.Steps.{IsUpTo}
 use Rattle.pg_driver.specs.Accounts.{totals_by}
+use Rattle.pg_driver.specs.Inside.counting.LevelCounting.{HasEnded}
 use Rattle.pg_driver.specs.Inside.records.Sound.{IsSmall, RunRecords}
 use Rattle.pg_driver.specs.Inside.level.States.{State}
 use Rattle.pg_driver.specs.Inside.records.RunAccounts.{run_from}
@@ -28,6 +29,7 @@ levels-init g c =
             ∙ ap (λ (n : ℕ). enumerate_from n c.args.params.now.levels) c.start-first.ensures.value);
       };
       upto = up_to_starting c.largest-greatest.result (c.start-first.result + 0 - 1) m0.patterns (c.largest-greatest.ensures.value ∙ ap largest c.in_ok-copy_patterns.ensures);
+      ended = c.new-counting.ensures source (c.start-first.result + 0 - 1) m0.patterns;
       totals = tt;
       small = tt;
       signs = refl;
@@ -59,6 +61,7 @@ levels-preserved g c =
       upto =
           subst (λ (k : ℕ). IsUpTo (max greatest (k - 1)) n.patterns) on
           (up_to_next source c.level.result.now greatest (start + i) m.patterns n.patterns (ap (λ (s : State). s.known.patterns) c.in_ok-after.ensures.done.state) c.levels.invariant.upto);
+      ended = subst (λ (k : ℕ). HasEnded source k n.patterns c.run_level.new.counting) (let last : start + i ≡ start + (i + 1) - 1 = omega arith in last) c.in_ok-after.ensures.ended;
       totals = c.in_ok-after.ensures.totals;
       small = c.in_ok-after.ensures.small;
       signs = c.in_ok-after.ensures.signs ∙ c.levels.invariant.signs;
@@ -79,6 +82,9 @@ returns-in-Some-clause-run g c =
 pub run_level-requires-clause-below : goal.run_level-requires-clause-below
 run_level-requires-clause-below g c = λ low. below_level c.largest-greatest.result (c.start-first.result + c.levels.i)
     (g.E.Engine.meaning c.levels.engine).patterns c.levels.invariant.upto (omega (arith, c.start-first.ensures.low)) low
+
+pub run_level-requires-clause-ended : goal.run_level-requires-clause-ended
+run_level-requires-clause-ended g c = c.levels.invariant.ended
 
 pub returns-in-Some-clause-totals : goal.returns-in-Some-clause-totals
 returns-in-Some-clause-totals g c =

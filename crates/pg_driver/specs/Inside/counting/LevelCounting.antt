@@ -1,7 +1,7 @@
 -- How the windows of a level are counted: what its way to count knows before a pass, and what it
 -- makes of the choices after it.
 use Rattle.std.specs.Prelude.{◌≡◌, ℕ, ◌-◌, ◌≤◌, ◌<◌, Bool, true, List, length, All, MatchBool}
-use Rattle.pg_types.specs.declared.limits.TheConstants.{FILE_MAX, LENGTH_MAX}
+use Rattle.pg_types.specs.declared.limits.TheConstants.{FILE_MAX}
 use Rattle.pg_types.specs.declared.marks.Totals.{Totals}
 use Rattle.pg_types.specs.declared.parameters.LevelParams.{LevelParams}
 use Rattle.pg_types.specs.Inside.counting.Counts.{Counts}
@@ -20,8 +20,9 @@ use Rattle.pg_driver.specs.declared.counting.word_level.WordLevel.{WordLevel}
 use Rattle.pg_driver.specs.declared.counting.above_positions.ChosenWeights.{ChosenWeights}
 use Rattle.pg_driver.specs.Accounts.{totals_by}
 use Rattle.pg_dots.specs.Inside.Dots.{is_closed, position_count}
+use Rattle.pg_dots.specs.Inside.Positions.{is_among, room_of}
 use Rattle.pg_driver.specs.Inside.counting.Counting.{HasRoom, IsBounded, meaning_after_counting}
-use Rattle.pg_driver.specs.Inside.counting.OpenSigns.{IsLevelAt, closed_at_sign, open_word_positions, sign_count}
+use Rattle.pg_driver.specs.Inside.counting.OpenSigns.{AreNever, IsLevelAt, TellsStatus, closed_at_sign, open_word_positions, sign_count}
 use Rattle.pg_driver.specs.Inside.counting.OpenPositions.{IsPlaced}
 use Rattle.pg_driver.specs.Inside.level.PassWindows.{HaveNumbers, counts_at, is_counted_at}
 use Rattle.pg_driver.specs.Inside.records.Sound.{IsSmall}
@@ -46,14 +47,30 @@ pub record IsOpenAt (source : Source) (level len : ℕ)
   pub size : sign_count source.words ≤ position_count o.dots
   pub dots : IsLevelAt level len source.minima source.words known.patterns known.hopeless
       (is_closed o.dots)
+  pub room : room_of o.never ≡ position_count o.dots
+  pub never : AreNever source.minima source.words (is_among o.never)
   pub totals : o.totals ≡ totals_by source known.patterns
+
+-- what is known of open positions at the end of a level, where these are the patterns
+pub record HasEndedOpen (source : Source) (level : ℕ) (P : Patterns) (o : OpenLevel) : Type 0 where
+  pub bounded : IsBounded source
+  pub size : sign_count source.words ≤ position_count o.dots
+  pub status : TellsStatus level source.minima source.words P (is_closed o.dots)
+  pub room : room_of o.never ≡ position_count o.dots
+  pub never : AreNever source.minima source.words (is_among o.never)
+  pub totals : o.totals ≡ totals_by source P
+
+-- a level has ended, or none has begun
+abbrev pub HasEnded : Source → ℕ → Patterns → WayToCount → Type 0
+HasEnded source level P (Open o) = HasEndedOpen source level P o
+HasEnded source level P (EachWord e) = Unit {0}
 
 -- a way to count is ready for the passes of a length
 abbrev pub IsReady : Source → ℕ → ℕ → Knowledge → WayToCount → Type 0
 IsReady source level len known (Open o) = IsOpenAt source level len known o
 IsReady source level len known (EachWord e) = IsWordsAt source level known e
 
--- windows are counted at open positions, so no word is hyphenated after the level's start
+-- windows are counted at open positions, so no word is hyphenated in a pass
 abbrev pub IsOverOpen : WayToCount → Type 0
 IsOverOpen (Open o) = Unit {0}
 IsOverOpen (EachWord e) = ⊥
@@ -121,8 +138,9 @@ CanGoOn params pass counts words n (EachWord e) =
 pub record IsAfterPass (params : LevelParams) (pass : Pass)
     (counts : Counts) (words : List Word) (n : Choices) (old new : OpenLevel) : Type 0 where
   pub size : position_count new.dots ≡ position_count old.dots
-  pub dots : (d s : ℕ) → d ≤ LENGTH_MAX → s < sign_count words
+  pub dots : (d s : ℕ) → s < sign_count words
       → is_closed new.dots d s ≡ closed_at_sign params pass counts words (is_closed old.dots) d s
+  pub never : new.never ≡ old.never
   pub totals : Carries (is_odd pass.level) old.totals new.totals n.good n.bad
 
 -- what the choices of a pass make where words are hyphenated: totals go on, listed positions stay

@@ -1,9 +1,11 @@
 -- The open positions of a level as the signs of all words, numbered through: at which of them a dot
 -- is open, and what is known of that.
-use Rattle.std.specs.Prelude.{◌≡◌, ℕ, zero, suc, ◌+◌, ◌-◌, ◌<◌, ◌≤◌, nat_lt, nat_eq, Bool, true, false, not, ◌&&◌, ◌||◌, if◌then◌else◌, List, [], ◌∷◌, length, map, filter, slice_get, is_some, Option, None, Some}
+use Rattle.std.specs.Prelude.{◌≡◌, ℕ, zero, suc, ◌+◌, ◌-◌, ◌<◌, ◌≤◌, nat_lt, nat_eq, Bool, true, false, not, ◌&&◌, ◌||◌, if◌then◌else◌, List, [], ◌∷◌, length, map, filter, slice_get, slice_index_or, is_some, Option, None, Some}
 use Rattle.std.specs.List.{list_any, range_with_len}
 use Rattle.std.specs.Option.{option_map_or}
 use Rattle.pg_types.specs.declared.limits.TheConstants.{LENGTH_MAX}
+use Rattle.pg_types.specs.declared.marks.Mark.{Mark}
+use Rattle.pg_types.specs.declared.marks.Mark.TheVariants.{DontCare}
 use Rattle.pg_types.specs.declared.parameters.LevelParams.{LevelParams}
 use Rattle.pg_types.specs.Inside.counting.Counts.{Counts, counted_sums}
 use Rattle.pg_translate.specs.Reach.{positions}
@@ -55,19 +57,45 @@ is_in_reach m w p = list_any (nat_eq p) (positions m.left m.right (length w.sign
 abbrev pub is_open_first : Minima → ℕ → Patterns → Word → ℕ → Bool
 is_open_first m level P w p = is_in_reach m w p && is_some (counts_as level (status_at P w p))
 
+-- a position of this status has care
+abbrev pub has_care : Mark → Bool
+has_care DontCare = false
+has_care other = true
+
+-- a position counts at some level, and so at every other one: it is in reach and has care
+abbrev pub takes_part : Minima → Word → ℕ → Bool
+takes_part m w p = is_in_reach m w p && slice_index_or w.cares p true
+
+-- a dot that is greater than those of all passes
+abbrev pub dot_of_no_pass : ℕ
+dot_of_no_pass = LENGTH_MAX + 1
+
+-- the dot of no pass is closed where a position does not count at the level by its status now
+abbrev pub TellsStatus : ℕ → Minima → List Word → Patterns → (ℕ → ℕ → Bool) → Type 0
+TellsStatus level m words P closed = (n p : ℕ) (w : Word)
+    → slice_get words n ≡ Some w → p < length w.signs
+    → closed dot_of_no_pass (start_of words n + p) ≡ not (is_open_first m level P w p)
+
+-- of the signs of words those are in the set that count at no level
+abbrev pub AreNever : Minima → List Word → (ℕ → Bool) → Type 0
+AreNever m words among = (n p : ℕ) (w : Word) → slice_get words n ≡ Some w → p < length w.signs
+    → among (start_of words n + p) ≡ not (takes_part m w p)
+
 -- at a length the closed dots of a position tell what counts there; out of reach all are closed
 pub record DotsTell (level len : ℕ) (m : Minima) (P : Patterns) (H : Hopeless) (w : Word) (p : ℕ)
     (closed : ℕ → Bool) : Type 0 where
   pub inside : is_in_reach m w p ≡ true → Tells level len P H w p closed
   pub outside : is_in_reach m w p ≡ false → (d : ℕ) → d ≤ LENGTH_MAX → closed d ≡ true
 
--- how far a level is: no string that covers is longer than the length, and no value above the level
+-- how far a level is: no string that covers is longer than the length, no value above the level, and
+-- closed dots tell what counts, in passes of the length and by the status
 pub record IsLevelAt (level len : ℕ) (m : Minima) (words : List Word) (P : Patterns) (H : Hopeless)
     (closed : ℕ → ℕ → Bool) : Type 0 where
   pub short : CoversUpTo level len P H
   pub upto : IsUpTo level P
   pub known : (n p : ℕ) (w : Word) → slice_get words n ≡ Some w → p < length w.signs
       → DotsTell level len m P H w p (λ d. closed d (start_of words n + p))
+  pub status : TellsStatus level m words P closed
 
 -- the closed dots of an open position, by what became of its window. A dot whose window does not
 -- fit is closed too

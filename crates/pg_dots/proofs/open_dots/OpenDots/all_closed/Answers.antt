@@ -8,7 +8,7 @@ pub returns-clause-closed : goal.returns-clause-closed
 unfolding is_closed
 returns-clause-closed c = λ dot i within.
     let width = c.args.size / 64 + 1 in
-    let items : c.reserve_exact.new.self.items ≡ replicate width (2 ^ 64 - 1) = c.reserve_exact.ensures.items ∙ search rules in
+    let items : c.ask_for_rows.new.bits.items ≡ replicate width (2 ^ 64 - 1) = c.ask_for_rows.ensures ∙ search rules in
     ap (λ bits. has_bit bits (row_of 0 dot * (64 * width) + i)) items
     ∙ full_bit width (row_of 0 dot * (64 * width) + i) (let row = row_beyond 0 dot (omega arith) in let none : row_of 0 dot * (64 * width)
     ≡ 0 * (64 * width) = ap (λ r. r * (64 * width)) row in omega arith)

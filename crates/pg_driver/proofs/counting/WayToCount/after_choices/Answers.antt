@@ -1,4 +1,4 @@
-use Rattle.std.proofs.Common.{◌≡◌, ◌<◌, ℕ, List, Bool, length, sym, ap, subst}
+use Rattle.std.proofs.Common.{◌≡◌, ◌<◌, ℕ, List, Bool, length, refl, sym, ap, subst}
 use Rattle.pg_dots.specs.Inside.Dots.{is_closed}
 use Rattle.pg_select.specs.declared.choice.Choice.{Choice}
 use Rattle.pg_driver.specs.declared.counting.WayToCount.{WayToCount}
@@ -27,10 +27,11 @@ returns-in-Open g c =
     let there = subst (λ (n : ℕ). ClosesBy after pass.dot c.deref.result.now old (open_signs (old pass.dot) 0 n) c.deref-in-Open.result.now) (sym end)
     (subst (λ (xs : List ℕ). ClosesBy after pass.dot c.deref.result.now old (open_signs (old pass.dot) 0 (sign_count words)) xs) (sym c.deref-in-Open.ensures.value)
     (subst (λ (xs : List Choice). ClosesBy after pass.dot xs old (open_signs (old pass.dot) 0 (sign_count words)) ns) (sym c.deref.ensures.value) closes)) in
-    let p : OpenLevel = record { dots = c.close_dots.new.dots; totals = c.totals_after-open.result } in
+    let p : OpenLevel = record { dots = c.close_dots.new.dots; never = o.never; totals = c.totals_after-open.result } in
     subst (λ (s : WayToCount). GoesOnAfter params pass m.counts words c.args.choices s (Open p)) (sym c.in-Open.is)
     (record {
       size = c.close_dots.ensures.size;
-      dots = λ d s within low. c.close_dots.ensures.closed after there d s (subst (λ (n : ℕ). s < n) (sym end) low);
+      dots = λ d s low. c.close_dots.ensures.closed after there d s (subst (λ (n : ℕ). s < n) (sym end) low);
+      never = refl;
       totals = c.totals_after-open.ensures;
     })

@@ -22,10 +22,10 @@ count_open-requires-clause-room g c =
     let source = source_of c.args.table.now c.args.dictionary.now in
     let pass = c.args.pass in
     let o = c.in-Open.open in
-    let p : OpenLevel = record { dots = c.reach.new.self; totals = o.totals } in
+    let p : OpenLevel = record { dots = c.reach.new.self; never = o.never; totals = o.totals } in
     let ready : IsOpenAt source pass.level pass.len (known_of m) o = subst (IsReady source pass.level pass.len (known_of m)) c.in-Open.is c.requires.ready in
     let now : IsOpenAt source pass.level pass.len (known_of m) p = ready_same source pass.level pass.len
-    (known_of m) o ready p c.in_ok-reach-in-Open.ensures.positions c.in_ok-reach-in-Open.ensures.closed refl in
+    (known_of m) o ready p c.in_ok-reach-in-Open.ensures.positions c.in_ok-reach-in-Open.ensures.closed refl refl in
     has_room source pass.level pass.len (known_of m) p now m.counts pass.dot c.requires.begun.fresh c.requires.begun.ranges.len_high c.requires.begun.ranges.within
 
 pub returns-in_ok-count_open-in-Open-clause-did : goal.returns-in_ok-count_open-in-Open-clause-did
@@ -34,10 +34,10 @@ returns-in_ok-count_open-in-Open-clause-did g c =
     let source = source_of c.args.table.now c.args.dictionary.now in
     let pass = c.args.pass in
     let o = c.in-Open.open in
-    let p : OpenLevel = record { dots = c.reach.new.self; totals = o.totals } in
+    let p : OpenLevel = record { dots = c.reach.new.self; never = o.never; totals = o.totals } in
     let ready : IsOpenAt source pass.level pass.len (known_of m) o = subst (IsReady source pass.level pass.len (known_of m)) c.in-Open.is c.requires.ready in
     let now : IsOpenAt source pass.level pass.len (known_of m) p = ready_same source pass.level pass.len
-    (known_of m) o ready p c.in_ok-reach-in-Open.ensures.positions c.in_ok-reach-in-Open.ensures.closed refl in
+    (known_of m) o ready p c.in_ok-reach-in-Open.ensures.positions c.in_ok-reach-in-Open.ensures.closed refl refl in
     record {
       counts = c.in_ok-count_open-in-Open.ensures.ok ∙ ap (meaning_after_counting m)
           (counts_all source pass.level pass.len (known_of m) p now pass.dot c.requires.begun.ranges.len_high c.requires.begun.ranges.within);
@@ -52,9 +52,9 @@ returns-in_ok-count_open-in-Open-clause-ready g c =
     let source = source_of c.args.table.now c.args.dictionary.now in
     let pass = c.args.pass in
     let o = c.in-Open.open in
-    let p : OpenLevel = record { dots = c.reach.new.self; totals = o.totals } in
+    let p : OpenLevel = record { dots = c.reach.new.self; never = o.never; totals = o.totals } in
     let ready : IsOpenAt source pass.level pass.len known o = subst (IsReady source pass.level pass.len known) c.in-Open.is c.requires.ready in
-    ready_same source pass.level pass.len known o ready p c.in_ok-reach-in-Open.ensures.positions c.in_ok-reach-in-Open.ensures.closed refl
+    ready_same source pass.level pass.len known o ready p c.in_ok-reach-in-Open.ensures.positions c.in_ok-reach-in-Open.ensures.closed refl refl
 
 pub returns-in_ok-count_open-in-Open-clause-counted : goal.returns-in_ok-count_open-in-Open-clause-counted
 returns-in_ok-count_open-in-Open-clause-counted g c = tt

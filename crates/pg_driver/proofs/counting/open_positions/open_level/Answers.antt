@@ -3,14 +3,15 @@ use Rattle.std.specs.List.{flat_map}
 use Rattle.std.proofs.lemmas.Bool.{cases_lt}
 use Rattle.std.proofs.lemmas.Option.{slice_get_within}
 use Rattle.pg_dots.specs.Inside.Dots.{is_closed, position_count}
+use Rattle.pg_dots.specs.Inside.Positions.{is_among}
 use Rattle.pg_dict.specs.Inside.Lent.{lent_word}
 use Rattle.pg_select.specs.CountedPositions.{minima_of}
 use Rattle.pg_dict.specs.Word.{Word}
 use Rattle.pg_select.specs.Sums.{marks_in}
 use Rattle.pg_select.specs.Inside.SumSteps.{with_marks}
 use Rattle.pg_select.proofs.MarkSteps.{marks_word}
-use Rattle.pg_driver.specs.Inside.counting.OpenSigns.{is_open_first, start_of}
-use Rattle.pg_driver.proofs.OpenFirst.{opens_before, opens_behind}
+use Rattle.pg_driver.specs.Inside.counting.OpenSigns.{is_open_first, start_of, takes_part}
+use Rattle.pg_driver.proofs.OpenFirst.{cares_in, counts_in, opens_before, opens_behind}
 use Rattle.pg_driver.proofs.OpenSigns.{sign_within, signs_few, start_before, start_next, start_past, start_zero}
 use Rattle.pg_driver.proofs.WordSteps.{all_reached, drop_place, letters_left, reached_on, signs_within}
 use Rattle.pg_driver.proofs.counting.open_positions.open_level.Goals as goal
@@ -38,6 +39,7 @@ words-preserved g c =
     let wide : position_count c.open_word.new.opened.dots ≡ position_count before.dots = c.open_word.ensures.size in
     let dots : (d s : ℕ) → s < position_count before.dots → is_closed c.open_word.new.opened.dots d s
     ≡ (not (is_open_first minima c.args.level P w (s - start)) && is_closed before.dots d s) = c.open_word.ensures.closed in
+    let never : (s : ℕ) → s < position_count before.dots → is_among c.open_word.new.opened.never s ≡ (not (takes_part minima w (s - start)) && is_among before.never s) = c.open_word.ensures.never in
     record {
       size = omega (arith, inv.size);
       few = omega (arith, inv.few);
@@ -49,7 +51,7 @@ words-preserved g c =
           elim (cases_lt n c.words.i) [
             | inl earlier ↦
                 dots d s lies
-                ∙ opens_before minima c.args.level P w start s (is_closed before.dots d s) (omega (arith, start_before words n c.words.i v at earlier, inv.starts))
+                ∙ opens_before minima w (counts_in c.args.level P w) start s (is_closed before.dots d s) (omega (arith, start_before words n c.words.i v at earlier, inv.starts))
                 ∙ inv.before d n p v earlier at inside
             | inr from ↦
                 let here : n ≡ c.words.i = omega arith in
@@ -64,7 +66,30 @@ words-preserved g c =
           ];
       later = λ d s from low.
           let lies : s < position_count before.dots = omega arith in
-          dots d s lies ∙ opens_behind minima c.args.level P w (s - start) (is_closed before.dots d s) (omega arith) ∙ inv.later d s (omega arith) lies;
+          dots d s lies ∙ opens_behind minima w (counts_in c.args.level P w) (s - start) (is_closed before.dots d s) (omega arith) ∙ inv.later d s (omega arith) lies;
+      room = c.open_word.ensures.set_size ∙ sym wide;
+      never_before = λ n p v low at inside.
+          let s = start_of words n + p in
+          let lies : s < position_count before.dots = omega (arith, sign_within words n p v at inside, inv.size) in
+          elim (cases_lt n c.words.i) [
+            | inl earlier ↦
+                never s lies
+                ∙ opens_before minima w (cares_in w) start s (is_among before.never s) (omega (arith, start_before words n c.words.i v at earlier, inv.starts))
+                ∙ inv.never_before n p v earlier at inside
+            | inr from ↦
+                let here : n ≡ c.words.i = omega arith in
+                let both : Some v ≡ Some w = sym at ∙ ap (slice_get words) here ∙ lent in
+                let same : w ≡ v = cc in
+                let place : s - start ≡ p = (let begins = ap (start_of words) here in omega (arith, inv.starts)) in
+                let behind : start ≤ s = (let begins = ap (start_of words) here in omega (arith, inv.starts)) in
+                never s lies
+                ∙ ap (λ b. not (takes_part minima w (s - start)) && b) (inv.never_later s behind lies)
+                ∙ all_true (not (takes_part minima w (s - start)))
+                ∙ (λ k. not (takes_part minima (same k) (place k)))
+          ];
+      never_later = λ s from low.
+          let lies : s < position_count before.dots = omega arith in
+          never s lies ∙ opens_behind minima w (cares_in w) (s - start) (is_among before.never s) (omega arith) ∙ inv.never_later s (omega arith) lies;
       sums = marks_word before.totals _ _ minima P w (drop (c.words.i + 1) words) c.open_word.ensures.totals
           (ap (λ (ws : List Word). with_marks before.totals (flat_map (marks_in minima P) ws)) (sym (drop_place words c.words.i w lent)) ∙ inv.sums);
       reached = reached_on minima words c.words.i w lent c.open_word.ensures.reached inv.reached;
@@ -87,6 +112,9 @@ words-init g c =
       starts = start_zero c.args.dictionary.now;
       before = λ d n p w low at inside. absurd (omega arith);
       later = λ d s from low. c.in_ok-dots.ensures.closed d s low;
+      room = c.in_ok-never.ensures.room;
+      never_before = λ n p w low at inside. absurd (omega arith);
+      never_later = λ s from low. c.in_ok-never.ensures.among s low;
       sums = search rules;
       reached = omega arith;
       room_for = search rules;
@@ -111,6 +139,16 @@ returns-clause-bounded g c = record {
   few = record { each = c.len-count.ensures.words; letters = c.len-count.ensures.letters };
   reached = all_reached (minima_of c.args.table.now) c.args.dictionary.now c.words.i (omega (arith, c.words-test.false, c.len-count.ensures.len)) c.words.invariant.reached;
 }
+
+pub open_word-requires-clause-set_size : goal.open_word-requires-clause-set_size
+open_word-requires-clause-set_size g c = c.words.invariant.room
+
+pub returns-clause-set_size : goal.returns-clause-set_size
+returns-clause-set_size g c = c.words.invariant.room
+
+pub returns-clause-never : goal.returns-clause-never
+returns-clause-never g c = λ n p w at low. c.words.invariant.never_before n p w (let within = slice_get_within c.args.dictionary.now n w at in
+    omega (arith, c.words-test.false, c.len-count.ensures.len)) at low
 
 pub returns-clause-closed : goal.returns-clause-closed
 returns-clause-closed g c = λ d n p w at low. c.words.invariant.before d n p w (let within = slice_get_within c.args.dictionary.now n w at in

@@ -5,12 +5,14 @@ use Rattle.pg_types.specs.declared.marks.Mark.{Mark}
 use Rattle.pg_dict.specs.Inside.SoundWords.{letter_count}
 use Rattle.pg_dict.specs.Inside.Lent.{lent_word}
 use Rattle.pg_dots.specs.Inside.Dots.{is_closed}
+use Rattle.pg_dots.specs.Inside.Positions.{is_among}
 use Rattle.pg_select.specs.CountedPositions.{counts_as, minima_of}
 use Rattle.pg_select.specs.Statuses.{status, status_at, position_weight}
 use Rattle.pg_select.specs.Inside.SumSteps.{with_mark, with_marks, sum_of}
 use Rattle.pg_patterns.specs.Values.{value_at}
 use Rattle.pg_select.proofs.MarkSteps.{marks_step, mark_took, weight_small}
-use Rattle.pg_driver.proofs.OpenFirst.{opens_first, opens_last, opens_next}
+use Rattle.pg_driver.specs.Inside.counting.OpenSigns.{has_care}
+use Rattle.pg_driver.proofs.OpenFirst.{care_is, cares_in, counts_in, opens_first, opens_last, opens_next}
 use Rattle.pg_driver.proofs.WordSteps.{reach_few}
 use Rattle.pg_driver.proofs.counting.open_positions.open_word.Goals as goal
 
@@ -37,8 +39,15 @@ positions-preserved g c =
           let s0 = c.args.before in
           c.open_by_status.ensures.closed d s (omega (arith, c.positions.invariant.size))
           ∙ ap (λ b. not (nat_eq s (s0 + p) && is_some (counts_as c.args.level c.mark_at-mark.result)) && b) (c.positions.invariant.dots d s low)
-          ∙ opens_next m c.args.level P w c.in-Some.first c.in-Some.end c.in-Some.ensures.some s0 p s (is_some (counts_as c.args.level c.mark_at-mark.result))
+          ∙ opens_next m w (counts_in c.args.level P w) c.in-Some.first c.in-Some.end c.in-Some.ensures.some s0 p s (is_some (counts_as c.args.level c.mark_at-mark.result))
           (is_closed c.args.opened.now.dots d s) (omega (arith, c.positions.auto)) c.positions-test.true (ap (λ (x : Mark). is_some (counts_as c.args.level x)) mark);
+      room = c.note_care.ensures.room ∙ c.positions.invariant.room;
+      never = λ s low.
+          let s0 = c.args.before in
+          c.note_care.ensures.among s
+          ∙ ap (λ b. not (nat_eq s (s0 + p) && has_care c.mark_at-mark.result) && b) (c.positions.invariant.never s low)
+          ∙ opens_next m w (cares_in w) c.in-Some.first c.in-Some.end c.in-Some.ensures.some s0 p s (has_care c.mark_at-mark.result) (is_among c.args.opened.now.never s) (omega (arith, c.positions.auto))
+          c.positions-test.true (ap has_care mark ∙ care_is P w p);
       sums = marks_step before.totals _ _ P w p c.in-Some.end c.positions-test.true sums c.positions.invariant.sums;
       few = omega arith;
       took_for = omega (arith, c.positions.invariant.took_for);
@@ -53,7 +62,9 @@ positions-init g c =
     record {
       size = refl;
       none = c.requires.none;
-      dots = λ d s low. opens_first m c.args.level P w c.in-Some.first c.in-Some.end c.in-Some.ensures.some c.args.before s (is_closed c.args.opened.now.dots d s);
+      dots = λ d s low. opens_first m w (counts_in c.args.level P w) c.in-Some.first c.in-Some.end c.in-Some.ensures.some c.args.before s (is_closed c.args.opened.now.dots d s);
+      room = c.requires.set_size;
+      never = λ s low. opens_first m w (cares_in w) c.in-Some.first c.in-Some.end c.in-Some.ensures.some c.args.before s (is_among c.args.opened.now.never s);
       sums = ap (λ (ps : List ℕ). with_marks c.args.opened.now.totals (map
           (λ (q : ℕ). (status (slice_index_or w.hyphens q false) (slice_index_or w.cares q true) (value_at P w.signs q), position_weight w q)) ps)) (sym c.in-Some.ensures.some);
       few = omega arith;
@@ -69,5 +80,16 @@ returns-clause-closed g c = λ d s low.
     let w = lent_word c.args.w.now in
     let m = minima_of c.args.table.now in
     c.positions.invariant.dots d s low
-    ∙ opens_last m c.args.level P w c.in-Some.first c.in-Some.end c.in-Some.ensures.some c.args.before c.positions.p s (is_closed c.args.opened.now.dots d s)
+    ∙ opens_last m w (counts_in c.args.level P w) c.in-Some.first c.in-Some.end c.in-Some.ensures.some c.args.before c.positions.p s (is_closed c.args.opened.now.dots d s)
     (omega (arith, c.positions.auto)) (omega (arith, c.positions-test.false))
+
+pub returns-clause-never : goal.returns-clause-never
+returns-clause-never g c = λ s low.
+    let w = lent_word c.args.w.now in
+    let m = minima_of c.args.table.now in
+    c.positions.invariant.never s low
+    ∙ opens_last m w (cares_in w) c.in-Some.first c.in-Some.end c.in-Some.ensures.some c.args.before c.positions.p s (is_among c.args.opened.now.never s)
+    (omega (arith, c.positions.auto)) (omega (arith, c.positions-test.false))
+
+pub note_care-requires : goal.note_care-requires
+note_care-requires g c = omega (arith, c.positions-test.true, c.in-Some.ensures.within, c.requires.within, c.positions.invariant.room)
