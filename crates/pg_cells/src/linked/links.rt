@@ -1,12 +1,12 @@
 //! The links from sign to sign of a family. A family's signs are linked in rising order: the string
 //! that they follow has the first one, and each has the next.
-ghost use Rattle.std.specs.Prelude.{◌≡◌, ◌≢◌, ℕ, ◌<◌, ◌≤◌, ◌⊎◌, ◌&&◌, nat_eq, true, false, length, List, [], ◌∷◌, ◌++◌, Some, None, OnOk, slice_index};
+ghost use Rattle.std.specs.Prelude.{◌≡◌, ◌≢◌, ℕ, ◌<◌, ◌≤◌, ◌⊎◌, ◌&&◌, nat_eq, true, false, List, [], ◌∷◌, ◌++◌, Some, None, OnOk};
 ghost use Rattle.pg_types.specs.Inside.Placing.{cell_of, joins_at};
 ghost use Rattle.pg_cells.specs.declared.store.cell.TheConstants.{SIGN_COUNT};
 ghost use Rattle.pg_cells.specs.Inside.linked.AreValuedFamilies.{AreValuedFamilies};
-ghost use Rattle.pg_cells.specs.Inside.linked.CellValues.{IsTaken};
-ghost use Rattle.pg_cells.specs.Inside.linked.Members.{IsNextSign, IsBefore, goes_on, has_sign, ArePassing};
-ghost use Rattle.pg_cells.specs.Inside.linked.Links.{AreLinks, HasBase, with_link};
+ghost use Rattle.pg_cells.specs.Inside.linked.CellValues.{HasBase, IsTableSign, IsTaken};
+ghost use Rattle.pg_cells.specs.Inside.linked.Members.{IsNextSign, IsBefore, goes_on, has_sign, ArePassing, ArePositive};
+ghost use Rattle.pg_cells.specs.Inside.linked.Links.{AreLinks, with_link};
 
 use crate::families::Placed;
 use crate::store::member::Member;
@@ -44,7 +44,7 @@ pub fn sign_after<V: Copy, const FEW: usize>(
 fn has_sign<V: Copy, const FEW: usize>(cells: &Placed<V, FEW>, base: usize, s: Sign) -> bool
     requires held { AreValuedFamilies cells.now }
     requires base { (q : List ℕ) × (HasBase cells.now.families q base) }
-    requires sign { (1 ≤ s) × (s ≤ cells.now.signs) }
+    requires sign { IsTableSign cells.now.signs s }
     ensures { (q : List ℕ) → HasBase cells.now.families q base →
         result ≡ goes_on cells.now.values q s }
 {
@@ -98,7 +98,7 @@ pub fn sign_before<V: Copy, const FEW: usize>(
     requires links { AreLinks cells.now }
     requires parent { (q : List ℕ) × ((cell_of cells.now.families q ≡ Some parent)
         × (HasBase cells.now.families q base)) }
-    requires sign { (1 ≤ s) × (s ≤ cells.now.signs) }
+    requires sign { IsTableSign cells.now.signs s }
     ensures { (q : List ℕ) → cell_of cells.now.families q ≡ Some parent
         → IsBefore cells.now.values q s result }
 {
@@ -127,8 +127,7 @@ pub fn list_signs<V: Copy, const FEW: usize>(
     requires links { AreLinks cells.now }
     requires parent { (q : List ℕ) × ((cell_of cells.now.families q ≡ Some parent)
         × (HasBase cells.now.families q base)) }
-    ensures positive { OnOk result
-        ((k : ℕ) → k < length signs.new.items → 0 < slice_index signs.new.items k) }
+    ensures positive { OnOk result (ArePositive signs.new.items) }
     ensures signs { (q : List ℕ) → cell_of cells.now.families q ≡ Some parent →
         OnOk result (ArePassing (goes_on cells.now.values q) signs.new.items) }
 {
@@ -154,9 +153,8 @@ pub fn list_moving<V: Copy, const FEW: usize>(
     requires parent { (q : List ℕ) × ((cell_of cells.now.families q ≡ Some parent)
         × (cell_of cells.now.families (q ++ s ∷ []) ≡ None)
         × (HasBase cells.now.families q base)) }
-    requires sign { (1 ≤ s) × (s ≤ cells.now.signs) }
-    ensures positive { OnOk result
-        ((k : ℕ) → k < length signs.new.items → 0 < slice_index signs.new.items k) }
+    requires sign { IsTableSign cells.now.signs s }
+    ensures positive { OnOk result (ArePositive signs.new.items) }
     ensures signs { (q : List ℕ) → cell_of cells.now.families q ≡ Some parent →
         joins_at cells.now.families q s ≡ false →
         OnOk result (ArePassing (has_sign cells.now.families q) signs.new.items) }
