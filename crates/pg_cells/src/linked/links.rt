@@ -1,10 +1,11 @@
 //! The links from sign to sign of a family. A family's signs are linked in rising order: the string
 //! that they follow has the first one, and each has the next.
-ghost use Rattle.std.specs.Prelude.{◌≡◌, ◌≢◌, ℕ, ◌<◌, ◌≤◌, ◌⊎◌, ◌&&◌, nat_eq, true, false, List, [], ◌∷◌, ◌++◌, Some, None, OnOk};
+ghost use Rattle.std.specs.Prelude.{◌≡◌, ◌≢◌, ℕ, ◌<◌, ◌≤◌, ◌⊎◌, ◌&&◌, nat_eq, true, false, List, [], ◌∷◌, ◌++◌, Some, OnOk};
 ghost use Rattle.pg_types.specs.Inside.Placing.{cell_of, joins_at};
 ghost use Rattle.pg_cells.specs.declared.store.cell.TheConstants.{SIGN_COUNT};
+ghost use Rattle.pg_cells.specs.Inside.families.Adding.{CanTakeSign};
 ghost use Rattle.pg_cells.specs.Inside.linked.AreValuedFamilies.{AreValuedFamilies};
-ghost use Rattle.pg_cells.specs.Inside.linked.CellValues.{HasBase, IsTableSign, IsTaken};
+ghost use Rattle.pg_cells.specs.Inside.linked.CellValues.{GivesBase, HasBase, IsTableSign, IsTaken};
 ghost use Rattle.pg_cells.specs.Inside.linked.Members.{IsNextSign, IsBefore, goes_on, has_sign, ArePassing, ArePositive};
 ghost use Rattle.pg_cells.specs.Inside.linked.Links.{AreLinks, with_link};
 
@@ -22,8 +23,10 @@ pub fn sign_after<V: Copy, const FEW: usize>(
     s: Sign,
 ) -> Sign
     requires links { AreLinks cells.now }
-    requires parent { (q : List ℕ) × ((cell_of cells.now.families q ≡ Some parent)
-        × (HasBase cells.now.families q base) × ((s ≡ 0) ⊎ (goes_on cells.now.values q s ≡ true))) }
+    requires parent { IsTaken cells.now.families parent }
+    requires base { GivesBase cells.now.families parent base }
+    requires sign { (q : List ℕ) → cell_of cells.now.families q ≡ Some parent
+        → (s ≡ 0) ⊎ (goes_on cells.now.values q s ≡ true) }
     ensures next { (q : List ℕ) → cell_of cells.now.families q ≡ Some parent
         → IsNextSign cells.now.values q s result }
     ensures fits { result < SIGN_COUNT }
@@ -96,8 +99,8 @@ pub fn sign_before<V: Copy, const FEW: usize>(
     s: Sign,
 ) -> Sign
     requires links { AreLinks cells.now }
-    requires parent { (q : List ℕ) × ((cell_of cells.now.families q ≡ Some parent)
-        × (HasBase cells.now.families q base)) }
+    requires parent { IsTaken cells.now.families parent }
+    requires base { GivesBase cells.now.families parent base }
     requires sign { IsTableSign cells.now.signs s }
     ensures { (q : List ℕ) → cell_of cells.now.families q ≡ Some parent
         → IsBefore cells.now.values q s result }
@@ -125,8 +128,8 @@ pub fn list_signs<V: Copy, const FEW: usize>(
     signs: &mut Vec<Sign>,
 ) -> Result<(), AllocError>
     requires links { AreLinks cells.now }
-    requires parent { (q : List ℕ) × ((cell_of cells.now.families q ≡ Some parent)
-        × (HasBase cells.now.families q base)) }
+    requires parent { IsTaken cells.now.families parent }
+    requires base { GivesBase cells.now.families parent base }
     ensures positive { OnOk result (ArePositive signs.new.items) }
     ensures signs { (q : List ℕ) → cell_of cells.now.families q ≡ Some parent →
         OnOk result (ArePassing (goes_on cells.now.values q) signs.new.items) }
@@ -150,10 +153,8 @@ pub fn list_moving<V: Copy, const FEW: usize>(
     signs: &mut Vec<Sign>,
 ) -> Result<(), AllocError>
     requires links { AreLinks cells.now }
-    requires parent { (q : List ℕ) × ((cell_of cells.now.families q ≡ Some parent)
-        × (cell_of cells.now.families (q ++ s ∷ []) ≡ None)
-        × (HasBase cells.now.families q base)) }
-    requires sign { IsTableSign cells.now.signs s }
+    requires can { CanTakeSign cells.now.signs cells.now.families parent s }
+    requires base { GivesBase cells.now.families parent base }
     ensures positive { OnOk result (ArePositive signs.new.items) }
     ensures signs { (q : List ℕ) → cell_of cells.now.families q ≡ Some parent →
         joins_at cells.now.families q s ≡ false →
