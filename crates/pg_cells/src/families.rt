@@ -1,19 +1,16 @@
 //! The families of a trie, each with its cells at its base.
-ghost use Rattle.std.specs.Prelude.{◌≡◌, ℕ, ◌+◌, ◌<◌, ◌≤◌, List, [], ◌∷◌, ◌++◌, Some, None, IfOk, false, true, length, slice_index, MatchBool};
-ghost use Rattle.pg_types.specs.Placement.{base_of};
+ghost use Rattle.std.specs.Prelude.{◌≡◌, ℕ, ◌≤◌, List, Some, IfOk, false, MatchBool};
 ghost use Rattle.pg_types.specs.Inside.Placing.{cell_of, joins_at};
 ghost use Rattle.pg_cells.specs.Inside.linked.ValuedFamilies.{ValuedFamilies, trie_in};
-ghost use Rattle.pg_cells.specs.Inside.linked.AreValuedFamilies.{AreValuedFamilies};
 ghost use Rattle.pg_cells.specs.Inside.families.Adding.{AddsSign, CanTakeSign};
-ghost use Rattle.pg_cells.specs.Inside.linked.CellValues.{HasValue, IsTaken, SetsValue};
+ghost use Rattle.pg_cells.specs.Inside.linked.CellValues.{FindsCell, GivesBase, HasValue, IsBase, IsTableSign, IsTaken, SetsValue};
 ghost use Rattle.pg_cells.specs.Inside.families.Removing.{CanRemoveSign, RemovesSign};
 ghost use Rattle.pg_cells.specs.Inside.store.Lists.{FitsCell};
 ghost use Rattle.pg_cells.specs.Inside.store.Store.{member_code};
-ghost use Rattle.pg_cells.specs.Inside.linked.Members.{ArePassing, IsAlone, HasOther, has_sign};
+ghost use Rattle.pg_cells.specs.Inside.linked.Members.{ArePassing, ArePositive, IsAlone, HasOther, has_sign};
 ghost use Rattle.pg_cells.specs.Inside.families.Layouts.{AreKept};
 ghost use Rattle.pg_cells.specs.Inside.families.OneTrie.{TrieOfRow, TrieOfRow-prop};
-ghost use Rattle.pg_cells.specs.Inside.linked.Links.{HasBase};
-ghost use Rattle.pg_cells.specs.Inside.families.Root.{root_alone};
+ghost use Rattle.pg_cells.specs.Inside.families.Root.{IsRootAlone};
 
 mod adding;
 mod moves;
@@ -65,8 +62,7 @@ impl<V: Copy, const FEW: usize> Placed<V, FEW> {
     pub fn new(alloc: Global, signs: u16, blank: Member<V>) -> Result<Placed<V, FEW>, AllocError>
         requires signs { (1 ≤ signs) × (signs ≤ SIGNS_MAX) }
         requires fits { FitsCell blank }
-        ensures held { IfOk result (λ c. c ≡ root_alone signs blank) }
-        ensures kept { IfOk result (λ c. AreValuedFamilies c) }
+        ensures { IfOk result (λ c. IsRootAlone signs blank c) }
     {
         let mut store = Store::new(alloc, signs, blank.value)?;
         store.grow(signs as usize + 1, blank.value)?;
@@ -88,10 +84,9 @@ impl<V: Copy, const FEW: usize> Placed<V, FEW> {
 
     /// The cell of the sign in the family with the base, or `None` where the family lacks the sign.
     pub fn find(&self, base: usize, s: Sign) -> Option<usize>
-        requires base { (p : List ℕ) × (base_of self.now.families p ≡ Some base) }
-        requires sign { (1 ≤ s) × (s ≤ self.now.signs) }
-        ensures cell { (p : List ℕ) → base_of self.now.families p ≡ Some base →
-            result ≡ cell_of self.now.families (p ++ s ∷ []) }
+        requires base { IsBase self.now.families base }
+        requires sign { IsTableSign self.now.signs s }
+        ensures cell { FindsCell self.now.families base s result }
     {
         let store = &self.store;
         let cell = base + s as usize;
@@ -105,8 +100,7 @@ impl<V: Copy, const FEW: usize> Placed<V, FEW> {
     /// The base of the family below the cell's string, 0 for none.
     pub fn child(&self, cell: usize) -> usize
         requires { IsTaken self.now.families cell }
-        ensures base { (q : List ℕ) → cell_of self.now.families q ≡ Some cell →
-            HasBase self.now.families q result }
+        ensures base { GivesBase self.now.families cell result }
         ensures few { self.now.signs ≤ SIGNS_MAX }
     {
         self.store.child(cell)
@@ -150,7 +144,7 @@ impl<V: Copy, const FEW: usize> Placed<V, FEW> {
     ) -> Result<usize, AllocError>
         requires can { CanTakeSign self.old.signs self.old.families parent s }
         requires fits { FitsCell v }
-        requires positive { (k : ℕ) → k < length members.now → 0 < slice_index members.now k }
+        requires positive { ArePositive members.now }
         requires members { (q : List ℕ) → cell_of self.old.families q ≡ Some parent →
             joins_at self.old.families q s ≡ false
             → ArePassing (has_sign self.old.families q) members.now }
@@ -199,8 +193,7 @@ impl<V: Copy, const FEW: usize> Placed<V, FEW> {
     /// The root family alone, each value `blank`.
     pub fn reset(&mut self, blank: Member<V>)
         requires { FitsCell blank }
-        ensures held { self.new ≡ root_alone self.old.signs blank }
-        ensures kept { AreValuedFamilies self.new }
+        ensures { IsRootAlone self.old.signs blank self.new }
     {
         self.store.clear(self.signs as usize + 1);
         take_root(&mut self.store, self.signs, blank);

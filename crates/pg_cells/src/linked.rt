@@ -8,11 +8,10 @@ ghost use Rattle.pg_types.specs.Inside.Placing.{cell_of};
 ghost use Rattle.pg_cells.specs.Inside.linked.ValuedFamilies.{ValuedFamilies};
 ghost use Rattle.pg_cells.specs.Inside.linked.AreValuedFamilies.{AreValuedFamilies};
 ghost use Rattle.pg_cells.specs.Inside.families.Adding.{AddsSign, CanTakeSign};
-ghost use Rattle.pg_cells.specs.Inside.linked.CellValues.{HasValue, IsTaken, SetsValue};
+ghost use Rattle.pg_cells.specs.Inside.linked.CellValues.{FindsCell, GivesBase, HasValue, IsBase, IsTableSign, IsTaken, SetsValue};
 ghost use Rattle.pg_cells.specs.Inside.families.Removing.{CanRemoveSign, RemovesSign};
 ghost use Rattle.pg_cells.specs.Inside.linked.Members.{IsNextSign, IsBefore};
-ghost use Rattle.pg_cells.specs.Inside.linked.Links.{HasBase};
-ghost use Rattle.pg_cells.specs.Inside.families.Root.{root_alone};
+ghost use Rattle.pg_cells.specs.Inside.families.Root.{IsRootAlone};
 ghost use Rattle.pg_cells.specs.Inside.linked.Walks.{EndsBefore};
 
 mod links;
@@ -59,8 +58,7 @@ impl<V: Copy, const FEW: usize> LinkedCells<V, FEW> {
     /// The root family alone, each value `blank`.
     pub fn new(alloc: Global, signs: u16, blank: V) -> Result<LinkedCells<V, FEW>, AllocError>
         requires { (1 ≤ signs) × (signs ≤ SIGNS_MAX) }
-        ensures held { IfOk result (λ c. c ≡ root_alone signs blank) }
-        ensures kept { IfOk result (λ c. AreValuedFamilies c) }
+        ensures { IfOk result (λ c. IsRootAlone signs blank c) }
     {
         let placed = Placed::new(alloc, signs, Member::alone(blank))?;
         Ok(LinkedCells {
@@ -79,7 +77,7 @@ impl<V: Copy, const FEW: usize> LinkedCells<V, FEW> {
 
     /// The cell of the sign in the root. The root has every sign.
     pub(crate) fn root_cell(&self, s: Sign) -> usize
-        requires { (1 ≤ s) × (s ≤ self.now.signs) }
+        requires { IsTableSign self.now.signs s }
         ensures cell { cell_of self.now.families (s ∷ []) ≡ Some result }
         ensures held { AreValuedFamilies self.now }
     {
@@ -90,10 +88,9 @@ impl<V: Copy, const FEW: usize> LinkedCells<V, FEW> {
     /// The cell of the sign in the family with the base, or `None` where the family lacks the sign.
     /// Then no string that begins with this one has a value.
     pub fn find(&self, base: usize, s: Sign) -> Option<usize>
-        requires base { (p : List ℕ) × (base_of self.now.families p ≡ Some base) }
-        requires sign { (1 ≤ s) × (s ≤ self.now.signs) }
-        ensures cell { (p : List ℕ) → base_of self.now.families p ≡ Some base →
-            result ≡ cell_of self.now.families (p ++ s ∷ []) }
+        requires base { IsBase self.now.families base }
+        requires sign { IsTableSign self.now.signs s }
+        ensures cell { FindsCell self.now.families base s result }
         ensures none { (p : List ℕ) → base_of self.now.families p ≡ Some base → result ≡ None →
             EndsBefore self.now.values (p ++ s ∷ []) }
     {
@@ -104,8 +101,7 @@ impl<V: Copy, const FEW: usize> LinkedCells<V, FEW> {
     /// has a value.
     pub fn child(&self, cell: usize) -> usize
         requires { IsTaken self.now.families cell }
-        ensures base { (q : List ℕ) → cell_of self.now.families q ≡ Some cell →
-            HasBase self.now.families q result }
+        ensures base { GivesBase self.now.families cell result }
         ensures none { (q : List ℕ) → cell_of self.now.families q ≡ Some cell
             → result ≡ 0 → (x : ℕ) →
             EndsBefore self.now.values (q ++ x ∷ []) }
@@ -222,8 +218,7 @@ impl<V: Copy, const FEW: usize> LinkedCells<V, FEW> {
 
     /// The root family alone, each value `blank`.
     pub fn reset(&mut self, blank: V)
-        ensures held { self.new ≡ root_alone self.old.signs blank }
-        ensures kept { AreValuedFamilies self.new }
+        ensures { IsRootAlone self.old.signs blank self.new }
     {
         self.placed.reset(Member::alone(blank));
     }

@@ -1,11 +1,11 @@
 //! The store: one vector of cells, whose free ones are linked in rising order.
-ghost use Rattle.std.specs.Prelude.{◌≡◌, ◌≢◌, ℕ, ◌+◌, ◌-◌, ◌<◌, ◌≤◌, true, false, ◌∷◌, length, nat_eq, slice_get, slice_index, Some, IfOk, OnOk, OnErr};
+ghost use Rattle.std.specs.Prelude.{◌≡◌, ◌≢◌, ℕ, ◌+◌, ◌<◌, ◌≤◌, ◌∷◌, length, nat_eq, slice_get, Some, IfOk, OnOk};
 ghost use Rattle.pg_types.specs.Inside.Placing.{IsLeast};
-ghost use Rattle.pg_cells.specs.Inside.store.Lists.{lists, FitsCell, row_of, without_links, sign_at, child_at, base_at, IsFree};
+ghost use Rattle.pg_cells.specs.Inside.store.Lists.{lists, FitsCell, SaysTaken, row_of, without_links, sign_at, child_at, IsFree};
 ghost use Rattle.pg_cells.specs.Inside.store.FreeList.{AreLinked};
 ghost use Rattle.pg_cells.specs.Inside.store.BlockedBases.{AreBlocked};
 ghost use Rattle.pg_cells.specs.Inside.store.Bounds.{NoneFree};
-ghost use Rattle.pg_cells.specs.Inside.store.Fit.{fits_row, signs_of};
+ghost use Rattle.pg_cells.specs.Inside.store.Fit.{HasRoom, fits_row, signs_of};
 ghost use Rattle.pg_cells.specs.Inside.store.Store.{one_free, taken_in, IsTop, IsRow, Extends};
 ghost use Rattle.pg_cells.specs.Inside.families.Root.{IsRootTo};
 ghost use Rattle.pg_cells.specs.Inside.store.Writes.{Takes, Frees, SetsChild, SetsRowValue, SetsBase};
@@ -93,8 +93,7 @@ impl<V: Copy> Store<V> {
 
     /// Whether a cell is taken. None past the end is.
     pub fn is_taken(&self, cell: usize) -> bool
-        ensures taken { result ≡ true → sign_at self.now cell ≢ 0 }
-        ensures free { result ≡ false → sign_at self.now cell ≡ 0 }
+        ensures { SaysTaken self.now cell result }
     {
         is_taken_there(self.cells.as_slice(), cell)
     }
@@ -292,12 +291,8 @@ impl<V: Copy> Store<V> {
     /// The least base from `low` on at which the sign and those of the slots may stand. At `room`
     /// they may stand.
     pub fn find_base(&self, slots: &[Slot<Member<V>>], sign: Sign, low: usize, room: usize) -> usize
-        requires positive { 0 < sign }
         requires low { low ≤ room }
-        requires within { room + sign < length self.now.signs }
-        requires wide { (k : ℕ) → k < length slots.now →
-            room + slice_index (signs_of slots.now) k < length self.now.signs }
-        requires room { fits_row self.now (sign ∷ signs_of slots.now) room ≡ true }
+        requires room { HasRoom self.now slots.now sign room }
         ensures least { IsLeast (fits_row self.now (sign ∷ signs_of slots.now)) low result }
         ensures room { result ≤ room }
     {

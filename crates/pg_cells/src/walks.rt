@@ -6,7 +6,7 @@ ghost use Rattle.std.specs.Ordering.{nat_cmp};
 ghost use Rattle.pg_types.specs.Placement.{enter_by};
 ghost use Rattle.pg_types.specs.Inside.Placing.{cell_of};
 ghost use Rattle.pg_cells.specs.Inside.linked.AreValuedFamilies.{AreValuedFamilies};
-ghost use Rattle.pg_cells.specs.Inside.linked.CellValues.{IsTaken};
+ghost use Rattle.pg_cells.specs.Inside.linked.CellValues.{IsTableSign, IsTaken};
 ghost use Rattle.pg_cells.specs.Inside.families.Searches.{search_start};
 ghost use Rattle.pg_cells.specs.Inside.linked.Walks.{IsAt, EndsBefore, IsKnown, Steps, AddsBlanks};
 
@@ -22,7 +22,7 @@ pub fn step<V: Copy, const FEW: usize>(
     s: Sign,
 ) -> Option<usize>
     requires at { (q : List ℕ) × (IsAt cells.now.families at q) }
-    requires sign { (1 ≤ s) × (s ≤ cells.now.signs) }
+    requires sign { IsTableSign cells.now.signs s }
     ensures cell { (q : List ℕ) → IsAt cells.now.families at q
         → result ≡ cell_of cells.now.families (q ++ s ∷ []) }
     ensures none { (q : List ℕ) → IsAt cells.now.families at q → result ≡ None →
@@ -47,7 +47,7 @@ fn step_or_add<V: Copy, const FEW: usize>(
 ) -> Result<usize, AllocError>
     requires held { AreValuedFamilies cells.old }
     requires parent { IsTaken cells.old.families parent }
-    requires sign { (1 ≤ s) × (s ≤ cells.old.signs) }
+    requires sign { IsTableSign cells.old.signs s }
     ensures steps { (q : List ℕ) → cell_of cells.old.families q ≡ Some parent →
         OnOk result (Steps FEW cells.old cells.new q s blank) }
     ensures cell { (q : List ℕ) → cell_of cells.old.families q ≡ Some parent →
@@ -70,7 +70,7 @@ fn known_prefix<V: Copy, const FEW: usize>(
     signs: &[Sign],
 ) -> (usize, usize)
     requires some { 0 < length signs.now }
-    requires signs { All (λ s. (1 ≤ s) × (s ≤ cells.now.signs)) signs.now }
+    requires signs { All (IsTableSign cells.now.signs) signs.now }
     ensures count { (0 < result.0) × (result.0 ≤ length signs.now) }
     ensures cell { cell_of cells.now.families (take result.0 signs.now) ≡ Some result.1 }
     ensures known { IsKnown FEW cells.now.signs cells.now.families signs.now result.0 }
@@ -97,7 +97,7 @@ pub fn enter<V: Copy, const FEW: usize>(
     blank: V,
 ) -> Result<usize, AllocError>
     requires some { 0 < length signs.now }
-    requires signs { All (λ s. (1 ≤ s) × (s ≤ cells.old.signs)) signs.now }
+    requires signs { All (IsTableSign cells.old.signs) signs.now }
     ensures cell { IfOk result (λ cell. cell_of cells.new.families signs.now ≡ Some cell) }
     ensures families { OnOk result
         (cells.new.families

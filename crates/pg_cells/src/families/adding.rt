@@ -1,7 +1,9 @@
 //! A sign is added to a family, in its place or at another base.
-ghost use Rattle.std.specs.Prelude.{◌≡◌, ℕ, ◌+◌, ◌<◌, ◌≤◌, ◌∷◌, ◌++◌, [], List, Some, length, slice_index, nat_lt, nat_eq, ◌&&◌, IfOk, OnOk, OnErr};
+ghost use Rattle.std.specs.Prelude.{◌≡◌, ℕ, ◌+◌, ◌<◌, ◌≤◌, ◌∷◌, ◌++◌, [], List, Some, nat_lt, nat_eq, ◌&&◌, IfOk, OnOk, OnErr};
 ghost use Rattle.pg_types.specs.Placement.{with_sign};
 ghost use Rattle.pg_types.specs.Inside.Placing.{cell_of};
+ghost use Rattle.pg_cells.specs.Inside.linked.CellValues.{IsTableSign};
+ghost use Rattle.pg_cells.specs.Inside.linked.Members.{ArePositive};
 ghost use Rattle.pg_cells.specs.Inside.linked.ValuedFamilies.{Trie};
 ghost use Rattle.pg_cells.specs.declared.store.member.Member.{Member as MemberOf};
 ghost use Rattle.pg_cells.specs.declared.store.cell.TheConstants.{CELLS_END};
@@ -41,11 +43,11 @@ pub fn add_slot<V: Copy>(
 ) -> Result<usize, AllocError>
     requires can { (t : Trie (MemberOf V)) × (q : List ℕ)
         × (CanAdd signs store.old t q parent slot.sign members.now) }
-    requires sign { (1 ≤ slot.sign) × (slot.sign ≤ signs) }
+    requires sign { IsTableSign signs slot.sign }
     requires signs { signs ≤ SIGNS_MAX }
     requires child { slot.child ≡ 0 }
     requires fits { FitsCell slot.value }
-    requires positive { (k : ℕ) → k < length members.now → 0 < slice_index members.now k }
+    requires positive { ArePositive members.now }
     ensures trie { (t : Trie (MemberOf V)) (q : List ℕ) →
         CanAdd signs store.old t q parent slot.sign members.now →
         OnOk result (IsTrie signs store.new (with_sign_below few signs t q slot.sign slot.value)) }

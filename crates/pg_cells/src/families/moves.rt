@@ -1,11 +1,11 @@
 //! A family gives up its cells and is put at another base.
-ghost use Rattle.std.specs.Prelude.{◌≡◌, ◌≢◌, ℕ, ◌+◌, ◌<◌, ◌≤◌, length, take, nat_eq, slice_index, Some, [], OnOk};
+ghost use Rattle.std.specs.Prelude.{◌≡◌, ◌≢◌, ℕ, ◌+◌, ◌<◌, ◌≤◌, length, nat_eq, Some, [], OnOk};
 ghost use Rattle.pg_cells.specs.declared.store.fit.Slot.{Slot as SlotOf};
 ghost use Rattle.pg_cells.specs.declared.store.member.Member.{Member as MemberOf};
 ghost use Rattle.pg_cells.specs.declared.store.cell.TheConstants.{CELLS_END, SIGN_COUNT};
 ghost use Rattle.pg_cells.specs.Inside.store.Lists.{sign_at, IsFree};
 ghost use Rattle.pg_cells.specs.Inside.store.Fit.{slot_of};
-ghost use Rattle.pg_cells.specs.Inside.linked.Members.{ArePassing};
+ghost use Rattle.pg_cells.specs.Inside.linked.Members.{ArePassing, ArePositive};
 ghost use Rattle.pg_cells.specs.Inside.families.Moves.{AllFit, AreDistinct, GivesUp, Puts, AreSlotsOf, Collects};
 
 use crate::store::Store;
@@ -52,7 +52,7 @@ pub fn collect<V: Copy>(
     slots: &mut Vec<Slot<Member<V>>>,
 ) -> Result<(), AllocError>
     requires base { base < CELLS_END }
-    requires members { (k : ℕ) → k < length members.now → 0 < slice_index members.now k }
+    requires members { ArePositive members.now }
     ensures none { members.now ≡ [] → OnOk result (slots.new.items ≡ []) }
     ensures some { (n : ℕ) → ((i : ℕ) → sign_at store.now i ≤ n) →
         ArePassing (λ x. nat_eq (sign_at store.now (base + x)) x) members.now →

@@ -1,8 +1,8 @@
 //! A family is put at the least base that fits.
-ghost use Rattle.std.specs.Prelude.{◌≡◌, ◌≢◌, ℕ, ◌+◌, ◌<◌, ◌≤◌, max, true, false, ◌∷◌, length, slice_index};
+ghost use Rattle.std.specs.Prelude.{◌≡◌, ℕ, ◌+◌, ◌<◌, ◌≤◌, max, false, ◌∷◌, length};
 ghost use Rattle.pg_types.specs.Inside.Placing.{IsLeast};
 ghost use Rattle.pg_cells.specs.declared.store.cell.TheConstants.{CELLS_END};
-ghost use Rattle.pg_cells.specs.Inside.store.Fit.{fits_row, signs_of};
+ghost use Rattle.pg_cells.specs.Inside.store.Fit.{HasRoom, fits_row, signs_of};
 ghost use Rattle.pg_cells.specs.Inside.store.Lists.{FitsCell};
 ghost use Rattle.pg_cells.specs.Inside.families.Searches.{far_from_top, search_start};
 ghost use Rattle.pg_cells.specs.Inside.families.Moves.{AllFit, Drops, MovesFamily, CanPlace};
@@ -72,14 +72,10 @@ fn least_base<V: Copy>(
     room: usize,
     tried: usize,
 ) -> usize
-    requires positive { 0 < sign }
     requires low { (0 < low) × (low ≤ room) }
     requires tried { (k : ℕ) → low ≤ k → k < tried →
         fits_row store.old (sign ∷ signs_of slots.now) k ≡ false }
-    requires within { room + sign < length store.old.signs }
-    requires wide { (k : ℕ) → k < length slots.now →
-        room + slice_index (signs_of slots.now) k < length store.old.signs }
-    requires room { fits_row store.old (sign ∷ signs_of slots.now) room ≡ true }
+    requires room { HasRoom store.old slots.now sign room }
     ensures least { IsLeast (fits_row store.old (sign ∷ signs_of slots.now)) low result }
     ensures room { result ≤ room }
     ensures same { store.new ≡ store.old }

@@ -1,12 +1,13 @@
 //! The links from sign to sign of a family. A family's signs are linked in rising order: the string
 //! that they follow has the first one, and each has the next.
-ghost use Rattle.std.specs.Prelude.{◌≡◌, ◌≢◌, ℕ, ◌<◌, ◌≤◌, ◌⊎◌, ◌&&◌, nat_eq, true, false, length, List, [], ◌∷◌, ◌++◌, Some, None, OnOk, slice_index};
+ghost use Rattle.std.specs.Prelude.{◌≡◌, ◌≢◌, ℕ, ◌<◌, ◌≤◌, ◌⊎◌, ◌&&◌, nat_eq, true, false, List, [], ◌∷◌, ◌++◌, Some, OnOk};
 ghost use Rattle.pg_types.specs.Inside.Placing.{cell_of, joins_at};
 ghost use Rattle.pg_cells.specs.declared.store.cell.TheConstants.{SIGN_COUNT};
+ghost use Rattle.pg_cells.specs.Inside.families.Adding.{CanTakeSign};
 ghost use Rattle.pg_cells.specs.Inside.linked.AreValuedFamilies.{AreValuedFamilies};
-ghost use Rattle.pg_cells.specs.Inside.linked.CellValues.{IsTaken};
-ghost use Rattle.pg_cells.specs.Inside.linked.Members.{IsNextSign, IsBefore, goes_on, has_sign, ArePassing};
-ghost use Rattle.pg_cells.specs.Inside.linked.Links.{AreLinks, HasBase, with_link};
+ghost use Rattle.pg_cells.specs.Inside.linked.CellValues.{GivesBase, HasBase, IsTableSign, IsTaken};
+ghost use Rattle.pg_cells.specs.Inside.linked.Members.{IsNextSign, IsBefore, goes_on, has_sign, ArePassing, ArePositive};
+ghost use Rattle.pg_cells.specs.Inside.linked.Links.{AreLinks, with_link};
 
 use crate::families::Placed;
 use crate::store::member::Member;
@@ -22,8 +23,10 @@ pub fn sign_after<V: Copy, const FEW: usize>(
     s: Sign,
 ) -> Sign
     requires links { AreLinks cells.now }
-    requires parent { (q : List ℕ) × ((cell_of cells.now.families q ≡ Some parent)
-        × (HasBase cells.now.families q base) × ((s ≡ 0) ⊎ (goes_on cells.now.values q s ≡ true))) }
+    requires parent { IsTaken cells.now.families parent }
+    requires base { GivesBase cells.now.families parent base }
+    requires sign { (q : List ℕ) → cell_of cells.now.families q ≡ Some parent
+        → (s ≡ 0) ⊎ (goes_on cells.now.values q s ≡ true) }
     ensures next { (q : List ℕ) → cell_of cells.now.families q ≡ Some parent
         → IsNextSign cells.now.values q s result }
     ensures fits { result < SIGN_COUNT }
@@ -44,7 +47,7 @@ pub fn sign_after<V: Copy, const FEW: usize>(
 fn has_sign<V: Copy, const FEW: usize>(cells: &Placed<V, FEW>, base: usize, s: Sign) -> bool
     requires held { AreValuedFamilies cells.now }
     requires base { (q : List ℕ) × (HasBase cells.now.families q base) }
-    requires sign { (1 ≤ s) × (s ≤ cells.now.signs) }
+    requires sign { IsTableSign cells.now.signs s }
     ensures { (q : List ℕ) → HasBase cells.now.families q base →
         result ≡ goes_on cells.now.values q s }
 {
@@ -96,9 +99,9 @@ pub fn sign_before<V: Copy, const FEW: usize>(
     s: Sign,
 ) -> Sign
     requires links { AreLinks cells.now }
-    requires parent { (q : List ℕ) × ((cell_of cells.now.families q ≡ Some parent)
-        × (HasBase cells.now.families q base)) }
-    requires sign { (1 ≤ s) × (s ≤ cells.now.signs) }
+    requires parent { IsTaken cells.now.families parent }
+    requires base { GivesBase cells.now.families parent base }
+    requires sign { IsTableSign cells.now.signs s }
     ensures { (q : List ℕ) → cell_of cells.now.families q ≡ Some parent
         → IsBefore cells.now.values q s result }
 {
@@ -125,10 +128,9 @@ pub fn list_signs<V: Copy, const FEW: usize>(
     signs: &mut Vec<Sign>,
 ) -> Result<(), AllocError>
     requires links { AreLinks cells.now }
-    requires parent { (q : List ℕ) × ((cell_of cells.now.families q ≡ Some parent)
-        × (HasBase cells.now.families q base)) }
-    ensures positive { OnOk result
-        ((k : ℕ) → k < length signs.new.items → 0 < slice_index signs.new.items k) }
+    requires parent { IsTaken cells.now.families parent }
+    requires base { GivesBase cells.now.families parent base }
+    ensures positive { OnOk result (ArePositive signs.new.items) }
     ensures signs { (q : List ℕ) → cell_of cells.now.families q ≡ Some parent →
         OnOk result (ArePassing (goes_on cells.now.values q) signs.new.items) }
 {
@@ -151,12 +153,9 @@ pub fn list_moving<V: Copy, const FEW: usize>(
     signs: &mut Vec<Sign>,
 ) -> Result<(), AllocError>
     requires links { AreLinks cells.now }
-    requires parent { (q : List ℕ) × ((cell_of cells.now.families q ≡ Some parent)
-        × (cell_of cells.now.families (q ++ s ∷ []) ≡ None)
-        × (HasBase cells.now.families q base)) }
-    requires sign { (1 ≤ s) × (s ≤ cells.now.signs) }
-    ensures positive { OnOk result
-        ((k : ℕ) → k < length signs.new.items → 0 < slice_index signs.new.items k) }
+    requires can { CanTakeSign cells.now.signs cells.now.families parent s }
+    requires base { GivesBase cells.now.families parent base }
+    ensures positive { OnOk result (ArePositive signs.new.items) }
     ensures signs { (q : List ℕ) → cell_of cells.now.families q ≡ Some parent →
         joins_at cells.now.families q s ≡ false →
         OnOk result (ArePassing (has_sign cells.now.families q) signs.new.items) }

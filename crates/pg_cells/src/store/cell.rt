@@ -1,6 +1,6 @@
 //! One cell, and the reading and writing of its parts.
-ghost use Rattle.std.specs.Prelude.{◌≡◌, ◌≢◌, ◌<◌, ◌+◌, ◌*◌, ◌%◌, length, nat_eq, slice_get, set, Some, true, false};
-ghost use Rattle.pg_cells.specs.Inside.store.Lists.{lists, FitsCell, base_in, link_in, with_before, with_after, with_child, with_value, with_base, with_taken, with_free, sign_at, IsFree, before_at, after_at, child_at, base_at};
+ghost use Rattle.std.specs.Prelude.{◌≡◌, ◌≢◌, ◌<◌, ◌+◌, ◌*◌, ◌%◌, length, nat_eq, slice_get, set, Some};
+ghost use Rattle.pg_cells.specs.Inside.store.Lists.{lists, FitsCell, SaysTaken, base_in, link_in, with_before, with_after, with_child, with_value, with_base, with_taken, with_free, sign_at, IsFree, before_at, after_at, child_at, base_at};
 
 use crate::store::member::Member;
 use pg_types::Sign;
@@ -70,8 +70,7 @@ fn links_with_base(links: u32, is_base: bool) -> u32
 /// Whether a cell is taken. The search for a base asks this of each cell that it looks at.
 pub fn is_taken<V: Copy>(cells: &[Cell<V>], cell: usize) -> bool
     requires { cell < length cells.now }
-    ensures taken { result ≡ true → sign_at (lists cells.now).row cell ≢ 0 }
-    ensures free { result ≡ false → sign_at (lists cells.now).row cell ≡ 0 }
+    ensures { SaysTaken (lists cells.now).row cell result }
 {
     cells[cell].signs % SIGN_AT == 1
 }

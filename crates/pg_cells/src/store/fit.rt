@@ -1,10 +1,10 @@
 //! The search for a base, along the free cells.
-ghost use Rattle.std.specs.Prelude.{◌≡◌, ◌≢◌, ℕ, ◌+◌, ◌<◌, ◌≤◌, Bool, true, false, ◌∷◌, length, nat_eq, slice_index, map};
+ghost use Rattle.std.specs.Prelude.{◌≡◌, ◌≢◌, ℕ, ◌+◌, ◌<◌, ◌≤◌, ◌∷◌, length, nat_eq, slice_index};
 ghost use Rattle.pg_types.specs.Inside.Placing.{IsLeast};
 ghost use Rattle.pg_cells.specs.declared.store.cell.TheConstants.{CELLS_END};
-ghost use Rattle.pg_cells.specs.Inside.store.Lists.{lists, sign_at, base_at};
+ghost use Rattle.pg_cells.specs.Inside.store.Lists.{lists, SaysTaken, sign_at};
 ghost use Rattle.pg_cells.specs.Inside.store.FreeList.{AreLinked};
-ghost use Rattle.pg_cells.specs.Inside.store.Fit.{fits_row, signs_of};
+ghost use Rattle.pg_cells.specs.Inside.store.Fit.{HasRoom, fits_row, signs_of};
 
 use crate::store::cell::{Cell, after_of, has_sign, is_base_of, is_taken};
 use crate::store::member::Member;
@@ -23,8 +23,7 @@ pub struct Slot<V> {
 
 /// Whether a cell is taken. None past the end is.
 pub fn is_taken_there<V: Copy>(cells: &[Cell<V>], cell: usize) -> bool
-    ensures taken { result ≡ true → sign_at (lists cells.now).row cell ≢ 0 }
-    ensures free { result ≡ false → sign_at (lists cells.now).row cell ≡ 0 }
+    ensures { SaysTaken (lists cells.now).row cell result }
 {
     if cell < cells.len() {
         is_taken(cells, cell)
@@ -94,13 +93,9 @@ pub fn find_base<V: Copy>(
     room: usize,
 ) -> usize
     requires linked { AreLinked (lists cells.now) }
-    requires positive { 0 < sign }
-    requires low { low ≤ room }
-    requires within { room + sign < length cells.now }
-    requires wide { (k : ℕ) → k < length slots.now →
-        room + slice_index (signs_of slots.now) k < length cells.now }
     requires small { length cells.now < CELLS_END }
-    requires room { fits_row (lists cells.now).row (sign ∷ signs_of slots.now) room ≡ true }
+    requires low { low ≤ room }
+    requires room { HasRoom (lists cells.now).row slots.now sign room }
     ensures least { IsLeast
         (fits_row (lists cells.now).row (sign ∷ signs_of slots.now)) low result }
     ensures room { result ≤ room }

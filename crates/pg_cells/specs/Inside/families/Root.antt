@@ -5,6 +5,7 @@ use Rattle.pg_types.specs.Placement.{root}
 use Rattle.pg_cells.specs.Inside.store.Lists.{Row, sign_at, child_at, base_at}
 use Rattle.pg_cells.specs.Inside.store.Store.{taken_in}
 use Rattle.pg_cells.specs.Inside.linked.ValuedFamilies.{ValuedFamilies}
+use Rattle.pg_cells.specs.Inside.linked.AreValuedFamilies.{AreValuedFamilies}
 
 -- the root family alone, with the blank as each value
 abbrev pub root_alone : {V : Type 0} → ℕ → V → ValuedFamilies V
@@ -15,6 +16,11 @@ root_alone n blank = record {
 }
 
 module _ {V : Type 0} where
+  -- these are the root family alone, with the blank as each value
+  pub record IsRootAlone (n : ℕ) (blank : V) (h : ValuedFamilies V) : Type 0 where
+    pub held : h ≡ root_alone n blank
+    pub kept : AreValuedFamilies h
+
   -- the signs from 1 on and below k stand in their own cells, and nothing else is taken
   pub record IsRootTo (k : ℕ) (blank : V) (r : Row V) : Type 0 where
     pub stand : (i : ℕ) → 0 < i → i < k → sign_at r i ≡ i

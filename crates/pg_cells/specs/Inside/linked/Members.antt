@@ -1,6 +1,6 @@
 -- The sign of a family that comes after another one, and the one before it: by a test of signs, and
 -- by a map of strings.
-use Rattle.std.specs.Prelude.{◌≡◌, ◌≢◌, ℕ, ◌<◌, ◌≤◌, ◌⊎◌, Bool, true, false, List, [], ◌∷◌, ◌++◌, length, get_or}
+use Rattle.std.specs.Prelude.{◌≡◌, ◌≢◌, ℕ, ◌<◌, ◌≤◌, ◌⊎◌, Bool, true, false, List, [], ◌∷◌, ◌++◌, length, get_or, slice_index}
 use Rattle.std.specs.Option.{is_some}
 use Rattle.std.specs.Ordering.{nat_cmp}
 use Rattle.std.specs.Cmp.Lexicographic.{slice_cmp}
@@ -34,6 +34,10 @@ has_sign fs p s = is_some (cell_of fs (p ++ s ∷ []))
 -- the number before the index k of a list, 0 before the first
 abbrev pub number_before : List ℕ → ℕ → ℕ
 number_before xs k = get_or (0 ∷ xs) k 0
+
+-- each number of the list is above 0
+abbrev pub ArePositive : List ℕ → Type 0
+ArePositive xs = (k : ℕ) → k < length xs → 0 < slice_index xs k
 
 -- the list has the numbers that pass the test, but for 0, in rising order
 pub record ArePassing (test : ℕ → Bool) (xs : List ℕ) : Type 0 where

@@ -1,5 +1,5 @@
 -- The parts of the cells, each as a list by the cells' indices.
-use Rattle.std.specs.Prelude.{◌≡◌, ℕ, ◌+◌, ◌*◌, ◌/◌, ◌%◌, ◌<◌, Bool, false, if◌then◌else◌, nat_eq, List, [], ◌∷◌, ◌++◌, map, set, get_or, zero, suc}
+use Rattle.std.specs.Prelude.{◌≡◌, ◌≢◌, ℕ, ◌+◌, ◌*◌, ◌/◌, ◌%◌, ◌<◌, Bool, true, false, if◌then◌else◌, nat_eq, List, [], ◌∷◌, ◌++◌, map, set, get_or, zero, suc}
 use Rattle.pg_cells.specs.declared.store.cell.Cell.{Cell}
 use Rattle.pg_cells.specs.declared.store.cell.TheConstants.{SIGN_COUNT, SIGN_AT, NEXT_AT, FIRST_AT, FIRST_COUNT, BASE_AT, LINK_AT}
 use Rattle.pg_cells.specs.declared.store.member.Member.{Member}
@@ -41,6 +41,11 @@ module _ {V : Type 0} where
   -- the sign in a cell; 0 in a free cell, and past the end
   abbrev pub sign_at : Row V → ℕ → ℕ
   sign_at r cell = get_or r.signs cell 0
+
+  -- the answer says whether the cell is taken; none past the end is
+  pub record SaysTaken (r : Row V) (cell : ℕ) (answer : Bool) : Type 0 where
+    pub taken : answer ≡ true → sign_at r cell ≢ 0
+    pub free : answer ≡ false → sign_at r cell ≡ 0
 
   -- the cell is free; no cell past the end is
   abbrev pub IsFree : Row V → ℕ → Type 0

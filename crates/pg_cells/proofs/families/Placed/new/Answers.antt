@@ -1,14 +1,12 @@
-use Rattle.std.proofs.Common.{◌≡◌, [], ◌∷◌, map, ap, sym, subst, refl, arith}
+use Rattle.std.proofs.Common.{[], ◌∷◌, map, ap, sym, subst, refl, arith}
 use Rattle.std.specs.List.{range_with_len}
 use Rattle.pg_types.specs.Placement.{root}
-use Rattle.pg_cells.specs.Inside.linked.ValuedFamilies.{Trie, ValuedFamilies}
-use Rattle.pg_cells.specs.Inside.linked.AreValuedFamilies.{AreValuedFamilies}
 use Rattle.pg_cells.specs.Inside.families.Layouts.{AreKept}
 use Rattle.pg_cells.specs.Inside.families.OneTrie.{TrieOfRow, kept_is_only, held_is_kept}
 use Rattle.pg_cells.specs.Inside.store.Lists.{without_links}
-use Rattle.pg_cells.specs.Inside.families.Root.{root_alone, IsRootTo}
-use Rattle.pg_cells.specs.declared.store.member.Member.{Member}
+use Rattle.pg_cells.specs.Inside.families.Root.{IsRootAlone, IsRootTo}
 use Rattle.pg_cells.specs.Inside.store.Store.{member_code}
+use Rattle.pg_cells.proofs.PlacedSigns.{seen}
 use Rattle.pg_cells.proofs.ValuedFamilyLaws.{is_held}
 use Rattle.pg_cells.proofs.RootSteps.{planted_none, planted_extended}
 use Rattle.pg_cells.proofs.RootTrie.{root_trie}
@@ -35,20 +33,14 @@ invariant_of-result-2 g c =
     λ d. record { row = c.set_base.ensures.row; trie = held_is_kept (member_code g.row.V.coded) c.args.signs c.set_base.new.self d _ trie; some = c.requires.signs.0; few = c.requires.signs.1 } in
     search all
 
-pub returns-clause-held : goal.returns-clause-held
-returns-clause-held g c =
+pub returns : goal.returns
+returns g c =
     let trie = root_trie c.args.blank c.args.signs c.take_root.new.store c.set_base.new.self c.requires.signs.0 c.take_root.ensures.root_to c.set_base.ensures.sets in
-    let all : (d : TrieOfRow c.args.signs c.set_base.new.self) → ◌≡◌ {A = ValuedFamilies (Member g.row.V.Denot)} (record { signs = c.args.signs; families = d.0.families; values = d.0.values })
-    (root_alone c.args.signs c.args.blank) =
-    λ d. ap (λ (t : Trie (Member g.row.V.Denot)). record { signs = c.args.signs; families = t.families; values = t.values })
-    (kept_is_only (member_code g.row.V.coded) c.args.signs c.set_base.new.self d _ trie) in
-    search all
-
-pub returns-clause-kept : goal.returns-clause-kept
-returns-clause-kept g c =
-    let trie = root_trie c.args.blank c.args.signs c.take_root.new.store c.set_base.new.self c.requires.signs.0 c.take_root.ensures.root_to c.set_base.ensures.sets in
-    let all : (d : TrieOfRow c.args.signs c.set_base.new.self) → AreValuedFamilies (record { signs = c.args.signs; families = d.0.families; values = d.0.values }) =
-    λ d. is_held c.args.signs c.set_base.new.self d.0 (held_is_kept (member_code g.row.V.coded) c.args.signs c.set_base.new.self d _ trie) c.set_base.ensures.row.values in
+    let all : (d : TrieOfRow c.args.signs c.set_base.new.self) → IsRootAlone c.args.signs c.args.blank (seen c.args.signs d.0) =
+    λ d. record {
+      held = ap (seen c.args.signs) (kept_is_only (member_code g.row.V.coded) c.args.signs c.set_base.new.self d _ trie);
+      kept = is_held c.args.signs c.set_base.new.self d.0 (held_is_kept (member_code g.row.V.coded) c.args.signs c.set_base.new.self d _ trie) c.set_base.ensures.row.values;
+    } in
     search all
 
 pub overflow_add-signs : goal.overflow_add-signs

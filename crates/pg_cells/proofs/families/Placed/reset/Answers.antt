@@ -1,13 +1,13 @@
-use Rattle.std.proofs.Common.{◌≡◌, [], ◌∷◌, map, ap, ◌∙◌, arith}
+use Rattle.std.proofs.Common.{[], ◌∷◌, map, ap, ◌∙◌, arith}
 use Rattle.std.specs.List.{range_with_len}
 use Rattle.pg_types.specs.Placement.{root}
-use Rattle.pg_cells.specs.Inside.linked.ValuedFamilies.{Trie, ValuedFamilies}
-use Rattle.pg_cells.specs.Inside.linked.AreValuedFamilies.{AreValuedFamilies}
+use Rattle.pg_cells.specs.Inside.linked.ValuedFamilies.{ValuedFamilies}
 use Rattle.pg_cells.specs.Inside.families.Layouts.{AreKept}
 use Rattle.pg_cells.specs.Inside.families.OneTrie.{TrieOfRow, kept_is_only, held_is_kept}
-use Rattle.pg_cells.specs.Inside.families.Root.{root_alone}
+use Rattle.pg_cells.specs.Inside.families.Root.{root_alone, IsRootAlone}
 use Rattle.pg_cells.specs.declared.store.member.Member.{Member}
 use Rattle.pg_cells.specs.Inside.store.Store.{member_code}
+use Rattle.pg_cells.proofs.PlacedSigns.{seen}
 use Rattle.pg_cells.proofs.ValuedFamilyLaws.{is_held}
 use Rattle.pg_cells.proofs.StringCells.{root_within}
 use Rattle.pg_cells.proofs.RootTrie.{root_trie}
@@ -47,21 +47,15 @@ invariant_of-self g c =
     } in
     search all
 
-pub returns-clause-held : goal.returns-clause-held
-returns-clause-held g c =
+pub returns : goal.returns
+returns g c =
     let trie = root_trie c.args.blank c.self.inside.signs c.take_root.new.store c.set_base.new.self c.self.invariant.some c.take_root.ensures.root_to c.set_base.ensures.sets in
-    let all : (d : TrieOfRow c.self.inside.signs c.set_base.new.self) → ◌≡◌ {A = ValuedFamilies (Member g.row.V.Denot)}
-    (record { signs = c.self.inside.signs; families = d.0.families; values = d.0.values }) (root_alone c.args.self.now.signs c.args.blank) =
-    λ d. ap (λ (t : Trie (Member g.row.V.Denot)). record { signs = c.self.inside.signs; families = t.families; values = t.values })
-    (kept_is_only (member_code g.row.V.coded) c.self.inside.signs c.set_base.new.self d _ trie)
-    ∙ ap (λ (h : ValuedFamilies (Member g.row.V.Denot)). root_alone h.signs c.args.blank) c.self.view_is in
-    search all
-
-pub returns-clause-kept : goal.returns-clause-kept
-returns-clause-kept g c =
-    let trie = root_trie c.args.blank c.self.inside.signs c.take_root.new.store c.set_base.new.self c.self.invariant.some c.take_root.ensures.root_to c.set_base.ensures.sets in
-    let all : (d : TrieOfRow c.self.inside.signs c.set_base.new.self) → AreValuedFamilies (record { signs = c.self.inside.signs; families = d.0.families; values = d.0.values }) =
-    λ d. is_held c.self.inside.signs c.set_base.new.self d.0 (held_is_kept (member_code g.row.V.coded) c.self.inside.signs c.set_base.new.self d _ trie) c.set_base.ensures.row.values in
+    let all : (d : TrieOfRow c.self.inside.signs c.set_base.new.self) → IsRootAlone c.args.self.now.signs c.args.blank (seen c.self.inside.signs d.0) =
+    λ d. record {
+      held = ap (seen c.self.inside.signs) (kept_is_only (member_code g.row.V.coded) c.self.inside.signs c.set_base.new.self d _ trie)
+          ∙ ap (λ (h : ValuedFamilies (Member g.row.V.Denot)). root_alone h.signs c.args.blank) c.self.view_is;
+      kept = is_held c.self.inside.signs c.set_base.new.self d.0 (held_is_kept (member_code g.row.V.coded) c.self.inside.signs c.set_base.new.self d _ trie) c.set_base.ensures.row.values;
+    } in
     search all
 
 pub take_root-requires-clause-signs : goal.take_root-requires-clause-signs

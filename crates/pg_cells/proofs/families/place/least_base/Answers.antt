@@ -7,10 +7,10 @@ use Rattle.pg_cells.proofs.families.place.least_base.Goals as goal
 
 pub find_base-base-requires-clause-low : goal.find_base-base-requires-clause-low
 find_base-base-requires-clause-low g c =
-    let tried = tried_within c.args.store.now (c.args.sign ∷ signs_of c.args.slots.now) c.args.low c.args.tried c.requires.tried c.args.room c.requires.low.1 c.requires.room in
+    let tried = tried_within c.args.store.now (c.args.sign ∷ signs_of c.args.slots.now) c.args.low c.args.tried c.requires.tried c.args.room c.requires.low.1 c.requires.room.fits in
     let up : 0 < c.max-from.result = omega (arith, c.max-from.ensures, c.requires.low.0) in
     let within : c.max-from.result ≤ c.args.room = omega (arith, c.max-from.ensures, tried) in
-    rw (c.max.ensures) (bound_within c.args.store.now c.args.sign (signs_of c.args.slots.now) c.max-from.result c.bound-bound.result c.args.room up within c.bound-bound.ensures c.requires.room)
+    rw (c.max.ensures) (bound_within c.args.store.now c.args.sign (signs_of c.args.slots.now) c.max-from.result c.bound-bound.result c.args.room up within c.bound-bound.ensures c.requires.room.fits)
 
 pub raise_bound-requires-clause-none : goal.raise_bound-requires-clause-none
 raise_bound-requires-clause-none g c =
@@ -46,20 +46,11 @@ returns-else-is_empty-clause-least g c =
     least_tried r (c.args.sign ∷ signs_of c.args.slots.now) c.args.low c.args.tried c.requires.tried base
     (subst (λ from. IsLeast (fits_row r (c.args.sign ∷ signs_of c.args.slots.now)) from base) c.max-from.ensures tried)
 
-pub find_base-base-requires-clause-positive : goal.find_base-base-requires-clause-positive
-find_base-base-requires-clause-positive g c = c.requires.positive
-
-pub find_base-base-requires-clause-within : goal.find_base-base-requires-clause-within
-find_base-base-requires-clause-within g c = c.requires.within
-
-pub find_base-base-requires-clause-wide : goal.find_base-base-requires-clause-wide
-find_base-base-requires-clause-wide g c = c.requires.wide
-
 pub find_base-base-requires-clause-room : goal.find_base-base-requires-clause-room
 find_base-base-requires-clause-room g c = c.requires.room
 
 pub raise_bound-requires-clause-base : goal.raise_bound-requires-clause-base
-raise_bound-requires-clause-base g c = let room = c.find_base-base.ensures.room in let within = c.requires.within in omega arith
+raise_bound-requires-clause-base g c = let room = c.find_base-base.ensures.room in let within = c.requires.room.within in omega arith
 
 pub returns-then-low-max-clause-room : goal.returns-then-low-max-clause-room
 returns-then-low-max-clause-room g c = c.find_base-base.ensures.room

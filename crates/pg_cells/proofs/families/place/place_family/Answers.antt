@@ -12,20 +12,19 @@ use Rattle.pg_cells.proofs.families.place.place_family.Goals as goal
 pub give_up-requires-clause-taken : goal.give_up-requires-clause-taken
 give_up-requires-clause-taken g c x slot at = let stands = c.requires.can.stand x slot at in (stands.0, stands.2)
 
-pub least_base-base-requires-clause-within : goal.least_base-base-requires-clause-within
-least_base-base-requires-clause-within g c =
-    let within = room_within c.args.signs c.args.store.now c.give_up.new.store c.drop_base.new.store c.args.was c.args.slots.now c.args.slot c.args.parent
-    c.requires.can c.give_up.ensures c.drop_base.ensures c.top-top.result c.top-top.ensures c.max.result c.max.ensures in
-    let le : c.args.slot.sign ≤ c.args.signs = c.requires.can.sign.1 in
-    omega arith
-
-pub least_base-base-requires-clause-wide : goal.least_base-base-requires-clause-wide
-least_base-base-requires-clause-wide g c = slots_within c.args.signs c.args.store.now c.give_up.new.store c.drop_base.new.store c.args.was c.args.slots.now
-    c.args.slot c.args.parent c.requires.can c.give_up.ensures c.drop_base.ensures c.top-top.result c.top-top.ensures c.max.result c.max.ensures
-
 pub least_base-base-requires-clause-room : goal.least_base-base-requires-clause-room
-least_base-base-requires-clause-room g c = room_fits c.args.signs c.args.store.now c.give_up.new.store c.drop_base.new.store c.args.was c.args.slots.now
-    c.args.slot c.args.parent c.requires.can c.give_up.ensures c.drop_base.ensures c.top-top.result c.top-top.ensures c.max.result c.max.ensures
+least_base-base-requires-clause-room g c = record {
+  positive = c.requires.can.sign.0;
+  within =
+      let within = room_within c.args.signs c.args.store.now c.give_up.new.store c.drop_base.new.store c.args.was c.args.slots.now c.args.slot c.args.parent
+      c.requires.can c.give_up.ensures c.drop_base.ensures c.top-top.result c.top-top.ensures c.max.result c.max.ensures in
+      let le : c.args.slot.sign ≤ c.args.signs = c.requires.can.sign.1 in
+      omega arith;
+  wide = slots_within c.args.signs c.args.store.now c.give_up.new.store c.drop_base.new.store c.args.was c.args.slots.now
+      c.args.slot c.args.parent c.requires.can c.give_up.ensures c.drop_base.ensures c.top-top.result c.top-top.ensures c.max.result c.max.ensures;
+  fits = room_fits c.args.signs c.args.store.now c.give_up.new.store c.drop_base.new.store c.args.was c.args.slots.now
+      c.args.slot c.args.parent c.requires.can c.give_up.ensures c.drop_base.ensures c.top-top.result c.top-top.ensures c.max.result c.max.ensures;
+}
 
 pub put-requires-clause-free : goal.put-requires-clause-free
 put-requires-clause-free g c = rw (c.least_base-base.ensures.same) (can_put c.args.signs c.args.store.now c.give_up.new.store c.drop_base.new.store
@@ -74,9 +73,6 @@ take-requires-clause-cell g c = let sign = c.requires.can.sign in omega (arith, 
 
 pub take-requires-clause-sign : goal.take-requires-clause-sign
 take-requires-clause-sign g c z = let sign = c.requires.can.sign in omega (arith, sign.0)
-
-pub least_base-base-requires-clause-positive : goal.least_base-base-requires-clause-positive
-least_base-base-requires-clause-positive g c = c.requires.can.sign.0
 
 pub drop_base-requires : goal.drop_base-requires
 drop_base-requires g c = let was = c.requires.was in let size = c.give_up.ensures.others.size in omega arith

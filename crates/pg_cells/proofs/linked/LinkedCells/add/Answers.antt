@@ -18,14 +18,14 @@ sign_before-before-requires g c =
     let h = c.self.inside.placed in
     let can : CanTakeSign h.signs h.families c.args.parent c.args.s =
     subst (λ (k : ValuedFamilies g.row.V.Denot). CanTakeSign k.signs k.families c.args.parent c.args.s) (sym c.self.view_is) c.requires in
-    (search rules, (c.self.invariant, ((can.prefix, (can.at, c.child-base.ensures.base can.prefix can.at)), (can.low, can.high))))
+    (search rules, (c.self.invariant, ((can.prefix, can.at), (c.child-base.ensures.base, (can.low, can.high)))))
 
 pub list_moving-requires : goal.list_moving-requires
 list_moving-requires g c =
     let h = c.self.inside.placed in
     let can : CanTakeSign h.signs h.families c.args.parent c.args.s =
     subst (λ (k : ValuedFamilies g.row.V.Denot). CanTakeSign k.signs k.families c.args.parent c.args.s) (sym c.self.view_is) c.requires in
-    (search rules, (c.self.invariant, ((can.prefix, (can.at, can.lacks, c.child-base.ensures.base can.prefix can.at)), (can.low, can.high))))
+    (search rules, (c.self.invariant, (can, c.child-base.ensures.base)))
 
 pub link-requires : goal.link-requires
 link-requires g c =
@@ -74,7 +74,7 @@ sign_after-after-requires g c =
     let h = c.self.inside.placed in
     let can : CanTakeSign h.signs h.families c.args.parent c.args.s =
     subst (λ (k : ValuedFamilies g.row.V.Denot). CanTakeSign k.signs k.families c.args.parent c.args.s) (sym c.self.view_is) c.requires in
-    (search rules, (c.self.invariant, (can.prefix, (can.at, c.child-base.ensures.base can.prefix can.at, (c.sign_before-before.ensures can.prefix can.at).there))))
+    (search rules, (c.self.invariant, ((can.prefix, can.at), (c.child-base.ensures.base, λ q e. (c.sign_before-before.ensures q e).there))))
 
 pub invariant_of-self : goal.invariant_of-self
 invariant_of-self g c = c.self.invariant

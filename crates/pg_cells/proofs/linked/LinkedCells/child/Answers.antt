@@ -2,7 +2,7 @@ use Rattle.std.proofs.Common.{◌≡◌, Some, sym, subst}
 use Rattle.pg_types.specs.Inside.Placing.{cell_of}
 use Rattle.pg_cells.specs.Inside.linked.ValuedFamilies.{ValuedFamilies}
 use Rattle.pg_cells.specs.Inside.linked.AreValuedFamilies.{AreValuedFamilies}
-use Rattle.pg_cells.specs.Inside.linked.Links.{HasBase}
+use Rattle.pg_cells.specs.Inside.linked.CellValues.{HasBase}
 use Rattle.pg_cells.proofs.Unlinked.{held_unlinked}
 use Rattle.pg_cells.proofs.Walking.{none_below, some_below}
 use Rattle.pg_cells.proofs.linked.LinkedCells.child.Goals as goal

@@ -1,15 +1,10 @@
 use Rattle.std.proofs.Common.{ap}
 use Rattle.pg_cells.specs.declared.store.member.Member.{Member}
 use Rattle.pg_cells.proofs.RootLinks.{root_links, root_seen}
-use Rattle.pg_cells.proofs.Unlinked.{held_unlinked}
 use Rattle.pg_cells.proofs.linked.LinkedCells.new.Goals as goal
 
 pub invariant_of-result : goal.invariant_of-result
-invariant_of-result g c = root_links c.args.signs c.alone.result c.in_ok-placed.placed
-    (ap (λ (m : Member g.row.V.Denot). m.first) c.alone.ensures) c.in_ok-placed.ensures.held c.in_ok-placed.ensures.kept
+invariant_of-result g c = root_links c.args.signs c.alone.result c.in_ok-placed.placed (ap (λ (m : Member g.row.V.Denot). m.first) c.alone.ensures) c.in_ok-placed.ensures
 
-pub returns-clause-held : goal.returns-clause-held
-returns-clause-held g c = root_seen c.args.signs c.alone.result c.args.blank c.in_ok-placed.placed (ap (λ (m : Member g.row.V.Denot). m.value) c.alone.ensures) c.in_ok-placed.ensures.held
-
-pub returns-clause-kept : goal.returns-clause-kept
-returns-clause-kept g c = held_unlinked c.in_ok-placed.placed c.in_ok-placed.ensures.kept
+pub returns : goal.returns
+returns g c = root_seen c.args.signs c.alone.result c.args.blank c.in_ok-placed.placed (ap (λ (m : Member g.row.V.Denot). m.value) c.alone.ensures) c.in_ok-placed.ensures

@@ -14,7 +14,7 @@ sign_before-before-requires g c =
       search rules,
       (
         c.self.invariant,
-        ((can.prefix, (can.at, c.child-base.ensures.base can.prefix can.at)), c.self.invariant.held.signs can.prefix c.args.s can.cell can.there),
+        ((can.prefix, can.at), (c.child-base.ensures.base, c.self.invariant.held.signs can.prefix c.args.s can.cell can.there)),
       ),
     )
 

@@ -1,8 +1,8 @@
-use Rattle.std.proofs.Common.{◌≡◌, Some, sym, subst, rules, MatchBool, inr, arith}
+use Rattle.std.proofs.Common.{◌≡◌, Some, true, sym, subst, rules, MatchBool, inr, arith}
 use Rattle.pg_types.specs.Inside.Placing.{cell_of}
 use Rattle.pg_cells.specs.Inside.linked.ValuedFamilies.{ValuedFamilies}
 use Rattle.pg_cells.specs.Inside.linked.Links.{values_alone}
-use Rattle.pg_cells.specs.Inside.linked.Members.{IsAlone, HasOther}
+use Rattle.pg_cells.specs.Inside.linked.Members.{IsAlone, HasOther, goes_on}
 use Rattle.pg_cells.specs.Inside.families.Removing.{CanRemoveSign, RemovesSign}
 use Rattle.pg_cells.proofs.LinkLaws.{cell_goes}
 use Rattle.pg_cells.proofs.LinkedSigns.{prefix_left, before_left, links_of_left, linked_removed}
@@ -25,7 +25,15 @@ sign_after-after-requires g c =
       omega arith,
       (
         c.self.invariant,
-        (can.prefix, (can.at, c.child-base.ensures.base can.prefix can.at, inr (cell_goes h c.self.invariant.held can.prefix c.args.s can.cell can.there))),
+        (
+          (can.prefix, can.at),
+          (
+            c.child-base.ensures.base,
+            λ q e.
+                let same : can.prefix ≡ q = c.self.invariant.held.apart can.prefix q c.args.parent can.at e in
+                inr (subst (λ p. goes_on h.values p c.args.s ≡ true) same (cell_goes h c.self.invariant.held can.prefix c.args.s can.cell can.there)),
+          ),
+        ),
       ),
     )
 

@@ -27,7 +27,7 @@ loop-next-preserved g c =
 
 pub loop-next-smaller : goal.loop-next-smaller
 loop-next-smaller g c =
-    let h = (c.loop-next.invariant.next c.requires.parent.0 c.requires.parent.1.0).found (omega arith) in
+    let h = (c.loop-next.invariant.next c.requires.parent.0 c.requires.parent.1).found (omega arith) in
     let less = h.0 in
     let last = last_of_more c.loop-next.signs.items c.loop-next.next in
     let same = ap (λ (xs : List ℕ). number_before xs (length xs)) c.in_ok-push.ensures.items in
@@ -35,7 +35,7 @@ loop-next-smaller g c =
     omega arith
 
 pub returns-clause-positive : goal.returns-clause-positive
-returns-clause-positive g c k lt = (c.loop-next.invariant.each c.requires.parent.0 c.requires.parent.1.0 k lt).0
+returns-clause-positive g c k lt = (c.loop-next.invariant.each c.requires.parent.0 c.requires.parent.1 k lt).0
 
 pub returns-clause-signs : goal.returns-clause-signs
 returns-clause-signs g c q e = record {
@@ -44,13 +44,13 @@ returns-clause-signs g c q e = record {
 }
 
 pub sign_after-next-requires : goal.sign_after-next-requires
-sign_after-next-requires g c = (omega arith, (c.requires.links, (c.requires.parent.0, (c.requires.parent.1.0, c.requires.parent.1.1, inl refl))))
+sign_after-next-requires g c = (omega arith, (c.requires.links, (c.requires.parent, (c.requires.base, λ q e. inl refl))))
 
 pub sign_after-next-requires-in-loop-next : goal.sign_after-next-requires-in-loop-next
 sign_after-next-requires-in-loop-next g c = (
   omega arith,
   (
     c.requires.links,
-    (c.requires.parent.0, (c.requires.parent.1.0, c.requires.parent.1.1, inr ((c.loop-next.invariant.next c.requires.parent.0 c.requires.parent.1.0).found (omega arith)).1)),
+    (c.requires.parent, (c.requires.base, λ q e. inr ((c.loop-next.invariant.next q e).found (omega arith)).1)),
   ),
 )

@@ -1,50 +1,47 @@
-use Rattle.std.proofs.Common.{◌≡◌, ◌≤◌, ◌++◌, [], ◌∷◌, Some, None, inl, inr, sym, subst, ◌∙◌, arith}
+use Rattle.std.proofs.Common.{◌≡◌, ◌≤◌, ◌++◌, [], ◌∷◌, Some, None, inl, inr, sym, ◌∙◌, arith}
 use Rattle.std.proofs.lemmas.Bool.{both_ways}
 use Rattle.pg_types.specs.Inside.Placing.{cell_of}
-use Rattle.pg_cells.specs.Inside.linked.Members.{goes_on, IsNextSign}
+use Rattle.pg_cells.specs.Inside.linked.Members.{goes_on}
 use Rattle.pg_cells.proofs.LinkLaws.{some_string, some_base, none_goes_on, goes_cell}
 use Rattle.pg_cells.proofs.linked.links.sign_after.Goals as goal
 
 pub returns-then-base-eq0-clause-next : goal.returns-then-base-eq0-clause-next
 returns-then-base-eq0-clause-next g c q e =
     let h = c.args.cells.now in
-    elim c.requires.parent.1.2 [
+    elim (c.requires.sign q e) [
       | inl z ↦ absurd (c.if-s-eq0.false z)
-      | inr there ↦ absurd (both_ways (goes_on h.values c.requires.parent.0 c.args.s)
-          (none_goes_on h c.requires.links.held c.requires.parent.0 c.args.base c.requires.parent.1.1 c.if-base-eq0.true c.args.s) there)
+      | inr there ↦ absurd (both_ways (goes_on h.values q c.args.s)
+          (none_goes_on h c.requires.links.held q c.args.base (c.requires.base q e) c.if-base-eq0.true c.args.s) there)
     ]
 
 pub returns-in-Some-clause-next : goal.returns-in-Some-clause-next
 returns-in-Some-clause-next g c q e =
     let h = c.args.cells.now in
-    let same : c.requires.parent.0 ≡ q = c.requires.links.held.apart c.requires.parent.0 q c.args.parent c.requires.parent.1.0 e in
-    let has = some_base h.families c.requires.parent.0 c.args.base c.requires.parent.1.1 c.if-base-eq0.false in
-    let at : cell_of h.families (c.requires.parent.0 ++ c.args.s ∷ []) ≡ Some c.in-Some.cell = sym (c.in-Some.ensures.cell c.requires.parent.0 has) in
-    subst (λ p. IsNextSign h.values p c.args.s c.value-in-Some.result.next) same
-    (c.requires.links.next c.requires.parent.0 c.args.s c.value-in-Some.result (some_string h.families c.requires.parent.0 c.args.parent c.requires.parent.1.0)
-    (c.value-in-Some.ensures.value (c.requires.parent.0 ++ c.args.s ∷ []) at))
+    let has = some_base h.families q c.args.base (c.requires.base q e) c.if-base-eq0.false in
+    let at : cell_of h.families (q ++ c.args.s ∷ []) ≡ Some c.in-Some.cell = sym (c.in-Some.ensures.cell q has) in
+    c.requires.links.next q c.args.s c.value-in-Some.result (some_string h.families q c.args.parent e) (c.value-in-Some.ensures.value (q ++ c.args.s ∷ []) at)
 
 pub returns-in-None-clause-next : goal.returns-in-None-clause-next
 returns-in-None-clause-next g c q e =
     let h = c.args.cells.now in
-    let has = some_base h.families c.requires.parent.0 c.args.base c.requires.parent.1.1 c.if-base-eq0.false in
-    elim c.requires.parent.1.2 [
+    let has = some_base h.families q c.args.base (c.requires.base q e) c.if-base-eq0.false in
+    elim (c.requires.sign q e) [
       | inl z ↦ absurd (c.if-s-eq0.false z)
       | inr there ↦
-          let cell = goes_cell h c.requires.links.held c.requires.parent.0 c.args.s there in
-          let none : cell_of h.families (c.requires.parent.0 ++ c.args.s ∷ []) ≡ None = sym (c.in-None.ensures.cell c.requires.parent.0 has) in
+          let cell = goes_cell h c.requires.links.held q c.args.s there in
+          let none : cell_of h.families (q ++ c.args.s ∷ []) ≡ None = sym (c.in-None.ensures.cell q has) in
           absurd (let apart : None ≡ Some cell.0 = sym none ∙ cell.1 in cc)
     ]
 
 pub value-requires : goal.value-requires
-value-requires g c = (omega arith, (c.requires.parent.0, c.requires.parent.1.0))
+value-requires g c = (omega arith, c.requires.parent)
 
 pub find-requires : goal.find-requires
 find-requires g c =
     let h = c.args.cells.now in
-    let has = some_base h.families c.requires.parent.0 c.args.base c.requires.parent.1.1 c.if-base-eq0.false in
+    let has = some_base h.families c.requires.parent.0 c.args.base (c.requires.base c.requires.parent.0 c.requires.parent.1) c.if-base-eq0.false in
     let sign : (1 ≤ c.args.s) × (c.args.s ≤ h.signs) =
-    elim c.requires.parent.1.2 [
+    elim (c.requires.sign c.requires.parent.0 c.requires.parent.1) [
       | inl z ↦ absurd (c.if-s-eq0.false z)
       | inr there ↦
           let cell = goes_cell h c.requires.links.held c.requires.parent.0 c.args.s there in
@@ -54,5 +51,5 @@ find-requires g c =
 
 pub value-requires-in-Some : goal.value-requires-in-Some
 value-requires-in-Some g c =
-    let has = some_base c.args.cells.now.families c.requires.parent.0 c.args.base c.requires.parent.1.1 c.if-base-eq0.false in
+    let has = some_base c.args.cells.now.families c.requires.parent.0 c.args.base (c.requires.base c.requires.parent.0 c.requires.parent.1) c.if-base-eq0.false in
     (omega arith, (c.requires.parent.0 ++ c.args.s ∷ [], sym (c.in-Some.ensures.cell c.requires.parent.0 has)))

@@ -1,5 +1,4 @@
-use Rattle.std.proofs.Common.{◌≡◌, cond, nat_eq, None, Some, inl, inr, refl, subst, arith}
-use Rattle.pg_types.specs.Placement.{base_of}
+use Rattle.std.proofs.Common.{inl, inr, refl, arith}
 use Rattle.pg_cells.specs.Inside.linked.Members.{goes_on}
 use Rattle.pg_cells.proofs.LinkLaws.{none_between, none_down, below_most}
 use Rattle.pg_cells.proofs.linked.links.sign_before.Goals as goal
@@ -22,23 +21,19 @@ loop-next-preserved g c =
       under = omega arith;
       next = λ q e. (c.sign_after-next-in-loop-next.ensures.next q e, inr ((c.loop-next.invariant.next q e).0.found (omega arith)).1);
       free = λ q e.
-          let fs = c.args.cells.now.families in
-          let same : c.requires.parent.0 ≡ q = c.requires.links.held.apart c.requires.parent.0 q c.args.parent c.requires.parent.1.0 e in
-          let told = subst (λ p. base_of fs p ≡ cond (nat_eq c.args.base 0) None (Some c.args.base)) same c.requires.parent.1.1 in
+          let told = c.requires.base q e in
           none_down (goes_on c.args.cells.now.values q) c.loop-next.below c.sign_down-below.result c.args.s (c.loop-next.invariant.free q e) (c.sign_down-below.ensures.most q told);
     }
 
 pub loop-next-smaller : goal.loop-next-smaller
 loop-next-smaller g c =
-    let h = (c.loop-next.invariant.next c.requires.parent.0 c.requires.parent.1.0).0.found (omega arith) in
+    let h = (c.loop-next.invariant.next c.requires.parent.0 c.requires.parent.1).0.found (omega arith) in
     let less = h.0 in
     omega arith
 
 pub returns-then-low-below : goal.returns-then-low-below
 returns-then-low-below g c q e =
-    let fs = c.args.cells.now.families in
-    let same : c.requires.parent.0 ≡ q = c.requires.links.held.apart c.requires.parent.0 q c.args.parent c.requires.parent.1.0 e in
-    let told = subst (λ p. base_of fs p ≡ cond (nat_eq c.args.base 0) None (Some c.args.base)) same c.requires.parent.1.1 in
+    let told = c.requires.base q e in
     let under = c.loop-next.invariant.under in
     let within = c.sign_down-below.ensures.within in
     let to = within.1 in
@@ -60,20 +55,20 @@ returns-else-next-s g c q e =
     record { less = c.loop-next.invariant.less; there = h.1; most = none_between (goes_on c.args.cells.now.values q) c.loop-next.before c.loop-next.next c.args.s h.0 (inr c.if-next-s.false) }
 
 pub sign_after-next-requires : goal.sign_after-next-requires
-sign_after-next-requires g c = (omega arith, (c.requires.links, (c.requires.parent.0, (c.requires.parent.1.0, c.requires.parent.1.1, inl refl))))
+sign_after-next-requires g c = (omega arith, (c.requires.links, (c.requires.parent, (c.requires.base, λ q e. inl refl))))
 
 pub overflow_sub-below : goal.overflow_sub-below
 overflow_sub-below g c = c.requires.sign.0
 
 pub sign_down-below-requires : goal.sign_down-below-requires
 sign_down-below-requires g c = let sub = c.saturating_sub-low.ensures in let under = c.loop-next.invariant.under in let high = c.requires.sign.1 in
-    (omega arith, (c.requires.links.held, ((c.requires.parent.0, c.requires.parent.1.1), (omega arith, omega arith))))
+    (omega arith, (c.requires.links.held, ((c.requires.parent.0, c.requires.base c.requires.parent.0 c.requires.parent.1), (omega arith, omega arith))))
 
 pub sign_after-next-requires-in-loop-next : goal.sign_after-next-requires-in-loop-next
 sign_after-next-requires-in-loop-next g c = (
   omega arith,
   (
     c.requires.links,
-    (c.requires.parent.0, (c.requires.parent.1.0, c.requires.parent.1.1, inr ((c.loop-next.invariant.next c.requires.parent.0 c.requires.parent.1.0).0.found (omega arith)).1)),
+    (c.requires.parent, (c.requires.base, λ q e. inr ((c.loop-next.invariant.next q e).0.found (omega arith)).1)),
   ),
 )

@@ -1,12 +1,10 @@
-use Rattle.std.proofs.Common.{◌≡◌, ◌+◌, ◌<◌, ◌∷◌, List, length, get_or, sym, ap, subst, ◌∙◌, true}
+use Rattle.std.proofs.Common.{◌<◌, ◌∷◌, List, length, sym, ap, subst, ◌∙◌}
 use Rattle.pg_types.specs.Inside.Placing.{IsLeast}
 use Rattle.pg_cells.specs.declared.store.cell.Cell.{Cell}
 use Rattle.pg_cells.specs.declared.store.cell.TheConstants.{CELLS_END}
-use Rattle.pg_cells.specs.declared.store.member.Member.{Member}
-use Rattle.pg_cells.specs.Inside.store.Lists.{Row, lists, row_of}
+use Rattle.pg_cells.specs.Inside.store.Lists.{lists, row_of}
 use Rattle.pg_cells.specs.Inside.store.FreeList.{AreLinked}
-use Rattle.pg_cells.specs.Inside.store.Fit.{fits_row, signs_of}
-use Rattle.pg_cells.proofs.ChainSteps.{signs_long}
+use Rattle.pg_cells.specs.Inside.store.Fit.{HasRoom, fits_row, signs_of}
 use Rattle.pg_cells.proofs.store.Store.find_base.Goals as goal
 
 pub find_base-requires : goal.find_base-requires
@@ -14,13 +12,9 @@ find_base-requires g c =
     let seen = ap row_of c.as_slice.ensures.value ∙ c.self.view_is in
     record {
       linked = subst (λ (cells : List (Cell g.row.V.Denot)). AreLinked (lists cells)) (sym c.as_slice.ensures.value) c.self.invariant.kept.linked;
-      positive = c.requires.positive;
       low = c.requires.low;
-      within = subst (λ n. c.args.room + c.args.sign < n) (ap (λ (r : Row (Member g.row.V.Denot)). length r.signs) (sym seen) ∙ signs_long c.as_slice.result.now) c.requires.within;
-      wide = λ k lt. subst (λ n. c.args.room + get_or (signs_of c.args.slots.now) k 0 < n) (ap (λ (r : Row (Member g.row.V.Denot)). length r.signs) (sym seen) ∙ signs_long c.as_slice.result.now)
-          (c.requires.wide k lt);
       small = subst (λ (cells : List (Cell g.row.V.Denot)). length cells < CELLS_END) (sym c.as_slice.ensures.value) c.self.invariant.kept.small;
-      room = subst (λ r. fits_row r (c.args.sign ∷ signs_of c.args.slots.now) c.args.room ≡ true) (sym seen) c.requires.room;
+      room = subst (λ r. HasRoom r c.args.slots.now c.args.sign c.args.room) (sym seen) c.requires.room;
     }
 
 pub returns : goal.returns
