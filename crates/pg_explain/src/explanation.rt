@@ -2,11 +2,11 @@
 ghost use Rattle.std.specs.Prelude.{IfOk};
 ghost use Rattle.pg_visible.specs.Inside.Texts.{IsVisibleText};
 
+use crate::arguments::push_arguments;
 use crate::false_lines::push_false_line;
 use crate::faults::push_fault;
 use crate::notes::{push_behind, push_low_start, push_no_part, push_no_word};
 use crate::refused::push_refused;
-use crate::words::push_words;
 use crate::wrong::Wrong;
 use pg_visible::Text;
 use std::alloc::{AllocError, Global};
@@ -17,7 +17,7 @@ pub const MEMORY: &[u8] = b"there was not enough memory; no file was written\n";
 /// Appends an explanation.
 fn push(text: &mut Text, wrong: &Wrong<'_>) -> Result<(), AllocError> {
     match wrong {
-        Wrong::Words(words) => push_words(text, words),
+        Wrong::Arguments(arguments) => push_arguments(text, arguments),
         Wrong::Refused(refused) => push_refused(text, refused),
         Wrong::Fault(fault) => push_fault(text, fault),
         Wrong::False(line) => push_false_line(text, line),

@@ -3,16 +3,16 @@
 //! control byte.
 //!
 //! `wrong` says what can be explained, and `explanation` is the call. Each status has a module:
-//! `notes` (0), `false_lines` (1), `words` (2), `refused` (3) and `faults` (4).
+//! `notes` (0), `false_lines` (1), `arguments` (2), `refused` (3) and `faults` (4).
 #![tactic(auto)]
 
+mod arguments;
 mod chars;
 mod explanation;
 mod false_lines;
 mod faults;
 mod notes;
 mod refused;
-mod words;
 mod wrong;
 
 pub use explanation::{MEMORY, explain};

@@ -7,7 +7,7 @@ use pg_types::Refusal;
 #[derive(Clone, Copy)]
 pub enum Wrong<'a> {
     /// The arguments behind the program's name are no command.
-    Words(&'a [String]),
+    Arguments(&'a [String]),
     /// A file is refused.
     Refused(RefusalCase<'a>),
     /// A file could not be read or written, or a line could not be printed.

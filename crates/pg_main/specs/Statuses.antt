@@ -10,11 +10,11 @@ use Rattle.pg_main.specs.Given.{code_of_none}
 use Rattle.pg_main.specs.declared.NoArguments.{NoArguments}
 
 -- the status is that of an answer of a call on exactly these arguments
-pub record IsCodeOfRun {F : Type 0} (words : List (String Global)) (code : ℕ)
+pub record IsCodeOfRun {F : Type 0} (arguments : List (String Global)) (code : ℕ)
     (before after : F) (old new : Moment) : Type 0 where
   pub answer : Status
   pub code_of_it : code ≡ code_of answer
-  pub run : IsRun (request_of_call words) answer before after old new
+  pub run : IsRun (request_of_call arguments) answer before after old new
 
 -- there were no arguments: the status tells why, and neither the files nor the sink were touched
 pub record IsCodeOfNone {F O : Type 0} (reason : NoArguments) (code : ℕ)

@@ -37,11 +37,11 @@ pub enum NoArguments {
 /// # Errors
 /// Where there is not enough memory.
 pub fn arguments_after_name(alloc: Global, arguments: Args) -> Result<Vec<String>, NoArguments>
-    ensures all { IfOk result (λ words. words.items ≡ arguments_in arguments) }
+    ensures all { IfOk result (λ given. given.items ≡ arguments_in arguments) }
     ensures memory { IfErr result (λ reason. reason ≡ NoArguments.Memory) }
 {
     match arguments.skip(1).collect(alloc) {
-        Ok(words) => Ok(words),
+        Ok(given) => Ok(given),
         Err(_) => Err(NoArguments::Memory),
     }
 }
@@ -55,22 +55,22 @@ pub fn arguments_after_name(alloc: Global, arguments: Args) -> Result<Vec<String
 /// `files` nor `out` is called then. The observer is told of the call and of its answer.
 pub fn status_of<F: Files, O: Sink, L: Listen>(
     alloc: Global,
-    words: Result<Vec<String>, NoArguments>,
+    arguments: Result<Vec<String>, NoArguments>,
     files: &mut F,
     out: &mut O,
     listen: &L,
 ) -> u8
-    ensures told { MatchResult words
-        (λ words. IsCodeOfRun words.items result files.old files.new
+    ensures told { MatchResult arguments
+        (λ given. IsCodeOfRun given.items result files.old files.new
         (F.shown files.old, O.shown out.old) (F.shown files.new, O.shown out.new))
         (λ reason. IsCodeOfNone reason result files.old files.new out.old out.new) }
     ensures most { result ≤ 6 }
 {
-    match words {
-        Ok(words) => {
-            listen.begins(&words);
-            let status = run_watched(alloc, &words, files, out, listen);
-            listen.ends(&words, &status);
+    match arguments {
+        Ok(given) => {
+            listen.begins(&given);
+            let status = run_watched(alloc, &given, files, out, listen);
+            listen.ends(&given, &status);
             exit_code(&status)
         }
         Err(reason) => {
@@ -90,7 +90,7 @@ pub fn status_of<F: Files, O: Sink, L: Listen>(
 /// arguments.
 pub fn arguments_of(alloc: Global, arguments: io::Result<Args>) -> Result<Vec<String>, NoArguments>
     ensures given { IfOk arguments (λ arguments. MatchResult result
-        (λ words. words.items ≡ arguments_in arguments) (λ reason. reason ≡ NoArguments.Memory)) }
+        (λ given. given.items ≡ arguments_in arguments) (λ reason. reason ≡ NoArguments.Memory)) }
     ensures none { IfErr arguments (λ error. MatchResult result (λ _. ⊥) (IsReasonOf error)) }
 {
     match arguments {
@@ -128,8 +128,8 @@ pub fn exit_of<F: Files, O: Sink, L: Listen>(
         × IsCodeOfNone reason (exit_status result) files.old files.new out.old out.new) }
     ensures most { exit_status result ≤ 6 }
 {
-    let words = arguments_of(alloc, arguments);
-    code_from(status_of(alloc, words, files, out, listen))
+    let given = arguments_of(alloc, arguments);
+    code_from(status_of(alloc, given, files, out, listen))
 }
 
 /// The system's reason as it prints it; empty where it gave none, and where memory is short.

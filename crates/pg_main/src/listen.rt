@@ -10,10 +10,10 @@ use std::time::Clock;
 /// calls, and nothing is asked of it.
 pub trait Listen: Watch {
     /// The call on these arguments begins.
-    fn begins(&self, words: &[String]);
+    fn begins(&self, arguments: &[String]);
 
     /// The call on these arguments gave this answer.
-    fn ends(&self, words: &[String], status: &Status);
+    fn ends(&self, arguments: &[String], status: &Status);
 
     /// There are no arguments.
     fn has_no_arguments(&self, reason: &NoArguments);
@@ -21,18 +21,18 @@ pub trait Listen: Watch {
 
 /// What stands on standard error where the system did not give the arguments.
 const UNREADABLE: &[u8] =
-    b"patgen: the system did not give the words, or one of them is no UTF-8\n";
+    b"patgen: the system did not give the arguments, or one of them is no UTF-8\n";
 
 impl<'a, C: Clock, E: Write + Drop> Listen for Messages<'a, C, E> {
-    fn begins(&self, words: &[String]) {
-        self.take_arguments(words);
+    fn begins(&self, arguments: &[String]) {
+        self.take_arguments(arguments);
     }
 
-    fn ends(&self, words: &[String], status: &Status) {
+    fn ends(&self, arguments: &[String], status: &Status) {
         match status {
             Status::Done | Status::Yes => self.put_notes(),
             Status::No | Status::Refused => self.put_reason(),
-            Status::Usage => self.put_arguments(words),
+            Status::Usage => self.put_arguments(arguments),
             Status::Memory => self.put_memory(),
             Status::Fault => self.keep_fault(),
         }

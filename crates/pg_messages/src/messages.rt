@@ -146,8 +146,8 @@ impl<'a, C: Clock, E: Write + Drop> Messages<'a, C, E> {
     }
 
     /// Takes the arguments of the call.
-    pub fn take_arguments(&self, words: &[String]) {
-        if let Some(first) = words.first() {
+    pub fn take_arguments(&self, arguments: &[String]) {
+        if let Some(first) = arguments.first() {
             if let Ok(command) = String::from_str(self.alloc, first) {
                 let _ = self.command.try_replace(command);
             }
@@ -168,8 +168,8 @@ impl<'a, C: Clock, E: Write + Drop> Messages<'a, C, E> {
     }
 
     /// Puts on standard error what is wrong with these arguments.
-    pub fn put_arguments(&self, words: &[String]) {
-        self.put_wrong(&Wrong::Words(words));
+    pub fn put_arguments(&self, arguments: &[String]) {
+        self.put_wrong(&Wrong::Arguments(arguments));
     }
 
     /// Puts on standard error why a file is refused, or a given one is not the wanted one.

@@ -7,6 +7,6 @@ use Rattle.pg_main.proofs.arguments_after_name.Goals as goal
 pub returns-in-Ok-clause-all : goal.returns-in-Ok-clause-all
 returns-in-Ok-clause-all c =
     let arguments = c.args.arguments in
-    items_from_collect {E = Unit {0}} (Ok c.in-Ok.words) c.in-Ok.ensures.ran (YieldsList-from_skip {ys = into_iter_items arguments} 1
+    items_from_collect {E = Unit {0}} (Ok c.in-Ok.given) c.in-Ok.ensures.ran (YieldsList-from_skip {ys = into_iter_items arguments} 1
     (YieldsList-from_vec (into_iter_items arguments) (ap into_iter_items c.skip.ensures.source)
     (ap into_iter_len c.skip.ensures.source ∙ arguments.rest.ok.0)) c.skip.ensures.count)

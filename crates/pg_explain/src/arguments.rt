@@ -6,11 +6,11 @@ mod one_name;
 mod rest;
 mod slots;
 
-use crate::words::forms::{Behind, COMMANDS, Command, command_of};
-use crate::words::mistake::{Mistake, about_arguments};
-use crate::words::one_name::pair_mistake;
-use crate::words::rest::rest_mistake;
-use crate::words::slots::slot_mistake;
+use crate::arguments::forms::{Behind, COMMANDS, Command, command_of};
+use crate::arguments::mistake::{Mistake, about_arguments};
+use crate::arguments::one_name::pair_mistake;
+use crate::arguments::rest::rest_mistake;
+use crate::arguments::slots::slot_mistake;
 use pg_types::SETS_MAX;
 use pg_visible::Part::{Count, Name, Say};
 use pg_visible::Text;
@@ -19,14 +19,14 @@ use std::alloc::AllocError;
 /// What is wrong with the argument with this index behind a command.
 fn argument_mistake<'a>(
     command: &Command,
-    words: &'a [String],
+    arguments: &'a [String],
     index: usize,
-    word: &'a str,
+    argument: &'a str,
 ) -> Option<Mistake<'a>> {
     let has_options = matches!(command.behind, Behind::WrittenFiles | Behind::ReadFiles);
     match command.slots.get(index) {
-        Some(slot) => slot_mistake(slot, word, has_options),
-        None => rest_mistake(command, words, index, word),
+        Some(slot) => slot_mistake(slot, argument, has_options),
+        None => rest_mistake(command, arguments, index, argument),
     }
 }
 
@@ -42,16 +42,16 @@ fn missing_name(command: &Command, count: usize) -> Option<&'static str> {
 }
 
 /// The first thing that is wrong with the arguments that follow a command.
-fn mistake_of<'a>(command: &Command, words: &'a [String]) -> Option<Mistake<'a>> {
-    for (index, word) in words.iter().enumerate() {
-        let mistake = argument_mistake(command, words, index, word.as_str());
+fn mistake_of<'a>(command: &Command, arguments: &'a [String]) -> Option<Mistake<'a>> {
+    for (index, argument) in arguments.iter().enumerate() {
+        let mistake = argument_mistake(command, arguments, index, argument.as_str());
         if mistake.is_some() {
             return mistake;
         }
     }
-    match missing_name(command, words.len()) {
+    match missing_name(command, arguments.len()) {
         Some(name) => Some(about_arguments("$0: $1 is missing", name, "", "")),
-        None => pair_mistake(command, words),
+        None => pair_mistake(command, arguments),
     }
 }
 
@@ -61,8 +61,12 @@ fn push_form(text: &mut Text, command: &Command) -> Result<(), AllocError> {
 }
 
 /// Appends that an argument is no command, and the forms of all commands.
-fn push_no_command(text: &mut Text, sentence: &'static str, word: &str) -> Result<(), AllocError> {
-    text.line(sentence, &[Name(word)])?;
+fn push_no_command(
+    text: &mut Text,
+    sentence: &'static str,
+    argument: &str,
+) -> Result<(), AllocError> {
+    text.line(sentence, &[Name(argument)])?;
     for command in COMMANDS {
         push_form(text, command)?;
     }
@@ -78,7 +82,7 @@ fn push_mistake(
     text.line(
         mistake.sentence,
         &[
-            Say(command.word),
+            Say(command.name),
             Name(mistake.first),
             Name(mistake.second),
             Name(mistake.third),
@@ -89,16 +93,20 @@ fn push_mistake(
 }
 
 /// Appends which of the arguments that follow a command is wrong, and what is due there.
-fn push_command(text: &mut Text, command: &Command, words: &[String]) -> Result<(), AllocError> {
-    if let Some(mistake) = mistake_of(command, words) {
+fn push_command(
+    text: &mut Text,
+    command: &Command,
+    arguments: &[String],
+) -> Result<(), AllocError> {
+    if let Some(mistake) = mistake_of(command, arguments) {
         push_mistake(text, command, &mistake)?;
     }
     push_form(text, command)
 }
 
 /// Appends which argument is wrong, and what is due there.
-pub(crate) fn push_words(text: &mut Text, words: &[String]) -> Result<(), AllocError> {
-    let Some((first, rest)) = words.split_first() else {
+pub(crate) fn push_arguments(text: &mut Text, arguments: &[String]) -> Result<(), AllocError> {
+    let Some((first, rest)) = arguments.split_first() else {
         return push_no_command(text, "a command is missing; the commands are", "");
     };
     match command_of(first.as_str()) {

@@ -1,14 +1,14 @@
 //! The arguments that follow those which each call of a command has: options, or parameter files.
 
-use crate::words::forms::{Behind, Command, is_option};
-use crate::words::mistake::{Mistake, about_arguments};
-use crate::words::slots::name_mistake;
+use crate::arguments::forms::{Behind, Command, is_option};
+use crate::arguments::mistake::{Mistake, about_arguments};
+use crate::arguments::slots::name_mistake;
 use pg_types::SETS_MAX;
 
 /// Whether an argument is one of these.
-fn is_among(words: &[String], word: &str) -> bool {
-    for other in words {
-        if other.as_str() == word {
+fn is_among(arguments: &[String], argument: &str) -> bool {
+    for other in arguments {
+        if other.as_str() == argument {
             return true;
         }
     }
@@ -18,18 +18,18 @@ fn is_among(words: &[String], word: &str) -> bool {
 /// What is said of the option with this index, where it is wrong or its name is missing.
 fn option_sentence(
     command: &Command,
-    words: &[String],
+    arguments: &[String],
     index: usize,
     option: &str,
 ) -> Option<&'static str> {
     let is_read = matches!(command.behind, Behind::ReadFiles);
     if !is_option(option) {
-        Some("$0: $1 is one word too many")
+        Some("$0: $1 is one argument too many")
     } else if is_read && option == "--cells" {
         Some("$0: $1 is no option of this command")
-    } else if is_among(words.get(..index).unwrap_or(&[]), option) {
+    } else if is_among(arguments.get(..index).unwrap_or(&[]), option) {
         Some("$0: $1 stands twice")
-    } else if words.len() <= index.saturating_add(1) {
+    } else if arguments.len() <= index.saturating_add(1) {
         Some("$0: FILE is missing behind $1")
     } else {
         None
@@ -37,9 +37,9 @@ fn option_sentence(
 }
 
 /// What is wrong with the name of a parameter file, of so many.
-fn set_mistake(word: &str, sets: usize) -> Option<Mistake<'_>> {
+fn set_mistake(argument: &str, sets: usize) -> Option<Mistake<'_>> {
     if sets <= SETS_MAX {
-        return name_mistake("PARAMS", word, false);
+        return name_mistake("PARAMS", argument, false);
     }
     let sentence = "$0: $4 parameter files are given, and $5 is the most";
     Some(Mistake {
@@ -51,16 +51,16 @@ fn set_mistake(word: &str, sets: usize) -> Option<Mistake<'_>> {
 /// What is wrong with the argument with this index, which stands behind those that each call has.
 pub(crate) fn rest_mistake<'a>(
     command: &Command,
-    words: &'a [String],
+    arguments: &'a [String],
     index: usize,
-    word: &'a str,
+    argument: &'a str,
 ) -> Option<Mistake<'a>> {
     let slots = command.slots.len();
     let sentence = match command.behind {
-        Behind::Nothing => "$0: $1 is one word too many",
-        Behind::Sets => return set_mistake(word, words.len().saturating_sub(slots)),
-        _ if index.saturating_sub(slots) % 2 == 1 => return name_mistake("FILE", word, false),
-        _ => option_sentence(command, words, index, word)?,
+        Behind::Nothing => "$0: $1 is one argument too many",
+        Behind::Sets => return set_mistake(argument, arguments.len().saturating_sub(slots)),
+        _ if index.saturating_sub(slots) % 2 == 1 => return name_mistake("FILE", argument, false),
+        _ => option_sentence(command, arguments, index, argument)?,
     };
-    Some(about_arguments(sentence, word, "", ""))
+    Some(about_arguments(sentence, argument, "", ""))
 }

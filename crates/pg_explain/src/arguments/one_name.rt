@@ -1,18 +1,22 @@
 //! Files of a command that have one name and have to have two.
 
-use crate::words::forms::{Behind, Command, Slot, is_option};
-use crate::words::mistake::{Mistake, about_arguments};
+use crate::arguments::forms::{Behind, Command, Slot, is_option};
+use crate::arguments::mistake::{Mistake, about_arguments};
 
 /// How the argument with this index is called, and whether it names a file that is written; none
 /// where it is no name of a file.
-fn name_at<'a>(command: &Command, words: &'a [String], index: usize) -> Option<(&'a str, bool)> {
+fn name_at<'a>(
+    command: &Command,
+    arguments: &'a [String],
+    index: usize,
+) -> Option<(&'a str, bool)> {
     match (command.slots.get(index), command.behind) {
         (Some(Slot::Input(name)), _) => Some((name, false)),
         (Some(Slot::Output(name)), _) => Some((name, true)),
         (Some(Slot::Number(_, _)), _) => None,
         (None, Behind::Sets) => Some(("a parameter file", false)),
         (None, behind) => {
-            let option = words.get(index.saturating_sub(1))?.as_str();
+            let option = arguments.get(index.saturating_sub(1))?.as_str();
             if is_option(option) {
                 Some((option, matches!(behind, Behind::WrittenFiles)))
             } else {
@@ -33,13 +37,13 @@ fn of_one_name<'a>(first: &'a str, second: &'a str, name: &'a str) -> Mistake<'a
 /// a file that is written.
 fn same_mistake<'a>(
     command: &Command,
-    words: &'a [String],
+    arguments: &'a [String],
     before: usize,
     index: usize,
     name: &'a str,
 ) -> Option<Mistake<'a>> {
-    let (one, is_one_written) = name_at(command, words, before)?;
-    let (other, is_other_written) = name_at(command, words, index)?;
+    let (one, is_one_written) = name_at(command, arguments, before)?;
+    let (other, is_other_written) = name_at(command, arguments, index)?;
     if is_one_written {
         Some(of_one_name(one, other, name))
     } else if is_other_written {
@@ -52,13 +56,13 @@ fn same_mistake<'a>(
 /// What is wrong where an argument is equal to one before it and has to differ from it.
 fn same_before<'a>(
     command: &Command,
-    words: &'a [String],
+    arguments: &'a [String],
     index: usize,
-    word: &'a str,
+    argument: &'a str,
 ) -> Option<Mistake<'a>> {
-    for (before, other) in words.iter().enumerate() {
-        if before < index && other.as_str() == word {
-            let mistake = same_mistake(command, words, before, index, word);
+    for (before, other) in arguments.iter().enumerate() {
+        if before < index && other.as_str() == argument {
+            let mistake = same_mistake(command, arguments, before, index, argument);
             if mistake.is_some() {
                 return mistake;
             }
@@ -68,9 +72,9 @@ fn same_before<'a>(
 }
 
 /// What is wrong where two arguments are equal and have to differ; the first such pair counts.
-pub(crate) fn pair_mistake<'a>(command: &Command, words: &'a [String]) -> Option<Mistake<'a>> {
-    for (index, word) in words.iter().enumerate() {
-        let mistake = same_before(command, words, index, word.as_str());
+pub(crate) fn pair_mistake<'a>(command: &Command, arguments: &'a [String]) -> Option<Mistake<'a>> {
+    for (index, argument) in arguments.iter().enumerate() {
+        let mistake = same_before(command, arguments, index, argument.as_str());
         if mistake.is_some() {
             return mistake;
         }

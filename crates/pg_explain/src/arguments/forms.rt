@@ -49,7 +49,7 @@ pub(crate) enum Behind {
 /// A command, and what its arguments have to be.
 #[derive(Clone, Copy)]
 pub(crate) struct Command {
-    pub word: &'static str,
+    pub name: &'static str,
     /// The whole form, as it is shown.
     pub form: &'static str,
     /// The arguments behind the command that each call has.
@@ -100,13 +100,13 @@ const PRICE: Range = Range {
 /// All commands.
 pub(crate) const COMMANDS: &[Command] = &[
     Command {
-        word: "generate",
+        name: "generate",
         form: "generate DICT PATTERNS OUT TRANSLATE PARAMS REPORT [--pattmp FILE] [--cells FILE]",
         slots: &[DICT, PATTERNS, OUT, TRANSLATE, PARAMS, REPORT],
         behind: Behind::WrittenFiles,
     },
     Command {
-        word: "audit",
+        name: "audit",
         form: "audit DICT PATTERNS OUT TRANSLATE PARAMS REPORT [--pattmp FILE]",
         slots: &[
             DICT,
@@ -119,31 +119,31 @@ pub(crate) const COMMANDS: &[Command] = &[
         behind: Behind::ReadFiles,
     },
     Command {
-        word: "sample",
+        name: "sample",
         form: "sample N COUNT",
         slots: &[Slot::Number("N", SEED), Slot::Number("COUNT", COUNT)],
         behind: Behind::Nothing,
     },
     Command {
-        word: "pack",
+        name: "pack",
         form: "pack PATTERNS TRANSLATE TABLE",
         slots: &[PATTERNS, TRANSLATE, Slot::Output("TABLE")],
         behind: Behind::Nothing,
     },
     Command {
-        word: "totals",
+        name: "totals",
         form: "totals DICT TRANSLATE TABLE",
         slots: &[DICT, TRANSLATE, Slot::Input("TABLE")],
         behind: Behind::Nothing,
     },
     Command {
-        word: "prune",
+        name: "prune",
         form: "prune DICT PATTERNS OUT TRANSLATE REPORT",
         slots: &[DICT, PATTERNS, OUT, TRANSLATE, REPORT],
         behind: Behind::Nothing,
     },
     Command {
-        word: "sweep",
+        name: "sweep",
         form: "sweep DICT PATTERNS OUT TRANSLATE K BAD MISSED PARAMS..",
         slots: &[
             DICT,
@@ -159,9 +159,9 @@ pub(crate) const COMMANDS: &[Command] = &[
 ];
 
 /// The command of this name.
-pub(crate) fn command_of(word: &str) -> Option<&'static Command> {
+pub(crate) fn command_of(name: &str) -> Option<&'static Command> {
     for command in COMMANDS {
-        if command.word == word {
+        if command.name == name {
             return Some(command);
         }
     }
@@ -169,6 +169,6 @@ pub(crate) fn command_of(word: &str) -> Option<&'static Command> {
 }
 
 /// Whether an argument is an option of some command.
-pub(crate) fn is_option(word: &str) -> bool {
-    word == "--pattmp" || word == "--cells"
+pub(crate) fn is_option(argument: &str) -> bool {
+    argument == "--pattmp" || argument == "--cells"
 }
