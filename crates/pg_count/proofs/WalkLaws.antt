@@ -1,6 +1,6 @@
 -- What ways, walks and searches find.
 pub mod Above
-pub mod Bounding
+pub mod Floors
 pub mod Listing
 pub mod Looking
 pub mod Nexting

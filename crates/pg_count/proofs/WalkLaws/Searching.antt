@@ -16,11 +16,11 @@ use Rattle.pg_types.proofs.StringEntries.{order}
 use Rattle.pg_cells.specs.Inside.linked.ValuedFamilies.{ValuedFamilies}
 use Rattle.pg_cells.specs.Inside.linked.Members.{IsNextSign, goes_on}
 use Rattle.pg_cells.proofs.Walking.{ends_before}
-use Rattle.pg_count.specs.Inside.walks.Bounds.{first_sign, rest_after}
+use Rattle.pg_count.specs.Inside.walks.Floors.{first_sign, rest_after}
 use Rattle.pg_count.specs.Inside.Counting.{Tally}
 use Rattle.pg_count.specs.Inside.walks.Least.{IsToldBy, LeastUnder, NoneUnder}
 use Rattle.pg_count.specs.Inside.cells.Leaves.{AreLeaves, IsLast}
-use Rattle.pg_count.proofs.WalkLaws.Bounding.{below_first, nat_equal, nat_greater, rest_decides}
+use Rattle.pg_count.proofs.WalkLaws.Floors.{below_first, nat_equal, nat_greater, rest_decides}
 use Rattle.pg_count.proofs.LeafLaws.Fronts.{fronts}
 use Rattle.pg_count.proofs.LeafLaws.Leaves.{one_more}
 use Rattle.pg_count.proofs.WalkLaws.Ways.{no_cell, not_both, one_number}
@@ -44,13 +44,13 @@ inner_sign : (n : ℕ) (p : List ℕ) (x : ℕ) (v : List ℕ) → SignsWithin n
 inner_sign n [] x v h = (All-head (λ s. (1 ≤ s) × (s ≤ n)) x v h).0
 inner_sign n (s ∷ p) x v h = inner_sign n p x v (All-tail (λ s. (1 ≤ s) × (s ≤ n)) s (p ++ x ∷ v) h)
 
-pub first_up : (bound : List ℕ) → 1 ≤ first_sign bound
+pub first_up : (floor : List ℕ) → 1 ≤ first_sign floor
 first_up [] = omega arith
 first_up (s ∷ q) = omega arith
 
--- the bound of what follows a sign that is not below the first
-pub told_more : (u p bound : List ℕ) (s : ℕ) → IsToldBy u p bound → first_sign bound ≤ s → IsToldBy u (p ++ s ∷ []) (rest_after bound s)
-told_more u p bound s told from x v = ap (order u) (one_more p s (x ∷ v)) ∙ told s (x ∷ v) ∙ rest_decides bound s (x ∷ v) from (omega arith)
+-- the floor of what follows a sign that is not below the first
+pub told_more : (u p floor : List ℕ) (s : ℕ) → IsToldBy u p floor → first_sign floor ≤ s → IsToldBy u (p ++ s ∷ []) (rest_after floor s)
+told_more u p floor s told from x v = ap (order u) (one_more p s (x ∷ v)) ∙ told s (x ∷ v) ∙ rest_decides floor s (x ∷ v) from (omega arith)
 
 module _ (h : ValuedFamilies (Option Tally)) (windows : Windows) (len : ℕ) (are : AreLeaves h windows len) where
   -- below a string with no string behind it stands at most its own window
@@ -185,25 +185,25 @@ module _ (h : ValuedFamilies (Option Tally)) (windows : Windows) (len : ℕ) (ar
               ]
             ]
 
-    -- no sign below the first of the bound serves
-    none_low : (u bound : List ℕ) → IsToldBy u p bound → (x : ℕ) → x < first_sign bound → NoneUnder windows (p ++ x ∷ []) u
-    none_low u bound told x lt v n at over =
+    -- no sign below the first of the floor serves
+    none_low : (u floor : List ℕ) → IsToldBy u p floor → (x : ℕ) → x < first_sign floor → NoneUnder windows (p ++ x ∷ []) u
+    none_low u floor told x lt v n at over =
         let long = (are.long ((p ++ x ∷ []) ++ v) n at).1 in
         let sign = inner_sign h.signs p x v (subst (SignsWithin h.signs) (one_more p x v) long) in
-        let wrong : Less ≡ Greater = sym over ∙ ap (order u) (one_more p x v) ∙ told x v ∙ below_first bound x v sign lt in
+        let wrong : Less ≡ Greater = sym over ∙ ap (order u) (one_more p x v) ∙ told x v ∙ below_first floor x v sign lt in
         cc
 
     -- nor one that the family lacks
     none_gap : (u : List ℕ) (x : ℕ) → goes_on h.values p x ≡ false → NoneUnder windows (p ++ x ∷ []) u
     none_gap u x off v n at over = let wrong : true ≡ false = sym (window_goes x v n (subst (λ z. HasNumber windows z n) (one_more p x v) at)) ∙ off in cc
 
-    -- none before the least sign that is not below the first of the bound
-    pub none_from : (u bound : List ℕ) → IsToldBy u p bound → (s : ℕ) → IsNextSign h.values p (first_sign bound - 1) s → (x : ℕ) → (s ≡ 0) ⊎ (x < s) → NoneUnder windows (p ++ x ∷ []) u
-    none_from u bound told s next x early = elim (cases_lt x (first_sign bound)) [
-      | inl lt ↦ none_low u bound told x lt
+    -- none before the least sign that is not below the first of the floor
+    pub none_from : (u floor : List ℕ) → IsToldBy u p floor → (s : ℕ) → IsNextSign h.values p (first_sign floor - 1) s → (x : ℕ) → (s ≡ 0) ⊎ (x < s) → NoneUnder windows (p ++ x ∷ []) u
+    none_from u floor told s next x early = elim (cases_lt x (first_sign floor)) [
+      | inl lt ↦ none_low u floor told x lt
       | inr le ↦ elim (cases_Bool (goes_on h.values p x)) [
         | inr off ↦ none_gap u x off
-        | inl goes ↦ absurd (late (let up = first_up bound in next.least x (omega arith) goes) early)
+        | inl goes ↦ absurd (late (let up = first_up floor in next.least x (omega arith) goes) early)
       ]
     ]
       where
@@ -229,7 +229,7 @@ module _ (h : ValuedFamilies (Option Tally)) (windows : Windows) (len : ℕ) (ar
         late l (inl z) = let up = l.0 in omega arith
         late l (inr lt) = let le = l.1 in omega arith
 
--- the least sign with which a string above a bound may begin is a sign
-pub first_some : (bound : List ℕ) → 1 ≤ first_sign bound
+-- the least sign with which a string above a floor may begin is a sign
+pub first_some : (floor : List ℕ) → 1 ≤ first_sign floor
 first_some [] = lit≤ tt
 first_some (s ∷ q) = omega arith

@@ -4,13 +4,13 @@ ghost use Rattle.pg_types.specs.Placement.{base_of};
 ghost use Rattle.pg_types.specs.Inside.Placing.{cell_of};
 ghost use Rattle.pg_cells.specs.Inside.linked.AreValuedFamilies.{AreValuedFamilies};
 ghost use Rattle.pg_cells.specs.Inside.linked.Members.{IsNextSign};
-ghost use Rattle.pg_count.specs.Inside.walks.Bounds.{first_sign};
+ghost use Rattle.pg_count.specs.Inside.walks.Floors.{first_sign};
 ghost use Rattle.pg_count.specs.Inside.walks.Least.{IsNearest, IsToldBy};
 ghost use Rattle.pg_count.specs.Inside.cells.Leaves.{AreLeaves, AreShort, IsLast};
 
 use crate::store::counted_cells::CountedCells;
 use crate::store::window_list::WindowList;
-use crate::walks::bound::{first_of, rest_of};
+use crate::walks::floor::{first_of, rest_of};
 use pg_cells::NearCells;
 use pg_types::{Cursor, Sign};
 
@@ -53,7 +53,7 @@ fn sign_from(cells: &NearCells<u32>, base: usize, first: Sign, from: Sign) -> Si
 }
 
 /// The number of the least window above another, among those that begin with the string of the
-/// family with the base and the first sign; `None` where none of them is above it. `bound` is the
+/// family with the base and the first sign; `None` where none of them is above it. `floor` is the
 /// part of `above` behind the string, and `more` the most signs that a window has behind it. The
 /// search follows the signs of the families.
 #[cycle(least)]
@@ -63,21 +63,21 @@ pub fn least(
     above: &Cursor,
     base: usize,
     first: Sign,
-    bound: &[Sign],
+    floor: &[Sign],
     more: u8,
 ) -> Option<u32>
     requires leaves { (len : ℕ) × AreLeaves cells.now windows.now.items len }
     requires base { (p : List ℕ) × ((base_of cells.now.families p ≡ Some base)
-        × IsNextSign cells.now.values p 0 first × IsToldBy above.now p bound.now
+        × IsNextSign cells.now.values p 0 first × IsToldBy above.now p floor.now
         × AreShort cells.now.values (length p + more)) }
     ensures { (p : List ℕ) → base_of cells.now.families p ≡ Some base
         → IsNearest windows.now.items p above.now result }
 {
     let families = cells.families();
-    let mut s = sign_from(families, base, first, first_of(bound));
+    let mut s = sign_from(families, base, first, first_of(floor));
     while s != 0 {
         let cell = families.find(base, s)?;
-        let found = least_at(cells, windows, above, cell, rest_of(bound, s), more - 1);
+        let found = least_at(cells, windows, above, cell, rest_of(floor, s), more - 1);
         if let Some(number) = found {
             return Some(number);
         }
@@ -94,12 +94,12 @@ fn least_at(
     windows: &WindowList,
     above: &Cursor,
     cell: usize,
-    bound: &[Sign],
+    floor: &[Sign],
     more: u8,
 ) -> Option<u32>
     requires leaves { (len : ℕ) × AreLeaves cells.now windows.now.items len }
     requires cell { (q : List ℕ) × ((cell_of cells.now.families q ≡ Some cell)
-        × IsToldBy above.now q bound.now × AreShort cells.now.values (length q + more)) }
+        × IsToldBy above.now q floor.now × AreShort cells.now.values (length q + more)) }
     ensures { (q : List ℕ) → cell_of cells.now.families q ≡ Some cell
         → IsNearest windows.now.items q above.now result }
 {
@@ -109,7 +109,7 @@ fn least_at(
         return leaf_above(cells, windows, above, cell);
     }
     let first = families.first_sign(cell);
-    least(cells, windows, above, below, first, bound, more)
+    least(cells, windows, above, below, first, floor, more)
 }
 
 // The number of the window that is the string with the cell, if it is above the other window. No

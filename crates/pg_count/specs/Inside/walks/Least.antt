@@ -24,7 +24,7 @@ abbrev pub IsNearest : Windows → List ℕ → List ℕ → Option ℕ → Type
 IsNearest windows p u None = NoneUnder windows p u
 IsNearest windows p u (Some n) = LeastUnder windows p u n
 
--- whether a string that goes on from p is above u is told by what follows p and the bound
+-- whether a string that goes on from p is above u is told by what follows p and the floor
 abbrev pub IsToldBy : List ℕ → List ℕ → List ℕ → Type 0
-IsToldBy u p bound = (x : ℕ) (v : List ℕ)
-    → slice_cmp nat_cmp u (p ++ x ∷ v) ≡ slice_cmp nat_cmp bound (x ∷ v)
+IsToldBy u p floor = (x : ℕ) (v : List ℕ)
+    → slice_cmp nat_cmp u (p ++ x ∷ v) ≡ slice_cmp nat_cmp floor (x ∷ v)

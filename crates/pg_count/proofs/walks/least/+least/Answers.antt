@@ -17,13 +17,13 @@ least-loop-s-init t c =
     let next = λ (p : List ℕ) (at : base_of c.args.cells.now.families p ≡ Some c.args.base). subst (λ f. IsNextSign c.args.cells.now.values p (f - 1) c.sign_from-s.result) c.first_of.ensures
     (next_too c.families-families.result.now c.args.cells.now lent.held are.held lent.families p (c.first_of.result - 1) c.sign_from-s.result
     (c.sign_from-s.ensures p (rw (← lent.families) at at))) in
-    let told = λ (p : List ℕ) (at : base_of c.args.cells.now.families p ≡ Some c.args.base). subst (λ q. IsToldBy c.args.above.now q c.args.bound.now)
+    let told = λ (p : List ℕ) (at : base_of c.args.cells.now.families p ≡ Some c.args.base). subst (λ q. IsToldBy c.args.above.now q c.args.floor.now)
     (are.held.bases c.requires.base.0 p c.args.base c.requires.base.1.0 at) c.requires.base.1.2 in
     record {
       small = c.sign_from-s.type_inv;
       from = λ up. (let f = (next c.requires.base.0 c.requires.base.1.0).found up in let low = f.0 in omega arith);
       there = λ p at up. ((next p at).found up).1;
-      none = λ p at. none_from c.args.cells.now c.args.windows.now.items c.requires.leaves.0 are p c.args.base at c.args.above.now c.args.bound.now (told p at) c.sign_from-s.result (next p at);
+      none = λ p at. none_from c.args.cells.now c.args.windows.now.items c.requires.leaves.0 are p c.args.base at c.args.above.now c.args.floor.now (told p at) c.sign_from-s.result (next p at);
     }
 
 pub least-find-requires : goal.least-find-requires
@@ -54,7 +54,7 @@ least-least_at-found-requires t c =
           p ++ c.loop-s.s ∷ [],
           (
             sym ((rw c.families-families.ensures.families at c.in_ok-cell.ensures.cell) p c.requires.base.1.0),
-            subst (IsToldBy c.args.above.now (p ++ c.loop-s.s ∷ [])) (sym c.rest_of.ensures) (told_more c.args.above.now p c.args.bound.now c.loop-s.s c.requires.base.1.2 from),
+            subst (IsToldBy c.args.above.now (p ++ c.loop-s.s ∷ [])) (sym c.rest_of.ensures) (told_more c.args.above.now p c.args.floor.now c.loop-s.s c.requires.base.1.2 from),
             short_more c.args.cells.now p c.loop-s.s c.args.more some c.requires.base.1.3,
           ),
         ),
@@ -105,7 +105,7 @@ least-sign_from-s-requires t c =
     record {
       held = lent.held;
       base = (p, (rw lent.families c.requires.base.1.0, next));
-      from = omega (arith, c.first_of.ensures, first_some c.args.bound.now);
+      from = omega (arith, c.first_of.ensures, first_some c.args.floor.now);
     }
 
 pub least-loop-s-smaller : goal.least-loop-s-smaller

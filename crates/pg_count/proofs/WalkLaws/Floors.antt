@@ -1,11 +1,11 @@
--- What a bound says of strings by their first sign.
+-- What a floor says of strings by their first sign.
 use Rattle.std.proofs.Common.{◌≡◌, ℕ, ◌<◌, ◌≤◌, Bool, true, false, cond, nat_eq, List, [], ◌∷◌, length, refl, ap, arith}
 use Rattle.std.proofs.lemmas.Bool.{eqb-true}
 use Rattle.std.proofs.lemmas.Bool.Decides.{nat_tests}
 use Rattle.std.specs.declared.cmp.Ordering.TheVariants.{Less, Equal, Greater}
 use Rattle.std.specs.Ordering.{nat_cmp, ordering_then}
 use Rattle.pg_cells.proofs.StringMaps.{order}
-use Rattle.pg_count.specs.Inside.walks.Bounds.{first_sign, rest_after}
+use Rattle.pg_count.specs.Inside.walks.Floors.{first_sign, rest_after}
 
 pub nat_less : (a b : ℕ) → a < b → nat_cmp a b ≡ Less
 nat_less a b lt = grind (arith, nat_tests)
@@ -17,12 +17,12 @@ pub nat_equal : (a b : ℕ) → a ≡ b → nat_cmp a b ≡ Equal
 nat_equal a b same = grind (arith, nat_tests)
 
 -- a sign below the first makes the string less
-pub below_first : (bound : List ℕ) (s : ℕ) (q : List ℕ) → 1 ≤ s → s < first_sign bound → order bound (s ∷ q) ≡ Greater
+pub below_first : (floor : List ℕ) (s : ℕ) (q : List ℕ) → 1 ≤ s → s < first_sign floor → order floor (s ∷ q) ≡ Greater
 below_first [] s q some lt = absurd (omega arith)
 below_first (b ∷ bs) s q some lt = ap (λ o. ordering_then o (order bs q)) (nat_greater b s (omega arith))
 
--- behind the sign the rest of the bound decides
-pub rest_decides : (bound : List ℕ) (s : ℕ) (q : List ℕ) → first_sign bound ≤ s → 0 < length q → order bound (s ∷ q) ≡ order (rest_after bound s) q
+-- behind the sign the rest of the floor decides
+pub rest_decides : (floor : List ℕ) (s : ℕ) (q : List ℕ) → first_sign floor ≤ s → 0 < length q → order floor (s ∷ q) ≡ order (rest_after floor s) q
 rest_decides [] s [] from some = absurd (omega arith)
 rest_decides [] s (x ∷ q) from some = refl
 rest_decides (b ∷ bs) s [] from some = absurd (omega arith)

@@ -2,12 +2,12 @@
 use Rattle.std.specs.Prelude.{ℕ, max, nat_eq, if◌then◌else◌, List, [], ◌∷◌}
 use Rattle.pg_types.specs.declared.limits.TheConstants.{EDGE}
 
--- the least sign with which a string above the bound may begin
+-- the least sign with which a string above the floor may begin
 abbrev pub first_sign : List ℕ → ℕ
 first_sign [] = EDGE
 first_sign (s ∷ q) = max EDGE s
 
--- the bound of what follows a sign that is not less
+-- the floor of what follows a sign that is not less
 abbrev pub rest_after : List ℕ → ℕ → List ℕ
 rest_after [] s = []
 rest_after (x ∷ q) s = if nat_eq x s then q else []

@@ -1,0 +1,25 @@
+//! A string above which others are sought, read sign by sign.
+ghost use Rattle.std.specs.Prelude.{◌≡◌};
+ghost use Rattle.pg_count.specs.Inside.walks.Floors.{first_sign, rest_after};
+
+use pg_types::{EDGE, Sign};
+
+/// The least sign with which a string above the floor may begin.
+pub fn first_of(floor: &[Sign]) -> Sign
+    ensures { result ≡ first_sign floor.now }
+{
+    match floor.first() {
+        Some(first) => EDGE.max(*first),
+        None => EDGE,
+    }
+}
+
+/// The floor of what follows the sign, where the string may be above the floor.
+pub fn rest_of(floor: &[Sign], s: Sign) -> &[Sign]
+    ensures { result.now ≡ rest_after floor.now s }
+{
+    match floor.split_first() {
+        Some((first, rest)) if *first == s => rest,
+        _ => &[],
+    }
+}
