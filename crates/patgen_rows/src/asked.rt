@@ -1,9 +1,9 @@
 //! The explanation that a row asks for, beside the text that it wants.
-use crate::case::words_of;
+use crate::case::arguments_of;
 use crate::compare::push_difference;
+use crate::keyword::Keyword;
 use crate::pieces::push_text;
 use crate::table::{Line, Row, Table};
-use crate::word::Word;
 use pg_dict::Dictionary;
 use pg_explain::{Before, ComparedLine, Deed, Fault, Letters, MEMORY, RefusalCase, Wrong, explain};
 use pg_patterns::PatternSet;
@@ -29,7 +29,7 @@ pub(crate) fn compare_explanation(
 ) -> io::Result<()> {
     let asked = Asked { alloc, table, row };
     let said = asked.said()?;
-    let wanted = asked.content(Word::Says).unwrap_or(b"no text");
+    let wanted = asked.content(Keyword::Says).unwrap_or(b"no text");
     let is_right = said.as_slice() == wanted;
     push_difference(text, is_right, "said", wanted, &said)
 }
@@ -91,12 +91,12 @@ fn note_of(note: &str) -> Wrong<'static> {
 }
 
 /// The name of the file of a line.
-fn name_of(word: Word) -> &'static str {
-    match word {
-        Word::Dict => "d.dic",
-        Word::Patterns => "p.pat",
-        Word::Params => "a.par",
-        Word::Translate => "t.tra",
+fn name_of(keyword: Keyword) -> &'static str {
+    match keyword {
+        Keyword::Dict => "d.dic",
+        Keyword::Patterns => "p.pat",
+        Keyword::Params => "a.par",
+        Keyword::Translate => "t.tra",
         _ => "x.tab",
     }
 }
@@ -108,11 +108,11 @@ fn refusal_in(
     line: &Line<'_>,
     bytes: &[u8],
 ) -> Option<Refusal> {
-    match line.word {
-        Word::Dict => refusal_of(Dictionary::read(alloc, table, bytes)),
-        Word::Patterns => refusal_of(PatternSet::read(alloc, table, bytes)),
-        Word::Params => refusal_of(read_params(alloc, bytes)),
-        Word::Translate => refusal_of(LetterTable::read(alloc, bytes)),
+    match line.keyword {
+        Keyword::Dict => refusal_of(Dictionary::read(alloc, table, bytes)),
+        Keyword::Patterns => refusal_of(PatternSet::read(alloc, table, bytes)),
+        Keyword::Params => refusal_of(read_params(alloc, bytes)),
+        Keyword::Translate => refusal_of(LetterTable::read(alloc, bytes)),
         _ => Some(Refusal {
             kind: kind_of(line.rest.parse().unwrap_or(0)),
             line: 0,
@@ -121,23 +121,23 @@ fn refusal_in(
     }
 }
 
-/// The table by which the file of a word is read, if there is one.
-fn table_for(word: Word, table: &LetterTable) -> Option<&LetterTable> {
-    match word {
-        Word::Params | Word::Translate => None,
+/// The table by which the file of a keyword is read, if there is one.
+fn table_for(keyword: Keyword, table: &LetterTable) -> Option<&LetterTable> {
+    match keyword {
+        Keyword::Params | Keyword::Translate => None,
         _ => Some(table),
     }
 }
 
 impl<'a> Asked<'a> {
-    /// The content below a word.
-    fn content(&self, word: Word) -> Option<&'a [u8]> {
-        Some(self.table.content(self.row.find(word)?))
+    /// The content below a keyword.
+    fn content(&self, keyword: Keyword) -> Option<&'a [u8]> {
+        Some(self.table.content(self.row.find(keyword)?))
     }
 
-    /// What stands behind a word; nothing where no line begins with it.
-    fn rest(&self, word: Word) -> &'a str {
-        match self.row.find(word) {
+    /// What stands behind a keyword; nothing where no line begins with it.
+    fn rest(&self, keyword: Keyword) -> &'a str {
+        match self.row.find(keyword) {
             Some(line) => line.rest,
             None => "",
         }
@@ -146,7 +146,7 @@ impl<'a> Asked<'a> {
     /// The explanation.
     fn said(&self) -> io::Result<Vec<u8>> {
         for line in self.row.lines.iter() {
-            if line.word.asks() {
+            if line.keyword.asks() {
                 return self.said_of(line);
             }
         }
@@ -155,12 +155,12 @@ impl<'a> Asked<'a> {
 
     /// The explanation of what a line says.
     fn said_of(&self, line: &Line<'a>) -> io::Result<Vec<u8>> {
-        match line.word {
-            Word::Words => self.said_words(line.rest),
-            Word::Fault => self.said_fault(line.rest),
-            Word::Line => self.said_false(line.rest),
-            Word::Note => self.explained(&note_of(line.rest)),
-            Word::Memory => Ok(MEMORY.to_vec(self.alloc)?),
+        match line.keyword {
+            Keyword::Arguments => self.said_arguments(line.rest),
+            Keyword::Fault => self.said_fault(line.rest),
+            Keyword::Line => self.said_false(line.rest),
+            Keyword::Note => self.explained(&note_of(line.rest)),
+            Keyword::Memory => Ok(MEMORY.to_vec(self.alloc)?),
             _ => self.said_of_file(line),
         }
     }
@@ -170,10 +170,10 @@ impl<'a> Asked<'a> {
         Ok(explain(self.alloc, wrong)?)
     }
 
-    /// The explanation of words.
-    fn said_words(&self, line: &str) -> io::Result<Vec<u8>> {
-        let words = words_of(self.alloc, line)?;
-        self.explained(&Wrong::Words(&words))
+    /// The explanation of arguments.
+    fn said_arguments(&self, line: &str) -> io::Result<Vec<u8>> {
+        let arguments = arguments_of(self.alloc, line)?;
+        self.explained(&Wrong::Arguments(&arguments))
     }
 
     /// The explanation of a fault, in whose line escapes may stand.
@@ -189,14 +189,14 @@ impl<'a> Asked<'a> {
         self.explained(&Wrong::Fault(Fault {
             deed: deed_of(word),
             name,
-            reason: self.rest(Word::Reason),
+            reason: self.rest(Keyword::Reason),
             before: self.before(),
         }))
     }
 
     /// What was done before a fault.
     fn before(&self) -> Option<Before<'a>> {
-        let (word, name) = self.rest(Word::Before).split_once(' ')?;
+        let (word, name) = self.rest(Keyword::Before).split_once(' ')?;
         let deed = deed_of(word);
         Some(Before { deed, name })
     }
@@ -206,15 +206,15 @@ impl<'a> Asked<'a> {
         self.explained(&Wrong::False(ComparedLine {
             name: "o.pat",
             line: number.parse().unwrap_or(0),
-            found: self.content(Word::Found),
-            wanted: self.content(Word::Wanted),
+            found: self.content(Keyword::Found),
+            wanted: self.content(Keyword::Wanted),
         }))
     }
 
     /// The explanation of what is wrong with the content of a line, which is read by the letters of
     /// the row.
     fn said_of_file(&self, line: &Line<'a>) -> io::Result<Vec<u8>> {
-        let letters = self.content(Word::Letters).unwrap_or(b"");
+        let letters = self.content(Keyword::Letters).unwrap_or(b"");
         let table = match LetterTable::read(self.alloc, letters) {
             Ok(table) => table,
             Err(_) => LetterTable::default_letters(self.alloc)?,
@@ -227,10 +227,10 @@ impl<'a> Asked<'a> {
         let bytes = self.table.content(line);
         match refusal_in(self.alloc, table, line, bytes) {
             Some(refusal) => {
-                let table = table_for(line.word, table);
-                self.said_refused(name_of(line.word), bytes, refusal, table)
+                let table = table_for(line.keyword, table);
+                self.said_refused(name_of(line.keyword), bytes, refusal, table)
             }
-            None if line.word.is(Word::Patterns) => self.explained(&Wrong::Behind {
+            None if line.keyword.is(Keyword::Patterns) => self.explained(&Wrong::Behind {
                 patterns: "p.pat",
                 bytes,
             }),
@@ -246,7 +246,7 @@ impl<'a> Asked<'a> {
         refusal: Refusal,
         table: Option<&LetterTable>,
     ) -> io::Result<Vec<u8>> {
-        let given = self.rest(Word::Letters);
+        let given = self.rest(Keyword::Letters);
         let table_name = if given.is_empty() { "t.tra" } else { given };
         let letters = match table {
             Some(table) => Some(Letters {

@@ -1,8 +1,8 @@
 //! The calls of a row, from files to files.
 use crate::changes::Change;
+use crate::keyword::Keyword;
 use crate::made::number_of;
 use crate::table::{Call, Line, Row, Table};
-use crate::word::Word;
 use pg_outside::{Files, MemoryFiles, MemorySink, ReadError, Sink};
 use pg_top::{Status, run};
 use std::alloc::{AllocError, Global};
@@ -80,8 +80,8 @@ fn answer(
     out: &mut MemorySink,
 ) -> io::Result<Status> {
     list_faults(&call.wants, files, out)?;
-    let words = words_of(alloc, call.line.rest)?;
-    Ok(run(alloc, &words, files, out))
+    let arguments = arguments_of(alloc, call.line.rest)?;
+    Ok(run(alloc, &arguments, files, out))
 }
 
 /// From now on the files have to hold what a row gives, one of them with a change, if there is one.
@@ -107,10 +107,10 @@ fn hold_lines<'a>(
     lines: &[Line<'a>],
 ) -> io::Result<()> {
     for line in lines {
-        match line.word {
-            Word::File => hold(holds, line.name, Some(table.content(line)))?,
-            Word::Missing => hold(holds, line.rest, None)?,
-            Word::Changes => {}
+        match line.keyword {
+            Keyword::File => hold(holds, line.name, Some(table.content(line)))?,
+            Keyword::Missing => hold(holds, line.rest, None)?,
+            Keyword::Changes => {}
             _ => return Err(io::Error::other("a line belongs to no row of calls")),
         }
     }
@@ -160,10 +160,10 @@ fn list_faults(
     out: &mut MemorySink,
 ) -> io::Result<()> {
     for want in wants {
-        match want.word {
-            Word::FailsCall | Word::FailsPut => list_fault(want, files, out)?,
-            Word::Calls => files.fail_at(number_behind(want.rest)?, None)?,
-            Word::Puts => out.fail_at(number_behind(want.rest)?, None)?,
+        match want.keyword {
+            Keyword::FailsCall | Keyword::FailsPut => list_fault(want, files, out)?,
+            Keyword::Calls => files.fail_at(number_behind(want.rest)?, None)?,
+            Keyword::Puts => out.fail_at(number_behind(want.rest)?, None)?,
             _ => {}
         }
     }
@@ -180,7 +180,7 @@ fn list_fault(want: &Line<'_>, files: &mut MemoryFiles, out: &mut MemorySink) ->
     let (number, keep) = want.rest.split_once(" keeps ").unwrap_or((want.rest, ""));
     let number = u64::from(number_of(number)?);
     let keep = keep_of(keep)?;
-    if want.word.is(Word::FailsPut) {
+    if want.keyword.is(Keyword::FailsPut) {
         Ok(out.fail_at(number, keep)?)
     } else {
         Ok(files.fail_at(number, keep)?)
@@ -202,10 +202,10 @@ fn hold_wanted<'a>(
     wants: &[Line<'a>],
 ) -> Result<(), AllocError> {
     for want in wants {
-        match want.word {
-            Word::After => hold(holds, want.name, Some(table.content(want)))?,
-            Word::Begins => hold(holds, want.name, None)?,
-            Word::Any => hold_any(holds, want.rest)?,
+        match want.keyword {
+            Keyword::After => hold(holds, want.name, Some(table.content(want)))?,
+            Keyword::Begins => hold(holds, want.name, None)?,
+            Keyword::Any => hold_any(holds, want.rest)?,
             _ => {}
         }
     }
@@ -230,20 +230,24 @@ fn is_call_due(alloc: Global, files: &mut MemoryFiles, holds: &[Held<'_>]) -> bo
     files.read(alloc, name, 100, &mut bytes) == Err(ReadError::Failed)
 }
 
-/// The words of a line, which a blank parts. Two quotes are an empty word.
-pub(crate) fn words_of(alloc: Global, line: &str) -> Result<Vec<String>, AllocError> {
-    let mut words = Vec::new(alloc);
+/// The arguments of a line, which a blank parts. Two quotes are an empty one.
+pub(crate) fn arguments_of(alloc: Global, line: &str) -> Result<Vec<String>, AllocError> {
+    let mut arguments = Vec::new(alloc);
     if !line.is_empty() {
-        push_words(&mut words, alloc, line)?;
+        push_arguments(&mut arguments, alloc, line)?;
     }
-    Ok(words)
+    Ok(arguments)
 }
 
-/// Appends the words of a line.
-fn push_words(words: &mut Vec<String>, alloc: Global, line: &str) -> Result<(), AllocError> {
-    for word in line.split(' ') {
-        let word = if word == "''" { "" } else { word };
-        words.push(String::from_str(alloc, word)?)?;
+/// Appends the arguments of a line.
+fn push_arguments(
+    arguments: &mut Vec<String>,
+    alloc: Global,
+    line: &str,
+) -> Result<(), AllocError> {
+    for argument in line.split(' ') {
+        let argument = if argument == "''" { "" } else { argument };
+        arguments.push(String::from_str(alloc, argument)?)?;
     }
     Ok(())
 }

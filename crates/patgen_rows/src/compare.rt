@@ -1,7 +1,7 @@
 //! What came of a call beside what was wanted of it.
 use crate::case::Case;
+use crate::keyword::Keyword;
 use crate::table::{Call, Line};
-use crate::word::Word;
 use std::alloc::{AllocError, Global};
 use std::io;
 
@@ -13,8 +13,8 @@ pub(crate) fn compare_call(text: &mut String, case: &Case<'_>, call: &Call<'_>) 
     let mut is_status_wanted = false;
     let mut are_prints_wanted = false;
     for want in call.wants.iter() {
-        is_status_wanted |= want.word.is(Word::Status);
-        are_prints_wanted |= want.word.is_of_prints();
+        is_status_wanted |= want.keyword.is(Keyword::Status);
+        are_prints_wanted |= want.keyword.is_of_prints();
         compare_want(text, case, want, call.is_behind)?;
     }
     if !is_status_wanted || !are_prints_wanted {
@@ -33,14 +33,14 @@ fn compare_want(
     want: &Line<'_>,
     is_behind: bool,
 ) -> io::Result<()> {
-    match want.word {
-        Word::Status => compare_status(text, case, want.rest),
-        Word::Begins => compare_beginning(text, case, want),
-        Word::Same => compare_pair(text, case, want.rest),
-        Word::Calls => push_number(text, !is_behind && case.is_call_due, "calls", want.rest),
-        Word::Puts => push_number(text, case.is_put_due, "puts", want.rest),
-        Word::FailsCall | Word::FailsPut | Word::After | Word::Any => Ok(()),
-        _ if want.word.is_of_prints() => compare_printed(text, case, want),
+    match want.keyword {
+        Keyword::Status => compare_status(text, case, want.rest),
+        Keyword::Begins => compare_beginning(text, case, want),
+        Keyword::Same => compare_pair(text, case, want.rest),
+        Keyword::Calls => push_number(text, !is_behind && case.is_call_due, "calls", want.rest),
+        Keyword::Puts => push_number(text, case.is_put_due, "puts", want.rest),
+        Keyword::FailsCall | Keyword::FailsPut | Keyword::After | Keyword::Any => Ok(()),
+        _ if want.keyword.is_of_prints() => compare_printed(text, case, want),
         _ => Err(io::Error::other("a line says nothing of a call")),
     }
 }
@@ -62,24 +62,24 @@ fn compare_status(text: &mut String, case: &Case<'_>, wanted: &str) -> io::Resul
 
 /// Compares what was printed with one thing that is wanted of it.
 fn compare_printed(text: &mut String, case: &Case<'_>, want: &Line<'_>) -> io::Result<()> {
-    let wanted = match want.word {
-        Word::PrintsAgain => case.above.bytes(),
-        Word::PrintsEndOf => case.files.bytes(want.rest).unwrap_or(b""),
+    let wanted = match want.keyword {
+        Keyword::PrintsAgain => case.above.bytes(),
+        Keyword::PrintsEndOf => case.files.bytes(want.rest).unwrap_or(b""),
         _ => case.table.content(want),
     };
-    let is_right = is_printed(case, want.word, wanted)?;
+    let is_right = is_printed(case, want.keyword, wanted)?;
     push_difference(text, is_right, "printed", wanted, case.out.bytes())
 }
 
 /// Whether this was printed in the way that a line says.
-fn is_printed(case: &Case<'_>, word: Word, wanted: &[u8]) -> Result<bool, AllocError> {
+fn is_printed(case: &Case<'_>, word: Keyword, wanted: &[u8]) -> Result<bool, AllocError> {
     let came = case.out.bytes();
     match word {
-        Word::PrintsAnything => Ok(true),
-        Word::PrintsBeginning => Ok(came.starts_with(wanted)),
-        Word::PrintsEnding => Ok(came.ends_with(wanted)),
-        Word::PrintsAtLine => is_at_line(case.alloc, came, wanted, case.line),
-        Word::PrintsEndOf => Ok(!came.is_empty() && wanted.ends_with(came)),
+        Keyword::PrintsAnything => Ok(true),
+        Keyword::PrintsBeginning => Ok(came.starts_with(wanted)),
+        Keyword::PrintsEnding => Ok(came.ends_with(wanted)),
+        Keyword::PrintsAtLine => is_at_line(case.alloc, came, wanted, case.line),
+        Keyword::PrintsEndOf => Ok(!came.is_empty() && wanted.ends_with(came)),
         _ => Ok(came == wanted),
     }
 }

@@ -1,5 +1,5 @@
 //! Whole calls of the program over files in memory, and explanations of what went wrong: each row
-//! of each table that the words name, with what is wanted of it.
+//! of each table that the arguments name, with what is wanted of it.
 //!
 //! It prints a line for each table, and above it what is wrong with a call of a row. The status is
 //! 0 where all is as wanted. A table is wrong too where a line of it cannot be read or done, and
@@ -10,11 +10,11 @@ mod asked;
 mod case;
 mod changes;
 mod compare;
+mod keyword;
 mod made;
 mod pieces;
 mod table;
 mod trial;
-mod word;
 
 use std::process::ExitCode;
 use std::rt::{Env, Files};
@@ -31,7 +31,7 @@ fn try_table<R: Files + AllocGlobal + Print>(rt: &R, name: &str) -> io::Result<b
     Ok(wrong == 0)
 }
 
-/// Tries each table that the words name: whether all go as wanted.
+/// Tries each table that the arguments name: whether all go as wanted.
 fn try_tables<R: Files + Env + AllocGlobal + Print>(rt: &R) -> io::Result<bool> {
     let mut are_right = true;
     for name in env::args(rt)?.skip(1) {

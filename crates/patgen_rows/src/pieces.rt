@@ -1,7 +1,7 @@
 //! The pieces of a content.
+use crate::keyword::Keyword;
 use crate::made::{push_cells, push_letters, push_sample, push_words};
 use crate::table::Table;
-use crate::word::Word;
 use std::alloc::{AllocError, Global};
 use std::io;
 
@@ -27,18 +27,18 @@ pub(crate) fn push_times(text: &mut Vec<u8>, times: usize, piece: &[u8]) -> Resu
 pub(crate) fn push_piece(
     table: &Table<'_>,
     bytes: &mut Vec<u8>,
-    word: Word,
+    keyword: Keyword,
     rest: &str,
 ) -> io::Result<()> {
-    match word {
-        Word::TextAndLf => push_line(bytes, rest),
-        Word::Text => push_text(bytes, rest),
-        Word::Named => Ok(bytes.extend_from_slice(table.named(rest)?)?),
-        Word::Joined => push_joined(table, bytes, rest),
-        Word::Bytes => push_numbers(bytes, rest),
-        Word::Sample => push_sample(table.alloc, bytes, rest),
-        Word::Letters => push_letters(bytes, rest),
-        Word::Words => push_words(bytes, rest),
+    match keyword {
+        Keyword::TextAndLf => push_line(bytes, rest),
+        Keyword::Text => push_text(bytes, rest),
+        Keyword::Named => Ok(bytes.extend_from_slice(table.named(rest)?)?),
+        Keyword::Joined => push_joined(table, bytes, rest),
+        Keyword::Bytes => push_numbers(bytes, rest),
+        Keyword::Sample => push_sample(table.alloc, bytes, rest),
+        Keyword::Letters => push_letters(bytes, rest),
+        Keyword::Words => push_words(bytes, rest),
         _ => push_cells(bytes, rest),
     }
 }

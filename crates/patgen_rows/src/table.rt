@@ -1,6 +1,6 @@
 //! Reading a table. The file FORMAT says what its lines mean.
+use crate::keyword::{Keyword, keyword_of};
 use crate::pieces::{cut_times, push_piece, push_times};
-use crate::word::{Word, word_of};
 use std::alloc::Global;
 use std::io;
 
@@ -9,9 +9,9 @@ use std::io;
 pub(crate) struct Line<'a> {
     /// Its number, counted from 1.
     pub number: usize,
-    /// The word with which it begins.
-    pub word: Word,
-    /// What stands between the word and the colon.
+    /// The keyword with which it begins.
+    pub keyword: Keyword,
+    /// What stands between the keyword and the colon.
     pub name: &'a str,
     /// What stands behind the colon.
     pub rest: &'a str,
@@ -35,32 +35,34 @@ pub(crate) struct Call<'a> {
     pub wants: Vec<Line<'a>>,
 }
 
-/// The call that a line begins below another one. Of one with the word `also` the same is wanted as
+/// The call that a line begins below another one. Of one with the keyword `also` the same is wanted
 /// of that.
 fn call_below<'a>(alloc: Global, line: Line<'a>, above: Option<&Call<'a>>) -> io::Result<Call<'a>> {
     let mut call = Call {
         line,
-        is_behind: line.word.is(Word::Then),
+        is_behind: line.keyword.is(Keyword::Then),
         wants: Vec::new(alloc),
     };
     match above {
-        Some(above) if line.word.is(Word::Also) => {
+        Some(above) if line.keyword.is(Keyword::Also) => {
             call.is_behind = above.is_behind;
             call.wants.extend_from_slice(&above.wants)?;
             Ok(call)
         }
-        None if !line.word.is(Word::Call) => Err(io::Error::other("the line stands below no call")),
+        None if !line.keyword.is(Keyword::Call) => {
+            Err(io::Error::other("the line stands below no call"))
+        }
         _ => Ok(call),
     }
 }
 
-/// The word of a line and the name behind it, if there is one.
-fn word_and_name(front: &str) -> Option<(Word, &str)> {
-    if let Some(word) = word_of(front) {
-        return Some((word, ""));
+/// The keyword of a line and the name behind it, if there is one.
+fn keyword_and_name(front: &str) -> Option<(Keyword, &str)> {
+    if let Some(keyword) = keyword_of(front) {
+        return Some((keyword, ""));
     }
-    let (word, name) = front.split_once(' ')?;
-    Some((word_of(word)?, name))
+    let (keyword, name) = front.split_once(' ')?;
+    Some((keyword_of(keyword)?, name))
 }
 
 /// A row: the lines above its calls, and the calls.
@@ -73,10 +75,10 @@ pub(crate) struct Row<'a> {
 }
 
 impl<'a> Row<'a> {
-    /// The line above the calls that begins with this word.
-    pub fn find(&self, word: Word) -> Option<&Line<'a>> {
+    /// The line above the calls that begins with this keyword.
+    pub fn find(&self, keyword: Keyword) -> Option<&Line<'a>> {
         for line in self.lines.iter() {
-            if line.word.is(word) {
+            if line.keyword.is(keyword) {
                 return Some(line);
             }
         }
@@ -129,15 +131,15 @@ impl<'a> Table<'a> {
             return Ok(());
         }
         let Some((front, rest)) = line.split_once(':') else {
-            return Err(io::Error::other("the line begins with no word of a table"));
+            return Err(io::Error::other("the line begins with no keyword of a table"));
         };
         let rest = rest.strip_prefix(' ').unwrap_or(rest);
-        let Some((word, name)) = word_and_name(front) else {
-            return Err(io::Error::other("the line begins with no word of a table"));
+        let Some((keyword, name)) = keyword_and_name(front) else {
+            return Err(io::Error::other("the line begins with no keyword of a table"));
         };
         let line = Line {
             number,
-            word,
+            keyword,
             name,
             rest,
             content: self.contents.len(),
@@ -149,10 +151,10 @@ impl<'a> Table<'a> {
     /// Reads a piece of the last content; false where the line is none.
     fn read_piece(&mut self, line: &str) -> io::Result<bool> {
         let (times, simple) = cut_times(line);
-        let (word, rest) = simple.split_once(' ').unwrap_or((simple, ""));
-        match word_of(word) {
-            Some(word) if word.begins_piece() => {
-                self.append_piece(times, word, rest)?;
+        let (front, rest) = simple.split_once(' ').unwrap_or((simple, ""));
+        match keyword_of(front) {
+            Some(keyword) if keyword.begins_piece() => {
+                self.append_piece(times, keyword, rest)?;
                 Ok(true)
             }
             _ => Ok(false),
@@ -160,9 +162,9 @@ impl<'a> Table<'a> {
     }
 
     /// Appends a piece so many times to the last content.
-    fn append_piece(&mut self, times: usize, word: Word, rest: &str) -> io::Result<()> {
+    fn append_piece(&mut self, times: usize, keyword: Keyword, rest: &str) -> io::Result<()> {
         let mut piece = Vec::new(self.alloc);
-        push_piece(self, &mut piece, word, rest)?;
+        push_piece(self, &mut piece, keyword, rest)?;
         self.append(times, &piece)
     }
 
@@ -176,15 +178,15 @@ impl<'a> Table<'a> {
 
     /// Begins the content of a line, whose first piece may stand behind the colon.
     fn begin_content(&mut self, line: &Line<'a>) -> io::Result<()> {
-        let name = if line.word.is(Word::Content) {
+        let name = if line.keyword.is(Keyword::Content) {
             line.name
         } else {
             ""
         };
         let bytes = Vec::new(self.alloc);
         self.contents.push(Content { name, bytes })?;
-        self.is_open = line.word.has_piece() || line.word.is_above_pieces();
-        if line.word.has_piece() {
+        self.is_open = line.keyword.has_piece() || line.keyword.is_above_pieces();
+        if line.keyword.has_piece() {
             return self.read_first(line.rest);
         }
         Ok(())
@@ -200,10 +202,10 @@ impl<'a> Table<'a> {
 
     /// Adds a line to the row or call that it belongs to, or begins one.
     fn add(&mut self, line: Line<'a>) -> io::Result<()> {
-        match line.word {
-            Word::Row => self.begin_row(line),
-            Word::Call | Word::Also | Word::Then => self.begin_call(line),
-            Word::Content => Ok(()),
+        match line.keyword {
+            Keyword::Row => self.begin_row(line),
+            Keyword::Call | Keyword::Also | Keyword::Then => self.begin_call(line),
+            Keyword::Content => Ok(()),
             _ => self.add_below(line),
         }
     }

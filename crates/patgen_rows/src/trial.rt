@@ -3,8 +3,8 @@ use crate::asked::compare_explanation;
 use crate::case::{Case, held_bytes, hold_given};
 use crate::changes::{Change, push_changes};
 use crate::compare::compare_call;
+use crate::keyword::Keyword;
 use crate::table::{Call, Row, Table};
-use crate::word::Word;
 use std::alloc::{AllocError, Global};
 use std::io;
 
@@ -73,7 +73,7 @@ impl<'n> Trial<'n> {
         if row.calls.is_empty() {
             return self.try_explanation(table, row);
         }
-        match row.find(Word::Changes) {
+        match row.find(Keyword::Changes) {
             None => self.try_calls(table, row, None),
             Some(line) => {
                 let changes = changes_of_row(self.alloc, table, row, line.rest)?;

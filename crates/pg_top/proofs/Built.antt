@@ -1,4 +1,4 @@
--- The ends of the commands, and of words that are none.
+-- The ends of the commands, and of arguments that are none.
 use Rattle.std.proofs.Common.{◌≡◌, List, [], ◌∷◌, Contains, Option, None, Some, IfSome, MatchOption, inl, inr, refl, sym, subst, ◌∙◌, arith}
 use Rattle.std.specs.Prelude.{ℕ, Result, Ok, Err, ◌⊎◌}
 use Rattle.pg_outside.specs.Content.{FileMap, FilesShown, SinkShown, WasPut, WasPartPut, file_at}
@@ -72,7 +72,7 @@ lines_put : (wanted answer : Status) (lines : List ℕ) (o0 o1 : SinkShown) → 
 lines_put wanted answer lines o0 o1 end (inl h) = (λ _. h.1, λ is. absurd (subst IsEnd (sym h.0 ∙ is) end))
 lines_put wanted answer lines o0 o1 end (inr h) = (λ is. absurd (subst IsEnd (sym is ∙ h.0) end), λ _. h.2)
 
--- words that are no command
+-- arguments that are no command
 pub usage_run : {F : Type 0} (files : F) (s : FilesShown) (o0 o1 : SinkShown) (answer : Status) → PutsAnswer usage_line Usage answer o0 o1 → MakesPuts o0 o1 1
     → IsRun None answer files files (s, o0) (s, o1)
 usage_run files s o0 o1 answer line puts = record {

@@ -256,7 +256,7 @@ of_held : (held : Option FileMap) (P : FileMap → Type 0) → ((files : FileMap
 of_held None P all = tt
 of_held (Some files) P all = all files
 
--- words that are no command
+-- arguments that are no command
 pub usage_call : (s : FilesShown) (o0 o1 : SinkShown) (answer : Status) → PutsAnswer usage_line Usage answer o0 o1 → MakesPuts o0 o1 1 → IsCall usage_rule answer (s, o0) (s, o1)
 usage_call s o0 o1 answer h puts = answered_call usage_rule Usage usage_line s s o0 o1 answer tt (0, omega arith, refl) (no_calls s, puts)
     (held_still s.held) (of_held s.held (λ files. outcome_of (file_at files) usage_rule ≡ Ends Usage [] usage_line) (λ files. refl)) h

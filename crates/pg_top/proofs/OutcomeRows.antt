@@ -1,4 +1,4 @@
--- Worked rows of the definitions: what words ask for, what whole calls come to on small files, and the lines that are printed.
+-- Worked rows of the definitions: what arguments ask for, what whole calls come to on small files, and the lines that are printed.
 use Rattle.std.proofs.Common.{◌≡◌, ℕ, List, [], ◌∷◌, ◌++◌, Some, None, codes, refl}
 use Rattle.std.specs.Fmt.{digits}
 use Rattle.std.specs.Prelude.{Option, if◌then◌else◌}
