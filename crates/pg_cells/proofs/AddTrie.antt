@@ -11,7 +11,7 @@ use Rattle.pg_cells.specs.declared.store.fit.Slot.{Slot}
 use Rattle.pg_cells.specs.Inside.store.Lists.{Row, sign_at, child_at, base_at, IsFree}
 use Rattle.pg_cells.specs.Inside.store.Store.{Extends}
 use Rattle.pg_cells.specs.Inside.families.Searches.{search_start}
-use Rattle.pg_cells.specs.Inside.store.Fit.{signs_of, slot_of}
+use Rattle.pg_cells.specs.Inside.store.Fit.{slot_signs, slot_of}
 use Rattle.pg_cells.specs.Inside.store.Writes.{Takes}
 use Rattle.pg_cells.specs.Inside.families.Moves.{IsOutsideFamily, CanPlace, MovesFamily, AreSlotsOf}
 use Rattle.pg_cells.specs.Inside.linked.ValuedFamilies.{Trie}
@@ -202,15 +202,15 @@ module _ {V : Type 0} (few n : ℕ) (r : Row V) (t : Trie V) (trie : IsTrie n r 
     -- the family, or none, is settled with the sign
     pub trie_settles : (new : Row V) (base : ℕ) (slot : Slot V) → slot.sign ≡ s → CanPlace n r was slots slot parent → MovesFamily few n r new was base slots slot parent
         → with_sign (search_start few n) t.families p s
-        ≡ put order p (record { base = least_base (search_start few n) (without_family t.families p) (with_one_sign s (signs_of slots)); signs = with_one_sign s (signs_of slots) })
+        ≡ put order p (record { base = least_base (search_start few n) (without_family t.families p) (with_one_sign s (slot_signs slots)); signs = with_one_sign s (slot_signs slots) })
         (without_family t.families p)
         → IsTrie n new (with_sign_below few n t p s slot.value)
     trie_settles new base slot is can moved step =
         let whole = trie_moved few n r new t trie p parent parent_is was base slots slot own can moved in
         let least = base_is few n r new t trie p parent parent_is was base slots slot own can moved in
-        let families : put order p (record { base = base; signs = with_one_sign slot.sign (signs_of slots) }) (without_family t.families p) ≡ with_sign (search_start few n) t.families p s =
-        (λ i. put order p (record { base = least i; signs = with_one_sign slot.sign (signs_of slots) }) (without_family t.families p))
-        ∙ (λ i. put order p (record { base = least_base (search_start few n) (without_family t.families p) (with_one_sign (is i) (signs_of slots)); signs = with_one_sign (is i) (signs_of slots) })
+        let families : put order p (record { base = base; signs = with_one_sign slot.sign (slot_signs slots) }) (without_family t.families p) ≡ with_sign (search_start few n) t.families p s =
+        (λ i. put order p (record { base = least i; signs = with_one_sign slot.sign (slot_signs slots) }) (without_family t.families p))
+        ∙ (λ i. put order p (record { base = least_base (search_start few n) (without_family t.families p) (with_one_sign (is i) (slot_signs slots)); signs = with_one_sign (is i) (slot_signs slots) })
         (without_family t.families p))
         ∙ sym step in
         subst (IsTrie n new) (λ i. record { families = families i; values = put order (p ++ is i ∷ []) slot.value t.values }) whole
@@ -297,18 +297,18 @@ module _ {V : Type 0} (few n : ℕ) (old r : Row V) (t : Trie V) (before : IsTri
 
     -- the step of the placement, where the sign does not join
     pub settles_step : with_sign (search_start few n) t.families p s
-        ≡ put order p (record { base = least_base (search_start few n) (without_family t.families p) (with_one_sign s (signs_of slots)); signs = with_one_sign s (signs_of slots) })
+        ≡ put order p (record { base = least_base (search_start few n) (without_family t.families p) (with_one_sign s (slot_signs slots)); signs = with_one_sign s (slot_signs slots) })
         (without_family t.families p)
     settles_step = elim (cases_eq base 0) [
       | inl z ↦
           sign_new few n t.families p s grown.sorted (no_family z)
-          ∙ ap (λ l. put order p (record { base = least_base (search_start few n) (without_family t.families p) (with_one_sign s (signs_of l)); signs = with_one_sign s (signs_of l) })
+          ∙ ap (λ l. put order p (record { base = least_base (search_start few n) (without_family t.families p) (with_one_sign s (slot_signs l)); signs = with_one_sign s (slot_signs l) })
           (without_family t.families p))
           (sym (none z))
       | inr up ↦
           let f = some_family (omega arith) in
           let used = taken_used n r t.families grown.sorted grown.layout (f.0.base + s) (λ z. no_join (omega arith) (ap (λ b. sign_at r (b + s)) (sym f.2) ∙ z)) in
-          let signs : f.0.signs ≡ signs_of slots = grown.layout.members p f.0 f.1 ∙ ap (signs_at_base n r) f.2 ∙ sym (some (omega arith)).signs in
+          let signs : f.0.signs ≡ slot_signs slots = grown.layout.members p f.0 f.1 ∙ ap (signs_at_base n r) f.2 ∙ sym (some (omega arith)).signs in
           sign_moves few n t.families p s f.0 f.1 used
           ∙ ap (λ xs. put order p (record { base = least_base (search_start few n) (without_family t.families p) (with_one_sign s xs); signs = with_one_sign s xs })
           (without_family t.families p)) signs
@@ -321,9 +321,10 @@ module _ {V : Type 0} (few n : ℕ) (old r : Row V) (t : Trie V) (before : IsTri
       pub settles_cell : cell_of (with_sign (search_start few n) t.families p s) (p ++ s ∷ []) ≡ Some (at + s)
       settles_cell =
           let least = base_is few n r new t grown p parent parent_is base at slots slot owned can moved in
-          let same : least_base (search_start few n) (without_family t.families p) (with_one_sign s (signs_of slots)) ≡ at =
-          ap (λ x. least_base (search_start few n) (without_family t.families p) (with_one_sign x (signs_of slots))) (sym is) ∙ sym least in
-          ap (λ fs. cell_of fs (p ++ s ∷ [])) (settles_step ∙ ap (λ b. put order p (record { base = b; signs = with_one_sign s (signs_of slots) }) (without_family t.families p)) same)
-          ∙ parts_cell (put order p (record { base = at; signs = with_one_sign s (signs_of slots) }) (without_family t.families p)) p s (record { base = at; signs = with_one_sign s (signs_of slots) })
-          (find_put_same p (record { base = at; signs = with_one_sign s (signs_of slots) }) (without_family t.families p))
-          (any_one_more s s (signs_of slots) ∙ or_left (nat_eq s s) (list_any (nat_eq s) (signs_of slots)) (eq-eqb s s refl))
+          let same : least_base (search_start few n) (without_family t.families p) (with_one_sign s (slot_signs slots)) ≡ at =
+          ap (λ x. least_base (search_start few n) (without_family t.families p) (with_one_sign x (slot_signs slots))) (sym is) ∙ sym least in
+          ap (λ fs. cell_of fs (p ++ s ∷ [])) (settles_step ∙ ap (λ b. put order p (record { base = b; signs = with_one_sign s (slot_signs slots) }) (without_family t.families p)) same)
+          ∙ parts_cell (put order p (record { base = at; signs = with_one_sign s (slot_signs slots) }) (without_family t.families p)) p s
+          (record { base = at; signs = with_one_sign s (slot_signs slots) })
+          (find_put_same p (record { base = at; signs = with_one_sign s (slot_signs slots) }) (without_family t.families p))
+          (any_one_more s s (slot_signs slots) ∙ or_left (nat_eq s s) (list_any (nat_eq s) (slot_signs slots)) (eq-eqb s s refl))

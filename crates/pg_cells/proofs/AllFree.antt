@@ -5,7 +5,7 @@ use Rattle.std.proofs.lemmas.List.{get_or-set_same, get_or-set_other, get_or_pas
 use Rattle.pg_cells.specs.declared.store.cell.TheConstants.{CELLS_END, SIGN_COUNT}
 use Rattle.pg_cells.specs.declared.store.cell.Cell.{Cell}
 use Rattle.pg_cells.specs.declared.store.member.Member.{Member}
-use Rattle.pg_cells.specs.Inside.store.Lists.{sign_seen, base_seen, link_seen, Lists, lists, row_of, sign_at, with_free, with_base, before_seen}
+use Rattle.pg_cells.specs.Inside.store.Lists.{sign_seen, base_seen, link_seen, LinkedRow, linked_row, row_of, sign_at, with_free, with_base, before_seen}
 use Rattle.pg_cells.specs.Inside.store.FreeList.{IsFreeList, AreLinked, IsFreeTo}
 use Rattle.pg_cells.specs.Inside.families.Root.{IsRootTo}
 use Rattle.pg_cells.specs.Inside.store.Store.{IsKept, IsStore}
@@ -15,14 +15,14 @@ use Rattle.pg_cells.proofs.RowWrites.{is_row}
 
 module _ {V : Type 0} where
   -- the lists when a cell is free and no base, where b and a are the free cells before and after it
-  abbrev pub lists_cleared : Lists (Member V) → ℕ → ℕ → ℕ → Lists (Member V)
+  abbrev pub lists_cleared : LinkedRow (Member V) → ℕ → ℕ → ℕ → LinkedRow (Member V)
   lists_cleared ls i b a = record {
     row = with_base (with_free ls.row i) i false;
     befores = set ls.befores i b;
     afters = set ls.afters i a;
   }
 
-  pub free_to_none : (last : ℕ) (ls : Lists V) → IsFreeTo last 0 ls
+  pub free_to_none : (last : ℕ) (ls : LinkedRow V) → IsFreeTo last 0 ls
   free_to_none last ls = record {
     signs = λ j lt. absurd (omega arith);
     bases = λ j lt. absurd (omega arith);
@@ -35,9 +35,9 @@ module _ {V : Type 0} where
   -- one cell more
   pub free_to_more : (cells : List (Cell V)) (last i b a : ℕ) → i < length cells → i ≤ last
       → (i ≡ 0 → b ≡ last) → (0 < i → b + 1 ≡ i) → (i < last → a ≡ i + 1) → (i ≡ last → a ≡ 0)
-      → IsFreeTo last i (lists cells) → IsFreeTo last (i + 1) (lists_cleared (lists cells) i b a)
+      → IsFreeTo last i (linked_row cells) → IsFreeTo last (i + 1) (lists_cleared (linked_row cells) i b a)
   free_to_more cells last i b a within most start up more end old =
-      let ls = lists cells in
+      let ls = linked_row cells in
       let in_signs : i < length ls.row.signs = omega (arith, length-map cells sign_seen) in
       let in_bases : i < length ls.row.bases = omega (arith, length-map cells base_seen) in
       let in_befores : i < length ls.befores = omega (arith, length-map cells before_seen) in
@@ -88,13 +88,13 @@ all_linked S B A last here past first befores afters end =
     }
 
 -- where all cells are free
-pub free_linked : {V : Type 0} (ls : Lists V) (n : ℕ) → length ls.row.signs ≡ n → 0 < n → IsFreeTo (n - 1) n ls → AreLinked ls
+pub free_linked : {V : Type 0} (ls : LinkedRow V) (n : ℕ) → length ls.row.signs ≡ n → 0 < n → IsFreeTo (n - 1) n ls → AreLinked ls
 free_linked ls n size up h =
     all_linked (λ j. get_or ls.row.signs j 1) (λ j. get_or ls.befores j 0) (λ j. get_or ls.afters j 0) (n - 1)
     (λ j le. h.signs j (omega arith)) (λ j lt. get_or_past ls.row.signs j 1 (omega arith))
     (h.first up) (λ j above le. h.befores j above (omega arith)) (λ j lt. h.afters j (omega arith) lt) (h.end (omega arith))
 
-module _ {V : Type 0} (cells : List (Cell V)) (last : ℕ) (h : IsFreeTo last (length cells) (lists cells)) where
+module _ {V : Type 0} (cells : List (Cell V)) (last : ℕ) (h : IsFreeTo last (length cells) (linked_row cells)) where
   -- no cell is taken
   pub free_none : (i : ℕ) → sign_at (row_of cells) i ≡ 0
   free_none i =
@@ -105,7 +105,7 @@ module _ {V : Type 0} (cells : List (Cell V)) (last : ℕ) (h : IsFreeTo last (l
         | inr le ↦ get_or_past signs i 0 le
       ]
 
-  free_kept : 0 < length cells → length cells < CELLS_END → AreLinked (lists cells) → IsKept cells 0 0
+  free_kept : 0 < length cells → length cells < CELLS_END → AreLinked (linked_row cells) → IsKept cells 0 0
   free_kept up small linked = record {
     linked = linked;
     small = small;
@@ -118,7 +118,7 @@ module _ {V : Type 0} (cells : List (Cell V)) (last : ℕ) (h : IsFreeTo last (l
   }
 
   -- a store whose cells are all free
-  pub free_store : (lows : List ℕ) (dropped sought : ℕ) → length lows ≤ SIGN_COUNT → 0 < length cells → length cells < CELLS_END → AreLinked (lists cells)
+  pub free_store : (lows : List ℕ) (dropped sought : ℕ) → length lows ≤ SIGN_COUNT → 0 < length cells → length cells < CELLS_END → AreLinked (linked_row cells)
       → IsStore cells 0 0 lows 0 dropped 0 sought
   free_store lows dropped sought few up small linked = record {
     kept = free_kept up small linked;

@@ -7,10 +7,10 @@ use Rattle.pg_types.specs.Inside.Placing.{IsLeast}
 use Rattle.pg_cells.specs.declared.store.fit.Slot.{Slot}
 use Rattle.pg_cells.specs.Inside.store.Lists.{Row, sign_at, base_at, IsFree}
 use Rattle.pg_cells.specs.Inside.store.BlockedBases.{AreBlocked}
-use Rattle.pg_cells.specs.Inside.store.Fit.{fits_row, signs_of, slot_of}
+use Rattle.pg_cells.specs.Inside.store.Fit.{fits_row, slot_signs, slot_of}
 use Rattle.pg_cells.specs.Inside.store.Store.{Extends, IsTop}
 use Rattle.pg_cells.specs.Inside.store.Writes.{Takes, SetsChild, SetsRowValue, SetsBase}
-use Rattle.pg_cells.specs.Inside.families.Moves.{CanPlace, GivesUp, Drops, Puts}
+use Rattle.pg_cells.specs.Inside.families.Moves.{CanPlace, GivesUp, DropsBase, PutsSlots}
 use Rattle.pg_cells.proofs.FitSteps.{taken_misfit}
 use Rattle.pg_cells.proofs.LinkedLists.{free_within}
 use Rattle.pg_cells.proofs.PlacedRoom.{outside_sign, was_taken, new_free, slots_free, dropped_sign, all_has}
@@ -76,7 +76,7 @@ some_fails test (x ∷ xs) e = elim (cases_Bool (test x)) [
 ]
 
 module _ {V : Type 0} (n : ℕ) (old gave dropped : Row V) (was : ℕ) (slots : List (Slot V)) (slot : Slot V) (parent : ℕ)
-    (can : CanPlace n old was slots slot parent) (gives : GivesUp old gave was slots) (drops : Drops gave dropped was) where
+    (can : CanPlace n old was slots slot parent) (gives : GivesUp old gave was slots) (drops : DropsBase gave dropped was) where
   -- a base other than the old one stays
   base_stays : (b : ℕ) → b ≢ was → base_at dropped b ≡ base_at old b
   base_stays b other = elim drops [ inl h ↦ ap (λ (r : Row V). base_at r b) h.1 | inr h ↦ h.1.bases b other ] ∙ gives.others.bases b
@@ -89,15 +89,15 @@ module _ {V : Type 0} (n : ℕ) (old gave dropped : Row V) (was : ℕ) (slots : 
   ])
 
   -- the family that gave up its cells fits at no base that could not take it, nor at its own with the sign
-  pub blocked_fits : (from : ℕ) → 0 < was → AreBlocked old was from → (k : ℕ) → from ≤ k → k < was + 1 → fits_row dropped (slot.sign ∷ signs_of slots) k ≡ false
+  pub blocked_fits : (from : ℕ) → 0 < was → AreBlocked old was from → (k : ℕ) → from ≤ k → k < was + 1 → fits_row dropped (slot.sign ∷ slot_signs slots) k ≡ false
   blocked_fits from up are k low lt = elim (cases_lt k was) [
     | inr ge ↦
         let same : k ≡ was = omega arith in
         let kept : sign_at dropped (was + slot.sign) ≡ sign_at old (was + slot.sign) =
         outside_sign n old gave dropped was slots slot parent can gives drops (was + slot.sign) (outside_here was slots slot.sign can.new) in
-        ap (fits_row dropped (slot.sign ∷ signs_of slots)) same ∙ taken_misfit dropped (slot.sign ∷ signs_of slots) (omega arith) slot.sign refl was (λ z. can.sign_taken up (sym kept ∙ z))
+        ap (fits_row dropped (slot.sign ∷ slot_signs slots)) same ∙ taken_misfit dropped (slot.sign ∷ slot_signs slots) (omega arith) slot.sign refl was (λ z. can.sign_taken up (sym kept ∙ z))
     | inl below ↦ elim (are k low below) [
-      | inl base ↦ and_left (not (base_at dropped k)) (list_all (λ s. nat_eq (sign_at dropped (k + s)) 0) (slot.sign ∷ signs_of slots)) (ap not (base_stays k (omega arith) ∙ base))
+      | inl base ↦ and_left (not (base_at dropped k)) (list_all (λ s. nat_eq (sign_at dropped (k + s)) 0) (slot.sign ∷ slot_signs slots)) (ap not (base_stays k (omega arith) ∙ base))
       | inr h ↦
           let x = h.0 in
           let found = can.owns x up h.1 h.2 in
@@ -106,18 +106,18 @@ module _ {V : Type 0} (n : ℕ) (old gave dropped : Row V) (was : ℕ) (slots : 
     ]
   ]
     where
-      fails : (b x : ℕ) → list_any (nat_eq x) (signs_of slots) ≡ true → sign_at dropped (b + x) ≢ 0 → fits_row dropped (slot.sign ∷ signs_of slots) b ≡ false
-      fails b x there taken = elim (cases_Bool (fits_row dropped (slot.sign ∷ signs_of slots) b)) [
+      fails : (b x : ℕ) → list_any (nat_eq x) (slot_signs slots) ≡ true → sign_at dropped (b + x) ≢ 0 → fits_row dropped (slot.sign ∷ slot_signs slots) b ≡ false
+      fails b x there taken = elim (cases_Bool (fits_row dropped (slot.sign ∷ slot_signs slots) b)) [
         | inr e ↦ e
         | inl e ↦ absurd (
-            let all = (and_parts (not (base_at dropped b)) (list_all (λ s. nat_eq (sign_at dropped (b + s)) 0) (slot.sign ∷ signs_of slots)) e).1 in
-            let rest = (and_parts (nat_eq (sign_at dropped (b + slot.sign)) 0) (list_all (λ s. nat_eq (sign_at dropped (b + s)) 0) (signs_of slots)) all).1 in
-            taken (eqb-true (sign_at dropped (b + x)) 0 (all_has (λ s. nat_eq (sign_at dropped (b + s)) 0) (signs_of slots) x rest there)))
+            let all = (and_parts (not (base_at dropped b)) (list_all (λ s. nat_eq (sign_at dropped (b + s)) 0) (slot.sign ∷ slot_signs slots)) e).1 in
+            let rest = (and_parts (nat_eq (sign_at dropped (b + slot.sign)) 0) (list_all (λ s. nat_eq (sign_at dropped (b + s)) 0) (slot_signs slots)) all).1 in
+            taken (eqb-true (sign_at dropped (b + x)) 0 (all_has (λ s. nat_eq (sign_at dropped (b + s)) 0) (slot_signs slots) x rest there)))
       ]
 
   -- after the search the bases below the one that was found can't take the family
-  module _ (top : ℕ) (is_top : IsTop dropped.signs top) (base low : ℕ) (near : base ≤ max top 1) (up : 0 < base) (least : IsLeast (fits_row dropped (slot.sign ∷ signs_of slots)) low base)
-      (settled took flagged : Row V) (puts : Puts dropped settled base slots) (takes : Takes settled took (base + slot.sign) slot.sign slot.value slot.child)
+  module _ (top : ℕ) (is_top : IsTop dropped.signs top) (base low : ℕ) (near : base ≤ max top 1) (up : 0 < base) (least : IsLeast (fits_row dropped (slot.sign ∷ slot_signs slots)) low base)
+      (settled took flagged : Row V) (puts : PutsSlots dropped settled base slots) (takes : Takes settled took (base + slot.sign) slot.sign slot.value slot.child)
       (flags : SetsBase took flagged base true) where
     fresh : sign_at dropped (base + slot.sign) ≡ 0
     fresh = new_free n old gave dropped was slots slot parent can gives drops top is_top (max top 1) refl base near least.meets
@@ -126,7 +126,7 @@ module _ {V : Type 0} (n : ℕ) (old gave dropped : Row V) (was : ℕ) (slots : 
     free_slot = slots_free n old gave dropped was slots slot parent can gives drops top is_top (max top 1) refl base near least.meets
 
     no_base : base_at dropped base ≡ false
-    no_base = not-true (base_at dropped base) (and_parts (not (base_at dropped base)) (list_all (λ y. nat_eq (sign_at dropped (base + y)) 0) (slot.sign ∷ signs_of slots)) least.meets).0
+    no_base = not-true (base_at dropped base) (and_parts (not (base_at dropped base)) (list_all (λ y. nat_eq (sign_at dropped (base + y)) 0) (slot.sign ∷ slot_signs slots)) least.meets).0
 
     -- a taken cell keeps its sign
     taken_stays : (i : ℕ) → sign_at dropped i ≢ 0 → sign_at flagged i ≡ sign_at dropped i
@@ -161,8 +161,8 @@ module _ {V : Type 0} (n : ℕ) (old gave dropped : Row V) (was : ℕ) (slots : 
         ]
 
     -- a sign of the family stands at the base
-    stands_there : (x : ℕ) → list_any (nat_eq x) (slot.sign ∷ signs_of slots) ≡ true → (0 < x) × (sign_at flagged (base + x) ≡ x)
-    stands_there x there = elim (or_cases (nat_eq x slot.sign) (list_any (nat_eq x) (signs_of slots)) there) [
+    stands_there : (x : ℕ) → list_any (nat_eq x) (slot.sign ∷ slot_signs slots) ≡ true → (0 < x) × (sign_at flagged (base + x) ≡ x)
+    stands_there x there = elim (or_cases (nat_eq x slot.sign) (list_any (nat_eq x) (slot_signs slots)) there) [
       | inl same ↦
           let e : x ≡ slot.sign = eqb-true x slot.sign same in
           ((let some = can.sign.0 in omega arith), flags.signs (base + x) ∙ ap (λ y. sign_at took (base + y)) e ∙ takes.sign_is ∙ sym e)
@@ -177,11 +177,11 @@ module _ {V : Type 0} (n : ℕ) (old gave dropped : Row V) (was : ℕ) (slots : 
     pub blocked_after : AreBlocked flagged base low
     blocked_after k from lt = elim (cases_Bool (base_at dropped k)) [
       | inl e ↦ inl (flags.bases k (omega arith) ∙ takes.elsewhere.bases k ∙ puts.others.bases k ∙ e)
-      | inr e ↦ elim (cases_Bool (list_all (λ s. nat_eq (sign_at dropped (k + s)) 0) (slot.sign ∷ signs_of slots))) [
-        | inl all ↦ absurd (both_ways (fits_row dropped (slot.sign ∷ signs_of slots) k) (least.first k from lt)
-            (and_from (not (base_at dropped k)) (list_all (λ s. nat_eq (sign_at dropped (k + s)) 0) (slot.sign ∷ signs_of slots)) (ap not e) all))
+      | inr e ↦ elim (cases_Bool (list_all (λ s. nat_eq (sign_at dropped (k + s)) 0) (slot.sign ∷ slot_signs slots))) [
+        | inl all ↦ absurd (both_ways (fits_row dropped (slot.sign ∷ slot_signs slots) k) (least.first k from lt)
+            (and_from (not (base_at dropped k)) (list_all (λ s. nat_eq (sign_at dropped (k + s)) 0) (slot.sign ∷ slot_signs slots)) (ap not e) all))
         | inr fails ↦
-            let f = some_fails (λ s. nat_eq (sign_at dropped (k + s)) 0) (slot.sign ∷ signs_of slots) fails in
+            let f = some_fails (λ s. nat_eq (sign_at dropped (k + s)) 0) (slot.sign ∷ slot_signs slots) fails in
             let taken : sign_at dropped (k + f.0) ≢ 0 = λ z. both_ways (nat_eq (sign_at dropped (k + f.0)) 0) f.2 (eq-eqb (sign_at dropped (k + f.0)) 0 z) in
             let here = stands_there f.0 f.1 in
             let same : sign_at flagged (k + f.0) ≡ sign_at dropped (k + f.0) = taken_stays (k + f.0) taken in

@@ -5,7 +5,7 @@ use Rattle.std.proofs.lemmas.Bool.{cases_Bool, cases_eq, cases_lt, eq-eqb, both_
 use Rattle.std.proofs.lemmas.List.{get_or-set_same, get_or-set_other}
 use Rattle.pg_types.specs.Inside.Placing.{IsLeast}
 use Rattle.pg_cells.specs.Inside.store.Lists.{Row, sign_at, base_at}
-use Rattle.pg_cells.specs.Inside.store.Bounds.{IsBelow, NoneFree, AreBounds}
+use Rattle.pg_cells.specs.Inside.store.Bounds.{IsBelowBounds, NoneFree, AreBounds}
 use Rattle.pg_cells.specs.Inside.store.Fit.{fits_row}
 use Rattle.pg_cells.specs.Inside.store.Store.{Extends}
 use Rattle.pg_cells.specs.Inside.store.Writes.{Takes, Frees, SetsChild, SetsRowValue, SetsBase}
@@ -54,8 +54,8 @@ module _ {V : Type 0} (old new : Row V) (lows : List ℕ) (freed dropped : ℕ) 
 
 -- one bound more is lowered
 pub lower_below : (lows first : List ℕ) (freed dropped i v : ℕ) → i < length lows → v ≤ get_or lows i 0 → v ≤ dropped → v ≤ freed - i
-    → ((s b : ℕ) → s < i → b < get_or lows s 0 → IsBelow first freed dropped s b) → ((s : ℕ) → i ≤ s → get_or lows s 0 ≡ get_or first s 0)
-    → (s b : ℕ) → s < i + 1 → b < get_or (set lows i v) s 0 → IsBelow first freed dropped s b
+    → ((s b : ℕ) → s < i → b < get_or lows s 0 → IsBelowBounds first freed dropped s b) → ((s : ℕ) → i ≤ s → get_or lows s 0 ≡ get_or first s 0)
+    → (s b : ℕ) → s < i + 1 → b < get_or (set lows i v) s 0 → IsBelowBounds first freed dropped s b
 lower_below lows first freed dropped i v within low base cell below above s b lt less = elim (cases_eq s i) [
   | inl e ↦
       let here : get_or (set lows i v) s 0 ≡ v = ap (λ x. get_or (set lows i v) x 0) e ∙ get_or-set_same lows i v 0 within in
@@ -66,7 +66,7 @@ lower_below lows first freed dropped i v within low base cell below above s b lt
 
 -- the bound of one sign is raised, and the others are lowered
 pub bounds_raise : {V : Type 0} (r : Row V) (lows raised : List ℕ) (freed dropped sign low far_cell far_base : ℕ) → AreBounds r lows freed dropped
-    → get_or raised sign 0 ≤ low → ((s b : ℕ) → s ≢ sign → b < get_or raised s 0 → IsBelow lows freed dropped s b)
+    → get_or raised sign 0 ≤ low → ((s b : ℕ) → s ≢ sign → b < get_or raised s 0 → IsBelowBounds lows freed dropped s b)
     → ((b : ℕ) → 0 < b → b < low → NoneFree r sign b) → AreBounds r raised far_cell far_base
 bounds_raise r lows raised freed dropped sign low far_cell far_base are here there none s b up below = elim (cases_eq s sign) [
   | inl e ↦ let far : b < get_or raised s 0 = below.under_low in let same : get_or raised s 0 ≡ get_or raised sign 0 = ap (λ x. get_or raised x 0) e in by e (none b up (omega arith))

@@ -10,7 +10,7 @@ use Rattle.pg_cells.specs.declared.store.cell.TheConstants.{SIGN_COUNT}
 use Rattle.pg_cells.specs.declared.store.cell.Cell.{Cell}
 use Rattle.pg_cells.specs.declared.store.member.Member.{Member}
 use Rattle.pg_cells.proofs.WordLaws.{word_taken, word_free, sign_even, sign_odd, odd_word, value_odd, value_sign, value_next, value_first, value_base, value_link, taken_odd, taken_sign, taken_next, taken_first, taken_base, taken_link, link_same, base_same, low_same}
-use Rattle.pg_cells.specs.Inside.store.Lists.{lists, without_links, unlink_at, sign_seen, base_seen, link_seen, child_seen, member_seen, before_seen, sign_in, next_in, first_in, base_in, link_in, FitsCell, sign_at, child_at, base_at, before_at, after_at, IsFree, with_before, with_after, with_child, with_value, with_base, with_taken, with_free}
+use Rattle.pg_cells.specs.Inside.store.Lists.{linked_row, without_links, unlink_at, sign_seen, base_seen, link_seen, child_seen, member_seen, before_seen, sign_in, next_in, first_in, base_in, link_in, FitsCell, sign_at, child_at, base_at, before_at, after_at, IsFree, with_before, with_after, with_child, with_value, with_base, with_taken, with_free}
 
 -- a value without its links loses none
 without_links_seen : {V : Type 0} (b : Bool) (v : V) (m : Member V) → m.value ≡ v → without_links v ≡ without_links (cond b (without_links v) m).value
@@ -50,40 +50,40 @@ module _ {V : Type 0} (cells : List (Cell V)) (i : ℕ) (d : Cell V) where
   now : {A : Type 0} (f : Cell V → A) (new : Cell V) (x : A) → f new ≡ x → map f (set cells i new) ≡ set (map f cells) i x
   now f new x e = map-set f cells i new ∙ ap (set (map f cells) i) e
 
-  pub sign_is : i < length cells → sign_seen old ≡ sign_at (lists cells).row i
+  pub sign_is : i < length cells → sign_seen old ≡ sign_at (linked_row cells).row i
   sign_is h = sym (get_or-map sign_seen cells i d 0 h)
 
-  pub cell_taken : i < length cells → nat_eq (old.signs % 2) 1 ≡ true → sign_at (lists cells).row i ≢ 0
+  pub cell_taken : i < length cells → nat_eq (old.signs % 2) 1 ≡ true → sign_at (linked_row cells).row i ≢ 0
   cell_taken h e z = word_taken old.signs e (sign_is h ∙ z)
 
-  pub cell_free : i < length cells → nat_eq (old.signs % 2) 1 ≡ false → sign_at (lists cells).row i ≡ 0
+  pub cell_free : i < length cells → nat_eq (old.signs % 2) 1 ≡ false → sign_at (linked_row cells).row i ≡ 0
   cell_free h e = sym (sign_is h) ∙ word_free old.signs e
 
-  pub base_is : i < length cells → base_seen old ≡ base_at (lists cells).row i
+  pub base_is : i < length cells → base_seen old ≡ base_at (linked_row cells).row i
   base_is h = sym (get_or-map base_seen cells i d false h)
 
-  pub after_is : i < length cells → link_seen old ≡ after_at (lists cells) i
+  pub after_is : i < length cells → link_seen old ≡ after_at (linked_row cells) i
   after_is h = sym (get_or-map link_seen cells i d 0 h)
 
-  free_sign : i < length cells → IsFree (lists cells).row i → sign_seen old ≡ 0
+  free_sign : i < length cells → IsFree (linked_row cells).row i → sign_seen old ≡ 0
   free_sign h free = sym (get_or-map sign_seen cells i d 1 h) ∙ free
 
-  taken_old : i < length cells → sign_at (lists cells).row i ≢ 0 → sign_seen old ≢ 0
+  taken_old : i < length cells → sign_at (linked_row cells).row i ≢ 0 → sign_seen old ≢ 0
   taken_old h taken e = taken (sym (sign_is h) ∙ e)
 
-  pub before_is : i < length cells → IsFree (lists cells).row i → old.signs / 2 ≡ before_at (lists cells) i
+  pub before_is : i < length cells → IsFree (linked_row cells).row i → old.signs / 2 ≡ before_at (linked_row cells) i
   before_is h free = sym (free_before old (free_sign h free)) ∙ sym (get_or-map before_seen cells i d 0 h)
 
-  pub child_is : i < length cells → sign_at (lists cells).row i ≢ 0 → link_seen old ≡ child_at (lists cells).row i
+  pub child_is : i < length cells → sign_at (linked_row cells).row i ≢ 0 → link_seen old ≡ child_at (linked_row cells).row i
   child_is h taken = sym (taken_child old (taken_old h taken)) ∙ sym (get_or-map child_seen cells i d 0 h)
 
-  pub value_is : (c : Cell V) → c ≡ old → i < length cells → sign_at (lists cells).row i ≢ 0
-      → slice_get (lists cells).row.values i ≡ Some (record { value = c.value; next = next_in c.signs; first = first_in c.signs c.links })
+  pub value_is : (c : Cell V) → c ≡ old → i < length cells → sign_at (linked_row cells).row i ≢ 0
+      → slice_get (linked_row cells).row.values i ≡ Some (record { value = c.value; next = next_in c.signs; first = first_in c.signs c.links })
   value_is c same h taken =
       slice_get-map member_seen cells i ∙ ap (option_map member_seen) (slice_get-get_or cells i d h)
       ∙ ap Some (ap member_seen (sym same) ∙ taken_member c (λ e. taken_old h taken (ap sign_seen (sym same) ∙ e)))
 
-  pub write_before : (x : ℕ) → i < length cells → IsFree (lists cells).row i → lists (set cells i (record old { signs = x * 2 })) ≡ with_before (lists cells) i x
+  pub write_before : (x : ℕ) → i < length cells → IsFree (linked_row cells).row i → linked_row (set cells i (record old { signs = x * 2 })) ≡ with_before (linked_row cells) i x
   write_before x h free =
       let new : Cell V = record old { signs = x * 2 } in
       let sign : sign_seen old ≡ 0 = free_sign h free in
@@ -99,7 +99,7 @@ module _ {V : Type 0} (cells : List (Cell V)) (i : ℕ) (d : Cell V) where
         afters = kept link_seen new refl t;
       }
 
-  pub write_after : (x : ℕ) → i < length cells → IsFree (lists cells).row i → lists (set cells i (record old { links = x * 8 + old.links % 8 })) ≡ with_after (lists cells) i x
+  pub write_after : (x : ℕ) → i < length cells → IsFree (linked_row cells).row i → linked_row (set cells i (record old { links = x * 8 + old.links % 8 })) ≡ with_after (linked_row cells) i x
   write_after x h free =
       let new : Cell V = record old { links = x * 8 + old.links % 8 } in
       let sign : sign_seen old ≡ 0 = free_sign h free in
@@ -114,8 +114,8 @@ module _ {V : Type 0} (cells : List (Cell V)) (i : ℕ) (d : Cell V) where
         afters = now link_seen new x (link_same x old.links) t;
       }
 
-  pub write_child : (x : ℕ) → i < length cells → sign_at (lists cells).row i ≢ 0 → lists (set cells i (record old { links = x * 8 + old.links % 8 }))
-      ≡ record (lists cells) { row = with_child (lists cells).row i x; afters = set (lists cells).afters i x }
+  pub write_child : (x : ℕ) → i < length cells → sign_at (linked_row cells).row i ≢ 0 → linked_row (set cells i (record old { links = x * 8 + old.links % 8 }))
+      ≡ record (linked_row cells) { row = with_child (linked_row cells).row i x; afters = set (linked_row cells).afters i x }
   write_child x h taken =
       let new : Cell V = record old { links = x * 8 + old.links % 8 } in
       let some : sign_seen old ≢ 0 = taken_old h taken in
@@ -132,9 +132,9 @@ module _ {V : Type 0} (cells : List (Cell V)) (i : ℕ) (d : Cell V) where
         afters = now link_seen new x (link_same x old.links) t;
       }
 
-  pub write_value : (x : Member V) (upper : ℕ) → upper ≡ x.next * 4096 + x.first % 512 * 8388608 → FitsCell x → i < length cells → sign_at (lists cells).row i ≢ 0
-      → lists (set cells i (record old { value = x.value; signs = old.signs % 4096 + upper; links = old.links / 4 * 4 + x.first / 512 }))
-      ≡ record (lists cells) { row = with_value (lists cells).row i x; befores = set (lists cells).befores i 0 }
+  pub write_value : (x : Member V) (upper : ℕ) → upper ≡ x.next * 4096 + x.first % 512 * 8388608 → FitsCell x → i < length cells → sign_at (linked_row cells).row i ≢ 0
+      → linked_row (set cells i (record old { value = x.value; signs = old.signs % 4096 + upper; links = old.links / 4 * 4 + x.first / 512 }))
+      ≡ record (linked_row cells) { row = with_value (linked_row cells).row i x; befores = set (linked_row cells).befores i 0 }
   write_value x upper is fits h taken =
       let S = old.signs in
       let L = old.links in
@@ -160,7 +160,7 @@ module _ {V : Type 0} (cells : List (Cell V)) (i : ℕ) (d : Cell V) where
 
   -- the second word has another flag, and the rest of it is as before
   pub write_base : (x : Bool) (links : ℕ) → base_in links ≡ x → link_in links ≡ link_in old.links → links % 4 ≡ old.links % 4
-      → lists (set cells i (record old { links = links })) ≡ record (lists cells) { row = with_base (lists cells).row i x }
+      → linked_row (set cells i (record old { links = links })) ≡ record (linked_row cells) { row = with_base (linked_row cells).row i x }
   write_base x links base link low =
       let new : Cell V = record old { links = links } in
       let S = old.signs in
@@ -177,11 +177,11 @@ module _ {V : Type 0} (cells : List (Cell V)) (i : ℕ) (d : Cell V) where
       }
 
   pub write_taken : (sign : ℕ) (x : Member V) (child upper : ℕ) → upper ≡ x.next * 4096 + x.first % 512 * 8388608 → FitsCell x → sign ≢ 0 → sign < SIGN_COUNT
-      → lists (set cells i (record old { value = x.value; signs = 1 + (sign - 1) * 2 + upper; links = child * 8 + old.links / 4 % 2 * 4 + x.first / 512 }))
-      ≡ record (lists cells) {
-        row = with_taken (lists cells).row i sign x child;
-        befores = set (lists cells).befores i 0;
-        afters = set (lists cells).afters i child;
+      → linked_row (set cells i (record old { value = x.value; signs = 1 + (sign - 1) * 2 + upper; links = child * 8 + old.links / 4 % 2 * 4 + x.first / 512 }))
+      ≡ record (linked_row cells) {
+        row = with_taken (linked_row cells).row i sign x child;
+        befores = set (linked_row cells).befores i 0;
+        afters = set (linked_row cells).afters i child;
       }
   write_taken sign x child upper is fits up small =
       let L = old.links in
@@ -213,8 +213,8 @@ member_bared (c ∷ cs) zero d before links = ap (λ m. m ∷ map member_seen cs
 member_bared (c ∷ cs) (suc i) d before links = ap (λ ms. member_seen c ∷ ms) (member_bared cs i d before links)
 
 module _ {V : Type 0} (cells : List (Cell V)) (i : ℕ) (d : Cell V) where
-  pub write_free : (before after : ℕ) → lists (set cells i (record (get_or cells i d) { signs = before * 2; links = after * 8 + (get_or cells i d).links % 8 }))
-      ≡ record { row = with_free (lists cells).row i; befores = set (lists cells).befores i before; afters = set (lists cells).afters i after }
+  pub write_free : (before after : ℕ) → linked_row (set cells i (record (get_or cells i d) { signs = before * 2; links = after * 8 + (get_or cells i d).links % 8 }))
+      ≡ record { row = with_free (linked_row cells).row i; befores = set (linked_row cells).befores i before; afters = set (linked_row cells).afters i after }
   write_free before after =
       let L = (get_or cells i d).links in
       let new : Cell V = record (get_or cells i d) { signs = before * 2; links = after * 8 + L % 8 } in

@@ -4,17 +4,17 @@ use Rattle.std.proofs.lemmas.Bool.{cases_eq}
 use Rattle.std.proofs.lemmas.List.{length-map, get_or_past, get_or_default, map_push, length_push}
 use Rattle.pg_cells.specs.declared.store.cell.TheConstants.{CELLS_END}
 use Rattle.pg_cells.specs.declared.store.cell.Cell.{Cell}
-use Rattle.pg_cells.specs.Inside.store.Lists.{sign_seen, Row, Lists, lists, row_of, IsFree, sign_at, before_at, after_at}
+use Rattle.pg_cells.specs.Inside.store.Lists.{sign_seen, Row, LinkedRow, linked_row, row_of, IsFree, sign_at, before_at, after_at}
 use Rattle.pg_cells.specs.Inside.store.FreeList.{AreLinked}
 use Rattle.pg_cells.specs.declared.store.member.Member.{Member}
 use Rattle.pg_cells.proofs.LinkedLists.{free_within, taken_within, not_free}
 
 module _ {V : Type 0} where
   -- the cells before and after a free one are free
-  pub before_free : (ls : Lists V) (i b : ℕ) → AreLinked ls → 0 < i → IsFree ls.row i → b ≡ before_at ls i → IsFree ls.row b
+  pub before_free : (ls : LinkedRow V) (i b : ℕ) → AreLinked ls → 0 < i → IsFree ls.row i → b ≡ before_at ls i → IsFree ls.row b
   before_free ls i b linked up free is = subst (IsFree ls.row) (sym is) (linked.before_ok i up free).1
 
-  pub after_free : (ls : Lists V) (i a : ℕ) → AreLinked ls → IsFree ls.row i → a ≡ after_at ls i → IsFree ls.row a
+  pub after_free : (ls : LinkedRow V) (i a : ℕ) → AreLinked ls → IsFree ls.row i → a ≡ after_at ls i → IsFree ls.row a
   after_free ls i a linked free is = subst (IsFree ls.row) (sym is) (elim (cases_eq (after_at ls i) 0) [
     | inl z ↦ subst (IsFree ls.row) (sym z) linked.head
     | inr up ↦ (linked.after_ok i free up).1
@@ -47,7 +47,7 @@ module _ {V : Type 0} (cells : List (Cell V)) where
   taken_other i j taken free e = taken (ap (sign_at (row_of cells)) e ∙ free)
 
   -- cell 0 is free, so a taken one is another
-  pub above_head : (i : ℕ) → AreLinked (lists cells) → sign_at (row_of cells) i ≢ 0 → 0 < i
+  pub above_head : (i : ℕ) → AreLinked (linked_row cells) → sign_at (row_of cells) i ≢ 0 → 0 < i
   above_head i linked taken = elim (cases_eq i 0) [
     | inl z ↦ absurd (not_free (row_of cells) i taken (subst (IsFree (row_of cells)) (sym z) linked.head))
     | inr up ↦ omega arith
@@ -77,7 +77,7 @@ module _ {V : Type 0} (cells new : List (Cell V)) (c : Cell V) (is : new ≡ cel
   pub small_push : length cells + 1 < CELLS_END → length new < CELLS_END
   small_push small = subst (λ n. n < CELLS_END) (sym long_push) small
 
-  pub some_push : AreLinked (lists cells) → 1 < length new
+  pub some_push : AreLinked (linked_row cells) → 1 < length new
   some_push linked = let head = free_in cells 0 linked.head in let long = long_push in omega arith
 
   pub taken_push : sign_seen c ≡ 1 → sign_at (row_of new) (length new - 1) ≢ 0

@@ -9,8 +9,8 @@ use Rattle.pg_types.specs.Inside.Placing.{IsLeast}
 use Rattle.pg_cells.specs.declared.store.fit.Slot.{Slot}
 use Rattle.pg_cells.specs.Inside.store.Lists.{Row, sign_at, child_at, base_at}
 use Rattle.pg_cells.specs.Inside.store.Store.{IsTop}
-use Rattle.pg_cells.specs.Inside.store.Fit.{signs_of, slot_of, fits_row}
-use Rattle.pg_cells.specs.Inside.families.Moves.{GivesUp, Drops, IsOutsideFamily}
+use Rattle.pg_cells.specs.Inside.store.Fit.{slot_signs, slot_of, fits_row}
+use Rattle.pg_cells.specs.Inside.families.Moves.{GivesUp, DropsBase, IsOutsideFamily}
 use Rattle.pg_cells.specs.Inside.linked.ValuedFamilies.{Trie}
 use Rattle.pg_cells.specs.Inside.families.Layouts.{IsTrie}
 use Rattle.pg_cells.proofs.StringMaps.{order, find_without_same, find_without_other, sorted_without, equal_or_not}
@@ -22,7 +22,7 @@ use Rattle.pg_cells.proofs.Slots.{slot_or_none, has_slot, outside_or}
 use Rattle.pg_cells.proofs.Owned.{Owned}
 
 module _ {V : Type 0} (n : ℕ) (r gave dropped : Row V) (t : Trie V) (trie : IsTrie n r t) (p : List ℕ) (was : ℕ) (slots : List (Slot V)) (own : Owned n r t p was slots)
-    (gives : GivesUp r gave was slots) (drops : Drops gave dropped was) where
+    (gives : GivesUp r gave was slots) (drops : DropsBase gave dropped was) where
   -- the other families
   abbrev pub rest : Families
   rest = without_family t.families p
@@ -169,27 +169,27 @@ module _ {V : Type 0} (n : ℕ) (r gave dropped : Row V) (t : Trie V) (trie : Is
   top_same top_now is = top_is (without_family t.families p) top_now (λ i e. is.most i (rest_used i e)) (λ up. used_rest top_now (is.used up))
 
   -- the tests of the search are those of the placement
-  fit_same : (s b : ℕ) → fits_row dropped (s ∷ signs_of slots) b ≡ fits_at (without_family t.families p) (with_one_sign s (signs_of slots)) b
+  fit_same : (s b : ℕ) → fits_row dropped (s ∷ slot_signs slots) b ≡ fits_at (without_family t.families p) (with_one_sign s (slot_signs slots)) b
   fit_same s b =
-      (λ i. not (base_test b i) && list_all (λ x. free_test (b + x) i) (s ∷ signs_of slots))
-      ∙ ap (λ x. not (is_base (without_family t.families p) b) && x) (sym (all_one_more (λ x. not (is_used (without_family t.families p) (b + x))) s (signs_of slots)))
+      (λ i. not (base_test b i) && list_all (λ x. free_test (b + x) i) (s ∷ slot_signs slots))
+      ∙ ap (λ x. not (is_base (without_family t.families p) b) && x) (sym (all_one_more (λ x. not (is_used (without_family t.families p) (b + x))) s (slot_signs slots)))
 
   pub least_same : (few s base top_now : ℕ) → slot_of slots s ≡ None → IsTop dropped.signs top_now
-      → IsLeast (fits_row dropped (s ∷ signs_of slots)) (search_start few n (length slots + 1) top_now) base → base ≤ max 1 top_now
-      → base ≡ least_base (search_start few n) (without_family t.families p) (with_one_sign s (signs_of slots))
+      → IsLeast (fits_row dropped (s ∷ slot_signs slots)) (search_start few n (length slots + 1) top_now) base → base ≤ max 1 top_now
+      → base ≡ least_base (search_start few n) (without_family t.families p) (with_one_sign s (slot_signs slots))
   least_same few s base top_now lacks is_top least near =
       let same = top_same top_now is_top in
-      let count : length slots + 1 ≡ length (with_one_sign s (signs_of slots)) =
-      ap (λ k. k + 1) (sym (length-map slots (λ (k : Slot V). k.sign))) ∙ sym (length_one_more s (signs_of slots) (no_sign (list_any (nat_eq s) (signs_of slots)) refl)) in
-      let low : search_start few n (length slots + 1) top_now ≡ search_start few n (length (with_one_sign s (signs_of slots))) (top (without_family t.families p)) =
+      let count : length slots + 1 ≡ length (with_one_sign s (slot_signs slots)) =
+      ap (λ k. k + 1) (sym (length-map slots (λ (k : Slot V). k.sign))) ∙ sym (length_one_more s (slot_signs slots) (no_sign (list_any (nat_eq s) (slot_signs slots)) refl)) in
+      let low : search_start few n (length slots + 1) top_now ≡ search_start few n (length (with_one_sign s (slot_signs slots))) (top (without_family t.families p)) =
       λ i. search_start few n (count i) (same i) in
-      sym (first_is (fits_at (without_family t.families p) (with_one_sign s (signs_of slots))) (top (without_family t.families p))
-      (search_start few n (length (with_one_sign s (signs_of slots))) (top (without_family t.families p))) base
+      sym (first_is (fits_at (without_family t.families p) (with_one_sign s (slot_signs slots))) (top (without_family t.families p))
+      (search_start few n (length (with_one_sign s (slot_signs slots))) (top (without_family t.families p))) base
       (subst (λ k. k ≤ base) low least.from)
-      (let some = start_positive few n (length (with_one_sign s (signs_of slots))) (top (without_family t.families p)) in omega arith)
+      (let some = start_positive few n (length (with_one_sign s (slot_signs slots))) (top (without_family t.families p)) in omega arith)
       (sym (fit_same s base) ∙ least.meets)
       (λ k l lt. sym (fit_same s k) ∙ least.first k (subst (λ j. j ≤ k) (sym low) l) lt))
     where
-      no_sign : (b : Bool) → list_any (nat_eq s) (signs_of slots) ≡ b → list_any (nat_eq s) (signs_of slots) ≡ false
+      no_sign : (b : Bool) → list_any (nat_eq s) (slot_signs slots) ≡ b → list_any (nat_eq s) (slot_signs slots) ≡ false
       no_sign true e = absurd (let found = has_slot slots s e in let x = sym lacks ∙ found.1 in cc)
       no_sign false e = e

@@ -5,9 +5,9 @@ use Rattle.std.proofs.lemmas.List.{append-nil, length_push, map_push, take-appen
 use Rattle.std.specs.List.{range_with_len}
 use Rattle.pg_cells.specs.declared.store.fit.Slot.{Slot}
 use Rattle.pg_cells.specs.Inside.store.Lists.{Row, sign_at}
-use Rattle.pg_cells.specs.Inside.store.Fit.{signs_of, slot_of}
+use Rattle.pg_cells.specs.Inside.store.Fit.{slot_signs, slot_of}
 use Rattle.pg_cells.specs.Inside.linked.Members.{IsNext, ArePassing, number_before}
-use Rattle.pg_cells.specs.Inside.families.Moves.{AreDistinct, Tells, AreSlotsOf, Collects}
+use Rattle.pg_cells.specs.Inside.families.Moves.{AreDistinct, TellsCell, AreSlotsOf, Collects}
 use Rattle.pg_cells.proofs.Slots.{slot_push, slot_back}
 
 -- the last number of a range passes, or it does not
@@ -63,28 +63,28 @@ module _ {V : Type 0} (r : Row V) (base : ℕ) where
   distinct_push m slots y c is k lt = elim (cases_lt k (length slots)) [
     | inl early ↦
         let front : take k (slots ++ y ∷ []) ≡ take k slots = take-append-le k slots (y ∷ []) (omega arith) in
-        let sign : get_or (signs_of (slots ++ y ∷ [])) k 0 ≡ get_or (signs_of slots) k 0 =
-        ap (λ l. get_or l k 0) (map_push (λ (z : Slot V). z.sign) slots y) ∙ get_or_append_left (signs_of slots) (y.sign ∷ []) 0 k (omega (arith, length-map slots (λ (z : Slot V). z.sign))) in
+        let sign : get_or (slot_signs (slots ++ y ∷ [])) k 0 ≡ get_or (slot_signs slots) k 0 =
+        ap (λ l. get_or l k 0) (map_push (λ (z : Slot V). z.sign) slots y) ∙ get_or_append_left (slot_signs slots) (y.sign ∷ []) 0 k (omega (arith, length-map slots (λ (z : Slot V). z.sign))) in
         (λ t. slot_of (front t) (sign t)) ∙ c.distinct k early
     | inr late ↦
         let size : length slots ≡ k = omega (arith, length_push slots y) in
         let front : take k (slots ++ y ∷ []) ≡ slots = take_at slots (y ∷ []) k size in
-        let sign : get_or (signs_of (slots ++ y ∷ [])) k 0 ≡ y.sign =
-        ap (λ l. get_or l k 0) (map_push (λ (z : Slot V). z.sign) slots y) ∙ get_or_push (signs_of slots) y.sign 0 k (length-map slots (λ (z : Slot V). z.sign) ∙ size) in
+        let sign : get_or (slot_signs (slots ++ y ∷ [])) k 0 ≡ y.sign =
+        ap (λ l. get_or l k 0) (map_push (λ (z : Slot V). z.sign) slots y) ∙ get_or_push (slot_signs slots) y.sign 0 k (length-map slots (λ (z : Slot V). z.sign) ∙ size) in
         (λ t. slot_of (front t) (sign t)) ∙ c.late y.sign (omega arith)
   ]
 
   -- a sign that stands
-  collected_more : (m : ℕ) (slots : List (Slot V)) (y : Slot V) → AreSlotsOf m r base slots → Tells r base (m + 1) y → y.sign ≡ m + 1 → AreSlotsOf (m + 1) r base (slots ++ y ∷ [])
+  collected_more : (m : ℕ) (slots : List (Slot V)) (y : Slot V) → AreSlotsOf m r base slots → TellsCell r base (m + 1) y → y.sign ≡ m + 1 → AreSlotsOf (m + 1) r base (slots ++ y ∷ [])
   collected_more m slots y c tells is = record {
     signs =
-        map_push (λ (z : Slot V). z.sign) slots y ∙ ap (λ k. signs_of slots ++ k ∷ []) (is ∙ sym same) ∙ ap (λ l. l ++ (1 + m) ∷ []) c.signs
+        map_push (λ (z : Slot V). z.sign) slots y ∙ ap (λ k. slot_signs slots ++ k ∷ []) (is ∙ sym same) ∙ ap (λ l. l ++ (1 + m) ∷ []) c.signs
         ∙ ap (λ b. filter (λ x. nat_eq (sign_at r (base + x)) x) (range_with_len 1 m) ++ cond b ((1 + m) ∷ []) []) (sym passes)
         ∙ sym (filter_last (λ x. nat_eq (sign_at r (base + x)) x) 1 m)
         ∙ ap (λ k. filter (λ x. nat_eq (sign_at r (base + x)) x) (range_with_len 1 k)) more;
     told = λ x s e. elim (slot_push slots y x s e) [
       | inl h ↦ c.told x s h
-      | inr h ↦ subst (λ z. Tells r base z s) (sym (h.1 ∙ is)) (subst (Tells r base (m + 1)) (sym h.2) tells)
+      | inr h ↦ subst (λ z. TellsCell r base z s) (sym (h.1 ∙ is)) (subst (TellsCell r base (m + 1)) (sym h.2) tells)
     ];
     distinct = distinct_push m slots y c is;
     late = λ z lt.
@@ -125,7 +125,7 @@ module _ {V : Type 0} (r : Row V) (base : ℕ) where
       elim step [
         | inl h ↦ absurd (h.0 (eqb-true (sign_at r (base + x)) x found.1))
         | inr h ↦ subst (λ j. AreSlotsOf j r base new) same (subst (AreSlotsOf (x - 1 + 1) r base) (sym h.3)
-            (collected_more (x - 1) slots h.0 before (subst (λ j. Tells r base j h.0) (sym same) h.1) (h.2 ∙ sym same)))
+            (collected_more (x - 1) slots h.0 before (subst (λ j. TellsCell r base j h.0) (sym same) h.1) (h.2 ∙ sym same)))
       ]
 
   -- no further sign stands

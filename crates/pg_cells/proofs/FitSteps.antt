@@ -5,21 +5,21 @@ use Rattle.std.proofs.lemmas.Bool.{cases_eq, cases_lt, cases_order, and_right, n
 use Rattle.std.proofs.lemmas.List.{get_or_default}
 use Rattle.std.proofs.lemmas.List.Folds.{list_all_more, list_all_at}
 use Rattle.pg_types.specs.Inside.Placing.{IsLeast}
-use Rattle.pg_cells.specs.Inside.store.Lists.{Row, lists, sign_at, base_at, IsFree}
+use Rattle.pg_cells.specs.Inside.store.Lists.{Row, linked_row, sign_at, base_at, IsFree}
 use Rattle.pg_cells.specs.Inside.store.FreeList.{IsFreeList}
 use Rattle.pg_cells.specs.declared.store.cell.Cell.{Cell}
 use Rattle.pg_cells.specs.declared.store.fit.Slot.{Slot}
 use Rattle.pg_cells.specs.declared.store.member.Member.{Member}
 use Rattle.pg_cells.proofs.ChainSteps.{signs_long}
-use Rattle.pg_cells.specs.Inside.store.Fit.{HasRoom, fits_row, signs_of}
+use Rattle.pg_cells.specs.Inside.store.Fit.{HasSpace, fits_row, slot_signs}
 
 -- where there is room, the cells of the sign and of the slots are there
-module _ {V : Type 0} (cells : List (Cell V)) (slots : List (Slot (Member V))) (sign room : ℕ) (has : HasRoom (lists cells).row slots sign room) where
+module _ {V : Type 0} (cells : List (Cell V)) (slots : List (Slot (Member V))) (sign room : ℕ) (has : HasSpace (linked_row cells).row slots sign room) where
   pub sign_there : room + sign < length cells
   sign_there = subst (λ n. room + sign < n) (signs_long cells) has.within
 
-  pub slots_there : (k : ℕ) → k < length slots → room + get_or (signs_of slots) k 0 < length cells
-  slots_there k lt = subst (λ n. room + get_or (signs_of slots) k 0 < n) (signs_long cells) (has.wide k lt)
+  pub slots_there : (k : ℕ) → k < length slots → room + get_or (slot_signs slots) k 0 < length cells
+  slots_there k lt = subst (λ n. room + get_or (slot_signs slots) k 0 < n) (signs_long cells) (has.wide k lt)
 
 -- one more element that passes
 pub all_more : (test : ℕ → Bool) (xs : List ℕ) (i x : ℕ) → i < length xs → get_or xs i 0 ≡ x → test x ≡ true → list_all test (take i xs) ≡ true → list_all test (take (i + 1) xs) ≡ true

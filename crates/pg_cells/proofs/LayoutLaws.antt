@@ -6,7 +6,7 @@ use Rattle.std.specs.FinMap.{is_sorted}
 use Rattle.pg_types.specs.Placement.{Family, Families, family_at, is_used, is_base, top}
 use Rattle.pg_cells.specs.Inside.store.Lists.{Row, sign_at, child_at, base_at}
 use Rattle.pg_cells.specs.Inside.store.Store.{IsTop}
-use Rattle.pg_cells.specs.Inside.families.Layouts.{IsLayout, signs_at_base}
+use Rattle.pg_cells.specs.Inside.families.Layouts.{AreLaidOut, signs_at_base}
 use Rattle.pg_cells.proofs.StringMaps.{order}
 use Rattle.pg_cells.proofs.PlacementLaws.{used_cell, cell_used, base_had, had_base, top_is}
 
@@ -50,7 +50,7 @@ same_filter t u a (suc n) h =
     let rest = same_filter t u (a + 1) n (λ x le lt. h x (omega arith) (omega arith)) in
     λ i. cond (h a (omega arith) (omega arith) i) (a ∷ rest i) (rest i)
 
-module _ {V : Type 0} (n : ℕ) (r : Row V) (F : List ℕ → Option Family) (layout : IsLayout n r F) where
+module _ {V : Type 0} (n : ℕ) (r : Row V) (F : List ℕ → Option Family) (layout : AreLaidOut n r F) where
   -- a sign of a family stands at its base
   pub sign_stands : (p : List ℕ) (f : Family) (x : ℕ) → F p ≡ Some f → list_any (nat_eq x) f.signs ≡ true → (0 < x) × (x ≤ n) × (sign_at r (f.base + x) ≡ x)
   sign_stands p f x at has =
@@ -67,7 +67,7 @@ module _ {V : Type 0} (n : ℕ) (r : Row V) (F : List ℕ → Option Family) (la
   owner i x is positive =
       let o = layout.owned i (λ z. omega arith) in (o.0, o.1, o.2, o.3 ∙ ap (λ y. o.1.base + y) is)
 
-module _ {V : Type 0} (n : ℕ) (r : Row V) (fs : Families) (sorted : T (is_sorted order fs)) (layout : IsLayout n r (family_at fs)) where
+module _ {V : Type 0} (n : ℕ) (r : Row V) (fs : Families) (sorted : T (is_sorted order fs)) (layout : AreLaidOut n r (family_at fs)) where
   pub used_taken : (i : ℕ) → is_used fs i ≡ true → sign_at r i ≢ 0
   used_taken i e z =
       let c = used_cell fs sorted i e in
@@ -104,8 +104,8 @@ module _ {V : Type 0} (n : ℕ) (r : Row V) (fs : Families) (sorted : T (is_sort
   top_same t is = top_is fs t (λ i e. is.most i (used_taken i e)) (λ up. taken_used t (is.used up))
 
 -- families lie in every row that has the same signs, children and flags
-pub laid_alike : {V : Type 0} {n : ℕ} {r : Row V} (F : List ℕ → Option Family) → IsLayout n r F → (new : Row V)
-    → ((i : ℕ) → sign_at new i ≡ sign_at r i) → ((i : ℕ) → child_at new i ≡ child_at r i) → ((b : ℕ) → base_at new b ≡ base_at r b) → IsLayout n new F
+pub laid_alike : {V : Type 0} {n : ℕ} {r : Row V} (F : List ℕ → Option Family) → AreLaidOut n r F → (new : Row V)
+    → ((i : ℕ) → sign_at new i ≡ sign_at r i) → ((i : ℕ) → child_at new i ≡ child_at r i) → ((b : ℕ) → base_at new b ≡ base_at r b) → AreLaidOut n new F
 laid_alike {V} {n} {r} F layout new signs children bases = record {
   root = layout.root;
   members = λ p f at. layout.members p f at ∙ stand f.base;

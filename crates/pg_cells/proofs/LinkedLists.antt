@@ -4,16 +4,16 @@ use Rattle.std.proofs.lemmas.Bool.{cases_eq, cases_lt}
 use Rattle.std.proofs.lemmas.List.{get_or-set_same, get_or-set_other, get_or_past, get_or_default, length-set, length-map, map_push, length_push, set_at}
 use Rattle.pg_cells.specs.declared.store.cell.Cell.{Cell}
 use Rattle.pg_cells.specs.declared.store.member.Member.{Member}
-use Rattle.pg_cells.specs.Inside.store.Lists.{next_in, first_in, sign_seen, base_seen, link_seen, Row, Lists, lists, row_of, without_links, unlink_at, child_seen, member_seen, before_seen, IsFree, sign_at, before_at, after_at, with_before, with_after, with_taken, with_free, with_more}
+use Rattle.pg_cells.specs.Inside.store.Lists.{next_in, first_in, sign_seen, base_seen, link_seen, Row, LinkedRow, linked_row, row_of, without_links, unlink_at, child_seen, member_seen, before_seen, IsFree, sign_at, before_at, after_at, with_before, with_after, with_taken, with_free, with_more}
 use Rattle.pg_cells.specs.Inside.store.FreeList.{IsFreeList, AreLinked}
 use Rattle.pg_cells.proofs.LinkedSteps.{IsFreeList-take, IsFreeList-put}
 
 -- the lists of the links are as long as that of the signs
-pub record AreEven {V : Type 0} (ls : Lists V) : Type 0 where
+pub record AreEven {V : Type 0} (ls : LinkedRow V) : Type 0 where
   pub befores : length ls.befores ≡ length ls.row.signs
   pub afters : length ls.afters ≡ length ls.row.signs
 
-pub lists_even : {V : Type 0} (cells : List (Cell V)) → AreEven (lists cells)
+pub lists_even : {V : Type 0} (cells : List (Cell V)) → AreEven (linked_row cells)
 lists_even cells = record {
   befores = length-map cells before_seen ∙ sym (length-map cells sign_seen);
   afters = length-map cells link_seen ∙ sym (length-map cells sign_seen);
@@ -39,14 +39,14 @@ module _ {V : Type 0} where
   not_free r i taken free = taken (get_or_default r.signs i 0 1 (free_within r i free) ∙ free)
 
   -- what a cell's taking leaves, where b and a are the free cells before and after it, and its links have the pair's number
-  abbrev pub lists_taken : Lists V → ℕ → ℕ → ℕ → ℕ → V → ℕ → ℕ → Lists V
+  abbrev pub lists_taken : LinkedRow V → ℕ → ℕ → ℕ → ℕ → V → ℕ → ℕ → LinkedRow V
   lists_taken ls i b a sign value child pair = record {
     row = with_taken ls.row i sign value child;
     befores = set (set ls.befores a b) i pair;
     afters = set (set ls.afters b a) i child;
   }
 
-  pub linked_taken : (ls : Lists V) (i sign : ℕ) (value : V) (child pair : ℕ) → AreLinked ls → AreEven ls → 0 < i → IsFree ls.row i → sign ≢ 0
+  pub linked_taken : (ls : LinkedRow V) (i sign : ℕ) (value : V) (child pair : ℕ) → AreLinked ls → AreEven ls → 0 < i → IsFree ls.row i → sign ≢ 0
       → AreLinked (lists_taken ls i (before_at ls i) (after_at ls i) sign value child pair)
   linked_taken ls i sign value child pair old even positive free taken =
       let S : ℕ → ℕ = λ j. get_or ls.row.signs j 1 in
@@ -75,14 +75,14 @@ module _ {V : Type 0} where
 
 module _ {V : Type 0} where
   -- what a cell's giving up leaves, where b and a are the free cells before and after it
-  abbrev pub lists_freed : Lists (Member V) → ℕ → ℕ → ℕ → Lists (Member V)
+  abbrev pub lists_freed : LinkedRow (Member V) → ℕ → ℕ → ℕ → LinkedRow (Member V)
   lists_freed ls i b a = record {
     row = with_free ls.row i;
     befores = set (set ls.befores a i) i b;
     afters = set (set ls.afters b i) i a;
   }
 
-  pub linked_freed : (ls : Lists (Member V)) (i b : ℕ) → AreLinked ls → AreEven ls → i < length ls.row.signs → sign_at ls.row i ≢ 0 → b < i → IsFree ls.row b
+  pub linked_freed : (ls : LinkedRow (Member V)) (i b : ℕ) → AreLinked ls → AreEven ls → i < length ls.row.signs → sign_at ls.row i ≢ 0 → b < i → IsFree ls.row b
       → ((k : ℕ) → k < i → IsFree ls.row k → k ≤ b) → AreLinked (lists_freed ls i b (after_at ls b))
   linked_freed ls i b old even in_i taken below behind nearest =
       let S : ℕ → ℕ = λ j. get_or ls.row.signs j 1 in
@@ -109,22 +109,22 @@ module _ {V : Type 0} where
 
 module _ {V : Type 0} where
   -- the writes of a cell's taking, one after another
-  pub after_taking : (l0 l1 l2 l3 : Lists V) (i b a sign : ℕ) (value : V) (child pair : ℕ) → b ≡ before_at l0 i → a ≡ after_at l0 i
+  pub after_taking : (l0 l1 l2 l3 : LinkedRow V) (i b a sign : ℕ) (value : V) (child pair : ℕ) → b ≡ before_at l0 i → a ≡ after_at l0 i
       → l1 ≡ with_after l0 b a → l2 ≡ with_before l1 a b → l3 ≡ record { row = with_taken l2.row i sign value child; befores = set l2.befores i pair; afters = set l2.afters i child }
       → AreLinked (lists_taken l0 i (before_at l0 i) (after_at l0 i) sign value child pair) → AreLinked l3
   after_taking l0 l1 l2 l3 i b a sign value child pair eb ea e1 e2 e3 linked =
-      let last : Lists V → Lists V = λ ls. record { row = with_taken ls.row i sign value child; befores = set ls.befores i pair; afters = set ls.afters i child } in
+      let last : LinkedRow V → LinkedRow V = λ ls. record { row = with_taken ls.row i sign value child; befores = set ls.befores i pair; afters = set ls.afters i child } in
       let whole : l3 ≡ lists_taken l0 i (before_at l0 i) (after_at l0 i) sign value child pair =
       e3 ∙ ap last e2 ∙ ap (λ ls. last (with_before ls a b)) e1 ∙ (λ t. lists_taken l0 i (eb t) (ea t) sign value child pair) in
       subst (λ ls. AreLinked ls) (sym whole) linked
 
 module _ {V : Type 0} where
   -- the writes of a cell's giving up, one after another
-  pub after_freeing : (l0 l1 l2 l3 : Lists (Member V)) (i b a : ℕ) → a ≡ after_at l0 b
+  pub after_freeing : (l0 l1 l2 l3 : LinkedRow (Member V)) (i b a : ℕ) → a ≡ after_at l0 b
       → l1 ≡ with_after l0 b i → l2 ≡ with_before l1 a i → l3 ≡ record { row = with_free l2.row i; befores = set l2.befores i b; afters = set l2.afters i a }
       → AreLinked (lists_freed l0 i b (after_at l0 b)) → AreLinked l3
   after_freeing l0 l1 l2 l3 i b a ea e1 e2 e3 linked =
-      let last : Lists (Member V) → Lists (Member V) = λ ls. record { row = with_free ls.row i; befores = set ls.befores i b; afters = set ls.afters i a } in
+      let last : LinkedRow (Member V) → LinkedRow (Member V) = λ ls. record { row = with_free ls.row i; befores = set ls.befores i b; afters = set ls.afters i a } in
       let whole : l3 ≡ lists_freed l0 i b (after_at l0 b) =
       e3 ∙ ap last e2 ∙ ap (λ ls. last (with_before ls a i)) e1 ∙ (λ t. lists_freed l0 i b (ea t)) in
       subst (λ ls. AreLinked ls) (sym whole) linked
@@ -141,7 +141,7 @@ get_or_map_push f xs c d j e = ap (λ l. get_or l j d) (map_push f xs c ∙ ap (
 
 -- a taken cell at the end changes no link
 pub linked_push : {V : Type 0} (cells new : List (Cell V)) (c : Cell V) → new ≡ cells ++ c ∷ [] → sign_seen c ≡ 1 → before_seen c ≡ 0 → link_seen c ≡ 0
-    → AreLinked (lists cells) → AreLinked (lists new)
+    → AreLinked (linked_row cells) → AreLinked (linked_row new)
 linked_push cells new c e sign before link old =
     let S = λ (j : ℕ). get_or_map_push sign_seen cells c 1 j sign in
     let B = λ (j : ℕ). get_or_map_push before_seen cells c 0 j before in
@@ -149,7 +149,7 @@ linked_push cells new c e sign before link old =
     let whole : ◌≡◌ {A = (ℕ → ℕ) × (ℕ → ℕ) × (ℕ → ℕ)} ((λ j. get_or (map sign_seen cells) j 1), (λ j. get_or (map before_seen cells) j 0), (λ j. get_or (map link_seen cells) j 0))
     ((λ j. get_or (map sign_seen (cells ++ c ∷ [])) j 1), (λ j. get_or (map before_seen (cells ++ c ∷ [])) j 0), (λ j. get_or (map link_seen (cells ++ c ∷ [])) j 0)) =
     λ t. ((λ j. sym (S j) t), (λ j. sym (B j) t), (λ j. sym (A j) t)) in
-    subst (λ l. AreLinked (lists l)) (sym e) (subst (λ (f : (ℕ → ℕ) × (ℕ → ℕ) × (ℕ → ℕ)). IsFreeList f.0 f.1 f.2) whole old)
+    subst (λ l. AreLinked (linked_row l)) (sym e) (subst (λ (f : (ℕ → ℕ) × (ℕ → ℕ) × (ℕ → ℕ)). IsFreeList f.0 f.1 f.2) whole old)
 
 set_push : {A : Type 0} (xs : List A) (x y : A) (i : ℕ) → length xs ≡ i → set (xs ++ x ∷ []) i y ≡ xs ++ y ∷ []
 set_push xs x y i e = set_at xs x [] y i e

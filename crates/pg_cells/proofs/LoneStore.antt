@@ -2,7 +2,7 @@
 use Rattle.std.proofs.Common.{◌≡◌, ℕ, ◌≤◌, List, [], ◌∷◌, length, refl, get_or, zero, suc, arith}
 use Rattle.pg_cells.specs.declared.store.cell.Cell.{Cell}
 use Rattle.pg_cells.specs.declared.store.cell.TheConstants.{SIGN_COUNT}
-use Rattle.pg_cells.specs.Inside.store.Lists.{lists, row_of}
+use Rattle.pg_cells.specs.Inside.store.Lists.{linked_row, row_of}
 use Rattle.pg_cells.specs.Inside.store.FreeList.{AreLinked}
 use Rattle.pg_cells.specs.Inside.store.Store.{IsStore}
 use Rattle.pg_cells.proofs.BlockedLaws.{blocked_none}
@@ -19,7 +19,7 @@ module _ {V : Type 0} (value : V) where
   abbrev pub free_cell : Cell V
   free_cell = record { value = value; signs = 0; links = 0 }
 
-  lone_linked : AreLinked (lists (free_cell ∷ []))
+  lone_linked : AreLinked (linked_row (free_cell ∷ []))
   lone_linked = record {
     head = refl;
     after_ok = λ i e up. absurd (up (all_zero i));

@@ -5,7 +5,7 @@ use Rattle.pg_cells.specs.declared.store.fit.Slot.{Slot}
 use Rattle.pg_cells.specs.Inside.store.Lists.{Row, sign_at, child_at}
 use Rattle.pg_cells.specs.Inside.store.Fit.{slot_of}
 use Rattle.pg_cells.specs.Inside.store.Writes.{KeepsOtherIndices, Takes, Frees}
-use Rattle.pg_cells.specs.Inside.families.Moves.{KeepsOtherCells, GivesUp, Puts}
+use Rattle.pg_cells.specs.Inside.families.Moves.{KeepsOtherCells, GivesUp, PutsSlots}
 use Rattle.pg_cells.proofs.Slots.{slot_push, outside_push}
 
 module _ {V : Type 0} where
@@ -25,7 +25,7 @@ module _ {V : Type 0} where
   pub gives_none : (r : Row V) (base : ℕ) → GivesUp r r base []
   gives_none r base = record { others = others_none r base; free = λ x s e. cc; count = omega arith }
 
-  pub puts_none : (r : Row V) (base : ℕ) → Puts r r base []
+  pub puts_none : (r : Row V) (base : ℕ) → PutsSlots r r base []
   puts_none r base = record { others = others_none r base; at = λ x s e. cc; count = omega arith }
 
   -- the sign of another slot is another
@@ -45,8 +45,8 @@ module _ {V : Type 0} where
     count = omega (arith, g.count, f.count, length_push xs y);
   }
 
-  pub puts_more : (old mid new : Row V) (base : ℕ) (xs : List (Slot V)) (y : Slot V) → slot_of xs y.sign ≡ None → Puts old mid base xs
-      → Takes mid new (base + y.sign) y.sign y.value y.child → Puts old new base (xs ++ y ∷ [])
+  pub puts_more : (old mid new : Row V) (base : ℕ) (xs : List (Slot V)) (y : Slot V) → slot_of xs y.sign ≡ None → PutsSlots old mid base xs
+      → Takes mid new (base + y.sign) y.sign y.value y.child → PutsSlots old new base (xs ++ y ∷ [])
   puts_more old mid new base xs y none p t = record {
     others = others_more old mid new base xs y none p.others t.elsewhere;
     at = λ x s at. elim (slot_push xs y x s at) [

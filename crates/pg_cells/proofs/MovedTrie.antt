@@ -8,7 +8,7 @@ use Rattle.pg_types.specs.Placement.{Family, Families, family_at, without_family
 use Rattle.pg_types.specs.Inside.Placing.{cell_of}
 use Rattle.pg_cells.specs.declared.store.fit.Slot.{Slot}
 use Rattle.pg_cells.specs.Inside.store.Lists.{Row, sign_at, child_at, base_at}
-use Rattle.pg_cells.specs.Inside.store.Fit.{signs_of, slot_of}
+use Rattle.pg_cells.specs.Inside.store.Fit.{slot_signs, slot_of}
 use Rattle.pg_cells.specs.Inside.families.Moves.{IsOutsideFamily, CanPlace, MovesFamily}
 use Rattle.pg_cells.specs.Inside.store.Store.{taken_in}
 use Rattle.pg_cells.specs.Inside.linked.ValuedFamilies.{Trie}
@@ -31,7 +31,7 @@ module _ {V : Type 0} (few n : ℕ) (r new : Row V) (t : Trie V) (trie : IsTrie 
     (was base : ℕ) (slots : List (Slot V)) (slot : Slot V) (own : Owned n r t p was slots) (can : CanPlace n r was slots slot parent) (moved : MovesFamily few n r new was base slots slot parent) where
   -- the family as it is now, and all families
   abbrev pub family : Family
-  family = record { base = base; signs = with_one_sign slot.sign (signs_of slots) }
+  family = record { base = base; signs = with_one_sign slot.sign (slot_signs slots) }
 
   abbrev pub families : Families
   families = put order p family (without_family t.families p)
@@ -55,7 +55,7 @@ module _ {V : Type 0} (few n : ℕ) (r new : Row V) (t : Trie V) (trie : IsTrie 
   -- the base is no other family's
   base_free : base_at moved.dropped base ≡ false
   base_free = not-true (base_at moved.dropped base) (and_parts (not (base_at moved.dropped base))
-      (list_all (λ y. nat_eq (sign_at moved.dropped (base + y)) 0) (slot.sign ∷ signs_of slots)) moved.least.meets).0
+      (list_all (λ y. nat_eq (sign_at moved.dropped (base + y)) 0) (slot.sign ∷ slot_signs slots)) moved.least.meets).0
 
   -- a cell of the new row: that of a slot, that of the new sign, or as before
   link_sign : (i : ℕ) → sign_at new i ≡ sign_at moved.took i
@@ -168,7 +168,7 @@ module _ {V : Type 0} (few n : ℕ) (r new : Row V) (t : Trie V) (trie : IsTrie 
   there q other = find_put_other q p family (without_family t.families p) other ∙ find_without_other q p t.families other
 
   -- the signs at the new base are the old ones with the new one
-  members_now : with_one_sign slot.sign (signs_of slots) ≡ signs_at_base n new base
+  members_now : with_one_sign slot.sign (slot_signs slots) ≡ signs_at_base n new base
   members_now =
       ap (with_one_sign slot.sign) own.signs
       ∙ sym (filter_more own.test (λ x. nat_eq (sign_at new (base + x)) x) slot.sign 1 n (omega arith) same
@@ -253,7 +253,7 @@ module _ {V : Type 0} (few n : ℕ) (r new : Row V) (t : Trie V) (trie : IsTrie 
         base_up = positive_base;
         last_up = stands.0;
         members = members_now;
-        filled = not_nil slot.sign (signs_of slots);
+        filled = not_nil slot.sign (slot_signs slots);
         own_down = λ y g at.
             let below = own.below y g at in
             (slot_sign_now y below.0 below.1, slot_child_now y below.0 below.1 ∙ below.2);
@@ -286,8 +286,8 @@ module _ {V : Type 0} (few n : ℕ) (r new : Row V) (t : Trie V) (trie : IsTrie 
         flagged = flagged_now;
       }
 
-  has_new : list_any (nat_eq slot.sign) (with_one_sign slot.sign (signs_of slots)) ≡ true
-  has_new = any_one_more slot.sign slot.sign (signs_of slots) ∙ or_left (nat_eq slot.sign slot.sign) (list_any (nat_eq slot.sign) (signs_of slots)) (eq-eqb slot.sign slot.sign refl)
+  has_new : list_any (nat_eq slot.sign) (with_one_sign slot.sign (slot_signs slots)) ≡ true
+  has_new = any_one_more slot.sign slot.sign (slot_signs slots) ∙ or_left (nat_eq slot.sign slot.sign) (list_any (nat_eq slot.sign) (slot_signs slots)) (eq-eqb slot.sign slot.sign refl)
 
   told : HasValues r new t families p slot.sign slot.value family
   told = record {
@@ -295,13 +295,13 @@ module _ {V : Type 0} (few n : ℕ) (r new : Row V) (t : Trie V) (trie : IsTrie 
     there = there;
     has = has_new;
     value = new_value_now;
-    own = λ y other has. elim (or_cases (nat_eq y slot.sign) (list_any (nat_eq y) (signs_of slots)) (sym (any_one_more slot.sign y (signs_of slots)) ∙ has)) [
+    own = λ y other has. elim (or_cases (nat_eq y slot.sign) (list_any (nat_eq y) (slot_signs slots)) (sym (any_one_more slot.sign y (slot_signs slots)) ∙ has)) [
       | inl e ↦ absurd (other (eqb-true y slot.sign e))
       | inr e ↦ let found = has_slot slots y e in own.value y found.0 found.1 ∙ sym (slot_value_now y found.0 found.1)
     ];
     own_none = λ y other none. elim (slot_or_none slots y) [
-      | inl h ↦ absurd (both_ways (list_any (nat_eq y) (with_one_sign slot.sign (signs_of slots))) none
-          (any_one_more slot.sign y (signs_of slots) ∙ or_right (nat_eq y slot.sign) (list_any (nat_eq y) (signs_of slots)) (slot_has slots y h.0 h.1)))
+      | inl h ↦ absurd (both_ways (list_any (nat_eq y) (with_one_sign slot.sign (slot_signs slots))) none
+          (any_one_more slot.sign y (slot_signs slots) ∙ or_right (nat_eq y slot.sign) (list_any (nat_eq y) (slot_signs slots)) (slot_has slots y h.0 h.1)))
       | inr no_slot ↦ own.no_value y no_slot
     ];
     elsewhere = λ q g y other at up is.
@@ -313,10 +313,10 @@ module _ {V : Type 0} (few n : ℕ) (r new : Row V) (t : Trie V) (trie : IsTrie 
   dropped_count : taken_in moved.dropped ≡ taken_in moved.gave
   dropped_count = elim moved.drops [ inl h ↦ ap taken_in h.1 | inr h ↦ h.1.count ]
 
-  lacks : list_any (nat_eq slot.sign) (signs_of slots) ≡ false
-  lacks = by (list_any (nat_eq slot.sign) (signs_of slots)) refl
+  lacks : list_any (nat_eq slot.sign) (slot_signs slots) ≡ false
+  lacks = by (list_any (nat_eq slot.sign) (slot_signs slots)) refl
     where
-      by : (b : Bool) → list_any (nat_eq slot.sign) (signs_of slots) ≡ b → list_any (nat_eq slot.sign) (signs_of slots) ≡ false
+      by : (b : Bool) → list_any (nat_eq slot.sign) (slot_signs slots) ≡ b → list_any (nat_eq slot.sign) (slot_signs slots) ≡ false
       by true e = absurd (let found = has_slot slots slot.sign e in let none = can.new in let w = sym none ∙ found.1 in cc)
       by false e = e
 
@@ -337,7 +337,7 @@ module _ {V : Type 0} (few n : ℕ) (r new : Row V) (t : Trie V) (trie : IsTrie 
       taken_put p family (without_family t.families p) (sorted_without p t.families trie.sorted),
       taken_without p t.families trie.sorted,
       ap size_of (find_without_same p t.families),
-      length_one_more slot.sign (signs_of slots) lacks,
+      length_one_more slot.sign (slot_signs slots) lacks,
       length-map slots (λ (k : Slot V). k.sign),
     );
     ordered = sorted_put (p ++ slot.sign ∷ []) slot.value t.values trie.ordered;
@@ -345,5 +345,5 @@ module _ {V : Type 0} (few n : ℕ) (r new : Row V) (t : Trie V) (trie : IsTrie 
   }
 
   -- the base is the least one of the placement
-  pub base_is : base ≡ least_base (search_start few n) (without_family t.families p) (with_one_sign slot.sign (signs_of slots))
+  pub base_is : base ≡ least_base (search_start few n) (without_family t.families p) (with_one_sign slot.sign (slot_signs slots))
   base_is = least_same n r moved.gave moved.dropped t trie p was slots own moved.gives moved.drops few slot.sign base moved.top can.new moved.is_top moved.least moved.near

@@ -7,7 +7,7 @@ use Rattle.std.specs.FinMap.{find}
 use Rattle.pg_types.specs.Placement.{Family, family_at}
 use Rattle.pg_cells.specs.declared.store.fit.Slot.{Slot}
 use Rattle.pg_cells.specs.Inside.store.Lists.{Row, sign_at, child_at}
-use Rattle.pg_cells.specs.Inside.store.Fit.{signs_of, slot_of}
+use Rattle.pg_cells.specs.Inside.store.Fit.{slot_signs, slot_of}
 use Rattle.pg_cells.specs.Inside.families.Moves.{AreDistinct, AreSlotsOf}
 use Rattle.pg_cells.specs.Inside.linked.ValuedFamilies.{Trie}
 use Rattle.pg_cells.specs.Inside.families.Layouts.{IsTrie, value_in}
@@ -32,7 +32,7 @@ pub record Owned {V : Type 0} (n : ℕ) (r : Row V) (t : Trie V) (p : List ℕ) 
   pub no_value : (y : ℕ) → slot_of slots y ≡ None → find order (p ++ y ∷ []) t.values ≡ None
   pub size : size_of (family_at t.families p) ≡ length slots
   pub test : ℕ → Bool
-  pub signs : signs_of slots ≡ filter test (range_with_len 1 n)
+  pub signs : slot_signs slots ≡ filter test (range_with_len 1 n)
   pub some_test : (x : ℕ) (k : Slot V) → slot_of slots x ≡ Some k → test x ≡ true
   pub none_test : (x : ℕ) → 0 < x → slot_of slots x ≡ None → test x ≡ false
 

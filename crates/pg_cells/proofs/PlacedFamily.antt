@@ -6,7 +6,7 @@ use Rattle.std.proofs.lemmas.List.{length_push, same_from_push}
 use Rattle.std.specs.List.{range_with_len}
 use Rattle.pg_types.specs.Placement.{Family}
 use Rattle.pg_cells.specs.Inside.store.Lists.{Row, sign_at, child_at, base_at}
-use Rattle.pg_cells.specs.Inside.families.Layouts.{IsLayout, IsParent, signs_at_base}
+use Rattle.pg_cells.specs.Inside.families.Layouts.{AreLaidOut, IsParent, signs_at_base}
 use Rattle.pg_cells.proofs.StringMaps.{equal_or_not}
 
 pub filter_same : (f g : ℕ → Bool) (a n : ℕ) → 0 < a → ((x : ℕ) → 0 < x → f x ≡ g x) → filter f (range_with_len a n) ≡ filter g (range_with_len a n)
@@ -47,7 +47,7 @@ pub record Settles {V : Type 0} (n : ℕ) (r new : Row V) (F G : List ℕ → Op
   pub flag : (q : List ℕ) (g : Family) → G q ≡ Some g → base_at new g.base ≡ true
   pub flagged : (b : ℕ) → base_at new b ≡ true → (q : List ℕ) × (g : Family) × (G q ≡ Some g) × (g.base ≡ b)
 
-module _ {V : Type 0} (n : ℕ) (r new : Row V) (F G : List ℕ → Option Family) (p : List ℕ) (f : Family) (layout : IsLayout n r F) (step : Settles n r new F G p f) where
+module _ {V : Type 0} (n : ℕ) (r new : Row V) (F G : List ℕ → Option Family) (p : List ℕ) (f : Family) (layout : AreLaidOut n r F) (step : Settles n r new F G p f) where
   -- the family at p is f
   is_f : (q : List ℕ) (g : Family) → q ≡ p → G q ≡ Some g → g ≡ f
   is_f q g e at = let same : Some g ≡ Some f = sym at ∙ ap G e ∙ step.here in cc
@@ -135,7 +135,7 @@ module _ {V : Type 0} (n : ℕ) (r new : Row V) (F G : List ℕ → Option Famil
     ]
   ]
 
-  pub settles : IsLayout n new G
+  pub settles : AreLaidOut n new G
   settles = record {
     root = step.there [] (λ e. not_empty step.front step.last (sym step.whole ∙ sym e)) ∙ layout.root;
     members = members_now;

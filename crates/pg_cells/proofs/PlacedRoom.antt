@@ -5,10 +5,10 @@ use Rattle.std.proofs.lemmas.List.{get_or_default, length-map}
 use Rattle.std.specs.List.{list_any, list_all}
 use Rattle.pg_cells.specs.declared.store.fit.Slot.{Slot}
 use Rattle.pg_cells.specs.Inside.store.Lists.{Row, sign_at, base_at, IsFree}
-use Rattle.pg_cells.specs.Inside.store.Fit.{signs_of, slot_of, fits_row}
+use Rattle.pg_cells.specs.Inside.store.Fit.{slot_signs, slot_of, fits_row}
 use Rattle.pg_cells.specs.Inside.store.Store.{IsTop}
 use Rattle.pg_cells.specs.Inside.store.Writes.{Takes, SetsBase}
-use Rattle.pg_cells.specs.Inside.families.Moves.{GivesUp, Drops, Puts, IsOutsideFamily, CanPlace}
+use Rattle.pg_cells.specs.Inside.families.Moves.{GivesUp, DropsBase, PutsSlots, IsOutsideFamily, CanPlace}
 use Rattle.pg_cells.proofs.Slots.{has_slot, slot_has, outside_or, outside_here}
 
 pub all_true : (test : ℕ → Bool) (xs : List ℕ) → ((y : ℕ) → list_any (nat_eq y) xs ≡ true → test y ≡ true) → list_all test xs ≡ true
@@ -31,7 +31,7 @@ any_at (x ∷ xs) zero lt = or_left (nat_eq x x) (list_any (nat_eq x) xs) (eq-eq
 any_at (x ∷ xs) (suc k) lt = or_right (nat_eq (get_or xs k 0) x) (list_any (nat_eq (get_or xs k 0)) xs) (any_at xs k (omega arith))
 
 module _ {V : Type 0} (n : ℕ) (old gave dropped : Row V) (was : ℕ) (slots : List (Slot V)) (slot : Slot V) (parent : ℕ)
-    (can : CanPlace n old was slots slot parent) (gives : GivesUp old gave was slots) (drops : Drops gave dropped was) where
+    (can : CanPlace n old was slots slot parent) (gives : GivesUp old gave was slots) (drops : DropsBase gave dropped was) where
   pub dropped_sign : (i : ℕ) → sign_at dropped i ≡ sign_at gave i
   dropped_sign i = elim drops [ inl h ↦ ap (λ (r : Row V). sign_at r i) h.1 | inr h ↦ h.1.signs i ]
 
@@ -56,10 +56,10 @@ module _ {V : Type 0} (n : ℕ) (old gave dropped : Row V) (was : ℕ) (slots : 
     ]
 
     -- there is room for each slot's sign
-    pub slots_within : (k : ℕ) → k < length slots → m + get_or (signs_of slots) k 0 < length dropped.signs
+    pub slots_within : (k : ℕ) → k < length slots → m + get_or (slot_signs slots) k 0 < length dropped.signs
     slots_within k lt =
-        let y = get_or (signs_of slots) k 0 in
-        let found = has_slot slots y (any_at (signs_of slots) k (omega (arith, length-map slots (λ (s : Slot V). s.sign)))) in
+        let y = get_or (slot_signs slots) k 0 in
+        let found = has_slot slots y (any_at (slot_signs slots) k (omega (arith, length-map slots (λ (s : Slot V). s.sign)))) in
         let le : y ≤ n = (can.stand y found.0 found.1).1 in
         omega (arith, room_within)
 
@@ -87,27 +87,27 @@ module _ {V : Type 0} (n : ℕ) (old gave dropped : Row V) (was : ℕ) (slots : 
       ])
     ]
 
-    pub room_fits : fits_row dropped (slot.sign ∷ signs_of slots) m ≡ true
-    room_fits = and_from (not (base_at dropped m)) (list_all (λ y. nat_eq (sign_at dropped (m + y)) 0) (slot.sign ∷ signs_of slots)) (ap not no_base)
-        (all_true (λ y. nat_eq (sign_at dropped (m + y)) 0) (slot.sign ∷ signs_of slots) (λ y e. eq-eqb (sign_at dropped (m + y)) 0 (past_free y (positive y e))))
+    pub room_fits : fits_row dropped (slot.sign ∷ slot_signs slots) m ≡ true
+    room_fits = and_from (not (base_at dropped m)) (list_all (λ y. nat_eq (sign_at dropped (m + y)) 0) (slot.sign ∷ slot_signs slots)) (ap not no_base)
+        (all_true (λ y. nat_eq (sign_at dropped (m + y)) 0) (slot.sign ∷ slot_signs slots) (λ y e. eq-eqb (sign_at dropped (m + y)) 0 (past_free y (positive y e))))
       where
-        positive : (y : ℕ) → list_any (nat_eq y) (slot.sign ∷ signs_of slots) ≡ true → 0 < y
-        positive y e = elim (or_cases (nat_eq y slot.sign) (list_any (nat_eq y) (signs_of slots)) e) [
+        positive : (y : ℕ) → list_any (nat_eq y) (slot.sign ∷ slot_signs slots) ≡ true → 0 < y
+        positive y e = elim (or_cases (nat_eq y slot.sign) (list_any (nat_eq y) (slot_signs slots)) e) [
           | inl same ↦ let is = eqb-true y slot.sign same in let up = can.sign.0 in omega arith
           | inr there ↦ let found = has_slot slots y there in (can.stand y found.0 found.1).0
         ]
 
-    module _ (base : ℕ) (near : base ≤ m) (fits : fits_row dropped (slot.sign ∷ signs_of slots) base ≡ true) where
-      tests : list_all (λ y. nat_eq (sign_at dropped (base + y)) 0) (slot.sign ∷ signs_of slots) ≡ true
-      tests = (and_parts (not (base_at dropped base)) (list_all (λ y. nat_eq (sign_at dropped (base + y)) 0) (slot.sign ∷ signs_of slots)) fits).1
+    module _ (base : ℕ) (near : base ≤ m) (fits : fits_row dropped (slot.sign ∷ slot_signs slots) base ≡ true) where
+      tests : list_all (λ y. nat_eq (sign_at dropped (base + y)) 0) (slot.sign ∷ slot_signs slots) ≡ true
+      tests = (and_parts (not (base_at dropped base)) (list_all (λ y. nat_eq (sign_at dropped (base + y)) 0) (slot.sign ∷ slot_signs slots)) fits).1
 
       pub new_free : sign_at dropped (base + slot.sign) ≡ 0
       new_free = eqb-true (sign_at dropped (base + slot.sign)) 0 (and_parts (nat_eq (sign_at dropped (base + slot.sign)) 0)
-          (list_all (λ y. nat_eq (sign_at dropped (base + y)) 0) (signs_of slots)) tests).0
+          (list_all (λ y. nat_eq (sign_at dropped (base + y)) 0) (slot_signs slots)) tests).0
 
       pub slots_free : (x : ℕ) (k : Slot V) → slot_of slots x ≡ Some k → sign_at dropped (base + x) ≡ 0
       slots_free x k at = eqb-true (sign_at dropped (base + x)) 0
-          (all_has (λ y. nat_eq (sign_at dropped (base + y)) 0) (slot.sign ∷ signs_of slots) x tests (or_right (nat_eq x slot.sign) (list_any (nat_eq x) (signs_of slots)) (slot_has slots x k at)))
+          (all_has (λ y. nat_eq (sign_at dropped (base + y)) 0) (slot.sign ∷ slot_signs slots) x tests (or_right (nat_eq x slot.sign) (list_any (nat_eq x) (slot_signs slots)) (slot_has slots x k at)))
 
       pub can_put : (x : ℕ) (k : Slot V) → slot_of slots x ≡ Some k → (0 < x) × (IsFree dropped (base + x)) × (k.child < length dropped.signs)
       can_put x k at =
@@ -116,7 +116,7 @@ module _ {V : Type 0} (n : ℕ) (old gave dropped : Row V) (was : ℕ) (slots : 
           let child : k.child < length old.signs = h.3 in
           (h.0, get_or_default dropped.signs (base + x) 1 0 (omega (arith, room_within)) ∙ slots_free x k at, omega (arith, dropped_size))
 
-      module _ (settled : Row V) (puts : Puts dropped settled base slots) where
+      module _ (settled : Row V) (puts : PutsSlots dropped settled base slots) where
         pub can_take : IsFree settled (base + slot.sign)
         can_take =
             let same = puts.others.signs (base + slot.sign) (outside_here base slots slot.sign can.new) in

@@ -9,7 +9,7 @@ use Rattle.pg_types.specs.Placement.{Family, Families, family_at, without_family
 use Rattle.pg_types.specs.Inside.Placing.{without_sign}
 use Rattle.pg_cells.specs.Inside.store.Lists.{Row, sign_at, child_at}
 use Rattle.pg_cells.specs.Inside.store.Writes.{Frees, SetsBase}
-use Rattle.pg_cells.specs.Inside.families.Moves.{Prunes}
+use Rattle.pg_cells.specs.Inside.families.Moves.{DropsEmptyFamily}
 use Rattle.pg_cells.specs.Inside.families.Removing.{CanRemoveSign}
 use Rattle.pg_cells.specs.Inside.linked.ValuedFamilies.{Trie}
 use Rattle.pg_cells.specs.Inside.families.Layouts.{IsTrie, signs_at_base}
@@ -115,7 +115,7 @@ module _ {V : Type 0} (n : ℕ) (r : Row V) (t : Trie V) (trie : IsTrie n r t) (
       cell_taken n r t trie p parent can.at (sym (frees.elsewhere.signs parent (λ e.
       not_longer p s (sym (cells_apart n r t trie p (p ++ s ∷ []) can.cell (can.at ∙ ap Some (e ∙ cell_same)) can.there)))) ∙ z)
 
-  pub trie_removed : (freed new : Row V) → Frees r freed (base + s) → Prunes n freed new base parent → IsTrie n new (removed t p s)
+  pub trie_removed : (freed new : Row V) → Frees r freed (base + s) → DropsEmptyFamily n freed new base parent → IsTrie n new (removed t p s)
   trie_removed freed new frees prunes =
       let f = its_family in
       let here : Frees r freed (f.0.base + s) = subst (λ b. Frees r freed (b + s)) (sym base_same) frees in

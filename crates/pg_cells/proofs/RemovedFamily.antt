@@ -7,7 +7,7 @@ use Rattle.pg_types.specs.Inside.Placing.{cell_of}
 use Rattle.pg_cells.specs.Inside.store.Lists.{Row, sign_at, child_at, base_at}
 use Rattle.pg_cells.specs.Inside.store.Writes.{Frees, SetsBase, SetsChild}
 use Rattle.pg_cells.specs.Inside.linked.ValuedFamilies.{Trie}
-use Rattle.pg_cells.specs.Inside.families.Layouts.{IsLayout, IsParent, IsTrie}
+use Rattle.pg_cells.specs.Inside.families.Layouts.{AreLaidOut, IsParent, IsTrie}
 use Rattle.pg_cells.proofs.StringMaps.{without_key, find_without_same, find_without_other, sorted_without, equal_or_not}
 use Rattle.pg_cells.proofs.PlacementLaws.{size_of, taken_without}
 use Rattle.pg_cells.proofs.LayoutLaws.{sign_stands, stands_sign}
@@ -115,7 +115,7 @@ module _ {V : Type 0} (n : ℕ) (r freed values_alone new : Row V) (t : Trie V) 
       let in_g = stands_sign n r (family_at t.families) trie.layout q g x o.1 up sign in
       (below.0, there (q ++ x ∷ []) (λ e. off (is_parent q g x o.1 e in_g)) ∙ below.1, below.2 ∙ sym child)
 
-  laid_left : IsLayout n new (family_at fs)
+  laid_left : AreLaidOut n new (family_at fs)
   laid_left =
       let cell = cell_parts t.families p parent parent_is in
       record {

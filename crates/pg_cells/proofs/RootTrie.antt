@@ -13,7 +13,7 @@ use Rattle.pg_types.specs.Placement.{Family, family_at, root, taken_count}
 use Rattle.pg_types.specs.Inside.Placing.{cell_after, cell_of}
 use Rattle.pg_cells.specs.Inside.store.Lists.{Row, sign_at, base_at}
 use Rattle.pg_cells.specs.Inside.store.Writes.{SetsBase}
-use Rattle.pg_cells.specs.Inside.families.Layouts.{IsLayout, IsParent, IsTrie, signs_at_base, value_in}
+use Rattle.pg_cells.specs.Inside.families.Layouts.{AreLaidOut, IsParent, IsTrie, signs_at_base, value_in}
 use Rattle.pg_cells.specs.Inside.families.Root.{IsRootTo}
 use Rattle.pg_cells.proofs.StringMaps.{order, equal_or_not}
 use Rattle.pg_types.proofs.BoolFacts.{both_halves}
@@ -100,7 +100,7 @@ module _ {V : Type 0} (blank : V) where
     whole_root : Family
     whole_root = record { base = 0; signs = range_with_len 1 n }
 
-    root_laid : IsLayout n r (family_at (root n))
+    root_laid : AreLaidOut n r (family_at (root n))
     root_laid = record {
       root = refl;
       members = λ p f at.

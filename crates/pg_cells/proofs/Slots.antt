@@ -4,7 +4,7 @@ use Rattle.std.proofs.lemmas.Bool.{cases_Bool, cases_lt, eq-eqb, eqb-true, both_
 use Rattle.std.proofs.lemmas.List.{take-append-drop, drop_more, take_more, get_or-map}
 use Rattle.std.specs.List.{list_any}
 use Rattle.pg_cells.specs.declared.store.fit.Slot.{Slot}
-use Rattle.pg_cells.specs.Inside.store.Fit.{signs_of, slot_of}
+use Rattle.pg_cells.specs.Inside.store.Fit.{slot_signs, slot_of}
 use Rattle.pg_cells.specs.declared.store.member.Member.{Member}
 use Rattle.pg_cells.specs.Inside.store.Lists.{FitsCell}
 use Rattle.pg_cells.specs.Inside.families.Moves.{AllFit, IsOutsideFamily, AreDistinct}
@@ -45,18 +45,18 @@ module _ {V : Type 0} where
       by (Some s) e = inl (s, e)
 
   -- the slots have a slot of just the signs that they have
-  pub slot_has : (xs : List (Slot V)) (x : ℕ) (s : Slot V) → slot_of xs x ≡ Some s → list_any (nat_eq x) (signs_of xs) ≡ true
+  pub slot_has : (xs : List (Slot V)) (x : ℕ) (s : Slot V) → slot_of xs x ≡ Some s → list_any (nat_eq x) (slot_signs xs) ≡ true
   slot_has [] x s e = cc
   slot_has (k ∷ ks) x s e = elim (cases_Bool (nat_eq k.sign x)) [
-    | inl yes_here ↦ or_left (nat_eq x k.sign) (list_any (nat_eq x) (signs_of ks)) (eq-eqb x k.sign (sym (eqb-true k.sign x yes_here)))
-    | inr no_here ↦ or_right (nat_eq x k.sign) (list_any (nat_eq x) (signs_of ks)) (slot_has ks x s (ap (λ b. cond b (Some k) (slot_of ks x)) (sym no_here) ∙ e))
+    | inl yes_here ↦ or_left (nat_eq x k.sign) (list_any (nat_eq x) (slot_signs ks)) (eq-eqb x k.sign (sym (eqb-true k.sign x yes_here)))
+    | inr no_here ↦ or_right (nat_eq x k.sign) (list_any (nat_eq x) (slot_signs ks)) (slot_has ks x s (ap (λ b. cond b (Some k) (slot_of ks x)) (sym no_here) ∙ e))
   ]
 
-  pub has_slot : (xs : List (Slot V)) (x : ℕ) → list_any (nat_eq x) (signs_of xs) ≡ true → (s : Slot V) × (slot_of xs x ≡ Some s)
+  pub has_slot : (xs : List (Slot V)) (x : ℕ) → list_any (nat_eq x) (slot_signs xs) ≡ true → (s : Slot V) × (slot_of xs x ≡ Some s)
   has_slot [] x e = absurd (false≢true e)
   has_slot (k ∷ ks) x e = elim (cases_Bool (nat_eq k.sign x)) [
     | inl yes_here ↦ (k, ap (λ b. cond b (Some k) (slot_of ks x)) yes_here)
-    | inr no_here ↦ elim (or_cases (nat_eq x k.sign) (list_any (nat_eq x) (signs_of ks)) e) [
+    | inr no_here ↦ elim (or_cases (nat_eq x k.sign) (list_any (nat_eq x) (slot_signs ks)) e) [
       | inl same ↦ absurd (both_ways (nat_eq k.sign x) no_here (eq-eqb k.sign x (sym (eqb-true x k.sign same))))
       | inr rest ↦ let found = has_slot ks x rest in (found.0, ap (λ b. cond b (Some k) (slot_of ks x)) no_here ∙ found.1)
     ]

@@ -5,7 +5,7 @@ use Rattle.std.proofs.lemmas.List.{take_at, length-set, length-map, length_push,
 use Rattle.pg_cells.specs.declared.store.cell.TheConstants.{CELLS_END}
 use Rattle.pg_cells.specs.declared.store.cell.Cell.{Cell}
 use Rattle.pg_cells.specs.declared.store.member.Member.{Member}
-use Rattle.pg_cells.specs.Inside.store.Lists.{sign_seen, Row, Lists, lists, row_of, without_links, member_seen, sign_at, IsFree, with_taken, with_free, with_child, with_value, with_more}
+use Rattle.pg_cells.specs.Inside.store.Lists.{sign_seen, Row, LinkedRow, linked_row, row_of, without_links, member_seen, sign_at, IsFree, with_taken, with_free, with_child, with_value, with_more}
 use Rattle.pg_cells.specs.Inside.store.FreeList.{IsFreeList, AreLinked}
 use Rattle.pg_cells.proofs.LinkedLists.{taken_within, not_free}
 use Rattle.pg_cells.specs.Inside.store.Store.{IsTop, IsKept, Extends, how_many, taken_in}
@@ -67,38 +67,41 @@ IsFreeList-elsewhere S B A A' old same = record {
 
 module _ {V : Type 0} (old new : List (Cell V)) (top taken : ℕ) (kept : IsKept old top taken) (size : length new ≡ length old) where
   -- a flag is written
-  pub kept_write : (row : Row (Member V)) → row.signs ≡ (row_of old).signs → lists new ≡ record (lists old) { row = row } → IsKept new top taken
+  pub kept_write : (row : Row (Member V)) → row.signs ≡ (row_of old).signs → linked_row new ≡ record (linked_row old) { row = row } → IsKept new top taken
   kept_write row signs e = record {
-    linked = subst (λ ls. AreLinked ls) (sym e) (subst (λ ss. IsFreeList (λ j. get_or ss j 1) (λ j. get_or (lists old).befores j 0) (λ j. get_or (lists old).afters j 0)) (sym signs) kept.linked);
+    linked = subst (λ ls. AreLinked ls) (sym e) (subst (λ ss. IsFreeList (λ j. get_or ss j 1) (λ j. get_or (linked_row old).befores j 0) (λ j. get_or (linked_row old).afters j 0))
+        (sym signs) kept.linked);
     small = let h = kept.small in omega arith;
-    greatest = subst (λ ss. IsTop ss top) (sym signs ∙ sym (ap (λ (ls : Lists (Member V)). ls.row.signs) e)) kept.greatest;
-    count = kept.count ∙ ap how_many (sym signs ∙ sym (ap (λ (ls : Lists (Member V)). ls.row.signs) e));
+    greatest = subst (λ ss. IsTop ss top) (sym signs ∙ sym (ap (λ (ls : LinkedRow (Member V)). ls.row.signs) e)) kept.greatest;
+    count = kept.count ∙ ap how_many (sym signs ∙ sym (ap (λ (ls : LinkedRow (Member V)). ls.row.signs) e));
   }
 
   -- the child of a taken cell is written
-  pub kept_child : (i x : ℕ) → sign_at (row_of old) i ≢ 0 → lists new ≡ record (lists old) { row = with_child (lists old).row i x; afters = set (lists old).afters i x } → IsKept new top taken
+  pub kept_child : (i x : ℕ) → sign_at (row_of old) i ≢ 0 → linked_row new ≡ record (linked_row old) { row = with_child (linked_row old).row i x; afters = set (linked_row old).afters i x }
+      → IsKept new top taken
   kept_child i x taken_i e = record {
     linked = subst (λ ls. AreLinked ls) (sym e) (IsFreeList-elsewhere _ _ _ _ kept.linked
-        (λ j free. get_or-set_other (lists old).afters i j x 0 (λ z. not_free (row_of old) i taken_i (subst (λ k. IsFree (row_of old) k) z free))));
+        (λ j free. get_or-set_other (linked_row old).afters i j x 0 (λ z. not_free (row_of old) i taken_i (subst (λ k. IsFree (row_of old) k) z free))));
     small = let h = kept.small in omega arith;
-    greatest = subst (λ ss. IsTop ss top) (sym (ap (λ (ls : Lists (Member V)). ls.row.signs) e)) kept.greatest;
-    count = kept.count ∙ ap how_many (sym (ap (λ (ls : Lists (Member V)). ls.row.signs) e));
+    greatest = subst (λ ss. IsTop ss top) (sym (ap (λ (ls : LinkedRow (Member V)). ls.row.signs) e)) kept.greatest;
+    count = kept.count ∙ ap how_many (sym (ap (λ (ls : LinkedRow (Member V)). ls.row.signs) e));
   }
 
   -- the value of a taken cell is written
-  pub kept_value : (i x : ℕ) (value : Member V) → sign_at (row_of old) i ≢ 0 → lists new ≡ record (lists old) { row = with_value (lists old).row i value; befores = set (lists old).befores i x }
+  pub kept_value : (i x : ℕ) (value : Member V) → sign_at (row_of old) i ≢ 0
+      → linked_row new ≡ record (linked_row old) { row = with_value (linked_row old).row i value; befores = set (linked_row old).befores i x }
       → IsKept new top taken
   kept_value i x value taken_i e = record {
     linked = subst (λ ls. AreLinked ls) (sym e) (IsFreeList-beside _ _ _ _ kept.linked
-        (λ j free. get_or-set_other (lists old).befores i j x 0 (λ z. not_free (row_of old) i taken_i (subst (λ k. IsFree (row_of old) k) z free))));
+        (λ j free. get_or-set_other (linked_row old).befores i j x 0 (λ z. not_free (row_of old) i taken_i (subst (λ k. IsFree (row_of old) k) z free))));
     small = let h = kept.small in omega arith;
-    greatest = subst (λ ss. IsTop ss top) (sym (ap (λ (ls : Lists (Member V)). ls.row.signs) e)) kept.greatest;
-    count = kept.count ∙ ap how_many (sym (ap (λ (ls : Lists (Member V)). ls.row.signs) e));
+    greatest = subst (λ ss. IsTop ss top) (sym (ap (λ (ls : LinkedRow (Member V)). ls.row.signs) e)) kept.greatest;
+    count = kept.count ∙ ap how_many (sym (ap (λ (ls : LinkedRow (Member V)). ls.row.signs) e));
   }
 
   -- a free cell is taken
-  pub kept_taken : (i sign : ℕ) (value : Member V) (child r : ℕ) → i < length old → IsFree (row_of old) i → sign ≢ 0 → (lists new).row
-      ≡ with_taken (lists old).row i sign value child → AreLinked (lists new) → r ≡ max top i
+  pub kept_taken : (i sign : ℕ) (value : Member V) (child r : ℕ) → i < length old → IsFree (row_of old) i → sign ≢ 0 → (linked_row new).row
+      ≡ with_taken (linked_row old).row i sign value child → AreLinked (linked_row new) → r ≡ max top i
       → IsKept new r (taken + 1)
   kept_taken i sign value child r lt free positive e linked is = record {
     linked = linked;
@@ -134,7 +137,7 @@ module _ {V : Type 0} (old new : List (Cell V)) (top taken : ℕ) (kept : IsKept
       ]
 
   -- a taken cell is given up
-  pub kept_freed : (i r : ℕ) → i < length old → sign_at (row_of old) i ≢ 0 → (lists new).row ≡ with_free (lists old).row i → AreLinked (lists new)
+  pub kept_freed : (i r : ℕ) → i < length old → sign_at (row_of old) i ≢ 0 → (linked_row new).row ≡ with_free (linked_row old).row i → AreLinked (linked_row new)
       → r ≤ top → (0 < r → sign_at (row_of new) r ≢ 0) → ((k : ℕ) → k ≤ top → sign_at (row_of new) k ≢ 0 → k ≤ r) → IsKept new r (taken - 1)
   kept_freed i r lt up e linked le used most = record {
     linked = linked;
@@ -195,7 +198,7 @@ module _ {V : Type 0} where
   }
 
 module _ {V : Type 0} where
-  pub kept_extended : (old new : List (Cell V)) (top taken : ℕ) → IsKept old top taken → AreLinked (lists new) → length new < CELLS_END → Extends (row_of old) (row_of new) → IsKept new top taken
+  pub kept_extended : (old new : List (Cell V)) (top taken : ℕ) → IsKept old top taken → AreLinked (linked_row new) → length new < CELLS_END → Extends (row_of old) (row_of new) → IsKept new top taken
   kept_extended old new top taken kept linked small more = record {
     linked = linked;
     small = small;

@@ -9,7 +9,7 @@ use Rattle.pg_types.specs.Placement.{Family, Families, family_at, cell_in, base_
 use Rattle.pg_types.specs.Inside.Placing.{cell_of}
 use Rattle.pg_cells.specs.Inside.linked.ValuedFamilies.{ValuedFamilies}
 use Rattle.pg_cells.specs.Inside.linked.AreValuedFamilies.{AreValuedFamilies}
-use Rattle.pg_cells.specs.Inside.linked.Walks.{EndsBefore, IsKnown, StepsBy, Steps, AddsBlanks}
+use Rattle.pg_cells.specs.Inside.linked.Walks.{EndsBefore, NeedsNoCell, StepsBy, Steps, AddsBlanks}
 use Rattle.pg_cells.proofs.StringMaps.{order, equal_or_not, find_put_same, find_put_other}
 use Rattle.pg_cells.specs.Inside.families.Searches.{search_start}
 use Rattle.pg_cells.proofs.PlacementLaws.{cell_of_last}
@@ -47,13 +47,13 @@ stays : (few n : ℕ) (fs : Families) (p : List ℕ) (s cell : ℕ) → cell_of 
 stays few n fs p s cell there = ap (λ o. elim o as (λ _. Families) [ Some c ↦ fs | None ↦ with_sign (search_start few n) fs p s ]) (sym (cell_of_last fs p s) ∙ there)
 
 -- the first sign of a string is known
-pub first_known : (few n : ℕ) (fs : Families) (w : List ℕ) → 0 < length w → IsKnown few n fs w 1
+pub first_known : (few n : ℕ) (fs : Families) (w : List ℕ) → 0 < length w → NeedsNoCell few n fs w 1
 first_known few n fs [] some = absurd (omega arith)
 first_known few n fs (s ∷ q) some = record { front = refl; rest = refl }
 
 -- and one more, where there is a cell
 pub more_known : (few n : ℕ) (fs : Families) (w : List ℕ) (k cell : ℕ) → 0 < k → k < length w → cell_of fs (take k w ++ get_or w k 0 ∷ []) ≡ Some cell
-    → IsKnown few n fs w k → IsKnown few n fs w (k + 1)
+    → NeedsNoCell few n fs w k → NeedsNoCell few n fs w (k + 1)
 more_known few n fs w k cell up lt there known =
     let p = take k w in
     let s = get_or w k 0 in

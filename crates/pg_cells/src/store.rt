@@ -1,11 +1,11 @@
 //! The store: one vector of cells, whose free ones are linked in rising order.
 ghost use Rattle.std.specs.Prelude.{◌≡◌, ◌≢◌, ℕ, ◌+◌, ◌<◌, ◌≤◌, ◌∷◌, length, nat_eq, slice_get, Some, IfOk, OnOk};
 ghost use Rattle.pg_types.specs.Inside.Placing.{IsLeast};
-ghost use Rattle.pg_cells.specs.Inside.store.Lists.{lists, FitsCell, SaysTaken, row_of, without_links, sign_at, child_at, IsFree};
+ghost use Rattle.pg_cells.specs.Inside.store.Lists.{linked_row, FitsCell, SaysTaken, row_of, without_links, sign_at, child_at, IsFree};
 ghost use Rattle.pg_cells.specs.Inside.store.FreeList.{AreLinked};
 ghost use Rattle.pg_cells.specs.Inside.store.BlockedBases.{AreBlocked};
 ghost use Rattle.pg_cells.specs.Inside.store.Bounds.{NoneFree};
-ghost use Rattle.pg_cells.specs.Inside.store.Fit.{HasRoom, fits_row, signs_of};
+ghost use Rattle.pg_cells.specs.Inside.store.Fit.{HasSpace, fits_row, slot_signs};
 ghost use Rattle.pg_cells.specs.Inside.store.Store.{one_free, taken_in, IsTop, IsRow, Extends};
 ghost use Rattle.pg_cells.specs.Inside.families.Root.{IsRootTo};
 ghost use Rattle.pg_cells.specs.Inside.store.Writes.{Takes, Frees, SetsChild, SetsRowValue, SetsBase};
@@ -292,8 +292,8 @@ impl<V: Copy> Store<V> {
     /// they may stand.
     pub fn find_base(&self, slots: &[Slot<Member<V>>], sign: Sign, low: usize, room: usize) -> usize
         requires low { low ≤ room }
-        requires room { HasRoom self.now slots.now sign room }
-        ensures least { IsLeast (fits_row self.now (sign ∷ signs_of slots.now)) low result }
+        requires room { HasSpace self.now slots.now sign room }
+        ensures least { IsLeast (fits_row self.now (sign ∷ slot_signs slots.now)) low result }
         ensures room { result ≤ room }
     {
         find_base(self.cells.as_slice(), slots, sign, low, room)
@@ -304,8 +304,8 @@ impl<V: Copy> Store<V> {
 fn taken_up_to<V: Copy>(cells: &[Cell<V>], cell: usize) -> usize
     requires { cell < length cells.now }
     ensures below { result ≤ cell }
-    ensures used { 0 < result → sign_at (lists cells.now).row result ≢ 0 }
-    ensures most { (k : ℕ) → k ≤ cell → sign_at (lists cells.now).row k ≢ 0 → k ≤ result }
+    ensures used { 0 < result → sign_at (linked_row cells.now).row result ≢ 0 }
+    ensures most { (k : ℕ) → k ≤ cell → sign_at (linked_row cells.now).row k ≢ 0 → k ≤ result }
 {
     let mut at = cell;
     while at > 0 && !is_taken(cells, at) {
@@ -316,9 +316,9 @@ fn taken_up_to<V: Copy>(cells: &[Cell<V>], cell: usize) -> usize
 
 // Adds free cells until there are `count`, as long as an index fits its link.
 fn grow_cells<V: Copy>(cells: &mut Vec<Cell<V>>, count: usize, value: V) -> Result<(), AllocError>
-    requires linked { AreLinked (lists cells.old.items) }
+    requires linked { AreLinked (linked_row cells.old.items) }
     requires small { length cells.old.items < CELLS_END }
-    ensures linked { AreLinked (lists cells.new.items) }
+    ensures linked { AreLinked (linked_row cells.new.items) }
     ensures small { length cells.new.items < CELLS_END }
     ensures extends { Extends (row_of cells.old.items) (row_of cells.new.items) }
     ensures length { OnOk result (count ≤ length cells.new.items) }

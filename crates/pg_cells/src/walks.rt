@@ -8,7 +8,7 @@ ghost use Rattle.pg_types.specs.Inside.Placing.{cell_of};
 ghost use Rattle.pg_cells.specs.Inside.linked.AreValuedFamilies.{AreValuedFamilies};
 ghost use Rattle.pg_cells.specs.Inside.linked.CellValues.{IsTableSign, IsTaken};
 ghost use Rattle.pg_cells.specs.Inside.families.Searches.{search_start};
-ghost use Rattle.pg_cells.specs.Inside.linked.Walks.{IsAt, EndsBefore, IsKnown, Steps, AddsBlanks};
+ghost use Rattle.pg_cells.specs.Inside.linked.Walks.{IsAt, EndsBefore, NeedsNoCell, Steps, AddsBlanks};
 
 use crate::LinkedCells;
 use pg_types::Sign;
@@ -73,7 +73,7 @@ fn known_prefix<V: Copy, const FEW: usize>(
     requires signs { All (IsTableSign cells.now.signs) signs.now }
     ensures count { (0 < result.0) × (result.0 ≤ length signs.now) }
     ensures cell { cell_of cells.now.families (take result.0 signs.now) ≡ Some result.1 }
-    ensures known { IsKnown FEW cells.now.signs cells.now.families signs.now result.0 }
+    ensures known { NeedsNoCell FEW cells.now.signs cells.now.families signs.now result.0 }
     ensures held { AreValuedFamilies cells.now }
 {
     let mut cell = cells.root_cell(signs[0]);

@@ -2,7 +2,7 @@
 ghost use Rattle.std.specs.Prelude.{◌≡◌, ◌≤◌, true, length, IfOk, OnOk, OnErr, IsOk};
 ghost use Rattle.pg_types.specs.declared.limits.TheConstants.{LENGTH_MAX, SIGNS_MAX, WEIGHT_MAX};
 ghost use Rattle.pg_types.specs.Inside.counting.Counts.{AreSmall, SignsWithin, sums_of, with_weight, is_counted};
-ghost use Rattle.pg_types.specs.Inside.counting.NumberedWindows.{no_counts, with_counted};
+ghost use Rattle.pg_types.specs.Inside.counting.NumberedWindows.{no_counts, with_window_counted};
 
 use crate::cell_counts::CellCounts;
 use crate::table::short::is_short;
@@ -70,8 +70,9 @@ impl CountTrie {
         requires weight { weight ≤ WEIGHT_MAX }
         requires small { AreSmall
             (with_weight (sums_of self.old.counted.counts window.now) good weight) }
-        ensures ok { OnOk result (self.new
-            ≡ record self.old { counted = with_counted self.old.counted window.now good weight }) }
+        ensures ok { OnOk result (self.new ≡ record self.old {
+          counted = with_window_counted self.old.counted window.now good weight;
+        }) }
         ensures there { is_counted self.old.counted.counts window.now ≡ true → IsOk result }
         ensures err { OnErr result (self.new ≡ self.old) }
     {

@@ -5,7 +5,7 @@ ghost use Rattle.std.specs.Cmp.Lexicographic.{slice_cmp};
 ghost use Rattle.std.specs.Ordering.{nat_cmp};
 ghost use Rattle.pg_types.specs.Inside.counting.Counts.{SignsWithin};
 ghost use Rattle.pg_types.specs.Inside.counting.NumberedWindows.{HasNumber, Windows};
-ghost use Rattle.pg_count.specs.Inside.cells.Leaves.{AreLeaves, IsFree, IsWay, Keeps, Sets};
+ghost use Rattle.pg_count.specs.Inside.cells.Leaves.{AreLeaves, IsFreePrefix, IsWay, SameTallies, SetsTally};
 
 use crate::store::counted_cells::CountedCells;
 use crate::store::window_list::WindowList;
@@ -29,7 +29,7 @@ fn part(
         cells.old.values ≡ Some (Some (number, sums))) }
     requires new { (n : ℕ) → HasNumber windows.now.items window.now n → ⊥ }
     ensures leaves { AreLeaves cells.new windows.now.items (length window.now) }
-    ensures keeps { Keeps cells.old.values cells.new.values }
+    ensures keeps { SameTallies cells.old.values cells.new.values }
     ensures signs { cells.new.signs ≡ cells.old.signs }
     ensures way { IfOk result (λ end. (IsWay cells.new window.now end.at end.cell)
         × (end.at < length window.now) × (find (slice_cmp nat_cmp) (take end.at window.now)
@@ -57,9 +57,9 @@ fn add_next(cells: &mut CountedCells, way: Way, window: &[Sign]) -> Result<usize
     requires signs { SignsWithin cells.old.signs window.now }
     ensures leaves { (windows : Windows) → AreLeaves cells.old windows (length window.now)
         → AreLeaves cells.new windows (length window.now) }
-    ensures keeps { Keeps cells.old.values cells.new.values }
+    ensures keeps { SameTallies cells.old.values cells.new.values }
     ensures signs { cells.new.signs ≡ cells.old.signs }
-    ensures free { IfOk result (λ cell. IsFree cells.new window.now cell) }
+    ensures free { IfOk result (λ cell. IsFreePrefix cells.new window.now cell) }
 {
     let cell = cells.add(way.cell, window[way.at])?;
     Ok(cell)
@@ -78,9 +78,9 @@ fn leaf(
     requires signs { SignsWithin cells.old.signs window.now }
     requires new { (n : ℕ) → HasNumber windows.now.items window.now n → ⊥ }
     ensures leaves { AreLeaves cells.new windows.now.items (length window.now) }
-    ensures keeps { Keeps cells.old.values cells.new.values }
+    ensures keeps { SameTallies cells.old.values cells.new.values }
     ensures signs { cells.new.signs ≡ cells.old.signs }
-    ensures free { IfOk result (λ cell. IsFree cells.new window.now cell) }
+    ensures free { IfOk result (λ cell. IsFreePrefix cells.new window.now cell) }
 {
     if let Some((number, _)) = cells.number_and_sums(way.cell) {
         let end = part(cells, windows, number, way, window)?;
@@ -113,8 +113,8 @@ pub fn count_new(
     ensures windows { OnOk result
         (windows.new ≡ record windows.old { items = windows.old.items ++ window.now ∷ [] }) }
     ensures sets { OnOk result
-        (Sets cells.old.values cells.new.values (length windows.old.items, sums)) }
-    ensures keeps { OnErr result (Keeps cells.old.values cells.new.values) }
+        (SetsTally cells.old.values cells.new.values (length windows.old.items, sums)) }
+    ensures keeps { OnErr result (SameTallies cells.old.values cells.new.values) }
     ensures err { OnErr result (windows.new ≡ windows.old) }
 {
     let cell = leaf(cells, windows, way, window)?;

@@ -2,7 +2,7 @@
 ghost use Rattle.std.specs.Prelude.{◌≡◌, ℕ, ◌≤◌, ◌<◌, true, List, ◌++◌, length, Some, IfOk, OnOk, OnErr, IsOk};
 ghost use Rattle.pg_types.specs.declared.limits.TheConstants.{WEIGHT_MAX};
 ghost use Rattle.pg_types.specs.Inside.counting.Counts.{AreSmall, IsNextAbove, SignsWithin, counted_sums, sums_of, with_weight, is_counted};
-ghost use Rattle.pg_types.specs.Inside.counting.NumberedWindows.{AreInOrder, AreNumbered, HasNumber, with_counted};
+ghost use Rattle.pg_types.specs.Inside.counting.NumberedWindows.{AreInOrder, AreNumbered, HasNumber, with_window_counted};
 ghost use Rattle.pg_count.specs.Inside.Counting.{Counting, IsCounting};
 
 use pg_types::{Cursor, Sign, Weight};
@@ -36,7 +36,7 @@ pub trait WindowCounter {
         requires small { AreSmall
             (with_weight (sums_of (counting self.old).counted.counts window.now) good weight) }
         ensures ok { OnOk result (counting self.new ≡ record (counting self.old) {
-          counted = with_counted (counting self.old).counted window.now good weight;
+          counted = with_window_counted (counting self.old).counted window.now good weight;
         }) }
         ensures number { IfOk result
             (λ number. HasNumber (counting self.new).counted.windows window.now number) }

@@ -1,4 +1,4 @@
 pub mod Word
-pub mod Words
+pub mod DictionaryWords
 pub mod Parts
 pub mod Inside

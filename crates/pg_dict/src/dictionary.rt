@@ -4,7 +4,7 @@ ghost use Rattle.pg_types.specs.Inside.reading.Answers.{Gives};
 ghost use Rattle.pg_translate.specs.Alphabets as alphabet;
 ghost use Rattle.pg_dict.specs.Inside.SoundWords.{letter_count, IsWord, SignsAtMost};
 ghost use Rattle.pg_dict.specs.Word.{Word};
-ghost use Rattle.pg_dict.specs.Words.{words};
+ghost use Rattle.pg_dict.specs.DictionaryWords.{words};
 ghost use Rattle.pg_dict.specs.Inside.Sites.{all_sites};
 ghost use Rattle.pg_dict.specs.Inside.Store.{all_signs, all_weights, stored_words, IsSound};
 ghost use Rattle.pg_dict.specs.Inside.Lent.{lent_word};

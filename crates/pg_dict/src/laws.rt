@@ -7,9 +7,9 @@ ghost use Rattle.pg_translate.specs.Tokens.{Token};
 ghost use Rattle.pg_translate.specs.Inside.items.Items.{AreItems, text_of_items, tokens_in};
 ghost use Rattle.pg_dict.specs.Word.{Word};
 ghost use Rattle.pg_dict.specs.Inside.SoundWords.{IsWord};
-ghost use Rattle.pg_dict.specs.Words.{words};
+ghost use Rattle.pg_dict.specs.DictionaryWords.{words};
 ghost use Rattle.pg_dict.specs.Inside.LineWords.{line_reading, line_word};
-ghost use Rattle.pg_dict.specs.Inside.WrittenWords.{AreMarksOf, word_tokens, letters_among, IsLine, file_of, LinesGive};
+ghost use Rattle.pg_dict.specs.Inside.WrittenWords.{AreMarksOf, word_tokens, letters_among, IsLine, text_of_lines, LinesGive};
 
 use pg_translate::Table;
 use pg_translate::laws::keeps_rules;
@@ -48,8 +48,8 @@ pub fn items_are_lines(table: &Table)
 /// on, is read as the list of these words.
 pub fn files_are_read(table: &Table)
     ensures { (texts : List (List ℕ)) (all : List Word) → AllByRecursion IsLine texts
-        → LinesGive table.now 1 texts all → length (file_of texts) ≤ FILE_MAX
-        → words table.now (file_of texts) ≡ Ok all }
+        → LinesGive table.now 1 texts all → length (text_of_lines texts) ≤ FILE_MAX
+        → words table.now (text_of_lines texts) ≡ Ok all }
 {
     let _ = table;
 }

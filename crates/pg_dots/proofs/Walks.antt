@@ -4,7 +4,7 @@ use Rattle.std.specs.Int.{bit_at, bit_not}
 use Rattle.std.proofs.lemmas.Bool.{cases_eq, cases_lt}
 use Rattle.std.proofs.lemmas.Nat.Bits.{bit_at-lt, bit_at-zero, bit_at_clear_other, bit_at_clear_same, bit_at_not}
 use Rattle.pg_dots.specs.declared.walk.Walk.{Walk}
-use Rattle.pg_dots.specs.Inside.Bits.{has_bit, IsNext}
+use Rattle.pg_dots.specs.Inside.Bits.{has_bit, IsFirstFailing}
 use Rattle.pg_dots.specs.Inside.Walks.{IsAhead}
 use Rattle.pg_dots.proofs.Rows.{bit_clear, bit_set}
 
@@ -36,7 +36,7 @@ ahead_next row w next from none is small ahead =
     ])
 
 -- where none is ahead in the last number there is none
-pub next_none : (test : ℕ → Bool) (w : Walk) (end from : ℕ) → w.ahead ≡ 0 → 64 * w.at + 64 ≡ end → IsAhead test w from → IsNext test end from end
+pub next_none : (test : ℕ → Bool) (w : Walk) (end from : ℕ) → w.ahead ≡ 0 → 64 * w.at + 64 ≡ end → IsAhead test w from → IsFirstFailing test end from end
 next_none test w end from none is ahead = record {
   after = omega (arith, ahead.upto);
   within = omega arith;
@@ -50,7 +50,7 @@ next_none test w end from none is ahead = record {
 -- the lowest bit that is ahead is the next place
 module _ (test : ℕ → Bool) (w : Walk) (from lowest : ℕ) (low : lowest < 64) (is_set : bit_at w.ahead lowest ≡ 1) (before_it : (b : ℕ) → b < lowest → bit_at w.ahead b ≡ 0)
     (ahead : IsAhead test w from) where
-  pub next_some : (end s : ℕ) → 64 * w.at + 64 ≤ end → s ≡ 64 * w.at + lowest → IsNext test end from s
+  pub next_some : (end s : ℕ) → 64 * w.at + 64 ≤ end → s ≡ 64 * w.at + lowest → IsFirstFailing test end from s
   next_some end s inside is =
       let here = ahead.clear lowest low is_set in
       record {

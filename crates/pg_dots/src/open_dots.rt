@@ -35,7 +35,7 @@ pub struct OpenDots {
 }
 
 impl OpenDots {
-    ghost use Rattle.pg_dots.specs.Inside.Bits.{IsNext};
+    ghost use Rattle.pg_dots.specs.Inside.Bits.{IsFirstFailing};
     ghost use Rattle.pg_dots.specs.Inside.Dots.{is_closed, position_count, HasWalk};
     ghost use Rattle.pg_dots.specs.Inside.Positions.{is_among, room_of};
     ghost use Rattle.pg_dots.specs.Inside.Walks.{IsAhead};
@@ -114,7 +114,7 @@ impl OpenDots {
         requires within { HasWalk self.now walk.old }
         ensures within { HasWalk self.now walk.new }
         ensures next { (from : ℕ) → IsAhead (is_closed self.now dot) walk.old from
-            → IsNext (is_closed self.now dot) (position_count self.now) from result }
+            → IsFirstFailing (is_closed self.now dot) (position_count self.now) from result }
         ensures ahead { (from : ℕ) → IsAhead (is_closed self.now dot) walk.old from
             → result < position_count self.now
             → IsAhead (is_closed self.now dot) walk.new (result + 1) }

@@ -1,6 +1,6 @@
 //! A walk over the clear bits of a row.
 ghost use Rattle.std.specs.Prelude.{◌≡◌, ◌≤◌, ◌<◌, ◌*◌, ◌+◌, ◌^◌, ℕ, length};
-ghost use Rattle.pg_dots.specs.Inside.Bits.{has_bit, IsNext};
+ghost use Rattle.pg_dots.specs.Inside.Bits.{has_bit, IsFirstFailing};
 ghost use Rattle.pg_dots.specs.Inside.Walks.{IsAhead};
 
 use crate::bits::{NUMBER_BITS, lowest_set};
@@ -59,7 +59,7 @@ impl Walk {
         requires few { 64 * length row.now < 2 ^ 64 }
         ensures within { self.new.at < length row.now }
         ensures next { (from : ℕ) → IsAhead (has_bit row.now) self.old from
-            → IsNext (has_bit row.now) (64 * length row.now) from result }
+            → IsFirstFailing (has_bit row.now) (64 * length row.now) from result }
         ensures ahead { (from : ℕ) → IsAhead (has_bit row.now) self.old from
             → result < 64 * length row.now → IsAhead (has_bit row.now) self.new (result + 1) }
     {

@@ -14,7 +14,7 @@ use Rattle.pg_driver.specs.declared.records.PassRecord.{PassRecord}
 use Rattle.pg_driver.specs.Inside.records.AccountLines.{PassLine, left_none}
 use Rattle.pg_driver.specs.Dots.{dot_at}
 use Rattle.pg_driver.specs.Layouts.{after_pass}
-use Rattle.pg_driver.specs.Inside.level.Levels.{CountNothing, SkipFlags, GoesOn, IsAt, LevelStart, Tells, all_made_by, is_set, layouts_in, point, no_flags}
+use Rattle.pg_driver.specs.Inside.level.Levels.{SkippableCountNothing, SkipFlags, GoesOn, IsPointAt, LevelStart, TellSkippable, all_made_by, is_set, layouts_in, point, no_flags}
 use Rattle.pg_driver.specs.Inside.records.Sound.{RunRecords, with_pass}
 use Rattle.pg_driver.specs.Inside.level.States.{DidPass, State, made_by, state_after, state_at_end, state_of}
 use Rattle.pg_driver.specs.Inside.records.RunAccounts.{known_of}
@@ -63,7 +63,7 @@ no_layouts signs (Some fs) xs = sym (append-nil xs)
 
 -- where a level begins
 pub at_level_start : (source : Source) (number len : ℕ) (m : Meaning) (r : RunRecords) (flags : SkipFlags) → r.chosen ≡ 0 → flags.here ≡ no_flags
-    → flags.longer ≡ no_flags → IsAt source number len (record { engine = m; records = r }) [] (point m r flags)
+    → flags.longer ≡ no_flags → IsPointAt source number len (record { engine = m; records = r }) [] (point m r flags)
 at_level_start source number len m r flags chosen here longer = record {
   signs = refl;
   state = state_begins m.signs (state_of m);
@@ -80,7 +80,7 @@ at_level_start source number len m r flags chosen here longer = record {
 }
 
 module _ (source : Source) (params : LevelParams) (number len dot : ℕ) (m : Meaning) (start : LevelStart) (ps : List PassTrace) (r : RunRecords)
-    (old : SkipFlags) (at : IsAt source number len start ps (point m r old)) where
+    (old : SkipFlags) (at : IsPointAt source number len start ps (point m r old)) where
   abbrev q : PassTrace
   q = made_by source params m (pass_with number len dot)
 
@@ -93,11 +93,11 @@ module _ (source : Source) (params : LevelParams) (number len dot : ℕ) (m : Me
   short_on : list_all (λ p. nat_le p.pass.len len) (ps ++ q ∷ []) ≡ true
   short_on = short_push len ps q refl at.short
 
-  tells_on : (b : Bool) (new : SkipFlags) → b ≡ left_none q → new.here ≡ old.here → Follows dot b old new → Tells number len new (ps ++ q ∷ [])
+  tells_on : (b : Bool) (new : SkipFlags) → b ≡ left_none q → new.here ≡ old.here → Follows dot b old new → TellSkippable number len new (ps ++ q ∷ [])
   tells_on b new left here longer = tells_more number len dot source params (known_of m) old new ps at.tells here (subst (λ (b : Bool). Follows dot b old new) left longer)
 
-  closed_after : (n : Meaning) → state_of n ≡ state_after m.signs m.families q → CountNothing source number (ps ++ q ∷ []) (known_of n)
-  closed_after n state = subst (λ (known : Knowledge). CountNothing source number (ps ++ q ∷ []) known) (sym (ap (λ (s : State). s.known) state))
+  closed_after : (n : Meaning) → state_of n ≡ state_after m.signs m.families q → SkippableCountNothing source number (ps ++ q ∷ []) (known_of n)
+  closed_after n state = subst (λ (known : Knowledge). SkippableCountNothing source number (ps ++ q ∷ []) known) (sym (ap (λ (s : State). s.known) state))
       (closed_on source params number len dot (known_of m) ps at.skippable)
 
 -- a pass that is skipped changes nothing
@@ -110,7 +110,7 @@ none_left params q none = ap (λ (cs : List Candidate). list_all (is_entered q.p
 
 module _ (source : Source) (params : LevelParams) (number len dot : ℕ) (m : Meaning) (r : RunRecords) (old new : SkipFlags) where
   -- a pass that was skipped
-  pub skipped_known : (start : LevelStart) (ps : List PassTrace) → is_set old.here dot ≡ true → IsAt source number len start ps (point m r old)
+  pub skipped_known : (start : LevelStart) (ps : List PassTrace) → is_set old.here dot ≡ true → IsPointAt source number len start ps (point m r old)
       → (made_by source params m (pass_with number len dot)).candidates ≡ []
   skipped_known start ps flag at = skipped_none source params number len dot (known_of m) ps at.skippable (at.tells.here dot ∙ flag)
 
@@ -120,7 +120,7 @@ module _ (source : Source) (params : LevelParams) (number len dot : ℕ) (m : Me
       let q : PassTrace = made_by source params m (pass_with number len dot) in
       let none : q.candidates ≡ [] = skipped_known start ps flag at in
       let state = state_stays source params (pass_with number len dot) m none in
-      let on : IsAt source number len start (ps ++ q ∷ []) (point m r new) = record {
+      let on : IsPointAt source number len start (ps ++ q ∷ []) (point m r new) = record {
         signs = at.signs;
         state = state ∙ state_on source params number len dot m start ps r old at;
         records = recorded_none source start.engine.signs start.engine.families ps q start.records r none at.short (at.tells.here dot ∙ flag) at.records;
@@ -140,7 +140,7 @@ module _ (source : Source) (params : LevelParams) (number len dot : ℕ) (m : Me
       let none : b ≡ left_none q = left ∙ ap (λ (x : PassLine). x.chosen + x.hopeless == x.candidates) did.line ∙ left_none_is params q.candidates in
       let state : state_of n ≡ state_at_end start.engine.signs (state_of start.engine) (ps ++ q ∷ []) = did.state ∙ state_on source params number len dot m start ps r old at in
       let layout = did.layout ∙ ap (λ (s : State). option_map (λ fs. (q.pass, taken_count fs, top fs)) s.families) state in
-      let on : IsAt source number len start (ps ++ q ∷ []) (point n s new) = record {
+      let on : IsPointAt source number len start (ps ++ q ∷ []) (point n s new) = record {
         signs = signs ∙ at.signs;
         state = state;
         records = recorded_pass source start.engine.signs start.engine.families ps q start.records r s rec did.line layout records at.short (at.tells.here dot ∙ flag) at.records;
@@ -152,7 +152,7 @@ module _ (source : Source) (params : LevelParams) (number len dot : ℕ) (m : Me
 
 -- at the next length
 pub at_next : (source : Source) (number len : ℕ) (start : LevelStart) (ps : List PassTrace) (m : Meaning) (r : RunRecords) (old new : SkipFlags) → new.here
-    ≡ old.longer → new.longer ≡ no_flags → IsAt source number len start ps (point m r old) → IsAt source number (len + 1) start ps (point m r new)
+    ≡ old.longer → new.longer ≡ no_flags → IsPointAt source number len start ps (point m r old) → IsPointAt source number (len + 1) start ps (point m r new)
 at_next source number len start ps m r old new here longer at = record {
   signs = at.signs;
   state = at.state;
@@ -166,7 +166,7 @@ at_next source number len start ps m r old new here longer at = record {
 pub record Reaches (source : Source) (params : LevelParams) (number len : ℕ) (start : LevelStart) (m : Meaning) (r : RunRecords) (flags : SkipFlags)
     (rest : List Pass) (whole : List PassTrace) (end : Knowledge) : Type 0 where
   pub done : List PassTrace
-  pub at : IsAt source number len start done (point m r flags)
+  pub at : IsPointAt source number len start done (point m r flags)
   pub left : done ++ all_made_by source params m rest ≡ whole
   pub known : known_at_end (known_of m) (all_made_by source params m rest) ≡ end
 
@@ -240,10 +240,10 @@ reaches_on source params number len start m n r s old new passes xs rest whole e
 -- where no pass is left, all are done
 pub at_whole : (source : Source) (params : LevelParams) (number len : ℕ) (start : LevelStart) (m : Meaning) (r : RunRecords) (flags : SkipFlags)
     (rest : List Pass) (whole : List PassTrace) (end : Knowledge) → rest ≡ [] → Reaches source params number len start m r flags rest whole end
-    → IsAt source number len start whole (point m r flags) × (known_of m ≡ end)
+    → IsPointAt source number len start whole (point m r flags) × (known_of m ≡ end)
 at_whole source params number len start m r flags rest whole end none reaches =
-    let at : IsAt source number len start whole (point m r flags) =
-    subst (λ (ps : List PassTrace). IsAt source number len start ps (point m r flags))
+    let at : IsPointAt source number len start whole (point m r flags) =
+    subst (λ (ps : List PassTrace). IsPointAt source number len start ps (point m r flags))
     (sym (append-nil reaches.done) ∙ ap (λ (xs : List Pass). reaches.done ++ all_made_by source params m xs) (sym none) ∙ reaches.left)
     reaches.at in
     (at, ap (λ (xs : List Pass). known_at_end (known_of m) (all_made_by source params m xs)) (sym none) ∙ reaches.known)

@@ -13,7 +13,7 @@ use Rattle.pg_types.proofs.BoolFacts.{first_half, second_half}
 use Rattle.pg_types.proofs.EntryLists.{below_get}
 use Rattle.pg_types.specs.declared.parameters.LevelParams.{LevelParams}
 use Rattle.pg_types.specs.Inside.counting.Counts.{Counts, counted_sums, is_counted}
-use Rattle.pg_types.specs.Inside.counting.NumberedWindows.{Windows, HasNumber, AreInOrder, AreNumbered, with_window}
+use Rattle.pg_types.specs.Inside.counting.NumberedWindows.{Windows, HasNumber, AreInOrder, AreNumbered, with_next_window}
 use Rattle.pg_dict.specs.Word.{Word}
 use Rattle.pg_select.specs.declared.choice.Choice.{Choice}
 use Rattle.pg_select.specs.declared.pass.Pass.{Pass}
@@ -151,12 +151,12 @@ get_last xs y k x e late =
     (same, at)
 
 -- a window keeps its number while more are counted
-window_stays : (ws : Windows) (counts : Counts) (u v : List ℕ) (n : ℕ) → HasNumber ws v n → HasNumber (with_window ws counts u) v n
+window_stays : (ws : Windows) (counts : Counts) (u v : List ℕ) (n : ℕ) → HasNumber ws v n → HasNumber (with_next_window ws counts u) v n
 window_stays ws counts u v n at = elim (is_counted counts u) as (λ (b : Bool). HasNumber (cond b ws (ws ++ u ∷ [])) v n) [ true ↦ at | false ↦ get_left ws (u ∷ []) n v at ]
 
 pub number_stays : (ws : Windows) (counts : Counts) (seen : List CountedPosition) (v : List ℕ) (n : ℕ) → HasNumber ws v n → HasNumber (windows_after ws counts seen) v n
 number_stays ws counts [] v n at = at
-number_stays ws counts (s ∷ seen) v n at = number_stays (with_window ws counts s.window) (with_position counts s) seen v n (window_stays ws counts s.window v n at)
+number_stays ws counts (s ∷ seen) v n at = number_stays (with_next_window ws counts s.window) (with_position counts s) seen v n (window_stays ws counts s.window v n at)
 
 pub still_numbered : (pass : Pass) (test : Word → WordPosition → Bool) (words : List Word) (m n : Meaning) (seen : List CountedPosition) (e : WordPosition) (k : ℕ)
     → n ≡ meaning_after_counting m seen → IsNumbered pass test words m.windows e k → IsNumbered pass test words n.windows e k
@@ -171,11 +171,11 @@ still_numbered pass test words m n seen e k is numbered =
 
 -- what one position adds to the windows
 pub window_in : (ws : Windows) (counts : Counts) (level len dot : ℕ) (w : Word) (p : ℕ) → fits w.signs p len dot ≡ true → windows_after ws counts (counted_in (pass_at level len dot) w p)
-    ≡ with_window ws counts (window w.signs p len dot)
+    ≡ with_next_window ws counts (window w.signs p len dot)
 window_in ws counts level len dot w p fit = by (fits w.signs p len dot) fit
   where
     by : (b : Bool) → b ≡ true → windows_after ws counts (option_map_or (λ good. record { window = window w.signs p len dot; good = good; weight = position_weight w p } ∷ [])
-        (cond (b && true) (Some (is_good level w p)) None) []) ≡ with_window ws counts (window w.signs p len dot)
+        (cond (b && true) (Some (is_good level w p)) None) []) ≡ with_next_window ws counts (window w.signs p len dot)
     by true e = refl
     by false e = absurd (let wrong : false ≡ true = e in cc)
 

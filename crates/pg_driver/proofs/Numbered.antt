@@ -6,7 +6,7 @@ use Rattle.std.specs.Cmp.Lexicographic.{nat_list_cmp_total}
 use Rattle.std.specs.FinMap.Entries.{put, find, find-put, is_sorted, is_sorted-put, length-put}
 use Rattle.std.proofs.lemmas.Bool.{cases_lt}
 use Rattle.pg_types.specs.Inside.counting.Counts.{Counts, is_counted, sums_of, with_weight}
-use Rattle.pg_types.specs.Inside.counting.NumberedWindows.{AreNumbered, HasNumber, Windows, with_window}
+use Rattle.pg_types.specs.Inside.counting.NumberedWindows.{AreNumbered, HasNumber, Windows, with_next_window}
 use Rattle.pg_translate.specs.Alphabets.{Alphabet}
 use Rattle.pg_dict.specs.Word.{Word}
 use Rattle.pg_select.specs.declared.pass.Pass.{Pass}
@@ -83,7 +83,7 @@ module _ (ws : Windows) (counts : Counts) (u : List ℕ) (v : ℕ × ℕ) (sorte
       old : (q : List ℕ) (n : ℕ) → HasNumber ws q n → q ≡ u → ⊥
       old q n at same = let wrong : false ≡ true = sym new ∙ ap (is_counted counts) (sym same) ∙ are.counted q n at in cc
 
-  numbered_more : AreNumbered (with_window ws counts u) more
+  numbered_more : AreNumbered (with_next_window ws counts u) more
   numbered_more = by (is_counted counts u) refl
     where
       by : (b : Bool) → is_counted counts u ≡ b → AreNumbered (cond b ws (ws ++ u ∷ [])) more
@@ -95,7 +95,8 @@ numbered_after : (ws : Windows) (counts : Counts) (seen : List CountedPosition) 
 numbered_after ws counts [] sorted are = are
 numbered_after ws counts (s ∷ seen) sorted are =
     let sums : ℕ × ℕ = with_weight (sums_of counts s.window) s.good s.weight in
-    numbered_after (with_window ws counts s.window) (with_position counts s) seen (is_sorted-put cmp nat_list_cmp_total s.window sums counts sorted) (numbered_more ws counts s.window sums sorted are)
+    numbered_after (with_next_window ws counts s.window) (with_position counts s) seen (is_sorted-put cmp nat_list_cmp_total s.window sums counts sorted)
+    (numbered_more ws counts s.window sums sorted are)
 
 none_numbered : AreNumbered [] []
 none_numbered = record {

@@ -12,7 +12,7 @@ use Rattle.pg_translate.specs.Reach.{positions}
 use Rattle.pg_dict.specs.Word.{Word}
 use Rattle.pg_dict.specs.Inside.SoundWords.{letter_count}
 use Rattle.pg_patterns.specs.Values.{Patterns}
-use Rattle.pg_select.specs.Inside.laws.Laws.{positions_in}
+use Rattle.pg_select.specs.Inside.laws.Laws.{number_of_positions}
 use Rattle.pg_select.specs.Inside.laws.ClosedDots.{counted_with, is_good, pass_at}
 use Rattle.pg_select.specs.CountedPositions.{Minima, CountedPosition, counted_positions_at, counted_positions}
 use Rattle.pg_select.specs.Inside.words.WordCounts.{counted_positions_in}
@@ -222,7 +222,7 @@ singles (x ∷ xs) = ap suc (singles xs)
 
 few_words : (m : Minima) (closed : ℕ → Bool) (start : ℕ) (ws : List Word)
     → ((k p : ℕ) (w : Word) → slice_get ws k ≡ Some w → p < length w.signs → is_in_reach m w p ≡ false → closed (start + (start_of ws k + p)) ≡ true)
-    → length (filter (λ s. not (closed (start + s))) (range_with_len 0 (sign_count ws))) ≤ positions_in m ws
+    → length (filter (λ s. not (closed (start + s))) (range_with_len 0 (sign_count ws))) ≤ number_of_positions m ws
 few_words m closed start [] out = omega arith
 few_words m closed start (w ∷ ws) out =
     let size = length w.signs in
@@ -256,7 +256,7 @@ few_words m closed start (w ∷ ws) out =
         both false rest = rest
 
 pub few_there : (level len dot : ℕ) (m : Minima) (words : List Word) (P : Patterns) (H : Hopeless) (dots : ℕ → ℕ → Bool) → len ≤ LENGTH_MAX → dot ≤ len
-    → positions_in m words ≤ sum_by letter_count words → IsLevelAt level len m words P H dots
+    → number_of_positions m words ≤ sum_by letter_count words → IsLevelAt level len m words P H dots
     → length (open_signs (dots dot) 0 (sign_count words)) ≤ sum_by letter_count words
 few_there level len dot m words P H dots short within reached is =
     let few = few_words m (dots dot) 0 words (λ k p w at lies other. ap (dots dot) (zero_plus (start_of words k + p)) ∙ (is.known k p w at lies).outside other dot (omega arith)) in

@@ -13,7 +13,7 @@ use Rattle.pg_select.specs.declared.choice.Choice.TheVariants.{Hopeless as MadeH
 use Rattle.pg_select.specs.declared.pass.Pass.{Pass}
 use Rattle.pg_select.specs.Inside.Choices.{choice}
 use Rattle.pg_select.specs.Inside.laws.Steps.{IsBelow, IsUpTo, candidate_at, is_candidate, patterns_after_pass, hopeless_after_pass}
-use Rattle.pg_select.specs.Inside.laws.ClosedDots.{counted_with, is_good, closed_at_next_length, pass_at, Tells, closed_after as dots_after_pass}
+use Rattle.pg_select.specs.Inside.laws.ClosedDots.{counted_with, is_good, closed_at_next_length, pass_at, TellCounted, closed_after as dots_after_pass}
 use Rattle.pg_select.specs.Inside.engine.Meanings.{with_position}
 use Rattle.pg_select.specs.CountedPositions.{Minima, Candidate, counted_at, counts_as, good_of, bad_of, counted_positions}
 use Rattle.pg_select.specs.Statuses.{status, status_at}
@@ -31,7 +31,8 @@ use Rattle.pg_driver.proofs.OpenLevels.{found_is}
 use Rattle.pg_driver.proofs.OpenSigns.{place_at, sign_within}
 
 -- closed dots that are equal tell the same
-pub tells_same : (level len : ℕ) (P : Patterns) (H : Hopeless) (w : Word) (p : ℕ) (a b : ℕ → Bool) → ((d : ℕ) → d ≤ LENGTH_MAX → a d ≡ b d) → Tells level len P H w p a → Tells level len P H w p b
+pub tells_same : (level len : ℕ) (P : Patterns) (H : Hopeless) (w : Word) (p : ℕ) (a b : ℕ → Bool) → ((d : ℕ) → d ≤ LENGTH_MAX → a d ≡ b d) → TellCounted level len P H w p a
+    → TellCounted level len P H w p b
 tells_same level len P H w p a b same tells d within = tells d within ∙ ap (λ c. counted_with level w p len d c) (same d within)
 
 told_same : (level len : ℕ) (m : Minima) (P : Patterns) (H : Hopeless) (w : Word) (p : ℕ) (a b : ℕ → Bool) → ((d : ℕ) → d ≤ LENGTH_MAX → a d ≡ b d)
@@ -66,7 +67,7 @@ there_first level len m words P closed below is = record {
     none true o is = is
     none false o is = refl
 
-    by_status : (w : Word) (p : ℕ) (o : Option Bool) → counts_as level (status_at P w p) ≡ o → Tells level len P [] w p (λ d. not (is_some o))
+    by_status : (w : Word) (p : ℕ) (o : Option Bool) → counts_as level (status_at P w p) ≡ o → TellCounted level len P [] w p (λ d. not (is_some o))
     by_status w p None is = λ d within.
         none (fits w.signs p len d && not (is_covered level P [] (window w.signs p len d) d)) (counts_as level (status_at P w p)) is
         ∙ sym (shut (fits w.signs p len d) (Some (is_good level w p)))
@@ -78,7 +79,7 @@ there_first level len m words P closed below is = record {
 
     first : (w : Word) (p : ℕ) → DotsTell level len m P [] w p (λ d. not (is_open_first m level P w p))
     first w p = record {
-      inside = λ reach. subst (λ (b : Bool). Tells level len P [] w p (λ d. not (b && is_some (counts_as level (status_at P w p))))) (sym reach)
+      inside = λ reach. subst (λ (b : Bool). TellCounted level len P [] w p (λ d. not (b && is_some (counts_as level (status_at P w p))))) (sym reach)
           (by_status w p (counts_as level (status_at P w p)) refl);
       outside = λ reach d within. ap (λ b. not (b && is_some (counts_as level (status_at P w p)))) reach;
     }
@@ -131,7 +132,7 @@ module _ (level : LevelParams) (m : Minima) (words : List Word) (pass : Pass) (P
 
   -- a dot more that is closed tells the same, where no window with it counts
   tells_shut : (Q : Patterns) (I : Hopeless) (w : Word) (p : ℕ) (closed : ℕ → Bool) → counted_at (pass_at pass.level pass.len pass.dot) Q I w p ≡ None
-      → Tells pass.level pass.len Q I w p closed → Tells pass.level pass.len Q I w p (λ d. closed d || nat_eq d pass.dot)
+      → TellCounted pass.level pass.len Q I w p closed → TellCounted pass.level pass.len Q I w p (λ d. closed d || nat_eq d pass.dot)
   tells_shut Q I w p closed none tells d within = elim (cases_eq d pass.dot) [
     | inl same ↦
         ap (λ e. counted_at (pass_at pass.level pass.len e) Q I w p) same ∙ none
@@ -177,8 +178,8 @@ module _ (level : LevelParams) (m : Minima) (words : List Word) (pass : Pass) (P
         by false = none (closed d) (nat_eq d pass.dot)
 
     -- a position in reach
-    told_in : IsUpTo pass.level P → Tells pass.level pass.len P H w p closed
-        → Tells pass.level pass.len (patterns_after_pass m words pass P H (λ c. is_chosen level c)) (hopeless_after_pass m words pass P H (λ c. is_hopeless level c)) w p
+    told_in : IsUpTo pass.level P → TellCounted pass.level pass.len P H w p closed
+        → TellCounted pass.level pass.len (patterns_after_pass m words pass P H (λ c. is_chosen level c)) (hopeless_after_pass m words pass P H (λ c. is_hopeless level c)) w p
         (closed_in level pass counts w p closed)
     told_in upto tells = elim (cases_Bool (closed pass.dot)) [
       | inl shut ↦
@@ -210,7 +211,7 @@ module _ (level : LevelParams) (m : Minima) (words : List Word) (pass : Pass) (P
         given_up : Bool
         given_up = is_candidate (λ (c : Candidate). is_hopeless level c) (counted_positions m words pass P H) (window w.signs p pass.len pass.dot)
 
-        after : Tells pass.level pass.len (patterns_after_pass m words pass P H (λ c. is_chosen level c)) (hopeless_after_pass m words pass P H (λ c. is_hopeless level c)) w p
+        after : TellCounted pass.level pass.len (patterns_after_pass m words pass P H (λ c. is_chosen level c)) (hopeless_after_pass m words pass P H (λ c. is_hopeless level c)) w p
             (dots_after_pass closed pass.dot (fits w.signs p pass.len pass.dot)
             (is_candidate (λ (c : Candidate). is_chosen level c) (counted_positions m words pass P H) (window w.signs p pass.len pass.dot))
             (is_candidate (λ (c : Candidate). is_hopeless level c) (counted_positions m words pass P H) (window w.signs p pass.len pass.dot)))

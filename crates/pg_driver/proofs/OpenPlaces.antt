@@ -10,7 +10,7 @@ use Rattle.std.proofs.lemmas.Option.{slice_get_within}
 use Rattle.pg_translate.specs.Reach.{positions}
 use Rattle.pg_dict.specs.Word.{Word}
 use Rattle.pg_dict.specs.Inside.SoundWords.{letter_count}
-use Rattle.pg_select.specs.Inside.laws.Laws.{positions_in}
+use Rattle.pg_select.specs.Inside.laws.Laws.{number_of_positions}
 use Rattle.pg_select.specs.CountedPositions.{Minima}
 use Rattle.pg_driver.specs.declared.pass_windows.WordPosition.{WordPosition}
 use Rattle.pg_driver.specs.Inside.counting.OpenPositions.{numbered_positions, open_with}
@@ -92,10 +92,10 @@ few_open listed (s ∷ numbered) =
     one None = omega arith
     one (Some good) = omega arith
 
-numbered_length : (m : Minima) (n : ℕ) (words : List Word) → length (numbered_positions m n words) ≡ positions_in m words
+numbered_length : (m : Minima) (n : ℕ) (words : List Word) → length (numbered_positions m n words) ≡ number_of_positions m words
 numbered_length m n [] = refl
 numbered_length m n (w ∷ words) =
-    let rest : length (numbered_positions m (n + 1) words) ≡ positions_in m words = numbered_length m (n + 1) words in
+    let rest : length (numbered_positions m (n + 1) words) ≡ number_of_positions m words = numbered_length m (n + 1) words in
     let sizes : length (map {B = ℕ × ℕ} (λ p. (n, p)) (positions m.left m.right (length w.signs))) ≡ length (positions m.left m.right (length w.signs)) =
     length-map (positions m.left m.right (length w.signs)) (λ (p : ℕ). (n, p)) in
     omega (
@@ -106,7 +106,7 @@ numbered_length m n (w ∷ words) =
     )
 
 -- and there are no more than letters
-pub entries_few : (m : Minima) (words : List Word) (listed : ℕ → ℕ → Option Bool) (entries : List WordPosition) → positions_in m words ≤ sum_by letter_count words
+pub entries_few : (m : Minima) (words : List Word) (listed : ℕ → ℕ → Option Bool) (entries : List WordPosition) → number_of_positions m words ≤ sum_by letter_count words
     → entries ≡ flat_map (open_with listed) (numbered_positions m 0 words) → length entries ≤ sum_by letter_count words
 entries_few m words listed entries reached are =
     omega (arith, ap (λ (es : List WordPosition). length es) are, few_open listed (numbered_positions m 0 words), numbered_length m 0 words)

@@ -19,7 +19,7 @@ use Rattle.pg_driver.specs.Inside.records.AccountLines.{pass_line}
 use Rattle.pg_driver.specs.Inside.choices.Choosing.{HasChosen, candidate_of, no_choices, with_candidates}
 use Rattle.pg_driver.specs.Inside.counting.Counting.{meaning_after_counting}
 use Rattle.pg_driver.specs.Inside.level.States.{DidPass, made_by, state_of, state_after}
-use Rattle.pg_driver.specs.Inside.records.RunAccounts.{layout_of_pass, line_of}
+use Rattle.pg_driver.specs.Inside.records.RunAccounts.{pass_record_layout, line_of}
 use Rattle.pg_driver.specs.Traces.{PassTrace, Source, source_of}
 use Rattle.pg_driver.specs.Inside.choices.Fates.{chosen_of, hopeless_of}
 use Rattle.pg_driver.proofs.ChoiceSteps.{state_with}
@@ -86,7 +86,7 @@ some_layout : (pass : Pass) (o : Option Families) (l : Layout) → MatchOption o
 some_layout pass None l is = absurd is
 some_layout pass (Some fs) l is = λ i. told pass (is.0 i) (is.1 i)
 
-layout_is : (pass : Pass) (before : Totals) (n : Choices) (m : Meaning) (o : Option Layout) → IsLayout m o → layout_of_pass (record_with pass before n o)
+layout_is : (pass : Pass) (before : Totals) (n : Choices) (m : Meaning) (o : Option Layout) → IsLayout m o → pass_record_layout (record_with pass before n o)
     ≡ option_map (λ fs. (pass, taken_count fs, top fs)) m.families
 layout_is pass before n m None is = ap (option_map (λ fs. (pass, taken_count fs, top fs))) (sym is)
 layout_is pass before n m (Some l) is = some_layout pass m.families l is.0

@@ -11,7 +11,7 @@ use Rattle.pg_driver.specs.Inside.records.AccountLines.{PassLine, begun_among, c
 use Rattle.pg_driver.specs.Layouts.{after_pass}
 use Rattle.pg_driver.specs.Inside.level.Levels.{AreRecorded, layouts_in}
 use Rattle.pg_driver.specs.Inside.records.Sound.{RunRecords, with_pass}
-use Rattle.pg_driver.specs.Inside.records.RunAccounts.{layout_of_pass, line_of}
+use Rattle.pg_driver.specs.Inside.records.RunAccounts.{pass_record_layout, line_of}
 use Rattle.pg_driver.specs.Traces.{PassTrace, Source, chosen_in}
 use Rattle.pg_driver.specs.Inside.choices.Fates.{chosen_of}
 use Rattle.pg_driver.proofs.Numbers.{plus_zero}
@@ -23,7 +23,7 @@ push_if f false xs a os ys y before is = before ∙ ap (λ zs. os ++ zs) (sym (a
 
 -- a pass that was recorded
 pub recorded_pass : (source : Source) (signs : ℕ) (families : Option Families) (ps : List PassTrace) (q : PassTrace) (old mid new : RunRecords) (r : PassRecord)
-    → line_of r ≡ pass_line source q → layout_of_pass r ≡ option_map (λ fs. (q.pass, taken_count fs, top fs)) (option_map (λ fs. fold (after_pass signs) fs (ps ++ q ∷ [])) families)
+    → line_of r ≡ pass_line source q → pass_record_layout r ≡ option_map (λ fs. (q.pass, taken_count fs, top fs)) (option_map (λ fs. fold (after_pass signs) fs (ps ++ q ∷ [])) families)
     → new ≡ with_pass mid r → list_all (λ p. nat_le p.pass.len q.pass.len) ps ≡ true → is_skippable ps q.pass ≡ false
     → AreRecorded source signs families ps old mid → AreRecorded source signs families (ps ++ q ∷ []) old new
 recorded_pass source signs families ps q old mid new r line layout is short begun before =
@@ -36,9 +36,9 @@ recorded_pass source signs families ps q old mid new r line layout is short begu
           ∙ push_if line_of b mid.passes r (map line_of old.passes) (map (pass_line source) (filter has_candidate ps)) (pass_line source q) before.lines line
           ∙ ap (λ ls. map line_of old.passes ++ ls) (sym (filter_push (pass_line source) has_candidate ps q));
       layouts =
-          ap (map layout_of_pass) own
-          ∙ push_if layout_of_pass b mid.passes r (map layout_of_pass old.passes) (layouts_in signs families ps) _ before.layouts layout
-          ∙ ap (λ ls. map layout_of_pass old.passes ++ ls) (sym (layouts_push signs families ps q));
+          ap (map pass_record_layout) own
+          ∙ push_if pass_record_layout b mid.passes r (map pass_record_layout old.passes) (layouts_in signs families ps) _ before.layouts layout
+          ∙ ap (λ ls. map pass_record_layout old.passes ++ ls) (sym (layouts_push signs families ps q));
       chosen =
           ap (λ (x : RunRecords). x.chosen) is
           ∙ ap (λ (l : PassLine). mid.chosen + l.chosen) line
@@ -68,9 +68,9 @@ recorded_none source signs families ps q old new none short begun before =
           none_more (map line_of new.passes) (map line_of old.passes) (map (pass_line source) (filter has_candidate ps)) _ before.lines (ap (λ b. cond b (pass_line source q ∷ []) []) no)
           ∙ ap (λ ls. map line_of old.passes ++ ls) (sym (filter_push (pass_line source) has_candidate ps q));
       layouts =
-          none_more (map layout_of_pass new.passes) (map layout_of_pass old.passes) (layouts_in signs families ps) _ before.layouts
+          none_more (map pass_record_layout new.passes) (map pass_record_layout old.passes) (layouts_in signs families ps) _ before.layouts
           (ap (λ b. cond b (option_map (λ fs. (q.pass, taken_count fs, top fs)) (option_map (λ fs. fold (after_pass signs) fs (ps ++ q ∷ [])) families) ∷ []) []) no)
-          ∙ ap (λ ls. map layout_of_pass old.passes ++ ls) (sym (layouts_push signs families ps q));
+          ∙ ap (λ ls. map pass_record_layout old.passes ++ ls) (sym (layouts_push signs families ps q));
       chosen =
           before.chosen
           ∙ ap (λ n. old.chosen + n) (sym (plus_zero (chosen_by ps)))

@@ -17,7 +17,7 @@ use Rattle.pg_driver.specs.Inside.records.AccountLines.{account}
 use Rattle.pg_driver.specs.Inside.records.CellsAccounts.{cells_account, layout_of}
 use Rattle.pg_driver.specs.Inside.level.Levels.{DidRun, level_layouts, run_layouts}
 use Rattle.pg_driver.specs.Inside.records.Sound.{CompletedRun, RunRecords}
-use Rattle.pg_driver.specs.Inside.records.RunAccounts.{TellsCells, account_of, layout_of_pass, layout_of_level}
+use Rattle.pg_driver.specs.Inside.records.RunAccounts.{TellsCells, account_of, pass_record_layout, level_record_layout}
 use Rattle.pg_driver.specs.Traces.{LevelTrace, Source, Trace, final_patterns}
 
 none_mapped : {A B : Type 0} (f : A → B) (o : Option A) → option_map f o ≡ None → o ≡ None
@@ -55,8 +55,8 @@ module _ (source : Source) (run : Trace) (m n : Meaning) (r : RunRecords) (P : P
       let sum : totals ≡ totals_by source (final_patterns m.patterns run) = sums ∙ ap (λ s. totals_by source s.known.patterns) did.state in
       λ i. record { passes = did.lines i; levels = did.levels i; totals = sum i }
 
-  cells_told : (o : Option Families) → first ≡ option_map (λ fs. layout_of fs m.patterns) o → map layout_of_pass r.passes ≡ run_layouts m.signs o run
-      → map layout_of_level r.levels ≡ level_layouts m.signs o run
+  cells_told : (o : Option Families) → first ≡ option_map (λ fs. layout_of fs m.patterns) o → map pass_record_layout r.passes ≡ run_layouts m.signs o run
+      → map level_record_layout r.levels ≡ level_layouts m.signs o run
       → TellsCells (option_map (λ fs. cells_account m.signs fs m.patterns run) o) told_run
   cells_told None start passes levels =
       let in_pass : PassRecord → Layout → Pass × ℕ × ℕ = λ r l. (record { level = r.level; len = r.len; dot = r.dot }, l.taken, l.top) in

@@ -19,7 +19,7 @@ use Rattle.pg_driver.specs.Accounts.{has_candidate, totals_by}
 use Rattle.pg_driver.specs.Inside.records.AccountLines.{LevelLine, begun_among, chosen_by, level_line, pass_line, pass_lines}
 use Rattle.pg_driver.specs.Layouts.{after_pass, after_level, strings_in}
 use Rattle.pg_driver.specs.Inside.records.CellsAccounts.{layout_of, level_layout, levels_with_families, pass_layouts}
-use Rattle.pg_driver.specs.Inside.records.RunAccounts.{known_of, layout_of_pass, layout_of_level, level_line_of, line_of}
+use Rattle.pg_driver.specs.Inside.records.RunAccounts.{known_of, pass_record_layout, level_record_layout, level_line_of, line_of}
 use Rattle.pg_driver.specs.Inside.level.Levels.{AreRecorded, DidLevel, DidRun, all_made_by, layouts_in, level_layouts, run_layouts}
 use Rattle.pg_driver.specs.Inside.records.Sound.{RunRecords, with_level}
 use Rattle.pg_driver.specs.Inside.level.States.{State, state_at_end, state_of}
@@ -100,12 +100,12 @@ module _ (source : Source) (number : ℕ) (params : LevelParams) (m0 m n : Meani
       record {
         state = λ i. record { known = record { patterns = after i; hopeless = hopeless i }; families = families i };
         lines = ap (map line_of) kept_passes ∙ records.lines ∙ ap (λ (ps : List PassTrace). map line_of r0.passes ++ map (pass_line source) (filter has_candidate ps)) same_passes;
-        layouts = ap (map layout_of_pass) kept_passes ∙ records.layouts ∙ ap (λ (ps : List PassTrace). map layout_of_pass r0.passes ++ layouts_in m0.signs m0.families ps) same_passes;
+        layouts = ap (map pass_record_layout) kept_passes ∙ records.layouts ∙ ap (λ (ps : List PassTrace). map pass_record_layout r0.passes ++ layouts_in m0.signs m0.families ps) same_passes;
         levels = ap (map level_line_of) own ∙ map_push level_line_of r.levels own_record ∙ ap (λ (ls : List LevelRecord). map level_line_of ls ++ level_line_of own_record ∷ []) records.levels
             ∙ ap (λ (x : LevelLine). map level_line_of r0.levels ++ x ∷ []) line;
-        level_layouts = ap (map layout_of_level) own ∙ map_push layout_of_level r.levels own_record
-            ∙ ap (λ (ls : List LevelRecord). map layout_of_level ls ++ option_map {U = ℕ × Layout} (λ l. (number, l)) layout ∷ []) records.levels
-            ∙ ap (λ (x : Option (ℕ × Layout)). map layout_of_level r0.levels ++ x ∷ []) laid;
+        level_layouts = ap (map level_record_layout) own ∙ map_push level_record_layout r.levels own_record
+            ∙ ap (λ (ls : List LevelRecord). map level_record_layout ls ++ option_map {U = ℕ × Layout} (λ l. (number, l)) layout ∷ []) records.levels
+            ∙ ap (λ (x : Option (ℕ × Layout)). map level_record_layout r0.levels ++ x ∷ []) laid;
         begun = ap (λ (x : RunRecords). x.begun) is ∙ records.begun ∙ ap (λ (ps : List PassTrace). r0.begun + length (begun_among ps)) same_passes;
       }
 
@@ -199,9 +199,9 @@ pub run_begins : (source : Source) (m : Meaning) (r : RunRecords) → m.hopeless
 run_begins source m r none is = record {
   state = λ i. record { known = record { patterns = m.patterns; hopeless = none i }; families = none_yet m.signs m.families i };
   lines = ap (λ (x : RunRecords). map line_of x.passes) is;
-  layouts = ap (λ (x : RunRecords). map layout_of_pass x.passes) is ∙ no_layouts m.signs m.families;
+  layouts = ap (λ (x : RunRecords). map pass_record_layout x.passes) is ∙ no_layouts m.signs m.families;
   levels = ap (λ (x : RunRecords). map level_line_of x.levels) is;
-  level_layouts = ap (λ (x : RunRecords). map layout_of_level x.levels) is ∙ no_level_layouts m.signs m.families;
+  level_layouts = ap (λ (x : RunRecords). map level_record_layout x.levels) is ∙ no_level_layouts m.signs m.families;
   begun = ap (λ (x : RunRecords). x.begun) is;
 }
   where

@@ -3,7 +3,7 @@ use Rattle.std.proofs.Common.{◌≡◌, ℕ, zero, suc, ◌+◌, ◌≤◌, ◌
 use Rattle.std.proofs.lemmas.Bool.Decides.{nat_tests}
 use Rattle.pg_types.specs.declared.parameters.LevelParams.{LevelParams}
 use Rattle.pg_driver.specs.Inside.records.AccountLines.{is_skippable, left_none}
-use Rattle.pg_driver.specs.Inside.level.Levels.{SkipFlags, Tells, is_set, no_flags}
+use Rattle.pg_driver.specs.Inside.level.Levels.{SkipFlags, TellSkippable, is_set, no_flags}
 use Rattle.pg_driver.specs.Traces.{Knowledge, PassTrace, Source, pass_trace}
 use Rattle.pg_driver.proofs.TraceSteps.{skippable_push}
 
@@ -16,7 +16,7 @@ pub none_set : (flags : List Bool) (dot : ℕ) → flags ≡ no_flags → is_set
 none_set flags dot is = ap (λ (fs : List Bool). is_set fs dot) is ∙ unset_at 17 dot
 
 -- where a level begins
-pub tells_none : (number len : ℕ) (flags : SkipFlags) → flags.here ≡ no_flags → flags.longer ≡ no_flags → Tells number len flags []
+pub tells_none : (number len : ℕ) (flags : SkipFlags) → flags.here ≡ no_flags → flags.longer ≡ no_flags → TellSkippable number len flags []
 tells_none number len flags here longer = record {
   here = λ dot. sym (none_set flags.here dot here);
   longer = λ dot. sym (none_set flags.longer dot longer);
@@ -44,9 +44,9 @@ abbrev pub Follows : ℕ → Bool → SkipFlags → SkipFlags → Type 0
 Follows dot b old new = (d : ℕ) → is_set new.longer d ≡ (b && (dot == d || dot + 1 == d) || is_set old.longer d)
 
 -- after a pass of the length
-pub tells_more : (number len dot : ℕ) (source : Source) (params : LevelParams) (known : Knowledge) (old new : SkipFlags) (ps : List PassTrace) → Tells number len old ps → new.here ≡ old.here
+pub tells_more : (number len dot : ℕ) (source : Source) (params : LevelParams) (known : Knowledge) (old new : SkipFlags) (ps : List PassTrace) → TellSkippable number len old ps → new.here ≡ old.here
     → Follows dot (left_none (pass_trace source params known (record { level = number; len = len; dot = dot }))) old new
-    → Tells number len new (ps ++ pass_trace source params known (record { level = number; len = len; dot = dot }) ∷ [])
+    → TellSkippable number len new (ps ++ pass_trace source params known (record { level = number; len = len; dot = dot }) ∷ [])
 tells_more number len dot source params known old new ps tells here longer =
     let q : PassTrace = pass_trace source params known (record { level = number; len = len; dot = dot }) in
     let b : Bool = left_none q in
@@ -68,7 +68,7 @@ tells_more number len dot source params known old new ps tells here longer =
     }
 
 -- at the next length
-pub tells_next : (number len : ℕ) (old new : SkipFlags) (ps : List PassTrace) → Tells number len old ps → new.here ≡ old.longer → new.longer ≡ no_flags → Tells number (len + 1) new ps
+pub tells_next : (number len : ℕ) (old new : SkipFlags) (ps : List PassTrace) → TellSkippable number len old ps → new.here ≡ old.longer → new.longer ≡ no_flags → TellSkippable number (len + 1) new ps
 tells_next number len old new ps tells here longer = record {
   here = λ dot. tells.longer dot ∙ ap (λ (fs : List Bool). is_set fs dot) (sym here);
   longer = λ dot. tells.beyond (len + 1 + 1) dot (omega arith) ∙ sym (none_set new.longer dot longer);

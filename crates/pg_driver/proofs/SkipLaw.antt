@@ -14,7 +14,7 @@ use Rattle.pg_select.proofs.LawsLater.{nothing_later}
 use Rattle.pg_select.proofs.LawsLonger.{nothing_behind, nothing_before}
 use Rattle.pg_select.proofs.LawsNothing.{nothing_counts_after, later_after_pass}
 use Rattle.pg_driver.specs.Inside.records.AccountLines.{is_skippable, left_none}
-use Rattle.pg_driver.specs.Inside.level.Levels.{CountNothing}
+use Rattle.pg_driver.specs.Inside.level.Levels.{SkippableCountNothing}
 use Rattle.pg_driver.specs.Traces.{Knowledge, PassTrace, Source, is_chosen, is_hopeless, is_entered, known_after, pass_trace}
 use Rattle.pg_driver.specs.Inside.choices.Fates.{chosen_of, hopeless_of}
 use Rattle.pg_driver.proofs.FateLaws.{by_fate}
@@ -50,8 +50,8 @@ module _ (m : Minima) (words : List Word) (P : Patterns) (H : Hopeless) where
       (or_cases (d == dot) (d + 1 == dot) parts.1)
 
 -- each pass that can be skipped counts nothing, after a pass too
-pub closed_on : (source : Source) (params : LevelParams) (number l d : ℕ) (known : Knowledge) (ps : List PassTrace) → CountNothing source number ps known
-    → CountNothing source number (ps ++ pass_trace source params known (record { level = number; len = l; dot = d }) ∷ [])
+pub closed_on : (source : Source) (params : LevelParams) (number l d : ℕ) (known : Knowledge) (ps : List PassTrace) → SkippableCountNothing source number ps known
+    → SkippableCountNothing source number (ps ++ pass_trace source params known (record { level = number; len = l; dot = d }) ∷ [])
     (known_after (pass_trace source params known (record { level = number; len = l; dot = d })))
 closed_on source params number l d known ps closed len dot is =
     let pass : Pass = record { level = number; len = l; dot = d } in
@@ -72,7 +72,7 @@ closed_on source params number l d known ps closed len dot is =
     (sym (skippable_push ps q (record { level = number; len = len; dot = dot })) ∙ is))
 
 -- so it has no candidate
-pub skipped_none : (source : Source) (params : LevelParams) (number len dot : ℕ) (known : Knowledge) (ps : List PassTrace) → CountNothing source number ps known
+pub skipped_none : (source : Source) (params : LevelParams) (number len dot : ℕ) (known : Knowledge) (ps : List PassTrace) → SkippableCountNothing source number ps known
     → is_skippable ps (record { level = number; len = len; dot = dot }) ≡ true
     → (pass_trace source params known (record { level = number; len = len; dot = dot })).candidates ≡ []
 skipped_none source params number len dot known ps closed is = ap with_sums (closed len dot is)

@@ -5,7 +5,7 @@ use Rattle.std.proofs.lemmas.List.Sums.{fold-append}
 use Rattle.pg_dict.specs.Word.{Word}
 use Rattle.pg_dict.specs.Inside.SoundWords.{IsWord}
 use Rattle.pg_types.specs.Inside.counting.Counts.{Counts}
-use Rattle.pg_types.specs.Inside.counting.NumberedWindows.{Windows, with_window}
+use Rattle.pg_types.specs.Inside.counting.NumberedWindows.{Windows, with_next_window}
 use Rattle.pg_patterns.specs.Values.{Patterns, value_at}
 use Rattle.pg_select.specs.Inside.engine.Meanings.{Meaning, with_position}
 use Rattle.pg_select.specs.Inside.words.Positions.{Positions}
@@ -24,7 +24,7 @@ KeepsButCounts old new = new ≡ record old { counts = new.counts; windows = new
 
 windows_append : (ws : Windows) (counts : Counts) (a b : List CountedPosition) → windows_after ws counts (a ++ b) ≡ windows_after (windows_after ws counts a) (fold with_position counts a) b
 windows_append ws counts [] b = refl
-windows_append ws counts (s ∷ a) b = windows_append (with_window ws counts s.window) (with_position counts s) a b
+windows_append ws counts (s ∷ a) b = windows_append (with_next_window ws counts s.window) (with_position counts s) a b
 
 -- some counted positions, and then others
 pub counting_append : (m : Meaning) (a b : List CountedPosition) → meaning_after_counting m (a ++ b) ≡ meaning_after_counting (meaning_after_counting m a) b

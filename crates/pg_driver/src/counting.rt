@@ -4,7 +4,7 @@ ghost use Rattle.pg_types.specs.Inside.counting.NumberedWindows.{AreNumbered};
 ghost use Rattle.pg_dict.specs.Inside.SoundWords.{SignsAtMost};
 ghost use Rattle.pg_select.specs.Inside.laws.Steps.{IsBelow};
 ghost use Rattle.pg_driver.specs.declared.pass_windows.TheConstants.{NO_NUMBER};
-ghost use Rattle.pg_driver.specs.Inside.counting.LevelCounting.{AreNumberedIn, ArePlaced, CanGoOn, DidCount, GoesOnAfter, HasEnded, IsCounted, IsOverOpen, IsReady, totals_in};
+ghost use Rattle.pg_driver.specs.Inside.counting.LevelCounting.{AreNumberedIn, ArePlaced, CanGoOn, DidCount, GoesOnAfter, HasEnded, IsCounted, IsOverOpen, IsReady, totals_carried};
 ghost use Rattle.pg_driver.specs.Inside.level.PassWindows.{AreFates};
 ghost use Rattle.pg_driver.specs.Inside.level.States.{HasBegun, IsPass};
 ghost use Rattle.pg_driver.specs.Inside.records.RunAccounts.{known_of};
@@ -194,7 +194,7 @@ impl WayToCount {
 
     /// The totals that are carried. No word is hyphenated for them.
     pub fn totals(&self) -> Totals
-        ensures { result ≡ totals_in self.now }
+        ensures { result ≡ totals_carried self.now }
     {
         match self {
             WayToCount::Open(open) => open.totals,

@@ -10,7 +10,7 @@ use Rattle.pg_select.specs.Windows.{window, fits, is_covered}
 use Rattle.pg_select.specs.Inside.words.Within.{is_within}
 use Rattle.pg_trie.specs.declared.hopeless.TheConstants.{HOPELESS}
 use Rattle.pg_trie.specs.Inside.Lists.{outputs_at}
-use Rattle.pg_trie.specs.Inside.Maps.{Maps, AreKept, is_dotted}
+use Rattle.pg_trie.specs.Inside.Maps.{Maps, AreMaps, is_dotted}
 use Rattle.pg_select.specs.declared.pass.Pass.{Pass}
 use Rattle.pg_select.specs.Inside.words.Positions.{bit, Raises}
 use Rattle.pg_select.proofs.Bits.{same_bits}
@@ -63,7 +63,7 @@ bit_one : (b : Bool) → b ≡ true → 1 ≤ bit b
 bit_one true is = omega arith
 bit_one false is = cc
 
-module _ (m : Maps) (kept : AreKept m) where
+module _ (m : Maps) (kept : AreMaps m) where
   abbrev lists : List ℕ → List (ℕ × ℕ)
   lists = outputs_at m.patterns m.hopeless
 
@@ -157,7 +157,7 @@ module _ (m : Maps) (kept : AreKept m) where
 from_zero : (x y n : ℕ) → x ≡ 0 → y ≡ max x n → y ≡ n
 from_zero x y n p q = omega arith
 
-module _ (m : Maps) (kept : AreKept m) (w : List ℕ) (long : length w ≤ WORD_LETTERS_MAX + 2) where
+module _ (m : Maps) (kept : AreMaps m) (w : List ℕ) (long : length w ≤ WORD_LETTERS_MAX + 2) where
   -- the values of a word, raised from 0 by the lists
   pub values_end : (x y : List ℕ) → x ≡ replicate (WORD_LETTERS_MAX + 2) 0 → Raises (by_starts value_by (outputs_at m.patterns m.hopeless) 0 w) (λ p. get_or x p 0) (λ p. get_or y p 0)
       → (p : ℕ) → p < length w → get_or y p 0 ≡ value_at m.patterns w p

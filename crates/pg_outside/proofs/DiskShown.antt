@@ -11,11 +11,11 @@ use Rattle.std.proofs.lemmas.Grind.{common_steps}
 use Rattle.std.proofs.lemmas.Map.Text.{is_eq-slice_cmp}
 use Rattle.std.proofs.lemmas.Slice.Eq.{bytes_eq-Decides}
 use Rattle.pg_outside.specs.Content.{FileMap, KeepsHeld, file_at}
-use Rattle.pg_outside.specs.Inside.ToldFiles.{IsFile, IsFileCut, IsCut, WasWritten, WasPartWritten}
+use Rattle.pg_outside.specs.Inside.ToldFiles.{IsFile, IsFileCut, IsTooLong, WasWritten, WasPartWritten}
 use Rattle.pg_outside.specs.Inside.disk.Disks.{Node, Disk, DiskHistory, Links, KeepsDisk, HoldsNow, HasNoLinks, KnowsPlain, id_at, node_at, node_of}
 use Rattle.pg_outside.specs.Inside.disk.Moments.{RunsCalls, IsWritten, IsSame, HasRest}
 use Rattle.pg_outside.specs.Inside.disk.Writes.{IsPlain, IsContent, IsContentCut, AfterWrite, AfterFailure, mode_at}
-use Rattle.pg_outside.specs.Inside.disk.WhatDiskShows.{bytes_of, file_map, has_none, is_shown, held_of}
+use Rattle.pg_outside.specs.Inside.disk.WhatDiskShows.{bytes_of, file_map, has_none, tells_files, held_of}
 use Rattle.pg_outside.specs.declared.disk.system.FileId.{FileId}
 
 find_map : (g : FileId → List ℕ) (es : List (List ℕ × FileId)) (q : List ℕ) → fin.find (slice_cmp nat_cmp) q (map (λ e. (e.0, g e.1)) es) ≡ option_map g (fin.find (slice_cmp nat_cmp) q es)
@@ -87,12 +87,12 @@ shown_plain : (b c : Bool) → (b && c) ≡ true → b ≡ true
 shown_plain true c e = refl
 shown_plain false c e = e
 
-links_plain : (a b : Disk) → b.links ≡ a.links → is_shown b ≡ true → (b.links.is_plain ≡ true) × (a.links.is_plain ≡ true)
+links_plain : (a b : Disk) → b.links ≡ a.links → tells_files b ≡ true → (b.links.is_plain ≡ true) × (a.links.is_plain ≡ true)
 links_plain a b links shown =
     let plain = shown_plain b.links.is_plain (has_none b.refused) shown in
     (plain, sym (ap (λ (l : Links). l.is_plain) links) ∙ plain)
 
-shown_same : (a b : Disk) → b.links ≡ a.links → b.refused ≡ a.refused → is_shown b ≡ is_shown a
+shown_same : (a b : Disk) → b.links ≡ a.links → b.refused ≡ a.refused → tells_files b ≡ tells_files a
 shown_same a b links refused = ap (λ (l : Links). l.is_plain && has_none b.refused) links ∙ ap (λ (names : List (List ℕ)). a.links.is_plain && has_none names) refused
 
 -- where the later is shown
@@ -106,7 +106,7 @@ was_part sa false name bytes a b is = tt
 was_part true true name bytes a b is = let i = is refl in inl i.1
 was_part false true name bytes a b is = let i = is refl in absurd (false≢true i.0)
 
-not_shown : (d : Disk) (name : List ℕ) (names : List (List ℕ)) → d.refused ≡ name ∷ names → is_shown d ≡ false
+not_shown : (d : Disk) (name : List ℕ) (names : List (List ℕ)) → d.refused ≡ name ∷ names → tells_files d ≡ false
 not_shown d name names is = ap (λ (l : List (List ℕ)). d.links.is_plain && has_none l) is ∙ and_false d.links.is_plain
   where
     and_false : (b : Bool) → (b && false) ≡ false
@@ -114,7 +114,7 @@ not_shown d name names is = ap (λ (l : List (List ℕ)). d.links.is_plain && ha
     and_false false = refl
 
 written_shown : (name bytes : List ℕ) (before kept : List FileId) (a b : Disk) → KnowsPlain a → KnowsPlain b → AfterWrite name bytes before kept a b
-    → is_shown b ≡ true → (is_shown a ≡ true) × (file_map b ≡ fin.insert (file_map a) name bytes)
+    → tells_files b ≡ true → (tells_files a ≡ true) × (file_map b ≡ fin.insert (file_map a) name bytes)
 written_shown name bytes before kept a b ka kb after shown =
     let plain = links_plain a b after.links shown in
     let no_a = ka plain.1 in
@@ -125,10 +125,10 @@ pub written_held : (P : Disk → Disk → Type 0) (name bytes : List ℕ) (befor
     → RunsCalls a b P (AfterWrite name bytes before kept) → WasWritten (held_of a) (held_of b) name bytes
 written_held P name bytes before kept a None ka kb run = tt
 written_held P name bytes before kept None (Some b) ka kb run = absurd run
-written_held P name bytes before kept (Some a) (Some b) ka kb run = was_written (is_shown a.now) (is_shown b.now) name bytes (file_map a.now) (file_map b.now)
+written_held P name bytes before kept (Some a) (Some b) ka kb run = was_written (tells_files a.now) (tells_files b.now) name bytes (file_map a.now) (file_map b.now)
     (written_shown name bytes before kept a.now b.now ka kb run.end)
 
-failed_shown : (name bytes : List ℕ) (a b : Disk) → KnowsPlain a → KnowsPlain b → AfterFailure name bytes a b → is_shown b ≡ true → (is_shown a ≡ true) × (file_map b ≡ file_map a)
+failed_shown : (name bytes : List ℕ) (a b : Disk) → KnowsPlain a → KnowsPlain b → AfterFailure name bytes a b → tells_files b ≡ true → (tells_files a ≡ true) × (file_map b ≡ file_map a)
 failed_shown name bytes a b ka kb after shown =
     let plain = links_plain a b after.links shown in
     let no_a = ka plain.1 in
@@ -141,7 +141,7 @@ pub failed_held : (P : Disk → Disk → Type 0) (name bytes : List ℕ) (a b : 
     → WasPartWritten (held_of a) (held_of b) name bytes
 failed_held P name bytes a None ka kb run = tt
 failed_held P name bytes None (Some b) ka kb run = absurd run
-failed_held P name bytes (Some a) (Some b) ka kb run = was_part (is_shown a.now) (is_shown b.now) name bytes (file_map a.now) (file_map b.now) (failed_shown name bytes a.now b.now ka kb run.end)
+failed_held P name bytes (Some a) (Some b) ka kb run = was_part (tells_files a.now) (tells_files b.now) name bytes (file_map a.now) (file_map b.now) (failed_shown name bytes a.now b.now ka kb run.end)
 
 kept_where : (held : Option FileMap) → KeepsHeld held held
 kept_where None = tt
@@ -157,17 +157,17 @@ file_where false m name bytes is = tt
 
 pub read_held : (name bytes : List ℕ) (a : Option DiskHistory) → HoldsNow a KnowsPlain → HoldsNow a (IsContent name bytes) → IsFile (held_of a) name bytes
 read_held name bytes None ka content = tt
-read_held name bytes (Some a) ka content = file_where (is_shown a.now) (file_map a.now) name bytes (λ shown.
+read_held name bytes (Some a) ka content = file_where (tells_files a.now) (file_map a.now) name bytes (λ shown.
     held_node a.now name (ka (shown_plain a.now.links.is_plain (has_none a.now.refused) shown)) ∙ ap (λ (o : Option Node). option_map (λ node. node.bytes) o) content.there
     ∙ ap (λ (l : List ℕ). Some l) (sym content.all))
 
-cut_where : (s : Bool) (m : FileMap) (name : List ℕ) (limit : ℕ) (front : List ℕ) → (s ≡ true → IsCut (file_at m name) limit front) → IsFileCut (cond s (Some m) None) name limit front
+cut_where : (s : Bool) (m : FileMap) (name : List ℕ) (limit : ℕ) (front : List ℕ) → (s ≡ true → IsTooLong (file_at m name) limit front) → IsFileCut (cond s (Some m) None) name limit front
 cut_where true m name limit front is = is refl
 cut_where false m name limit front is = tt
 
 pub cut_held : (name : List ℕ) (limit : ℕ) (front : List ℕ) (a : Option DiskHistory) → HoldsNow a KnowsPlain → HoldsNow a (IsContentCut name limit front) → IsFileCut (held_of a) name limit front
 cut_held name limit front None ka content = tt
-cut_held name limit front (Some a) ka content = cut_where (is_shown a.now) (file_map a.now) name limit front (λ shown.
-    subst (λ (o : Option (List ℕ)). IsCut o limit front)
+cut_held name limit front (Some a) ka content = cut_where (tells_files a.now) (file_map a.now) name limit front (λ shown.
+    subst (λ (o : Option (List ℕ)). IsTooLong o limit front)
     (sym (held_node a.now name (ka (shown_plain a.now.links.is_plain (has_none a.now.refused) shown)) ∙ ap (λ (o : Option Node). option_map (λ node. node.bytes) o) content.there))
     (content.longer, content.front))

@@ -3,7 +3,7 @@ use Rattle.std.proofs.Common.{◌≡◌, ◌⊎◌, inl, inr, ⊎_elim, ◌+◌,
 use Rattle.std.specs.Fmt.{decimal}
 use Rattle.std.proofs.lemmas.Bool.{cases_lt}
 use Rattle.std.proofs.lemmas.Grind.{common_steps}
-use Rattle.pg_outside.specs.Inside.disk.Disks.{Disk, DiskHistory, KeepsDisk, HoldsNow, IsTaken}
+use Rattle.pg_outside.specs.Inside.disk.Disks.{Disk, DiskHistory, KeepsDisk, HoldsNow, IsNameTaken}
 use Rattle.pg_outside.specs.Inside.disk.Writes.{AreAllTaken}
 use Rattle.pg_outside.specs.Inside.disk.NewNames.{IsFolderOf, new_name}
 use Rattle.pg_outside.proofs.Runs.{keeps_self, keeps_now, now_weaker, now_always}
@@ -14,7 +14,7 @@ is_named own folder counted is = grind (arith, common_steps, is)
 
 -- the name is taken, or is the one whose place is to be taken
 abbrev pub IsTried : List ℕ → List ℕ → ℕ → Disk → Type 0
-IsTried folder name counted disk = IsTaken (new_name folder counted) disk ⊎ (name ≡ new_name folder counted)
+IsTried folder name counted disk = IsNameTaken (new_name folder counted) disk ⊎ (name ≡ new_name folder counted)
 
 -- each name so far was tried
 pub record HasTried (told : Option DiskHistory) (folder name : List ℕ) (tried : ℕ) : Type 0 where
@@ -39,9 +39,9 @@ pub skipped : (a : Option DiskHistory) (folder name : List ℕ) (tried next : �
 skipped a folder name tried next is so_far same = one_more a a folder name tried next (keeps_self a) is so_far (now_always (IsTried folder name tried) a (λ d. inr (sym same)))
 
 pub taken : (a b : Option DiskHistory) (own folder name : List ℕ) (tried next : ℕ) → KeepsDisk a b → next ≡ tried + 1 → own ≡ new_name folder tried
-    → HasTried a folder name tried → HoldsNow b (IsTaken own) → HasTried b folder name next
+    → HasTried a folder name tried → HoldsNow b (IsNameTaken own) → HasTried b folder name next
 taken a b own folder name tried next ab is named so_far is_taken = one_more a b folder name tried next ab is so_far
-    (now_weaker _ _ b (subst (λ (n : List ℕ). HoldsNow b (IsTaken n)) named is_taken) (λ d t. inl t))
+    (now_weaker _ _ b (subst (λ (n : List ℕ). HoldsNow b (IsNameTaken n)) named is_taken) (λ d t. inl t))
 
 below_all : (m n : ℕ) → m < 1000 → 1000 ≤ n → m < n
 below_all m n below all = omega arith

@@ -7,7 +7,7 @@ use Rattle.std.specs.List.{All, list_all}
 use Rattle.pg_types.specs.declared.limits.TheConstants.{EDGE, PATTERN_SIGNS_MAX}
 use Rattle.pg_types.specs.declared.refusals.Refusal.{Refusal}
 use Rattle.pg_types.specs.Lines.{lines}
-use Rattle.pg_types.specs.Reading.{unless}
+use Rattle.pg_types.specs.ValuesOrRefusals.{unless}
 use Rattle.pg_types.specs.Inside.reading.Parts.{both_parts}
 use Rattle.pg_types.specs.Inside.Signs.{is_sign}
 use Rattle.pg_translate.specs.declared.items.Place.TheVariants.{Patterns}
@@ -17,7 +17,7 @@ use Rattle.pg_translate.specs.Cuts.{cut, tokens_of}
 use Rattle.pg_patterns.specs.Inside.PatternMaps.{SignsUpTo, is_entry}
 use Rattle.pg_translate.specs.Gaps.{signs_of}
 use Rattle.pg_translate.specs.LineRefusals.{line_refusal}
-use Rattle.pg_patterns.specs.Inside.EntryLines.{digit_at_dot, entry_at, entries_at, entries_of_items, entries_of_line, entries_from}
+use Rattle.pg_patterns.specs.Inside.EntryLines.{digit_at_dot, entry_at, entries_at, entries_of_items, entries_or_refusal, entries_from}
 use Rattle.pg_patterns.proofs.Running.{digits_from, digits_are}
 use Rattle.pg_patterns.specs.Inside.Drafts.{Draft, IsDraft, IsDotDigit, no_draft, all_digits, draft_with_sign, with_token, draft_entries, line_draft}
 use Rattle.pg_types.proofs.BoolFacts.{and_first, and_second}
@@ -61,12 +61,12 @@ unless_gives f None x d y is same = let one : d ≡ x = cc in ap Ok same ∙ ap 
 unless_gives f (Some s) x d y is same = cc
 
 -- where its draft is refused, a line is
-pub line_fails : (t : Alphabet) (line : ℕ) (text : List ℕ) (r : Refusal) → Err r ≡ line_draft t line text → entries_of_line t line text ≡ Err r
+pub line_fails : (t : Alphabet) (line : ℕ) (text : List ℕ) (r : Refusal) → Err r ≡ line_draft t line text → entries_or_refusal t line text ≡ Err r
 line_fails t line text r is =
     unless_fails (line_refusal Patterns line (cut t Patterns text)) (fold with_token no_draft (tokens_of (cut t Patterns text))) (entries_of_items (tokens_of (cut t Patterns text))) r is
 
 -- a line gives the entries of its draft
-pub line_gives : (t : Alphabet) (line : ℕ) (text : List ℕ) (d : Draft) → Ok d ≡ line_draft t line text → entries_of_line t line text ≡ Ok (draft_entries d)
+pub line_gives : (t : Alphabet) (line : ℕ) (text : List ℕ) (d : Draft) → Ok d ≡ line_draft t line text → entries_or_refusal t line text ≡ Ok (draft_entries d)
 line_gives t line text d is =
     unless_gives draft_entries (line_refusal Patterns line (cut t Patterns text)) (fold with_token no_draft (tokens_of (cut t Patterns text))) d
     (entries_of_items (tokens_of (cut t Patterns text))) is (entries_of_draft (tokens_of (cut t Patterns text)))

@@ -4,7 +4,7 @@ use Rattle.std.specs.List.{concat}
 use Rattle.pg_types.specs.declared.refusals.Kind.{Kind}
 use Rattle.pg_types.specs.declared.refusals.Kind.TheVariants.{PatternCharacter, PatternTooLong}
 use Rattle.pg_types.specs.declared.refusals.Refusal.{Refusal}
-use Rattle.pg_types.specs.Reading.{refusal_at}
+use Rattle.pg_types.specs.ValuesOrRefusals.{refusal_at}
 use Rattle.pg_translate.specs.Alphabets.{Alphabet}
 use Rattle.pg_patterns.specs.Values.{value_at}
 use Rattle.pg_patterns.specs.Starts.{start}

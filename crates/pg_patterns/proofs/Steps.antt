@@ -6,7 +6,7 @@ use Rattle.std.proofs.lemmas.List.Elements.{All-push, All-append, All-weaker, Al
 use Rattle.std.specs.List.{All}
 use Rattle.pg_types.specs.declared.limits.TheConstants.{PATTERN_SIGNS_MAX}
 use Rattle.pg_types.specs.declared.refusals.Kind.TheVariants.{PatternTooLong}
-use Rattle.pg_types.specs.Reading.{unless, refusal_at}
+use Rattle.pg_types.specs.ValuesOrRefusals.{unless, refusal_at}
 use Rattle.pg_translate.specs.declared.items.Place.TheVariants.{Patterns}
 use Rattle.pg_translate.specs.Alphabets.{Alphabet}
 use Rattle.pg_translate.specs.Tokens.{Token}

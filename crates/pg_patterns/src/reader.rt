@@ -4,7 +4,7 @@ ghost use Rattle.std.specs.List.{list_all};
 ghost use Rattle.pg_types.specs.Lines.{lines};
 ghost use Rattle.pg_types.specs.Inside.reading.Answers.{Gives};
 ghost use Rattle.pg_translate.specs.Alphabets.{letters_of};
-ghost use Rattle.pg_types.specs.Reading.{refusal_at};
+ghost use Rattle.pg_types.specs.ValuesOrRefusals.{refusal_at};
 ghost use Rattle.pg_patterns.specs.Inside.PatternMaps.{SignsUpTo, is_entry};
 ghost use Rattle.pg_patterns.specs.Inside.Drafts.{IsDraft, EndsWith, ReadsOn, draft_left, line_draft, draft_with_sign};
 ghost use Rattle.pg_patterns.specs.Inside.EntryLines.{entries_from};

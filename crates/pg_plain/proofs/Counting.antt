@@ -7,11 +7,11 @@ use Rattle.std.specs.Prelude.{slice_get}
 use Rattle.std.specs.FinMap.Entries.{find, put, is_sorted, length-put}
 use Rattle.std.specs.Cmp.Lexicographic.{nat_list_cmp_total}
 use Rattle.pg_types.specs.Inside.counting.Counts.{counted_sums, with_weight, with_count, is_counted}
-use Rattle.pg_types.specs.Inside.counting.NumberedWindows.{Windows, AreNumbered, AreInOrder, HasNumber, with_counted}
-use Rattle.pg_types.specs.Inside.counting.NumberedStrings.{Numbers, AreNumbers, by_number}
+use Rattle.pg_types.specs.Inside.counting.NumberedWindows.{Windows, AreNumbered, AreInOrder, HasNumber, with_window_counted}
+use Rattle.pg_types.specs.Inside.counting.NumberedStrings.{Numbers, AreOneToOne, by_number}
 use Rattle.pg_types.proofs.Numbering.{number_of, numbered_found, numbers_none, numbers_put, by_number_none, by_number_put, length_by_number, in_order}
 use Rattle.pg_types.proofs.StringEntries.{order, mapped, found_mapped, none_mapped, sorted_mapped, sorted_put, find_put_same, find_put_other, put_from}
-use Rattle.pg_plain.specs.Inside.PlainCounts.{AreCounted, counted_of, tally_at}
+use Rattle.pg_plain.specs.Inside.PlainCounts.{AreCounted, window_counts_of, tally_at}
 use Rattle.pg_types.specs.declared.limits.TheConstants.{NUMBERS_END}
 
 -- sums that were read
@@ -22,20 +22,20 @@ tally_read tallies n sums lt read =
     read ∙ same
 
 -- where nothing is counted
-pub none_seen : (numbers : Numbers) (tallies : List (ℕ × ℕ)) → numbers ≡ [] → counted_of numbers tallies ≡ record { counts = []; windows = [] }
-none_seen numbers tallies none = ap (λ M. counted_of M tallies) none ∙ ap (λ ws. record { counts = []; windows = ws }) by_number_none
+pub none_seen : (numbers : Numbers) (tallies : List (ℕ × ℕ)) → numbers ≡ [] → window_counts_of numbers tallies ≡ record { counts = []; windows = [] }
+none_seen numbers tallies none = ap (λ M. window_counts_of M tallies) none ∙ ap (λ ws. record { counts = []; windows = ws }) by_number_none
 
 pub none_are : (numbers : Numbers) (tallies : List (ℕ × ℕ)) (windows : Windows) → numbers ≡ [] → tallies ≡ [] → windows ≡ [] → AreCounted numbers tallies windows
 none_are numbers tallies windows none no_sums no_windows = record {
   sorted = subst (λ M. T (is_sorted order M)) (sym none) tt;
-  numbered = subst AreNumbers (sym none) numbers_none;
+  numbered = subst AreOneToOne (sym none) numbers_none;
   size = ap length none ∙ sym (ap length no_sums);
   listed = no_windows ∙ sym by_number_none ∙ ap by_number (sym none);
   few = (let s = ap length no_sums in omega arith);
 }
 
 module _ (numbers : Numbers) (tallies : List (ℕ × ℕ)) (windows : Windows) (are : AreCounted numbers tallies windows) where
-  pub ordered : T (is_sorted order (counted_of numbers tallies).counts)
+  pub ordered : T (is_sorted order (window_counts_of numbers tallies).counts)
   ordered = sorted_mapped (tally_at tallies) numbers are.sorted
 
   pub size_windows : length tallies ≡ length (by_number numbers)
@@ -53,14 +53,14 @@ module _ (numbers : Numbers) (tallies : List (ℕ × ℕ)) (windows : Windows) (
   within u n at = let lt = are.numbered.below u n at in let s = are.size in omega arith
 
   -- the sums of a window that has a number
-  pub sums_there : (u : List ℕ) (n : ℕ) → find order u numbers ≡ Some n → counted_sums (counted_of numbers tallies).counts u ≡ Some (tally_at tallies n)
+  pub sums_there : (u : List ℕ) (n : ℕ) → find order u numbers ≡ Some n → counted_sums (window_counts_of numbers tallies).counts u ≡ Some (tally_at tallies n)
   sums_there u n at = found_mapped (tally_at tallies) u n numbers at
 
-  pub sums_none : (u : List ℕ) → find order u numbers ≡ None → counted_sums (counted_of numbers tallies).counts u ≡ None
+  pub sums_none : (u : List ℕ) → find order u numbers ≡ None → counted_sums (window_counts_of numbers tallies).counts u ≡ None
   sums_none u at = none_mapped (tally_at tallies) u numbers at
 
   -- and by the number
-  pub sums_by_number : (n : ℕ) (u : List ℕ) → HasNumber (by_number numbers) u n → counted_sums (counted_of numbers tallies).counts u ≡ Some (tally_at tallies n)
+  pub sums_by_number : (n : ℕ) (u : List ℕ) → HasNumber (by_number numbers) u n → counted_sums (window_counts_of numbers tallies).counts u ≡ Some (tally_at tallies n)
   sums_by_number n u at = sums_there u n (numbered_found numbers are.sorted are.numbered u n at)
 
   pub has_number : (u : List ℕ) (n : ℕ) → find order u numbers ≡ Some n → HasNumber (by_number numbers) u n
@@ -74,7 +74,7 @@ module _ (numbers : Numbers) (tallies : List (ℕ × ℕ)) (windows : Windows) (
       let same : u ≡ get_or windows n v = cc in
       read ∙ sym same
 
-  pub are_numbered : AreNumbered (by_number numbers) (counted_of numbers tallies).counts
+  pub are_numbered : AreNumbered (by_number numbers) (window_counts_of numbers tallies).counts
   are_numbered = record {
     size = length_by_number numbers ∙ sym (length-map numbers (λ e. (e.0, tally_at tallies e.1)));
     counted = λ u n at. ap is_some (sums_by_number n u at);
@@ -86,12 +86,12 @@ module _ (numbers : Numbers) (tallies : List (ℕ × ℕ)) (windows : Windows) (
         cc);
   }
     where
-      by : (u : List ℕ) (o : Option ℕ) → find order u numbers ≡ o → is_counted (counted_of numbers tallies).counts u ≡ true → (n : ℕ) × HasNumber (by_number numbers) u n
+      by : (u : List ℕ) (o : Option ℕ) → find order u numbers ≡ o → is_counted (window_counts_of numbers tallies).counts u ≡ true → (n : ℕ) × HasNumber (by_number numbers) u n
       by u None e is = absurd (let wrong : false ≡ true = sym (ap is_some (sums_none u e)) ∙ is in cc)
       by u (Some n) e is = (n, has_number u n e)
 
   -- the numbers in the order of the windows
-  pub are_in_order : AreInOrder (by_number numbers) (counted_of numbers tallies).counts (map (λ e. e.1) numbers)
+  pub are_in_order : AreInOrder (by_number numbers) (window_counts_of numbers tallies).counts (map (λ e. e.1) numbers)
   are_in_order = in_order numbers are.sorted are.numbered ∙ by numbers
     where
       by : (es : Numbers) → map (λ e. Some e.0) es ≡ map (λ e. Some e.0) (mapped (tally_at tallies) es)
@@ -119,7 +119,7 @@ module _ (numbers : Numbers) (tallies : List (ℕ × ℕ)) (windows : Windows) (
             ∙ ap Some (ap (λ ts. tally_at ts m) is ∙ get_or-set_other tallies n m sums (0, 0) apart)
             ∙ sym (found_mapped (tally_at tallies) p m numbers e)
 
-    pub set_seen : counted_of numbers more ≡ with_counted (counted_of numbers tallies) u good weight
+    pub set_seen : window_counts_of numbers more ≡ with_window_counted (window_counts_of numbers tallies) u good weight
     set_seen =
         ap (λ counts. record { counts = counts; windows = by_number numbers })
         (set_counts ∙ ap (λ o. put order u (with_weight (unwrap_or o (0, 0)) good weight) (mapped (tally_at tallies) numbers)) (sym (sums_there u n at)))
@@ -178,7 +178,7 @@ module _ (numbers : Numbers) (tallies : List (ℕ × ℕ)) (windows : Windows) (
     listed_more : by_number after ≡ by_number numbers ++ u ∷ []
     listed_more = ap by_number after_is ∙ by_number_put numbers are.sorted are.numbered u none put_sorted
 
-    pub new_seen : counted_of after more ≡ with_counted (counted_of numbers tallies) u good weight
+    pub new_seen : window_counts_of after more ≡ with_window_counted (window_counts_of numbers tallies) u good weight
     new_seen =
         ap (λ counts. record { counts = counts; windows = by_number after })
         (put_counts ∙ ap (λ o. put order u (with_weight (unwrap_or o (0, 0)) good weight) (mapped (tally_at tallies) numbers)) (sym (sums_none u none)))
@@ -191,7 +191,7 @@ module _ (numbers : Numbers) (tallies : List (ℕ × ℕ)) (windows : Windows) (
     pub new_are : (list : Windows) → list ≡ windows ++ u ∷ [] → length more ≤ NUMBERS_END → AreCounted after more list
     new_are list list_is few = record {
       sorted = after_sorted;
-      numbered = subst AreNumbers (sym after_is) (numbers_put numbers are.sorted are.numbered u none);
+      numbered = subst AreOneToOne (sym after_is) (numbers_put numbers are.sorted are.numbered u none);
       size =
           ap length after_is ∙ length-put order nat_list_cmp_total u (length numbers) numbers are.sorted
           ∙ ap (λ o. cond (is_some o) (length numbers) (length numbers + 1)) none ∙ ap (λ k. k + 1) are.size ∙ sym size_more;
@@ -203,7 +203,7 @@ module _ (numbers : Numbers) (tallies : List (ℕ × ℕ)) (windows : Windows) (
     new_number few = let new = new_are (windows ++ u ∷ []) refl few in number_of after new.sorted new.numbered u (length tallies) found_new
 
 -- a window that is counted has a number
-pub absent_none : (numbers : Numbers) (tallies : List (ℕ × ℕ)) (u : List ℕ) → find order u numbers ≡ None → is_counted (counted_of numbers tallies).counts u ≡ true → ⊥
+pub absent_none : (numbers : Numbers) (tallies : List (ℕ × ℕ)) (u : List ℕ) → find order u numbers ≡ None → is_counted (window_counts_of numbers tallies).counts u ≡ true → ⊥
 absent_none numbers tallies u none there =
     let wrong : false ≡ true = sym (ap is_some (none_mapped (tally_at tallies) u numbers none)) ∙ there in
     cc

@@ -10,7 +10,7 @@ use Rattle.std.specs.List.{filter, list_all}
 use Rattle.std.specs.declared.cmp.Ordering.{Ordering}
 use Rattle.std.specs.Ordering.{MatchOrdering, ordering_then}
 use Rattle.pg_types.specs.Inside.Signs.{is_sign}
-use Rattle.pg_plain.specs.Inside.Keys.{four_packed, four_signs, window_of, ArePacked, IsHead}
+use Rattle.pg_plain.specs.Inside.Keys.{four_packed, four_signs, window_of, ArePacked, HasFirstSigns}
 
 -- ---- orders one after the other
 
@@ -264,7 +264,7 @@ module _ (u v : List ℕ) (r : Ordering) (other : r ≢ Equal) where
       (λ three. differs_from 3 4 Equal refl (then_equal (at u v 3) ∙ three) (λ four. absurd (other (sym four))))))
 
 -- strings compare as the numbers of their first four signs do, where these differ
-pub heads_differ : (n m : ℕ) (u v : List ℕ) → IsHead n u → IsHead m v → n ≢ m → slice_cmp nat_cmp u v ≡ nat_cmp n m
+pub heads_differ : (n m : ℕ) (u v : List ℕ) → HasFirstSigns n u → HasFirstSigns m v → n ≢ m → slice_cmp nat_cmp u v ≡ nat_cmp n m
 heads_differ n m u v x y other =
     let apart : nat_cmp n m ≢ Equal = λ same. other (nat_cmp-IsAntisymmetric n m same) in
     four_differ u v (nat_cmp n m) apart

@@ -6,7 +6,7 @@ ghost use Rattle.std.specs.Cmp.Lexicographic.{slice_cmp};
 ghost use Rattle.std.specs.FinMap.Entries.{put, is_sorted};
 ghost use Rattle.std.specs.Ordering.{nat_cmp};
 ghost use Rattle.pg_types.specs.Inside.counting.Counts.{AreSmall, IsNextAbove, counted_sums, sums_of, with_weight, is_counted};
-ghost use Rattle.pg_types.specs.Inside.counting.NumberedWindows.{AreInOrder, AreNumbered, HasNumber, no_counts, with_counted};
+ghost use Rattle.pg_types.specs.Inside.counting.NumberedWindows.{AreInOrder, AreNumbered, HasNumber, no_counts, with_window_counted};
 ghost use Rattle.pg_types.specs.Inside.Signs.{is_sign};
 ghost use Rattle.pg_types.specs.declared.limits.TheConstants.{LENGTH_MAX, NUMBERS_END};
 ghost use Rattle.pg_plain.specs.Inside.PlainCounts.{tally_at};
@@ -32,9 +32,9 @@ impl Model for CountedWindows {
 
     ghost Value = { WindowCounts };
 
-    ghost use Rattle.pg_plain.specs.Inside.PlainCounts.{counted_of, AreCounted};
+    ghost use Rattle.pg_plain.specs.Inside.PlainCounts.{window_counts_of, AreCounted};
 
-    ghost view = { λ t. counted_of t.numbers.entries t.tallies.items };
+    ghost view = { λ t. window_counts_of t.numbers.entries t.tallies.items };
 
     ghost invariant = { λ t. AreCounted t.numbers.entries t.tallies.items t.windows.items };
 }
@@ -75,7 +75,7 @@ impl CountedWindows {
         requires len { length window.now ≤ LENGTH_MAX }
         requires signs { list_all is_sign window.now ≡ true }
         requires small { AreSmall (with_weight (sums_of self.old.counts window.now) good weight) }
-        ensures ok { OnOk result (self.new ≡ with_counted self.old window.now good weight) }
+        ensures ok { OnOk result (self.new ≡ with_window_counted self.old window.now good weight) }
         ensures number { IfOk result (λ number. HasNumber self.new.windows window.now number) }
         ensures there { is_counted self.old.counts window.now ≡ true → IsOk result }
         ensures err { OnErr result (self.new ≡ self.old) }

@@ -18,13 +18,13 @@ pub struct DottedKey {
 
 impl Model for DottedKey {
     ghost use Rattle.std.specs.Prelude.{ℕ, List};
-    ghost use Rattle.pg_plain.specs.Inside.Keys.{IsHead};
+    ghost use Rattle.pg_plain.specs.Inside.Keys.{HasFirstSigns};
 
     ghost Value = { List ℕ × ℕ };
 
     ghost view = { λ k. k.dotted };
 
-    ghost invariant = { λ k. IsHead k.head k.dotted.0 };
+    ghost invariant = { λ k. HasFirstSigns k.head k.dotted.0 };
 }
 
 impl DottedKey {

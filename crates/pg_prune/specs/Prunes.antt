@@ -6,21 +6,21 @@ use Rattle.pg_dict.specs.Word.{Word}
 use Rattle.pg_patterns.specs.Values.{Patterns, value_at}
 use Rattle.pg_select.specs.CountedPositions.{Minima}
 use Rattle.pg_prune.specs.declared.pruned.Need.{Need}
-use Rattle.pg_prune.specs.Positions.{WordPosition, positions_in_reach}
+use Rattle.pg_prune.specs.Positions.{PositionInReach, positions_in_reach}
 
 -- two maps break alike at a position: the value there is odd in both, or in neither
-abbrev pub break_alike_at : Patterns → Patterns → WordPosition → Bool
+abbrev pub break_alike_at : Patterns → Patterns → PositionInReach → Bool
 break_alike_at P Q x = nat_eq (value_at P x.signs x.position % 2)
     (value_at Q x.signs x.position % 2)
 
 -- the rest of a round, behind the entries `kept`: an entry goes where the others break as P does
-abbrev pub round_from : List WordPosition → Patterns → Patterns → Patterns → Patterns
+abbrev pub round_from : List PositionInReach → Patterns → Patterns → Patterns → Patterns
 round_from positions P kept [] = kept
 round_from positions P kept (e ∷ rest) = if list_all (break_alike_at P (kept ++ rest)) positions
     then round_from positions P kept rest else round_from positions P (kept ++ e ∷ []) rest
 
 -- a round through all entries of the map Q
-unfoldable pub round : List WordPosition → Patterns → Patterns → Patterns
+unfoldable pub round : List PositionInReach → Patterns → Patterns → Patterns
 round positions P Q = round_from positions P [] Q
 
 -- what rounds leave, and how many they are
@@ -30,29 +30,29 @@ pub record RoundsResult : Type 0 where
 
 -- the rounds that begin with Q, which has at most so many entries, behind `count` others. The last
 -- round takes out nothing, and is counted too
-abbrev pub rounds_from : List WordPosition → Patterns → ℕ → ℕ → Patterns → RoundsResult
+abbrev pub rounds_from : List PositionInReach → Patterns → ℕ → ℕ → Patterns → RoundsResult
 rounds_from positions P count zero Q = record { patterns = Q; count = count + 1 }
 rounds_from positions P count (suc most) Q = let next = round positions P Q in
     if nat_eq (length next) (length Q) then record { patterns = Q; count = count + 1 }
     else rounds_from positions P (count + 1) most next
 
 -- all rounds, the first of which starts with P
-unfoldable pub rounds : List WordPosition → Patterns → RoundsResult
+unfoldable pub rounds : List PositionInReach → Patterns → RoundsResult
 rounds positions P = rounds_from positions P 0 (length P) P
 
 -- the need at a position: the number of the word, and the position in it
-abbrev pub need_at : WordPosition → Need
+abbrev pub need_at : PositionInReach → Need
 need_at x = record { word = x.word; position = x.position }
 
 -- the need of each entry from `rest` on: the first position that breaks otherwise without it
-abbrev pub needs_from : List WordPosition → Patterns → Patterns → List Need
+abbrev pub needs_from : List PositionInReach → Patterns → Patterns → List Need
 needs_from positions before [] = []
 needs_from positions before (e ∷ rest) = option_to_list (option_map need_at (find
     (λ x. not (break_alike_at (before ++ e ∷ rest) (before ++ rest) x)) positions))
     ++ needs_from positions (before ++ e ∷ []) rest
 
 -- the needs of all entries of a map
-unfoldable pub needs : List WordPosition → Patterns → List Need
+unfoldable pub needs : List PositionInReach → Patterns → List Need
 needs positions Q = needs_from positions [] Q
 
 -- what pruning comes to: the patterns that stay, their needs, and how many rounds and removals

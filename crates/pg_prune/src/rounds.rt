@@ -1,7 +1,7 @@
 //! The rounds through the entries, each of which takes out what no position needs.
 ghost use Rattle.std.specs.Prelude.{◌≡◌, ◌<◌, ◌≤◌, not, [], ◌∷◌, List, length, map, if◌then◌else◌, replicate, IfOk, None, MatchOption};
 ghost use Rattle.pg_types.specs.declared.limits.TheConstants.{LEVEL_MAX};
-ghost use Rattle.pg_prune.specs.Positions.{WordPosition};
+ghost use Rattle.pg_prune.specs.Positions.{PositionInReach};
 ghost use Rattle.pg_prune.specs.Prunes.{need_at, needs as needs_of};
 ghost use Rattle.pg_prune.specs.Inside.rounds.Alike.{break_alike};
 ghost use Rattle.pg_prune.specs.Inside.Findings.{first_difference};
@@ -89,9 +89,9 @@ pub(crate) fn all_holders(
     standing: &[Vec<usize>],
     count: usize,
 ) -> Result<Vec<Holders>, AllocError>
-    requires { (positions : List WordPosition)
+    requires { (positions : List PositionInReach)
         × ListsPositions positions patterns.now (map (λ l. l.items) standing.now) count }
-    ensures { (positions : List WordPosition)
+    ensures { (positions : List PositionInReach)
         → ListsPositions positions patterns.now (map (λ l. l.items) standing.now) count
         → IfOk result (λ holders. IsTallied positions patterns.now holders.items) }
 {
@@ -128,10 +128,10 @@ pub(crate) fn round(
     holders: &mut [Holders],
     kept: &[usize],
 ) -> Result<Vec<usize>, AllocError>
-    requires { (positions : List WordPosition)
+    requires { (positions : List PositionInReach)
         × IsKeptSoFar positions patterns.now
         (map (λ l. l.items) standing.now) holders.old kept.now }
-    ensures { (positions : List WordPosition)
+    ensures { (positions : List PositionInReach)
         → IsKeptSoFar positions patterns.now
         (map (λ l. l.items) standing.now) holders.old kept.now
         → IfOk result (λ stay.
@@ -174,9 +174,9 @@ pub(crate) fn all_rounds<W: RoundObserver>(
     holders: &mut [Holders],
     watch: &W,
 ) -> Result<KeptEntries, AllocError>
-    requires { (positions : List WordPosition)
+    requires { (positions : List PositionInReach)
         × HasAllEntries positions patterns.now (map (λ l. l.items) standing.now) holders.old }
-    ensures { (positions : List WordPosition)
+    ensures { (positions : List PositionInReach)
         → HasAllEntries positions patterns.now (map (λ l. l.items) standing.now) holders.old
         → IfOk result (AreAllRounds positions patterns.now
         (map (λ l. l.items) standing.now) holders.new) }
@@ -203,9 +203,9 @@ pub(crate) fn needs(
     holders: &[Holders],
     kept: &[usize],
 ) -> Result<Vec<Need>, AllocError>
-    requires { (all : List WordPosition) × (positions.now ≡ map need_at all)
+    requires { (all : List PositionInReach) × (positions.now ≡ map need_at all)
         × IsKeptSoFar all patterns.now (map (λ l. l.items) standing.now) holders.now kept.now }
-    ensures { (all : List WordPosition) → (positions.now ≡ map need_at all)
+    ensures { (all : List PositionInReach) → (positions.now ≡ map need_at all)
         → IsKeptSoFar all patterns.now (map (λ l. l.items) standing.now) holders.now kept.now
         → IfOk result (λ needs. needs.items ≡ needs_of all (picked_entries patterns.now kept.now)) }
 {

@@ -19,7 +19,7 @@ use Rattle.pg_select.proofs.LawsNothing.{later_after_pass}
 use Rattle.pg_select.proofs.LawsCounts.{is_counted_window}
 use Rattle.pg_select.specs.Inside.laws.Steps.{CoversUpTo, IsBelow, IsUpTo, candidate_at, is_candidate, patterns_after_pass, hopeless_after_pass}
 use Rattle.pg_select.specs.Inside.laws.ClosedDots.{closed_at_next_length}
-use Rattle.pg_select.specs.Inside.laws.ClosedDots.{is_good, pass_at, Tells, IsDone, closed_after, Stays}
+use Rattle.pg_select.specs.Inside.laws.ClosedDots.{is_good, pass_at, TellCounted, IsDone, closed_after, Stays}
 use Rattle.pg_select.proofs.LawsLengths.{length_step, nothing_covered, fits_parts, fits_from}
 use Rattle.pg_select.proofs.LawsRaised.{counted_uncovered, values_after, covers_after}
 
@@ -66,7 +66,7 @@ pub none_some : (o : Option Bool) (g : Bool) → o ≡ None → o ≡ Some g →
 none_some o g none some = cc
 
 -- at a level's start
-pub tells_at_start : (level len : ℕ) (P : Patterns) (w : Word) (p : ℕ) (good : Bool) → IsBelow level P → counts_as level (status_at P w p) ≡ Some good → Tells level len P [] w p (λ _. false)
+pub tells_at_start : (level len : ℕ) (P : Patterns) (w : Word) (p : ℕ) (good : Bool) → IsBelow level P → counts_as level (status_at P w p) ≡ Some good → TellCounted level len P [] w p (λ _. false)
 tells_at_start level len P w p good below is d within =
     (λ i. cond (fits w.signs p len d && not (nothing_covered level P (window w.signs p len d) d below i)) (is i) None)
     ∙ ap (λ g. cond (fits w.signs p len d && true) (Some g) None) (good_is level P w p good is)
@@ -90,8 +90,8 @@ fits_behind w p len d fit = let sizes : (d ≤ p) × (p - d + (len + 1) ≤ leng
 fits_before : (w : List ℕ) (p len d : ℕ) → 1 ≤ d → fits w p (len + 1) d ≡ true → fits w p len (d - 1) ≡ true
 fits_before w p len d one fit = let sizes : (d ≤ p) × (p - d + (len + 1) ≤ length w) = fits_parts w p (len + 1) d fit in fits_from w p len (d - 1) (omega arith) (omega arith)
 
-pub tells_longer : (level len : ℕ) (P : Patterns) (H : Hopeless) (w : Word) (p : ℕ) (closed : ℕ → Bool) → CoversUpTo level len P H → Tells level len P H w p closed
-    → Tells level (len + 1) P H w p (closed_at_next_length closed)
+pub tells_longer : (level len : ℕ) (P : Patterns) (H : Hopeless) (w : Word) (p : ℕ) (closed : ℕ → Bool) → CoversUpTo level len P H → TellCounted level len P H w p closed
+    → TellCounted level (len + 1) P H w p (closed_at_next_length closed)
 tells_longer level len P H w p closed short tells d within = by_fit (fits w.signs p (len + 1) d) refl
   where
     by_fit : (f : Bool) → fits w.signs p (len + 1) d ≡ f → cond (f && not (is_covered level P H (window w.signs p (len + 1) d) d)) (counts_as level (status_at P w p)) None
@@ -111,7 +111,7 @@ pub done_by_status : (level len : ℕ) (P : Patterns) (H : Hopeless) (w : Word) 
 done_by_status level len P H w p is d within = none_either (fits w.signs p len d && not (is_covered level P H (window w.signs p len d) d)) (counts_as level (status_at P w p)) is
 
 pub done_when_closed : (level len : ℕ) (P : Patterns) (H : Hopeless) (w : Word) (p : ℕ) (closed : ℕ → Bool) → len ≤ LENGTH_MAX
-    → ((d : ℕ) → d ≤ len → fits w.signs p len d ≡ true → closed d ≡ true) → Tells level len P H w p closed → IsDone level len P H w p
+    → ((d : ℕ) → d ≤ len → fits w.signs p len d ≡ true → closed d ≡ true) → TellCounted level len P H w p closed → IsDone level len P H w p
 done_when_closed level len P H w p closed short all tells d within = tells d (omega arith) ∙ by_fit (fits w.signs p len d) (closed d) (λ fit. all d within fit)
   where
     by_fit : (f c : Bool) → (f ≡ true → c ≡ true) → cond (f && not c) (Some (is_good level w p)) None ≡ None
@@ -261,8 +261,8 @@ module _ (m : Minima) (words : List Word) (pass : Pass) (P : Patterns) (H : Hope
 
   -- what counts where status and covers stay
   tells_stay : (closed : ℕ → Bool) → Stays pass.level pass.len P H (patterns_after_pass m words pass P H raised) (hopeless_after_pass m words pass P H hopeless) w p
-      → Tells pass.level pass.len P H w p closed
-      → Tells pass.level pass.len (patterns_after_pass m words pass P H raised) (hopeless_after_pass m words pass P H hopeless) w p closed
+      → TellCounted pass.level pass.len P H w p closed
+      → TellCounted pass.level pass.len (patterns_after_pass m words pass P H raised) (hopeless_after_pass m words pass P H hopeless) w p closed
   tells_stay closed stays tells d within = by_fit (fits w.signs p pass.len d) refl (tells d within)
     where
       by_fit : (f : Bool) → fits w.signs p pass.len d ≡ f → cond (f && not (is_covered pass.level P H (window w.signs p pass.len d) d)) (counts_as pass.level (status_at P w p)) None
@@ -273,15 +273,16 @@ module _ (m : Minima) (words : List Word) (pass : Pass) (P : Patterns) (H : Hope
       by_fit true fit is = (λ i. cond (not (stays.covers d fit i)) (counts_as pass.level (stays.status i)) None) ∙ is
 
   -- what counts after a pass
-  pub tells_after : (closed : ℕ → Bool) → IsUpTo pass.level P → pass.dot ≤ LENGTH_MAX → Tells pass.level pass.len P H w p closed
-      → Tells pass.level pass.len (patterns_after_pass m words pass P H raised) (hopeless_after_pass m words pass P H hopeless) w p
+  pub tells_after : (closed : ℕ → Bool) → IsUpTo pass.level P → pass.dot ≤ LENGTH_MAX → TellCounted pass.level pass.len P H w p closed
+      → TellCounted pass.level pass.len (patterns_after_pass m words pass P H raised) (hopeless_after_pass m words pass P H hopeless) w p
       (closed_after closed pass.dot (fits w.signs p pass.len pass.dot) (is_candidate raised (counted_positions m words pass P H) (window w.signs p pass.len pass.dot))
       (is_candidate hopeless (counted_positions m words pass P H) (window w.signs p pass.len pass.dot)))
   tells_after closed upto low tells = by_tests (fits w.signs p pass.len pass.dot) (closed pass.dot)
       (is_candidate raised (counted_positions m words pass P H) (window w.signs p pass.len pass.dot)) refl refl refl
     where
       -- where the position does not count by its status, before and so after
-      by_status : counts_as pass.level (status_at P w p) ≡ None → Tells pass.level pass.len (patterns_after_pass m words pass P H raised) (hopeless_after_pass m words pass P H hopeless) w p closed
+      by_status : counts_as pass.level (status_at P w p) ≡ None
+          → TellCounted pass.level pass.len (patterns_after_pass m words pass P H raised) (hopeless_after_pass m words pass P H hopeless) w p closed
       by_status none d within =
           none_from (counted_at (pass_at pass.level pass.len d) (patterns_after_pass m words pass P H raised) (hopeless_after_pass m words pass P H hopeless) w p)
           (λ g counts. none_some (counted_at (pass_at pass.level pass.len d) P H w p) g
@@ -293,11 +294,11 @@ module _ (m : Minima) (words : List Word) (pass : Pass) (P : Patterns) (H : Hope
 
       -- where the position was not counted
       uncounted : (f x : Bool) → fits w.signs p pass.len pass.dot ≡ f → closed pass.dot ≡ x → (f && not x) ≡ false
-          → Tells pass.level pass.len (patterns_after_pass m words pass P H raised) (hopeless_after_pass m words pass P H hopeless) w p closed
+          → TellCounted pass.level pass.len (patterns_after_pass m words pass P H raised) (hopeless_after_pass m words pass P H hopeless) w p closed
       uncounted f x fit shut passed = by_count (counts_as pass.level (status_at P w p)) refl
         where
           by_count : (o : Option Bool) → counts_as pass.level (status_at P w p) ≡ o
-              → Tells pass.level pass.len (patterns_after_pass m words pass P H raised) (hopeless_after_pass m words pass P H hopeless) w p closed
+              → TellCounted pass.level pass.len (patterns_after_pass m words pass P H raised) (hopeless_after_pass m words pass P H hopeless) w p closed
           by_count None is = by_status is
           by_count (Some good) is =
               tells_stay closed (uncounted_stay good is (tells pass.dot low ∙ (λ i. cond (fit i && not (shut i)) (Some (is_good pass.level w p)) None)
@@ -305,7 +306,7 @@ module _ (m : Minima) (words : List Word) (pass : Pass) (P : Patterns) (H : Hope
 
       -- where it was counted, and its window not raised
       counted_left : is_candidate raised (counted_positions m words pass P H) (window w.signs p pass.len pass.dot) ≡ false
-          → Tells pass.level pass.len (patterns_after_pass m words pass P H raised) (hopeless_after_pass m words pass P H hopeless) w p
+          → TellCounted pass.level pass.len (patterns_after_pass m words pass P H raised) (hopeless_after_pass m words pass P H hopeless) w p
           (λ d. closed d || (nat_eq d pass.dot && is_candidate hopeless (counted_positions m words pass P H) (window w.signs p pass.len pass.dot)))
       counted_left unraised d within = by_fit (fits w.signs p pass.len d) refl (tells d within)
         where
@@ -335,7 +336,7 @@ module _ (m : Minima) (words : List Word) (pass : Pass) (P : Patterns) (H : Hope
               (is_covered pass.level P H (window w.signs p pass.len d) d) (closed d) (counts_as pass.level (status_at P w p)) (is_good pass.level w p) is
 
       by_tests : (f x r : Bool) → fits w.signs p pass.len pass.dot ≡ f → closed pass.dot ≡ x → is_candidate raised (counted_positions m words pass P H) (window w.signs p pass.len pass.dot) ≡ r
-          → Tells pass.level pass.len (patterns_after_pass m words pass P H raised) (hopeless_after_pass m words pass P H hopeless) w p
+          → TellCounted pass.level pass.len (patterns_after_pass m words pass P H raised) (hopeless_after_pass m words pass P H hopeless) w p
           (λ d. cond (f && not x) (r || (closed d || (nat_eq d pass.dot && is_candidate hopeless (counted_positions m words pass P H) (window w.signs p pass.len pass.dot)))) (closed d))
       by_tests false x r fit shut is = uncounted false x fit shut refl
       by_tests true true r fit shut is = uncounted true true fit shut refl

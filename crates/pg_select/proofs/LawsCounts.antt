@@ -14,7 +14,7 @@ use Rattle.pg_patterns.proofs.Ordered.{sorted_at}
 use Rattle.pg_select.specs.CountedPositions.{CountedPosition, Candidate, same_signs, with_window, candidates, good_of, bad_of, with_sums}
 use Rattle.pg_types.specs.Inside.counting.Counts.{Counts, sums_of, with_weight}
 use Rattle.pg_select.specs.Inside.engine.Meanings.{with_position}
-use Rattle.pg_select.specs.Inside.laws.Laws.{entry_of}
+use Rattle.pg_select.specs.Inside.laws.Laws.{counts_entry_of}
 
 abbrev pub cmp : List ℕ → List ℕ → Ordering
 cmp = slice_cmp nat_cmp
@@ -108,7 +108,7 @@ sums_found u counts (s ∷ ss) =
 
 -- the entries of windows with their sums
 abbrev entries_of : List CountedPosition → List (List ℕ × Unit {0}) → Counts
-entries_of counted windows = map entry_of (map (λ (u : List ℕ). record { window = u; good = good_of counted u; bad = bad_of counted u }) (map (λ (e : List ℕ × Unit {0}). e.0) windows))
+entries_of counted windows = map counts_entry_of (map (λ (u : List ℕ). record { window = u; good = good_of counted u; bad = bad_of counted u }) (map (λ (e : List ℕ × Unit {0}). e.0) windows))
 
 entries_below : (counted : List CountedPosition) (u : List ℕ) (windows : List (List ℕ × Unit {0})) → below_all cmp u (entries_of counted windows) ≡ below_all cmp u windows
 entries_below counted u [] = refl
@@ -133,7 +133,7 @@ none_before true g h = pairs _ _ _ _ (omega arith) (omega arith)
 none_before false g h = refl
 
 -- the law of sums: counting position by position gives the candidates with their sums
-pub counts_give_sums : (counted : List CountedPosition) → fold with_position [] counted ≡ map entry_of (with_sums counted)
+pub counts_give_sums : (counted : List CountedPosition) → fold with_position [] counted ≡ map counts_entry_of (with_sums counted)
 counts_give_sums counted =
     let windows : List (List ℕ × Unit {0}) = fold with_window [] counted in
     same_entries cmp nat_list_cmp_total window_exact (fold with_position [] counted) (entries_of counted (fold with_window [] counted))
@@ -147,7 +147,7 @@ counts_give_sums counted =
 abbrev pub candidate_of : List ℕ × (ℕ × ℕ) → Candidate
 candidate_of e = record { window = e.0; good = e.1.0; bad = e.1.1 }
 
-candidates_back : (cs : List Candidate) → cs ≡ map candidate_of (map entry_of cs)
+candidates_back : (cs : List Candidate) → cs ≡ map candidate_of (map counts_entry_of cs)
 candidates_back [] = refl
 candidates_back (c ∷ cs) = ap (λ (x : List Candidate). c ∷ x) (candidates_back cs)
 

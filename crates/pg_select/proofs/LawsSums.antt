@@ -24,7 +24,7 @@ use Rattle.pg_select.specs.CountedPositions.{Minima, CountedPosition, counted_at
 use Rattle.pg_select.specs.Inside.words.WordCounts.{counted_positions_in}
 use Rattle.pg_select.specs.Sums.{weight_of, marks_in, totals}
 use Rattle.pg_select.specs.Inside.SumSteps.{is_found, is_error, is_missed}
-use Rattle.pg_select.specs.Inside.laws.Laws.{AreFew, positions_in}
+use Rattle.pg_select.specs.Inside.laws.Laws.{AreFew, number_of_positions}
 use Rattle.pg_select.proofs.LawsCounts.{cmp, counted_as, keys_length}
 
 -- a weight is within its limit
@@ -49,10 +49,10 @@ positions_few left right signs low = by_test (nat_le (left + right + 2) signs) (
 abbrev reached : Minima → Word → ℕ
 reached m w = length (positions m.left m.right (length w.signs))
 
-pub positions_within : (m : Minima) (words : List Word) → 1 ≤ m.left → positions_in m words ≤ sum_by letter_count words
+pub positions_within : (m : Minima) (words : List Word) → 1 ≤ m.left → number_of_positions m words ≤ sum_by letter_count words
 positions_within m [] low = omega arith
 positions_within m (w ∷ ws) low =
-    let rest : positions_in m ws ≤ sum_by letter_count ws = positions_within m ws low in
+    let rest : number_of_positions m ws ≤ sum_by letter_count ws = positions_within m ws low in
     omega (arith, sum_by-cons (reached m) w ws, sum_by-cons letter_count w ws, positions_few m.left m.right (length w.signs) low)
 
 -- a list of lists weighs no more than its parts may
@@ -103,9 +103,9 @@ three_within (e ∷ es) =
 
 -- the totals are within the weights of the positions in reach
 pub totals_within : (m : Minima) (words : List Word) (P : Patterns) → All IsWord words
-    → (totals m words P).good + (totals m words P).bad + (totals m words P).missed ≤ WEIGHT_MAX * positions_in m words
+    → (totals m words P).good + (totals m words P).bad + (totals m words P).missed ≤ WEIGHT_MAX * number_of_positions m words
 totals_within m words P each =
-    let whole : sum_by (λ (e : Mark × ℕ). e.1) (flat_map (marks_in m P) words) ≤ WEIGHT_MAX * positions_in m words
+    let whole : sum_by (λ (e : Mark × ℕ). e.1) (flat_map (marks_in m P) words) ≤ WEIGHT_MAX * number_of_positions m words
     = parts_within (marks_in m P) (λ (e : Mark × ℕ). e.1) WEIGHT_MAX (reached m) IsWord (λ w word. marks_within P w word (positions m.left m.right (length w.signs))) words each in
     omega (arith, three_within (flat_map (marks_in m P) words))
 
@@ -130,7 +130,7 @@ seen_in pass P H w word (p ∷ ps) =
 
 -- what a pass counts is within the weights of the positions in reach
 pub weights_within : (m : Minima) (words : List Word) (pass : Pass) (P : Patterns) (H : Hopeless) → All IsWord words
-    → sum_by (λ (s : CountedPosition). s.weight) (counted_positions m words pass P H) ≤ WEIGHT_MAX * positions_in m words
+    → sum_by (λ (s : CountedPosition). s.weight) (counted_positions m words pass P H) ≤ WEIGHT_MAX * number_of_positions m words
 weights_within m words pass P H each =
     parts_within (counted_positions_in m pass P H) (λ (s : CountedPosition). s.weight) WEIGHT_MAX (reached m) IsWord
     (λ w word. seen_in pass P H w word (positions m.left m.right (length w.signs))) words each
@@ -165,7 +165,7 @@ counted_few_in pass P H w (p ∷ ps) =
     )
 
 -- a pass counts no more than positions in reach
-pub counted_few : (m : Minima) (words : List Word) (pass : Pass) (P : Patterns) (H : Hopeless) → length (counted_positions m words pass P H) ≤ positions_in m words
+pub counted_few : (m : Minima) (words : List Word) (pass : Pass) (P : Patterns) (H : Hopeless) → length (counted_positions m words pass P H) ≤ number_of_positions m words
 counted_few m [] pass P H = omega arith
 counted_few m (w ∷ ws) pass P H =
     omega (
@@ -177,7 +177,7 @@ counted_few m (w ∷ ws) pass P H =
     )
 
 -- and has no more candidates
-pub candidates_few : (m : Minima) (words : List Word) (pass : Pass) (P : Patterns) (H : Hopeless) → length (candidates (counted_positions m words pass P H)) ≤ positions_in m words
+pub candidates_few : (m : Minima) (words : List Word) (pass : Pass) (P : Patterns) (H : Hopeless) → length (candidates (counted_positions m words pass P H)) ≤ number_of_positions m words
 candidates_few m words pass P H = omega (
   arith,
   counted_few m words pass P H,
@@ -189,9 +189,9 @@ small : (n k : ℕ) → n ≤ WEIGHT_MAX * k → k ≤ FILE_MAX → n < 2 ^ 40
 small n k light few = omega arith
 
 -- the totals are small where no more positions are in reach than letters
-pub totals_small_within : (m : Minima) (words : List Word) (P : Patterns) → positions_in m words ≤ sum_by letter_count words → AreFew words
+pub totals_small_within : (m : Minima) (words : List Word) (P : Patterns) → number_of_positions m words ≤ sum_by letter_count words → AreFew words
     → (totals m words P).good + (totals m words P).bad + (totals m words P).missed < 2 ^ 40
-totals_small_within m words P upto few = small ((totals m words P).good + (totals m words P).bad + (totals m words P).missed) (positions_in m words)
+totals_small_within m words P upto few = small ((totals m words P).good + (totals m words P).bad + (totals m words P).missed) (number_of_positions m words)
     (totals_within m words P few.each) (omega (arith, few.letters))
 
 pub totals_small : (m : Minima) (words : List Word) (P : Patterns) → 1 ≤ m.left → AreFew words → (totals m words P).good + (totals m words P).bad + (totals m words P).missed < 2 ^ 40
@@ -200,8 +200,8 @@ totals_small m words P low few = totals_small_within m words P (positions_within
 pub counted_light : (m : Minima) (words : List Word) (pass : Pass) (P : Patterns) (H : Hopeless) → 1 ≤ m.left → AreFew words
     → sum_by (λ (s : CountedPosition). s.weight) (counted_positions m words pass P H) < 2 ^ 40
 counted_light m words pass P H low few =
-    let upto : positions_in m words ≤ sum_by letter_count words = positions_within m words low in
-    small (sum_by (λ (s : CountedPosition). s.weight) (counted_positions m words pass P H)) (positions_in m words) (weights_within m words pass P H few.each) (omega (arith, few.letters))
+    let upto : number_of_positions m words ≤ sum_by letter_count words = positions_within m words low in
+    small (sum_by (λ (s : CountedPosition). s.weight) (counted_positions m words pass P H)) (number_of_positions m words) (weights_within m words pass P H few.each) (omega (arith, few.letters))
 
 -- a counted position counts once at most
 one_position : (t good : Bool) (x : ℕ) → cond (t && good) x 0 + cond (t && not good) x 0 ≤ x

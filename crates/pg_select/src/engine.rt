@@ -5,7 +5,7 @@ ghost use Rattle.pg_types.specs.Inside.Limits.{begun_before_pass};
 ghost use Rattle.pg_types.specs.Inside.counting.Counts.{IsNextAbove, SignsWithin, counted_sums, is_counted};
 ghost use Rattle.pg_types.specs.Inside.counting.NumberedWindows.{AreInOrder, HasNumber};
 ghost use Rattle.pg_select.specs.Inside.engine.EngineCalls.{CanCount, CountsWindow, Enters};
-ghost use Rattle.pg_select.specs.Inside.engine.Meanings.{Meaning, IsKept, IsLayout, after_begin_pass, after_choose, after_give_up, after_end_level};
+ghost use Rattle.pg_select.specs.Inside.engine.Meanings.{Meaning, IsMeaning, IsLayout, after_begin_pass, after_choose, after_give_up, after_end_level};
 ghost use Rattle.pg_select.specs.Inside.words.Positions.{HasValues, HasCovers};
 
 use crate::word_state::WordState;
@@ -26,7 +26,7 @@ pub trait Engine {
     /// Tells what every engine keeps: its maps stand in order, each value is 1 to
     /// [`LEVEL_MAX`](pg_types::LEVEL_MAX), and no sign is above the greatest. A call does nothing.
     fn kept(&self)
-        ensures { IsKept (meaning self.now) };
+        ensures { IsMeaning (meaning self.now) };
 
     /// Begins the pass of `level` with windows of `len` signs whose dot is behind `dot` of them.
     /// Nothing is counted in it yet.

@@ -12,16 +12,16 @@ use Rattle.pg_types.specs.declared.refusals.ReadingError.TheVariants as reader
 use Rattle.pg_types.specs.declared.refusals.Kind.TheVariants.{TranslateTooLong, ParametersTooLong, PatternsTooLong, DictionaryTooLong}
 use Rattle.pg_types.specs.Lines.{lines, pieces_at, is_line_feed, without_cr}
 use Rattle.pg_types.specs.Parameters.{parameters, parameters_of, items, demands, refusal_from}
-use Rattle.pg_types.specs.Reading.{unless, refusal_at as refused_in}
+use Rattle.pg_types.specs.ValuesOrRefusals.{unless, refusal_at as refused_in}
 use Rattle.pg_types.specs.Inside.reading.Answers.{Fails, Gives}
 use Rattle.pg_outside.specs.Content.{FileMap, FilesShown, file_at}
 use Rattle.pg_outside.specs.FilesCalls.{Reads}
-use Rattle.pg_outside.specs.Inside.ToldFiles.{IsCut}
+use Rattle.pg_outside.specs.Inside.ToldFiles.{IsTooLong}
 use Rattle.pg_translate.specs.Alphabets.{Alphabet}
 use Rattle.pg_translate.specs.declared.items.Place.TheVariants.{Dictionary, Patterns}
 use Rattle.pg_translate.specs.LineRefusals.{of_lines}
 use Rattle.pg_translate.specs.Tables.{table, table_of}
-use Rattle.pg_dict.specs.Words.{line_words, words}
+use Rattle.pg_dict.specs.DictionaryWords.{line_words, words}
 use Rattle.pg_patterns.specs.Starts.{line_entries, start}
 use Rattle.pg_patterns.specs.Values.{map_of_entries}
 use Rattle.pg_steps.specs.Outcomes.{unless_accepted}
@@ -116,11 +116,11 @@ front_of_held None name bytes n e few = tt
 front_of_held (Some files) name bytes n e few = ap (option_map (take (n + 1))) e ∙ ap Some (take_all (n + 1) bytes (omega arith))
 
 -- of a file that is too long the first bytes were read
-front_of_cut : (file : Option (List ℕ)) (bytes : List ℕ) (n : ℕ) → IsCut file n bytes → option_map (take (n + 1)) file ≡ Some bytes
+front_of_cut : (file : Option (List ℕ)) (bytes : List ℕ) (n : ℕ) → IsTooLong file n bytes → option_map (take (n + 1)) file ≡ Some bytes
 front_of_cut None bytes n cut = absurd cut
 front_of_cut (Some whole) bytes n cut = ap Some (sym cut.1)
 
-pub front_of_cut_held : (held : Option FileMap) (name bytes : List ℕ) (n : ℕ) → IfSome held (λ files. IsCut (file_at files name) n bytes)
+pub front_of_cut_held : (held : Option FileMap) (name bytes : List ℕ) (n : ℕ) → IfSome held (λ files. IsTooLong (file_at files name) n bytes)
     → IfSome held (λ files. option_map (take (n + 1)) (file_at files name) ≡ Some bytes)
 front_of_cut_held None name bytes n cut = tt
 front_of_cut_held (Some files) name bytes n cut = front_of_cut (file_at files name) bytes n cut

@@ -7,7 +7,7 @@ use Rattle.pg_types.specs.Parameters.{Parameters, parameters}
 use Rattle.pg_translate.specs.Alphabets.{Alphabet}
 use Rattle.pg_translate.specs.Tables.{table, default_alphabet}
 use Rattle.pg_dict.specs.Word.{Word}
-use Rattle.pg_dict.specs.Words.{words}
+use Rattle.pg_dict.specs.DictionaryWords.{words}
 use Rattle.pg_patterns.specs.Values.{Patterns}
 use Rattle.pg_patterns.specs.Starts.{start}
 use Rattle.pg_steps.specs.Outcomes.{Outcome, Unknown, unless_accepted}

@@ -7,7 +7,7 @@ ghost use Rattle.pg_outside.specs.FilesCalls.{Reads};
 ghost use Rattle.pg_translate.specs.Alphabets.{letters_of};
 ghost use Rattle.pg_translate.specs.Tables.{table as table_of_file};
 ghost use Rattle.pg_dict.specs.Inside.SoundWords.{SignsAtMost};
-ghost use Rattle.pg_dict.specs.Words.{words};
+ghost use Rattle.pg_dict.specs.DictionaryWords.{words};
 ghost use Rattle.pg_patterns.specs.Starts.{start};
 ghost use Rattle.pg_patterns.specs.Inside.PatternMaps.{SignsUpTo};
 ghost use Rattle.pg_steps.specs.FileCalls.{MakesCalls};

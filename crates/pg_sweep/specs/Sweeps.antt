@@ -33,8 +33,8 @@ total_of ts = record {
 }
 
 -- the row of a set: the totals of all folds together, and what they cost at these prices
-abbrev pub row_of : Terms → ℕ → ℕ → Parameters → SweepRow
-row_of s bad missed set = let t = total_of (map (fold_totals s set) (range_with_len 0 s.folds)) in
+abbrev pub set_row : Terms → ℕ → ℕ → Parameters → SweepRow
+set_row s bad missed set = let t = total_of (map (fold_totals s set) (range_with_len 0 s.folds)) in
     record { totals = t; cost = bad * t.bad + missed * t.missed }
 
 -- what the rows cost

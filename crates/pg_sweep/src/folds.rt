@@ -5,7 +5,7 @@ ghost use Rattle.pg_dict.specs.Inside.SoundWords.{SignsAtMost};
 ghost use Rattle.pg_patterns.specs.Inside.PatternMaps.{SignsUpTo};
 ghost use Rattle.pg_driver.specs.Inside.records.Sound.{IsSmall};
 ghost use Rattle.pg_sweep.specs.Sweeps.{fold_totals};
-ghost use Rattle.pg_sweep.specs.Inside.Inputs.{terms, rest_totals, totals_of_folds, HasSigns, IsSmallFor};
+ghost use Rattle.pg_sweep.specs.Inside.Inputs.{terms, rest_totals, totals_of_first_folds, HasSigns, IsSmallFor};
 
 use crate::maker::Maker;
 use pg_dict::Dictionary;
@@ -75,7 +75,7 @@ pub(crate) fn totals_of_set<K: Maker>(
 ) -> Result<Totals, AllocError>
     requires signs { HasSigns inputs.now }
     ensures value { IfOk result
-        (λ sums. sums ≡ totals_of_folds (terms inputs.now) params.now inputs.now.folds) }
+        (λ sums. sums ≡ totals_of_first_folds (terms inputs.now) params.now inputs.now.folds) }
     ensures small { IfOk result (IsSmallFor inputs.now.folds) }
 {
     let mut sums = Totals {

@@ -4,7 +4,7 @@ ghost use Rattle.pg_translate.specs.Alphabets.{letters_of};
 ghost use Rattle.pg_dict.specs.Inside.SoundWords.{SignsAtMost};
 ghost use Rattle.pg_patterns.specs.Inside.PatternMaps.{SignsUpTo};
 ghost use Rattle.pg_types.specs.declared.limits.TheConstants.{FOLDS_MAX, PRICE_MAX, SETS_MAX};
-ghost use Rattle.pg_sweep.specs.Sweeps.{row_of, costs_of};
+ghost use Rattle.pg_sweep.specs.Sweeps.{set_row, costs_of};
 ghost use Rattle.pg_sweep.specs.Winners.{winner_of};
 ghost use Rattle.pg_sweep.specs.Inside.Inputs.{IsSmallFor};
 
@@ -53,7 +53,7 @@ pub fn sweep<K: Maker>(
     requires missed { (1 ≤ missed) × (missed ≤ PRICE_MAX) }
     requires signs { SignsAtMost (letters_of table.now + 1) dictionary.now }
     requires known { SignsUpTo (letters_of table.now + 1) start.now }
-    ensures rows { IfOk result (λ sweep. sweep.rows ≡ map (row_of
+    ensures rows { IfOk result (λ sweep. sweep.rows ≡ map (set_row
         (record { table = table.now; words = dictionary.now; start = start.now; folds = folds })
         bad missed) sets.now) }
     ensures winner { IfOk result (λ sweep. sweep.winner ≡ winner_of (costs_of sweep.rows)) }

@@ -11,9 +11,9 @@ use Rattle.pg_translate.specs.Tokens.{Token}
 use Rattle.pg_translate.specs.Inside.items.Items.{text_of_items}
 use Rattle.pg_dict.specs.Word.{Word}
 use Rattle.pg_dict.specs.Inside.SoundWords.{IsWord, SignsAtMost}
-use Rattle.pg_dict.specs.Words.{words}
+use Rattle.pg_dict.specs.DictionaryWords.{words}
 use Rattle.pg_dict.specs.Inside.LineWords.{line_reading, line_word}
-use Rattle.pg_dict.specs.Inside.WrittenWords.{AreMarksOf, word_tokens, letters_among, IsLine, file_of, LinesGive}
+use Rattle.pg_dict.specs.Inside.WrittenWords.{AreMarksOf, word_tokens, letters_among, IsLine, text_of_lines, LinesGive}
 use Rattle.pg_patterns.specs.Values.{Patterns}
 use Rattle.pg_texts.specs.PattmpTexts.{is_taking_part, statuses, lines_behind, pattmp_text}
 use Rattle.pg_texts.specs.Inside.ReadBack.{words_taking_part}
@@ -27,7 +27,7 @@ pub record Laws (t : Alphabet) : Type 0 where
   pub words_read : (before : ℕ) (w : Word) (marks : List Mark) → IsWord w → AreMarksOf w marks → line_word before (word_tokens before marks w) ≡ record { word = Some w; weight = w.weight }
   pub lines_read : (line weight : ℕ) (items : List (Token × List ℕ)) → AllByRecursion (IsDictionaryItem t) items → letters_among (map (λ item. item.0) items) ≤ WORD_LETTERS_MAX
       → line_reading t line weight (text_of_items items) ≡ Ok (line_word weight (map (λ item. item.0) items))
-  pub files_read : (texts : List (List ℕ)) (all : List Word) → AllByRecursion IsLine texts → LinesGive t 1 texts all → length (file_of texts) ≤ FILE_MAX → words t (file_of texts) ≡ Ok all
+  pub files_read : (texts : List (List ℕ)) (all : List Word) → AllByRecursion IsLine texts → LinesGive t 1 texts all → length (text_of_lines texts) ≤ FILE_MAX → words t (text_of_lines texts) ≡ Ok all
 
 -- the items of the line of a word, which is behind a line with this word weight
 abbrev line_items : Alphabet → Patterns → ℕ → Word → List (Token × List ℕ)
@@ -66,7 +66,7 @@ lines_are t laws P before (w ∷ ws) known = (
 )
 
 -- the lines with their ends are the list
-texts_joined : (t : Alphabet) (P : Patterns) (before : ℕ) (ws : List Word) → AllByRecursion (IsKnown t) ws → file_of (texts_behind t P before ws) ≡ lines_behind t P before ws
+texts_joined : (t : Alphabet) (P : Patterns) (before : ℕ) (ws : List Word) → AllByRecursion (IsKnown t) ws → text_of_lines (texts_behind t P before ws) ≡ lines_behind t P before ws
 texts_joined t P before [] known = refl
 texts_joined t P before (w ∷ ws) known =
     rw (word_items_joined t before (statuses t P w) w known.0.word.long, texts_joined t P w.weight ws known.1) refl
@@ -84,7 +84,7 @@ pub list_reads : (t : Alphabet) → Laws t → (P : Patterns) (ws : List Word) �
     → words t (pattmp_text t P ws) ≡ Ok (words_taking_part t ws)
 list_reads t laws P ws all signs few =
     let known : AllByRecursion (IsKnown t) (words_taking_part t ws) = part_known t ws all signs in
-    let whole : file_of (texts_behind t P 1 (words_taking_part t ws)) ≡ pattmp_text t P ws = texts_joined t P 1 (words_taking_part t ws) known in
-    let short : length (file_of (texts_behind t P 1 (words_taking_part t ws))) ≤ FILE_MAX = omega (arith, ap length whole) in
+    let whole : text_of_lines (texts_behind t P 1 (words_taking_part t ws)) ≡ pattmp_text t P ws = texts_joined t P 1 (words_taking_part t ws) known in
+    let short : length (text_of_lines (texts_behind t P 1 (words_taking_part t ws))) ≤ FILE_MAX = omega (arith, ap length whole) in
     ap (words t) (sym whole) ∙ laws.files_read (texts_behind t P 1 (words_taking_part t ws)) (words_taking_part t ws) (lines_are t laws P 1 (words_taking_part t ws) known)
     (lines_give t laws P 1 (words_taking_part t ws) known) short

@@ -25,7 +25,7 @@ fn layout_of(layout: Option<Layout>) -> Layout
 /// Appends how many cells are used, and the greatest of them.
 fn push_used(text: &mut Vec<u8>, layout: &Layout) -> Result<(), AllocError>
     ensures { OnOk result
-        (text.new.items ≡ text.old.items ++ cells.numbers_text layout.now.taken layout.now.top) }
+        (text.new.items ≡ text.old.items ++ cells.taken_text layout.now.taken layout.now.top) }
 {
     push_number(text, b"", layout.taken)?;
     push_number(text, b" taken, top ", layout.top)

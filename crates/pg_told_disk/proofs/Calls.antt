@@ -4,12 +4,12 @@ use Rattle.std.specs.Option.{option_map, is_some}
 use Rattle.std.specs.declared.alloc.Global.{Global}
 use Rattle.pg_outside.specs.Faults.{Rose}
 use Rattle.pg_outside.specs.Inside.disk.Disks as disk
-use Rattle.pg_outside.specs.Inside.disk.Disks.{Disk, Node, ChangesDisk, HoldsNow, IsKindOf, IsFollowedBy, IsOpened, IsWritable, IsTaken, LeadsToNone, IsStat, ChangesOnlyFile, AppendsFront}
+use Rattle.pg_outside.specs.Inside.disk.Disks.{Disk, Node, ChangesDisk, HoldsNow, IsKindOf, IsFollowedBy, IsOpened, IsWritable, IsNameTaken, LeadsToNone, IsStat, ChangesOnlyFile, AppendsFront}
 use Rattle.pg_outside.specs.Inside.disk.NewNames.{IsLinkedName}
 use Rattle.pg_outside.specs.declared.disk.system.NameKind.TheVariants.{Missing, Link, File}
 use Rattle.pg_outside.specs.declared.disk.system.FileId.{FileId}
 use Rattle.pg_told_disk.specs.Inside.Changes.{number_in, mode_in, bytes_in, stored_in, node_with, lets_write, id_of, disk_in}
-use Rattle.pg_told_disk.specs.Inside.LinkLists.{link_in, real_in, said_or}
+use Rattle.pg_told_disk.specs.Inside.LinkLists.{link_named, real_in, said_or}
 use Rattle.pg_told_disk.specs.Inside.Memory.{told_where}
 use Rattle.pg_told_disk.specs.Inside.laws.Following.{not_link, said_same}
 use Rattle.pg_told_disk.specs.declared.change.Change.{Change}
@@ -38,22 +38,22 @@ none_in : (links : List linked.Link) (log : List Change) (q : List ℕ) → numb
 none_in links log q is = id_in links log q ∙ id_none (number_in log (real_in links q)) is
 
 -- the number of a name that is unlinked link
-stands : (links : List linked.Link) (log : List Change) (q : List ℕ) (o : Option ℕ) → is_some (link_in links q) ≡ false → number_in log q ≡ o → number_in log (real_in links q) ≡ o
+stands : (links : List linked.Link) (log : List Change) (q : List ℕ) (o : Option ℕ) → is_some (link_named links q) ≡ false → number_in log q ≡ o → number_in log (real_in links q) ≡ o
 stands links log q o unlinked is = ap (λ (r : List ℕ). number_in log r) (not_link links q unlinked) ∙ is
 
-pub is_linked : (b : Bool) (links : List linked.Link) (log : List Change) (q : List ℕ) → is_some (link_in links q) ≡ true → HoldsNow (told_where b links log) (IsKindOf q Link)
+pub is_linked : (b : Bool) (links : List linked.Link) (log : List Change) (q : List ℕ) → is_some (link_named links q) ≡ true → HoldsNow (told_where b links log) (IsKindOf q Link)
 is_linked b links log q is = told_now b links log (IsKindOf q Link) is
 
-pub is_missing : (b : Bool) (links : List linked.Link) (log : List Change) (q : List ℕ) → is_some (link_in links q) ≡ false → number_in log q ≡ None
+pub is_missing : (b : Bool) (links : List linked.Link) (log : List Change) (q : List ℕ) → is_some (link_named links q) ≡ false → number_in log q ≡ None
     → HoldsNow (told_where b links log) (IsKindOf q Missing)
 is_missing b links log q unlinked none = told_now b links log (IsKindOf q Missing) (unlinked, none_in links log q (stands links log q None unlinked none))
 
-pub is_file : (b : Bool) (links : List linked.Link) (log : List Change) (q : List ℕ) (n : ℕ) (id : FileId) → is_some (link_in links q) ≡ false → id
+pub is_file : (b : Bool) (links : List linked.Link) (log : List Change) (q : List ℕ) (n : ℕ) (id : FileId) → is_some (link_named links q) ≡ false → id
     ≡ id_of n → number_in log q ≡ Some n → HoldsNow (told_where b links log) (IsKindOf q (File id))
 is_file b links log q n id unlinked named is = subst (λ (k : FileId). HoldsNow (told_where b links log) (IsKindOf q (File k))) (sym named)
     (told_now b links log (IsKindOf q (File (id_of n))) (unlinked, leads_in links log q n (stands links log q (Some n) unlinked is)))
 
-followed_in : (links : List linked.Link) (log : List Change) (q text : List ℕ) (link : linked.Link) → link_in links q ≡ Some link
+followed_in : (links : List linked.Link) (log : List Change) (q text : List ℕ) (link : linked.Link) → link_named links q ≡ Some link
     → IsLinkedName q text (string_bytes link.said) → IsFollowedBy q text (disk_in links log)
 followed_in links log q text link is says = λ joined is_joined.
     let one = one_joined q text joined (string_bytes link.said) is_joined says in (
@@ -61,7 +61,7 @@ followed_in links log q text link is says = λ joined is_joined.
       ap (λ (n : List ℕ). real_in links n) one ∙ said_same links q link is,
     )
 
-pub is_followed : (b : Bool) (links : List linked.Link) (log : List Change) (q text : List ℕ) (link : linked.Link) → link_in links q ≡ Some link
+pub is_followed : (b : Bool) (links : List linked.Link) (log : List Change) (q text : List ℕ) (link : linked.Link) → link_named links q ≡ Some link
     → IsLinkedName q text (string_bytes link.said) → HoldsNow (told_where b links log) (IsFollowedBy q text)
 is_followed b links log q text link is says = told_now b links log (IsFollowedBy q text) (followed_in links log q text link is says)
 
@@ -88,12 +88,12 @@ writable_in links log n mode is lets = λ node there.
 pub writable : (b : Bool) (links : List linked.Link) (log : List Change) (n mode : ℕ) → mode_in log n ≡ Some mode → lets_write mode ≡ true → HoldsNow (told_where b links log) (IsWritable (id_of n))
 writable b links log n mode is lets = told_now b links log (IsWritable (id_of n)) (writable_in links log n mode is lets)
 
-pub taken_by_link : (b : Bool) (links : List linked.Link) (log : List Change) (q : List ℕ) → is_some (link_in links q) ≡ true → HoldsNow (told_where b links log) (IsTaken q)
-taken_by_link b links log q is = told_now b links log (IsTaken q) (inl is)
+pub taken_by_link : (b : Bool) (links : List linked.Link) (log : List Change) (q : List ℕ) → is_some (link_named links q) ≡ true → HoldsNow (told_where b links log) (IsNameTaken q)
+taken_by_link b links log q is = told_now b links log (IsNameTaken q) (inl is)
 
-pub taken : (b : Bool) (links : List linked.Link) (log : List Change) (q : List ℕ) (n : ℕ) → is_some (link_in links q) ≡ false → number_in log q ≡ Some n
-    → HoldsNow (told_where b links log) (IsTaken q)
-taken b links log q n unlinked is = told_now b links log (IsTaken q) (inr (id_of n, leads_in links log q n (stands links log q (Some n) unlinked is)))
+pub taken : (b : Bool) (links : List linked.Link) (log : List Change) (q : List ℕ) (n : ℕ) → is_some (link_named links q) ≡ false → number_in log q ≡ Some n
+    → HoldsNow (told_where b links log) (IsNameTaken q)
+taken b links log q n unlinked is = told_now b links log (IsNameTaken q) (inr (id_of n, leads_in links log q n (stands links log q (Some n) unlinked is)))
 
 pub stat : (b : Bool) (links : List linked.Link) (log : List Change) (n mode : ℕ) (id : FileId) → id ≡ id_of n → mode_in log n ≡ Some mode
     → HoldsNow (told_where b links log) (IsStat (id_of n) (record { id = id; is_regular = true; mode = mode }))
@@ -101,13 +101,13 @@ stat b links log n mode id named modes = told_now b links log (IsStat (id_of n) 
     (record { is = named; node = node_at log n mode; there = there_in links log n mode modes; kind = refl; mode = refl })
 
 pub made_step : (b b2 : Bool) (links links2 : List linked.Link) (log log2 : List Change) (own : String Global) (name : List ℕ) (n : ℕ) → (b2 ≡ true → b ≡ true)
-    → links2 ≡ links → (b2 ≡ true → log2 ≡ Made own ∷ log) → string_bytes own ≡ name → n ≡ length log → is_some (link_in links name) ≡ false
+    → links2 ≡ links → (b2 ≡ true → log2 ≡ Made own ∷ log) → string_bytes own ≡ name → n ≡ length log → is_some (link_named links name) ≡ false
     → number_in log name ≡ None → ChangesDisk (told_where b links log) (told_where b2 links2 log2) (disk.MakesFile name (id_of n))
 made_step b b2 links links2 log log2 own name n told same is named counted unlinked none =
     subst (λ (q : List ℕ). ChangesDisk (told_where b links log) (told_where b2 links2 log2) (disk.MakesFile q (id_of n))) named
     (subst (λ (k : ℕ). ChangesDisk (told_where b links log) (told_where b2 links2 log2) (disk.MakesFile (string_bytes own) (id_of k))) (sym counted)
     (steps b b2 links links2 log log2 (Made own) (disk.MakesFile (string_bytes own) (id_of (length log))) told same is
-    (after_made links log own (ap (λ (q : List ℕ). is_some (link_in links q)) named ∙ unlinked) (ap (λ (q : List ℕ). number_in log q) named ∙ none))))
+    (after_made links log own (ap (λ (q : List ℕ). is_some (link_named links q)) named ∙ unlinked) (ap (λ (q : List ℕ). number_in log q) named ∙ none))))
 
 pub removed_step : (b b2 : Bool) (links links2 : List linked.Link) (log log2 : List Change) (own : String Global) (name : List ℕ) → (b2 ≡ true → b ≡ true)
     → links2 ≡ links → (b2 ≡ true → log2 ≡ Removed own ∷ log) → string_bytes own ≡ name → ChangesDisk (told_where b links log) (told_where b2 links2 log2) (disk.RemovesUnlessLink name)

@@ -1,7 +1,7 @@
 //! The links of a disk, the name that each says, and what a name stands for.
 ghost use Rattle.std.specs.Prelude.{◌≡◌, None, Some, MatchOption, IfSome, string_bytes};
 ghost use Rattle.pg_outside.specs.Inside.disk.NewNames.{IsLinkedName};
-ghost use Rattle.pg_told_disk.specs.Inside.LinkLists.{link_in, is_link_in, real_in};
+ghost use Rattle.pg_told_disk.specs.Inside.LinkLists.{link_named, is_link_in, real_in};
 
 use pg_outside::linked_name;
 use std::alloc::Global;
@@ -16,8 +16,8 @@ pub(crate) struct Link {
 
 /// The link of this name, if there is one.
 pub(crate) fn link_of<'a>(links: &'a [Link], name: &str) -> Option<&'a Link>
-    ensures { MatchOption result (link_in links.now name.now ≡ None)
-        (λ link. link_in links.now name.now ≡ Some link.now) }
+    ensures { MatchOption result (link_named links.now name.now ≡ None)
+        (λ link. link_named links.now name.now ≡ Some link.now) }
 {
     match links {
         [] => None,

@@ -204,7 +204,7 @@ impl ToldDisk {
 }
 
 impl System for ToldDisk {
-    ghost use Rattle.pg_told_disk.specs.Inside.Memory.{told_by, file_id, file_at};
+    ghost use Rattle.pg_told_disk.specs.Inside.Memory.{told_by, file_id, read_len};
     ghost use Rattle.pg_told_disk.specs.Inside.laws.Plain.{plain_where, new_names_where};
 
     type File = ToldFile;
@@ -215,7 +215,7 @@ impl System for ToldDisk {
 
     ghost id = { file_id };
 
-    ghost at = { file_at };
+    ghost at = { read_len };
 
     ghost plain = { λ disk. plain_where disk.is_told disk.links.items disk.log.items };
 

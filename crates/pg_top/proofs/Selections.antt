@@ -11,7 +11,7 @@ use Rattle.pg_driver.specs.Layouts.{families_at_end}
 use Rattle.pg_driver.specs.Traces.{source_of}
 use Rattle.pg_driver.specs.Inside.records.CellsAccounts.{CellsAccount, layout_of}
 use Rattle.pg_driver.specs.Inside.records.Sound.{CompletedRun}
-use Rattle.pg_driver.specs.Inside.records.RunAccounts.{patterns_from, account_from, begun_from, cells_from, TellsCells, layout_of_level}
+use Rattle.pg_driver.specs.Inside.records.RunAccounts.{patterns_from, account_from, begun_from, cells_from, TellsCells, level_record_layout}
 use Rattle.pg_driver.specs.Inside.records.AccountLines.{Account}
 use Rattle.pg_packed.specs.Inside.Starts.{pattern_families}
 use Rattle.pg_patterns.specs.Texts.{pattern_text}
@@ -45,14 +45,14 @@ unfolding selection selected_cells_from
 cells_selected i m is = ap (cells_from i.table i.dictionary i.params) is
 
 -- the layout that a run tells last is the last of what is told of its cells
-last_of : (levels : List LevelRecord) (told : List (ℕ × Layout)) (first : Option Layout) (start : Layout) → first ≡ Some start → map layout_of_level levels
+last_of : (levels : List LevelRecord) (told : List (ℕ × Layout)) (first : Option Layout) (start : Layout) → first ≡ Some start → map level_record_layout levels
     ≡ map Some told → last_else first (map (λ l. l.layout) levels) ≡ Some (last_else start (map (λ l. l.1) told))
 last_of [] [] first start is same = is
 last_of [] (t ∷ told) first start is same = cc
 last_of (l ∷ levels) [] first start is same = cc
 last_of (l ∷ levels) (t ∷ told) first start is same =
-    let here : layout_of_level l ≡ Some t = cc in
-    let rest : map layout_of_level levels ≡ map Some told = cc in
+    let here : level_record_layout l ≡ Some t = cc in
+    let rest : map level_record_layout levels ≡ map Some told = cc in
     last_of levels told l.layout t.1 (layout_from l.level l.layout t here) rest
   where
     layout_from : (level : ℕ) (layout : Option Layout) (t : ℕ × Layout) → option_map (λ l. (level, l)) layout ≡ Some t → layout ≡ Some t.1

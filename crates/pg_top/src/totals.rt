@@ -1,7 +1,7 @@
 //! `totals`: the totals of a dictionary by a packed table.
 ghost use Rattle.pg_top.specs.totals.TotalsRule.{totals_rule};
 ghost use Rattle.pg_steps.specs.Inside.ends.Built.{Builds};
-ghost use Rattle.pg_words.specs.Inside.CommandRequests.{totals_of};
+ghost use Rattle.pg_words.specs.Inside.CommandRequests.{totals_request_of};
 
 mod table;
 
@@ -19,7 +19,7 @@ pub fn total_files<'a, F: Files, W: Watch>(
     files: &mut F,
     watch: &W,
 ) -> Result<BuiltTexts<'a>, Stop<'a>>
-    ensures { Builds (totals_rule (totals_of names.now))
+    ensures { Builds (totals_rule (totals_request_of names.now))
         (F.shown files.old) (F.shown files.new) result }
 {
     let letters = read_table(alloc, names.translate, files, watch)?;

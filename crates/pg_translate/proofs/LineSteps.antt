@@ -12,7 +12,7 @@ use Rattle.pg_translate.specs.Inside.items.Answers.{HasItem}
 use Rattle.pg_translate.specs.Gaps.{sign_of}
 use Rattle.pg_translate.specs.LineRefusals.{sign_columns}
 use Rattle.pg_translate.specs.Inside.items.Refusing.{long_kind}
-use Rattle.pg_types.specs.Reading.{refusal_at}
+use Rattle.pg_types.specs.ValuesOrRefusals.{refusal_at}
 use Rattle.pg_translate.specs.Inside.items.Refusing.{stop_refusal, refusal_with_room}
 use Rattle.pg_translate.proofs.Cuts.{cut_item}
 use Rattle.pg_translate.proofs.CutLaws.{cut_enough}

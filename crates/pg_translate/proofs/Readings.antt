@@ -12,7 +12,7 @@ use Rattle.pg_types.specs.Inside.reading.Answers.{Fails}
 use Rattle.pg_translate.specs.declared.index.Index.{Index}
 use Rattle.pg_translate.specs.Inside.spellings.FirstSpellings.{letters_in}
 use Rattle.pg_translate.specs.Tables.{ListedSpelling, spelling_with_sign, spelling_check, spellings_at}
-use Rattle.pg_translate.specs.Inside.tables.Checks.{first_failure, spelling_checks_from, spellings_from, with_line_spellings, pieces_in_line, pieces_of}
+use Rattle.pg_translate.specs.Inside.tables.Checks.{first_failure, spelling_checks_from, spellings_from, with_line_spellings, trimmed_pieces, pieces_of}
 use Rattle.pg_translate.specs.Inside.spellings.Fronts.{IsIndex, pairs}
 
 -- checks that pass leave those behind them
@@ -185,8 +185,8 @@ lines_begin index marks text none sound = record {
 
 -- one line more
 pub lines_more : (mid new : Index) (marks text : List ℕ) (line : ℕ) (rest first after : List ℕ) → HasLines mid marks text line rest → lines rest
-    ≡ first ∷ lines after → length after < length rest → first_failure (spelling_checks_from marks (pairs mid) (spellings_at line 2 (letters_in (pairs mid) + 1) (pieces_in_line first)))
-    ≡ Ok tt → pairs new ≡ pairs mid ++ map spelling_with_sign (spellings_at line 2 (letters_in (pairs mid) + 1) (pieces_in_line first))
+    ≡ first ∷ lines after → length after < length rest → first_failure (spelling_checks_from marks (pairs mid) (spellings_at line 2 (letters_in (pairs mid) + 1) (trimmed_pieces first)))
+    ≡ Ok tt → pairs new ≡ pairs mid ++ map spelling_with_sign (spellings_at line 2 (letters_in (pairs mid) + 1) (trimmed_pieces first))
     → letters_in (pairs new) ≤ SIGNS_MAX - 1 → IsIndex new → HasLines new marks text (line + 1) after
 lines_more mid new marks text line rest first after before cut shorter passed added few sound = record {
   answer = step.0 ∙ ap (λ (ls : List (List ℕ)). first_failure (spelling_checks_from marks (pairs mid) (spellings_from line (letters_in (pairs mid) + 1) ls))) (sym cut) ∙ before.answer;
@@ -198,18 +198,18 @@ lines_more mid new marks text line rest first after before cut shorter passed ad
 }
   where
     step : (first_failure (spelling_checks_from marks (pairs new) (spellings_from (line + 1) (letters_in (pairs new) + 1) (lines after)))
-        ≡ first_failure (spelling_checks_from marks (pairs mid) (with_line_spellings line (letters_in (pairs mid) + 1) (pieces_in_line first) (λ next. spellings_from (line + 1) next (lines after)))))
+        ≡ first_failure (spelling_checks_from marks (pairs mid) (with_line_spellings line (letters_in (pairs mid) + 1) (trimmed_pieces first) (λ next. spellings_from (line + 1) next (lines after)))))
         × (pairs new ++ map spelling_with_sign (spellings_from (line + 1) (letters_in (pairs new) + 1) (lines after)) ≡ pairs mid
-        ++ map spelling_with_sign (with_line_spellings line (letters_in (pairs mid) + 1) (pieces_in_line first) (λ next. spellings_from (line + 1) next (lines after))))
-    step = line_more marks (pairs mid) (pairs new) line (pieces_in_line first) (λ next. spellings_from (line + 1) next (lines after)) passed added
+        ++ map spelling_with_sign (with_line_spellings line (letters_in (pairs mid) + 1) (trimmed_pieces first) (λ next. spellings_from (line + 1) next (lines after))))
+    step = line_more marks (pairs mid) (pairs new) line (trimmed_pieces first) (λ next. spellings_from (line + 1) next (lines after)) passed added
 
 -- a line that fails fails the file
 pub lines_fail : (mid : Index) (marks text : List ℕ) (line : ℕ) (rest first after : List ℕ) (e : ReadingError) → HasLines mid marks text line rest
-    → lines rest ≡ first ∷ lines after → Fails e (first_failure (spelling_checks_from marks (pairs mid) (spellings_at line 2 (letters_in (pairs mid) + 1) (pieces_in_line first))))
+    → lines rest ≡ first ∷ lines after → Fails e (first_failure (spelling_checks_from marks (pairs mid) (spellings_at line 2 (letters_in (pairs mid) + 1) (trimmed_pieces first))))
     → Fails e (first_refusal (spelling_checks_from marks [] (spellings_from 2 1 (lines text))) (map spelling_with_sign (spellings_from 2 1 (lines text))))
 lines_fail mid marks text line rest first after e before cut fails =
     let here : Fails e (first_failure (spelling_checks_from marks (pairs mid)
-    (with_line_spellings line (letters_in (pairs mid) + 1) (pieces_in_line first) (λ next. spellings_from (line + 1) next (lines after))))) =
-    line_fails marks (pairs mid) line (pieces_in_line first) (λ next. spellings_from (line + 1) next (lines after)) e fails in
+    (with_line_spellings line (letters_in (pairs mid) + 1) (trimmed_pieces first) (λ next. spellings_from (line + 1) next (lines after))))) =
+    line_fails marks (pairs mid) line (trimmed_pieces first) (λ next. spellings_from (line + 1) next (lines after)) e fails in
     fails_guarded e (spelling_checks_from marks [] (spellings_from 2 1 (lines text))) (map spelling_with_sign (spellings_from 2 1 (lines text)))
     (subst (Fails e) (ap (λ (ls : List (List ℕ)). first_failure (spelling_checks_from marks (pairs mid) (spellings_from line (letters_in (pairs mid) + 1) ls))) (sym cut) ∙ before.answer) here)

@@ -5,7 +5,7 @@ use Rattle.pg_types.specs.declared.marks.Mark.TheVariants.{Error, Missed, Found,
 use Rattle.pg_types.specs.declared.refusals.Kind.{Kind}
 use Rattle.pg_types.specs.declared.refusals.Kind.TheVariants.{BadMinima, BadMark, BadSpelling, SpellingClash}
 use Rattle.pg_types.specs.declared.refusals.Refusal.{Refusal}
-use Rattle.pg_types.specs.Reading.{refusal_at}
+use Rattle.pg_types.specs.ValuesOrRefusals.{refusal_at}
 use Rattle.pg_translate.specs.declared.items.Place.TheVariants.{Dictionary, Patterns}
 use Rattle.pg_translate.specs.Alphabets.{Alphabet, letters_of, spelling_of}
 use Rattle.pg_translate.specs.Tables.{table, default_alphabet}

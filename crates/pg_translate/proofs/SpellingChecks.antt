@@ -4,7 +4,7 @@ use Rattle.std.proofs.lemmas.Bool.{and_parts, leb-true}
 use Rattle.std.specs.List.{list_any}
 use Rattle.pg_types.specs.declared.limits.TheConstants.{SIGNS_MAX}
 use Rattle.pg_types.specs.declared.refusals.Kind.TheVariants.{TooManyLetters, BadSpelling, SpellingClash}
-use Rattle.pg_types.specs.Reading.{refusal_at}
+use Rattle.pg_types.specs.ValuesOrRefusals.{refusal_at}
 use Rattle.pg_translate.specs.declared.spellings.TheConstants.{SPELLING_MAX}
 use Rattle.pg_translate.specs.Spellings.{is_spelling, clash}
 use Rattle.pg_translate.specs.Tables.{ListedSpelling, spelling_check, spelling_with_sign}

@@ -19,7 +19,7 @@ use Rattle.pg_translate.specs.Spellings.{is_space}
 use Rattle.pg_translate.specs.Tables.{check, in_column, minimum_at, is_blank_at, minimum_fails, minimum, mark_in, marks_of, mark_fails}
 use Rattle.pg_translate.specs.Tables.{head_checks, line_pieces, ListedSpelling, spellings_at, spellings_of, spelling_with_sign, spelling_check, spelling_checks, alphabet_of}
 use Rattle.pg_translate.specs.Inside.tables.Checks.{pair_at, pair_value, pair_fails, pair_minimum, mark_checks, head_checks_by_pairs, without_blanks}
-use Rattle.pg_translate.specs.Inside.tables.Checks.{before_empty, delimited_pieces, pieces_in_line, with_line_spellings, spellings_from, spelling_checks_from, alphabet_by_lines}
+use Rattle.pg_translate.specs.Inside.tables.Checks.{before_empty, delimited_pieces, trimmed_pieces, with_line_spellings, spellings_from, spelling_checks_from, alphabet_by_lines}
 use Rattle.pg_translate.proofs.LetterLines.{trim_more, trim_end}
 
 -- no blank
@@ -122,7 +122,7 @@ delimited_as : (text : List ℕ) → delimited_pieces text ≡ take_while has_by
 delimited_as [] = refl
 delimited_as (delimiter ∷ text) = before_as (pieces_at (λ b. b == delimiter) text)
 
-pieces_as : (line : List ℕ) → pieces_in_line line ≡ line_pieces line
+pieces_as : (line : List ℕ) → trimmed_pieces line ≡ line_pieces line
 pieces_as line = delimited_as (without_blanks line) ∙ ap (λ (text : List ℕ). take_while has_byte (pieces_at (λ b. b == slice_index text 0) (drop 1 text))) (trim_as line)
 
 -- the spellings of the lines that are not skipped
@@ -141,7 +141,7 @@ with_line_as line letter (piece ∷ pieces) more later rest =
 lines_as : (texts : List (List ℕ)) (line letter : ℕ) → spellings_from line letter texts ≡ spellings_in line letter (map line_pieces texts)
 lines_as [] line letter = refl
 lines_as (text ∷ texts) line letter =
-    with_line_as line letter (pieces_in_line text) (map line_pieces texts) (λ next. spellings_from (line + 1) next texts) (λ next. lines_as texts (line + 1) next)
+    with_line_as line letter (trimmed_pieces text) (map line_pieces texts) (λ next. spellings_from (line + 1) next texts) (λ next. lines_as texts (line + 1) next)
     ∙ ap (λ (pieces : List (List ℕ)). spellings_in line letter (pieces ∷ map line_pieces texts)) (pieces_as text)
 
 pub spellings_as : (texts : List (List ℕ)) → spellings_from 2 1 texts ≡ spellings_of texts

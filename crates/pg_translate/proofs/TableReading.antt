@@ -10,7 +10,7 @@ use Rattle.pg_types.specs.declared.refusals.ReadingError.{ReadingError}
 use Rattle.pg_types.specs.declared.refusals.ReadingError.TheVariants.{Refused, Memory}
 use Rattle.pg_types.specs.Lines.{lines}
 use Rattle.std.specs.Prelude.{slice_get}
-use Rattle.pg_types.specs.Reading.{unless}
+use Rattle.pg_types.specs.ValuesOrRefusals.{unless}
 use Rattle.pg_types.specs.Inside.reading.Parts.{first_refusal}
 use Rattle.pg_types.specs.Inside.reading.Answers.{Fails}
 use Rattle.pg_translate.specs.declared.head.Head.{Head}

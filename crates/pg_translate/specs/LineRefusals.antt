@@ -6,7 +6,7 @@ use Rattle.pg_types.specs.declared.limits.TheConstants.{PATTERN_SIGNS_MAX, WORD_
 use Rattle.pg_types.specs.declared.refusals.Kind.{Kind}
 use Rattle.pg_types.specs.declared.refusals.Kind.TheVariants.{DictionaryCharacter, BadWeight, WordTooLong, PatternCharacter, PatternTooLong}
 use Rattle.pg_types.specs.declared.refusals.Refusal.{Refusal}
-use Rattle.pg_types.specs.Reading.{refusal_at, unless}
+use Rattle.pg_types.specs.ValuesOrRefusals.{refusal_at, unless}
 use Rattle.pg_translate.specs.declared.items.Place.{Place}
 use Rattle.pg_translate.specs.declared.items.Place.TheVariants.{Dictionary, Patterns}
 use Rattle.pg_translate.specs.Alphabets.{Alphabet}

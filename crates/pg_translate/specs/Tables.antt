@@ -7,7 +7,7 @@ use Rattle.pg_types.specs.declared.refusals.Kind.TheVariants.{TranslateTooLong, 
 use Rattle.pg_types.specs.declared.refusals.Refusal.{Refusal}
 use Rattle.pg_types.specs.Lines.{lines, pieces_at}
 use Rattle.pg_types.specs.Parameters.{number, has_byte}
-use Rattle.pg_types.specs.Reading.{refusal_at, unless}
+use Rattle.pg_types.specs.ValuesOrRefusals.{refusal_at, unless}
 use Rattle.pg_translate.specs.declared.head.TheConstants.{DEFAULT_LEFT, DEFAULT_RIGHT, DEFAULT_ERROR, DEFAULT_MISSED, DEFAULT_FOUND, DEFAULT_DONT_CARE, A_TO_Z}
 use Rattle.pg_translate.specs.Alphabets.{Alphabet}
 use Rattle.pg_translate.specs.Spellings.{is_space, is_spelling, clash}

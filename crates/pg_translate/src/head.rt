@@ -1,6 +1,6 @@
 //! The head of a translate file: the minima and the mark bytes.
 ghost use Rattle.std.specs.Prelude.{◌≡◌, ◌<◌, ◌≤◌, ◌∷◌, [], true, false, not, List, MatchOption, IfSome, MatchResult, Ok, Err, IfOk, OnOk, ◌+◌};
-ghost use Rattle.pg_types.specs.Reading.{refusal_at};
+ghost use Rattle.pg_types.specs.ValuesOrRefusals.{refusal_at};
 ghost use Rattle.pg_translate.specs.Tables as table;
 ghost use Rattle.pg_translate.specs.Inside.tables.Checks as checks;
 

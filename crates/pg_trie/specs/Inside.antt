@@ -1,5 +1,5 @@
 -- What only contracts between layers and proofs need.
-pub mod IsTrie
+pub mod IsPatternTrie
 pub mod Lists
 pub mod Maps
 pub mod PrunedFamilies

@@ -5,8 +5,8 @@ ghost use Rattle.pg_types.specs.declared.limits.TheConstants.{PATTERN_SIGNS_MAX}
 ghost use Rattle.pg_patterns.specs.Values.{map_of_entries};
 ghost use Rattle.pg_patterns.specs.Inside.PatternMaps.{is_entry};
 ghost use Rattle.pg_outputs.specs.Lists.{list_of};
-ghost use Rattle.pg_trie.specs.Inside.IsTrie.{IsTrie};
-ghost use Rattle.pg_trie.specs.Inside.Maps.{maps_of, entries_of, as_value};
+ghost use Rattle.pg_trie.specs.Inside.IsPatternTrie.{IsPatternTrie};
+ghost use Rattle.pg_trie.specs.Inside.Maps.{maps_of, entries_in, as_value};
 ghost use Rattle.pg_trie.specs.Inside.Strings.{AreStrings};
 
 mod strings;
@@ -29,7 +29,7 @@ fn push_values(
     requires head { head ≤ length outputs.now }
     requires few { length string.now.0 ≤ PATTERN_SIGNS_MAX }
     ensures { OnOk result (entries.new.items
-        ≡ entries.old.items ++ entries_of as_value string.now.0 (list_of outputs.now head)) }
+        ≡ entries.old.items ++ entries_in as_value string.now.0 (list_of outputs.now head)) }
 {
     let mut at = head;
     while let Some((value, dot, next)) = outputs.first(at) {
@@ -48,7 +48,7 @@ fn gather(
     strings: &[DottedSigns],
     outputs: &Outputs,
 ) -> Result<Vec<(DottedSigns, u8)>, AllocError>
-    requires trie { IsTrie cells.now outputs.now }
+    requires trie { IsPatternTrie cells.now outputs.now }
     requires strings { AreStrings cells.now strings.now }
     ensures sound { IfOk result (λ entries. list_all is_entry entries.items ≡ true) }
     ensures joined { IfOk result
@@ -68,7 +68,7 @@ pub fn entries(
     cells: &Cells<Head>,
     outputs: &Outputs,
 ) -> Result<Vec<(DottedSigns, u8)>, AllocError>
-    requires { IsTrie cells.now outputs.now }
+    requires { IsPatternTrie cells.now outputs.now }
     ensures sound { IfOk result (λ entries. list_all is_entry entries.items ≡ true) }
     ensures joined { IfOk result
         (λ entries. map_of_entries entries.items ≡ (maps_of cells.now outputs.now).patterns) }

@@ -12,7 +12,7 @@ ghost use Rattle.pg_outputs.specs.Inside.Heads.{Grows};
 ghost use Rattle.pg_cells.specs.Inside.linked.Walks.{IsAt};
 ghost use Rattle.pg_trie.specs.declared.hopeless.TheConstants.{HOPELESS};
 ghost use Rattle.pg_trie.specs.Inside.Lists.{outputs_at};
-ghost use Rattle.pg_trie.specs.Inside.Maps.{AreKept};
+ghost use Rattle.pg_trie.specs.Inside.Maps.{AreMaps};
 
 use crate::copy::entries;
 use crate::deleting::prune::prune;
@@ -40,13 +40,13 @@ pub struct PatternTrie {
 
 impl Model for PatternTrie {
     ghost use Rattle.pg_trie.specs.Inside.Maps.{Maps, maps_of};
-    ghost use Rattle.pg_trie.specs.Inside.IsTrie.{IsTrie};
+    ghost use Rattle.pg_trie.specs.Inside.IsPatternTrie.{IsPatternTrie};
 
     ghost Value = { Maps };
 
     ghost view = { λ t. maps_of t.cells t.lists };
 
-    ghost invariant = { λ t. IsTrie t.cells t.lists };
+    ghost invariant = { λ t. IsPatternTrie t.cells t.lists };
 }
 
 impl PatternTrie {
@@ -135,7 +135,7 @@ impl PatternTrie {
     /// The lists of all strings.
     pub fn outputs(&self) -> &Outputs
         ensures records { result.now ≡ self.now.records }
-        ensures kept { AreKept self.now }
+        ensures kept { AreMaps self.now }
     {
         self.lists.outputs()
     }

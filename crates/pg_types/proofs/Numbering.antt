@@ -7,7 +7,7 @@ use Rattle.std.specs.List.{slice_get}
 use Rattle.std.specs.FinMap.Entries.{find, put, is_sorted, length-put}
 use Rattle.pg_types.proofs.StringEntries.{order, same_itself, equal_or_not, find_put_same, find_put_other, find_below, head_below, tail_sorted}
 use Rattle.pg_types.specs.Inside.counting.NumberedWindows.{Windows, HasNumber}
-use Rattle.pg_types.specs.Inside.counting.NumberedStrings.{Numbers, AreNumbers, string_with, strings_to, by_number}
+use Rattle.pg_types.specs.Inside.counting.NumberedStrings.{Numbers, AreOneToOne, string_with, strings_to, by_number}
 
 -- an element before the seam, and the one at it
 pub get_left : {A : Type 0} (xs ys : List A) (k : ℕ) (x : A) → slice_get xs k ≡ Some x → slice_get (xs ++ ys) k ≡ Some x
@@ -65,7 +65,7 @@ pub by_number_none : by_number [] ≡ []
 unfolding by_number
 by_number_none = refl
 
-module _ (M : Numbers) (h : T (is_sorted order M)) (are : AreNumbers M) where
+module _ (M : Numbers) (h : T (is_sorted order M)) (are : AreOneToOne M) where
   pub number_of : (u : List ℕ) (n : ℕ) → find order u M ≡ Some n → HasNumber (by_number M) u n
   unfolding by_number
   number_of u n at = get_to (length M) n M (are.below u n at) ∙ ap Some (string_found M u n h at (λ v there. are.apart v u n there at))
@@ -98,7 +98,7 @@ module _ (M : Numbers) (h : T (is_sorted order M)) (are : AreNumbers M) where
       | inr other ↦ find_put_other v u (length M) M other.0 ∙ at
     ]
 
-    pub numbers_put : AreNumbers (put order u (length M) M)
+    pub numbers_put : AreOneToOne (put order u (length M) M)
     numbers_put = record {
       below = λ v n at. elim (which v n at) [
         | inl here ↦ (let s = size in let k = here.1 in omega arith)
@@ -120,7 +120,7 @@ module _ (M : Numbers) (h : T (is_sorted order M)) (are : AreNumbers M) where
       ];
     }
 
-module _ (M : Numbers) (h : T (is_sorted order M)) (are : AreNumbers M) (u : List ℕ) (new : find order u M ≡ None) (g : T (is_sorted order (put order u (length M) M))) where
+module _ (M : Numbers) (h : T (is_sorted order M)) (are : AreOneToOne M) (u : List ℕ) (new : find order u M ≡ None) (g : T (is_sorted order (put order u (length M) M))) where
   same_to : (k : ℕ) → k ≤ length M → strings_to k (put order u (length M) M) ≡ strings_to k M
   same_to zero le = refl
   same_to (suc k) le =
@@ -142,7 +142,7 @@ module _ (M : Numbers) (h : T (is_sorted order M)) (are : AreNumbers M) (u : Lis
       ∙ ap (λ l. l ++ string_with (length M) (put order u (length M) M) ∷ []) (same_to (length M) (omega arith))
       ∙ ap (λ x. strings_to (length M) M ++ x ∷ []) (string_found (put order u (length M) M) u (length M) g here (λ v there. after.apart v u (length M) there here))
 
-pub numbers_none : AreNumbers []
+pub numbers_none : AreOneToOne []
 numbers_none = record {
   below = λ u n at. absurd (let no : None ≡ Some n = at in cc);
   apart = λ u v n at to. absurd (let no : None ≡ Some n = at in cc);
@@ -156,5 +156,5 @@ in_order_of ws (e ∷ es) h at =
     ap (λ o. o ∷ map (slice_get ws) (map (λ e. e.1) es)) (at e.0 e.1 (first_at e es))
     ∙ ap (λ l. Some e.0 ∷ l) (in_order_of ws es (tail_sorted e es h) (λ u n there. at u n (behind e es u n h there)))
 
-pub in_order : (M : Numbers) → T (is_sorted order M) → AreNumbers M → map (slice_get (by_number M)) (map (λ e. e.1) M) ≡ map (λ e. Some e.0) M
+pub in_order : (M : Numbers) → T (is_sorted order M) → AreOneToOne M → map (slice_get (by_number M)) (map (λ e. e.1) M) ≡ map (λ e. Some e.0) M
 in_order M h are = in_order_of (by_number M) M h (number_of M h are)

@@ -4,7 +4,7 @@ use Rattle.pg_types.specs.declared.refusals.Kind.{Kind}
 use Rattle.pg_types.specs.declared.refusals.Kind.TheVariants.{BadNumber, OutOfRange, Missing, Extra}
 use Rattle.pg_types.specs.Lines.{lines}
 use Rattle.pg_types.specs.Parameters.{parameters}
-use Rattle.pg_types.specs.Reading.{refusal_at}
+use Rattle.pg_types.specs.ValuesOrRefusals.{refusal_at}
 
 -- an LF ends a line, one CR before it goes, and a last piece is a line too
 lf_and_cr : lines (codes "a" ++ 10 ∷ 13 ∷ 10 ∷ codes "b" ++ 13 ∷ 13 ∷ 10 ∷ codes "c") ≡ codes "a" ∷ [] ∷ (codes "b" ++ 13 ∷ []) ∷ codes "c" ∷ []

@@ -1,5 +1,5 @@
 pub mod Refusals
-pub mod Reading
+pub mod ValuesOrRefusals
 pub mod Lines
 pub mod Parameters
 pub mod Placement

@@ -9,7 +9,7 @@ use Rattle.pg_types.specs.declared.refusals.Kind.TheVariants.{BadNumber, OutOfRa
 use Rattle.pg_types.specs.declared.refusals.Refusal.{Refusal}
 use Rattle.pg_types.specs.declared.parameters.LevelParams.{LevelParams}
 use Rattle.pg_types.specs.Lines.{pieces_at}
-use Rattle.pg_types.specs.Reading.{refusal_at, unless}
+use Rattle.pg_types.specs.ValuesOrRefusals.{refusal_at, unless}
 
 -- the parameters of a run: its first and last level, and what each level that is run is given
 pub record Parameters : Type 0 where

@@ -1,7 +1,7 @@
 //! The line that says where a call is.
 ghost use Rattle.std.specs.Prelude.{◌≡◌, ◌++◌, IfOk, OnOk};
 ghost use Rattle.std.specs.Option.{option_map};
-ghost use Rattle.pg_watch.specs.Inside.Lines.{pass_text, sweep_run_text, sweep_run_if_told, step_text, line_text as line_text_of};
+ghost use Rattle.pg_watch.specs.Inside.Lines.{progress_text, sweep_run_text, sweep_run_if_told, step_text, line_text as line_text_of};
 
 use crate::watch::{PassProgress, SweepRun};
 use pg_types::push_number;
@@ -25,7 +25,7 @@ pub enum Step {
 
 /// Appends where a selection is.
 fn push_pass(line: &mut Vec<u8>, pass: &PassProgress) -> Result<(), AllocError>
-    ensures { OnOk result (line.new.items ≡ line.old.items ++ pass_text pass.now) }
+    ensures { OnOk result (line.new.items ≡ line.old.items ++ progress_text pass.now) }
 {
     push_number(line, b"level ", u64::from(pass.level))?;
     push_number(line, b" of ", u64::from(pass.last))?;

@@ -1,7 +1,7 @@
 //! The commands.
 ghost use Rattle.std.specs.Prelude.{◌≡◌};
 ghost use Rattle.pg_words.specs.Requests.{ToPack, ToTotals, ToPrune};
-ghost use Rattle.pg_words.specs.Inside.CommandRequests.{asked_by, pack_of, totals_of, prune_of};
+ghost use Rattle.pg_words.specs.Inside.CommandRequests.{asked_by, pack_of, totals_request_of, prune_of};
 
 /// The names that `generate` and `audit` are given. `audit` reads the files that `generate` writes.
 #[derive(Clone, Copy)]
@@ -56,7 +56,7 @@ pub struct TotalsNames<'a> {
 impl<'a> TotalsNames<'a> {
     /// The names in the fields of `Command::Totals`.
     pub fn new(dict: &'a str, translate: &'a str, table: &'a str) -> TotalsNames<'a>
-        ensures { ToTotals (totals_of result)
+        ensures { ToTotals (totals_request_of result)
             ≡ asked_by (Command.Totals dict.entry translate.entry table.entry) }
     {
         TotalsNames {

@@ -5,7 +5,7 @@ ghost use Rattle.std.specs.Option.{option_map, is_none};
 ghost use Rattle.arrayvec.specs.ArrayVec.{array_vec_len};
 ghost use Rattle.pg_words.specs.Requests.{ToGenerate, ToAudit};
 ghost use Rattle.pg_words.specs.TakenNames.{is_name};
-ghost use Rattle.pg_words.specs.forms.Generate.{if_asked, input_names, output_names, with_option as with_option_of, with_options as with_options_of, names_in, generate_in, audit_in};
+ghost use Rattle.pg_words.specs.forms.Generate.{if_asked, input_names, output_names, with_option as with_option_of, with_options as with_options_of, files_in, generate_in, audit_in};
 ghost use Rattle.pg_words.specs.Inside.Names.{texts, arguments_of};
 ghost use Rattle.pg_words.specs.Inside.CommandRequests.{name_now, texts_of, asked_by, KeepsLimits};
 
@@ -68,7 +68,7 @@ fn with_options<'a>(names: Names<'a>, words: &'a [String]) -> Option<Names<'a>>
 /// Six names in the order in which they are given.
 fn first_names(words: &[String]) -> Names<'_>
     requires { 6 ≤ length words.now }
-    ensures { names_in (arguments_of words.now)
+    ensures { files_in (arguments_of words.now)
         ≡ with_options_of (texts_of result) (arguments_of (drop 6 words.now)) }
 {
     Names {
@@ -85,7 +85,7 @@ fn first_names(words: &[String]) -> Names<'_>
 
 /// The names in arguments: six, and then the options.
 fn names(words: &[String]) -> Option<Names<'_>>
-    ensures { option_map texts_of result ≡ names_in (arguments_of words.now) }
+    ensures { option_map texts_of result ≡ files_in (arguments_of words.now) }
 {
     if words.len() < 6 {
         return None;

@@ -6,7 +6,7 @@ ghost use Rattle.pg_cells.specs.declared.store.cell.TheConstants.{CELLS_END, SIG
 ghost use Rattle.pg_cells.specs.Inside.store.Lists.{sign_at, IsFree};
 ghost use Rattle.pg_cells.specs.Inside.store.Fit.{slot_of};
 ghost use Rattle.pg_cells.specs.Inside.linked.Members.{ArePassing, ArePositive};
-ghost use Rattle.pg_cells.specs.Inside.families.Moves.{AllFit, AreDistinct, GivesUp, Puts, AreSlotsOf, Collects};
+ghost use Rattle.pg_cells.specs.Inside.families.Moves.{AllFit, AreDistinct, GivesUp, PutsSlots, AreSlotsOf, Collects};
 
 use crate::store::Store;
 use crate::store::fit::Slot;
@@ -36,7 +36,7 @@ pub fn put<V: Copy>(store: &mut Store<V>, base: usize, slots: &[Slot<Member<V>>]
     requires sign_fits { (x : ℕ) (slot : SlotOf (MemberOf V)) → slot_of slots.now x ≡ Some slot →
         x < SIGN_COUNT }
     requires fits { AllFit slots.now }
-    ensures { Puts store.old store.new base slots.now }
+    ensures { PutsSlots store.old store.new base slots.now }
 {
     for slot in slots {
         store.take(base + slot.sign as usize, *slot);

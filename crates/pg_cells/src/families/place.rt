@@ -2,10 +2,10 @@
 ghost use Rattle.std.specs.Prelude.{◌≡◌, ℕ, ◌+◌, ◌<◌, ◌≤◌, max, false, ◌∷◌, length};
 ghost use Rattle.pg_types.specs.Inside.Placing.{IsLeast};
 ghost use Rattle.pg_cells.specs.declared.store.cell.TheConstants.{CELLS_END};
-ghost use Rattle.pg_cells.specs.Inside.store.Fit.{HasRoom, fits_row, signs_of};
+ghost use Rattle.pg_cells.specs.Inside.store.Fit.{HasSpace, fits_row, slot_signs};
 ghost use Rattle.pg_cells.specs.Inside.store.Lists.{FitsCell};
 ghost use Rattle.pg_cells.specs.Inside.families.Searches.{far_from_top, search_start};
-ghost use Rattle.pg_cells.specs.Inside.families.Moves.{AllFit, Drops, MovesFamily, CanPlace};
+ghost use Rattle.pg_cells.specs.Inside.families.Moves.{AllFit, DropsBase, MovesFamily, CanPlace};
 ghost use Rattle.pg_cells.specs.Inside.store.Store.{IsRow};
 
 use crate::families::moves::{give_up, put};
@@ -45,7 +45,7 @@ fn lowest_base(few: usize, signs: u16, count: usize, top: usize) -> usize
 // Drops the base of a family; where the base is 0, there is no family.
 fn drop_base<V: Copy>(store: &mut Store<V>, base: usize)
     requires { base < length store.old.signs }
-    ensures { Drops store.old store.new base }
+    ensures { DropsBase store.old store.new base }
 {
     if base != 0 {
         store.set_base(base, false);
@@ -74,9 +74,9 @@ fn least_base<V: Copy>(
 ) -> usize
     requires low { (0 < low) × (low ≤ room) }
     requires tried { (k : ℕ) → low ≤ k → k < tried →
-        fits_row store.old (sign ∷ signs_of slots.now) k ≡ false }
-    requires room { HasRoom store.old slots.now sign room }
-    ensures least { IsLeast (fits_row store.old (sign ∷ signs_of slots.now)) low result }
+        fits_row store.old (sign ∷ slot_signs slots.now) k ≡ false }
+    requires room { HasSpace store.old slots.now sign room }
+    ensures least { IsLeast (fits_row store.old (sign ∷ slot_signs slots.now)) low result }
     ensures room { result ≤ room }
     ensures same { store.new ≡ store.old }
 {

@@ -2,7 +2,7 @@
 ghost use Rattle.std.specs.Prelude.{◌≡◌, ◌≢◌, ℕ, ◌<◌, [], length, MatchBool};
 ghost use Rattle.pg_cells.specs.Inside.store.Lists.{sign_at};
 ghost use Rattle.pg_cells.specs.Inside.families.Layouts.{signs_at_base};
-ghost use Rattle.pg_cells.specs.Inside.families.Moves.{Prunes};
+ghost use Rattle.pg_cells.specs.Inside.families.Moves.{DropsEmptyFamily};
 ghost use Rattle.pg_cells.specs.Inside.store.Store.{IsRow};
 
 use crate::store::Store;
@@ -14,7 +14,7 @@ pub fn drop_family<V: Copy>(store: &mut Store<V>, base: usize, parent: usize, is
     requires parent { sign_at store.old parent ≢ 0 }
     ensures prunes { (n : ℕ) → MatchBool is_empty (signs_at_base n store.old base ≡ [])
         (signs_at_base n store.old base ≢ []) →
-        Prunes n store.old store.new base parent }
+        DropsEmptyFamily n store.old store.new base parent }
     ensures row { IsRow store.new }
 {
     if is_empty {

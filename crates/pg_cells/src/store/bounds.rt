@@ -1,7 +1,7 @@
 //! Bounds by sign below which no base is free.
 ghost use Rattle.std.specs.Prelude.{◌≡◌, ◌≢◌, ℕ, ◌+◌, ◌<◌, ◌≤◌, false, length, slice_index, IfOk, if◌then◌else◌};
 ghost use Rattle.pg_cells.specs.declared.store.cell.TheConstants.{CELLS_END, SIGN_COUNT};
-ghost use Rattle.pg_cells.specs.Inside.store.Bounds.{IsBelow};
+ghost use Rattle.pg_cells.specs.Inside.store.Bounds.{IsBelowBounds};
 
 use pg_types::Sign;
 use std::alloc::{AllocError, Global};
@@ -19,7 +19,7 @@ pub fn no_bounds(alloc: Global, signs: u16) -> Result<Vec<u32>, AllocError>
 
 /// The bound of a sign, where these are the least cell and the least base that were given up.
 pub fn bound_of(lows: &[u32], freed: usize, dropped: usize, sign: Sign) -> usize
-    ensures { (b : ℕ) → b < result → IsBelow lows.now freed dropped sign b }
+    ensures { (b : ℕ) → b < result → IsBelowBounds lows.now freed dropped sign b }
 {
     let low = lows.get(sign as usize).copied().unwrap_or(0);
     (low as usize)
@@ -30,7 +30,7 @@ pub fn bound_of(lows: &[u32], freed: usize, dropped: usize, sign: Sign) -> usize
 // Lowers each bound as far as the cells and bases that were given up require.
 fn lower(lows: &mut [u32], freed: usize, dropped: usize)
     requires { length lows.old ≤ SIGN_COUNT }
-    ensures { (s b : ℕ) → b < slice_index lows.new s → IsBelow lows.old freed dropped s b }
+    ensures { (s b : ℕ) → b < slice_index lows.new s → IsBelowBounds lows.old freed dropped s b }
 {
     if freed == usize::MAX && dropped == usize::MAX {
         return;
@@ -49,7 +49,7 @@ pub fn raise(lows: &mut [u32], freed: usize, dropped: usize, sign: Sign, low: us
     requires low { low < CELLS_END }
     ensures here { slice_index lows.new sign ≤ low }
     ensures there { (s b : ℕ) → s ≢ sign → b < slice_index lows.new s →
-        IsBelow lows.old freed dropped s b }
+        IsBelowBounds lows.old freed dropped s b }
 {
     lower(lows, freed, dropped);
     if (sign as usize) < lows.len() {

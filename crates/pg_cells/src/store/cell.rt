@@ -1,6 +1,6 @@
 //! One cell, and the reading and writing of its parts.
 ghost use Rattle.std.specs.Prelude.{◌≡◌, ◌≢◌, ◌<◌, ◌+◌, ◌*◌, ◌%◌, length, nat_eq, slice_get, set, Some};
-ghost use Rattle.pg_cells.specs.Inside.store.Lists.{lists, FitsCell, SaysTaken, base_in, link_in, with_before, with_after, with_child, with_value, with_base, with_taken, with_free, sign_at, IsFree, before_at, after_at, child_at, base_at};
+ghost use Rattle.pg_cells.specs.Inside.store.Lists.{linked_row, FitsCell, SaysTaken, base_in, link_in, with_before, with_after, with_child, with_value, with_base, with_taken, with_free, sign_at, IsFree, before_at, after_at, child_at, base_at};
 
 use crate::store::member::Member;
 use pg_types::Sign;
@@ -70,7 +70,7 @@ fn links_with_base(links: u32, is_base: bool) -> u32
 /// Whether a cell is taken. The search for a base asks this of each cell that it looks at.
 pub fn is_taken<V: Copy>(cells: &[Cell<V>], cell: usize) -> bool
     requires { cell < length cells.now }
-    ensures { SaysTaken (lists cells.now).row cell result }
+    ensures { SaysTaken (linked_row cells.now).row cell result }
 {
     cells[cell].signs % SIGN_AT == 1
 }
@@ -80,7 +80,7 @@ pub fn is_taken<V: Copy>(cells: &[Cell<V>], cell: usize) -> bool
 pub fn has_sign<V: Copy>(cells: &[Cell<V>], cell: usize, sign: Sign) -> bool
     requires cell { cell < length cells.now }
     requires sign { sign ≢ 0 }
-    ensures { result ≡ nat_eq (sign_at (lists cells.now).row cell) sign }
+    ensures { result ≡ nat_eq (sign_at (linked_row cells.now).row cell) sign }
 {
     cells[cell].signs % NEXT_AT == 1 + (sign as u32 - 1) * SIGN_AT
 }
@@ -88,7 +88,7 @@ pub fn has_sign<V: Copy>(cells: &[Cell<V>], cell: usize, sign: Sign) -> bool
 /// Whether the index of a cell is the base of a family.
 pub fn is_base_of<V: Copy>(cells: &[Cell<V>], cell: usize) -> bool
     requires { cell < length cells.now }
-    ensures { result ≡ base_at (lists cells.now).row cell }
+    ensures { result ≡ base_at (linked_row cells.now).row cell }
 {
     cells[cell].links / BASE_AT % 2 == 1
 }
@@ -96,8 +96,8 @@ pub fn is_base_of<V: Copy>(cells: &[Cell<V>], cell: usize) -> bool
 /// The value of a taken cell, with the next sign of its family and the first sign below its string.
 pub fn value_of<V: Copy>(cells: &[Cell<V>], cell: usize) -> Member<V>
     requires cell { cell < length cells.now }
-    requires taken { sign_at (lists cells.now).row cell ≢ 0 }
-    ensures value { slice_get (lists cells.now).row.values cell ≡ Some result }
+    requires taken { sign_at (linked_row cells.now).row cell ≢ 0 }
+    ensures value { slice_get (linked_row cells.now).row.values cell ≡ Some result }
     ensures fits { FitsCell result }
 {
     let taken = cells[cell];
@@ -111,8 +111,8 @@ pub fn value_of<V: Copy>(cells: &[Cell<V>], cell: usize) -> Member<V>
 /// The base of the child family of a taken cell, 0 for none.
 pub fn child_of<V: Copy>(cells: &[Cell<V>], cell: usize) -> usize
     requires cell { cell < length cells.now }
-    requires taken { sign_at (lists cells.now).row cell ≢ 0 }
-    ensures { result ≡ child_at (lists cells.now).row cell }
+    requires taken { sign_at (linked_row cells.now).row cell ≢ 0 }
+    ensures { result ≡ child_at (linked_row cells.now).row cell }
 {
     (cells[cell].links / LINK_AT) as usize
 }
@@ -120,8 +120,8 @@ pub fn child_of<V: Copy>(cells: &[Cell<V>], cell: usize) -> usize
 /// The free cell before a free cell.
 pub fn before_of<V: Copy>(cells: &[Cell<V>], cell: usize) -> usize
     requires cell { cell < length cells.now }
-    requires free { IsFree (lists cells.now).row cell }
-    ensures { result ≡ before_at (lists cells.now) cell }
+    requires free { IsFree (linked_row cells.now).row cell }
+    ensures { result ≡ before_at (linked_row cells.now) cell }
 {
     (cells[cell].signs / SIGN_AT) as usize
 }
@@ -130,7 +130,7 @@ pub fn before_of<V: Copy>(cells: &[Cell<V>], cell: usize) -> usize
 /// there.
 pub fn after_of<V: Copy>(cells: &[Cell<V>], cell: usize) -> usize
     requires { cell < length cells.now }
-    ensures { result ≡ after_at (lists cells.now) cell }
+    ensures { result ≡ after_at (linked_row cells.now) cell }
 {
     (cells[cell].links / LINK_AT) as usize
 }
@@ -138,9 +138,9 @@ pub fn after_of<V: Copy>(cells: &[Cell<V>], cell: usize) -> usize
 /// Sets the free cell before a free cell.
 pub fn set_before<V: Copy>(cells: &mut [Cell<V>], cell: usize, before: usize)
     requires cell { cell < length cells.old }
-    requires free { IsFree (lists cells.old).row cell }
+    requires free { IsFree (linked_row cells.old).row cell }
     requires before { before < CELLS_END }
-    ensures { lists cells.new ≡ with_before (lists cells.old) cell before }
+    ensures { linked_row cells.new ≡ with_before (linked_row cells.old) cell before }
 {
     cells[cell].signs = before as u32 * SIGN_AT;
 }
@@ -148,9 +148,9 @@ pub fn set_before<V: Copy>(cells: &mut [Cell<V>], cell: usize, before: usize)
 /// Sets the free cell after a free cell, 0 for none.
 pub fn set_after<V: Copy>(cells: &mut [Cell<V>], cell: usize, after: usize)
     requires cell { cell < length cells.old }
-    requires free { IsFree (lists cells.old).row cell }
+    requires free { IsFree (linked_row cells.old).row cell }
     requires after { after < CELLS_END }
-    ensures { lists cells.new ≡ with_after (lists cells.old) cell after }
+    ensures { linked_row cells.new ≡ with_after (linked_row cells.old) cell after }
 {
     let free = &mut cells[cell];
     free.links = after as u32 * LINK_AT + free.links % LINK_AT;
@@ -159,11 +159,11 @@ pub fn set_after<V: Copy>(cells: &mut [Cell<V>], cell: usize, after: usize)
 /// Sets the base of the child family of a taken cell, 0 for none.
 pub fn set_child<V: Copy>(cells: &mut [Cell<V>], cell: usize, child: usize)
     requires cell { cell < length cells.old }
-    requires taken { sign_at (lists cells.old).row cell ≢ 0 }
+    requires taken { sign_at (linked_row cells.old).row cell ≢ 0 }
     requires child { child < CELLS_END }
-    ensures { lists cells.new ≡ record (lists cells.old) {
-      row = with_child (lists cells.old).row cell child;
-      afters = set (lists cells.old).afters cell child;
+    ensures { linked_row cells.new ≡ record (linked_row cells.old) {
+      row = with_child (linked_row cells.old).row cell child;
+      afters = set (linked_row cells.old).afters cell child;
     } }
 {
     let taken = &mut cells[cell];
@@ -173,11 +173,11 @@ pub fn set_child<V: Copy>(cells: &mut [Cell<V>], cell: usize, child: usize)
 /// Sets the value of a taken cell, with the next and the first sign.
 pub fn set_value<V: Copy>(cells: &mut [Cell<V>], cell: usize, value: Member<V>)
     requires cell { cell < length cells.old }
-    requires taken { sign_at (lists cells.old).row cell ≢ 0 }
+    requires taken { sign_at (linked_row cells.old).row cell ≢ 0 }
     requires fits { FitsCell value }
-    ensures { lists cells.new ≡ record (lists cells.old) {
-      row = with_value (lists cells.old).row cell value;
-      befores = set (lists cells.old).befores cell 0;
+    ensures { linked_row cells.new ≡ record (linked_row cells.old) {
+      row = with_value (linked_row cells.old).row cell value;
+      befores = set (linked_row cells.old).befores cell 0;
     } }
 {
     let taken = &mut cells[cell];
@@ -189,8 +189,10 @@ pub fn set_value<V: Copy>(cells: &mut [Cell<V>], cell: usize, value: Member<V>)
 /// Sets whether the index of a cell is the base of a family.
 pub fn set_base<V: Copy>(cells: &mut [Cell<V>], cell: usize, is_base: bool)
     requires { cell < length cells.old }
-    ensures { lists cells.new
-        ≡ record (lists cells.old) { row = with_base (lists cells.old).row cell is_base } }
+    ensures { linked_row cells.new
+        ≡ record (linked_row cells.old) {
+          row = with_base (linked_row cells.old).row cell is_base;
+        } }
 {
     let held = &mut cells[cell];
     held.links = links_with_base(held.links, is_base);
@@ -210,10 +212,10 @@ pub fn set_taken<V: Copy>(
     requires sign_fits { sign < SIGN_COUNT }
     requires fits { FitsCell value }
     requires child { child < CELLS_END }
-    ensures { lists cells.new ≡ record (lists cells.old) {
-      row = with_taken (lists cells.old).row cell sign value child;
-      befores = set (lists cells.old).befores cell 0;
-      afters = set (lists cells.old).afters cell child;
+    ensures { linked_row cells.new ≡ record (linked_row cells.old) {
+      row = with_taken (linked_row cells.old).row cell sign value child;
+      befores = set (linked_row cells.old).befores cell 0;
+      afters = set (linked_row cells.old).afters cell child;
     } }
 {
     let taken = &mut cells[cell];
@@ -230,10 +232,10 @@ pub fn set_free<V: Copy>(cells: &mut [Cell<V>], cell: usize, before: usize, afte
     requires cell { cell < length cells.old }
     requires before { before < CELLS_END }
     requires after { after < CELLS_END }
-    ensures { lists cells.new ≡ record {
-      row = with_free (lists cells.old).row cell;
-      befores = set (lists cells.old).befores cell before;
-      afters = set (lists cells.old).afters cell after;
+    ensures { linked_row cells.new ≡ record {
+      row = with_free (linked_row cells.old).row cell;
+      befores = set (linked_row cells.old).befores cell before;
+      afters = set (linked_row cells.old).afters cell after;
     } }
 {
     let free = &mut cells[cell];

@@ -1,6 +1,6 @@
 //! The list through the free cells.
 ghost use Rattle.std.specs.Prelude.{◌≡◌, ◌≢◌, ℕ, ◌+◌, ◌-◌, ◌<◌, ◌≤◌, length, OnOk, OnErr};
-ghost use Rattle.pg_cells.specs.Inside.store.Lists.{lists, FitsCell, with_taken, with_free, with_more, without_links, sign_at, IsFree};
+ghost use Rattle.pg_cells.specs.Inside.store.Lists.{linked_row, FitsCell, with_taken, with_free, with_more, without_links, sign_at, IsFree};
 ghost use Rattle.pg_cells.specs.Inside.store.FreeList.{AreLinked, IsFreeTo};
 
 use crate::store::cell::{
@@ -19,16 +19,17 @@ pub fn take_cell<V: Copy>(
     value: Member<V>,
     child: usize,
 )
-    requires linked { AreLinked (lists cells.old) }
+    requires linked { AreLinked (linked_row cells.old) }
     requires small { length cells.old < CELLS_END }
     requires cell { (0 < cell) × (cell < length cells.old) }
-    requires free { IsFree (lists cells.old).row cell }
+    requires free { IsFree (linked_row cells.old).row cell }
     requires sign { sign ≢ 0 }
     requires sign_fits { sign < SIGN_COUNT }
     requires fits { FitsCell value }
     requires child { child < CELLS_END }
-    ensures row { (lists cells.new).row ≡ with_taken (lists cells.old).row cell sign value child }
-    ensures linked { AreLinked (lists cells.new) }
+    ensures row { (linked_row cells.new).row
+        ≡ with_taken (linked_row cells.old).row cell sign value child }
+    ensures linked { AreLinked (linked_row cells.new) }
 {
     let before = before_of(cells, cell);
     let after = after_of(cells, cell);
@@ -39,12 +40,12 @@ pub fn take_cell<V: Copy>(
 
 /// Puts a taken cell into the list, at its place.
 pub fn free_cell<V: Copy>(cells: &mut [Cell<V>], cell: usize)
-    requires linked { AreLinked (lists cells.old) }
+    requires linked { AreLinked (linked_row cells.old) }
     requires small { length cells.old < CELLS_END }
     requires cell { (0 < cell) × (cell < length cells.old) }
-    requires taken { sign_at (lists cells.old).row cell ≢ 0 }
-    ensures row { (lists cells.new).row ≡ with_free (lists cells.old).row cell }
-    ensures linked { AreLinked (lists cells.new) }
+    requires taken { sign_at (linked_row cells.old).row cell ≢ 0 }
+    ensures row { (linked_row cells.new).row ≡ with_free (linked_row cells.old).row cell }
+    ensures linked { AreLinked (linked_row cells.new) }
 {
     let before = free_below(cells, cell);
     put_after(cells, cell, before);
@@ -53,12 +54,12 @@ pub fn free_cell<V: Copy>(cells: &mut [Cell<V>], cell: usize)
 // The last free cell below a taken cell. It is sought from the cell down, along the free cells from
 // the first, and from the cell up, side by side. The first free cell above is linked with it.
 fn free_below<V: Copy>(cells: &[Cell<V>], cell: usize) -> usize
-    requires linked { AreLinked (lists cells.now) }
+    requires linked { AreLinked (linked_row cells.now) }
     requires cell { (0 < cell) × (cell < length cells.now) }
-    requires taken { sign_at (lists cells.now).row cell ≢ 0 }
+    requires taken { sign_at (linked_row cells.now).row cell ≢ 0 }
     ensures below { result < cell }
-    ensures free { IsFree (lists cells.now).row result }
-    ensures last { (k : ℕ) → k < cell → IsFree (lists cells.now).row k → k ≤ result }
+    ensures free { IsFree (linked_row cells.now).row result }
+    ensures last { (k : ℕ) → k < cell → IsFree (linked_row cells.now).row k → k ≤ result }
 {
     let end = cells.len() - 1;
     let mut low = cell - 1;
@@ -85,15 +86,15 @@ fn free_below<V: Copy>(cells: &[Cell<V>], cell: usize) -> usize
 
 // Puts a cell into the list behind the free cell before it.
 fn put_after<V: Copy>(cells: &mut [Cell<V>], cell: usize, before: usize)
-    requires linked { AreLinked (lists cells.old) }
+    requires linked { AreLinked (linked_row cells.old) }
     requires small { length cells.old < CELLS_END }
     requires cell { cell < length cells.old }
-    requires taken { sign_at (lists cells.old).row cell ≢ 0 }
+    requires taken { sign_at (linked_row cells.old).row cell ≢ 0 }
     requires before { before < cell }
-    requires free { IsFree (lists cells.old).row before }
-    requires last { (k : ℕ) → k < cell → IsFree (lists cells.old).row k → k ≤ before }
-    ensures row { (lists cells.new).row ≡ with_free (lists cells.old).row cell }
-    ensures linked { AreLinked (lists cells.new) }
+    requires free { IsFree (linked_row cells.old).row before }
+    requires last { (k : ℕ) → k < cell → IsFree (linked_row cells.old).row k → k ≤ before }
+    ensures row { (linked_row cells.new).row ≡ with_free (linked_row cells.old).row cell }
+    ensures linked { AreLinked (linked_row cells.new) }
 {
     let after = after_of(cells, before);
     set_after(cells, before, cell);
@@ -126,8 +127,8 @@ pub fn free_all<V: Copy>(cells: &mut [Cell<V>])
     requires some { 0 < length cells.old }
     requires small { length cells.old < CELLS_END }
     ensures size { length cells.new ≡ length cells.old }
-    ensures free { IsFreeTo (length cells.old - 1) (length cells.old) (lists cells.new) }
-    ensures linked { AreLinked (lists cells.new) }
+    ensures free { IsFreeTo (length cells.old - 1) (length cells.old) (linked_row cells.new) }
+    ensures linked { AreLinked (linked_row cells.new) }
 {
     let last = cells.len() - 1;
     for cell in 0..cells.len() {
@@ -138,11 +139,11 @@ pub fn free_all<V: Copy>(cells: &mut [Cell<V>])
 
 /// Adds a free cell at the end.
 pub fn push_cell<V: Copy>(cells: &mut Vec<Cell<V>>, value: V) -> Result<(), AllocError>
-    requires linked { AreLinked (lists cells.old.items) }
+    requires linked { AreLinked (linked_row cells.old.items) }
     requires small { length cells.old.items + 1 < CELLS_END }
-    ensures row { OnOk result ((lists cells.new.items).row
-        ≡ with_more (lists cells.old.items).row (without_links value)) }
-    ensures linked { AreLinked (lists cells.new.items) }
+    ensures row { OnOk result ((linked_row cells.new.items).row
+        ≡ with_more (linked_row cells.old.items).row (without_links value)) }
+    ensures linked { AreLinked (linked_row cells.new.items) }
     ensures err { OnErr result (cells.new.items ≡ cells.old.items) }
 {
     cells.push(Cell {
@@ -156,12 +157,13 @@ pub fn push_cell<V: Copy>(cells: &mut Vec<Cell<V>>, value: V) -> Result<(), Allo
 
 // Puts the last cell into the list.
 fn put_last<V: Copy>(cells: &mut [Cell<V>])
-    requires linked { AreLinked (lists cells.old) }
+    requires linked { AreLinked (linked_row cells.old) }
     requires small { length cells.old < CELLS_END }
     requires cell { 1 < length cells.old }
-    requires taken { sign_at (lists cells.old).row (length cells.old - 1) ≢ 0 }
-    ensures row { (lists cells.new).row ≡ with_free (lists cells.old).row (length cells.old - 1) }
-    ensures linked { AreLinked (lists cells.new) }
+    requires taken { sign_at (linked_row cells.old).row (length cells.old - 1) ≢ 0 }
+    ensures row { (linked_row cells.new).row
+        ≡ with_free (linked_row cells.old).row (length cells.old - 1) }
+    ensures linked { AreLinked (linked_row cells.new) }
 {
     let before = before_of(cells, 0);
     put_after(cells, cells.len() - 1, before);

@@ -2,9 +2,9 @@
 ghost use Rattle.std.specs.Prelude.{◌≡◌, ◌≢◌, ℕ, ◌+◌, ◌<◌, ◌≤◌, ◌∷◌, length, nat_eq, slice_index};
 ghost use Rattle.pg_types.specs.Inside.Placing.{IsLeast};
 ghost use Rattle.pg_cells.specs.declared.store.cell.TheConstants.{CELLS_END};
-ghost use Rattle.pg_cells.specs.Inside.store.Lists.{lists, SaysTaken, sign_at};
+ghost use Rattle.pg_cells.specs.Inside.store.Lists.{linked_row, SaysTaken, sign_at};
 ghost use Rattle.pg_cells.specs.Inside.store.FreeList.{AreLinked};
-ghost use Rattle.pg_cells.specs.Inside.store.Fit.{HasRoom, fits_row, signs_of};
+ghost use Rattle.pg_cells.specs.Inside.store.Fit.{HasSpace, fits_row, slot_signs};
 
 use crate::store::cell::{Cell, after_of, has_sign, is_base_of, is_taken};
 use crate::store::member::Member;
@@ -23,7 +23,7 @@ pub struct Slot<V> {
 
 /// Whether a cell is taken. None past the end is.
 pub fn is_taken_there<V: Copy>(cells: &[Cell<V>], cell: usize) -> bool
-    ensures { SaysTaken (lists cells.now).row cell result }
+    ensures { SaysTaken (linked_row cells.now).row cell result }
 {
     if cell < cells.len() {
         is_taken(cells, cell)
@@ -35,7 +35,7 @@ pub fn is_taken_there<V: Copy>(cells: &[Cell<V>], cell: usize) -> bool
 /// Whether a cell has a sign. None past the end has it.
 pub fn has_sign_there<V: Copy>(cells: &[Cell<V>], cell: usize, sign: Sign) -> bool
     requires { sign ≢ 0 }
-    ensures { result ≡ nat_eq (sign_at (lists cells.now).row cell) sign }
+    ensures { result ≡ nat_eq (sign_at (linked_row cells.now).row cell) sign }
 {
     if cell < cells.len() {
         has_sign(cells, cell, sign)
@@ -49,9 +49,9 @@ pub fn has_sign_there<V: Copy>(cells: &[Cell<V>], cell: usize, sign: Sign) -> bo
 fn fits<V: Copy>(cells: &[Cell<V>], slots: &[Slot<Member<V>>], base: usize) -> bool
     requires base { base < length cells.now }
     requires wide { (k : ℕ) → k < length slots.now →
-        base + slice_index (signs_of slots.now) k < length cells.now }
+        base + slice_index (slot_signs slots.now) k < length cells.now }
     requires small { length cells.now < CELLS_END }
-    ensures { result ≡ fits_row (lists cells.now).row (signs_of slots.now) base }
+    ensures { result ≡ fits_row (linked_row cells.now).row (slot_signs slots.now) base }
 {
     for slot in slots {
         if is_taken(cells, base + slot.sign as usize) {
@@ -64,15 +64,15 @@ fn fits<V: Copy>(cells: &[Cell<V>], slots: &[Slot<Member<V>>], base: usize) -> b
 // The first free cell from a cell on. It is sought from the cell on and, side by side, along the
 // free cells from the first.
 fn free_from<V: Copy>(cells: &[Cell<V>], cell: usize, bound: usize) -> usize
-    requires linked { AreLinked (lists cells.now) }
+    requires linked { AreLinked (linked_row cells.now) }
     requires positive { 0 < cell }
     requires below { cell ≤ bound }
     requires bound { bound < length cells.now }
-    requires free { sign_at (lists cells.now).row bound ≡ 0 }
+    requires free { sign_at (linked_row cells.now).row bound ≡ 0 }
     ensures from { cell ≤ result }
     ensures bound { result ≤ bound }
-    ensures free { sign_at (lists cells.now).row result ≡ 0 }
-    ensures first { (k : ℕ) → cell ≤ k → k < result → sign_at (lists cells.now).row k ≢ 0 }
+    ensures free { sign_at (linked_row cells.now).row result ≡ 0 }
+    ensures first { (k : ℕ) → cell ≤ k → k < result → sign_at (linked_row cells.now).row k ≢ 0 }
 {
     let mut at = cell;
     let mut free = after_of(cells, 0);
@@ -92,12 +92,12 @@ pub fn find_base<V: Copy>(
     low: usize,
     room: usize,
 ) -> usize
-    requires linked { AreLinked (lists cells.now) }
+    requires linked { AreLinked (linked_row cells.now) }
     requires small { length cells.now < CELLS_END }
     requires low { low ≤ room }
-    requires room { HasRoom (lists cells.now).row slots.now sign room }
+    requires room { HasSpace (linked_row cells.now).row slots.now sign room }
     ensures least { IsLeast
-        (fits_row (lists cells.now).row (sign ∷ signs_of slots.now)) low result }
+        (fits_row (linked_row cells.now).row (sign ∷ slot_signs slots.now)) low result }
     ensures room { result ≤ room }
 {
     let first = sign as usize;

@@ -5,22 +5,22 @@ use Rattle.std.specs.List.{slice_get}
 use Rattle.std.specs.FinMap.Entries.{find, put}
 use Rattle.pg_cells.specs.Inside.linked.ValuedFamilies.{ValuedFamilies}
 use Rattle.pg_types.specs.Inside.counting.Counts.{with_weight, with_count}
-use Rattle.pg_types.specs.Inside.counting.NumberedWindows.{Windows, HasNumber, with_counted}
+use Rattle.pg_types.specs.Inside.counting.NumberedWindows.{Windows, HasNumber, with_window_counted}
 use Rattle.pg_types.proofs.Numbering.{get_left, get_seam}
 use Rattle.pg_types.proofs.StringEntries.{order}
 use Rattle.pg_count.specs.Inside.Counting.{Counting, Tally, counting_of}
-use Rattle.pg_count.specs.Inside.cells.Leaves.{AreLeaves, HasTally, Sets}
+use Rattle.pg_count.specs.Inside.cells.Leaves.{AreLeaves, HasTally, SetsTally}
 use Rattle.pg_count.proofs.LeafLaws.Fronts.{which_number}
 use Rattle.pg_count.proofs.LeafLaws.Wholes.{counts, counts_there, none_counted, set_counts}
 
 -- a count trie after a window is counted
 abbrev pub counting_with : Counting → List ℕ → Bool → ℕ → Counting
-counting_with c u good weight = record c { counted = with_counted c.counted u good weight }
+counting_with c u good weight = record c { counted = with_window_counted c.counted u good weight }
 
 -- a window that is counted with a number is counted again
 module _ (h g : ValuedFamilies (Option Tally)) (windows : Windows) (len : ℕ) (are : AreLeaves h windows len) (new : AreLeaves g windows len) (u : List ℕ)
     (n : ℕ) (was sums : ℕ × ℕ) (good : Bool) (weight : ℕ)
-    (signs : g.signs ≡ h.signs) (at : HasNumber windows u n) (there : HasTally h.values (n, was)) (is : sums ≡ with_weight was good weight) (sets : Sets h.values g.values (n, sums)) where
+    (signs : g.signs ≡ h.signs) (at : HasNumber windows u n) (there : HasTally h.values (n, was)) (is : sums ≡ with_weight was good weight) (sets : SetsTally h.values g.values (n, sums)) where
   found : find order u (counts h windows len are) ≡ Some was
   found = counts_there h windows len are u (n, was) there at
 
@@ -41,7 +41,7 @@ module _ (h g : ValuedFamilies (Option Tally)) (windows : Windows) (len : ℕ) (
 -- a window that is not counted gets the next number
 module _ (h g : ValuedFamilies (Option Tally)) (windows more : Windows) (len : ℕ) (are : AreLeaves h windows len) (new : AreLeaves g more len) (u : List ℕ) (sums : ℕ × ℕ) (good : Bool) (weight : ℕ)
     (signs : g.signs ≡ h.signs) (none : (n : ℕ) → HasNumber windows u n → ⊥) (pushed : more ≡ windows ++ u ∷ []) (is : sums ≡ with_weight (0, 0) good weight)
-    (sets : Sets h.values g.values (length windows, sums)) where
+    (sets : SetsTally h.values g.values (length windows, sums)) where
   absent : find order u (counts h windows len are) ≡ None
   absent = none_counted h windows len are u none
 

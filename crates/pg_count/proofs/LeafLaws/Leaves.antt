@@ -10,7 +10,7 @@ use Rattle.pg_cells.specs.Inside.linked.ValuedFamilies.{ValuedFamilies}
 use Rattle.pg_cells.specs.Inside.linked.AreValuedFamilies.{AreValuedFamilies}
 use Rattle.pg_cells.specs.Inside.linked.Walks.{EndsBefore}
 use Rattle.pg_count.specs.Inside.Counting.{Tally, Tallies, numbers_in}
-use Rattle.pg_count.specs.Inside.cells.Leaves.{Adds, AreLeaves, AreLast, AreShort, IsLast, Keeps, PushesDown, Sets}
+use Rattle.pg_count.specs.Inside.cells.Leaves.{Adds, AreLeaves, AreLast, AreShort, IsLast, SameTallies, PushesDown, SetsTally}
 use Rattle.pg_count.proofs.LeafLaws.Fronts.{fronts, found_put, which_number}
 use Rattle.pg_count.proofs.LeafLaws.Wholes.{not_on}
 
@@ -75,7 +75,7 @@ module _ (h : ValuedFamilies (Option Tally)) (windows : Windows) (len : ℕ) (ar
       size = are.size ∙ sym adds.size;
     }
 
-    pub added_keeps : Keeps h.values g.values
+    pub added_keeps : SameTallies h.values g.values
     added_keeps = record { keeps = λ t has. (has.0, added_to has.0 t has.1); back = λ t has. (has.0, added_from has.0 t has.1) }
 
   -- a tally was pushed down
@@ -170,7 +170,7 @@ module _ (h : ValuedFamilies (Option Tally)) (windows : Windows) (len : ℕ) (ar
       size = are.size ∙ sym pushes.size;
     }
 
-    pub pushed_keeps : Keeps h.values g.values
+    pub pushed_keeps : SameTallies h.values g.values
     pushed_keeps = record {
       keeps = λ v has. elim (equal_or_not has.0 q) [
         | inl same ↦ (
@@ -258,7 +258,7 @@ module _ (h g : ValuedFamilies (Option Tally)) (windows : Windows) (len : ℕ) (
     size = are.size ∙ sym size;
   }
 
-  pub again_sets : Sets h.values g.values (n, sums)
+  pub again_sets : SetsTally h.values g.values (n, sums)
   again_sets = record {
     here = (q, again_here);
     keeps = λ v other has. (
@@ -312,7 +312,7 @@ module _ (h g : ValuedFamilies (Option Tally)) (windows : Windows) (len : ℕ) (
     size = (let s = are.size in let l = length-append windows ((q ++ r) ∷ []) in omega (arith, size));
   }
 
-  pub more_sets : Sets h.values g.values (length windows, sums)
+  pub more_sets : SetsTally h.values g.values (length windows, sums)
   more_sets = record {
     here = (q, more_here);
     keeps = λ v other has. (has.0, more_to has.0 v has.1);

@@ -15,7 +15,7 @@ use Rattle.pg_cells.specs.Inside.linked.ValuedFamilies.{ValuedFamilies}
 use Rattle.pg_cells.specs.Inside.linked.AreValuedFamilies.{AreValuedFamilies}
 use Rattle.pg_cells.specs.Inside.linked.Walks.{EndsBefore}
 use Rattle.pg_count.specs.Inside.Counting.{Tally, numbers_in}
-use Rattle.pg_count.specs.Inside.cells.Leaves.{Adds, AreLeaves, IsFree, IsLast, IsWay, Keeps, PushesDown, Sets}
+use Rattle.pg_count.specs.Inside.cells.Leaves.{Adds, AreLeaves, IsFreePrefix, IsLast, IsWay, SameTallies, PushesDown, SetsTally}
 use Rattle.pg_count.proofs.LeafLaws.Leaves.{longer, more_leaves, more_sets, one_more, pushed_leaves, pushed_keeps, pushed_blank, pushed_there, pushed_other}
 use Rattle.pg_count.proofs.WalkLaws.Ways.{ends_none}
 
@@ -38,10 +38,10 @@ differ_more u v at size same other sign =
     let lt = differ u v at size same other in
     differ u v (at + 1) size (take_more_same u v at 0 lt (omega arith) same sign) other
 
-pub keeps_on : {old mid new : List (List ℕ × Option Tally)} → Keeps old mid → Keeps mid new → Keeps old new
+pub keeps_on : {old mid new : List (List ℕ × Option Tally)} → SameTallies old mid → SameTallies mid new → SameTallies old new
 keeps_on a b = record { keeps = λ t has. b.keeps t (a.keeps t has); back = λ t has. a.back t (b.back t has) }
 
-pub keeps_none : (ts : List (List ℕ × Option Tally)) → Keeps ts ts
+pub keeps_none : (ts : List (List ℕ × Option Tally)) → SameTallies ts ts
 keeps_none ts = record { keeps = λ t has. has; back = λ t has. has }
 
 module _ (h : ValuedFamilies (Option Tally)) (windows : Windows) (u other : List ℕ) (number at : ℕ) (sums : ℕ × ℕ) (are : AreLeaves h windows (length u))
@@ -70,7 +70,7 @@ module _ (h : ValuedFamilies (Option Tally)) (windows : Windows) (u other : List
     pub parted_leaves : AreLeaves g windows (length u)
     parted_leaves = pushed_leaves h windows (length u) are g (take at u) (get_or other at 0) (drop (at + 1) other) (number, sums) pushes tally there_row
 
-    pub parted_keeps : Keeps h.values g.values
+    pub parted_keeps : SameTallies h.values g.values
     parted_keeps = pushed_keeps h windows (length u) are g (take at u) (get_or other at 0) (drop (at + 1) other) (number, sums) pushes tally there_row
 
     pub parted_blank : find order (take at u) g.values ≡ Some None
@@ -109,7 +109,7 @@ row_begins h windows u row number at sums are within tally there =
 
 -- a string at which one was added
 module _ (h g : ValuedFamilies (Option Tally)) (u : List ℕ) (at cell below : ℕ) (way : IsWay h u at cell) (less : at < length u) (adds : Adds h g (take at u) (get_or u at 0)) where
-  pub added_free : cell_of g.families (take at u ++ get_or u at 0 ∷ []) ≡ Some below → IsFree g u below
+  pub added_free : cell_of g.families (take at u ++ get_or u at 0 ∷ []) ≡ Some below → IsFreePrefix g u below
   added_free there = record {
     string = take at u ++ get_or u at 0 ∷ [];
     rest = drop (at + 1) u;
@@ -124,7 +124,7 @@ module _ (h g : ValuedFamilies (Option Tally)) (u : List ℕ) (at cell below : �
   }
 
 -- the end of a way at which no string is counted and below which there is none
-pub way_free : (h : ValuedFamilies (Option Tally)) (u : List ℕ) (at cell : ℕ) → IsWay h u at cell → find order (take at u) h.values ≡ Some None → IsLast h.values (take at u) → IsFree h u cell
+pub way_free : (h : ValuedFamilies (Option Tally)) (u : List ℕ) (at cell : ℕ) → IsWay h u at cell → find order (take at u) h.values ≡ Some None → IsLast h.values (take at u) → IsFreePrefix h u cell
 way_free h u at cell way blank last = record { string = take at u; rest = drop at u; whole = sym (take-append-drop at u); there = way.there; uncounted = blank; last = last }
 
 -- where there is a family below the end of a way, the window goes on
@@ -142,12 +142,12 @@ pub signs_told : (n : ℕ) (u : List ℕ) → SignsWithin n u → list_all is_si
 signs_told n [] h = refl
 signs_told n (s ∷ u) h = and_from (nat_le 1 s) (list_all is_sign u) (le-leb 1 s (All-head (λ s. (1 ≤ s) × (s ≤ n)) s u h).0) (signs_told n u (All-tail (λ s. (1 ≤ s) × (s ≤ n)) s u h))
 
-pub keeps_sets : {old mid new : List (List ℕ × Option Tally)} {t : Tally} → Keeps old mid → Sets mid new t → Sets old new t
+pub keeps_sets : {old mid new : List (List ℕ × Option Tally)} {t : Tally} → SameTallies old mid → SetsTally mid new t → SetsTally old new t
 keeps_sets a b = record { here = b.here; keeps = λ v other has. b.keeps v other (a.keeps v has); back = λ v other has. a.back v (b.back v other has) }
 
 -- a window was counted in a free cell
 module _ (h g : ValuedFamilies (Option Tally)) (windows more : Windows) (u : List ℕ) (cell : ℕ) (sums : ℕ × ℕ) (are : AreLeaves h windows (length u))
-    (free : IsFree h u cell) (held : AreValuedFamilies g)
+    (free : IsFreePrefix h u cell) (held : AreValuedFamilies g)
     (set : g ≡ record h { values = put order free.string (Some (length (numbers_in h.values), sums)) h.values }) (size : length (numbers_in g.values) ≡ length (numbers_in h.values) + 1)
     (within : SignsWithin h.signs u) (pushed : more ≡ windows ++ u ∷ []) where
   signs : g.signs ≡ h.signs
@@ -161,6 +161,6 @@ module _ (h g : ValuedFamilies (Option Tally)) (windows more : Windows) (u : Lis
       subst (λ ws. AreLeaves g ws (length u)) (sym (pushed ∙ ap (λ z. windows ++ z ∷ []) free.whole))
       (more_leaves h g windows (length u) are free.string free.rest sums held signs values size free.uncounted free.last (ap length (sym free.whole)) (subst (SignsWithin h.signs) free.whole within))
 
-  pub new_sets : Sets h.values g.values (length windows, sums)
+  pub new_sets : SetsTally h.values g.values (length windows, sums)
   new_sets = more_sets h g windows (length u) are free.string free.rest sums held signs values size free.uncounted free.last (ap length (sym free.whole))
       (subst (SignsWithin h.signs) free.whole within)

@@ -13,7 +13,7 @@ use Rattle.pg_types.proofs.Numbering.{behind, first_at}
 use Rattle.pg_types.proofs.StringEntries.{order, equal_or_not, same_maps, head_below, tail_sorted, put_from, found_mapped, sorted_mapped, unmapped}
 use Rattle.pg_cells.specs.Inside.linked.ValuedFamilies.{ValuedFamilies}
 use Rattle.pg_count.specs.Inside.Counting.{IsCounting, Tally, seen_in, sums_of_tally, number_of_tally, numbers_in, window_at, wholes, counting_of}
-use Rattle.pg_count.specs.Inside.cells.Leaves.{AreLeaves, HasTally, Keeps, Sets}
+use Rattle.pg_count.specs.Inside.cells.Leaves.{AreLeaves, HasTally, SameTallies, SetsTally}
 use Rattle.pg_count.proofs.CellLaws.Counted.{sorted_seen, seen_there, seen_strings, tally_there}
 use Rattle.pg_count.proofs.LeafLaws.Fronts.{GoesOn, less_longer}
 
@@ -202,7 +202,7 @@ module _ (h g : ValuedFamilies (Option Tally)) (windows more : Windows) (len : �
           absurd (let wrong : None ≡ Some t.0.1 = sym e ∙ counts_there h windows len are p t.0 there.0 there.1 in cc)
 
   -- a tally was set, and it is that of u
-  pub set_counts : (u : List ℕ) (t : Tally) → Sets h.values g.values t → HasNumber more u t.0
+  pub set_counts : (u : List ℕ) (t : Tally) → SetsTally h.values g.values t → HasNumber more u t.0
       → ((p : List ℕ) (n : ℕ) → p ≢ u → HasNumber windows p n → (n ≢ t.0) × HasNumber more p n) → ((p : List ℕ) (n : ℕ) → p ≢ u → HasNumber more p n → (n ≢ t.0) × HasNumber windows p n)
       → counts g more len new ≡ put order u t.1 (counts h windows len are)
   set_counts u t sets at to from =
@@ -211,7 +211,7 @@ module _ (h g : ValuedFamilies (Option Tally)) (windows more : Windows) (len : �
 
 -- where the tallies stay, so does what is counted
 pub kept_counting : (h g : ValuedFamilies (Option Tally)) (windows : Windows) (len : ℕ) → AreLeaves h windows len → AreLeaves g windows len → g.signs
-    ≡ h.signs → Keeps h.values g.values → counting_of g windows len ≡ counting_of h windows len
+    ≡ h.signs → SameTallies h.values g.values → counting_of g windows len ≡ counting_of h windows len
 kept_counting h g windows len are new signs keeps =
     let same : counts g windows len new ≡ counts h windows len are = same_maps (counts g windows len new) (counts h windows len are) (sorted_counts g windows len new)
     (sorted_counts h windows len are) (λ p.

@@ -8,7 +8,7 @@ use Rattle.pg_types.specs.declared.limits.TheConstants.{LENGTH_MAX, SIGNS_MAX, N
 use Rattle.pg_types.specs.Inside.counting.Counts.{SignsWithin, with_count, with_weight}
 use Rattle.pg_types.specs.Inside.counting.NumberedWindows.{Windows, HasNumber}
 use Rattle.pg_types.proofs.StringEntries.{order}
-use Rattle.pg_count.specs.Inside.Tables.{IsTable, index_of, table_counting, table_counts}
+use Rattle.pg_count.specs.Inside.Tables.{IsCountTable, index_of, table_counting, table_counts}
 use Rattle.pg_count.specs.declared.table.short.TheConstants.{ENTRIES_MAX}
 use Rattle.pg_count.proofs.LeafLaws.Adding.{counting_with}
 use Rattle.pg_count.proofs.TableLaws.Counting.{again_counts, again_tabled, begun_counts, begun_tabled, new_counts, new_tabled, put_size, room_counts, room_tabled}
@@ -16,7 +16,7 @@ use Rattle.pg_count.proofs.TableLaws.Stood.{Sums, counts_there}
 
 -- a pass begins
 pub begun_is : (numbers : List ℕ) (first signs len : ℕ) → 1 ≤ first → first ≤ NUMBERS_END → ((i k : ℕ) → slice_get numbers i ≡ Some k → k < first)
-    → 1 ≤ len → len ≤ LENGTH_MAX → signs ≤ SIGNS_MAX → (signs + 1) ^ len ≤ ENTRIES_MAX → IsTable numbers first [] [] signs len
+    → 1 ≤ len → len ≤ LENGTH_MAX → signs ≤ SIGNS_MAX → (signs + 1) ^ len ≤ ENTRIES_MAX → IsCountTable numbers first [] [] signs len
 begun_is numbers first signs len positive few past some most within entries = record {
   tabled = begun_tabled numbers first signs len positive few past;
   size = sym (ap length (begun_counts numbers first signs len positive few past));
@@ -26,7 +26,7 @@ begun_is numbers first signs len positive few past some most within entries = re
   entries = entries;
 }
 
-module _ (numbers : List ℕ) (first : ℕ) (windows : Windows) (tallies : Sums) (signs len : ℕ) (is : IsTable numbers first windows tallies signs len) where
+module _ (numbers : List ℕ) (first : ℕ) (windows : Windows) (tallies : Sums) (signs len : ℕ) (is : IsCountTable numbers first windows tallies signs len) where
   -- each number in the table is below the first one of the next pass
   pub past_all : (i k : ℕ) → slice_get numbers i ≡ Some k → k < first + length tallies
   past_all i k at = elim (cases_lt k first) [
@@ -40,7 +40,7 @@ module _ (numbers : List ℕ) (first : ℕ) (windows : Windows) (tallies : Sums)
 
   module _ (more : List ℕ) (kept : (i k : ℕ) → slice_get numbers i ≡ Some k → slice_get more i ≡ Some k)
       (back : (i k : ℕ) → slice_get more i ≡ Some k → (k ≡ 0) ⊎ (slice_get numbers i ≡ Some k)) where
-    pub room_is : IsTable more first windows tallies signs len
+    pub room_is : IsCountTable more first windows tallies signs len
     room_is = record {
       tabled = room_tabled numbers first windows tallies signs len is.tabled more kept back;
       size = is.size ∙ sym (ap length (room_counts numbers first windows tallies signs len is.tabled more kept back));
@@ -55,7 +55,7 @@ module _ (numbers : List ℕ) (first : ℕ) (windows : Windows) (tallies : Sums)
         ap (λ cs. record { signs = signs; len = len; counted = record { counts = cs; windows = windows } }) (room_counts numbers first windows tallies signs len is.tabled more kept back)
 
   module _ (u : List ℕ) (n : ℕ) (was sums : ℕ × ℕ) (at : HasNumber windows u n) (found : find order u (table_counts numbers first windows tallies) ≡ Some was) where
-    pub again_is : IsTable numbers first windows (set tallies n sums) signs len
+    pub again_is : IsCountTable numbers first windows (set tallies n sums) signs len
     again_is = record {
       tabled = again_tabled numbers first windows tallies signs len is.tabled u n sums at;
       size =
@@ -95,7 +95,7 @@ module _ (numbers : List ℕ) (first : ℕ) (windows : Windows) (tallies : Sums)
     counts_are : table_counts (set numbers (index_of signs u) (first + length tallies)) first (windows ++ u ∷ []) (tallies ++ sums ∷ []) ≡ put order u sums (table_counts numbers first windows tallies)
     counts_are = new_counts numbers first windows tallies signs len is.tabled u sums long within (not_numbered u absent) room fits
 
-    new_there : IsTable (set numbers (index_of signs u) (first + length tallies)) first (windows ++ u ∷ []) (tallies ++ sums ∷ []) signs len
+    new_there : IsCountTable (set numbers (index_of signs u) (first + length tallies)) first (windows ++ u ∷ []) (tallies ++ sums ∷ []) signs len
     new_there = record {
       tabled = new_tabled numbers first windows tallies signs len is.tabled u sums long within (not_numbered u absent) room fits;
       size =
@@ -107,12 +107,12 @@ module _ (numbers : List ℕ) (first : ℕ) (windows : Windows) (tallies : Sums)
       entries = is.entries;
     }
 
-    pub new_is : IsTable (set numbers index number) first more all signs len
+    pub new_is : IsCountTable (set numbers index number) first more all signs len
     new_is =
-        subst (λ i. IsTable (set numbers i number) first more all signs len) (sym index_is)
-        (subst (λ k. IsTable (set numbers (index_of signs u) k) first more all signs len) (sym number_is)
-        (subst (λ ws. IsTable (set numbers (index_of signs u) (first + length tallies)) first ws all signs len) (sym more_is)
-        (subst (λ ts. IsTable (set numbers (index_of signs u) (first + length tallies)) first (windows ++ u ∷ []) ts signs len) (sym all_is) new_there)))
+        subst (λ i. IsCountTable (set numbers i number) first more all signs len) (sym index_is)
+        (subst (λ k. IsCountTable (set numbers (index_of signs u) k) first more all signs len) (sym number_is)
+        (subst (λ ws. IsCountTable (set numbers (index_of signs u) (first + length tallies)) first ws all signs len) (sym more_is)
+        (subst (λ ts. IsCountTable (set numbers (index_of signs u) (first + length tallies)) first (windows ++ u ∷ []) ts signs len) (sym all_is) new_there)))
 
     pub new_counting : table_counting (set numbers index number) first more all signs len
         ≡ record (table_counting numbers first windows tallies signs len) { counted = record { counts = put order u sums (table_counts numbers first windows tallies); windows = windows ++ u ∷ [] } }

@@ -8,7 +8,7 @@ use Rattle.pg_types.specs.Inside.counting.Counts.{Counts, SignsWithin, is_counte
 use Rattle.pg_types.specs.Inside.counting.NumberedWindows.{Windows, AreNumbered, HasNumber}
 use Rattle.pg_types.proofs.StringEntries.{order}
 use Rattle.pg_count.specs.Inside.Counting.{IsCounting, window_at}
-use Rattle.pg_count.specs.Inside.Tables.{AreTabled, index_of, table_counting, table_counts, told_by}
+use Rattle.pg_count.specs.Inside.Tables.{AreTabled, index_of, table_counting, table_counts, told_window}
 use Rattle.pg_count.proofs.TableLaws.Entries.{Tell, found_told, sorted_told, told_back}
 
 abbrev pub Sums : Type 0
@@ -19,10 +19,10 @@ abbrev pub entry_of : Windows → Sums → ℕ → List ℕ × (ℕ × ℕ)
 entry_of windows tallies n = (window_at windows n, get_or tallies n (0, 0))
 
 module _ (first : ℕ) (windows : Windows) (tallies : Sums) (k : ℕ) where
-  told_from : first ≤ k → told_by first windows tallies k ≡ Some (entry_of windows tallies (k - first))
+  told_from : first ≤ k → told_window first windows tallies k ≡ Some (entry_of windows tallies (k - first))
   told_from le = ap (λ b. cond b None (Some (entry_of windows tallies (k - first)))) (le-ltb k first le)
 
-  told_past : (e : List ℕ × (ℕ × ℕ)) → told_by first windows tallies k ≡ Some e → (first ≤ k) × (e ≡ entry_of windows tallies (k - first))
+  told_past : (e : List ℕ × (ℕ × ℕ)) → told_window first windows tallies k ≡ Some e → (first ≤ k) × (e ≡ entry_of windows tallies (k - first))
   told_past e is = by (nat_lt k first) refl is
     where
       by : (b : Bool) → nat_lt k first ≡ b → cond b None (Some (entry_of windows tallies (k - first))) ≡ Some e → (first ≤ k) × (e ≡ entry_of windows tallies (k - first))
@@ -30,7 +30,7 @@ module _ (first : ℕ) (windows : Windows) (tallies : Sums) (k : ℕ) where
       by false p same = (ltb-false k first p, (let both : Some (entry_of windows tallies (k - first)) ≡ Some e = same in cc))
 
 module _ (numbers : List ℕ) (first : ℕ) (windows : Windows) (tallies : Sums) (signs len : ℕ) (are : AreTabled numbers first windows tallies signs len) where
-  row_tells : Tell signs len (told_by first windows tallies) 0 numbers
+  row_tells : Tell signs len (told_window first windows tallies) 0 numbers
   row_tells i m e at is =
       let past = told_past first windows tallies m e is in
       let b = are.back i m at past.0 in
@@ -42,7 +42,7 @@ module _ (numbers : List ℕ) (first : ℕ) (windows : Windows) (tallies : Sums)
   counts = table_counts numbers first windows tallies
 
   pub sorted_counts : T (is_sorted order counts)
-  sorted_counts = sorted_told signs len (told_by first windows tallies) 0 numbers row_tells
+  sorted_counts = sorted_told signs len (told_window first windows tallies) 0 numbers row_tells
 
   -- a window with a number is found with its sums
   pub counts_there : (u : List ℕ) (n : ℕ) → HasNumber windows u n → find order u counts ≡ Some (get_or tallies n (0, 0))
@@ -50,12 +50,12 @@ module _ (numbers : List ℕ) (first : ℕ) (windows : Windows) (tallies : Sums)
       let number : first + n - first ≡ n = omega arith in
       let told = told_from first windows tallies (first + n) (omega arith) ∙ ap (λ k. Some (entry_of windows tallies k)) number
       ∙ ap (λ w. Some (w, get_or tallies n (0, 0))) (get_or_from_slice_get windows n u [] at) in
-      found_told signs len (told_by first windows tallies) 0 numbers row_tells (index_of signs u) (first + n) (u, get_or tallies n (0, 0)) (are.there u n at) told
+      found_told signs len (told_window first windows tallies) 0 numbers row_tells (index_of signs u) (first + n) (u, get_or tallies n (0, 0)) (are.there u n at) told
 
   -- and what is found has a number
   pub counts_back : (u : List ℕ) (sums : ℕ × ℕ) → find order u counts ≡ Some sums → (n : ℕ) × HasNumber windows u n × (sums ≡ get_or tallies n (0, 0))
   counts_back u sums at =
-      let t = told_back (told_by first windows tallies) numbers u sums at in
+      let t = told_back (told_window first windows tallies) numbers u sums at in
       let past = told_past first windows tallies t.1 (u, sums) t.3 in
       let b = are.back t.0 t.1 t.2 past.0 in
       let key : u ≡ b.0 = ap (λ (x : List ℕ × (ℕ × ℕ)). x.0) past.1 ∙ get_or_from_slice_get windows (t.1 - first) b.0 [] b.1 in

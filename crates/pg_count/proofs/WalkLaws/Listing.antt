@@ -6,7 +6,7 @@ use Rattle.std.proofs.lemmas.List.Folds.{concat-append}
 use Rattle.std.proofs.lemmas.Nat.{row_fits}
 use Rattle.std.specs.List.{All, concat, slice_get}
 use Rattle.pg_types.specs.Inside.counting.NumberedWindows.{Windows, HasNumber}
-use Rattle.pg_count.specs.Inside.WindowRow.{WindowRow, IsRow, first_parts, listed_in, parts}
+use Rattle.pg_count.specs.Inside.WindowRow.{WindowRow, IsWindowRow, first_parts, window_row_of, parts}
 
 -- the windows have one length
 abbrev pub AreLong : ℕ → Windows → Type 0
@@ -28,7 +28,7 @@ pub parts_of : (len : ℕ) (row : List ℕ) (ws : Windows) → 1 ≤ len → Are
 unfolding parts
 parts_of len row ws some long is = ap (λ r. first_parts len (length r) r) is ∙ cut len (length (concat ws)) ws some long (omega arith)
 
-pub row_of : (len : ℕ) (row : List ℕ) (ws : Windows) → 1 ≤ len → AreLong len ws → row ≡ concat ws → IsRow len row
+pub row_of : (len : ℕ) (row : List ℕ) (ws : Windows) → 1 ≤ len → AreLong len ws → row ≡ concat ws → IsWindowRow len row
 row_of len row ws some long is =
     let cut = parts_of len row ws some long is in
     record {
@@ -60,13 +60,13 @@ joined : (ws : Windows) (w : List ℕ) → concat (ws ++ w ∷ []) ≡ concat ws
 joined ws w = concat-append ws (w ∷ []) ∙ ap (λ z. concat ws ++ z) (append-nil w)
 
 -- a row without windows
-pub none_row : (len : ℕ) (row : List ℕ) → 1 ≤ len → row ≡ [] → IsRow len row
+pub none_row : (len : ℕ) (row : List ℕ) → 1 ≤ len → row ≡ [] → IsWindowRow len row
 none_row len row some none = row_of len row [] some (All-nil (λ u. length u ≡ len)) none
 
-pub none_listed : (len : ℕ) (row : List ℕ) → 1 ≤ len → row ≡ [] → listed_in len row ≡ record { len = len; items = [] }
+pub none_listed : (len : ℕ) (row : List ℕ) → 1 ≤ len → row ≡ [] → window_row_of len row ≡ record { len = len; items = [] }
 none_listed len row some none = ap (λ ws. record { len = len; items = ws }) (parts_of len row [] some (All-nil (λ u. length u ≡ len)) none)
 
-module _ (len : ℕ) (row : List ℕ) (is : IsRow len row) where
+module _ (len : ℕ) (row : List ℕ) (is : IsWindowRow len row) where
   -- the part with a number is within the row, and is the window
   pub part_fits : (n : ℕ) → n < length (parts len row) → n * len + len ≤ length row
   part_fits n lt =
@@ -86,10 +86,10 @@ module _ (len : ℕ) (row : List ℕ) (is : IsRow len row) where
     more_long : AreLong len (parts len row ++ w ∷ [])
     more_long = All-push (λ u. length u ≡ len) (parts len row) w is.long fits
 
-    pub more_row : IsRow len more
+    pub more_row : IsWindowRow len more
     more_row = row_of len more (parts len row ++ w ∷ []) is.some more_long more_joined
 
-    pub more_listed : listed_in len more ≡ record { len = len; items = parts len row ++ w ∷ [] }
+    pub more_listed : window_row_of len more ≡ record { len = len; items = parts len row ++ w ∷ [] }
     more_listed = ap (λ ws. record { len = len; items = ws }) (parts_of len more (parts len row ++ w ∷ []) is.some more_long more_joined)
 
   -- a window less
@@ -109,10 +109,10 @@ module _ (len : ℕ) (row : List ℕ) (is : IsRow len row) where
     less_long : AreLong len (take (length (parts len row) - 1) (parts len row))
     less_long = All-take (λ u. length u ≡ len) (length (parts len row) - 1) (parts len row) is.long
 
-    pub less_row : IsRow len less
+    pub less_row : IsWindowRow len less
     less_row = row_of len less (take (length (parts len row) - 1) (parts len row)) is.some less_long less_joined
 
-    pub less_listed : listed_in len less ≡ record { len = len; items = take (length (parts len row) - 1) (parts len row) }
+    pub less_listed : window_row_of len less ≡ record { len = len; items = take (length (parts len row) - 1) (parts len row) }
     less_listed = ap (λ ws. record { len = len; items = ws }) (parts_of len less (take (length (parts len row) - 1) (parts len row)) is.some less_long less_joined)
 
 -- a window that was appended and dropped

@@ -1,5 +1,5 @@
 -- Steps of the search for the least window above another.
-use Rattle.std.proofs.Common.{◌≡◌, ℕ, ◌-◌, ◌<◌, ◌≤◌, ◌⊎◌, inl, inr, true, false, List, [], ◌∷◌, ◌++◌, length, Option, None, Some, is_some, refl, sym, ◌∙◌, ap, subst, arith, length-append, lit≤}
+use Rattle.std.proofs.Common.{◌≡◌, ℕ, ◌-◌, ◌<◌, ◌≤◌, ◌⊎◌, inl, inr, true, false, List, [], ◌∷◌, ◌++◌, length, Option, None, Some, is_some, refl, sym, ◌∙◌, ap, subst, arith, length-append}
 use Rattle.std.proofs.lemmas.Bool.{cases_Bool, cases_eq, cases_lt}
 use Rattle.std.proofs.lemmas.List.{append_assoc}
 use Rattle.std.proofs.lemmas.List.Elements.{All-head, All-tail}
@@ -44,9 +44,10 @@ inner_sign : (n : ℕ) (p : List ℕ) (x : ℕ) (v : List ℕ) → SignsWithin n
 inner_sign n [] x v h = (All-head (λ s. (1 ≤ s) × (s ≤ n)) x v h).0
 inner_sign n (s ∷ p) x v h = inner_sign n p x v (All-tail (λ s. (1 ≤ s) × (s ≤ n)) s (p ++ x ∷ v) h)
 
-pub first_up : (floor : List ℕ) → 1 ≤ first_sign floor
-first_up [] = omega arith
-first_up (s ∷ q) = omega arith
+-- the least sign with which a string above a floor may begin is a sign
+pub first_some : (floor : List ℕ) → 1 ≤ first_sign floor
+first_some [] = omega arith
+first_some (s ∷ q) = omega arith
 
 -- the floor of what follows a sign that is not below the first
 pub told_more : (u p floor : List ℕ) (s : ℕ) → IsToldBy u p floor → first_sign floor ≤ s → IsToldBy u (p ++ s ∷ []) (rest_after floor s)
@@ -203,7 +204,7 @@ module _ (h : ValuedFamilies (Option Tally)) (windows : Windows) (len : ℕ) (ar
       | inl lt ↦ none_low u floor told x lt
       | inr le ↦ elim (cases_Bool (goes_on h.values p x)) [
         | inr off ↦ none_gap u x off
-        | inl goes ↦ absurd (late (let up = first_up floor in next.least x (omega arith) goes) early)
+        | inl goes ↦ absurd (late (let up = first_some floor in next.least x (omega arith) goes) early)
       ]
     ]
       where
@@ -228,8 +229,3 @@ module _ (h : ValuedFamilies (Option Tally)) (windows : Windows) (len : ℕ) (ar
         late : (0 < y) × (y ≤ x) → (y ≡ 0) ⊎ (x < y) → ⊥
         late l (inl z) = let up = l.0 in omega arith
         late l (inr lt) = let le = l.1 in omega arith
-
--- the least sign with which a string above a floor may begin is a sign
-pub first_some : (floor : List ℕ) → 1 ≤ first_sign floor
-first_some [] = lit≤ tt
-first_some (s ∷ q) = omega arith

@@ -17,8 +17,8 @@ abbrev pub index_of : ℕ → List ℕ → ℕ
 index_of signs u = index_from (signs + 1) 0 u
 
 -- the window that an entry tells, with its sums; an entry below the first is of an earlier pass
-abbrev pub told_by : ℕ → Windows → List (ℕ × ℕ) → ℕ → Option (List ℕ × (ℕ × ℕ))
-told_by first windows tallies k = if nat_lt k first then None
+abbrev pub told_window : ℕ → Windows → List (ℕ × ℕ) → ℕ → Option (List ℕ × (ℕ × ℕ))
+told_window first windows tallies k = if nat_lt k first then None
     else Some (window_at windows (k - first), get_or tallies (k - first) (0, 0))
 
 -- the numbers that the entries of a row tell, in their order
@@ -27,7 +27,7 @@ numbers_in_row first row = filter_map (λ k. if nat_lt k first then None else So
 
 -- the windows that are counted in a table, in the order of its entries
 abbrev pub table_counts : List ℕ → ℕ → Windows → List (ℕ × ℕ) → Counts
-table_counts numbers first windows tallies = filter_map (told_by first windows tallies) numbers
+table_counts numbers first windows tallies = filter_map (told_window first windows tallies) numbers
 
 -- a count trie by its table
 abbrev pub table_counting : List ℕ → ℕ → Windows → List (ℕ × ℕ) → ℕ → ℕ → Counting
@@ -58,7 +58,7 @@ pub record AreTabled (numbers : List ℕ) (first : ℕ) (windows : Windows) (tal
   pub few : first + length tallies ≤ NUMBERS_END
 
 -- what is always true of a table
-pub record IsTable (numbers : List ℕ) (first : ℕ) (windows : Windows) (tallies : List (ℕ × ℕ))
+pub record IsCountTable (numbers : List ℕ) (first : ℕ) (windows : Windows) (tallies : List (ℕ × ℕ))
     (signs len : ℕ) : Type 0 where
   pub tabled : AreTabled numbers first windows tallies signs len
   pub size : length windows ≡ length (table_counts numbers first windows tallies)

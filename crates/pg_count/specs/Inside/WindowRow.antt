@@ -19,11 +19,11 @@ unfoldable pub parts : ℕ → List ℕ → Windows
 parts len row = first_parts len (length row) row
 
 -- the windows that stand in a row
-abbrev pub listed_in : ℕ → List ℕ → WindowRow
-listed_in len row = record { len = len; items = parts len row }
+abbrev pub window_row_of : ℕ → List ℕ → WindowRow
+window_row_of len row = record { len = len; items = parts len row }
 
 -- what is always true of the row
-pub record IsRow (len : ℕ) (row : List ℕ) : Type 0 where
+pub record IsWindowRow (len : ℕ) (row : List ℕ) : Type 0 where
   pub some : 1 ≤ len
   pub whole : concat (parts len row) ≡ row
   pub long : All (λ u. length u ≡ len) (parts len row)

@@ -18,11 +18,11 @@ impl Model for WindowList {
 
     ghost Value = { WindowRow };
 
-    ghost use Rattle.pg_count.specs.Inside.WindowRow.{IsRow, listed_in};
+    ghost use Rattle.pg_count.specs.Inside.WindowRow.{IsWindowRow, window_row_of};
 
-    ghost view = { λ w. listed_in w.len w.signs.items };
+    ghost view = { λ w. window_row_of w.len w.signs.items };
 
-    ghost invariant = { λ w. IsRow w.len w.signs.items };
+    ghost invariant = { λ w. IsWindowRow w.len w.signs.items };
 }
 
 impl WindowList {

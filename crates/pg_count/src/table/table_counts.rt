@@ -41,12 +41,12 @@ impl Model for TableCounts {
 
     ghost Value = { Counting };
 
-    ghost use Rattle.pg_count.specs.Inside.Tables.{IsTable, table_counting};
+    ghost use Rattle.pg_count.specs.Inside.Tables.{IsCountTable, table_counting};
 
     ghost view = { λ t. table_counting t.numbers.items t.first t.windows.items t.tallies.items
         t.signs t.windows.len };
 
-    ghost invariant = { λ t. IsTable t.numbers.items t.first t.windows.items t.tallies.items
+    ghost invariant = { λ t. IsCountTable t.numbers.items t.first t.windows.items t.tallies.items
         t.signs t.windows.len };
 }
 

@@ -16,9 +16,9 @@ use Rattle.pg_translate.proofs.Unbroken.{joined_unbroken}
 use Rattle.pg_translate.proofs.LineTexts.{pieces_of_line, unbroken_feed, unbroken_return}
 use Rattle.pg_translate.proofs.JoinedItems as reads
 use Rattle.pg_dict.specs.Word.{Word}
-use Rattle.pg_dict.specs.Words.{words}
+use Rattle.pg_dict.specs.DictionaryWords.{words}
 use Rattle.pg_dict.specs.Inside.LineWords.{LineWord, line_word, line_reading, on_line, words_from}
-use Rattle.pg_dict.specs.Inside.WrittenWords.{letters_among, IsLine, file_of, LinesGive}
+use Rattle.pg_dict.specs.Inside.WrittenWords.{letters_among, IsLine, text_of_lines, LinesGive}
 use Rattle.pg_dict.proofs.LineReading.Lines.{words_short}
 
 -- the signs of the items of a dictionary are its letters
@@ -39,13 +39,13 @@ line_is_read t rules line weight items each few =
     reads.line_is_read (line_word weight) t rules Dictionary line items each (omega (arith, few, signs_are_letters t items each))
 
 -- the lines of a file of lines
-pub lines_of_file : (texts : List (List ℕ)) → AllByRecursion IsLine texts → lines (file_of texts) ≡ texts
+pub lines_of_file : (texts : List (List ℕ)) → AllByRecursion IsLine texts → lines (text_of_lines texts) ≡ texts
 lines_of_file [] each = refl
 lines_of_file (text ∷ texts) each =
-    let cut : file_of (text ∷ texts) ≡ text ++ 10 ∷ file_of texts = append_assoc text (10 ∷ []) (file_of texts) in
+    let cut : text_of_lines (text ∷ texts) ≡ text ++ 10 ∷ text_of_lines texts = append_assoc text (10 ∷ []) (text_of_lines texts) in
     ap lines cut
-    ∙ ap (map without_cr) (pieces_of_line text (file_of texts) each.0.whole)
-    ∙ ap (λ (line : List ℕ). line ∷ lines (file_of texts)) each.0.ended
+    ∙ ap (map without_cr) (pieces_of_line text (text_of_lines texts) each.0.whole)
+    ∙ ap (λ (line : List ℕ). line ∷ lines (text_of_lines texts)) each.0.ended
     ∙ ap (λ (rest : List (List ℕ)). text ∷ rest) (lines_of_file texts each.1)
 
 -- lines that give words give them
@@ -57,9 +57,10 @@ words_of_lines t line weight (text ∷ texts) (w ∷ ws) give =
     ap (on_line (λ (l : LineWord). words_from t (line + 1) l.weight texts)) (give.0 line) ∙ ap (both_parts (Ok (w ∷ []))) (words_of_lines t (line + 1) w.weight texts ws give.1)
 
 -- so does a file of them
-pub file_is_read : (t : Alphabet) (texts : List (List ℕ)) (ws : List Word) → AllByRecursion IsLine texts → LinesGive t 1 texts ws → length (file_of texts) ≤ FILE_MAX → words t (file_of texts) ≡ Ok ws
+pub file_is_read : (t : Alphabet) (texts : List (List ℕ)) (ws : List Word) → AllByRecursion IsLine texts → LinesGive t 1 texts ws → length (text_of_lines texts) ≤ FILE_MAX
+    → words t (text_of_lines texts) ≡ Ok ws
 file_is_read t texts ws each give short =
-    words_short t (file_of texts) short ∙ ap (words_from t 1 1) (lines_of_file texts each) ∙ words_of_lines t 1 1 texts ws give
+    words_short t (text_of_lines texts) short ∙ ap (words_from t 1 1) (lines_of_file texts each) ∙ words_of_lines t 1 1 texts ws give
 
 -- a text of items is a line
 pub items_line : (t : Alphabet) → KeepsRules t → (items : List (Token × List ℕ)) → AllByRecursion (λ (item : Token × List ℕ). IsItem t Dictionary item.0 item.1) items → IsLine (text_of_items items)

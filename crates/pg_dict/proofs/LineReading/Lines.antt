@@ -20,7 +20,7 @@ use Rattle.pg_dict.specs.Inside.Lines.PositionedSigns.{Columns, no_columns}
 use Rattle.pg_dict.specs.Inside.Store.{columns_of, word_at, stored_words, all_signs, all_weights, lies_within, is_sign_up_to, IsSound, IsFit}
 use Rattle.pg_dict.specs.Word.{Word}
 use Rattle.pg_dict.specs.Inside.SoundWords.{is_weight, IsWord}
-use Rattle.pg_dict.specs.Words.{words}
+use Rattle.pg_dict.specs.DictionaryWords.{words}
 use Rattle.pg_dict.specs.Inside.LineWords.{LineWord, line_reading, on_line, words_from}
 use Rattle.pg_dict.proofs.LineReading.ManyWords.{lines_as}
 use Rattle.pg_dict.specs.Inside.Lines.Entries.{Entries, with_word}

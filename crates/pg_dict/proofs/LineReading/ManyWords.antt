@@ -3,7 +3,7 @@ use Rattle.std.proofs.Common.{◌≡◌, ℕ, ◌+◌, List, [], ◌∷◌, map,
 use Rattle.std.specs.Prelude.{slice_get}
 use Rattle.std.specs.Option.{option_to_list}
 use Rattle.pg_types.specs.declared.refusals.Refusal.{Refusal}
-use Rattle.pg_types.specs.Reading.{unless}
+use Rattle.pg_types.specs.ValuesOrRefusals.{unless}
 use Rattle.pg_types.specs.Inside.reading.Parts.{both_parts}
 use Rattle.pg_translate.specs.declared.items.Place.TheVariants.{Dictionary}
 use Rattle.pg_translate.specs.Alphabets.{Alphabet}
@@ -13,7 +13,7 @@ use Rattle.pg_translate.specs.Gaps.{signs_of}
 use Rattle.pg_translate.specs.LineRefusals.{line_refusal}
 use Rattle.pg_translate.proofs.ManyLines.{refusals_from, items_of, line_before}
 use Rattle.pg_dict.specs.Word.{Word}
-use Rattle.pg_dict.specs.Words.{word_of_items, words_if, line_words}
+use Rattle.pg_dict.specs.DictionaryWords.{word_of_items, words_if, line_words}
 use Rattle.pg_dict.specs.Inside.LineWords.{word_weight}
 use Rattle.pg_dict.specs.Inside.LineWords.{LineWord, word_if, line_word, on_line, words_from}
 

@@ -4,7 +4,7 @@ use Rattle.std.specs.List.{filter_map, onto_first}
 use Rattle.pg_types.specs.declared.limits.TheConstants.{EDGE}
 use Rattle.pg_types.specs.declared.marks.Mark.{Mark}
 use Rattle.pg_types.specs.declared.marks.Mark.TheVariants.{Nothing}
-use Rattle.pg_types.specs.Reading.{unless}
+use Rattle.pg_types.specs.ValuesOrRefusals.{unless}
 use Rattle.pg_translate.specs.declared.items.Place.TheVariants.{Dictionary}
 use Rattle.pg_translate.specs.Alphabets.{Alphabet}
 use Rattle.pg_translate.specs.Cuts.{cut, cut_from, tokens_of}
@@ -14,8 +14,8 @@ use Rattle.pg_translate.specs.Gaps.{signs_of, gaps, inner_gaps, number_of, mark_
 use Rattle.pg_translate.proofs.Gaps.{gaps_some}
 use Rattle.pg_dict.specs.Inside.Lines.PositionedSigns.{PositionedSign, positioned_sign}
 use Rattle.pg_dict.specs.Word.{Word}
-use Rattle.pg_dict.specs.Inside.SoundWords.{word_with}
-use Rattle.pg_dict.specs.Words.{at_positions, word_of_items, sets_hyphen, keeps_care}
+use Rattle.pg_dict.specs.Inside.SoundWords.{word_of_signs}
+use Rattle.pg_dict.specs.DictionaryWords.{at_positions, word_of_items, sets_hyphen, keeps_care}
 use Rattle.pg_dict.specs.Inside.LineWords.{LineWord, word_if, line_word, line_reading}
 use Rattle.pg_dict.specs.Inside.Lines.LineStarts.{rest_reading}
 use Rattle.pg_dict.specs.Inside.Lines.Running.{signs_behind, word_signs, running_word}
@@ -115,9 +115,9 @@ spots_signs weight mark number (Weight n ∷ items) = spots_signs weight mark n 
 spots_signs weight mark number (Marked m ∷ items) = spots_signs weight m number items
 
 -- the word of a line that begins with a letter
-word_shown : (weight s : ℕ) (items : List Token) → word_with weight (word_signs weight s items) ≡ word_of_items weight (Letter s ∷ items)
+word_shown : (weight s : ℕ) (items : List Token) → word_of_signs weight (word_signs weight s items) ≡ word_of_items weight (Letter s ∷ items)
 word_shown weight s items =
-    same_word (word_with weight (word_signs weight s items)) (word_of_items weight (Letter s ∷ items))
+    same_word (word_of_signs weight (word_signs weight s items)) (word_of_items weight (Letter s ∷ items))
     (ap (λ (xs : List ℕ). EDGE ∷ s ∷ xs) (spots_signs weight Nothing weight items))
     (positions_shown (λ (x : PositionedSign). x.hyphen) (λ mark number. sets_hyphen mark) (λ mark number sign. refl) weight s items)
     (positions_shown (λ (x : PositionedSign). x.weight) (λ mark number. number) (λ mark number sign. refl) weight s items)

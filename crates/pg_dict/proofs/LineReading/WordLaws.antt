@@ -10,8 +10,8 @@ use Rattle.pg_types.specs.declared.marks.Mark.TheVariants.{Nothing, Error, Misse
 use Rattle.pg_translate.specs.Tokens.{Token, Letter, Digit, Weight}
 use Rattle.pg_dict.specs.Inside.Lines.PositionedSigns.{PositionedSign, positioned_sign}
 use Rattle.pg_dict.specs.Word.{Word}
-use Rattle.pg_dict.specs.Inside.SoundWords.{word_with, IsWord}
-use Rattle.pg_dict.specs.Words.{sets_hyphen, keeps_care}
+use Rattle.pg_dict.specs.Inside.SoundWords.{word_of_signs, IsWord}
+use Rattle.pg_dict.specs.DictionaryWords.{sets_hyphen, keeps_care}
 use Rattle.pg_dict.specs.Inside.LineWords.{line_word}
 use Rattle.pg_dict.specs.Inside.Lines.Running.{signs_behind, running_word}
 use Rattle.pg_dict.proofs.LineReading.Running.{same_word, running_is}
@@ -59,22 +59,22 @@ abbrev tokens_of : ℕ → ℕ → ℕ → List MarkedLetter → List Token
 tokens_of before weight sign letters = weight_tokens before weight ++ Letter sign ∷ letters_tokens weight letters
 
 pub tokens_read : (before weight sign : ℕ) (letters : List MarkedLetter) → running_word before (tokens_of before weight sign letters)
-    ≡ record { word = Some (word_with weight (written_signs weight sign letters)); weight = weight }
+    ≡ record { word = Some (word_of_signs weight (written_signs weight sign letters)); weight = weight }
 tokens_read before weight sign letters = by_test (weight == before) refl
   where
-    first : running_word weight (Letter sign ∷ letters_tokens weight letters) ≡ record { word = Some (word_with weight (written_signs weight sign letters)); weight = weight }
+    first : running_word weight (Letter sign ∷ letters_tokens weight letters) ≡ record { word = Some (word_of_signs weight (written_signs weight sign letters)); weight = weight }
     first = ap (λ (positioned : List PositionedSign). record {
-      word = Some (word_with weight (positioned_sign Nothing weight EDGE ∷ positioned_sign Nothing weight sign ∷ positioned));
+      word = Some (word_of_signs weight (positioned_sign Nothing weight EDGE ∷ positioned_sign Nothing weight sign ∷ positioned));
       weight = weight;
     }) (letters_read weight letters)
 
     by_size : (small : Bool) → running_word before (cond small (Digit weight) (Weight weight) ∷ Letter sign ∷ letters_tokens weight letters)
-        ≡ record { word = Some (word_with weight (written_signs weight sign letters)); weight = weight }
+        ≡ record { word = Some (word_of_signs weight (written_signs weight sign letters)); weight = weight }
     by_size true = first
     by_size false = first
 
     by_test : (same : Bool) → (weight == before) ≡ same → running_word before (cond same [] (number_token weight ∷ []) ++ Letter sign ∷ letters_tokens weight letters)
-        ≡ record { word = Some (word_with weight (written_signs weight sign letters)); weight = weight }
+        ≡ record { word = Some (word_of_signs weight (written_signs weight sign letters)); weight = weight }
     by_test true is = ap (λ (k : ℕ). running_word k (Letter sign ∷ letters_tokens weight letters)) (sym (eqb-true weight before is)) ∙ first
     by_test false is = by_size (nat_lt weight 10)
 
@@ -142,7 +142,7 @@ last_of : {X : Type 0} (xs : List X) (n : ℕ) (x : X) → length xs ≡ n → s
 last_of xs n x size last = ap (λ (k : ℕ). slice_get xs (k - 1)) size ∙ last
 
 -- a word is its first letter, the letters behind it with their marks and weights, and two edges
-pub word_written : (w : Word) (marks : List Mark) → IsWord w → AreMarksOf w marks → word_with w.weight (written_signs w.weight (slice_index w.signs 1) (letters_with marks w)) ≡ w
+pub word_written : (w : Word) (marks : List Mark) → IsWord w → AreMarksOf w marks → word_of_signs w.weight (written_signs w.weight (slice_index w.signs 1) (letters_with marks w)) ≡ w
 word_written w marks is mean =
     let sign : ℕ = slice_index w.signs 1 in
     let letters : List MarkedLetter = letters_with marks w in
@@ -151,7 +151,7 @@ word_written w marks is mean =
     let weights : length (between_letters w.weights) ≡ length marks = length-between_letters w.weights ∙ ap (λ (n : ℕ). n - 3) is.weights_len ∙ sym count in
     let signs : length (between_letters w.signs) ≡ length marks = length-between_letters w.signs ∙ sym count in
     let long = is.long in
-    same_word (word_with w.weight (written_signs w.weight sign letters)) w
+    same_word (word_of_signs w.weight (written_signs w.weight sign letters)) w
     (shown (λ (s : PositionedSign). s.sign) w.weight sign letters
     ∙ ap (λ (xs : List ℕ). EDGE ∷ sign ∷ (xs ++ EDGE ∷ [])) (letters_signs marks (between_letters w.weights) (between_letters w.signs) weights signs)
     ∙ sym (parted w.signs EDGE sign EDGE long is.begins (slice_get-get_or w.signs 1 0 (omega arith)) is.ends))

@@ -12,7 +12,7 @@ use Rattle.pg_dict.specs.declared.store.Store.{Store}
 use Rattle.pg_dict.specs.declared.store.StoredWord.{StoredWord}
 use Rattle.pg_dict.specs.Inside.Lines.PositionedSigns.{PositionedSign, Columns, with_signs}
 use Rattle.pg_dict.specs.Word.{Word}
-use Rattle.pg_dict.specs.Inside.SoundWords.{word_with, IsWord}
+use Rattle.pg_dict.specs.Inside.SoundWords.{word_of_signs, IsWord}
 use Rattle.pg_dict.specs.Inside.Store.{columns_of, word_at, stored_words, lies_within, IsSound}
 
 -- a part of a list stays when the list grows
@@ -58,7 +58,7 @@ words_kept c positioned (w ∷ ws) even within =
 
 -- the word of the new signs
 pub word_new : (c : Columns) (positioned : List PositionedSign) (start end weight : ℕ) → IsEven c → start ≡ length c.signs → end ≡ length c.signs + length positioned
-    → word_at (with_signs c positioned) (record { start = start; end = end; weight = weight }) ≡ word_with weight positioned
+    → word_at (with_signs c positioned) (record { start = start; end = end; weight = weight }) ≡ word_of_signs weight positioned
 word_new c positioned start end weight even from to =
     rw (
       range_new c.signs (map (λ (s : PositionedSign). s.sign) positioned) start end from (omega (arith, length-map positioned (λ (s : PositionedSign). s.sign))),
@@ -83,7 +83,7 @@ length_signs s u positioned grown =
 -- the words of a store with a word more
 pub adds_words : (s u : Store) (positioned : List PositionedSign) (start end weight : ℕ) → IsSound s → columns_of u ≡ with_signs (columns_of s) positioned
     → u.words.items ≡ s.words.items ++ record { start = start; end = end; weight = weight } ∷ [] → start ≡ length s.signs.items → end ≡ length u.signs.items
-    → stored_words u ≡ stored_words s ++ word_with weight positioned ∷ []
+    → stored_words u ≡ stored_words s ++ word_of_signs weight positioned ∷ []
 adds_words s u positioned start end weight sound grown added from to =
     let w : StoredWord = record { start = start; end = end; weight = weight } in
     let c : Columns = with_signs (columns_of s) positioned in
@@ -111,7 +111,7 @@ column_joined column words more w old new added grown joined =
 -- a store stays sound with a word more
 pub adds_sound : (s u : Store) (positioned : List PositionedSign) (start end weight : ℕ) → IsSound s → columns_of u ≡ with_signs (columns_of s) positioned
     → u.words.items ≡ s.words.items ++ record { start = start; end = end; weight = weight } ∷ [] → start ≡ length s.signs.items → end ≡ length u.signs.items
-    → IsWord (word_with weight positioned) → IsSound u
+    → IsWord (word_of_signs weight positioned) → IsSound u
 adds_sound s u positioned start end weight sound grown added from to good =
     let w : StoredWord = record { start = start; end = end; weight = weight } in
     let n : ℕ = length u.signs.items in
@@ -119,7 +119,7 @@ adds_sound s u positioned start end weight sound grown added from to good =
     let hyphens : length u.hyphens.items ≡ length (s.hyphens.items ++ map (λ (x : PositionedSign). x.hyphen) positioned) = ap (λ (c : Columns). length c.hyphens) grown in
     let weights : length u.weights.items ≡ length (s.weights.items ++ map (λ (x : PositionedSign). x.weight) positioned) = ap (λ (c : Columns). length c.weights) grown in
     let cares : length u.cares.items ≡ length (s.cares.items ++ map (λ (x : PositionedSign). x.care) positioned) = ap (λ (c : Columns). length c.cares) grown in
-    let words : stored_words u ≡ stored_words s ++ word_with weight positioned ∷ [] = adds_words s u positioned start end weight sound grown added from to in
+    let words : stored_words u ≡ stored_words s ++ word_of_signs weight positioned ∷ [] = adds_words s u positioned start end weight sound grown added from to in
     let kept : list_all (lies_within n) s.words.items ≡ true = all_weaker (lies_within (length s.signs.items)) (lies_within n) s.words.items
     (lies_within_more (length s.signs.items) n (omega arith)) sound.within in
     let new : lies_within n w ≡ true = and_from (nat_le start end) (nat_le end n) (le-leb start end (omega arith)) (le-leb end n (omega arith)) in
@@ -140,9 +140,9 @@ adds_sound s u positioned start end weight sound grown added from to good =
       );
       cares_len = omega (arith, cares, length-append s.cares.items (map (λ (x : PositionedSign). x.care) positioned), length-map positioned (λ (x : PositionedSign). x.care), sound.cares_len);
       within = ap (list_all (lies_within n)) added ∙ list_all-append (lies_within n) s.words.items (w ∷ []) ∙ and_from _ _ kept (and_from _ _ new refl);
-      signs_joined = column_joined (λ (x : Word). x.signs) (stored_words s) (stored_words u) (word_with weight positioned) s.signs.items u.signs.items words
+      signs_joined = column_joined (λ (x : Word). x.signs) (stored_words s) (stored_words u) (word_of_signs weight positioned) s.signs.items u.signs.items words
           (ap (λ (c : Columns). c.signs) grown) sound.signs_joined;
-      weights_joined = column_joined (λ (x : Word). x.weights) (stored_words s) (stored_words u) (word_with weight positioned) s.weights.items u.weights.items words
+      weights_joined = column_joined (λ (x : Word). x.weights) (stored_words s) (stored_words u) (word_of_signs weight positioned) s.weights.items u.weights.items words
           (ap (λ (c : Columns). c.weights) grown) sound.weights_joined;
-      words = subst (All IsWord) (sym words) (All-push IsWord (stored_words s) (word_with weight positioned) sound.words good);
+      words = subst (All IsWord) (sym words) (All-push IsWord (stored_words s) (word_of_signs weight positioned) sound.words good);
     }

@@ -3,7 +3,7 @@ use Rattle.std.proofs.Common.{◌≡◌, ℕ, ◌+◌, ◌-◌, ◌≤◌, List,
 use Rattle.pg_types.specs.declared.limits.TheConstants.{EDGE, WEIGHT_MAX, WORD_LETTERS_MAX}
 use Rattle.pg_types.specs.declared.marks.Mark.TheVariants.{Nothing}
 use Rattle.pg_types.specs.declared.refusals.Refusal.{Refusal}
-use Rattle.pg_types.specs.Reading.{unless}
+use Rattle.pg_types.specs.ValuesOrRefusals.{unless}
 use Rattle.pg_translate.specs.Alphabets.{Alphabet}
 use Rattle.pg_translate.specs.Inside.tables.Rules.{KeepsRules}
 use Rattle.pg_translate.specs.Tokens.{Token, Letter}
@@ -12,7 +12,7 @@ use Rattle.pg_translate.specs.Inside.items.Rests.{cut_rest}
 use Rattle.pg_dict.specs.declared.store.Store.{Store}
 use Rattle.pg_dict.specs.Inside.Lines.PositionedSigns.{PositionedSign, positioned_sign, Columns, with_signs}
 use Rattle.pg_dict.specs.Word.{Word}
-use Rattle.pg_dict.specs.Inside.SoundWords.{word_with}
+use Rattle.pg_dict.specs.Inside.SoundWords.{word_of_signs}
 use Rattle.pg_translate.specs.Inside.items.Refusing.{refusal_with_room}
 use Rattle.pg_translate.specs.declared.items.Place.TheVariants.{Dictionary}
 use Rattle.pg_dict.specs.Inside.Lines.Running.{running_word, signs_behind, word_signs}
@@ -38,7 +38,7 @@ items_in t size rest = tokens_of (cut_rest t Dictionary size rest)
 -- the edge, the first letter and what is filled in behind them are the signs of the line's word
 pub word_read : (t : Alphabet) (weight line size sign : ℕ) (rest : List ℕ) (before edge first after : Columns) → edge ≡ with_signs before (positioned_sign Nothing weight EDGE ∷ [])
     → first ≡ with_signs edge (positioned_sign Nothing weight sign ∷ []) → columns_after t weight line size Nothing weight (WORD_LETTERS_MAX - 1) first rest ≡ Ok after
-    → (word_reading t line size weight sign rest ≡ Ok (record { word = Some (word_with weight (word_signs weight sign (items_in t size rest))); weight = weight }))
+    → (word_reading t line size weight sign rest ≡ Ok (record { word = Some (word_of_signs weight (word_signs weight sign (items_in t size rest))); weight = weight }))
     × (after ≡ with_signs before (word_signs weight sign (items_in t size rest)))
 word_read t weight line size sign rest before edge first after is_edge is_first fills =
     let items : List Token = items_in t size rest in

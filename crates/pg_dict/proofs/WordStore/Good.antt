@@ -11,9 +11,9 @@ use Rattle.pg_types.specs.declared.marks.Mark.TheVariants.{Nothing, Error, Misse
 use Rattle.pg_translate.specs.Tokens.{Token, Letter, Digit, Weight, Marked, Edge}
 use Rattle.pg_dict.specs.declared.store.Store.{Store}
 use Rattle.pg_dict.specs.Inside.Lines.PositionedSigns.{PositionedSign, positioned_sign, Columns, with_signs}
-use Rattle.pg_dict.specs.Words.{sets_hyphen, keeps_care}
+use Rattle.pg_dict.specs.DictionaryWords.{sets_hyphen, keeps_care}
 use Rattle.pg_dict.specs.Word.{Word}
-use Rattle.pg_dict.specs.Inside.SoundWords.{word_with, is_weight}
+use Rattle.pg_dict.specs.Inside.SoundWords.{word_of_signs, is_weight}
 use Rattle.pg_dict.proofs.WordStore.WordTests.{is_word, is_plain_at, decides, has_lengths}
 use Rattle.pg_dict.specs.Inside.Lines.Running.{signs_behind, word_signs}
 use Rattle.pg_dict.specs.Inside.Store.{columns_of, is_sign_up_to, IsFit}
@@ -77,7 +77,7 @@ at_last h front x n d is =
     ap (λ xs. slice_index_or xs n d) (map-append h front (x ∷ [])) ∙ get_or_push (map h front) (h x) d n e
 
 -- the position before the last edge is plain
-pub plain_last : (weight : ℕ) (front : List PositionedSign) (n : ℕ) → n ≡ length front → is_plain_at (word_with weight (front ++ positioned_sign Nothing weight EDGE ∷ [])) n ≡ true
+pub plain_last : (weight : ℕ) (front : List PositionedSign) (n : ℕ) → n ≡ length front → is_plain_at (word_of_signs weight (front ++ positioned_sign Nothing weight EDGE ∷ [])) n ≡ true
 plain_last weight front n is =
     let edge : PositionedSign = positioned_sign Nothing weight EDGE in
     and_from _ _ (ap not (at_last (λ (s : PositionedSign). s.hyphen) front edge n true is))
@@ -92,10 +92,10 @@ inner_signs front edge n is =
 -- the word of a line is good where its signs and weights are, and its items are sound
 pub good_word : (weight sign : ℕ) (items : List Token) → length (word_signs weight sign items) ≤ WORD_LETTERS_MAX + 2
     → list_all (nat_le 1) (map (λ (s : PositionedSign). s.sign) (word_signs weight sign items)) ≡ true → list_all is_weight (map (λ (s : PositionedSign). s.weight) (word_signs weight sign items))
-    ≡ true → weight ≤ WEIGHT_MAX → EDGE < sign → list_all is_sound_item items ≡ true → is_word (word_with weight (word_signs weight sign items)) ≡ true
+    ≡ true → weight ≤ WEIGHT_MAX → EDGE < sign → list_all is_sound_item items ≡ true → is_word (word_of_signs weight (word_signs weight sign items)) ≡ true
 good_word weight sign items short signs weights small letter sound =
     let positioned : List PositionedSign = word_signs weight sign items in
-    let w : Word = word_with weight positioned in
+    let w : Word = word_of_signs weight positioned in
     let n : ℕ = length w.signs in
     let edge : PositionedSign = positioned_sign Nothing weight EDGE in
     let ends : Ends weight (signs_behind weight Nothing weight items) = last_spot weight Nothing weight items sound in
@@ -108,14 +108,14 @@ good_word weight sign items short signs weights small letter sound =
     and_from _ _ (le-leb 3 n (omega arith)) (and_from _ _ (le-leb n (WORD_LETTERS_MAX + 2) (omega arith))
     (and_from _ _ (eq-eqb _ n (length-map positioned (λ (s : PositionedSign). s.hyphen) ∙ sym size))
     (and_from _ _ (eq-eqb _ n (length-map positioned (λ (s : PositionedSign). s.weight) ∙ sym size)) (eq-eqb _ n (length-map positioned (λ (s : PositionedSign). s.care) ∙ sym size))))) in
-    let last_sign : slice_index w.signs (n - 1) ≡ EDGE = ap (λ (positioned : List PositionedSign). slice_index (word_with weight positioned).signs (n - 1)) whole
+    let last_sign : slice_index w.signs (n - 1) ≡ EDGE = ap (λ (positioned : List PositionedSign). slice_index (word_of_signs weight positioned).signs (n - 1)) whole
     ∙ at_last (λ (s : PositionedSign). s.sign) front edge (n - 1) 0 at in
     let inner : slice_range w.signs 1 (n - 1) ≡ sign ∷ map (λ (s : PositionedSign). s.sign) ends.front =
-    ap (λ (positioned : List PositionedSign). slice_range (word_with weight positioned).signs 1 (n - 1)) whole
+    ap (λ (positioned : List PositionedSign). slice_range (word_of_signs weight positioned).signs 1 (n - 1)) whole
     ∙ ap (λ (signs : List ℕ). slice_range (EDGE ∷ sign ∷ signs) 1 (n - 1)) (map-append (λ (s : PositionedSign). s.sign) ends.front (edge ∷ []))
     ∙ inner_signs (sign ∷ map (λ (s : PositionedSign). s.sign) ends.front) EDGE (n - 1) (omega (arith, length-map ends.front (λ (s : PositionedSign). s.sign))) in
     let letters : list_all (nat_lt EDGE) (slice_range w.signs 1 (n - 1)) ≡ true = ap (list_all (nat_lt EDGE)) inner ∙ and_from _ _ (lt-ltb EDGE sign letter) ends.letters in
-    let last : is_plain_at w (n - 1) ≡ true = ap (λ (positioned : List PositionedSign). is_plain_at (word_with weight positioned) (n - 1)) whole ∙ plain_last weight front (n - 1) at in
+    let last : is_plain_at w (n - 1) ≡ true = ap (λ (positioned : List PositionedSign). is_plain_at (word_of_signs weight positioned) (n - 1)) whole ∙ plain_last weight front (n - 1) at in
     let plain : not false && (weight == weight && true) ≡ true = and_from _ _ refl (and_from _ _ (eq-eqb weight weight refl) refl) in
     and_from _ _ lengths
     (and_from _ _ (and_from _ _ signs (and_from _ _ refl (and_from _ _ (eq-eqb _ EDGE last_sign) letters)))
@@ -129,7 +129,7 @@ sign_some n sign is = (and_parts (nat_le 1 sign) (nat_le sign n) is).0
 -- the new signs and their weights in fit columns are so too
 pub fits_word : (n : ℕ) (s u : Store) (weight sign : ℕ) (items : List Token) → IsFit n u → columns_of u ≡ with_signs (columns_of s) (word_signs weight sign items)
     → length (word_signs weight sign items) ≤ WORD_LETTERS_MAX + 2 → weight ≤ WEIGHT_MAX → EDGE < sign → list_all is_sound_item items ≡ true
-    → is_word (word_with weight (word_signs weight sign items)) ≡ true
+    → is_word (word_of_signs weight (word_signs weight sign items)) ≡ true
 fits_word n s u weight sign items fit grown short small letter sound =
     let positioned : List PositionedSign = word_signs weight sign items in
     let signs : list_all (is_sign_up_to n) (s.signs.items ++ map (λ (x : PositionedSign). x.sign) positioned) ≡ true = ap (λ (c : Columns). list_all (is_sign_up_to n) c.signs) (sym grown)

@@ -8,7 +8,7 @@ use Rattle.std.proofs.lemmas.Option.{slice_get_within, get_or_from_slice_get}
 use Rattle.pg_dict.specs.declared.store.Store.{Store}
 use Rattle.pg_dict.specs.Inside.Lines.PositionedSigns.{PositionedSign, Columns, with_signs}
 use Rattle.pg_dict.specs.Word.{Word}
-use Rattle.pg_dict.specs.Inside.SoundWords.{IsWord, word_with, letter_count}
+use Rattle.pg_dict.specs.Inside.SoundWords.{IsWord, word_of_signs, letter_count}
 use Rattle.pg_dict.specs.Inside.Store.{columns_of, stored_words, IsSound}
 use Rattle.pg_dict.specs.Parts.{is_in_part, part_from}
 use Rattle.pg_dict.proofs.WordStore.Adds.{adds_words, adds_sound}
@@ -24,7 +24,7 @@ signs_with_positions (sign ∷ signs) (hyphen ∷ hyphens) (weight ∷ weights) 
 
 -- columns of one length come back from their positions
 pub columns_back : (weight : ℕ) (signs : List ℕ) (hyphens : List Bool) (weights : List ℕ) (cares : List Bool) → length hyphens ≡ length signs → length weights
-    ≡ length signs → length cares ≡ length signs → word_with weight (signs_with_positions signs hyphens weights cares)
+    ≡ length signs → length cares ≡ length signs → word_of_signs weight (signs_with_positions signs hyphens weights cares)
     ≡ record { signs = signs; hyphens = hyphens; weights = weights; cares = cares; weight = weight }
 unfolding signs_with_positions
 columns_back weight [] [] [] [] h w c = refl
@@ -42,7 +42,7 @@ columns_back weight (sign ∷ signs) (hyphen ∷ hyphens) (wt ∷ weights) (care
 pub columns_grown : (s u : Store) (w : Word) → IsWord w → u.signs.items ≡ s.signs.items ++ w.signs → u.hyphens.items ≡ s.hyphens.items ++ w.hyphens
     → u.weights.items ≡ s.weights.items ++ w.weights → u.cares.items ≡ s.cares.items ++ w.cares → columns_of u ≡ with_signs (columns_of s) (signs_with_positions w.signs w.hyphens w.weights w.cares)
 columns_grown s u w good signs hyphens weights cares =
-    let back : word_with w.weight (signs_with_positions w.signs w.hyphens w.weights w.cares)
+    let back : word_of_signs w.weight (signs_with_positions w.signs w.hyphens w.weights w.cares)
     ≡ w = columns_back w.weight w.signs w.hyphens w.weights w.cares good.hyphens_len good.weights_len good.cares_len in
     let c : Columns = columns_of s in
     rw (signs, hyphens, weights, cares) (ap (λ (x : Word). record { signs = c.signs ++ x.signs; hyphens = c.hyphens ++ x.hyphens; weights = c.weights ++ x.weights; cares = c.cares ++ x.cares })
@@ -54,7 +54,7 @@ pub word_pushed : (s u : Store) (w : Word) (start end : ℕ) → IsSound s → I
     ≡ s.words.items ++ record { start = start; end = end; weight = w.weight } ∷ [] → start ≡ length s.signs.items → end ≡ length u.signs.items → (stored_words u ≡ stored_words s ++ w ∷ []) × IsSound u
 word_pushed s u w start end sound good signs hyphens weights cares words from to =
     let positioned : List PositionedSign = signs_with_positions w.signs w.hyphens w.weights w.cares in
-    let back : word_with w.weight positioned ≡ w = columns_back w.weight w.signs w.hyphens w.weights w.cares good.hyphens_len good.weights_len good.cares_len in
+    let back : word_of_signs w.weight positioned ≡ w = columns_back w.weight w.signs w.hyphens w.weights w.cares good.hyphens_len good.weights_len good.cares_len in
     let grown : columns_of u ≡ with_signs (columns_of s) positioned = columns_grown s u w good signs hyphens weights cares in (
       adds_words s u positioned start end w.weight sound grown words from to ∙ ap (λ (x : Word). stored_words s ++ x ∷ []) back,
       adds_sound s u positioned start end w.weight sound grown words from to (subst IsWord (sym back) good),

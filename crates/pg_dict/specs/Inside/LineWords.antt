@@ -9,7 +9,7 @@ use Rattle.pg_translate.specs.Tokens.{Token}
 use Rattle.pg_translate.specs.Gaps.{signs_of, gaps, last_number}
 use Rattle.pg_translate.specs.Inside.items.Refusing.{of_line}
 use Rattle.pg_dict.specs.Word.{Word}
-use Rattle.pg_dict.specs.Words.{word_of_items}
+use Rattle.pg_dict.specs.DictionaryWords.{word_of_items}
 
 -- the word weight of a line: the last number before its first letter, else that of the line before
 abbrev pub word_weight : ℕ → List Token → ℕ

@@ -5,8 +5,8 @@ use Rattle.pg_dict.specs.Inside.Lines.PositionedSigns.{PositionedSign}
 use Rattle.pg_dict.specs.Word.{Word}
 
 -- a word of this weight from its signs, each with the position before it
-abbrev pub word_with : ℕ → List PositionedSign → Word
-word_with weight positioned = record {
+abbrev pub word_of_signs : ℕ → List PositionedSign → Word
+word_of_signs weight positioned = record {
   signs = map (λ (s : PositionedSign). s.sign) positioned;
   hyphens = map (λ (s : PositionedSign). s.hyphen) positioned;
   weights = map (λ (s : PositionedSign). s.weight) positioned;

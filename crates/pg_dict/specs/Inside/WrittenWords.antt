@@ -9,7 +9,7 @@ use Rattle.pg_translate.specs.Alphabets.{Alphabet}
 use Rattle.pg_translate.specs.Tokens.{Token, Letter, Digit, Weight, Marked, Edge}
 use Rattle.pg_dict.specs.Inside.Lines.PositionedSigns.{PositionedSign, positioned_sign}
 use Rattle.pg_dict.specs.Word.{Word}
-use Rattle.pg_dict.specs.Words.{sets_hyphen, keeps_care}
+use Rattle.pg_dict.specs.DictionaryWords.{sets_hyphen, keeps_care}
 use Rattle.pg_dict.specs.Inside.LineWords.{line_reading}
 
 -- a letter behind the first, with the mark and the weight of the position before it
@@ -88,8 +88,8 @@ pub record IsLine (text : List ℕ) : Type 0 where
   pub ended : without_cr text ≡ text
 
 -- lines, each with its line feed
-abbrev pub file_of : List (List ℕ) → List ℕ
-file_of texts = flat_map (λ text. text ++ 10 ∷ []) texts
+abbrev pub text_of_lines : List (List ℕ) → List ℕ
+text_of_lines texts = flat_map (λ text. text ++ 10 ∷ []) texts
 
 -- each line gives one word, below the word weight that the line before it hands on
 abbrev pub LinesGive : Alphabet → ℕ → List (List ℕ) → List Word → Type 0

@@ -2,7 +2,7 @@
 ghost use Rattle.std.specs.Prelude.{◌≡◌, ◌≤◌, ◌+◌, ◌-◌, length};
 ghost use Rattle.pg_types.specs.declared.limits.TheConstants.{FILE_MAX, WEIGHT_MAX};
 ghost use Rattle.pg_translate.specs.LineRefusals.{bad_kind};
-ghost use Rattle.pg_types.specs.Reading.{refusal_at};
+ghost use Rattle.pg_types.specs.ValuesOrRefusals.{refusal_at};
 ghost use Rattle.pg_translate.specs.declared.items.Place.TheVariants.{Dictionary};
 
 use pg_translate::Table;

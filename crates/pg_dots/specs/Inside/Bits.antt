@@ -7,7 +7,7 @@ unfoldable pub has_bit : List ℕ → ℕ → Bool
 has_bit row i = bit_at (slice_index row (i / 64)) (i % 64) == 1
 
 -- `next` is the first index from `from` on at which the test fails, or else the end
-pub record IsNext (test : ℕ → Bool) (end from next : ℕ) : Type 0 where
+pub record IsFirstFailing (test : ℕ → Bool) (end from next : ℕ) : Type 0 where
   pub after : from ≤ next
   pub within : next ≤ end
   pub fails : next < end → test next ≡ false

@@ -9,12 +9,12 @@ abbrev pub position_count : OpenDots → ℕ
 position_count o = 64 * o.width
 
 -- the row of a dot: that of the dots that are not reached is the first
-abbrev pub row_of : ℕ → ℕ → ℕ
-row_of reached dot = if nat_lt dot reached then dot + 1 else 0
+abbrev pub dot_row : ℕ → ℕ → ℕ
+dot_row reached dot = if nat_lt dot reached then dot + 1 else 0
 
 -- a dot is closed at a position
 unfoldable pub is_closed : OpenDots → ℕ → ℕ → Bool
-is_closed o dot i = has_bit o.bits.items (row_of o.reached dot * (64 * o.width) + i)
+is_closed o dot i = has_bit o.bits.items (dot_row o.reached dot * (64 * o.width) + i)
 
 -- a walk is at one of the numbers of a row
 abbrev pub HasWalk : OpenDots → Walk → Type 0

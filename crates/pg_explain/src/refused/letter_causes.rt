@@ -94,7 +94,7 @@ fn char_cause(letters: &Letters<'_>, c: char) -> Option<Cause> {
 }
 
 /// Why a byte that begins no character is no letter.
-fn byte_cause(letters: &Letters<'_>, byte: u8) -> Option<Cause> {
+fn stray_byte_cause(letters: &Letters<'_>, byte: u8) -> Option<Cause> {
     if byte < 0xA0 {
         return None;
     }
@@ -108,7 +108,7 @@ fn byte_cause(letters: &Letters<'_>, byte: u8) -> Option<Cause> {
 }
 
 /// Why the refused bytes begin no item.
-fn cause_of(letters: &Letters<'_>, kind: Kind, rest: &[u8]) -> Option<Cause> {
+fn item_cause(letters: &Letters<'_>, kind: Kind, rest: &[u8]) -> Option<Cause> {
     let byte = *rest.first()?;
     if kind != Kind::DictionaryCharacter && kind != Kind::PatternCharacter {
         return None;
@@ -122,7 +122,7 @@ fn cause_of(letters: &Letters<'_>, kind: Kind, rest: &[u8]) -> Option<Cause> {
             beside: char::from(byte),
         }),
         (_, Some(c)) => char_cause(letters, c),
-        (_, None) => byte_cause(letters, byte),
+        (_, None) => stray_byte_cause(letters, byte),
     }
 }
 
@@ -133,7 +133,7 @@ pub(crate) fn push_letter_cause<'a>(
     letters: &Letters<'a>,
     rest: &'a [u8],
 ) -> Result<(), AllocError> {
-    let Some(cause) = cause_of(letters, refused.refusal.kind, rest) else {
+    let Some(cause) = item_cause(letters, refused.refusal.kind, rest) else {
         return Ok(());
     };
     let bytes = first_bytes(rest);

@@ -40,7 +40,7 @@ fn spelling_at<'a>(spot: &Spot<'a>) -> &'a [u8] {
 }
 
 /// Why these bytes, `$0`, so many as `$1`, are no spelling.
-fn sentence_of(spelling: &[u8]) -> &'static str {
+fn spelling_sentence(spelling: &[u8]) -> &'static str {
     if spelling.len() > SPELLING_MAX {
         return "the spelling \"$0\" has $1 bytes, and $2 is the most";
     }
@@ -84,7 +84,7 @@ pub(crate) fn push_spelling(
     let spelling = spelling_at(spot);
     let len = spelling.len();
     let parts = [Show(spelling), Count(len), Count(SPELLING_MAX)];
-    text.place(name, spot, sentence_of(spelling), &parts)
+    text.place(name, spot, spelling_sentence(spelling), &parts)
 }
 
 /// Whether one of two spellings begins with the other. Two equal spellings of one letter do not

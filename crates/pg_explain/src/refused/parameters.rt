@@ -141,7 +141,7 @@ fn is_due(numbers: Option<usize>, index: usize, item: &[u8], before: usize) -> b
 }
 
 /// How many items behind the one with this number would be refused too, each judged by its place.
-fn refused_behind(bytes: &[u8], item: usize, numbers: Option<usize>) -> usize {
+fn refused_items_behind(bytes: &[u8], item: usize, numbers: Option<usize>) -> usize {
     let mut rest = bytes;
     let mut before = 0;
     let mut more = 0_usize;
@@ -170,7 +170,7 @@ pub(crate) fn push_more_items(
     let is_known = 2 < item;
     if refused.refusal.kind != Kind::Missing {
         let due = if is_known { Some(numbers) } else { None };
-        let more = refused_behind(refused.bytes, item, due);
+        let more = refused_items_behind(refused.bytes, item, due);
         push_count(text, refused.name, "item", more, more < MORE_MAX)?;
     }
     let has = items_in(refused.bytes);

@@ -8,8 +8,8 @@ use Rattle.pg_outside.specs.declared.outside.ReadError.{ReadError}
 use Rattle.pg_outside.specs.declared.outside.ReadError.TheVariants as error
 
 -- the file has more bytes than the limit, and these are its first limit + 1 bytes
-abbrev pub IsCut : Option (List ℕ) → ℕ → List ℕ → Type 0
-IsCut file limit front = MatchOption file ⊥
+abbrev pub IsTooLong : Option (List ℕ) → ℕ → List ℕ → Type 0
+IsTooLong file limit front = MatchOption file ⊥
     (λ bytes. (limit < length bytes) × (front ≡ take (limit + 1) bytes))
 
 -- where files are told, the file of this name is these bytes
@@ -18,7 +18,7 @@ IsFile held name bytes = IfSome held (λ files. file_at files name ≡ Some byte
 
 -- where files are told, this one is longer than the limit, and these are its first limit + 1 bytes
 abbrev pub IsFileCut : Option FileMap → List ℕ → ℕ → List ℕ → Type 0
-IsFileCut held name limit front = IfSome held (λ files. IsCut (file_at files name) limit front)
+IsFileCut held name limit front = IfSome held (λ files. IsTooLong (file_at files name) limit front)
 
 -- where files are told after the call, they are those told before with these bytes in this file
 abbrev pub WasWritten : Option FileMap → Option FileMap → List ℕ → List ℕ → Type 0

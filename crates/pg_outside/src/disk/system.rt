@@ -2,7 +2,7 @@
 ghost use Rattle.std.specs.Prelude.{◌≡◌, ℕ, ◌+◌, ◌-◌, ◌^◌, ◌<◌, ◌≤◌, List, take, length, Option, Some, None, MatchOption, OnOk, OnErr, IfOk, IfSome, IfNone, string_bytes};
 ghost use Rattle.pg_outside.specs.declared.disk.system.FileId.{FileId};
 ghost use Rattle.pg_outside.specs.Faults.{Rose};
-ghost use Rattle.pg_outside.specs.Inside.disk.Disks.{DiskHistory, KeepsDisk, ChangesDisk, HoldsNow, MakesFile, AppendsBytes, AppendsFront, ChangesOnlyFile, SyncsFile, SetsMode, RenamesUnlessLink, RemovesUnlessLink, RefusesRemoval, IsTaken, IsKindOf, IsFollowedBy, IsOpened, IsWritable, LeadsToNone, IsStat, HasPiece, KnowsPlain, KnowsNewNames};
+ghost use Rattle.pg_outside.specs.Inside.disk.Disks.{DiskHistory, KeepsDisk, ChangesDisk, HoldsNow, MakesFile, AppendsBytes, AppendsFront, ChangesOnlyFile, SyncsFile, SetsMode, RenamesUnlessLink, RemovesUnlessLink, RefusesRemoval, IsNameTaken, IsKindOf, IsFollowedBy, IsOpened, IsWritable, LeadsToNone, IsStat, HasPiece, KnowsPlain, KnowsNewNames};
 
 use std::alloc::Global;
 use std::io;
@@ -129,7 +129,7 @@ pub trait System {
         ensures err { OnErr result (KeepsDisk (told self.old) (told self.new)) }
         ensures later { failures self.old ≤ failures self.new }
         ensures taken { IfOk result
-            (λ made. IfNone made (HoldsNow (told self.new) (IsTaken name.now))) }
+            (λ made. IfNone made (HoldsNow (told self.new) (IsNameTaken name.now))) }
         ensures ok_failures { OnOk result (failures self.new ≡ failures self.old) }
         ensures failed { OnErr result (Rose (failures self.old) (failures self.new)) };
 

@@ -5,7 +5,7 @@ ghost use Rattle.std.specs.FinMap as fin;
 ghost use Rattle.pg_outside.specs.Content.{file_at, HasPart};
 ghost use Rattle.pg_outside.specs.Inside.memory.MissingNames.{times_in};
 ghost use Rattle.pg_outside.specs.Inside.memory.StoredFile.{file_map, room_in};
-ghost use Rattle.pg_outside.specs.Inside.ToldFiles.{IsCut, IsReadOf, IsWriteOf};
+ghost use Rattle.pg_outside.specs.Inside.ToldFiles.{IsTooLong, IsReadOf, IsWriteOf};
 ghost use Rattle.pg_outside.specs.Faults.{next_count};
 ghost use Rattle.pg_outside.specs.Inside.NameFaults.{RoseByOneAtMost, NoneFell, SameCounts, SameOthers};
 
@@ -156,7 +156,7 @@ fn read_or_note(
     ensures cut { IsErrOf result ReadError.TooLong → length into.new.items ≡ limit + 1 }
     ensures file { OnOk result (file_at (file_map files.now) name.now ≡ Some into.new.items) }
     ensures cut_file { IsErrOf result ReadError.TooLong
-        → IsCut (file_at (file_map files.now) name.now) limit into.new.items }
+        → IsTooLong (file_at (file_map files.now) name.now) limit into.new.items }
 
     // The name is noted where its file is missing, and nothing else changes the noted names.
     ensures failed { IsErrOf result ReadError.Failed

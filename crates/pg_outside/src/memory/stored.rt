@@ -3,7 +3,7 @@ ghost use Rattle.std.specs.Prelude.{◌≡◌, ◌≢◌, ℕ, ◌+◌, ◌-◌,
 ghost use Rattle.std.specs.Option.{option_copied};
 ghost use Rattle.std.specs.FinMap as fin;
 ghost use Rattle.pg_outside.specs.Content.{file_at};
-ghost use Rattle.pg_outside.specs.Inside.ToldFiles.{IsCut};
+ghost use Rattle.pg_outside.specs.Inside.ToldFiles.{IsTooLong};
 ghost use Rattle.pg_outside.specs.Inside.NameFaults.{NoneFell, SameCounts};
 ghost use Rattle.pg_outside.specs.Inside.memory.StoredFile.{has_name, file_map, room_in, IsIndexOf, IsMissing};
 
@@ -103,7 +103,8 @@ pub(crate) fn read_bytes(bytes: &[u8], limit: usize, into: &mut Vec<u8>) -> Resu
     requires limit { limit < 2 ^ 64 - 1 }
     ensures fits { OnOk result (length into.new.items ≤ limit) }
     ensures ok { OnOk result (into.new.items ≡ bytes.now) }
-    ensures cut { IsErrOf result ReadError.TooLong → IsCut (Some bytes.now) limit into.new.items }
+    ensures cut { IsErrOf result ReadError.TooLong
+        → IsTooLong (Some bytes.now) limit into.new.items }
     ensures failed { IsErrOf result ReadError.Failed → ⊥ }
 {
     if bytes.len() <= limit {

@@ -33,13 +33,13 @@ abbrev pub entries_of_items : List Token → List ((List ℕ × ℕ) × ℕ)
 entries_of_items items = entries_at (signs_of items) (digits_at 0 (gaps items))
 
 -- the entries of a line, or its refusal
-abbrev pub entries_of_line : Alphabet → ℕ → List ℕ → Result (List ((List ℕ × ℕ) × ℕ)) Refusal
-entries_of_line t line text = of_line entries_of_items t Patterns line text
+abbrev pub entries_or_refusal : Alphabet → ℕ → List ℕ → Result (List ((List ℕ × ℕ) × ℕ)) Refusal
+entries_or_refusal t line text = of_line entries_of_items t Patterns line text
 
 -- the entries of these lines, the first of which has this number
 abbrev pub entries_from : Alphabet → ℕ → List (List ℕ) → Result (List ((List ℕ × ℕ) × ℕ)) Refusal
 entries_from t line [] = Ok []
-entries_from t line (text ∷ texts) = both_parts (entries_of_line t line text)
+entries_from t line (text ∷ texts) = both_parts (entries_or_refusal t line text)
     (entries_from t (line + 1) texts)
 
 -- the map of the entries, or the refusal

@@ -29,6 +29,6 @@ pub record ArePacked (a b c d : ℕ) (u : List ℕ) : Type 0 where
   pub small : (i : ℕ) → slice_index_or u i 0 < 65536
 
 -- a number has the first four signs of a string
-pub record IsHead (n : ℕ) (u : List ℕ) : Type 0 where
+pub record HasFirstSigns (n : ℕ) (u : List ℕ) : Type 0 where
   pub is : n ≡ four_packed u
   pub small : (i : ℕ) → slice_index_or u i 0 < 65536

@@ -5,7 +5,7 @@ use Rattle.std.specs.Ordering.{nat_cmp}
 use Rattle.std.specs.Cmp.Lexicographic.{slice_cmp}
 use Rattle.std.specs.FinMap.Entries.{is_sorted}
 use Rattle.pg_types.specs.Inside.counting.NumberedWindows.{Windows, WindowCounts}
-use Rattle.pg_types.specs.Inside.counting.NumberedStrings.{Numbers, AreNumbers, by_number}
+use Rattle.pg_types.specs.Inside.counting.NumberedStrings.{Numbers, AreOneToOne, by_number}
 use Rattle.pg_types.specs.declared.limits.TheConstants.{NUMBERS_END}
 
 -- the sums by a number
@@ -13,15 +13,15 @@ abbrev pub tally_at : List (ℕ × ℕ) → ℕ → ℕ × ℕ
 tally_at tallies n = slice_index_or tallies n (0, 0)
 
 -- the windows by their numbers and the sums by number
-abbrev pub counted_of : Numbers → List (ℕ × ℕ) → WindowCounts
-counted_of numbers tallies =
+abbrev pub window_counts_of : Numbers → List (ℕ × ℕ) → WindowCounts
+window_counts_of numbers tallies =
     record { counts = map (λ e. (e.0, tally_at tallies e.1)) numbers; windows = by_number numbers }
 
 -- what is always true of them
 pub record AreCounted (numbers : Numbers) (tallies : List (ℕ × ℕ)) (windows : Windows)
     : Type 0 where
   pub sorted : T (is_sorted (slice_cmp nat_cmp) numbers)
-  pub numbered : AreNumbers numbers
+  pub numbered : AreOneToOne numbers
   -- each number has its sums
   pub size : length numbers ≡ length tallies
   -- and its window

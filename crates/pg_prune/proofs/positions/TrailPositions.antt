@@ -13,17 +13,17 @@ use Rattle.pg_dict.specs.Word.{Word}
 use Rattle.pg_patterns.specs.Values.{stands_at, applies}
 use Rattle.pg_select.specs.CountedPositions.{Minima}
 use Rattle.pg_select.proofs.Reaches.{Reaches, reach_is}
-use Rattle.pg_prune.specs.Positions.{WordPosition, positions_in_reach}
+use Rattle.pg_prune.specs.Positions.{PositionInReach, positions_in_reach}
 use Rattle.pg_prune.specs.Inside.positions.WordPositions.{positions_in, positions_from}
 use Rattle.pg_prune.proofs.positions.PositionForms.{positions_as}
 use Rattle.pg_prune.specs.Inside.positions.Standing.{numbers_of, stands, positions_of_entry}
 use Rattle.pg_prune.specs.declared.positions.trail.Start.{Start}
-use Rattle.pg_prune.specs.Inside.positions.Trails.{position_count, reach_count, start_at, starts_in, starts_from, all_starts, begins_at, starts_of, number_in, number_at_dot}
+use Rattle.pg_prune.specs.Inside.positions.Trails.{count_between, reach_count, start_at, starts_in, starts_from, all_starts, begins_at, starts_of, position_number, number_at_dot}
 use Rattle.pg_prune.proofs.positions.TrailLists.{range_parts, nothing_in, given_shifted}
 use Rattle.pg_prune.proofs.positions.TrailStarts.{signs_at}
 
 -- a position of a word
-abbrev pub position_at : ℕ → List ℕ → ℕ → WordPosition
+abbrev pub position_at : ℕ → List ℕ → ℕ → PositionInReach
 position_at number signs p = record { word = number; signs = signs; position = p }
 
 -- what is given where a test passes
@@ -33,25 +33,25 @@ only_if b o = if b then o else None
 module _ (u : List ℕ) (d : ℕ) (w : List ℕ) (r : Option (ℕ × ℕ)) (b : ℕ) where
   -- the number of a position of a word, where the string stands there
   abbrev pub found : ℕ → Option ℕ
-  found p = only_if (applies w p (u, d)) (number_in r b p)
+  found p = only_if (applies w p (u, d)) (position_number r b p)
 
   -- the number of the position that a start leads to, where the string begins there
   abbrev pub found_start : ℕ → Option ℕ
-  found_start a = only_if (stands_at u w a) (number_in r b (a + d))
+  found_start a = only_if (stands_at u w a) (position_number r b (a + d))
 
   start_found : (a : ℕ) → found_start a ≡ found (a + d)
   start_found a =
       let low : nat_le d (a + d) ≡ true = le-leb d (a + d) (omega arith) in
       let back : a + d - d ≡ a = omega arith in
-      sym (ap (λ t. only_if (t && stands_at u w (a + d - d)) (number_in r b (a + d))) low
-      ∙ ap (λ (n : ℕ). only_if (stands_at u w n) (number_in r b (a + d))) back)
+      sym (ap (λ t. only_if (t && stands_at u w (a + d - d)) (position_number r b (a + d))) low
+      ∙ ap (λ (n : ℕ). only_if (stands_at u w n) (position_number r b (a + d))) back)
 
   -- nothing is found where the string does not stand
   not_standing : (p : ℕ) → applies w p (u, d) ≡ false → found p ≡ None
-  not_standing p not = ap (λ t. only_if t (number_in r b p)) not
+  not_standing p not = ap (λ t. only_if t (position_number r b p)) not
 
   -- nothing is found out of reach
-  out_of_reach : (p : ℕ) → number_in r b p ≡ None → found p ≡ None
+  out_of_reach : (p : ℕ) → position_number r b p ≡ None → found p ≡ None
   out_of_reach p none = ap (only_if (applies w p (u, d))) none ∙ by_test (applies w p (u, d))
     where
       by_test : (t : Bool) → only_if t None ≡ None
@@ -71,13 +71,13 @@ module _ (u : List ℕ) (d : ℕ) (w : List ℕ) (r : Option (ℕ × ℕ)) (b : 
       ∙ ap (λ (xs : List ℕ). filter_map found xs) (sym (range_parts 0 d (length w)))
 
 module _ (u : List ℕ) (v d : ℕ) (w : List ℕ) (first last b : ℕ) where
-  in_reach : (p : ℕ) → first ≤ p → p ≤ last → number_in (Some (first, last)) b p ≡ Some (b + (p - first))
+  in_reach : (p : ℕ) → first ≤ p → p ≤ last → position_number (Some (first, last)) b p ≡ Some (b + (p - first))
   in_reach p low high = ap (λ t. if t then Some (b + (p - first)) else None) (and_from (nat_le first p) (nat_le p last) (le-leb first p low) (le-leb p last high))
 
-  before_reach : (p : ℕ) → p < first → number_in (Some (first, last)) b p ≡ None
+  before_reach : (p : ℕ) → p < first → position_number (Some (first, last)) b p ≡ None
   before_reach p low = ap (λ t. if t then Some (b + (p - first)) else None) (and_left (nat_le first p) (nat_le p last) (lt-leb first p low))
 
-  behind_reach : (p : ℕ) → last < p → number_in (Some (first, last)) b p ≡ None
+  behind_reach : (p : ℕ) → last < p → position_number (Some (first, last)) b p ≡ None
   behind_reach p high = ap (λ t. if t then Some (b + (p - first)) else None) (and_right (nat_le first p) (nat_le p last) (lt-leb p last high))
 
   -- the numbers of positions from a position on
@@ -87,7 +87,7 @@ module _ (u : List ℕ) (v d : ℕ) (w : List ℕ) (first last b : ℕ) where
   numbered number p zero at low high is = refl
   numbered number p (suc n) at low high is =
       let rest = numbered number (p + 1) n (at + 1) (omega arith) (omega arith) (omega arith) in
-      let here : number_in (Some (first, last)) b p ≡ Some at = in_reach p low (omega arith) ∙ ap (λ (k : ℕ). Some k) (sym is) in
+      let here : position_number (Some (first, last)) b p ≡ Some at = in_reach p low (omega arith) ∙ ap (λ (k : ℕ). Some k) (sym is) in
       by_test (applies w p (u, d)) _ _ rest
       ∙ ap (λ o. cons_option (only_if (applies w p (u, d)) o) (filter_map (found u d w (Some (first, last)) b) (range_with_len (p + 1) n))) (sym here)
     where
@@ -121,7 +121,7 @@ module _ (u : List ℕ) (v d : ℕ) (w : List ℕ) (first last b : ℕ) where
       ∙ ap (λ n. filter_map g (range_with_len n (last + 1 - first))) front)
 
 -- the numbers in two lists, one behind the other
-numbers-append : (test : WordPosition → Bool) (at : ℕ) (xs ys : List WordPosition) → numbers_of test at (xs ++ ys) ≡ numbers_of test at xs ++ numbers_of test (at + length xs) ys
+numbers-append : (test : PositionInReach → Bool) (at : ℕ) (xs ys : List PositionInReach) → numbers_of test at (xs ++ ys) ≡ numbers_of test at xs ++ numbers_of test (at + length xs) ys
 numbers-append test at [] ys = let same : at ≡ at + 0 = omega arith in ap (λ n. numbers_of test n ys) same
 numbers-append test at (x ∷ xs) ys =
     let next : at + 1 + length xs ≡ at + suc (length xs) = omega arith in
@@ -150,7 +150,7 @@ module _ (m : Minima) (all : List Word) (u : List ℕ) (v d : ℕ) where
       ≡ filter_map (found_start u d w.signs (reach m.left m.right (length w.signs)) b) (range_with_len 0 (length w.signs))
   in_word word b w at =
       kept_given (number_at_dot m all d) (begins_at all u) (start_at word b) (found_start u d w.signs (reach m.left m.right (length w.signs)) b)
-      (λ a. ap (λ (s : List ℕ). only_if (stands_at u s a) (number_in (reach m.left m.right (length s)) b (a + d))) (sym (signs_at all word w at)))
+      (λ a. ap (λ (s : List ℕ). only_if (stands_at u s a) (position_number (reach m.left m.right (length s)) b (a + d))) (sym (signs_at all word w at)))
       (range_with_len 0 (length w.signs))
 
   -- the positions of a word
@@ -166,7 +166,7 @@ module _ (m : Minima) (all : List Word) (u : List ℕ) (v d : ℕ) where
       sym (numbered u v d w ends.0 ends.1 b number ends.0 (ends.1 + 1 - ends.0) b (omega arith) (omega arith) (omega arith)
       ∙ by_reach u v d w ends.0 ends.1 b (d + length w) (omega arith) (omega arith))
 
-  width_is : (w : Word) (number : ℕ) (r : Option (ℕ × ℕ)) → length (map (position_at number w.signs) (option_map_or (λ ends. range_with_len ends.0 (ends.1 + 1 - ends.0)) r [])) ≡ position_count r
+  width_is : (w : Word) (number : ℕ) (r : Option (ℕ × ℕ)) → length (map (position_at number w.signs) (option_map_or (λ ends. range_with_len ends.0 (ends.1 + 1 - ends.0)) r [])) ≡ count_between r
   width_is w number None = refl
   width_is w number (Some ends) = length-map-range_with_len (position_at number w.signs) ends.0 (ends.1 + 1 - ends.0)
 
@@ -196,4 +196,4 @@ module _ (m : Minima) (all : List Word) (u : List ℕ) (v d : ℕ) where
 
   -- the positions at which a string stands, by its starts
   pub positions_by_starts : filter_map (number_at_dot m all d) (starts_of all (all_starts m all) u) ≡ positions_of_entry (positions_in_reach m all) ((u, d), v)
-  positions_by_starts = in_words all 0 0 refl ∙ ap (λ (xs : List WordPosition). positions_of_entry xs ((u, d), v)) (positions_as m all)
+  positions_by_starts = in_words all 0 0 refl ∙ ap (λ (xs : List PositionInReach). positions_of_entry xs ((u, d), v)) (positions_as m all)

@@ -9,7 +9,7 @@ use Rattle.pg_dict.specs.Word.{Word}
 use Rattle.pg_dict.proofs.WordStore.Parts.{drop_word}
 use Rattle.pg_select.specs.CountedPositions.{Minima}
 use Rattle.pg_prune.specs.declared.positions.trail.Start.{Start}
-use Rattle.pg_prune.specs.Inside.positions.Trails.{signs_of, reach_count, start_at, starts_in, starts_from, IsStart}
+use Rattle.pg_prune.specs.Inside.positions.Trails.{signs_of_word, reach_count, start_at, starts_in, starts_from, IsStart}
 
 -- a sign of a word more
 pub start_more : (first : List Start) (word before at : ℕ) → (first ++ starts_in word before at) ++ start_at word before at ∷ [] ≡ first ++ starts_in word before (at + 1)
@@ -27,7 +27,7 @@ word_more m ws word before done total w at whole =
     ∙ whole
 
 -- the signs of a word that is there
-pub signs_at : (ws : List Word) (word : ℕ) (w : Word) → slice_get ws word ≡ Some w → signs_of ws word ≡ w.signs
+pub signs_at : (ws : List Word) (word : ℕ) (w : Word) → slice_get ws word ≡ Some w → signs_of_word ws word ≡ w.signs
 signs_at ws word w at = ap (λ (o : Option Word). option_map_or (λ (x : Word). x.signs) o []) at
 
 -- what is known of the starts in a word
@@ -38,5 +38,5 @@ known_in ws word before w at within few =
     let size : length (range_with_len 0 (length w.signs)) ≡ length w.signs = length-range_with_len 0 (length w.signs) in
     let inside : k < length w.signs = omega arith in
     let own : get_or (range_with_len 0 (length w.signs)) k d ≡ 0 + k = get_or-range_with_len 0 (length w.signs) k d inside in
-    let signs : length (signs_of ws word) ≡ length w.signs = ap (λ (s : List ℕ). length s) (signs_at ws word w at) in
+    let signs : length (signs_of_word ws word) ≡ length w.signs = ap (λ (s : List ℕ). length s) (signs_at ws word w at) in
     record { word = within; before = few; at = omega arith })

@@ -12,7 +12,7 @@ use Rattle.pg_types.proofs.BoolFacts.{and_first, and_second}
 use Rattle.pg_dict.specs.Word.{Word}
 use Rattle.pg_patterns.specs.Values.{stands_at}
 use Rattle.pg_prune.specs.declared.positions.trail.Start.{Start}
-use Rattle.pg_prune.specs.Inside.positions.Trails.{signs_of, IsStart, begins_at, continues_with, starts_of, trail_upto, IsTrail, last_of}
+use Rattle.pg_prune.specs.Inside.positions.Trails.{signs_of_word, IsStart, begins_at, continues_with, starts_of, trail_upto, IsTrail, last_list}
 use Rattle.pg_prune.proofs.positions.TrailLists.{range_agree, filter_both, filter_all}
 
 -- what it means that q stands in w at a
@@ -85,18 +85,19 @@ module _ (ws : List Word) (all : List Start) (u : List ℕ) where
       let size : length (take i u) ≡ i = length-take-le i u (omega arith) in
       filter_both (continues_with ws i (get_or u i 0)) (begins_at ws (take i u)) (begins_at ws (take (i + 1) u))
       (λ x.
-      ap (λ (q : List ℕ). stands_at q (signs_of ws x.word) x.at) (take_more u i 0 inside)
-      ∙ stands_longer (take i u) (signs_of ws x.word) x.at (get_or u i 0)
-      ∙ ap (λ (n : ℕ). stands_at (take i u) (signs_of ws x.word) x.at && (nat_lt (x.at + n) (length (signs_of ws x.word)) && nat_eq (get_or (signs_of ws x.word) (x.at + n) 0) (get_or u i 0))) size)
+      ap (λ (q : List ℕ). stands_at q (signs_of_word ws x.word) x.at) (take_more u i 0 inside)
+      ∙ stands_longer (take i u) (signs_of_word ws x.word) x.at (get_or u i 0)
+      ∙ ap (λ (n : ℕ). stands_at (take i u) (signs_of_word ws x.word) x.at
+      && (nat_lt (x.at + n) (length (signs_of_word ws x.word)) && nat_eq (get_or (signs_of_word ws x.word) (x.at + n) 0) (get_or u i 0))) size)
       all
 
   -- the empty string begins at each start
   pub all_begin : All (IsStart ws) all → all ≡ starts_of ws all []
   all_begin known = filter_all (begins_at ws []) all (λ k d below. let at = (known k d below).at in
-      stands_from [] (signs_of ws (get_or all k d).word) (get_or all k d).at (record { fits = omega (arith, at); signs = refl }))
+      stands_from [] (signs_of_word ws (get_or all k d).word) (get_or all k d).at (record { fits = omega (arith, at); signs = refl }))
 
   -- the last list of a trail
-  pub last_trail : (i : ℕ) → All (IsStart ws) all → last_of all (trail_upto ws all u i) ≡ starts_of ws all (take i u)
+  pub last_trail : (i : ℕ) → All (IsStart ws) all → last_list all (trail_upto ws all u i) ≡ starts_of ws all (take i u)
   last_trail zero known = all_begin known
   last_trail (suc j) known =
       let size : length (trail_upto ws all u (suc j)) ≡ suc j = length-map-range_with_len (λ k. starts_of ws all (take (k + 1) u)) 0 (suc j) in
@@ -106,8 +107,8 @@ module _ (ws : List Word) (all : List Start) (u : List ℕ) where
       ∙ get_or-map-range_with_len (λ k. starts_of ws all (take (k + 1) u)) 0 (suc j) (suc j - 1) j [] (omega arith) (omega arith)
       ∙ ap (λ (n : ℕ). starts_of ws all (take n u)) next
 
-  pub whole_trail : (lists : List (List Start)) → All (IsStart ws) all → IsTrail ws all u lists → last_of all lists ≡ starts_of ws all u
-  whole_trail lists known is = ap (last_of all) is ∙ last_trail (length u) known ∙ ap (starts_of ws all) (take_all (length u) u (omega arith))
+  pub whole_trail : (lists : List (List Start)) → All (IsStart ws) all → IsTrail ws all u lists → last_list all lists ≡ starts_of ws all u
+  whole_trail lists known is = ap (last_list all) is ∙ last_trail (length u) known ∙ ap (starts_of ws all) (take_all (length u) u (omega arith))
 
   -- a list more
   pub trail_more : (i : ℕ) → trail_upto ws all u i ++ starts_of ws all (take (i + 1) u) ∷ [] ≡ trail_upto ws all u (i + 1)

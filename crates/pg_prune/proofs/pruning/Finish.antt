@@ -5,7 +5,7 @@ use Rattle.pg_dict.specs.Word.{Word}
 use Rattle.pg_patterns.specs.Values.{Patterns}
 use Rattle.pg_select.specs.CountedPositions.{Minima}
 use Rattle.pg_prune.specs.declared.pruned.Need.{Need}
-use Rattle.pg_prune.specs.Positions.{WordPosition, positions_in_reach}
+use Rattle.pg_prune.specs.Positions.{PositionInReach, positions_in_reach}
 use Rattle.pg_prune.specs.Prunes.{rounds, needs, pruning_of, Pruning, RoundsResult}
 use Rattle.pg_prune.specs.Inside.Findings.{found_by}
 use Rattle.pg_prune.specs.Inside.rounds.Picks.{picked_entries, IsKeptSoFar}
@@ -33,7 +33,7 @@ module _ (m : Minima) (ws : List Word) (P : Patterns) where
   rounds_patterns kept count done = ap (λ (r : RoundsResult). r.patterns) (sym done)
 
 -- the same entries with their numbers in another list
-pub with_kept : (positions : List WordPosition) (P : Patterns) (stands holders : List (List ℕ)) (kept kept' : List ℕ) → kept' ≡ kept → IsKeptSoFar positions P stands holders kept
+pub with_kept : (positions : List PositionInReach) (P : Patterns) (stands holders : List (List ℕ)) (kept kept' : List ℕ) → kept' ≡ kept → IsKeptSoFar positions P stands holders kept
     → IsKeptSoFar positions P stands holders kept'
 with_kept positions P stands holders kept kept' is r = subst (λ ks. IsKeptSoFar positions P stands holders ks) (sym is) r
 

@@ -10,7 +10,7 @@ use Rattle.pg_translate.specs.Reach.{positions}
 use Rattle.pg_dict.specs.Word.{Word}
 use Rattle.pg_patterns.specs.Values.{Patterns, value_at}
 use Rattle.pg_select.specs.CountedPositions.{Minima}
-use Rattle.pg_prune.specs.Positions.{WordPosition, positions_in_reach}
+use Rattle.pg_prune.specs.Positions.{PositionInReach, positions_in_reach}
 use Rattle.pg_prune.specs.Inside.positions.WordPositions.{positions_in, positions_from}
 use Rattle.pg_prune.proofs.positions.PositionForms.{positions_as}
 use Rattle.pg_prune.specs.Prunes.{break_alike_at}
@@ -55,7 +55,7 @@ module _ (P Q : Patterns) where
     told_breaks ws all = sym (ap (list_all (break_alike_at P Q)) (positions_as m ws)) ∙ from_told 1 ws all
 
 -- every position is behind the first letter
-abbrev pub IsBehind : WordPosition → Type 0
+abbrev pub IsBehind : PositionInReach → Type 0
 IsBehind x = 1 ≤ x.position
 
 behind_from : (number : ℕ) (w : Word) (first count : ℕ) → 1 ≤ first → All IsBehind (map (λ p. record { word = number; signs = w.signs; position = p }) (range_with_len first count))

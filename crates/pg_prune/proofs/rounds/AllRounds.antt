@@ -8,7 +8,7 @@ use Rattle.std.proofs.lemmas.Bool.{eq-eqb, eqb-true}
 use Rattle.pg_types.proofs.BoolFacts.{no_test}
 use Rattle.pg_patterns.specs.Values.{Patterns}
 use Rattle.pg_patterns.specs.Inside.PatternMaps.{is_entry}
-use Rattle.pg_prune.specs.Positions.{WordPosition}
+use Rattle.pg_prune.specs.Positions.{PositionInReach}
 use Rattle.pg_prune.specs.Prunes.{round, rounds_from, rounds, RoundsResult}
 use Rattle.pg_prune.specs.Inside.rounds.Alike.{break_alike}
 use Rattle.pg_prune.specs.Inside.rounds.Turns.{IsTallied}
@@ -19,13 +19,13 @@ use Rattle.pg_prune.specs.Inside.rounds.Picks.{entry_of}
 use Rattle.pg_prune.proofs.rounds.Picking.{picked_all, range_below}
 
 -- so many rounds are made, and the entries with the numbers `kept` are left
-pub record RoundsSoFar (positions : List WordPosition) (P : Patterns) (stands : List (List ℕ)) (holders : List (List ℕ)) (kept : List ℕ) (count : ℕ) : Type 0 where
+pub record RoundsSoFar (positions : List PositionInReach) (P : Patterns) (stands : List (List ℕ)) (holders : List (List ℕ)) (kept : List ℕ) (count : ℕ) : Type 0 where
   pub ready : IsKeptSoFar positions P stands holders kept
   pub most : ℕ
   pub few : length kept ≤ most
   pub so_far : rounds positions P ≡ rounds_from positions P count most (picked_entries P kept)
 
-module _ (positions : List WordPosition) (P : Patterns) (stands : List (List ℕ)) where
+module _ (positions : List PositionInReach) (P : Patterns) (stands : List (List ℕ)) where
   pub rounds_begin : (holders : List (List ℕ)) → list_all is_entry P ≡ true → HasAllEntries positions P stands holders → RoundsSoFar positions P stands holders (range_with_len 0 (length P)) 0
   unfolding rounds
   rounds_begin holders sound s = record {

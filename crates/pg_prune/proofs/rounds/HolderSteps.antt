@@ -8,7 +8,7 @@ use Rattle.std.proofs.lemmas.Bool.{and_from}
 use Rattle.pg_types.proofs.BoolFacts.{and_first, and_second}
 use Rattle.pg_patterns.specs.Values.{Patterns}
 use Rattle.pg_patterns.specs.Inside.PatternMaps.{is_entry}
-use Rattle.pg_prune.specs.Positions.{WordPosition}
+use Rattle.pg_prune.specs.Positions.{PositionInReach}
 use Rattle.pg_prune.specs.Inside.positions.Standing.{positions_of_entry}
 use Rattle.pg_prune.specs.Inside.rounds.Turns.{Turn, with_entry, IsAwaited, IsTallied}
 use Rattle.pg_prune.specs.Inside.rounds.Picks.{ListsPositions}
@@ -16,7 +16,7 @@ use Rattle.pg_prune.proofs.rounds.RoundSteps.{standing_at}
 use Rattle.pg_prune.specs.Inside.rounds.Picks.{entry_of}
 
 -- where no entry is, no position has a holder
-pub none_tallied : (positions : List WordPosition) → IsTallied positions [] (replicate (length positions) (replicate 9 0))
+pub none_tallied : (positions : List PositionInReach) → IsTallied positions [] (replicate (length positions) (replicate 9 0))
 none_tallied [] = refl
 none_tallied (x ∷ xs) = ap (λ t. replicate 9 0 ∷ t) (none_tallied xs)
 
@@ -33,13 +33,13 @@ sound_take (suc n) [] sound = refl
 sound_take (suc n) (e ∷ P) sound = and_from _ _ (and_first _ _ sound) (sound_take n P (and_second _ _ sound))
 
 -- the turn of the i-th entry, where those before it were added
-abbrev pub turn_after : List WordPosition → Patterns → ℕ → Turn
+abbrev pub turn_after : List PositionInReach → Patterns → ℕ → Turn
 turn_after positions P i = record { positions = positions; before = take i P; entry = entry_of P i; behind = [] }
 
-pub with_next : (positions : List WordPosition) (P : Patterns) (i : ℕ) → i < length P → take (i + 1) P ≡ with_entry (turn_after positions P i)
+pub with_next : (positions : List PositionInReach) (P : Patterns) (i : ℕ) → i < length P → take (i + 1) P ≡ with_entry (turn_after positions P i)
 with_next positions P i inside = take_more P i (([], 0), 0) inside
 
-pub turn_awaited : {V : Type 0} (items : V → List ℕ) (positions : List WordPosition) (P : Patterns) (vs : List V) (count : ℕ) (holders : List (List ℕ)) (i : ℕ)
+pub turn_awaited : {V : Type 0} (items : V → List ℕ) (positions : List PositionInReach) (P : Patterns) (vs : List V) (count : ℕ) (holders : List (List ℕ)) (i : ℕ)
     (v : V) (numbers : List ℕ) (x : (List ℕ × ℕ) × ℕ) → ListsPositions positions P (map items vs) count
     → list_all is_entry P ≡ true → IsTallied positions (take i P) holders → i < length P → i < 2 ^ 64 - 1 → v ≡ get_or vs i v → numbers ≡ items v
     → slice_get P i ≡ Some x → IsAwaited (turn_after positions P i) holders numbers x.1

@@ -2,7 +2,7 @@
 use Rattle.std.proofs.Common.{◌≡◌, ℕ, Bool, true, false, not, List, [], Option, Some, None, refl, sym, ap, ◌∙◌}
 use Rattle.std.specs.Prelude.{MatchOption, is_some}
 use Rattle.pg_patterns.specs.Values.{Patterns}
-use Rattle.pg_prune.specs.Positions.{WordPosition}
+use Rattle.pg_prune.specs.Positions.{PositionInReach}
 use Rattle.pg_prune.specs.Prunes.{break_alike_at}
 use Rattle.pg_prune.specs.Inside.rounds.Alike.{break_alike}
 use Rattle.pg_prune.specs.Inside.Findings.{first_difference}
@@ -15,7 +15,8 @@ cannot true never = absurd (never refl)
 cannot false never = refl
 
 -- there is a need exactly where the maps do not break alike
-pub some_need : (xs : List WordPosition) (P Q : Patterns) (o : Option ℕ) → MatchOption o (first_difference xs P Q ≡ None) (IsFound xs (first_difference xs P Q)) → is_some o ≡ not (break_alike xs P Q)
+pub some_need : (xs : List PositionInReach) (P Q : Patterns) (o : Option ℕ) → MatchOption o (first_difference xs P Q ≡ None) (IsFound xs (first_difference xs P Q))
+    → is_some o ≡ not (break_alike xs P Q)
 some_need xs P Q None none = ap not (sym (alike_where_none P Q xs none))
 some_need xs P Q (Some k) found =
     let first = found.position (record { word = 0; signs = []; position = 0 }) in

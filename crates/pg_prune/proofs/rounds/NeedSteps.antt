@@ -6,7 +6,7 @@ use Rattle.std.proofs.lemmas.List.{append-nil, map-append, take_more, get_or-map
 use Rattle.std.proofs.lemmas.List.Elements.{All-take, All-drop}
 use Rattle.pg_patterns.specs.Values.{Patterns}
 use Rattle.pg_prune.specs.declared.pruned.Need.{Need}
-use Rattle.pg_prune.specs.Positions.{WordPosition}
+use Rattle.pg_prune.specs.Positions.{PositionInReach}
 use Rattle.pg_prune.specs.Prunes.{need_at, needs_from, needs}
 use Rattle.pg_prune.specs.Inside.Findings.{need_list, first_difference}
 use Rattle.pg_prune.specs.Inside.rounds.Turns.{with_entry, without_entry, IsHeld, IsTallied, IsFound}
@@ -15,7 +15,7 @@ use Rattle.pg_prune.proofs.rounds.TurnSteps.{left_at, none_left}
 use Rattle.pg_prune.proofs.rounds.RoundSteps.{turn_of, turn_from}
 use Rattle.pg_prune.specs.Inside.rounds.Picks.{entry_of}
 
-module _ (positions : List WordPosition) (P : Patterns) (kept : List ℕ) where
+module _ (positions : List PositionInReach) (P : Patterns) (kept : List ℕ) where
   -- these are the needs of the first i entries
   abbrev pub NeedsSoFar : List Need → ℕ → Type 0
   NeedsSoFar found i = found ++ needs_from positions (picked_entries P (take i kept)) (picked_entries P (drop i kept)) ≡ needs positions (picked_entries P kept)
@@ -57,7 +57,7 @@ module _ (positions : List WordPosition) (P : Patterns) (kept : List ℕ) where
       (subst (λ (Q : Patterns). IsTallied positions Q holders) whole s.tallied) is own entry
 
 -- a position that was found gives its need
-pub need_found : (positions : List WordPosition) (found : Option WordPosition) (k : ℕ) (d : Need) → IsFound positions found k → need_list found ≡ get_or (map need_at positions) k d ∷ []
+pub need_found : (positions : List PositionInReach) (found : Option PositionInReach) (k : ℕ) (d : Need) → IsFound positions found k → need_list found ≡ get_or (map need_at positions) k d ∷ []
 need_found positions found k d f =
-    let at : WordPosition = record { word = 0; signs = []; position = 0 } in
+    let at : PositionInReach = record { word = 0; signs = []; position = 0 } in
     ap need_list (f.position at) ∙ ap (λ n. n ∷ []) (sym (get_or-map need_at positions k at d f.within))

@@ -4,7 +4,7 @@ use Rattle.std.specs.Prelude.{nat_eq}
 use Rattle.std.proofs.lemmas.List.{append-nil}
 use Rattle.std.proofs.lemmas.Bool.{eq-eqb, eqb-true}
 use Rattle.pg_patterns.specs.Values.{Patterns}
-use Rattle.pg_prune.specs.Positions.{WordPosition}
+use Rattle.pg_prune.specs.Positions.{PositionInReach}
 use Rattle.pg_prune.specs.Prunes.{round_from, round, rounds_from, RoundsResult}
 use Rattle.pg_prune.specs.Inside.rounds.Alike.{break_alike}
 
@@ -18,7 +18,7 @@ pub regrouped : {A : Type 0} (kept : List A) (e : A) (rest : List A) → (kept +
 regrouped kept e rest = append_assoc kept (e ∷ []) rest
 
 -- a fact that stays where an entry is taken out without a change of breaks holds after a round, and after all rounds
-module _ (positions : List WordPosition) (P : Patterns) (Good : Patterns → Type 0) (step : (before : Patterns) (e : (List ℕ × ℕ) × ℕ) (rest : Patterns)
+module _ (positions : List PositionInReach) (P : Patterns) (Good : Patterns → Type 0) (step : (before : Patterns) (e : (List ℕ × ℕ) × ℕ) (rest : Patterns)
     → break_alike positions P (before ++ rest) ≡ true → Good (before ++ e ∷ rest) → Good (before ++ rest)) where
   pub round_keeps : (kept rest : Patterns) → Good (kept ++ rest) → Good (round_from positions P kept rest)
   round_keeps kept [] good = subst Good (append-nil kept) good
@@ -36,7 +36,7 @@ module _ (positions : List WordPosition) (P : Patterns) (Good : Patterns → Typ
       (λ goes. good)
       (λ stays. rounds_keep (count + 1) most (round positions P Q) (round_keeps [] Q good))
 
-module _ (positions : List WordPosition) (P : Patterns) where
+module _ (positions : List PositionInReach) (P : Patterns) where
   -- a round leaves no more entries than there were
   pub round_length : (kept rest : Patterns) → length (round_from positions P kept rest) ≤ length kept + length rest
   round_length kept [] = omega arith

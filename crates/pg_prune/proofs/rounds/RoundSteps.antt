@@ -10,7 +10,7 @@ use Rattle.std.proofs.lemmas.Bool.{and_from, eq-eqb, eqb-true}
 use Rattle.pg_types.proofs.BoolFacts.{and_first, and_second}
 use Rattle.pg_patterns.specs.Values.{Patterns}
 use Rattle.pg_patterns.specs.Inside.PatternMaps.{is_entry}
-use Rattle.pg_prune.specs.Positions.{WordPosition}
+use Rattle.pg_prune.specs.Positions.{PositionInReach}
 use Rattle.pg_prune.specs.Prunes.{round_from, round}
 use Rattle.pg_prune.specs.Inside.rounds.Alike.{break_alike}
 use Rattle.pg_prune.specs.Inside.positions.Standing.{positions_of_entry, positions_of_entries}
@@ -32,22 +32,22 @@ picked_sound P (k ∷ ks) sound within =
     and_from _ _ (sound_at P k (All-head (λ i. i < length P) k ks within) sound) (picked_sound P ks sound (All-tail (λ i. i < length P) k ks within))
 
 -- the positions of the entry with a number
-pub standing_at : (positions : List WordPosition) (P : Patterns) (k : ℕ) → k < length P → get_or (positions_of_entries positions P) k [] ≡ positions_of_entry positions (entry_of P k)
+pub standing_at : (positions : List PositionInReach) (P : Patterns) (k : ℕ) → k < length P → get_or (positions_of_entries positions P) k [] ≡ positions_of_entry positions (entry_of P k)
 standing_at positions [] k inside = absurd (omega arith)
 standing_at positions (e ∷ P) zero inside = refl
 standing_at positions (e ∷ P) (suc k) inside = standing_at positions P k (omega arith)
 
 -- maps break alike the other way round too
-pub alike_back : (xs : List WordPosition) (P Q : Patterns) → break_alike xs P Q ≡ true → break_alike xs Q P ≡ true
+pub alike_back : (xs : List PositionInReach) (P Q : Patterns) → break_alike xs P Q ≡ true → break_alike xs Q P ≡ true
 alike_back [] P Q alike = refl
 alike_back (x ∷ xs) P Q alike = and_from _ _ (eq-eqb _ _ (sym (eqb-true _ _ (and_first _ _ alike)))) (alike_back xs P Q (and_second _ _ alike))
 
 -- the turn of the entry with the number k, where those before it with the numbers `stay` stay
-abbrev pub turn_of : List WordPosition → Patterns → List ℕ → ℕ → List ℕ → Turn
+abbrev pub turn_of : List PositionInReach → Patterns → List ℕ → ℕ → List ℕ → Turn
 turn_of positions P stay k left = record { positions = positions; before = picked_entries P stay; entry = entry_of P k; behind = picked_entries P left }
 
 -- what an entry's turn has: its positions, its value, and the holders of the map
-module _ {V : Type 0} (items : V → List ℕ) (positions : List WordPosition) (P : Patterns) (vs : List V) where
+module _ {V : Type 0} (items : V → List ℕ) (positions : List PositionInReach) (P : Patterns) (vs : List V) where
   pub turn_from : (holders : List (List ℕ)) (stay : List ℕ) (k : ℕ) (left : List ℕ) (v : V) (numbers : List ℕ) (x : (List ℕ × ℕ) × ℕ) → map items vs
       ≡ positions_of_entries positions P → list_all is_entry P ≡ true
       → All (λ i. i < length P) stay → All (λ i. i < length P) (k ∷ left) → IsTallied positions (picked_entries P stay ++ picked_entries P (k ∷ left)) holders
@@ -65,18 +65,18 @@ module _ {V : Type 0} (items : V → List ℕ) (positions : List WordPosition) (
       }
 
 -- a round in its middle
-pub record Rounding (positions : List WordPosition) (P : Patterns) (kept : List ℕ) (holders : List (List ℕ)) (stay left : List ℕ) : Type 0 where
+pub record Rounding (positions : List PositionInReach) (P : Patterns) (kept : List ℕ) (holders : List (List ℕ)) (stay left : List ℕ) : Type 0 where
   pub within : All (λ i. i < length P) stay
   pub rest : All (λ i. i < length P) left
   pub tallied : IsTallied positions (picked_entries P stay ++ picked_entries P left) holders
   pub alike : break_alike positions P (picked_entries P stay ++ picked_entries P left) ≡ true
   pub so_far : round_from positions P (picked_entries P stay) (picked_entries P left) ≡ round positions P (picked_entries P kept)
 
-continues_with : (positions : List WordPosition) (P kept : Patterns) (e : (List ℕ × ℕ) × ℕ) (left : Patterns) → break_alike positions P (kept ++ left) ≡ true
+continues_with : (positions : List PositionInReach) (P kept : Patterns) (e : (List ℕ × ℕ) × ℕ) (left : Patterns) → break_alike positions P (kept ++ left) ≡ true
     → round_from positions P kept (e ∷ left) ≡ round_from positions P kept left
 continues_with positions P kept e left goes = ap (λ b. cond b (round_from positions P kept left) (round_from positions P (kept ++ e ∷ []) left)) goes
 
-stays_on : (positions : List WordPosition) (P kept : Patterns) (e : (List ℕ × ℕ) × ℕ) (left : Patterns) → break_alike positions P (kept ++ left) ≡ false
+stays_on : (positions : List PositionInReach) (P kept : Patterns) (e : (List ℕ × ℕ) × ℕ) (left : Patterns) → break_alike positions P (kept ++ left) ≡ false
     → round_from positions P kept (e ∷ left) ≡ round_from positions P (kept ++ e ∷ []) left
 stays_on positions P kept e left stays = ap (λ b. cond b (round_from positions P kept left) (round_from positions P (kept ++ e ∷ []) left)) stays
 
@@ -92,7 +92,7 @@ unlike : (b c : Bool) → (b ≡ true → c ≡ true) → c ≡ false → b ≡ 
 unlike true c both e = absurd (cc (both refl))
 unlike false c both e = refl
 
-module _ (positions : List WordPosition) (P : Patterns) (stands : List (List ℕ)) (kept : List ℕ) where
+module _ (positions : List PositionInReach) (P : Patterns) (stands : List (List ℕ)) (kept : List ℕ) where
   pub rounding_begins : (holders : List (List ℕ)) → IsKeptSoFar positions P stands holders kept → Rounding positions P kept holders [] kept
   unfolding round
   rounding_begins holders s = record { within = All-nil (λ i. i < length P); rest = s.within; tallied = s.tallied; alike = s.alike; so_far = refl }
@@ -144,7 +144,7 @@ module _ (positions : List WordPosition) (P : Patterns) (stands : List (List ℕ
     done = r.so_far;
   }
 
-module _ {V : Type 0} (items : V → List ℕ) (positions : List WordPosition) (P : Patterns) (vs : List V) (kept : List ℕ) where
+module _ {V : Type 0} (items : V → List ℕ) (positions : List PositionInReach) (P : Patterns) (vs : List V) (kept : List ℕ) where
   pub rounding_at : (holders : List (List ℕ)) (stay : List ℕ) (i : ℕ) → i < length kept → Rounding positions P kept holders stay (drop i kept)
       → Rounding positions P kept holders stay (get_or kept i 0 ∷ drop (i + 1) kept)
   rounding_at holders stay i inside r = subst (λ left. Rounding positions P kept holders stay left) (left_at kept i inside) r

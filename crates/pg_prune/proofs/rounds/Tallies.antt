@@ -8,7 +8,7 @@ use Rattle.std.proofs.lemmas.List.Sums.{sum_by-append}
 use Rattle.pg_types.proofs.BoolFacts.{and_first, and_second, no_test}
 use Rattle.pg_patterns.specs.Values.{Patterns, value_at}
 use Rattle.pg_patterns.specs.Inside.PatternMaps.{is_entry}
-use Rattle.pg_prune.specs.Positions.{WordPosition}
+use Rattle.pg_prune.specs.Positions.{PositionInReach}
 use Rattle.pg_prune.specs.Inside.positions.Standing.{stands}
 use Rattle.pg_prune.specs.Inside.rounds.Holders.{count_at, holder_counts, greatest_value_from, greatest_value, with_one, less_one}
 
@@ -30,7 +30,7 @@ map_more f g a (suc i) (suc n) inside more same =
     ∙ ap (λ t. g a ∷ t) (map_more f g (a + 1) i n (omega arith) (subst (λ k. f k ≡ g k + 1) at more) (λ u other. same u (subst (λ k. u ≢ k) (sym at) other)))
 
 -- an entry in a map counts once
-one_more : (before : Patterns) (e : (List ℕ × ℕ) × ℕ) (behind : Patterns) (x : WordPosition) (v : ℕ) → count_at (before ++ e ∷ behind) x v
+one_more : (before : Patterns) (e : (List ℕ × ℕ) × ℕ) (behind : Patterns) (x : PositionInReach) (v : ℕ) → count_at (before ++ e ∷ behind) x v
     ≡ count_at (before ++ behind) x v + cond (stands e x && nat_eq e.1 v) 1 0
 one_more before e behind x v =
     let f : (List ℕ × ℕ) × ℕ → ℕ = λ e. cond (stands e x && nat_eq e.1 v) 1 0 in
@@ -47,7 +47,7 @@ plus_one : (n : ℕ) (b : Bool) → b ≡ true → n + cond {A = ℕ} b 1 0 ≡ 
 plus_one n true is = refl
 plus_one n false is = absurd (cc)
 
-module _ (before : Patterns) (e : (List ℕ × ℕ) × ℕ) (behind : Patterns) (x : WordPosition) where
+module _ (before : Patterns) (e : (List ℕ × ℕ) × ℕ) (behind : Patterns) (x : PositionInReach) where
   pub tally_away : stands e x ≡ false → holder_counts (before ++ e ∷ behind) x ≡ holder_counts (before ++ behind) x
   tally_away away = map_same (count_at (before ++ e ∷ behind) x) (count_at (before ++ behind) x) 1 9 (λ u low.
       one_more before e behind x u ∙ plus_none (count_at (before ++ behind) x u) (stands e x && nat_eq e.1 u) (ap (λ b. b && nat_eq e.1 u) away))
@@ -114,7 +114,7 @@ either true = inl refl
 either false = inr refl
 
 -- the value of a position is the greatest that some entry gives
-pub greatest_value_is : (Q : Patterns) (x : WordPosition) → list_all is_entry Q ≡ true → greatest_value (holder_counts Q x) ≡ value_at Q x.signs x.position
+pub greatest_value_is : (Q : Patterns) (x : PositionInReach) → list_all is_entry Q ≡ true → greatest_value (holder_counts Q x) ≡ value_at Q x.signs x.position
 greatest_value_is [] x sound = refl
 greatest_value_is (e ∷ Q) x sound =
     let low = entry_low e (and_first _ _ sound) in

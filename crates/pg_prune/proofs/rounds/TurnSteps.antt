@@ -2,7 +2,7 @@
 use Rattle.std.proofs.Common.{◌≡◌, ℕ, zero, suc, ◌+◌, ◌<◌, ◌≤◌, List, [], ◌∷◌, map, length, get_or, drop, None, sym, subst, ap, ◌∙◌, arith, length-drop}
 use Rattle.std.proofs.Math.Seq.{drop-cons}
 use Rattle.std.proofs.lemmas.List.{nil_from_length}
-use Rattle.pg_prune.specs.Positions.{WordPosition}
+use Rattle.pg_prune.specs.Positions.{PositionInReach}
 use Rattle.pg_prune.specs.Prunes.{break_alike_at}
 use Rattle.pg_prune.specs.Inside.Findings.{first_difference}
 use Rattle.pg_prune.specs.Inside.positions.Standing.{stands}
@@ -73,14 +73,14 @@ module _ (t : Turn) (numbers : List ℕ) (value : ℕ) (start : List (List ℕ))
       look_ends t.positions (break_alike_at (with_entry t) (without_entry t)) (stands t.entry) (away_alike t numbers value h.entry)
       (subst (λ left. EntrySearchedSoFar left) (none_left numbers i behind) w)
 
-get_or-mapped : {A : Type 0} (f : WordPosition → A) (xs : List WordPosition) (k : ℕ) (x : WordPosition)
-    → k < length xs → ((d : WordPosition) → get_or xs k d ≡ x) → (d : A) → get_or (map f xs) k d ≡ f x
+get_or-mapped : {A : Type 0} (f : PositionInReach → A) (xs : List PositionInReach) (k : ℕ) (x : PositionInReach)
+    → k < length xs → ((d : PositionInReach) → get_or xs k d ≡ x) → (d : A) → get_or (map f xs) k d ≡ f x
 get_or-mapped f [] k x inside at d = absurd (omega arith)
 get_or-mapped f (y ∷ ys) zero x inside at d = ap f (at y)
 get_or-mapped f (y ∷ ys) (suc k) x inside at d = get_or-mapped f ys k x (omega arith) at d
 
 -- the holders at a position of the entry
-pub held_at : (t : Turn) (numbers : List ℕ) (value : ℕ) (start : List (List ℕ)) → IsHeld t start numbers value → (k : ℕ) (x : WordPosition) → k < length t.positions
-    → ((d : WordPosition) → get_or t.positions k d ≡ x)
+pub held_at : (t : Turn) (numbers : List ℕ) (value : ℕ) (start : List (List ℕ)) → IsHeld t start numbers value → (k : ℕ) (x : PositionInReach) → k < length t.positions
+    → ((d : PositionInReach) → get_or t.positions k d ≡ x)
     → (d : List ℕ) → get_or start k d ≡ holder_counts (with_entry t) x
 held_at t numbers value start h k x inside at d = ap (λ s. get_or s k d) h.tallied ∙ get_or-mapped (holder_counts (with_entry t)) t.positions k x inside at d

@@ -6,21 +6,21 @@ use Rattle.std.specs.List.{list_all}
 use Rattle.std.proofs.lemmas.List.{length-map, map-append}
 use Rattle.std.proofs.lemmas.Bool.{and_from}
 use Rattle.pg_types.proofs.BoolFacts.{and_first, and_second}
-use Rattle.pg_prune.specs.Positions.{WordPosition}
+use Rattle.pg_prune.specs.Positions.{PositionInReach}
 use Rattle.pg_prune.specs.Inside.positions.Standing.{numbers_of}
 
 -- the first number: positions before it fail, its own passes, and the numbers that follow are those of the positions behind it
-pub record Next (test : WordPosition → Bool) (n : ℕ) (ys : List WordPosition) (k : ℕ) (ks : List ℕ) : Type 0 where
-  pub gap : List WordPosition
-  pub position : WordPosition
-  pub more : List WordPosition
+pub record Next (test : PositionInReach → Bool) (n : ℕ) (ys : List PositionInReach) (k : ℕ) (ks : List ℕ) : Type 0 where
+  pub gap : List PositionInReach
+  pub position : PositionInReach
+  pub more : List PositionInReach
   pub is : ys ≡ gap ++ position ∷ more
   pub fails : list_all (λ y. not (test y)) gap ≡ true
   pub there : test position ≡ true
   pub at : k ≡ n + length gap
   pub rest : ks ≡ numbers_of test (k + 1) more
 
-next_in : (test : WordPosition → Bool) (n : ℕ) (y : WordPosition) (ys : List WordPosition) (k : ℕ) (ks : List ℕ) (b : Bool) → test y ≡ b
+next_in : (test : PositionInReach → Bool) (n : ℕ) (y : PositionInReach) (ys : List PositionInReach) (k : ℕ) (ks : List ℕ) (b : Bool) → test y ≡ b
     → cond b (n ∷ numbers_of test (n + 1) ys) (numbers_of test (n + 1) ys) ≡ k ∷ ks → (numbers_of test (n + 1) ys ≡ k ∷ ks → Next test (n + 1) ys k ks) → Next test n (y ∷ ys) k ks
 next_in test n y ys k ks true there is others =
     let first : n ≡ k = cc in
@@ -41,18 +41,18 @@ next_in test n y ys k ks false away is others =
       rest = r.rest;
     }
 
-pub next_of : (test : WordPosition → Bool) (n : ℕ) (ys : List WordPosition) (k : ℕ) (ks : List ℕ) → numbers_of test n ys ≡ k ∷ ks → Next test n ys k ks
+pub next_of : (test : PositionInReach → Bool) (n : ℕ) (ys : List PositionInReach) (k : ℕ) (ks : List ℕ) → numbers_of test n ys ≡ k ∷ ks → Next test n ys k ks
 next_of test n [] k ks is = absurd (cc)
 next_of test n (y ∷ ys) k ks is = next_in test n y ys k ks (test y) refl is (next_of test (n + 1) ys k ks)
 
-none_in : (test : WordPosition → Bool) (n : ℕ) (y : WordPosition) (ys : List WordPosition) (b : Bool) → test y ≡ b
+none_in : (test : PositionInReach → Bool) (n : ℕ) (y : PositionInReach) (ys : List PositionInReach) (b : Bool) → test y ≡ b
     → cond b (n ∷ numbers_of test (n + 1) ys) (numbers_of test (n + 1) ys) ≡ [] → (numbers_of test (n + 1) ys ≡ [] → list_all (λ y. not (test y)) ys ≡ true)
     → list_all (λ y. not (test y)) (y ∷ ys) ≡ true
 none_in test n y ys true there is others = absurd (cc)
 none_in test n y ys false away is others = let fails : not (test y) ≡ true = ap not away in and_from _ _ fails (others is)
 
 -- where there is no number, all fail
-pub none_of : (test : WordPosition → Bool) (n : ℕ) (ys : List WordPosition) → numbers_of test n ys ≡ [] → list_all (λ y. not (test y)) ys ≡ true
+pub none_of : (test : PositionInReach → Bool) (n : ℕ) (ys : List PositionInReach) → numbers_of test n ys ≡ [] → list_all (λ y. not (test y)) ys ≡ true
 none_of test n [] is = refl
 none_of test n (y ∷ ys) is = none_in test n y ys (test y) refl is (none_of test (n + 1) ys)
 
@@ -61,34 +61,34 @@ is_false true e = cc
 is_false false e = refl
 
 -- positions that fail have the same in both lists
-pub same_in_gap : {A : Type 0} (test : WordPosition → Bool) (f g : WordPosition → A) → ((x : WordPosition) → test x ≡ false → f x ≡ g x) → (gap : List WordPosition)
+pub same_in_gap : {A : Type 0} (test : PositionInReach → Bool) (f g : PositionInReach → A) → ((x : PositionInReach) → test x ≡ false → f x ≡ g x) → (gap : List PositionInReach)
     → list_all (λ y. not (test y)) gap ≡ true → map f gap ≡ map g gap
 same_in_gap test f g same [] fails = refl
 same_in_gap test f g same (y ∷ ys) fails =
     ap (λ h. h ∷ map f ys) (same y (is_false (test y) (and_first _ _ fails))) ∙ ap (λ t. g y ∷ t) (same_in_gap test f g same ys (and_second _ _ fails))
 
 -- the walk is in the middle: of the positions in front g was written, and behind f still stands
-pub record WalkedSoFar {A : Type 0} (positions : List WordPosition) (f g : WordPosition → A) (test : WordPosition → Bool) (held : List A) (left : List ℕ) : Type 0 where
-  pub front : List WordPosition
-  pub back : List WordPosition
+pub record WalkedSoFar {A : Type 0} (positions : List PositionInReach) (f g : PositionInReach → A) (test : PositionInReach → Bool) (held : List A) (left : List ℕ) : Type 0 where
+  pub front : List PositionInReach
+  pub back : List PositionInReach
   pub is : positions ≡ front ++ back
   pub held_is : held ≡ map g front ++ map f back
   pub left_is : left ≡ numbers_of test (length front) back
 
 -- what is at the next number, and the walk behind it
-pub record Step {A : Type 0} (positions : List WordPosition) (f g : WordPosition → A) (test : WordPosition → Bool) (held : List A) (k : ℕ) (ks : List ℕ) : Type 0 where
-  pub position : WordPosition
+pub record Step {A : Type 0} (positions : List PositionInReach) (f g : PositionInReach → A) (test : PositionInReach → Bool) (held : List A) (k : ℕ) (ks : List ℕ) : Type 0 where
+  pub position : PositionInReach
   pub there : test position ≡ true
   pub within : k < length held
   pub at : (d : A) → get_or held k d ≡ f position
-  pub at_position : (d : WordPosition) → get_or positions k d ≡ position
+  pub at_position : (d : PositionInReach) → get_or positions k d ≡ position
   pub next : (new : A) → new ≡ g position → WalkedSoFar positions f g test (set held k new) ks
 
-module _ {A : Type 0} (positions : List WordPosition) (f g : WordPosition → A) (test : WordPosition → Bool) where
+module _ {A : Type 0} (positions : List PositionInReach) (f g : PositionInReach → A) (test : PositionInReach → Bool) where
   pub walk_begins : (held : List A) (left : List ℕ) → held ≡ map f positions → left ≡ numbers_of test 0 positions → WalkedSoFar positions f g test held left
   walk_begins held left is numbers = record { front = []; back = positions; is = refl; held_is = is; left_is = numbers }
 
-  module _ (same : (x : WordPosition) → test x ≡ false → f x ≡ g x) where
+  module _ (same : (x : PositionInReach) → test x ≡ false → f x ≡ g x) where
     pub walk_steps : (held : List A) (k : ℕ) (ks : List ℕ) → WalkedSoFar positions f g test held (k ∷ ks) → Step positions f g test held k ks
     walk_steps held k ks w =
         let n = next_of test (length w.front) w.back k ks (sym w.left_is) in

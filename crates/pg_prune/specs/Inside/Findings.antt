@@ -5,20 +5,20 @@ use Rattle.std.specs.Option.{option_map, option_to_list}
 use Rattle.pg_translate.specs.Alphabets.{Alphabet}
 use Rattle.pg_patterns.specs.Values.{Patterns}
 use Rattle.pg_prune.specs.declared.pruned.Need.{Need}
-use Rattle.pg_prune.specs.Positions.{WordPosition}
+use Rattle.pg_prune.specs.Positions.{PositionInReach}
 use Rattle.pg_prune.specs.Prunes.{break_alike_at, need_at, needs, Pruning, RoundsResult}
 use Rattle.pg_prune.specs.Reports.{keep_line}
 
 -- the first position at which two maps do not break alike, where there is one
-abbrev pub first_difference : List WordPosition → Patterns → Patterns → Option WordPosition
+abbrev pub first_difference : List PositionInReach → Patterns → Patterns → Option PositionInReach
 first_difference positions P Q = find (λ x. not (break_alike_at P Q x)) positions
 
 -- a need as a list
-abbrev pub need_list : Option WordPosition → List Need
+abbrev pub need_list : Option PositionInReach → List Need
 need_list position = option_to_list (option_map need_at position)
 
 -- what the rounds come to, where so many entries were there at first
-abbrev pub found_by : List WordPosition → ℕ → RoundsResult → Pruning
+abbrev pub found_by : List PositionInReach → ℕ → RoundsResult → Pruning
 found_by positions first r =
     record {
       patterns = r.patterns;

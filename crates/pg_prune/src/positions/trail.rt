@@ -4,7 +4,7 @@ ghost use Rattle.std.specs.Prelude.{◌≡◌, ◌≤◌, ◌+◌, ◌++◌, [],
 ghost use Rattle.std.specs.List.{filter, filter_map};
 ghost use Rattle.pg_types.specs.declared.limits.TheConstants.{PATTERN_SIGNS_MAX};
 ghost use Rattle.pg_select.specs.CountedPositions.{minima_of};
-ghost use Rattle.pg_prune.specs.Inside.positions.Trails.{IsStart, IsTrail, starts_in, all_starts as all_starts_of, continues_with as continues_with_by, starts_of as starts_by, last_of, number_at_dot as number_by};
+ghost use Rattle.pg_prune.specs.Inside.positions.Trails.{IsStart, IsTrail, starts_in, all_starts as all_starts_of, continues_with as continues_with_by, starts_of as starts_by, last_list, number_at_dot as number_by};
 
 use pg_dict::Dictionary;
 use pg_translate::Table;
@@ -184,7 +184,7 @@ impl Trail {
 
     /// The starts of the string, where `all` are all starts.
     fn starts_of<'a>(&'a self, all: &'a [Start]) -> &'a [Start]
-        ensures { result.now ≡ last_of all.now (map (λ l. l.items) self.now.starts.items) }
+        ensures { result.now ≡ last_list all.now (map (λ l. l.items) self.now.starts.items) }
     {
         let len = self.starts.len();
         if len == 0 {

@@ -28,8 +28,8 @@ rest_totals s set rest left_out = totals_by (source_of s.table left_out)
     (final_patterns s.start (trace (source_of s.table rest) set s.start))
 
 -- the totals of the first folds together
-abbrev pub totals_of_folds : Terms → Parameters → ℕ → Totals
-totals_of_folds s set count = total_of (map (fold_totals s set) (range_with_len 0 count))
+abbrev pub totals_of_first_folds : Terms → Parameters → ℕ → Totals
+totals_of_first_folds s set count = total_of (map (fold_totals s set) (range_with_len 0 count))
 
 -- the signs of the words and of the patterns are signs of the table
 abbrev pub HasSigns : SharedInputs → Type 0

@@ -24,7 +24,7 @@ use Rattle.pg_cells.specs.Inside.families.Root.{root_alone}
 use Rattle.pg_cells.specs.Inside.linked.Walks.{AddsBlanks}
 use Rattle.pg_cells.proofs.PlacementLaws.{cell_of_last}
 use Rattle.pg_cells.proofs.StringMaps.{order, same_string, same_from, equal_or_not, find_put_same, find_put_other}
-use Rattle.pg_table.specs.Inside.text.PackedTrie.{IsGroup, IsReached, IsEntered, pairs}
+use Rattle.pg_table.specs.Inside.text.PackedTrie.{IsGroup, IsReached, IsEntered, dot_values}
 use Rattle.pg_table.specs.Inside.text.Sharing.{Lists, Shares, value_and_dot, with_ends}
 use Rattle.pg_table.specs.Texts.{recorded_lists}
 use Rattle.pg_table.specs.Inside.text.Files.{table_families}
@@ -109,8 +109,8 @@ entered_none n P records none one_head held = record {
 
 module _ (n : ℕ) (P : List Entry) (sound : IsPatternMap P) (at end : ℕ) (q : List ℕ) (group : IsGroup P q at end) where
   module _ (h h1 h2 : ValuedFamilies ℕ) (rs new : List Record) (head c : ℕ) (to : EnteredTo n P at h rs)
-      (grows : Grows rs new) (inside : head ≤ length new) (list : list_of new head ≡ map value_and_dot (pairs P at end))
-      (shares : (lists : Lists) → Shares rs lists → Shares new (with_ends lists (pairs P at end)))
+      (grows : Grows rs new) (inside : head ≤ length new) (list : list_of new head ≡ map value_and_dot (dot_values P at end))
+      (shares : (lists : Lists) → Shares rs lists → Shares new (with_ends lists (dot_values P at end)))
       (held1 : AreValuedFamilies h1) (signs1 : h1.signs ≡ h.signs) (families1 : h1.families ≡ enter h.signs h.families q) (blanks : AddsBlanks q 0 h.values h1.values)
       (cell : cell_of h1.families q ≡ Some c)
       (held2 : AreValuedFamilies h2) (is2 : h2 ≡ record h1 { values = put order q head h1.values }) where
@@ -215,7 +215,7 @@ module _ (n : ℕ) (P : List Entry) (sound : IsPatternMap P) (at end : ℕ) (q :
       values = values_more;
       reached = reached_more;
       entered = entered_more;
-      lists = with_ends to.lists (pairs P at end);
+      lists = with_ends to.lists (dot_values P at end);
       shares = shares to.lists to.shares;
       left = ap (λ l. with_strings P (with_ends to.lists l) (strings_of (drop end P))) (sym (string_whole P sound.sorted q at end group to.apart))
           ∙ ap (with_strings P to.lists) (sym (strings_left P sound.sorted q at end group)) ∙ to.left;

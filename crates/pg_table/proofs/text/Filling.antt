@@ -14,7 +14,7 @@ use Rattle.pg_cells.proofs.StringMaps.{order}
 use Rattle.pg_outputs.specs.declared.records.Record.{Record}
 use Rattle.pg_table.specs.declared.parts.cell.Cell.{Cell}
 use Rattle.pg_table.specs.Inside.text.PackedTrie.{IsEntered}
-use Rattle.pg_table.specs.Inside.text.Rows.{HasHeads, IsRow, HasCell, Fills}
+use Rattle.pg_table.specs.Inside.text.Rows.{HasHeads, IsPartRow, HasCell, Fills}
 use Rattle.pg_table.specs.Texts.{cell_of_table, head_in}
 use Rattle.pg_table.specs.Inside.text.Files.{table_cells}
 use Rattle.pg_table.specs.Inside.text.Cells.{last_sign, cell_for, unused_cell}
@@ -37,7 +37,7 @@ module _ (h : ValuedFamilies ℕ) (held : AreValuedFamilies h) (heads : List ℕ
       by false e = sym (ap (λ t. unwrap_or (cond t None (Some child)) 0) e)
 
   -- a cell that is filled in as it is in the table
-  pub row_set : (row : List Cell) (c : ℕ) (x : Cell) → IsRow h heads row → c < length row → x ≡ cell_of_table h.families heads c → IsRow h heads (set row c x)
+  pub row_set : (row : List Cell) (c : ℕ) (x : Cell) → IsPartRow h heads row → c < length row → x ≡ cell_of_table h.families heads c → IsPartRow h heads (set row c x)
   row_set row c x is inside right = record { size = length-set row c x ∙ is.size; each = each }
     where
       each : (at : ℕ) → at < top h.families + 1 → (get_or (set row c x) at unused_cell ≡ unused_cell) ⊎ (get_or (set row c x) at unused_cell ≡ cell_of_table h.families heads at)
@@ -69,7 +69,7 @@ module _ (h : ValuedFamilies ℕ) (held : AreValuedFamilies h) (heads : List ℕ
       nothing [] x e = cc
       nothing (y ∷ p) x e = cc
 
-  pub fills_none : (q : List ℕ) (row : List Cell) → IsRow h heads row → Fills h heads q 0 row row
+  pub fills_none : (q : List ℕ) (row : List Cell) → IsPartRow h heads row → Fills h heads q 0 row row
   fills_none q row is = record { row = is; keeps = λ r has_r. has_r; fronts = fronts }
     where
       fronts : (k : ℕ) → k ≤ 0 → HasCell h heads row (take k q)
@@ -105,14 +105,14 @@ module _ (h : ValuedFamilies ℕ) (held : AreValuedFamilies h) (heads : List ℕ
       ]
 
   -- the row at first
-  pub row_first : (row : List Cell) → row ≡ replicate (top h.families + 1) unused_cell → IsRow h heads row
+  pub row_first : (row : List Cell) → row ≡ replicate (top h.families + 1) unused_cell → IsPartRow h heads row
   row_first row is = record {
     size = ap length is ∙ length-replicate (top h.families + 1) unused_cell;
     each = λ at low. inl (ap (λ l. get_or l at unused_cell) is ∙ get_or-replicate (top h.families + 1) at unused_cell unused_cell low);
   }
 
 -- the row at the end
-pub row_last : (n : ℕ) (P : List Entry) (h : ValuedFamilies ℕ) (records : List Record) (row : List Cell) → IsEntered n P h records → IsRow h (head_in P) row
+pub row_last : (n : ℕ) (P : List Entry) (h : ValuedFamilies ℕ) (records : List Record) (row : List Cell) → IsEntered n P h records → IsPartRow h (head_in P) row
     → ((x : ℕ) → 1 ≤ x → x ≤ n → HasCell h (head_in P) row (x ∷ []))
     → ((j k : ℕ) (e : Entry) → j < length P → slice_get P j ≡ Some e → HasCell h (head_in P) row (take k e.0.0)) → row ≡ table_cells n P
 row_last n P h records row entered is roots fronts =

@@ -16,7 +16,7 @@ use Rattle.pg_patterns.specs.Texts.{strings_of, with_string}
 use Rattle.pg_patterns.proofs.Ordered.{sorted_at}
 use Rattle.pg_patterns.proofs.Strings.{string_once, string_ends, equal_signs}
 use Rattle.pg_cells.proofs.StringMaps.{same_string, same_itself, same_no}
-use Rattle.pg_table.specs.Inside.text.PackedTrie.{IsGroup, pairs}
+use Rattle.pg_table.specs.Inside.text.PackedTrie.{IsGroup, dot_values}
 
 abbrev pub Entry : Type 0
 Entry = (List ℕ × ℕ) × ℕ
@@ -139,10 +139,10 @@ module _ (P : List Entry) (sorted : T (is_sorted dotted_cmp P)) (q : List ℕ) (
         before.apart k at e first inner.0 (omega arith) inner.1 first_at (same ∙ sym (group.each at first (omega arith) group.some first_at)))
 
     -- and that of this string is the list of the group
-    pub string_so_far : outputs_of (take end P) q ≡ pairs P at end
+    pub string_so_far : outputs_of (take end P) q ≡ dot_values P at end
     string_so_far = ap (λ l. outputs_of l q) front_more ∙ outputs-append (take at P) part q ∙ ap (λ l. l ++ outputs_of part q) none_before ∙ outputs_all part q part_each
 
-    pub string_whole : outputs_of P q ≡ pairs P at end
+    pub string_whole : outputs_of P q ≡ dot_values P at end
     string_whole =
         let later = apart_more before in
         let rest : outputs_of (drop end P) q ≡ [] =

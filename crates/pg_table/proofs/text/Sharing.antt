@@ -10,7 +10,7 @@ use Rattle.pg_outputs.specs.Inside.Heads.{OneHeadEach, Lacks}
 use Rattle.pg_outputs.specs.Inside.Records.{AreShared}
 use Rattle.pg_outputs.proofs.ListLaws.{list_of-at, list_of-old, list_of-new}
 use Rattle.pg_outputs.proofs.RecordLaws.{there_or_new}
-use Rattle.pg_table.specs.Inside.text.PackedTrie.{pairs}
+use Rattle.pg_table.specs.Inside.text.PackedTrie.{dot_values}
 use Rattle.pg_table.specs.Inside.text.Sharing.{Lists, value_and_dot, Shares}
 use Rattle.pg_table.specs.Texts.{with_list}
 use Rattle.pg_table.proofs.text.Recorded.{test_among, with_cases, get_cases}
@@ -85,10 +85,10 @@ module _ (rs new : List Record) (lists : Lists) (x : ℕ × ℕ) (rest : List (�
       ]
 
 -- the pairs from a place on
-pub pairs_none : (P : Patterns) (end : ℕ) → pairs P end end ≡ []
+pub pairs_none : (P : Patterns) (end : ℕ) → dot_values P end end ≡ []
 pairs_none P end = let none : end - end ≡ 0 = omega arith in ap (λ n. map (λ e. (e.0.1, e.1)) (take n (drop end P))) none
 
-pub pairs_more : (P : Patterns) (i end : ℕ) (e : (List ℕ × ℕ) × ℕ) → slice_get P i ≡ Some e → i < end → pairs P i end ≡ (e.0.1, e.1) ∷ pairs P (i + 1) end
+pub pairs_more : (P : Patterns) (i end : ℕ) (e : (List ℕ × ℕ) × ℕ) → slice_get P i ≡ Some e → i < end → dot_values P i end ≡ (e.0.1, e.1) ∷ dot_values P (i + 1) end
 pairs_more P i end e at before =
     let size : end - i ≡ suc (end - (i + 1)) = omega arith in
     let rest : drop i P ≡ e ∷ drop (i + 1) P = drop_more P i e (slice_get_within P i e at) ∙ ap (λ f. f ∷ drop (i + 1) P) (get_or_from_slice_get P i e e at) in

@@ -6,7 +6,7 @@ ghost use Rattle.pg_outputs.specs.Lists.{list_of};
 ghost use Rattle.pg_outputs.specs.Inside.Heads.{Grows, OneHeadEach};
 ghost use Rattle.pg_cells.specs.Inside.families.Root.{root_alone};
 ghost use Rattle.pg_cells.specs.Inside.linked.AreValuedFamilies.{AreValuedFamilies};
-ghost use Rattle.pg_table.specs.Inside.text.PackedTrie.{IsGroup, IsEntered, pairs};
+ghost use Rattle.pg_table.specs.Inside.text.PackedTrie.{IsGroup, IsEntered, dot_values};
 ghost use Rattle.pg_table.specs.Inside.text.Sharing.{Lists, Shares, value_and_dot, with_ends};
 
 use pg_cells::{Cells, enter};
@@ -87,9 +87,9 @@ fn share(
     requires within { end ≤ length patterns.now }
     ensures shares { IfOk result (λ head. (lists : Lists) →
         Shares outputs.old lists
-        → Shares outputs.new (with_ends lists (pairs patterns.now at end))) }
+        → Shares outputs.new (with_ends lists (dot_values patterns.now at end))) }
     ensures list { IfOk result
-        (λ head. list_of outputs.new head ≡ map value_and_dot (pairs patterns.now at end)) }
+        (λ head. list_of outputs.new head ≡ map value_and_dot (dot_values patterns.now at end)) }
     ensures inside { IfOk result (λ head. head ≤ length outputs.new) }
     ensures grows { Grows outputs.old outputs.new }
 {

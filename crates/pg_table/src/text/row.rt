@@ -8,7 +8,7 @@ ghost use Rattle.pg_types.specs.Placement.{top};
 ghost use Rattle.pg_patterns.specs.Inside.PatternMaps.{SignsUpTo};
 ghost use Rattle.pg_cells.specs.Inside.linked.AreValuedFamilies.{AreValuedFamilies};
 ghost use Rattle.pg_table.specs.Inside.text.PackedTrie.{IsEntered};
-ghost use Rattle.pg_table.specs.Inside.text.Rows.{HasHeads, IsRow, Fills, FillsSigns};
+ghost use Rattle.pg_table.specs.Inside.text.Rows.{HasHeads, IsPartRow, Fills, FillsSigns};
 ghost use Rattle.pg_table.specs.Texts.{head_in};
 ghost use Rattle.pg_table.specs.Inside.text.Files.{table_cells};
 
@@ -52,7 +52,7 @@ fn fill(signs: u16, patterns: &PatternSet, packed: &PackedTrie, row: &mut [Cell]
     requires entered { IsEntered signs patterns.now packed.now.cells packed.now.outputs }
     requires cells { top packed.now.cells.families + 1 ≤ u32.MAX }
     requires records { length packed.now.outputs ≤ u32.MAX }
-    requires row { IsRow packed.now.cells (head_in patterns.now) row.old }
+    requires row { IsPartRow packed.now.cells (head_in patterns.now) row.old }
     ensures { row.new ≡ table_cells signs patterns.now }
 {
     fill_signs(signs, &packed.cells, row);
@@ -68,7 +68,7 @@ fn fill_signs(signs: u16, cells: &Cells<u64>, row: &mut [Cell])
     requires cells { top cells.now.families + 1 ≤ u32.MAX }
     requires values { (q : List ℕ) (v : ℕ) → find (slice_cmp nat_cmp) q cells.now.values ≡ Some v
         → v ≤ u32.MAX }
-    ensures { (heads : List ℕ → ℕ) → HasHeads cells.now heads → IsRow cells.now heads row.old →
+    ensures { (heads : List ℕ → ℕ) → HasHeads cells.now heads → IsPartRow cells.now heads row.old →
         FillsSigns cells.now heads signs row.new }
 {
     'signs: for s in 1..signs + 1 {
@@ -100,7 +100,7 @@ fn fill_string(cells: &Cells<u64>, signs: &[Sign], row: &mut [Cell])
     requires cells { top cells.now.families + 1 ≤ u32.MAX }
     requires values { (q : List ℕ) (v : ℕ) → find (slice_cmp nat_cmp) q cells.now.values ≡ Some v
         → v ≤ u32.MAX }
-    ensures { (heads : List ℕ → ℕ) → HasHeads cells.now heads → IsRow cells.now heads row.old →
+    ensures { (heads : List ℕ → ℕ) → HasHeads cells.now heads → IsPartRow cells.now heads row.old →
         Fills cells.now heads signs.now (length signs.now) row.old row.new }
 {
     let mut at = None;

@@ -7,16 +7,16 @@ use Rattle.pg_driver.specs.Inside.records.CellsAccounts.{CellsAccount}
 use Rattle.pg_texts.specs.Fronts.{pass_front, level_front}
 
 -- `T taken, top U`
-abbrev pub numbers_text : ℕ → ℕ → List ℕ
-numbers_text taken top = decimal taken ++ codes " taken, top " ++ decimal top
+abbrev pub taken_text : ℕ → ℕ → List ℕ
+taken_text taken top = decimal taken ++ codes " taken, top " ++ decimal top
 
 -- `T taken, top U, K tails` and the line's end
 abbrev pub layout_line_text : Layout → List ℕ
-layout_line_text l = numbers_text l.taken l.top ++ codes ", " ++ decimal l.tails ++ codes " tails\n"
+layout_line_text l = taken_text l.taken l.top ++ codes ", " ++ decimal l.tails ++ codes " tails\n"
 
 -- the line of a pass
 abbrev pub pass_cells_text : Pass × ℕ × ℕ → List ℕ
-pass_cells_text p = pass_front p.0 ++ numbers_text p.1 p.2 ++ codes "\n"
+pass_cells_text p = pass_front p.0 ++ taken_text p.1 p.2 ++ codes "\n"
 
 -- the lines of the passes of a level
 abbrev pub pass_cells_lines : List (Pass × ℕ × ℕ) → ℕ → List ℕ

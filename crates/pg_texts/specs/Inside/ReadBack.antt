@@ -3,7 +3,7 @@ use Rattle.std.specs.Prelude.{◌≡◌, ◌≤◌, ℕ, List, length, filter, O
 use Rattle.pg_types.specs.declared.limits.TheConstants.{FILE_MAX}
 use Rattle.pg_translate.specs.Alphabets.{Alphabet}
 use Rattle.pg_dict.specs.Word.{Word}
-use Rattle.pg_dict.specs.Words.{words as words_of}
+use Rattle.pg_dict.specs.DictionaryWords.{words as words_of}
 use Rattle.pg_texts.specs.PattmpTexts.{is_taking_part}
 
 -- the words that take part

@@ -11,13 +11,13 @@ or_this (Some first) link name = Some first
 or_this None link name = cond (bytes_eq name (string_bytes link.name)) (Some link) None
 
 -- the link of this name, if there is one
-abbrev pub link_in : List Link → List ℕ → Option Link
-link_in [] name = None
-link_in (link ∷ older) name = or_this (link_in older name) link name
+abbrev pub link_named : List Link → List ℕ → Option Link
+link_named [] name = None
+link_named (link ∷ older) name = or_this (link_named older name) link name
 
 -- whether the name is a link
 abbrev pub is_link_in : List Link → List ℕ → Bool
-is_link_in links name = is_some (link_in links name)
+is_link_in links name = is_some (link_named links name)
 
 -- where the name is that of the link, it stands for what the link says
 abbrev pub followed_by : List ℕ → List ℕ → Link → List ℕ
@@ -44,7 +44,7 @@ abbrev pub links_in : List Link → Links
 links_in links = record {
   real = real_in links;
   is_link = is_link_in links;
-  next = λ name. said_or (link_in links name) name;
+  next = λ name. said_or (link_named links name) name;
   new_mode = 420;
   is_plain = has_no_link links;
 }

@@ -21,5 +21,5 @@ abbrev pub file_id : ToldFile → FileId
 file_id file = id_of file.number
 
 -- how many bytes of a file were read
-abbrev pub file_at : ToldFile → ℕ
-file_at file = file.at
+abbrev pub read_len : ToldFile → ℕ
+read_len file = file.at

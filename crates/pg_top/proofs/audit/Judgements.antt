@@ -13,7 +13,7 @@ use Rattle.pg_outside.specs.Inside.NameFaults.{NoneFell}
 use Rattle.pg_outside.specs.FilesCalls.{Reads}
 use Rattle.pg_top.specs.Answers.{IsCall}
 use Rattle.pg_top.specs.audit.AuditRule.{audit_rule, denies, given_file}
-use Rattle.pg_top.specs.audit.Inside.Verdicts.{yes_line, wanted_file, wanted_files, given_files, end_of, outcome_by, ReadsToFind, IsFrontOf, PutsVerdict}
+use Rattle.pg_top.specs.audit.Inside.Verdicts.{yes_line, wanted_file, wanted_files, given_files, end_of, outcome_by, ReadsToFind, IsWholeOrFront, PutsVerdict}
 use Rattle.pg_steps.specs.FileCalls.{MakesCalls, MakesPuts, read_calls, ReadsUpTo, EndsAt, MakesReadCalls, MakesAllCalls, MakesAnswerCalls}
 use Rattle.pg_steps.specs.Inside.reading.ReadCalls.{read_call}
 use Rattle.pg_steps.specs.Outcomes.{Outcome, Unknown, Ends}
@@ -52,7 +52,7 @@ denied g None = refl
 denied g (Some d) = refl
 
 -- a file is judged by its front
-pub judged : (g : Given) (text : List ℕ) (file : Option (List ℕ)) (bytes : List ℕ) → IsFrontOf file (length text) 256 bytes
+pub judged : (g : Given) (text : List ℕ) (file : Option (List ℕ)) (bytes : List ℕ) → IsWholeOrFront file (length text) 256 bytes
     → option_map (λ whole. option_map (denies g) (first_false whole text)) file ≡ Some (option_map (denies g) (first_false bytes text))
 judged g text None bytes front = absurd front
 judged g text (Some whole) bytes (inl same) = ap (λ b. Some (option_map (denies g) (first_false b text))) (sym same)

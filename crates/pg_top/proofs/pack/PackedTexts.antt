@@ -2,7 +2,7 @@
 use Rattle.std.proofs.Common.{◌≡◌, ℕ, ◌<◌, ◌≤◌, List, [], ◌∷◌, length, cond, refl, ap}
 use Rattle.std.proofs.lemmas.Bool.{le-ltb, lt-ltb}
 use Rattle.pg_types.specs.declared.refusals.Kind.TheVariants.{TableTooLong}
-use Rattle.pg_types.specs.Reading.{refusal_at}
+use Rattle.pg_types.specs.ValuesOrRefusals.{refusal_at}
 use Rattle.pg_translate.specs.Alphabets.{Alphabet}
 use Rattle.pg_patterns.specs.Texts.{pattern_text}
 use Rattle.pg_table.specs.declared.error.TableError.{TableError}

@@ -6,12 +6,12 @@ use Rattle.pg_outside.specs.Inside.NameFaults.{NoneFell}
 use Rattle.pg_outside.specs.FilesCalls.{Reads}
 use Rattle.pg_translate.specs.Alphabets.{Alphabet}
 use Rattle.pg_dict.specs.Word.{Word}
-use Rattle.pg_dict.specs.Words.{words}
+use Rattle.pg_dict.specs.DictionaryWords.{words}
 use Rattle.pg_patterns.specs.Values.{Patterns}
 use Rattle.pg_patterns.specs.Starts.{start}
 use Rattle.pg_steps.specs.FileCalls.{MakesCalls}
 use Rattle.pg_steps.specs.Readings.{table_named, translate_file, patterns_file, words_file, patterns_under, words_under}
-use Rattle.pg_top.specs.prune.Inside.Inputs.{HasPrune, line_of_pruned, pruned_by}
+use Rattle.pg_top.specs.prune.Inside.Inputs.{HasPrune, line_of_pruning, pruned_by}
 use Rattle.pg_words.specs.forms.Prune.{PruneRequest}
 use Rattle.pg_steps.specs.Inside.ends.Built.{KeepsPromise}
 use Rattle.pg_prune.specs.Prunes.{pruning_of}
@@ -26,7 +26,7 @@ use Rattle.pg_steps.proofs.ListOrder.{lists_accepted}
 use Rattle.pg_steps.proofs.Orders.{AreAccepted, accepted_all, both, held_later, mapped, stopped_after}
 use Rattle.pg_steps.proofs.UnderTable.{HasTable, is_table, table_accepted, means_under, stopped_first}
 use Rattle.pg_steps.specs.Rules.{outcome_of}
-use Rattle.pg_top.specs.prune.PruneRule.{ReadsBack, prune_rule}
+use Rattle.pg_top.specs.prune.PruneRule.{ReadsBackPatterns, prune_rule}
 
 module _ (p : PruneRequest) where
   -- a stop at the translate file
@@ -73,7 +73,7 @@ prune_outcome p i files h =
     ∙ (λ k. pruned_by p (is_t k) (is_ws k) (is_P k))
 
 -- what it promises
-pub prune_promise : (p : PruneRequest) (i : PruneInputs) (files : FileMap) → ReadsBack i.table (pruning_of (minima_of i.table) i.dictionary i.patterns).patterns
+pub prune_promise : (p : PruneRequest) (i : PruneInputs) (files : FileMap) → ReadsBackPatterns i.table (pruning_of (minima_of i.table) i.dictionary i.patterns).patterns
     → HasPrune (file_at files) p i → KeepsPromise (prune_rule p) (file_at files)
 prune_promise p i files back h =
     let m = minima_of (table_named p.translate (file_at files)) in
@@ -82,16 +82,17 @@ prune_promise p i files back h =
     let is_t : table_named p.translate (file_at files) ≡ i.table = is_table p.translate i.table files h.table in
     let is_P : P ≡ i.patterns = means_under p.translate i.table start [] p.patterns i.patterns files h.table h.patterns in
     let is_ws : ws ≡ i.dictionary = means_under p.translate i.table words [] p.dict i.dictionary files h.table h.words in
-    let with_P : ReadsBack i.table (pruning_of (minima_of i.table) i.dictionary P).patterns =
-    subst (λ (Q : Patterns). ReadsBack i.table (pruning_of (minima_of i.table) i.dictionary Q).patterns) (sym is_P) back in
-    let with_ws : ReadsBack i.table (pruning_of (minima_of i.table) ws P).patterns = subst (λ (vs : List Word). ReadsBack i.table (pruning_of (minima_of i.table) vs P).patterns) (sym is_ws) with_P in
+    let with_P : ReadsBackPatterns i.table (pruning_of (minima_of i.table) i.dictionary P).patterns =
+    subst (λ (Q : Patterns). ReadsBackPatterns i.table (pruning_of (minima_of i.table) i.dictionary Q).patterns) (sym is_P) back in
+    let with_ws : ReadsBackPatterns i.table (pruning_of (minima_of i.table) ws P).patterns =
+    subst (λ (vs : List Word). ReadsBackPatterns i.table (pruning_of (minima_of i.table) vs P).patterns) (sym is_ws) with_P in
     record {
       kept = (pruning_of m ws P).patterns;
       report = prune_report (table_named p.translate (file_at files)) (pruning_of m ws P);
-      lines = line_of_pruned (pruning_of m ws P);
+      lines = line_of_pruning (pruning_of m ws P);
       outcome = ap (λ end. unwrap_or end ((prune_rule p).own_outcome (file_at files))) (accepted_all (file_at files) (prune_rule p).reads (prune_accepted p i files h));
       part = pruned_part m ws P;
-      reads_back = subst (λ (t : Alphabet). ReadsBack t (pruning_of (minima_of t) ws P).patterns) (sym is_t) with_ws;
+      reads_back = subst (λ (t : Alphabet). ReadsBackPatterns t (pruning_of (minima_of t) ws P).patterns) (sym is_t) with_ws;
       alike = pruned_alike m ws P;
       least = pruned_least m ws P;
     }

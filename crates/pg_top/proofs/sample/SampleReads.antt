@@ -9,7 +9,7 @@ use Rattle.pg_types.specs.declared.refusals.ReadingError.TheVariants as reader
 use Rattle.pg_translate.specs.Alphabets.{Alphabet}
 use Rattle.pg_translate.specs.Tables.{default_alphabet}
 use Rattle.pg_dict.specs.Word.{Word}
-use Rattle.pg_dict.specs.Words.{words}
+use Rattle.pg_dict.specs.DictionaryWords.{words}
 use Rattle.pg_patterns.specs.Values.{Patterns}
 use Rattle.pg_top.specs.sample.SampleRule.{sample_parameters, sample_text, sample_inputs}
 use Rattle.pg_top.specs.declared.selection.Inputs.{Inputs}

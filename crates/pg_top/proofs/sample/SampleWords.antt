@@ -15,10 +15,10 @@ use Rattle.pg_translate.specs.Tokens.{Token, Letter, Marked}
 use Rattle.pg_translate.specs.Inside.items.Items.{IsItem, text_of_items}
 use Rattle.pg_translate.specs.declared.items.Place.TheVariants.{Dictionary}
 use Rattle.pg_dict.specs.Word.{Word}
-use Rattle.pg_dict.specs.Words.{word_of_items, words}
+use Rattle.pg_dict.specs.DictionaryWords.{word_of_items, words}
 use Rattle.pg_dict.specs.Inside.LineWords.{word_weight}
 use Rattle.pg_dict.specs.Inside.LineWords.{line_reading, line_word}
-use Rattle.pg_dict.specs.Inside.WrittenWords.{letters_among, IsLine, file_of, LinesGive}
+use Rattle.pg_dict.specs.Inside.WrittenWords.{letters_among, IsLine, text_of_lines, LinesGive}
 use Rattle.pg_dict.proofs.LineReading.LineLaws.{line_is_read, file_is_read, items_line}
 use Rattle.pg_draws.specs.DrawnNumbers.{next_state, draw}
 use Rattle.pg_words.specs.declared.limits.TheConstants.{COUNT_MAX}
@@ -118,10 +118,10 @@ lines_are : (texts : List (List ℕ)) → KeepsRules default_alphabet → AllByR
 lines_are [] rules good = tt
 lines_are (text ∷ texts) rules good = (subst IsLine (items_joined text) (items_line default_alphabet rules (map item_of text) (items_each text good.0.plain)), lines_are texts rules good.1)
 
-file_short : (texts : List (List ℕ)) (n : ℕ) → length texts ≤ n → AllByRecursion IsSampleLine texts → length (file_of texts) ≤ 16 * n
+file_short : (texts : List (List ℕ)) (n : ℕ) → length texts ≤ n → AllByRecursion IsSampleLine texts → length (text_of_lines texts) ≤ 16 * n
 file_short [] n few good = omega arith
 file_short (text ∷ texts) zero few good = absurd (omega arith)
-file_short (text ∷ texts) (suc n) few good = omega (arith, length-append (text ++ 10 ∷ []) (file_of texts), length-append text (10 ∷ []), good.0.short, file_short texts n (omega arith) good.1)
+file_short (text ∷ texts) (suc n) few good = omega (arith, length-append (text ++ 10 ∷ []) (text_of_lines texts), length-append text (10 ∷ []), good.0.short, file_short texts n (omega arith) good.1)
 
 -- what is drawn from letters is a letter
 letter_at : (bs : List ℕ) (k : ℕ) → list_all is_letter bs ≡ true → k < length bs → is_letter (slice_index bs k) ≡ true
@@ -206,5 +206,5 @@ pub sample_accepted : (seed count : ℕ) → KeepsRules default_alphabet → cou
 sample_accepted seed count rules few =
     let good : AllByRecursion IsSampleLine (words_made count seed) = words_lines count seed in
     let given = lines_given 1 (words_made count seed) rules good in
-    let short : length (file_of (words_made count seed)) ≤ FILE_MAX = omega (arith, file_short (words_made count seed) count (words_count count seed) good) in
+    let short : length (text_of_lines (words_made count seed)) ≤ FILE_MAX = omega (arith, file_short (words_made count seed) count (words_count count seed) good) in
     (given.0, file_is_read default_alphabet (words_made count seed) given.0 (lines_are (words_made count seed) rules good) given.1 short)

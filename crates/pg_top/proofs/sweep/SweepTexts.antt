@@ -4,7 +4,7 @@ use Rattle.std.specs.Prelude.{map, slice_index, unwrap_or}
 use Rattle.std.proofs.lemmas.List.{length-map}
 use Rattle.pg_types.specs.Parameters.{Parameters}
 use Rattle.pg_sweep.specs.Files.{sweep_file}
-use Rattle.pg_sweep.specs.Sweeps.{Terms, row_of, costs_of}
+use Rattle.pg_sweep.specs.Sweeps.{Terms, set_row, costs_of}
 use Rattle.pg_sweep.specs.Inside.RowsAndWinner.{RowsAndWinner}
 use Rattle.pg_sweep.specs.Winners.{winner_of}
 use Rattle.pg_sweep.specs.declared.rows.SweepRow.{SweepRow}
@@ -18,7 +18,7 @@ use Rattle.pg_top.specs.sweep.Inside.Inputs.{line_of_sweep, rows_of_sets, outcom
 use Rattle.pg_steps.specs.declared.answers.Status.TheVariants.{Done}
 
 -- it is made of what was found
-pub sweep_made : (s : SweepRequest) (terms : Terms) (sets : List Parameters) (found : RowsAndWinner) (text line : List ℕ) → found.rows ≡ map (row_of terms s.bad s.missed) sets
+pub sweep_made : (s : SweepRequest) (terms : Terms) (sets : List Parameters) (found : RowsAndWinner) (text line : List ℕ) → found.rows ≡ map (set_row terms s.bad s.missed) sets
     → found.winner ≡ winner_of (costs_of found.rows) → text ≡ sweep_file s.folds found.rows found.winner → line ≡ line_of_sweep found
     → outcome_of_sets s terms sets ≡ Ends Done ((s.output, text) ∷ []) line
 unfolding rows_of_sets
@@ -35,7 +35,7 @@ sweep_promise s files none some = record {
   text = sweep_file s.folds (swept_rows files s) (winner_of (costs_of (swept_rows files s)));
   outcome = ap (λ end. unwrap_or end ((sweep_rule s).own_outcome files)) none;
   wins = winner_wins (costs_of (swept_rows files s)) (many (costs_of (swept_rows files s)) (length-map (swept_rows files s) (λ (r : SweepRow). r.cost)
-      ∙ length-map (map (parameters_named files) s.params) (row_of (terms_in files s) s.bad s.missed) ∙ length-map s.params (parameters_named files)));
+      ∙ length-map (map (parameters_named files) s.params) (set_row (terms_in files s) s.bad s.missed) ∙ length-map s.params (parameters_named files)));
 }
   where
     many : (costs : List ℕ) → length costs ≡ length s.params → 1 ≤ length costs

@@ -18,19 +18,19 @@ use Rattle.pg_steps.specs.declared.answers.Status.TheVariants.{Done}
 
 -- the line where `prune` is done: how many rounds were made, and how many entries were taken out
 -- and stay
-abbrev pub pruned_line : ℕ → ℕ → ℕ → List ℕ
-pruned_line rounds removed kept = codes "done: " ++ decimal rounds ++ codes " rounds, "
+abbrev pub rounds_line : ℕ → ℕ → ℕ → List ℕ
+rounds_line rounds removed kept = codes "done: " ++ decimal rounds ++ codes " rounds, "
     ++ decimal removed ++ codes " removed, " ++ decimal kept ++ codes " kept\n"
 
 -- what `prune` writes, its patterns and its report, and prints where pruning finds this
 abbrev pub outcome_of_prune : List ℕ → List ℕ → Alphabet → Pruning → Outcome
 outcome_of_prune output report t found = Ends Done
     ((output, pattern_text t found.patterns) ∷ (report, prune_report t found) ∷ [])
-    (pruned_line found.rounds found.removed (length found.patterns))
+    (rounds_line found.rounds found.removed (length found.patterns))
 
 -- the text of patterns is read as these patterns, where it is no longer than a pattern file may be
-abbrev pub ReadsBack : Alphabet → Patterns → Type 0
-ReadsBack t P = length (pattern_text t P) ≤ FILE_MAX → start t (pattern_text t P) ≡ Ok P
+abbrev pub ReadsBackPatterns : Alphabet → Patterns → Type 0
+ReadsBackPatterns t P = length (pattern_text t P) ≤ FILE_MAX → start t (pattern_text t P) ≡ Ok P
 
 -- `prune` writes entries of what it read that break alike with it, and none of which can go alone
 pub record PrunePromise (n : PruneRequest) (t : Alphabet) (ws : List Word) (P : Patterns)
@@ -40,7 +40,7 @@ pub record PrunePromise (n : PruneRequest) (t : Alphabet) (ws : List Word) (P : 
   pub lines : List ℕ
   pub outcome : end ≡ Ends Done ((n.output, pattern_text t kept) ∷ (n.report, report) ∷ []) lines
   pub part : All (Contains P) kept
-  pub reads_back : ReadsBack t kept
+  pub reads_back : ReadsBackPatterns t kept
   pub alike : BreakAlike (minima_of t) ws P kept
   pub least : NoneCanGo (minima_of t) ws P kept
 

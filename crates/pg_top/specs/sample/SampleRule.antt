@@ -6,7 +6,7 @@ use Rattle.pg_draws.specs.DrawnNumbers.{next_state, draw}
 use Rattle.pg_types.specs.Lines.{lines}
 use Rattle.pg_types.specs.Parameters.{Parameters, items, parameters_of}
 use Rattle.pg_translate.specs.Tables.{default_alphabet}
-use Rattle.pg_dict.specs.Words.{words}
+use Rattle.pg_dict.specs.DictionaryWords.{words}
 use Rattle.pg_top.specs.PrintedLines.{done_line}
 use Rattle.pg_top.specs.Selection.{selected_text, selected_report, selected_totals}
 use Rattle.pg_steps.specs.Outcomes.{Ends}

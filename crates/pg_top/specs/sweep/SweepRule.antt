@@ -2,7 +2,7 @@
 use Rattle.std.specs.Prelude.{◌≡◌, ℕ, ◌+◌, ◌-◌, List, [], ◌∷◌, ◌++◌, map, slice_index, codes, decimal}
 use Rattle.pg_types.specs.Parameters.{parameters}
 use Rattle.pg_sweep.specs.Files.{sweep_file}
-use Rattle.pg_sweep.specs.Sweeps.{Terms, row_of, costs_of}
+use Rattle.pg_sweep.specs.Sweeps.{Terms, set_row, costs_of}
 use Rattle.pg_sweep.specs.Winners.{winner_of, IsWinner}
 use Rattle.pg_sweep.specs.declared.rows.SweepRow.{SweepRow}
 use Rattle.pg_steps.specs.Outcomes.{Outcome, Ends}
@@ -30,7 +30,7 @@ terms_in files s = record {
 -- the rows of the sets of parameters, by the files that are held
 unfoldable pub swept_rows : HeldFiles → SweepRequest → List SweepRow
 swept_rows files s =
-    map (row_of (terms_in files s) s.bad s.missed) (map (parameters_named files) s.params)
+    map (set_row (terms_in files s) s.bad s.missed) (map (parameters_named files) s.params)
 
 -- the line where `sweep` is done: the number of the cheapest set of parameters, and what it costs
 abbrev pub winner_line : ℕ → ℕ → List ℕ

@@ -7,10 +7,10 @@ ghost use Rattle.pg_translate.specs.Alphabets.{letters_of};
 ghost use Rattle.pg_prune.specs.Prunes.{pruning_of};
 ghost use Rattle.pg_select.specs.CountedPositions.{minima_of};
 ghost use Rattle.pg_words.specs.Inside.CommandRequests.{prune_of};
-ghost use Rattle.pg_top.specs.prune.PruneRule.{ReadsBack, prune_rule};
+ghost use Rattle.pg_top.specs.prune.PruneRule.{ReadsBackPatterns, prune_rule};
 ghost use Rattle.pg_steps.specs.Outcomes.{Ends};
-ghost use Rattle.pg_top.specs.prune.Inside.Inputs.{HasKnownSigns, pruned_files, line_of_pruned, pruned_by};
-ghost use Rattle.pg_top.specs.prune.PruneRule.{pruned_line as pruned_line_of};
+ghost use Rattle.pg_top.specs.prune.Inside.Inputs.{HasKnownSigns, pruned_files, line_of_pruning, pruned_by};
+ghost use Rattle.pg_top.specs.prune.PruneRule.{rounds_line as rounds_line_of};
 ghost use Rattle.pg_steps.specs.Inside.writing.WritesMade.{written_names, writing_of};
 ghost use Rattle.pg_steps.specs.declared.answers.Status.TheVariants.{Done};
 ghost use Rattle.pg_types.specs.Lines.{lines};
@@ -38,13 +38,13 @@ impl<'a, W: Watch> RoundObserver for RoundTeller<'a, W> {
 
 /// The line where `prune` is done: how many rounds were made, and how many entries were taken out
 /// and stay.
-pub fn pruned_line(
+pub fn rounds_line(
     alloc: Global,
     rounds: u64,
     removed: u64,
     kept: u64,
 ) -> Result<Vec<u8>, AllocError>
-    ensures { IfOk result (λ line. line.items ≡ pruned_line_of rounds removed kept) }
+    ensures { IfOk result (λ line. line.items ≡ rounds_line_of rounds removed kept) }
 {
     let mut line = Vec::new(alloc);
     begin_pruned(&mut line, rounds, removed, kept)?;
@@ -54,7 +54,7 @@ pub fn pruned_line(
 /// Appends the `done:` line of `prune` to an empty text.
 fn begin_pruned(line: &mut Vec<u8>, rounds: u64, removed: u64, kept: u64) -> Result<(), AllocError>
     requires { line.old.items ≡ [] }
-    ensures { OnOk result (line.new.items ≡ pruned_line_of rounds removed kept) }
+    ensures { OnOk result (line.new.items ≡ rounds_line_of rounds removed kept) }
 {
     push_number(line, b"done: ", rounds)?;
     push_number(line, b" rounds, ", removed)?;
@@ -73,7 +73,7 @@ fn push_kept<'a>(
     requires { SignsUpTo (letters_of table.now + 1) pruned.now.patterns }
     ensures file { OnOk result (writing_of files.new.items ≡ writing_of files.old.items
         ++ (name.now, pattern_text table.now pruned.now.patterns) ∷ []) }
-    ensures reads_back { OnOk result (ReadsBack table.now pruned.now.patterns) }
+    ensures reads_back { OnOk result (ReadsBackPatterns table.now pruned.now.patterns) }
 {
     let text = pruned.patterns().text(alloc, table)?;
     push_file(files, name, text)
@@ -105,14 +105,14 @@ fn write_pruned<'a>(
     requires { SignsUpTo (letters_of table.now + 1) pruned.now.patterns }
     ensures files { IfOk result (λ made.
         writing_of made.files.items ≡ pruned_files (prune_of names.now) table.now pruned.now) }
-    ensures lines { IfOk result (λ made. made.lines.items ≡ line_of_pruned pruned.now) }
-    ensures reads_back { IfOk result (λ _. ReadsBack table.now pruned.now.patterns) }
+    ensures lines { IfOk result (λ made. made.lines.items ≡ line_of_pruning pruned.now) }
+    ensures reads_back { IfOk result (λ _. ReadsBackPatterns table.now pruned.now.patterns) }
 {
     let mut files = Vec::new(alloc);
     push_kept(alloc, &mut files, names.output, table, pruned)?;
     push_needs(alloc, &mut files, names.report, table, pruned)?;
     let kept = pruned.patterns();
-    let lines = pruned_line(alloc, pruned.rounds(), pruned.removed(), kept.len() as u64)?;
+    let lines = rounds_line(alloc, pruned.rounds(), pruned.removed(), kept.len() as u64)?;
     Ok(BuiltTexts { files, lines })
 }
 
@@ -131,7 +131,7 @@ pub fn make_prune<'a, W: Watch>(
     ensures named { IfOk result (λ made.
         written_names (writing_of made.files.items)
         ≡ (prune_rule (prune_of names.now)).writes) }
-    ensures reads_back { IfOk result (λ _. ReadsBack inputs.now.table
+    ensures reads_back { IfOk result (λ _. ReadsBackPatterns inputs.now.table
         (pruning_of (minima_of inputs.now.table)
         inputs.now.dictionary inputs.now.patterns).patterns) }
 {

@@ -31,7 +31,7 @@ pub fn winner_line(alloc: Global, winner: usize, cost: u64) -> Result<Vec<u8>, A
 }
 
 /// The line of a sweep: which set wins, and what it costs.
-fn sweep_line(alloc: Global, found: &Sweep) -> Result<Vec<u8>, AllocError>
+fn found_line(alloc: Global, found: &Sweep) -> Result<Vec<u8>, AllocError>
     ensures { IfOk result (λ line. line.items ≡ line_of_sweep found.now) }
 {
     let winner = found.winner();
@@ -51,7 +51,7 @@ fn write_sweep<'a>(
     ensures lines { IfOk result (λ made. made.lines.items ≡ line_of_sweep found.now) }
 {
     let text = sweep_text(alloc, words.folds, found)?;
-    let lines = sweep_line(alloc, found)?;
+    let lines = found_line(alloc, found)?;
     let mut files = Vec::new(alloc);
     push_file(&mut files, words.output, text)?;
     Ok(BuiltTexts { files, lines })

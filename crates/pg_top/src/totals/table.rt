@@ -1,6 +1,6 @@
 //! A packed table that is read, and the totals by it.
 ghost use Rattle.std.specs.Prelude.{◌≡◌, ◌+◌, IfOk, IfErr, IfSome, [], ◌∷◌};
-ghost use Rattle.pg_types.specs.Reading.{refusal_at};
+ghost use Rattle.pg_types.specs.ValuesOrRefusals.{refusal_at};
 ghost use Rattle.pg_dict.specs.Inside.SoundWords.{SignsAtMost};
 ghost use Rattle.pg_driver.specs.Inside.records.Sound.{IsSmall};
 ghost use Rattle.pg_outside.specs.Content.{file_at};

@@ -16,7 +16,7 @@ use Rattle.pg_cells.specs.Inside.linked.ValuedFamilies.{ValuedFamilies}
 use Rattle.pg_cells.specs.Inside.linked.AreValuedFamilies.{AreValuedFamilies}
 use Rattle.pg_cells.proofs.StringMaps.{order}
 use Rattle.pg_trie.specs.declared.hopeless.TheConstants.{HOPELESS}
-use Rattle.pg_trie.specs.Inside.IsTrie.{IsTrie}
+use Rattle.pg_trie.specs.Inside.IsPatternTrie.{IsPatternTrie}
 use Rattle.pg_trie.specs.Inside.Lists.{rank, Rises, DotsUpTo}
 use Rattle.pg_trie.specs.Inside.Maps.{Maps, maps_of, as_value, as_hopeless}
 use Rattle.pg_trie.specs.Inside.PrunedFamilies.{IsKeep, Prunes}
@@ -86,7 +86,7 @@ has_fresh cells records fresh heads cells' held f r = record {
       held.valued q cell.0 (ap (λ fs. cell_of fs q) (sym r.families) ∙ cell.1);
 }
 
-module _ (cells : ValuedFamilies ℕ) (records : List Record) (is : IsTrie cells records) (cells' : ValuedFamilies ℕ) (fresh : List Record)
+module _ (cells : ValuedFamilies ℕ) (records : List Record) (is : IsPatternTrie cells records) (cells' : ValuedFamilies ℕ) (fresh : List Record)
     (new : HasFresh cells records cells' fresh) (one_head : OneHeadEach fresh) where
   -- the strings of the patterns, and whether a string keeps its cell
   abbrev strings_of : List (List ℕ)
@@ -176,7 +176,7 @@ module _ (cells : ValuedFamilies ℕ) (records : List Record) (is : IsTrie cells
         by true e = sym (p.stays q e) ∙ at
         by false e = absurd (none_some (find order q left.values) head (p.gone q e) at)
 
-    pub left_trie : IsTrie left fresh
+    pub left_trie : IsPatternTrie left fresh
     left_trie = record {
       signs = omega (arith, is.signs, p.signs, new.signs);
       held = p.held;
@@ -251,10 +251,10 @@ module _ (cells : ValuedFamilies ℕ) (records : List Record) (is : IsTrie cells
 
 -- what a trie is whose hopeless marks were deleted
 pub record IsDeleted (m : Maps) (left : ValuedFamilies ℕ) (fresh : List Record) : Type 0 where
-  pub trie : IsTrie left fresh
+  pub trie : IsPatternTrie left fresh
   pub view : maps_of left fresh ≡ record m { hopeless = []; families = kept_families (map (λ e. e.0.0) m.patterns) m.families; records = fresh }
 
-pub deleted : (cells : ValuedFamilies ℕ) (records : List Record) (is : IsTrie cells records) (cells' : ValuedFamilies ℕ) (fresh : List Record)
+pub deleted : (cells : ValuedFamilies ℕ) (records : List Record) (is : IsPatternTrie cells records) (cells' : ValuedFamilies ℕ) (fresh : List Record)
     (new : HasFresh cells records cells' fresh) (one_head : OneHeadEach fresh) (left : ValuedFamilies ℕ)
     → ((keep : List ℕ → Bool) → IsKeep keep cells' → Prunes keep cells' left) → (m : Maps) → maps_of cells records ≡ m → IsDeleted m left fresh
 deleted cells records is cells' fresh new one_head left prunes m seen =

@@ -11,7 +11,7 @@ use Rattle.std.specs.List.{list_any, starts_with}
 use Rattle.std.specs.FinMap.Entries.{find, is_sorted}
 use Rattle.pg_cells.proofs.StringMaps.{order, same_from, equal_or_not, find_below, head_below, tail_sorted}
 use Rattle.pg_trie.specs.declared.hopeless.TheConstants.{HOPELESS}
-use Rattle.pg_trie.specs.Inside.Maps.{entries_of, with_entry, entries, as_value}
+use Rattle.pg_trie.specs.Inside.Maps.{entries_in, entry_ahead, entries, as_value}
 use Rattle.pg_trie.specs.Inside.FreshLists.{values_in}
 use Rattle.pg_trie.proofs.ListLaws.Rising.{as_value_is}
 use Rattle.pg_trie.proofs.DeletingLaws.Renewing.{value_kept, mark_left}
@@ -59,7 +59,7 @@ with_values (x ∷ xs) e none = elim (cases_Bool (nat_lt x.0 HOPELESS)) [
 ]
 
 -- a test of the strings of one string's entries
-any_here : (test : List ℕ → Bool) (q : List ℕ) (l : List (ℕ × ℕ)) → list_any test (map (λ e. e.0.0) (entries_of as_value q l)) ≡ (test q && has_value l)
+any_here : (test : List ℕ → Bool) (q : List ℕ) (l : List (ℕ × ℕ)) → list_any test (map (λ e. e.0.0) (entries_in as_value q l)) ≡ (test q && has_value l)
 any_here test q [] = nothing (test q)
   where
     nothing : (b : Bool) → false ≡ (b && false)
@@ -69,12 +69,12 @@ any_here test q (x ∷ xs) =
     let more = any_here test q xs in
     elim (cases_Bool (nat_lt x.0 HOPELESS)) [
       | inl is ↦
-          ap (λ o. list_any test (map (λ e. e.0.0) (with_entry as_value (q, x.1) o (entries_of as_value q xs)))) (as_value_is x.0 true is)
+          ap (λ o. list_any test (map (λ e. e.0.0) (entry_ahead as_value (q, x.1) o (entries_in as_value q xs)))) (as_value_is x.0 true is)
           ∙ ap (λ b. test q || b) more
           ∙ here (test q) (has_value xs)
           ∙ ap (λ b. test q && (b || has_value xs)) (sym is)
       | inr is ↦
-          ap (λ o. list_any test (map (λ e. e.0.0) (with_entry as_value (q, x.1) o (entries_of as_value q xs)))) (as_value_is x.0 false is)
+          ap (λ o. list_any test (map (λ e. e.0.0) (entry_ahead as_value (q, x.1) o (entries_in as_value q xs)))) (as_value_is x.0 false is)
           ∙ more
           ∙ ap (λ b. test q && (b || has_value xs)) (sym is)
     ]
@@ -88,8 +88,8 @@ pub any_entries : (test : List ℕ → Bool) (f : ℕ → List (ℕ × ℕ)) (es
 unfolding entries
 any_entries test f [] = refl
 any_entries test f (e ∷ es) =
-    ap (list_any test) (map-append (λ (e : (List ℕ × ℕ) × ℕ). e.0.0) (entries_of as_value e.0 (f e.1)) (entries as_value f es))
-    ∙ list_any-append test (map (λ e. e.0.0) (entries_of as_value e.0 (f e.1))) (map (λ e. e.0.0) (entries as_value f es))
+    ap (list_any test) (map-append (λ (e : (List ℕ × ℕ) × ℕ). e.0.0) (entries_in as_value e.0 (f e.1)) (entries as_value f es))
+    ∙ list_any-append test (map (λ e. e.0.0) (entries_in as_value e.0 (f e.1))) (map (λ e. e.0.0) (entries as_value f es))
     ∙ ap (λ b. b || list_any test (map (λ e. e.0.0) (entries as_value f es))) (any_here test e.0 (f e.1))
     ∙ ap (λ b. (test e.0 && has_value (f e.1)) || b) (any_entries test f es)
 

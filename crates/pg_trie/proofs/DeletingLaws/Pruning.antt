@@ -10,7 +10,7 @@ use Rattle.pg_cells.specs.Inside.linked.Members.{IsNextSign, IsBefore, goes_on}
 use Rattle.pg_cells.proofs.LinkLaws.{goes_cell, cell_goes}
 use Rattle.pg_cells.proofs.Walking.{ends_before}
 use Rattle.pg_cells.proofs.StringMaps.{order, equal_or_not, find_without_same, find_without_other}
-use Rattle.pg_trie.specs.Inside.PrunedFamilies.{IsDropped, IsNeeded, Drops, IsKeep, PrunesSome, IsBelow, PrunesTo, PrunesBelow, Prunes}
+use Rattle.pg_trie.specs.Inside.PrunedFamilies.{IsDropped, IsNeeded, Drops, IsKeep, PrunesSome, IsProperPrefix, PrunesTo, PrunesBelow, Prunes}
 use Rattle.pg_trie.proofs.DeletingLaws.KeptFamilies.{kept_all, kept_less, kept_same}
 
 -- a string without a cell has no value
@@ -131,10 +131,10 @@ module _ (keep : List ℕ → Bool) (start mid new : ValuedFamilies ℕ) (k : Li
   ]
 
 -- a longer string is not below one with the same number of signs
-pub above_longer : (q : List ℕ) (s : ℕ) (r : List ℕ) → (IsBelow q r → ⊥) → IsBelow (q ++ s ∷ []) r → ⊥
+pub above_longer : (q : List ℕ) (s : ℕ) (r : List ℕ) → (IsProperPrefix q r → ⊥) → IsProperPrefix (q ++ s ∷ []) r → ⊥
 above_longer q s r off b = off (s, b.0 ∷ b.1, b.2 ∙ append_assoc q (s ∷ []) (b.0 ∷ b.1))
 
-pub not_below : (q : List ℕ) → IsBelow q q → ⊥
+pub not_below : (q : List ℕ) → IsProperPrefix q q → ⊥
 not_below q b = omega (arith, ap length b.2, length-append q (b.0 ∷ b.1))
 
 -- no string goes on by a sign that the family lacks
@@ -204,7 +204,7 @@ module _ (old now mid new : ValuedFamilies ℕ) (q : List ℕ) (s next : ℕ) (t
   all_less r v e = below.less r v (drops_less mid new (q ++ s ∷ []) drop r v e)
 
   -- the strings that are as before
-  pub step_elsewhere : (r : List ℕ) → (IsBelow (q ++ s ∷ []) r → ⊥) → r ≢ q ++ s ∷ [] → (find order r new.values ≡ find order r now.values) × (cell_of new.families r ≡ cell_of now.families r)
+  pub step_elsewhere : (r : List ℕ) → (IsProperPrefix (q ++ s ∷ []) r → ⊥) → r ≢ q ++ s ∷ [] → (find order r new.values ≡ find order r now.values) × (cell_of new.families r ≡ cell_of now.families r)
   step_elsewhere r off other = let b = below.elsewhere r off in (drops_other mid new (q ++ s ∷ []) drop r other ∙ b.0, drop.cells r other ∙ b.1)
 
   step_gone_at : (keep : List ℕ → Bool) (start : ValuedFamilies ℕ) → IsKeep keep start → AreValuedFamilies start → PrunesSome keep start now → (more : List ℕ)

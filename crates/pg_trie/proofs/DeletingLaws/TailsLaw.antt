@@ -20,8 +20,8 @@ use Rattle.pg_outputs.proofs.ListLaws.{list_of-zero, list_of-append, list_of-new
 use Rattle.pg_cells.specs.Inside.linked.ValuedFamilies.{ValuedFamilies}
 use Rattle.pg_cells.proofs.StringMaps.{order, equal_or_not, find_below, head_below, tail_sorted}
 use Rattle.pg_trie.specs.declared.hopeless.TheConstants.{HOPELESS}
-use Rattle.pg_trie.specs.Inside.IsTrie.{IsTrie}
-use Rattle.pg_trie.specs.Inside.Maps.{maps_of, entries_of, with_entry, entries, as_value}
+use Rattle.pg_trie.specs.Inside.IsPatternTrie.{IsPatternTrie}
+use Rattle.pg_trie.specs.Inside.Maps.{maps_of, entries_in, entry_ahead, entries, as_value}
 use Rattle.pg_trie.specs.Inside.FreshLists.{values_in, IsEnd}
 use Rattle.pg_trie.proofs.ListLaws.Rising.{as_value_is}
 use Rattle.pg_trie.proofs.TrieLaws.Listing.{get_there}
@@ -119,32 +119,32 @@ any_flat G s [] = refl
 any_flat G s (e ∷ es) = list_any-append (same_list s) (G e.0.0) (flat_map (λ e. G e.0.0) es) ∙ ap (λ b. is_member same_list (G e.0.0) s || b) (any_flat G s es)
 
 -- the outputs of a string are its values
-outs_here : (q : List ℕ) (l : List (ℕ × ℕ)) (rest : List ((List ℕ × ℕ) × ℕ)) → outputs_of (entries_of as_value q l ++ rest) q ≡ map turned (values_in l) ++ outputs_of rest q
+outs_here : (q : List ℕ) (l : List (ℕ × ℕ)) (rest : List ((List ℕ × ℕ) × ℕ)) → outputs_of (entries_in as_value q l ++ rest) q ≡ map turned (values_in l) ++ outputs_of rest q
 outs_here q [] rest = refl
 outs_here q (x ∷ xs) rest =
     let more = outs_here q xs rest in
     elim (cases_Bool (nat_lt x.0 HOPELESS)) [
       | inl e ↦
-          ap (λ o. outputs_of (with_entry as_value (q, x.1) o (entries_of as_value q xs) ++ rest) q) (as_value_is x.0 true e)
-          ∙ ap (λ b. map (λ (y : (List ℕ × ℕ) × ℕ). (y.0.1, y.1)) (cond b (((q, x.1), x.0) ∷ filter (λ y. pointwise nat_eq q y.0.0) (entries_of as_value q xs ++ rest))
-          (filter (λ y. pointwise nat_eq q y.0.0) (entries_of as_value q xs ++ rest)))) (signs_same q)
+          ap (λ o. outputs_of (entry_ahead as_value (q, x.1) o (entries_in as_value q xs) ++ rest) q) (as_value_is x.0 true e)
+          ∙ ap (λ b. map (λ (y : (List ℕ × ℕ) × ℕ). (y.0.1, y.1)) (cond b (((q, x.1), x.0) ∷ filter (λ y. pointwise nat_eq q y.0.0) (entries_in as_value q xs ++ rest))
+          (filter (λ y. pointwise nat_eq q y.0.0) (entries_in as_value q xs ++ rest)))) (signs_same q)
           ∙ ap (λ l. (x.1, x.0) ∷ l) more
           ∙ sym (ap (λ l. map turned l ++ outputs_of rest q) (value_kept x.0 x.1 xs e))
       | inr e ↦
-          ap (λ o. outputs_of (with_entry as_value (q, x.1) o (entries_of as_value q xs) ++ rest) q) (as_value_is x.0 false e)
+          ap (λ o. outputs_of (entry_ahead as_value (q, x.1) o (entries_in as_value q xs) ++ rest) q) (as_value_is x.0 false e)
           ∙ more
           ∙ sym (ap (λ l. map turned l ++ outputs_of rest q) (mark_left x.0 x.1 xs e))
     ]
 
-outs_other : (q p : List ℕ) (l : List (ℕ × ℕ)) (rest : List ((List ℕ × ℕ) × ℕ)) → pointwise nat_eq q p ≡ false → outputs_of (entries_of as_value p l ++ rest) q ≡ outputs_of rest q
+outs_other : (q p : List ℕ) (l : List (ℕ × ℕ)) (rest : List ((List ℕ × ℕ) × ℕ)) → pointwise nat_eq q p ≡ false → outputs_of (entries_in as_value p l ++ rest) q ≡ outputs_of rest q
 outs_other q p [] rest n = refl
 outs_other q p (x ∷ xs) rest n =
     let more = outs_other q p xs rest n in
-    elim (as_value x.0) as (λ o. outputs_of (with_entry as_value (p, x.1) o (entries_of as_value p xs) ++ rest) q ≡ outputs_of rest q) [
+    elim (as_value x.0) as (λ o. outputs_of (entry_ahead as_value (p, x.1) o (entries_in as_value p xs) ++ rest) q ≡ outputs_of rest q) [
       | None ↦ more
       | Some v ↦
-          ap (λ b. map (λ (y : (List ℕ × ℕ) × ℕ). (y.0.1, y.1)) (cond b (((p, x.1), v) ∷ filter (λ y. pointwise nat_eq q y.0.0) (entries_of as_value p xs ++ rest))
-          (filter (λ y. pointwise nat_eq q y.0.0) (entries_of as_value p xs ++ rest)))) n ∙ more
+          ap (λ b. map (λ (y : (List ℕ × ℕ) × ℕ). (y.0.1, y.1)) (cond b (((p, x.1), v) ∷ filter (λ y. pointwise nat_eq q y.0.0) (entries_in as_value p xs ++ rest))
+          (filter (λ y. pointwise nat_eq q y.0.0) (entries_in as_value p xs ++ rest)))) n ∙ more
     ]
 
 abbrev outs_at : (ℕ → List (ℕ × ℕ)) → Option ℕ → List (ℕ × ℕ)
@@ -159,7 +159,7 @@ outs_is f (e ∷ es) q sorted =
     elim (equal_or_not q e.0) [
       | inl h ↦
           let none : find order q es ≡ None = ap (λ p. find order p es) h.0 ∙ find_below e.0 es (head_below e es sorted) in
-          ap (λ p. outputs_of (entries_of as_value p (f e.1) ++ entries as_value f es) q) (sym h.0)
+          ap (λ p. outputs_of (entries_in as_value p (f e.1) ++ entries as_value f es) q) (sym h.0)
           ∙ outs_here q (f e.1) (entries as_value f es)
           ∙ ap (λ l. map turned (values_in (f e.1)) ++ l) (more ∙ ap (outs_at f) none)
           ∙ append-nil (map turned (values_in (f e.1)))
@@ -229,7 +229,8 @@ end_head records (y ∷ ys) l (suc i) le e =
     end_head records ys l t.next t.inside rest
 
 -- as many records as tails
-pub tails_is : (cells : ValuedFamilies ℕ) (records : List Record) → IsTrie cells records → (cells' : ValuedFamilies ℕ) (fresh : List Record) → HasFresh cells records cells' fresh → OneHeadEach fresh
+pub tails_is : (cells : ValuedFamilies ℕ) (records : List Record) → IsPatternTrie cells records → (cells' : ValuedFamilies ℕ) (fresh : List Record) → HasFresh cells records cells' fresh
+    → OneHeadEach fresh
     → ((h : ℕ) → 0 < h → h ≤ length fresh → (q : List ℕ) × (old : ℕ) × (find order q cells.values ≡ Some old) × IsEnd (list_of fresh h) (values_in (list_of records old)))
     → length fresh ≡ tails (maps_of cells records).patterns
 tails_is cells records is cells' fresh new one needed =

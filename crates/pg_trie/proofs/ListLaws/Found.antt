@@ -10,7 +10,7 @@ use Rattle.pg_patterns.specs.DottedSigns.{dotted_cmp}
 use Rattle.pg_patterns.specs.Inside.DottedOrder.{dotted_exact}
 use Rattle.pg_types.proofs.BoolFacts.{equal_is, first_half, second_half, is_true, less_is, both_halves}
 use Rattle.pg_cells.proofs.StringMaps.{order, equal_or_not, find_below, head_below, tail_sorted}
-use Rattle.pg_trie.specs.Inside.Maps.{with_entry, entries_of, entries}
+use Rattle.pg_trie.specs.Inside.Maps.{entry_ahead, entries_in, entries}
 
 -- dotted strings of one string are told apart by their dots
 pub same_by_dots : (q : List ℕ) (d e : ℕ) → eq_by_cmp dotted_cmp (q, d) (q, e) ≡ nat_eq d e
@@ -44,26 +44,26 @@ module _ {X : Type 0} (pick : ℕ → Option X) where
   found_at f d None = None
   found_at f d (Some head) = found_in d (f head)
 
-  find_in_string : (q : List ℕ) (d : ℕ) (xs : List (ℕ × ℕ)) (rest : List ((List ℕ × ℕ) × X)) → find dotted_cmp (q, d) (entries_of pick q xs ++ rest)
+  find_in_string : (q : List ℕ) (d : ℕ) (xs : List (ℕ × ℕ)) (rest : List ((List ℕ × ℕ) × X)) → find dotted_cmp (q, d) (entries_in pick q xs ++ rest)
       ≡ or_else (found_in d xs) (find dotted_cmp (q, d) rest)
   find_in_string q d [] rest = refl
   find_in_string q d (x ∷ xs) rest =
       let more = find_in_string q d xs rest in
-      elim (pick x.0) as (λ o. find dotted_cmp (q, d) (with_entry pick (q, x.1) o (entries_of pick q xs) ++ rest) ≡ or_else (found_first d x.1 o (found_in d xs)) (find dotted_cmp (q, d) rest)) [
+      elim (pick x.0) as (λ o. find dotted_cmp (q, d) (entry_ahead pick (q, x.1) o (entries_in pick q xs) ++ rest) ≡ or_else (found_first d x.1 o (found_in d xs)) (find dotted_cmp (q, d) rest)) [
         | None ↦ more
         | Some v ↦
-            ap (λ b. cond b (Some v) (find dotted_cmp (q, d) (entries_of pick q xs ++ rest))) (same_by_dots q d x.1)
-            ∙ elim (nat_eq d x.1) as (λ b. cond b (Some v) (find dotted_cmp (q, d) (entries_of pick q xs ++ rest))
+            ap (λ b. cond b (Some v) (find dotted_cmp (q, d) (entries_in pick q xs ++ rest))) (same_by_dots q d x.1)
+            ∙ elim (nat_eq d x.1) as (λ b. cond b (Some v) (find dotted_cmp (q, d) (entries_in pick q xs ++ rest))
             ≡ or_else (cond b (Some v) (found_in d xs)) (find dotted_cmp (q, d) rest)) [ true ↦ refl | false ↦ more ]
       ]
 
-  find_past_string : (q p : List ℕ) (d : ℕ) (xs : List (ℕ × ℕ)) (rest : List ((List ℕ × ℕ) × X)) → q ≢ p → find dotted_cmp (q, d) (entries_of pick p xs ++ rest) ≡ find dotted_cmp (q, d) rest
+  find_past_string : (q p : List ℕ) (d : ℕ) (xs : List (ℕ × ℕ)) (rest : List ((List ℕ × ℕ) × X)) → q ≢ p → find dotted_cmp (q, d) (entries_in pick p xs ++ rest) ≡ find dotted_cmp (q, d) rest
   find_past_string q p d [] rest n = refl
   find_past_string q p d (x ∷ xs) rest n =
       let more = find_past_string q p d xs rest n in
-      elim (pick x.0) as (λ o. find dotted_cmp (q, d) (with_entry pick (p, x.1) o (entries_of pick p xs) ++ rest) ≡ find dotted_cmp (q, d) rest) [
+      elim (pick x.0) as (λ o. find dotted_cmp (q, d) (entry_ahead pick (p, x.1) o (entries_in pick p xs) ++ rest) ≡ find dotted_cmp (q, d) rest) [
         | None ↦ more
-        | Some v ↦ ap (λ b. cond b (Some v) (find dotted_cmp (q, d) (entries_of pick p xs ++ rest))) (other_dotted q p d x.1 n) ∙ more
+        | Some v ↦ ap (λ b. cond b (Some v) (find dotted_cmp (q, d) (entries_in pick p xs ++ rest))) (other_dotted q p d x.1 n) ∙ more
       ]
 
   -- what the entries have at a dotted string is what its string's list has
@@ -75,7 +75,7 @@ module _ {X : Type 0} (pick : ℕ → Option X) where
       elim (equal_or_not q e.0) [
         | inl h ↦
             let none : find order q es ≡ None = ap (λ p. find order p es) h.0 ∙ find_below e.0 es (head_below e es sorted) in
-            ap (λ p. find dotted_cmp (q, d) (entries_of pick p (f e.1) ++ entries pick f es)) (sym h.0)
+            ap (λ p. find dotted_cmp (q, d) (entries_in pick p (f e.1) ++ entries pick f es)) (sym h.0)
             ∙ find_in_string q d (f e.1) (entries pick f es)
             ∙ ap (or_else (found_in d (f e.1))) (more ∙ ap (found_at f d) none)
             ∙ or_none (found_in d (f e.1))
@@ -101,34 +101,34 @@ module _ {X : Type 0} (pick : ℕ → Option X) where
       (subst (λ b. T (is_lt (cond b Less (cond (nat_eq d e) Equal Greater)))) (sym (lt-ltb d e (omega arith))) tt)
 
   below_string : (q : List ℕ) (d r : ℕ) (xs : List (ℕ × ℕ)) (rest : List ((List ℕ × ℕ) × X)) → d + 1 ≤ r → PicksRise xs r → T (below_all dotted_cmp (q, d) rest)
-      → T (below_all dotted_cmp (q, d) (entries_of pick q xs ++ rest))
+      → T (below_all dotted_cmp (q, d) (entries_in pick q xs ++ rest))
   below_string q d r [] rest le rise below = below
   below_string q d r (x ∷ xs) rest le rise below =
-      elim (pick x.0) as (λ o. picks_rise o r x.1 (PicksRise xs) → T (below_all dotted_cmp (q, d) (with_entry pick (q, x.1) o (entries_of pick q xs) ++ rest))) [
+      elim (pick x.0) as (λ o. picks_rise o r x.1 (PicksRise xs) → T (below_all dotted_cmp (q, d) (entry_ahead pick (q, x.1) o (entries_in pick q xs) ++ rest))) [
         | None ↦ λ h. below_string q d r xs rest le h below
-        | Some v ↦ λ h. both_halves (is_lt (dotted_cmp (q, d) (q, x.1))) (below_all dotted_cmp (q, d) (entries_of pick q xs ++ rest))
+        | Some v ↦ λ h. both_halves (is_lt (dotted_cmp (q, d) (q, x.1))) (below_all dotted_cmp (q, d) (entries_in pick q xs ++ rest))
             (below_dots q d x.1 (omega (arith, h.0))) (below_string q d (x.1 + 1) xs rest (omega (arith, h.0)) h.1 below)
       ] rise
 
   sorted_string : (q : List ℕ) (r : ℕ) (xs : List (ℕ × ℕ)) (rest : List ((List ℕ × ℕ) × X)) → PicksRise xs r → T (is_sorted dotted_cmp rest)
-      → ((d : ℕ) → T (below_all dotted_cmp (q, d) rest)) → T (is_sorted dotted_cmp (entries_of pick q xs ++ rest))
+      → ((d : ℕ) → T (below_all dotted_cmp (q, d) rest)) → T (is_sorted dotted_cmp (entries_in pick q xs ++ rest))
   sorted_string q r [] rest rise sorted below = sorted
   sorted_string q r (x ∷ xs) rest rise sorted below =
-      elim (pick x.0) as (λ o. picks_rise o r x.1 (PicksRise xs) → T (is_sorted dotted_cmp (with_entry pick (q, x.1) o (entries_of pick q xs) ++ rest))) [
+      elim (pick x.0) as (λ o. picks_rise o r x.1 (PicksRise xs) → T (is_sorted dotted_cmp (entry_ahead pick (q, x.1) o (entries_in pick q xs) ++ rest))) [
         | None ↦ λ h. sorted_string q r xs rest h sorted below
-        | Some v ↦ λ h. both_halves (below_all dotted_cmp (q, x.1) (entries_of pick q xs ++ rest)) (is_sorted dotted_cmp (entries_of pick q xs ++ rest))
+        | Some v ↦ λ h. both_halves (below_all dotted_cmp (q, x.1) (entries_in pick q xs ++ rest)) (is_sorted dotted_cmp (entries_in pick q xs ++ rest))
             (below_string q x.1 (x.1 + 1) xs rest (omega arith) h.1 (below x.1)) (sorted_string q (x.1 + 1) xs rest h.1 sorted below)
       ] rise
 
   -- the dotted strings of a string are before those of a greater one
   before_string : (p q : List ℕ) (d : ℕ) (xs : List (ℕ × ℕ)) (rest : List ((List ℕ × ℕ) × X)) → T (is_lt (order p q)) → T (below_all dotted_cmp (p, d) rest)
-      → T (below_all dotted_cmp (p, d) (entries_of pick q xs ++ rest))
+      → T (below_all dotted_cmp (p, d) (entries_in pick q xs ++ rest))
   before_string p q d [] rest lt below = below
   before_string p q d (x ∷ xs) rest lt below =
       let more = before_string p q d xs rest lt below in
-      elim (pick x.0) as (λ o. T (below_all dotted_cmp (p, d) (with_entry pick (q, x.1) o (entries_of pick q xs) ++ rest))) [
+      elim (pick x.0) as (λ o. T (below_all dotted_cmp (p, d) (entry_ahead pick (q, x.1) o (entries_in pick q xs) ++ rest))) [
         | None ↦ more
-        | Some v ↦ both_halves (is_lt (dotted_cmp (p, d) (q, x.1))) (below_all dotted_cmp (p, d) (entries_of pick q xs ++ rest))
+        | Some v ↦ both_halves (is_lt (dotted_cmp (p, d) (q, x.1))) (below_all dotted_cmp (p, d) (entries_in pick q xs ++ rest))
             (subst (λ r. T (is_lt (ordering_then r (nat_cmp d x.1)))) (sym (less_is (order p q) (is_true (is_lt (order p q)) lt))) tt) more
       ]
 

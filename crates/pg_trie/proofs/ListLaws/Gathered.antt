@@ -15,9 +15,9 @@ use Rattle.pg_outputs.specs.Lists.{list_of}
 use Rattle.pg_cells.specs.Inside.linked.ValuedFamilies.{ValuedFamilies}
 use Rattle.pg_cells.proofs.StringMaps.{order, equal_or_not}
 use Rattle.pg_trie.specs.declared.hopeless.TheConstants.{HOPELESS}
-use Rattle.pg_trie.specs.Inside.IsTrie.{IsTrie, IsListHead}
+use Rattle.pg_trie.specs.Inside.IsPatternTrie.{IsPatternTrie, IsListHead}
 use Rattle.pg_trie.specs.Inside.Lists.{rank, Rises}
-use Rattle.pg_trie.specs.Inside.Maps.{maps_of, entries_of, with_entry, as_value}
+use Rattle.pg_trie.specs.Inside.Maps.{maps_of, entries_in, entry_ahead, as_value}
 use Rattle.pg_trie.specs.Inside.Strings.{AreStrings}
 use Rattle.pg_trie.proofs.ListLaws.Found.{found_first, found_in, found_at, find-entries}
 use Rattle.pg_trie.proofs.ListLaws.Rising.{rank_value, as_value_is, no_value}
@@ -30,19 +30,19 @@ best-append t [] ys = omega arith
 best-append t (x ∷ xs) ys = let more = best-append t xs ys in omega arith
 
 -- the value of a dotted string among the entries of one string
-best_here : (q : List ℕ) (d r : ℕ) (xs : List (ℕ × ℕ)) → Rises r xs → greatest_value (same_dotted (q, d)) (entries_of as_value q xs) ≡ unwrap_or (found_in as_value d xs) 0
+best_here : (q : List ℕ) (d r : ℕ) (xs : List (ℕ × ℕ)) → Rises r xs → greatest_value (same_dotted (q, d)) (entries_in as_value q xs) ≡ unwrap_or (found_in as_value d xs) 0
 best_here q d r [] h = refl
 best_here q d r (x ∷ xs) h =
     let more = best_here q d (rank x + 1) xs h.3 in
     elim (cases_Bool (nat_lt x.0 HOPELESS)) [
       | inl e ↦
-          ap (λ o. greatest_value (same_dotted (q, d)) (with_entry as_value (q, x.1) o (entries_of as_value q xs))) (as_value_is x.0 true e)
-          ∙ ap (λ b. max (cond (b && nat_eq d x.1) x.0 0) (greatest_value (same_dotted (q, d)) (entries_of as_value q xs))) (itself q)
+          ap (λ o. greatest_value (same_dotted (q, d)) (entry_ahead as_value (q, x.1) o (entries_in as_value q xs))) (as_value_is x.0 true e)
+          ∙ ap (λ b. max (cond (b && nat_eq d x.1) x.0 0) (greatest_value (same_dotted (q, d)) (entries_in as_value q xs))) (itself q)
           ∙ ap (λ n. max (cond (nat_eq d x.1) x.0 0) n) more
           ∙ first (nat_eq d x.1) refl e
           ∙ sym (ap (λ o. unwrap_or (found_first d x.1 o (found_in as_value d xs)) 0) (as_value_is x.0 true e))
       | inr e ↦
-          ap (λ o. greatest_value (same_dotted (q, d)) (with_entry as_value (q, x.1) o (entries_of as_value q xs))) (as_value_is x.0 false e)
+          ap (λ o. greatest_value (same_dotted (q, d)) (entry_ahead as_value (q, x.1) o (entries_in as_value q xs))) (as_value_is x.0 false e)
           ∙ more
           ∙ sym (ap (λ o. unwrap_or (found_first d x.1 o (found_in as_value d xs)) 0) (as_value_is x.0 false e))
     ]
@@ -59,17 +59,17 @@ best_here q d r (x ∷ xs) h =
         ap (λ o. max x.0 (unwrap_or o 0)) none ∙ (omega arith)
 
 -- no other string has an entry there
-best_elsewhere : (p q : List ℕ) (d : ℕ) (xs : List (ℕ × ℕ)) → pointwise nat_eq p q ≡ false → greatest_value (same_dotted (p, d)) (entries_of as_value q xs) ≡ 0
+best_elsewhere : (p q : List ℕ) (d : ℕ) (xs : List (ℕ × ℕ)) → pointwise nat_eq p q ≡ false → greatest_value (same_dotted (p, d)) (entries_in as_value q xs) ≡ 0
 best_elsewhere p q d [] n = refl
 best_elsewhere p q d (x ∷ xs) n =
     let more = best_elsewhere p q d xs n in
-    elim (as_value x.0) as (λ o. greatest_value (same_dotted (p, d)) (with_entry as_value (q, x.1) o (entries_of as_value q xs)) ≡ 0) [
+    elim (as_value x.0) as (λ o. greatest_value (same_dotted (p, d)) (entry_ahead as_value (q, x.1) o (entries_in as_value q xs)) ≡ 0) [
       | None ↦ more
-      | Some v ↦ ap (λ b. max (cond (b && nat_eq d x.1) v 0) (greatest_value (same_dotted (p, d)) (entries_of as_value q xs))) n ∙ ap (λ m. max 0 m) more ∙ (omega arith)
+      | Some v ↦ ap (λ b. max (cond (b && nat_eq d x.1) v 0) (greatest_value (same_dotted (p, d)) (entries_in as_value q xs))) n ∙ ap (λ m. max 0 m) more ∙ (omega arith)
     ]
 
 -- the value of a dotted string by its string's list
-value_is : (cells : ValuedFamilies ℕ) (records : List Record) → IsTrie cells records → (q : List ℕ) (d : ℕ) → value_of (maps_of cells records).patterns (q, d)
+value_is : (cells : ValuedFamilies ℕ) (records : List Record) → IsPatternTrie cells records → (q : List ℕ) (d : ℕ) → value_of (maps_of cells records).patterns (q, d)
     ≡ unwrap_or (found_at as_value (list_of records) d (find order q cells.values)) 0
 value_is cells records is q d = ap (λ o. unwrap_or o 0) (find-entries as_value (list_of records) cells.values q d is.held.ordered)
 
@@ -82,8 +82,9 @@ pub record Gathers (P : Patterns) (strings : List (List ℕ × ℕ)) (i : ℕ) (
 pub gathers_none : (P : Patterns) (strings : List (List ℕ × ℕ)) → Gathers P strings 0 []
 gathers_none P strings = record { sound = refl; under = λ k. omega arith; reached = λ j k lt at d. absurd (omega arith) }
 
-pub gathers_more : (cells : ValuedFamilies ℕ) (records : List Record) → IsTrie cells records → (strings : List (List ℕ × ℕ)) (i : ℕ) (es new : List ((List ℕ × ℕ) × ℕ)) (k : List ℕ × ℕ) (head : ℕ)
-    → slice_get strings i ≡ Some k → find order k.0 cells.values ≡ Some head → new ≡ es ++ entries_of as_value k.0 (list_of records head)
+pub gathers_more : (cells : ValuedFamilies ℕ) (records : List Record) → IsPatternTrie cells records
+    → (strings : List (List ℕ × ℕ)) (i : ℕ) (es new : List ((List ℕ × ℕ) × ℕ)) (k : List ℕ × ℕ) (head : ℕ)
+    → slice_get strings i ≡ Some k → find order k.0 cells.values ≡ Some head → new ≡ es ++ entries_in as_value k.0 (list_of records head)
     → Gathers (maps_of cells records).patterns strings i es → Gathers (maps_of cells records).patterns strings (i + 1) new
 gathers_more cells records is strings i es new k head at value more g = subst (λ l. Gathers (maps_of cells records).patterns strings (i + 1) l) (sym more)
     (record { sound = sound; under = λ j. under j.0 j.1; reached = reached })
@@ -91,45 +92,45 @@ gathers_more cells records is strings i es new k head at value more g = subst (�
     here : IsListHead records k.0 head
     here = is.heads k.0 head value
 
-    sound : list_all is_entry (es ++ entries_of as_value k.0 (list_of records head)) ≡ true
-    sound = list_all-append is_entry es (entries_of as_value k.0 (list_of records head))
-        ∙ and_from (list_all is_entry es) (list_all is_entry (entries_of as_value k.0 (list_of records head))) g.sound (string_entries cells records is k.0 head value)
+    sound : list_all is_entry (es ++ entries_in as_value k.0 (list_of records head)) ≡ true
+    sound = list_all-append is_entry es (entries_in as_value k.0 (list_of records head))
+        ∙ and_from (list_all is_entry es) (list_all is_entry (entries_in as_value k.0 (list_of records head))) g.sound (string_entries cells records is k.0 head value)
 
-    is_here : (d : ℕ) → greatest_value (same_dotted (k.0, d)) (entries_of as_value k.0 (list_of records head)) ≡ value_of (maps_of cells records).patterns (k.0, d)
+    is_here : (d : ℕ) → greatest_value (same_dotted (k.0, d)) (entries_in as_value k.0 (list_of records head)) ≡ value_of (maps_of cells records).patterns (k.0, d)
     is_here d = best_here k.0 d 0 (list_of records head) here.rises ∙ sym (value_is cells records is k.0 d ∙ ap (λ o. unwrap_or (found_at as_value (list_of records) d o) 0) value)
 
-    under : (p : List ℕ) (d : ℕ) → greatest_value (same_dotted (p, d)) (es ++ entries_of as_value k.0 (list_of records head)) ≤ value_of (maps_of cells records).patterns (p, d)
+    under : (p : List ℕ) (d : ℕ) → greatest_value (same_dotted (p, d)) (es ++ entries_in as_value k.0 (list_of records head)) ≤ value_of (maps_of cells records).patterns (p, d)
     under p d =
         let old = g.under (p, d) in
-        let whole = best-append (same_dotted (p, d)) es (entries_of as_value k.0 (list_of records head)) in
+        let whole = best-append (same_dotted (p, d)) es (entries_in as_value k.0 (list_of records head)) in
         elim (equal_or_not p k.0) [
           | inl h ↦
-              let same : greatest_value (same_dotted (p, d)) (entries_of as_value k.0 (list_of records head)) ≡ value_of (maps_of cells records).patterns (p, d) =
-              ap (λ q. greatest_value (same_dotted (q, d)) (entries_of as_value k.0 (list_of records head))) h.0 ∙ is_here d ∙ ap (λ q. value_of (maps_of cells records).patterns (q, d)) (sym h.0) in
+              let same : greatest_value (same_dotted (p, d)) (entries_in as_value k.0 (list_of records head)) ≡ value_of (maps_of cells records).patterns (p, d) =
+              ap (λ q. greatest_value (same_dotted (q, d)) (entries_in as_value k.0 (list_of records head))) h.0 ∙ is_here d ∙ ap (λ q. value_of (maps_of cells records).patterns (q, d)) (sym h.0) in
               omega arith
           | inr h ↦
-              let none : greatest_value (same_dotted (p, d)) (entries_of as_value k.0 (list_of records head)) ≡ 0 = best_elsewhere p k.0 d (list_of records head) (texts_ties p k.0 ∙ h.1) in
+              let none : greatest_value (same_dotted (p, d)) (entries_in as_value k.0 (list_of records head)) ≡ 0 = best_elsewhere p k.0 d (list_of records head) (texts_ties p k.0 ∙ h.1) in
               omega arith
         ]
 
     reached : (j : ℕ) (y : List ℕ × ℕ) → j < i + 1 → slice_get strings j ≡ Some y → (d : ℕ)
-        → value_of (maps_of cells records).patterns (y.0, d) ≤ greatest_value (same_dotted (y.0, d)) (es ++ entries_of as_value k.0 (list_of records head))
+        → value_of (maps_of cells records).patterns (y.0, d) ≤ greatest_value (same_dotted (y.0, d)) (es ++ entries_in as_value k.0 (list_of records head))
     reached j y lt there d =
-        let whole = best-append (same_dotted (y.0, d)) es (entries_of as_value k.0 (list_of records head)) in
+        let whole = best-append (same_dotted (y.0, d)) es (entries_in as_value k.0 (list_of records head)) in
         elim (cases_lt j i) [
           | inl l ↦ let old = g.reached j y l there d in omega arith
           | inr ge ↦
               let e : j ≡ i = omega arith in
               let both : Some y ≡ Some k = sym there ∙ ap (slice_get strings) e ∙ at in
               let y_is : y ≡ k = cc in
-              let same : value_of (maps_of cells records).patterns (y.0, d) ≡ greatest_value (same_dotted (y.0, d)) (entries_of as_value k.0 (list_of records head)) =
+              let same : value_of (maps_of cells records).patterns (y.0, d) ≡ greatest_value (same_dotted (y.0, d)) (entries_in as_value k.0 (list_of records head)) =
               ap (λ (x : List ℕ × ℕ). value_of (maps_of cells records).patterns (x.0, d)) y_is ∙ sym (is_here d)
-              ∙ ap (λ (x : List ℕ × ℕ). greatest_value (same_dotted (x.0, d)) (entries_of as_value k.0 (list_of records head))) (sym y_is) in
+              ∙ ap (λ (x : List ℕ × ℕ). greatest_value (same_dotted (x.0, d)) (entries_in as_value k.0 (list_of records head))) (sym y_is) in
               omega arith
         ]
 
 -- the entries of all strings, joined, are the values
-pub gathered : (cells : ValuedFamilies ℕ) (records : List Record) → IsTrie cells records → (strings : List (List ℕ × ℕ)) → AreStrings cells strings
+pub gathered : (cells : ValuedFamilies ℕ) (records : List Record) → IsPatternTrie cells records → (strings : List (List ℕ × ℕ)) → AreStrings cells strings
     → (es : List ((List ℕ × ℕ) × ℕ)) → Gathers (maps_of cells records).patterns strings (length strings) es → map_of_entries es ≡ (maps_of cells records).patterns
 gathered cells records is strings listed es g =
     same_maps (map_of_entries es) (maps_of cells records).patterns (joined_keeps es g.sound) (are_kept cells records is).patterns
@@ -148,8 +149,8 @@ gathered cells records is strings listed es g =
         omega arith
 
 pub marks_step : (q : List ℕ) (es : List ((List ℕ × ℕ) × ℕ)) (v d : ℕ) (rest list : List (ℕ × ℕ)) (whole : List ((List ℕ × ℕ) × ℕ)) → nat_lt v HOPELESS ≡ false → list ≡ (v, d) ∷ rest
-    → es ++ entries_of as_value q list ≡ whole → es ++ entries_of as_value q rest ≡ whole
+    → es ++ entries_in as_value q list ≡ whole → es ++ entries_in as_value q rest ≡ whole
 marks_step q es v d rest list whole mark list_is is =
-    ap (λ o. es ++ with_entry as_value (q, d) o (entries_of as_value q rest)) (sym (as_value_is v false mark))
-    ∙ ap (λ l. es ++ entries_of as_value q l) (sym list_is)
+    ap (λ o. es ++ entry_ahead as_value (q, d) o (entries_in as_value q rest)) (sym (as_value_is v false mark))
+    ∙ ap (λ l. es ++ entries_in as_value q l) (sym list_is)
     ∙ is

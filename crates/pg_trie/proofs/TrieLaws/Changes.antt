@@ -17,7 +17,7 @@ use Rattle.pg_cells.specs.Inside.linked.AreValuedFamilies.{AreValuedFamilies}
 use Rattle.pg_cells.specs.Inside.linked.Walks.{AddsBlanks}
 use Rattle.pg_cells.proofs.StringMaps.{order, equal_or_not, find_put_same, find_put_other}
 use Rattle.pg_trie.specs.declared.hopeless.TheConstants.{HOPELESS}
-use Rattle.pg_trie.specs.Inside.IsTrie.{IsTrie, IsListHead}
+use Rattle.pg_trie.specs.Inside.IsPatternTrie.{IsPatternTrie, IsListHead}
 use Rattle.pg_trie.specs.Inside.Lists.{list_with, Rises, DotsUpTo}
 use Rattle.pg_trie.specs.Inside.Maps.{Maps, maps_of, as_value, as_hopeless, entries}
 use Rattle.pg_trie.proofs.ListLaws.Found.{found_in, found_at, find-entries, sorted-entries, same_by_dots, other_dotted}
@@ -25,10 +25,10 @@ use Rattle.pg_trie.proofs.ListLaws.Rising.{values_rise, marks_rise}
 use Rattle.pg_trie.proofs.ListLaws.Entered.{rises-entered, dots-entered, value-entered, marks_stay, mark-entered, values_stay}
 
 -- the values and the marks stand in order
-pub sorted_values : (cells : ValuedFamilies ℕ) (records : List Record) → IsTrie cells records → T (is_sorted dotted_cmp (maps_of cells records).patterns)
+pub sorted_values : (cells : ValuedFamilies ℕ) (records : List Record) → IsPatternTrie cells records → T (is_sorted dotted_cmp (maps_of cells records).patterns)
 sorted_values cells records is = sorted-entries as_value (list_of records) cells.values is.held.ordered (λ q head at. values_rise 0 0 (list_of records head) (omega arith) (is.heads q head at).rises)
 
-pub sorted_marks : (cells : ValuedFamilies ℕ) (records : List Record) → IsTrie cells records → T (is_sorted dotted_cmp (maps_of cells records).hopeless)
+pub sorted_marks : (cells : ValuedFamilies ℕ) (records : List Record) → IsPatternTrie cells records → T (is_sorted dotted_cmp (maps_of cells records).hopeless)
 sorted_marks cells records is = sorted-entries as_hopeless (list_of records) cells.values is.held.ordered (λ q head at. marks_rise 0 0 (list_of records head) (omega arith) (is.heads q head at).rises)
 
 module _ {X : Type 0} (pick : ℕ → Option X) where
@@ -77,11 +77,11 @@ module _ {X : Type 0} (pick : ℕ → Option X) where
 
 -- the maps of a trie stay
 pub record SameMaps (cells : ValuedFamilies ℕ) (records : List Record) (cells' : ValuedFamilies ℕ) (records' : List Record) : Type 0 where
-  pub trie : IsTrie cells' records'
+  pub trie : IsPatternTrie cells' records'
   pub patterns : (maps_of cells' records').patterns ≡ (maps_of cells records).patterns
   pub hopeless : (maps_of cells' records').hopeless ≡ (maps_of cells records).hopeless
 
-same_when : (cells : ValuedFamilies ℕ) (records : List Record) (cells' : ValuedFamilies ℕ) (records' : List Record) → IsTrie cells records → IsTrie cells' records'
+same_when : (cells : ValuedFamilies ℕ) (records : List Record) (cells' : ValuedFamilies ℕ) (records' : List Record) → IsPatternTrie cells records → IsPatternTrie cells' records'
     → ((q : List ℕ) (d : ℕ) → found_at as_value (list_of records') d (find order q cells'.values) ≡ found_at as_value (list_of records) d (find order q cells.values))
     → ((q : List ℕ) (d : ℕ) → found_at as_hopeless (list_of records') d (find order q cells'.values) ≡ found_at as_hopeless (list_of records) d (find order q cells.values))
     → SameMaps cells records cells' records'
@@ -94,7 +94,7 @@ same_when cells records cells' records' is is' same same_marks = record {
 }
 
 -- new cells without a list
-pub blanks_stay : (cells cells' : ValuedFamilies ℕ) (records : List Record) (w : List ℕ) → IsTrie cells records → AreValuedFamilies cells' → cells'.signs
+pub blanks_stay : (cells cells' : ValuedFamilies ℕ) (records : List Record) (w : List ℕ) → IsPatternTrie cells records → AreValuedFamilies cells' → cells'.signs
     ≡ cells.signs → length w ≤ PATTERN_SIGNS_MAX → AddsBlanks w 0 cells.values cells'.values → SameMaps cells records cells' records
 blanks_stay cells cells' records w is held signs short adds = same_when cells records cells' records is trie (same as_value) (same as_hopeless)
   where
@@ -117,7 +117,7 @@ blanks_stay cells cells' records w is held signs short adds = same_when cells re
             let there : Some u ≡ Some head = sym (adds.keeps q u some) ∙ at in
             is.heads q head (some ∙ there)
 
-    trie : IsTrie cells' records
+    trie : IsPatternTrie cells' records
     trie = record { signs = omega (arith, is.signs, signs); held = held; heads = heads }
 
     same : {X : Type 0} (pick : ℕ → Option X) (q : List ℕ) (d : ℕ) → found_at pick (list_of records) d (find order q cells'.values) ≡ found_at pick (list_of records) d (find order q cells.values)
@@ -133,7 +133,7 @@ blanks_stay cells cells' records w is held signs short adds = same_when cells re
             ∙ sym (ap (found_at pick (list_of records) d) old)
 
 -- further records
-pub records_stay : (cells : ValuedFamilies ℕ) (records records' : List Record) → IsTrie cells records → Grows records records' → SameMaps cells records cells records'
+pub records_stay : (cells : ValuedFamilies ℕ) (records records' : List Record) → IsPatternTrie cells records → Grows records records' → SameMaps cells records cells records'
 records_stay cells records records' is grows = same_when cells records cells records' is trie (same as_value) (same as_hopeless)
   where
     heads : (q : List ℕ) (head : ℕ) → find order q cells.values ≡ Some head → IsListHead records' q head
@@ -147,7 +147,7 @@ records_stay cells records records' is grows = same_when cells records cells rec
           dots = subst (DotsUpTo (length q)) list h.dots;
         }
 
-    trie : IsTrie cells records'
+    trie : IsPatternTrie cells records'
     trie = record { signs = is.signs; held = is.held; heads = heads }
 
     same : {X : Type 0} (pick : ℕ → Option X) (q : List ℕ) (d : ℕ) → found_at pick (list_of records') d (find order q cells.values) ≡ found_at pick (list_of records) d (find order q cells.values)
@@ -162,13 +162,13 @@ both_stay a b c r s t x y = record { trie = y.trie; patterns = y.patterns ∙ x.
 
 -- a string's new head, whose list has x entered
 pub record Enters (cells : ValuedFamilies ℕ) (records : List Record) (q : List ℕ) (x : ℕ × ℕ) (cells' : ValuedFamilies ℕ) : Type 0 where
-  pub trie : IsTrie cells' records
+  pub trie : IsPatternTrie cells' records
   pub raised : nat_lt x.0 HOPELESS ≡ true → ((maps_of cells' records).patterns ≡ raise (maps_of cells records).patterns (q, x.1) x.0)
       × ((maps_of cells' records).hopeless ≡ (maps_of cells records).hopeless)
   pub given_up : nat_lt x.0 HOPELESS ≡ false → ((maps_of cells' records).patterns ≡ (maps_of cells records).patterns)
       × ((maps_of cells' records).hopeless ≡ put dotted_cmp (q, x.1) (tt {0}) (maps_of cells records).hopeless)
 
-pub enters : (cells cells' : ValuedFamilies ℕ) (records : List Record) (q : List ℕ) (head new : ℕ) (x : ℕ × ℕ) → IsTrie cells records → AreValuedFamilies cells'
+pub enters : (cells cells' : ValuedFamilies ℕ) (records : List Record) (q : List ℕ) (head new : ℕ) (x : ℕ × ℕ) → IsPatternTrie cells records → AreValuedFamilies cells'
     → cells' ≡ record cells { values = put order q new cells.values }
     → find order q cells.values ≡ Some head → new ≤ length records → list_of records new ≡ list_with x (list_of records head) → 1 ≤ x.0 → x.0 ≤ HOPELESS
     → x.1 ≤ length q → Enters cells records q x cells'
@@ -200,7 +200,7 @@ enters cells cells' records q head new x is held put_is at inside list low high 
     signs : cells'.signs ≡ cells.signs
     signs = ap (λ (h : ValuedFamilies ℕ). h.signs) put_is
 
-    trie : IsTrie cells' records
+    trie : IsPatternTrie cells' records
     trie = record { signs = omega (arith, is.signs, signs); held = held; heads = heads }
 
     ordered : T (is_sorted order (put order q new cells.values))

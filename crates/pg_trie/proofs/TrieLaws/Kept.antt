@@ -19,21 +19,21 @@ use Rattle.pg_cells.specs.Inside.linked.ValuedFamilies.{ValuedFamilies}
 use Rattle.pg_cells.specs.Inside.linked.AreValuedFamilies.{AreValuedFamilies}
 use Rattle.pg_cells.proofs.StringMaps.{order, equal_or_not, find_below, head_below, tail_sorted}
 use Rattle.pg_trie.specs.declared.hopeless.TheConstants.{HOPELESS}
-use Rattle.pg_trie.specs.Inside.IsTrie.{IsTrie}
+use Rattle.pg_trie.specs.Inside.IsPatternTrie.{IsPatternTrie}
 use Rattle.pg_trie.specs.Inside.Lists.{rank, Rises, DotsUpTo}
-use Rattle.pg_trie.specs.Inside.Maps.{maps_of, entries_of, entries, with_entry, as_value, as_hopeless, is_dotted, AreKept}
+use Rattle.pg_trie.specs.Inside.Maps.{maps_of, entries_in, entries, entry_ahead, as_value, as_hopeless, is_dotted, AreMaps}
 use Rattle.pg_trie.proofs.ListLaws.Rising.{as_value_is, as_mark_is}
 use Rattle.pg_trie.proofs.TrieLaws.Changes.{sorted_values, sorted_marks}
 
 module _ {X : Type 0} (pick : ℕ → Option X) (P : (List ℕ × ℕ) × X → Type 0) where
   -- what holds of the entries of each string holds of all
-  all-entries : (f : ℕ → List (ℕ × ℕ)) (es : List (List ℕ × ℕ)) → T (is_sorted order es) → ((q : List ℕ) (head : ℕ) → find order q es ≡ Some head → All P (entries_of pick q (f head)))
+  all-entries : (f : ℕ → List (ℕ × ℕ)) (es : List (List ℕ × ℕ)) → T (is_sorted order es) → ((q : List ℕ) (head : ℕ) → find order q es ≡ Some head → All P (entries_in pick q (f head)))
       → All P (entries pick f es)
   unfolding entries
   all-entries f [] sorted each = All-nil P
   all-entries f (e ∷ es) sorted each =
       let first : find order e.0 (e ∷ es) ≡ Some e.1 = ap (λ r. cond (is_eq r) (Some e.1) (find order e.0 es)) (tied_itself nat_list_cmp_total e.0) in
-      All-append P (entries_of pick e.0 (f e.1)) (entries pick f es) (each e.0 e.1 first) (all-entries f es (tail_sorted e es sorted) (λ q head at. each q head (later q head at)))
+      All-append P (entries_in pick e.0 (f e.1)) (entries pick f es) (each e.0 e.1 first) (all-entries f es (tail_sorted e es sorted) (λ q head at. each q head (later q head at)))
     where
       later : (q : List ℕ) (head : ℕ) → find order q es ≡ Some head → find order q (e ∷ es) ≡ Some head
       later q head at = elim (equal_or_not q e.0) [
@@ -88,44 +88,44 @@ record IsString (n : ℕ) (q : List ℕ) : Type 0 where
   few : length q ≤ PATTERN_SIGNS_MAX
   signs : list_all (is_known n) q ≡ true
 
-values_entries : (n : ℕ) (q : List ℕ) → IsString n q → (r : ℕ) (xs : List (ℕ × ℕ)) → Rises r xs → DotsUpTo (length q) xs → All (λ e. is_entry e ≡ true) (entries_of as_value q xs)
+values_entries : (n : ℕ) (q : List ℕ) → IsString n q → (r : ℕ) (xs : List (ℕ × ℕ)) → Rises r xs → DotsUpTo (length q) xs → All (λ e. is_entry e ≡ true) (entries_in as_value q xs)
 values_entries n q s r [] h dots = All-nil (λ e. is_entry e ≡ true)
 values_entries n q s r (x ∷ xs) h dots =
     let more = values_entries n q s (rank x + 1) xs h.3 dots.1 in
     elim (cases_Bool (nat_lt x.0 HOPELESS)) [
       | inl e ↦
           let below : x.0 < HOPELESS = ltb-true x.0 HOPELESS e in
-          subst (λ o. All (λ e. is_entry e ≡ true) (with_entry as_value (q, x.1) o (entries_of as_value q xs))) (sym (as_value_is x.0 true e))
-          (All-cons (λ e. is_entry e ≡ true) ((q, x.1), x.0) (entries_of as_value q xs)
+          subst (λ o. All (λ e. is_entry e ≡ true) (entry_ahead as_value (q, x.1) o (entries_in as_value q xs))) (sym (as_value_is x.0 true e))
+          (All-cons (λ e. is_entry e ≡ true) ((q, x.1), x.0) (entries_in as_value q xs)
           (entry_told ((q, x.1), x.0) (record { some = s.some; few = s.few; signs = signs_low n q s.signs; dot = dots.0; low = h.1; high = omega arith })) more)
-      | inr e ↦ subst (λ o. All (λ e. is_entry e ≡ true) (with_entry as_value (q, x.1) o (entries_of as_value q xs))) (sym (as_value_is x.0 false e)) more
+      | inr e ↦ subst (λ o. All (λ e. is_entry e ≡ true) (entry_ahead as_value (q, x.1) o (entries_in as_value q xs))) (sym (as_value_is x.0 false e)) more
     ]
 
-marks_places : (n : ℕ) (q : List ℕ) → IsString n q → (xs : List (ℕ × ℕ)) → DotsUpTo (length q) xs → All (λ e. is_dotted n e.0 ≡ true) (entries_of as_hopeless q xs)
+marks_places : (n : ℕ) (q : List ℕ) → IsString n q → (xs : List (ℕ × ℕ)) → DotsUpTo (length q) xs → All (λ e. is_dotted n e.0 ≡ true) (entries_in as_hopeless q xs)
 marks_places n q s [] dots = All-nil (λ e. is_dotted n e.0 ≡ true)
 marks_places n q s (x ∷ xs) dots =
     let more = marks_places n q s xs dots.1 in
     elim (cases_Bool (nat_lt x.0 HOPELESS)) [
-      | inl e ↦ subst (λ o. All (λ e. is_dotted n e.0 ≡ true) (with_entry as_hopeless (q, x.1) o (entries_of as_hopeless q xs))) (sym (as_mark_is x.0 true e)) more
+      | inl e ↦ subst (λ o. All (λ e. is_dotted n e.0 ≡ true) (entry_ahead as_hopeless (q, x.1) o (entries_in as_hopeless q xs))) (sym (as_mark_is x.0 true e)) more
       | inr e ↦
-          subst (λ o. All (λ e. is_dotted n e.0 ≡ true) (with_entry as_hopeless (q, x.1) o (entries_of as_hopeless q xs))) (sym (as_mark_is x.0 false e))
-          (All-cons (λ e. is_dotted n e.0 ≡ true) ((q, x.1), tt {0}) (entries_of as_hopeless q xs)
+          subst (λ o. All (λ e. is_dotted n e.0 ≡ true) (entry_ahead as_hopeless (q, x.1) o (entries_in as_hopeless q xs))) (sym (as_mark_is x.0 false e))
+          (All-cons (λ e. is_dotted n e.0 ≡ true) ((q, x.1), tt {0}) (entries_in as_hopeless q xs)
           (and_from (nat_le 1 (length q) && nat_le (length q) PATTERN_SIGNS_MAX && list_all (is_known n) q) (nat_le x.1 (length q))
           (and_from (nat_le 1 (length q) && nat_le (length q) PATTERN_SIGNS_MAX) (list_all (is_known n) q)
           (and_from (nat_le 1 (length q)) (nat_le (length q) PATTERN_SIGNS_MAX) (le-leb 1 (length q) s.some) (le-leb (length q) PATTERN_SIGNS_MAX s.few)) s.signs)
           (le-leb x.1 (length q) dots.0)) more)
     ]
 
-values_known : (n : ℕ) (q : List ℕ) → IsString n q → (xs : List (ℕ × ℕ)) → All (λ e. All (λ s. s ≤ n) e.0.0) (entries_of as_value q xs)
+values_known : (n : ℕ) (q : List ℕ) → IsString n q → (xs : List (ℕ × ℕ)) → All (λ e. All (λ s. s ≤ n) e.0.0) (entries_in as_value q xs)
 values_known n q s [] = All-nil (λ (e : (List ℕ × ℕ) × ℕ). All (λ s. s ≤ n) e.0.0)
 values_known n q s (x ∷ xs) =
     let more = values_known n q s xs in
-    elim (as_value x.0) as (λ o. All (λ e. All (λ s. s ≤ n) e.0.0) (with_entry as_value (q, x.1) o (entries_of as_value q xs))) [
+    elim (as_value x.0) as (λ o. All (λ e. All (λ s. s ≤ n) e.0.0) (entry_ahead as_value (q, x.1) o (entries_in as_value q xs))) [
       | None ↦ more
-      | Some v ↦ All-cons (λ (e : (List ℕ × ℕ) × ℕ). All (λ s. s ≤ n) e.0.0) ((q, x.1), v) (entries_of as_value q xs) (signs_high n q s.signs) more
+      | Some v ↦ All-cons (λ (e : (List ℕ × ℕ) × ℕ). All (λ s. s ≤ n) e.0.0) ((q, x.1), v) (entries_in as_value q xs) (signs_high n q s.signs) more
     ]
 
-pub are_kept : (cells : ValuedFamilies ℕ) (records : List Record) → IsTrie cells records → AreKept (maps_of cells records)
+pub are_kept : (cells : ValuedFamilies ℕ) (records : List Record) → IsPatternTrie cells records → AreMaps (maps_of cells records)
 are_kept cells records is = record {
   signs = is.signs;
   patterns = record {
@@ -148,10 +148,10 @@ are_kept cells records is = record {
         record { some = string_some cells q cell.0 cell.1; few = (is.heads q head at).short; signs = string_signs cells is.held q cell.0 cell.1 }
 
 -- the values of a string are entries of patterns
-pub string_entries : (cells : ValuedFamilies ℕ) (records : List Record) → IsTrie cells records → (q : List ℕ) (head : ℕ) → find order q cells.values
-    ≡ Some head → list_all is_entry (entries_of as_value q (list_of records head)) ≡ true
+pub string_entries : (cells : ValuedFamilies ℕ) (records : List Record) → IsPatternTrie cells records → (q : List ℕ) (head : ℕ) → find order q cells.values
+    ≡ Some head → list_all is_entry (entries_in as_value q (list_of records head)) ≡ true
 string_entries cells records is q head at =
     let h = is.heads q head at in
     let cell = is.held.celled q head at in
     let string : IsString cells.signs q = record { some = string_some cells q cell.0 cell.1; few = h.short; signs = string_signs cells is.held q cell.0 cell.1 } in
-    all_tests is_entry (entries_of as_value q (list_of records head)) (values_entries cells.signs q string 0 (list_of records head) h.rises h.dots)
+    all_tests is_entry (entries_in as_value q (list_of records head)) (values_entries cells.signs q string 0 (list_of records head) h.rises h.dots)

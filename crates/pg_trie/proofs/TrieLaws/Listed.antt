@@ -7,7 +7,7 @@ use Rattle.pg_outputs.specs.declared.records.Record.{Record}
 use Rattle.pg_outputs.specs.Lists.{list_of}
 use Rattle.pg_cells.specs.Inside.linked.ValuedFamilies.{ValuedFamilies}
 use Rattle.pg_cells.proofs.StringMaps.{order}
-use Rattle.pg_trie.specs.Inside.IsTrie.{IsTrie}
+use Rattle.pg_trie.specs.Inside.IsPatternTrie.{IsPatternTrie}
 use Rattle.pg_trie.specs.Inside.Lists.{outputs_at, outputs_at_dot, value_part, hopeless_part}
 use Rattle.pg_trie.specs.Inside.Maps.{maps_of, as_value, as_hopeless}
 use Rattle.pg_trie.proofs.ListLaws.Found.{found_at, find-entries}
@@ -17,14 +17,14 @@ use Rattle.pg_trie.proofs.ListLaws.Rebuilt.{part, same_parts, rebuilt}
 part_at : (ℕ → List (ℕ × ℕ)) → Option ℕ → ℕ → List (ℕ × ℕ)
 part_at f o d = value_part (found_at as_value f d o) d ++ hopeless_part (found_at as_hopeless f d o) d
 
-at_dot : (cells : ValuedFamilies ℕ) (records : List Record) → IsTrie cells records → (q : List ℕ) (d : ℕ) → outputs_at_dot (maps_of cells records).patterns (maps_of cells records).hopeless q d
+at_dot : (cells : ValuedFamilies ℕ) (records : List Record) → IsPatternTrie cells records → (q : List ℕ) (d : ℕ) → outputs_at_dot (maps_of cells records).patterns (maps_of cells records).hopeless q d
     ≡ part_at (list_of records) (find order q cells.values) d
 unfolding part_at
 at_dot cells records is q d =
     ap (λ o. value_part o d ++ hopeless_part (find dotted_cmp (q, d) (maps_of cells records).hopeless) d) (find-entries as_value (list_of records) cells.values q d is.held.ordered)
     ∙ ap (λ o. value_part (found_at as_value (list_of records) d (find order q cells.values)) d ++ hopeless_part o d) (find-entries as_hopeless (list_of records) cells.values q d is.held.ordered)
 
-pub list_is : (cells : ValuedFamilies ℕ) (records : List Record) → IsTrie cells records → (q : List ℕ) (head : ℕ) → find order q cells.values ≡ Some head
+pub list_is : (cells : ValuedFamilies ℕ) (records : List Record) → IsPatternTrie cells records → (q : List ℕ) (head : ℕ) → find order q cells.values ≡ Some head
     → list_of records head ≡ outputs_at (maps_of cells records).patterns (maps_of cells records).hopeless q
 unfolding outputs_at part_at
 list_is cells records is q head at =
@@ -39,7 +39,7 @@ no_parts : (a n : ℕ) → flat_map (λ (d : ℕ). let l : List (ℕ × ℕ) = [
 no_parts a zero = refl
 no_parts a (suc n) = no_parts (a + 1) n
 
-pub none_is : (cells : ValuedFamilies ℕ) (records : List Record) → IsTrie cells records → (q : List ℕ) → find order q cells.values ≡ None
+pub none_is : (cells : ValuedFamilies ℕ) (records : List Record) → IsPatternTrie cells records → (q : List ℕ) → find order q cells.values ≡ None
     → outputs_at (maps_of cells records).patterns (maps_of cells records).hopeless q ≡ []
 unfolding outputs_at part_at
 none_is cells records is q none =

@@ -14,7 +14,7 @@ use Rattle.pg_cells.specs.Inside.linked.Members.{IsNext, goes_on}
 use Rattle.pg_cells.specs.Inside.linked.Walks.{EndsBefore}
 use Rattle.pg_cells.proofs.LinkLaws.{cell_goes}
 use Rattle.pg_cells.proofs.StringMaps.{order}
-use Rattle.pg_trie.specs.Inside.Strings.{AreShort, IsString, StandsFrom, PutsBelow, AreStringsTo, AreStrings}
+use Rattle.pg_trie.specs.Inside.Strings.{HasShortStrings, IsString, StandsFrom, PutsBelow, AreStringsTo, AreStrings}
 use Rattle.pg_trie.proofs.TrieLaws.Kept.{is_known, string_signs}
 
 -- where a string's front has no cell, it has none
@@ -31,7 +31,7 @@ known_all n (x ∷ q) h =
     (known_all n q (and_second (is_known n x) (list_all (is_known n) q) h))
 
 -- a string with a cell
-pub is_string : (h : ValuedFamilies ℕ) → AreValuedFamilies h → AreShort h → (q : List ℕ) (cell : ℕ) → cell_of h.families q ≡ Some cell → IsString h q
+pub is_string : (h : ValuedFamilies ℕ) → AreValuedFamilies h → HasShortStrings h → (q : List ℕ) (cell : ℕ) → cell_of h.families q ≡ Some cell → IsString h q
 is_string h held short q cell at = record {
   celled = (cell, at);
   known = known_all h.signs q (string_signs h held q cell at);
@@ -39,7 +39,7 @@ is_string h held short q cell at = record {
 }
 
 -- a longer string of one more sign leaves room
-pub has_room : (h : ValuedFamilies ℕ) → AreValuedFamilies h → AreShort h → (q : List ℕ) (s cell : ℕ) → cell_of h.families (q ++ s ∷ []) ≡ Some cell → length q + 1 ≤ 32
+pub has_room : (h : ValuedFamilies ℕ) → AreValuedFamilies h → HasShortStrings h → (q : List ℕ) (s cell : ℕ) → cell_of h.families (q ++ s ∷ []) ≡ Some cell → length q + 1 ≤ 32
 has_room h held short q s cell at = let few = (is_string h held short (q ++ s ∷ []) cell at).few in omega (arith, length_push q s)
 
 module _ {X : Type 0} where

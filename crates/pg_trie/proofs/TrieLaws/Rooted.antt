@@ -11,9 +11,9 @@ use Rattle.pg_cells.specs.Inside.linked.ValuedFamilies.{ValuedFamilies}
 use Rattle.pg_cells.specs.Inside.linked.AreValuedFamilies.{AreValuedFamilies}
 use Rattle.pg_cells.specs.Inside.families.Root.{root_alone}
 use Rattle.pg_cells.proofs.StringMaps.{order, equal_or_not}
-use Rattle.pg_trie.specs.Inside.IsTrie.{IsTrie}
+use Rattle.pg_trie.specs.Inside.IsPatternTrie.{IsPatternTrie}
 use Rattle.pg_trie.specs.Inside.Lists.{Rises, DotsUpTo}
-use Rattle.pg_trie.specs.Inside.Maps.{maps_of, entries_of, entries, as_value, as_hopeless}
+use Rattle.pg_trie.specs.Inside.Maps.{maps_of, entries_in, entries, as_value, as_hopeless}
 
 -- heads 0 of single signs
 abbrev singles : List ℕ → List (List ℕ × ℕ)
@@ -33,9 +33,9 @@ root_found q head (x ∷ xs) at = elim (equal_or_not q (x ∷ [])) [
 root_entries : {X : Type 0} (pick : ℕ → Option X) (f : ℕ → List (ℕ × ℕ)) (xs : List ℕ) → f 0 ≡ [] → entries pick f (singles xs) ≡ []
 unfolding entries
 root_entries pick f [] none = refl
-root_entries pick f (x ∷ xs) none = ap (λ l. entries_of pick (x ∷ []) l ++ entries pick f (singles xs)) none ∙ root_entries pick f xs none
+root_entries pick f (x ∷ xs) none = ap (λ l. entries_in pick (x ∷ []) l ++ entries pick f (singles xs)) none ∙ root_entries pick f xs none
 
-pub root_trie : (n : ℕ) (cells : ValuedFamilies ℕ) (records : List Record) → n ≤ SIGNS_MAX → cells ≡ root_alone n 0 → AreValuedFamilies cells → IsTrie cells records
+pub root_trie : (n : ℕ) (cells : ValuedFamilies ℕ) (records : List Record) → n ≤ SIGNS_MAX → cells ≡ root_alone n 0 → AreValuedFamilies cells → IsPatternTrie cells records
 root_trie n cells records few is held = record {
   signs = omega (arith, ap (λ (h : ValuedFamilies ℕ). h.signs) is);
   held = held;

@@ -31,18 +31,18 @@ as_hopeless v = if nat_lt v HOPELESS then None else Some (tt {0})
 
 module _ {X : Type 0} (pick : ℕ → Option X) where
   -- an entry before others, where there is one
-  abbrev pub with_entry : List ℕ × ℕ → Option X → List ((List ℕ × ℕ) × X) → List ((List ℕ × ℕ) × X)
-  with_entry k None es = es
-  with_entry k (Some v) es = (k, v) ∷ es
+  abbrev pub entry_ahead : List ℕ × ℕ → Option X → List ((List ℕ × ℕ) × X) → List ((List ℕ × ℕ) × X)
+  entry_ahead k None es = es
+  entry_ahead k (Some v) es = (k, v) ∷ es
 
   -- the entries of a string by its list
-  abbrev pub entries_of : List ℕ → List (ℕ × ℕ) → List ((List ℕ × ℕ) × X)
-  entries_of q [] = []
-  entries_of q (x ∷ xs) = with_entry (q, x.1) (pick x.0) (entries_of q xs)
+  abbrev pub entries_in : List ℕ → List (ℕ × ℕ) → List ((List ℕ × ℕ) × X)
+  entries_in q [] = []
+  entries_in q (x ∷ xs) = entry_ahead (q, x.1) (pick x.0) (entries_in q xs)
 
   -- the entries of all strings by the lists of their heads
   unfoldable pub entries : (ℕ → List (ℕ × ℕ)) → List (List ℕ × ℕ) → List ((List ℕ × ℕ) × X)
-  entries f values = flat_map (λ e. entries_of e.0 (f e.1)) values
+  entries f values = flat_map (λ e. entries_in e.0 (f e.1)) values
 
 -- cells whose values are heads of lists, as maps
 abbrev pub maps_of : ValuedFamilies ℕ → List Record → Maps
@@ -60,7 +60,7 @@ is_dotted n k = nat_le 1 (length k.0) && nat_le (length k.0) PATTERN_SIGNS_MAX
     && list_all (λ s. nat_le 1 s && nat_le s n) k.0 && nat_le k.1 (length k.0)
 
 -- what every trie keeps: the values are a map of patterns, and the hopeless strings stand in order
-pub record AreKept (m : Maps) : Type 0 where
+pub record AreMaps (m : Maps) : Type 0 where
   pub signs : m.signs ≤ SIGNS_MAX
   pub patterns : IsPatternMap m.patterns
   pub known : SignsUpTo m.signs m.patterns

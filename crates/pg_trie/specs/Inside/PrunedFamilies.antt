@@ -56,8 +56,8 @@ pub record PrunesSome (keep : List ℕ → Bool) (old new : ValuedFamilies ℕ) 
       old.families
 
 -- the string r goes on from q
-abbrev pub IsBelow : List ℕ → List ℕ → Type 0
-IsBelow q r = (x : ℕ) × (more : List ℕ) × (r ≡ q ++ x ∷ more)
+abbrev pub IsProperPrefix : List ℕ → List ℕ → Type 0
+IsProperPrefix q r = (x : ℕ) × (more : List ℕ) × (r ≡ q ++ x ∷ more)
 
 -- of the strings that go on from q by a sign before s, those that are not to keep cells lost them
 pub record PrunesTo (old new : ValuedFamilies ℕ) (q : List ℕ) (s : ℕ) : Type 0 where
@@ -65,7 +65,7 @@ pub record PrunesTo (old new : ValuedFamilies ℕ) (q : List ℕ) (s : ℕ) : Ty
   pub signs : new.signs ≡ old.signs
   pub less : (r : List ℕ) (v : ℕ) → find (slice_cmp nat_cmp) r new.values ≡ Some v
       → find (slice_cmp nat_cmp) r old.values ≡ Some v
-  pub elsewhere : (r : List ℕ) → (IsBelow q r → ⊥)
+  pub elsewhere : (r : List ℕ) → (IsProperPrefix q r → ⊥)
       → (find (slice_cmp nat_cmp) r new.values ≡ find (slice_cmp nat_cmp) r old.values)
       × (cell_of new.families r ≡ cell_of old.families r)
   pub some : (keep : List ℕ → Bool) (start : ValuedFamilies ℕ)

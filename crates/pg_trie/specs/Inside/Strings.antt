@@ -8,8 +8,8 @@ use Rattle.pg_types.specs.Inside.Placing.{cell_of}
 use Rattle.pg_cells.specs.Inside.linked.ValuedFamilies.{ValuedFamilies}
 
 -- strings with a value are short
-abbrev pub AreShort : ValuedFamilies ℕ → Type 0
-AreShort h = (q : List ℕ) (v : ℕ) → find (slice_cmp nat_cmp) q h.values ≡ Some v
+abbrev pub HasShortStrings : ValuedFamilies ℕ → Type 0
+HasShortStrings h = (q : List ℕ) (v : ℕ) → find (slice_cmp nat_cmp) q h.values ≡ Some v
     → length q ≤ PATTERN_SIGNS_MAX
 
 -- a string that has a cell

@@ -8,7 +8,7 @@ ghost use Rattle.pg_types.specs.Placement.{base_of};
 ghost use Rattle.pg_types.specs.Inside.Placing.{cell_of};
 ghost use Rattle.pg_cells.specs.Inside.linked.AreValuedFamilies.{AreValuedFamilies};
 ghost use Rattle.pg_cells.specs.Inside.linked.Members.{IsNextSign};
-ghost use Rattle.pg_trie.specs.Inside.Strings.{AreShort, IsString, PutsBelow, AreStringsTo, AreStrings};
+ghost use Rattle.pg_trie.specs.Inside.Strings.{HasShortStrings, IsString, PutsBelow, AreStringsTo, AreStrings};
 
 use crate::lists::head::Head;
 use pg_cells::{Cells, step};
@@ -63,7 +63,7 @@ fn push_family(
 ) -> Result<(), AllocError>
     requires base { base_of cells.now.families prefix.now ≡ Some base }
     requires first { IsNextSign cells.now.values prefix.now 0 first }
-    requires short { AreShort cells.now }
+    requires short { HasShortStrings cells.now }
     requires held { AreValuedFamilies cells.now }
     ensures { OnOk result
         (PutsBelow cells.now prefix.now (cells.now.signs + 1) strings.old.items strings.new.items) }
@@ -89,7 +89,7 @@ fn push_below(
     requires sound { (k : List ℕ × ℕ) → slice_get strings.old.items i ≡ Some k
         → IsString cells.now k.0 }
     requires held { AreValuedFamilies cells.now }
-    requires short { AreShort cells.now }
+    requires short { HasShortStrings cells.now }
     requires signs { cells.now.signs ≤ SIGNS_MAX }
     ensures { OnOk result ((k : List ℕ × ℕ) → slice_get strings.old.items i ≡ Some k →
         PutsBelow cells.now k.0 (cells.now.signs + 1) strings.old.items strings.new.items) }
@@ -107,7 +107,7 @@ fn push_below(
 /// The strings that have a cell, each before those with one sign more.
 pub fn strings(alloc: Global, cells: &Cells<Head>) -> Result<Vec<DottedSigns>, AllocError>
     requires held { AreValuedFamilies cells.now }
-    requires short { AreShort cells.now }
+    requires short { HasShortStrings cells.now }
     requires signs { cells.now.signs ≤ SIGNS_MAX }
     ensures { IfOk result (λ strings. AreStrings cells.now strings.items) }
 {

@@ -5,7 +5,7 @@ ghost use Rattle.pg_types.specs.Inside.Placing.{cell_of};
 ghost use Rattle.pg_cells.specs.Inside.linked.AreValuedFamilies.{AreValuedFamilies};
 ghost use Rattle.pg_cells.specs.Inside.linked.Members.{IsBefore, goes_on};
 ghost use Rattle.pg_trie.specs.Inside.PrunedFamilies.{Drops, IsKeep, Prunes, PrunesBelow};
-ghost use Rattle.pg_trie.specs.Inside.Strings.{AreShort};
+ghost use Rattle.pg_trie.specs.Inside.Strings.{HasShortStrings};
 
 use crate::lists::head::Head;
 use pg_cells::{Cells, step};
@@ -36,7 +36,7 @@ fn remove_blank(cells: &mut Cells<Head>, parent: usize, cell: usize, before: Sig
 // string that stays goes on from them. A string below it has at most so many signs more.
 fn prune_below(cells: &mut Cells<Head>, cell: usize, more: usize)
     requires held { AreValuedFamilies cells.old }
-    requires short { AreShort cells.old }
+    requires short { HasShortStrings cells.old }
     requires cell { (q : List ℕ) × ((cell_of cells.old.families q ≡ Some cell)
         × (PATTERN_SIGNS_MAX ≤ length q + more)) }
     ensures { (q : List ℕ) → cell_of cells.old.families q ≡ Some cell
@@ -59,7 +59,7 @@ fn prune_below(cells: &mut Cells<Head>, cell: usize, more: usize)
 /// stays goes on from them.
 pub fn prune(cells: &mut Cells<Head>)
     requires held { AreValuedFamilies cells.old }
-    requires short { AreShort cells.old }
+    requires short { HasShortStrings cells.old }
     requires signs { cells.old.signs ≤ SIGNS_MAX }
     ensures { (keep : List ℕ → Bool) → IsKeep keep cells.old → Prunes keep cells.old cells.new }
 {

@@ -6,7 +6,7 @@ ghost use Rattle.std.specs.Ordering.{nat_cmp};
 ghost use Rattle.pg_outputs.specs.Lists.{list_of};
 ghost use Rattle.pg_outputs.specs.Inside.Heads.{Grows, OneHeadEach};
 ghost use Rattle.pg_cells.specs.Inside.linked.AreValuedFamilies.{AreValuedFamilies};
-ghost use Rattle.pg_trie.specs.Inside.IsTrie.{IsTrie};
+ghost use Rattle.pg_trie.specs.Inside.IsPatternTrie.{IsPatternTrie};
 ghost use Rattle.pg_trie.specs.Inside.FreshLists.{values_in, AreNeeded, AreUnknown, AreFreshTo, AreFresh, Renews};
 
 use crate::hopeless::HOPELESS;
@@ -60,7 +60,7 @@ fn renew_cell(
     fresh: &mut Outputs,
     heads: &mut [u32],
 ) -> Result<(), AllocError>
-    requires trie { IsTrie cells.now outputs.now }
+    requires trie { IsPatternTrie cells.now outputs.now }
     requires heads { AreFreshTo cells.now outputs.now cell fresh.old heads.old }
     ensures { OnOk result (AreFreshTo cells.now outputs.now (cell + 1) fresh.new heads.new) }
 {
@@ -85,7 +85,7 @@ pub fn fresh_heads(
     outputs: &Outputs,
     fresh: &mut Outputs,
 ) -> Result<Vec<u32>, AllocError>
-    requires trie { IsTrie cells.now outputs.now }
+    requires trie { IsPatternTrie cells.now outputs.now }
     requires empty { length fresh.old ≡ 0 }
     ensures { IfOk result (λ heads. AreFresh cells.now outputs.now fresh.new heads.items) }
 {

@@ -7,8 +7,8 @@ use Rattle.pg_watch.specs.declared.line.Step.{Step}
 use Rattle.pg_watch.specs.declared.line.Step.TheVariants as step
 
 -- where a selection is
-abbrev pub pass_text : PassProgress → List ℕ
-pass_text p =
+abbrev pub progress_text : PassProgress → List ℕ
+progress_text p =
     codes "level " ++ decimal p.level ++ codes " of "
     ++ decimal p.last ++ codes ", length " ++ decimal p.len
     ++ codes " of " ++ decimal p.shortest ++ codes " to "
@@ -30,7 +30,7 @@ sweep_run_if_told None = []
 abbrev pub step_text : Step → List ℕ → List ℕ
 step_text step.Reading name = codes "reading " ++ name
 step_text step.Writing name = codes "writing " ++ name
-step_text (step.Pass p) name = pass_text p
+step_text (step.Pass p) name = progress_text p
 step_text (step.Round r) name = codes "round " ++ decimal r
 
 -- the whole line, of which the bytes of one row are shown

@@ -59,8 +59,8 @@ pack_of n =
     record { patterns = n.patterns.now; translate = n.translate.now; table = n.table.now }
 
 -- the names of `totals` as their bytes
-abbrev pub totals_of : TotalsNames → TotalsRequest
-totals_of n = record { dict = n.dict.now; translate = n.translate.now; table = n.table.now }
+abbrev pub totals_request_of : TotalsNames → TotalsRequest
+totals_request_of n = record { dict = n.dict.now; translate = n.translate.now; table = n.table.now }
 
 -- the names of `prune` as their bytes
 abbrev pub prune_of : PruneNames → PruneRequest
@@ -80,7 +80,7 @@ asked_by (Sample seed count) = ToSample seed count
 asked_by (Pack p t table) =
     ToPack (pack_of (record { patterns = p; translate = t; table = table }))
 asked_by (Totals d t table) =
-    ToTotals (totals_of (record { dict = d; translate = t; table = table }))
+    ToTotals (totals_request_of (record { dict = d; translate = t; table = table }))
 asked_by (Prune d p o t r) = ToPrune (prune_of
     (record { dict = d; patterns = p; output = o; translate = t; report = r }))
 asked_by (Sweep words) = ToSweep (sweep_of words)

@@ -44,8 +44,8 @@ with_options n (first ∷ one ∷ second ∷ two ∷ []) = if bytes_eq first sec
 with_options n words = None
 
 -- the names in arguments: six, and then the options
-abbrev pub names_in : List (List ℕ) → Option FileNames
-names_in (dict ∷ patterns ∷ output ∷ translate ∷ params ∷ report ∷ options) = with_options (record {
+abbrev pub files_in : List (List ℕ) → Option FileNames
+files_in (dict ∷ patterns ∷ output ∷ translate ∷ params ∷ report ∷ options) = with_options (record {
   dict = dict;
   patterns = patterns;
   output = output;
@@ -55,14 +55,14 @@ names_in (dict ∷ patterns ∷ output ∷ translate ∷ params ∷ report ∷ o
   pattmp = None;
   cells = None;
 }) options
-names_in words = None
+files_in words = None
 
 -- `generate DICT PATTERNS OUT TRANSLATE PARAMS REPORT`, then `--pattmp FILE` and `--cells FILE`
 abbrev pub generate_in : List (List ℕ) → Option FileNames
 generate_in words = option_and_then (λ n. where_taken (input_names n) (output_names n) n)
-    (names_in words)
+    (files_in words)
 
 -- `audit` with the same names, which may be equal, and then `--pattmp FILE`
 abbrev pub audit_in : List (List ℕ) → Option FileNames
 audit_in words = option_and_then (λ n. if list_all is_name (input_names n ++ output_names n)
-    && is_none n.cells then Some n else None) (names_in words)
+    && is_none n.cells then Some n else None) (files_in words)

@@ -1,13 +1,13 @@
 use Rattle.std.proofs.Common.{◌<◌, ◌-◌, length}
 use Rattle.pg_cells.specs.declared.store.cell.TheConstants.{CELLS_END}
-use Rattle.pg_cells.specs.Inside.store.Lists.{lists, row_of}
+use Rattle.pg_cells.specs.Inside.store.Lists.{linked_row, row_of}
 use Rattle.pg_cells.specs.Inside.store.FreeList.{AreLinked}
 use Rattle.pg_cells.specs.Inside.store.Store.{Extends}
 use Rattle.pg_cells.proofs.store.grow_cells.Given as goal
 
 abbrev pub invariant-grow : goal.invariant-grow
 invariant-grow g l = record {
-  linked : AreLinked (lists l.cells.items);
+  linked : AreLinked (linked_row l.cells.items);
   small : length l.cells.items < CELLS_END;
   extends : Extends (row_of l.initial.cells.items) (row_of l.cells.items);
 }

@@ -1,4 +1,4 @@
-use Rattle.pg_cells.specs.Inside.linked.Walks.{IsKnown}
+use Rattle.pg_cells.specs.Inside.linked.Walks.{NeedsNoCell}
 use Rattle.std.proofs.Common.{◌≡◌, ◌<◌, [], ◌∷◌, ◌++◌, length, take, get_or, Some, ap, sym, ◌∙◌, arith, subst}
 use Rattle.pg_types.specs.Inside.Placing.{cell_of}
 use Rattle.pg_cells.proofs.Walking.{way_more, more_known}
@@ -50,7 +50,7 @@ returns-clause-cell g c = let all : c.loop-k.k ≡ length c.args.signs.now = ome
 
 pub returns-clause-known : goal.returns-clause-known
 returns-clause-known g c = let all : c.loop-k.k ≡ length c.args.signs.now = omega arith in
-    subst (IsKnown g.row.FEW c.args.cells.now.signs c.args.cells.now.families c.args.signs.now) all c.loop-k.invariant.known
+    subst (NeedsNoCell g.row.FEW c.args.cells.now.signs c.args.cells.now.families c.args.signs.now) all c.loop-k.invariant.known
 
 pub returns-clause-held : goal.returns-clause-held
 returns-clause-held g c = c.root_cell-cell.ensures.held

@@ -28,7 +28,7 @@ module _ {V : Type 0} where
     pub positive : 0 < x
 
   -- the families F lie in the row: their signs at their bases, no two at one base, and nothing else
-  pub record IsLayout (n : ℕ) (r : Row V) (F : List ℕ → Option Family) : Type 0 where
+  pub record AreLaidOut (n : ℕ) (r : Row V) (F : List ℕ → Option Family) : Type 0 where
     pub root : F [] ≡ Some (record { base = 0; signs = range_with_len 1 n })
     pub members : (p : List ℕ) (f : Family) → F p ≡ Some f → f.signs ≡ signs_at_base n r f.base
     pub filled : (p : List ℕ) (f : Family) → F p ≡ Some f → f.signs ≢ []
@@ -53,7 +53,7 @@ module _ {V : Type 0} where
   -- the families and values of the trie are what the row holds
   pub record IsTrie (n : ℕ) (r : Row V) (t : Trie V) : Type 0 where
     pub sorted : T (is_sorted (slice_cmp nat_cmp) t.families)
-    pub layout : IsLayout n r (family_at t.families)
+    pub layout : AreLaidOut n r (family_at t.families)
     pub count : taken_in r ≡ taken_count t.families
     pub ordered : T (is_sorted (slice_cmp nat_cmp) t.values)
     pub has : (q : List ℕ) → find (slice_cmp nat_cmp) q t.values ≡ value_in r (cell_of t.families q)

@@ -7,14 +7,14 @@ use Rattle.pg_types.specs.Inside.Placing.{IsLeast}
 use Rattle.pg_cells.specs.Inside.store.Store.{taken_in, IsTop}
 use Rattle.pg_cells.specs.Inside.families.Searches.{search_start}
 use Rattle.pg_cells.specs.Inside.store.Writes.{Takes, SetsBase, SetsChild}
-use Rattle.pg_cells.specs.Inside.store.Fit.{signs_of, slot_of, fits_row}
+use Rattle.pg_cells.specs.Inside.store.Fit.{slot_signs, slot_of, fits_row}
 use Rattle.pg_cells.specs.Inside.families.Layouts.{signs_at_base}
 
 module _ {V : Type 0} where
   -- no two slots have one sign
   abbrev pub AreDistinct : List (Slot V) → Type 0
   AreDistinct slots = (k : ℕ) → k < length slots
-      → slot_of (take k slots) (get_or (signs_of slots) k 0) ≡ None
+      → slot_of (take k slots) (get_or (slot_signs slots) k 0) ≡ None
 
   -- the value of each slot has room in a cell
   abbrev pub AllFit : List (Slot (Member V)) → Type 0
@@ -40,7 +40,7 @@ module _ {V : Type 0} where
     pub count : taken_in new + length slots ≡ taken_in old
 
   -- the slots stand in their cells at the base
-  pub record Puts (old new : Row V) (base : ℕ) (slots : List (Slot V)) : Type 0 where
+  pub record PutsSlots (old new : Row V) (base : ℕ) (slots : List (Slot V)) : Type 0 where
     pub others : KeepsOtherCells old new base slots
     pub at : (x : ℕ) (slot : Slot V) → slot_of slots x ≡ Some slot
         → (sign_at new (base + x) ≡ x) × (child_at new (base + x) ≡ slot.child)
@@ -48,15 +48,15 @@ module _ {V : Type 0} where
     pub count : taken_in new ≡ taken_in old + length slots
 
   -- what a slot tells of the cell of the sign x at the base
-  pub record Tells (r : Row V) (base x : ℕ) (slot : Slot V) : Type 0 where
+  pub record TellsCell (r : Row V) (base x : ℕ) (slot : Slot V) : Type 0 where
     pub sign : sign_at r (base + x) ≡ x
     pub child : slot.child ≡ child_at r (base + x)
     pub value : slice_get r.values (base + x) ≡ Some slot.value
 
   -- the slots are those of the family at the base, up to the sign n
   pub record AreSlotsOf (n : ℕ) (r : Row V) (base : ℕ) (slots : List (Slot V)) : Type 0 where
-    pub signs : signs_of slots ≡ signs_at_base n r base
-    pub told : (x : ℕ) (slot : Slot V) → slot_of slots x ≡ Some slot → Tells r base x slot
+    pub signs : slot_signs slots ≡ signs_at_base n r base
+    pub told : (x : ℕ) (slot : Slot V) → slot_of slots x ≡ Some slot → TellsCell r base x slot
     pub distinct : AreDistinct slots
     pub late : (y : ℕ) → n < y → slot_of slots y ≡ None
 
@@ -64,11 +64,11 @@ module _ {V : Type 0} where
   abbrev pub Collects : Row V → ℕ → ℕ → List (Slot V) → List (Slot V) → Type 0
   Collects r base x old new =
       ((sign_at r (base + x) ≢ x) × (new ≡ old)) ⊎
-      ((slot : Slot V) × (Tells r base x slot) × (slot.sign ≡ x) × (new ≡ old ++ slot ∷ []))
+      ((slot : Slot V) × (TellsCell r base x slot) × (slot.sign ≡ x) × (new ≡ old ++ slot ∷ []))
 
   -- the base of a family is dropped, where there is one
-  abbrev pub Drops : Row V → Row V → ℕ → Type 0
-  Drops old new was = ((was ≡ 0) × (new ≡ old)) ⊎ ((0 < was) × (SetsBase old new was false))
+  abbrev pub DropsBase : Row V → Row V → ℕ → Type 0
+  DropsBase old new was = ((was ≡ 0) × (new ≡ old)) ⊎ ((0 < was) × (SetsBase old new was false))
 
   -- a family can be placed: its slots are in taken cells, and there is room past the last cell
   pub record CanPlace (n : ℕ) (r : Row V) (was : ℕ)
@@ -101,20 +101,20 @@ module _ {V : Type 0} where
     pub took : Row V
     pub flagged : Row V
     pub gives : GivesUp old gave was slots
-    pub drops : Drops gave dropped was
+    pub drops : DropsBase gave dropped was
     pub top : ℕ
     pub is_top : IsTop dropped.signs top
-    pub least : IsLeast (fits_row dropped (slot.sign ∷ signs_of slots))
+    pub least : IsLeast (fits_row dropped (slot.sign ∷ slot_signs slots))
         (search_start few n (length slots + 1) top) base
     pub near : base ≤ max 1 top
-    pub puts : Puts dropped settled base slots
+    pub puts : PutsSlots dropped settled base slots
     pub takes : Takes settled took (base + slot.sign) slot.sign slot.value slot.child
     pub flags : SetsBase took flagged base true
     pub links : SetsChild flagged new parent base
 
   -- the family at the base is taken away from its parent, where no sign stands there
-  abbrev pub Prunes : ℕ → Row V → Row V → ℕ → ℕ → Type 0
-  Prunes n old new base parent =
+  abbrev pub DropsEmptyFamily : ℕ → Row V → Row V → ℕ → ℕ → Type 0
+  DropsEmptyFamily n old new base parent =
       ((signs_at_base n old base ≢ []) × (new ≡ old))
       ⊎ ((mid : Row V) × (signs_at_base n old base ≡ [])
       × (SetsChild old mid parent 0) × (SetsBase mid new base false))

@@ -14,7 +14,7 @@ use Rattle.pg_types.specs.Placement.{Family, family_at}
 use Rattle.pg_types.specs.Inside.Placing.{cell_of}
 use Rattle.pg_cells.specs.Inside.store.Lists.{Row, child_at}
 use Rattle.pg_cells.specs.Inside.linked.ValuedFamilies.{Trie, trie_code}
-use Rattle.pg_cells.specs.Inside.families.Layouts.{IsLayout, IsTrie, signs_at_base, value_in}
+use Rattle.pg_cells.specs.Inside.families.Layouts.{AreLaidOut, IsTrie, signs_at_base, value_in}
 
 -- a string has a last sign, and a front before it
 pub record HasLast (p : List ℕ) : Type 0 where
@@ -32,8 +32,8 @@ last_of (x ∷ xs) = inr (elim (last_of xs) [
 
 module _ {V : Type 0} (n : ℕ) (r : Row V) where
   -- a family of one placement is a family of the other
-  found_too : (F G : List ℕ → Option Family) → IsLayout n r F
-      → IsLayout n r G → (k : ℕ) (p : List ℕ) (f : Family)
+  found_too : (F G : List ℕ → Option Family) → AreLaidOut n r F
+      → AreLaidOut n r G → (k : ℕ) (p : List ℕ) (f : Family)
       → length p ≤ k → F p ≡ Some f → G p ≡ Some f
   found_too F G a b k p f le at = by k p f le at (last_of p)
     where
@@ -64,8 +64,8 @@ module _ {V : Type 0} (n : ℕ) (r : Row V) where
           ap G h.whole ∙ down.1 ∙ ap Some same
 
   -- two placements in one row have the same families
-  same_found : (F G : List ℕ → Option Family) → IsLayout n r F
-      → IsLayout n r G → (p : List ℕ) → F p ≡ G p
+  same_found : (F G : List ℕ → Option Family) → AreLaidOut n r F
+      → AreLaidOut n r G → (p : List ℕ) → F p ≡ G p
   same_found F G a b p = by (F p) (G p) refl refl
     where
       by : (x y : Option Family) → F p ≡ x → G p ≡ y → F p ≡ G p

@@ -14,7 +14,7 @@ IsAt fs None q = q ≡ []
 IsAt fs (Some cell) q = cell_of fs q ≡ Some cell
 
 -- to enter w is to enter what follows its first k signs, which need no new cell
-pub record IsKnown (few n : ℕ) (fs : Families) (w : List ℕ) (k : ℕ) : Type 0 where
+pub record NeedsNoCell (few n : ℕ) (fs : Families) (w : List ℕ) (k : ℕ) : Type 0 where
   pub front : fs ≡ enter_by (search_start few n) fs (take k w)
   pub rest : enter_after (search_start few n) fs (take k w) (drop k w)
       ≡ enter_by (search_start few n) fs w

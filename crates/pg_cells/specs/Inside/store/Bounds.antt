@@ -4,7 +4,7 @@ use Rattle.pg_cells.specs.Inside.store.Lists.{Row, sign_at, base_at}
 
 -- the base is below the bound of the sign and below each base that was given up, and the sign's
 -- cell at the base is below each cell that was given up
-pub record IsBelow (lows : List ℕ) (freed dropped sign base : ℕ) : Type 0 where
+pub record IsBelowBounds (lows : List ℕ) (freed dropped sign base : ℕ) : Type 0 where
   pub under_low : base < get_or lows sign 0
   pub under_base : base < dropped
   pub under_cell : base + sign < freed
@@ -17,4 +17,4 @@ NoneFree r sign base = base_at r base ≡ false → sign_at r (base + sign) ≢ 
 -- the cell was given up since
 abbrev pub AreBounds : {V : Type 0} → Row V → List ℕ → ℕ → ℕ → Type 0
 AreBounds r lows freed dropped = (sign base : ℕ) → 0 < base
-    → IsBelow lows freed dropped sign base → NoneFree r sign base
+    → IsBelowBounds lows freed dropped sign base → NoneFree r sign base

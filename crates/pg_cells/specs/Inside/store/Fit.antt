@@ -5,8 +5,8 @@ use Rattle.pg_cells.specs.declared.store.fit.Slot.{Slot}
 use Rattle.pg_cells.specs.Inside.store.Lists.{Row, sign_at, base_at}
 
 -- the signs of slots, in their order
-abbrev pub signs_of : {V : Type 0} → List (Slot V) → List ℕ
-signs_of slots = map (λ s. s.sign) slots
+abbrev pub slot_signs : {V : Type 0} → List (Slot V) → List ℕ
+slot_signs slots = map (λ s. s.sign) slots
 
 -- the slot of a sign
 abbrev pub slot_of : {V : Type 0} → List (Slot V) → ℕ → Option (Slot V)
@@ -17,8 +17,8 @@ abbrev pub fits_row : {V : Type 0} → Row V → List ℕ → ℕ → Bool
 fits_row r signs b = not (base_at r b) && list_all (λ s. nat_eq (sign_at r (b + s)) 0) signs
 
 -- the sign and those of the slots may stand at the base, and the row has their cells
-pub record HasRoom {V : Type 0} (r : Row V) (slots : List (Slot V)) (sign base : ℕ) : Type 0 where
+pub record HasSpace {V : Type 0} (r : Row V) (slots : List (Slot V)) (sign base : ℕ) : Type 0 where
   pub positive : 0 < sign
   pub within : base + sign < length r.signs
-  pub wide : (k : ℕ) → k < length slots → base + slice_index (signs_of slots) k < length r.signs
-  pub fits : fits_row r (sign ∷ signs_of slots) base ≡ true
+  pub wide : (k : ℕ) → k < length slots → base + slice_index (slot_signs slots) k < length r.signs
+  pub fits : fits_row r (sign ∷ slot_signs slots) base ≡ true

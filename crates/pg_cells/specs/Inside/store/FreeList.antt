@@ -1,7 +1,7 @@
 -- The list through the free cells: each free cell once, in rising order. Cell 0 is always free and
 -- is the head of the list; the cell before it is the last one, and 0 ends the list.
 use Rattle.std.specs.Prelude.{◌≡◌, ◌≢◌, ℕ, ◌+◌, ◌<◌, ◌≤◌, false, get_or}
-use Rattle.pg_cells.specs.Inside.store.Lists.{Lists, base_at, before_at, after_at}
+use Rattle.pg_cells.specs.Inside.store.Lists.{LinkedRow, base_at, before_at, after_at}
 
 -- at a free cell S has 0, B the free cell before it, and A the free cell after it
 pub record IsFreeList (S B A : ℕ → ℕ) : Type 0 where
@@ -14,12 +14,12 @@ pub record IsFreeList (S B A : ℕ → ℕ) : Type 0 where
   pub last_most : (j : ℕ) → S j ≡ 0 → j ≤ B 0
 
 -- the free cells of a row are linked, each with the one before it and the one after it
-abbrev pub AreLinked : {V : Type 0} → Lists V → Type 0
+abbrev pub AreLinked : {V : Type 0} → LinkedRow V → Type 0
 AreLinked ls = IsFreeList (λ j. get_or ls.row.signs j 1)
     (λ j. get_or ls.befores j 0) (λ j. get_or ls.afters j 0)
 
 -- the cells below i are free, are no bases, and have the links of a row that is free up to `last`
-pub record IsFreeTo {V : Type 0} (last i : ℕ) (ls : Lists V) : Type 0 where
+pub record IsFreeTo {V : Type 0} (last i : ℕ) (ls : LinkedRow V) : Type 0 where
   pub signs : (j : ℕ) → j < i → get_or ls.row.signs j 1 ≡ 0
   pub bases : (j : ℕ) → j < i → base_at ls.row j ≡ false
   pub first : 0 < i → before_at ls 0 ≡ last

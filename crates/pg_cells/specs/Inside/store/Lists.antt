@@ -12,7 +12,7 @@ pub record Row (V : Type 0) : Type 0 where
   pub bases : List Bool
 
 -- a row, and the links of the free cells
-pub record Lists (V : Type 0) : Type 0 where
+pub record LinkedRow (V : Type 0) : Type 0 where
   pub row : Row V
   pub befores : List ℕ
   pub afters : List ℕ
@@ -60,11 +60,11 @@ module _ {V : Type 0} where
   base_at r cell = get_or r.bases cell false
 
   -- the free cell before a free cell; 0 past the end
-  abbrev pub before_at : Lists V → ℕ → ℕ
+  abbrev pub before_at : LinkedRow V → ℕ → ℕ
   before_at ls cell = get_or ls.befores cell 0
 
   -- the free cell after a free cell, where 0 ends the list; 0 past the end
-  abbrev pub after_at : Lists V → ℕ → ℕ
+  abbrev pub after_at : LinkedRow V → ℕ → ℕ
   after_at ls cell = get_or ls.afters cell 0
 
   -- the sign of a cell; 0 in a free one
@@ -116,19 +116,19 @@ module _ {V : Type 0} where
   }
 
   -- the row of these cells, and the links of the free ones
-  abbrev pub lists : List (Cell V) → Lists (Member V)
-  lists cells = record {
+  abbrev pub linked_row : List (Cell V) → LinkedRow (Member V)
+  linked_row cells = record {
     row = row_of cells;
     befores = map before_seen cells;
     afters = map link_seen cells;
   }
 
-  -- the lists when `before` is set as the free cell before a cell
-  abbrev pub with_before : Lists V → ℕ → ℕ → Lists V
+  -- the linked row when `before` is set as the free cell before a cell
+  abbrev pub with_before : LinkedRow V → ℕ → ℕ → LinkedRow V
   with_before ls cell before = record ls { befores = set ls.befores cell before }
 
-  -- the lists when `after` is set as the free cell after a cell
-  abbrev pub with_after : Lists V → ℕ → ℕ → Lists V
+  -- the linked row when `after` is set as the free cell after a cell
+  abbrev pub with_after : LinkedRow V → ℕ → ℕ → LinkedRow V
   with_after ls cell after = record ls { afters = set ls.afters cell after }
 
   -- the row when a taken cell has this base of a child family

@@ -4,7 +4,7 @@ use Rattle.std.specs.Coded.{Coded, code_by, coded×, coded_ℕ, coded_bool, code
 use Rattle.pg_cells.specs.declared.store.cell.Cell.{Cell}
 use Rattle.pg_cells.specs.declared.store.cell.TheConstants.{CELLS_END, SIGN_COUNT}
 use Rattle.pg_cells.specs.declared.store.member.Member.{Member}
-use Rattle.pg_cells.specs.Inside.store.Lists.{Row, lists, row_of, sign_at, child_at, base_at}
+use Rattle.pg_cells.specs.Inside.store.Lists.{Row, linked_row, row_of, sign_at, child_at, base_at}
 use Rattle.pg_cells.specs.Inside.store.FreeList.{AreLinked}
 use Rattle.pg_cells.specs.Inside.store.BlockedBases.{AreBlocked}
 use Rattle.pg_cells.specs.Inside.store.Bounds.{AreBounds}
@@ -45,7 +45,7 @@ module _ {V : Type 0} where
 module _ {V : Type 0} where
   -- the free cells are linked, `top` is the greatest taken cell, and `taken` cells are taken
   pub record IsKept (cells : List (Cell V)) (top taken : ℕ) : Type 0 where
-    pub linked : AreLinked (lists cells)
+    pub linked : AreLinked (linked_row cells)
     pub small : length cells < CELLS_END
     pub greatest : IsTop (row_of cells).signs top
     pub count : taken ≡ taken_in (row_of cells)

@@ -4,7 +4,7 @@ use Rattle.std.proofs.lemmas.Result.{err_from_is_err_and}
 use Rattle.std.proofs.Common.{arith, ap, length, sym, subst, refl, Option, ◌∙◌}
 use Rattle.std.proofs.lemmas.List.{length_push}
 use Rattle.pg_types.specs.Inside.counting.Counts.{SignsWithin}
-use Rattle.pg_count.specs.Inside.cells.Leaves.{AreLeaves, Keeps}
+use Rattle.pg_count.specs.Inside.cells.Leaves.{AreLeaves, SameTallies}
 use Rattle.pg_count.specs.Inside.WindowRow.{WindowRow}
 use Rattle.pg_count.proofs.WalkLaws.Listing.{put_back}
 use Rattle.pg_count.proofs.LeafLaws.Parting.{keeps_sets, new_leaves, new_sets}
@@ -109,4 +109,4 @@ pub returns-in-Err-clause-sets : goal.returns-in-Err-clause-sets
 returns-in-Err-clause-sets c = tt
 
 pub returns-in-Err-clause-keeps : goal.returns-in-Err-clause-keeps
-returns-in-Err-clause-keeps c = subst (λ (h : ValuedFamilies (Option Tally)). Keeps c.args.cells.now.values h.values) (sym c.in-Err.ensures.err) c.in_ok-cell.ensures.keeps
+returns-in-Err-clause-keeps c = subst (λ (h : ValuedFamilies (Option Tally)). SameTallies c.args.cells.now.values h.values) (sym c.in-Err.ensures.err) c.in_ok-cell.ensures.keeps

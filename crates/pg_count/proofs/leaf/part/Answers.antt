@@ -1,6 +1,6 @@
 use Rattle.pg_count.specs.Inside.Counting.{Tally}
 use Rattle.pg_cells.specs.Inside.linked.ValuedFamilies.{ValuedFamilies}
-use Rattle.pg_count.specs.Inside.cells.Leaves.{AreLeaves, Keeps}
+use Rattle.pg_count.specs.Inside.cells.Leaves.{AreLeaves, SameTallies}
 use Rattle.std.proofs.lemmas.Option.{slice_get_within}
 use Rattle.std.proofs.lemmas.Result.{err_from_is_err_and}
 use Rattle.std.proofs.Common.{◌≡◌, take, get_or, refl, ap, sym, subst, ◌∙◌, arith, length, ◌++◌, Option}
@@ -159,7 +159,7 @@ returns-in_err-cell c =
     let err = err_from_is_err_and c.from_residual.result c.from_residual.ensures.1 in
     record {
       leaves = subst (λ h. AreLeaves h c.args.windows.now.items (length c.args.window.now)) (sym c.in_err-cell.ensures.err) i.leaves;
-      keeps = subst (λ (h : ValuedFamilies (Option Tally)). Keeps c.args.cells.now.values h.values) (sym c.in_err-cell.ensures.err) i.keeps;
+      keeps = subst (λ (h : ValuedFamilies (Option Tally)). SameTallies c.args.cells.now.values h.values) (sym c.in_err-cell.ensures.err) i.keeps;
       signs = ap (λ (h : ValuedFamilies (Option Tally)). h.signs) c.in_err-cell.ensures.err ∙ i.signs;
       way = rw err.1 tt;
     }
@@ -170,7 +170,7 @@ returns-in_err-push_down c =
     let err = err_from_is_err_and c.from_residual-in_err-push_down.result c.from_residual-in_err-push_down.ensures.1 in
     record {
       leaves = subst (λ h. AreLeaves h c.args.windows.now.items (length c.args.window.now)) (sym c.in_err-push_down.ensures.err) i.leaves;
-      keeps = subst (λ (h : ValuedFamilies (Option Tally)). Keeps c.args.cells.now.values h.values) (sym c.in_err-push_down.ensures.err) i.keeps;
+      keeps = subst (λ (h : ValuedFamilies (Option Tally)). SameTallies c.args.cells.now.values h.values) (sym c.in_err-push_down.ensures.err) i.keeps;
       signs = ap (λ (h : ValuedFamilies (Option Tally)). h.signs) c.in_err-push_down.ensures.err ∙ i.signs;
       way = rw err.1 tt;
     }

@@ -55,12 +55,12 @@ abbrev pub HasTally : Tallies → Tally → Type 0
 HasTally tallies t = (q : List ℕ) × (find (slice_cmp nat_cmp) q tallies ≡ Some (Some t))
 
 -- the tallies are the same, whatever their strings
-pub record Keeps (old new : Tallies) : Type 0 where
+pub record SameTallies (old new : Tallies) : Type 0 where
   pub keeps : (t : Tally) → HasTally old t → HasTally new t
   pub back : (t : Tally) → HasTally new t → HasTally old t
 
 -- some string has this tally, and the tallies with other numbers stay
-pub record Sets (old new : Tallies) (t : Tally) : Type 0 where
+pub record SetsTally (old new : Tallies) (t : Tally) : Type 0 where
   pub here : HasTally new t
   pub keeps : (v : Tally) → v.0 ≢ t.0 → HasTally old v → HasTally new v
   pub back : (v : Tally) → v.0 ≢ t.0 → HasTally new v → HasTally old v
@@ -89,7 +89,7 @@ pub record PushesDown (old new : ValuedFamilies (Option Tally)) (q : List ℕ) (
   pub size : length (numbers_in new.values) ≡ length (numbers_in old.values)
 
 -- the cell is that of a prefix of w, which is not counted and below which there is no other
-pub record IsFree (h : ValuedFamilies (Option Tally)) (w : List ℕ) (cell : ℕ) : Type 0 where
+pub record IsFreePrefix (h : ValuedFamilies (Option Tally)) (w : List ℕ) (cell : ℕ) : Type 0 where
   pub string : List ℕ
   pub rest : List ℕ
   pub whole : w ≡ string ++ rest

@@ -2,7 +2,7 @@
 use Rattle.std.specs.Prelude.{◌≡◌, ◌<◌, ◌≤◌, ◌+◌, ◌-◌, ℕ, List, ◌∷◌, length, None, Result, Ok, Err}
 use Rattle.pg_types.specs.declared.limits.TheConstants.{WEIGHT_MAX, WORD_LETTERS_MAX}
 use Rattle.pg_types.specs.declared.refusals.Refusal.{Refusal}
-use Rattle.pg_types.specs.Reading.{unless}
+use Rattle.pg_types.specs.ValuesOrRefusals.{unless}
 use Rattle.pg_translate.specs.Alphabets.{Alphabet, letters_of}
 use Rattle.pg_translate.specs.Tokens.{Letter}
 use Rattle.pg_translate.specs.Cuts.{tokens_of}

@@ -6,7 +6,7 @@ use Rattle.pg_types.specs.declared.marks.Mark.{Mark}
 use Rattle.pg_types.specs.declared.marks.Mark.TheVariants.{Nothing}
 use Rattle.pg_translate.specs.Tokens.{Token, Letter, Digit, Weight, Marked, Edge}
 use Rattle.pg_dict.specs.Inside.Lines.PositionedSigns.{PositionedSign, positioned_sign}
-use Rattle.pg_dict.specs.Inside.SoundWords.{word_with}
+use Rattle.pg_dict.specs.Inside.SoundWords.{word_of_signs}
 use Rattle.pg_dict.specs.Inside.LineWords.{LineWord}
 
 -- the signs behind a letter with the positions before them, up to the last edge
@@ -30,9 +30,9 @@ word_signs weight sign items =
 abbrev pub running_word : ℕ → List Token → LineWord
 running_word weight [] = record { word = None; weight = weight }
 running_word weight (Letter s ∷ items) =
-    record { word = Some (word_with weight (word_signs weight s items)); weight = weight }
+    record { word = Some (word_of_signs weight (word_signs weight s items)); weight = weight }
 running_word weight (Digit n ∷ items) = running_word n items
 running_word weight (Weight n ∷ items) = running_word n items
 running_word weight (Marked m ∷ items) = running_word weight items
 running_word weight (Edge ∷ items) =
-    record { word = Some (word_with weight (word_signs weight EDGE items)); weight = weight }
+    record { word = Some (word_of_signs weight (word_signs weight EDGE items)); weight = weight }

@@ -1,6 +1,6 @@
 use Rattle.std.proofs.Common.{◌≡◌, ◌+◌, ◌*◌, ◌^◌, ◌≤◌, ◌++◌, List}
 use Rattle.pg_driver.specs.Inside.counting.LevelCounting.{IsCounted, IsReady}
-use Rattle.pg_driver.specs.Inside.level.Levels.{IsAt, LevelStart, WillCount, all_made_by, point}
+use Rattle.pg_driver.specs.Inside.level.Levels.{IsPointAt, LevelStart, WillCount, all_made_by, point}
 use Rattle.pg_driver.specs.Inside.records.RunAccounts.{known_of}
 use Rattle.pg_driver.specs.Traces.{PassTrace, source_of}
 use Rattle.pg_driver.specs.Inside.level.Passes.{known_at_end, passes_of_length}
@@ -14,7 +14,7 @@ invariant-dots g l =
     let source = source_of l.table l.dictionary in
     let all = all_made_by source l.params m0 (passes_of_length l.number l.len) in
     record {
-      reaches : (start : LevelStart) (ps : List PassTrace) → IsAt source l.number l.len start ps (point m0 l.fn.records l.fn.skippable)
+      reaches : (start : LevelStart) (ps : List PassTrace) → IsPointAt source l.number l.len start ps (point m0 l.fn.records l.fn.skippable)
           → Reaches source l.params l.number l.len start m l.records l.skippable (passes_from l.number l.len l.k l.end) (ps ++ all) (known_at_end (known_of m0) all);
       ready : IsReady source l.number l.len (known_of m) l.counting;
       here : l.skippable.here ≡ l.fn.skippable.here;

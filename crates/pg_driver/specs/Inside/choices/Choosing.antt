@@ -28,13 +28,13 @@ with_candidates params n cs = record {
 }
 
 -- the pass that an engine is in, with these candidates
-abbrev pub pass_with : LevelParams → Meaning → List Candidate → PassTrace
-pass_with params m cs =
+abbrev pub engine_pass : LevelParams → Meaning → List Candidate → PassTrace
+engine_pass params m cs =
     record { pass = m.pass; params = params; before = known_of m; candidates = cs }
 
 -- these candidates of the pass that the engine is in were chosen, made hopeless or left
 pub record HasChosen (params : LevelParams) (cs : List Candidate) (old new : Meaning) : Type 0 where
-  pub state : state_of new ≡ state_after old.signs old.families (pass_with params old cs)
+  pub state : state_of new ≡ state_after old.signs old.families (engine_pass params old cs)
   pub kept : new ≡ record old {
     patterns = new.patterns;
     hopeless = new.hopeless;

@@ -8,8 +8,8 @@ use Rattle.pg_types.specs.declared.limits.TheConstants.{WEIGHT_MAX, FILE_MAX}
 use Rattle.pg_dict.specs.Word.{Word}
 use Rattle.pg_dict.specs.Inside.SoundWords.{IsWord, letter_count}
 use Rattle.pg_types.specs.Inside.counting.Counts.{Counts, SignsWithin}
-use Rattle.pg_types.specs.Inside.counting.NumberedWindows.{Windows, with_window}
-use Rattle.pg_select.specs.Inside.laws.Laws.{AreFew, positions_in}
+use Rattle.pg_types.specs.Inside.counting.NumberedWindows.{Windows, with_next_window}
+use Rattle.pg_select.specs.Inside.laws.Laws.{AreFew, number_of_positions}
 use Rattle.pg_select.specs.Inside.engine.Meanings.{Meaning, with_position}
 use Rattle.pg_select.specs.Inside.words.Positions.{Positions, HasValues, HasCovers}
 use Rattle.pg_select.specs.CountedPositions.{CountedPosition}
@@ -19,7 +19,7 @@ use Rattle.pg_driver.specs.Traces.{Source}
 abbrev pub windows_after : Windows → Counts → List CountedPosition → Windows
 windows_after windows counts [] = windows
 windows_after windows counts (s ∷ seen) =
-    windows_after (with_window windows counts s.window) (with_position counts s) seen
+    windows_after (with_next_window windows counts s.window) (with_position counts s) seen
 
 -- what an engine means after more positions are counted
 abbrev pub meaning_after_counting : Meaning → List CountedPosition → Meaning
@@ -38,7 +38,7 @@ pub record IsRead (m : Meaning) (w : Word) (at : Positions) : Type 0 where
 -- the words are few, and have together no more positions in reach than letters
 pub record IsBounded (source : Source) : Type 0 where
   pub few : AreFew source.words
-  pub reached : positions_in source.minima source.words ≤ sum_by letter_count source.words
+  pub reached : number_of_positions source.minima source.words ≤ sum_by letter_count source.words
 
 -- whether the window of an entry has a sign
 abbrev pub is_filled : List ℕ × (ℕ × ℕ) → Bool

@@ -81,13 +81,13 @@ IsCounted (Open o) = Unit {0}
 IsCounted (EachWord e) = e.is_counted ≡ true
 
 -- the totals that a way to count carries
-abbrev pub totals_in : WayToCount → Totals
-totals_in (Open o) = o.totals
-totals_in (EachWord e) = e.totals
+abbrev pub totals_carried : WayToCount → Totals
+totals_carried (Open o) = o.totals
+totals_carried (EachWord e) = e.totals
 
 -- the totals that it carries are those by the patterns, and small
 abbrev pub TellsTotals : Source → Patterns → WayToCount → Type 0
-TellsTotals source P c = (totals_in c ≡ totals_by source P) × IsSmall (totals_in c)
+TellsTotals source P c = (totals_carried c ≡ totals_by source P) × IsSmall (totals_carried c)
 
 -- the open dots have a bit for each sign of the words; or, if each word is hyphenated, the listed
 -- positions lie in the words, and are at most FILE_MAX

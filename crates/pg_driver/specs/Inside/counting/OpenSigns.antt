@@ -17,7 +17,7 @@ use Rattle.pg_select.specs.declared.choice.Choice.TheVariants.{Hopeless as Given
 use Rattle.pg_select.specs.declared.pass.Pass.{Pass}
 use Rattle.pg_select.specs.Inside.Choices.{choice}
 use Rattle.pg_select.specs.CountedPositions.{Minima, counts_as}
-use Rattle.pg_select.specs.Inside.laws.ClosedDots.{Tells}
+use Rattle.pg_select.specs.Inside.laws.ClosedDots.{TellCounted}
 use Rattle.pg_select.specs.Inside.laws.Steps.{CoversUpTo, IsUpTo}
 use Rattle.pg_select.specs.Statuses.{status_at}
 use Rattle.pg_select.specs.Windows.{Hopeless, window, fits}
@@ -84,7 +84,7 @@ AreNever m words among = (n p : ℕ) (w : Word) → slice_get words n ≡ Some w
 -- at a length the closed dots of a position tell what counts there; out of reach all are closed
 pub record DotsTell (level len : ℕ) (m : Minima) (P : Patterns) (H : Hopeless) (w : Word) (p : ℕ)
     (closed : ℕ → Bool) : Type 0 where
-  pub inside : is_in_reach m w p ≡ true → Tells level len P H w p closed
+  pub inside : is_in_reach m w p ≡ true → TellCounted level len P H w p closed
   pub outside : is_in_reach m w p ≡ false → (d : ℕ) → d ≤ LENGTH_MAX → closed d ≡ true
 
 -- how far a level is: no string that covers is longer than the length, no value above the level, and

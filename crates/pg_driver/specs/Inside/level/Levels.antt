@@ -18,7 +18,7 @@ use Rattle.pg_driver.specs.Accounts.{has_candidate, begun_count}
 use Rattle.pg_driver.specs.Inside.records.AccountLines.{pass_line, pass_lines, chosen_by, level_line, is_skippable, begun_among}
 use Rattle.pg_driver.specs.Layouts.{after_level}
 use Rattle.pg_driver.specs.Inside.records.CellsAccounts.{pass_layouts, levels_with_families, level_layout}
-use Rattle.pg_driver.specs.Inside.records.RunAccounts.{known_of, line_of, level_line_of, layout_of_pass, layout_of_level}
+use Rattle.pg_driver.specs.Inside.records.RunAccounts.{known_of, line_of, level_line_of, pass_record_layout, level_record_layout}
 use Rattle.pg_driver.specs.Inside.records.Sound.{RunRecords}
 use Rattle.pg_driver.specs.Inside.level.States.{State, state_of, state_at_end}
 
@@ -32,8 +32,8 @@ pub record AreRecorded (source : Source) (signs : ℕ)
     (families : Option Families) (ps : List PassTrace) (old new : RunRecords) : Type 0 where
   pub lines : map line_of new.passes
       ≡ map line_of old.passes ++ map (pass_line source) (filter has_candidate ps)
-  pub layouts : map layout_of_pass new.passes
-      ≡ map layout_of_pass old.passes ++ layouts_in signs families ps
+  pub layouts : map pass_record_layout new.passes
+      ≡ map pass_record_layout old.passes ++ layouts_in signs families ps
   pub chosen : new.chosen ≡ old.chosen + chosen_by ps
   pub begun : new.begun ≡ old.begun + length (begun_among ps)
   pub levels : new.levels ≡ old.levels
@@ -60,7 +60,7 @@ abbrev pub is_set : List Bool → ℕ → Bool
 is_set flags dot = slice_index_or flags dot false
 
 -- after these passes the flags tell which passes of this length and of the next are skippable
-pub record Tells (number len : ℕ) (flags : SkipFlags) (ps : List PassTrace) : Type 0 where
+pub record TellSkippable (number len : ℕ) (flags : SkipFlags) (ps : List PassTrace) : Type 0 where
   pub here : (dot : ℕ) → is_skippable ps (record { level = number; len = len; dot = dot })
       ≡ is_set flags.here dot
   pub longer : (dot : ℕ) → is_skippable ps (record { level = number; len = len + 1; dot = dot })
@@ -69,8 +69,8 @@ pub record Tells (number len : ℕ) (flags : SkipFlags) (ps : List PassTrace) : 
       → is_skippable ps (record { level = number; len = n; dot = dot }) ≡ false
 
 -- where this is known, each skippable pass of the level counts no window
-abbrev pub CountNothing : Source → ℕ → List PassTrace → Knowledge → Type 0
-CountNothing source number ps known = (len dot : ℕ)
+abbrev pub SkippableCountNothing : Source → ℕ → List PassTrace → Knowledge → Type 0
+SkippableCountNothing source number ps known = (len dot : ℕ)
     → is_skippable ps (record { level = number; len = len; dot = dot }) ≡ true
     → CountsNothing source.minima source.words
     (record { level = number; len = len; dot = dot }) known.patterns known.hopeless
@@ -91,20 +91,20 @@ pub record LevelStart : Type 0 where
   pub records : RunRecords
 
 -- these passes lead from the start of a level to this point at a length
-pub record IsAt (source : Source) (number len : ℕ)
+pub record IsPointAt (source : Source) (number len : ℕ)
     (start : LevelStart) (ps : List PassTrace) (at : Point) : Type 0 where
   pub signs : at.engine.signs ≡ start.engine.signs
   pub state : state_of at.engine ≡ state_at_end start.engine.signs (state_of start.engine) ps
   pub records : AreRecorded source start.engine.signs start.engine.families ps
       start.records at.records
   pub short : list_all (λ p. nat_le p.pass.len len) ps ≡ true
-  pub tells : Tells number len at.flags ps
-  pub skippable : CountNothing source number ps (known_of at.engine)
+  pub tells : TellSkippable number len at.flags ps
+  pub skippable : SkippableCountNothing source number ps (known_of at.engine)
 
 -- further passes lead from one point at a length to another
 abbrev pub GoesOn : Source → ℕ → ℕ → List PassTrace → Point → Point → Type 0
 GoesOn source number len more old new = (start : LevelStart) (ps : List PassTrace)
-    → IsAt source number len start ps old → IsAt source number len start (ps ++ more) new
+    → IsPointAt source number len start ps old → IsPointAt source number len start (ps ++ more) new
     × (known_of new.engine ≡ known_at_end (known_of old.engine) more)
 
 -- the passes that are made from what an engine knows
@@ -125,11 +125,11 @@ pub record DidLevel (source : Source) (l : LevelTrace)
   pub state : state_of new ≡ state_after_level old.signs old.families l
   pub lines : map line_of s.passes
       ≡ map line_of r.passes ++ map (pass_line source) (filter has_candidate l.passes)
-  pub layouts : map layout_of_pass s.passes
-      ≡ map layout_of_pass r.passes ++ layouts_in old.signs old.families l.passes
+  pub layouts : map pass_record_layout s.passes
+      ≡ map pass_record_layout r.passes ++ layouts_in old.signs old.families l.passes
   pub levels : map level_line_of s.levels ≡ map level_line_of r.levels ++ level_line source l ∷ []
-  pub level_layouts : map layout_of_level s.levels
-      ≡ map layout_of_level r.levels ++ option_map
+  pub level_layouts : map level_record_layout s.levels
+      ≡ map level_record_layout r.levels ++ option_map
       (λ fs. level_layout old.signs fs l) old.families ∷ []
   pub begun : s.begun ≡ r.begun + length (begun_among l.passes)
 
@@ -158,7 +158,7 @@ pub record DidRun (source : Source) (run : Trace)
     (old new : Meaning) (r : RunRecords) : Type 0 where
   pub state : state_of new ≡ state_after_run old.signs old.patterns old.families run
   pub lines : map line_of r.passes ≡ flat_map (pass_lines source) run
-  pub layouts : map layout_of_pass r.passes ≡ run_layouts old.signs old.families run
+  pub layouts : map pass_record_layout r.passes ≡ run_layouts old.signs old.families run
   pub levels : map level_line_of r.levels ≡ map (level_line source) run
-  pub level_layouts : map layout_of_level r.levels ≡ level_layouts old.signs old.families run
+  pub level_layouts : map level_record_layout r.levels ≡ level_layouts old.signs old.families run
   pub begun : r.begun ≡ begun_count run

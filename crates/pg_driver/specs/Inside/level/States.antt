@@ -13,7 +13,7 @@ use Rattle.pg_driver.specs.Traces.{Knowledge, Source, PassTrace, known_after, pa
 use Rattle.pg_driver.specs.Inside.level.Passes.{known_at_end}
 use Rattle.pg_driver.specs.Inside.records.AccountLines.{pass_line}
 use Rattle.pg_driver.specs.Layouts.{after_pass}
-use Rattle.pg_driver.specs.Inside.records.RunAccounts.{known_of, line_of, layout_of_pass}
+use Rattle.pg_driver.specs.Inside.records.RunAccounts.{known_of, line_of, pass_record_layout}
 
 -- what an engine knows, and the families of its strings, where they are told
 pub record State : Type 0 where
@@ -61,5 +61,5 @@ pub record DidPass (source : Source) (params : LevelParams)
     (pass : Pass) (old new : Meaning) (r : PassRecord) : Type 0 where
   pub state : state_of new ≡ state_after old.signs old.families (made_by source params old pass)
   pub line : line_of r ≡ pass_line source (made_by source params old pass)
-  pub layout : layout_of_pass r ≡ option_map (λ fs. (pass, taken_count fs, top fs)) new.families
+  pub layout : pass_record_layout r ≡ option_map (λ fs. (pass, taken_count fs, top fs)) new.families
   pub begun : new.begun ≡ old.begun + 1

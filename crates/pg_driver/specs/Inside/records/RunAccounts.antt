@@ -75,18 +75,18 @@ account_of r = record {
 }
 
 -- what a record of a pass tells of the cells, where it has a layout; nothing is said of the tails
-abbrev pub layout_of_pass : PassRecord → Option (Pass × ℕ × ℕ)
-layout_of_pass r = option_map
+abbrev pub pass_record_layout : PassRecord → Option (Pass × ℕ × ℕ)
+pass_record_layout r = option_map
     (λ l. (record { level = r.level; len = r.len; dot = r.dot }, l.taken, l.top)) r.layout
 
 -- what a record of a level tells of the cells, where it has a layout
-abbrev pub layout_of_level : LevelRecord → Option (ℕ × Layout)
-layout_of_level r = option_map (λ l. (r.level, l)) r.layout
+abbrev pub level_record_layout : LevelRecord → Option (ℕ × Layout)
+level_record_layout r = option_map (λ l. (r.level, l)) r.layout
 
 -- the layouts that a run tells are those of the account, and none where there is no account
 abbrev pub TellsCells : Option CellsAccount → CompletedRun → Type 0
 TellsCells (Some a) r = (r.first_layout ≡ Some a.start)
-    × (map layout_of_pass r.passes ≡ map Some a.passes)
-    × (map layout_of_level r.levels ≡ map Some a.levels)
+    × (map pass_record_layout r.passes ≡ map Some a.passes)
+    × (map level_record_layout r.levels ≡ map Some a.levels)
 TellsCells None r = (r.first_layout ≡ None) × All (λ p. p.layout ≡ None) r.passes
     × All (λ l. l.layout ≡ None) r.levels

@@ -168,8 +168,8 @@ abbrev pub LeadsToNone : List ℕ → Disk → Type 0
 LeadsToNone name disk = id_at disk name ≡ None
 
 -- the name is a link or leads to a file, so that no file can be made under it
-abbrev pub IsTaken : List ℕ → Disk → Type 0
-IsTaken name disk = (disk.links.is_link name ≡ true) ⊎ ((id : FileId) × LeadsTo name id disk)
+abbrev pub IsNameTaken : List ℕ → Disk → Type 0
+IsNameTaken name disk = (disk.links.is_link name ≡ true) ⊎ ((id : FileId) × LeadsTo name id disk)
 
 -- this is what the name is, before a link is followed
 abbrev pub IsKindOf : List ℕ → NameKind → Disk → Type 0

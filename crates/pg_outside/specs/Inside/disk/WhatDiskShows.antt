@@ -22,13 +22,13 @@ has_none [] = true
 has_none (name ∷ names) = false
 
 -- the files are told where the disk is known to be plain, and the system has refused no removal
-abbrev pub is_shown : Disk → Bool
-is_shown disk = disk.links.is_plain && has_none disk.refused
+abbrev pub tells_files : Disk → Bool
+tells_files disk = disk.links.is_plain && has_none disk.refused
 
 -- the bytes of each name of a disk that is told, where its files are told too
 abbrev pub held_of : Option DiskHistory → Option FileMap
 held_of None = None
-held_of (Some told) = cond (is_shown told.now) (Some (file_map told.now)) None
+held_of (Some told) = cond (tells_files told.now) (Some (file_map told.now)) None
 
 -- the count of all faults: of reads and of writes, of all names together
 abbrev pub all_faults : {S File : Type 0} → DiskFiles S File → ℕ

@@ -5,7 +5,7 @@ use Rattle.pg_outside.specs.declared.disk.links.TheConstants.{LINK_NAMES_MAX}
 use Rattle.pg_outside.specs.declared.disk.new_file.TheConstants.{NEW_NAMES_MAX}
 use Rattle.pg_outside.specs.Faults.{next_count}
 use Rattle.pg_outside.specs.Inside.disk.Causes.{IsCauseOf}
-use Rattle.pg_outside.specs.Inside.disk.Disks.{Node, Disk, DiskHistory, AreOne, LeadsTo, LeadsToNone, AppendsBytes, AppendsFront, IsTaken, HoldsNow, id_at, node_at}
+use Rattle.pg_outside.specs.Inside.disk.Disks.{Node, Disk, DiskHistory, AreOne, LeadsTo, LeadsToNone, AppendsBytes, AppendsFront, IsNameTaken, HoldsNow, id_at, node_at}
 use Rattle.pg_outside.specs.Inside.disk.NewNames.{IsFolderOf, new_name}
 use Rattle.pg_outside.specs.Inside.disk.WhatDiskShows.{all_faults}
 use Rattle.pg_outside.specs.declared.disk.files.DiskFiles.{DiskFiles}
@@ -148,7 +148,7 @@ pub record AreAllTaken (name : List ℕ) (disk : Disk) : Type 0 where
   pub folder : List ℕ
   pub is_folder : IsFolderOf folder name
   pub taken : (counted : ℕ) → counted < NEW_NAMES_MAX
-      → IsTaken (new_name folder counted) disk ⊎ (name ≡ new_name folder counted)
+      → IsNameTaken (new_name folder counted) disk ⊎ (name ≡ new_name folder counted)
 
 -- there is no name for a new file beside what the name leads to
 pub record IsFull (name : List ℕ) (disk : Disk) : Type 0 where

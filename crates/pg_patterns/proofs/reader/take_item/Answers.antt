@@ -3,7 +3,7 @@ use Rattle.std.proofs.lemmas.Result.{err_from_is_err_and}
 use Rattle.pg_types.specs.declared.limits.TheConstants.{EDGE}
 use Rattle.pg_types.specs.declared.refusals.Kind.TheVariants.{PatternTooLong}
 use Rattle.pg_translate.specs.Alphabets.{letters_of}
-use Rattle.pg_types.specs.Reading.{refusal_at}
+use Rattle.pg_types.specs.ValuesOrRefusals.{refusal_at}
 use Rattle.pg_translate.specs.Tokens.{Letter, Edge}
 use Rattle.pg_patterns.specs.Inside.Drafts.{IsDraft, draft_left}
 use Rattle.pg_patterns.proofs.Steps.{sign_step, sign_refused, keeps_sign}

@@ -10,16 +10,16 @@ use Rattle.pg_select.specs.CountedPositions.{Minima}
 use Rattle.pg_prune.specs.declared.positions.trail.Start.{Start}
 
 -- the signs of the word with this number, counted from 0
-abbrev pub signs_of : List Word → ℕ → List ℕ
-signs_of ws i = option_map_or (λ (w : Word). w.signs) (slice_get ws i) []
+abbrev pub signs_of_word : List Word → ℕ → List ℕ
+signs_of_word ws i = option_map_or (λ (w : Word). w.signs) (slice_get ws i) []
 
 -- how many positions there are from the first of these ends to the last
-abbrev pub position_count : Option (ℕ × ℕ) → ℕ
-position_count r = option_map_or (λ ends. ends.1 + 1 - ends.0) r 0
+abbrev pub count_between : Option (ℕ × ℕ) → ℕ
+count_between r = option_map_or (λ ends. ends.1 + 1 - ends.0) r 0
 
 -- how many positions in reach a word with so many signs has
 abbrev pub reach_count : Minima → ℕ → ℕ
-reach_count m len = position_count (reach m.left m.right len)
+reach_count m len = count_between (reach m.left m.right len)
 
 -- a start at a sign of a word
 abbrev pub start_at : ℕ → ℕ → ℕ → Start
@@ -43,16 +43,16 @@ all_starts m ws = starts_from m 0 0 ws
 pub record IsStart (ws : List Word) (s : Start) : Type 0 where
   pub word : s.word < length ws
   pub before : s.before ≤ FILE_MAX
-  pub at : s.at < length (signs_of ws s.word)
+  pub at : s.at < length (signs_of_word ws s.word)
 
 -- whether a string begins at a start
 abbrev pub begins_at : List Word → List ℕ → Start → Bool
-begins_at ws u s = stands_at u (signs_of ws s.word) s.at
+begins_at ws u s = stands_at u (signs_of_word ws s.word) s.at
 
 -- whether a sign follows so many signs behind a start
 abbrev pub continues_with : List Word → ℕ → ℕ → Start → Bool
-continues_with ws len sign s = nat_lt (s.at + len) (length (signs_of ws s.word))
-    && nat_eq (slice_index (signs_of ws s.word) (s.at + len)) sign
+continues_with ws len sign s = nat_lt (s.at + len) (length (signs_of_word ws s.word))
+    && nat_eq (slice_index (signs_of_word ws s.word) (s.at + len)) sign
 
 -- the starts of a string
 abbrev pub starts_of : List Word → List Start → List ℕ → List Start
@@ -67,17 +67,17 @@ abbrev pub IsTrail : List Word → List Start → List ℕ → List (List Start)
 IsTrail ws all u lists = lists ≡ trail_upto ws all u (length u)
 
 -- the last list, or all starts where there is none
-abbrev pub last_of : List Start → List (List Start) → List Start
-last_of all lists = if nat_eq (length lists) 0 then all
+abbrev pub last_list : List Start → List (List Start) → List Start
+last_list all lists = if nat_eq (length lists) 0 then all
     else slice_index_or lists (length lists - 1) []
 
 -- the number of a position of a word that has so many positions before it; none out of reach
-abbrev pub number_in : Option (ℕ × ℕ) → ℕ → ℕ → Option ℕ
-number_in None before p = None
-number_in (Some ends) before p = if nat_le ends.0 p && nat_le p ends.1
+abbrev pub position_number : Option (ℕ × ℕ) → ℕ → ℕ → Option ℕ
+position_number None before p = None
+position_number (Some ends) before p = if nat_le ends.0 p && nat_le p ends.1
     then Some (before + (p - ends.0)) else None
 
 -- the number of the position at which the dot of a string stands
 abbrev pub number_at_dot : Minima → List Word → ℕ → Start → Option ℕ
-number_at_dot m ws dot s = number_in (reach m.left m.right (length (signs_of ws s.word))) s.before
-    (s.at + dot)
+number_at_dot m ws dot s = position_number
+    (reach m.left m.right (length (signs_of_word ws s.word))) s.before (s.at + dot)

@@ -3,14 +3,14 @@ use Rattle.std.specs.Prelude.{ℕ, ◌+◌, List, [], ◌∷◌, ◌++◌, lengt
 use Rattle.pg_translate.specs.Reach.{positions}
 use Rattle.pg_dict.specs.Word.{Word}
 use Rattle.pg_select.specs.CountedPositions.{Minima}
-use Rattle.pg_prune.specs.Positions.{WordPosition}
+use Rattle.pg_prune.specs.Positions.{PositionInReach}
 
 -- the positions in reach of the word with this number
-abbrev pub positions_in : Minima → ℕ → Word → List WordPosition
+abbrev pub positions_in : Minima → ℕ → Word → List PositionInReach
 positions_in m number w = map (λ p. record { word = number; signs = w.signs; position = p })
     (positions m.left m.right (length w.signs))
 
 -- the positions in reach of words, the first of which has this number
-abbrev pub positions_from : Minima → ℕ → List Word → List WordPosition
+abbrev pub positions_from : Minima → ℕ → List Word → List PositionInReach
 positions_from m number [] = []
 positions_from m number (w ∷ ws) = positions_in m number w ++ positions_from m (number + 1) ws

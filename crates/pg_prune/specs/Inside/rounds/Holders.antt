@@ -3,15 +3,15 @@ use Rattle.std.specs.Prelude.{ℕ, ◌+◌, ◌-◌, ◌%◌, Bool, ◌&&◌, na
 use Rattle.std.specs.List.{range_with_len}
 use Rattle.pg_types.specs.declared.limits.TheConstants.{LEVEL_MAX}
 use Rattle.pg_patterns.specs.Values.{Patterns}
-use Rattle.pg_prune.specs.Positions.{WordPosition}
+use Rattle.pg_prune.specs.Positions.{PositionInReach}
 use Rattle.pg_prune.specs.Inside.positions.Standing.{stands}
 
 -- how many entries of a map stand at a position and have this value
-abbrev pub count_at : Patterns → WordPosition → ℕ → ℕ
+abbrev pub count_at : Patterns → PositionInReach → ℕ → ℕ
 count_at Q x v = count_by (λ e. stands e x && nat_eq e.1 v) Q
 
 -- how many entries of a map stand at a position and have the value 1, 2 and so on to 9
-abbrev pub holder_counts : Patterns → WordPosition → List ℕ
+abbrev pub holder_counts : Patterns → PositionInReach → List ℕ
 holder_counts Q x = map (count_at Q x) (range_with_len 1 LEVEL_MAX)
 
 -- the greatest value that some entry gives: `best` is that up to v, and the numbers say how many

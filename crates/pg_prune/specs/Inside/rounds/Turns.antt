@@ -3,13 +3,13 @@ use Rattle.std.specs.Prelude.{◌≡◌, ℕ, ◌<◌, true, List, ◌∷◌, �
 use Rattle.std.specs.List.{list_all}
 use Rattle.pg_patterns.specs.Values.{Patterns}
 use Rattle.pg_patterns.specs.Inside.PatternMaps.{is_entry}
-use Rattle.pg_prune.specs.Positions.{WordPosition}
+use Rattle.pg_prune.specs.Positions.{PositionInReach}
 use Rattle.pg_prune.specs.Inside.positions.Standing.{positions_of_entry}
 use Rattle.pg_prune.specs.Inside.rounds.Holders.{holder_counts}
 
 -- an entry between others
 pub record Turn : Type 0 where
-  pub positions : List WordPosition
+  pub positions : List PositionInReach
   pub before : Patterns
   pub entry : (List ℕ × ℕ) × ℕ
   pub behind : Patterns
@@ -23,7 +23,7 @@ abbrev pub without_entry : Turn → Patterns
 without_entry t = t.before ++ t.behind
 
 -- these numbers of holders are those of the map at each position
-abbrev pub IsTallied : List WordPosition → Patterns → List (List ℕ) → Type 0
+abbrev pub IsTallied : List PositionInReach → Patterns → List (List ℕ) → Type 0
 IsTallied positions Q holders = holders ≡ map (holder_counts Q) positions
 
 -- the entry stands at the positions with these numbers, and has this value
@@ -45,7 +45,7 @@ pub record IsAwaited (t : Turn) (holders : List (List ℕ))
   pub room : length (without_entry t) < 2 ^ 64 - 1
 
 -- the position with this number is found
-pub record IsFound (positions : List WordPosition) (found : Option WordPosition)
+pub record IsFound (positions : List PositionInReach) (found : Option PositionInReach)
     (number : ℕ) : Type 0 where
   pub within : number < length positions
-  pub position : (d : WordPosition) → found ≡ Some (slice_index_or positions number d)
+  pub position : (d : PositionInReach) → found ≡ Some (slice_index_or positions number d)

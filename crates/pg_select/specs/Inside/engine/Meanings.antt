@@ -7,7 +7,7 @@ use Rattle.std.specs.Cmp.Lexicographic.{slice_cmp}
 use Rattle.std.specs.FinMap.Entries.{put, is_sorted}
 use Rattle.pg_types.specs.declared.marks.Layout.{Layout}
 use Rattle.pg_types.specs.Inside.counting.Counts.{Counts, SignsWithin, with_count, is_counted}
-use Rattle.pg_types.specs.Inside.counting.NumberedWindows.{Windows, AreNumbered, with_window}
+use Rattle.pg_types.specs.Inside.counting.NumberedWindows.{Windows, AreNumbered, with_next_window}
 use Rattle.pg_types.specs.Placement.{Families, taken_count, top, enter, kept_families}
 use Rattle.pg_types.specs.Tails.{tails}
 use Rattle.pg_patterns.specs.DottedSigns.{dotted_cmp}
@@ -30,7 +30,7 @@ pub record Meaning : Type 0 where
   pub tidy : Bool
 
 -- what every engine keeps: its maps stand in order, each value is 1 to 9, and each sign is in range
-pub record IsKept (m : Meaning) : Type 0 where
+pub record IsMeaning (m : Meaning) : Type 0 where
   pub patterns : IsPatternMap m.patterns
   pub hopeless_order : T (is_sorted dotted_cmp m.hopeless)
   pub counts_order : T (is_sorted (slice_cmp nat_cmp) m.counts)
@@ -72,7 +72,7 @@ abbrev pub after_count : Meaning → List ℕ → Bool → ℕ → Meaning
 after_count m u good weight =
     record m {
       counts = with_position m.counts (record { window = u; good = good; weight = weight });
-      windows = with_window m.windows m.counts u;
+      windows = with_next_window m.windows m.counts u;
     }
 
 -- the families after a string is entered, where they are told

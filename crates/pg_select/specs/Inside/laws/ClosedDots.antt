@@ -29,8 +29,8 @@ abbrev pub closed_at_next_length : (ℕ → Bool) → ℕ → Bool
 closed_at_next_length closed d = closed d || (nat_le 1 d && closed (d - 1))
 
 -- these closed dots tell what counts at a position in each pass of the length
-abbrev pub Tells : ℕ → ℕ → Patterns → Hopeless → Word → ℕ → (ℕ → Bool) → Type 0
-Tells level len P H w p closed = (d : ℕ) → d ≤ LENGTH_MAX
+abbrev pub TellCounted : ℕ → ℕ → Patterns → Hopeless → Word → ℕ → (ℕ → Bool) → Type 0
+TellCounted level len P H w p closed = (d : ℕ) → d ≤ LENGTH_MAX
     → counted_at (pass_at level len d) P H w p ≡ counted_with level w p len d (closed d)
 
 -- nothing counts at a position in the passes of the length
@@ -40,13 +40,13 @@ IsDone level len P H w p = (d : ℕ) → d ≤ len → counted_at (pass_at level
 -- a position that counts by its status begins a level with no dot closed
 abbrev pub TellsAtStart : Type 0
 TellsAtStart = (level len : ℕ) (P : Patterns) (w : Word) (p : ℕ) (good : Bool) → IsBelow level P
-    → counts_as level (status_at P w p) ≡ Some good → Tells level len P [] w p (λ _. false)
+    → counts_as level (status_at P w p) ≡ Some good → TellCounted level len P [] w p (λ _. false)
 
 -- at the next length, a dot of a position is closed where it or the dot before it was
 abbrev pub TellsLonger : Type 0
 TellsLonger = (level len : ℕ) (P : Patterns) (H : Hopeless) (w : Word) (p : ℕ) (closed : ℕ → Bool)
-    → CoversUpTo level len P H → Tells level len P H w p closed
-    → Tells level (len + 1) P H w p (closed_at_next_length closed)
+    → CoversUpTo level len P H → TellCounted level len P H w p closed
+    → TellCounted level (len + 1) P H w p (closed_at_next_length closed)
 
 -- the closed dots after a pass in which the window of the position was raised, or made hopeless
 abbrev pub closed_after : (ℕ → Bool) → ℕ → Bool → Bool → Bool → ℕ → Bool
@@ -58,8 +58,8 @@ abbrev pub TellsAfter : Type 0
 TellsAfter = (m : Minima) (words : List Word) (pass : Pass) (P : Patterns) (H : Hopeless)
     (raised hopeless : Candidate → Bool) (w : Word) (p : ℕ) (closed : ℕ → Bool)
     → IsUpTo pass.level P
-    → pass.dot ≤ LENGTH_MAX → Tells pass.level pass.len P H w p closed
-    → Tells pass.level pass.len (patterns_after_pass m words pass P H raised)
+    → pass.dot ≤ LENGTH_MAX → TellCounted pass.level pass.len P H w p closed
+    → TellCounted pass.level pass.len (patterns_after_pass m words pass P H raised)
     (hopeless_after_pass m words pass P H hopeless) w p
     (closed_after closed pass.dot (fits w.signs p pass.len pass.dot)
     (is_candidate_at m words pass P H raised w.signs p)
@@ -75,7 +75,7 @@ abbrev pub DoneWhenClosed : Type 0
 DoneWhenClosed = (level len : ℕ) (P : Patterns) (H : Hopeless)
     (w : Word) (p : ℕ) (closed : ℕ → Bool)
     → len ≤ LENGTH_MAX → ((d : ℕ) → d ≤ len → fits w.signs p len d ≡ true → closed d ≡ true)
-    → Tells level len P H w p closed → IsDone level len P H w p
+    → TellCounted level len P H w p closed → IsDone level len P H w p
 
 -- a position that is done at a length is done at the next length
 abbrev pub DoneLonger : Type 0

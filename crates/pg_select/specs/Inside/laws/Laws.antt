@@ -34,13 +34,13 @@ CandidatesAreCounted = (counted : List CountedPosition) (u : List ℕ)
     → list_any (same_signs u) (candidates counted) ≡ list_any (λ s. same_signs u s.window) counted
 
 -- a candidate as an entry of the counts
-abbrev pub entry_of : Candidate → List ℕ × (ℕ × ℕ)
-entry_of c = (c.window, (c.good, c.bad))
+abbrev pub counts_entry_of : Candidate → List ℕ × (ℕ × ℕ)
+counts_entry_of c = (c.window, (c.good, c.bad))
 
 -- counting what is counted, position after position, gives the candidates in order with their sums
 abbrev pub CountsAreTally : Type 0
 CountsAreTally = (counted : List CountedPosition)
-    → fold with_position [] counted ≡ map entry_of (with_sums counted)
+    → fold with_position [] counted ≡ map counts_entry_of (with_sums counted)
 
 -- words have together at most as many letters as the longest dictionary has bytes
 pub record AreFew (words : List Word) : Type 0 where
@@ -48,19 +48,19 @@ pub record AreFew (words : List Word) : Type 0 where
   pub letters : sum_by letter_count words ≤ FILE_MAX
 
 -- the number of positions in reach of all words
-abbrev pub positions_in : Minima → List Word → ℕ
-positions_in m words =
+abbrev pub number_of_positions : Minima → List Word → ℕ
+number_of_positions m words =
     sum_by (λ (w : Word). length (positions m.left m.right (length w.signs))) words
 
 -- where the left minimum is at least 1, words have no more positions in reach than letters
 abbrev pub PositionsAreFew : Type 0
 PositionsAreFew = (m : Minima) (words : List Word)
-    → 1 ≤ m.left → positions_in m words ≤ sum_by letter_count words
+    → 1 ≤ m.left → number_of_positions m words ≤ sum_by letter_count words
 
 -- a pass has no more candidates than positions in reach
 abbrev pub CandidatesAreFew : Type 0
 CandidatesAreFew = (m : Minima) (words : List Word) (pass : Pass) (P : Patterns) (H : Hopeless)
-    → length (candidates (counted_positions m words pass P H)) ≤ positions_in m words
+    → length (candidates (counted_positions m words pass P H)) ≤ number_of_positions m words
 
 -- the totals of such words are below the limit of sums, also together
 abbrev pub TotalsAreSmall : Type 0
@@ -115,8 +115,8 @@ GivenUpKeepsValues = (m : Meaning) (u : List ℕ) (tidy : Bool)
     × (totals minima words (after_give_up m u tidy).patterns ≡ totals minima words m.patterns)
 
 -- a dotted string that is raised to the level covers the windows in which it stands, and no others
-abbrev pub RaisedCovers : Type 0
-RaisedCovers = (level : ℕ) (P : Patterns) (H : Hopeless) (k : List ℕ × ℕ) (u : List ℕ) (d : ℕ)
+abbrev pub CoversWhereRaised : Type 0
+CoversWhereRaised = (level : ℕ) (P : Patterns) (H : Hopeless) (k : List ℕ × ℕ) (u : List ℕ) (d : ℕ)
     → is_covered level (raise P k level) H u d ≡ (applies u d k || is_covered level P H u d)
 
 -- a dotted string that is made hopeless covers exactly the same windows

@@ -1,7 +1,7 @@
 use Rattle.std.proofs.Common.{◌+◌, subst}
 use Rattle.std.proofs.lemmas.Result.{IfOk-from_err}
 use Rattle.pg_types.specs.Inside.reading.Answers.{Gives}
-use Rattle.pg_dict.specs.Words.{words}
+use Rattle.pg_dict.specs.DictionaryWords.{words}
 use Rattle.pg_dict.specs.Inside.SoundWords.{SignsAtMost}
 use Rattle.pg_translate.specs.Alphabets.{letters_of}
 use Rattle.pg_steps.specs.declared.inputs.Input.TheVariants.{Dictionary}

@@ -2,7 +2,7 @@
 use Rattle.std.specs.Prelude.{◌≡◌, ℕ, List, [], ◌∷◌, Some, Ok}
 use Rattle.pg_translate.specs.Alphabets.{Alphabet}
 use Rattle.pg_dict.specs.Word.{Word}
-use Rattle.pg_dict.specs.Words.{words}
+use Rattle.pg_dict.specs.DictionaryWords.{words}
 use Rattle.pg_patterns.specs.Values.{Patterns}
 use Rattle.pg_patterns.specs.Starts.{start}
 use Rattle.pg_steps.specs.Readings.{HeldFiles, Reading, patterns_file, words_file}

@@ -5,7 +5,7 @@ use Rattle.std.proofs.lemmas.Result.{IfOk-from_err}
 use Rattle.pg_types.specs.Parameters.{Parameters}
 use Rattle.pg_types.specs.declared.marks.Totals.{Totals}
 use Rattle.pg_sweep.specs.declared.rows.SweepRow.{SweepRow}
-use Rattle.pg_sweep.specs.Sweeps.{Terms, row_of, costs_of}
+use Rattle.pg_sweep.specs.Sweeps.{Terms, set_row, costs_of}
 use Rattle.pg_sweep.specs.Winners.{winner_of}
 use Rattle.pg_sweep.specs.Inside.RowsAndWinner.{RowsAndWinner}
 use Rattle.pg_sweep.proofs.Steps.{map_more}
@@ -19,8 +19,8 @@ sets-preserved g c =
     let at : c.index-sets-i.result ≡ slice_index_or c.args.sets.now c.sets.i c.index-sets-i.result = c.index-sets-i.is in
     c.in_ok-push.ensures.items
     ∙ ap (λ (r : SweepRow). c.sets.rows.items ++ r ∷ []) (row ∙ ap row_with c.in_ok-totals.ensures.value)
-    ∙ ap (λ (set : Parameters). c.sets.rows.items ++ row_of terms c.args.bad c.args.missed set ∷ []) at
-    ∙ map_more (row_of terms c.args.bad c.args.missed) c.args.sets.now c.sets.rows.items c.sets.i c.index-sets-i.result c.sets-test.true c.sets.invariant
+    ∙ ap (λ (set : Parameters). c.sets.rows.items ++ set_row terms c.args.bad c.args.missed set ∷ []) at
+    ∙ map_more (set_row terms c.args.bad c.args.missed) c.args.sets.now c.sets.rows.items c.sets.i c.index-sets-i.result c.sets-test.true c.sets.invariant
 
 pub sets-init : goal.sets-init
 sets-init g c = c.new-rows.ensures.items
@@ -37,7 +37,7 @@ with_cost-requires-clause-prices g c = (c.requires.bad.1, c.requires.missed.1)
 pub new-requires : goal.new-requires
 new-requires g c =
     let terms : Terms = record { table = c.args.table.now; words = c.args.dictionary.now; start = c.args.start.now; folds = c.args.folds } in
-    let row : Parameters → SweepRow = row_of terms c.args.bad c.args.missed in
+    let row : Parameters → SweepRow = set_row terms c.args.bad c.args.missed in
     let past : length c.args.sets.now ≤ c.sets.i = omega arith in
     let count : length c.sets.rows.items ≡ length c.args.sets.now = ap length (c.sets.invariant ∙ ap (map row) (take_all c.sets.i c.args.sets.now past)) ∙ length-map c.args.sets.now row in
     omega (arith, c.requires.sets.0)
@@ -46,7 +46,7 @@ pub returns-clause-rows : goal.returns-clause-rows
 returns-clause-rows g c =
     let terms : Terms = record { table = c.args.table.now; words = c.args.dictionary.now; start = c.args.start.now; folds = c.args.folds } in
     let past : length c.args.sets.now ≤ c.sets.i = omega arith in
-    ap (λ (f : RowsAndWinner). f.rows) c.new.ensures ∙ c.sets.invariant ∙ ap (map (row_of terms c.args.bad c.args.missed)) (take_all c.sets.i c.args.sets.now past)
+    ap (λ (f : RowsAndWinner). f.rows) c.new.ensures ∙ c.sets.invariant ∙ ap (map (set_row terms c.args.bad c.args.missed)) (take_all c.sets.i c.args.sets.now past)
 
 pub returns-clause-winner : goal.returns-clause-winner
 returns-clause-winner g c =

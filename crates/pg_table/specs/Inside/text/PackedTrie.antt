@@ -21,8 +21,8 @@ pub record IsGroup (P : Patterns) (q : List ℕ) (at end : ℕ) : Type 0 where
   pub ends : (e : (List ℕ × ℕ) × ℕ) → slice_get P end ≡ Some e → e.0.0 ≢ q
 
 -- the dots with their values from `at` to `end`
-abbrev pub pairs : Patterns → ℕ → ℕ → List (ℕ × ℕ)
-pairs P at end = map (λ e. (e.0.1, e.1)) (take (end - at) (drop at P))
+abbrev pub dot_values : Patterns → ℕ → ℕ → List (ℕ × ℕ)
+dot_values P at end = map (λ e. (e.0.1, e.1)) (take (end - at) (drop at P))
 
 -- the strings of the patterns have their cells
 pub record IsPacked (n : ℕ) (P : Patterns) (h : ValuedFamilies ℕ) : Type 0 where

@@ -15,7 +15,7 @@ pub record HasHeads (h : ValuedFamilies ℕ) (heads : List ℕ → ℕ) : Type 0
   pub each : (q : List ℕ) (v : ℕ) → find (slice_cmp nat_cmp) q h.values ≡ Some v → v ≡ heads q
 
 -- each cell is still unused, or as it is in the table
-pub record IsRow (h : ValuedFamilies ℕ) (heads : List ℕ → ℕ) (row : List Cell) : Type 0 where
+pub record IsPartRow (h : ValuedFamilies ℕ) (heads : List ℕ → ℕ) (row : List Cell) : Type 0 where
   pub size : length row ≡ top h.families + 1
   pub each : (at : ℕ) → at < top h.families + 1
       → (get_or row at unused_cell ≡ unused_cell) ⊎
@@ -29,12 +29,12 @@ HasCell h heads row q = (c : ℕ) → cell_of h.families q ≡ Some c
 -- the cells of the first n fronts of q are filled in, and all that were before still are
 pub record Fills (h : ValuedFamilies ℕ) (heads : List ℕ → ℕ)
     (q : List ℕ) (n : ℕ) (old new : List Cell) : Type 0 where
-  pub row : IsRow h heads new
+  pub row : IsPartRow h heads new
   pub keeps : (r : List ℕ) → HasCell h heads old r → HasCell h heads new r
   pub fronts : (k : ℕ) → k ≤ n → HasCell h heads new (take k q)
 
 -- the cells of the strings of one sign are filled in, up to the sign n
 pub record FillsSigns (h : ValuedFamilies ℕ) (heads : List ℕ → ℕ)
     (n : ℕ) (new : List Cell) : Type 0 where
-  pub row : IsRow h heads new
+  pub row : IsPartRow h heads new
   pub each : (s : ℕ) → 1 ≤ s → s ≤ n → HasCell h heads new (s ∷ [])

@@ -13,7 +13,7 @@ use Rattle.pg_outside.specs.declared.disk.system.FileId.{FileId}
 use Rattle.pg_told_disk.specs.Inside.laws.Cases.{eq_yes, eq_no, number_no, cond_yes, cond_no, none_some, some_same, of_cond}
 use Rattle.pg_told_disk.specs.Inside.Changes.{number_in, names_in, mode_in, bytes_in, stored_in, node_in, node_with, file_in, id_of, with_name, disk_in}
 use Rattle.pg_told_disk.specs.Inside.laws.Following.{not_link}
-use Rattle.pg_told_disk.specs.Inside.LinkLists.{link_in, real_in}
+use Rattle.pg_told_disk.specs.Inside.LinkLists.{link_named, real_in}
 use Rattle.pg_told_disk.specs.declared.change.Change.{Change}
 use Rattle.pg_told_disk.specs.declared.change.Change.TheVariants.{Made, Shared, GotMode, Wrote, Stored, Renamed, Removed, Refused, Stayed}
 use Rattle.pg_told_disk.specs.declared.links.Link.{Link}
@@ -139,8 +139,8 @@ not_below : (n : ℕ) → n < n → ⊥
 not_below n lt = omega arith
 
 -- a file on device 1 with this number is the file of this number
-file_id : (id : FileId) (n : ℕ) → id.device ≡ 1 → id.inode ≡ n → id ≡ id_of n
-file_id id n device inode = ap (λ (d : ℕ). at d id.inode) device ∙ ap (λ (i : ℕ). at 1 i) inode
+id_of_parts : (id : FileId) (n : ℕ) → id.device ≡ 1 → id.inode ≡ n → id ≡ id_of n
+id_of_parts id n device inode = ap (λ (d : ℕ). at d id.inode) device ∙ ap (λ (i : ℕ). at 1 i) inode
   where
     at : ℕ → ℕ → FileId
     at d i = record { device = d; inode = i }
@@ -151,7 +151,7 @@ other_file : (log log2 : List Change) (n : ℕ) → ((m : ℕ) → m ≢ n → n
 other_file log log2 n same other apart =
     ⊎_elim
     (λ here. ap (λ (b : Bool). cond b (node_in log2 other.inode) None) here.0
-    ∙ same other.inode (λ e. apart (file_id other n here.1 e))
+    ∙ same other.inode (λ e. apart (id_of_parts other n here.1 e))
     ∙ sym (ap (λ (b : Bool). cond b (node_in log other.inode) None) here.0))
     (λ there. ap (λ (b : Bool). cond b (node_in log2 other.inode) None) there.0
     ∙ sym (ap (λ (b : Bool). cond b (node_in log other.inode) None) there.0))
@@ -212,7 +212,7 @@ of_node log n node is = by_mode (mode_in log n) refl is
 
 -- the change Made makes a new file, which is empty, where the name is no link and leads to no file
 pub after_made : (links : List Link) (log : List Change) (own : String Global)
-    → is_some (link_in links (string_bytes own)) ≡ false
+    → is_some (link_named links (string_bytes own)) ≡ false
     → number_in log (string_bytes own) ≡ None
     → disk.MakesFile (string_bytes own) (id_of (length log)) (disk_in links log)
     (disk_in links (Made own ∷ log))
@@ -257,14 +257,14 @@ after_made links log own unlinked none = record {
         (cond b (Some 420) (mode_in log m))) (number_no m (length log) differs)
 
 -- where only the file of one number changed, it was set and all else is as before
-set_file : (log log2 : List Change) (n : ℕ) (node after : Node) (links : List Link)
+one_file_set : (log log2 : List Change) (n : ℕ) (node after : Node) (links : List Link)
     → (disk_in links log2).links ≡ (disk_in links log).links
     → names_in log2 ≡ names_in log
     → (disk_in links log2).refused ≡ (disk_in links log).refused
     → node_in log2 n ≡ Some after
     → ((m : ℕ) → m ≢ n → node_in log2 m ≡ node_in log m)
     → SetsFile (id_of n) after (disk_in links log) (disk_in links log2)
-set_file log log2 n node after links same names refused file others = record {
+one_file_set log log2 n node after links same names refused file others = record {
   links = same;
   names = names;
   refused = refused;
@@ -278,7 +278,7 @@ pub after_got_mode : (links : List Link) (log : List Change) (n mode : ℕ)
 after_got_mode links log n mode = λ node is.
     let parts = of_node log n node is in (
       node_with (bytes_in log n) (stored_in log n) mode,
-      set_file log (GotMode n mode ∷ log) n node _ links refl refl refl
+      one_file_set log (GotMode n mode ∷ log) n node _ links refl refl refl
           (node_parts (GotMode n mode ∷ log) n mode _ _ refl refl
           (cond_yes _ _ _ (eq-eqb n n refl)))
           (λ m differs. ap (λ (b : Bool). option_map (node_with (bytes_in log m)
@@ -293,7 +293,7 @@ pub after_stored : (links : List Link) (log : List Change) (n : ℕ)
     → disk.SyncsFile (id_of n) (disk_in links log) (disk_in links (Stored n ∷ log))
 after_stored links log n = λ node is.
     let parts = of_node log n node is in
-    set_file log (Stored n ∷ log) n node (record node { is_stored = true }) links refl refl refl
+    one_file_set log (Stored n ∷ log) n node (record node { is_stored = true }) links refl refl refl
     (node_parts (Stored n ∷ log) n parts.0 _ _ refl
     (cond_yes _ _ _ (eq-eqb n n refl)) parts.1
     ∙ sym (ap (λ (k : Node). Some (record k { is_stored = true })) parts.2))
@@ -307,7 +307,7 @@ pub after_wrote : (links : List Link) (log : List Change) (n : ℕ) (bytes : Vec
 after_wrote links log n bytes = λ node is.
     let parts = of_node log n node is in (
       node_with (bytes_in log n ++ bytes.items) false parts.0,
-      set_file log (Wrote n bytes ∷ log) n node _ links refl refl refl
+      one_file_set log (Wrote n bytes ∷ log) n node _ links refl refl refl
           (node_parts (Wrote n bytes ∷ log) n parts.0 _ _
           (cond_yes _ _ _ (eq-eqb n n refl)) (cond_yes _ _ _ (eq-eqb n n refl)) parts.1)
           (λ m differs. ap (λ (b : Bool). option_map (node_with

@@ -4,7 +4,7 @@ use Rattle.std.specs.Option.{is_some}
 use Rattle.std.specs.Str.{bytes_eq}
 use Rattle.std.proofs.lemmas.Bool.{false≢true}
 use Rattle.pg_told_disk.specs.Inside.laws.Cases.{eq_yes, cond_yes, cond_no, cond_same}
-use Rattle.pg_told_disk.specs.Inside.LinkLists.{or_this, link_in, followed_by, real_in}
+use Rattle.pg_told_disk.specs.Inside.LinkLists.{or_this, link_named, followed_by, real_in}
 use Rattle.pg_told_disk.specs.declared.links.Link.{Link}
 use Rattle.std.proofs.lemmas.Slice.Eq.{bytes_eq-Decides}
 
@@ -31,10 +31,10 @@ none_both None link q is = (refl, by_test (bytes_eq q (string_bytes link.name)) 
     by_test false e = refl
 
 -- a name that is no link stands for itself
-pub direct_name : (links : List Link) (q : List ℕ) → link_in links q ≡ None → real_in links q ≡ q
+pub direct_name : (links : List Link) (q : List ℕ) → link_named links q ≡ None → real_in links q ≡ q
 direct_name [] q none = refl
 direct_name (link ∷ older) q none =
-    let both = none_both (link_in older q) link q none in
+    let both = none_both (link_named older q) link q none in
     ap (λ (r : List ℕ). followed_by r (real_in older (string_bytes link.said)) link)
     (direct_name older q both.0) ∙ cond_no _ _ _ both.1
 
@@ -44,12 +44,12 @@ not_some None e = refl
 not_some (Some link) e = absurd (false≢true (sym e))
 
 -- a name that the test finds to be no link stands for itself
-pub not_link : (links : List Link) (q : List ℕ) → is_some (link_in links q) ≡ false
+pub not_link : (links : List Link) (q : List ℕ) → is_some (link_named links q) ≡ false
     → real_in links q ≡ q
-not_link links q unlinked = direct_name links q (not_some (link_in links q) unlinked)
+not_link links q unlinked = direct_name links q (not_some (link_named links q) unlinked)
 
 -- the latest link leads on to the name that it says, where no earlier link has its name
-newest_link : (link : Link) (older : List Link) (q : List ℕ) → link_in older q ≡ None
+newest_link : (link : Link) (older : List Link) (q : List ℕ) → link_named older q ≡ None
     → q ≡ string_bytes link.name
     → real_in (link ∷ older) (string_bytes link.said) ≡ real_in (link ∷ older) q
 newest_link link older q none named =
@@ -59,13 +59,13 @@ newest_link link older q none named =
     (direct_name older q none) ∙ cond_yes _ _ _ (eq_yes q (string_bytes link.name) named))
 
 -- what a link says stands for what the link stands for
-pub said_same : (links : List Link) (q : List ℕ) (link : Link) → link_in links q ≡ Some link
+pub said_same : (links : List Link) (q : List ℕ) (link : Link) → link_named links q ≡ Some link
     → real_in links (string_bytes link.said) ≡ real_in links q
 said_same [] q link is = absurd (none_link link is)
-said_same (first ∷ older) q link is = by_older (link_in older q) refl is
+said_same (first ∷ older) q link is = by_older (link_named older q) refl is
     (λ earlier. said_same older q link earlier)
   where
-    by_test : (b : Bool) → bytes_eq q (string_bytes first.name) ≡ b → link_in older q ≡ None
+    by_test : (b : Bool) → bytes_eq q (string_bytes first.name) ≡ b → link_named older q ≡ None
         → cond b (Some first) None ≡ Some link
         → real_in (first ∷ older) (string_bytes link.said) ≡ real_in (first ∷ older) q
     by_test false same none found = absurd (none_link link found)
@@ -74,8 +74,8 @@ said_same (first ∷ older) q link is = by_older (link_in older q) refl is
         ≡ real_in (first ∷ older) q) (one_link first link found)
         (newest_link first older q none ((bytes_eq-Decides q (string_bytes first.name)).0 same))
 
-    by_older : (o : Option Link) → link_in older q ≡ o → or_this o first q ≡ Some link
-        → (link_in older q ≡ Some link
+    by_older : (o : Option Link) → link_named older q ≡ o → or_this o first q ≡ Some link
+        → (link_named older q ≡ Some link
         → real_in older (string_bytes link.said) ≡ real_in older q)
         → real_in (first ∷ older) (string_bytes link.said) ≡ real_in (first ∷ older) q
     by_older (Some early) at found earlier =

@@ -1,6 +1,6 @@
 use Rattle.std.proofs.Common.{◌∙◌, sym, subst}
 use Rattle.pg_translate.specs.Inside.tables.Rules.{KeepsRules}
-use Rattle.pg_dict.specs.Words.{words}
+use Rattle.pg_dict.specs.DictionaryWords.{words}
 use Rattle.pg_top.proofs.sample.SampleReads.{only_memory, dictionary_is}
 use Rattle.pg_top.proofs.sample.SampleWords.{sample_accepted}
 use Rattle.pg_top.proofs.sample.sample_dictionary.Goals as goal

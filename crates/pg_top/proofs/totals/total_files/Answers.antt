@@ -1,5 +1,5 @@
 use Rattle.std.proofs.Common.{◌≡◌, List, ◌∷◌, [], IfSome, ap, sym, subst}
-use Rattle.pg_dict.specs.Words.{words}
+use Rattle.pg_dict.specs.DictionaryWords.{words}
 use Rattle.pg_outside.specs.Content.{FilesShown, file_at}
 use Rattle.pg_outside.specs.FilesCalls.{Reads}
 use Rattle.pg_translate.specs.Tables.{table}
@@ -11,7 +11,7 @@ use Rattle.pg_steps.specs.declared.writes.OutputFile.{OutputFile}
 use Rattle.pg_steps.specs.declared.answers.Status.TheVariants.{Done}
 use Rattle.pg_steps.specs.Inside.reading.UnderTable.{file_under}
 use Rattle.pg_top.specs.totals.TotalsRule.{totals_rule, packed_table}
-use Rattle.pg_words.specs.Inside.CommandRequests.{totals_of}
+use Rattle.pg_words.specs.Inside.CommandRequests.{totals_request_of}
 use Rattle.pg_words.specs.forms.Totals.{TotalsRequest}
 use Rattle.pg_steps.specs.declared.inputs.Input.TheVariants as input
 use Rattle.pg_top.proofs.Calls.{stops_reading}
@@ -26,7 +26,7 @@ use Rattle.pg_steps.specs.Rules.{outcome_of}
 
 pub returns : goal.returns
 returns g c =
-    let p : TotalsRequest = totals_of c.args.names.now in
+    let p : TotalsRequest = totals_request_of c.args.names.now in
     let d = p.dict in
     let t = p.translate in
     let n = p.table in
@@ -56,7 +56,7 @@ returns g c =
 
 pub returns-in_err-letters : goal.returns-in_err-letters
 returns-in_err-letters g c =
-    let p : TotalsRequest = totals_of c.args.names.now in
+    let p : TotalsRequest = totals_request_of c.args.names.now in
     let d = p.dict in
     let t = p.translate in
     let n = p.table in
@@ -69,7 +69,7 @@ returns-in_err-letters g c =
 
 pub returns-in_err-dictionary : goal.returns-in_err-dictionary
 returns-in_err-dictionary g c =
-    let p : TotalsRequest = totals_of c.args.names.now in
+    let p : TotalsRequest = totals_request_of c.args.names.now in
     let d = p.dict in
     let t = p.translate in
     let n = p.table in
@@ -86,7 +86,7 @@ returns-in_err-dictionary g c =
 
 pub returns-in_err-lines : goal.returns-in_err-lines
 returns-in_err-lines g c =
-    let p : TotalsRequest = totals_of c.args.names.now in
+    let p : TotalsRequest = totals_request_of c.args.names.now in
     let d = p.dict in
     let t = p.translate in
     let n = p.table in

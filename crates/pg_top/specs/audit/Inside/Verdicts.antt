@@ -54,8 +54,8 @@ ReadsToFind reads (False line) old new =
     ≡ Some (Ends No [] line.items))
 
 -- these bytes are the whole file, or its first size + more + 1 where it is longer than size + more
-abbrev pub IsFrontOf : Option (List ℕ) → ℕ → ℕ → List ℕ → Type 0
-IsFrontOf file size more bytes = MatchOption file ⊥ (λ whole.
+abbrev pub IsWholeOrFront : Option (List ℕ) → ℕ → ℕ → List ℕ → Type 0
+IsWholeOrFront file size more bytes = MatchOption file ⊥ (λ whole.
     (bytes ≡ whole) ⊎ ((size + more < length whole) × (bytes ≡ take (size + (more + 1)) whole)))
 
 -- the line of a verdict was put

@@ -2,7 +2,7 @@
 use Rattle.std.specs.Prelude.{◌≡◌, List, Some, Ok}
 use Rattle.pg_types.specs.Parameters.{parameters}
 use Rattle.pg_translate.specs.Tables.{table}
-use Rattle.pg_dict.specs.Words.{words}
+use Rattle.pg_dict.specs.DictionaryWords.{words}
 use Rattle.pg_patterns.specs.Starts.{start}
 use Rattle.pg_steps.specs.Readings.{HeldFiles, Reading}
 use Rattle.pg_top.specs.generate.GenerateRule.{generate_rule}

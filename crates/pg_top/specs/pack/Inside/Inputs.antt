@@ -1,7 +1,7 @@
 -- What `pack` has read, its table, and why it makes none.
 use Rattle.std.specs.Prelude.{◌≡◌, ℕ, ◌+◌, List, Some, Ok}
 use Rattle.pg_types.specs.declared.refusals.Kind.TheVariants.{TableTooLong}
-use Rattle.pg_types.specs.Reading.{refusal_at}
+use Rattle.pg_types.specs.ValuesOrRefusals.{refusal_at}
 use Rattle.pg_translate.specs.Alphabets.{Alphabet, letters_of}
 use Rattle.pg_translate.specs.Tables.{table}
 use Rattle.pg_patterns.specs.Values.{Patterns}

@@ -3,7 +3,7 @@ use Rattle.std.specs.Prelude.{◌≡◌, ℕ, ◌+◌, List, [], ◌∷◌, leng
 use Rattle.pg_translate.specs.Alphabets.{Alphabet, letters_of}
 use Rattle.pg_translate.specs.Tables.{table}
 use Rattle.pg_dict.specs.Word.{Word}
-use Rattle.pg_dict.specs.Words.{words}
+use Rattle.pg_dict.specs.DictionaryWords.{words}
 use Rattle.pg_patterns.specs.Values.{Patterns}
 use Rattle.pg_patterns.specs.Starts.{start}
 use Rattle.pg_patterns.specs.Texts.{pattern_text}
@@ -12,7 +12,7 @@ use Rattle.pg_select.specs.CountedPositions.{minima_of}
 use Rattle.pg_prune.specs.Prunes.{Pruning, pruning_of}
 use Rattle.pg_prune.specs.Reports.{prune_report}
 use Rattle.pg_steps.specs.Outcomes.{Outcome, Writing}
-use Rattle.pg_top.specs.prune.PruneRule.{outcome_of_prune, pruned_line}
+use Rattle.pg_top.specs.prune.PruneRule.{outcome_of_prune, rounds_line}
 use Rattle.pg_steps.specs.Readings.{HeldFiles}
 use Rattle.pg_steps.specs.Inside.reading.ReadAs.{read_as}
 use Rattle.pg_words.specs.forms.Prune.{PruneRequest}
@@ -34,8 +34,8 @@ pruned_files n t found =
     (n.output, pattern_text t found.patterns) ∷ (n.report, prune_report t found) ∷ []
 
 -- the line that `prune` prints where pruning finds this
-abbrev pub line_of_pruned : Pruning → List ℕ
-line_of_pruned found = pruned_line found.rounds found.removed (length found.patterns)
+abbrev pub line_of_pruning : Pruning → List ℕ
+line_of_pruning found = rounds_line found.rounds found.removed (length found.patterns)
 
 -- what pruning these patterns by these words comes to
 abbrev pub pruned_by : PruneRequest → Alphabet → List Word → Patterns → Outcome

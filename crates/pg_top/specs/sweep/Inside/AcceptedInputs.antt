@@ -3,7 +3,7 @@ use Rattle.std.specs.Prelude.{◌≡◌, ℕ, List, map, Option, Some, Result, O
 use Rattle.pg_types.specs.Parameters.{Parameters, parameters}
 use Rattle.pg_types.specs.declared.refusals.Refusal.{Refusal}
 use Rattle.pg_translate.specs.Tables.{table}
-use Rattle.pg_dict.specs.Words.{words}
+use Rattle.pg_dict.specs.DictionaryWords.{words}
 use Rattle.pg_patterns.specs.Starts.{start}
 use Rattle.pg_sweep.specs.Sweeps.{Terms}
 use Rattle.pg_steps.specs.Readings.{HeldFiles}

@@ -4,7 +4,7 @@ use Rattle.pg_types.specs.Parameters.{Parameters}
 use Rattle.pg_translate.specs.Alphabets.{letters_of}
 use Rattle.pg_dict.specs.Inside.SoundWords.{SignsAtMost}
 use Rattle.pg_patterns.specs.Inside.PatternMaps.{SignsUpTo}
-use Rattle.pg_sweep.specs.Sweeps.{Terms, row_of, costs_of}
+use Rattle.pg_sweep.specs.Sweeps.{Terms, set_row, costs_of}
 use Rattle.pg_sweep.specs.Inside.RowsAndWinner.{RowsAndWinner}
 use Rattle.pg_sweep.specs.declared.rows.SweepRow.{SweepRow}
 use Rattle.pg_words.specs.forms.Sweep.{SweepRequest}
@@ -28,7 +28,7 @@ line_of_sweep found = winner_line found.winner
 
 -- the rows of these sets of parameters
 unfoldable pub rows_of_sets : SweepRequest → Terms → List Parameters → List SweepRow
-rows_of_sets s terms sets = map (row_of terms s.bad s.missed) sets
+rows_of_sets s terms sets = map (set_row terms s.bad s.missed) sets
 
 -- what a sweep of these sets writes and prints
 abbrev pub outcome_of_sets : SweepRequest → Terms → List Parameters → Outcome

@@ -93,8 +93,8 @@ delimited_pieces [] = []
 delimited_pieces (delimiter ∷ text) = pieces_of delimiter text
 
 -- the spellings of a letter line; a line without any is skipped
-abbrev pub pieces_in_line : List ℕ → List (List ℕ)
-pieces_in_line line = delimited_pieces (without_blanks line)
+abbrev pub trimmed_pieces : List ℕ → List (List ℕ)
+trimmed_pieces line = delimited_pieces (without_blanks line)
 
 -- the spellings of a letter in a line of this number, from what follows the line's first delimiter
 abbrev pub spellings_behind : ℕ → ℕ → ℕ → List ℕ → List ListedSpelling
@@ -102,7 +102,7 @@ spellings_behind line letter delimiter text = spellings_at line 2 letter (pieces
 
 -- the spellings of a letter in a line of this number, from the whole line
 abbrev pub spellings_of_line : ℕ → ℕ → List ℕ → List ListedSpelling
-spellings_of_line line letter text = spellings_at line 2 letter (pieces_in_line text)
+spellings_of_line line letter text = spellings_at line 2 letter (trimmed_pieces text)
 
 -- the spellings of a line with these pieces, before those of the lines after it
 abbrev pub with_line_spellings : ℕ → ℕ → List (List ℕ)
@@ -115,7 +115,7 @@ with_line_spellings line letter (piece ∷ pieces) later =
 abbrev pub spellings_from : ℕ → ℕ → List (List ℕ) → List ListedSpelling
 spellings_from line letter [] = []
 spellings_from line letter (text ∷ texts) =
-    with_line_spellings line letter (pieces_in_line text)
+    with_line_spellings line letter (trimmed_pieces text)
     (λ next. spellings_from (line + 1) next texts)
 
 -- the checks of the letter lines, spelling by spelling

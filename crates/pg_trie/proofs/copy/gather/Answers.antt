@@ -4,7 +4,7 @@ use Rattle.std.specs.FinMap.Entries.{find}
 use Rattle.pg_types.specs.declared.limits.TheConstants.{PATTERN_SIGNS_MAX}
 use Rattle.pg_outputs.specs.Lists.{list_of}
 use Rattle.pg_cells.proofs.StringMaps.{order}
-use Rattle.pg_trie.specs.Inside.Maps.{maps_of, entries_of, as_value}
+use Rattle.pg_trie.specs.Inside.Maps.{maps_of, entries_in, as_value}
 use Rattle.pg_trie.proofs.ListLaws.Gathered.{Gathers, gathers_none, gathers_more, gathered}
 use Rattle.pg_trie.proofs.TrieLaws.Listing.{get_there, get_index}
 use Rattle.pg_trie.proofs.copy.gather.Goals as goal
@@ -46,8 +46,8 @@ loop-string-preserved c =
     let is : c.value_of-head.result ≡ u.0 = c.value_of-head.ensures u.0 (ap (λ q. find order q c.args.cells.now.values) same ∙ u.1) in
     gathers_more c.args.cells.now c.args.outputs.now c.requires.trie c.args.strings.now c.loop-string.string-index c.loop-string.entries.items c.push_values.new.entries.items k.0 u.0 k.1 u.1
     (c.in_ok-push_values.ensures
-    ∙ ap (λ (x : List ℕ × ℕ). c.loop-string.entries.items ++ entries_of as_value x.0 (list_of c.args.outputs.now c.value_of-head.result)) item
-    ∙ ap (λ h. c.loop-string.entries.items ++ entries_of as_value k.0.0 (list_of c.args.outputs.now h)) is)
+    ∙ ap (λ (x : List ℕ × ℕ). c.loop-string.entries.items ++ entries_in as_value x.0 (list_of c.args.outputs.now c.value_of-head.result)) item
+    ∙ ap (λ h. c.loop-string.entries.items ++ entries_in as_value k.0.0 (list_of c.args.outputs.now h)) is)
     c.loop-string.invariant
 
 pub returns-clause-joined : goal.returns-clause-joined

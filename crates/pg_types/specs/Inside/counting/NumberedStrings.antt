@@ -11,7 +11,7 @@ abbrev pub Numbers : Type 0
 Numbers = List (List ℕ × ℕ)
 
 -- each number below the count is that of one string, and no string has another number
-pub record AreNumbers (numbers : Numbers) : Type 0 where
+pub record AreOneToOne (numbers : Numbers) : Type 0 where
   pub below : (u : List ℕ) (n : ℕ) → find (slice_cmp nat_cmp) u numbers ≡ Some n
       → n < length numbers
   pub apart : (u v : List ℕ) (n : ℕ) → find (slice_cmp nat_cmp) u numbers ≡ Some n

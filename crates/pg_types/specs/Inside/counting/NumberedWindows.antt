@@ -8,8 +8,8 @@ abbrev pub Windows : Type 0
 Windows = List (List ℕ)
 
 -- the windows after one is counted: it stands at the end where it was not counted before
-abbrev pub with_window : Windows → Counts → List ℕ → Windows
-with_window windows counts u = if is_counted counts u then windows else windows ++ u ∷ []
+abbrev pub with_next_window : Windows → Counts → List ℕ → Windows
+with_next_window windows counts u = if is_counted counts u then windows else windows ++ u ∷ []
 
 -- what a pass has counted: the counts of its windows, and the windows in the order of their numbers
 pub record WindowCounts : Type 0 where
@@ -21,11 +21,11 @@ abbrev pub no_counts : WindowCounts
 no_counts = record { counts = []; windows = [] }
 
 -- a window is counted: its sums have one weight more, and it is among the windows
-abbrev pub with_counted : WindowCounts → List ℕ → Bool → ℕ → WindowCounts
-with_counted c u good weight =
+abbrev pub with_window_counted : WindowCounts → List ℕ → Bool → ℕ → WindowCounts
+with_window_counted c u good weight =
     record {
       counts = with_count c.counts u good weight;
-      windows = with_window c.windows c.counts u;
+      windows = with_next_window c.windows c.counts u;
     }
 
 -- the window has the number

@@ -1,6 +1,6 @@
 use Rattle.std.proofs.Common.{◌+◌, take, sym, subst, arith}
 use Rattle.std.proofs.lemmas.List.{take_all}
-use Rattle.pg_cells.specs.Inside.families.Moves.{Puts}
+use Rattle.pg_cells.specs.Inside.families.Moves.{PutsSlots}
 use Rattle.pg_cells.proofs.LinkedLists.{free_kept}
 use Rattle.pg_cells.proofs.Slots.{slot_here, outside_here}
 use Rattle.pg_cells.proofs.MoveSteps.{puts_none, puts_more}
@@ -32,7 +32,7 @@ take-requires-clause-child g c =
 pub loop-slot-preserved : goal.loop-slot-preserved
 loop-slot-preserved g c =
     let here = slot_here c.args.slots.now c.loop-slot.slot-index c.slot-item.result c.slot-item.is c.loop-slot-test.true c.requires.distinct in
-    subst (Puts c.args.store.now c.take.new.self c.args.base) (sym here.2)
+    subst (PutsSlots c.args.store.now c.take.new.self c.args.base) (sym here.2)
     (puts_more c.args.store.now c.loop-slot.store c.take.new.self c.args.base (take c.loop-slot.slot-index c.args.slots.now) c.slot-item.result here.0 c.loop-slot.invariant c.take.ensures.takes)
 
 pub loop-slot-init : goal.loop-slot-init
@@ -40,7 +40,7 @@ loop-slot-init g c = puts_none c.args.store.now c.args.base
 
 pub returns : goal.returns
 returns g c =
-    subst (Puts c.args.store.now c.loop-slot.store c.args.base) (take_all c.loop-slot.slot-index c.args.slots.now (omega arith)) c.loop-slot.invariant
+    subst (PutsSlots c.args.store.now c.loop-slot.store c.args.base) (take_all c.loop-slot.slot-index c.args.slots.now (omega arith)) c.loop-slot.invariant
 
 pub take-requires-clause-sign_fits : goal.take-requires-clause-sign_fits
 take-requires-clause-sign_fits g c =

@@ -2,9 +2,9 @@ use Rattle.std.proofs.Common.{◌≤◌, ◌∷◌, length, ap, subst, arith}
 use Rattle.pg_types.specs.Inside.Placing.{IsLeast}
 use Rattle.pg_cells.specs.declared.store.member.Member.{Member}
 use Rattle.pg_cells.specs.Inside.store.Lists.{Row}
-use Rattle.pg_cells.specs.Inside.store.Fit.{fits_row, signs_of}
+use Rattle.pg_cells.specs.Inside.store.Fit.{fits_row, slot_signs}
 use Rattle.pg_cells.specs.Inside.store.Writes.{SetsChild}
-use Rattle.pg_cells.specs.Inside.families.Moves.{Puts}
+use Rattle.pg_cells.specs.Inside.families.Moves.{PutsSlots}
 use Rattle.pg_cells.proofs.BlockedLaws.{blocked_fits, blocked_after}
 use Rattle.pg_cells.proofs.PlacedRoom.{dropped_size, room_within, slots_within, room_fits, can_put, can_take, parent_stays}
 use Rattle.pg_cells.proofs.families.place.place_family.Goals as goal
@@ -35,14 +35,14 @@ pub take-requires-clause-free : goal.take-requires-clause-free
 take-requires-clause-free g c = can_take c.args.signs c.args.store.now c.give_up.new.store c.drop_base.new.store c.args.was c.args.slots.now c.args.slot
     c.args.parent c.requires.can c.give_up.ensures c.drop_base.ensures c.top-top.result c.top-top.ensures c.max.result c.max.ensures c.least_base-base.result
     c.least_base-base.ensures.room c.least_base-base.ensures.least.meets c.put.new.store
-    (subst (λ r. Puts r c.put.new.store c.least_base-base.result c.args.slots.now) c.least_base-base.ensures.same c.put.ensures)
+    (subst (λ r. PutsSlots r c.put.new.store c.least_base-base.result c.args.slots.now) c.least_base-base.ensures.same c.put.ensures)
 
 pub set_child-requires-clause-taken : goal.set_child-requires-clause-taken
 set_child-requires-clause-taken g c =
     rw (c.set_sought.ensures) (parent_stays c.args.signs c.args.store.now c.give_up.new.store c.drop_base.new.store c.args.was c.args.slots.now c.args.slot
     c.args.parent c.requires.can c.give_up.ensures c.drop_base.ensures c.top-top.result c.top-top.ensures c.max.result c.max.ensures c.least_base-base.result
     c.least_base-base.ensures.room c.least_base-base.ensures.least.meets c.put.new.store
-    (subst (λ r. Puts r c.put.new.store c.least_base-base.result c.args.slots.now) c.least_base-base.ensures.same c.put.ensures) c.take.new.self
+    (subst (λ r. PutsSlots r c.put.new.store c.least_base-base.result c.args.slots.now) c.least_base-base.ensures.same c.put.ensures) c.take.new.self
     c.set_base.new.self c.take.ensures.takes c.set_base.ensures.sets)
 
 pub least_base-base-requires-clause-tried : goal.least_base-base-requires-clause-tried
@@ -56,7 +56,7 @@ set_sought-requires g c =
     blocked_after c.args.signs c.args.store.now c.give_up.new.store c.drop_base.new.store c.args.was c.args.slots.now c.args.slot c.args.parent c.requires.can c.give_up.ensures c.drop_base.ensures
     c.top-top.result c.top-top.ensures c.least_base-base.result c.lowest_base-low.result (let le = c.least_base-base.ensures.room in let is = c.max.ensures in omega arith)
     (let from = c.least_base-base.ensures.least.from in let up = c.lowest_base-low.ensures.positive in omega arith) c.least_base-base.ensures.least
-    c.put.new.store c.take.new.self c.set_base.new.self (subst (λ r. Puts r c.put.new.store c.least_base-base.result c.args.slots.now) c.least_base-base.ensures.same c.put.ensures)
+    c.put.new.store c.take.new.self c.set_base.new.self (subst (λ r. PutsSlots r c.put.new.store c.least_base-base.result c.args.slots.now) c.least_base-base.ensures.same c.put.ensures)
     c.take.ensures.takes c.set_base.ensures.sets
 
 pub give_up-requires-clause-distinct : goal.give_up-requires-clause-distinct
@@ -91,10 +91,10 @@ returns-clause-moved g c = record {
   drops = c.drop_base.ensures;
   top = c.top-top.result;
   is_top = c.top-top.ensures;
-  least = subst (λ low. IsLeast (fits_row c.drop_base.new.store (c.args.slot.sign ∷ signs_of c.args.slots.now)) low c.least_base-base.result)
+  least = subst (λ low. IsLeast (fits_row c.drop_base.new.store (c.args.slot.sign ∷ slot_signs c.args.slots.now)) low c.least_base-base.result)
       c.lowest_base-low.ensures.is c.least_base-base.ensures.least;
   near = let room = c.least_base-base.ensures.room in let is = c.max.ensures in omega arith;
-  puts = subst (λ r. Puts r c.put.new.store c.least_base-base.result c.args.slots.now) c.least_base-base.ensures.same c.put.ensures;
+  puts = subst (λ r. PutsSlots r c.put.new.store c.least_base-base.result c.args.slots.now) c.least_base-base.ensures.same c.put.ensures;
   takes = c.take.ensures.takes;
   flags = c.set_base.ensures.sets;
   links = subst (λ r. SetsChild r c.set_child.new.self c.args.parent c.least_base-base.result) c.set_sought.ensures c.set_child.ensures.sets;

@@ -1,7 +1,7 @@
 use Rattle.std.proofs.Common.{◌≡◌, ◌≤◌, ◌-◌, ◌∙◌, ap, sym, subst, length, map, arith}
 use Rattle.std.proofs.lemmas.List.{length-map}
 use Rattle.pg_cells.specs.declared.store.member.Member.{Member}
-use Rattle.pg_cells.specs.Inside.store.Lists.{sign_seen, Row, lists}
+use Rattle.pg_cells.specs.Inside.store.Lists.{sign_seen, Row, linked_row}
 use Rattle.pg_cells.specs.Inside.store.FreeList.{IsFreeTo}
 use Rattle.pg_cells.proofs.AllFree.{cut_long, free_store, free_root}
 use Rattle.pg_cells.proofs.RowWrites.{is_row}
@@ -30,7 +30,7 @@ invariant_of-self g c =
     let size : length c.free_all.new.cells ≡ c.shrink_to.new.self.len = omega arith in
     let back = given_back c.free_all.new.cells c.shrink_to.new.self.items c.shrink_to.new.self.len size in
     let same = c.free_all.ensures.size in
-    let free = subst (λ k. IsFreeTo (length c.as_mut_slice.result.now - 1) k (lists c.free_all.new.cells)) (sym same) c.free_all.ensures.free in
+    let free = subst (λ k. IsFreeTo (length c.as_mut_slice.result.now - 1) k (linked_row c.free_all.new.cells)) (sym same) c.free_all.ensures.free in
     let small = c.self.invariant.kept.small in
     rw back (free_store c.free_all.new.cells (length c.as_mut_slice.result.now - 1) free
     c.self.inside.lows.items c.self.inside.dropped c.self.inside.sought c.self.invariant.few (omega arith) (omega arith) c.free_all.ensures.linked)
@@ -46,7 +46,7 @@ returns g c =
     let size : length c.free_all.new.cells ≡ c.shrink_to.new.self.len = omega arith in
     let back = given_back c.free_all.new.cells c.shrink_to.new.self.items c.shrink_to.new.self.len size in
     let same = c.free_all.ensures.size in
-    let free = subst (λ k. IsFreeTo (length c.as_mut_slice.result.now - 1) k (lists c.free_all.new.cells)) (sym same) c.free_all.ensures.free in
+    let free = subst (λ k. IsFreeTo (length c.as_mut_slice.result.now - 1) k (linked_row c.free_all.new.cells)) (sym same) c.free_all.ensures.free in
     let small = c.self.invariant.kept.small in
     let signs = length-map c.free_all.new.cells sign_seen in
     rw back (record {

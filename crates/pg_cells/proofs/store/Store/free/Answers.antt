@@ -4,7 +4,7 @@ use Rattle.pg_cells.specs.declared.store.cell.TheConstants.{CELLS_END}
 use Rattle.pg_cells.specs.declared.store.cell.Cell.{Cell}
 use Rattle.pg_cells.specs.declared.store.member.Member.{Member}
 use Rattle.pg_cells.specs.Inside.store.FreeList.{AreLinked}
-use Rattle.pg_cells.specs.Inside.store.Lists.{sign_seen, Row, lists, row_of, sign_at, with_free}
+use Rattle.pg_cells.specs.Inside.store.Lists.{sign_seen, Row, linked_row, row_of, sign_at, with_free}
 use Rattle.pg_cells.proofs.LinkedLists.{taken_within}
 use Rattle.pg_cells.proofs.ChainSteps.{signs_long}
 use Rattle.pg_cells.specs.Inside.store.Store.{IsRow}
@@ -16,7 +16,7 @@ use Rattle.pg_cells.proofs.StoreSteps.{given_back, kept_freed, some_taken}
 use Rattle.pg_cells.proofs.store.Store.free.Goals as goal
 
 pub free_cell-requires-clause-linked : goal.free_cell-requires-clause-linked
-free_cell-requires-clause-linked g c = subst (λ (cells : List (Cell g.row.V.Denot)). AreLinked (lists cells)) (sym c.as_mut_slice.ensures.value) c.self.invariant.kept.linked
+free_cell-requires-clause-linked g c = subst (λ (cells : List (Cell g.row.V.Denot)). AreLinked (linked_row cells)) (sym c.as_mut_slice.ensures.value) c.self.invariant.kept.linked
 
 pub free_cell-requires-clause-small : goal.free_cell-requires-clause-small
 free_cell-requires-clause-small g c = subst (λ (cells : List (Cell g.row.V.Denot)). length cells < CELLS_END) (sym c.as_mut_slice.ensures.value) c.self.invariant.kept.small

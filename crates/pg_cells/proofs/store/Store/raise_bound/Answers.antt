@@ -1,7 +1,7 @@
 use Rattle.std.proofs.Common.{◌≡◌, ◌<◌, ◌≤◌, ℕ, List, length, sym, subst, arith}
 use Rattle.std.proofs.lemmas.List.{length-map}
 use Rattle.pg_cells.specs.Inside.store.Lists.{sign_seen, Row, row_of}
-use Rattle.pg_cells.specs.Inside.store.Bounds.{IsBelow, NoneFree}
+use Rattle.pg_cells.specs.Inside.store.Bounds.{IsBelowBounds, NoneFree}
 use Rattle.pg_cells.specs.declared.store.cell.TheConstants.{SIGN_COUNT}
 use Rattle.pg_cells.specs.declared.store.member.Member.{Member}
 use Rattle.pg_cells.proofs.BoundLaws.{bounds_raise}
@@ -28,7 +28,7 @@ invariant_of-self g c =
       bounds =
           bounds_raise (row_of c.self.inside.cells.items) c.self.inside.lows.items c.raise.new.lows c.self.inside.freed c.self.inside.dropped c.args.sign c.args.base _ _
           c.self.invariant.bounds c.raise.ensures.here
-          (λ s b other lt. subst (λ lows. IsBelow lows c.self.inside.freed c.self.inside.dropped s b) c.as_mut_slice-lows.ensures.value (c.raise.ensures.there s b other lt))
+          (λ s b other lt. subst (λ lows. IsBelowBounds lows c.self.inside.freed c.self.inside.dropped s b) c.as_mut_slice-lows.ensures.value (c.raise.ensures.there s b other lt))
           (λ b up lt. subst (λ r. NoneFree r c.args.sign b) (sym c.self.view_is) (c.requires.none b up lt));
       blocked = c.self.invariant.blocked;
     })

@@ -1,6 +1,6 @@
 use Rattle.std.proofs.Common.{◌≡◌, ◌<◌, sym, ap, subst, ◌∙◌, length, arith, set, take, drop, ◌++◌, List}
 use Rattle.pg_cells.specs.declared.store.cell.Cell.{Cell}
-use Rattle.pg_cells.specs.Inside.store.Lists.{Row, Lists, lists, row_of, sign_at, with_child}
+use Rattle.pg_cells.specs.Inside.store.Lists.{Row, LinkedRow, linked_row, row_of, sign_at, with_child}
 use Rattle.pg_cells.specs.Inside.store.Store.{IsRow}
 use Rattle.pg_cells.specs.Inside.store.Writes.{SetsChild}
 use Rattle.pg_cells.specs.declared.store.member.Member.{Member}
@@ -29,17 +29,18 @@ invariant_of-self g c =
     (record {
       kept = kept_child c.self.inside.cells.items c.set_child.new.cells _ _ c.self.invariant.kept same c.args.cell c.args.child
           (λ z. c.requires.taken (subst (λ r. sign_at r c.args.cell ≡ 0) c.self.view_is z))
-          (c.set_child.ensures ∙ ap (λ cells. record (lists cells) { row = with_child (lists cells).row c.args.cell c.args.child; afters = set (lists cells).afters c.args.cell c.args.child })
+          (c.set_child.ensures ∙ ap (λ cells. record
+          (linked_row cells) { row = with_child (linked_row cells).row c.args.cell c.args.child; afters = set (linked_row cells).afters c.args.cell c.args.child })
           c.as_mut_slice.ensures.value);
       few = c.self.invariant.few;
       bounds = bounds_child (row_of c.self.inside.cells.items) (row_of c.set_child.new.cells) c.self.inside.lows.items c.self.inside.freed c.self.inside.dropped
           c.self.invariant.bounds c.args.cell c.args.child
           (subst (λ r. SetsChild (row_of c.self.inside.cells.items) r c.args.cell c.args.child)
-          (sym (ap (λ (ls : Lists (Member g.row.V.Denot)). ls.row) c.set_child.ensures ∙ ap (λ cells. with_child (row_of cells) c.args.cell c.args.child) c.as_mut_slice.ensures.value))
+          (sym (ap (λ (ls : LinkedRow (Member g.row.V.Denot)). ls.row) c.set_child.ensures ∙ ap (λ cells. with_child (row_of cells) c.args.cell c.args.child) c.as_mut_slice.ensures.value))
           (row_child c.self.inside.cells.items c.args.cell c.args.child (λ z. c.requires.taken (subst (λ r. sign_at r c.args.cell ≡ 0) c.self.view_is z))));
       blocked = blocked_child (row_of c.self.inside.cells.items) (row_of c.set_child.new.cells) c.self.inside.placed c.self.inside.sought c.self.invariant.blocked c.args.cell c.args.child
           (subst (λ r. SetsChild (row_of c.self.inside.cells.items) r c.args.cell c.args.child)
-          (sym (ap (λ (ls : Lists (Member g.row.V.Denot)). ls.row) c.set_child.ensures ∙ ap (λ cells. with_child (row_of cells) c.args.cell c.args.child) c.as_mut_slice.ensures.value))
+          (sym (ap (λ (ls : LinkedRow (Member g.row.V.Denot)). ls.row) c.set_child.ensures ∙ ap (λ cells. with_child (row_of cells) c.args.cell c.args.child) c.as_mut_slice.ensures.value))
           (row_child c.self.inside.cells.items c.args.cell c.args.child (λ z. c.requires.taken (subst (λ r. sign_at r c.args.cell ≡ 0) c.self.view_is z))));
     })
 
@@ -48,7 +49,7 @@ returns-clause-sets g c =
     let size : length c.set_child.new.cells ≡ c.self.inside.cells.len = omega arith in
     let left : row_of (take c.self.inside.cells.len (c.set_child.new.cells ++ drop (length c.set_child.new.cells) c.self.inside.cells.items))
     ≡ with_child (row_of c.self.inside.cells.items) c.args.cell c.args.child =
-    ap row_of (given_back c.set_child.new.cells c.self.inside.cells.items c.self.inside.cells.len size) ∙ ap (λ (ls : Lists (Member g.row.V.Denot)). ls.row) c.set_child.ensures
+    ap row_of (given_back c.set_child.new.cells c.self.inside.cells.items c.self.inside.cells.len size) ∙ ap (λ (ls : LinkedRow (Member g.row.V.Denot)). ls.row) c.set_child.ensures
     ∙ ap (λ cells. with_child (row_of cells) c.args.cell c.args.child) c.as_mut_slice.ensures.value in
     subst (λ r. SetsChild r (row_of (take c.self.inside.cells.len (c.set_child.new.cells ++ drop (length c.set_child.new.cells) c.self.inside.cells.items))) c.args.cell c.args.child) c.self.view_is
     (subst (λ r. SetsChild (row_of c.self.inside.cells.items) r c.args.cell c.args.child) (sym left)

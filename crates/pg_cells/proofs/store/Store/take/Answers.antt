@@ -4,7 +4,7 @@ use Rattle.pg_cells.specs.declared.store.cell.TheConstants.{CELLS_END}
 use Rattle.pg_cells.specs.declared.store.cell.Cell.{Cell}
 use Rattle.pg_cells.specs.declared.store.member.Member.{Member}
 use Rattle.pg_cells.specs.Inside.store.FreeList.{AreLinked}
-use Rattle.pg_cells.specs.Inside.store.Lists.{sign_seen, Row, lists, row_of, IsFree, with_taken}
+use Rattle.pg_cells.specs.Inside.store.Lists.{sign_seen, Row, linked_row, row_of, IsFree, with_taken}
 use Rattle.pg_cells.proofs.LinkedLists.{free_within}
 use Rattle.pg_cells.proofs.ChainSteps.{free_in, child_fits}
 use Rattle.pg_cells.specs.Inside.store.Store.{IsRow}
@@ -23,7 +23,7 @@ overflow_add-self g c =
     omega arith
 
 pub take_cell-requires-clause-linked : goal.take_cell-requires-clause-linked
-take_cell-requires-clause-linked g c = subst (λ (cells : List (Cell g.row.V.Denot)). AreLinked (lists cells)) (sym c.as_mut_slice.ensures.value) c.self.invariant.kept.linked
+take_cell-requires-clause-linked g c = subst (λ (cells : List (Cell g.row.V.Denot)). AreLinked (linked_row cells)) (sym c.as_mut_slice.ensures.value) c.self.invariant.kept.linked
 
 pub take_cell-requires-clause-small : goal.take_cell-requires-clause-small
 take_cell-requires-clause-small g c = subst (λ (cells : List (Cell g.row.V.Denot)). length cells < CELLS_END) (sym c.as_mut_slice.ensures.value) c.self.invariant.kept.small

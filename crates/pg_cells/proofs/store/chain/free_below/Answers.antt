@@ -1,6 +1,6 @@
 use Rattle.std.proofs.Common.{◌≡◌, ◌≢◌, ◌<◌, ◌≤◌, inl, inr, sym, subst, arith}
 use Rattle.std.proofs.lemmas.Bool.{cases_eq}
-use Rattle.pg_cells.specs.Inside.store.Lists.{lists, row_of, sign_at, after_at, IsFree}
+use Rattle.pg_cells.specs.Inside.store.Lists.{linked_row, row_of, sign_at, after_at, IsFree}
 use Rattle.pg_cells.proofs.LinkedLists.{not_free}
 use Rattle.pg_cells.proofs.ChainSteps.{free_here, above_head}
 use Rattle.pg_cells.proofs.FreeWalks.{last_free, free_before}
@@ -29,7 +29,7 @@ free-preserved g c =
     let here : sign_at (row_of c.args.cells.now) c.free.low ≢ 0 = c.is_taken-in-free.ensures.taken c.if-not-is_taken.false in
     let head = above_head c.args.cells.now c.free.low c.requires.linked here in
     let there : sign_at (row_of c.args.cells.now) c.free.high ≢ 0 = c.is_taken.ensures.taken c.free-test.true in
-    let up : after_at (lists c.args.cells.now) c.free.free ≢ 0 = λ z. let some = c.if-after-eq0.false in let is = inv.after in omega arith in
+    let up : after_at (linked_row c.args.cells.now) c.free.free ≢ 0 = λ z. let some = c.if-after-eq0.false in let is = inv.after in omega arith in
     record {
       below = omega arith;
       last = λ k lt free.
@@ -58,22 +58,22 @@ returns g c =
     let above = inv.above in
     let there = free_here c.args.cells.now c.free.high inv.within (c.is_taken.ensures.free c.free-test.false) in
     let other : c.args.cell ≢ c.free.high = λ e. not_free (row_of c.args.cells.now) c.args.cell c.requires.taken (subst (IsFree (row_of c.args.cells.now)) (sym e) there) in
-    let is = free_before (lists c.args.cells.now) c.requires.linked c.args.cell c.free.high c.before_of.result (omega arith) inv.between there c.before_of.ensures in
+    let is = free_before (linked_row c.args.cells.now) c.requires.linked c.args.cell c.free.high c.before_of.result (omega arith) inv.between there c.before_of.ensures in
     record { below = is.below; free = is.free; last = is.last }
 
 pub returns-then-after-eq0-clause-last : goal.returns-then-after-eq0-clause-last
 returns-then-after-eq0-clause-last g c k lt free =
     let inv = c.free.invariant in
     let is = inv.after in
-    let far : 0 < after_at (lists c.args.cells.now) c.free.free → c.args.cell ≤ after_at (lists c.args.cells.now) c.free.free = λ some. let none = c.if-after-eq0.true in omega arith in
-    last_free (lists c.args.cells.now) c.requires.linked c.args.cell c.free.free k inv.free far lt free
+    let far : 0 < after_at (linked_row c.args.cells.now) c.free.free → c.args.cell ≤ after_at (linked_row c.args.cells.now) c.free.free = λ some. let none = c.if-after-eq0.true in omega arith in
+    last_free (linked_row c.args.cells.now) c.requires.linked c.args.cell c.free.free k inv.free far lt free
 
 pub returns-then-cell-after-clause-last : goal.returns-then-cell-after-clause-last
 returns-then-cell-after-clause-last g c k lt free =
     let inv = c.free.invariant in
     let is = inv.after in
-    let far : 0 < after_at (lists c.args.cells.now) c.free.free → c.args.cell ≤ after_at (lists c.args.cells.now) c.free.free = λ some. let le = c.if-cell-after.true in omega arith in
-    last_free (lists c.args.cells.now) c.requires.linked c.args.cell c.free.free k inv.free far lt free
+    let far : 0 < after_at (linked_row c.args.cells.now) c.free.free → c.args.cell ≤ after_at (linked_row c.args.cells.now) c.free.free = λ some. let le = c.if-cell-after.true in omega arith in
+    last_free (linked_row c.args.cells.now) c.requires.linked c.args.cell c.free.free k inv.free far lt free
 
 pub is_taken-requires : goal.is_taken-requires
 is_taken-requires g c = c.free.invariant.within

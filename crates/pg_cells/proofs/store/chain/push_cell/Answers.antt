@@ -1,7 +1,7 @@
 use Rattle.std.proofs.Common.{◌≡◌, ◌∙◌, ap, subst, sym, refl, List, length, drop, arith}
 use Rattle.std.proofs.lemmas.List.{take_at}
 use Rattle.pg_cells.specs.declared.store.cell.Cell.{Cell}
-use Rattle.pg_cells.specs.Inside.store.Lists.{lists, row_of}
+use Rattle.pg_cells.specs.Inside.store.Lists.{linked_row, row_of}
 use Rattle.pg_cells.specs.Inside.store.FreeList.{AreLinked}
 use Rattle.pg_cells.proofs.LinkedLists.{linked_push, row_push}
 use Rattle.pg_cells.proofs.ChainSteps.{small_push, some_push, taken_push}
@@ -37,5 +37,5 @@ returns-clause-row g c =
 pub returns-clause-linked : goal.returns-clause-linked
 returns-clause-linked g c =
     let size : length c.put_last.new.cells ≡ c.push.new.self.len = omega arith in
-    subst (λ (cells : List (Cell g.row.V.Denot)). AreLinked (lists cells))
+    subst (λ (cells : List (Cell g.row.V.Denot)). AreLinked (linked_row cells))
     (sym (take_at c.put_last.new.cells (drop (length c.put_last.new.cells) c.push.new.self.items) c.push.new.self.len size)) c.put_last.ensures.linked

@@ -1,5 +1,5 @@
 use Rattle.std.proofs.Common.{◌≢◌, ℕ, ◌<◌, ◌≤◌, ◌-◌}
-use Rattle.pg_cells.specs.Inside.store.Lists.{lists, sign_at}
+use Rattle.pg_cells.specs.Inside.store.Lists.{linked_row, sign_at}
 use Rattle.pg_cells.proofs.FreeWalks.{IsNext}
 use Rattle.pg_cells.proofs.store.fit.free_from.Given as goal
 
@@ -7,8 +7,8 @@ abbrev pub invariant-loop-at : goal.invariant-loop-at
 invariant-loop-at g l = record {
   from : l.cell ≤ l.at;
   bound : l.at ≤ l.bound;
-  first : (k : ℕ) → l.cell ≤ k → k < l.at → sign_at (lists l.cells).row k ≢ 0;
-  next : IsNext (lists l.cells) l.cell l.bound l.free;
+  first : (k : ℕ) → l.cell ≤ k → k < l.at → sign_at (linked_row l.cells).row k ≢ 0;
+  next : IsNext (linked_row l.cells) l.cell l.bound l.free;
 }
 
 abbrev pub decreases-loop-at : goal.decreases-loop-at

@@ -2,7 +2,7 @@ use Rattle.std.proofs.Common.{◌≡◌, ℕ, ◌+◌, ◌-◌, ◌*◌, ◌<◌
 use Rattle.std.proofs.Math.Nat.{mul-le-mul_left}
 use Rattle.std.proofs.lemmas.List.{with_items_is, places}
 use Rattle.pg_dots.specs.Inside.Bits.{has_bit}
-use Rattle.pg_dots.specs.Inside.Dots.{is_closed, row_of}
+use Rattle.pg_dots.specs.Inside.Dots.{is_closed, dot_row}
 use Rattle.pg_dots.specs.declared.open_dots.OpenDots.{OpenDots}
 use Rattle.pg_dots.proofs.Places.{longer_beyond, longer_dot, longer_grown, row_beyond}
 use Rattle.pg_dots.proofs.open_dots.OpenDots.next_length.Goals as goal
@@ -14,9 +14,9 @@ unfolding is_closed
 returns-then-self-eq0-clause-closed c = λ d j upto within.
     let o = c.args.self.now in
     let none : o.reached ≡ 0 = c.if-self-eq0.true in
-    let alike : row_of o.reached d ≡ row_of o.reached (d - 1) = row_beyond o.reached d (omega arith) ∙ sym (row_beyond o.reached (d - 1) (omega arith)) in
-    twice (has_bit o.bits.items (row_of o.reached d * (64 * o.width) + j)) (nat_le 1 d)
-    ∙ ap (λ r. has_bit o.bits.items (row_of o.reached d * (64 * o.width) + j) || (nat_le 1 d && has_bit o.bits.items (r * (64 * o.width) + j))) alike
+    let alike : dot_row o.reached d ≡ dot_row o.reached (d - 1) = row_beyond o.reached d (omega arith) ∙ sym (row_beyond o.reached (d - 1) (omega arith)) in
+    twice (has_bit o.bits.items (dot_row o.reached d * (64 * o.width) + j)) (nat_le 1 d)
+    ∙ ap (λ r. has_bit o.bits.items (dot_row o.reached d * (64 * o.width) + j) || (nat_le 1 d && has_bit o.bits.items (r * (64 * o.width) + j))) alike
   where
     twice : (a b : Bool) → a ≡ (a || (b && a))
     twice true b = refl
@@ -33,7 +33,7 @@ returns-clause-closed c = λ d j upto within.
     let new = with_items_is m.bits now (search (rules, places)) in
     let taken : (p : ℕ) → p < 64 * length m.bits.items → has_bit now p ≡ (has_bit m.bits.items p || (nat_le (128 * m.width) p && has_bit m.bits.items (p - 64 * m.width))) = λ p low.
     c.take_in_before.ensures p (subst (λ (xs : List ℕ). p < 64 * length xs) (sym same) low) ∙ ap (λ (xs : List ℕ). has_bit xs p || (nat_le (128 * m.width) p && has_bit xs (p - 64 * m.width))) same in
-    ap (λ bits. has_bit bits (row_of m.reached d * (64 * m.width) + j)) new
+    ap (λ bits. has_bit bits (dot_row m.reached d * (64 * m.width) + j)) new
     ∙ elim c.if-self-lt-DOTS.branch [
       | then-self-lt-DOTS+in_ok-reach_next w ↦
           let more = w.in_ok-reach_next.ensures in
@@ -61,7 +61,7 @@ returns-clause-beyond c = λ d j high within.
     let new = with_items_is m.bits now (search (rules, places)) in
     let taken : (p : ℕ) → p < 64 * length m.bits.items → has_bit now p ≡ (has_bit m.bits.items p || (nat_le (128 * m.width) p && has_bit m.bits.items (p - 64 * m.width))) = λ p low.
     c.take_in_before.ensures p (subst (λ (xs : List ℕ). p < 64 * length xs) (sym same) low) ∙ ap (λ (xs : List ℕ). has_bit xs p || (nat_le (128 * m.width) p && has_bit xs (p - 64 * m.width))) same in
-    ap (λ bits. has_bit bits (row_of m.reached d * (64 * m.width) + j)) new
+    ap (λ bits. has_bit bits (dot_row m.reached d * (64 * m.width) + j)) new
     ∙ elim c.if-self-lt-DOTS.branch [
       | then-self-lt-DOTS+in_ok-reach_next w ↦
           let more = w.in_ok-reach_next.ensures in

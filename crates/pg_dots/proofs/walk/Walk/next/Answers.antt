@@ -1,5 +1,5 @@
 use Rattle.std.proofs.Common.{◌≡◌, ◌+◌, ◌*◌, length, subst, arith}
-use Rattle.pg_dots.specs.Inside.Bits.{has_bit, IsNext}
+use Rattle.pg_dots.specs.Inside.Bits.{has_bit, IsFirstFailing}
 use Rattle.pg_dots.proofs.Walks.{ahead_behind, next_none, next_some}
 use Rattle.pg_dots.proofs.walk.Walk.next.Goals as goal
 
@@ -10,7 +10,7 @@ returns-then-walk-eq0-clause-next c = λ from begun.
     let found = c.on_open_number-walk.ensures in
     let end : 64 * walk.at + 64 ≡ 64 * length row = (let last = found.last c.if-walk-eq0.true in omega arith) in
     let same : 64 * length row ≡ length row * 64 = omega arith in
-    subst (IsNext (has_bit row) (64 * length row) from) same (next_none (has_bit row) walk (64 * length row) from c.if-walk-eq0.true end (found.ahead from begun))
+    subst (IsFirstFailing (has_bit row) (64 * length row) from) same (next_none (has_bit row) walk (64 * length row) from c.if-walk-eq0.true end (found.ahead from begun))
 
 pub returns-clause-next : goal.returns-clause-next
 returns-clause-next c = λ from begun.

@@ -3,7 +3,7 @@ use Rattle.std.specs.Cmp.Lexicographic.{slice_cmp}
 use Rattle.std.specs.FinMap.Entries.{find}
 use Rattle.std.specs.List.{list_all}
 use Rattle.pg_types.specs.Inside.counting.Counts.{AreSmall, sums_of, with_weight, is_counted}
-use Rattle.pg_types.specs.Inside.counting.NumberedWindows.{HasNumber, WindowCounts, with_counted}
+use Rattle.pg_types.specs.Inside.counting.NumberedWindows.{HasNumber, WindowCounts, with_window_counted}
 use Rattle.pg_types.specs.Inside.counting.NumberedStrings.{Numbers, by_number}
 use Rattle.pg_plain.specs.Inside.PlainCounts.{AreCounted}
 use Rattle.pg_plain.proofs.Counted.{windows_put}
@@ -45,7 +45,7 @@ returns-in-Some-clause-ok c =
     let at : find (slice_cmp nat_cmp) c.args.window.now c.self.inside.numbers.entries ≡ Some c.in-Some.number =
     ap (λ (u : List ℕ). find (slice_cmp nat_cmp) u c.self.inside.numbers.entries) (sym c.new-key.ensures) ∙ sym (c.in-Some.ensures ∙ c.get.ensures.value) in
     set_seen c.self.inside.numbers.entries c.self.inside.tallies.items c.self.inside.windows.items c.self.invariant c.args.window.now c.in-Some.number at
-    c.args.good c.args.weight c.add_to.new.tallies.items c.add_to.ensures ∙ ap (λ (d : WindowCounts). with_counted d c.args.window.now c.args.good c.args.weight) c.self.view_is
+    c.args.good c.args.weight c.add_to.new.tallies.items c.add_to.ensures ∙ ap (λ (d : WindowCounts). with_window_counted d c.args.window.now c.args.good c.args.weight) c.self.view_is
 
 pub returns-in-Some-clause-number : goal.returns-in-Some-clause-number
 returns-in-Some-clause-number c =
@@ -59,7 +59,7 @@ returns-in-Some-clause-windows c = λ good new all.
     ap (λ (u : List ℕ). find (slice_cmp nat_cmp) u c.self.inside.numbers.entries) (sym c.new-key.ensures) ∙ sym (c.in-Some.ensures ∙ c.get.ensures.value) in
     subst (λ (d : WindowCounts). list_all (λ (e : List ℕ × (ℕ × ℕ)). good e.0) d.counts ≡ true)
     (sym (set_seen c.self.inside.numbers.entries c.self.inside.tallies.items c.self.inside.windows.items c.self.invariant c.args.window.now c.in-Some.number
-    at c.args.good c.args.weight c.add_to.new.tallies.items c.add_to.ensures ∙ ap (λ (d : WindowCounts). with_counted d c.args.window.now c.args.good c.args.weight) c.self.view_is))
+    at c.args.good c.args.weight c.add_to.new.tallies.items c.add_to.ensures ∙ ap (λ (d : WindowCounts). with_window_counted d c.args.window.now c.args.good c.args.weight) c.self.view_is))
     (windows_put good c.args.self.now.counts c.args.window.now (with_weight (sums_of c.args.self.now.counts c.args.window.now) c.args.good c.args.weight) new all)
 
 pub returns-in_ok-number-in-None-clause-ok : goal.returns-in_ok-number-in-None-clause-ok
@@ -70,7 +70,7 @@ returns-in_ok-number-in-None-clause-ok c =
     ∙ ap (λ s. c.self.inside.tallies.items ++ s ∷ []) c.add_weight-sums.ensures in
     new_seen c.self.inside.numbers.entries c.self.inside.tallies.items c.self.inside.windows.items c.self.invariant c.args.window.now none c.args.good
     c.args.weight c.number_new.new.numbers.entries c.number_new.new.tallies.items c.in_ok-number-in-None.ensures.numbers is
-    ∙ ap (λ (d : WindowCounts). with_counted d c.args.window.now c.args.good c.args.weight) c.self.view_is
+    ∙ ap (λ (d : WindowCounts). with_window_counted d c.args.window.now c.args.good c.args.weight) c.self.view_is
 
 pub returns-in_ok-number-in-None-clause-number : goal.returns-in_ok-number-in-None-clause-number
 returns-in_ok-number-in-None-clause-number c =
@@ -91,7 +91,7 @@ returns-in_ok-number-in-None-clause-windows c = λ good new all.
     subst (λ (d : WindowCounts). list_all (λ (e : List ℕ × (ℕ × ℕ)). good e.0) d.counts ≡ true)
     (sym (new_seen c.self.inside.numbers.entries c.self.inside.tallies.items c.self.inside.windows.items c.self.invariant c.args.window.now none c.args.good
     c.args.weight c.number_new.new.numbers.entries c.number_new.new.tallies.items c.in_ok-number-in-None.ensures.numbers is
-    ∙ ap (λ (d : WindowCounts). with_counted d c.args.window.now c.args.good c.args.weight) c.self.view_is))
+    ∙ ap (λ (d : WindowCounts). with_window_counted d c.args.window.now c.args.good c.args.weight) c.self.view_is))
     (windows_put good c.args.self.now.counts c.args.window.now (with_weight (sums_of c.args.self.now.counts c.args.window.now) c.args.good c.args.weight) new all)
 
 pub invariant_of-self : goal.invariant_of-self

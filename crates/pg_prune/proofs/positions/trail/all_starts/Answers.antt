@@ -4,7 +4,7 @@ use Rattle.pg_dict.specs.Inside.Lent.{lent_word}
 use Rattle.pg_dict.specs.Inside.SoundWords.{letter_count}
 use Rattle.pg_dict.proofs.WordStore.Parts.{letters_from}
 use Rattle.pg_select.specs.CountedPositions.{minima_of}
-use Rattle.pg_prune.specs.Inside.positions.Trails.{IsStart, starts_in, starts_from, reach_count, position_count}
+use Rattle.pg_prune.specs.Inside.positions.Trails.{IsStart, starts_in, starts_from, reach_count, count_between}
 use Rattle.pg_prune.specs.Inside.positions.Trails.{all_starts as all_starts_of}
 use Rattle.pg_prune.proofs.positions.TrailStarts.{word_more, known_in}
 use Rattle.pg_prune.proofs.positions.trail.all_starts.Goals as goal
@@ -19,9 +19,9 @@ words-preserved c =
     let size : (c.match-reach.before ≡ c.words.before + reach_count m (length w.signs)) × (reach_count m (length w.signs) ≤ letter_count w) =
     elim c.match-reach.branch [
       | in-Some v ↦
-          let wide : v.in-Some.last + 1 - v.in-Some.first ≡ reach_count m (length w.signs) = ap position_count v.in-Some.ensures.value in
+          let wide : v.in-Some.last + 1 - v.in-Some.first ≡ reach_count m (length w.signs) = ap count_between v.in-Some.ensures.value in
           (omega (arith, v.before-is), omega (arith, v.in-Some.ensures.between))
-      | in_default v ↦ let wide : 0 ≡ reach_count m (length w.signs) = ap position_count v.in_default.ensures.value in (omega (arith, v.before-is), omega arith)
+      | in_default v ↦ let wide : 0 ≡ reach_count m (length w.signs) = ap count_between v.in_default.ensures.value in (omega (arith, v.before-is), omega arith)
     ] in
     let next : c.match-reach.before ≡ c.words.before + reach_count m (length w.signs) = size.0 in
     let fewer : reach_count m (length w.signs) ≤ letter_count w = size.1 in

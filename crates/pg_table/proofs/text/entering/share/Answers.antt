@@ -1,6 +1,6 @@
 use Rattle.std.proofs.Common.{◌≡◌, ℕ, ◌+◌, ◌-◌, ◌∷◌, List, map, refl, sym, ap, subst, ◌∙◌, arith}
 use Rattle.pg_outputs.proofs.ListLaws.{list_of-zero}
-use Rattle.pg_table.specs.Inside.text.PackedTrie.{pairs}
+use Rattle.pg_table.specs.Inside.text.PackedTrie.{dot_values}
 use Rattle.pg_table.specs.Inside.text.Sharing.{Shares, value_and_dot, with_ends}
 use Rattle.pg_table.proofs.text.Recorded.{ends_more}
 use Rattle.pg_table.proofs.text.Sharing.{shares_more, pairs_none, pairs_more}
@@ -22,10 +22,10 @@ loop-i-preserved c =
     let i : ℕ = c.loop-i.i - 1 in
     let before : i + 1 ≡ c.loop-i.i = omega arith in
     let x : ℕ × ℕ = (c.entry-entry.result.dot, c.entry-entry.result.value) in
-    let rest : List (ℕ × ℕ) = pairs P c.loop-i.i c.args.end in
-    let more : pairs P i c.args.end ≡ x ∷ rest =
+    let rest : List (ℕ × ℕ) = dot_values P c.loop-i.i c.args.end in
+    let more : dot_values P i c.args.end ≡ x ∷ rest =
     pairs_more P i c.args.end ((c.entry-entry.result.signs.now, c.entry-entry.result.dot), c.entry-entry.result.value) c.entry-entry.ensures.value (omega (arith, c.loop-i.invariant.high))
-    ∙ ap (λ n. x ∷ pairs P n c.args.end) before in
+    ∙ ap (λ n. x ∷ dot_values P n c.args.end) before in
     record {
       low = omega (arith, c.loop-i.invariant.low);
       high = omega (arith, c.loop-i.invariant.high);

@@ -4,7 +4,7 @@ use Rattle.std.specs.Option.{option_map}
 use Rattle.pg_audit.specs.Differences.{first_false}
 use Rattle.pg_outside.specs.Content.{FilesShown, file_at}
 use Rattle.pg_top.specs.audit.AuditRule.{denies}
-use Rattle.pg_top.specs.audit.Inside.Verdicts.{wanted_file, end_of, IsFrontOf}
+use Rattle.pg_top.specs.audit.Inside.Verdicts.{wanted_file, end_of, IsWholeOrFront}
 use Rattle.pg_steps.proofs.Fronts.{front_stop}
 use Rattle.pg_top.proofs.audit.GivenFronts.{given_front}
 use Rattle.pg_top.proofs.audit.Judgements.{judged}
@@ -49,13 +49,13 @@ returns g c =
     let size : length c.as_slice-text.result.now ≡ length w.text.items = ap (length {A = ℕ}) text in
     let verdict : end_of c.in_ok-verdict.verdict ≡ option_map (denies w.given) (first_false c.in_ok-bytes.bytes.items w.text.items) = c.in_ok-verdict.ensures
     ∙ (λ k. option_map (denies w.given) (first_false (c.deref.ensures.value k) (text k))) in
-    let front : IfSome s.held (λ files. IsFrontOf (file_at files w.name.now) (length w.text.items) 256 c.in_ok-bytes.bytes.items) =
-    subst (λ n. IfSome s.held (λ files. IsFrontOf (file_at files w.name.now) n 256 c.in_ok-bytes.bytes.items)) size
+    let front : IfSome s.held (λ files. IsWholeOrFront (file_at files w.name.now) (length w.text.items) 256 c.in_ok-bytes.bytes.items) =
+    subst (λ n. IfSome s.held (λ files. IsWholeOrFront (file_at files w.name.now) n 256 c.in_ok-bytes.bytes.items)) size
     (given_front s.held w.name.now c.in_ok-bytes.bytes.items (length c.as_slice-text.result.now) 256 c.in_ok-bytes.ensures.front) in
     record {
       only = c.read_front.ensures.only;
       calls = c.read_front.ensures.calls;
-      ok = mapped s.held (λ files. IsFrontOf (file_at files w.name.now) (length w.text.items) 256 c.in_ok-bytes.bytes.items)
+      ok = mapped s.held (λ files. IsWholeOrFront (file_at files w.name.now) (length w.text.items) 256 c.in_ok-bytes.bytes.items)
           (λ files. option_map ((wanted_file w).ends (file_at files)) (file_at files w.name.now) ≡ Some (end_of c.in_ok-verdict.verdict))
           (λ files h. judged w.given w.text.items (file_at files w.name.now) c.in_ok-bytes.bytes.items h ∙ ap Some (sym verdict)) front;
       stopped = tt;

@@ -2,7 +2,7 @@ use Rattle.std.proofs.Common.{◌∙◌, sym, ap, subst}
 use Rattle.std.proofs.lemmas.Result.{IfOk-weaker}
 use Rattle.pg_prune.specs.Prunes.{Pruning}
 use Rattle.pg_steps.specs.Outcomes.{Ends}
-use Rattle.pg_top.specs.prune.PruneRule.{ReadsBack, outcome_of_prune}
+use Rattle.pg_top.specs.prune.PruneRule.{ReadsBackPatterns, outcome_of_prune}
 use Rattle.pg_steps.specs.Inside.writing.WritesMade.{written_names}
 use Rattle.pg_steps.specs.declared.answers.Status.TheVariants.{Done}
 use Rattle.pg_steps.proofs.Results.{ok_by_two}
@@ -20,5 +20,5 @@ returns-clause-named g c = IfOk-weaker c.write_pruned.result _ _ (λ made files.
 
 pub returns-clause-reads_back : goal.returns-clause-reads_back
 returns-clause-reads_back g c =
-    IfOk-weaker c.write_pruned.result _ _ (λ made back. subst (λ (found : Pruning). ReadsBack c.args.inputs.now.table found.patterns) c.in_ok-pruned.ensures.pruned back)
+    IfOk-weaker c.write_pruned.result _ _ (λ made back. subst (λ (found : Pruning). ReadsBackPatterns c.args.inputs.now.table found.patterns) c.in_ok-pruned.ensures.pruned back)
     c.write_pruned.ensures.reads_back

@@ -4,7 +4,7 @@ use Rattle.pg_prune.specs.Reports.{prune_report}
 use Rattle.pg_steps.specs.Outcomes.{Writing}
 use Rattle.pg_steps.specs.Inside.writing.WritesMade.{writing_of}
 use Rattle.pg_steps.specs.declared.writes.OutputFile.{OutputFile}
-use Rattle.pg_top.specs.prune.PruneRule.{pruned_line}
+use Rattle.pg_top.specs.prune.PruneRule.{rounds_line}
 use Rattle.pg_top.proofs.prune.outputs.write_pruned.Goals as goal
 
 pub returns : goal.returns
@@ -16,5 +16,5 @@ returns c =
     record {
       files = c.in_ok-push_needs.ensures ∙ ap (λ (ws : Writing). ws ++ (c.args.names.now.report.now, prune_report t found) ∷ []) first;
       reads_back = c.in_ok-push_kept.ensures.reads_back;
-      lines = c.in_ok-lines.ensures ∙ (λ k. pruned_line (c.rounds.ensures k) (c.removed.ensures k) (kept k));
+      lines = c.in_ok-lines.ensures ∙ (λ k. rounds_line (c.rounds.ensures k) (c.removed.ensures k) (kept k));
     }

@@ -1,11 +1,11 @@
 use Rattle.std.proofs.Common.{length, sym, ap, subst, arith}
-use Rattle.pg_trie.specs.Inside.IsTrie.{IsTrie}
+use Rattle.pg_trie.specs.Inside.IsPatternTrie.{IsPatternTrie}
 use Rattle.pg_trie.specs.Inside.Maps.{Maps}
 use Rattle.pg_trie.proofs.DeletingLaws.Ended.{short, level_end}
 use Rattle.pg_trie.proofs.trie.PatternTrie.delete_hopeless.Goals as goal
 
 pub fresh_heads-requires-clause-trie : goal.fresh_heads-requires-clause-trie
-fresh_heads-requires-clause-trie c = subst (IsTrie c.self.inside.cells) (sym c.outputs.ensures) c.self.invariant
+fresh_heads-requires-clause-trie c = subst (IsPatternTrie c.self.inside.cells) (sym c.outputs.ensures) c.self.invariant
 
 pub renew-requires-clause-heads : goal.renew-requires-clause-heads
 renew-requires-clause-heads c q u at =

@@ -2,7 +2,7 @@ use Rattle.std.proofs.Common.{◌+◌, ◌^◌, ◌≤◌, [], sym, subst, ap, �
 use Rattle.pg_types.specs.Inside.counting.NumberedWindows.{no_counts}
 use Rattle.pg_count.specs.Inside.Counting.{Counting}
 use Rattle.pg_count.specs.Inside.WindowRow.{WindowRow}
-use Rattle.pg_count.specs.Inside.Tables.{IsTable, table_counting}
+use Rattle.pg_count.specs.Inside.Tables.{IsCountTable, table_counting}
 use Rattle.pg_count.specs.declared.table.short.TheConstants.{ENTRIES_MAX}
 use Rattle.pg_count.proofs.TableLaws.Counting.{begun_counts}
 use Rattle.pg_count.proofs.TableLaws.Kept.{begun_is}
@@ -13,8 +13,8 @@ invariant_of-self c =
     let row = c.first_after-self-inside.new.numbers.items in
     let first = c.first_after-self-inside.result in
     let ensures = c.first_after-self-inside.ensures in
-    subst (λ (l : WindowRow). IsTable row first l.items c.clear.new.self.items c.self.inside.signs l.len) (sym c.begin.ensures)
-    (subst (λ ts. IsTable row first [] ts c.self.inside.signs c.args.len) (sym c.clear.ensures.items)
+    subst (λ (l : WindowRow). IsCountTable row first l.items c.clear.new.self.items c.self.inside.signs l.len) (sym c.begin.ensures)
+    (subst (λ ts. IsCountTable row first [] ts c.self.inside.signs c.args.len) (sym c.clear.ensures.items)
     (begun_is row first c.self.inside.signs c.args.len ensures.positive (omega (arith, ensures.few)) ensures.past c.requires.len.0 c.requires.len.1 c.self.invariant.within
     (subst (λ (d : Counting). (d.signs + 1) ^ c.args.len ≤ ENTRIES_MAX) (sym c.self.view_is) c.requires.few)))
 

@@ -5,7 +5,7 @@ use Rattle.pg_types.proofs.StringEntries.{order}
 use Rattle.pg_types.specs.Inside.counting.Counts.{SignsWithin, counted_sums}
 use Rattle.pg_count.specs.Inside.Counting.{Counting}
 use Rattle.pg_count.specs.Inside.WindowRow.{WindowRow}
-use Rattle.pg_count.specs.Inside.Tables.{IsTable, table_counting}
+use Rattle.pg_count.specs.Inside.Tables.{IsCountTable, table_counting}
 use Rattle.pg_count.specs.declared.table.short.TheConstants.{ENTRIES_MAX}
 use Rattle.pg_count.proofs.WalkLaws.Listing.{put_back}
 use Rattle.pg_count.proofs.TableLaws.Indexes.{entry_within}
@@ -39,7 +39,7 @@ pub invariant_of-self-in_err-push : goal.invariant_of-self-in_err-push
 invariant_of-self-in_err-push c =
     let t = c.self.inside in
     let more = c.make_room.new.numbers.items in
-    subst (λ (l : WindowRow). IsTable more t.first l.items t.tallies.items t.signs l.len) (sym c.in_err-push.ensures.err)
+    subst (λ (l : WindowRow). IsCountTable more t.first l.items t.tallies.items t.signs l.len) (sym c.in_err-push.ensures.err)
     (room_is t.numbers.items t.first t.windows.items t.tallies.items t.signs t.windows.len c.self.invariant more c.make_room.ensures.kept c.make_room.ensures.back)
 
 pub returns-in_err-push-clause-err : goal.returns-in_err-push-clause-err
@@ -55,7 +55,7 @@ pub invariant_of-self-in-Ok : goal.invariant_of-self-in-Ok
 invariant_of-self-in-Ok c =
     let t = c.self.inside in
     let more = c.make_room.new.numbers.items in
-    subst (λ k. IsTable (set more c.index_of-index.result c.in-Ok.entry) t.first c.push.new.self.items c.push_sums.new.tallies.items t.signs k)
+    subst (λ k. IsCountTable (set more c.index_of-index.result c.in-Ok.entry) t.first c.push.new.self.items c.push_sums.new.tallies.items t.signs k)
     (sym (ap (λ (l : WindowRow). l.len) c.in_ok-push.ensures.ok))
     (new_is more t.first t.windows.items t.tallies.items t.signs t.windows.len
     (room_is t.numbers.items t.first t.windows.items t.tallies.items t.signs t.windows.len c.self.invariant more c.make_room.ensures.kept c.make_room.ensures.back)
@@ -73,8 +73,8 @@ invariant_of-self-in-Err c =
     let t = c.self.inside in
     let more = c.make_room.new.numbers.items in
     let same = put_back t.windows c.push.new.self c.pop.new.self c.args.window.now c.in_ok-push.ensures.ok c.pop.ensures in
-    subst (λ ts. IsTable more t.first c.pop.new.self.items ts t.signs c.pop.new.self.len) (sym c.in-Err.ensures.err)
-    (subst (λ (l : WindowRow). IsTable more t.first l.items t.tallies.items t.signs l.len) (sym same)
+    subst (λ ts. IsCountTable more t.first c.pop.new.self.items ts t.signs c.pop.new.self.len) (sym c.in-Err.ensures.err)
+    (subst (λ (l : WindowRow). IsCountTable more t.first l.items t.tallies.items t.signs l.len) (sym same)
     (room_is t.numbers.items t.first t.windows.items t.tallies.items t.signs t.windows.len c.self.invariant more c.make_room.ensures.kept c.make_room.ensures.back))
 
 pub returns-in-Ok-clause-ok : goal.returns-in-Ok-clause-ok

@@ -5,7 +5,7 @@ use Rattle.pg_types.proofs.Numbering.{get_seam}
 use Rattle.pg_types.specs.Inside.counting.Counts.{counted_sums, with_weight}
 use Rattle.pg_types.specs.Inside.counting.NumberedWindows.{HasNumber}
 use Rattle.pg_count.specs.Inside.Counting.{Counting}
-use Rattle.pg_count.specs.Inside.Tables.{IsTable, table_counting}
+use Rattle.pg_count.specs.Inside.Tables.{IsCountTable, table_counting}
 use Rattle.pg_count.proofs.LeafLaws.Adding.{counting_with}
 use Rattle.pg_count.proofs.TableLaws.Kept.{again_counting, again_is}
 use Rattle.pg_count.proofs.table.table_counts.TableCountsWindowCounter.add_numbered.Goals as goal
@@ -14,7 +14,7 @@ pub invariant_of-self : goal.invariant_of-self
 invariant_of-self c =
     let t = c.self.inside in
     let u = c.args.window.now in
-    subst (λ ts. IsTable t.numbers.items t.first t.windows.items ts t.signs t.windows.len) (sym c.set_sums_at.ensures)
+    subst (λ ts. IsCountTable t.numbers.items t.first t.windows.items ts t.signs t.windows.len) (sym c.set_sums_at.ensures)
     (again_is t.numbers.items t.first t.windows.items t.tallies.items t.signs t.windows.len c.self.invariant u c.in-Some.number c.in-Some.sums c.add_weight-sums.result
     (subst (λ (d : Counting). HasNumber d.counted.windows u c.in-Some.number) (sym c.self.view_is) c.in-Some.ensures.some.0)
     (ap (λ (d : Counting). counted_sums d.counted.counts u) c.self.view_is ∙ c.in-Some.ensures.some.1))

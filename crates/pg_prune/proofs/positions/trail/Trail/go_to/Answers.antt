@@ -3,7 +3,7 @@ use Rattle.std.specs.List.{filter}
 use Rattle.std.proofs.lemmas.List.{take-map, map-append, take_more}
 use Rattle.std.proofs.lemmas.List.Elements.{All-filter, All-same}
 use Rattle.pg_prune.specs.declared.positions.trail.Start.{Start}
-use Rattle.pg_prune.specs.Inside.positions.Trails.{IsStart, begins_at, starts_of, trail_upto, last_of}
+use Rattle.pg_prune.specs.Inside.positions.Trails.{IsStart, begins_at, starts_of, trail_upto, last_list}
 use Rattle.pg_prune.specs.Inside.positions.Trails.{continues_with as continues_with_by}
 use Rattle.pg_prune.proofs.positions.TrailSteps.{longer_starts, last_trail, trail_more, trail_cut}
 use Rattle.pg_prune.proofs.positions.trail.Trail.go_to.Goals as goal
@@ -29,7 +29,7 @@ longer-requires-clause-known c =
     let ws = c.args.dictionary.now in
     let all = c.args.all.now in
     let u = c.args.signs.now in
-    let now : c.starts_of.result.now ≡ starts_of ws all (take c.signs.i u) = c.starts_of.ensures ∙ ap (last_of all) c.signs.invariant.starts ∙ last_trail ws all u c.signs.i c.requires.known in
+    let now : c.starts_of.result.now ≡ starts_of ws all (take c.signs.i u) = c.starts_of.ensures ∙ ap (last_list all) c.signs.invariant.starts ∙ last_trail ws all u c.signs.i c.requires.known in
     All-same (IsStart ws) _ _ now (All-filter (begins_at ws (take c.signs.i u)) (IsStart ws) all c.requires.known)
 
 pub signs-preserved : goal.signs-preserved
@@ -38,7 +38,7 @@ signs-preserved c =
     let all = c.args.all.now in
     let u = c.args.signs.now in
     let i = c.signs.i in
-    let now : c.starts_of.result.now ≡ starts_of ws all (take i u) = c.starts_of.ensures ∙ ap (last_of all) c.signs.invariant.starts ∙ last_trail ws all u i c.requires.known in
+    let now : c.starts_of.result.now ≡ starts_of ws all (take i u) = c.starts_of.ensures ∙ ap (last_list all) c.signs.invariant.starts ∙ last_trail ws all u i c.requires.known in
     let found : c.in_ok-starts.starts.items ≡ starts_of ws all (take (i + 1) u) = c.in_ok-starts.ensures ∙ ap (λ (xs : List Start). filter (continues_with_by ws i (get_or u i 0)) xs) now
     ∙ longer_starts ws all u i (omega arith) in
     record {

@@ -6,7 +6,7 @@ use Rattle.pg_types.specs.declared.marks.Mark.TheVariants.{Missed, Found, DontCa
 use Rattle.pg_types.specs.declared.refusals.Kind.TheVariants.{DictionaryTooLong}
 use Rattle.pg_types.specs.declared.refusals.Refusal.{Refusal}
 use Rattle.pg_types.specs.Lines.{lines}
-use Rattle.pg_types.specs.Reading.{refusal_at}
+use Rattle.pg_types.specs.ValuesOrRefusals.{refusal_at}
 use Rattle.pg_translate.specs.declared.items.Place.TheVariants.{Dictionary}
 use Rattle.pg_translate.specs.Alphabets.{Alphabet}
 use Rattle.pg_translate.specs.Tokens.{Token}

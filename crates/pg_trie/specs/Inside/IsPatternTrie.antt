@@ -18,7 +18,7 @@ pub record IsListHead (records : List Record) (q : List ℕ) (head : ℕ) : Type
   pub dots : DotsUpTo (length q) (list_of records head)
 
 -- what is always true of the cells and the records of a pattern trie
-pub record IsTrie (cells : ValuedFamilies ℕ) (records : List Record) : Type 0 where
+pub record IsPatternTrie (cells : ValuedFamilies ℕ) (records : List Record) : Type 0 where
   pub signs : cells.signs ≤ SIGNS_MAX
   pub held : AreValuedFamilies cells
   pub heads : (q : List ℕ) (head : ℕ) → find (slice_cmp nat_cmp) q cells.values ≡ Some head
