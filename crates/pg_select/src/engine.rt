@@ -18,8 +18,9 @@ use std::alloc::{AllocError, Global};
 /// hopeless dotted strings that cover longer windows, and the counts of the windows of a pass.
 ///
 /// A run begins each pass, counts the windows of the positions that count, and chooses some of the
-/// counted windows and gives up others. It hyphenates each word once at the start of a level, or
-/// once in each pass of the level. What a call does not name stays as it was.
+/// counted windows and gives up others. It hyphenates each word once in each pass of the levels up
+/// to the greatest starting value, and once at the start of the next level. What a call does not
+/// name stays as it was.
 pub trait Engine {
     ghost meaning: { Self → Meaning };
 
