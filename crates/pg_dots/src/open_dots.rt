@@ -205,8 +205,8 @@ impl OpenDots {
     }
 }
 
-/// Asks for room for the rows of all dots, so that no row is copied when the next one is added. What
-/// no row needs stays untouched. Where there is no such room, each row asks for its own.
+/// Asks for room for the rows of all dots, so that no row is copied when the next one is added.
+/// What no row needs stays untouched. Where there is no such room, each row asks for its own.
 fn ask_for_rows(bits: &mut Vec<u64>, width: usize)
     requires { width ≤ positions_limit }
     ensures { bits.new.items ≡ bits.old.items }

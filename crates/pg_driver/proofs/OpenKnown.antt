@@ -329,7 +329,8 @@ module _ (level : LevelParams) (m : Minima) (words : List Word) (pass : Pass) (P
     status_after : IsUpTo pass.level P → DotsTell pass.level pass.len m P H w p closed → closed dot_of_no_pass ≡ not_counting (counts_as pass.level (status_at P w p))
         → closed_in level pass counts w p closed dot_of_no_pass ≡ not_counting (counts_as pass.level (status_at after_it w p))
     status_after upto told before = elim (cases_Bool (closed pass.dot)) [
-      | inl shut ↦ ap (λ b. cond b (closed dot_of_no_pass) (cond (fits w.signs p pass.len pass.dot) fitting (closed dot_of_no_pass || nat_eq dot_of_no_pass pass.dot))) shut ∙ before ∙ shut_still upto told shut
+      | inl shut ↦ ap (λ b. cond b (closed dot_of_no_pass) (cond (fits w.signs p pass.len pass.dot) fitting (closed dot_of_no_pass || nat_eq dot_of_no_pass pass.dot))) shut ∙ before
+          ∙ shut_still upto told shut
       | inr free ↦
           ap (λ b. cond b (closed dot_of_no_pass) (cond (fits w.signs p pass.len pass.dot) fitting (closed dot_of_no_pass || nat_eq dot_of_no_pass pass.dot))) free
           ∙ elim (cases_Bool (fits w.signs p pass.len pass.dot)) [
@@ -349,7 +350,8 @@ module _ (level : LevelParams) (m : Minima) (words : List Word) (pass : Pass) (P
       where
         fitting : Bool
         fitting =
-            option_map_or (λ (sums : ℕ × ℕ). closed_by closed pass.dot (Some (choice level sums.0 sums.1)) dot_of_no_pass) (counted_sums counts (window w.signs p pass.len pass.dot)) (closed dot_of_no_pass)
+            option_map_or (λ (sums : ℕ × ℕ). closed_by closed pass.dot (Some (choice level sums.0 sums.1)) dot_of_no_pass)
+            (counted_sums counts (window w.signs p pass.len pass.dot)) (closed dot_of_no_pass)
 
         given_up_there : Bool
         given_up_there = is_candidate (λ (c : Candidate). is_hopeless level c) (counted_positions m words pass P H) (window w.signs p pass.len pass.dot)

@@ -114,7 +114,8 @@ fn open_word<E: Engine>(
 }
 
 /// The positions that count at a level's start are open, and each dot of the others is closed. The
-/// totals stand beside them, and the positions that count at no level. Each word is hyphenated once.
+/// totals stand beside them, and the positions that count at no level. Each word is hyphenated
+/// once.
 pub fn open_level<E: Engine>(
     engine: &E,
     dictionary: &Dictionary,
@@ -129,8 +130,9 @@ pub fn open_level<E: Engine>(
         → p < length w.signs → is_closed opened.dots d (start_of dictionary.now n + p)
         ≡ not (is_open_first (minima_of table.now) level (E.meaning engine.now).patterns w p)) }
     ensures set_size { IfOk result (λ opened. room_of opened.never ≡ position_count opened.dots) }
-    ensures never { IfOk result (λ opened. (n p : ℕ) (w : Word) → slice_get dictionary.now n ≡ Some w
-        → p < length w.signs → is_among opened.never (start_of dictionary.now n + p)
+    ensures never { IfOk result (λ opened. (n p : ℕ) (w : Word)
+        → slice_get dictionary.now n ≡ Some w → p < length w.signs
+        → is_among opened.never (start_of dictionary.now n + p)
         ≡ not (takes_part (minima_of table.now) w p)) }
     ensures totals { IfOk result (λ opened. opened.totals
         ≡ totals_of_words (minima_of table.now) dictionary.now (E.meaning engine.now).patterns) }

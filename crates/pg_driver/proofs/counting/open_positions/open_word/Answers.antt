@@ -46,7 +46,8 @@ positions-preserved g c =
           let s0 = c.args.before in
           c.note_care.ensures.among s
           ∙ ap (λ b. not (nat_eq s (s0 + p) && has_care c.mark_at-mark.result) && b) (c.positions.invariant.never s low)
-          ∙ opens_next m w (cares_in w) c.in-Some.first c.in-Some.end c.in-Some.ensures.some s0 p s (has_care c.mark_at-mark.result) (is_among c.args.opened.now.never s) (omega (arith, c.positions.auto))
+          ∙ opens_next m w (cares_in w) c.in-Some.first c.in-Some.end c.in-Some.ensures.some s0 p s (has_care c.mark_at-mark.result) (is_among c.args.opened.now.never s)
+          (omega (arith, c.positions.auto))
           c.positions-test.true (ap has_care mark ∙ care_is P w p);
       sums = marks_step before.totals _ _ P w p c.in-Some.end c.positions-test.true sums c.positions.invariant.sums;
       few = omega arith;
