@@ -4,8 +4,8 @@ use Rattle.std.specs.Int.{bit_at, bit_not}
 use Rattle.std.proofs.lemmas.Bool.{cases_eq, cases_lt}
 use Rattle.std.proofs.lemmas.Nat.Bits.{bit_at-lt, bit_at-zero, bit_at_clear_other, bit_at_clear_same, bit_at_not}
 use Rattle.pg_dots.specs.declared.walk.Walk.{Walk}
-use Rattle.pg_dots.specs.Inside.Bits.{has_bit, IsFirstFailing}
-use Rattle.pg_dots.specs.Inside.Walks.{IsAhead}
+use Rattle.pg_types.specs.Inside.Bits.{has_bit}
+use Rattle.pg_dots.specs.Inside.Walks.{IsAhead, IsFirstFailing}
 use Rattle.pg_dots.proofs.Rows.{bit_clear, bit_set}
 
 -- on a number of which no bit was passed

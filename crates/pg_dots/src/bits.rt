@@ -1,40 +1,10 @@
-//! Rows of bits, 64 of them in a number.
-ghost use Rattle.std.specs.Prelude.{◌≡◌, ◌≤◌, ◌<◌, ◌*◌, ◌+◌, ◌-◌, ◌^◌, ◌||◌, ◌&&◌, ◌==◌, ℕ, not, nat_le, length, false};
-ghost use Rattle.std.specs.Int.{bit_at};
-ghost use Rattle.pg_dots.specs.Inside.Bits.{has_bit};
-
-/// How many bits a number has.
-pub const NUMBER_BITS: usize = 64;
+//! Changes of whole rows of bits.
+ghost use Rattle.std.specs.Prelude.{◌≡◌, ◌≤◌, ◌<◌, ◌*◌, ◌-◌, ◌^◌, ◌||◌, ◌&&◌, ℕ, not, nat_le, length};
+ghost use Rattle.pg_types.specs.Inside.Bits.{has_bit};
 
 /// There is room for at least so many numbers, 32 MB. A smaller block that is freed would make the
 /// allocator of the C library keep later vectors in its heap, where they leave holes as they grow.
 pub const ROOM_AT_LEAST: usize = 1 << 22;
-
-/// Sets bit `i` of a row.
-pub fn set(row: &mut [u64], i: usize)
-    requires { i < 64 * length row.old }
-    ensures { (j : ℕ) → has_bit row.new j ≡ (j == i || has_bit row.old j) }
-{
-    row[i / NUMBER_BITS] |= 1 << (i % NUMBER_BITS);
-}
-
-/// Clears bit `i` of a row.
-pub fn clear(row: &mut [u64], i: usize)
-    requires { i < 64 * length row.old }
-    ensures { (j : ℕ) → has_bit row.new j ≡ (not (j == i) && has_bit row.old j) }
-{
-    row[i / NUMBER_BITS] &= !(1 << (i % NUMBER_BITS));
-}
-
-/// The index of the lowest set bit of a number.
-pub fn lowest_set(number: u64) -> usize
-    requires { 0 < number }
-    ensures within { result < 64 }
-    ensures set { bit_at number result ≡ 1 }
-    ensures before { (i : ℕ) → i < result → bit_at number i ≡ 0 }
-{
-    number.trailing_zeros() as usize
-}
 
 /// Adds to each row of bits, from the third on, the bits of the row before it. A row has `width`
 /// numbers. The last number is done first, so that a row takes in the old bits of the one before.

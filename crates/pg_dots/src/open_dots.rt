@@ -1,13 +1,14 @@
 //! Which dots are closed at which positions.
 ghost use Rattle.std.specs.Prelude.{◌≡◌, ◌≤◌, ◌<◌, ◌*◌, ◌+◌, ◌-◌, ◌^◌, ◌||◌, ◌&&◌, ◌==◌, ℕ, not, nat_le, length, false, true, take, ◌++◌, IfOk, OnOk, OnErr};
-ghost use Rattle.pg_dots.specs.Inside.Bits.{has_bit};
+ghost use Rattle.pg_types.specs.Inside.Bits.{has_bit};
 ghost use Rattle.pg_types.specs.declared.limits.TheConstants.{LENGTH_MAX};
 ghost use Rattle.pg_types.specs.Inside.Limits.{positions_limit};
 
-use crate::bits::{NUMBER_BITS, ROOM_AT_LEAST, clear, set, take_in_before, turn_others};
+use crate::bits::{ROOM_AT_LEAST, take_in_before, turn_others};
 use crate::position_set::PositionSet;
 use crate::walk::Walk;
 use pg_types::LENGTH_MAX;
+use pg_types::bits::{NUMBER_BITS, clear, set};
 use std::alloc::{AllocError, Global};
 
 /// How many dots there are: those of the greatest length.
@@ -35,7 +36,7 @@ pub struct OpenDots {
 }
 
 impl OpenDots {
-    ghost use Rattle.pg_dots.specs.Inside.Bits.{IsFirstFailing};
+    ghost use Rattle.pg_dots.specs.Inside.Walks.{IsFirstFailing};
     ghost use Rattle.pg_dots.specs.Inside.Dots.{is_closed, position_count, HasWalk};
     ghost use Rattle.pg_dots.specs.Inside.Positions.{is_among, room_of};
     ghost use Rattle.pg_dots.specs.Inside.Walks.{IsAhead};

@@ -1,7 +1,8 @@
 //! A set of positions of the words of a dictionary.
 ghost use Rattle.std.specs.Prelude.{◌≡◌, ◌<◌, ◌*◌, ◌-◌, ◌^◌, ◌&&◌, ◌==◌, ℕ, not, length, true, IfOk};
 
-use crate::bits::{ROOM_AT_LEAST, clear};
+use crate::bits::ROOM_AT_LEAST;
+use pg_types::bits::clear;
 use std::alloc::{AllocError, Global};
 
 /// A set of positions of the words of a dictionary, which are numbered through all words, from 0.

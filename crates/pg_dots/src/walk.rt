@@ -1,9 +1,9 @@
 //! A walk over the clear bits of a row.
 ghost use Rattle.std.specs.Prelude.{◌≡◌, ◌≤◌, ◌<◌, ◌*◌, ◌+◌, ◌^◌, ℕ, length};
-ghost use Rattle.pg_dots.specs.Inside.Bits.{has_bit, IsFirstFailing};
-ghost use Rattle.pg_dots.specs.Inside.Walks.{IsAhead};
+ghost use Rattle.pg_types.specs.Inside.Bits.{has_bit};
+ghost use Rattle.pg_dots.specs.Inside.Walks.{IsAhead, IsFirstFailing};
 
-use crate::bits::{NUMBER_BITS, lowest_set};
+use pg_types::bits::{NUMBER_BITS, lowest_set};
 
 /// How far a walk over the clear bits of a row has come: the number where it is, and which clear
 /// bits of that number are ahead.

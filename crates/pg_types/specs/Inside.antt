@@ -5,3 +5,4 @@ pub mod Limits
 pub mod Placing
 pub mod Ranges
 pub mod Signs
+pub mod Bits

@@ -1,8 +1,9 @@
 //! What every crate of PatGen speaks of: signs, weights and limits, the status of a position,
-//! totals, a layout's numbers, refusals, lines, numbers in a text, the sizes of a packed table, the
-//! parameters of a run, and the cursor over windows.
+//! totals, a layout's numbers, refusals, lines, numbers in a text, rows of bits, the sizes of a
+//! packed table, the parameters of a run, and the cursor over windows.
 #![tactic(auto)]
 
+pub mod bits;
 pub mod cursor;
 mod items;
 pub mod limits;

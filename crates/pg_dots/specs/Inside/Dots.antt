@@ -1,6 +1,6 @@
 -- Which dots are closed at which positions.
 use Rattle.std.specs.Prelude.{ℕ, ◌+◌, ◌*◌, ◌<◌, nat_lt, Bool, if◌then◌else◌}
-use Rattle.pg_dots.specs.Inside.Bits.{has_bit}
+use Rattle.pg_types.specs.Inside.Bits.{has_bit}
 use Rattle.pg_dots.specs.declared.open_dots.OpenDots.{OpenDots}
 use Rattle.pg_dots.specs.declared.walk.Walk.{Walk}
 

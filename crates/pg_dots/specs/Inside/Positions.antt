@@ -1,6 +1,6 @@
 -- Sets of positions.
 use Rattle.std.specs.Prelude.{ℕ, ◌*◌, Bool, length}
-use Rattle.pg_dots.specs.Inside.Bits.{has_bit}
+use Rattle.pg_types.specs.Inside.Bits.{has_bit}
 use Rattle.pg_dots.specs.declared.position_set.PositionSet.{PositionSet}
 
 -- how many positions a set has bits for

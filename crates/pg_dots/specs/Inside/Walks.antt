@@ -3,6 +3,13 @@ use Rattle.std.specs.Prelude.{◌≡◌, ℕ, ◌+◌, ◌-◌, ◌*◌, ◌<◌
 use Rattle.std.specs.Int.{bit_at}
 use Rattle.pg_dots.specs.declared.walk.Walk.{Walk}
 
+-- `next` is the first index from `from` on at which the test fails, or else the end
+pub record IsFirstFailing (test : ℕ → Bool) (end from next : ℕ) : Type 0 where
+  pub after : from ≤ next
+  pub within : next ≤ end
+  pub fails : next < end → test next ≡ false
+  pub passes : (i : ℕ) → from ≤ i → i < next → test i ≡ true
+
 -- a walk has ahead the bits from an index on at which a test fails: in its number and behind it
 pub record IsAhead (test : ℕ → Bool) (w : Walk) (from : ℕ) : Type 0 where
   pub upto : from ≤ 64 * w.at + 64

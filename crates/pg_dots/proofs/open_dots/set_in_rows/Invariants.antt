@@ -1,5 +1,5 @@
 use Rattle.std.proofs.Common.{◌≡◌, ℕ, ◌+◌, ◌*◌, ◌<◌, nat_lt, nat_eq, ◌&&◌, ◌||◌}
-use Rattle.pg_dots.specs.Inside.Bits.{has_bit}
+use Rattle.pg_types.specs.Inside.Bits.{has_bit}
 use Rattle.pg_dots.proofs.open_dots.set_in_rows.Given as goal
 
 abbrev pub invariant-rows : goal.invariant-rows

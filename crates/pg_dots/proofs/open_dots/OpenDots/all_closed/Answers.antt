@@ -1,5 +1,5 @@
 use Rattle.std.proofs.Common.{◌≡◌, ◌+◌, ◌-◌, ◌*◌, ◌/◌, ◌^◌, replicate, ap, ◌∙◌, arith, rules}
-use Rattle.pg_dots.specs.Inside.Bits.{has_bit}
+use Rattle.pg_types.specs.Inside.Bits.{has_bit}
 use Rattle.pg_dots.specs.Inside.Dots.{is_closed, dot_row}
 use Rattle.pg_dots.proofs.Places.{full_bit, row_beyond}
 use Rattle.pg_dots.proofs.open_dots.OpenDots.all_closed.Goals as goal

@@ -1,7 +1,7 @@
 use Rattle.std.proofs.Common.{◌≡◌, ℕ, ◌+◌, ◌*◌, ◌<◌, not, ◌||◌, List, length, take, ap, ◌∙◌, arith, rules}
 use Rattle.std.proofs.lemmas.List.{length-take-le, with_items_is, places}
 use Rattle.pg_types.specs.declared.limits.TheConstants.{LENGTH_MAX}
-use Rattle.pg_dots.specs.Inside.Bits.{has_bit}
+use Rattle.pg_types.specs.Inside.Bits.{has_bit}
 use Rattle.pg_dots.specs.Inside.Dots.{is_closed, dot_row}
 use Rattle.pg_dots.specs.Inside.Positions.{is_among}
 use Rattle.pg_dots.proofs.Places.{next_level_row}

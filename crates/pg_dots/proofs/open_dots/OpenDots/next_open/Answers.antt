@@ -1,5 +1,5 @@
 use Rattle.std.proofs.Common.{◌*◌, sym, ◌∙◌, arith}
-use Rattle.pg_dots.specs.Inside.Bits.{has_bit}
+use Rattle.pg_types.specs.Inside.Bits.{has_bit}
 use Rattle.pg_dots.specs.Inside.Dots.{is_closed}
 use Rattle.pg_dots.specs.Inside.Walks.{IsAhead}
 use Rattle.pg_dots.proofs.Walks.{ahead_kept}

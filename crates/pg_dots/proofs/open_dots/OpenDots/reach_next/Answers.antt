@@ -1,6 +1,6 @@
 use Rattle.std.proofs.Common.{◌+◌, ◌*◌, length, take, ap, ◌∙◌, arith, length-append}
 use Rattle.std.proofs.lemmas.List.{length-take-le}
-use Rattle.pg_dots.specs.Inside.Bits.{has_bit}
+use Rattle.pg_types.specs.Inside.Bits.{has_bit}
 use Rattle.pg_dots.specs.Inside.Dots.{is_closed, dot_row}
 use Rattle.pg_dots.proofs.Places.{reached_more}
 use Rattle.pg_dots.proofs.open_dots.OpenDots.reach_next.Goals as goal

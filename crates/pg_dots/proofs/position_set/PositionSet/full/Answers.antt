@@ -1,5 +1,5 @@
 use Rattle.std.proofs.Common.{◌≡◌, ◌-◌, ◌^◌, replicate, ap, ◌∙◌, rules}
-use Rattle.pg_dots.specs.Inside.Bits.{has_bit}
+use Rattle.pg_types.specs.Inside.Bits.{has_bit}
 use Rattle.pg_dots.specs.Inside.Positions.{is_among}
 use Rattle.pg_dots.proofs.Places.{full_bit}
 use Rattle.pg_dots.proofs.position_set.PositionSet.full.Goals as goal

@@ -1,6 +1,6 @@
 use Rattle.std.proofs.Common.{not, nat_eq, ◌&&◌, ap, ◌∙◌, rules}
 use Rattle.std.proofs.lemmas.List.{with_items_is, places}
-use Rattle.pg_dots.specs.Inside.Bits.{has_bit}
+use Rattle.pg_types.specs.Inside.Bits.{has_bit}
 use Rattle.pg_dots.specs.Inside.Positions.{is_among}
 use Rattle.pg_dots.proofs.position_set.PositionSet.remove.Goals as goal
 

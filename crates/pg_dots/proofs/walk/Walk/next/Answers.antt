@@ -1,5 +1,6 @@
 use Rattle.std.proofs.Common.{◌≡◌, ◌+◌, ◌*◌, length, subst, arith}
-use Rattle.pg_dots.specs.Inside.Bits.{has_bit, IsFirstFailing}
+use Rattle.pg_types.specs.Inside.Bits.{has_bit}
+use Rattle.pg_dots.specs.Inside.Walks.{IsFirstFailing}
 use Rattle.pg_dots.proofs.Walks.{ahead_behind, next_none, next_some}
 use Rattle.pg_dots.proofs.walk.Walk.next.Goals as goal
 

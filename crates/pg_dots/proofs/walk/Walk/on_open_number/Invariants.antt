@@ -1,5 +1,5 @@
 use Rattle.std.proofs.Common.{◌≡◌, ℕ, ◌+◌, ◌<◌, length}
-use Rattle.pg_dots.specs.Inside.Bits.{has_bit}
+use Rattle.pg_types.specs.Inside.Bits.{has_bit}
 use Rattle.pg_dots.specs.Inside.Walks.{IsAhead}
 use Rattle.pg_dots.proofs.walk.Walk.on_open_number.Given as goal
 

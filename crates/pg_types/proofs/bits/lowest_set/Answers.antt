@@ -1,6 +1,6 @@
 use Rattle.std.proofs.Common.{arith, w64}
 use Rattle.std.proofs.lemmas.Nat.Bits.{bit_at-trailing_zeros}
-use Rattle.pg_dots.proofs.bits.lowest_set.Goals as goal
+use Rattle.pg_types.proofs.bits.lowest_set.Goals as goal
 
 pub returns-clause-within : goal.returns-clause-within
 returns-clause-within c = omega (arith, (bit_at-trailing_zeros w64 c.args.number c.requires (omega (arith, c.ranges.number))).0)

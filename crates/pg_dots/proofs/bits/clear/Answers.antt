@@ -1,5 +1,0 @@
-use Rattle.pg_dots.proofs.Rows.{clear_bit}
-use Rattle.pg_dots.proofs.bits.clear.Goals as goal
-
-pub returns : goal.returns
-returns c = λ j. clear_bit c.args.row.now c.args.i j c.requires
