@@ -5,10 +5,13 @@ use Rattle.std.proofs.lemmas.List.{get_or-set_same, get_or-set_other, get_or_pas
 use Rattle.pg_cells.specs.declared.store.cell.TheConstants.{CELLS_END, SIGN_COUNT}
 use Rattle.pg_cells.specs.declared.store.cell.Cell.{Cell}
 use Rattle.pg_cells.specs.declared.store.member.Member.{Member}
-use Rattle.pg_cells.specs.Inside.store.Lists.{sign_seen, base_seen, link_seen, LinkedRow, linked_row, row_of, sign_at, with_free, with_base, before_seen}
+use Rattle.pg_cells.specs.Inside.store.Lists.{sign_seen, base_seen, link_seen, LinkedRow, linked_row, row_of, sign_at, base_at, with_free, with_base, before_seen}
+use Rattle.pg_cells.specs.declared.store.marks.Marks.{Marks}
+use Rattle.pg_cells.specs.Inside.store.Marks.{room_of, is_marked}
 use Rattle.pg_cells.specs.Inside.store.FreeList.{IsFreeList, AreLinked, IsFreeTo}
 use Rattle.pg_cells.specs.Inside.families.Root.{IsRootTo}
 use Rattle.pg_cells.specs.Inside.store.Store.{IsKept, IsStore}
+use Rattle.pg_cells.proofs.MarkLaws.{marks_none}
 use Rattle.pg_cells.proofs.BlockedLaws.{blocked_none}
 use Rattle.pg_cells.proofs.RootSteps.{how_many_zero, planted_cleared}
 use Rattle.pg_cells.proofs.RowWrites.{is_row}
@@ -117,11 +120,22 @@ module _ {V : Type 0} (cells : List (Cell V)) (last : ℕ) (h : IsFreeTo last (l
     count = sym (how_many_zero (row_of cells).signs free_none);
   }
 
+  -- no index is a base
+  free_bases : (i : ℕ) → base_at (row_of cells) i ≡ false
+  free_bases i =
+      let bases = (row_of cells).bases in
+      elim (cases_lt i (length bases)) [
+        | inl lt ↦ h.bases i (omega (arith, length-map cells base_seen))
+        | inr le ↦ get_or_past bases i false le
+      ]
+
   -- a store whose cells are all free
-  pub free_store : (lows : List ℕ) (dropped sought : ℕ) → length lows ≤ SIGN_COUNT → 0 < length cells → length cells < CELLS_END → AreLinked (linked_row cells)
-      → IsStore cells 0 0 lows 0 dropped 0 sought
-  free_store lows dropped sought few up small linked = record {
+  pub free_store : (marks bases : Marks) (lows : List ℕ) (dropped sought : ℕ) → length lows ≤ SIGN_COUNT → 0 < length cells → length cells < CELLS_END → AreLinked (linked_row cells)
+      → length cells ≤ room_of marks → length cells ≤ room_of bases → ((i : ℕ) → is_marked marks i ≡ false) → ((i : ℕ) → is_marked bases i ≡ false)
+      → IsStore cells 0 0 marks bases lows 0 dropped 0 sought
+  free_store marks bases lows dropped sought few up small linked room base_room none none_bases = record {
     kept = free_kept up small linked;
+    marked = let size = length-map cells sign_seen in marks_none (row_of cells) marks bases (omega arith) (omega arith) free_none free_bases none none_bases;
     few = few;
     bounds = λ s b above below. absurd (let far = below.under_cell in omega arith);
     blocked = blocked_none (row_of cells) 0 sought (omega arith);

@@ -5,6 +5,7 @@ pub mod AddTrie
 pub mod AddedSlot
 pub mod AllFree
 pub mod BaseCells
+pub mod BlockSteps
 pub mod BlockedLaws
 pub mod BoundLaws
 pub mod ChainSteps
@@ -24,6 +25,8 @@ pub mod LinkedLists
 pub mod LinkedSigns
 pub mod LinkedSteps
 pub mod LoneStore
+pub mod MarkLaws
+pub mod MarkRows
 pub mod MoveSteps
 pub mod MovedTrie
 pub mod OneSign

@@ -1,30 +1,35 @@
 //! The store: one vector of cells, whose free ones are linked in rising order.
-ghost use Rattle.std.specs.Prelude.{◌≡◌, ◌≢◌, ℕ, ◌+◌, ◌<◌, ◌≤◌, ◌∷◌, length, nat_eq, slice_get, Some, IfOk, OnOk};
+ghost use Rattle.std.specs.Prelude.{◌≡◌, ◌≢◌, ℕ, ◌+◌, ◌<◌, ◌≤◌, ◌==◌, if◌then◌else◌, ◌∷◌, length, nat_eq, slice_get, Some, IfOk, OnOk};
 ghost use Rattle.pg_types.specs.Inside.Placing.{IsLeast};
 ghost use Rattle.pg_cells.specs.Inside.store.Lists.{linked_row, FitsCell, SaysTaken, row_of, without_links, sign_at, child_at, IsFree};
 ghost use Rattle.pg_cells.specs.Inside.store.FreeList.{AreLinked};
 ghost use Rattle.pg_cells.specs.Inside.store.BlockedBases.{AreBlocked};
 ghost use Rattle.pg_cells.specs.Inside.store.Bounds.{NoneFree};
 ghost use Rattle.pg_cells.specs.Inside.store.Fit.{HasSpace, fits_row, slot_signs};
+ghost use Rattle.pg_cells.specs.Inside.store.Marks.{room_of, is_marked};
 ghost use Rattle.pg_cells.specs.Inside.store.Store.{one_free, taken_in, IsTop, IsRow, Extends};
 ghost use Rattle.pg_cells.specs.Inside.families.Root.{IsRootTo};
 ghost use Rattle.pg_cells.specs.Inside.store.Writes.{Takes, Frees, SetsChild, SetsRowValue, SetsBase};
 ghost use Rattle.pg_cells.specs.declared.store.member.Member.{Member as MemberOf};
 
+mod blocks;
 mod bounds;
 mod cell;
 mod chain;
 pub mod fit;
+mod marks;
 pub mod member;
 
+use crate::store::blocks::find_in_blocks;
 use crate::store::bounds::{bound_of, least_dropped, no_bounds, raise, still_placed};
 use crate::store::cell::{
     CELLS_END, Cell, SIGN_COUNT, child_of, is_taken, set_base, set_child, set_value, value_of,
 };
 use crate::store::chain::{free_all, free_cell, push_cell, take_cell};
 use crate::store::fit::{Slot, find_base, has_sign_there, is_taken_there};
+use crate::store::marks::Marks;
 use crate::store::member::Member;
-use pg_types::Sign;
+use pg_types::{FEW_SIGNS, Sign};
 use std::alloc::{AllocError, Global};
 use std::marker::Model;
 
@@ -38,6 +43,10 @@ pub struct Store<V: Copy> {
     cells: Vec<Cell<V>>,
     top: usize,
     taken: usize,
+    /// The taken cells, a bit for each.
+    marks: Marks,
+    /// The bases of families, a bit for each.
+    bases: Marks,
     /// For each sign a bound. No base below it can be taken, since the base or the cell of the sign
     /// is taken.
     lows: Vec<u32>,
@@ -63,7 +72,8 @@ impl<V: Copy> Model for Store<V> {
     ghost view = { λ s. row_of s.cells.items };
 
     ghost invariant = { λ s.
-        IsStore s.cells.items s.top s.taken s.lows.items s.freed s.dropped s.placed s.sought };
+        IsStore s.cells.items s.top s.taken s.marks s.bases s.lows.items s.freed s.dropped s.placed
+        s.sought };
 }
 
 impl<V: Copy> Store<V> {
@@ -78,11 +88,17 @@ impl<V: Copy> Store<V> {
             signs: 0,
             links: 0,
         })?;
+        let mut marks = Marks::none(alloc);
+        marks.make_room(1)?;
+        let mut bases = Marks::none(alloc);
+        bases.make_room(1)?;
         let lows = no_bounds(alloc, signs)?;
         Ok(Store {
             cells,
             top: 0,
             taken: 0,
+            marks,
+            bases,
             lows,
             freed: 0,
             dropped: 0,
@@ -164,6 +180,7 @@ impl<V: Copy> Store<V> {
         ensures row { IsRow self.new }
     {
         set_base(self.cells.as_mut_slice(), cell, is_base);
+        set_mark(&mut self.bases, cell, is_base);
         self.dropped = least_dropped(self.dropped, cell, is_base);
         self.placed = still_placed(self.placed, is_base);
     }
@@ -186,6 +203,7 @@ impl<V: Copy> Store<V> {
             slot.value,
             slot.child,
         );
+        self.marks.mark(cell);
         self.top = self.top.max(cell);
         self.taken += 1;
     }
@@ -198,6 +216,7 @@ impl<V: Copy> Store<V> {
         ensures row { IsRow self.new }
     {
         free_cell(self.cells.as_mut_slice(), cell);
+        self.marks.unmark(cell);
         self.top = taken_up_to(self.cells.as_slice(), self.top);
         self.taken -= 1;
         self.freed = self.freed.min(cell);
@@ -217,6 +236,8 @@ impl<V: Copy> Store<V> {
         self.cells.truncate(count);
         self.cells.shrink_to(CELLS_AT_FIRST);
         free_all(self.cells.as_mut_slice());
+        self.marks.clear();
+        self.bases.clear();
         self.top = 0;
         self.taken = 0;
         self.freed = 0;
@@ -232,6 +253,8 @@ impl<V: Copy> Store<V> {
         if count <= self.cells.len() {
             return Ok(());
         }
+        self.marks.make_room(count)?;
+        self.bases.make_room(count)?;
         grow_cells(&mut self.cells, count, value)
     }
 
@@ -296,7 +319,24 @@ impl<V: Copy> Store<V> {
         ensures least { IsLeast (fits_row self.now (sign ∷ slot_signs slots.now)) low result }
         ensures room { result ≤ room }
     {
-        find_base(self.cells.as_slice(), slots, sign, low, room)
+        if slots.len() < FEW_SIGNS {
+            return find_base(self.cells.as_slice(), slots, sign, low, room);
+        }
+        find_in_blocks(&self.marks, &self.bases, slots, sign, low, room)
+    }
+}
+
+// Says whether a cell is marked.
+fn set_mark(marks: &mut Marks, cell: usize, to_mark: bool)
+    requires { cell < room_of marks.old }
+    ensures room { room_of marks.new ≡ room_of marks.old }
+    ensures marked { (i : ℕ) → is_marked marks.new i
+        ≡ (if i == cell then to_mark else is_marked marks.old i) }
+{
+    if to_mark {
+        marks.mark(cell);
+    } else {
+        marks.unmark(cell);
     }
 }
 
@@ -322,6 +362,7 @@ fn grow_cells<V: Copy>(cells: &mut Vec<Cell<V>>, count: usize, value: V) -> Resu
     ensures small { length cells.new.items < CELLS_END }
     ensures extends { Extends (row_of cells.old.items) (row_of cells.new.items) }
     ensures length { OnOk result (count ≤ length cells.new.items) }
+    ensures within { length cells.old.items ≤ count → length cells.new.items ≤ count }
 {
     if count >= CELLS_END {
         return Err(AllocError);

@@ -4,5 +4,7 @@ pub mod Bounds
 pub mod Fit
 pub mod FreeList
 pub mod Lists
+pub mod MarkedFit
+pub mod Marks
 pub mod Store
 pub mod Writes

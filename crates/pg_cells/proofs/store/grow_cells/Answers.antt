@@ -13,10 +13,11 @@ grow-preserved g c =
       linked = c.in_ok-push_cell.ensures.linked;
       small = omega (arith, longer_once c.grow.cells.items c.push_cell.new.cells.items c.args.value row);
       extends = extended_once (row_of c.args.cells.now.items) c.grow.cells.items c.push_cell.new.cells.items c.args.value c.grow.invariant.extends row;
+      within = λ under. omega (arith, longer_once c.grow.cells.items c.push_cell.new.cells.items c.args.value row);
     }
 
 pub grow-init : goal.grow-init
-grow-init g c = record { linked = c.requires.linked; small = c.requires.small; extends = extends_same (row_of c.args.cells.now.items) }
+grow-init g c = record { linked = c.requires.linked; small = c.requires.small; extends = extends_same (row_of c.args.cells.now.items); within = λ under. under }
 
 pub grow-smaller : goal.grow-smaller
 grow-smaller g c = let more = longer_once c.grow.cells.items c.push_cell.new.cells.items c.args.value c.in_ok-push_cell.ensures.row in omega arith
@@ -51,3 +52,6 @@ returns-clause-small g c = c.grow.invariant.small
 
 pub returns-clause-extends : goal.returns-clause-extends
 returns-clause-extends g c = c.grow.invariant.extends
+
+pub returns-clause-within : goal.returns-clause-within
+returns-clause-within g c = c.grow.invariant.within

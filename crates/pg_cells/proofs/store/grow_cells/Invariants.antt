@@ -1,4 +1,4 @@
-use Rattle.std.proofs.Common.{◌<◌, ◌-◌, length}
+use Rattle.std.proofs.Common.{◌<◌, ◌≤◌, ◌-◌, length}
 use Rattle.pg_cells.specs.declared.store.cell.TheConstants.{CELLS_END}
 use Rattle.pg_cells.specs.Inside.store.Lists.{linked_row, row_of}
 use Rattle.pg_cells.specs.Inside.store.FreeList.{AreLinked}
@@ -10,6 +10,7 @@ invariant-grow g l = record {
   linked : AreLinked (linked_row l.cells.items);
   small : length l.cells.items < CELLS_END;
   extends : Extends (row_of l.initial.cells.items) (row_of l.cells.items);
+  within : length l.initial.cells.items ≤ l.count → length l.cells.items ≤ l.count;
 }
 
 abbrev pub decreases-grow : goal.decreases-grow

@@ -32,8 +32,12 @@ invariant_of-self g c =
     let same = c.free_all.ensures.size in
     let free = subst (λ k. IsFreeTo (length c.as_mut_slice.result.now - 1) k (linked_row c.free_all.new.cells)) (sym same) c.free_all.ensures.free in
     let small = c.self.invariant.kept.small in
-    rw back (free_store c.free_all.new.cells (length c.as_mut_slice.result.now - 1) free
-    c.self.inside.lows.items c.self.inside.dropped c.self.inside.sought c.self.invariant.few (omega arith) (omega arith) c.free_all.ensures.linked)
+    let room = c.self.invariant.marked.cell_room in
+    let base_room = c.self.invariant.marked.base_room in
+    rw back (free_store c.free_all.new.cells (length c.as_mut_slice.result.now - 1) free c.clear.new.self c.clear-2.new.self
+    c.self.inside.lows.items c.self.inside.dropped c.self.inside.sought c.self.invariant.few (omega arith) (omega arith) c.free_all.ensures.linked
+    (omega (arith, c.clear.ensures.room, length-map c.self.inside.cells.items sign_seen)) (omega (arith, c.clear-2.ensures.room, length-map c.self.inside.cells.items sign_seen))
+    c.clear.ensures.none c.clear-2.ensures.none)
 
 pub returns : goal.returns
 returns g c =

@@ -1,10 +1,13 @@
-use Rattle.std.proofs.Common.{◌<◌, ◌∷◌, List, length, sym, ap, subst, ◌∙◌}
+use Rattle.std.proofs.Common.{◌≡◌, ℕ, ◌<◌, ◌∷◌, arith, List, length, sym, ap, subst, ◌∙◌}
+use Rattle.std.proofs.lemmas.List.{length-map}
 use Rattle.pg_types.specs.Inside.Placing.{IsLeast}
 use Rattle.pg_cells.specs.declared.store.cell.Cell.{Cell}
 use Rattle.pg_cells.specs.declared.store.cell.TheConstants.{CELLS_END}
-use Rattle.pg_cells.specs.Inside.store.Lists.{linked_row, row_of}
+use Rattle.pg_cells.specs.Inside.store.Lists.{linked_row, row_of, sign_seen}
 use Rattle.pg_cells.specs.Inside.store.FreeList.{AreLinked}
 use Rattle.pg_cells.specs.Inside.store.Fit.{HasSpace, fits_row, slot_signs}
+use Rattle.pg_cells.specs.Inside.store.MarkedFit.{fits_marks}
+use Rattle.pg_cells.proofs.MarkLaws.{fits_same}
 use Rattle.pg_cells.proofs.store.Store.find_base.Goals as goal
 
 pub find_base-requires : goal.find_base-requires
@@ -17,8 +20,32 @@ find_base-requires g c =
       room = subst (λ r. HasSpace r c.args.slots.now c.args.sign c.args.room) (sym seen) c.requires.room;
     }
 
-pub returns : goal.returns
-returns g c = record {
+pub returns-then-slots-lt-FEW_SIGNS : goal.returns-then-slots-lt-FEW_SIGNS
+returns-then-slots-lt-FEW_SIGNS g c = record {
   least = subst (λ r. IsLeast (fits_row r (c.args.sign ∷ slot_signs c.args.slots.now)) c.args.low c.find_base.result) (ap row_of c.as_slice.ensures.value ∙ c.self.view_is) c.find_base.ensures.least;
   room = c.find_base.ensures.room;
 }
+
+pub find_in_blocks-requires : goal.find_in_blocks-requires
+find_in_blocks-requires g c =
+    let row = row_of c.self.inside.cells.items in
+    let has : HasSpace row c.args.slots.now c.args.sign c.args.room = subst (λ r. HasSpace r c.args.slots.now c.args.sign c.args.room) (sym c.self.view_is) c.requires.room in
+    let small = c.self.invariant.kept.small in
+    record {
+      low = c.requires.low;
+      small = omega (arith, has.within, length-map c.self.inside.cells.items sign_seen);
+      room = fits_same row c.self.inside.marks c.self.inside.bases c.self.invariant.marked (c.args.sign ∷ slot_signs c.args.slots.now) c.args.room ∙ has.fits;
+    }
+
+pub returns : goal.returns
+returns g c =
+    let row = row_of c.self.inside.cells.items in
+    let signs = c.args.sign ∷ slot_signs c.args.slots.now in
+    let found = c.find_in_blocks.ensures.least in
+    let same : (b : ℕ) → fits_row row signs b ≡ fits_marks c.self.inside.marks c.self.inside.bases signs b =
+    λ b. sym (fits_same row c.self.inside.marks c.self.inside.bases c.self.invariant.marked signs b) in
+    record {
+      least = subst (λ r. IsLeast (fits_row r signs) c.args.low c.find_in_blocks.result) c.self.view_is
+          (record { from = found.from; meets = same c.find_in_blocks.result ∙ found.meets; first = λ k from lt. same k ∙ found.first k from lt });
+      room = c.find_in_blocks.ensures.room;
+    }

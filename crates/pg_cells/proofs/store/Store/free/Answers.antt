@@ -12,6 +12,7 @@ use Rattle.pg_cells.specs.Inside.store.Writes.{Frees}
 use Rattle.pg_cells.proofs.RowWrites.{is_row, row_frees}
 use Rattle.pg_cells.proofs.BlockedLaws.{blocked_none}
 use Rattle.pg_cells.proofs.BoundLaws.{bounds_free}
+use Rattle.pg_cells.proofs.MarkLaws.{marks_free}
 use Rattle.pg_cells.proofs.StoreSteps.{given_back, kept_freed, some_taken}
 use Rattle.pg_cells.proofs.store.Store.free.Goals as goal
 
@@ -32,6 +33,12 @@ free_cell-requires-clause-cell g c =
     let within = subst (λ n. c.args.cell < n) (signs_long c.self.inside.cells.items) (taken_within (row_of c.self.inside.cells.items) c.args.cell taken) in
     (c.requires.cell, subst (λ (cells : List (Cell g.row.V.Denot)). c.args.cell < length cells) (sym c.as_mut_slice.ensures.value) within)
 
+pub unmark-requires : goal.unmark-requires
+unmark-requires g c =
+    let taken : sign_at (row_of c.self.inside.cells.items) c.args.cell ≢ 0 = λ z. c.requires.taken (subst (λ r. sign_at r c.args.cell ≡ 0) c.self.view_is z) in
+    let room = c.self.invariant.marked.cell_room in
+    omega (arith, taken_within (row_of c.self.inside.cells.items) c.args.cell taken)
+
 pub invariant_of-self : goal.invariant_of-self
 invariant_of-self g c =
     let size : length c.free_cell.new.cells ≡ c.self.inside.cells.len = omega arith in
@@ -44,6 +51,9 @@ invariant_of-self g c =
       taken_within (row_of c.self.inside.cells.items) c.args.cell taken,
       length-map c.self.inside.cells.items sign_seen,
     ) in
+    let frees : Frees (row_of c.self.inside.cells.items) (row_of c.free_cell.new.cells) c.args.cell =
+    subst (λ r. Frees (row_of c.self.inside.cells.items) r c.args.cell) (sym (c.free_cell.ensures.row ∙ ap (λ cells. with_free (row_of cells) c.args.cell) c.as_mut_slice.ensures.value))
+    (row_frees c.self.inside.cells.items c.args.cell taken) in
     let r = c.taken_up_to-self-inside.result in
     let top = c.taken_up_to-self-inside.ensures in
     rw back
@@ -52,11 +62,12 @@ invariant_of-self g c =
           (c.free_cell.ensures.row ∙ ap (λ cells. with_free (row_of cells) c.args.cell) c.as_mut_slice.ensures.value) c.free_cell.ensures.linked
           top.below (subst (λ cells. 0 < r → sign_at (row_of cells) r ≢ 0) seen top.used)
           (subst (λ cells. (k : ℕ) → k ≤ c.self.inside.top → sign_at (row_of cells) k ≢ 0 → k ≤ r) seen top.most);
+      marked = marks_free (row_of c.self.inside.cells.items) c.self.inside.marks c.self.inside.bases c.self.invariant.marked (row_of c.free_cell.new.cells)
+          c.args.cell c.unmark.new.self frees c.unmark.ensures.room c.unmark.ensures.marked;
       few = c.self.invariant.few;
       bounds = bounds_free (row_of c.self.inside.cells.items) (row_of c.free_cell.new.cells) c.self.inside.lows.items c.self.inside.freed c.self.inside.dropped c.self.invariant.bounds c.args.cell _
           (omega arith) (omega arith)
-          (subst (λ r. Frees (row_of c.self.inside.cells.items) r c.args.cell) (sym (c.free_cell.ensures.row ∙ ap (λ cells. with_free (row_of cells) c.args.cell) c.as_mut_slice.ensures.value))
-          (row_frees c.self.inside.cells.items c.args.cell taken));
+          frees;
       blocked = blocked_none (row_of c.free_cell.new.cells) 0 c.self.inside.sought (omega arith);
     })
 

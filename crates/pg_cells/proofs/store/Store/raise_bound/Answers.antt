@@ -24,6 +24,7 @@ invariant_of-self g c =
     rw (given_back c.raise.new.lows c.self.inside.lows.items c.self.inside.lows.len size)
     (record {
       kept = c.self.invariant.kept;
+      marked = c.self.invariant.marked;
       few = let few = c.self.invariant.few in omega arith;
       bounds =
           bounds_raise (row_of c.self.inside.cells.items) c.self.inside.lows.items c.raise.new.lows c.self.inside.freed c.self.inside.dropped c.args.sign c.args.base _ _

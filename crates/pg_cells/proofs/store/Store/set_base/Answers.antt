@@ -10,6 +10,7 @@ use Rattle.pg_cells.proofs.ChainSteps.{signs_long}
 use Rattle.pg_cells.proofs.RowWrites.{is_row, row_base}
 use Rattle.pg_cells.proofs.BlockedLaws.{blocked_base}
 use Rattle.pg_cells.proofs.BoundLaws.{bounds_base}
+use Rattle.pg_cells.proofs.MarkLaws.{marks_base}
 use Rattle.pg_cells.proofs.StoreSteps.{given_back, kept_write}
 use Rattle.pg_cells.proofs.store.Store.set_base.Goals as goal
 
@@ -18,25 +19,33 @@ set_base-requires g c =
     subst (λ n. c.args.cell < n) (ap (λ (r : Row (Member g.row.V.Denot)). length r.signs) (sym (ap row_of c.as_mut_slice.ensures.value ∙ c.self.view_is))
     ∙ signs_long c.as_mut_slice.result.now) c.requires
 
+pub set_mark-requires : goal.set_mark-requires
+set_mark-requires g c =
+    let within : c.args.cell < length (row_of c.self.inside.cells.items).signs = subst (λ (r : Row (Member g.row.V.Denot)). c.args.cell < length r.signs) (sym c.self.view_is) c.requires in
+    let room = c.self.invariant.marked.base_room in
+    omega arith
+
 pub invariant_of-self : goal.invariant_of-self
 invariant_of-self g c =
     let size : length c.set_base.new.cells ≡ c.self.inside.cells.len = omega arith in
     let same : length c.set_base.new.cells ≡ length c.self.inside.cells.items = omega arith in
+    let sets : SetsBase (row_of c.self.inside.cells.items) (row_of c.set_base.new.cells) c.args.cell c.args.is_base =
+    subst (λ r. SetsBase (row_of c.self.inside.cells.items) r c.args.cell c.args.is_base)
+    (sym (ap (λ (ls : LinkedRow (Member g.row.V.Denot)). ls.row) c.set_base.ensures ∙ ap (λ cells. with_base (row_of cells) c.args.cell c.args.is_base) c.as_mut_slice.ensures.value))
+    (row_base c.self.inside.cells.items c.args.cell c.args.is_base (subst (λ (r : Row (Member g.row.V.Denot)). c.args.cell < length r.signs) (sym c.self.view_is) c.requires)) in
     rw (given_back c.set_base.new.cells c.self.inside.cells.items c.self.inside.cells.len size)
     (record {
+      marked = marks_base (row_of c.self.inside.cells.items) c.self.inside.marks c.self.inside.bases c.self.invariant.marked (row_of c.set_base.new.cells)
+          c.args.cell c.args.is_base c.set_mark.new.marks sets c.set_mark.ensures.room c.set_mark.ensures.marked;
       kept = kept_write c.self.inside.cells.items c.set_base.new.cells _ _ c.self.invariant.kept same _ refl
           (c.set_base.ensures ∙ ap (λ cells. record (linked_row cells) { row = with_base (linked_row cells).row c.args.cell c.args.is_base }) c.as_mut_slice.ensures.value);
       few = c.self.invariant.few;
       bounds = bounds_base (row_of c.self.inside.cells.items) (row_of c.set_base.new.cells) c.self.inside.lows.items c.self.inside.freed c.self.inside.dropped
           c.self.invariant.bounds c.args.cell c.least_dropped-self-inside.result c.args.is_base c.least_dropped-self-inside.ensures.least c.least_dropped-self-inside.ensures.base
-          (subst (λ r. SetsBase (row_of c.self.inside.cells.items) r c.args.cell c.args.is_base)
-          (sym (ap (λ (ls : LinkedRow (Member g.row.V.Denot)). ls.row) c.set_base.ensures ∙ ap (λ cells. with_base (row_of cells) c.args.cell c.args.is_base) c.as_mut_slice.ensures.value))
-          (row_base c.self.inside.cells.items c.args.cell c.args.is_base (subst (λ (r : Row (Member g.row.V.Denot)). c.args.cell < length r.signs) (sym c.self.view_is) c.requires)));
+          sets;
       blocked = subst (λ placed. AreBlocked (row_of c.set_base.new.cells) placed c.self.inside.sought) (sym c.still_placed-self-inside.ensures)
           (blocked_base (row_of c.self.inside.cells.items) (row_of c.set_base.new.cells) c.self.inside.placed c.self.inside.sought c.self.invariant.blocked c.args.cell c.args.is_base
-          (subst (λ r. SetsBase (row_of c.self.inside.cells.items) r c.args.cell c.args.is_base)
-          (sym (ap (λ (ls : LinkedRow (Member g.row.V.Denot)). ls.row) c.set_base.ensures ∙ ap (λ cells. with_base (row_of cells) c.args.cell c.args.is_base) c.as_mut_slice.ensures.value))
-          (row_base c.self.inside.cells.items c.args.cell c.args.is_base (subst (λ (r : Row (Member g.row.V.Denot)). c.args.cell < length r.signs) (sym c.self.view_is) c.requires))));
+          sets);
     })
 
 pub returns-clause-sets : goal.returns-clause-sets

@@ -8,6 +8,7 @@ use Rattle.pg_cells.proofs.ChainSteps.{taken_in_row, child_fits}
 use Rattle.pg_cells.proofs.RowWrites.{is_row, row_child}
 use Rattle.pg_cells.proofs.BlockedLaws.{blocked_child}
 use Rattle.pg_cells.proofs.BoundLaws.{bounds_child}
+use Rattle.pg_cells.proofs.MarkLaws.{marks_child}
 use Rattle.pg_cells.proofs.StoreSteps.{given_back, kept_child}
 use Rattle.pg_cells.proofs.store.Store.set_child.Goals as goal
 
@@ -25,8 +26,13 @@ pub invariant_of-self : goal.invariant_of-self
 invariant_of-self g c =
     let size : length c.set_child.new.cells ≡ c.self.inside.cells.len = omega arith in
     let same : length c.set_child.new.cells ≡ length c.self.inside.cells.items = omega arith in
+    let sets : SetsChild (row_of c.self.inside.cells.items) (row_of c.set_child.new.cells) c.args.cell c.args.child =
+    subst (λ r. SetsChild (row_of c.self.inside.cells.items) r c.args.cell c.args.child)
+    (sym (ap (λ (ls : LinkedRow (Member g.row.V.Denot)). ls.row) c.set_child.ensures ∙ ap (λ cells. with_child (row_of cells) c.args.cell c.args.child) c.as_mut_slice.ensures.value))
+    (row_child c.self.inside.cells.items c.args.cell c.args.child (λ z. c.requires.taken (subst (λ r. sign_at r c.args.cell ≡ 0) c.self.view_is z))) in
     rw (given_back c.set_child.new.cells c.self.inside.cells.items c.self.inside.cells.len size)
     (record {
+      marked = marks_child (row_of c.self.inside.cells.items) c.self.inside.marks c.self.inside.bases c.self.invariant.marked (row_of c.set_child.new.cells) c.args.cell c.args.child sets;
       kept = kept_child c.self.inside.cells.items c.set_child.new.cells _ _ c.self.invariant.kept same c.args.cell c.args.child
           (λ z. c.requires.taken (subst (λ r. sign_at r c.args.cell ≡ 0) c.self.view_is z))
           (c.set_child.ensures ∙ ap (λ cells. record
@@ -35,13 +41,9 @@ invariant_of-self g c =
       few = c.self.invariant.few;
       bounds = bounds_child (row_of c.self.inside.cells.items) (row_of c.set_child.new.cells) c.self.inside.lows.items c.self.inside.freed c.self.inside.dropped
           c.self.invariant.bounds c.args.cell c.args.child
-          (subst (λ r. SetsChild (row_of c.self.inside.cells.items) r c.args.cell c.args.child)
-          (sym (ap (λ (ls : LinkedRow (Member g.row.V.Denot)). ls.row) c.set_child.ensures ∙ ap (λ cells. with_child (row_of cells) c.args.cell c.args.child) c.as_mut_slice.ensures.value))
-          (row_child c.self.inside.cells.items c.args.cell c.args.child (λ z. c.requires.taken (subst (λ r. sign_at r c.args.cell ≡ 0) c.self.view_is z))));
+          sets;
       blocked = blocked_child (row_of c.self.inside.cells.items) (row_of c.set_child.new.cells) c.self.inside.placed c.self.inside.sought c.self.invariant.blocked c.args.cell c.args.child
-          (subst (λ r. SetsChild (row_of c.self.inside.cells.items) r c.args.cell c.args.child)
-          (sym (ap (λ (ls : LinkedRow (Member g.row.V.Denot)). ls.row) c.set_child.ensures ∙ ap (λ cells. with_child (row_of cells) c.args.cell c.args.child) c.as_mut_slice.ensures.value))
-          (row_child c.self.inside.cells.items c.args.cell c.args.child (λ z. c.requires.taken (subst (λ r. sign_at r c.args.cell ≡ 0) c.self.view_is z))));
+          sets;
     })
 
 pub returns-clause-sets : goal.returns-clause-sets

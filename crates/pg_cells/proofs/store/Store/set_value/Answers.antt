@@ -8,6 +8,7 @@ use Rattle.pg_cells.proofs.ChainSteps.{taken_in_row}
 use Rattle.pg_cells.proofs.RowWrites.{is_row, row_value}
 use Rattle.pg_cells.proofs.BlockedLaws.{blocked_value}
 use Rattle.pg_cells.proofs.BoundLaws.{bounds_value}
+use Rattle.pg_cells.proofs.MarkLaws.{marks_value}
 use Rattle.pg_cells.proofs.StoreSteps.{given_back, kept_value}
 use Rattle.pg_cells.proofs.store.Store.set_value.Goals as goal
 
@@ -20,8 +21,13 @@ pub invariant_of-self : goal.invariant_of-self
 invariant_of-self g c =
     let size : length c.set_value.new.cells ≡ c.self.inside.cells.len = omega arith in
     let same : length c.set_value.new.cells ≡ length c.self.inside.cells.items = omega arith in
+    let sets : SetsRowValue (row_of c.self.inside.cells.items) (row_of c.set_value.new.cells) c.args.cell c.args.value =
+    subst (λ r. SetsRowValue (row_of c.self.inside.cells.items) r c.args.cell c.args.value)
+    (sym (ap (λ (ls : LinkedRow (Member g.row.V.Denot)). ls.row) c.set_value.ensures ∙ ap (λ cells. with_value (row_of cells) c.args.cell c.args.value) c.as_mut_slice.ensures.value))
+    (row_value c.self.inside.cells.items c.args.cell c.args.value (λ z. c.requires.taken (subst (λ r. sign_at r c.args.cell ≡ 0) c.self.view_is z))) in
     rw (given_back c.set_value.new.cells c.self.inside.cells.items c.self.inside.cells.len size)
     (record {
+      marked = marks_value (row_of c.self.inside.cells.items) c.self.inside.marks c.self.inside.bases c.self.invariant.marked (row_of c.set_value.new.cells) c.args.cell c.args.value sets;
       kept = kept_value c.self.inside.cells.items c.set_value.new.cells _ _ c.self.invariant.kept same c.args.cell 0 c.args.value
           (λ z. c.requires.taken (subst (λ r. sign_at r c.args.cell ≡ 0) c.self.view_is z))
           (c.set_value.ensures ∙ ap (λ cells. record (linked_row cells) {
@@ -32,13 +38,9 @@ invariant_of-self g c =
       few = c.self.invariant.few;
       bounds = bounds_value (row_of c.self.inside.cells.items) (row_of c.set_value.new.cells) c.self.inside.lows.items c.self.inside.freed c.self.inside.dropped
           c.self.invariant.bounds c.args.cell c.args.value
-          (subst (λ r. SetsRowValue (row_of c.self.inside.cells.items) r c.args.cell c.args.value)
-          (sym (ap (λ (ls : LinkedRow (Member g.row.V.Denot)). ls.row) c.set_value.ensures ∙ ap (λ cells. with_value (row_of cells) c.args.cell c.args.value) c.as_mut_slice.ensures.value))
-          (row_value c.self.inside.cells.items c.args.cell c.args.value (λ z. c.requires.taken (subst (λ r. sign_at r c.args.cell ≡ 0) c.self.view_is z))));
+          sets;
       blocked = blocked_value (row_of c.self.inside.cells.items) (row_of c.set_value.new.cells) c.self.inside.placed c.self.inside.sought c.self.invariant.blocked c.args.cell c.args.value
-          (subst (λ r. SetsRowValue (row_of c.self.inside.cells.items) r c.args.cell c.args.value)
-          (sym (ap (λ (ls : LinkedRow (Member g.row.V.Denot)). ls.row) c.set_value.ensures ∙ ap (λ cells. with_value (row_of cells) c.args.cell c.args.value) c.as_mut_slice.ensures.value))
-          (row_value c.self.inside.cells.items c.args.cell c.args.value (λ z. c.requires.taken (subst (λ r. sign_at r c.args.cell ≡ 0) c.self.view_is z))));
+          sets;
     })
 
 pub returns-clause-sets : goal.returns-clause-sets

@@ -12,6 +12,7 @@ use Rattle.pg_cells.specs.Inside.store.Writes.{Takes}
 use Rattle.pg_cells.proofs.RowWrites.{is_row, row_takes}
 use Rattle.pg_cells.proofs.BlockedLaws.{blocked_take, free_sign}
 use Rattle.pg_cells.proofs.BoundLaws.{bounds_take}
+use Rattle.pg_cells.proofs.MarkLaws.{marks_take}
 use Rattle.pg_cells.proofs.StoreSteps.{given_back, taken_le, kept_taken}
 use Rattle.pg_cells.proofs.store.Store.take.Goals as goal
 
@@ -45,6 +46,12 @@ take_cell-requires-clause-child g c =
     child_fits c.self.inside.cells.items c.args.slot.child (subst (λ (r : Row (Member g.row.V.Denot)). c.args.slot.child < length r.signs) (sym c.self.view_is) c.requires.child)
     c.self.invariant.kept.small
 
+pub mark-requires : goal.mark-requires
+mark-requires g c =
+    let free : IsFree (row_of c.self.inside.cells.items) c.args.cell = subst (λ r. IsFree r c.args.cell) (sym c.self.view_is) c.requires.free in
+    let room = c.self.invariant.marked.cell_room in
+    omega (arith, free_within (row_of c.self.inside.cells.items) c.args.cell free)
+
 pub invariant_of-self : goal.invariant_of-self
 invariant_of-self g c =
     let size : length c.take_cell.new.cells ≡ c.self.inside.cells.len = omega arith in
@@ -53,21 +60,23 @@ invariant_of-self g c =
     let free : IsFree (row_of c.self.inside.cells.items) c.args.cell = subst (λ r. IsFree r c.args.cell) (sym c.self.view_is) c.requires.free in
     let within : c.args.cell < length c.self.inside.cells.items = omega (arith, free_within (row_of c.self.inside.cells.items) c.args.cell free, length-map c.self.inside.cells.items sign_seen) in
     let max = c.max-self-inside.ensures in
+    let takes : Takes (row_of c.self.inside.cells.items) (row_of c.take_cell.new.cells) c.args.cell c.args.slot.sign c.args.slot.value c.args.slot.child =
+    subst (λ r. Takes (row_of c.self.inside.cells.items) r c.args.cell c.args.slot.sign c.args.slot.value c.args.slot.child)
+    (sym (c.take_cell.ensures.row ∙ ap (λ cells. with_taken (row_of cells) c.args.cell c.args.slot.sign c.args.slot.value c.args.slot.child) value))
+    (row_takes c.self.inside.cells.items c.args.cell c.args.slot.sign c.args.slot.value c.args.slot.child free c.requires.sign) in
     rw (given_back c.take_cell.new.cells c.self.inside.cells.items c.self.inside.cells.len size)
     (record {
       kept = kept_taken c.self.inside.cells.items c.take_cell.new.cells _ _ c.self.invariant.kept same c.args.cell c.args.slot.sign c.args.slot.value c.args.slot.child _ within free c.requires.sign
           (c.take_cell.ensures.row ∙ ap (λ cells. with_taken (row_of cells) c.args.cell c.args.slot.sign c.args.slot.value c.args.slot.child) value) c.take_cell.ensures.linked max;
+      marked = marks_take (row_of c.self.inside.cells.items) c.self.inside.marks c.self.inside.bases c.self.invariant.marked (row_of c.take_cell.new.cells)
+          c.args.cell c.args.slot.sign c.args.slot.value c.args.slot.child c.mark.new.self c.requires.sign takes c.mark.ensures.room c.mark.ensures.marked;
       few = c.self.invariant.few;
       bounds = bounds_take (row_of c.self.inside.cells.items) (row_of c.take_cell.new.cells) c.self.inside.lows.items c.self.inside.freed c.self.inside.dropped
           c.self.invariant.bounds c.args.cell c.args.slot.sign c.args.slot.child c.args.slot.value c.requires.sign
-          (subst (λ r. Takes (row_of c.self.inside.cells.items) r c.args.cell c.args.slot.sign c.args.slot.value c.args.slot.child)
-          (sym (c.take_cell.ensures.row ∙ ap (λ cells. with_taken (row_of cells) c.args.cell c.args.slot.sign c.args.slot.value c.args.slot.child) value))
-          (row_takes c.self.inside.cells.items c.args.cell c.args.slot.sign c.args.slot.value c.args.slot.child free c.requires.sign));
+          takes;
       blocked = blocked_take (row_of c.self.inside.cells.items) (row_of c.take_cell.new.cells) c.self.inside.placed c.self.inside.sought c.self.invariant.blocked
           c.args.cell c.args.slot.sign c.args.slot.child c.args.slot.value (free_sign (row_of c.self.inside.cells.items) c.args.cell free)
-          (subst (λ r. Takes (row_of c.self.inside.cells.items) r c.args.cell c.args.slot.sign c.args.slot.value c.args.slot.child)
-          (sym (c.take_cell.ensures.row ∙ ap (λ cells. with_taken (row_of cells) c.args.cell c.args.slot.sign c.args.slot.value c.args.slot.child) value))
-          (row_takes c.self.inside.cells.items c.args.cell c.args.slot.sign c.args.slot.value c.args.slot.child free c.requires.sign));
+          takes;
     })
 
 pub returns-clause-takes : goal.returns-clause-takes
