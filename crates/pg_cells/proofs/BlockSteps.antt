@@ -108,7 +108,8 @@ module _ (taken bases : Marks) (sign : ℕ) (slots : List ℕ) where
       whole = sym (ap (list_all (λ s. not (is_marked taken (b + s)))) all) ∙ clear.slot_cells
 
   -- so the bits tell which of the bases fit
-  pub says_fits : (blocked base k j : ℕ) → j < 64 → SaysBlocked blocked base k → (bit_at blocked j ≡ 0 → take k slots ≡ slots) → nat_eq (bit_at blocked j) 0 ≡ fits_marks taken bases (sign ∷ slots) (base + j)
+  pub says_fits : (blocked base k j : ℕ) → j < 64 → SaysBlocked blocked base k → (bit_at blocked j ≡ 0 → take k slots ≡ slots)
+      → nat_eq (bit_at blocked j) 0 ≡ fits_marks taken bases (sign ∷ slots) (base + j)
   says_fits blocked base k j lt says all = elim (which_bit blocked j) [
     | inl none ↦ ap (λ b. nat_eq b 0) none ∙ sym (clear_fits (base + j) k (all none) (says.clear j lt none))
     | inr one ↦ ap (λ b. nat_eq b 0) one ∙ sym (says.set j lt one)

@@ -21,9 +21,11 @@ invariant_of-self-2 g c =
     λ m enough. omega (arith, length-map c.grow_cells.new.cells.items sign_seen) in
     record {
       kept = kept_extended c.self.inside.cells.items c.grow_cells.new.cells.items _ _ c.self.invariant.kept c.grow_cells.ensures.linked c.grow_cells.ensures.small c.grow_cells.ensures.extends;
-      marked = marks_grow (row_of c.self.inside.cells.items) c.self.inside.marks c.self.inside.bases c.self.invariant.marked (row_of c.grow_cells.new.cells.items) c.make_room.new.self c.make_room-2.new.self
+      marked = marks_grow (row_of c.self.inside.cells.items) c.self.inside.marks c.self.inside.bases c.self.invariant.marked (row_of c.grow_cells.new.cells.items)
+          c.make_room.new.self c.make_room-2.new.self
           c.grow_cells.ensures.extends
-          (room c.make_room.new.self c.in_ok-make_room.ensures.room) (room c.make_room-2.new.self c.in_ok-make_room-2.ensures.room) (λ i. c.in_ok-make_room.ensures.same i) (λ i. c.in_ok-make_room-2.ensures.same i);
+          (room c.make_room.new.self c.in_ok-make_room.ensures.room) (room c.make_room-2.new.self c.in_ok-make_room-2.ensures.room)
+          (λ i. c.in_ok-make_room.ensures.same i) (λ i. c.in_ok-make_room-2.ensures.same i);
       few = c.self.invariant.few;
       bounds = bounds_grow (row_of c.self.inside.cells.items) (row_of c.grow_cells.new.cells.items) c.self.inside.lows.items c.self.inside.freed
           c.self.inside.dropped c.self.invariant.bounds c.grow_cells.ensures.extends;
