@@ -1,7 +1,6 @@
 -- What is true of each counted window, and the walk over the windows.
 use Rattle.std.proofs.Common.{◌≡◌, ℕ, ◌≤◌, Bool, true, false, cond, ◌&&◌, T, List, [], ◌∷◌, length, Option, Some, None, is_some, nat_eq, nat_cmp, sym, refl, ap, subst, ◌∙◌}
-use Rattle.std.proofs.lemmas.Bool.{le-leb, eqb-true, and_from}
-use Rattle.std.proofs.lemmas.List.Elements.{All-head, All-tail}
+use Rattle.std.proofs.lemmas.Bool.{eqb-true}
 use Rattle.std.specs.declared.cmp.Ordering.TheVariants.{Equal}
 use Rattle.std.specs.declared.ops.Bound.TheVariants.{Excluded, Unbounded}
 use Rattle.std.specs.BTreeMap.Range.{entries_between}
@@ -10,7 +9,6 @@ use Rattle.std.specs.FinMap.{nat_cmp-IsAntisymmetric, slice_cmp-IsAntisymmetric}
 use Rattle.std.specs.FinMap.Entries.{put, find, is_sorted}
 use Rattle.std.specs.List.{filter, list_all}
 use Rattle.std.specs.Ordering.{is_lt}
-use Rattle.pg_types.specs.Inside.Signs.{is_sign}
 use Rattle.pg_types.specs.Inside.counting.Counts.{Counts, SignsWithin, is_counted, windows_above}
 use Rattle.pg_types.specs.Inside.counting.NumberedStrings.{Numbers}
 use Rattle.pg_types.proofs.EntryLists.{all_put, find_good, above_next}
@@ -20,11 +18,6 @@ use Rattle.pg_plain.specs.Inside.PlainCounts.{tally_at}
 
 pub same_window : (a b : List ℕ) → slice_cmp nat_cmp a b ≡ Equal → a ≡ b
 same_window a b same = slice_cmp-IsAntisymmetric nat_cmp-IsAntisymmetric a b same
-
-pub signs_told : (n : ℕ) (q : List ℕ) → SignsWithin n q → list_all is_sign q ≡ true
-signs_told n [] h = refl
-signs_told n (s ∷ q) h =
-    and_from _ _ (le-leb 1 s (All-head (λ s. (1 ≤ s) × (s ≤ n)) s q h).0) (signs_told n q (All-tail (λ s. (1 ≤ s) × (s ≤ n)) s q h))
 
 -- windows that pass a test stay so
 pub windows_put : (good : List ℕ → Bool) (C : Counts) (u : List ℕ) (n : ℕ × ℕ) → good u ≡ true → list_all (λ e. good e.0) C ≡ true → list_all (λ e. good e.0) (put (slice_cmp nat_cmp) u n C) ≡ true

@@ -1,11 +1,9 @@
 -- A tally is pushed down where another window goes on by another sign.
-use Rattle.std.proofs.Common.{◌≡◌, ◌≢◌, ℕ, ◌+◌, ◌<◌, ◌≤◌, inl, inr, true, nat_le, List, [], ◌∷◌, ◌++◌, length, take, drop, get_or, Option, None, Some, suc, zero, refl, sym, ◌∙◌, ap, subst, arith, length-append}
-use Rattle.std.proofs.lemmas.Bool.{and_from, cases_lt, le-leb}
+use Rattle.std.proofs.Common.{◌≡◌, ◌≢◌, ℕ, ◌+◌, ◌<◌, ◌≤◌, inl, inr, true, List, [], ◌∷◌, ◌++◌, length, take, drop, get_or, Option, None, Some, suc, zero, refl, sym, ◌∙◌, ap, subst, arith, length-append}
+use Rattle.std.proofs.lemmas.Bool.{cases_lt}
 use Rattle.std.proofs.lemmas.List.Elements.{All-head, All-tail}
 use Rattle.std.proofs.lemmas.List.{append_cancel_left, take-append-drop, take_all, take_at, take_more, take_more_same, drop_more, length-take-le}
 use Rattle.std.specs.FinMap.Entries.{find, put}
-use Rattle.std.specs.List.{list_all}
-use Rattle.pg_types.specs.Inside.Signs.{is_sign}
 use Rattle.pg_types.specs.Inside.counting.Counts.{SignsWithin}
 use Rattle.pg_types.specs.Inside.counting.NumberedWindows.{Windows, HasNumber}
 use Rattle.pg_types.specs.Placement.{base_of}
@@ -137,10 +135,6 @@ way_goes_on h windows u at cell base are way below =
     let size = length-append (take at u) (next.0 ∷ []) in
     let front = length-take-le at u way.within in
     omega arith
-
-pub signs_told : (n : ℕ) (u : List ℕ) → SignsWithin n u → list_all is_sign u ≡ true
-signs_told n [] h = refl
-signs_told n (s ∷ u) h = and_from (nat_le 1 s) (list_all is_sign u) (le-leb 1 s (All-head (λ s. (1 ≤ s) × (s ≤ n)) s u h).0) (signs_told n u (All-tail (λ s. (1 ≤ s) × (s ≤ n)) s u h))
 
 pub keeps_sets : {old mid new : List (List ℕ × Option Tally)} {t : Tally} → SameTallies old mid → SetsTally mid new t → SetsTally old new t
 keeps_sets a b = record { here = b.here; keeps = λ v other has. b.keeps v other (a.keeps v has); back = λ v other has. a.back v (b.back v other has) }

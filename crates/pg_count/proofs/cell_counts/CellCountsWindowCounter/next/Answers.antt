@@ -6,7 +6,7 @@ use Rattle.pg_cells.proofs.LinkLaws.{root_first}
 use Rattle.pg_count.specs.Inside.Counting.{Counting, Tally, sums_of_tally, window_at}
 use Rattle.pg_count.proofs.CellLaws.Counted.{none_seen}
 use Rattle.pg_count.proofs.WalkLaws.Nexting.{none_above, least_is}
-use Rattle.pg_count.proofs.LeafLaws.Parting.{signs_told}
+use Rattle.pg_types.proofs.TableSigns.{are_signs}
 use Rattle.pg_count.proofs.cell_counts.CellCountsWindowCounter.next.Goals as goal
 
 pub least-requires-clause-base : goal.least-requires-clause-base
@@ -52,7 +52,7 @@ set-requires-clause-len c =
 
 pub set-requires-clause-signs : goal.set-requires-clause-signs
 set-requires-clause-signs c =
-    signs_told c.self.inside.cells.signs c.get.result.now (c.self.invariant.leaves.long c.get.result.now c.in_ok-number.number c.get.ensures).1
+    are_signs c.self.inside.cells.signs c.get.result.now (c.self.invariant.leaves.long c.get.result.now c.in_ok-number.number c.get.ensures).1
 
 pub returns : goal.returns
 returns c =

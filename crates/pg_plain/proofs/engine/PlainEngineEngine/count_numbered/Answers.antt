@@ -1,12 +1,12 @@
 use Rattle.std.proofs.Common.{ℕ, List, length, nat_eq}
 use Rattle.std.proofs.lemmas.Bool.{eq-eqb}
 use Rattle.pg_plain.specs.Inside.Strings.{has_signs_up_to}
-use Rattle.pg_plain.proofs.Counted.{signs_told}
+use Rattle.pg_types.proofs.TableSigns.{are_signs}
 use Rattle.pg_plain.proofs.Known.{up_to_told}
 use Rattle.pg_plain.proofs.engine.PlainEngineEngine.count_numbered.Goals as goal
 
 pub count-requires-clause-signs : goal.count-requires-clause-signs
-count-requires-clause-signs c = signs_told c.args.self.now.signs c.args.window.now c.requires.signs
+count-requires-clause-signs c = are_signs c.args.self.now.signs c.args.window.now c.requires.signs
 
 pub invariant_of-self-clause-windows : goal.invariant_of-self-clause-windows
 invariant_of-self-clause-windows c =

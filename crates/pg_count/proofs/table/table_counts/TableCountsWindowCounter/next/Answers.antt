@@ -3,7 +3,7 @@ use Rattle.std.proofs.lemmas.Option.{get_or_from_slice_get, slice_get_within}
 use Rattle.pg_types.specs.Inside.counting.Counts.{windows_above}
 use Rattle.pg_count.specs.Inside.Counting.{Counting}
 use Rattle.pg_count.specs.Inside.Tables.{AreTabled}
-use Rattle.pg_count.proofs.LeafLaws.Parting.{signs_told}
+use Rattle.pg_types.proofs.TableSigns.{are_signs}
 use Rattle.pg_count.proofs.WalkLaws.Above.{above_least, above_none}
 use Rattle.pg_count.proofs.TableLaws.Stood.{counts, counts_back, counts_there, sorted_counts}
 use Rattle.pg_count.proofs.table.table_counts.TableCountsWindowCounter.next.Goals as goal
@@ -29,7 +29,7 @@ pub get-requires : goal.get-requires
 get-requires c = slice_get_within c.self.inside.windows.items c.in_ok-number.number c.in_ok-number.ensures.rest c.in_ok-number.ensures.there
 
 pub set-requires-clause-signs : goal.set-requires-clause-signs
-set-requires-clause-signs c = signs_told c.self.inside.signs c.get.result.now (c.self.invariant.tabled.long c.get.result.now c.in_ok-number.number c.get.ensures).1
+set-requires-clause-signs c = are_signs c.self.inside.signs c.get.result.now (c.self.invariant.tabled.long c.get.result.now c.in_ok-number.number c.get.ensures).1
 
 pub sums_at-requires : goal.sums_at-requires
 sums_at-requires c =
