@@ -34,7 +34,7 @@ const BOTH: [bool; 2] = [true, true];
 /// Once D was read, no name of D is written, nor is a name of what is no file or cannot be one.
 /// Else D is replaced, then a file is made, then one behind a link, and a device is written in
 /// place.
-const ROWS: [Row; 22] = [
+const ROWS: &[Row] = &[
     (("D", 4, Ok(()), OLD), ".", NOT, "D", OLD),
     (("soft", 4, Ok(()), OLD), ".", NOT, "D", OLD),
     (("D", 3, Err(ReadError::TooLong), OLD), ".", NOT, "D", OLD),
@@ -71,10 +71,15 @@ const ROWS: [Row; 22] = [
     (OF_NEW, "/dev/null", BOTH, "later", NEW),
 ];
 
+/// How a read and then a write go, over real files.
+fn host_outcomes(rt: &HostRuntime, read: Read<'_>, name: &str) -> [bool; 2] {
+    outcomes(rt.alloc(), rt, read, name, NEW)
+}
+
 /// Whether a row goes so, and the file `patgen-new-0` stays.
 fn goes_so(rt: &HostRuntime, row: &Row) -> bool {
     let (read, name, both, left, bytes) = *row;
-    outcomes(rt.alloc(), rt, read, name, NEW) == both
+    host_outcomes(rt, read, name) == both
         && holds(rt, left, bytes)
         && holds(rt, "patgen-new-0", b"x")
 }
@@ -121,8 +126,8 @@ fn real_files(rt: HostRuntime) -> Result<(), Fail> {
 fn written_within(rt: &HostRuntime) -> io::Result<[[bool; 2]; 2]> {
     permit(rt, "folder", 0o500)?;
     let both = [
-        outcomes(rt.alloc(), rt, OF_D, "folder/O", NEW),
-        outcomes(rt.alloc(), rt, OF_D, "folder/N", NEW),
+        host_outcomes(rt, OF_D, "folder/O"),
+        host_outcomes(rt, OF_D, "folder/N"),
     ];
     permit(rt, "folder", 0o700)?;
     Ok(both)

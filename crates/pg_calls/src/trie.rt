@@ -1,5 +1,5 @@
 //! Worked tries over the edge 1, a 2, b 3 and c 4.
-ghost use Rattle.std.specs.Prelude.{◌≡◌, IfOk, OnOk};
+ghost use Rattle.std.specs.Prelude.{◌≡◌, OnOk};
 
 use pg_patterns::PatternSet;
 use pg_trie::{HOPELESS, PatternTrie};
@@ -30,22 +30,12 @@ fn enter(trie: &mut PatternTrie, signs: [Sign; 2], dot: u8, value: u8) -> Result
 /// Enters the strings with their dots and values, and takes the hopeless entries out.
 fn enter_all(trie: &mut PatternTrie, entries: &[TrieEntry]) -> Result<(), Fail>
     requires { trie.old.signs ≡ 4 }
-    ensures { OnOk result (trie.new.signs ≡ 4) }
 {
     for (signs, dot, value) in entries {
         enter(trie, *signs, *dot, *value)?;
     }
     trie.delete_hopeless()?;
     Ok(())
-}
-
-/// The trie of the strings with their dots and values, without the hopeless entries.
-fn deleted(alloc: Global, entries: &[TrieEntry]) -> Result<PatternTrie, Fail>
-    ensures { IfOk result (λ t. t.signs ≡ 4) }
-{
-    let mut trie = PatternTrie::new(alloc, 4)?;
-    enter_all(&mut trie, entries)?;
-    Ok(trie)
 }
 
 /// What a trie says of its cells and records, and a line for each of its patterns.
@@ -63,8 +53,11 @@ fn push_told(
     Ok(())
 }
 
-/// The same as one text.
-fn told(alloc: Global, trie: &PatternTrie) -> Result<String, Fail> {
+/// The same as one text, once these entries are entered.
+fn told(alloc: Global, trie: &mut PatternTrie, entries: &[TrieEntry]) -> Result<String, Fail>
+    requires { trie.old.signs ≡ 4 }
+{
+    enter_all(trie, entries)?;
     let mut text = String::new(alloc);
     let patterns = trie.copy(alloc)?;
     push_told(&mut text, trie, &patterns)?;
@@ -73,8 +66,8 @@ fn told(alloc: Global, trie: &PatternTrie) -> Result<String, Fail> {
 
 /// What is told of the trie of these entries.
 fn told_of(alloc: Global, entries: &[TrieEntry]) -> Result<String, Fail> {
-    let trie = deleted(alloc, entries)?;
-    told(alloc, &trie)
+    let mut trie = PatternTrie::new(alloc, 4)?;
+    told(alloc, &mut trie, entries)
 }
 
 /// Compares what is told of the trie of these entries with a text.
