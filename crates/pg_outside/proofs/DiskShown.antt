@@ -17,6 +17,7 @@ use Rattle.pg_outside.specs.Inside.disk.Moments.{RunsCalls, IsWritten, IsSame, H
 use Rattle.pg_outside.specs.Inside.disk.Writes.{IsPlain, IsContent, IsContentCut, AfterWrite, AfterFailure, mode_at}
 use Rattle.pg_outside.specs.Inside.disk.WhatDiskShows.{bytes_of, file_map, has_none, tells_files, held_of}
 use Rattle.pg_outside.specs.declared.disk.system.FileId.{FileId}
+use Rattle.pg_outside.proofs.WhereTold.{keeps_same}
 
 find_map : (g : FileId → List ℕ) (es : List (List ℕ × FileId)) (q : List ℕ) → fin.find (slice_cmp nat_cmp) q (map (λ e. (e.0, g e.1)) es) ≡ option_map g (fin.find (slice_cmp nat_cmp) q es)
 find_map g [] q = refl
@@ -143,13 +144,9 @@ failed_held P name bytes a None ka kb run = tt
 failed_held P name bytes None (Some b) ka kb run = absurd run
 failed_held P name bytes (Some a) (Some b) ka kb run = was_part (tells_files a.now) (tells_files b.now) name bytes (file_map a.now) (file_map b.now) (failed_shown name bytes a.now b.now ka kb run.end)
 
-kept_where : (held : Option FileMap) → KeepsHeld held held
-kept_where None = tt
-kept_where (Some files) = refl
-
 pub keeps_held : (a b : Option DiskHistory) → KeepsDisk a b → KeepsHeld (held_of a) (held_of b)
 keeps_held a None ab = tt
-keeps_held a (Some b) ab = subst (λ (t : Option DiskHistory). KeepsHeld (held_of t) (held_of (Some b))) (sym ab) (kept_where (held_of (Some b)))
+keeps_held a (Some b) ab = subst (λ (t : Option DiskHistory). KeepsHeld (held_of t) (held_of (Some b))) (sym ab) (keeps_same (held_of (Some b)))
 
 file_where : (s : Bool) (m : FileMap) (name bytes : List ℕ) → (s ≡ true → file_at m name ≡ Some bytes) → IsFile (cond s (Some m) None) name bytes
 file_where true m name bytes is = is refl

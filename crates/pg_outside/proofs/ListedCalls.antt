@@ -1,5 +1,5 @@
 -- A scan of the plans finds what the map of the listed calls holds.
-use Rattle.std.proofs.Common.{◌≡◌, ℕ, List, [], ◌∷◌, map, Option, Some, None, IsSome, refl, ◌∙◌, sym, arith}
+use Rattle.std.proofs.Common.{◌≡◌, ℕ, List, [], ◌∷◌, map, Option, Some, None, IsSome, refl, ◌∙◌, sym, ap, arith}
 use Rattle.std.specs.Prelude.{find, ◌==◌}
 use Rattle.std.specs.Option.{option_map}
 use Rattle.std.specs.Ordering.{nat_cmp}
@@ -27,3 +27,10 @@ not_unlisted f plan next a is some none = grind (arith, common_steps)
 
 pub not_kept : {A B : Type 0} (f : A → B) (plan : Option A) (next : Option B) (b : B) → option_map f plan ≡ next → plan ≡ None → next ≡ Some b → ⊥
 not_kept f plan next b is none some = grind (arith, common_steps)
+
+-- what a listed call keeps is what its plan says
+pub kept_is : {A B : Type 0} (f : A → B) (plan : Option A) (next : Option B) (a : A) (b : B) → option_map f plan ≡ next → plan ≡ Some a → next ≡ Some b → f a ≡ b
+kept_is f plan next a b is some kept = some_same _ _ (sym (ap (option_map f) some) ∙ is ∙ kept)
+  where
+    some_same : {B : Type 0} (x y : B) → Some x ≡ Some y → x ≡ y
+    some_same x y e = cc

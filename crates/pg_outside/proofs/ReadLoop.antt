@@ -68,6 +68,11 @@ reads_on before now after file same after_same at next count room limit bytes bu
       (λ d p. is_read_on file at next count room bytes buffer d bound p.0 p.1));
 }
 
+-- a read of some bytes leaves less to read
+pub reads_less : (bytes more buffer : List ℕ) (count limit : ℕ) → more ≡ bytes ++ take count buffer → count ≤ length buffer → 0 < count → length bytes ≤ limit
+    → (limit + 1) - length more < (limit + 1) - length bytes
+reads_less bytes more buffer count limit items bound some within = grind (arith, common_steps)
+
 whole_of_front : (bytes all : List ℕ) → bytes ≡ take (length bytes) all → length all ≤ length bytes → bytes ≡ all
 whole_of_front bytes all front end = front ∙ take_all (length bytes) all end
   where

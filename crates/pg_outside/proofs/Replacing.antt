@@ -14,10 +14,12 @@ still_direct : (a b : Disk) (q : List ℕ) → b.links ≡ a.links → a.links.i
 still_direct a b q links direct = ap (λ (l : Links). l.is_link q) links ∙ direct
 
 -- the file is filled and takes the name
-pub places : (own name bytes : List ℕ) (mode : Option ℕ) (n m : FileId) (seen : FileStatus) (a b c d : Option DiskHistory) → RunsCalls a b (ChangesOnlyFile n) (FillsFile n mode bytes)
-    → m ≡ n → KeepsDisk b c → HoldsNow c (IsStat m seen) → ChangesDisk c d (RenamesUnlessLink own name) → RunsCalls a d (AtPlacing own name n mode bytes) (PlacesFileAs own name n mode bytes seen.id)
-places own name bytes mode n m seen a b c d ab same bc stat cd =
-    runs_on _ _ _ _ _ _ a c d (known_end _ _ _ a c (then_keeps _ _ a b c ab bc) stat) (one_step (RenamesUnlessLink own name) c d cd)
+pub places : (own given name bytes : List ℕ) (mode : Option ℕ) (n m : FileId) (seen : FileStatus) (a b c d : Option DiskHistory) → RunsCalls a b (ChangesOnlyFile n) (FillsFile n mode bytes)
+    → m ≡ n → KeepsDisk b c → HoldsNow c (IsStat m seen) → given ≡ own → ChangesDisk c d (RenamesUnlessLink given name)
+    → RunsCalls a d (AtPlacing own name n mode bytes) (PlacesFileAs own name n mode bytes seen.id)
+places own given name bytes mode n m seen a b c d ab same bc stat is cd =
+    runs_on _ _ _ _ _ _ a c d (known_end _ _ _ a c (then_keeps _ _ a b c ab bc) stat)
+    (one_step (RenamesUnlessLink own name) c d (subst (λ (l : List ℕ). ChangesDisk c d (RenamesUnlessLink l name)) is cd))
     (λ x y p. inl p)
     (λ x y z q p. inr (y, q.0, p))
     (λ x y z q p. ((y, q.0, p), q.1.is ∙ same))
@@ -94,11 +96,13 @@ refuses own name bytes mode n a b c d is known ab bc cd = where_known _ _ a d kn
     has_rest : (x y z : Disk) → HasBeside own n x y → RefusesRemoval own y z → KnowsNewNames x → x.links.is_link name ≡ false → HasRest name x z
     has_rest x y z q p k direct = refused_rest own name n q.node x y z (rest_beside own name n x y is q k direct) q.beside p
 
-pub gave_up : {T E : Type 0} → (result : Result T E) (own name bytes : List ℕ) (mode : Option ℕ) (n : FileId) (a b c d : Option DiskHistory) → IsOwn own name
-    → HoldsNow a KnowsNewNames → ChangesDisk a b (MakesFile own n) → RunsCalls b c (ChangesOnlyFile n) (ChangesOnlyFile n) → OnOk result (ChangesDisk c d (RemovesUnlessLink own))
-    → OnErr result (ChangesDisk c d (RefusesRemoval own)) → RunsCalls a d (WhereDirect name (AtMoment name bytes mode)) (WhereDirect name (IsAsBefore name))
-gave_up (Ok value) own name bytes mode n a b c d is known ab bc ok err = removes own name bytes mode n a b c d is known ab bc ok
-gave_up (Err error) own name bytes mode n a b c d is known ab bc ok err = refuses own name bytes mode n a b c d is known ab bc err
+pub gave_up : {T E : Type 0} → (result : Result T E) (own given name bytes : List ℕ) (mode : Option ℕ) (n : FileId) (a b c d : Option DiskHistory) → IsOwn own name
+    → HoldsNow a KnowsNewNames → ChangesDisk a b (MakesFile own n) → RunsCalls b c (ChangesOnlyFile n) (ChangesOnlyFile n) → given ≡ own → OnOk result (ChangesDisk c d (RemovesUnlessLink given))
+    → OnErr result (ChangesDisk c d (RefusesRemoval given)) → RunsCalls a d (WhereDirect name (AtMoment name bytes mode)) (WhereDirect name (IsAsBefore name))
+gave_up (Ok value) own given name bytes mode n a b c d is known ab bc same ok err = removes own name bytes mode n a b c d is known ab bc
+    (subst (λ (l : List ℕ). ChangesDisk c d (RemovesUnlessLink l)) same ok)
+gave_up (Err error) own given name bytes mode n a b c d is known ab bc same ok err = refuses own name bytes mode n a b c d is known ab bc
+    (subst (λ (l : List ℕ). ChangesDisk c d (RefusesRemoval l)) same err)
 
 pub nothing_done : (name bytes : List ℕ) (mode : Option ℕ) (a b : Option DiskHistory) → KeepsDisk a b → RunsCalls a b (WhereDirect name (AtMoment name bytes mode)) (WhereDirect name (IsAsBefore name))
 nothing_done name bytes mode a b ab = no_step _ _ a b ab (λ x direct. inl (record { links = refl; refused = refl; names = λ other. (refl, refl) }))

@@ -1,11 +1,11 @@
 -- What a loop of writes has done so far.
-use Rattle.std.proofs.Common.{◌≡◌, ℕ, ◌+◌, List, take, drop, Option, sym, subst, ◌∙◌, arith}
+use Rattle.std.proofs.Common.{◌≡◌, ◌==◌, ℕ, ◌+◌, List, take, drop, length, true, Option, refl, sym, subst, ◌∙◌, arith}
 use Rattle.std.proofs.Math.Seq.{take-add}
 use Rattle.std.proofs.lemmas.Grind.{common_steps}
 use Rattle.pg_outside.specs.Inside.disk.Disks.{Disk, DiskHistory, ChangesDisk, AppendsBytes, AppendsFront, ChangesOnlyFile, SyncsFile}
 use Rattle.pg_outside.specs.Inside.disk.Moments.{RunsCalls, HasMode, FillsFile}
-use Rattle.pg_outside.proofs.Runs.{runs_on, one_step, runs_weaker}
-use Rattle.pg_outside.proofs.FileSteps.{disturbed_on, wrote_disturbed, part_disturbed, wrote_on, mode_disturbed, stored_disturbed, filled_on}
+use Rattle.pg_outside.proofs.Runs.{runs_on, one_step, no_step, keeps_self, runs_weaker}
+use Rattle.pg_outside.proofs.FileSteps.{disturbed_on, wrote_disturbed, part_disturbed, wrote_nothing, wrote_on, mode_disturbed, stored_disturbed, filled_on}
 use Rattle.pg_outside.specs.declared.disk.system.FileId.{FileId}
 
 -- the bytes that were written so far, and those that are left
@@ -14,6 +14,10 @@ pub record HasWritten (before now : Option DiskHistory) (file same : FileId) (by
   pub done : ℕ
   pub left : rest ≡ drop done bytes
   pub runs : RunsCalls before now (AppendsFront file bytes) (AppendsBytes file (take done bytes))
+
+-- before the first write
+pub written_none : (told : Option DiskHistory) (file : FileId) (bytes : List ℕ) → HasWritten told told file file bytes bytes
+written_none told file bytes = record { same_file = refl; done = 0; left = refl; runs = no_step _ _ told told (keeps_self told) (λ d. wrote_nothing file d) }
 
 -- the next bytes behind those that were written
 wrote_next : (n : FileId) (bytes : List ℕ) (done count : ℕ) (a b c : Disk) → AppendsBytes n (take done bytes) a b
@@ -61,6 +65,14 @@ pub written_part : (before now : Option DiskHistory) (file same : FileId) (bytes
     → RunsCalls before now (AppendsFront file bytes) (AppendsFront file bytes)
 written_part before now file same bytes rest so_far =
     runs_weaker _ _ _ _ before now so_far.runs (λ x y p. p) (λ x y q. (so_far.done, q))
+
+all_taken : (done : ℕ) (bytes rest : List ℕ) → rest ≡ drop done bytes → (length rest == 0) ≡ true → take done bytes ≡ bytes
+all_taken done bytes rest left none = grind (arith, common_steps)
+
+pub written_whole : (before now : Option DiskHistory) (file same : FileId) (bytes rest : List ℕ) → HasWritten before now file same bytes rest → (length rest == 0) ≡ true
+    → RunsCalls before now (AppendsFront file bytes) (AppendsBytes file bytes)
+written_whole before now file same bytes rest so_far none =
+    subst (λ (l : List ℕ). RunsCalls before now (AppendsFront file bytes) (AppendsBytes file l)) (all_taken so_far.done bytes rest so_far.left none) so_far.runs
 
 -- the bytes behind the permissions
 pub mode_then_bytes : (n m : FileId) (mode : Option ℕ) (bytes : List ℕ) (a b c : Option DiskHistory) → RunsCalls a b (ChangesOnlyFile n) (HasMode n mode) → m ≡ n

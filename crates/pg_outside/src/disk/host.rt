@@ -6,7 +6,7 @@ ghost use Rattle.pg_outside.specs.Faults.{Rose, next_count};
 use super::files::DiskFiles;
 use super::system::{CallFailed, FileId, FileStatus, NameKind, System};
 use crate::streams::{read_some, write_some};
-use std::alloc::{AllocError, Global};
+use std::alloc::Global;
 use std::fs::{File, Metadata, OpenFile, OpenOptions, Permissions};
 use std::io::ErrorKind;
 use std::os::unix::fs::{MetadataExt, PermissionsExt};
@@ -33,29 +33,19 @@ fn id_of(metadata: &Metadata) -> FileId {
 }
 
 /// What a name is, by what the system says of it.
-fn kind_of(metadata: io::Result<Metadata>) -> Result<NameKind, CallFailed> {
-    match metadata {
-        Ok(metadata) if metadata.is_symlink() => Ok(NameKind::Link),
-        Ok(metadata) => Ok(NameKind::File(id_of(&metadata))),
-        Err(error) if error.kind() == ErrorKind::NotFound => Ok(NameKind::Missing),
-        Err(_) => Err(CallFailed),
-    }
-}
-
-/// A file that was opened or made. There is none where the system gave the reason `none`.
-fn file_of<F: Drop>(file: io::Result<F>, none: ErrorKind) -> Result<Option<F>, CallFailed> {
-    match file {
-        Ok(file) => Ok(Some(file)),
-        Err(error) if error.kind() == none => Ok(None),
-        Err(_) => Err(CallFailed),
+fn kind_of(found: Option<Metadata>) -> NameKind {
+    match found {
+        None => NameKind::Missing,
+        Some(metadata) if metadata.is_symlink() => NameKind::Link,
+        Some(metadata) => NameKind::File(id_of(&metadata)),
     }
 }
 
 /// The text of a link. It has to be UTF-8.
-fn text_of(alloc: Global, path: io::Result<PathBuf>) -> Result<String, CallFailed> {
-    match String::from_str(alloc, path?.to_str().ok_or(CallFailed)?) {
-        Ok(text) => Ok(text),
-        Err(AllocError) => Err(CallFailed),
+fn text_of(alloc: Global, path: &PathBuf) -> Result<String, CallFailed> {
+    match path.to_str() {
+        Some(text) => String::from_str(alloc, text).or(Err(CallFailed)),
+        None => Err(CallFailed),
     }
 }
 
@@ -90,15 +80,6 @@ impl<R: rt::Files + Drop> HostSystem<R> {
     }
 }
 
-/// Keeps why a call failed. A reason that is an answer is not kept.
-fn keep<T>(reason: &mut Option<io::Error>, outcome: &io::Result<T>, answer: Option<ErrorKind>) {
-    if let Err(error) = outcome {
-        if answer != Some(error.kind()) {
-            *reason = Some(*error);
-        }
-    }
-}
-
 /// Counts a call where it failed.
 fn count<T>(failures: &mut u64, outcome: Result<T, CallFailed>) -> Result<T, CallFailed>
     ensures same { result ≡ outcome }
@@ -106,10 +87,13 @@ fn count<T>(failures: &mut u64, outcome: Result<T, CallFailed>) -> Result<T, Cal
     ensures ok_failures { OnOk result (failures.new ≡ failures.old) }
     ensures failed { OnErr result (Rose failures.old failures.new) }
 {
-    if outcome.is_err() {
-        count_failure(failures);
+    match outcome {
+        Ok(value) => Ok(value),
+        Err(error) => {
+            count_failure(failures);
+            Err(error)
+        }
     }
-    outcome
 }
 
 /// Counts a call where it failed, and keeps why it did.
@@ -125,6 +109,29 @@ fn count_and_keep<T>(
 {
     match outcome {
         Ok(value) => Ok(value),
+        Err(error) => {
+            *reason = Some(error);
+            count_failure(failures);
+            Err(CallFailed)
+        }
+    }
+}
+
+/// Counts a call where it failed, and keeps why it did. The reason `none` is an answer, not a
+/// failure.
+fn count_unless_none<T>(
+    reason: &mut Option<io::Error>,
+    failures: &mut u64,
+    outcome: io::Result<T>,
+    none: ErrorKind,
+) -> Result<Option<T>, CallFailed>
+    ensures later { failures.old ≤ failures.new }
+    ensures ok_failures { OnOk result (failures.new ≡ failures.old) }
+    ensures failed { OnErr result (Rose failures.old failures.new) }
+{
+    match outcome {
+        Ok(value) => Ok(Some(value)),
+        Err(error) if error.kind() == none => Ok(None),
         Err(error) => {
             *reason = Some(error);
             count_failure(failures);
@@ -156,17 +163,16 @@ impl<R: rt::Files + Drop> System for HostSystem<R> {
     ghost new_names = { λ _. tt };
 
     fn look(&mut self, name: &str) -> Result<NameKind, CallFailed> {
-        let metadata = fs::symlink_metadata(&self.system, name);
-        keep(&mut self.reason, &metadata, Some(ErrorKind::NotFound));
-        let kind = kind_of(metadata);
-        count(&mut self.failures, kind)
+        let found = fs::symlink_metadata(&self.system, name);
+        let none = ErrorKind::NotFound;
+        let found = count_unless_none(&mut self.reason, &mut self.failures, found, none)?;
+        Ok(kind_of(found))
     }
 
     fn read_link(&mut self, alloc: Global, name: &str) -> Result<String, CallFailed> {
         let path = self.system.read_link(alloc, name);
-        keep(&mut self.reason, &path, None);
-        let text = text_of(alloc, path);
-        count(&mut self.failures, text)
+        let path = count_and_keep(&mut self.reason, &mut self.failures, path)?;
+        count(&mut self.failures, text_of(alloc, &path))
     }
 
     fn open(&mut self, name: &str) -> Result<R::File, CallFailed> {
@@ -176,9 +182,12 @@ impl<R: rt::Files + Drop> System for HostSystem<R> {
 
     fn open_to_write(&mut self, name: &str) -> Result<Option<R::File>, CallFailed> {
         let file = OpenOptions::new().write(true).open(&self.system, name);
-        keep(&mut self.reason, &file, Some(ErrorKind::NotFound));
-        let outcome = file_of(file, ErrorKind::NotFound);
-        count(&mut self.failures, outcome)
+        count_unless_none(
+            &mut self.reason,
+            &mut self.failures,
+            file,
+            ErrorKind::NotFound,
+        )
     }
 
     fn stat(&mut self, file: &R::File) -> Result<FileStatus, CallFailed> {
@@ -193,9 +202,8 @@ impl<R: rt::Files + Drop> System for HostSystem<R> {
 
     fn make(&mut self, name: &str) -> Result<Option<R::File>, CallFailed> {
         let file = File::create_new(&self.system, name);
-        keep(&mut self.reason, &file, Some(ErrorKind::AlreadyExists));
-        let outcome = file_of(file, ErrorKind::AlreadyExists);
-        count(&mut self.failures, outcome)
+        let none = ErrorKind::AlreadyExists;
+        count_unless_none(&mut self.reason, &mut self.failures, file, none)
     }
 
     fn set_mode(&mut self, file: &mut R::File, mode: u32) -> Result<(), CallFailed> {

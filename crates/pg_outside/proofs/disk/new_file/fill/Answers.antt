@@ -1,4 +1,4 @@
-use Rattle.std.proofs.Common.{◌∙◌, rules}
+use Rattle.std.proofs.Common.{◌∙◌}
 use Rattle.std.proofs.lemmas.Result.{on_err_weaker, on_ok_weaker}
 use Rattle.pg_outside.proofs.Causes.{rose_since, on_ok_both, on_err_both}
 use Rattle.pg_outside.proofs.Results.{on_err, no_value}
@@ -7,14 +7,14 @@ use Rattle.pg_outside.proofs.disk.new_file.fill.Goals as goal
 
 pub returns-in_err-keep_mode : goal.returns-in_err-keep_mode
 returns-in_err-keep_mode g c = record {
-  file = search rules;
+  file = c.keep_mode.ensures.file;
   ok = no_value _ c.from_residual.result c.from_residual.ensures.0;
   err = on_err c.from_residual.result c.in_err-keep_mode.ensures.err;
 }
 
 pub returns-in_err-write_all : goal.returns-in_err-write_all
 returns-in_err-write_all g c = record {
-  file = search rules;
+  file = c.write_all.ensures.file ∙ c.keep_mode.ensures.file;
   ok = no_value _ c.from_residual-in_err-write_all.result c.from_residual-in_err-write_all.ensures.0;
   err = on_err c.from_residual-in_err-write_all.result (
     rose_since _ _ _ c.in_ok-keep_mode.ensures.ok.0 c.in_err-write_all.ensures.err.0,
@@ -24,7 +24,7 @@ returns-in_err-write_all g c = record {
 
 pub returns : goal.returns
 returns g c = record {
-  file = search rules;
+  file = c.sync.ensures.file ∙ c.write_all.ensures.file ∙ c.keep_mode.ensures.file;
   ok = on_ok_both _ _ c.sync.result
       (on_ok_weaker c.sync.result (λ same. same ∙ c.in_ok-write_all.ensures.ok.0 ∙ c.in_ok-keep_mode.ensures.ok.0) c.sync.ensures.ok_failures)
       (on_ok_weaker c.sync.result (λ steps. fills _ _ _ c.args.mode c.args.bytes.now _ _ _ _ c.in_ok-keep_mode.ensures.ok.1 c.keep_mode.ensures.file

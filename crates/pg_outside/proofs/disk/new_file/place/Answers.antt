@@ -10,9 +10,10 @@ use Rattle.pg_outside.proofs.disk.new_file.place.Goals as goal
 pub returns : goal.returns
 returns g c = record {
   own = refl;
-  ok = let renamed = rw c.as_str.ensures.value at c.in_ok-rename.ensures.ok in (
+  ok = (
     c.in_ok-rename.ensures.ok_failures ∙ c.in_ok-seen.ensures.ok_failures ∙ c.in_ok-fill.ensures.ok.0,
-    places _ _ c.args.bytes.now c.args.mode _ _ _ _ _ _ _ c.in_ok-fill.ensures.ok.1 c.fill.ensures.file c.stat.ensures.same c.in_ok-seen.ensures.seen renamed,
+    places _ _ _ c.args.bytes.now c.args.mode _ _ _ _ _ _ _ c.in_ok-fill.ensures.ok.1 c.fill.ensures.file c.stat.ensures.same c.in_ok-seen.ensures.seen
+        c.as_str.ensures.value c.in_ok-rename.ensures.ok,
   );
   err = tt;
 }

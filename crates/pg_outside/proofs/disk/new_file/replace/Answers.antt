@@ -19,10 +19,9 @@ returns-in-Ok g c = record {
 pub returns : goal.returns
 returns g c = record {
   ok = tt;
-  err = let ok = rw (c.as_str.ensures.value, c.place.ensures.own) at c.remove.ensures.ok in
-      let err = rw (c.as_str.ensures.value, c.place.ensures.own) at c.remove.ensures.err in
-      gave_up c.remove.result _ _ c.args.bytes.now c.args.mode _ _ _ _ _ (record { is_new = c.in_ok-new.ensures.own; apart = c.in_ok-new.ensures.apart })
-      (g.met.S.System.new_names c.args.system.now) c.in_ok-new.ensures.ok c.in-Err.ensures.err.1 ok err;
+  err = gave_up c.remove.result _ _ _ c.args.bytes.now c.args.mode _ _ _ _ _ (record { is_new = c.in_ok-new.ensures.own; apart = c.in_ok-new.ensures.apart })
+      (g.met.S.System.new_names c.args.system.now) c.in_ok-new.ensures.ok c.in-Err.ensures.err.1 (c.as_str.ensures.value ∙ c.place.ensures.own)
+      c.remove.ensures.ok c.remove.ensures.err;
   cause = rose_then _ _ _ _ c.in_ok-new.ensures.ok_failures c.in-Err.ensures.err.0 c.remove.ensures.later;
 }
 

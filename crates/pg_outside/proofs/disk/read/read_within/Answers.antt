@@ -3,7 +3,7 @@ use Rattle.pg_outside.proofs.Results.{no_value, not_err}
 use Rattle.pg_outside.proofs.Runs.{keeps_both}
 use Rattle.std.proofs.Common.{refl, ◌∙◌, ◌≡◌, ◌<◌, ◌≤◌, ◌+◌, length, take, ap, arith}
 use Rattle.std.proofs.lemmas.Grind.{common_steps}
-use Rattle.pg_outside.proofs.ReadLoop.{within_limit, no_more, reads_none, reads_on, reads_end, reads_past}
+use Rattle.pg_outside.proofs.ReadLoop.{within_limit, no_more, reads_none, reads_on, reads_less, reads_end, reads_past}
 use Rattle.pg_outside.proofs.ReadErrors.{long_or_failed, passed_error, passed_other}
 use Rattle.pg_outside.proofs.disk.read.read_within.Goals as goal
 
@@ -31,6 +31,11 @@ loop-piece-preserved g c =
       read = reads_on _ _ _ _ _ _ _ _ _ _ _ _ _ _ c.loop-piece.invariant.read c.read_piece.ensures.same c.read_piece.ensures.file c.in_ok-count.ensures.bytes bound c.in_ok-count.ensures.items within;
       failures = c.in_ok-count.ensures.ok_failures ∙ c.loop-piece.invariant.failures;
     }
+
+pub loop-piece-smaller : goal.loop-piece-smaller
+loop-piece-smaller g c =
+    let bound : c.in_ok-count.count ≤ length c.read_piece.new.piece = omega (arith, c.in_ok-count.ensures.bound, c.read_piece.auto.piece) in
+    reads_less c.loop-piece.into.items _ c.read_piece.new.piece c.in_ok-count.count c.args.limit c.in_ok-count.ensures.items bound (omega arith) (omega arith)
 
 pub returns : goal.returns
 returns g c = record {

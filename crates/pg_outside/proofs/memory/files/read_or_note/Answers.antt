@@ -1,16 +1,17 @@
-use Rattle.std.proofs.Common.{List, String, refl, ap, arith, rules}
+use Rattle.std.proofs.Common.{List, String, refl, ap, arith}
 use Rattle.std.specs.declared.alloc.Global.{Global}
 use Rattle.pg_outside.specs.Inside.memory.MissingNames.{times_in}
+use Rattle.pg_outside.proofs.LentFiles.{none_lent, reads_lent, reads_cut, cut_length}
 use Rattle.pg_outside.proofs.Results.{no_value}
-use Rattle.pg_outside.proofs.ReadErrors.{long_or_failed, memory_or_long, memory_or_failed}
+use Rattle.pg_outside.proofs.ReadErrors.{long_or_failed, memory_or_long, memory_or_failed, failed_or_memory}
 use Rattle.pg_outside.proofs.memory.files.read_or_note.Goals as goal
 
 pub returns-in-Some : goal.returns-in-Some
 returns-in-Some c = record {
   fits = c.read_bytes.ensures.fits;
-  cut = search rules;
-  file = search rules;
-  cut_file = search rules;
+  cut = λ long. cut_length _ _ _ (c.read_bytes.ensures.cut long);
+  file = reads_lent c.read_bytes.result _ _ _ _ c.bytes_of.ensures c.in-Some.is c.read_bytes.ensures.ok;
+  cut_file = λ long. reads_cut _ _ _ _ _ c.bytes_of.ensures c.in-Some.is (c.read_bytes.ensures.cut long);
   failed = λ is. absurd (c.read_bytes.ensures.failed is);
   found = λ _. c.read_bytes.ensures.failed;
   same = λ _. refl;
@@ -42,9 +43,9 @@ returns-in_ok-note_name-in-None c = record {
   file = tt;
   cut_file = λ is. absurd (long_or_failed _ is refl);
   failed = λ _. c.in_ok-note_name-in-None.ensures.counted;
-  found = search rules;
-  same = search rules;
-  memory = search rules;
+  found = λ there. absurd (none_lent _ _ c.bytes_of.ensures c.in-None.is there);
+  same = λ there. absurd (none_lent _ _ c.bytes_of.ensures c.in-None.is there);
+  memory = λ is. absurd (failed_or_memory _ refl is);
   others = c.in_ok-note_name-in-None.ensures.others;
   later = c.note_name.ensures.later;
   by_one = c.note_name.ensures.by_one;

@@ -1,15 +1,14 @@
 use Rattle.std.proofs.Common.{arith, rules}
-use Rattle.std.proofs.lemmas.Grind.{common_steps}
-use Rattle.std.proofs.lemmas.Slice.Eq.{bytes_eq-Decides}
+use Rattle.pg_outside.proofs.MemoryCounts.{noted, noted_others, noted_later, noted_by_one}
 use Rattle.pg_outside.proofs.Results.{no_value}
 use Rattle.pg_outside.proofs.memory.missing.note_name.Goals as goal
 
 pub returns : goal.returns
 returns c = record {
-  counted = grind (arith, common_steps, bytes_eq-Decides);
-  others = λ other apart. grind (arith, common_steps, bytes_eq-Decides);
-  later = λ other. grind (arith, common_steps);
-  by_one = λ other. grind (arith, common_steps);
+  counted = noted _ _ _ c.in_ok-push.ensures.items _ c.in_ok-name.ensures.ok;
+  others = noted_others _ _ _ c.in_ok-push.ensures.items _ c.in_ok-name.ensures.ok;
+  later = noted_later _ _ _ c.in_ok-push.ensures.items;
+  by_one = noted_by_one _ _ _ c.in_ok-push.ensures.items;
   err = tt;
 }
 

@@ -1,10 +1,10 @@
-use Rattle.std.proofs.Common.{◌≡◌, List, inl, ap, sym, ◌∙◌, subst, arith, rules, refl}
+use Rattle.std.proofs.Common.{◌≡◌, ◌≤◌, ◌⊎◌, List, take, length, min, IsSome, inl, ap, sym, ◌∙◌, subst, arith, rules, refl}
 use Rattle.std.specs.FinMap as fin
-use Rattle.pg_outside.specs.Content.{HasPart}
+use Rattle.pg_outside.specs.Content.{HasPart, file_at}
 use Rattle.pg_outside.specs.Inside.NameFaults.{NoneFell}
 use Rattle.pg_outside.specs.Inside.memory.StoredFile.{file_map, room_in}
 use Rattle.pg_outside.specs.declared.memory.stored.StoredFile.{StoredFile}
-use Rattle.pg_outside.proofs.ListedCalls.{not_listed, not_unlisted, not_kept}
+use Rattle.pg_outside.proofs.ListedCalls.{not_listed, not_unlisted, not_kept, kept_is}
 use Rattle.pg_outside.proofs.MemoryCounts.{reads_later, reads_by_one, reads_same, reads_rose}
 use Rattle.pg_outside.proofs.Results.{at_err, at_ok}
 use Rattle.pg_outside.proofs.memory.files.MemoryFilesFiles.write.Goals as goal
@@ -27,9 +27,15 @@ returns-in-Some c = record {
   listed_fails = λ _. refl;
   listed_reads = λ _. reads_rose c.args.self.now.missing.items c.next_plan.new.self.missing.items c.args.self.now.reads_failed c.next_plan.new.self.reads_failed
       (ap (λ v. v.items) c.next_plan.ensures.missing) c.in-Some.ensures.reads_rose;
-  keeps_none = search rules;
-  keeps = search rules;
-  keeps_within = search rules;
+  keeps_none = λ kept. c.store_front.ensures.none (kept_is _ _ _ _ _ c.next_plan.ensures.plan c.in-Some.is kept) ∙ ap file_map (ap (λ v. v.items) c.next_plan.ensures.files);
+  keeps = λ keep kept. subst
+      (λ (files : List StoredFile). (file_map c.store_front.new.files.items ≡ file_map files)
+      ⊎ (file_map c.store_front.new.files.items ≡ fin.insert (file_map files) c.args.name.now (take keep c.args.bytes.now)))
+      (ap (λ v. v.items) c.next_plan.ensures.files) (c.store_front.ensures.front keep (kept_is _ _ _ _ _ c.next_plan.ensures.plan c.in-Some.is kept));
+  keeps_within = λ keep kept. subst
+      (λ (files : List StoredFile). IsSome (file_at (file_map files) c.args.name.now) → min keep (length c.args.bytes.now) ≤ room_in files c.args.name.now
+      → file_map c.store_front.new.files.items ≡ fin.insert (file_map files) c.args.name.now (take keep c.args.bytes.now))
+      (ap (λ v. v.items) c.next_plan.ensures.files) (c.store_front.ensures.within keep (kept_is _ _ _ _ _ c.next_plan.ensures.plan c.in-Some.is kept));
   within = λ unlisted. absurd (not_unlisted _ _ _ _ c.next_plan.ensures.plan c.in-Some.is unlisted);
   unlisted_files = λ unlisted. absurd (not_unlisted _ _ _ _ c.next_plan.ensures.plan c.in-Some.is unlisted);
   failed_writes = λ _. omega (arith, c.in-Some.ensures.writes_rose);
