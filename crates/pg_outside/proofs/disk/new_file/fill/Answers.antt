@@ -1,4 +1,4 @@
-use Rattle.std.proofs.Common.{◌∙◌}
+use Rattle.std.proofs.Common.{◌∙◌, rules}
 use Rattle.std.proofs.lemmas.Result.{on_err_weaker, on_ok_weaker}
 use Rattle.pg_outside.proofs.Causes.{rose_since, on_ok_both, on_err_both}
 use Rattle.pg_outside.proofs.Results.{on_err, no_value}
@@ -24,7 +24,7 @@ returns-in_err-write_all g c = record {
 
 pub returns : goal.returns
 returns g c = record {
-  file = c.sync.ensures.file ∙ c.write_all.ensures.file ∙ c.keep_mode.ensures.file;
+  file = search rules;
   ok = on_ok_both _ _ c.sync.result
       (on_ok_weaker c.sync.result (λ same. same ∙ c.in_ok-write_all.ensures.ok.0 ∙ c.in_ok-keep_mode.ensures.ok.0) c.sync.ensures.ok_failures)
       (on_ok_weaker c.sync.result (λ steps. fills _ _ _ c.args.mode c.args.bytes.now _ _ _ _ c.in_ok-keep_mode.ensures.ok.1 c.keep_mode.ensures.file
