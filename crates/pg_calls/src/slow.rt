@@ -1,6 +1,5 @@
 //! Cells against a slow list of families.
-ghost use Rattle.std.specs.Prelude.{◌≤◌};
-ghost use Rattle.pg_types.specs.declared.limits.TheConstants.{SIGNS_MAX};
+ghost use Rattle.pg_types.specs.Inside.Signs.{IsSignCount};
 
 use crate::families::{Families, NONE};
 use crate::strings::{cell_below, change_below};
@@ -46,7 +45,7 @@ fn compare(rt: &impl Abort, cells: &Cells<u32>, families: &Families, taken: &[us
 /// Takes steps in a table with so many signs, and compares after each. Gives the number of taken
 /// cells.
 fn run(rt: &impl Abort, alloc: Global, signs: Sign, steps: u32) -> Result<usize, Fail>
-    requires { (1 ≤ signs) × (signs ≤ SIGNS_MAX) }
+    requires { IsSignCount signs }
 {
     let mut cells = Cells::<u32>::new(alloc, signs, 0)?;
     let mut families = Families::new(alloc, signs)?;

@@ -1,5 +1,6 @@
 //! The cells by their strings.
-ghost use Rattle.std.specs.Prelude.{◌≡◌, ◌≤◌, ℕ, List, Some};
+ghost use Rattle.std.specs.Prelude.{◌≡◌, ℕ, List, Some};
+ghost use Rattle.pg_types.specs.Inside.Signs.{IsTableSign};
 ghost use Rattle.pg_types.specs.Inside.Placing.{cell_of};
 
 use pg_cells::{Cells, step};
@@ -33,7 +34,7 @@ pub fn cell_of(cells: &Cells<u32>, string: &[Sign]) -> Option<usize> {
 /// it is there and no family is below it.
 fn change(cells: &mut Cells<u32>, parent: usize, s: Sign, value: u32) -> Result<Option<usize>, Fail>
     requires parent { (q : List ℕ) × (cell_of cells.old.families q ≡ Some parent) }
-    requires sign { (1 ≤ s) × (s ≤ cells.old.signs) }
+    requires sign { IsTableSign cells.old.signs s }
 {
     match step(cells, Some(parent), s) {
         None => Ok(Some(cells.add(parent, s, value)?)),

@@ -1,9 +1,10 @@
 //! The families of a trie, each with its cells at its base.
 ghost use Rattle.std.specs.Prelude.{◌≡◌, ℕ, ◌≤◌, List, Some, IfOk, false, MatchBool};
+ghost use Rattle.pg_types.specs.Inside.Signs.{IsSignCount, IsTableSign};
 ghost use Rattle.pg_types.specs.Inside.Placing.{cell_of, joins_at};
 ghost use Rattle.pg_cells.specs.Inside.linked.ValuedFamilies.{ValuedFamilies, trie_in};
 ghost use Rattle.pg_cells.specs.Inside.families.Adding.{AddsSign, CanTakeSign};
-ghost use Rattle.pg_cells.specs.Inside.linked.CellValues.{FindsCell, GivesBase, HasValue, IsBase, IsTableSign, IsTaken, SetsValue};
+ghost use Rattle.pg_cells.specs.Inside.linked.CellValues.{FindsCell, GivesBase, HasValue, IsBase, IsTaken, SetsValue};
 ghost use Rattle.pg_cells.specs.Inside.families.Removing.{CanRemoveSign, RemovesSign};
 ghost use Rattle.pg_cells.specs.Inside.store.Lists.{FitsCell};
 ghost use Rattle.pg_cells.specs.Inside.store.Store.{member_code};
@@ -60,7 +61,7 @@ impl<V: Copy, const FEW: usize> Model for Placed<V, FEW> {
 impl<V: Copy, const FEW: usize> Placed<V, FEW> {
     /// The root family alone, each value `blank`.
     pub fn new(alloc: Global, signs: u16, blank: Member<V>) -> Result<Placed<V, FEW>, AllocError>
-        requires signs { (1 ≤ signs) × (signs ≤ SIGNS_MAX) }
+        requires signs { IsSignCount signs }
         requires fits { FitsCell blank }
         ensures { IfOk result (λ c. IsRootAlone signs blank c) }
     {

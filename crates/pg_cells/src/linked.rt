@@ -1,14 +1,15 @@
 //! The families of a trie with links from sign to sign.
-ghost use Rattle.std.specs.Prelude.{◌≡◌, ℕ, ◌+◌, ◌<◌, ◌≤◌, ◌^◌, List, [], ◌∷◌, ◌++◌, Some, None, IfOk, IfSome};
+ghost use Rattle.std.specs.Prelude.{◌≡◌, ℕ, ◌+◌, ◌<◌, ◌^◌, List, [], ◌∷◌, ◌++◌, Some, None, IfOk, IfSome};
 ghost use Rattle.std.specs.FinMap.{find};
 ghost use Rattle.std.specs.Cmp.Lexicographic.{slice_cmp};
 ghost use Rattle.std.specs.Ordering.{nat_cmp};
+ghost use Rattle.pg_types.specs.Inside.Signs.{IsSignCount, IsTableSign};
 ghost use Rattle.pg_types.specs.Placement.{taken_count, top, base_of};
 ghost use Rattle.pg_types.specs.Inside.Placing.{cell_of};
 ghost use Rattle.pg_cells.specs.Inside.linked.ValuedFamilies.{ValuedFamilies};
 ghost use Rattle.pg_cells.specs.Inside.linked.AreValuedFamilies.{AreValuedFamilies};
 ghost use Rattle.pg_cells.specs.Inside.families.Adding.{AddsSign, CanTakeSign};
-ghost use Rattle.pg_cells.specs.Inside.linked.CellValues.{FindsCell, GivesBase, HasValue, IsBase, IsTableSign, IsTaken, SetsValue};
+ghost use Rattle.pg_cells.specs.Inside.linked.CellValues.{FindsCell, GivesBase, HasValue, IsBase, IsTaken, SetsValue};
 ghost use Rattle.pg_cells.specs.Inside.families.Removing.{CanRemoveSign, RemovesSign};
 ghost use Rattle.pg_cells.specs.Inside.linked.Members.{IsNextSign, IsBefore};
 ghost use Rattle.pg_cells.specs.Inside.families.Root.{IsRootAlone};
@@ -57,7 +58,7 @@ impl<V: Copy, const FEW: usize> Model for LinkedCells<V, FEW> {
 impl<V: Copy, const FEW: usize> LinkedCells<V, FEW> {
     /// The root family alone, each value `blank`.
     pub fn new(alloc: Global, signs: u16, blank: V) -> Result<LinkedCells<V, FEW>, AllocError>
-        requires { (1 ≤ signs) × (signs ≤ SIGNS_MAX) }
+        requires { IsSignCount signs }
         ensures { IfOk result (λ c. IsRootAlone signs blank c) }
     {
         let placed = Placed::new(alloc, signs, Member::alone(blank))?;

@@ -1,6 +1,7 @@
 //! The windows that are counted in a pass, in packed cells.
 ghost use Rattle.std.specs.Prelude.{◌≡◌, ◌≤◌, IfOk};
-ghost use Rattle.pg_types.specs.declared.limits.TheConstants.{LENGTH_MAX, SIGNS_MAX};
+ghost use Rattle.pg_types.specs.declared.limits.TheConstants.{LENGTH_MAX};
+ghost use Rattle.pg_types.specs.Inside.Signs.{IsSignCount};
 ghost use Rattle.pg_types.specs.Inside.counting.NumberedWindows.{no_counts};
 
 use crate::leaf::count_new;
@@ -42,7 +43,7 @@ impl Model for CellCounts {
 impl CellCounts {
     /// No window is counted, and a window has one sign.
     pub fn new(alloc: Global, signs: u16) -> Result<CellCounts, AllocError>
-        requires { (1 ≤ signs) × (signs ≤ SIGNS_MAX) }
+        requires { IsSignCount signs }
         ensures { IfOk result
             (λ counts. counts ≡ record { signs = signs; len = 1; counted = no_counts }) }
     {

@@ -1,7 +1,8 @@
 //! The windows that are counted in a pass.
 ghost use Rattle.std.specs.Prelude.{◌≡◌, ◌≤◌, true, length, IfOk, OnOk, OnErr, IsOk};
-ghost use Rattle.pg_types.specs.declared.limits.TheConstants.{LENGTH_MAX, SIGNS_MAX, WEIGHT_MAX};
-ghost use Rattle.pg_types.specs.Inside.counting.Counts.{AreSmall, SignsWithin, sums_of, with_weight, is_counted};
+ghost use Rattle.pg_types.specs.declared.limits.TheConstants.{LENGTH_MAX, WEIGHT_MAX};
+ghost use Rattle.pg_types.specs.Inside.Signs.{IsSignCount, SignsWithin};
+ghost use Rattle.pg_types.specs.Inside.counting.Counts.{AreSmall, sums_of, with_weight, is_counted};
 ghost use Rattle.pg_types.specs.Inside.counting.NumberedWindows.{no_counts, with_window_counted};
 
 use crate::cell_counts::CellCounts;
@@ -37,7 +38,7 @@ impl Model for CountTrie {
 impl CountTrie {
     /// No window is counted, and a window has one sign.
     pub fn new(alloc: Global, signs: u16) -> Result<CountTrie, AllocError>
-        requires { (1 ≤ signs) × (signs ≤ SIGNS_MAX) }
+        requires { IsSignCount signs }
         ensures { IfOk result
             (λ counts. counts ≡ record { signs = signs; len = 1; counted = no_counts }) }
     {

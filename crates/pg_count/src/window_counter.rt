@@ -1,7 +1,8 @@
 //! What each way to count the windows of a pass does.
 ghost use Rattle.std.specs.Prelude.{◌≡◌, ℕ, ◌≤◌, ◌<◌, true, List, ◌++◌, length, Some, IfOk, OnOk, OnErr, IsOk};
 ghost use Rattle.pg_types.specs.declared.limits.TheConstants.{WEIGHT_MAX};
-ghost use Rattle.pg_types.specs.Inside.counting.Counts.{AreSmall, IsNextAbove, SignsWithin, counted_sums, sums_of, with_weight, is_counted};
+ghost use Rattle.pg_types.specs.Inside.Signs.{SignsWithin};
+ghost use Rattle.pg_types.specs.Inside.counting.Counts.{AreSmall, IsNextAbove, counted_sums, sums_of, with_weight, is_counted};
 ghost use Rattle.pg_types.specs.Inside.counting.NumberedWindows.{AreInOrder, AreNumbered, HasNumber, with_window_counted};
 ghost use Rattle.pg_count.specs.Inside.Counting.{Counting, IsCounting};
 

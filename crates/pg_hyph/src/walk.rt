@@ -1,7 +1,7 @@
 //! The strings of a word that have cells.
 ghost use Rattle.std.specs.Prelude.{◌≡◌, ◌+◌, ◌<◌, ◌≤◌, [], length, drop};
 ghost use Rattle.pg_types.specs.declared.limits.TheConstants.{WORD_LETTERS_MAX};
-ghost use Rattle.pg_types.specs.Inside.counting.Counts.{SignsWithin};
+ghost use Rattle.pg_types.specs.Inside.Signs.{SignsWithin};
 ghost use Rattle.pg_select.specs.Inside.words.Positions.{RaisesValues, RaisesCovers};
 ghost use Rattle.pg_hyph.specs.Inside.ListValues.{lists_in, value_by, cover_by};
 ghost use Rattle.pg_hyph.specs.Inside.Walks.{by_strings, by_starts};

@@ -1,9 +1,9 @@
 //! The values and the covers of a word.
 ghost use Rattle.std.specs.Prelude.{◌+◌, ◌≤◌, length};
 ghost use Rattle.pg_types.specs.declared.limits.TheConstants.{LEVEL_MAX, LENGTH_MAX, WORD_LETTERS_MAX};
+ghost use Rattle.pg_types.specs.Inside.Signs.{SignsWithin};
 ghost use Rattle.pg_select.specs.Inside.laws.ClosedDots.{pass_at};
 ghost use Rattle.pg_select.specs.Inside.words.Positions.{HasValues, HasCovers};
-ghost use Rattle.pg_types.specs.Inside.counting.Counts.{SignsWithin};
 
 use crate::walk::walk;
 use pg_dict::WordRef;

@@ -1,6 +1,7 @@
 //! The packed engine.
 ghost use Rattle.std.specs.Prelude.{◌≡◌, ◌≤◌, true, length};
 ghost use Rattle.pg_types.specs.declared.limits.TheConstants.{LENGTH_MAX, LEVEL_MAX};
+ghost use Rattle.pg_types.specs.Inside.Signs.{IsSignCount};
 ghost use Rattle.pg_types.specs.Tails.{tails};
 
 use crate::start::trie_of;
@@ -35,7 +36,6 @@ pub struct PackedEngine {
 
 impl PackedEngine {
     ghost use Rattle.std.specs.Prelude.{◌≡◌, ◌≤◌, IfOk};
-    ghost use Rattle.pg_types.specs.declared.limits.TheConstants.{SIGNS_MAX};
     ghost use Rattle.pg_patterns.specs.Inside.PatternMaps.{SignsUpTo};
     ghost use Rattle.pg_select.specs.Inside.engine.Meanings.{new_engine};
     ghost use Rattle.pg_packed.specs.Inside.Engines.{meaning_of};
@@ -45,7 +45,7 @@ impl PackedEngine {
     /// hopeless or counted, no pass was begun, and the engine is tidy. Its families are those after
     /// the patterns are entered in their order.
     pub fn new(alloc: Global, signs: u16, start: &PatternSet) -> Result<PackedEngine, AllocError>
-        requires signs { (1 ≤ signs) × (signs ≤ SIGNS_MAX) }
+        requires signs { IsSignCount signs }
         requires known { SignsUpTo signs start.now }
         ensures { IfOk result (λ engine. meaning_of engine
             ≡ new_engine signs start.now (Some (pattern_families signs start.now))) }

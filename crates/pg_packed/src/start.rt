@@ -1,6 +1,6 @@
 //! The trie of the patterns that a run starts with.
-ghost use Rattle.std.specs.Prelude.{◌≡◌, ◌≤◌, length, IfOk};
-ghost use Rattle.pg_types.specs.declared.limits.TheConstants.{SIGNS_MAX};
+ghost use Rattle.std.specs.Prelude.{◌≡◌, length, IfOk};
+ghost use Rattle.pg_types.specs.Inside.Signs.{IsSignCount};
 ghost use Rattle.pg_types.specs.Tails.{tails};
 ghost use Rattle.pg_patterns.specs.Inside.PatternMaps.{SignsUpTo};
 ghost use Rattle.pg_packed.specs.Inside.EnteredPatterns.{AreEntered};
@@ -11,7 +11,7 @@ use std::alloc::{AllocError, Global};
 
 // Enters the patterns, in their order, into a trie that has none.
 fn enter_all(alloc: Global, signs: u16, start: &PatternSet) -> Result<PatternTrie, AllocError>
-    requires signs { (1 ≤ signs) × (signs ≤ SIGNS_MAX) }
+    requires signs { IsSignCount signs }
     requires known { SignsUpTo signs start.now }
     ensures { IfOk result (λ trie. AreEntered signs start.now trie) }
 {
@@ -26,7 +26,7 @@ fn enter_all(alloc: Global, signs: u16, start: &PatternSet) -> Result<PatternTri
 /// The trie of the patterns, which were entered in their order. It has only the records that they
 /// need.
 pub fn trie_of(alloc: Global, signs: u16, start: &PatternSet) -> Result<PatternTrie, AllocError>
-    requires signs { (1 ≤ signs) × (signs ≤ SIGNS_MAX) }
+    requires signs { IsSignCount signs }
     requires known { SignsUpTo signs start.now }
     ensures value { IfOk result (λ trie. AreEntered signs start.now trie) }
     ensures tails { IfOk result (λ trie. length trie.records ≡ tails start.now) }

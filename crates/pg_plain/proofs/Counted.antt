@@ -9,7 +9,8 @@ use Rattle.std.specs.FinMap.{nat_cmp-IsAntisymmetric, slice_cmp-IsAntisymmetric}
 use Rattle.std.specs.FinMap.Entries.{put, find, is_sorted}
 use Rattle.std.specs.List.{filter, list_all}
 use Rattle.std.specs.Ordering.{is_lt}
-use Rattle.pg_types.specs.Inside.counting.Counts.{Counts, SignsWithin, is_counted, windows_above}
+use Rattle.pg_types.specs.Inside.Signs.{SignsWithin}
+use Rattle.pg_types.specs.Inside.counting.Counts.{Counts, is_counted, windows_above}
 use Rattle.pg_types.specs.Inside.counting.NumberedStrings.{Numbers}
 use Rattle.pg_types.proofs.EntryLists.{all_put, find_good, above_next}
 use Rattle.pg_types.proofs.Numbering.{first_at, behind}

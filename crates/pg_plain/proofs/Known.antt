@@ -3,8 +3,8 @@ use Rattle.std.proofs.Common.{◌≡◌, ℕ, ◌≤◌, nat_le, true, ◌&&◌,
 use Rattle.std.proofs.lemmas.Bool.{leb-true, le-leb, and_from}
 use Rattle.std.proofs.lemmas.List.Elements.{All-nil, All-cons, All-head, All-tail}
 use Rattle.std.specs.List.{All, list_all}
-use Rattle.pg_types.specs.Inside.counting.Counts.{Counts, SignsWithin, is_counted}
-use Rattle.pg_types.specs.Inside.Signs.{is_sign}
+use Rattle.pg_types.specs.Inside.counting.Counts.{Counts, is_counted}
+use Rattle.pg_types.specs.Inside.Signs.{SignsWithin, is_sign}
 use Rattle.pg_patterns.specs.Inside.PatternMaps.{SignsUpTo, is_entry}
 use Rattle.pg_plain.specs.Inside.Strings.{has_signs_up_to}
 use Rattle.pg_plain.proofs.Counted.{counted_good}

@@ -1,12 +1,13 @@
 //! A run that skips no pass, over the calls of an engine: a second statement of what a run is. Its
 //! sums saturate, but stay far below the limit.
 ghost use Rattle.pg_types.specs.Inside.Limits.{begun_before_pass};
-ghost use Rattle.std.specs.Prelude.{◌≡◌, ◌+◌, ◌*◌, ◌<◌, ◌≤◌, ◌^◌, [], true, length, OnOk, vec_len};
+ghost use Rattle.std.specs.Prelude.{◌≡◌, ◌+◌, ◌*◌, ◌<◌, ◌≤◌, [], true, length, OnOk, vec_len};
 ghost use Rattle.pg_types.specs.declared.limits.TheConstants.{LEVEL_MAX, WEIGHT_MAX, WORD_LETTERS_MAX};
 ghost use Rattle.pg_types.specs.Inside.Ranges.{IsLevel};
+ghost use Rattle.pg_types.specs.Inside.Signs.{SignsWithin};
 ghost use Rattle.pg_dict.specs.Inside.SoundWords.{IsWord, SignsAtMost};
 ghost use Rattle.pg_dict.specs.Inside.Lent.{lent_word};
-ghost use Rattle.pg_types.specs.Inside.counting.Counts.{SignsWithin, is_counted};
+ghost use Rattle.pg_types.specs.Inside.counting.Counts.{is_counted};
 ghost use Rattle.pg_driver.specs.Inside.level.States.{IsPass};
 ghost use Rattle.pg_runs.specs.Inside.Keeping.{AreAtMost, KeepsPass};
 

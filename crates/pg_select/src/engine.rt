@@ -2,7 +2,8 @@
 ghost use Rattle.std.specs.Prelude.{◌≡◌, ℕ, ◌≤◌, ◌<◌, ◌+◌, ◌++◌, true, List, length, Some, IfOk, OnOk, OnErr};
 ghost use Rattle.pg_types.specs.declared.limits.TheConstants.{LEVEL_MAX, LENGTH_MAX, WORD_LETTERS_MAX};
 ghost use Rattle.pg_types.specs.Inside.Limits.{begun_before_pass};
-ghost use Rattle.pg_types.specs.Inside.counting.Counts.{IsNextAbove, SignsWithin, counted_sums, is_counted};
+ghost use Rattle.pg_types.specs.Inside.Signs.{SignsWithin};
+ghost use Rattle.pg_types.specs.Inside.counting.Counts.{IsNextAbove, counted_sums, is_counted};
 ghost use Rattle.pg_types.specs.Inside.counting.NumberedWindows.{AreInOrder, HasNumber};
 ghost use Rattle.pg_select.specs.Inside.engine.EngineCalls.{CanCount, CountsWindow, Enters};
 ghost use Rattle.pg_select.specs.Inside.engine.Meanings.{Meaning, IsMeaning, IsLayout, after_begin_pass, after_choose, after_give_up, after_end_level};

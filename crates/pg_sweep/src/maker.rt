@@ -5,8 +5,8 @@ use std::alloc::{AllocError, Global};
 
 /// Makes the engines of a sweep, one after the other.
 pub trait Maker {
-    ghost use Rattle.std.specs.Prelude.{◌≡◌, ◌≤◌, IfOk};
-    ghost use Rattle.pg_types.specs.declared.limits.TheConstants.{SIGNS_MAX};
+    ghost use Rattle.std.specs.Prelude.{◌≡◌, IfOk};
+    ghost use Rattle.pg_types.specs.Inside.Signs.{IsSignCount};
     ghost use Rattle.pg_patterns.specs.Inside.PatternMaps.{SignsUpTo};
     ghost use Rattle.pg_select.specs.Inside.engine.Meanings.{new_engine};
 
@@ -16,7 +16,7 @@ pub trait Maker {
     /// An engine with the greatest sign `signs` and the patterns `start`. Nothing is hopeless or
     /// counted, no pass was begun, and the engine is tidy.
     fn make(&self, alloc: Global, signs: u16, start: &PatternSet) -> Result<Self::Made, AllocError>
-        requires signs { (1 ≤ signs) × (signs ≤ SIGNS_MAX) }
+        requires signs { IsSignCount signs }
         requires known { SignsUpTo signs start.now }
         ensures { IfOk result (λ engine. Self.Made.meaning engine
             ≡ new_engine signs start.now (Self.Made.meaning engine).families) };

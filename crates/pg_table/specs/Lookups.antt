@@ -9,11 +9,11 @@ use Rattle.pg_outputs.specs.Lists.{list_of}
 use Rattle.pg_select.specs.CountedPositions.{Minima}
 use Rattle.pg_select.specs.Statuses.{status_with}
 use Rattle.pg_select.specs.Sums.{marks_by, totals_of}
-use Rattle.pg_table.specs.Forms.{head_of, cell_at, records_of}
+use Rattle.pg_table.specs.Forms.{sizes_of, cell_at, records_of}
 
 -- the family at the base has the sign: the cell of the sign is there, and has it
 abbrev pub cell_has_sign : List ℕ → ℕ → ℕ → Bool
-cell_has_sign b base s = nat_lt (base + s) (head_of b).cells && nat_eq (cell_at b (base + s)).sign s
+cell_has_sign b base s = nat_lt (base + s) (sizes_of b).cells && nat_eq (cell_at b (base + s)).sign s
 
 -- the list of the string q below the family at the base; it is empty where a cell is missing
 abbrev pub lookup_from : List ℕ → ℕ → List ℕ → List (ℕ × ℕ)

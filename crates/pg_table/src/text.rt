@@ -1,7 +1,7 @@
 //! The text of a packed table.
 ghost use Rattle.std.specs.Prelude.{◌≡◌, ◌+◌, ◌*◌, ◌<◌, ◌≤◌, ◌↔◌, ◌++◌, true, length, IsTrue, IfOk, IfErr, OnOk};
 ghost use Rattle.std.specs.List.{flat_map};
-ghost use Rattle.pg_types.specs.declared.limits.TheConstants.{SIGNS_MAX};
+ghost use Rattle.pg_types.specs.Inside.Signs.{IsSignCount};
 ghost use Rattle.pg_types.specs.Placement.{top};
 ghost use Rattle.pg_patterns.specs.Inside.PatternMaps.{IsPatternMap, SignsUpTo};
 ghost use Rattle.pg_table.specs.declared.error.TableError.TheVariants.{TooLong};
@@ -31,7 +31,7 @@ use std::alloc::{AllocError, Global};
 ///
 /// [`TableError::TooLong`] comes exactly where the table would have more than [`TABLE_MAX`] bytes.
 pub fn table_text(alloc: Global, signs: u16, patterns: &PatternSet) -> Result<Vec<u8>, TableError>
-    requires signs { (1 ≤ signs) × (signs ≤ SIGNS_MAX) }
+    requires signs { IsSignCount signs }
     requires known { SignsUpTo signs patterns.now }
     ensures text { IfOk result (λ text. text.items ≡ table_text signs patterns.now) }
     ensures well_formed { IfOk result (λ text. is_well_formed text.items ≡ true) }
@@ -52,7 +52,7 @@ fn packed_text(
     patterns: &PatternSet,
     packed: &PackedTrie,
 ) -> Result<Vec<u8>, TableError>
-    requires signs { (1 ≤ signs) × (signs ≤ SIGNS_MAX) }
+    requires signs { IsSignCount signs }
     requires known { SignsUpTo signs patterns.now }
     requires entered { IsEntered signs patterns.now packed.now.cells packed.now.outputs }
     ensures text { IfOk result (λ text. text.items ≡ table_text signs patterns.now) }

@@ -5,15 +5,15 @@ ghost use Rattle.pg_types.specs.declared.limits.TheConstants.{SIGNS_MAX, WORD_LE
 ghost use Rattle.pg_types.specs.declared.packed_table.TheConstants.{CELL_LEN, RECORD_LEN};
 ghost use Rattle.pg_table.specs.Lookups.{cell_has_sign, table_value};
 ghost use Rattle.pg_table.specs.Inside.view.ListsOf.{list_in};
-ghost use Rattle.pg_table.specs.Forms.{head_of, has_head, cell_at, is_sound_cell, is_sound_record, is_well_formed};
+ghost use Rattle.pg_table.specs.Forms.{sizes_of, cell_at, is_sound_cell, is_sound_record, is_well_formed};
 ghost use Rattle.pg_table.specs.Inside.Extents.{cell_start, record_start, read_record, file_len};
 
 pub mod totals;
 mod walks;
 
 use crate::parts::cell::{Cell, cell_start};
-use crate::parts::head::Head;
 use crate::parts::record::{is_sound_record, read_record, record_start};
+use crate::parts::sizes::Sizes;
 use crate::view::walks::walk;
 use pg_dict::WordRef;
 use pg_select::WordState;
@@ -25,18 +25,18 @@ use std::marker::Model;
 #[derive(Drop)]
 pub struct TableView<'a> {
     bytes: &'a [u8],
-    head: Head,
+    sizes: Sizes,
 }
 
 impl<'a> Model for TableView<'a> {
     ghost use Rattle.std.specs.Prelude.{ℕ, List, ◌≡◌, true};
-    ghost use Rattle.pg_table.specs.Forms.{head_of, is_well_formed};
+    ghost use Rattle.pg_table.specs.Forms.{sizes_of, is_well_formed};
 
     ghost Value = { List ℕ };
 
     ghost view = { λ v. v.bytes.now };
 
-    ghost invariant = { λ v. (is_well_formed v.bytes.now ≡ true) × (v.head ≡ head_of v.bytes.now) };
+    ghost invariant = { λ v. (is_well_formed v.bytes.now ≡ true) × (v.sizes ≡ sizes_of v.bytes.now) };
 }
 
 impl<'a> TableView<'a> {
@@ -46,9 +46,9 @@ impl<'a> TableView<'a> {
         ensures { MatchOption result (is_well_formed bytes.now ≡ false)
             (λ v. (is_well_formed bytes.now ≡ true) × (v ≡ bytes.now)) }
     {
-        let head = Head::read(bytes)?;
-        if has_sound_cells(bytes, &head) && has_sound_records(bytes, &head) {
-            Some(TableView { bytes, head })
+        let sizes = Sizes::read(bytes)?;
+        if has_sound_cells(bytes, &sizes) && has_sound_records(bytes, &sizes) {
+            Some(TableView { bytes, sizes })
         } else {
             None
         }
@@ -56,20 +56,20 @@ impl<'a> TableView<'a> {
 
     /// The greatest sign.
     pub fn signs(&self) -> u16
-        ensures signs { result ≡ (head_of self.now).signs }
+        ensures signs { result ≡ (sizes_of self.now).signs }
         ensures range { (1 ≤ result) × (result ≤ SIGNS_MAX) }
         ensures well_formed { is_well_formed self.now ≡ true }
     {
-        self.head.signs as u16
+        self.sizes.signs as u16
     }
 
     /// The bytes of the cell with this number, or `None` exactly where there are not so many cells.
     pub fn cell(&self, at: u32) -> Option<&'a [u8]>
-        ensures { MatchOption result ((head_of self.now).cells ≤ at)
-            (λ c. (at < (head_of self.now).cells)
+        ensures { MatchOption result ((sizes_of self.now).cells ≤ at)
+            (λ c. (at < (sizes_of self.now).cells)
             × (c.now ≡ slice_range self.now (cell_start at) (cell_start at + CELL_LEN))) }
     {
-        if at >= self.head.cells {
+        if at >= self.sizes.cells {
             return None;
         }
         let start = cell_start(at);
@@ -79,16 +79,16 @@ impl<'a> TableView<'a> {
     /// The bytes of the record with this head. It is `None` exactly where the head is 0 or greater
     /// than the number of records.
     pub fn output_at(&self, head: u32) -> Option<&'a [u8]>
-        ensures { let start = record_start (head_of self.now).cells (head - 1) in
-            MatchOption result ((head ≡ 0) ⊎ ((head_of self.now).records < head))
-            (λ r. (0 < head) × (head ≤ (head_of self.now).records)
+        ensures { let start = record_start (sizes_of self.now).cells (head - 1) in
+            MatchOption result ((head ≡ 0) ⊎ ((sizes_of self.now).records < head))
+            (λ r. (0 < head) × (head ≤ (sizes_of self.now).records)
             × (r.now ≡ slice_range self.now start (start + RECORD_LEN))) }
     {
         let i = head.checked_sub(1)?;
-        if i >= self.head.records {
+        if i >= self.sizes.records {
             return None;
         }
-        let start = record_start(self.head.cells, i);
+        let start = record_start(self.sizes.cells, i);
         Some(&self.bytes[start..start + RECORD_LEN])
     }
 
@@ -96,7 +96,7 @@ impl<'a> TableView<'a> {
     /// takes no memory.
     pub fn values(&self, w: WordRef<'_>, out: &mut WordState)
         requires word { length w.signs.now ≤ WORD_LETTERS_MAX + 2 }
-        requires signs { All (λ s. s ≤ (head_of self.now).signs) w.signs.now }
+        requires signs { All (λ s. s ≤ (sizes_of self.now).signs) w.signs.now }
         ensures values { (p : ℕ) → p < length w.entry.signs.now →
             slice_index out.new.values p ≡ table_value self.now w.entry.signs.now p }
         ensures covers { (p : ℕ) → p < length w.entry.signs.now
@@ -110,13 +110,13 @@ impl<'a> TableView<'a> {
 impl TableView<'_> {
     /// The cell of the sign in the family at the base, or `None` where the family does not have it.
     pub(crate) fn find(&self, base: u32, s: Sign) -> Option<Cell>
-        requires { base ≤ (head_of self.now).cells }
+        requires { base ≤ (sizes_of self.now).cells }
         ensures cell { MatchOption result (cell_has_sign self.now base s ≡ false)
             (λ c. (cell_has_sign self.now base s ≡ true) × (c ≡ cell_at self.now (base + s))) }
         ensures within { IfSome result (λ c.
-            (c.child < (head_of self.now).cells) × (c.head ≤ (head_of self.now).records)) }
+            (c.child < (sizes_of self.now).cells) × (c.head ≤ (sizes_of self.now).records)) }
     {
-        let cells = self.head.cells;
+        let cells = self.sizes.cells;
         let at = base + u32::from(s);
         if at >= cells {
             return None;
@@ -128,26 +128,26 @@ impl TableView<'_> {
     /// The first value and dot of a list, with the head of its rest. `None` is the empty list, head
     /// 0.
     pub(crate) fn first(&self, head: u32) -> Option<(u8, u8, u32)>
-        requires { head ≤ (head_of self.now).records }
+        requires { head ≤ (sizes_of self.now).records }
         ensures list { MatchOption result (list_in self.now head ≡ [])
             (λ r. list_in self.now head ≡ (r.0, r.1) ∷ list_in self.now r.2) }
         ensures back { IfSome result (λ r. r.2 < head) }
     {
         let i = head.checked_sub(1)?;
-        let entry = read_record(self.bytes, record_start(self.head.cells, i));
+        let entry = read_record(self.bytes, record_start(self.sizes.cells, i));
         Some((entry.value, entry.dot, entry.next as u32))
     }
 }
 
 /// Whether each cell may stand at its place.
-fn has_sound_cells(bytes: &[u8], head: &Head) -> bool
-    requires { file_len head.now ≤ length bytes.now }
+fn has_sound_cells(bytes: &[u8], sizes: &Sizes) -> bool
+    requires { file_len sizes.now ≤ length bytes.now }
     ensures { result
-        ≡ list_all (λ at. is_sound_cell head.now at (cell_at bytes.now at))
-        (range_with_len 0 head.now.cells) }
+        ≡ list_all (λ at. is_sound_cell sizes.now at (cell_at bytes.now at))
+        (range_with_len 0 sizes.now.cells) }
 {
-    for at in 0..head.cells {
-        if !Cell::read(bytes, at).is_sound(at, head) {
+    for at in 0..sizes.cells {
+        if !Cell::read(bytes, at).is_sound(at, sizes) {
             return false;
         }
     }
@@ -155,14 +155,14 @@ fn has_sound_cells(bytes: &[u8], head: &Head) -> bool
 }
 
 /// Whether each record may stand at its place.
-fn has_sound_records(bytes: &[u8], head: &Head) -> bool
-    requires { file_len head.now ≤ length bytes.now }
+fn has_sound_records(bytes: &[u8], sizes: &Sizes) -> bool
+    requires { file_len sizes.now ≤ length bytes.now }
     ensures { result ≡ list_all
-        (λ i. is_sound_record i (read_record bytes.now (record_start head.now.cells i)))
-        (range_with_len 0 head.now.records) }
+        (λ i. is_sound_record i (read_record bytes.now (record_start sizes.now.cells i)))
+        (range_with_len 0 sizes.now.records) }
 {
-    for i in 0..head.records {
-        let record = read_record(bytes, record_start(head.cells, i));
+    for i in 0..sizes.records {
+        let record = read_record(bytes, record_start(sizes.cells, i));
         if !is_sound_record(i, record) {
             return false;
         }

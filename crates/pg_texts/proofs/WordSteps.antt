@@ -5,11 +5,11 @@ use Rattle.std.specs.List.{flat_map, range_with_len, list_any, slice_get}
 use Rattle.std.proofs.lemmas.Bool.Decides.{nat_tests}
 use Rattle.std.proofs.lemmas.Option.{get_or_from_slice_get, slice_get_within}
 use Rattle.pg_types.specs.declared.marks.Mark.{Mark}
+use Rattle.pg_types.specs.Inside.Signs.{SignsWithin}
 use Rattle.pg_translate.specs.Alphabets.{Alphabet}
 use Rattle.pg_translate.specs.Reach.{reach, positions}
 use Rattle.pg_dict.specs.Word.{Word}
 use Rattle.pg_dict.specs.Inside.SoundWords.{IsWord, SignsAtMost}
-use Rattle.pg_types.specs.Inside.counting.Counts.{SignsWithin}
 use Rattle.pg_patterns.specs.Values.{Patterns, value_at}
 use Rattle.pg_select.specs.Statuses.{status}
 use Rattle.pg_texts.proofs.Ranges.{same_over_range}

@@ -1,7 +1,8 @@
 //! The pattern trie.
-ghost use Rattle.std.specs.Prelude.{◌≡◌, ℕ, ◌+◌, ◌<◌, ◌≤◌, List, [], ◌∷◌, ◌++◌, length, map, take, All, Some, None, IfOk, OnOk, OnErr};
+ghost use Rattle.std.specs.Prelude.{◌≡◌, ℕ, ◌+◌, ◌<◌, ◌≤◌, List, [], ◌∷◌, ◌++◌, length, map, take, Some, None, IfOk, OnOk, OnErr};
 ghost use Rattle.std.specs.FinMap.Entries.{put};
-ghost use Rattle.pg_types.specs.declared.limits.TheConstants.{LEVEL_MAX, PATTERN_SIGNS_MAX, SIGNS_MAX};
+ghost use Rattle.pg_types.specs.declared.limits.TheConstants.{LEVEL_MAX, PATTERN_SIGNS_MAX};
+ghost use Rattle.pg_types.specs.Inside.Signs.{IsSignCount, IsTableSign, SignsWithin};
 ghost use Rattle.pg_types.specs.Placement.{root, enter, kept_families, taken_count, top};
 ghost use Rattle.pg_types.specs.Inside.Placing.{cell_of};
 ghost use Rattle.pg_types.specs.Tails.{tails};
@@ -52,7 +53,7 @@ impl Model for PatternTrie {
 impl PatternTrie {
     /// The trie of signs up to `signs`, with neither a value nor a hopeless entry.
     pub fn new(alloc: Global, signs: u16) -> Result<PatternTrie, AllocError>
-        requires { (1 ≤ signs) × (signs ≤ SIGNS_MAX) }
+        requires { IsSignCount signs }
         ensures { IfOk result (λ t. t ≡ record {
           signs = signs;
           families = root signs;
@@ -76,7 +77,7 @@ impl PatternTrie {
     pub fn enter(&mut self, signs: &[Sign], dot: u8, value: u8) -> Result<(), AllocError>
         requires some { 0 < length signs.now }
         requires few { length signs.now ≤ PATTERN_SIGNS_MAX }
-        requires signs { All (λ s. (1 ≤ s) × (s ≤ self.old.signs)) signs.now }
+        requires signs { SignsWithin self.old.signs signs.now }
         requires dot { dot ≤ length signs.now }
         requires value { (1 ≤ value) × (value ≤ HOPELESS) }
         ensures raised { OnOk result (value ≤ LEVEL_MAX →
@@ -112,7 +113,7 @@ impl PatternTrie {
     /// one has a value or a hopeless entry. It takes no memory.
     pub fn step(&self, at: Option<usize>, s: Sign) -> Option<usize>
         requires at { (q : List ℕ) × (IsAt self.now.families at q) }
-        requires sign { (1 ≤ s) × (s ≤ self.now.signs) }
+        requires sign { IsTableSign self.now.signs s }
         ensures cell { (q : List ℕ) → IsAt self.now.families at q
             → result ≡ cell_of self.now.families (q ++ s ∷ []) }
         ensures none { (q : List ℕ) → IsAt self.now.families at q

@@ -3,8 +3,7 @@ use Rattle.std.proofs.Common.{◌≡◌, ℕ, ◌≤◌, nat_le, true, List, [],
 use Rattle.std.proofs.lemmas.Bool.{and_from, le-leb}
 use Rattle.std.proofs.lemmas.List.Elements.{All-head, All-tail}
 use Rattle.std.specs.List.{list_all}
-use Rattle.pg_types.specs.Inside.Signs.{is_sign}
-use Rattle.pg_types.specs.Inside.counting.Counts.{SignsWithin}
+use Rattle.pg_types.specs.Inside.Signs.{SignsWithin, is_sign}
 
 -- the signs of a window are signs, where each is one of a table
 pub are_signs : (n : ℕ) (u : List ℕ) → SignsWithin n u → list_all is_sign u ≡ true

@@ -1,8 +1,8 @@
 //! A sign is added to a family, in its place or at another base.
 ghost use Rattle.std.specs.Prelude.{◌≡◌, ℕ, ◌+◌, ◌<◌, ◌≤◌, ◌∷◌, ◌++◌, [], List, Some, nat_lt, nat_eq, ◌&&◌, IfOk, OnOk, OnErr};
+ghost use Rattle.pg_types.specs.Inside.Signs.{IsTableSign};
 ghost use Rattle.pg_types.specs.Placement.{with_sign};
 ghost use Rattle.pg_types.specs.Inside.Placing.{cell_of};
-ghost use Rattle.pg_cells.specs.Inside.linked.CellValues.{IsTableSign};
 ghost use Rattle.pg_cells.specs.Inside.linked.Members.{ArePositive};
 ghost use Rattle.pg_cells.specs.Inside.linked.ValuedFamilies.{Trie};
 ghost use Rattle.pg_cells.specs.declared.store.member.Member.{Member as MemberOf};

@@ -1,11 +1,12 @@
 //! The links from sign to sign of a family. A family's signs are linked in rising order: the string
 //! that they follow has the first one, and each has the next.
 ghost use Rattle.std.specs.Prelude.{◌≡◌, ◌≢◌, ℕ, ◌<◌, ◌≤◌, ◌⊎◌, ◌&&◌, nat_eq, true, false, List, [], ◌∷◌, ◌++◌, Some, OnOk};
+ghost use Rattle.pg_types.specs.Inside.Signs.{IsTableSign};
 ghost use Rattle.pg_types.specs.Inside.Placing.{cell_of, joins_at};
 ghost use Rattle.pg_cells.specs.declared.store.cell.TheConstants.{SIGN_COUNT};
 ghost use Rattle.pg_cells.specs.Inside.families.Adding.{CanTakeSign};
 ghost use Rattle.pg_cells.specs.Inside.linked.AreValuedFamilies.{AreValuedFamilies};
-ghost use Rattle.pg_cells.specs.Inside.linked.CellValues.{GivesBase, HasBase, IsTableSign, IsTaken};
+ghost use Rattle.pg_cells.specs.Inside.linked.CellValues.{GivesBase, HasBase, IsTaken};
 ghost use Rattle.pg_cells.specs.Inside.linked.Members.{IsNextSign, IsBefore, goes_on, has_sign, ArePassing, ArePositive};
 ghost use Rattle.pg_cells.specs.Inside.linked.Links.{AreLinks, with_link};
 

@@ -3,7 +3,7 @@ use Rattle.std.proofs.Common.{◌≡◌, ℕ, ◌+◌, ◌<◌, inl, inr, T, con
 use Rattle.std.specs.List.{cons_option, filter_map}
 use Rattle.std.specs.Ordering.{is_lt}
 use Rattle.std.specs.FinMap.Entries.{find, is_sorted, below_all}
-use Rattle.pg_types.specs.Inside.counting.Counts.{SignsWithin}
+use Rattle.pg_types.specs.Inside.Signs.{SignsWithin}
 use Rattle.pg_types.proofs.BoolFacts.{both_halves}
 use Rattle.pg_types.proofs.Numbering.{behind, first_at}
 use Rattle.pg_types.proofs.StringEntries.{order, equal_or_not}

@@ -8,7 +8,7 @@ use Rattle.std.specs.declared.cmp.Ordering.TheVariants.{Less, Equal, Greater}
 use Rattle.std.specs.Ordering.{nat_cmp, ordering_reverse, ordering_then}
 use Rattle.std.specs.FinMap.{slice_cmp-IsAntisymmetric, nat_cmp-IsAntisymmetric}
 use Rattle.std.specs.Cmp.Lexicographic.{nat_list_cmp_total}
-use Rattle.pg_types.specs.Inside.counting.Counts.{SignsWithin}
+use Rattle.pg_types.specs.Inside.Signs.{SignsWithin}
 use Rattle.pg_types.proofs.StringEntries.{order}
 use Rattle.pg_count.specs.Inside.Tables.{index_from, index_of}
 

@@ -5,7 +5,8 @@ use Rattle.std.proofs.lemmas.Bool.{cases_lt}
 use Rattle.std.proofs.lemmas.Option.{slice_get_within}
 use Rattle.std.specs.FinMap.Entries.{find, put}
 use Rattle.pg_types.specs.declared.limits.TheConstants.{LENGTH_MAX, SIGNS_MAX, NUMBERS_END}
-use Rattle.pg_types.specs.Inside.counting.Counts.{SignsWithin, with_count, with_weight}
+use Rattle.pg_types.specs.Inside.Signs.{SignsWithin}
+use Rattle.pg_types.specs.Inside.counting.Counts.{with_count, with_weight}
 use Rattle.pg_types.specs.Inside.counting.NumberedWindows.{Windows, HasNumber}
 use Rattle.pg_types.proofs.StringEntries.{order}
 use Rattle.pg_count.specs.Inside.Tables.{IsCountTable, index_of, table_counting, table_counts}

@@ -6,8 +6,9 @@ use Rattle.std.specs.Ordering.{nat_cmp}
 use Rattle.std.specs.Cmp.Lexicographic.{slice_cmp}
 use Rattle.std.specs.FinMap.Entries.{find, is_sorted}
 use Rattle.pg_types.specs.declared.limits.TheConstants.{LENGTH_MAX}
+use Rattle.pg_types.specs.Inside.Signs.{SignsWithin}
 use Rattle.pg_cells.specs.Inside.linked.ValuedFamilies.{ValuedFamilies}
-use Rattle.pg_types.specs.Inside.counting.Counts.{Counts, SignsWithin, is_counted}
+use Rattle.pg_types.specs.Inside.counting.Counts.{Counts, is_counted}
 use Rattle.pg_types.specs.Inside.counting.NumberedWindows.{Windows, WindowCounts}
 use Rattle.pg_types.specs.Inside.counting.NumberedStrings.{Numbers}
 

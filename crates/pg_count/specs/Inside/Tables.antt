@@ -2,7 +2,8 @@
 use Rattle.std.specs.Prelude.{◌≡◌, ℕ, ◌+◌, ◌*◌, ◌-◌, ◌^◌, ◌≤◌, nat_lt, if◌then◌else◌, List, [], ◌∷◌, length, get_or, slice_get, Option, None, Some}
 use Rattle.std.specs.List.{filter_map}
 use Rattle.pg_types.specs.declared.limits.TheConstants.{LENGTH_MAX, SIGNS_MAX, NUMBERS_END}
-use Rattle.pg_types.specs.Inside.counting.Counts.{Counts, SignsWithin}
+use Rattle.pg_types.specs.Inside.Signs.{SignsWithin}
+use Rattle.pg_types.specs.Inside.counting.Counts.{Counts}
 use Rattle.pg_types.specs.Inside.counting.NumberedWindows.{Windows, HasNumber}
 use Rattle.pg_count.specs.Inside.Counting.{Counting, window_at}
 use Rattle.pg_count.specs.declared.table.short.TheConstants.{ENTRIES_MAX}

@@ -3,7 +3,8 @@ ghost use Rattle.std.specs.Prelude.{◌≡◌, ◌+◌, ◌<◌, ◌≤◌, ◌�
 ghost use Rattle.std.specs.FinMap.{find, put};
 ghost use Rattle.std.specs.Cmp.Lexicographic.{slice_cmp};
 ghost use Rattle.std.specs.Ordering.{nat_cmp};
-ghost use Rattle.pg_types.specs.declared.limits.TheConstants.{SIGNS_MAX, NUMBERS_END};
+ghost use Rattle.pg_types.specs.declared.limits.TheConstants.{NUMBERS_END};
+ghost use Rattle.pg_types.specs.Inside.Signs.{IsSignCount, IsTableSign};
 ghost use Rattle.pg_types.specs.Inside.Placing.{cell_of};
 ghost use Rattle.pg_cells.specs.Inside.families.Adding.{CanTakeSign};
 ghost use Rattle.pg_cells.specs.Inside.linked.AreValuedFamilies.{AreValuedFamilies};
@@ -58,7 +59,7 @@ impl Model for CountedCells {
 impl CountedCells {
     /// Each sign alone has a cell, and no string is counted.
     pub fn new(alloc: Global, signs: u16) -> Result<CountedCells, AllocError>
-        requires { (1 ≤ signs) × (signs ≤ SIGNS_MAX) }
+        requires { IsSignCount signs }
         ensures held { IfOk result (λ t. t ≡ root_alone signs None) }
         ensures kept { IfOk result (λ t. AreValuedFamilies t) }
     {
@@ -144,7 +145,7 @@ impl CountedCells {
         requires cell { (q : List ℕ) × (t : Tally) × ((cell_of self.old.families q ≡ Some cell)
             × (find (slice_cmp nat_cmp) q self.old.values ≡ Some (Some t))
             × (cell_of self.old.families (q ++ s ∷ []) ≡ None)) }
-        requires sign { (1 ≤ s) × (s ≤ self.old.signs) }
+        requires sign { IsTableSign self.old.signs s }
         ensures held { (q : List ℕ) (t : Tally) → cell_of self.old.families q ≡ Some cell
             → find (slice_cmp nat_cmp) q self.old.values ≡ Some (Some t)
             → OnOk result (PushesDown self.old self.new q s t) }

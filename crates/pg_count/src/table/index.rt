@@ -3,7 +3,7 @@ ghost use Rattle.std.specs.Prelude.{◌≡◌, ◌+◌, ◌^◌, ◌≤◌, true
 ghost use Rattle.std.specs.declared.cmp.Ordering.TheVariants.{Less};
 ghost use Rattle.std.specs.Cmp.Lexicographic.{slice_cmp};
 ghost use Rattle.std.specs.Ordering.{nat_cmp};
-ghost use Rattle.pg_types.specs.Inside.counting.Counts.{SignsWithin};
+ghost use Rattle.pg_types.specs.Inside.Signs.{SignsWithin};
 ghost use Rattle.pg_count.specs.Inside.Tables.{index_of};
 ghost use Rattle.pg_count.specs.declared.table.short.TheConstants.{ENTRIES_MAX};
 

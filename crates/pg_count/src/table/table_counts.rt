@@ -4,7 +4,8 @@ ghost use Rattle.std.specs.FinMap.{put};
 ghost use Rattle.std.specs.Cmp.Lexicographic.{slice_cmp};
 ghost use Rattle.std.specs.Ordering.{nat_cmp};
 ghost use Rattle.pg_types.specs.declared.limits.TheConstants.{LENGTH_MAX, SIGNS_MAX, NUMBERS_END};
-ghost use Rattle.pg_types.specs.Inside.counting.Counts.{SignsWithin, counted_sums};
+ghost use Rattle.pg_types.specs.Inside.Signs.{IsSignCount, SignsWithin};
+ghost use Rattle.pg_types.specs.Inside.counting.Counts.{counted_sums};
 ghost use Rattle.pg_types.specs.Inside.counting.NumberedWindows.{HasNumber, no_counts};
 ghost use Rattle.pg_count.specs.declared.store.tally_list.TheConstants.{LATEST_FIRST};
 ghost use Rattle.pg_count.specs.declared.table.short.TheConstants.{ENTRIES_MAX};
@@ -53,7 +54,7 @@ impl Model for TableCounts {
 impl TableCounts {
     /// No window is counted, and a window has one sign.
     pub fn new(alloc: Global, signs: u16) -> TableCounts
-        requires { (1 ≤ signs) × (signs ≤ SIGNS_MAX) }
+        requires { IsSignCount signs }
         ensures { result ≡ record { signs = signs; len = 1; counted = no_counts } }
     {
         TableCounts {

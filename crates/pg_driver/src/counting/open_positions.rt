@@ -1,8 +1,8 @@
 //! The open positions of a level: those that count by their status, with their closed dots. The
 //! totals stand beside them, and the positions that count at no level.
 ghost use Rattle.std.specs.Prelude.{◌≡◌, ◌≤◌, ◌<◌, ◌+◌, ◌-◌, ◌==◌, ◌&&◌, ℕ, not, length, slice_get, Some, IfOk, OnOk, is_some};
-ghost use Rattle.pg_types.specs.Inside.counting.Counts.{SignsWithin};
 ghost use Rattle.pg_types.specs.Inside.Limits.{positions_limit};
+ghost use Rattle.pg_types.specs.Inside.Signs.{SignsWithin};
 ghost use Rattle.pg_dots.specs.Inside.Dots.{is_closed, position_count};
 ghost use Rattle.pg_dots.specs.Inside.Positions.{is_among, room_of};
 ghost use Rattle.pg_translate.specs.Reach.{positions as positions_of};

@@ -1,7 +1,7 @@
 //! The walk over the words in a pass that hyphenates each of them.
 ghost use Rattle.std.specs.Prelude.{◌≡◌, ◌≤◌, ◌<◌, ◌+◌, ◌++◌, ◌&&◌, [], not, false, if◌then◌else◌, None, length, slice_index_or, IfOk, OnOk};
-ghost use Rattle.pg_types.specs.Inside.counting.Counts.{SignsWithin};
 ghost use Rattle.pg_types.specs.declared.limits.TheConstants.{WORD_LETTERS_MAX};
+ghost use Rattle.pg_types.specs.Inside.Signs.{SignsWithin};
 ghost use Rattle.pg_translate.specs.Reach.{positions as positions_of};
 ghost use Rattle.pg_dict.specs.Inside.SoundWords.{IsWord, letter_count};
 ghost use Rattle.pg_dict.specs.Inside.Lent.{lent_word};

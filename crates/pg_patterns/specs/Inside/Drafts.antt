@@ -3,6 +3,7 @@ use Rattle.std.specs.Prelude.{◌≡◌, ℕ, ◌-◌, ◌<◌, ◌≤◌, List,
 use Rattle.std.specs.List.{All}
 use Rattle.pg_types.specs.declared.limits.TheConstants.{EDGE, LEVEL_MAX, PATTERN_SIGNS_MAX}
 use Rattle.pg_types.specs.declared.refusals.Refusal.{Refusal}
+use Rattle.pg_types.specs.Inside.Signs.{SignsWithin}
 use Rattle.pg_types.specs.ValuesOrRefusals.{unless}
 use Rattle.pg_translate.specs.declared.items.Place.TheVariants.{Patterns}
 use Rattle.pg_translate.specs.Alphabets.{Alphabet}
@@ -76,6 +77,6 @@ IsDotDigit n x = (x.0 < n) × (1 ≤ x.1) × (x.1 ≤ LEVEL_MAX)
 -- what every draft keeps, whose signs are at most n
 pub record IsDraft (n : ℕ) (d : Draft) : Type 0 where
   pub few : length d.signs ≤ PATTERN_SIGNS_MAX
-  pub signs : All (λ s. (1 ≤ s) × (s ≤ n)) d.signs
+  pub signs : SignsWithin n d.signs
   pub digits : All (IsDotDigit (length d.signs)) d.digits
   pub digit : d.digit ≤ LEVEL_MAX

@@ -5,20 +5,20 @@ use Rattle.std.proofs.lemmas.Bool.{and_parts, and_from, or_cases, or_left, or_ri
 use Rattle.pg_types.specs.declared.limits.TheConstants.{LEVEL_MAX, PATTERN_SIGNS_MAX, SIGNS_MAX}
 use Rattle.pg_outputs.specs.declared.records.Record.{Record}
 use Rattle.pg_table.specs.declared.parts.cell.Cell.{Cell}
-use Rattle.pg_table.specs.declared.parts.head.Head.{Head}
+use Rattle.pg_table.specs.declared.parts.sizes.Sizes.{Sizes}
 use Rattle.pg_types.specs.declared.packed_table.TheConstants.{TABLE_MAX}
-use Rattle.pg_table.specs.Forms.{signature, head_of, cell_at, record_at, has_head, is_sound_cell, is_sound_record, is_well_formed}
-use Rattle.pg_table.specs.Inside.Extents.{read_record, record_start, file_len, fits_head}
+use Rattle.pg_table.specs.Forms.{signature, sizes_of, cell_at, record_at, has_sizes, is_sound_cell, is_sound_record, is_well_formed}
+use Rattle.pg_table.specs.Inside.Extents.{read_record, record_start, file_len, sizes_fit}
 use Rattle.pg_table.proofs.parts.Ranges.{range_passes, range_tells}
 
-pub record FitsHead (h : Head) (len : ℕ) : Type 0 where
+pub record SizesFit (h : Sizes) (len : ℕ) : Type 0 where
   pub whole : len ≡ file_len h
   pub small : len ≤ TABLE_MAX
   pub some : 1 ≤ h.signs
   pub few : h.signs ≤ SIGNS_MAX
   pub rooted : h.signs < h.cells
 
-pub record IsSoundCell (h : Head) (at : ℕ) (c : Cell) : Type 0 where
+pub record IsSoundCell (h : Sizes) (at : ℕ) (c : Cell) : Type 0 where
   pub own : at ≤ h.signs → c.sign ≡ at
   pub unused : c.sign ≡ 0 → (c.child ≡ 0) × (c.head ≡ 0)
   pub sign : c.sign ≤ h.signs
@@ -33,11 +33,11 @@ pub record IsSoundRecord (i : ℕ) (r : Record) : Type 0 where
 
 pub record IsWellFormed (b : List ℕ) : Type 0 where
   pub mark : starts_with nat_eq b signature ≡ true
-  pub head : FitsHead (head_of b) (length b)
-  pub cells : (at : ℕ) → at < (head_of b).cells → IsSoundCell (head_of b) at (cell_at b at)
-  pub records : (i : ℕ) → i < (head_of b).records → IsSoundRecord i (record_at b i)
+  pub sizes : SizesFit (sizes_of b) (length b)
+  pub cells : (at : ℕ) → at < (sizes_of b).cells → IsSoundCell (sizes_of b) at (cell_at b at)
+  pub records : (i : ℕ) → i < (sizes_of b).records → IsSoundRecord i (record_at b i)
 
-pub fits_told : (h : Head) (len : ℕ) → fits_head h len ≡ true → FitsHead h len
+pub fits_told : (h : Sizes) (len : ℕ) → sizes_fit h len ≡ true → SizesFit h len
 fits_told h len is =
     let a = and_parts (nat_eq len (file_len h) && nat_le len TABLE_MAX && nat_le 1 h.signs && nat_le h.signs SIGNS_MAX) (nat_lt h.signs h.cells) is in
     let b = and_parts (nat_eq len (file_len h) && nat_le len TABLE_MAX && nat_le 1 h.signs) (nat_le h.signs SIGNS_MAX) a.0 in
@@ -51,7 +51,7 @@ fits_told h len is =
       rooted = ltb-true h.signs h.cells a.1;
     }
 
-pub fits_from : (h : Head) (len : ℕ) → FitsHead h len → fits_head h len ≡ true
+pub fits_from : (h : Sizes) (len : ℕ) → SizesFit h len → sizes_fit h len ≡ true
 fits_from h len is =
     and_from (nat_eq len (file_len h) && nat_le len TABLE_MAX && nat_le 1 h.signs && nat_le h.signs SIGNS_MAX) (nat_lt h.signs h.cells)
     (and_from (nat_eq len (file_len h) && nat_le len TABLE_MAX && nat_le 1 h.signs) (nat_le h.signs SIGNS_MAX)
@@ -61,7 +61,7 @@ fits_from h len is =
     (le-leb h.signs SIGNS_MAX is.few))
     (lt-ltb h.signs h.cells is.rooted)
 
-pub cell_told : (h : Head) (at : ℕ) (c : Cell) → is_sound_cell h at c ≡ true → IsSoundCell h at c
+pub cell_told : (h : Sizes) (at : ℕ) (c : Cell) → is_sound_cell h at c ≡ true → IsSoundCell h at c
 cell_told h at c is =
     let own = nat_lt h.signs at || nat_eq c.sign at in
     let unused = not (nat_eq c.sign 0) || (nat_eq c.child 0 && nat_eq c.head 0) in
@@ -83,7 +83,7 @@ cell_told h at c is =
       head = leb-true c.head h.records a.1;
     }
 
-pub cell_from : (h : Head) (at : ℕ) (c : Cell) → IsSoundCell h at c → is_sound_cell h at c ≡ true
+pub cell_from : (h : Sizes) (at : ℕ) (c : Cell) → IsSoundCell h at c → is_sound_cell h at c ≡ true
 cell_from h at c is =
     let own = nat_lt h.signs at || nat_eq c.sign at in
     let unused = not (nat_eq c.sign 0) || (nat_eq c.child 0 && nat_eq c.head 0) in
@@ -123,48 +123,48 @@ record_from i r is =
 pub form_told : (b : List ℕ) → is_well_formed b ≡ true → IsWellFormed b
 unfolding is_well_formed
 form_told b is =
-    let cells = list_all (λ at. is_sound_cell (head_of b) at (cell_at b at)) (range_with_len 0 (head_of b).cells) in
-    let records = list_all (λ i. is_sound_record i (record_at b i)) (range_with_len 0 (head_of b).records) in
-    let a = and_parts (has_head b && cells) records is in
-    let d = and_parts (has_head b) cells a.0 in
-    let e = and_parts (starts_with nat_eq b signature) (fits_head (head_of b) (length b)) d.0 in
+    let cells = list_all (λ at. is_sound_cell (sizes_of b) at (cell_at b at)) (range_with_len 0 (sizes_of b).cells) in
+    let records = list_all (λ i. is_sound_record i (record_at b i)) (range_with_len 0 (sizes_of b).records) in
+    let a = and_parts (has_sizes b && cells) records is in
+    let d = and_parts (has_sizes b) cells a.0 in
+    let e = and_parts (starts_with nat_eq b signature) (sizes_fit (sizes_of b) (length b)) d.0 in
     record {
       mark = e.0;
-      head = fits_told (head_of b) (length b) e.1;
-      cells = λ at inside. cell_told (head_of b) at (cell_at b at) (range_tells (λ k. is_sound_cell (head_of b) k (cell_at b k)) (head_of b).cells at d.1 inside);
-      records = λ i inside. record_told i (record_at b i) (range_tells (λ k. is_sound_record k (record_at b k)) (head_of b).records i a.1 inside);
+      sizes = fits_told (sizes_of b) (length b) e.1;
+      cells = λ at inside. cell_told (sizes_of b) at (cell_at b at) (range_tells (λ k. is_sound_cell (sizes_of b) k (cell_at b k)) (sizes_of b).cells at d.1 inside);
+      records = λ i inside. record_told i (record_at b i) (range_tells (λ k. is_sound_record k (record_at b k)) (sizes_of b).records i a.1 inside);
     }
 
 pub form_from : (b : List ℕ) → IsWellFormed b → is_well_formed b ≡ true
 unfolding is_well_formed
 form_from b is =
-    let cells = list_all (λ at. is_sound_cell (head_of b) at (cell_at b at)) (range_with_len 0 (head_of b).cells) in
-    let records = list_all (λ i. is_sound_record i (record_at b i)) (range_with_len 0 (head_of b).records) in
-    and_from (has_head b && cells) records
-    (and_from (has_head b) cells
-    (and_from (starts_with nat_eq b signature) (fits_head (head_of b) (length b)) is.mark (fits_from (head_of b) (length b) is.head))
-    (range_passes (λ k. is_sound_cell (head_of b) k (cell_at b k)) 0 (head_of b).cells (λ i low inside. cell_from (head_of b) i (cell_at b i) (is.cells i (omega arith)))))
-    (range_passes (λ k. is_sound_record k (record_at b k)) 0 (head_of b).records (λ i low inside. record_from i (record_at b i) (is.records i (omega arith))))
+    let cells = list_all (λ at. is_sound_cell (sizes_of b) at (cell_at b at)) (range_with_len 0 (sizes_of b).cells) in
+    let records = list_all (λ i. is_sound_record i (record_at b i)) (range_with_len 0 (sizes_of b).records) in
+    and_from (has_sizes b && cells) records
+    (and_from (has_sizes b) cells
+    (and_from (starts_with nat_eq b signature) (sizes_fit (sizes_of b) (length b)) is.mark (fits_from (sizes_of b) (length b) is.sizes))
+    (range_passes (λ k. is_sound_cell (sizes_of b) k (cell_at b k)) 0 (sizes_of b).cells (λ i low inside. cell_from (sizes_of b) i (cell_at b i) (is.cells i (omega arith)))))
+    (range_passes (λ k. is_sound_record k (record_at b k)) 0 (sizes_of b).records (λ i low inside. record_from i (record_at b i) (is.records i (omega arith))))
 
--- the tests of all cells and of all records, by the numbers of a head
-abbrev pub cells_pass : List ℕ → Head → Bool
+-- the tests of all cells and of all records, by the sizes of a table
+abbrev pub cells_pass : List ℕ → Sizes → Bool
 cells_pass b h = list_all (λ at. is_sound_cell h at (cell_at b at)) (range_with_len 0 h.cells)
 
-abbrev pub records_pass : List ℕ → Head → Bool
+abbrev pub records_pass : List ℕ → Sizes → Bool
 records_pass b h = list_all (λ i. is_sound_record i (read_record b (record_start h.cells i))) (range_with_len 0 h.records)
 
 -- the test of the form by its three parts
-pub form_is : (b : List ℕ) (h : Head) (x y z : Bool) → has_head b ≡ x → h ≡ head_of b → cells_pass b h ≡ y → records_pass b h ≡ z → is_well_formed b ≡ (x && y && z)
+pub form_is : (b : List ℕ) (h : Sizes) (x y z : Bool) → has_sizes b ≡ x → h ≡ sizes_of b → cells_pass b h ≡ y → records_pass b h ≡ z → is_well_formed b ≡ (x && y && z)
 unfolding is_well_formed
-form_is b h x y z head same cells records =
-    ap (λ k. has_head b && cells_pass b k && records_pass b k) (sym same) ∙ ap (λ w. w && cells_pass b h && records_pass b h) head
+form_is b h x y z sizes same cells records =
+    ap (λ k. has_sizes b && cells_pass b k && records_pass b k) (sym same) ∙ ap (λ w. w && cells_pass b h && records_pass b h) sizes
     ∙ ap (λ w. x && w && records_pass b h) cells ∙ ap (λ w. x && y && w) records
 
-pub no_head : (b : List ℕ) → has_head b ≡ false → is_well_formed b ≡ false
-no_head b none = form_is b (head_of b) false (cells_pass b (head_of b)) (records_pass b (head_of b)) none refl refl refl
+pub no_sizes : (b : List ℕ) → has_sizes b ≡ false → is_well_formed b ≡ false
+no_sizes b none = form_is b (sizes_of b) false (cells_pass b (sizes_of b)) (records_pass b (sizes_of b)) none refl refl refl
 
-pub no_cells : (b : List ℕ) (h : Head) → has_head b ≡ true → h ≡ head_of b → cells_pass b h ≡ false → is_well_formed b ≡ false
+pub no_cells : (b : List ℕ) (h : Sizes) → has_sizes b ≡ true → h ≡ sizes_of b → cells_pass b h ≡ false → is_well_formed b ≡ false
 no_cells b h some same none = form_is b h true false (records_pass b h) some same none refl
 
-pub no_records : (b : List ℕ) (h : Head) → has_head b ≡ true → h ≡ head_of b → cells_pass b h ≡ true → records_pass b h ≡ false → is_well_formed b ≡ false
+pub no_records : (b : List ℕ) (h : Sizes) → has_sizes b ≡ true → h ≡ sizes_of b → cells_pass b h ≡ true → records_pass b h ≡ false → is_well_formed b ≡ false
 no_records b h some same cells none = form_is b h true true false some same cells none

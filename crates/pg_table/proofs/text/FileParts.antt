@@ -6,10 +6,10 @@ use Rattle.std.proofs.lemmas.List.FromFn.{fill_by_all}
 use Rattle.pg_types.specs.declared.limits.TheConstants.{SIGNS_MAX}
 use Rattle.pg_outputs.specs.declared.records.Record.{Record}
 use Rattle.pg_table.specs.declared.parts.cell.Cell.{Cell}
-use Rattle.pg_table.specs.declared.parts.head.Head.{Head}
+use Rattle.pg_table.specs.declared.parts.sizes.Sizes.{Sizes}
 use Rattle.pg_types.specs.declared.packed_table.TheConstants.{TABLE_MAX}
 use Rattle.pg_table.specs.Numbers.{u16_at, u32_at, u16_bytes, u32_bytes}
-use Rattle.pg_table.specs.Forms.{signature, head_of, cell_at, record_at, records_of}
+use Rattle.pg_table.specs.Forms.{signature, sizes_of, cell_at, record_at, records_of}
 use Rattle.pg_table.specs.Inside.Extents.{cell_start, record_start, read_record, file_len}
 use Rattle.pg_table.specs.Texts.{cell_bytes, record_bytes}
 use Rattle.pg_table.specs.Inside.text.Files.{file_of}
@@ -30,9 +30,9 @@ length-cell_bytes c =
 pub length-record_bytes : (r : Record) → length (record_bytes r) ≡ 6
 length-record_bytes r = omega (arith, length-u32_bytes r.next)
 
--- the head that a file with these cells and records has
-abbrev pub head_with : ℕ → List Cell → List Record → Head
-head_with n cells records = record { signs = n; cells = length cells; records = length records }
+-- the sizes that a file with these cells and records has
+abbrev pub sizes_with : ℕ → List Cell → List Record → Sizes
+sizes_with n cells records = record { signs = n; cells = length cells; records = length records }
 
 -- the bytes before the cells
 abbrev front : ℕ → List Cell → List Record → List ℕ
@@ -50,7 +50,7 @@ length-front n cells records =
       length-u32_bytes (length records),
     )
 
-pub length-file_of : (n : ℕ) (cells : List Cell) (records : List Record) → length (file_of n cells records) ≡ file_len (head_with n cells records)
+pub length-file_of : (n : ℕ) (cells : List Cell) (records : List Record) → length (file_of n cells records) ≡ file_len (sizes_with n cells records)
 length-file_of n cells records =
     omega (
       arith,
@@ -66,11 +66,11 @@ has_mark n cells records = refl
 
 -- the numbers of a file are below 2^32
 pub record AreSmall (n : ℕ) (cells : List Cell) (records : List Record) : Type 0 where
-  pub short : file_len (head_with n cells records) ≤ TABLE_MAX
+  pub short : file_len (sizes_with n cells records) ≤ TABLE_MAX
   pub some : 1 ≤ n
   pub few : n ≤ SIGNS_MAX
   pub rooted : n < length cells
-  pub cells_sound : (at : ℕ) (c : Cell) → at < length cells → get_or cells at c ≡ c → IsSoundCell (head_with n cells records) at c
+  pub cells_sound : (at : ℕ) (c : Cell) → at < length cells → get_or cells at c ≡ c → IsSoundCell (sizes_with n cells records) at c
   pub records_sound : (i : ℕ) (r : Record) → i < length records → get_or records i r ≡ r → IsSoundRecord i r
 
 module _ (n : ℕ) (cells : List Cell) (records : List Record) (small : AreSmall n cells records) where
@@ -89,8 +89,8 @@ module _ (n : ℕ) (cells : List Cell) (records : List Record) (small : AreSmall
   two : HasPart b 0 (signature ++ u32_bytes n)
   two = part_first b 0 (signature ++ u32_bytes n) (u32_bytes (length cells)) three
 
-  pub head_is : head_of b ≡ head_with n cells records
-  head_is =
+  pub sizes_are : sizes_of b ≡ sizes_with n cells records
+  sizes_are =
       let len_two : length (signature ++ u32_bytes n) ≡ 8 = omega (arith, length-append signature (u32_bytes n), length-u32_bytes n) in
       let len_three : length (signature ++ u32_bytes n ++ u32_bytes (length cells)) ≡ 12 =
       omega (arith, length-append (signature ++ u32_bytes n) (u32_bytes (length cells)), length-u32_bytes (length cells)) in
@@ -137,14 +137,14 @@ module _ (n : ℕ) (cells : List Cell) (records : List Record) (small : AreSmall
       let dot : slice_index b (start + 1) ≡ r.dot = part_byte b start 1 (record_bytes r) has (omega arith) in
       let next : u32_at b (start + 2) ≡ r.next = u32_part b (start + 2) r.next (part_rest b start (start + 2) (r.value ∷ r.dot ∷ []) (u32_bytes r.next) has refl)
       (omega (arith, sound.back, small.short)) in
-      let here : record_at b i ≡ read_record b start = ap (λ (h : Head). read_record b (record_start h.cells i)) head_is in
+      let here : record_at b i ≡ read_record b start = ap (λ (h : Sizes). read_record b (record_start h.cells i)) sizes_are in
       here ∙ (λ t. record { value = value t; dot = dot t; next = next t })
 
   pub file_sound : IsWellFormed b
   file_sound = record {
     mark = has_mark n cells records;
-    head = record {
-      whole = length-file_of n cells records ∙ ap file_len (sym head_is);
+    sizes = record {
+      whole = length-file_of n cells records ∙ ap file_len (sym sizes_are);
       small = omega (arith, length-file_of n cells records, small.short);
       some = omega (arith, signs_is, small.some);
       few = omega (arith, signs_is, small.few);
@@ -154,7 +154,7 @@ module _ (n : ℕ) (cells : List Cell) (records : List Record) (small : AreSmall
         let within : at < length cells = omega (arith, cells_are) in
         let c : Cell = get_or cells at (record { sign = 0; child = 0; head = 0 }) in
         let is : get_or cells at c ≡ c = get_or_default cells at c (record { sign = 0; child = 0; head = 0 }) within in
-        subst (λ h. IsSoundCell h at (cell_at b at)) (sym head_is) (subst (λ x. IsSoundCell (head_with n cells records) at x) (sym (cell_is at c within is)) (small.cells_sound at c within is));
+        subst (λ h. IsSoundCell h at (cell_at b at)) (sym sizes_are) (subst (λ x. IsSoundCell (sizes_with n cells records) at x) (sym (cell_is at c within is)) (small.cells_sound at c within is));
     records = λ i inside.
         let within : i < length records = omega (arith, records_are) in
         let r : Record = get_or records i (record { value = 0; dot = 0; next = 0 }) in
@@ -162,19 +162,19 @@ module _ (n : ℕ) (cells : List Cell) (records : List Record) (small : AreSmall
         subst (λ x. IsSoundRecord i x) (sym (record_is i r within is)) (small.records_sound i r within is);
   }
     where
-      signs_is : (head_of b).signs ≡ n
-      signs_is = ap (λ (h : Head). h.signs) head_is
+      signs_is : (sizes_of b).signs ≡ n
+      signs_is = ap (λ (h : Sizes). h.signs) sizes_are
 
-      cells_are : (head_of b).cells ≡ length cells
-      cells_are = ap (λ (h : Head). h.cells) head_is
+      cells_are : (sizes_of b).cells ≡ length cells
+      cells_are = ap (λ (h : Sizes). h.cells) sizes_are
 
-      records_are : (head_of b).records ≡ length records
-      records_are = ap (λ (h : Head). h.records) head_is
+      records_are : (sizes_of b).records ≡ length records
+      records_are = ap (λ (h : Sizes). h.records) sizes_are
 
   -- the records of the file are those that it was made of
   pub records_are_those : records_of b ≡ records
   records_are_those =
-      let count : (head_of b).records ≡ length records = ap (λ (h : Head). h.records) head_is in
+      let count : (sizes_of b).records ≡ length records = ap (λ (h : Sizes). h.records) sizes_are in
       ap (λ k. map (record_at b) (range_with_len 0 k)) count ∙ sym (fill_by_all (record_at b) records (length records) (record { value = 0; dot = 0; next = 0 }) refl (λ k inside.
       let r : Record = get_or records k (record { value = 0; dot = 0; next = 0 }) in
       let is : get_or records k r ≡ r = get_or_default records k r (record { value = 0; dot = 0; next = 0 }) inside in

@@ -17,7 +17,7 @@ use Rattle.pg_types.proofs.LeastBase.{used_le_top}
 use Rattle.pg_cells.proofs.PlacementLaws.{cell_used}
 use Rattle.pg_cells.proofs.StringCells.{cell_parts, parts_cell, base_parts}
 use Rattle.pg_table.specs.declared.parts.cell.Cell.{Cell}
-use Rattle.pg_table.specs.declared.parts.head.Head.{Head}
+use Rattle.pg_table.specs.declared.parts.sizes.Sizes.{Sizes}
 use Rattle.pg_table.specs.Inside.text.Cells.{last_sign, cell_for, unused_cell}
 use Rattle.pg_table.specs.Texts.{cells_in_use, cell_of_table}
 use Rattle.pg_table.proofs.parts.FormLaws.{IsSoundCell}
@@ -180,21 +180,21 @@ module _ (h : ValuedFamilies ℕ) (held : AreValuedFamilies h) where
     ]
 
     -- each cell may stand at its place
-    pub cells_sound : (records : ℕ) → ((q : List ℕ) → heads q ≤ records) → (head : Head) → head.signs ≡ h.signs → head.cells ≡ top h.families + 1
-        → head.records ≡ records → (at : ℕ) → IsSoundCell head at (cell_of_table h.families heads at)
-    cells_sound records few head signs cells listed at = elim (cell_cases at) [
+    pub cells_sound : (records : ℕ) → ((q : List ℕ) → heads q ≤ records) → (sizes : Sizes) → sizes.signs ≡ h.signs → sizes.cells ≡ top h.families + 1
+        → sizes.records ≡ records → (at : ℕ) → IsSoundCell sizes at (cell_of_table h.families heads at)
+    cells_sound records few sizes signs cells listed at = elim (cell_cases at) [
       | inl used ↦
           let q = used.0 in
           let sign = cell_sign q at used.1 in
           let child : unwrap_or (base_of h.families q) 0 < top h.families + 1 = child_within q (base_of h.families q) refl in
-          subst (IsSoundCell head at) (sym used.2) (record {
+          subst (IsSoundCell sizes at) (sym used.2) (record {
             own = λ low. own q low used.1;
             unused = λ zero. absurd (omega (arith, sign.0));
             sign = omega (arith, sign.1);
             child = omega arith;
             head = omega (arith, few q);
           })
-      | inr unused ↦ subst (IsSoundCell head at) (sym unused.1) (record {
+      | inr unused ↦ subst (IsSoundCell sizes at) (sym unused.1) (record {
         own = λ low. unused_own low unused.0;
         unused = λ zero. (refl, refl);
         sign = omega arith;
@@ -207,14 +207,14 @@ module _ (h : ValuedFamilies ℕ) (held : AreValuedFamilies h) where
         child_within q None is = omega arith
         child_within q (Some base) is = omega (arith, base_within q base is)
 
-        own : (q : List ℕ) → at ≤ head.signs → cell_of h.families q ≡ Some at → last_sign q ≡ at
+        own : (q : List ℕ) → at ≤ sizes.signs → cell_of h.families q ≡ Some at → last_sign q ≡ at
         own q low is =
             let parts = cell_parts h.families q at is in
             let last : last_sign q ≡ parts.last = ap last_sign parts.whole ∙ last_sign_is parts.front parts.last in
             let sign = cell_sign q at is in
             ap last_sign (held.apart q (at ∷ []) at is (held.alone at (omega (arith, parts.is, sign.0)) (omega arith)))
 
-        unused_own : at ≤ head.signs → ((q : List ℕ) → cell_of h.families q ≢ Some at) → 0 ≡ at
+        unused_own : at ≤ sizes.signs → ((q : List ℕ) → cell_of h.families q ≢ Some at) → 0 ≡ at
         unused_own low none = elim (cases_eq at 0) [
           | inl zero ↦ sym zero
           | inr other ↦ absurd (none (at ∷ []) (held.alone at (omega arith) (omega arith)))

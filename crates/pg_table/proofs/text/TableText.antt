@@ -28,7 +28,7 @@ use Rattle.pg_table.specs.Inside.text.Sharing.{value_and_dot}
 use Rattle.pg_table.specs.Texts.{recorded_lists, head_in, record_of, cell_of_table, table_text}
 use Rattle.pg_table.specs.Inside.text.Files.{table_cells, table_records, file_of}
 use Rattle.pg_table.proofs.parts.FormLaws.{IsSoundCell, IsSoundRecord, form_from}
-use Rattle.pg_table.proofs.text.FileParts.{AreSmall, head_with, head_is, cell_is, file_sound, records_are_those, length-file_of}
+use Rattle.pg_table.proofs.text.FileParts.{AreSmall, sizes_with, head_is, cell_is, file_sound, records_are_those, length-file_of}
 use Rattle.pg_table.proofs.text.Recorded.{head_within}
 use Rattle.pg_table.proofs.text.RecordedStrings.{recorded_ordered, recorded_known}
 use Rattle.pg_table.proofs.text.TableCells.{cell_within, cells_sound}
@@ -73,9 +73,9 @@ module _ (n : ℕ) (P : Patterns) (h : ValuedFamilies ℕ) (sound : IsPatternMap
       cells_sound = λ at c inside is.
           let within : at < top h.families + 1 = omega (arith, length-cells) in
           let that : cell_of_table h.families (head_in P) at ≡ c = sym (cell_there at c within) ∙ is in
-          subst (IsSoundCell (head_with n cells records) at) that
+          subst (IsSoundCell (sizes_with n cells records) at) that
           (cells_sound h packed.held (head_in P) (length records) (λ q. omega (arith, head_within (recorded_lists P) (outputs_of P q), length-records))
-          (head_with n cells records) (sym packed.signs) length-cells refl at);
+          (sizes_with n cells records) (sym packed.signs) length-cells refl at);
       records_sound = λ i r inside is.
           let within : i < length (recorded_lists P) = omega (arith, length-records) in
           let l : List (ℕ × ℕ) = get_or (recorded_lists P) i [] in

@@ -10,7 +10,7 @@ use Rattle.pg_cells.specs.Inside.linked.AreValuedFamilies.{AreValuedFamilies}
 use Rattle.pg_cells.proofs.StringCells.{cell_parts}
 use Rattle.pg_cells.proofs.Walking.{childless}
 use Rattle.pg_table.specs.declared.parts.cell.Cell.{Cell}
-use Rattle.pg_table.specs.Forms.{head_of, cell_at}
+use Rattle.pg_table.specs.Forms.{sizes_of, cell_at}
 use Rattle.pg_table.specs.Lookups.{cell_has_sign, lookup, lookup_from}
 use Rattle.pg_table.specs.Inside.view.ListsOf.{list_in}
 use Rattle.pg_table.specs.Texts.{cell_of_table}
@@ -21,7 +21,7 @@ use Rattle.pg_table.proofs.view.CellWalks.{no_sign, no_child, list_here, list_be
 
 -- the cells of the bytes b are those of the families
 pub record HasCells (b : List ℕ) (fs : Families) (heads : List ℕ → ℕ) : Type 0 where
-  pub count : (head_of b).cells ≡ top fs + 1
+  pub count : (sizes_of b).cells ≡ top fs + 1
   pub each : (at : ℕ) → at < top fs + 1 → cell_at b at ≡ cell_of_table fs heads at
 
 module _ (b : List ℕ) (h : ValuedFamilies ℕ) (held : AreValuedFamilies h) (heads : List ℕ → ℕ) (has : HasCells b h.families heads) where
@@ -33,7 +33,7 @@ module _ (b : List ℕ) (h : ValuedFamilies ℕ) (held : AreValuedFamilies h) (h
       let within : base + x < top h.families + 1 = omega (arith, cell_within h held (p ++ x ∷ []) c is) in
       let here : cell_at b (base + x) ≡ cell_for h.families heads (p ++ x ∷ []) = has.each (base + x) within ∙ cell_with h held heads (p ++ x ∷ []) (base + x) (is ∙ ap Some place) in
       let sign : (cell_at b (base + x)).sign ≡ x = ap (λ (k : Cell). k.sign) here ∙ last_sign_is p x in (
-        and_from (nat_lt (base + x) (head_of b).cells) (nat_eq (cell_at b (base + x)).sign x) (lt-ltb (base + x) (head_of b).cells (omega (arith, has.count)))
+        and_from (nat_lt (base + x) (sizes_of b).cells) (nat_eq (cell_at b (base + x)).sign x) (lt-ltb (base + x) (sizes_of b).cells (omega (arith, has.count)))
             (eq-eqb (cell_at b (base + x)).sign x sign),
         here,
       )
@@ -41,7 +41,7 @@ module _ (b : List ℕ) (h : ValuedFamilies ℕ) (held : AreValuedFamilies h) (h
   -- and else it lacks the sign, or the cell is unused
   lacks : (p : List ℕ) (x base : ℕ) → base_of h.families p ≡ Some base → cell_of h.families (p ++ x ∷ []) ≡ None → (cell_has_sign b base x ≡ false) ⊎ (cell_at b (base + x) ≡ unused_cell)
   lacks p x base below none = elim (cases_lt (base + x) (top h.families + 1)) [
-    | inr past ↦ inl (and_left (nat_lt (base + x) (head_of b).cells) (nat_eq (cell_at b (base + x)).sign x) (le-ltb (base + x) (head_of b).cells (omega (arith, has.count))))
+    | inr past ↦ inl (and_left (nat_lt (base + x) (sizes_of b).cells) (nat_eq (cell_at b (base + x)).sign x) (le-ltb (base + x) (sizes_of b).cells (omega (arith, has.count))))
     | inl within ↦ elim (cell_cases h held heads (base + x)) [
       | inr unused ↦ inr (has.each (base + x) within ∙ unused.1)
       | inl used ↦
@@ -55,7 +55,7 @@ module _ (b : List ℕ) (h : ValuedFamilies ℕ) (held : AreValuedFamilies h) (h
           let there : cell_of h.families (p ++ x ∷ []) ≡ Some (base + x) =
           ap (λ y. cell_of h.families (p ++ y ∷ [])) (sym sign ∙ last) ∙ ap (λ l. cell_of h.families (l ++ parts.last ∷ [])) (sym front) ∙ ap (cell_of h.families) (sym parts.whole) ∙ used.1 in
           let e : None ≡ Some (base + x) = sym none ∙ there in cc in
-          inl (and_right (nat_lt (base + x) (head_of b).cells) (nat_eq (cell_at b (base + x)).sign x) (ne_eqb (cell_at b (base + x)).sign x other))
+          inl (and_right (nat_lt (base + x) (sizes_of b).cells) (nat_eq (cell_at b (base + x)).sign x) (ne_eqb (cell_at b (base + x)).sign x other))
     ]
   ]
 

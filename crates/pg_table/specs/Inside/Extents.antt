@@ -1,9 +1,9 @@
--- Where the cells and records of a packed table file begin, how long it is, and whether its head
--- fits it.
+-- Where the cells and records of a packed table file begin, how long it is, and whether its
+-- sizes fit it.
 use Rattle.std.specs.Prelude.{ℕ, ◌+◌, ◌*◌, Bool, ◌&&◌, nat_eq, nat_lt, nat_le, List, slice_index}
 use Rattle.pg_types.specs.declared.limits.TheConstants.{SIGNS_MAX}
 use Rattle.pg_outputs.specs.declared.records.Record.{Record}
-use Rattle.pg_table.specs.declared.parts.head.Head.{Head}
+use Rattle.pg_table.specs.declared.parts.sizes.Sizes.{Sizes}
 use Rattle.pg_types.specs.declared.packed_table.TheConstants.{CELL_LEN, HEAD_LEN, RECORD_LEN, TABLE_MAX}
 use Rattle.pg_table.specs.Numbers.{u32_at}
 
@@ -24,11 +24,11 @@ read_record b start =
       next = u32_at b (start + 2);
     }
 
--- the length of a file with this head
-abbrev pub file_len : Head → ℕ
+-- the length of a file with these sizes
+abbrev pub file_len : Sizes → ℕ
 file_len h = HEAD_LEN + CELL_LEN * h.cells + RECORD_LEN * h.records
 
--- the numbers of a head are in their ranges, and agree with the length of the file
-abbrev pub fits_head : Head → ℕ → Bool
-fits_head h len = nat_eq len (file_len h) && nat_le len TABLE_MAX
+-- sizes are in their ranges, and agree with the length of the file
+abbrev pub sizes_fit : Sizes → ℕ → Bool
+sizes_fit h len = nat_eq len (file_len h) && nat_le len TABLE_MAX
     && nat_le 1 h.signs && nat_le h.signs SIGNS_MAX && nat_lt h.signs h.cells

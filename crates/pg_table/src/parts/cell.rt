@@ -2,10 +2,10 @@
 ghost use Rattle.std.specs.Prelude.{◌≡◌, ◌+◌, ◌≤◌, length};
 ghost use Rattle.pg_types.specs.declared.packed_table.TheConstants.{CELL_LEN};
 ghost use Rattle.pg_table.specs.Forms.{cell_at, is_sound_cell};
-ghost use Rattle.pg_table.specs.Inside.Extents.{cell_start, file_len};
+ghost use Rattle.pg_table.specs.Inside.Extents.{cell_start};
 
-use crate::parts::head::Head;
 use crate::parts::numbers::{u16_at, u32_at};
+use crate::parts::sizes::Sizes;
 use pg_types::Sign;
 use pg_types::packed_table::{CELL_LEN, HEAD_LEN};
 
@@ -43,13 +43,13 @@ impl Cell {
     }
 
     /// Whether the cell may stand at its place.
-    pub fn is_sound(&self, at: u32, head: &Head) -> bool
-        ensures { result ≡ is_sound_cell head.now at self.now }
+    pub fn is_sound(&self, at: u32, sizes: &Sizes) -> bool
+        ensures { result ≡ is_sound_cell sizes.now at self.now }
     {
-        (head.signs < at || u32::from(self.sign) == at)
+        (sizes.signs < at || u32::from(self.sign) == at)
             && (self.sign != 0 || self.child == 0 && self.head == 0)
-            && u32::from(self.sign) <= head.signs
-            && self.child < head.cells
-            && self.head <= head.records
+            && u32::from(self.sign) <= sizes.signs
+            && self.child < sizes.cells
+            && self.head <= sizes.records
     }
 }

@@ -1,6 +1,6 @@
 //! The cells and the shared lists of patterns.
 ghost use Rattle.std.specs.Prelude.{◌≡◌, ℕ, ◌<◌, ◌≤◌, List, [], length, map, slice_get, Some, IfOk, OnOk};
-ghost use Rattle.pg_types.specs.declared.limits.TheConstants.{SIGNS_MAX};
+ghost use Rattle.pg_types.specs.Inside.Signs.{IsSignCount};
 ghost use Rattle.pg_patterns.specs.Inside.PatternMaps.{SignsUpTo};
 ghost use Rattle.pg_outputs.specs.Lists.{list_of};
 ghost use Rattle.pg_outputs.specs.Inside.Heads.{Grows, OneHeadEach};
@@ -25,7 +25,7 @@ pub struct PackedTrie {
 
 /// Enters all patterns in their order.
 pub fn enter_all(alloc: Global, signs: u16, patterns: &PatternSet) -> Result<PackedTrie, AllocError>
-    requires signs { (1 ≤ signs) × (signs ≤ SIGNS_MAX) }
+    requires signs { IsSignCount signs }
     requires known { SignsUpTo signs patterns.now }
     ensures { IfOk result (λ packed. IsEntered signs patterns.now packed.cells packed.outputs) }
 {

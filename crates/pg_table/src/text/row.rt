@@ -1,9 +1,10 @@
 //! The row of cells of a table.
-ghost use Rattle.std.specs.Prelude.{◌≡◌, ℕ, ◌+◌, ◌≤◌, List, length, All, IfOk, Some};
+ghost use Rattle.std.specs.Prelude.{◌≡◌, ℕ, ◌+◌, ◌≤◌, List, length, IfOk, Some};
 ghost use Rattle.std.specs.FinMap.{find};
 ghost use Rattle.std.specs.Cmp.Lexicographic.{slice_cmp};
 ghost use Rattle.std.specs.Ordering.{nat_cmp};
 ghost use Rattle.pg_types.specs.declared.limits.TheConstants.{SIGNS_MAX};
+ghost use Rattle.pg_types.specs.Inside.Signs.{SignsWithin};
 ghost use Rattle.pg_types.specs.Placement.{top};
 ghost use Rattle.pg_patterns.specs.Inside.PatternMaps.{SignsUpTo};
 ghost use Rattle.pg_cells.specs.Inside.linked.AreValuedFamilies.{AreValuedFamilies};
@@ -95,7 +96,7 @@ fn fill_patterns(patterns: &PatternSet, packed: &PackedTrie, row: &mut [Cell])
 /// Fills in the cells of a string and of its fronts.
 fn fill_string(cells: &Cells<u64>, signs: &[Sign], row: &mut [Cell])
     requires held { AreValuedFamilies cells.now }
-    requires signs { All (λ s. (1 ≤ s) × (s ≤ cells.now.signs)) signs.now }
+    requires signs { SignsWithin cells.now.signs signs.now }
     requires size { length row.old ≡ top cells.now.families + 1 }
     requires cells { top cells.now.families + 1 ≤ u32.MAX }
     requires values { (q : List ℕ) (v : ℕ) → find (slice_cmp nat_cmp) q cells.now.values ≡ Some v

@@ -1,7 +1,7 @@
 //! The strings of a word that have cells in a table.
-ghost use Rattle.std.specs.Prelude.{◌≡◌, ◌+◌, ◌<◌, ◌≤◌, length};
+ghost use Rattle.std.specs.Prelude.{◌+◌, ◌<◌, ◌≤◌, length};
 ghost use Rattle.pg_types.specs.declared.limits.TheConstants.{WORD_LETTERS_MAX};
-ghost use Rattle.pg_table.specs.Forms.{head_of};
+ghost use Rattle.pg_table.specs.Forms.{sizes_of};
 ghost use Rattle.pg_table.specs.Inside.view.ListsOf.{list_in};
 ghost use Rattle.pg_select.specs.Inside.words.Positions.{values_of, Raises};
 ghost use Rattle.pg_table.specs.Inside.view.Raising.{IsUncovered, by_value, by_record_list, by_strings, by_starts};
@@ -48,7 +48,7 @@ fn take_strings(view: &TableView<'_>, w: &[Sign], start: usize, out: &mut WordSt
 
 /// Takes in the values of the list at `head`, that of the `len` signs of a word from `start` on.
 fn take_list(view: &TableView<'_>, head: u32, start: usize, len: usize, out: &mut WordState)
-    requires head { head ≤ (head_of view.now).records }
+    requires head { head ≤ (sizes_of view.now).records }
     requires start { start ≤ WORD_LETTERS_MAX + 2 }
     requires uncovered { IsUncovered out.old }
     ensures values { Raises (by_record_list start len (list_in view.now head))

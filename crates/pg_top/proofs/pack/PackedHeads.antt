@@ -10,7 +10,7 @@ use Rattle.pg_types.specs.ValuesOrRefusals.{refusal_at}
 use Rattle.pg_translate.specs.Alphabets.{Alphabet, letters_of}
 use Rattle.pg_types.specs.declared.packed_table.TheConstants.{TABLE_MAX}
 use Rattle.pg_patterns.specs.Values.{Patterns}
-use Rattle.pg_table.specs.Forms.{signature, head_of, is_well_formed}
+use Rattle.pg_table.specs.Forms.{signature, sizes_of, is_well_formed}
 use Rattle.pg_table.specs.Numbers.{u32_at, u32_bytes}
 use Rattle.pg_table.specs.Texts.{cell_bytes, record_bytes, table_text}
 use Rattle.pg_table.specs.Inside.text.Files.{file_of, table_cells, table_records}
@@ -38,7 +38,7 @@ module _ (n : ℕ) (P : Patterns) where
   file_signs : n ≤ SIGNS_MAX → u32_at b 4 ≡ n
   file_signs few = u32_part b 4 n (part_rest b 0 4 signature (u32_bytes n) begins refl) (omega (arith, few))
 
-  text_signs : n ≤ SIGNS_MAX → (head_of (table_text n P)).signs ≡ n
+  text_signs : n ≤ SIGNS_MAX → (sizes_of (table_text n P)).signs ≡ n
   unfolding table_text
   text_signs few = file_signs few
 
@@ -48,6 +48,6 @@ pub packed_accepted : (t : Alphabet) (P : Patterns) → letters_of t + 1 ≤ SIG
 packed_accepted t P few short well =
     let b : List ℕ = packed_text t P in
     let is_short = le-ltb TABLE_MAX (length b) short in
-    let same = eq-eqb (head_of b).signs (letters_of t + 1) (text_signs (letters_of t + 1) P few) in
+    let same = eq-eqb (sizes_of b).signs (letters_of t + 1) (text_signs (letters_of t + 1) P few) in
     λ k. cond {A = Result (List ℕ) Refusal} (is_short k) (Err (refusal_at 0 TableTooLong 0))
     (cond (not (well k)) (Err (refusal_at 0 BadTable 0)) (cond (same k) (Ok b) (Err (refusal_at 0 OtherTable 0))))

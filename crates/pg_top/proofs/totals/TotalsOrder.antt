@@ -12,7 +12,7 @@ use Rattle.pg_translate.specs.Tables.{table}
 use Rattle.pg_dict.specs.Word.{Word}
 use Rattle.pg_dict.specs.DictionaryWords.{words}
 use Rattle.pg_types.specs.declared.packed_table.TheConstants.{TABLE_MAX}
-use Rattle.pg_table.specs.Forms.{head_of, is_well_formed}
+use Rattle.pg_table.specs.Forms.{sizes_of, is_well_formed}
 use Rattle.pg_steps.specs.FileCalls.{MakesCalls, read_calls}
 use Rattle.pg_steps.specs.Outcomes.{Ends}
 use Rattle.pg_steps.specs.Readings.{Reading, input_file}
@@ -33,7 +33,7 @@ use Rattle.pg_steps.specs.Rules.{outcome_of}
 -- the first bytes of a table, one more than it may have, are read as the whole table is
 pub packed_table-front : (t : Alphabet) → IsReadUpTo TABLE_MAX (packed_table t)
 packed_table-front t whole = limited (Err (refusal_at 0 TableTooLong 0))
-    (λ b. cond (not (is_well_formed b)) (Err (refusal_at 0 BadTable 0)) (cond (nat_eq (head_of b).signs (letters_of t + 1)) (Ok b) (Err (refusal_at 0 OtherTable 0)))) TABLE_MAX whole
+    (λ b. cond (not (is_well_formed b)) (Err (refusal_at 0 BadTable 0)) (cond (nat_eq (sizes_of b).signs (letters_of t + 1)) (Ok b) (Err (refusal_at 0 OtherTable 0)))) TABLE_MAX whole
 
 -- what is known once two files of `totals` are read
 abbrev pub HasWords : TotalsRequest → Alphabet → List Word → FileMap → Type 0
@@ -89,7 +89,7 @@ accepted_signs false false same bytes b is = absurd (cc)
 accepted_signs false true false bytes b is = absurd (cc)
 accepted_signs false true true bytes b is = let same : bytes ≡ b = cc in (refl, same)
 
-pub table_signs : (t : Alphabet) (bytes b : List ℕ) → packed_table t bytes ≡ Ok b → (head_of b).signs ≡ letters_of t + 1
+pub table_signs : (t : Alphabet) (bytes b : List ℕ) → packed_table t bytes ≡ Ok b → (sizes_of b).signs ≡ letters_of t + 1
 table_signs t bytes b is =
-    let h = accepted_signs (nat_lt TABLE_MAX (length bytes)) (is_well_formed bytes) (nat_eq (head_of bytes).signs (letters_of t + 1)) bytes b is in
-    ap (λ x. (head_of x).signs) (sym h.1) ∙ eqb-true (head_of bytes).signs (letters_of t + 1) h.0
+    let h = accepted_signs (nat_lt TABLE_MAX (length bytes)) (is_well_formed bytes) (nat_eq (sizes_of bytes).signs (letters_of t + 1)) bytes b is in
+    ap (λ x. (sizes_of x).signs) (sym h.1) ∙ eqb-true (sizes_of bytes).signs (letters_of t + 1) h.0

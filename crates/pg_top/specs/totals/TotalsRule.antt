@@ -14,13 +14,13 @@ use Rattle.pg_steps.specs.Rules.{CommandRule, usual_rule}
 use Rattle.pg_words.specs.forms.Totals.{TotalsRequest}
 use Rattle.pg_steps.specs.declared.answers.Status.TheVariants.{Done}
 use Rattle.pg_steps.specs.declared.inputs.Input.TheVariants as input
-use Rattle.pg_table.specs.Forms.{head_of, is_well_formed}
+use Rattle.pg_table.specs.Forms.{sizes_of, is_well_formed}
 
 -- the bytes of a packed table for the letters of a table, or why they are refused
 abbrev pub packed_table : Alphabet → List ℕ → Result (List ℕ) Refusal
 packed_table t b = if nat_lt TABLE_MAX (length b) then Err (refusal_at 0 TableTooLong 0)
     else (if not (is_well_formed b) then Err (refusal_at 0 BadTable 0)
-    else (if nat_eq (head_of b).signs (letters_of t + 1) then Ok b
+    else (if nat_eq (sizes_of b).signs (letters_of t + 1) then Ok b
     else Err (refusal_at 0 OtherTable 0)))
 
 -- the rule of `totals`

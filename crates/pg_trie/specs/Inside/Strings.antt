@@ -1,9 +1,10 @@
 -- The list of the strings that have a cell.
-use Rattle.std.specs.Prelude.{◌≡◌, ℕ, ◌+◌, ◌<◌, ◌≤◌, List, [], ◌∷◌, ◌++◌, length, slice_get, Some, All, ◌⊎◌}
+use Rattle.std.specs.Prelude.{◌≡◌, ℕ, ◌+◌, ◌<◌, ◌≤◌, List, [], ◌∷◌, ◌++◌, length, slice_get, Some, ◌⊎◌}
 use Rattle.std.specs.Ordering.{nat_cmp}
 use Rattle.std.specs.Cmp.Lexicographic.{slice_cmp}
 use Rattle.std.specs.FinMap.{find}
 use Rattle.pg_types.specs.declared.limits.TheConstants.{PATTERN_SIGNS_MAX}
+use Rattle.pg_types.specs.Inside.Signs.{SignsWithin}
 use Rattle.pg_types.specs.Inside.Placing.{cell_of}
 use Rattle.pg_cells.specs.Inside.linked.ValuedFamilies.{ValuedFamilies}
 
@@ -15,7 +16,7 @@ HasShortStrings h = (q : List ℕ) (v : ℕ) → find (slice_cmp nat_cmp) q h.va
 -- a string that has a cell
 pub record IsString (h : ValuedFamilies ℕ) (q : List ℕ) : Type 0 where
   pub celled : (cell : ℕ) × (cell_of h.families q ≡ Some cell)
-  pub known : All (λ s. (1 ≤ s) × (s ≤ h.signs)) q
+  pub known : SignsWithin h.signs q
   pub few : length q ≤ PATTERN_SIGNS_MAX
 
 -- the string q is put into the list, from the number i on

@@ -1,14 +1,15 @@
 //! The strings that have a cell.
-ghost use Rattle.std.specs.Prelude.{◌≡◌, ℕ, ◌+◌, ◌<◌, ◌≤◌, List, [], ◌∷◌, ◌++◌, length, slice_get, Some, All, IfOk, OnOk};
+ghost use Rattle.std.specs.Prelude.{◌≡◌, ℕ, ◌+◌, ◌<◌, ◌≤◌, List, [], ◌∷◌, ◌++◌, length, slice_get, Some, IfOk, OnOk};
 ghost use Rattle.std.specs.FinMap.{find};
 ghost use Rattle.std.specs.Cmp.Lexicographic.{slice_cmp};
 ghost use Rattle.std.specs.Ordering.{nat_cmp};
 ghost use Rattle.pg_types.specs.declared.limits.TheConstants.{PATTERN_SIGNS_MAX, SIGNS_MAX};
+ghost use Rattle.pg_types.specs.Inside.Signs.{SignsWithin};
 ghost use Rattle.pg_types.specs.Placement.{base_of};
 ghost use Rattle.pg_types.specs.Inside.Placing.{cell_of};
 ghost use Rattle.pg_cells.specs.Inside.linked.AreValuedFamilies.{AreValuedFamilies};
 ghost use Rattle.pg_cells.specs.Inside.linked.Members.{IsNextSign};
-ghost use Rattle.pg_trie.specs.Inside.Strings.{HasShortStrings, IsString, PutsBelow, AreStringsTo, AreStrings};
+ghost use Rattle.pg_trie.specs.Inside.Strings.{HasShortStrings, IsString, PutsBelow, AreStrings};
 
 use crate::lists::head::Head;
 use pg_cells::{Cells, step};
@@ -19,7 +20,7 @@ use std::alloc::{AllocError, Global};
 /// The cell of a string, or `None` where it has none.
 pub fn find_cell(cells: &Cells<Head>, signs: &[Sign]) -> Option<usize>
     requires held { AreValuedFamilies cells.now }
-    requires signs { All (λ s. (1 ≤ s) × (s ≤ cells.now.signs)) signs.now }
+    requires signs { SignsWithin cells.now.signs signs.now }
     ensures { result ≡ cell_of cells.now.families signs.now }
 {
     let mut at = None;
@@ -32,7 +33,7 @@ pub fn find_cell(cells: &Cells<Head>, signs: &[Sign]) -> Option<usize>
 /// The value of a string that has a cell.
 pub fn value_of(cells: &Cells<Head>, signs: &[Sign]) -> u64
     requires held { AreValuedFamilies cells.now }
-    requires signs { All (λ s. (1 ≤ s) × (s ≤ cells.now.signs)) signs.now }
+    requires signs { SignsWithin cells.now.signs signs.now }
     ensures { (v : ℕ) → find (slice_cmp nat_cmp) signs.now cells.now.values ≡ Some v → result ≡ v }
 {
     match find_cell(cells, signs) {

@@ -1,5 +1,5 @@
 -- What a base and a cell tell of strings, and the writing of a string's value.
-use Rattle.std.specs.Prelude.{◌≡◌, ℕ, ◌≤◌, List, [], ◌∷◌, ◌++◌, Option, None, Some, ◌==◌, if◌then◌else◌}
+use Rattle.std.specs.Prelude.{◌≡◌, ℕ, List, [], ◌∷◌, ◌++◌, Option, None, Some, ◌==◌, if◌then◌else◌}
 use Rattle.std.specs.Ordering.{nat_cmp}
 use Rattle.std.specs.Cmp.Lexicographic.{slice_cmp}
 use Rattle.std.specs.FinMap.{find, put}
@@ -7,10 +7,6 @@ use Rattle.pg_types.specs.Placement.{Families, base_of}
 use Rattle.pg_types.specs.Inside.Placing.{cell_of}
 use Rattle.pg_cells.specs.Inside.linked.ValuedFamilies.{ValuedFamilies}
 use Rattle.pg_cells.specs.Inside.linked.AreValuedFamilies.{AreValuedFamilies}
-
--- s is one of the signs of a table that has n
-abbrev pub IsTableSign : ℕ → ℕ → Type 0
-IsTableSign n s = (1 ≤ s) × (s ≤ n)
 
 -- some family has the base
 abbrev pub IsBase : Families → ℕ → Type 0

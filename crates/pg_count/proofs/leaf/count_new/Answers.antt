@@ -3,7 +3,7 @@ use Rattle.pg_cells.specs.Inside.linked.ValuedFamilies.{ValuedFamilies}
 use Rattle.std.proofs.lemmas.Result.{err_from_is_err_and}
 use Rattle.std.proofs.Common.{arith, ap, length, sym, subst, refl, Option, ◌∙◌}
 use Rattle.std.proofs.lemmas.List.{length_push}
-use Rattle.pg_types.specs.Inside.counting.Counts.{SignsWithin}
+use Rattle.pg_types.specs.Inside.Signs.{SignsWithin}
 use Rattle.pg_count.specs.Inside.cells.Leaves.{AreLeaves, SameTallies}
 use Rattle.pg_count.specs.Inside.WindowRow.{WindowRow}
 use Rattle.pg_count.proofs.WalkLaws.Listing.{put_back}

@@ -1,6 +1,6 @@
 use Rattle.std.proofs.Common.{take, refl, sym, ◌∙◌, subst, lit<}
 use Rattle.std.proofs.lemmas.Result.{err_from_is_err_and}
-use Rattle.pg_types.specs.Inside.counting.Counts.{SignsWithin}
+use Rattle.pg_types.specs.Inside.Signs.{SignsWithin}
 use Rattle.pg_count.proofs.LeafLaws.Parting.{keeps_none, keeps_on, way_free, way_goes_on}
 use Rattle.pg_count.proofs.WalkLaws.Walking.{childless_last, family_below}
 use Rattle.pg_count.proofs.leaf.leaf.Goals as goal

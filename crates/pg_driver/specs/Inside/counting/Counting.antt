@@ -5,9 +5,10 @@ use Rattle.std.specs.Ordering.{nat_cmp, is_lt}
 use Rattle.std.specs.Cmp.Lexicographic.{slice_cmp}
 use Rattle.std.specs.FinMap.Entries.{is_sorted}
 use Rattle.pg_types.specs.declared.limits.TheConstants.{WEIGHT_MAX, FILE_MAX}
+use Rattle.pg_types.specs.Inside.Signs.{SignsWithin}
 use Rattle.pg_dict.specs.Word.{Word}
 use Rattle.pg_dict.specs.Inside.SoundWords.{IsWord, letter_count}
-use Rattle.pg_types.specs.Inside.counting.Counts.{Counts, SignsWithin}
+use Rattle.pg_types.specs.Inside.counting.Counts.{Counts}
 use Rattle.pg_types.specs.Inside.counting.NumberedWindows.{Windows, with_next_window}
 use Rattle.pg_select.specs.Inside.laws.Laws.{AreFew, number_of_positions}
 use Rattle.pg_select.specs.Inside.engine.Meanings.{Meaning, with_position}

@@ -2,7 +2,8 @@
 -- giving it up come to.
 use Rattle.std.specs.Prelude.{◌≡◌, ℕ, ◌≤◌, Bool, true, List, length, Result, OnOk, OnErr, IsOk}
 use Rattle.pg_types.specs.declared.limits.TheConstants.{WEIGHT_MAX}
-use Rattle.pg_types.specs.Inside.counting.Counts.{AreSmall, SignsWithin, sums_of, with_weight, is_counted}
+use Rattle.pg_types.specs.Inside.Signs.{SignsWithin}
+use Rattle.pg_types.specs.Inside.counting.Counts.{AreSmall, sums_of, with_weight, is_counted}
 use Rattle.pg_select.specs.Inside.engine.Meanings.{Meaning, KeepsButFamilies, after_count}
 
 -- a window can be counted with this weight: it is one of the pass, and its sums stay small

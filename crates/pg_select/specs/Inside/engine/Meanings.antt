@@ -6,7 +6,8 @@ use Rattle.std.specs.Ordering.{nat_cmp}
 use Rattle.std.specs.Cmp.Lexicographic.{slice_cmp}
 use Rattle.std.specs.FinMap.Entries.{put, is_sorted}
 use Rattle.pg_types.specs.declared.marks.Layout.{Layout}
-use Rattle.pg_types.specs.Inside.counting.Counts.{Counts, SignsWithin, with_count, is_counted}
+use Rattle.pg_types.specs.Inside.Signs.{SignsWithin}
+use Rattle.pg_types.specs.Inside.counting.Counts.{Counts, with_count, is_counted}
 use Rattle.pg_types.specs.Inside.counting.NumberedWindows.{Windows, AreNumbered, with_next_window}
 use Rattle.pg_types.specs.Placement.{Families, taken_count, top, enter, kept_families}
 use Rattle.pg_types.specs.Tails.{tails}

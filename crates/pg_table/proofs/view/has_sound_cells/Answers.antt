@@ -6,13 +6,13 @@ use Rattle.pg_table.proofs.view.has_sound_cells.Goals as goal
 
 pub returns-then-not-is_sound : goal.returns-then-not-is_sound
 returns-then-not-is_sound c =
-    sym (range_fails (λ k. is_sound_cell c.args.head.now k (cell_at c.args.bytes.now k)) c.args.head.now.cells c.loop-at.at c.loop-at-test.true
-    (ap (λ (x : Cell). is_sound_cell c.args.head.now c.loop-at.at x) (sym c.read.ensures) ∙ sym c.if-not-is_sound.ensures))
+    sym (range_fails (λ k. is_sound_cell c.args.sizes.now k (cell_at c.args.bytes.now k)) c.args.sizes.now.cells c.loop-at.at c.loop-at-test.true
+    (ap (λ (x : Cell). is_sound_cell c.args.sizes.now c.loop-at.at x) (sym c.read.ensures) ∙ sym c.if-not-is_sound.ensures))
 
 pub loop-at-preserved : goal.loop-at-preserved
 loop-at-preserved c =
-    below_more (λ k. is_sound_cell c.args.head.now k (cell_at c.args.bytes.now k) ≡ true) c.loop-at.at c.loop-at.invariant
-    (ap (λ (x : Cell). is_sound_cell c.args.head.now c.loop-at.at x) (sym c.read.ensures) ∙ sym c.if-not-is_sound.ensures)
+    below_more (λ k. is_sound_cell c.args.sizes.now k (cell_at c.args.bytes.now k) ≡ true) c.loop-at.at c.loop-at.invariant
+    (ap (λ (x : Cell). is_sound_cell c.args.sizes.now c.loop-at.at x) (sym c.read.ensures) ∙ sym c.if-not-is_sound.ensures)
 
 pub returns : goal.returns
-returns c = sym (range_passes (λ k. is_sound_cell c.args.head.now k (cell_at c.args.bytes.now k)) 0 c.args.head.now.cells (λ i low inside. c.loop-at.invariant i (omega arith)))
+returns c = sym (range_passes (λ k. is_sound_cell c.args.sizes.now k (cell_at c.args.bytes.now k)) 0 c.args.sizes.now.cells (λ i low inside. c.loop-at.invariant i (omega arith)))

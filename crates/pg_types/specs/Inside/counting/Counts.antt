@@ -1,6 +1,6 @@
 -- The windows that are counted in a pass, in the order of signs, each with its sums of good and bad
 -- weights.
-use Rattle.std.specs.Prelude.{◌≡◌, ℕ, ◌+◌, ◌<◌, ◌≤◌, Bool, if◌then◌else◌, List, [], ◌∷◌, filter, unwrap_or, Option, None, Some, All, is_some}
+use Rattle.std.specs.Prelude.{◌≡◌, ℕ, ◌+◌, ◌<◌, Bool, if◌then◌else◌, List, [], ◌∷◌, filter, unwrap_or, Option, None, Some, is_some}
 use Rattle.pg_types.specs.Inside.Limits.{counts_limit}
 use Rattle.std.specs.Ordering.{nat_cmp, is_lt}
 use Rattle.std.specs.Cmp.Lexicographic.{slice_cmp}
@@ -44,7 +44,3 @@ IsNextAbove counts old new (Some sums) = windows_above old counts
 -- both sums are below their limit
 abbrev pub AreSmall : ℕ × ℕ → Type 0
 AreSmall sums = (sums.0 < counts_limit) × (sums.1 < counts_limit)
-
--- each sign is at least 1, and at most the greatest
-abbrev pub SignsWithin : ℕ → List ℕ → Type 0
-SignsWithin n signs = All (λ s. (1 ≤ s) × (s ≤ n)) signs

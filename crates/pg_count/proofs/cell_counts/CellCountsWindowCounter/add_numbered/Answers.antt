@@ -1,8 +1,9 @@
 use Rattle.std.proofs.Common.{ℕ, Option, take, length, unwrap_or, refl, ap, sym, subst, ◌∙◌, arith}
 use Rattle.std.proofs.lemmas.Result.{err_from_is_err_and}
 use Rattle.std.specs.List.{slice_get}
+use Rattle.pg_types.specs.Inside.Signs.{SignsWithin}
 use Rattle.pg_types.proofs.Numbering.{get_seam}
-use Rattle.pg_types.specs.Inside.counting.Counts.{AreSmall, counted_sums, is_counted, with_weight, SignsWithin}
+use Rattle.pg_types.specs.Inside.counting.Counts.{AreSmall, counted_sums, is_counted, with_weight}
 use Rattle.pg_cells.specs.Inside.linked.ValuedFamilies.{ValuedFamilies}
 use Rattle.pg_count.specs.Inside.Counting.{Counting, Tally, counting_of}
 use Rattle.pg_count.specs.Inside.cells.Leaves.{AreLeaves}

@@ -1,10 +1,11 @@
 use Rattle.std.proofs.Common.{◌≡◌, ◌+◌, ◌++◌, ℕ, None, Some, List, [], drop, length, refl, ap, subst, sym, ◌∙◌, arith, rules}
 use Rattle.std.specs.List.{flat_map, sum_by}
 use Rattle.std.proofs.lemmas.List.{append-nil, drop_all}
+use Rattle.pg_types.specs.Inside.Signs.{SignsWithin}
 use Rattle.pg_dict.specs.Inside.Lent.{lent_word}
 use Rattle.pg_dict.specs.Word.{Word}
 use Rattle.pg_dict.specs.Inside.SoundWords.{letter_count}
-use Rattle.pg_types.specs.Inside.counting.Counts.{Counts, SignsWithin}
+use Rattle.pg_types.specs.Inside.counting.Counts.{Counts}
 use Rattle.pg_select.specs.Inside.engine.Meanings.{Meaning}
 use Rattle.pg_select.specs.CountedPositions.{counted_positions, minima_of}
 use Rattle.pg_select.specs.Inside.words.WordCounts.{counted_positions_in}

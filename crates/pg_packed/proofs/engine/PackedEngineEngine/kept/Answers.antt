@@ -3,7 +3,7 @@ use Rattle.std.proofs.lemmas.Bool.{leb-true}
 use Rattle.std.proofs.lemmas.List.Elements.{All-nil, All-cons}
 use Rattle.std.specs.List.{All, list_all}
 use Rattle.pg_types.specs.declared.limits.TheConstants.{PATTERN_SIGNS_MAX}
-use Rattle.pg_types.specs.Inside.counting.Counts.{SignsWithin}
+use Rattle.pg_types.specs.Inside.Signs.{SignsWithin}
 use Rattle.pg_trie.specs.Inside.Maps.{is_dotted}
 use Rattle.pg_packed.proofs.engine.PackedEngineEngine.kept.Goals as goal
 use Rattle.pg_types.proofs.BoolFacts.{and_first, and_second}

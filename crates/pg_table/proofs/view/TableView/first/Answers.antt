@@ -1,7 +1,7 @@
 use Rattle.std.proofs.Common.{◌≡◌, ◌+◌, ◌<◌, ◌≤◌, ◌∷◌, ap, subst, sym, ◌∙◌, arith}
 use Rattle.pg_outputs.specs.declared.records.Record.{Record}
-use Rattle.pg_table.specs.declared.parts.head.Head.{Head}
-use Rattle.pg_table.specs.Forms.{head_of, record_at}
+use Rattle.pg_table.specs.declared.parts.sizes.Sizes.{Sizes}
+use Rattle.pg_table.specs.Forms.{sizes_of, record_at}
 use Rattle.pg_table.specs.Inside.Extents.{record_start, read_record}
 use Rattle.pg_table.specs.Inside.view.ListsOf.{list_in}
 use Rattle.pg_table.proofs.parts.FormLaws.{IsWellFormed, form_told}
@@ -16,21 +16,21 @@ returns-in_err-i-clause-list c =
 pub read_record-entry-requires : goal.read_record-entry-requires
 read_record-entry-requires c =
     let form : IsWellFormed c.self.inside.bytes.now = form_told c.self.inside.bytes.now c.self.invariant.0 in
-    let here : head_of c.self.inside.bytes.now ≡ head_of c.args.self.now = ap head_of c.self.view_is in
-    let cells = ap (λ (h : Head). h.cells) c.self.invariant.1 in
-    let records = ap (λ (h : Head). h.records) here in
-    omega (arith, form.head.whole, cells, records, c.in_ok-i.ensures)
+    let here : sizes_of c.self.inside.bytes.now ≡ sizes_of c.args.self.now = ap sizes_of c.self.view_is in
+    let cells = ap (λ (h : Sizes). h.cells) c.self.invariant.1 in
+    let records = ap (λ (h : Sizes). h.records) here in
+    omega (arith, form.sizes.whole, cells, records, c.in_ok-i.ensures)
 
 form : (c : goal.After-struct_known-1) → IsWellFormed c.args.self.now
 form c = subst IsWellFormed c.self.view_is (form_told c.self.inside.bytes.now c.self.invariant.0)
 
-inside : (c : goal.After-struct_known-1) → c.in_ok-i.i < (head_of c.args.self.now).records
+inside : (c : goal.After-struct_known-1) → c.in_ok-i.i < (sizes_of c.args.self.now).records
 inside c = omega (arith, c.in_ok-i.ensures)
 
 entry : (c : goal.After-struct_known-1) → c.read_record-entry.result ≡ record_at c.args.self.now c.in_ok-i.i
 entry c =
     c.read_record-entry.ensures
-    ∙ ap (λ start. read_record c.self.inside.bytes.now start) (c.record_start.ensures ∙ ap (λ (h : Head). record_start h.cells c.in_ok-i.i) c.self.invariant.1)
+    ∙ ap (λ start. read_record c.self.inside.bytes.now start) (c.record_start.ensures ∙ ap (λ (h : Sizes). record_start h.cells c.in_ok-i.i) c.self.invariant.1)
     ∙ ap (λ b. record_at b c.in_ok-i.i) c.self.view_is
 
 back : (c : goal.After-struct_known-1) → c.read_record-entry.result.next ≤ c.in_ok-i.i

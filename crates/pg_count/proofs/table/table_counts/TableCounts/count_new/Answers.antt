@@ -1,8 +1,9 @@
 use Rattle.std.proofs.Common.{◌≡◌, ◌+◌, ◌^◌, ◌<◌, ◌≤◌, set, ◌++◌, [], ◌∷◌, length, ap, sym, subst, ◌∙◌, arith}
 use Rattle.std.proofs.lemmas.Result.{err_from_is_err_and}
 use Rattle.std.specs.FinMap.{find, put}
+use Rattle.pg_types.specs.Inside.Signs.{SignsWithin}
 use Rattle.pg_types.proofs.StringEntries.{order}
-use Rattle.pg_types.specs.Inside.counting.Counts.{SignsWithin, counted_sums}
+use Rattle.pg_types.specs.Inside.counting.Counts.{counted_sums}
 use Rattle.pg_count.specs.Inside.Counting.{Counting}
 use Rattle.pg_count.specs.Inside.WindowRow.{WindowRow}
 use Rattle.pg_count.specs.Inside.Tables.{IsCountTable, table_counting}

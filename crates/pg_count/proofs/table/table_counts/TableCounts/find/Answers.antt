@@ -1,7 +1,8 @@
 use Rattle.std.proofs.Common.{◌≡◌, length, slice_get, Some, IfSome, refl, ap, sym, subst, ◌∙◌}
 use Rattle.std.proofs.lemmas.Bool.{ltb-false, ltb-true}
 use Rattle.std.proofs.lemmas.Option.{slice_get_past, slice_get_read}
-use Rattle.pg_types.specs.Inside.counting.Counts.{SignsWithin, counted_sums}
+use Rattle.pg_types.specs.Inside.Signs.{SignsWithin}
+use Rattle.pg_types.specs.Inside.counting.Counts.{counted_sums}
 use Rattle.pg_types.specs.Inside.counting.NumberedWindows.{HasNumber}
 use Rattle.pg_count.specs.Inside.cells.CellNumbers.{tally_by_number}
 use Rattle.pg_count.specs.Inside.Counting.{Counting, Tally}

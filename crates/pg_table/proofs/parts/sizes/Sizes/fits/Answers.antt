@@ -1,5 +1,5 @@
 use Rattle.std.proofs.Common.{rules}
-use Rattle.pg_table.proofs.parts.head.Head.fits.Goals as goal
+use Rattle.pg_table.proofs.parts.sizes.Sizes.fits.Goals as goal
 
 pub returns-then-self-from : goal.returns-then-self-from
 returns-then-self-from c = search rules
