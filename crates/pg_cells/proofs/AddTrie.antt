@@ -8,7 +8,7 @@ use Rattle.std.specs.FinMap.{find, put, is_sorted}
 use Rattle.pg_types.specs.Placement.{Family, Families, family_at, without_family, is_used, least_base, with_one_sign, with_sign, with_placed_family, base_of}
 use Rattle.pg_types.specs.Inside.Placing.{cell_of}
 use Rattle.pg_cells.specs.declared.store.fit.Slot.{Slot}
-use Rattle.pg_cells.specs.Inside.store.Lists.{Row, sign_at, child_at, base_at, IsFree}
+use Rattle.pg_cells.specs.Inside.store.CellRows.{Row, sign_at, child_at, base_at, IsFree}
 use Rattle.pg_cells.specs.Inside.store.Store.{Extends}
 use Rattle.pg_cells.specs.Inside.families.Searches.{search_start}
 use Rattle.pg_cells.specs.Inside.store.Fit.{slot_signs, slot_of}

@@ -5,7 +5,7 @@ use Rattle.pg_types.specs.Placement.{with_sign}
 use Rattle.pg_types.specs.Inside.Placing.{cell_of, joins_at}
 use Rattle.pg_cells.specs.Inside.families.Searches.{search_start}
 use Rattle.pg_cells.specs.declared.store.fit.Slot.{Slot}
-use Rattle.pg_cells.specs.Inside.store.Lists.{Row, sign_at, child_at, IsFree}
+use Rattle.pg_cells.specs.Inside.store.CellRows.{Row, sign_at, child_at, IsFree}
 use Rattle.pg_cells.specs.Inside.store.Store.{Extends}
 use Rattle.pg_cells.specs.Inside.store.Writes.{Takes}
 use Rattle.pg_cells.specs.Inside.families.Moves.{CanPlace, MovesFamily, AreSlotsOf}

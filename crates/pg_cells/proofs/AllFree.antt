@@ -5,13 +5,13 @@ use Rattle.std.proofs.lemmas.List.{get_or-set_same, get_or-set_other, get_or_pas
 use Rattle.pg_cells.specs.declared.store.cell.TheConstants.{CELLS_END, SIGN_COUNT}
 use Rattle.pg_cells.specs.declared.store.cell.Cell.{Cell}
 use Rattle.pg_cells.specs.declared.store.member.Member.{Member}
-use Rattle.pg_cells.specs.Inside.store.Lists.{sign_seen, base_seen, link_seen, LinkedRow, linked_row, row_of, sign_at, base_at, with_free, with_base, before_seen}
-use Rattle.pg_cells.specs.declared.store.marks.Marks.{Marks}
-use Rattle.pg_cells.specs.Inside.store.Marks.{room_of, is_marked}
+use Rattle.pg_cells.specs.Inside.store.CellRows.{sign_seen, base_seen, link_seen, LinkedRow, linked_row, row_of, sign_at, base_at, with_free, with_base, before_seen}
+use Rattle.pg_cells.specs.declared.store.bit_set.BitSet.{BitSet}
+use Rattle.pg_cells.specs.Inside.store.BitSets.{room_of, has_index}
 use Rattle.pg_cells.specs.Inside.store.FreeList.{IsFreeList, AreLinked, IsFreeTo}
 use Rattle.pg_cells.specs.Inside.families.Root.{IsRootTo}
 use Rattle.pg_cells.specs.Inside.store.Store.{IsKept, IsStore}
-use Rattle.pg_cells.proofs.MarkLaws.{marks_none}
+use Rattle.pg_cells.proofs.SetLaws.{sets_none}
 use Rattle.pg_cells.proofs.BlockedLaws.{blocked_none}
 use Rattle.pg_cells.proofs.RootSteps.{how_many_zero, planted_cleared}
 use Rattle.pg_cells.proofs.RowWrites.{is_row}
@@ -130,12 +130,12 @@ module _ {V : Type 0} (cells : List (Cell V)) (last : ℕ) (h : IsFreeTo last (l
       ]
 
   -- a store whose cells are all free
-  pub free_store : (marks bases : Marks) (lows : List ℕ) (dropped sought : ℕ) → length lows ≤ SIGN_COUNT → 0 < length cells → length cells < CELLS_END → AreLinked (linked_row cells)
-      → length cells ≤ room_of marks → length cells ≤ room_of bases → ((i : ℕ) → is_marked marks i ≡ false) → ((i : ℕ) → is_marked bases i ≡ false)
-      → IsStore cells 0 0 marks bases lows 0 dropped 0 sought
-  free_store marks bases lows dropped sought few up small linked room base_room none none_bases = record {
+  pub free_store : (taken_set bases : BitSet) (lows : List ℕ) (dropped sought : ℕ) → length lows ≤ SIGN_COUNT → 0 < length cells → length cells < CELLS_END → AreLinked (linked_row cells)
+      → length cells ≤ room_of taken_set → length cells ≤ room_of bases → ((i : ℕ) → has_index taken_set i ≡ false) → ((i : ℕ) → has_index bases i ≡ false)
+      → IsStore cells 0 0 taken_set bases lows 0 dropped 0 sought
+  free_store taken_set bases lows dropped sought few up small linked room base_room none none_bases = record {
     kept = free_kept up small linked;
-    marked = let size = length-map cells sign_seen in marks_none (row_of cells) marks bases (omega arith) (omega arith) free_none free_bases none none_bases;
+    sets = let size = length-map cells sign_seen in sets_none (row_of cells) taken_set bases (omega arith) (omega arith) free_none free_bases none none_bases;
     few = few;
     bounds = λ s b above below. absurd (let far = below.under_cell in omega arith);
     blocked = blocked_none (row_of cells) 0 sought (omega arith);

@@ -5,7 +5,7 @@ use Rattle.std.proofs.lemmas.Bool.{cases_Bool, cases_eq, cases_lt, eq-eqb, eqb-t
 use Rattle.std.proofs.lemmas.List.{get_or_default}
 use Rattle.pg_types.specs.Inside.Placing.{IsLeast}
 use Rattle.pg_cells.specs.declared.store.fit.Slot.{Slot}
-use Rattle.pg_cells.specs.Inside.store.Lists.{Row, sign_at, base_at, IsFree}
+use Rattle.pg_cells.specs.Inside.store.CellRows.{Row, sign_at, base_at, IsFree}
 use Rattle.pg_cells.specs.Inside.store.BlockedBases.{AreBlocked}
 use Rattle.pg_cells.specs.Inside.store.Fit.{fits_row, slot_signs, slot_of}
 use Rattle.pg_cells.specs.Inside.store.Store.{Extends, IsTop}

@@ -4,7 +4,7 @@ use Rattle.std.specs.List.{list_all}
 use Rattle.std.proofs.lemmas.Bool.{cases_Bool, cases_eq, cases_lt, eq-eqb, both_ways, and_left, and_from}
 use Rattle.std.proofs.lemmas.List.{get_or-set_same, get_or-set_other}
 use Rattle.pg_types.specs.Inside.Placing.{IsLeast}
-use Rattle.pg_cells.specs.Inside.store.Lists.{Row, sign_at, base_at}
+use Rattle.pg_cells.specs.Inside.store.CellRows.{Row, sign_at, base_at}
 use Rattle.pg_cells.specs.Inside.store.Bounds.{IsBelowBounds, NoneFree, AreBounds}
 use Rattle.pg_cells.specs.Inside.store.Fit.{fits_row}
 use Rattle.pg_cells.specs.Inside.store.Store.{Extends}

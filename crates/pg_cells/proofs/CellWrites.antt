@@ -10,7 +10,7 @@ use Rattle.pg_cells.specs.declared.store.cell.TheConstants.{SIGN_COUNT}
 use Rattle.pg_cells.specs.declared.store.cell.Cell.{Cell}
 use Rattle.pg_cells.specs.declared.store.member.Member.{Member}
 use Rattle.pg_cells.proofs.WordLaws.{word_taken, word_free, sign_even, sign_odd, odd_word, value_odd, value_sign, value_next, value_first, value_base, value_link, taken_odd, taken_sign, taken_next, taken_first, taken_base, taken_link, link_same, base_same, low_same}
-use Rattle.pg_cells.specs.Inside.store.Lists.{linked_row, without_links, unlink_at, sign_seen, base_seen, link_seen, child_seen, member_seen, before_seen, sign_in, next_in, first_in, base_in, link_in, FitsCell, sign_at, child_at, base_at, before_at, after_at, IsFree, with_before, with_after, with_child, with_value, with_base, with_taken, with_free}
+use Rattle.pg_cells.specs.Inside.store.CellRows.{linked_row, without_links, unlink_at, sign_seen, base_seen, link_seen, child_seen, member_seen, before_seen, sign_in, next_in, first_in, base_in, link_in, FitsCell, sign_at, child_at, base_at, before_at, after_at, IsFree, with_before, with_after, with_child, with_value, with_base, with_taken, with_free}
 
 -- a value without its links loses none
 without_links_seen : {V : Type 0} (b : Bool) (v : V) (m : Member V) → m.value ≡ v → without_links v ≡ without_links (cond b (without_links v) m).value

@@ -4,7 +4,7 @@ use Rattle.std.proofs.lemmas.Bool.{cases_eq}
 use Rattle.std.proofs.lemmas.List.{length-map, get_or_past, get_or_default, map_push, length_push}
 use Rattle.pg_cells.specs.declared.store.cell.TheConstants.{CELLS_END}
 use Rattle.pg_cells.specs.declared.store.cell.Cell.{Cell}
-use Rattle.pg_cells.specs.Inside.store.Lists.{sign_seen, Row, LinkedRow, linked_row, row_of, IsFree, sign_at, before_at, after_at}
+use Rattle.pg_cells.specs.Inside.store.CellRows.{sign_seen, Row, LinkedRow, linked_row, row_of, IsFree, sign_at, before_at, after_at}
 use Rattle.pg_cells.specs.Inside.store.FreeList.{AreLinked}
 use Rattle.pg_cells.specs.declared.store.member.Member.{Member}
 use Rattle.pg_cells.proofs.LinkedLists.{free_within, taken_within, not_free}

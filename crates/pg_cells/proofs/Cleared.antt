@@ -7,7 +7,7 @@ use Rattle.std.specs.FinMap.{is_sorted}
 use Rattle.pg_types.specs.Placement.{Family, Families, family_at, without_family, is_used, is_base, fits_at, least_base, with_one_sign, top}
 use Rattle.pg_types.specs.Inside.Placing.{IsLeast}
 use Rattle.pg_cells.specs.declared.store.fit.Slot.{Slot}
-use Rattle.pg_cells.specs.Inside.store.Lists.{Row, sign_at, child_at, base_at}
+use Rattle.pg_cells.specs.Inside.store.CellRows.{Row, sign_at, child_at, base_at}
 use Rattle.pg_cells.specs.Inside.store.Store.{IsTop}
 use Rattle.pg_cells.specs.Inside.store.Fit.{slot_signs, slot_of, fits_row}
 use Rattle.pg_cells.specs.Inside.families.Moves.{GivesUp, DropsBase, IsOutsideFamily}

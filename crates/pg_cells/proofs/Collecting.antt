@@ -4,7 +4,7 @@ use Rattle.std.proofs.lemmas.Bool.{cases_lt, eq-eqb, eqb-true, ne_eqb}
 use Rattle.std.proofs.lemmas.List.{append-nil, length_push, map_push, take-append-le, take_at, get_or_append_left, get_or_push, length-map}
 use Rattle.std.specs.List.{range_with_len}
 use Rattle.pg_cells.specs.declared.store.fit.Slot.{Slot}
-use Rattle.pg_cells.specs.Inside.store.Lists.{Row, sign_at}
+use Rattle.pg_cells.specs.Inside.store.CellRows.{Row, sign_at}
 use Rattle.pg_cells.specs.Inside.store.Fit.{slot_signs, slot_of}
 use Rattle.pg_cells.specs.Inside.linked.Members.{IsNext, ArePassing, number_before}
 use Rattle.pg_cells.specs.Inside.families.Moves.{AreDistinct, TellsCell, AreSlotsOf, Collects}

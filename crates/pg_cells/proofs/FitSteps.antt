@@ -5,7 +5,7 @@ use Rattle.std.proofs.lemmas.Bool.{cases_eq, cases_lt, cases_order, and_right, n
 use Rattle.std.proofs.lemmas.List.{get_or_default}
 use Rattle.std.proofs.lemmas.List.Folds.{list_all_more, list_all_at}
 use Rattle.pg_types.specs.Inside.Placing.{IsLeast}
-use Rattle.pg_cells.specs.Inside.store.Lists.{Row, linked_row, sign_at, base_at, IsFree}
+use Rattle.pg_cells.specs.Inside.store.CellRows.{Row, linked_row, sign_at, base_at, IsFree}
 use Rattle.pg_cells.specs.Inside.store.FreeList.{IsFreeList}
 use Rattle.pg_cells.specs.declared.store.cell.Cell.{Cell}
 use Rattle.pg_cells.specs.declared.store.fit.Slot.{Slot}

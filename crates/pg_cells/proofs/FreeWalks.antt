@@ -1,7 +1,7 @@
 -- The list through the free cells, gone along from the first.
 use Rattle.std.proofs.Common.{◌≡◌, ◌≢◌, ℕ, ◌<◌, ◌≤◌, inl, inr, sym, subst, arith}
 use Rattle.std.proofs.lemmas.Bool.{cases_lt}
-use Rattle.pg_cells.specs.Inside.store.Lists.{LinkedRow, before_at, after_at, IsFree}
+use Rattle.pg_cells.specs.Inside.store.CellRows.{LinkedRow, before_at, after_at, IsFree}
 use Rattle.pg_cells.specs.Inside.store.FreeList.{AreLinked}
 
 module _ {V : Type 0} where

@@ -4,7 +4,7 @@ use Rattle.std.proofs.lemmas.Bool.{cases_Bool, cases_eq, false≢true, or_cases,
 use Rattle.std.specs.List.{list_any, range_with_len}
 use Rattle.std.specs.FinMap.{is_sorted}
 use Rattle.pg_types.specs.Placement.{Family, Families, family_at, is_used, is_base, top}
-use Rattle.pg_cells.specs.Inside.store.Lists.{Row, sign_at, child_at, base_at}
+use Rattle.pg_cells.specs.Inside.store.CellRows.{Row, sign_at, child_at, base_at}
 use Rattle.pg_cells.specs.Inside.store.Store.{IsTop}
 use Rattle.pg_cells.specs.Inside.families.Layouts.{AreLaidOut, signs_at_base}
 use Rattle.pg_cells.proofs.StringMaps.{order}

@@ -25,8 +25,8 @@ pub mod LinkedLists
 pub mod LinkedSigns
 pub mod LinkedSteps
 pub mod LoneStore
-pub mod MarkLaws
-pub mod MarkRows
+pub mod SetLaws
+pub mod SetRows
 pub mod MoveSteps
 pub mod MovedTrie
 pub mod OneSign

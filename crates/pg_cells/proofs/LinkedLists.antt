@@ -4,7 +4,7 @@ use Rattle.std.proofs.lemmas.Bool.{cases_eq, cases_lt}
 use Rattle.std.proofs.lemmas.List.{get_or-set_same, get_or-set_other, get_or_past, get_or_default, length-set, length-map, map_push, length_push, set_at}
 use Rattle.pg_cells.specs.declared.store.cell.Cell.{Cell}
 use Rattle.pg_cells.specs.declared.store.member.Member.{Member}
-use Rattle.pg_cells.specs.Inside.store.Lists.{next_in, first_in, sign_seen, base_seen, link_seen, Row, LinkedRow, linked_row, row_of, without_links, unlink_at, child_seen, member_seen, before_seen, IsFree, sign_at, before_at, after_at, with_before, with_after, with_taken, with_free, with_more}
+use Rattle.pg_cells.specs.Inside.store.CellRows.{next_in, first_in, sign_seen, base_seen, link_seen, Row, LinkedRow, linked_row, row_of, without_links, unlink_at, child_seen, member_seen, before_seen, IsFree, sign_at, before_at, after_at, with_before, with_after, with_taken, with_free, with_more}
 use Rattle.pg_cells.specs.Inside.store.FreeList.{IsFreeList, AreLinked}
 use Rattle.pg_cells.proofs.LinkedSteps.{IsFreeList-take, IsFreeList-put}
 

@@ -2,12 +2,12 @@
 use Rattle.std.proofs.Common.{◌≡◌, ℕ, ◌≤◌, false, List, [], ◌∷◌, length, refl, get_or, zero, suc, arith}
 use Rattle.pg_cells.specs.declared.store.cell.Cell.{Cell}
 use Rattle.pg_cells.specs.declared.store.cell.TheConstants.{SIGN_COUNT}
-use Rattle.pg_cells.specs.Inside.store.Lists.{linked_row, row_of, base_at}
-use Rattle.pg_cells.specs.declared.store.marks.Marks.{Marks}
-use Rattle.pg_cells.specs.Inside.store.Marks.{room_of, is_marked}
+use Rattle.pg_cells.specs.Inside.store.CellRows.{linked_row, row_of, base_at}
+use Rattle.pg_cells.specs.declared.store.bit_set.BitSet.{BitSet}
+use Rattle.pg_cells.specs.Inside.store.BitSets.{room_of, has_index}
 use Rattle.pg_cells.specs.Inside.store.FreeList.{AreLinked}
 use Rattle.pg_cells.specs.Inside.store.Store.{IsStore}
-use Rattle.pg_cells.proofs.MarkLaws.{marks_none}
+use Rattle.pg_cells.proofs.SetLaws.{sets_none}
 use Rattle.pg_cells.proofs.BlockedLaws.{blocked_none}
 
 only_free : (i : ℕ) → ◌≡◌ {A = ℕ} (get_or (0 ∷ []) i 1) 0 → i ≡ 0
@@ -37,9 +37,9 @@ module _ {V : Type 0} (value : V) where
     last_most = λ j e. let at = only_free j e in omega arith;
   }
 
-  pub lone_store : (lows : List ℕ) (marks bases : Marks) → length lows ≤ SIGN_COUNT → 1 ≤ room_of marks → 1 ≤ room_of bases → ((i : ℕ) → is_marked marks i ≡ false)
-      → ((i : ℕ) → is_marked bases i ≡ false) → IsStore (free_cell ∷ []) 0 0 marks bases lows 0 0 0 0
-  lone_store lows marks bases few room base_room none none_bases = record {
+  pub lone_store : (lows : List ℕ) (taken_set bases : BitSet) → length lows ≤ SIGN_COUNT → 1 ≤ room_of taken_set → 1 ≤ room_of bases → ((i : ℕ) → has_index taken_set i ≡ false)
+      → ((i : ℕ) → has_index bases i ≡ false) → IsStore (free_cell ∷ []) 0 0 taken_set bases lows 0 0 0 0
+  lone_store lows taken_set bases few room base_room none none_bases = record {
     kept = record {
       linked = lone_linked;
       small = omega arith;
@@ -50,7 +50,7 @@ module _ {V : Type 0} (value : V) where
       };
       count = refl;
     };
-    marked = marks_none (row_of (free_cell ∷ [])) marks bases room base_room all_zero no_base none none_bases;
+    sets = sets_none (row_of (free_cell ∷ [])) taken_set bases room base_room all_zero no_base none none_bases;
     few = few;
     bounds = λ sign base up below. absurd (let under = below.under_base in omega arith);
     blocked = blocked_none (row_of (free_cell ∷ [])) 0 0 (omega arith);

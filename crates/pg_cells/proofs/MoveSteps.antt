@@ -2,7 +2,7 @@
 use Rattle.std.proofs.Common.{◌≡◌, ◌≢◌, ℕ, ◌+◌, inl, inr, List, [], ◌∷◌, ◌++◌, None, Some, slice_get, refl, sym, ◌∙◌, ap, arith}
 use Rattle.std.proofs.lemmas.List.{length_push}
 use Rattle.pg_cells.specs.declared.store.fit.Slot.{Slot}
-use Rattle.pg_cells.specs.Inside.store.Lists.{Row, sign_at, child_at}
+use Rattle.pg_cells.specs.Inside.store.CellRows.{Row, sign_at, child_at}
 use Rattle.pg_cells.specs.Inside.store.Fit.{slot_of}
 use Rattle.pg_cells.specs.Inside.store.Writes.{KeepsOtherIndices, Takes, Frees}
 use Rattle.pg_cells.specs.Inside.families.Moves.{KeepsOtherCells, GivesUp, PutsSlots}

@@ -6,7 +6,7 @@ use Rattle.std.specs.List.{list_any, range_with_len}
 use Rattle.std.specs.FinMap.{find}
 use Rattle.pg_types.specs.Placement.{Family, family_at}
 use Rattle.pg_cells.specs.declared.store.fit.Slot.{Slot}
-use Rattle.pg_cells.specs.Inside.store.Lists.{Row, sign_at, child_at}
+use Rattle.pg_cells.specs.Inside.store.CellRows.{Row, sign_at, child_at}
 use Rattle.pg_cells.specs.Inside.store.Fit.{slot_signs, slot_of}
 use Rattle.pg_cells.specs.Inside.families.Moves.{AreDistinct, AreSlotsOf}
 use Rattle.pg_cells.specs.Inside.linked.ValuedFamilies.{Trie}

@@ -5,7 +5,7 @@ use Rattle.std.proofs.lemmas.Bool.{eq-eqb, eqb-true}
 use Rattle.std.proofs.lemmas.List.{length_push, same_from_push}
 use Rattle.std.specs.List.{range_with_len}
 use Rattle.pg_types.specs.Placement.{Family}
-use Rattle.pg_cells.specs.Inside.store.Lists.{Row, sign_at, child_at, base_at}
+use Rattle.pg_cells.specs.Inside.store.CellRows.{Row, sign_at, child_at, base_at}
 use Rattle.pg_cells.specs.Inside.families.Layouts.{AreLaidOut, IsParent, signs_at_base}
 use Rattle.pg_cells.proofs.StringMaps.{equal_or_not}
 

@@ -4,7 +4,7 @@ use Rattle.std.proofs.lemmas.Bool.{cases_Bool, cases_eq, eq-eqb, eqb-true, false
 use Rattle.std.proofs.lemmas.List.{get_or_default, length-map}
 use Rattle.std.specs.List.{list_any, list_all}
 use Rattle.pg_cells.specs.declared.store.fit.Slot.{Slot}
-use Rattle.pg_cells.specs.Inside.store.Lists.{Row, sign_at, base_at, IsFree}
+use Rattle.pg_cells.specs.Inside.store.CellRows.{Row, sign_at, base_at, IsFree}
 use Rattle.pg_cells.specs.Inside.store.Fit.{slot_signs, slot_of, fits_row}
 use Rattle.pg_cells.specs.Inside.store.Store.{IsTop}
 use Rattle.pg_cells.specs.Inside.store.Writes.{Takes, SetsBase}

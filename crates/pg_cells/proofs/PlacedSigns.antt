@@ -8,7 +8,7 @@ use Rattle.pg_cells.specs.Inside.families.Searches.{search_start}
 use Rattle.pg_cells.specs.Inside.families.Adding.{CanTakeSign, AddsSign, with_sign_below}
 use Rattle.pg_cells.specs.Inside.linked.CellValues.{SetsValue}
 use Rattle.pg_cells.specs.Inside.families.Layouts.{IsTrie}
-use Rattle.pg_cells.specs.Inside.store.Lists.{Row}
+use Rattle.pg_cells.specs.Inside.store.CellRows.{Row}
 use Rattle.pg_cells.specs.Inside.families.Removing.{CanRemoveSign, RemovesSign}
 use Rattle.pg_cells.specs.Inside.linked.ValuedFamilies.{Trie, ValuedFamilies, without_key}
 use Rattle.pg_cells.proofs.AddedSlot.{after}

@@ -5,7 +5,7 @@ use Rattle.std.specs.List.{list_any}
 use Rattle.std.specs.FinMap.{find, put}
 use Rattle.pg_types.specs.Placement.{Family, Families, family_at}
 use Rattle.pg_types.specs.Inside.Placing.{cell_of}
-use Rattle.pg_cells.specs.Inside.store.Lists.{Row, sign_at}
+use Rattle.pg_cells.specs.Inside.store.CellRows.{Row, sign_at}
 use Rattle.pg_cells.specs.Inside.linked.ValuedFamilies.{Trie}
 use Rattle.pg_cells.specs.Inside.families.Layouts.{IsTrie, value_in}
 use Rattle.pg_cells.specs.Inside.families.OneTrie.{last_of}

@@ -7,7 +7,7 @@ use Rattle.std.specs.Option.{option_map}
 use Rattle.std.specs.FinMap.{put}
 use Rattle.pg_types.specs.Placement.{Family, Families, family_at, without_family}
 use Rattle.pg_types.specs.Inside.Placing.{without_sign}
-use Rattle.pg_cells.specs.Inside.store.Lists.{Row, sign_at, child_at}
+use Rattle.pg_cells.specs.Inside.store.CellRows.{Row, sign_at, child_at}
 use Rattle.pg_cells.specs.Inside.store.Writes.{Frees, SetsBase}
 use Rattle.pg_cells.specs.Inside.families.Moves.{DropsEmptyFamily}
 use Rattle.pg_cells.specs.Inside.families.Removing.{CanRemoveSign}

@@ -11,7 +11,7 @@ use Rattle.std.specs.FinMap.{find, is_sorted}
 use Rattle.std.specs.FinMap.Entries.{below_all}
 use Rattle.pg_types.specs.Placement.{Family, family_at, root, taken_count}
 use Rattle.pg_types.specs.Inside.Placing.{cell_after, cell_of}
-use Rattle.pg_cells.specs.Inside.store.Lists.{Row, sign_at, base_at}
+use Rattle.pg_cells.specs.Inside.store.CellRows.{Row, sign_at, base_at}
 use Rattle.pg_cells.specs.Inside.store.Writes.{SetsBase}
 use Rattle.pg_cells.specs.Inside.families.Layouts.{AreLaidOut, IsParent, IsTrie, signs_at_base, value_in}
 use Rattle.pg_cells.specs.Inside.families.Root.{IsRootTo}

@@ -4,7 +4,7 @@ use Rattle.std.proofs.lemmas.List.{length-set, length-map, get_or-set_same, get_
 use Rattle.pg_cells.specs.declared.store.cell.Cell.{Cell}
 use Rattle.pg_cells.specs.declared.store.cell.TheConstants.{CELLS_END}
 use Rattle.pg_cells.specs.declared.store.member.Member.{Member}
-use Rattle.pg_cells.specs.Inside.store.Lists.{sign_seen, base_seen, link_seen, row_of, unlink_at, child_seen, member_seen, sign_at, child_at, IsFree, with_taken, with_free, with_child, with_value, with_base}
+use Rattle.pg_cells.specs.Inside.store.CellRows.{sign_seen, base_seen, link_seen, row_of, unlink_at, child_seen, member_seen, sign_at, child_at, IsFree, with_taken, with_free, with_child, with_value, with_base}
 use Rattle.pg_cells.specs.Inside.store.Store.{IsRow}
 use Rattle.pg_cells.specs.Inside.store.Writes.{Takes, Frees, SetsChild, SetsRowValue, SetsBase}
 use Rattle.pg_cells.proofs.LinkedLists.{free_within, taken_within}

@@ -6,7 +6,7 @@ use Rattle.std.specs.List.{list_any}
 use Rattle.pg_cells.specs.declared.store.fit.Slot.{Slot}
 use Rattle.pg_cells.specs.Inside.store.Fit.{slot_signs, slot_of}
 use Rattle.pg_cells.specs.declared.store.member.Member.{Member}
-use Rattle.pg_cells.specs.Inside.store.Lists.{FitsCell}
+use Rattle.pg_cells.specs.Inside.store.CellRows.{FitsCell}
 use Rattle.pg_cells.specs.Inside.families.Moves.{AllFit, IsOutsideFamily, AreDistinct}
 
 module _ {V : Type 0} where

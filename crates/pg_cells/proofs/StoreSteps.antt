@@ -5,7 +5,7 @@ use Rattle.std.proofs.lemmas.List.{take_at, length-set, length-map, length_push,
 use Rattle.pg_cells.specs.declared.store.cell.TheConstants.{CELLS_END}
 use Rattle.pg_cells.specs.declared.store.cell.Cell.{Cell}
 use Rattle.pg_cells.specs.declared.store.member.Member.{Member}
-use Rattle.pg_cells.specs.Inside.store.Lists.{sign_seen, Row, LinkedRow, linked_row, row_of, without_links, member_seen, sign_at, IsFree, with_taken, with_free, with_child, with_value, with_more}
+use Rattle.pg_cells.specs.Inside.store.CellRows.{sign_seen, Row, LinkedRow, linked_row, row_of, without_links, member_seen, sign_at, IsFree, with_taken, with_free, with_child, with_value, with_more}
 use Rattle.pg_cells.specs.Inside.store.FreeList.{IsFreeList, AreLinked}
 use Rattle.pg_cells.proofs.LinkedLists.{taken_within, not_free}
 use Rattle.pg_cells.specs.Inside.store.Store.{IsTop, IsKept, Extends, how_many, taken_in}

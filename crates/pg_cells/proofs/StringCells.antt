@@ -8,7 +8,7 @@ use Rattle.std.specs.FinMap.{find, put}
 use Rattle.pg_types.specs.Placement.{Family, Families, family_at, cell_in, base_of, top}
 use Rattle.pg_types.specs.Inside.Placing.{cell_of}
 use Rattle.pg_types.proofs.LeastBase.{used_le_top}
-use Rattle.pg_cells.specs.Inside.store.Lists.{Row, sign_at, child_at, base_at}
+use Rattle.pg_cells.specs.Inside.store.CellRows.{Row, sign_at, child_at, base_at}
 use Rattle.pg_cells.specs.Inside.store.Writes.{SetsRowValue}
 use Rattle.pg_cells.specs.Inside.linked.ValuedFamilies.{Trie}
 use Rattle.pg_cells.specs.Inside.families.Layouts.{IsTrie, value_in}

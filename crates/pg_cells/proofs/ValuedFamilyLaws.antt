@@ -7,7 +7,7 @@ use Rattle.std.specs.Option.{option_map, is_some}
 use Rattle.std.specs.FinMap.{find}
 use Rattle.pg_types.specs.Placement.{Family, family_at, base_of}
 use Rattle.pg_types.specs.Inside.Placing.{cell_of}
-use Rattle.pg_cells.specs.Inside.store.Lists.{Row, sign_at}
+use Rattle.pg_cells.specs.Inside.store.CellRows.{Row, sign_at}
 use Rattle.pg_cells.specs.Inside.linked.ValuedFamilies.{Trie}
 use Rattle.pg_cells.specs.Inside.linked.AreValuedFamilies.{AreValuedFamilies}
 use Rattle.pg_cells.specs.Inside.families.Layouts.{IsTrie, value_in}

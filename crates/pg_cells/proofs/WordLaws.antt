@@ -2,7 +2,7 @@
 use Rattle.std.proofs.Common.{◌≡◌, ◌≢◌, ℕ, ◌+◌, ◌-◌, ◌*◌, ◌/◌, ◌%◌, ◌<◌, true, false, inl, inr, sym, ◌∙◌, ap, cond, nat_eq, arith}
 use Rattle.std.proofs.lemmas.Bool.{cases_eq, eq-eqb, eqb-true, ne_eqb, true≢false}
 use Rattle.pg_cells.specs.declared.store.cell.TheConstants.{SIGN_COUNT}
-use Rattle.pg_cells.specs.Inside.store.Lists.{sign_in, next_in, first_in, base_in, link_in}
+use Rattle.pg_cells.specs.Inside.store.CellRows.{sign_in, next_in, first_in, base_in, link_in}
 
 -- an even word has no sign, and an odd one has one less than its sign above the lowest bit
 pub sign_even : (x : ℕ) → sign_in (x * 2) ≡ 0

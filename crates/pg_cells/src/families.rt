@@ -6,7 +6,7 @@ ghost use Rattle.pg_cells.specs.Inside.linked.ValuedFamilies.{ValuedFamilies, tr
 ghost use Rattle.pg_cells.specs.Inside.families.Adding.{AddsSign, CanTakeSign};
 ghost use Rattle.pg_cells.specs.Inside.linked.CellValues.{FindsCell, GivesBase, HasValue, IsBase, IsTaken, SetsValue};
 ghost use Rattle.pg_cells.specs.Inside.families.Removing.{CanRemoveSign, RemovesSign};
-ghost use Rattle.pg_cells.specs.Inside.store.Lists.{FitsCell};
+ghost use Rattle.pg_cells.specs.Inside.store.CellRows.{FitsCell};
 ghost use Rattle.pg_cells.specs.Inside.store.Store.{member_code};
 ghost use Rattle.pg_cells.specs.Inside.linked.Members.{ArePassing, ArePositive, IsAlone, HasOther, has_sign};
 ghost use Rattle.pg_cells.specs.Inside.families.Layouts.{AreKept};

@@ -17,8 +17,8 @@
 //! - A *bound* of a sign is a base. Below it no base can be taken for a family with this sign,
 //!   since the base or the sign's cell there is taken. Cells and bases that are given up lower the
 //!   bounds. A search begins at the bound.
-//! - A *mark* is a bit for a cell. One row of marks says which cells are taken, and another which
-//!   indices are bases. By them a search for a family of many signs looks at 64 bases together.
+//! - Two sets of bits say which cells are taken, and which indices are bases. By them a search for
+//!   a family of many signs looks at 64 bases together.
 //!
 //! `store` is the row, with its cells, its free cells, its bounds and the search for a base.
 //! `families` is the placement, with its steps. `linked` adds the links, and `walks` goes from

@@ -1,25 +1,26 @@
 //! The store: one vector of cells, whose free ones are linked in rising order.
 ghost use Rattle.std.specs.Prelude.{◌≡◌, ◌≢◌, ℕ, ◌+◌, ◌<◌, ◌≤◌, ◌==◌, if◌then◌else◌, ◌∷◌, length, nat_eq, slice_get, Some, IfOk, OnOk};
 ghost use Rattle.pg_types.specs.Inside.Placing.{IsLeast};
-ghost use Rattle.pg_cells.specs.Inside.store.Lists.{linked_row, FitsCell, SaysTaken, row_of, without_links, sign_at, child_at, IsFree};
+ghost use Rattle.pg_cells.specs.Inside.store.CellRows.{linked_row, FitsCell, SaysTaken, row_of, without_links, sign_at, child_at, IsFree};
 ghost use Rattle.pg_cells.specs.Inside.store.FreeList.{AreLinked};
 ghost use Rattle.pg_cells.specs.Inside.store.BlockedBases.{AreBlocked};
 ghost use Rattle.pg_cells.specs.Inside.store.Bounds.{NoneFree};
 ghost use Rattle.pg_cells.specs.Inside.store.Fit.{HasSpace, fits_row, slot_signs};
-ghost use Rattle.pg_cells.specs.Inside.store.Marks.{room_of, is_marked};
+ghost use Rattle.pg_cells.specs.Inside.store.BitSets.{room_of, has_index};
 ghost use Rattle.pg_cells.specs.Inside.store.Store.{one_free, taken_in, IsTop, IsRow, Extends};
 ghost use Rattle.pg_cells.specs.Inside.families.Root.{IsRootTo};
 ghost use Rattle.pg_cells.specs.Inside.store.Writes.{Takes, Frees, SetsChild, SetsRowValue, SetsBase};
 ghost use Rattle.pg_cells.specs.declared.store.member.Member.{Member as MemberOf};
 
+mod bit_set;
 mod blocks;
 mod bounds;
 mod cell;
 mod chain;
 pub mod fit;
-mod marks;
 pub mod member;
 
+use crate::store::bit_set::BitSet;
 use crate::store::blocks::find_in_blocks;
 use crate::store::bounds::{bound_of, least_dropped, no_bounds, raise, still_placed};
 use crate::store::cell::{
@@ -27,7 +28,6 @@ use crate::store::cell::{
 };
 use crate::store::chain::{free_all, free_cell, push_cell, take_cell};
 use crate::store::fit::{Slot, find_base, has_sign_there, is_taken_there};
-use crate::store::marks::Marks;
 use crate::store::member::Member;
 use pg_types::{FEW_SIGNS, Sign};
 use std::alloc::{AllocError, Global};
@@ -44,9 +44,9 @@ pub struct Store<V: Copy> {
     top: usize,
     taken: usize,
     /// The taken cells, a bit for each.
-    marks: Marks,
+    taken_set: BitSet,
     /// The bases of families, a bit for each.
-    bases: Marks,
+    bases: BitSet,
     /// For each sign a bound. No base below it can be taken, since the base or the cell of the sign
     /// is taken.
     lows: Vec<u32>,
@@ -62,7 +62,7 @@ pub struct Store<V: Copy> {
 
 impl<V: Copy> Model for Store<V> {
     ghost use Rattle.pg_cells.specs.declared.store.member.Member.{Member};
-    ghost use Rattle.pg_cells.specs.Inside.store.Lists.{Row, row_of};
+    ghost use Rattle.pg_cells.specs.Inside.store.CellRows.{Row, row_of};
     ghost use Rattle.pg_cells.specs.Inside.store.Store.{member_code, row_code, IsStore};
 
     ghost Value = { Row (Member V) };
@@ -72,7 +72,7 @@ impl<V: Copy> Model for Store<V> {
     ghost view = { λ s. row_of s.cells.items };
 
     ghost invariant = { λ s.
-        IsStore s.cells.items s.top s.taken s.marks s.bases s.lows.items s.freed s.dropped s.placed
+        IsStore s.cells.items s.top s.taken s.taken_set s.bases s.lows.items s.freed s.dropped s.placed
         s.sought };
 }
 
@@ -88,16 +88,16 @@ impl<V: Copy> Store<V> {
             signs: 0,
             links: 0,
         })?;
-        let mut marks = Marks::none(alloc);
-        marks.make_room(1)?;
-        let mut bases = Marks::none(alloc);
+        let mut taken_set = BitSet::empty(alloc);
+        taken_set.make_room(1)?;
+        let mut bases = BitSet::empty(alloc);
         bases.make_room(1)?;
         let lows = no_bounds(alloc, signs)?;
         Ok(Store {
             cells,
             top: 0,
             taken: 0,
-            marks,
+            taken_set,
             bases,
             lows,
             freed: 0,
@@ -180,7 +180,7 @@ impl<V: Copy> Store<V> {
         ensures row { IsRow self.new }
     {
         set_base(self.cells.as_mut_slice(), cell, is_base);
-        set_mark(&mut self.bases, cell, is_base);
+        put_in(&mut self.bases, cell, is_base);
         self.dropped = least_dropped(self.dropped, cell, is_base);
         self.placed = still_placed(self.placed, is_base);
     }
@@ -203,7 +203,7 @@ impl<V: Copy> Store<V> {
             slot.value,
             slot.child,
         );
-        self.marks.mark(cell);
+        self.taken_set.insert(cell);
         self.top = self.top.max(cell);
         self.taken += 1;
     }
@@ -216,7 +216,7 @@ impl<V: Copy> Store<V> {
         ensures row { IsRow self.new }
     {
         free_cell(self.cells.as_mut_slice(), cell);
-        self.marks.unmark(cell);
+        self.taken_set.remove(cell);
         self.top = taken_up_to(self.cells.as_slice(), self.top);
         self.taken -= 1;
         self.freed = self.freed.min(cell);
@@ -236,7 +236,7 @@ impl<V: Copy> Store<V> {
         self.cells.truncate(count);
         self.cells.shrink_to(CELLS_AT_FIRST);
         free_all(self.cells.as_mut_slice());
-        self.marks.clear();
+        self.taken_set.clear();
         self.bases.clear();
         self.top = 0;
         self.taken = 0;
@@ -253,7 +253,7 @@ impl<V: Copy> Store<V> {
         if count <= self.cells.len() {
             return Ok(());
         }
-        self.marks.make_room(count)?;
+        self.taken_set.make_room(count)?;
         self.bases.make_room(count)?;
         grow_cells(&mut self.cells, count, value)
     }
@@ -322,21 +322,21 @@ impl<V: Copy> Store<V> {
         if slots.len() < FEW_SIGNS {
             return find_base(self.cells.as_slice(), slots, sign, low, room);
         }
-        find_in_blocks(&self.marks, &self.bases, slots, sign, low, room)
+        find_in_blocks(&self.taken_set, &self.bases, slots, sign, low, room)
     }
 }
 
-// Says whether a cell is marked.
-fn set_mark(marks: &mut Marks, cell: usize, to_mark: bool)
-    requires { cell < room_of marks.old }
-    ensures room { room_of marks.new ≡ room_of marks.old }
-    ensures marked { (i : ℕ) → is_marked marks.new i
-        ≡ (if i == cell then to_mark else is_marked marks.old i) }
+// Puts an index into a set, or takes it out.
+fn put_in(set: &mut BitSet, index: usize, is_in: bool)
+    requires { index < room_of set.old }
+    ensures room { room_of set.new ≡ room_of set.old }
+    ensures has { (i : ℕ) → has_index set.new i
+        ≡ (if i == index then is_in else has_index set.old i) }
 {
-    if to_mark {
-        marks.mark(cell);
+    if is_in {
+        set.insert(index);
     } else {
-        marks.unmark(cell);
+        set.remove(index);
     }
 }
 

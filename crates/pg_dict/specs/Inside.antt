@@ -2,7 +2,7 @@
 pub mod Sites
 pub mod Store
 pub mod LineWords
-pub mod Lent
+pub mod LentWords
 pub mod WrittenWords
 pub mod SoundWords
 pub mod Lines

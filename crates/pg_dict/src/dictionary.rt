@@ -7,7 +7,7 @@ ghost use Rattle.pg_dict.specs.Word.{Word};
 ghost use Rattle.pg_dict.specs.DictionaryWords.{words};
 ghost use Rattle.pg_dict.specs.Inside.Sites.{all_sites};
 ghost use Rattle.pg_dict.specs.Inside.Store.{all_signs, all_weights, stored_words, IsSound};
-ghost use Rattle.pg_dict.specs.Inside.Lent.{lent_word};
+ghost use Rattle.pg_dict.specs.Inside.LentWords.{lent_word};
 ghost use Rattle.pg_dict.specs.Parts.{is_in_part, part_of};
 
 use crate::entries::read_line;

@@ -3,7 +3,7 @@
 ghost use Rattle.std.specs.Prelude.{◌≡◌, ℕ, false, ◌++◌, slice_index_or, IfOk, OnOk};
 ghost use Rattle.pg_dict.specs.Word.{Word};
 ghost use Rattle.pg_dict.specs.Inside.SoundWords.{IsWord};
-ghost use Rattle.pg_dict.specs.Inside.Lent.{lent_word};
+ghost use Rattle.pg_dict.specs.Inside.LentWords.{lent_word};
 ghost use Rattle.pg_dict.specs.Inside.Sites.{site_of, sites_in, all_sites};
 ghost use Rattle.pg_dict.specs.Inside.Store.{IsSound, stored_words};
 

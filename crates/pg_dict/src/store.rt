@@ -5,7 +5,7 @@ ghost use Rattle.pg_types.specs.declared.limits.TheConstants.{FILE_MAX};
 ghost use Rattle.pg_dict.specs.Inside.Lines.PositionedSigns.{with_signs, no_columns, positioned_sign};
 ghost use Rattle.pg_dict.specs.Inside.Store.{columns_of, word_at, stored_words, IsSound};
 ghost use Rattle.pg_dict.specs.Inside.SoundWords.{IsWord};
-ghost use Rattle.pg_dict.specs.Inside.Lent.{lent_word};
+ghost use Rattle.pg_dict.specs.Inside.LentWords.{lent_word};
 
 pub mod position;
 

@@ -38,7 +38,7 @@ pub struct OpenDots {
 impl OpenDots {
     ghost use Rattle.pg_dots.specs.Inside.Walks.{IsFirstFailing};
     ghost use Rattle.pg_dots.specs.Inside.Dots.{is_closed, position_count, HasWalk};
-    ghost use Rattle.pg_dots.specs.Inside.Positions.{is_among, room_of};
+    ghost use Rattle.pg_dots.specs.Inside.Positions.{is_among, positions_room};
     ghost use Rattle.pg_dots.specs.Inside.Walks.{IsAhead};
 
     /// Each dot is closed at each of `size` positions, and no dot is reached.
@@ -181,7 +181,7 @@ impl OpenDots {
 
     /// The set of all positions.
     pub fn all_positions(&self, alloc: Global) -> Result<PositionSet, AllocError>
-        ensures room { IfOk result (λ all. room_of all ≡ position_count self.now) }
+        ensures room { IfOk result (λ all. positions_room all ≡ position_count self.now) }
         ensures among { IfOk result (λ all. (i : ℕ) → i < position_count self.now
             → is_among all i ≡ true) }
     {
@@ -192,7 +192,7 @@ impl OpenDots {
     /// altogether and are not kept closed. No dot is reached, and the memory of all rows but one is
     /// given back.
     pub fn next_level(&mut self, kept: &PositionSet)
-        requires room { room_of kept.now ≡ position_count self.old }
+        requires room { positions_room kept.now ≡ position_count self.old }
         ensures positions { position_count self.new ≡ position_count self.old }
         ensures none { self.new.reached ≡ 0 }
         ensures closed { (d j : ℕ) → j < position_count self.old → is_closed self.new d j

@@ -14,11 +14,11 @@ pub struct PositionSet {
 }
 
 impl PositionSet {
-    ghost use Rattle.pg_dots.specs.Inside.Positions.{is_among, room_of};
+    ghost use Rattle.pg_dots.specs.Inside.Positions.{is_among, positions_room};
 
     /// The set of all positions that have a bit in `width` numbers.
     pub(crate) fn full(alloc: Global, width: usize) -> Result<PositionSet, AllocError>
-        ensures room { IfOk result (λ all. room_of all ≡ 64 * width) }
+        ensures room { IfOk result (λ all. positions_room all ≡ 64 * width) }
         ensures among { IfOk result (λ all. (i : ℕ) → i < 64 * width → is_among all i ≡ true) }
     {
         let mut bits = vec![in alloc; u64::MAX; width]?;
@@ -28,8 +28,8 @@ impl PositionSet {
 
     /// Takes a position out.
     pub fn remove(&mut self, i: usize)
-        requires within { i < room_of self.old }
-        ensures room { room_of self.new ≡ room_of self.old }
+        requires within { i < positions_room self.old }
+        ensures room { positions_room self.new ≡ positions_room self.old }
         ensures among { (j : ℕ) → is_among self.new j ≡ (not (j == i) && is_among self.old j) }
     {
         clear(&mut self.bits, i);

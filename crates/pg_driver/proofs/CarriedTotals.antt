@@ -7,7 +7,7 @@ use Rattle.pg_select.proofs.LawsSums.{totals_small_within}
 use Rattle.pg_driver.specs.Accounts.{totals_by}
 use Rattle.pg_driver.specs.Inside.counting.Counting.{IsBounded}
 use Rattle.pg_driver.specs.Inside.counting.LevelCounting.{Carries}
-use Rattle.pg_driver.specs.Inside.records.Sound.{IsSmall}
+use Rattle.pg_driver.specs.Inside.records.SoundRecords.{IsSmall}
 use Rattle.pg_driver.specs.Traces.{Source}
 
 same_totals : (a b : Totals) → a.good ≡ b.good → a.bad ≡ b.bad → a.missed ≡ b.missed → a ≡ b

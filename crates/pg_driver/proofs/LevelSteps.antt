@@ -15,7 +15,7 @@ use Rattle.pg_driver.specs.Inside.records.AccountLines.{PassLine, left_none}
 use Rattle.pg_driver.specs.Dots.{dot_at}
 use Rattle.pg_driver.specs.Layouts.{after_pass}
 use Rattle.pg_driver.specs.Inside.level.Levels.{SkippableCountNothing, SkipFlags, GoesOn, IsPointAt, LevelStart, TellSkippable, all_made_by, is_set, layouts_in, point, no_flags}
-use Rattle.pg_driver.specs.Inside.records.Sound.{RunRecords, with_pass}
+use Rattle.pg_driver.specs.Inside.records.SoundRecords.{RunRecords, with_pass}
 use Rattle.pg_driver.specs.Inside.level.States.{DidPass, State, made_by, state_after, state_at_end, state_of}
 use Rattle.pg_driver.specs.Inside.records.RunAccounts.{known_of}
 use Rattle.pg_driver.specs.Traces.{Knowledge, PassTrace, Source, is_entered, known_after, pass_trace, pass_traces}

@@ -14,7 +14,7 @@ use Rattle.pg_select.specs.Inside.laws.Laws.{number_of_positions}
 use Rattle.pg_select.specs.CountedPositions.{Minima}
 use Rattle.pg_driver.specs.declared.pass_windows.WordPosition.{WordPosition}
 use Rattle.pg_driver.specs.Inside.counting.OpenPositions.{numbered_positions, open_with}
-use Rattle.pg_driver.specs.Inside.counting.OpenPositions.{IsPlaced}
+use Rattle.pg_driver.specs.Inside.counting.OpenPositions.{IsInWord}
 
 all_flat : {X Y : Type 0} (P : Y → Type 0) (Q : X → Type 0) (f : X → List Y) → ((x : X) → Q x → All P (f x)) → (xs : List X) → All Q xs → All P (flat_map f xs)
 all_flat P Q f each [] all = All-nil P
@@ -63,19 +63,19 @@ numbered_in m words n (w ∷ ws) place =
       within = λ v at. subst (λ (u : Word). p < length u.signs) (same w v (sym here ∙ at)) low;
     }
 
-placed_with : (words : List Word) (listed : ℕ → ℕ → Option Bool) (s : ℕ × ℕ) → IsNumbered words s → All (IsPlaced words) (open_with listed s)
+placed_with : (words : List Word) (listed : ℕ → ℕ → Option Bool) (s : ℕ × ℕ) → IsNumbered words s → All (IsInWord words) (open_with listed s)
 placed_with words listed s here_in = by_listed (listed s.0 s.1)
   where
-    by_listed : (o : Option Bool) → All (IsPlaced words) (option_map_or (λ (good : Bool). record { word = s.0; at = s.1 } ∷ []) o [])
-    by_listed None = All-nil (IsPlaced words)
-    by_listed (Some good) = All-cons (IsPlaced words) (record { word = s.0; at = s.1 }) [] (record { word = here_in.word; within = here_in.within }) (All-nil (IsPlaced words))
+    by_listed : (o : Option Bool) → All (IsInWord words) (option_map_or (λ (good : Bool). record { word = s.0; at = s.1 } ∷ []) o [])
+    by_listed None = All-nil (IsInWord words)
+    by_listed (Some good) = All-cons (IsInWord words) (record { word = s.0; at = s.1 }) [] (record { word = here_in.word; within = here_in.within }) (All-nil (IsInWord words))
 
 -- entries stand in the words
 pub entries_placed : (m : Minima) (words : List Word) (listed : ℕ → ℕ → Option Bool) (entries : List WordPosition) → entries
-    ≡ flat_map (open_with listed) (numbered_positions m 0 words) → All (IsPlaced words) entries
+    ≡ flat_map (open_with listed) (numbered_positions m 0 words) → All (IsInWord words) entries
 entries_placed m words listed entries are =
-    All-same (IsPlaced words) entries (flat_map (open_with listed) (numbered_positions m 0 words)) are
-    (all_flat (IsPlaced words) (IsNumbered words) (open_with listed) (placed_with words listed) (numbered_positions m 0 words)
+    All-same (IsInWord words) entries (flat_map (open_with listed) (numbered_positions m 0 words)) are
+    (all_flat (IsInWord words) (IsNumbered words) (open_with listed) (placed_with words listed) (numbered_positions m 0 words)
     (numbered_in m words 0 words (λ k w at. ap (slice_get words) (zero_plus k) ∙ at)))
   where
     zero_plus : (k : ℕ) → 0 + k ≡ k

@@ -22,13 +22,13 @@ use Rattle.pg_driver.specs.declared.counting.open_positions.OpenLevel.{OpenLevel
 use Rattle.pg_driver.specs.Accounts.{totals_by}
 use Rattle.pg_driver.specs.Inside.choices.Choosing.{no_choices, with_candidates}
 use Rattle.pg_driver.specs.Inside.counting.Counting.{HasRoom, IsBounded}
-use Rattle.pg_driver.specs.Inside.counting.LevelCounting.{ArePlaced, CanCarry, CanGoOn, Carries, GoesOnAfter, HasEnded, HasEndedOpen, IsAfterPass, IsCounted, IsOpenAt, IsReady, TellsTotals}
+use Rattle.pg_driver.specs.Inside.counting.LevelCounting.{AreInWords, CanCarry, CanGoOn, Carries, GoesOnAfter, HasEnded, HasEndedOpen, IsAfterPass, IsCounted, IsOpenAt, IsReady, TellsTotals}
 use Rattle.pg_dots.specs.Inside.Dots.{is_closed, position_count}
-use Rattle.pg_dots.specs.Inside.Positions.{is_among, room_of}
+use Rattle.pg_dots.specs.Inside.Positions.{is_among, positions_room}
 use Rattle.pg_dots.specs.declared.position_set.PositionSet.{PositionSet}
 use Rattle.pg_driver.specs.Inside.counting.OpenSigns.{AreNever, IsLevelAt, dot_of_no_pass, is_open_first, open_word_positions, open_signs, sign_count, start_of}
 use Rattle.pg_driver.specs.Inside.counting.OpenPositions.{counted_of}
-use Rattle.pg_driver.specs.Inside.records.Sound.{IsSmall}
+use Rattle.pg_driver.specs.Inside.records.SoundRecords.{IsSmall}
 use Rattle.pg_driver.specs.Inside.records.RunAccounts.{known_of}
 use Rattle.pg_driver.specs.Traces.{Knowledge, PassTrace, Source, chosen_in, known_after, pass_trace}
 use Rattle.pg_driver.proofs.CarriedTotals.{carried_same, carried_small, carried_within, totals_are_small}
@@ -45,7 +45,7 @@ use Rattle.pg_driver.proofs.WordLevels.{words_after, words_can_move, words_place
 pub ready_at_start : (source : Source) (level len : ℕ) (m : Meaning) (o : OpenLevel) → m.hopeless ≡ [] → IsBelow level m.patterns → IsBounded source
     → sign_count source.words ≤ position_count o.dots → ((d n p : ℕ) (w : Word) → slice_get source.words n ≡ Some w → p < length w.signs
     → is_closed o.dots d (start_of source.words n + p) ≡ not (is_open_first source.minima level m.patterns w p))
-    → room_of o.never ≡ position_count o.dots → AreNever source.minima source.words (is_among o.never)
+    → positions_room o.never ≡ position_count o.dots → AreNever source.minima source.words (is_among o.never)
     → o.totals ≡ totals_by source m.patterns → IsOpenAt source level len (known_of m) o
 ready_at_start source level len m o none below bounded size are room never totals = record {
   bounded = bounded;
@@ -83,7 +83,7 @@ module _ (source : Source) (level len : ℕ) (known : Knowledge) (o : OpenLevel)
     size = (let size = ready.size in omega arith);
     dots = there_longer level len source.minima source.words known.patterns known.hopeless (is_closed o.dots) (is_closed p.dots)
         (λ d s within low. are d s within (let size = ready.size in omega arith)) (λ s low. stay s (let size = ready.size in omega arith)) ready.dots;
-    room = ap room_of same ∙ ready.room ∙ sym wide;
+    room = ap positions_room same ∙ ready.room ∙ sym wide;
     never = subst (λ (s : PositionSet). AreNever source.minima source.words (is_among s)) (sym same) ready.never;
     totals = totals ∙ ready.totals;
   }
@@ -96,7 +96,7 @@ module _ (source : Source) (level len : ℕ) (known : Knowledge) (o : OpenLevel)
     size = (let size = ready.size in omega arith);
     dots = there_same level len source.minima source.words known.patterns known.hopeless (is_closed o.dots) (is_closed p.dots)
         (λ d s low. are d s (let size = ready.size in omega arith)) ready.dots;
-    room = ap room_of same ∙ ready.room ∙ sym wide;
+    room = ap positions_room same ∙ ready.room ∙ sym wide;
     never = subst (λ (s : PositionSet). AreNever source.minima source.words (is_among s)) (sym same) ready.never;
     totals = totals ∙ ready.totals;
   }
@@ -125,7 +125,7 @@ ready_next source level len m o p some none below ended wide turned same totals 
     turned d s (let size = ended.size in let inside = sign_within source.words n q w at low in omega arith)
     ∙ (λ i. not (ended.status n q w at low i) || ended.never n q w at low i)
     ∙ next_open source.minima level m.patterns w q some)
-    (ap room_of same ∙ ended.room ∙ sym wide)
+    (ap positions_room same ∙ ended.room ∙ sym wide)
     (subst (λ (s : PositionSet). AreNever source.minima source.words (is_among s)) (sym same) ended.never)
     (totals ∙ ended.totals)
 
@@ -143,7 +143,7 @@ counted_after params pass counts words n (Open o) (EachWord f) on counted = absu
 counted_after params pass counts words n (EachWord e) (Open p) on counted = absurd on
 counted_after params pass counts words n (EachWord e) (EachWord f) on counted = on.counted ∙ counted
 
-pub placed : (source : Source) (level len : ℕ) (known : Knowledge) (c : WayToCount) → IsCounted c → IsReady source level len known c → ArePlaced source.words c
+pub placed : (source : Source) (level len : ℕ) (known : Knowledge) (c : WayToCount) → IsCounted c → IsReady source level len known c → AreInWords source.words c
 placed source level len known (Open o) counted ready = ready.size
 placed source level len known (EachWord e) counted ready = words_placed source level known e counted ready
 
@@ -189,7 +189,7 @@ module _ (source : Source) (params : LevelParams) (known : Knowledge) (pass : Pa
       bounded = ready.bounded;
       size = (let size = ready.size in let wide = is.size in omega arith);
       dots = there_after params source.minima source.words pass known.patterns known.hopeless counts low counted (is_closed o.dots) (is_closed p.dots) is.dots ready.dots;
-      room = ap room_of is.never ∙ ready.room ∙ sym is.size;
+      room = ap positions_room is.never ∙ ready.room ∙ sym is.size;
       never = subst (λ (s : PositionSet). AreNever source.minima source.words (is_among s)) (sym is.never) ready.never;
       totals = carried_same (is_odd pass.level) o.totals p.totals (totals_by source (known_after made).patterns) n.good n.bad is.totals carries;
     }

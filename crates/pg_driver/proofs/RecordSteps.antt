@@ -10,7 +10,7 @@ use Rattle.pg_driver.specs.Accounts.{has_candidate}
 use Rattle.pg_driver.specs.Inside.records.AccountLines.{PassLine, begun_among, chosen_by, is_skippable, pass_line}
 use Rattle.pg_driver.specs.Layouts.{after_pass}
 use Rattle.pg_driver.specs.Inside.level.Levels.{AreRecorded, layouts_in}
-use Rattle.pg_driver.specs.Inside.records.Sound.{RunRecords, with_pass}
+use Rattle.pg_driver.specs.Inside.records.SoundRecords.{RunRecords, with_pass}
 use Rattle.pg_driver.specs.Inside.records.RunAccounts.{pass_record_layout, line_of}
 use Rattle.pg_driver.specs.Traces.{PassTrace, Source, chosen_in}
 use Rattle.pg_driver.specs.Inside.choices.Fates.{chosen_of}

@@ -16,7 +16,7 @@ use Rattle.pg_driver.specs.Accounts.{has_candidate, totals_by}
 use Rattle.pg_driver.specs.Inside.records.AccountLines.{account}
 use Rattle.pg_driver.specs.Inside.records.CellsAccounts.{cells_account, layout_of}
 use Rattle.pg_driver.specs.Inside.level.Levels.{DidRun, level_layouts, run_layouts}
-use Rattle.pg_driver.specs.Inside.records.Sound.{CompletedRun, RunRecords}
+use Rattle.pg_driver.specs.Inside.records.SoundRecords.{CompletedRun, RunRecords}
 use Rattle.pg_driver.specs.Inside.records.RunAccounts.{TellsCells, account_of, pass_record_layout, level_record_layout}
 use Rattle.pg_driver.specs.Traces.{LevelTrace, Source, Trace, final_patterns}
 

@@ -21,7 +21,7 @@ use Rattle.pg_driver.specs.Layouts.{after_pass, after_level, strings_in}
 use Rattle.pg_driver.specs.Inside.records.CellsAccounts.{layout_of, level_layout, levels_with_families, pass_layouts}
 use Rattle.pg_driver.specs.Inside.records.RunAccounts.{known_of, pass_record_layout, level_record_layout, level_line_of, line_of}
 use Rattle.pg_driver.specs.Inside.level.Levels.{AreRecorded, DidLevel, DidRun, all_made_by, layouts_in, level_layouts, run_layouts}
-use Rattle.pg_driver.specs.Inside.records.Sound.{RunRecords, with_level}
+use Rattle.pg_driver.specs.Inside.records.SoundRecords.{RunRecords, with_level}
 use Rattle.pg_driver.specs.Inside.level.States.{State, state_at_end, state_of}
 use Rattle.pg_driver.specs.Traces.{Knowledge, LevelTrace, PassTrace, Source, Trace, at_start, final_patterns, level_trace, level_traces, pass_traces, passes_of, patterns_after}
 use Rattle.pg_driver.specs.Inside.level.Passes.{known_at_end}

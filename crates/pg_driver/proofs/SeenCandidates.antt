@@ -6,23 +6,23 @@ use Rattle.std.proofs.lemmas.Option.{get_or_from_slice_get, slice_get-get_or, sl
 use Rattle.pg_types.specs.Inside.counting.NumberedWindows.{Windows}
 use Rattle.pg_select.specs.declared.choice.Choice.{Choice}
 use Rattle.pg_driver.specs.declared.choices.look_ahead.SeenCandidate.{SeenCandidate}
-use Rattle.pg_driver.specs.Inside.choices.LookAhead.{IsSeen, AreSeen}
+use Rattle.pg_driver.specs.Inside.choices.LookAhead.{IsReadAhead, AreSeen}
 use Rattle.pg_driver.proofs.NumberSteps.{get_back, get_last}
 
 -- each of these candidates is as its number says
 abbrev pub EachSeen : List Choice → Windows → List ℕ → List SeenCandidate → Type 0
-EachSeen fates ws numbers seen = (k n : ℕ) (c : SeenCandidate) → slice_get numbers k ≡ Some n → slice_get seen k ≡ Some c → IsSeen fates ws n c
+EachSeen fates ws numbers seen = (k n : ℕ) (c : SeenCandidate) → slice_get numbers k ≡ Some n → slice_get seen k ≡ Some c → IsReadAhead fates ws n c
 
 -- one candidate more
 pub seen_more : (fates : List Choice) (ws : Windows) (numbers : List ℕ) (seen : List SeenCandidate) (e : SeenCandidate) (n : ℕ) → slice_get numbers (length seen) ≡ Some n
-    → IsSeen fates ws n e → EachSeen fates ws numbers seen → EachSeen fates ws numbers (seen ++ e ∷ [])
+    → IsReadAhead fates ws n e → EachSeen fates ws numbers seen → EachSeen fates ws numbers (seen ++ e ∷ [])
 seen_more fates ws numbers seen e n here is each = λ k m c at there. elim (cases_lt k (length seen)) [
   | inl lt ↦ each k m c at (get_back seen e k c lt there)
   | inr le ↦
       let last = get_last seen e k c there (λ lt. omega arith) in
       let both : Some m ≡ Some n = sym at ∙ ap (slice_get numbers) last.1 ∙ here in
       let same : m ≡ n = cc in
-      subst (λ j. IsSeen fates ws j c) (sym same) (subst (IsSeen fates ws n) (sym last.0) is)
+      subst (λ j. IsReadAhead fates ws j c) (sym same) (subst (IsReadAhead fates ws n) (sym last.0) is)
 ]
 
 -- the candidates of a part of the order
@@ -49,7 +49,7 @@ none_seen fates ws order seen none = record {
 
 -- the candidate with an index of the order
 pub seen_at : (fates : List Choice) (ws : Windows) (order : List ℕ) (from : ℕ) (seen : List SeenCandidate) → AreSeen fates ws order from seen → (k : ℕ) (c : SeenCandidate) → from ≤ k
-    → k < from + length seen → k < length order → c ≡ get_or seen (k - from) c → IsSeen fates ws (get_or order k 0) c
+    → k < from + length seen → k < length order → c ≡ get_or seen (k - from) c → IsReadAhead fates ws (get_or order k 0) c
 seen_at fates ws order from seen are k c low high within read =
     let back : from + (k - from) ≡ k = omega arith in
     are.each (k - from) (get_or order k 0) c (ap (slice_get order) back ∙ slice_get-get_or order k 0 within)

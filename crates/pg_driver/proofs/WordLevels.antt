@@ -13,7 +13,7 @@ use Rattle.pg_dict.specs.Inside.SoundWords.{letter_count}
 use Rattle.pg_select.specs.declared.pass.Pass.{Pass}
 use Rattle.pg_select.specs.Inside.Choices.{choice}
 use Rattle.pg_select.specs.CountedPositions.{Minima, CountedPosition, Candidate, counted_positions, counts_as, good_of, bad_of}
-use Rattle.pg_select.specs.Inside.laws.Above.{above_at, above_positions, bad_above, counts_above, good_above, MovesAllBut}
+use Rattle.pg_select.specs.Inside.laws.AboveLevel.{above_at, above_positions, bad_above, counts_above, good_above, MovesAllBut}
 use Rattle.pg_select.specs.Inside.laws.ClosedDots.{is_good}
 use Rattle.pg_select.specs.Inside.laws.Steps.{candidate_at, bad_raised, good_raised, is_candidate}
 use Rattle.pg_select.specs.Inside.engine.Meanings.{with_position}
@@ -31,8 +31,8 @@ use Rattle.pg_driver.specs.Accounts.{totals_by}
 use Rattle.pg_driver.specs.Inside.counting.Counting.{IsBounded}
 use Rattle.pg_driver.specs.Inside.counting.LevelCounting.{CanMove, Carries, IsAfterWords}
 use Rattle.pg_driver.specs.Inside.counting.OpenLevels.{listed_from, listed_in, open_as}
-use Rattle.pg_driver.specs.Inside.counting.OpenPositions.{IsPlaced, counted_in, counted_of, open_with}
-use Rattle.pg_driver.specs.Inside.records.Sound.{IsSmall}
+use Rattle.pg_driver.specs.Inside.counting.OpenPositions.{IsInWord, counted_in, counted_of, open_with}
+use Rattle.pg_driver.specs.Inside.records.SoundRecords.{IsSmall}
 use Rattle.pg_driver.specs.Traces.{Knowledge, PassTrace, Source, chosen_in, is_chosen, known_after, pass_trace}
 use Rattle.pg_driver.specs.Inside.choices.Fates.{chooses}
 use Rattle.pg_driver.proofs.FateLaws.{chosen_is as chosen_by_fate}
@@ -86,7 +86,7 @@ words_counted source level known e f is counted more totals bounded = record {
 
 -- listed positions stand in the words, and are no more than letters
 pub words_placed : (source : Source) (level : ℕ) (known : Knowledge) (e : WordLevel) → e.is_counted ≡ true → IsWordsAt source level known e
-    → All (IsPlaced source.words) e.above.items × (length e.above.items ≤ FILE_MAX)
+    → All (IsInWord source.words) e.above.items × (length e.above.items ≤ FILE_MAX)
 words_placed source level known e begun is =
     let are : e.above.items ≡ flat_map (open_with (start_at source.minima source.words (listing e.is_counted level known.patterns))) _ = is.above
     ∙ listed_are source.minima source.words (listing e.is_counted level known.patterns) in

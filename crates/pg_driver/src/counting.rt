@@ -4,7 +4,7 @@ ghost use Rattle.pg_types.specs.Inside.counting.NumberedWindows.{AreNumbered};
 ghost use Rattle.pg_dict.specs.Inside.SoundWords.{SignsAtMost};
 ghost use Rattle.pg_select.specs.Inside.laws.Steps.{IsBelow};
 ghost use Rattle.pg_driver.specs.declared.pass_windows.TheConstants.{NO_NUMBER};
-ghost use Rattle.pg_driver.specs.Inside.counting.LevelCounting.{AreNumberedIn, ArePlaced, CanGoOn, DidCount, GoesOnAfter, HasEnded, IsCounted, IsOverOpen, IsReady, totals_carried};
+ghost use Rattle.pg_driver.specs.Inside.counting.LevelCounting.{AreNumberedIn, AreInWords, CanGoOn, DidCount, GoesOnAfter, HasEnded, IsCounted, IsOverOpen, IsReady, totals_carried};
 ghost use Rattle.pg_driver.specs.Inside.level.PassWindows.{AreFates};
 ghost use Rattle.pg_driver.specs.Inside.level.States.{HasBegun, IsPass};
 ghost use Rattle.pg_driver.specs.Inside.records.RunAccounts.{known_of};
@@ -13,9 +13,9 @@ ghost use Rattle.pg_patterns.specs.Values.{Patterns};
 
 mod above_positions;
 mod carried_totals;
-mod marks;
 mod open_passes;
 mod open_positions;
+mod positions;
 mod word_level;
 mod words;
 
@@ -142,7 +142,7 @@ impl WayToCount {
         requires ranges { IsPass pass }
         requires numbered { AreNumbered (E.meaning engine.now).windows
             (E.meaning engine.now).counts }
-        requires placed { ArePlaced dictionary.now self.old }
+        requires placed { AreInWords dictionary.now self.old }
         requires fates { AreFates params.now (E.meaning engine.now).counts
             (E.meaning engine.now).windows
             windows.now.fates.items }

@@ -7,7 +7,7 @@ ghost use Rattle.pg_select.specs.Inside.laws.Steps.{IsBelow};
 ghost use Rattle.pg_driver.specs.Accounts.{totals_by};
 ghost use Rattle.pg_driver.specs.Inside.counting.LevelCounting.{HasEnded, IsCounted, IsReady, TellsTotals};
 ghost use Rattle.pg_driver.specs.Inside.level.Levels.{AreRecorded, BeganAll, DidLevel, GoesOn, WillCount, all_made_by, point};
-ghost use Rattle.pg_driver.specs.Inside.records.Sound.{IsSmall, IsSoundPass};
+ghost use Rattle.pg_driver.specs.Inside.records.SoundRecords.{IsSmall, IsSoundPass};
 ghost use Rattle.pg_types.specs.Inside.Limits.{begun_before_pass, length_passes, level_passes};
 ghost use Rattle.pg_driver.specs.Inside.level.States.{DidPass, IsPass, made_by, state_of, state_at_end};
 ghost use Rattle.pg_driver.specs.Inside.records.RunAccounts.{known_of};

@@ -5,7 +5,7 @@ ghost use Rattle.pg_dict.specs.Inside.SoundWords.{SignsAtMost};
 ghost use Rattle.pg_patterns.specs.Inside.PatternMaps.{SignsUpTo};
 ghost use Rattle.pg_driver.specs.Accounts.{totals_by};
 ghost use Rattle.pg_driver.specs.Inside.level.Levels.{DidRun};
-ghost use Rattle.pg_driver.specs.Inside.records.Sound.{IsSmall};
+ghost use Rattle.pg_driver.specs.Inside.records.SoundRecords.{IsSmall};
 ghost use Rattle.pg_types.specs.Inside.Limits.{begun_before_run, level_passes};
 ghost use Rattle.pg_driver.specs.Inside.records.RunAccounts.{TellsCells, account_from, account_of, begun_from, cells_from, families_from, patterns_from, run_from};
 ghost use Rattle.pg_driver.specs.Traces.{source_of};

@@ -19,6 +19,9 @@ pub const NO_NUMBER: u32 = NUMBERS_END;
 /// Memory for so many numbers is never given back: a smaller list would only grow anew.
 const NUMBERS_AT_LEAST: usize = 1 << 15;
 
+/// A list of numbers that takes less than this part of its memory gives some of it back.
+const USED_PART: usize = 4;
+
 /// A position of a word.
 #[derive(Clone, Copy)]
 pub struct WordPosition {
@@ -67,7 +70,7 @@ impl PassWindows {
     {
         let used = self.numbers.len();
         self.numbers.clear();
-        if used < self.numbers.capacity() / 4 {
+        if used < self.numbers.capacity() / USED_PART {
             self.numbers.shrink_to(NUMBERS_AT_LEAST.max(2 * used));
         }
     }

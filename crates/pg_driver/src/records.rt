@@ -31,7 +31,7 @@ pub struct PassRecord {
 
 impl PassRecord {
     ghost use Rattle.std.specs.Prelude.{◌≡◌, ◌+◌, ◌==◌};
-    ghost use Rattle.pg_driver.specs.Inside.records.Sound.{IsSoundPass};
+    ghost use Rattle.pg_driver.specs.Inside.records.SoundRecords.{IsSoundPass};
 
     /// Whether the pass left no candidate: each of them is chosen or hopeless.
     pub(crate) fn left_none(&self) -> bool
@@ -66,7 +66,7 @@ pub struct Records {
 
 impl Model for Records {
     ghost use Rattle.std.specs.Prelude.{All};
-    ghost use Rattle.pg_driver.specs.Inside.records.Sound.{RunRecords, IsSoundPass, IsSoundLevel};
+    ghost use Rattle.pg_driver.specs.Inside.records.SoundRecords.{RunRecords, IsSoundPass, IsSoundLevel};
 
     ghost Value = { RunRecords };
 
@@ -82,7 +82,7 @@ impl Model for Records {
 
 impl Records {
     ghost use Rattle.std.specs.Prelude.{◌≡◌, ◌+◌, ◌<◌, ◌^◌, [], All, OnOk};
-    ghost use Rattle.pg_driver.specs.Inside.records.Sound.{RunRecords, IsSmall, IsSoundPass, IsSoundLevel, with_pass, with_level};
+    ghost use Rattle.pg_driver.specs.Inside.records.SoundRecords.{RunRecords, IsSmall, IsSoundPass, IsSoundLevel, with_pass, with_level};
 
     /// No record. It takes no memory.
     pub fn new(alloc: Global) -> Records

@@ -18,7 +18,7 @@ pub struct Run {
 
 impl Model for Run {
     ghost use Rattle.std.specs.Prelude.{All};
-    ghost use Rattle.pg_driver.specs.Inside.records.Sound.{CompletedRun, IsSmall, IsSoundPass, IsSoundLevel};
+    ghost use Rattle.pg_driver.specs.Inside.records.SoundRecords.{CompletedRun, IsSmall, IsSoundPass, IsSoundLevel};
 
     ghost Value = { CompletedRun };
 
@@ -36,7 +36,7 @@ impl Model for Run {
 
 impl Run {
     ghost use Rattle.std.specs.Prelude.{◌≡◌, All};
-    ghost use Rattle.pg_driver.specs.Inside.records.Sound.{IsSmall, IsSoundPass, IsSoundLevel};
+    ghost use Rattle.pg_driver.specs.Inside.records.SoundRecords.{IsSmall, IsSoundPass, IsSoundLevel};
 
     /// The run with these patterns, records, totals and first layout.
     pub(crate) fn new(

@@ -2,10 +2,10 @@
 ghost use Rattle.std.specs.Prelude.{◌≡◌};
 ghost use Rattle.pg_types.specs.Inside.Signs.{SignsWithin};
 ghost use Rattle.pg_dict.specs.Inside.SoundWords.{IsWord, SignsAtMost, letter_count};
-ghost use Rattle.pg_dict.specs.Inside.Lent.{lent_word};
+ghost use Rattle.pg_dict.specs.Inside.LentWords.{lent_word};
 ghost use Rattle.pg_select.specs.Sums.{totals as totals_of_words, marks_in};
 ghost use Rattle.pg_select.specs.Inside.SumSteps.{with_marks, HasRoomFor, TookRoomFor};
-ghost use Rattle.pg_driver.specs.Inside.records.Sound.{IsSmall};
+ghost use Rattle.pg_driver.specs.Inside.records.SoundRecords.{IsSmall};
 ghost use Rattle.pg_select.specs.CountedPositions.{minima_of};
 
 use pg_dict::{Dictionary, WordRef};

@@ -7,7 +7,7 @@ use Rattle.pg_types.specs.declared.limits.TheConstants.{LEVEL_MAX, WORD_LETTERS_
 use Rattle.pg_patterns.specs.Values.{applies, value_at}
 use Rattle.pg_patterns.specs.Inside.PatternMaps.{is_entry}
 use Rattle.pg_select.specs.Windows.{window, fits, is_covered}
-use Rattle.pg_select.specs.Inside.words.Within.{is_within}
+use Rattle.pg_select.specs.Inside.words.WindowStrings.{is_within}
 use Rattle.pg_trie.specs.declared.hopeless.TheConstants.{HOPELESS}
 use Rattle.pg_trie.specs.Inside.Lists.{outputs_at}
 use Rattle.pg_trie.specs.Inside.Maps.{Maps, AreMaps, is_dotted}

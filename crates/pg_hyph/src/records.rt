@@ -3,7 +3,7 @@ ghost use Rattle.std.specs.Prelude.{◌≡◌, ◌+◌, ◌≤◌, ◌&&◌, nat
 ghost use Rattle.pg_types.specs.declared.limits.TheConstants.{WORD_LETTERS_MAX};
 ghost use Rattle.pg_outputs.specs.Lists.{list_of};
 ghost use Rattle.pg_select.specs.Inside.words.Positions.{RaisesValues, RaisesCovers, RaisesAt, values_of, covers_of};
-ghost use Rattle.pg_select.specs.Inside.words.Within.{is_within};
+ghost use Rattle.pg_select.specs.Inside.words.WindowStrings.{is_within};
 ghost use Rattle.pg_hyph.specs.Inside.ListValues.{pattern_value, value_by, cover_by};
 ghost use Rattle.pg_hyph.specs.Inside.Walks.{by_list};
 

@@ -6,7 +6,7 @@ use Rattle.pg_steps.specs.Moments.{Moment}
 use Rattle.pg_steps.specs.Statuses.{code_of}
 use Rattle.pg_top.specs.WholeCalls.{IsRun}
 use Rattle.pg_steps.specs.declared.answers.Status.{Status}
-use Rattle.pg_main.specs.Given.{code_of_none}
+use Rattle.pg_main.specs.ProgramArguments.{code_of_none}
 use Rattle.pg_main.specs.declared.NoArguments.{NoArguments}
 
 -- the status is that of an answer of a call on exactly these arguments

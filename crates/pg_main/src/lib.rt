@@ -4,7 +4,7 @@
 
 ghost use Rattle.std.specs.Prelude.{◌≡◌, ◌≤◌, ◌⊎◌, IfOk, IfErr, MatchResult};
 ghost use Rattle.std.specs.Process.{exit_status};
-ghost use Rattle.pg_main.specs.Given.{arguments_in, IsReasonOf};
+ghost use Rattle.pg_main.specs.ProgramArguments.{arguments_in, IsReasonOf};
 ghost use Rattle.pg_main.specs.Statuses.{IsCodeOfRun, IsCodeOfNone};
 
 mod listen;

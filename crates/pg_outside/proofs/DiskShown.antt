@@ -15,7 +15,7 @@ use Rattle.pg_outside.specs.Inside.ToldFiles.{IsFile, IsFileCut, IsTooLong, WasW
 use Rattle.pg_outside.specs.Inside.disk.Disks.{Node, Disk, DiskHistory, Links, KeepsDisk, HoldsNow, HasNoLinks, KnowsPlain, id_at, node_at, node_of}
 use Rattle.pg_outside.specs.Inside.disk.Moments.{RunsCalls, IsWritten, IsSame, HasRest}
 use Rattle.pg_outside.specs.Inside.disk.Writes.{IsPlain, IsContent, IsContentCut, AfterWrite, AfterFailure, mode_at}
-use Rattle.pg_outside.specs.Inside.disk.WhatDiskShows.{bytes_of, file_map, has_none, tells_files, held_of}
+use Rattle.pg_outside.specs.Inside.disk.WhatDiskShows.{bytes_of, disk_map, has_none, tells_files, held_of}
 use Rattle.pg_outside.specs.declared.disk.system.FileId.{FileId}
 use Rattle.pg_outside.proofs.WhereTold.{keeps_same}
 
@@ -23,13 +23,13 @@ find_map : (g : FileId → List ℕ) (es : List (List ℕ × FileId)) (q : List 
 find_map g [] q = refl
 find_map g (e ∷ es) q = grind (arith, common_steps, find_map g es q)
 
-get_map : (d : Disk) (q : List ℕ) → fin.get (file_map d) q ≡ option_map (λ n. bytes_of (d.files n)) (fin.get d.names q)
+get_map : (d : Disk) (q : List ℕ) → fin.get (disk_map d) q ≡ option_map (λ n. bytes_of (d.files n)) (fin.get d.names q)
 get_map d q = fin.get-from_entries nat_list_cmp_total (map (λ e. (e.0, bytes_of (d.files e.1))) (fin.entries d.names)) q
     ∙ find_map (λ n. bytes_of (d.files n)) (fin.entries d.names) q
     ∙ ap (λ (o : Option FileId). option_map (λ n. bytes_of (d.files n)) o) (sym (fin.get-entries d.names q))
 
 -- the bytes of a name are those of the file that it leads to
-pub held_node : (d : Disk) (q : List ℕ) → HasNoLinks d → fin.get (file_map d) q ≡ option_map (λ node. node.bytes) (node_at d q)
+pub held_node : (d : Disk) (q : List ℕ) → HasNoLinks d → fin.get (disk_map d) q ≡ option_map (λ node. node.bytes) (node_at d q)
 held_node d q none = get_map d q ∙ ap (λ (r : List ℕ). option_map (λ n. bytes_of (d.files n)) (fin.get d.names r)) (sym (none.real q)) ∙ by_id (id_at d q) refl
   where
     by_node : (o : Option Node) (node : Node) → o ≡ Some node → Some (bytes_of o) ≡ option_map (λ node. node.bytes) o
@@ -72,17 +72,17 @@ not_inserted m name bytes q apart = get_insert m name bytes q ∙ by_test (bytes
 one_real : (d : Disk) (p q : List ℕ) → HasNoLinks d → d.links.real p ≡ d.links.real q → p ≡ q
 one_real d p q none one = sym (none.real p) ∙ one ∙ none.real q
 
-written_map : (name bytes : List ℕ) (mode : Option ℕ) (n : FileId) (a b : Disk) → HasNoLinks a → HasNoLinks b → IsWritten name bytes mode n a b → file_map b ≡ fin.insert (file_map a) name bytes
-written_map name bytes mode n a b no_a no_b w = same_maps (file_map b) (fin.insert (file_map a) name bytes)
+written_map : (name bytes : List ℕ) (mode : Option ℕ) (n : FileId) (a b : Disk) → HasNoLinks a → HasNoLinks b → IsWritten name bytes mode n a b → disk_map b ≡ fin.insert (disk_map a) name bytes
+written_map name bytes mode n a b no_a no_b w = same_maps (disk_map b) (fin.insert (disk_map a) name bytes)
     (λ q. held_node b q no_b ∙ ⊎_elim
     (λ (is : q ≡ name). ap (λ (r : List ℕ). option_map (λ node. node.bytes) (node_at b r)) is ∙ ap (λ (o : Option Node). option_map (λ node. node.bytes) o) w.whole.there
-    ∙ ap (λ (l : List ℕ). Some l) w.whole.bytes ∙ sym (inserted (file_map a) name bytes q is))
+    ∙ ap (λ (l : List ℕ). Some l) w.whole.bytes ∙ sym (inserted (disk_map a) name bytes q is))
     (λ apart. ap (λ (o : Option Node). option_map (λ node. node.bytes) o) (w.others q (λ one. apart (one_real a q name no_a one))).1 ∙ sym (held_node a q no_a)
-    ∙ sym (not_inserted (file_map a) name bytes q apart))
+    ∙ sym (not_inserted (disk_map a) name bytes q apart))
     (apart_or_one q name))
 
-same_map_of : (a b : Disk) → HasNoLinks a → HasNoLinks b → IsSame a b → file_map b ≡ file_map a
-same_map_of a b no_a no_b same = same_maps (file_map b) (file_map a) (λ q. held_node b q no_b ∙ ap (λ (o : Option Node). option_map (λ node. node.bytes) o) (same.names q).1 ∙ sym (held_node a q no_a))
+same_map_of : (a b : Disk) → HasNoLinks a → HasNoLinks b → IsSame a b → disk_map b ≡ disk_map a
+same_map_of a b no_a no_b same = same_maps (disk_map b) (disk_map a) (λ q. held_node b q no_b ∙ ap (λ (o : Option Node). option_map (λ node. node.bytes) o) (same.names q).1 ∙ sym (held_node a q no_a))
 
 shown_plain : (b c : Bool) → (b && c) ≡ true → b ≡ true
 shown_plain true c e = refl
@@ -115,7 +115,7 @@ not_shown d name names is = ap (λ (l : List (List ℕ)). d.links.is_plain && ha
     and_false false = refl
 
 written_shown : (name bytes : List ℕ) (before kept : List FileId) (a b : Disk) → KnowsPlain a → KnowsPlain b → AfterWrite name bytes before kept a b
-    → tells_files b ≡ true → (tells_files a ≡ true) × (file_map b ≡ fin.insert (file_map a) name bytes)
+    → tells_files b ≡ true → (tells_files a ≡ true) × (disk_map b ≡ fin.insert (disk_map a) name bytes)
 written_shown name bytes before kept a b ka kb after shown =
     let plain = links_plain a b after.links shown in
     let no_a = ka plain.1 in
@@ -126,10 +126,10 @@ pub written_held : (P : Disk → Disk → Type 0) (name bytes : List ℕ) (befor
     → RunsCalls a b P (AfterWrite name bytes before kept) → WasWritten (held_of a) (held_of b) name bytes
 written_held P name bytes before kept a None ka kb run = tt
 written_held P name bytes before kept None (Some b) ka kb run = absurd run
-written_held P name bytes before kept (Some a) (Some b) ka kb run = was_written (tells_files a.now) (tells_files b.now) name bytes (file_map a.now) (file_map b.now)
+written_held P name bytes before kept (Some a) (Some b) ka kb run = was_written (tells_files a.now) (tells_files b.now) name bytes (disk_map a.now) (disk_map b.now)
     (written_shown name bytes before kept a.now b.now ka kb run.end)
 
-failed_shown : (name bytes : List ℕ) (a b : Disk) → KnowsPlain a → KnowsPlain b → AfterFailure name bytes a b → tells_files b ≡ true → (tells_files a ≡ true) × (file_map b ≡ file_map a)
+failed_shown : (name bytes : List ℕ) (a b : Disk) → KnowsPlain a → KnowsPlain b → AfterFailure name bytes a b → tells_files b ≡ true → (tells_files a ≡ true) × (disk_map b ≡ disk_map a)
 failed_shown name bytes a b ka kb after shown =
     let plain = links_plain a b after.links shown in
     let no_a = ka plain.1 in
@@ -142,7 +142,7 @@ pub failed_held : (P : Disk → Disk → Type 0) (name bytes : List ℕ) (a b : 
     → WasPartWritten (held_of a) (held_of b) name bytes
 failed_held P name bytes a None ka kb run = tt
 failed_held P name bytes None (Some b) ka kb run = absurd run
-failed_held P name bytes (Some a) (Some b) ka kb run = was_part (tells_files a.now) (tells_files b.now) name bytes (file_map a.now) (file_map b.now) (failed_shown name bytes a.now b.now ka kb run.end)
+failed_held P name bytes (Some a) (Some b) ka kb run = was_part (tells_files a.now) (tells_files b.now) name bytes (disk_map a.now) (disk_map b.now) (failed_shown name bytes a.now b.now ka kb run.end)
 
 pub keeps_held : (a b : Option DiskHistory) → KeepsDisk a b → KeepsHeld (held_of a) (held_of b)
 keeps_held a None ab = tt
@@ -154,7 +154,7 @@ file_where false m name bytes is = tt
 
 pub read_held : (name bytes : List ℕ) (a : Option DiskHistory) → HoldsNow a KnowsPlain → HoldsNow a (IsContent name bytes) → IsFile (held_of a) name bytes
 read_held name bytes None ka content = tt
-read_held name bytes (Some a) ka content = file_where (tells_files a.now) (file_map a.now) name bytes (λ shown.
+read_held name bytes (Some a) ka content = file_where (tells_files a.now) (disk_map a.now) name bytes (λ shown.
     held_node a.now name (ka (shown_plain a.now.links.is_plain (has_none a.now.refused) shown)) ∙ ap (λ (o : Option Node). option_map (λ node. node.bytes) o) content.there
     ∙ ap (λ (l : List ℕ). Some l) (sym content.all))
 
@@ -164,7 +164,7 @@ cut_where false m name limit front is = tt
 
 pub cut_held : (name : List ℕ) (limit : ℕ) (front : List ℕ) (a : Option DiskHistory) → HoldsNow a KnowsPlain → HoldsNow a (IsContentCut name limit front) → IsFileCut (held_of a) name limit front
 cut_held name limit front None ka content = tt
-cut_held name limit front (Some a) ka content = cut_where (tells_files a.now) (file_map a.now) name limit front (λ shown.
+cut_held name limit front (Some a) ka content = cut_where (tells_files a.now) (disk_map a.now) name limit front (λ shown.
     subst (λ (o : Option (List ℕ)). IsTooLong o limit front)
     (sym (held_node a.now name (ka (shown_plain a.now.links.is_plain (has_none a.now.refused) shown)) ∙ ap (λ (o : Option Node). option_map (λ node. node.bytes) o) content.there))
     (content.longer, content.front))

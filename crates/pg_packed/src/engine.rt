@@ -38,7 +38,7 @@ impl PackedEngine {
     ghost use Rattle.std.specs.Prelude.{◌≡◌, ◌≤◌, IfOk};
     ghost use Rattle.pg_patterns.specs.Inside.PatternMaps.{SignsUpTo};
     ghost use Rattle.pg_select.specs.Inside.engine.Meanings.{new_engine};
-    ghost use Rattle.pg_packed.specs.Inside.Engines.{meaning_of};
+    ghost use Rattle.pg_packed.specs.Inside.Engines.{packed_meaning};
     ghost use Rattle.pg_packed.specs.Inside.Starts.{pattern_families};
 
     /// An engine with the greatest sign `signs` whose patterns are those of `start`. Nothing is
@@ -47,7 +47,7 @@ impl PackedEngine {
     pub fn new(alloc: Global, signs: u16, start: &PatternSet) -> Result<PackedEngine, AllocError>
         requires signs { IsSignCount signs }
         requires known { SignsUpTo signs start.now }
-        ensures { IfOk result (λ engine. meaning_of engine
+        ensures { IfOk result (λ engine. packed_meaning engine
             ≡ new_engine signs start.now (Some (pattern_families signs start.now))) }
     {
         Ok(PackedEngine {
@@ -65,9 +65,9 @@ impl PackedEngine {
 }
 
 impl Engine for PackedEngine {
-    ghost use Rattle.pg_packed.specs.Inside.Engines.{meaning_of};
+    ghost use Rattle.pg_packed.specs.Inside.Engines.{packed_meaning};
 
-    ghost meaning = { meaning_of };
+    ghost meaning = { packed_meaning };
 
     fn kept(&self) {
         let _len = self.counts.window_len();

@@ -10,9 +10,9 @@ use Rattle.pg_patterns.specs.Inside.PatternMaps.{is_entry}
 use Rattle.pg_select.specs.Windows.{Hopeless, window, fits, is_covered}
 use Rattle.pg_plain.specs.Inside.Strings.{is_string}
 use Rattle.pg_select.specs.Inside.words.Positions.{bit}
-use Rattle.pg_select.specs.Inside.words.Within.{is_within}
+use Rattle.pg_select.specs.Inside.words.WindowStrings.{is_within}
 use Rattle.pg_select.proofs.Bits.{same_bits}
-use Rattle.pg_plain.specs.Inside.Greatest.{greatest}
+use Rattle.pg_plain.specs.Inside.Greatest.{greatest_by}
 use Rattle.pg_types.proofs.BoolFacts.{and_first, and_second, all_weaker}
 use Rattle.std.specs.Cmp.{both_ways}
 
@@ -94,7 +94,7 @@ bit_or false b false = refl
 
 -- whether an entry passes, as the greatest of the bits
 any_bit : {X : Type 0} (g h : (List ℕ × ℕ) × X → Bool) (t : List ℕ × ℕ → Bool) (es : List ((List ℕ × ℕ) × X)) → ((e : (List ℕ × ℕ) × X) → g e ≡ (t e.0 && h e))
-    → bit (list_any g es) ≡ greatest (λ e. bit (h e)) t es
+    → bit (list_any g es) ≡ greatest_by (λ e. bit (h e)) t es
 any_bit g h t [] same = refl
 any_bit g h t (e ∷ es) same =
     ap (λ b. bit (b || list_any g es)) (same e) ∙ bit_or (t e.0) (h e) (list_any g es) ∙ ap (λ n. max (cond (t e.0) (bit (h e)) 0) n) (any_bit g h t es same)
@@ -111,13 +111,13 @@ joined_bits true false x y z p q r = omega arith
 joined_bits false true x y z p q r = omega arith
 joined_bits false false x y z p q r = omega arith
 
-best_greatest : (t : List ℕ × ℕ → Bool) (P : Patterns) → greatest (λ e. e.1) t P ≡ greatest_value t P
+best_greatest : (t : List ℕ × ℕ → Bool) (P : Patterns) → greatest_by (λ e. e.1) t P ≡ greatest_value t P
 best_greatest t [] = refl
 best_greatest t (e ∷ es) = ap (λ n. max (cond (t e.0) e.1 0) n) (best_greatest t es)
 
-none_given : {X : Type 0} (t : List ℕ × ℕ → Bool) (es : List ((List ℕ × ℕ) × X)) → greatest (λ e. 0) t es ≡ 0
+none_given : {X : Type 0} (t : List ℕ × ℕ → Bool) (es : List ((List ℕ × ℕ) × X)) → greatest_by (λ e. 0) t es ≡ 0
 none_given t [] = refl
-none_given t (e ∷ es) = let rest : greatest (λ e. 0) t es ≡ 0 = none_given t es in ap (λ n. max (cond (t e.0) 0 0) n) rest ∙ nothing (t e.0)
+none_given t (e ∷ es) = let rest : greatest_by (λ e. 0) t es ≡ 0 = none_given t es in ap (λ n. max (cond (t e.0) 0 0) n) rest ∙ nothing (t e.0)
   where
     nothing : (b : Bool) → max (cond b 0 0) 0 ≡ 0
     nothing true = refl
@@ -134,26 +134,26 @@ start_cover covers p is inside = ap (λ x. bit (get_or x p false)) is ∙ ap bit
 
 -- the values of a word: those of the patterns, and hopeless dotted strings give none
 pub values_end : (P : Patterns) (H : Hopeless) (w x y z : List ℕ) → length w ≤ WORD_LETTERS_MAX + 2 → x ≡ replicate (WORD_LETTERS_MAX + 2) 0
-    → ((p : ℕ) → p < WORD_LETTERS_MAX + 2 → get_or y p 0 ≡ max (get_or x p 0) (greatest (λ e. e.1) (applies w p) P))
-    → ((p : ℕ) → p < WORD_LETTERS_MAX + 2 → get_or z p 0 ≡ max (get_or y p 0) (greatest (λ e. 0) (applies w p) H))
+    → ((p : ℕ) → p < WORD_LETTERS_MAX + 2 → get_or y p 0 ≡ max (get_or x p 0) (greatest_by (λ e. e.1) (applies w p) P))
+    → ((p : ℕ) → p < WORD_LETTERS_MAX + 2 → get_or z p 0 ≡ max (get_or y p 0) (greatest_by (λ e. 0) (applies w p) H))
     → (p : ℕ) → p < length w → get_or z p 0 ≡ value_at P w p
 values_end P H w x y z long start first second p inside =
     let room : p < WORD_LETTERS_MAX + 2 = omega arith in
-    raised_value (get_or x p 0) (get_or y p 0) (get_or z p 0) (greatest (λ e. e.1) (applies w p) P) (greatest (λ e. 0) (applies w p) H) (value_at P w p)
+    raised_value (get_or x p 0) (get_or y p 0) (get_or z p 0) (greatest_by (λ e. e.1) (applies w p) P) (greatest_by (λ e. 0) (applies w p) H) (value_at P w p)
     (start_value x p start room) (best_greatest (applies w p) P) (none_given (applies w p) H) (first p room) (second p room)
 
 -- the covers of the windows that fit
 pub covers_end : (P : Patterns) (H : Hopeless) (level len dot : ℕ) (w : List ℕ) (x y z : List Bool) → length w ≤ WORD_LETTERS_MAX + 2 → x ≡ replicate (WORD_LETTERS_MAX + 2) false
-    → ((p : ℕ) → p < WORD_LETTERS_MAX + 2 → bit (get_or y p false) ≡ max (bit (get_or x p false)) (greatest (λ e. bit (nat_le level e.1 && is_within len dot (length e.0.0) e.0.1)) (applies w p) P))
-    → ((p : ℕ) → p < WORD_LETTERS_MAX + 2 → bit (get_or z p false) ≡ max (bit (get_or y p false)) (greatest (λ e. bit (is_within len dot (length e.0.0) e.0.1)) (applies w p) H))
+    → ((p : ℕ) → p < WORD_LETTERS_MAX + 2 → bit (get_or y p false) ≡ max (bit (get_or x p false)) (greatest_by (λ e. bit (nat_le level e.1 && is_within len dot (length e.0.0) e.0.1)) (applies w p) P))
+    → ((p : ℕ) → p < WORD_LETTERS_MAX + 2 → bit (get_or z p false) ≡ max (bit (get_or y p false)) (greatest_by (λ e. bit (is_within len dot (length e.0.0) e.0.1)) (applies w p) H))
     → (p : ℕ) → p < length w → fits w p len dot ≡ true → get_or z p false ≡ is_covered level P H (window w p len dot) dot
 covers_end P H level len dot w x y z long start first second p inside fit =
     let room : p < WORD_LETTERS_MAX + 2 = omega arith in
     let law : (k : List ℕ × ℕ) → applies (window w p len dot) dot k ≡ (applies w p k && is_within len dot (length k.0) k.1) = λ k. cover_law w p len dot k fit in
-    let patterns : bit (list_any (λ e. nat_le level e.1 && applies (window w p len dot) dot e.0) P) ≡ greatest (λ e. bit (nat_le level e.1 && is_within len dot (length e.0.0) e.0.1)) (applies w p) P =
+    let patterns : bit (list_any (λ e. nat_le level e.1 && applies (window w p len dot) dot e.0) P) ≡ greatest_by (λ e. bit (nat_le level e.1 && is_within len dot (length e.0.0) e.0.1)) (applies w p) P =
     any_bit (λ (e : (List ℕ × ℕ) × ℕ). nat_le level e.1 && applies (window w p len dot) dot e.0) (λ (e : (List ℕ × ℕ) × ℕ). nat_le level e.1 && is_within len dot (length e.0.0) e.0.1) (applies w p) P
     (λ e. ap (λ b. nat_le level e.1 && b) (law e.0) ∙ swap (nat_le level e.1) (applies w p e.0) (is_within len dot (length e.0.0) e.0.1)) in
-    let hopeless : bit (list_any (λ e. applies (window w p len dot) dot e.0) H) ≡ greatest (λ e. bit (is_within len dot (length e.0.0) e.0.1)) (applies w p) H =
+    let hopeless : bit (list_any (λ e. applies (window w p len dot) dot e.0) H) ≡ greatest_by (λ e. bit (is_within len dot (length e.0.0) e.0.1)) (applies w p) H =
     any_bit (λ (e : (List ℕ × ℕ) × Unit {0}). applies (window w p len dot) dot e.0) (λ (e : (List ℕ × ℕ) × Unit {0}). is_within len dot (length e.0.0) e.0.1) (applies w p) H (λ e. law e.0) in
     same_bits (get_or z p false) (is_covered level P H (window w p len dot) dot)
     (joined_bits (list_any (λ e. nat_le level e.1 && applies (window w p len dot) dot e.0) P) (list_any (λ e. applies (window w p len dot) dot e.0) H)

@@ -48,13 +48,13 @@ impl PlainEngine {
     ghost use Rattle.pg_patterns.specs.DottedSigns.{dotted_cmp};
     ghost use Rattle.pg_patterns.specs.Inside.PatternMaps.{SignsUpTo};
     ghost use Rattle.pg_select.specs.Inside.engine.Meanings.{new_engine};
-    ghost use Rattle.pg_plain.specs.Inside.Engines.{meaning_of};
+    ghost use Rattle.pg_plain.specs.Inside.Engines.{plain_meaning};
 
     /// An engine with the greatest sign `signs` whose patterns are those of `start`. Nothing is
     /// hopeless or counted, no pass was begun, and the engine is tidy.
     pub fn new(alloc: Global, signs: u16, start: &PatternSet) -> Result<PlainEngine, AllocError>
         requires { SignsUpTo signs start.now }
-        ensures { IfOk result (λ engine. meaning_of engine ≡ new_engine signs start.now None) }
+        ensures { IfOk result (λ engine. plain_meaning engine ≡ new_engine signs start.now None) }
     {
         let patterns = map_of(alloc, start)?;
         Ok(PlainEngine {
@@ -73,9 +73,9 @@ impl PlainEngine {
 }
 
 impl Engine for PlainEngine {
-    ghost use Rattle.pg_plain.specs.Inside.Engines.{meaning_of};
+    ghost use Rattle.pg_plain.specs.Inside.Engines.{plain_meaning};
 
-    ghost meaning = { meaning_of };
+    ghost meaning = { plain_meaning };
 
     fn kept(&self) {
         let _counts = self.counts.len();

@@ -1,7 +1,7 @@
 //! The positions that pruning compares, and at which of them each entry stands.
 ghost use Rattle.std.specs.Prelude.{◌≡◌, ◌+◌, ◌++◌, map, IfOk, OnOk};
 ghost use Rattle.pg_dict.specs.Inside.SoundWords.{IsWord};
-ghost use Rattle.pg_dict.specs.Inside.Lent.{lent_word};
+ghost use Rattle.pg_dict.specs.Inside.LentWords.{lent_word};
 ghost use Rattle.pg_select.specs.CountedPositions.{minima_of};
 ghost use Rattle.pg_prune.specs.Positions.{positions_in_reach as positions_of};
 ghost use Rattle.pg_prune.specs.Inside.positions.WordPositions.{positions_in};

@@ -3,9 +3,9 @@ ghost use Rattle.std.specs.Prelude.{◌≡◌, ◌<◌, ◌≤◌, not, [], ◌�
 ghost use Rattle.pg_types.specs.declared.limits.TheConstants.{LEVEL_MAX};
 ghost use Rattle.pg_prune.specs.Positions.{PositionInReach};
 ghost use Rattle.pg_prune.specs.Prunes.{need_at, needs as needs_of};
-ghost use Rattle.pg_prune.specs.Inside.rounds.Alike.{break_alike};
+ghost use Rattle.pg_prune.specs.Inside.rounds.EqualBreaks.{break_alike};
 ghost use Rattle.pg_prune.specs.Inside.Findings.{first_difference};
-ghost use Rattle.pg_prune.specs.Inside.positions.Standing.{positions_of_entries};
+ghost use Rattle.pg_prune.specs.Inside.positions.EntryPositions.{positions_of_entries};
 ghost use Rattle.pg_prune.specs.Inside.rounds.Picks.{picked_entries, ListsPositions, IsKeptSoFar, IsOneRound, HasAllEntries};
 ghost use Rattle.std.specs.List.{range_with_len};
 ghost use Rattle.pg_prune.specs.Inside.rounds.AllRounds.{AreAllRounds};

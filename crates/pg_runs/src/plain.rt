@@ -6,7 +6,7 @@ ghost use Rattle.pg_types.specs.declared.limits.TheConstants.{LEVEL_MAX, WEIGHT_
 ghost use Rattle.pg_types.specs.Inside.Ranges.{IsLevel};
 ghost use Rattle.pg_types.specs.Inside.Signs.{SignsWithin};
 ghost use Rattle.pg_dict.specs.Inside.SoundWords.{IsWord, SignsAtMost};
-ghost use Rattle.pg_dict.specs.Inside.Lent.{lent_word};
+ghost use Rattle.pg_dict.specs.Inside.LentWords.{lent_word};
 ghost use Rattle.pg_types.specs.Inside.counting.Counts.{is_counted};
 ghost use Rattle.pg_driver.specs.Inside.level.States.{IsPass};
 ghost use Rattle.pg_runs.specs.Inside.Keeping.{AreAtMost, KeepsPass};

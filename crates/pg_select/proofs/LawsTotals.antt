@@ -24,7 +24,7 @@ use Rattle.pg_select.specs.CountedPositions.{Minima, CountedPosition, Candidate,
 use Rattle.pg_select.specs.Inside.words.WordCounts.{counted_positions_in}
 use Rattle.pg_select.proofs.LawsCounts.{cmp, same_window, counted_as, is_counted_window, candidates_are_counted, windows_sorted}
 use Rattle.pg_select.specs.Inside.laws.Steps.{IsUpTo, candidate_at, is_candidate, patterns_after_pass, good_raised, bad_raised, FindsMore, PreventsMore}
-use Rattle.pg_select.specs.Inside.laws.Above.{counts_above, above_at, above_in, above_positions, good_above, bad_above, MovesAllBut}
+use Rattle.pg_select.specs.Inside.laws.AboveLevel.{counts_above, above_at, above_in, above_positions, good_above, bad_above, MovesAllBut}
 use Rattle.pg_types.proofs.BoolFacts.{is_true}
 use Rattle.pg_select.proofs.LawsRaised.{same_itself, counted_uncovered, values_after}
 use Rattle.pg_select.proofs.LawsClosedDots.{counted_by, counts_by, best_up_to}

@@ -1,7 +1,7 @@
 //! Laws of the definitions of this crate. A call does nothing; its contract is the law.
 ghost use Rattle.pg_select.specs.Inside.laws.Laws.{CandidatesInOrder, CandidatesAreCounted, CountsAreTally, PositionsAreFew, CandidatesAreFew, TotalsAreSmall, CountedAreLight, SumsAreParts, CandidatesAreLow, ChosenGetLevel, OthersStay, NoneFalls, RaisesWhereItApplies, GivenUpKeepsValues, CoversWhereRaised, HopelessCovers, GivenUpCovers, LaterAtOnce, LaterStill, LaterRaised, LaterHopeless, StatusBack, CountedBack, CountsNothingLater, CountedShorter, CountsNothingLonger, LaterAfterPass, CountsNothingWhenCovered, CountsNothingAtEnd};
 ghost use Rattle.pg_select.specs.Inside.laws.Steps.{BelowByLargest, UpToLargest, UpToByBelow, NextIsBelow, UpToAfter, CoversUpToByBelow, CoversUpToLonger, CoversUpToAfter, LengthStep, NothingCovered, ValuesAfter, CoversAfter, CountedAreUncovered, TotalsAfter};
-ghost use Rattle.pg_select.specs.Inside.laws.Above.{AboveStay, TotalsAfterAbove};
+ghost use Rattle.pg_select.specs.Inside.laws.AboveLevel.{AboveStay, TotalsAfterAbove};
 ghost use Rattle.pg_select.specs.Inside.laws.ClosedDots.{TellsAtStart, TellsLonger, TellsAfter, DoneByStatus, DoneWhenClosed, DoneLonger, DoneAfter, RaisedStop, HopelessStop, LeftStay, UncountedStay};
 
 /// The candidates of a pass are the windows that it counts. They stand strictly in the order of

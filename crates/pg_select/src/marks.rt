@@ -4,7 +4,7 @@ ghost use Rattle.std.specs.List.{range_with_len};
 ghost use Rattle.pg_types.specs.declared.limits.TheConstants.{WORD_LETTERS_MAX};
 ghost use Rattle.pg_translate.specs.Reach.{positions as positions_of};
 ghost use Rattle.pg_dict.specs.Inside.SoundWords.{IsWord, letter_count};
-ghost use Rattle.pg_dict.specs.Inside.Lent.{lent_word};
+ghost use Rattle.pg_dict.specs.Inside.LentWords.{lent_word};
 ghost use Rattle.pg_select.specs.CountedPositions.{minima_of};
 ghost use Rattle.pg_select.specs.Statuses.{status as status_of, status_with};
 ghost use Rattle.pg_select.specs.Sums.{marks_by};

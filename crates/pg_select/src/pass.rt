@@ -1,7 +1,7 @@
 //! A pass of a level.
 ghost use Rattle.std.specs.Prelude.{◌≡◌, ◌≤◌, ◌+◌};
 ghost use Rattle.pg_types.specs.declared.limits.TheConstants.{WORD_LETTERS_MAX};
-ghost use Rattle.pg_select.specs.Inside.words.Within.{is_within};
+ghost use Rattle.pg_select.specs.Inside.words.WindowStrings.{is_within};
 
 /// A pass: its level, and the length and the dot of its windows.
 #[derive(Clone, Copy, Debug)]

@@ -4,7 +4,7 @@ ghost use Rattle.pg_outside.specs.Inside.NameFaults.{NoneFell};
 ghost use Rattle.pg_steps.specs.FileCalls.{MakesCalls};
 ghost use Rattle.pg_steps.specs.Inside.reading.ReadCalls.{write_calls};
 ghost use Rattle.pg_steps.specs.Inside.writing.WritesMade.{writing_of, written_names, WroteAll, WriteFailedAt};
-ghost use Rattle.pg_steps.specs.Inside.ends.Built.{EndsBuilt};
+ghost use Rattle.pg_steps.specs.Inside.ends.BuiltTexts.{EndsBuilt};
 ghost use Rattle.pg_steps.specs.Inside.ends.Stops.{Finishes};
 
 use crate::answers::Status;

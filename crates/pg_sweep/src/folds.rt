@@ -3,9 +3,9 @@ ghost use Rattle.std.specs.Prelude.{◌≡◌, ◌≤◌, ◌<◌, ◌+◌, ◌*
 ghost use Rattle.pg_translate.specs.Alphabets.{letters_of};
 ghost use Rattle.pg_dict.specs.Inside.SoundWords.{SignsAtMost};
 ghost use Rattle.pg_patterns.specs.Inside.PatternMaps.{SignsUpTo};
-ghost use Rattle.pg_driver.specs.Inside.records.Sound.{IsSmall};
+ghost use Rattle.pg_driver.specs.Inside.records.SoundRecords.{IsSmall};
 ghost use Rattle.pg_sweep.specs.Sweeps.{fold_totals};
-ghost use Rattle.pg_sweep.specs.Inside.Inputs.{terms, rest_totals, totals_of_first_folds, HasSigns, IsSmallFor};
+ghost use Rattle.pg_sweep.specs.Inside.Inputs.{terms, rest_totals, totals_of_first_folds, HasSharedSigns, IsSmallFor};
 
 use crate::maker::Maker;
 use pg_dict::Dictionary;
@@ -35,7 +35,7 @@ fn totals_by_rest<K: Maker>(
     rest: &Dictionary,
     left_out: &Dictionary,
 ) -> Result<Totals, AllocError>
-    requires signs { HasSigns inputs.now }
+    requires signs { HasSharedSigns inputs.now }
     requires rest { SignsAtMost (letters_of inputs.now.table.now + 1) rest.now }
     requires left_out { SignsAtMost (letters_of inputs.now.table.now + 1) left_out.now }
     ensures value { IfOk result
@@ -57,7 +57,7 @@ fn totals_of_fold<K: Maker>(
     fold: u8,
 ) -> Result<Totals, AllocError>
     requires fold { fold < inputs.now.folds }
-    requires signs { HasSigns inputs.now }
+    requires signs { HasSharedSigns inputs.now }
     ensures value { IfOk result (λ sums. sums ≡ fold_totals (terms inputs.now) params.now fold) }
     ensures small { IfOk result IsSmall }
 {
@@ -73,7 +73,7 @@ pub(crate) fn totals_of_set<K: Maker>(
     inputs: &SharedInputs<'_>,
     params: &Params,
 ) -> Result<Totals, AllocError>
-    requires signs { HasSigns inputs.now }
+    requires signs { HasSharedSigns inputs.now }
     ensures value { IfOk result
         (λ sums. sums ≡ totals_of_first_folds (terms inputs.now) params.now inputs.now.folds) }
     ensures small { IfOk result (IsSmallFor inputs.now.folds) }

@@ -3,7 +3,7 @@ ghost use Rattle.std.specs.Prelude.{◌≡◌, ◌≤◌, ◌+◌, ◌*◌, leng
 ghost use Rattle.pg_translate.specs.Alphabets.{letters_of};
 ghost use Rattle.pg_dict.specs.Inside.SoundWords.{SignsAtMost};
 ghost use Rattle.pg_patterns.specs.Inside.PatternMaps.{SignsUpTo};
-ghost use Rattle.pg_types.specs.declared.limits.TheConstants.{FOLDS_MAX, PRICE_MAX, SETS_MAX};
+ghost use Rattle.pg_types.specs.declared.limits.TheConstants.{FOLDS_MAX, FOLDS_MIN, PRICE_MAX, SETS_MAX};
 ghost use Rattle.pg_sweep.specs.Sweeps.{set_row, costs_of};
 ghost use Rattle.pg_sweep.specs.Winners.{winner_of};
 ghost use Rattle.pg_sweep.specs.Inside.Inputs.{IsSmallFor};
@@ -48,7 +48,7 @@ pub fn sweep<K: Maker>(
     missed: u32,
 ) -> Result<Sweep, AllocError>
     requires sets { (1 ≤ length sets.now) × (length sets.now ≤ SETS_MAX) }
-    requires folds { (2 ≤ folds) × (folds ≤ FOLDS_MAX) }
+    requires folds { (FOLDS_MIN ≤ folds) × (folds ≤ FOLDS_MAX) }
     requires bad { (1 ≤ bad) × (bad ≤ PRICE_MAX) }
     requires missed { (1 ≤ missed) × (missed ≤ PRICE_MAX) }
     requires signs { SignsAtMost (letters_of table.now + 1) dictionary.now }

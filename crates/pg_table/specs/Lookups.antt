@@ -13,7 +13,8 @@ use Rattle.pg_table.specs.Forms.{sizes_of, cell_at, records_of}
 
 -- the family at the base has the sign: the cell of the sign is there, and has it
 abbrev pub cell_has_sign : List ℕ → ℕ → ℕ → Bool
-cell_has_sign b base s = nat_lt (base + s) (sizes_of b).cells && nat_eq (cell_at b (base + s)).sign s
+cell_has_sign b base s =
+    nat_lt (base + s) (sizes_of b).cells && nat_eq (cell_at b (base + s)).sign s
 
 -- the list of the string q below the family at the base; it is empty where a cell is missing
 abbrev pub lookup_from : List ℕ → ℕ → List ℕ → List (ℕ × ℕ)

@@ -1,8 +1,9 @@
 //! A packed table that is read in place.
 ghost use Rattle.std.specs.Prelude.{◌≡◌, ◌+◌, ◌-◌, ◌<◌, ◌≤◌, ◌&&◌, true, false, ◌⊎◌, ℕ, [], ◌∷◌, length, slice_index, slice_index_or, slice_range, All, IfSome, MatchOption};
 ghost use Rattle.std.specs.List.{list_all, range_with_len};
-ghost use Rattle.pg_types.specs.declared.limits.TheConstants.{SIGNS_MAX, WORD_LETTERS_MAX};
+ghost use Rattle.pg_types.specs.declared.limits.TheConstants.{WORD_LETTERS_MAX};
 ghost use Rattle.pg_types.specs.declared.packed_table.TheConstants.{CELL_LEN, RECORD_LEN};
+ghost use Rattle.pg_types.specs.Inside.Signs.{IsSignCount};
 ghost use Rattle.pg_table.specs.Lookups.{cell_has_sign, table_value};
 ghost use Rattle.pg_table.specs.Inside.view.ListsOf.{list_in};
 ghost use Rattle.pg_table.specs.Forms.{sizes_of, cell_at, is_sound_cell, is_sound_record, is_well_formed};
@@ -36,7 +37,8 @@ impl<'a> Model for TableView<'a> {
 
     ghost view = { λ v. v.bytes.now };
 
-    ghost invariant = { λ v. (is_well_formed v.bytes.now ≡ true) × (v.sizes ≡ sizes_of v.bytes.now) };
+    ghost invariant = { λ v.
+        (is_well_formed v.bytes.now ≡ true) × (v.sizes ≡ sizes_of v.bytes.now) };
 }
 
 impl<'a> TableView<'a> {
@@ -57,7 +59,7 @@ impl<'a> TableView<'a> {
     /// The greatest sign.
     pub fn signs(&self) -> u16
         ensures signs { result ≡ (sizes_of self.now).signs }
-        ensures range { (1 ≤ result) × (result ≤ SIGNS_MAX) }
+        ensures range { IsSignCount result }
         ensures well_formed { is_well_formed self.now ≡ true }
     {
         self.sizes.signs as u16

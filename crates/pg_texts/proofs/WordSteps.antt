@@ -13,7 +13,7 @@ use Rattle.pg_dict.specs.Inside.SoundWords.{IsWord, SignsAtMost}
 use Rattle.pg_patterns.specs.Values.{Patterns, value_at}
 use Rattle.pg_select.specs.Statuses.{status}
 use Rattle.pg_texts.proofs.Ranges.{same_over_range}
-use Rattle.pg_texts.specs.Inside.Found.{status_found}
+use Rattle.pg_texts.specs.Inside.FoundStatuses.{status_found}
 use Rattle.pg_texts.specs.PattmpTexts.{is_taking_part, weight_text, position_text, word_text, statuses, lines_behind, letter_text}
 use Rattle.pg_texts.specs.Inside.ReadBack.{words_taking_part}
 

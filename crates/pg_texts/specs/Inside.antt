@@ -2,5 +2,5 @@
 pub mod CellsRecords
 pub mod ReportLines
 pub mod CellsLines
-pub mod Found
+pub mod FoundStatuses
 pub mod ReadBack

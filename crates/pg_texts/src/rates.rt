@@ -1,7 +1,7 @@
 //! Totals and their rates.
 ghost use Rattle.std.specs.Prelude.{◌≡◌, ◌++◌, ◌+◌, ◌*◌, ◌/◌, ◌<◌, OnOk};
 ghost use Rattle.pg_types.specs.Inside.Limits.{sums_limit};
-ghost use Rattle.pg_driver.specs.Inside.records.Sound.{IsSmall};
+ghost use Rattle.pg_driver.specs.Inside.records.SoundRecords.{IsSmall};
 ghost use Rattle.pg_texts.specs.ReportTexts.{totals_text, hundredths, rate_text, ending_text};
 
 use pg_types::{Totals, push_number};

@@ -1,7 +1,7 @@
 //! The report.
 ghost use Rattle.std.specs.Prelude.{◌≡◌, ◌++◌, map, All, OnOk, IfOk};
 ghost use Rattle.std.specs.List.{flat_map};
-ghost use Rattle.pg_driver.specs.Inside.records.Sound.{IsSoundPass};
+ghost use Rattle.pg_driver.specs.Inside.records.SoundRecords.{IsSoundPass};
 ghost use Rattle.pg_driver.specs.Inside.records.RunAccounts.{line_of, level_line_of, account_of};
 ghost use Rattle.pg_texts.specs.Inside.ReportLines as lines;
 ghost use Rattle.pg_texts.specs.ReportTexts as report;

@@ -3,9 +3,9 @@ ghost use Rattle.std.specs.Prelude.{◌≡◌, ◌<◌, ◌≤◌, ◌+◌, ◌-
 ghost use Rattle.pg_types.specs.declared.limits.TheConstants.{WORD_LETTERS_MAX, WEIGHT_MAX};
 ghost use Rattle.pg_translate.specs.Alphabets.{letters_of};
 ghost use Rattle.pg_dict.specs.Inside.SoundWords.{IsWord};
-ghost use Rattle.pg_dict.specs.Inside.Lent.{lent_word};
+ghost use Rattle.pg_dict.specs.Inside.LentWords.{lent_word};
 ghost use Rattle.pg_texts.specs.PattmpTexts as pattmp;
-ghost use Rattle.pg_texts.specs.Inside.Found.{status_found};
+ghost use Rattle.pg_texts.specs.Inside.FoundStatuses.{status_found};
 
 use pg_dict::WordRef;
 use pg_select::{WordState, status};

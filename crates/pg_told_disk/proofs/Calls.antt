@@ -11,7 +11,7 @@ use Rattle.pg_outside.specs.declared.disk.system.FileId.{FileId}
 use Rattle.pg_told_disk.specs.Inside.Changes.{number_in, mode_in, bytes_in, stored_in, node_with, lets_write, id_of, disk_in}
 use Rattle.pg_told_disk.specs.Inside.LinkLists.{link_named, real_in, said_or}
 use Rattle.pg_told_disk.specs.Inside.Memory.{told_where}
-use Rattle.pg_told_disk.specs.Inside.laws.Following.{not_link, said_same}
+use Rattle.pg_told_disk.specs.Inside.laws.FollowedLinks.{not_link, said_same}
 use Rattle.pg_told_disk.specs.declared.change.Change.{Change}
 use Rattle.pg_told_disk.specs.declared.change.Change.TheVariants.{Made, GotMode, Wrote, Stored, Renamed, Removed, Refused, Stayed}
 use Rattle.pg_told_disk.specs.declared.links.Link as linked

@@ -205,7 +205,7 @@ impl ToldDisk {
 
 impl System for ToldDisk {
     ghost use Rattle.pg_told_disk.specs.Inside.Memory.{told_by, file_id, read_len};
-    ghost use Rattle.pg_told_disk.specs.Inside.laws.Plain.{plain_where, new_names_where};
+    ghost use Rattle.pg_told_disk.specs.Inside.laws.DisksWithoutLinks.{plain_where, new_names_where};
 
     type File = ToldFile;
 

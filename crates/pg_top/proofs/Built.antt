@@ -5,7 +5,7 @@ use Rattle.pg_outside.specs.Content.{FileMap, FilesShown, SinkShown, WasPut, Was
 use Rattle.pg_top.specs.Answers.{IsCall}
 use Rattle.pg_top.specs.CommandRules.{rule_of, usage_rule}
 use Rattle.pg_steps.specs.FileCalls.{MakesPuts, MakesAnswerCalls}
-use Rattle.pg_steps.specs.Inside.ends.Built.{KeepsPromise, IsMade, Builds, EndsBuilt}
+use Rattle.pg_steps.specs.Inside.ends.BuiltTexts.{KeepsPromise, IsMade, Builds, EndsBuilt}
 use Rattle.pg_steps.specs.Inside.writing.PutCounts.{MakesLinePuts}
 use Rattle.pg_steps.specs.Inside.ends.Stops.{StopsCommand, PutsAnswer, PutsLines}
 use Rattle.pg_steps.specs.Inside.writing.WritesMade.{writing_of}

@@ -3,7 +3,7 @@ use Rattle.std.proofs.Common.{◌≡◌, List, Result}
 use Rattle.std.specs.Result.{IsErrAnd}
 use Rattle.pg_outside.specs.Content.{FilesShown}
 use Rattle.pg_steps.specs.Readings.{HeldFiles, Reading}
-use Rattle.pg_steps.specs.Inside.ends.Built.{Builds}
+use Rattle.pg_steps.specs.Inside.ends.BuiltTexts.{Builds}
 use Rattle.pg_steps.specs.Inside.reading.ReadsMade.{ReadsFiles}
 use Rattle.pg_steps.specs.Inside.ends.Stops.{OnlyReads, StopsCommand, StopsReading}
 use Rattle.pg_steps.specs.declared.inputs.Stop.{Stop}

@@ -10,7 +10,7 @@ use Rattle.pg_driver.specs.Accounts.{begun_count}
 use Rattle.pg_driver.specs.Layouts.{families_at_end}
 use Rattle.pg_driver.specs.Traces.{source_of}
 use Rattle.pg_driver.specs.Inside.records.CellsAccounts.{CellsAccount, layout_of}
-use Rattle.pg_driver.specs.Inside.records.Sound.{CompletedRun}
+use Rattle.pg_driver.specs.Inside.records.SoundRecords.{CompletedRun}
 use Rattle.pg_driver.specs.Inside.records.RunAccounts.{patterns_from, account_from, begun_from, cells_from, TellsCells, level_record_layout}
 use Rattle.pg_driver.specs.Inside.records.AccountLines.{Account}
 use Rattle.pg_packed.specs.Inside.Starts.{pattern_families}

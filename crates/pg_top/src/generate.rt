@@ -1,7 +1,7 @@
 //! `generate`: the patterns that a selection finds, and what is told of them.
 ghost use Rattle.pg_words.specs.Inside.CommandRequests.{texts_of};
 ghost use Rattle.pg_top.specs.generate.GenerateRule.{generate_rule};
-ghost use Rattle.pg_steps.specs.Inside.ends.Built.{Builds};
+ghost use Rattle.pg_steps.specs.Inside.ends.BuiltTexts.{Builds};
 
 mod inputs;
 mod outputs;

@@ -1,7 +1,7 @@
 //! `pack`: patterns as a packed table.
 ghost use Rattle.pg_words.specs.Inside.CommandRequests.{pack_of};
 ghost use Rattle.pg_top.specs.pack.PackRule.{pack_rule};
-ghost use Rattle.pg_steps.specs.Inside.ends.Built.{Builds};
+ghost use Rattle.pg_steps.specs.Inside.ends.BuiltTexts.{Builds};
 
 mod inputs;
 mod outputs;

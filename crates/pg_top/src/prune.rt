@@ -1,7 +1,7 @@
 //! `prune`: the patterns that a dictionary needs.
 ghost use Rattle.pg_words.specs.Inside.CommandRequests.{prune_of};
 ghost use Rattle.pg_top.specs.prune.PruneRule.{prune_rule};
-ghost use Rattle.pg_steps.specs.Inside.ends.Built.{Builds};
+ghost use Rattle.pg_steps.specs.Inside.ends.BuiltTexts.{Builds};
 
 mod inputs;
 mod outputs;

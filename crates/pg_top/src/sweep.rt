@@ -2,7 +2,7 @@
 ghost use Rattle.std.specs.Prelude.{◌≤◌, length};
 ghost use Rattle.pg_words.specs.Inside.CommandRequests.{sweep_of, KeepsSweepLimits};
 ghost use Rattle.pg_top.specs.sweep.SweepRule.{sweep_rule};
-ghost use Rattle.pg_steps.specs.Inside.ends.Built.{Builds};
+ghost use Rattle.pg_steps.specs.Inside.ends.BuiltTexts.{Builds};
 
 mod engines;
 mod inputs;

@@ -1,6 +1,6 @@
 //! `totals`: the totals of a dictionary by a packed table.
 ghost use Rattle.pg_top.specs.totals.TotalsRule.{totals_rule};
-ghost use Rattle.pg_steps.specs.Inside.ends.Built.{Builds};
+ghost use Rattle.pg_steps.specs.Inside.ends.BuiltTexts.{Builds};
 ghost use Rattle.pg_words.specs.Inside.CommandRequests.{totals_request_of};
 
 mod table;

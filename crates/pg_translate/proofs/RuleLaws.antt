@@ -17,7 +17,7 @@ use Rattle.pg_translate.specs.Inside.items.Items.{IsItem}
 use Rattle.pg_translate.specs.Inside.tables.Rules.{KeepsRules}
 use Rattle.pg_translate.specs.declared.head.Head.{Head}
 use Rattle.pg_translate.specs.Inside.tables.Heads.{head_marks}
-use Rattle.pg_translate.specs.Inside.tables.Sound.{IsTable}
+use Rattle.pg_translate.specs.Inside.tables.SoundTables.{IsTable}
 use Rattle.pg_translate.specs.Inside.spellings.Fronts.{IsIndex, pairs, firsts_of}
 use Rattle.pg_translate.specs.Inside.spellings.Texts.{text_of}
 use Rattle.pg_translate.proofs.Firsts.{find_among, found_passes}

@@ -20,7 +20,7 @@ use Rattle.pg_translate.specs.Tables.{ListedSpelling, check, spelling_with_sign,
 use Rattle.pg_translate.specs.Inside.tables.Checks.{first_failure, spelling_checks_from, spellings_from, head_checks_by_pairs, alphabet_by_lines}
 use Rattle.pg_translate.proofs.TableForms.{read_as}
 use Rattle.pg_translate.specs.Inside.tables.Heads.{IsHead, IsSoundHead, head_marks}
-use Rattle.pg_translate.specs.Inside.tables.Sound.{IsTable}
+use Rattle.pg_translate.specs.Inside.tables.SoundTables.{IsTable}
 use Rattle.pg_translate.specs.Inside.spellings.Fronts.{IsIndex, pairs}
 
 -- a check that fails nowhere is a test that is false

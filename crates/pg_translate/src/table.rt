@@ -1,7 +1,7 @@
 //! The table of a translate file.
 ghost use Rattle.std.specs.Prelude.{◌≡◌, ◌==◌, IfOk};
 ghost use Rattle.pg_translate.specs.Alphabets.{Alphabet};
-ghost use Rattle.pg_translate.specs.Inside.tables.Sound.{IsTable, alphabet_in};
+ghost use Rattle.pg_translate.specs.Inside.tables.SoundTables.{IsTable, alphabet_in};
 
 pub mod laws;
 

@@ -18,8 +18,8 @@ mod sums;
 pub use cursor::Cursor;
 pub use items::{is_answer, is_separator, next_item};
 pub use limits::{
-    COST_MAX, EDGE, FAR_BELOW, FEW_SIGNS, FILE_MAX, FOLDS_MAX, ITEMS_MAX, LENGTH_MAX, LEVEL_MAX,
-    NUMBERS_END, PATTERN_SIGNS_MAX, PRICE_MAX, SETS_MAX, SIGNS_MAX, Sign, WEIGHT_MAX,
+    COST_MAX, EDGE, FAR_BELOW, FEW_SIGNS, FILE_MAX, FOLDS_MAX, FOLDS_MIN, ITEMS_MAX, LENGTH_MAX,
+    LEVEL_MAX, NUMBERS_END, PATTERN_SIGNS_MAX, PRICE_MAX, SETS_MAX, SIGNS_MAX, Sign, WEIGHT_MAX,
     WORD_LETTERS_MAX, Weight,
 };
 pub use lines::next_line;

@@ -50,6 +50,9 @@ pub const FAR_BELOW: usize = 255;
 /// The most parameter files that `sweep` takes.
 pub const SETS_MAX: usize = 16;
 
+/// How many folds `sweep` makes at least.
+pub const FOLDS_MIN: u32 = 2;
+
 /// How many folds `sweep` makes at most.
 pub const FOLDS_MAX: u32 = 10;
 

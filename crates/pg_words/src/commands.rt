@@ -110,7 +110,7 @@ pub struct SweepWords<'a> {
     /// Where the table of the sweep is written.
     pub output: &'a str,
     pub translate: &'a str,
-    /// 2 to [`FOLDS_MAX`](pg_types::FOLDS_MAX).
+    /// [`FOLDS_MIN`](pg_types::FOLDS_MIN) to [`FOLDS_MAX`](pg_types::FOLDS_MAX).
     pub folds: u8,
     /// What a unit of bad costs, 1 to [`PRICE_MAX`](pg_types::PRICE_MAX).
     pub bad: u32,

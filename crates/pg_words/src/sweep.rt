@@ -12,7 +12,7 @@ use crate::limits::{FOLDS_DIGITS, PRICE_DIGITS};
 use crate::names::where_taken;
 use crate::numbers::number_within;
 use arrayvec::ArrayVec;
-use pg_types::{FOLDS_MAX, PRICE_MAX, SETS_MAX};
+use pg_types::{FOLDS_MAX, FOLDS_MIN, PRICE_MAX, SETS_MAX};
 
 /// How many inputs `sweep` has at most: three files, and the parameter files.
 const INPUTS_MAX: usize = 3 + SETS_MAX;
@@ -64,7 +64,7 @@ pub fn sweep(words: &[String]) -> Option<Command<'_>>
     else {
         return None;
     };
-    let folds = number_within(folds.as_str(), FOLDS_DIGITS, 2, FOLDS_MAX)?;
+    let folds = number_within(folds.as_str(), FOLDS_DIGITS, FOLDS_MIN, FOLDS_MAX)?;
     let bad = number_within(bad.as_str(), PRICE_DIGITS, 1, PRICE_MAX)?;
     let missed = number_within(missed.as_str(), PRICE_DIGITS, 1, PRICE_MAX)?;
     if params.is_empty() || params.len() > SETS_MAX {

@@ -3,8 +3,8 @@ pub mod BlockedBases
 pub mod Bounds
 pub mod Fit
 pub mod FreeList
-pub mod Lists
-pub mod MarkedFit
-pub mod Marks
+pub mod CellRows
+pub mod SetFit
+pub mod BitSets
 pub mod Store
 pub mod Writes

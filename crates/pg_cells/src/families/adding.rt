@@ -7,7 +7,7 @@ ghost use Rattle.pg_cells.specs.Inside.linked.Members.{ArePositive};
 ghost use Rattle.pg_cells.specs.Inside.linked.ValuedFamilies.{Trie};
 ghost use Rattle.pg_cells.specs.declared.store.member.Member.{Member as MemberOf};
 ghost use Rattle.pg_cells.specs.declared.store.cell.TheConstants.{CELLS_END};
-ghost use Rattle.pg_cells.specs.Inside.store.Lists.{FitsCell, sign_at};
+ghost use Rattle.pg_cells.specs.Inside.store.CellRows.{FitsCell, sign_at};
 ghost use Rattle.pg_cells.specs.Inside.store.Store.{Extends, IsRow};
 ghost use Rattle.pg_cells.specs.Inside.families.Layouts.{IsTrie};
 ghost use Rattle.pg_cells.specs.Inside.families.Searches.{search_start};

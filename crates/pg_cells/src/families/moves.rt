@@ -3,7 +3,7 @@ ghost use Rattle.std.specs.Prelude.{◌≡◌, ◌≢◌, ℕ, ◌+◌, ◌<◌,
 ghost use Rattle.pg_cells.specs.declared.store.fit.Slot.{Slot as SlotOf};
 ghost use Rattle.pg_cells.specs.declared.store.member.Member.{Member as MemberOf};
 ghost use Rattle.pg_cells.specs.declared.store.cell.TheConstants.{CELLS_END, SIGN_COUNT};
-ghost use Rattle.pg_cells.specs.Inside.store.Lists.{sign_at, IsFree};
+ghost use Rattle.pg_cells.specs.Inside.store.CellRows.{sign_at, IsFree};
 ghost use Rattle.pg_cells.specs.Inside.store.Fit.{slot_of};
 ghost use Rattle.pg_cells.specs.Inside.linked.Members.{ArePassing, ArePositive};
 ghost use Rattle.pg_cells.specs.Inside.families.Moves.{AllFit, AreDistinct, GivesUp, PutsSlots, AreSlotsOf, Collects};

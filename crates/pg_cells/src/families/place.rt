@@ -3,7 +3,7 @@ ghost use Rattle.std.specs.Prelude.{◌≡◌, ℕ, ◌+◌, ◌<◌, ◌≤◌,
 ghost use Rattle.pg_types.specs.Inside.Placing.{IsLeast};
 ghost use Rattle.pg_cells.specs.declared.store.cell.TheConstants.{CELLS_END};
 ghost use Rattle.pg_cells.specs.Inside.store.Fit.{HasSpace, fits_row, slot_signs};
-ghost use Rattle.pg_cells.specs.Inside.store.Lists.{FitsCell};
+ghost use Rattle.pg_cells.specs.Inside.store.CellRows.{FitsCell};
 ghost use Rattle.pg_cells.specs.Inside.families.Searches.{far_from_top, search_start};
 ghost use Rattle.pg_cells.specs.Inside.families.Moves.{AllFit, DropsBase, MovesFamily, CanPlace};
 ghost use Rattle.pg_cells.specs.Inside.store.Store.{IsRow};

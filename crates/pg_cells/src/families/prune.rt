@@ -1,6 +1,6 @@
 //! A family without a sign is gone.
 ghost use Rattle.std.specs.Prelude.{◌≡◌, ◌≢◌, ℕ, ◌<◌, [], length, MatchBool};
-ghost use Rattle.pg_cells.specs.Inside.store.Lists.{sign_at};
+ghost use Rattle.pg_cells.specs.Inside.store.CellRows.{sign_at};
 ghost use Rattle.pg_cells.specs.Inside.families.Layouts.{signs_at_base};
 ghost use Rattle.pg_cells.specs.Inside.families.Moves.{DropsEmptyFamily};
 ghost use Rattle.pg_cells.specs.Inside.store.Store.{IsRow};

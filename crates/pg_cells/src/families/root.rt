@@ -1,7 +1,7 @@
 //! The root family, whose signs stand in their own cells.
 ghost use Rattle.std.specs.Prelude.{◌≡◌, ◌+◌, ◌<◌, ◌≤◌, length};
 ghost use Rattle.pg_cells.specs.Inside.families.Root.{IsRootTo};
-ghost use Rattle.pg_cells.specs.Inside.store.Lists.{FitsCell};
+ghost use Rattle.pg_cells.specs.Inside.store.CellRows.{FitsCell};
 
 use crate::store::Store;
 use crate::store::fit::Slot;

@@ -4,21 +4,19 @@ ghost use Rattle.std.specs.Int.{bit_at};
 ghost use Rattle.pg_types.specs.Inside.Placing.{IsLeast};
 ghost use Rattle.pg_cells.specs.declared.store.cell.TheConstants.{CELLS_END};
 ghost use Rattle.pg_cells.specs.Inside.store.Fit.{slot_signs};
-ghost use Rattle.pg_cells.specs.Inside.store.MarkedFit.{fits_marks};
+ghost use Rattle.pg_cells.specs.Inside.store.SetFit.{fits_sets};
 
+use crate::store::bit_set::BitSet;
 use crate::store::fit::Slot;
-use crate::store::marks::Marks;
 use crate::store::member::Member;
 use pg_types::Sign;
+use pg_types::bits::NUMBER_BITS;
 
-/// So many bases are looked at together, a bit for each.
-const BLOCK: usize = u64::BITS as usize;
-
-// At which of the bases from `base` on the sign and those of the slots may not stand, a bit for
-// each. It looks at no further slot where none of the bases is left.
+// For each of 64 bases from `base` on a bit: whether the sign or one of the slots may not stand
+// there. It stops early where all bits are set.
 fn blocked_from<V: Copy>(
-    taken: &Marks,
-    bases: &Marks,
+    taken: &BitSet,
+    bases: &BitSet,
     slots: &[Slot<Member<V>>],
     sign: Sign,
     base: usize,
@@ -26,7 +24,7 @@ fn blocked_from<V: Copy>(
     requires { base < CELLS_END }
     ensures small { result < 2 ^ 64 }
     ensures fits { (j : ℕ) → j < 64 → (bit_at result j == 0)
-        ≡ fits_marks taken.now bases.now (sign ∷ slot_signs slots.now) (base + j) }
+        ≡ fits_sets taken.now bases.now (sign ∷ slot_signs slots.now) (base + j) }
 {
     let mut blocked = bases.from(base) | taken.from(base + sign as usize);
     for slot in slots {
@@ -38,11 +36,11 @@ fn blocked_from<V: Copy>(
     blocked
 }
 
-/// The least base from `low` on at which the sign and those of the slots may stand, by the marks of
-/// the taken cells and of the bases. At `room` they may stand.
+/// The least base from `low` on at which the sign and those of the slots may stand, by the sets of
+/// the taken cells and of the bases. `room` is a base at which they may stand.
 pub fn find_in_blocks<V: Copy>(
-    taken: &Marks,
-    bases: &Marks,
+    taken: &BitSet,
+    bases: &BitSet,
     slots: &[Slot<Member<V>>],
     sign: Sign,
     low: usize,
@@ -50,15 +48,15 @@ pub fn find_in_blocks<V: Copy>(
 ) -> usize
     requires low { low ≤ room }
     requires small { room < CELLS_END }
-    requires room { fits_marks taken.now bases.now (sign ∷ slot_signs slots.now) room ≡ true }
+    requires room { fits_sets taken.now bases.now (sign ∷ slot_signs slots.now) room ≡ true }
     ensures least { IsLeast
-        (fits_marks taken.now bases.now (sign ∷ slot_signs slots.now)) low result }
+        (fits_sets taken.now bases.now (sign ∷ slot_signs slots.now)) low result }
     ensures room { result ≤ room }
 {
     let mut base = low;
     let mut blocked = blocked_from(taken, bases, slots, sign, base);
     while blocked == u64::MAX {
-        base += BLOCK;
+        base += NUMBER_BITS;
         blocked = blocked_from(taken, bases, slots, sign, base);
     }
     base + blocked.trailing_ones() as usize

@@ -1,6 +1,6 @@
 //! One cell, and the reading and writing of its parts.
 ghost use Rattle.std.specs.Prelude.{◌≡◌, ◌≢◌, ◌<◌, ◌+◌, ◌*◌, ◌%◌, length, nat_eq, slice_get, set, Some};
-ghost use Rattle.pg_cells.specs.Inside.store.Lists.{linked_row, FitsCell, SaysTaken, base_in, link_in, with_before, with_after, with_child, with_value, with_base, with_taken, with_free, sign_at, IsFree, before_at, after_at, child_at, base_at};
+ghost use Rattle.pg_cells.specs.Inside.store.CellRows.{linked_row, FitsCell, SaysTaken, base_in, link_in, with_before, with_after, with_child, with_value, with_base, with_taken, with_free, sign_at, IsFree, before_at, after_at, child_at, base_at};
 
 use crate::store::member::Member;
 use pg_types::Sign;

@@ -1,6 +1,6 @@
 //! The list through the free cells.
 ghost use Rattle.std.specs.Prelude.{◌≡◌, ◌≢◌, ℕ, ◌+◌, ◌-◌, ◌<◌, ◌≤◌, length, OnOk, OnErr};
-ghost use Rattle.pg_cells.specs.Inside.store.Lists.{linked_row, FitsCell, with_taken, with_free, with_more, without_links, sign_at, IsFree};
+ghost use Rattle.pg_cells.specs.Inside.store.CellRows.{linked_row, FitsCell, with_taken, with_free, with_more, without_links, sign_at, IsFree};
 ghost use Rattle.pg_cells.specs.Inside.store.FreeList.{AreLinked, IsFreeTo};
 
 use crate::store::cell::{

@@ -2,7 +2,7 @@
 ghost use Rattle.std.specs.Prelude.{◌≡◌, ◌≢◌, ℕ, ◌+◌, ◌<◌, ◌≤◌, ◌∷◌, length, nat_eq, slice_index};
 ghost use Rattle.pg_types.specs.Inside.Placing.{IsLeast};
 ghost use Rattle.pg_cells.specs.declared.store.cell.TheConstants.{CELLS_END};
-ghost use Rattle.pg_cells.specs.Inside.store.Lists.{linked_row, SaysTaken, sign_at};
+ghost use Rattle.pg_cells.specs.Inside.store.CellRows.{linked_row, SaysTaken, sign_at};
 ghost use Rattle.pg_cells.specs.Inside.store.FreeList.{AreLinked};
 ghost use Rattle.pg_cells.specs.Inside.store.Fit.{HasSpace, fits_row, slot_signs};
 

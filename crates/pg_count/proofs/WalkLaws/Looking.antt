@@ -8,7 +8,7 @@ use Rattle.pg_types.proofs.StringEntries.{order, tail_sorted}
 use Rattle.pg_types.specs.Inside.counting.NumberedWindows.{Windows, AreInOrder}
 use Rattle.pg_count.specs.Inside.Counting.{Tally, Tallies, counting_of, seen_in, number_of_tally, sums_of_tally, window_at, wholes}
 use Rattle.pg_count.specs.Inside.cells.Leaves.{AreLeaves}
-use Rattle.pg_count.specs.Inside.walks.Under.{numbers_under}
+use Rattle.pg_count.specs.Inside.walks.CountedBelow.{numbers_under}
 use Rattle.pg_count.proofs.WalkLaws.Walking.{under_all}
 use Rattle.pg_count.proofs.LeafLaws.Wholes.{window_of}
 

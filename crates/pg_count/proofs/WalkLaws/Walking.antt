@@ -22,7 +22,7 @@ use Rattle.pg_cells.proofs.StringMaps.{order, equal_or_not, same_maps, head_belo
 use Rattle.pg_types.specs.Inside.counting.NumberedStrings.{Numbers}
 use Rattle.pg_count.specs.Inside.Counting.{Tally, number_of_tally, numbers_in}
 use Rattle.pg_count.specs.Inside.cells.Leaves.{AreLast, AreShort, IsLast}
-use Rattle.pg_count.specs.Inside.walks.Under.{is_under, is_before, is_passed, numbers_where, numbers_under}
+use Rattle.pg_count.specs.Inside.walks.CountedBelow.{is_under, is_before, is_passed, numbers_where, numbers_under}
 use Rattle.pg_count.proofs.CellLaws.Counted.{sorted_seen, seen_there, tally_there}
 
 find_where : (P : List ℕ → Bool) (q : List ℕ) (M : Numbers) → find order q (where_key order P M) ≡ cond (P q) (find order q M) None

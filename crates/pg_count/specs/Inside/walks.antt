@@ -1,4 +1,4 @@
 -- What a walk along the signs finds.
 pub mod Floors
 pub mod Least
-pub mod Under
+pub mod CountedBelow

@@ -5,7 +5,7 @@ ghost use Rattle.pg_types.specs.Inside.Placing.{cell_of};
 ghost use Rattle.pg_cells.specs.Inside.linked.AreValuedFamilies.{AreValuedFamilies};
 ghost use Rattle.pg_cells.specs.Inside.linked.Members.{IsNextSign, goes_on};
 ghost use Rattle.pg_count.specs.Inside.cells.Leaves.{AreLast, AreShort, IsLast};
-ghost use Rattle.pg_count.specs.Inside.walks.Under.{numbers_under};
+ghost use Rattle.pg_count.specs.Inside.walks.CountedBelow.{numbers_under};
 
 use crate::store::counted_cells::CountedCells;
 use pg_cells::NearCells;

@@ -18,7 +18,7 @@ use Rattle.pg_dict.specs.Inside.SoundWords.{word_of_signs}
 use Rattle.pg_dict.specs.DictionaryWords.{at_positions, word_of_items, sets_hyphen, keeps_care}
 use Rattle.pg_dict.specs.Inside.LineWords.{LineWord, word_if, line_word, line_reading}
 use Rattle.pg_dict.specs.Inside.Lines.LineStarts.{rest_reading}
-use Rattle.pg_dict.specs.Inside.Lines.Running.{signs_behind, word_signs, running_word}
+use Rattle.pg_dict.specs.Inside.Lines.RunningWords.{signs_behind, word_signs, running_word}
 
 -- two words with the same parts
 pub same_word : (v w : Word) → v.signs ≡ w.signs → v.hyphens ≡ w.hyphens → v.weights ≡ w.weights → v.cares ≡ w.cares → v.weight ≡ w.weight → v ≡ w

@@ -16,7 +16,7 @@ use Rattle.pg_translate.specs.LineRefusals.{line_refusal}
 use Rattle.pg_translate.specs.Inside.items.Refusing.{refusal_with_room}
 use Rattle.pg_translate.proofs.LineSteps.{along}
 use Rattle.pg_dict.specs.Inside.LineWords.{LineWord}
-use Rattle.pg_dict.specs.Inside.Lines.Running.{running_word, signs_behind}
+use Rattle.pg_dict.specs.Inside.Lines.RunningWords.{running_word, signs_behind}
 use Rattle.pg_dict.specs.Inside.Lines.ReadColumns.{columns_after}
 use Rattle.pg_dict.specs.Inside.Lines.LineStarts.{rest_reading, word_reading}
 

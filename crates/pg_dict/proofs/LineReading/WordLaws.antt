@@ -13,7 +13,7 @@ use Rattle.pg_dict.specs.Word.{Word}
 use Rattle.pg_dict.specs.Inside.SoundWords.{word_of_signs, IsWord}
 use Rattle.pg_dict.specs.DictionaryWords.{sets_hyphen, keeps_care}
 use Rattle.pg_dict.specs.Inside.LineWords.{line_word}
-use Rattle.pg_dict.specs.Inside.Lines.Running.{signs_behind, running_word}
+use Rattle.pg_dict.specs.Inside.Lines.RunningWords.{signs_behind, running_word}
 use Rattle.pg_dict.proofs.LineReading.Running.{same_word, running_is}
 use Rattle.pg_dict.specs.Inside.WrittenWords.{MarkedLetter, number_token, mark_tokens, weight_tokens, letters_tokens, written_signs}
 use Rattle.pg_dict.specs.Inside.WrittenWords.{written_letters, between_letters, AreMarksOf, letters_with, word_tokens}

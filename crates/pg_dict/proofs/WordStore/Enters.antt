@@ -15,7 +15,7 @@ use Rattle.pg_dict.specs.Word.{Word}
 use Rattle.pg_dict.specs.Inside.SoundWords.{word_of_signs}
 use Rattle.pg_translate.specs.Inside.items.Refusing.{refusal_with_room}
 use Rattle.pg_translate.specs.declared.items.Place.TheVariants.{Dictionary}
-use Rattle.pg_dict.specs.Inside.Lines.Running.{running_word, signs_behind, word_signs}
+use Rattle.pg_dict.specs.Inside.Lines.RunningWords.{running_word, signs_behind, word_signs}
 use Rattle.pg_dict.specs.Inside.Lines.ReadColumns.{columns_after}
 use Rattle.pg_dict.specs.Inside.Lines.LineStarts.{word_reading}
 use Rattle.pg_dict.specs.Inside.Lines.Entries.{with_word}

@@ -15,7 +15,7 @@ use Rattle.pg_dict.specs.DictionaryWords.{sets_hyphen, keeps_care}
 use Rattle.pg_dict.specs.Word.{Word}
 use Rattle.pg_dict.specs.Inside.SoundWords.{word_of_signs, is_weight}
 use Rattle.pg_dict.proofs.WordStore.WordTests.{is_word, is_plain_at, decides, has_lengths}
-use Rattle.pg_dict.specs.Inside.Lines.Running.{signs_behind, word_signs}
+use Rattle.pg_dict.specs.Inside.Lines.RunningWords.{signs_behind, word_signs}
 use Rattle.pg_dict.specs.Inside.Store.{columns_of, is_sign_up_to, IsFit}
 use Rattle.pg_types.proofs.BoolFacts.{all_weaker}
 

@@ -3,5 +3,5 @@ pub mod Entries
 pub mod LineStarts
 pub mod PositionedSigns
 pub mod ReadColumns
-pub mod Running
+pub mod RunningWords
 pub mod Steps

@@ -2,4 +2,4 @@
 pub mod AccountLines
 pub mod CellsAccounts
 pub mod RunAccounts
-pub mod Sound
+pub mod SoundRecords

@@ -1,7 +1,7 @@
 //! The candidates that come next, looked at together.
 ghost use Rattle.std.specs.Prelude.{◌≡◌, ℕ, ◌+◌, ◌<◌, ◌≤◌, length, slice_get, Some, IfOk, OnOk};
 ghost use Rattle.pg_driver.specs.declared.choices.look_ahead.SeenCandidate.{SeenCandidate};
-ghost use Rattle.pg_driver.specs.Inside.choices.LookAhead.{IsSeen, AreSeen, AreThere};
+ghost use Rattle.pg_driver.specs.Inside.choices.LookAhead.{IsReadAhead, AreSeen, AreThere};
 
 use pg_select::{Choice, Engine};
 use pg_types::Cursor;
@@ -32,7 +32,7 @@ fn look_at<E: Engine>(
     ensures size { OnOk result (length seen.new.items ≡ length numbers.now) }
     ensures each { OnOk result ((k n : ℕ) (c : SeenCandidate) → slice_get numbers.now k ≡ Some n
         → slice_get seen.new.items k ≡ Some c
-        → IsSeen fates.now (E.meaning engine.now).windows n c) }
+        → IsReadAhead fates.now (E.meaning engine.now).windows n c) }
 {
     seen.clear();
     'numbers: for number in numbers {

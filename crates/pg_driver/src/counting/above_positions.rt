@@ -8,21 +8,21 @@ ghost use Rattle.pg_types.specs.declared.parameters.LevelParams.{LevelParams};
 ghost use Rattle.pg_types.specs.Inside.counting.Counts.{Counts};
 ghost use Rattle.pg_types.specs.Inside.counting.NumberedWindows.{AreNumbered, Windows};
 ghost use Rattle.pg_dict.specs.Inside.SoundWords.{IsWord};
-ghost use Rattle.pg_dict.specs.Inside.Lent.{lent_word};
+ghost use Rattle.pg_dict.specs.Inside.LentWords.{lent_word};
 ghost use Rattle.pg_patterns.specs.Values.{Patterns};
 ghost use Rattle.pg_select.specs.CountedPositions.{counts_as as counts_as_of, minima_of};
-ghost use Rattle.pg_select.specs.Inside.laws.Above.{counts_above};
+ghost use Rattle.pg_select.specs.Inside.laws.AboveLevel.{counts_above};
 ghost use Rattle.pg_select.specs.Inside.words.Positions.{HasValues};
 ghost use Rattle.pg_select.specs.Statuses.{status};
 ghost use Rattle.pg_driver.specs.declared.pass_windows.TheConstants.{NO_NUMBER};
 ghost use Rattle.pg_driver.specs.Inside.counting.OpenLevels.{listed_in, open_as};
-ghost use Rattle.pg_driver.specs.Inside.counting.OpenPositions.{IsPlaced};
+ghost use Rattle.pg_driver.specs.Inside.counting.OpenPositions.{IsInWord};
 ghost use Rattle.pg_driver.specs.Inside.level.PassWindows.{AreFates, HaveNumbers, IsNumbered, is_counted_at};
 ghost use Rattle.pg_driver.specs.Inside.choices.Fates.{chooses};
 ghost use Rattle.pg_driver.specs.Inside.counting.WordLevels.{TookChosen, chosen_weights, with_chosen};
 
-use crate::counting::marks::counts_as;
 use crate::counting::open_passes::{fate_of, is_good};
+use crate::counting::positions::counts_as;
 use crate::pass_windows::WordPosition;
 use pg_dict::{Dictionary, WordRef};
 use pg_select::marks::{mark_at, positions};
@@ -116,7 +116,7 @@ fn add_kept(
     position: WordPosition,
     kept: ChosenWeights,
 ) -> ChosenWeights
-    requires placed { IsPlaced dictionary.now position }
+    requires placed { IsInWord dictionary.now position }
     requires few { length fates.now ≤ NO_NUMBER }
     requires room { kept.good + kept.bad + WEIGHT_MAX < 2 ^ 64 }
     ensures value { (params : LevelParams) (counts : Counts) (ws : Windows) → AreNumbered ws counts
@@ -154,7 +154,7 @@ pub fn kept_above(
     numbers: &[u32],
     above: &[WordPosition],
 ) -> ChosenWeights
-    requires placed { All (IsPlaced dictionary.now) above.now }
+    requires placed { All (IsInWord dictionary.now) above.now }
     requires above { length above.now ≤ FILE_MAX }
     requires fates { length fates.now ≤ NO_NUMBER }
     requires size { length numbers.now ≡ length above.now }

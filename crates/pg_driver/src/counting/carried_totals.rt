@@ -2,7 +2,7 @@
 ghost use Rattle.std.specs.Prelude.{◌≤◌, ◌<◌, MatchBool};
 ghost use Rattle.pg_select.specs.Inside.laws.Steps.{FindsMore, PreventsMore};
 ghost use Rattle.pg_select.specs.Statuses.{is_odd};
-ghost use Rattle.pg_driver.specs.Inside.records.Sound.{IsSmall};
+ghost use Rattle.pg_driver.specs.Inside.records.SoundRecords.{IsSmall};
 ghost use Rattle.pg_types.specs.Inside.Limits.{sums_limit};
 
 use pg_types::Totals;

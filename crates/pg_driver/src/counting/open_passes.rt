@@ -12,7 +12,7 @@ ghost use Rattle.pg_driver.specs.Inside.counting.OpenSigns.{ClosesBy, closed_by,
 ghost use Rattle.pg_driver.specs.Inside.counting.OpenPositions.{counted_of};
 ghost use Rattle.pg_driver.specs.Inside.level.PassWindows.{HaveNumbers, IsNumbered, counts_at};
 
-use crate::counting::marks::window_at;
+use crate::counting::positions::window_at;
 use crate::pass_windows::NO_NUMBER;
 use pg_dict::Dictionary;
 use pg_dots::OpenDots;

@@ -4,11 +4,11 @@ ghost use Rattle.std.specs.Prelude.{◌≡◌, ◌≤◌, ◌<◌, ◌+◌, ◌-
 ghost use Rattle.pg_types.specs.Inside.Limits.{positions_limit};
 ghost use Rattle.pg_types.specs.Inside.Signs.{SignsWithin};
 ghost use Rattle.pg_dots.specs.Inside.Dots.{is_closed, position_count};
-ghost use Rattle.pg_dots.specs.Inside.Positions.{is_among, room_of};
+ghost use Rattle.pg_dots.specs.Inside.Positions.{is_among, positions_room};
 ghost use Rattle.pg_translate.specs.Reach.{positions as positions_of};
 ghost use Rattle.pg_dict.specs.Word.{Word};
 ghost use Rattle.pg_dict.specs.Inside.SoundWords.{IsWord, SignsAtMost, letter_count};
-ghost use Rattle.pg_dict.specs.Inside.Lent.{lent_word};
+ghost use Rattle.pg_dict.specs.Inside.LentWords.{lent_word};
 ghost use Rattle.pg_select.specs.CountedPositions.{counts_as as counts_as_of, minima_of};
 ghost use Rattle.pg_select.specs.Sums.{totals as totals_of_words, marks_in};
 ghost use Rattle.pg_select.specs.Inside.SumSteps.{with_marks, HasRoomFor, TookRoomFor};
@@ -16,7 +16,7 @@ ghost use Rattle.pg_driver.specs.Inside.counting.Counting.{IsBounded};
 ghost use Rattle.pg_driver.specs.Inside.counting.OpenSigns.{has_care as has_care_of, is_open_first, sign_count, start_of, takes_part};
 ghost use Rattle.pg_driver.specs.Traces.{source_of};
 
-use crate::counting::marks::{counts_as, has_care};
+use crate::counting::positions::{counts_as, has_care};
 use pg_dict::{Dictionary, WordRef};
 use pg_dots::{OpenDots, PositionSet};
 use pg_select::marks::{add_mark, mark_at, no_totals, positions};
@@ -53,8 +53,8 @@ fn open_by_status(level: u8, sign: usize, mark: Mark, dots: &mut OpenDots)
 
 /// Takes a position of this status out of those that count at no level, where it has care.
 fn note_care(sign: usize, mark: Mark, never: &mut PositionSet)
-    requires within { sign < room_of never.old }
-    ensures room { room_of never.new ≡ room_of never.old }
+    requires within { sign < positions_room never.old }
+    ensures room { positions_room never.new ≡ positions_room never.old }
     ensures among { (s : ℕ) → is_among never.new s
         ≡ (not (s == sign && has_care_of mark) && is_among never.old s) }
 {
@@ -81,14 +81,14 @@ fn open_word<E: Engine>(
     requires within { before + length w.now.signs.now ≤ position_count opened.old.dots }
     requires few { position_count opened.old.dots < positions_limit }
     requires none { opened.old.dots.reached ≡ 0 }
-    requires set_size { room_of opened.old.never ≡ position_count opened.old.dots }
+    requires set_size { positions_room opened.old.never ≡ position_count opened.old.dots }
     ensures size { position_count opened.new.dots ≡ position_count opened.old.dots }
     ensures none { opened.new.dots.reached ≡ 0 }
     ensures closed { (d s : ℕ) → s < position_count opened.old.dots → is_closed opened.new.dots d s
         ≡ (not (is_open_first (minima_of table.now) level
         (E.meaning engine.now).patterns (lent_word w.now)
         (s - before)) && is_closed opened.old.dots d s) }
-    ensures set_size { room_of opened.new.never ≡ position_count opened.old.dots }
+    ensures set_size { positions_room opened.new.never ≡ position_count opened.old.dots }
     ensures never { (s : ℕ) → s < position_count opened.old.dots → is_among opened.new.never s
         ≡ (not (takes_part (minima_of table.now) (lent_word w.now) (s - before))
         && is_among opened.old.never s) }
@@ -129,7 +129,7 @@ pub fn open_level<E: Engine>(
         (λ opened. (d n p : ℕ) (w : Word) → slice_get dictionary.now n ≡ Some w
         → p < length w.signs → is_closed opened.dots d (start_of dictionary.now n + p)
         ≡ not (is_open_first (minima_of table.now) level (E.meaning engine.now).patterns w p)) }
-    ensures set_size { IfOk result (λ opened. room_of opened.never ≡ position_count opened.dots) }
+    ensures set_size { IfOk result (λ opened. positions_room opened.never ≡ position_count opened.dots) }
     ensures never { IfOk result (λ opened. (n p : ℕ) (w : Word)
         → slice_get dictionary.now n ≡ Some w → p < length w.signs
         → is_among opened.never (start_of dictionary.now n + p)

@@ -4,10 +4,10 @@ ghost use Rattle.pg_types.specs.declared.limits.TheConstants.{WORD_LETTERS_MAX};
 ghost use Rattle.pg_types.specs.Inside.Signs.{SignsWithin};
 ghost use Rattle.pg_translate.specs.Reach.{positions as positions_of};
 ghost use Rattle.pg_dict.specs.Inside.SoundWords.{IsWord, letter_count};
-ghost use Rattle.pg_dict.specs.Inside.Lent.{lent_word};
+ghost use Rattle.pg_dict.specs.Inside.LentWords.{lent_word};
 ghost use Rattle.pg_select.specs.CountedPositions.{counted_at, counted_positions_at, counted_positions, counts_as as counts_as_of, minima_of};
 ghost use Rattle.pg_select.specs.Inside.words.WordCounts.{counted_positions_in};
-ghost use Rattle.pg_select.specs.Inside.laws.Above.{counts_above};
+ghost use Rattle.pg_select.specs.Inside.laws.AboveLevel.{counts_above};
 ghost use Rattle.pg_select.specs.Statuses.{status_at, position_weight};
 ghost use Rattle.pg_select.specs.Sums.{marks_in, totals as totals_of_words};
 ghost use Rattle.pg_select.specs.Inside.SumSteps.{with_mark, with_marks, HasRoomFor, TookRoomFor};
@@ -15,13 +15,13 @@ ghost use Rattle.pg_select.specs.Windows.{fits as fits_in, window as window_of_w
 ghost use Rattle.pg_driver.specs.Inside.counting.Counting.{meaning_after_counting, HasRoom, IsBounded, IsRead, TookRoom};
 ghost use Rattle.pg_driver.specs.Inside.counting.OpenLevels.{listed_in, listed_from, open_as};
 ghost use Rattle.pg_driver.specs.Inside.level.PassWindows.{GetsNumber, HaveNumbers, NotesNumbers, uncovered_at};
-ghost use Rattle.pg_driver.specs.Inside.records.Sound.{IsSmall};
+ghost use Rattle.pg_driver.specs.Inside.records.SoundRecords.{IsSmall};
 ghost use Rattle.pg_driver.specs.Inside.level.States.{HasBegun, IsPass};
 ghost use Rattle.pg_driver.specs.Inside.counting.WordLevels.{listing};
 ghost use Rattle.pg_driver.specs.Traces.{source_of};
 
 use crate::counting::above_positions::{is_above, list_above};
-use crate::counting::marks::{counts_as, fits, window_at};
+use crate::counting::positions::{counts_as, fits, window_at};
 use crate::pass_windows::{NO_NUMBER, WordPosition};
 use pg_dict::{Dictionary, WordRef};
 use pg_select::marks::{add_mark, mark_at, no_totals, positions};

@@ -1,6 +1,6 @@
 //! The commands, and what each of their arguments has to be.
 
-use pg_types::{FOLDS_MAX, PRICE_MAX};
+use pg_types::{FOLDS_MAX, FOLDS_MIN, PRICE_MAX};
 use pg_words::limits::{COUNT_MAX, FOLDS_DIGITS, PRICE_DIGITS, SAMPLE_DIGITS, SEED_MAX};
 
 /// A number of a command.
@@ -85,7 +85,7 @@ const COUNT: Range = Range {
 
 const FOLDS: Range = Range {
     digits: FOLDS_DIGITS,
-    least: 2,
+    least: FOLDS_MIN,
     most: FOLDS_MAX,
     due: "2 to 10",
 };

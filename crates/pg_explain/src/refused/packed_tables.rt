@@ -35,9 +35,9 @@ fn start_of(front: usize, len: usize, number: usize) -> usize {
     len.saturating_mul(number).saturating_add(front)
 }
 
-/// The numbers of a table's head.
+/// The sizes of a table, as its first bytes say them.
 #[derive(Clone, Copy)]
-struct Head {
+struct Sizes {
     signs: usize,
     cells: usize,
     records: usize,
@@ -46,10 +46,10 @@ struct Head {
 /// How a file breaks a rule: a sentence in which `$0` is the file, and the number for `$1`.
 type Breach = (&'static str, usize);
 
-impl Head {
-    /// The numbers of the head of a file.
-    fn read(bytes: &[u8]) -> Head {
-        Head {
+impl Sizes {
+    /// The sizes that the first bytes of a file say.
+    fn read(bytes: &[u8]) -> Sizes {
+        Sizes {
             signs: u32_at(bytes, 4),
             cells: u32_at(bytes, 8),
             records: u32_at(bytes, 12),
@@ -61,7 +61,7 @@ impl Head {
         start_of(HEAD_LEN, CELL_LEN, self.cells)
     }
 
-    /// The length of a file with this head.
+    /// The length of a file with these sizes.
     fn file_len(&self) -> usize {
         start_of(self.cells_len(), RECORD_LEN, self.records)
     }
@@ -106,9 +106,9 @@ impl Head {
 }
 
 /// The first cell that breaks a rule.
-fn broken_cell(head: &Head, bytes: &[u8]) -> Option<Breach> {
-    for cell in 0..head.cells {
-        if let Some(sentence) = head.cell_breach(bytes, cell) {
+fn broken_cell(sizes: &Sizes, bytes: &[u8]) -> Option<Breach> {
+    for cell in 0..sizes.cells {
+        if let Some(sentence) = sizes.cell_breach(bytes, cell) {
             return Some((sentence, cell));
         }
     }
@@ -116,9 +116,9 @@ fn broken_cell(head: &Head, bytes: &[u8]) -> Option<Breach> {
 }
 
 /// The first record that breaks a rule. Records are counted from 1.
-fn broken_record(head: &Head, bytes: &[u8]) -> Option<Breach> {
-    for record in 0..head.records {
-        if let Some(sentence) = head.record_breach(bytes, record) {
+fn broken_record(sizes: &Sizes, bytes: &[u8]) -> Option<Breach> {
+    for record in 0..sizes.records {
+        if let Some(sentence) = sizes.record_breach(bytes, record) {
             return Some((sentence, record.saturating_add(1)));
         }
     }
@@ -126,26 +126,26 @@ fn broken_record(head: &Head, bytes: &[u8]) -> Option<Breach> {
 }
 
 /// The first cell that breaks a rule, or else the first record.
-fn first_broken(head: &Head, bytes: &[u8]) -> Breach {
-    match broken_cell(head, bytes) {
+fn first_broken(sizes: &Sizes, bytes: &[u8]) -> Breach {
+    match broken_cell(sizes, bytes) {
         Some(broken) => broken,
-        None => broken_record(head, bytes).unwrap_or(("$0 is no packed table", 0)),
+        None => broken_record(sizes, bytes).unwrap_or(("$0 is no packed table", 0)),
     }
 }
 
-/// The rule that a file with a head breaks first.
-fn broken_rule(head: &Head, bytes: &[u8]) -> Breach {
-    let signs = head.signs;
-    if head.file_len() != bytes.len() {
+/// The rule that a file with these sizes breaks first.
+fn broken_rule(sizes: &Sizes, bytes: &[u8]) -> Breach {
+    let signs = sizes.signs;
+    if sizes.file_len() != bytes.len() {
         let sentence = "$0 is no packed table: by its head it has $1 bytes, and it has $4";
-        return (sentence, head.file_len());
+        return (sentence, sizes.file_len());
     }
-    if signs == 0 || signs > usize::from(SIGNS_MAX) || signs >= head.cells {
+    if signs == 0 || signs > usize::from(SIGNS_MAX) || signs >= sizes.cells {
         let sentence =
             "$0 is no packed table: its greatest sign is $1, and has to be 1 to $5 and below the number of cells, $6";
         return (sentence, signs);
     }
-    first_broken(head, bytes)
+    first_broken(sizes, bytes)
 }
 
 /// What is wrong with the first bytes of a file; nothing where it has a head.
@@ -168,8 +168,8 @@ pub(crate) fn push_bad_table(text: &mut Text, refused: &RefusalCase<'_>) -> Resu
     if let Some(sentence) = head_breach(bytes) {
         return text.line(sentence, &[Name(refused.name), Count(HEAD_LEN)]);
     }
-    let head = Head::read(bytes);
-    let (sentence, number) = broken_rule(&head, bytes);
+    let sizes = Sizes::read(bytes);
+    let (sentence, number) = broken_rule(&sizes, bytes);
     let level_max = Count(usize::from(LEVEL_MAX));
     let signs_max = Count(usize::from(SIGNS_MAX));
     text.line(
@@ -181,7 +181,7 @@ pub(crate) fn push_bad_table(text: &mut Text, refused: &RefusalCase<'_>) -> Resu
             Count(PATTERN_SIGNS_MAX),
             Count(bytes.len()),
             signs_max,
-            Count(head.cells),
+            Count(sizes.cells),
         ],
     )?;
     let sentence = "what stands behind that is not judged: pack makes a table anew";
@@ -193,7 +193,7 @@ pub(crate) fn push_other_table(
     text: &mut Text,
     refused: &RefusalCase<'_>,
 ) -> Result<(), AllocError> {
-    let own = Count(Head::read(refused.bytes).signs.saturating_sub(1));
+    let own = Count(Sizes::read(refused.bytes).signs.saturating_sub(1));
     let name = Name(refused.name);
     match &refused.letters {
         Some(letters) => text.line(

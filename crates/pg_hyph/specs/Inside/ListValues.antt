@@ -2,7 +2,7 @@
 use Rattle.std.specs.Prelude.{ℕ, ◌&&◌, nat_lt, nat_le, if◌then◌else◌, List}
 use Rattle.pg_select.specs.declared.pass.Pass.{Pass}
 use Rattle.pg_select.specs.Inside.words.Positions.{bit}
-use Rattle.pg_select.specs.Inside.words.Within.{is_within}
+use Rattle.pg_select.specs.Inside.words.WindowStrings.{is_within}
 use Rattle.pg_trie.specs.Inside.Lists.{outputs_at}
 use Rattle.pg_trie.specs.Inside.Maps.{Maps}
 use Rattle.pg_trie.specs.declared.hopeless.TheConstants.{HOPELESS}

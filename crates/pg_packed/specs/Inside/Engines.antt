@@ -4,8 +4,8 @@ use Rattle.pg_select.specs.Inside.engine.Meanings.{Meaning}
 use Rattle.pg_packed.specs.declared.engine.PackedEngine.{PackedEngine}
 
 -- what the engine means: the maps of its tries. The families of the patterns' trie are told
-abbrev pub meaning_of : PackedEngine → Meaning
-meaning_of e = record {
+abbrev pub packed_meaning : PackedEngine → Meaning
+packed_meaning e = record {
   signs = e.trie.signs;
   patterns = e.trie.patterns;
   hopeless = e.trie.hopeless;

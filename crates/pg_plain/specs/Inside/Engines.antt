@@ -4,8 +4,8 @@ use Rattle.pg_select.specs.Inside.engine.Meanings.{Meaning}
 use Rattle.pg_plain.specs.declared.engine.PlainEngine.{PlainEngine}
 
 -- what the engine means: its maps are the entries in their order. No families are told
-abbrev pub meaning_of : PlainEngine → Meaning
-meaning_of e = record {
+abbrev pub plain_meaning : PlainEngine → Meaning
+plain_meaning e = record {
   signs = e.signs;
   patterns = e.patterns.entries;
   hopeless = e.hopeless.entries;

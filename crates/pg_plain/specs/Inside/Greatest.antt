@@ -2,18 +2,18 @@
 use Rattle.std.specs.Prelude.{ℕ, Bool, ◌&&◌, if◌then◌else◌, List, [], ◌∷◌, length, max}
 use Rattle.pg_select.specs.declared.pass.Pass.{Pass}
 use Rattle.pg_select.specs.Inside.words.Positions.{bit, Raises}
-use Rattle.pg_select.specs.Inside.words.Within.{is_within}
+use Rattle.pg_select.specs.Inside.words.WindowStrings.{is_within}
 
 -- the greatest number of the entries whose dotted strings pass the test, 0 where there is none
-abbrev pub greatest : {X : Type 0} → ((List ℕ × ℕ) × X → ℕ)
+abbrev pub greatest_by : {X : Type 0} → ((List ℕ × ℕ) × X → ℕ)
     → (List ℕ × ℕ → Bool) → List ((List ℕ × ℕ) × X) → ℕ
-greatest number test [] = 0
-greatest number test (e ∷ es) = max (if test e.0 then number e else 0) (greatest number test es)
+greatest_by number test [] = 0
+greatest_by number test (e ∷ es) = max (if test e.0 then number e else 0) (greatest_by number test es)
 
 -- for each position the greatest number of the entries whose dotted strings pass its test
 abbrev pub greatest_at : {X : Type 0} → ((List ℕ × ℕ) × X → ℕ)
     → (ℕ → List ℕ × ℕ → Bool) → List ((List ℕ × ℕ) × X) → ℕ → ℕ
-greatest_at number test es p = greatest number (test p) es
+greatest_at number test es p = greatest_by number (test p) es
 
 -- each position's number was raised to the greatest of the entries that pass its test
 abbrev pub RaisesBy : {X : Type 0} → ((List ℕ × ℕ) × X → ℕ)

@@ -16,7 +16,7 @@ use Rattle.pg_select.proofs.Reaches.{Reaches, reach_is}
 use Rattle.pg_prune.specs.Positions.{PositionInReach, positions_in_reach}
 use Rattle.pg_prune.specs.Inside.positions.WordPositions.{positions_in, positions_from}
 use Rattle.pg_prune.proofs.positions.PositionForms.{positions_as}
-use Rattle.pg_prune.specs.Inside.positions.Standing.{numbers_of, stands, positions_of_entry}
+use Rattle.pg_prune.specs.Inside.positions.EntryPositions.{numbers_of, stands, positions_of_entry}
 use Rattle.pg_prune.specs.declared.positions.trail.Start.{Start}
 use Rattle.pg_prune.specs.Inside.positions.Trails.{count_between, reach_count, start_at, starts_in, starts_from, all_starts, begins_at, starts_of, position_number, number_at_dot}
 use Rattle.pg_prune.proofs.positions.TrailLists.{range_parts, nothing_in, given_shifted}

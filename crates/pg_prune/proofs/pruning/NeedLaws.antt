@@ -8,7 +8,7 @@ use Rattle.pg_patterns.specs.Values.{Patterns, value_at}
 use Rattle.pg_prune.specs.declared.pruned.Need.{Need}
 use Rattle.pg_prune.specs.Positions.{PositionInReach}
 use Rattle.pg_prune.specs.Prunes.{break_alike_at, need_at, needs_from}
-use Rattle.pg_prune.specs.Inside.rounds.Alike.{break_alike}
+use Rattle.pg_prune.specs.Inside.rounds.EqualBreaks.{break_alike}
 use Rattle.pg_prune.specs.Inside.Findings.{need_list, first_difference}
 use Rattle.pg_prune.proofs.rounds.RoundLaws.{by_test, regrouped, NoneGoes}
 use Rattle.pg_prune.proofs.pruning.Told.{IsBehind}

@@ -13,7 +13,7 @@ use Rattle.pg_select.specs.CountedPositions.{Minima}
 use Rattle.pg_prune.specs.Positions.{positions_in_reach}
 use Rattle.pg_prune.proofs.positions.PositionForms.{positions_as}
 use Rattle.pg_prune.specs.Prunes.{round, rounds, needs, pruning_of}
-use Rattle.pg_prune.specs.Inside.rounds.Alike.{break_alike}
+use Rattle.pg_prune.specs.Inside.rounds.EqualBreaks.{break_alike}
 use Rattle.pg_prune.specs.Promises.{BreakAlike, NoneCanGo}
 use Rattle.pg_prune.specs.Inside.Needs.{HasNeeds}
 use Rattle.pg_prune.proofs.rounds.RoundLaws.{rounds_keep, rounds_end, round_stays, NoneGoes}

@@ -14,7 +14,7 @@ use Rattle.pg_prune.specs.Positions.{PositionInReach, positions_in_reach}
 use Rattle.pg_prune.specs.Inside.positions.WordPositions.{positions_in, positions_from}
 use Rattle.pg_prune.proofs.positions.PositionForms.{positions_as}
 use Rattle.pg_prune.specs.Prunes.{break_alike_at}
-use Rattle.pg_prune.specs.Inside.rounds.Alike.{break_alike}
+use Rattle.pg_prune.specs.Inside.rounds.EqualBreaks.{break_alike}
 use Rattle.pg_prune.specs.Promises.{BreakAlike}
 use Rattle.pg_prune.proofs.rounds.RoundLaws.{by_test}
 

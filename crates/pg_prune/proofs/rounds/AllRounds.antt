@@ -10,7 +10,7 @@ use Rattle.pg_patterns.specs.Values.{Patterns}
 use Rattle.pg_patterns.specs.Inside.PatternMaps.{is_entry}
 use Rattle.pg_prune.specs.Positions.{PositionInReach}
 use Rattle.pg_prune.specs.Prunes.{round, rounds_from, rounds, RoundsResult}
-use Rattle.pg_prune.specs.Inside.rounds.Alike.{break_alike}
+use Rattle.pg_prune.specs.Inside.rounds.EqualBreaks.{break_alike}
 use Rattle.pg_prune.specs.Inside.rounds.Turns.{IsTallied}
 use Rattle.pg_prune.specs.Inside.rounds.Picks.{picked_entries, IsKeptSoFar, IsOneRound, HasAllEntries}
 use Rattle.pg_prune.proofs.rounds.RoundLaws.{round_length, round_same}

@@ -9,7 +9,7 @@ use Rattle.pg_types.proofs.BoolFacts.{and_first, and_second}
 use Rattle.pg_patterns.specs.Values.{Patterns}
 use Rattle.pg_patterns.specs.Inside.PatternMaps.{is_entry}
 use Rattle.pg_prune.specs.Positions.{PositionInReach}
-use Rattle.pg_prune.specs.Inside.positions.Standing.{positions_of_entry}
+use Rattle.pg_prune.specs.Inside.positions.EntryPositions.{positions_of_entry}
 use Rattle.pg_prune.specs.Inside.rounds.Turns.{Turn, with_entry, IsAwaited, IsTallied}
 use Rattle.pg_prune.specs.Inside.rounds.Picks.{ListsPositions}
 use Rattle.pg_prune.proofs.rounds.RoundSteps.{standing_at}

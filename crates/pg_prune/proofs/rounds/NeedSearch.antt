@@ -4,7 +4,7 @@ use Rattle.std.specs.Prelude.{MatchOption, is_some}
 use Rattle.pg_patterns.specs.Values.{Patterns}
 use Rattle.pg_prune.specs.Positions.{PositionInReach}
 use Rattle.pg_prune.specs.Prunes.{break_alike_at}
-use Rattle.pg_prune.specs.Inside.rounds.Alike.{break_alike}
+use Rattle.pg_prune.specs.Inside.rounds.EqualBreaks.{break_alike}
 use Rattle.pg_prune.specs.Inside.Findings.{first_difference}
 use Rattle.pg_prune.specs.Inside.rounds.Turns.{IsFound}
 use Rattle.pg_prune.proofs.pruning.NeedLaws.{alike_where_none}

@@ -6,7 +6,7 @@ use Rattle.std.proofs.lemmas.Bool.{eq-eqb, eqb-true}
 use Rattle.pg_patterns.specs.Values.{Patterns}
 use Rattle.pg_prune.specs.Positions.{PositionInReach}
 use Rattle.pg_prune.specs.Prunes.{round_from, round, rounds_from, RoundsResult}
-use Rattle.pg_prune.specs.Inside.rounds.Alike.{break_alike}
+use Rattle.pg_prune.specs.Inside.rounds.EqualBreaks.{break_alike}
 
 -- a fact of either of two values, as the test says
 pub by_test : {A : Type 0} (F : A → Type 0) (b : Bool) (x y : A) → (b ≡ true → F x) → (b ≡ false → F y) → F (cond b x y)

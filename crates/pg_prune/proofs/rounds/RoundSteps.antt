@@ -12,8 +12,8 @@ use Rattle.pg_patterns.specs.Values.{Patterns}
 use Rattle.pg_patterns.specs.Inside.PatternMaps.{is_entry}
 use Rattle.pg_prune.specs.Positions.{PositionInReach}
 use Rattle.pg_prune.specs.Prunes.{round_from, round}
-use Rattle.pg_prune.specs.Inside.rounds.Alike.{break_alike}
-use Rattle.pg_prune.specs.Inside.positions.Standing.{positions_of_entry, positions_of_entries}
+use Rattle.pg_prune.specs.Inside.rounds.EqualBreaks.{break_alike}
+use Rattle.pg_prune.specs.Inside.positions.EntryPositions.{positions_of_entry, positions_of_entries}
 use Rattle.pg_prune.specs.Inside.rounds.Turns.{Turn, with_entry, without_entry, IsHeld, IsTallied}
 use Rattle.pg_prune.specs.Inside.rounds.Picks.{entry_of, picked_entries, IsKeptSoFar, IsOneRound}
 use Rattle.pg_prune.proofs.rounds.RoundLaws.{regrouped}

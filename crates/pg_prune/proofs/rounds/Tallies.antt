@@ -9,8 +9,8 @@ use Rattle.pg_types.proofs.BoolFacts.{and_first, and_second, no_test}
 use Rattle.pg_patterns.specs.Values.{Patterns, value_at}
 use Rattle.pg_patterns.specs.Inside.PatternMaps.{is_entry}
 use Rattle.pg_prune.specs.Positions.{PositionInReach}
-use Rattle.pg_prune.specs.Inside.positions.Standing.{stands}
-use Rattle.pg_prune.specs.Inside.rounds.Holders.{count_at, holder_counts, greatest_value_from, greatest_value, with_one, less_one}
+use Rattle.pg_prune.specs.Inside.positions.EntryPositions.{stands}
+use Rattle.pg_prune.specs.Inside.rounds.Holders.{count_at, holder_counts, greatest_value_from, greatest_held, with_one, less_one}
 
 -- where two functions agree on numbers, so do the lists that they make
 map_same : (f g : ℕ → ℕ) (a n : ℕ) → ((u : ℕ) → a ≤ u → f u ≡ g u) → map f (range_with_len a n) ≡ map g (range_with_len a n)
@@ -99,8 +99,8 @@ top_more b n (c ∷ cs) (suc i) low inside =
     top_more (cond (nat_lt 0 c) (n + 1) b) (n + 1) cs i (below_next (nat_lt 0 c) b n low) (omega arith)
     ∙ (let at : n + 1 + i + 1 ≡ n + suc i + 1 = omega arith in ap (λ k. max k (greatest_value_from (cond (nat_lt 0 c) (n + 1) b) (n + 1) cs)) at)
 
-pub greatest_value_with : (c : List ℕ) (v : ℕ) → 1 ≤ v → v - 1 < length c → greatest_value (with_one c v) ≡ max v (greatest_value c)
-greatest_value_with c v low inside = top_more 0 0 c (v - 1) (omega arith) inside ∙ (let at : 0 + (v - 1) + 1 ≡ v = omega arith in ap (λ k. max k (greatest_value c)) at)
+pub greatest_value_with : (c : List ℕ) (v : ℕ) → 1 ≤ v → v - 1 < length c → greatest_held (with_one c v) ≡ max v (greatest_held c)
+greatest_value_with c v low inside = top_more 0 0 c (v - 1) (omega arith) inside ∙ (let at : 0 + (v - 1) + 1 ≡ v = omega arith in ap (λ k. max k (greatest_held c)) at)
 
 -- the bounds of an entry's value
 pub entry_low : (e : (List ℕ × ℕ) × ℕ) → is_entry e ≡ true → 1 ≤ e.1
@@ -114,15 +114,15 @@ either true = inl refl
 either false = inr refl
 
 -- the value of a position is the greatest that some entry gives
-pub greatest_value_is : (Q : Patterns) (x : PositionInReach) → list_all is_entry Q ≡ true → greatest_value (holder_counts Q x) ≡ value_at Q x.signs x.position
+pub greatest_value_is : (Q : Patterns) (x : PositionInReach) → list_all is_entry Q ≡ true → greatest_held (holder_counts Q x) ≡ value_at Q x.signs x.position
 greatest_value_is [] x sound = refl
 greatest_value_is (e ∷ Q) x sound =
     let low = entry_low e (and_first _ _ sound) in
     let high = entry_high e (and_first _ _ sound) in
     let others = greatest_value_is Q x (and_second _ _ sound) in
     elim (either (stands e x)) [
-      | inl there ↦ ap greatest_value (tally_there [] e Q x low high there) ∙ greatest_value_with (holder_counts Q x) e.1 low (omega arith)
+      | inl there ↦ ap greatest_held (tally_there [] e Q x low high there) ∙ greatest_value_with (holder_counts Q x) e.1 low (omega arith)
           ∙ ap (max e.1) others ∙ ap (λ b. max (cond b e.1 0) (value_at Q x.signs x.position)) (sym there)
-      | inr away ↦ ap greatest_value (tally_away [] e Q x away) ∙ others ∙ (let at : value_at Q x.signs x.position ≡ max 0 (value_at Q x.signs x.position) = omega arith in at)
+      | inr away ↦ ap greatest_held (tally_away [] e Q x away) ∙ others ∙ (let at : value_at Q x.signs x.position ≡ max 0 (value_at Q x.signs x.position) = omega arith in at)
           ∙ ap (λ b. max (cond b e.1 0) (value_at Q x.signs x.position)) (sym away)
     ]

@@ -12,8 +12,8 @@ use Rattle.pg_patterns.specs.Values.{Patterns, value_at}
 use Rattle.pg_patterns.specs.Inside.PatternMaps.{is_entry}
 use Rattle.pg_prune.specs.Positions.{PositionInReach}
 use Rattle.pg_prune.specs.Prunes.{break_alike_at}
-use Rattle.pg_prune.specs.Inside.positions.Standing.{stands, numbers_of}
-use Rattle.pg_prune.specs.Inside.rounds.Holders.{count_at, holder_counts, greatest_value, with_one, less_one, stays_alike}
+use Rattle.pg_prune.specs.Inside.positions.EntryPositions.{stands, numbers_of}
+use Rattle.pg_prune.specs.Inside.rounds.Holders.{count_at, holder_counts, greatest_held, with_one, less_one, stays_alike}
 use Rattle.pg_prune.specs.Inside.rounds.Turns.{Turn, with_entry, without_entry, IsOf}
 use Rattle.pg_prune.proofs.pruning.PrunedLaws.{sound_without}
 use Rattle.pg_prune.proofs.rounds.Tallies.{tally_away, tally_there, less_with, greatest_value_is, entry_low, entry_high}
@@ -60,23 +60,23 @@ module _ (t : Turn) (numbers : List ℕ) (value : ℕ) (of : IsOf t numbers valu
       ∙ get_or-set_same (holder_counts (without_entry t) x) (value - 1) (n + 1) 0 (omega arith) in
       omega arith
 
-  top_with_is : (x : PositionInReach) → greatest_value (holder_counts (with_entry t) x) ≡ value_at (with_entry t) x.signs x.position
+  top_with_is : (x : PositionInReach) → greatest_held (holder_counts (with_entry t) x) ≡ value_at (with_entry t) x.signs x.position
   top_with_is x = greatest_value_is (with_entry t) x of.sound
 
-  top_without_is : (x : PositionInReach) → greatest_value (holder_counts (without_entry t) x) ≡ value_at (without_entry t) x.signs x.position
+  top_without_is : (x : PositionInReach) → greatest_held (holder_counts (without_entry t) x) ≡ value_at (without_entry t) x.signs x.position
   top_without_is x = greatest_value_is (without_entry t) x (sound_without t.before t.entry t.behind of.sound)
 
   alike_as : (x : PositionInReach) (c : List ℕ) → c ≡ holder_counts (without_entry t) x → break_alike_at (with_entry t) (without_entry t) x
-      ≡ nat_eq (greatest_value (holder_counts (with_entry t) x) % 2) (greatest_value c % 2)
+      ≡ nat_eq (greatest_held (holder_counts (with_entry t) x) % 2) (greatest_held c % 2)
   alike_as x c is =
       ap (λ v. nat_eq (v % 2) (value_at (without_entry t) x.signs x.position % 2)) (sym (top_with_is x))
-      ∙ ap (λ v. nat_eq (greatest_value (holder_counts (with_entry t) x) % 2) (v % 2)) (sym (top_without_is x) ∙ ap greatest_value (sym is))
+      ∙ ap (λ v. nat_eq (greatest_held (holder_counts (with_entry t) x) % 2) (v % 2)) (sym (top_without_is x) ∙ ap greatest_held (sym is))
 
   pub there_alike : (x : PositionInReach) → stands t.entry x ≡ true → break_alike_at (with_entry t) (without_entry t) x ≡ stays_alike value (holder_counts (with_entry t) x)
   there_alike x there = alike_as x (less_one (holder_counts (with_entry t) x) value) (there_less x there)
 
   pub away_alike : (x : PositionInReach) → stands t.entry x ≡ false → break_alike_at (with_entry t) (without_entry t) x ≡ true
-  away_alike x away = alike_as x (holder_counts (with_entry t) x) (away_same x away) ∙ eq-eqb (greatest_value (holder_counts (with_entry t) x) % 2) _ refl
+  away_alike x away = alike_as x (holder_counts (with_entry t) x) (away_same x away) ∙ eq-eqb (greatest_held (holder_counts (with_entry t) x) % 2) _ refl
 
 -- a search is in the middle: in front all break alike
 pub record SearchedSoFar (positions : List PositionInReach) (alike : PositionInReach → Bool) (test : PositionInReach → Bool) (left : List ℕ) : Type 0 where

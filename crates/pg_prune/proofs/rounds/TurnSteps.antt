@@ -5,7 +5,7 @@ use Rattle.std.proofs.lemmas.List.{nil_from_length}
 use Rattle.pg_prune.specs.Positions.{PositionInReach}
 use Rattle.pg_prune.specs.Prunes.{break_alike_at}
 use Rattle.pg_prune.specs.Inside.Findings.{first_difference}
-use Rattle.pg_prune.specs.Inside.positions.Standing.{stands}
+use Rattle.pg_prune.specs.Inside.positions.EntryPositions.{stands}
 use Rattle.pg_prune.specs.Inside.rounds.Holders.{holder_counts}
 use Rattle.pg_prune.specs.Inside.rounds.Turns.{Turn, with_entry, without_entry, IsHeld, IsAwaited}
 use Rattle.pg_prune.proofs.rounds.Walks.{WalkedSoFar, Step, walk_begins, walk_steps, walk_ends}

@@ -1,4 +1,4 @@
 -- The positions that are compared, and at which of them entries stand.
-pub mod Standing
+pub mod EntryPositions
 pub mod Trails
 pub mod WordPositions

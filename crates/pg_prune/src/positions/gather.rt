@@ -2,7 +2,7 @@
 ghost use Rattle.std.specs.Prelude.{◌≡◌, map, IfOk, All};
 ghost use Rattle.pg_select.specs.CountedPositions.{minima_of};
 ghost use Rattle.pg_prune.specs.Positions.{positions_in_reach as positions_of};
-ghost use Rattle.pg_prune.specs.Inside.positions.Standing.{positions_of_entries};
+ghost use Rattle.pg_prune.specs.Inside.positions.EntryPositions.{positions_of_entries};
 ghost use Rattle.pg_prune.specs.Inside.positions.Trails.{IsStart, all_starts as all_starts_of};
 
 use crate::positions::trail::{Start, Trail, all_starts};

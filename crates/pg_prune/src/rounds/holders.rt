@@ -22,7 +22,7 @@ impl Model for Holders {
 impl Holders {
     ghost use Rattle.std.specs.Prelude.{◌≡◌, ◌+◌, ◌-◌, ◌<◌, ◌≤◌, ◌^◌, slice_index, replicate};
     ghost use Rattle.pg_types.specs.declared.limits.TheConstants.{LEVEL_MAX};
-    ghost use Rattle.pg_prune.specs.Inside.rounds.Holders.{greatest_value, with_one, less_one, stays_alike};
+    ghost use Rattle.pg_prune.specs.Inside.rounds.Holders.{greatest_held, with_one, less_one, stays_alike};
 
     /// No entry.
     pub fn none() -> Holders
@@ -52,8 +52,8 @@ impl Holders {
     }
 
     /// The greatest value that some entry gives, 0 where there is none.
-    fn greatest_value(&self) -> u8
-        ensures { result ≡ greatest_value self.now }
+    fn greatest_held(&self) -> u8
+        ensures { result ≡ greatest_held self.now }
     {
         let mut best = 0;
         'counts: for i in 0..VALUES {
@@ -74,6 +74,6 @@ impl Holders {
             counts: self.counts,
         };
         rest.take_off(value);
-        self.greatest_value() % 2 == rest.greatest_value() % 2
+        self.greatest_held() % 2 == rest.greatest_held() % 2
     }
 }

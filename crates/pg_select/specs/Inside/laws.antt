@@ -1,5 +1,5 @@
 -- The laws of the definitions of this crate.
 pub mod Laws
-pub mod Above
+pub mod AboveLevel
 pub mod ClosedDots
 pub mod Steps

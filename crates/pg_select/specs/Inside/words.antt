@@ -1,4 +1,4 @@
 -- What the positions of a word are found to be, and what a pass counts in it.
 pub mod Positions
-pub mod Within
+pub mod WindowStrings
 pub mod WordCounts

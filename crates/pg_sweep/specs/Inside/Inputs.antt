@@ -32,8 +32,8 @@ abbrev pub totals_of_first_folds : Terms → Parameters → ℕ → Totals
 totals_of_first_folds s set count = total_of (map (fold_totals s set) (range_with_len 0 count))
 
 -- the signs of the words and of the patterns are signs of the table
-abbrev pub HasSigns : SharedInputs → Type 0
-HasSigns g = SignsAtMost (letters_of g.table.now + 1) g.dictionary.now
+abbrev pub HasSharedSigns : SharedInputs → Type 0
+HasSharedSigns g = SignsAtMost (letters_of g.table.now + 1) g.dictionary.now
     × SignsUpTo (letters_of g.table.now + 1) g.start.now
 
 -- totals are no greater than those of this many folds can be

@@ -28,7 +28,7 @@ use Rattle.pg_table.specs.Inside.text.Sharing.{value_and_dot}
 use Rattle.pg_table.specs.Texts.{recorded_lists, head_in, record_of, cell_of_table, table_text}
 use Rattle.pg_table.specs.Inside.text.Files.{table_cells, table_records, file_of}
 use Rattle.pg_table.proofs.parts.FormLaws.{IsSoundCell, IsSoundRecord, form_from}
-use Rattle.pg_table.proofs.text.FileParts.{AreSmall, sizes_with, head_is, cell_is, file_sound, records_are_those, length-file_of}
+use Rattle.pg_table.proofs.text.FileParts.{AreSmall, sizes_with, sizes_are, cell_is, file_sound, records_are_those, length-file_of}
 use Rattle.pg_table.proofs.text.Recorded.{head_within}
 use Rattle.pg_table.proofs.text.RecordedStrings.{recorded_ordered, recorded_known}
 use Rattle.pg_table.proofs.text.TableCells.{cell_within, cells_sound}
@@ -91,7 +91,7 @@ module _ (n : ℕ) (P : Patterns) (h : ValuedFamilies ℕ) (sound : IsPatternMap
 
     has_cells : HasCells (file_of n cells records) h.families (head_in P)
     has_cells = record {
-      count = ap (λ k. k.cells) (head_is n cells records small) ∙ length-cells;
+      count = ap (λ k. k.cells) (sizes_are n cells records small) ∙ length-cells;
       each = λ at inside.
           let c : Cell = cell_of_table h.families (head_in P) at in cell_is n cells records small at c (omega (arith, length-cells)) (cell_there at c inside);
     }

@@ -10,7 +10,7 @@ use Rattle.pg_table.specs.Lookups.{cell_has_sign, lookup, lookup_from, table_ent
 use Rattle.pg_table.specs.Inside.view.ListsOf.{list_in}
 use Rattle.pg_table.specs.Inside.view.Greatest.{greatest, value_in_list}
 use Rattle.pg_table.proofs.laws.Greatest.{entry_as, value_as}
-use Rattle.pg_table.specs.Inside.view.Raising.{by_value, by_record_list, by_strings, by_starts}
+use Rattle.pg_table.specs.Inside.view.Raising.{by_value, by_record_list, by_table_strings, by_table_starts}
 
 -- the greatest of numbers that are all 0
 pub greatest_none : (f : ℕ → ℕ) (a n : ℕ) → ((i : ℕ) → a ≤ i → i < a + n → f i ≡ 0) → greatest f (range_with_len a n) ≡ 0
@@ -85,27 +85,27 @@ module _ (b w : List ℕ) where
       same true z = refl
       same false z = refl
 
-  pub strings_none : (p start n : ℕ) → ((m : ℕ) → n ≤ m → m ≤ PATTERN_SIGNS_MAX → start + m ≤ length w → lookup b (take m (drop start w)) ≡ []) → by_strings b w start n p ≡ 0
-  unfolding by_strings
+  pub strings_none : (p start n : ℕ) → ((m : ℕ) → n ≤ m → m ≤ PATTERN_SIGNS_MAX → start + m ≤ length w → lookup b (take m (drop start w)) ≡ []) → by_table_strings b w start n p ≡ 0
+  unfolding by_table_strings
   strings_none p start n none = greatest_none (value_from b w p start) n (PATTERN_SIGNS_MAX + 1 - n) (λ m low high. value_none p start m (none m low (omega arith)))
 
   -- what the strings of n signs or more give is what that of n signs gives, and what the longer ones do
-  pub strings_more : (p start n : ℕ) → n ≤ PATTERN_SIGNS_MAX → start + n ≤ length w → by_strings b w start n p
-      ≡ max (by_record_list start n (lookup b (take n (drop start w))) p) (by_strings b w start (n + 1) p)
-  unfolding by_strings
+  pub strings_more : (p start n : ℕ) → n ≤ PATTERN_SIGNS_MAX → start + n ≤ length w → by_table_strings b w start n p
+      ≡ max (by_record_list start n (lookup b (take n (drop start w))) p) (by_table_strings b w start (n + 1) p)
+  unfolding by_table_strings
   strings_more p start n few inside =
       let size : PATTERN_SIGNS_MAX + 1 - n ≡ suc (PATTERN_SIGNS_MAX + 1 - (n + 1)) = omega arith in
       ap (λ k. greatest (value_from b w p start) (range_with_len n k)) size
-      ∙ ap (λ v. max (cond (nat_le (start + n) (length w) && (nat_le start p && nat_le (p - start) n)) v 0) (by_strings b w start (n + 1) p)) (entry_as b (take n (drop start w)) (p - start))
-      ∙ ap (λ t. max (cond (t && (nat_le start p && nat_le (p - start) n)) (value_in_list (p - start) (lookup b (take n (drop start w)))) 0) (by_strings b w start (n + 1) p))
+      ∙ ap (λ v. max (cond (nat_le (start + n) (length w) && (nat_le start p && nat_le (p - start) n)) v 0) (by_table_strings b w start (n + 1) p)) (entry_as b (take n (drop start w)) (p - start))
+      ∙ ap (λ t. max (cond (t && (nat_le start p && nat_le (p - start) n)) (value_in_list (p - start) (lookup b (take n (drop start w)))) 0) (by_table_strings b w start (n + 1) p))
       (le-leb (start + n) (length w) inside)
 
   -- and so for the starts
-  pub starts_more : (p start : ℕ) → start < length w → by_starts b w start p ≡ max (by_strings b w start 1 p) (by_starts b w (start + 1) p)
-  unfolding by_starts
+  pub starts_more : (p start : ℕ) → start < length w → by_table_starts b w start p ≡ max (by_table_strings b w start 1 p) (by_table_starts b w (start + 1) p)
+  unfolding by_table_starts
   starts_more p start inside =
       let size : length w - start ≡ suc (length w - (start + 1)) = omega arith in
-      ap (λ k. greatest (λ i. by_strings b w i 1 p) (range_with_len start k)) size
+      ap (λ k. greatest (λ i. by_table_strings b w i 1 p) (range_with_len start k)) size
 
 -- what one value gives, of those of a list
 pub list_more : (start n : ℕ) (x : ℕ × ℕ) (xs : List (ℕ × ℕ)) (p : ℕ) → by_record_list start n (x ∷ xs) p ≡ max (by_value start n x p) (by_record_list start n xs p)
@@ -161,11 +161,11 @@ empty_list start n p = same (nat_le start p && nat_le (p - start) n) 0
     same false z = refl
 
 -- no string begins at the end of a word
-pub starts_none : (b w : List ℕ) (p start : ℕ) → length w ≤ start → by_starts b w start p ≡ 0
-unfolding by_starts
+pub starts_none : (b w : List ℕ) (p start : ℕ) → length w ≤ start → by_table_starts b w start p ≡ 0
+unfolding by_table_starts
 starts_none b w p start past =
     let none : length w - start ≡ 0 = omega arith in
-    ap (λ n. greatest (λ i. by_strings b w i 1 p) (range_with_len start n)) none
+    ap (λ n. greatest (λ i. by_table_strings b w i 1 p) (range_with_len start n)) none
 
 -- a list of one element, again and again
 pub all_same : {X : Type 0} (x : X) (n p : ℕ) → get_or (replicate n x) p x ≡ x
@@ -174,8 +174,8 @@ all_same x (suc n) zero = refl
 all_same x (suc n) (suc p) = all_same x n p
 
 -- what the strings of all starts give is the value
-pub table_value_is : (b w : List ℕ) (p : ℕ) → by_starts b w 0 p ≡ table_value b w p
-unfolding by_starts by_strings
+pub table_value_is : (b w : List ℕ) (p : ℕ) → by_table_starts b w 0 p ≡ table_value b w p
+unfolding by_table_starts by_table_strings
 table_value_is b w p =
     let size : length w - 0 ≡ length w = omega arith in
     ap (λ n. greatest (λ i. greatest (value_from b w p i) (range_with_len 1 PATTERN_SIGNS_MAX)) (range_with_len 0 n)) size ∙ sym (value_as b w p)

@@ -4,7 +4,7 @@ ghost use Rattle.pg_types.specs.declared.limits.TheConstants.{WORD_LETTERS_MAX};
 ghost use Rattle.pg_table.specs.Forms.{sizes_of};
 ghost use Rattle.pg_table.specs.Inside.view.ListsOf.{list_in};
 ghost use Rattle.pg_select.specs.Inside.words.Positions.{values_of, Raises};
-ghost use Rattle.pg_table.specs.Inside.view.Raising.{IsUncovered, by_value, by_record_list, by_strings, by_starts};
+ghost use Rattle.pg_table.specs.Inside.view.Raising.{IsUncovered, by_value, by_record_list, by_table_strings, by_table_starts};
 
 use crate::view::TableView;
 use pg_select::WordState;
@@ -15,7 +15,7 @@ use pg_types::{PATTERN_SIGNS_MAX, Sign};
 pub fn walk(view: &TableView<'_>, w: &[Sign], out: &mut WordState)
     requires len { length w.now ≤ WORD_LETTERS_MAX + 2 }
     requires uncovered { IsUncovered out.old }
-    ensures values { Raises (by_starts view.now w.now 0) (values_of out.old) (values_of out.new) }
+    ensures values { Raises (by_table_starts view.now w.now 0) (values_of out.old) (values_of out.new) }
     ensures uncovered { IsUncovered out.new }
 {
     for start in 0..w.len() {
@@ -29,7 +29,7 @@ fn take_strings(view: &TableView<'_>, w: &[Sign], start: usize, out: &mut WordSt
     requires len { length w.now ≤ WORD_LETTERS_MAX + 2 }
     requires inside { start ≤ length w.now }
     requires uncovered { IsUncovered out.old }
-    ensures values { Raises (by_strings view.now w.now start 1)
+    ensures values { Raises (by_table_strings view.now w.now start 1)
         (values_of out.old) (values_of out.new) }
     ensures uncovered { IsUncovered out.new }
 {

@@ -4,7 +4,7 @@ use Rattle.pg_types.specs.declared.marks.Layout.{Layout}
 use Rattle.pg_select.specs.declared.pass.Pass.{Pass}
 use Rattle.pg_driver.specs.declared.records.PassRecord.{PassRecord}
 use Rattle.pg_driver.specs.declared.records.LevelRecord.{LevelRecord}
-use Rattle.pg_driver.specs.Inside.records.Sound.{CompletedRun}
+use Rattle.pg_driver.specs.Inside.records.SoundRecords.{CompletedRun}
 use Rattle.pg_driver.specs.Inside.records.CellsAccounts.{CellsAccount}
 
 -- every layout of a run is there

@@ -1,6 +1,6 @@
 -- Laws of changes and links, by which a disk in memory knows that it is plain.
 pub mod Cases
-pub mod Following
+pub mod FollowedLinks
 pub mod Nodes
 pub mod ChangeLaws
-pub mod Plain
+pub mod DisksWithoutLinks

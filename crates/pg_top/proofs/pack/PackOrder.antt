@@ -13,7 +13,7 @@ use Rattle.pg_top.specs.pack.PackRule.{GivesValues, pack_rule, outcome_of_pack}
 use Rattle.pg_top.specs.totals.TotalsRule.{packed_table}
 use Rattle.pg_top.specs.pack.Inside.Inputs.{HasPack, packed_text}
 use Rattle.pg_words.specs.forms.Pack.{PackRequest}
-use Rattle.pg_steps.specs.Inside.ends.Built.{KeepsPromise}
+use Rattle.pg_steps.specs.Inside.ends.BuiltTexts.{KeepsPromise}
 use Rattle.pg_steps.specs.Inside.ends.Stops.{StopsCommandWith, StopsCommand, StopsMaking}
 use Rattle.pg_steps.specs.declared.answers.Status.TheVariants.{Done}
 use Rattle.pg_steps.specs.declared.inputs.Input.TheVariants as input

@@ -13,7 +13,7 @@ use Rattle.pg_steps.specs.FileCalls.{MakesCalls}
 use Rattle.pg_steps.specs.Readings.{table_named, translate_file, patterns_file, words_file, patterns_under, words_under}
 use Rattle.pg_top.specs.prune.Inside.Inputs.{HasPrune, line_of_pruning, pruned_by}
 use Rattle.pg_words.specs.forms.Prune.{PruneRequest}
-use Rattle.pg_steps.specs.Inside.ends.Built.{KeepsPromise}
+use Rattle.pg_steps.specs.Inside.ends.BuiltTexts.{KeepsPromise}
 use Rattle.pg_prune.specs.Prunes.{pruning_of}
 use Rattle.pg_prune.specs.Reports.{prune_report}
 use Rattle.pg_prune.proofs.pruning.PrunedLaws.{pruned_part, pruned_alike, pruned_least}

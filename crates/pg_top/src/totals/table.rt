@@ -2,7 +2,7 @@
 ghost use Rattle.std.specs.Prelude.{◌≡◌, ◌+◌, IfOk, IfErr, IfSome, [], ◌∷◌};
 ghost use Rattle.pg_types.specs.ValuesOrRefusals.{refusal_at};
 ghost use Rattle.pg_dict.specs.Inside.SoundWords.{SignsAtMost};
-ghost use Rattle.pg_driver.specs.Inside.records.Sound.{IsSmall};
+ghost use Rattle.pg_driver.specs.Inside.records.SoundRecords.{IsSmall};
 ghost use Rattle.pg_outside.specs.Content.{file_at};
 ghost use Rattle.pg_outside.specs.FilesCalls.{Reads};
 ghost use Rattle.pg_texts.specs.ReportTexts.{ending_text};

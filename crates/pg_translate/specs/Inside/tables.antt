@@ -2,4 +2,4 @@
 pub mod Checks
 pub mod Heads
 pub mod Rules
-pub mod Sound
+pub mod SoundTables

@@ -15,7 +15,7 @@ use Rattle.pg_words.specs.declared.commands.PruneNames.{PruneNames}
 use Rattle.pg_words.specs.declared.commands.SweepWords.{SweepWords}
 use Rattle.pg_words.specs.declared.commands.Command.{Command}
 use Rattle.pg_words.specs.declared.commands.Command.TheVariants.{Generate, Audit, Sample, Pack, Totals, Prune, Sweep}
-use Rattle.pg_types.specs.declared.limits.TheConstants.{FOLDS_MAX, PRICE_MAX, SETS_MAX}
+use Rattle.pg_types.specs.declared.limits.TheConstants.{FOLDS_MAX, FOLDS_MIN, PRICE_MAX, SETS_MAX}
 use Rattle.pg_words.specs.declared.limits.TheConstants.{SEED_MAX, COUNT_MAX}
 use Rattle.pg_words.specs.Inside.Names.{arguments_of}
 
@@ -87,7 +87,7 @@ asked_by (Sweep words) = ToSweep (sweep_of words)
 
 -- the numbers of `sweep` are within their limits
 pub record KeepsSweepLimits (w : SweepWords) : Type 0 where
-  pub folds : (2 ≤ w.folds) × (w.folds ≤ FOLDS_MAX)
+  pub folds : (FOLDS_MIN ≤ w.folds) × (w.folds ≤ FOLDS_MAX)
   pub bad : (1 ≤ w.bad) × (w.bad ≤ PRICE_MAX)
   pub missed : (1 ≤ w.missed) × (w.missed ≤ PRICE_MAX)
   pub params : (1 ≤ length w.params.now) × (length w.params.now ≤ SETS_MAX)

@@ -1,7 +1,7 @@
 -- The arguments of `sweep`.
 use Rattle.std.specs.Prelude.{ℕ, nat_lt, nat_le, ◌&&◌, if◌then◌else◌, List, [], ◌∷◌, length, Option, None}
 use Rattle.std.specs.Option.{option_and_then}
-use Rattle.pg_types.specs.declared.limits.TheConstants.{FOLDS_MAX, PRICE_MAX, SETS_MAX}
+use Rattle.pg_types.specs.declared.limits.TheConstants.{FOLDS_MAX, FOLDS_MIN, PRICE_MAX, SETS_MAX}
 use Rattle.pg_words.specs.NumbersWithin.{number_within}
 use Rattle.pg_words.specs.TakenNames.{where_taken}
 use Rattle.pg_words.specs.declared.limits.TheConstants.{FOLDS_DIGITS, PRICE_DIGITS}
@@ -33,5 +33,5 @@ sweep_in (dict ∷ patterns ∷ output ∷ translate ∷ k ∷ bad_argument ∷ 
       params = params;
     }) else None) (number_within PRICE_DIGITS 1 PRICE_MAX missed_argument))
     (number_within PRICE_DIGITS 1 PRICE_MAX bad_argument))
-    (number_within FOLDS_DIGITS 2 FOLDS_MAX k)
+    (number_within FOLDS_DIGITS FOLDS_MIN FOLDS_MAX k)
 sweep_in words = None

@@ -2,7 +2,7 @@ use Rattle.pg_cells.proofs.GivenMembers.{extends_itself}
 use Rattle.pg_cells.specs.Inside.store.Store.{Extends}
 use Rattle.pg_cells.specs.declared.store.cell.Cell.{Cell}
 use Rattle.std.proofs.Common.{arith, List, sym, subst}
-use Rattle.pg_cells.specs.Inside.store.Lists.{row_of}
+use Rattle.pg_cells.specs.Inside.store.CellRows.{row_of}
 use Rattle.pg_cells.proofs.StoreSteps.{extended_once, extends_same, longer_once}
 use Rattle.pg_cells.proofs.store.grow_cells.Goals as goal
 

@@ -1,6 +1,6 @@
 use Rattle.std.proofs.Common.{◌<◌, ◌≤◌, ◌-◌, length}
 use Rattle.pg_cells.specs.declared.store.cell.TheConstants.{CELLS_END}
-use Rattle.pg_cells.specs.Inside.store.Lists.{linked_row, row_of}
+use Rattle.pg_cells.specs.Inside.store.CellRows.{linked_row, row_of}
 use Rattle.pg_cells.specs.Inside.store.FreeList.{AreLinked}
 use Rattle.pg_cells.specs.Inside.store.Store.{Extends}
 use Rattle.pg_cells.proofs.store.grow_cells.Given as goal

@@ -1,6 +1,6 @@
 use Rattle.std.proofs.Common.{inl, inr, ap, ◌∙◌, arith}
 use Rattle.std.proofs.lemmas.Bool.{cases_eq}
-use Rattle.pg_cells.specs.Inside.store.Lists.{row_of, sign_at}
+use Rattle.pg_cells.specs.Inside.store.CellRows.{row_of, sign_at}
 use Rattle.pg_cells.proofs.store.taken_up_to.Goals as goal
 
 pub loop-at-init : goal.loop-at-init

@@ -1,5 +1,5 @@
 use Rattle.std.proofs.Common.{◌≢◌, ℕ, ◌≤◌}
-use Rattle.pg_cells.specs.Inside.store.Lists.{linked_row, sign_at}
+use Rattle.pg_cells.specs.Inside.store.CellRows.{linked_row, sign_at}
 use Rattle.pg_cells.proofs.store.taken_up_to.Given as goal
 
 abbrev pub invariant-loop-at : goal.invariant-loop-at

@@ -2,7 +2,7 @@
 use Rattle.std.specs.Prelude.{◌≡◌, ◌≢◌, ℕ, ◌+◌, ◌<◌, ◌≤◌, ◌⊎◌, max, true, false, List, [], ◌∷◌, ◌++◌, length, take, get_or, slice_get, None, Some}
 use Rattle.pg_cells.specs.declared.store.fit.Slot.{Slot}
 use Rattle.pg_cells.specs.declared.store.member.Member.{Member}
-use Rattle.pg_cells.specs.Inside.store.Lists.{Row, FitsCell, sign_at, child_at, base_at}
+use Rattle.pg_cells.specs.Inside.store.CellRows.{Row, FitsCell, sign_at, child_at, base_at}
 use Rattle.pg_types.specs.Inside.Placing.{IsLeast}
 use Rattle.pg_cells.specs.Inside.store.Store.{taken_in, IsTop}
 use Rattle.pg_cells.specs.Inside.families.Searches.{search_start}

@@ -12,7 +12,7 @@ use Rattle.std.specs.Coded.{Coded, Coded-set}
 use mathlib.Core.HLevel.{Σ_prop_path}
 use Rattle.pg_types.specs.Placement.{Family, family_at}
 use Rattle.pg_types.specs.Inside.Placing.{cell_of}
-use Rattle.pg_cells.specs.Inside.store.Lists.{Row, child_at}
+use Rattle.pg_cells.specs.Inside.store.CellRows.{Row, child_at}
 use Rattle.pg_cells.specs.Inside.linked.ValuedFamilies.{Trie, trie_code}
 use Rattle.pg_cells.specs.Inside.families.Layouts.{AreLaidOut, IsTrie, signs_at_base, value_in}
 

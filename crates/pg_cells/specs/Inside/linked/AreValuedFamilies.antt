@@ -8,6 +8,7 @@ use Rattle.std.specs.FinMap.{find}
 use Rattle.std.specs.FinMap.Entries.{is_sorted}
 use Rattle.pg_types.specs.Placement.{Family, family_at, base_of}
 use Rattle.pg_types.specs.Inside.Placing.{cell_of}
+use Rattle.pg_types.specs.Inside.Signs.{IsTableSign}
 use Rattle.pg_cells.specs.Inside.linked.ValuedFamilies.{ValuedFamilies}
 
 -- what is always true of the families and the values of the cells
@@ -22,7 +23,7 @@ pub record AreValuedFamilies {V : Type 0} (h : ValuedFamilies V) : Type 0 where
       → (cell : ℕ) × (cell_of h.families q ≡ Some cell)
   -- the signs of such a string are those of the table
   pub signs : (p : List ℕ) (x cell : ℕ) → cell_of h.families (p ++ x ∷ []) ≡ Some cell
-      → (1 ≤ x) × (x ≤ h.signs)
+      → IsTableSign h.signs x
   -- no two strings have one cell
   pub apart : (q p : List ℕ) (cell : ℕ) → cell_of h.families q ≡ Some cell
       → cell_of h.families p ≡ Some cell → q ≡ p

@@ -1,6 +1,6 @@
 -- Bases that cannot take a family, since another family has the base or one of the cells.
 use Rattle.std.specs.Prelude.{◌≡◌, ◌≢◌, ℕ, ◌+◌, ◌<◌, ◌≤◌, ◌⊎◌, true}
-use Rattle.pg_cells.specs.Inside.store.Lists.{Row, sign_at, base_at}
+use Rattle.pg_cells.specs.Inside.store.CellRows.{Row, sign_at, base_at}
 
 module _ {V : Type 0} where
   -- a family cannot move to the base k: it is taken, or a cell of another family is in the way

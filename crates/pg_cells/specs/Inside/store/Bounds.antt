@@ -1,6 +1,6 @@
 -- Bounds by sign below which no base is free.
 use Rattle.std.specs.Prelude.{◌≡◌, ◌≢◌, ℕ, ◌+◌, ◌<◌, false, List, get_or}
-use Rattle.pg_cells.specs.Inside.store.Lists.{Row, sign_at, base_at}
+use Rattle.pg_cells.specs.Inside.store.CellRows.{Row, sign_at, base_at}
 
 -- the base is below the bound of the sign and below each base that was given up, and the sign's
 -- cell at the base is below each cell that was given up

@@ -2,7 +2,7 @@
 use Rattle.std.specs.Prelude.{◌≡◌, ℕ, ◌+◌, ◌<◌, Bool, true, not, ◌&&◌, nat_eq, List, ◌∷◌, length, map, slice_index, Option}
 use Rattle.std.specs.List.{list_all, find}
 use Rattle.pg_cells.specs.declared.store.fit.Slot.{Slot}
-use Rattle.pg_cells.specs.Inside.store.Lists.{Row, sign_at, base_at}
+use Rattle.pg_cells.specs.Inside.store.CellRows.{Row, sign_at, base_at}
 
 -- the signs of slots, in their order
 abbrev pub slot_signs : {V : Type 0} → List (Slot V) → List ℕ

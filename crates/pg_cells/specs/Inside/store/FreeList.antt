@@ -1,7 +1,7 @@
 -- The list through the free cells: each free cell once, in rising order. Cell 0 is always free and
 -- is the head of the list; the cell before it is the last one, and 0 ends the list.
 use Rattle.std.specs.Prelude.{◌≡◌, ◌≢◌, ℕ, ◌+◌, ◌<◌, ◌≤◌, false, get_or}
-use Rattle.pg_cells.specs.Inside.store.Lists.{LinkedRow, base_at, before_at, after_at}
+use Rattle.pg_cells.specs.Inside.store.CellRows.{LinkedRow, base_at, before_at, after_at}
 
 -- at a free cell S has 0, B the free cell before it, and A the free cell after it
 pub record IsFreeList (S B A : ℕ → ℕ) : Type 0 where

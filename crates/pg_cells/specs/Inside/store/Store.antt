@@ -4,10 +4,10 @@ use Rattle.std.specs.Coded.{Coded, code_by, coded×, coded_ℕ, coded_bool, code
 use Rattle.pg_cells.specs.declared.store.cell.Cell.{Cell}
 use Rattle.pg_cells.specs.declared.store.cell.TheConstants.{CELLS_END, SIGN_COUNT}
 use Rattle.pg_cells.specs.declared.store.member.Member.{Member}
-use Rattle.pg_cells.specs.Inside.store.Lists.{Row, linked_row, row_of, sign_at, child_at, base_at}
-use Rattle.pg_cells.specs.declared.store.marks.Marks.{Marks}
+use Rattle.pg_cells.specs.Inside.store.CellRows.{Row, linked_row, row_of, sign_at, child_at, base_at}
+use Rattle.pg_cells.specs.declared.store.bit_set.BitSet.{BitSet}
 use Rattle.pg_cells.specs.Inside.store.FreeList.{AreLinked}
-use Rattle.pg_cells.specs.Inside.store.MarkedFit.{AreMarks}
+use Rattle.pg_cells.specs.Inside.store.SetFit.{AreRowSets}
 use Rattle.pg_cells.specs.Inside.store.BlockedBases.{AreBlocked}
 use Rattle.pg_cells.specs.Inside.store.Bounds.{AreBounds}
 
@@ -52,12 +52,12 @@ module _ {V : Type 0} where
     pub greatest : IsTop (row_of cells).signs top
     pub count : taken ≡ taken_in (row_of cells)
 
-  -- what a store keeps: its counts, its marks, its bounds, and which bases cannot take the family
+  -- what a store keeps: its counts, its sets, its bounds, and which bases cannot take the family
   -- that was placed last
-  pub record IsStore (cells : List (Cell V)) (top taken : ℕ) (marks bases : Marks)
+  pub record IsStore (cells : List (Cell V)) (top taken : ℕ) (taken_set bases : BitSet)
       (lows : List ℕ) (freed dropped placed sought : ℕ) : Type 0 where
     pub kept : IsKept cells top taken
-    pub marked : AreMarks (row_of cells) marks bases
+    pub sets : AreRowSets (row_of cells) taken_set bases
     pub few : length lows ≤ SIGN_COUNT
     pub bounds : AreBounds (row_of cells) lows freed dropped
     pub blocked : AreBlocked (row_of cells) placed sought

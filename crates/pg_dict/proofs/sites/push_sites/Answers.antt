@@ -1,6 +1,6 @@
 use Rattle.std.proofs.Common.{◌≡◌, ℕ, ◌+◌, ◌-◌, ◌*◌, Bool, true, false, cond, length, get_or, refl, ◌∙◌}
 use Rattle.std.specs.Int.{from_bool}
-use Rattle.pg_dict.specs.Inside.Lent.{lent_word}
+use Rattle.pg_dict.specs.Inside.LentWords.{lent_word}
 use Rattle.pg_dict.proofs.WordStore.SiteRows.{site_added}
 use Rattle.pg_dict.proofs.sites.push_sites.Goals as goal
 

@@ -7,7 +7,7 @@ use Rattle.pg_dict.specs.declared.store.StoredWord.{StoredWord}
 use Rattle.pg_dict.specs.Word.{Word}
 use Rattle.pg_dict.specs.Inside.Sites.{all_sites}
 use Rattle.pg_dict.specs.Inside.Store.{columns_of, word_at, stored_words, IsSound}
-use Rattle.pg_dict.specs.Inside.Lent.{lent_word}
+use Rattle.pg_dict.specs.Inside.LentWords.{lent_word}
 use Rattle.pg_dict.proofs.WordStore.Told.{word_in, word_stored, word_within}
 use Rattle.pg_dict.proofs.WordStore.SiteRows.{word_added, words_added}
 use Rattle.pg_dict.proofs.sites.sites_of.Goals as goal

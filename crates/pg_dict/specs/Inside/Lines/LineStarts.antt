@@ -14,7 +14,7 @@ use Rattle.pg_dict.specs.declared.entries.line.Line.{Line}
 use Rattle.pg_dict.specs.declared.entries.line_start.LineStart.{LineStart}
 use Rattle.pg_dict.specs.declared.entries.line_start.LineStart.TheVariants.{Word, Empty}
 use Rattle.pg_dict.specs.Inside.LineWords.{LineWord}
-use Rattle.pg_dict.specs.Inside.Lines.Running.{running_word}
+use Rattle.pg_dict.specs.Inside.Lines.RunningWords.{running_word}
 
 -- what a line gives, from its rest before the first letter and the word weight so far
 abbrev pub rest_reading : Alphabet → ℕ → ℕ → ℕ → List ℕ → Result LineWord Refusal

@@ -13,7 +13,7 @@ use Rattle.pg_translate.specs.declared.items.Place.TheVariants.{Dictionary}
 use Rattle.pg_dict.specs.declared.entries.letters.WordReading.{WordReading}
 use Rattle.pg_dict.specs.declared.entries.line.Line.{Line}
 use Rattle.pg_dict.specs.Inside.Lines.PositionedSigns.{Columns, with_signs}
-use Rattle.pg_dict.specs.Inside.Lines.Running.{signs_behind}
+use Rattle.pg_dict.specs.Inside.Lines.RunningWords.{signs_behind}
 
 -- the columns after the rest of a word is read on from where its reading stands
 abbrev pub columns_after : Alphabet → ℕ → ℕ → ℕ → Mark

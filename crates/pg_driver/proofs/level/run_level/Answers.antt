@@ -3,7 +3,7 @@ use Rattle.pg_select.specs.Inside.engine.Meanings.{Meaning}
 use Rattle.pg_patterns.specs.Values.{Patterns}
 use Rattle.pg_driver.specs.Accounts.{totals_by}
 use Rattle.pg_driver.specs.Inside.counting.LevelCounting.{HasEnded}
-use Rattle.pg_driver.specs.Inside.records.Sound.{IsSmall, RunRecords}
+use Rattle.pg_driver.specs.Inside.records.SoundRecords.{IsSmall, RunRecords}
 use Rattle.pg_driver.specs.Traces.{source_of}
 use Rattle.pg_driver.proofs.RunSteps.{did_level}
 use Rattle.pg_driver.proofs.level.run_level.Goals as goal

@@ -1,7 +1,7 @@
 use Rattle.std.proofs.Common.{◌≡◌, Bool, true, false, ⊎_elim, refl, sym, ap, ◌∙◌, arith}
 use Rattle.pg_driver.specs.Inside.counting.LevelCounting.{IsCounted}
 use Rattle.pg_driver.specs.Inside.level.Levels.{is_set, no_flags}
-use Rattle.pg_driver.specs.Inside.records.Sound.{RunRecords}
+use Rattle.pg_driver.specs.Inside.records.SoundRecords.{RunRecords}
 use Rattle.pg_driver.proofs.SkipFlags.{none_set}
 use Rattle.pg_driver.specs.Traces.{source_of}
 use Rattle.pg_driver.proofs.LevelSteps.{done_on, skipped_on}

@@ -1,6 +1,6 @@
 use Rattle.std.proofs.Common.{ap, ◌∙◌, sym, subst, arith}
 use Rattle.pg_patterns.specs.Inside.PatternMaps.{SignsUpTo}
-use Rattle.pg_driver.specs.Inside.records.Sound.{CompletedRun}
+use Rattle.pg_driver.specs.Inside.records.SoundRecords.{CompletedRun}
 use Rattle.pg_driver.specs.Inside.level.States.{State}
 use Rattle.pg_driver.specs.Inside.records.RunAccounts.{TellsCells, account_of, cells_from, run_from}
 use Rattle.pg_driver.specs.Traces.{source_of}

@@ -8,7 +8,7 @@ use Rattle.pg_patterns.specs.Values.{largest}
 use Rattle.pg_select.specs.Inside.laws.Steps.{IsUpTo}
 use Rattle.pg_driver.specs.Accounts.{totals_by}
 use Rattle.pg_driver.specs.Inside.counting.LevelCounting.{HasEnded}
-use Rattle.pg_driver.specs.Inside.records.Sound.{IsSmall, RunRecords}
+use Rattle.pg_driver.specs.Inside.records.SoundRecords.{IsSmall, RunRecords}
 use Rattle.pg_driver.specs.Inside.level.States.{State}
 use Rattle.pg_driver.specs.Inside.records.RunAccounts.{run_from}
 use Rattle.pg_driver.specs.Traces.{level_traces, source_of}

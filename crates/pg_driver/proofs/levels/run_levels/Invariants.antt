@@ -4,7 +4,7 @@ use Rattle.std.specs.Option.{IfSome}
 use Rattle.pg_select.specs.Inside.laws.Steps.{IsUpTo}
 use Rattle.pg_driver.specs.Accounts.{totals_by}
 use Rattle.pg_driver.specs.Inside.counting.LevelCounting.{HasEnded}
-use Rattle.pg_driver.specs.Inside.records.Sound.{IsSmall}
+use Rattle.pg_driver.specs.Inside.records.SoundRecords.{IsSmall}
 use Rattle.pg_driver.specs.Traces.{source_of}
 use Rattle.pg_driver.specs.Inside.records.RunAccounts.{run_from}
 use Rattle.pg_driver.proofs.RunSteps.{RunReaches}

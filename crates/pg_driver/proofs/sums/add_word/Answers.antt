@@ -1,4 +1,4 @@
-use Rattle.pg_dict.specs.Inside.Lent.{lent_word}
+use Rattle.pg_dict.specs.Inside.LentWords.{lent_word}
 use Rattle.pg_patterns.specs.Values.{value_at}
 use Rattle.pg_driver.proofs.sums.add_word.Goals as goal
 

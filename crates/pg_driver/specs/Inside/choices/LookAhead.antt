@@ -5,7 +5,7 @@ use Rattle.pg_select.specs.declared.choice.Choice.{Choice}
 use Rattle.pg_driver.specs.declared.choices.look_ahead.SeenCandidate.{SeenCandidate}
 
 -- a candidate is the window with the number, and has the fate of that number
-pub record IsSeen (fates : List Choice) (ws : Windows) (n : ℕ) (c : SeenCandidate) : Type 0 where
+pub record IsReadAhead (fates : List Choice) (ws : Windows) (n : ℕ) (c : SeenCandidate) : Type 0 where
   pub fate : slice_get fates n ≡ Some c.fate
   pub window : HasNumber ws c.window n
 
@@ -18,4 +18,4 @@ pub record AreSeen (fates : List Choice) (ws : Windows) (order : List ℕ) (from
     (seen : List SeenCandidate) : Type 0 where
   pub within : from + length seen ≤ length order
   pub each : (i n : ℕ) (c : SeenCandidate) → slice_get order (from + i) ≡ Some n
-      → slice_get seen i ≡ Some c → IsSeen fates ws n c
+      → slice_get seen i ≡ Some c → IsReadAhead fates ws n c

@@ -20,12 +20,12 @@ use Rattle.pg_driver.specs.declared.counting.word_level.WordLevel.{WordLevel}
 use Rattle.pg_driver.specs.declared.counting.above_positions.ChosenWeights.{ChosenWeights}
 use Rattle.pg_driver.specs.Accounts.{totals_by}
 use Rattle.pg_dots.specs.Inside.Dots.{is_closed, position_count}
-use Rattle.pg_dots.specs.Inside.Positions.{is_among, room_of}
+use Rattle.pg_dots.specs.Inside.Positions.{is_among, positions_room}
 use Rattle.pg_driver.specs.Inside.counting.Counting.{HasRoom, IsBounded, meaning_after_counting}
 use Rattle.pg_driver.specs.Inside.counting.OpenSigns.{AreNever, IsLevelAt, TellsStatus, closed_at_sign, open_word_positions, sign_count}
-use Rattle.pg_driver.specs.Inside.counting.OpenPositions.{IsPlaced}
+use Rattle.pg_driver.specs.Inside.counting.OpenPositions.{IsInWord}
 use Rattle.pg_driver.specs.Inside.level.PassWindows.{HaveNumbers, counts_at, is_counted_at}
-use Rattle.pg_driver.specs.Inside.records.Sound.{IsSmall}
+use Rattle.pg_driver.specs.Inside.records.SoundRecords.{IsSmall}
 use Rattle.pg_driver.specs.Traces.{Knowledge, Source}
 use Rattle.pg_driver.specs.Inside.counting.WordLevels.{IsWordsAt, chosen_weights}
 use Rattle.pg_types.specs.Inside.Limits.{sums_limit}
@@ -47,7 +47,7 @@ pub record IsOpenAt (source : Source) (level len : ℕ)
   pub size : sign_count source.words ≤ position_count o.dots
   pub dots : IsLevelAt level len source.minima source.words known.patterns known.hopeless
       (is_closed o.dots)
-  pub room : room_of o.never ≡ position_count o.dots
+  pub room : positions_room o.never ≡ position_count o.dots
   pub never : AreNever source.minima source.words (is_among o.never)
   pub totals : o.totals ≡ totals_by source known.patterns
 
@@ -56,7 +56,7 @@ pub record HasEndedOpen (source : Source) (level : ℕ) (P : Patterns) (o : Open
   pub bounded : IsBounded source
   pub size : sign_count source.words ≤ position_count o.dots
   pub status : TellsStatus level source.minima source.words P (is_closed o.dots)
-  pub room : room_of o.never ≡ position_count o.dots
+  pub room : positions_room o.never ≡ position_count o.dots
   pub never : AreNever source.minima source.words (is_among o.never)
   pub totals : o.totals ≡ totals_by source P
 
@@ -91,9 +91,9 @@ TellsTotals source P c = (totals_carried c ≡ totals_by source P) × IsSmall (t
 
 -- the open dots have a bit for each sign of the words; or, if each word is hyphenated, the listed
 -- positions lie in the words, and are at most FILE_MAX
-abbrev pub ArePlaced : List Word → WayToCount → Type 0
-ArePlaced words (Open o) = sign_count words ≤ position_count o.dots
-ArePlaced words (EachWord e) = All (IsPlaced words) e.above.items
+abbrev pub AreInWords : List Word → WayToCount → Type 0
+AreInWords words (Open o) = sign_count words ≤ position_count o.dots
+AreInWords words (EachWord e) = All (IsInWord words) e.above.items
     × (length e.above.items ≤ FILE_MAX)
 
 -- the dot of the pass is reached, and each position where it is open has its window's number

@@ -32,6 +32,6 @@ counted_of pass words e = option_map_or
     (λ w. counted_in pass w e.at) (slice_get words e.word) []
 
 -- an open position stands in one of the words
-pub record IsPlaced (words : List Word) (e : WordPosition) : Type 0 where
+pub record IsInWord (words : List Word) (e : WordPosition) : Type 0 where
   pub word : e.word < length words
   pub within : (w : Word) → slice_get words e.word ≡ Some w → e.at < length w.signs

@@ -14,7 +14,7 @@ use Rattle.pg_patterns.specs.Values.{Patterns}
 use Rattle.pg_select.specs.declared.pass.Pass.{Pass}
 use Rattle.pg_select.specs.Inside.Choices.{choice}
 use Rattle.pg_select.specs.CountedPositions.{CountedPosition}
-use Rattle.pg_select.specs.Inside.laws.Above.{counts_above}
+use Rattle.pg_select.specs.Inside.laws.AboveLevel.{counts_above}
 use Rattle.pg_driver.specs.declared.counting.above_positions.ChosenWeights.{ChosenWeights}
 use Rattle.pg_driver.specs.declared.pass_windows.WordPosition.{WordPosition}
 use Rattle.pg_driver.specs.declared.counting.word_level.WordLevel.{WordLevel}

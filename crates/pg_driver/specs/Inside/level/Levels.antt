@@ -19,7 +19,7 @@ use Rattle.pg_driver.specs.Inside.records.AccountLines.{pass_line, pass_lines, c
 use Rattle.pg_driver.specs.Layouts.{after_level}
 use Rattle.pg_driver.specs.Inside.records.CellsAccounts.{pass_layouts, levels_with_families, level_layout}
 use Rattle.pg_driver.specs.Inside.records.RunAccounts.{known_of, line_of, level_line_of, pass_record_layout, level_record_layout}
-use Rattle.pg_driver.specs.Inside.records.Sound.{RunRecords}
+use Rattle.pg_driver.specs.Inside.records.SoundRecords.{RunRecords}
 use Rattle.pg_driver.specs.Inside.level.States.{State, state_of, state_at_end}
 
 -- the layout after each pass that has a candidate; none where the engine tells no families

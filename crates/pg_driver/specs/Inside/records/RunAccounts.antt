@@ -14,7 +14,7 @@ use Rattle.pg_select.specs.Inside.engine.Meanings.{Meaning}
 use Rattle.pg_select.specs.declared.pass.Pass.{Pass}
 use Rattle.pg_driver.specs.declared.records.PassRecord.{PassRecord}
 use Rattle.pg_driver.specs.declared.records.LevelRecord.{LevelRecord}
-use Rattle.pg_driver.specs.Inside.records.Sound.{CompletedRun}
+use Rattle.pg_driver.specs.Inside.records.SoundRecords.{CompletedRun}
 use Rattle.pg_driver.specs.Accounts.{begun_count}
 use Rattle.pg_driver.specs.Inside.records.AccountLines.{Account, PassLine, LevelLine, account}
 

@@ -12,8 +12,8 @@ bytes_of None = []
 bytes_of (Some node) = node.bytes
 
 -- the bytes of each name
-abbrev pub file_map : Disk → FileMap
-file_map disk = fin.from_entries
+abbrev pub disk_map : Disk → FileMap
+disk_map disk = fin.from_entries
     (map (λ e. (e.0, bytes_of (disk.files e.1))) (fin.entries disk.names))
 
 -- whether there is no name
@@ -28,7 +28,7 @@ tells_files disk = disk.links.is_plain && has_none disk.refused
 -- the bytes of each name of a disk that is told, where its files are told too
 abbrev pub held_of : Option DiskHistory → Option FileMap
 held_of None = None
-held_of (Some told) = cond (tells_files told.now) (Some (file_map told.now)) None
+held_of (Some told) = cond (tells_files told.now) (Some (disk_map told.now)) None
 
 -- the count of all faults: of reads and of writes, of all names together
 abbrev pub all_faults : {S File : Type 0} → DiskFiles S File → ℕ

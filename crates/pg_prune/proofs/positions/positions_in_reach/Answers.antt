@@ -1,6 +1,6 @@
 use Rattle.std.proofs.Common.{◌∙◌, ◌++◌, map, ap}
 use Rattle.pg_select.specs.CountedPositions.{minima_of}
-use Rattle.pg_dict.specs.Inside.Lent.{lent_word}
+use Rattle.pg_dict.specs.Inside.LentWords.{lent_word}
 use Rattle.std.proofs.Common.{arith, ◌<◌, length}
 use Rattle.pg_prune.specs.Inside.positions.WordPositions.{positions_from}
 use Rattle.pg_prune.specs.Prunes.{need_at}

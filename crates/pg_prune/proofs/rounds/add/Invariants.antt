@@ -1,5 +1,5 @@
 use Rattle.std.proofs.Common.{drop}
-use Rattle.pg_prune.specs.Inside.positions.Standing.{stands}
+use Rattle.pg_prune.specs.Inside.positions.EntryPositions.{stands}
 use Rattle.pg_prune.specs.Inside.rounds.Holders.{holder_counts}
 use Rattle.pg_prune.specs.Inside.rounds.Turns.{Turn, with_entry, without_entry, IsAwaited}
 use Rattle.pg_prune.proofs.rounds.Walks.{WalkedSoFar}

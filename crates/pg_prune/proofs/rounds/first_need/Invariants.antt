@@ -1,6 +1,6 @@
 use Rattle.std.proofs.Common.{drop}
 use Rattle.pg_prune.specs.Prunes.{break_alike_at}
-use Rattle.pg_prune.specs.Inside.positions.Standing.{stands}
+use Rattle.pg_prune.specs.Inside.positions.EntryPositions.{stands}
 use Rattle.pg_prune.specs.Inside.rounds.Turns.{Turn, with_entry, without_entry, IsHeld}
 use Rattle.pg_prune.proofs.rounds.TurnLaws.{SearchedSoFar}
 use Rattle.pg_prune.proofs.rounds.first_need.Given as goal

@@ -3,7 +3,7 @@ use Rattle.std.proofs.Common.{◌≡◌, ◌<◌, ◌+◌, ◌∙◌, ◌∷◌,
 use Rattle.std.proofs.lemmas.List.{length-map, append-nil}
 use Rattle.pg_prune.specs.Prunes.{need_at}
 use Rattle.pg_prune.specs.Inside.Findings.{need_list, first_difference}
-use Rattle.pg_prune.specs.Inside.positions.Standing.{positions_of_entry}
+use Rattle.pg_prune.specs.Inside.positions.EntryPositions.{positions_of_entry}
 use Rattle.pg_prune.specs.Inside.rounds.Turns.{with_entry, without_entry}
 use Rattle.pg_prune.proofs.rounds.NeedSteps.{NeedsSoFar, needs_begin, needs_step, needs_end, need_turn, need_found}
 use Rattle.pg_prune.proofs.rounds.RoundSteps.{turn_of}

@@ -1,5 +1,5 @@
 use Rattle.std.proofs.lemmas.Result.{IfOk-from_err}
-use Rattle.pg_prune.specs.Inside.positions.Standing.{positions_of_entry}
+use Rattle.pg_prune.specs.Inside.positions.EntryPositions.{positions_of_entry}
 use Rattle.std.proofs.lemmas.List.{length-map}
 use Rattle.std.proofs.Common.{◌∙◌, ◌+◌, if◌then◌else◌, map, get_or, drop, sym, subst, ap, ◌≡◌, ◌<◌, length, arith}
 use Rattle.pg_prune.specs.Inside.rounds.Turns.{with_entry, without_entry, IsTallied}

@@ -4,7 +4,7 @@ use Rattle.std.specs.List.{range_with_len}
 use Rattle.pg_types.specs.declared.limits.TheConstants.{LEVEL_MAX}
 use Rattle.pg_patterns.specs.Values.{Patterns}
 use Rattle.pg_prune.specs.Positions.{PositionInReach}
-use Rattle.pg_prune.specs.Inside.positions.Standing.{stands}
+use Rattle.pg_prune.specs.Inside.positions.EntryPositions.{stands}
 
 -- how many entries of a map stand at a position and have this value
 abbrev pub count_at : Patterns → PositionInReach → ℕ → ℕ
@@ -22,8 +22,8 @@ greatest_value_from best v (n ∷ ns) =
     greatest_value_from (if nat_lt 0 n then v + 1 else best) (v + 1) ns
 
 -- the greatest value that some entry gives, by how many give 1, 2 and so on; 0 for none
-abbrev pub greatest_value : List ℕ → ℕ
-greatest_value counts = greatest_value_from 0 0 counts
+abbrev pub greatest_held : List ℕ → ℕ
+greatest_held counts = greatest_value_from 0 0 counts
 
 -- the numbers when one entry more has this value
 abbrev pub with_one : List ℕ → ℕ → List ℕ
@@ -35,4 +35,4 @@ less_one counts v = slice_set counts (v - 1) (slice_index counts (v - 1) - 1)
 
 -- whether the greatest value stays odd, or even, where an entry with this value goes
 abbrev pub stays_alike : ℕ → List ℕ → Bool
-stays_alike v counts = nat_eq (greatest_value counts % 2) (greatest_value (less_one counts v) % 2)
+stays_alike v counts = nat_eq (greatest_held counts % 2) (greatest_held (less_one counts v) % 2)

@@ -5,8 +5,8 @@ use Rattle.pg_patterns.specs.Values.{Patterns}
 use Rattle.pg_patterns.specs.Inside.PatternMaps.{is_entry}
 use Rattle.pg_prune.specs.Positions.{PositionInReach}
 use Rattle.pg_prune.specs.Prunes.{round}
-use Rattle.pg_prune.specs.Inside.rounds.Alike.{break_alike}
-use Rattle.pg_prune.specs.Inside.positions.Standing.{positions_of_entries}
+use Rattle.pg_prune.specs.Inside.rounds.EqualBreaks.{break_alike}
+use Rattle.pg_prune.specs.Inside.positions.EntryPositions.{positions_of_entries}
 use Rattle.pg_prune.specs.Inside.rounds.Turns.{IsTallied}
 
 -- the entry of a map with a number

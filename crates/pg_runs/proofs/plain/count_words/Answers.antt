@@ -1,6 +1,6 @@
 use Rattle.std.proofs.Common.{ℕ, sym, subst}
 use Rattle.pg_types.specs.Inside.Signs.{SignsWithin}
-use Rattle.pg_dict.specs.Inside.Lent.{lent_word}
+use Rattle.pg_dict.specs.Inside.LentWords.{lent_word}
 use Rattle.pg_driver.proofs.WordSteps.{signs_within}
 use Rattle.pg_runs.proofs.plain.count_words.Goals as goal
 

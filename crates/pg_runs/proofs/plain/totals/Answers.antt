@@ -1,4 +1,4 @@
-use Rattle.pg_dict.specs.Inside.Lent.{lent_word}
+use Rattle.pg_dict.specs.Inside.LentWords.{lent_word}
 use Rattle.pg_driver.proofs.WordSteps.{signs_within}
 use Rattle.pg_runs.proofs.plain.totals.Goals as goal
 

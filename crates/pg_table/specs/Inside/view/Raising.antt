@@ -20,11 +20,11 @@ by_record_list start n xs p = if nat_le start p && nat_le (p - start) n
     then value_in_list (p - start) xs else 0
 
 -- what the lists of the strings that begin at start give, from n signs on
-unfoldable pub by_strings : List ℕ → List ℕ → ℕ → ℕ → ℕ → ℕ
-by_strings b w start n p = greatest (value_from b w p start)
+unfoldable pub by_table_strings : List ℕ → List ℕ → ℕ → ℕ → ℕ → ℕ
+by_table_strings b w start n p = greatest (value_from b w p start)
     (range_with_len n (PATTERN_SIGNS_MAX + 1 - n))
 
 -- what the lists of all strings give that begin at start or later
-unfoldable pub by_starts : List ℕ → List ℕ → ℕ → ℕ → ℕ
-by_starts b w start p = greatest (λ i. by_strings b w i 1 p)
+unfoldable pub by_table_starts : List ℕ → List ℕ → ℕ → ℕ → ℕ
+by_table_starts b w start p = greatest (λ i. by_table_strings b w i 1 p)
     (range_with_len start (length w - start))

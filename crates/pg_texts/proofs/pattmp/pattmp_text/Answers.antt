@@ -4,7 +4,7 @@ use Rattle.std.proofs.lemmas.Result.{IfOk-from_err}
 use Rattle.pg_dict.specs.Word.{Word}
 use Rattle.pg_texts.specs.PattmpTexts.{lines_behind}
 use Rattle.pg_texts.specs.Inside.ReadBack.{words_taking_part}
-use Rattle.pg_dict.specs.Inside.Lent.{lent_word}
+use Rattle.pg_dict.specs.Inside.LentWords.{lent_word}
 use Rattle.pg_translate.specs.Alphabets.{letters_of}
 use Rattle.pg_texts.proofs.WordSteps.{line_step, no_line_step, signs_known, signs_within}
 use Rattle.pg_texts.proofs.pattmp.pattmp_text.Goals as goal

@@ -1,8 +1,8 @@
 use Rattle.std.proofs.Common.{◌-◌, ◌++◌, length, ap, ◌∙◌}
 use Rattle.std.proofs.lemmas.Result.{IfOk-from_err}
-use Rattle.pg_dict.specs.Inside.Lent.{lent_word}
+use Rattle.pg_dict.specs.Inside.LentWords.{lent_word}
 use Rattle.pg_texts.specs.PattmpTexts.{position_text}
-use Rattle.pg_texts.specs.Inside.Found.{status_found}
+use Rattle.pg_texts.specs.Inside.FoundStatuses.{status_found}
 use Rattle.pg_texts.proofs.WordSteps.{range_step}
 use Rattle.pg_texts.proofs.word.push_word.Goals as goal
 

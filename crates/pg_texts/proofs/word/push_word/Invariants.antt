@@ -1,7 +1,7 @@
 use Rattle.std.proofs.Common.{◌≡◌, ◌++◌, ◌-◌, length}
 use Rattle.std.specs.List.{flat_map, range_with_len}
-use Rattle.pg_dict.specs.Inside.Lent.{lent_word}
-use Rattle.pg_texts.specs.Inside.Found.{status_found}
+use Rattle.pg_dict.specs.Inside.LentWords.{lent_word}
+use Rattle.pg_texts.specs.Inside.FoundStatuses.{status_found}
 use Rattle.pg_texts.specs.PattmpTexts.{position_text}
 use Rattle.pg_texts.proofs.word.push_word.Given as goal
 

@@ -12,7 +12,7 @@ use Rattle.pg_outside.specs.Inside.disk.Disks.{Node, Disk, NameMap, SetsFile}
 use Rattle.pg_outside.specs.declared.disk.system.FileId.{FileId}
 use Rattle.pg_told_disk.specs.Inside.laws.Cases.{eq_yes, eq_no, number_no, cond_yes, cond_no, none_some, some_same, of_cond}
 use Rattle.pg_told_disk.specs.Inside.Changes.{number_in, names_in, mode_in, bytes_in, stored_in, node_in, node_with, file_in, id_of, with_name, disk_in}
-use Rattle.pg_told_disk.specs.Inside.laws.Following.{not_link}
+use Rattle.pg_told_disk.specs.Inside.laws.FollowedLinks.{not_link}
 use Rattle.pg_told_disk.specs.Inside.LinkLists.{link_named, real_in}
 use Rattle.pg_told_disk.specs.declared.change.Change.{Change}
 use Rattle.pg_told_disk.specs.declared.change.Change.TheVariants.{Made, Shared, GotMode, Wrote, Stored, Renamed, Removed, Refused, Stayed}

@@ -2,7 +2,7 @@ use Rattle.std.proofs.Common.{◌≡◌, ◌∙◌, sym, ap}
 use Rattle.pg_outside.specs.Content.{file_at}
 use Rattle.pg_words.specs.Inside.CommandRequests.{texts_of}
 use Rattle.pg_steps.specs.Outcomes.{Ends}
-use Rattle.pg_steps.specs.Inside.ends.Built.{KeepsPromise}
+use Rattle.pg_steps.specs.Inside.ends.BuiltTexts.{KeepsPromise}
 use Rattle.pg_top.specs.generate.Inside.AcceptedInputs.{HasInputs}
 use Rattle.pg_steps.specs.Inside.writing.WritesMade.{written_names, writing_of}
 use Rattle.pg_steps.specs.declared.answers.Status.TheVariants.{Done}

@@ -1,7 +1,7 @@
 use Rattle.std.proofs.Common.{◌≡◌, ◌∙◌, arith}
 use Rattle.pg_outside.specs.Content.{file_at}
 use Rattle.pg_steps.specs.Outcomes.{Ends}
-use Rattle.pg_steps.specs.Inside.ends.Built.{KeepsPromise}
+use Rattle.pg_steps.specs.Inside.ends.BuiltTexts.{KeepsPromise}
 use Rattle.pg_top.specs.prune.Inside.Inputs.{HasPrune}
 use Rattle.pg_words.specs.Inside.CommandRequests.{prune_of}
 use Rattle.pg_words.specs.forms.Prune.{PruneRequest}

@@ -4,7 +4,7 @@ use Rattle.std.proofs.lemmas.List.{length-map}
 use Rattle.pg_outside.specs.Content.{file_at}
 use Rattle.pg_words.specs.Inside.CommandRequests.{sweep_of}
 use Rattle.pg_steps.specs.Outcomes.{Ends}
-use Rattle.pg_steps.specs.Inside.ends.Built.{KeepsPromise}
+use Rattle.pg_steps.specs.Inside.ends.BuiltTexts.{KeepsPromise}
 use Rattle.pg_top.specs.sweep.Inside.Inputs.{terms_of}
 use Rattle.pg_top.specs.sweep.Inside.AcceptedInputs.{HasSweep}
 use Rattle.pg_steps.specs.Inside.writing.WritesMade.{writing_of}

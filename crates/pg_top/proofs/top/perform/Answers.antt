@@ -1,5 +1,5 @@
 use Rattle.std.proofs.Common.{Some, refl, sym, ap, ◌∙◌}
-use Rattle.pg_steps.specs.Inside.ends.Built.{Builds}
+use Rattle.pg_steps.specs.Inside.ends.BuiltTexts.{Builds}
 use Rattle.pg_words.specs.Inside.CommandRequests.{asked_by}
 use Rattle.pg_top.specs.CommandRules.{rule_of}
 use Rattle.pg_top.proofs.Built.{IsBuilding, built_run, audit_run, sample_run}

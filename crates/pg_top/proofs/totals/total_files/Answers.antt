@@ -5,7 +5,7 @@ use Rattle.pg_outside.specs.FilesCalls.{Reads}
 use Rattle.pg_translate.specs.Tables.{table}
 use Rattle.pg_steps.specs.Readings.{input_file}
 use Rattle.pg_steps.specs.Outcomes.{Ends}
-use Rattle.pg_steps.specs.Inside.ends.Built.{KeepsPromise}
+use Rattle.pg_steps.specs.Inside.ends.BuiltTexts.{KeepsPromise}
 use Rattle.pg_steps.specs.Inside.writing.WritesMade.{written_names, writing_of}
 use Rattle.pg_steps.specs.declared.writes.OutputFile.{OutputFile}
 use Rattle.pg_steps.specs.declared.answers.Status.TheVariants.{Done}

@@ -3,7 +3,7 @@ use Rattle.std.specs.Prelude.{◌≡◌}
 use Rattle.pg_patterns.specs.Inside.PatternMaps.{SignsUpTo}
 use Rattle.pg_select.specs.Inside.engine.Meanings.{Meaning, new_engine}
 use Rattle.pg_driver.specs.Inside.records.RunAccounts.{account_of}
-use Rattle.pg_driver.specs.Inside.records.Sound.{CompletedRun}
+use Rattle.pg_driver.specs.Inside.records.SoundRecords.{CompletedRun}
 use Rattle.pg_top.specs.Selection.{selected_patterns}
 use Rattle.pg_top.specs.Inside.selection.SelectionAccounts.{selected_account, passes_begun}
 use Rattle.pg_top.specs.Inside.selection.SelectionSigns.{greatest_sign_of}

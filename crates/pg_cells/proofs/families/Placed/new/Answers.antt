@@ -3,7 +3,7 @@ use Rattle.std.specs.List.{range_with_len}
 use Rattle.pg_types.specs.Placement.{root}
 use Rattle.pg_cells.specs.Inside.families.Layouts.{AreKept}
 use Rattle.pg_cells.specs.Inside.families.OneTrie.{TrieOfRow, kept_is_only, held_is_kept}
-use Rattle.pg_cells.specs.Inside.store.Lists.{without_links}
+use Rattle.pg_cells.specs.Inside.store.CellRows.{without_links}
 use Rattle.pg_cells.specs.Inside.families.Root.{IsRootAlone, IsRootTo}
 use Rattle.pg_cells.specs.Inside.store.Store.{member_code}
 use Rattle.pg_cells.proofs.PlacedSigns.{seen}

@@ -1,6 +1,6 @@
 use Rattle.std.proofs.lemmas.Result.{err_from_is_err_and}
 use Rattle.std.proofs.Common.{◌≡◌, ℕ, ◌+◌, ◌≤◌, nat_eq, [], refl, sym, ◌∙◌, subst, arith}
-use Rattle.pg_cells.specs.Inside.store.Lists.{sign_at, child_at}
+use Rattle.pg_cells.specs.Inside.store.CellRows.{sign_at, child_at}
 use Rattle.pg_cells.specs.Inside.linked.Members.{ArePassing}
 use Rattle.pg_cells.specs.Inside.families.Moves.{AllFit, AreSlotsOf}
 use Rattle.pg_cells.proofs.AddTrie.{parent_taken, child_within, moved_near}

@@ -1,5 +1,5 @@
 use Rattle.std.proofs.Common.{◌≡◌, ◌+◌, nat_eq, []}
-use Rattle.pg_cells.specs.Inside.store.Lists.{sign_at}
+use Rattle.pg_cells.specs.Inside.store.CellRows.{sign_at}
 use Rattle.pg_cells.specs.Inside.linked.Members.{ArePassing, number_before}
 use Rattle.pg_cells.specs.Inside.families.Moves.{AllFit, AreSlotsOf}
 use Rattle.pg_cells.proofs.families.moves.collect.Given as goal

@@ -1,7 +1,7 @@
 use Rattle.std.proofs.Common.{◌≡◌, ◌+◌, nat_eq, inl, inr, refl, sym, subst, ◌∙◌, arith}
 use Rattle.std.proofs.lemmas.Bool.{eqb-true, eq-eqb, both_ways}
 use Rattle.std.proofs.lemmas.Result.{err_from_is_err_and}
-use Rattle.pg_cells.specs.Inside.store.Lists.{sign_at}
+use Rattle.pg_cells.specs.Inside.store.CellRows.{sign_at}
 use Rattle.pg_cells.specs.Inside.families.Moves.{AllFit}
 use Rattle.pg_cells.proofs.Slots.{fit_push}
 use Rattle.pg_cells.proofs.families.moves.collect_sign.Goals as goal

@@ -1,7 +1,7 @@
 use Rattle.std.proofs.Common.{◌≤◌, ◌∷◌, length, ap, subst, arith}
 use Rattle.pg_types.specs.Inside.Placing.{IsLeast}
 use Rattle.pg_cells.specs.declared.store.member.Member.{Member}
-use Rattle.pg_cells.specs.Inside.store.Lists.{Row}
+use Rattle.pg_cells.specs.Inside.store.CellRows.{Row}
 use Rattle.pg_cells.specs.Inside.store.Fit.{fits_row, slot_signs}
 use Rattle.pg_cells.specs.Inside.store.Writes.{SetsChild}
 use Rattle.pg_cells.specs.Inside.families.Moves.{PutsSlots}

@@ -1,7 +1,7 @@
 use Rattle.std.proofs.Common.{◌≡◌, ◌≤◌, ◌-◌, ◌∙◌, ap, sym, subst, length, map, arith}
 use Rattle.std.proofs.lemmas.List.{length-map}
 use Rattle.pg_cells.specs.declared.store.member.Member.{Member}
-use Rattle.pg_cells.specs.Inside.store.Lists.{sign_seen, Row, linked_row}
+use Rattle.pg_cells.specs.Inside.store.CellRows.{sign_seen, Row, linked_row}
 use Rattle.pg_cells.specs.Inside.store.FreeList.{IsFreeTo}
 use Rattle.pg_cells.proofs.AllFree.{cut_long, free_store, free_root}
 use Rattle.pg_cells.proofs.RowWrites.{is_row}
@@ -32,8 +32,8 @@ invariant_of-self g c =
     let same = c.free_all.ensures.size in
     let free = subst (λ k. IsFreeTo (length c.as_mut_slice.result.now - 1) k (linked_row c.free_all.new.cells)) (sym same) c.free_all.ensures.free in
     let small = c.self.invariant.kept.small in
-    let room = c.self.invariant.marked.cell_room in
-    let base_room = c.self.invariant.marked.base_room in
+    let room = c.self.invariant.sets.cell_room in
+    let base_room = c.self.invariant.sets.base_room in
     rw back (free_store c.free_all.new.cells (length c.as_mut_slice.result.now - 1) free c.clear.new.self c.clear-2.new.self
     c.self.inside.lows.items c.self.inside.dropped c.self.inside.sought c.self.invariant.few (omega arith) (omega arith) c.free_all.ensures.linked
     (omega (arith, c.clear.ensures.room, length-map c.self.inside.cells.items sign_seen)) (omega (arith, c.clear-2.ensures.room, length-map c.self.inside.cells.items sign_seen))

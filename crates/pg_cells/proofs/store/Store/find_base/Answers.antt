@@ -3,11 +3,11 @@ use Rattle.std.proofs.lemmas.List.{length-map}
 use Rattle.pg_types.specs.Inside.Placing.{IsLeast}
 use Rattle.pg_cells.specs.declared.store.cell.Cell.{Cell}
 use Rattle.pg_cells.specs.declared.store.cell.TheConstants.{CELLS_END}
-use Rattle.pg_cells.specs.Inside.store.Lists.{linked_row, row_of, sign_seen}
+use Rattle.pg_cells.specs.Inside.store.CellRows.{linked_row, row_of, sign_seen}
 use Rattle.pg_cells.specs.Inside.store.FreeList.{AreLinked}
 use Rattle.pg_cells.specs.Inside.store.Fit.{HasSpace, fits_row, slot_signs}
-use Rattle.pg_cells.specs.Inside.store.MarkedFit.{fits_marks}
-use Rattle.pg_cells.proofs.MarkLaws.{fits_same}
+use Rattle.pg_cells.specs.Inside.store.SetFit.{fits_sets}
+use Rattle.pg_cells.proofs.SetLaws.{fits_same}
 use Rattle.pg_cells.proofs.store.Store.find_base.Goals as goal
 
 pub find_base-requires : goal.find_base-requires
@@ -34,7 +34,7 @@ find_in_blocks-requires g c =
     record {
       low = c.requires.low;
       small = omega (arith, has.within, length-map c.self.inside.cells.items sign_seen);
-      room = fits_same row c.self.inside.marks c.self.inside.bases c.self.invariant.marked (c.args.sign ∷ slot_signs c.args.slots.now) c.args.room ∙ has.fits;
+      room = fits_same row c.self.inside.taken_set c.self.inside.bases c.self.invariant.sets (c.args.sign ∷ slot_signs c.args.slots.now) c.args.room ∙ has.fits;
     }
 
 pub returns : goal.returns
@@ -42,8 +42,8 @@ returns g c =
     let row = row_of c.self.inside.cells.items in
     let signs = c.args.sign ∷ slot_signs c.args.slots.now in
     let found = c.find_in_blocks.ensures.least in
-    let same : (b : ℕ) → fits_row row signs b ≡ fits_marks c.self.inside.marks c.self.inside.bases signs b =
-    λ b. sym (fits_same row c.self.inside.marks c.self.inside.bases c.self.invariant.marked signs b) in
+    let same : (b : ℕ) → fits_row row signs b ≡ fits_sets c.self.inside.taken_set c.self.inside.bases signs b =
+    λ b. sym (fits_same row c.self.inside.taken_set c.self.inside.bases c.self.invariant.sets signs b) in
     record {
       least = subst (λ r. IsLeast (fits_row r signs) c.args.low c.find_in_blocks.result) c.self.view_is
           (record { from = found.from; meets = same c.find_in_blocks.result ∙ found.meets; first = λ k from lt. same k ∙ found.first k from lt });

@@ -4,7 +4,7 @@ use Rattle.pg_cells.specs.declared.store.cell.TheConstants.{CELLS_END}
 use Rattle.pg_cells.specs.declared.store.cell.Cell.{Cell}
 use Rattle.pg_cells.specs.declared.store.member.Member.{Member}
 use Rattle.pg_cells.specs.Inside.store.FreeList.{AreLinked}
-use Rattle.pg_cells.specs.Inside.store.Lists.{sign_seen, Row, linked_row, row_of, sign_at, with_free}
+use Rattle.pg_cells.specs.Inside.store.CellRows.{sign_seen, Row, linked_row, row_of, sign_at, with_free}
 use Rattle.pg_cells.proofs.LinkedLists.{taken_within}
 use Rattle.pg_cells.proofs.ChainSteps.{signs_long}
 use Rattle.pg_cells.specs.Inside.store.Store.{IsRow}
@@ -12,7 +12,7 @@ use Rattle.pg_cells.specs.Inside.store.Writes.{Frees}
 use Rattle.pg_cells.proofs.RowWrites.{is_row, row_frees}
 use Rattle.pg_cells.proofs.BlockedLaws.{blocked_none}
 use Rattle.pg_cells.proofs.BoundLaws.{bounds_free}
-use Rattle.pg_cells.proofs.MarkLaws.{marks_free}
+use Rattle.pg_cells.proofs.SetLaws.{sets_free}
 use Rattle.pg_cells.proofs.StoreSteps.{given_back, kept_freed, some_taken}
 use Rattle.pg_cells.proofs.store.Store.free.Goals as goal
 
@@ -33,10 +33,10 @@ free_cell-requires-clause-cell g c =
     let within = subst (λ n. c.args.cell < n) (signs_long c.self.inside.cells.items) (taken_within (row_of c.self.inside.cells.items) c.args.cell taken) in
     (c.requires.cell, subst (λ (cells : List (Cell g.row.V.Denot)). c.args.cell < length cells) (sym c.as_mut_slice.ensures.value) within)
 
-pub unmark-requires : goal.unmark-requires
-unmark-requires g c =
+pub remove-requires : goal.remove-requires
+remove-requires g c =
     let taken : sign_at (row_of c.self.inside.cells.items) c.args.cell ≢ 0 = λ z. c.requires.taken (subst (λ r. sign_at r c.args.cell ≡ 0) c.self.view_is z) in
-    let room = c.self.invariant.marked.cell_room in
+    let room = c.self.invariant.sets.cell_room in
     omega (arith, taken_within (row_of c.self.inside.cells.items) c.args.cell taken)
 
 pub invariant_of-self : goal.invariant_of-self
@@ -62,8 +62,8 @@ invariant_of-self g c =
           (c.free_cell.ensures.row ∙ ap (λ cells. with_free (row_of cells) c.args.cell) c.as_mut_slice.ensures.value) c.free_cell.ensures.linked
           top.below (subst (λ cells. 0 < r → sign_at (row_of cells) r ≢ 0) seen top.used)
           (subst (λ cells. (k : ℕ) → k ≤ c.self.inside.top → sign_at (row_of cells) k ≢ 0 → k ≤ r) seen top.most);
-      marked = marks_free (row_of c.self.inside.cells.items) c.self.inside.marks c.self.inside.bases c.self.invariant.marked (row_of c.free_cell.new.cells)
-          c.args.cell c.unmark.new.self frees c.unmark.ensures.room c.unmark.ensures.marked;
+      sets = sets_free (row_of c.self.inside.cells.items) c.self.inside.taken_set c.self.inside.bases c.self.invariant.sets (row_of c.free_cell.new.cells)
+          c.args.cell c.remove.new.self frees c.remove.ensures.room c.remove.ensures.has;
       few = c.self.invariant.few;
       bounds = bounds_free (row_of c.self.inside.cells.items) (row_of c.free_cell.new.cells) c.self.inside.lows.items c.self.inside.freed c.self.inside.dropped c.self.invariant.bounds c.args.cell _
           (omega arith) (omega arith)

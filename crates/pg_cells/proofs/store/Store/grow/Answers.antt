@@ -1,15 +1,15 @@
 use Rattle.std.proofs.Common.{◌≤◌, length, subst, sym, arith, refl}
 use Rattle.std.proofs.lemmas.List.{length-map}
-use Rattle.pg_cells.specs.declared.store.marks.Marks.{Marks}
-use Rattle.pg_cells.specs.Inside.store.Marks.{room_of}
+use Rattle.pg_cells.specs.declared.store.bit_set.BitSet.{BitSet}
+use Rattle.pg_cells.specs.Inside.store.BitSets.{room_of}
 use Rattle.std.proofs.lemmas.Result.{on_ok_weaker}
-use Rattle.pg_cells.specs.Inside.store.Lists.{row_of, sign_seen}
+use Rattle.pg_cells.specs.Inside.store.CellRows.{row_of, sign_seen}
 use Rattle.pg_cells.specs.Inside.store.Store.{Extends, IsRow}
 use Rattle.pg_cells.proofs.ChainSteps.{signs_long}
 use Rattle.pg_cells.proofs.RowWrites.{is_row}
 use Rattle.pg_cells.proofs.BlockedLaws.{blocked_grow}
 use Rattle.pg_cells.proofs.BoundLaws.{bounds_grow}
-use Rattle.pg_cells.proofs.MarkLaws.{marks_grow}
+use Rattle.pg_cells.proofs.SetLaws.{sets_grow}
 use Rattle.pg_cells.proofs.StoreSteps.{kept_extended}
 use Rattle.pg_cells.proofs.GivenMembers.{extends_itself}
 use Rattle.pg_cells.proofs.store.Store.grow.Goals as goal
@@ -17,11 +17,11 @@ use Rattle.pg_cells.proofs.store.Store.grow.Goals as goal
 pub invariant_of-self-2 : goal.invariant_of-self-2
 invariant_of-self-2 g c =
     let few : length c.grow_cells.new.cells.items ≤ c.args.count = c.grow_cells.ensures.within (let less = c.if-count-len.false in omega arith) in
-    let room : (m : Marks) → c.args.count ≤ room_of m → length (row_of c.grow_cells.new.cells.items).signs ≤ room_of m =
+    let room : (m : BitSet) → c.args.count ≤ room_of m → length (row_of c.grow_cells.new.cells.items).signs ≤ room_of m =
     λ m enough. omega (arith, length-map c.grow_cells.new.cells.items sign_seen) in
     record {
       kept = kept_extended c.self.inside.cells.items c.grow_cells.new.cells.items _ _ c.self.invariant.kept c.grow_cells.ensures.linked c.grow_cells.ensures.small c.grow_cells.ensures.extends;
-      marked = marks_grow (row_of c.self.inside.cells.items) c.self.inside.marks c.self.inside.bases c.self.invariant.marked (row_of c.grow_cells.new.cells.items)
+      sets = sets_grow (row_of c.self.inside.cells.items) c.self.inside.taken_set c.self.inside.bases c.self.invariant.sets (row_of c.grow_cells.new.cells.items)
           c.make_room.new.self c.make_room-2.new.self
           c.grow_cells.ensures.extends
           (room c.make_room.new.self c.in_ok-make_room.ensures.room) (room c.make_room-2.new.self c.in_ok-make_room-2.ensures.room)
@@ -50,11 +50,11 @@ returns-then-count-len-clause-extends g c = extends_itself c.args.self.now
 
 pub invariant_of-self : goal.invariant_of-self
 invariant_of-self g c =
-    let marked = c.self.invariant.marked in
+    let sets = c.self.invariant.sets in
     record {
       kept = c.self.invariant.kept;
-      marked = marks_grow (row_of c.self.inside.cells.items) c.self.inside.marks c.self.inside.bases marked (row_of c.self.inside.cells.items) c.make_room.new.self c.self.inside.bases
-          (extends_itself (row_of c.self.inside.cells.items)) (omega (arith, marked.cell_room, c.make_room.ensures.grows)) marked.base_room c.make_room.ensures.same (λ i. refl);
+      sets = sets_grow (row_of c.self.inside.cells.items) c.self.inside.taken_set c.self.inside.bases sets (row_of c.self.inside.cells.items) c.make_room.new.self c.self.inside.bases
+          (extends_itself (row_of c.self.inside.cells.items)) (omega (arith, sets.cell_room, c.make_room.ensures.grows)) sets.base_room c.make_room.ensures.same (λ i. refl);
       few = c.self.invariant.few;
       bounds = c.self.invariant.bounds;
       blocked = c.self.invariant.blocked;

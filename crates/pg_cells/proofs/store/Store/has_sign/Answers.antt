@@ -1,5 +1,5 @@
 use Rattle.std.proofs.Common.{ap, ◌∙◌, nat_eq}
-use Rattle.pg_cells.specs.Inside.store.Lists.{row_of, sign_at}
+use Rattle.pg_cells.specs.Inside.store.CellRows.{row_of, sign_at}
 use Rattle.pg_cells.proofs.store.Store.has_sign.Goals as goal
 
 pub returns : goal.returns

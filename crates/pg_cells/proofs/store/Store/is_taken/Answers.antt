@@ -1,5 +1,5 @@
 use Rattle.std.proofs.Common.{ap, subst, ◌∙◌}
-use Rattle.pg_cells.specs.Inside.store.Lists.{SaysTaken, row_of}
+use Rattle.pg_cells.specs.Inside.store.CellRows.{SaysTaken, row_of}
 use Rattle.pg_cells.proofs.store.Store.is_taken.Goals as goal
 
 pub returns : goal.returns

@@ -1,7 +1,7 @@
 use Rattle.std.proofs.lemmas.List.{length-map}
 use Rattle.std.proofs.Common.{◌≡◌, subst, arith, refl}
 use Rattle.std.proofs.lemmas.Result.{on_ok_weaker}
-use Rattle.pg_cells.specs.Inside.store.Lists.{sign_seen, Row, sign_at}
+use Rattle.pg_cells.specs.Inside.store.CellRows.{sign_seen, Row, sign_at}
 use Rattle.pg_cells.specs.declared.store.member.Member.{Member}
 use Rattle.pg_cells.proofs.store.Store.make_room.Goals as goal
 

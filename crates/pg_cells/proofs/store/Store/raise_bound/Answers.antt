@@ -1,6 +1,6 @@
 use Rattle.std.proofs.Common.{◌≡◌, ◌<◌, ◌≤◌, ℕ, List, length, sym, subst, arith}
 use Rattle.std.proofs.lemmas.List.{length-map}
-use Rattle.pg_cells.specs.Inside.store.Lists.{sign_seen, Row, row_of}
+use Rattle.pg_cells.specs.Inside.store.CellRows.{sign_seen, Row, row_of}
 use Rattle.pg_cells.specs.Inside.store.Bounds.{IsBelowBounds, NoneFree}
 use Rattle.pg_cells.specs.declared.store.cell.TheConstants.{SIGN_COUNT}
 use Rattle.pg_cells.specs.declared.store.member.Member.{Member}
@@ -24,7 +24,7 @@ invariant_of-self g c =
     rw (given_back c.raise.new.lows c.self.inside.lows.items c.self.inside.lows.len size)
     (record {
       kept = c.self.invariant.kept;
-      marked = c.self.invariant.marked;
+      sets = c.self.invariant.sets;
       few = let few = c.self.invariant.few in omega arith;
       bounds =
           bounds_raise (row_of c.self.inside.cells.items) c.self.inside.lows.items c.raise.new.lows c.self.inside.freed c.self.inside.dropped c.args.sign c.args.base _ _

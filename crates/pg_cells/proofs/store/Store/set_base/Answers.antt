@@ -1,7 +1,7 @@
 use Rattle.std.proofs.Common.{◌≡◌, refl, ap, sym, subst, ◌∙◌, ◌<◌, length, arith, take, drop, ◌++◌, List}
 use Rattle.pg_cells.specs.declared.store.cell.Cell.{Cell}
-use Rattle.pg_cells.specs.Inside.store.Lists.{linked_row, with_base}
-use Rattle.pg_cells.specs.Inside.store.Lists.{LinkedRow, Row, row_of}
+use Rattle.pg_cells.specs.Inside.store.CellRows.{linked_row, with_base}
+use Rattle.pg_cells.specs.Inside.store.CellRows.{LinkedRow, Row, row_of}
 use Rattle.pg_cells.specs.Inside.store.BlockedBases.{AreBlocked}
 use Rattle.pg_cells.specs.Inside.store.Store.{IsRow}
 use Rattle.pg_cells.specs.Inside.store.Writes.{SetsBase}
@@ -10,7 +10,7 @@ use Rattle.pg_cells.proofs.ChainSteps.{signs_long}
 use Rattle.pg_cells.proofs.RowWrites.{is_row, row_base}
 use Rattle.pg_cells.proofs.BlockedLaws.{blocked_base}
 use Rattle.pg_cells.proofs.BoundLaws.{bounds_base}
-use Rattle.pg_cells.proofs.MarkLaws.{marks_base}
+use Rattle.pg_cells.proofs.SetLaws.{sets_base}
 use Rattle.pg_cells.proofs.StoreSteps.{given_back, kept_write}
 use Rattle.pg_cells.proofs.store.Store.set_base.Goals as goal
 
@@ -19,10 +19,10 @@ set_base-requires g c =
     subst (λ n. c.args.cell < n) (ap (λ (r : Row (Member g.row.V.Denot)). length r.signs) (sym (ap row_of c.as_mut_slice.ensures.value ∙ c.self.view_is))
     ∙ signs_long c.as_mut_slice.result.now) c.requires
 
-pub set_mark-requires : goal.set_mark-requires
-set_mark-requires g c =
+pub put_in-requires : goal.put_in-requires
+put_in-requires g c =
     let within : c.args.cell < length (row_of c.self.inside.cells.items).signs = subst (λ (r : Row (Member g.row.V.Denot)). c.args.cell < length r.signs) (sym c.self.view_is) c.requires in
-    let room = c.self.invariant.marked.base_room in
+    let room = c.self.invariant.sets.base_room in
     omega arith
 
 pub invariant_of-self : goal.invariant_of-self
@@ -35,8 +35,8 @@ invariant_of-self g c =
     (row_base c.self.inside.cells.items c.args.cell c.args.is_base (subst (λ (r : Row (Member g.row.V.Denot)). c.args.cell < length r.signs) (sym c.self.view_is) c.requires)) in
     rw (given_back c.set_base.new.cells c.self.inside.cells.items c.self.inside.cells.len size)
     (record {
-      marked = marks_base (row_of c.self.inside.cells.items) c.self.inside.marks c.self.inside.bases c.self.invariant.marked (row_of c.set_base.new.cells)
-          c.args.cell c.args.is_base c.set_mark.new.marks sets c.set_mark.ensures.room c.set_mark.ensures.marked;
+      sets = sets_base (row_of c.self.inside.cells.items) c.self.inside.taken_set c.self.inside.bases c.self.invariant.sets (row_of c.set_base.new.cells)
+          c.args.cell c.args.is_base c.put_in.new.set sets c.put_in.ensures.room c.put_in.ensures.has;
       kept = kept_write c.self.inside.cells.items c.set_base.new.cells _ _ c.self.invariant.kept same _ refl
           (c.set_base.ensures ∙ ap (λ cells. record (linked_row cells) { row = with_base (linked_row cells).row c.args.cell c.args.is_base }) c.as_mut_slice.ensures.value);
       few = c.self.invariant.few;

@@ -1,6 +1,6 @@
 use Rattle.std.proofs.Common.{◌≡◌, ◌<◌, sym, ap, subst, ◌∙◌, length, arith, set, take, drop, ◌++◌, List}
 use Rattle.pg_cells.specs.declared.store.cell.Cell.{Cell}
-use Rattle.pg_cells.specs.Inside.store.Lists.{Row, LinkedRow, linked_row, row_of, sign_at, with_child}
+use Rattle.pg_cells.specs.Inside.store.CellRows.{Row, LinkedRow, linked_row, row_of, sign_at, with_child}
 use Rattle.pg_cells.specs.Inside.store.Store.{IsRow}
 use Rattle.pg_cells.specs.Inside.store.Writes.{SetsChild}
 use Rattle.pg_cells.specs.declared.store.member.Member.{Member}
@@ -8,7 +8,7 @@ use Rattle.pg_cells.proofs.ChainSteps.{taken_in_row, child_fits}
 use Rattle.pg_cells.proofs.RowWrites.{is_row, row_child}
 use Rattle.pg_cells.proofs.BlockedLaws.{blocked_child}
 use Rattle.pg_cells.proofs.BoundLaws.{bounds_child}
-use Rattle.pg_cells.proofs.MarkLaws.{marks_child}
+use Rattle.pg_cells.proofs.SetLaws.{sets_child}
 use Rattle.pg_cells.proofs.StoreSteps.{given_back, kept_child}
 use Rattle.pg_cells.proofs.store.Store.set_child.Goals as goal
 
@@ -32,7 +32,7 @@ invariant_of-self g c =
     (row_child c.self.inside.cells.items c.args.cell c.args.child (λ z. c.requires.taken (subst (λ r. sign_at r c.args.cell ≡ 0) c.self.view_is z))) in
     rw (given_back c.set_child.new.cells c.self.inside.cells.items c.self.inside.cells.len size)
     (record {
-      marked = marks_child (row_of c.self.inside.cells.items) c.self.inside.marks c.self.inside.bases c.self.invariant.marked (row_of c.set_child.new.cells) c.args.cell c.args.child sets;
+      sets = sets_child (row_of c.self.inside.cells.items) c.self.inside.taken_set c.self.inside.bases c.self.invariant.sets (row_of c.set_child.new.cells) c.args.cell c.args.child sets;
       kept = kept_child c.self.inside.cells.items c.set_child.new.cells _ _ c.self.invariant.kept same c.args.cell c.args.child
           (λ z. c.requires.taken (subst (λ r. sign_at r c.args.cell ≡ 0) c.self.view_is z))
           (c.set_child.ensures ∙ ap (λ cells. record

@@ -1,6 +1,6 @@
 use Rattle.std.proofs.Common.{◌≡◌, sym, ap, subst, ◌∙◌, length, arith, set, take, drop, ◌++◌, List}
 use Rattle.pg_cells.specs.declared.store.cell.Cell.{Cell}
-use Rattle.pg_cells.specs.Inside.store.Lists.{LinkedRow, linked_row, row_of, sign_at, with_value}
+use Rattle.pg_cells.specs.Inside.store.CellRows.{LinkedRow, linked_row, row_of, sign_at, with_value}
 use Rattle.pg_cells.specs.Inside.store.Store.{IsRow}
 use Rattle.pg_cells.specs.Inside.store.Writes.{SetsRowValue}
 use Rattle.pg_cells.specs.declared.store.member.Member.{Member}
@@ -8,7 +8,7 @@ use Rattle.pg_cells.proofs.ChainSteps.{taken_in_row}
 use Rattle.pg_cells.proofs.RowWrites.{is_row, row_value}
 use Rattle.pg_cells.proofs.BlockedLaws.{blocked_value}
 use Rattle.pg_cells.proofs.BoundLaws.{bounds_value}
-use Rattle.pg_cells.proofs.MarkLaws.{marks_value}
+use Rattle.pg_cells.proofs.SetLaws.{sets_value}
 use Rattle.pg_cells.proofs.StoreSteps.{given_back, kept_value}
 use Rattle.pg_cells.proofs.store.Store.set_value.Goals as goal
 
@@ -27,7 +27,7 @@ invariant_of-self g c =
     (row_value c.self.inside.cells.items c.args.cell c.args.value (λ z. c.requires.taken (subst (λ r. sign_at r c.args.cell ≡ 0) c.self.view_is z))) in
     rw (given_back c.set_value.new.cells c.self.inside.cells.items c.self.inside.cells.len size)
     (record {
-      marked = marks_value (row_of c.self.inside.cells.items) c.self.inside.marks c.self.inside.bases c.self.invariant.marked (row_of c.set_value.new.cells) c.args.cell c.args.value sets;
+      sets = sets_value (row_of c.self.inside.cells.items) c.self.inside.taken_set c.self.inside.bases c.self.invariant.sets (row_of c.set_value.new.cells) c.args.cell c.args.value sets;
       kept = kept_value c.self.inside.cells.items c.set_value.new.cells _ _ c.self.invariant.kept same c.args.cell 0 c.args.value
           (λ z. c.requires.taken (subst (λ r. sign_at r c.args.cell ≡ 0) c.self.view_is z))
           (c.set_value.ensures ∙ ap (λ cells. record (linked_row cells) {

@@ -1,5 +1,5 @@
 use Rattle.std.proofs.Common.{sym, subst, arith}
-use Rattle.pg_cells.specs.Inside.store.Lists.{row_of}
+use Rattle.pg_cells.specs.Inside.store.CellRows.{row_of}
 use Rattle.pg_cells.specs.Inside.store.BlockedBases.{AreBlocked}
 use Rattle.pg_cells.proofs.store.Store.sought_from.Goals as goal
 

@@ -4,7 +4,7 @@ use Rattle.pg_cells.specs.declared.store.cell.TheConstants.{CELLS_END}
 use Rattle.pg_cells.specs.declared.store.cell.Cell.{Cell}
 use Rattle.pg_cells.specs.declared.store.member.Member.{Member}
 use Rattle.pg_cells.specs.Inside.store.FreeList.{AreLinked}
-use Rattle.pg_cells.specs.Inside.store.Lists.{sign_seen, Row, linked_row, row_of, IsFree, with_taken}
+use Rattle.pg_cells.specs.Inside.store.CellRows.{sign_seen, Row, linked_row, row_of, IsFree, with_taken}
 use Rattle.pg_cells.proofs.LinkedLists.{free_within}
 use Rattle.pg_cells.proofs.ChainSteps.{free_in, child_fits}
 use Rattle.pg_cells.specs.Inside.store.Store.{IsRow}
@@ -12,7 +12,7 @@ use Rattle.pg_cells.specs.Inside.store.Writes.{Takes}
 use Rattle.pg_cells.proofs.RowWrites.{is_row, row_takes}
 use Rattle.pg_cells.proofs.BlockedLaws.{blocked_take, free_sign}
 use Rattle.pg_cells.proofs.BoundLaws.{bounds_take}
-use Rattle.pg_cells.proofs.MarkLaws.{marks_take}
+use Rattle.pg_cells.proofs.SetLaws.{sets_take}
 use Rattle.pg_cells.proofs.StoreSteps.{given_back, taken_le, kept_taken}
 use Rattle.pg_cells.proofs.store.Store.take.Goals as goal
 
@@ -46,10 +46,10 @@ take_cell-requires-clause-child g c =
     child_fits c.self.inside.cells.items c.args.slot.child (subst (λ (r : Row (Member g.row.V.Denot)). c.args.slot.child < length r.signs) (sym c.self.view_is) c.requires.child)
     c.self.invariant.kept.small
 
-pub mark-requires : goal.mark-requires
-mark-requires g c =
+pub insert-requires : goal.insert-requires
+insert-requires g c =
     let free : IsFree (row_of c.self.inside.cells.items) c.args.cell = subst (λ r. IsFree r c.args.cell) (sym c.self.view_is) c.requires.free in
-    let room = c.self.invariant.marked.cell_room in
+    let room = c.self.invariant.sets.cell_room in
     omega (arith, free_within (row_of c.self.inside.cells.items) c.args.cell free)
 
 pub invariant_of-self : goal.invariant_of-self
@@ -68,8 +68,8 @@ invariant_of-self g c =
     (record {
       kept = kept_taken c.self.inside.cells.items c.take_cell.new.cells _ _ c.self.invariant.kept same c.args.cell c.args.slot.sign c.args.slot.value c.args.slot.child _ within free c.requires.sign
           (c.take_cell.ensures.row ∙ ap (λ cells. with_taken (row_of cells) c.args.cell c.args.slot.sign c.args.slot.value c.args.slot.child) value) c.take_cell.ensures.linked max;
-      marked = marks_take (row_of c.self.inside.cells.items) c.self.inside.marks c.self.inside.bases c.self.invariant.marked (row_of c.take_cell.new.cells)
-          c.args.cell c.args.slot.sign c.args.slot.value c.args.slot.child c.mark.new.self c.requires.sign takes c.mark.ensures.room c.mark.ensures.marked;
+      sets = sets_take (row_of c.self.inside.cells.items) c.self.inside.taken_set c.self.inside.bases c.self.invariant.sets (row_of c.take_cell.new.cells)
+          c.args.cell c.args.slot.sign c.args.slot.value c.args.slot.child c.insert.new.self c.requires.sign takes c.insert.ensures.room c.insert.ensures.has;
       few = c.self.invariant.few;
       bounds = bounds_take (row_of c.self.inside.cells.items) (row_of c.take_cell.new.cells) c.self.inside.lows.items c.self.inside.freed c.self.inside.dropped
           c.self.invariant.bounds c.args.cell c.args.slot.sign c.args.slot.child c.args.slot.value c.requires.sign

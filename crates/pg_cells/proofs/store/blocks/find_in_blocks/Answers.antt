@@ -3,20 +3,20 @@ use Rattle.std.specs.Int.{trailing_ones, bit_at}
 use Rattle.std.proofs.lemmas.Nat.Bits.{bit_at-trailing_ones}
 use Rattle.std.proofs.lemmas.Bool.{cases_lt, both_ways}
 use Rattle.pg_cells.specs.Inside.store.Fit.{slot_signs}
-use Rattle.pg_cells.specs.Inside.store.MarkedFit.{fits_marks}
+use Rattle.pg_cells.specs.Inside.store.SetFit.{fits_sets}
 use Rattle.pg_cells.proofs.BlockSteps.{none_fits, fit_behind, least_in_block}
 use Rattle.pg_cells.proofs.store.blocks.find_in_blocks.Goals as goal
 
 pub blocked_from-blocked-requires-in-loop-blocked : goal.blocked_from-blocked-requires-in-loop-blocked
 blocked_from-blocked-requires-in-loop-blocked g c =
-    let fits : ℕ → Bool = fits_marks c.args.taken.now c.args.bases.now (c.args.sign ∷ slot_signs c.args.slots.now) in
+    let fits : ℕ → Bool = fits_sets c.args.taken.now c.args.bases.now (c.args.sign ∷ slot_signs c.args.slots.now) in
     let inv = c.loop-blocked.invariant in
     let behind = fit_behind fits c.loop-blocked.blocked c.loop-blocked.base c.args.room c.loop-blocked-test.true inv.bits inv.upto c.requires.room in
     omega (arith, c.requires.small)
 
 pub loop-blocked-preserved : goal.loop-blocked-preserved
 loop-blocked-preserved g c =
-    let fits : ℕ → Bool = fits_marks c.args.taken.now c.args.bases.now (c.args.sign ∷ slot_signs c.args.slots.now) in
+    let fits : ℕ → Bool = fits_sets c.args.taken.now c.args.bases.now (c.args.sign ∷ slot_signs c.args.slots.now) in
     let inv = c.loop-blocked.invariant in
     record {
       small = omega (arith, c.blocked_from-blocked-in-loop-blocked.ensures.small);
@@ -31,7 +31,7 @@ loop-blocked-preserved g c =
 
 pub returns-clause-least : goal.returns-clause-least
 returns-clause-least g c =
-    let fits : ℕ → Bool = fits_marks c.args.taken.now c.args.bases.now (c.args.sign ∷ slot_signs c.args.slots.now) in
+    let fits : ℕ → Bool = fits_sets c.args.taken.now c.args.bases.now (c.args.sign ∷ slot_signs c.args.slots.now) in
     let blocked = c.loop-blocked.blocked in
     let base = c.loop-blocked.base in
     let inv = c.loop-blocked.invariant in
@@ -51,7 +51,7 @@ returns-clause-least g c =
 
 pub returns-clause-room : goal.returns-clause-room
 returns-clause-room g c =
-    let fits : ℕ → Bool = fits_marks c.args.taken.now c.args.bases.now (c.args.sign ∷ slot_signs c.args.slots.now) in
+    let fits : ℕ → Bool = fits_sets c.args.taken.now c.args.bases.now (c.args.sign ∷ slot_signs c.args.slots.now) in
     let blocked = c.loop-blocked.blocked in
     let base = c.loop-blocked.base in
     let inv = c.loop-blocked.invariant in

@@ -1,6 +1,6 @@
 use Rattle.std.proofs.Common.{◌≡◌, ◌+◌, ◌<◌, ◌-◌, ◌∙◌, ap, sym, subst, refl, length, false, arith}
 use Rattle.std.proofs.lemmas.List.{length-map}
-use Rattle.pg_cells.specs.Inside.store.Lists.{sign_seen, LinkedRow, linked_row, with_base}
+use Rattle.pg_cells.specs.Inside.store.CellRows.{sign_seen, LinkedRow, linked_row, with_base}
 use Rattle.pg_cells.specs.declared.store.member.Member.{Member}
 use Rattle.pg_cells.specs.Inside.store.FreeList.{IsFreeTo}
 use Rattle.pg_cells.proofs.AllFree.{lists_cleared, free_to_none, free_to_more, free_linked}

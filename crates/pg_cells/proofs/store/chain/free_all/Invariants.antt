@@ -1,5 +1,5 @@
 use Rattle.std.proofs.Common.{◌≡◌, ◌-◌, length}
-use Rattle.pg_cells.specs.Inside.store.Lists.{linked_row}
+use Rattle.pg_cells.specs.Inside.store.CellRows.{linked_row}
 use Rattle.pg_cells.specs.Inside.store.FreeList.{IsFreeTo}
 use Rattle.pg_cells.proofs.store.chain.free_all.Given as goal
 

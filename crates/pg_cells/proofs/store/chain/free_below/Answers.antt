@@ -1,6 +1,6 @@
 use Rattle.std.proofs.Common.{◌≡◌, ◌≢◌, ◌<◌, ◌≤◌, inl, inr, sym, subst, arith}
 use Rattle.std.proofs.lemmas.Bool.{cases_eq}
-use Rattle.pg_cells.specs.Inside.store.Lists.{linked_row, row_of, sign_at, after_at, IsFree}
+use Rattle.pg_cells.specs.Inside.store.CellRows.{linked_row, row_of, sign_at, after_at, IsFree}
 use Rattle.pg_cells.proofs.LinkedLists.{not_free}
 use Rattle.pg_cells.proofs.ChainSteps.{free_here, above_head}
 use Rattle.pg_cells.proofs.FreeWalks.{last_free, free_before}

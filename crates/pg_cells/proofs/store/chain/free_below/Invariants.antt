@@ -1,5 +1,5 @@
 use Rattle.std.proofs.Common.{◌≡◌, ℕ, ◌<◌, ◌≤◌, length}
-use Rattle.pg_cells.specs.Inside.store.Lists.{linked_row, IsFree, after_at}
+use Rattle.pg_cells.specs.Inside.store.CellRows.{linked_row, IsFree, after_at}
 use Rattle.pg_cells.proofs.store.chain.free_below.Given as goal
 
 abbrev pub invariant-free : goal.invariant-free

@@ -1,7 +1,7 @@
 use Rattle.std.proofs.Common.{◌≡◌, ◌∙◌, ap, subst, sym, refl, List, length, drop, arith}
 use Rattle.std.proofs.lemmas.List.{take_at}
 use Rattle.pg_cells.specs.declared.store.cell.Cell.{Cell}
-use Rattle.pg_cells.specs.Inside.store.Lists.{linked_row, row_of}
+use Rattle.pg_cells.specs.Inside.store.CellRows.{linked_row, row_of}
 use Rattle.pg_cells.specs.Inside.store.FreeList.{AreLinked}
 use Rattle.pg_cells.proofs.LinkedLists.{linked_push, row_push}
 use Rattle.pg_cells.proofs.ChainSteps.{small_push, some_push, taken_push}

@@ -1,7 +1,7 @@
 use Rattle.std.proofs.Common.{length, ◌<◌, ap, sym, subst, ◌∙◌}
 use Rattle.std.proofs.lemmas.List.{length-map}
 use Rattle.pg_cells.specs.declared.store.member.Member.{Member}
-use Rattle.pg_cells.specs.Inside.store.Lists.{Row, LinkedRow, linked_row, IsFree, with_free}
+use Rattle.pg_cells.specs.Inside.store.CellRows.{Row, LinkedRow, linked_row, IsFree, with_free}
 use Rattle.pg_cells.proofs.LinkedLists.{linked_freed, after_freeing, lists_even}
 use Rattle.pg_cells.proofs.ChainSteps.{after_free, free_in, fits_link, kept_in}
 use Rattle.pg_cells.proofs.store.chain.put_after.Goals as goal

@@ -1,5 +1,5 @@
 use Rattle.std.proofs.Common.{◌≢◌, ◌-◌, ◌<◌, ◌≤◌, length, subst, sym, arith}
-use Rattle.pg_cells.specs.Inside.store.Lists.{row_of, IsFree}
+use Rattle.pg_cells.specs.Inside.store.CellRows.{row_of, IsFree}
 use Rattle.pg_cells.proofs.LinkedLists.{not_free}
 use Rattle.pg_cells.proofs.ChainSteps.{free_in}
 use Rattle.pg_cells.proofs.store.chain.put_last.Goals as goal

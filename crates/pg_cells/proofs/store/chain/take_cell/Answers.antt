@@ -1,6 +1,6 @@
 use Rattle.std.proofs.Common.{ap, sym, subst, ◌∙◌}
 use Rattle.pg_cells.specs.declared.store.member.Member.{Member}
-use Rattle.pg_cells.specs.Inside.store.Lists.{Row, LinkedRow, linked_row, IsFree, with_taken}
+use Rattle.pg_cells.specs.Inside.store.CellRows.{Row, LinkedRow, linked_row, IsFree, with_taken}
 use Rattle.pg_cells.proofs.LinkedLists.{linked_taken, after_taking, lists_even}
 use Rattle.pg_cells.proofs.ChainSteps.{before_free, after_free, free_in, fits_link, kept_in}
 use Rattle.pg_cells.proofs.store.chain.take_cell.Goals as goal

@@ -1,6 +1,6 @@
 use Rattle.std.proofs.Common.{◌≡◌, ◌+◌, ◌-◌, ◌<◌, ◌≤◌, ◌∙◌, ◌∷◌, ap, refl, length, true, false, rules, arith}
 use Rattle.std.proofs.lemmas.List.{get_or_default}
-use Rattle.pg_cells.specs.Inside.store.Lists.{linked_row, sign_at}
+use Rattle.pg_cells.specs.Inside.store.CellRows.{linked_row, sign_at}
 use Rattle.pg_cells.specs.Inside.store.Fit.{slot_signs, fits_row}
 use Rattle.pg_cells.proofs.LinkedLists.{free_within}
 use Rattle.pg_cells.proofs.FitSteps.{sign_there, slots_there, fit_free, sought_first, sought_next, nearer, sought_least, fits_one_more}

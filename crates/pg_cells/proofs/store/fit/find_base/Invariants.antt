@@ -1,5 +1,5 @@
 use Rattle.std.proofs.Common.{◌≡◌, ℕ, ◌+◌, ◌<◌, ◌≤◌, ◌-◌, ◌∷◌, false}
-use Rattle.pg_cells.specs.Inside.store.Lists.{linked_row, IsFree}
+use Rattle.pg_cells.specs.Inside.store.CellRows.{linked_row, IsFree}
 use Rattle.pg_cells.specs.Inside.store.Fit.{slot_signs, fits_row}
 use Rattle.pg_cells.proofs.store.fit.find_base.Given as goal
 

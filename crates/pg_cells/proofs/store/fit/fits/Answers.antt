@@ -4,7 +4,7 @@ use Rattle.std.proofs.Common.{◌≡◌, ◌+◌, ◌<◌, nat_eq, length, get_o
 use Rattle.std.proofs.lemmas.List.{get_or-map, length-map, take_all}
 use Rattle.std.proofs.lemmas.Bool.{ne_eqb, eq-eqb}
 use Rattle.pg_cells.specs.declared.store.fit.Slot.{Slot}
-use Rattle.pg_cells.specs.Inside.store.Lists.{linked_row, sign_at}
+use Rattle.pg_cells.specs.Inside.store.CellRows.{linked_row, sign_at}
 use Rattle.pg_cells.specs.Inside.store.Fit.{slot_signs}
 use Rattle.pg_cells.specs.declared.store.member.Member.{Member}
 use Rattle.pg_cells.proofs.FitSteps.{all_more, all_fails, fit_by_base, misfit}

@@ -1,6 +1,6 @@
 use Rattle.std.proofs.Common.{◌≡◌, ◌+◌, true, nat_eq, take}
 use Rattle.std.specs.List.{list_all}
-use Rattle.pg_cells.specs.Inside.store.Lists.{linked_row, sign_at}
+use Rattle.pg_cells.specs.Inside.store.CellRows.{linked_row, sign_at}
 use Rattle.pg_cells.specs.Inside.store.Fit.{slot_signs}
 use Rattle.pg_cells.proofs.store.fit.fits.Given as goal
 

@@ -1,7 +1,7 @@
 use Rattle.std.proofs.Common.{◌≡◌, ◌≢◌, ◌<◌, inl, inr, length, sym, ◌∙◌, subst, arith}
 use Rattle.std.proofs.lemmas.Bool.{cases_eq}
 use Rattle.std.proofs.lemmas.List.{length-map, get_or_default}
-use Rattle.pg_cells.specs.Inside.store.Lists.{linked_row, row_of, sign_at, IsFree}
+use Rattle.pg_cells.specs.Inside.store.CellRows.{linked_row, row_of, sign_at, IsFree}
 use Rattle.pg_cells.proofs.LinkedLists.{free_within}
 use Rattle.pg_cells.proofs.ChainSteps.{taken_other}
 use Rattle.pg_cells.proofs.BlockedLaws.{free_sign}

@@ -1,5 +1,5 @@
 use Rattle.std.proofs.Common.{◌≢◌, ℕ, ◌<◌, ◌≤◌, ◌-◌}
-use Rattle.pg_cells.specs.Inside.store.Lists.{linked_row, sign_at}
+use Rattle.pg_cells.specs.Inside.store.CellRows.{linked_row, sign_at}
 use Rattle.pg_cells.proofs.FreeWalks.{IsNext}
 use Rattle.pg_cells.proofs.store.fit.free_from.Given as goal
 

@@ -3,7 +3,7 @@ use Rattle.std.proofs.lemmas.List.{append-nil}
 use Rattle.pg_types.specs.Inside.counting.NumberedWindows.{AreInOrder}
 use Rattle.pg_cells.proofs.LinkLaws.{root_first}
 use Rattle.pg_count.specs.Inside.Counting.{Counting, Tally, sums_of_tally, window_at}
-use Rattle.pg_count.specs.Inside.walks.Under.{numbers_under}
+use Rattle.pg_count.specs.Inside.walks.CountedBelow.{numbers_under}
 use Rattle.pg_count.proofs.CellLaws.Counted.{none_seen}
 use Rattle.pg_count.proofs.WalkLaws.Looking.{ordered_numbers}
 use Rattle.pg_count.proofs.cell_counts.CellCountsWindowCounter.order.Goals as goal

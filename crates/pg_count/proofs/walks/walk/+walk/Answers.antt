@@ -6,7 +6,7 @@ use Rattle.pg_cells.specs.Inside.linked.Members.{IsNextSign}
 use Rattle.pg_cells.proofs.LinkLaws.{goes_cell}
 use Rattle.pg_count.proofs.CellLaws.Mapped.{next_too}
 use Rattle.pg_count.specs.Inside.Counting.{numbers_in}
-use Rattle.pg_count.specs.Inside.walks.Under.{is_passed, numbers_where, numbers_under}
+use Rattle.pg_count.specs.Inside.walks.CountedBelow.{is_passed, numbers_where, numbers_under}
 use Rattle.pg_cells.proofs.Walking.{sign_falls}
 use Rattle.pg_count.proofs.WalkLaws.Walking.{childless_last, family_below, open_base, some_more, short_more, passed_first, passed_next, passed_end}
 use Rattle.pg_count.proofs.walks.walk.+walk.Goals as goal

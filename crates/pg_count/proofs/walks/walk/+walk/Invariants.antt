@@ -3,7 +3,7 @@ use Rattle.pg_types.specs.Placement.{base_of}
 use Rattle.pg_types.specs.Inside.Placing.{cell_of}
 use Rattle.pg_cells.specs.Inside.linked.Members.{goes_on}
 use Rattle.pg_count.specs.Inside.Counting.{numbers_in}
-use Rattle.pg_count.specs.Inside.walks.Under.{is_passed, numbers_where}
+use Rattle.pg_count.specs.Inside.walks.CountedBelow.{is_passed, numbers_where}
 use Rattle.pg_count.proofs.walks.walk.+walk.Given as goal
 
 abbrev pub decreases-walk : goal.decreases-walk

@@ -5,7 +5,7 @@ use Rattle.pg_dict.specs.Word.{Word}
 use Rattle.pg_dict.specs.Parts.{part_from, part_of}
 use Rattle.pg_dict.specs.Inside.Lines.PositionedSigns.{Columns}
 use Rattle.pg_dict.proofs.LineReading.Lines.{starts_sound}
-use Rattle.pg_dict.specs.Inside.Lent.{lent_word}
+use Rattle.pg_dict.specs.Inside.LentWords.{lent_word}
 use Rattle.pg_dict.specs.Inside.Store.{columns_of, stored_words, word_at}
 use Rattle.pg_dict.proofs.WordStore.Parts.{part_taken, part_passed, letters_from}
 use Rattle.pg_dict.proofs.WordStore.Told.{few_words}

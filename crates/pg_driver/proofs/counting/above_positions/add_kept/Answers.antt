@@ -1,5 +1,5 @@
 use Rattle.std.proofs.Common.{◌≡◌, ◌<◌, ◌+◌, length, refl, ap, sym, ◌∙◌, arith}
-use Rattle.pg_dict.specs.Inside.Lent.{lent_word}
+use Rattle.pg_dict.specs.Inside.LentWords.{lent_word}
 use Rattle.pg_select.specs.Inside.laws.ClosedDots.{is_good}
 use Rattle.pg_select.specs.Statuses.{position_weight}
 use Rattle.pg_driver.proofs.AboveNumbers.{chosen_by_number, kept_more}

@@ -1,9 +1,9 @@
 use Rattle.std.proofs.Common.{◌≡◌, ◌-◌, ◌++◌, ℕ}
 use Rattle.std.specs.List.{flat_map, range_with_len}
-use Rattle.pg_dict.specs.Inside.Lent.{lent_word}
+use Rattle.pg_dict.specs.Inside.LentWords.{lent_word}
 use Rattle.pg_patterns.specs.Values.{Patterns}
 use Rattle.pg_select.specs.CountedPositions.{minima_of}
-use Rattle.pg_select.specs.Inside.laws.Above.{counts_above}
+use Rattle.pg_select.specs.Inside.laws.AboveLevel.{counts_above}
 use Rattle.pg_select.specs.Inside.words.Positions.{HasValues}
 use Rattle.pg_driver.specs.Inside.counting.OpenLevels.{listed_in, open_as}
 use Rattle.pg_driver.proofs.counting.above_positions.list_above.Given as goal

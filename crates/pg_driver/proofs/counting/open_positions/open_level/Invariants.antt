@@ -1,7 +1,7 @@
 use Rattle.std.proofs.Common.{◌≡◌, ℕ, ◌≤◌, ◌<◌, ◌+◌, true, not, drop, length, slice_get, Some}
 use Rattle.pg_types.specs.Inside.Limits.{positions_limit}
 use Rattle.pg_dots.specs.Inside.Dots.{is_closed, position_count}
-use Rattle.pg_dots.specs.Inside.Positions.{is_among, room_of}
+use Rattle.pg_dots.specs.Inside.Positions.{is_among, positions_room}
 use Rattle.pg_select.specs.CountedPositions.{minima_of}
 use Rattle.std.specs.List.{flat_map, sum_by}
 use Rattle.pg_dict.specs.Word.{Word}
@@ -24,7 +24,7 @@ invariant-words g l =
       before : (d n p : ℕ) (w : Word) → n < l.i → slice_get l.dictionary n ≡ Some w → p < length w.signs → is_closed l.opened.dots d (start_of l.dictionary n + p)
           ≡ not (is_open_first minima l.level P w p);
       later : (d s : ℕ) → l.before ≤ s → s < position_count l.opened.dots → is_closed l.opened.dots d s ≡ true;
-      room : room_of l.opened.never ≡ position_count l.opened.dots;
+      room : positions_room l.opened.never ≡ position_count l.opened.dots;
       never_before : (n p : ℕ) (w : Word) → n < l.i → slice_get l.dictionary n ≡ Some w → p < length w.signs → is_among l.opened.never (start_of l.dictionary n + p) ≡ not (takes_part minima w p);
       never_later : (s : ℕ) → l.before ≤ s → s < position_count l.opened.dots → is_among l.opened.never s ≡ true;
       sums : with_marks l.opened.totals (flat_map (marks_in minima P) (drop l.i l.dictionary)) ≡ totals minima l.dictionary P;

@@ -3,7 +3,7 @@ use Rattle.std.specs.List.{slice_index_or}
 use Rattle.pg_types.specs.declared.limits.TheConstants.{WEIGHT_MAX}
 use Rattle.pg_types.specs.declared.marks.Mark.{Mark}
 use Rattle.pg_dict.specs.Inside.SoundWords.{letter_count}
-use Rattle.pg_dict.specs.Inside.Lent.{lent_word}
+use Rattle.pg_dict.specs.Inside.LentWords.{lent_word}
 use Rattle.pg_dots.specs.Inside.Dots.{is_closed}
 use Rattle.pg_dots.specs.Inside.Positions.{is_among}
 use Rattle.pg_select.specs.CountedPositions.{counts_as, minima_of}

@@ -1,8 +1,8 @@
 use Rattle.std.proofs.Common.{◌≡◌, ℕ, ◌≤◌, ◌<◌, ◌+◌, ◌-◌, nat_lt, not, ◌&&◌}
 use Rattle.pg_dots.specs.Inside.Dots.{is_closed, position_count}
-use Rattle.pg_dots.specs.Inside.Positions.{is_among, room_of}
+use Rattle.pg_dots.specs.Inside.Positions.{is_among, positions_room}
 use Rattle.pg_dict.specs.Inside.SoundWords.{letter_count}
-use Rattle.pg_dict.specs.Inside.Lent.{lent_word}
+use Rattle.pg_dict.specs.Inside.LentWords.{lent_word}
 use Rattle.pg_select.specs.CountedPositions.{minima_of}
 use Rattle.pg_select.specs.Sums.{marks_in}
 use Rattle.pg_select.specs.Inside.SumSteps.{with_marks, TookRoomFor}
@@ -19,7 +19,7 @@ invariant-positions g l =
       none : l.opened.dots.reached ≡ 0;
       dots : (d s : ℕ) → s < position_count l.fn.opened.dots → is_closed l.opened.dots d s
           ≡ (not (nat_lt s (l.before + l.p) && is_open_first (minima_of l.table) l.level m.patterns w (s - l.before)) && is_closed l.fn.opened.dots d s);
-      room : room_of l.opened.never ≡ position_count l.fn.opened.dots;
+      room : positions_room l.opened.never ≡ position_count l.fn.opened.dots;
       never : (s : ℕ) → s < position_count l.fn.opened.dots → is_among l.opened.never s
           ≡ (not (nat_lt s (l.before + l.p) && takes_part (minima_of l.table) w (s - l.before)) && is_among l.fn.opened.never s);
       sums : with_marks l.opened.totals (marks_from m.patterns w l.p l.end) ≡ with_marks l.fn.opened.totals (marks_in (minima_of l.table) m.patterns w);

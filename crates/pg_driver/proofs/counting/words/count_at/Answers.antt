@@ -1,6 +1,6 @@
 use Rattle.std.proofs.Common.{ℕ, ◌≤◌, All, sym, subst, rules}
 use Rattle.std.proofs.lemmas.List.Elements.{All-drop, All-take}
-use Rattle.pg_dict.specs.Inside.Lent.{lent_word}
+use Rattle.pg_dict.specs.Inside.LentWords.{lent_word}
 use Rattle.pg_select.proofs.MarkSteps.{weight_small}
 use Rattle.pg_driver.proofs.Rooms.{room_small}
 use Rattle.pg_driver.proofs.counting.words.count_at.Goals as goal

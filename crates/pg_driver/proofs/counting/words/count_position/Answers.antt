@@ -1,7 +1,7 @@
 use Rattle.std.proofs.Common.{◌≡◌, true, is_some, cond, Bool, List, ℕ, ◌++◌, ◌∷◌, [], sym, ap, ◌∙◌}
-use Rattle.pg_dict.specs.Inside.Lent.{lent_word}
+use Rattle.pg_dict.specs.Inside.LentWords.{lent_word}
 use Rattle.pg_select.specs.CountedPositions.{counted_positions_at}
-use Rattle.pg_select.specs.Inside.laws.Above.{counts_above}
+use Rattle.pg_select.specs.Inside.laws.AboveLevel.{counts_above}
 use Rattle.pg_driver.proofs.AboveNumbers.{above_found, is_some_above, number_noted}
 use Rattle.pg_driver.proofs.counting.words.count_position.Goals as goal
 

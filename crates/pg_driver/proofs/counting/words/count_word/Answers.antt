@@ -1,5 +1,5 @@
 use Rattle.std.proofs.Common.{◌≡◌, ℕ, ◌≤◌, ◌<◌, ◌+◌, ◌-◌, ◌++◌, Bool, List, length, refl, sym, ap, subst, ◌∙◌, append-nil, append_assoc, arith}
-use Rattle.pg_dict.specs.Inside.Lent.{lent_word}
+use Rattle.pg_dict.specs.Inside.LentWords.{lent_word}
 use Rattle.pg_dict.specs.Inside.SoundWords.{letter_count}
 use Rattle.pg_select.specs.Inside.engine.Meanings.{Meaning}
 use Rattle.pg_select.specs.declared.pass.Pass.{Pass}
@@ -8,7 +8,7 @@ use Rattle.pg_driver.specs.declared.pass_windows.WordPosition.{WordPosition}
 use Rattle.pg_driver.specs.Inside.counting.OpenLevels.{listed_in, open_as}
 use Rattle.pg_driver.specs.Inside.level.PassWindows.{HaveNumbers, uncovered_at}
 use Rattle.pg_driver.proofs.OpenSteps.{position_added}
-use Rattle.pg_select.specs.Inside.laws.Above.{counts_above}
+use Rattle.pg_select.specs.Inside.laws.AboveLevel.{counts_above}
 use Rattle.pg_driver.specs.Inside.counting.WordLevels.{listing}
 use Rattle.pg_driver.proofs.WordLevels.{none_listed_in}
 use Rattle.pg_select.specs.Statuses.{status_at, position_weight}

@@ -2,7 +2,7 @@ use Rattle.std.proofs.Common.{◌≡◌, ◌+◌, ◌++◌, ℕ, None, Some, Lis
 use Rattle.std.specs.List.{flat_map, sum_by}
 use Rattle.std.proofs.lemmas.List.{append-nil, drop_all}
 use Rattle.pg_types.specs.Inside.Signs.{SignsWithin}
-use Rattle.pg_dict.specs.Inside.Lent.{lent_word}
+use Rattle.pg_dict.specs.Inside.LentWords.{lent_word}
 use Rattle.pg_dict.specs.Word.{Word}
 use Rattle.pg_dict.specs.Inside.SoundWords.{letter_count}
 use Rattle.pg_types.specs.Inside.counting.Counts.{Counts}
@@ -14,7 +14,7 @@ use Rattle.pg_select.specs.Inside.SumSteps.{with_marks}
 use Rattle.pg_driver.specs.Inside.counting.Counting.{HasRoom, meaning_after_counting}
 use Rattle.pg_select.proofs.MarkSteps.{marks_word}
 use Rattle.pg_driver.specs.Inside.counting.OpenLevels.{listed_from, listed_in}
-use Rattle.pg_select.specs.Inside.laws.Above.{counts_above}
+use Rattle.pg_select.specs.Inside.laws.AboveLevel.{counts_above}
 use Rattle.pg_driver.specs.declared.pass_windows.WordPosition.{WordPosition}
 use Rattle.pg_driver.specs.Inside.level.PassWindows.{HaveNumbers, uncovered_at}
 use Rattle.pg_driver.specs.Inside.counting.WordLevels.{listing}

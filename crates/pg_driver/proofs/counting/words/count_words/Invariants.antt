@@ -6,7 +6,7 @@ use Rattle.pg_select.specs.Sums.{marks_in, totals}
 use Rattle.pg_select.specs.Inside.SumSteps.{with_marks, HasRoomFor}
 use Rattle.pg_driver.specs.Inside.counting.Counting.{meaning_after_counting, HasRoom}
 use Rattle.pg_driver.specs.Inside.counting.OpenLevels.{listed_from}
-use Rattle.pg_select.specs.Inside.laws.Above.{counts_above}
+use Rattle.pg_select.specs.Inside.laws.AboveLevel.{counts_above}
 use Rattle.pg_driver.specs.declared.pass_windows.WordPosition.{WordPosition}
 use Rattle.pg_driver.specs.Inside.level.PassWindows.{HaveNumbers, uncovered_at}
 use Rattle.pg_driver.specs.Inside.counting.WordLevels.{listing}

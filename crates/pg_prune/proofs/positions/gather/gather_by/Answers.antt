@@ -6,8 +6,8 @@ use Rattle.std.proofs.lemmas.Result.{IfOk-from_err}
 use Rattle.pg_patterns.specs.Values.{Patterns}
 use Rattle.pg_select.specs.CountedPositions.{minima_of}
 use Rattle.pg_prune.specs.Positions.{positions_in_reach as positions_of}
-use Rattle.pg_prune.specs.Inside.positions.Standing.{positions_of_entry as standing_of}
-use Rattle.pg_prune.specs.Inside.positions.Standing.{positions_of_entries}
+use Rattle.pg_prune.specs.Inside.positions.EntryPositions.{positions_of_entry as standing_of}
+use Rattle.pg_prune.specs.Inside.positions.EntryPositions.{positions_of_entries}
 use Rattle.pg_prune.specs.declared.positions.trail.Start.{Start}
 use Rattle.pg_prune.specs.Inside.positions.Trails.{starts_of, trail_upto, number_at_dot}
 use Rattle.pg_prune.proofs.positions.TrailPositions.{positions_by_starts}

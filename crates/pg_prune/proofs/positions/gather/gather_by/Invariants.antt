@@ -1,7 +1,7 @@
 use Rattle.std.proofs.Common.{◌≡◌, take, map}
 use Rattle.pg_select.specs.CountedPositions.{minima_of}
 use Rattle.pg_prune.specs.Positions.{positions_in_reach as positions_of}
-use Rattle.pg_prune.specs.Inside.positions.Standing.{positions_of_entries}
+use Rattle.pg_prune.specs.Inside.positions.EntryPositions.{positions_of_entries}
 use Rattle.pg_prune.specs.Inside.positions.Trails.{IsTrail}
 use Rattle.pg_prune.proofs.positions.gather.gather_by.Given as goal
 

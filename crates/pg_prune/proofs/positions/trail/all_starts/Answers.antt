@@ -1,6 +1,6 @@
 use Rattle.std.proofs.Common.{◌≡◌, ◌≤◌, ◌+◌, ◌-◌, ◌++◌, length, drop, sum_by, ap, ◌∙◌, arith}
 use Rattle.std.proofs.lemmas.List.Elements.{All-append, All-same}
-use Rattle.pg_dict.specs.Inside.Lent.{lent_word}
+use Rattle.pg_dict.specs.Inside.LentWords.{lent_word}
 use Rattle.pg_dict.specs.Inside.SoundWords.{letter_count}
 use Rattle.pg_dict.proofs.WordStore.Parts.{letters_from}
 use Rattle.pg_select.specs.CountedPositions.{minima_of}

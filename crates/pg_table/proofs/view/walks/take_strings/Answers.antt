@@ -5,7 +5,7 @@ use Rattle.pg_table.specs.Forms.{cell_at}
 use Rattle.pg_table.specs.Lookups.{cell_has_sign, lookup, lookup_from}
 use Rattle.pg_table.specs.Inside.view.ListsOf.{list_in}
 use Rattle.pg_select.specs.Inside.words.Positions.{values_of, Raises}
-use Rattle.pg_table.specs.Inside.view.Raising.{by_record_list, by_strings}
+use Rattle.pg_table.specs.Inside.view.Raising.{by_record_list, by_table_strings}
 use Rattle.pg_table.proofs.view.Levels.{Level, level_step, level_end}
 use Rattle.pg_table.proofs.view.CellWalks.{goes_on, no_sign, no_child, list_here, list_below, strings_none, strings_more}
 use Rattle.pg_table.proofs.view.walks.take_strings.Goals as goal
@@ -18,7 +18,7 @@ loop-stop-init c =
     record {
       inside = omega arith;
       leads = λ s more. ap (λ n. lookup c.args.view.now (take n (drop c.args.start c.args.w.now) ++ s ∷ more)) none;
-      values = λ p low. ap (λ n. max (values_of c.args.out.now p) (by_strings c.args.view.now c.args.w.now c.args.start n p)) one;
+      values = λ p low. ap (λ n. max (values_of c.args.out.now p) (by_table_strings c.args.view.now c.args.w.now c.args.start n p)) one;
       uncovered = c.requires.uncovered;
     }
 
@@ -29,7 +29,7 @@ returns-in_default-clause-values c =
     let w = c.args.w.now in
     let n : ℕ = c.loop-stop.stop - c.args.start + 1 in
     let s : ℕ = get_or w c.loop-stop.stop 0 in
-    level_end (by_strings b w c.args.start n) (by_strings b w c.args.start 1) (values_of c.args.out.now) (values_of c.loop-stop.out)
+    level_end (by_table_strings b w c.args.start n) (by_table_strings b w c.args.start 1) (values_of c.args.out.now) (values_of c.loop-stop.out)
     (λ p. strings_none b w p c.args.start n (λ m low few inside.
     let goes = goes_on w c.args.start c.loop-stop.stop m c.loop-stop.auto.stop (omega arith) inside in
     ap (lookup b) goes.whole ∙ c.loop-stop.invariant.leads s goes.more ∙ no_sign b c.loop-stop.base s c.in_default.ensures.cell goes.more))
@@ -39,8 +39,8 @@ returns-in_default-clause-values c =
 taken : (b w : List ℕ) (start stop base : ℕ) (cell : Cell) (before now new : ℕ → ℕ) → start ≤ stop → stop < length w → stop < start + PATTERN_SIGNS_MAX
     → ((s : ℕ) (more : List ℕ) → lookup b (take (stop - start) (drop start w) ++ s ∷ more) ≡ lookup_from b base (s ∷ more))
     → cell_has_sign b base (get_or w stop 0) ≡ true → cell ≡ cell_at b (base + get_or w stop 0)
-    → Level (by_strings b w start (stop - start + 1)) (by_strings b w start 1) before now → Raises (by_record_list start (stop + 1 - start) (list_in b cell.head)) now new
-    → Level (by_strings b w start (stop + 1 - start + 1)) (by_strings b w start 1) before new
+    → Level (by_table_strings b w start (stop - start + 1)) (by_table_strings b w start 1) before now → Raises (by_record_list start (stop + 1 - start) (list_in b cell.head)) now new
+    → Level (by_table_strings b w start (stop + 1 - start + 1)) (by_table_strings b w start 1) before new
 taken b w start stop base cell before now new low inside few leads has is level raises =
     let s : ℕ = get_or w stop 0 in
     let n : ℕ = stop + 1 - start in
@@ -48,9 +48,9 @@ taken b w start stop base cell before now new low inside few leads has is level 
     let goes = goes_on w start stop n low (omega arith) (omega arith) in
     let list : lookup b (take n (drop start w)) ≡ list_in b cell.head =
     ap (lookup b) goes.whole ∙ leads s goes.more ∙ ap (λ l. lookup_from b base (s ∷ l)) (goes.size refl) ∙ list_here b base s has ∙ ap (λ (x : Cell). list_in b x.head) (sym is) in
-    level_step (by_strings b w start (stop - start + 1)) (by_record_list start n (list_in b cell.head)) (by_strings b w start (n + 1)) (by_strings b w start 1) before now new
-    (λ p. ap (λ k. by_strings b w start k p) same ∙ strings_more b w p start n (omega arith) (omega arith)
-    ∙ ap (λ (l : List (ℕ × ℕ)). max (by_record_list start n l p) (by_strings b w start (n + 1) p)) list)
+    level_step (by_table_strings b w start (stop - start + 1)) (by_record_list start n (list_in b cell.head)) (by_table_strings b w start (n + 1)) (by_table_strings b w start 1) before now new
+    (λ p. ap (λ k. by_table_strings b w start k p) same ∙ strings_more b w p start n (omega arith) (omega arith)
+    ∙ ap (λ (l : List (ℕ × ℕ)). max (by_record_list start n l p) (by_table_strings b w start (n + 1) p)) list)
     level raises
 
 -- where the cell has no family below it, no longer string has a list
@@ -65,7 +65,7 @@ returns-then-cell-eq0-clause-values c =
     let inside : stop < length w = omega (arith, c.min-stop-end.ensures) in
     let few : stop < start + PATTERN_SIGNS_MAX = omega (arith, c.min-stop-end.ensures) in
     let child : (cell_at b (c.loop-stop.base + s)).child ≡ 0 = ap (λ (x : Cell). x.child) (sym c.in-Some.ensures.cell.1) ∙ c.if-cell-eq0.true in
-    level_end (by_strings b w start n) (by_strings b w start 1) (values_of c.args.out.now) (values_of c.take_list.new.out)
+    level_end (by_table_strings b w start n) (by_table_strings b w start 1) (values_of c.args.out.now) (values_of c.take_list.new.out)
     (λ p. strings_none b w p start n (λ m low short long.
     let goes = goes_on w start stop m c.loop-stop.auto.stop (omega arith) long in
     let more = goes.longer (omega arith) in
@@ -105,5 +105,5 @@ returns-clause-values c =
     let b = c.args.view.now in
     let w = c.args.w.now in
     let n : ℕ = c.loop-stop.stop - c.args.start + 1 in
-    level_end (by_strings b w c.args.start n) (by_strings b w c.args.start 1) (values_of c.args.out.now) (values_of c.loop-stop.out)
+    level_end (by_table_strings b w c.args.start n) (by_table_strings b w c.args.start 1) (values_of c.args.out.now) (values_of c.loop-stop.out)
     (λ p. strings_none b w p c.args.start n (λ m low few inside. absurd (omega (arith, c.min-stop-end.ensures, c.loop-stop.auto.stop, c.loop-stop.auto.stop-end)))) c.loop-stop.invariant.values

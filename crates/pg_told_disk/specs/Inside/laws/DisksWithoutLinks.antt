@@ -6,7 +6,7 @@ use Rattle.std.specs.Option.{option_map}
 use Rattle.std.proofs.lemmas.Bool.{false≢true}
 use Rattle.pg_outside.specs.Inside.disk.Disks.{HoldsNow, KnowsPlain, KnowsNewNames}
 use Rattle.pg_told_disk.specs.Inside.Changes.{disk_in, file_in, number_in, node_with, bytes_in, stored_in}
-use Rattle.pg_told_disk.specs.Inside.laws.Following.{not_link}
+use Rattle.pg_told_disk.specs.Inside.laws.FollowedLinks.{not_link}
 use Rattle.pg_told_disk.specs.Inside.Memory.{told_where}
 use Rattle.pg_told_disk.specs.Inside.laws.ChangeLaws.{get_names, of_ids}
 use Rattle.pg_told_disk.specs.Inside.laws.Nodes.{named_has}

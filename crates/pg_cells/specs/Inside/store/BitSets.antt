@@ -1,0 +1,12 @@
+-- Sets of indices: a bit for each.
+use Rattle.std.specs.Prelude.{ℕ, ◌*◌, Bool, length}
+use Rattle.pg_types.specs.Inside.Bits.{has_bit}
+use Rattle.pg_cells.specs.declared.store.bit_set.BitSet.{BitSet}
+
+-- how many indices there are bits for
+abbrev pub room_of : BitSet → ℕ
+room_of s = 64 * length s.bits.items
+
+-- an index is in the set; none past the room is
+unfoldable pub has_index : BitSet → ℕ → Bool
+has_index s i = has_bit s.bits.items i
