@@ -5,6 +5,6 @@ use Rattle.pg_types.specs.Parameters.{number}
 
 -- the number that an argument of at most so many decimal digits is, where it is within these bounds
 abbrev pub number_within : ℕ → ℕ → ℕ → List ℕ → Option ℕ
-number_within digits least most word = if nat_lt 0 (length word) && nat_le (length word) digits
-    then option_and_then (λ n. if nat_le least n && nat_le n most then Some n else None)
-    (number word) else None
+number_within digits least most argument =
+    if nat_lt 0 (length argument) && nat_le (length argument) digits then option_and_then
+    (λ n. if nat_le least n && nat_le n most then Some n else None) (number argument) else None

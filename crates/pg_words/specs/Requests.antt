@@ -22,11 +22,11 @@ pub data Request : Type 0 where
 -- what arguments ask for
 abbrev pub request_of : List (List ℕ) → Option Request
 request_of [] = None
-request_of (word ∷ rest) =
-    if bytes_eq word (codes "generate") then option_map ToGenerate (generate_in rest)
-    else (if bytes_eq word (codes "audit") then option_map ToAudit (audit_in rest)
-    else (if bytes_eq word (codes "sample") then option_map (λ n. ToSample n.0 n.1) (sample_in rest)
-    else (if bytes_eq word (codes "pack") then option_map ToPack (pack_in rest)
-    else (if bytes_eq word (codes "totals") then option_map ToTotals (totals_in rest)
-    else (if bytes_eq word (codes "prune") then option_map ToPrune (prune_in rest)
-    else (if bytes_eq word (codes "sweep") then option_map ToSweep (sweep_in rest) else None))))))
+request_of (name ∷ rest) =
+    if bytes_eq name (codes "generate") then option_map ToGenerate (generate_in rest)
+    else (if bytes_eq name (codes "audit") then option_map ToAudit (audit_in rest)
+    else (if bytes_eq name (codes "sample") then option_map (λ n. ToSample n.0 n.1) (sample_in rest)
+    else (if bytes_eq name (codes "pack") then option_map ToPack (pack_in rest)
+    else (if bytes_eq name (codes "totals") then option_map ToTotals (totals_in rest)
+    else (if bytes_eq name (codes "prune") then option_map ToPrune (prune_in rest)
+    else (if bytes_eq name (codes "sweep") then option_map ToSweep (sweep_in rest) else None))))))

@@ -5,7 +5,7 @@ use Rattle.std.specs.Str.{bytes_eq}
 
 -- a name is not empty and does not begin with two dashes
 abbrev pub is_name : List ℕ → Bool
-is_name word = nat_lt 0 (length word) && not (starts_with nat_eq word (codes "--"))
+is_name argument = nat_lt 0 (length argument) && not (starts_with nat_eq argument (codes "--"))
 
 -- each output name differs from the output names after it and from the input names
 abbrev pub outputs_differ : List (List ℕ) → List (List ℕ) → Bool

@@ -1,6 +1,7 @@
 //! The arguments of a call, and the command that they are.
 #![tactic(auto)]
 
+pub mod arguments;
 pub mod commands;
 mod generate;
 pub mod limits;
@@ -11,7 +12,6 @@ mod prune;
 mod sample;
 mod sweep;
 mod totals;
-pub mod words;
 
+pub use arguments::command;
 pub use commands::{Command, Names, PackNames, PruneNames, SweepWords, TotalsNames};
-pub use words::command;

@@ -2,29 +2,29 @@
 ghost use Rattle.std.specs.Prelude.{◌≡◌, ◌&&◌, ◌++◌, IfSome};
 ghost use Rattle.std.specs.List.{list_all};
 ghost use Rattle.std.specs.Option.{option_map};
-ghost use Rattle.pg_words.specs.TakenNames.{is_name as is_name_word, outputs_differ, where_taken as where_taken_of};
+ghost use Rattle.pg_words.specs.TakenNames.{is_name as is_name_of, outputs_differ, where_taken as where_taken_of};
 ghost use Rattle.pg_words.specs.Inside.Names.{texts, differs_from};
 ghost use Rattle.pg_words.specs.Inside.CommandRequests.{asked_by, KeepsLimits};
 
 use crate::commands::Command;
 
 /// Whether an argument can be a name: it is not empty and does not begin with two dashes.
-fn is_name(word: &str) -> bool
-    ensures { result ≡ is_name_word word.now }
+fn is_name(argument: &str) -> bool
+    ensures { result ≡ is_name_of argument.now }
 {
-    !word.is_empty() && !word.as_bytes().starts_with(b"--")
+    !argument.is_empty() && !argument.as_bytes().starts_with(b"--")
 }
 
 /// Whether each of these arguments can be a name.
 fn are_names(words: &[&str]) -> bool
-    ensures { result ≡ list_all is_name_word (texts words.now) }
+    ensures { result ≡ list_all is_name_of (texts words.now) }
 {
-    words.iter().all(|word| is_name(word))
+    words.iter().all(|argument| is_name(argument))
 }
 
 /// Whether each input and each output can be a name.
 pub fn are_all_names(inputs: &[&str], outputs: &[&str]) -> bool
-    ensures { result ≡ list_all is_name_word (texts inputs.now ++ texts outputs.now) }
+    ensures { result ≡ list_all is_name_of (texts inputs.now ++ texts outputs.now) }
 {
     are_names(inputs) && are_names(outputs)
 }
@@ -53,7 +53,7 @@ fn do_outputs_differ(outputs: &[&str], inputs: &[&str]) -> bool
 /// Whether these names are taken: each can be a name, and each output name differs from the names
 /// of the other outputs and of the inputs.
 fn are_taken(inputs: &[&str], outputs: &[&str]) -> bool
-    ensures { result ≡ list_all is_name_word (texts inputs.now ++ texts outputs.now)
+    ensures { result ≡ list_all is_name_of (texts inputs.now ++ texts outputs.now)
         && outputs_differ (texts outputs.now) (texts inputs.now) }
 {
     are_all_names(inputs, outputs) && do_outputs_differ(outputs, inputs)

@@ -26,13 +26,13 @@ fn digits_value(digits: &[u8], most: u32) -> Option<u32>
 
 /// The number that an argument of 1 to so many decimal digits is, where it is at least `least` and
 /// at most `most`.
-pub fn number_within(word: &str, digits: usize, least: u32, most: u32) -> Option<u32>
-    ensures value { result ≡ number_within_of digits least most word.now }
+pub fn number_within(argument: &str, digits: usize, least: u32, most: u32) -> Option<u32>
+    ensures value { result ≡ number_within_of digits least most argument.now }
     ensures within { IfSome result (λ n. (least ≤ n) × (n ≤ most)) }
 {
-    if word.is_empty() || word.len() > digits {
+    if argument.is_empty() || argument.len() > digits {
         return None;
     }
-    let number = digits_value(word.as_bytes(), most)?;
+    let number = digits_value(argument.as_bytes(), most)?;
     if number >= least { Some(number) } else { None }
 }

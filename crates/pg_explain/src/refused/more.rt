@@ -6,7 +6,7 @@ use crate::wrong::RefusalCase;
 use pg_dict::Dictionary;
 use pg_patterns::PatternSet;
 use pg_translate::Table;
-use pg_types::{Kind, ReadingError, Refusal, next_line};
+use pg_types::{FILE_MAX, Kind, ReadingError, Refusal, next_line};
 use pg_visible::Part::{Count, Name, Say};
 use pg_visible::{Spot, Text};
 use std::alloc::{AllocError, Global};
@@ -15,7 +15,7 @@ use std::alloc::{AllocError, Global};
 pub(crate) const MORE_MAX: usize = 100;
 
 /// How many bytes of a translate file are read again at most, while its refused lines are counted.
-const AGAIN_MAX: usize = 134_217_728;
+const AGAIN_MAX: usize = 2 * FILE_MAX;
 
 /// What a reader refuses; none where it accepts.
 fn refusal_of<T: Drop>(read: Result<T, ReadingError>) -> Result<Option<Refusal>, AllocError> {

@@ -7,5 +7,5 @@ use Rattle.pg_words.proofs.names.are_names.Goals as goal
 
 pub returns : goal.returns
 returns c =
-    all_from_yields_List (λ word. is_name word.now) _ _ _ c.all.ensures.ran (YieldsList-from_slice c.args.words.now cc) (λ x b q k. search (rules, tests))
-    ∙ sym (list_all-map is_name (λ word. word.now) c.args.words.now)
+    all_from_yields_List (λ argument. is_name argument.now) _ _ _ c.all.ensures.ran (YieldsList-from_slice c.args.words.now cc) (λ x b q k. search (rules, tests))
+    ∙ sym (list_all-map is_name (λ argument. argument.now) c.args.words.now)

@@ -6,8 +6,8 @@ use Rattle.std.specs.Option.{option_map}
 use Rattle.pg_words.specs.Requests.{ToPrune}
 use Rattle.pg_words.specs.forms.Prune.{prune_in}
 use Rattle.pg_words.proofs.TakenRequests.{taken_as}
-use Rattle.pg_words.proofs.OtherWords.{not_for_prune}
-use Rattle.pg_words.proofs.WordsAt.{five_words}
+use Rattle.pg_words.proofs.OtherArguments.{not_for_prune}
+use Rattle.pg_words.proofs.ArgumentsAt.{five_arguments}
 use Rattle.pg_words.proofs.prune.prune.Goals as goal
 
 pub returns-in_default : goal.returns-in_default
@@ -25,7 +25,7 @@ returns c =
     let o = c.as_str-output.result.now in
     let t = c.as_str-translate.result.now in
     let r = c.as_str-report.result.now in
-    let parts = five_words c.args.words.now d p o t r c.in-len5.len_at_least c.in-len5.len_below (c.dict-item.result, c.dict-item.is, c.as_str-dict.ensures.value)
+    let parts = five_arguments c.args.words.now d p o t r c.in-len5.len_at_least c.in-len5.len_below (c.dict-item.result, c.dict-item.is, c.as_str-dict.ensures.value)
     (c.patterns-item.result, c.patterns-item.is, c.as_str-patterns.ensures.value) (c.output-item.result, c.output-item.is, c.as_str-output.ensures.value)
     (c.translate-item.result, c.translate-item.is, c.as_str-translate.ensures.value) (c.report-item.result, c.report-item.is, c.as_str-report.ensures.value) in
     record {

@@ -5,7 +5,7 @@ use Rattle.pg_words.specs.Inside.CommandRequests.{asked_by}
 use Rattle.pg_words.specs.NumbersWithin.{number_within}
 use Rattle.pg_words.specs.Requests.{Request, ToSample}
 use Rattle.pg_words.specs.forms.Sample.{sample_in}
-use Rattle.pg_words.proofs.WordsAt.{two_words}
+use Rattle.pg_words.proofs.ArgumentsAt.{two_arguments}
 use Rattle.pg_words.proofs.sample.sample.Goals as goal
 
 -- `sample` with a seed and how many words it makes, if they are there
@@ -21,7 +21,7 @@ pub returns-in_err-count : goal.returns-in_err-count
 returns-in_err-count c =
     let a = c.as_str.result.now in
     let b = c.as_str-2.result.now in
-    let parts = two_words c.args.words.now a b c.in-len2.len_at_least c.in-len2.len_below (c.seed-item.result, c.seed-item.is, c.as_str.ensures.value)
+    let parts = two_arguments c.args.words.now a b c.in-len2.len_at_least c.in-len2.len_below (c.seed-item.result, c.seed-item.is, c.as_str.ensures.value)
     (c.count-item.result, c.count-item.is, c.as_str-2.ensures.value) in
     record {
       value = ap (option_map asked_by) c.from_residual-in_err-count.ensures ∙ by_numbers a b (Some c.in_ok-seed.seed) None c.in_ok-seed.ensures.value c.in_err-count.ensures.value
@@ -33,7 +33,7 @@ pub returns : goal.returns
 returns c =
     let a = c.as_str.result.now in
     let b = c.as_str-2.result.now in
-    let parts = two_words c.args.words.now a b c.in-len2.len_at_least c.in-len2.len_below (c.seed-item.result, c.seed-item.is, c.as_str.ensures.value)
+    let parts = two_arguments c.args.words.now a b c.in-len2.len_at_least c.in-len2.len_below (c.seed-item.result, c.seed-item.is, c.as_str.ensures.value)
     (c.count-item.result, c.count-item.is, c.as_str-2.ensures.value) in
     record {
       value = by_numbers a b (Some c.in_ok-seed.seed) (Some c.in_ok-count.count) c.in_ok-seed.ensures.value c.in_ok-count.ensures.value ∙ ap (λ words. asked (sample_in words)) (sym parts);

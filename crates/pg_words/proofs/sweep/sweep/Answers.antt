@@ -8,7 +8,7 @@ use Rattle.pg_words.specs.Requests.{ToSweep}
 use Rattle.pg_words.specs.forms.Sweep.{sweep_in}
 use Rattle.pg_types.specs.declared.limits.TheConstants.{SETS_MAX}
 use Rattle.pg_words.proofs.SweepParts.{too_few, no_folds, no_bad, no_missed, is_count, all_within}
-use Rattle.pg_words.proofs.WordsAt.{seven_words}
+use Rattle.pg_words.proofs.ArgumentsAt.{seven_arguments}
 use Rattle.pg_words.proofs.sweep.sweep.Goals as goal
 
 pub returns-in_default : goal.returns-in_default
@@ -23,7 +23,7 @@ pub returns-in_err-folds : goal.returns-in_err-folds
 returns-in_err-folds c =
     let words = c.args.words.now in
     let params = drop 7 words in
-    let parts = seven_words words (string_bytes c.dict-item.result) (string_bytes c.patterns-item.result) (string_bytes c.output-item.result)
+    let parts = seven_arguments words (string_bytes c.dict-item.result) (string_bytes c.patterns-item.result) (string_bytes c.output-item.result)
     (string_bytes c.translate-item.result) c.as_str.result.now (string_bytes c.bad-item.result) (string_bytes c.missed-item.result) params c.in-len7-up.len_at_least
     (c.dict-item.result, c.dict-item.is, refl) (c.patterns-item.result, c.patterns-item.is, refl) (c.output-item.result, c.output-item.is, refl)
     (c.translate-item.result, c.translate-item.is, refl) (c.folds-item.result, c.folds-item.is, c.as_str.ensures.value) (c.bad-item.result, c.bad-item.is, refl)
@@ -39,7 +39,7 @@ pub returns-in_err-bad : goal.returns-in_err-bad
 returns-in_err-bad c =
     let words = c.args.words.now in
     let params = drop 7 words in
-    let parts = seven_words words (string_bytes c.dict-item.result) (string_bytes c.patterns-item.result) (string_bytes c.output-item.result)
+    let parts = seven_arguments words (string_bytes c.dict-item.result) (string_bytes c.patterns-item.result) (string_bytes c.output-item.result)
     (string_bytes c.translate-item.result) c.as_str.result.now c.as_str-2.result.now (string_bytes c.missed-item.result) params c.in-len7-up.len_at_least
     (c.dict-item.result, c.dict-item.is, refl) (c.patterns-item.result, c.patterns-item.is, refl) (c.output-item.result, c.output-item.is, refl)
     (c.translate-item.result, c.translate-item.is, refl) (c.folds-item.result, c.folds-item.is, c.as_str.ensures.value)
@@ -56,7 +56,7 @@ pub returns-in_err-missed : goal.returns-in_err-missed
 returns-in_err-missed c =
     let words = c.args.words.now in
     let params = drop 7 words in
-    let parts = seven_words words (string_bytes c.dict-item.result) (string_bytes c.patterns-item.result) (string_bytes c.output-item.result)
+    let parts = seven_arguments words (string_bytes c.dict-item.result) (string_bytes c.patterns-item.result) (string_bytes c.output-item.result)
     (string_bytes c.translate-item.result) c.as_str.result.now c.as_str-2.result.now c.as_str-3.result.now params c.in-len7-up.len_at_least
     (c.dict-item.result, c.dict-item.is, refl) (c.patterns-item.result, c.patterns-item.is, refl) (c.output-item.result, c.output-item.is, refl)
     (c.translate-item.result, c.translate-item.is, refl) (c.folds-item.result, c.folds-item.is, c.as_str.ensures.value)
@@ -82,7 +82,7 @@ returns c =
     let words = c.args.words.now in
     let params = take (length words - 7) (drop 7 words) in
     let texts = arguments_of params in
-    let parts = seven_words words c.as_str-dict.result.now c.as_str-patterns.result.now c.as_str-output.result.now c.as_str-translate.result.now
+    let parts = seven_arguments words c.as_str-dict.result.now c.as_str-patterns.result.now c.as_str-output.result.now c.as_str-translate.result.now
     c.as_str.result.now c.as_str-2.result.now c.as_str-3.result.now params c.in-len7-up.len_at_least (c.dict-item.result, c.dict-item.is, c.as_str-dict.ensures.value)
     (c.patterns-item.result, c.patterns-item.is, c.as_str-patterns.ensures.value) (c.output-item.result, c.output-item.is, c.as_str-output.ensures.value)
     (c.translate-item.result, c.translate-item.is, c.as_str-translate.ensures.value) (c.folds-item.result, c.folds-item.is, c.as_str.ensures.value)

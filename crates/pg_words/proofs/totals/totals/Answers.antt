@@ -6,8 +6,8 @@ use Rattle.std.specs.Option.{option_map}
 use Rattle.pg_words.specs.Requests.{ToTotals}
 use Rattle.pg_words.specs.forms.Totals.{totals_in}
 use Rattle.pg_words.proofs.TakenRequests.{taken_as}
-use Rattle.pg_words.proofs.OtherWords.{not_for_totals}
-use Rattle.pg_words.proofs.WordsAt.{three_words}
+use Rattle.pg_words.proofs.OtherArguments.{not_for_totals}
+use Rattle.pg_words.proofs.ArgumentsAt.{three_arguments}
 use Rattle.pg_words.proofs.totals.totals.Goals as goal
 
 pub returns-in_default : goal.returns-in_default
@@ -23,7 +23,7 @@ returns c =
     let d = c.as_str-dict.result.now in
     let t = c.as_str-translate.result.now in
     let e = c.as_str-table.result.now in
-    let parts = three_words c.args.words.now d t e c.in-len3.len_at_least c.in-len3.len_below (c.dict-item.result, c.dict-item.is, c.as_str-dict.ensures.value)
+    let parts = three_arguments c.args.words.now d t e c.in-len3.len_at_least c.in-len3.len_below (c.dict-item.result, c.dict-item.is, c.as_str-dict.ensures.value)
     (c.translate-item.result, c.translate-item.is, c.as_str-translate.ensures.value) (c.table-item.result, c.table-item.is, c.as_str-table.ensures.value) in
     record {
       value = c.where_taken.ensures.value ∙ taken_as ToTotals (d ∷ t ∷ e ∷ []) [] (record { dict = d; translate = t; table = e }) ∙ ap (λ words. option_map ToTotals (totals_in words)) (sym parts);

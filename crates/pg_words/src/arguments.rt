@@ -14,23 +14,23 @@ use crate::sweep::sweep;
 use crate::totals::totals;
 
 /// What the arguments behind the name of a command ask for.
-fn command_of<'a>(word: &str, behind: &'a [String]) -> Option<Command<'a>>
-    ensures value { option_map asked_by result ≡ request_of (word.now ∷ arguments_of behind.now) }
+fn command_of<'a>(name: &str, behind: &'a [String]) -> Option<Command<'a>>
+    ensures value { option_map asked_by result ≡ request_of (name.now ∷ arguments_of behind.now) }
     ensures within { IfSome result KeepsLimits }
 {
-    if word == "generate" {
+    if name == "generate" {
         generate(behind)
-    } else if word == "audit" {
+    } else if name == "audit" {
         audit(behind)
-    } else if word == "sample" {
+    } else if name == "sample" {
         sample(behind)
-    } else if word == "pack" {
+    } else if name == "pack" {
         pack(behind)
-    } else if word == "totals" {
+    } else if name == "totals" {
         totals(behind)
-    } else if word == "prune" {
+    } else if name == "prune" {
         prune(behind)
-    } else if word == "sweep" {
+    } else if name == "sweep" {
         sweep(behind)
     } else {
         None
@@ -53,7 +53,7 @@ pub fn command(words: &[String]) -> Option<Command<'_>>
     ensures within { IfSome result KeepsLimits }
 {
     match words {
-        [word, behind @ ..] => command_of(word.as_str(), behind),
+        [name, behind @ ..] => command_of(name.as_str(), behind),
         [] => None,
     }
 }

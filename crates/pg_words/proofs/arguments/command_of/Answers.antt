@@ -1,5 +1,5 @@
 use Rattle.std.proofs.Common.{refl, sym}
-use Rattle.pg_words.proofs.words.command_of.Goals as goal
+use Rattle.pg_words.proofs.arguments.command_of.Goals as goal
 
 pub returns-then-eq : goal.returns-then-eq
 returns-then-eq c = record {
