@@ -4,27 +4,27 @@ ghost use Rattle.std.specs.Prelude.{◌≡◌};
 use crate::watch::{PassProgress, Watch};
 use pg_dict::WordRef;
 use pg_patterns::PatternSet;
-use pg_select::{Engine, WordState};
+use pg_select::{Engine, Pass, WordState};
 use pg_types::{Cursor, Layout, Params, Sign, Weight};
 use std::alloc::{AllocError, Global};
 
-/// The pass of these parameters with this level, this length and this dot. Where they have no such
-/// level, it is said to have this length alone.
-fn pass_of(params: &Params, level: u8, len: u8, dot: u8) -> PassProgress {
-    let index = usize::from(level.saturating_sub(params.start()));
+/// What is told of a pass in the selection by these parameters. If they have no such level, it is
+/// said to have the length of this pass alone.
+fn progress_of(params: &Params, pass: Pass) -> PassProgress {
+    let index = usize::from(pass.level.saturating_sub(params.start()));
     let (shortest, longest) = if index < params.count() {
         let level = params.level(index);
         (level.pat_start, level.pat_finish)
     } else {
-        (len, len)
+        (pass.len, pass.len)
     };
     PassProgress {
-        level,
+        level: pass.level,
         last: params.finish(),
-        len,
+        len: pass.len,
         shortest,
         longest,
-        dot,
+        dot: pass.dot,
     }
 }
 
@@ -69,7 +69,8 @@ impl<'a, E: Engine, W: Watch> Engine for Watched<'a, E, W> {
     }
 
     fn begin_pass(&mut self, level: u8, len: u8, dot: u8) {
-        self.watch.pass(pass_of(self.params, level, len, dot));
+        let pass = Pass { level, len, dot };
+        self.watch.pass(progress_of(self.params, pass));
         self.inner.begin_pass(level, len, dot);
     }
 
