@@ -147,16 +147,16 @@ impl Line {
     }
 
     /// Appends the number of a byte, as two digits.
-    fn push_hex(&mut self, byte: u8) -> Result<(), AllocError> {
+    fn push_digits(&mut self, byte: u8) -> Result<(), AllocError> {
         self.push(hex_digit(byte / 16))?;
         self.push(hex_digit(byte % 16))
     }
 
     /// Appends the numbers of bytes, each as `<0D>`.
-    fn push_hex_bytes(&mut self, bytes: &[u8]) -> Result<(), AllocError> {
+    fn push_numbers(&mut self, bytes: &[u8]) -> Result<(), AllocError> {
         for byte in bytes {
             self.push(b'<')?;
-            self.push_hex(*byte)?;
+            self.push_digits(*byte)?;
             self.push(b'>')?;
         }
         Ok(())
@@ -167,7 +167,7 @@ impl Line {
         let mut room = [0; 4];
         let bytes = c.encode_utf8(&mut room).as_bytes();
         if is_invisible(c) {
-            self.push_hex_bytes(bytes)
+            self.push_numbers(bytes)
         } else {
             self.push_all(bytes)
         }
@@ -185,7 +185,7 @@ impl Line {
     pub fn show(&mut self, bytes: &[u8]) -> Result<(), AllocError> {
         for chunk in bytes.utf8_chunks() {
             self.push_text(chunk.valid())?;
-            self.push_hex_bytes(chunk.invalid())?;
+            self.push_numbers(chunk.invalid())?;
         }
         Ok(())
     }
@@ -202,13 +202,13 @@ impl Line {
     }
 
     /// Appends the numbers of bytes with blanks between them.
-    fn push_hex(&mut self, bytes: &[u8]) -> Result<(), AllocError> {
+    fn push_digits(&mut self, bytes: &[u8]) -> Result<(), AllocError> {
         let mut is_first = true;
         for byte in bytes {
             if !is_first {
                 self.push(b' ')?;
             }
-            self.push_hex(*byte)?;
+            self.push_digits(*byte)?;
             is_first = false;
         }
         Ok(())
