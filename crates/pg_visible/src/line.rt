@@ -202,7 +202,7 @@ impl Line {
     }
 
     /// Appends the numbers of bytes with blanks between them.
-    fn push_digits(&mut self, bytes: &[u8]) -> Result<(), AllocError> {
+    fn push_hex(&mut self, bytes: &[u8]) -> Result<(), AllocError> {
         let mut is_first = true;
         for byte in bytes {
             if !is_first {
